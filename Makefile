@@ -1,0 +1,29 @@
+PREFIX ?= /usr/local
+PROGRAM = crates/linkwire/out/linkwire
+
+.PHONY: run build check edits bench install
+
+# Answers the lines of standard input: echo 00000000000000000000000000000000060003006c6f | make -s run
+run:
+	@scripts/build.sh && $(PROGRAM)
+
+build:
+	@scripts/build.sh
+
+check: build
+	@scripts/program.sh
+	@scripts/refused_memory.sh
+	@rt ci
+
+# Tries the edits that the gate has no time for; it takes more than an hour.
+edits:
+	@scripts/more_edits.sh
+
+bench: build
+	@bench/run.sh $(PROGRAM)
+
+install: build
+	install -d $(DESTDIR)$(PREFIX)/bin
+	install -m 755 $(PROGRAM) $(DESTDIR)$(PREFIX)/bin/linkwire
+
+include Makefile.lib

@@ -1,0 +1,69 @@
+#!/usr/bin/env python3
+"""Times a program and a pipe of two on one file: measure.py PROGRAM FILE [ROUNDS]."""
+
+import os
+import subprocess
+import sys
+import time
+
+
+def held(running):
+    """The most bytes of memory that a running program has held so far, or 0 once it has ended."""
+    try:
+        with open(f"/proc/{running.pid}/status") as status:
+            for line in status:
+                if line.startswith("VmHWM:"):
+                    return int(line.split()[1]) * 1024
+    except OSError:
+        pass
+    return 0
+
+
+def start(commands, given):
+    """The programs of a pipe, each reading what the one before writes."""
+    running = []
+    for place, command in enumerate(commands):
+        last = place == len(commands) - 1
+        out = subprocess.DEVNULL if last else subprocess.PIPE
+        running.append(subprocess.Popen(command, stdin=given, stdout=out))
+        if place > 0:
+            given.close()
+        given = running[-1].stdout
+    return running
+
+
+def run(commands, path, watch):
+    """The seconds that a pipe takes, or, if it is watched, the most memory that one of its programs held."""
+    with open(path, "rb") as first:
+        began = time.monotonic()
+        running = start(commands, first)
+        most = 0
+        while watch and any(one.poll() is None for one in running):
+            most = max([most] + [held(one) for one in running])
+        for one in running:
+            if one.wait() != 0:
+                sys.exit(f"{one.args[0]} ended with status {one.returncode}")
+        return most if watch else time.monotonic() - began
+
+
+def main():
+    program, path = sys.argv[1], sys.argv[2]
+    rounds = int(sys.argv[3]) if len(sys.argv) > 3 else 3
+    size = os.path.getsize(path)
+    pipes = {
+        "linkwire": [[program]],
+        "xxd -r -p | xxd -p": [["xxd", "-r", "-p"], ["xxd", "-p"]],
+    }
+    seconds = {name: [] for name in pipes}
+    for _ in range(rounds):
+        for name, commands in pipes.items():
+            seconds[name].append(run(commands, path, False))
+    for name, commands in pipes.items():
+        best = min(seconds[name])
+        most = run(commands, path, True)
+        print(f"{name}: {size / best / 1e6:.0f} MB/s of input, {best:.3f} s, at most {most / 1e6:.1f} MB of memory")
+    ratio = min(seconds["xxd -r -p | xxd -p"]) / min(seconds["linkwire"])
+    print(f"linkwire is {ratio:.1f} times as fast, on {size / 1e6:.0f} MB of lines, the best of {rounds} rounds")
+
+
+main()

@@ -1,0 +1,220 @@
+//! Settings and statistics of IPv6 on a link, members of AF_INET6 in IFLA_AF_SPEC.
+
+ghost use Rattle.std.specs.Prelude.{◌≡◌, ◌≤◌, length, Ok, Err, IfOk, IfSome, MatchResult, unwrap_or};
+ghost use Rattle.nla_wire.specs.Sizes.{growth};
+ghost use Rattle.nla_wire.specs.Canon.{canon, Canonical};
+ghost use Rattle.nla_wire.specs.Gives.{without_place};
+ghost use Rattle.link_recs.specs.Inet6StatsFields.{inet6_stats_size};
+ghost use Rattle.link_afspec.specs.Values.{af_spec_inet6_frame, AfSpecInet6Fits};
+ghost use Rattle.link_afspec.specs.Places.{iface_flags, addr_gen_mode, af_spec_inet6_place};
+ghost use Rattle.link_afspec.specs.declared.inet6.AfSpecInet6.TheVariants.{Other};
+
+use link_recs::{Icmp6Stats, Inet6CacheInfo, Inet6DevConf, Inet6Stats};
+use link_vals::{In6AddrGenMode, Inet6IfaceFlags};
+use nla_wire::{
+    CloneIn, DecodeError, DefaultNla, Exact, Nla, NlaBuffer, NlaRead, canon_bytes, fill_bytes,
+    parse_ipv6_addr, parse_u8, parse_u32,
+};
+use std::alloc::Global;
+use std::net::Ipv6Addr;
+
+/// A member of AF_INET6 in IFLA_AF_SPEC (linux/if_link.h).
+#[derive(Debug, Drop, PartialEq, Eq)]
+pub enum AfSpecInet6 {
+    /// IFLA_INET6_FLAGS, 1: flags of the interface, four bytes, of which every bit is kept.
+    Flags(Inet6IfaceFlags),
+    /// IFLA_INET6_CACHEINFO, 5: times of the neighbour cache, a record of 16 bytes. A shorter one is refused.
+    CacheInfo(Inet6CacheInfo),
+    /// IFLA_INET6_CONF, 2: all settings, a record of 240 bytes. A shorter one is filled up with zeros.
+    DevConf(Inet6DevConf),
+    /// IFLA_INET6_STATS, 3: statistics, a record of 304 bytes. A shorter one is filled up with zeros.
+    Stats(Inet6Stats),
+    /// IFLA_INET6_ICMP6STATS, 6: statistics of ICMPv6, a record of 56 bytes. A shorter one is filled up with zeros.
+    Icmp6Stats(Icmp6Stats),
+    /// IFLA_INET6_TOKEN, 7: an address, its sixteen octets in order.
+    Token(Ipv6Addr),
+    /// IFLA_INET6_ADDR_GEN_MODE, 8: how addresses are made, one byte.
+    AddrGenMode(In6AddrGenMode),
+    /// IFLA_INET6_RA_MTU, 9: the largest packet that a router advertised, in bytes, a number of four bytes.
+    RaMtu(u32),
+    /// A number that is not listed here.
+    Other(DefaultNla),
+}
+
+impl Nla for AfSpecInet6 {
+    ghost frame = { af_spec_inet6_frame };
+
+    ghost fits = { AfSpecInet6Fits };
+
+    ghost is_small = { λ x h. h };
+
+    fn kind(&self) -> u16 {
+        match self {
+            AfSpecInet6::Flags(_) => 1,
+            AfSpecInet6::CacheInfo(_) => 5,
+            AfSpecInet6::DevConf(_) => 2,
+            AfSpecInet6::Stats(_) => 3,
+            AfSpecInet6::Icmp6Stats(_) => 6,
+            AfSpecInet6::Token(_) => 7,
+            AfSpecInet6::AddrGenMode(_) => 8,
+            AfSpecInet6::RaMtu(_) => 9,
+            AfSpecInet6::Other(nla) => nla.kind(),
+        }
+    }
+
+    #[tactic(auto, using(link_recs::proofs::Inet6DevConfLemmas::length_inet6_dev_conf_bytes, link_recs::proofs::Inet6StatsLemmas::length_inet6_stats_bytes, link_recs::proofs::Icmp6StatsLemmas::length_icmp6_stats_bytes, link_recs::proofs::Inet6CacheInfoLemmas::length_inet6_cache_info_bytes))]
+    fn fits(&self) -> bool {
+        match self {
+            AfSpecInet6::Flags(_) => true,
+            AfSpecInet6::CacheInfo(_) => true,
+            AfSpecInet6::DevConf(_) => true,
+            AfSpecInet6::Stats(_) => true,
+            AfSpecInet6::Icmp6Stats(_) => true,
+            AfSpecInet6::Token(token) => token.octets().len() <= 65531,
+            AfSpecInet6::AddrGenMode(_) => true,
+            AfSpecInet6::RaMtu(_) => true,
+            AfSpecInet6::Other(nla) => nla.fits(),
+        }
+    }
+
+    #[tactic(auto, using(link_recs::proofs::Inet6DevConfLemmas::length_inet6_dev_conf_bytes, link_recs::proofs::Inet6StatsLemmas::length_inet6_stats_bytes, link_recs::proofs::Icmp6StatsLemmas::length_icmp6_stats_bytes, link_recs::proofs::Inet6CacheInfoLemmas::length_inet6_cache_info_bytes))]
+    fn value_len(&self) -> usize {
+        match self {
+            AfSpecInet6::Flags(_) => 4,
+            AfSpecInet6::CacheInfo(info) => info.buffer_len(),
+            AfSpecInet6::DevConf(conf) => conf.buffer_len(),
+            AfSpecInet6::Stats(stats) => stats.buffer_len(),
+            AfSpecInet6::Icmp6Stats(stats) => stats.buffer_len(),
+            AfSpecInet6::Token(token) => token.octets().len(),
+            AfSpecInet6::AddrGenMode(_) => 1,
+            AfSpecInet6::RaMtu(_) => 4,
+            AfSpecInet6::Other(nla) => nla.value_len(),
+        }
+    }
+
+    #[tactic(auto, using(link_recs::proofs::Inet6DevConfLemmas::length_inet6_dev_conf_bytes, link_recs::proofs::Inet6StatsLemmas::length_inet6_stats_bytes, link_recs::proofs::Icmp6StatsLemmas::length_icmp6_stats_bytes, link_recs::proofs::Inet6CacheInfoLemmas::length_inet6_cache_info_bytes))]
+    fn fill_value(&self, buffer: &mut [u8]) -> usize {
+        match self {
+            AfSpecInet6::Flags(flags) => fill_bytes(buffer, &flags.bits().to_le_bytes()),
+            AfSpecInet6::CacheInfo(info) => info.fill(buffer),
+            AfSpecInet6::DevConf(conf) => conf.fill(buffer),
+            AfSpecInet6::Stats(stats) => stats.fill(buffer),
+            AfSpecInet6::Icmp6Stats(stats) => stats.fill(buffer),
+            AfSpecInet6::Token(token) => fill_bytes(buffer, &token.octets()),
+            AfSpecInet6::AddrGenMode(mode) => fill_bytes(buffer, &[u8::from(mode)]),
+            AfSpecInet6::RaMtu(mtu) => fill_bytes(buffer, &mtu.to_le_bytes()),
+            AfSpecInet6::Other(nla) => nla.fill_value(buffer),
+        }
+    }
+}
+
+/// Flags of an interface, four bytes.
+fn parse_flags(payload: &[u8]) -> Result<Inet6IfaceFlags, DecodeError>
+    ensures { without_place result ≡ iface_flags.reads payload.now }
+{
+    parse_u32(payload).map(Inet6IfaceFlags::from_bits_retain)
+}
+
+/// How addresses are made, one byte.
+fn parse_mode(payload: &[u8]) -> Result<In6AddrGenMode, DecodeError>
+    ensures { without_place result ≡ addr_gen_mode.reads payload.now }
+{
+    parse_u8(payload).map(In6AddrGenMode::from)
+}
+
+/// The value of an attribute, if its number is listed: no memory is taken.
+#[tactic(auto, unfolding(crate::specs::Places::af_spec_inet6_place), using(link_recs::proofs::Inet6DevConfLemmas::length_inet6_dev_conf_bytes, link_recs::proofs::Inet6StatsLemmas::length_inet6_stats_bytes, link_recs::proofs::Icmp6StatsLemmas::length_icmp6_stats_bytes, link_recs::proofs::Inet6CacheInfoLemmas::length_inet6_cache_info_bytes))]
+fn read_listed(buffer: &NlaBuffer<'_>) -> Result<Option<AfSpecInet6>, DecodeError>
+    ensures reads { MatchResult result
+        (λ value. af_spec_inet6_place.reads buffer.now ≡ Ok (unwrap_or value (Other buffer.now)))
+        (λ e. af_spec_inet6_place.reads buffer.now ≡ Err e.cause) }
+    ensures short { IfOk result (λ value. IfSome value (λ v. length (af_spec_inet6_frame v).payload ≤ inet6_stats_size)) }
+{
+    let payload = buffer.value();
+    match buffer.kind() {
+        1 => Ok(Some(AfSpecInet6::Flags(parse_flags(payload)?))),
+        2 => Ok(Some(AfSpecInet6::DevConf(Inet6DevConf::read_padded(payload)))),
+        3 => Ok(Some(AfSpecInet6::Stats(Inet6Stats::read_padded(payload)))),
+        5 => Ok(Some(AfSpecInet6::CacheInfo(Inet6CacheInfo::parse(payload)?))),
+        6 => Ok(Some(AfSpecInet6::Icmp6Stats(Icmp6Stats::read_padded(payload)))),
+        7 => Ok(Some(AfSpecInet6::Token(parse_ipv6_addr(payload)?))),
+        8 => Ok(Some(AfSpecInet6::AddrGenMode(parse_mode(payload)?))),
+        9 => Ok(Some(AfSpecInet6::RaMtu(parse_u32(payload)?))),
+        _ => Ok(None),
+    }
+}
+
+/// Writes a value as an attribute to the front of the buffer, and answers its length with padding.
+fn canon_listed(value: &AfSpecInet6, out: &mut [u8]) -> Option<usize>
+    requires short { length (af_spec_inet6_frame value.now).payload ≤ inet6_stats_size }
+    requires room { growth ≤ length out.old }
+    ensures { Canonical (λ v. canon (af_spec_inet6_frame v)) AfSpecInet6Fits (Ok value.now) out.old out.new result }
+{
+    if !value.fits() {
+        return None;
+    }
+    value.emit(out);
+    Some(value.buffer_len())
+}
+
+impl NlaRead for AfSpecInet6 {
+    ghost use Rattle.link_afspec.specs.Laws.{af_spec_inet6_lawful, af_spec_inet6_bounded};
+
+    ghost grammar = { af_spec_inet6_place };
+
+    fn parse(alloc: Global, buffer: &NlaBuffer<'_>) -> Result<AfSpecInet6, DecodeError> {
+        match read_listed(buffer)? {
+            Some(value) => Ok(value),
+            None => Ok(AfSpecInet6::Other(DefaultNla::parse(alloc, buffer)?)),
+        }
+    }
+
+    fn check(buffer: &NlaBuffer<'_>) -> Result<(), DecodeError> {
+        let _value = read_listed(buffer)?;
+        Ok(())
+    }
+
+    fn canon(buffer: &NlaBuffer<'_>, out: &mut [u8]) -> Option<usize> {
+        match read_listed(buffer).ok()? {
+            Some(value) => canon_listed(&value, out),
+            None => canon_bytes(buffer.kind_with_flags(), buffer.value(), out),
+        }
+    }
+
+    ghost agrees = { af_spec_inet6_lawful.agrees };
+
+    ghost no_memory = { af_spec_inet6_lawful.no_memory };
+
+    ghost bounded = { af_spec_inet6_bounded };
+}
+
+impl CloneIn for AfSpecInet6 {
+    fn clone(&self, alloc: Global) -> Result<AfSpecInet6, DecodeError> {
+        match self {
+            AfSpecInet6::Flags(flags) => Ok(AfSpecInet6::Flags(*flags)),
+            AfSpecInet6::CacheInfo(info) => Ok(AfSpecInet6::CacheInfo(*info)),
+            AfSpecInet6::DevConf(conf) => Ok(AfSpecInet6::DevConf(*conf)),
+            AfSpecInet6::Stats(stats) => Ok(AfSpecInet6::Stats(*stats)),
+            AfSpecInet6::Icmp6Stats(stats) => Ok(AfSpecInet6::Icmp6Stats(*stats)),
+            AfSpecInet6::Token(token) => Ok(AfSpecInet6::Token(*token)),
+            AfSpecInet6::AddrGenMode(mode) => Ok(AfSpecInet6::AddrGenMode(*mode)),
+            AfSpecInet6::RaMtu(mtu) => Ok(AfSpecInet6::RaMtu(*mtu)),
+            AfSpecInet6::Other(nla) => Ok(AfSpecInet6::Other(nla.clone(alloc)?)),
+        }
+    }
+}
+
+impl Exact for AfSpecInet6 {
+    ghost use Rattle.nla_wire.specs.Decided.{by_exact, one_field, number_exact};
+    ghost use Rattle.nla_wire.specs.Same.{same_frame-Decides};
+    ghost use Rattle.link_recs.specs.Inet6DevConfFields.{inet6_dev_conf_decides};
+    ghost use Rattle.link_recs.specs.Inet6StatsFields.{inet6_stats_decides};
+    ghost use Rattle.link_recs.specs.Icmp6StatsFields.{icmp6_stats_decides};
+    ghost use Rattle.link_recs.specs.Inet6CacheInfoFields.{inet6_cache_info_decides};
+    ghost use Rattle.link_vals.specs.contracts.inet6_iface_flags.Inet6IfaceFlagsExact.TheImpl.Laws.{decides-law as flags_exact};
+    ghost use Rattle.link_vals.specs.contracts.addr_gen_mode.In6AddrGenModeExact.TheImpl.Laws.{decides-law as mode_exact};
+    ghost use Rattle.link_afspec.specs.Same.{address_exact};
+    ghost use Rattle.link_afspec.specs.contracts.inet6.AfSpecInet6.{enum};
+
+    ghost decides = { by_exact enum _ (one_field flags_exact, (one_field inet6_cache_info_decides, (one_field inet6_dev_conf_decides, (one_field inet6_stats_decides, (one_field icmp6_stats_decides, (one_field address_exact, (one_field mode_exact, (one_field number_exact, (one_field same_frame-Decides, tt))))))))) };
+}

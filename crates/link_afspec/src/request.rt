@@ -1,0 +1,68 @@
+//! Settings of IPv4 as the kernel is asked to change them: an attribute for each that is not zero.
+
+ghost use Rattle.std.specs.Prelude.{◌≡◌, ◌+◌, ◌-◌, ◌≤◌, length};
+ghost use Rattle.nla_wire.specs.Canon.{canon, Filled};
+ghost use Rattle.link_afspec.specs.Requests.{setting_frame, setting_text, request_text};
+
+use link_recs::InetDevConf;
+use nla_wire::{NLA_HEADER_SIZE, fill_bytes};
+
+/// How many settings there are, numbered from 1 on.
+const SETTING_COUNT: usize = 33;
+
+/// The bytes of a setting's attribute: its header and a number of four bytes.
+const SETTING_LEN: usize = NLA_HEADER_SIZE + 4;
+
+/// The attribute of a setting.
+fn setting_attribute(number: u16, value: i32) -> [u8; SETTING_LEN]
+    ensures { result ≡ canon (setting_frame (record { number = number; value = value })) }
+{
+    let [kind_low, kind_high] = number.to_le_bytes();
+    let [a, b, c, d] = value.to_le_bytes();
+    [8, 0, kind_low, kind_high, a, b, c, d]
+}
+
+/// The length of a setting's text: none where it is zero.
+fn setting_len(number: u16, value: i32) -> usize
+    ensures text { result ≡ length (setting_text (record { number = number; value = value })) }
+    ensures short { result ≤ 8 }
+{
+    if value == 0 { 0 } else { SETTING_LEN }
+}
+
+/// Writes a setting at the end of the buffer, if it is not zero, and answers where it starts.
+fn fill_setting(buffer: &mut [u8], number: u16, value: i32) -> usize
+    requires { length (setting_text (record { number = number; value = value })) ≤ length buffer.old }
+    ensures { Filled buffer.old buffer.new (setting_text (record { number = number; value = value })) result }
+{
+    if value == 0 {
+        return buffer.len();
+    }
+    fill_bytes(buffer, &setting_attribute(number, value))
+}
+
+/// The length of the text of a request for these settings.
+pub(crate) fn request_len(conf: &InetDevConf) -> usize
+    ensures { result ≡ length (request_text conf.now) }
+{
+    let mut len = 0;
+    for number in 1..SETTING_COUNT + 1 {
+        len += setting_len(number as u16, conf.setting(number));
+    }
+    len
+}
+
+/// Writes a request for these settings at the end of the buffer, the last setting first, and answers where it starts. The
+/// bytes before are kept.
+pub(crate) fn fill_request(conf: &InetDevConf, buffer: &mut [u8]) -> usize
+    requires { length (request_text conf.now) ≤ length buffer.old }
+    ensures { Filled buffer.old buffer.new (request_text conf.now) result }
+{
+    let mut start = buffer.len();
+    let mut number = SETTING_COUNT;
+    while number > 0 {
+        start = fill_setting(&mut buffer[..start], number as u16, conf.setting(number));
+        number -= 1;
+    }
+    start
+}

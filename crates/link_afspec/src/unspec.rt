@@ -1,0 +1,140 @@
+//! Settings of a link by family, members of IFLA_AF_SPEC of the family AF_UNSPEC.
+
+use crate::checked::{empty_list, list_fits};
+use crate::{AfSpecInet, AfSpecInet6, AfSpecMctp};
+use nla_wire::{
+    CloneIn, DecodeError, DefaultNla, Exact, List, Nla, NlaBuffer, NlaRead, canon_bytes,
+    nlas_buffer_len, nlas_fill,
+};
+use std::alloc::Global;
+
+/// A member of IFLA_AF_SPEC of the family AF_UNSPEC (linux/if_link.h): its number is a family (linux/socket.h), and its
+/// payload a list, which is not empty.
+#[derive(Debug, Drop, PartialEq, Eq)]
+pub enum AfSpecUnspec {
+    /// AF_INET, 2: settings of IPv4.
+    Inet(List<AfSpecInet>),
+    /// AF_INET6, 10: settings and statistics of IPv6.
+    Inet6(List<AfSpecInet6>),
+    /// AF_MCTP, 45: settings of MCTP.
+    Mctp(List<AfSpecMctp>),
+    /// A number that is not listed here.
+    Other(DefaultNla),
+}
+
+impl Nla for AfSpecUnspec {
+    ghost use Rattle.link_afspec.specs.Values.{af_spec_unspec_frame, AfSpecUnspecFits};
+
+    ghost frame = { af_spec_unspec_frame };
+
+    ghost fits = { AfSpecUnspecFits };
+
+    ghost is_small = { λ x h. h.0 };
+
+    fn kind(&self) -> u16 {
+        match self {
+            AfSpecUnspec::Inet(_) => 2,
+            AfSpecUnspec::Inet6(_) => 10,
+            AfSpecUnspec::Mctp(_) => 45,
+            AfSpecUnspec::Other(nla) => nla.kind(),
+        }
+    }
+
+    fn fits(&self) -> bool {
+        match self {
+            AfSpecUnspec::Inet(members) => list_fits(members.as_slice()),
+            AfSpecUnspec::Inet6(members) => list_fits(members.as_slice()),
+            AfSpecUnspec::Mctp(members) => list_fits(members.as_slice()),
+            AfSpecUnspec::Other(nla) => nla.fits(),
+        }
+    }
+
+    fn value_len(&self) -> usize {
+        match self {
+            AfSpecUnspec::Inet(members) => nlas_buffer_len(members.as_slice()),
+            AfSpecUnspec::Inet6(members) => nlas_buffer_len(members.as_slice()),
+            AfSpecUnspec::Mctp(members) => nlas_buffer_len(members.as_slice()),
+            AfSpecUnspec::Other(nla) => nla.value_len(),
+        }
+    }
+
+    fn fill_value(&self, buffer: &mut [u8]) -> usize {
+        match self {
+            AfSpecUnspec::Inet(members) => nlas_fill(members.as_slice(), buffer),
+            AfSpecUnspec::Inet6(members) => nlas_fill(members.as_slice(), buffer),
+            AfSpecUnspec::Mctp(members) => nlas_fill(members.as_slice(), buffer),
+            AfSpecUnspec::Other(nla) => nla.fill_value(buffer),
+        }
+    }
+}
+
+impl NlaRead for AfSpecUnspec {
+    ghost use Rattle.link_afspec.specs.Places.{af_spec_unspec_place};
+    ghost use Rattle.link_afspec.specs.Laws.{af_spec_unspec_lawful, af_spec_unspec_bounded};
+
+    ghost grammar = { af_spec_unspec_place };
+
+    #[tactic(auto, unfolding(crate::specs::Places::af_spec_unspec_place, nla_wire::specs::Grammar::unless_empty))]
+    fn parse(alloc: Global, buffer: &NlaBuffer<'_>) -> Result<AfSpecUnspec, DecodeError> {
+        let payload = buffer.value();
+        match buffer.kind() {
+            2 | 10 | 45 if payload.is_empty() => Err(empty_list()),
+            2 => AfSpecInet::parse_list(alloc, payload).map(|v| AfSpecUnspec::Inet(List::new(v))),
+            10 => AfSpecInet6::parse_list(alloc, payload).map(|v| AfSpecUnspec::Inet6(List::new(
+                v,
+            ))),
+            45 => AfSpecMctp::parse_list(alloc, payload).map(|v| AfSpecUnspec::Mctp(List::new(v))),
+            _ => DefaultNla::parse(alloc, buffer).map(AfSpecUnspec::Other),
+        }
+    }
+
+    #[tactic(auto, unfolding(crate::specs::Places::af_spec_unspec_place, nla_wire::specs::Grammar::unless_empty))]
+    fn check(buffer: &NlaBuffer<'_>) -> Result<(), DecodeError> {
+        let payload = buffer.value();
+        match buffer.kind() {
+            2 | 10 | 45 if payload.is_empty() => Err(empty_list()),
+            2 => AfSpecInet::check_list(payload),
+            10 => AfSpecInet6::check_list(payload),
+            45 => AfSpecMctp::check_list(payload),
+            _ => Ok(()),
+        }
+    }
+
+    #[tactic(auto, unfolding(crate::specs::Places::af_spec_unspec_place, nla_wire::specs::Grammar::unless_empty))]
+    fn canon(buffer: &NlaBuffer<'_>, out: &mut [u8]) -> Option<usize> {
+        match buffer.kind() {
+            2 => AfSpecInet::canon_nested(2, buffer.value(), out),
+            10 => AfSpecInet6::canon_nested(10, buffer.value(), out),
+            45 => AfSpecMctp::canon_nested(45, buffer.value(), out),
+            _ => canon_bytes(buffer.kind_with_flags(), buffer.value(), out),
+        }
+    }
+
+    ghost agrees = { af_spec_unspec_lawful.agrees };
+
+    ghost no_memory = { af_spec_unspec_lawful.no_memory };
+
+    ghost bounded = { af_spec_unspec_bounded };
+}
+
+impl CloneIn for AfSpecUnspec {
+    fn clone(&self, alloc: Global) -> Result<AfSpecUnspec, DecodeError> {
+        match self {
+            AfSpecUnspec::Inet(members) => members.clone(alloc).map(AfSpecUnspec::Inet),
+            AfSpecUnspec::Inet6(members) => members.clone(alloc).map(AfSpecUnspec::Inet6),
+            AfSpecUnspec::Mctp(members) => members.clone(alloc).map(AfSpecUnspec::Mctp),
+            AfSpecUnspec::Other(nla) => nla.clone(alloc).map(AfSpecUnspec::Other),
+        }
+    }
+}
+
+impl Exact for AfSpecUnspec {
+    ghost use Rattle.nla_wire.specs.Decided.{by_exact, one_field, list_exact};
+    ghost use Rattle.nla_wire.specs.Same.{same_frame-Decides};
+    ghost use Rattle.link_afspec.specs.contracts.unspec.AfSpecUnspec.{enum};
+    ghost use Rattle.link_afspec.specs.contracts.inet.AfSpecInetExact.TheImpl.Laws.{decides-law as inet_exact};
+    ghost use Rattle.link_afspec.specs.contracts.inet6.AfSpecInet6Exact.TheImpl.Laws.{decides-law as inet6_exact};
+    ghost use Rattle.link_afspec.specs.contracts.mctp.AfSpecMctpExact.TheImpl.Laws.{decides-law as mctp_exact};
+
+    ghost decides = { by_exact enum _ (one_field (list_exact inet_exact), (one_field (list_exact inet6_exact), (one_field (list_exact mctp_exact), (one_field same_frame-Decides, tt)))) };
+}

@@ -1,0 +1,6 @@
+pub mod Reading
+pub mod Messaging
+pub mod Answering
+pub mod ReadingBack
+pub mod LawProofs
+pub mod Writing

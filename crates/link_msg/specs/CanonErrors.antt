@@ -1,0 +1,21 @@
+-- The refusals and their numbers.
+use Rattle.std.specs.Prelude.{ℕ}
+use Rattle.nla_wire.specs.declared.error.Cause.{Cause}
+use Rattle.nla_wire.specs.declared.error.Cause.TheVariants as Causes
+use Rattle.nla_wire.specs.declared.error.DecodeError.{DecodeError}
+use Rattle.link_msg.specs.declared.canonical_text.CanonError.{CanonError}
+use Rattle.link_msg.specs.declared.canonical_text.CanonError.TheVariants.{Decode, DoesNotFit, EmptyVfPorts, OutOfMemory}
+
+abbrev pub canon_error_number : CanonError → ℕ
+canon_error_number (Decode e) = 1
+canon_error_number DoesNotFit = 2
+canon_error_number EmptyVfPorts = 3
+canon_error_number OutOfMemory = 4
+
+-- the refusal of this cause: want of memory is a refusal of its own
+abbrev pub refusal_for : Cause → DecodeError → CanonError
+refusal_for Causes.OutOfMemory e = OutOfMemory
+refusal_for _ e = Decode e
+
+abbrev pub refusal_of : DecodeError → CanonError
+refusal_of e = refusal_for e.cause e

@@ -1,0 +1,12 @@
+pub mod Header
+pub mod HeaderBuffer
+pub mod HeaderExact
+pub mod Values
+pub mod Content
+pub mod Places
+pub mod Messages
+pub mod MessageExact
+pub mod CanonErrors
+pub mod Canonical
+pub mod Laws
+pub mod LawStatements

@@ -1,0 +1,125 @@
+//! The header of a link message.
+
+ghost use Rattle.std.specs.Prelude.{◌≡◌, ◌≤◌, ◌<◌, ◌++◌, length, take, drop, MatchResult};
+ghost use Rattle.nla_wire.specs.Fields.{IsShort};
+
+use link_vals::{AddressFamily, LinkFlags, LinkLayerType};
+use nla_wire::fields::{put_bytes, put_u16, put_u32, too_short, u16_at, u32_at};
+use nla_wire::{DecodeError, Exact};
+
+/// The header of a link message, 16 bytes: `struct ifinfomsg` of linux/rtnetlink.h.
+///
+/// Layout: family at 0, one byte that is not read and written zero at 1, layer type (two bytes) at 2, index (four bytes)
+/// at 4, flags (four bytes) at 8, mask of the flags that change (four bytes) at 12. Numbers are in host order.
+#[derive(Clone, Copy, Debug, Default, PartialEq, Eq)]
+pub struct LinkHeader {
+    pub interface_family: AddressFamily,
+    pub index: u32,
+    pub link_layer_type: LinkLayerType,
+    pub flags: LinkFlags,
+    pub change_mask: LinkFlags,
+}
+
+const SIZE: usize = 16;
+
+impl Exact for LinkHeader {
+    ghost use Rattle.link_vals.specs.contracts.address_family.AddressFamilyExact.TheImpl.Laws.{decides-law as family_exact};
+    ghost use Rattle.link_vals.specs.contracts.link_layer_type.LinkLayerTypeExact.TheImpl.Laws.{decides-law as layer_exact};
+    ghost use Rattle.link_vals.specs.contracts.link_flags.LinkFlagsExact.TheImpl.Laws.{decides-law as flags_exact};
+    ghost use Rattle.link_msg.specs.HeaderExact.{header_decides};
+
+    ghost decides = { header_decides _ _ _ family_exact layer_exact flags_exact };
+}
+
+impl LinkHeader {
+    ghost use Rattle.link_msg.specs.Header.{header_of, header_bytes, header_size};
+
+    /// Reads the header at the front of the bytes, or refuses with `TooShort` below 16 bytes.
+    #[tactic(auto, unfolding(crate::specs::Header::header_of))]
+    pub fn parse(bytes: &[u8]) -> Result<LinkHeader, DecodeError>
+        ensures { MatchResult result (λ v. (header_size ≤ length bytes.now) × (v ≡ header_of bytes.now)) (IsShort bytes.now header_size) }
+    {
+        if bytes.len() < SIZE {
+            return Err(too_short(bytes.len(), SIZE));
+        }
+        Ok(LinkHeader {
+            interface_family: AddressFamily::from(bytes[0]),
+            index: u32_at(bytes, 4),
+            link_layer_type: LinkLayerType::from(u16_at(bytes, 2)),
+            flags: LinkFlags::from_bits_retain(u32_at(bytes, 8)),
+            change_mask: LinkFlags::from_bits_retain(u32_at(bytes, 12)),
+        })
+    }
+
+    /// The length of the header, 16 bytes.
+    pub fn buffer_len(&self) -> usize
+        ensures { result ≡ header_size }
+    {
+        SIZE
+    }
+
+    /// Writes the header into exactly 16 bytes.
+    #[tactic(auto, unfolding(crate::specs::Header::header_bytes))]
+    fn emit_whole(&self, buffer: &mut [u8])
+        requires { length buffer.old ≡ header_size }
+        ensures { buffer.new ≡ header_bytes self.now }
+    {
+        put_bytes(buffer, 0, &[u8::from(self.interface_family), 0]);
+        put_u16(buffer, 2, u16::from(self.link_layer_type));
+        put_u32(buffer, 4, self.index);
+        put_u32(buffer, 8, self.flags.bits());
+        put_u32(buffer, 12, self.change_mask.bits());
+    }
+
+    /// Writes the header to the first 16 bytes, and keeps the rest.
+    pub fn emit(&self, buffer: &mut [u8])
+        requires { header_size ≤ length buffer.old }
+        ensures { buffer.new ≡ header_bytes self.now ++ drop header_size buffer.old }
+    {
+        self.emit_whole(&mut buffer[..SIZE]);
+    }
+}
+
+/// The sixteen bytes of a header.
+#[derive(Clone, Copy, Debug, PartialEq, Eq)]
+pub struct LinkMessageBuffer {
+    bytes: [u8; 16],
+}
+
+impl From<&LinkHeader> for LinkMessageBuffer {
+    ghost use Rattle.link_msg.specs.HeaderBuffer.{link_message_buffer_bytes};
+    ghost use Rattle.link_msg.specs.Header.{header_bytes};
+
+    ghost from_gives = { λ v b. link_message_buffer_bytes b ≡ header_bytes v.now };
+
+    fn from(header: &LinkHeader) -> LinkMessageBuffer {
+        let mut bytes = [0; 16];
+        header.emit_whole(&mut bytes);
+        LinkMessageBuffer { bytes }
+    }
+}
+
+impl LinkMessageBuffer {
+    ghost use Rattle.link_msg.specs.HeaderBuffer.{link_message_buffer_bytes};
+    ghost use Rattle.link_msg.specs.Header.{header_size};
+
+    /// The bytes.
+    pub fn as_bytes(&self) -> &[u8]
+        ensures { result.now ≡ link_message_buffer_bytes self.now }
+    {
+        &self.bytes
+    }
+
+    /// The first 16 bytes as they are, and the rest of the slice, or `TooShort`.
+    pub fn read_from_prefix(bytes: &[u8]) -> Result<(LinkMessageBuffer, &[u8]), DecodeError>
+        ensures { MatchResult result (λ v. (link_message_buffer_bytes v.0 ≡ take header_size bytes.now) × (header_size ≤ length bytes.now) × (v.1.now ≡ drop header_size bytes.now)) (IsShort bytes.now header_size) }
+    {
+        if bytes.len() < SIZE {
+            return Err(too_short(bytes.len(), SIZE));
+        }
+        let (front, rest) = bytes.split_at(SIZE);
+        let mut found = [0; 16];
+        found.copy_from_slice(front);
+        Ok((LinkMessageBuffer { bytes: found }, rest))
+    }
+}

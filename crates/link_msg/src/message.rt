@@ -1,0 +1,177 @@
+//! Link messages.
+
+ghost use Rattle.std.specs.Prelude.{◌≡◌, ◌≢◌, ◌+◌, ◌-◌, ◌*◌, ◌^◌, ◌<◌, ◌≤◌, ◌++◌, ◌↔◌, [], length, take, drop, IsTrue, IfOk, IfErr, MatchResult, MatchBool};
+ghost use Rattle.nla_wire.specs.Sizes.{growth_per_byte, small_enough};
+ghost use Rattle.nla_wire.specs.Canon.{Filled};
+ghost use Rattle.link_msg.specs.Header.{header_size, header_of};
+ghost use Rattle.nla_wire.specs.Fields.{IsShort};
+ghost use Rattle.nla_wire.specs.Gives.{Gives, Checks};
+ghost use Rattle.nla_wire.specs.declared.error.Cause.TheVariants.{OutOfMemory};
+
+use crate::attribute::LinkAttribute;
+use crate::header::{LinkHeader, LinkMessageBuffer};
+use nla_wire::fields::too_short;
+use nla_wire::{
+    CloneIn, DecodeError, Exact, List, fill_bytes, nlas_buffer_len, nlas_fill, nlas_fit,
+};
+use std::alloc::Global;
+
+/// The bytes of a message's header.
+pub(crate) const HEADER_SIZE: usize = 16;
+
+/// A link message: RTM_NEWLINK and its kin behind the netlink header (rtnetlink(7)).
+#[derive(Debug, Drop, PartialEq, Eq)]
+pub struct LinkMessage {
+    pub header: LinkHeader,
+    pub attributes: List<LinkAttribute>,
+}
+
+/// The header, and the bytes behind it.
+pub(crate) fn split_header(input: &[u8]) -> Result<(LinkHeader, &[u8]), DecodeError>
+    ensures { MatchResult result (λ v. (header_size ≤ length input.now) × (v.0 ≡ header_of (take header_size input.now)) × (v.1.now ≡ drop header_size input.now)) (IsShort input.now header_size) }
+{
+    if input.len() < HEADER_SIZE {
+        return Err(too_short(input.len(), HEADER_SIZE));
+    }
+    let (front, rest) = input.split_at(HEADER_SIZE);
+    Ok((LinkHeader::parse(front)?, rest))
+}
+
+impl LinkMessage {
+    ghost use Rattle.link_msg.specs.Header.{default_header};
+    ghost use Rattle.link_msg.specs.Messages.{Means, Refused, IsRefused, IsBounded, read_message, message_text, MessageFits, NoEmptyPorts};
+    ghost use Rattle.link_msg.specs.declared.message.LinkMessage.{LinkMessage};
+
+    /// The message with the default header and no attributes. It takes no memory.
+    pub fn new(alloc: Global) -> LinkMessage
+        ensures { result ≡ record { header = default_header; attributes = [] } }
+    {
+        LinkMessage {
+            header: LinkHeader::default(),
+            attributes: List::new(Vec::new(alloc)),
+        }
+    }
+
+    /// Reads a message: a header of 16 bytes, and attributes under its family.
+    ///
+    /// Refuses `TooShort` below 16 bytes, else with the first fault of the attributes, front to back, each value before
+    /// the next attribute; or `OutOfMemory`, which says nothing of the bytes. Four times the number of attributes, at all
+    /// levels, is at most the number of bytes behind the header; their canonical text is at most 77 times as long; and
+    /// what was read from at most 859 bytes behind the header fits.
+    pub fn parse(alloc: Global, input: &[u8]) -> Result<LinkMessage, DecodeError>
+        ensures means { IfOk result (Means input.now) }
+        ensures bounds { IfOk result (IsBounded input.now) }
+        ensures fault { IfErr result (λ e. e.cause ≢ OutOfMemory → Refused input.now e.cause) }
+        ensures refused { IfErr result (λ e. e.cause ≢ OutOfMemory → IsRefused input.now) }
+        ensures reads { Gives result (read_message input.now) }
+    {
+        LinkMessage::read(alloc, input)
+    }
+
+    #[tactic(auto, unfolding(crate::specs::Messages::read_message))]
+    fn read(alloc: Global, input: &[u8]) -> Result<LinkMessage, DecodeError>
+        ensures { Gives result (read_message input.now) }
+    {
+        let (header, rest) = split_header(input)?;
+        let attributes = LinkAttribute::parse_list_with_param(
+            alloc,
+            rest,
+            header.interface_family,
+        )?;
+        Ok(LinkMessage {
+            header,
+            attributes: List::new(attributes),
+        })
+    }
+
+    /// Whether the bytes are a message: `Ok` exactly where `parse` reads one, else the first fault. It takes no memory,
+    /// and never answers `OutOfMemory`.
+    pub fn check(input: &[u8]) -> Result<(), DecodeError>
+        ensures found { IfOk result (λ _. (m : LinkMessage) × Means input.now m) }
+        ensures fault { IfErr result (λ e. Refused input.now e.cause) }
+        ensures refused { IfErr result (λ e. IsRefused input.now) }
+        ensures memory { IfErr result (λ e. e.cause ≢ OutOfMemory) }
+        ensures reads { Checks result (read_message input.now) }
+    {
+        LinkMessage::look(input)
+    }
+
+    #[tactic(auto, unfolding(crate::specs::Messages::read_message))]
+    fn look(input: &[u8]) -> Result<(), DecodeError>
+        ensures { Checks result (read_message input.now) }
+    {
+        let (header, rest) = split_header(input)?;
+        LinkAttribute::check_list_with_param(rest, header.interface_family)
+    }
+
+    /// Whether each attribute fits, and the length of the text is a `usize`.
+    #[tactic(auto, using(crate::proofs::Messaging::text_length))]
+    pub fn fits(&self) -> bool
+        ensures { IsTrue result ↔ MessageFits self.now }
+    {
+        let attributes = self.attributes.as_slice();
+        nlas_fit(attributes) && nlas_buffer_len(attributes) <= usize::MAX - HEADER_SIZE
+    }
+
+    /// The length of the canonical text.
+    #[tactic(auto, using(crate::proofs::Messaging::text_length))]
+    pub fn buffer_len(&self) -> usize
+        requires { MessageFits self.now }
+        ensures { result ≡ length (message_text self.now) }
+    {
+        HEADER_SIZE + nlas_buffer_len(self.attributes.as_slice())
+    }
+
+    /// Writes the canonical text at the end of the buffer, and answers where it starts. The bytes before are kept.
+    #[tactic(auto, using(crate::proofs::Messaging::text_length))]
+    pub fn fill(&self, buffer: &mut [u8]) -> usize
+        requires fits { MessageFits self.now }
+        requires room { length (message_text self.now) ≤ length buffer.old }
+        ensures { Filled buffer.old buffer.new (message_text self.now) result }
+    {
+        let start = nlas_fill(self.attributes.as_slice(), buffer);
+        let header = LinkMessageBuffer::from(&self.header);
+        fill_bytes(&mut buffer[..start], header.as_bytes())
+    }
+
+    /// Writes the canonical text to the front of the buffer, and keeps the rest.
+    #[tactic(auto, using(crate::proofs::Messaging::text_length))]
+    pub fn emit(&self, buffer: &mut [u8])
+        requires fits { MessageFits self.now }
+        requires room { length (message_text self.now) ≤ length buffer.old }
+        ensures { buffer.new ≡ message_text self.now ++ drop (length (message_text self.now)) buffer.old }
+    {
+        let len = self.buffer_len();
+        let _start = self.fill(&mut buffer[..len]);
+    }
+
+    /// Whether some attribute is an empty list of ports, which can be read and not written.
+    pub fn has_empty_ports(&self) -> bool
+        ensures { MatchBool result (NoEmptyPorts self.now → ⊥) (NoEmptyPorts self.now) }
+    {
+        for attribute in self.attributes.as_slice() {
+            if attribute.is_empty_ports() {
+                return true;
+            }
+        }
+        false
+    }
+}
+
+impl CloneIn for LinkMessage {
+    fn clone(&self, alloc: Global) -> Result<LinkMessage, DecodeError> {
+        Ok(LinkMessage {
+            header: self.header,
+            attributes: self.attributes.clone(alloc)?,
+        })
+    }
+}
+
+impl Exact for LinkMessage {
+    ghost use Rattle.nla_wire.specs.Decided.{list_exact};
+    ghost use Rattle.link_msg.specs.contracts.attribute.LinkAttributeExact.TheImpl.Laws.{decides-law as attribute_exact};
+    ghost use Rattle.link_msg.specs.contracts.header.LinkHeaderExact.TheImpl.Laws.{decides-law as header_exact};
+    ghost use Rattle.link_msg.specs.MessageExact.{message_decides};
+
+    ghost decides = { message_decides header_exact (list_exact attribute_exact) };
+}

@@ -1,0 +1,48 @@
+-- The laws of a place and of its lists, from all that is proved of the place.
+use Rattle.std.specs.Prelude.{refl}
+use Rattle.std.proofs.Common.{◌≡◌, ℕ, ◌+◌, ◌*◌, ◌/◌, ◌<◌, ◌≤◌, List, [], ◌∷◌, ◌++◌, length, arith, ap, subst, append-nil}
+use Rattle.std.specs.Int.{w16, to_le_bytes}
+use Rattle.std.specs.List.{AllByRecursion}
+use Rattle.nla_wire.specs.Sizes.{growth, slack}
+use Rattle.nla_wire.specs.Frames.{Frame, IsBytes, Frames, Begins}
+use Rattle.nla_wire.specs.Grammar.{Grammar, list}
+use Rattle.nla_wire.specs.Canon.{canon, canons, AllFit, total}
+use Rattle.nla_wire.proofs.Back.{canon_begins}
+use Rattle.nla_wire.proofs.Lawful.{LawfulPlace, place_count, place_length, place_back, always}
+use Rattle.link_nest.specs.PlaceLaws.{ReadsBack, ListReadsBack, IsBounded, ListsBounded}
+
+pub all_always : {V : Type 0} (vs : List V) → AllByRecursion always vs
+all_always [] = tt
+all_always (v ∷ vs) = (tt, all_always vs)
+
+-- what holds a frame holds its header
+frames_long : (p : List ℕ) (fs : List Frame) → Frames p fs → 0 < length p → 4 ≤ length p
+frames_long p [] frames some = absurd (omega (arith, ap length frames))
+frames_long p (f ∷ fs) frames some = omega (arith, ap length frames.1.parts)
+
+-- a text with 300 bytes fewer for each member has 300 fewer where there is anything, also where no member is kept
+pub fewer_bytes : {V : Type 0} (frame : V → Frame) (p : List ℕ) (fs : List Frame) (vs : List V) → Frames p fs
+    → length (canons frame vs) + slack * length vs ≤ growth * (length p / 4)
+    → 0 < length p → length (canons frame vs) + slack ≤ growth * (length p / 4)
+fewer_bytes frame p fs [] frames grown some = omega (arith, frames_long p fs frames some)
+fewer_bytes frame p fs (v ∷ vs) frames grown some = omega arith
+
+module _ {V : Type 0} (g : Grammar Frame V) (frame : V → Frame) (Fits : V → Type 0) (count : V → ℕ) (n : ℕ)
+    (h : LawfulPlace g frame Fits always count growth slack n) where
+  pub place_reads_back : ReadsBack g.means frame Fits
+  place_reads_back f v one means fits = (
+    subst (λ b. Begins b (frame v) []) (append-nil (canon (frame v))) (canon_begins (frame v) [] (h.writable f v one means fits)),
+    h.back f v one means fits tt,
+  )
+
+  pub list_reads_back : ListReadsBack (list g).means frame Fits
+  list_reads_back p vs small means fits = place_back g frame Fits always count growth slack n h p vs small means fits.0 (all_always vs)
+
+  pub lists_bounded : ListsBounded (list g).means count frame
+  lists_bounded p vs means =
+      let grown = place_length g frame Fits always count growth slack n h p vs means in
+      record {
+        counted = place_count g frame Fits always count growth slack n h p vs means;
+        grown = grown;
+        fewer = fewer_bytes frame p means.0 vs means.1 grown;
+      }

@@ -1,0 +1,23 @@
+//! Inner lists of link messages: names, devlink ports, clock pins, reasons, express data paths, link information; and
+//! wireless events.
+#![tactic(auto)]
+
+mod checked;
+pub mod devlink_port;
+pub mod down_reason;
+pub mod dpll_pin;
+pub mod laws;
+pub mod link_info;
+pub mod prop_list;
+#[cfg(test)]
+mod tests;
+pub mod wireless;
+pub mod xdp;
+
+pub use devlink_port::DevlinkPort;
+pub use down_reason::LinkProtocolDownReason;
+pub use dpll_pin::DpllPin;
+pub use link_info::LinkInfo;
+pub use prop_list::Prop;
+pub use wireless::WirelessEvent;
+pub use xdp::LinkXdp;

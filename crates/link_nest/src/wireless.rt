@@ -1,0 +1,192 @@
+//! Wireless events.
+
+ghost use Rattle.std.specs.Prelude.{◌≡◌, ◌+◌, ◌*◌, ◌≤◌, ◌↔◌, ◌++◌, ◌⊎◌, [], ◌∷◌, length, IsTrue, IfOk, IfErr, IsOk};
+ghost use Rattle.std.specs.Int.{w16, to_le_bytes};
+ghost use Rattle.nla_wire.specs.Sizes.{growth_per_byte};
+ghost use Rattle.nla_wire.specs.Canon.{Filled, Canonical, Writes};
+ghost use Rattle.nla_wire.specs.Gives.{Gives, Checks};
+ghost use Rattle.nla_wire.specs.declared.error.Cause.TheVariants.{OutOfMemory};
+ghost use Rattle.link_nest.specs.Wireless.{wireless_event, wireless_text, WirelessFits, event_text, event_header};
+
+use nla_wire::fields::{too_short, u16_at};
+use nla_wire::{Bytes, CloneIn, DecodeError, Exact, fill_bytes};
+use std::alloc::Global;
+
+/// The bytes of an event's header: its length and its command of two bytes each, and padding of four bytes.
+const HEADER_LEN: usize = 8;
+
+/// The most bytes that the value of an attribute may have.
+const MOST_TEXT_LEN: usize = 65531;
+
+/// The value of IFLA_WIRELESS: an event of the wireless extensions (`struct iw_event` of linux/wireless.h).
+///
+/// A length of two bytes, which counts the whole event and is not looked at when it is read, a command of two bytes, four
+/// bytes of padding, and then the event's bytes.
+#[derive(Debug, Drop, PartialEq, Eq)]
+pub enum WirelessEvent {
+    /// IWEVASSOCREQIE, 0x8c07: the information elements of an association request.
+    AssociateRequest(Bytes),
+    /// IWEVASSOCRESPIE, 0x8c08: the information elements of an association response.
+    AssociateResponse(Bytes),
+    /// Any other command: the whole payload, header and all.
+    Other(Bytes),
+}
+
+/// The header of an event.
+fn header_of(len: u16, command: u16) -> [u8; 8]
+    ensures { result ≡ event_header len command }
+{
+    let [len_low, len_high] = len.to_le_bytes();
+    let [command_low, command_high] = command.to_le_bytes();
+    [len_low, len_high, command_low, command_high, 0, 0, 0, 0]
+}
+
+/// Writes an event with its header at the end of the buffer, and answers where it starts.
+fn fill_event(buffer: &mut [u8], command: u16, bytes: &[u8]) -> usize
+    requires small { 8 + length bytes.now ≤ 65531 }
+    requires room { 8 + length bytes.now ≤ length buffer.old }
+    ensures { Filled buffer.old buffer.new (event_text command bytes.now) result }
+{
+    let start = fill_bytes(buffer, bytes);
+    let header = header_of((HEADER_LEN + bytes.len()) as u16, command);
+    fill_bytes(&mut buffer[..start], &header)
+}
+
+/// Writes an event with its header to the front of the buffer, and answers its length.
+fn write_event(out: &mut [u8], command: u16, bytes: &[u8]) -> usize
+    requires small { 8 + length bytes.now ≤ 65531 }
+    requires room { 8 + length bytes.now ≤ length out.old }
+    ensures { Writes (event_text command bytes.now) out.old out.new result }
+{
+    let end = HEADER_LEN + bytes.len();
+    out[..HEADER_LEN].copy_from_slice(&header_of(end as u16, command));
+    out[HEADER_LEN..end].copy_from_slice(bytes);
+    end
+}
+
+/// Writes bytes to the front of the buffer, and answers their number.
+fn write_bytes(out: &mut [u8], bytes: &[u8]) -> usize
+    requires { length bytes.now ≤ length out.old }
+    ensures { Writes bytes.now out.old out.new result }
+{
+    out[..bytes.len()].copy_from_slice(bytes);
+    bytes.len()
+}
+
+impl WirelessEvent {
+    /// Reads an event: a request or a response keeps the bytes behind its header, and any other event the whole payload.
+    ///
+    /// Refuses a payload of fewer than 8 bytes with `TooShort`, and want of memory with `OutOfMemory`.
+    #[tactic(auto, unfolding(nla_wire::specs::Payloads::read_sized))]
+    pub fn parse(alloc: Global, payload: &[u8]) -> Result<WirelessEvent, DecodeError>
+        ensures means { IfOk result (wireless_event.means payload.now) }
+        ensures refused { IfErr result (λ e. (e.cause ≡ OutOfMemory) ⊎ wireless_event.bad payload.now e.cause) }
+        ensures reads { Gives result (wireless_event.reads payload.now) }
+    {
+        if payload.len() < HEADER_LEN {
+            return Err(too_short(payload.len(), HEADER_LEN));
+        }
+        match u16_at(payload, 2) {
+            0x8c07 => Bytes::from_slice(alloc, &payload[8..]).map(WirelessEvent::AssociateRequest),
+            0x8c08 => Bytes::from_slice(alloc, &payload[8..]).map(WirelessEvent::AssociateResponse),
+            _ => Bytes::from_slice(alloc, payload).map(WirelessEvent::Other),
+        }
+    }
+
+    /// Whether a payload is an event, with no memory taken: `Ok` where `parse` reads it, else `TooShort`.
+    #[tactic(auto, unfolding(nla_wire::specs::Payloads::read_sized))]
+    pub fn check(payload: &[u8]) -> Result<(), DecodeError>
+        ensures { Checks result (wireless_event.reads payload.now) }
+    {
+        if payload.len() < HEADER_LEN {
+            return Err(too_short(payload.len(), HEADER_LEN));
+        }
+        Ok(())
+    }
+
+    /// Writes the text of the event that the payload means to the front of the buffer, with no memory taken, and answers
+    /// its length.
+    ///
+    /// Answers `None` where the text has more than 65531 bytes. The bytes behind the text are kept; after `None` nothing
+    /// is said of the buffer.
+    #[tactic(auto, unfolding(nla_wire::specs::Payloads::read_sized))]
+    pub fn canon(payload: &[u8], out: &mut [u8]) -> Option<usize>
+        requires accepted { IsOk (wireless_event.reads payload.now) }
+        requires room { growth_per_byte * length payload.now ≤ length out.old }
+        ensures { Canonical wireless_text WirelessFits (wireless_event.reads payload.now) out.old out.new result }
+    {
+        if payload.len() > MOST_TEXT_LEN {
+            return None;
+        }
+        Some(match u16_at(payload, 2) {
+            0x8c07 => write_event(out, 0x8c07, &payload[8..]),
+            0x8c08 => write_event(out, 0x8c08, &payload[8..]),
+            _ => write_bytes(out, payload),
+        })
+    }
+
+    /// Whether the text has at most 65531 bytes.
+    pub fn fits(&self) -> bool
+        ensures { IsTrue result ↔ WirelessFits self.now }
+    {
+        match self {
+            WirelessEvent::AssociateRequest(bytes) => bytes.len() <= MOST_TEXT_LEN - HEADER_LEN,
+            WirelessEvent::AssociateResponse(bytes) => bytes.len() <= MOST_TEXT_LEN - HEADER_LEN,
+            WirelessEvent::Other(bytes) => bytes.len() <= MOST_TEXT_LEN,
+        }
+    }
+
+    /// The length of the text in bytes.
+    pub fn buffer_len(&self) -> usize
+        requires { WirelessFits self.now }
+        ensures { result ≡ length (wireless_text self.now) }
+    {
+        match self {
+            WirelessEvent::AssociateRequest(bytes) => HEADER_LEN + bytes.len(),
+            WirelessEvent::AssociateResponse(bytes) => HEADER_LEN + bytes.len(),
+            WirelessEvent::Other(bytes) => bytes.len(),
+        }
+    }
+
+    /// Writes the text at the end of the buffer, and answers where it starts. The bytes before are kept.
+    pub fn fill(&self, buffer: &mut [u8]) -> usize
+        requires fits { WirelessFits self.now }
+        requires room { length (wireless_text self.now) ≤ length buffer.old }
+        ensures { Filled buffer.old buffer.new (wireless_text self.now) result }
+    {
+        match self {
+            WirelessEvent::AssociateRequest(bytes) => fill_event(buffer, 0x8c07, bytes.as_slice()),
+            WirelessEvent::AssociateResponse(bytes) => fill_event(buffer, 0x8c08, bytes.as_slice()),
+            WirelessEvent::Other(bytes) => fill_bytes(buffer, bytes.as_slice()),
+        }
+    }
+
+    /// Writes the text into a buffer of exactly its length.
+    pub fn emit(&self, buffer: &mut [u8])
+        requires fits { WirelessFits self.now }
+        requires exact { length buffer.old ≡ length (wireless_text self.now) }
+        ensures { buffer.new ≡ wireless_text self.now }
+    {
+        let _start = self.fill(buffer);
+    }
+}
+
+impl CloneIn for WirelessEvent {
+    fn clone(&self, alloc: Global) -> Result<WirelessEvent, DecodeError> {
+        match self {
+            WirelessEvent::AssociateRequest(bytes) => {
+                bytes.clone(alloc).map(WirelessEvent::AssociateRequest)
+            }
+            WirelessEvent::AssociateResponse(bytes) => {
+                bytes.clone(alloc).map(WirelessEvent::AssociateResponse)
+            }
+            WirelessEvent::Other(bytes) => bytes.clone(alloc).map(WirelessEvent::Other),
+        }
+    }
+}
+
+impl Exact for WirelessEvent {
+    ghost use Rattle.std.proofs.Common.{rules};
+
+    ghost decides = { Prim.search rules };
+}

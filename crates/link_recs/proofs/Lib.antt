@@ -1,0 +1,10 @@
+pub mod Numbers
+pub mod Uniform
+pub mod StatsLemmas
+pub mod Stats64Lemmas
+pub mod InetDevConfLemmas
+pub mod Inet6DevConfLemmas
+pub mod Inet6StatsLemmas
+pub mod Icmp6StatsLemmas
+pub mod Inet6CacheInfoLemmas
+pub mod MapLemmas

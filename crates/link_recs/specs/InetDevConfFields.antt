@@ -1,0 +1,121 @@
+-- InetDevConf: its fields in order, its reading and its bytes.
+use Rattle.std.specs.Prelude.{◌≡◌, ℕ, ℤ, pos, ◌*◌, List, [], ◌∷◌, slice_index_or}
+use Rattle.std.proofs.Common.{refl, sym, ap, ◌∙◌}
+use Rattle.std.specs.Bool.{Decides}
+use Rattle.std.specs.Cmp.{signed_Decides}
+use Rattle.std.specs.Ordering.{int_eq}
+use Rattle.std.specs.Int.{w32}
+use Rattle.nla_wire.specs.Fields.{signed_at, le_all_signed}
+use Rattle.link_recs.specs.Same.{each_same, decides_by}
+use Rattle.link_recs.specs.declared.inet.InetDevConf.{InetDevConf}
+use Rattle.link_recs.specs.declared.inet.InetDevConfBuffer.{InetDevConfBuffer}
+
+-- how many bytes a record has
+abbrev pub inet_dev_conf_size : ℕ
+inet_dev_conf_size = 132
+
+-- the fields in order, 4 bytes each
+abbrev pub inet_dev_conf_members : InetDevConf → List ℤ
+inet_dev_conf_members v =
+    v.forwarding ∷
+    v.mc_forwarding ∷
+    v.proxy_arp ∷
+    v.accept_redirects ∷
+    v.secure_redirects ∷
+    v.send_redirects ∷
+    v.shared_media ∷
+    v.rp_filter ∷
+    v.accept_source_route ∷
+    v.bootp_relay ∷
+    v.log_martians ∷
+    v.tag ∷
+    v.arpfilter ∷
+    v.medium_id ∷
+    v.noxfrm ∷
+    v.nopolicy ∷
+    v.force_igmp_version ∷
+    v.arp_announce ∷
+    v.arp_ignore ∷
+    v.promote_secondaries ∷
+    v.arp_accept ∷
+    v.arp_notify ∷
+    v.accept_local ∷
+    v.src_vmark ∷
+    v.proxy_arp_pvlan ∷
+    v.route_localnet ∷
+    v.igmpv2_unsolicited_report_interval ∷
+    v.igmpv3_unsolicited_report_interval ∷
+    v.ignore_routes_with_linkdown ∷
+    v.drop_unicast_in_l2_multicast ∷
+    v.drop_gratuitous_arp ∷
+    v.bc_forwarding ∷
+    v.arp_evict_nocarrier ∷
+    []
+
+-- the same as one word, which clauses and their readers need not open
+unfoldable pub inet_dev_conf_fields : InetDevConf → List ℤ
+inet_dev_conf_fields v = inet_dev_conf_members v
+
+-- the record of the fields by number
+abbrev pub inet_dev_conf_by : (ℕ → ℤ) → InetDevConf
+inet_dev_conf_by field = record {
+  forwarding = field 0;
+  mc_forwarding = field 1;
+  proxy_arp = field 2;
+  accept_redirects = field 3;
+  secure_redirects = field 4;
+  send_redirects = field 5;
+  shared_media = field 6;
+  rp_filter = field 7;
+  accept_source_route = field 8;
+  bootp_relay = field 9;
+  log_martians = field 10;
+  tag = field 11;
+  arpfilter = field 12;
+  medium_id = field 13;
+  noxfrm = field 14;
+  nopolicy = field 15;
+  force_igmp_version = field 16;
+  arp_announce = field 17;
+  arp_ignore = field 18;
+  promote_secondaries = field 19;
+  arp_accept = field 20;
+  arp_notify = field 21;
+  accept_local = field 22;
+  src_vmark = field 23;
+  proxy_arp_pvlan = field 24;
+  route_localnet = field 25;
+  igmpv2_unsolicited_report_interval = field 26;
+  igmpv3_unsolicited_report_interval = field 27;
+  ignore_routes_with_linkdown = field 28;
+  drop_unicast_in_l2_multicast = field 29;
+  drop_gratuitous_arp = field 30;
+  bc_forwarding = field 31;
+  arp_evict_nocarrier = field 32;
+}
+
+-- what a payload means, with zeros behind it
+unfoldable pub inet_dev_conf_of : List ℕ → InetDevConf
+inet_dev_conf_of payload = inet_dev_conf_by (λ i. signed_at w32 payload (4 * i))
+
+-- the bytes of a record
+unfoldable pub inet_dev_conf_bytes : InetDevConf → List ℕ
+inet_dev_conf_bytes v = le_all_signed w32 (inet_dev_conf_fields v)
+
+-- the bytes that a buffer holds
+abbrev pub inet_dev_conf_buffer_bytes : InetDevConfBuffer → List ℕ
+inet_dev_conf_buffer_bytes b = b.bytes
+
+-- the record of a list of fields
+abbrev pub inet_dev_conf_listed : List ℤ → InetDevConf
+inet_dev_conf_listed xs = inet_dev_conf_by (λ i. slice_index_or xs i (pos 0))
+
+-- equal fields, equal records
+inet_dev_conf_listed_members : (v : InetDevConf) → inet_dev_conf_listed (inet_dev_conf_members v) ≡ v
+inet_dev_conf_listed_members v = refl
+
+pub inet_dev_conf_equal : (v w : InetDevConf) → inet_dev_conf_members v ≡ inet_dev_conf_members w → v ≡ w
+inet_dev_conf_equal v w e = sym (inet_dev_conf_listed_members v) ∙ ap inet_dev_conf_listed e ∙ inet_dev_conf_listed_members w
+
+pub inet_dev_conf_decides : (v w : InetDevConf) → Decides (each_same int_eq (inet_dev_conf_members v) (inet_dev_conf_members w)) (v ≡ w)
+inet_dev_conf_decides v w = decides_by inet_dev_conf_members int_eq signed_Decides inet_dev_conf_equal v w refl

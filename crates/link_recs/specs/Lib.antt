@@ -1,0 +1,10 @@
+pub mod Laws
+pub mod Same
+pub mod StatsFields
+pub mod Stats64Fields
+pub mod InetDevConfFields
+pub mod Inet6DevConfFields
+pub mod Inet6StatsFields
+pub mod Icmp6StatsFields
+pub mod Inet6CacheInfoFields
+pub mod MapFields

@@ -1,0 +1,265 @@
+//! Settings of IPv4 on a link (IFLA_INET_CONF).
+
+ghost use Rattle.std.proofs.Common.{rules};
+ghost use Rattle.std.specs.Prelude.{◌≡◌, ◌-◌, ◌≤◌, length, take, drop, slice_index_or, pos, MatchResult};
+ghost use Rattle.std.specs.Int.{w32};
+ghost use Rattle.nla_wire.specs.Fields.{signed_from, IsShort};
+ghost use Rattle.nla_wire.specs.Payloads.{sized};
+ghost use Rattle.nla_wire.specs.Gives.{without_place};
+ghost use Rattle.nla_wire.specs.Canon.{Filled};
+ghost use Rattle.link_recs.specs.InetDevConfFields.{inet_dev_conf_size, inet_dev_conf_fields, inet_dev_conf_of, inet_dev_conf_bytes, inet_dev_conf_buffer_bytes, inet_dev_conf_listed, inet_dev_conf_decides};
+
+use crate::words::read_i32s;
+use nla_wire::fields::{put_i32s, too_short};
+use nla_wire::{DecodeError, Exact};
+
+/// The number of bytes of a record.
+pub const INET_DEV_CONF_SIZE: usize = 132;
+
+/// Settings of IPv4 on a link (IFLA_INET_CONF).
+///
+/// Thirty-three signed numbers of four bytes each, lowest byte first, in the order of the constants
+/// IPV4_DEVCONF_* of linux/ip.h, which count from 1: setting number `n` stands at offset `4 * (n -
+/// 1)`.
+#[derive(Clone, Copy, Debug, Default, PartialEq, Eq)]
+pub struct InetDevConf {
+    pub forwarding: i32,
+    pub mc_forwarding: i32,
+    pub proxy_arp: i32,
+    pub accept_redirects: i32,
+    pub secure_redirects: i32,
+    pub send_redirects: i32,
+    pub shared_media: i32,
+    pub rp_filter: i32,
+    pub accept_source_route: i32,
+    pub bootp_relay: i32,
+    pub log_martians: i32,
+    pub tag: i32,
+    pub arpfilter: i32,
+    pub medium_id: i32,
+    pub noxfrm: i32,
+    pub nopolicy: i32,
+    pub force_igmp_version: i32,
+    pub arp_announce: i32,
+    pub arp_ignore: i32,
+    pub promote_secondaries: i32,
+    pub arp_accept: i32,
+    pub arp_notify: i32,
+    pub accept_local: i32,
+    pub src_vmark: i32,
+    pub proxy_arp_pvlan: i32,
+    pub route_localnet: i32,
+    pub igmpv2_unsolicited_report_interval: i32,
+    pub igmpv3_unsolicited_report_interval: i32,
+    pub ignore_routes_with_linkdown: i32,
+    pub drop_unicast_in_l2_multicast: i32,
+    pub drop_gratuitous_arp: i32,
+    pub bc_forwarding: i32,
+    pub arp_evict_nocarrier: i32,
+}
+
+impl InetDevConf {
+    #[inline(always)]
+    fn from_words(words: [i32; 33]) -> InetDevConf
+        ensures { result ≡ inet_dev_conf_listed words }
+    {
+        InetDevConf {
+            forwarding: words[0],
+            mc_forwarding: words[1],
+            proxy_arp: words[2],
+            accept_redirects: words[3],
+            secure_redirects: words[4],
+            send_redirects: words[5],
+            shared_media: words[6],
+            rp_filter: words[7],
+            accept_source_route: words[8],
+            bootp_relay: words[9],
+            log_martians: words[10],
+            tag: words[11],
+            arpfilter: words[12],
+            medium_id: words[13],
+            noxfrm: words[14],
+            nopolicy: words[15],
+            force_igmp_version: words[16],
+            arp_announce: words[17],
+            arp_ignore: words[18],
+            promote_secondaries: words[19],
+            arp_accept: words[20],
+            arp_notify: words[21],
+            accept_local: words[22],
+            src_vmark: words[23],
+            proxy_arp_pvlan: words[24],
+            route_localnet: words[25],
+            igmpv2_unsolicited_report_interval: words[26],
+            igmpv3_unsolicited_report_interval: words[27],
+            ignore_routes_with_linkdown: words[28],
+            drop_unicast_in_l2_multicast: words[29],
+            drop_gratuitous_arp: words[30],
+            bc_forwarding: words[31],
+            arp_evict_nocarrier: words[32],
+        }
+    }
+
+    #[inline(always)]
+    #[tactic(auto, using(crate::proofs::InetDevConfLemmas::inet_dev_conf_of_table))]
+    fn read(payload: &[u8]) -> InetDevConf
+        ensures { result ≡ inet_dev_conf_of payload.now }
+    {
+        let mut words = [0; 33];
+        read_i32s(payload, &mut words);
+        InetDevConf::from_words(words)
+    }
+
+    /// Reads a record from the front of the payload, as if zeros followed it. Nothing is refused.
+    #[tactic(auto, using(crate::proofs::InetDevConfLemmas::inet_dev_conf_table))]
+    pub fn read_padded(payload: &[u8]) -> InetDevConf
+        ensures value { result ≡ inet_dev_conf_of payload.now }
+        ensures fields { inet_dev_conf_fields result ≡ signed_from w32 payload.now 0 33 }
+    {
+        InetDevConf::read(payload)
+    }
+
+    /// Reads a record from the front of the payload. A payload of fewer than 132 bytes is refused
+    /// with `TooShort`.
+    #[tactic(auto, unfolding(nla_wire::specs::Payloads::read_sized))]
+    pub fn parse(payload: &[u8]) -> Result<InetDevConf, DecodeError>
+        ensures means { MatchResult result
+            ((sized inet_dev_conf_size inet_dev_conf_of).means payload.now)
+            (λ e. (sized inet_dev_conf_size inet_dev_conf_of).bad payload.now e.cause) }
+        ensures reads { without_place result ≡ (sized inet_dev_conf_size inet_dev_conf_of).reads payload.now }
+    {
+        if payload.len() < INET_DEV_CONF_SIZE {
+            return Err(too_short(payload.len(), INET_DEV_CONF_SIZE));
+        }
+        Ok(InetDevConf::read(payload))
+    }
+
+    #[inline(always)]
+    #[tactic(auto, unfolding(crate::specs::InetDevConfFields::inet_dev_conf_fields))]
+    fn words(&self) -> [i32; 33]
+        ensures { result ≡ inet_dev_conf_fields self.now }
+    {
+        [
+            self.forwarding,
+            self.mc_forwarding,
+            self.proxy_arp,
+            self.accept_redirects,
+            self.secure_redirects,
+            self.send_redirects,
+            self.shared_media,
+            self.rp_filter,
+            self.accept_source_route,
+            self.bootp_relay,
+            self.log_martians,
+            self.tag,
+            self.arpfilter,
+            self.medium_id,
+            self.noxfrm,
+            self.nopolicy,
+            self.force_igmp_version,
+            self.arp_announce,
+            self.arp_ignore,
+            self.promote_secondaries,
+            self.arp_accept,
+            self.arp_notify,
+            self.accept_local,
+            self.src_vmark,
+            self.proxy_arp_pvlan,
+            self.route_localnet,
+            self.igmpv2_unsolicited_report_interval,
+            self.igmpv3_unsolicited_report_interval,
+            self.ignore_routes_with_linkdown,
+            self.drop_unicast_in_l2_multicast,
+            self.drop_gratuitous_arp,
+            self.bc_forwarding,
+            self.arp_evict_nocarrier,
+        ]
+    }
+
+    /// The number of bytes that `emit` writes, 132.
+    pub fn buffer_len(&self) -> usize
+        ensures { result ≡ inet_dev_conf_size }
+    {
+        INET_DEV_CONF_SIZE
+    }
+
+    /// Writes the record to a buffer of exactly 132 bytes.
+    #[tactic(auto, unfolding(crate::specs::InetDevConfFields::inet_dev_conf_bytes))]
+    pub fn emit(&self, buffer: &mut [u8])
+        requires { length buffer.old ≡ inet_dev_conf_size }
+        ensures { buffer.new ≡ inet_dev_conf_bytes self.now }
+    {
+        put_i32s(buffer, &self.words());
+    }
+
+    /// Writes the record to the end of a buffer of at least 132 bytes, keeps the bytes before it,
+    /// and answers where it starts.
+    #[tactic(auto, using(crate::proofs::InetDevConfLemmas::length_inet_dev_conf_bytes))]
+    pub fn fill(&self, buffer: &mut [u8]) -> usize
+        requires { inet_dev_conf_size ≤ length buffer.old }
+        ensures { Filled buffer.old buffer.new (inet_dev_conf_bytes self.now) result }
+    {
+        let start = buffer.len() - INET_DEV_CONF_SIZE;
+        self.emit(&mut buffer[start..]);
+        start
+    }
+
+    /// The setting of this number, 1 to 33 as the constants IPV4_DEVCONF_* count them.
+    pub fn setting(&self, number: usize) -> i32
+        requires low { 1 ≤ number }
+        requires high { number ≤ 33 }
+        ensures { result ≡ slice_index_or (inet_dev_conf_fields self.now) (number - 1) (pos 0) }
+    {
+        self.words()[number - 1]
+    }
+}
+
+impl Exact for InetDevConf {
+    ghost decides = { inet_dev_conf_decides };
+}
+
+/// The 132 bytes of a record, `InetDevConf`.
+#[derive(Clone, Copy, Debug, PartialEq, Eq)]
+pub struct InetDevConfBuffer {
+    bytes: [u8; INET_DEV_CONF_SIZE],
+}
+
+impl From<&InetDevConf> for InetDevConfBuffer {
+    ghost from_gives = { λ v b. inet_dev_conf_buffer_bytes b ≡ inet_dev_conf_bytes v.now };
+
+    fn from(value: &InetDevConf) -> InetDevConfBuffer {
+        let mut bytes = [0; INET_DEV_CONF_SIZE];
+        value.emit(&mut bytes);
+        InetDevConfBuffer { bytes }
+    }
+}
+
+impl InetDevConfBuffer {
+    /// All of the bytes.
+    pub fn as_bytes(&self) -> &[u8]
+        ensures { result.now ≡ inet_dev_conf_buffer_bytes self.now }
+    {
+        &self.bytes
+    }
+
+    /// The first 132 bytes as they are, and the rest. Fewer bytes are refused with `TooShort`.
+    pub fn read_from_prefix(bytes: &[u8]) -> Result<(InetDevConfBuffer, &[u8]), DecodeError>
+        ensures { MatchResult result
+            (λ v. (inet_dev_conf_size ≤ length bytes.now)
+            × (inet_dev_conf_buffer_bytes v.0 ≡ take inet_dev_conf_size bytes.now)
+            × (v.1.now ≡ drop inet_dev_conf_size bytes.now))
+            (IsShort bytes.now inet_dev_conf_size) }
+    {
+        if bytes.len() < INET_DEV_CONF_SIZE {
+            return Err(too_short(bytes.len(), INET_DEV_CONF_SIZE));
+        }
+        let (front, rest) = bytes.split_at(INET_DEV_CONF_SIZE);
+        let mut bytes = [0; INET_DEV_CONF_SIZE];
+        bytes.copy_from_slice(front);
+        Ok((InetDevConfBuffer { bytes }, rest))
+    }
+}
+
+impl Exact for InetDevConfBuffer {
+    ghost decides = { Prim.search rules };
+}

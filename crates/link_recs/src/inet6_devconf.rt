@@ -1,0 +1,338 @@
+//! Settings of IPv6 on a link (IFLA_INET6_CONF).
+
+ghost use Rattle.std.proofs.Common.{rules};
+ghost use Rattle.std.specs.Prelude.{◌≡◌, ◌≤◌, length, take, drop, MatchResult};
+ghost use Rattle.std.specs.Int.{w32};
+ghost use Rattle.nla_wire.specs.Fields.{signed_from, IsShort};
+ghost use Rattle.nla_wire.specs.Payloads.{sized};
+ghost use Rattle.nla_wire.specs.Gives.{without_place};
+ghost use Rattle.nla_wire.specs.Canon.{Filled};
+ghost use Rattle.link_recs.specs.Inet6DevConfFields.{inet6_dev_conf_size, inet6_dev_conf_fields, inet6_dev_conf_of, inet6_dev_conf_bytes, inet6_dev_conf_buffer_bytes, inet6_dev_conf_listed, inet6_dev_conf_decides};
+
+use crate::words::read_i32s;
+use nla_wire::fields::{put_i32s, too_short};
+use nla_wire::{DecodeError, Exact};
+
+/// The number of bytes of a record.
+pub const INET6_DEV_CONF_SIZE: usize = 240;
+
+/// Settings of IPv6 on a link (IFLA_INET6_CONF).
+///
+/// Sixty signed numbers of four bytes each, lowest byte first, in the order of the constants
+/// DEVCONF_* of linux/ipv6.h, which count from 0: setting number `n` stands at offset `4 * n`.
+/// Times are in milliseconds or, for lifetimes, in seconds, as the kernel's networking/ip-sysctl
+/// text says of each.
+#[derive(Clone, Copy, Debug, Default, PartialEq, Eq)]
+pub struct Inet6DevConf {
+    pub forwarding: i32,
+    pub hoplimit: i32,
+    pub mtu6: i32,
+    pub accept_ra: i32,
+    pub accept_redirects: i32,
+    pub autoconf: i32,
+    pub dad_transmits: i32,
+    pub rtr_solicits: i32,
+    pub rtr_solicit_interval: i32,
+    pub rtr_solicit_delay: i32,
+    pub use_tempaddr: i32,
+    pub temp_valid_lft: i32,
+    pub temp_prefered_lft: i32,
+    pub regen_max_retry: i32,
+    pub max_desync_factor: i32,
+    pub max_addresses: i32,
+    pub force_mld_version: i32,
+    pub accept_ra_defrtr: i32,
+    pub accept_ra_pinfo: i32,
+    pub accept_ra_rtr_pref: i32,
+    pub rtr_probe_interval: i32,
+    pub accept_ra_rt_info_max_plen: i32,
+    pub proxy_ndp: i32,
+    pub optimistic_dad: i32,
+    pub accept_source_route: i32,
+    pub mc_forwarding: i32,
+    pub disable_ipv6: i32,
+    pub accept_dad: i32,
+    pub force_tllao: i32,
+    pub ndisc_notify: i32,
+    pub mldv1_unsolicited_report_interval: i32,
+    pub mldv2_unsolicited_report_interval: i32,
+    pub suppress_frag_ndisc: i32,
+    pub accept_ra_from_local: i32,
+    pub use_optimistic: i32,
+    pub accept_ra_mtu: i32,
+    pub stable_secret: i32,
+    pub use_oif_addrs_only: i32,
+    pub accept_ra_min_hop_limit: i32,
+    pub ignore_routes_with_linkdown: i32,
+    pub drop_unicast_in_l2_multicast: i32,
+    pub drop_unsolicited_na: i32,
+    pub keep_addr_on_down: i32,
+    pub rtr_solicit_max_interval: i32,
+    pub seg6_enabled: i32,
+    pub seg6_require_hmac: i32,
+    pub enhanced_dad: i32,
+    pub addr_gen_mode: i32,
+    pub disable_policy: i32,
+    pub accept_ra_rt_info_min_plen: i32,
+    pub ndisc_tclass: i32,
+    pub rpl_seg_enabled: i32,
+    pub ra_defrtr_metric: i32,
+    pub ioam6_enabled: i32,
+    pub ioam6_id: i32,
+    pub ioam6_id_wide: i32,
+    pub ndisc_evict_nocarrier: i32,
+    pub accept_untracked_na: i32,
+    pub accept_ra_min_lft: i32,
+    pub force_forwarding: i32,
+}
+
+impl Inet6DevConf {
+    #[inline(always)]
+    fn from_words(words: [i32; 60]) -> Inet6DevConf
+        ensures { result ≡ inet6_dev_conf_listed words }
+    {
+        Inet6DevConf {
+            forwarding: words[0],
+            hoplimit: words[1],
+            mtu6: words[2],
+            accept_ra: words[3],
+            accept_redirects: words[4],
+            autoconf: words[5],
+            dad_transmits: words[6],
+            rtr_solicits: words[7],
+            rtr_solicit_interval: words[8],
+            rtr_solicit_delay: words[9],
+            use_tempaddr: words[10],
+            temp_valid_lft: words[11],
+            temp_prefered_lft: words[12],
+            regen_max_retry: words[13],
+            max_desync_factor: words[14],
+            max_addresses: words[15],
+            force_mld_version: words[16],
+            accept_ra_defrtr: words[17],
+            accept_ra_pinfo: words[18],
+            accept_ra_rtr_pref: words[19],
+            rtr_probe_interval: words[20],
+            accept_ra_rt_info_max_plen: words[21],
+            proxy_ndp: words[22],
+            optimistic_dad: words[23],
+            accept_source_route: words[24],
+            mc_forwarding: words[25],
+            disable_ipv6: words[26],
+            accept_dad: words[27],
+            force_tllao: words[28],
+            ndisc_notify: words[29],
+            mldv1_unsolicited_report_interval: words[30],
+            mldv2_unsolicited_report_interval: words[31],
+            suppress_frag_ndisc: words[32],
+            accept_ra_from_local: words[33],
+            use_optimistic: words[34],
+            accept_ra_mtu: words[35],
+            stable_secret: words[36],
+            use_oif_addrs_only: words[37],
+            accept_ra_min_hop_limit: words[38],
+            ignore_routes_with_linkdown: words[39],
+            drop_unicast_in_l2_multicast: words[40],
+            drop_unsolicited_na: words[41],
+            keep_addr_on_down: words[42],
+            rtr_solicit_max_interval: words[43],
+            seg6_enabled: words[44],
+            seg6_require_hmac: words[45],
+            enhanced_dad: words[46],
+            addr_gen_mode: words[47],
+            disable_policy: words[48],
+            accept_ra_rt_info_min_plen: words[49],
+            ndisc_tclass: words[50],
+            rpl_seg_enabled: words[51],
+            ra_defrtr_metric: words[52],
+            ioam6_enabled: words[53],
+            ioam6_id: words[54],
+            ioam6_id_wide: words[55],
+            ndisc_evict_nocarrier: words[56],
+            accept_untracked_na: words[57],
+            accept_ra_min_lft: words[58],
+            force_forwarding: words[59],
+        }
+    }
+
+    #[inline(always)]
+    #[tactic(auto, using(crate::proofs::Inet6DevConfLemmas::inet6_dev_conf_of_table))]
+    fn read(payload: &[u8]) -> Inet6DevConf
+        ensures { result ≡ inet6_dev_conf_of payload.now }
+    {
+        let mut words = [0; 60];
+        read_i32s(payload, &mut words);
+        Inet6DevConf::from_words(words)
+    }
+
+    /// Reads a record from the front of the payload, as if zeros followed it. Nothing is refused.
+    #[tactic(auto, using(crate::proofs::Inet6DevConfLemmas::inet6_dev_conf_table))]
+    pub fn read_padded(payload: &[u8]) -> Inet6DevConf
+        ensures value { result ≡ inet6_dev_conf_of payload.now }
+        ensures fields { inet6_dev_conf_fields result ≡ signed_from w32 payload.now 0 60 }
+    {
+        Inet6DevConf::read(payload)
+    }
+
+    /// Reads a record from the front of the payload. A payload of fewer than 240 bytes is refused
+    /// with `TooShort`.
+    #[tactic(auto, unfolding(nla_wire::specs::Payloads::read_sized))]
+    pub fn parse(payload: &[u8]) -> Result<Inet6DevConf, DecodeError>
+        ensures means { MatchResult result
+            ((sized inet6_dev_conf_size inet6_dev_conf_of).means payload.now)
+            (λ e. (sized inet6_dev_conf_size inet6_dev_conf_of).bad payload.now e.cause) }
+        ensures reads { without_place result ≡ (sized inet6_dev_conf_size inet6_dev_conf_of).reads payload.now }
+    {
+        if payload.len() < INET6_DEV_CONF_SIZE {
+            return Err(too_short(payload.len(), INET6_DEV_CONF_SIZE));
+        }
+        Ok(Inet6DevConf::read(payload))
+    }
+
+    #[inline(always)]
+    #[tactic(auto, unfolding(crate::specs::Inet6DevConfFields::inet6_dev_conf_fields))]
+    fn words(&self) -> [i32; 60]
+        ensures { result ≡ inet6_dev_conf_fields self.now }
+    {
+        [
+            self.forwarding,
+            self.hoplimit,
+            self.mtu6,
+            self.accept_ra,
+            self.accept_redirects,
+            self.autoconf,
+            self.dad_transmits,
+            self.rtr_solicits,
+            self.rtr_solicit_interval,
+            self.rtr_solicit_delay,
+            self.use_tempaddr,
+            self.temp_valid_lft,
+            self.temp_prefered_lft,
+            self.regen_max_retry,
+            self.max_desync_factor,
+            self.max_addresses,
+            self.force_mld_version,
+            self.accept_ra_defrtr,
+            self.accept_ra_pinfo,
+            self.accept_ra_rtr_pref,
+            self.rtr_probe_interval,
+            self.accept_ra_rt_info_max_plen,
+            self.proxy_ndp,
+            self.optimistic_dad,
+            self.accept_source_route,
+            self.mc_forwarding,
+            self.disable_ipv6,
+            self.accept_dad,
+            self.force_tllao,
+            self.ndisc_notify,
+            self.mldv1_unsolicited_report_interval,
+            self.mldv2_unsolicited_report_interval,
+            self.suppress_frag_ndisc,
+            self.accept_ra_from_local,
+            self.use_optimistic,
+            self.accept_ra_mtu,
+            self.stable_secret,
+            self.use_oif_addrs_only,
+            self.accept_ra_min_hop_limit,
+            self.ignore_routes_with_linkdown,
+            self.drop_unicast_in_l2_multicast,
+            self.drop_unsolicited_na,
+            self.keep_addr_on_down,
+            self.rtr_solicit_max_interval,
+            self.seg6_enabled,
+            self.seg6_require_hmac,
+            self.enhanced_dad,
+            self.addr_gen_mode,
+            self.disable_policy,
+            self.accept_ra_rt_info_min_plen,
+            self.ndisc_tclass,
+            self.rpl_seg_enabled,
+            self.ra_defrtr_metric,
+            self.ioam6_enabled,
+            self.ioam6_id,
+            self.ioam6_id_wide,
+            self.ndisc_evict_nocarrier,
+            self.accept_untracked_na,
+            self.accept_ra_min_lft,
+            self.force_forwarding,
+        ]
+    }
+
+    /// The number of bytes that `emit` writes, 240.
+    pub fn buffer_len(&self) -> usize
+        ensures { result ≡ inet6_dev_conf_size }
+    {
+        INET6_DEV_CONF_SIZE
+    }
+
+    /// Writes the record to a buffer of exactly 240 bytes.
+    #[tactic(auto, unfolding(crate::specs::Inet6DevConfFields::inet6_dev_conf_bytes))]
+    pub fn emit(&self, buffer: &mut [u8])
+        requires { length buffer.old ≡ inet6_dev_conf_size }
+        ensures { buffer.new ≡ inet6_dev_conf_bytes self.now }
+    {
+        put_i32s(buffer, &self.words());
+    }
+
+    /// Writes the record to the end of a buffer of at least 240 bytes, keeps the bytes before it,
+    /// and answers where it starts.
+    #[tactic(auto, using(crate::proofs::Inet6DevConfLemmas::length_inet6_dev_conf_bytes))]
+    pub fn fill(&self, buffer: &mut [u8]) -> usize
+        requires { inet6_dev_conf_size ≤ length buffer.old }
+        ensures { Filled buffer.old buffer.new (inet6_dev_conf_bytes self.now) result }
+    {
+        let start = buffer.len() - INET6_DEV_CONF_SIZE;
+        self.emit(&mut buffer[start..]);
+        start
+    }
+}
+
+impl Exact for Inet6DevConf {
+    ghost decides = { inet6_dev_conf_decides };
+}
+
+/// The 240 bytes of a record, `Inet6DevConf`.
+#[derive(Clone, Copy, Debug, PartialEq, Eq)]
+pub struct Inet6DevConfBuffer {
+    bytes: [u8; INET6_DEV_CONF_SIZE],
+}
+
+impl From<&Inet6DevConf> for Inet6DevConfBuffer {
+    ghost from_gives = { λ v b. inet6_dev_conf_buffer_bytes b ≡ inet6_dev_conf_bytes v.now };
+
+    fn from(value: &Inet6DevConf) -> Inet6DevConfBuffer {
+        let mut bytes = [0; INET6_DEV_CONF_SIZE];
+        value.emit(&mut bytes);
+        Inet6DevConfBuffer { bytes }
+    }
+}
+
+impl Inet6DevConfBuffer {
+    /// All of the bytes.
+    pub fn as_bytes(&self) -> &[u8]
+        ensures { result.now ≡ inet6_dev_conf_buffer_bytes self.now }
+    {
+        &self.bytes
+    }
+
+    /// The first 240 bytes as they are, and the rest. Fewer bytes are refused with `TooShort`.
+    pub fn read_from_prefix(bytes: &[u8]) -> Result<(Inet6DevConfBuffer, &[u8]), DecodeError>
+        ensures { MatchResult result
+            (λ v. (inet6_dev_conf_size ≤ length bytes.now)
+            × (inet6_dev_conf_buffer_bytes v.0 ≡ take inet6_dev_conf_size bytes.now)
+            × (v.1.now ≡ drop inet6_dev_conf_size bytes.now))
+            (IsShort bytes.now inet6_dev_conf_size) }
+    {
+        if bytes.len() < INET6_DEV_CONF_SIZE {
+            return Err(too_short(bytes.len(), INET6_DEV_CONF_SIZE));
+        }
+        let (front, rest) = bytes.split_at(INET6_DEV_CONF_SIZE);
+        let mut bytes = [0; INET6_DEV_CONF_SIZE];
+        bytes.copy_from_slice(front);
+        Ok((Inet6DevConfBuffer { bytes }, rest))
+    }
+}
+
+impl Exact for Inet6DevConfBuffer {
+    ghost decides = { Prim.search rules };
+}

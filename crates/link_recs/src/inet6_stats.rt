@@ -1,0 +1,271 @@
+//! Counters of IPv6 on a link (IFLA_INET6_STATS).
+
+ghost use Rattle.std.proofs.Common.{rules};
+ghost use Rattle.std.specs.Prelude.{◌≡◌, ◌≤◌, length, take, drop, MatchResult};
+ghost use Rattle.std.specs.Int.{w64};
+ghost use Rattle.nla_wire.specs.Fields.{signed_from, IsShort};
+ghost use Rattle.nla_wire.specs.Payloads.{sized};
+ghost use Rattle.nla_wire.specs.Gives.{without_place};
+ghost use Rattle.nla_wire.specs.Canon.{Filled};
+ghost use Rattle.link_recs.specs.Inet6StatsFields.{inet6_stats_size, inet6_stats_fields, inet6_stats_of, inet6_stats_bytes, inet6_stats_buffer_bytes, inet6_stats_listed, inet6_stats_decides};
+
+use crate::words::read_i64s;
+use nla_wire::fields::{put_i64s, too_short};
+use nla_wire::{DecodeError, Exact};
+
+/// The number of bytes of a record.
+pub const INET6_STATS_SIZE: usize = 304;
+
+/// Counters of IPv6 on a link (IFLA_INET6_STATS).
+///
+/// Thirty-eight signed numbers of eight bytes each, lowest byte first, in the order of the
+/// constants IPSTATS_MIB_* of linux/snmp.h, which count from 0: counter number `n` stands at offset
+/// `8 * n`. `num` is the number of counters that the kernel sent.
+#[derive(Clone, Copy, Debug, Default, PartialEq, Eq)]
+pub struct Inet6Stats {
+    pub num: i64,
+    pub in_pkts: i64,
+    pub in_octets: i64,
+    pub in_delivers: i64,
+    pub out_forw_datagrams: i64,
+    pub out_requests: i64,
+    pub out_octets: i64,
+    pub in_hdr_errors: i64,
+    pub in_too_big_errors: i64,
+    pub in_no_routes: i64,
+    pub in_addr_errors: i64,
+    pub in_unknown_protos: i64,
+    pub in_truncated_pkts: i64,
+    pub in_discards: i64,
+    pub out_discards: i64,
+    pub out_no_routes: i64,
+    pub reasm_timeout: i64,
+    pub reasm_reqds: i64,
+    pub reasm_oks: i64,
+    pub reasm_fails: i64,
+    pub frag_oks: i64,
+    pub frag_fails: i64,
+    pub frag_creates: i64,
+    pub in_mcast_pkts: i64,
+    pub out_mcast_pkts: i64,
+    pub in_bcast_pkts: i64,
+    pub out_bcast_pkts: i64,
+    pub in_mcast_octets: i64,
+    pub out_mcast_octets: i64,
+    pub in_bcast_octets: i64,
+    pub out_bcast_octets: i64,
+    pub in_csum_errors: i64,
+    pub in_no_ect_pkts: i64,
+    pub in_ect1_pkts: i64,
+    pub in_ect0_pkts: i64,
+    pub in_ce_pkts: i64,
+    pub reasm_overlaps: i64,
+    pub out_pkts: i64,
+}
+
+impl Inet6Stats {
+    #[inline(always)]
+    fn from_words(words: [i64; 38]) -> Inet6Stats
+        ensures { result ≡ inet6_stats_listed words }
+    {
+        Inet6Stats {
+            num: words[0],
+            in_pkts: words[1],
+            in_octets: words[2],
+            in_delivers: words[3],
+            out_forw_datagrams: words[4],
+            out_requests: words[5],
+            out_octets: words[6],
+            in_hdr_errors: words[7],
+            in_too_big_errors: words[8],
+            in_no_routes: words[9],
+            in_addr_errors: words[10],
+            in_unknown_protos: words[11],
+            in_truncated_pkts: words[12],
+            in_discards: words[13],
+            out_discards: words[14],
+            out_no_routes: words[15],
+            reasm_timeout: words[16],
+            reasm_reqds: words[17],
+            reasm_oks: words[18],
+            reasm_fails: words[19],
+            frag_oks: words[20],
+            frag_fails: words[21],
+            frag_creates: words[22],
+            in_mcast_pkts: words[23],
+            out_mcast_pkts: words[24],
+            in_bcast_pkts: words[25],
+            out_bcast_pkts: words[26],
+            in_mcast_octets: words[27],
+            out_mcast_octets: words[28],
+            in_bcast_octets: words[29],
+            out_bcast_octets: words[30],
+            in_csum_errors: words[31],
+            in_no_ect_pkts: words[32],
+            in_ect1_pkts: words[33],
+            in_ect0_pkts: words[34],
+            in_ce_pkts: words[35],
+            reasm_overlaps: words[36],
+            out_pkts: words[37],
+        }
+    }
+
+    #[inline(always)]
+    #[tactic(auto, using(crate::proofs::Inet6StatsLemmas::inet6_stats_of_table))]
+    fn read(payload: &[u8]) -> Inet6Stats
+        ensures { result ≡ inet6_stats_of payload.now }
+    {
+        let mut words = [0; 38];
+        read_i64s(payload, &mut words);
+        Inet6Stats::from_words(words)
+    }
+
+    /// Reads a record from the front of the payload, as if zeros followed it. Nothing is refused.
+    #[tactic(auto, using(crate::proofs::Inet6StatsLemmas::inet6_stats_table))]
+    pub fn read_padded(payload: &[u8]) -> Inet6Stats
+        ensures value { result ≡ inet6_stats_of payload.now }
+        ensures fields { inet6_stats_fields result ≡ signed_from w64 payload.now 0 38 }
+    {
+        Inet6Stats::read(payload)
+    }
+
+    /// Reads a record from the front of the payload. A payload of fewer than 304 bytes is refused
+    /// with `TooShort`.
+    #[tactic(auto, unfolding(nla_wire::specs::Payloads::read_sized))]
+    pub fn parse(payload: &[u8]) -> Result<Inet6Stats, DecodeError>
+        ensures means { MatchResult result
+            ((sized inet6_stats_size inet6_stats_of).means payload.now)
+            (λ e. (sized inet6_stats_size inet6_stats_of).bad payload.now e.cause) }
+        ensures reads { without_place result ≡ (sized inet6_stats_size inet6_stats_of).reads payload.now }
+    {
+        if payload.len() < INET6_STATS_SIZE {
+            return Err(too_short(payload.len(), INET6_STATS_SIZE));
+        }
+        Ok(Inet6Stats::read(payload))
+    }
+
+    #[inline(always)]
+    #[tactic(auto, unfolding(crate::specs::Inet6StatsFields::inet6_stats_fields))]
+    fn words(&self) -> [i64; 38]
+        ensures { result ≡ inet6_stats_fields self.now }
+    {
+        [
+            self.num,
+            self.in_pkts,
+            self.in_octets,
+            self.in_delivers,
+            self.out_forw_datagrams,
+            self.out_requests,
+            self.out_octets,
+            self.in_hdr_errors,
+            self.in_too_big_errors,
+            self.in_no_routes,
+            self.in_addr_errors,
+            self.in_unknown_protos,
+            self.in_truncated_pkts,
+            self.in_discards,
+            self.out_discards,
+            self.out_no_routes,
+            self.reasm_timeout,
+            self.reasm_reqds,
+            self.reasm_oks,
+            self.reasm_fails,
+            self.frag_oks,
+            self.frag_fails,
+            self.frag_creates,
+            self.in_mcast_pkts,
+            self.out_mcast_pkts,
+            self.in_bcast_pkts,
+            self.out_bcast_pkts,
+            self.in_mcast_octets,
+            self.out_mcast_octets,
+            self.in_bcast_octets,
+            self.out_bcast_octets,
+            self.in_csum_errors,
+            self.in_no_ect_pkts,
+            self.in_ect1_pkts,
+            self.in_ect0_pkts,
+            self.in_ce_pkts,
+            self.reasm_overlaps,
+            self.out_pkts,
+        ]
+    }
+
+    /// The number of bytes that `emit` writes, 304.
+    pub fn buffer_len(&self) -> usize
+        ensures { result ≡ inet6_stats_size }
+    {
+        INET6_STATS_SIZE
+    }
+
+    /// Writes the record to a buffer of exactly 304 bytes.
+    #[tactic(auto, unfolding(crate::specs::Inet6StatsFields::inet6_stats_bytes))]
+    pub fn emit(&self, buffer: &mut [u8])
+        requires { length buffer.old ≡ inet6_stats_size }
+        ensures { buffer.new ≡ inet6_stats_bytes self.now }
+    {
+        put_i64s(buffer, &self.words());
+    }
+
+    /// Writes the record to the end of a buffer of at least 304 bytes, keeps the bytes before it,
+    /// and answers where it starts.
+    #[tactic(auto, using(crate::proofs::Inet6StatsLemmas::length_inet6_stats_bytes))]
+    pub fn fill(&self, buffer: &mut [u8]) -> usize
+        requires { inet6_stats_size ≤ length buffer.old }
+        ensures { Filled buffer.old buffer.new (inet6_stats_bytes self.now) result }
+    {
+        let start = buffer.len() - INET6_STATS_SIZE;
+        self.emit(&mut buffer[start..]);
+        start
+    }
+}
+
+impl Exact for Inet6Stats {
+    ghost decides = { inet6_stats_decides };
+}
+
+/// The 304 bytes of a record, `Inet6Stats`.
+#[derive(Clone, Copy, Debug, PartialEq, Eq)]
+pub struct Inet6StatsBuffer {
+    bytes: [u8; INET6_STATS_SIZE],
+}
+
+impl From<&Inet6Stats> for Inet6StatsBuffer {
+    ghost from_gives = { λ v b. inet6_stats_buffer_bytes b ≡ inet6_stats_bytes v.now };
+
+    fn from(value: &Inet6Stats) -> Inet6StatsBuffer {
+        let mut bytes = [0; INET6_STATS_SIZE];
+        value.emit(&mut bytes);
+        Inet6StatsBuffer { bytes }
+    }
+}
+
+impl Inet6StatsBuffer {
+    /// All of the bytes.
+    pub fn as_bytes(&self) -> &[u8]
+        ensures { result.now ≡ inet6_stats_buffer_bytes self.now }
+    {
+        &self.bytes
+    }
+
+    /// The first 304 bytes as they are, and the rest. Fewer bytes are refused with `TooShort`.
+    pub fn read_from_prefix(bytes: &[u8]) -> Result<(Inet6StatsBuffer, &[u8]), DecodeError>
+        ensures { MatchResult result
+            (λ v. (inet6_stats_size ≤ length bytes.now)
+            × (inet6_stats_buffer_bytes v.0 ≡ take inet6_stats_size bytes.now)
+            × (v.1.now ≡ drop inet6_stats_size bytes.now))
+            (IsShort bytes.now inet6_stats_size) }
+    {
+        if bytes.len() < INET6_STATS_SIZE {
+            return Err(too_short(bytes.len(), INET6_STATS_SIZE));
+        }
+        let (front, rest) = bytes.split_at(INET6_STATS_SIZE);
+        let mut bytes = [0; INET6_STATS_SIZE];
+        bytes.copy_from_slice(front);
+        Ok((Inet6StatsBuffer { bytes }, rest))
+    }
+}
+
+impl Exact for Inet6StatsBuffer {
+    ghost decides = { Prim.search rules };
+}

@@ -1,0 +1,6 @@
+pub mod Pieces
+pub mod Numbers
+pub mod ExtentSums
+pub mod States
+pub mod Flags
+pub mod PhysIds

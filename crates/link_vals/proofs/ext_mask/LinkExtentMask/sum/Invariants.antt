@@ -1,0 +1,6 @@
+use Rattle.std.proofs.Common.{◌≡◌, ◌+◌, drop}
+use Rattle.link_vals.specs.LinkExtentMaskTable.{ext_sum}
+use Rattle.link_vals.proofs.ext_mask.LinkExtentMask.sum.Given as goal
+
+abbrev pub invariant-loop-flag : goal.invariant-loop-flag
+invariant-loop-flag l = l.total + ext_sum (drop l.flag-index l.list) ≡ ext_sum l.list

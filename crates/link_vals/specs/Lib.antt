@@ -1,0 +1,17 @@
+pub mod Table
+pub mod AddressFamilyTable
+pub mod FlagText
+pub mod In6AddrGenModeTable
+pub mod Inet6IfaceFlagsTable
+pub mod LinkEventTable
+pub mod LinkExtentMaskTable
+pub mod LinkFlagsTable
+pub mod LinkLayerTypeTable
+pub mod LinkModeTable
+pub mod LinkPhysIdBytes
+pub mod MctpPhysBindingTable
+pub mod StateTable
+pub mod VfLinkStateTable
+pub mod VlanProtocolTable
+pub mod XdpAttachedTable
+pub mod Laws

@@ -1,0 +1,350 @@
+//! Hardware types of links.
+
+ghost use Rattle.std.specs.Prelude.{◌≡◌, Some};
+ghost use Rattle.link_vals.specs.Table.{value_of};
+ghost use Rattle.link_vals.specs.declared.link_layer_type.LinkLayerType.TheVariants.{Void};
+ghost use Rattle.link_vals.specs.LinkLayerTypeTable.{layer_type_of, layer_type_number, layer_type_text, layer_type_listed_high};
+
+use nla_wire::Exact;
+use std::fmt;
+
+/// The hardware type of a link: the numbers `ARPHRD_..` of linux/if_arp.h, two bytes in host order.
+///
+/// A number that is not listed becomes `Void`.
+#[derive(Clone, Copy, Debug, Default, PartialEq, Eq)]
+pub enum LinkLayerType {
+    #[default]
+    Netrom,
+    Ether,
+    Eether,
+    Ax25,
+    Pronet,
+    Chaos,
+    Ieee802,
+    Arcnet,
+    Appletlk,
+    Dlci,
+    Atm,
+    Metricom,
+    Ieee1394,
+    Eui64,
+    Infiniband,
+    Slip,
+    Cslip,
+    Slip6,
+    Cslip6,
+    Rsrvd,
+    Adapt,
+    Rose,
+    X25,
+    Hwx25,
+    Can,
+    Mctp,
+    Ppp,
+    Hdlc,
+    Lapb,
+    Ddcmp,
+    Rawhdlc,
+    Rawip,
+    Tunnel,
+    Tunnel6,
+    Frad,
+    Skip,
+    Loopback,
+    Localtlk,
+    Fddi,
+    Bif,
+    Sit,
+    Ipddp,
+    Ipgre,
+    Pimreg,
+    Hippi,
+    Ash,
+    Econet,
+    Irda,
+    Fcpp,
+    Fcal,
+    Fcpl,
+    Fcfabric,
+    Ieee802Tr,
+    Ieee80211,
+    Ieee80211Prism,
+    Ieee80211Radiotap,
+    Ieee802154,
+    Ieee802154Monitor,
+    Phonet,
+    PhonetPipe,
+    Caif,
+    Ip6gre,
+    Netlink,
+    Sixlowpan,
+    Vsockmon,
+    None,
+    Void,
+}
+
+/// The value of a number from 512 on.
+#[tactic(auto, unfolding(crate::specs::LinkLayerTypeTable::layer_type_of, crate::specs::LinkLayerTypeTable::layer_type_number))]
+fn high(number: u16) -> LinkLayerType
+    ensures { result ≡ value_of layer_type_number layer_type_listed_high Void number }
+{
+    match number {
+        512 => LinkLayerType::Ppp,
+        513 => LinkLayerType::Hdlc,
+        516 => LinkLayerType::Lapb,
+        517 => LinkLayerType::Ddcmp,
+        518 => LinkLayerType::Rawhdlc,
+        519 => LinkLayerType::Rawip,
+        768 => LinkLayerType::Tunnel,
+        769 => LinkLayerType::Tunnel6,
+        770 => LinkLayerType::Frad,
+        771 => LinkLayerType::Skip,
+        772 => LinkLayerType::Loopback,
+        773 => LinkLayerType::Localtlk,
+        774 => LinkLayerType::Fddi,
+        775 => LinkLayerType::Bif,
+        776 => LinkLayerType::Sit,
+        777 => LinkLayerType::Ipddp,
+        778 => LinkLayerType::Ipgre,
+        779 => LinkLayerType::Pimreg,
+        780 => LinkLayerType::Hippi,
+        781 => LinkLayerType::Ash,
+        782 => LinkLayerType::Econet,
+        783 => LinkLayerType::Irda,
+        784 => LinkLayerType::Fcpp,
+        785 => LinkLayerType::Fcal,
+        786 => LinkLayerType::Fcpl,
+        787 => LinkLayerType::Fcfabric,
+        800 => LinkLayerType::Ieee802Tr,
+        801 => LinkLayerType::Ieee80211,
+        802 => LinkLayerType::Ieee80211Prism,
+        803 => LinkLayerType::Ieee80211Radiotap,
+        804 => LinkLayerType::Ieee802154,
+        805 => LinkLayerType::Ieee802154Monitor,
+        820 => LinkLayerType::Phonet,
+        821 => LinkLayerType::PhonetPipe,
+        822 => LinkLayerType::Caif,
+        823 => LinkLayerType::Ip6gre,
+        824 => LinkLayerType::Netlink,
+        825 => LinkLayerType::Sixlowpan,
+        826 => LinkLayerType::Vsockmon,
+        65534 => LinkLayerType::None,
+        65535 => LinkLayerType::Void,
+        _ => LinkLayerType::Void,
+    }
+}
+
+impl From<u16> for LinkLayerType {
+    ghost from_gives = { λ n v. v ≡ layer_type_of n };
+
+    #[tactic(auto, unfolding(crate::specs::LinkLayerTypeTable::layer_type_of, crate::specs::LinkLayerTypeTable::layer_type_number))]
+    fn from(number: u16) -> LinkLayerType {
+        match number {
+            0 => LinkLayerType::Netrom,
+            1 => LinkLayerType::Ether,
+            2 => LinkLayerType::Eether,
+            3 => LinkLayerType::Ax25,
+            4 => LinkLayerType::Pronet,
+            5 => LinkLayerType::Chaos,
+            6 => LinkLayerType::Ieee802,
+            7 => LinkLayerType::Arcnet,
+            8 => LinkLayerType::Appletlk,
+            15 => LinkLayerType::Dlci,
+            19 => LinkLayerType::Atm,
+            23 => LinkLayerType::Metricom,
+            24 => LinkLayerType::Ieee1394,
+            27 => LinkLayerType::Eui64,
+            32 => LinkLayerType::Infiniband,
+            256 => LinkLayerType::Slip,
+            257 => LinkLayerType::Cslip,
+            258 => LinkLayerType::Slip6,
+            259 => LinkLayerType::Cslip6,
+            260 => LinkLayerType::Rsrvd,
+            264 => LinkLayerType::Adapt,
+            270 => LinkLayerType::Rose,
+            271 => LinkLayerType::X25,
+            272 => LinkLayerType::Hwx25,
+            280 => LinkLayerType::Can,
+            290 => LinkLayerType::Mctp,
+            n => high(n),
+        }
+    }
+}
+
+impl From<LinkLayerType> for u16 {
+    ghost from_gives = { λ v n. n ≡ layer_type_number v };
+
+    #[tactic(auto, unfolding(crate::specs::LinkLayerTypeTable::layer_type_number))]
+    fn from(value: LinkLayerType) -> u16 {
+        match value {
+            LinkLayerType::Netrom => 0,
+            LinkLayerType::Ether => 1,
+            LinkLayerType::Eether => 2,
+            LinkLayerType::Ax25 => 3,
+            LinkLayerType::Pronet => 4,
+            LinkLayerType::Chaos => 5,
+            LinkLayerType::Ieee802 => 6,
+            LinkLayerType::Arcnet => 7,
+            LinkLayerType::Appletlk => 8,
+            LinkLayerType::Dlci => 15,
+            LinkLayerType::Atm => 19,
+            LinkLayerType::Metricom => 23,
+            LinkLayerType::Ieee1394 => 24,
+            LinkLayerType::Eui64 => 27,
+            LinkLayerType::Infiniband => 32,
+            LinkLayerType::Slip => 256,
+            LinkLayerType::Cslip => 257,
+            LinkLayerType::Slip6 => 258,
+            LinkLayerType::Cslip6 => 259,
+            LinkLayerType::Rsrvd => 260,
+            LinkLayerType::Adapt => 264,
+            LinkLayerType::Rose => 270,
+            LinkLayerType::X25 => 271,
+            LinkLayerType::Hwx25 => 272,
+            LinkLayerType::Can => 280,
+            LinkLayerType::Mctp => 290,
+            LinkLayerType::Ppp => 512,
+            LinkLayerType::Hdlc => 513,
+            LinkLayerType::Lapb => 516,
+            LinkLayerType::Ddcmp => 517,
+            LinkLayerType::Rawhdlc => 518,
+            LinkLayerType::Rawip => 519,
+            LinkLayerType::Tunnel => 768,
+            LinkLayerType::Tunnel6 => 769,
+            LinkLayerType::Frad => 770,
+            LinkLayerType::Skip => 771,
+            LinkLayerType::Loopback => 772,
+            LinkLayerType::Localtlk => 773,
+            LinkLayerType::Fddi => 774,
+            LinkLayerType::Bif => 775,
+            LinkLayerType::Sit => 776,
+            LinkLayerType::Ipddp => 777,
+            LinkLayerType::Ipgre => 778,
+            LinkLayerType::Pimreg => 779,
+            LinkLayerType::Hippi => 780,
+            LinkLayerType::Ash => 781,
+            LinkLayerType::Econet => 782,
+            LinkLayerType::Irda => 783,
+            LinkLayerType::Fcpp => 784,
+            LinkLayerType::Fcal => 785,
+            LinkLayerType::Fcpl => 786,
+            LinkLayerType::Fcfabric => 787,
+            LinkLayerType::Ieee802Tr => 800,
+            LinkLayerType::Ieee80211 => 801,
+            LinkLayerType::Ieee80211Prism => 802,
+            LinkLayerType::Ieee80211Radiotap => 803,
+            LinkLayerType::Ieee802154 => 804,
+            LinkLayerType::Ieee802154Monitor => 805,
+            LinkLayerType::Phonet => 820,
+            LinkLayerType::PhonetPipe => 821,
+            LinkLayerType::Caif => 822,
+            LinkLayerType::Ip6gre => 823,
+            LinkLayerType::Netlink => 824,
+            LinkLayerType::Sixlowpan => 825,
+            LinkLayerType::Vsockmon => 826,
+            LinkLayerType::None => 65534,
+            LinkLayerType::Void => 65535,
+        }
+    }
+}
+
+impl LinkLayerType {
+    #[tactic(auto, unfolding(crate::specs::LinkLayerTypeTable::layer_type_text))]
+    fn name(self) -> &'static str
+        ensures { result.now ≡ layer_type_text self }
+    {
+        match self {
+            LinkLayerType::Netrom => "NETROM",
+            LinkLayerType::Ether => "ETHER",
+            LinkLayerType::Eether => "EETHER",
+            LinkLayerType::Ax25 => "AX25",
+            LinkLayerType::Pronet => "PRONET",
+            LinkLayerType::Chaos => "CHAOS",
+            LinkLayerType::Ieee802 => "IEEE802",
+            LinkLayerType::Arcnet => "ARCNET",
+            LinkLayerType::Appletlk => "APPLETLK",
+            LinkLayerType::Dlci => "DLCI",
+            LinkLayerType::Atm => "ATM",
+            LinkLayerType::Metricom => "METRICOM",
+            LinkLayerType::Ieee1394 => "IEEE1394",
+            LinkLayerType::Eui64 => "EUI64",
+            LinkLayerType::Infiniband => "INFINIBAND",
+            LinkLayerType::Slip => "SLIP",
+            LinkLayerType::Cslip => "CSLIP",
+            LinkLayerType::Slip6 => "SLIP6",
+            LinkLayerType::Cslip6 => "CSLIP6",
+            LinkLayerType::Rsrvd => "RSRVD",
+            LinkLayerType::Adapt => "ADAPT",
+            LinkLayerType::Rose => "ROSE",
+            LinkLayerType::X25 => "X25",
+            LinkLayerType::Hwx25 => "HWX25",
+            LinkLayerType::Can => "CAN",
+            LinkLayerType::Mctp => "MCTP",
+            LinkLayerType::Ppp => "PPP",
+            LinkLayerType::Hdlc => "HDLC",
+            LinkLayerType::Lapb => "LAPB",
+            LinkLayerType::Ddcmp => "DDCMP",
+            LinkLayerType::Rawhdlc => "RAWHDLC",
+            LinkLayerType::Rawip => "RAWIP",
+            LinkLayerType::Tunnel => "TUNNEL",
+            LinkLayerType::Tunnel6 => "TUNNEL6",
+            LinkLayerType::Frad => "FRAD",
+            LinkLayerType::Skip => "SKIP",
+            LinkLayerType::Loopback => "LOOPBACK",
+            LinkLayerType::Localtlk => "LOCALTLK",
+            LinkLayerType::Fddi => "FDDI",
+            LinkLayerType::Bif => "BIF",
+            LinkLayerType::Sit => "SIT",
+            LinkLayerType::Ipddp => "IPDDP",
+            LinkLayerType::Ipgre => "IPGRE",
+            LinkLayerType::Pimreg => "PIMREG",
+            LinkLayerType::Hippi => "HIPPI",
+            LinkLayerType::Ash => "ASH",
+            LinkLayerType::Econet => "ECONET",
+            LinkLayerType::Irda => "IRDA",
+            LinkLayerType::Fcpp => "FCPP",
+            LinkLayerType::Fcal => "FCAL",
+            LinkLayerType::Fcpl => "FCPL",
+            LinkLayerType::Fcfabric => "FCFABRIC",
+            LinkLayerType::Ieee802Tr => "IEEE802_TR",
+            LinkLayerType::Ieee80211 => "IEEE80211",
+            LinkLayerType::Ieee80211Prism => "IEEE80211_PRISM",
+            LinkLayerType::Ieee80211Radiotap => "IEEE80211_RADIOTAP",
+            LinkLayerType::Ieee802154 => "IEEE802154",
+            LinkLayerType::Ieee802154Monitor => "IEEE802154_MONITOR",
+            LinkLayerType::Phonet => "PHONET",
+            LinkLayerType::PhonetPipe => "PHONET_PIPE",
+            LinkLayerType::Caif => "CAIF",
+            LinkLayerType::Ip6gre => "IP6GRE",
+            LinkLayerType::Netlink => "NETLINK",
+            LinkLayerType::Sixlowpan => "6LOWPAN",
+            LinkLayerType::Vsockmon => "VSOCKMON",
+            LinkLayerType::None => "NONE",
+            LinkLayerType::Void => "VOID",
+        }
+    }
+}
+
+impl fmt::Display for LinkLayerType {
+    ghost output = { λ v. Some (layer_type_text v) };
+
+    fn fmt<W: fmt::Write>(&self, f: &mut fmt::Formatter<W>) -> fmt::Result {
+        f.write_str(self.name())
+    }
+}
+
+impl LinkLayerType {
+    /// Cisco's HDLC, another name of `Hdlc`.
+    pub const Cisco: LinkLayerType = LinkLayerType::Hdlc;
+}
+
+impl Exact for LinkLayerType {
+    ghost use Rattle.std.proofs.Common.{rules};
+    ghost use denote.Enum.Bare.{same_true, true_same};
+    ghost use Rattle.link_vals.specs.contracts.link_layer_type.LinkLayerType.{the_type};
+
+    ghost decides = { λ x y. (
+      λ h. same_true the_type (Prim.search rules) x y h,
+      λ e. true_same the_type x y e,
+    ) };
+}

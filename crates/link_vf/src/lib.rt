@@ -1,0 +1,20 @@
+//! Virtual functions and ports of link messages: statistics, vlans, and the lists of functions and of ports.
+#![tactic(auto)]
+
+mod checked;
+pub mod laws;
+pub mod port_list;
+pub mod stats;
+#[cfg(test)]
+mod tests;
+pub mod vf_info;
+pub mod vf_list;
+pub mod vf_port;
+pub mod vf_vlan;
+
+pub use port_list::LinkVfPort;
+pub use stats::VfStats;
+pub use vf_info::VfInfo;
+pub use vf_list::LinkVfInfo;
+pub use vf_port::VfPort;
+pub use vf_vlan::VfVlan;

@@ -1,0 +1,4 @@
+pub mod Truth
+pub mod Laws
+pub mod Records
+pub mod Buffers

@@ -1,0 +1,6 @@
+mod Text
+mod Known
+mod Joined
+mod Walk
+mod Added
+mod Spelling

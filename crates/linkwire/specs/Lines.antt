@@ -1,0 +1,79 @@
+-- What a run writes: the lines of a text, and what each of them is answered.
+use Rattle.std.specs.Prelude.{◌≡◌, ℕ, ◌==◌, Bool, true, List, [], ◌∷◌, ◌++◌, if◌then◌else◌, codes, Option, Result, Ok, Err}
+use Rattle.std.specs.List.{flat_map, AllZip}
+use Rattle.std.specs.Io.KnownBytes.{Consumes, Appends, IsAtEnd}
+use Rattle.hex.specs.Hex.{decode_of, encode_lower}
+use Rattle.hex.specs.declared.error.FromHexError.{FromHexError}
+use Rattle.link_msg.specs.Messages.{IsRefused}
+use Rattle.link_msg.specs.Canonical.{HasText, IsUnfit, HasEmptyPorts}
+
+-- the byte x, put before a text with these lines: where there is none, x is a line if the text has ended
+abbrev pub put_front : Bool → ℕ → List (List ℕ) → List (List ℕ)
+put_front ended x [] = if ended then (x ∷ []) ∷ [] else []
+put_front ended x (line ∷ lines) = (x ∷ line) ∷ lines
+
+-- the complete lines of a text: those that an LF (10) ends, and, if the text has ended, what follows the last LF, unless it is empty
+abbrev pub complete_lines : Bool → List ℕ → List (List ℕ)
+complete_lines ended [] = []
+complete_lines ended (x ∷ xs) =
+    if x == 10 then [] ∷ complete_lines ended xs else put_front ended x (complete_lines ended xs)
+
+-- the lines of a whole text
+abbrev pub lines_of : List ℕ → List (List ℕ)
+lines_of text = complete_lines true text
+
+-- what a line is answered that spells these bytes
+pub data IsAnswerTo (bytes answer : List ℕ) : Type 0 where
+  refused : IsRefused bytes → answer ≡ codes "refused" → IsAnswerTo bytes answer
+  unfit : IsUnfit bytes → answer ≡ codes "unfit" → IsAnswerTo bytes answer
+  empty_ports : HasEmptyPorts bytes → answer ≡ codes "empty-ports" → IsAnswerTo bytes answer
+  ok : (text : List ℕ) → HasText bytes text → answer ≡ codes "ok " ++ encode_lower text → IsAnswerTo bytes answer
+
+-- a line that is no even number of hexadecimal digits spells no bytes
+abbrev pub IsAnswerToSpelled : Result (List ℕ) FromHexError → List ℕ → Type 0
+IsAnswerToSpelled (Ok bytes) answer = IsAnswerTo bytes answer
+IsAnswerToSpelled (Err _) answer = answer ≡ codes "nothex"
+
+-- what a line is answered
+abbrev pub IsAnswer : List ℕ → List ℕ → Type 0
+IsAnswer line answer = IsAnswerToSpelled (decode_of line) answer
+
+-- the line and its LF
+abbrev pub with_lf : List ℕ → List ℕ
+with_lf line = line ++ 10 ∷ []
+
+-- an answer to each of the lines, in order, each ended by an LF
+pub record AreAnswers (lines : List (List ℕ)) (written : List ℕ) : Type 0 where
+  pub answers : List (List ℕ)
+  pub each : AllZip IsAnswer lines answers
+  pub joined : written ≡ flat_map with_lf answers
+
+-- xs is a beginning of ys
+abbrev pub IsBeginning : List ℕ → List ℕ → Type 0
+IsBeginning xs ys = (more : List ℕ) × (ys ≡ xs ++ more)
+
+-- known bytes grow by a beginning of bs
+abbrev pub AppendsBeginning : Option (List ℕ) → Option (List ℕ) → List ℕ → Type 0
+AppendsBeginning old new bs = (written : List ℕ) × Appends old new written × IsBeginning written bs
+
+-- the reader was read to its end, and what was written are the answers to the lines of what it gave
+pub record RanToEnd (left left_after held held_after : Option (List ℕ)) : Type 0 where
+  pub text : List ℕ
+  pub consumed : Consumes left left_after text
+  pub at_end : IsAtEnd left_after
+  pub written : List ℕ
+  pub appended : Appends held held_after written
+  pub answers : AreAnswers (lines_of text) written
+
+-- some bytes were read, and what was written is a beginning of the answers to the first of their complete lines
+pub record Stopped (left left_after held held_after : Option (List ℕ)) : Type 0 where
+  pub text : List ℕ
+  pub ended : Bool
+  pub consumed : Consumes left left_after text
+  pub at_end : ended ≡ true → IsAtEnd left_after
+  pub lines : List (List ℕ)
+  pub others : List (List ℕ)
+  pub complete : complete_lines ended text ≡ lines ++ others
+  pub answered : List ℕ
+  pub answers : AreAnswers lines answered
+  pub appended : AppendsBeginning held held_after answered

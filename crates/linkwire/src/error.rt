@@ -1,0 +1,22 @@
+use std::alloc::AllocError;
+use thiserror::Error;
+
+/// Why a run ended before the end of its input.
+#[derive(Clone, Copy, Debug, PartialEq, Eq, Error)]
+pub enum RunError {
+    /// The reader failed, or had not ended after 2^64 - 1 reads.
+    #[error("read failed")]
+    Read,
+    /// The writer failed, or took no byte.
+    #[error("write failed")]
+    Write,
+    /// No memory was left.
+    #[error("out of memory")]
+    OutOfMemory,
+}
+
+impl From<AllocError> for RunError {
+    fn from(_error: AllocError) -> RunError {
+        RunError::OutOfMemory
+    }
+}

@@ -1,0 +1,78 @@
+ghost use Rattle.std.specs.Prelude.{◌≡◌, ◌<◌, IfOk, OnOk, OnErr, length, []};
+ghost use Rattle.linkwire.specs.Lines.{RanToEnd, Stopped};
+ghost use Rattle.linkwire.specs.Steps.{NoLf, Finished, FinishedSome};
+
+use crate::answers::Answers;
+use crate::error::RunError;
+use crate::lines::{answer_piece, end_line};
+use std::alloc::{AllocError, Global};
+use std::io::{Read, Write};
+
+/// How many bytes a read may give.
+const CHUNK: usize = 65536;
+
+/// Answers the last line, which no LF ends, if there is one.
+fn finish<W: Write>(
+    alloc: Global,
+    held: &mut Vec<u8>,
+    answers: &mut Answers,
+    writer: &mut W,
+) -> Result<(), RunError>
+    requires held { NoLf held.old.items }
+    requires none { answers.old ≡ [] }
+    ensures ok { OnOk result (Finished (W.contents writer.old) (W.contents writer.new) held.old.items) }
+    ensures err { OnErr result (FinishedSome (W.contents writer.old) (W.contents writer.new) held.old.items) }
+{
+    if held.is_empty() {
+        return Ok(());
+    }
+    end_line(alloc, held, &[], answers)?;
+    answers.write_all(writer)
+}
+
+/// So many zeros.
+fn zeros(alloc: Global, count: usize) -> Result<Vec<u8>, AllocError>
+    ensures { IfOk result (λ zeros. length zeros.items ≡ count) }
+{
+    vec![in alloc; 0u8; count]
+}
+
+/// Answers each line that the reader gives, read into the chunk.
+fn answer_all<R: Read, W: Write>(
+    alloc: Global,
+    reader: &mut R,
+    writer: &mut W,
+    chunk: &mut [u8],
+) -> Result<(), RunError>
+    requires { 0 < length chunk.old }
+    ensures ok { OnOk result (RanToEnd (R.remaining reader.old) (R.remaining reader.new) (W.contents writer.old) (W.contents writer.new)) }
+    ensures err { OnErr result (Stopped (R.remaining reader.old) (R.remaining reader.new) (W.contents writer.old) (W.contents writer.new)) }
+{
+    let mut held = Vec::new(alloc);
+    let mut answers = Answers::new(alloc);
+    for _ in 0..u64::MAX {
+        let Ok(n) = reader.read(chunk) else {
+            return Err(RunError::Read);
+        };
+        if n == 0 {
+            return finish(alloc, &mut held, &mut answers, writer);
+        }
+        answer_piece(alloc, &mut held, &chunk[..n], &mut answers, writer)?;
+    }
+    Err(RunError::Read)
+}
+
+/// Answers each line that the reader gives, up to its end.
+///
+/// A line is the bytes up to an LF, or up to the end if there are any. Its answer is `nothex`, `refused`, `unfit`,
+/// `empty-ports`, or `ok ` and the canonical text in lower-case hexadecimal, each ended by an LF. Every answer to what
+/// was read is written before the next read. Any error of the reader or writer ends the run, with no retry: `Read`
+/// where the reader fails or has not ended after 2^64 - 1 reads, `Write` where the writer fails or takes no byte, and
+/// `OutOfMemory` where a growth is refused.
+pub fn run<R: Read, W: Write>(alloc: Global, reader: &mut R, writer: &mut W) -> Result<(), RunError>
+    ensures ok { OnOk result (RanToEnd (R.remaining reader.old) (R.remaining reader.new) (W.contents writer.old) (W.contents writer.new)) }
+    ensures err { OnErr result (Stopped (R.remaining reader.old) (R.remaining reader.new) (W.contents writer.old) (W.contents writer.new)) }
+{
+    let mut chunk = zeros(alloc, CHUNK)?;
+    answer_all(alloc, reader, writer, chunk.as_mut_slice())
+}

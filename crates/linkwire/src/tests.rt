@@ -1,0 +1,4 @@
+mod faults;
+mod lines;
+mod pieces;
+mod rows;

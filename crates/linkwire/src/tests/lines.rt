@@ -1,0 +1,98 @@
+use super::pieces::{NEVER, answers_to, run_in_pieces};
+use super::rows::ROWS;
+use std::test::Fail;
+
+/// Some lines of each kind, the last of which no LF ends.
+pub const TEXT: &[u8] =
+    b"00000000000000000000000000000000060003006c6f\n\n0\n000000000000000000000000000000000800180004000200\n0000000000000000000000000000000008000480DC050000\r\n00000000000000000000000000000000";
+
+/// Their answers.
+pub const ANSWERS: &[u8] =
+    b"ok 00000000000000000000000000000000070003006c6f0000\nrefused\nnothex\nok 000000000000000000000000000000000800180004000200\nnothex\nok 00000000000000000000000000000000\n";
+
+#[test]
+fn each_row_has_its_answer(rt: HostRuntime) -> Result<(), Fail> {
+    for (line, answer) in ROWS {
+        let text = format!(in rt.alloc(); "{line}\n")?;
+        let want = format!(in rt.alloc(); "{answer}\n")?;
+        let got = answers_to(rt.alloc(), text.as_bytes())?;
+        assert_eq!(rt; got.as_slice(), want.as_bytes(), "line {line}");
+    }
+    Ok(())
+}
+
+#[test]
+fn a_last_line_needs_no_end(rt: HostRuntime) -> Result<(), Fail> {
+    for (text, want) in [
+        ("", ""),
+        ("\n", "refused\n"),
+        ("\n\n", "refused\nrefused\n"),
+        ("0", "nothex\n"),
+        ("0\n", "nothex\n"),
+        ("\n0", "refused\nnothex\n"),
+        ("\r", "nothex\n"),
+        ("00\r\n00", "nothex\nrefused\n"),
+    ] {
+        let got = answers_to(rt.alloc(), text.as_bytes())?;
+        assert_eq!(rt; got.as_slice(), want.as_bytes(), "text {text:?}");
+    }
+    Ok(())
+}
+
+#[test]
+fn pieces_change_nothing(rt: HostRuntime) -> Result<(), Fail> {
+    for read in 1..9 {
+        for written in 1..9 {
+            let ran = run_in_pieces(rt.alloc(), TEXT, (read, written), (NEVER, NEVER));
+            assert_eq!(rt; ran.result, Ok(()), "pieces of {read} and {written}");
+            assert_eq!(rt;
+                ran.written.as_slice(),
+                ANSWERS,
+                "pieces of {read} and {written}"
+            );
+        }
+    }
+    Ok(())
+}
+
+/// A name without its NUL grows by it: 65530 bytes fit, and 65531 do not.
+#[test]
+fn a_text_that_grows_too_long_is_unfit(rt: HostRuntime) -> Result<(), Fail> {
+    for (header, count, want) in [("feff0300", 65530, "ok "), ("ffff0300", 65531, "unfit\n")] {
+        let mut text = Vec::new(rt.alloc());
+        text.extend_from_slice(b"00000000000000000000000000000000")?;
+        text.extend_from_slice(header.as_bytes())?;
+        for _ in 0..count {
+            text.extend_from_slice(b"61")?;
+        }
+        let got = answers_to(rt.alloc(), text.as_slice())?;
+        assert!(rt; got.starts_with(want.as_bytes()), "{count} bytes");
+    }
+    Ok(())
+}
+
+#[test]
+fn a_line_may_be_longer_than_a_read(rt: HostRuntime) -> Result<(), Fail> {
+    for (digits, want) in [
+        (65535, b"nothex\nrefused\n".as_slice()),
+        (65536, b"refused\nrefused\n".as_slice()),
+        (65537, b"nothex\nrefused\n".as_slice()),
+        (262144, b"refused\nrefused\n".as_slice()),
+    ] {
+        let mut text = vec![in rt.alloc(); b'0'; digits]?;
+        text.extend_from_slice(b"\n00")?;
+        let got = answers_to(rt.alloc(), text.as_slice())?;
+        assert!(rt; got.as_slice() == want, "{digits} digits");
+    }
+    Ok(())
+}
+
+#[test]
+fn few_answers_wait(rt: HostRuntime) -> Result<(), Fail> {
+    let text = vec![in rt.alloc(); b'\n'; 60000]?;
+    let ran = run_in_pieces(rt.alloc(), text.as_slice(), (NEVER, NEVER), (NEVER, NEVER));
+    assert_eq!(rt; ran.result, Ok(()));
+    assert_eq!(rt; ran.written.len(), 480000);
+    assert!(rt; ran.longest < 65536 + 8);
+    Ok(())
+}

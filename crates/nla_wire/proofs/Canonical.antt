@@ -1,0 +1,134 @@
+-- Canonical text at the front of a buffer: a frame around a value, and texts one behind the other.
+use Rattle.std.proofs.Common.{◌≡◌, ℕ, suc, ◌+◌, ◌-◌, ◌*◌, ◌/◌, ◌%◌, ◌<◌, ◌≤◌, inl, inr, List, [], ◌∷◌, ◌++◌, append_assoc, append-nil, get_or, slice_set, length, take, drop, replicate, length-append, length-drop, length-take, refl, ap, sym, ◌∙◌, subst, arith, Option, Some, None}
+use Rattle.std.specs.Int.{w16, to_le_bytes}
+use Rattle.std.specs.Net.Addr.{segments_of, octets_of}
+use Rattle.std.proofs.lemmas.List.{take_at, drop_at, drop_more, take_rest, drop_all}
+use Rattle.std.proofs.Math.Seq.{drop-drop, set-append_seam}
+use Rattle.std.proofs.lemmas.Slice.{drop-append-drop}
+use borrow.Rule.Slice.PartMut.{put_mid}
+use Rattle.nla_wire.specs.Sizes.{most_payload}
+use Rattle.nla_wire.specs.Frames.{IsBytes, missing}
+use Rattle.nla_wire.specs.Payloads.{IsTextOf}
+use Rattle.nla_wire.specs.Canon.{canon, Writes, Closed}
+use Rattle.nla_wire.proofs.Bounds.{length-canon}
+
+-- ** one text behind another
+
+-- the end of a buffer from `at` on, lent and given back
+pub lent_back : (at : ℕ) (now part : List ℕ) → put_mid at (length now - at) now part ≡ take at now ++ part
+lent_back at now part =
+    let none : drop (length now - at) (drop at now) ≡ [] = drop_all (length now - at) (drop at now) (simp length-drop (omega arith)) in
+    ap (λ (rest : List ℕ). take at now ++ (part ++ rest)) none ∙ ap (λ (xs : List ℕ). take at now ++ xs) (append-nil part)
+
+pub written_length : (text old new : List ℕ) (n : ℕ) → n ≤ length old → Writes text old new n → length new ≡ length old
+written_length text old new n fits w =
+    ap length w.new_is ∙ length-append text (drop n old) ∙ ap (λ k. length text + k) (length-drop n old) ∙ omega (arith, w.length_is)
+
+pub write_on : (done text old now part : List ℕ) (at n : ℕ) → Writes done old now at → Writes text (take (length now - at) (drop at now)) part n
+    → Writes (done ++ text) old (put_mid at (length now - at) now part) (at + n)
+write_on done text old now part at n before w =
+    let front : take at now ≡ done = ap (take at) before.new_is ∙ take_at done (drop at old) at (sym before.length_is) in
+    let rest : drop at now ≡ drop at old = ap (drop at) before.new_is ∙ drop_at done (drop at old) at (sym before.length_is) in
+    let behind : drop n (take (length now - at) (drop at now)) ≡ drop (at + n) old =
+    ap (drop n) (take_rest now at ∙ rest) ∙ drop-drop n at old ∙ ap (λ k. drop k old) (omega arith) in
+    record {
+      length_is = omega (arith, before.length_is, w.length_is, length-append done text);
+      new_is =
+          lent_back at now part
+          ∙ ap (λ (xs : List ℕ). xs ++ part) front
+          ∙ ap (λ (xs : List ℕ). done ++ xs) (w.new_is ∙ ap (λ (xs : List ℕ). text ++ xs) behind)
+          ∙ sym (append_assoc done text (drop (at + n) old));
+    }
+
+-- one NUL behind the text
+pub nul_behind : (text old now : List ℕ) (n : ℕ) → n < length old → Writes text old now n → Writes (text ++ 0 ∷ []) old (slice_set now n 0) (n + 1)
+nul_behind text old now n room w =
+    let front : now ≡ text ++ get_or old n 0 ∷ drop (n + 1) old = w.new_is ∙ ap (λ (xs : List ℕ). text ++ xs) (drop_more old n 0 room) in
+    record {
+      length_is = omega (arith, w.length_is, length-append text (0 ∷ []));
+      new_is =
+          (λ i. slice_set (front i) (w.length_is i) 0)
+          ∙ set-append_seam text (get_or old n 0) (drop (n + 1) old) 0
+          ∙ sym (append_assoc text (0 ∷ []) (drop (n + 1) old));
+    }
+
+-- ** the frame around a value
+
+four_taken : (a b c d : ℕ) (t : List ℕ) (n m : ℕ) → m ≡ 4 + n → take m (a ∷ b ∷ c ∷ d ∷ t) ≡ a ∷ b ∷ c ∷ d ∷ take n t
+four_taken a b c d t n m e = let same : m ≡ suc (suc (suc (suc n))) = omega (arith, e) in ap (λ k. take k (a ∷ b ∷ c ∷ d ∷ t)) same
+
+four_dropped : (a b c d : ℕ) (t : List ℕ) (n m : ℕ) → m ≡ 4 + n → drop m (a ∷ b ∷ c ∷ d ∷ t) ≡ drop n t
+four_dropped a b c d t n m e = let same : m ≡ suc (suc (suc (suc n))) = omega (arith, e) in ap (λ k. drop k (a ∷ b ∷ c ∷ d ∷ t)) same
+
+around : (kind end : ℕ) (value zeros rest : List ℕ) → end ≡ 4 + length value → zeros ≡ replicate (missing (length value)) 0
+    → (to_le_bytes w16 end ++ to_le_bytes w16 kind ++ value) ++ (zeros ++ rest) ≡ canon (record { kind = kind; payload = value }) ++ rest
+around kind end value zeros rest end_is zeros_are =
+    (λ i. (to_le_bytes w16 (end_is i) ++ to_le_bytes w16 kind ++ value) ++ (zeros_are i ++ rest))
+    ∙ sym (append_assoc (to_le_bytes w16 (4 + length value) ++ to_le_bytes w16 kind ++ value) (replicate (missing (length value)) 0) rest)
+
+-- header and padding, around the value that stands behind four bytes
+pub closed : (kind len : ℕ) (old headed zeros : List ℕ) (end padded : ℕ) → 4 + len + missing len ≤ length old → end ≡ 4 + len → padded ≡ (end + 3) / 4 * 4
+    → headed ≡ to_le_bytes w16 end ++ to_le_bytes w16 kind ++ drop 4 old → zeros ≡ replicate (length (take (padded - end) (drop end headed))) 0
+    → Writes (canon (record { kind = kind; payload = take len (drop 4 old) })) old (put_mid end (padded - end) headed zeros) padded
+closed kind len old headed zeros end padded room end_is padded_is headed_is zeros_are =
+    let t = drop 4 old in
+    let value = take len t in
+    let size : length value ≡ len = simp (length-take, length-drop) (omega arith) in
+    let missing_is : padded - end ≡ missing (length value) = omega arith in
+    let front : take end headed ≡ to_le_bytes w16 end ++ to_le_bytes w16 kind ++ value =
+    ap (take end) headed_is ∙ four_taken (end % 256) (end / 256 % 256) (kind % 256) (kind / 256 % 256) t len end end_is in
+    let lent : drop end headed ≡ drop len t =
+    ap (drop end) headed_is ∙ four_dropped (end % 256) (end / 256 % 256) (kind % 256) (kind / 256 % 256) t len end end_is in
+    let zero : zeros ≡ replicate (missing (length value)) 0 =
+    let count : length (take (padded - end) (drop end headed)) ≡ missing (length value) = rw lent (simp (length-take, length-drop) (omega arith)) in
+    zeros_are ∙ ap (λ n. replicate n 0) count in
+    let behind : drop (padded - end) (drop end headed) ≡ drop padded old =
+    ap (drop (padded - end)) lent ∙ drop-drop (padded - end) len t ∙ drop-drop (len + (padded - end)) 4 old ∙ ap (λ n. drop n old) (let same : 4 + (len + (padded - end)) ≡ padded = omega arith in same) in
+    record {
+      length_is = omega (arith, length-canon (record { kind = kind; payload = value }));
+      new_is =
+          (λ i. front i ++ (zeros ++ behind i))
+          ∙ around kind end value zeros (drop padded old) (omega arith) zero;
+    }
+
+-- the value that stands behind four bytes was written there
+closed_behind : (kind : ℕ) (value old lent : List ℕ) (len : ℕ) (new : List ℕ) (r : Option ℕ) → len ≡ length value → 4 ≤ length old
+    → take len (drop 4 lent) ≡ value → ((n : ℕ) → 4 + len ≤ n → drop n lent ≡ drop n old)
+    → Closed kind (take len (drop 4 lent)) lent new r → Closed kind value old new r
+closed_behind kind value old lent len new (Some n) len_is long there kept h =
+    let w = subst (λ v. Writes (canon (record { kind = kind; payload = v })) lent new n) there h.1 in
+    let small : length value ≤ most_payload = subst (λ v. length v ≤ most_payload) there h.0 in
+    (small, record { length_is = w.length_is; new_is = w.new_is ∙ ap (λ (rest : List ℕ). canon (record { kind = kind; payload = value }) ++ rest) (kept n (omega (arith, w.length_is, length-canon (record { kind = kind; payload = value })))) })
+closed_behind kind value old lent len new None len_is long there kept h = subst (λ v. most_payload < length v) there h
+
+pub closed_value : (kind : ℕ) (value old part : List ℕ) (len : ℕ) (new : List ℕ) (r : Option ℕ) → 4 ≤ length old → Writes value (take (length old - 4) (drop 4 old)) part len
+    → Closed kind (take len (drop 4 (put_mid 4 (length old - 4) old part))) (put_mid 4 (length old - 4) old part) new r → Closed kind value old new r
+closed_value kind value old part len new r long w closing =
+    let header : length (take 4 old) ≡ 4 = simp length-take (omega arith) in
+    let lent : put_mid 4 (length old - 4) old part ≡ take 4 old ++ part = lent_back 4 old part in
+    let behind : drop 4 (put_mid 4 (length old - 4) old part) ≡ value ++ drop len (drop 4 old) =
+    ap (drop 4) lent ∙ drop_at (take 4 old) part 4 header ∙ w.new_is ∙ ap (λ (xs : List ℕ). value ++ drop len xs) (take_rest old 4) in
+    let there = ap (take len) behind ∙ take_at value (drop len (drop 4 old)) len (sym w.length_is) in
+    let kept = λ (n : ℕ) (far : 4 + len ≤ n).
+    let split : n ≡ 4 + (n - 4) = omega arith in
+    let whole : drop n (put_mid 4 (length old - 4) old part) ≡ drop (n - 4) (drop 4 (put_mid 4 (length old - 4) old part)) =
+    ap (λ k. drop k (put_mid 4 (length old - 4) old part)) split ∙ sym (drop-drop (n - 4) 4 (put_mid 4 (length old - 4) old part)) in
+    whole ∙ ap (drop (n - 4)) behind ∙ drop-append-drop len (drop 4 old) value (n - 4) (omega arith) (sym w.length_is) ∙ drop-drop (n - 4) 4 old ∙ ap (λ k. drop k old) (sym split) in
+    closed_behind kind value old (put_mid 4 (length old - 4) old part) len new r w.length_is long there kept closing
+
+-- ** what is written as it was read
+
+pub text_short : (p s : List ℕ) → IsTextOf p s → length s ≤ length p
+text_short p s (inl e) = omega (arith, ap length e, length-append s (0 ∷ []))
+text_short p s (inr (never, e)) = omega (arith, ap length e)
+
+two_octets : (a b : ℕ) → b < 256 → ((a * 256 + b) / 256 ≡ a) × ((a * 256 + b) % 256 ≡ b)
+two_octets a b small = (omega arith, omega arith)
+
+pub octets_again : (p : List ℕ) → length p % 2 ≡ 0 → IsBytes p → octets_of (segments_of p) ≡ p
+octets_again [] e small = refl
+octets_again (a ∷ []) e small = absurd (omega arith)
+octets_again (a ∷ b ∷ p) e small =
+    let here = two_octets a b small.1.0 in
+    let behind = octets_again p (omega arith) small.1.1 in
+    λ i. here.0 i ∷ here.1 i ∷ behind i

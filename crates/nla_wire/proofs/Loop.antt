@@ -1,0 +1,160 @@
+-- What contracts on readers say in the words of the relations, and the steps of a loop over items.
+use Rattle.std.proofs.Common.{◌≡◌, ◌≢◌, ℕ, suc, ◌<◌, inl, inr, List, [], ◌∷◌, ◌++◌, append_assoc, append-nil, slice_index, refl, ap, sym, ◌∙◌, Option, Some, None, Result, Ok, Err, IsOk, IfOk, IfErr, eq-eqb, ne_eqb}
+use Rattle.nla_wire.specs.Frames.{Frame, number, IsBytes}
+use Rattle.nla_wire.specs.Reading.{list_of, with_front, ◌>>=◌}
+use Rattle.nla_wire.specs.Items.{Item, items, read_items}
+use Rattle.nla_wire.specs.Gives.{Fails, Gives, Checks}
+use Rattle.nla_wire.specs.Grammar.{Grammar, Agrees, picks, somes, picked}
+use Rattle.nla_wire.specs.declared.error.Cause.{Cause}
+use Rattle.nla_wire.specs.declared.error.Cause.TheVariants.{OutOfMemory}
+use Rattle.nla_wire.specs.declared.error.DecodeError.{DecodeError}
+use Rattle.nla_wire.proofs.Items.{list_items}
+
+-- ** answers of readers
+
+-- a slice's elements are bytes
+pub is_bytes_of : (b : List ℕ) → ((i : ℕ) → slice_index b i < 256) → IsBytes b
+is_bytes_of [] small = tt
+is_bytes_of (x ∷ b) small = (small 0, is_bytes_of b (λ i. small (suc i)))
+
+-- a reading that is Ok has a value
+pub given : {A : Type 0} (r : Result A Cause) → IsOk r → (a : A) × (r ≡ Ok a)
+given (Ok a) ok = (a, refl)
+given (Err c) ok = absurd cc
+
+ok_not_err : {A : Type 0} (r : Result A Cause) (a : A) (c : Cause) → r ≡ Ok a → r ≡ Err c → ⊥
+ok_not_err r a c e k = absurd cc
+
+module _ {S A : Type 0} {One : S → Type 0} (g : Grammar S A) (h : Agrees One g) (s : S) (one : One s) where
+  fails_as : (c : Cause) → Fails c (g.reads s) → c ≢ OutOfMemory → g.reads s ≡ Err c
+  fails_as c (inl memory) other = absurd (other memory)
+  fails_as c (inr e) other = e
+
+  -- a value that is given is meant
+  pub gives_found : (r : Result A DecodeError) → Gives r (g.reads s) → IfOk r (λ a. g.means s a)
+  gives_found (Ok a) gives = h.found s a one gives
+  gives_found (Err e) gives = tt
+
+  -- the cause of a fault is that of the first fault, unless memory ran out
+  pub gives_fault : (r : Result A DecodeError) → Gives r (g.reads s) → IfErr r (λ e. e.cause ≢ OutOfMemory → g.bad s e.cause)
+  gives_fault (Ok a) gives = tt
+  gives_fault (Err e) gives = λ other. h.fault s e.cause one (fails_as e.cause gives other)
+
+  -- what is refused means nothing, unless memory ran out
+  pub gives_refused : (r : Result A DecodeError) → Gives r (g.reads s) → IfErr r (λ e. e.cause ≢ OutOfMemory → (a : A) → g.means s a → ⊥)
+  gives_refused (Ok a) gives = tt
+  gives_refused (Err e) gives = λ other a m. ok_not_err (g.reads s) a e.cause (h.only s a m) (fails_as e.cause gives other)
+
+  -- what is accepted has a meaning
+  pub checks_found : (r : Result Unit DecodeError) → Checks r (g.reads s) → IfOk r (λ x. (a : A) × g.means s a)
+  checks_found (Ok x) checks = let k = given (g.reads s) checks in (k.0, h.found s k.0 one k.1)
+  checks_found (Err e) checks = tt
+
+  pub checks_fault : (r : Result Unit DecodeError) → Checks r (g.reads s) → IfErr r (λ e. g.bad s e.cause)
+  checks_fault (Ok x) checks = tt
+  checks_fault (Err e) checks = h.fault s e.cause one checks
+
+  pub checks_refused : (r : Result Unit DecodeError) → Checks r (g.reads s) → IfErr r (λ e. (a : A) → g.means s a → ⊥)
+  checks_refused (Ok x) checks = tt
+  checks_refused (Err e) checks = λ a m. ok_not_err (g.reads s) a e.cause (h.only s a m) checks
+
+-- ** a loop over items: the values in front, then what the items left are read as, are the whole reading
+
+front_none : {V : Type 0} (r : Result (List V) Cause) → with_front [] r ≡ r
+front_none (Ok vs) = refl
+front_none (Err c) = refl
+
+front_one : {V : Type 0} (front : List V) (v : V) (r : Result (List V) Cause) → with_front (front ++ v ∷ []) r ≡ with_front front (r >>= λ vs. Ok (v ∷ vs))
+front_one front v (Ok vs) = ap (λ (ws : List _). Ok ws) (append_assoc front (v ∷ []) vs)
+front_one front v (Err c) = refl
+
+pub items_start : {V : Type 0} (read : Frame → Result V Cause) (b : List ℕ) → with_front [] (read_items read (items b)) ≡ list_of read b
+items_start read b = front_none (read_items read (items b)) ∙ sym (list_items read b)
+
+module _ {V : Type 0} (read : Frame → Result V Cause) (front : List V) (left : List Item) (total : Result (List V) Cause) (so_far : with_front front (read_items read left) ≡ total) where
+  pub items_more : (f : Frame) (rest : List Item) (v : V) → left ≡ Ok f ∷ rest → read f ≡ Ok v → with_front (front ++ v ∷ []) (read_items read rest) ≡ total
+  items_more f rest v left_is e =
+      front_one front v (read_items read rest)
+      ∙ ap (λ (r : Result V Cause). with_front front (r >>= λ w. read_items read rest >>= λ ws. Ok (w ∷ ws))) (sym e)
+      ∙ ap (λ (xs : List Item). with_front front (read_items read xs)) (sym left_is)
+      ∙ so_far
+
+  fault_of : (c : Cause) → read_items read left ≡ Err c → total ≡ Err c
+  fault_of c e = sym so_far ∙ ap (λ (r : Result (List V) Cause). with_front front r) e
+
+  pub items_fails : (f : Frame) (rest : List Item) (c : Cause) → left ≡ Ok f ∷ rest → Fails c (read f) → Fails c total
+  items_fails f rest c left_is (inl memory) = inl memory
+  items_fails f rest c left_is (inr e) = inr (fault_of c (
+      ap (λ (xs : List Item). read_items read xs) left_is
+      ∙ ap (λ (r : Result V Cause). r >>= λ w. read_items read rest >>= λ ws. Ok (w ∷ ws)) e))
+
+  pub items_bad_item : (c : Cause) (rest : List Item) → left ≡ Err c ∷ rest → total ≡ Err c
+  items_bad_item c rest left_is = fault_of c (ap (λ (xs : List Item). read_items read xs) left_is)
+
+  pub items_done : left ≡ [] → total ≡ Ok front
+  items_done left_is =
+      sym so_far
+      ∙ ap (λ (xs : List Item). with_front front (read_items read xs)) left_is
+      ∙ ap (λ (ws : List V). Ok ws) (append-nil front)
+
+-- ** the same where members with other numbers than 1 are dropped
+
+module _ {V : Type 0} (place : Grammar Frame V) (f : Frame) where
+  pub picks_one : number f ≡ 1 → (picks place).reads f ≡ (place.reads f >>= λ v. Ok (Some v))
+  picks_one one = rw (eq-eqb (number f) 1 one)
+
+  pub picks_other : number f ≢ 1 → (picks place).reads f ≡ Ok None
+  picks_other other = rw (ne_eqb (number f) 1 other)
+
+-- the values that these items are read as
+abbrev pub read_picked : {V : Type 0} → Grammar Frame V → List Item → Result (List V) Cause
+read_picked place xs = read_items (picks place).reads xs >>= λ os. Ok (somes os)
+
+pub picked_start : {V : Type 0} (place : Grammar Frame V) (b : List ℕ) → with_front [] (read_picked place (items b)) ≡ (picked place).reads b
+picked_start {V} place b =
+    front_none (read_picked place (items b))
+    ∙ ap (λ (r : Result (List (Option V)) Cause). r >>= λ os. Ok (somes os)) (sym (list_items (picks place).reads b))
+
+one_more : {V : Type 0} (v : V) (r : Result (List (Option V)) Cause) → ((r >>= λ os. Ok (Some v ∷ os)) >>= λ os. Ok (somes os)) ≡ ((r >>= λ os. Ok (somes os)) >>= λ vs. Ok (v ∷ vs))
+one_more v (Ok os) = refl
+one_more v (Err c) = refl
+
+none_more : {V : Type 0} (r : Result (List (Option V)) Cause) → ((r >>= λ os. Ok (None ∷ os)) >>= λ os. Ok (somes os)) ≡ (r >>= λ os. Ok (somes os))
+none_more (Ok os) = refl
+none_more (Err c) = refl
+
+module _ {V : Type 0} (place : Grammar Frame V) (front : List V) (left : List Item) (total : Result (List V) Cause) (so_far : with_front front (read_picked place left) ≡ total) where
+  picked_at : (f : Frame) (rest : List Item) (r : Result (Option V) Cause) → left ≡ Ok f ∷ rest → (picks place).reads f ≡ r
+      → read_picked place left ≡ ((r >>= λ o. read_items (picks place).reads rest >>= λ os. Ok (o ∷ os)) >>= λ os. Ok (somes os))
+  picked_at f rest r left_is e =
+      ap (λ (xs : List Item). read_picked place xs) left_is
+      ∙ ap (λ (x : Result (Option V) Cause). (x >>= λ o. read_items (picks place).reads rest >>= λ os. Ok (o ∷ os)) >>= λ os. Ok (somes os)) e
+
+  pub picked_more : (f : Frame) (rest : List Item) (v : V) → left ≡ Ok f ∷ rest → number f ≡ 1 → place.reads f ≡ Ok v → with_front (front ++ v ∷ []) (read_picked place rest) ≡ total
+  picked_more f rest v left_is one e =
+      let some : (picks place).reads f ≡ Ok (Some v) = picks_one place f one ∙ ap (λ (r : Result V Cause). r >>= λ w. Ok (Some w)) e in
+      front_one front v (read_picked place rest)
+      ∙ ap (λ (r : Result (List V) Cause). with_front front r) (sym (picked_at f rest (Ok (Some v)) left_is some ∙ one_more v (read_items (picks place).reads rest)))
+      ∙ so_far
+
+  pub picked_skip : (f : Frame) (rest : List Item) → left ≡ Ok f ∷ rest → number f ≢ 1 → with_front front (read_picked place rest) ≡ total
+  picked_skip f rest left_is other =
+      ap (λ (r : Result (List V) Cause). with_front front r) (sym (picked_at f rest (Ok None) left_is (picks_other place f other) ∙ none_more (read_items (picks place).reads rest)))
+      ∙ so_far
+
+  picked_fault_of : (c : Cause) → read_picked place left ≡ Err c → total ≡ Err c
+  picked_fault_of c e = sym so_far ∙ ap (λ (r : Result (List V) Cause). with_front front r) e
+
+  pub picked_fails : (f : Frame) (rest : List Item) (c : Cause) → left ≡ Ok f ∷ rest → number f ≡ 1 → Fails c (place.reads f) → Fails c total
+  picked_fails f rest c left_is one (inl memory) = inl memory
+  picked_fails f rest c left_is one (inr e) =
+      inr (picked_fault_of c (picked_at f rest (Err c) left_is (picks_one place f one ∙ ap (λ (r : Result V Cause). r >>= λ w. Ok (Some w)) e)))
+
+  pub picked_bad_item : (c : Cause) (rest : List Item) → left ≡ Err c ∷ rest → total ≡ Err c
+  picked_bad_item c rest left_is = picked_fault_of c (ap (λ (xs : List Item). read_picked place xs) left_is)
+
+  pub picked_done : left ≡ [] → total ≡ Ok front
+  picked_done left_is =
+      sym so_far
+      ∙ ap (λ (xs : List Item). with_front front (read_picked place xs)) left_is
+      ∙ ap (λ (ws : List V). Ok ws) (append-nil front)

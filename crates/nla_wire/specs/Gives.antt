@@ -1,0 +1,24 @@
+-- How the answer of a call agrees with what a reader answers.
+use Rattle.std.specs.Prelude.{◌≡◌, ◌⊎◌, Result, Ok, Err, IsOk}
+use Rattle.nla_wire.specs.declared.error.Cause.{Cause}
+use Rattle.nla_wire.specs.declared.error.Cause.TheVariants.{OutOfMemory}
+use Rattle.nla_wire.specs.declared.error.DecodeError.{DecodeError}
+
+-- the cause is what the reading gives, or memory ran out
+abbrev pub Fails : {A : Type 0} → Cause → Result A Cause → Type 0
+Fails c read = (c ≡ OutOfMemory) ⊎ (read ≡ Err c)
+
+-- the answer is what the reading gives, or memory ran out
+abbrev pub Gives : {A : Type 0} → Result A DecodeError → Result A Cause → Type 0
+Gives (Ok x) read = read ≡ Ok x
+Gives (Err e) read = Fails e.cause read
+
+-- Ok exactly where the reading is, else with the reading's cause
+abbrev pub Checks : {A : Type 0} → Result Unit DecodeError → Result A Cause → Type 0
+Checks (Ok x) read = IsOk read
+Checks (Err e) read = read ≡ Err e.cause
+
+-- a result without its place in a log
+abbrev pub without_place : {A : Type 0} → Result A DecodeError → Result A Cause
+without_place (Ok x) = Ok x
+without_place (Err e) = Err e.cause

@@ -1,0 +1,14 @@
+pub mod Sizes
+pub mod Causes
+pub mod Frames
+pub mod Spellings
+pub mod FrameLaws
+pub mod Reading
+pub mod Grammar
+pub mod Payloads
+pub mod Fields
+pub mod Canon
+pub mod Gives
+pub mod Items
+pub mod Same
+pub mod Decided

@@ -1,0 +1,107 @@
+use std::alloc::{AllocError, AllocFailed};
+use thiserror::Error;
+
+/// Why bytes were refused.
+#[derive(Clone, Copy, Debug, PartialEq, Eq, Error)]
+pub enum Cause {
+    /// Cause 1: a header, record or wireless event has fewer bytes than it needs.
+    #[error("{got} bytes where {need} are needed")]
+    TooShort { got: usize, need: usize },
+    /// Cause 2: fewer than four bytes are left for the header of a frame.
+    #[error("{left} bytes are left for a header of 4")]
+    FrameShort { left: usize },
+    /// Cause 3: the length of a frame passes the bytes that are left.
+    #[error("a length of {length} with {left} bytes left")]
+    FrameOver { length: u16, left: usize },
+    /// Cause 4: the length of a frame is below that of its header.
+    #[error("a length of {length}, below that of a header")]
+    FrameUnder { length: u16 },
+    /// Cause 5: the payload of a list that must not be empty is empty.
+    #[error("an empty list where one member is needed")]
+    EmptyList,
+    /// Cause 6: a number or an address has another length than its own.
+    #[error("{got} bytes where exactly {want} are wanted")]
+    WrongLength { got: usize, want: usize },
+    /// Cause 7: a text is not UTF-8.
+    #[error("text that is not UTF-8")]
+    NotUtf8,
+    /// Cause 8: a name names no operational state.
+    #[error("the name of no state")]
+    InvalidState,
+    /// Cause 9: no memory was left. It says nothing of the bytes.
+    #[error("out of memory")]
+    OutOfMemory,
+}
+
+impl Cause {
+    ghost use Rattle.std.specs.Prelude.{◌≡◌};
+    ghost use Rattle.nla_wire.specs.Causes.{cause_number};
+
+    /// The number of the cause, 1 to 9 in the order of the variants.
+    pub fn number(&self) -> u8
+        ensures { result ≡ cause_number self.now }
+    {
+        match self {
+            Cause::TooShort { .. } => 1,
+            Cause::FrameShort { .. } => 2,
+            Cause::FrameOver { .. } => 3,
+            Cause::FrameUnder { .. } => 4,
+            Cause::EmptyList => 5,
+            Cause::WrongLength { .. } => 6,
+            Cause::NotUtf8 => 7,
+            Cause::InvalidState => 8,
+            Cause::OutOfMemory => 9,
+        }
+    }
+}
+
+/// A fault: why bytes were refused, and a name of the place for a log.
+///
+/// No promise rests on `place`.
+#[derive(Clone, Copy, Debug, PartialEq, Eq, Error)]
+#[error("{place}: {cause}")]
+pub struct DecodeError {
+    pub place: &'static str,
+    pub cause: Cause,
+}
+
+impl DecodeError {
+    ghost use Rattle.std.specs.Prelude.{◌≡◌};
+    ghost use Rattle.nla_wire.specs.Causes.{cause_number};
+
+    /// The fault of this cause at this place.
+    pub fn new(place: &'static str, cause: Cause) -> DecodeError
+        ensures { result.cause ≡ cause }
+    {
+        DecodeError { place, cause }
+    }
+
+    /// The number of the cause.
+    pub fn number(&self) -> u8
+        ensures { result ≡ cause_number self.now.cause }
+    {
+        self.cause.number()
+    }
+}
+
+impl From<AllocError> for DecodeError {
+    ghost use Rattle.std.specs.Prelude.{◌≡◌};
+    ghost use Rattle.nla_wire.specs.declared.error.Cause.TheVariants.{OutOfMemory};
+
+    ghost from_gives = { λ _ e. e.cause ≡ OutOfMemory };
+
+    fn from(_error: AllocError) -> DecodeError {
+        DecodeError::new("memory", Cause::OutOfMemory)
+    }
+}
+
+impl<T: Drop> From<AllocFailed<T>> for DecodeError {
+    ghost use Rattle.std.specs.Prelude.{◌≡◌};
+    ghost use Rattle.nla_wire.specs.declared.error.Cause.TheVariants.{OutOfMemory};
+
+    ghost from_gives = { λ _ e. e.cause ≡ OutOfMemory };
+
+    fn from(_error: AllocFailed<T>) -> DecodeError {
+        DecodeError::new("memory", Cause::OutOfMemory)
+    }
+}

@@ -1,0 +1,51 @@
+//! Attribute frames of netlink messages, read and written.
+#![tactic(auto)]
+
+pub mod buffer;
+pub mod canon;
+pub mod default_nla;
+pub mod error;
+pub mod exact;
+#[cfg(test)]
+mod field_tests;
+pub mod fields;
+pub mod fill;
+#[cfg(test)]
+mod frame_tests;
+pub mod iterator;
+pub mod laws;
+pub mod nla;
+#[cfg(test)]
+mod nla_tests;
+pub mod number;
+#[cfg(test)]
+mod number_tests;
+pub mod read;
+#[cfg(test)]
+mod read_tests;
+pub mod text;
+#[cfg(test)]
+mod value_tests;
+pub mod values;
+
+pub use buffer::{NLA_F_NESTED, NLA_F_NET_BYTEORDER, NLA_HEADER_SIZE, NLA_TYPE_MASK, NlaBuffer};
+pub use canon::{
+    canon_bytes, canon_i32, canon_ipv6_addr, canon_of, canon_text, canon_u8, canon_u16, canon_u32,
+    canon_u64, canon_value, close,
+};
+pub use default_nla::DefaultNla;
+pub use error::{Cause, DecodeError};
+pub use exact::Exact;
+pub use fill::{fill_bytes, fill_text};
+pub use iterator::NlasIterator;
+pub use nla::{Nla, emit_nlas, nlas_buffer_len, nlas_fill, nlas_fit};
+pub use number::{
+    emit_i32, emit_u16, emit_u32, emit_u64, parse_i32, parse_ipv6_addr, parse_u8, parse_u16,
+    parse_u32, parse_u64,
+};
+pub use read::{
+    NlaRead, OwnPlace, Place, canon_members, canon_nested_members, canon_nested_picked_members,
+    canon_picked_members, check_members, check_picked_members, parse_members, parse_picked_members,
+};
+pub use text::{check_string, parse_string};
+pub use values::{Bytes, CloneIn, List, Text};

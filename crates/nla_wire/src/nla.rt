@@ -1,0 +1,131 @@
+//! What is written as an attribute: `Nla`, slices of attributes, and the attribute that is kept as it is.
+
+ghost use Rattle.std.specs.Prelude.{◌≡◌, ◌+◌, ◌-◌, ◌^◌, ◌<◌, ◌≤◌, ◌++◌, ◌↔◌, length, take, drop, IsTrue};
+ghost use Rattle.nla_wire.specs.Sizes.{most_payload};
+ghost use Rattle.nla_wire.specs.Frames.{Frame, missing};
+ghost use Rattle.nla_wire.specs.Canon.{canon, canons, AllFit, Filled};
+
+use crate::fill::close_frame;
+
+/// A value that is written as an attribute.
+///
+/// The text of the value is the payload of its frame. The text of the attribute is the frame with its padding, which
+/// is zeros: length and kind of two bytes each, the value, and zeros up to a multiple of four (rtnetlink(7)).
+pub trait Nla {
+    ghost frame: { Self → Frame };
+
+    ghost fits: { Self → Type 0 };
+
+    /// The kind: the number and both flag bits.
+    fn kind(&self) -> u16
+        ensures { result ≡ (frame self.now).kind };
+
+    /// Whether the value's text has at most 65531 bytes, and all that is inside it fits.
+    fn fits(&self) -> bool
+        ensures { IsTrue result ↔ fits self.now };
+
+    /// The length of the value's text, without header and padding.
+    fn value_len(&self) -> usize
+        requires { fits self.now }
+        ensures { result ≡ length (frame self.now).payload };
+
+    /// Writes the value's text at the end of the buffer, and answers where it starts. The bytes before are kept.
+    fn fill_value(&self, buffer: &mut [u8]) -> usize
+        requires fits { fits self.now }
+        requires room { length (frame self.now).payload ≤ length buffer.old }
+        ensures { Filled buffer.old buffer.new (frame self.now).payload result };
+
+    ghost is_small: { (x : Self) → fits x → length (frame x).payload ≤ most_payload };
+
+    /// Writes the value's text into a buffer of exactly its length.
+    final fn emit_value(&self, buffer: &mut [u8])
+        requires fits { fits self.now }
+        requires exact { length buffer.old ≡ length (frame self.now).payload }
+        ensures { buffer.new ≡ (frame self.now).payload }
+    {
+        let _start = self.fill_value(buffer);
+    }
+
+    /// The length of the attribute's text, with header and padding.
+    final fn buffer_len(&self) -> usize
+        requires { fits self.now }
+        ensures { result ≡ length (canon (frame self.now)) }
+    {
+        4 + (self.value_len() + 3) / 4 * 4
+    }
+
+    /// Writes the attribute's text at the end of the buffer, and answers where it starts. The bytes before are kept.
+    final fn fill(&self, buffer: &mut [u8]) -> usize
+        requires fits { fits self.now }
+        requires room { length (canon (frame self.now)) ≤ length buffer.old }
+        ensures { Filled buffer.old buffer.new (canon (frame self.now)) result }
+    {
+        let start = self.fill_value(buffer);
+        close_frame(buffer, start, self.kind())
+    }
+
+    /// Writes the attribute's text to the front of the buffer, and keeps the rest.
+    final fn emit(&self, buffer: &mut [u8])
+        requires fits { fits self.now }
+        requires room { length (canon (frame self.now)) ≤ length buffer.old }
+        ensures { buffer.new ≡ canon (frame self.now) ++ drop (length (canon (frame self.now))) buffer.old }
+    {
+        let len = self.buffer_len();
+        let _start = self.fill(&mut buffer[..len]);
+    }
+}
+
+/// Whether each attribute fits, and the length of their text is a `usize`.
+pub fn nlas_fit<N: Nla>(nlas: &[N]) -> bool
+    ensures { IsTrue result ↔ AllFit N.fits N.frame nlas.now }
+{
+    let mut len: usize = 0;
+    for nla in nlas {
+        if !nla.fits() {
+            return false;
+        }
+        let Some(more) = len.checked_add(nla.buffer_len()) else {
+            return false;
+        };
+        len = more;
+    }
+    true
+}
+
+/// The length of the text of the attributes, one behind the other.
+pub fn nlas_buffer_len<N: Nla>(nlas: &[N]) -> usize
+    requires { AllFit N.fits N.frame nlas.now }
+    ensures { result ≡ length (canons N.frame nlas.now) }
+{
+    let mut len = 0;
+    for nla in nlas {
+        len += nla.buffer_len();
+    }
+    len
+}
+
+/// Writes the texts of the attributes at the end of the buffer, the last attribute first, and answers where they start.
+/// The bytes before are kept.
+pub fn nlas_fill<N: Nla>(nlas: &[N], buffer: &mut [u8]) -> usize
+    requires fit { AllFit N.fits N.frame nlas.now }
+    requires room { length (canons N.frame nlas.now) ≤ length buffer.old }
+    ensures { Filled buffer.old buffer.new (canons N.frame nlas.now) result }
+{
+    let mut start = buffer.len();
+    let mut left = nlas.len();
+    while left > 0 {
+        left -= 1;
+        start = nlas[left].fill(&mut buffer[..start]);
+    }
+    start
+}
+
+/// Writes the texts of the attributes to the front of the buffer, and keeps the rest.
+pub fn emit_nlas<N: Nla>(nlas: &[N], buffer: &mut [u8])
+    requires fit { AllFit N.fits N.frame nlas.now }
+    requires room { length (canons N.frame nlas.now) ≤ length buffer.old }
+    ensures { buffer.new ≡ canons N.frame nlas.now ++ drop (length (canons N.frame nlas.now)) buffer.old }
+{
+    let len = nlas_buffer_len(nlas);
+    let _start = nlas_fill(nlas, &mut buffer[..len]);
+}

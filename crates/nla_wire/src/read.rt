@@ -1,0 +1,375 @@
+//! What is read from attributes: places, lists of members, and types of values that have one place.
+
+ghost use Rattle.std.specs.Prelude.{◌≡◌, ◌≢◌, ◌+◌, ◌*◌, ◌/◌, ◌≤◌, List, length, IsOk, IfOk, IfErr, MatchResult};
+ghost use Rattle.nla_wire.specs.Sizes.{most_payload, growth, growth_per_byte};
+ghost use Rattle.nla_wire.specs.Frames.{Frame, IsFrame};
+ghost use Rattle.nla_wire.specs.Grammar.{Grammar, Agrees, list, picked};
+ghost use Rattle.nla_wire.specs.Canon.{canon, canons, AllFit, Canonical};
+ghost use Rattle.nla_wire.specs.Gives.{Fails, Gives, Checks};
+ghost use Rattle.nla_wire.specs.declared.error.Cause.TheVariants.{OutOfMemory};
+
+use crate::buffer::{NLA_HEADER_SIZE, NlaBuffer};
+use crate::canon::close;
+use crate::error::DecodeError;
+use crate::iterator::NlasIterator;
+use crate::nla::Nla;
+use std::alloc::Global;
+
+/// The number of the members that are read where others are dropped: `IFLA_VF_INFO` and `IFLA_VF_PORT` (linux/if_link.h).
+const PICKED_KIND: u16 = 1;
+
+/// A place of the grammar: it says how an attribute there is read as a value of `V`.
+///
+/// A place may depend on what was read before it, as that of `IFLA_AF_SPEC` on the family of the message's header.
+pub trait Place<V: Nla + Drop> {
+    ghost grammar: { Self → Grammar Frame V };
+
+    /// Reads the value of an attribute.
+    ///
+    /// Refuses with the cause of the first fault, or with `OutOfMemory`.
+    fn parse(&self, alloc: Global, buffer: &NlaBuffer<'_>) -> Result<V, DecodeError>
+        ensures { Gives result ((grammar self.now).reads buffer.now) };
+
+    /// Whether an attribute has a value, with no memory taken: `Ok` where it has, else the cause of the first fault.
+    fn check(&self, buffer: &NlaBuffer<'_>) -> Result<(), DecodeError>
+        ensures { Checks result ((grammar self.now).reads buffer.now) };
+
+    /// Writes the canonical text of an attribute's value to the front of the buffer, with no memory taken, and answers
+    /// its length. The rest of the buffer is kept.
+    ///
+    /// The buffer has 77 bytes for each byte of the attribute's header and payload. Answers `None` where the value does
+    /// not fit, and the buffer's bytes are open then.
+    fn canon(&self, buffer: &NlaBuffer<'_>, out: &mut [u8]) -> Option<usize>
+        requires accepted { IsOk ((grammar self.now).reads buffer.now) }
+        requires room { growth_per_byte * (4 + length buffer.now.payload) ≤ length out.old }
+        ensures { Canonical (λ v. canon (V.frame v)) V.fits ((grammar self.now).reads buffer.now) out.old out.new result };
+
+    ghost agrees: { (place : Self) → Agrees IsFrame (grammar place) };
+
+    ghost no_memory: { (place : Self) (f : Frame) → (grammar place).bad f OutOfMemory → ⊥ };
+
+    ghost bounded: { (place : Self) (f : Frame) (v : V) → (grammar place).means f v → length (canon (V.frame v)) ≤ growth * (1 + length f.payload / 4) };
+}
+
+/// Reads a list of members of this place.
+///
+/// Refuses with the cause of the fault that is met first, front to back, each member's value before the next frame; or
+/// with `OutOfMemory`. There are at least four bytes for each value.
+pub fn parse_members<V: Nla + Drop, P: Place<V>>(
+    place: &P,
+    alloc: Global,
+    bytes: &[u8],
+) -> Result<Vec<V>, DecodeError>
+    ensures reads { MatchResult result (λ v. (list (P.grammar place.now)).reads bytes.now ≡ Ok v.items) (λ e. Fails e.cause ((list (P.grammar place.now)).reads bytes.now)) }
+    ensures few { IfOk result (λ v. 4 * length v.items ≤ length bytes.now) }
+{
+    let mut values = Vec::new(alloc);
+    for item in NlasIterator::new(bytes) {
+        let frame = item?;
+        let value = place.parse(alloc, &frame)?;
+        values.push(value)?;
+    }
+    Ok(values)
+}
+
+/// Whether the bytes are a list of members of this place, with no memory taken: `Ok` where they are, else the cause of
+/// the fault that is met first.
+pub fn check_members<V: Nla + Drop, P: Place<V>>(place: &P, bytes: &[u8]) -> Result<(), DecodeError>
+    ensures { Checks result ((list (P.grammar place.now)).reads bytes.now) }
+{
+    for item in NlasIterator::new(bytes) {
+        let frame = item?;
+        place.check(&frame)?;
+    }
+    Ok(())
+}
+
+/// Writes the canonical text of a list's members, one behind the other, to the front of the buffer, with no memory
+/// taken, and answers its length. The rest of the buffer is kept.
+///
+/// The buffer has 77 bytes for each byte of the list. Answers `None` where a member does not fit, and the buffer's
+/// bytes are open then.
+pub fn canon_members<V: Nla + Drop, P: Place<V>>(
+    place: &P,
+    bytes: &[u8],
+    out: &mut [u8],
+) -> Option<usize>
+    requires accepted { IsOk ((list (P.grammar place.now)).reads bytes.now) }
+    requires room { growth_per_byte * length bytes.now ≤ length out.old }
+    ensures { Canonical (canons V.frame) (AllFit V.fits V.frame) ((list (P.grammar place.now)).reads bytes.now) out.old out.new result }
+{
+    let mut at = 0;
+    for item in NlasIterator::new(bytes) {
+        let Ok(frame) = item else {
+            return None;
+        };
+        at += place.canon(&frame, &mut out[at..])?;
+    }
+    Some(at)
+}
+
+/// Writes the attribute of this kind whose value is the canonical text of a list's members, as `canon_members` does.
+///
+/// Answers `None` too where that text has more than 65531 bytes.
+pub fn canon_nested_members<V: Nla + Drop, P: Place<V>>(
+    place: &P,
+    kind: u16,
+    bytes: &[u8],
+    out: &mut [u8],
+) -> Option<usize>
+    requires accepted { IsOk ((list (P.grammar place.now)).reads bytes.now) }
+    requires room { growth_per_byte * (4 + length bytes.now) ≤ length out.old }
+    ensures { Canonical (λ vs. canon (record { kind = kind; payload = canons V.frame vs })) (λ vs. (length (canons V.frame vs) ≤ most_payload) × AllFit V.fits V.frame vs) ((list (P.grammar place.now)).reads bytes.now) out.old out.new result }
+{
+    let len = canon_members(place, bytes, &mut out[NLA_HEADER_SIZE..])?;
+    close(out, len, kind)
+}
+
+/// Reads a list of which the members with another number than 1 are dropped unread.
+///
+/// Refuses as `parse_members` does.
+pub fn parse_picked_members<V: Nla + Drop, P: Place<V>>(
+    place: &P,
+    alloc: Global,
+    bytes: &[u8],
+) -> Result<Vec<V>, DecodeError>
+    ensures reads { MatchResult result (λ v. (picked (P.grammar place.now)).reads bytes.now ≡ Ok v.items) (λ e. Fails e.cause ((picked (P.grammar place.now)).reads bytes.now)) }
+    ensures few { IfOk result (λ v. 4 * length v.items ≤ length bytes.now) }
+{
+    let mut values = Vec::new(alloc);
+    for item in NlasIterator::new(bytes) {
+        let frame = item?;
+        if frame.kind() == PICKED_KIND {
+            let value = place.parse(alloc, &frame)?;
+            values.push(value)?;
+        }
+    }
+    Ok(values)
+}
+
+/// Whether the bytes are a list of which the members with number 1 have a value, with no memory taken.
+pub fn check_picked_members<V: Nla + Drop, P: Place<V>>(
+    place: &P,
+    bytes: &[u8],
+) -> Result<(), DecodeError>
+    ensures { Checks result ((picked (P.grammar place.now)).reads bytes.now) }
+{
+    for item in NlasIterator::new(bytes) {
+        let frame = item?;
+        if frame.kind() == PICKED_KIND {
+            place.check(&frame)?;
+        }
+    }
+    Ok(())
+}
+
+/// Writes the canonical text of a list's members with number 1, as `canon_members` does.
+pub fn canon_picked_members<V: Nla + Drop, P: Place<V>>(
+    place: &P,
+    bytes: &[u8],
+    out: &mut [u8],
+) -> Option<usize>
+    requires accepted { IsOk ((picked (P.grammar place.now)).reads bytes.now) }
+    requires room { growth_per_byte * length bytes.now ≤ length out.old }
+    ensures { Canonical (canons V.frame) (AllFit V.fits V.frame) ((picked (P.grammar place.now)).reads bytes.now) out.old out.new result }
+{
+    let mut at = 0;
+    for item in NlasIterator::new(bytes) {
+        let Ok(frame) = item else {
+            return None;
+        };
+        if frame.kind() == PICKED_KIND {
+            at += place.canon(&frame, &mut out[at..])?;
+        }
+    }
+    Some(at)
+}
+
+/// Writes the attribute of this kind whose value is the canonical text of a list's members with number 1.
+///
+/// Answers `None` too where that text has more than 65531 bytes.
+pub fn canon_nested_picked_members<V: Nla + Drop, P: Place<V>>(
+    place: &P,
+    kind: u16,
+    bytes: &[u8],
+    out: &mut [u8],
+) -> Option<usize>
+    requires accepted { IsOk ((picked (P.grammar place.now)).reads bytes.now) }
+    requires room { growth_per_byte * (4 + length bytes.now) ≤ length out.old }
+    ensures { Canonical (λ vs. canon (record { kind = kind; payload = canons V.frame vs })) (λ vs. (length (canons V.frame vs) ≤ most_payload) × AllFit V.fits V.frame vs) ((picked (P.grammar place.now)).reads bytes.now) out.old out.new result }
+{
+    let len = canon_picked_members(place, bytes, &mut out[NLA_HEADER_SIZE..])?;
+    close(out, len, kind)
+}
+
+/// A value that is read from an attribute, at the one place that its type has.
+///
+/// The list calls read and write lists of such attributes; those with `picked` in their name drop the members with
+/// another number than 1 unread.
+pub trait NlaRead: Nla + Drop {
+    ghost grammar: { Grammar Frame Self };
+
+    /// Reads the value of an attribute.
+    ///
+    /// Refuses with the cause of the first fault, or with `OutOfMemory`.
+    fn parse(alloc: Global, buffer: &NlaBuffer<'_>) -> Result<Self, DecodeError>
+    where
+        Self: Sized,
+        ensures { Gives result (grammar.reads buffer.now) };
+
+    /// Whether an attribute has a value, with no memory taken: `Ok` where it has, else the cause of the first fault.
+    fn check(buffer: &NlaBuffer<'_>) -> Result<(), DecodeError>
+        ensures { Checks result (grammar.reads buffer.now) };
+
+    /// Writes the canonical text of an attribute's value to the front of the buffer, with no memory taken, and answers
+    /// its length. The rest of the buffer is kept.
+    ///
+    /// The buffer has 77 bytes for each byte of the attribute's header and payload. Answers `None` where the value does
+    /// not fit, and the buffer's bytes are open then.
+    fn canon(buffer: &NlaBuffer<'_>, out: &mut [u8]) -> Option<usize>
+        requires accepted { IsOk (grammar.reads buffer.now) }
+        requires room { growth_per_byte * (4 + length buffer.now.payload) ≤ length out.old }
+        ensures { Canonical (λ v. canon (Self.frame v)) Self.fits (grammar.reads buffer.now) out.old out.new result };
+
+    ghost agrees: { Agrees IsFrame grammar };
+
+    ghost no_memory: { (f : Frame) → grammar.bad f OutOfMemory → ⊥ };
+
+    ghost bounded: { (f : Frame) (v : Self) → grammar.means f v → length (canon (Self.frame v)) ≤ growth * (1 + length f.payload / 4) };
+
+    /// Reads a list of these attributes.
+    ///
+    /// Refuses with the cause of the fault that is met first, front to back, each value before the next frame; or with
+    /// `OutOfMemory`. There are at least four bytes for each value.
+    final fn parse_list(alloc: Global, bytes: &[u8]) -> Result<Vec<Self>, DecodeError>
+    where
+        Self: Sized,
+        ensures found { IfOk result (λ v. (list grammar).means bytes.now v.items) }
+        ensures fault { IfErr result (λ e. e.cause ≢ OutOfMemory → (list grammar).bad bytes.now e.cause) }
+        ensures refused { IfErr result (λ e. e.cause ≢ OutOfMemory → (vs : List Self) → (list grammar).means bytes.now vs → ⊥) }
+        ensures reads { MatchResult result (λ v. (list grammar).reads bytes.now ≡ Ok v.items) (λ e. Fails e.cause ((list grammar).reads bytes.now)) }
+        ensures few { IfOk result (λ v. 4 * length v.items ≤ length bytes.now) }
+    {
+        parse_members::<Self, OwnPlace>(&OwnPlace, alloc, bytes)
+    }
+
+    /// Whether the bytes are a list of these attributes, with no memory taken: `Ok` where they are, else the cause of
+    /// the fault that is met first.
+    final fn check_list(bytes: &[u8]) -> Result<(), DecodeError>
+    where
+        Self: Sized,
+        ensures found { IfOk result (λ _. (vs : List Self) × (list grammar).means bytes.now vs) }
+        ensures fault { IfErr result (λ e. (list grammar).bad bytes.now e.cause) }
+        ensures refused { IfErr result (λ e. (vs : List Self) → (list grammar).means bytes.now vs → ⊥) }
+        ensures memory { IfErr result (λ e. e.cause ≢ OutOfMemory) }
+        ensures reads { Checks result ((list grammar).reads bytes.now) }
+    {
+        check_members::<Self, OwnPlace>(&OwnPlace, bytes)
+    }
+
+    /// Writes the canonical text of a list of these attributes to the front of the buffer, with no memory taken, and
+    /// answers its length. The rest of the buffer is kept.
+    ///
+    /// The buffer has 77 bytes for each byte of the list. Answers `None` where a member does not fit, and the buffer's
+    /// bytes are open then.
+    final fn canon_list(bytes: &[u8], out: &mut [u8]) -> Option<usize>
+    where
+        Self: Sized,
+        requires accepted { IsOk ((list grammar).reads bytes.now) }
+        requires room { growth_per_byte * length bytes.now ≤ length out.old }
+        ensures { Canonical (canons Self.frame) (AllFit Self.fits Self.frame) ((list grammar).reads bytes.now) out.old out.new result }
+    {
+        canon_members::<Self, OwnPlace>(&OwnPlace, bytes, out)
+    }
+
+    /// Writes the attribute of this kind whose value is the canonical text of a list of these attributes, as
+    /// `canon_list` does.
+    ///
+    /// Answers `None` too where that text has more than 65531 bytes.
+    final fn canon_nested(kind: u16, bytes: &[u8], out: &mut [u8]) -> Option<usize>
+    where
+        Self: Sized,
+        requires accepted { IsOk ((list grammar).reads bytes.now) }
+        requires room { growth_per_byte * (4 + length bytes.now) ≤ length out.old }
+        ensures { Canonical (λ vs. canon (record { kind = kind; payload = canons Self.frame vs })) (λ vs. (length (canons Self.frame vs) ≤ most_payload) × AllFit Self.fits Self.frame vs) ((list grammar).reads bytes.now) out.old out.new result }
+    {
+        canon_nested_members::<Self, OwnPlace>(&OwnPlace, kind, bytes, out)
+    }
+
+    /// Reads a list of these attributes of which those with another number than 1 are dropped unread.
+    ///
+    /// Refuses as `parse_list` does.
+    final fn parse_picked(alloc: Global, bytes: &[u8]) -> Result<Vec<Self>, DecodeError>
+    where
+        Self: Sized,
+        ensures found { IfOk result (λ v. (picked grammar).means bytes.now v.items) }
+        ensures fault { IfErr result (λ e. e.cause ≢ OutOfMemory → (picked grammar).bad bytes.now e.cause) }
+        ensures refused { IfErr result (λ e. e.cause ≢ OutOfMemory → (vs : List Self) → (picked grammar).means bytes.now vs → ⊥) }
+        ensures reads { MatchResult result (λ v. (picked grammar).reads bytes.now ≡ Ok v.items) (λ e. Fails e.cause ((picked grammar).reads bytes.now)) }
+        ensures few { IfOk result (λ v. 4 * length v.items ≤ length bytes.now) }
+    {
+        parse_picked_members::<Self, OwnPlace>(&OwnPlace, alloc, bytes)
+    }
+
+    /// Whether the bytes are a list of these attributes of which those with number 1 have a value, with no memory taken.
+    final fn check_picked(bytes: &[u8]) -> Result<(), DecodeError>
+    where
+        Self: Sized,
+        ensures found { IfOk result (λ _. (vs : List Self) × (picked grammar).means bytes.now vs) }
+        ensures fault { IfErr result (λ e. (picked grammar).bad bytes.now e.cause) }
+        ensures refused { IfErr result (λ e. (vs : List Self) → (picked grammar).means bytes.now vs → ⊥) }
+        ensures memory { IfErr result (λ e. e.cause ≢ OutOfMemory) }
+        ensures reads { Checks result ((picked grammar).reads bytes.now) }
+    {
+        check_picked_members::<Self, OwnPlace>(&OwnPlace, bytes)
+    }
+
+    /// Writes the canonical text of those attributes of a list that have number 1, as `canon_list` does.
+    final fn canon_picked(bytes: &[u8], out: &mut [u8]) -> Option<usize>
+    where
+        Self: Sized,
+        requires accepted { IsOk ((picked grammar).reads bytes.now) }
+        requires room { growth_per_byte * length bytes.now ≤ length out.old }
+        ensures { Canonical (canons Self.frame) (AllFit Self.fits Self.frame) ((picked grammar).reads bytes.now) out.old out.new result }
+    {
+        canon_picked_members::<Self, OwnPlace>(&OwnPlace, bytes, out)
+    }
+
+    /// Writes the attribute of this kind whose value is the canonical text of those attributes of a list that have
+    /// number 1, as `canon_nested` does.
+    final fn canon_nested_picked(kind: u16, bytes: &[u8], out: &mut [u8]) -> Option<usize>
+    where
+        Self: Sized,
+        requires accepted { IsOk ((picked grammar).reads bytes.now) }
+        requires room { growth_per_byte * (4 + length bytes.now) ≤ length out.old }
+        ensures { Canonical (λ vs. canon (record { kind = kind; payload = canons Self.frame vs })) (λ vs. (length (canons Self.frame vs) ≤ most_payload) × AllFit Self.fits Self.frame vs) ((picked grammar).reads bytes.now) out.old out.new result }
+    {
+        canon_nested_picked_members::<Self, OwnPlace>(&OwnPlace, kind, bytes, out)
+    }
+}
+
+/// The one place of a type of values that has no other.
+#[derive(Debug, Clone, Copy, Drop)]
+pub struct OwnPlace;
+
+impl<V: NlaRead> Place<V> for OwnPlace {
+    ghost grammar = { λ place. V.NlaRead.grammar };
+
+    fn parse(&self, alloc: Global, buffer: &NlaBuffer<'_>) -> Result<V, DecodeError> {
+        <V as NlaRead>::parse(alloc, buffer)
+    }
+
+    fn check(&self, buffer: &NlaBuffer<'_>) -> Result<(), DecodeError> {
+        <V as NlaRead>::check(buffer)
+    }
+
+    fn canon(&self, buffer: &NlaBuffer<'_>, out: &mut [u8]) -> Option<usize> {
+        <V as NlaRead>::canon(buffer, out)
+    }
+
+    ghost agrees = { λ place. V.NlaRead.agrees };
+
+    ghost no_memory = { λ place. V.NlaRead.no_memory };
+
+    ghost bounded = { λ place. V.NlaRead.bounded };
+}

@@ -1,0 +1,50 @@
+//! Texts as payloads: UTF-8, which may end in one NUL.
+
+ghost use Rattle.std.specs.Prelude.{◌≡◌, ◌⊎◌, MatchResult, IfOk, IfErr};
+ghost use Rattle.nla_wire.specs.Payloads.{text, IsTextOf};
+ghost use Rattle.nla_wire.specs.Gives.{Gives, Checks};
+ghost use Rattle.nla_wire.specs.declared.error.Cause.TheVariants.{OutOfMemory, NotUtf8};
+
+use crate::error::{Cause, DecodeError};
+use crate::values::Text;
+use std::alloc::Global;
+use std::str;
+
+/// The bytes without one NUL at their end, if they have one.
+pub(crate) fn without_nul(bytes: &[u8]) -> &[u8]
+    ensures { IsTextOf bytes.now result.now }
+{
+    match bytes {
+        [front @ .., 0] => front,
+        _ => bytes,
+    }
+}
+
+fn not_utf8() -> DecodeError
+    ensures { result.cause ≡ NotUtf8 }
+{
+    DecodeError::new("text", Cause::NotUtf8)
+}
+
+/// Reads a text: one NUL at the end is dropped, and the rest has to be UTF-8, else `NotUtf8`. The empty payload is the
+/// empty text.
+pub fn parse_string(alloc: Global, bytes: &[u8]) -> Result<Text, DecodeError>
+    ensures means { IfOk result (text.means bytes.now) }
+    ensures refused { IfErr result (λ e. (e.cause ≡ OutOfMemory) ⊎ text.bad bytes.now e.cause) }
+    ensures reads { Gives result (text.reads bytes.now) }
+{
+    match str::from_utf8(without_nul(bytes)) {
+        Ok(text) => Text::from_str(alloc, text),
+        Err(_) => Err(not_utf8()),
+    }
+}
+
+/// Whether a payload is a text, with no memory taken: `Ok` where `parse_string` reads it, else `NotUtf8`.
+pub fn check_string(bytes: &[u8]) -> Result<(), DecodeError>
+    ensures { Checks result (text.reads bytes.now) }
+{
+    match str::from_utf8(without_nul(bytes)) {
+        Ok(_) => Ok(()),
+        Err(_) => Err(not_utf8()),
+    }
+}

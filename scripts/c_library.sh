@@ -1,0 +1,19 @@
+#!/bin/sh
+# Proves and builds the library for programs in C, out/liblink.a, and prints where it is. It holds the exported functions
+# and the toolchain's calls of malloc, realloc and free.
+set -eu
+top=$(cd "$(dirname "$0")/.." && pwd)
+kit=$(dirname "$(dirname "$(readlink -f "$(command -v rt)")")")
+mkdir -p "$top/out"
+cd "$top/crates/link_c"
+rt lib > "$top/out/link_c.log" 2>&1 || { tail -20 "$top/out/link_c.log" >&2; exit 1; }
+cd "$top/out"
+rm -f liblink.a
+ar -M <<END
+create liblink.a
+addlib ../crates/link_c/out/liblink_c.a
+addlib $kit/c/liblibc_c.a
+save
+end
+END
+echo "$top/out/liblink.a"

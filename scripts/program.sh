@@ -1,0 +1,44 @@
+#!/usr/bin/env bash
+# Runs the built program where a read, a write or a growth fails, and looks at its status and its line.
+set -euo pipefail
+program=$(cd "$(dirname "$0")/.." && pwd)/crates/linkwire/out/linkwire
+folder=$(mktemp -d)
+trap 'rm -rf "$folder"' EXIT
+
+# wants NAME STATUS OUTPUT ERRORS: what the last run of NAME must have left
+wants() {
+    if [ "$status" != "$2" ] || [ "$(cat "$folder/out")" != "$3" ] || [ "$(cat "$folder/err")" != "$4" ]; then
+        echo "program: $1: status $status" >&2
+        head -c 300 "$folder/out" "$folder/err" >&2
+        exit 1
+    fi
+    echo "program: $1: ok"
+}
+
+: >"$folder/out"
+status=0; "$program" <"$folder" >"$folder/out" 2>"$folder/err" || status=$?
+wants "a read that fails" 1 "" "linkwire: read failed"
+
+status=0; echo 0 | "$program" >/dev/full 2>"$folder/err" || status=$?
+wants "a write that fails" 1 "" "linkwire: write failed"
+
+status=0; echo 0 | "$program" >&- 2>"$folder/err" || status=$?
+wants "a closed output" 1 "" "linkwire: write failed"
+
+status=0
+(ulimit -v 40000; { echo 0; head -c 60000000 /dev/zero | tr '\0' 0; } | "$program" >"$folder/out" 2>"$folder/err") || status=$?
+wants "a growth that fails" 1 nothex "linkwire: out of memory"
+
+status=0; printf '0\n\n0' | "$program" >"$folder/out" 2>"$folder/err" || status=$?
+wants "a whole run" 0 "$(printf 'nothex\nrefused\nnothex')" ""
+
+# each line is answered before the next is given
+coproc RUN { "$program"; }
+for line in 0 00 zz; do
+    echo "$line" >&"${RUN[1]}"
+    if ! read -r -t 10 answer <&"${RUN[0]}"; then
+        echo "program: no answer to $line before the next line" >&2
+        exit 1
+    fi
+done
+echo "program: answers before the next line: ok"
