@@ -1,5 +1,5 @@
 -- The laws of messages.
-use Rattle.std.proofs.Common.{◌≡◌, ◌≢◌, ℕ, ◌+◌, ◌%◌, ◌^◌, ◌<◌, ◌==◌, List, [], ◌∷◌, ◌++◌, Bool, true, false, length, drop, refl, sym, ap, ◌∙◌, subst, inl, inr}
+use Rattle.std.proofs.Common.{arith, ◌≡◌, ◌≢◌, ℕ, ◌+◌, ◌%◌, ◌^◌, ◌<◌, ◌==◌, List, [], ◌∷◌, ◌++◌, Bool, true, false, length, drop, refl, sym, ap, ◌∙◌, subst, inl, inr}
 use Rattle.std.specs.List.{AllByRecursion}
 use Rattle.std.proofs.lemmas.Bool.Decides.{eqb_tells}
 use Rattle.std.proofs.Math.Seq.{drop-append_seam}
@@ -11,6 +11,14 @@ use Rattle.nla_wire.proofs.Joined.{list_join, list_parts}
 use Rattle.nla_wire.proofs.Converse.{list_members}
 use Rattle.nla_wire.proofs.Lists.{list_agrees}
 use Rattle.link_vals.specs.declared.address_family.AddressFamily.{AddressFamily}
+use Rattle.link_recs.specs.StatsFields.{stats_size, stats_of}
+use Rattle.link_recs.specs.Stats64Fields.{stats64_size, stats64_of}
+use Rattle.link_recs.specs.MapFields.{map_size, map_of}
+use Rattle.link_recs.proofs.StatsLemmas.{stats_zeros, stats_longer}
+use Rattle.link_recs.proofs.Stats64Lemmas.{stats64_zeros, stats64_longer}
+use Rattle.link_recs.proofs.MapLemmas.{map_longer}
+use Rattle.link_afspec.specs.PlaceLaws.{ZerosAdded, LongerIgnored}
+use Rattle.link_afspec.proofs.Lawed.{filled_zeros, filled_longer, sized_longer, zeros_at, longer_at}
 use Rattle.link_msg.specs.Header.{header_size, header_bytes}
 use Rattle.link_msg.specs.Values.{attribute_frame, AttributeFits, HasPorts}
 use Rattle.link_msg.specs.Places.{attribute_place, number_rows, other_rows, other_place}
@@ -71,10 +79,35 @@ number_kept family f v none means = unlisted (number f) number_rows (other_place
 pub foreign_kept : ForeignKept
 foreign_kept family f v no_number no_other means = ap attribute_frame (other_kept family f v no_other (number_kept family f v no_number means))
 
+-- ** records that are filled up, and records with bytes behind them
+
+pub stats_zeros_added : (family : AddressFamily) → ZerosAdded (attribute_place family).means 7
+unfolding attribute_place
+stats_zeros_added family = zeros_at number_rows (other_place family) 7 (λ kind. filled_zeros Attributes.Stats stats_of stats_zeros)
+
+pub stats_longer_ignored : (family : AddressFamily) → LongerIgnored (attribute_place family).means 7 stats_size
+unfolding attribute_place
+stats_longer_ignored family = longer_at number_rows (other_place family) 7 stats_size (λ kind p more v long. filled_longer Attributes.Stats stats_size stats_of stats_longer p more long v)
+
+pub stats64_zeros_added : (family : AddressFamily) → ZerosAdded (attribute_place family).means 23
+unfolding attribute_place
+stats64_zeros_added family = zeros_at number_rows (other_place family) 23 (λ kind. filled_zeros Attributes.Stats64 stats64_of stats64_zeros)
+
+pub stats64_longer_ignored : (family : AddressFamily) → LongerIgnored (attribute_place family).means 23 stats64_size
+unfolding attribute_place
+stats64_longer_ignored family = longer_at number_rows (other_place family) 23 stats64_size (λ kind p more v long. filled_longer Attributes.Stats64 stats64_size stats64_of stats64_longer p more long v)
+
+pub map_longer_ignored : (family : AddressFamily) → LongerIgnored (attribute_place family).means 14 map_size
+unfolding attribute_place
+map_longer_ignored family = longer_at number_rows (other_place family) 14 map_size (λ kind p more v long. sized_longer Attributes.Map map_size map_of map_longer p more long v)
+
 -- ** what its own text means holds no empty list of ports
 
 ports_of : (family : AddressFamily) (v : LinkAttribute) → (attribute_place family).means (attribute_frame v) v → HasPorts v
-ports_of family v means = tt
+unfolding attribute_place other_place
+ports_of family (Attributes.VfPorts []) means = absurd (omega (arith, means.1.0))
+ports_of family (Attributes.VfPorts (port ∷ ports)) means = omega arith
+ports_of family _ means = tt
 
 all_ports : (family : AddressFamily) (vs : List LinkAttribute) → AllByRecursion (λ v. (attribute_place family).means (attribute_frame v) v) vs → AllByRecursion HasPorts vs
 all_ports family [] means = tt

@@ -4,3 +4,5 @@ pub mod Answering
 pub mod ReadingBack
 pub mod LawProofs
 pub mod Writing
+pub mod Payloads
+pub mod EmptyPorts

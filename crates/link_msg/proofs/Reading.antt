@@ -1,6 +1,10 @@
 -- The reader of messages answers what the relations say.
 use Rattle.std.proofs.Common.{◌≡◌, ℕ, ◌+◌, ◌<◌, ◌≤◌, ◌⊎◌, inl, inr, List, [], ◌∷◌, ◌++◌, length, take, drop, refl, sym, ap, ◌∙◌, subst, arith, length-append, lt-ltb, le-ltb, Result, Ok, Err}
-use Rattle.std.specs.Prelude.{nat_lt, if◌then◌else◌}
+use Rattle.std.specs.Prelude.{nat_lt, if◌then◌else◌, Option, Some, None, IfOk, IfSome}
+use Rattle.std.specs.Result.{result_ok}
+use Rattle.nla_wire.specs.declared.error.DecodeError.{DecodeError}
+use Rattle.link_recs.specs.Stats64Fields.{stats64_size}
+use Rattle.link_msg.specs.Values.{attribute_frame}
 use Rattle.std.proofs.lemmas.Bool.Decides.{leb_tells}
 use Rattle.std.proofs.lemmas.List.{take-append-drop, length-take-le}
 use Rattle.std.proofs.Math.Seq.{take-append_seam, drop-append_seam}
@@ -37,6 +41,14 @@ read_split h c size =
     let front : take header_size (h ++ c) ≡ h = ap (λ n. take n (h ++ c)) (sym size) ∙ take-append_seam h c in
     let behind : drop header_size (h ++ c) ≡ c = ap (λ n. drop n (h ++ c)) (sym size) ∙ drop-append_seam h c in
     read_long (h ++ c) long ∙ ap (λ x. read_behind (header_of x) (drop header_size (h ++ c))) front ∙ ap (read_behind (header_of h)) behind
+
+-- ** values that take no memory
+
+pub plain_short : (r : Result (Option LinkAttribute) DecodeError) (v : LinkAttribute) → result_ok r ≡ Some (Some v)
+    → IfOk r (λ value. IfSome value (λ w. length (attribute_frame w).payload ≤ stats64_size)) → length (attribute_frame v).payload ≤ stats64_size
+plain_short (Ok (Some w)) v is short = let same : w ≡ v = cc in subst (λ x. length (attribute_frame x).payload ≤ stats64_size) same short
+plain_short (Ok None) v is short = absurd cc
+plain_short (Err e) v is short = absurd cc
 
 -- ** what is behind the header
 

@@ -1,10 +1,11 @@
 -- What `canonical` and its kin answer of a byte string.
-use Rattle.std.specs.Prelude.{◌≡◌, ◌≢◌, ℕ, ◌+◌, ◌-◌, ◌*◌, ◌≤◌, ◌⊎◌, ◌↔◌, Bool, IsTrue, MatchBool, Result, Ok, Err, List, length}
+use Rattle.std.specs.Prelude.{◌≡◌, ◌≢◌, ℕ, ◌+◌, ◌-◌, ◌*◌, ◌<◌, ◌≤◌, ◌⊎◌, ◌↔◌, Bool, IsTrue, MatchBool, Result, Ok, Err, List, [], length}
 use Rattle.nla_wire.specs.Sizes.{growth_per_byte}
 use Rattle.nla_wire.specs.Canon.{Writes}
 use Rattle.nla_wire.specs.declared.error.Cause.{Cause}
 use Rattle.nla_wire.specs.declared.error.Cause.TheVariants.{OutOfMemory}
 use Rattle.std.specs.List.{AllByRecursion}
+use Rattle.link_vf.specs.declared.port_list.LinkVfPort.{LinkVfPort}
 use Rattle.link_msg.specs.Header.{header_size}
 use Rattle.link_msg.specs.Values.{HasPorts}
 use Rattle.link_msg.specs.Messages.{Means, Refused, IsRefused, message_text, MessageFits, NoEmptyPorts}
@@ -64,6 +65,16 @@ IsWritten b old new (Err (Refusals.Decode e)) = IsRefusal b (Refusals.Decode e) 
 IsWritten b old new (Err Refusals.DoesNotFit) = IsUnfit b
 IsWritten b old new (Err Refusals.EmptyVfPorts) = HasEmptyPorts b
 IsWritten b old new (Err Refusals.OutOfMemory) = ⊥
+
+-- whether no port is read
+abbrev pub NoneTold : Result (List LinkVfPort) Cause → Bool → Type 0
+NoneTold (Ok ports) answer = MatchBool answer (ports ≡ []) (0 < length ports)
+NoneTold (Err c) answer = Unit {0}
+
+-- whether the attribute that is read is an empty list of ports
+abbrev pub PortTold : Result LinkAttribute Cause → Bool → Type 0
+PortTold (Ok v) answer = MatchBool answer (HasPorts v → ⊥) (HasPorts v)
+PortTold (Err c) answer = Unit {0}
 
 -- whether the attributes that are read hold an empty list of ports
 abbrev pub PortsTold : Result (List LinkAttribute) Cause → Bool → Type 0

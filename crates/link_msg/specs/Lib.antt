@@ -4,6 +4,7 @@ pub mod HeaderExact
 pub mod Values
 pub mod Content
 pub mod Places
+pub mod Plain
 pub mod Messages
 pub mod MessageExact
 pub mod CanonErrors

@@ -7,27 +7,165 @@ ghost use Rattle.nla_wire.specs.Canon.{canon, canons, AllFit, Canonical};
 ghost use Rattle.nla_wire.specs.Gives.{Fails, Gives, Checks};
 ghost use Rattle.nla_wire.specs.declared.error.Cause.TheVariants.{OutOfMemory};
 
-use link_nest::Prop;
-use link_vals::AddressFamily;
+use crate::family::{
+    canon_af_spec, canon_proto_info, check_af_spec, check_proto_info, parse_af_spec,
+    parse_proto_info,
+};
+use crate::payload::{
+    canon_event, canon_mask, canon_ports, canon_some, check_mask, check_ports, check_some,
+    clone_mask, parse_mask, parse_ports, parse_some, truth_byte,
+};
+use crate::ports::holds_no_port;
+use link_afspec::{AfSpecBridge, AfSpecUnspec, LinkProtoInfoBridge, LinkProtoInfoInet6};
+use link_nest::{
+    DevlinkPort, DpllPin, LinkInfo, LinkProtocolDownReason, LinkXdp, Prop, WirelessEvent,
+};
+use link_recs::{Map, Stats, Stats64};
+use link_vals::{AddressFamily, LinkEvent, LinkExtentMask, LinkMode, LinkPhysId, State};
+use link_vf::{LinkVfInfo, LinkVfPort, VfPort};
 use nla_wire::{
     Bytes, CloneIn, DecodeError, DefaultNla, Exact, List, NLA_F_NESTED, Nla, NlaBuffer, NlaRead,
-    Place, Text, canon_bytes, canon_members, canon_text, canon_u32, check_members, check_string,
-    fill_bytes, fill_text, nlas_buffer_len, nlas_fill, nlas_fit, parse_members, parse_string,
-    parse_u32,
+    NlasIterator, Place, Text, canon_bytes, canon_members, canon_of, canon_text, check_members,
+    check_string, fill_bytes, fill_text, nlas_buffer_len, nlas_fill, nlas_fit, parse_i32,
+    parse_members, parse_string, parse_u8, parse_u32,
 };
 use std::alloc::Global;
 
-/// An attribute of a link message (linux/if_link.h, IFLA_*).
+/// An attribute of a link message (linux/if_link.h, IFLA_*). Numbers are in host order.
 #[derive(Debug, Drop, PartialEq, Eq)]
 pub enum LinkAttribute {
     /// IFLA_ADDRESS, 1: the hardware address, bytes.
     Address(Bytes),
+    /// IFLA_BROADCAST, 2: the broadcast address, bytes.
+    Broadcast(Bytes),
     /// IFLA_IFNAME, 3: the name, a text with one NUL.
     IfName(Text),
     /// IFLA_MTU, 4: the largest size of a packet, in bytes.
     Mtu(u32),
-    /// IFLA_PROP_LIST, 52: alternative names; written with the nested flag.
+    /// IFLA_LINK, 5: the index of the link below.
+    Link(u32),
+    /// IFLA_QDISC, 6: the queueing discipline, a text.
+    Qdisc(Text),
+    /// IFLA_STATS, 7: counters of 32 bits, a record of 96 bytes. A shorter one is filled up with zeros.
+    Stats(Stats),
+    /// IFLA_MASTER, 10: the index of the link that this one belongs to.
+    Controller(u32),
+    /// IFLA_WIRELESS, 11: an event of the wireless extensions.
+    Wireless(WirelessEvent),
+    /// IFLA_PROTINFO, 12, of the family AF_BRIDGE: a list that is not empty; written with the nested flag.
+    ProtoInfoBridge(List<LinkProtoInfoBridge>),
+    /// IFLA_PROTINFO, 12, of the family AF_INET6: a list that is not empty; written with the nested flag.
+    ProtoInfoInet6(List<LinkProtoInfoInet6>),
+    /// IFLA_PROTINFO, 12, of any other family: kept as it is, with its flags.
+    ProtoInfoUnknown(DefaultNla),
+    /// IFLA_TXQLEN, 13: the length of the transmit queue, in packets.
+    TxQueueLen(u32),
+    /// IFLA_MAP, 14: addresses of the device, a record of 32 bytes. A shorter one is refused.
+    Map(Map),
+    /// IFLA_OPERSTATE, 16: the operational state, one byte.
+    OperState(State),
+    /// IFLA_LINKMODE, 17: the mode of the link, one byte.
+    Mode(LinkMode),
+    /// IFLA_LINKINFO, 18: the kind of the link and its data, a list that is not empty.
+    LinkInfo(List<LinkInfo>),
+    /// IFLA_NET_NS_PID, 19: a process whose network namespace is meant.
+    NetNsPid(u32),
+    /// IFLA_IFALIAS, 20: an alias, a text.
+    IfAlias(Text),
+    /// IFLA_NUM_VF, 21: how many virtual functions there are.
+    NumVf(u32),
+    /// IFLA_VFINFO_LIST, 22: virtual functions. Entries with another number than 1 are dropped.
+    VfInfoList(List<LinkVfInfo>),
+    /// IFLA_STATS64, 23: counters of 64 bits, a record of 200 bytes. A shorter one is filled up with zeros.
+    Stats64(Stats64),
+    /// IFLA_VF_PORTS, 24: ports of virtual functions, a payload that is not empty. Entries with another number than 1 are
+    /// dropped, so that the list may be empty; it can not be written then.
+    VfPorts(List<LinkVfPort>),
+    /// IFLA_PORT_SELF, 25: the port of the interface itself, a list that is not empty.
+    PortSelf(LinkVfPort),
+    /// IFLA_AF_SPEC, 26, of the family AF_BRIDGE: settings of a bridge, a list that is not empty.
+    AfSpecBridge(List<AfSpecBridge>),
+    /// IFLA_AF_SPEC, 26, of the family AF_UNSPEC: settings by family, a list.
+    AfSpecUnspec(List<AfSpecUnspec>),
+    /// IFLA_AF_SPEC, 26, of any other family: bytes.
+    AfSpecUnknown(Bytes),
+    /// IFLA_GROUP, 27: the group of the link.
+    Group(u32),
+    /// IFLA_NET_NS_FD, 28: a descriptor of a network namespace.
+    NetNsFd(i32),
+    /// IFLA_EXT_MASK, 29: what more is asked for, flags in a number of four bytes.
+    ExtMask(List<LinkExtentMask>),
+    /// IFLA_PROMISCUITY, 30: how often promiscuous mode was asked for.
+    Promiscuity(u32),
+    /// IFLA_NUM_TX_QUEUES, 31.
+    NumTxQueues(u32),
+    /// IFLA_NUM_RX_QUEUES, 32.
+    NumRxQueues(u32),
+    /// IFLA_CARRIER, 33: 1 where there is a carrier.
+    Carrier(u8),
+    /// IFLA_PHYS_PORT_ID, 34: the id of the port, at most 32 bytes.
+    PhysPortId(LinkPhysId),
+    /// IFLA_CARRIER_CHANGES, 35.
+    CarrierChanges(u32),
+    /// IFLA_PHYS_SWITCH_ID, 36: the id of the switch, at most 32 bytes.
+    PhysSwitchId(LinkPhysId),
+    /// IFLA_LINK_NETNSID, 37: the id of the network namespace of the link below.
+    LinkNetNsId(i32),
+    /// IFLA_PHYS_PORT_NAME, 38: the name of the port, a text.
+    PhysPortName(Text),
+    /// IFLA_PROTO_DOWN, 39: 1 where a protocol holds the link down.
+    ProtoDown(u8),
+    /// IFLA_GSO_MAX_SEGS, 40.
+    GsoMaxSegs(u32),
+    /// IFLA_GSO_MAX_SIZE, 41.
+    GsoMaxSize(u32),
+    /// IFLA_XDP, 43: the attached program, a list that is not empty.
+    Xdp(List<LinkXdp>),
+    /// IFLA_EVENT, 44: why the link announced itself, four bytes.
+    Event(LinkEvent),
+    /// IFLA_NEW_NETNSID, 45.
+    NewNetnsId(i32),
+    /// IFLA_IF_NETNSID, 46, also IFLA_TARGET_NETNSID.
+    IfNetnsId(i32),
+    /// IFLA_CARRIER_UP_COUNT, 47.
+    CarrierUpCount(u32),
+    /// IFLA_CARRIER_DOWN_COUNT, 48.
+    CarrierDownCount(u32),
+    /// IFLA_NEW_IFINDEX, 49.
+    NewIfIndex(i32),
+    /// IFLA_MIN_MTU, 50: in bytes.
+    MinMtu(u32),
+    /// IFLA_MAX_MTU, 51: in bytes.
+    MaxMtu(u32),
+    /// IFLA_PROP_LIST, 52: alternative names, a list; written with the nested flag.
     PropList(List<Prop>),
+    /// IFLA_PERM_ADDRESS, 54: the permanent hardware address, bytes.
+    PermAddress(Bytes),
+    /// IFLA_PROTO_DOWN_REASON, 55: why a protocol holds the link down, a list.
+    ProtoDownReason(List<LinkProtocolDownReason>),
+    /// IFLA_PARENT_DEV_NAME, 56: the name of the device above, a text.
+    ParentDevName(Text),
+    /// IFLA_PARENT_DEV_BUS_NAME, 57: the name of its bus, a text.
+    ParentDevBusName(Text),
+    /// IFLA_GRO_MAX_SIZE, 58.
+    GroMaxSize(u32),
+    /// IFLA_TSO_MAX_SIZE, 59.
+    TsoMaxSize(u32),
+    /// IFLA_TSO_MAX_SEGS, 60.
+    TsoMaxSegs(u32),
+    /// IFLA_ALLMULTI, 61: how often all multicast packets were asked for.
+    AllMulticast(u32),
+    /// IFLA_DEVLINK_PORT, 62: the port of devlink, a list; written with the nested flag.
+    DevlinkPort(List<DevlinkPort>),
+    /// IFLA_GSO_IPV4_MAX_SIZE, 63.
+    GsoIpv4MaxSize(u32),
+    /// IFLA_GRO_IPV4_MAX_SIZE, 64.
+    GroIpv4MaxSize(u32),
+    /// IFLA_DPLL_PIN, 65: the pin of a clock, a list; written with the nested flag.
+    DpllPin(List<DpllPin>),
+    /// IFLA_NETNS_IMMUTABLE, 67: whether the link stays in its network namespace, one byte: 0 is false, all else true;
+    /// written 0 or 1.
+    NetnsImmutable(bool),
     /// A number that is not listed here.
     Other(DefaultNla),
 }
@@ -44,10 +182,70 @@ impl Nla for LinkAttribute {
     fn kind(&self) -> u16 {
         match self {
             LinkAttribute::Address(_) => 1,
+            LinkAttribute::Broadcast(_) => 2,
             LinkAttribute::IfName(_) => 3,
             LinkAttribute::Mtu(_) => 4,
+            LinkAttribute::Link(_) => 5,
+            LinkAttribute::Qdisc(_) => 6,
+            LinkAttribute::Stats(_) => 7,
+            LinkAttribute::Controller(_) => 10,
+            LinkAttribute::Wireless(_) => 11,
+            LinkAttribute::ProtoInfoBridge(_) => 12 | NLA_F_NESTED,
+            LinkAttribute::ProtoInfoInet6(_) => 12 | NLA_F_NESTED,
+            LinkAttribute::TxQueueLen(_) => 13,
+            LinkAttribute::Map(_) => 14,
+            LinkAttribute::OperState(_) => 16,
+            LinkAttribute::Mode(_) => 17,
+            LinkAttribute::LinkInfo(_) => 18,
+            LinkAttribute::NetNsPid(_) => 19,
+            LinkAttribute::IfAlias(_) => 20,
+            LinkAttribute::NumVf(_) => 21,
+            LinkAttribute::VfInfoList(_) => 22,
+            LinkAttribute::Stats64(_) => 23,
+            LinkAttribute::VfPorts(_) => 24,
+            LinkAttribute::PortSelf(_) => 25,
+            LinkAttribute::AfSpecBridge(_) => 26,
+            LinkAttribute::AfSpecUnspec(_) => 26,
+            LinkAttribute::AfSpecUnknown(_) => 26,
+            LinkAttribute::Group(_) => 27,
+            LinkAttribute::NetNsFd(_) => 28,
+            LinkAttribute::ExtMask(_) => 29,
+            LinkAttribute::Promiscuity(_) => 30,
+            LinkAttribute::NumTxQueues(_) => 31,
+            LinkAttribute::NumRxQueues(_) => 32,
+            LinkAttribute::Carrier(_) => 33,
+            LinkAttribute::PhysPortId(_) => 34,
+            LinkAttribute::CarrierChanges(_) => 35,
+            LinkAttribute::PhysSwitchId(_) => 36,
+            LinkAttribute::LinkNetNsId(_) => 37,
+            LinkAttribute::PhysPortName(_) => 38,
+            LinkAttribute::ProtoDown(_) => 39,
+            LinkAttribute::GsoMaxSegs(_) => 40,
+            LinkAttribute::GsoMaxSize(_) => 41,
+            LinkAttribute::Xdp(_) => 43,
+            LinkAttribute::Event(_) => 44,
+            LinkAttribute::NewNetnsId(_) => 45,
+            LinkAttribute::IfNetnsId(_) => 46,
+            LinkAttribute::CarrierUpCount(_) => 47,
+            LinkAttribute::CarrierDownCount(_) => 48,
+            LinkAttribute::NewIfIndex(_) => 49,
+            LinkAttribute::MinMtu(_) => 50,
+            LinkAttribute::MaxMtu(_) => 51,
             LinkAttribute::PropList(_) => 52 | NLA_F_NESTED,
-            LinkAttribute::Other(nla) => nla.kind(),
+            LinkAttribute::PermAddress(_) => 54,
+            LinkAttribute::ProtoDownReason(_) => 55,
+            LinkAttribute::ParentDevName(_) => 56,
+            LinkAttribute::ParentDevBusName(_) => 57,
+            LinkAttribute::GroMaxSize(_) => 58,
+            LinkAttribute::TsoMaxSize(_) => 59,
+            LinkAttribute::TsoMaxSegs(_) => 60,
+            LinkAttribute::AllMulticast(_) => 61,
+            LinkAttribute::DevlinkPort(_) => 62 | NLA_F_NESTED,
+            LinkAttribute::GsoIpv4MaxSize(_) => 63,
+            LinkAttribute::GroIpv4MaxSize(_) => 64,
+            LinkAttribute::DpllPin(_) => 65 | NLA_F_NESTED,
+            LinkAttribute::NetnsImmutable(_) => 67,
+            LinkAttribute::ProtoInfoUnknown(nla) | LinkAttribute::Other(nla) => nla.kind(),
         }
     }
 
@@ -59,12 +257,35 @@ impl Nla for LinkAttribute {
         self.len()
     }
 
+    #[tactic(auto, using(link_recs::proofs::StatsLemmas::length_stats_bytes, link_recs::proofs::Stats64Lemmas::length_stats64_bytes, link_recs::proofs::MapLemmas::length_map_bytes))]
     fn fill_value(&self, buffer: &mut [u8]) -> usize {
         match self.content() {
             Content::Bytes(bytes) => fill_bytes(buffer, bytes),
             Content::Text(text) => fill_text(buffer, text),
+            Content::U8(n) => fill_bytes(buffer, &[n]),
             Content::U32(n) => fill_bytes(buffer, &n.to_le_bytes()),
-            Content::Props(props) => nlas_fill(props, buffer),
+            Content::I32(n) => fill_bytes(buffer, &n.to_le_bytes()),
+            Content::Id(id) => fill_bytes(buffer, &id.id[..id.len]),
+            Content::Stats(stats) => stats.fill(buffer),
+            Content::Stats64(stats) => stats.fill(buffer),
+            Content::Map(map) => map.fill(buffer),
+            Content::Mask(flags) => {
+                fill_bytes(buffer, &LinkExtentMask::sum(flags).to_le_bytes())
+            }
+            Content::Event(event) => event.fill(buffer),
+            Content::Port(members) => nlas_fill(members, buffer),
+            Content::Infos(members) => nlas_fill(members, buffer),
+            Content::Functions(members) => nlas_fill(members, buffer),
+            Content::Ports(members) => nlas_fill(members, buffer),
+            Content::Xdps(members) => nlas_fill(members, buffer),
+            Content::Props(members) => nlas_fill(members, buffer),
+            Content::Reasons(members) => nlas_fill(members, buffer),
+            Content::DevlinkPorts(members) => nlas_fill(members, buffer),
+            Content::DpllPins(members) => nlas_fill(members, buffer),
+            Content::BridgeInfos(members) => nlas_fill(members, buffer),
+            Content::Inet6Infos(members) => nlas_fill(members, buffer),
+            Content::Bridges(members) => nlas_fill(members, buffer),
+            Content::Unspecs(members) => nlas_fill(members, buffer),
         }
     }
 }
@@ -74,8 +295,28 @@ impl Nla for LinkAttribute {
 pub(crate) enum Content<'a> {
     Bytes(&'a [u8]),
     Text(&'a str),
+    U8(u8),
     U32(u32),
+    I32(i32),
+    Id(&'a LinkPhysId),
+    Stats(&'a Stats),
+    Stats64(&'a Stats64),
+    Map(&'a Map),
+    Mask(&'a [LinkExtentMask]),
+    Event(&'a WirelessEvent),
+    Port(&'a [VfPort]),
+    Infos(&'a [LinkInfo]),
+    Functions(&'a [LinkVfInfo]),
+    Ports(&'a [LinkVfPort]),
+    Xdps(&'a [LinkXdp]),
     Props(&'a [Prop]),
+    Reasons(&'a [LinkProtocolDownReason]),
+    DevlinkPorts(&'a [DevlinkPort]),
+    DpllPins(&'a [DpllPin]),
+    BridgeInfos(&'a [LinkProtoInfoBridge]),
+    Inet6Infos(&'a [LinkProtoInfoInet6]),
+    Bridges(&'a [AfSpecBridge]),
+    Unspecs(&'a [AfSpecUnspec]),
 }
 
 impl LinkAttribute {
@@ -88,11 +329,71 @@ impl LinkAttribute {
         ensures inside { ContentFits result ↔ InsideFits self.now }
     {
         match self {
-            LinkAttribute::Address(bytes) => Content::Bytes(bytes.as_slice()),
-            LinkAttribute::IfName(text) => Content::Text(text.as_str()),
-            LinkAttribute::Mtu(n) => Content::U32(*n),
-            LinkAttribute::PropList(props) => Content::Props(props.as_slice()),
-            LinkAttribute::Other(nla) => Content::Bytes(nla.value()),
+            LinkAttribute::Address(bytes)
+            | LinkAttribute::Broadcast(bytes)
+            | LinkAttribute::AfSpecUnknown(bytes)
+            | LinkAttribute::PermAddress(bytes) => Content::Bytes(bytes.as_slice()),
+            LinkAttribute::IfName(text)
+            | LinkAttribute::Qdisc(text)
+            | LinkAttribute::IfAlias(text)
+            | LinkAttribute::PhysPortName(text)
+            | LinkAttribute::ParentDevName(text)
+            | LinkAttribute::ParentDevBusName(text) => Content::Text(text.as_str()),
+            LinkAttribute::Carrier(n) | LinkAttribute::ProtoDown(n) => Content::U8(*n),
+            LinkAttribute::OperState(state) => Content::U8(u8::from(*state)),
+            LinkAttribute::Mode(mode) => Content::U8(u8::from(*mode)),
+            LinkAttribute::NetnsImmutable(value) => Content::U8(truth_byte(*value)),
+            LinkAttribute::Mtu(n)
+            | LinkAttribute::Link(n)
+            | LinkAttribute::Controller(n)
+            | LinkAttribute::TxQueueLen(n)
+            | LinkAttribute::NetNsPid(n)
+            | LinkAttribute::NumVf(n)
+            | LinkAttribute::Group(n)
+            | LinkAttribute::Promiscuity(n)
+            | LinkAttribute::NumTxQueues(n)
+            | LinkAttribute::NumRxQueues(n)
+            | LinkAttribute::CarrierChanges(n)
+            | LinkAttribute::GsoMaxSegs(n)
+            | LinkAttribute::GsoMaxSize(n)
+            | LinkAttribute::CarrierUpCount(n)
+            | LinkAttribute::CarrierDownCount(n)
+            | LinkAttribute::MinMtu(n)
+            | LinkAttribute::MaxMtu(n)
+            | LinkAttribute::GroMaxSize(n)
+            | LinkAttribute::TsoMaxSize(n)
+            | LinkAttribute::TsoMaxSegs(n)
+            | LinkAttribute::AllMulticast(n)
+            | LinkAttribute::GsoIpv4MaxSize(n)
+            | LinkAttribute::GroIpv4MaxSize(n) => Content::U32(*n),
+            LinkAttribute::Event(event) => Content::U32(u32::from(*event)),
+            LinkAttribute::NetNsFd(n)
+            | LinkAttribute::LinkNetNsId(n)
+            | LinkAttribute::NewNetnsId(n)
+            | LinkAttribute::IfNetnsId(n)
+            | LinkAttribute::NewIfIndex(n) => Content::I32(*n),
+            LinkAttribute::PhysPortId(id) | LinkAttribute::PhysSwitchId(id) => Content::Id(id),
+            LinkAttribute::Stats(stats) => Content::Stats(stats),
+            LinkAttribute::Stats64(stats) => Content::Stats64(stats),
+            LinkAttribute::Map(map) => Content::Map(map),
+            LinkAttribute::ExtMask(flags) => Content::Mask(flags.as_slice()),
+            LinkAttribute::Wireless(event) => Content::Event(event),
+            LinkAttribute::PortSelf(port) => Content::Port(port.0.as_slice()),
+            LinkAttribute::LinkInfo(members) => Content::Infos(members.as_slice()),
+            LinkAttribute::VfInfoList(members) => Content::Functions(members.as_slice()),
+            LinkAttribute::VfPorts(members) => Content::Ports(members.as_slice()),
+            LinkAttribute::Xdp(members) => Content::Xdps(members.as_slice()),
+            LinkAttribute::PropList(members) => Content::Props(members.as_slice()),
+            LinkAttribute::ProtoDownReason(members) => Content::Reasons(members.as_slice()),
+            LinkAttribute::DevlinkPort(members) => Content::DevlinkPorts(members.as_slice()),
+            LinkAttribute::DpllPin(members) => Content::DpllPins(members.as_slice()),
+            LinkAttribute::ProtoInfoBridge(members) => Content::BridgeInfos(members.as_slice()),
+            LinkAttribute::ProtoInfoInet6(members) => Content::Inet6Infos(members.as_slice()),
+            LinkAttribute::AfSpecBridge(members) => Content::Bridges(members.as_slice()),
+            LinkAttribute::AfSpecUnspec(members) => Content::Unspecs(members.as_slice()),
+            LinkAttribute::ProtoInfoUnknown(nla) | LinkAttribute::Other(nla) => Content::Bytes(
+                nla.value(),
+            ),
         }
     }
 
@@ -101,7 +402,22 @@ impl LinkAttribute {
         ensures { IsTrue result ↔ InsideFits self.now }
     {
         match self.content() {
-            Content::Props(props) => nlas_fit(props),
+            Content::Id(id) => id.fits(),
+            Content::Mask(flags) => LinkExtentMask::sum_fits(flags),
+            Content::Event(event) => event.fits(),
+            Content::Port(members) => nlas_fit(members),
+            Content::Infos(members) => nlas_fit(members),
+            Content::Functions(members) => nlas_fit(members),
+            Content::Ports(members) => nlas_fit(members),
+            Content::Xdps(members) => nlas_fit(members),
+            Content::Props(members) => nlas_fit(members),
+            Content::Reasons(members) => nlas_fit(members),
+            Content::DevlinkPorts(members) => nlas_fit(members),
+            Content::DpllPins(members) => nlas_fit(members),
+            Content::BridgeInfos(members) => nlas_fit(members),
+            Content::Inet6Infos(members) => nlas_fit(members),
+            Content::Bridges(members) => nlas_fit(members),
+            Content::Unspecs(members) => nlas_fit(members),
             _ => true,
         }
     }
@@ -110,10 +426,14 @@ impl LinkAttribute {
     pub(crate) fn is_empty_ports(&self) -> bool
         ensures { MatchBool result (HasPorts self.now → ⊥) (HasPorts self.now) }
     {
-        false
+        match self {
+            LinkAttribute::VfPorts(ports) => ports.is_empty(),
+            _ => false,
+        }
     }
 
     /// The length of its value.
+    #[tactic(auto, using(link_recs::proofs::StatsLemmas::length_stats_bytes, link_recs::proofs::Stats64Lemmas::length_stats64_bytes, link_recs::proofs::MapLemmas::length_map_bytes))]
     fn len(&self) -> usize
         requires { InsideFits self.now }
         ensures { result ≡ length (attribute_frame self.now).payload }
@@ -121,19 +441,40 @@ impl LinkAttribute {
         match self.content() {
             Content::Bytes(bytes) => bytes.len(),
             Content::Text(text) => text.len() + 1,
-            Content::U32(_) => 4,
-            Content::Props(props) => nlas_buffer_len(props),
+            Content::U8(_) => 1,
+            Content::U32(_) | Content::I32(_) | Content::Mask(_) => 4,
+            Content::Id(id) => id.id[..id.len].len(),
+            Content::Stats(stats) => stats.buffer_len(),
+            Content::Stats64(stats) => stats.buffer_len(),
+            Content::Map(map) => map.buffer_len(),
+            Content::Event(event) => event.buffer_len(),
+            Content::Port(members) => nlas_buffer_len(members),
+            Content::Infos(members) => nlas_buffer_len(members),
+            Content::Functions(members) => nlas_buffer_len(members),
+            Content::Ports(members) => nlas_buffer_len(members),
+            Content::Xdps(members) => nlas_buffer_len(members),
+            Content::Props(members) => nlas_buffer_len(members),
+            Content::Reasons(members) => nlas_buffer_len(members),
+            Content::DevlinkPorts(members) => nlas_buffer_len(members),
+            Content::DpllPins(members) => nlas_buffer_len(members),
+            Content::BridgeInfos(members) => nlas_buffer_len(members),
+            Content::Inet6Infos(members) => nlas_buffer_len(members),
+            Content::Bridges(members) => nlas_buffer_len(members),
+            Content::Unspecs(members) => nlas_buffer_len(members),
         }
     }
 }
 
 impl LinkAttribute {
     ghost use Rattle.link_msg.specs.Places.{attribute_place, other_place};
+    ghost use Rattle.std.specs.Prelude.{IfSome};
+    ghost use Rattle.nla_wire.specs.Frames.{IsFrame};
+    ghost use Rattle.link_recs.specs.Stats64Fields.{stats64_size};
+    ghost use Rattle.link_msg.specs.Plain.{plain_answer};
     ghost use Rattle.link_msg.specs.Values.{attribute_frame, AttributeFits, Values};
-    ghost use Rattle.link_msg.specs.Canonical.{PortsTold};
+    ghost use Rattle.link_msg.specs.Canonical.{PortTold, PortsTold};
 
     /// Reads a frame under the header's family.
-    #[tactic(auto, unfolding(crate::specs::Places::attribute_place))]
     pub fn parse_with_param(
         alloc: Global,
         buffer: &NlaBuffer<'_>,
@@ -141,10 +482,60 @@ impl LinkAttribute {
     ) -> Result<LinkAttribute, DecodeError>
         ensures { Gives result ((attribute_place family).reads buffer.now) }
     {
+        match LinkAttribute::read_plain(buffer)? {
+            Some(attribute) => Ok(attribute),
+            None => LinkAttribute::parse_other(alloc, buffer, family),
+        }
+    }
+
+    /// The value of a frame, if its number is one of a number, an id or a record: no memory is taken.
+    #[tactic(auto, unfolding(crate::specs::Places::attribute_place), using(crate::proofs::Payloads::id_short, link_recs::proofs::StatsLemmas::length_stats_bytes, link_recs::proofs::Stats64Lemmas::length_stats64_bytes, link_recs::proofs::MapLemmas::length_map_bytes))]
+    fn read_plain(buffer: &NlaBuffer<'_>) -> Result<Option<LinkAttribute>, DecodeError>
+        ensures reads { (family : AddressFamily) → (attribute_place family).reads buffer.now ≡ plain_answer result ((other_place family).reads buffer.now) }
+        ensures short { IfOk result (λ value. IfSome value (λ v. length (attribute_frame v).payload ≤ stats64_size)) }
+    {
         let payload = buffer.value();
         match buffer.kind() {
-            4 => parse_u32(payload).map(LinkAttribute::Mtu),
-            _ => LinkAttribute::parse_other(alloc, buffer, family),
+            4 => parse_u32(payload).map(|n| Some(LinkAttribute::Mtu(n))),
+            5 => parse_u32(payload).map(|n| Some(LinkAttribute::Link(n))),
+            7 => Ok(Some(LinkAttribute::Stats(Stats::read_padded(payload)))),
+            10 => parse_u32(payload).map(|n| Some(LinkAttribute::Controller(n))),
+            13 => parse_u32(payload).map(|n| Some(LinkAttribute::TxQueueLen(n))),
+            14 => Map::parse(payload).map(|map| Some(LinkAttribute::Map(map))),
+            16 => parse_u8(payload).map(|n| Some(LinkAttribute::OperState(State::from(n)))),
+            17 => parse_u8(payload).map(|n| Some(LinkAttribute::Mode(LinkMode::from(n)))),
+            19 => parse_u32(payload).map(|n| Some(LinkAttribute::NetNsPid(n))),
+            21 => parse_u32(payload).map(|n| Some(LinkAttribute::NumVf(n))),
+            23 => Ok(Some(LinkAttribute::Stats64(Stats64::read_padded(payload)))),
+            27 => parse_u32(payload).map(|n| Some(LinkAttribute::Group(n))),
+            28 => parse_i32(payload).map(|n| Some(LinkAttribute::NetNsFd(n))),
+            30 => parse_u32(payload).map(|n| Some(LinkAttribute::Promiscuity(n))),
+            31 => parse_u32(payload).map(|n| Some(LinkAttribute::NumTxQueues(n))),
+            32 => parse_u32(payload).map(|n| Some(LinkAttribute::NumRxQueues(n))),
+            33 => parse_u8(payload).map(|n| Some(LinkAttribute::Carrier(n))),
+            34 => LinkPhysId::parse(payload).map(|id| Some(LinkAttribute::PhysPortId(id))),
+            35 => parse_u32(payload).map(|n| Some(LinkAttribute::CarrierChanges(n))),
+            36 => LinkPhysId::parse(payload).map(|id| Some(LinkAttribute::PhysSwitchId(id))),
+            37 => parse_i32(payload).map(|n| Some(LinkAttribute::LinkNetNsId(n))),
+            39 => parse_u8(payload).map(|n| Some(LinkAttribute::ProtoDown(n))),
+            40 => parse_u32(payload).map(|n| Some(LinkAttribute::GsoMaxSegs(n))),
+            41 => parse_u32(payload).map(|n| Some(LinkAttribute::GsoMaxSize(n))),
+            44 => LinkEvent::parse(payload).map(|event| Some(LinkAttribute::Event(event))),
+            45 => parse_i32(payload).map(|n| Some(LinkAttribute::NewNetnsId(n))),
+            46 => parse_i32(payload).map(|n| Some(LinkAttribute::IfNetnsId(n))),
+            47 => parse_u32(payload).map(|n| Some(LinkAttribute::CarrierUpCount(n))),
+            48 => parse_u32(payload).map(|n| Some(LinkAttribute::CarrierDownCount(n))),
+            49 => parse_i32(payload).map(|n| Some(LinkAttribute::NewIfIndex(n))),
+            50 => parse_u32(payload).map(|n| Some(LinkAttribute::MinMtu(n))),
+            51 => parse_u32(payload).map(|n| Some(LinkAttribute::MaxMtu(n))),
+            58 => parse_u32(payload).map(|n| Some(LinkAttribute::GroMaxSize(n))),
+            59 => parse_u32(payload).map(|n| Some(LinkAttribute::TsoMaxSize(n))),
+            60 => parse_u32(payload).map(|n| Some(LinkAttribute::TsoMaxSegs(n))),
+            61 => parse_u32(payload).map(|n| Some(LinkAttribute::AllMulticast(n))),
+            63 => parse_u32(payload).map(|n| Some(LinkAttribute::GsoIpv4MaxSize(n))),
+            64 => parse_u32(payload).map(|n| Some(LinkAttribute::GroIpv4MaxSize(n))),
+            67 => parse_u8(payload).map(|n| Some(LinkAttribute::NetnsImmutable(n != 0))),
+            _ => Ok(None),
         }
     }
 
@@ -159,25 +550,47 @@ impl LinkAttribute {
         let payload = buffer.value();
         match buffer.kind() {
             1 => Bytes::from_slice(alloc, payload).map(LinkAttribute::Address),
+            2 => Bytes::from_slice(alloc, payload).map(LinkAttribute::Broadcast),
             3 => parse_string(alloc, payload).map(LinkAttribute::IfName),
-            52 => Prop::parse_list(alloc, payload).map(|props| LinkAttribute::PropList(List::new(
-                props,
-            ))),
+            6 => parse_string(alloc, payload).map(LinkAttribute::Qdisc),
+            11 => WirelessEvent::parse(alloc, payload).map(LinkAttribute::Wireless),
+            18 => parse_some(alloc, payload).map(LinkAttribute::LinkInfo),
+            20 => parse_string(alloc, payload).map(LinkAttribute::IfAlias),
+            22 => LinkVfInfo::parse_list(alloc, payload).map(|v| LinkAttribute::VfInfoList(
+                List::new(v),
+            )),
+            24 => parse_ports(alloc, payload).map(LinkAttribute::VfPorts),
+            25 => LinkVfPort::parse(alloc, payload).map(LinkAttribute::PortSelf),
+            29 => parse_mask(alloc, payload).map(LinkAttribute::ExtMask),
+            38 => parse_string(alloc, payload).map(LinkAttribute::PhysPortName),
+            43 => parse_some(alloc, payload).map(LinkAttribute::Xdp),
+            52 => Prop::parse_list(alloc, payload).map(|v| LinkAttribute::PropList(List::new(v))),
+            54 => Bytes::from_slice(alloc, payload).map(LinkAttribute::PermAddress),
+            55 => LinkProtocolDownReason::parse_list(alloc, payload).map(
+                |v| LinkAttribute::ProtoDownReason(List::new(v)),
+            ),
+            56 => parse_string(alloc, payload).map(LinkAttribute::ParentDevName),
+            57 => parse_string(alloc, payload).map(LinkAttribute::ParentDevBusName),
+            62 => DevlinkPort::parse_list(alloc, payload).map(|v| LinkAttribute::DevlinkPort(
+                List::new(v),
+            )),
+            65 => DpllPin::parse_list(alloc, payload).map(|v| LinkAttribute::DpllPin(List::new(v))),
+            12 => parse_proto_info(alloc, buffer, family),
+            26 => parse_af_spec(alloc, payload, family),
             _ => DefaultNla::parse(alloc, buffer).map(LinkAttribute::Other),
         }
     }
 
     /// Whether a frame is read under the header's family, and the first fault if not. It takes no memory.
-    #[tactic(auto, unfolding(crate::specs::Places::attribute_place))]
     pub fn check_with_param(
         buffer: &NlaBuffer<'_>,
         family: AddressFamily,
     ) -> Result<(), DecodeError>
         ensures { Checks result ((attribute_place family).reads buffer.now) }
     {
-        match buffer.kind() {
-            4 => parse_u32(buffer.value()).map(|_| ()),
-            _ => LinkAttribute::check_other(buffer, family),
+        match LinkAttribute::read_plain(buffer)? {
+            Some(_) => Ok(()),
+            None => LinkAttribute::check_other(buffer, family),
         }
     }
 
@@ -188,14 +601,30 @@ impl LinkAttribute {
         let payload = buffer.value();
         match buffer.kind() {
             3 => check_string(payload),
+            6 => check_string(payload),
+            11 => WirelessEvent::check(payload),
+            18 => check_some::<LinkInfo>(payload),
+            20 => check_string(payload),
+            22 => LinkVfInfo::check_list(payload),
+            24 => check_ports(payload),
+            25 => LinkVfPort::check(payload),
+            29 => check_mask(payload),
+            38 => check_string(payload),
+            43 => check_some::<LinkXdp>(payload),
             52 => Prop::check_list(payload),
+            55 => LinkProtocolDownReason::check_list(payload),
+            56 => check_string(payload),
+            57 => check_string(payload),
+            62 => DevlinkPort::check_list(payload),
+            65 => DpllPin::check_list(payload),
+            12 => check_proto_info(buffer, family),
+            26 => check_af_spec(payload, family),
             _ => Ok(()),
         }
     }
 
     /// Writes the canonical text of the value that an accepted frame has under the header's family to the front of the
     /// buffer, with no memory, and answers its length; `None` where the value does not fit.
-    #[tactic(auto, unfolding(crate::specs::Places::attribute_place, nla_wire::specs::Payloads::read_number))]
     pub fn canon_with_param(
         buffer: &NlaBuffer<'_>,
         out: &mut [u8],
@@ -205,9 +634,9 @@ impl LinkAttribute {
         requires room { growth_per_byte * (4 + length buffer.now.payload) ≤ length out.old }
         ensures { Canonical (λ v. canon (attribute_frame v)) AttributeFits ((attribute_place family).reads buffer.now) out.old out.new result }
     {
-        match buffer.kind() {
-            4 => canon_u32(4, buffer.value(), out),
-            _ => LinkAttribute::canon_other(buffer, out, family),
+        match LinkAttribute::read_plain(buffer).ok()? {
+            Some(attribute) => canon_of(&attribute, out),
+            None => LinkAttribute::canon_other(buffer, out, family),
         }
     }
 
@@ -220,8 +649,27 @@ impl LinkAttribute {
         let payload = buffer.value();
         match buffer.kind() {
             1 => canon_bytes(1, payload, out),
+            2 => canon_bytes(2, payload, out),
             3 => canon_text(3, payload, out),
+            6 => canon_text(6, payload, out),
+            11 => canon_event(11, payload, out),
+            18 => canon_some::<LinkInfo>(18, payload, out),
+            20 => canon_text(20, payload, out),
+            22 => LinkVfInfo::canon_nested_picked(22, payload, out),
+            24 => canon_ports(24, payload, out),
+            25 => LinkVfPort::canon_entry(25, payload, out),
+            29 => canon_mask(29, payload, out),
+            38 => canon_text(38, payload, out),
+            43 => canon_some::<LinkXdp>(43, payload, out),
             52 => Prop::canon_nested(52 | NLA_F_NESTED, payload, out),
+            54 => canon_bytes(54, payload, out),
+            55 => LinkProtocolDownReason::canon_nested(55, payload, out),
+            56 => canon_text(56, payload, out),
+            57 => canon_text(57, payload, out),
+            62 => DevlinkPort::canon_nested(62 | NLA_F_NESTED, payload, out),
+            65 => DpllPin::canon_nested(65 | NLA_F_NESTED, payload, out),
+            12 => canon_proto_info(buffer, out, family),
+            26 => canon_af_spec(payload, out, family),
             _ => canon_bytes(buffer.kind_with_flags(), payload, out),
         }
     }
@@ -270,16 +718,34 @@ impl LinkAttribute {
         canon_members(&AttributePlace { family }, bytes, out)
     }
 
+    /// Whether an accepted frame means an empty list of ports. It takes no memory.
+    fn means_empty_ports(buffer: &NlaBuffer<'_>, family: AddressFamily) -> bool
+        requires frame { IsFrame buffer.now }
+        requires accepted { IsOk ((attribute_place family).reads buffer.now) }
+        ensures { PortTold ((attribute_place family).reads buffer.now) result }
+    {
+        buffer.kind() == VF_PORTS && holds_no_port(buffer.value())
+    }
+
     /// Whether an accepted list of attributes under the header's family holds an empty list of ports. It takes no memory.
     pub(crate) fn hold_empty_ports(bytes: &[u8], family: AddressFamily) -> bool
         requires { IsOk ((list (attribute_place family)).reads bytes.now) }
         ensures { PortsTold ((list (attribute_place family)).reads bytes.now) result }
     {
-        let _ignored = bytes.len();
-        let _family = family;
+        for item in NlasIterator::new(bytes) {
+            let Ok(frame) = item else {
+                return false;
+            };
+            if LinkAttribute::means_empty_ports(&frame, family) {
+                return true;
+            }
+        }
         false
     }
 }
+
+/// The number of IFLA_VF_PORTS.
+const VF_PORTS: u16 = 24;
 
 /// The outermost place, under the family of the message's header.
 #[derive(Debug, Clone, Copy)]
@@ -315,20 +781,125 @@ impl Place<LinkAttribute> for AttributePlace {
 impl CloneIn for LinkAttribute {
     fn clone(&self, alloc: Global) -> Result<LinkAttribute, DecodeError> {
         match self {
-            LinkAttribute::Address(bytes) => bytes.clone(alloc).map(LinkAttribute::Address),
-            LinkAttribute::IfName(text) => text.clone(alloc).map(LinkAttribute::IfName),
-            LinkAttribute::Mtu(n) => Ok(LinkAttribute::Mtu(*n)),
-            LinkAttribute::PropList(props) => props.clone(alloc).map(LinkAttribute::PropList),
+            LinkAttribute::Address(value) => value.clone(alloc).map(LinkAttribute::Address),
+            LinkAttribute::Broadcast(value) => value.clone(alloc).map(LinkAttribute::Broadcast),
+            LinkAttribute::IfName(value) => value.clone(alloc).map(LinkAttribute::IfName),
+            LinkAttribute::Mtu(value) => Ok(LinkAttribute::Mtu(*value)),
+            LinkAttribute::Link(value) => Ok(LinkAttribute::Link(*value)),
+            LinkAttribute::Qdisc(value) => value.clone(alloc).map(LinkAttribute::Qdisc),
+            LinkAttribute::Stats(value) => Ok(LinkAttribute::Stats(*value)),
+            LinkAttribute::Controller(value) => Ok(LinkAttribute::Controller(*value)),
+            LinkAttribute::Wireless(value) => value.clone(alloc).map(LinkAttribute::Wireless),
+            LinkAttribute::ProtoInfoBridge(value) => value
+                .clone(alloc)
+                .map(LinkAttribute::ProtoInfoBridge),
+            LinkAttribute::ProtoInfoInet6(value) => value
+                .clone(alloc)
+                .map(LinkAttribute::ProtoInfoInet6),
+            LinkAttribute::ProtoInfoUnknown(value) => value
+                .clone(alloc)
+                .map(LinkAttribute::ProtoInfoUnknown),
+            LinkAttribute::TxQueueLen(value) => Ok(LinkAttribute::TxQueueLen(*value)),
+            LinkAttribute::Map(value) => Ok(LinkAttribute::Map(*value)),
+            LinkAttribute::OperState(value) => Ok(LinkAttribute::OperState(*value)),
+            LinkAttribute::Mode(value) => Ok(LinkAttribute::Mode(*value)),
+            LinkAttribute::LinkInfo(value) => value.clone(alloc).map(LinkAttribute::LinkInfo),
+            LinkAttribute::NetNsPid(value) => Ok(LinkAttribute::NetNsPid(*value)),
+            LinkAttribute::IfAlias(value) => value.clone(alloc).map(LinkAttribute::IfAlias),
+            LinkAttribute::NumVf(value) => Ok(LinkAttribute::NumVf(*value)),
+            LinkAttribute::VfInfoList(value) => value.clone(alloc).map(LinkAttribute::VfInfoList),
+            LinkAttribute::Stats64(value) => Ok(LinkAttribute::Stats64(*value)),
+            LinkAttribute::VfPorts(value) => value.clone(alloc).map(LinkAttribute::VfPorts),
+            LinkAttribute::PortSelf(value) => value.clone(alloc).map(LinkAttribute::PortSelf),
+            LinkAttribute::AfSpecBridge(value) => value
+                .clone(alloc)
+                .map(LinkAttribute::AfSpecBridge),
+            LinkAttribute::AfSpecUnspec(value) => value
+                .clone(alloc)
+                .map(LinkAttribute::AfSpecUnspec),
+            LinkAttribute::AfSpecUnknown(value) => value
+                .clone(alloc)
+                .map(LinkAttribute::AfSpecUnknown),
+            LinkAttribute::Group(value) => Ok(LinkAttribute::Group(*value)),
+            LinkAttribute::NetNsFd(value) => Ok(LinkAttribute::NetNsFd(*value)),
+            LinkAttribute::ExtMask(flags) => clone_mask(alloc, flags.as_slice()).map(
+                LinkAttribute::ExtMask,
+            ),
+            LinkAttribute::Promiscuity(value) => Ok(LinkAttribute::Promiscuity(*value)),
+            LinkAttribute::NumTxQueues(value) => Ok(LinkAttribute::NumTxQueues(*value)),
+            LinkAttribute::NumRxQueues(value) => Ok(LinkAttribute::NumRxQueues(*value)),
+            LinkAttribute::Carrier(value) => Ok(LinkAttribute::Carrier(*value)),
+            LinkAttribute::PhysPortId(value) => Ok(LinkAttribute::PhysPortId(*value)),
+            LinkAttribute::CarrierChanges(value) => Ok(LinkAttribute::CarrierChanges(*value)),
+            LinkAttribute::PhysSwitchId(value) => Ok(LinkAttribute::PhysSwitchId(*value)),
+            LinkAttribute::LinkNetNsId(value) => Ok(LinkAttribute::LinkNetNsId(*value)),
+            LinkAttribute::PhysPortName(value) => value
+                .clone(alloc)
+                .map(LinkAttribute::PhysPortName),
+            LinkAttribute::ProtoDown(value) => Ok(LinkAttribute::ProtoDown(*value)),
+            LinkAttribute::GsoMaxSegs(value) => Ok(LinkAttribute::GsoMaxSegs(*value)),
+            LinkAttribute::GsoMaxSize(value) => Ok(LinkAttribute::GsoMaxSize(*value)),
+            LinkAttribute::Xdp(value) => value.clone(alloc).map(LinkAttribute::Xdp),
+            LinkAttribute::Event(value) => Ok(LinkAttribute::Event(*value)),
+            LinkAttribute::NewNetnsId(value) => Ok(LinkAttribute::NewNetnsId(*value)),
+            LinkAttribute::IfNetnsId(value) => Ok(LinkAttribute::IfNetnsId(*value)),
+            LinkAttribute::CarrierUpCount(value) => Ok(LinkAttribute::CarrierUpCount(*value)),
+            LinkAttribute::CarrierDownCount(value) => Ok(LinkAttribute::CarrierDownCount(*value)),
+            LinkAttribute::NewIfIndex(value) => Ok(LinkAttribute::NewIfIndex(*value)),
+            LinkAttribute::MinMtu(value) => Ok(LinkAttribute::MinMtu(*value)),
+            LinkAttribute::MaxMtu(value) => Ok(LinkAttribute::MaxMtu(*value)),
+            LinkAttribute::PropList(value) => value.clone(alloc).map(LinkAttribute::PropList),
+            LinkAttribute::PermAddress(value) => value.clone(alloc).map(LinkAttribute::PermAddress),
+            LinkAttribute::ProtoDownReason(value) => value
+                .clone(alloc)
+                .map(LinkAttribute::ProtoDownReason),
+            LinkAttribute::ParentDevName(value) => value
+                .clone(alloc)
+                .map(LinkAttribute::ParentDevName),
+            LinkAttribute::ParentDevBusName(value) => value
+                .clone(alloc)
+                .map(LinkAttribute::ParentDevBusName),
+            LinkAttribute::GroMaxSize(value) => Ok(LinkAttribute::GroMaxSize(*value)),
+            LinkAttribute::TsoMaxSize(value) => Ok(LinkAttribute::TsoMaxSize(*value)),
+            LinkAttribute::TsoMaxSegs(value) => Ok(LinkAttribute::TsoMaxSegs(*value)),
+            LinkAttribute::AllMulticast(value) => Ok(LinkAttribute::AllMulticast(*value)),
+            LinkAttribute::DevlinkPort(value) => value.clone(alloc).map(LinkAttribute::DevlinkPort),
+            LinkAttribute::GsoIpv4MaxSize(value) => Ok(LinkAttribute::GsoIpv4MaxSize(*value)),
+            LinkAttribute::GroIpv4MaxSize(value) => Ok(LinkAttribute::GroIpv4MaxSize(*value)),
+            LinkAttribute::DpllPin(value) => value.clone(alloc).map(LinkAttribute::DpllPin),
+            LinkAttribute::NetnsImmutable(value) => Ok(LinkAttribute::NetnsImmutable(*value)),
             LinkAttribute::Other(nla) => nla.clone(alloc).map(LinkAttribute::Other),
         }
     }
 }
 
 impl Exact for LinkAttribute {
-    ghost use Rattle.nla_wire.specs.Decided.{by_exact, one_field, number_exact, bytes_exact, list_exact};
+    ghost use Rattle.std.proofs.Common.{rules};
+    ghost use Rattle.nla_wire.specs.Decided.{by_exact, one_field, number_exact, signed_exact, bytes_exact, list_exact};
     ghost use Rattle.nla_wire.specs.Same.{same_frame-Decides};
-    ghost use Rattle.link_nest.specs.contracts.prop_list.PropExact.TheImpl.Laws.{decides-law as prop_exact};
+    ghost use Rattle.link_recs.specs.StatsFields.{stats_decides};
+    ghost use Rattle.link_recs.specs.Stats64Fields.{stats64_decides};
+    ghost use Rattle.link_vf.specs.contracts.port_list.LinkVfPortExact.TheImpl.Laws.{decides-law as port_exact};
+    ghost use Rattle.link_nest.specs.contracts.link_info.LinkInfoExact.TheImpl.Laws.{decides-law as info_exact};
+    ghost use Rattle.link_vf.specs.contracts.vf_list.LinkVfInfoExact.TheImpl.Laws.{decides-law as functions_exact};
+    ghost use Rattle.link_vf.specs.contracts.port_list.LinkVfPortExact.TheImpl.Laws.{decides-law as ports_exact};
+    ghost use Rattle.link_nest.specs.contracts.xdp.LinkXdpExact.TheImpl.Laws.{decides-law as xdp_exact};
+    ghost use Rattle.link_nest.specs.contracts.prop_list.PropExact.TheImpl.Laws.{decides-law as props_exact};
+    ghost use Rattle.link_nest.specs.contracts.down_reason.LinkProtocolDownReasonExact.TheImpl.Laws.{decides-law as reasons_exact};
+    ghost use Rattle.link_nest.specs.contracts.devlink_port.DevlinkPortExact.TheImpl.Laws.{decides-law as devlink_exact};
+    ghost use Rattle.link_nest.specs.contracts.dpll_pin.DpllPinExact.TheImpl.Laws.{decides-law as dpll_exact};
+    ghost use Rattle.link_afspec.specs.contracts.proto_info.LinkProtoInfoBridgeExact.TheImpl.Laws.{decides-law as proto_bridge_exact};
+    ghost use Rattle.link_afspec.specs.contracts.proto_info.LinkProtoInfoInet6Exact.TheImpl.Laws.{decides-law as proto_inet6_exact};
+    ghost use Rattle.link_afspec.specs.contracts.bridge.AfSpecBridgeExact.TheImpl.Laws.{decides-law as af_bridge_exact};
+    ghost use Rattle.link_afspec.specs.contracts.unspec.AfSpecUnspecExact.TheImpl.Laws.{decides-law as af_unspec_exact};
+    ghost use Rattle.link_vals.specs.contracts.link_state.StateExact.TheImpl.Laws.{decides-law as state_exact};
+    ghost use Rattle.link_vals.specs.contracts.link_mode.LinkModeExact.TheImpl.Laws.{decides-law as mode_exact};
+    ghost use Rattle.link_vals.specs.contracts.event.LinkEventExact.TheImpl.Laws.{decides-law as event_exact};
+    ghost use Rattle.link_vals.specs.contracts.phys_id.LinkPhysIdExact.TheImpl.Laws.{decides-law as phys_id_exact};
+    ghost use Rattle.link_recs.specs.contracts.map.MapExact.TheImpl.Laws.{decides-law as map_exact};
+    ghost use Rattle.link_nest.specs.contracts.wireless.WirelessEventExact.TheImpl.Laws.{decides-law as wireless_exact};
+    ghost use Rattle.link_vals.specs.contracts.ext_mask.LinkExtentMaskExact.TheImpl.Laws.{decides-law as ext_mask_exact};
     ghost use Rattle.link_msg.specs.contracts.attribute.LinkAttribute.{enum};
 
-    ghost decides = { by_exact enum _ (one_field bytes_exact, (one_field bytes_exact, (one_field number_exact, (one_field (list_exact prop_exact), (one_field same_frame-Decides, tt))))) };
+    ghost decides = { by_exact enum _ (one_field bytes_exact, (one_field bytes_exact, (one_field bytes_exact, (one_field number_exact, (one_field number_exact, (one_field bytes_exact, (one_field stats_decides, (one_field number_exact, (one_field wireless_exact, (one_field (list_exact proto_bridge_exact), (one_field (list_exact proto_inet6_exact), (one_field same_frame-Decides, (one_field number_exact, (one_field map_exact, (one_field state_exact, (one_field mode_exact, (one_field (list_exact info_exact), (one_field number_exact, (one_field bytes_exact, (one_field number_exact, (one_field (list_exact functions_exact), (one_field stats64_decides, (one_field (list_exact ports_exact), (one_field port_exact, (one_field (list_exact af_bridge_exact), (one_field (list_exact af_unspec_exact), (one_field bytes_exact, (one_field number_exact, (one_field signed_exact, (one_field (list_exact ext_mask_exact), (one_field number_exact, (one_field number_exact, (one_field number_exact, (one_field number_exact, (one_field phys_id_exact, (one_field number_exact, (one_field phys_id_exact, (one_field signed_exact, (one_field bytes_exact, (one_field number_exact, (one_field number_exact, (one_field number_exact, (one_field (list_exact xdp_exact), (one_field event_exact, (one_field signed_exact, (one_field signed_exact, (one_field number_exact, (one_field number_exact, (one_field signed_exact, (one_field number_exact, (one_field number_exact, (one_field (list_exact props_exact), (one_field bytes_exact, (one_field (list_exact reasons_exact), (one_field bytes_exact, (one_field bytes_exact, (one_field number_exact, (one_field number_exact, (one_field number_exact, (one_field number_exact, (one_field (list_exact devlink_exact), (one_field number_exact, (one_field number_exact, (one_field (list_exact dpll_exact), (one_field (λ x y. Prim.search rules), (one_field same_frame-Decides, tt)))))))))))))))))))))))))))))))))))))))))))))))))))))))))))))))))) };
 }

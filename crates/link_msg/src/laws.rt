@@ -1,5 +1,31 @@
 //! Laws of messages: functions that do nothing, whose contracts are laws over the definitions alone.
 
+ghost use Rattle.link_vals.specs.LinkEventTable.{link_event_of, link_event_number};
+ghost use Rattle.link_vals.specs.LinkExtentMaskTable.{link_extent_mask_of, link_extent_mask_number};
+ghost use Rattle.link_vals.specs.LinkModeTable.{link_mode_of, link_mode_number};
+ghost use Rattle.link_vals.specs.StateTable.{state_of, state_number};
+ghost use Rattle.link_vals.specs.In6AddrGenModeTable.{in6_addr_gen_mode_of, in6_addr_gen_mode_number};
+ghost use Rattle.link_vals.specs.MctpPhysBindingTable.{mctp_phys_binding_of, mctp_phys_binding_number};
+ghost use Rattle.link_vals.specs.VfLinkStateTable.{vf_link_state_of, vf_link_state_number};
+ghost use Rattle.link_vals.specs.XdpAttachedTable.{xdp_attached_of, xdp_attached_number};
+ghost use Rattle.link_vals.specs.AddressFamilyTable.{address_family_of, address_family_number};
+ghost use Rattle.link_vals.specs.LinkLayerTypeTable.{layer_type_of, layer_type_number, layer_type_listed};
+ghost use Rattle.link_vals.specs.VlanProtocolTable.{vlan_protocol_of, vlan_protocol_number, vlan_protocol_listed};
+ghost use Rattle.link_vals.specs.declared.address_family.AddressFamily.{AddressFamily};
+ghost use Rattle.link_vals.specs.declared.link_layer_type.LinkLayerType.TheVariants.{Void};
+ghost use Rattle.link_vals.specs.declared.vlan_protocol.VlanProtocol.TheVariants.{Ieee8021Q};
+ghost use Rattle.link_vals.specs.Laws.{ReadsBack, IsNamedBack, GivesUnlisted, SumsBack, NamedStatesRead, OtherStatesRefused};
+ghost use Rattle.link_recs.specs.StatsFields.{stats_size};
+ghost use Rattle.link_recs.specs.Stats64Fields.{stats64_size};
+ghost use Rattle.link_recs.specs.MapFields.{map_size};
+ghost use Rattle.link_recs.specs.InetDevConfFields.{inet_dev_conf_size};
+ghost use Rattle.link_recs.specs.Inet6DevConfFields.{inet6_dev_conf_size};
+ghost use Rattle.link_recs.specs.Inet6StatsFields.{inet6_stats_size};
+ghost use Rattle.link_recs.specs.Inet6CacheInfoFields.{inet6_cache_info_size};
+ghost use Rattle.link_recs.specs.Icmp6StatsFields.{icmp6_stats_size};
+ghost use Rattle.link_afspec.specs.PlaceLaws.{ZerosAdded, LongerIgnored};
+ghost use Rattle.link_afspec.specs.Places.{af_spec_inet_place, af_spec_inet6_place};
+ghost use Rattle.link_msg.specs.Places.{attribute_place};
 ghost use Rattle.link_msg.specs.LawStatements.{OneMeaning, TextMeansTheSame, OnlyWithPorts, SameTextSameMessage, CanonicalTwice, Joined, ForeignKept};
 
 /// No bytes mean two messages.
@@ -17,11 +43,82 @@ pub fn law_canonical_twice()
     ensures twice { CanonicalTwice }
 {}
 
+/// The sum of the list of an extent mask is the mask.
+pub fn law_ext_sum()
+    ensures { SumsBack }
+{
+    link_vals::laws::extent_sums_read_back();
+}
+
 /// Behind an accepted list of attributes whose length is a multiple of four, bytes are accepted exactly where they are
 /// alone, and give the two lists joined.
 pub fn law_joined()
     ensures { Joined }
 {}
+
+/// Records that are filled up mean the same with zeros added to the payload: statistics of a link under any family, and
+/// settings and statistics of AF_INET and AF_INET6. One longer than its record means the same as its beginning.
+pub fn law_short_records()
+    ensures stats_zeros { (family : AddressFamily) → ZerosAdded (attribute_place family).means 7 }
+    ensures stats_longer { (family : AddressFamily) → LongerIgnored (attribute_place family).means 7 stats_size }
+    ensures stats64_zeros { (family : AddressFamily) → ZerosAdded (attribute_place family).means 23 }
+    ensures stats64_longer { (family : AddressFamily) → LongerIgnored (attribute_place family).means 23 stats64_size }
+    ensures map_longer { (family : AddressFamily) → LongerIgnored (attribute_place family).means 14 map_size }
+    ensures inet_zeros { ZerosAdded af_spec_inet_place.means 1 }
+    ensures inet_longer { LongerIgnored af_spec_inet_place.means 1 inet_dev_conf_size }
+    ensures inet6_zeros { ZerosAdded af_spec_inet6_place.means 2 }
+    ensures inet6_longer { LongerIgnored af_spec_inet6_place.means 2 inet6_dev_conf_size }
+    ensures inet6_stats_zeros { ZerosAdded af_spec_inet6_place.means 3 }
+    ensures inet6_stats_longer { LongerIgnored af_spec_inet6_place.means 3 inet6_stats_size }
+    ensures cache_longer { LongerIgnored af_spec_inet6_place.means 5 inet6_cache_info_size }
+    ensures icmp_zeros { ZerosAdded af_spec_inet6_place.means 6 }
+    ensures icmp_longer { LongerIgnored af_spec_inet6_place.means 6 icmp6_stats_size }
+{
+    link_afspec::laws::law_short_records();
+}
+
+/// The number of a layer type gives it again, and a number that is not listed gives `Void`; the number of a vlan protocol
+/// gives it again, and any other number gives `Ieee8021Q`.
+pub fn law_layer_types()
+    ensures named { IsNamedBack layer_type_of layer_type_number }
+    ensures unlisted { GivesUnlisted layer_type_of layer_type_number layer_type_listed Void }
+    ensures protocols { IsNamedBack vlan_protocol_of vlan_protocol_number }
+    ensures others { GivesUnlisted vlan_protocol_of vlan_protocol_number vlan_protocol_listed Ieee8021Q }
+{
+    link_vals::laws::layer_types_read_back();
+    link_vals::laws::vlan_protocols_read_back();
+}
+
+/// Number to value to number is the identity for each enum that keeps the numbers without a name.
+pub fn law_numbers()
+    ensures events { ReadsBack link_event_of link_event_number }
+    ensures masks { ReadsBack link_extent_mask_of link_extent_mask_number }
+    ensures modes { ReadsBack link_mode_of link_mode_number }
+    ensures states { ReadsBack state_of state_number }
+    ensures addr_gen_modes { ReadsBack in6_addr_gen_mode_of in6_addr_gen_mode_number }
+    ensures phys_bindings { ReadsBack mctp_phys_binding_of mctp_phys_binding_number }
+    ensures vf_link_states { ReadsBack vf_link_state_of vf_link_state_number }
+    ensures attached { ReadsBack xdp_attached_of xdp_attached_number }
+    ensures families { ReadsBack address_family_of address_family_number }
+{
+    link_vals::laws::link_events_read_back();
+    link_vals::laws::extent_masks_read_back();
+    link_vals::laws::link_modes_read_back();
+    link_vals::laws::states_read_back();
+    link_vals::laws::addr_gen_modes_read_back();
+    link_vals::laws::mctp_phys_bindings_read_back();
+    link_vals::laws::vf_link_states_read_back();
+    link_vals::laws::xdp_attached_read_back();
+    link_vals::laws::address_families_read_back();
+}
+
+/// The text of each state with a name is read as that state, and the text of every other is refused.
+pub fn law_state_texts()
+    ensures named { NamedStatesRead }
+    ensures others { OtherStatesRefused }
+{
+    link_vals::laws::state_texts_read_back();
+}
 
 /// An attribute of a number that is not listed is written back with its kind, both flag bits and its payload.
 pub fn law_foreign_kept()

@@ -8,7 +8,7 @@ pub const TEXT: &[u8] =
 
 /// Their answers.
 pub const ANSWERS: &[u8] =
-    b"ok 00000000000000000000000000000000070003006c6f0000\nrefused\nnothex\nok 000000000000000000000000000000000800180004000200\nnothex\nok 00000000000000000000000000000000\n";
+    b"ok 00000000000000000000000000000000070003006c6f0000\nrefused\nnothex\nempty-ports\nnothex\nok 00000000000000000000000000000000\n";
 
 #[test]
 fn each_row_has_its_answer(rt: HostRuntime) -> Result<(), Fail> {
@@ -67,6 +67,25 @@ fn a_text_that_grows_too_long_is_unfit(rt: HostRuntime) -> Result<(), Fail> {
         }
         let got = answers_to(rt.alloc(), text.as_slice())?;
         assert!(rt; got.starts_with(want.as_bytes()), "{count} bytes");
+    }
+    Ok(())
+}
+
+/// Each empty IPV6 record of four bytes becomes one of 308: 212 of them fit, and 213 do not.
+#[test]
+fn records_that_grow_too_long_are_unfit(rt: HostRuntime) -> Result<(), Fail> {
+    for (headers, count, want) in [
+        ("58031a0054030a00", 212, "ok "),
+        ("5c031a0058030a00", 213, "unfit\n"),
+    ] {
+        let mut text = Vec::new(rt.alloc());
+        text.extend_from_slice(b"00000000000000000000000000000000")?;
+        text.extend_from_slice(headers.as_bytes())?;
+        for _ in 0..count {
+            text.extend_from_slice(b"04000300")?;
+        }
+        let got = answers_to(rt.alloc(), text.as_slice())?;
+        assert!(rt; got.starts_with(want.as_bytes()), "{count} records");
     }
     Ok(())
 }

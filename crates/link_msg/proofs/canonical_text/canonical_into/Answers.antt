@@ -3,7 +3,7 @@ use Rattle.std.proofs.lemmas.Result.{err_from_is_err_and}
 use Rattle.nla_wire.proofs.Front.{all_bytes}
 use Rattle.nla_wire.proofs.Placing.{lent_end}
 use Rattle.link_msg.specs.Header.{header_size}
-use Rattle.link_msg.proofs.Writing.{written_refused, behind_room, written_unfit, written_whole}
+use Rattle.link_msg.proofs.Writing.{written_refused, behind_room, written_unfit, written_whole, written_ports}
 use Rattle.link_msg.proofs.canonical_text.canonical_into.Goals as goal
 
 pub returns-in_err-check_list_with_param : goal.returns-in_err-check_list_with_param
@@ -28,5 +28,12 @@ pub returns : goal.returns
 returns c =
     let counted : length c.args.out.now < 2 ^ 64 = omega arith in
     written_whole c.args.input.now c.in_ok-header.header c.in_ok-header.rest.now c.in_ok-header.ensures.0 c.in_ok-header.ensures.1 c.in_ok-header.ensures.2
+    c.in_ok-check_list_with_param.ensures.found.0 c.in_ok-check_list_with_param.ensures.found.1 (all_bytes c.args.input.now (λ i. omega (arith, c.type_inv.input i)))
+    c.args.out.now c.emit.new.buffer _ c.in-Some.len counted c.requires c.emit.ensures c.in-Some.ensures c.if-hold_empty_ports.ensures
+
+pub returns-then-hold_empty_ports : goal.returns-then-hold_empty_ports
+returns-then-hold_empty_ports c =
+    let counted : length c.args.out.now < 2 ^ 64 = omega arith in
+    written_ports c.args.input.now c.in_ok-header.header c.in_ok-header.rest.now c.in_ok-header.ensures.0 c.in_ok-header.ensures.1 c.in_ok-header.ensures.2
     c.in_ok-check_list_with_param.ensures.found.0 c.in_ok-check_list_with_param.ensures.found.1 (all_bytes c.args.input.now (λ i. omega (arith, c.type_inv.input i)))
     c.args.out.now c.emit.new.buffer _ c.in-Some.len counted c.requires c.emit.ensures c.in-Some.ensures c.if-hold_empty_ports.ensures

@@ -1,0 +1,150 @@
+//! Payloads of attributes: lists that are not empty, extent masks, events and truth values.
+
+ghost use Rattle.std.specs.Prelude.{◌≡◌, ◌*◌, ◌+◌, ◌≤◌, ◌<◌, ◌^◌, length, IsOk, IfOk};
+ghost use Rattle.std.specs.Int.{w32, to_le_bytes};
+ghost use Rattle.nla_wire.specs.Sizes.{most_payload, growth_per_byte};
+ghost use Rattle.nla_wire.specs.Grammar.{list, not_empty};
+ghost use Rattle.nla_wire.specs.Canon.{canon, canons, AllFit, Canonical};
+ghost use Rattle.nla_wire.specs.Gives.{Gives, Checks};
+ghost use Rattle.nla_wire.specs.declared.error.Cause.TheVariants.{EmptyList};
+ghost use Rattle.link_vals.specs.LinkExtentMaskTable.{ext_sum};
+ghost use Rattle.link_nest.specs.Wireless.{wireless_event, wireless_text, WirelessFits};
+ghost use Rattle.link_vf.specs.Values.{link_vf_port_frame, LinkVfPortFits};
+ghost use Rattle.link_vf.specs.Places.{vf_port_list};
+ghost use Rattle.link_msg.specs.Places.{ext_mask};
+ghost use Rattle.link_msg.specs.Values.{truth_number};
+
+use link_nest::WirelessEvent;
+use link_vals::LinkExtentMask;
+use link_vf::LinkVfPort;
+use nla_wire::{Cause, DecodeError, List, NLA_HEADER_SIZE, NlaRead, canon_u32, close, parse_u32};
+use std::alloc::Global;
+
+/// The fault of an empty payload where a list needs a member.
+fn empty_list() -> DecodeError
+    ensures { result.cause ≡ EmptyList }
+{
+    DecodeError::new("list", Cause::EmptyList)
+}
+
+/// Reads a list that is not empty.
+#[tactic(auto, unfolding(nla_wire::specs::Grammar::unless_empty))]
+pub(crate) fn parse_some<N: NlaRead>(alloc: Global, payload: &[u8]) -> Result<List<N>, DecodeError>
+    ensures { Gives result ((not_empty (list N.grammar)).reads payload.now) }
+{
+    if payload.is_empty() {
+        return Err(empty_list());
+    }
+    N::parse_list(alloc, payload).map(List::new)
+}
+
+/// Whether a payload is a list that is not empty, and the first fault if not.
+#[tactic(auto, unfolding(nla_wire::specs::Grammar::unless_empty))]
+pub(crate) fn check_some<N: NlaRead>(payload: &[u8]) -> Result<(), DecodeError>
+    ensures { Checks result ((not_empty (list N.grammar)).reads payload.now) }
+{
+    if payload.is_empty() {
+        return Err(empty_list());
+    }
+    N::check_list(payload)
+}
+
+/// Writes the attribute of a list that is not empty and was accepted.
+#[tactic(auto, unfolding(nla_wire::specs::Grammar::unless_empty))]
+pub(crate) fn canon_some<N: NlaRead>(kind: u16, payload: &[u8], out: &mut [u8]) -> Option<usize>
+    requires accepted { IsOk ((not_empty (list N.grammar)).reads payload.now) }
+    requires room { growth_per_byte * (4 + length payload.now) ≤ length out.old }
+    ensures { Canonical (λ vs. canon (record { kind = kind; payload = canons N.frame vs })) (λ vs. (length (canons N.frame vs) ≤ most_payload) × AllFit N.fits N.frame vs) ((not_empty (list N.grammar)).reads payload.now) out.old out.new result }
+{
+    if payload.is_empty() {
+        return None;
+    }
+    N::canon_nested(kind, payload, out)
+}
+
+/// Reads ports of virtual functions from a payload that is not empty.
+#[tactic(auto, unfolding(nla_wire::specs::Grammar::unless_empty))]
+pub(crate) fn parse_ports(alloc: Global, payload: &[u8]) -> Result<List<LinkVfPort>, DecodeError>
+    ensures { Gives result ((not_empty vf_port_list).reads payload.now) }
+{
+    if payload.is_empty() {
+        return Err(empty_list());
+    }
+    LinkVfPort::parse_list(alloc, payload).map(List::new)
+}
+
+/// Whether a payload is one of ports of virtual functions, and the first fault if not.
+#[tactic(auto, unfolding(nla_wire::specs::Grammar::unless_empty))]
+pub(crate) fn check_ports(payload: &[u8]) -> Result<(), DecodeError>
+    ensures { Checks result ((not_empty vf_port_list).reads payload.now) }
+{
+    if payload.is_empty() {
+        return Err(empty_list());
+    }
+    LinkVfPort::check_list(payload)
+}
+
+/// Writes the attribute of accepted ports of virtual functions.
+#[tactic(auto, unfolding(nla_wire::specs::Grammar::unless_empty))]
+pub(crate) fn canon_ports(kind: u16, payload: &[u8], out: &mut [u8]) -> Option<usize>
+    requires accepted { IsOk ((not_empty vf_port_list).reads payload.now) }
+    requires room { growth_per_byte * (4 + length payload.now) ≤ length out.old }
+    ensures { Canonical (λ vs. canon (record { kind = kind; payload = canons link_vf_port_frame vs })) (λ vs. (length (canons link_vf_port_frame vs) ≤ most_payload) × AllFit LinkVfPortFits link_vf_port_frame vs) ((not_empty vf_port_list).reads payload.now) out.old out.new result }
+{
+    if payload.is_empty() {
+        return None;
+    }
+    LinkVfPort::canon_nested_picked(kind, payload, out)
+}
+
+/// Reads an extent mask, a number of four bytes, as the list of its flags.
+pub(crate) fn parse_mask(alloc: Global, payload: &[u8]) -> Result<List<LinkExtentMask>, DecodeError>
+    ensures { Gives result (ext_mask.reads payload.now) }
+{
+    let number = parse_u32(payload)?;
+    LinkExtentMask::list_from(alloc, number).map(List::new)
+}
+
+/// Whether a payload is an extent mask, and the fault if not.
+pub(crate) fn check_mask(payload: &[u8]) -> Result<(), DecodeError>
+    ensures { Checks result (ext_mask.reads payload.now) }
+{
+    parse_u32(payload).map(|_| ())
+}
+
+/// Writes the attribute of an accepted extent mask: the sum of the flags of a number is that number.
+pub(crate) fn canon_mask(kind: u16, payload: &[u8], out: &mut [u8]) -> Option<usize>
+    requires accepted { IsOk (ext_mask.reads payload.now) }
+    requires room { growth_per_byte * (4 + length payload.now) ≤ length out.old }
+    ensures { Canonical (λ flags. canon (record { kind = kind; payload = to_le_bytes w32 (ext_sum flags) })) (λ flags. ext_sum flags < 2 ^ 32) (ext_mask.reads payload.now) out.old out.new result }
+{
+    canon_u32(kind, payload, out)
+}
+
+/// A copy of flags.
+pub(crate) fn clone_mask(
+    alloc: Global,
+    flags: &[LinkExtentMask],
+) -> Result<List<LinkExtentMask>, DecodeError>
+    ensures { IfOk result (λ copy. copy ≡ flags.now) }
+{
+    let copy = Vec::from_slice(alloc, flags)?;
+    Ok(List::new(copy))
+}
+
+/// Writes the attribute of an accepted wireless event.
+pub(crate) fn canon_event(kind: u16, payload: &[u8], out: &mut [u8]) -> Option<usize>
+    requires accepted { IsOk (wireless_event.reads payload.now) }
+    requires room { growth_per_byte * (4 + length payload.now) ≤ length out.old }
+    ensures { Canonical (λ event. canon (record { kind = kind; payload = wireless_text event })) WirelessFits (wireless_event.reads payload.now) out.old out.new result }
+{
+    let len = WirelessEvent::canon(payload, &mut out[NLA_HEADER_SIZE..])?;
+    close(out, len, kind)
+}
+
+/// The byte of a truth value.
+pub(crate) fn truth_byte(value: bool) -> u8
+    ensures { result ≡ truth_number value }
+{
+    if value { 1 } else { 0 }
+}
