@@ -36,6 +36,7 @@ static const struct fault faults[] = {
     {"three bytes behind the header", LINK_FRAME_SHORT, 19, {HEADER, 8, 0, 4}},
     {"a length that passes the end", LINK_FRAME_OVER, 20, {HEADER, 5, 0, 1, 0}},
     {"a length of 3", LINK_FRAME_UNDER, 20, {HEADER, 3, 0, 1, 0}},
+    {"an empty list that needs a member", LINK_EMPTY_LIST, 20, {HEADER, 4, 0, 43, 0}},
     {"a number of three bytes", LINK_WRONG_LENGTH, 23, {HEADER, 7, 0, 4, 0, 1, 2, 3}},
     {"a name that is not UTF-8", LINK_NOT_UTF8, 22, {HEADER, 6, 0, 3, 0, 0xff, 0}},
     {"the first of two faults", LINK_NOT_UTF8, 29, {HEADER, 6, 0, 3, 0, 0xff, 0, 0, 0, 7, 0, 4, 0, 1}},
@@ -135,11 +136,24 @@ static void refuses_what_does_not_fit(void) {
     free(bytes);
 }
 
+/* The one entry has another number than 1 and is dropped, and the empty list of ports cannot be written. */
+static void refuses_empty_ports(void) {
+    static const uint8_t bytes[] = {HEADER, 8, 0, 24, 0, 4, 0, 2, 0};
+    uint8_t out[77 * sizeof bytes];
+    EXPECT(link_check(bytes, sizeof bytes), 0);
+    memset(out, 0x55, sizeof out);
+    EXPECT(link_canonical(bytes, sizeof bytes, out, sizeof out), LINK_EMPTY_PORTS);
+    EXPECT(all_bytes_are(out, sizeof out, 0x55), 1);
+    EXPECT(link_canonical_into(bytes, sizeof bytes, out, sizeof out), LINK_EMPTY_PORTS);
+    EXPECT(link_same_message(bytes, sizeof bytes, faults[0].bytes, faults[0].len), LINK_EMPTY_PORTS);
+}
+
 int main(void) {
     refuses();
     writes();
     tells_short_buffers();
     compares();
     refuses_what_does_not_fit();
+    refuses_empty_ports();
     return failures != 0;
 }

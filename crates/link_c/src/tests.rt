@@ -1,5 +1,7 @@
 use crate::text::*;
 use link_msg::CanonError;
+use std::alloc::Global;
+use std::test::Fail;
 
 /// A header, a name with no NUL, and a number whose kind has both flag bits.
 const MESSAGE: [u8; 32] = [
@@ -20,27 +22,39 @@ fn checks(rt: HostRuntime) {
     assert_eq!(rt; check_code(&MESSAGE[..30]), -3);
 }
 
-#[test]
-fn writes_with_memory(rt: HostRuntime) {
-    let alloc = rt.alloc();
-    let mut out = [85; 40];
-    assert_eq!(rt; write_canonical(alloc, &MESSAGE, &mut out), Ok(32));
-    assert_eq!(rt; &out[..32], TEXT.as_slice());
-    assert_eq!(rt; &out[32..], [85; 8].as_slice());
-    assert_eq!(rt; canonical_code(alloc, &MESSAGE, &mut out), 32);
-    assert_eq!(rt; canonical_code(alloc, &MESSAGE, &mut out[..31]), -5);
-    assert_eq!(rt; canonical_code(alloc, &MESSAGE[..15], &mut out), -1);
+/// What `canonical_code` answers with a buffer of this many bytes.
+fn code_with(alloc: Global, room: usize) -> Result<isize, Fail> {
+    let mut out = vec![in alloc; 85u8; room]?;
+    Ok(canonical_code(alloc, &MESSAGE, out.as_mut_slice()))
+}
+
+/// What `canonical_into_code` answers with a buffer of this many bytes.
+fn code_without(alloc: Global, room: usize) -> Result<isize, Fail> {
+    let mut out = vec![in alloc; 85u8; room]?;
+    Ok(canonical_into_code(&MESSAGE, out.as_mut_slice()))
 }
 
 #[test]
-fn writes_with_no_memory(rt: HostRuntime) {
-    let mut out = [85; 2465];
-    assert_eq!(rt; write_canonical_into(&MESSAGE, &mut out), Ok(32));
-    assert_eq!(rt; &out[..32], TEXT.as_slice());
-    assert_eq!(rt; &out[32..40], [85; 8].as_slice());
-    assert_eq!(rt; canonical_into_code(&MESSAGE, &mut out[..2464]), 32);
-    assert_eq!(rt; canonical_into_code(&MESSAGE, &mut out[..2463]), -5);
-    assert_eq!(rt; canonical_into_code(&MESSAGE[..15], &mut out), -1);
+fn writes_with_memory(rt: HostRuntime) -> Result<(), Fail> {
+    let mut out = [85; 40];
+    assert_eq!(rt; write_canonical(rt.alloc(), &MESSAGE, &mut out), Ok(32));
+    assert!(rt; out.starts_with(&TEXT));
+    assert!(rt; out.ends_with(&[85; 8]));
+    assert_eq!(rt; code_with(rt.alloc(), 32)?, 32);
+    assert_eq!(rt; code_with(rt.alloc(), 31)?, -5);
+    assert_eq!(rt; canonical_code(rt.alloc(), &MESSAGE[..15], &mut out), -1);
+    Ok(())
+}
+
+#[test]
+fn writes_with_no_memory(rt: HostRuntime) -> Result<(), Fail> {
+    let mut out = vec![in rt.alloc(); 85u8; 2464]?;
+    assert_eq!(rt; write_canonical_into(&MESSAGE, out.as_mut_slice()), Ok(32));
+    assert!(rt; out.as_slice().starts_with(&TEXT));
+    assert_eq!(rt; code_without(rt.alloc(), 2464)?, 32);
+    assert_eq!(rt; code_without(rt.alloc(), 2463)?, -5);
+    assert_eq!(rt; canonical_into_code(&MESSAGE[..15], out.as_mut_slice()), -1);
+    Ok(())
 }
 
 #[test]
