@@ -23,6 +23,8 @@ mod number_tests;
 pub mod read;
 #[cfg(test)]
 mod read_tests;
+#[cfg(test)]
+mod testing;
 pub mod text;
 #[cfg(test)]
 mod value_tests;
