@@ -52,7 +52,7 @@ fn writes_values_alone(rt: HostRuntime) -> Result<(), Fail> {
 #[test]
 fn writes_slices(rt: HostRuntime) -> Result<(), Fail> {
     let nlas = [kept(rt.alloc(), 1, &[7])?, kept(rt.alloc(), 0x8002, &[])?];
-    assert!(rt; nlas_fit(&nlas));
+    assert!(rt; list_fits(&nlas));
     assert!(rt; nlas_buffer_len(&nlas) == 12);
     let mut out = [255; 13];
     emit_nlas(&nlas, &mut out);

@@ -1,5 +1,6 @@
 //! Numbers, addresses and texts as payloads.
 
+use crate::error::checked;
 use crate::testing::{are, refuses};
 use crate::*;
 use std::alloc::Global;
@@ -30,6 +31,7 @@ fn reads_addresses(rt: HostRuntime) -> Result<(), Fail> {
 fn refuses_payloads(rt: HostRuntime) {
     let long = Cause::WrongLength { got: 5, want: 4 };
     refuses(&rt, parse_u32(&[0; 5]), long);
+    refuses(&rt, checked(parse_u32(&[0; 5])), long);
     refuses(&rt, parse_string(rt.alloc(), &[0xc3, 0x28]), Cause::NotUtf8);
     refuses(&rt, check_string(&[0xc3, 0x28]), Cause::NotUtf8);
 }

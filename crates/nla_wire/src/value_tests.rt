@@ -1,5 +1,6 @@
 //! Causes, fault texts, and bytes, texts and lists as values.
 
+use crate::error::checked;
 use crate::testing::are;
 use crate::*;
 use std::test::Fail;
@@ -10,6 +11,8 @@ fn numbers_causes(rt: HostRuntime) {
     assert!(rt; error.number() == 1);
     assert!(rt; error.place == "record");
     assert!(rt; Cause::OutOfMemory.number() == 9);
+    assert!(rt; empty_list().number() == 5);
+    assert!(rt; checked(parse_u8(&[1])).is_ok());
 }
 
 #[test]
