@@ -1,57 +1,16 @@
--- The laws of a place and of its lists, from all that is proved of the place; and records that are shorter or longer.
+-- Records that are shorter or longer, and requests.
 use Rattle.std.specs.Prelude.{refl, ◌↔◌, replicate}
-use Rattle.std.proofs.Common.{◌≡◌, ℕ, ◌+◌, ◌*◌, ◌/◌, ◌%◌, ◌^◌, ◌<◌, ◌≤◌, ◌==◌, Bool, true, false, List, [], ◌∷◌, ◌++◌, length, arith, ap, sym, ◌∙◌, subst, append-nil, length-append}
-use Rattle.std.specs.List.{AllByRecursion}
-use Rattle.nla_wire.specs.Sizes.{growth}
-use Rattle.nla_wire.specs.Frames.{Frame, number, IsBytes, Frames, Begins}
-use Rattle.nla_wire.specs.Grammar.{Grammar, Row, list, line, table, as_a, kept, if_true, by_payload}
+use Rattle.std.proofs.Common.{◌≡◌, ℕ, ◌+◌, ◌≤◌, ◌==◌, Bool, true, false, List, ◌++◌, length, arith, sym, ◌∙◌, subst, length-append}
+use Rattle.nla_wire.specs.Frames.{Frame, number}
+use Rattle.nla_wire.specs.Grammar.{Grammar, Row, line, table, as_a, kept, if_true, by_payload}
 use Rattle.nla_wire.specs.Payloads.{filled, sized}
-use Rattle.nla_wire.specs.Canon.{canon, canons, AllFit, total}
-use Rattle.nla_wire.proofs.Back.{canon_begins}
-use Rattle.nla_wire.proofs.Lawful.{LawfulPlace, place_count, place_length, place_back, always}
 use Rattle.link_recs.specs.Laws.{ZerosBehind, BytesBehind}
 use Rattle.link_recs.specs.InetDevConfFields.{inet_dev_conf_of}
 use Rattle.link_recs.specs.declared.inet.InetDevConf.{InetDevConf}
-use Rattle.link_afspec.specs.PlaceLaws.{ReadsBack, ListReadsBack, IsBounded, ListsBounded, ZerosAdded, LongerIgnored, NeverRead}
+use Rattle.link_afspec.specs.PlaceLaws.{ZerosAdded, LongerIgnored, NeverRead}
 use Rattle.link_afspec.specs.Places.{af_spec_inet_place}
 use Rattle.link_afspec.specs.declared.inet.AfSpecInet.{AfSpecInet}
 use Rattle.link_afspec.specs.declared.inet.AfSpecInet.TheVariants.{DevConf, DevConfRequest, Other}
-
-all_always : {V : Type 0} (vs : List V) → AllByRecursion always vs
-all_always [] = tt
-all_always (v ∷ vs) = (tt, all_always vs)
-
--- what holds a frame holds its header
-frames_long : (p : List ℕ) (fs : List Frame) → Frames p fs → 0 < length p → 4 ≤ length p
-frames_long p [] frames some = absurd (omega (arith, ap length frames))
-frames_long p (f ∷ fs) frames some = omega (arith, ap length frames.1.parts)
-
--- a text with e bytes fewer for each member has e fewer where there is anything
-fewer_bytes : {V : Type 0} (frame : V → Frame) (e : ℕ) (p : List ℕ) (fs : List Frame) (vs : List V) → e ≤ growth → Frames p fs
-    → length (canons frame vs) + e * length vs ≤ growth * (length p / 4)
-    → 0 < length p → length (canons frame vs) + e ≤ growth * (length p / 4)
-fewer_bytes frame e p fs [] small frames grown some = omega (arith, frames_long p fs frames some)
-fewer_bytes frame e p fs (v ∷ vs) small frames grown some = omega arith
-
-module _ {V : Type 0} (g : Grammar Frame V) (frame : V → Frame) (Fits : V → Type 0) (count : V → ℕ) (e n : ℕ)
-    (h : LawfulPlace g frame Fits always count growth e n) where
-  pub place_reads_back : ReadsBack g.means frame Fits
-  place_reads_back f v one means fits = (
-    subst (λ b. Begins b (frame v) []) (append-nil (canon (frame v))) (canon_begins (frame v) [] (h.writable f v one means fits)),
-    h.back f v one means fits tt,
-  )
-
-  pub list_reads_back : ListReadsBack (list g).means frame Fits
-  list_reads_back p vs small means fits = place_back g frame Fits always count growth e n h p vs small means fits.0 (all_always vs)
-
-  pub lists_bounded : e ≤ growth → ListsBounded e (list g).means count frame
-  lists_bounded small p vs means =
-      let grown = place_length g frame Fits always count growth e n h p vs means in
-      record {
-        counted = place_count g frame Fits always count growth e n h p vs means;
-        grown = grown;
-        fewer = fewer_bytes frame e p means.0 vs small means.1 grown;
-      }
 
 -- ** records
 

@@ -17,6 +17,7 @@ use Rattle.nla_wire.proofs.Memory.{memory_exactly}
 use Rattle.nla_wire.specs.Frames.{IsBytes}
 use Rattle.nla_wire.proofs.Canonical.{octets_again}
 use Rattle.nla_wire.proofs.Lawful.{LawfulPayload, LawfulPlace, table_lawful, row_lawful, less, number_lawful, filled_lawful, sized_lawful, through_lawful, some_lawful, always, none}
+use Rattle.nla_wire.proofs.PlaceLaws.{all_always}
 use Rattle.link_vals.specs.MctpPhysBindingTable.{mctp_phys_binding_of, mctp_phys_binding_number}
 use Rattle.link_vals.specs.In6AddrGenModeTable.{in6_addr_gen_mode_of, in6_addr_gen_mode_number}
 use Rattle.link_vals.specs.Inet6IfaceFlagsTable.{inet6_iface_flags_of, inet6_iface_flags_bits}
@@ -58,11 +59,6 @@ text_bounded : {V : Type 0} (g : Grammar Frame V) (frame : V → Frame) (Fits : 
     → LawfulPlace g frame Fits always count growth e inner_small
     → (f : Frame) (v : V) → g.means f v → length (canon (frame v)) ≤ growth * (1 + length f.payload / 4)
 text_bounded g frame Fits count e h f v means = omega (arith, h.bounded f v means)
-
--- nothing is asked of members
-all_always : {V : Type 0} (vs : List V) → AllByRecursion always vs
-all_always [] = tt
-all_always (v ∷ vs) = (tt, all_always vs)
 
 -- a record that is filled up with zeros
 record_lawful : {V : Type 0} (size : ℕ) (of : List ℕ → V) (text : V → List ℕ) → HasSize size text → ReadsAgain of text

@@ -8,12 +8,13 @@
 ghost use Rattle.nla_wire.specs.Sizes.{slack};
 ghost use Rattle.nla_wire.specs.Grammar.{list};
 ghost use Rattle.nla_wire.specs.Canon.{one};
+ghost use Rattle.nla_wire.specs.PlaceLaws.{ReadsBack, ListReadsBack, ListsBounded};
 ghost use Rattle.link_recs.specs.InetDevConfFields.{inet_dev_conf_size};
 ghost use Rattle.link_recs.specs.Inet6DevConfFields.{inet6_dev_conf_size};
 ghost use Rattle.link_recs.specs.Inet6StatsFields.{inet6_stats_size};
 ghost use Rattle.link_recs.specs.Inet6CacheInfoFields.{inet6_cache_info_size};
 ghost use Rattle.link_recs.specs.Icmp6StatsFields.{icmp6_stats_size};
-ghost use Rattle.link_afspec.specs.PlaceLaws.{ReadsBack, ListReadsBack, ListsBounded, ZerosAdded, LongerIgnored, NeverRead};
+ghost use Rattle.link_afspec.specs.PlaceLaws.{ZerosAdded, LongerIgnored, NeverRead};
 ghost use Rattle.link_afspec.specs.Values.{af_spec_mctp_frame, AfSpecMctpFits, af_spec_inet_frame, AfSpecInetFits, af_spec_inet6_frame, AfSpecInet6Fits, af_spec_unspec_frame, AfSpecUnspecFits, af_spec_unspec_count, af_spec_bridge_frame, AfSpecBridgeFits, link_proto_info_bridge_frame, LinkProtoInfoBridgeFits, link_proto_info_inet6_frame, LinkProtoInfoInet6Fits};
 ghost use Rattle.link_afspec.specs.Places.{af_spec_mctp_place, af_spec_inet_place, af_spec_inet6_place, af_spec_unspec_place, af_spec_bridge_place, link_proto_info_bridge_place, link_proto_info_inet6_place};
 ghost use Rattle.link_afspec.specs.declared.inet.AfSpecInet.TheVariants.{DevConfRequest};

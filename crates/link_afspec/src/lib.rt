@@ -2,7 +2,6 @@
 #![tactic(auto)]
 
 pub mod bridge;
-mod checked;
 pub mod inet;
 pub mod inet6;
 pub mod laws;

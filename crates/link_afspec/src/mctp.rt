@@ -4,8 +4,8 @@ ghost use Rattle.std.specs.Prelude.{◌≡◌};
 ghost use Rattle.nla_wire.specs.Gives.{without_place};
 ghost use Rattle.link_afspec.specs.Places.{phys_binding};
 
-use crate::checked::checked;
 use link_vals::MctpPhysBinding;
+use nla_wire::error::checked;
 use nla_wire::{
     CloneIn, DecodeError, DefaultNla, Exact, Nla, NlaBuffer, NlaRead, canon_bytes, canon_u8,
     canon_u32, fill_bytes, parse_u8, parse_u32,

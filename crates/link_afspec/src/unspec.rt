@@ -1,10 +1,9 @@
 //! Settings of a link by family, members of IFLA_AF_SPEC of the family AF_UNSPEC.
 
-use crate::checked::{empty_list, list_fits};
 use crate::{AfSpecInet, AfSpecInet6, AfSpecMctp};
 use nla_wire::{
     CloneIn, DecodeError, DefaultNla, Exact, List, Nla, NlaBuffer, NlaRead, canon_bytes,
-    nlas_buffer_len, nlas_fill,
+    empty_list, list_fits, nlas_buffer_len, nlas_fill,
 };
 use std::alloc::Global;
 

@@ -2,5 +2,4 @@ pub mod Values
 pub mod Places
 pub mod Wireless
 pub mod WirelessLaws
-pub mod PlaceLaws
 pub mod Laws

@@ -1,6 +1,6 @@
 //! The devlink port of an interface, members of IFLA_DEVLINK_PORT.
 
-use crate::checked::checked;
+use nla_wire::error::checked;
 use nla_wire::{
     CloneIn, DecodeError, DefaultNla, Exact, Nla, NlaBuffer, NlaRead, Text, canon_bytes,
     canon_text, canon_u32, check_string, fill_bytes, fill_text, parse_string, parse_u32,

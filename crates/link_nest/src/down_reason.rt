@@ -1,6 +1,6 @@
 //! Why a protocol holds an interface down, members of IFLA_PROTO_DOWN_REASON.
 
-use crate::checked::checked;
+use nla_wire::error::checked;
 use nla_wire::{
     CloneIn, DecodeError, DefaultNla, Exact, Nla, NlaBuffer, NlaRead, canon_bytes, canon_u32,
     fill_bytes, parse_u32,

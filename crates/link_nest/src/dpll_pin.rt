@@ -1,6 +1,6 @@
 //! The clock pin of an interface, members of IFLA_DPLL_PIN.
 
-use crate::checked::checked;
+use nla_wire::error::checked;
 use nla_wire::{
     CloneIn, DecodeError, DefaultNla, Exact, Nla, NlaBuffer, NlaRead, canon_bytes, canon_u32,
     fill_bytes, parse_u32,

@@ -2,7 +2,7 @@
 //! wireless events.
 #![tactic(auto)]
 
-mod checked;
+mod attached;
 pub mod devlink_port;
 pub mod down_reason;
 pub mod dpll_pin;

@@ -1,7 +1,8 @@
 //! The express data path of an interface, members of IFLA_XDP.
 
-use crate::checked::{checked, parse_attached};
+use crate::attached::parse_attached;
 use link_vals::XdpAttached;
+use nla_wire::error::checked;
 use nla_wire::{
     CloneIn, DecodeError, DefaultNla, Exact, Nla, NlaBuffer, NlaRead, canon_bytes, canon_i32,
     canon_u8, canon_u32, fill_bytes, parse_i32, parse_u32,

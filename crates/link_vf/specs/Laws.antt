@@ -3,7 +3,7 @@
 -- payload of at most 855 bytes, and a member of its list one of at most 851 bytes: that fits.
 use Rattle.std.specs.Prelude.{refl}
 use Rattle.std.specs.Int.{w64}
-use Rattle.std.proofs.Common.{◌≡◌, ℕ, ◌+◌, ◌*◌, ◌/◌, ◌<◌, ◌≤◌, List, [], ◌∷◌, length, arith, lit<, lit≤, sym, subst}
+use Rattle.std.proofs.Common.{◌≡◌, ℕ, ◌+◌, ◌*◌, ◌/◌, ◌<◌, ◌≤◌, List, [], length, arith, lit<, lit≤, sym, subst}
 use Rattle.std.specs.List.{AllByRecursion}
 use Rattle.nla_wire.specs.Sizes.{most_payload, growth, slack}
 use Rattle.nla_wire.specs.Frames.{Frame, IsBytes, missing}
@@ -12,6 +12,7 @@ use Rattle.nla_wire.specs.Payloads.{sized}
 use Rattle.nla_wire.specs.Canon.{canon, canons, AllFit, one, total}
 use Rattle.nla_wire.proofs.Agreement.{as_agrees}
 use Rattle.nla_wire.proofs.Lawful.{LawfulPayload, LawfulPlace, table_lawful, row_lawful, number_lawful, sized_lawful, list_lawful, some_lawful, picked_lawful, some_picked_lawful, wrapped_lawful, as_lawful, always, none}
+use Rattle.nla_wire.proofs.PlaceLaws.{all_always}
 use Rattle.link_vfrec.specs.Laws.{ReadsAgain, HasSize}
 use Rattle.link_vfrec.specs.Records.{vf_info_mac_size, vf_info_mac_of, vf_info_mac_bytes, vf_info_broadcast_size, vf_info_broadcast_of, vf_info_broadcast_bytes, vf_info_vlan_size, vf_info_vlan_of, vf_info_vlan_bytes, vf_info_tx_rate_size, vf_info_tx_rate_of, vf_info_tx_rate_bytes, vf_info_rate_size, vf_info_rate_of, vf_info_rate_bytes, vf_info_spoof_check_size, vf_info_spoof_check_of, vf_info_spoof_check_bytes, vf_info_rss_query_en_size, vf_info_rss_query_en_of, vf_info_rss_query_en_bytes, vf_info_trust_size, vf_info_trust_of, vf_info_trust_bytes, vf_info_link_state_size, vf_info_link_state_of, vf_info_link_state_bytes, vf_info_guid_size, vf_info_guid_of, vf_info_guid_bytes, vf_vlan_info_size, vf_vlan_info_of, vf_vlan_info_bytes}
 use Rattle.link_vfrec.proofs.Records.{vf_info_mac_again, length_vf_info_mac_bytes, vf_info_broadcast_again, length_vf_info_broadcast_bytes, vf_info_vlan_again, length_vf_info_vlan_bytes, vf_info_tx_rate_again, length_vf_info_tx_rate_bytes, vf_info_rate_again, length_vf_info_rate_bytes, vf_info_spoof_check_again, length_vf_info_spoof_check_bytes, vf_info_rss_query_en_again, length_vf_info_rss_query_en_bytes, vf_info_trust_again, length_vf_info_trust_bytes, vf_info_link_state_again, length_vf_info_link_state_bytes, vf_info_guid_again, length_vf_info_guid_bytes, vf_vlan_info_again, length_vf_vlan_info_bytes}
@@ -97,11 +98,6 @@ vf_stats_list_lawful = list_lawful vf_stats_place vf_stats_frame VfStatsFits alw
 
 vf_vlan_list_lawful : LawfulPayload (list vf_vlan_place) (canons vf_vlan_frame) (AllFit VfVlanFits vf_vlan_frame) (AllByRecursion always) (total one) growth slack inner_small
 vf_vlan_list_lawful = list_lawful vf_vlan_place vf_vlan_frame VfVlanFits always one growth slack inner_small vf_vlan_lawful slack inner_small (lit≤ tt) (lit≤ tt) (lit≤ tt)
-
--- nothing is asked of members
-all_always : {V : Type 0} (vs : List V) → AllByRecursion always vs
-all_always [] = tt
-all_always (v ∷ vs) = (tt, all_always vs)
 
 pub vf_info_lawful : LawfulPlace vf_info_place vf_info_frame VfInfoFits always vf_info_count growth slack inner_small
 unfolding vf_info_place

@@ -1,4 +1,3 @@
 pub mod Values
 pub mod Places
-pub mod PlaceLaws
 pub mod Laws

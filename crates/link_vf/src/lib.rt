@@ -1,7 +1,6 @@
 //! Virtual functions and ports of link messages: statistics, vlans, and the lists of functions and of ports.
 #![tactic(auto)]
 
-mod checked;
 pub mod laws;
 pub mod port_list;
 pub mod stats;

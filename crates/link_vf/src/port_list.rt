@@ -9,9 +9,9 @@ ghost use Rattle.link_vf.specs.Values.{vf_port_frame, VfPortFits, link_vf_port_m
 ghost use Rattle.link_vf.specs.Places.{link_vf_port, link_vf_port_place, vf_port_list};
 
 use crate::VfPort;
-use crate::checked::{empty_list, list_fits};
 use nla_wire::{
-    CloneIn, DecodeError, Exact, List, Nla, NlaBuffer, NlaRead, nlas_buffer_len, nlas_fill,
+    CloneIn, DecodeError, Exact, List, Nla, NlaBuffer, NlaRead, empty_list, list_fits,
+    nlas_buffer_len, nlas_fill,
 };
 use std::alloc::Global;
 

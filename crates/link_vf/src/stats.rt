@@ -1,6 +1,6 @@
 //! Statistics of a virtual function, members of IFLA_VF_STATS.
 
-use crate::checked::checked;
+use nla_wire::error::checked;
 use nla_wire::{
     CloneIn, DecodeError, DefaultNla, Exact, Nla, NlaBuffer, NlaRead, canon_bytes, canon_u64,
     fill_bytes, parse_u64,

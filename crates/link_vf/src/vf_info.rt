@@ -10,7 +10,6 @@ ghost use Rattle.link_vf.specs.Values.{vf_info_frame, VfInfoFits};
 ghost use Rattle.link_vf.specs.Places.{vf_info_place};
 ghost use Rattle.link_vf.specs.declared.vf_info.VfInfo.TheVariants.{Other};
 
-use crate::checked::{checked, list_fits};
 use crate::{VfStats, VfVlan};
 use link_vfrec::{
     VfInfoBroadcast, VfInfoBroadcastBuffer, VfInfoGuid, VfInfoGuidBuffer, VfInfoLinkState,
@@ -18,9 +17,10 @@ use link_vfrec::{
     VfInfoRssQueryEn, VfInfoRssQueryEnBuffer, VfInfoSpoofCheck, VfInfoSpoofCheckBuffer,
     VfInfoTrust, VfInfoTrustBuffer, VfInfoTxRate, VfInfoTxRateBuffer, VfInfoVlan, VfInfoVlanBuffer,
 };
+use nla_wire::error::checked;
 use nla_wire::{
     CloneIn, DecodeError, DefaultNla, Exact, List, Nla, NlaBuffer, NlaRead, canon_bytes,
-    fill_bytes, nlas_buffer_len, nlas_fill,
+    fill_bytes, list_fits, nlas_buffer_len, nlas_fill,
 };
 use std::alloc::Global;
 

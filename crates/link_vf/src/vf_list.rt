@@ -9,9 +9,9 @@ ghost use Rattle.link_vf.specs.Values.{vf_info_frame, VfInfoFits, link_vf_info_m
 ghost use Rattle.link_vf.specs.Places.{link_vf_info, link_vf_info_place, vf_info_list};
 
 use crate::VfInfo;
-use crate::checked::{empty_list, list_fits};
 use nla_wire::{
-    CloneIn, DecodeError, Exact, List, Nla, NlaBuffer, NlaRead, nlas_buffer_len, nlas_fill,
+    CloneIn, DecodeError, Exact, List, Nla, NlaBuffer, NlaRead, empty_list, list_fits,
+    nlas_buffer_len, nlas_fill,
 };
 use std::alloc::Global;
 

@@ -6,9 +6,9 @@ ghost use Rattle.nla_wire.specs.Canon.{Filled, Closed};
 ghost use Rattle.nla_wire.specs.Payloads.{sized};
 ghost use Rattle.link_vfrec.specs.Records.{vf_vlan_info_size, vf_vlan_info_of, vf_vlan_info_bytes};
 
-use crate::checked::checked;
 use link_vfrec::VfVlanInfo;
 use link_vfrec::vf_vlan::VF_VLAN_INFO_SIZE;
+use nla_wire::error::checked;
 use nla_wire::{
     CloneIn, DecodeError, DefaultNla, Exact, Nla, NlaBuffer, NlaRead, canon_bytes, canon_value,
     fill_bytes,

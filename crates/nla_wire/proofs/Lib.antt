@@ -18,6 +18,7 @@ pub mod Loop
 pub mod Meaning
 pub mod Members
 pub mod Memory
+pub mod PlaceLaws
 pub mod Placing
 pub mod Spellings
 pub mod Texts

@@ -1,6 +1,8 @@
 -- Parts of a buffer written one after the other.
 use Rattle.std.proofs.Common.{◌≡◌, ℕ, ◌+◌, ◌-◌, ◌*◌, ◌/◌, ◌%◌, ◌^◌, ◌<◌, ◌≤◌, List, [], ◌∷◌, ◌++◌, length, take, drop, replicate, refl, sym, ap, ◌∙◌, arith, append_assoc, length-append, length-drop, take-take}
 use Rattle.std.proofs.Math.Seq.{drop-drop, drop-append_seam}
+use lib.Seq.{paste}
+use Rattle.std.proofs.lemmas.List.Edits.{take-paste}
 use Rattle.std.proofs.lemmas.List.{append-nil, take-append-le, length-take-le, take_all, drop_all, length-replicate}
 use borrow.Rule.Slice.PartMut.{put_mid}
 use Rattle.std.specs.Int.{w16, to_le_bytes}
@@ -15,6 +17,14 @@ put_end at k old part k_is =
 -- what is lent of a buffer from a place on
 pub lent_end : (at k : ℕ) (old : List ℕ) → k ≡ length old - at → take k (drop at old) ≡ drop at old
 lent_end at k old k_is = take_all k (drop at old) (omega (arith, k_is, length-drop at old))
+
+-- what stands behind a place, moved to the front
+pub moved_front : (n : ℕ) (s : List ℕ) → n ≤ length s → take (length s - n) (paste s 0 (drop n s) (length s - n)) ≡ drop n s
+moved_front n s fits =
+    let k = length s - n in
+    let same : k ≡ 0 + k = omega arith in
+    let rest : length (drop n s) ≡ k = omega (arith, length-drop n s) in
+    ap (λ i. take i (paste s 0 (drop n s) k)) same ∙ take-paste s 0 (drop n s) k (omega arith) (omega (arith, rest)) ∙ take_all k (drop n s) (omega (arith, rest))
 
 pub take_twice : (n m : ℕ) (xs tail : List ℕ) → n ≤ m → m ≤ length xs → take n (take m xs ++ tail) ≡ take n xs
 take_twice n m xs tail le fits =

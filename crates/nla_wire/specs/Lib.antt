@@ -8,6 +8,7 @@ pub mod Grammar
 pub mod Payloads
 pub mod Fields
 pub mod Canon
+pub mod PlaceLaws
 pub mod Gives
 pub mod Items
 pub mod Same

@@ -1,3 +1,10 @@
+//! Why bytes were refused.
+
+ghost use Rattle.std.specs.Prelude.{◌≡◌};
+ghost use Rattle.nla_wire.specs.Causes.{cause_number};
+ghost use Rattle.nla_wire.specs.Gives.{Checks, without_place};
+ghost use Rattle.nla_wire.specs.declared.error.Cause.TheVariants.{EmptyList, OutOfMemory};
+
 use std::alloc::{AllocError, AllocFailed};
 use thiserror::Error;
 
@@ -34,9 +41,6 @@ pub enum Cause {
 }
 
 impl Cause {
-    ghost use Rattle.std.specs.Prelude.{◌≡◌};
-    ghost use Rattle.nla_wire.specs.Causes.{cause_number};
-
     /// The number of the cause, 1 to 9 in the order of the variants.
     pub fn number(&self) -> u8
         ensures { result ≡ cause_number self.now }
@@ -66,9 +70,6 @@ pub struct DecodeError {
 }
 
 impl DecodeError {
-    ghost use Rattle.std.specs.Prelude.{◌≡◌};
-    ghost use Rattle.nla_wire.specs.Causes.{cause_number};
-
     /// The fault of this cause at this place.
     pub fn new(place: &'static str, cause: Cause) -> DecodeError
         ensures { result.cause ≡ cause }
@@ -85,9 +86,6 @@ impl DecodeError {
 }
 
 impl From<AllocError> for DecodeError {
-    ghost use Rattle.std.specs.Prelude.{◌≡◌};
-    ghost use Rattle.nla_wire.specs.declared.error.Cause.TheVariants.{OutOfMemory};
-
     ghost from_gives = { λ _ e. e.cause ≡ OutOfMemory };
 
     fn from(_error: AllocError) -> DecodeError {
@@ -96,12 +94,26 @@ impl From<AllocError> for DecodeError {
 }
 
 impl<T: Drop> From<AllocFailed<T>> for DecodeError {
-    ghost use Rattle.std.specs.Prelude.{◌≡◌};
-    ghost use Rattle.nla_wire.specs.declared.error.Cause.TheVariants.{OutOfMemory};
-
     ghost from_gives = { λ _ e. e.cause ≡ OutOfMemory };
 
     fn from(_error: AllocFailed<T>) -> DecodeError {
         DecodeError::new("memory", Cause::OutOfMemory)
+    }
+}
+
+/// The fault of an empty list where one member is needed.
+pub fn empty_list() -> DecodeError
+    ensures { result.cause ≡ EmptyList }
+{
+    DecodeError::new("list", Cause::EmptyList)
+}
+
+/// Whether something was read, without what was read.
+pub fn checked<T: Drop>(read: Result<T, DecodeError>) -> Result<(), DecodeError>
+    ensures { Checks result (without_place read) }
+{
+    match read {
+        Ok(_) => Ok(()),
+        Err(error) => Err(error),
     }
 }

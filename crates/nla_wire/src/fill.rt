@@ -27,6 +27,7 @@ pub fn fill_text(buffer: &mut [u8], text: &str) -> usize
 }
 
 /// Moves a value to the front, over the padding that stands before it, and writes the padding behind it.
+#[tactic(auto, using(crate::proofs::Placing::moved_front))]
 fn pad(buffer: &mut [u8], padding: usize)
     requires { padding ≤ length buffer.old }
     ensures { buffer.new ≡ drop padding buffer.old ++ replicate padding 0 }
@@ -35,7 +36,7 @@ fn pad(buffer: &mut [u8], padding: usize)
         return;
     }
     let end = buffer.len() - padding;
-    buffer.rotate_left(padding);
+    buffer.copy_within(padding.., 0);
     buffer[end..].fill(0);
 }
 

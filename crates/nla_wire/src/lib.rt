@@ -23,6 +23,8 @@ mod number_tests;
 pub mod read;
 #[cfg(test)]
 mod read_tests;
+#[cfg(test)]
+mod testing;
 pub mod text;
 #[cfg(test)]
 mod value_tests;
@@ -34,11 +36,11 @@ pub use canon::{
     canon_u64, canon_value, close,
 };
 pub use default_nla::DefaultNla;
-pub use error::{Cause, DecodeError};
+pub use error::{Cause, DecodeError, empty_list};
 pub use exact::Exact;
 pub use fill::{fill_bytes, fill_text};
 pub use iterator::NlasIterator;
-pub use nla::{Nla, emit_nlas, nlas_buffer_len, nlas_fill, nlas_fit};
+pub use nla::{Nla, emit_nlas, list_fits, nlas_buffer_len, nlas_fill, nlas_fit};
 pub use number::{
     emit_i32, emit_u16, emit_u32, emit_u64, parse_i32, parse_ipv6_addr, parse_u8, parse_u16,
     parse_u32, parse_u64,

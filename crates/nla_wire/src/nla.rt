@@ -104,6 +104,13 @@ pub fn nlas_buffer_len<N: Nla>(nlas: &[N]) -> usize
     len
 }
 
+/// Whether each attribute fits, and their text is one that the value of an attribute may have.
+pub fn list_fits<N: Nla>(nlas: &[N]) -> bool
+    ensures { IsTrue result ↔ ((length (canons N.frame nlas.now) ≤ most_payload) × AllFit N.fits N.frame nlas.now) }
+{
+    nlas_fit(nlas) && nlas_buffer_len(nlas) <= 65531
+}
+
 /// Writes the texts of the attributes at the end of the buffer, the last attribute first, and answers where they start.
 /// The bytes before are kept.
 pub fn nlas_fill<N: Nla>(nlas: &[N], buffer: &mut [u8]) -> usize

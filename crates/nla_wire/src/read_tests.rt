@@ -12,9 +12,10 @@ use crate::canon::{
     canon_u64, canon_value,
 };
 use crate::default_nla::DefaultNla;
-use crate::error::DecodeError;
+use crate::error::{Cause, DecodeError};
 use crate::nla::Nla;
 use crate::read::NlaRead;
+use crate::testing::{begin, refuses};
 use std::alloc::Global;
 use std::test::Fail;
 
@@ -45,126 +46,98 @@ impl NlaRead for DefaultNla {
     ghost bounded = { λ f v m. Prim.omega (arith, ap (λ (x : Frame). length x.payload) m, length-append v.payload (replicate (missing (length v.payload)) 0), length-replicate {A = ℕ} (missing (length v.payload)) 0) };
 }
 
-/// Three attributes, of kinds 1, 2 nested and 1. The last lacks its padding.
-const THREE: [u8; 22] = [
-    8, 0, 1, 0, 0xde, 0xad, 0xbe, 0xef, 5, 0, 2, 0x80, 7, 9, 9, 9, 6, 0, 1, 0, 10, 11,
-];
+/// Two attributes, of kinds 2 nested and 1. The last lacks its padding.
+const TWO: [u8; 9] = [4, 0, 2, 0x80, 5, 0, 1, 0, 7];
 
-/// Room for the text of a list of 22 bytes.
-const ROOM: [u8; 1800] = [255; 1800];
+/// The second of them with its padding.
+const SECOND: [u8; 8] = [5, 0, 1, 0, 7, 0, 0, 0];
+
+/// Room for the text of them and of a header.
+const ROOM: [u8; 1001] = [255; 1001];
 
 #[test]
 fn reads_lists(rt: HostRuntime) -> Result<(), Fail> {
-    let all = DefaultNla::parse_list(rt.alloc(), &THREE)?;
-    assert_eq!(rt; all.len(), 3);
-    assert_eq!(rt; all[1].kind(), 0x8002);
-    assert_eq!(rt; all[2].value(), [10, 11].as_slice());
-    let ones = DefaultNla::parse_picked(rt.alloc(), &THREE)?;
-    assert_eq!(rt; ones.len(), 2);
-    assert_eq!(rt; ones[0].value(), [0xde, 0xad, 0xbe, 0xef].as_slice());
+    let all = DefaultNla::parse_list(rt.alloc(), &TWO)?;
+    assert!(rt; all.len() == 2);
+    assert!(rt; all[0].kind() == 0x8002);
+    let ones = DefaultNla::parse_picked(rt.alloc(), &TWO)?;
+    assert!(rt; ones.len() == 1);
+    assert!(rt; ones[0].kind() == 1);
     Ok(())
 }
 
 #[test]
 fn refuses_lists(rt: HostRuntime) {
-    let short = &THREE[..21];
-    let cause = match DefaultNla::parse_list(rt.alloc(), short) {
-        Ok(_) => 0,
-        Err(error) => error.number(),
-    };
-    assert_eq!(rt; cause, 3);
-    let checked = match DefaultNla::check_list(short) {
-        Ok(()) => 0,
-        Err(error) => error.number(),
-    };
-    assert_eq!(rt; checked, 3);
-    let picked = match DefaultNla::check_picked(&THREE[..18]) {
-        Ok(()) => 0,
-        Err(error) => error.number(),
-    };
-    assert_eq!(rt; picked, 2);
+    let short = &TWO[..8];
+    let over = Cause::FrameOver { length: 5, left: 4 };
+    refuses(&rt, DefaultNla::parse_list(rt.alloc(), short), over);
+    refuses(&rt, DefaultNla::check_list(short), over);
+    refuses(&rt, DefaultNla::check_picked(short), over);
 }
 
 #[test]
 fn writes_lists(rt: HostRuntime) -> Result<(), Fail> {
-    DefaultNla::check_list(&THREE)?;
+    DefaultNla::check_list(&TWO)?;
     let mut out = ROOM;
-    assert_eq!(rt; DefaultNla::canon_list(&THREE, &mut out), Some(24));
-    let first = [8, 0, 1, 0, 0xde, 0xad, 0xbe, 0xef];
-    assert_eq!(rt; &out[..8], first.as_slice());
-    let others = [5, 0, 2, 0x80, 7, 0, 0, 0, 6, 0, 1, 0, 10, 11, 0, 0, 255];
-    assert_eq!(rt; &out[8..25], others.as_slice());
-    Ok(())
-}
-
-#[test]
-fn writes_nested_lists(rt: HostRuntime) -> Result<(), Fail> {
-    DefaultNla::check_list(&THREE)?;
-    let mut out = [255; 2100];
-    assert_eq!(rt;
-        DefaultNla::canon_nested(52 | NLA_F_NESTED, &THREE, &mut out),
-        Some(28)
+    assert!(rt; DefaultNla::canon_list(&TWO, &mut out) == Some(12));
+    begin(&rt, &out, &[4, 0, 2, 0x80, 5, 0, 1, 0, 7, 0, 0, 0, 255]);
+    assert!(rt; DefaultNla::canon_nested(52 | NLA_F_NESTED, &TWO, &mut out) == Some(16));
+    begin(
+        &rt,
+        &out,
+        &[16, 0, 52, 0x80, 4, 0, 2, 0x80, 5, 0, 1, 0, 7, 0, 0, 0],
     );
-    let front = [28, 0, 52, 0x80, 8, 0, 1, 0, 0xde, 0xad, 0xbe, 0xef, 5, 0];
-    assert_eq!(rt; &out[..14], front.as_slice());
     Ok(())
 }
 
 #[test]
 fn writes_picked_lists(rt: HostRuntime) -> Result<(), Fail> {
-    DefaultNla::check_picked(&THREE)?;
+    DefaultNla::check_picked(&TWO)?;
     let mut out = ROOM;
-    assert_eq!(rt; DefaultNla::canon_picked(&THREE, &mut out), Some(16));
-    let text = [
-        8, 0, 1, 0, 0xde, 0xad, 0xbe, 0xef, 6, 0, 1, 0, 10, 11, 0, 0, 255,
-    ];
-    assert_eq!(rt; &out[..17], text.as_slice());
-    let mut nested = [255; 2100];
-    assert_eq!(rt;
-        DefaultNla::canon_nested_picked(22, &THREE, &mut nested),
-        Some(20)
-    );
-    assert_eq!(rt; &nested[..8], [20, 0, 22, 0, 8, 0, 1, 0].as_slice());
+    assert!(rt; DefaultNla::canon_picked(&TWO, &mut out) == Some(8));
+    begin(&rt, &out, &SECOND);
+    assert!(rt; DefaultNla::canon_nested_picked(22, &TWO, &mut out) == Some(12));
+    begin(&rt, &out, &[12, 0, 22, 0, 5, 0, 1, 0, 7, 0, 0, 0]);
     Ok(())
 }
 
 #[test]
-fn writes_payloads(rt: HostRuntime) {
+fn writes_short_payloads(rt: HostRuntime) {
     let mut out = ROOM;
-    assert_eq!(rt; canon_text(3, b"lo", &mut out), Some(8));
-    assert_eq!(rt; &out[..8], [7, 0, 3, 0, 0x6c, 0x6f, 0, 0].as_slice());
-    assert_eq!(rt; canon_text(3, b"lo\0", &mut out), Some(8));
-    assert_eq!(rt; &out[..8], [7, 0, 3, 0, 0x6c, 0x6f, 0, 0].as_slice());
-    assert_eq!(rt; canon_u8(33, &[1], &mut out), Some(8));
-    assert_eq!(rt; &out[..8], [5, 0, 33, 0, 1, 0, 0, 0].as_slice());
-    assert_eq!(rt; canon_u16(68, &[1, 2], &mut out), Some(8));
-    assert_eq!(rt; &out[..8], [6, 0, 68, 0, 1, 2, 0, 0].as_slice());
-    assert_eq!(rt; canon_u32(4, &[0xdc, 5, 0, 0], &mut out), Some(8));
-    assert_eq!(rt; &out[..8], [8, 0, 4, 0, 0xdc, 5, 0, 0].as_slice());
-    assert_eq!(rt; canon_i32(28, &[255; 4], &mut out), Some(8));
-    assert_eq!(rt; &out[..8], [8, 0, 28, 0, 255, 255, 255, 255].as_slice());
-    assert_eq!(rt; canon_u64(0, &[1, 0, 0, 0, 0, 0, 0, 2], &mut out), Some(12));
-    assert_eq!(rt; &out[4..12], [1, 0, 0, 0, 0, 0, 0, 2].as_slice());
-    assert_eq!(rt; canon_ipv6_addr(7, &[1; 16], &mut out), Some(20));
-    assert_eq!(rt; &out[..5], [20, 0, 7, 0, 1].as_slice());
+    assert!(rt; canon_text(3, b"lo\0", &mut out) == Some(8));
+    begin(&rt, &out, &[7, 0, 3, 0, 0x6c, 0x6f, 0, 0]);
+    assert!(rt; canon_u8(1, &[7], &mut out) == Some(8));
+    begin(&rt, &out, &SECOND);
+    assert!(rt; canon_u16(68, &[1, 2], &mut out) == Some(8));
+    begin(&rt, &out, &[6, 0, 68, 0, 1, 2, 0, 0]);
+    assert!(rt; canon_u32(4, &[0xdc, 5, 0, 0], &mut out) == Some(8));
+    begin(&rt, &out, &[8, 0, 4, 0, 0xdc, 5, 0, 0]);
+}
+
+#[test]
+fn writes_long_payloads(rt: HostRuntime) {
+    let mut out = [255; 1540];
+    assert!(rt; canon_i32(28, &[255; 4], &mut out) == Some(8));
+    begin(&rt, &out, &[8, 0, 28, 0, 255, 255, 255, 255]);
+    assert!(rt; canon_u64(0, &[1, 0, 0, 0, 0, 0, 0, 2], &mut out) == Some(12));
+    begin(&rt, &out, &[12, 0, 0, 0, 1, 0, 0, 0, 0, 0, 0, 2]);
+    assert!(rt; canon_ipv6_addr(7, &[1; 16], &mut out) == Some(20));
+    begin(&rt, &out, &[20, 0, 7, 0, 1, 1, 1, 1]);
 }
 
 #[test]
 fn writes_values(rt: HostRuntime) -> Result<(), Fail> {
-    let kept = DefaultNla::new(0xc02a, Vec::from_slice(rt.alloc(), &[0xde, 0xad])?);
-    let mut out = [255; 9];
-    assert_eq!(rt; canon_of(&kept, &mut out), Some(8));
-    assert_eq!(rt;
-        out.as_slice(),
-        [6, 0, 42, 0xc0, 0xde, 0xad, 0, 0, 255].as_slice()
-    );
+    let kept = DefaultNla::new(1, Vec::from_slice(rt.alloc(), &[7])?);
+    let mut out = [255; 8];
+    assert!(rt; canon_of(&kept, &mut out) == Some(8));
+    begin(&rt, &out, &SECOND);
     Ok(())
 }
 
 #[test]
 fn refuses_long_values(rt: HostRuntime) {
     let value = [97; 65532];
-    let mut out = [255; 65540];
-    assert_eq!(rt; canon_value(20, &value, &mut out), None);
-    assert_eq!(rt; canon_value(20, &value[1..], &mut out), Some(65536));
+    let mut out = [255; 65536];
+    assert!(rt; canon_value(20, &value, &mut out).is_none());
+    assert!(rt; canon_value(20, &value[1..], &mut out) == Some(65536));
 }

@@ -4,7 +4,7 @@ use Rattle.nla_wire.specs.Canon.{one}
 use Rattle.link_afspec.specs.Values.{af_spec_mctp_frame, AfSpecMctpFits}
 use Rattle.link_afspec.specs.Places.{af_spec_mctp_place}
 use Rattle.link_afspec.specs.Laws.{af_spec_mctp_lawful, inner_small}
-use Rattle.link_afspec.proofs.Lawed.{place_reads_back, list_reads_back, lists_bounded}
+use Rattle.nla_wire.proofs.PlaceLaws.{place_reads_back, list_reads_back, lists_bounded}
 use Rattle.link_afspec.proofs.laws.law_af_spec_mctp.Goals as goal
 
 pub returns-clause-member : goal.returns-clause-member

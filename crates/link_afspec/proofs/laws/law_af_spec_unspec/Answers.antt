@@ -3,7 +3,7 @@ use Rattle.nla_wire.specs.Sizes.{slack}
 use Rattle.link_afspec.specs.Values.{af_spec_unspec_frame, AfSpecUnspecFits, af_spec_unspec_count}
 use Rattle.link_afspec.specs.Places.{af_spec_unspec_place}
 use Rattle.link_afspec.specs.Laws.{af_spec_unspec_lawful, inner_small}
-use Rattle.link_afspec.proofs.Lawed.{place_reads_back, list_reads_back, lists_bounded}
+use Rattle.nla_wire.proofs.PlaceLaws.{place_reads_back, list_reads_back, lists_bounded}
 use Rattle.link_afspec.proofs.laws.law_af_spec_unspec.Goals as goal
 
 pub returns-clause-member : goal.returns-clause-member

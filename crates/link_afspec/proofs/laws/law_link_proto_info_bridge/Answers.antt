@@ -4,7 +4,7 @@ use Rattle.nla_wire.specs.Canon.{one}
 use Rattle.link_afspec.specs.Values.{link_proto_info_bridge_frame, LinkProtoInfoBridgeFits}
 use Rattle.link_afspec.specs.Places.{link_proto_info_bridge_place}
 use Rattle.link_afspec.specs.Laws.{link_proto_info_bridge_lawful, inner_small}
-use Rattle.link_afspec.proofs.Lawed.{place_reads_back, list_reads_back, lists_bounded}
+use Rattle.nla_wire.proofs.PlaceLaws.{place_reads_back, list_reads_back, lists_bounded}
 use Rattle.link_afspec.proofs.laws.law_link_proto_info_bridge.Goals as goal
 
 pub returns-clause-member : goal.returns-clause-member
