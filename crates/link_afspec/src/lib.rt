@@ -8,8 +8,6 @@ pub mod laws;
 pub mod mctp;
 pub mod proto_info;
 mod request;
-#[cfg(test)]
-mod tests;
 pub mod unspec;
 
 pub use bridge::AfSpecBridge;

@@ -10,13 +10,7 @@ pub mod header;
 pub mod laws;
 pub mod message;
 mod payload;
-#[cfg(test)]
-mod place_tests;
-#[cfg(test)]
-mod port_tests;
 mod ports;
-#[cfg(test)]
-mod tests;
 
 pub use attribute::LinkAttribute;
 pub use canonical_text::CanonError;

@@ -9,8 +9,6 @@ pub mod dpll_pin;
 pub mod laws;
 pub mod link_info;
 pub mod prop_list;
-#[cfg(test)]
-mod tests;
 pub mod wireless;
 pub mod xdp;
 

@@ -10,8 +10,6 @@ pub mod laws;
 pub mod map;
 pub mod stats;
 pub mod stats64;
-#[cfg(test)]
-mod tests;
 mod words;
 
 pub use inet::{InetDevConf, InetDevConfBuffer};

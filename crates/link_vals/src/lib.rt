@@ -14,8 +14,6 @@ pub mod link_mode;
 pub mod link_state;
 pub mod mctp_phys_binding;
 pub mod phys_id;
-#[cfg(test)]
-mod tests;
 pub mod vf_link_state;
 pub mod vlan_protocol;
 pub mod xdp_attached;

@@ -4,8 +4,6 @@
 pub mod laws;
 pub mod port_list;
 pub mod stats;
-#[cfg(test)]
-mod tests;
 pub mod vf_info;
 pub mod vf_list;
 pub mod vf_port;

@@ -9,8 +9,6 @@ pub mod mac;
 pub mod rate;
 pub mod rss_query;
 pub mod spoofchk;
-#[cfg(test)]
-mod tests;
 pub mod trust;
 mod truth;
 pub mod tx_rate;

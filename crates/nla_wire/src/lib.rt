@@ -6,28 +6,14 @@ pub mod canon;
 pub mod default_nla;
 pub mod error;
 pub mod exact;
-#[cfg(test)]
-mod field_tests;
 pub mod fields;
 pub mod fill;
-#[cfg(test)]
-mod frame_tests;
 pub mod iterator;
 pub mod laws;
 pub mod nla;
-#[cfg(test)]
-mod nla_tests;
 pub mod number;
-#[cfg(test)]
-mod number_tests;
 pub mod read;
-#[cfg(test)]
-mod read_tests;
-#[cfg(test)]
-mod testing;
 pub mod text;
-#[cfg(test)]
-mod value_tests;
 pub mod values;
 
 pub use buffer::{NLA_F_NESTED, NLA_F_NET_BYTEORDER, NLA_HEADER_SIZE, NLA_TYPE_MASK, NlaBuffer};

@@ -1,4 +1,4 @@
-use crate::*;
+use link_recs::*;
 use nla_wire::Cause;
 
 fn put(buffer: &mut [u8], bytes: &[(usize, u8)]) {

@@ -1,8 +1,8 @@
 //! Causes, fault texts, and bytes, texts and lists as values.
 
-use crate::error::checked;
 use crate::testing::are;
-use crate::*;
+use nla_wire::error::checked;
+use nla_wire::*;
 use std::test::Fail;
 
 #[test]

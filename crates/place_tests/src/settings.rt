@@ -1,4 +1,4 @@
-use crate::*;
+use link_afspec::*;
 use link_recs::{Icmp6Stats, Inet6CacheInfo, Inet6DevConf, Inet6Stats, InetDevConf};
 use link_vals::{In6AddrGenMode, Inet6IfaceFlags, MctpPhysBinding};
 use nla_wire::exact::same;

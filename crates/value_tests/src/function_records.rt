@@ -1,5 +1,5 @@
-use crate::*;
 use link_vals::{VfLinkState, VlanProtocol};
+use link_vfrec::*;
 use nla_wire::Cause;
 
 /// Offsets of `struct ifla_vf_vlan`, `struct ifla_vf_tx_rate`, `struct ifla_vf_rate` and `struct

@@ -1,6 +1,6 @@
 //! Damaged lists in each place, and the refusals of whole messages.
 
-use crate::*;
+use link_msg::*;
 use std::alloc::Global;
 use std::process::Abort;
 use std::test::Fail;

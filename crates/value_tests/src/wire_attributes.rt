@@ -1,8 +1,8 @@
 //! Attributes that are kept as they are, and slices of attributes.
 
-use crate::fill::close_frame;
 use crate::testing::are;
-use crate::*;
+use nla_wire::fill::close_frame;
+use nla_wire::*;
 use std::alloc::Global;
 use std::test::Fail;
 

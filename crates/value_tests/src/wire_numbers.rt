@@ -1,8 +1,8 @@
 //! Numbers, addresses and texts as payloads.
 
-use crate::error::checked;
 use crate::testing::{are, refuses};
-use crate::*;
+use nla_wire::error::checked;
+use nla_wire::*;
 use std::alloc::Global;
 use std::net::Ipv6Addr;
 use std::process::Abort;

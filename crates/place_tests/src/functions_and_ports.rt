@@ -1,5 +1,5 @@
-use crate::*;
 use link_vals::{VfLinkState, VlanProtocol};
+use link_vf::*;
 use link_vfrec::{
     VfInfoBroadcast, VfInfoGuid, VfInfoLinkState, VfInfoMac, VfInfoRate, VfInfoRssQueryEn,
     VfInfoSpoofCheck, VfInfoTrust, VfInfoTxRate, VfInfoVlan, VfVlanInfo,

@@ -1,7 +1,7 @@
 //! Frames at the front of bytes, and the frames of a byte string.
 
 use crate::testing::{are, refuses};
-use crate::*;
+use nla_wire::*;
 use std::test::Fail;
 
 #[test]

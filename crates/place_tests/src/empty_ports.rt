@@ -1,6 +1,6 @@
 //! Empty lists of ports, and what `same_message` answers of them.
 
-use crate::*;
+use link_msg::*;
 use std::test::Fail;
 
 /// A header of zeros and a list of ports whose one entry is dropped.

@@ -1,5 +1,5 @@
-use crate::*;
 use bitflags::Flags;
+use link_vals::*;
 use nla_wire::exact::same;
 use std::str::FromStr;
 use std::test::Fail;

@@ -1,4 +1,4 @@
-use crate::*;
+use link_nest::*;
 use link_vals::XdpAttached;
 use nla_wire::exact::same;
 use nla_wire::{

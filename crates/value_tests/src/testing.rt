@@ -1,6 +1,6 @@
 //! What the tests share.
 
-use crate::{Cause, DecodeError};
+use nla_wire::{Cause, DecodeError};
 use std::process::Abort;
 
 /// The bytes are these.

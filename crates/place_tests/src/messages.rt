@@ -1,4 +1,4 @@
-use crate::*;
+use link_msg::*;
 use link_vals::{AddressFamily, LinkLayerType};
 use nla_wire::{Cause, CloneIn, DecodeError};
 use std::alloc::Global;

@@ -1,7 +1,7 @@
 //! Fields of records, read past the end and put at their places.
 
-use crate::fields::*;
 use crate::testing::{are, begin};
+use nla_wire::fields::*;
 
 #[test]
 fn reads_short_fields(rt: HostRuntime) {

@@ -1,0 +1,17 @@
+//! Tests of `link_nest`, `link_vf`, `link_afspec` and `link_msg`, in a crate of their own so that those are proved once.
+#![tactic(auto)]
+
+#[cfg(test)]
+mod damaged_lists;
+#[cfg(test)]
+mod empty_ports;
+#[cfg(test)]
+mod flat_lists;
+#[cfg(test)]
+mod functions_and_ports;
+#[cfg(test)]
+mod kept_lists;
+#[cfg(test)]
+mod messages;
+#[cfg(test)]
+mod settings;
