@@ -1,12 +1,17 @@
-#!/bin/sh
+#!/usr/bin/env bash
 # Proves and builds the library for programs in C, out/liblink.a, and prints where it is. It holds the exported functions
-# and the toolchain's calls of malloc, realloc and free.
-set -eu
+# and the toolchain's calls of malloc, realloc and free. With --over-gate it stands on the libraries that the gate proved
+# and left, and only its own crate is proved.
+set -euo pipefail
 top=$(cd "$(dirname "$0")/.." && pwd)
 kit=$(dirname "$(dirname "$(readlink -f "$(command -v rt)")")")
-mkdir -p "$top/out"
+mkdir -p "$top/out" "$top/crates/link_c/out"
+build=(rt lib)
+if [ "${1:-}" = --over-gate ]; then
+    build=(python3 "$top/scripts/over_gate.py" "$kit")
+fi
 cd "$top/crates/link_c"
-rt lib > "$top/out/link_c.log" 2>&1 || { tail -20 "$top/out/link_c.log" >&2; exit 1; }
+"${build[@]}" > "$top/out/link_c.log" 2>&1 || { tail -20 "$top/out/link_c.log" >&2; exit 1; }
 cd "$top/out"
 rm -f liblink.a
 ar -M <<END

@@ -5,8 +5,20 @@
 
 #include "link.h"
 
-static const uint8_t message[] = {0, 0, 1, 0, 7, 0, 0, 0, 0x43, 0, 1, 0, 0, 0, 0, 0, 10, 0, 1, 0, 2, 0, 0, 0, 0, 1, 0, 0,
-                                  20, 0, 52, 0, 7, 0, 53, 0, 'l', 'o', 0, 0, 6, 0, 53, 0, 'e', 0, 0, 0, 9, 0, 99, 0, 1, 2, 3, 4, 5};
+static const uint8_t message[] = {
+    /* a header and two alternative names */
+    0x00, 0x00, 0x01, 0x00, 0x02, 0x00, 0x00, 0x00, 0x43, 0x10, 0x01, 0x00, 0x00, 0x00, 0x00, 0x00,
+    0x20, 0x00, 0x34, 0x80, 0x0e, 0x00, 0x35, 0x00, 0x77, 0x6c, 0x70, 0x30, 0x73, 0x32, 0x30, 0x66,
+    0x33, 0x00, 0x00, 0x00, 0x09, 0x00, 0x35, 0x00, 0x77, 0x69, 0x66, 0x69, 0x00, 0x00, 0x00, 0x00,
+    /* a vlan of a virtual function, four levels deep */
+    0x20, 0x00, 0x16, 0x00, 0x1c, 0x00, 0x01, 0x00, 0x18, 0x00, 0x0c, 0x00, 0x14, 0x00, 0x01, 0x00,
+    0x01, 0x00, 0x00, 0x00, 0x64, 0x00, 0x00, 0x00, 0x00, 0x00, 0x00, 0x00, 0x88, 0xa8, 0x12, 0x34,
+    /* a wireless event */
+    0x0d, 0x00, 0x0b, 0x00, 0xff, 0xff, 0x07, 0x8c, 0x01, 0x02, 0x03, 0x04, 0xaa, 0x00, 0x00, 0x00,
+    /* a name and the kind of the link */
+    0x0a, 0x00, 0x03, 0x00, 0x70, 0x66, 0x63, 0x70, 0x30, 0x00, 0x00, 0x00, 0x10, 0x00, 0x12, 0x00,
+    0x09, 0x00, 0x01, 0x00, 0x70, 0x66, 0x63, 0x70, 0x00, 0x00, 0x00, 0x00,
+};
 
 /* malloc and its kin, over an arena that is never used twice: a block has its size in the 16 bytes before it. */
 static _Alignas(16) unsigned char arena[1 << 20];
@@ -52,9 +64,41 @@ static int wrong(const char *what, long at, long found) {
     return 1;
 }
 
+static uint8_t out[LINK_GROWTH * sizeof message];
+
+static long canonical(void) {
+    memset(out, 0x55, sizeof out);
+    return link_canonical(message, sizeof message, out, sizeof out);
+}
+
+static long same(void) {
+    return link_same_message(message, sizeof message, message, sizeof message);
+}
+
+/* Refuses the first call for memory, then the second, and so on, until no call is refused. */
+static int refuses_each(const char *what, long (*call)(void), long want) {
+    for (long at = 0;; at++) {
+        used = 0;
+        refused_from = at;
+        taken = 0;
+        out[0] = 0x55;
+        long found = call();
+        if (in_use != 0) {
+            return wrong("a call that kept memory", at, found);
+        }
+        if (taken <= at) {
+            return found == want ? 0 : wrong(what, at, found);
+        }
+        if (found != LINK_OUT_OF_MEMORY || out[0] != 0x55) {
+            return wrong(what, at, found);
+        }
+    }
+}
+
 int main(void) {
-    static uint8_t out[LINK_GROWTH * sizeof message];
     setvbuf(stderr, NULL, _IONBF, 0);
+    used = 0;
+    in_use = 0;
     refused_from = 0;
     taken = 0;
     long checked = link_check(message, sizeof message);
@@ -62,25 +106,5 @@ int main(void) {
     if (checked != 0 || len <= 0 || taken != 0) {
         return wrong("a call that takes no memory", 0, checked != 0 ? checked : len);
     }
-    for (long at = 0;; at++) {
-        long before = in_use;
-        refused_from = at;
-        taken = 0;
-        memset(out, 0x55, sizeof out);
-        long written = link_canonical(message, sizeof message, out, sizeof out);
-        if (in_use != before) {
-            return wrong("link_canonical, which kept memory,", at, written);
-        }
-        if (taken <= at) {
-            return written == len ? 0 : wrong("link_canonical with ample memory", at, written);
-        }
-        if (written != LINK_OUT_OF_MEMORY || out[0] != 0x55) {
-            return wrong("link_canonical", at, written);
-        }
-        taken = 0;
-        long same = link_same_message(message, sizeof message, message, sizeof message);
-        if (same != LINK_OUT_OF_MEMORY || in_use != before) {
-            return wrong("link_same_message", at, same);
-        }
-    }
+    return refuses_each("link_canonical", canonical, len) || refuses_each("link_same_message", same, 1);
 }

@@ -1,5 +1,7 @@
 use super::pieces::{NEVER, answers_to, run_in_pieces};
-use super::rows::ROWS;
+use super::rows::{self, Row};
+use std::alloc::Global;
+use std::process::Abort;
 use std::test::Fail;
 
 /// Some lines of each kind, the last of which no LF ends.
@@ -10,15 +12,55 @@ pub const TEXT: &[u8] =
 pub const ANSWERS: &[u8] =
     b"ok 00000000000000000000000000000000070003006c6f0000\nrefused\nnothex\nempty-ports\nnothex\nok 00000000000000000000000000000000\n";
 
-#[test]
-fn each_row_has_its_answer(rt: HostRuntime) -> Result<(), Fail> {
-    for (line, answer) in ROWS {
-        let text = format!(in rt.alloc(); "{line}\n")?;
-        let want = format!(in rt.alloc(); "{answer}\n")?;
-        let got = answers_to(rt.alloc(), text.as_bytes())?;
+/// Each line of a table has its answer.
+fn answers(rt: &impl Abort, alloc: Global, rows: &[Row]) -> Result<(), Fail> {
+    for (line, answer) in rows {
+        let text = format!(in alloc; "{line}\n")?;
+        let want = format!(in alloc; "{answer}\n")?;
+        let got = answers_to(alloc, text.as_bytes())?;
         assert_eq!(rt; got.as_slice(), want.as_bytes(), "line {line}");
     }
     Ok(())
+}
+
+#[test]
+fn lines_that_are_no_message(rt: HostRuntime) -> Result<(), Fail> {
+    answers(&rt, rt.alloc(), &rows::LINES)
+}
+
+#[test]
+fn frames(rt: HostRuntime) -> Result<(), Fail> {
+    answers(&rt, rt.alloc(), &rows::FRAMES)
+}
+
+#[test]
+fn numbers_and_texts(rt: HostRuntime) -> Result<(), Fail> {
+    answers(&rt, rt.alloc(), &rows::NUMBERS)
+}
+
+#[test]
+fn records(rt: HostRuntime) -> Result<(), Fail> {
+    answers(&rt, rt.alloc(), &rows::RECORDS)
+}
+
+#[test]
+fn flat_lists(rt: HostRuntime) -> Result<(), Fail> {
+    answers(&rt, rt.alloc(), &rows::LISTS)
+}
+
+#[test]
+fn functions_and_ports(rt: HostRuntime) -> Result<(), Fail> {
+    answers(&rt, rt.alloc(), &rows::FUNCTIONS)
+}
+
+#[test]
+fn settings_by_family(rt: HostRuntime) -> Result<(), Fail> {
+    answers(&rt, rt.alloc(), &rows::FAMILIES)
+}
+
+#[test]
+fn whole_messages(rt: HostRuntime) -> Result<(), Fail> {
+    answers(&rt, rt.alloc(), &rows::WHOLE)
 }
 
 #[test]

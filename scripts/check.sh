@@ -1,0 +1,12 @@
+#!/usr/bin/env bash
+# The gate, and then the scripts over what it left: the program, and the libraries that the library for C stands on. So
+# nothing is proved twice. The last line is the gate's own, printed again.
+set -euo pipefail
+cd "$(dirname "$0")/.."
+log=$(mktemp)
+trap 'rm -f "$log"' EXIT
+rt ci | tee "$log"
+scripts/program.sh
+scripts/c_tests.sh --over-gate
+scripts/refused_memory.sh
+tail -n 1 "$log"
