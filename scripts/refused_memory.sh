@@ -4,7 +4,7 @@
 set -euo pipefail
 cd "$(dirname "$0")/../crates/linkwire"
 test=tests::faults::refused_memory_changes_no_answer
-for count in ${REFUSED:-1 2 4 7 11 16}; do
+for count in ${REFUSED:-1 4 11}; do
     log=$(rt try --test --fail-alloc "$count" 2>&1 || true)
     if ! grep -q "^test $test \.\.\. ok" <<<"$log"; then
         echo "refused_memory: growth $count changed an answer" >&2

@@ -1,0 +1,206 @@
+/* Times the functions of link.h on messages as kernels send them (linux/if_link.h), beside a plain copy of each, and what a
+ * byte costs as a message grows. Processor time, the best of several rounds. */
+#include <stdint.h>
+#include <stdio.h>
+#include <stdlib.h>
+#include <string.h>
+#include <time.h>
+
+#include "link.h"
+
+enum { ROUNDS = 9, MOST = 1600000 };
+
+static uint8_t message[MOST], out[77 * 40000 + 2 * MOST];
+static size_t len;
+
+static void put(const void *bytes, size_t count) {
+    if (bytes == NULL) {
+        memset(message + len, 0x11, count);
+    } else {
+        memcpy(message + len, bytes, count);
+    }
+    len += count;
+}
+
+/* Opens an attribute, and answers where it starts. */
+static size_t opens(uint16_t kind) {
+    size_t at = len;
+    const uint8_t header[4] = {0, 0, kind & 0xff, kind >> 8};
+    put(header, 4);
+    return at;
+}
+
+/* Closes it: its length, and zeros up to a multiple of four. */
+static void closes(size_t at) {
+    size_t value = len - at;
+    message[at] = value & 0xff;
+    message[at + 1] = value >> 8;
+    while (len % 4 != 0) {
+        message[len++] = 0;
+    }
+}
+
+static void value(uint16_t kind, const void *bytes, size_t count) {
+    size_t at = opens(kind);
+    put(bytes, count);
+    closes(at);
+}
+
+static void texts(uint16_t kind, const char *text) {
+    value(kind, text, strlen(text) + 1);
+}
+
+static void header(void) {
+    static const uint8_t bytes[16] = {0, 0, 1, 0, 2, 0, 0, 0, 0x43, 0x10, 1, 0, 0, 0, 0, 0};
+    len = 0;
+    put(bytes, sizeof bytes);
+}
+
+static void short_one(void) {
+    header();
+    texts(3, "");
+}
+
+/* Settings and statistics of both families. */
+static void settings(void) {
+    size_t spec = opens(26), inet = opens(2);
+    value(1, NULL, 132);
+    closes(inet);
+    size_t inet6 = opens(10);
+    value(1, NULL, 4);
+    value(5, NULL, 16);
+    value(2, NULL, 240);
+    value(3, NULL, 304);
+    value(6, NULL, 56);
+    value(7, NULL, 16);
+    value(8, NULL, 1);
+    closes(inet6);
+    closes(spec);
+}
+
+/* One interface as a dump of links shows it. */
+static void interface(void) {
+    static const uint16_t numbers[] = {13, 4, 50, 51, 27, 30, 61, 31, 40, 41, 58, 59, 60, 63, 64, 32, 35, 47, 48};
+    header();
+    texts(3, "enp0s31f6");
+    for (size_t i = 0; i < sizeof numbers / sizeof *numbers; i++) {
+        value(numbers[i], NULL, 4);
+    }
+    value(16, "\6", 1);
+    value(17, "", 1);
+    value(33, "\1", 1);
+    value(39, "", 1);
+    texts(6, "fq_codel");
+    value(14, NULL, 32);
+    value(1, NULL, 6);
+    value(2, NULL, 6);
+    value(54, NULL, 6);
+    value(23, NULL, 200);
+    value(7, NULL, 96);
+    size_t xdp = opens(43);
+    value(2, "", 1);
+    closes(xdp);
+    settings();
+    texts(56, "0000:00:1f.6");
+    texts(57, "pci");
+}
+
+/* One interface with 128 virtual functions. */
+static void functions(void) {
+    header();
+    texts(3, "enp1s0f0");
+    size_t list = opens(22);
+    for (int i = 0; i < 128; i++) {
+        size_t one = opens(1);
+        value(1, NULL, 36);
+        value(13, NULL, 32);
+        value(2, NULL, 12);
+        size_t vlans = opens(12);
+        value(1, NULL, 16);
+        closes(vlans);
+        value(3, NULL, 8);
+        value(4, NULL, 8);
+        value(5, NULL, 8);
+        value(6, NULL, 12);
+        value(9, NULL, 8);
+        closes(one);
+    }
+    closes(list);
+}
+
+/* A message of about so many bytes, of names, numbers and kept attributes. */
+static void of_length(size_t want) {
+    header();
+    while (len + 40 < want) {
+        texts(3, "eth0.100");
+        value(4, NULL, 4);
+        value(99, NULL, 9);
+    }
+}
+
+static long copy(void) {
+    memcpy(out, message, len);
+    __asm__ volatile("" : : "r"(out) : "memory");
+    return 0;
+}
+
+static long check(void) {
+    return link_check(message, len);
+}
+
+static long into(void) {
+    return link_canonical_into(message, len, out, sizeof out);
+}
+
+static long canonical(void) {
+    return link_canonical(message, len, out, sizeof out);
+}
+
+static double seconds(void) {
+    struct timespec now;
+    clock_gettime(CLOCK_PROCESS_CPUTIME_ID, &now);
+    return now.tv_sec + now.tv_nsec * 1e-9;
+}
+
+/* Nanoseconds of one call. */
+static double times(const char *name, long (*call)(void)) {
+    double best = 1e300;
+    size_t calls = 4000000 / (len + 1000) + 1;
+    for (int round = 0; round < ROUNDS; round++) {
+        double start = seconds();
+        for (size_t i = 0; i < calls; i++) {
+            if (call() < 0) {
+                fprintf(stderr, "%s answers %ld for %zu bytes\n", name, call(), len);
+                exit(1);
+            }
+        }
+        double took = (seconds() - start) / calls;
+        best = took < best ? took : best;
+    }
+    return best * 1e9;
+}
+
+static void line(const char *what) {
+    double copied = times("memcpy", copy), checked = times("link_check", check);
+    double written = times("link_canonical_into", into), made = times("link_canonical", canonical);
+    printf("%-24s %8zu %8.0f %8.0f (%4.0f) %8.0f (%4.0f) %8.0f (%4.0f)\n", what, len, copied, checked, len / checked * 1e3,
+           written, len / written * 1e3, made, len / made * 1e3);
+}
+
+int main(void) {
+    printf("%-24s %8s %8s %15s %15s %15s\n", "ns a message (MB/s)", "bytes", "memcpy", "check", "canonical_into", "canonical");
+    short_one();
+    line("a header and a name");
+    interface();
+    line("an interface");
+    functions();
+    line("128 virtual functions");
+    printf("ns a byte                ");
+    static const size_t lengths[] = {1000, 10000, 100000, 1500000};
+    for (size_t i = 0; i < sizeof lengths / sizeof *lengths; i++) {
+        of_length(lengths[i]);
+        printf(" %zu: %.2f", len, times("link_canonical", canonical) / len);
+    }
+    printf("\n");
+    return 0;
+}
