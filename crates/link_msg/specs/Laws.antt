@@ -9,6 +9,7 @@ use Rattle.nla_wire.specs.Canon.{AllFit, canon, canons, one, total}
 use Rattle.nla_wire.specs.Grammar.{Grammar, list, not_empty, Row, row, kept, by_payload}
 use Rattle.nla_wire.specs.Payloads.{number_of, text, bytes, filled, sized}
 use Rattle.nla_wire.proofs.Lawful.{LawfulPlace, LawfulPayload, LawfulRows, LawfulReading, table_over_lawful, place_lawful, row_lawful, list_lawful, some_lawful, less, kept_lawful, number_lawful, signed_lawful, through_lawful, filled_lawful, sized_lawful, text_lawful, bytes_lawful, always, none}
+use Rattle.nla_wire.proofs.PlaceLaws.{all_always}
 use Rattle.link_vals.specs.StateTable.{state_of, state_number}
 use Rattle.link_vals.specs.LinkModeTable.{link_mode_of, link_mode_number}
 use Rattle.link_vals.specs.LinkEventTable.{link_event, link_event_of, link_event_number}
@@ -125,11 +126,6 @@ number_lines =
     (plain 4 4 Attributes.Mtu _ _ slack (number_lawful w32 attribute_small) refl (lit< tt) (λ a. refl) (λ a. refl) (λ a. tt), (plain 5 5 Attributes.Link _ _ slack (number_lawful w32 attribute_small) refl (lit< tt) (λ a. refl) (λ a. refl) (λ a. tt), (plain 7 7 Attributes.Stats _ _ 0 (record_lawful stats_size stats_of stats_bytes length_stats_bytes stats_again (lit≤ tt) (lit≤ tt)) refl (lit< tt) (λ a. refl) (λ a. refl) (λ a. tt), (plain 10 10 Attributes.Controller _ _ slack (number_lawful w32 attribute_small) refl (lit< tt) (λ a. refl) (λ a. refl) (λ a. tt), (plain 13 13 Attributes.TxQueueLen _ _ slack (number_lawful w32 attribute_small) refl (lit< tt) (λ a. refl) (λ a. refl) (λ a. tt), (plain 14 14 Attributes.Map _ _ 0 map_lawful refl (lit< tt) (λ a. refl) (λ a. refl) (λ a. tt), (plain 16 16 Attributes.OperState _ _ slack state_lawful refl (lit< tt) (λ a. refl) (λ a. refl) (λ a. tt), (plain 17 17 Attributes.Mode _ _ slack mode_lawful refl (lit< tt) (λ a. refl) (λ a. refl) (λ a. tt), (plain 19 19 Attributes.NetNsPid _ _ slack (number_lawful w32 attribute_small) refl (lit< tt) (λ a. refl) (λ a. refl) (λ a. tt), (plain 21 21 Attributes.NumVf _ _ slack (number_lawful w32 attribute_small) refl (lit< tt) (λ a. refl) (λ a. refl) (λ a. tt), (plain 23 23 Attributes.Stats64 _ _ 0 (record_lawful stats64_size stats64_of stats64_bytes length_stats64_bytes stats64_again (lit≤ tt) (lit≤ tt)) refl (lit< tt) (λ a. refl) (λ a. refl) (λ a. tt), (plain 27 27 Attributes.Group _ _ slack (number_lawful w32 attribute_small) refl (lit< tt) (λ a. refl) (λ a. refl) (λ a. tt), (plain 28 28 Attributes.NetNsFd _ _ slack (signed_lawful w32 attribute_small) refl (lit< tt) (λ a. refl) (λ a. refl) (λ a. tt), (plain 30 30 Attributes.Promiscuity _ _ slack (number_lawful w32 attribute_small) refl (lit< tt) (λ a. refl) (λ a. refl) (λ a. tt), (plain 31 31 Attributes.NumTxQueues _ _ slack (number_lawful w32 attribute_small) refl (lit< tt) (λ a. refl) (λ a. refl) (λ a. tt), (plain 32 32 Attributes.NumRxQueues _ _ slack (number_lawful w32 attribute_small) refl (lit< tt) (λ a. refl) (λ a. refl) (λ a. tt), (plain 33 33 Attributes.Carrier _ _ slack (number_lawful w8 attribute_small) refl (lit< tt) (λ a. refl) (λ a. refl) (λ a. tt), (holding 34 34 Attributes.PhysPortId _ _ _ _ _ id_lawful refl (lit< tt) (λ a. refl) (λ a. refl) (λ a fits. fits) (λ a small inside. (small, inside)) (λ a good. tt), (plain 35 35 Attributes.CarrierChanges _ _ slack (number_lawful w32 attribute_small) refl (lit< tt) (λ a. refl) (λ a. refl) (λ a. tt), (holding 36 36 Attributes.PhysSwitchId _ _ _ _ _ id_lawful refl (lit< tt) (λ a. refl) (λ a. refl) (λ a fits. fits) (λ a small inside. (small, inside)) (λ a good. tt), (plain 37 37 Attributes.LinkNetNsId _ _ slack (signed_lawful w32 attribute_small) refl (lit< tt) (λ a. refl) (λ a. refl) (λ a. tt), (plain 39 39 Attributes.ProtoDown _ _ slack (number_lawful w8 attribute_small) refl (lit< tt) (λ a. refl) (λ a. refl) (λ a. tt), (plain 40 40 Attributes.GsoMaxSegs _ _ slack (number_lawful w32 attribute_small) refl (lit< tt) (λ a. refl) (λ a. refl) (λ a. tt), (plain 41 41 Attributes.GsoMaxSize _ _ slack (number_lawful w32 attribute_small) refl (lit< tt) (λ a. refl) (λ a. refl) (λ a. tt), (plain 44 44 Attributes.Event _ _ slack event_lawful refl (lit< tt) (λ a. refl) (λ a. refl) (λ a. tt), (plain 45 45 Attributes.NewNetnsId _ _ slack (signed_lawful w32 attribute_small) refl (lit< tt) (λ a. refl) (λ a. refl) (λ a. tt), (plain 46 46 Attributes.IfNetnsId _ _ slack (signed_lawful w32 attribute_small) refl (lit< tt) (λ a. refl) (λ a. refl) (λ a. tt), (plain 47 47 Attributes.CarrierUpCount _ _ slack (number_lawful w32 attribute_small) refl (lit< tt) (λ a. refl) (λ a. refl) (λ a. tt), (plain 48 48 Attributes.CarrierDownCount _ _ slack (number_lawful w32 attribute_small) refl (lit< tt) (λ a. refl) (λ a. refl) (λ a. tt), (plain 49 49 Attributes.NewIfIndex _ _ slack (signed_lawful w32 attribute_small) refl (lit< tt) (λ a. refl) (λ a. refl) (λ a. tt), (plain 50 50 Attributes.MinMtu _ _ slack (number_lawful w32 attribute_small) refl (lit< tt) (λ a. refl) (λ a. refl) (λ a. tt), (plain 51 51 Attributes.MaxMtu _ _ slack (number_lawful w32 attribute_small) refl (lit< tt) (λ a. refl) (λ a. refl) (λ a. tt), (plain 58 58 Attributes.GroMaxSize _ _ slack (number_lawful w32 attribute_small) refl (lit< tt) (λ a. refl) (λ a. refl) (λ a. tt), (plain 59 59 Attributes.TsoMaxSize _ _ slack (number_lawful w32 attribute_small) refl (lit< tt) (λ a. refl) (λ a. refl) (λ a. tt), (plain 60 60 Attributes.TsoMaxSegs _ _ slack (number_lawful w32 attribute_small) refl (lit< tt) (λ a. refl) (λ a. refl) (λ a. tt), (plain 61 61 Attributes.AllMulticast _ _ slack (number_lawful w32 attribute_small) refl (lit< tt) (λ a. refl) (λ a. refl) (λ a. tt), (plain 63 63 Attributes.GsoIpv4MaxSize _ _ slack (number_lawful w32 attribute_small) refl (lit< tt) (λ a. refl) (λ a. refl) (λ a. tt), (plain 64 64 Attributes.GroIpv4MaxSize _ _ slack (number_lawful w32 attribute_small) refl (lit< tt) (λ a. refl) (λ a. refl) (λ a. tt), (plain 67 67 Attributes.NetnsImmutable _ _ slack truth_lawful refl (lit< tt) (λ a. refl) (λ a. refl) (λ a. tt), tt)))))))))))))))))))))))))))))))))))))))
 
 -- ** lists
-
--- members of which nothing more is asked
-all_always : {V : Type 0} (vs : List V) → AllByRecursion always vs
-all_always [] = tt
-all_always (v ∷ vs) = (tt, all_always vs)
 
 infos_lawful : LawfulPayload (not_empty (list link_info_place)) (canons link_info_frame) (AllFit LinkInfoFits link_info_frame) (AllByRecursion always) (total one) growth 0 attribute_small
 infos_lawful = some_lawful link_info_place link_info_frame LinkInfoFits always one growth slack inner_small link_info_lawful 0 attribute_small (lit≤ tt) (lit≤ tt) (lit≤ tt)

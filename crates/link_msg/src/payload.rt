@@ -6,7 +6,6 @@ ghost use Rattle.nla_wire.specs.Sizes.{most_payload, growth_per_byte};
 ghost use Rattle.nla_wire.specs.Grammar.{list, not_empty};
 ghost use Rattle.nla_wire.specs.Canon.{canon, canons, AllFit, Canonical};
 ghost use Rattle.nla_wire.specs.Gives.{Gives, Checks};
-ghost use Rattle.nla_wire.specs.declared.error.Cause.TheVariants.{EmptyList};
 ghost use Rattle.link_vals.specs.LinkExtentMaskTable.{ext_sum};
 ghost use Rattle.link_nest.specs.Wireless.{wireless_event, wireless_text, WirelessFits};
 ghost use Rattle.link_vf.specs.Values.{link_vf_port_frame, LinkVfPortFits};
@@ -17,15 +16,10 @@ ghost use Rattle.link_msg.specs.Values.{truth_number};
 use link_nest::WirelessEvent;
 use link_vals::LinkExtentMask;
 use link_vf::LinkVfPort;
-use nla_wire::{Cause, DecodeError, List, NLA_HEADER_SIZE, NlaRead, canon_u32, close, parse_u32};
+use nla_wire::{
+    DecodeError, List, NLA_HEADER_SIZE, NlaRead, canon_u32, close, empty_list, parse_u32,
+};
 use std::alloc::Global;
-
-/// The fault of an empty payload where a list needs a member.
-fn empty_list() -> DecodeError
-    ensures { result.cause ≡ EmptyList }
-{
-    DecodeError::new("list", Cause::EmptyList)
-}
 
 /// Reads a list that is not empty.
 #[tactic(auto, unfolding(nla_wire::specs::Grammar::unless_empty))]
