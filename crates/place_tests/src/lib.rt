@@ -14,4 +14,6 @@ mod kept_lists;
 #[cfg(test)]
 mod messages;
 #[cfg(test)]
+mod names;
+#[cfg(test)]
 mod settings;
