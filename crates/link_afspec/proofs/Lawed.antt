@@ -1,6 +1,6 @@
 -- Records that are shorter or longer, and requests.
-use Rattle.std.specs.Prelude.{refl, ◌↔◌, replicate}
-use Rattle.std.proofs.Common.{◌≡◌, ℕ, ◌+◌, ◌≤◌, ◌==◌, Bool, true, false, List, ◌++◌, length, arith, sym, ◌∙◌, subst, length-append}
+use Rattle.std.specs.Prelude.{◌↔◌, replicate}
+use Rattle.std.proofs.Common.{ℕ, ◌≤◌, ◌==◌, Bool, true, false, List, ◌++◌, length, arith, sym, ◌∙◌, subst, length-append}
 use Rattle.nla_wire.specs.Frames.{Frame, number}
 use Rattle.nla_wire.specs.Grammar.{Grammar, Row, line, table, as_a, kept, if_true, by_payload}
 use Rattle.nla_wire.specs.Payloads.{filled, sized}
@@ -9,7 +9,6 @@ use Rattle.link_recs.specs.InetDevConfFields.{inet_dev_conf_of}
 use Rattle.link_recs.specs.declared.inet.InetDevConf.{InetDevConf}
 use Rattle.link_afspec.specs.PlaceLaws.{ZerosAdded, LongerIgnored, NeverRead}
 use Rattle.link_afspec.specs.Places.{af_spec_inet_place}
-use Rattle.link_afspec.specs.declared.inet.AfSpecInet.{AfSpecInet}
 use Rattle.link_afspec.specs.declared.inet.AfSpecInet.TheVariants.{DevConf, DevConfRequest, Other}
 
 -- ** records

@@ -4,7 +4,7 @@
 use Rattle.std.specs.Prelude.{refl}
 use Rattle.std.specs.Int.{w8, w32, to_le_bytes}
 use Rattle.std.specs.Net.Addr.{segments_of, octets_of, ipv6_octets}
-use Rattle.std.proofs.Common.{◌≡◌, ℕ, ◌+◌, ◌*◌, ◌/◌, ◌%◌, ◌≤◌, List, [], ◌∷◌, length, arith, lit<, lit≤, sym, ap, ◌∙◌, subst}
+use Rattle.std.proofs.Common.{◌≡◌, ℕ, ◌+◌, ◌*◌, ◌/◌, ◌≤◌, List, [], ◌∷◌, length, arith, lit<, lit≤, sym, ap, ◌∙◌, subst}
 use Rattle.std.specs.declared.net.ipv6_addr.Ipv6Addr.{Ipv6Addr}
 use Rattle.std.specs.List.{AllByRecursion}
 use Rattle.nla_wire.specs.Sizes.{most_payload, growth, slack}

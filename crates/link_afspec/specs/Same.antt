@@ -1,5 +1,5 @@
 -- Whether two addresses are the same.
-use Rattle.std.specs.Prelude.{◌≡◌, ◌==◌, ℕ, List}
+use Rattle.std.specs.Prelude.{◌≡◌, ◌==◌}
 use Rattle.std.specs.Bool.{Decides}
 use Rattle.std.proofs.Common.{ap}
 use Rattle.std.proofs.lemmas.Slice.Eq.{bytes_eq-Decides}

@@ -1,5 +1,5 @@
 -- The frame that each value is written as, what fits, and how many values it is.
-use Rattle.std.specs.Prelude.{ℕ, ◌+◌, List}
+use Rattle.std.specs.Prelude.{ℕ, ◌+◌}
 use Rattle.std.specs.Int.{w8, w32, to_le_bytes}
 use Rattle.std.specs.Net.Addr.{ipv6_octets}
 use Rattle.nla_wire.specs.Frames.{Frame}

@@ -1,9 +1,8 @@
 -- What follows for a caller from the answer of the reader of messages.
-use Rattle.std.proofs.Common.{◌≡◌, ◌≢◌, ℕ, ◌+◌, ◌-◌, ◌*◌, ◌<◌, ◌≤◌, List, ◌++◌, length, refl, sym, ap, subst, arith, lit<, length-append, inl, inr, Result, Ok, Err}
-use Rattle.std.specs.Prelude.{IfOk, IfErr, IsTrue, Bool, ◌↔◌}
-use Rattle.nla_wire.specs.Sizes.{growth, growth_per_byte, small_enough}
+use Rattle.std.proofs.Common.{◌≡◌, ◌≢◌, ℕ, ◌+◌, List, length, refl, sym, ap, subst, arith, lit<, length-append, inl, inr, Result, Ok, Err}
+use Rattle.std.specs.Prelude.{IfOk, IsTrue, Bool, ◌↔◌}
+use Rattle.nla_wire.specs.Sizes.{growth}
 use Rattle.nla_wire.specs.Frames.{IsBytes}
-use Rattle.nla_wire.specs.Canon.{canons, AllFit}
 use Rattle.nla_wire.specs.Gives.{Gives}
 use Rattle.nla_wire.specs.declared.error.Cause.{Cause}
 use Rattle.nla_wire.specs.declared.error.Cause.TheVariants.{OutOfMemory}
@@ -15,7 +14,7 @@ use Rattle.nla_wire.proofs.Steps.{bytes_right}
 use Rattle.link_msg.specs.Header.{header_size}
 use Rattle.link_msg.specs.Values.{attribute_frame, AttributeFits, HasPorts, attribute_count}
 use Rattle.link_msg.specs.Places.{attribute_place}
-use Rattle.link_msg.specs.Messages.{Means, Refused, IsRefused, IsBounded, read_message, message, message_text}
+use Rattle.link_msg.specs.Messages.{Means, Refused, IsRefused, IsBounded, read_message, message_text}
 use Rattle.link_msg.specs.Laws.{attribute_lawful}
 use Rattle.link_msg.specs.declared.message.LinkMessage.{LinkMessage}
 use Rattle.link_msg.proofs.Reading.{message_agrees}

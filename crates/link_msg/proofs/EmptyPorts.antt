@@ -4,7 +4,7 @@ use Rattle.std.proofs.lemmas.List.{length-replicate}
 use Rattle.std.specs.List.{AllByRecursion}
 use Rattle.nla_wire.specs.Sizes.{growth_per_byte}
 use Rattle.nla_wire.specs.Frames.{Frame, number, IsFrame}
-use Rattle.nla_wire.specs.Reading.{list_of, ◌>>=◌}
+use Rattle.nla_wire.specs.Reading.{◌>>=◌}
 use Rattle.nla_wire.specs.Items.{Item}
 use Rattle.nla_wire.specs.Grammar.{picks, somes, unless_empty, not_empty, as_a}
 use Rattle.nla_wire.specs.Canon.{Canonical}

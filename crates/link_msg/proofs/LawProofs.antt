@@ -1,15 +1,14 @@
 -- The laws of messages.
-use Rattle.std.proofs.Common.{arith, ◌≡◌, ◌≢◌, ℕ, ◌+◌, ◌%◌, ◌^◌, ◌<◌, ◌==◌, List, [], ◌∷◌, ◌++◌, Bool, true, false, length, drop, refl, sym, ap, ◌∙◌, subst, inl, inr}
+use Rattle.std.proofs.Common.{arith, ◌≡◌, ◌≢◌, ℕ, ◌^◌, ◌<◌, ◌==◌, List, [], ◌∷◌, ◌++◌, false, length, drop, sym, ap, ◌∙◌, subst, inl, inr}
 use Rattle.std.specs.List.{AllByRecursion}
 use Rattle.std.proofs.lemmas.Bool.Decides.{eqb_tells}
 use Rattle.std.proofs.Math.Seq.{drop-append_seam}
 use Rattle.nla_wire.specs.Frames.{Frame, number, IsFrame, IsBytes}
-use Rattle.nla_wire.specs.Grammar.{Grammar, Row, list, line, if_true, table, kept}
+use Rattle.nla_wire.specs.Grammar.{Grammar, Row, list, line, if_true, kept}
 use Rattle.nla_wire.specs.Canon.{IsWritable, canons}
 use Rattle.nla_wire.proofs.Meaning.{one_meaning}
 use Rattle.nla_wire.proofs.Joined.{list_join, list_parts}
 use Rattle.nla_wire.proofs.Converse.{list_members}
-use Rattle.nla_wire.proofs.Lists.{list_agrees}
 use Rattle.link_vals.specs.declared.address_family.AddressFamily.{AddressFamily}
 use Rattle.link_recs.specs.StatsFields.{stats_size, stats_of}
 use Rattle.link_recs.specs.Stats64Fields.{stats64_size, stats64_of}
@@ -19,16 +18,15 @@ use Rattle.link_recs.proofs.Stats64Lemmas.{stats64_zeros, stats64_longer}
 use Rattle.link_recs.proofs.MapLemmas.{map_longer}
 use Rattle.link_afspec.specs.PlaceLaws.{ZerosAdded, LongerIgnored}
 use Rattle.link_afspec.proofs.Lawed.{filled_zeros, filled_longer, sized_longer, zeros_at, longer_at}
-use Rattle.link_msg.specs.Header.{header_size, header_bytes}
+use Rattle.link_msg.specs.Header.{header_bytes}
 use Rattle.link_msg.specs.Values.{attribute_frame, AttributeFits, HasPorts}
 use Rattle.link_msg.specs.Places.{attribute_place, number_rows, other_rows, other_place}
-use Rattle.link_msg.specs.Messages.{Means, message, message_text, MessageFits, NoEmptyPorts, Meant}
+use Rattle.link_msg.specs.Messages.{Means, message, message_text}
 use Rattle.link_msg.specs.Laws.{attribute_lawful}
-use Rattle.link_msg.specs.LawStatements.{OneMeaning, TextMeansTheSame, KindsInRange, OnlyWithPorts, SameTextSameMessage, CanonicalTwice, Joined, numbers_of, ForeignKept}
+use Rattle.link_msg.specs.LawStatements.{OneMeaning, OnlyWithPorts, SameTextSameMessage, CanonicalTwice, Joined, numbers_of, ForeignKept}
 use Rattle.link_msg.specs.declared.attribute.LinkAttribute.{LinkAttribute}
 use Rattle.link_msg.specs.declared.attribute.LinkAttribute.TheVariants as Attributes
-use Rattle.link_msg.specs.declared.message.LinkMessage.{LinkMessage}
-use Rattle.link_msg.proofs.Reading.{message_agrees, attributes_agree}
+use Rattle.link_msg.proofs.Reading.{message_agrees}
 use Rattle.link_msg.proofs.Messaging.{header_length}
 use Rattle.link_msg.proofs.ReadingBack.{message_back}
 

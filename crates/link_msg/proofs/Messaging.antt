@@ -1,5 +1,5 @@
 -- Lengths of canonical texts.
-use Rattle.std.proofs.Common.{◌≡◌, ℕ, ◌+◌, ◌<◌, ◌^◌, ◌++◌, length, refl, ap, ◌∙◌, length-append, arith}
+use Rattle.std.proofs.Common.{◌≡◌, ◌+◌, ◌<◌, ◌^◌, length, refl, ap, ◌∙◌, length-append, arith}
 use Rattle.nla_wire.specs.Canon.{canons}
 use Rattle.link_msg.specs.Header.{header_size, header_bytes}
 use Rattle.link_msg.specs.Values.{attribute_frame}

@@ -1,9 +1,9 @@
 -- Extent masks and wireless events, written from the payloads that they were read from.
-use Rattle.std.proofs.Common.{◌≡◌, ℕ, ◌+◌, ◌-◌, ◌*◌, ◌^◌, ◌<◌, ◌≤◌, List, ◌++◌, length, take, drop, refl, sym, ap, ◌∙◌, subst, arith, length-append, length-take, length-drop, Result, Ok, Err, IsOk, Option, Some, None}
+use Rattle.std.proofs.Common.{◌≡◌, ℕ, ◌-◌, ◌^◌, ◌<◌, ◌≤◌, List, length, take, drop, sym, ap, ◌∙◌, subst, arith, length-append, length-take, length-drop, Result, Ok, Err, IsOk, Option, Some, None}
 use Rattle.std.specs.Int.{w32, to_le_bytes, from_le_bytes}
 use borrow.Rule.Slice.PartMut.{put_mid}
-use Rattle.nla_wire.specs.Sizes.{most_payload, growth_per_byte}
-use Rattle.nla_wire.specs.Frames.{IsBytes, missing}
+use Rattle.nla_wire.specs.Sizes.{most_payload}
+use Rattle.nla_wire.specs.Frames.{IsBytes}
 use Rattle.nla_wire.specs.Payloads.{number_of}
 use Rattle.nla_wire.specs.Canon.{canon, Writes, Closed, Canonical}
 use Rattle.nla_wire.specs.declared.error.Cause.{Cause}

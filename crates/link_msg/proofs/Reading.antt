@@ -1,6 +1,6 @@
 -- The reader of messages answers what the relations say.
-use Rattle.std.proofs.Common.{◌≡◌, ℕ, ◌+◌, ◌<◌, ◌≤◌, ◌⊎◌, inl, inr, List, [], ◌∷◌, ◌++◌, length, take, drop, refl, sym, ap, ◌∙◌, subst, arith, length-append, lt-ltb, le-ltb, Result, Ok, Err}
-use Rattle.std.specs.Prelude.{nat_lt, if◌then◌else◌, Option, Some, None, IfOk, IfSome}
+use Rattle.std.proofs.Common.{◌≡◌, ℕ, ◌<◌, ◌≤◌, inl, inr, List, ◌++◌, length, take, drop, refl, sym, ap, ◌∙◌, subst, arith, length-append, lt-ltb, le-ltb, Result, Ok, Err}
+use Rattle.std.specs.Prelude.{Option, Some, None, IfOk, IfSome}
 use Rattle.std.specs.Result.{result_ok}
 use Rattle.nla_wire.specs.declared.error.DecodeError.{DecodeError}
 use Rattle.link_recs.specs.Stats64Fields.{stats64_size}
@@ -9,7 +9,7 @@ use Rattle.std.proofs.lemmas.Bool.Decides.{leb_tells}
 use Rattle.std.proofs.lemmas.List.{take-append-drop, length-take-le}
 use Rattle.std.proofs.Math.Seq.{take-append_seam, drop-append_seam}
 use Rattle.nla_wire.specs.Frames.{IsBytes}
-use Rattle.nla_wire.specs.Grammar.{Grammar, Agrees, list, First}
+use Rattle.nla_wire.specs.Grammar.{Agrees, list}
 use Rattle.nla_wire.specs.declared.error.Cause.{Cause}
 use Rattle.nla_wire.specs.declared.error.Cause.TheVariants.{TooShort}
 use Rattle.nla_wire.proofs.Lists.{list_agrees}

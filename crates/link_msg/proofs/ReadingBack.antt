@@ -1,5 +1,5 @@
 -- What a message means is what its canonical text means.
-use Rattle.std.proofs.Common.{◌≡◌, ℕ, ◌<◌, ◌≤◌, ◌^◌, List, [], ◌∷◌, ◌++◌, length, refl, sym, ap, ◌∙◌, subst}
+use Rattle.std.proofs.Common.{◌≡◌, ℕ, List, [], ◌∷◌, ◌++◌, refl, sym, ap, ◌∙◌, subst}
 use Rattle.std.specs.Prelude.{slice_index}
 use Rattle.std.specs.Int.{w16, w32, to_le_bytes}
 use Rattle.nla_wire.specs.Sizes.{growth}
@@ -11,12 +11,12 @@ use Rattle.nla_wire.proofs.Lawful.{place_back}
 use Rattle.nla_wire.proofs.Steps.{bytes_left, bytes_right}
 use Rattle.link_vals.specs.AddressFamilyTable.{address_family_of, address_family_number}
 use Rattle.link_vals.specs.LinkLayerTypeTable.{layer_type_of, layer_type_number}
-use Rattle.link_vals.specs.LinkFlagsTable.{link_flags_of, link_flags_bits}
+use Rattle.link_vals.specs.LinkFlagsTable.{link_flags_of}
 use Rattle.link_vals.proofs.Numbers.{address_family_again, layer_type_again, layer_type_below}
 use Rattle.link_vals.specs.declared.address_family.AddressFamily.{AddressFamily}
 use Rattle.link_vals.specs.declared.link_layer_type.LinkLayerType.{LinkLayerType}
 use Rattle.link_vals.specs.declared.link_flags.LinkFlags.{LinkFlags}
-use Rattle.link_msg.specs.Header.{header_size, header_of, IsHeader, header_bytes}
+use Rattle.link_msg.specs.Header.{header_of, IsHeader, header_bytes}
 use Rattle.link_msg.specs.Values.{attribute_frame, AttributeFits, HasPorts, attribute_count}
 use Rattle.link_msg.specs.Places.{attribute_place}
 use Rattle.link_msg.specs.Messages.{Means, message_text, MessageFits, NoEmptyPorts}

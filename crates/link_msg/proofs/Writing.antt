@@ -1,7 +1,5 @@
 -- Canonical text written behind a header, with no memory.
-use Rattle.std.proofs.Common.{◌≡◌, ◌≢◌, ℕ, ◌+◌, ◌-◌, ◌*◌, ◌^◌, ◌<◌, ◌≤◌, List, ◌++◌, length, take, drop, refl, sym, ap, ◌∙◌, subst, arith, inr, length-drop, Result, Ok, Err, Option, Some, None, Bool, false, true}
-use Rattle.std.specs.Prelude.{IsOk}
-use Rattle.std.specs.List.{AllByRecursion}
+use Rattle.std.proofs.Common.{◌≡◌, ◌≢◌, ℕ, ◌+◌, ◌-◌, ◌*◌, ◌^◌, ◌<◌, ◌≤◌, List, ◌++◌, length, take, drop, refl, sym, ap, ◌∙◌, subst, arith, inr, length-drop, Ok, Err, Some, None, Bool, false, true}
 use borrow.Rule.Slice.PartMut.{put_mid}
 use Rattle.nla_wire.specs.Sizes.{growth_per_byte}
 use Rattle.nla_wire.specs.Frames.{IsBytes}
@@ -14,16 +12,16 @@ use Rattle.nla_wire.specs.declared.error.DecodeError.{DecodeError}
 use Rattle.nla_wire.proofs.Meaning.{never_both}
 use Rattle.nla_wire.proofs.Canonical.{write_on}
 use Rattle.link_msg.specs.Header.{header_size, header_of, IsHeader, header_bytes}
-use Rattle.link_msg.specs.Values.{attribute_frame, AttributeFits, HasPorts}
+use Rattle.link_msg.specs.Values.{attribute_frame, AttributeFits}
 use Rattle.link_msg.specs.Places.{attribute_place}
-use Rattle.link_msg.specs.Messages.{Means, Refused, IsRefused, message, message_text, MessageFits}
+use Rattle.link_msg.specs.Messages.{Means, Refused, IsRefused, message, MessageFits}
 use Rattle.link_msg.specs.CanonErrors.{refusal_for, refusal_of}
-use Rattle.link_msg.specs.Canonical.{IsAccepted, IsUnfit, HasEmptyPorts, IsWritten, PortsTold}
+use Rattle.link_msg.specs.Canonical.{IsUnfit, HasEmptyPorts, IsWritten, PortsTold}
 use Rattle.link_msg.specs.declared.attribute.LinkAttribute.{LinkAttribute}
 use Rattle.link_msg.specs.declared.header.LinkHeader.{LinkHeader}
 use Rattle.link_msg.specs.declared.message.LinkMessage.{LinkMessage}
 use Rattle.link_msg.proofs.Reading.{message_agrees, attributes_agree, parts, is_header}
-use Rattle.link_msg.proofs.Messaging.{header_length, text_length, attributes_counted}
+use Rattle.link_msg.proofs.Messaging.{header_length, attributes_counted}
 use Rattle.link_msg.proofs.Answering.{message_bounded}
 
 refused_by : (b old : List ℕ) (e : DecodeError) (c : Cause) → e.cause ≡ c → Refused b e.cause → e.cause ≢ OutOfMemory → IsRefused b → IsWritten b old old (Err (refusal_for c e))

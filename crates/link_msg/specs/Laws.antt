@@ -1,5 +1,5 @@
 -- What is proved of the outermost place and of messages.
-use Rattle.std.specs.Prelude.{◌≡◌, ℕ, ◌+◌, ◌*◌, ◌/◌, ◌%◌, ◌^◌, ◌<◌, ◌≤◌, Bool, true, false, List, [], ◌∷◌, length, refl}
+use Rattle.std.specs.Prelude.{◌≡◌, ℕ, ◌+◌, ◌*◌, ◌/◌, ◌%◌, ◌^◌, ◌<◌, ◌≤◌, Bool, true, false, List, length, refl}
 use Rattle.std.specs.List.{AllByRecursion}
 use Rattle.std.specs.Int.{w8, w32, to_le_bytes}
 use Rattle.std.proofs.Common.{lit<, lit≤, sym, ap, subst, arith}
@@ -7,7 +7,7 @@ use Rattle.nla_wire.specs.Sizes.{growth, slack, most_payload}
 use Rattle.nla_wire.specs.Frames.{Frame, number, missing}
 use Rattle.nla_wire.specs.Canon.{AllFit, canon, canons, one, total}
 use Rattle.nla_wire.specs.Grammar.{Grammar, list, not_empty, Row, row, kept, by_payload}
-use Rattle.nla_wire.specs.Payloads.{number_of, text, bytes, filled, sized}
+use Rattle.nla_wire.specs.Payloads.{text, filled, sized}
 use Rattle.nla_wire.proofs.Lawful.{LawfulPlace, LawfulPayload, LawfulRows, LawfulReading, table_over_lawful, place_lawful, row_lawful, list_lawful, some_lawful, less, kept_lawful, number_lawful, signed_lawful, through_lawful, filled_lawful, sized_lawful, text_lawful, bytes_lawful, always, none}
 use Rattle.nla_wire.proofs.PlaceLaws.{all_always}
 use Rattle.link_vals.specs.StateTable.{state_of, state_number}

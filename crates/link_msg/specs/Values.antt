@@ -1,6 +1,6 @@
 -- The frame that each attribute is written as, what fits, what has no empty list of ports, and how many values it is.
-use Rattle.std.specs.Prelude.{◌≡◌, ℕ, ◌+◌, ◌<◌, ◌≤◌, ◌^◌, Bool, true, false, List, [], ◌∷◌, ◌++◌, length}
-use Rattle.std.specs.Int.{w8, w32, to_le_bytes, cast_unsigned}
+use Rattle.std.specs.Prelude.{ℕ, ◌+◌, ◌<◌, ◌≤◌, ◌^◌, Bool, true, false, List, length}
+use Rattle.std.specs.Int.{w32, cast_unsigned}
 use Rattle.nla_wire.specs.Frames.{Frame}
 use Rattle.nla_wire.specs.Canon.{IsSmall, AllFit, canons, total, one}
 use Rattle.link_vals.specs.StateTable.{state_number}

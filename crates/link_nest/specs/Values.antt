@@ -1,5 +1,5 @@
 -- The frame that each value is written as, and what fits.
-use Rattle.std.specs.Prelude.{ℕ, ◌+◌, List, [], ◌∷◌, ◌++◌}
+use Rattle.std.specs.Prelude.{ℕ, List, [], ◌∷◌, ◌++◌}
 use Rattle.std.specs.Int.{w8, w32, to_le_bytes, cast_unsigned}
 use Rattle.nla_wire.specs.Frames.{Frame}
 use Rattle.nla_wire.specs.Canon.{IsSmall}

@@ -3,11 +3,11 @@
 -- payload of at most 855 bytes, and a member of its list one of at most 851 bytes: that fits.
 use Rattle.std.specs.Prelude.{refl}
 use Rattle.std.specs.Int.{w64}
-use Rattle.std.proofs.Common.{◌≡◌, ℕ, ◌+◌, ◌*◌, ◌/◌, ◌<◌, ◌≤◌, List, [], length, arith, lit<, lit≤, sym, subst}
+use Rattle.std.proofs.Common.{ℕ, ◌+◌, ◌*◌, ◌/◌, ◌<◌, ◌≤◌, List, [], length, arith, lit<, lit≤}
 use Rattle.std.specs.List.{AllByRecursion}
 use Rattle.nla_wire.specs.Sizes.{most_payload, growth, slack}
 use Rattle.nla_wire.specs.Frames.{Frame, IsBytes, missing}
-use Rattle.nla_wire.specs.Grammar.{Grammar, Agrees, list, not_empty, picked}
+use Rattle.nla_wire.specs.Grammar.{Grammar, Agrees, list, not_empty}
 use Rattle.nla_wire.specs.Payloads.{sized}
 use Rattle.nla_wire.specs.Canon.{canon, canons, AllFit, one, total}
 use Rattle.nla_wire.proofs.Agreement.{as_agrees}
@@ -16,7 +16,7 @@ use Rattle.nla_wire.proofs.PlaceLaws.{all_always}
 use Rattle.link_vfrec.specs.Laws.{ReadsAgain, HasSize}
 use Rattle.link_vfrec.specs.Records.{vf_info_mac_size, vf_info_mac_of, vf_info_mac_bytes, vf_info_broadcast_size, vf_info_broadcast_of, vf_info_broadcast_bytes, vf_info_vlan_size, vf_info_vlan_of, vf_info_vlan_bytes, vf_info_tx_rate_size, vf_info_tx_rate_of, vf_info_tx_rate_bytes, vf_info_rate_size, vf_info_rate_of, vf_info_rate_bytes, vf_info_spoof_check_size, vf_info_spoof_check_of, vf_info_spoof_check_bytes, vf_info_rss_query_en_size, vf_info_rss_query_en_of, vf_info_rss_query_en_bytes, vf_info_trust_size, vf_info_trust_of, vf_info_trust_bytes, vf_info_link_state_size, vf_info_link_state_of, vf_info_link_state_bytes, vf_info_guid_size, vf_info_guid_of, vf_info_guid_bytes, vf_vlan_info_size, vf_vlan_info_of, vf_vlan_info_bytes}
 use Rattle.link_vfrec.proofs.Records.{vf_info_mac_again, length_vf_info_mac_bytes, vf_info_broadcast_again, length_vf_info_broadcast_bytes, vf_info_vlan_again, length_vf_info_vlan_bytes, vf_info_tx_rate_again, length_vf_info_tx_rate_bytes, vf_info_rate_again, length_vf_info_rate_bytes, vf_info_spoof_check_again, length_vf_info_spoof_check_bytes, vf_info_rss_query_en_again, length_vf_info_rss_query_en_bytes, vf_info_trust_again, length_vf_info_trust_bytes, vf_info_link_state_again, length_vf_info_link_state_bytes, vf_info_guid_again, length_vf_info_guid_bytes, vf_vlan_info_again, length_vf_vlan_info_bytes}
-use Rattle.link_vf.specs.Values.{vf_stats_frame, VfStatsFits, vf_vlan_frame, VfVlanFits, vf_info_frame, VfInfoFits, vf_info_count, vf_port_frame, VfPortFits, link_vf_info_of, link_vf_info_members, link_vf_info_text, link_vf_info_frame, LinkVfInfoFits, link_vf_info_count, link_vf_port_of, link_vf_port_members, link_vf_port_text, link_vf_port_frame, LinkVfPortFits, link_vf_port_count}
+use Rattle.link_vf.specs.Values.{vf_stats_frame, VfStatsFits, vf_vlan_frame, VfVlanFits, vf_info_frame, VfInfoFits, vf_info_count, vf_port_frame, VfPortFits, link_vf_info_of, link_vf_info_frame, LinkVfInfoFits, link_vf_info_count, link_vf_port_of, link_vf_port_members, link_vf_port_text, link_vf_port_frame, LinkVfPortFits, link_vf_port_count}
 use Rattle.link_vf.specs.Places.{vf_stats_rows, vf_stats_place, vf_vlan_rows, vf_vlan_place, vf_info_rows, vf_info_place, vf_port_place, link_vf_info, link_vf_info_place, vf_info_list, link_vf_port, link_vf_port_place, vf_port_list}
 use Rattle.link_vf.specs.declared.stats.VfStats.{VfStats}
 use Rattle.link_vf.specs.declared.stats.VfStats.TheVariants as stats

@@ -1,9 +1,8 @@
 -- The bit 0x4000 of a kind.
-use Rattle.std.proofs.Common.{◌≡◌, ℕ, zero, suc, ◌+◌, ◌*◌, ◌/◌, ◌%◌, ◌^◌, ◌<◌, ◌≤◌, refl, sym, ap, ◌∙◌, arith, eqb, nat_eq, nat_le, not, inl, inr, true, false}
+use Rattle.std.proofs.Common.{◌≡◌, ℕ, ◌*◌, ◌/◌, ◌%◌, sym, ap, ◌∙◌, arith, nat_eq, nat_le, not, inl, inr}
 use Rattle.std.specs.Prelude.{bit_and}
 use Rattle.std.proofs.lemmas.Nat.Bits.{and_pow}
 use Rattle.std.proofs.lemmas.Bool.Decides.{leb_tells, eqb_tells}
-use Rattle.std.specs.Int.{bit_at}
 
 pub network_flag : (n : ℕ) → not (nat_eq (bit_and n 16384) 0) ≡ nat_le 16384 (n % 32768)
 network_flag n =

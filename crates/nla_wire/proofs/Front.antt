@@ -1,9 +1,8 @@
 -- The frame at the front of bytes, as code reads it: from the bytes of the header, and the rest behind four of them.
-use Rattle.std.proofs.Common.{◌≡◌, ◌≢◌, ℕ, zero, suc, ◌+◌, ◌-◌, ◌<◌, ◌≤◌, ◌⊎◌, inl, inr, List, [], ◌∷◌, ◌++◌, length, get_or, take, drop, refl, ap, sym, ◌∙◌, subst, arith, Result, Ok, Err}
+use Rattle.std.proofs.Common.{◌≡◌, ℕ, suc, ◌+◌, ◌-◌, ◌<◌, ◌≤◌, ◌⊎◌, inl, inr, List, [], ◌∷◌, length, get_or, take, drop, refl, ap, sym, ◌∙◌, arith, Result, Ok, Err}
 use Rattle.std.specs.Prelude.{MatchResult}
-use Rattle.std.specs.List.{AllByRecursion}
 use Rattle.std.specs.Int.{w16, from_le_bytes}
-use Rattle.nla_wire.specs.Frames.{Frame, IsBytes, IsFrame, missing, Begins, BadStart, BadFront, BeginsWithNone}
+use Rattle.nla_wire.specs.Frames.{Frame, IsBytes, missing, Begins, BadFront, BeginsWithNone}
 use Rattle.nla_wire.specs.Reading.{Step, step, front, frame_at}
 use Rattle.nla_wire.specs.Reading.Step.{End, Bad, Next}
 use Rattle.nla_wire.specs.Items.{Item, items}

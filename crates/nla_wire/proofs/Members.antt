@@ -1,12 +1,11 @@
 -- Members of a list, one after the other: what fits, and the texts written so far.
-use Rattle.std.proofs.Common.{◌≡◌, ℕ, suc, zero, ◌+◌, ◌-◌, ◌^◌, ◌<◌, ◌≤◌, List, [], ◌∷◌, ◌++◌, length, take, drop, get_or, refl, sym, ap, ◌∙◌, subst, arith, add-one, append_assoc, length-append, drop-cons, take-take}
-use Rattle.std.specs.List.{flat_map, AllByRecursion}
+use Rattle.std.proofs.Common.{◌≡◌, ℕ, suc, zero, ◌+◌, ◌<◌, ◌≤◌, List, [], ◌∷◌, ◌++◌, length, take, drop, get_or, sym, ap, ◌∙◌, subst, arith, add-one, append_assoc, length-append, drop-cons, take-take}
+use Rattle.std.specs.List.{AllByRecursion}
 use Rattle.std.proofs.Math.Seq.{take-suc}
 use Rattle.std.proofs.lemmas.List.{take_all, length-take-le, take-append-drop}
 use Rattle.std.proofs.lemmas.List.Concat.{flat_map-append}
 use Rattle.std.proofs.lemmas.List.Folds.{length-flat_map-take}
-use borrow.Rule.Slice.PartMut.{put_mid}
-use Rattle.nla_wire.specs.Canon.{canon, canons, AllFit, Filled}
+use Rattle.nla_wire.specs.Canon.{canon, canons, Filled}
 use Rattle.nla_wire.specs.Frames.{Frame}
 use Rattle.nla_wire.proofs.Words.{flat_map-take-more}
 use Rattle.nla_wire.proofs.Placing.{take_front, drop_front}

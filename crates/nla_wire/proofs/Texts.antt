@@ -1,7 +1,7 @@
 -- Texts as code reads them: one NUL dropped, then a test of what is left.
 use Rattle.std.proofs.Common.{◌≡◌, ℕ, inl, List, refl, sym, ap, ◌∙◌, subst, Result, Ok, Err}
 use Rattle.std.specs.Prelude.{IsUtf8, IfOk, IfErr}
-use Rattle.nla_wire.specs.Payloads.{text, read_text, IsTextOf}
+use Rattle.nla_wire.specs.Payloads.{read_text, IsTextOf}
 use Rattle.nla_wire.specs.Gives.{Gives}
 use Rattle.nla_wire.specs.declared.error.Cause.TheVariants.{NotUtf8, OutOfMemory}
 use Rattle.nla_wire.specs.declared.error.DecodeError.{DecodeError}

@@ -1,6 +1,6 @@
 -- Attribute frames, their spellings in bytes, and the frames of a byte string (rtnetlink(7), linux/netlink.h).
-use Rattle.std.specs.Prelude.{◌≡◌, ℕ, ◌+◌, ◌-◌, ◌*◌, ◌/◌, ◌%◌, ◌^◌, ◌<◌, ◌≤◌, nat_le, Bool, List, [], ◌∷◌, ◌++◌, ◌⊎◌, length, take, drop}
-use Rattle.std.specs.Int.{Width, w16, to_le_bytes, from_le_bytes}
+use Rattle.std.specs.Prelude.{◌≡◌, ℕ, ◌+◌, ◌-◌, ◌%◌, ◌^◌, ◌<◌, ◌≤◌, nat_le, Bool, List, [], ◌∷◌, ◌++◌, ◌⊎◌, length, take}
+use Rattle.std.specs.Int.{w16, to_le_bytes, from_le_bytes}
 use Rattle.std.specs.List.{AllByRecursion}
 use Rattle.nla_wire.specs.Sizes.{most_payload}
 use Rattle.nla_wire.specs.declared.error.Cause.{Cause}

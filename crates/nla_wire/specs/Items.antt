@@ -1,5 +1,5 @@
 -- What the iterator over frames gives: the frames of bytes in order, then either the end or one fault and the end.
-use Rattle.std.specs.Prelude.{◌≡◌, ℕ, ◌+◌, ◌*◌, ◌≤◌, List, [], ◌∷◌, ◌++◌, ◌⊎◌, length, map, Option, None, Some, Result, Ok, Err}
+use Rattle.std.specs.Prelude.{◌≡◌, ℕ, ◌+◌, List, [], ◌∷◌, ◌++◌, ◌⊎◌, length, map, Option, None, Some, Result, Ok, Err}
 use Rattle.nla_wire.specs.Frames.{Frame, IsFrame, Frames, Fault}
 use Rattle.nla_wire.specs.Reading.{cut, ◌>>=◌}
 use Rattle.nla_wire.specs.declared.error.Cause.{Cause}

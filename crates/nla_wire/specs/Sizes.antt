@@ -1,5 +1,5 @@
 -- The numbers that bound canonical text, each named once.
-use Rattle.std.specs.Prelude.{ℕ, ◌+◌, ◌*◌}
+use Rattle.std.specs.Prelude.{ℕ}
 
 -- the most bytes that the value of an attribute may have: the length field counts four more
 abbrev pub most_payload : ℕ

@@ -1,5 +1,5 @@
 -- The frames of a byte string in the format's own words: a concatenation of spellings.
-use Rattle.std.specs.Prelude.{◌≡◌, ◌≢◌, ℕ, ◌<◌, ◌≤◌, ◌^◌, List, [], ◌∷◌, ◌++◌, ◌⊎◌, length}
+use Rattle.std.specs.Prelude.{◌≡◌, ℕ, ◌<◌, ◌≤◌, ◌^◌, List, [], ◌∷◌, ◌++◌, length}
 use Rattle.std.specs.List.{flat_map}
 use Rattle.nla_wire.specs.Sizes.{most_payload}
 use Rattle.nla_wire.specs.Frames.{Frame, unpadded, missing, BadStart}

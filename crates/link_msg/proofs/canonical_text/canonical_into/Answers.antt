@@ -1,8 +1,6 @@
-use Rattle.std.proofs.Common.{arith, ap, sym, ◌∙◌, length, ◌<◌, ◌^◌, ◌≤◌, ◌-◌, ◌*◌, ◌≡◌, ◌≢◌, drop, take, ℕ, length-take, length-drop}
+use Rattle.std.proofs.Common.{arith, length, ◌<◌, ◌^◌, ◌≡◌, length-take, length-drop}
 use Rattle.std.proofs.lemmas.Result.{err_from_is_err_and}
 use Rattle.nla_wire.proofs.Front.{all_bytes}
-use Rattle.nla_wire.proofs.Placing.{lent_end}
-use Rattle.link_msg.specs.Header.{header_size}
 use Rattle.link_msg.proofs.Writing.{written_refused, behind_room, written_unfit, written_whole, written_ports}
 use Rattle.link_msg.proofs.canonical_text.canonical_into.Goals as goal
 

@@ -4,7 +4,7 @@ use Rattle.nla_wire.specs.Reading.{list_of}
 use Rattle.nla_wire.specs.Items.{items}
 use Rattle.nla_wire.specs.Grammar.{picks}
 use Rattle.nla_wire.proofs.Front.{all_bytes}
-use Rattle.nla_wire.proofs.Loop.{picks_one, picks_other}
+use Rattle.nla_wire.proofs.Loop.{picks_other}
 use Rattle.nla_wire.proofs.Written.{going_starts, going_skip, going_unfit, going_never_fails, going_ends, picked_accepted}
 use Rattle.link_vf.specs.Places.{link_vf_port_place}
 use Rattle.link_msg.proofs.EmptyPorts.{silent, unused, unused_room, IsDropped, one_unfit, told_some, told_none}

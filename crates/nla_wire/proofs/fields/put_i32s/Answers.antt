@@ -1,5 +1,5 @@
 use Rattle.std.specs.Prelude.{pos}
-use Rattle.std.proofs.Common.{ℕ, ◌*◌, ◌++◌, ◌∙◌, ap, rules, get_or, take}
+use Rattle.std.proofs.Common.{◌*◌, ◌++◌, ◌∙◌, ap, rules, get_or, take}
 use Rattle.std.proofs.lemmas.Int.{to_z-of_z}
 use Rattle.std.specs.Int.{w32, to_le_bytes, cast_unsigned}
 use mir.Val.{SFits}

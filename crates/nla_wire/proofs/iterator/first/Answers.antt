@@ -1,5 +1,4 @@
-use Rattle.std.proofs.Common.{sym, ap, ◌∙◌, ◌∷◌, ◌+◌, drop, Ok, arith, ◌≡◌, length}
-use Rattle.nla_wire.specs.Frames.{missing}
+use Rattle.std.proofs.Common.{sym, ap, ◌∙◌, ◌∷◌, Ok, length}
 use Rattle.nla_wire.specs.Items.{items}
 use Rattle.nla_wire.proofs.Front.{first_comes, first_fails, padded_behind}
 use Rattle.nla_wire.proofs.iterator.first.Goals as goal

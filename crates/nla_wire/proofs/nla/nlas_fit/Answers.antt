@@ -1,4 +1,4 @@
-use Rattle.std.proofs.Common.{arith, ◌+◌, ◌<◌, ◌^◌, ◌≡◌}
+use Rattle.std.proofs.Common.{arith}
 use Rattle.nla_wire.proofs.Members.{canons_up_to}
 use Rattle.nla_wire.proofs.nla.nlas_fit.Goals as goal
 

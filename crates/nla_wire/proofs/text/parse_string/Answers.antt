@@ -1,5 +1,5 @@
-use Rattle.std.proofs.Common.{rules, sym, ◌∙◌, ap, Err, inr}
-use Rattle.nla_wire.proofs.Texts.{text_found, text_refused, text_given}
+use Rattle.std.proofs.Common.{sym, ◌∙◌, ap, Err, inr}
+use Rattle.nla_wire.proofs.Texts.{text_refused, text_given}
 use Rattle.nla_wire.proofs.text.parse_string.Goals as goal
 
 pub returns-in-Ok-clause-reads : goal.returns-in-Ok-clause-reads

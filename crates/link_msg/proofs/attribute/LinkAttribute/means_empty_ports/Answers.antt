@@ -1,4 +1,4 @@
-use Rattle.std.proofs.Common.{◌≡◌, ◌≢◌, ◌∙◌, ap, sym, subst, ℕ, List, IsOk}
+use Rattle.std.proofs.Common.{◌≡◌, ◌≢◌, ◌∙◌, sym, subst, ℕ, List, IsOk}
 use Rattle.std.proofs.lemmas.Bool.{ne_eqb}
 use Rattle.nla_wire.specs.Frames.{number}
 use Rattle.link_vf.specs.Places.{vf_port_list}

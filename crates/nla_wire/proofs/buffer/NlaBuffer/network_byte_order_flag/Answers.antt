@@ -1,5 +1,5 @@
-use Rattle.std.proofs.Common.{ap, ◌∙◌, ◌<◌, ◌^◌, arith}
-use Rattle.nla_wire.specs.Frames.{Frame, is_network_order}
+use Rattle.std.proofs.Common.{ap, ◌∙◌}
+use Rattle.nla_wire.specs.Frames.{is_network_order}
 use Rattle.nla_wire.proofs.Flags.{network_flag}
 use Rattle.nla_wire.proofs.buffer.NlaBuffer.network_byte_order_flag.Goals as goal
 

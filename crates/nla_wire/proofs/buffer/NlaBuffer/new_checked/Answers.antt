@@ -1,5 +1,5 @@
 use Rattle.nla_wire.proofs.Front.{all_bytes, checked_front}
-use Rattle.std.proofs.Common.{arith, ap, ◌<◌}
+use Rattle.std.proofs.Common.{arith}
 use Rattle.nla_wire.proofs.buffer.NlaBuffer.new_checked.Goals as goal
 
 pub returns : goal.returns
