@@ -1,87 +1,80 @@
 //! Damaged lists in each place, and the refusals of whole messages.
 
+use crate::testing::got;
 use link_msg::*;
 use std::alloc::Global;
 use std::process::Abort;
-use std::test::Fail;
 
-/// A header of this family, and nothing behind it.
-fn header(alloc: Global, family: u8) -> Result<Vec<u8>, Fail> {
-    let mut bytes = vec![in alloc; 0u8; 15]?;
-    bytes.insert(0, family)?;
-    Ok(bytes)
+/// The payload in an attribute of this number, without padding.
+fn inside(rt: &impl Abort, alloc: Global, number: u8, payload: &[u8]) -> Vec<u8> {
+    assert!(rt; payload.len() < 100);
+    let len = payload.len() as u8 + 4;
+    let mut bytes = got(rt, Vec::from_slice(alloc, &[len, 0, number, 0]));
+    got(rt, bytes.extend_from_slice(payload));
+    bytes
 }
 
-/// The payload in attributes of these numbers, the innermost last, without padding.
-fn inside(rt: &impl Abort, alloc: Global, path: &[u8], payload: &[u8]) -> Result<Vec<u8>, Fail> {
-    let mut bytes = Vec::from_slice(alloc, payload)?;
+/// A message of a header of this family, and the payload in attributes of these numbers, the innermost last.
+fn message(rt: &impl Abort, alloc: Global, family: u8, path: &[u8], payload: &[u8]) -> Vec<u8> {
+    let mut attributes = got(rt, Vec::from_slice(alloc, payload));
     for number in path.iter().rev() {
-        let len = expect_small(rt, bytes.len());
-        let mut outer = Vec::from_slice(alloc, &[len, 0, *number, 0])?;
-        outer.extend_from_slice(bytes.as_slice())?;
-        bytes = outer;
+        attributes = inside(rt, alloc, *number, attributes.as_slice());
     }
-    Ok(bytes)
+    let header = [family, 0, 0, 0, 0, 0, 0, 0, 0, 0, 0, 0, 0, 0, 0, 0];
+    let mut bytes = got(rt, Vec::from_slice(alloc, &header));
+    got(rt, bytes.extend_from_slice(attributes.as_slice()));
+    bytes
 }
 
-/// The length of an attribute with a short payload.
-fn expect_small(rt: &impl Abort, len: usize) -> u8 {
-    assert!(rt; len < 100);
-    len as u8 + 4
+/// What a message is refused for, or nothing.
+fn cause_of<T: Drop>(read: Result<T, DecodeError>) -> Option<Cause> {
+    match read {
+        Ok(_) => None,
+        Err(error) => Some(error.cause),
+    }
 }
 
-/// The cause of the first fault of a message, the same when it is read and when it is checked.
-fn cause(rt: &impl Abort, alloc: Global, bytes: &[u8]) -> Option<Cause> {
-    let read = LinkMessage::parse(alloc, bytes)
-        .err()
-        .map(|error| error.cause);
-    let checked = LinkMessage::check(bytes).err().map(|error| error.cause);
-    assert!(rt; read == checked);
-    read
-}
-
-/// The cause of the first fault of a message with this payload in attributes of these numbers.
-fn cause_in(
+/// A message with this payload in attributes of these numbers has this first fault or none, the same when it is read and
+/// when it is checked.
+fn fails_in(
     rt: &impl Abort,
     alloc: Global,
     family: u8,
     path: &[u8],
     payload: &[u8],
-) -> Result<Option<Cause>, Fail> {
-    let mut bytes = header(alloc, family)?;
-    let attributes = inside(rt, alloc, path, payload)?;
-    bytes.extend_from_slice(attributes.as_slice())?;
-    Ok(cause(rt, alloc, bytes.as_slice()))
+    wanted: Option<Cause>,
+) {
+    let bytes = message(rt, alloc, family, path, payload);
+    let read = cause_of(LinkMessage::parse(alloc, bytes.as_slice()));
+    let checked = cause_of(LinkMessage::check(bytes.as_slice()));
+    assert!(rt; read == wanted, "family {family}, path {path:?}");
+    assert!(rt; checked == wanted);
 }
 
-/// A place is refused where a frame in it is damaged, and takes a foreign number.
-fn is_a_place(rt: &impl Abort, alloc: Global, family: u8, path: &[u8]) -> Result<(), Fail> {
-    let stray = cause_in(rt, alloc, family, path, &[4, 0, 99, 0, 1])?;
-    assert_eq!(rt; stray, Some(Cause::FrameShort { left: 1 }), "path {path:?}");
-    let long = cause_in(rt, alloc, family, path, &[9, 0, 99, 0, 1, 2, 3, 4])?;
-    assert_eq!(rt;
-        long,
-        Some(Cause::FrameOver { length: 9, left: 8 }),
-        "path {path:?}"
-    );
-    let under = cause_in(rt, alloc, family, path, &[3, 0, 99, 0])?;
-    assert_eq!(rt;
-        under,
-        Some(Cause::FrameUnder { length: 3 }),
-        "path {path:?}"
-    );
-    let foreign = cause_in(rt, alloc, family, path, &[5, 0, 99, 0, 1])?;
-    assert_eq!(rt; foreign, None, "path {path:?}");
-    Ok(())
-}
-
-/// What an empty payload is in this place.
-fn empty(rt: &impl Abort, alloc: Global, family: u8, path: &[u8]) -> Result<Option<Cause>, Fail> {
-    cause_in(rt, alloc, family, path, &[])
+/// A place is refused where a frame in it is damaged, and takes a foreign number. It takes no bytes, or refuses them.
+fn is_a_place(rt: &impl Abort, alloc: Global, family: u8, path: &[u8], empty: Option<Cause>) {
+    for (payload, cause) in [
+        (
+            [4, 0, 99, 0, 1].as_slice(),
+            Some(Cause::FrameShort { left: 1 }),
+        ),
+        (
+            [9, 0, 99, 0, 1, 2, 3, 4].as_slice(),
+            Some(Cause::FrameOver { length: 9, left: 8 }),
+        ),
+        (
+            [3, 0, 99, 0].as_slice(),
+            Some(Cause::FrameUnder { length: 3 }),
+        ),
+        ([5, 0, 99, 0, 1].as_slice(), None),
+        ([].as_slice(), empty),
+    ] {
+        fails_in(rt, alloc, family, path, payload, cause);
+    }
 }
 
 #[test]
-fn lists_that_may_be_empty(rt: HostRuntime) -> Result<(), Fail> {
+fn lists_that_may_be_empty(rt: HostRuntime) {
     for path in [
         [52].as_slice(),
         &[62],
@@ -91,14 +84,12 @@ fn lists_that_may_be_empty(rt: HostRuntime) -> Result<(), Fail> {
         &[22, 1, 8],
         &[22, 1, 12],
     ] {
-        is_a_place(&rt, rt.alloc(), 0, path)?;
-        assert_eq!(rt; empty(&rt, rt.alloc(), 0, path)?, None, "path {path:?}");
+        is_a_place(&rt, rt.alloc(), 0, path, None);
     }
-    Ok(())
 }
 
 #[test]
-fn lists_that_are_not_empty(rt: HostRuntime) -> Result<(), Fail> {
+fn lists_that_are_not_empty(rt: HostRuntime) {
     for path in [
         [18].as_slice(),
         &[43],
@@ -109,58 +100,44 @@ fn lists_that_are_not_empty(rt: HostRuntime) -> Result<(), Fail> {
         &[26, 10],
         &[26, 45],
     ] {
-        is_a_place(&rt, rt.alloc(), 0, path)?;
-        let refused = empty(&rt, rt.alloc(), 0, path)?;
-        assert_eq!(rt; refused, Some(Cause::EmptyList), "path {path:?}");
+        is_a_place(&rt, rt.alloc(), 0, path, Some(Cause::EmptyList));
     }
-    Ok(())
 }
 
 #[test]
-fn lists_of_families(rt: HostRuntime) -> Result<(), Fail> {
+fn lists_of_families(rt: HostRuntime) {
     for (family, number) in [(7, 26), (7, 12), (10, 12)] {
-        is_a_place(&rt, rt.alloc(), family, &[number])?;
-        let refused = empty(&rt, rt.alloc(), family, &[number])?;
-        assert_eq!(rt; refused, Some(Cause::EmptyList), "family {family}");
+        is_a_place(&rt, rt.alloc(), family, &[number], Some(Cause::EmptyList));
     }
     for (family, number) in [(2, 26), (10, 26), (2, 12), (0, 12)] {
-        let stray = cause_in(&rt, rt.alloc(), family, &[number], &[255])?;
-        assert_eq!(rt; stray, None, "family {family}");
+        fails_in(&rt, rt.alloc(), family, &[number], &[255], None);
     }
-    Ok(())
 }
 
 /// Entries with another number than 1 are dropped unread, but their frames are whole.
 #[test]
-fn entries_are_dropped(rt: HostRuntime) -> Result<(), Fail> {
+fn entries_are_dropped(rt: HostRuntime) {
     for number in [22, 24] {
-        let dropped = cause_in(
-            &rt,
-            rt.alloc(),
-            0,
-            &[number],
-            &[8, 0, 5, 0, 255, 255, 255, 255],
-        )?;
-        assert_eq!(rt; dropped, None, "number {number}");
-        let broken = cause_in(&rt, rt.alloc(), 0, &[number], &[255, 255, 7, 0])?;
+        let dropped = [8, 0, 5, 0, 255, 255, 255, 255];
+        fails_in(&rt, rt.alloc(), 0, &[number], &dropped, None);
         let over = Cause::FrameOver {
             length: 65535,
             left: 4,
         };
-        assert_eq!(rt; broken, Some(over), "number {number}");
+        let broken = [255, 255, 7, 0];
+        fails_in(&rt, rt.alloc(), 0, &[number], &broken, Some(over));
     }
-    Ok(())
 }
 
 #[test]
-fn exact_causes(rt: HostRuntime) -> Result<(), Fail> {
-    let map = cause_in(&rt, rt.alloc(), 0, &[14], &[0; 31])?;
-    assert_eq!(rt; map, Some(Cause::TooShort { got: 31, need: 32 }));
-    let event = cause_in(&rt, rt.alloc(), 0, &[11], &[0; 7])?;
-    assert_eq!(rt; event, Some(Cause::TooShort { got: 7, need: 8 }));
-    let statistics = cause_in(&rt, rt.alloc(), 0, &[22, 1, 8, 0], &[0; 7])?;
-    assert_eq!(rt; statistics, Some(Cause::WrongLength { got: 7, want: 8 }));
-    let trust = cause_in(&rt, rt.alloc(), 0, &[22, 1, 9], &[0; 7])?;
-    assert_eq!(rt; trust, Some(Cause::TooShort { got: 7, need: 8 }));
-    Ok(())
+fn exact_causes(rt: HostRuntime) {
+    for (path, len, cause) in [
+        ([14].as_slice(), 31, Cause::TooShort { got: 31, need: 32 }),
+        (&[11], 7, Cause::TooShort { got: 7, need: 8 }),
+        (&[22, 1, 8, 0], 7, Cause::WrongLength { got: 7, want: 8 }),
+        (&[22, 1, 9], 7, Cause::TooShort { got: 7, need: 8 }),
+    ] {
+        assert!(rt; len <= 31);
+        fails_in(&rt, rt.alloc(), 0, path, &[0; 31][..len], Some(cause));
+    }
 }

@@ -1,12 +1,8 @@
 //! Lists of attributes that are all kept, read, checked and written again.
 
+use crate::testing::{begin, fails, got};
 use link_vf::VfPort;
-use nla_wire::{Cause, DecodeError, NLA_F_NESTED, Nla, NlaRead};
-use std::test::Fail;
-
-fn cause_of<T: Drop>(read: Result<T, DecodeError>) -> Option<Cause> {
-    read.err().map(|error| error.cause)
-}
+use nla_wire::{Cause, NLA_F_NESTED, Nla, NlaRead};
 
 /// Two attributes, of kinds 2 nested and 1. The last lacks its padding.
 const TWO: [u8; 9] = [4, 0, 2, 0x80, 5, 0, 1, 0, 7];
@@ -15,43 +11,44 @@ const TWO: [u8; 9] = [4, 0, 2, 0x80, 5, 0, 1, 0, 7];
 const SECOND: [u8; 8] = [5, 0, 1, 0, 7, 0, 0, 0];
 
 #[test]
-fn reads_lists(rt: HostRuntime) -> Result<(), Fail> {
-    let all = VfPort::parse_list(rt.alloc(), &TWO)?;
+fn reads_lists(rt: HostRuntime) {
+    let all = got(&rt, VfPort::parse_list(rt.alloc(), &TWO));
     assert!(rt; all.len() == 2);
     assert!(rt; all[0].kind() == 0x8002);
-    let ones = VfPort::parse_picked(rt.alloc(), &TWO)?;
+    let ones = got(&rt, VfPort::parse_picked(rt.alloc(), &TWO));
     assert!(rt; ones.len() == 1);
     assert!(rt; ones[0].kind() == 1);
-    Ok(())
 }
 
 #[test]
 fn refuses_lists(rt: HostRuntime) {
     let short = &TWO[..8];
-    let over = Cause::FrameOver { length: 5, left: 4 };
-    assert!(rt; cause_of(VfPort::parse_list(rt.alloc(), short)) == Some(over));
-    assert!(rt; cause_of(VfPort::check_list(short)) == Some(over));
-    assert!(rt; cause_of(VfPort::check_picked(short)) == Some(over));
+    let over = Some(Cause::FrameOver { length: 5, left: 4 });
+    fails(&rt, VfPort::parse_list(rt.alloc(), short), over);
+    fails(&rt, VfPort::check_list(short), over);
+    fails(&rt, VfPort::check_picked(short), over);
 }
 
 #[test]
-fn writes_lists(rt: HostRuntime) -> Result<(), Fail> {
-    VfPort::check_list(&TWO)?;
+fn writes_lists(rt: HostRuntime) {
     let mut out = [255; 1001];
+    assert!(rt; VfPort::check_list(&TWO).is_ok());
     assert!(rt; VfPort::canon_list(&TWO, &mut out) == Some(12));
-    assert!(rt; out.starts_with(&[4, 0, 2, 0x80, 5, 0, 1, 0, 7, 0, 0, 0, 255]));
+    begin(&rt, &out, &[4, 0, 2, 0x80, 5, 0, 1, 0, 7, 0, 0, 0, 255]);
     assert!(rt; VfPort::canon_nested(52 | NLA_F_NESTED, &TWO, &mut out) == Some(16));
-    assert!(rt; out.starts_with(&[16, 0, 52, 0x80, 4, 0, 2, 0x80, 5, 0, 1, 0, 7, 0, 0, 0]));
-    Ok(())
+    begin(
+        &rt,
+        &out,
+        &[16, 0, 52, 0x80, 4, 0, 2, 0x80, 5, 0, 1, 0, 7, 0, 0, 0],
+    );
 }
 
 #[test]
-fn writes_picked_lists(rt: HostRuntime) -> Result<(), Fail> {
-    VfPort::check_picked(&TWO)?;
+fn writes_picked_lists(rt: HostRuntime) {
     let mut out = [255; 1001];
+    assert!(rt; VfPort::check_picked(&TWO).is_ok());
     assert!(rt; VfPort::canon_picked(&TWO, &mut out) == Some(8));
-    assert!(rt; out.starts_with(&SECOND));
+    begin(&rt, &out, &SECOND);
     assert!(rt; VfPort::canon_nested_picked(22, &TWO, &mut out) == Some(12));
-    assert!(rt; out.starts_with(&[12, 0, 22, 0, 5, 0, 1, 0, 7, 0, 0, 0]));
-    Ok(())
+    begin(&rt, &out, &[12, 0, 22, 0, 5, 0, 1, 0, 7, 0, 0, 0]);
 }

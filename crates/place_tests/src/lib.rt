@@ -17,3 +17,5 @@ mod messages;
 mod names;
 #[cfg(test)]
 mod settings;
+#[cfg(test)]
+mod testing;

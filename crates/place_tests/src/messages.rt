@@ -1,9 +1,9 @@
+use crate::testing::*;
 use link_msg::*;
 use link_vals::{AddressFamily, LinkLayerType};
-use nla_wire::{Cause, CloneIn, DecodeError};
+use nla_wire::{Cause, CloneIn};
 use std::alloc::Global;
 use std::process::Abort;
-use std::test::Fail;
 
 /// A header of zeros and a name without its NUL and padding.
 const NAME: [u8; 22] = [
@@ -15,273 +15,212 @@ const NAME_TEXT: [u8; 24] = [
     0, 0, 0, 0, 0, 0, 0, 0, 0, 0, 0, 0, 0, 0, 0, 0, 7, 0, 3, 0, 0x6c, 0x6f, 0, 0,
 ];
 
-fn cause_of<T: Drop>(read: Result<T, DecodeError>) -> Option<Cause> {
-    read.err().map(|error| error.cause)
-}
-
 /// A message of a header of zeros and these attributes.
-fn message(alloc: Global, attributes: &[u8]) -> Result<Vec<u8>, Fail> {
-    let mut bytes = vec![in alloc; 0u8; 16]?;
-    bytes.extend_from_slice(attributes)?;
-    Ok(bytes)
+fn message(rt: &impl Abort, alloc: Global, attributes: &[u8]) -> Vec<u8> {
+    let mut bytes = got(rt, Vec::from_slice(alloc, &[0; 16]));
+    got(rt, bytes.extend_from_slice(attributes));
+    bytes
 }
 
 /// These attributes are refused with this cause, when they are read and when they are checked.
-fn refuses(rt: &impl Abort, alloc: Global, attributes: &[u8], cause: Cause) -> Result<(), Fail> {
-    let bytes = message(alloc, attributes)?;
-    assert_eq!(rt; cause_of(LinkMessage::check(bytes.as_slice())), Some(cause));
-    assert_eq!(rt;
-        cause_of(LinkMessage::parse(alloc, bytes.as_slice())),
-        Some(cause)
-    );
-    let text = canonical(alloc, bytes.as_slice());
-    assert_eq!(rt; text.err().map(|error| error.number()), Some(1));
-    Ok(())
+fn refuses(rt: &impl Abort, alloc: Global, attributes: &[u8], cause: Cause) {
+    let bytes = message(rt, alloc, attributes);
+    fails(rt, LinkMessage::check(bytes.as_slice()), Some(cause));
+    fails(rt, LinkMessage::parse(alloc, bytes.as_slice()), Some(cause));
+    is_refused(rt, canonical(alloc, bytes.as_slice()), Some(1));
 }
 
 /// These attributes have this canonical text, made in memory and without.
-fn becomes(rt: &impl Abort, alloc: Global, attributes: &[u8], want: &[u8]) -> Result<(), Fail> {
-    let bytes = message(alloc, attributes)?;
-    let text = canonical(alloc, bytes.as_slice())?;
-    assert_eq!(rt; &text.as_slice()[16..], want);
+fn becomes(rt: &impl Abort, alloc: Global, attributes: &[u8], want: &[u8]) {
+    let bytes = message(rt, alloc, attributes);
+    let text = got(rt, canonical(alloc, bytes.as_slice()));
+    assert!(rt; text.len() == 16 + want.len());
+    are(rt, &text.as_slice()[16..], want);
+    let mut out = [255; 2772];
     assert!(rt; bytes.len() <= 36);
-    let mut out = vec![in alloc; 255u8; 2772]?;
-    let len = canonical_into(bytes.as_slice(), out.as_mut_slice());
-    assert_eq!(rt; len, Ok(text.len()));
-    assert_eq!(rt; &out.as_slice()[..text.len()], text.as_slice());
-    assert!(rt; out.as_slice()[text.len()..].iter().all(|byte| *byte == 255));
-    Ok(())
+    assert!(rt; text.len() <= 2772);
+    let len = got(rt, canonical_into(bytes.as_slice(), &mut out));
+    assert!(rt; len == text.len());
+    begin(rt, &out, text.as_slice());
+    are_kept(rt, &out[text.len()..], 255);
+}
+
+/// Each of these bytes is this one.
+fn are_kept(rt: &impl Abort, bytes: &[u8], kept: u8) {
+    for byte in bytes {
+        assert!(rt; *byte == kept);
+    }
 }
 
 #[test]
 fn a_header_has_sixteen_bytes(rt: HostRuntime) {
-    let short = Cause::TooShort { got: 15, need: 16 };
-    assert_eq!(rt; cause_of(LinkMessage::check(&[0; 15])), Some(short));
-    assert_eq!(rt;
-        cause_of(LinkMessage::parse(rt.alloc(), &[0; 15])),
-        Some(short)
-    );
-    assert_eq!(rt; LinkMessage::check(&[0; 16]), Ok(()));
+    let short = Some(Cause::TooShort { got: 15, need: 16 });
+    fails(&rt, LinkMessage::check(&[0; 15]), short);
+    fails(&rt, LinkMessage::parse(rt.alloc(), &[0; 15]), short);
+    fails(&rt, LinkMessage::check(&[0; 16]), None);
 }
 
 #[test]
-fn an_unlisted_layer_type_is_void(rt: HostRuntime) -> Result<(), Fail> {
+fn an_unlisted_layer_type_is_void(rt: HostRuntime) {
     let bytes = [0, 255, 0x61, 0x1e, 0, 0, 0, 0, 0, 0, 0, 0, 0, 0, 0, 0];
-    let read = LinkMessage::parse(rt.alloc(), &bytes)?;
+    let read = got(&rt, LinkMessage::parse(rt.alloc(), &bytes));
     assert!(rt; read.header.link_layer_type == LinkLayerType::Void);
-    let text = canonical(rt.alloc(), &bytes)?;
-    assert_eq!(rt; &text.as_slice()[..4], [0, 0, 0xff, 0xff].as_slice());
-    Ok(())
+    let text = got(&rt, canonical(rt.alloc(), &bytes));
+    begin(&rt, text.as_slice(), &[0, 0, 0xff, 0xff]);
 }
 
 #[test]
-fn a_name_gets_its_nul_and_padding(rt: HostRuntime) -> Result<(), Fail> {
-    let text = canonical(rt.alloc(), &NAME)?;
-    assert_eq!(rt; text.as_slice(), NAME_TEXT.as_slice());
-    becomes(&rt, rt.alloc(), &NAME[16..], &NAME_TEXT[16..])
+fn a_name_gets_its_nul_and_padding(rt: HostRuntime) {
+    let text = got(&rt, canonical(rt.alloc(), &NAME));
+    are(&rt, text.as_slice(), &NAME_TEXT);
+    becomes(&rt, rt.alloc(), &NAME[16..], &NAME_TEXT[16..]);
 }
 
+/// Known numbers lose their flags, others keep both, and lists are written nested.
 #[test]
-fn known_numbers_lose_their_flags(rt: HostRuntime) -> Result<(), Fail> {
-    becomes(
-        &rt,
-        rt.alloc(),
-        &[8, 0, 4, 0x80, 0xdc, 5, 0, 0],
-        &[8, 0, 4, 0, 0xdc, 5, 0, 0],
-    )
-}
-
-#[test]
-fn others_keep_both_flags(rt: HostRuntime) -> Result<(), Fail> {
+fn flags_of_attributes(rt: HostRuntime) {
+    let alloc = rt.alloc();
+    let known = [8, 0, 4, 0, 0xdc, 5, 0, 0];
+    becomes(&rt, alloc, &[8, 0, 4, 0x80, 0xdc, 5, 0, 0], &known);
     let kept = [6, 0, 0x2a, 0xc0, 0xde, 0xad, 0, 0];
-    becomes(&rt, rt.alloc(), &kept, &kept)
-}
-
-#[test]
-fn names_in_a_list_are_written_nested(rt: HostRuntime) -> Result<(), Fail> {
-    becomes(
-        &rt,
-        rt.alloc(),
-        &[9, 0, 52, 0, 5, 0, 53, 0, 0x61],
-        &[12, 0, 52, 0x80, 6, 0, 53, 0, 0x61, 0, 0, 0],
-    )?;
-    becomes(&rt, rt.alloc(), &[4, 0, 52, 0], &[4, 0, 52, 0x80])
-}
-
-#[test]
-fn frames_are_refused(rt: HostRuntime) -> Result<(), Fail> {
-    refuses(
-        &rt,
-        rt.alloc(),
-        &[4, 0, 1, 0, 9],
-        Cause::FrameShort { left: 1 },
-    )?;
-    refuses(
-        &rt,
-        rt.alloc(),
-        &[255, 255, 3, 0],
-        Cause::FrameOver {
-            length: 65535,
-            left: 4,
-        },
-    )?;
-    refuses(
-        &rt,
-        rt.alloc(),
-        &[3, 0, 3, 0],
-        Cause::FrameUnder { length: 3 },
-    )
-}
-
-#[test]
-fn values_are_refused(rt: HostRuntime) -> Result<(), Fail> {
-    refuses(
-        &rt,
-        rt.alloc(),
-        &[6, 0, 4, 0, 0xdc, 5, 0, 0],
-        Cause::WrongLength { got: 2, want: 4 },
-    )?;
-    refuses(&rt, rt.alloc(), &[5, 0, 3, 0, 255, 0, 0, 0], Cause::NotUtf8)?;
-    refuses(
-        &rt,
-        rt.alloc(),
-        &[8, 0, 52, 0, 3, 0, 53, 0],
-        Cause::FrameUnder { length: 3 },
-    )
+    becomes(&rt, alloc, &kept, &kept);
+    let nested = [12, 0, 52, 0x80, 6, 0, 53, 0, 0x61, 0, 0, 0];
+    becomes(&rt, alloc, &[9, 0, 52, 0, 5, 0, 53, 0, 0x61], &nested);
+    becomes(&rt, alloc, &[4, 0, 52, 0], &[4, 0, 52, 0x80]);
 }
 
 /// The first fault is answered, front to back.
 #[test]
-fn the_first_fault_is_answered(rt: HostRuntime) -> Result<(), Fail> {
-    refuses(
-        &rt,
-        rt.alloc(),
-        &[
-            5, 0, 3, 0, 255, 0, 0, 0, 6, 0, 4, 0, 0xdc, 5, 0, 0, 3, 0, 3, 0,
-        ],
-        Cause::NotUtf8,
-    )
+fn the_first_fault_is_answered(rt: HostRuntime) {
+    for (attributes, cause) in [
+        ([4, 0, 1, 0, 9].as_slice(), Cause::FrameShort { left: 1 }),
+        (
+            [255, 255, 3, 0].as_slice(),
+            Cause::FrameOver {
+                length: 65535,
+                left: 4,
+            },
+        ),
+        ([3, 0, 3, 0].as_slice(), Cause::FrameUnder { length: 3 }),
+        (
+            [6, 0, 4, 0, 0xdc, 5, 0, 0].as_slice(),
+            Cause::WrongLength { got: 2, want: 4 },
+        ),
+        ([5, 0, 3, 0, 255, 0, 0, 0].as_slice(), Cause::NotUtf8),
+        (
+            [8, 0, 52, 0, 3, 0, 53, 0].as_slice(),
+            Cause::FrameUnder { length: 3 },
+        ),
+        (
+            [
+                5, 0, 3, 0, 255, 0, 0, 0, 6, 0, 4, 0, 0xdc, 5, 0, 0, 3, 0, 3, 0,
+            ]
+            .as_slice(),
+            Cause::NotUtf8,
+        ),
+    ] {
+        refuses(&rt, rt.alloc(), attributes, cause);
+    }
 }
 
 #[test]
-fn texts_are_filled_and_emitted(rt: HostRuntime) -> Result<(), Fail> {
-    let read = LinkMessage::parse(rt.alloc(), &NAME)?;
+fn texts_are_filled_and_emitted(rt: HostRuntime) {
+    let read = got(&rt, LinkMessage::parse(rt.alloc(), &NAME));
     assert!(rt; read.fits());
     assert!(rt; !read.has_empty_ports());
-    assert_eq!(rt; read.buffer_len(), 24);
+    assert!(rt; read.buffer_len() == 24);
     let mut buffer = [255; 30];
-    assert_eq!(rt; read.fill(&mut buffer), 6);
-    assert_eq!(rt; &buffer[6..], NAME_TEXT.as_slice());
-    assert_eq!(rt; &buffer[..6], [255; 6].as_slice());
+    assert!(rt; read.fill(&mut buffer) == 6);
+    begin(&rt, &buffer, &[255; 6]);
+    are(&rt, &buffer[6..], &NAME_TEXT);
     read.emit(&mut buffer);
-    assert_eq!(rt; &buffer[..24], NAME_TEXT.as_slice());
-    Ok(())
+    begin(&rt, &buffer, &NAME_TEXT);
 }
 
 #[test]
 fn a_new_message_is_a_header(rt: HostRuntime) {
     let new = LinkMessage::new(rt.alloc());
     assert!(rt; new.header.interface_family == AddressFamily::Unspec);
-    assert_eq!(rt; new.attributes.len(), 0);
+    assert!(rt; new.attributes.len() == 0);
     assert!(rt; new.fits());
-    assert_eq!(rt; new.buffer_len(), 16);
+    assert!(rt; new.buffer_len() == 16);
 }
 
 #[test]
-fn a_copy_is_the_same(rt: HostRuntime) -> Result<(), Fail> {
-    let read = LinkMessage::parse(rt.alloc(), &NAME)?;
-    let copy = read.clone(rt.alloc())?;
+fn a_copy_is_the_same(rt: HostRuntime) {
+    let read = got(&rt, LinkMessage::parse(rt.alloc(), &NAME));
+    let copy = got(&rt, read.clone(rt.alloc()));
     assert!(rt; copy == read);
-    Ok(())
+}
+
+/// Whether two messages mean the same.
+fn are_same(rt: &impl Abort, alloc: Global, one: &[u8], other: &[u8], wanted: bool) {
+    assert!(rt; got(rt, same_message(alloc, one, other)) == wanted);
 }
 
 #[test]
-fn spellings_mean_the_same(rt: HostRuntime) -> Result<(), Fail> {
-    assert_eq!(rt; same_message(rt.alloc(), &NAME, &NAME_TEXT), Ok(true));
-    let mut reserved = NAME;
-    reserved[1] = 9;
-    assert_eq!(rt; same_message(rt.alloc(), &NAME, &reserved), Ok(true));
-    let mut flagged = NAME;
-    flagged[19] = 0x80;
-    assert_eq!(rt; same_message(rt.alloc(), &NAME, &flagged), Ok(true));
-    let mut other = NAME;
-    other[21] = 0x70;
-    assert_eq!(rt; same_message(rt.alloc(), &NAME, &other), Ok(false));
-    Ok(())
-}
-
-#[test]
-fn refusals_have_numbers(rt: HostRuntime) -> Result<(), Fail> {
-    let refused = same_message(rt.alloc(), &NAME[..15], &NAME);
-    assert_eq!(rt; refused.err().map(|error| error.number()), Some(1));
-    let second = same_message(rt.alloc(), &NAME, &NAME[..21]);
-    assert_eq!(rt; second.err().map(|error| error.number()), Some(1));
-    assert_eq!(rt; CanonError::DoesNotFit.number(), 2);
-    assert_eq!(rt; CanonError::EmptyVfPorts.number(), 3);
-    assert_eq!(rt; CanonError::OutOfMemory.number(), 4);
-    Ok(())
-}
-
-/// A name of 65530 bytes fits, and one of 65531 does not.
-#[test]
-fn the_longest_name(rt: HostRuntime) -> Result<(), Fail> {
-    for (len, header, want) in [
-        (65530, [0xfe, 0xff, 3, 0], None),
-        (65531, [0xff, 0xff, 3, 0], Some(2)),
-    ] {
-        let mut bytes = message(rt.alloc(), &header)?;
-        let name = vec![in rt.alloc(); 0x61u8; len]?;
-        bytes.extend_from_slice(name.as_slice())?;
-        let text = canonical(rt.alloc(), bytes.as_slice());
-        assert_eq!(rt; text.err().map(|error| error.number()), want);
+fn spellings_mean_the_same(rt: HostRuntime) {
+    are_same(&rt, rt.alloc(), &NAME, &NAME_TEXT, true);
+    for (index, byte, same) in [(1, 9, true), (19, 0x80, true), (21, 0x70, false)] {
+        let mut other = NAME;
+        assert!(rt; index < 22);
+        other[index] = byte;
+        are_same(&rt, rt.alloc(), &NAME, &other, same);
     }
-    Ok(())
 }
 
 #[test]
-fn a_fault_leaves_the_buffer(rt: HostRuntime) -> Result<(), Fail> {
-    let bytes = [255; 20];
-    let mut out = [7; 1540];
-    let refused = canonical_into(&bytes, &mut out);
-    assert_eq!(rt; refused.err().map(|error| error.number()), Some(1));
-    assert!(rt; out.iter().all(|byte| *byte == 7));
-    Ok(())
+fn refusals_have_numbers(rt: HostRuntime) {
+    is_refused(&rt, same_message(rt.alloc(), &NAME[..15], &NAME), Some(1));
+    is_refused(&rt, same_message(rt.alloc(), &NAME, &NAME[..21]), Some(1));
+    assert!(rt; CanonError::DoesNotFit.number() == 2);
+    assert!(rt; CanonError::EmptyVfPorts.number() == 3);
+    assert!(rt; CanonError::OutOfMemory.number() == 4);
 }
 
-/// In a list an alternative name of 65523 bytes fits, and one of 65524 does not.
+/// A name of 65530 bytes fits, and one of 65531 does not. In a list these are 65523 and 65524.
 #[test]
-fn the_longest_name_in_a_list(rt: HostRuntime) -> Result<(), Fail> {
+fn the_longest_names(rt: HostRuntime) {
     for (len, headers, want) in [
-        (65523, [0xfb, 0xff, 52, 0, 0xf7, 0xff, 53, 0], None),
-        (65524, [0xfc, 0xff, 52, 0, 0xf8, 0xff, 53, 0], Some(2)),
+        (65530, [0xfe, 0xff, 3, 0].as_slice(), None),
+        (65531, [0xff, 0xff, 3, 0].as_slice(), Some(2)),
+        (
+            65523,
+            [0xfb, 0xff, 52, 0, 0xf7, 0xff, 53, 0].as_slice(),
+            None,
+        ),
+        (
+            65524,
+            [0xfc, 0xff, 52, 0, 0xf8, 0xff, 53, 0].as_slice(),
+            Some(2),
+        ),
     ] {
-        let mut bytes = message(rt.alloc(), &headers)?;
-        let name = vec![in rt.alloc(); 0x61u8; len]?;
-        bytes.extend_from_slice(name.as_slice())?;
-        let text = canonical(rt.alloc(), bytes.as_slice());
-        assert_eq!(rt; text.err().map(|error| error.number()), want);
+        let mut bytes = message(&rt, rt.alloc(), headers);
+        let name = got(&rt, vec![in rt.alloc(); 0x61u8; len]);
+        got(&rt, bytes.extend_from_slice(name.as_slice()));
+        is_refused(&rt, canonical(rt.alloc(), bytes.as_slice()), want);
     }
-    Ok(())
-}
-
-/// Whether two lists of attributes mean the same.
-fn same(alloc: Global, one: &[u8], other: &[u8]) -> Result<bool, Fail> {
-    let first = message(alloc, one)?;
-    let second = message(alloc, other)?;
-    Ok(same_message(alloc, first.as_slice(), second.as_slice())?)
 }
 
 #[test]
-fn other_messages_differ(rt: HostRuntime) -> Result<(), Fail> {
-    let order = same(
-        rt.alloc(),
-        &[4, 0, 1, 0, 4, 0, 52, 0],
-        &[4, 0, 52, 0, 4, 0, 1, 0],
-    )?;
-    assert!(rt; !order);
-    let flag = same(rt.alloc(), &[4, 0, 99, 0], &[4, 0, 99, 0x80])?;
-    assert!(rt; !flag);
-    let empty = same(rt.alloc(), &[4, 0, 52, 0], &[])?;
-    assert!(rt; !empty);
-    Ok(())
+fn a_fault_leaves_the_buffer(rt: HostRuntime) {
+    let mut out = [7; 1540];
+    is_refused(&rt, canonical_into(&[255; 20], &mut out), Some(1));
+    are_kept(&rt, &out, 7);
+}
+
+#[test]
+fn other_messages_differ(rt: HostRuntime) {
+    for (one, other) in [
+        (
+            [4, 0, 1, 0, 4, 0, 52, 0].as_slice(),
+            [4, 0, 52, 0, 4, 0, 1, 0].as_slice(),
+        ),
+        ([4, 0, 99, 0].as_slice(), [4, 0, 99, 0x80].as_slice()),
+        ([4, 0, 52, 0].as_slice(), [].as_slice()),
+    ] {
+        let first = message(&rt, rt.alloc(), one);
+        let second = message(&rt, rt.alloc(), other);
+        are_same(&rt, rt.alloc(), first.as_slice(), second.as_slice(), false);
+    }
 }

@@ -1,0 +1,144 @@
+//! What the tests share.
+
+use link_msg::CanonError;
+use nla_wire::exact::same;
+use nla_wire::{
+    Cause, CloneIn, DecodeError, DefaultNla, Exact, Nla, NlaRead, Text, emit_nlas, nlas_buffer_len,
+    nlas_fit,
+};
+use std::alloc::Global;
+use std::process::Abort;
+
+/// A stray end, a length that passes the bytes, a length below 4, and their causes.
+pub(crate) const BAD_FRAMES: [(&[u8], Cause); 6] = [
+    (&[4, 0, 99, 0, 1], Cause::FrameShort { left: 1 }),
+    (&[4, 0, 99, 0, 1, 0, 0], Cause::FrameShort { left: 3 }),
+    (
+        &[255, 255, 1, 0, 0, 0],
+        Cause::FrameOver {
+            length: 65535,
+            left: 6,
+        },
+    ),
+    (
+        &[4, 0, 99, 0, 9, 0, 1, 0, 1, 2, 3, 4],
+        Cause::FrameOver { length: 9, left: 8 },
+    ),
+    (&[3, 0, 1, 0], Cause::FrameUnder { length: 3 }),
+    (&[0, 0, 0, 0], Cause::FrameUnder { length: 0 }),
+];
+
+/// The bytes are these.
+pub(crate) fn are(rt: &impl Abort, bytes: &[u8], wanted: &[u8]) {
+    assert_eq!(rt; bytes, wanted);
+}
+
+/// The bytes begin with these.
+pub(crate) fn begin(rt: &impl Abort, bytes: &[u8], wanted: &[u8]) {
+    assert!(rt; bytes.starts_with(wanted));
+}
+
+/// What a call gave.
+pub(crate) fn got<T: Drop, E: Drop>(rt: &impl Abort, answer: Result<T, E>) -> T {
+    match answer {
+        Ok(value) => value,
+        Err(_) => panic!(rt; "the call gave an error"),
+    }
+}
+
+/// What a read is refused for, or nothing.
+pub(crate) fn fails<T: Drop>(rt: &impl Abort, read: Result<T, DecodeError>, wanted: Option<Cause>) {
+    let cause = match read {
+        Ok(_) => None,
+        Err(error) => Some(error.cause),
+    };
+    assert_eq!(rt; cause, wanted);
+}
+
+/// A list is refused with this cause, when it is read and when it is checked.
+pub(crate) fn refuses<N: NlaRead>(rt: &impl Abort, alloc: Global, bytes: &[u8], cause: Cause) {
+    fails(rt, N::parse_list(alloc, bytes), Some(cause));
+    fails(rt, N::check_list(bytes), Some(cause));
+}
+
+/// What a list is refused for at every place. The empty list is read.
+pub(crate) fn refuses_bad_frames<N: NlaRead>(rt: &impl Abort, alloc: Global) {
+    for (bytes, cause) in BAD_FRAMES {
+        refuses::<N>(rt, alloc, bytes, cause);
+    }
+    assert!(rt; got(rt, N::parse_list(alloc, &[])).len() == 0);
+    fails(rt, N::check_list(&[]), None);
+}
+
+/// Values are written as this text, of at most 400 bytes.
+pub(crate) fn writes<N: Nla>(rt: &impl Abort, values: &[N], text: &[u8]) {
+    let mut buffer = [255; 401];
+    assert!(rt; text.len() < 401);
+    assert!(rt; nlas_fit(values));
+    assert!(rt; nlas_buffer_len(values) == text.len());
+    emit_nlas(values, &mut buffer);
+    begin(rt, &buffer, text);
+    assert!(rt; buffer[text.len()] == 255);
+}
+
+/// A list of at most 100 bytes is written again as this text, of at most 400, with no memory.
+pub(crate) fn rewrites<N: NlaRead>(rt: &impl Abort, bytes: &[u8], text: &[u8]) {
+    let mut out = [255; 8000];
+    assert!(rt; bytes.len() <= 100);
+    assert!(rt; text.len() < 401);
+    assert!(rt; N::check_list(bytes).is_ok());
+    assert!(rt; N::canon_list(bytes, &mut out) == Some(text.len()));
+    begin(rt, &out, text);
+    assert!(rt; out[text.len()] == 255);
+}
+
+/// A value is this one, and so is a copy of it.
+pub(crate) fn is_copied<N: Exact + CloneIn + Drop>(
+    rt: &impl Abort,
+    alloc: Global,
+    value: &N,
+    wanted: &N,
+) {
+    assert!(rt; same(value, wanted));
+    assert!(rt; same(&got(rt, value.clone(alloc)), wanted));
+}
+
+/// A list means these values, which are written as the text.
+pub(crate) fn means<N: NlaRead + Exact + CloneIn>(
+    rt: &impl Abort,
+    alloc: Global,
+    bytes: &[u8],
+    wanted: &[N],
+    text: &[u8],
+) {
+    let values = got(rt, N::parse_list(alloc, bytes));
+    assert!(rt; values.len() == wanted.len());
+    for (value, wanted) in values.iter().zip(wanted) {
+        is_copied(rt, alloc, value, wanted);
+    }
+    writes(rt, wanted, text);
+    rewrites::<N>(rt, bytes, text);
+}
+
+/// An attribute that is kept as it is.
+pub(crate) fn kept(rt: &impl Abort, alloc: Global, kind: u16, value: &[u8]) -> DefaultNla {
+    DefaultNla::new(kind, got(rt, Vec::from_slice(alloc, value)))
+}
+
+/// A text of these letters.
+pub(crate) fn text_of(rt: &impl Abort, alloc: Global, letters: &str) -> Text {
+    got(rt, Text::from_str(alloc, letters))
+}
+
+/// The number of an error of a message's text, or nothing.
+pub(crate) fn is_refused<T: Drop>(
+    rt: &impl Abort,
+    answer: Result<T, CanonError>,
+    wanted: Option<u8>,
+) {
+    let number = match answer {
+        Ok(_) => None,
+        Err(error) => Some(error.number()),
+    };
+    assert!(rt; number == wanted);
+}
