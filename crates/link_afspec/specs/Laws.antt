@@ -1,13 +1,12 @@
 -- What is proved of each place, in one record: the reader answers what the relations say, what was written is read back, and
--- how many values and how many bytes of text there are. In a message of at most 859 bytes of attributes an attribute has a
--- payload of at most 855 bytes, and a member of its list one of at most 851 bytes: that fits.
+-- how many values and how many bytes of text there are.
 use Rattle.std.specs.Prelude.{refl}
 use Rattle.std.specs.Int.{w8, w32, to_le_bytes}
 use Rattle.std.specs.Net.Addr.{segments_of, octets_of, ipv6_octets}
 use Rattle.std.proofs.Common.{◌≡◌, ℕ, ◌+◌, ◌*◌, ◌/◌, ◌≤◌, List, [], ◌∷◌, length, arith, lit<, lit≤, sym, ap, ◌∙◌, subst}
 use Rattle.std.specs.declared.net.ipv6_addr.Ipv6Addr.{Ipv6Addr}
 use Rattle.std.specs.List.{AllByRecursion}
-use Rattle.nla_wire.specs.Sizes.{most_payload, growth, slack}
+use Rattle.nla_wire.specs.Sizes.{growth, slack, inner_small}
 use Rattle.nla_wire.specs.Frames.{Frame, missing}
 use Rattle.nla_wire.specs.Grammar.{Grammar, list, not_empty}
 use Rattle.nla_wire.specs.Payloads.{filled, sized, exactly, ipv6_address, address_of_octets}
@@ -16,13 +15,12 @@ use Rattle.nla_wire.proofs.Agreement.{as_agrees, exactly_agrees}
 use Rattle.nla_wire.proofs.Memory.{memory_exactly}
 use Rattle.nla_wire.specs.Frames.{IsBytes}
 use Rattle.nla_wire.proofs.Canonical.{octets_again}
-use Rattle.nla_wire.proofs.Lawful.{LawfulPayload, LawfulPlace, table_lawful, row_lawful, less, number_lawful, filled_lawful, sized_lawful, through_lawful, some_lawful, always, none}
+use Rattle.nla_wire.proofs.Lawful.{LawfulPayload, LawfulPlace, table_lawful, row_lawful, less, number_lawful, filled_record_lawful, sized_record_lawful, through_lawful, enum_lawful, text_bounded, some_lawful, always, none}
 use Rattle.nla_wire.proofs.PlaceLaws.{all_always}
 use Rattle.link_vals.specs.MctpPhysBindingTable.{mctp_phys_binding_of, mctp_phys_binding_number}
 use Rattle.link_vals.specs.In6AddrGenModeTable.{in6_addr_gen_mode_of, in6_addr_gen_mode_number}
 use Rattle.link_vals.specs.Inet6IfaceFlagsTable.{inet6_iface_flags_of, inet6_iface_flags_bits}
-use Rattle.link_vals.proofs.Numbers.{mctp_phys_binding_again, mctp_phys_binding_below, in6_addr_gen_mode_again, in6_addr_gen_mode_below}
-use Rattle.link_recs.specs.Laws.{ReadsAgain, HasSize}
+use Rattle.link_vals.proofs.Numbers.{mctp_phys_binding_again, in6_addr_gen_mode_again}
 use Rattle.link_recs.specs.InetDevConfFields.{inet_dev_conf_size, inet_dev_conf_of, inet_dev_conf_bytes}
 use Rattle.link_recs.proofs.InetDevConfLemmas.{inet_dev_conf_again, length_inet_dev_conf_bytes}
 use Rattle.link_recs.specs.Inet6DevConfFields.{inet6_dev_conf_size, inet6_dev_conf_of, inet6_dev_conf_bytes}
@@ -50,29 +48,10 @@ use Rattle.link_afspec.specs.declared.proto_info.LinkProtoInfoBridge.TheVariants
 use Rattle.link_afspec.specs.declared.proto_info.LinkProtoInfoInet6.{LinkProtoInfoInet6}
 use Rattle.link_afspec.specs.declared.proto_info.LinkProtoInfoInet6.TheVariants as proto_inet6
 
--- so many bytes of payload fit
-abbrev pub inner_small : ℕ
-inner_small = 851
-
--- a text has at most 308 bytes for each whole four bytes that were read
-text_bounded : {V : Type 0} (g : Grammar Frame V) (frame : V → Frame) (Fits : V → Type 0) (count : V → ℕ) (e : ℕ)
-    → LawfulPlace g frame Fits always count growth e inner_small
-    → (f : Frame) (v : V) → g.means f v → length (canon (frame v)) ≤ growth * (1 + length f.payload / 4)
-text_bounded g frame Fits count e h f v means = omega (arith, h.bounded f v means)
-
--- a record that is filled up with zeros
-record_lawful : {V : Type 0} (size : ℕ) (of : List ℕ → V) (text : V → List ℕ) → HasSize size text → ReadsAgain of text
-    → size ≤ most_payload
-    → 4 + size + missing size + 0 ≤ growth
-    → LawfulPayload (filled of) text always always none growth 0 inner_small
-record_lawful size of text sized_as again enough wide =
-    filled_lawful of text always size growth 0 inner_small enough wide (λ p. omega (arith, sized_as (of p))) again (λ p small. tt)
-
 -- ** members of AF_MCTP
 
 phys_binding_lawful : LawfulPayload phys_binding (λ v. to_le_bytes w8 (mctp_phys_binding_number v)) always always none growth slack inner_small
-phys_binding_lawful = through_lawful w8 mctp_phys_binding_of mctp_phys_binding_number always inner_small
-    (λ x below. (mctp_phys_binding_below x 8 below, ap mctp_phys_binding_of (mctp_phys_binding_again x), tt))
+phys_binding_lawful = enum_lawful w8 mctp_phys_binding_of mctp_phys_binding_number inner_small mctp_phys_binding_again
 
 pub af_spec_mctp_lawful : LawfulPlace af_spec_mctp_place af_spec_mctp_frame AfSpecMctpFits always one growth slack inner_small
 unfolding af_spec_mctp_place
@@ -85,19 +64,19 @@ af_spec_mctp_lawful = table_lawful af_spec_mctp_frame AfSpecMctpFits always one 
 )
 
 pub af_spec_mctp_bounded : (f : Frame) (v : AfSpecMctp) → af_spec_mctp_place.means f v → length (canon (af_spec_mctp_frame v)) ≤ growth * (1 + length f.payload / 4)
-af_spec_mctp_bounded = text_bounded af_spec_mctp_place af_spec_mctp_frame AfSpecMctpFits one slack af_spec_mctp_lawful
+af_spec_mctp_bounded = text_bounded af_spec_mctp_lawful
 
 -- ** members of AF_INET
 
 pub af_spec_inet_lawful : LawfulPlace af_spec_inet_place af_spec_inet_frame AfSpecInetFits always one growth 0 inner_small
 unfolding af_spec_inet_place
 af_spec_inet_lawful = table_lawful af_spec_inet_frame AfSpecInetFits always one growth 0 inner_small af_spec_inet_rows inet.Other (lit≤ tt) (λ f. refl) (λ f. refl) (λ f small. small) (
-  row_lawful af_spec_inet_frame AfSpecInetFits always one growth 0 inner_small 1 1 inet.DevConf _ _ _ _ _ (record_lawful inet_dev_conf_size inet_dev_conf_of inet_dev_conf_bytes length_inet_dev_conf_bytes inet_dev_conf_again (lit≤ tt) (lit≤ tt)) refl (lit< tt) (λ a. refl) (λ a. refl) (λ a fits. (fits, tt)) (λ a small inside. small) (λ a good. tt),
+  row_lawful af_spec_inet_frame AfSpecInetFits always one growth 0 inner_small 1 1 inet.DevConf _ _ _ _ _ (filled_record_lawful inet_dev_conf_size inner_small inet_dev_conf_of inet_dev_conf_bytes (λ p. length_inet_dev_conf_bytes (inet_dev_conf_of p)) inet_dev_conf_again (lit≤ tt) (lit≤ tt)) refl (lit< tt) (λ a. refl) (λ a. refl) (λ a fits. (fits, tt)) (λ a small inside. small) (λ a good. tt),
   tt,
 )
 
 pub af_spec_inet_bounded : (f : Frame) (v : AfSpecInet) → af_spec_inet_place.means f v → length (canon (af_spec_inet_frame v)) ≤ growth * (1 + length f.payload / 4)
-af_spec_inet_bounded = text_bounded af_spec_inet_place af_spec_inet_frame AfSpecInetFits one 0 af_spec_inet_lawful
+af_spec_inet_bounded = text_bounded af_spec_inet_lawful
 
 -- ** members of AF_INET6
 
@@ -105,15 +84,11 @@ flags_lawful : LawfulPayload iface_flags (λ v. to_le_bytes w32 (inet6_iface_fla
 flags_lawful = through_lawful w32 inet6_iface_flags_of inet6_iface_flags_bits always inner_small (λ x below. (below, refl, tt))
 
 mode_lawful : LawfulPayload addr_gen_mode (λ v. to_le_bytes w8 (in6_addr_gen_mode_number v)) always always none growth slack inner_small
-mode_lawful = through_lawful w8 in6_addr_gen_mode_of in6_addr_gen_mode_number always inner_small
-    (λ x below. (in6_addr_gen_mode_below x 8 below, ap in6_addr_gen_mode_of (in6_addr_gen_mode_again x), tt))
+mode_lawful = enum_lawful w8 in6_addr_gen_mode_of in6_addr_gen_mode_number inner_small in6_addr_gen_mode_again
 
 cache_info_lawful : LawfulPayload (sized inet6_cache_info_size inet6_cache_info_of) inet6_cache_info_bytes always always none growth slack inner_small
-cache_info_lawful = sized_lawful inet6_cache_info_size inet6_cache_info_of inet6_cache_info_bytes always inet6_cache_info_size growth slack inner_small (lit≤ tt) (lit≤ tt)
-    (λ p. omega (arith, length_inet6_cache_info_bytes (inet6_cache_info_of p)))
-    (λ p long. omega (arith, length_inet6_cache_info_bytes (inet6_cache_info_of p)))
-    (λ p small long. inet6_cache_info_again p small)
-    (λ p small long. tt)
+cache_info_lawful = sized_record_lawful inet6_cache_info_size slack inner_small inet6_cache_info_of inet6_cache_info_bytes
+    (λ p. length_inet6_cache_info_bytes (inet6_cache_info_of p)) inet6_cache_info_again (lit≤ tt) (lit≤ tt)
 
 -- no more octets than were read
 octets_short : (p : List ℕ) → length (octets_of (segments_of p)) ≤ length p
@@ -151,13 +126,13 @@ unfolding af_spec_inet6_place
 af_spec_inet6_lawful = table_lawful af_spec_inet6_frame AfSpecInet6Fits always one growth 0 inner_small af_spec_inet6_rows inet6.Other (lit≤ tt) (λ f. refl) (λ f. refl) (λ f small. small) (
   row_lawful af_spec_inet6_frame AfSpecInet6Fits always one growth 0 inner_small 1 1 inet6.Flags _ _ _ _ _ (without_slack _ _ flags_lawful) refl (lit< tt) (λ a. refl) (λ a. refl) (λ a fits. (fits, tt)) (λ a small inside. small) (λ a good. tt),
   (
-    row_lawful af_spec_inet6_frame AfSpecInet6Fits always one growth 0 inner_small 2 2 inet6.DevConf _ _ _ _ _ (record_lawful inet6_dev_conf_size inet6_dev_conf_of inet6_dev_conf_bytes length_inet6_dev_conf_bytes inet6_dev_conf_again (lit≤ tt) (lit≤ tt)) refl (lit< tt) (λ a. refl) (λ a. refl) (λ a fits. (fits, tt)) (λ a small inside. small) (λ a good. tt),
+    row_lawful af_spec_inet6_frame AfSpecInet6Fits always one growth 0 inner_small 2 2 inet6.DevConf _ _ _ _ _ (filled_record_lawful inet6_dev_conf_size inner_small inet6_dev_conf_of inet6_dev_conf_bytes (λ p. length_inet6_dev_conf_bytes (inet6_dev_conf_of p)) inet6_dev_conf_again (lit≤ tt) (lit≤ tt)) refl (lit< tt) (λ a. refl) (λ a. refl) (λ a fits. (fits, tt)) (λ a small inside. small) (λ a good. tt),
     (
-      row_lawful af_spec_inet6_frame AfSpecInet6Fits always one growth 0 inner_small 3 3 inet6.Stats _ _ _ _ _ (record_lawful inet6_stats_size inet6_stats_of inet6_stats_bytes length_inet6_stats_bytes inet6_stats_again (lit≤ tt) (lit≤ tt)) refl (lit< tt) (λ a. refl) (λ a. refl) (λ a fits. (fits, tt)) (λ a small inside. small) (λ a good. tt),
+      row_lawful af_spec_inet6_frame AfSpecInet6Fits always one growth 0 inner_small 3 3 inet6.Stats _ _ _ _ _ (filled_record_lawful inet6_stats_size inner_small inet6_stats_of inet6_stats_bytes (λ p. length_inet6_stats_bytes (inet6_stats_of p)) inet6_stats_again (lit≤ tt) (lit≤ tt)) refl (lit< tt) (λ a. refl) (λ a. refl) (λ a fits. (fits, tt)) (λ a small inside. small) (λ a good. tt),
       (
         row_lawful af_spec_inet6_frame AfSpecInet6Fits always one growth 0 inner_small 5 5 inet6.CacheInfo _ _ _ _ _ (without_slack _ _ cache_info_lawful) refl (lit< tt) (λ a. refl) (λ a. refl) (λ a fits. (fits, tt)) (λ a small inside. small) (λ a good. tt),
         (
-          row_lawful af_spec_inet6_frame AfSpecInet6Fits always one growth 0 inner_small 6 6 inet6.Icmp6Stats _ _ _ _ _ (record_lawful icmp6_stats_size icmp6_stats_of icmp6_stats_bytes length_icmp6_stats_bytes icmp6_stats_again (lit≤ tt) (lit≤ tt)) refl (lit< tt) (λ a. refl) (λ a. refl) (λ a fits. (fits, tt)) (λ a small inside. small) (λ a good. tt),
+          row_lawful af_spec_inet6_frame AfSpecInet6Fits always one growth 0 inner_small 6 6 inet6.Icmp6Stats _ _ _ _ _ (filled_record_lawful icmp6_stats_size inner_small icmp6_stats_of icmp6_stats_bytes (λ p. length_icmp6_stats_bytes (icmp6_stats_of p)) icmp6_stats_again (lit≤ tt) (lit≤ tt)) refl (lit< tt) (λ a. refl) (λ a. refl) (λ a fits. (fits, tt)) (λ a small inside. small) (λ a good. tt),
           (
             row_lawful af_spec_inet6_frame AfSpecInet6Fits always one growth 0 inner_small 7 7 inet6.Token _ _ _ _ _ (without_slack _ _ address_lawful) refl (lit< tt) (λ a. refl) (λ a. refl) (λ a fits. (fits, tt)) (λ a small inside. small) (λ a good. tt),
             (
@@ -175,7 +150,7 @@ af_spec_inet6_lawful = table_lawful af_spec_inet6_frame AfSpecInet6Fits always o
 )
 
 pub af_spec_inet6_bounded : (f : Frame) (v : AfSpecInet6) → af_spec_inet6_place.means f v → length (canon (af_spec_inet6_frame v)) ≤ growth * (1 + length f.payload / 4)
-af_spec_inet6_bounded = text_bounded af_spec_inet6_place af_spec_inet6_frame AfSpecInet6Fits one 0 af_spec_inet6_lawful
+af_spec_inet6_bounded = text_bounded af_spec_inet6_lawful
 
 -- ** members of IFLA_AF_SPEC of the family AF_UNSPEC
 
@@ -202,7 +177,7 @@ af_spec_unspec_lawful = table_lawful af_spec_unspec_frame AfSpecUnspecFits alway
 )
 
 pub af_spec_unspec_bounded : (f : Frame) (v : AfSpecUnspec) → af_spec_unspec_place.means f v → length (canon (af_spec_unspec_frame v)) ≤ growth * (1 + length f.payload / 4)
-af_spec_unspec_bounded = text_bounded af_spec_unspec_place af_spec_unspec_frame AfSpecUnspecFits af_spec_unspec_count slack af_spec_unspec_lawful
+af_spec_unspec_bounded = text_bounded af_spec_unspec_lawful
 
 -- ** members that are kept as they are
 
@@ -211,18 +186,18 @@ unfolding af_spec_bridge_place
 af_spec_bridge_lawful = table_lawful af_spec_bridge_frame AfSpecBridgeFits always one growth slack inner_small [] bridge.Other (lit≤ tt) (λ f. refl) (λ f. refl) (λ f small. small) tt
 
 pub af_spec_bridge_bounded : (f : Frame) (v : AfSpecBridge) → af_spec_bridge_place.means f v → length (canon (af_spec_bridge_frame v)) ≤ growth * (1 + length f.payload / 4)
-af_spec_bridge_bounded = text_bounded af_spec_bridge_place af_spec_bridge_frame AfSpecBridgeFits one slack af_spec_bridge_lawful
+af_spec_bridge_bounded = text_bounded af_spec_bridge_lawful
 
 pub link_proto_info_bridge_lawful : LawfulPlace link_proto_info_bridge_place link_proto_info_bridge_frame LinkProtoInfoBridgeFits always one growth slack inner_small
 unfolding link_proto_info_bridge_place
 link_proto_info_bridge_lawful = table_lawful link_proto_info_bridge_frame LinkProtoInfoBridgeFits always one growth slack inner_small [] proto_bridge.Other (lit≤ tt) (λ f. refl) (λ f. refl) (λ f small. small) tt
 
 pub link_proto_info_bridge_bounded : (f : Frame) (v : LinkProtoInfoBridge) → link_proto_info_bridge_place.means f v → length (canon (link_proto_info_bridge_frame v)) ≤ growth * (1 + length f.payload / 4)
-link_proto_info_bridge_bounded = text_bounded link_proto_info_bridge_place link_proto_info_bridge_frame LinkProtoInfoBridgeFits one slack link_proto_info_bridge_lawful
+link_proto_info_bridge_bounded = text_bounded link_proto_info_bridge_lawful
 
 pub link_proto_info_inet6_lawful : LawfulPlace link_proto_info_inet6_place link_proto_info_inet6_frame LinkProtoInfoInet6Fits always one growth slack inner_small
 unfolding link_proto_info_inet6_place
 link_proto_info_inet6_lawful = table_lawful link_proto_info_inet6_frame LinkProtoInfoInet6Fits always one growth slack inner_small [] proto_inet6.Other (lit≤ tt) (λ f. refl) (λ f. refl) (λ f small. small) tt
 
 pub link_proto_info_inet6_bounded : (f : Frame) (v : LinkProtoInfoInet6) → link_proto_info_inet6_place.means f v → length (canon (link_proto_info_inet6_frame v)) ≤ growth * (1 + length f.payload / 4)
-link_proto_info_inet6_bounded = text_bounded link_proto_info_inet6_place link_proto_info_inet6_frame LinkProtoInfoInet6Fits one slack link_proto_info_inet6_lawful
+link_proto_info_inet6_bounded = text_bounded link_proto_info_inet6_lawful

@@ -1,7 +1,7 @@
 -- What follows for a caller from the answer of the reader of messages.
 use Rattle.std.proofs.Common.{◌≡◌, ◌≢◌, ℕ, ◌+◌, List, length, refl, sym, ap, subst, arith, lit<, length-append, inl, inr, Result, Ok, Err}
 use Rattle.std.specs.Prelude.{IfOk, IsTrue, Bool, ◌↔◌}
-use Rattle.nla_wire.specs.Sizes.{growth}
+use Rattle.nla_wire.specs.Sizes.{growth, attribute_small}
 use Rattle.nla_wire.specs.Frames.{IsBytes}
 use Rattle.nla_wire.specs.Gives.{Gives}
 use Rattle.nla_wire.specs.declared.error.Cause.{Cause}
@@ -28,14 +28,14 @@ pub message_bounded : (b : List ℕ) (m : LinkMessage) → IsBytes b → Means b
 message_bounded b m bytes (h, c, whole, header, means) =
     let family = m.header.interface_family in
     let size : length b ≡ header_size + length c = omega (arith, ap (λ (x : List ℕ). length x) whole, length-append h c, header.size) in
-    let counted = place_count (attribute_place family) attribute_frame AttributeFits HasPorts attribute_count growth 0 855 (attribute_lawful family) c m.attributes means in
-    let grown = place_growth (attribute_place family) attribute_frame AttributeFits HasPorts attribute_count 0 855 (attribute_lawful family) c m.attributes means in
+    let counted = place_count (attribute_place family) attribute_frame AttributeFits HasPorts attribute_count growth 0 attribute_small (attribute_lawful family) c m.attributes means in
+    let grown = place_growth (attribute_place family) attribute_frame AttributeFits HasPorts attribute_count 0 attribute_small (attribute_lawful family) c m.attributes means in
     record {
       few = omega (arith, size, counted);
       short = omega (arith, size, grown, text_length m);
       small = λ few.
           let behind : IsBytes c = bytes_right h c (subst IsBytes whole bytes) in
-          let fit = place_all_fit (attribute_place family) attribute_frame AttributeFits HasPorts attribute_count growth 0 855 (attribute_lawful family) (lit< tt) c m.attributes (omega (arith, size, few)) behind means in
+          let fit = place_all_fit (attribute_place family) attribute_frame AttributeFits HasPorts attribute_count growth 0 attribute_small (attribute_lawful family) (lit< tt) c m.attributes (omega (arith, size, few)) behind means in
           (fit.0, omega (arith, text_length m, grown, size, few));
     }
 

@@ -10,7 +10,7 @@ use Rattle.nla_wire.specs.declared.error.Cause.{Cause}
 use Rattle.nla_wire.proofs.Agreement.{as_agrees, number_agrees, sized_agrees}
 use Rattle.nla_wire.proofs.Canonical.{lent_back, closed_value}
 use Rattle.nla_wire.proofs.FieldLemmas.{length-to_le_bytes, from_le_bytes_below}
-use Rattle.nla_wire.proofs.Loop.{given}
+use Rattle.nla_wire.proofs.Meaning.{accepted_means}
 use Rattle.link_vals.specs.LinkExtentMaskTable.{ext_list, ext_sum}
 use Rattle.link_vals.proofs.ExtentSums.{sums_back}
 use Rattle.link_vals.specs.declared.ext_mask.LinkExtentMask.{LinkExtentMask}
@@ -28,9 +28,7 @@ id_short p = omega (arith, length-phys_id_bytes p)
 -- ** extent masks
 
 pub mask_means : (p : List ℕ) → IsBytes p → IsOk (ext_mask.reads p) → (flags : List LinkExtentMask) × (ext_mask.reads p ≡ Ok flags) × ext_mask.means p flags
-mask_means p small accepted =
-    let k = given (ext_mask.reads p) accepted in
-    (k.0, k.1, (as_agrees IsBytes ext_list (number_of w32) (number_agrees w32)).found p k.0 small k.1)
+mask_means = accepted_means IsBytes ext_mask (as_agrees IsBytes ext_list (number_of w32) (number_agrees w32))
 
 -- the sum of the flags is the number that was read
 mask_sum : (p : List ℕ) (flags : List LinkExtentMask) → IsBytes p → ext_mask.means p flags → (ext_sum flags ≡ from_le_bytes w32 p) × (ext_sum flags < 2 ^ 32)
@@ -38,9 +36,6 @@ mask_sum p flags small means =
     let below : from_le_bytes w32 p < 2 ^ 32 = from_le_bytes_below w32 p small in
     let sum : ext_sum flags ≡ from_le_bytes w32 p = ap ext_sum means.2 ∙ ap (λ n. ext_sum (ext_list n)) means.1.1 ∙ sums_back (from_le_bytes w32 p) below in
     (sum, omega (arith, sum, below))
-
-mask_text : ℕ → List LinkExtentMask → List ℕ
-mask_text kind flags = canon (record { kind = kind; payload = to_le_bytes w32 (ext_sum flags) })
 
 mask_written : (kind : ℕ) (p old new : List ℕ) (flags : List LinkExtentMask) (a : Option ℕ) → IsBytes p → ext_mask.means p flags
     → Closed kind (to_le_bytes w32 (from_le_bytes w32 p)) old new a
@@ -58,28 +53,10 @@ mask_canonical kind p old new a small accepted c =
     subst (λ r. Canonical (λ flags. canon (record { kind = kind; payload = to_le_bytes w32 (ext_sum flags) })) (λ flags. ext_sum flags < 2 ^ 32) r old new a) (sym m.1)
     (mask_written kind p old new m.0 a small m.2 c)
 
--- ** a value that stands behind the header of its frame
-
-closed_fits : {A : Type 0} (text : A → List ℕ) (fits : A → Type 0) (kind : ℕ) (v : A) (old new : List ℕ) (a : Option ℕ) → fits v → length (text v) ≤ most_payload
-    → Closed kind (text v) old new a → Canonical (λ v. canon (record { kind = kind; payload = text v })) fits (Ok v) old new a
-closed_fits text fits kind v old new (Some n) fit short c = (fit, c.1)
-closed_fits text fits kind v old new None fit short c = absurd (omega (arith, short, c))
-
-pub value_canonical : {A : Type 0} (text : A → List ℕ) (fits : A → Type 0) (kind : ℕ) (r : Result A Cause) (old part : List ℕ) (len : ℕ) (new : List ℕ) (a : Option ℕ) → 4 ≤ length old
-    → ((v : A) → fits v → length (text v) ≤ most_payload)
-    → Canonical text fits r (take (length old - 4) (drop 4 old)) part (Some len)
-    → Closed kind (take len (drop 4 (put_mid 4 (length old - 4) old part))) (put_mid 4 (length old - 4) old part) new a
-    → Canonical (λ v. canon (record { kind = kind; payload = text v })) fits r old new a
-value_canonical text fits kind (Ok v) old part len new a long short c closing =
-    closed_fits text fits kind v old new a c.0 (short v c.0) (closed_value kind (text v) old part len new a long c.1 closing)
-value_canonical text fits kind (Err e) old part len new a long short c closing = tt
-
 -- ** wireless events
 
 event_means : (p : List ℕ) → IsBytes p → IsOk (wireless_event.reads p) → (v : WirelessEvent) × (wireless_event.reads p ≡ Ok v) × wireless_event.means p v
-event_means p small accepted =
-    let k = given (wireless_event.reads p) accepted in
-    (k.0, k.1, (sized_agrees 8 wireless_of).found p k.0 small k.1)
+event_means = accepted_means IsBytes wireless_event (sized_agrees 8 wireless_of)
 
 -- its text is as long as the payload
 pub event_length : (p old part : List ℕ) (len : ℕ) → IsBytes p → IsOk (wireless_event.reads p)
@@ -88,8 +65,3 @@ event_length p old part len small accepted c =
     let m = event_means p small accepted in
     let one : WirelessFits m.0 × Writes (wireless_text m.0) old part len = subst (λ r. Canonical wireless_text WirelessFits r old part (Some len)) m.1 c in
     one.1.length_is ∙ wireless_length p m.0 m.2
-
-pub lent_room : (old part : List ℕ) → 4 ≤ length old → length part ≡ length (take (length old - 4) (drop 4 old)) → length (put_mid 4 (length old - 4) old part) ≡ length old
-lent_room old part long kept =
-    let rest : length part ≡ length old - 4 = kept ∙ simp (length-take, length-drop) (omega arith) in
-    ap length (lent_back 4 old part) ∙ length-append (take 4 old) part ∙ simp length-take (omega (arith, rest, long))

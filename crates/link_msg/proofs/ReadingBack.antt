@@ -2,7 +2,7 @@
 use Rattle.std.proofs.Common.{◌≡◌, ℕ, List, [], ◌∷◌, ◌++◌, refl, sym, ap, ◌∙◌, subst}
 use Rattle.std.specs.Prelude.{slice_index}
 use Rattle.std.specs.Int.{w16, w32, to_le_bytes}
-use Rattle.nla_wire.specs.Sizes.{growth}
+use Rattle.nla_wire.specs.Sizes.{growth, attribute_small}
 use Rattle.nla_wire.specs.Frames.{IsBytes}
 use Rattle.nla_wire.specs.Fields.{number_at}
 use Rattle.nla_wire.specs.Canon.{canons}
@@ -66,6 +66,6 @@ message_back b m small (h, c, whole, header, means) fits ports =
       canons attribute_frame m.attributes,
       refl,
       header_back h m.header (bytes_left h c bytes) header,
-      place_back (attribute_place m.header.interface_family) attribute_frame AttributeFits HasPorts attribute_count growth 0 855 (attribute_lawful m.header.interface_family)
+      place_back (attribute_place m.header.interface_family) attribute_frame AttributeFits HasPorts attribute_count growth 0 attribute_small (attribute_lawful m.header.interface_family)
           c m.attributes (bytes_right h c bytes) means fits.0 ports,
     )

@@ -3,24 +3,23 @@ use Rattle.std.specs.Prelude.{◌≡◌, ℕ, ◌+◌, ◌*◌, ◌/◌, ◌%◌
 use Rattle.std.specs.List.{AllByRecursion}
 use Rattle.std.specs.Int.{w8, w32, to_le_bytes}
 use Rattle.std.proofs.Common.{lit<, lit≤, sym, ap, subst, arith}
-use Rattle.nla_wire.specs.Sizes.{growth, slack, most_payload}
+use Rattle.nla_wire.specs.Sizes.{growth, slack, most_payload, attribute_small, inner_small}
 use Rattle.nla_wire.specs.Frames.{Frame, number, missing}
 use Rattle.nla_wire.specs.Canon.{AllFit, canon, canons, one, total}
 use Rattle.nla_wire.specs.Grammar.{Grammar, list, not_empty, Row, row, kept, by_payload}
 use Rattle.nla_wire.specs.Payloads.{text, filled, sized}
-use Rattle.nla_wire.proofs.Lawful.{LawfulPlace, LawfulPayload, LawfulRows, LawfulReading, table_over_lawful, place_lawful, row_lawful, list_lawful, some_lawful, less, kept_lawful, number_lawful, signed_lawful, through_lawful, filled_lawful, sized_lawful, text_lawful, bytes_lawful, always, none}
+use Rattle.nla_wire.proofs.Lawful.{LawfulPlace, LawfulPayload, LawfulRows, LawfulReading, table_over_lawful, place_lawful, row_lawful, list_lawful, some_lawful, less, kept_lawful, number_lawful, signed_lawful, through_lawful, enum_lawful, filled_lawful, filled_record_lawful, sized_record_lawful, text_bounded, text_lawful, bytes_lawful, always, none}
 use Rattle.nla_wire.proofs.PlaceLaws.{all_always}
 use Rattle.link_vals.specs.StateTable.{state_of, state_number}
 use Rattle.link_vals.specs.LinkModeTable.{link_mode_of, link_mode_number}
 use Rattle.link_vals.specs.LinkEventTable.{link_event, link_event_of, link_event_number}
 use Rattle.link_vals.specs.LinkExtentMaskTable.{ext_list, ext_sum}
 use Rattle.link_vals.specs.LinkPhysIdBytes.{phys_id_of, phys_id_bytes}
-use Rattle.link_vals.proofs.Numbers.{state_again, state_below, link_mode_again, link_mode_below, link_event_again, link_event_below}
+use Rattle.link_vals.proofs.Numbers.{state_again, link_mode_again, link_event_again}
 use Rattle.link_vals.proofs.ExtentSums.{sums_back}
 use Rattle.link_vals.proofs.PhysIds.{phys_id_len_le, phys_id_again, length-phys_id_bytes}
 use Rattle.link_vals.specs.declared.address_family.AddressFamily.{AddressFamily}
 use Rattle.link_vals.specs.declared.address_family.AddressFamily.TheVariants as Families
-use Rattle.link_recs.specs.Laws.{ReadsAgain, HasSize}
 use Rattle.link_recs.specs.StatsFields.{stats_size, stats_of, stats_bytes}
 use Rattle.link_recs.specs.Stats64Fields.{stats64_size, stats64_of, stats64_bytes}
 use Rattle.link_recs.specs.MapFields.{map_size, map_of, map_bytes}
@@ -29,9 +28,9 @@ use Rattle.link_recs.proofs.Stats64Lemmas.{stats64_again, length_stats64_bytes}
 use Rattle.link_recs.proofs.MapLemmas.{map_again, length_map_bytes}
 use Rattle.link_nest.specs.Values.{prop_frame, PropFits, devlink_port_frame, DevlinkPortFits, dpll_pin_frame, DpllPinFits, down_reason_frame, DownReasonFits, xdp_frame, LinkXdpFits, link_info_frame, LinkInfoFits}
 use Rattle.link_nest.specs.Places.{prop_place, devlink_port_place, dpll_pin_place, down_reason_place, xdp_place, link_info_place}
-use Rattle.link_nest.specs.Laws.{inner_small, prop_lawful, devlink_port_lawful, dpll_pin_lawful, down_reason_lawful, xdp_lawful, link_info_lawful}
+use Rattle.link_nest.specs.Laws.{prop_lawful, devlink_port_lawful, dpll_pin_lawful, down_reason_lawful, xdp_lawful, link_info_lawful}
 use Rattle.link_nest.specs.WirelessLaws.{wireless_lawful}
-use Rattle.link_vf.specs.Laws.{attribute_small, vf_info_list_lawful, vf_port_list_lawful, port_self_lawful}
+use Rattle.link_vf.specs.Laws.{vf_info_list_lawful, vf_port_list_lawful, port_self_lawful}
 use Rattle.link_afspec.specs.Values.{af_spec_unspec_frame, AfSpecUnspecFits, af_spec_unspec_count, af_spec_bridge_frame, AfSpecBridgeFits, link_proto_info_bridge_frame, LinkProtoInfoBridgeFits, link_proto_info_inet6_frame, LinkProtoInfoInet6Fits}
 use Rattle.link_afspec.specs.Places.{af_spec_unspec_place, af_spec_bridge_place, link_proto_info_bridge_place, link_proto_info_inet6_place}
 use Rattle.link_afspec.specs.Laws.{af_spec_unspec_lawful, af_spec_bridge_lawful, link_proto_info_bridge_lawful, link_proto_info_inet6_lawful}
@@ -79,16 +78,13 @@ less_slack {A} {g} {text} {Fits} {Good} {count} h = less g text Fits Good count 
 -- ** numbers, ids and records
 
 event_lawful : LawfulPayload link_event (λ v. to_le_bytes w32 (link_event_number v)) always always none growth slack attribute_small
-event_lawful = through_lawful w32 link_event_of link_event_number always attribute_small
-    (λ x below. (link_event_below x 32 below, ap link_event_of (link_event_again x), tt))
+event_lawful = enum_lawful w32 link_event_of link_event_number attribute_small link_event_again
 
 state_lawful : LawfulPayload oper_state (λ v. to_le_bytes w8 (state_number v)) always always none growth slack attribute_small
-state_lawful = through_lawful w8 state_of state_number always attribute_small
-    (λ x below. (state_below x 8 below, ap state_of (state_again x), tt))
+state_lawful = enum_lawful w8 state_of state_number attribute_small state_again
 
 mode_lawful : LawfulPayload mode (λ v. to_le_bytes w8 (link_mode_number v)) always always none growth slack attribute_small
-mode_lawful = through_lawful w8 link_mode_of link_mode_number always attribute_small
-    (λ x below. (link_mode_below x 8 below, ap link_mode_of (link_mode_again x), tt))
+mode_lawful = enum_lawful w8 link_mode_of link_mode_number attribute_small link_mode_again
 
 truth_below : (v : Bool) → truth_number v < 2 ^ 8
 truth_below true = lit< tt
@@ -109,21 +105,12 @@ mask_lawful : LawfulPayload ext_mask (λ flags. to_le_bytes w32 (ext_sum flags))
 mask_lawful = less_slack (through_lawful w32 ext_list ext_sum (λ flags. ext_sum flags < 2 ^ 32) attribute_small
     (λ x below. (omega (arith, sums_back x below), ap ext_list (sums_back x below), omega (arith, sums_back x below))))
 
--- a record that is filled up with zeros
-record_lawful : {V : Type 0} (size : ℕ) (of : List ℕ → V) (text : V → List ℕ) → HasSize size text → ReadsAgain of text
-    → size ≤ most_payload
-    → 4 + size + missing size + 0 ≤ growth
-    → LawfulPayload (filled of) text always always none growth 0 attribute_small
-record_lawful size of text sized_as again enough wide =
-    filled_lawful of text always size growth 0 attribute_small enough wide (λ p. omega (arith, sized_as (of p))) again (λ p small. tt)
-
 map_lawful : LawfulPayload (sized map_size map_of) map_bytes always always none growth 0 attribute_small
-map_lawful = sized_lawful map_size map_of map_bytes always map_size growth 0 attribute_small (lit≤ tt) (lit≤ tt)
-    (λ p. omega (arith, length_map_bytes (map_of p))) (λ p long. omega (arith, length_map_bytes (map_of p))) (λ p small long. map_again p small) (λ p small long. tt)
+map_lawful = sized_record_lawful map_size 0 attribute_small map_of map_bytes (λ p. length_map_bytes (map_of p)) map_again (lit≤ tt) (lit≤ tt)
 
 number_lines : LawfulRows attribute_frame AttributeFits HasPorts attribute_count growth 0 attribute_small number_rows
 number_lines =
-    (plain 4 4 Attributes.Mtu _ _ slack (number_lawful w32 attribute_small) refl (lit< tt) (λ a. refl) (λ a. refl) (λ a. tt), (plain 5 5 Attributes.Link _ _ slack (number_lawful w32 attribute_small) refl (lit< tt) (λ a. refl) (λ a. refl) (λ a. tt), (plain 7 7 Attributes.Stats _ _ 0 (record_lawful stats_size stats_of stats_bytes length_stats_bytes stats_again (lit≤ tt) (lit≤ tt)) refl (lit< tt) (λ a. refl) (λ a. refl) (λ a. tt), (plain 10 10 Attributes.Controller _ _ slack (number_lawful w32 attribute_small) refl (lit< tt) (λ a. refl) (λ a. refl) (λ a. tt), (plain 13 13 Attributes.TxQueueLen _ _ slack (number_lawful w32 attribute_small) refl (lit< tt) (λ a. refl) (λ a. refl) (λ a. tt), (plain 14 14 Attributes.Map _ _ 0 map_lawful refl (lit< tt) (λ a. refl) (λ a. refl) (λ a. tt), (plain 16 16 Attributes.OperState _ _ slack state_lawful refl (lit< tt) (λ a. refl) (λ a. refl) (λ a. tt), (plain 17 17 Attributes.Mode _ _ slack mode_lawful refl (lit< tt) (λ a. refl) (λ a. refl) (λ a. tt), (plain 19 19 Attributes.NetNsPid _ _ slack (number_lawful w32 attribute_small) refl (lit< tt) (λ a. refl) (λ a. refl) (λ a. tt), (plain 21 21 Attributes.NumVf _ _ slack (number_lawful w32 attribute_small) refl (lit< tt) (λ a. refl) (λ a. refl) (λ a. tt), (plain 23 23 Attributes.Stats64 _ _ 0 (record_lawful stats64_size stats64_of stats64_bytes length_stats64_bytes stats64_again (lit≤ tt) (lit≤ tt)) refl (lit< tt) (λ a. refl) (λ a. refl) (λ a. tt), (plain 27 27 Attributes.Group _ _ slack (number_lawful w32 attribute_small) refl (lit< tt) (λ a. refl) (λ a. refl) (λ a. tt), (plain 28 28 Attributes.NetNsFd _ _ slack (signed_lawful w32 attribute_small) refl (lit< tt) (λ a. refl) (λ a. refl) (λ a. tt), (plain 30 30 Attributes.Promiscuity _ _ slack (number_lawful w32 attribute_small) refl (lit< tt) (λ a. refl) (λ a. refl) (λ a. tt), (plain 31 31 Attributes.NumTxQueues _ _ slack (number_lawful w32 attribute_small) refl (lit< tt) (λ a. refl) (λ a. refl) (λ a. tt), (plain 32 32 Attributes.NumRxQueues _ _ slack (number_lawful w32 attribute_small) refl (lit< tt) (λ a. refl) (λ a. refl) (λ a. tt), (plain 33 33 Attributes.Carrier _ _ slack (number_lawful w8 attribute_small) refl (lit< tt) (λ a. refl) (λ a. refl) (λ a. tt), (holding 34 34 Attributes.PhysPortId _ _ _ _ _ id_lawful refl (lit< tt) (λ a. refl) (λ a. refl) (λ a fits. fits) (λ a small inside. (small, inside)) (λ a good. tt), (plain 35 35 Attributes.CarrierChanges _ _ slack (number_lawful w32 attribute_small) refl (lit< tt) (λ a. refl) (λ a. refl) (λ a. tt), (holding 36 36 Attributes.PhysSwitchId _ _ _ _ _ id_lawful refl (lit< tt) (λ a. refl) (λ a. refl) (λ a fits. fits) (λ a small inside. (small, inside)) (λ a good. tt), (plain 37 37 Attributes.LinkNetNsId _ _ slack (signed_lawful w32 attribute_small) refl (lit< tt) (λ a. refl) (λ a. refl) (λ a. tt), (plain 39 39 Attributes.ProtoDown _ _ slack (number_lawful w8 attribute_small) refl (lit< tt) (λ a. refl) (λ a. refl) (λ a. tt), (plain 40 40 Attributes.GsoMaxSegs _ _ slack (number_lawful w32 attribute_small) refl (lit< tt) (λ a. refl) (λ a. refl) (λ a. tt), (plain 41 41 Attributes.GsoMaxSize _ _ slack (number_lawful w32 attribute_small) refl (lit< tt) (λ a. refl) (λ a. refl) (λ a. tt), (plain 44 44 Attributes.Event _ _ slack event_lawful refl (lit< tt) (λ a. refl) (λ a. refl) (λ a. tt), (plain 45 45 Attributes.NewNetnsId _ _ slack (signed_lawful w32 attribute_small) refl (lit< tt) (λ a. refl) (λ a. refl) (λ a. tt), (plain 46 46 Attributes.IfNetnsId _ _ slack (signed_lawful w32 attribute_small) refl (lit< tt) (λ a. refl) (λ a. refl) (λ a. tt), (plain 47 47 Attributes.CarrierUpCount _ _ slack (number_lawful w32 attribute_small) refl (lit< tt) (λ a. refl) (λ a. refl) (λ a. tt), (plain 48 48 Attributes.CarrierDownCount _ _ slack (number_lawful w32 attribute_small) refl (lit< tt) (λ a. refl) (λ a. refl) (λ a. tt), (plain 49 49 Attributes.NewIfIndex _ _ slack (signed_lawful w32 attribute_small) refl (lit< tt) (λ a. refl) (λ a. refl) (λ a. tt), (plain 50 50 Attributes.MinMtu _ _ slack (number_lawful w32 attribute_small) refl (lit< tt) (λ a. refl) (λ a. refl) (λ a. tt), (plain 51 51 Attributes.MaxMtu _ _ slack (number_lawful w32 attribute_small) refl (lit< tt) (λ a. refl) (λ a. refl) (λ a. tt), (plain 58 58 Attributes.GroMaxSize _ _ slack (number_lawful w32 attribute_small) refl (lit< tt) (λ a. refl) (λ a. refl) (λ a. tt), (plain 59 59 Attributes.TsoMaxSize _ _ slack (number_lawful w32 attribute_small) refl (lit< tt) (λ a. refl) (λ a. refl) (λ a. tt), (plain 60 60 Attributes.TsoMaxSegs _ _ slack (number_lawful w32 attribute_small) refl (lit< tt) (λ a. refl) (λ a. refl) (λ a. tt), (plain 61 61 Attributes.AllMulticast _ _ slack (number_lawful w32 attribute_small) refl (lit< tt) (λ a. refl) (λ a. refl) (λ a. tt), (plain 63 63 Attributes.GsoIpv4MaxSize _ _ slack (number_lawful w32 attribute_small) refl (lit< tt) (λ a. refl) (λ a. refl) (λ a. tt), (plain 64 64 Attributes.GroIpv4MaxSize _ _ slack (number_lawful w32 attribute_small) refl (lit< tt) (λ a. refl) (λ a. refl) (λ a. tt), (plain 67 67 Attributes.NetnsImmutable _ _ slack truth_lawful refl (lit< tt) (λ a. refl) (λ a. refl) (λ a. tt), tt)))))))))))))))))))))))))))))))))))))))
+    (plain 4 4 Attributes.Mtu _ _ slack (number_lawful w32 attribute_small) refl (lit< tt) (λ a. refl) (λ a. refl) (λ a. tt), (plain 5 5 Attributes.Link _ _ slack (number_lawful w32 attribute_small) refl (lit< tt) (λ a. refl) (λ a. refl) (λ a. tt), (plain 7 7 Attributes.Stats _ _ 0 (filled_record_lawful stats_size attribute_small stats_of stats_bytes (λ p. length_stats_bytes (stats_of p)) stats_again (lit≤ tt) (lit≤ tt)) refl (lit< tt) (λ a. refl) (λ a. refl) (λ a. tt), (plain 10 10 Attributes.Controller _ _ slack (number_lawful w32 attribute_small) refl (lit< tt) (λ a. refl) (λ a. refl) (λ a. tt), (plain 13 13 Attributes.TxQueueLen _ _ slack (number_lawful w32 attribute_small) refl (lit< tt) (λ a. refl) (λ a. refl) (λ a. tt), (plain 14 14 Attributes.Map _ _ 0 map_lawful refl (lit< tt) (λ a. refl) (λ a. refl) (λ a. tt), (plain 16 16 Attributes.OperState _ _ slack state_lawful refl (lit< tt) (λ a. refl) (λ a. refl) (λ a. tt), (plain 17 17 Attributes.Mode _ _ slack mode_lawful refl (lit< tt) (λ a. refl) (λ a. refl) (λ a. tt), (plain 19 19 Attributes.NetNsPid _ _ slack (number_lawful w32 attribute_small) refl (lit< tt) (λ a. refl) (λ a. refl) (λ a. tt), (plain 21 21 Attributes.NumVf _ _ slack (number_lawful w32 attribute_small) refl (lit< tt) (λ a. refl) (λ a. refl) (λ a. tt), (plain 23 23 Attributes.Stats64 _ _ 0 (filled_record_lawful stats64_size attribute_small stats64_of stats64_bytes (λ p. length_stats64_bytes (stats64_of p)) stats64_again (lit≤ tt) (lit≤ tt)) refl (lit< tt) (λ a. refl) (λ a. refl) (λ a. tt), (plain 27 27 Attributes.Group _ _ slack (number_lawful w32 attribute_small) refl (lit< tt) (λ a. refl) (λ a. refl) (λ a. tt), (plain 28 28 Attributes.NetNsFd _ _ slack (signed_lawful w32 attribute_small) refl (lit< tt) (λ a. refl) (λ a. refl) (λ a. tt), (plain 30 30 Attributes.Promiscuity _ _ slack (number_lawful w32 attribute_small) refl (lit< tt) (λ a. refl) (λ a. refl) (λ a. tt), (plain 31 31 Attributes.NumTxQueues _ _ slack (number_lawful w32 attribute_small) refl (lit< tt) (λ a. refl) (λ a. refl) (λ a. tt), (plain 32 32 Attributes.NumRxQueues _ _ slack (number_lawful w32 attribute_small) refl (lit< tt) (λ a. refl) (λ a. refl) (λ a. tt), (plain 33 33 Attributes.Carrier _ _ slack (number_lawful w8 attribute_small) refl (lit< tt) (λ a. refl) (λ a. refl) (λ a. tt), (holding 34 34 Attributes.PhysPortId _ _ _ _ _ id_lawful refl (lit< tt) (λ a. refl) (λ a. refl) (λ a fits. fits) (λ a small inside. (small, inside)) (λ a good. tt), (plain 35 35 Attributes.CarrierChanges _ _ slack (number_lawful w32 attribute_small) refl (lit< tt) (λ a. refl) (λ a. refl) (λ a. tt), (holding 36 36 Attributes.PhysSwitchId _ _ _ _ _ id_lawful refl (lit< tt) (λ a. refl) (λ a. refl) (λ a fits. fits) (λ a small inside. (small, inside)) (λ a good. tt), (plain 37 37 Attributes.LinkNetNsId _ _ slack (signed_lawful w32 attribute_small) refl (lit< tt) (λ a. refl) (λ a. refl) (λ a. tt), (plain 39 39 Attributes.ProtoDown _ _ slack (number_lawful w8 attribute_small) refl (lit< tt) (λ a. refl) (λ a. refl) (λ a. tt), (plain 40 40 Attributes.GsoMaxSegs _ _ slack (number_lawful w32 attribute_small) refl (lit< tt) (λ a. refl) (λ a. refl) (λ a. tt), (plain 41 41 Attributes.GsoMaxSize _ _ slack (number_lawful w32 attribute_small) refl (lit< tt) (λ a. refl) (λ a. refl) (λ a. tt), (plain 44 44 Attributes.Event _ _ slack event_lawful refl (lit< tt) (λ a. refl) (λ a. refl) (λ a. tt), (plain 45 45 Attributes.NewNetnsId _ _ slack (signed_lawful w32 attribute_small) refl (lit< tt) (λ a. refl) (λ a. refl) (λ a. tt), (plain 46 46 Attributes.IfNetnsId _ _ slack (signed_lawful w32 attribute_small) refl (lit< tt) (λ a. refl) (λ a. refl) (λ a. tt), (plain 47 47 Attributes.CarrierUpCount _ _ slack (number_lawful w32 attribute_small) refl (lit< tt) (λ a. refl) (λ a. refl) (λ a. tt), (plain 48 48 Attributes.CarrierDownCount _ _ slack (number_lawful w32 attribute_small) refl (lit< tt) (λ a. refl) (λ a. refl) (λ a. tt), (plain 49 49 Attributes.NewIfIndex _ _ slack (signed_lawful w32 attribute_small) refl (lit< tt) (λ a. refl) (λ a. refl) (λ a. tt), (plain 50 50 Attributes.MinMtu _ _ slack (number_lawful w32 attribute_small) refl (lit< tt) (λ a. refl) (λ a. refl) (λ a. tt), (plain 51 51 Attributes.MaxMtu _ _ slack (number_lawful w32 attribute_small) refl (lit< tt) (λ a. refl) (λ a. refl) (λ a. tt), (plain 58 58 Attributes.GroMaxSize _ _ slack (number_lawful w32 attribute_small) refl (lit< tt) (λ a. refl) (λ a. refl) (λ a. tt), (plain 59 59 Attributes.TsoMaxSize _ _ slack (number_lawful w32 attribute_small) refl (lit< tt) (λ a. refl) (λ a. refl) (λ a. tt), (plain 60 60 Attributes.TsoMaxSegs _ _ slack (number_lawful w32 attribute_small) refl (lit< tt) (λ a. refl) (λ a. refl) (λ a. tt), (plain 61 61 Attributes.AllMulticast _ _ slack (number_lawful w32 attribute_small) refl (lit< tt) (λ a. refl) (λ a. refl) (λ a. tt), (plain 63 63 Attributes.GsoIpv4MaxSize _ _ slack (number_lawful w32 attribute_small) refl (lit< tt) (λ a. refl) (λ a. refl) (λ a. tt), (plain 64 64 Attributes.GroIpv4MaxSize _ _ slack (number_lawful w32 attribute_small) refl (lit< tt) (λ a. refl) (λ a. refl) (λ a. tt), (plain 67 67 Attributes.NetnsImmutable _ _ slack truth_lawful refl (lit< tt) (λ a. refl) (λ a. refl) (λ a. tt), tt)))))))))))))))))))))))))))))))))))))))
 
 -- ** lists
 
@@ -202,4 +189,4 @@ attribute_number family f v means =
     (table_over_lawful attribute_frame AttributeFits HasPorts attribute_count growth 0 attribute_small number_rows (other_place family) number_lines (other_readings family) (number f)).same_number f v refl means
 
 pub attribute_bounded : (family : AddressFamily) (f : Frame) (v : LinkAttribute) → (attribute_place family).means f v → length (canon (attribute_frame v)) ≤ growth * (1 + length f.payload / 4)
-attribute_bounded family f v means = omega (arith, (attribute_lawful family).bounded f v means)
+attribute_bounded family = text_bounded (attribute_lawful family)

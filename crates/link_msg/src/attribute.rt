@@ -82,15 +82,15 @@ pub enum LinkAttribute {
     ExtMask(List<LinkExtentMask>),
     /// IFLA_PROMISCUITY, 30: how often promiscuous mode was asked for.
     Promiscuity(u32),
-    /// IFLA_NUM_TX_QUEUES, 31.
+    /// IFLA_NUM_TX_QUEUES, 31: how many queues send.
     NumTxQueues(u32),
-    /// IFLA_NUM_RX_QUEUES, 32.
+    /// IFLA_NUM_RX_QUEUES, 32: how many queues receive.
     NumRxQueues(u32),
     /// IFLA_CARRIER, 33: 1 where there is a carrier.
     Carrier(u8),
     /// IFLA_PHYS_PORT_ID, 34: the id of the port, at most 32 bytes.
     PhysPortId(LinkPhysId),
-    /// IFLA_CARRIER_CHANGES, 35.
+    /// IFLA_CARRIER_CHANGES, 35: how often the carrier came or went.
     CarrierChanges(u32),
     /// IFLA_PHYS_SWITCH_ID, 36: the id of the switch, at most 32 bytes.
     PhysSwitchId(LinkPhysId),
@@ -100,27 +100,27 @@ pub enum LinkAttribute {
     PhysPortName(Text),
     /// IFLA_PROTO_DOWN, 39: 1 where a protocol holds the link down.
     ProtoDown(u8),
-    /// IFLA_GSO_MAX_SEGS, 40.
+    /// IFLA_GSO_MAX_SEGS, 40: the most segments of one packet that the device splits.
     GsoMaxSegs(u32),
-    /// IFLA_GSO_MAX_SIZE, 41.
+    /// IFLA_GSO_MAX_SIZE, 41: the most bytes of one packet that the device splits.
     GsoMaxSize(u32),
     /// IFLA_XDP, 43: the attached program, a list that is not empty.
     Xdp(List<LinkXdp>),
     /// IFLA_EVENT, 44: why the link announced itself, four bytes.
     Event(LinkEvent),
-    /// IFLA_NEW_NETNSID, 45.
+    /// IFLA_NEW_NETNSID, 45: the id of the network namespace that the link has moved to.
     NewNetnsId(i32),
-    /// IFLA_IF_NETNSID, 46, also IFLA_TARGET_NETNSID.
+    /// IFLA_IF_NETNSID, 46, also IFLA_TARGET_NETNSID: the id of the network namespace that is asked about.
     IfNetnsId(i32),
-    /// IFLA_CARRIER_UP_COUNT, 47.
+    /// IFLA_CARRIER_UP_COUNT, 47: how often the carrier came.
     CarrierUpCount(u32),
-    /// IFLA_CARRIER_DOWN_COUNT, 48.
+    /// IFLA_CARRIER_DOWN_COUNT, 48: how often the carrier went.
     CarrierDownCount(u32),
-    /// IFLA_NEW_IFINDEX, 49.
+    /// IFLA_NEW_IFINDEX, 49: the index of the link in the network namespace that it has moved to.
     NewIfIndex(i32),
-    /// IFLA_MIN_MTU, 50: in bytes.
+    /// IFLA_MIN_MTU, 50: the least MTU that the link takes, in bytes.
     MinMtu(u32),
-    /// IFLA_MAX_MTU, 51: in bytes.
+    /// IFLA_MAX_MTU, 51: the greatest MTU that the link takes, in bytes.
     MaxMtu(u32),
     /// IFLA_PROP_LIST, 52: alternative names, a list; written with the nested flag.
     PropList(List<Prop>),
@@ -132,19 +132,19 @@ pub enum LinkAttribute {
     ParentDevName(Text),
     /// IFLA_PARENT_DEV_BUS_NAME, 57: the name of its bus, a text.
     ParentDevBusName(Text),
-    /// IFLA_GRO_MAX_SIZE, 58.
+    /// IFLA_GRO_MAX_SIZE, 58: the most bytes of one packet that is joined from received ones.
     GroMaxSize(u32),
-    /// IFLA_TSO_MAX_SIZE, 59.
+    /// IFLA_TSO_MAX_SIZE, 59: the most bytes of one packet that the hardware splits.
     TsoMaxSize(u32),
-    /// IFLA_TSO_MAX_SEGS, 60.
+    /// IFLA_TSO_MAX_SEGS, 60: the most segments of one packet that the hardware splits.
     TsoMaxSegs(u32),
     /// IFLA_ALLMULTI, 61: how often all multicast packets were asked for.
     AllMulticast(u32),
     /// IFLA_DEVLINK_PORT, 62: the port of devlink, a list; written with the nested flag.
     DevlinkPort(List<DevlinkPort>),
-    /// IFLA_GSO_IPV4_MAX_SIZE, 63.
+    /// IFLA_GSO_IPV4_MAX_SIZE, 63: as `GsoMaxSize`, of IPv4 packets.
     GsoIpv4MaxSize(u32),
-    /// IFLA_GRO_IPV4_MAX_SIZE, 64.
+    /// IFLA_GRO_IPV4_MAX_SIZE, 64: as `GroMaxSize`, of IPv4 packets.
     GroIpv4MaxSize(u32),
     /// IFLA_DPLL_PIN, 65: the pin of a clock, a list; written with the nested flag.
     DpllPin(List<DpllPin>),
@@ -453,50 +453,51 @@ impl LinkAttribute {
 impl CloneIn for LinkAttribute {
     fn clone(&self, alloc: Global) -> Result<LinkAttribute, DecodeError> {
         match self {
-            LinkAttribute::Address(value) => value.clone(alloc).map(LinkAttribute::Address),
-            LinkAttribute::Broadcast(value) => value.clone(alloc).map(LinkAttribute::Broadcast),
-            LinkAttribute::IfName(value) => value.clone(alloc).map(LinkAttribute::IfName),
+            LinkAttribute::Address(value) => Ok(LinkAttribute::Address(value.clone(alloc)?)),
+            LinkAttribute::Broadcast(value) => Ok(LinkAttribute::Broadcast(value.clone(alloc)?)),
+            LinkAttribute::IfName(value) => Ok(LinkAttribute::IfName(value.clone(alloc)?)),
             LinkAttribute::Mtu(value) => Ok(LinkAttribute::Mtu(*value)),
             LinkAttribute::Link(value) => Ok(LinkAttribute::Link(*value)),
-            LinkAttribute::Qdisc(value) => value.clone(alloc).map(LinkAttribute::Qdisc),
+            LinkAttribute::Qdisc(value) => Ok(LinkAttribute::Qdisc(value.clone(alloc)?)),
             LinkAttribute::Stats(value) => Ok(LinkAttribute::Stats(*value)),
             LinkAttribute::Controller(value) => Ok(LinkAttribute::Controller(*value)),
-            LinkAttribute::Wireless(value) => value.clone(alloc).map(LinkAttribute::Wireless),
-            LinkAttribute::ProtoInfoBridge(value) => value
-                .clone(alloc)
-                .map(LinkAttribute::ProtoInfoBridge),
-            LinkAttribute::ProtoInfoInet6(value) => value
-                .clone(alloc)
-                .map(LinkAttribute::ProtoInfoInet6),
-            LinkAttribute::ProtoInfoUnknown(value) => value
-                .clone(alloc)
-                .map(LinkAttribute::ProtoInfoUnknown),
+            LinkAttribute::Wireless(value) => Ok(LinkAttribute::Wireless(value.clone(alloc)?)),
+            LinkAttribute::ProtoInfoBridge(value) => Ok(LinkAttribute::ProtoInfoBridge(value.clone(
+                alloc,
+            )?)),
+            LinkAttribute::ProtoInfoInet6(value) => Ok(LinkAttribute::ProtoInfoInet6(value.clone(
+                alloc,
+            )?)),
+            LinkAttribute::ProtoInfoUnknown(value) => Ok(LinkAttribute::ProtoInfoUnknown(
+                value.clone(alloc)?,
+            )),
             LinkAttribute::TxQueueLen(value) => Ok(LinkAttribute::TxQueueLen(*value)),
             LinkAttribute::Map(value) => Ok(LinkAttribute::Map(*value)),
             LinkAttribute::OperState(value) => Ok(LinkAttribute::OperState(*value)),
             LinkAttribute::Mode(value) => Ok(LinkAttribute::Mode(*value)),
-            LinkAttribute::LinkInfo(value) => value.clone(alloc).map(LinkAttribute::LinkInfo),
+            LinkAttribute::LinkInfo(value) => Ok(LinkAttribute::LinkInfo(value.clone(alloc)?)),
             LinkAttribute::NetNsPid(value) => Ok(LinkAttribute::NetNsPid(*value)),
-            LinkAttribute::IfAlias(value) => value.clone(alloc).map(LinkAttribute::IfAlias),
+            LinkAttribute::IfAlias(value) => Ok(LinkAttribute::IfAlias(value.clone(alloc)?)),
             LinkAttribute::NumVf(value) => Ok(LinkAttribute::NumVf(*value)),
-            LinkAttribute::VfInfoList(value) => value.clone(alloc).map(LinkAttribute::VfInfoList),
+            LinkAttribute::VfInfoList(value) => Ok(LinkAttribute::VfInfoList(value.clone(alloc)?)),
             LinkAttribute::Stats64(value) => Ok(LinkAttribute::Stats64(*value)),
-            LinkAttribute::VfPorts(value) => value.clone(alloc).map(LinkAttribute::VfPorts),
-            LinkAttribute::PortSelf(value) => value.clone(alloc).map(LinkAttribute::PortSelf),
-            LinkAttribute::AfSpecBridge(value) => value
-                .clone(alloc)
-                .map(LinkAttribute::AfSpecBridge),
-            LinkAttribute::AfSpecUnspec(value) => value
-                .clone(alloc)
-                .map(LinkAttribute::AfSpecUnspec),
-            LinkAttribute::AfSpecUnknown(value) => value
-                .clone(alloc)
-                .map(LinkAttribute::AfSpecUnknown),
+            LinkAttribute::VfPorts(value) => Ok(LinkAttribute::VfPorts(value.clone(alloc)?)),
+            LinkAttribute::PortSelf(value) => Ok(LinkAttribute::PortSelf(value.clone(alloc)?)),
+            LinkAttribute::AfSpecBridge(value) => Ok(LinkAttribute::AfSpecBridge(value.clone(
+                alloc,
+            )?)),
+            LinkAttribute::AfSpecUnspec(value) => Ok(LinkAttribute::AfSpecUnspec(value.clone(
+                alloc,
+            )?)),
+            LinkAttribute::AfSpecUnknown(value) => Ok(LinkAttribute::AfSpecUnknown(value.clone(
+                alloc,
+            )?)),
             LinkAttribute::Group(value) => Ok(LinkAttribute::Group(*value)),
             LinkAttribute::NetNsFd(value) => Ok(LinkAttribute::NetNsFd(*value)),
-            LinkAttribute::ExtMask(flags) => clone_mask(alloc, flags.as_slice()).map(
-                LinkAttribute::ExtMask,
-            ),
+            LinkAttribute::ExtMask(flags) => Ok(LinkAttribute::ExtMask(clone_mask(
+                alloc,
+                flags.as_slice(),
+            )?)),
             LinkAttribute::Promiscuity(value) => Ok(LinkAttribute::Promiscuity(*value)),
             LinkAttribute::NumTxQueues(value) => Ok(LinkAttribute::NumTxQueues(*value)),
             LinkAttribute::NumRxQueues(value) => Ok(LinkAttribute::NumRxQueues(*value)),
@@ -505,13 +506,13 @@ impl CloneIn for LinkAttribute {
             LinkAttribute::CarrierChanges(value) => Ok(LinkAttribute::CarrierChanges(*value)),
             LinkAttribute::PhysSwitchId(value) => Ok(LinkAttribute::PhysSwitchId(*value)),
             LinkAttribute::LinkNetNsId(value) => Ok(LinkAttribute::LinkNetNsId(*value)),
-            LinkAttribute::PhysPortName(value) => value
-                .clone(alloc)
-                .map(LinkAttribute::PhysPortName),
+            LinkAttribute::PhysPortName(value) => Ok(LinkAttribute::PhysPortName(value.clone(
+                alloc,
+            )?)),
             LinkAttribute::ProtoDown(value) => Ok(LinkAttribute::ProtoDown(*value)),
             LinkAttribute::GsoMaxSegs(value) => Ok(LinkAttribute::GsoMaxSegs(*value)),
             LinkAttribute::GsoMaxSize(value) => Ok(LinkAttribute::GsoMaxSize(*value)),
-            LinkAttribute::Xdp(value) => value.clone(alloc).map(LinkAttribute::Xdp),
+            LinkAttribute::Xdp(value) => Ok(LinkAttribute::Xdp(value.clone(alloc)?)),
             LinkAttribute::Event(value) => Ok(LinkAttribute::Event(*value)),
             LinkAttribute::NewNetnsId(value) => Ok(LinkAttribute::NewNetnsId(*value)),
             LinkAttribute::IfNetnsId(value) => Ok(LinkAttribute::IfNetnsId(*value)),
@@ -520,27 +521,31 @@ impl CloneIn for LinkAttribute {
             LinkAttribute::NewIfIndex(value) => Ok(LinkAttribute::NewIfIndex(*value)),
             LinkAttribute::MinMtu(value) => Ok(LinkAttribute::MinMtu(*value)),
             LinkAttribute::MaxMtu(value) => Ok(LinkAttribute::MaxMtu(*value)),
-            LinkAttribute::PropList(value) => value.clone(alloc).map(LinkAttribute::PropList),
-            LinkAttribute::PermAddress(value) => value.clone(alloc).map(LinkAttribute::PermAddress),
-            LinkAttribute::ProtoDownReason(value) => value
-                .clone(alloc)
-                .map(LinkAttribute::ProtoDownReason),
-            LinkAttribute::ParentDevName(value) => value
-                .clone(alloc)
-                .map(LinkAttribute::ParentDevName),
-            LinkAttribute::ParentDevBusName(value) => value
-                .clone(alloc)
-                .map(LinkAttribute::ParentDevBusName),
+            LinkAttribute::PropList(value) => Ok(LinkAttribute::PropList(value.clone(alloc)?)),
+            LinkAttribute::PermAddress(value) => Ok(LinkAttribute::PermAddress(value.clone(
+                alloc,
+            )?)),
+            LinkAttribute::ProtoDownReason(value) => Ok(LinkAttribute::ProtoDownReason(value.clone(
+                alloc,
+            )?)),
+            LinkAttribute::ParentDevName(value) => Ok(LinkAttribute::ParentDevName(value.clone(
+                alloc,
+            )?)),
+            LinkAttribute::ParentDevBusName(value) => Ok(LinkAttribute::ParentDevBusName(
+                value.clone(alloc)?,
+            )),
             LinkAttribute::GroMaxSize(value) => Ok(LinkAttribute::GroMaxSize(*value)),
             LinkAttribute::TsoMaxSize(value) => Ok(LinkAttribute::TsoMaxSize(*value)),
             LinkAttribute::TsoMaxSegs(value) => Ok(LinkAttribute::TsoMaxSegs(*value)),
             LinkAttribute::AllMulticast(value) => Ok(LinkAttribute::AllMulticast(*value)),
-            LinkAttribute::DevlinkPort(value) => value.clone(alloc).map(LinkAttribute::DevlinkPort),
+            LinkAttribute::DevlinkPort(value) => Ok(LinkAttribute::DevlinkPort(value.clone(
+                alloc,
+            )?)),
             LinkAttribute::GsoIpv4MaxSize(value) => Ok(LinkAttribute::GsoIpv4MaxSize(*value)),
             LinkAttribute::GroIpv4MaxSize(value) => Ok(LinkAttribute::GroIpv4MaxSize(*value)),
-            LinkAttribute::DpllPin(value) => value.clone(alloc).map(LinkAttribute::DpllPin),
+            LinkAttribute::DpllPin(value) => Ok(LinkAttribute::DpllPin(value.clone(alloc)?)),
             LinkAttribute::NetnsImmutable(value) => Ok(LinkAttribute::NetnsImmutable(*value)),
-            LinkAttribute::Other(nla) => nla.clone(alloc).map(LinkAttribute::Other),
+            LinkAttribute::Other(nla) => Ok(LinkAttribute::Other(nla.clone(alloc)?)),
         }
     }
 }

@@ -6,7 +6,8 @@ ghost use Rattle.link_msg.specs.Messages.{MessageFits, message_text};
 ghost use Rattle.link_msg.specs.Canonical.{IsAccepted, IsRefusal, HasText, AreSame, IsRefusalOfTwo, IsWritten};
 
 use crate::attribute::LinkAttribute;
-use crate::message::{HEADER_SIZE, LinkMessage, split_header};
+use crate::header::HEADER_SIZE;
+use crate::message::{LinkMessage, split_header};
 use nla_wire::{Cause, DecodeError};
 use std::alloc::{AllocError, Global};
 use thiserror::Error;

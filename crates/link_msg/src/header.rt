@@ -20,7 +20,8 @@ pub struct LinkHeader {
     pub change_mask: LinkFlags,
 }
 
-const SIZE: usize = 16;
+/// The bytes of a message's header.
+pub(crate) const HEADER_SIZE: usize = 16;
 
 impl Exact for LinkHeader {
     ghost use Rattle.link_vals.specs.contracts.address_family.AddressFamilyExact.TheImpl.Laws.{decides-law as family_exact};
@@ -39,8 +40,8 @@ impl LinkHeader {
     pub fn parse(bytes: &[u8]) -> Result<LinkHeader, DecodeError>
         ensures { MatchResult result (λ v. (header_size ≤ length bytes.now) × (v ≡ header_of bytes.now)) (IsShort bytes.now header_size) }
     {
-        if bytes.len() < SIZE {
-            return Err(too_short(bytes.len(), SIZE));
+        if bytes.len() < HEADER_SIZE {
+            return Err(too_short(bytes.len(), HEADER_SIZE));
         }
         Ok(LinkHeader {
             interface_family: AddressFamily::from(bytes[0]),
@@ -55,7 +56,7 @@ impl LinkHeader {
     pub fn buffer_len(&self) -> usize
         ensures { result ≡ header_size }
     {
-        SIZE
+        HEADER_SIZE
     }
 
     /// Writes the header into exactly 16 bytes.
@@ -76,7 +77,7 @@ impl LinkHeader {
         requires { header_size ≤ length buffer.old }
         ensures { buffer.new ≡ header_bytes self.now ++ drop header_size buffer.old }
     {
-        self.emit_whole(&mut buffer[..SIZE]);
+        self.emit_whole(&mut buffer[..HEADER_SIZE]);
     }
 }
 
@@ -114,10 +115,10 @@ impl LinkMessageBuffer {
     pub fn read_from_prefix(bytes: &[u8]) -> Result<(LinkMessageBuffer, &[u8]), DecodeError>
         ensures { MatchResult result (λ v. (link_message_buffer_bytes v.0 ≡ take header_size bytes.now) × (header_size ≤ length bytes.now) × (v.1.now ≡ drop header_size bytes.now)) (IsShort bytes.now header_size) }
     {
-        if bytes.len() < SIZE {
-            return Err(too_short(bytes.len(), SIZE));
+        if bytes.len() < HEADER_SIZE {
+            return Err(too_short(bytes.len(), HEADER_SIZE));
         }
-        let (front, rest) = bytes.split_at(SIZE);
+        let (front, rest) = bytes.split_at(HEADER_SIZE);
         let mut found = [0; 16];
         found.copy_from_slice(front);
         Ok((LinkMessageBuffer { bytes: found }, rest))

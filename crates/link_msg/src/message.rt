@@ -9,20 +9,19 @@ ghost use Rattle.nla_wire.specs.Gives.{Gives, Checks};
 ghost use Rattle.nla_wire.specs.declared.error.Cause.TheVariants.{OutOfMemory};
 
 use crate::attribute::LinkAttribute;
-use crate::header::{LinkHeader, LinkMessageBuffer};
+use crate::header::{HEADER_SIZE, LinkHeader, LinkMessageBuffer};
 use nla_wire::fields::too_short;
 use nla_wire::{
     CloneIn, DecodeError, Exact, List, fill_bytes, nlas_buffer_len, nlas_fill, nlas_fit,
 };
 use std::alloc::Global;
 
-/// The bytes of a message's header.
-pub(crate) const HEADER_SIZE: usize = 16;
-
 /// A link message: RTM_NEWLINK and its kin behind the netlink header (rtnetlink(7)).
 #[derive(Debug, Drop, PartialEq, Eq)]
 pub struct LinkMessage {
+    /// The 16 bytes at the front.
     pub header: LinkHeader,
+    /// What stands behind it, in the order of the bytes.
     pub attributes: List<LinkAttribute>,
 }
 

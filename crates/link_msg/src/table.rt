@@ -42,7 +42,9 @@ impl LinkAttribute {
     ghost use Rattle.link_msg.specs.Values.{attribute_frame, AttributeFits, Values};
     ghost use Rattle.link_msg.specs.Canonical.{PortTold, PortsTold};
 
-    /// Reads a frame under the header's family.
+    /// Reads a frame under the header's family: the number selects the variant, whatever the flag bits of the kind.
+    ///
+    /// Refuses with the cause of the first fault of the payload; or with `OutOfMemory`, which says nothing of the bytes.
     pub fn parse_with_param(
         alloc: Global,
         buffer: &NlaBuffer<'_>,
@@ -149,7 +151,8 @@ impl LinkAttribute {
         }
     }
 
-    /// Whether a frame is read under the header's family, and the first fault if not. It takes no memory.
+    /// Whether a frame is read under the header's family: refuses what `parse_with_param` refuses, with the same cause. It
+    /// takes no memory, and so never answers `OutOfMemory`.
     pub fn check_with_param(
         buffer: &NlaBuffer<'_>,
         family: AddressFamily,
@@ -315,6 +318,7 @@ impl LinkAttribute {
 /// The outermost place, under the family of the message's header.
 #[derive(Debug, Clone, Copy)]
 pub struct AttributePlace {
+    /// The family in the header, on which IFLA_PROTINFO and IFLA_AF_SPEC depend.
     pub family: AddressFamily,
 }
 

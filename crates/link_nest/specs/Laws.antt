@@ -1,16 +1,15 @@
 -- What is proved of each place, in one record: the reader answers what the relations say, what was written is read back, and
--- how many values and how many bytes of text there are. In a message of at most 859 bytes of attributes an attribute has a
--- payload of at most 855 bytes, and a member of its list one of at most 851 bytes: that fits.
+-- how many values and how many bytes of text there are.
 use Rattle.std.specs.Prelude.{refl}
 use Rattle.std.specs.Int.{w8, w32, to_le_bytes}
 use Rattle.std.proofs.Common.{ℕ, ◌+◌, ◌*◌, ◌/◌, ◌≤◌, length, arith, lit<, lit≤, ap}
-use Rattle.nla_wire.specs.Sizes.{growth, slack}
+use Rattle.nla_wire.specs.Sizes.{growth, slack, inner_small}
 use Rattle.nla_wire.specs.Frames.{Frame}
 use Rattle.nla_wire.specs.Grammar.{Grammar}
 use Rattle.nla_wire.specs.Canon.{canon, one}
-use Rattle.nla_wire.proofs.Lawful.{LawfulPayload, LawfulPlace, table_lawful, row_lawful, text_lawful, number_lawful, signed_lawful, through_lawful, always, none}
+use Rattle.nla_wire.proofs.Lawful.{LawfulPayload, LawfulPlace, table_lawful, row_lawful, text_lawful, number_lawful, signed_lawful, enum_lawful, text_bounded, always, none}
 use Rattle.link_vals.specs.XdpAttachedTable.{xdp_attached_of, xdp_attached_number}
-use Rattle.link_vals.proofs.Numbers.{xdp_attached_again, xdp_attached_below}
+use Rattle.link_vals.proofs.Numbers.{xdp_attached_again}
 use Rattle.link_nest.specs.Values.{prop_frame, PropFits, devlink_port_frame, DevlinkPortFits, dpll_pin_frame, DpllPinFits, down_reason_frame, DownReasonFits, xdp_frame, LinkXdpFits, link_info_frame, LinkInfoFits}
 use Rattle.link_nest.specs.Places.{prop_rows, prop_place, devlink_port_rows, devlink_port_place, dpll_pin_rows, dpll_pin_place, down_reason_rows, down_reason_place, xdp_attached, xdp_rows, xdp_place, link_info_rows, link_info_place}
 use Rattle.link_nest.specs.declared.prop_list.Prop.{Prop}
@@ -26,16 +25,6 @@ use Rattle.link_nest.specs.declared.xdp.LinkXdp.TheVariants as xdp
 use Rattle.link_nest.specs.declared.link_info.LinkInfo.{LinkInfo}
 use Rattle.link_nest.specs.declared.link_info.LinkInfo.TheVariants as info
 
--- so many bytes of payload fit
-abbrev pub inner_small : ℕ
-inner_small = 851
-
--- a text has at most 308 bytes for each whole four bytes that were read
-text_bounded : {V : Type 0} (g : Grammar Frame V) (frame : V → Frame) (Fits : V → Type 0)
-    → LawfulPlace g frame Fits always one growth slack inner_small
-    → (f : Frame) (v : V) → g.means f v → length (canon (frame v)) ≤ growth * (1 + length f.payload / 4)
-text_bounded g frame Fits h f v means = omega (arith, h.bounded f v means)
-
 pub prop_lawful : LawfulPlace prop_place prop_frame PropFits always one growth slack inner_small
 unfolding prop_place
 prop_lawful = table_lawful prop_frame PropFits always one growth slack inner_small prop_rows prop.Other (lit≤ tt) (λ f. refl) (λ f. refl) (λ f small. small) (
@@ -44,7 +33,7 @@ prop_lawful = table_lawful prop_frame PropFits always one growth slack inner_sma
 )
 
 pub prop_bounded : (f : Frame) (v : Prop) → prop_place.means f v → length (canon (prop_frame v)) ≤ growth * (1 + length f.payload / 4)
-prop_bounded = text_bounded prop_place prop_frame PropFits prop_lawful
+prop_bounded = text_bounded prop_lawful
 
 pub devlink_port_lawful : LawfulPlace devlink_port_place devlink_port_frame DevlinkPortFits always one growth slack inner_small
 unfolding devlink_port_place
@@ -60,7 +49,7 @@ devlink_port_lawful = table_lawful devlink_port_frame DevlinkPortFits always one
 )
 
 pub devlink_port_bounded : (f : Frame) (v : DevlinkPort) → devlink_port_place.means f v → length (canon (devlink_port_frame v)) ≤ growth * (1 + length f.payload / 4)
-devlink_port_bounded = text_bounded devlink_port_place devlink_port_frame DevlinkPortFits devlink_port_lawful
+devlink_port_bounded = text_bounded devlink_port_lawful
 
 pub dpll_pin_lawful : LawfulPlace dpll_pin_place dpll_pin_frame DpllPinFits always one growth slack inner_small
 unfolding dpll_pin_place
@@ -70,7 +59,7 @@ dpll_pin_lawful = table_lawful dpll_pin_frame DpllPinFits always one growth slac
 )
 
 pub dpll_pin_bounded : (f : Frame) (v : DpllPin) → dpll_pin_place.means f v → length (canon (dpll_pin_frame v)) ≤ growth * (1 + length f.payload / 4)
-dpll_pin_bounded = text_bounded dpll_pin_place dpll_pin_frame DpllPinFits dpll_pin_lawful
+dpll_pin_bounded = text_bounded dpll_pin_lawful
 
 pub down_reason_lawful : LawfulPlace down_reason_place down_reason_frame DownReasonFits always one growth slack inner_small
 unfolding down_reason_place
@@ -83,11 +72,10 @@ down_reason_lawful = table_lawful down_reason_frame DownReasonFits always one gr
 )
 
 pub down_reason_bounded : (f : Frame) (v : LinkProtocolDownReason) → down_reason_place.means f v → length (canon (down_reason_frame v)) ≤ growth * (1 + length f.payload / 4)
-down_reason_bounded = text_bounded down_reason_place down_reason_frame DownReasonFits down_reason_lawful
+down_reason_bounded = text_bounded down_reason_lawful
 
 xdp_attached_lawful : LawfulPayload xdp_attached (λ v. to_le_bytes w8 (xdp_attached_number v)) always always none growth slack inner_small
-xdp_attached_lawful = through_lawful w8 xdp_attached_of xdp_attached_number always inner_small
-    (λ x below. (xdp_attached_below x 8 below, ap xdp_attached_of (xdp_attached_again x), tt))
+xdp_attached_lawful = enum_lawful w8 xdp_attached_of xdp_attached_number inner_small xdp_attached_again
 
 pub xdp_lawful : LawfulPlace xdp_place xdp_frame LinkXdpFits always one growth slack inner_small
 unfolding xdp_place
@@ -118,7 +106,7 @@ xdp_lawful = table_lawful xdp_frame LinkXdpFits always one growth slack inner_sm
 )
 
 pub xdp_bounded : (f : Frame) (v : LinkXdp) → xdp_place.means f v → length (canon (xdp_frame v)) ≤ growth * (1 + length f.payload / 4)
-xdp_bounded = text_bounded xdp_place xdp_frame LinkXdpFits xdp_lawful
+xdp_bounded = text_bounded xdp_lawful
 
 pub link_info_lawful : LawfulPlace link_info_place link_info_frame LinkInfoFits always one growth slack inner_small
 unfolding link_info_place
@@ -128,4 +116,4 @@ link_info_lawful = table_lawful link_info_frame LinkInfoFits always one growth s
 )
 
 pub link_info_bounded : (f : Frame) (v : LinkInfo) → link_info_place.means f v → length (canon (link_info_frame v)) ≤ growth * (1 + length f.payload / 4)
-link_info_bounded = text_bounded link_info_place link_info_frame LinkInfoFits link_info_lawful
+link_info_bounded = text_bounded link_info_lawful

@@ -133,6 +133,12 @@ payload_lawful kind g text Fits Good count k e n h kind_small = record {
   small = λ f a short one m. h.small f.payload a short one.bytes m;
 }
 
+-- a text has at most k bytes for each whole four bytes that were read
+pub text_bounded : {V : Type 0} {g : Grammar Frame V} {frame : V → Frame} {Fits Good : V → Type 0} {count : V → ℕ} {k e n : ℕ}
+    → LawfulPlace g frame Fits Good count k e n
+    → (f : Frame) (v : V) → g.means f v → length (canon (frame v)) ≤ k * (1 + length f.payload / 4)
+text_bounded {V} {g} {frame} {Fits} {Good} {count} {k} {e} {n} h f v means = omega (arith, h.bounded f v means)
+
 -- ** less slack, and a smaller bound under which all fits
 
 pub less : {A : Type 0} (g : Grammar (List ℕ) A) (text : A → List ℕ) (Fits Good : A → Type 0) (count : A → ℕ) (k e n u m : ℕ) → u ≤ e → m ≤ n
@@ -512,6 +518,12 @@ signed_lawful w n = through_lawful w (cast_signed w) (cast_unsigned w) always n 
     let again : cast_unsigned w (cast_signed w x) ≡ x = signed_number_again w x below in
     (subst (λ y. y < 2 ^ bits w) (sym again) below, ap (cast_signed w) again, tt))
 
+-- an enum, of which each number is again the number of its value
+pub enum_lawful : {A : Type 0} (w : Width) (of : ℕ → A) (num : A → ℕ) (n : ℕ) → ((x : ℕ) → num (of x) ≡ x)
+    → LawfulPayload (as_a of (number_of w)) (λ a. to_le_bytes w (num a)) always always none growth slack n
+enum_lawful w of num n again = through_lawful w of num always n (λ x below.
+    (subst (λ y. y < 2 ^ bits w) (sym (again x)) below, ap of (again x), tt))
+
 -- a record that is refused where the payload is shorter, whose text has at most `most` bytes
 pub sized_lawful : {A : Type 0} (size : ℕ) (fields : List ℕ → A) (text_of : A → List ℕ) (Fits : A → Type 0) (most k e n : ℕ)
     → most ≤ most_payload
@@ -552,3 +564,26 @@ filled_lawful {A} fields text_of Fits most k e n enough wide length_most again f
       bounded = λ p a means. omega (arith, ap (λ x. length (text_of x)) means, length_most p);
       small = λ p a short small means. (omega (arith, ap (λ x. length (text_of x)) means, length_most p), subst Fits (sym means) (fits p small));
     }
+
+-- ** records, whose text always has `size` bytes
+
+-- one that is refused where the payload is shorter
+pub sized_record_lawful : {A : Type 0} (size e n : ℕ) (of : List ℕ → A) (text_of : A → List ℕ)
+    → ((p : List ℕ) → length (text_of (of p)) ≡ size)
+    → ((p : List ℕ) → IsBytes p → of (text_of (of p)) ≡ of p)
+    → size ≤ most_payload
+    → 4 + size + missing size + e ≤ growth * (1 + size / 4)
+    → LawfulPayload (sized size of) text_of always always none growth e n
+sized_record_lawful size e n of text_of sized_as again enough wide =
+    sized_lawful size of text_of always size growth e n enough wide
+    (λ p. omega (arith, sized_as p)) (λ p long. omega (arith, sized_as p)) (λ p small long. again p small) (λ p small long. tt)
+
+-- one that is filled up with zeros
+pub filled_record_lawful : {A : Type 0} (size n : ℕ) (of : List ℕ → A) (text_of : A → List ℕ)
+    → ((p : List ℕ) → length (text_of (of p)) ≡ size)
+    → ((p : List ℕ) → IsBytes p → of (text_of (of p)) ≡ of p)
+    → size ≤ most_payload
+    → 4 + size + missing size + 0 ≤ growth
+    → LawfulPayload (filled of) text_of always always none growth 0 n
+filled_record_lawful size n of text_of sized_as again enough wide =
+    filled_lawful of text_of always size growth 0 n enough wide (λ p. omega (arith, sized_as p)) again (λ p small. tt)

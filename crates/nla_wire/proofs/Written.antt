@@ -149,7 +149,7 @@ list_canonical frame fits (Err e) old new a counted c = tt
 
 -- ** the list as the value of one frame
 
-lent_length : (old part : List ℕ) → 4 ≤ length old → length (put_mid 4 (length old - 4) old part) ≡ 4 + length part
+pub lent_length : (old part : List ℕ) → 4 ≤ length old → length (put_mid 4 (length old - 4) old part) ≡ 4 + length part
 lent_length old part long =
     ap length (lent_back 4 old part) ∙ length-append (take 4 old) part ∙ let four : length (take 4 old) ≡ 4 = simp length-take (omega arith) in ap (λ n. n + length part) four
 
@@ -163,18 +163,32 @@ nested_room frame fits (Ok vs) old part len long accepted kept c =
     let rest = length-drop len (take (length old - 4) (drop 4 old)) in
     omega (arith, lent_length old part long, kept, whole, parts, rest, c.1.length_is)
 
-nested_closed : {V : Type 0} (frame : V → Frame) (fits : V → Type 0) (kind : ℕ) (vs : List V) (old new : List ℕ) (a : Option ℕ) → AllFit fits frame vs → Closed kind (canons frame vs) old new a
-    → Canonical (λ vs. canon (record { kind = kind; payload = canons frame vs })) (λ vs. (length (canons frame vs) ≤ most_payload) × AllFit fits frame vs) (Ok vs) old new a
-nested_closed frame fits kind vs old new (Some n) all c = ((c.0, all), c.1)
-nested_closed frame fits kind vs old new None all c = λ good. absurd (omega (arith, good.0, c))
+value_closed : {A : Type 0} (text : A → List ℕ) (inner fits : A → Type 0) (kind : ℕ) (v : A) (old new : List ℕ) (a : Option ℕ)
+    → (inner v → length (text v) ≤ most_payload → fits v)
+    → (fits v → length (text v) ≤ most_payload)
+    → inner v → Closed kind (text v) old new a
+    → Canonical (λ v. canon (record { kind = kind; payload = text v })) fits (Ok v) old new a
+value_closed text inner fits kind v old new (Some n) made short inside c = (made inside c.0, c.1)
+value_closed text inner fits kind v old new None made short inside c = λ good. absurd (omega (arith, short good, c))
+
+-- a value that stands behind the header of its frame: it fits where what is inside fits and its own text has at most 65531 bytes
+pub value_canonical : {A : Type 0} (text : A → List ℕ) (inner fits : A → Type 0) (kind : ℕ) (r : Result A Cause) (old part : List ℕ) (len : ℕ) (new : List ℕ) (a : Option ℕ) → 4 ≤ length old
+    → ((v : A) → inner v → length (text v) ≤ most_payload → fits v)
+    → ((v : A) → fits v → length (text v) ≤ most_payload)
+    → Canonical text inner r (take (length old - 4) (drop 4 old)) part (Some len)
+    → Closed kind (take len (drop 4 (put_mid 4 (length old - 4) old part))) (put_mid 4 (length old - 4) old part) new a
+    → Canonical (λ v. canon (record { kind = kind; payload = text v })) fits r old new a
+value_canonical text inner fits kind (Ok v) old part len new a long made short c closing =
+    value_closed text inner fits kind v old new a (made v) (short v) c.0 (closed_value kind (text v) old part len new a long c.1 closing)
+value_canonical text inner fits kind (Err e) old part len new a long made short c closing = tt
 
 pub nested_canonical : {V : Type 0} (frame : V → Frame) (fits : V → Type 0) (kind : ℕ) (r : Result (List V) Cause) (old part : List ℕ) (len : ℕ) (new : List ℕ) (a : Option ℕ) → 4 ≤ length old
     → Canonical (canons frame) (AllFit fits frame) r (take (length old - 4) (drop 4 old)) part (Some len)
     → Closed kind (take len (drop 4 (put_mid 4 (length old - 4) old part))) (put_mid 4 (length old - 4) old part) new a
     → Canonical (λ vs. canon (record { kind = kind; payload = canons frame vs })) (λ vs. (length (canons frame vs) ≤ most_payload) × AllFit fits frame vs) r old new a
-nested_canonical frame fits kind (Ok vs) old part len new a long c closing =
-    nested_closed frame fits kind vs old new a c.0 (closed_value kind (canons frame vs) old part len new a long c.1 closing)
-nested_canonical frame fits kind (Err e) old part len new a long c closing = tt
+nested_canonical frame fits kind r old part len new a long =
+    value_canonical (canons frame) (AllFit fits frame) (λ vs. (length (canons frame vs) ≤ most_payload) × AllFit fits frame vs) kind r old part len new a long
+    (λ vs all short. (short, all)) (λ vs good. good.0)
 
 -- ** lists of which the members with another number than 1 are dropped
 

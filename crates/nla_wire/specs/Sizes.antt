@@ -21,3 +21,11 @@ growth_per_byte = 77
 -- a message that was read from at most so many bytes of attributes fits
 abbrev pub small_enough : ℕ
 small_enough = 859
+
+-- an attribute of such a message has a payload of at most so many bytes: its header takes four
+abbrev pub attribute_small : ℕ
+attribute_small = 855
+
+-- and a member of its list has at most so many
+abbrev pub inner_small : ℕ
+inner_small = 851

@@ -2,7 +2,8 @@ use Rattle.std.proofs.Common.{lit≤}
 use Rattle.nla_wire.specs.Canon.{one}
 use Rattle.link_afspec.specs.Values.{af_spec_inet_frame, AfSpecInetFits}
 use Rattle.link_afspec.specs.Places.{af_spec_inet_place}
-use Rattle.link_afspec.specs.Laws.{af_spec_inet_lawful, inner_small}
+use Rattle.nla_wire.specs.Sizes.{inner_small}
+use Rattle.link_afspec.specs.Laws.{af_spec_inet_lawful}
 use Rattle.nla_wire.proofs.PlaceLaws.{place_reads_back, list_reads_back, lists_bounded}
 use Rattle.link_afspec.proofs.Lawed.{request_never_read}
 use Rattle.link_afspec.proofs.laws.law_af_spec_inet.Goals as goal

@@ -2,7 +2,8 @@ use Rattle.std.proofs.Common.{lit≤}
 use Rattle.nla_wire.specs.Canon.{one}
 use Rattle.link_afspec.specs.Values.{af_spec_inet6_frame, AfSpecInet6Fits}
 use Rattle.link_afspec.specs.Places.{af_spec_inet6_place}
-use Rattle.link_afspec.specs.Laws.{af_spec_inet6_lawful, inner_small}
+use Rattle.nla_wire.specs.Sizes.{inner_small}
+use Rattle.link_afspec.specs.Laws.{af_spec_inet6_lawful}
 use Rattle.nla_wire.proofs.PlaceLaws.{place_reads_back, list_reads_back, lists_bounded}
 use Rattle.link_afspec.proofs.laws.law_af_spec_inet6.Goals as goal
 

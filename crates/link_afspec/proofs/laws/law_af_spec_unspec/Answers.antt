@@ -1,8 +1,8 @@
 use Rattle.std.proofs.Common.{lit≤}
-use Rattle.nla_wire.specs.Sizes.{slack}
+use Rattle.nla_wire.specs.Sizes.{slack, inner_small}
 use Rattle.link_afspec.specs.Values.{af_spec_unspec_frame, AfSpecUnspecFits, af_spec_unspec_count}
 use Rattle.link_afspec.specs.Places.{af_spec_unspec_place}
-use Rattle.link_afspec.specs.Laws.{af_spec_unspec_lawful, inner_small}
+use Rattle.link_afspec.specs.Laws.{af_spec_unspec_lawful}
 use Rattle.nla_wire.proofs.PlaceLaws.{place_reads_back, list_reads_back, lists_bounded}
 use Rattle.link_afspec.proofs.laws.law_af_spec_unspec.Goals as goal
 

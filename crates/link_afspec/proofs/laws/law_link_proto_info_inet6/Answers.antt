@@ -1,9 +1,9 @@
 use Rattle.std.proofs.Common.{lit≤}
-use Rattle.nla_wire.specs.Sizes.{slack}
+use Rattle.nla_wire.specs.Sizes.{slack, inner_small}
 use Rattle.nla_wire.specs.Canon.{one}
 use Rattle.link_afspec.specs.Values.{link_proto_info_inet6_frame, LinkProtoInfoInet6Fits}
 use Rattle.link_afspec.specs.Places.{link_proto_info_inet6_place}
-use Rattle.link_afspec.specs.Laws.{link_proto_info_inet6_lawful, inner_small}
+use Rattle.link_afspec.specs.Laws.{link_proto_info_inet6_lawful}
 use Rattle.nla_wire.proofs.PlaceLaws.{place_reads_back, list_reads_back, lists_bounded}
 use Rattle.link_afspec.proofs.laws.law_link_proto_info_inet6.Goals as goal
 

@@ -1,9 +1,9 @@
 use Rattle.std.proofs.Common.{lit≤}
-use Rattle.nla_wire.specs.Sizes.{slack}
+use Rattle.nla_wire.specs.Sizes.{slack, inner_small}
 use Rattle.nla_wire.specs.Canon.{one}
 use Rattle.link_nest.specs.Values.{devlink_port_frame, DevlinkPortFits}
 use Rattle.link_nest.specs.Places.{devlink_port_place}
-use Rattle.link_nest.specs.Laws.{devlink_port_lawful, inner_small}
+use Rattle.link_nest.specs.Laws.{devlink_port_lawful}
 use Rattle.nla_wire.proofs.PlaceLaws.{place_reads_back, list_reads_back, lists_bounded}
 use Rattle.link_nest.proofs.laws.law_devlink_port.Goals as goal
 

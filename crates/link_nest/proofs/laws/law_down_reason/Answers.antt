@@ -1,9 +1,9 @@
 use Rattle.std.proofs.Common.{lit≤}
-use Rattle.nla_wire.specs.Sizes.{slack}
+use Rattle.nla_wire.specs.Sizes.{slack, inner_small}
 use Rattle.nla_wire.specs.Canon.{one}
 use Rattle.link_nest.specs.Values.{down_reason_frame, DownReasonFits}
 use Rattle.link_nest.specs.Places.{down_reason_place}
-use Rattle.link_nest.specs.Laws.{down_reason_lawful, inner_small}
+use Rattle.link_nest.specs.Laws.{down_reason_lawful}
 use Rattle.nla_wire.proofs.PlaceLaws.{place_reads_back, list_reads_back, lists_bounded}
 use Rattle.link_nest.proofs.laws.law_down_reason.Goals as goal
 

@@ -1,9 +1,9 @@
 use Rattle.std.proofs.Common.{lit≤}
-use Rattle.nla_wire.specs.Sizes.{slack}
+use Rattle.nla_wire.specs.Sizes.{slack, inner_small}
 use Rattle.nla_wire.specs.Canon.{one}
 use Rattle.link_nest.specs.Values.{dpll_pin_frame, DpllPinFits}
 use Rattle.link_nest.specs.Places.{dpll_pin_place}
-use Rattle.link_nest.specs.Laws.{dpll_pin_lawful, inner_small}
+use Rattle.link_nest.specs.Laws.{dpll_pin_lawful}
 use Rattle.nla_wire.proofs.PlaceLaws.{place_reads_back, list_reads_back, lists_bounded}
 use Rattle.link_nest.proofs.laws.law_dpll_pin.Goals as goal
 

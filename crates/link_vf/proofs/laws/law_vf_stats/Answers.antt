@@ -1,9 +1,9 @@
 use Rattle.std.proofs.Common.{lit≤}
-use Rattle.nla_wire.specs.Sizes.{slack}
+use Rattle.nla_wire.specs.Sizes.{slack, inner_small}
 use Rattle.nla_wire.specs.Canon.{one}
 use Rattle.link_vf.specs.Values.{vf_stats_frame, VfStatsFits}
 use Rattle.link_vf.specs.Places.{vf_stats_place}
-use Rattle.link_vf.specs.Laws.{vf_stats_lawful, inner_small}
+use Rattle.link_vf.specs.Laws.{vf_stats_lawful}
 use Rattle.nla_wire.proofs.PlaceLaws.{place_reads_back, list_reads_back, lists_bounded}
 use Rattle.link_vf.proofs.laws.law_vf_stats.Goals as goal
 
