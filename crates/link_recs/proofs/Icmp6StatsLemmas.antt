@@ -2,8 +2,9 @@
 use Rattle.std.proofs.Common.{◌≡◌, ℕ, List, length, refl, FitsSigned}
 use Rattle.std.specs.Int.{w64}
 use Rattle.nla_wire.specs.Fields.{signed_from}
-use Rattle.link_recs.specs.Laws.{ZerosBehind, BytesBehind, ReadsBack, ReadsAgain, HasSize}
-use Rattle.link_recs.proofs.Uniform.{signed_words, zeros_behind, bytes_behind, reads_back, reads_again, has_size}
+use Rattle.nla_wire.proofs.Again.{writes_again_8}
+use Rattle.link_recs.specs.Laws.{ZerosBehind, BytesBehind, ReadsBack, ReadsAgain, HasSize, WritesFilled}
+use Rattle.link_recs.proofs.Uniform.{signed_words, zeros_behind, bytes_behind, reads_back, reads_again, has_size, written_filled, signed_text}
 use Rattle.link_recs.specs.declared.inet6_icmp.Icmp6Stats.{Icmp6Stats}
 use Rattle.link_recs.specs.Icmp6StatsFields.{icmp6_stats_size, icmp6_stats_fields, icmp6_stats_of, icmp6_stats_bytes, icmp6_stats_listed, icmp6_stats_equal}
 
@@ -41,3 +42,7 @@ icmp6_stats_again = reads_again (signed_words w64) 7 icmp6_stats_fields icmp6_st
 pub length_icmp6_stats_bytes : HasSize icmp6_stats_size icmp6_stats_bytes
 unfolding icmp6_stats_bytes
 length_icmp6_stats_bytes = has_size (signed_words w64) 7 icmp6_stats_fields icmp6_stats_count
+
+pub icmp6_stats_filled : WritesFilled icmp6_stats_size icmp6_stats_of icmp6_stats_bytes
+unfolding icmp6_stats_bytes
+icmp6_stats_filled = written_filled (signed_words w64) 7 icmp6_stats_fields icmp6_stats_of icmp6_stats_table icmp6_stats_only (signed_text w64 writes_again_8)

@@ -2,8 +2,9 @@
 use Rattle.std.proofs.Common.{◌≡◌, ℕ, List, length, refl, FitsSigned}
 use Rattle.std.specs.Int.{w32}
 use Rattle.nla_wire.specs.Fields.{signed_from}
-use Rattle.link_recs.specs.Laws.{ZerosBehind, BytesBehind, ReadsBack, ReadsAgain, HasSize}
-use Rattle.link_recs.proofs.Uniform.{signed_words, zeros_behind, bytes_behind, reads_back, reads_again, has_size}
+use Rattle.nla_wire.proofs.Again.{writes_again_4}
+use Rattle.link_recs.specs.Laws.{ZerosBehind, BytesBehind, ReadsBack, ReadsAgain, HasSize, WritesFilled}
+use Rattle.link_recs.proofs.Uniform.{signed_words, zeros_behind, bytes_behind, reads_back, reads_again, has_size, written_filled, signed_text}
 use Rattle.link_recs.specs.declared.inet6_cache.Inet6CacheInfo.{Inet6CacheInfo}
 use Rattle.link_recs.specs.Inet6CacheInfoFields.{inet6_cache_info_size, inet6_cache_info_fields, inet6_cache_info_of, inet6_cache_info_bytes, inet6_cache_info_listed, inet6_cache_info_equal}
 
@@ -41,3 +42,7 @@ inet6_cache_info_again = reads_again (signed_words w32) 4 inet6_cache_info_field
 pub length_inet6_cache_info_bytes : HasSize inet6_cache_info_size inet6_cache_info_bytes
 unfolding inet6_cache_info_bytes
 length_inet6_cache_info_bytes = has_size (signed_words w32) 4 inet6_cache_info_fields inet6_cache_info_count
+
+pub inet6_cache_info_filled : WritesFilled inet6_cache_info_size inet6_cache_info_of inet6_cache_info_bytes
+unfolding inet6_cache_info_bytes
+inet6_cache_info_filled = written_filled (signed_words w32) 4 inet6_cache_info_fields inet6_cache_info_of inet6_cache_info_table inet6_cache_info_only (signed_text w32 writes_again_4)

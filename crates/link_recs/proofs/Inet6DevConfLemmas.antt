@@ -2,8 +2,9 @@
 use Rattle.std.proofs.Common.{◌≡◌, ℕ, List, length, refl, FitsSigned}
 use Rattle.std.specs.Int.{w32}
 use Rattle.nla_wire.specs.Fields.{signed_from}
-use Rattle.link_recs.specs.Laws.{ZerosBehind, BytesBehind, ReadsBack, ReadsAgain, HasSize}
-use Rattle.link_recs.proofs.Uniform.{signed_words, zeros_behind, bytes_behind, reads_back, reads_again, has_size}
+use Rattle.nla_wire.proofs.Again.{writes_again_4}
+use Rattle.link_recs.specs.Laws.{ZerosBehind, BytesBehind, ReadsBack, ReadsAgain, HasSize, WritesFilled}
+use Rattle.link_recs.proofs.Uniform.{signed_words, zeros_behind, bytes_behind, reads_back, reads_again, has_size, written_filled, signed_text}
 use Rattle.link_recs.specs.declared.inet6_devconf.Inet6DevConf.{Inet6DevConf}
 use Rattle.link_recs.specs.Inet6DevConfFields.{inet6_dev_conf_size, inet6_dev_conf_fields, inet6_dev_conf_of, inet6_dev_conf_bytes, inet6_dev_conf_listed, inet6_dev_conf_equal}
 
@@ -41,3 +42,7 @@ inet6_dev_conf_again = reads_again (signed_words w32) 60 inet6_dev_conf_fields i
 pub length_inet6_dev_conf_bytes : HasSize inet6_dev_conf_size inet6_dev_conf_bytes
 unfolding inet6_dev_conf_bytes
 length_inet6_dev_conf_bytes = has_size (signed_words w32) 60 inet6_dev_conf_fields inet6_dev_conf_count
+
+pub inet6_dev_conf_filled : WritesFilled inet6_dev_conf_size inet6_dev_conf_of inet6_dev_conf_bytes
+unfolding inet6_dev_conf_bytes
+inet6_dev_conf_filled = written_filled (signed_words w32) 60 inet6_dev_conf_fields inet6_dev_conf_of inet6_dev_conf_table inet6_dev_conf_only (signed_text w32 writes_again_4)

@@ -2,8 +2,9 @@
 use Rattle.std.proofs.Common.{◌≡◌, ℕ, List, length, refl, FitsSigned}
 use Rattle.std.specs.Int.{w64}
 use Rattle.nla_wire.specs.Fields.{signed_from}
-use Rattle.link_recs.specs.Laws.{ZerosBehind, BytesBehind, ReadsBack, ReadsAgain, HasSize}
-use Rattle.link_recs.proofs.Uniform.{signed_words, zeros_behind, bytes_behind, reads_back, reads_again, has_size}
+use Rattle.nla_wire.proofs.Again.{writes_again_8}
+use Rattle.link_recs.specs.Laws.{ZerosBehind, BytesBehind, ReadsBack, ReadsAgain, HasSize, WritesFilled}
+use Rattle.link_recs.proofs.Uniform.{signed_words, zeros_behind, bytes_behind, reads_back, reads_again, has_size, written_filled, signed_text}
 use Rattle.link_recs.specs.declared.inet6_stats.Inet6Stats.{Inet6Stats}
 use Rattle.link_recs.specs.Inet6StatsFields.{inet6_stats_size, inet6_stats_fields, inet6_stats_of, inet6_stats_bytes, inet6_stats_listed, inet6_stats_equal}
 
@@ -41,3 +42,7 @@ inet6_stats_again = reads_again (signed_words w64) 38 inet6_stats_fields inet6_s
 pub length_inet6_stats_bytes : HasSize inet6_stats_size inet6_stats_bytes
 unfolding inet6_stats_bytes
 length_inet6_stats_bytes = has_size (signed_words w64) 38 inet6_stats_fields inet6_stats_count
+
+pub inet6_stats_filled : WritesFilled inet6_stats_size inet6_stats_of inet6_stats_bytes
+unfolding inet6_stats_bytes
+inet6_stats_filled = written_filled (signed_words w64) 38 inet6_stats_fields inet6_stats_of inet6_stats_table inet6_stats_only (signed_text w64 writes_again_8)

@@ -2,8 +2,9 @@
 use Rattle.std.proofs.Common.{◌≡◌, ℕ, List, length, refl, FitsSigned}
 use Rattle.std.specs.Int.{w32}
 use Rattle.nla_wire.specs.Fields.{signed_from}
-use Rattle.link_recs.specs.Laws.{ZerosBehind, BytesBehind, ReadsBack, ReadsAgain, HasSize}
-use Rattle.link_recs.proofs.Uniform.{signed_words, zeros_behind, bytes_behind, reads_back, reads_again, has_size}
+use Rattle.nla_wire.proofs.Again.{writes_again_4}
+use Rattle.link_recs.specs.Laws.{ZerosBehind, BytesBehind, ReadsBack, ReadsAgain, HasSize, WritesFilled}
+use Rattle.link_recs.proofs.Uniform.{signed_words, zeros_behind, bytes_behind, reads_back, reads_again, has_size, written_filled, signed_text}
 use Rattle.link_recs.specs.declared.inet.InetDevConf.{InetDevConf}
 use Rattle.link_recs.specs.InetDevConfFields.{inet_dev_conf_size, inet_dev_conf_fields, inet_dev_conf_of, inet_dev_conf_bytes, inet_dev_conf_listed, inet_dev_conf_equal}
 
@@ -41,3 +42,7 @@ inet_dev_conf_again = reads_again (signed_words w32) 33 inet_dev_conf_fields ine
 pub length_inet_dev_conf_bytes : HasSize inet_dev_conf_size inet_dev_conf_bytes
 unfolding inet_dev_conf_bytes
 length_inet_dev_conf_bytes = has_size (signed_words w32) 33 inet_dev_conf_fields inet_dev_conf_count
+
+pub inet_dev_conf_filled : WritesFilled inet_dev_conf_size inet_dev_conf_of inet_dev_conf_bytes
+unfolding inet_dev_conf_bytes
+inet_dev_conf_filled = written_filled (signed_words w32) 33 inet_dev_conf_fields inet_dev_conf_of inet_dev_conf_table inet_dev_conf_only (signed_text w32 writes_again_4)

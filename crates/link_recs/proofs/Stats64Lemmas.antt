@@ -2,8 +2,9 @@
 use Rattle.std.proofs.Common.{◌≡◌, ℕ, ◌^◌, ◌<◌, List, length, refl}
 use Rattle.std.specs.Int.{w64}
 use Rattle.nla_wire.specs.Fields.{numbers_from}
-use Rattle.link_recs.specs.Laws.{ZerosBehind, BytesBehind, ReadsBack, ReadsAgain, HasSize}
-use Rattle.link_recs.proofs.Uniform.{unsigned_words, zeros_behind, bytes_behind, reads_back, reads_again, has_size}
+use Rattle.nla_wire.proofs.Again.{numbers_text, writes_again_8}
+use Rattle.link_recs.specs.Laws.{ZerosBehind, BytesBehind, ReadsBack, ReadsAgain, HasSize, WritesFilled}
+use Rattle.link_recs.proofs.Uniform.{unsigned_words, zeros_behind, bytes_behind, reads_back, reads_again, has_size, written_filled}
 use Rattle.link_recs.specs.declared.stats64.Stats64.{Stats64}
 use Rattle.link_recs.specs.Stats64Fields.{stats64_size, stats64_fields, stats64_of, stats64_bytes, stats64_listed, stats64_equal}
 
@@ -41,3 +42,7 @@ stats64_again = reads_again (unsigned_words w64) 25 stats64_fields stats64_of st
 pub length_stats64_bytes : HasSize stats64_size stats64_bytes
 unfolding stats64_bytes
 length_stats64_bytes = has_size (unsigned_words w64) 25 stats64_fields stats64_count
+
+pub stats64_filled : WritesFilled stats64_size stats64_of stats64_bytes
+unfolding stats64_bytes
+stats64_filled = written_filled (unsigned_words w64) 25 stats64_fields stats64_of stats64_table stats64_only (numbers_text w64 writes_again_8)

@@ -2,8 +2,9 @@
 use Rattle.std.proofs.Common.{◌≡◌, ℕ, ◌^◌, ◌<◌, List, length, refl}
 use Rattle.std.specs.Int.{w32}
 use Rattle.nla_wire.specs.Fields.{numbers_from}
-use Rattle.link_recs.specs.Laws.{ZerosBehind, BytesBehind, ReadsBack, ReadsAgain, HasSize}
-use Rattle.link_recs.proofs.Uniform.{unsigned_words, zeros_behind, bytes_behind, reads_back, reads_again, has_size}
+use Rattle.nla_wire.proofs.Again.{numbers_text, writes_again_4}
+use Rattle.link_recs.specs.Laws.{ZerosBehind, BytesBehind, ReadsBack, ReadsAgain, HasSize, WritesFilled}
+use Rattle.link_recs.proofs.Uniform.{unsigned_words, zeros_behind, bytes_behind, reads_back, reads_again, has_size, written_filled}
 use Rattle.link_recs.specs.declared.stats.Stats.{Stats}
 use Rattle.link_recs.specs.StatsFields.{stats_size, stats_fields, stats_of, stats_bytes, stats_listed, stats_equal}
 
@@ -41,3 +42,7 @@ stats_again = reads_again (unsigned_words w32) 24 stats_fields stats_of stats_ta
 pub length_stats_bytes : HasSize stats_size stats_bytes
 unfolding stats_bytes
 length_stats_bytes = has_size (unsigned_words w32) 24 stats_fields stats_count
+
+pub stats_filled : WritesFilled stats_size stats_of stats_bytes
+unfolding stats_bytes
+stats_filled = written_filled (unsigned_words w32) 24 stats_fields stats_of stats_table stats_only (numbers_text w32 writes_again_4)

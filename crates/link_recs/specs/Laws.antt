@@ -1,6 +1,7 @@
 -- Laws of a record, over its reading `of` and its bytes.
 use Rattle.std.specs.Prelude.{◌≡◌, ℕ, ◌≤◌, List, ◌++◌, length, replicate}
 use Rattle.std.specs.List.{AllByRecursion}
+use Rattle.nla_wire.specs.Fields.{zero_filled}
 use Rattle.nla_wire.specs.Frames.{IsBytes}
 
 -- zeros behind a payload change nothing
@@ -21,3 +22,7 @@ ReadsAgain of text = (p : List ℕ) → IsBytes p → of (text (of p)) ≡ of p
 
 abbrev pub HasSize : {V : Type 0} → ℕ → (V → List ℕ) → Type 0
 HasSize {V} size text = (v : V) → length (text v) ≡ size
+
+-- what was read is written as the payload, cut to the record's size or filled up with zeros
+abbrev pub WritesFilled : {V : Type 0} → ℕ → (List ℕ → V) → (V → List ℕ) → Type 0
+WritesFilled size of text = (p : List ℕ) → IsBytes p → text (of p) ≡ zero_filled size p

@@ -2,15 +2,17 @@
 use Rattle.std.proofs.Common.{◌≡◌, ℕ, suc, ◌+◌, ◌-◌, ◌*◌, ◌/◌, ◌%◌, ◌<◌, ◌≤◌, inl, inr, List, [], ◌∷◌, ◌++◌, append_assoc, append-nil, get_or, slice_set, length, take, drop, replicate, length-append, length-drop, length-take, refl, ap, sym, ◌∙◌, subst, arith, Option, Some, None}
 use Rattle.std.specs.Int.{w16, to_le_bytes}
 use Rattle.std.specs.Net.Addr.{segments_of, octets_of}
-use Rattle.std.proofs.lemmas.List.{take_at, drop_at, drop_more, take_rest, drop_all}
+use Rattle.std.proofs.lemmas.List.{take_at, take_all, drop_at, drop_more, take_rest, drop_all}
 use Rattle.std.proofs.Math.Seq.{drop-drop, set-append_seam}
 use Rattle.std.proofs.lemmas.Slice.{drop-append-drop}
 use borrow.Rule.Slice.PartMut.{put_mid}
 use Rattle.nla_wire.specs.Sizes.{most_payload}
+use Rattle.nla_wire.specs.Fields.{zero_filled}
 use Rattle.nla_wire.specs.Frames.{IsBytes, missing}
 use Rattle.nla_wire.specs.Payloads.{IsTextOf}
 use Rattle.nla_wire.specs.Canon.{canon, Writes, Closed}
 use Rattle.nla_wire.proofs.Bounds.{length-canon}
+use Rattle.nla_wire.proofs.FieldLemmas.{length-zero_filled}
 
 -- ** one text behind another
 
@@ -132,3 +134,22 @@ octets_again (a ∷ b ∷ p) e small =
     let here = two_octets a b small.1.0 in
     let behind = octets_again p (omega arith) small.1.1 in
     λ i. here.0 i ∷ here.1 i ∷ behind i
+
+-- ** a payload that is filled up with zeros
+
+pub filled_up : (p old now zeros : List ℕ) (size len : ℕ) → length p < size → size ≤ length old → Writes p old now len
+    → zeros ≡ replicate (length (take (size - len) (drop len now))) 0
+    → Writes (zero_filled size p) old (put_mid len (size - len) now zeros) size
+unfolding zero_filled
+filled_up p old now zeros size len short room w zeros_are =
+    let front : take len now ≡ take size p = ap (take len) w.new_is ∙ take_at p (drop len old) len (sym w.length_is) ∙ sym (take_all size p (omega arith)) in
+    let rest : drop len now ≡ drop len old = ap (drop len) w.new_is ∙ drop_at p (drop len old) len (sym w.length_is) in
+    let count : length (take (size - len) (drop len now)) ≡ size - length p =
+    ap (λ xs. length (take (size - len) xs)) rest ∙ simp (length-take, length-drop) (omega (arith, w.length_is)) in
+    let zero : zeros ≡ replicate (size - length p) 0 = zeros_are ∙ ap (λ n. replicate n 0) count in
+    let behind : drop (size - len) (drop len now) ≡ drop size old =
+    ap (drop (size - len)) rest ∙ drop-drop (size - len) len old ∙ ap (λ n. drop n old) (let same : len + (size - len) ≡ size = omega (arith, w.length_is) in same) in
+    record {
+      length_is = sym (length-zero_filled size p);
+      new_is = (λ i. front i ++ (zero i ++ behind i)) ∙ sym (append_assoc (take size p) (replicate (size - length p) 0) (drop size old));
+    }

@@ -78,7 +78,7 @@ from_le_bytes-to_le_bytes w n h =
     ∙ ap (λ x. n % x) (bytes_of_width w)
     ∙ mod-eq_of_lt h
 
-IsBytes-get : (b : List ℕ) (i : ℕ) → IsBytes b → get_or b i 0 < 256
+pub IsBytes-get : (b : List ℕ) (i : ℕ) → IsBytes b → get_or b i 0 < 256
 IsBytes-get [] i h = lit< tt
 IsBytes-get (x ∷ b) zero h = h.0
 IsBytes-get (x ∷ b) (suc i) h = IsBytes-get b i h.1

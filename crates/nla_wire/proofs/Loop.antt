@@ -12,11 +12,6 @@ use Rattle.nla_wire.proofs.Items.{list_items}
 
 -- ** answers of readers
 
--- a slice's elements are bytes
-pub is_bytes_of : (b : List ℕ) → ((i : ℕ) → slice_index b i < 256) → IsBytes b
-is_bytes_of [] small = tt
-is_bytes_of (x ∷ b) small = (small 0, is_bytes_of b (λ i. small (suc i)))
-
 -- a reading that is Ok has a value
 pub given : {A : Type 0} (r : Result A Cause) → IsOk r → (a : A) × (r ≡ Ok a)
 given (Ok a) ok = (a, refl)

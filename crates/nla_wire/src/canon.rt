@@ -1,9 +1,10 @@
 //! Attributes written again from payloads that were read or checked, to the front of a buffer and without memory.
 
-ghost use Rattle.std.specs.Prelude.{◌≡◌, ◌+◌, ◌*◌, ◌≤◌, ◌++◌, [], ◌∷◌, length, take, drop, Ok};
+ghost use Rattle.std.specs.Prelude.{◌≡◌, ◌+◌, ◌*◌, ◌<◌, ◌≤◌, ◌++◌, [], ◌∷◌, length, take, drop, Ok};
 ghost use Rattle.std.specs.Int.{w8, w16, w32, w64, to_le_bytes, from_le_bytes, cast_signed, cast_unsigned};
 ghost use Rattle.nla_wire.specs.Sizes.{growth_per_byte};
 ghost use Rattle.nla_wire.specs.Frames.{missing};
+ghost use Rattle.nla_wire.specs.Fields.{zero_filled};
 ghost use Rattle.std.specs.Net.Addr.{ipv6_octets};
 ghost use Rattle.nla_wire.specs.Payloads.{without_nul, address_of_octets};
 ghost use Rattle.nla_wire.specs.Canon.{canon, Writes, Closed, Canonical};
@@ -70,6 +71,29 @@ pub fn canon_value(kind: u16, value: &[u8], out: &mut [u8]) -> Option<usize>
     ensures { Closed kind value.now out.old out.new result }
 {
     let len = write_bytes(value, &mut out[NLA_HEADER_SIZE..]);
+    close(out, len, kind)
+}
+
+/// Writes the first bytes of the payload to the front of the buffer, so many with zeros behind fewer, and answers how many.
+fn write_filled(payload: &[u8], size: usize, out: &mut [u8]) -> usize
+    requires short { length payload.now < size }
+    requires room { size ≤ length out.old }
+    ensures { Writes (zero_filled size payload.now) out.old out.new result }
+{
+    let len = write_bytes(payload, out);
+    out[len..size].fill(0);
+    size
+}
+
+/// Writes an attribute with the first `size` bytes of a payload, and zeros behind a shorter one.
+pub fn canon_filled(kind: u16, size: usize, payload: &[u8], out: &mut [u8]) -> Option<usize>
+    requires { 4 + size + missing size ≤ length out.old }
+    ensures { Closed kind (zero_filled size payload.now) out.old out.new result }
+{
+    if size <= payload.len() {
+        return canon_value(kind, &payload[..size], out);
+    }
+    let len = write_filled(payload, size, &mut out[NLA_HEADER_SIZE..]);
     close(out, len, kind)
 }
 

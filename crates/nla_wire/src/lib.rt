@@ -18,8 +18,8 @@ pub mod values;
 
 pub use buffer::{NLA_F_NESTED, NLA_F_NET_BYTEORDER, NLA_HEADER_SIZE, NLA_TYPE_MASK, NlaBuffer};
 pub use canon::{
-    canon_bytes, canon_i32, canon_ipv6_addr, canon_of, canon_text, canon_u8, canon_u16, canon_u32,
-    canon_u64, canon_value, close,
+    canon_bytes, canon_filled, canon_i32, canon_ipv6_addr, canon_of, canon_text, canon_u8,
+    canon_u16, canon_u32, canon_u64, canon_value, close,
 };
 pub use default_nla::DefaultNla;
 pub use error::{Cause, DecodeError, empty_list};
