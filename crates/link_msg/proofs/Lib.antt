@@ -6,3 +6,4 @@ pub mod LawProofs
 pub mod Writing
 pub mod Payloads
 pub mod EmptyPorts
+pub mod Shaped

@@ -21,10 +21,6 @@ use Rattle.link_nest.specs.WirelessLaws.{wireless_length}
 use Rattle.link_nest.specs.declared.wireless.WirelessEvent.{WirelessEvent}
 use Rattle.link_msg.specs.Places.{ext_mask}
 
--- an id that was read has at most 32 bytes
-pub id_short : (p : List ℕ) → length (phys_id_bytes (phys_id_of p)) ≤ 32
-id_short p = omega (arith, length-phys_id_bytes p)
-
 -- ** extent masks
 
 pub mask_means : (p : List ℕ) → IsBytes p → IsOk (ext_mask.reads p) → (flags : List LinkExtentMask) × (ext_mask.reads p ≡ Ok flags) × ext_mask.means p flags

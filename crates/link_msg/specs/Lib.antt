@@ -5,6 +5,7 @@ pub mod Values
 pub mod Content
 pub mod Places
 pub mod Plain
+pub mod Shapes
 pub mod Messages
 pub mod MessageExact
 pub mod CanonErrors

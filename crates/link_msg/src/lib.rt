@@ -11,6 +11,7 @@ pub mod laws;
 pub mod message;
 mod payload;
 mod ports;
+mod shape;
 pub mod table;
 
 pub use attribute::LinkAttribute;

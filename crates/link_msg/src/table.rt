@@ -17,6 +17,7 @@ use crate::payload::{
     parse_mask, parse_ports, parse_some,
 };
 use crate::ports::holds_no_port;
+use crate::shape::Shape;
 use link_nest::{
     DevlinkPort, DpllPin, LinkInfo, LinkProtocolDownReason, LinkXdp, Prop, WirelessEvent,
 };
@@ -25,8 +26,8 @@ use link_vals::{AddressFamily, LinkEvent, LinkMode, LinkPhysId, State};
 use link_vf::{LinkVfInfo, LinkVfPort};
 use nla_wire::{
     Bytes, DecodeError, DefaultNla, List, NLA_F_NESTED, NlaBuffer, NlaRead, NlasIterator, Place,
-    canon_bytes, canon_members, canon_of, canon_text, check_members, check_string, parse_i32,
-    parse_members, parse_string, parse_u8, parse_u32,
+    canon_bytes, canon_members, canon_text, check_members, check_string, parse_i32, parse_members,
+    parse_string, parse_u8, parse_u32,
 };
 use std::alloc::Global;
 
@@ -35,9 +36,7 @@ const VF_PORTS: u16 = 24;
 
 impl LinkAttribute {
     ghost use Rattle.link_msg.specs.Places.{attribute_place, other_place};
-    ghost use Rattle.std.specs.Prelude.{IfSome};
     ghost use Rattle.nla_wire.specs.Frames.{IsFrame};
-    ghost use Rattle.link_recs.specs.Stats64Fields.{stats64_size};
     ghost use Rattle.link_msg.specs.Plain.{plain_answer};
     ghost use Rattle.link_msg.specs.Values.{attribute_frame, AttributeFits, Values};
     ghost use Rattle.link_msg.specs.Canonical.{PortTold, PortsTold};
@@ -59,10 +58,9 @@ impl LinkAttribute {
     }
 
     /// The value of a frame, if its number is one of a number, an id or a record: no memory is taken.
-    #[tactic(auto, unfolding(crate::specs::Places::attribute_place), using(crate::proofs::Payloads::id_short, link_recs::proofs::StatsLemmas::length_stats_bytes, link_recs::proofs::Stats64Lemmas::length_stats64_bytes, link_recs::proofs::MapLemmas::length_map_bytes))]
+    #[tactic(auto, unfolding(crate::specs::Places::attribute_place))]
     fn read_plain(buffer: &NlaBuffer<'_>) -> Result<Option<LinkAttribute>, DecodeError>
-        ensures reads { (family : AddressFamily) → (attribute_place family).reads buffer.now ≡ plain_answer result ((other_place family).reads buffer.now) }
-        ensures short { IfOk result (λ value. IfSome value (λ v. length (attribute_frame v).payload ≤ stats64_size)) }
+        ensures { (family : AddressFamily) → (attribute_place family).reads buffer.now ≡ plain_answer result ((other_place family).reads buffer.now) }
     {
         let payload = buffer.value();
         match buffer.kind() {
@@ -159,8 +157,8 @@ impl LinkAttribute {
     ) -> Result<(), DecodeError>
         ensures { Checks result ((attribute_place family).reads buffer.now) }
     {
-        match LinkAttribute::read_plain(buffer)? {
-            Some(_) => Ok(()),
+        match Shape::of(buffer.kind()) {
+            Some(shape) => shape.check(buffer.value()),
             None => LinkAttribute::check_other(buffer, family),
         }
     }
@@ -205,8 +203,8 @@ impl LinkAttribute {
         requires room { growth_per_byte * (4 + length buffer.now.payload) ≤ length out.old }
         ensures { Canonical (λ v. canon (attribute_frame v)) AttributeFits ((attribute_place family).reads buffer.now) out.old out.new result }
     {
-        match LinkAttribute::read_plain(buffer).ok()? {
-            Some(attribute) => canon_of(&attribute, out),
+        match Shape::of(buffer.kind()) {
+            Some(shape) => shape.canon(buffer.kind(), buffer.value(), out),
             None => LinkAttribute::canon_other(buffer, out, family),
         }
     }
