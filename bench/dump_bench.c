@@ -10,7 +10,7 @@
 
 enum { ROUNDS = 9, MOST = 1600000 };
 
-static uint8_t message[MOST], out[77 * 40000 + 2 * MOST];
+static uint8_t message[MOST], out[LINK_GROWTH * (size_t)MOST];
 static size_t len;
 
 static void put(const void *bytes, size_t count) {
@@ -61,42 +61,46 @@ static void short_one(void) {
     texts(3, "");
 }
 
+/* A kind and the length of its value. */
+struct sized {
+    uint16_t kind;
+    uint16_t count;
+};
+
+static void values(const struct sized *rows, size_t count) {
+    for (size_t i = 0; i < count; i++) {
+        value(rows[i].kind, NULL, rows[i].count);
+    }
+}
+
+#define VALUES(rows) values(rows, sizeof rows / sizeof *rows)
+
 /* Settings and statistics of both families. */
 static void settings(void) {
+    static const struct sized rows[] = {{1, 4}, {5, 16}, {2, 240}, {3, 304}, {6, 56}, {7, 16}, {8, 1}};
     size_t spec = opens(26), inet = opens(2);
     value(1, NULL, 132);
     closes(inet);
     size_t inet6 = opens(10);
-    value(1, NULL, 4);
-    value(5, NULL, 16);
-    value(2, NULL, 240);
-    value(3, NULL, 304);
-    value(6, NULL, 56);
-    value(7, NULL, 16);
-    value(8, NULL, 1);
+    VALUES(rows);
     closes(inet6);
     closes(spec);
 }
 
 /* One interface as a dump of links shows it. */
 static void interface(void) {
-    static const uint16_t numbers[] = {13, 4, 50, 51, 27, 30, 61, 31, 40, 41, 58, 59, 60, 63, 64, 32, 35, 47, 48};
+    static const struct sized numbers[] = {{13, 4}, {4, 4},  {50, 4}, {51, 4}, {27, 4}, {30, 4}, {61, 4}, {31, 4}, {40, 4}, {41, 4},
+                                           {58, 4}, {59, 4}, {60, 4}, {63, 4}, {64, 4}, {32, 4}, {35, 4}, {47, 4}, {48, 4}};
+    static const struct sized records[] = {{14, 32}, {1, 6}, {2, 6}, {54, 6}, {23, 200}, {7, 96}};
     header();
     texts(3, "enp0s31f6");
-    for (size_t i = 0; i < sizeof numbers / sizeof *numbers; i++) {
-        value(numbers[i], NULL, 4);
-    }
+    VALUES(numbers);
     value(16, "\6", 1);
     value(17, "", 1);
     value(33, "\1", 1);
     value(39, "", 1);
     texts(6, "fq_codel");
-    value(14, NULL, 32);
-    value(1, NULL, 6);
-    value(2, NULL, 6);
-    value(54, NULL, 6);
-    value(23, NULL, 200);
-    value(7, NULL, 96);
+    VALUES(records);
     size_t xdp = opens(43);
     value(2, "", 1);
     closes(xdp);
@@ -107,22 +111,17 @@ static void interface(void) {
 
 /* One interface with 128 virtual functions. */
 static void functions(void) {
+    static const struct sized before[] = {{1, 36}, {13, 32}, {2, 12}}, after[] = {{3, 8}, {4, 8}, {5, 8}, {6, 12}, {9, 8}};
     header();
     texts(3, "enp1s0f0");
     size_t list = opens(22);
     for (int i = 0; i < 128; i++) {
         size_t one = opens(1);
-        value(1, NULL, 36);
-        value(13, NULL, 32);
-        value(2, NULL, 12);
+        VALUES(before);
         size_t vlans = opens(12);
         value(1, NULL, 16);
         closes(vlans);
-        value(3, NULL, 8);
-        value(4, NULL, 8);
-        value(5, NULL, 8);
-        value(6, NULL, 12);
-        value(9, NULL, 8);
+        VALUES(after);
         closes(one);
     }
     closes(list);
@@ -187,6 +186,17 @@ static void line(const char *what) {
            written, len / written * 1e3, made, len / made * 1e3);
 }
 
+/* What a byte costs in messages of four lengths. */
+static void growth(const char *name, long (*call)(void)) {
+    static const size_t lengths[] = {1000, 10000, 100000, 1500000};
+    printf("%-24s ns a byte:", name);
+    for (size_t i = 0; i < sizeof lengths / sizeof *lengths; i++) {
+        of_length(lengths[i]);
+        printf(" %zu: %.2f", len, times(name, call) / len);
+    }
+    printf("\n");
+}
+
 int main(void) {
     printf("%-24s %8s %8s %15s %15s %15s\n", "ns a message (MB/s)", "bytes", "memcpy", "check", "canonical_into", "canonical");
     short_one();
@@ -195,12 +205,8 @@ int main(void) {
     line("an interface");
     functions();
     line("128 virtual functions");
-    printf("ns a byte                ");
-    static const size_t lengths[] = {1000, 10000, 100000, 1500000};
-    for (size_t i = 0; i < sizeof lengths / sizeof *lengths; i++) {
-        of_length(lengths[i]);
-        printf(" %zu: %.2f", len, times("link_canonical", canonical) / len);
-    }
-    printf("\n");
+    growth("link_check", check);
+    growth("link_canonical_into", into);
+    growth("link_canonical", canonical);
     return 0;
 }
