@@ -5,24 +5,19 @@ use link_msg::*;
 use std::alloc::Global;
 use std::process::Abort;
 
-/// The payload in an attribute of this number, without padding.
-fn inside(rt: &impl Abort, alloc: Global, number: u8, payload: &[u8]) -> Vec<u8> {
-    assert!(rt; payload.len() < 100);
-    let len = payload.len() as u8 + 4;
-    let mut bytes = got(rt, Vec::from_slice(alloc, &[len, 0, number, 0]));
-    got(rt, bytes.extend_from_slice(payload));
-    bytes
-}
-
-/// A message of a header of this family, and the payload in attributes of these numbers, the innermost last.
+/// A message of a header of this family, and the payload in attributes of these numbers, the innermost last and each
+/// without padding.
 fn message(rt: &impl Abort, alloc: Global, family: u8, path: &[u8], payload: &[u8]) -> Vec<u8> {
-    let mut attributes = got(rt, Vec::from_slice(alloc, payload));
-    for number in path.iter().rev() {
-        attributes = inside(rt, alloc, *number, attributes.as_slice());
-    }
     let header = [family, 0, 0, 0, 0, 0, 0, 0, 0, 0, 0, 0, 0, 0, 0, 0];
     let mut bytes = got(rt, Vec::from_slice(alloc, &header));
-    got(rt, bytes.extend_from_slice(attributes.as_slice()));
+    assert!(rt; path.len() < 10);
+    assert!(rt; payload.len() < 100);
+    let mut len = (4 * path.len() + payload.len()) as u8;
+    for number in path {
+        got(rt, bytes.extend_from_slice(&[len, 0, *number, 0]));
+        len = len.saturating_sub(4);
+    }
+    got(rt, bytes.extend_from_slice(payload));
     bytes
 }
 
@@ -32,6 +27,11 @@ fn cause_of<T: Drop>(read: Result<T, DecodeError>) -> Option<Cause> {
         Ok(_) => None,
         Err(error) => Some(error.cause),
     }
+}
+
+/// What lies on this path is refused for this cause.
+fn are_causes(rt: &impl Abort, path: &[u8], found: Option<Cause>, wanted: Option<Cause>) {
+    assert!(rt; found == wanted, "path {path:?}");
 }
 
 /// A message with this payload in attributes of these numbers has this first fault or none, the same when it is read and
@@ -45,10 +45,10 @@ fn fails_in(
     wanted: Option<Cause>,
 ) {
     let bytes = message(rt, alloc, family, path, payload);
-    let read = cause_of(LinkMessage::parse(alloc, bytes.as_slice()));
-    let checked = cause_of(LinkMessage::check(bytes.as_slice()));
-    assert!(rt; read == wanted, "family {family}, path {path:?}");
-    assert!(rt; checked == wanted);
+    let read = LinkMessage::parse(alloc, bytes.as_slice());
+    are_causes(rt, path, cause_of(read), wanted);
+    let checked = LinkMessage::check(bytes.as_slice());
+    are_causes(rt, path, cause_of(checked), wanted);
 }
 
 /// A place is refused where a frame in it is damaged, and takes a foreign number. It takes no bytes, or refuses them.

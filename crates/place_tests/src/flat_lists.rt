@@ -133,7 +133,6 @@ fn refused_express_data_paths(rt: HostRuntime) {
 
 #[test]
 fn express_data_paths(rt: HostRuntime) {
-    let alloc = rt.alloc();
     for (number, value) in [
         (1, LinkXdp::Fd(-2)),
         (3, LinkXdp::Flags(4294967294)),
@@ -144,8 +143,13 @@ fn express_data_paths(rt: HostRuntime) {
         (8, LinkXdp::ExpectedFd(4294967294)),
     ] {
         let bytes = [8, 0, number, 0, 254, 255, 255, 255];
-        means(&rt, alloc, &bytes, &[value], &bytes);
+        means(&rt, rt.alloc(), &bytes, &[value], &bytes);
     }
+}
+
+#[test]
+fn attached_express_data_paths(rt: HostRuntime) {
+    let alloc = rt.alloc();
     means(
         &rt,
         alloc,

@@ -11,13 +11,17 @@ use std::alloc::Global;
 use std::process::Abort;
 
 #[test]
-fn statistics(rt: HostRuntime) {
+fn refused_statistics(rt: HostRuntime) {
     let alloc = rt.alloc();
     refuses_bad_frames::<VfStats>(&rt, alloc);
     let short = Cause::WrongLength { got: 7, want: 8 };
     refuses::<VfStats>(&rt, alloc, &[11, 0, 0, 0, 0, 0, 0, 0, 0, 0, 0], short);
     let none = Cause::WrongLength { got: 0, want: 8 };
     refuses::<VfStats>(&rt, alloc, &[4, 0, 8, 0], none);
+}
+
+#[test]
+fn statistics(rt: HostRuntime) {
     for (number, value) in [
         (0, VfStats::RxPackets(7)),
         (1, VfStats::TxPackets(7)),
@@ -29,8 +33,13 @@ fn statistics(rt: HostRuntime) {
         (8, VfStats::TxDropped(7)),
     ] {
         let bytes = [12, 0, number, 0, 7, 0, 0, 0, 0, 0, 0, 0];
-        means(&rt, alloc, &bytes, &[value], &bytes);
+        means(&rt, rt.alloc(), &bytes, &[value], &bytes);
     }
+}
+
+#[test]
+fn padding_among_statistics(rt: HostRuntime) {
+    let alloc = rt.alloc();
     let padding = VfStats::Other(kept(&rt, alloc, 6 | 0x8000, &[1]));
     let text = [5, 0, 6, 0x80, 1, 0, 0, 0];
     means(&rt, alloc, &[5, 0, 6, 0x80, 1], &[padding], &text);
@@ -303,14 +312,14 @@ fn four_levels_read(rt: HostRuntime) {
 fn four_levels_written(rt: HostRuntime) {
     let mut out = [255; 4000];
     assert!(rt; LinkVfInfo::check_list(&VLAN_ENTRIES).is_ok());
-    assert!(rt; LinkVfInfo::canon_list(&VLAN_ENTRIES, &mut out) == Some(28));
-    begin(&rt, &out, &VLAN_TEXT);
+    let len = LinkVfInfo::canon_list(&VLAN_ENTRIES, &mut out);
+    wrote(&rt, len, 28, &out, &VLAN_TEXT);
     let payload = &VLAN_ENTRIES[8..];
     assert!(rt; LinkVfInfo::check(payload).is_ok());
-    assert!(rt; LinkVfInfo::canon(payload, &mut out) == Some(24));
-    begin(&rt, &out, &VLAN_TEXT[4..]);
-    assert!(rt; LinkVfInfo::canon_entry(1, payload, &mut out) == Some(28));
-    begin(&rt, &out, &VLAN_TEXT);
+    let len = LinkVfInfo::canon(payload, &mut out);
+    wrote(&rt, len, 24, &out, &VLAN_TEXT[4..]);
+    let len = LinkVfInfo::canon_entry(1, payload, &mut out);
+    wrote(&rt, len, 28, &out, &VLAN_TEXT);
 }
 
 #[test]
@@ -360,19 +369,19 @@ fn ports(rt: HostRuntime) {
     means(&rt, alloc, &[5, 0, 1, 0x80, 7], &[kind_one], &text);
 }
 
+/// A port with one member.
+fn port_of_one(rt: &impl Abort, alloc: Global) -> LinkVfPort {
+    let member = VfPort::Other(kept(rt, alloc, 1, &[5, 0, 0, 0]));
+    LinkVfPort(List::new(got(rt, Vec::from_array(alloc, [member]))))
+}
+
 #[test]
 fn one_port(rt: HostRuntime) {
-    let alloc = rt.alloc();
     let entry = [8, 0, 1, 0, 5, 0, 0, 0];
-    let member = VfPort::Other(kept(&rt, alloc, 1, &[5, 0, 0, 0]));
-    let port = LinkVfPort(List::new(got(&rt, Vec::from_array(alloc, [member]))));
-    let read = got(&rt, LinkVfPort::parse(alloc, &entry));
-    is_copied(&rt, alloc, &read, &port);
-    assert!(rt; port.fits());
-    assert!(rt; port.value_len() == 8);
-    let mut value = [255; 8];
-    port.emit_value(&mut value);
-    are(&rt, &value, &entry);
+    let port = port_of_one(&rt, rt.alloc());
+    let read = got(&rt, LinkVfPort::parse(rt.alloc(), &entry));
+    is_copied(&rt, rt.alloc(), &read, &port);
+    has_value(&rt, &port, 1, &entry);
 }
 
 #[test]
@@ -380,12 +389,13 @@ fn ports_written(rt: HostRuntime) {
     let mut out = [255; 2000];
     let entry = [8, 0, 1, 0, 5, 0, 0, 0];
     assert!(rt; LinkVfPort::check(&entry).is_ok());
-    assert!(rt; LinkVfPort::canon(&entry, &mut out) == Some(8));
-    begin(&rt, &out, &entry);
-    assert!(rt; LinkVfPort::canon_entry(25, &entry, &mut out) == Some(12));
-    begin(&rt, &out, &[12, 0, 25, 0, 8, 0, 1, 0, 5, 0, 0, 0]);
+    let len = LinkVfPort::canon(&entry, &mut out);
+    wrote(&rt, len, 8, &out, &entry);
+    let len = LinkVfPort::canon_entry(25, &entry, &mut out);
+    let text = [12, 0, 25, 0, 8, 0, 1, 0, 5, 0, 0, 0];
+    wrote(&rt, len, 12, &out, &text);
     let list = [5, 0, 3, 0, 1, 0, 0, 0, 8, 0, 1, 0, 4, 0, 9, 0];
     assert!(rt; LinkVfPort::check_list(&list).is_ok());
-    assert!(rt; LinkVfPort::canon_list(&list, &mut out) == Some(8));
-    begin(&rt, &out, &list[8..]);
+    let len = LinkVfPort::canon_list(&list, &mut out);
+    wrote(&rt, len, 8, &out, &list[8..]);
 }

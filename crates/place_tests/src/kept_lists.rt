@@ -1,6 +1,6 @@
 //! Lists of attributes that are all kept, read, checked and written again.
 
-use crate::testing::{begin, fails, got};
+use crate::testing::{fails, got, wrote};
 use link_vf::VfPort;
 use nla_wire::{Cause, NLA_F_NESTED, Nla, NlaRead};
 
@@ -33,22 +33,21 @@ fn refuses_lists(rt: HostRuntime) {
 fn writes_lists(rt: HostRuntime) {
     let mut out = [255; 1001];
     assert!(rt; VfPort::check_list(&TWO).is_ok());
-    assert!(rt; VfPort::canon_list(&TWO, &mut out) == Some(12));
-    begin(&rt, &out, &[4, 0, 2, 0x80, 5, 0, 1, 0, 7, 0, 0, 0, 255]);
-    assert!(rt; VfPort::canon_nested(52 | NLA_F_NESTED, &TWO, &mut out) == Some(16));
-    begin(
-        &rt,
-        &out,
-        &[16, 0, 52, 0x80, 4, 0, 2, 0x80, 5, 0, 1, 0, 7, 0, 0, 0],
-    );
+    let len = VfPort::canon_list(&TWO, &mut out);
+    let text = [4, 0, 2, 0x80, 5, 0, 1, 0, 7, 0, 0, 0, 255];
+    wrote(&rt, len, 12, &out, &text);
+    let len = VfPort::canon_nested(52 | NLA_F_NESTED, &TWO, &mut out);
+    let text = [16, 0, 52, 0x80, 4, 0, 2, 0x80, 5, 0, 1, 0, 7, 0, 0, 0];
+    wrote(&rt, len, 16, &out, &text);
 }
 
 #[test]
 fn writes_picked_lists(rt: HostRuntime) {
     let mut out = [255; 1001];
     assert!(rt; VfPort::check_picked(&TWO).is_ok());
-    assert!(rt; VfPort::canon_picked(&TWO, &mut out) == Some(8));
-    begin(&rt, &out, &SECOND);
-    assert!(rt; VfPort::canon_nested_picked(22, &TWO, &mut out) == Some(12));
-    begin(&rt, &out, &[12, 0, 22, 0, 5, 0, 1, 0, 7, 0, 0, 0]);
+    let len = VfPort::canon_picked(&TWO, &mut out);
+    wrote(&rt, len, 8, &out, &SECOND);
+    let len = VfPort::canon_nested_picked(22, &TWO, &mut out);
+    let text = [12, 0, 22, 0, 5, 0, 1, 0, 7, 0, 0, 0];
+    wrote(&rt, len, 12, &out, &text);
 }

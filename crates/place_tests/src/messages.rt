@@ -36,12 +36,17 @@ fn becomes(rt: &impl Abort, alloc: Global, attributes: &[u8], want: &[u8]) {
     let text = got(rt, canonical(alloc, bytes.as_slice()));
     assert!(rt; text.len() == 16 + want.len());
     are(rt, &text.as_slice()[16..], want);
+    is_written(rt, bytes.as_slice(), text.as_slice());
+}
+
+/// A message of at most 36 bytes is written as this text, of at most 400, with no memory.
+fn is_written(rt: &impl Abort, bytes: &[u8], text: &[u8]) {
     let mut out = [255; 2772];
     assert!(rt; bytes.len() <= 36);
-    assert!(rt; text.len() <= 2772);
-    let len = got(rt, canonical_into(bytes.as_slice(), &mut out));
+    assert!(rt; text.len() <= 400);
+    let len = got(rt, canonical_into(bytes, &mut out));
     assert!(rt; len == text.len());
-    begin(rt, &out, text.as_slice());
+    begin(rt, &out, text);
     are_kept(rt, &out[text.len()..], 255);
 }
 
@@ -124,17 +129,26 @@ fn the_first_fault_is_answered(rt: HostRuntime) {
 }
 
 #[test]
-fn texts_are_filled_and_emitted(rt: HostRuntime) {
+fn texts_are_filled(rt: HostRuntime) {
     let read = got(&rt, LinkMessage::parse(rt.alloc(), &NAME));
     assert!(rt; read.fits());
-    assert!(rt; !read.has_empty_ports());
     assert!(rt; read.buffer_len() == 24);
     let mut buffer = [255; 30];
     assert!(rt; read.fill(&mut buffer) == 6);
     begin(&rt, &buffer, &[255; 6]);
     are(&rt, &buffer[6..], &NAME_TEXT);
+}
+
+#[test]
+fn texts_are_emitted(rt: HostRuntime) {
+    let read = got(&rt, LinkMessage::parse(rt.alloc(), &NAME));
+    assert!(rt; !read.has_empty_ports());
+    assert!(rt; read.fits());
+    assert!(rt; read.buffer_len() == 24);
+    let mut buffer = [255; 30];
     read.emit(&mut buffer);
     begin(&rt, &buffer, &NAME_TEXT);
+    are(&rt, &buffer[24..], &[255; 6]);
 }
 
 #[test]
@@ -153,11 +167,6 @@ fn a_copy_is_the_same(rt: HostRuntime) {
     assert!(rt; copy == read);
 }
 
-/// Whether two messages mean the same.
-fn are_same(rt: &impl Abort, alloc: Global, one: &[u8], other: &[u8], wanted: bool) {
-    assert!(rt; got(rt, same_message(alloc, one, other)) == wanted);
-}
-
 #[test]
 fn spellings_mean_the_same(rt: HostRuntime) {
     are_same(&rt, rt.alloc(), &NAME, &NAME_TEXT, true);
@@ -167,6 +176,15 @@ fn spellings_mean_the_same(rt: HostRuntime) {
         other[index] = byte;
         are_same(&rt, rt.alloc(), &NAME, &other, same);
     }
+}
+
+/// Behind the NUL of a name stands one byte of padding, which may be any, or missing at the end.
+#[test]
+fn padding_means_nothing(rt: HostRuntime) {
+    let mut other = NAME_TEXT;
+    other[23] = 9;
+    are_same(&rt, rt.alloc(), &NAME_TEXT, &other, true);
+    are_same(&rt, rt.alloc(), &NAME_TEXT, &NAME_TEXT[..23], true);
 }
 
 #[test]

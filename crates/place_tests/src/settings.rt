@@ -2,7 +2,7 @@ use crate::testing::*;
 use link_afspec::*;
 use link_recs::{Icmp6Stats, Inet6CacheInfo, Inet6DevConf, Inet6Stats, InetDevConf};
 use link_vals::{In6AddrGenMode, Inet6IfaceFlags, MctpPhysBinding};
-use nla_wire::{Cause, List, Nla, NlaRead};
+use nla_wire::{Cause, CloneIn, Exact, List, Nla, NlaRead};
 use std::alloc::Global;
 use std::net::Ipv6Addr;
 use std::process::Abort;
@@ -48,23 +48,31 @@ fn settings_of_mctp(rt: HostRuntime) {
     );
 }
 
-#[test]
-fn settings_of_ipv4(rt: HostRuntime) {
-    let alloc = rt.alloc();
-    refuses_bad_frames::<AfSpecInet>(&rt, alloc);
-    let conf = AfSpecInet::DevConf(InetDevConf {
+/// Settings with two numbers.
+fn two_settings() -> AfSpecInet {
+    AfSpecInet::DevConf(InetDevConf {
         forwarding: 65544,
         mc_forwarding: 1,
         ..InetDevConf::default()
-    });
+    })
+}
+
+#[test]
+fn settings_of_ipv4(rt: HostRuntime) {
+    refuses_bad_frames::<AfSpecInet>(&rt, rt.alloc());
+    let conf = two_settings();
     assert!(rt; conf.fits());
     assert!(rt; conf.kind() == 1);
     assert!(rt; conf.value_len() == 132);
-    let values = [conf];
+}
+
+#[test]
+fn flags_of_settings_of_ipv4(rt: HostRuntime) {
+    let values = [two_settings()];
     let text: [u8; 136] = zeros_behind(&[0x88, 0, 1, 0, 8, 0, 1, 0, 1, 0, 0, 0]);
     for kind in [0, 0x80, 0x40, 0xc0] {
         let bytes = [12, 0, 1, kind, 8, 0, 1, 0, 1, 0, 0, 0];
-        means(&rt, alloc, &bytes, &values, &text);
+        means(&rt, rt.alloc(), &bytes, &values, &text);
     }
 }
 
@@ -92,37 +100,26 @@ fn long_settings_of_ipv4(rt: HostRuntime) {
     assert!(rt; long == exact);
 }
 
-/// A request is written as this value, at the end of a longer buffer too.
+/// A request is written as this value.
 fn asks(rt: &impl Abort, conf: InetDevConf, value: &[u8; 8]) {
-    let request = AfSpecInet::DevConfRequest(conf);
-    assert!(rt; request.fits());
-    assert!(rt; request.kind() == 0x8001);
-    assert!(rt; request.value_len() == 8);
-    let mut exact = [255; 8];
-    request.emit_value(&mut exact);
-    are(rt, &exact, value);
-    let mut longer = [255; 10];
-    assert!(rt; request.fill_value(&mut longer) == 2);
-    begin(rt, &longer, &[255, 255]);
-    are(rt, &longer[2..], value);
+    has_value(rt, &AfSpecInet::DevConfRequest(conf), 0x8001, value);
 }
 
 #[test]
 fn requests(rt: HostRuntime) {
-    let none = InetDevConf::default();
     let forwarding = InetDevConf {
         forwarding: 1,
-        ..none
+        ..InetDevConf::default()
     };
     asks(&rt, forwarding, &[8, 0, 1, 0, 1, 0, 0, 0]);
     let rp_filter = InetDevConf {
         rp_filter: 2,
-        ..none
+        ..InetDevConf::default()
     };
     asks(&rt, rp_filter, &[8, 0, 8, 0, 2, 0, 0, 0]);
     let last = InetDevConf {
         arp_evict_nocarrier: -1,
-        ..none
+        ..InetDevConf::default()
     };
     asks(&rt, last, &[8, 0, 33, 0, 255, 255, 255, 255]);
 }
@@ -242,13 +239,11 @@ fn half_a_record_of_ipv6(rt: HostRuntime) {
 /// The list of a family is refused for each damaged frame in it.
 fn refuses_bad_members(rt: &impl Abort, alloc: Global, family: u8) {
     for (members, cause) in BAD_FRAMES {
-        let mut bytes = [0; 16];
         assert!(rt; members.len() <= 12);
-        let len = 4 + members.len();
-        bytes[0] = len as u8;
-        bytes[2] = family;
-        bytes[4..len].copy_from_slice(members);
-        refuses::<AfSpecUnspec>(rt, alloc, &bytes[..len], cause);
+        let len = 4 + members.len() as u8;
+        let mut bytes = got(rt, Vec::from_slice(alloc, &[len, 0, family, 0]));
+        got(rt, bytes.extend_from_slice(members));
+        refuses::<AfSpecUnspec>(rt, alloc, bytes.as_slice(), cause);
     }
 }
 
@@ -297,44 +292,47 @@ fn families(rt: HostRuntime) {
 #[test]
 fn family_of_ipv4(rt: HostRuntime) {
     let alloc = rt.alloc();
-    let conf = AfSpecInet::DevConf(InetDevConf {
-        forwarding: 65544,
-        mc_forwarding: 1,
-        ..InetDevConf::default()
-    });
-    let inet = AfSpecUnspec::Inet(List::new(got(&rt, Vec::from_array(alloc, [conf]))));
+    let conf = got(&rt, Vec::from_array(alloc, [two_settings()]));
+    let inet = AfSpecUnspec::Inet(List::new(conf));
     let bytes = [16, 0, 2, 0, 12, 0, 1, 0, 8, 0, 1, 0, 1, 0, 0, 0];
     let text: [u8; 140] = zeros_behind(&[0x8c, 0, 2, 0, 0x88, 0, 1, 0, 8, 0, 1, 0, 1, 0, 0, 0]);
     means(&rt, alloc, &bytes, &[inet], &text);
 }
 
-/// A request is read as settings, whose record begins with its attributes.
-#[test]
-fn requests_of_a_family(rt: HostRuntime) {
-    let alloc = rt.alloc();
+/// A member of one request.
+fn one_request(rt: &impl Abort, alloc: Global) -> AfSpecUnspec {
     let request = AfSpecInet::DevConfRequest(InetDevConf {
         forwarding: 1,
         ..InetDevConf::default()
     });
-    let member = AfSpecUnspec::Inet(List::new(got(&rt, Vec::from_array(alloc, [request]))));
+    AfSpecUnspec::Inet(List::new(got(rt, Vec::from_array(alloc, [request]))))
+}
+
+/// A request is read as settings, whose record begins with its attributes.
+#[test]
+fn requests_of_a_family(rt: HostRuntime) {
+    let member = one_request(&rt, rt.alloc());
     let bytes = [16, 0, 2, 0, 12, 0, 1, 0x80, 8, 0, 1, 0, 1, 0, 0, 0];
     writes(&rt, &[member], &bytes);
     let text: [u8; 140] = zeros_behind(&[0x8c, 0, 2, 0, 0x88, 0, 1, 0, 8, 0, 1, 0, 1, 0, 0, 0]);
     rewrites::<AfSpecUnspec>(&rt, &bytes, &text);
 }
 
+/// A list takes these values, one of kind 2 with both flags, and is refused where it is damaged.
+fn keeps<N: NlaRead + Exact + CloneIn>(rt: &impl Abort, alloc: Global, values: &[N]) {
+    refuses_bad_frames::<N>(rt, alloc);
+    let bytes = [5, 0, 2, 0xc0, 7];
+    let text = [5, 0, 2, 0xc0, 7, 0, 0, 0];
+    means(rt, alloc, &bytes, values, &text);
+}
+
 #[test]
 fn kept_members(rt: HostRuntime) {
     let alloc = rt.alloc();
-    refuses_bad_frames::<AfSpecBridge>(&rt, alloc);
-    refuses_bad_frames::<LinkProtoInfoBridge>(&rt, alloc);
-    refuses_bad_frames::<LinkProtoInfoInet6>(&rt, alloc);
-    let bytes = [5, 0, 2, 0xc0, 7];
-    let text = [5, 0, 2, 0xc0, 7, 0, 0, 0];
-    let bridge = AfSpecBridge::Other(kept(&rt, alloc, 2 | 0xc000, &[7]));
-    means(&rt, alloc, &bytes, &[bridge], &text);
-    let port = LinkProtoInfoBridge::Other(kept(&rt, alloc, 2 | 0xc000, &[7]));
-    means(&rt, alloc, &bytes, &[port], &text);
-    let inet6 = LinkProtoInfoInet6::Other(kept(&rt, alloc, 2 | 0xc000, &[7]));
-    means(&rt, alloc, &bytes, &[inet6], &text);
+    let member = kept(&rt, alloc, 2 | 0xc000, &[7]);
+    keeps(&rt, alloc, &[AfSpecBridge::Other(member)]);
+    let member = kept(&rt, alloc, 2 | 0xc000, &[7]);
+    keeps(&rt, alloc, &[LinkProtoInfoBridge::Other(member)]);
+    let member = kept(&rt, alloc, 2 | 0xc000, &[7]);
+    keeps(&rt, alloc, &[LinkProtoInfoInet6::Other(member)]);
 }

@@ -1,6 +1,6 @@
 //! What the tests share.
 
-use link_msg::CanonError;
+use link_msg::{CanonError, same_message};
 use nla_wire::exact::same;
 use nla_wire::{
     Cause, CloneIn, DecodeError, DefaultNla, Exact, Nla, NlaRead, Text, emit_nlas, nlas_buffer_len,
@@ -103,6 +103,19 @@ pub(crate) fn is_copied<N: Exact + CloneIn + Drop>(
     assert!(rt; same(&got(rt, value.clone(alloc)), wanted));
 }
 
+/// The values are these, and so are copies of them.
+fn are_copied<N: Exact + CloneIn + Drop>(
+    rt: &impl Abort,
+    alloc: Global,
+    values: &[N],
+    wanted: &[N],
+) {
+    assert!(rt; values.len() == wanted.len());
+    for (value, wanted) in values.iter().zip(wanted) {
+        is_copied(rt, alloc, value, wanted);
+    }
+}
+
 /// A list means these values, which are written as the text.
 pub(crate) fn means<N: NlaRead + Exact + CloneIn>(
     rt: &impl Abort,
@@ -112,10 +125,7 @@ pub(crate) fn means<N: NlaRead + Exact + CloneIn>(
     text: &[u8],
 ) {
     let values = got(rt, N::parse_list(alloc, bytes));
-    assert!(rt; values.len() == wanted.len());
-    for (value, wanted) in values.iter().zip(wanted) {
-        is_copied(rt, alloc, value, wanted);
-    }
+    are_copied(rt, alloc, values.as_slice(), wanted);
     writes(rt, wanted, text);
     rewrites::<N>(rt, bytes, text);
 }
@@ -141,4 +151,29 @@ pub(crate) fn is_refused<T: Drop>(
         Err(error) => Some(error.number()),
     };
     assert!(rt; number == wanted);
+}
+
+/// So many bytes were written, which begin with these.
+pub(crate) fn wrote(rt: &impl Abort, len: Option<usize>, wanted: usize, out: &[u8], front: &[u8]) {
+    assert!(rt; len == Some(wanted));
+    begin(rt, out, front);
+}
+
+/// Whether two messages mean the same.
+pub(crate) fn are_same(rt: &impl Abort, alloc: Global, one: &[u8], other: &[u8], wanted: bool) {
+    assert!(rt; got(rt, same_message(alloc, one, other)) == wanted);
+}
+
+/// An attribute of this kind fits, and its value is written as these bytes, at the end of a longer buffer too.
+pub(crate) fn has_value<N: Nla>(rt: &impl Abort, nla: &N, kind: u16, value: &[u8; 8]) {
+    assert!(rt; nla.fits());
+    assert!(rt; nla.kind() == kind);
+    assert!(rt; nla.value_len() == 8);
+    let mut exact = [255; 8];
+    nla.emit_value(&mut exact);
+    are(rt, &exact, value);
+    let mut longer = [255; 10];
+    assert!(rt; nla.fill_value(&mut longer) == 2);
+    begin(rt, &longer, &[255, 255]);
+    are(rt, &longer[2..], value);
 }

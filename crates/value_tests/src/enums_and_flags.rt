@@ -1,11 +1,14 @@
+use crate::testing::{are, got, is_same, means, prints, refuses};
 use bitflags::Flags;
 use link_vals::*;
+use nla_wire::Cause;
 use nla_wire::exact::same;
+use std::alloc::Global;
+use std::process::Abort;
 use std::str::FromStr;
-use std::test::Fail;
 
 #[test]
-fn numbers_of_one_byte(rt: HostRuntime) {
+fn numbers_of_families(rt: HostRuntime) {
     for (number, family) in [
         (0, AddressFamily::Unspec),
         (2, AddressFamily::Inet),
@@ -14,10 +17,13 @@ fn numbers_of_one_byte(rt: HostRuntime) {
         (45, AddressFamily::Mctp),
         (17, AddressFamily::Other(17)),
     ] {
-        assert_eq!(rt; AddressFamily::from(number), family);
-        assert_eq!(rt; u8::from(family), number);
+        means::<u8, AddressFamily>(&rt, number, family, number);
     }
-    assert_eq!(rt; AddressFamily::default(), AddressFamily::Unspec);
+    assert!(rt; AddressFamily::default() == AddressFamily::Unspec);
+}
+
+#[test]
+fn numbers_of_attachments(rt: HostRuntime) {
     for (number, attached) in [
         (0, XdpAttached::None),
         (1, XdpAttached::Driver),
@@ -26,36 +32,38 @@ fn numbers_of_one_byte(rt: HostRuntime) {
         (4, XdpAttached::Multiple),
         (5, XdpAttached::Other(5)),
     ] {
-        assert_eq!(rt; XdpAttached::try_from(number).ok(), Some(attached));
-        assert_eq!(rt; u8::from(attached), number);
+        is_same(&rt, &got(&rt, XdpAttached::try_from(number)), &attached);
+        assert!(rt; u8::from(attached) == number);
     }
 }
 
 #[test]
-fn numbers_of_more_bytes(rt: HostRuntime) {
+fn numbers_of_states(rt: HostRuntime) {
     for (number, state) in [
         (0, VfLinkState::Auto),
         (1, VfLinkState::Enable),
         (2, VfLinkState::Disable),
         (70_000, VfLinkState::Other(70_000)),
     ] {
-        assert_eq!(rt; VfLinkState::from(number), state);
-        assert_eq!(rt; u32::from(state), number);
+        means::<u32, VfLinkState>(&rt, number, state, number);
     }
-    assert_eq!(rt; VfLinkState::default(), VfLinkState::Auto);
+    assert!(rt; VfLinkState::default() == VfLinkState::Auto);
+}
+
+#[test]
+fn numbers_of_protocols(rt: HostRuntime) {
     for (number, protocol, written) in [
         (0x8100, VlanProtocol::Ieee8021Q, 0x8100),
         (0x88a8, VlanProtocol::Ieee8021Ad, 0x88a8),
         (0x9100, VlanProtocol::Ieee8021Q, 0x8100),
     ] {
-        assert_eq!(rt; VlanProtocol::from(number), protocol);
-        assert_eq!(rt; u16::from(protocol), written);
+        means::<u16, VlanProtocol>(&rt, number, protocol, written);
     }
-    assert_eq!(rt; VlanProtocol::default(), VlanProtocol::Ieee8021Q);
+    assert!(rt; VlanProtocol::default() == VlanProtocol::Ieee8021Q);
 }
 
 #[test]
-fn events(rt: HostRuntime) -> Result<(), Fail> {
+fn numbers_of_events(rt: HostRuntime) {
     for (number, event) in [
         (0, LinkEvent::None),
         (1, LinkEvent::Reboot),
@@ -66,125 +74,147 @@ fn events(rt: HostRuntime) -> Result<(), Fail> {
         (6, LinkEvent::BondingOptions),
         (7, LinkEvent::Other(7)),
     ] {
-        assert_eq!(rt; LinkEvent::from(number), event);
-        assert_eq!(rt; u32::from(event), number);
+        means::<u32, LinkEvent>(&rt, number, event, number);
     }
-    assert_eq!(rt; LinkEvent::default(), LinkEvent::None);
-    let event = LinkEvent::parse(&[5, 0, 0, 0])?;
-    assert_eq!(rt; event, LinkEvent::IgmpResend);
-    assert_eq!(rt; event.buffer_len(), 4);
+    assert!(rt; LinkEvent::default() == LinkEvent::None);
+}
+
+#[test]
+fn payloads_of_events(rt: HostRuntime) {
+    let event = got(&rt, LinkEvent::parse(&[5, 0, 0, 0]));
+    assert!(rt; event == LinkEvent::IgmpResend);
+    assert!(rt; event.buffer_len() == 4);
     let mut buffer = [255; 6];
     event.emit(&mut buffer);
-    assert_eq!(rt; buffer, [5, 0, 0, 0, 255, 255]);
-    let refused = LinkEvent::parse(&[5, 0]).err().map(|e| e.cause);
-    assert_eq!(rt;
-        refused,
-        Some(nla_wire::Cause::WrongLength { got: 2, want: 4 })
-    );
-    Ok(())
+    are(&rt, &buffer, &[5, 0, 0, 0, 255, 255]);
+    let short = Cause::WrongLength { got: 2, want: 4 };
+    refuses(&rt, LinkEvent::parse(&[5, 0]), short);
 }
 
-#[test]
-fn layer_types(rt: HostRuntime) -> Result<(), Fail> {
-    let texts: &[(u16, &str)] = &[
-        (0, "NETROM"),
-        (1, "ETHER"),
-        (2, "EETHER"),
-        (3, "AX25"),
-        (4, "PRONET"),
-        (5, "CHAOS"),
-        (6, "IEEE802"),
-        (7, "ARCNET"),
-        (8, "APPLETLK"),
-        (15, "DLCI"),
-        (19, "ATM"),
-        (23, "METRICOM"),
-        (24, "IEEE1394"),
-        (27, "EUI64"),
-        (32, "INFINIBAND"),
-        (256, "SLIP"),
-        (257, "CSLIP"),
-        (258, "SLIP6"),
-        (259, "CSLIP6"),
-        (260, "RSRVD"),
-        (264, "ADAPT"),
-        (270, "ROSE"),
-        (271, "X25"),
-        (272, "HWX25"),
-        (280, "CAN"),
-        (290, "MCTP"),
-        (512, "PPP"),
-        (513, "HDLC"),
-        (516, "LAPB"),
-        (517, "DDCMP"),
-        (518, "RAWHDLC"),
-        (519, "RAWIP"),
-        (768, "TUNNEL"),
-        (769, "TUNNEL6"),
-        (770, "FRAD"),
-        (771, "SKIP"),
-        (772, "LOOPBACK"),
-        (773, "LOCALTLK"),
-        (774, "FDDI"),
-        (775, "BIF"),
-        (776, "SIT"),
-        (777, "IPDDP"),
-        (778, "IPGRE"),
-        (779, "PIMREG"),
-        (780, "HIPPI"),
-        (781, "ASH"),
-        (782, "ECONET"),
-        (783, "IRDA"),
-        (784, "FCPP"),
-        (785, "FCAL"),
-        (786, "FCPL"),
-        (787, "FCFABRIC"),
-        (800, "IEEE802_TR"),
-        (801, "IEEE80211"),
-        (802, "IEEE80211_PRISM"),
-        (803, "IEEE80211_RADIOTAP"),
-        (804, "IEEE802154"),
-        (805, "IEEE802154_MONITOR"),
-        (820, "PHONET"),
-        (821, "PHONET_PIPE"),
-        (822, "CAIF"),
-        (823, "IP6GRE"),
-        (824, "NETLINK"),
-        (825, "6LOWPAN"),
-        (826, "VSOCKMON"),
-        (65534, "NONE"),
-        (65535, "VOID"),
-    ];
-    for (number, text) in texts {
+/// Layer types by their numbers, and their texts.
+const LAYER_TYPES_BELOW_256: &[(u16, &str)] = &[
+    (0, "NETROM"),
+    (1, "ETHER"),
+    (2, "EETHER"),
+    (3, "AX25"),
+    (4, "PRONET"),
+    (5, "CHAOS"),
+    (6, "IEEE802"),
+    (7, "ARCNET"),
+    (8, "APPLETLK"),
+    (15, "DLCI"),
+    (19, "ATM"),
+    (23, "METRICOM"),
+    (24, "IEEE1394"),
+    (27, "EUI64"),
+    (32, "INFINIBAND"),
+];
+
+/// The next of them.
+const LAYER_TYPES_FROM_256: &[(u16, &str)] = &[
+    (256, "SLIP"),
+    (257, "CSLIP"),
+    (258, "SLIP6"),
+    (259, "CSLIP6"),
+    (260, "RSRVD"),
+    (264, "ADAPT"),
+    (270, "ROSE"),
+    (271, "X25"),
+    (272, "HWX25"),
+    (280, "CAN"),
+    (290, "MCTP"),
+    (512, "PPP"),
+    (513, "HDLC"),
+    (516, "LAPB"),
+    (517, "DDCMP"),
+    (518, "RAWHDLC"),
+    (519, "RAWIP"),
+];
+
+/// The next of them.
+const LAYER_TYPES_FROM_768: &[(u16, &str)] = &[
+    (768, "TUNNEL"),
+    (769, "TUNNEL6"),
+    (770, "FRAD"),
+    (771, "SKIP"),
+    (772, "LOOPBACK"),
+    (773, "LOCALTLK"),
+    (774, "FDDI"),
+    (775, "BIF"),
+    (776, "SIT"),
+    (777, "IPDDP"),
+    (778, "IPGRE"),
+    (779, "PIMREG"),
+    (780, "HIPPI"),
+    (781, "ASH"),
+    (782, "ECONET"),
+    (783, "IRDA"),
+    (784, "FCPP"),
+    (785, "FCAL"),
+    (786, "FCPL"),
+    (787, "FCFABRIC"),
+];
+
+/// The last of them.
+const LAYER_TYPES_FROM_800: &[(u16, &str)] = &[
+    (800, "IEEE802_TR"),
+    (801, "IEEE80211"),
+    (802, "IEEE80211_PRISM"),
+    (803, "IEEE80211_RADIOTAP"),
+    (804, "IEEE802154"),
+    (805, "IEEE802154_MONITOR"),
+    (820, "PHONET"),
+    (821, "PHONET_PIPE"),
+    (822, "CAIF"),
+    (823, "IP6GRE"),
+    (824, "NETLINK"),
+    (825, "6LOWPAN"),
+    (826, "VSOCKMON"),
+    (65534, "NONE"),
+    (65535, "VOID"),
+];
+
+/// Layer types have these numbers and texts.
+fn are_layer_types(rt: &impl Abort, alloc: Global, rows: &[(u16, &str)]) {
+    for (number, text) in rows {
         let layer_type = LinkLayerType::from(*number);
-        assert_eq!(rt; u16::from(layer_type), *number);
-        assert_eq!(rt; format!(in rt.alloc(); "{layer_type}")?.as_str(), *text);
+        assert!(rt; u16::from(layer_type) == *number);
+        prints(rt, alloc, &layer_type, text);
     }
-    assert_eq!(rt; LinkLayerType::from(7777), LinkLayerType::Void);
-    assert_eq!(rt; LinkLayerType::default(), LinkLayerType::Netrom);
-    assert_eq!(rt; LinkLayerType::Cisco, LinkLayerType::Hdlc);
-    assert!(rt; same(&LinkLayerType::Ether, &LinkLayerType::from(1)));
-    Ok(())
 }
 
 #[test]
-fn modes(rt: HostRuntime) -> Result<(), Fail> {
+fn layer_types(rt: HostRuntime) {
+    are_layer_types(&rt, rt.alloc(), LAYER_TYPES_BELOW_256);
+    are_layer_types(&rt, rt.alloc(), LAYER_TYPES_FROM_256);
+    are_layer_types(&rt, rt.alloc(), LAYER_TYPES_FROM_768);
+    are_layer_types(&rt, rt.alloc(), LAYER_TYPES_FROM_800);
+}
+
+#[test]
+fn names_of_layer_types(rt: HostRuntime) {
+    assert!(rt; LinkLayerType::from(7777) == LinkLayerType::Void);
+    assert!(rt; LinkLayerType::default() == LinkLayerType::Netrom);
+    assert!(rt; LinkLayerType::Cisco == LinkLayerType::Hdlc);
+    assert!(rt; same(&LinkLayerType::Ether, &LinkLayerType::from(1)));
+}
+
+#[test]
+fn modes(rt: HostRuntime) {
     for (number, mode, text) in [
         (0, LinkMode::Default, "DEFAULT"),
         (1, LinkMode::Dormant, "DORMANT"),
         (2, LinkMode::Testing, "TESTING"),
         (7, LinkMode::Other(7), "UNKNOWN:7"),
     ] {
-        assert_eq!(rt; LinkMode::from(number), mode);
-        assert_eq!(rt; u8::from(mode), number);
-        assert_eq!(rt; format!(in rt.alloc(); "{mode}")?.as_str(), text);
+        means::<u8, LinkMode>(&rt, number, mode, number);
+        prints(&rt, rt.alloc(), &mode, text);
     }
-    assert_eq!(rt; LinkMode::default(), LinkMode::Default);
-    Ok(())
+    assert!(rt; LinkMode::default() == LinkMode::Default);
 }
 
 #[test]
-fn states(rt: HostRuntime) -> Result<(), Fail> {
+fn states(rt: HostRuntime) {
     for (number, state, text) in [
         (0, State::Unknown, "UNKNOWN"),
         (1, State::NotPresent, "NOTPRESENT"),
@@ -193,31 +223,47 @@ fn states(rt: HostRuntime) -> Result<(), Fail> {
         (4, State::Testing, "TESTING"),
         (5, State::Dormant, "DORMANT"),
         (6, State::Up, "UP"),
+        (7, State::Other(7), "7"),
     ] {
-        assert_eq!(rt; State::from(number), state);
-        assert_eq!(rt; u8::from(state), number);
-        assert_eq!(rt; format!(in rt.alloc(); "{state}")?.as_str(), text);
-        assert_eq!(rt; State::from_str(text).ok(), Some(state));
+        means::<u8, State>(&rt, number, state, number);
+        prints(&rt, rt.alloc(), &state, text);
     }
-    assert_eq!(rt; State::from(7), State::Other(7));
-    assert_eq!(rt; u8::from(State::Other(7)), 7);
-    assert_eq!(rt;
-        format!(in rt.alloc(); "{}", State::Other(7))?.as_str(),
-        "7"
-    );
-    assert_eq!(rt;
-        State::from_str("LowerLayerDown").ok(),
-        Some(State::LowerLayerDown)
-    );
-    for text in ["7", "", "UP ", "lower"] {
-        let refused = State::from_str(text).err().map(|e| e.number());
-        assert_eq!(rt; refused, Some(8), "{text}");
-    }
-    Ok(())
 }
 
 #[test]
-fn modes_of_addresses(rt: HostRuntime) -> Result<(), Fail> {
+fn names_of_states(rt: HostRuntime) {
+    for (text, state) in [
+        ("UNKNOWN", State::Unknown),
+        ("NOTPRESENT", State::NotPresent),
+        ("DOWN", State::Down),
+        ("LOWERLAYERDOWN", State::LowerLayerDown),
+        ("TESTING", State::Testing),
+        ("DORMANT", State::Dormant),
+        ("UP", State::Up),
+        ("LowerLayerDown", State::LowerLayerDown),
+    ] {
+        is_same(&rt, &got(&rt, State::from_str(text)), &state);
+    }
+}
+
+#[test]
+fn names_of_no_states(rt: HostRuntime) {
+    for text in ["7", "", "UP ", "lower"] {
+        refuses(&rt, State::from_str(text), Cause::InvalidState);
+    }
+}
+
+/// A number means this value, which is written as the number.
+fn is_numbered<'a, T: Copy + PartialEq + From<u8>>(rt: &impl Abort, number: u8, value: &'a T)
+where
+    u8: From<&'a T>,
+{
+    assert!(rt; T::from(number) == *value);
+    assert!(rt; u8::from(value) == number);
+}
+
+#[test]
+fn modes_of_addresses(rt: HostRuntime) {
     for (number, mode, text) in [
         (0, In6AddrGenMode::Eui64, "eui64"),
         (1, In6AddrGenMode::None, "none"),
@@ -225,16 +271,14 @@ fn modes_of_addresses(rt: HostRuntime) -> Result<(), Fail> {
         (3, In6AddrGenMode::Random, "random"),
         (9, In6AddrGenMode::Other(9), "other(9)"),
     ] {
-        assert_eq!(rt; In6AddrGenMode::from(number), mode);
-        assert_eq!(rt; u8::from(&mode), number);
-        assert_eq!(rt; format!(in rt.alloc(); "{mode}")?.as_str(), text);
+        is_numbered(&rt, number, &mode);
+        prints(&rt, rt.alloc(), &mode, text);
     }
-    assert_eq!(rt; In6AddrGenMode::default(), In6AddrGenMode::Eui64);
-    Ok(())
+    assert!(rt; In6AddrGenMode::default() == In6AddrGenMode::Eui64);
 }
 
 #[test]
-fn physical_bindings(rt: HostRuntime) -> Result<(), Fail> {
+fn physical_bindings(rt: HostRuntime) {
     for (number, binding, text) in [
         (1, MctpPhysBinding::Smbus, "SMBus"),
         (2, MctpPhysBinding::PcieVdm, "PCIe VDM"),
@@ -248,11 +292,9 @@ fn physical_bindings(rt: HostRuntime) -> Result<(), Fail> {
         (255, MctpPhysBinding::Vendor, "Vendor"),
         (10, MctpPhysBinding::Other(10), "other(10)"),
     ] {
-        assert_eq!(rt; MctpPhysBinding::from(number), binding);
-        assert_eq!(rt; u8::from(&binding), number);
-        assert_eq!(rt; format!(in rt.alloc(); "{binding}")?.as_str(), text);
+        is_numbered(&rt, number, &binding);
+        prints(&rt, rt.alloc(), &binding, text);
     }
-    Ok(())
 }
 
 #[test]
@@ -265,44 +307,35 @@ fn extent_flags(rt: HostRuntime) {
         (3, Other(3)),
         (256, Other(256)),
     ] {
-        assert_eq!(rt; LinkExtentMask::from(number), flag);
-        assert_eq!(rt; u32::from(flag), number);
+        means::<u32, LinkExtentMask>(&rt, number, flag, number);
     }
 }
 
 #[test]
-fn extent_lists(rt: HostRuntime) -> Result<(), Fail> {
+fn extent_lists(rt: HostRuntime) {
     use LinkExtentMask::{Mst, Other, SkipStats, Vf};
-    for (mask, list) in [
+    for (mask, wanted) in [
         (0x109, &[Vf, SkipStats, Other(256)][..]),
         (0, &[]),
         (0x81, &[Vf, Mst]),
     ] {
-        assert_eq!(rt;
-            LinkExtentMask::list_from(rt.alloc(), mask)?.as_slice(),
-            list
-        );
+        let list = got(&rt, LinkExtentMask::list_from(rt.alloc(), mask));
+        assert!(rt; list.as_slice() == wanted);
     }
-    Ok(())
 }
 
 #[test]
 fn extent_sums(rt: HostRuntime) {
     use LinkExtentMask::{Other, Vf};
-    for (list, fits) in [
-        (&[Vf, Vf][..], true),
-        (&[Other(4_294_967_295), Vf], false),
-        (&[], true),
-    ] {
-        assert_eq!(rt; LinkExtentMask::sum_fits(list), fits);
-    }
+    assert!(rt; LinkExtentMask::sum_fits(&[]));
+    assert!(rt; !LinkExtentMask::sum_fits(&[Other(4_294_967_295), Vf]));
     let twice = [Vf, Vf];
     assert!(rt; LinkExtentMask::sum_fits(&twice));
-    assert_eq!(rt; LinkExtentMask::sum(&twice), 2);
+    assert!(rt; LinkExtentMask::sum(&twice) == 2);
 }
 
 #[test]
-fn link_flag_texts(rt: HostRuntime) -> Result<(), Fail> {
+fn link_flag_texts(rt: HostRuntime) {
     for (bits, text) in [
         (0, ""),
         (0x11043, "Up | Broadcast | Running | Multicast | LowerUp"),
@@ -318,70 +351,85 @@ fn link_flag_texts(rt: HostRuntime) -> Result<(), Fail> {
         ),
     ] {
         let flags = LinkFlags::from_bits_retain(bits);
-        assert_eq!(rt; flags.bits(), bits);
-        assert_eq!(rt; format!(in rt.alloc(); "{flags}")?.as_str(), text);
+        assert!(rt; flags.bits() == bits);
+        prints(&rt, rt.alloc(), &flags, text);
     }
-    Ok(())
 }
 
 #[test]
 fn link_flag_names(rt: HostRuntime) {
-    assert_eq!(rt; (LinkFlags::Up | LinkFlags::Running).bits(), 65);
     for (name, flag) in [
         ("Up", Some(LinkFlags::Up)),
         ("Echo", Some(LinkFlags::Echo)),
         ("up", None),
         ("", None),
     ] {
-        assert_eq!(rt; LinkFlags::from_name(name), flag);
+        is_same(&rt, &LinkFlags::from_name(name), &flag);
     }
-    assert_eq!(rt; LinkFlags::default(), LinkFlags::empty());
-    assert_eq!(rt; <LinkFlags as Flags>::all(), LinkFlags::all());
-    assert!(rt; same(&LinkFlags::Echo, &LinkFlags::from_bits_truncate(0x40000)));
+}
+
+#[test]
+fn link_flag_sets(rt: HostRuntime) {
+    assert!(rt; (LinkFlags::Up | LinkFlags::Running).bits() == 65);
+    is_same(&rt, &LinkFlags::default(), &LinkFlags::empty());
+    is_same(&rt, &<LinkFlags as Flags>::all(), &LinkFlags::all());
+    let echo = LinkFlags::from_bits_truncate(0x40000);
+    assert!(rt; same(&LinkFlags::Echo, &echo));
 }
 
 #[test]
 fn link_flag_operators(rt: HostRuntime) {
     let two = LinkFlags::Up | LinkFlags::Debug;
     let other = LinkFlags::Debug | LinkFlags::Loopback;
-    for (found, bits) in [
-        (two & other, 4),
-        (two ^ other, 9),
-        (two - other, 1),
-        (!two, 0xffff_fffa),
-        (two.union(other), 13),
-        (two.intersection(other), 4),
-        (two.symmetric_difference(other), 9),
-        (two.difference(other), 1),
-        (two.complement(), 0xffff_fffa),
-        (LinkFlags::all(), 0xffff_ffff),
-        (LinkFlags::from_bits_retain(3), 3),
-        (LinkFlags::from_bits_truncate(3), 3),
-    ] {
-        assert_eq!(rt; found.bits(), bits);
-    }
+    let found = [
+        (two & other).bits(),
+        (two ^ other).bits(),
+        (two - other).bits(),
+        (!two).bits(),
+        two.union(other).bits(),
+        two.intersection(other).bits(),
+        two.symmetric_difference(other).bits(),
+        two.difference(other).bits(),
+        two.complement().bits(),
+        LinkFlags::all().bits(),
+        LinkFlags::from_bits_retain(3).bits(),
+        LinkFlags::from_bits_truncate(3).bits(),
+    ];
+    let wanted = [
+        4,
+        9,
+        1,
+        0xffff_fffa,
+        13,
+        4,
+        9,
+        1,
+        0xffff_fffa,
+        0xffff_ffff,
+        3,
+        3,
+    ];
+    is_same(&rt, &found, &wanted);
 }
 
 #[test]
 fn link_flag_tests(rt: HostRuntime) {
     let two = LinkFlags::Up | LinkFlags::Debug;
     let other = LinkFlags::Debug | LinkFlags::Loopback;
-    assert_eq!(rt;
-        LinkFlags::from_bits(3),
-        Some(LinkFlags::from_bits_retain(3))
-    );
-    for (answer, expected) in [
-        (two.contains(LinkFlags::Up), true),
-        (two.contains(other), false),
-        (two.intersects(other), true),
-        (two.intersects(LinkFlags::Loopback), false),
-        (LinkFlags::empty().is_empty(), true),
-        (two.is_empty(), false),
-        (LinkFlags::all().is_all(), true),
-        (two.is_all(), false),
-    ] {
-        assert_eq!(rt; answer, expected);
-    }
+    let answers = [
+        two.contains(LinkFlags::Up),
+        two.contains(other),
+        two.intersects(other),
+        two.intersects(LinkFlags::Loopback),
+        LinkFlags::empty().is_empty(),
+        two.is_empty(),
+        LinkFlags::all().is_all(),
+        two.is_all(),
+    ];
+    let wanted = [true, false, true, false, true, false, true, false];
+    is_same(&rt, &answers, &wanted);
+    let retained = LinkFlags::from_bits_retain(3);
+    is_same(&rt, &LinkFlags::from_bits(3), &Some(retained));
 }
 
 #[test]
@@ -415,54 +463,65 @@ fn interface_flag_names(rt: HostRuntime) {
         (Inet6IfaceFlags::RsSent, "RsSent", 0x10),
         (Inet6IfaceFlags::Ready, "Ready", 0x8000_0000),
     ] {
-        assert_eq!(rt; flag.bits(), bits);
-        assert_eq!(rt; Inet6IfaceFlags::from_name(name), Some(flag));
+        assert!(rt; flag.bits() == bits);
+        is_same(&rt, &Inet6IfaceFlags::from_name(name), &Some(flag));
     }
-    assert_eq!(rt; Inet6IfaceFlags::from_name("ready"), None);
+    is_same(&rt, &Inet6IfaceFlags::from_name("ready"), &None);
 }
 
 #[test]
 fn interface_flag_operators(rt: HostRuntime) {
     let two = Inet6IfaceFlags::Otherconf | Inet6IfaceFlags::Ready;
     let other = Inet6IfaceFlags::Ready | Inet6IfaceFlags::RsSent;
-    for (found, bits) in [
-        (two & other, 0x8000_0000),
-        (two ^ other, 0x90),
-        (two - other, 0x80),
-        (!two, 0x7fff_ff7f),
-        (two.union(other), 0x8000_0090),
-        (two.intersection(other), 0x8000_0000),
-        (two.symmetric_difference(other), 0x90),
-        (two.difference(other), 0x80),
-        (two.complement(), 0x7fff_ff7f),
-        (Inet6IfaceFlags::all(), 0xffff_ffff),
-        (Inet6IfaceFlags::from_bits_retain(3), 3),
-        (Inet6IfaceFlags::from_bits_truncate(3), 3),
-    ] {
-        assert_eq!(rt; found.bits(), bits);
-    }
+    let found = [
+        (two & other).bits(),
+        (two ^ other).bits(),
+        (two - other).bits(),
+        (!two).bits(),
+        two.union(other).bits(),
+        two.intersection(other).bits(),
+        two.symmetric_difference(other).bits(),
+        two.difference(other).bits(),
+        two.complement().bits(),
+        Inet6IfaceFlags::all().bits(),
+        Inet6IfaceFlags::from_bits_retain(3).bits(),
+        Inet6IfaceFlags::from_bits_truncate(3).bits(),
+    ];
+    let wanted = [
+        0x8000_0000,
+        0x90,
+        0x80,
+        0x7fff_ff7f,
+        0x8000_0090,
+        0x8000_0000,
+        0x90,
+        0x80,
+        0x7fff_ff7f,
+        0xffff_ffff,
+        3,
+        3,
+    ];
+    is_same(&rt, &found, &wanted);
 }
 
 #[test]
 fn interface_flag_tests(rt: HostRuntime) {
     let two = Inet6IfaceFlags::Otherconf | Inet6IfaceFlags::Ready;
     let other = Inet6IfaceFlags::Ready | Inet6IfaceFlags::RsSent;
-    assert_eq!(rt;
-        Inet6IfaceFlags::from_bits(3),
-        Some(Inet6IfaceFlags::from_bits_retain(3))
-    );
-    for (answer, expected) in [
-        (two.contains(Inet6IfaceFlags::Otherconf), true),
-        (two.contains(other), false),
-        (two.intersects(other), true),
-        (two.intersects(Inet6IfaceFlags::RsSent), false),
-        (Inet6IfaceFlags::empty().is_empty(), true),
-        (two.is_empty(), false),
-        (Inet6IfaceFlags::all().is_all(), true),
-        (two.is_all(), false),
-    ] {
-        assert_eq!(rt; answer, expected);
-    }
+    let answers = [
+        two.contains(Inet6IfaceFlags::Otherconf),
+        two.contains(other),
+        two.intersects(other),
+        two.intersects(Inet6IfaceFlags::RsSent),
+        Inet6IfaceFlags::empty().is_empty(),
+        two.is_empty(),
+        Inet6IfaceFlags::all().is_all(),
+        two.is_all(),
+    ];
+    let wanted = [true, false, true, false, true, false, true, false];
+    is_same(&rt, &answers, &wanted);
+    let retained = Inet6IfaceFlags::from_bits_retain(3);
+    is_same(&rt, &Inet6IfaceFlags::from_bits(3), &Some(retained));
 }
 
 #[test]
@@ -488,31 +547,27 @@ fn interface_flag_assignments(rt: HostRuntime) {
 }
 
 #[test]
-fn physical_ids(rt: HostRuntime) -> Result<(), Fail> {
+fn physical_ids(rt: HostRuntime) {
     let mut payload = [7; 33];
     payload[32] = 9;
-    let id = LinkPhysId::parse(&payload)?;
-    assert_eq!(rt;
-        id,
-        LinkPhysId {
-            id: [7; 32],
-            len: 32
-        }
-    );
+    let id = got(&rt, LinkPhysId::parse(&payload));
+    are(&rt, &id.id, &[7; 32]);
+    assert!(rt; id.len == 32);
     assert!(rt; id.fits());
-    assert!(rt;
-        !LinkPhysId {
-            id: [7; 32],
-            len: 33
-        }
-        .fits()
-    );
-    let short = LinkPhysId::parse(&[1, 2])?;
-    assert_eq!(rt; short.len, 2);
-    assert_eq!(rt; short.buffer_len(), 2);
-    assert_eq!(rt; &short.id[..4], [1, 2, 0, 0].as_slice());
+    let long = LinkPhysId {
+        id: [7; 32],
+        len: 33,
+    };
+    assert!(rt; !long.fits());
+}
+
+#[test]
+fn short_physical_ids(rt: HostRuntime) {
+    let short = got(&rt, LinkPhysId::parse(&[1, 2]));
+    assert!(rt; short.len == 2);
+    assert!(rt; short.buffer_len() == 2);
+    are(&rt, &short.id[..4], &[1, 2, 0, 0]);
     let mut buffer = [255; 4];
     short.emit(&mut buffer);
-    assert_eq!(rt; buffer, [1, 2, 255, 255]);
-    Ok(())
+    are(&rt, &buffer, &[1, 2, 255, 255]);
 }

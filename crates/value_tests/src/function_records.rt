@@ -1,166 +1,176 @@
+use crate::testing::{are, got, is_read, is_same, prints_as, too_few};
 use link_vals::{VfLinkState, VlanProtocol};
 use link_vfrec::*;
-use nla_wire::Cause;
 
-/// Offsets of `struct ifla_vf_vlan`, `struct ifla_vf_tx_rate`, `struct ifla_vf_rate` and `struct
-/// ifla_vf_guid`, linux/if_link.h.
+/// Three numbers.
+const NUMBERS: [u8; 12] = [1, 0, 0, 0, 0xff, 0x0f, 0, 0, 7, 0, 0, 128];
+
+/// Offsets of `struct ifla_vf_vlan`, linux/if_link.h.
 #[test]
-fn numbers_stand_at_their_offsets(rt: HostRuntime) {
-    let bytes = [1, 0, 0, 0, 0xff, 0x0f, 0, 0, 7, 0, 0, 128];
+fn vlans_stand_at_their_offsets(rt: HostRuntime) {
     let vlan = VfInfoVlan::new(1, 4095, 0x8000_0007);
-    assert_eq!(rt; VfInfoVlan::parse(&bytes), Ok(vlan));
-    assert_eq!(rt; VfInfoVlanBuffer::from(&vlan).as_bytes(), &bytes[..]);
-    let rate = VfInfoRate::new(1, 4095, 0x8000_0007);
-    assert_eq!(rt; VfInfoRate::parse(&bytes), Ok(rate));
-    assert_eq!(rt; VfInfoRateBuffer::from(&rate).as_bytes(), &bytes[..]);
-    let rate = VfInfoTxRate::new(1, 4095);
-    assert_eq!(rt; VfInfoTxRate::parse(&bytes), Ok(rate));
-    assert_eq!(rt; VfInfoTxRateBuffer::from(&rate).as_bytes(), &bytes[..8]);
+    is_read(&rt, VfInfoVlan::parse(&NUMBERS), &vlan);
+    are(&rt, VfInfoVlanBuffer::from(&vlan).as_bytes(), &NUMBERS);
+}
 
+/// Offsets of `struct ifla_vf_rate` and `struct ifla_vf_tx_rate`, linux/if_link.h.
+#[test]
+fn rates_stand_at_their_offsets(rt: HostRuntime) {
+    let rate = VfInfoRate::new(1, 4095, 0x8000_0007);
+    is_read(&rt, VfInfoRate::parse(&NUMBERS), &rate);
+    are(&rt, VfInfoRateBuffer::from(&rate).as_bytes(), &NUMBERS);
+    let rate = VfInfoTxRate::new(1, 4095);
+    is_read(&rt, VfInfoTxRate::parse(&NUMBERS), &rate);
+    are(
+        &rt,
+        VfInfoTxRateBuffer::from(&rate).as_bytes(),
+        &NUMBERS[..8],
+    );
+}
+
+/// Offsets of `struct ifla_vf_guid`, linux/if_link.h.
+#[test]
+fn guids_stand_at_their_offsets(rt: HostRuntime) {
     let bytes = [2, 0, 0, 0, 255, 255, 255, 255, 1, 0, 0, 0, 0, 0, 0, 0];
     let text = [2, 0, 0, 0, 0, 0, 0, 0, 1, 0, 0, 0, 0, 0, 0, 0];
     let guid = VfInfoGuid::new(2, 1);
-    assert_eq!(rt; VfInfoGuid::parse(&bytes), Ok(guid));
-    assert_eq!(rt; VfInfoGuidBuffer::from(&guid).as_bytes(), &text[..]);
+    is_read(&rt, VfInfoGuid::parse(&bytes), &guid);
+    are(&rt, VfInfoGuidBuffer::from(&guid).as_bytes(), &text);
 }
 
-/// Offsets of `struct ifla_vf_mac` and `struct ifla_vf_broadcast`, linux/if_link.h.
+/// Offsets of `struct ifla_vf_mac`, linux/if_link.h.
 #[test]
-fn addresses_are_cut_or_filled(rt: HostRuntime) {
-    let mut address = [0; 32];
-    address[..6].copy_from_slice(&[2, 0, 0, 0, 0, 9]);
+fn addresses_are_filled(rt: HostRuntime) {
+    let mut text = [0; 36];
+    text[..10].copy_from_slice(&[3, 0, 0, 0, 2, 0, 0, 0, 0, 9]);
     let mac = VfInfoMac::new(3, &[2, 0, 0, 0, 0, 9]);
-    assert_eq!(rt; mac.mac, address);
+    are(&rt, &mac.mac, &text[4..]);
     let mut bytes = [0; 36];
     mac.emit(&mut bytes);
-    assert_eq!(rt; &bytes[..4], &[3, 0, 0, 0][..]);
-    assert_eq!(rt; &bytes[4..], &address[..]);
-    assert_eq!(rt; VfInfoMac::parse(&bytes), Ok(mac));
+    are(&rt, &bytes, &text);
+    is_read(&rt, VfInfoMac::parse(&bytes), &mac);
+}
 
+/// `struct ifla_vf_broadcast`, linux/if_link.h.
+#[test]
+fn addresses_are_cut(rt: HostRuntime) {
     let broadcast = VfInfoBroadcast::new(&[255; 33]);
-    assert_eq!(rt; broadcast.addr, [255; 32]);
-    assert_eq!(rt; VfInfoBroadcast::parse(&[255; 40]), Ok(broadcast));
-    assert_eq!(rt;
-        VfInfoBroadcastBuffer::from(&broadcast).as_bytes(),
-        &[255; 32][..]
-    );
+    are(&rt, &broadcast.addr, &[255; 32]);
+    is_read(&rt, VfInfoBroadcast::parse(&[255; 40]), &broadcast);
+    let buffer = VfInfoBroadcastBuffer::from(&broadcast);
+    are(&rt, buffer.as_bytes(), &[255; 32]);
 }
 
 /// The setting of `struct ifla_vf_trust` and its kind, linux/if_link.h: 0 and the number of all
 /// bits are off.
 #[test]
 fn settings_are_on_or_off(rt: HostRuntime) {
-    let table = [
-        ([0, 0, 0, 0], false),
-        ([1, 0, 0, 0], true),
-        ([2, 0, 0, 0], true),
-        ([254, 255, 255, 255], true),
-        ([255, 255, 255, 255], false),
-    ];
-    for (setting, enabled) in table {
-        let mut bytes = [1, 0, 0, 0, 0, 0, 0, 0];
-        bytes[4..].copy_from_slice(&setting);
+    for (bytes, enabled) in [
+        ([1, 0, 0, 0, 0, 0, 0, 0], false),
+        ([1, 0, 0, 0, 1, 0, 0, 0], true),
+        ([1, 0, 0, 0, 2, 0, 0, 0], true),
+        ([1, 0, 0, 0, 254, 255, 255, 255], true),
+        ([1, 0, 0, 0, 255, 255, 255, 255], false),
+    ] {
         let trust = VfInfoTrust::new(1, enabled);
-        assert_eq!(rt; VfInfoTrust::parse(&bytes), Ok(trust));
-        assert_eq!(rt;
-            VfInfoSpoofCheck::parse(&bytes),
-            Ok(VfInfoSpoofCheck::new(1, enabled))
-        );
-        assert_eq!(rt;
-            VfInfoRssQueryEn::parse(&bytes),
-            Ok(VfInfoRssQueryEn::new(1, enabled))
-        );
+        is_read(&rt, VfInfoTrust::parse(&bytes), &trust);
+        let check = VfInfoSpoofCheck::new(1, enabled);
+        is_read(&rt, VfInfoSpoofCheck::parse(&bytes), &check);
+        let query = VfInfoRssQueryEn::new(1, enabled);
+        is_read(&rt, VfInfoRssQueryEn::parse(&bytes), &query);
         let text = [1, 0, 0, 0, u8::from(enabled), 0, 0, 0];
-        assert_eq!(rt; VfInfoTrustBuffer::from(&trust).as_bytes(), &text[..]);
+        are(&rt, VfInfoTrustBuffer::from(&trust).as_bytes(), &text);
     }
 }
 
 #[test]
 fn states_go_through_their_table(rt: HostRuntime) {
-    let table = [
+    for (number, state) in [
         (0, VfLinkState::Auto),
         (1, VfLinkState::Enable),
         (2, VfLinkState::Disable),
         (7, VfLinkState::Other(7)),
-    ];
-    for (number, state) in table {
+    ] {
         let bytes = [4, 0, 0, 0, number, 0, 0, 0];
         let link = VfInfoLinkState::new(4, state);
-        assert_eq!(rt; VfInfoLinkState::parse(&bytes), Ok(link));
-        assert_eq!(rt; VfInfoLinkStateBuffer::from(&link).as_bytes(), &bytes[..]);
+        is_read(&rt, VfInfoLinkState::parse(&bytes), &link);
+        are(&rt, VfInfoLinkStateBuffer::from(&link).as_bytes(), &bytes);
     }
-    assert_eq!(rt;
-        VfInfoLinkState::default(),
-        VfInfoLinkState::new(0, VfLinkState::Auto)
-    );
+    let auto = VfInfoLinkState::new(0, VfLinkState::Auto);
+    is_same(&rt, &VfInfoLinkState::default(), &auto);
 }
 
 /// `struct ifla_vf_vlan_info`, linux/if_link.h: the protocol has its highest byte first.
 #[test]
 fn protocols_are_in_network_order(rt: HostRuntime) {
-    let table = [
+    for (number, protocol, written) in [
         ([0x88, 0xa8], VlanProtocol::Ieee8021Ad, [0x88, 0xa8]),
         ([0x81, 0x00], VlanProtocol::Ieee8021Q, [0x81, 0x00]),
         ([0xa8, 0x88], VlanProtocol::Ieee8021Q, [0x81, 0x00]),
-    ];
-    for (number, protocol, written) in table {
-        let mut bytes = [1, 0, 0, 0, 100, 0, 0, 0, 5, 0, 0, 0, 0, 0, 0x12, 0x34];
-        bytes[12..14].copy_from_slice(&number);
+    ] {
+        let [high, low] = number;
+        let bytes = [1, 0, 0, 0, 100, 0, 0, 0, 5, 0, 0, 0, high, low, 0x12, 0x34];
         let info = VfVlanInfo::new(1, 100, 5, protocol);
-        assert_eq!(rt; VfVlanInfo::parse(&bytes), Ok(info));
-        let mut text = [1, 0, 0, 0, 100, 0, 0, 0, 5, 0, 0, 0, 0, 0, 0, 0];
-        text[12..14].copy_from_slice(&written);
+        is_read(&rt, VfVlanInfo::parse(&bytes), &info);
+        let [high, low] = written;
         let mut buffer = [9; 16];
         info.emit(&mut buffer);
-        assert_eq!(rt; buffer, text);
+        let text = [1, 0, 0, 0, 100, 0, 0, 0, 5, 0, 0, 0, high, low, 0, 0];
+        are(&rt, &buffer, &text);
     }
-    assert_eq!(rt;
-        VfVlanInfo::default(),
-        VfVlanInfo::new(0, 0, 0, VlanProtocol::Ieee8021Q)
-    );
+    let zeros = VfVlanInfo::new(0, 0, 0, VlanProtocol::Ieee8021Q);
+    is_same(&rt, &VfVlanInfo::default(), &zeros);
+}
+
+/// The two bytes behind the protocol are not read, and written as zeros.
+#[test]
+fn padding_of_a_vlan_is_not_read(rt: HostRuntime) {
+    let text = [7, 0, 0, 0, 1, 2, 0, 0, 3, 0, 0, 0, 0x88, 0xa8, 0, 0];
+    let info = VfVlanInfo::new(7, 513, 3, VlanProtocol::Ieee8021Ad);
+    for (first, second) in [(0, 0), (1, 0), (0, 1), (255, 255)] {
+        let mut bytes = text;
+        bytes[14] = first;
+        bytes[15] = second;
+        let read = got(&rt, VfVlanInfo::parse(&bytes));
+        is_same(&rt, &read, &info);
+        read.emit(&mut bytes);
+        are(&rt, &bytes, &text);
+    }
 }
 
 #[test]
-fn short_payloads_are_refused(rt: HostRuntime) {
+fn short_numbers_and_addresses_are_refused(rt: HostRuntime) {
     let zeros = [0; 35];
-    let refused = |got, need| Some(Cause::TooShort { got, need });
-    let causes = [
-        (VfInfoMac::parse(&zeros).err(), 35, 36),
-        (VfInfoBroadcast::parse(&zeros[..31]).err(), 31, 32),
-        (VfInfoVlan::parse(&zeros[..11]).err(), 11, 12),
-        (VfInfoTxRate::parse(&zeros[..7]).err(), 7, 8),
-        (VfInfoRate::parse(&zeros[..11]).err(), 11, 12),
-        (VfInfoSpoofCheck::parse(&zeros[..7]).err(), 7, 8),
-        (VfInfoRssQueryEn::parse(&zeros[..7]).err(), 7, 8),
-        (VfInfoTrust::parse(&zeros[..7]).err(), 7, 8),
-        (VfInfoLinkState::parse(&zeros[..7]).err(), 7, 8),
-        (VfInfoGuid::parse(&zeros[..15]).err(), 15, 16),
-        (VfVlanInfo::parse(&[]).err(), 0, 16),
-        (VfInfoGuidBuffer::read_from_prefix(&zeros[..3]).err(), 3, 16),
-    ];
-    for (fault, got, need) in causes {
-        assert_eq!(rt; fault.map(|e| e.cause), refused(got, need));
-    }
+    too_few(&rt, VfInfoMac::parse(&zeros), 35, 36);
+    too_few(&rt, VfInfoBroadcast::parse(&zeros[..31]), 31, 32);
+    too_few(&rt, VfInfoVlan::parse(&zeros[..11]), 11, 12);
+    too_few(&rt, VfInfoTxRate::parse(&zeros[..7]), 7, 8);
+    too_few(&rt, VfInfoRate::parse(&zeros[..11]), 11, 12);
+}
+
+#[test]
+fn short_settings_and_guids_are_refused(rt: HostRuntime) {
+    let zeros = [0; 15];
+    too_few(&rt, VfInfoSpoofCheck::parse(&zeros[..7]), 7, 8);
+    too_few(&rt, VfInfoRssQueryEn::parse(&zeros[..7]), 7, 8);
+    too_few(&rt, VfInfoTrust::parse(&zeros[..7]), 7, 8);
+    too_few(&rt, VfInfoLinkState::parse(&zeros[..7]), 7, 8);
+    too_few(&rt, VfInfoGuid::parse(&zeros), 15, 16);
+    too_few(&rt, VfVlanInfo::parse(&[]), 0, 16);
+    too_few(&rt, VfInfoGuidBuffer::read_from_prefix(&zeros[..3]), 3, 16);
 }
 
 #[test]
 fn buffers_keep_padding(rt: HostRuntime) {
-    let bytes = [255; 17];
-    match VfInfoGuidBuffer::read_from_prefix(&bytes) {
-        Ok((buffer, rest)) => {
-            assert_eq!(rt; buffer.as_bytes(), &bytes[..16]);
-            assert_eq!(rt; rest, &[255][..]);
-        }
-        Err(e) => assert!(rt; false, "{e}"),
-    }
+    let (buffer, rest) = got(&rt, VfInfoGuidBuffer::read_from_prefix(&[255; 17]));
+    are(&rt, buffer.as_bytes(), &[255; 16]);
+    are(&rt, rest, &[255]);
 }
 
 #[test]
 fn records_are_printed_and_copied(rt: HostRuntime) {
     let trust = VfInfoTrust::new(1, true);
-    assert_eq!(rt; trust.clone().ok(), Some(trust));
-    match format!(in rt.alloc(); "{trust:?}") {
-        Ok(text) => assert_eq!(rt; text.as_str(), "VfInfoTrust { vf_id: 1, enabled: true }"),
-        Err(_) => assert!(rt; false, "out of memory"),
-    }
+    is_same(&rt, &got(&rt, trust.clone()), &trust);
+    let text = "VfInfoTrust { vf_id: 1, enabled: true }";
+    prints_as(&rt, rt.alloc(), &trust, text);
 }

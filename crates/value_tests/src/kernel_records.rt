@@ -1,5 +1,5 @@
+use crate::testing::{are, begin, got, is_read, is_same, prints_as, too_few};
 use link_recs::*;
-use nla_wire::Cause;
 
 fn put(buffer: &mut [u8], bytes: &[(usize, u8)]) {
     for (place, byte) in bytes {
@@ -9,8 +9,7 @@ fn put(buffer: &mut [u8], bytes: &[(usize, u8)]) {
     }
 }
 
-/// Offsets of the kernel's `struct rtnl_link_stats` and `struct rtnl_link_stats64`,
-/// linux/if_link.h.
+/// Offsets of the kernel's `struct rtnl_link_stats`, linux/if_link.h.
 #[test]
 fn statistics_stand_at_their_offsets(rt: HostRuntime) {
     let mut bytes = [0; 96];
@@ -22,9 +21,13 @@ fn statistics_stand_at_their_offsets(rt: HostRuntime) {
         rx_nohandler: 4,
         ..Stats::default()
     };
-    assert_eq!(rt; Stats::read_padded(&bytes), stats);
-    assert_eq!(rt; StatsBuffer::from(&stats).as_bytes(), &bytes[..]);
+    is_same(&rt, &Stats::read_padded(&bytes), &stats);
+    are(&rt, StatsBuffer::from(&stats).as_bytes(), &bytes);
+}
 
+/// Offsets of the kernel's `struct rtnl_link_stats64`, linux/if_link.h.
+#[test]
+fn long_statistics_stand_at_their_offsets(rt: HostRuntime) {
     let mut bytes = [0; 200];
     put(
         &mut bytes,
@@ -37,29 +40,47 @@ fn statistics_stand_at_their_offsets(rt: HostRuntime) {
         rx_otherhost_dropped: 0xff00_0000_0000_0004,
         ..Stats64::default()
     };
-    assert_eq!(rt; Stats64::read_padded(&bytes), stats);
-    assert_eq!(rt; Stats64Buffer::from(&stats).as_bytes(), &bytes[..]);
+    is_same(&rt, &Stats64::read_padded(&bytes), &stats);
+    are(&rt, Stats64Buffer::from(&stats).as_bytes(), &bytes);
 }
 
-/// Numbers of the constants IPV4_DEVCONF_* of linux/ip.h (from 1) and DEVCONF_* of linux/ipv6.h
-/// (from 0), times four.
-#[test]
-fn settings_stand_at_their_offsets(rt: HostRuntime) {
-    let mut bytes = [0; 132];
-    put(&mut bytes, &[(0, 1), (44, 2), (100, 3), (128, 4)]);
-    let conf = InetDevConf {
+/// Settings of IPv4 with four numbers.
+fn settings_of_ipv4() -> InetDevConf {
+    InetDevConf {
         forwarding: 1,
         tag: 2,
         route_localnet: 3,
         arp_evict_nocarrier: 4,
         ..InetDevConf::default()
-    };
-    assert_eq!(rt; InetDevConf::read_padded(&bytes), conf);
-    assert_eq!(rt; InetDevConfBuffer::from(&conf).as_bytes(), &bytes[..]);
-    for (number, value) in [(1, 1), (2, 0), (12, 2), (26, 3), (33, 4)] {
-        assert_eq!(rt; conf.setting(number), value, "at {number}");
     }
+}
 
+/// Numbers of the constants IPV4_DEVCONF_* of linux/ip.h, from 1, times four.
+#[test]
+fn settings_of_ipv4_stand_at_their_offsets(rt: HostRuntime) {
+    let mut bytes = [0; 132];
+    put(&mut bytes, &[(0, 1), (44, 2), (100, 3), (128, 4)]);
+    let conf = settings_of_ipv4();
+    is_same(&rt, &InetDevConf::read_padded(&bytes), &conf);
+    are(&rt, InetDevConfBuffer::from(&conf).as_bytes(), &bytes);
+}
+
+#[test]
+fn settings_of_ipv4_have_numbers(rt: HostRuntime) {
+    let conf = settings_of_ipv4();
+    let found = [
+        conf.setting(1),
+        conf.setting(2),
+        conf.setting(12),
+        conf.setting(26),
+        conf.setting(33),
+    ];
+    is_same(&rt, &found, &[1, 0, 2, 3, 4]);
+}
+
+/// Numbers of the constants DEVCONF_* of linux/ipv6.h, from 0, times four.
+#[test]
+fn settings_of_ipv6_stand_at_their_offsets(rt: HostRuntime) {
     let mut bytes = [0; 240];
     put(
         &mut bytes,
@@ -75,13 +96,13 @@ fn settings_stand_at_their_offsets(rt: HostRuntime) {
         force_forwarding: 5,
         ..Inet6DevConf::default()
     };
-    assert_eq!(rt; Inet6DevConf::read_padded(&bytes), conf);
-    assert_eq!(rt; Inet6DevConfBuffer::from(&conf).as_bytes(), &bytes[..]);
+    is_same(&rt, &Inet6DevConf::read_padded(&bytes), &conf);
+    are(&rt, Inet6DevConfBuffer::from(&conf).as_bytes(), &bytes);
 }
 
-/// Numbers of the constants IPSTATS_MIB_* and ICMP6_MIB_* of linux/snmp.h, times eight.
+/// Numbers of the constants IPSTATS_MIB_* of linux/snmp.h, times eight.
 #[test]
-fn counters_stand_at_their_offsets(rt: HostRuntime) {
+fn counters_of_ipv6_stand_at_their_offsets(rt: HostRuntime) {
     let mut bytes = [0; 304];
     put(&mut bytes, &[(0, 1), (56, 2), (160, 3), (288, 4), (296, 5)]);
     let stats = Inet6Stats {
@@ -92,9 +113,13 @@ fn counters_stand_at_their_offsets(rt: HostRuntime) {
         out_pkts: 5,
         ..Inet6Stats::default()
     };
-    assert_eq!(rt; Inet6Stats::read_padded(&bytes), stats);
-    assert_eq!(rt; Inet6StatsBuffer::from(&stats).as_bytes(), &bytes[..]);
+    is_same(&rt, &Inet6Stats::read_padded(&bytes), &stats);
+    are(&rt, Inet6StatsBuffer::from(&stats).as_bytes(), &bytes);
+}
 
+/// Numbers of the constants ICMP6_MIB_* of linux/snmp.h, times eight.
+#[test]
+fn counters_of_icmpv6_stand_at_their_offsets(rt: HostRuntime) {
     let mut bytes = [0; 56];
     put(&mut bytes, &[(0, 1), (16, 2), (32, 3), (48, 4), (55, 128)]);
     let stats = Icmp6Stats {
@@ -104,13 +129,13 @@ fn counters_stand_at_their_offsets(rt: HostRuntime) {
         rate_limit_host: i64::MIN + 4,
         ..Icmp6Stats::default()
     };
-    assert_eq!(rt; Icmp6Stats::read_padded(&bytes), stats);
-    assert_eq!(rt; Icmp6StatsBuffer::from(&stats).as_bytes(), &bytes[..]);
+    is_same(&rt, &Icmp6Stats::read_padded(&bytes), &stats);
+    are(&rt, Icmp6StatsBuffer::from(&stats).as_bytes(), &bytes);
 }
 
-/// Offsets of `struct rtnl_link_ifmap` and `struct ifla_cacheinfo`, linux/if_link.h.
+/// Offsets of `struct rtnl_link_ifmap`, linux/if_link.h.
 #[test]
-fn maps_and_times_stand_at_their_offsets(rt: HostRuntime) {
+fn maps_stand_at_their_offsets(rt: HostRuntime) {
     let mut bytes = [0; 32];
     put(&mut bytes, &[(0, 1), (16, 2), (25, 3), (26, 5), (27, 4)]);
     let map = Map {
@@ -121,60 +146,61 @@ fn maps_and_times_stand_at_their_offsets(rt: HostRuntime) {
         port: 4,
         ..Map::default()
     };
-    assert_eq!(rt; Map::parse(&bytes), Ok(map));
-    assert_eq!(rt; MapBuffer::from(&map).as_bytes(), &bytes[..]);
+    is_read(&rt, Map::parse(&bytes), &map);
+    are(&rt, MapBuffer::from(&map).as_bytes(), &bytes);
+}
 
-    let mut bytes = [0; 16];
-    put(&mut bytes, &[(0, 1), (4, 2), (8, 3), (12, 4)]);
+/// Offsets of `struct ifla_cacheinfo`, linux/if_link.h.
+#[test]
+fn times_stand_at_their_offsets(rt: HostRuntime) {
+    let bytes = [1, 0, 0, 0, 2, 0, 0, 0, 3, 0, 0, 0, 4, 0, 0, 0];
     let times = Inet6CacheInfo {
         max_reasm_len: 1,
         tstamp: 2,
         reachable_time: 3,
         retrans_time: 4,
     };
-    assert_eq!(rt; Inet6CacheInfo::parse(&bytes), Ok(times));
-    assert_eq!(rt; Inet6CacheInfoBuffer::from(&times).as_bytes(), &bytes[..]);
+    is_read(&rt, Inet6CacheInfo::parse(&bytes), &times);
+    are(&rt, Inet6CacheInfoBuffer::from(&times).as_bytes(), &bytes);
 }
 
 #[test]
-fn short_payloads_are_filled_up_or_refused(rt: HostRuntime) {
+fn short_statistics_are_filled_up(rt: HostRuntime) {
     let stats = Stats {
         rx_packets: 197121,
         ..Stats::default()
     };
-    assert_eq!(rt; Stats::parse(&[1, 2, 3]), Ok(stats));
+    is_read(&rt, Stats::parse(&[1, 2, 3]), &stats);
+    is_read(&rt, Stats::parse(&[]), &Stats::default());
+    is_read(&rt, Stats::parse(&[0; 95]), &Stats::default());
     let stats = Stats64 {
         rx_packets: 5,
         ..Stats64::default()
     };
-    assert_eq!(rt; Stats64::parse(&[5, 0, 0, 0, 0, 0, 0, 0]), Ok(stats));
+    is_read(&rt, Stats64::parse(&[5, 0, 0, 0, 0, 0, 0, 0]), &stats);
+}
+
+#[test]
+fn short_settings_are_filled_up(rt: HostRuntime) {
     let conf = InetDevConf {
         forwarding: 65544,
         mc_forwarding: 1,
         ..InetDevConf::default()
     };
-    assert_eq!(rt; InetDevConf::read_padded(&[8, 0, 1, 0, 1, 0, 0, 0]), conf);
-    assert_eq!(rt; Stats::parse(&[]), Ok(Stats::default()));
-    assert_eq!(rt; Stats::parse(&[0; 95]), Ok(Stats::default()));
+    let read = InetDevConf::read_padded(&[8, 0, 1, 0, 1, 0, 0, 0]);
+    is_same(&rt, &read, &conf);
+}
 
+#[test]
+fn short_payloads_are_refused(rt: HostRuntime) {
     let zeros = [0; 303];
-    let refused = |got, need| Some(Cause::TooShort { got, need });
-    let cause = InetDevConf::parse(&zeros[..131]).err().map(|e| e.cause);
-    assert_eq!(rt; cause, refused(131, 132));
-    let cause = Inet6DevConf::parse(&zeros[..239]).err().map(|e| e.cause);
-    assert_eq!(rt; cause, refused(239, 240));
-    let cause = Inet6Stats::parse(&zeros).err().map(|e| e.cause);
-    assert_eq!(rt; cause, refused(303, 304));
-    let cause = Icmp6Stats::parse(&zeros[..55]).err().map(|e| e.cause);
-    assert_eq!(rt; cause, refused(55, 56));
-    let cause = Inet6CacheInfo::parse(&zeros[..15]).err().map(|e| e.cause);
-    assert_eq!(rt; cause, refused(15, 16));
-    let cause = Map::parse(&zeros[..31]).err().map(|e| e.cause);
-    assert_eq!(rt; cause, refused(31, 32));
-    let cause = StatsBuffer::read_from_prefix(&zeros[..95])
-        .err()
-        .map(|e| e.cause);
-    assert_eq!(rt; cause, refused(95, 96));
+    too_few(&rt, InetDevConf::parse(&zeros[..131]), 131, 132);
+    too_few(&rt, Inet6DevConf::parse(&zeros[..239]), 239, 240);
+    too_few(&rt, Inet6Stats::parse(&zeros), 303, 304);
+    too_few(&rt, Icmp6Stats::parse(&zeros[..55]), 55, 56);
+    too_few(&rt, Inet6CacheInfo::parse(&zeros[..15]), 15, 16);
+    too_few(&rt, Map::parse(&zeros[..31]), 31, 32);
+    too_few(&rt, StatsBuffer::read_from_prefix(&zeros[..95]), 95, 96);
 }
 
 #[test]
@@ -187,20 +213,18 @@ fn long_payloads_mean_their_front(rt: HostRuntime) {
         dma: 255,
         port: 255,
     };
-    assert_eq!(rt; Map::parse(&[255; 33]), Ok(map));
+    is_read(&rt, Map::parse(&[255; 33]), &map);
     let mut text = [255; 32];
     put(&mut text, &[(28, 0), (29, 0), (30, 0), (31, 0)]);
-    assert_eq!(rt; MapBuffer::from(&map).as_bytes(), &text[..]);
-    assert_eq!(rt; Stats::parse(&[0; 97]), Ok(Stats::default()));
+    are(&rt, MapBuffer::from(&map).as_bytes(), &text);
+    is_read(&rt, Stats::parse(&[0; 97]), &Stats::default());
+}
 
-    let bytes = [255; 33];
-    match MapBuffer::read_from_prefix(&bytes) {
-        Ok((buffer, rest)) => {
-            assert_eq!(rt; buffer.as_bytes(), &bytes[..32]);
-            assert_eq!(rt; rest, &[255][..]);
-        }
-        Err(e) => assert!(rt; false, "{e}"),
-    }
+#[test]
+fn buffers_keep_padding(rt: HostRuntime) {
+    let (buffer, rest) = got(&rt, MapBuffer::read_from_prefix(&[255; 33]));
+    are(&rt, buffer.as_bytes(), &[255; 32]);
+    are(&rt, rest, &[255]);
 }
 
 #[test]
@@ -210,19 +234,22 @@ fn texts_stand_at_the_end_of_a_longer_buffer(rt: HostRuntime) {
         ..Icmp6Stats::default()
     };
     let mut buffer = [9; 58];
-    assert_eq!(rt; stats.buffer_len(), 56);
-    assert_eq!(rt; stats.fill(&mut buffer), 2);
-    assert_eq!(rt; &buffer[..4], &[9, 9, 7, 0][..]);
-    assert_eq!(rt; Icmp6Stats::parse(&buffer[2..]), Ok(stats));
+    assert!(rt; stats.buffer_len() == 56);
+    assert!(rt; stats.fill(&mut buffer) == 2);
+    begin(&rt, &buffer, &[9, 9, 7, 0]);
+    is_read(&rt, Icmp6Stats::parse(&buffer[2..]), &stats);
+}
 
+#[test]
+fn maps_stand_at_the_end_of_a_longer_buffer(rt: HostRuntime) {
     let map = Map {
         port: 3,
         ..Map::default()
     };
     let mut buffer = [9; 33];
-    assert_eq!(rt; map.fill(&mut buffer), 1);
-    assert_eq!(rt; buffer[0], 9);
-    assert_eq!(rt; Map::parse(&buffer[1..]), Ok(map));
+    assert!(rt; map.fill(&mut buffer) == 1);
+    assert!(rt; buffer[0] == 9);
+    is_read(&rt, Map::parse(&buffer[1..]), &map);
 }
 
 #[test]
@@ -235,9 +262,6 @@ fn records_are_printed_and_copied(rt: HostRuntime) {
     };
     let text =
         "Inet6CacheInfo { max_reasm_len: 65535, tstamp: 1, reachable_time: -2, retrans_time: 1000 }";
-    assert_eq!(rt; times.clone().ok(), Some(times));
-    match format!(in rt.alloc(); "{times:?}") {
-        Ok(printed) => assert_eq!(rt; printed.as_str(), text),
-        Err(_) => assert!(rt; false, "out of memory"),
-    }
+    is_same(&rt, &got(&rt, times.clone()), &times);
+    prints_as(&rt, rt.alloc(), &times, text);
 }

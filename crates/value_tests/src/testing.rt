@@ -1,6 +1,9 @@
 //! What the tests share.
 
-use nla_wire::{Cause, DecodeError};
+use nla_wire::exact::same;
+use nla_wire::{Cause, CloneIn, DecodeError, Exact};
+use std::alloc::Global;
+use std::fmt::{Debug, Display};
 use std::process::Abort;
 
 /// The bytes are these.
@@ -16,6 +19,21 @@ pub(crate) fn begin(rt: &impl Abort, bytes: &[u8], wanted: &[u8]) {
     );
 }
 
+/// What a call gave.
+pub(crate) fn got<T: Drop, E: Drop>(rt: &impl Abort, answer: Result<T, E>) -> T {
+    match answer {
+        Ok(value) => value,
+        Err(_) => panic!(rt; "the call gave an error"),
+    }
+}
+
+/// A copy of a value, which is equal to it.
+pub(crate) fn copied<N: Exact + CloneIn + Drop>(rt: &impl Abort, alloc: Global, value: &N) -> N {
+    let copy = got(rt, value.clone(alloc));
+    assert!(rt; same(&copy, value));
+    copy
+}
+
 /// Nothing was read, for this cause.
 pub(crate) fn refuses<T: Drop>(rt: &impl Abort, read: Result<T, DecodeError>, wanted: Cause) {
     let cause = match read {
@@ -23,4 +41,51 @@ pub(crate) fn refuses<T: Drop>(rt: &impl Abort, read: Result<T, DecodeError>, wa
         Err(error) => Some(error.cause),
     };
     assert_eq!(rt; cause, Some(wanted));
+}
+
+/// This many bytes were too few to be read.
+pub(crate) fn too_few<T: Drop>(
+    rt: &impl Abort,
+    read: Result<T, DecodeError>,
+    got: usize,
+    need: usize,
+) {
+    refuses(rt, read, Cause::TooShort { got, need });
+}
+
+/// Two values are equal.
+pub(crate) fn is_same<T: PartialEq + Debug>(rt: &impl Abort, found: &T, wanted: &T) {
+    assert_eq!(rt; found, wanted);
+}
+
+/// This value was read.
+pub(crate) fn is_read<T: PartialEq + Debug + Drop>(
+    rt: &impl Abort,
+    read: Result<T, DecodeError>,
+    wanted: &T,
+) {
+    is_same(rt, &got(rt, read), wanted);
+}
+
+/// A number means this value, which is written as the other.
+pub(crate) fn means<N: Copy + PartialEq + From<T>, T: Copy + PartialEq + From<N>>(
+    rt: &impl Abort,
+    number: N,
+    value: T,
+    written: N,
+) {
+    assert!(rt; T::from(number) == value);
+    assert!(rt; N::from(value) == written);
+}
+
+/// A value is printed as this text.
+pub(crate) fn prints<T: Display>(rt: &impl Abort, alloc: Global, value: &T, wanted: &str) {
+    let text = got(rt, format!(in alloc; "{value}"));
+    assert!(rt; text.as_str() == wanted);
+}
+
+/// A value is printed for a programmer as this text.
+pub(crate) fn prints_as<T: Debug>(rt: &impl Abort, alloc: Global, value: &T, wanted: &str) {
+    let text = got(rt, format!(in alloc; "{value:?}"));
+    assert!(rt; text.as_str() == wanted);
 }

@@ -1,29 +1,29 @@
 //! Attributes that are kept as they are, and slices of attributes.
 
-use crate::testing::are;
+use crate::testing::{are, copied, got};
 use nla_wire::fill::close_frame;
 use nla_wire::*;
 use std::alloc::Global;
-use std::test::Fail;
+use std::process::Abort;
 
-fn kept(alloc: Global, kind: u16, value: &[u8]) -> Result<DefaultNla, DecodeError> {
-    Ok(DefaultNla::new(kind, Vec::from_slice(alloc, value)?))
+/// An attribute that is kept as it is.
+fn kept(rt: &impl Abort, alloc: Global, kind: u16, value: &[u8]) -> DefaultNla {
+    DefaultNla::new(kind, got(rt, Vec::from_slice(alloc, value)))
 }
 
 #[test]
-fn keeps_attributes(rt: HostRuntime) -> Result<(), Fail> {
-    let frame = NlaBuffer::new_checked(&[6, 0, 0x2a, 0xc0, 0xde, 0xad])?;
-    let parsed = DefaultNla::parse(rt.alloc(), &frame)?;
+fn keeps_attributes(rt: HostRuntime) {
+    let frame = got(&rt, NlaBuffer::new_checked(&[6, 0, 0x2a, 0xc0, 0xde, 0xad]));
+    let parsed = got(&rt, DefaultNla::parse(rt.alloc(), &frame));
     assert!(rt; parsed.kind() == 0xc02a);
     are(&rt, parsed.value(), &[0xde, 0xad]);
-    assert!(rt; exact::same(&parsed.clone(rt.alloc())?, &parsed));
-    assert!(rt; kept(rt.alloc(), 0x2a, &[0xde, 0xad])? != parsed);
-    Ok(())
+    copied(&rt, rt.alloc(), &parsed);
+    assert!(rt; kept(&rt, rt.alloc(), 0x2a, &[0xde, 0xad]) != parsed);
 }
 
 #[test]
-fn writes_attributes(rt: HostRuntime) -> Result<(), Fail> {
-    let made = kept(rt.alloc(), 0xc02a, &[0xde, 0xad])?;
+fn writes_attributes(rt: HostRuntime) {
+    let made = kept(&rt, rt.alloc(), 0xc02a, &[0xde, 0xad]);
     assert!(rt; made.fits());
     assert!(rt; made.buffer_len() == 8);
     let mut out = [255; 9];
@@ -32,12 +32,11 @@ fn writes_attributes(rt: HostRuntime) -> Result<(), Fail> {
     let mut out = [255; 9];
     assert!(rt; made.fill(&mut out) == 1);
     are(&rt, &out, &[255, 6, 0, 0x2a, 0xc0, 0xde, 0xad, 0, 0]);
-    Ok(())
 }
 
 #[test]
-fn writes_values_alone(rt: HostRuntime) -> Result<(), Fail> {
-    let made = kept(rt.alloc(), 3, &[0x6c, 0x6f])?;
+fn writes_values_alone(rt: HostRuntime) {
+    let made = kept(&rt, rt.alloc(), 3, &[0x6c, 0x6f]);
     assert!(rt; made.fits());
     assert!(rt; made.value_len() == 2);
     let mut out = [255; 3];
@@ -46,21 +45,31 @@ fn writes_values_alone(rt: HostRuntime) -> Result<(), Fail> {
     let mut exact = [255; 2];
     made.emit_value(&mut exact);
     are(&rt, &exact, &[0x6c, 0x6f]);
-    Ok(())
+}
+
+/// An attribute of one byte and one of none.
+fn two_kept(rt: &impl Abort, alloc: Global) -> [DefaultNla; 2] {
+    [kept(rt, alloc, 1, &[7]), kept(rt, alloc, 0x8002, &[])]
 }
 
 #[test]
-fn writes_slices(rt: HostRuntime) -> Result<(), Fail> {
-    let nlas = [kept(rt.alloc(), 1, &[7])?, kept(rt.alloc(), 0x8002, &[])?];
+fn writes_slices(rt: HostRuntime) {
+    let nlas = two_kept(&rt, rt.alloc());
     assert!(rt; list_fits(&nlas));
     assert!(rt; nlas_buffer_len(&nlas) == 12);
     let mut out = [255; 13];
     emit_nlas(&nlas, &mut out);
     are(&rt, &out, &[5, 0, 1, 0, 7, 0, 0, 0, 4, 0, 2, 0x80, 255]);
+}
+
+#[test]
+fn fills_slices(rt: HostRuntime) {
+    let nlas = two_kept(&rt, rt.alloc());
+    assert!(rt; list_fits(&nlas));
+    assert!(rt; nlas_buffer_len(&nlas) == 12);
     let mut out = [255; 13];
     assert!(rt; nlas_fill(&nlas, &mut out) == 1);
     are(&rt, &out, &[255, 5, 0, 1, 0, 7, 0, 0, 0, 4, 0, 2, 0x80]);
-    Ok(())
 }
 
 #[test]

@@ -1,28 +1,28 @@
 //! Fields of records, read past the end and put at their places.
 
-use crate::testing::{are, begin};
+use crate::testing::{are, begin, is_same};
 use nla_wire::fields::*;
 
 #[test]
 fn reads_short_fields(rt: HostRuntime) {
     let bytes = [1, 2, 3, 0xfc];
-    assert!(rt; u8_at(&bytes, 3) == 0xfc);
-    assert!(rt; u8_at(&bytes, 4) == 0);
-    assert!(rt; u16_at(&bytes, 0) == 0x0201);
-    assert!(rt; u16_at(&bytes, 3) == 0xfc);
-    assert!(rt; be16_at(&bytes, 0) == 0x0102);
-    assert!(rt; be16_at(&bytes, 3) == 0xfc00);
+    let found = [u8_at(&bytes, 3), u8_at(&bytes, 4)];
+    is_same(&rt, &found, &[0xfc, 0]);
+    let found = [u16_at(&bytes, 0), u16_at(&bytes, 3)];
+    is_same(&rt, &found, &[0x0201, 0xfc]);
+    let found = [be16_at(&bytes, 0), be16_at(&bytes, 3)];
+    is_same(&rt, &found, &[0x0102, 0xfc00]);
 }
 
 #[test]
 fn reads_long_fields(rt: HostRuntime) {
     let bytes = [1, 2, 3, 4, 5, 6, 7, 0x88, 0xfc];
-    assert!(rt; u32_at(&bytes, 0) == 0x0403_0201);
-    assert!(rt; u32_at(&bytes, 8) == 0xfc);
-    assert!(rt; i32_at(&bytes, 5) == -0x0377_f8fa);
-    assert!(rt; u64_at(&bytes, 0) == 0x8807_0605_0403_0201);
-    assert!(rt; u64_at(&bytes, 8) == 0xfc);
-    assert!(rt; i64_at(&bytes, 1) == -0x0377_f8f9_fafb_fcfe);
+    let found = [u32_at(&bytes, 0), u32_at(&bytes, 8)];
+    is_same(&rt, &found, &[0x0403_0201, 0xfc]);
+    is_same(&rt, &i32_at(&bytes, 5), &-0x0377_f8fa);
+    let found = [u64_at(&bytes, 0), u64_at(&bytes, 8)];
+    is_same(&rt, &found, &[0x8807_0605_0403_0201, 0xfc]);
+    is_same(&rt, &i64_at(&bytes, 1), &-0x0377_f8f9_fafb_fcfe);
 }
 
 #[test]

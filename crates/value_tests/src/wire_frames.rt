@@ -1,8 +1,7 @@
 //! Frames at the front of bytes, and the frames of a byte string.
 
-use crate::testing::{are, refuses};
+use crate::testing::{are, got, is_same, refuses};
 use nla_wire::*;
-use std::test::Fail;
 
 #[test]
 fn refuses_fronts(rt: HostRuntime) {
@@ -26,16 +25,17 @@ fn refuses_fronts(rt: HostRuntime) {
 }
 
 #[test]
-fn reads_frames(rt: HostRuntime) -> Result<(), Fail> {
-    let frame = NlaBuffer::new_checked(&[6, 0, 0x2a, 0xc0, 0xde, 0xad, 9, 9])?;
-    assert!(rt; frame.kind_with_flags() == 0xc02a);
-    assert!(rt; frame.kind() == 42);
-    assert!(rt; frame.nested_flag());
-    assert!(rt; frame.network_byte_order_flag());
-    assert!(rt; frame.length() == 6);
+fn reads_frames(rt: HostRuntime) {
+    let frame = got(
+        &rt,
+        NlaBuffer::new_checked(&[6, 0, 0x2a, 0xc0, 0xde, 0xad, 9, 9]),
+    );
+    let numbers = [frame.kind_with_flags(), frame.kind(), frame.length()];
+    is_same(&rt, &numbers, &[0xc02a, 42, 6]);
+    let flags = [frame.nested_flag(), frame.network_byte_order_flag()];
+    is_same(&rt, &flags, &[true, true]);
     are(&rt, frame.value(), &[0xde, 0xad]);
-    assert!(rt; frame.clone()? == frame);
-    Ok(())
+    assert!(rt; got(&rt, frame.clone()) == frame);
 }
 
 /// The kind of the next frame, or the number of the fault.

@@ -1,26 +1,27 @@
 //! Numbers, addresses and texts as payloads.
 
-use crate::testing::{are, refuses};
+use crate::testing::{are, got, is_read, refuses};
 use nla_wire::error::checked;
 use nla_wire::*;
 use std::alloc::Global;
 use std::net::Ipv6Addr;
+use std::process::Abort;
 
 #[test]
 fn reads_numbers(rt: HostRuntime) {
-    assert!(rt; parse_u8(&[255]).ok() == Some(255));
-    assert!(rt; parse_u16(&[0x34, 0x12]).ok() == Some(0x1234));
-    assert!(rt; parse_u32(&[0xdc, 5, 0, 0]).ok() == Some(1500));
-    assert!(rt; parse_i32(&[0xfe, 255, 255, 255]).ok() == Some(-2));
+    is_read(&rt, parse_u8(&[255]), &255);
+    is_read(&rt, parse_u16(&[0x34, 0x12]), &0x1234);
+    is_read(&rt, parse_u32(&[0xdc, 5, 0, 0]), &1500);
+    is_read(&rt, parse_i32(&[0xfe, 255, 255, 255]), &-2);
     let long = parse_u64(&[0xef, 0xcd, 0xab, 0x89, 0x67, 0x45, 0x23, 1]);
-    assert!(rt; long.ok() == Some(0x0123_4567_89ab_cdef));
+    is_read(&rt, long, &0x0123_4567_89ab_cdef);
 }
 
 #[test]
 fn reads_addresses(rt: HostRuntime) {
     let octets = [0x20, 1, 0x0d, 0xb8, 0, 0, 0, 0, 0, 0, 0, 0, 0, 0, 0, 1];
     let address = Ipv6Addr::new(0x2001, 0xdb8, 0, 0, 0, 0, 0, 1);
-    assert!(rt; parse_ipv6_addr(&octets).ok() == Some(address));
+    is_read(&rt, parse_ipv6_addr(&octets), &address);
 }
 
 #[test]
@@ -49,19 +50,18 @@ fn writes_numbers(rt: HostRuntime) {
     are(&rt, &out, &[0xfe, 255, 255, 255, 0x67, 0x45, 0x23, 1, 255]);
 }
 
-/// Whether the bytes are read as this text.
-fn reads(alloc: Global, bytes: &[u8], text: &str) -> bool {
-    match parse_string(alloc, bytes) {
-        Ok(found) => check_string(bytes).is_ok() && found.as_str() == text,
-        Err(_) => false,
-    }
+/// The bytes are read as this text.
+fn reads(rt: &impl Abort, alloc: Global, bytes: &[u8], text: &str) {
+    got(rt, check_string(bytes));
+    let found = got(rt, parse_string(alloc, bytes));
+    assert!(rt; found.as_str() == text);
 }
 
 #[test]
 fn reads_texts(rt: HostRuntime) {
-    assert!(rt; reads(rt.alloc(), &[], ""));
-    assert!(rt; reads(rt.alloc(), &[0], ""));
-    assert!(rt; reads(rt.alloc(), &[0, 0], "\0"));
-    assert!(rt; reads(rt.alloc(), b"lo", "lo"));
-    assert!(rt; reads(rt.alloc(), &[0xc3, 0xa4, 0], "ä"));
+    reads(&rt, rt.alloc(), &[], "");
+    reads(&rt, rt.alloc(), &[0], "");
+    reads(&rt, rt.alloc(), &[0, 0], "\0");
+    reads(&rt, rt.alloc(), b"lo", "lo");
+    reads(&rt, rt.alloc(), &[0xc3, 0xa4, 0], "ä");
 }

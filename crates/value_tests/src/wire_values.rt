@@ -1,61 +1,61 @@
 //! Causes, fault texts, and bytes, texts and lists as values.
 
-use crate::testing::are;
+use crate::testing::{are, copied, got, is_same, prints};
 use nla_wire::error::checked;
 use nla_wire::*;
-use std::test::Fail;
 
 #[test]
 fn numbers_causes(rt: HostRuntime) {
     let error = DecodeError::new("record", Cause::TooShort { got: 15, need: 16 });
-    assert!(rt; error.number() == 1);
+    let numbers = [
+        error.number(),
+        Cause::OutOfMemory.number(),
+        empty_list().number(),
+    ];
+    is_same(&rt, &numbers, &[1, 9, 5]);
     assert!(rt; error.place == "record");
-    assert!(rt; Cause::OutOfMemory.number() == 9);
-    assert!(rt; empty_list().number() == 5);
-    assert!(rt; checked(parse_u8(&[1])).is_ok());
+    got(&rt, checked(parse_u8(&[1])));
 }
 
 #[test]
-fn prints_faults(rt: HostRuntime) -> Result<(), Fail> {
+fn prints_faults(rt: HostRuntime) {
     let cause = Cause::WrongLength { got: 5, want: 4 };
-    let text = format!(in rt.alloc(); "{}", DecodeError::new("number", cause))?;
-    assert!(rt; text.as_str() == "number: 5 bytes where exactly 4 are wanted");
-    Ok(())
+    let error = DecodeError::new("number", cause);
+    let text = "number: 5 bytes where exactly 4 are wanted";
+    prints(&rt, rt.alloc(), &error, text);
 }
 
 #[test]
-fn keeps_bytes(rt: HostRuntime) -> Result<(), Fail> {
-    let bytes = Bytes::new(Vec::from_slice(rt.alloc(), &[1, 2, 3])?);
-    assert!(rt; bytes.len() == 3 && !bytes.is_empty());
-    let copy = bytes.clone(rt.alloc())?;
-    assert!(rt; exact::same(&copy, &bytes));
-    assert!(rt; Bytes::from_slice(rt.alloc(), &[1, 2, 4])? != bytes);
+fn keeps_bytes(rt: HostRuntime) {
+    let bytes = Bytes::new(got(&rt, Vec::from_slice(rt.alloc(), &[1, 2, 3])));
+    is_same(&rt, &bytes.len(), &3);
+    is_same(&rt, &bytes.is_empty(), &false);
+    let copy = copied(&rt, rt.alloc(), &bytes);
+    let other = got(&rt, Bytes::from_slice(rt.alloc(), &[1, 2, 4]));
+    assert!(rt; other != bytes);
     are(&rt, bytes.as_slice(), &[1, 2, 3]);
     are(&rt, copy.into_vec().as_slice(), &[1, 2, 3]);
-    Ok(())
 }
 
 #[test]
-fn keeps_texts(rt: HostRuntime) -> Result<(), Fail> {
-    let text = Text::new(String::from_str(rt.alloc(), "ä0")?);
-    assert!(rt; text.len() == 3 && !text.is_empty());
-    let copy = text.clone(rt.alloc())?;
-    assert!(rt; exact::same(&copy, &text));
-    assert!(rt; Text::from_str(rt.alloc(), "a0")? != text);
+fn keeps_texts(rt: HostRuntime) {
+    let text = Text::new(got(&rt, String::from_str(rt.alloc(), "ä0")));
+    is_same(&rt, &text.len(), &3);
+    is_same(&rt, &text.is_empty(), &false);
+    let copy = copied(&rt, rt.alloc(), &text);
+    let other = got(&rt, Text::from_str(rt.alloc(), "a0"));
+    assert!(rt; other != text);
     assert!(rt; text.as_str() == "ä0");
     assert!(rt; copy.into_string().as_str() == "ä0");
-    Ok(())
 }
 
 #[test]
-fn keeps_lists(rt: HostRuntime) -> Result<(), Fail> {
-    let mut vec = Vec::new(rt.alloc());
-    vec.push(Text::from_str(rt.alloc(), "lo")?)?;
-    let list = List::new(vec);
-    assert!(rt; list.len() == 1 && !list.is_empty());
-    let copy = list.clone(rt.alloc())?;
-    assert!(rt; exact::same(&copy, &list));
+fn keeps_lists(rt: HostRuntime) {
+    let text = got(&rt, Text::from_str(rt.alloc(), "lo"));
+    let list = List::new(got(&rt, Vec::from_array(rt.alloc(), [text])));
+    is_same(&rt, &list.is_empty(), &false);
+    assert!(rt; list.len() == 1);
+    let copy = copied(&rt, rt.alloc(), &list);
     assert!(rt; list.as_slice()[0].as_str() == "lo");
     assert!(rt; copy.into_vec().len() == 1);
-    Ok(())
 }
