@@ -7,9 +7,9 @@ use Rattle.std.proofs.Common.{◌≡◌, ℕ, ◌+◌, ◌*◌, ◌/◌, ◌≤�
 use Rattle.std.specs.declared.net.ipv6_addr.Ipv6Addr.{Ipv6Addr}
 use Rattle.std.specs.List.{AllByRecursion}
 use Rattle.nla_wire.specs.Sizes.{growth, slack, inner_small}
-use Rattle.nla_wire.specs.Frames.{Frame, missing}
+use Rattle.nla_wire.specs.Frames.{Frame}
 use Rattle.nla_wire.specs.Grammar.{Grammar, list, not_empty}
-use Rattle.nla_wire.specs.Payloads.{filled, sized, exactly, ipv6_address, address_of_octets}
+use Rattle.nla_wire.specs.Payloads.{sized, exactly, ipv6_address, address_of_octets}
 use Rattle.nla_wire.specs.Canon.{canon, canons, AllFit, one, total}
 use Rattle.nla_wire.proofs.Agreement.{as_agrees, exactly_agrees}
 use Rattle.nla_wire.proofs.Memory.{memory_exactly}

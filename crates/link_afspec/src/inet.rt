@@ -9,6 +9,7 @@ use crate::request::{fill_request, request_len};
 use link_recs::InetDevConf;
 use nla_wire::{
     CloneIn, DecodeError, DefaultNla, Exact, NLA_F_NESTED, Nla, NlaBuffer, NlaRead, canon_bytes,
+    canon_of,
 };
 use std::alloc::Global;
 
@@ -74,11 +75,7 @@ fn canon_settings(settings: &AfSpecInet, out: &mut [u8]) -> Option<usize>
     requires room { 4 + inet_dev_conf_size ≤ length out.old }
     ensures { Canonical (λ v. canon (af_spec_inet_frame v)) AfSpecInetFits (Ok settings.now) out.old out.new result }
 {
-    if !settings.fits() {
-        return None;
-    }
-    settings.emit(out);
-    Some(settings.buffer_len())
+    canon_of(settings, out)
 }
 
 impl NlaRead for AfSpecInet {

@@ -12,8 +12,8 @@ ghost use Rattle.link_afspec.specs.declared.inet6.AfSpecInet6.TheVariants.{Other
 use link_recs::{Icmp6Stats, Inet6CacheInfo, Inet6DevConf, Inet6Stats};
 use link_vals::{In6AddrGenMode, Inet6IfaceFlags};
 use nla_wire::{
-    CloneIn, DecodeError, DefaultNla, Exact, Nla, NlaBuffer, NlaRead, canon_bytes, fill_bytes,
-    parse_ipv6_addr, parse_u8, parse_u32,
+    CloneIn, DecodeError, DefaultNla, Exact, Nla, NlaBuffer, NlaRead, canon_bytes, canon_of,
+    fill_bytes, parse_ipv6_addr, parse_u8, parse_u32,
 };
 use std::alloc::Global;
 use std::net::Ipv6Addr;
@@ -150,11 +150,7 @@ fn canon_listed(value: &AfSpecInet6, out: &mut [u8]) -> Option<usize>
     requires room { growth ≤ length out.old }
     ensures { Canonical (λ v. canon (af_spec_inet6_frame v)) AfSpecInet6Fits (Ok value.now) out.old out.new result }
 {
-    if !value.fits() {
-        return None;
-    }
-    value.emit(out);
-    Some(value.buffer_len())
+    canon_of(value, out)
 }
 
 impl NlaRead for AfSpecInet6 {

@@ -3,7 +3,7 @@
 use crate::testing::{begin, got};
 use nla_wire::Nla;
 use nla_wire::canon::{
-    canon_bytes, canon_i32, canon_ipv6_addr, canon_of, canon_text, canon_u8, canon_u16, canon_u32,
+    canon_bytes, canon_filled, canon_i32, canon_ipv6_addr, canon_of, canon_text, canon_u8, canon_u16, canon_u32,
     canon_u64, canon_value,
 };
 use nla_wire::default_nla::DefaultNla;
@@ -42,6 +42,15 @@ fn writes_long_payloads(rt: HostRuntime) {
     wrote(&rt, len, 12, &out, &[12, 0, 0, 0, 1, 0, 0, 0, 0, 0, 0, 2]);
     let len = canon_ipv6_addr(7, &[1; 16], &mut out);
     wrote(&rt, len, 20, &out, &[20, 0, 7, 0, 1, 1, 1, 1]);
+}
+
+#[test]
+fn cuts_and_fills_payloads(rt: HostRuntime) {
+    let mut out = [255; 16];
+    let len = canon_filled(7, 4, &[1, 2], &mut out);
+    wrote(&rt, len, 8, &out, &[8, 0, 7, 0, 1, 2, 0, 0, 255]);
+    let len = canon_filled(7, 4, &[1, 2, 3, 4, 5], &mut out);
+    wrote(&rt, len, 8, &out, &[8, 0, 7, 0, 1, 2, 3, 4, 255]);
 }
 
 #[test]
