@@ -1,21 +1,15 @@
 -- Extent masks and wireless events, written from the payloads that they were read from.
-use Rattle.std.proofs.Common.{◌≡◌, ℕ, ◌-◌, ◌^◌, ◌<◌, ◌≤◌, List, length, take, drop, sym, ap, ◌∙◌, subst, arith, length-append, length-take, length-drop, Result, Ok, Err, IsOk, Option, Some, None}
+use Rattle.std.proofs.Common.{◌≡◌, ℕ, ◌^◌, ◌<◌, List, length, sym, ap, ◌∙◌, subst, arith, Ok, IsOk, Option, Some, None}
 use Rattle.std.specs.Int.{w32, to_le_bytes, from_le_bytes}
-use borrow.Rule.Slice.PartMut.{put_mid}
-use Rattle.nla_wire.specs.Sizes.{most_payload}
 use Rattle.nla_wire.specs.Frames.{IsBytes}
 use Rattle.nla_wire.specs.Payloads.{number_of}
 use Rattle.nla_wire.specs.Canon.{canon, Writes, Closed, Canonical}
-use Rattle.nla_wire.specs.declared.error.Cause.{Cause}
 use Rattle.nla_wire.proofs.Agreement.{as_agrees, number_agrees, sized_agrees}
-use Rattle.nla_wire.proofs.Canonical.{lent_back, closed_value}
 use Rattle.nla_wire.proofs.FieldLemmas.{length-to_le_bytes, from_le_bytes_below}
 use Rattle.nla_wire.proofs.Meaning.{accepted_means}
 use Rattle.link_vals.specs.LinkExtentMaskTable.{ext_list, ext_sum}
 use Rattle.link_vals.proofs.ExtentSums.{sums_back}
 use Rattle.link_vals.specs.declared.ext_mask.LinkExtentMask.{LinkExtentMask}
-use Rattle.link_vals.specs.LinkPhysIdBytes.{phys_id_of, phys_id_bytes}
-use Rattle.link_vals.proofs.PhysIds.{length-phys_id_bytes}
 use Rattle.link_nest.specs.Wireless.{wireless_of, wireless_event, wireless_text, WirelessFits}
 use Rattle.link_nest.specs.WirelessLaws.{wireless_length}
 use Rattle.link_nest.specs.declared.wireless.WirelessEvent.{WirelessEvent}

@@ -1,7 +1,7 @@
 -- The table of shapes agrees with the lines of the outermost place: what is checked and written from a payload by its shape is
 -- what the place reads and what its value is written as.
 use Rattle.std.proofs.Common.{◌≡◌, ℕ, ℤ, ◌^◌, ◌<◌, ◌≤◌, ◌==◌, Bool, true, false, eqb-true, List, [], ◌∷◌, length, if◌then◌else◌, refl, sym, ap, ◌∙◌, subst, arith, Option, None, Some, Result, Ok, Err, IsOk}
-use Rattle.std.specs.Int.{Width, w8, w32, byte_len, to_le_bytes, cast_signed, cast_unsigned}
+use Rattle.std.specs.Int.{Width, w8, w32, to_le_bytes, cast_signed, cast_unsigned}
 use Rattle.nla_wire.specs.Sizes.{most_payload}
 use Rattle.nla_wire.specs.Frames.{Frame, number, IsBytes}
 use Rattle.nla_wire.specs.Reading.{◌>>=◌}

@@ -4,10 +4,10 @@ use Rattle.std.specs.List.{AllByRecursion}
 use Rattle.std.specs.Int.{w8, w32, to_le_bytes}
 use Rattle.std.proofs.Common.{lit<, lit≤, sym, ap, subst, arith}
 use Rattle.nla_wire.specs.Sizes.{growth, slack, most_payload, attribute_small, inner_small}
-use Rattle.nla_wire.specs.Frames.{Frame, number, missing}
+use Rattle.nla_wire.specs.Frames.{Frame, number}
 use Rattle.nla_wire.specs.Canon.{AllFit, canon, canons, one, total}
 use Rattle.nla_wire.specs.Grammar.{Grammar, list, not_empty, Row, row, kept, by_payload}
-use Rattle.nla_wire.specs.Payloads.{text, filled, sized}
+use Rattle.nla_wire.specs.Payloads.{filled, sized}
 use Rattle.nla_wire.proofs.Lawful.{LawfulPlace, LawfulPayload, LawfulRows, LawfulReading, table_over_lawful, place_lawful, row_lawful, list_lawful, some_lawful, less, kept_lawful, number_lawful, signed_lawful, through_lawful, enum_lawful, filled_lawful, filled_record_lawful, sized_record_lawful, text_bounded, text_lawful, bytes_lawful, always, none}
 use Rattle.nla_wire.proofs.PlaceLaws.{all_always}
 use Rattle.link_vals.specs.StateTable.{state_of, state_number}

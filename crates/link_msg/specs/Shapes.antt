@@ -1,6 +1,6 @@
 -- The attributes whose values take no memory, by the shape of their payloads: which numbers have it, which payloads are read,
 -- and what the canonical text of a payload is.
-use Rattle.std.specs.Prelude.{ℕ, ◌==◌, List, [], ◌∷◌, take, if◌then◌else◌, Option, None, Some, Result, Ok, Err}
+use Rattle.std.specs.Prelude.{ℕ, ◌==◌, List, [], ◌∷◌, take, if◌then◌else◌, Option, None, Some, Result, Ok}
 use Rattle.std.specs.Int.{w8, w32, to_le_bytes, from_le_bytes}
 use Rattle.nla_wire.specs.Fields.{zero_filled}
 use Rattle.nla_wire.specs.Reading.{◌>>=◌}

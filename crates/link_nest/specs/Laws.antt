@@ -2,10 +2,9 @@
 -- how many values and how many bytes of text there are.
 use Rattle.std.specs.Prelude.{refl}
 use Rattle.std.specs.Int.{w8, w32, to_le_bytes}
-use Rattle.std.proofs.Common.{ℕ, ◌+◌, ◌*◌, ◌/◌, ◌≤◌, length, arith, lit<, lit≤, ap}
+use Rattle.std.proofs.Common.{◌+◌, ◌*◌, ◌/◌, ◌≤◌, length, lit<, lit≤}
 use Rattle.nla_wire.specs.Sizes.{growth, slack, inner_small}
 use Rattle.nla_wire.specs.Frames.{Frame}
-use Rattle.nla_wire.specs.Grammar.{Grammar}
 use Rattle.nla_wire.specs.Canon.{canon, one}
 use Rattle.nla_wire.proofs.Lawful.{LawfulPayload, LawfulPlace, table_lawful, row_lawful, text_lawful, number_lawful, signed_lawful, enum_lawful, text_bounded, always, none}
 use Rattle.link_vals.specs.XdpAttachedTable.{xdp_attached_of, xdp_attached_number}

@@ -2,15 +2,14 @@
 -- how many values and how many bytes of text there are.
 use Rattle.std.specs.Prelude.{refl}
 use Rattle.std.specs.Int.{w64}
-use Rattle.std.proofs.Common.{ℕ, ◌+◌, ◌*◌, ◌/◌, ◌<◌, ◌≤◌, List, [], length, arith, lit<, lit≤}
+use Rattle.std.proofs.Common.{◌+◌, ◌*◌, ◌/◌, ◌<◌, ◌≤◌, [], length, lit<, lit≤}
 use Rattle.std.specs.List.{AllByRecursion}
 use Rattle.nla_wire.specs.Sizes.{growth, slack, attribute_small, inner_small}
-use Rattle.nla_wire.specs.Frames.{Frame, IsBytes, missing}
-use Rattle.nla_wire.specs.Grammar.{Grammar, Agrees, list, not_empty}
-use Rattle.nla_wire.specs.Payloads.{sized}
+use Rattle.nla_wire.specs.Frames.{Frame, IsBytes}
+use Rattle.nla_wire.specs.Grammar.{Agrees, list, not_empty}
 use Rattle.nla_wire.specs.Canon.{canon, canons, AllFit, one, total}
 use Rattle.nla_wire.proofs.Agreement.{as_agrees}
-use Rattle.nla_wire.proofs.Lawful.{LawfulPayload, LawfulPlace, table_lawful, row_lawful, number_lawful, sized_record_lawful, text_bounded, list_lawful, some_lawful, picked_lawful, some_picked_lawful, wrapped_lawful, as_lawful, always, none}
+use Rattle.nla_wire.proofs.Lawful.{LawfulPayload, LawfulPlace, table_lawful, row_lawful, number_lawful, sized_record_lawful, text_bounded, list_lawful, some_lawful, picked_lawful, some_picked_lawful, wrapped_lawful, as_lawful, always}
 use Rattle.nla_wire.proofs.PlaceLaws.{all_always}
 use Rattle.link_vfrec.specs.Records.{vf_info_mac_size, vf_info_mac_of, vf_info_mac_bytes, vf_info_broadcast_size, vf_info_broadcast_of, vf_info_broadcast_bytes, vf_info_vlan_size, vf_info_vlan_of, vf_info_vlan_bytes, vf_info_tx_rate_size, vf_info_tx_rate_of, vf_info_tx_rate_bytes, vf_info_rate_size, vf_info_rate_of, vf_info_rate_bytes, vf_info_spoof_check_size, vf_info_spoof_check_of, vf_info_spoof_check_bytes, vf_info_rss_query_en_size, vf_info_rss_query_en_of, vf_info_rss_query_en_bytes, vf_info_trust_size, vf_info_trust_of, vf_info_trust_bytes, vf_info_link_state_size, vf_info_link_state_of, vf_info_link_state_bytes, vf_info_guid_size, vf_info_guid_of, vf_info_guid_bytes, vf_vlan_info_size, vf_vlan_info_of, vf_vlan_info_bytes}
 use Rattle.link_vfrec.proofs.Records.{vf_info_mac_again, length_vf_info_mac_bytes, vf_info_broadcast_again, length_vf_info_broadcast_bytes, vf_info_vlan_again, length_vf_info_vlan_bytes, vf_info_tx_rate_again, length_vf_info_tx_rate_bytes, vf_info_rate_again, length_vf_info_rate_bytes, vf_info_spoof_check_again, length_vf_info_spoof_check_bytes, vf_info_rss_query_en_again, length_vf_info_rss_query_en_bytes, vf_info_trust_again, length_vf_info_trust_bytes, vf_info_link_state_again, length_vf_info_link_state_bytes, vf_info_guid_again, length_vf_info_guid_bytes, vf_vlan_info_again, length_vf_vlan_info_bytes}

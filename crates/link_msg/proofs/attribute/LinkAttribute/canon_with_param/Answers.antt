@@ -1,8 +1,8 @@
-use Rattle.std.proofs.Common.{◌≡◌, sym, ap, ◌∙◌, subst, IsOk, Some, None}
-use Rattle.nla_wire.specs.Frames.{number, IsBytes}
-use Rattle.nla_wire.specs.Canon.{canon, Closed, Canonical}
+use Rattle.std.proofs.Common.{sym, ap, ◌∙◌, subst, IsOk}
+use Rattle.nla_wire.specs.Frames.{IsBytes}
+use Rattle.nla_wire.specs.Canon.{canon, Canonical}
 use Rattle.link_msg.specs.Values.{attribute_frame, AttributeFits}
-use Rattle.link_msg.specs.Shapes.{shape_of, shape_reads, shape_text}
+use Rattle.link_msg.specs.Shapes.{shape_of}
 use Rattle.link_msg.proofs.Shaped.{shapeless, shape_accepted, shape_canonical}
 use Rattle.link_msg.proofs.attribute.LinkAttribute.canon_with_param.Goals as goal
 

@@ -1,6 +1,6 @@
-use Rattle.std.proofs.Common.{◌≡◌, sym, ap, ◌∙◌, subst, Some, None}
+use Rattle.std.proofs.Common.{sym, ap, ◌∙◌, subst}
 use Rattle.nla_wire.specs.Gives.{Checks}
-use Rattle.link_msg.specs.Shapes.{shape_of, shape_reads}
+use Rattle.link_msg.specs.Shapes.{shape_of}
 use Rattle.link_msg.proofs.Shaped.{shapeless, shape_checks}
 use Rattle.link_msg.proofs.attribute.LinkAttribute.check_with_param.Goals as goal
 
