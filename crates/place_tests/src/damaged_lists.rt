@@ -109,6 +109,10 @@ fn lists_of_families(rt: HostRuntime) {
     for (family, number) in [(7, 26), (7, 12), (10, 12)] {
         is_a_place(&rt, rt.alloc(), family, &[number], Some(Cause::EmptyList));
     }
+}
+
+#[test]
+fn bytes_of_other_families(rt: HostRuntime) {
     for (family, number) in [(2, 26), (10, 26), (2, 12), (0, 12)] {
         fails_in(&rt, rt.alloc(), family, &[number], &[255], None);
     }

@@ -1,6 +1,6 @@
 //! Empty lists of ports, and what `same_message` answers of them.
 
-use crate::testing::{are_same, got, is_refused};
+use crate::testing::{are_same, got, is_refused, read_message};
 use link_msg::*;
 use std::alloc::Global;
 use std::process::Abort;
@@ -20,7 +20,7 @@ fn has_no_text(rt: &impl Abort, alloc: Global, bytes: &[u8], wanted: u8) {
 
 #[test]
 fn no_ports_cannot_be_written(rt: HostRuntime) {
-    let read = got(&rt, LinkMessage::parse(rt.alloc(), &NO_PORTS));
+    let read = read_message(&rt, rt.alloc(), &NO_PORTS);
     assert!(rt; read.fits());
     assert!(rt; read.has_empty_ports());
     has_no_text(&rt, rt.alloc(), &NO_PORTS, 3);

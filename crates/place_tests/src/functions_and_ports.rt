@@ -322,17 +322,21 @@ fn four_levels_written(rt: HostRuntime) {
     wrote(&rt, len, 28, &out, &VLAN_TEXT);
 }
 
+/// An attribute of this kind fits, and is written as this text, at the end of a longer buffer too.
+fn is_filled<N: Nla>(rt: &impl Abort, nla: &N, kind: u16, text: &[u8; 28]) {
+    assert!(rt; nla.kind() == kind);
+    assert!(rt; nla.fits());
+    assert!(rt; nla.buffer_len() == 28);
+    let mut buffer = [255; 30];
+    nla.emit(&mut buffer);
+    begin(rt, &buffer, text);
+    assert!(rt; nla.fill(&mut buffer) == 2);
+    are(rt, &buffer[2..], text);
+}
+
 #[test]
 fn four_levels_filled(rt: HostRuntime) {
-    let function = vlan_function(&rt, rt.alloc());
-    assert!(rt; function.kind() == 1);
-    assert!(rt; function.fits());
-    assert!(rt; function.buffer_len() == 28);
-    let mut buffer = [255; 30];
-    function.emit(&mut buffer);
-    begin(&rt, &buffer, &VLAN_TEXT);
-    assert!(rt; function.fill(&mut buffer) == 2);
-    are(&rt, &buffer[2..], &VLAN_TEXT);
+    is_filled(&rt, &vlan_function(&rt, rt.alloc()), 1, &VLAN_TEXT);
 }
 
 /// What a port's payload is refused for, or nothing.

@@ -1,7 +1,7 @@
 use crate::testing::*;
 use link_msg::*;
 use link_vals::{AddressFamily, LinkLayerType};
-use nla_wire::{Cause, CloneIn};
+use nla_wire::Cause;
 use std::alloc::Global;
 use std::process::Abort;
 
@@ -33,7 +33,7 @@ fn refuses(rt: &impl Abort, alloc: Global, attributes: &[u8], cause: Cause) {
 /// These attributes have this canonical text, made in memory and without.
 fn becomes(rt: &impl Abort, alloc: Global, attributes: &[u8], want: &[u8]) {
     let bytes = message(rt, alloc, attributes);
-    let text = got(rt, canonical(alloc, bytes.as_slice()));
+    let text = text_made(rt, alloc, bytes.as_slice());
     assert!(rt; text.len() == 16 + want.len());
     are(rt, &text.as_slice()[16..], want);
     is_written(rt, bytes.as_slice(), text.as_slice());
@@ -68,15 +68,15 @@ fn a_header_has_sixteen_bytes(rt: HostRuntime) {
 #[test]
 fn an_unlisted_layer_type_is_void(rt: HostRuntime) {
     let bytes = [0, 255, 0x61, 0x1e, 0, 0, 0, 0, 0, 0, 0, 0, 0, 0, 0, 0];
-    let read = got(&rt, LinkMessage::parse(rt.alloc(), &bytes));
+    let read = read_message(&rt, rt.alloc(), &bytes);
     assert!(rt; read.header.link_layer_type == LinkLayerType::Void);
-    let text = got(&rt, canonical(rt.alloc(), &bytes));
+    let text = text_made(&rt, rt.alloc(), &bytes);
     begin(&rt, text.as_slice(), &[0, 0, 0xff, 0xff]);
 }
 
 #[test]
 fn a_name_gets_its_nul_and_padding(rt: HostRuntime) {
-    let text = got(&rt, canonical(rt.alloc(), &NAME));
+    let text = text_made(&rt, rt.alloc(), &NAME);
     are(&rt, text.as_slice(), &NAME_TEXT);
     becomes(&rt, rt.alloc(), &NAME[16..], &NAME_TEXT[16..]);
 }
@@ -130,7 +130,7 @@ fn the_first_fault_is_answered(rt: HostRuntime) {
 
 #[test]
 fn texts_are_filled(rt: HostRuntime) {
-    let read = got(&rt, LinkMessage::parse(rt.alloc(), &NAME));
+    let read = read_message(&rt, rt.alloc(), &NAME);
     assert!(rt; read.fits());
     assert!(rt; read.buffer_len() == 24);
     let mut buffer = [255; 30];
@@ -141,7 +141,7 @@ fn texts_are_filled(rt: HostRuntime) {
 
 #[test]
 fn texts_are_emitted(rt: HostRuntime) {
-    let read = got(&rt, LinkMessage::parse(rt.alloc(), &NAME));
+    let read = read_message(&rt, rt.alloc(), &NAME);
     assert!(rt; !read.has_empty_ports());
     assert!(rt; read.fits());
     assert!(rt; read.buffer_len() == 24);
@@ -162,9 +162,8 @@ fn a_new_message_is_a_header(rt: HostRuntime) {
 
 #[test]
 fn a_copy_is_the_same(rt: HostRuntime) {
-    let read = got(&rt, LinkMessage::parse(rt.alloc(), &NAME));
-    let copy = got(&rt, read.clone(rt.alloc()));
-    assert!(rt; copy == read);
+    let read = read_message(&rt, rt.alloc(), &NAME);
+    is_copied(&rt, rt.alloc(), &read, &read);
 }
 
 #[test]

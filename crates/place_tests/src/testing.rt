@@ -1,6 +1,6 @@
 //! What the tests share.
 
-use link_msg::{CanonError, same_message};
+use link_msg::{CanonError, LinkMessage, canonical, same_message};
 use nla_wire::exact::same;
 use nla_wire::{
     Cause, CloneIn, DecodeError, DefaultNla, Exact, Nla, NlaRead, Text, emit_nlas, nlas_buffer_len,
@@ -157,6 +157,16 @@ pub(crate) fn is_refused<T: Drop>(
 pub(crate) fn wrote(rt: &impl Abort, len: Option<usize>, wanted: usize, out: &[u8], front: &[u8]) {
     assert!(rt; len == Some(wanted));
     begin(rt, out, front);
+}
+
+/// The message that the bytes mean.
+pub(crate) fn read_message(rt: &impl Abort, alloc: Global, bytes: &[u8]) -> LinkMessage {
+    got(rt, LinkMessage::parse(alloc, bytes))
+}
+
+/// The canonical text of a message.
+pub(crate) fn text_made(rt: &impl Abort, alloc: Global, bytes: &[u8]) -> Vec<u8> {
+    got(rt, canonical(alloc, bytes))
 }
 
 /// Whether two messages mean the same.

@@ -3,8 +3,8 @@
 use crate::testing::{begin, got};
 use nla_wire::Nla;
 use nla_wire::canon::{
-    canon_bytes, canon_filled, canon_i32, canon_ipv6_addr, canon_of, canon_text, canon_u8, canon_u16, canon_u32,
-    canon_u64, canon_value,
+    canon_bytes, canon_filled, canon_i32, canon_ipv6_addr, canon_of, canon_text, canon_u8,
+    canon_u16, canon_u32, canon_u64, canon_value,
 };
 use nla_wire::default_nla::DefaultNla;
 use std::process::Abort;
