@@ -1,11 +1,12 @@
 //! Payloads of attributes: lists that are not empty, extent masks, events and truth values.
 
-ghost use Rattle.std.specs.Prelude.{◌≡◌, ◌*◌, ◌+◌, ◌≤◌, ◌<◌, ◌^◌, length, IsOk, IfOk};
+ghost use Rattle.std.specs.Prelude.{◌≡◌, ◌*◌, ◌+◌, ◌≤◌, ◌<◌, ◌^◌, length, IsOk, IfOk, IfErr};
 ghost use Rattle.std.specs.Int.{w32, to_le_bytes};
 ghost use Rattle.nla_wire.specs.Sizes.{most_payload, growth_per_byte};
 ghost use Rattle.nla_wire.specs.Grammar.{list, not_empty};
 ghost use Rattle.nla_wire.specs.Canon.{canon, canons, AllFit, Canonical};
 ghost use Rattle.nla_wire.specs.Gives.{Gives, Checks};
+ghost use Rattle.nla_wire.specs.declared.error.Cause.TheVariants.{OutOfMemory};
 ghost use Rattle.link_vals.specs.LinkExtentMaskTable.{ext_sum};
 ghost use Rattle.link_nest.specs.Wireless.{wireless_event, wireless_text, WirelessFits};
 ghost use Rattle.link_vf.specs.Values.{link_vf_port_frame, LinkVfPortFits};
@@ -115,12 +116,13 @@ pub(crate) fn canon_mask(kind: u16, payload: &[u8], out: &mut [u8]) -> Option<us
     canon_u32(kind, payload, out)
 }
 
-/// A copy of flags.
+/// A copy of flags, or `OutOfMemory`.
 pub(crate) fn clone_mask(
     alloc: Global,
     flags: &[LinkExtentMask],
 ) -> Result<List<LinkExtentMask>, DecodeError>
-    ensures { IfOk result (λ copy. copy ≡ flags.now) }
+    ensures copy { IfOk result (λ copy. copy ≡ flags.now) }
+    ensures memory { IfErr result (λ e. e.cause ≡ OutOfMemory) }
 {
     let copy = Vec::from_slice(alloc, flags)?;
     Ok(List::new(copy))

@@ -17,7 +17,8 @@ use std::marker::Model;
 pub trait CloneIn: Sized {
     /// An equal value, or `OutOfMemory`.
     fn clone(&self, alloc: Global) -> Result<Self, DecodeError>
-        ensures copy { IfOk result (λ copy. copy ≡ self.now) };
+        ensures copy { IfOk result (λ copy. copy ≡ self.now) }
+        ensures memory { IfErr result (λ e. e.cause ≡ OutOfMemory) };
 }
 
 /// Bytes that are kept as they are.
