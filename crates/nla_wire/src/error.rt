@@ -72,7 +72,8 @@ pub struct DecodeError {
 impl DecodeError {
     /// The fault of this cause at this place.
     pub fn new(place: &'static str, cause: Cause) -> DecodeError
-        ensures { result.cause ≡ cause }
+        ensures why { result.cause ≡ cause }
+        ensures named { result.place.now ≡ place.now }
     {
         DecodeError { place, cause }
     }
