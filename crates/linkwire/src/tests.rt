@@ -1,3 +1,4 @@
+mod damaged;
 mod faults;
 mod lines;
 mod pieces;

@@ -1,3 +1,4 @@
+use super::damaged;
 use super::pieces::{NEVER, answers_to, run_in_pieces};
 use super::rows::{self, Row};
 use std::alloc::Global;
@@ -61,6 +62,33 @@ fn settings_by_family(rt: HostRuntime) -> Result<(), Fail> {
 #[test]
 fn whole_messages(rt: HostRuntime) -> Result<(), Fail> {
     answers(&rt, rt.alloc(), &rows::WHOLE)
+}
+
+/// Each line is refused.
+fn are_refused(rt: &impl Abort, alloc: Global, lines: &[&str]) -> Result<(), Fail> {
+    for line in lines {
+        let text = format!(in alloc; "{line}\n")?;
+        let got = answers_to(alloc, text.as_bytes())?;
+        assert_eq!(rt; got.as_slice(), b"refused\n".as_slice(), "line {line}");
+    }
+    Ok(())
+}
+
+#[test]
+fn damaged_lists(rt: HostRuntime) -> Result<(), Fail> {
+    are_refused(&rt, rt.alloc(), &damaged::STRAY_ENDS)?;
+    are_refused(&rt, rt.alloc(), &damaged::LONG_LENGTHS)?;
+    are_refused(&rt, rt.alloc(), &damaged::SHORT_LENGTHS)
+}
+
+#[test]
+fn lists_without_members(rt: HostRuntime) -> Result<(), Fail> {
+    answers(&rt, rt.alloc(), &damaged::EMPTY_LISTS)
+}
+
+#[test]
+fn lists_of_foreign_members(rt: HostRuntime) -> Result<(), Fail> {
+    answers(&rt, rt.alloc(), &damaged::FOREIGN_MEMBERS)
 }
 
 #[test]
