@@ -19,6 +19,7 @@ if [ $# = 0 ]; then
     set -- $(ls "$top/edits")
 fi
 for crate in "$@"; do
+    mkdir -p "$folder/crates/$crate/must-fail"
     cp "$top/edits/$crate/"*.edit "$folder/crates/$crate/must-fail/"
 done
 cd "$folder"
