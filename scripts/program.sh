@@ -1,7 +1,8 @@
 #!/usr/bin/env bash
 # Runs the built program where a read, a write or a growth fails, and looks at its status and its line.
 set -euo pipefail
-program=$(cd "$(dirname "$0")/.." && pwd)/crates/linkwire/out/linkwire
+top=$(cd "$(dirname "$0")/.." && pwd)
+program=$top/crates/linkwire/out/linkwire
 folder=$(mktemp -d)
 trap 'rm -rf "$folder"' EXIT
 
@@ -42,3 +43,22 @@ for line in 0 00 zz; do
     fi
 done
 echo "program: answers before the next line: ok"
+
+# each growth is refused in turn on the stored input, until none is: the fault, and a beginning of the answers
+${CC:-cc} -O2 -Wall -Wextra -Werror -shared -fPIC -o "$folder/refuse.so" "$top/tests/c/refuse_growth.c"
+stored=$top/crates/linkwire
+for ((call = 1; ; call++)); do
+    rm -f "$folder/refused"
+    status=0
+    REFUSED_CALL=$call REFUSED_MARK=$folder/refused LD_PRELOAD=$folder/refuse.so \
+        "$program" <"$stored/stdin" >"$folder/out" 2>"$folder/err" || status=$?
+    if [ ! -e "$folder/refused" ]; then
+        break
+    fi
+    if ! head -c "$(stat -c %s "$folder/out")" "$stored/stdout" | cmp -s - "$folder/out"; then
+        echo "program: growth $call refused: no beginning of the answers" >&2
+        exit 1
+    fi
+    wants "growth $call refused" 1 "$(cat "$folder/out")" "linkwire: out of memory"
+done
+wants "no growth refused, after $((call - 1))" 0 "$(cat "$stored/stdout")" ""
