@@ -45,7 +45,7 @@ done
 echo "program: answers before the next line: ok"
 
 # each growth is refused in turn on the stored input, until none is: the fault, and a beginning of the answers
-${CC:-cc} -O2 -Wall -Wextra -Werror -shared -fPIC -o "$folder/refuse.so" "$top/tests/c/refuse_growth.c"
+${CC:-cc} -O2 -Wall -Wextra -Werror -shared -fPIC -o "$folder/refuse.so" "$top/tests/program/refuse_growth.c"
 stored=$top/crates/linkwire
 for ((call = 1; ; call++)); do
     rm -f "$folder/refused"
