@@ -1,15 +1,11 @@
 //! Settings of IPv4 on a link, members of AF_INET in IFLA_AF_SPEC.
 
-ghost use Rattle.std.specs.Prelude.{◌+◌, ◌≤◌, length, Ok};
-ghost use Rattle.nla_wire.specs.Canon.{canon, Canonical};
-ghost use Rattle.link_recs.specs.InetDevConfFields.{inet_dev_conf_size};
 ghost use Rattle.link_afspec.specs.Values.{af_spec_inet_frame, AfSpecInetFits};
 
 use crate::request::{fill_request, request_len};
 use link_recs::InetDevConf;
 use nla_wire::{
     CloneIn, DecodeError, DefaultNla, Exact, NLA_F_NESTED, Nla, NlaBuffer, NlaRead, canon_bytes,
-    canon_of,
 };
 use std::alloc::Global;
 
@@ -69,15 +65,6 @@ impl Nla for AfSpecInet {
     }
 }
 
-/// Writes settings as an attribute to the front of the buffer, and answers its length with padding.
-fn canon_settings(settings: &AfSpecInet, out: &mut [u8]) -> Option<usize>
-    requires short { length (af_spec_inet_frame settings.now).payload ≤ inet_dev_conf_size }
-    requires room { 4 + inet_dev_conf_size ≤ length out.old }
-    ensures { Canonical (λ v. canon (af_spec_inet_frame v)) AfSpecInetFits (Ok settings.now) out.old out.new result }
-{
-    canon_of(settings, out)
-}
-
 impl NlaRead for AfSpecInet {
     ghost use Rattle.link_afspec.specs.Places.{af_spec_inet_place};
     ghost use Rattle.link_afspec.specs.Laws.{af_spec_inet_lawful, af_spec_inet_bounded};
@@ -97,13 +84,10 @@ impl NlaRead for AfSpecInet {
         Ok(())
     }
 
-    #[tactic(auto, unfolding(crate::specs::Places::af_spec_inet_place), using(link_recs::proofs::InetDevConfLemmas::length_inet_dev_conf_bytes))]
+    #[tactic(auto, unfolding(crate::specs::Places::af_spec_inet_place))]
     fn canon(buffer: &NlaBuffer<'_>, out: &mut [u8]) -> Option<usize> {
         match buffer.kind() {
-            1 => {
-                let conf = InetDevConf::read_padded(buffer.value());
-                canon_settings(&AfSpecInet::DevConf(conf), out)
-            }
+            1 => InetDevConf::canon(1, buffer.value(), out),
             _ => canon_bytes(buffer.kind_with_flags(), buffer.value(), out),
         }
     }

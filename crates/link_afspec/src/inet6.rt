@@ -1,19 +1,15 @@
 //! Settings and statistics of IPv6 on a link, members of AF_INET6 in IFLA_AF_SPEC.
 
-ghost use Rattle.std.specs.Prelude.{◌≡◌, ◌≤◌, length, Ok, Err, IfOk, IfSome, MatchResult, unwrap_or};
-ghost use Rattle.nla_wire.specs.Sizes.{growth};
-ghost use Rattle.nla_wire.specs.Canon.{canon, Canonical};
+ghost use Rattle.std.specs.Prelude.{◌≡◌};
 ghost use Rattle.nla_wire.specs.Gives.{without_place};
-ghost use Rattle.link_recs.specs.Inet6StatsFields.{inet6_stats_size};
 ghost use Rattle.link_afspec.specs.Values.{af_spec_inet6_frame, AfSpecInet6Fits};
 ghost use Rattle.link_afspec.specs.Places.{iface_flags, addr_gen_mode, af_spec_inet6_place};
-ghost use Rattle.link_afspec.specs.declared.inet6.AfSpecInet6.TheVariants.{Other};
 
 use link_recs::{Icmp6Stats, Inet6CacheInfo, Inet6DevConf, Inet6Stats};
 use link_vals::{In6AddrGenMode, Inet6IfaceFlags};
 use nla_wire::{
-    CloneIn, DecodeError, DefaultNla, Exact, Nla, NlaBuffer, NlaRead, canon_bytes, canon_of,
-    fill_bytes, parse_ipv6_addr, parse_u8, parse_u32,
+    CloneIn, DecodeError, DefaultNla, Exact, Nla, NlaBuffer, NlaRead, canon_bytes, canon_ipv6_addr,
+    canon_u8, canon_u32, fill_bytes, parse_ipv6_addr, parse_u8, parse_u32,
 };
 use std::alloc::Global;
 use std::net::Ipv6Addr;
@@ -122,58 +118,52 @@ fn parse_mode(payload: &[u8]) -> Result<In6AddrGenMode, DecodeError>
     parse_u8(payload).map(In6AddrGenMode::from)
 }
 
-/// The value of an attribute, if its number is listed: no memory is taken.
-#[tactic(auto, unfolding(crate::specs::Places::af_spec_inet6_place), using(link_recs::proofs::Inet6DevConfLemmas::length_inet6_dev_conf_bytes, link_recs::proofs::Inet6StatsLemmas::length_inet6_stats_bytes, link_recs::proofs::Icmp6StatsLemmas::length_icmp6_stats_bytes, link_recs::proofs::Inet6CacheInfoLemmas::length_inet6_cache_info_bytes))]
-fn read_listed(buffer: &NlaBuffer<'_>) -> Result<Option<AfSpecInet6>, DecodeError>
-    ensures reads { MatchResult result
-        (λ value. af_spec_inet6_place.reads buffer.now ≡ Ok (unwrap_or value (Other buffer.now)))
-        (λ e. af_spec_inet6_place.reads buffer.now ≡ Err e.cause) }
-    ensures short { IfOk result (λ value. IfSome value (λ v. length (af_spec_inet6_frame v).payload ≤ inet6_stats_size)) }
-{
-    let payload = buffer.value();
-    match buffer.kind() {
-        1 => Ok(Some(AfSpecInet6::Flags(parse_flags(payload)?))),
-        2 => Ok(Some(AfSpecInet6::DevConf(Inet6DevConf::read_padded(payload)))),
-        3 => Ok(Some(AfSpecInet6::Stats(Inet6Stats::read_padded(payload)))),
-        5 => Ok(Some(AfSpecInet6::CacheInfo(Inet6CacheInfo::parse(payload)?))),
-        6 => Ok(Some(AfSpecInet6::Icmp6Stats(Icmp6Stats::read_padded(payload)))),
-        7 => Ok(Some(AfSpecInet6::Token(parse_ipv6_addr(payload)?))),
-        8 => Ok(Some(AfSpecInet6::AddrGenMode(parse_mode(payload)?))),
-        9 => Ok(Some(AfSpecInet6::RaMtu(parse_u32(payload)?))),
-        _ => Ok(None),
-    }
-}
-
-/// Writes a value as an attribute to the front of the buffer, and answers its length with padding.
-fn canon_listed(value: &AfSpecInet6, out: &mut [u8]) -> Option<usize>
-    requires short { length (af_spec_inet6_frame value.now).payload ≤ inet6_stats_size }
-    requires room { growth ≤ length out.old }
-    ensures { Canonical (λ v. canon (af_spec_inet6_frame v)) AfSpecInet6Fits (Ok value.now) out.old out.new result }
-{
-    canon_of(value, out)
-}
-
 impl NlaRead for AfSpecInet6 {
     ghost use Rattle.link_afspec.specs.Laws.{af_spec_inet6_lawful, af_spec_inet6_bounded};
 
     ghost grammar = { af_spec_inet6_place };
 
+    #[tactic(auto, unfolding(crate::specs::Places::af_spec_inet6_place))]
     fn parse(alloc: Global, buffer: &NlaBuffer<'_>) -> Result<AfSpecInet6, DecodeError> {
-        match read_listed(buffer)? {
-            Some(value) => Ok(value),
-            None => Ok(AfSpecInet6::Other(DefaultNla::parse(alloc, buffer)?)),
+        let payload = buffer.value();
+        match buffer.kind() {
+            1 => Ok(AfSpecInet6::Flags(parse_flags(payload)?)),
+            2 => Ok(AfSpecInet6::DevConf(Inet6DevConf::read_padded(payload))),
+            3 => Ok(AfSpecInet6::Stats(Inet6Stats::read_padded(payload))),
+            5 => Ok(AfSpecInet6::CacheInfo(Inet6CacheInfo::parse(payload)?)),
+            6 => Ok(AfSpecInet6::Icmp6Stats(Icmp6Stats::read_padded(payload))),
+            7 => Ok(AfSpecInet6::Token(parse_ipv6_addr(payload)?)),
+            8 => Ok(AfSpecInet6::AddrGenMode(parse_mode(payload)?)),
+            9 => Ok(AfSpecInet6::RaMtu(parse_u32(payload)?)),
+            _ => Ok(AfSpecInet6::Other(DefaultNla::parse(alloc, buffer)?)),
         }
     }
 
+    #[tactic(auto, unfolding(crate::specs::Places::af_spec_inet6_place))]
     fn check(buffer: &NlaBuffer<'_>) -> Result<(), DecodeError> {
-        let _value = read_listed(buffer)?;
-        Ok(())
+        let payload = buffer.value();
+        match buffer.kind() {
+            1 | 9 => parse_u32(payload).map(|_| ()),
+            5 => Inet6CacheInfo::parse(payload).map(|_| ()),
+            7 => parse_ipv6_addr(payload).map(|_| ()),
+            8 => parse_u8(payload).map(|_| ()),
+            _ => Ok(()),
+        }
     }
 
+    #[tactic(auto, unfolding(crate::specs::Places::af_spec_inet6_place, nla_wire::specs::Payloads::read_number, nla_wire::specs::Payloads::read_exactly, nla_wire::specs::Payloads::read_sized), using(link_vals::proofs::Numbers::in6_addr_gen_mode_again))]
     fn canon(buffer: &NlaBuffer<'_>, out: &mut [u8]) -> Option<usize> {
-        match read_listed(buffer).ok()? {
-            Some(value) => canon_listed(&value, out),
-            None => canon_bytes(buffer.kind_with_flags(), buffer.value(), out),
+        let payload = buffer.value();
+        match buffer.kind() {
+            1 => canon_u32(1, payload, out),
+            2 => Inet6DevConf::canon(2, payload, out),
+            3 => Inet6Stats::canon(3, payload, out),
+            5 => Inet6CacheInfo::canon(5, payload, out),
+            6 => Icmp6Stats::canon(6, payload, out),
+            7 => canon_ipv6_addr(7, payload, out),
+            8 => canon_u8(8, payload, out),
+            9 => canon_u32(9, payload, out),
+            _ => canon_bytes(buffer.kind_with_flags(), payload, out),
         }
     }
 

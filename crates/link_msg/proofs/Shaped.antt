@@ -26,8 +26,6 @@ use Rattle.link_vals.specs.declared.address_family.AddressFamily.{AddressFamily}
 use Rattle.link_recs.specs.StatsFields.{stats_of, stats_bytes}
 use Rattle.link_recs.specs.Stats64Fields.{stats64_of, stats64_bytes}
 use Rattle.link_recs.specs.MapFields.{map_size, map_of, map_bytes}
-use Rattle.link_recs.proofs.StatsLemmas.{stats_filled}
-use Rattle.link_recs.proofs.Stats64Lemmas.{stats64_filled}
 use Rattle.link_msg.specs.Values.{attribute_frame, InsideFits, AttributeFits, truth_number}
 use Rattle.link_msg.specs.Places.{is_true, number_rows, other_place, attribute_place}
 use Rattle.link_msg.specs.Shapes.{Shaped, shapes, shape_in, shape_of, is_read, shape_reads, shape_text}
@@ -200,10 +198,10 @@ truth_line : LineShape 67 Truth (by_payload (as_a Attributes.NetnsImmutable (as_
 truth_line = line_shape 67 Truth Attributes.NetnsImmutable (as_a is_true (number_of w8)) (λ v. to_le_bytes w8 (truth_number v)) truth_keeps (λ a. refl) (λ p a means. tt)
 
 stats_line : LineShape 7 Stats (by_payload (as_a Attributes.Stats (filled stats_of))).reads
-stats_line = line_shape 7 Stats Attributes.Stats (filled stats_of) stats_bytes (filled_keeps Stats stats_of stats_bytes (λ p. refl) stats_filled) (λ a. refl) (λ p a means. tt)
+stats_line = line_shape 7 Stats Attributes.Stats (filled stats_of) stats_bytes (filled_keeps Stats stats_of stats_bytes (λ p. refl) (λ p small. refl)) (λ a. refl) (λ p a means. tt)
 
 stats64_line : LineShape 23 Stats64 (by_payload (as_a Attributes.Stats64 (filled stats64_of))).reads
-stats64_line = line_shape 23 Stats64 Attributes.Stats64 (filled stats64_of) stats64_bytes (filled_keeps Stats64 stats64_of stats64_bytes (λ p. refl) stats64_filled) (λ a. refl) (λ p a means. tt)
+stats64_line = line_shape 23 Stats64 Attributes.Stats64 (filled stats64_of) stats64_bytes (filled_keeps Stats64 stats64_of stats64_bytes (λ p. refl) (λ p small. refl)) (λ a. refl) (λ p a means. tt)
 
 map_line : LineShape 14 Map (by_payload (as_a Attributes.Map (sized map_size map_of))).reads
 map_line = line_shape 14 Map Attributes.Map (sized map_size map_of) map_bytes map_keeps (λ a. refl) (λ p a means. tt)

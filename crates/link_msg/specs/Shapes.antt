@@ -2,12 +2,11 @@
 -- and what the canonical text of a payload is.
 use Rattle.std.specs.Prelude.{ℕ, ◌==◌, List, [], ◌∷◌, take, if◌then◌else◌, Option, None, Some, Result, Ok}
 use Rattle.std.specs.Int.{w8, w32, to_le_bytes, from_le_bytes}
-use Rattle.nla_wire.specs.Fields.{zero_filled}
 use Rattle.nla_wire.specs.Reading.{◌>>=◌}
 use Rattle.nla_wire.specs.Payloads.{number_of, sized}
 use Rattle.nla_wire.specs.declared.error.Cause.{Cause}
-use Rattle.link_recs.specs.StatsFields.{stats_size}
-use Rattle.link_recs.specs.Stats64Fields.{stats64_size}
+use Rattle.link_recs.specs.StatsFields.{stats_of, stats_bytes}
+use Rattle.link_recs.specs.Stats64Fields.{stats64_of, stats64_bytes}
 use Rattle.link_recs.specs.MapFields.{map_size, map_of, map_bytes}
 use Rattle.link_msg.specs.Values.{truth_number}
 use Rattle.link_msg.specs.Places.{is_true}
@@ -93,6 +92,6 @@ shape_text U8 p = p
 shape_text U32 p = p
 shape_text Truth p = to_le_bytes w8 (truth_number (is_true (from_le_bytes w8 p)))
 shape_text Id p = take 32 p
-shape_text Stats p = zero_filled stats_size p
-shape_text Stats64 p = zero_filled stats64_size p
+shape_text Stats p = stats_bytes (stats_of p)
+shape_text Stats64 p = stats64_bytes (stats64_of p)
 shape_text Map p = map_bytes (map_of p)

@@ -10,17 +10,11 @@ ghost use Rattle.link_msg.specs.Shapes.{shape_of, shape_reads, shape_text};
 ghost use Rattle.link_msg.specs.declared.shape.Shape.TheVariants as Shapes;
 
 use crate::payload::truth_byte;
-use link_recs::Map;
-use nla_wire::{DecodeError, canon_bytes, canon_filled, canon_value, parse_u8, parse_u32};
+use link_recs::{Map, Stats, Stats64};
+use nla_wire::{DecodeError, canon_bytes, canon_value, parse_u8, parse_u32};
 
 /// The most bytes of an id that are written.
 const ID_SIZE: usize = 32;
-/// The bytes of IFLA_STATS.
-const STATS_SIZE: usize = 96;
-/// The bytes of IFLA_STATS64.
-const STATS64_SIZE: usize = 200;
-/// The bytes of IFLA_MAP.
-const MAP_SIZE: usize = 32;
 
 /// What a payload has to be, and how its canonical text follows from it.
 #[derive(Clone, Copy)]
@@ -103,9 +97,11 @@ impl Shape {
         }
     }
 
-    #[tactic(auto, using(nla_wire::proofs::Front::all_bytes))]
     /// Writes the attribute of this kind that an accepted payload of this shape means to the front of the buffer, and
-    /// answers its length.
+    /// answers its length with padding. The rest of the buffer is kept.
+    ///
+    /// Such a text has at most 200 bytes, so that it always fits and the answer is never `None`.
+    #[tactic(auto, using(nla_wire::proofs::Front::all_bytes))]
     pub(crate) fn canon(self, kind: u16, payload: &[u8], out: &mut [u8]) -> Option<usize>
         requires accepted { IsOk (shape_reads self payload.now) }
         requires room { growth_per_byte * (4 + length payload.now) ≤ length out.old }
@@ -116,13 +112,14 @@ impl Shape {
             Shape::U8 | Shape::U32 => canon_bytes(kind, payload, out),
             Shape::Truth => canon_truth(kind, payload, out),
             Shape::Id => canon_value(kind, &payload[..payload.len().min(ID_SIZE)], out),
-            Shape::Stats => canon_filled(kind, STATS_SIZE, payload, out),
-            Shape::Stats64 => canon_filled(kind, STATS64_SIZE, payload, out),
-            Shape::Map => canon_map(kind, payload, out),
+            Shape::Stats => Stats::canon(kind, payload, out),
+            Shape::Stats64 => Stats64::canon(kind, payload, out),
+            Shape::Map => Map::canon(kind, payload, out),
         }
     }
 }
 
+/// Writes an attribute of one byte, 1 where the payload's is another than 0.
 fn canon_truth(kind: u16, payload: &[u8], out: &mut [u8]) -> Option<usize>
     requires accepted { IsOk (shape_reads Shapes.Truth payload.now) }
     requires room { growth_per_byte * (4 + length payload.now) ≤ length out.old }
@@ -130,16 +127,4 @@ fn canon_truth(kind: u16, payload: &[u8], out: &mut [u8]) -> Option<usize>
 {
     let value = parse_u8(payload).ok()? != 0;
     canon_value(kind, &[truth_byte(value)], out)
-}
-
-#[tactic(auto, using(link_recs::proofs::MapLemmas::length_map_bytes))]
-fn canon_map(kind: u16, payload: &[u8], out: &mut [u8]) -> Option<usize>
-    requires accepted { IsOk (shape_reads Shapes.Map payload.now) }
-    requires room { growth_per_byte * (4 + length payload.now) ≤ length out.old }
-    ensures { Closed kind (shape_text Shapes.Map payload.now) out.old out.new result }
-{
-    let map = Map::parse(payload).ok()?;
-    let mut bytes = [0; MAP_SIZE];
-    map.emit(&mut bytes);
-    canon_value(kind, &bytes, out)
 }

@@ -1,17 +1,17 @@
 //! Settings of IPv4 on a link (IFLA_INET_CONF).
 
 ghost use Rattle.std.proofs.Common.{rules};
-ghost use Rattle.std.specs.Prelude.{◌≡◌, ◌-◌, ◌≤◌, length, take, drop, slice_index_or, pos, MatchResult};
+ghost use Rattle.std.specs.Prelude.{◌≡◌, ◌+◌, ◌-◌, ◌≤◌, length, take, drop, slice_index_or, pos, MatchResult};
 ghost use Rattle.std.specs.Int.{w32};
 ghost use Rattle.nla_wire.specs.Fields.{signed_from, IsShort};
 ghost use Rattle.nla_wire.specs.Payloads.{sized};
 ghost use Rattle.nla_wire.specs.Gives.{without_place};
-ghost use Rattle.nla_wire.specs.Canon.{Filled};
+ghost use Rattle.nla_wire.specs.Canon.{Filled, Closed};
 ghost use Rattle.link_recs.specs.InetDevConfFields.{inet_dev_conf_size, inet_dev_conf_fields, inet_dev_conf_of, inet_dev_conf_bytes, inet_dev_conf_buffer_bytes, inet_dev_conf_listed, inet_dev_conf_decides};
 
 use crate::words::read_i32s;
 use nla_wire::fields::{put_i32s, too_short};
-use nla_wire::{DecodeError, Exact};
+use nla_wire::{DecodeError, Exact, canon_filled};
 
 /// The number of bytes of a record.
 pub const INET_DEV_CONF_SIZE: usize = 132;
@@ -174,6 +174,16 @@ impl InetDevConf {
             self.bc_forwarding,
             self.arp_evict_nocarrier,
         ]
+    }
+
+    /// Writes the attribute of this kind whose value is the record that a payload means, the payload cut to 132 bytes or
+    /// filled up with zeros, to the front of the buffer, and answers its length. The rest of the buffer is kept.
+    #[tactic(auto, using(crate::proofs::InetDevConfLemmas::inet_dev_conf_filled, nla_wire::proofs::Front::all_bytes))]
+    pub fn canon(kind: u16, payload: &[u8], out: &mut [u8]) -> Option<usize>
+        requires room { 4 + inet_dev_conf_size ≤ length out.old }
+        ensures { Closed kind (inet_dev_conf_bytes (inet_dev_conf_of payload.now)) out.old out.new result }
+    {
+        canon_filled(kind, INET_DEV_CONF_SIZE, payload, out)
     }
 
     /// The number of bytes that `emit` writes, 132.

@@ -1,16 +1,16 @@
 //! Times of the IPv6 neighbour cache of a link (IFLA_INET6_CACHEINFO).
 
 ghost use Rattle.std.proofs.Common.{rules};
-ghost use Rattle.std.specs.Prelude.{◌≡◌, ◌≤◌, length, take, drop, MatchResult};
+ghost use Rattle.std.specs.Prelude.{◌≡◌, ◌+◌, ◌≤◌, length, take, drop, MatchResult};
 ghost use Rattle.nla_wire.specs.Fields.{IsShort};
 ghost use Rattle.nla_wire.specs.Payloads.{sized};
 ghost use Rattle.nla_wire.specs.Gives.{without_place};
-ghost use Rattle.nla_wire.specs.Canon.{Filled};
+ghost use Rattle.nla_wire.specs.Canon.{Filled, Closed};
 ghost use Rattle.link_recs.specs.Inet6CacheInfoFields.{inet6_cache_info_size, inet6_cache_info_fields, inet6_cache_info_of, inet6_cache_info_bytes, inet6_cache_info_buffer_bytes, inet6_cache_info_listed, inet6_cache_info_decides};
 
 use crate::words::read_i32s;
 use nla_wire::fields::{put_i32s, too_short};
-use nla_wire::{DecodeError, Exact};
+use nla_wire::{DecodeError, Exact, canon_filled};
 
 /// The number of bytes of a record.
 pub const INET6_CACHE_INFO_SIZE: usize = 16;
@@ -77,6 +77,16 @@ impl Inet6CacheInfo {
             self.reachable_time,
             self.retrans_time,
         ]
+    }
+
+    /// Writes the attribute of this kind whose value is the record that a payload means, the payload cut to 16 bytes or
+    /// filled up with zeros, to the front of the buffer, and answers its length. The rest of the buffer is kept.
+    #[tactic(auto, using(crate::proofs::Inet6CacheInfoLemmas::inet6_cache_info_filled, nla_wire::proofs::Front::all_bytes))]
+    pub fn canon(kind: u16, payload: &[u8], out: &mut [u8]) -> Option<usize>
+        requires room { 4 + inet6_cache_info_size ≤ length out.old }
+        ensures { Closed kind (inet6_cache_info_bytes (inet6_cache_info_of payload.now)) out.old out.new result }
+    {
+        canon_filled(kind, INET6_CACHE_INFO_SIZE, payload, out)
     }
 
     /// The number of bytes that `emit` writes, 16.

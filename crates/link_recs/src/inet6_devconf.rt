@@ -1,17 +1,17 @@
 //! Settings of IPv6 on a link (IFLA_INET6_CONF).
 
 ghost use Rattle.std.proofs.Common.{rules};
-ghost use Rattle.std.specs.Prelude.{◌≡◌, ◌≤◌, length, take, drop, MatchResult};
+ghost use Rattle.std.specs.Prelude.{◌≡◌, ◌+◌, ◌≤◌, length, take, drop, MatchResult};
 ghost use Rattle.std.specs.Int.{w32};
 ghost use Rattle.nla_wire.specs.Fields.{signed_from, IsShort};
 ghost use Rattle.nla_wire.specs.Payloads.{sized};
 ghost use Rattle.nla_wire.specs.Gives.{without_place};
-ghost use Rattle.nla_wire.specs.Canon.{Filled};
+ghost use Rattle.nla_wire.specs.Canon.{Filled, Closed};
 ghost use Rattle.link_recs.specs.Inet6DevConfFields.{inet6_dev_conf_size, inet6_dev_conf_fields, inet6_dev_conf_of, inet6_dev_conf_bytes, inet6_dev_conf_buffer_bytes, inet6_dev_conf_listed, inet6_dev_conf_decides};
 
 use crate::words::read_i32s;
 use nla_wire::fields::{put_i32s, too_short};
-use nla_wire::{DecodeError, Exact};
+use nla_wire::{DecodeError, Exact, canon_filled};
 
 /// The number of bytes of a record.
 pub const INET6_DEV_CONF_SIZE: usize = 240;
@@ -256,6 +256,16 @@ impl Inet6DevConf {
             self.accept_ra_min_lft,
             self.force_forwarding,
         ]
+    }
+
+    /// Writes the attribute of this kind whose value is the record that a payload means, the payload cut to 240 bytes or
+    /// filled up with zeros, to the front of the buffer, and answers its length. The rest of the buffer is kept.
+    #[tactic(auto, using(crate::proofs::Inet6DevConfLemmas::inet6_dev_conf_filled, nla_wire::proofs::Front::all_bytes))]
+    pub fn canon(kind: u16, payload: &[u8], out: &mut [u8]) -> Option<usize>
+        requires room { 4 + inet6_dev_conf_size ≤ length out.old }
+        ensures { Closed kind (inet6_dev_conf_bytes (inet6_dev_conf_of payload.now)) out.old out.new result }
+    {
+        canon_filled(kind, INET6_DEV_CONF_SIZE, payload, out)
     }
 
     /// The number of bytes that `emit` writes, 240.

@@ -1,17 +1,17 @@
 //! Counters of ICMPv6 on a link (IFLA_INET6_ICMP6STATS).
 
 ghost use Rattle.std.proofs.Common.{rules};
-ghost use Rattle.std.specs.Prelude.{◌≡◌, ◌≤◌, length, take, drop, MatchResult};
+ghost use Rattle.std.specs.Prelude.{◌≡◌, ◌+◌, ◌≤◌, length, take, drop, MatchResult};
 ghost use Rattle.std.specs.Int.{w64};
 ghost use Rattle.nla_wire.specs.Fields.{signed_from, IsShort};
 ghost use Rattle.nla_wire.specs.Payloads.{sized};
 ghost use Rattle.nla_wire.specs.Gives.{without_place};
-ghost use Rattle.nla_wire.specs.Canon.{Filled};
+ghost use Rattle.nla_wire.specs.Canon.{Filled, Closed};
 ghost use Rattle.link_recs.specs.Icmp6StatsFields.{icmp6_stats_size, icmp6_stats_fields, icmp6_stats_of, icmp6_stats_bytes, icmp6_stats_buffer_bytes, icmp6_stats_listed, icmp6_stats_decides};
 
 use crate::words::read_i64s;
 use nla_wire::fields::{put_i64s, too_short};
-use nla_wire::{DecodeError, Exact};
+use nla_wire::{DecodeError, Exact, canon_filled};
 
 /// The number of bytes of a record.
 pub const ICMP6_STATS_SIZE: usize = 56;
@@ -96,6 +96,16 @@ impl Icmp6Stats {
             self.csum_errors,
             self.rate_limit_host,
         ]
+    }
+
+    /// Writes the attribute of this kind whose value is the record that a payload means, the payload cut to 56 bytes or
+    /// filled up with zeros, to the front of the buffer, and answers its length. The rest of the buffer is kept.
+    #[tactic(auto, using(crate::proofs::Icmp6StatsLemmas::icmp6_stats_filled, nla_wire::proofs::Front::all_bytes))]
+    pub fn canon(kind: u16, payload: &[u8], out: &mut [u8]) -> Option<usize>
+        requires room { 4 + icmp6_stats_size ≤ length out.old }
+        ensures { Closed kind (icmp6_stats_bytes (icmp6_stats_of payload.now)) out.old out.new result }
+    {
+        canon_filled(kind, ICMP6_STATS_SIZE, payload, out)
     }
 
     /// The number of bytes that `emit` writes, 56.

@@ -1,17 +1,17 @@
 //! Counters of IPv6 on a link (IFLA_INET6_STATS).
 
 ghost use Rattle.std.proofs.Common.{rules};
-ghost use Rattle.std.specs.Prelude.{◌≡◌, ◌≤◌, length, take, drop, MatchResult};
+ghost use Rattle.std.specs.Prelude.{◌≡◌, ◌+◌, ◌≤◌, length, take, drop, MatchResult};
 ghost use Rattle.std.specs.Int.{w64};
 ghost use Rattle.nla_wire.specs.Fields.{signed_from, IsShort};
 ghost use Rattle.nla_wire.specs.Payloads.{sized};
 ghost use Rattle.nla_wire.specs.Gives.{without_place};
-ghost use Rattle.nla_wire.specs.Canon.{Filled};
+ghost use Rattle.nla_wire.specs.Canon.{Filled, Closed};
 ghost use Rattle.link_recs.specs.Inet6StatsFields.{inet6_stats_size, inet6_stats_fields, inet6_stats_of, inet6_stats_bytes, inet6_stats_buffer_bytes, inet6_stats_listed, inet6_stats_decides};
 
 use crate::words::read_i64s;
 use nla_wire::fields::{put_i64s, too_short};
-use nla_wire::{DecodeError, Exact};
+use nla_wire::{DecodeError, Exact, canon_filled};
 
 /// The number of bytes of a record.
 pub const INET6_STATS_SIZE: usize = 304;
@@ -189,6 +189,16 @@ impl Inet6Stats {
             self.reasm_overlaps,
             self.out_pkts,
         ]
+    }
+
+    /// Writes the attribute of this kind whose value is the record that a payload means, the payload cut to 304 bytes or
+    /// filled up with zeros, to the front of the buffer, and answers its length. The rest of the buffer is kept.
+    #[tactic(auto, using(crate::proofs::Inet6StatsLemmas::inet6_stats_filled, nla_wire::proofs::Front::all_bytes))]
+    pub fn canon(kind: u16, payload: &[u8], out: &mut [u8]) -> Option<usize>
+        requires room { 4 + inet6_stats_size ≤ length out.old }
+        ensures { Closed kind (inet6_stats_bytes (inet6_stats_of payload.now)) out.old out.new result }
+    {
+        canon_filled(kind, INET6_STATS_SIZE, payload, out)
     }
 
     /// The number of bytes that `emit` writes, 304.

@@ -1,17 +1,17 @@
 //! Counters of a link, 32 bits each (IFLA_STATS).
 
 ghost use Rattle.std.proofs.Common.{rules};
-ghost use Rattle.std.specs.Prelude.{◌≡◌, ◌≤◌, length, take, drop, MatchResult};
+ghost use Rattle.std.specs.Prelude.{◌≡◌, ◌+◌, ◌≤◌, length, take, drop, MatchResult};
 ghost use Rattle.std.specs.Int.{w32};
 ghost use Rattle.nla_wire.specs.Fields.{numbers_from, IsShort};
 ghost use Rattle.nla_wire.specs.Payloads.{filled};
 ghost use Rattle.nla_wire.specs.Gives.{without_place};
-ghost use Rattle.nla_wire.specs.Canon.{Filled};
+ghost use Rattle.nla_wire.specs.Canon.{Filled, Closed};
 ghost use Rattle.link_recs.specs.StatsFields.{stats_size, stats_fields, stats_of, stats_bytes, stats_buffer_bytes, stats_listed, stats_decides};
 
 use crate::words::read_u32s;
 use nla_wire::fields::{put_u32s, too_short};
-use nla_wire::{DecodeError, Exact};
+use nla_wire::{DecodeError, Exact, canon_filled};
 
 /// The number of bytes of a record.
 pub const STATS_SIZE: usize = 96;
@@ -142,6 +142,16 @@ impl Stats {
             self.tx_compressed,
             self.rx_nohandler,
         ]
+    }
+
+    /// Writes the attribute of this kind whose value is the record that a payload means, the payload cut to 96 bytes or
+    /// filled up with zeros, to the front of the buffer, and answers its length. The rest of the buffer is kept.
+    #[tactic(auto, using(crate::proofs::StatsLemmas::stats_filled, nla_wire::proofs::Front::all_bytes))]
+    pub fn canon(kind: u16, payload: &[u8], out: &mut [u8]) -> Option<usize>
+        requires room { 4 + stats_size ≤ length out.old }
+        ensures { Closed kind (stats_bytes (stats_of payload.now)) out.old out.new result }
+    {
+        canon_filled(kind, STATS_SIZE, payload, out)
     }
 
     /// The number of bytes that `emit` writes, 96.

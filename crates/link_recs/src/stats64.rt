@@ -1,17 +1,17 @@
 //! Counters of a link, 64 bits each (IFLA_STATS64).
 
 ghost use Rattle.std.proofs.Common.{rules};
-ghost use Rattle.std.specs.Prelude.{◌≡◌, ◌≤◌, length, take, drop, MatchResult};
+ghost use Rattle.std.specs.Prelude.{◌≡◌, ◌+◌, ◌≤◌, length, take, drop, MatchResult};
 ghost use Rattle.std.specs.Int.{w64};
 ghost use Rattle.nla_wire.specs.Fields.{numbers_from, IsShort};
 ghost use Rattle.nla_wire.specs.Payloads.{filled};
 ghost use Rattle.nla_wire.specs.Gives.{without_place};
-ghost use Rattle.nla_wire.specs.Canon.{Filled};
+ghost use Rattle.nla_wire.specs.Canon.{Filled, Closed};
 ghost use Rattle.link_recs.specs.Stats64Fields.{stats64_size, stats64_fields, stats64_of, stats64_bytes, stats64_buffer_bytes, stats64_listed, stats64_decides};
 
 use crate::words::read_u64s;
 use nla_wire::fields::{put_u64s, too_short};
-use nla_wire::{DecodeError, Exact};
+use nla_wire::{DecodeError, Exact, canon_filled};
 
 /// The number of bytes of a record.
 pub const STATS64_SIZE: usize = 200;
@@ -145,6 +145,16 @@ impl Stats64 {
             self.rx_nohandler,
             self.rx_otherhost_dropped,
         ]
+    }
+
+    /// Writes the attribute of this kind whose value is the record that a payload means, the payload cut to 200 bytes or
+    /// filled up with zeros, to the front of the buffer, and answers its length. The rest of the buffer is kept.
+    #[tactic(auto, using(crate::proofs::Stats64Lemmas::stats64_filled, nla_wire::proofs::Front::all_bytes))]
+    pub fn canon(kind: u16, payload: &[u8], out: &mut [u8]) -> Option<usize>
+        requires room { 4 + stats64_size ≤ length out.old }
+        ensures { Closed kind (stats64_bytes (stats64_of payload.now)) out.old out.new result }
+    {
+        canon_filled(kind, STATS64_SIZE, payload, out)
     }
 
     /// The number of bytes that `emit` writes, 200.

@@ -1,9 +1,8 @@
 //! What is said of a virtual function, members of IFLA_VF_INFO.
 
-ghost use Rattle.std.specs.Prelude.{◌≡◌, ◌≢◌, ◌+◌, ◌*◌, ◌≤◌, length, IsOk, Ok, IfOk, IfSome, MatchOption};
-ghost use Rattle.nla_wire.specs.Sizes.{growth_per_byte};
+ghost use Rattle.std.specs.Prelude.{◌≡◌, ◌≢◌, ◌+◌, ◌*◌, ◌≤◌, length, Ok, IfOk, IfSome, MatchOption};
 ghost use Rattle.nla_wire.specs.Frames.{number};
-ghost use Rattle.nla_wire.specs.Canon.{canon, Canonical};
+ghost use Rattle.nla_wire.specs.Canon.{canon};
 ghost use Rattle.nla_wire.specs.Gives.{without_place};
 ghost use Rattle.link_vfrec.specs.Records.{vf_info_mac_bytes, vf_info_broadcast_bytes};
 ghost use Rattle.link_vf.specs.Values.{vf_info_frame, VfInfoFits};
@@ -19,7 +18,7 @@ use link_vfrec::{
 };
 use nla_wire::error::checked;
 use nla_wire::{
-    CloneIn, DecodeError, DefaultNla, Exact, List, Nla, NlaBuffer, NlaRead, canon_bytes,
+    CloneIn, DecodeError, DefaultNla, Exact, List, Nla, NlaBuffer, NlaRead, canon_bytes, canon_of,
     fill_bytes, list_fits, nlas_buffer_len, nlas_fill,
 };
 use std::alloc::Global;
@@ -198,19 +197,6 @@ fn read_record(buffer: &NlaBuffer<'_>) -> Option<Result<VfInfo, DecodeError>>
     }
 }
 
-/// Writes a record as an attribute to the front of the buffer, and answers its length with padding.
-fn canon_record(info: &VfInfo, out: &mut [u8]) -> Option<usize>
-    requires short { length (vf_info_frame info.now).payload ≤ 36 }
-    requires room { 40 ≤ length out.old }
-    ensures { Canonical (λ v. canon (vf_info_frame v)) VfInfoFits (Ok info.now) out.old out.new result }
-{
-    if !info.fits() {
-        return None;
-    }
-    info.emit(out);
-    Some(info.buffer_len())
-}
-
 impl NlaRead for VfInfo {
     ghost use Rattle.link_vf.specs.Laws.{vf_info_lawful, vf_info_bounded};
 
@@ -246,7 +232,7 @@ impl NlaRead for VfInfo {
             8 => VfStats::canon_nested(8, buffer.value(), out),
             12 => VfVlan::canon_nested(12, buffer.value(), out),
             _ => match read_record(buffer) {
-                Some(Ok(info)) => canon_record(&info, out),
+                Some(Ok(info)) => canon_of(&info, out),
                 Some(Err(_)) => None,
                 None => canon_bytes(buffer.kind_with_flags(), buffer.value(), out),
             },

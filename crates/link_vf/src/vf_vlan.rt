@@ -1,6 +1,6 @@
 //! Vlans of a virtual function, members of IFLA_VF_VLAN_LIST.
 
-ghost use Rattle.std.specs.Prelude.{◌≡◌, ◌+◌, ◌*◌, ◌≤◌, length, IsOk};
+ghost use Rattle.std.specs.Prelude.{◌+◌, ◌*◌, ◌≤◌, length, IsOk};
 ghost use Rattle.nla_wire.specs.Sizes.{growth_per_byte};
 ghost use Rattle.nla_wire.specs.Canon.{Filled, Closed};
 ghost use Rattle.nla_wire.specs.Payloads.{sized};

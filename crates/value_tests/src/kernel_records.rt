@@ -1,4 +1,4 @@
-use crate::testing::{are, begin, got, is_read, is_same, prints_as, too_few};
+use crate::testing::{are, begin, got, is_read, is_same, prints_as, too_few, wrote};
 use link_recs::*;
 
 fn put(buffer: &mut [u8], bytes: &[(usize, u8)]) {
@@ -189,6 +189,76 @@ fn short_settings_are_filled_up(rt: HostRuntime) {
     };
     let read = InetDevConf::read_padded(&[8, 0, 1, 0, 1, 0, 0, 0]);
     is_same(&rt, &read, &conf);
+}
+
+#[test]
+fn payloads_are_cut_or_filled_up(rt: HostRuntime) {
+    let mut out = [255; 309];
+    wrote(
+        &rt,
+        Stats::canon(7, &[1], &mut out),
+        100,
+        &out,
+        &[100, 0, 7, 0, 1, 0],
+    );
+    wrote(
+        &rt,
+        Stats64::canon(23, &[2], &mut out),
+        204,
+        &out,
+        &[204, 0, 23, 0, 2, 0],
+    );
+    wrote(
+        &rt,
+        InetDevConf::canon(1, &[3], &mut out),
+        136,
+        &out,
+        &[136, 0, 1, 0, 3, 0],
+    );
+    wrote(
+        &rt,
+        Inet6DevConf::canon(2, &[4], &mut out),
+        244,
+        &out,
+        &[244, 0, 2, 0, 4, 0],
+    );
+    wrote(
+        &rt,
+        Inet6Stats::canon(3, &[5], &mut out),
+        308,
+        &out,
+        &[52, 1, 3, 0, 5, 0],
+    );
+    wrote(
+        &rt,
+        Icmp6Stats::canon(6, &[6], &mut out),
+        60,
+        &out,
+        &[60, 0, 6, 0, 6, 0],
+    );
+}
+
+#[test]
+fn payloads_are_written_as_records(rt: HostRuntime) {
+    let mut out = [255; 37];
+    let info = [7; 17];
+    wrote(
+        &rt,
+        Inet6CacheInfo::canon(5, &info, &mut out),
+        20,
+        &out,
+        &[20, 0, 5, 0, 7],
+    );
+    assert!(rt; out[19..21] == [7, 255]);
+    let map = [8; 32];
+    wrote(
+        &rt,
+        Map::canon(14, &map, &mut out),
+        36,
+        &out,
+        &[36, 0, 14, 0, 8],
+    );
+    assert!(rt; out[31..] == [8, 0, 0, 0, 0, 255]);
 }
 
 #[test]

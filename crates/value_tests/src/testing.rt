@@ -89,3 +89,9 @@ pub(crate) fn prints_as<T: Debug>(rt: &impl Abort, alloc: Global, value: &T, wan
     let text = got(rt, format!(in alloc; "{value:?}"));
     assert!(rt; text.as_str() == wanted);
 }
+
+/// So many bytes were written, which begin with these.
+pub(crate) fn wrote(rt: &impl Abort, len: Option<usize>, wanted: usize, out: &[u8], front: &[u8]) {
+    assert!(rt; len == Some(wanted));
+    begin(rt, out, front);
+}

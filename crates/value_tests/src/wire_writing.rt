@@ -1,22 +1,15 @@
 //! Attributes written again from payloads, with no memory.
 
-use crate::testing::{begin, got};
+use crate::testing::{got, wrote};
 use nla_wire::Nla;
 use nla_wire::canon::{
     canon_bytes, canon_filled, canon_i32, canon_ipv6_addr, canon_of, canon_text, canon_u8,
     canon_u16, canon_u32, canon_u64, canon_value,
 };
 use nla_wire::default_nla::DefaultNla;
-use std::process::Abort;
 
 /// An attribute of kind 1 with its padding.
 const KEPT: [u8; 8] = [5, 0, 1, 0, 7, 0, 0, 0];
-
-/// So many bytes were written, which begin with these.
-fn wrote(rt: &impl Abort, len: Option<usize>, wanted: usize, out: &[u8], front: &[u8]) {
-    assert!(rt; len == Some(wanted));
-    begin(rt, out, front);
-}
 
 #[test]
 fn writes_short_payloads(rt: HostRuntime) {
