@@ -161,22 +161,30 @@ static double seconds(void) {
     return now.tv_sec + now.tv_nsec * 1e-9;
 }
 
-/* Nanoseconds of one call. */
-static double times(const char *name, long (*call)(void)) {
-    double best = 1e300;
-    size_t calls = 4000000 / (len + 1000) + 1;
-    for (int round = 0; round < ROUNDS; round++) {
-        double start = seconds();
-        for (size_t i = 0; i < calls; i++) {
-            if (call() < 0) {
-                fprintf(stderr, "%s answers %ld for %zu bytes\n", name, call(), len);
-                exit(1);
-            }
+/* Nanoseconds of one call, of as many as read some megabytes. */
+static double once(const char *name, long (*call)(void)) {
+    size_t calls = 8000000 / (len + 1000) + 1;
+    double start = seconds();
+    for (size_t i = 0; i < calls; i++) {
+        if (call() < 0) {
+            fprintf(stderr, "%s answers %ld for %zu bytes\n", name, call(), len);
+            exit(1);
         }
-        double took = (seconds() - start) / calls;
-        best = took < best ? took : best;
     }
-    return best * 1e9;
+    return (seconds() - start) * 1e9 / calls;
+}
+
+static double less(double a, double b) {
+    return a < b ? a : b;
+}
+
+/* The best of several rounds. */
+static double times(const char *name, long (*call)(void)) {
+    double best = once(name, call);
+    for (int round = 1; round < ROUNDS; round++) {
+        best = less(best, once(name, call));
+    }
+    return best;
 }
 
 static void line(const char *what) {
@@ -186,13 +194,21 @@ static void line(const char *what) {
            written, len / written * 1e3, made, len / made * 1e3);
 }
 
-/* What a byte costs in messages of four lengths. */
+/* What a byte costs in messages of four lengths, each round over all of them. */
 static void growth(const char *name, long (*call)(void)) {
     static const size_t lengths[] = {1000, 10000, 100000, 1500000};
+    enum { COUNT = sizeof lengths / sizeof *lengths };
+    double best[COUNT];
+    for (int round = 0; round < ROUNDS; round++) {
+        for (size_t i = 0; i < COUNT; i++) {
+            of_length(lengths[i]);
+            double cost = once(name, call) / len;
+            best[i] = round == 0 ? cost : less(best[i], cost);
+        }
+    }
     printf("%-24s ns a byte:", name);
-    for (size_t i = 0; i < sizeof lengths / sizeof *lengths; i++) {
-        of_length(lengths[i]);
-        printf(" %zu: %.2f", len, times(name, call) / len);
+    for (size_t i = 0; i < COUNT; i++) {
+        printf(" %zu: %.2f", lengths[i], best[i]);
     }
     printf("\n");
 }

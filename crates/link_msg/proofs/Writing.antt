@@ -1,28 +1,31 @@
--- Canonical text written behind a header, with no memory.
-use Rattle.std.proofs.Common.{◌≡◌, ◌≢◌, ℕ, ◌+◌, ◌-◌, ◌*◌, ◌^◌, ◌<◌, ◌≤◌, List, ◌++◌, length, take, drop, refl, sym, ap, ◌∙◌, subst, arith, inr, length-drop, Ok, Err, Some, None, Bool, false, true}
+-- Canonical text written behind a header.
+use Rattle.std.proofs.Common.{◌≡◌, ◌≢◌, ℕ, ◌+◌, ◌-◌, ◌*◌, ◌^◌, ◌<◌, ◌≤◌, List, ◌++◌, length, take, drop, refl, sym, ap, ◌∙◌, subst, arith, inr, length-drop, Result, Ok, Err, Some, None, Bool, false, true, MatchBool}
 use borrow.Rule.Slice.PartMut.{put_mid}
 use Rattle.nla_wire.specs.Sizes.{growth_per_byte}
 use Rattle.nla_wire.specs.Frames.{IsBytes}
 use Rattle.nla_wire.specs.Grammar.{list}
-use Rattle.nla_wire.specs.Canon.{canons, AllFit, Canonical, Writes}
+use Rattle.nla_wire.specs.Canon.{canons, AllFit, Appended, Canonical, Writes}
+use Rattle.nla_wire.specs.Gives.{Fails}
 use Rattle.nla_wire.specs.declared.error.Cause.{Cause}
 use Rattle.nla_wire.specs.declared.error.Cause.TheVariants.{OutOfMemory}
 use Rattle.nla_wire.specs.declared.error.Cause.TheVariants as Causes
 use Rattle.nla_wire.specs.declared.error.DecodeError.{DecodeError}
 use Rattle.nla_wire.proofs.Meaning.{never_both}
 use Rattle.nla_wire.proofs.Canonical.{write_on}
+use Rattle.nla_wire.proofs.Loop.{gives_fault}
+use Rattle.nla_wire.proofs.Steps.{bytes_right}
 use Rattle.link_msg.specs.Header.{header_size, header_of, IsHeader, header_bytes}
 use Rattle.link_msg.specs.Values.{attribute_frame, AttributeFits}
 use Rattle.link_msg.specs.Places.{attribute_place}
-use Rattle.link_msg.specs.Messages.{Means, Refused, IsRefused, message, MessageFits}
+use Rattle.link_msg.specs.Messages.{Means, Refused, IsRefused, message, message_text, MessageFits}
 use Rattle.link_msg.specs.CanonErrors.{refusal_for, refusal_of}
-use Rattle.link_msg.specs.Canonical.{IsUnfit, HasEmptyPorts, IsWritten, PortsTold}
+use Rattle.link_msg.specs.Canonical.{HasText, IsRefusal, IsUnfit, HasEmptyPorts, IsWritten, PortsTold}
 use Rattle.link_msg.specs.declared.attribute.LinkAttribute.{LinkAttribute}
 use Rattle.link_msg.specs.declared.header.LinkHeader.{LinkHeader}
 use Rattle.link_msg.specs.declared.message.LinkMessage.{LinkMessage}
 use Rattle.link_msg.proofs.Reading.{message_agrees, attributes_agree, parts, is_header}
 use Rattle.link_msg.proofs.Messaging.{header_length, attributes_counted}
-use Rattle.link_msg.proofs.Answering.{message_bounded}
+use Rattle.link_msg.proofs.Answering.{message_bounded, refused_for, accepted_text}
 
 refused_by : (b old : List ℕ) (e : DecodeError) (c : Cause) → e.cause ≡ c → Refused b e.cause → e.cause ≢ OutOfMemory → IsRefused b → IsWritten b old old (Err (refusal_for c e))
 refused_by b old e Causes.OutOfMemory is fault memory none = absurd (memory is)
@@ -54,6 +57,54 @@ module _ (b : List ℕ) (v : LinkHeader) (d : List ℕ) (long : header_size ≤ 
 
   pub behind_room : (out : List ℕ) → growth_per_byte * length b ≤ length out → growth_per_byte * length d ≤ length out - header_size
   behind_room out room = omega (arith, ap (λ (x : List ℕ). length x) d_is, length-drop header_size b, long, room)
+
+  -- ** written in memory that grows
+
+  module _ (bytes : IsBytes b) where
+    behind_bytes : IsBytes d
+    behind_bytes = bytes_right (take header_size b) d (subst IsBytes whole bytes)
+
+    -- the attributes are refused, or memory ran out
+    pub appended_refused : (e : DecodeError) → Fails e.cause ((list (attribute_place v.interface_family)).reads d) → IsRefusal b (refusal_of e)
+    appended_refused e fails =
+        let family = v.interface_family in
+        let refused : e.cause ≢ OutOfMemory → Refused b e.cause =
+        λ other. inr (take header_size b, d, v, whole, header, gives_fault (list (attribute_place family)) (attributes_agree family) d behind_bytes (Err e) fails other) in
+        refused_for b e refused (λ other m means. never_both IsBytes message message_agrees b m e.cause means (refused other))
+
+    module _ (old new : List ℕ) where
+      told_as : (m : LinkMessage) → Means b m → MessageFits m → new ≡ message_text m → (told : Bool) → PortsTold (Ok m.attributes) told → MatchBool told (HasEmptyPorts b) (HasText b new)
+      told_as m means fits is true ports = (m, means, fits, ports)
+      told_as m means fits is false ports = accepted_text b new m bytes (record { means = means; fits = fits; ports = ports }) is
+
+      unfit_as : (r : Result (List LinkAttribute) Cause) → (list (attribute_place v.interface_family)).reads d ≡ r
+          → Appended (canons attribute_frame) (AllFit AttributeFits attribute_frame) r old new false → IsUnfit b
+      unfit_as (Err c) e never = absurd never
+      unfit_as (Ok vs) e unfit =
+          let m : LinkMessage = record { header = v; attributes = vs } in
+          (m, behind_means vs ((attributes_agree v.interface_family).found d vs behind_bytes e), λ fits. unfit (fits.0, attributes_counted m fits))
+
+      -- an attribute does not fit
+      pub appended_unfit : Appended (canons attribute_frame) (AllFit AttributeFits attribute_frame) ((list (attribute_place v.interface_family)).reads d) old new false → IsUnfit b
+      appended_unfit unfit = unfit_as ((list (attribute_place v.interface_family)).reads d) refl unfit
+
+      whole_as : (r : Result (List LinkAttribute) Cause) → (list (attribute_place v.interface_family)).reads d ≡ r → old ≡ header_bytes v → length new < 2 ^ 64
+          → Appended (canons attribute_frame) (AllFit AttributeFits attribute_frame) r old new true → (told : Bool) → PortsTold r told → MatchBool told (HasEmptyPorts b) (HasText b new)
+      whole_as (Err c) e old_is counted never told ports = absurd never
+      whole_as (Ok vs) e old_is counted text told ports =
+          let m : LinkMessage = record { header = v; attributes = vs } in
+          let means : Means b m = behind_means vs ((attributes_agree v.interface_family).found d vs behind_bytes e) in
+          let is : new ≡ message_text m = text.1 ∙ ap (λ t. t ++ canons attribute_frame vs) old_is in
+          let fits : MessageFits m = (text.0.0, omega (arith, counted, ap (λ (t : List ℕ). length t) is)) in
+          told_as m means fits is told ports
+
+      -- all is written; or there is an empty list of ports
+      pub appended_whole : old ≡ header_bytes v → length new < 2 ^ 64
+          → Appended (canons attribute_frame) (AllFit AttributeFits attribute_frame) ((list (attribute_place v.interface_family)).reads d) old new true
+          → (told : Bool) → PortsTold ((list (attribute_place v.interface_family)).reads d) told → MatchBool told (HasEmptyPorts b) (HasText b new)
+      appended_whole old_is counted text told ports = whole_as ((list (attribute_place v.interface_family)).reads d) refl old_is counted text told ports
+
+  -- ** written with no memory
 
   module _ (vs : List LinkAttribute) (means : (list (attribute_place v.interface_family)).means d vs) where
     message_read : LinkMessage

@@ -1,12 +1,12 @@
 //! One canonical text for each message.
 
-ghost use Rattle.std.specs.Prelude.{◌≡◌, ◌*◌, ◌≤◌, ◌↔◌, ℕ, length, IfOk, IfErr, IsTrue};
+ghost use Rattle.std.specs.Prelude.{◌≡◌, ◌*◌, ◌≤◌, length, IfOk, IfErr};
 ghost use Rattle.nla_wire.specs.Sizes.{growth_per_byte};
-ghost use Rattle.link_msg.specs.Messages.{MessageFits, message_text};
+ghost use Rattle.link_msg.specs.Header.{header_bytes};
 ghost use Rattle.link_msg.specs.Canonical.{IsAccepted, IsRefusal, HasText, AreSame, IsRefusalOfTwo, IsWritten};
 
 use crate::attribute::LinkAttribute;
-use crate::header::HEADER_SIZE;
+use crate::header::{HEADER_SIZE, LinkHeader, LinkMessageBuffer};
 use crate::message::{LinkMessage, split_header};
 use nla_wire::{Cause, DecodeError};
 use std::alloc::{AllocError, Global};
@@ -83,26 +83,34 @@ fn read_accepted(alloc: Global, input: &[u8]) -> Result<LinkMessage, CanonError>
     Ok(message)
 }
 
-/// The canonical text of a message that fits.
-fn text_of(alloc: Global, message: &LinkMessage) -> Result<Vec<u8>, AllocError>
-    requires { MessageFits message.now }
-    ensures { IfOk result (λ t. t.items ≡ message_text message.now) }
+/// A text that begins with the header, in memory for so many bytes.
+fn begin_text(alloc: Global, header: &LinkHeader, capacity: usize) -> Result<Vec<u8>, AllocError>
+    ensures { IfOk result (λ t. t.items ≡ header_bytes header.now) }
 {
-    let mut text = vec![in alloc; 0u8; message.buffer_len()]?;
-    let _start = message.fill(text.as_mut_slice());
+    let mut text = Vec::with_capacity(alloc, capacity)?;
+    text.extend_from_slice(LinkMessageBuffer::from(header).as_bytes())?;
     Ok(text)
 }
 
 /// The canonical text of the message that the bytes mean.
 ///
 /// The text means the same message, and its attributes are at most 77 times as long as those read. Refuses, in this
-/// order: `Decode` with the first fault, `DoesNotFit`, `EmptyVfPorts`; `OutOfMemory` can come at any growth.
+/// order: `Decode` with the first fault, `DoesNotFit`, `EmptyVfPorts`; `OutOfMemory` can come at any growth. It holds the
+/// text and one attribute at a time.
 pub fn canonical(alloc: Global, input: &[u8]) -> Result<Vec<u8>, CanonError>
     ensures ok { IfOk result (λ t. HasText input.now t.items) }
     ensures err { IfErr result (IsRefusal input.now) }
 {
-    let message = read_accepted(alloc, input)?;
-    Ok(text_of(alloc, &message)?)
+    let (header, rest) = split_header(input)?;
+    let family = header.interface_family;
+    let mut text = begin_text(alloc, &header, input.len())?;
+    if !LinkAttribute::append_list_with_param(alloc, rest, family, &mut text)? {
+        return Err(CanonError::DoesNotFit);
+    }
+    if LinkAttribute::hold_empty_ports(rest, family) {
+        return Err(CanonError::EmptyVfPorts);
+    }
+    Ok(text)
 }
 
 /// Whether two byte strings mean the same message, which is so exactly where their canonical texts are equal.

@@ -3,7 +3,7 @@
 ghost use Rattle.std.specs.Prelude.{◌≡◌, ◌≢◌, ◌*◌, ◌+◌, ◌≤◌, length, IsOk, IfOk, IfErr, MatchResult};
 ghost use Rattle.nla_wire.specs.Sizes.{growth_per_byte};
 ghost use Rattle.nla_wire.specs.Grammar.{list};
-ghost use Rattle.nla_wire.specs.Canon.{canon, canons, AllFit, Canonical};
+ghost use Rattle.nla_wire.specs.Canon.{canon, canons, AllFit, Appended, Canonical};
 ghost use Rattle.nla_wire.specs.Gives.{Fails, Gives, Checks};
 ghost use Rattle.nla_wire.specs.declared.error.Cause.TheVariants.{OutOfMemory};
 
@@ -26,8 +26,8 @@ use link_vals::{AddressFamily, LinkEvent, LinkMode, LinkPhysId, State};
 use link_vf::{LinkVfInfo, LinkVfPort};
 use nla_wire::{
     Bytes, DecodeError, DefaultNla, List, NLA_F_NESTED, NlaBuffer, NlaRead, NlasIterator, Place,
-    canon_bytes, canon_members, canon_text, check_members, check_string, parse_i32, parse_members,
-    parse_string, parse_u8, parse_u32,
+    append_members, canon_bytes, canon_members, canon_text, check_members, check_string, parse_i32,
+    parse_members, parse_string, parse_u8, parse_u32,
 };
 use std::alloc::Global;
 
@@ -285,6 +285,21 @@ impl LinkAttribute {
         ensures { Canonical (canons attribute_frame) (AllFit AttributeFits attribute_frame) ((list (attribute_place family)).reads bytes.now) out.old out.new result }
     {
         canon_members(&AttributePlace { family }, bytes, out)
+    }
+
+    /// Reads a list of attributes under the header's family, adds the canonical text of each to `text`, and answers
+    /// whether they all fit. One value at a time is held.
+    pub(crate) fn append_list_with_param(
+        alloc: Global,
+        bytes: &[u8],
+        family: AddressFamily,
+        text: &mut Vec<u8>,
+    ) -> Result<bool, DecodeError>
+        ensures { MatchResult result
+            (Appended (canons attribute_frame) (AllFit AttributeFits attribute_frame) ((list (attribute_place family)).reads bytes.now) text.old.items text.new.items)
+            (λ e. Fails e.cause ((list (attribute_place family)).reads bytes.now)) }
+    {
+        append_members(&AttributePlace { family }, alloc, bytes, text)
     }
 
     /// Whether an accepted frame means an empty list of ports. It takes no memory.

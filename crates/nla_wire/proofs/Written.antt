@@ -48,15 +48,15 @@ member (Err c) more todo e = absurd cc
 member (Ok v) (Err c) todo e = absurd cc
 member (Ok v) (Ok vs) todo e = (v, vs, refl, refl, cc)
 
-flat_more : {V : Type 0} (text_of : V → List ℕ) (front : List V) (v : V) → flat_map text_of (front ++ v ∷ []) ≡ flat_map text_of front ++ text_of v
+pub flat_more : {V : Type 0} (text_of : V → List ℕ) (front : List V) (v : V) → flat_map text_of (front ++ v ∷ []) ≡ flat_map text_of front ++ text_of v
 flat_more text_of [] v = append-nil (text_of v)
 flat_more text_of (x ∷ front) v = ap (λ (t : List ℕ). text_of x ++ t) (flat_more text_of front v) ∙ sym (append_assoc (text_of x) (flat_map text_of front) (text_of v))
 
-all_more : {V : Type 0} (fits : V → Type 0) (front : List V) (v : V) → AllByRecursion fits front → fits v → AllByRecursion fits (front ++ v ∷ [])
+pub all_more : {V : Type 0} (fits : V → Type 0) (front : List V) (v : V) → AllByRecursion fits front → fits v → AllByRecursion fits (front ++ v ∷ [])
 all_more fits [] v all one = (one, tt)
 all_more fits (x ∷ front) v all one = (all.0, all_more fits front v all.1 one)
 
-all_here : {V : Type 0} (fits : V → Type 0) (front : List V) (v : V) (vs : List V) → AllByRecursion fits (front ++ v ∷ vs) → fits v
+pub all_here : {V : Type 0} (fits : V → Type 0) (front : List V) (v : V) (vs : List V) → AllByRecursion fits (front ++ v ∷ vs) → fits v
 all_here fits [] v vs all = all.0
 all_here fits (x ∷ front) v vs all = all_here fits front v vs all.1
 

@@ -1,5 +1,5 @@
 -- Canonical text: how frames and values are written, what a buffer holds after it, and what fits.
-use Rattle.std.specs.Prelude.{◌≡◌, ℕ, ◌+◌, ◌^◌, ◌<◌, ◌≤◌, List, [], ◌∷◌, ◌++◌, length, take, drop, replicate, Option, None, Some, Result, Ok, Err}
+use Rattle.std.specs.Prelude.{◌≡◌, ℕ, ◌+◌, ◌^◌, ◌<◌, ◌≤◌, List, [], ◌∷◌, ◌++◌, length, take, drop, replicate, Option, None, Some, Bool, true, false, Result, Ok, Err}
 use Rattle.std.specs.List.{flat_map, AllByRecursion}
 use Rattle.nla_wire.specs.Sizes.{most_payload}
 use Rattle.nla_wire.specs.Frames.{Frame, unpadded, missing}
@@ -56,3 +56,9 @@ Canonical text fits (Err c) old new answer = Unit {0}
 abbrev pub Closed : ℕ → List ℕ → List ℕ → List ℕ → Option ℕ → Type 0
 Closed kind value old new (Some n) = (length value ≤ most_payload) × Writes (canon (record { kind = kind; payload = value })) old new n
 Closed kind value old new None = most_payload < length value
+
+-- the text of the value that is read was added; or nothing is promised of what was added, where the value doesn't fit
+abbrev pub Appended : {V : Type 0} → (V → List ℕ) → (V → Type 0) → Result V Cause → List ℕ → List ℕ → Bool → Type 0
+Appended text fits (Ok v) old new true = fits v × (new ≡ old ++ text v)
+Appended text fits (Ok v) old new false = fits v → ⊥
+Appended text fits (Err c) old new answer = ⊥

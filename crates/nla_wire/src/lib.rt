@@ -1,6 +1,7 @@
 //! Attribute frames of netlink messages, read and written.
 #![tactic(auto)]
 
+pub mod append;
 pub mod buffer;
 pub mod canon;
 pub mod default_nla;
@@ -16,6 +17,7 @@ pub mod read;
 pub mod text;
 pub mod values;
 
+pub use append::append_members;
 pub use buffer::{NLA_F_NESTED, NLA_F_NET_BYTEORDER, NLA_HEADER_SIZE, NLA_TYPE_MASK, NlaBuffer};
 pub use canon::{
     canon_bytes, canon_filled, canon_i32, canon_ipv6_addr, canon_of, canon_text, canon_u8,

@@ -2,7 +2,7 @@
 
 use crate::testing::{fails, got, wrote};
 use link_vf::VfPort;
-use nla_wire::{Cause, NLA_F_NESTED, Nla, NlaRead};
+use nla_wire::{Cause, NLA_F_NESTED, Nla, NlaRead, OwnPlace, append_members};
 
 /// Two attributes, of kinds 2 nested and 1. The last lacks its padding.
 const TWO: [u8; 9] = [4, 0, 2, 0x80, 5, 0, 1, 0, 7];
@@ -39,6 +39,17 @@ fn writes_lists(rt: HostRuntime) {
     let len = VfPort::canon_nested(52 | NLA_F_NESTED, &TWO, &mut out);
     let text = [16, 0, 52, 0x80, 4, 0, 2, 0x80, 5, 0, 1, 0, 7, 0, 0, 0];
     wrote(&rt, len, 16, &out, &text);
+}
+
+#[test]
+fn adds_lists(rt: HostRuntime) {
+    let alloc = rt.alloc();
+    let mut text = got(&rt, Vec::from_slice(alloc, &[255]));
+    let fits = append_members::<VfPort, OwnPlace>(&OwnPlace, alloc, &TWO, &mut text);
+    assert!(rt; got(&rt, fits));
+    assert!(rt; text.as_slice() == [255, 4, 0, 2, 0x80, 5, 0, 1, 0, 7, 0, 0, 0]);
+    let short = append_members::<VfPort, OwnPlace>(&OwnPlace, alloc, &TWO[..8], &mut text);
+    fails(&rt, short, Some(Cause::FrameOver { length: 5, left: 4 }));
 }
 
 #[test]
