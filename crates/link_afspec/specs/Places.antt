@@ -25,10 +25,10 @@ use Rattle.link_afspec.specs.declared.unspec.AfSpecUnspec.{AfSpecUnspec}
 use Rattle.link_afspec.specs.declared.unspec.AfSpecUnspec.TheVariants as unspec
 use Rattle.link_afspec.specs.declared.bridge.AfSpecBridge.{AfSpecBridge}
 use Rattle.link_afspec.specs.declared.bridge.AfSpecBridge.TheVariants as bridge
-use Rattle.link_afspec.specs.declared.proto_info.LinkProtoInfoBridge.{LinkProtoInfoBridge}
-use Rattle.link_afspec.specs.declared.proto_info.LinkProtoInfoBridge.TheVariants as proto_bridge
-use Rattle.link_afspec.specs.declared.proto_info.LinkProtoInfoInet6.{LinkProtoInfoInet6}
-use Rattle.link_afspec.specs.declared.proto_info.LinkProtoInfoInet6.TheVariants as proto_inet6
+use Rattle.link_afspec.specs.declared.proto_bridge.LinkProtoInfoBridge.{LinkProtoInfoBridge}
+use Rattle.link_afspec.specs.declared.proto_bridge.LinkProtoInfoBridge.TheVariants as proto_bridge
+use Rattle.link_afspec.specs.declared.proto_inet6.LinkProtoInfoInet6.{LinkProtoInfoInet6}
+use Rattle.link_afspec.specs.declared.proto_inet6.LinkProtoInfoInet6.TheVariants as proto_inet6
 
 -- a physical binding, as a payload of one byte
 abbrev pub phys_binding : Grammar (List ℕ) MctpPhysBinding

@@ -6,7 +6,8 @@ pub mod inet;
 pub mod inet6;
 pub mod laws;
 pub mod mctp;
-pub mod proto_info;
+pub mod proto_bridge;
+pub mod proto_inet6;
 mod request;
 pub mod unspec;
 
@@ -14,5 +15,6 @@ pub use bridge::AfSpecBridge;
 pub use inet::AfSpecInet;
 pub use inet6::AfSpecInet6;
 pub use mctp::AfSpecMctp;
-pub use proto_info::{LinkProtoInfoBridge, LinkProtoInfoInet6};
+pub use proto_bridge::LinkProtoInfoBridge;
+pub use proto_inet6::LinkProtoInfoInet6;
 pub use unspec::AfSpecUnspec;

@@ -565,8 +565,8 @@ impl Exact for LinkAttribute {
     ghost use Rattle.link_nest.specs.contracts.down_reason.LinkProtocolDownReasonExact.TheImpl.Laws.{decides-law as reasons_exact};
     ghost use Rattle.link_nest.specs.contracts.devlink_port.DevlinkPortExact.TheImpl.Laws.{decides-law as devlink_exact};
     ghost use Rattle.link_nest.specs.contracts.dpll_pin.DpllPinExact.TheImpl.Laws.{decides-law as dpll_exact};
-    ghost use Rattle.link_afspec.specs.contracts.proto_info.LinkProtoInfoBridgeExact.TheImpl.Laws.{decides-law as proto_bridge_exact};
-    ghost use Rattle.link_afspec.specs.contracts.proto_info.LinkProtoInfoInet6Exact.TheImpl.Laws.{decides-law as proto_inet6_exact};
+    ghost use Rattle.link_afspec.specs.contracts.proto_bridge.LinkProtoInfoBridgeExact.TheImpl.Laws.{decides-law as proto_bridge_exact};
+    ghost use Rattle.link_afspec.specs.contracts.proto_inet6.LinkProtoInfoInet6Exact.TheImpl.Laws.{decides-law as proto_inet6_exact};
     ghost use Rattle.link_afspec.specs.contracts.bridge.AfSpecBridgeExact.TheImpl.Laws.{decides-law as af_bridge_exact};
     ghost use Rattle.link_afspec.specs.contracts.unspec.AfSpecUnspecExact.TheImpl.Laws.{decides-law as af_unspec_exact};
     ghost use Rattle.link_vals.specs.contracts.link_state.StateExact.TheImpl.Laws.{decides-law as state_exact};

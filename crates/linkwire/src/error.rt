@@ -1,3 +1,5 @@
+ghost use Rattle.std.specs.Prelude.{◌≡◌};
+
 use std::alloc::AllocError;
 use thiserror::Error;
 
@@ -16,6 +18,10 @@ pub enum RunError {
 }
 
 impl From<AllocError> for RunError {
+    ghost use Rattle.linkwire.specs.declared.error.RunError.TheVariants.{OutOfMemory};
+
+    ghost from_gives = { λ _ e. e ≡ OutOfMemory };
+
     fn from(_error: AllocError) -> RunError {
         RunError::OutOfMemory
     }

@@ -1,8 +1,8 @@
 //! A frame over borrowed bytes.
 
-ghost use Rattle.std.specs.Prelude.{◌≡◌, ◌+◌, ◌-◌, ◌≤◌, ◌<◌, List, ℕ, length, drop, IsTrue, MatchResult, IfOk};
+ghost use Rattle.std.specs.Prelude.{◌≡◌, ◌+◌, ◌-◌, ◌≤◌, ◌<◌, List, ℕ, length, MatchResult};
 ghost use Rattle.nla_wire.specs.Sizes.{most_payload};
-ghost use Rattle.nla_wire.specs.Frames.{Frame, number, is_nested, is_network_order, missing, Begins, BadFront, BeginsWithNone};
+ghost use Rattle.nla_wire.specs.Frames.{Frame, number, is_nested, is_network_order, Begins, BadFront, BeginsWithNone};
 ghost use Rattle.nla_wire.specs.Reading.{step, front};
 ghost use Rattle.nla_wire.specs.Gives.{without_place};
 ghost use Rattle.nla_wire.specs.Same.{same_frame, same_frame-laws, same_frame-partial, same_frame-Decides};

@@ -74,7 +74,8 @@ pub fn canon_value(kind: u16, value: &[u8], out: &mut [u8]) -> Option<usize>
     close(out, len, kind)
 }
 
-/// Writes the first bytes of the payload to the front of the buffer, so many with zeros behind fewer, and answers how many.
+/// Writes a payload of fewer than `size` bytes to the front of the buffer, zeros behind it up to `size`, and answers
+/// `size`.
 fn write_filled(payload: &[u8], size: usize, out: &mut [u8]) -> usize
     requires short { length payload.now < size }
     requires room { size ≤ length out.old }
@@ -86,6 +87,8 @@ fn write_filled(payload: &[u8], size: usize, out: &mut [u8]) -> usize
 }
 
 /// Writes an attribute with the first `size` bytes of a payload, and zeros behind a shorter one.
+///
+/// Answers `None` where `size` is more than 65531.
 pub fn canon_filled(kind: u16, size: usize, payload: &[u8], out: &mut [u8]) -> Option<usize>
     requires { 4 + size + missing size ≤ length out.old }
     ensures { Closed kind (zero_filled size payload.now) out.old out.new result }

@@ -1,6 +1,6 @@
 //! An attribute that is kept as it is.
 
-ghost use Rattle.std.specs.Prelude.{◌≡◌, ◌≤◌, length, IfOk, IfErr};
+ghost use Rattle.std.specs.Prelude.{◌≡◌, IfOk, IfErr};
 ghost use Rattle.nla_wire.specs.Frames.{Frame};
 ghost use Rattle.nla_wire.specs.Canon.{IsSmall};
 ghost use Rattle.nla_wire.specs.Same.{same_frame, same_frame-laws, same_frame-partial, same_frame-Decides};

@@ -1,8 +1,8 @@
 //! Texts written from the end of a buffer.
 
-ghost use Rattle.std.specs.Prelude.{◌≡◌, ◌+◌, ◌-◌, ◌^◌, ◌<◌, ◌≤◌, ◌++◌, [], ◌∷◌, length, take, drop, replicate};
+ghost use Rattle.std.specs.Prelude.{◌≡◌, ◌+◌, ◌-◌, ◌≤◌, ◌++◌, [], ◌∷◌, length, drop, replicate};
 ghost use Rattle.nla_wire.specs.Sizes.{most_payload};
-ghost use Rattle.nla_wire.specs.Frames.{Frame, missing};
+ghost use Rattle.nla_wire.specs.Frames.{missing};
 ghost use Rattle.nla_wire.specs.Canon.{canon, Filled};
 
 use crate::fields::put_u16;

@@ -1,8 +1,8 @@
 //! The frames of a byte string, one after the other.
 
-ghost use Rattle.std.specs.Prelude.{◌≡◌, ◌∷◌, ◌+◌, ◌*◌, ◌<◌, ◌≤◌, List, ℕ, Result, length, drop};
+ghost use Rattle.std.specs.Prelude.{◌≡◌, ◌∷◌, ◌+◌, ◌*◌, ◌<◌, ◌≤◌, List, Result, length, drop};
 ghost use Rattle.std.specs.Iterator.{YieldsFirstBy, item_count};
-ghost use Rattle.nla_wire.specs.Frames.{Frame, missing};
+ghost use Rattle.nla_wire.specs.Frames.{missing};
 ghost use Rattle.nla_wire.specs.Items.{Item, items, AreItems, frame_count};
 ghost use Rattle.nla_wire.specs.Gives.{without_place};
 

@@ -1,8 +1,8 @@
 //! What is written as an attribute: `Nla`, slices of attributes, and the attribute that is kept as it is.
 
-ghost use Rattle.std.specs.Prelude.{◌≡◌, ◌+◌, ◌-◌, ◌^◌, ◌<◌, ◌≤◌, ◌++◌, ◌↔◌, length, take, drop, IsTrue};
+ghost use Rattle.std.specs.Prelude.{◌≡◌, ◌+◌, ◌-◌, ◌<◌, ◌≤◌, ◌++◌, ◌↔◌, length, drop, IsTrue};
 ghost use Rattle.nla_wire.specs.Sizes.{most_payload};
-ghost use Rattle.nla_wire.specs.Frames.{Frame, missing};
+ghost use Rattle.nla_wire.specs.Frames.{Frame};
 ghost use Rattle.nla_wire.specs.Canon.{canon, canons, AllFit, Filled};
 
 use crate::fill::close_frame;

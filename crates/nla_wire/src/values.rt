@@ -1,6 +1,6 @@
 //! Bytes, texts and lists whose contracts see them as lists.
 
-ghost use Rattle.std.specs.Prelude.{◌≡◌, ℕ, ◌==◌, List, [], ◌∷◌, ◌++◌, length, IfOk, IfErr, refl};
+ghost use Rattle.std.specs.Prelude.{◌≡◌, ℕ, ◌==◌, List, length, IfOk, IfErr, refl};
 ghost use Rattle.std.specs.String.{string_bytes};
 ghost use Rattle.nla_wire.specs.declared.error.Cause.TheVariants.{OutOfMemory};
 ghost use Rattle.std.specs.Cmp.Rules.{comparing};
@@ -67,13 +67,13 @@ impl Bytes {
     pub fn len(&self) -> usize
         ensures { result ≡ length self.now }
     {
-        self.as_slice().len()
+        self.vec.len()
     }
 
     pub fn is_empty(&self) -> bool
         ensures { result ≡ (length self.now == 0) }
     {
-        self.as_slice().is_empty()
+        self.vec.is_empty()
     }
 }
 
