@@ -1,7 +1,6 @@
 //! Link messages.
 
-ghost use Rattle.std.specs.Prelude.{◌≡◌, ◌≢◌, ◌+◌, ◌-◌, ◌*◌, ◌^◌, ◌<◌, ◌≤◌, ◌++◌, ◌↔◌, [], length, take, drop, IsTrue, IfOk, IfErr, MatchResult, MatchBool};
-ghost use Rattle.nla_wire.specs.Sizes.{growth_per_byte, small_enough};
+ghost use Rattle.std.specs.Prelude.{◌≡◌, ◌≢◌, ◌+◌, ◌-◌, ◌<◌, ◌≤◌, ◌++◌, ◌↔◌, [], length, take, drop, IsTrue, IfOk, IfErr, MatchResult, MatchBool};
 ghost use Rattle.nla_wire.specs.Canon.{Filled};
 ghost use Rattle.link_msg.specs.Header.{header_size, header_of};
 ghost use Rattle.nla_wire.specs.Fields.{IsShort};

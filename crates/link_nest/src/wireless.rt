@@ -1,7 +1,7 @@
 //! Wireless events.
 
-ghost use Rattle.std.specs.Prelude.{◌≡◌, ◌+◌, ◌*◌, ◌≤◌, ◌↔◌, ◌++◌, ◌⊎◌, [], ◌∷◌, length, IsTrue, IfOk, IfErr, IsOk};
-ghost use Rattle.std.specs.Int.{w16, to_le_bytes};
+ghost use Rattle.std.specs.Prelude.{◌≡◌, ◌+◌, ◌*◌, ◌≤◌, ◌↔◌, ◌⊎◌, length, IsTrue, IfOk, IfErr, IsOk};
+ghost use Rattle.std.specs.Int.{to_le_bytes};
 ghost use Rattle.nla_wire.specs.Sizes.{growth_per_byte};
 ghost use Rattle.nla_wire.specs.Canon.{Filled, Canonical, Writes};
 ghost use Rattle.nla_wire.specs.Gives.{Gives, Checks};
