@@ -1,6 +1,6 @@
 //! One canonical text for each message.
 
-ghost use Rattle.std.specs.Prelude.{◌≡◌, ◌*◌, ◌≤◌, length, IfOk, IfErr};
+ghost use Rattle.std.specs.Prelude.{◌≡◌, ◌*◌, ◌≤◌, length, vec_capacity, IfOk, IfErr};
 ghost use Rattle.nla_wire.specs.Sizes.{growth_per_byte};
 ghost use Rattle.link_msg.specs.Header.{header_bytes};
 ghost use Rattle.link_msg.specs.Canonical.{IsAccepted, IsRefusal, HasText, AreSame, IsRefusalOfTwo, IsWritten};
@@ -85,7 +85,8 @@ fn read_accepted(alloc: Global, input: &[u8]) -> Result<LinkMessage, CanonError>
 
 /// A text that begins with the header, in memory for so many bytes.
 fn begin_text(alloc: Global, header: &LinkHeader, capacity: usize) -> Result<Vec<u8>, AllocError>
-    ensures { IfOk result (λ t. t.items ≡ header_bytes header.now) }
+    ensures text { IfOk result (λ t. t.items ≡ header_bytes header.now) }
+    ensures room { IfOk result (λ t. capacity ≤ vec_capacity t) }
 {
     let mut text = Vec::with_capacity(alloc, capacity)?;
     text.extend_from_slice(LinkMessageBuffer::from(header).as_bytes())?;

@@ -47,7 +47,8 @@ fn adds_lists(rt: HostRuntime) {
     let mut text = got(&rt, Vec::from_slice(alloc, &[255]));
     let fits = append_members::<VfPort, OwnPlace>(&OwnPlace, alloc, &TWO, &mut text);
     assert!(rt; got(&rt, fits));
-    assert!(rt; text.as_slice() == [255, 4, 0, 2, 0x80, 5, 0, 1, 0, 7, 0, 0, 0]);
+    let added = [255, 4, 0, 2, 0x80, 5, 0, 1, 0, 7, 0, 0, 0];
+    assert!(rt; text.as_slice() == added.as_slice());
     let short = append_members::<VfPort, OwnPlace>(&OwnPlace, alloc, &TWO[..8], &mut text);
     fails(&rt, short, Some(Cause::FrameOver { length: 5, left: 4 }));
 }

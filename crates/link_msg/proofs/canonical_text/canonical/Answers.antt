@@ -23,7 +23,7 @@ returns-then-hold_empty_ports-clause-err c =
     let fit : c.in_ok-append_list_with_param.field-0 ≡ true = cc in
     let counted : length text < 2 ^ 64 = omega (arith, c.append_list_with_param.new.text.small) in
     appended_whole c.args.input.now c.in_ok-header.header c.in_ok-header.rest.now c.in_ok-header.ensures.0 c.in_ok-header.ensures.1 c.in_ok-header.ensures.2
-    (all_bytes c.args.input.now (λ i. omega (arith, c.type_inv.input i))) _ text c.in_ok-text.ensures counted (rw fit at c.in_ok-append_list_with_param.ensures) _ c.if-hold_empty_ports.ensures
+    (all_bytes c.args.input.now (λ i. omega (arith, c.type_inv.input i))) _ text c.in_ok-text.ensures.text counted (rw fit at c.in_ok-append_list_with_param.ensures) _ c.if-hold_empty_ports.ensures
 
 pub returns-clause-ok : goal.returns-clause-ok
 returns-clause-ok c =
@@ -31,4 +31,4 @@ returns-clause-ok c =
     let fit : c.in_ok-append_list_with_param.field-0 ≡ true = cc in
     let counted : length text < 2 ^ 64 = omega (arith, c.append_list_with_param.new.text.small) in
     appended_whole c.args.input.now c.in_ok-header.header c.in_ok-header.rest.now c.in_ok-header.ensures.0 c.in_ok-header.ensures.1 c.in_ok-header.ensures.2
-    (all_bytes c.args.input.now (λ i. omega (arith, c.type_inv.input i))) _ text c.in_ok-text.ensures counted (rw fit at c.in_ok-append_list_with_param.ensures) _ c.if-hold_empty_ports.ensures
+    (all_bytes c.args.input.now (λ i. omega (arith, c.type_inv.input i))) _ text c.in_ok-text.ensures.text counted (rw fit at c.in_ok-append_list_with_param.ensures) _ c.if-hold_empty_ports.ensures
