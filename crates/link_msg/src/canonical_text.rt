@@ -88,9 +88,9 @@ fn begin_text(alloc: Global, header: &LinkHeader, capacity: usize) -> Result<Vec
     ensures text { IfOk result (λ t. t.items ≡ header_bytes header.now) }
     ensures room { IfOk result (λ t. capacity ≤ vec_capacity t) }
 {
-    let mut text = Vec::with_capacity(alloc, capacity)?;
-    text.extend_from_slice(LinkMessageBuffer::from(header).as_bytes())?;
-    Ok(text)
+    let mut begun = Vec::with_capacity(alloc, capacity)?;
+    begun.extend_from_slice(LinkMessageBuffer::from(header).as_bytes())?;
+    Ok(begun)
 }
 
 /// The canonical text of the message that the bytes mean.
