@@ -55,6 +55,12 @@ module _ (b : List ℕ) (v : LinkHeader) (d : List ℕ) (long : header_size ≤ 
       let refused : Refused b e.cause = inr (take header_size b, d, v, whole, header, fault) in
       refused_by b old e e.cause refl refused memory (λ m means. never_both IsBytes message message_agrees b m e.cause means refused)
 
+  -- not all of the attributes fit
+  unfit_message : (vs : List LinkAttribute) → (list (attribute_place v.interface_family)).means d vs → (AllFit AttributeFits attribute_frame vs → ⊥) → IsUnfit b
+  unfit_message vs means unfit =
+      let m : LinkMessage = record { header = v; attributes = vs } in
+      (m, behind_means vs means, λ fits. unfit (fits.0, attributes_counted m fits))
+
   pub behind_room : (out : List ℕ) → growth_per_byte * length b ≤ length out → growth_per_byte * length d ≤ length out - header_size
   behind_room out room = omega (arith, ap (λ (x : List ℕ). length x) d_is, length-drop header_size b, long, room)
 
@@ -80,9 +86,7 @@ module _ (b : List ℕ) (v : LinkHeader) (d : List ℕ) (long : header_size ≤ 
       unfit_as : (r : Result (List LinkAttribute) Cause) → (list (attribute_place v.interface_family)).reads d ≡ r
           → Appended (canons attribute_frame) (AllFit AttributeFits attribute_frame) r old new false → IsUnfit b
       unfit_as (Err c) e never = absurd never
-      unfit_as (Ok vs) e unfit =
-          let m : LinkMessage = record { header = v; attributes = vs } in
-          (m, behind_means vs ((attributes_agree v.interface_family).found d vs behind_bytes e), λ fits. unfit (fits.0, attributes_counted m fits))
+      unfit_as (Ok vs) e unfit = unfit_message vs ((attributes_agree v.interface_family).found d vs behind_bytes e) unfit
 
       -- an attribute does not fit
       pub appended_unfit : Appended (canons attribute_frame) (AllFit AttributeFits attribute_frame) ((list (attribute_place v.interface_family)).reads d) old new false → IsUnfit b
@@ -115,10 +119,7 @@ module _ (b : List ℕ) (v : LinkHeader) (d : List ℕ) (long : header_size ≤ 
 
     -- an attribute does not fit
     pub written_unfit : (old new : List ℕ) → Canonical (canons attribute_frame) (AllFit AttributeFits attribute_frame) ((list (attribute_place v.interface_family)).reads d) old new None → IsUnfit b
-    unfolding message_read
-    written_unfit old new answer =
-        let unfit : AllFit AttributeFits attribute_frame vs → ⊥ = subst (λ r. Canonical (canons attribute_frame) (AllFit AttributeFits attribute_frame) r old new None) reads answer in
-        (message_read, behind_means vs means, λ fits. unfit (fits.0, attributes_counted message_read fits))
+    written_unfit old new answer = unfit_message vs means (subst (λ r. Canonical (canons attribute_frame) (AllFit AttributeFits attribute_frame) r old new None) reads answer)
 
     module _ (bytes : IsBytes b) (out emitted part : List ℕ) (n : ℕ) (counted : length out < 2 ^ 64) (room : growth_per_byte * length b ≤ length out)
         (emitted_is : emitted ≡ header_bytes v ++ drop header_size out)
