@@ -1,12 +1,11 @@
 -- The loop that adds the texts of a list's members to a text.
-use Rattle.std.proofs.Common.{◌≡◌, ℕ, ◌^◌, ◌<◌, List, [], ◌∷◌, ◌++◌, append_assoc, append-nil, length, flat_map, refl, ap, sym, ◌∙◌, subst, arith, length-append, Bool, true, false, IsTrue, MatchBool, Result, Ok}
+use Rattle.std.proofs.Common.{◌≡◌, ℕ, List, [], ◌∷◌, ◌++◌, append_assoc, append-nil, flat_map, refl, ap, sym, ◌∙◌, Bool, true, false, IsTrue, MatchBool, Result, Ok}
 use Rattle.std.specs.List.{AllByRecursion}
 use Rattle.nla_wire.specs.Frames.{Frame}
 use Rattle.nla_wire.specs.Reading.{list_of, with_front}
 use Rattle.nla_wire.specs.Items.{Item, items, read_items}
-use Rattle.nla_wire.specs.Canon.{canon, canons, AllFit, Appended}
 use Rattle.nla_wire.specs.declared.error.Cause.{Cause}
-use Rattle.nla_wire.proofs.Loop.{items_start, items_more, items_done}
+use Rattle.nla_wire.proofs.Loop.{items_start, items_more}
 use Rattle.nla_wire.proofs.Written.{flat_more, all_more, all_here}
 
 -- the values in front are added if they all fit, and those of the items left are still to come
@@ -48,18 +47,3 @@ module _ {V : Type 0} (read : Frame → Result V Cause) (text_of : V → List �
     so_far = items_more read h.front left whole h.so_far f rest v left_is e;
     added = added_on text_of fits h.front v old now new fitted answer h.added next;
   }
-
-  pub adding_ends : left ≡ [] → (vs : List V) × (whole ≡ Ok vs) × MatchBool fitted (AllByRecursion fits vs × (now ≡ old ++ flat_map text_of vs)) (AllByRecursion fits vs → ⊥)
-  adding_ends left_is = (h.front, items_done read h.front left whole h.so_far left_is, h.added)
-
-appended_as : {V : Type 0} (frame : V → Frame) (fits : V → Type 0) (vs : List V) (old now : List ℕ) (fitted : Bool) → length now < 2 ^ 64
-    → MatchBool fitted (AllByRecursion fits vs × (now ≡ old ++ canons frame vs)) (AllByRecursion fits vs → ⊥)
-    → Appended (canons frame) (AllFit fits frame) (Ok vs) old now fitted
-appended_as frame fits vs old now true counted added = ((added.0, omega (arith, counted, ap (λ (x : List ℕ). length x) added.1, length-append old (canons frame vs))), added.1)
-appended_as frame fits vs old now false counted added = λ all. added all.0
-
-pub appended_ends : {V : Type 0} (read : Frame → Result V Cause) (frame : V → Frame) (fits : V → Type 0) (whole : Result (List V) Cause) (left : List Item) (old now : List ℕ) (fitted : Bool)
-    → Adding read (λ v. canon (frame v)) fits whole left old now fitted → left ≡ [] → length now < 2 ^ 64 → Appended (canons frame) (AllFit fits frame) whole old now fitted
-appended_ends read frame fits whole left old now fitted h left_is counted =
-    let k = adding_ends read (λ v. canon (frame v)) fits whole left old now fitted h left_is in
-    subst (λ r. Appended (canons frame) (AllFit fits frame) r old now fitted) (sym k.1) (appended_as frame fits k.0 old now fitted counted k.2)

@@ -4,9 +4,9 @@ use Rattle.std.proofs.lemmas.Bool.{cases_lt, cases_eq, cases_Bool}
 use Rattle.std.proofs.lemmas.Str.{IsUtf8-from_is_utf8, is_utf8-from_IsUtf8}
 use Rattle.std.specs.Str.{is_utf8}
 use Rattle.std.specs.Int.{Width, byte_len, from_le_bytes}
-use Rattle.nla_wire.specs.Frames.{Frame, number, IsBytes, IsFrame}
+use Rattle.nla_wire.specs.Frames.{Frame, IsBytes, IsFrame}
 use Rattle.nla_wire.specs.Reading.{◌>>=◌}
-use Rattle.nla_wire.specs.Grammar.{Grammar, Agrees, as_a, unless_empty, not_empty, Row, by_payload, kept, if_true, row, row_kept, line, line_reads, table, choose}
+use Rattle.nla_wire.specs.Grammar.{Grammar, Agrees, as_a, unless_empty, not_empty, by_payload, kept, if_true, choose}
 use Rattle.nla_wire.specs.Payloads.{read_number, number_of, bytes, read_exactly, exactly, EndsInNul, IsTextOf, without_nul, read_text, text, filled, read_sized, sized}
 use Rattle.nla_wire.specs.declared.error.Cause.{Cause}
 use Rattle.nla_wire.specs.declared.error.Cause.TheVariants.{WrongLength, NotUtf8, TooShort, EmptyList}
@@ -54,13 +54,7 @@ payload_agrees g h = record {
   refused = λ f c m. h.refused f.payload c m;
 }
 
-pub row_agrees : {A V : Type 0} (n : ℕ) (variant : A → V) (g : Grammar (List ℕ) A) → Agrees IsBytes g → Agrees IsFrame (row n variant g).reading
-row_agrees n variant g h = payload_agrees (as_a variant g) (as_agrees IsBytes variant g h)
-
-pub row_kept_agrees : {V : Type 0} (n : ℕ) (variant : Frame → V) → Agrees IsFrame (row_kept n variant).reading
-row_kept_agrees n variant = kept_agrees IsFrame variant
-
-if_agrees : {V : Type 0} (test : Bool) (g h : Grammar Frame V) → Agrees IsFrame g → Agrees IsFrame h → Agrees IsFrame (if_true test g h)
+pub if_agrees : {V : Type 0} (test : Bool) (g h : Grammar Frame V) → Agrees IsFrame g → Agrees IsFrame h → Agrees IsFrame (if_true test g h)
 if_agrees true g h a b = a
 if_agrees false g h a b = b
 
@@ -72,32 +66,9 @@ choose_agrees test g h a b = record {
   refused = λ f c m. (if_agrees (test f) g h a b).refused f c m;
 }
 
--- ** tables
-
--- the reader of each line of a table answers what its relations say
-abbrev pub RowsAgree : {V : Type 0} → List {1} (Row V) → Type 0
-RowsAgree [] = Unit {0}
-RowsAgree (r ∷ rs) = Agrees IsFrame r.reading × RowsAgree rs
-
-if_reads : {V : Type 0} (test : Bool) (g h : Grammar Frame V) (f : Frame) → (if test then g.reads f else h.reads f) ≡ (if_true test g h).reads f
+pub if_reads : {V : Type 0} (test : Bool) (g h : Grammar Frame V) (f : Frame) → (if test then g.reads f else h.reads f) ≡ (if_true test g h).reads f
 if_reads true g h f = refl
 if_reads false g h f = refl
-
-pub line_reads_is : {V : Type 0} (n : ℕ) (rows : List {1} (Row V)) (rest : Grammar Frame V) (f : Frame) → line_reads n rows rest.reads f ≡ (line n rows rest).reads f
-line_reads_is n [] rest f = refl
-line_reads_is n (r ∷ rs) rest f = ap (λ x. if n == r.number then r.reading.reads f else x) (line_reads_is n rs rest f) ∙ if_reads (n == r.number) r.reading (line n rs rest) f
-
-line_agrees : {V : Type 0} (n : ℕ) (rows : List {1} (Row V)) (rest : Grammar Frame V) → RowsAgree rows → Agrees IsFrame rest → Agrees IsFrame (line n rows rest)
-line_agrees n [] rest each h = h
-line_agrees n (r ∷ rs) rest each h = if_agrees (n == r.number) r.reading (line n rs rest) each.0 (line_agrees n rs rest each.1 h)
-
-pub table_agrees : {V : Type 0} (rows : List {1} (Row V)) (rest : Grammar Frame V) → RowsAgree rows → Agrees IsFrame rest → Agrees IsFrame (table rows rest)
-table_agrees rows rest each h = record {
-  only = λ f v m. line_reads_is (number f) rows rest f ∙ (line_agrees (number f) rows rest each h).only f v m;
-  found = λ f v one e. (line_agrees (number f) rows rest each h).found f v one (sym (line_reads_is (number f) rows rest f) ∙ e);
-  fault = λ f c one e. (line_agrees (number f) rows rest each h).fault f c one (sym (line_reads_is (number f) rows rest f) ∙ e);
-  refused = λ f c m. line_reads_is (number f) rows rest f ∙ (line_agrees (number f) rows rest each h).refused f c m;
-}
 
 -- ** the empty payload
 

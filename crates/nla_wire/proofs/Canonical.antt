@@ -22,10 +22,6 @@ lent_back at now part =
     let none : drop (length now - at) (drop at now) ≡ [] = drop_all (length now - at) (drop at now) (simp length-drop (omega arith)) in
     ap (λ (rest : List ℕ). take at now ++ (part ++ rest)) none ∙ ap (λ (xs : List ℕ). take at now ++ xs) (append-nil part)
 
-pub written_length : (text old new : List ℕ) (n : ℕ) → n ≤ length old → Writes text old new n → length new ≡ length old
-written_length text old new n fits w =
-    ap length w.new_is ∙ length-append text (drop n old) ∙ ap (λ k. length text + k) (length-drop n old) ∙ omega (arith, w.length_is)
-
 pub write_on : (done text old now part : List ℕ) (at n : ℕ) → Writes done old now at → Writes text (take (length now - at) (drop at now)) part n
     → Writes (done ++ text) old (put_mid at (length now - at) now part) (at + n)
 write_on done text old now part at n before w =

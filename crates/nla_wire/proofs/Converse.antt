@@ -1,11 +1,11 @@
 -- What a canonical text that has a meaning says of each member.
-use Rattle.std.proofs.Common.{◌≡◌, ◌<◌, List, [], ◌∷◌, length, map, filter, subst, arith}
+use Rattle.std.proofs.Common.{List, [], ◌∷◌, map, subst}
 use Rattle.std.specs.List.{AllByRecursion}
-use Rattle.nla_wire.specs.Frames.{Frame, number}
-use Rattle.nla_wire.specs.Grammar.{Grammar, Every, list, is_one, picked}
+use Rattle.nla_wire.specs.Frames.{Frame}
+use Rattle.nla_wire.specs.Grammar.{Grammar, Every, list}
 use Rattle.nla_wire.specs.Canon.{canons, IsWritable}
 use Rattle.nla_wire.proofs.Cuts.{frames_once}
-use Rattle.nla_wire.proofs.Back.{canons_frames, ones_kept}
+use Rattle.nla_wire.proofs.Back.{canons_frames}
 
 module _ {V : Type 0} (place : Grammar Frame V) (frame : V → Frame) where
   each_means : (vs : List V) → Every place.means (map frame vs) vs → AllByRecursion (λ v. place.means (frame v) v) vs
@@ -17,14 +17,3 @@ module _ {V : Type 0} (place : Grammar Frame V) (frame : V → Frame) where
       → AllByRecursion (λ v. place.means (frame v) v) vs
   list_members vs h writable =
       each_means vs (subst (λ fs. Every place.means fs vs) (frames_once (canons frame vs) h.0 (map frame vs) h.1 (canons_frames frame vs writable)) h.2)
-
-  pub picked_members : ((v : V) → number (frame v) ≡ 1) → (vs : List V) → (picked place).means (canons frame vs) vs → AllByRecursion (λ v. IsWritable (frame v)) vs
-      → AllByRecursion (λ v. place.means (frame v) v) vs
-  picked_members ones vs h writable =
-      let same = frames_once (canons frame vs) h.0 (map frame vs) h.1 (canons_frames frame vs writable) in
-      each_means vs (subst (λ fs. Every place.means fs vs) (ones_kept frame ones vs) (subst (λ fs. Every place.means (filter is_one fs) vs) same h.2))
-
--- a text that isn't empty has a member
-pub canons_member : {V : Type 0} (frame : V → Frame) (vs : List V) → 0 < length (canons frame vs) → 0 < length vs
-canons_member frame [] some = absurd (omega arith)
-canons_member frame (v ∷ vs) some = omega arith

@@ -1,10 +1,9 @@
 -- Numbers of records read again from their bytes.
-use Rattle.std.proofs.Common.{◌≡◌, ℕ, zero, suc, ◌+◌, ◌-◌, ◌*◌, ◌/◌, ◌%◌, ◌^◌, ◌<◌, ◌≤◌, ℤ, List, [], ◌∷◌, ◌++◌, length, get_or, map, take, drop, replicate, FitsSigned, add_comm, add_assoc, zero-add, add-zero, mul_comm, mod-lt, mod-eq_of_lt, pow-suc, refl, sym, ap, ap₂, subst, ◌∙◌, append_assoc, append-nil, length-append, get_or-take, get_or-drop, length-take, take_all, get_or-append-add, arith, lit<}
+use Rattle.std.proofs.Common.{◌≡◌, ℕ, zero, suc, ◌+◌, ◌-◌, ◌*◌, ◌/◌, ◌%◌, ◌^◌, ◌<◌, ◌≤◌, ℤ, List, [], ◌∷◌, ◌++◌, length, get_or, map, take, replicate, FitsSigned, add_comm, add_assoc, zero-add, add-zero, mul_comm, mod-lt, mod-eq_of_lt, pow-suc, refl, sym, ap, ap₂, subst, ◌∙◌, append_assoc, append-nil, length-append, length-take, take_all, get_or-append-add, arith, lit<}
 use Rattle.std.proofs.lemmas.List.{get_or_append_left, length-map, length-replicate}
-use Rattle.std.proofs.lemmas.Nat.{from_be_bytes-to_be_bytes_2}
 use Rattle.std.proofs.Math.Arith.{mod-mul, digits_lt}
 use Rattle.std.proofs.Math.Facts.{sfits_to_z, Fits-of_z, to_z-of_z, of_z-to_z}
-use Rattle.std.specs.Int.{Width, w8, w16, w32, w64, w128, byte_len, byte_at, byte_worth, bytes_low_first, to_le_bytes, from_le_bytes, to_be_bytes, from_be_bytes, cast_signed, cast_unsigned, sum_through}
+use Rattle.std.specs.Int.{Width, w8, w16, w32, w64, w128, byte_len, byte_at, byte_worth, bytes_low_first, to_le_bytes, from_le_bytes, from_be_bytes, cast_signed, cast_unsigned, sum_through}
 use Rattle.std.specs.List.{AllByRecursion}
 use Rattle.nla_wire.specs.Frames.{IsBytes}
 use Rattle.nla_wire.specs.Fields.{zero_filled, be_number_at, number_at, signed_at, numbers_from, signed_from, le_all, le_all_signed}
@@ -99,9 +98,6 @@ low_first_bytes : (i k n : ℕ) → IsBytes (bytes_low_first i k n)
 low_first_bytes i zero n = tt
 low_first_bytes i (suc k) n = (byte_at_below i n, low_first_bytes (suc i) k n)
 
-pub IsBytes-to_le_bytes : (w : Width) (n : ℕ) → IsBytes (to_le_bytes w n)
-IsBytes-to_le_bytes w n = low_first_bytes 0 (byte_len w) n
-
 -- ** a number at a place
 
 pub number_at_below : (w : Width) (p : List ℕ) (place : ℕ) → IsBytes p → number_at w p place < 2 ^ bits w
@@ -129,9 +125,6 @@ get_or_zeros [] m j = zero_there m j
 get_or_zeros (x ∷ bytes) m zero = refl
 get_or_zeros (x ∷ bytes) m (suc j) = get_or_zeros bytes m j
 
-pub number_at_zeros : (w : Width) (bytes : List ℕ) (m place : ℕ) → number_at w (bytes ++ replicate m 0) place ≡ number_at w bytes place
-number_at_zeros w bytes m place = number_at_same w (bytes ++ replicate m 0) bytes place place (λ i l. get_or_zeros bytes m (place + i))
-
 -- bytes behind a payload that is long enough aren't seen, nor are bytes in front of the place
 pub number_at_before : (w : Width) (bytes more : List ℕ) (place : ℕ) → place + byte_len w ≤ length bytes → number_at w (bytes ++ more) place ≡ number_at w bytes place
 number_at_before w bytes more place h = number_at_same w (bytes ++ more) bytes place place (λ i l. get_or_append_left bytes more 0 (place + i) (omega arith))
@@ -139,18 +132,6 @@ number_at_before w bytes more place h = number_at_same w (bytes ++ more) bytes p
 pub number_at_behind : (w : Width) (front bytes : List ℕ) (place : ℕ) → number_at w (front ++ bytes) (length front + place) ≡ number_at w bytes place
 number_at_behind w front bytes place = number_at_same w (front ++ bytes) bytes (length front + place) place (λ i l.
     ap (λ z. get_or (front ++ bytes) z 0) (add_assoc (length front) place i) ∙ get_or-append-add front bytes (place + i) 0)
-
--- a number at a place is the number that its bytes spell, where zeros follow
-pub number_at_is : (w : Width) (bytes : List ℕ) (place : ℕ)
-    → number_at w bytes place ≡ from_le_bytes w (take (byte_len w) (drop place (bytes ++ replicate (place + byte_len w) 0)))
-number_at_is w bytes place =
-    let padded : List ℕ = bytes ++ replicate (place + byte_len w) 0 in
-    number_at_same w bytes (take (byte_len w) (drop place padded)) place 0 (λ i l.
-    sym (get_or_zeros bytes (place + byte_len w) (place + i))
-    ∙ sym (get_or-drop place padded i 0)
-    ∙ sym (get_or-take (byte_len w) (drop place padded) i 0 l)
-    ∙ ap (λ x. get_or (take (byte_len w) (drop place padded)) x 0) (sym (zero-add i)))
-    ∙ number_at_front w (take (byte_len w) (drop place padded))
 
 -- ** numbers one behind the other
 
@@ -173,14 +154,6 @@ numbers_from_same w a b x y (suc n) h =
     ∙ h (byte_len w + i) (omega arith)
     ∙ ap (λ z. get_or b z 0) (sym (add_assoc y (byte_len w) i))) in
     (λ j. here j ∷ after j)
-
-pub numbers_from_zeros : (w : Width) (bytes : List ℕ) (m place n : ℕ) → numbers_from w (bytes ++ replicate m 0) place n ≡ numbers_from w bytes place n
-numbers_from_zeros w bytes m place n = numbers_from_same w (bytes ++ replicate m 0) bytes place place n (λ i l. get_or_zeros bytes m (place + i))
-
--- bytes behind a payload that is long enough aren't seen
-pub numbers_from_front : (w : Width) (bytes more : List ℕ) (place n : ℕ) → place + n * byte_len w ≤ length bytes
-    → numbers_from w (bytes ++ more) place n ≡ numbers_from w bytes place n
-numbers_from_front w bytes more place n h = numbers_from_same w (bytes ++ more) bytes place place n (λ i l. get_or_append_left bytes more 0 (place + i) (omega arith))
 
 -- nor are bytes in front of the place
 pub numbers_from_behind : (w : Width) (front bytes : List ℕ) (place n : ℕ) → numbers_from w (front ++ bytes) (length front + place) n ≡ numbers_from w bytes place n
@@ -212,14 +185,6 @@ numbers_again_before w (n ∷ ns) more h =
     ∙ numbers_from_behind w text (le_all w ns ++ more) 0 (length ns)
     ∙ numbers_again_before w ns more h.1 in
     (λ j. here j ∷ after j)
-
--- and whatever stands in front of them
-pub numbers_again_between : (w : Width) (front : List ℕ) (ns : List ℕ) (more : List ℕ) → AllByRecursion (λ n. n < 2 ^ bits w) ns
-    → numbers_from w (front ++ (le_all w ns ++ more)) (length front) (length ns) ≡ ns
-numbers_again_between w front ns more h =
-    ap (λ x. numbers_from w (front ++ (le_all w ns ++ more)) x (length ns)) (sym (add-zero (length front)))
-    ∙ numbers_from_behind w front (le_all w ns ++ more) 0 (length ns)
-    ∙ numbers_again_before w ns more h
 
 pub numbers_again : (w : Width) (ns : List ℕ) → AllByRecursion (λ n. n < 2 ^ bits w) ns → numbers_from w (le_all w ns) 0 (length ns) ≡ ns
 numbers_again w ns h = ap (λ x. numbers_from w x 0 (length ns)) (sym (append-nil (le_all w ns))) ∙ numbers_again_before w ns [] h
@@ -282,29 +247,15 @@ be_number_at_same w a b x y h =
     same_sum (λ i. byte_worth (byte_len w - 1 - i) (get_or a (x + i) 0)) (λ i. byte_worth (byte_len w - 1 - i) (get_or b (y + i) 0)) (byte_len w - 1)
     (λ i l. ap (byte_worth (byte_len w - 1 - i)) (h i (omega (arith, byte_len_pos w))))
 
-be_number_at_front : (w : Width) (p : List ℕ) → be_number_at w p 0 ≡ from_be_bytes w p
+pub be_number_at_front : (w : Width) (p : List ℕ) → be_number_at w p 0 ≡ from_be_bytes w p
 unfolding be_number_at
 be_number_at_front w p =
     same_sum (λ i. byte_worth (byte_len w - 1 - i) (get_or p (0 + i) 0)) (λ i. byte_worth (byte_len w - 1 - i) (get_or p i 0)) (byte_len w - 1)
     (λ i l. ap (λ x. byte_worth (byte_len w - 1 - i) (get_or p x 0)) (zero-add i))
 
-pub be_number_at_zeros : (w : Width) (bytes : List ℕ) (m place : ℕ) → be_number_at w (bytes ++ replicate m 0) place ≡ be_number_at w bytes place
-be_number_at_zeros w bytes m place = be_number_at_same w (bytes ++ replicate m 0) bytes place place (λ i l. get_or_zeros bytes m (place + i))
-
 pub be_number_at_below : (p : List ℕ) (place : ℕ) → IsBytes p → be_number_at w16 p place < 2 ^ 16
 unfolding be_number_at
 be_number_at_below p place h = omega (arith, IsBytes-get p (place + 0) h, IsBytes-get p (place + 1) h)
-
-pub be_number_again_between : (front : List ℕ) (n : ℕ) (more : List ℕ) (place : ℕ) → n < 2 ^ 16 → length front ≡ place
-    → be_number_at w16 (front ++ (to_be_bytes w16 n ++ more)) place ≡ n
-be_number_again_between front n more place h is =
-    be_number_at_same w16 (front ++ (to_be_bytes w16 n ++ more)) (to_be_bytes w16 n) place 0 (λ i l.
-    ap (λ z. get_or (front ++ (to_be_bytes w16 n ++ more)) z 0) (ap (λ z. z + i) (sym is))
-    ∙ get_or-append-add front (to_be_bytes w16 n ++ more) i 0
-    ∙ get_or_append_left (to_be_bytes w16 n) more 0 i l
-    ∙ ap (λ z. get_or (to_be_bytes w16 n) z 0) (sym (zero-add i)))
-    ∙ be_number_at_front w16 (to_be_bytes w16 n)
-    ∙ from_be_bytes-to_be_bytes_2 n h
 
 -- ** bytes filled up with zeros
 

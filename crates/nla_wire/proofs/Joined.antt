@@ -71,12 +71,6 @@ module _ {V : Type 0} (place : Grammar Frame V) where
   pub list_join : (c d : List ℕ) (vs ws : List V) → length c % 4 ≡ 0 → (list place).means c vs → (list place).means d ws → (list place).means (c ++ d) (vs ++ ws)
   list_join c d vs ws whole h k = (h.0 ++ k.0, frames_join c d h.0 k.0 whole h.1 k.1, zip_join place.means h.0 k.0 vs ws h.2 k.2)
 
-  pub list_split : (c d : List ℕ) (vs us : List V) → length c % 4 ≡ 0 → (list place).means c vs → (list place).means (c ++ d) us → (ws : List V) × (list place).means d ws
-  list_split c d vs us whole h k =
-      let parts = frames_split c d h.0 k.0 whole h.1 k.1 in
-      let values = zip_split place.means h.0 parts.0 us (subst (λ x. Every place.means x us) parts.1 k.2) in
-      (values.1, (parts.0, parts.2, values.4))
-
   -- a frame has one value
   module _ (alone : (f : Frame) (v w : V) → place.means f v → place.means f w → v ≡ w) where
     every_alone : (fs : List Frame) (vs ws : List V) → Every place.means fs vs → Every place.means fs ws → vs ≡ ws

@@ -2,19 +2,19 @@
 -- line a row. A value's text is `text a` or the text of its `frame`; `Fits` says that it has one, `Good` that the text is
 -- not refused, and `count` is how many values it is. A text has at most k bytes for each whole four bytes that were read, the
 -- header among them, and e bytes fewer than that. What was read from at most n bytes fits.
-use Rattle.std.proofs.Common.{◌≡◌, ℕ, ◌+◌, ◌*◌, ◌/◌, ◌%◌, ◌^◌, ◌<◌, ◌≤◌, ◌==◌, inl, inr, Bool, true, false, eqb-true, List, [], ◌∷◌, ◌++◌, length, filter, refl, sym, ap, subst, ◌∙◌, mul-le-mul_left, mul-le-mul_right, arith, lit≤, length-append}
+use Rattle.std.proofs.Common.{◌≡◌, ℕ, ◌+◌, ◌*◌, ◌/◌, ◌^◌, ◌<◌, ◌≤◌, inl, inr, List, [], ◌∷◌, ◌++◌, length, filter, refl, sym, ap, subst, ◌∙◌, mul-le-mul_left, mul-le-mul_right, arith, lit≤, length-append}
 use Rattle.std.specs.Int.{Width, w8, w16, w32, w64, w128, byte_len, to_le_bytes, from_le_bytes, cast_signed, cast_unsigned}
 use Rattle.std.specs.List.{AllByRecursion}
 use Rattle.nla_wire.specs.Sizes.{most_payload, growth, slack, growth_per_byte}
 use Rattle.nla_wire.specs.Frames.{Frame, number, IsBytes, IsFrame, missing}
-use Rattle.nla_wire.specs.Grammar.{Grammar, Agrees, as_a, Every, list, not_empty, Row, by_payload, kept, if_true, row, row_kept, line, table, choose, is_one, picked}
-use Rattle.nla_wire.specs.Payloads.{number_of, bytes, exactly, IsTextOf, text, filled, sized}
+use Rattle.nla_wire.specs.Grammar.{Grammar, Agrees, as_a, Every, list, not_empty, by_payload, kept, is_one, picked}
+use Rattle.nla_wire.specs.Payloads.{number_of, bytes, IsTextOf, text, filled, sized}
 use Rattle.nla_wire.specs.Canon.{canon, canons, AllFit, IsWritable, total}
 use Rattle.nla_wire.specs.declared.error.Cause.TheVariants.{OutOfMemory}
-use Rattle.nla_wire.proofs.Agreement.{as_agrees, kept_agrees, payload_agrees, RowsAgree, table_agrees, choose_agrees, not_empty_agrees, number_agrees, bytes_agrees, exactly_agrees, text_agrees, filled_agrees, sized_agrees}
+use Rattle.nla_wire.proofs.Agreement.{as_agrees, kept_agrees, payload_agrees, not_empty_agrees, number_agrees, bytes_agrees, text_agrees, filled_agrees, sized_agrees}
 use Rattle.nla_wire.proofs.Lists.{list_agrees, picked_agrees}
-use Rattle.nla_wire.proofs.Memory.{memory_list, memory_picked, memory_not_empty, memory_number, memory_bytes, memory_exactly, memory_text, memory_filled, memory_sized}
-use Rattle.nla_wire.proofs.Back.{every_writable, list_back, picked_back, list_some, canons_some, frames_framed, all_filtered}
+use Rattle.nla_wire.proofs.Memory.{memory_list, memory_picked, memory_not_empty, memory_number, memory_bytes, memory_text, memory_filled, memory_sized}
+use Rattle.nla_wire.proofs.Back.{list_back, picked_back, list_some, canons_some, frames_framed, all_filtered}
 use Rattle.nla_wire.proofs.Bounds.{length-canon, canons_whole, list_count, picked_count, list_length, picked_length, frames_shorter}
 use Rattle.nla_wire.proofs.FieldLemmas.{signed_number_again, length-to_le_bytes, from_le_bytes-to_le_bytes, from_le_bytes_below}
 use mir.Val.{bits}
@@ -118,21 +118,6 @@ module _ {A B : Type 0} (wrap : A → B) (g : Grammar (List ℕ) A) (text : A �
             subst Fits (sym m.2) (fits_outside m.0 s.0 s.1);
       }
 
--- the plain form: the value itself
-pub payload_lawful : {A : Type 0} (kind : ℕ) (g : Grammar (List ℕ) A) (text : A → List ℕ) (Fits Good : A → Type 0) (count : A → ℕ) (k e n : ℕ)
-    → LawfulPayload g text Fits Good count k e n
-    → kind < 2 ^ 16
-    → LawfulPlace (by_payload g) (λ a. record { kind = kind; payload = text a }) (λ a. (length (text a) ≤ most_payload) × Fits a) Good (λ a. 1 + count a) k e n
-payload_lawful kind g text Fits Good count k e n h kind_small = record {
-  agrees = payload_agrees g h.agrees;
-  no_memory = λ f. h.no_memory f.payload;
-  writable = λ f a one m fits. record { kind = kind_small; size = fits.0 };
-  back = λ f a one m fits good. h.back f.payload a one.bytes m fits.1 good;
-  counted = λ f a m. omega (arith, h.counted f.payload a m);
-  bounded = λ f a m. omega (arith, length-canon (record { kind = kind; payload = text a }), h.bounded f.payload a m);
-  small = λ f a short one m. h.small f.payload a short one.bytes m;
-}
-
 -- a text has at most k bytes for each whole four bytes that were read
 pub text_bounded : {V : Type 0} {g : Grammar Frame V} {frame : V → Frame} {Fits Good : V → Type 0} {count : V → ℕ} {k e n : ℕ}
     → LawfulPlace g frame Fits Good count k e n
@@ -152,29 +137,10 @@ less g text Fits Good count k e n u m slacker smaller h = record {
   small = λ p a short. h.small p a (omega arith);
 }
 
-pub less_place : {V : Type 0} (g : Grammar Frame V) (frame : V → Frame) (Fits Good : V → Type 0) (count : V → ℕ) (k e n u m : ℕ) → u ≤ e → m ≤ n
-    → LawfulPlace g frame Fits Good count k e n → LawfulPlace g frame Fits Good count k u m
-less_place g frame Fits Good count k e n u m slacker smaller h = record {
-  agrees = h.agrees;
-  no_memory = h.no_memory;
-  writable = h.writable;
-  back = h.back;
-  counted = h.counted;
-  bounded = λ f v means. omega (arith, h.bounded f v means);
-  small = λ f v short. h.small f v (omega arith);
-}
-
 -- ** lines of tables
 
 module _ {V : Type 0} (frame : V → Frame) (Fits Good : V → Type 0) (count : V → ℕ) (k e n : ℕ) where
-  abbrev pub LawfulRow : Row V → Type 0
-  LawfulRow r = LawfulReading frame Fits Good count k e n r.number r.reading
-
-  abbrev pub LawfulRows : List {1} (Row V) → Type 0
-  LawfulRows [] = Unit {0}
-  LawfulRows (r ∷ rs) = LawfulRow r × LawfulRows rs
-
-  numbered : (m : ℕ) (g : Grammar Frame V) → LawfulPlace g frame Fits Good count k e n
+  pub numbered : (m : ℕ) (g : Grammar Frame V) → LawfulPlace g frame Fits Good count k e n
       → ((f : Frame) (v : V) → number f ≡ m → g.means f v → number (frame v) ≡ m)
       → LawfulReading frame Fits Good count k e n m g
   numbered m g h same = record {
@@ -187,22 +153,6 @@ module _ {V : Type 0} (frame : V → Frame) (Fits Good : V → Type 0) (count : 
     bounded = h.bounded;
     small = h.small;
   }
-
-  -- a line that reads a lawful payload, from one equation on the frame
-  pub row_lawful : {A : Type 0} (m kind : ℕ) (variant : A → V) (g : Grammar (List ℕ) A) (text : A → List ℕ) (FitsA GoodA : A → Type 0) (countA : A → ℕ)
-      → LawfulPayload g text FitsA GoodA countA k e n
-      → kind % 2 ^ 14 ≡ m
-      → kind < 2 ^ 16
-      → ((a : A) → frame (variant a) ≡ record { kind = kind; payload = text a })
-      → ((a : A) → count (variant a) ≡ 1 + countA a)
-      → ((a : A) → Fits (variant a) → (length (text a) ≤ most_payload) × FitsA a)
-      → ((a : A) → length (text a) ≤ most_payload → FitsA a → Fits (variant a))
-      → ((a : A) → Good (variant a) → GoodA a)
-      → LawfulRow (row m variant g)
-  row_lawful m kind variant g text FitsA GoodA countA h number_is kind_small frame_is count_is fits_inside fits_outside good_inside =
-      numbered m (by_payload (as_a variant g))
-      (wrapped_lawful variant g text FitsA GoodA countA k e n h kind frame Fits Good count kind_small frame_is count_is fits_inside fits_outside good_inside)
-      (λ f v is means. ap (λ w. number (frame w)) means.2 ∙ ap number (frame_is means.0) ∙ number_is)
 
   module _ (wide : 8 + e ≤ k) (other : Frame → V) (frame_is : (f : Frame) → frame (other f) ≡ f) (count_is : (f : Frame) → count (other f) ≡ 1)
       (fits : (f : Frame) → length f.payload ≤ most_payload → Fits (other f)) where
@@ -224,72 +174,6 @@ module _ {V : Type 0} (frame : V → Frame) (Fits Good : V → Type 0) (count : 
       small = λ f v short one means. subst Fits (sym means) (fits f one.size);
     }
 
-    -- a line whose frames are kept
-    pub row_kept_lawful : (m : ℕ) → LawfulRow (row_kept m other)
-    row_kept_lawful m = kept_lawful m
-
-  -- one of two readings, where the frame of a value is tested as the frame that it was read from
-  module _ (m : ℕ) (test : Frame → Bool) (g h : Grammar Frame V)
-      (a : LawfulReading frame Fits Good count k e n m g) (b : LawfulReading frame Fits Good count k e n m h)
-      (same_a : (f : Frame) (v : V) → test f ≡ true → g.means f v → test (frame v) ≡ true)
-      (same_b : (f : Frame) (v : V) → test f ≡ false → h.means f v → test (frame v) ≡ false) where
-    chosen : (t : Bool) → LawfulReading frame Fits Good count k e n m (if_true t g h)
-    chosen true = a
-    chosen false = b
-
-    same_test : (t : Bool) (f : Frame) (v : V) → test f ≡ t → (if_true t g h).means f v → test (frame v) ≡ t
-    same_test true f v is means = same_a f v is means
-    same_test false f v is means = same_b f v is means
-
-    pub choose_lawful : LawfulReading frame Fits Good count k e n m (choose test g h)
-    choose_lawful = record {
-      agrees = choose_agrees test g h a.agrees b.agrees;
-      no_memory = λ f. (chosen (test f)).no_memory f;
-      same_number = λ f. (chosen (test f)).same_number f;
-      writable = λ f. (chosen (test f)).writable f;
-      back = λ f v one is means fits good.
-          subst (λ t. (if_true t g h).means (frame v) v) (sym (same_test (test f) f v refl means)) ((chosen (test f)).back f v one is means fits good);
-      counted = λ f. (chosen (test f)).counted f;
-      bounded = λ f. (chosen (test f)).bounded f;
-      small = λ f. (chosen (test f)).small f;
-    }
-
-  -- ** tables
-
-  rows_agree : (rows : List {1} (Row V)) → LawfulRows rows → RowsAgree rows
-  rows_agree [] each = tt
-  rows_agree (r ∷ rs) each = (each.0.agrees, rows_agree rs each.1)
-
-  if_lawful : (m : ℕ) (t : Bool) (g h : Grammar Frame V) → (t ≡ true → LawfulReading frame Fits Good count k e n m g) → LawfulReading frame Fits Good count k e n m h
-      → LawfulReading frame Fits Good count k e n m (if_true t g h)
-  if_lawful m true g h a b = a refl
-  if_lawful m false g h a b = b
-
-  line_lawful : (m : ℕ) (rows : List {1} (Row V)) (rest : Grammar Frame V) → LawfulRows rows → LawfulReading frame Fits Good count k e n m rest
-      → LawfulReading frame Fits Good count k e n m (line m rows rest)
-  line_lawful m [] rest each h = h
-  line_lawful m (r ∷ rs) rest each h =
-      if_lawful m (m == r.number) r.reading (line m rs rest)
-      (λ is. subst (λ x. LawfulReading frame Fits Good count k e n x r.reading) (sym (eqb-true m r.number is)) each.0)
-      (line_lawful m rs rest each.1 h)
-
-  -- a table over whatever reads the other numbers, such as another table
-  pub table_over_lawful : (rows : List {1} (Row V)) (rest : Grammar Frame V) → LawfulRows rows → ((m : ℕ) → LawfulReading frame Fits Good count k e n m rest)
-      → (m : ℕ) → LawfulReading frame Fits Good count k e n m (table rows rest)
-  table_over_lawful rows rest each h m =
-      let at = λ (f : Frame). line_lawful (number f) rows rest each (h (number f)) in
-      record {
-        agrees = table_agrees rows rest (rows_agree rows each) (h m).agrees;
-        no_memory = λ f. (at f).no_memory f;
-        same_number = λ f v is means. (at f).same_number f v refl means ∙ is;
-        writable = λ f. (at f).writable f;
-        back = λ f v one is means fits good.
-            subst (λ x. (line x rows rest).means (frame v) v) (sym ((at f).same_number f v refl means)) ((at f).back f v one refl means fits good);
-        counted = λ f. (at f).counted f;
-        bounded = λ f. (at f).bounded f;
-        small = λ f. (at f).small f;
-      }
-
   -- what is lawful at each number is a lawful place
   pub place_lawful : (g : Grammar Frame V) → ((m : ℕ) → LawfulReading frame Fits Good count k e n m g) → LawfulPlace g frame Fits Good count k e n
   place_lawful g h = record {
@@ -301,15 +185,6 @@ module _ {V : Type 0} (frame : V → Frame) (Fits Good : V → Type 0) (count : 
     bounded = (h 0).bounded;
     small = (h 0).small;
   }
-
-  pub table_lawful : (rows : List {1} (Row V)) (other : Frame → V) → 8 + e ≤ k
-      → ((f : Frame) → frame (other f) ≡ f)
-      → ((f : Frame) → count (other f) ≡ 1)
-      → ((f : Frame) → length f.payload ≤ most_payload → Fits (other f))
-      → LawfulRows rows
-      → LawfulPlace (table rows (kept other)) frame Fits Good count k e n
-  table_lawful rows other wide frame_is count_is fits each =
-      place_lawful (table rows (kept other)) (table_over_lawful rows (kept other) each (kept_lawful wide other frame_is count_is fits))
 
 -- ** lists of a place
 
@@ -349,10 +224,6 @@ module _ {V : Type 0} (g : Grammar Frame V) (frame : V → Frame) (Fits Good : V
   pub place_back : (p : List ℕ) (vs : List V) → IsBytes p → (list g).means p vs → AllByRecursion Fits vs → AllByRecursion Good vs
       → (list g).means (canons frame vs) vs
   place_back = list_back g frame Fits Good h.writable h.back
-
-  -- the frames of the values that were read have texts, where the values fit
-  pub place_writable : (p : List ℕ) (vs : List V) → IsBytes p → (list g).means p vs → AllByRecursion Fits vs → AllByRecursion (λ v. IsWritable (frame v)) vs
-  place_writable p vs small m fits = every_writable g frame Fits h.writable m.0 vs (frames_framed p m.0 small m.1) m.2 fits
 
   -- ** the payload of the place above
 
@@ -442,17 +313,6 @@ bytes_lawful n enough = record {
   counted = λ p a means. omega arith;
   bounded = λ p a means. subst (λ (x : List ℕ). 4 + length x + missing (length x) + slack ≤ growth * (1 + length p / 4)) (sym means) (whole_payload p);
   small = λ p a short small means. (omega (arith, ap length means), tt);
-}
-
--- exactly so many bytes
-pub exactly_lawful : (size n : ℕ) → size ≤ most_payload → LawfulPayload (exactly size) (λ p. p) always always none growth slack n
-exactly_lawful size n enough = record {
-  agrees = exactly_agrees size;
-  no_memory = memory_exactly size;
-  back = λ p a small means fits good. (ap length means.1 ∙ means.0, refl);
-  counted = λ p a means. omega arith;
-  bounded = λ p a means. subst (λ (x : List ℕ). 4 + length x + missing (length x) + slack ≤ growth * (1 + length p / 4)) (sym means.1) (whole_payload p);
-  small = λ p a short small means. (omega (arith, ap length means.1, means.0), tt);
 }
 
 text_length : (p s : List ℕ) → IsTextOf p s → length (s ++ 0 ∷ []) ≤ length p + 1

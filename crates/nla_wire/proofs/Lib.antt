@@ -9,6 +9,10 @@ pub mod Back
 pub mod Bounds
 pub mod Canonical
 pub mod Checked
+pub mod Codec
+pub mod Tables
+pub mod Variants
+pub mod Shapes
 pub mod Converse
 pub mod FieldLemmas
 pub mod Flags
@@ -22,6 +26,7 @@ pub mod Members
 pub mod Memory
 pub mod PlaceLaws
 pub mod Placing
+pub mod RecordParts
 pub mod Spellings
 pub mod Texts
 pub mod Written

@@ -1,5 +1,5 @@
 -- What contracts on readers say in the words of the relations, and the steps of a loop over items.
-use Rattle.std.proofs.Common.{◌≡◌, ◌≢◌, ℕ, inl, inr, List, [], ◌∷◌, ◌++◌, append_assoc, append-nil, refl, ap, sym, ◌∙◌, Option, Some, None, Result, Ok, Err, IsOk, IfOk, IfErr, eq-eqb, ne_eqb}
+use Rattle.std.proofs.Common.{◌≡◌, ◌≢◌, ℕ, inl, inr, List, [], ◌∷◌, ◌++◌, append_assoc, refl, ap, sym, ◌∙◌, Option, Some, None, Result, Ok, Err, IsOk, IfOk, IfErr, eq-eqb, ne_eqb}
 use Rattle.nla_wire.specs.Frames.{Frame, number}
 use Rattle.nla_wire.specs.Reading.{list_of, with_front, ◌>>=◌}
 use Rattle.nla_wire.specs.Items.{Item, items, read_items}
@@ -77,21 +77,6 @@ module _ {V : Type 0} (read : Frame → Result V Cause) (front : List V) (left :
   fault_of : (c : Cause) → read_items read left ≡ Err c → total ≡ Err c
   fault_of c e = sym so_far ∙ ap (λ (r : Result (List V) Cause). with_front front r) e
 
-  pub items_fails : (f : Frame) (rest : List Item) (c : Cause) → left ≡ Ok f ∷ rest → Fails c (read f) → Fails c total
-  items_fails f rest c left_is (inl memory) = inl memory
-  items_fails f rest c left_is (inr e) = inr (fault_of c (
-      ap (λ (xs : List Item). read_items read xs) left_is
-      ∙ ap (λ (r : Result V Cause). r >>= λ w. read_items read rest >>= λ ws. Ok (w ∷ ws)) e))
-
-  pub items_bad_item : (c : Cause) (rest : List Item) → left ≡ Err c ∷ rest → total ≡ Err c
-  items_bad_item c rest left_is = fault_of c (ap (λ (xs : List Item). read_items read xs) left_is)
-
-  pub items_done : left ≡ [] → total ≡ Ok front
-  items_done left_is =
-      sym so_far
-      ∙ ap (λ (xs : List Item). with_front front (read_items read xs)) left_is
-      ∙ ap (λ (ws : List V). Ok ws) (append-nil front)
-
 -- ** the same where members with other numbers than 1 are dropped
 
 module _ {V : Type 0} (place : Grammar Frame V) (f : Frame) where
@@ -109,47 +94,3 @@ pub picked_start : {V : Type 0} (place : Grammar Frame V) (b : List ℕ) → wit
 picked_start {V} place b =
     front_none (read_picked place (items b))
     ∙ ap (λ (r : Result (List (Option V)) Cause). r >>= λ os. Ok (somes os)) (sym (list_items (picks place).reads b))
-
-one_more : {V : Type 0} (v : V) (r : Result (List (Option V)) Cause) → ((r >>= λ os. Ok (Some v ∷ os)) >>= λ os. Ok (somes os)) ≡ ((r >>= λ os. Ok (somes os)) >>= λ vs. Ok (v ∷ vs))
-one_more v (Ok os) = refl
-one_more v (Err c) = refl
-
-none_more : {V : Type 0} (r : Result (List (Option V)) Cause) → ((r >>= λ os. Ok (None ∷ os)) >>= λ os. Ok (somes os)) ≡ (r >>= λ os. Ok (somes os))
-none_more (Ok os) = refl
-none_more (Err c) = refl
-
-module _ {V : Type 0} (place : Grammar Frame V) (front : List V) (left : List Item) (total : Result (List V) Cause) (so_far : with_front front (read_picked place left) ≡ total) where
-  picked_at : (f : Frame) (rest : List Item) (r : Result (Option V) Cause) → left ≡ Ok f ∷ rest → (picks place).reads f ≡ r
-      → read_picked place left ≡ ((r >>= λ o. read_items (picks place).reads rest >>= λ os. Ok (o ∷ os)) >>= λ os. Ok (somes os))
-  picked_at f rest r left_is e =
-      ap (λ (xs : List Item). read_picked place xs) left_is
-      ∙ ap (λ (x : Result (Option V) Cause). (x >>= λ o. read_items (picks place).reads rest >>= λ os. Ok (o ∷ os)) >>= λ os. Ok (somes os)) e
-
-  pub picked_more : (f : Frame) (rest : List Item) (v : V) → left ≡ Ok f ∷ rest → number f ≡ 1 → place.reads f ≡ Ok v → with_front (front ++ v ∷ []) (read_picked place rest) ≡ total
-  picked_more f rest v left_is one e =
-      let some : (picks place).reads f ≡ Ok (Some v) = picks_one place f one ∙ ap (λ (r : Result V Cause). r >>= λ w. Ok (Some w)) e in
-      front_one front v (read_picked place rest)
-      ∙ ap (λ (r : Result (List V) Cause). with_front front r) (sym (picked_at f rest (Ok (Some v)) left_is some ∙ one_more v (read_items (picks place).reads rest)))
-      ∙ so_far
-
-  pub picked_skip : (f : Frame) (rest : List Item) → left ≡ Ok f ∷ rest → number f ≢ 1 → with_front front (read_picked place rest) ≡ total
-  picked_skip f rest left_is other =
-      ap (λ (r : Result (List V) Cause). with_front front r) (sym (picked_at f rest (Ok None) left_is (picks_other place f other) ∙ none_more (read_items (picks place).reads rest)))
-      ∙ so_far
-
-  picked_fault_of : (c : Cause) → read_picked place left ≡ Err c → total ≡ Err c
-  picked_fault_of c e = sym so_far ∙ ap (λ (r : Result (List V) Cause). with_front front r) e
-
-  pub picked_fails : (f : Frame) (rest : List Item) (c : Cause) → left ≡ Ok f ∷ rest → number f ≡ 1 → Fails c (place.reads f) → Fails c total
-  picked_fails f rest c left_is one (inl memory) = inl memory
-  picked_fails f rest c left_is one (inr e) =
-      inr (picked_fault_of c (picked_at f rest (Err c) left_is (picks_one place f one ∙ ap (λ (r : Result V Cause). r >>= λ w. Ok (Some w)) e)))
-
-  pub picked_bad_item : (c : Cause) (rest : List Item) → left ≡ Err c ∷ rest → total ≡ Err c
-  picked_bad_item c rest left_is = picked_fault_of c (ap (λ (xs : List Item). read_picked place xs) left_is)
-
-  pub picked_done : left ≡ [] → total ≡ Ok front
-  picked_done left_is =
-      sym so_far
-      ∙ ap (λ (xs : List Item). with_front front (read_picked place xs)) left_is
-      ∙ ap (λ (ws : List V). Ok ws) (append-nil front)

@@ -2,12 +2,11 @@
 use Rattle.std.proofs.Common.{◌≡◌, ℕ, suc, zero, ◌+◌, ◌<◌, ◌≤◌, List, [], ◌∷◌, ◌++◌, length, take, drop, get_or, sym, ap, ◌∙◌, subst, arith, add-one, append_assoc, length-append, drop-cons, take-take}
 use Rattle.std.specs.List.{AllByRecursion}
 use Rattle.std.proofs.Math.Seq.{take-suc}
-use Rattle.std.proofs.lemmas.List.{take_all, length-take-le, take-append-drop}
+use Rattle.std.proofs.lemmas.List.{length-take-le, take-append-drop}
 use Rattle.std.proofs.lemmas.List.Concat.{flat_map-append}
 use Rattle.std.proofs.lemmas.List.Folds.{length-flat_map-take}
 use Rattle.nla_wire.specs.Canon.{canon, canons, Filled}
 use Rattle.nla_wire.specs.Frames.{Frame}
-use Rattle.nla_wire.proofs.Words.{flat_map-take-more}
 use Rattle.nla_wire.proofs.Placing.{take_front, drop_front}
 
 module _ {A : Type 0} (P : A → Type 0) where
@@ -24,9 +23,6 @@ module _ {A : Type 0} (P : A → Type 0) where
   all_more xs i d h all one =
       subst (AllByRecursion P) (sym (ap (λ n. take n xs) (add-one i) ∙ take-suc xs i d h)) (all_join (take i xs) (get_or xs i d ∷ []) all (one, tt))
 
-  pub all_whole : (xs : List A) (n : ℕ) → length xs ≤ n → AllByRecursion P (take n xs) → AllByRecursion P xs
-  all_whole xs n h all = subst (AllByRecursion P) (take_all n xs h) all
-
 module _ {A : Type 0} (frame : A → Frame) where
   -- one more text in front of those that were written
   pub canons_front : (xs : List A) (i n : ℕ) (d : A) → i < length xs → n ≡ i + 1 → canons frame (drop i xs) ≡ canon (frame (get_or xs i d)) ++ canons frame (drop n xs)
@@ -34,9 +30,6 @@ module _ {A : Type 0} (frame : A → Frame) where
 
   pub canons_within : (xs : List A) (i : ℕ) (d : A) → i < length xs → length (canons frame (take i xs)) + length (canon (frame (get_or xs i d))) ≤ length (canons frame xs)
   canons_within xs i d h = length-flat_map-take (λ x. canon (frame x)) xs i d h
-
-  pub canons_longer : (xs : List A) (i : ℕ) (d : A) → i < length xs → length (canons frame (take (i + 1) xs)) ≡ length (canons frame (take i xs)) + length (canon (frame (get_or xs i d)))
-  canons_longer xs i d h = ap (λ (t : List ℕ). length t) (flat_map-take-more (λ x. canon (frame x)) xs i d h) ∙ length-append (canons frame (take i xs)) (canon (frame (get_or xs i d)))
 
   -- one text, and those behind it, are within the texts of them all
   pub canons_behind : (xs : List A) (i n : ℕ) (d : A) → i < length xs → n ≡ i + 1 → length (canon (frame (get_or xs i d))) + length (canons frame (drop n xs)) ≤ length (canons frame xs)

@@ -1,8 +1,8 @@
 -- No grammar says that memory ran out: that cause says nothing of bytes.
-use Rattle.std.proofs.Common.{◌≡◌, ℕ, ◌==◌, inl, inr, List, [], ◌∷◌, Bool, true, false, Option, Some, None, Err}
+use Rattle.std.proofs.Common.{◌≡◌, ℕ, inl, inr, List, [], ◌∷◌, Bool, true, false, Option, Some, None, Err}
 use Rattle.std.specs.Int.{Width}
-use Rattle.nla_wire.specs.Frames.{Frame, number}
-use Rattle.nla_wire.specs.Grammar.{Grammar, Agrees, as_a, FirstAfter, list, not_empty, Row, by_payload, kept, if_true, row, row_kept, line, table, choose, is_one, picks, picked}
+use Rattle.nla_wire.specs.Frames.{Frame}
+use Rattle.nla_wire.specs.Grammar.{Grammar, Agrees, as_a, FirstAfter, list, not_empty, kept, if_true, choose, is_one, picks, picked}
 use Rattle.nla_wire.specs.Payloads.{number_of, bytes, exactly, text, filled, sized}
 use Rattle.nla_wire.specs.declared.error.Cause.TheVariants.{EmptyList, WrongLength, NotUtf8, TooShort, OutOfMemory}
 
@@ -28,20 +28,8 @@ not_short got need e = absurd cc
 
 -- ** combinators
 
-pub memory_as : {S A B : Type 0} (variant : A → B) (g : Grammar S A) → NeverMemory g → NeverMemory (as_a variant g)
-memory_as variant g never s bad = never s bad
-
 pub memory_kept : {V : Type 0} (other : Frame → V) → NeverMemory (kept other)
 memory_kept other f bad = bad
-
-pub memory_payload : {V : Type 0} (g : Grammar (List ℕ) V) → NeverMemory g → NeverMemory (by_payload g)
-memory_payload g never f bad = never f.payload bad
-
-pub memory_row : {A V : Type 0} (n : ℕ) (variant : A → V) (g : Grammar (List ℕ) A) → NeverMemory g → NeverMemory (row n variant g).reading
-memory_row n variant g never f bad = never f.payload bad
-
-pub memory_row_kept : {V : Type 0} (n : ℕ) (variant : Frame → V) → NeverMemory (row_kept n variant).reading
-memory_row_kept n variant f bad = bad
 
 memory_if : {V : Type 0} (test : Bool) (g h : Grammar Frame V) → NeverMemory g → NeverMemory h → NeverMemory (if_true test g h)
 memory_if true g h a b = a
@@ -49,18 +37,6 @@ memory_if false g h a b = b
 
 pub memory_choose : {V : Type 0} (test : Frame → Bool) (g h : Grammar Frame V) → NeverMemory g → NeverMemory h → NeverMemory (choose test g h)
 memory_choose test g h a b f bad = memory_if (test f) g h a b f bad
-
--- no line of a table is bad for want of memory
-abbrev pub RowsNeverMemory : {V : Type 0} → List {1} (Row V) → Type 0
-RowsNeverMemory [] = Unit {0}
-RowsNeverMemory (r ∷ rs) = NeverMemory r.reading × RowsNeverMemory rs
-
-memory_line : {V : Type 0} (n : ℕ) (rows : List {1} (Row V)) (rest : Grammar Frame V) → RowsNeverMemory rows → NeverMemory rest → NeverMemory (line n rows rest)
-memory_line n [] rest each never = never
-memory_line n (r ∷ rs) rest each never = memory_if (n == r.number) r.reading (line n rs rest) each.0 (memory_line n rs rest each.1 never)
-
-pub memory_table : {V : Type 0} (rows : List {1} (Row V)) (rest : Grammar Frame V) → RowsNeverMemory rows → NeverMemory rest → NeverMemory (table rows rest)
-memory_table rows rest each never f bad = memory_line (number f) rows rest each never f bad
 
 pub memory_not_empty : {A : Type 0} (g : Grammar (List ℕ) A) → NeverMemory g → NeverMemory (not_empty g)
 memory_not_empty g never p (inl bad) = not_empty_list bad.1

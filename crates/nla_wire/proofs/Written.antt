@@ -233,9 +233,6 @@ pub picked_accepted : {V : Type 0} (place : Grammar Frame V) (b : List ℕ) → 
 picked_accepted {V} place b accepted = bound_accepted (list_of (picks place).reads b) (λ (os : List (Option V)). somes os) accepted
 
 module _ {V : Type 0} (place : Grammar Frame V) (f : Frame) (one : number f ≡ 1) where
-  pub one_accepted : IsOk ((picks place).reads f) → IsOk (place.reads f)
-  one_accepted accepted = bound_accepted (place.reads f) (λ (v : V). Some v) (subst (λ r. IsOk r) (picks_one place f one) accepted)
-
   some_of : (r : Result V Cause) (v : V) → (r >>= λ w. Ok (Some w)) ≡ Ok (Some v) → r ≡ Ok v
   some_of (Ok w) v e = cc
   some_of (Err c) v e = absurd cc

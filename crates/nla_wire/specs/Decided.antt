@@ -2,7 +2,8 @@
 use Rattle.std.specs.Prelude.{◌≡◌, ◌==◌, ◌&&◌, ℕ, ℤ, Bool, true, false, List, [], ◌∷◌}
 use Rattle.std.specs.Bool.{Decides}
 use Rattle.std.specs.Ordering.{int_eq}
-use Rattle.std.specs.Cmp.{unsigned_Decides, signed_Decides}
+use mathlib.Core.Bool.{beq}
+use Rattle.std.specs.Cmp.{unsigned_Decides, signed_Decides, booleans_Decides}
 use Rattle.std.proofs.Common.{ap, inl, inr, refl}
 use Rattle.std.proofs.lemmas.Slice.Eq.{slice_eq-Decides}
 use lib.Pointwise.{pointwise}
@@ -53,3 +54,11 @@ signed_exact = signed_Decides
 
 pub bytes_exact : (xs ys : List ℕ) → Decides (pointwise ◌==◌ xs ys) (xs ≡ ys)
 bytes_exact = list_exact number_exact
+
+pub bool_exact : (x y : Bool) → Decides (beq x y) (x ≡ y)
+bool_exact = booleans_Decides
+
+-- one variant of one field, before those that are declared behind it
+infixr 5 ◌&◌
+abbrev pub ◌&◌ : {A B : Type 0} {E : A → A → Bool} → ((x y : A) → Decides (E x y) (x ≡ y)) → B → ((x y : A × Unit {0}) → Decides (E x.0 y.0) (x ≡ y)) × B
+d & rest = (one_field d, rest)

@@ -1,6 +1,6 @@
 -- The grammar of nested attributes: places as tables, built from a few combinators. Each combinator says side by side
 -- what bytes mean, why they mean nothing, and what a reader answers.
-use Rattle.std.specs.Prelude.{◌≡◌, ℕ, ◌<◌, ◌==◌, Bool, true, false, List, [], ◌∷◌, ◌⊎◌, length, filter, if◌then◌else◌, Option, None, Some, Result, Ok, Err}
+use Rattle.std.specs.Prelude.{◌≡◌, ℕ, ◌<◌, ◌==◌, Bool, true, false, List, [], ◌∷◌, ◌⊎◌, length, filter, Option, None, Some, Result, Ok, Err}
 use Rattle.std.specs.List.{AllZip}
 use Rattle.nla_wire.specs.Frames.{Frame, number, Begins, Frames, BadStart}
 use Rattle.nla_wire.specs.Reading.{list_of, ◌>>=◌}
@@ -64,12 +64,7 @@ not_empty g = record {
   reads = λ p. unless_empty p (g.reads p);
 }
 
--- ** tables
-
--- a line of a place's table
-pub record Row (V : Type 0) : Type 1 where
-  pub number : ℕ
-  pub reading : Grammar Frame V
+-- ** readings of frames
 
 abbrev pub by_payload : {V : Type 0} → Grammar (List ℕ) V → Grammar Frame V
 by_payload g = record { means = λ f. g.means f.payload; bad = λ f. g.bad f.payload; reads = λ f. g.reads f.payload }
@@ -81,32 +76,6 @@ kept other = record { means = λ f v. v ≡ other f; bad = λ f c. ⊥; reads = 
 abbrev pub if_true : {V : Type 0} → Bool → Grammar Frame V → Grammar Frame V → Grammar Frame V
 if_true true g h = g
 if_true false g h = h
-
--- this number is read from the payload, as this variant
-abbrev pub row : {A V : Type 0} → ℕ → (A → V) → Grammar (List ℕ) A → Row V
-row n variant g = record { number = n; reading = by_payload (as_a variant g) }
-
--- this number is kept as it is, as this variant
-abbrev pub row_kept : {V : Type 0} → ℕ → (Frame → V) → Row V
-row_kept n variant = record { number = n; reading = kept variant }
-
--- the line of the number n, or else `rest`
-abbrev pub line : {V : Type 0} → ℕ → List {1} (Row V) → Grammar Frame V → Grammar Frame V
-line n [] rest = rest
-line n (r ∷ rs) rest = if_true (n == r.number) r.reading (line n rs rest)
-
--- the reader of that line
-abbrev pub line_reads : {V : Type 0} → ℕ → List {1} (Row V) → (Frame → Result V Cause) → Frame → Result V Cause
-line_reads n [] rest f = rest f
-line_reads n (r ∷ rs) rest f = if n == r.number then r.reading.reads f else line_reads n rs rest f
-
--- the place with this table, and `rest` for the other numbers
-abbrev pub table : {V : Type 0} → List {1} (Row V) → Grammar Frame V → Grammar Frame V
-table rows rest = record {
-  means = λ f. (line (number f) rows rest).means f;
-  bad = λ f. (line (number f) rows rest).bad f;
-  reads = λ f. line_reads (number f) rows rest.reads f;
-}
 
 -- read as g where the frame passes the test, else as h
 abbrev pub choose : {V : Type 0} → (Frame → Bool) → Grammar Frame V → Grammar Frame V → Grammar Frame V

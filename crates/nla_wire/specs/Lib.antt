@@ -8,6 +8,8 @@ pub mod Grammar
 pub mod Payloads
 pub mod Fields
 pub mod Canon
+pub mod Contents
+pub mod Records
 pub mod PlaceLaws
 pub mod Gives
 pub mod Items

@@ -137,6 +137,7 @@ pub fn i64_at(bytes: &[u8], place: usize) -> i64
 }
 
 /// The first 32 bytes, with zeros behind them where there are fewer.
+#[inline(always)]
 #[tactic(auto, unfolding(crate::specs::Fields::zero_filled))]
 pub fn zero_filled_32(bytes: &[u8]) -> [u8; 32]
     ensures { result ≡ zero_filled 32 bytes.now }
@@ -145,6 +146,14 @@ pub fn zero_filled_32(bytes: &[u8]) -> [u8; 32]
     let len = bytes.len().min(32);
     found[..len].copy_from_slice(&bytes[..len]);
     found
+}
+
+/// The 32 bytes at a place, with zeros past the end.
+#[inline(always)]
+pub fn bytes_32_at(bytes: &[u8], place: usize) -> [u8; 32]
+    ensures { result ≡ zero_filled 32 (drop place bytes.now) }
+{
+    zero_filled_32(&bytes[place.min(bytes.len())..])
 }
 
 /// Puts bytes at a place, and keeps the rest.

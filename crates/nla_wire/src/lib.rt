@@ -9,11 +9,13 @@ pub mod error;
 pub mod exact;
 pub mod fields;
 pub mod fill;
+pub mod flat;
 pub mod iterator;
 pub mod laws;
 pub mod nla;
 pub mod number;
 pub mod read;
+pub mod record;
 pub mod text;
 pub mod values;
 
@@ -27,6 +29,7 @@ pub use default_nla::DefaultNla;
 pub use error::{Cause, DecodeError, empty_list};
 pub use exact::Exact;
 pub use fill::{fill_bytes, fill_text};
+pub use flat::{Content, Flat};
 pub use iterator::NlasIterator;
 pub use nla::{Nla, emit_nlas, list_fits, nlas_buffer_len, nlas_fill, nlas_fit};
 pub use number::{
@@ -37,5 +40,6 @@ pub use read::{
     NlaRead, OwnPlace, Place, canon_members, canon_nested_members, canon_nested_picked_members,
     canon_picked_members, check_members, check_picked_members, parse_members, parse_picked_members,
 };
+pub use record::{PlainRecord, Record, RecordBuffer};
 pub use text::{check_string, parse_string};
 pub use values::{Bytes, CloneIn, List, Text};

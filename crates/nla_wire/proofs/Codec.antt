@@ -1,0 +1,321 @@
+-- A type of payload with all that is proved of it, in one record: how bytes are read as a value, how the value is written,
+-- what is inside of it, and within which bounds that stays. A place is the same of frames.
+use Rattle.std.proofs.Common.{◌≡◌, ℕ, ℤ, ◌+◌, ◌*◌, ◌/◌, ◌^◌, ◌<◌, ◌≤◌, Bool, true, false, List, [], ◌∷◌, ◌++◌, length, refl, sym, ap, subst, ◌∙◌, arith, lit<, lit≤, leb-true, leb-false}
+use Rattle.std.specs.Prelude.{Option, None, Some, if◌then◌else◌}
+use lib.Dec.{T, leb}
+use mir.Val.{bits}
+use Rattle.std.specs.Int.{Width, w8, w32, w64, to_le_bytes, cast_signed, cast_unsigned}
+use Rattle.std.specs.List.{AllByRecursion}
+use Rattle.std.specs.Net.Addr.{segments_of, octets_of, ipv6_octets}
+use Rattle.std.specs.declared.net.ipv6_addr.Ipv6Addr.{Ipv6Addr}
+use Rattle.nla_wire.specs.Sizes.{most_payload, growth, slack}
+use Rattle.nla_wire.specs.Frames.{Frame, number, IsBytes, missing}
+use Rattle.nla_wire.specs.Grammar.{Grammar, as_a, list, not_empty, picked, by_payload}
+use Rattle.nla_wire.specs.Payloads as payload
+use Rattle.nla_wire.specs.Canon.{canon, canons, AllFit, total}
+use Rattle.nla_wire.specs.Records.{RecordLaws}
+use Rattle.nla_wire.specs.PlaceLaws.{ReadsBack, ListReadsBack, ListsBounded}
+use Rattle.nla_wire.proofs.Agreement.{as_agrees, exactly_agrees}
+use Rattle.nla_wire.proofs.Memory.{memory_exactly}
+use Rattle.nla_wire.proofs.Canonical.{octets_again}
+use Rattle.nla_wire.proofs.Lawful.{LawfulPayload, LawfulPlace, always, none, as_lawful, wrapped_lawful, list_lawful, some_lawful, picked_lawful, some_picked_lawful, text_bounded, bytes_lawful, text_lawful, number_lawful, signed_lawful, enum_lawful, sized_record_lawful, filled_record_lawful}
+use Rattle.nla_wire.proofs.FieldLemmas.{signed_number_again, from_le_bytes_below}
+use Rattle.nla_wire.proofs.PlaceLaws.{all_always, place_reads_back, list_reads_back, lists_bounded}
+
+-- values of which only those with `Good` are read back from their text
+pub record CodecWhere (A : Type 0) (Good : A → Type 0) : Type 1 where
+  pub grammar : Grammar (List ℕ) A
+  pub text : A → List ℕ
+  -- what is inside fits
+  pub Inside : A → Type 0
+  -- how many values are inside
+  pub count : A → ℕ
+  -- the text stays so far below `growth` for each whole four bytes
+  pub fewer : ℕ
+  -- what was read from so few bytes fits
+  pub enough : ℕ
+  pub lawful : LawfulPayload grammar text Inside Good count growth fewer enough
+  -- where nothing is inside that might not fit
+  pub sure : Option ((a : A) → Inside a)
+
+abbrev pub Codec : Type 0 → Type 1
+Codec A = CodecWhere A always
+
+-- some codec, and whether its attributes have NLA_F_NESTED
+pub record Any : Type 1 where
+  pub A : Type 0
+  pub Good : A → Type 0
+  pub codec : CodecWhere A Good
+  pub flags : Bool
+
+abbrev pub any : {A : Type 0} {Good : A → Type 0} → CodecWhere A Good → Any
+any {A} {Good} c = record { A = A; Good = Good; codec = c; flags = false }
+
+abbrev pub nested : {A : Type 0} {Good : A → Type 0} → CodecWhere A Good → Any
+nested {A} {Good} c = record { A = A; Good = Good; codec = c; flags = true }
+
+-- a number with its flags
+abbrev pub kind_of : Bool → ℕ → ℕ
+kind_of false n = n
+kind_of true n = n + 32768
+
+pub record Place (V : Type 0) : Type 1 where
+  pub grammar : Grammar Frame V
+  pub frame : V → Frame
+  pub Fits : V → Type 0
+  pub count : V → ℕ
+  pub fewer : ℕ
+  pub enough : ℕ
+  pub is_small : (v : V) → Fits v → length (frame v).payload ≤ most_payload
+  -- whether nothing is inside of any value: then what is small fits
+  pub is_flat : Bool
+  pub when_small : T is_flat → (v : V) → length (frame v).payload ≤ most_payload → Fits v
+  -- frames that are kept as they are
+  pub Foreign : Frame → Type 0
+  pub kept : (f : Frame) (v : V) → Foreign f → grammar.means f v → frame v ≡ f
+  pub lawful : LawfulPlace grammar frame Fits always count growth fewer enough
+
+-- ** payloads with nothing inside
+
+abbrev pub flat : {A : Type 0} (g : Grammar (List ℕ) A) (text : A → List ℕ) (fewer enough : ℕ) → LawfulPayload g text always always none growth fewer enough → Codec A
+flat g text fewer enough h = record { grammar = g; text = text; Inside = always; count = none; fewer = fewer; enough = enough; lawful = h; sure = Some (λ a. tt) }
+
+abbrev pub bytes : Codec (List ℕ)
+bytes = flat payload.bytes (λ p. p) slack most_payload (bytes_lawful most_payload (lit≤ tt))
+
+-- a text is written with one NUL behind it
+abbrev pub text : Codec (List ℕ)
+text = flat payload.text (λ s. s ++ 0 ∷ []) slack 65530 (text_lawful 65530 (lit< tt))
+
+abbrev pub number_of : Width → Codec ℕ
+number_of w = flat (payload.number_of w) (to_le_bytes w) slack most_payload (number_lawful w most_payload)
+
+abbrev pub u8 : Codec ℕ
+u8 = number_of w8
+
+abbrev pub u32 : Codec ℕ
+u32 = number_of w32
+
+abbrev pub u64 : Codec ℕ
+u64 = number_of w64
+
+abbrev pub i32 : Codec ℤ
+i32 = flat (payload.signed_of w32) (λ z. to_le_bytes w32 (cast_unsigned w32 z)) slack most_payload (signed_lawful w32 most_payload)
+
+-- a number that was read as a signed one is written as it was
+pub signed_same : (w : Width) (p : List ℕ) (x : ℕ) → IsBytes p → (payload.number_of w).means p x → to_le_bytes w (cast_unsigned w (cast_signed w x)) ≡ to_le_bytes w x
+signed_same w p x small means =
+    let below : x < 2 ^ bits w = subst (λ y. y < 2 ^ bits w) (sym means.1) (from_le_bytes_below w p small) in
+    ap (to_le_bytes w) (signed_number_again w x below)
+
+-- the values that stand for the numbers of a width, each of which is the number of its value
+abbrev pub enum : {A : Type 0} (w : Width) (of : ℕ → A) (num : A → ℕ) → ((x : ℕ) → num (of x) ≡ x) → Codec A
+enum w of num again = flat (as_a of (payload.number_of w)) (λ a. to_le_bytes w (num a)) slack most_payload (enum_lawful w of num most_payload again)
+
+-- a record that is refused where the payload is short
+abbrev pub sized : {A : Type 0} (size : ℕ) (of : List ℕ → A) (text_of : A → List ℕ)
+    → ((p : List ℕ) → length (text_of (of p)) ≡ size)
+    → ((p : List ℕ) → IsBytes p → of (text_of (of p)) ≡ of p)
+    → size ≤ most_payload
+    → 4 + size + missing size + slack ≤ growth * (1 + size / 4)
+    → Codec A
+sized size of text_of sized_as again short wide =
+    flat (payload.sized size of) text_of slack most_payload (sized_record_lawful size slack most_payload of text_of sized_as again short wide)
+
+-- a record that is filled up with zeros where the payload is short
+abbrev pub filled : {A : Type 0} (size : ℕ) (of : List ℕ → A) (text_of : A → List ℕ)
+    → ((p : List ℕ) → length (text_of (of p)) ≡ size)
+    → ((p : List ℕ) → IsBytes p → of (text_of (of p)) ≡ of p)
+    → size ≤ most_payload
+    → 4 + size + missing size + 0 ≤ growth
+    → Codec A
+filled size of text_of sized_as again short wide =
+    flat (payload.filled of) text_of 0 most_payload (filled_record_lawful size most_payload of text_of sized_as again short wide)
+
+-- the same of a record with its laws
+abbrev pub sized_record : {A : Type 0} {size : ℕ} {of : List ℕ → A} {text_of : A → List ℕ} → RecordLaws size of text_of → size ≤ most_payload → Codec A
+sized_record {A} {size} {of} {text_of} laws short = sized size of text_of laws.sized laws.again short (omega arith)
+
+abbrev pub filled_record : {A : Type 0} {size : ℕ} {of : List ℕ → A} {text_of : A → List ℕ} → RecordLaws size of text_of → 4 + size + missing size + 0 ≤ growth → Codec A
+filled_record {A} {size} {of} {text_of} laws wide = filled size of text_of laws.sized laws.again (omega (arith, wide)) wide
+
+-- no more octets than were read
+octets_short : (p : List ℕ) → length (octets_of (segments_of p)) ≤ length p
+octets_short [] = omega arith
+octets_short (a ∷ []) = omega arith
+octets_short (a ∷ b ∷ p) = omega (arith, octets_short p)
+
+address_short : (p : List ℕ) (a : Ipv6Addr) → payload.ipv6_address.means p a → length (ipv6_octets a) ≤ 16
+address_short p a means =
+    omega (arith, ap (λ b. length (ipv6_octets b)) means.2, octets_short means.0, ap length means.1.1, means.1.0)
+
+address_again : (p : List ℕ) (a : Ipv6Addr) → IsBytes p → payload.ipv6_address.means p a → ipv6_octets a ≡ p
+address_again p a small means =
+    ap ipv6_octets means.2
+    ∙ ap (λ (octets : List ℕ). octets_of (segments_of octets)) means.1.1
+    ∙ octets_again p (omega (arith, means.1.0)) small
+
+pub address_lawful : LawfulPayload payload.ipv6_address ipv6_octets always always none growth slack most_payload
+address_lawful = record {
+  agrees = as_agrees IsBytes payload.address_of_octets (payload.exactly 16) (exactly_agrees 16);
+  no_memory = memory_exactly 16;
+  back = λ p a small means fits good. subst (λ (octets : List ℕ). payload.ipv6_address.means octets a) (sym (address_again p a small means)) means;
+  counted = λ p a means. omega arith;
+  bounded = λ p a means. omega (arith, address_short p a means, means.1.0);
+  small = λ p a short small means. (omega (arith, address_short p a means), tt);
+}
+
+-- an IPv6 address, its sixteen octets in order
+abbrev pub address : Codec Ipv6Addr
+address = flat payload.ipv6_address ipv6_octets slack most_payload address_lawful
+
+-- ** lists of a place
+
+abbrev pub least : ℕ → ℕ → ℕ
+least a b = if leb a b then a else b
+
+least_below : (a b : ℕ) (t : Bool) → leb a b ≡ t → ((if t then a else b) ≤ a) × ((if t then a else b) ≤ b)
+least_below a b true e = (omega arith, leb-true a b e)
+least_below a b false e = (omega (arith, leb-false a b e), omega arith)
+
+-- what was read from so few bytes as a list fits
+abbrev pub list_enough : ℕ → ℕ → ℕ
+list_enough fewer enough = least (enough + 4) (4 * ((most_payload + fewer) / growth) + 3)
+
+enough_below : (fewer enough : ℕ) → growth * (list_enough fewer enough / 4) ≤ most_payload + fewer
+enough_below fewer enough = omega (arith, (least_below (enough + 4) (4 * ((most_payload + fewer) / growth) + 3) _ refl).1)
+
+-- where nothing is asked of members, nothing is asked of the list
+unasked : {V : Type 0} {g : Grammar (List ℕ) (List V)} {text : List V → List ℕ} {Fits : List V → Type 0} {count : List V → ℕ} {e n : ℕ}
+    → LawfulPayload g text Fits (AllByRecursion always) count growth e n → LawfulPayload g text Fits always count growth e n
+unasked h = record {
+  agrees = h.agrees;
+  no_memory = h.no_memory;
+  back = λ p vs small means fits good. h.back p vs small means fits (all_always vs);
+  counted = h.counted;
+  bounded = h.bounded;
+  small = h.small;
+}
+
+abbrev pub listed : {V : Type 0} {Good : List V → Type 0} (p : Place V) (g : Grammar (List ℕ) (List V))
+    → LawfulPayload g (canons p.frame) (AllFit p.Fits p.frame) Good (total p.count) growth slack (list_enough p.fewer p.enough) → CodecWhere (List V) Good
+listed p g h = record {
+  grammar = g;
+  text = canons p.frame;
+  Inside = AllFit p.Fits p.frame;
+  count = total p.count;
+  fewer = slack;
+  enough = list_enough p.fewer p.enough;
+  lawful = h;
+  sure = None;
+}
+
+module _ {V : Type 0} (p : Place V) where
+  pub list_of_lawful : LawfulPayload (list p.grammar) (canons p.frame) (AllFit p.Fits p.frame) always (total p.count) growth slack (list_enough p.fewer p.enough)
+  list_of_lawful = unasked (list_lawful p.grammar p.frame p.Fits always p.count growth p.fewer p.enough p.lawful slack (list_enough p.fewer p.enough)
+      (lit≤ tt) ((least_below (p.enough + 4) (4 * ((most_payload + p.fewer) / growth) + 3) _ refl).0) (enough_below p.fewer p.enough))
+
+  pub some_of_lawful : LawfulPayload (not_empty (list p.grammar)) (canons p.frame) (AllFit p.Fits p.frame) always (total p.count) growth slack (list_enough p.fewer p.enough)
+  some_of_lawful = unasked (some_lawful p.grammar p.frame p.Fits always p.count growth p.fewer p.enough p.lawful slack (list_enough p.fewer p.enough)
+      (lit≤ tt) ((least_below (p.enough + 4) (4 * ((most_payload + p.fewer) / growth) + 3) _ refl).0) (enough_below p.fewer p.enough))
+
+  -- members with another number than 1 dropped
+  pub picked_of_lawful : ((v : V) → number (p.frame v) ≡ 1)
+      → LawfulPayload (picked p.grammar) (canons p.frame) (AllFit p.Fits p.frame) always (total p.count) growth slack (list_enough p.fewer p.enough)
+  picked_of_lawful ones = unasked (picked_lawful p.grammar p.frame p.Fits always p.count growth p.fewer p.enough p.lawful slack (list_enough p.fewer p.enough)
+      (lit≤ tt) ((least_below (p.enough + 4) (4 * ((most_payload + p.fewer) / growth) + 3) _ refl).0) (enough_below p.fewer p.enough) ones)
+
+  pub some_picked_of_lawful : ((v : V) → number (p.frame v) ≡ 1)
+      → LawfulPayload (not_empty (picked p.grammar)) (canons p.frame) (AllFit p.Fits p.frame) (λ vs. (0 < length vs) × AllByRecursion always vs) (total p.count) growth slack (list_enough p.fewer p.enough)
+  some_picked_of_lawful ones = some_picked_lawful p.grammar p.frame p.Fits always p.count growth p.fewer p.enough p.lawful slack (list_enough p.fewer p.enough)
+      (lit≤ tt) ((least_below (p.enough + 4) (4 * ((most_payload + p.fewer) / growth) + 3) _ refl).0) (enough_below p.fewer p.enough) ones
+
+-- a list of members of the place
+abbrev pub list_of : {V : Type 0} → Place V → Codec (List V)
+list_of p = listed p (list p.grammar) (list_of_lawful p)
+
+-- the same, where the empty payload is refused
+abbrev pub some_of : {V : Type 0} → Place V → Codec (List V)
+some_of p = listed p (not_empty (list p.grammar)) (some_of_lawful p)
+
+-- members with another number than 1 are dropped unread
+abbrev pub picked_of : {V : Type 0} (p : Place V) → ((v : V) → number (p.frame v) ≡ 1) → Codec (List V)
+picked_of p ones = listed p (picked p.grammar) (picked_of_lawful p ones)
+
+-- the same, where the empty payload is refused: a text of no members would be
+abbrev pub some_picked_of : {V : Type 0} (p : Place V) → ((v : V) → number (p.frame v) ≡ 1) → CodecWhere (List V) (λ vs. (0 < length vs) × AllByRecursion always vs)
+some_picked_of p ones = listed p (not_empty (picked p.grammar)) (some_picked_of_lawful p ones)
+
+-- ** a newtype around a value
+
+module _ {A B : Type 0} (wrap : A → B) (inner : B → A) (c : Codec A) (same : (a : A) → inner (wrap a) ≡ a) where
+  pub as_codec_lawful : LawfulPayload (as_a wrap c.grammar) (λ b. c.text (inner b)) (λ b. c.Inside (inner b)) always (λ b. c.count (inner b)) growth c.fewer c.enough
+  as_codec_lawful = as_lawful wrap c.grammar c.text c.Inside always c.count growth c.fewer c.enough c.lawful
+      (λ b. c.text (inner b)) (λ b. c.Inside (inner b)) always (λ b. c.count (inner b))
+      (λ a. ap c.text (same a)) (λ a. ap c.count (same a))
+      (λ a inside. subst c.Inside (same a) inside) (λ a inside. subst c.Inside (sym (same a)) inside) (λ a good. tt)
+
+  pub place_of_lawful : (kind : ℕ) → kind < 2 ^ 16
+      → LawfulPlace (by_payload (as_a wrap c.grammar)) (λ b. record { kind = kind; payload = c.text (inner b) })
+      (λ b. (length (c.text (inner b)) ≤ most_payload) × c.Inside (inner b)) always (λ b. 1 + c.count (inner b)) growth c.fewer c.enough
+  place_of_lawful kind small = wrapped_lawful wrap c.grammar c.text c.Inside always c.count growth c.fewer c.enough c.lawful
+      kind (λ b. record { kind = kind; payload = c.text (inner b) })
+      (λ b. (length (c.text (inner b)) ≤ most_payload) × c.Inside (inner b)) always (λ b. 1 + c.count (inner b)) small
+      (λ a. ap (λ x. record { kind = kind; payload = c.text x }) (same a)) (λ a. ap (λ x. 1 + c.count x) (same a))
+      (λ a fits. (subst (λ x. length (c.text x) ≤ most_payload) (same a) fits.0, subst c.Inside (same a) fits.1))
+      (λ a short inside. (subst (λ x. length (c.text x) ≤ most_payload) (sym (same a)) short, subst c.Inside (sym (same a)) inside))
+      (λ a good. tt)
+
+  abbrev pub as_codec : Codec B
+  as_codec = record {
+    grammar = as_a wrap c.grammar;
+    text = λ b. c.text (inner b);
+    Inside = λ b. c.Inside (inner b);
+    count = λ b. c.count (inner b);
+    fewer = c.fewer;
+    enough = c.enough;
+    lawful = as_codec_lawful;
+    sure = None;
+  }
+
+  -- each frame is read by its payload, and written with one kind
+  abbrev pub place_of : (kind : ℕ) → kind < 2 ^ 16 → Place B
+  place_of kind small = record {
+    grammar = by_payload (as_a wrap c.grammar);
+    frame = λ b. record { kind = kind; payload = c.text (inner b) };
+    Fits = λ b. (length (c.text (inner b)) ≤ most_payload) × c.Inside (inner b);
+    count = λ b. 1 + c.count (inner b);
+    fewer = c.fewer;
+    enough = c.enough;
+    is_small = λ b fits. fits.0;
+    is_flat = false;
+    when_small = λ h. absurd h;
+    Foreign = λ f. ⊥;
+    kept = λ f v foreign means. absurd foreign;
+    lawful = place_of_lawful kind small;
+  }
+
+-- ** what a caller may rest on
+
+-- a frame that no line accepts is kept as it is: kind, both flag bits and payload come back
+abbrev pub ForeignKept : {V : Type 0} → Place V → Type 0
+ForeignKept {V} p = (f : Frame) (v : V) → p.Foreign f → p.grammar.means f v → p.frame v ≡ f
+
+-- values that fit are read back, lists are so bounded, and what no line accepts is kept
+abbrev pub IsLawful : {V : Type 0} → ℕ → Place V → Type 0
+IsLawful fewer p =
+    ReadsBack p.grammar.means p.frame p.Fits
+    × ListReadsBack (list p.grammar).means p.frame p.Fits
+    × ListsBounded fewer (list p.grammar).means p.count p.frame
+    × ForeignKept p
+
+pub is_lawful : {V : Type 0} (p : Place V) → p.fewer ≤ growth → IsLawful p.fewer p
+is_lawful p small = (
+  place_reads_back p.grammar p.frame p.Fits p.count p.fewer p.enough p.lawful,
+  list_reads_back p.grammar p.frame p.Fits p.count p.fewer p.enough p.lawful,
+  lists_bounded p.grammar p.frame p.Fits p.count p.fewer p.enough p.lawful small,
+  p.kept,
+)
+
+pub place_bounded : {V : Type 0} (p : Place V) (f : Frame) (v : V) → p.grammar.means f v → length (canon (p.frame v)) ≤ growth * (1 + length f.payload / 4)
+place_bounded p = text_bounded p.lawful

@@ -1,0 +1,104 @@
+//! Enums of attributes whose values hold no others: one `view` of a value, and `Nla` from it.
+
+ghost use Rattle.std.specs.Prelude.{◌≡◌, ◌≤◌, length};
+ghost use Rattle.nla_wire.specs.Sizes.{most_payload};
+ghost use Rattle.nla_wire.specs.Frames.{Frame};
+ghost use Rattle.nla_wire.specs.Canon.{Filled};
+ghost use Rattle.nla_wire.specs.Contents.{content_text};
+
+use crate::fill::{fill_bytes, fill_text};
+use crate::nla::Nla;
+
+/// What the value of an attribute is written from. Numbers are written lowest byte first.
+#[derive(Clone, Copy)]
+pub enum Content<'a> {
+    /// Bytes, written as they are.
+    Bytes(&'a [u8]),
+    /// A text, written with one NUL behind it.
+    Text(&'a str),
+    /// A number of one byte.
+    U8(u8),
+    /// A number of four bytes.
+    U32(u32),
+    /// A number of eight bytes.
+    U64(u64),
+    /// A signed number of four bytes, in two's complement.
+    I32(i32),
+}
+
+impl Content<'_> {
+    /// The length of the text: of a `Text` with its NUL.
+    #[inline]
+    pub fn len(&self) -> usize
+        ensures { result ≡ length (content_text self.now) }
+    {
+        match self {
+            Content::Bytes(bytes) => bytes.len(),
+            Content::Text(text) => text.len() + 1,
+            Content::U8(_) => 1,
+            Content::U32(_) => 4,
+            Content::U64(_) => 8,
+            Content::I32(_) => 4,
+        }
+    }
+
+    /// Writes the text at the end of the buffer, and answers where it starts. The bytes before are kept.
+    #[inline]
+    pub fn fill(&self, buffer: &mut [u8]) -> usize
+        requires { length (content_text self.now) ≤ length buffer.old }
+        ensures { Filled buffer.old buffer.new (content_text self.now) result }
+    {
+        match self {
+            Content::Bytes(bytes) => fill_bytes(buffer, bytes),
+            Content::Text(text) => fill_text(buffer, text),
+            Content::U8(n) => fill_bytes(buffer, &[*n]),
+            Content::U32(n) => fill_bytes(buffer, &n.to_le_bytes()),
+            Content::U64(n) => fill_bytes(buffer, &n.to_le_bytes()),
+            Content::I32(n) => fill_bytes(buffer, &n.to_le_bytes()),
+        }
+    }
+}
+
+/// A value that is written as an attribute, and holds no others. Such a value is an `Nla`.
+pub trait Flat {
+    ghost frame: { Self → Frame };
+
+    ghost fits: { Self → Type 0 };
+
+    /// The kind, which is the number and both flag bits, and what the value is written from.
+    fn view(&self) -> (u16, Content<'_>)
+        ensures kind { result.0 ≡ (frame self.now).kind }
+        ensures text { content_text result.1 ≡ (frame self.now).payload };
+
+    ghost is_small: { (x : Self) → fits x → length (frame x).payload ≤ most_payload };
+
+    ghost when_small: { (x : Self) → length (frame x).payload ≤ most_payload → fits x };
+}
+
+impl<T: Flat> Nla for T {
+    ghost frame = { T.frame };
+
+    ghost fits = { T.fits };
+
+    ghost is_small = { T.is_small };
+
+    #[inline]
+    fn kind(&self) -> u16 {
+        self.view().0
+    }
+
+    #[inline]
+    fn fits(&self) -> bool {
+        self.view().1.len() <= 65531
+    }
+
+    #[inline]
+    fn value_len(&self) -> usize {
+        self.view().1.len()
+    }
+
+    #[inline]
+    fn fill_value(&self, buffer: &mut [u8]) -> usize {
+        self.view().1.fill(buffer)
+    }
+}
