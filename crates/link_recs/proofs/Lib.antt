@@ -1,5 +1,4 @@
 pub mod Numbers
-pub mod Uniform
 pub mod StatsLemmas
 pub mod Stats64Lemmas
 pub mod InetDevConfLemmas

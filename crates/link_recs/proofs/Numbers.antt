@@ -1,8 +1,9 @@
 -- Numbers one behind the other: one more.
-use Rattle.std.proofs.Common.{◌≡◌, ℕ, zero, suc, ◌+◌, ◌*◌, ◌<◌, List, [], ◌∷◌, ◌++◌, length, take, sym, ap, ap₂, ◌∙◌, add-one, zero-add, mul_comm, arith}
+use Rattle.std.proofs.Common.{◌≡◌, ℕ, zero, suc, ◌+◌, ◌*◌, ◌<◌, List, [], ◌∷◌, ◌++◌, length, take, map, get_or-take, sym, ap, ap₂, ◌∙◌, add-one, zero-add, mul_comm, arith}
 use Rattle.std.specs.Prelude.{ℤ, slice_set}
 use Rattle.std.proofs.lemmas.List.{take_more_set}
-use Rattle.std.specs.Int.{Width, byte_len}
+use Rattle.std.specs.Int.{Width, byte_len, cast_signed}
+use Rattle.nla_wire.proofs.FieldLemmas.{numbers_from_same, signed_from_is}
 use Rattle.nla_wire.specs.Fields.{number_at, numbers_from, signed_at, signed_from}
 
 pub numbers_from-more : (w : Width) (p : List ℕ) (place n : ℕ) → numbers_from w p place (suc n) ≡ numbers_from w p place n ++ number_at w p (place + n * byte_len w) ∷ []
@@ -38,3 +39,10 @@ signed_turn w p words i k x width h was is =
     ∙ ap₂ (λ ns y. ns ++ y ∷ []) was (is ∙ ap (signed_at w p) place)
     ∙ sym (signed_from-more w p 0 i)
     ∙ ap (signed_from w p 0) (sym (add-one i))
+
+-- those of a payload that is cut behind them
+pub numbers_cut : (w : Width) (p : List ℕ) (n k : ℕ) → k ≡ n * byte_len w → numbers_from w (take k p) 0 n ≡ numbers_from w p 0 n
+numbers_cut w p n k is = numbers_from_same w (take k p) p 0 0 n (λ i l. get_or-take k p (0 + i) 0 (omega (arith, l, is)))
+
+pub signed_cut : (w : Width) (p : List ℕ) (n k : ℕ) → k ≡ n * byte_len w → signed_from w (take k p) 0 n ≡ signed_from w p 0 n
+signed_cut w p n k is = signed_from_is w (take k p) 0 n ∙ ap (map (cast_signed w)) (numbers_cut w p n k is) ∙ sym (signed_from_is w p 0 n)

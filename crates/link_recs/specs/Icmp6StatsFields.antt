@@ -1,20 +1,24 @@
--- Icmp6Stats: its fields in order, its reading and its bytes.
+-- Icmp6Stats: its fields in order, its reading, its bytes and its laws.
 use Rattle.std.specs.Prelude.{◌≡◌, ℕ, ℤ, pos, ◌*◌, List, [], ◌∷◌, slice_index_or}
-use Rattle.std.proofs.Common.{refl, sym, ap, ◌∙◌}
+use Rattle.std.proofs.Common.{refl, sym}
 use Rattle.std.specs.Bool.{Decides}
 use Rattle.std.specs.Cmp.{signed_Decides}
 use Rattle.std.specs.Ordering.{int_eq}
+use Rattle.std.specs.Int.RustNames.{FitsSigned}
 use Rattle.std.specs.Int.{w64}
-use Rattle.nla_wire.specs.Fields.{signed_at, le_all_signed}
+use Rattle.nla_wire.specs.Fields.{signed_at, signed_from, le_all_signed}
+use Rattle.nla_wire.proofs.Again.{writes_again_8}
+use Rattle.link_recs.specs.Laws.{WordLaws}
+use Rattle.link_recs.specs.Words.{signed_words, word_laws}
 use Rattle.link_recs.specs.Same.{each_same, decides_by}
 use Rattle.link_recs.specs.declared.inet6_icmp.Icmp6Stats.{Icmp6Stats}
-use Rattle.link_recs.specs.declared.inet6_icmp.Icmp6StatsBuffer.{Icmp6StatsBuffer}
+use Rattle.link_recs.specs.declared.inet6_icmp.TheConstants.{ICMP6_STATS_COUNT, ICMP6_STATS_SIZE}
 
 -- how many bytes a record has
 abbrev pub icmp6_stats_size : ℕ
-icmp6_stats_size = 56
+icmp6_stats_size = ICMP6_STATS_SIZE
 
--- the fields in order, 8 bytes each
+-- the fields in order
 abbrev pub icmp6_stats_members : Icmp6Stats → List ℤ
 icmp6_stats_members v =
     v.num ∷
@@ -50,20 +54,21 @@ icmp6_stats_of payload = icmp6_stats_by (λ i. signed_at w64 payload (8 * i))
 unfoldable pub icmp6_stats_bytes : Icmp6Stats → List ℕ
 icmp6_stats_bytes v = le_all_signed w64 (icmp6_stats_fields v)
 
--- the bytes that a buffer holds
-abbrev pub icmp6_stats_buffer_bytes : Icmp6StatsBuffer → List ℕ
-icmp6_stats_buffer_bytes b = b.bytes
-
 -- the record of a list of fields
 abbrev pub icmp6_stats_listed : List ℤ → Icmp6Stats
 icmp6_stats_listed xs = icmp6_stats_by (λ i. slice_index_or xs i (pos 0))
 
--- equal fields, equal records
-icmp6_stats_listed_members : (v : Icmp6Stats) → icmp6_stats_listed (icmp6_stats_members v) ≡ v
-icmp6_stats_listed_members v = refl
+pub icmp6_stats_of_table : (p : List ℕ) → icmp6_stats_listed (signed_from w64 p 0 ICMP6_STATS_COUNT) ≡ icmp6_stats_of p
+unfolding icmp6_stats_of
+icmp6_stats_of_table p = refl
 
-pub icmp6_stats_equal : (v w : Icmp6Stats) → icmp6_stats_members v ≡ icmp6_stats_members w → v ≡ w
-icmp6_stats_equal v w e = sym (icmp6_stats_listed_members v) ∙ ap icmp6_stats_listed e ∙ icmp6_stats_listed_members w
+pub icmp6_stats_table : (p : List ℕ) → icmp6_stats_fields (icmp6_stats_of p) ≡ signed_from w64 p 0 ICMP6_STATS_COUNT
+unfolding icmp6_stats_fields icmp6_stats_of
+icmp6_stats_table p = refl
 
 pub icmp6_stats_decides : (v w : Icmp6Stats) → Decides (each_same int_eq (icmp6_stats_members v) (icmp6_stats_members w)) (v ≡ w)
-icmp6_stats_decides v w = decides_by icmp6_stats_members int_eq signed_Decides icmp6_stats_equal v w refl
+icmp6_stats_decides v w = decides_by icmp6_stats_members icmp6_stats_listed int_eq signed_Decides (λ v. refl) v w refl
+
+pub icmp6_stats_laws : WordLaws (FitsSigned w64) (signed_from w64) ICMP6_STATS_COUNT icmp6_stats_size icmp6_stats_fields icmp6_stats_of icmp6_stats_bytes
+unfolding icmp6_stats_fields icmp6_stats_bytes
+icmp6_stats_laws = word_laws (signed_words w64 writes_again_8) ICMP6_STATS_COUNT icmp6_stats_listed icmp6_stats_fields icmp6_stats_of (λ p. sym (icmp6_stats_of_table p)) icmp6_stats_table (λ v. refl) (λ v. refl)

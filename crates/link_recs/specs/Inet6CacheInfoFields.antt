@@ -1,20 +1,24 @@
--- Inet6CacheInfo: its fields in order, its reading and its bytes.
+-- Inet6CacheInfo: its fields in order, its reading, its bytes and its laws.
 use Rattle.std.specs.Prelude.{◌≡◌, ℕ, ℤ, pos, ◌*◌, List, [], ◌∷◌, slice_index_or}
-use Rattle.std.proofs.Common.{refl, sym, ap, ◌∙◌}
+use Rattle.std.proofs.Common.{refl, sym}
 use Rattle.std.specs.Bool.{Decides}
 use Rattle.std.specs.Cmp.{signed_Decides}
 use Rattle.std.specs.Ordering.{int_eq}
+use Rattle.std.specs.Int.RustNames.{FitsSigned}
 use Rattle.std.specs.Int.{w32}
-use Rattle.nla_wire.specs.Fields.{signed_at, le_all_signed}
+use Rattle.nla_wire.specs.Fields.{signed_at, signed_from, le_all_signed}
+use Rattle.nla_wire.proofs.Again.{writes_again_4}
+use Rattle.link_recs.specs.Laws.{WordLaws}
+use Rattle.link_recs.specs.Words.{signed_words, word_laws}
 use Rattle.link_recs.specs.Same.{each_same, decides_by}
 use Rattle.link_recs.specs.declared.inet6_cache.Inet6CacheInfo.{Inet6CacheInfo}
-use Rattle.link_recs.specs.declared.inet6_cache.Inet6CacheInfoBuffer.{Inet6CacheInfoBuffer}
+use Rattle.link_recs.specs.declared.inet6_cache.TheConstants.{INET6_CACHE_INFO_COUNT, INET6_CACHE_INFO_SIZE}
 
 -- how many bytes a record has
 abbrev pub inet6_cache_info_size : ℕ
-inet6_cache_info_size = 16
+inet6_cache_info_size = INET6_CACHE_INFO_SIZE
 
--- the fields in order, 4 bytes each
+-- the fields in order
 abbrev pub inet6_cache_info_members : Inet6CacheInfo → List ℤ
 inet6_cache_info_members v =
     v.max_reasm_len ∷
@@ -44,20 +48,21 @@ inet6_cache_info_of payload = inet6_cache_info_by (λ i. signed_at w32 payload (
 unfoldable pub inet6_cache_info_bytes : Inet6CacheInfo → List ℕ
 inet6_cache_info_bytes v = le_all_signed w32 (inet6_cache_info_fields v)
 
--- the bytes that a buffer holds
-abbrev pub inet6_cache_info_buffer_bytes : Inet6CacheInfoBuffer → List ℕ
-inet6_cache_info_buffer_bytes b = b.bytes
-
 -- the record of a list of fields
 abbrev pub inet6_cache_info_listed : List ℤ → Inet6CacheInfo
 inet6_cache_info_listed xs = inet6_cache_info_by (λ i. slice_index_or xs i (pos 0))
 
--- equal fields, equal records
-inet6_cache_info_listed_members : (v : Inet6CacheInfo) → inet6_cache_info_listed (inet6_cache_info_members v) ≡ v
-inet6_cache_info_listed_members v = refl
+pub inet6_cache_info_of_table : (p : List ℕ) → inet6_cache_info_listed (signed_from w32 p 0 INET6_CACHE_INFO_COUNT) ≡ inet6_cache_info_of p
+unfolding inet6_cache_info_of
+inet6_cache_info_of_table p = refl
 
-pub inet6_cache_info_equal : (v w : Inet6CacheInfo) → inet6_cache_info_members v ≡ inet6_cache_info_members w → v ≡ w
-inet6_cache_info_equal v w e = sym (inet6_cache_info_listed_members v) ∙ ap inet6_cache_info_listed e ∙ inet6_cache_info_listed_members w
+pub inet6_cache_info_table : (p : List ℕ) → inet6_cache_info_fields (inet6_cache_info_of p) ≡ signed_from w32 p 0 INET6_CACHE_INFO_COUNT
+unfolding inet6_cache_info_fields inet6_cache_info_of
+inet6_cache_info_table p = refl
 
 pub inet6_cache_info_decides : (v w : Inet6CacheInfo) → Decides (each_same int_eq (inet6_cache_info_members v) (inet6_cache_info_members w)) (v ≡ w)
-inet6_cache_info_decides v w = decides_by inet6_cache_info_members int_eq signed_Decides inet6_cache_info_equal v w refl
+inet6_cache_info_decides v w = decides_by inet6_cache_info_members inet6_cache_info_listed int_eq signed_Decides (λ v. refl) v w refl
+
+pub inet6_cache_info_laws : WordLaws (FitsSigned w32) (signed_from w32) INET6_CACHE_INFO_COUNT inet6_cache_info_size inet6_cache_info_fields inet6_cache_info_of inet6_cache_info_bytes
+unfolding inet6_cache_info_fields inet6_cache_info_bytes
+inet6_cache_info_laws = word_laws (signed_words w32 writes_again_4) INET6_CACHE_INFO_COUNT inet6_cache_info_listed inet6_cache_info_fields inet6_cache_info_of (λ p. sym (inet6_cache_info_of_table p)) inet6_cache_info_table (λ v. refl) (λ v. refl)

@@ -1,20 +1,24 @@
--- Inet6DevConf: its fields in order, its reading and its bytes.
+-- Inet6DevConf: its fields in order, its reading, its bytes and its laws.
 use Rattle.std.specs.Prelude.{◌≡◌, ℕ, ℤ, pos, ◌*◌, List, [], ◌∷◌, slice_index_or}
-use Rattle.std.proofs.Common.{refl, sym, ap, ◌∙◌}
+use Rattle.std.proofs.Common.{refl, sym}
 use Rattle.std.specs.Bool.{Decides}
 use Rattle.std.specs.Cmp.{signed_Decides}
 use Rattle.std.specs.Ordering.{int_eq}
+use Rattle.std.specs.Int.RustNames.{FitsSigned}
 use Rattle.std.specs.Int.{w32}
-use Rattle.nla_wire.specs.Fields.{signed_at, le_all_signed}
+use Rattle.nla_wire.specs.Fields.{signed_at, signed_from, le_all_signed}
+use Rattle.nla_wire.proofs.Again.{writes_again_4}
+use Rattle.link_recs.specs.Laws.{WordLaws}
+use Rattle.link_recs.specs.Words.{signed_words, word_laws}
 use Rattle.link_recs.specs.Same.{each_same, decides_by}
 use Rattle.link_recs.specs.declared.inet6_devconf.Inet6DevConf.{Inet6DevConf}
-use Rattle.link_recs.specs.declared.inet6_devconf.Inet6DevConfBuffer.{Inet6DevConfBuffer}
+use Rattle.link_recs.specs.declared.inet6_devconf.TheConstants.{INET6_DEV_CONF_COUNT, INET6_DEV_CONF_SIZE}
 
 -- how many bytes a record has
 abbrev pub inet6_dev_conf_size : ℕ
-inet6_dev_conf_size = 240
+inet6_dev_conf_size = INET6_DEV_CONF_SIZE
 
--- the fields in order, 4 bytes each
+-- the fields in order
 abbrev pub inet6_dev_conf_members : Inet6DevConf → List ℤ
 inet6_dev_conf_members v =
     v.forwarding ∷
@@ -156,20 +160,21 @@ inet6_dev_conf_of payload = inet6_dev_conf_by (λ i. signed_at w32 payload (4 * 
 unfoldable pub inet6_dev_conf_bytes : Inet6DevConf → List ℕ
 inet6_dev_conf_bytes v = le_all_signed w32 (inet6_dev_conf_fields v)
 
--- the bytes that a buffer holds
-abbrev pub inet6_dev_conf_buffer_bytes : Inet6DevConfBuffer → List ℕ
-inet6_dev_conf_buffer_bytes b = b.bytes
-
 -- the record of a list of fields
 abbrev pub inet6_dev_conf_listed : List ℤ → Inet6DevConf
 inet6_dev_conf_listed xs = inet6_dev_conf_by (λ i. slice_index_or xs i (pos 0))
 
--- equal fields, equal records
-inet6_dev_conf_listed_members : (v : Inet6DevConf) → inet6_dev_conf_listed (inet6_dev_conf_members v) ≡ v
-inet6_dev_conf_listed_members v = refl
+pub inet6_dev_conf_of_table : (p : List ℕ) → inet6_dev_conf_listed (signed_from w32 p 0 INET6_DEV_CONF_COUNT) ≡ inet6_dev_conf_of p
+unfolding inet6_dev_conf_of
+inet6_dev_conf_of_table p = refl
 
-pub inet6_dev_conf_equal : (v w : Inet6DevConf) → inet6_dev_conf_members v ≡ inet6_dev_conf_members w → v ≡ w
-inet6_dev_conf_equal v w e = sym (inet6_dev_conf_listed_members v) ∙ ap inet6_dev_conf_listed e ∙ inet6_dev_conf_listed_members w
+pub inet6_dev_conf_table : (p : List ℕ) → inet6_dev_conf_fields (inet6_dev_conf_of p) ≡ signed_from w32 p 0 INET6_DEV_CONF_COUNT
+unfolding inet6_dev_conf_fields inet6_dev_conf_of
+inet6_dev_conf_table p = refl
 
 pub inet6_dev_conf_decides : (v w : Inet6DevConf) → Decides (each_same int_eq (inet6_dev_conf_members v) (inet6_dev_conf_members w)) (v ≡ w)
-inet6_dev_conf_decides v w = decides_by inet6_dev_conf_members int_eq signed_Decides inet6_dev_conf_equal v w refl
+inet6_dev_conf_decides v w = decides_by inet6_dev_conf_members inet6_dev_conf_listed int_eq signed_Decides (λ v. refl) v w refl
+
+pub inet6_dev_conf_laws : WordLaws (FitsSigned w32) (signed_from w32) INET6_DEV_CONF_COUNT inet6_dev_conf_size inet6_dev_conf_fields inet6_dev_conf_of inet6_dev_conf_bytes
+unfolding inet6_dev_conf_fields inet6_dev_conf_bytes
+inet6_dev_conf_laws = word_laws (signed_words w32 writes_again_4) INET6_DEV_CONF_COUNT inet6_dev_conf_listed inet6_dev_conf_fields inet6_dev_conf_of (λ p. sym (inet6_dev_conf_of_table p)) inet6_dev_conf_table (λ v. refl) (λ v. refl)

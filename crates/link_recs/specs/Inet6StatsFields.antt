@@ -1,20 +1,24 @@
--- Inet6Stats: its fields in order, its reading and its bytes.
+-- Inet6Stats: its fields in order, its reading, its bytes and its laws.
 use Rattle.std.specs.Prelude.{◌≡◌, ℕ, ℤ, pos, ◌*◌, List, [], ◌∷◌, slice_index_or}
-use Rattle.std.proofs.Common.{refl, sym, ap, ◌∙◌}
+use Rattle.std.proofs.Common.{refl, sym}
 use Rattle.std.specs.Bool.{Decides}
 use Rattle.std.specs.Cmp.{signed_Decides}
 use Rattle.std.specs.Ordering.{int_eq}
+use Rattle.std.specs.Int.RustNames.{FitsSigned}
 use Rattle.std.specs.Int.{w64}
-use Rattle.nla_wire.specs.Fields.{signed_at, le_all_signed}
+use Rattle.nla_wire.specs.Fields.{signed_at, signed_from, le_all_signed}
+use Rattle.nla_wire.proofs.Again.{writes_again_8}
+use Rattle.link_recs.specs.Laws.{WordLaws}
+use Rattle.link_recs.specs.Words.{signed_words, word_laws}
 use Rattle.link_recs.specs.Same.{each_same, decides_by}
 use Rattle.link_recs.specs.declared.inet6_stats.Inet6Stats.{Inet6Stats}
-use Rattle.link_recs.specs.declared.inet6_stats.Inet6StatsBuffer.{Inet6StatsBuffer}
+use Rattle.link_recs.specs.declared.inet6_stats.TheConstants.{INET6_STATS_COUNT, INET6_STATS_SIZE}
 
 -- how many bytes a record has
 abbrev pub inet6_stats_size : ℕ
-inet6_stats_size = 304
+inet6_stats_size = INET6_STATS_SIZE
 
--- the fields in order, 8 bytes each
+-- the fields in order
 abbrev pub inet6_stats_members : Inet6Stats → List ℤ
 inet6_stats_members v =
     v.num ∷
@@ -112,20 +116,21 @@ inet6_stats_of payload = inet6_stats_by (λ i. signed_at w64 payload (8 * i))
 unfoldable pub inet6_stats_bytes : Inet6Stats → List ℕ
 inet6_stats_bytes v = le_all_signed w64 (inet6_stats_fields v)
 
--- the bytes that a buffer holds
-abbrev pub inet6_stats_buffer_bytes : Inet6StatsBuffer → List ℕ
-inet6_stats_buffer_bytes b = b.bytes
-
 -- the record of a list of fields
 abbrev pub inet6_stats_listed : List ℤ → Inet6Stats
 inet6_stats_listed xs = inet6_stats_by (λ i. slice_index_or xs i (pos 0))
 
--- equal fields, equal records
-inet6_stats_listed_members : (v : Inet6Stats) → inet6_stats_listed (inet6_stats_members v) ≡ v
-inet6_stats_listed_members v = refl
+pub inet6_stats_of_table : (p : List ℕ) → inet6_stats_listed (signed_from w64 p 0 INET6_STATS_COUNT) ≡ inet6_stats_of p
+unfolding inet6_stats_of
+inet6_stats_of_table p = refl
 
-pub inet6_stats_equal : (v w : Inet6Stats) → inet6_stats_members v ≡ inet6_stats_members w → v ≡ w
-inet6_stats_equal v w e = sym (inet6_stats_listed_members v) ∙ ap inet6_stats_listed e ∙ inet6_stats_listed_members w
+pub inet6_stats_table : (p : List ℕ) → inet6_stats_fields (inet6_stats_of p) ≡ signed_from w64 p 0 INET6_STATS_COUNT
+unfolding inet6_stats_fields inet6_stats_of
+inet6_stats_table p = refl
 
 pub inet6_stats_decides : (v w : Inet6Stats) → Decides (each_same int_eq (inet6_stats_members v) (inet6_stats_members w)) (v ≡ w)
-inet6_stats_decides v w = decides_by inet6_stats_members int_eq signed_Decides inet6_stats_equal v w refl
+inet6_stats_decides v w = decides_by inet6_stats_members inet6_stats_listed int_eq signed_Decides (λ v. refl) v w refl
+
+pub inet6_stats_laws : WordLaws (FitsSigned w64) (signed_from w64) INET6_STATS_COUNT inet6_stats_size inet6_stats_fields inet6_stats_of inet6_stats_bytes
+unfolding inet6_stats_fields inet6_stats_bytes
+inet6_stats_laws = word_laws (signed_words w64 writes_again_8) INET6_STATS_COUNT inet6_stats_listed inet6_stats_fields inet6_stats_of (λ p. sym (inet6_stats_of_table p)) inet6_stats_table (λ v. refl) (λ v. refl)

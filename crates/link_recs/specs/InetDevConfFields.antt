@@ -1,20 +1,24 @@
--- InetDevConf: its fields in order, its reading and its bytes.
+-- InetDevConf: its fields in order, its reading, its bytes and its laws.
 use Rattle.std.specs.Prelude.{◌≡◌, ℕ, ℤ, pos, ◌*◌, List, [], ◌∷◌, slice_index_or}
-use Rattle.std.proofs.Common.{refl, sym, ap, ◌∙◌}
+use Rattle.std.proofs.Common.{refl, sym}
 use Rattle.std.specs.Bool.{Decides}
 use Rattle.std.specs.Cmp.{signed_Decides}
 use Rattle.std.specs.Ordering.{int_eq}
+use Rattle.std.specs.Int.RustNames.{FitsSigned}
 use Rattle.std.specs.Int.{w32}
-use Rattle.nla_wire.specs.Fields.{signed_at, le_all_signed}
+use Rattle.nla_wire.specs.Fields.{signed_at, signed_from, le_all_signed}
+use Rattle.nla_wire.proofs.Again.{writes_again_4}
+use Rattle.link_recs.specs.Laws.{WordLaws}
+use Rattle.link_recs.specs.Words.{signed_words, word_laws}
 use Rattle.link_recs.specs.Same.{each_same, decides_by}
 use Rattle.link_recs.specs.declared.inet.InetDevConf.{InetDevConf}
-use Rattle.link_recs.specs.declared.inet.InetDevConfBuffer.{InetDevConfBuffer}
+use Rattle.link_recs.specs.declared.inet.TheConstants.{INET_DEV_CONF_COUNT, INET_DEV_CONF_SIZE}
 
 -- how many bytes a record has
 abbrev pub inet_dev_conf_size : ℕ
-inet_dev_conf_size = 132
+inet_dev_conf_size = INET_DEV_CONF_SIZE
 
--- the fields in order, 4 bytes each
+-- the fields in order
 abbrev pub inet_dev_conf_members : InetDevConf → List ℤ
 inet_dev_conf_members v =
     v.forwarding ∷
@@ -102,20 +106,21 @@ inet_dev_conf_of payload = inet_dev_conf_by (λ i. signed_at w32 payload (4 * i)
 unfoldable pub inet_dev_conf_bytes : InetDevConf → List ℕ
 inet_dev_conf_bytes v = le_all_signed w32 (inet_dev_conf_fields v)
 
--- the bytes that a buffer holds
-abbrev pub inet_dev_conf_buffer_bytes : InetDevConfBuffer → List ℕ
-inet_dev_conf_buffer_bytes b = b.bytes
-
 -- the record of a list of fields
 abbrev pub inet_dev_conf_listed : List ℤ → InetDevConf
 inet_dev_conf_listed xs = inet_dev_conf_by (λ i. slice_index_or xs i (pos 0))
 
--- equal fields, equal records
-inet_dev_conf_listed_members : (v : InetDevConf) → inet_dev_conf_listed (inet_dev_conf_members v) ≡ v
-inet_dev_conf_listed_members v = refl
+pub inet_dev_conf_of_table : (p : List ℕ) → inet_dev_conf_listed (signed_from w32 p 0 INET_DEV_CONF_COUNT) ≡ inet_dev_conf_of p
+unfolding inet_dev_conf_of
+inet_dev_conf_of_table p = refl
 
-pub inet_dev_conf_equal : (v w : InetDevConf) → inet_dev_conf_members v ≡ inet_dev_conf_members w → v ≡ w
-inet_dev_conf_equal v w e = sym (inet_dev_conf_listed_members v) ∙ ap inet_dev_conf_listed e ∙ inet_dev_conf_listed_members w
+pub inet_dev_conf_table : (p : List ℕ) → inet_dev_conf_fields (inet_dev_conf_of p) ≡ signed_from w32 p 0 INET_DEV_CONF_COUNT
+unfolding inet_dev_conf_fields inet_dev_conf_of
+inet_dev_conf_table p = refl
 
 pub inet_dev_conf_decides : (v w : InetDevConf) → Decides (each_same int_eq (inet_dev_conf_members v) (inet_dev_conf_members w)) (v ≡ w)
-inet_dev_conf_decides v w = decides_by inet_dev_conf_members int_eq signed_Decides inet_dev_conf_equal v w refl
+inet_dev_conf_decides v w = decides_by inet_dev_conf_members inet_dev_conf_listed int_eq signed_Decides (λ v. refl) v w refl
+
+pub inet_dev_conf_laws : WordLaws (FitsSigned w32) (signed_from w32) INET_DEV_CONF_COUNT inet_dev_conf_size inet_dev_conf_fields inet_dev_conf_of inet_dev_conf_bytes
+unfolding inet_dev_conf_fields inet_dev_conf_bytes
+inet_dev_conf_laws = word_laws (signed_words w32 writes_again_4) INET_DEV_CONF_COUNT inet_dev_conf_listed inet_dev_conf_fields inet_dev_conf_of (λ p. sym (inet_dev_conf_of_table p)) inet_dev_conf_table (λ v. refl) (λ v. refl)

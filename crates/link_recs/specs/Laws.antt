@@ -1,28 +1,19 @@
--- Laws of a record, over its reading `of` and its bytes.
-use Rattle.std.specs.Prelude.{◌≡◌, ℕ, ◌≤◌, List, ◌++◌, length, replicate}
+-- Laws of a record of numbers of one width, over the list of its fields, its reading `of` and its bytes `text`.
+use Rattle.std.specs.Prelude.{◌≡◌, ℕ, List, length}
 use Rattle.std.specs.List.{AllByRecursion}
-use Rattle.nla_wire.specs.Fields.{zero_filled}
-use Rattle.nla_wire.specs.Frames.{IsBytes}
-
--- zeros behind a payload change nothing
-abbrev pub ZerosBehind : {V : Type 0} → (List ℕ → V) → Type 0
-ZerosBehind of = (p : List ℕ) (m : ℕ) → of (p ++ replicate m 0) ≡ of p
-
--- bytes behind a payload that is long enough change nothing
-abbrev pub BytesBehind : {V : Type 0} → ℕ → (List ℕ → V) → Type 0
-BytesBehind size of = (p more : List ℕ) → size ≤ length p → of (p ++ more) ≡ of p
+use Rattle.nla_wire.specs.Records.{RecordLaws, WritesFilled}
+pub use Rattle.nla_wire.specs.Records.{ZerosBehind, BytesBehind}
 
 -- a record whose fields fit is read back from its bytes
 abbrev pub ReadsBack : {V N : Type 0} → (N → Type 0) → (V → List N) → (List ℕ → V) → (V → List ℕ) → Type 0
 ReadsBack {V} Fits fields of text = (v : V) → AllByRecursion Fits (fields v) → of (text v) ≡ v
 
--- what was read from bytes, written and read again, is the same
-abbrev pub ReadsAgain : {V : Type 0} → (List ℕ → V) → (V → List ℕ) → Type 0
-ReadsAgain of text = (p : List ℕ) → IsBytes p → of (text (of p)) ≡ of p
-
-abbrev pub HasSize : {V : Type 0} → ℕ → (V → List ℕ) → Type 0
-HasSize {V} size text = (v : V) → length (text v) ≡ size
-
--- what was read is written as the payload, cut to the record's size or filled up with zeros
-abbrev pub WritesFilled : {V : Type 0} → ℕ → (List ℕ → V) → (V → List ℕ) → Type 0
-WritesFilled size of text = (p : List ℕ) → IsBytes p → text (of p) ≡ zero_filled size p
+pub record WordLaws {V N : Type 0} (Fits : N → Type 0) (read : List ℕ → ℕ → ℕ → List N) (count size : ℕ) (fields : V → List N) (of : List ℕ → V) (text : V → List ℕ) : Type 0 where
+  -- the fields are the numbers of the payload in order
+  pub table : (p : List ℕ) → fields (of p) ≡ read p 0 count
+  -- a record is given by them
+  pub only : (v w : V) → fields v ≡ fields w → v ≡ w
+  pub written : ReadsBack Fits fields of text
+  pub size_is : (v : V) → length (text v) ≡ size
+  pub plain : WritesFilled size of text
+  pub laws : RecordLaws size of text

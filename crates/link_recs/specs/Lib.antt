@@ -1,4 +1,5 @@
 pub mod Laws
+pub mod Words
 pub mod Same
 pub mod StatsFields
 pub mod Stats64Fields

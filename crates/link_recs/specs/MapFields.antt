@@ -1,13 +1,16 @@
--- Map: its fields at their places, and its bytes.
+-- Map: its fields at their places, its bytes and its laws.
 use Rattle.std.specs.Prelude.{ℕ, ◌^◌, ◌<◌, List, [], ◌∷◌, ◌++◌, slice_index}
 use Rattle.std.specs.Int.{w16, w64, to_le_bytes}
+use Rattle.std.proofs.Common.{refl}
 use Rattle.nla_wire.specs.Fields.{number_at}
+use Rattle.nla_wire.specs.Records.{RecordLaws}
+use Rattle.nla_wire.proofs.RecordParts.{◌&◌, laws_of, number, byte, padding}
 use Rattle.link_recs.specs.declared.map.Map.{Map}
-use Rattle.link_recs.specs.declared.map.MapBuffer.{MapBuffer}
+use Rattle.link_recs.specs.declared.map.TheConstants.{MAP_SIZE}
 
 -- how many bytes a record has
 abbrev pub map_size : ℕ
-map_size = 32
+map_size = MAP_SIZE
 
 -- what a payload means, with zeros behind it. The last four bytes are padding
 unfoldable pub map_of : List ℕ → Map
@@ -33,6 +36,8 @@ pub record MapFits (v : Map) : Type 0 where
   pub base_address : v.base_address < 2 ^ 64
   pub irq : v.irq < 2 ^ 16
 
--- the bytes that a buffer holds
-abbrev pub map_buffer_bytes : MapBuffer → List ℕ
-map_buffer_bytes b = b.bytes
+pub map_laws : RecordLaws map_size map_of map_bytes
+unfolding map_of map_bytes
+map_laws = laws_of (number w64 & number w64 & number w64 & number w16 & byte & byte & padding 4)
+    (λ v. record { memory_start = v.0; memory_end = v.1.0; base_address = v.1.1.0; irq = v.1.1.1.0; dma = v.1.1.1.1.0; port = v.1.1.1.1.1.0 })
+    map_of map_bytes (λ p. refl) (λ p. refl)

@@ -1,7 +1,7 @@
 -- A derived `==` of a record of numbers, over the list of its fields.
 use Rattle.std.specs.Prelude.{◌≡◌, Bool, true, List, [], ◌∷◌, ◌&&◌, length}
 use Rattle.std.specs.Bool.{Decides}
-use Rattle.std.proofs.Common.{refl, sym, ap, arith}
+use Rattle.std.proofs.Common.{refl, sym, ap, ◌∙◌, arith}
 use Rattle.std.proofs.Math.Bool.{and-true}
 use Rattle.std.proofs.lemmas.Slice.Eq.{slice_eq-Decides}
 use lib.Pointwise.{pointwise}
@@ -22,12 +22,12 @@ each_same_is same (x ∷ []) (y ∷ y' ∷ ys) h = absurd (omega arith)
 each_same_is same (x ∷ x' ∷ xs) (y ∷ []) h = absurd (omega arith)
 each_same_is same (x ∷ x' ∷ xs) (y ∷ y' ∷ ys) h = ap (λ b. same x y && b) (each_same_is same (x' ∷ xs) (y' ∷ ys) (omega arith))
 
--- the fields are the same exactly where the records are equal
-pub decides_by : {V N : Type 0} (members : V → List N) (same : N → N → Bool) → ((x y : N) → Decides (same x y) (x ≡ y))
-    → ((v w : V) → members v ≡ members w → v ≡ w)
+-- the fields are the same exactly where the records are equal, which are made of them
+pub decides_by : {V N : Type 0} (members : V → List N) (make : List N → V) (same : N → N → Bool) → ((x y : N) → Decides (same x y) (x ≡ y))
+    → ((v : V) → make (members v) ≡ v)
     → (v w : V) → length (members v) ≡ length (members w)
     → Decides (each_same same (members v) (members w)) (v ≡ w)
-decides_by members same decides equal v w h =
+decides_by members make same decides made v w h =
     let both : Decides (each_same same (members v) (members w)) (members v ≡ members w) =
     slice_eq-Decides decides (members v) (members w) (each_same same (members v) (members w)) (each_same_is same (members v) (members w) h) in
-    (λ e. equal v w (both.0 e), λ e. both.1 (ap members e))
+    (λ e. sym (made v) ∙ ap make (both.0 e) ∙ made w, λ e. both.1 (ap members e))

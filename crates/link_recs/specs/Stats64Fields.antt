@@ -1,19 +1,22 @@
--- Stats64: its fields in order, its reading and its bytes.
-use Rattle.std.specs.Prelude.{◌≡◌, ℕ, ◌*◌, List, [], ◌∷◌, slice_index, nat_eq}
-use Rattle.std.proofs.Common.{refl, sym, ap, ◌∙◌}
+-- Stats64: its fields in order, its reading, its bytes and its laws.
+use Rattle.std.specs.Prelude.{◌≡◌, ℕ, ◌^◌, ◌<◌, ◌*◌, List, [], ◌∷◌, slice_index, nat_eq}
+use Rattle.std.proofs.Common.{refl, sym}
 use Rattle.std.specs.Bool.{Decides}
 use Rattle.std.specs.Cmp.{unsigned_Decides}
 use Rattle.std.specs.Int.{w64}
-use Rattle.nla_wire.specs.Fields.{number_at, le_all}
+use Rattle.nla_wire.specs.Fields.{number_at, numbers_from, le_all}
+use Rattle.nla_wire.proofs.Again.{writes_again_8}
+use Rattle.link_recs.specs.Laws.{WordLaws}
+use Rattle.link_recs.specs.Words.{unsigned_words, word_laws}
 use Rattle.link_recs.specs.Same.{each_same, decides_by}
 use Rattle.link_recs.specs.declared.stats64.Stats64.{Stats64}
-use Rattle.link_recs.specs.declared.stats64.Stats64Buffer.{Stats64Buffer}
+use Rattle.link_recs.specs.declared.stats64.TheConstants.{STATS64_COUNT, STATS64_SIZE}
 
 -- how many bytes a record has
 abbrev pub stats64_size : ℕ
-stats64_size = 200
+stats64_size = STATS64_SIZE
 
--- the fields in order, 8 bytes each
+-- the fields in order
 abbrev pub stats64_members : Stats64 → List ℕ
 stats64_members v =
     v.rx_packets ∷
@@ -85,20 +88,21 @@ stats64_of payload = stats64_by (λ i. number_at w64 payload (8 * i))
 unfoldable pub stats64_bytes : Stats64 → List ℕ
 stats64_bytes v = le_all w64 (stats64_fields v)
 
--- the bytes that a buffer holds
-abbrev pub stats64_buffer_bytes : Stats64Buffer → List ℕ
-stats64_buffer_bytes b = b.bytes
-
 -- the record of a list of fields
 abbrev pub stats64_listed : List ℕ → Stats64
 stats64_listed xs = stats64_by (λ i. slice_index xs i)
 
--- equal fields, equal records
-stats64_listed_members : (v : Stats64) → stats64_listed (stats64_members v) ≡ v
-stats64_listed_members v = refl
+pub stats64_of_table : (p : List ℕ) → stats64_listed (numbers_from w64 p 0 STATS64_COUNT) ≡ stats64_of p
+unfolding stats64_of
+stats64_of_table p = refl
 
-pub stats64_equal : (v w : Stats64) → stats64_members v ≡ stats64_members w → v ≡ w
-stats64_equal v w e = sym (stats64_listed_members v) ∙ ap stats64_listed e ∙ stats64_listed_members w
+pub stats64_table : (p : List ℕ) → stats64_fields (stats64_of p) ≡ numbers_from w64 p 0 STATS64_COUNT
+unfolding stats64_fields stats64_of
+stats64_table p = refl
 
 pub stats64_decides : (v w : Stats64) → Decides (each_same nat_eq (stats64_members v) (stats64_members w)) (v ≡ w)
-stats64_decides v w = decides_by stats64_members nat_eq unsigned_Decides stats64_equal v w refl
+stats64_decides v w = decides_by stats64_members stats64_listed nat_eq unsigned_Decides (λ v. refl) v w refl
+
+pub stats64_laws : WordLaws (λ n. n < 2 ^ 64) (numbers_from w64) STATS64_COUNT stats64_size stats64_fields stats64_of stats64_bytes
+unfolding stats64_fields stats64_bytes
+stats64_laws = word_laws (unsigned_words w64 writes_again_8) STATS64_COUNT stats64_listed stats64_fields stats64_of (λ p. sym (stats64_of_table p)) stats64_table (λ v. refl) (λ v. refl)

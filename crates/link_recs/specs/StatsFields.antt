@@ -1,19 +1,22 @@
--- Stats: its fields in order, its reading and its bytes.
-use Rattle.std.specs.Prelude.{◌≡◌, ℕ, ◌*◌, List, [], ◌∷◌, slice_index, nat_eq}
-use Rattle.std.proofs.Common.{refl, sym, ap, ◌∙◌}
+-- Stats: its fields in order, its reading, its bytes and its laws.
+use Rattle.std.specs.Prelude.{◌≡◌, ℕ, ◌^◌, ◌<◌, ◌*◌, List, [], ◌∷◌, slice_index, nat_eq}
+use Rattle.std.proofs.Common.{refl, sym}
 use Rattle.std.specs.Bool.{Decides}
 use Rattle.std.specs.Cmp.{unsigned_Decides}
 use Rattle.std.specs.Int.{w32}
-use Rattle.nla_wire.specs.Fields.{number_at, le_all}
+use Rattle.nla_wire.specs.Fields.{number_at, numbers_from, le_all}
+use Rattle.nla_wire.proofs.Again.{writes_again_4}
+use Rattle.link_recs.specs.Laws.{WordLaws}
+use Rattle.link_recs.specs.Words.{unsigned_words, word_laws}
 use Rattle.link_recs.specs.Same.{each_same, decides_by}
 use Rattle.link_recs.specs.declared.stats.Stats.{Stats}
-use Rattle.link_recs.specs.declared.stats.StatsBuffer.{StatsBuffer}
+use Rattle.link_recs.specs.declared.stats.TheConstants.{STATS_COUNT, STATS_SIZE}
 
 -- how many bytes a record has
 abbrev pub stats_size : ℕ
-stats_size = 96
+stats_size = STATS_SIZE
 
--- the fields in order, 4 bytes each
+-- the fields in order
 abbrev pub stats_members : Stats → List ℕ
 stats_members v =
     v.rx_packets ∷
@@ -83,20 +86,21 @@ stats_of payload = stats_by (λ i. number_at w32 payload (4 * i))
 unfoldable pub stats_bytes : Stats → List ℕ
 stats_bytes v = le_all w32 (stats_fields v)
 
--- the bytes that a buffer holds
-abbrev pub stats_buffer_bytes : StatsBuffer → List ℕ
-stats_buffer_bytes b = b.bytes
-
 -- the record of a list of fields
 abbrev pub stats_listed : List ℕ → Stats
 stats_listed xs = stats_by (λ i. slice_index xs i)
 
--- equal fields, equal records
-stats_listed_members : (v : Stats) → stats_listed (stats_members v) ≡ v
-stats_listed_members v = refl
+pub stats_of_table : (p : List ℕ) → stats_listed (numbers_from w32 p 0 STATS_COUNT) ≡ stats_of p
+unfolding stats_of
+stats_of_table p = refl
 
-pub stats_equal : (v w : Stats) → stats_members v ≡ stats_members w → v ≡ w
-stats_equal v w e = sym (stats_listed_members v) ∙ ap stats_listed e ∙ stats_listed_members w
+pub stats_table : (p : List ℕ) → stats_fields (stats_of p) ≡ numbers_from w32 p 0 STATS_COUNT
+unfolding stats_fields stats_of
+stats_table p = refl
 
 pub stats_decides : (v w : Stats) → Decides (each_same nat_eq (stats_members v) (stats_members w)) (v ≡ w)
-stats_decides v w = decides_by stats_members nat_eq unsigned_Decides stats_equal v w refl
+stats_decides v w = decides_by stats_members stats_listed nat_eq unsigned_Decides (λ v. refl) v w refl
+
+pub stats_laws : WordLaws (λ n. n < 2 ^ 32) (numbers_from w32) STATS_COUNT stats_size stats_fields stats_of stats_bytes
+unfolding stats_fields stats_bytes
+stats_laws = word_laws (unsigned_words w32 writes_again_4) STATS_COUNT stats_listed stats_fields stats_of (λ p. sym (stats_of_table p)) stats_table (λ v. refl) (λ v. refl)

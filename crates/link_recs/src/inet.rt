@@ -1,24 +1,27 @@
 //! Settings of IPv4 on a link (IFLA_INET_CONF).
 
-ghost use Rattle.std.proofs.Common.{rules};
-ghost use Rattle.std.specs.Prelude.{◌≡◌, ◌+◌, ◌-◌, ◌≤◌, length, take, drop, slice_index_or, pos, MatchResult};
+ghost use Rattle.std.specs.Prelude.{◌≡◌, ◌+◌, ◌≤◌, length, ◌-◌, slice_index_or, pos};
 ghost use Rattle.std.specs.Int.{w32};
-ghost use Rattle.nla_wire.specs.Fields.{signed_from, IsShort};
+ghost use Rattle.nla_wire.specs.Fields.{signed_from};
 ghost use Rattle.nla_wire.specs.Payloads.{sized};
-ghost use Rattle.nla_wire.specs.Gives.{without_place};
 ghost use Rattle.nla_wire.specs.Canon.{Filled, Closed};
-ghost use Rattle.link_recs.specs.InetDevConfFields.{inet_dev_conf_size, inet_dev_conf_fields, inet_dev_conf_of, inet_dev_conf_bytes, inet_dev_conf_buffer_bytes, inet_dev_conf_listed, inet_dev_conf_decides};
+ghost use Rattle.nla_wire.specs.Records.{Parses};
+ghost use Rattle.link_recs.specs.declared.inet.TheConstants.{INET_DEV_CONF_COUNT};
+ghost use Rattle.link_recs.specs.InetDevConfFields.{inet_dev_conf_size, inet_dev_conf_fields, inet_dev_conf_of, inet_dev_conf_bytes, inet_dev_conf_listed, inet_dev_conf_decides, inet_dev_conf_laws};
 
 use crate::words::read_i32s;
-use nla_wire::fields::{put_i32s, too_short};
-use nla_wire::{DecodeError, Exact, canon_filled};
+use nla_wire::fields::put_i32s;
+use nla_wire::{DecodeError, Exact, PlainRecord, Record, RecordBuffer};
+
+/// The number of fields of a record.
+pub const INET_DEV_CONF_COUNT: usize = 33;
 
 /// The number of bytes of a record.
-pub const INET_DEV_CONF_SIZE: usize = 132;
+pub const INET_DEV_CONF_SIZE: usize = 4 * INET_DEV_CONF_COUNT;
 
 /// Settings of IPv4 on a link (IFLA_INET_CONF).
 ///
-/// Thirty-three signed numbers of four bytes each, lowest byte first, in the order of the constants
+/// `INET_DEV_CONF_COUNT` signed numbers of four bytes each, lowest byte first, in the order of the constants
 /// IPV4_DEVCONF_* of linux/ip.h, which count from 1: setting number `n` stands at offset `4 * (n -
 /// 1)`.
 #[derive(Clone, Copy, Debug, Default, PartialEq, Eq)]
@@ -60,7 +63,7 @@ pub struct InetDevConf {
 
 impl InetDevConf {
     #[inline(always)]
-    fn from_words(words: [i32; 33]) -> InetDevConf
+    fn from_words(words: [i32; INET_DEV_CONF_COUNT]) -> InetDevConf
         ensures { result ≡ inet_dev_conf_listed words }
     {
         InetDevConf {
@@ -101,42 +104,8 @@ impl InetDevConf {
     }
 
     #[inline(always)]
-    #[tactic(auto, using(crate::proofs::InetDevConfLemmas::inet_dev_conf_of_table))]
-    fn read(payload: &[u8]) -> InetDevConf
-        ensures { result ≡ inet_dev_conf_of payload.now }
-    {
-        let mut words = [0; 33];
-        read_i32s(payload, &mut words);
-        InetDevConf::from_words(words)
-    }
-
-    /// Reads a record from the front of the payload, as if zeros followed it. Nothing is refused.
-    #[tactic(auto, using(crate::proofs::InetDevConfLemmas::inet_dev_conf_table))]
-    pub fn read_padded(payload: &[u8]) -> InetDevConf
-        ensures value { result ≡ inet_dev_conf_of payload.now }
-        ensures fields { inet_dev_conf_fields result ≡ signed_from w32 payload.now 0 33 }
-    {
-        InetDevConf::read(payload)
-    }
-
-    /// Reads a record from the front of the payload. A payload of fewer than 132 bytes is refused
-    /// with `TooShort`.
-    #[tactic(auto, unfolding(nla_wire::specs::Payloads::read_sized))]
-    pub fn parse(payload: &[u8]) -> Result<InetDevConf, DecodeError>
-        ensures means { MatchResult result
-            ((sized inet_dev_conf_size inet_dev_conf_of).means payload.now)
-            (λ e. (sized inet_dev_conf_size inet_dev_conf_of).bad payload.now e.cause) }
-        ensures reads { without_place result ≡ (sized inet_dev_conf_size inet_dev_conf_of).reads payload.now }
-    {
-        if payload.len() < INET_DEV_CONF_SIZE {
-            return Err(too_short(payload.len(), INET_DEV_CONF_SIZE));
-        }
-        Ok(InetDevConf::read(payload))
-    }
-
-    #[inline(always)]
     #[tactic(auto, unfolding(crate::specs::InetDevConfFields::inet_dev_conf_fields))]
-    fn words(&self) -> [i32; 33]
+    fn words(&self) -> [i32; INET_DEV_CONF_COUNT]
         ensures { result ≡ inet_dev_conf_fields self.now }
     {
         [
@@ -175,49 +144,89 @@ impl InetDevConf {
             self.arp_evict_nocarrier,
         ]
     }
+}
 
-    /// Writes the attribute of this kind whose value is the record that a payload means, the payload cut to 132 bytes or
-    /// filled up with zeros, to the front of the buffer, and answers its length. The rest of the buffer is kept.
-    #[tactic(auto, using(crate::proofs::InetDevConfLemmas::inet_dev_conf_filled, nla_wire::proofs::Front::all_bytes))]
+impl Record<INET_DEV_CONF_SIZE> for InetDevConf {
+    ghost of = { inet_dev_conf_of };
+
+    ghost bytes = { inet_dev_conf_bytes };
+
+    #[inline(always)]
+    #[tactic(auto, using(crate::specs::InetDevConfFields::inet_dev_conf_of_table))]
+    fn read(payload: &[u8]) -> InetDevConf {
+        let mut words = [0; INET_DEV_CONF_COUNT];
+        read_i32s(payload, &mut words);
+        InetDevConf::from_words(words)
+    }
+
+    #[tactic(auto, unfolding(crate::specs::InetDevConfFields::inet_dev_conf_bytes))]
+    fn write(&self, buffer: &mut [u8]) {
+        put_i32s(buffer, &self.words());
+    }
+
+    ghost laws = { inet_dev_conf_laws.laws };
+}
+
+impl PlainRecord<INET_DEV_CONF_SIZE> for InetDevConf {
+    ghost written = { inet_dev_conf_laws.plain };
+}
+
+impl InetDevConf {
+    /// Reads a record from the front of the payload, as if zeros followed it. Nothing is refused.
+    #[tactic(auto, using(crate::specs::InetDevConfFields::inet_dev_conf_table))]
+    pub fn read_padded(payload: &[u8]) -> InetDevConf
+        ensures value { result ≡ inet_dev_conf_of payload.now }
+        ensures fields { inet_dev_conf_fields result ≡ signed_from w32 payload.now 0 INET_DEV_CONF_COUNT }
+    {
+        InetDevConf::read(payload)
+    }
+
+    /// Reads a record from the front of the payload. A payload of fewer than `INET_DEV_CONF_SIZE` bytes is refused with
+    /// `TooShort`.
+    pub fn parse(payload: &[u8]) -> Result<InetDevConf, DecodeError>
+        ensures { Parses (sized inet_dev_conf_size inet_dev_conf_of) payload.now result }
+    {
+        InetDevConf::parse_sized(payload)
+    }
+
+    /// Writes the attribute of this kind whose value is the record that a payload means, the payload cut to
+    /// `INET_DEV_CONF_SIZE` bytes or filled up with zeros, to the front of the buffer, and answers its length. The rest of the
+    /// buffer is kept.
     pub fn canon(kind: u16, payload: &[u8], out: &mut [u8]) -> Option<usize>
         requires room { 4 + inet_dev_conf_size ≤ length out.old }
         ensures { Closed kind (inet_dev_conf_bytes (inet_dev_conf_of payload.now)) out.old out.new result }
     {
-        canon_filled(kind, INET_DEV_CONF_SIZE, payload, out)
+        InetDevConf::canon_record(kind, payload, out)
     }
 
-    /// The number of bytes that `emit` writes, 132.
+    /// The number of bytes that `emit` writes, `INET_DEV_CONF_SIZE`.
     pub fn buffer_len(&self) -> usize
         ensures { result ≡ inet_dev_conf_size }
     {
         INET_DEV_CONF_SIZE
     }
 
-    /// Writes the record to a buffer of exactly 132 bytes.
-    #[tactic(auto, unfolding(crate::specs::InetDevConfFields::inet_dev_conf_bytes))]
+    /// Writes the record to a buffer of exactly `INET_DEV_CONF_SIZE` bytes.
     pub fn emit(&self, buffer: &mut [u8])
         requires { length buffer.old ≡ inet_dev_conf_size }
         ensures { buffer.new ≡ inet_dev_conf_bytes self.now }
     {
-        put_i32s(buffer, &self.words());
+        self.write(buffer);
     }
 
-    /// Writes the record to the end of a buffer of at least 132 bytes, keeps the bytes before it,
-    /// and answers where it starts.
-    #[tactic(auto, using(crate::proofs::InetDevConfLemmas::length_inet_dev_conf_bytes))]
+    /// Writes the record to the end of a buffer of at least `INET_DEV_CONF_SIZE` bytes, keeps the bytes before it, and answers
+    /// where it starts.
     pub fn fill(&self, buffer: &mut [u8]) -> usize
         requires { inet_dev_conf_size ≤ length buffer.old }
         ensures { Filled buffer.old buffer.new (inet_dev_conf_bytes self.now) result }
     {
-        let start = buffer.len() - INET_DEV_CONF_SIZE;
-        self.emit(&mut buffer[start..]);
-        start
+        self.fill_back(buffer)
     }
 
-    /// The setting of this number, 1 to 33 as the constants IPV4_DEVCONF_* count them.
+    /// The setting of this number, 1 to `INET_DEV_CONF_COUNT` as the constants IPV4_DEVCONF_* count them.
     pub fn setting(&self, number: usize) -> i32
         requires low { 1 ≤ number }
-        requires high { number ≤ 33 }
+        requires high { number ≤ INET_DEV_CONF_COUNT }
         ensures { result ≡ slice_index_or (inet_dev_conf_fields self.now) (number - 1) (pos 0) }
     {
         self.words()[number - 1]
@@ -228,48 +237,5 @@ impl Exact for InetDevConf {
     ghost decides = { inet_dev_conf_decides };
 }
 
-/// The 132 bytes of a record, `InetDevConf`.
-#[derive(Clone, Copy, Debug, PartialEq, Eq)]
-pub struct InetDevConfBuffer {
-    bytes: [u8; INET_DEV_CONF_SIZE],
-}
-
-impl From<&InetDevConf> for InetDevConfBuffer {
-    ghost from_gives = { λ v b. inet_dev_conf_buffer_bytes b ≡ inet_dev_conf_bytes v.now };
-
-    fn from(value: &InetDevConf) -> InetDevConfBuffer {
-        let mut bytes = [0; INET_DEV_CONF_SIZE];
-        value.emit(&mut bytes);
-        InetDevConfBuffer { bytes }
-    }
-}
-
-impl InetDevConfBuffer {
-    /// All of the bytes.
-    pub fn as_bytes(&self) -> &[u8]
-        ensures { result.now ≡ inet_dev_conf_buffer_bytes self.now }
-    {
-        &self.bytes
-    }
-
-    /// The first 132 bytes as they are, and the rest. Fewer bytes are refused with `TooShort`.
-    pub fn read_from_prefix(bytes: &[u8]) -> Result<(InetDevConfBuffer, &[u8]), DecodeError>
-        ensures { MatchResult result
-            (λ v. (inet_dev_conf_size ≤ length bytes.now)
-            × (inet_dev_conf_buffer_bytes v.0 ≡ take inet_dev_conf_size bytes.now)
-            × (v.1.now ≡ drop inet_dev_conf_size bytes.now))
-            (IsShort bytes.now inet_dev_conf_size) }
-    {
-        if bytes.len() < INET_DEV_CONF_SIZE {
-            return Err(too_short(bytes.len(), INET_DEV_CONF_SIZE));
-        }
-        let (front, rest) = bytes.split_at(INET_DEV_CONF_SIZE);
-        let mut bytes = [0; INET_DEV_CONF_SIZE];
-        bytes.copy_from_slice(front);
-        Ok((InetDevConfBuffer { bytes }, rest))
-    }
-}
-
-impl Exact for InetDevConfBuffer {
-    ghost decides = { Prim.search rules };
-}
+/// The bytes of a record, `InetDevConf`.
+pub type InetDevConfBuffer = RecordBuffer<InetDevConf, INET_DEV_CONF_SIZE>;

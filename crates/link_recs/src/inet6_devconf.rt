@@ -1,24 +1,27 @@
 //! Settings of IPv6 on a link (IFLA_INET6_CONF).
 
-ghost use Rattle.std.proofs.Common.{rules};
-ghost use Rattle.std.specs.Prelude.{◌≡◌, ◌+◌, ◌≤◌, length, take, drop, MatchResult};
+ghost use Rattle.std.specs.Prelude.{◌≡◌, ◌+◌, ◌≤◌, length};
 ghost use Rattle.std.specs.Int.{w32};
-ghost use Rattle.nla_wire.specs.Fields.{signed_from, IsShort};
+ghost use Rattle.nla_wire.specs.Fields.{signed_from};
 ghost use Rattle.nla_wire.specs.Payloads.{sized};
-ghost use Rattle.nla_wire.specs.Gives.{without_place};
 ghost use Rattle.nla_wire.specs.Canon.{Filled, Closed};
-ghost use Rattle.link_recs.specs.Inet6DevConfFields.{inet6_dev_conf_size, inet6_dev_conf_fields, inet6_dev_conf_of, inet6_dev_conf_bytes, inet6_dev_conf_buffer_bytes, inet6_dev_conf_listed, inet6_dev_conf_decides};
+ghost use Rattle.nla_wire.specs.Records.{Parses};
+ghost use Rattle.link_recs.specs.declared.inet6_devconf.TheConstants.{INET6_DEV_CONF_COUNT};
+ghost use Rattle.link_recs.specs.Inet6DevConfFields.{inet6_dev_conf_size, inet6_dev_conf_fields, inet6_dev_conf_of, inet6_dev_conf_bytes, inet6_dev_conf_listed, inet6_dev_conf_decides, inet6_dev_conf_laws};
 
 use crate::words::read_i32s;
-use nla_wire::fields::{put_i32s, too_short};
-use nla_wire::{DecodeError, Exact, canon_filled};
+use nla_wire::fields::put_i32s;
+use nla_wire::{DecodeError, Exact, PlainRecord, Record, RecordBuffer};
+
+/// The number of fields of a record.
+pub const INET6_DEV_CONF_COUNT: usize = 60;
 
 /// The number of bytes of a record.
-pub const INET6_DEV_CONF_SIZE: usize = 240;
+pub const INET6_DEV_CONF_SIZE: usize = 4 * INET6_DEV_CONF_COUNT;
 
 /// Settings of IPv6 on a link (IFLA_INET6_CONF).
 ///
-/// Sixty signed numbers of four bytes each, lowest byte first, in the order of the constants
+/// `INET6_DEV_CONF_COUNT` signed numbers of four bytes each, lowest byte first, in the order of the constants
 /// DEVCONF_* of linux/ipv6.h, which count from 0: setting number `n` stands at offset `4 * n`.
 /// Times are in milliseconds or, for lifetimes, in seconds, as the kernel's networking/ip-sysctl
 /// text says of each.
@@ -88,7 +91,7 @@ pub struct Inet6DevConf {
 
 impl Inet6DevConf {
     #[inline(always)]
-    fn from_words(words: [i32; 60]) -> Inet6DevConf
+    fn from_words(words: [i32; INET6_DEV_CONF_COUNT]) -> Inet6DevConf
         ensures { result ≡ inet6_dev_conf_listed words }
     {
         Inet6DevConf {
@@ -156,42 +159,8 @@ impl Inet6DevConf {
     }
 
     #[inline(always)]
-    #[tactic(auto, using(crate::proofs::Inet6DevConfLemmas::inet6_dev_conf_of_table))]
-    fn read(payload: &[u8]) -> Inet6DevConf
-        ensures { result ≡ inet6_dev_conf_of payload.now }
-    {
-        let mut words = [0; 60];
-        read_i32s(payload, &mut words);
-        Inet6DevConf::from_words(words)
-    }
-
-    /// Reads a record from the front of the payload, as if zeros followed it. Nothing is refused.
-    #[tactic(auto, using(crate::proofs::Inet6DevConfLemmas::inet6_dev_conf_table))]
-    pub fn read_padded(payload: &[u8]) -> Inet6DevConf
-        ensures value { result ≡ inet6_dev_conf_of payload.now }
-        ensures fields { inet6_dev_conf_fields result ≡ signed_from w32 payload.now 0 60 }
-    {
-        Inet6DevConf::read(payload)
-    }
-
-    /// Reads a record from the front of the payload. A payload of fewer than 240 bytes is refused
-    /// with `TooShort`.
-    #[tactic(auto, unfolding(nla_wire::specs::Payloads::read_sized))]
-    pub fn parse(payload: &[u8]) -> Result<Inet6DevConf, DecodeError>
-        ensures means { MatchResult result
-            ((sized inet6_dev_conf_size inet6_dev_conf_of).means payload.now)
-            (λ e. (sized inet6_dev_conf_size inet6_dev_conf_of).bad payload.now e.cause) }
-        ensures reads { without_place result ≡ (sized inet6_dev_conf_size inet6_dev_conf_of).reads payload.now }
-    {
-        if payload.len() < INET6_DEV_CONF_SIZE {
-            return Err(too_short(payload.len(), INET6_DEV_CONF_SIZE));
-        }
-        Ok(Inet6DevConf::read(payload))
-    }
-
-    #[inline(always)]
     #[tactic(auto, unfolding(crate::specs::Inet6DevConfFields::inet6_dev_conf_fields))]
-    fn words(&self) -> [i32; 60]
+    fn words(&self) -> [i32; INET6_DEV_CONF_COUNT]
         ensures { result ≡ inet6_dev_conf_fields self.now }
     {
         [
@@ -257,43 +226,83 @@ impl Inet6DevConf {
             self.force_forwarding,
         ]
     }
+}
 
-    /// Writes the attribute of this kind whose value is the record that a payload means, the payload cut to 240 bytes or
-    /// filled up with zeros, to the front of the buffer, and answers its length. The rest of the buffer is kept.
-    #[tactic(auto, using(crate::proofs::Inet6DevConfLemmas::inet6_dev_conf_filled, nla_wire::proofs::Front::all_bytes))]
+impl Record<INET6_DEV_CONF_SIZE> for Inet6DevConf {
+    ghost of = { inet6_dev_conf_of };
+
+    ghost bytes = { inet6_dev_conf_bytes };
+
+    #[inline(always)]
+    #[tactic(auto, using(crate::specs::Inet6DevConfFields::inet6_dev_conf_of_table))]
+    fn read(payload: &[u8]) -> Inet6DevConf {
+        let mut words = [0; INET6_DEV_CONF_COUNT];
+        read_i32s(payload, &mut words);
+        Inet6DevConf::from_words(words)
+    }
+
+    #[tactic(auto, unfolding(crate::specs::Inet6DevConfFields::inet6_dev_conf_bytes))]
+    fn write(&self, buffer: &mut [u8]) {
+        put_i32s(buffer, &self.words());
+    }
+
+    ghost laws = { inet6_dev_conf_laws.laws };
+}
+
+impl PlainRecord<INET6_DEV_CONF_SIZE> for Inet6DevConf {
+    ghost written = { inet6_dev_conf_laws.plain };
+}
+
+impl Inet6DevConf {
+    /// Reads a record from the front of the payload, as if zeros followed it. Nothing is refused.
+    #[tactic(auto, using(crate::specs::Inet6DevConfFields::inet6_dev_conf_table))]
+    pub fn read_padded(payload: &[u8]) -> Inet6DevConf
+        ensures value { result ≡ inet6_dev_conf_of payload.now }
+        ensures fields { inet6_dev_conf_fields result ≡ signed_from w32 payload.now 0 INET6_DEV_CONF_COUNT }
+    {
+        Inet6DevConf::read(payload)
+    }
+
+    /// Reads a record from the front of the payload. A payload of fewer than `INET6_DEV_CONF_SIZE` bytes is refused with
+    /// `TooShort`.
+    pub fn parse(payload: &[u8]) -> Result<Inet6DevConf, DecodeError>
+        ensures { Parses (sized inet6_dev_conf_size inet6_dev_conf_of) payload.now result }
+    {
+        Inet6DevConf::parse_sized(payload)
+    }
+
+    /// Writes the attribute of this kind whose value is the record that a payload means, the payload cut to
+    /// `INET6_DEV_CONF_SIZE` bytes or filled up with zeros, to the front of the buffer, and answers its length. The rest of the
+    /// buffer is kept.
     pub fn canon(kind: u16, payload: &[u8], out: &mut [u8]) -> Option<usize>
         requires room { 4 + inet6_dev_conf_size ≤ length out.old }
         ensures { Closed kind (inet6_dev_conf_bytes (inet6_dev_conf_of payload.now)) out.old out.new result }
     {
-        canon_filled(kind, INET6_DEV_CONF_SIZE, payload, out)
+        Inet6DevConf::canon_record(kind, payload, out)
     }
 
-    /// The number of bytes that `emit` writes, 240.
+    /// The number of bytes that `emit` writes, `INET6_DEV_CONF_SIZE`.
     pub fn buffer_len(&self) -> usize
         ensures { result ≡ inet6_dev_conf_size }
     {
         INET6_DEV_CONF_SIZE
     }
 
-    /// Writes the record to a buffer of exactly 240 bytes.
-    #[tactic(auto, unfolding(crate::specs::Inet6DevConfFields::inet6_dev_conf_bytes))]
+    /// Writes the record to a buffer of exactly `INET6_DEV_CONF_SIZE` bytes.
     pub fn emit(&self, buffer: &mut [u8])
         requires { length buffer.old ≡ inet6_dev_conf_size }
         ensures { buffer.new ≡ inet6_dev_conf_bytes self.now }
     {
-        put_i32s(buffer, &self.words());
+        self.write(buffer);
     }
 
-    /// Writes the record to the end of a buffer of at least 240 bytes, keeps the bytes before it,
-    /// and answers where it starts.
-    #[tactic(auto, using(crate::proofs::Inet6DevConfLemmas::length_inet6_dev_conf_bytes))]
+    /// Writes the record to the end of a buffer of at least `INET6_DEV_CONF_SIZE` bytes, keeps the bytes before it, and answers
+    /// where it starts.
     pub fn fill(&self, buffer: &mut [u8]) -> usize
         requires { inet6_dev_conf_size ≤ length buffer.old }
         ensures { Filled buffer.old buffer.new (inet6_dev_conf_bytes self.now) result }
     {
-        let start = buffer.len() - INET6_DEV_CONF_SIZE;
-        self.emit(&mut buffer[start..]);
-        start
+        self.fill_back(buffer)
     }
 }
 
@@ -301,48 +310,5 @@ impl Exact for Inet6DevConf {
     ghost decides = { inet6_dev_conf_decides };
 }
 
-/// The 240 bytes of a record, `Inet6DevConf`.
-#[derive(Clone, Copy, Debug, PartialEq, Eq)]
-pub struct Inet6DevConfBuffer {
-    bytes: [u8; INET6_DEV_CONF_SIZE],
-}
-
-impl From<&Inet6DevConf> for Inet6DevConfBuffer {
-    ghost from_gives = { λ v b. inet6_dev_conf_buffer_bytes b ≡ inet6_dev_conf_bytes v.now };
-
-    fn from(value: &Inet6DevConf) -> Inet6DevConfBuffer {
-        let mut bytes = [0; INET6_DEV_CONF_SIZE];
-        value.emit(&mut bytes);
-        Inet6DevConfBuffer { bytes }
-    }
-}
-
-impl Inet6DevConfBuffer {
-    /// All of the bytes.
-    pub fn as_bytes(&self) -> &[u8]
-        ensures { result.now ≡ inet6_dev_conf_buffer_bytes self.now }
-    {
-        &self.bytes
-    }
-
-    /// The first 240 bytes as they are, and the rest. Fewer bytes are refused with `TooShort`.
-    pub fn read_from_prefix(bytes: &[u8]) -> Result<(Inet6DevConfBuffer, &[u8]), DecodeError>
-        ensures { MatchResult result
-            (λ v. (inet6_dev_conf_size ≤ length bytes.now)
-            × (inet6_dev_conf_buffer_bytes v.0 ≡ take inet6_dev_conf_size bytes.now)
-            × (v.1.now ≡ drop inet6_dev_conf_size bytes.now))
-            (IsShort bytes.now inet6_dev_conf_size) }
-    {
-        if bytes.len() < INET6_DEV_CONF_SIZE {
-            return Err(too_short(bytes.len(), INET6_DEV_CONF_SIZE));
-        }
-        let (front, rest) = bytes.split_at(INET6_DEV_CONF_SIZE);
-        let mut bytes = [0; INET6_DEV_CONF_SIZE];
-        bytes.copy_from_slice(front);
-        Ok((Inet6DevConfBuffer { bytes }, rest))
-    }
-}
-
-impl Exact for Inet6DevConfBuffer {
-    ghost decides = { Prim.search rules };
-}
+/// The bytes of a record, `Inet6DevConf`.
+pub type Inet6DevConfBuffer = RecordBuffer<Inet6DevConf, INET6_DEV_CONF_SIZE>;

@@ -1,24 +1,27 @@
 //! Counters of IPv6 on a link (IFLA_INET6_STATS).
 
-ghost use Rattle.std.proofs.Common.{rules};
-ghost use Rattle.std.specs.Prelude.{◌≡◌, ◌+◌, ◌≤◌, length, take, drop, MatchResult};
+ghost use Rattle.std.specs.Prelude.{◌≡◌, ◌+◌, ◌≤◌, length};
 ghost use Rattle.std.specs.Int.{w64};
-ghost use Rattle.nla_wire.specs.Fields.{signed_from, IsShort};
+ghost use Rattle.nla_wire.specs.Fields.{signed_from};
 ghost use Rattle.nla_wire.specs.Payloads.{sized};
-ghost use Rattle.nla_wire.specs.Gives.{without_place};
 ghost use Rattle.nla_wire.specs.Canon.{Filled, Closed};
-ghost use Rattle.link_recs.specs.Inet6StatsFields.{inet6_stats_size, inet6_stats_fields, inet6_stats_of, inet6_stats_bytes, inet6_stats_buffer_bytes, inet6_stats_listed, inet6_stats_decides};
+ghost use Rattle.nla_wire.specs.Records.{Parses};
+ghost use Rattle.link_recs.specs.declared.inet6_stats.TheConstants.{INET6_STATS_COUNT};
+ghost use Rattle.link_recs.specs.Inet6StatsFields.{inet6_stats_size, inet6_stats_fields, inet6_stats_of, inet6_stats_bytes, inet6_stats_listed, inet6_stats_decides, inet6_stats_laws};
 
 use crate::words::read_i64s;
-use nla_wire::fields::{put_i64s, too_short};
-use nla_wire::{DecodeError, Exact, canon_filled};
+use nla_wire::fields::put_i64s;
+use nla_wire::{DecodeError, Exact, PlainRecord, Record, RecordBuffer};
+
+/// The number of fields of a record.
+pub const INET6_STATS_COUNT: usize = 38;
 
 /// The number of bytes of a record.
-pub const INET6_STATS_SIZE: usize = 304;
+pub const INET6_STATS_SIZE: usize = 8 * INET6_STATS_COUNT;
 
 /// Counters of IPv6 on a link (IFLA_INET6_STATS).
 ///
-/// Thirty-eight signed numbers of eight bytes each, lowest byte first, in the order of the
+/// `INET6_STATS_COUNT` signed numbers of eight bytes each, lowest byte first, in the order of the
 /// constants IPSTATS_MIB_* of linux/snmp.h, which count from 0: counter number `n` stands at offset
 /// `8 * n`. `num` is the number of counters that the kernel sent.
 #[derive(Clone, Copy, Debug, Default, PartialEq, Eq)]
@@ -65,7 +68,7 @@ pub struct Inet6Stats {
 
 impl Inet6Stats {
     #[inline(always)]
-    fn from_words(words: [i64; 38]) -> Inet6Stats
+    fn from_words(words: [i64; INET6_STATS_COUNT]) -> Inet6Stats
         ensures { result ≡ inet6_stats_listed words }
     {
         Inet6Stats {
@@ -111,42 +114,8 @@ impl Inet6Stats {
     }
 
     #[inline(always)]
-    #[tactic(auto, using(crate::proofs::Inet6StatsLemmas::inet6_stats_of_table))]
-    fn read(payload: &[u8]) -> Inet6Stats
-        ensures { result ≡ inet6_stats_of payload.now }
-    {
-        let mut words = [0; 38];
-        read_i64s(payload, &mut words);
-        Inet6Stats::from_words(words)
-    }
-
-    /// Reads a record from the front of the payload, as if zeros followed it. Nothing is refused.
-    #[tactic(auto, using(crate::proofs::Inet6StatsLemmas::inet6_stats_table))]
-    pub fn read_padded(payload: &[u8]) -> Inet6Stats
-        ensures value { result ≡ inet6_stats_of payload.now }
-        ensures fields { inet6_stats_fields result ≡ signed_from w64 payload.now 0 38 }
-    {
-        Inet6Stats::read(payload)
-    }
-
-    /// Reads a record from the front of the payload. A payload of fewer than 304 bytes is refused
-    /// with `TooShort`.
-    #[tactic(auto, unfolding(nla_wire::specs::Payloads::read_sized))]
-    pub fn parse(payload: &[u8]) -> Result<Inet6Stats, DecodeError>
-        ensures means { MatchResult result
-            ((sized inet6_stats_size inet6_stats_of).means payload.now)
-            (λ e. (sized inet6_stats_size inet6_stats_of).bad payload.now e.cause) }
-        ensures reads { without_place result ≡ (sized inet6_stats_size inet6_stats_of).reads payload.now }
-    {
-        if payload.len() < INET6_STATS_SIZE {
-            return Err(too_short(payload.len(), INET6_STATS_SIZE));
-        }
-        Ok(Inet6Stats::read(payload))
-    }
-
-    #[inline(always)]
     #[tactic(auto, unfolding(crate::specs::Inet6StatsFields::inet6_stats_fields))]
-    fn words(&self) -> [i64; 38]
+    fn words(&self) -> [i64; INET6_STATS_COUNT]
         ensures { result ≡ inet6_stats_fields self.now }
     {
         [
@@ -190,43 +159,83 @@ impl Inet6Stats {
             self.out_pkts,
         ]
     }
+}
 
-    /// Writes the attribute of this kind whose value is the record that a payload means, the payload cut to 304 bytes or
-    /// filled up with zeros, to the front of the buffer, and answers its length. The rest of the buffer is kept.
-    #[tactic(auto, using(crate::proofs::Inet6StatsLemmas::inet6_stats_filled, nla_wire::proofs::Front::all_bytes))]
+impl Record<INET6_STATS_SIZE> for Inet6Stats {
+    ghost of = { inet6_stats_of };
+
+    ghost bytes = { inet6_stats_bytes };
+
+    #[inline(always)]
+    #[tactic(auto, using(crate::specs::Inet6StatsFields::inet6_stats_of_table))]
+    fn read(payload: &[u8]) -> Inet6Stats {
+        let mut words = [0; INET6_STATS_COUNT];
+        read_i64s(payload, &mut words);
+        Inet6Stats::from_words(words)
+    }
+
+    #[tactic(auto, unfolding(crate::specs::Inet6StatsFields::inet6_stats_bytes))]
+    fn write(&self, buffer: &mut [u8]) {
+        put_i64s(buffer, &self.words());
+    }
+
+    ghost laws = { inet6_stats_laws.laws };
+}
+
+impl PlainRecord<INET6_STATS_SIZE> for Inet6Stats {
+    ghost written = { inet6_stats_laws.plain };
+}
+
+impl Inet6Stats {
+    /// Reads a record from the front of the payload, as if zeros followed it. Nothing is refused.
+    #[tactic(auto, using(crate::specs::Inet6StatsFields::inet6_stats_table))]
+    pub fn read_padded(payload: &[u8]) -> Inet6Stats
+        ensures value { result ≡ inet6_stats_of payload.now }
+        ensures fields { inet6_stats_fields result ≡ signed_from w64 payload.now 0 INET6_STATS_COUNT }
+    {
+        Inet6Stats::read(payload)
+    }
+
+    /// Reads a record from the front of the payload. A payload of fewer than `INET6_STATS_SIZE` bytes is refused with
+    /// `TooShort`.
+    pub fn parse(payload: &[u8]) -> Result<Inet6Stats, DecodeError>
+        ensures { Parses (sized inet6_stats_size inet6_stats_of) payload.now result }
+    {
+        Inet6Stats::parse_sized(payload)
+    }
+
+    /// Writes the attribute of this kind whose value is the record that a payload means, the payload cut to
+    /// `INET6_STATS_SIZE` bytes or filled up with zeros, to the front of the buffer, and answers its length. The rest of the
+    /// buffer is kept.
     pub fn canon(kind: u16, payload: &[u8], out: &mut [u8]) -> Option<usize>
         requires room { 4 + inet6_stats_size ≤ length out.old }
         ensures { Closed kind (inet6_stats_bytes (inet6_stats_of payload.now)) out.old out.new result }
     {
-        canon_filled(kind, INET6_STATS_SIZE, payload, out)
+        Inet6Stats::canon_record(kind, payload, out)
     }
 
-    /// The number of bytes that `emit` writes, 304.
+    /// The number of bytes that `emit` writes, `INET6_STATS_SIZE`.
     pub fn buffer_len(&self) -> usize
         ensures { result ≡ inet6_stats_size }
     {
         INET6_STATS_SIZE
     }
 
-    /// Writes the record to a buffer of exactly 304 bytes.
-    #[tactic(auto, unfolding(crate::specs::Inet6StatsFields::inet6_stats_bytes))]
+    /// Writes the record to a buffer of exactly `INET6_STATS_SIZE` bytes.
     pub fn emit(&self, buffer: &mut [u8])
         requires { length buffer.old ≡ inet6_stats_size }
         ensures { buffer.new ≡ inet6_stats_bytes self.now }
     {
-        put_i64s(buffer, &self.words());
+        self.write(buffer);
     }
 
-    /// Writes the record to the end of a buffer of at least 304 bytes, keeps the bytes before it,
-    /// and answers where it starts.
-    #[tactic(auto, using(crate::proofs::Inet6StatsLemmas::length_inet6_stats_bytes))]
+    /// Writes the record to the end of a buffer of at least `INET6_STATS_SIZE` bytes, keeps the bytes before it, and answers
+    /// where it starts.
     pub fn fill(&self, buffer: &mut [u8]) -> usize
         requires { inet6_stats_size ≤ length buffer.old }
         ensures { Filled buffer.old buffer.new (inet6_stats_bytes self.now) result }
     {
-        let start = buffer.len() - INET6_STATS_SIZE;
-        self.emit(&mut buffer[start..]);
-        start
+        self.fill_back(buffer)
     }
 }
 
@@ -234,48 +243,5 @@ impl Exact for Inet6Stats {
     ghost decides = { inet6_stats_decides };
 }
 
-/// The 304 bytes of a record, `Inet6Stats`.
-#[derive(Clone, Copy, Debug, PartialEq, Eq)]
-pub struct Inet6StatsBuffer {
-    bytes: [u8; INET6_STATS_SIZE],
-}
-
-impl From<&Inet6Stats> for Inet6StatsBuffer {
-    ghost from_gives = { λ v b. inet6_stats_buffer_bytes b ≡ inet6_stats_bytes v.now };
-
-    fn from(value: &Inet6Stats) -> Inet6StatsBuffer {
-        let mut bytes = [0; INET6_STATS_SIZE];
-        value.emit(&mut bytes);
-        Inet6StatsBuffer { bytes }
-    }
-}
-
-impl Inet6StatsBuffer {
-    /// All of the bytes.
-    pub fn as_bytes(&self) -> &[u8]
-        ensures { result.now ≡ inet6_stats_buffer_bytes self.now }
-    {
-        &self.bytes
-    }
-
-    /// The first 304 bytes as they are, and the rest. Fewer bytes are refused with `TooShort`.
-    pub fn read_from_prefix(bytes: &[u8]) -> Result<(Inet6StatsBuffer, &[u8]), DecodeError>
-        ensures { MatchResult result
-            (λ v. (inet6_stats_size ≤ length bytes.now)
-            × (inet6_stats_buffer_bytes v.0 ≡ take inet6_stats_size bytes.now)
-            × (v.1.now ≡ drop inet6_stats_size bytes.now))
-            (IsShort bytes.now inet6_stats_size) }
-    {
-        if bytes.len() < INET6_STATS_SIZE {
-            return Err(too_short(bytes.len(), INET6_STATS_SIZE));
-        }
-        let (front, rest) = bytes.split_at(INET6_STATS_SIZE);
-        let mut bytes = [0; INET6_STATS_SIZE];
-        bytes.copy_from_slice(front);
-        Ok((Inet6StatsBuffer { bytes }, rest))
-    }
-}
-
-impl Exact for Inet6StatsBuffer {
-    ghost decides = { Prim.search rules };
-}
+/// The bytes of a record, `Inet6Stats`.
+pub type Inet6StatsBuffer = RecordBuffer<Inet6Stats, INET6_STATS_SIZE>;

@@ -1,24 +1,27 @@
 //! Counters of a link, 32 bits each (IFLA_STATS).
 
-ghost use Rattle.std.proofs.Common.{rules};
-ghost use Rattle.std.specs.Prelude.{◌≡◌, ◌+◌, ◌≤◌, length, take, drop, MatchResult};
+ghost use Rattle.std.specs.Prelude.{◌≡◌, ◌+◌, ◌≤◌, length};
 ghost use Rattle.std.specs.Int.{w32};
-ghost use Rattle.nla_wire.specs.Fields.{numbers_from, IsShort};
+ghost use Rattle.nla_wire.specs.Fields.{numbers_from};
 ghost use Rattle.nla_wire.specs.Payloads.{filled};
-ghost use Rattle.nla_wire.specs.Gives.{without_place};
 ghost use Rattle.nla_wire.specs.Canon.{Filled, Closed};
-ghost use Rattle.link_recs.specs.StatsFields.{stats_size, stats_fields, stats_of, stats_bytes, stats_buffer_bytes, stats_listed, stats_decides};
+ghost use Rattle.nla_wire.specs.Records.{Parses};
+ghost use Rattle.link_recs.specs.declared.stats.TheConstants.{STATS_COUNT};
+ghost use Rattle.link_recs.specs.StatsFields.{stats_size, stats_fields, stats_of, stats_bytes, stats_listed, stats_decides, stats_laws};
 
 use crate::words::read_u32s;
-use nla_wire::fields::{put_u32s, too_short};
-use nla_wire::{DecodeError, Exact, canon_filled};
+use nla_wire::fields::put_u32s;
+use nla_wire::{DecodeError, Exact, PlainRecord, Record, RecordBuffer};
+
+/// The number of fields of a record.
+pub const STATS_COUNT: usize = 24;
 
 /// The number of bytes of a record.
-pub const STATS_SIZE: usize = 96;
+pub const STATS_SIZE: usize = 4 * STATS_COUNT;
 
 /// Counters of a link, 32 bits each (IFLA_STATS).
 ///
-/// Twenty-four numbers of four bytes each, lowest byte first, in the order of `struct
+/// `STATS_COUNT` numbers of four bytes each, lowest byte first, in the order of `struct
 /// rtnl_link_stats` in linux/if_link.h: field number `i`, counted from 0, stands at offset `4 * i`.
 /// Packets and errors are counted in frames, `rx_bytes` and `tx_bytes` in bytes.
 #[derive(Clone, Copy, Debug, Default, PartialEq, Eq)]
@@ -51,7 +54,7 @@ pub struct Stats {
 
 impl Stats {
     #[inline(always)]
-    fn from_words(words: [u32; 24]) -> Stats
+    fn from_words(words: [u32; STATS_COUNT]) -> Stats
         ensures { result ≡ stats_listed words }
     {
         Stats {
@@ -83,37 +86,8 @@ impl Stats {
     }
 
     #[inline(always)]
-    #[tactic(auto, using(crate::proofs::StatsLemmas::stats_of_table))]
-    fn read(payload: &[u8]) -> Stats
-        ensures { result ≡ stats_of payload.now }
-    {
-        let mut words = [0; 24];
-        read_u32s(payload, &mut words);
-        Stats::from_words(words)
-    }
-
-    /// Reads a record from the front of the payload, as if zeros followed it. Nothing is refused.
-    #[tactic(auto, using(crate::proofs::StatsLemmas::stats_table))]
-    pub fn read_padded(payload: &[u8]) -> Stats
-        ensures value { result ≡ stats_of payload.now }
-        ensures fields { stats_fields result ≡ numbers_from w32 payload.now 0 24 }
-    {
-        Stats::read(payload)
-    }
-
-    /// Reads a record from the front of the payload, as if zeros followed it. It never fails.
-    pub fn parse(payload: &[u8]) -> Result<Stats, DecodeError>
-        ensures means { MatchResult result
-            ((filled stats_of).means payload.now)
-            (λ e. (filled stats_of).bad payload.now e.cause) }
-        ensures reads { without_place result ≡ (filled stats_of).reads payload.now }
-    {
-        Ok(Stats::read_padded(payload))
-    }
-
-    #[inline(always)]
     #[tactic(auto, unfolding(crate::specs::StatsFields::stats_fields))]
-    fn words(&self) -> [u32; 24]
+    fn words(&self) -> [u32; STATS_COUNT]
         ensures { result ≡ stats_fields self.now }
     {
         [
@@ -143,43 +117,82 @@ impl Stats {
             self.rx_nohandler,
         ]
     }
+}
 
-    /// Writes the attribute of this kind whose value is the record that a payload means, the payload cut to 96 bytes or
-    /// filled up with zeros, to the front of the buffer, and answers its length. The rest of the buffer is kept.
-    #[tactic(auto, using(crate::proofs::StatsLemmas::stats_filled, nla_wire::proofs::Front::all_bytes))]
+impl Record<STATS_SIZE> for Stats {
+    ghost of = { stats_of };
+
+    ghost bytes = { stats_bytes };
+
+    #[inline(always)]
+    #[tactic(auto, using(crate::specs::StatsFields::stats_of_table))]
+    fn read(payload: &[u8]) -> Stats {
+        let mut words = [0; STATS_COUNT];
+        read_u32s(payload, &mut words);
+        Stats::from_words(words)
+    }
+
+    #[tactic(auto, unfolding(crate::specs::StatsFields::stats_bytes))]
+    fn write(&self, buffer: &mut [u8]) {
+        put_u32s(buffer, &self.words());
+    }
+
+    ghost laws = { stats_laws.laws };
+}
+
+impl PlainRecord<STATS_SIZE> for Stats {
+    ghost written = { stats_laws.plain };
+}
+
+impl Stats {
+    /// Reads a record from the front of the payload, as if zeros followed it. Nothing is refused.
+    #[tactic(auto, using(crate::specs::StatsFields::stats_table))]
+    pub fn read_padded(payload: &[u8]) -> Stats
+        ensures value { result ≡ stats_of payload.now }
+        ensures fields { stats_fields result ≡ numbers_from w32 payload.now 0 STATS_COUNT }
+    {
+        Stats::read(payload)
+    }
+
+    /// Reads a record from the front of the payload, as if zeros followed it. It never fails.
+    pub fn parse(payload: &[u8]) -> Result<Stats, DecodeError>
+        ensures { Parses (filled stats_of) payload.now result }
+    {
+        Stats::parse_filled(payload)
+    }
+
+    /// Writes the attribute of this kind whose value is the record that a payload means, the payload cut to
+    /// `STATS_SIZE` bytes or filled up with zeros, to the front of the buffer, and answers its length. The rest of the
+    /// buffer is kept.
     pub fn canon(kind: u16, payload: &[u8], out: &mut [u8]) -> Option<usize>
         requires room { 4 + stats_size ≤ length out.old }
         ensures { Closed kind (stats_bytes (stats_of payload.now)) out.old out.new result }
     {
-        canon_filled(kind, STATS_SIZE, payload, out)
+        Stats::canon_record(kind, payload, out)
     }
 
-    /// The number of bytes that `emit` writes, 96.
+    /// The number of bytes that `emit` writes, `STATS_SIZE`.
     pub fn buffer_len(&self) -> usize
         ensures { result ≡ stats_size }
     {
         STATS_SIZE
     }
 
-    /// Writes the record to a buffer of exactly 96 bytes.
-    #[tactic(auto, unfolding(crate::specs::StatsFields::stats_bytes))]
+    /// Writes the record to a buffer of exactly `STATS_SIZE` bytes.
     pub fn emit(&self, buffer: &mut [u8])
         requires { length buffer.old ≡ stats_size }
         ensures { buffer.new ≡ stats_bytes self.now }
     {
-        put_u32s(buffer, &self.words());
+        self.write(buffer);
     }
 
-    /// Writes the record to the end of a buffer of at least 96 bytes, keeps the bytes before it,
-    /// and answers where it starts.
-    #[tactic(auto, using(crate::proofs::StatsLemmas::length_stats_bytes))]
+    /// Writes the record to the end of a buffer of at least `STATS_SIZE` bytes, keeps the bytes before it, and answers
+    /// where it starts.
     pub fn fill(&self, buffer: &mut [u8]) -> usize
         requires { stats_size ≤ length buffer.old }
         ensures { Filled buffer.old buffer.new (stats_bytes self.now) result }
     {
-        let start = buffer.len() - STATS_SIZE;
-        self.emit(&mut buffer[start..]);
-        start
+        self.fill_back(buffer)
     }
 }
 
@@ -187,48 +200,5 @@ impl Exact for Stats {
     ghost decides = { stats_decides };
 }
 
-/// The 96 bytes of a record, `Stats`.
-#[derive(Clone, Copy, Debug, PartialEq, Eq)]
-pub struct StatsBuffer {
-    bytes: [u8; STATS_SIZE],
-}
-
-impl From<&Stats> for StatsBuffer {
-    ghost from_gives = { λ v b. stats_buffer_bytes b ≡ stats_bytes v.now };
-
-    fn from(value: &Stats) -> StatsBuffer {
-        let mut bytes = [0; STATS_SIZE];
-        value.emit(&mut bytes);
-        StatsBuffer { bytes }
-    }
-}
-
-impl StatsBuffer {
-    /// All of the bytes.
-    pub fn as_bytes(&self) -> &[u8]
-        ensures { result.now ≡ stats_buffer_bytes self.now }
-    {
-        &self.bytes
-    }
-
-    /// The first 96 bytes as they are, and the rest. Fewer bytes are refused with `TooShort`.
-    pub fn read_from_prefix(bytes: &[u8]) -> Result<(StatsBuffer, &[u8]), DecodeError>
-        ensures { MatchResult result
-            (λ v. (stats_size ≤ length bytes.now)
-            × (stats_buffer_bytes v.0 ≡ take stats_size bytes.now)
-            × (v.1.now ≡ drop stats_size bytes.now))
-            (IsShort bytes.now stats_size) }
-    {
-        if bytes.len() < STATS_SIZE {
-            return Err(too_short(bytes.len(), STATS_SIZE));
-        }
-        let (front, rest) = bytes.split_at(STATS_SIZE);
-        let mut bytes = [0; STATS_SIZE];
-        bytes.copy_from_slice(front);
-        Ok((StatsBuffer { bytes }, rest))
-    }
-}
-
-impl Exact for StatsBuffer {
-    ghost decides = { Prim.search rules };
-}
+/// The bytes of a record, `Stats`.
+pub type StatsBuffer = RecordBuffer<Stats, STATS_SIZE>;

@@ -1,24 +1,27 @@
 //! Counters of a link, 64 bits each (IFLA_STATS64).
 
-ghost use Rattle.std.proofs.Common.{rules};
-ghost use Rattle.std.specs.Prelude.{◌≡◌, ◌+◌, ◌≤◌, length, take, drop, MatchResult};
+ghost use Rattle.std.specs.Prelude.{◌≡◌, ◌+◌, ◌≤◌, length};
 ghost use Rattle.std.specs.Int.{w64};
-ghost use Rattle.nla_wire.specs.Fields.{numbers_from, IsShort};
+ghost use Rattle.nla_wire.specs.Fields.{numbers_from};
 ghost use Rattle.nla_wire.specs.Payloads.{filled};
-ghost use Rattle.nla_wire.specs.Gives.{without_place};
 ghost use Rattle.nla_wire.specs.Canon.{Filled, Closed};
-ghost use Rattle.link_recs.specs.Stats64Fields.{stats64_size, stats64_fields, stats64_of, stats64_bytes, stats64_buffer_bytes, stats64_listed, stats64_decides};
+ghost use Rattle.nla_wire.specs.Records.{Parses};
+ghost use Rattle.link_recs.specs.declared.stats64.TheConstants.{STATS64_COUNT};
+ghost use Rattle.link_recs.specs.Stats64Fields.{stats64_size, stats64_fields, stats64_of, stats64_bytes, stats64_listed, stats64_decides, stats64_laws};
 
 use crate::words::read_u64s;
-use nla_wire::fields::{put_u64s, too_short};
-use nla_wire::{DecodeError, Exact, canon_filled};
+use nla_wire::fields::put_u64s;
+use nla_wire::{DecodeError, Exact, PlainRecord, Record, RecordBuffer};
+
+/// The number of fields of a record.
+pub const STATS64_COUNT: usize = 25;
 
 /// The number of bytes of a record.
-pub const STATS64_SIZE: usize = 200;
+pub const STATS64_SIZE: usize = 8 * STATS64_COUNT;
 
 /// Counters of a link, 64 bits each (IFLA_STATS64).
 ///
-/// Twenty-five numbers of eight bytes each, lowest byte first, in the order of `struct
+/// `STATS64_COUNT` numbers of eight bytes each, lowest byte first, in the order of `struct
 /// rtnl_link_stats64` in linux/if_link.h: field number `i`, counted from 0, stands at offset `8 *
 /// i`. Packets and errors are counted in frames, `rx_bytes` and `tx_bytes` in bytes.
 #[derive(Clone, Copy, Debug, Default, PartialEq, Eq)]
@@ -52,7 +55,7 @@ pub struct Stats64 {
 
 impl Stats64 {
     #[inline(always)]
-    fn from_words(words: [u64; 25]) -> Stats64
+    fn from_words(words: [u64; STATS64_COUNT]) -> Stats64
         ensures { result ≡ stats64_listed words }
     {
         Stats64 {
@@ -85,37 +88,8 @@ impl Stats64 {
     }
 
     #[inline(always)]
-    #[tactic(auto, using(crate::proofs::Stats64Lemmas::stats64_of_table))]
-    fn read(payload: &[u8]) -> Stats64
-        ensures { result ≡ stats64_of payload.now }
-    {
-        let mut words = [0; 25];
-        read_u64s(payload, &mut words);
-        Stats64::from_words(words)
-    }
-
-    /// Reads a record from the front of the payload, as if zeros followed it. Nothing is refused.
-    #[tactic(auto, using(crate::proofs::Stats64Lemmas::stats64_table))]
-    pub fn read_padded(payload: &[u8]) -> Stats64
-        ensures value { result ≡ stats64_of payload.now }
-        ensures fields { stats64_fields result ≡ numbers_from w64 payload.now 0 25 }
-    {
-        Stats64::read(payload)
-    }
-
-    /// Reads a record from the front of the payload, as if zeros followed it. It never fails.
-    pub fn parse(payload: &[u8]) -> Result<Stats64, DecodeError>
-        ensures means { MatchResult result
-            ((filled stats64_of).means payload.now)
-            (λ e. (filled stats64_of).bad payload.now e.cause) }
-        ensures reads { without_place result ≡ (filled stats64_of).reads payload.now }
-    {
-        Ok(Stats64::read_padded(payload))
-    }
-
-    #[inline(always)]
     #[tactic(auto, unfolding(crate::specs::Stats64Fields::stats64_fields))]
-    fn words(&self) -> [u64; 25]
+    fn words(&self) -> [u64; STATS64_COUNT]
         ensures { result ≡ stats64_fields self.now }
     {
         [
@@ -146,43 +120,82 @@ impl Stats64 {
             self.rx_otherhost_dropped,
         ]
     }
+}
 
-    /// Writes the attribute of this kind whose value is the record that a payload means, the payload cut to 200 bytes or
-    /// filled up with zeros, to the front of the buffer, and answers its length. The rest of the buffer is kept.
-    #[tactic(auto, using(crate::proofs::Stats64Lemmas::stats64_filled, nla_wire::proofs::Front::all_bytes))]
+impl Record<STATS64_SIZE> for Stats64 {
+    ghost of = { stats64_of };
+
+    ghost bytes = { stats64_bytes };
+
+    #[inline(always)]
+    #[tactic(auto, using(crate::specs::Stats64Fields::stats64_of_table))]
+    fn read(payload: &[u8]) -> Stats64 {
+        let mut words = [0; STATS64_COUNT];
+        read_u64s(payload, &mut words);
+        Stats64::from_words(words)
+    }
+
+    #[tactic(auto, unfolding(crate::specs::Stats64Fields::stats64_bytes))]
+    fn write(&self, buffer: &mut [u8]) {
+        put_u64s(buffer, &self.words());
+    }
+
+    ghost laws = { stats64_laws.laws };
+}
+
+impl PlainRecord<STATS64_SIZE> for Stats64 {
+    ghost written = { stats64_laws.plain };
+}
+
+impl Stats64 {
+    /// Reads a record from the front of the payload, as if zeros followed it. Nothing is refused.
+    #[tactic(auto, using(crate::specs::Stats64Fields::stats64_table))]
+    pub fn read_padded(payload: &[u8]) -> Stats64
+        ensures value { result ≡ stats64_of payload.now }
+        ensures fields { stats64_fields result ≡ numbers_from w64 payload.now 0 STATS64_COUNT }
+    {
+        Stats64::read(payload)
+    }
+
+    /// Reads a record from the front of the payload, as if zeros followed it. It never fails.
+    pub fn parse(payload: &[u8]) -> Result<Stats64, DecodeError>
+        ensures { Parses (filled stats64_of) payload.now result }
+    {
+        Stats64::parse_filled(payload)
+    }
+
+    /// Writes the attribute of this kind whose value is the record that a payload means, the payload cut to
+    /// `STATS64_SIZE` bytes or filled up with zeros, to the front of the buffer, and answers its length. The rest of the
+    /// buffer is kept.
     pub fn canon(kind: u16, payload: &[u8], out: &mut [u8]) -> Option<usize>
         requires room { 4 + stats64_size ≤ length out.old }
         ensures { Closed kind (stats64_bytes (stats64_of payload.now)) out.old out.new result }
     {
-        canon_filled(kind, STATS64_SIZE, payload, out)
+        Stats64::canon_record(kind, payload, out)
     }
 
-    /// The number of bytes that `emit` writes, 200.
+    /// The number of bytes that `emit` writes, `STATS64_SIZE`.
     pub fn buffer_len(&self) -> usize
         ensures { result ≡ stats64_size }
     {
         STATS64_SIZE
     }
 
-    /// Writes the record to a buffer of exactly 200 bytes.
-    #[tactic(auto, unfolding(crate::specs::Stats64Fields::stats64_bytes))]
+    /// Writes the record to a buffer of exactly `STATS64_SIZE` bytes.
     pub fn emit(&self, buffer: &mut [u8])
         requires { length buffer.old ≡ stats64_size }
         ensures { buffer.new ≡ stats64_bytes self.now }
     {
-        put_u64s(buffer, &self.words());
+        self.write(buffer);
     }
 
-    /// Writes the record to the end of a buffer of at least 200 bytes, keeps the bytes before it,
-    /// and answers where it starts.
-    #[tactic(auto, using(crate::proofs::Stats64Lemmas::length_stats64_bytes))]
+    /// Writes the record to the end of a buffer of at least `STATS64_SIZE` bytes, keeps the bytes before it, and answers
+    /// where it starts.
     pub fn fill(&self, buffer: &mut [u8]) -> usize
         requires { stats64_size ≤ length buffer.old }
         ensures { Filled buffer.old buffer.new (stats64_bytes self.now) result }
     {
-        let start = buffer.len() - STATS64_SIZE;
-        self.emit(&mut buffer[start..]);
-        start
+        self.fill_back(buffer)
     }
 }
 
@@ -190,48 +203,5 @@ impl Exact for Stats64 {
     ghost decides = { stats64_decides };
 }
 
-/// The 200 bytes of a record, `Stats64`.
-#[derive(Clone, Copy, Debug, PartialEq, Eq)]
-pub struct Stats64Buffer {
-    bytes: [u8; STATS64_SIZE],
-}
-
-impl From<&Stats64> for Stats64Buffer {
-    ghost from_gives = { λ v b. stats64_buffer_bytes b ≡ stats64_bytes v.now };
-
-    fn from(value: &Stats64) -> Stats64Buffer {
-        let mut bytes = [0; STATS64_SIZE];
-        value.emit(&mut bytes);
-        Stats64Buffer { bytes }
-    }
-}
-
-impl Stats64Buffer {
-    /// All of the bytes.
-    pub fn as_bytes(&self) -> &[u8]
-        ensures { result.now ≡ stats64_buffer_bytes self.now }
-    {
-        &self.bytes
-    }
-
-    /// The first 200 bytes as they are, and the rest. Fewer bytes are refused with `TooShort`.
-    pub fn read_from_prefix(bytes: &[u8]) -> Result<(Stats64Buffer, &[u8]), DecodeError>
-        ensures { MatchResult result
-            (λ v. (stats64_size ≤ length bytes.now)
-            × (stats64_buffer_bytes v.0 ≡ take stats64_size bytes.now)
-            × (v.1.now ≡ drop stats64_size bytes.now))
-            (IsShort bytes.now stats64_size) }
-    {
-        if bytes.len() < STATS64_SIZE {
-            return Err(too_short(bytes.len(), STATS64_SIZE));
-        }
-        let (front, rest) = bytes.split_at(STATS64_SIZE);
-        let mut bytes = [0; STATS64_SIZE];
-        bytes.copy_from_slice(front);
-        Ok((Stats64Buffer { bytes }, rest))
-    }
-}
-
-impl Exact for Stats64Buffer {
-    ghost decides = { Prim.search rules };
-}
+/// The bytes of a record, `Stats64`.
+pub type Stats64Buffer = RecordBuffer<Stats64, STATS64_SIZE>;

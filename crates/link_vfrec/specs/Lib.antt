@@ -1,4 +1,3 @@
 pub mod Truth
-pub mod Laws
 pub mod Records
-pub mod Buffers
+pub mod Laws

@@ -1,16 +1,15 @@
 //! How the link of a virtual function follows that of its device (IFLA_VF_LINK_STATE).
 
 ghost use Rattle.std.proofs.Common.{rules};
-ghost use Rattle.std.specs.Prelude.{◌≡◌, ◌≤◌, length, take, drop, MatchResult};
-ghost use Rattle.nla_wire.specs.Fields.{IsShort};
+ghost use Rattle.std.specs.Prelude.{◌≡◌, length};
 ghost use Rattle.nla_wire.specs.Payloads.{sized};
-ghost use Rattle.nla_wire.specs.Gives.{without_place};
+ghost use Rattle.nla_wire.specs.Records.{Parses};
 ghost use Rattle.link_vfrec.specs.Records.{vf_info_link_state_size, vf_info_link_state_of, vf_info_link_state_bytes};
-ghost use Rattle.link_vfrec.specs.Buffers.{vf_info_link_state_buffer_bytes};
+ghost use Rattle.link_vfrec.specs.Laws.{vf_info_link_state_laws};
 
 use link_vals::VfLinkState;
-use nla_wire::fields::{put_u32, too_short, u32_at};
-use nla_wire::{DecodeError, Exact};
+use nla_wire::fields::{put_u32, u32_at};
+use nla_wire::{DecodeError, Exact, Record, RecordBuffer};
 
 /// The number of bytes of a record.
 pub const VF_INFO_LINK_STATE_SIZE: usize = 8;
@@ -25,6 +24,29 @@ pub struct VfInfoLinkState {
     pub state: VfLinkState,
 }
 
+impl Record<VF_INFO_LINK_STATE_SIZE> for VfInfoLinkState {
+    ghost of = { vf_info_link_state_of };
+
+    ghost bytes = { vf_info_link_state_bytes };
+
+    #[inline(always)]
+    #[tactic(auto, unfolding(crate::specs::Records::vf_info_link_state_of))]
+    fn read(payload: &[u8]) -> VfInfoLinkState {
+        VfInfoLinkState {
+            vf_id: u32_at(payload, 0),
+            state: VfLinkState::from(u32_at(payload, 4)),
+        }
+    }
+
+    #[tactic(auto, unfolding(crate::specs::Records::vf_info_link_state_bytes))]
+    fn write(&self, buffer: &mut [u8]) {
+        put_u32(buffer, 0, self.vf_id);
+        put_u32(buffer, 4, u32::from(self.state));
+    }
+
+    ghost laws = { vf_info_link_state_laws };
+}
+
 impl VfInfoLinkState {
     /// The record with these fields.
     pub fn new(vf_id: u32, state: VfLinkState) -> VfInfoLinkState
@@ -33,57 +55,27 @@ impl VfInfoLinkState {
         VfInfoLinkState { vf_id, state }
     }
 
-    #[inline(always)]
-    #[tactic(auto, unfolding(crate::specs::Records::vf_info_link_state_of))]
-    fn read(payload: &[u8]) -> VfInfoLinkState
-        requires { vf_info_link_state_size ≤ length payload.now }
-        ensures { result ≡ vf_info_link_state_of payload.now }
-    {
-        VfInfoLinkState {
-            vf_id: u32_at(payload, 0),
-            state: VfLinkState::from(u32_at(payload, 4)),
-        }
-    }
-
-    #[inline(always)]
-    #[tactic(auto, using(crate::proofs::Records::vf_info_link_state_front))]
-    fn read_front(payload: &[u8]) -> VfInfoLinkState
-        requires { vf_info_link_state_size ≤ length payload.now }
-        ensures { result ≡ vf_info_link_state_of payload.now }
-    {
-        VfInfoLinkState::read(&payload[..VF_INFO_LINK_STATE_SIZE])
-    }
-
-    /// Reads a record from the front of the payload. A payload of fewer than 8 bytes is refused
-    /// with `TooShort`.
-    #[tactic(auto, unfolding(nla_wire::specs::Payloads::read_sized))]
+    /// Reads a record from the front of the payload. A payload of fewer than `VF_INFO_LINK_STATE_SIZE` bytes is refused with
+    /// `TooShort`.
     pub fn parse(payload: &[u8]) -> Result<VfInfoLinkState, DecodeError>
-        ensures means { MatchResult result
-            ((sized vf_info_link_state_size vf_info_link_state_of).means payload.now)
-            (λ e. (sized vf_info_link_state_size vf_info_link_state_of).bad payload.now e.cause) }
-        ensures reads { without_place result ≡ (sized vf_info_link_state_size vf_info_link_state_of).reads payload.now }
+        ensures { Parses (sized vf_info_link_state_size vf_info_link_state_of) payload.now result }
     {
-        if payload.len() < VF_INFO_LINK_STATE_SIZE {
-            return Err(too_short(payload.len(), VF_INFO_LINK_STATE_SIZE));
-        }
-        Ok(VfInfoLinkState::read_front(payload))
+        VfInfoLinkState::parse_sized(payload)
     }
 
-    /// The number of bytes that `emit` writes, 8.
+    /// The number of bytes that `emit` writes, `VF_INFO_LINK_STATE_SIZE`.
     pub fn buffer_len(&self) -> usize
         ensures { result ≡ vf_info_link_state_size }
     {
         VF_INFO_LINK_STATE_SIZE
     }
 
-    /// Writes the record to a buffer of exactly 8 bytes.
-    #[tactic(auto, unfolding(crate::specs::Records::vf_info_link_state_bytes))]
+    /// Writes the record to a buffer of exactly `VF_INFO_LINK_STATE_SIZE` bytes.
     pub fn emit(&self, buffer: &mut [u8])
         requires { length buffer.old ≡ vf_info_link_state_size }
         ensures { buffer.new ≡ vf_info_link_state_bytes self.now }
     {
-        put_u32(buffer, 0, self.vf_id);
-        put_u32(buffer, 4, u32::from(self.state));
+        self.write(buffer);
     }
 }
 
@@ -91,48 +83,5 @@ impl Exact for VfInfoLinkState {
     ghost decides = { Prim.search rules };
 }
 
-/// The 8 bytes of a record, `VfInfoLinkState`.
-#[derive(Clone, Copy, Debug, PartialEq, Eq)]
-pub struct VfInfoLinkStateBuffer {
-    bytes: [u8; VF_INFO_LINK_STATE_SIZE],
-}
-
-impl From<&VfInfoLinkState> for VfInfoLinkStateBuffer {
-    ghost from_gives = { λ v b. vf_info_link_state_buffer_bytes b ≡ vf_info_link_state_bytes v.now };
-
-    fn from(value: &VfInfoLinkState) -> VfInfoLinkStateBuffer {
-        let mut bytes = [0; VF_INFO_LINK_STATE_SIZE];
-        value.emit(&mut bytes);
-        VfInfoLinkStateBuffer { bytes }
-    }
-}
-
-impl VfInfoLinkStateBuffer {
-    /// All of the bytes.
-    pub fn as_bytes(&self) -> &[u8]
-        ensures { result.now ≡ vf_info_link_state_buffer_bytes self.now }
-    {
-        &self.bytes
-    }
-
-    /// The first 8 bytes as they are and the rest. Fewer bytes are refused with `TooShort`.
-    pub fn read_from_prefix(bytes: &[u8]) -> Result<(VfInfoLinkStateBuffer, &[u8]), DecodeError>
-        ensures { MatchResult result
-            (λ v. (vf_info_link_state_size ≤ length bytes.now)
-            × (vf_info_link_state_buffer_bytes v.0 ≡ take vf_info_link_state_size bytes.now)
-            × (v.1.now ≡ drop vf_info_link_state_size bytes.now))
-            (IsShort bytes.now vf_info_link_state_size) }
-    {
-        if bytes.len() < VF_INFO_LINK_STATE_SIZE {
-            return Err(too_short(bytes.len(), VF_INFO_LINK_STATE_SIZE));
-        }
-        let (front, rest) = bytes.split_at(VF_INFO_LINK_STATE_SIZE);
-        let mut bytes = [0; VF_INFO_LINK_STATE_SIZE];
-        bytes.copy_from_slice(front);
-        Ok((VfInfoLinkStateBuffer { bytes }, rest))
-    }
-}
-
-impl Exact for VfInfoLinkStateBuffer {
-    ghost decides = { Prim.search rules };
-}
+/// The bytes of a record, `VfInfoLinkState`.
+pub type VfInfoLinkStateBuffer = RecordBuffer<VfInfoLinkState, VF_INFO_LINK_STATE_SIZE>;

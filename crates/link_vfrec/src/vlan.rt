@@ -1,15 +1,14 @@
 //! The vlan of a virtual function (IFLA_VF_VLAN).
 
 ghost use Rattle.std.proofs.Common.{rules};
-ghost use Rattle.std.specs.Prelude.{◌≡◌, ◌≤◌, length, take, drop, MatchResult};
-ghost use Rattle.nla_wire.specs.Fields.{IsShort};
+ghost use Rattle.std.specs.Prelude.{◌≡◌, length};
 ghost use Rattle.nla_wire.specs.Payloads.{sized};
-ghost use Rattle.nla_wire.specs.Gives.{without_place};
+ghost use Rattle.nla_wire.specs.Records.{Parses};
 ghost use Rattle.link_vfrec.specs.Records.{vf_info_vlan_size, vf_info_vlan_of, vf_info_vlan_bytes};
-ghost use Rattle.link_vfrec.specs.Buffers.{vf_info_vlan_buffer_bytes};
+ghost use Rattle.link_vfrec.specs.Laws.{vf_info_vlan_laws};
 
-use nla_wire::fields::{put_u32, too_short, u32_at};
-use nla_wire::{DecodeError, Exact};
+use nla_wire::fields::{put_u32, u32_at};
+use nla_wire::{DecodeError, Exact, Record, RecordBuffer};
 
 /// The number of bytes of a record.
 pub const VF_INFO_VLAN_SIZE: usize = 12;
@@ -25,6 +24,31 @@ pub struct VfInfoVlan {
     pub qos: u32,
 }
 
+impl Record<VF_INFO_VLAN_SIZE> for VfInfoVlan {
+    ghost of = { vf_info_vlan_of };
+
+    ghost bytes = { vf_info_vlan_bytes };
+
+    #[inline(always)]
+    #[tactic(auto, unfolding(crate::specs::Records::vf_info_vlan_of))]
+    fn read(payload: &[u8]) -> VfInfoVlan {
+        VfInfoVlan {
+            vf_id: u32_at(payload, 0),
+            vlan_id: u32_at(payload, 4),
+            qos: u32_at(payload, 8),
+        }
+    }
+
+    #[tactic(auto, unfolding(crate::specs::Records::vf_info_vlan_bytes))]
+    fn write(&self, buffer: &mut [u8]) {
+        put_u32(buffer, 0, self.vf_id);
+        put_u32(buffer, 4, self.vlan_id);
+        put_u32(buffer, 8, self.qos);
+    }
+
+    ghost laws = { vf_info_vlan_laws };
+}
+
 impl VfInfoVlan {
     /// The record with these fields.
     pub fn new(vf_id: u32, vlan_id: u32, qos: u32) -> VfInfoVlan
@@ -37,59 +61,27 @@ impl VfInfoVlan {
         }
     }
 
-    #[inline(always)]
-    #[tactic(auto, unfolding(crate::specs::Records::vf_info_vlan_of))]
-    fn read(payload: &[u8]) -> VfInfoVlan
-        requires { vf_info_vlan_size ≤ length payload.now }
-        ensures { result ≡ vf_info_vlan_of payload.now }
-    {
-        VfInfoVlan {
-            vf_id: u32_at(payload, 0),
-            vlan_id: u32_at(payload, 4),
-            qos: u32_at(payload, 8),
-        }
-    }
-
-    #[inline(always)]
-    #[tactic(auto, using(crate::proofs::Records::vf_info_vlan_front))]
-    fn read_front(payload: &[u8]) -> VfInfoVlan
-        requires { vf_info_vlan_size ≤ length payload.now }
-        ensures { result ≡ vf_info_vlan_of payload.now }
-    {
-        VfInfoVlan::read(&payload[..VF_INFO_VLAN_SIZE])
-    }
-
-    /// Reads a record from the front of the payload. A payload of fewer than 12 bytes is refused
-    /// with `TooShort`.
-    #[tactic(auto, unfolding(nla_wire::specs::Payloads::read_sized))]
+    /// Reads a record from the front of the payload. A payload of fewer than `VF_INFO_VLAN_SIZE` bytes is refused with
+    /// `TooShort`.
     pub fn parse(payload: &[u8]) -> Result<VfInfoVlan, DecodeError>
-        ensures means { MatchResult result
-            ((sized vf_info_vlan_size vf_info_vlan_of).means payload.now)
-            (λ e. (sized vf_info_vlan_size vf_info_vlan_of).bad payload.now e.cause) }
-        ensures reads { without_place result ≡ (sized vf_info_vlan_size vf_info_vlan_of).reads payload.now }
+        ensures { Parses (sized vf_info_vlan_size vf_info_vlan_of) payload.now result }
     {
-        if payload.len() < VF_INFO_VLAN_SIZE {
-            return Err(too_short(payload.len(), VF_INFO_VLAN_SIZE));
-        }
-        Ok(VfInfoVlan::read_front(payload))
+        VfInfoVlan::parse_sized(payload)
     }
 
-    /// The number of bytes that `emit` writes, 12.
+    /// The number of bytes that `emit` writes, `VF_INFO_VLAN_SIZE`.
     pub fn buffer_len(&self) -> usize
         ensures { result ≡ vf_info_vlan_size }
     {
         VF_INFO_VLAN_SIZE
     }
 
-    /// Writes the record to a buffer of exactly 12 bytes.
-    #[tactic(auto, unfolding(crate::specs::Records::vf_info_vlan_bytes))]
+    /// Writes the record to a buffer of exactly `VF_INFO_VLAN_SIZE` bytes.
     pub fn emit(&self, buffer: &mut [u8])
         requires { length buffer.old ≡ vf_info_vlan_size }
         ensures { buffer.new ≡ vf_info_vlan_bytes self.now }
     {
-        put_u32(buffer, 0, self.vf_id);
-        put_u32(buffer, 4, self.vlan_id);
-        put_u32(buffer, 8, self.qos);
+        self.write(buffer);
     }
 }
 
@@ -97,48 +89,5 @@ impl Exact for VfInfoVlan {
     ghost decides = { Prim.search rules };
 }
 
-/// The 12 bytes of a record, `VfInfoVlan`.
-#[derive(Clone, Copy, Debug, PartialEq, Eq)]
-pub struct VfInfoVlanBuffer {
-    bytes: [u8; VF_INFO_VLAN_SIZE],
-}
-
-impl From<&VfInfoVlan> for VfInfoVlanBuffer {
-    ghost from_gives = { λ v b. vf_info_vlan_buffer_bytes b ≡ vf_info_vlan_bytes v.now };
-
-    fn from(value: &VfInfoVlan) -> VfInfoVlanBuffer {
-        let mut bytes = [0; VF_INFO_VLAN_SIZE];
-        value.emit(&mut bytes);
-        VfInfoVlanBuffer { bytes }
-    }
-}
-
-impl VfInfoVlanBuffer {
-    /// All of the bytes.
-    pub fn as_bytes(&self) -> &[u8]
-        ensures { result.now ≡ vf_info_vlan_buffer_bytes self.now }
-    {
-        &self.bytes
-    }
-
-    /// The first 12 bytes as they are and the rest. Fewer bytes are refused with `TooShort`.
-    pub fn read_from_prefix(bytes: &[u8]) -> Result<(VfInfoVlanBuffer, &[u8]), DecodeError>
-        ensures { MatchResult result
-            (λ v. (vf_info_vlan_size ≤ length bytes.now)
-            × (vf_info_vlan_buffer_bytes v.0 ≡ take vf_info_vlan_size bytes.now)
-            × (v.1.now ≡ drop vf_info_vlan_size bytes.now))
-            (IsShort bytes.now vf_info_vlan_size) }
-    {
-        if bytes.len() < VF_INFO_VLAN_SIZE {
-            return Err(too_short(bytes.len(), VF_INFO_VLAN_SIZE));
-        }
-        let (front, rest) = bytes.split_at(VF_INFO_VLAN_SIZE);
-        let mut bytes = [0; VF_INFO_VLAN_SIZE];
-        bytes.copy_from_slice(front);
-        Ok((VfInfoVlanBuffer { bytes }, rest))
-    }
-}
-
-impl Exact for VfInfoVlanBuffer {
-    ghost decides = { Prim.search rules };
-}
+/// The bytes of a record, `VfInfoVlan`.
+pub type VfInfoVlanBuffer = RecordBuffer<VfInfoVlan, VF_INFO_VLAN_SIZE>;
