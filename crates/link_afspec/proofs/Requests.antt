@@ -8,6 +8,7 @@ use Rattle.nla_wire.specs.Canon.{canon}
 use Rattle.nla_wire.proofs.Bounds.{length-canon}
 use Rattle.nla_wire.proofs.FieldLemmas.{length-to_le_bytes}
 use Rattle.link_recs.specs.InetDevConfFields.{inet_dev_conf_fields}
+use Rattle.link_recs.specs.declared.inet.TheConstants.{INET_DEV_CONF_COUNT}
 use Rattle.link_recs.specs.declared.inet.InetDevConf.{InetDevConf}
 use Rattle.link_afspec.specs.Requests.{Setting, numbered, settings_of, setting_frame, setting_text, settings_text, request_text}
 
@@ -25,12 +26,12 @@ numbered_from n (z ∷ zs) (suc i) h =
     ∙ ap (λ k. record { number = k; value = get_or zs i (pos 0) } ∷ drop (i + 1) (numbered (n + 1) zs)) number
     ∙ ap (λ k. record { number = n + suc i; value = get_or zs i (pos 0) } ∷ drop k (numbered n (z ∷ zs))) behind
 
-fields_count : (conf : InetDevConf) → length (inet_dev_conf_fields conf) ≡ 33
+fields_count : (conf : InetDevConf) → length (inet_dev_conf_fields conf) ≡ INET_DEV_CONF_COUNT
 unfolding inet_dev_conf_fields
 fields_count conf = refl
 
 -- the text from the setting k on begins with that setting's
-pub request_from : (conf : InetDevConf) (k : ℕ) (z : ℤ) → 0 < k → k ≤ 33 → z ≡ get_or (inet_dev_conf_fields conf) (k - 1) (pos 0)
+pub request_from : (conf : InetDevConf) (k : ℕ) (z : ℤ) → 0 < k → k ≤ INET_DEV_CONF_COUNT → z ≡ get_or (inet_dev_conf_fields conf) (k - 1) (pos 0)
     → settings_text (drop (k - 1) (settings_of conf)) ≡ setting_text (record { number = k; value = z }) ++ settings_text (drop k (settings_of conf))
 request_from conf k z some few is =
     let zs = inet_dev_conf_fields conf in
@@ -42,7 +43,7 @@ request_from conf k z some few is =
     ∙ ap (λ i. setting_text (record { number = k; value = z }) ++ settings_text (drop i (settings_of conf))) behind
 
 -- nothing stands behind the last setting
-pub request_end : (conf : InetDevConf) → settings_text (drop 33 (settings_of conf)) ≡ []
+pub request_end : (conf : InetDevConf) → settings_text (drop INET_DEV_CONF_COUNT (settings_of conf)) ≡ []
 unfolding inet_dev_conf_fields
 request_end conf = refl
 
@@ -61,7 +62,7 @@ texts_short n (z ∷ zs) =
     omega (arith, length-append (setting_text s) (settings_text (numbered (n + 1) zs)), text_if s (int_eq z (pos 0)), texts_short (n + 1) zs)
 
 -- a request is short
-pub request_bound : (conf : InetDevConf) → length (request_text conf) ≤ 264
+pub request_bound : (conf : InetDevConf) → length (request_text conf) ≤ 8 * INET_DEV_CONF_COUNT
 unfolding request_text
 request_bound conf = omega (arith, texts_short 1 (inet_dev_conf_fields conf), fields_count conf)
 

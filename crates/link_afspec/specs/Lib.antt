@@ -1,6 +1,4 @@
 pub mod Requests
-pub mod Values
-pub mod Places
 pub mod Same
-pub mod Laws
+pub mod Tables
 pub mod PlaceLaws

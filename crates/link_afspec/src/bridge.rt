@@ -1,6 +1,8 @@
 //! Settings of bridges, members of IFLA_AF_SPEC of the family AF_BRIDGE, which are kept undecoded.
 
-use nla_wire::{CloneIn, DecodeError, DefaultNla, Exact, Nla, NlaBuffer, NlaRead, canon_bytes};
+use nla_wire::{
+    CloneIn, Content, DecodeError, DefaultNla, Exact, Flat, Nla, NlaBuffer, NlaRead, canon_bytes,
+};
 use std::alloc::Global;
 
 /// A member of IFLA_AF_SPEC of the family AF_BRIDGE (linux/if_bridge.h), kept as it is.
@@ -10,62 +12,51 @@ pub enum AfSpecBridge {
     Other(DefaultNla),
 }
 
-impl Nla for AfSpecBridge {
-    ghost use Rattle.link_afspec.specs.Values.{af_spec_bridge_frame, AfSpecBridgeFits};
+#[tactic(auto, unfolding(crate::specs::Tables::af_spec_bridge_place))]
+impl Flat for AfSpecBridge {
+    ghost use Rattle.link_afspec.specs.Tables.{af_spec_bridge_place, af_spec_bridge_small};
 
-    ghost frame = { af_spec_bridge_frame };
+    ghost frame = { af_spec_bridge_place.frame };
 
-    ghost fits = { AfSpecBridgeFits };
+    ghost fits = { af_spec_bridge_place.Fits };
 
-    ghost is_small = { λ x h. h };
+    ghost is_small = { af_spec_bridge_place.is_small };
 
-    fn kind(&self) -> u16 {
+    ghost when_small = { af_spec_bridge_small };
+
+    #[inline]
+    fn view(&self) -> (u16, Content<'_>) {
         let AfSpecBridge::Other(nla) = self;
-        nla.kind()
-    }
-
-    fn fits(&self) -> bool {
-        let AfSpecBridge::Other(nla) = self;
-        nla.fits()
-    }
-
-    fn value_len(&self) -> usize {
-        let AfSpecBridge::Other(nla) = self;
-        nla.value_len()
-    }
-
-    fn fill_value(&self, buffer: &mut [u8]) -> usize {
-        let AfSpecBridge::Other(nla) = self;
-        nla.fill_value(buffer)
+        (nla.kind(), Content::Bytes(nla.value()))
     }
 }
 
 impl NlaRead for AfSpecBridge {
-    ghost use Rattle.link_afspec.specs.Places.{af_spec_bridge_place};
-    ghost use Rattle.link_afspec.specs.Laws.{af_spec_bridge_lawful, af_spec_bridge_bounded};
+    ghost use Rattle.nla_wire.proofs.Codec.{place_bounded};
+    ghost use Rattle.link_afspec.specs.Tables.{af_spec_bridge_place};
 
-    ghost grammar = { af_spec_bridge_place };
+    ghost grammar = { af_spec_bridge_place.grammar };
 
-    #[tactic(auto, unfolding(crate::specs::Places::af_spec_bridge_place))]
+    #[tactic(auto, unfolding(crate::specs::Tables::af_spec_bridge_place))]
     fn parse(alloc: Global, buffer: &NlaBuffer<'_>) -> Result<AfSpecBridge, DecodeError> {
         DefaultNla::parse(alloc, buffer).map(AfSpecBridge::Other)
     }
 
-    #[tactic(auto, unfolding(crate::specs::Places::af_spec_bridge_place))]
+    #[tactic(auto, unfolding(crate::specs::Tables::af_spec_bridge_place))]
     fn check(_buffer: &NlaBuffer<'_>) -> Result<(), DecodeError> {
         Ok(())
     }
 
-    #[tactic(auto, unfolding(crate::specs::Places::af_spec_bridge_place))]
+    #[tactic(auto, unfolding(crate::specs::Tables::af_spec_bridge_place))]
     fn canon(buffer: &NlaBuffer<'_>, out: &mut [u8]) -> Option<usize> {
         canon_bytes(buffer.kind_with_flags(), buffer.value(), out)
     }
 
-    ghost agrees = { af_spec_bridge_lawful.agrees };
+    ghost agrees = { af_spec_bridge_place.lawful.agrees };
 
-    ghost no_memory = { af_spec_bridge_lawful.no_memory };
+    ghost no_memory = { af_spec_bridge_place.lawful.no_memory };
 
-    ghost bounded = { af_spec_bridge_bounded };
+    ghost bounded = { place_bounded af_spec_bridge_place };
 }
 
 impl CloneIn for AfSpecBridge {

@@ -1,7 +1,8 @@
 //! Settings of IPv4 on a link, members of AF_INET in IFLA_AF_SPEC.
 
-ghost use Rattle.link_afspec.specs.Values.{af_spec_inet_frame, AfSpecInetFits};
+ghost use Rattle.link_afspec.specs.Tables.{af_spec_inet_place};
 
+use crate::numbers::IFLA_INET_CONF;
 use crate::request::{fill_request, request_len};
 use link_recs::InetDevConf;
 use nla_wire::{
@@ -12,41 +13,39 @@ use std::alloc::Global;
 /// A member of AF_INET in IFLA_AF_SPEC (linux/if_link.h).
 #[derive(Debug, Drop, PartialEq, Eq)]
 pub enum AfSpecInet {
-    /// IFLA_INET_CONF, 1: all settings, a record of 132 bytes, as the kernel tells them. A shorter one is filled up with
+    /// IFLA_INET_CONF: all settings, a record of INET_DEV_CONF_SIZE bytes, as the kernel tells them. A shorter one is filled up with
     /// zeros.
     DevConf(InetDevConf),
-    /// IFLA_INET_CONF, 1 and nested: an attribute of four bytes for each setting that is not zero, as the kernel is asked to
+    /// IFLA_INET_CONF and nested: an attribute of four bytes for each setting that is not zero, as the kernel is asked to
     /// change them. It is written only: no bytes are read as it.
     DevConfRequest(InetDevConf),
     /// A number that is not listed here.
     Other(DefaultNla),
 }
 
+#[tactic(auto, unfolding(crate::specs::Tables::af_spec_inet_place), using(link_recs::proofs::InetDevConfLemmas::length_inet_dev_conf_bytes, crate::proofs::Requests::request_short))]
 impl Nla for AfSpecInet {
-    ghost frame = { af_spec_inet_frame };
+    ghost frame = { af_spec_inet_place.frame };
 
-    ghost fits = { AfSpecInetFits };
+    ghost fits = { af_spec_inet_place.Fits };
 
-    ghost is_small = { λ x h. h };
+    ghost is_small = { af_spec_inet_place.is_small };
 
     fn kind(&self) -> u16 {
         match self {
-            AfSpecInet::DevConf(_) => 1,
-            AfSpecInet::DevConfRequest(_) => 1 | NLA_F_NESTED,
+            AfSpecInet::DevConf(_) => IFLA_INET_CONF,
+            AfSpecInet::DevConfRequest(_) => IFLA_INET_CONF | NLA_F_NESTED,
             AfSpecInet::Other(nla) => nla.kind(),
         }
     }
 
-    #[tactic(auto, using(link_recs::proofs::InetDevConfLemmas::length_inet_dev_conf_bytes, crate::proofs::Requests::request_short))]
     fn fits(&self) -> bool {
         match self {
-            AfSpecInet::DevConf(_) => true,
-            AfSpecInet::DevConfRequest(_) => true,
             AfSpecInet::Other(nla) => nla.fits(),
+            _ => true,
         }
     }
 
-    #[tactic(auto, using(link_recs::proofs::InetDevConfLemmas::length_inet_dev_conf_bytes))]
     fn value_len(&self) -> usize {
         match self {
             AfSpecInet::DevConf(conf) => conf.buffer_len(),
@@ -55,7 +54,6 @@ impl Nla for AfSpecInet {
         }
     }
 
-    #[tactic(auto, using(link_recs::proofs::InetDevConfLemmas::length_inet_dev_conf_bytes))]
     fn fill_value(&self, buffer: &mut [u8]) -> usize {
         match self {
             AfSpecInet::DevConf(conf) => conf.fill(buffer),
@@ -66,37 +64,36 @@ impl Nla for AfSpecInet {
 }
 
 impl NlaRead for AfSpecInet {
-    ghost use Rattle.link_afspec.specs.Places.{af_spec_inet_place};
-    ghost use Rattle.link_afspec.specs.Laws.{af_spec_inet_lawful, af_spec_inet_bounded};
+    ghost use Rattle.nla_wire.proofs.Codec.{place_bounded};
 
-    ghost grammar = { af_spec_inet_place };
+    ghost grammar = { af_spec_inet_place.grammar };
 
-    #[tactic(auto, unfolding(crate::specs::Places::af_spec_inet_place))]
+    #[tactic(auto, unfolding(crate::specs::Tables::af_spec_inet_place))]
     fn parse(alloc: Global, buffer: &NlaBuffer<'_>) -> Result<AfSpecInet, DecodeError> {
         match buffer.kind() {
-            1 => Ok(AfSpecInet::DevConf(InetDevConf::read_padded(buffer.value()))),
+            IFLA_INET_CONF => Ok(AfSpecInet::DevConf(InetDevConf::read_padded(buffer.value()))),
             _ => DefaultNla::parse(alloc, buffer).map(AfSpecInet::Other),
         }
     }
 
-    #[tactic(auto, unfolding(crate::specs::Places::af_spec_inet_place))]
+    #[tactic(auto, unfolding(crate::specs::Tables::af_spec_inet_place))]
     fn check(_buffer: &NlaBuffer<'_>) -> Result<(), DecodeError> {
         Ok(())
     }
 
-    #[tactic(auto, unfolding(crate::specs::Places::af_spec_inet_place))]
+    #[tactic(auto, unfolding(crate::specs::Tables::af_spec_inet_place))]
     fn canon(buffer: &NlaBuffer<'_>, out: &mut [u8]) -> Option<usize> {
         match buffer.kind() {
-            1 => InetDevConf::canon(1, buffer.value(), out),
+            IFLA_INET_CONF => InetDevConf::canon(IFLA_INET_CONF, buffer.value(), out),
             _ => canon_bytes(buffer.kind_with_flags(), buffer.value(), out),
         }
     }
 
-    ghost agrees = { af_spec_inet_lawful.agrees };
+    ghost agrees = { af_spec_inet_place.lawful.agrees };
 
-    ghost no_memory = { af_spec_inet_lawful.no_memory };
+    ghost no_memory = { af_spec_inet_place.lawful.no_memory };
 
-    ghost bounded = { af_spec_inet_bounded };
+    ghost bounded = { place_bounded af_spec_inet_place };
 }
 
 impl CloneIn for AfSpecInet {
@@ -110,10 +107,14 @@ impl CloneIn for AfSpecInet {
 }
 
 impl Exact for AfSpecInet {
-    ghost use Rattle.nla_wire.specs.Decided.{by_exact, one_field};
+    ghost use Rattle.nla_wire.specs.Decided.{◌&◌, by_exact};
     ghost use Rattle.nla_wire.specs.Same.{same_frame-Decides};
     ghost use Rattle.link_recs.specs.InetDevConfFields.{inet_dev_conf_decides};
     ghost use Rattle.link_afspec.specs.contracts.inet.AfSpecInet.{enum};
 
-    ghost decides = { by_exact enum _ (one_field inet_dev_conf_decides, (one_field inet_dev_conf_decides, (one_field same_frame-Decides, tt))) };
+    ghost decides = { by_exact enum _ (
+        inet_dev_conf_decides
+        & inet_dev_conf_decides
+        & same_frame-Decides
+        & tt) };
 }

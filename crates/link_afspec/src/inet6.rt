@@ -2,11 +2,15 @@
 
 ghost use Rattle.std.specs.Prelude.{◌≡◌};
 ghost use Rattle.nla_wire.specs.Gives.{without_place};
-ghost use Rattle.link_afspec.specs.Values.{af_spec_inet6_frame, AfSpecInet6Fits};
-ghost use Rattle.link_afspec.specs.Places.{iface_flags, addr_gen_mode, af_spec_inet6_place};
+ghost use Rattle.link_afspec.specs.Tables.{iface_flags, addr_gen_mode, af_spec_inet6_place};
 
+use crate::numbers::{
+    IFLA_INET6_ADDR_GEN_MODE, IFLA_INET6_CACHEINFO, IFLA_INET6_CONF, IFLA_INET6_FLAGS,
+    IFLA_INET6_ICMP6STATS, IFLA_INET6_RA_MTU, IFLA_INET6_STATS, IFLA_INET6_TOKEN,
+};
 use link_recs::{Icmp6Stats, Inet6CacheInfo, Inet6DevConf, Inet6Stats};
 use link_vals::{In6AddrGenMode, Inet6IfaceFlags};
+use nla_wire::error::checked;
 use nla_wire::{
     CloneIn, DecodeError, DefaultNla, Exact, Nla, NlaBuffer, NlaRead, canon_bytes, canon_ipv6_addr,
     canon_u8, canon_u32, fill_bytes, parse_ipv6_addr, parse_u8, parse_u32,
@@ -17,78 +21,69 @@ use std::net::Ipv6Addr;
 /// A member of AF_INET6 in IFLA_AF_SPEC (linux/if_link.h).
 #[derive(Debug, Drop, PartialEq, Eq)]
 pub enum AfSpecInet6 {
-    /// IFLA_INET6_FLAGS, 1: flags of the interface, four bytes, of which every bit is kept.
+    /// IFLA_INET6_FLAGS: flags of the interface, four bytes, of which every bit is kept.
     Flags(Inet6IfaceFlags),
-    /// IFLA_INET6_CACHEINFO, 5: times of the neighbour cache, a record of 16 bytes. A shorter one is refused.
+    /// IFLA_INET6_CACHEINFO: times of the neighbour cache, a record of INET6_CACHE_INFO_SIZE bytes. A shorter one is refused.
     CacheInfo(Inet6CacheInfo),
-    /// IFLA_INET6_CONF, 2: all settings, a record of 240 bytes. A shorter one is filled up with zeros.
+    /// IFLA_INET6_CONF: all settings, a record of INET6_DEV_CONF_SIZE bytes. A shorter one is filled up with zeros.
     DevConf(Inet6DevConf),
-    /// IFLA_INET6_STATS, 3: statistics, a record of 304 bytes. A shorter one is filled up with zeros.
+    /// IFLA_INET6_STATS: statistics, a record of INET6_STATS_SIZE bytes. A shorter one is filled up with zeros.
     Stats(Inet6Stats),
-    /// IFLA_INET6_ICMP6STATS, 6: statistics of ICMPv6, a record of 56 bytes. A shorter one is filled up with zeros.
+    /// IFLA_INET6_ICMP6STATS: statistics of ICMPv6, a record of ICMP6_STATS_SIZE bytes. A shorter one is filled up with zeros.
     Icmp6Stats(Icmp6Stats),
-    /// IFLA_INET6_TOKEN, 7: an address, its sixteen octets in order.
+    /// IFLA_INET6_TOKEN: an address, its sixteen octets in order.
     Token(Ipv6Addr),
-    /// IFLA_INET6_ADDR_GEN_MODE, 8: how addresses are made, one byte.
+    /// IFLA_INET6_ADDR_GEN_MODE: how addresses are made, one byte.
     AddrGenMode(In6AddrGenMode),
-    /// IFLA_INET6_RA_MTU, 9: the largest packet that a router advertised, in bytes, a number of four bytes.
+    /// IFLA_INET6_RA_MTU: the largest packet that a router advertised, in bytes, a number of four bytes.
     RaMtu(u32),
     /// A number that is not listed here.
     Other(DefaultNla),
 }
 
+#[tactic(auto, unfolding(crate::specs::Tables::af_spec_inet6_place), using(link_recs::proofs::Inet6DevConfLemmas::length_inet6_dev_conf_bytes, link_recs::proofs::Inet6StatsLemmas::length_inet6_stats_bytes, link_recs::proofs::Icmp6StatsLemmas::length_icmp6_stats_bytes, link_recs::proofs::Inet6CacheInfoLemmas::length_inet6_cache_info_bytes))]
 impl Nla for AfSpecInet6 {
-    ghost frame = { af_spec_inet6_frame };
+    ghost frame = { af_spec_inet6_place.frame };
 
-    ghost fits = { AfSpecInet6Fits };
+    ghost fits = { af_spec_inet6_place.Fits };
 
-    ghost is_small = { λ x h. h };
+    ghost is_small = { af_spec_inet6_place.is_small };
 
     fn kind(&self) -> u16 {
         match self {
-            AfSpecInet6::Flags(_) => 1,
-            AfSpecInet6::CacheInfo(_) => 5,
-            AfSpecInet6::DevConf(_) => 2,
-            AfSpecInet6::Stats(_) => 3,
-            AfSpecInet6::Icmp6Stats(_) => 6,
-            AfSpecInet6::Token(_) => 7,
-            AfSpecInet6::AddrGenMode(_) => 8,
-            AfSpecInet6::RaMtu(_) => 9,
+            AfSpecInet6::Flags(_) => IFLA_INET6_FLAGS,
+            AfSpecInet6::CacheInfo(_) => IFLA_INET6_CACHEINFO,
+            AfSpecInet6::DevConf(_) => IFLA_INET6_CONF,
+            AfSpecInet6::Stats(_) => IFLA_INET6_STATS,
+            AfSpecInet6::Icmp6Stats(_) => IFLA_INET6_ICMP6STATS,
+            AfSpecInet6::Token(_) => IFLA_INET6_TOKEN,
+            AfSpecInet6::AddrGenMode(_) => IFLA_INET6_ADDR_GEN_MODE,
+            AfSpecInet6::RaMtu(_) => IFLA_INET6_RA_MTU,
             AfSpecInet6::Other(nla) => nla.kind(),
         }
     }
 
-    #[tactic(auto, using(link_recs::proofs::Inet6DevConfLemmas::length_inet6_dev_conf_bytes, link_recs::proofs::Inet6StatsLemmas::length_inet6_stats_bytes, link_recs::proofs::Icmp6StatsLemmas::length_icmp6_stats_bytes, link_recs::proofs::Inet6CacheInfoLemmas::length_inet6_cache_info_bytes))]
     fn fits(&self) -> bool {
         match self {
-            AfSpecInet6::Flags(_) => true,
-            AfSpecInet6::CacheInfo(_) => true,
-            AfSpecInet6::DevConf(_) => true,
-            AfSpecInet6::Stats(_) => true,
-            AfSpecInet6::Icmp6Stats(_) => true,
             AfSpecInet6::Token(token) => token.octets().len() <= 65531,
-            AfSpecInet6::AddrGenMode(_) => true,
-            AfSpecInet6::RaMtu(_) => true,
             AfSpecInet6::Other(nla) => nla.fits(),
+            _ => true,
         }
     }
 
-    #[tactic(auto, using(link_recs::proofs::Inet6DevConfLemmas::length_inet6_dev_conf_bytes, link_recs::proofs::Inet6StatsLemmas::length_inet6_stats_bytes, link_recs::proofs::Icmp6StatsLemmas::length_icmp6_stats_bytes, link_recs::proofs::Inet6CacheInfoLemmas::length_inet6_cache_info_bytes))]
     fn value_len(&self) -> usize {
         match self {
-            AfSpecInet6::Flags(_) => 4,
+            AfSpecInet6::Flags(_) | AfSpecInet6::RaMtu(_) => 4,
             AfSpecInet6::CacheInfo(info) => info.buffer_len(),
             AfSpecInet6::DevConf(conf) => conf.buffer_len(),
             AfSpecInet6::Stats(stats) => stats.buffer_len(),
             AfSpecInet6::Icmp6Stats(stats) => stats.buffer_len(),
             AfSpecInet6::Token(token) => token.octets().len(),
             AfSpecInet6::AddrGenMode(_) => 1,
-            AfSpecInet6::RaMtu(_) => 4,
             AfSpecInet6::Other(nla) => nla.value_len(),
         }
     }
 
-    #[tactic(auto, using(link_recs::proofs::Inet6DevConfLemmas::length_inet6_dev_conf_bytes, link_recs::proofs::Inet6StatsLemmas::length_inet6_stats_bytes, link_recs::proofs::Icmp6StatsLemmas::length_icmp6_stats_bytes, link_recs::proofs::Inet6CacheInfoLemmas::length_inet6_cache_info_bytes))]
     fn fill_value(&self, buffer: &mut [u8]) -> usize {
         match self {
             AfSpecInet6::Flags(flags) => fill_bytes(buffer, &flags.bits().to_le_bytes()),
@@ -106,72 +101,72 @@ impl Nla for AfSpecInet6 {
 
 /// Flags of an interface, four bytes.
 fn parse_flags(payload: &[u8]) -> Result<Inet6IfaceFlags, DecodeError>
-    ensures { without_place result ≡ iface_flags.reads payload.now }
+    ensures { without_place result ≡ iface_flags.grammar.reads payload.now }
 {
     parse_u32(payload).map(Inet6IfaceFlags::from_bits_retain)
 }
 
 /// How addresses are made, one byte.
 fn parse_mode(payload: &[u8]) -> Result<In6AddrGenMode, DecodeError>
-    ensures { without_place result ≡ addr_gen_mode.reads payload.now }
+    ensures { without_place result ≡ addr_gen_mode.grammar.reads payload.now }
 {
     parse_u8(payload).map(In6AddrGenMode::from)
 }
 
 impl NlaRead for AfSpecInet6 {
-    ghost use Rattle.link_afspec.specs.Laws.{af_spec_inet6_lawful, af_spec_inet6_bounded};
+    ghost use Rattle.nla_wire.proofs.Codec.{place_bounded};
 
-    ghost grammar = { af_spec_inet6_place };
+    ghost grammar = { af_spec_inet6_place.grammar };
 
-    #[tactic(auto, unfolding(crate::specs::Places::af_spec_inet6_place))]
+    #[tactic(auto, unfolding(crate::specs::Tables::af_spec_inet6_place))]
     fn parse(alloc: Global, buffer: &NlaBuffer<'_>) -> Result<AfSpecInet6, DecodeError> {
         let payload = buffer.value();
         match buffer.kind() {
-            1 => Ok(AfSpecInet6::Flags(parse_flags(payload)?)),
-            2 => Ok(AfSpecInet6::DevConf(Inet6DevConf::read_padded(payload))),
-            3 => Ok(AfSpecInet6::Stats(Inet6Stats::read_padded(payload))),
-            5 => Ok(AfSpecInet6::CacheInfo(Inet6CacheInfo::parse(payload)?)),
-            6 => Ok(AfSpecInet6::Icmp6Stats(Icmp6Stats::read_padded(payload))),
-            7 => Ok(AfSpecInet6::Token(parse_ipv6_addr(payload)?)),
-            8 => Ok(AfSpecInet6::AddrGenMode(parse_mode(payload)?)),
-            9 => Ok(AfSpecInet6::RaMtu(parse_u32(payload)?)),
+            IFLA_INET6_FLAGS => Ok(AfSpecInet6::Flags(parse_flags(payload)?)),
+            IFLA_INET6_CONF => Ok(AfSpecInet6::DevConf(Inet6DevConf::read_padded(payload))),
+            IFLA_INET6_STATS => Ok(AfSpecInet6::Stats(Inet6Stats::read_padded(payload))),
+            IFLA_INET6_CACHEINFO => Ok(AfSpecInet6::CacheInfo(Inet6CacheInfo::parse(payload)?)),
+            IFLA_INET6_ICMP6STATS => Ok(AfSpecInet6::Icmp6Stats(Icmp6Stats::read_padded(payload))),
+            IFLA_INET6_TOKEN => Ok(AfSpecInet6::Token(parse_ipv6_addr(payload)?)),
+            IFLA_INET6_ADDR_GEN_MODE => Ok(AfSpecInet6::AddrGenMode(parse_mode(payload)?)),
+            IFLA_INET6_RA_MTU => Ok(AfSpecInet6::RaMtu(parse_u32(payload)?)),
             _ => Ok(AfSpecInet6::Other(DefaultNla::parse(alloc, buffer)?)),
         }
     }
 
-    #[tactic(auto, unfolding(crate::specs::Places::af_spec_inet6_place))]
+    #[tactic(auto, unfolding(crate::specs::Tables::af_spec_inet6_place))]
     fn check(buffer: &NlaBuffer<'_>) -> Result<(), DecodeError> {
         let payload = buffer.value();
         match buffer.kind() {
-            1 | 9 => parse_u32(payload).map(|_| ()),
-            5 => Inet6CacheInfo::parse(payload).map(|_| ()),
-            7 => parse_ipv6_addr(payload).map(|_| ()),
-            8 => parse_u8(payload).map(|_| ()),
+            IFLA_INET6_FLAGS | IFLA_INET6_RA_MTU => checked(parse_u32(payload)),
+            IFLA_INET6_CACHEINFO => checked(Inet6CacheInfo::parse(payload)),
+            IFLA_INET6_TOKEN => checked(parse_ipv6_addr(payload)),
+            IFLA_INET6_ADDR_GEN_MODE => checked(parse_u8(payload)),
             _ => Ok(()),
         }
     }
 
-    #[tactic(auto, unfolding(crate::specs::Places::af_spec_inet6_place, nla_wire::specs::Payloads::read_number, nla_wire::specs::Payloads::read_exactly, nla_wire::specs::Payloads::read_sized), using(link_vals::proofs::Numbers::in6_addr_gen_mode_again))]
+    #[tactic(auto, unfolding(crate::specs::Tables::af_spec_inet6_place, nla_wire::specs::Payloads::read_number, nla_wire::specs::Payloads::read_exactly, nla_wire::specs::Payloads::read_sized), using(link_vals::proofs::Numbers::in6_addr_gen_mode_again))]
     fn canon(buffer: &NlaBuffer<'_>, out: &mut [u8]) -> Option<usize> {
         let payload = buffer.value();
         match buffer.kind() {
-            1 => canon_u32(1, payload, out),
-            2 => Inet6DevConf::canon(2, payload, out),
-            3 => Inet6Stats::canon(3, payload, out),
-            5 => Inet6CacheInfo::canon(5, payload, out),
-            6 => Icmp6Stats::canon(6, payload, out),
-            7 => canon_ipv6_addr(7, payload, out),
-            8 => canon_u8(8, payload, out),
-            9 => canon_u32(9, payload, out),
+            IFLA_INET6_FLAGS => canon_u32(IFLA_INET6_FLAGS, payload, out),
+            IFLA_INET6_CONF => Inet6DevConf::canon(IFLA_INET6_CONF, payload, out),
+            IFLA_INET6_STATS => Inet6Stats::canon(IFLA_INET6_STATS, payload, out),
+            IFLA_INET6_CACHEINFO => Inet6CacheInfo::canon(IFLA_INET6_CACHEINFO, payload, out),
+            IFLA_INET6_ICMP6STATS => Icmp6Stats::canon(IFLA_INET6_ICMP6STATS, payload, out),
+            IFLA_INET6_TOKEN => canon_ipv6_addr(IFLA_INET6_TOKEN, payload, out),
+            IFLA_INET6_ADDR_GEN_MODE => canon_u8(IFLA_INET6_ADDR_GEN_MODE, payload, out),
+            IFLA_INET6_RA_MTU => canon_u32(IFLA_INET6_RA_MTU, payload, out),
             _ => canon_bytes(buffer.kind_with_flags(), payload, out),
         }
     }
 
-    ghost agrees = { af_spec_inet6_lawful.agrees };
+    ghost agrees = { af_spec_inet6_place.lawful.agrees };
 
-    ghost no_memory = { af_spec_inet6_lawful.no_memory };
+    ghost no_memory = { af_spec_inet6_place.lawful.no_memory };
 
-    ghost bounded = { af_spec_inet6_bounded };
+    ghost bounded = { place_bounded af_spec_inet6_place };
 }
 
 impl CloneIn for AfSpecInet6 {
@@ -191,7 +186,7 @@ impl CloneIn for AfSpecInet6 {
 }
 
 impl Exact for AfSpecInet6 {
-    ghost use Rattle.nla_wire.specs.Decided.{by_exact, one_field, number_exact};
+    ghost use Rattle.nla_wire.specs.Decided.{◌&◌, by_exact, number_exact};
     ghost use Rattle.nla_wire.specs.Same.{same_frame-Decides};
     ghost use Rattle.link_recs.specs.Inet6DevConfFields.{inet6_dev_conf_decides};
     ghost use Rattle.link_recs.specs.Inet6StatsFields.{inet6_stats_decides};
@@ -202,5 +197,15 @@ impl Exact for AfSpecInet6 {
     ghost use Rattle.link_afspec.specs.Same.{address_exact};
     ghost use Rattle.link_afspec.specs.contracts.inet6.AfSpecInet6.{enum};
 
-    ghost decides = { by_exact enum _ (one_field flags_exact, (one_field inet6_cache_info_decides, (one_field inet6_dev_conf_decides, (one_field inet6_stats_decides, (one_field icmp6_stats_decides, (one_field address_exact, (one_field mode_exact, (one_field number_exact, (one_field same_frame-Decides, tt))))))))) };
+    ghost decides = { by_exact enum _ (
+        flags_exact
+        & inet6_cache_info_decides
+        & inet6_dev_conf_decides
+        & inet6_stats_decides
+        & icmp6_stats_decides
+        & address_exact
+        & mode_exact
+        & number_exact
+        & same_frame-Decides
+        & tt) };
 }

@@ -6,6 +6,7 @@ pub mod inet;
 pub mod inet6;
 pub mod laws;
 pub mod mctp;
+pub mod numbers;
 pub mod proto_bridge;
 pub mod proto_inet6;
 mod request;

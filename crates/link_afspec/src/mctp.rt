@@ -2,22 +2,23 @@
 
 ghost use Rattle.std.specs.Prelude.{◌≡◌};
 ghost use Rattle.nla_wire.specs.Gives.{without_place};
-ghost use Rattle.link_afspec.specs.Places.{phys_binding};
+ghost use Rattle.link_afspec.specs.Tables.{phys_binding};
 
+use crate::numbers::{IFLA_MCTP_NET, IFLA_MCTP_PHYS_BINDING};
 use link_vals::MctpPhysBinding;
 use nla_wire::error::checked;
 use nla_wire::{
-    CloneIn, DecodeError, DefaultNla, Exact, Nla, NlaBuffer, NlaRead, canon_bytes, canon_u8,
-    canon_u32, fill_bytes, parse_u8, parse_u32,
+    CloneIn, Content, DecodeError, DefaultNla, Exact, Flat, Nla, NlaBuffer, NlaRead, canon_bytes,
+    canon_u8, canon_u32, parse_u8, parse_u32,
 };
 use std::alloc::Global;
 
 /// A member of AF_MCTP in IFLA_AF_SPEC (linux/if_link.h).
 #[derive(Debug, Drop, PartialEq, Eq)]
 pub enum AfSpecMctp {
-    /// IFLA_MCTP_NET, 1: the number of the network, four bytes.
+    /// IFLA_MCTP_NET: the number of the network, four bytes.
     Net(u32),
-    /// IFLA_MCTP_PHYS_BINDING, 2: the physical binding, one byte.
+    /// IFLA_MCTP_PHYS_BINDING: the physical binding, one byte.
     PhysBinding(MctpPhysBinding),
     /// A number that is not listed here.
     Other(DefaultNla),
@@ -25,91 +26,74 @@ pub enum AfSpecMctp {
 
 /// A physical binding, one byte.
 fn parse_binding(payload: &[u8]) -> Result<MctpPhysBinding, DecodeError>
-    ensures { without_place result ≡ phys_binding.reads payload.now }
+    ensures { without_place result ≡ phys_binding.grammar.reads payload.now }
 {
     parse_u8(payload).map(MctpPhysBinding::from)
 }
 
-impl Nla for AfSpecMctp {
-    ghost use Rattle.link_afspec.specs.Values.{af_spec_mctp_frame, AfSpecMctpFits};
+#[tactic(auto, unfolding(crate::specs::Tables::af_spec_mctp_place))]
+impl Flat for AfSpecMctp {
+    ghost use Rattle.link_afspec.specs.Tables.{af_spec_mctp_place, af_spec_mctp_small};
 
-    ghost frame = { af_spec_mctp_frame };
+    ghost frame = { af_spec_mctp_place.frame };
 
-    ghost fits = { AfSpecMctpFits };
+    ghost fits = { af_spec_mctp_place.Fits };
 
-    ghost is_small = { λ x h. h };
+    ghost is_small = { af_spec_mctp_place.is_small };
 
-    fn kind(&self) -> u16 {
+    ghost when_small = { af_spec_mctp_small };
+
+    #[inline]
+    fn view(&self) -> (u16, Content<'_>) {
         match self {
-            AfSpecMctp::Net(_) => 1,
-            AfSpecMctp::PhysBinding(_) => 2,
-            AfSpecMctp::Other(nla) => nla.kind(),
-        }
-    }
-
-    fn fits(&self) -> bool {
-        match self {
-            AfSpecMctp::Net(_) => true,
-            AfSpecMctp::PhysBinding(_) => true,
-            AfSpecMctp::Other(nla) => nla.fits(),
-        }
-    }
-
-    fn value_len(&self) -> usize {
-        match self {
-            AfSpecMctp::Net(_) => 4,
-            AfSpecMctp::PhysBinding(_) => 1,
-            AfSpecMctp::Other(nla) => nla.value_len(),
-        }
-    }
-
-    fn fill_value(&self, buffer: &mut [u8]) -> usize {
-        match self {
-            AfSpecMctp::Net(net) => fill_bytes(buffer, &net.to_le_bytes()),
-            AfSpecMctp::PhysBinding(binding) => fill_bytes(buffer, &[u8::from(binding)]),
-            AfSpecMctp::Other(nla) => nla.fill_value(buffer),
+            AfSpecMctp::Net(net) => (IFLA_MCTP_NET, Content::U32(*net)),
+            AfSpecMctp::PhysBinding(binding) => (
+                IFLA_MCTP_PHYS_BINDING,
+                Content::U8(u8::from(binding)),
+            ),
+            AfSpecMctp::Other(nla) => (nla.kind(), Content::Bytes(nla.value())),
         }
     }
 }
 
 impl NlaRead for AfSpecMctp {
-    ghost use Rattle.link_afspec.specs.Places.{af_spec_mctp_place};
-    ghost use Rattle.link_afspec.specs.Laws.{af_spec_mctp_lawful, af_spec_mctp_bounded};
+    ghost use Rattle.link_afspec.specs.Tables.{af_spec_mctp_place};
+    ghost use Rattle.nla_wire.proofs.Codec.{place_bounded};
 
-    ghost grammar = { af_spec_mctp_place };
+    ghost grammar = { af_spec_mctp_place.grammar };
 
-    #[tactic(auto, unfolding(crate::specs::Places::af_spec_mctp_place))]
+    #[tactic(auto, unfolding(crate::specs::Tables::af_spec_mctp_place))]
     fn parse(alloc: Global, buffer: &NlaBuffer<'_>) -> Result<AfSpecMctp, DecodeError> {
         match buffer.kind() {
-            1 => parse_u32(buffer.value()).map(AfSpecMctp::Net),
-            2 => parse_binding(buffer.value()).map(AfSpecMctp::PhysBinding),
+            IFLA_MCTP_NET => parse_u32(buffer.value()).map(AfSpecMctp::Net),
+            IFLA_MCTP_PHYS_BINDING => parse_binding(buffer.value()).map(AfSpecMctp::PhysBinding),
             _ => DefaultNla::parse(alloc, buffer).map(AfSpecMctp::Other),
         }
     }
 
-    #[tactic(auto, unfolding(crate::specs::Places::af_spec_mctp_place))]
+    #[tactic(auto, unfolding(crate::specs::Tables::af_spec_mctp_place))]
     fn check(buffer: &NlaBuffer<'_>) -> Result<(), DecodeError> {
         match buffer.kind() {
-            1 => checked(parse_u32(buffer.value())),
-            2 => checked(parse_binding(buffer.value())),
+            IFLA_MCTP_NET => checked(parse_u32(buffer.value())),
+            IFLA_MCTP_PHYS_BINDING => checked(parse_binding(buffer.value())),
             _ => Ok(()),
         }
     }
 
-    #[tactic(auto, unfolding(crate::specs::Places::af_spec_mctp_place, nla_wire::specs::Payloads::read_number), using(link_vals::proofs::Numbers::mctp_phys_binding_again))]
+    #[tactic(auto, unfolding(crate::specs::Tables::af_spec_mctp_place, nla_wire::specs::Payloads::read_number), using(link_vals::proofs::Numbers::mctp_phys_binding_again))]
     fn canon(buffer: &NlaBuffer<'_>, out: &mut [u8]) -> Option<usize> {
         match buffer.kind() {
-            1 => canon_u32(1, buffer.value(), out),
-            2 => canon_u8(2, buffer.value(), out),
+            IFLA_MCTP_NET => canon_u32(IFLA_MCTP_NET, buffer.value(), out),
+            IFLA_MCTP_PHYS_BINDING => canon_u8(IFLA_MCTP_PHYS_BINDING, buffer.value(), out),
             _ => canon_bytes(buffer.kind_with_flags(), buffer.value(), out),
         }
     }
 
-    ghost agrees = { af_spec_mctp_lawful.agrees };
+    ghost agrees = { af_spec_mctp_place.lawful.agrees };
 
-    ghost no_memory = { af_spec_mctp_lawful.no_memory };
+    ghost no_memory = { af_spec_mctp_place.lawful.no_memory };
 
-    ghost bounded = { af_spec_mctp_bounded };
+    ghost bounded = { place_bounded af_spec_mctp_place };
 }
 
 impl CloneIn for AfSpecMctp {

@@ -1,6 +1,8 @@
 //! Members of IFLA_PROTINFO of a bridge, which are kept undecoded.
 
-use nla_wire::{CloneIn, DecodeError, DefaultNla, Exact, Nla, NlaBuffer, NlaRead, canon_bytes};
+use nla_wire::{
+    CloneIn, Content, DecodeError, DefaultNla, Exact, Flat, Nla, NlaBuffer, NlaRead, canon_bytes,
+};
 use std::alloc::Global;
 
 /// A member of IFLA_PROTINFO of the family AF_BRIDGE (linux/if_link.h), kept as it is.
@@ -10,62 +12,51 @@ pub enum LinkProtoInfoBridge {
     Other(DefaultNla),
 }
 
-impl Nla for LinkProtoInfoBridge {
-    ghost use Rattle.link_afspec.specs.Values.{link_proto_info_bridge_frame, LinkProtoInfoBridgeFits};
+#[tactic(auto, unfolding(crate::specs::Tables::link_proto_info_bridge_place))]
+impl Flat for LinkProtoInfoBridge {
+    ghost use Rattle.link_afspec.specs.Tables.{link_proto_info_bridge_place, link_proto_info_bridge_small};
 
-    ghost frame = { link_proto_info_bridge_frame };
+    ghost frame = { link_proto_info_bridge_place.frame };
 
-    ghost fits = { LinkProtoInfoBridgeFits };
+    ghost fits = { link_proto_info_bridge_place.Fits };
 
-    ghost is_small = { λ x h. h };
+    ghost is_small = { link_proto_info_bridge_place.is_small };
 
-    fn kind(&self) -> u16 {
+    ghost when_small = { link_proto_info_bridge_small };
+
+    #[inline]
+    fn view(&self) -> (u16, Content<'_>) {
         let LinkProtoInfoBridge::Other(nla) = self;
-        nla.kind()
-    }
-
-    fn fits(&self) -> bool {
-        let LinkProtoInfoBridge::Other(nla) = self;
-        nla.fits()
-    }
-
-    fn value_len(&self) -> usize {
-        let LinkProtoInfoBridge::Other(nla) = self;
-        nla.value_len()
-    }
-
-    fn fill_value(&self, buffer: &mut [u8]) -> usize {
-        let LinkProtoInfoBridge::Other(nla) = self;
-        nla.fill_value(buffer)
+        (nla.kind(), Content::Bytes(nla.value()))
     }
 }
 
 impl NlaRead for LinkProtoInfoBridge {
-    ghost use Rattle.link_afspec.specs.Places.{link_proto_info_bridge_place};
-    ghost use Rattle.link_afspec.specs.Laws.{link_proto_info_bridge_lawful, link_proto_info_bridge_bounded};
+    ghost use Rattle.nla_wire.proofs.Codec.{place_bounded};
+    ghost use Rattle.link_afspec.specs.Tables.{link_proto_info_bridge_place};
 
-    ghost grammar = { link_proto_info_bridge_place };
+    ghost grammar = { link_proto_info_bridge_place.grammar };
 
-    #[tactic(auto, unfolding(crate::specs::Places::link_proto_info_bridge_place))]
+    #[tactic(auto, unfolding(crate::specs::Tables::link_proto_info_bridge_place))]
     fn parse(alloc: Global, buffer: &NlaBuffer<'_>) -> Result<LinkProtoInfoBridge, DecodeError> {
         DefaultNla::parse(alloc, buffer).map(LinkProtoInfoBridge::Other)
     }
 
-    #[tactic(auto, unfolding(crate::specs::Places::link_proto_info_bridge_place))]
+    #[tactic(auto, unfolding(crate::specs::Tables::link_proto_info_bridge_place))]
     fn check(_buffer: &NlaBuffer<'_>) -> Result<(), DecodeError> {
         Ok(())
     }
 
-    #[tactic(auto, unfolding(crate::specs::Places::link_proto_info_bridge_place))]
+    #[tactic(auto, unfolding(crate::specs::Tables::link_proto_info_bridge_place))]
     fn canon(buffer: &NlaBuffer<'_>, out: &mut [u8]) -> Option<usize> {
         canon_bytes(buffer.kind_with_flags(), buffer.value(), out)
     }
 
-    ghost agrees = { link_proto_info_bridge_lawful.agrees };
+    ghost agrees = { link_proto_info_bridge_place.lawful.agrees };
 
-    ghost no_memory = { link_proto_info_bridge_lawful.no_memory };
+    ghost no_memory = { link_proto_info_bridge_place.lawful.no_memory };
 
-    ghost bounded = { link_proto_info_bridge_bounded };
+    ghost bounded = { place_bounded link_proto_info_bridge_place };
 }
 
 impl CloneIn for LinkProtoInfoBridge {

@@ -5,10 +5,8 @@ ghost use Rattle.nla_wire.specs.Canon.{canon, Filled};
 ghost use Rattle.link_afspec.specs.Requests.{setting_frame, setting_text, request_text};
 
 use link_recs::InetDevConf;
+use link_recs::inet::INET_DEV_CONF_COUNT;
 use nla_wire::{NLA_HEADER_SIZE, fill_bytes};
-
-/// How many settings there are, numbered from 1 on.
-const SETTING_COUNT: usize = 33;
 
 /// The bytes of a setting's attribute: its header and a number of four bytes.
 const SETTING_LEN: usize = NLA_HEADER_SIZE + 4;
@@ -46,7 +44,7 @@ pub(crate) fn request_len(conf: &InetDevConf) -> usize
     ensures { result ≡ length (request_text conf.now) }
 {
     let mut len = 0;
-    for number in 1..SETTING_COUNT + 1 {
+    for number in 1..INET_DEV_CONF_COUNT + 1 {
         len += setting_len(number as u16, conf.setting(number));
     }
     len
@@ -59,7 +57,7 @@ pub(crate) fn fill_request(conf: &InetDevConf, buffer: &mut [u8]) -> usize
     ensures { Filled buffer.old buffer.new (request_text conf.now) result }
 {
     let mut start = buffer.len();
-    let mut number = SETTING_COUNT;
+    let mut number = INET_DEV_CONF_COUNT;
     while number > 0 {
         start = fill_setting(&mut buffer[..start], number as u16, conf.setting(number));
         number -= 1;

@@ -1,5 +1,6 @@
 //! Settings of a link by family, members of IFLA_AF_SPEC of the family AF_UNSPEC.
 
+use crate::numbers::{AF_INET, AF_INET6, AF_MCTP};
 use crate::{AfSpecInet, AfSpecInet6, AfSpecMctp};
 use nla_wire::{
     CloneIn, DecodeError, DefaultNla, Exact, List, Nla, NlaBuffer, NlaRead, canon_bytes,
@@ -11,30 +12,31 @@ use std::alloc::Global;
 /// payload a list, which is not empty.
 #[derive(Debug, Drop, PartialEq, Eq)]
 pub enum AfSpecUnspec {
-    /// AF_INET, 2: settings of IPv4.
+    /// AF_INET: settings of IPv4.
     Inet(List<AfSpecInet>),
-    /// AF_INET6, 10: settings and statistics of IPv6.
+    /// AF_INET6: settings and statistics of IPv6.
     Inet6(List<AfSpecInet6>),
-    /// AF_MCTP, 45: settings of MCTP.
+    /// AF_MCTP: settings of MCTP.
     Mctp(List<AfSpecMctp>),
     /// A number that is not listed here.
     Other(DefaultNla),
 }
 
+#[tactic(auto, unfolding(crate::specs::Tables::af_spec_unspec_place))]
 impl Nla for AfSpecUnspec {
-    ghost use Rattle.link_afspec.specs.Values.{af_spec_unspec_frame, AfSpecUnspecFits};
+    ghost use Rattle.link_afspec.specs.Tables.{af_spec_unspec_place};
 
-    ghost frame = { af_spec_unspec_frame };
+    ghost frame = { af_spec_unspec_place.frame };
 
-    ghost fits = { AfSpecUnspecFits };
+    ghost fits = { af_spec_unspec_place.Fits };
 
-    ghost is_small = { λ x h. h.0 };
+    ghost is_small = { af_spec_unspec_place.is_small };
 
     fn kind(&self) -> u16 {
         match self {
-            AfSpecUnspec::Inet(_) => 2,
-            AfSpecUnspec::Inet6(_) => 10,
-            AfSpecUnspec::Mctp(_) => 45,
+            AfSpecUnspec::Inet(_) => AF_INET,
+            AfSpecUnspec::Inet6(_) => AF_INET6,
+            AfSpecUnspec::Mctp(_) => AF_MCTP,
             AfSpecUnspec::Other(nla) => nla.kind(),
         }
     }
@@ -68,52 +70,56 @@ impl Nla for AfSpecUnspec {
 }
 
 impl NlaRead for AfSpecUnspec {
-    ghost use Rattle.link_afspec.specs.Places.{af_spec_unspec_place};
-    ghost use Rattle.link_afspec.specs.Laws.{af_spec_unspec_lawful, af_spec_unspec_bounded};
+    ghost use Rattle.link_afspec.specs.Tables.{af_spec_unspec_place};
+    ghost use Rattle.nla_wire.proofs.Codec.{place_bounded};
 
-    ghost grammar = { af_spec_unspec_place };
+    ghost grammar = { af_spec_unspec_place.grammar };
 
-    #[tactic(auto, unfolding(crate::specs::Places::af_spec_unspec_place, nla_wire::specs::Grammar::unless_empty))]
+    #[tactic(auto, unfolding(crate::specs::Tables::af_spec_unspec_place, nla_wire::specs::Grammar::unless_empty))]
     fn parse(alloc: Global, buffer: &NlaBuffer<'_>) -> Result<AfSpecUnspec, DecodeError> {
         let payload = buffer.value();
         match buffer.kind() {
-            2 | 10 | 45 if payload.is_empty() => Err(empty_list()),
-            2 => AfSpecInet::parse_list(alloc, payload).map(|v| AfSpecUnspec::Inet(List::new(v))),
-            10 => AfSpecInet6::parse_list(alloc, payload).map(|v| AfSpecUnspec::Inet6(List::new(
+            AF_INET | AF_INET6 | AF_MCTP if payload.is_empty() => Err(empty_list()),
+            AF_INET => AfSpecInet::parse_list(alloc, payload).map(|v| AfSpecUnspec::Inet(List::new(
                 v,
             ))),
-            45 => AfSpecMctp::parse_list(alloc, payload).map(|v| AfSpecUnspec::Mctp(List::new(v))),
+            AF_INET6 => AfSpecInet6::parse_list(alloc, payload).map(|v| AfSpecUnspec::Inet6(
+                List::new(v),
+            )),
+            AF_MCTP => AfSpecMctp::parse_list(alloc, payload).map(|v| AfSpecUnspec::Mctp(List::new(
+                v,
+            ))),
             _ => DefaultNla::parse(alloc, buffer).map(AfSpecUnspec::Other),
         }
     }
 
-    #[tactic(auto, unfolding(crate::specs::Places::af_spec_unspec_place, nla_wire::specs::Grammar::unless_empty))]
+    #[tactic(auto, unfolding(crate::specs::Tables::af_spec_unspec_place, nla_wire::specs::Grammar::unless_empty))]
     fn check(buffer: &NlaBuffer<'_>) -> Result<(), DecodeError> {
         let payload = buffer.value();
         match buffer.kind() {
-            2 | 10 | 45 if payload.is_empty() => Err(empty_list()),
-            2 => AfSpecInet::check_list(payload),
-            10 => AfSpecInet6::check_list(payload),
-            45 => AfSpecMctp::check_list(payload),
+            AF_INET | AF_INET6 | AF_MCTP if payload.is_empty() => Err(empty_list()),
+            AF_INET => AfSpecInet::check_list(payload),
+            AF_INET6 => AfSpecInet6::check_list(payload),
+            AF_MCTP => AfSpecMctp::check_list(payload),
             _ => Ok(()),
         }
     }
 
-    #[tactic(auto, unfolding(crate::specs::Places::af_spec_unspec_place, nla_wire::specs::Grammar::unless_empty))]
+    #[tactic(auto, unfolding(crate::specs::Tables::af_spec_unspec_place, nla_wire::specs::Grammar::unless_empty))]
     fn canon(buffer: &NlaBuffer<'_>, out: &mut [u8]) -> Option<usize> {
         match buffer.kind() {
-            2 => AfSpecInet::canon_nested(2, buffer.value(), out),
-            10 => AfSpecInet6::canon_nested(10, buffer.value(), out),
-            45 => AfSpecMctp::canon_nested(45, buffer.value(), out),
+            AF_INET => AfSpecInet::canon_nested(AF_INET, buffer.value(), out),
+            AF_INET6 => AfSpecInet6::canon_nested(AF_INET6, buffer.value(), out),
+            AF_MCTP => AfSpecMctp::canon_nested(AF_MCTP, buffer.value(), out),
             _ => canon_bytes(buffer.kind_with_flags(), buffer.value(), out),
         }
     }
 
-    ghost agrees = { af_spec_unspec_lawful.agrees };
+    ghost agrees = { af_spec_unspec_place.lawful.agrees };
 
-    ghost no_memory = { af_spec_unspec_lawful.no_memory };
+    ghost no_memory = { af_spec_unspec_place.lawful.no_memory };
 
-    ghost bounded = { af_spec_unspec_bounded };
+    ghost bounded = { place_bounded af_spec_unspec_place };
 }
 
 impl CloneIn for AfSpecUnspec {
@@ -128,12 +134,17 @@ impl CloneIn for AfSpecUnspec {
 }
 
 impl Exact for AfSpecUnspec {
-    ghost use Rattle.nla_wire.specs.Decided.{by_exact, one_field, list_exact};
+    ghost use Rattle.nla_wire.specs.Decided.{◌&◌, by_exact, list_exact};
     ghost use Rattle.nla_wire.specs.Same.{same_frame-Decides};
     ghost use Rattle.link_afspec.specs.contracts.unspec.AfSpecUnspec.{enum};
     ghost use Rattle.link_afspec.specs.contracts.inet.AfSpecInetExact.TheImpl.Laws.{decides-law as inet_exact};
     ghost use Rattle.link_afspec.specs.contracts.inet6.AfSpecInet6Exact.TheImpl.Laws.{decides-law as inet6_exact};
     ghost use Rattle.link_afspec.specs.contracts.mctp.AfSpecMctpExact.TheImpl.Laws.{decides-law as mctp_exact};
 
-    ghost decides = { by_exact enum _ (one_field (list_exact inet_exact), (one_field (list_exact inet6_exact), (one_field (list_exact mctp_exact), (one_field same_frame-Decides, tt)))) };
+    ghost decides = { by_exact enum _ (
+        list_exact inet_exact
+        & list_exact inet6_exact
+        & list_exact mctp_exact
+        & same_frame-Decides
+        & tt) };
 }

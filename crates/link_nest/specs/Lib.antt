@@ -1,5 +1,3 @@
-pub mod Values
-pub mod Places
 pub mod Wireless
 pub mod WirelessLaws
-pub mod Laws
+pub mod Tables

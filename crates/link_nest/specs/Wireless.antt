@@ -6,21 +6,15 @@ use Rattle.nla_wire.specs.Frames.{IsBytes}
 use Rattle.nla_wire.specs.Grammar.{Grammar}
 use Rattle.nla_wire.specs.Payloads.{sized}
 use Rattle.nla_wire.specs.Fields.{number_at}
+use Rattle.link_nest.specs.declared.numbers.TheConstants.{IWEVASSOCREQIE, IWEVASSOCRESPIE}
 use Rattle.link_nest.specs.declared.wireless.WirelessEvent.{WirelessEvent}
 use Rattle.link_nest.specs.declared.wireless.WirelessEvent.TheVariants.{AssociateRequest, AssociateResponse, Other}
-
--- the commands that are known: IWEVASSOCREQIE and IWEVASSOCRESPIE
-abbrev pub request_command : ℕ
-request_command = 0x8c07
-
-abbrev pub response_command : ℕ
-response_command = 0x8c08
 
 -- the event of this command: the bytes behind the header, or the whole payload
 abbrev pub event_of : ℕ → List ℕ → WirelessEvent
 event_of command p =
-    if command == request_command then AssociateRequest (drop 8 p)
-    else if command == response_command then AssociateResponse (drop 8 p)
+    if command == IWEVASSOCREQIE then AssociateRequest (drop 8 p)
+    else if command == IWEVASSOCRESPIE then AssociateResponse (drop 8 p)
     else Other p
 
 -- the command stands at the third byte
@@ -40,8 +34,8 @@ event_text command x = event_header (8 + length x) command ++ x
 
 -- the text of an event
 abbrev pub wireless_text : WirelessEvent → List ℕ
-wireless_text (AssociateRequest x) = event_text request_command x
-wireless_text (AssociateResponse x) = event_text response_command x
+wireless_text (AssociateRequest x) = event_text IWEVASSOCREQIE x
+wireless_text (AssociateResponse x) = event_text IWEVASSOCRESPIE x
 wireless_text (Other p) = p
 
 -- the text has at most as many bytes as the value of an attribute may have

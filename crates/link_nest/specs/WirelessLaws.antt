@@ -8,7 +8,8 @@ use Rattle.nla_wire.proofs.FieldLemmas.{number_again_between}
 use Rattle.nla_wire.proofs.Agreement.{sized_agrees}
 use Rattle.nla_wire.proofs.Memory.{memory_sized}
 use Rattle.nla_wire.proofs.Lawful.{LawfulPayload, always, none}
-use Rattle.link_nest.specs.Wireless.{request_command, response_command, event_of, wireless_of, wireless_event, event_text, wireless_text}
+use Rattle.link_nest.specs.Wireless.{event_of, wireless_of, wireless_event, event_text, wireless_text}
+use Rattle.link_nest.specs.declared.numbers.TheConstants.{IWEVASSOCREQIE, IWEVASSOCRESPIE}
 use Rattle.link_nest.specs.declared.wireless.WirelessEvent.{WirelessEvent}
 use Rattle.link_nest.specs.declared.wireless.WirelessEvent.TheVariants.{AssociateRequest, AssociateResponse, Other}
 
@@ -23,8 +24,8 @@ event_again command x h =
 
 read_again : (request response : Bool) (p : List ℕ) → event_by request response p ≡ wireless_of p
     → event_by request response p ≡ wireless_of (wireless_text (event_by request response p))
-read_again true response p is = sym (event_again request_command (drop 8 p) (lit< tt))
-read_again false true p is = sym (event_again response_command (drop 8 p) (lit< tt))
+read_again true response p is = sym (event_again IWEVASSOCREQIE (drop 8 p) (lit< tt))
+read_again false true p is = sym (event_again IWEVASSOCRESPIE (drop 8 p) (lit< tt))
 read_again false false p is = is
 
 same_length : (request response : Bool) (p : List ℕ) → 8 ≤ length p → length (wireless_text (event_by request response p)) ≡ length p
@@ -36,12 +37,12 @@ same_length false false p long = refl
 pub wireless_length : (p : List ℕ) (v : WirelessEvent) → wireless_event.means p v → length (wireless_text v) ≡ length p
 wireless_length p v means =
     ap (λ w. length (wireless_text w)) means.1
-    ∙ same_length (number_at w16 p 2 == request_command) (number_at w16 p 2 == response_command) p means.0
+    ∙ same_length (number_at w16 p 2 == IWEVASSOCREQIE) (number_at w16 p 2 == IWEVASSOCRESPIE) p means.0
 
 wireless_again : (p : List ℕ) (v : WirelessEvent) → wireless_event.means p v → v ≡ wireless_of (wireless_text v)
 wireless_again p v means =
     subst (λ w. w ≡ wireless_of (wireless_text w)) (sym means.1)
-    (read_again (number_at w16 p 2 == request_command) (number_at w16 p 2 == response_command) p refl)
+    (read_again (number_at w16 p 2 == IWEVASSOCREQIE) (number_at w16 p 2 == IWEVASSOCRESPIE) p refl)
 
 pub wireless_lawful : (n : ℕ) → n ≤ most_payload → LawfulPayload wireless_event wireless_text always always none growth slack n
 wireless_lawful n enough = record {

@@ -1,112 +1,90 @@
 //! The devlink port of an interface, members of IFLA_DEVLINK_PORT.
 
+use crate::numbers::{DEVLINK_ATTR_BUS_NAME, DEVLINK_ATTR_DEV_NAME, DEVLINK_ATTR_PORT_INDEX};
 use nla_wire::error::checked;
 use nla_wire::{
-    CloneIn, DecodeError, DefaultNla, Exact, Nla, NlaBuffer, NlaRead, Text, canon_bytes,
-    canon_text, canon_u32, check_string, fill_bytes, fill_text, parse_string, parse_u32,
+    CloneIn, Content, DecodeError, DefaultNla, Exact, Flat, Nla, NlaBuffer, NlaRead, Text,
+    canon_bytes, canon_text, canon_u32, check_string, parse_string, parse_u32,
 };
 use std::alloc::Global;
 
 /// A member of IFLA_DEVLINK_PORT (linux/devlink.h).
 #[derive(Debug, Drop, PartialEq, Eq)]
 pub enum DevlinkPort {
-    /// DEVLINK_ATTR_BUS_NAME, 1: the name of the bus, a text with one NUL.
+    /// DEVLINK_ATTR_BUS_NAME: the name of the bus, a text with one NUL.
     BusName(Text),
-    /// DEVLINK_ATTR_DEV_NAME, 2: the name of the device, a text with one NUL.
+    /// DEVLINK_ATTR_DEV_NAME: the name of the device, a text with one NUL.
     DevName(Text),
-    /// DEVLINK_ATTR_PORT_INDEX, 3: the index of the port, four bytes.
+    /// DEVLINK_ATTR_PORT_INDEX: the index of the port, four bytes.
     PortIndex(u32),
     /// A number that is not listed here.
     Other(DefaultNla),
 }
 
-impl Nla for DevlinkPort {
-    ghost use Rattle.link_nest.specs.Values.{devlink_port_frame, DevlinkPortFits};
+#[tactic(auto, unfolding(crate::specs::Tables::devlink_port_place))]
+impl Flat for DevlinkPort {
+    ghost use Rattle.link_nest.specs.Tables.{devlink_port_place, devlink_port_small};
 
-    ghost frame = { devlink_port_frame };
+    ghost frame = { devlink_port_place.frame };
 
-    ghost fits = { DevlinkPortFits };
+    ghost fits = { devlink_port_place.Fits };
 
-    ghost is_small = { λ x h. h };
+    ghost is_small = { devlink_port_place.is_small };
 
-    fn kind(&self) -> u16 {
+    ghost when_small = { devlink_port_small };
+
+    #[inline]
+    fn view(&self) -> (u16, Content<'_>) {
         match self {
-            DevlinkPort::BusName(_) => 1,
-            DevlinkPort::DevName(_) => 2,
-            DevlinkPort::PortIndex(_) => 3,
-            DevlinkPort::Other(nla) => nla.kind(),
-        }
-    }
-
-    fn fits(&self) -> bool {
-        match self {
-            DevlinkPort::BusName(name) => name.len() < 65531,
-            DevlinkPort::DevName(name) => name.len() < 65531,
-            DevlinkPort::PortIndex(_) => true,
-            DevlinkPort::Other(nla) => nla.fits(),
-        }
-    }
-
-    fn value_len(&self) -> usize {
-        match self {
-            DevlinkPort::BusName(name) => name.len() + 1,
-            DevlinkPort::DevName(name) => name.len() + 1,
-            DevlinkPort::PortIndex(_) => 4,
-            DevlinkPort::Other(nla) => nla.value_len(),
-        }
-    }
-
-    fn fill_value(&self, buffer: &mut [u8]) -> usize {
-        match self {
-            DevlinkPort::BusName(name) => fill_text(buffer, name.as_str()),
-            DevlinkPort::DevName(name) => fill_text(buffer, name.as_str()),
-            DevlinkPort::PortIndex(index) => fill_bytes(buffer, &index.to_le_bytes()),
-            DevlinkPort::Other(nla) => nla.fill_value(buffer),
+            DevlinkPort::BusName(name) => (DEVLINK_ATTR_BUS_NAME, Content::Text(name.as_str())),
+            DevlinkPort::DevName(name) => (DEVLINK_ATTR_DEV_NAME, Content::Text(name.as_str())),
+            DevlinkPort::PortIndex(index) => (DEVLINK_ATTR_PORT_INDEX, Content::U32(*index)),
+            DevlinkPort::Other(nla) => (nla.kind(), Content::Bytes(nla.value())),
         }
     }
 }
 
 impl NlaRead for DevlinkPort {
-    ghost use Rattle.link_nest.specs.Places.{devlink_port_place};
-    ghost use Rattle.link_nest.specs.Laws.{devlink_port_lawful, devlink_port_bounded};
+    ghost use Rattle.nla_wire.proofs.Codec.{place_bounded};
+    ghost use Rattle.link_nest.specs.Tables.{devlink_port_place};
 
-    ghost grammar = { devlink_port_place };
+    ghost grammar = { devlink_port_place.grammar };
 
-    #[tactic(auto, unfolding(crate::specs::Places::devlink_port_place))]
+    #[tactic(auto, unfolding(crate::specs::Tables::devlink_port_place))]
     fn parse(alloc: Global, buffer: &NlaBuffer<'_>) -> Result<DevlinkPort, DecodeError> {
         match buffer.kind() {
-            1 => parse_string(alloc, buffer.value()).map(DevlinkPort::BusName),
-            2 => parse_string(alloc, buffer.value()).map(DevlinkPort::DevName),
-            3 => parse_u32(buffer.value()).map(DevlinkPort::PortIndex),
+            DEVLINK_ATTR_BUS_NAME => parse_string(alloc, buffer.value()).map(DevlinkPort::BusName),
+            DEVLINK_ATTR_DEV_NAME => parse_string(alloc, buffer.value()).map(DevlinkPort::DevName),
+            DEVLINK_ATTR_PORT_INDEX => parse_u32(buffer.value()).map(DevlinkPort::PortIndex),
             _ => DefaultNla::parse(alloc, buffer).map(DevlinkPort::Other),
         }
     }
 
-    #[tactic(auto, unfolding(crate::specs::Places::devlink_port_place))]
+    #[tactic(auto, unfolding(crate::specs::Tables::devlink_port_place))]
     fn check(buffer: &NlaBuffer<'_>) -> Result<(), DecodeError> {
         match buffer.kind() {
-            1 => check_string(buffer.value()),
-            2 => check_string(buffer.value()),
-            3 => checked(parse_u32(buffer.value())),
+            DEVLINK_ATTR_BUS_NAME => check_string(buffer.value()),
+            DEVLINK_ATTR_DEV_NAME => check_string(buffer.value()),
+            DEVLINK_ATTR_PORT_INDEX => checked(parse_u32(buffer.value())),
             _ => Ok(()),
         }
     }
 
-    #[tactic(auto, unfolding(crate::specs::Places::devlink_port_place, nla_wire::specs::Payloads::read_text, nla_wire::specs::Payloads::read_number))]
+    #[tactic(auto, unfolding(crate::specs::Tables::devlink_port_place, nla_wire::specs::Payloads::read_text, nla_wire::specs::Payloads::read_number))]
     fn canon(buffer: &NlaBuffer<'_>, out: &mut [u8]) -> Option<usize> {
         match buffer.kind() {
-            1 => canon_text(1, buffer.value(), out),
-            2 => canon_text(2, buffer.value(), out),
-            3 => canon_u32(3, buffer.value(), out),
+            DEVLINK_ATTR_BUS_NAME => canon_text(DEVLINK_ATTR_BUS_NAME, buffer.value(), out),
+            DEVLINK_ATTR_DEV_NAME => canon_text(DEVLINK_ATTR_DEV_NAME, buffer.value(), out),
+            DEVLINK_ATTR_PORT_INDEX => canon_u32(DEVLINK_ATTR_PORT_INDEX, buffer.value(), out),
             _ => canon_bytes(buffer.kind_with_flags(), buffer.value(), out),
         }
     }
 
-    ghost agrees = { devlink_port_lawful.agrees };
+    ghost agrees = { devlink_port_place.lawful.agrees };
 
-    ghost no_memory = { devlink_port_lawful.no_memory };
+    ghost no_memory = { devlink_port_place.lawful.no_memory };
 
-    ghost bounded = { devlink_port_bounded };
+    ghost bounded = { place_bounded devlink_port_place };
 }
 
 impl CloneIn for DevlinkPort {

@@ -2,56 +2,60 @@
 //!
 //! Of each place: a value that some frame means there, and that fits, is what the frame of its canonical text means there;
 //! so are the values of a list. A list's payload has at least four bytes for each value. Its canonical text has at most 308
-//! bytes for each whole four bytes of the payload, and 300 fewer for each member.
+//! bytes for each whole four bytes of the payload, and 300 fewer for each member. A frame that no line of the table reads is
+//! kept: its kind, both flag bits and its payload come back.
 
+ghost use Rattle.std.specs.Prelude.{◌≡◌, [], ◌∷◌, pos, negsuc};
 ghost use Rattle.nla_wire.specs.Sizes.{slack};
-ghost use Rattle.nla_wire.specs.Grammar.{list};
-ghost use Rattle.nla_wire.specs.Canon.{one};
-ghost use Rattle.nla_wire.specs.PlaceLaws.{ReadsBack, ListReadsBack, ListsBounded};
-ghost use Rattle.link_nest.specs.Values.{prop_frame, PropFits, devlink_port_frame, DevlinkPortFits, dpll_pin_frame, DpllPinFits, down_reason_frame, DownReasonFits, xdp_frame, LinkXdpFits, link_info_frame, LinkInfoFits};
-ghost use Rattle.link_nest.specs.Places.{prop_place, devlink_port_place, dpll_pin_place, down_reason_place, xdp_place, link_info_place};
+ghost use Rattle.nla_wire.specs.Canon.{canon};
+ghost use Rattle.nla_wire.proofs.Codec.{IsLawful};
+ghost use Rattle.link_nest.specs.Tables.{prop_place, devlink_port_place, dpll_pin_place, down_reason_place, xdp_place, link_info_place};
 ghost use Rattle.link_nest.specs.Wireless.{EventsReadBack, EventsKeepLength};
+ghost use Rattle.link_nest.specs.declared.prop_list.Prop.TheVariants as prop;
+ghost use Rattle.link_nest.specs.declared.xdp.LinkXdp.TheVariants as xdp;
 
 /// `Prop`, members of IFLA_PROP_LIST.
 pub fn law_prop()
-    ensures member { ReadsBack prop_place.means prop_frame PropFits }
-    ensures again { ListReadsBack (list prop_place).means prop_frame PropFits }
-    ensures bounds { ListsBounded slack (list prop_place).means one prop_frame }
+    ensures { IsLawful slack prop_place }
 {}
 
 /// `DevlinkPort`, members of IFLA_DEVLINK_PORT.
 pub fn law_devlink_port()
-    ensures member { ReadsBack devlink_port_place.means devlink_port_frame DevlinkPortFits }
-    ensures again { ListReadsBack (list devlink_port_place).means devlink_port_frame DevlinkPortFits }
-    ensures bounds { ListsBounded slack (list devlink_port_place).means one devlink_port_frame }
+    ensures { IsLawful slack devlink_port_place }
 {}
 
 /// `DpllPin`, members of IFLA_DPLL_PIN.
 pub fn law_dpll_pin()
-    ensures member { ReadsBack dpll_pin_place.means dpll_pin_frame DpllPinFits }
-    ensures again { ListReadsBack (list dpll_pin_place).means dpll_pin_frame DpllPinFits }
-    ensures bounds { ListsBounded slack (list dpll_pin_place).means one dpll_pin_frame }
+    ensures { IsLawful slack dpll_pin_place }
 {}
 
 /// `LinkProtocolDownReason`, members of IFLA_PROTO_DOWN_REASON.
 pub fn law_down_reason()
-    ensures member { ReadsBack down_reason_place.means down_reason_frame DownReasonFits }
-    ensures again { ListReadsBack (list down_reason_place).means down_reason_frame DownReasonFits }
-    ensures bounds { ListsBounded slack (list down_reason_place).means one down_reason_frame }
+    ensures { IsLawful slack down_reason_place }
 {}
 
 /// `LinkXdp`, members of IFLA_XDP.
 pub fn law_xdp()
-    ensures member { ReadsBack xdp_place.means xdp_frame LinkXdpFits }
-    ensures again { ListReadsBack (list xdp_place).means xdp_frame LinkXdpFits }
-    ensures bounds { ListsBounded slack (list xdp_place).means one xdp_frame }
+    ensures { IsLawful slack xdp_place }
 {}
 
 /// `LinkInfo`, members of IFLA_LINKINFO.
 pub fn law_link_info()
-    ensures member { ReadsBack link_info_place.means link_info_frame LinkInfoFits }
-    ensures again { ListReadsBack (list link_info_place).means link_info_frame LinkInfoFits }
-    ensures bounds { ListsBounded slack (list link_info_place).means one link_info_frame }
+    ensures { IsLawful slack link_info_place }
+{}
+
+/// The alternative name `wan0` is written as the length 9, the number 53, its bytes with one NUL, and three bytes of padding.
+#[tactic(auto, unfolding(crate::specs::Tables::prop_place))]
+pub fn law_alt_if_name_in_bytes()
+    ensures { canon (prop_place.frame (prop.AltIfName (0x77 ∷ 0x61 ∷ 0x6e ∷ 0x30 ∷ [])))
+        ≡ 0x09 ∷ 0x00 ∷ 0x35 ∷ 0x00 ∷ 0x77 ∷ 0x61 ∷ 0x6e ∷ 0x30 ∷ 0x00 ∷ 0x00 ∷ 0x00 ∷ 0x00 ∷ [] }
+{}
+
+/// The file descriptor -2 is written as the length 8, the number 1, and four bytes, lowest first.
+#[tactic(auto, unfolding(crate::specs::Tables::xdp_place))]
+pub fn law_fd_in_bytes()
+    ensures { canon (xdp_place.frame (xdp.Fd (negsuc 1)))
+        ≡ 0x08 ∷ 0x00 ∷ 0x01 ∷ 0x00 ∷ 0xfe ∷ 0xff ∷ 0xff ∷ 0xff ∷ [] }
 {}
 
 /// `WirelessEvent`, the value of IFLA_WIRELESS: what a payload means is what its text means, which is as long as the payload.

@@ -8,6 +8,7 @@ pub mod down_reason;
 pub mod dpll_pin;
 pub mod laws;
 pub mod link_info;
+pub mod numbers;
 pub mod prop_list;
 pub mod wireless;
 pub mod xdp;

@@ -1,93 +1,77 @@
 //! Alternative names of an interface, members of IFLA_PROP_LIST.
 
+use crate::numbers::IFLA_ALT_IFNAME;
 use nla_wire::{
-    CloneIn, DecodeError, DefaultNla, Exact, Nla, NlaBuffer, NlaRead, Text, canon_bytes,
-    canon_text, check_string, fill_text, parse_string,
+    CloneIn, Content, DecodeError, DefaultNla, Exact, Flat, Nla, NlaBuffer, NlaRead, Text,
+    canon_bytes, canon_text, check_string, parse_string,
 };
 use std::alloc::Global;
 
 /// A member of IFLA_PROP_LIST (linux/if_link.h).
 #[derive(Debug, Drop, PartialEq, Eq)]
 pub enum Prop {
-    /// IFLA_ALT_IFNAME, 53: an alternative name, a text with one NUL.
+    /// IFLA_ALT_IFNAME: an alternative name, a text with one NUL.
     AltIfName(Text),
     /// A number that is not listed here.
     Other(DefaultNla),
 }
 
-impl Nla for Prop {
-    ghost use Rattle.link_nest.specs.Values.{prop_frame, PropFits};
+#[tactic(auto, unfolding(crate::specs::Tables::prop_place))]
+impl Flat for Prop {
+    ghost use Rattle.link_nest.specs.Tables.{prop_place, prop_small};
 
-    ghost frame = { prop_frame };
+    ghost frame = { prop_place.frame };
 
-    ghost fits = { PropFits };
+    ghost fits = { prop_place.Fits };
 
-    ghost is_small = { λ x h. h };
+    ghost is_small = { prop_place.is_small };
 
-    fn kind(&self) -> u16 {
+    ghost when_small = { prop_small };
+
+    #[inline]
+    fn view(&self) -> (u16, Content<'_>) {
         match self {
-            Prop::AltIfName(_) => 53,
-            Prop::Other(nla) => nla.kind(),
-        }
-    }
-
-    fn fits(&self) -> bool {
-        match self {
-            Prop::AltIfName(name) => name.len() < 65531,
-            Prop::Other(nla) => nla.fits(),
-        }
-    }
-
-    fn value_len(&self) -> usize {
-        match self {
-            Prop::AltIfName(name) => name.len() + 1,
-            Prop::Other(nla) => nla.value_len(),
-        }
-    }
-
-    fn fill_value(&self, buffer: &mut [u8]) -> usize {
-        match self {
-            Prop::AltIfName(name) => fill_text(buffer, name.as_str()),
-            Prop::Other(nla) => nla.fill_value(buffer),
+            Prop::AltIfName(name) => (IFLA_ALT_IFNAME, Content::Text(name.as_str())),
+            Prop::Other(nla) => (nla.kind(), Content::Bytes(nla.value())),
         }
     }
 }
 
 impl NlaRead for Prop {
-    ghost use Rattle.link_nest.specs.Places.{prop_place};
-    ghost use Rattle.link_nest.specs.Laws.{prop_lawful, prop_bounded};
+    ghost use Rattle.nla_wire.proofs.Codec.{place_bounded};
+    ghost use Rattle.link_nest.specs.Tables.{prop_place};
 
-    ghost grammar = { prop_place };
+    ghost grammar = { prop_place.grammar };
 
-    #[tactic(auto, unfolding(crate::specs::Places::prop_place))]
+    #[tactic(auto, unfolding(crate::specs::Tables::prop_place))]
     fn parse(alloc: Global, buffer: &NlaBuffer<'_>) -> Result<Prop, DecodeError> {
         match buffer.kind() {
-            53 => parse_string(alloc, buffer.value()).map(Prop::AltIfName),
+            IFLA_ALT_IFNAME => parse_string(alloc, buffer.value()).map(Prop::AltIfName),
             _ => DefaultNla::parse(alloc, buffer).map(Prop::Other),
         }
     }
 
-    #[tactic(auto, unfolding(crate::specs::Places::prop_place))]
+    #[tactic(auto, unfolding(crate::specs::Tables::prop_place))]
     fn check(buffer: &NlaBuffer<'_>) -> Result<(), DecodeError> {
         match buffer.kind() {
-            53 => check_string(buffer.value()),
+            IFLA_ALT_IFNAME => check_string(buffer.value()),
             _ => Ok(()),
         }
     }
 
-    #[tactic(auto, unfolding(crate::specs::Places::prop_place, nla_wire::specs::Payloads::read_text))]
+    #[tactic(auto, unfolding(crate::specs::Tables::prop_place, nla_wire::specs::Payloads::read_text))]
     fn canon(buffer: &NlaBuffer<'_>, out: &mut [u8]) -> Option<usize> {
         match buffer.kind() {
-            53 => canon_text(53, buffer.value(), out),
+            IFLA_ALT_IFNAME => canon_text(IFLA_ALT_IFNAME, buffer.value(), out),
             _ => canon_bytes(buffer.kind_with_flags(), buffer.value(), out),
         }
     }
 
-    ghost agrees = { prop_lawful.agrees };
+    ghost agrees = { prop_place.lawful.agrees };
 
-    ghost no_memory = { prop_lawful.no_memory };
+    ghost no_memory = { prop_place.lawful.no_memory };
 
-    ghost bounded = { prop_bounded };
+    ghost bounded = { place_bounded prop_place };
 }
 
 impl CloneIn for Prop {

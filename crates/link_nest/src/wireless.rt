@@ -8,6 +8,7 @@ ghost use Rattle.nla_wire.specs.Gives.{Gives, Checks};
 ghost use Rattle.nla_wire.specs.declared.error.Cause.TheVariants.{OutOfMemory};
 ghost use Rattle.link_nest.specs.Wireless.{wireless_event, wireless_text, WirelessFits, event_text, event_header};
 
+use crate::numbers::{IWEVASSOCREQIE, IWEVASSOCRESPIE};
 use nla_wire::fields::{too_short, u16_at};
 use nla_wire::{Bytes, CloneIn, DecodeError, Exact, fill_bytes};
 use std::alloc::Global;
@@ -24,9 +25,9 @@ const MOST_TEXT_LEN: usize = 65531;
 /// bytes of padding, and then the event's bytes.
 #[derive(Debug, Drop, PartialEq, Eq)]
 pub enum WirelessEvent {
-    /// IWEVASSOCREQIE, 0x8c07: the information elements of an association request.
+    /// IWEVASSOCREQIE: the information elements of an association request.
     AssociateRequest(Bytes),
-    /// IWEVASSOCRESPIE, 0x8c08: the information elements of an association response.
+    /// IWEVASSOCRESPIE: the information elements of an association response.
     AssociateResponse(Bytes),
     /// Any other command: the whole payload, header and all.
     Other(Bytes),
@@ -87,8 +88,12 @@ impl WirelessEvent {
             return Err(too_short(payload.len(), HEADER_LEN));
         }
         match u16_at(payload, 2) {
-            0x8c07 => Bytes::from_slice(alloc, &payload[8..]).map(WirelessEvent::AssociateRequest),
-            0x8c08 => Bytes::from_slice(alloc, &payload[8..]).map(WirelessEvent::AssociateResponse),
+            IWEVASSOCREQIE => Bytes::from_slice(alloc, &payload[8..]).map(
+                WirelessEvent::AssociateRequest,
+            ),
+            IWEVASSOCRESPIE => Bytes::from_slice(alloc, &payload[8..]).map(
+                WirelessEvent::AssociateResponse,
+            ),
             _ => Bytes::from_slice(alloc, payload).map(WirelessEvent::Other),
         }
     }
@@ -119,8 +124,8 @@ impl WirelessEvent {
             return None;
         }
         Some(match u16_at(payload, 2) {
-            0x8c07 => write_event(out, 0x8c07, &payload[8..]),
-            0x8c08 => write_event(out, 0x8c08, &payload[8..]),
+            IWEVASSOCREQIE => write_event(out, IWEVASSOCREQIE, &payload[8..]),
+            IWEVASSOCRESPIE => write_event(out, IWEVASSOCRESPIE, &payload[8..]),
             _ => write_bytes(out, payload),
         })
     }
@@ -155,8 +160,16 @@ impl WirelessEvent {
         ensures { Filled buffer.old buffer.new (wireless_text self.now) result }
     {
         match self {
-            WirelessEvent::AssociateRequest(bytes) => fill_event(buffer, 0x8c07, bytes.as_slice()),
-            WirelessEvent::AssociateResponse(bytes) => fill_event(buffer, 0x8c08, bytes.as_slice()),
+            WirelessEvent::AssociateRequest(bytes) => fill_event(
+                buffer,
+                IWEVASSOCREQIE,
+                bytes.as_slice(),
+            ),
+            WirelessEvent::AssociateResponse(bytes) => fill_event(
+                buffer,
+                IWEVASSOCRESPIE,
+                bytes.as_slice(),
+            ),
             WirelessEvent::Other(bytes) => fill_bytes(buffer, bytes.as_slice()),
         }
     }

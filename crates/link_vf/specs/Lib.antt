@@ -1,3 +1,2 @@
-pub mod Values
-pub mod Places
-pub mod Laws
+pub mod Tables
+pub mod Dropped

@@ -1,54 +1,71 @@
 //! Laws of the lists of virtual functions and ports, each the contract of a function that does nothing.
 //!
-//! Of each place: a value that some frame means there, and that fits, is what the frame of its canonical text means there;
-//! so are the values of a list. A list's payload has at least four bytes for each value, those inside of others among them.
-//! Its canonical text has at most 308 bytes for each whole four bytes of the payload, and 300 fewer for each member.
+//! Of each place: a value that some frame means there, and that fits, is what the frame of its canonical text means
+//! there; so are the values of a list. A list's payload has at least four bytes for each value, those inside of others
+//! among them. Its canonical text has at most 308 bytes for each whole four bytes of the payload, and 300 fewer for
+//! each member. A frame that no line of the table reads is kept: its kind, both flag bits and its payload come back.
+//! The only frames that are not kept are those with other numbers in IFLA_VFINFO_LIST and in IFLA_VF_PORTS, which are
+//! dropped.
 
+ghost use Rattle.std.specs.Prelude.{◌≡◌, [], ◌∷◌, true};
 ghost use Rattle.nla_wire.specs.Sizes.{slack};
-ghost use Rattle.nla_wire.specs.Grammar.{list};
-ghost use Rattle.nla_wire.specs.Canon.{one};
+ghost use Rattle.nla_wire.specs.Canon.{canon};
 ghost use Rattle.nla_wire.specs.PlaceLaws.{ReadsBack, ListReadsBack, ListsBounded};
-ghost use Rattle.link_vf.specs.Values.{vf_stats_frame, VfStatsFits, vf_vlan_frame, VfVlanFits, vf_info_frame, VfInfoFits, vf_info_count, vf_port_frame, VfPortFits, link_vf_info_frame, LinkVfInfoFits, link_vf_info_count, link_vf_port_frame, LinkVfPortFits, link_vf_port_count};
-ghost use Rattle.link_vf.specs.Places.{vf_stats_place, vf_vlan_place, vf_info_place, vf_port_place, link_vf_info_place, link_vf_port_place, vf_info_list, vf_port_list};
+ghost use Rattle.nla_wire.proofs.Codec.{IsLawful};
+ghost use Rattle.link_vf.specs.Tables.{vf_stats_place, vf_vlan_place, vf_info_place, vf_port_place, link_vf_info_place, link_vf_port_place, vf_info_list, vf_port_list};
+ghost use Rattle.link_vf.specs.Dropped.{OthersDropped};
+ghost use Rattle.link_vf.specs.declared.stats.VfStats.TheVariants as stats;
+ghost use Rattle.link_vf.specs.declared.vf_info.VfInfo.TheVariants as info;
 
 /// `VfStats`, members of IFLA_VF_STATS.
 pub fn law_vf_stats()
-    ensures member { ReadsBack vf_stats_place.means vf_stats_frame VfStatsFits }
-    ensures again { ListReadsBack (list vf_stats_place).means vf_stats_frame VfStatsFits }
-    ensures bounds { ListsBounded slack (list vf_stats_place).means one vf_stats_frame }
+    ensures { IsLawful slack vf_stats_place }
 {}
 
 /// `VfVlan`, members of IFLA_VF_VLAN_LIST.
 pub fn law_vf_vlan()
-    ensures member { ReadsBack vf_vlan_place.means vf_vlan_frame VfVlanFits }
-    ensures again { ListReadsBack (list vf_vlan_place).means vf_vlan_frame VfVlanFits }
-    ensures bounds { ListsBounded slack (list vf_vlan_place).means one vf_vlan_frame }
+    ensures { IsLawful slack vf_vlan_place }
 {}
 
 /// `VfInfo`, members of IFLA_VF_INFO.
 pub fn law_vf_info()
-    ensures member { ReadsBack vf_info_place.means vf_info_frame VfInfoFits }
-    ensures again { ListReadsBack (list vf_info_place).means vf_info_frame VfInfoFits }
-    ensures bounds { ListsBounded slack (list vf_info_place).means vf_info_count vf_info_frame }
+    ensures { IsLawful slack vf_info_place }
 {}
 
 /// `VfPort`, members of IFLA_VF_PORT and of IFLA_PORT_SELF.
 pub fn law_vf_port()
-    ensures member { ReadsBack vf_port_place.means vf_port_frame VfPortFits }
-    ensures again { ListReadsBack (list vf_port_place).means vf_port_frame VfPortFits }
-    ensures bounds { ListsBounded slack (list vf_port_place).means one vf_port_frame }
+    ensures { IsLawful slack vf_port_place }
 {}
 
-/// `LinkVfInfo`, entries of IFLA_VFINFO_LIST, of which those with another number than 1 are dropped.
+/// `LinkVfInfo`, entries of IFLA_VFINFO_LIST, which have the number of IFLA_VF_INFO. Frames of other numbers are
+/// dropped: they can be anywhere in the list, and it means the same. All other places keep what no line reads.
 pub fn law_link_vf_info()
-    ensures member { ReadsBack link_vf_info_place.means link_vf_info_frame LinkVfInfoFits }
-    ensures again { ListReadsBack vf_info_list.means link_vf_info_frame LinkVfInfoFits }
-    ensures bounds { ListsBounded slack vf_info_list.means link_vf_info_count link_vf_info_frame }
+    ensures member { ReadsBack link_vf_info_place.grammar.means link_vf_info_place.frame link_vf_info_place.Fits }
+    ensures again { ListReadsBack vf_info_list.grammar.means link_vf_info_place.frame link_vf_info_place.Fits }
+    ensures bounds { ListsBounded slack vf_info_list.grammar.means link_vf_info_place.count link_vf_info_place.frame }
+    ensures dropped { OthersDropped vf_info_list.grammar }
 {}
 
-/// `LinkVfPort`, entries of IFLA_VF_PORTS, of which those with another number than 1 are dropped.
+/// `LinkVfPort`, entries of IFLA_VF_PORTS, which have the number of IFLA_VF_PORT. Frames of other numbers are dropped:
+/// they can be anywhere in the list, and it means the same. All other places keep what no line reads.
 pub fn law_link_vf_port()
-    ensures member { ReadsBack link_vf_port_place.means link_vf_port_frame LinkVfPortFits }
-    ensures again { ListReadsBack vf_port_list.means link_vf_port_frame LinkVfPortFits }
-    ensures bounds { ListsBounded slack vf_port_list.means link_vf_port_count link_vf_port_frame }
+    ensures member { ReadsBack link_vf_port_place.grammar.means link_vf_port_place.frame link_vf_port_place.Fits }
+    ensures again { ListReadsBack vf_port_list.grammar.means link_vf_port_place.frame link_vf_port_place.Fits }
+    ensures bounds { ListsBounded slack vf_port_list.grammar.means link_vf_port_place.count link_vf_port_place.frame }
+    ensures dropped { OthersDropped vf_port_list.grammar }
+{}
+
+/// One packet received is written as the length 12, the number 0, and eight bytes, lowest first.
+#[tactic(auto, unfolding(crate::specs::Tables::vf_stats_place))]
+pub fn law_rx_packets_in_bytes()
+    ensures { canon (vf_stats_place.frame (stats.RxPackets 1))
+        ≡ 0x0c ∷ 0x00 ∷ 0x00 ∷ 0x00 ∷ 0x01 ∷ 0x00 ∷ 0x00 ∷ 0x00 ∷ 0x00 ∷ 0x00 ∷ 0x00 ∷ 0x00 ∷ [] }
+{}
+
+/// That function 2 is trusted is written as the length 12, the number 9, and the function and the setting, four bytes
+/// each, lowest first.
+#[tactic(auto, unfolding(crate::specs::Tables::vf_info_place, link_vfrec::specs::Records::vf_info_trust_bytes))]
+pub fn law_trust_in_bytes()
+    ensures { canon (vf_info_place.frame (info.Trust (record { vf_id = 2; enabled = true })))
+        ≡ 0x0c ∷ 0x00 ∷ 0x09 ∷ 0x00 ∷ 0x02 ∷ 0x00 ∷ 0x00 ∷ 0x00 ∷ 0x01 ∷ 0x00 ∷ 0x00 ∷ 0x00 ∷ [] }
 {}

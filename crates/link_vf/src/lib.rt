@@ -2,6 +2,7 @@
 #![tactic(auto)]
 
 pub mod laws;
+pub mod numbers;
 pub mod port_list;
 pub mod stats;
 pub mod vf_info;

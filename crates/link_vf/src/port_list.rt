@@ -5,18 +5,18 @@ ghost use Rattle.nla_wire.specs.Sizes.{growth_per_byte};
 ghost use Rattle.nla_wire.specs.Canon.{canon, canons, AllFit, Canonical};
 ghost use Rattle.nla_wire.specs.Gives.{Fails, Gives, Checks};
 ghost use Rattle.nla_wire.specs.declared.error.Cause.TheVariants.{OutOfMemory};
-ghost use Rattle.link_vf.specs.Values.{vf_port_frame, VfPortFits, link_vf_port_members, link_vf_port_text, link_vf_port_frame, LinkVfPortFits};
-ghost use Rattle.link_vf.specs.Places.{link_vf_port, link_vf_port_place, vf_port_list};
+ghost use Rattle.link_vf.specs.Tables.{vf_port_place, link_vf_port_members, link_vf_port, link_vf_port_place, vf_port_list};
 
 use crate::VfPort;
+use crate::numbers::IFLA_VF_PORT;
 use nla_wire::{
     CloneIn, DecodeError, Exact, List, Nla, NlaBuffer, NlaRead, empty_list, list_fits,
     nlas_buffer_len, nlas_fill,
 };
 use std::alloc::Global;
 
-/// An entry of IFLA_VF_PORTS with the number 1, IFLA_VF_PORT (linux/if_link.h): what is said of one port. Alone it is the
-/// value of IFLA_PORT_SELF.
+/// An entry of IFLA_VF_PORTS, with the number of IFLA_VF_PORT (linux/if_link.h): what is said of one port. Alone it is
+/// the value of IFLA_PORT_SELF.
 #[derive(Debug, Drop, PartialEq, Eq)]
 pub struct LinkVfPort(pub List<VfPort>);
 
@@ -26,10 +26,11 @@ impl LinkVfPort {
     /// Refuses the empty payload with `EmptyList`, and else with the cause of the first fault, front to back, or with
     /// `OutOfMemory`.
     pub fn parse(alloc: Global, payload: &[u8]) -> Result<LinkVfPort, DecodeError>
-        ensures found { IfOk result (link_vf_port.means payload.now) }
-        ensures fault { IfErr result (λ e. e.cause ≢ OutOfMemory → link_vf_port.bad payload.now e.cause) }
-        ensures refused { IfErr result (λ e. e.cause ≢ OutOfMemory → (v : LinkVfPort) → link_vf_port.means payload.now v → ⊥) }
-        ensures reads { Gives result (link_vf_port.reads payload.now) }
+        ensures found { IfOk result (link_vf_port.grammar.means payload.now) }
+        ensures fault { IfErr result (λ e. e.cause ≢ OutOfMemory → link_vf_port.grammar.bad payload.now e.cause) }
+        ensures refused { IfErr result (λ e. e.cause ≢ OutOfMemory
+            → (v : LinkVfPort) → link_vf_port.grammar.means payload.now v → ⊥) }
+        ensures reads { Gives result (link_vf_port.grammar.reads payload.now) }
         ensures few { IfOk result (λ v. 4 * length (link_vf_port_members v) ≤ length payload.now) }
     {
         if payload.is_empty() {
@@ -39,13 +40,14 @@ impl LinkVfPort {
         Ok(LinkVfPort(List::new(members)))
     }
 
-    /// Whether a payload is an entry, with no memory taken: `Ok` where `parse` reads it, else the cause of its first fault.
+    /// Whether a payload is an entry, with no memory taken: `Ok` where `parse` reads it, else the cause of its first
+    /// fault.
     pub fn check(payload: &[u8]) -> Result<(), DecodeError>
-        ensures found { IfOk result (λ _. (v : LinkVfPort) × link_vf_port.means payload.now v) }
-        ensures fault { IfErr result (λ e. link_vf_port.bad payload.now e.cause) }
-        ensures refused { IfErr result (λ e. (v : LinkVfPort) → link_vf_port.means payload.now v → ⊥) }
+        ensures found { IfOk result (λ _. (v : LinkVfPort) × link_vf_port.grammar.means payload.now v) }
+        ensures fault { IfErr result (λ e. link_vf_port.grammar.bad payload.now e.cause) }
+        ensures refused { IfErr result (λ e. (v : LinkVfPort) → link_vf_port.grammar.means payload.now v → ⊥) }
         ensures memory { IfErr result (λ e. e.cause ≢ OutOfMemory) }
-        ensures reads { Checks result (link_vf_port.reads payload.now) }
+        ensures reads { Checks result (link_vf_port.grammar.reads payload.now) }
     {
         if payload.is_empty() {
             return Err(empty_list());
@@ -53,40 +55,46 @@ impl LinkVfPort {
         VfPort::check_list(payload)
     }
 
-    /// Writes the canonical text of the entry's members to the front of the buffer, with no memory taken, and answers its
-    /// length. The rest of the buffer is kept.
+    /// Writes the canonical text of the entry's members to the front of the buffer, with no memory taken, and answers
+    /// its length. The rest of the buffer is kept.
     ///
-    /// The buffer has 77 bytes for each byte of the payload. Answers `None` where a member does not fit, and the buffer's
-    /// bytes are open then.
+    /// The buffer has 77 bytes for each byte of the payload. Answers `None` where a member does not fit, and the
+    /// buffer's bytes are open then.
     pub fn canon(payload: &[u8], out: &mut [u8]) -> Option<usize>
-        requires accepted { IsOk (link_vf_port.reads payload.now) }
+        requires accepted { IsOk (link_vf_port.grammar.reads payload.now) }
         requires room { growth_per_byte * length payload.now ≤ length out.old }
-        ensures { Canonical link_vf_port_text (λ v. AllFit VfPortFits vf_port_frame (link_vf_port_members v)) (link_vf_port.reads payload.now) out.old out.new result }
+        ensures { Canonical link_vf_port.text
+            (λ v. AllFit vf_port_place.Fits vf_port_place.frame (link_vf_port_members v))
+            (link_vf_port.grammar.reads payload.now) out.old out.new result }
     {
         VfPort::canon_list(payload, out)
     }
 
-    /// Writes the attribute of this kind whose value is the canonical text of the entry's members, with no memory taken, and
-    /// answers its length. The rest of the buffer is kept.
+    /// Writes the attribute of this kind whose value is the canonical text of the entry's members, with no memory
+    /// taken, and answers its length. The rest of the buffer is kept.
     ///
-    /// The buffer has 77 bytes for each byte of the attribute's header and payload. Answers `None` too where the text has
-    /// more than 65531 bytes.
+    /// The buffer has 77 bytes for each byte of the attribute's header and payload. Answers `None` too where the text
+    /// has more than 65531 bytes.
     pub fn canon_entry(kind: u16, payload: &[u8], out: &mut [u8]) -> Option<usize>
-        requires accepted { IsOk (link_vf_port.reads payload.now) }
+        requires accepted { IsOk (link_vf_port.grammar.reads payload.now) }
         requires room { growth_per_byte * (4 + length payload.now) ≤ length out.old }
-        ensures { Canonical (λ v. canon (record { kind = kind; payload = link_vf_port_text v })) LinkVfPortFits (link_vf_port.reads payload.now) out.old out.new result }
+        ensures { Canonical (λ v. canon (record { kind = kind; payload = link_vf_port.text v }))
+            link_vf_port_place.Fits (link_vf_port.grammar.reads payload.now) out.old out.new result }
     {
         VfPort::canon_nested(kind, payload, out)
     }
 
-    /// Reads IFLA_VF_PORTS: entries with another number than 1 are dropped unread. The empty payload is the empty list.
+    /// Reads IFLA_VF_PORTS: entries with another number than IFLA_VF_PORT are dropped unread. The empty
+    /// payload is the empty list.
     ///
     /// Refuses with the cause of the first fault, front to back, or with `OutOfMemory`.
     pub fn parse_list(alloc: Global, payload: &[u8]) -> Result<Vec<LinkVfPort>, DecodeError>
-        ensures found { IfOk result (λ v. vf_port_list.means payload.now v.items) }
-        ensures fault { IfErr result (λ e. e.cause ≢ OutOfMemory → vf_port_list.bad payload.now e.cause) }
-        ensures refused { IfErr result (λ e. e.cause ≢ OutOfMemory → (vs : List LinkVfPort) → vf_port_list.means payload.now vs → ⊥) }
-        ensures reads { MatchResult result (λ v. vf_port_list.reads payload.now ≡ Ok v.items) (λ e. Fails e.cause (vf_port_list.reads payload.now)) }
+        ensures found { IfOk result (λ v. vf_port_list.grammar.means payload.now v.items) }
+        ensures fault { IfErr result (λ e. e.cause ≢ OutOfMemory → vf_port_list.grammar.bad payload.now e.cause) }
+        ensures refused { IfErr result (λ e. e.cause ≢ OutOfMemory
+            → (vs : List LinkVfPort) → vf_port_list.grammar.means payload.now vs → ⊥) }
+        ensures reads { MatchResult result (λ v. vf_port_list.grammar.reads payload.now ≡ Ok v.items)
+            (λ e. Fails e.cause (vf_port_list.grammar.reads payload.now)) }
         ensures few { IfOk result (λ v. 4 * length v.items ≤ length payload.now) }
     {
         LinkVfPort::parse_picked(alloc, payload)
@@ -95,11 +103,11 @@ impl LinkVfPort {
     /// Whether a payload is such a list, with no memory taken: `Ok` where `parse_list` reads it, else the cause of its
     /// first fault.
     pub fn check_list(payload: &[u8]) -> Result<(), DecodeError>
-        ensures found { IfOk result (λ _. (vs : List LinkVfPort) × vf_port_list.means payload.now vs) }
-        ensures fault { IfErr result (λ e. vf_port_list.bad payload.now e.cause) }
-        ensures refused { IfErr result (λ e. (vs : List LinkVfPort) → vf_port_list.means payload.now vs → ⊥) }
+        ensures found { IfOk result (λ _. (vs : List LinkVfPort) × vf_port_list.grammar.means payload.now vs) }
+        ensures fault { IfErr result (λ e. vf_port_list.grammar.bad payload.now e.cause) }
+        ensures refused { IfErr result (λ e. (vs : List LinkVfPort) → vf_port_list.grammar.means payload.now vs → ⊥) }
         ensures memory { IfErr result (λ e. e.cause ≢ OutOfMemory) }
-        ensures reads { Checks result (vf_port_list.reads payload.now) }
+        ensures reads { Checks result (vf_port_list.grammar.reads payload.now) }
     {
         LinkVfPort::check_picked(payload)
     }
@@ -107,26 +115,28 @@ impl LinkVfPort {
     /// Writes the canonical text of such a list's entries to the front of the buffer, with no memory taken, and answers
     /// its length. The rest of the buffer is kept.
     ///
-    /// The buffer has 77 bytes for each byte of the payload. Answers `None` where an entry does not fit, and the buffer's
-    /// bytes are open then.
+    /// The buffer has 77 bytes for each byte of the payload. Answers `None` where an entry does not fit, and the
+    /// buffer's bytes are open then.
     pub fn canon_list(payload: &[u8], out: &mut [u8]) -> Option<usize>
-        requires accepted { IsOk (vf_port_list.reads payload.now) }
+        requires accepted { IsOk (vf_port_list.grammar.reads payload.now) }
         requires room { growth_per_byte * length payload.now ≤ length out.old }
-        ensures { Canonical (canons link_vf_port_frame) (AllFit LinkVfPortFits link_vf_port_frame) (vf_port_list.reads payload.now) out.old out.new result }
+        ensures { Canonical (canons link_vf_port_place.frame) (AllFit link_vf_port_place.Fits link_vf_port_place.frame)
+            (vf_port_list.grammar.reads payload.now) out.old out.new result }
     {
         LinkVfPort::canon_picked(payload, out)
     }
 }
 
+#[tactic(auto, unfolding(crate::specs::Tables::link_vf_port_place))]
 impl Nla for LinkVfPort {
-    ghost frame = { link_vf_port_frame };
+    ghost frame = { link_vf_port_place.frame };
 
-    ghost fits = { LinkVfPortFits };
+    ghost fits = { link_vf_port_place.Fits };
 
-    ghost is_small = { λ x h. h.0 };
+    ghost is_small = { link_vf_port_place.is_small };
 
     fn kind(&self) -> u16 {
-        1
+        IFLA_VF_PORT
     }
 
     fn fits(&self) -> bool {
@@ -143,30 +153,30 @@ impl Nla for LinkVfPort {
 }
 
 impl NlaRead for LinkVfPort {
-    ghost use Rattle.link_vf.specs.Laws.{link_vf_port_lawful, link_vf_port_bounded};
+    ghost use Rattle.nla_wire.proofs.Codec.{place_bounded};
 
-    ghost grammar = { link_vf_port_place };
+    ghost grammar = { link_vf_port_place.grammar };
 
-    #[tactic(auto, unfolding(crate::specs::Places::link_vf_port_place))]
+    #[tactic(auto, unfolding(crate::specs::Tables::link_vf_port_place))]
     fn parse(alloc: Global, buffer: &NlaBuffer<'_>) -> Result<LinkVfPort, DecodeError> {
         LinkVfPort::parse(alloc, buffer.value())
     }
 
-    #[tactic(auto, unfolding(crate::specs::Places::link_vf_port_place))]
+    #[tactic(auto, unfolding(crate::specs::Tables::link_vf_port_place))]
     fn check(buffer: &NlaBuffer<'_>) -> Result<(), DecodeError> {
         LinkVfPort::check(buffer.value())
     }
 
-    #[tactic(auto, unfolding(crate::specs::Places::link_vf_port_place))]
+    #[tactic(auto, unfolding(crate::specs::Tables::link_vf_port_place))]
     fn canon(buffer: &NlaBuffer<'_>, out: &mut [u8]) -> Option<usize> {
-        LinkVfPort::canon_entry(1, buffer.value(), out)
+        LinkVfPort::canon_entry(IFLA_VF_PORT, buffer.value(), out)
     }
 
-    ghost agrees = { link_vf_port_lawful.agrees };
+    ghost agrees = { link_vf_port_place.lawful.agrees };
 
-    ghost no_memory = { link_vf_port_lawful.no_memory };
+    ghost no_memory = { link_vf_port_place.lawful.no_memory };
 
-    ghost bounded = { link_vf_port_bounded };
+    ghost bounded = { place_bounded link_vf_port_place };
 }
 
 impl CloneIn for LinkVfPort {

@@ -1,157 +1,124 @@
 //! Statistics of a virtual function, members of IFLA_VF_STATS.
 
+use crate::numbers::{
+    IFLA_VF_STATS_BROADCAST, IFLA_VF_STATS_MULTICAST, IFLA_VF_STATS_RX_BYTES,
+    IFLA_VF_STATS_RX_DROPPED, IFLA_VF_STATS_RX_PACKETS, IFLA_VF_STATS_TX_BYTES,
+    IFLA_VF_STATS_TX_DROPPED, IFLA_VF_STATS_TX_PACKETS,
+};
 use nla_wire::error::checked;
 use nla_wire::{
-    CloneIn, DecodeError, DefaultNla, Exact, Nla, NlaBuffer, NlaRead, canon_bytes, canon_u64,
-    fill_bytes, parse_u64,
+    CloneIn, Content, DecodeError, DefaultNla, Exact, Flat, Nla, NlaBuffer, NlaRead, canon_bytes,
+    canon_u64, parse_u64,
 };
 use std::alloc::Global;
 
 /// A member of IFLA_VF_STATS (linux/if_link.h): a number of eight bytes.
 #[derive(Debug, Drop, PartialEq, Eq)]
 pub enum VfStats {
-    /// IFLA_VF_STATS_RX_PACKETS, 0: packets received.
+    /// IFLA_VF_STATS_RX_PACKETS: packets received.
     RxPackets(u64),
-    /// IFLA_VF_STATS_TX_PACKETS, 1: packets sent.
+    /// IFLA_VF_STATS_TX_PACKETS: packets sent.
     TxPackets(u64),
-    /// IFLA_VF_STATS_RX_BYTES, 2: bytes received.
+    /// IFLA_VF_STATS_RX_BYTES: bytes received.
     RxBytes(u64),
-    /// IFLA_VF_STATS_TX_BYTES, 3: bytes sent.
+    /// IFLA_VF_STATS_TX_BYTES: bytes sent.
     TxBytes(u64),
-    /// IFLA_VF_STATS_BROADCAST, 4: broadcast packets received.
+    /// IFLA_VF_STATS_BROADCAST: broadcast packets received.
     Broadcast(u64),
-    /// IFLA_VF_STATS_MULTICAST, 5: multicast packets received.
+    /// IFLA_VF_STATS_MULTICAST: multicast packets received.
     Multicast(u64),
-    /// IFLA_VF_STATS_RX_DROPPED, 7: packets dropped on receipt.
+    /// IFLA_VF_STATS_RX_DROPPED: packets dropped on receipt.
     RxDropped(u64),
-    /// IFLA_VF_STATS_TX_DROPPED, 8: packets dropped on sending.
+    /// IFLA_VF_STATS_TX_DROPPED: packets dropped on sending.
     TxDropped(u64),
     /// A number that is not listed here.
     Other(DefaultNla),
 }
 
-impl Nla for VfStats {
-    ghost use Rattle.link_vf.specs.Values.{vf_stats_frame, VfStatsFits};
+#[tactic(auto, unfolding(crate::specs::Tables::vf_stats_place))]
+impl Flat for VfStats {
+    ghost use Rattle.link_vf.specs.Tables.{vf_stats_place, vf_stats_small};
 
-    ghost frame = { vf_stats_frame };
+    ghost frame = { vf_stats_place.frame };
 
-    ghost fits = { VfStatsFits };
+    ghost fits = { vf_stats_place.Fits };
 
-    ghost is_small = { λ x h. h };
+    ghost is_small = { vf_stats_place.is_small };
 
-    fn kind(&self) -> u16 {
+    ghost when_small = { vf_stats_small };
+
+    #[inline]
+    fn view(&self) -> (u16, Content<'_>) {
         match self {
-            VfStats::RxPackets(_) => 0,
-            VfStats::TxPackets(_) => 1,
-            VfStats::RxBytes(_) => 2,
-            VfStats::TxBytes(_) => 3,
-            VfStats::Broadcast(_) => 4,
-            VfStats::Multicast(_) => 5,
-            VfStats::RxDropped(_) => 7,
-            VfStats::TxDropped(_) => 8,
-            VfStats::Other(nla) => nla.kind(),
-        }
-    }
-
-    fn fits(&self) -> bool {
-        match self {
-            VfStats::RxPackets(_) => true,
-            VfStats::TxPackets(_) => true,
-            VfStats::RxBytes(_) => true,
-            VfStats::TxBytes(_) => true,
-            VfStats::Broadcast(_) => true,
-            VfStats::Multicast(_) => true,
-            VfStats::RxDropped(_) => true,
-            VfStats::TxDropped(_) => true,
-            VfStats::Other(nla) => nla.fits(),
-        }
-    }
-
-    fn value_len(&self) -> usize {
-        match self {
-            VfStats::RxPackets(_) => 8,
-            VfStats::TxPackets(_) => 8,
-            VfStats::RxBytes(_) => 8,
-            VfStats::TxBytes(_) => 8,
-            VfStats::Broadcast(_) => 8,
-            VfStats::Multicast(_) => 8,
-            VfStats::RxDropped(_) => 8,
-            VfStats::TxDropped(_) => 8,
-            VfStats::Other(nla) => nla.value_len(),
-        }
-    }
-
-    fn fill_value(&self, buffer: &mut [u8]) -> usize {
-        match self {
-            VfStats::RxPackets(n) => fill_bytes(buffer, &n.to_le_bytes()),
-            VfStats::TxPackets(n) => fill_bytes(buffer, &n.to_le_bytes()),
-            VfStats::RxBytes(n) => fill_bytes(buffer, &n.to_le_bytes()),
-            VfStats::TxBytes(n) => fill_bytes(buffer, &n.to_le_bytes()),
-            VfStats::Broadcast(n) => fill_bytes(buffer, &n.to_le_bytes()),
-            VfStats::Multicast(n) => fill_bytes(buffer, &n.to_le_bytes()),
-            VfStats::RxDropped(n) => fill_bytes(buffer, &n.to_le_bytes()),
-            VfStats::TxDropped(n) => fill_bytes(buffer, &n.to_le_bytes()),
-            VfStats::Other(nla) => nla.fill_value(buffer),
+            VfStats::RxPackets(n) => (IFLA_VF_STATS_RX_PACKETS, Content::U64(*n)),
+            VfStats::TxPackets(n) => (IFLA_VF_STATS_TX_PACKETS, Content::U64(*n)),
+            VfStats::RxBytes(n) => (IFLA_VF_STATS_RX_BYTES, Content::U64(*n)),
+            VfStats::TxBytes(n) => (IFLA_VF_STATS_TX_BYTES, Content::U64(*n)),
+            VfStats::Broadcast(n) => (IFLA_VF_STATS_BROADCAST, Content::U64(*n)),
+            VfStats::Multicast(n) => (IFLA_VF_STATS_MULTICAST, Content::U64(*n)),
+            VfStats::RxDropped(n) => (IFLA_VF_STATS_RX_DROPPED, Content::U64(*n)),
+            VfStats::TxDropped(n) => (IFLA_VF_STATS_TX_DROPPED, Content::U64(*n)),
+            VfStats::Other(nla) => (nla.kind(), Content::Bytes(nla.value())),
         }
     }
 }
 
 impl NlaRead for VfStats {
-    ghost use Rattle.link_vf.specs.Places.{vf_stats_place};
-    ghost use Rattle.link_vf.specs.Laws.{vf_stats_lawful, vf_stats_bounded};
+    ghost use Rattle.nla_wire.proofs.Codec.{place_bounded};
+    ghost use Rattle.link_vf.specs.Tables.{vf_stats_place};
 
-    ghost grammar = { vf_stats_place };
+    ghost grammar = { vf_stats_place.grammar };
 
-    #[tactic(auto, unfolding(crate::specs::Places::vf_stats_place))]
+    #[tactic(auto, unfolding(crate::specs::Tables::vf_stats_place))]
     fn parse(alloc: Global, buffer: &NlaBuffer<'_>) -> Result<VfStats, DecodeError> {
         match buffer.kind() {
-            0 => parse_u64(buffer.value()).map(VfStats::RxPackets),
-            1 => parse_u64(buffer.value()).map(VfStats::TxPackets),
-            2 => parse_u64(buffer.value()).map(VfStats::RxBytes),
-            3 => parse_u64(buffer.value()).map(VfStats::TxBytes),
-            4 => parse_u64(buffer.value()).map(VfStats::Broadcast),
-            5 => parse_u64(buffer.value()).map(VfStats::Multicast),
-            7 => parse_u64(buffer.value()).map(VfStats::RxDropped),
-            8 => parse_u64(buffer.value()).map(VfStats::TxDropped),
+            IFLA_VF_STATS_RX_PACKETS => parse_u64(buffer.value()).map(VfStats::RxPackets),
+            IFLA_VF_STATS_TX_PACKETS => parse_u64(buffer.value()).map(VfStats::TxPackets),
+            IFLA_VF_STATS_RX_BYTES => parse_u64(buffer.value()).map(VfStats::RxBytes),
+            IFLA_VF_STATS_TX_BYTES => parse_u64(buffer.value()).map(VfStats::TxBytes),
+            IFLA_VF_STATS_BROADCAST => parse_u64(buffer.value()).map(VfStats::Broadcast),
+            IFLA_VF_STATS_MULTICAST => parse_u64(buffer.value()).map(VfStats::Multicast),
+            IFLA_VF_STATS_RX_DROPPED => parse_u64(buffer.value()).map(VfStats::RxDropped),
+            IFLA_VF_STATS_TX_DROPPED => parse_u64(buffer.value()).map(VfStats::TxDropped),
             _ => DefaultNla::parse(alloc, buffer).map(VfStats::Other),
         }
     }
 
-    #[tactic(auto, unfolding(crate::specs::Places::vf_stats_place))]
+    #[tactic(auto, unfolding(crate::specs::Tables::vf_stats_place))]
     fn check(buffer: &NlaBuffer<'_>) -> Result<(), DecodeError> {
         match buffer.kind() {
-            0 => checked(parse_u64(buffer.value())),
-            1 => checked(parse_u64(buffer.value())),
-            2 => checked(parse_u64(buffer.value())),
-            3 => checked(parse_u64(buffer.value())),
-            4 => checked(parse_u64(buffer.value())),
-            5 => checked(parse_u64(buffer.value())),
-            7 => checked(parse_u64(buffer.value())),
-            8 => checked(parse_u64(buffer.value())),
+            IFLA_VF_STATS_RX_PACKETS => checked(parse_u64(buffer.value())),
+            IFLA_VF_STATS_TX_PACKETS => checked(parse_u64(buffer.value())),
+            IFLA_VF_STATS_RX_BYTES => checked(parse_u64(buffer.value())),
+            IFLA_VF_STATS_TX_BYTES => checked(parse_u64(buffer.value())),
+            IFLA_VF_STATS_BROADCAST => checked(parse_u64(buffer.value())),
+            IFLA_VF_STATS_MULTICAST => checked(parse_u64(buffer.value())),
+            IFLA_VF_STATS_RX_DROPPED => checked(parse_u64(buffer.value())),
+            IFLA_VF_STATS_TX_DROPPED => checked(parse_u64(buffer.value())),
             _ => Ok(()),
         }
     }
 
-    #[tactic(auto, unfolding(crate::specs::Places::vf_stats_place, nla_wire::specs::Payloads::read_number))]
+    #[tactic(auto, unfolding(crate::specs::Tables::vf_stats_place, nla_wire::specs::Payloads::read_number))]
     fn canon(buffer: &NlaBuffer<'_>, out: &mut [u8]) -> Option<usize> {
         match buffer.kind() {
-            0 => canon_u64(0, buffer.value(), out),
-            1 => canon_u64(1, buffer.value(), out),
-            2 => canon_u64(2, buffer.value(), out),
-            3 => canon_u64(3, buffer.value(), out),
-            4 => canon_u64(4, buffer.value(), out),
-            5 => canon_u64(5, buffer.value(), out),
-            7 => canon_u64(7, buffer.value(), out),
-            8 => canon_u64(8, buffer.value(), out),
+            IFLA_VF_STATS_RX_PACKETS => canon_u64(IFLA_VF_STATS_RX_PACKETS, buffer.value(), out),
+            IFLA_VF_STATS_TX_PACKETS => canon_u64(IFLA_VF_STATS_TX_PACKETS, buffer.value(), out),
+            IFLA_VF_STATS_RX_BYTES => canon_u64(IFLA_VF_STATS_RX_BYTES, buffer.value(), out),
+            IFLA_VF_STATS_TX_BYTES => canon_u64(IFLA_VF_STATS_TX_BYTES, buffer.value(), out),
+            IFLA_VF_STATS_BROADCAST => canon_u64(IFLA_VF_STATS_BROADCAST, buffer.value(), out),
+            IFLA_VF_STATS_MULTICAST => canon_u64(IFLA_VF_STATS_MULTICAST, buffer.value(), out),
+            IFLA_VF_STATS_RX_DROPPED => canon_u64(IFLA_VF_STATS_RX_DROPPED, buffer.value(), out),
+            IFLA_VF_STATS_TX_DROPPED => canon_u64(IFLA_VF_STATS_TX_DROPPED, buffer.value(), out),
             _ => canon_bytes(buffer.kind_with_flags(), buffer.value(), out),
         }
     }
 
-    ghost agrees = { vf_stats_lawful.agrees };
+    ghost agrees = { vf_stats_place.lawful.agrees };
 
-    ghost no_memory = { vf_stats_lawful.no_memory };
+    ghost no_memory = { vf_stats_place.lawful.no_memory };
 
-    ghost bounded = { vf_stats_bounded };
+    ghost bounded = { place_bounded vf_stats_place };
 }
 
 impl CloneIn for VfStats {

@@ -5,17 +5,18 @@ ghost use Rattle.nla_wire.specs.Sizes.{growth_per_byte};
 ghost use Rattle.nla_wire.specs.Canon.{canon, canons, AllFit, Canonical};
 ghost use Rattle.nla_wire.specs.Gives.{Fails, Gives, Checks};
 ghost use Rattle.nla_wire.specs.declared.error.Cause.TheVariants.{OutOfMemory};
-ghost use Rattle.link_vf.specs.Values.{vf_info_frame, VfInfoFits, link_vf_info_members, link_vf_info_text, link_vf_info_frame, LinkVfInfoFits};
-ghost use Rattle.link_vf.specs.Places.{link_vf_info, link_vf_info_place, vf_info_list};
+ghost use Rattle.link_vf.specs.Tables.{vf_info_place, link_vf_info_members, link_vf_info, link_vf_info_place, vf_info_list};
 
 use crate::VfInfo;
+use crate::numbers::IFLA_VF_INFO;
 use nla_wire::{
     CloneIn, DecodeError, Exact, List, Nla, NlaBuffer, NlaRead, empty_list, list_fits,
     nlas_buffer_len, nlas_fill,
 };
 use std::alloc::Global;
 
-/// An entry of IFLA_VFINFO_LIST with the number 1, IFLA_VF_INFO (linux/if_link.h): what is said of one virtual function.
+/// An entry of IFLA_VFINFO_LIST, with the number of IFLA_VF_INFO (linux/if_link.h): what is said of one virtual
+/// function.
 #[derive(Debug, Drop, PartialEq, Eq)]
 pub struct LinkVfInfo(pub List<VfInfo>);
 
@@ -25,10 +26,11 @@ impl LinkVfInfo {
     /// Refuses the empty payload with `EmptyList`, and else with the cause of the first fault, front to back, or with
     /// `OutOfMemory`.
     pub fn parse(alloc: Global, payload: &[u8]) -> Result<LinkVfInfo, DecodeError>
-        ensures found { IfOk result (link_vf_info.means payload.now) }
-        ensures fault { IfErr result (λ e. e.cause ≢ OutOfMemory → link_vf_info.bad payload.now e.cause) }
-        ensures refused { IfErr result (λ e. e.cause ≢ OutOfMemory → (v : LinkVfInfo) → link_vf_info.means payload.now v → ⊥) }
-        ensures reads { Gives result (link_vf_info.reads payload.now) }
+        ensures found { IfOk result (link_vf_info.grammar.means payload.now) }
+        ensures fault { IfErr result (λ e. e.cause ≢ OutOfMemory → link_vf_info.grammar.bad payload.now e.cause) }
+        ensures refused { IfErr result (λ e. e.cause ≢ OutOfMemory
+            → (v : LinkVfInfo) → link_vf_info.grammar.means payload.now v → ⊥) }
+        ensures reads { Gives result (link_vf_info.grammar.reads payload.now) }
         ensures few { IfOk result (λ v. 4 * length (link_vf_info_members v) ≤ length payload.now) }
     {
         if payload.is_empty() {
@@ -38,13 +40,14 @@ impl LinkVfInfo {
         Ok(LinkVfInfo(List::new(members)))
     }
 
-    /// Whether a payload is an entry, with no memory taken: `Ok` where `parse` reads it, else the cause of its first fault.
+    /// Whether a payload is an entry, with no memory taken: `Ok` where `parse` reads it, else the cause of its first
+    /// fault.
     pub fn check(payload: &[u8]) -> Result<(), DecodeError>
-        ensures found { IfOk result (λ _. (v : LinkVfInfo) × link_vf_info.means payload.now v) }
-        ensures fault { IfErr result (λ e. link_vf_info.bad payload.now e.cause) }
-        ensures refused { IfErr result (λ e. (v : LinkVfInfo) → link_vf_info.means payload.now v → ⊥) }
+        ensures found { IfOk result (λ _. (v : LinkVfInfo) × link_vf_info.grammar.means payload.now v) }
+        ensures fault { IfErr result (λ e. link_vf_info.grammar.bad payload.now e.cause) }
+        ensures refused { IfErr result (λ e. (v : LinkVfInfo) → link_vf_info.grammar.means payload.now v → ⊥) }
         ensures memory { IfErr result (λ e. e.cause ≢ OutOfMemory) }
-        ensures reads { Checks result (link_vf_info.reads payload.now) }
+        ensures reads { Checks result (link_vf_info.grammar.reads payload.now) }
     {
         if payload.is_empty() {
             return Err(empty_list());
@@ -52,40 +55,46 @@ impl LinkVfInfo {
         VfInfo::check_list(payload)
     }
 
-    /// Writes the canonical text of the entry's members to the front of the buffer, with no memory taken, and answers its
-    /// length. The rest of the buffer is kept.
+    /// Writes the canonical text of the entry's members to the front of the buffer, with no memory taken, and answers
+    /// its length. The rest of the buffer is kept.
     ///
-    /// The buffer has 77 bytes for each byte of the payload. Answers `None` where a member does not fit, and the buffer's
-    /// bytes are open then.
+    /// The buffer has 77 bytes for each byte of the payload. Answers `None` where a member does not fit, and the
+    /// buffer's bytes are open then.
     pub fn canon(payload: &[u8], out: &mut [u8]) -> Option<usize>
-        requires accepted { IsOk (link_vf_info.reads payload.now) }
+        requires accepted { IsOk (link_vf_info.grammar.reads payload.now) }
         requires room { growth_per_byte * length payload.now ≤ length out.old }
-        ensures { Canonical link_vf_info_text (λ v. AllFit VfInfoFits vf_info_frame (link_vf_info_members v)) (link_vf_info.reads payload.now) out.old out.new result }
+        ensures { Canonical link_vf_info.text
+            (λ v. AllFit vf_info_place.Fits vf_info_place.frame (link_vf_info_members v))
+            (link_vf_info.grammar.reads payload.now) out.old out.new result }
     {
         VfInfo::canon_list(payload, out)
     }
 
-    /// Writes the attribute of this kind whose value is the canonical text of the entry's members, with no memory taken, and
-    /// answers its length. The rest of the buffer is kept.
+    /// Writes the attribute of this kind whose value is the canonical text of the entry's members, with no memory
+    /// taken, and answers its length. The rest of the buffer is kept.
     ///
-    /// The buffer has 77 bytes for each byte of the attribute's header and payload. Answers `None` too where the text has
-    /// more than 65531 bytes.
+    /// The buffer has 77 bytes for each byte of the attribute's header and payload. Answers `None` too where the text
+    /// has more than 65531 bytes.
     pub fn canon_entry(kind: u16, payload: &[u8], out: &mut [u8]) -> Option<usize>
-        requires accepted { IsOk (link_vf_info.reads payload.now) }
+        requires accepted { IsOk (link_vf_info.grammar.reads payload.now) }
         requires room { growth_per_byte * (4 + length payload.now) ≤ length out.old }
-        ensures { Canonical (λ v. canon (record { kind = kind; payload = link_vf_info_text v })) LinkVfInfoFits (link_vf_info.reads payload.now) out.old out.new result }
+        ensures { Canonical (λ v. canon (record { kind = kind; payload = link_vf_info.text v }))
+            link_vf_info_place.Fits (link_vf_info.grammar.reads payload.now) out.old out.new result }
     {
         VfInfo::canon_nested(kind, payload, out)
     }
 
-    /// Reads IFLA_VFINFO_LIST: entries with another number than 1 are dropped unread. The empty payload is the empty list.
+    /// Reads IFLA_VFINFO_LIST: entries with another number than IFLA_VF_INFO are dropped unread. The empty
+    /// payload is the empty list.
     ///
     /// Refuses with the cause of the first fault, front to back, or with `OutOfMemory`.
     pub fn parse_list(alloc: Global, payload: &[u8]) -> Result<Vec<LinkVfInfo>, DecodeError>
-        ensures found { IfOk result (λ v. vf_info_list.means payload.now v.items) }
-        ensures fault { IfErr result (λ e. e.cause ≢ OutOfMemory → vf_info_list.bad payload.now e.cause) }
-        ensures refused { IfErr result (λ e. e.cause ≢ OutOfMemory → (vs : List LinkVfInfo) → vf_info_list.means payload.now vs → ⊥) }
-        ensures reads { MatchResult result (λ v. vf_info_list.reads payload.now ≡ Ok v.items) (λ e. Fails e.cause (vf_info_list.reads payload.now)) }
+        ensures found { IfOk result (λ v. vf_info_list.grammar.means payload.now v.items) }
+        ensures fault { IfErr result (λ e. e.cause ≢ OutOfMemory → vf_info_list.grammar.bad payload.now e.cause) }
+        ensures refused { IfErr result (λ e. e.cause ≢ OutOfMemory
+            → (vs : List LinkVfInfo) → vf_info_list.grammar.means payload.now vs → ⊥) }
+        ensures reads { MatchResult result (λ v. vf_info_list.grammar.reads payload.now ≡ Ok v.items)
+            (λ e. Fails e.cause (vf_info_list.grammar.reads payload.now)) }
         ensures few { IfOk result (λ v. 4 * length v.items ≤ length payload.now) }
     {
         LinkVfInfo::parse_picked(alloc, payload)
@@ -94,11 +103,11 @@ impl LinkVfInfo {
     /// Whether a payload is such a list, with no memory taken: `Ok` where `parse_list` reads it, else the cause of its
     /// first fault.
     pub fn check_list(payload: &[u8]) -> Result<(), DecodeError>
-        ensures found { IfOk result (λ _. (vs : List LinkVfInfo) × vf_info_list.means payload.now vs) }
-        ensures fault { IfErr result (λ e. vf_info_list.bad payload.now e.cause) }
-        ensures refused { IfErr result (λ e. (vs : List LinkVfInfo) → vf_info_list.means payload.now vs → ⊥) }
+        ensures found { IfOk result (λ _. (vs : List LinkVfInfo) × vf_info_list.grammar.means payload.now vs) }
+        ensures fault { IfErr result (λ e. vf_info_list.grammar.bad payload.now e.cause) }
+        ensures refused { IfErr result (λ e. (vs : List LinkVfInfo) → vf_info_list.grammar.means payload.now vs → ⊥) }
         ensures memory { IfErr result (λ e. e.cause ≢ OutOfMemory) }
-        ensures reads { Checks result (vf_info_list.reads payload.now) }
+        ensures reads { Checks result (vf_info_list.grammar.reads payload.now) }
     {
         LinkVfInfo::check_picked(payload)
     }
@@ -106,26 +115,28 @@ impl LinkVfInfo {
     /// Writes the canonical text of such a list's entries to the front of the buffer, with no memory taken, and answers
     /// its length. The rest of the buffer is kept.
     ///
-    /// The buffer has 77 bytes for each byte of the payload. Answers `None` where an entry does not fit, and the buffer's
-    /// bytes are open then.
+    /// The buffer has 77 bytes for each byte of the payload. Answers `None` where an entry does not fit, and the
+    /// buffer's bytes are open then.
     pub fn canon_list(payload: &[u8], out: &mut [u8]) -> Option<usize>
-        requires accepted { IsOk (vf_info_list.reads payload.now) }
+        requires accepted { IsOk (vf_info_list.grammar.reads payload.now) }
         requires room { growth_per_byte * length payload.now ≤ length out.old }
-        ensures { Canonical (canons link_vf_info_frame) (AllFit LinkVfInfoFits link_vf_info_frame) (vf_info_list.reads payload.now) out.old out.new result }
+        ensures { Canonical (canons link_vf_info_place.frame) (AllFit link_vf_info_place.Fits link_vf_info_place.frame)
+            (vf_info_list.grammar.reads payload.now) out.old out.new result }
     {
         LinkVfInfo::canon_picked(payload, out)
     }
 }
 
+#[tactic(auto, unfolding(crate::specs::Tables::link_vf_info_place))]
 impl Nla for LinkVfInfo {
-    ghost frame = { link_vf_info_frame };
+    ghost frame = { link_vf_info_place.frame };
 
-    ghost fits = { LinkVfInfoFits };
+    ghost fits = { link_vf_info_place.Fits };
 
-    ghost is_small = { λ x h. h.0 };
+    ghost is_small = { link_vf_info_place.is_small };
 
     fn kind(&self) -> u16 {
-        1
+        IFLA_VF_INFO
     }
 
     fn fits(&self) -> bool {
@@ -142,30 +153,30 @@ impl Nla for LinkVfInfo {
 }
 
 impl NlaRead for LinkVfInfo {
-    ghost use Rattle.link_vf.specs.Laws.{link_vf_info_lawful, link_vf_info_bounded};
+    ghost use Rattle.nla_wire.proofs.Codec.{place_bounded};
 
-    ghost grammar = { link_vf_info_place };
+    ghost grammar = { link_vf_info_place.grammar };
 
-    #[tactic(auto, unfolding(crate::specs::Places::link_vf_info_place))]
+    #[tactic(auto, unfolding(crate::specs::Tables::link_vf_info_place))]
     fn parse(alloc: Global, buffer: &NlaBuffer<'_>) -> Result<LinkVfInfo, DecodeError> {
         LinkVfInfo::parse(alloc, buffer.value())
     }
 
-    #[tactic(auto, unfolding(crate::specs::Places::link_vf_info_place))]
+    #[tactic(auto, unfolding(crate::specs::Tables::link_vf_info_place))]
     fn check(buffer: &NlaBuffer<'_>) -> Result<(), DecodeError> {
         LinkVfInfo::check(buffer.value())
     }
 
-    #[tactic(auto, unfolding(crate::specs::Places::link_vf_info_place))]
+    #[tactic(auto, unfolding(crate::specs::Tables::link_vf_info_place))]
     fn canon(buffer: &NlaBuffer<'_>, out: &mut [u8]) -> Option<usize> {
-        LinkVfInfo::canon_entry(1, buffer.value(), out)
+        LinkVfInfo::canon_entry(IFLA_VF_INFO, buffer.value(), out)
     }
 
-    ghost agrees = { link_vf_info_lawful.agrees };
+    ghost agrees = { link_vf_info_place.lawful.agrees };
 
-    ghost no_memory = { link_vf_info_lawful.no_memory };
+    ghost no_memory = { link_vf_info_place.lawful.no_memory };
 
-    ghost bounded = { link_vf_info_bounded };
+    ghost bounded = { place_bounded link_vf_info_place };
 }
 
 impl CloneIn for LinkVfInfo {

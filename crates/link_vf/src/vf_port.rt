@@ -1,6 +1,8 @@
 //! What is said of a port, members of IFLA_VF_PORT and of IFLA_PORT_SELF.
 
-use nla_wire::{CloneIn, DecodeError, DefaultNla, Exact, Nla, NlaBuffer, NlaRead, canon_bytes};
+use nla_wire::{
+    CloneIn, Content, DecodeError, DefaultNla, Exact, Flat, Nla, NlaBuffer, NlaRead, canon_bytes,
+};
 use std::alloc::Global;
 
 /// A member of IFLA_VF_PORT (linux/if_link.h).
@@ -10,66 +12,52 @@ pub enum VfPort {
     Other(DefaultNla),
 }
 
-impl Nla for VfPort {
-    ghost use Rattle.link_vf.specs.Values.{vf_port_frame, VfPortFits};
+#[tactic(auto, unfolding(crate::specs::Tables::vf_port_place))]
+impl Flat for VfPort {
+    ghost use Rattle.link_vf.specs.Tables.{vf_port_place, vf_port_small};
 
-    ghost frame = { vf_port_frame };
+    ghost frame = { vf_port_place.frame };
 
-    ghost fits = { VfPortFits };
+    ghost fits = { vf_port_place.Fits };
 
-    ghost is_small = { λ x h. h };
+    ghost is_small = { vf_port_place.is_small };
 
-    fn kind(&self) -> u16 {
+    ghost when_small = { vf_port_small };
+
+    #[inline]
+    fn view(&self) -> (u16, Content<'_>) {
         match self {
-            VfPort::Other(nla) => nla.kind(),
-        }
-    }
-
-    fn fits(&self) -> bool {
-        match self {
-            VfPort::Other(nla) => nla.fits(),
-        }
-    }
-
-    fn value_len(&self) -> usize {
-        match self {
-            VfPort::Other(nla) => nla.value_len(),
-        }
-    }
-
-    fn fill_value(&self, buffer: &mut [u8]) -> usize {
-        match self {
-            VfPort::Other(nla) => nla.fill_value(buffer),
+            VfPort::Other(nla) => (nla.kind(), Content::Bytes(nla.value())),
         }
     }
 }
 
 impl NlaRead for VfPort {
-    ghost use Rattle.link_vf.specs.Places.{vf_port_place};
-    ghost use Rattle.link_vf.specs.Laws.{vf_port_lawful, vf_port_bounded};
+    ghost use Rattle.nla_wire.proofs.Codec.{place_bounded};
+    ghost use Rattle.link_vf.specs.Tables.{vf_port_place};
 
-    ghost grammar = { vf_port_place };
+    ghost grammar = { vf_port_place.grammar };
 
-    #[tactic(auto, unfolding(crate::specs::Places::vf_port_place))]
+    #[tactic(auto, unfolding(crate::specs::Tables::vf_port_place))]
     fn parse(alloc: Global, buffer: &NlaBuffer<'_>) -> Result<VfPort, DecodeError> {
         DefaultNla::parse(alloc, buffer).map(VfPort::Other)
     }
 
-    #[tactic(auto, unfolding(crate::specs::Places::vf_port_place))]
+    #[tactic(auto, unfolding(crate::specs::Tables::vf_port_place))]
     fn check(_buffer: &NlaBuffer<'_>) -> Result<(), DecodeError> {
         Ok(())
     }
 
-    #[tactic(auto, unfolding(crate::specs::Places::vf_port_place))]
+    #[tactic(auto, unfolding(crate::specs::Tables::vf_port_place))]
     fn canon(buffer: &NlaBuffer<'_>, out: &mut [u8]) -> Option<usize> {
         canon_bytes(buffer.kind_with_flags(), buffer.value(), out)
     }
 
-    ghost agrees = { vf_port_lawful.agrees };
+    ghost agrees = { vf_port_place.lawful.agrees };
 
-    ghost no_memory = { vf_port_lawful.no_memory };
+    ghost no_memory = { vf_port_place.lawful.no_memory };
 
-    ghost bounded = { vf_port_bounded };
+    ghost bounded = { place_bounded vf_port_place };
 }
 
 impl CloneIn for VfPort {

@@ -1,21 +1,12 @@
 use Rattle.std.proofs.Common.{lit≤}
-use Rattle.nla_wire.specs.Canon.{one}
-use Rattle.link_afspec.specs.Values.{af_spec_inet_frame, AfSpecInetFits}
-use Rattle.link_afspec.specs.Places.{af_spec_inet_place}
-use Rattle.nla_wire.specs.Sizes.{inner_small}
-use Rattle.link_afspec.specs.Laws.{af_spec_inet_lawful}
-use Rattle.nla_wire.proofs.PlaceLaws.{place_reads_back, list_reads_back, lists_bounded}
+use Rattle.nla_wire.proofs.Codec.{is_lawful}
+use Rattle.link_afspec.specs.Tables.{af_spec_inet_place}
 use Rattle.link_afspec.proofs.Lawed.{request_never_read}
 use Rattle.link_afspec.proofs.laws.law_af_spec_inet.Goals as goal
 
-pub returns-clause-member : goal.returns-clause-member
-returns-clause-member c = place_reads_back af_spec_inet_place af_spec_inet_frame AfSpecInetFits one 0 inner_small af_spec_inet_lawful
-
-pub returns-clause-again : goal.returns-clause-again
-returns-clause-again c = list_reads_back af_spec_inet_place af_spec_inet_frame AfSpecInetFits one 0 inner_small af_spec_inet_lawful
-
-pub returns-clause-bounds : goal.returns-clause-bounds
-returns-clause-bounds c = lists_bounded af_spec_inet_place af_spec_inet_frame AfSpecInetFits one 0 inner_small af_spec_inet_lawful (lit≤ tt)
+pub returns-clause-lawful : goal.returns-clause-lawful
+unfolding af_spec_inet_place
+returns-clause-lawful c = is_lawful af_spec_inet_place (lit≤ tt)
 
 pub returns-clause-request : goal.returns-clause-request
 returns-clause-request c = request_never_read

@@ -1,17 +1,8 @@
 use Rattle.std.proofs.Common.{lit≤}
-use Rattle.nla_wire.specs.Sizes.{slack, inner_small}
-use Rattle.nla_wire.specs.Canon.{one}
-use Rattle.link_afspec.specs.Values.{af_spec_mctp_frame, AfSpecMctpFits}
-use Rattle.link_afspec.specs.Places.{af_spec_mctp_place}
-use Rattle.link_afspec.specs.Laws.{af_spec_mctp_lawful}
-use Rattle.nla_wire.proofs.PlaceLaws.{place_reads_back, list_reads_back, lists_bounded}
+use Rattle.nla_wire.proofs.Codec.{is_lawful}
+use Rattle.link_afspec.specs.Tables.{af_spec_mctp_place}
 use Rattle.link_afspec.proofs.laws.law_af_spec_mctp.Goals as goal
 
-pub returns-clause-member : goal.returns-clause-member
-returns-clause-member c = place_reads_back af_spec_mctp_place af_spec_mctp_frame AfSpecMctpFits one slack inner_small af_spec_mctp_lawful
-
-pub returns-clause-again : goal.returns-clause-again
-returns-clause-again c = list_reads_back af_spec_mctp_place af_spec_mctp_frame AfSpecMctpFits one slack inner_small af_spec_mctp_lawful
-
-pub returns-clause-bounds : goal.returns-clause-bounds
-returns-clause-bounds c = lists_bounded af_spec_mctp_place af_spec_mctp_frame AfSpecMctpFits one slack inner_small af_spec_mctp_lawful (lit≤ tt)
+pub returns : goal.returns
+unfolding af_spec_mctp_place
+returns c = is_lawful af_spec_mctp_place (lit≤ tt)

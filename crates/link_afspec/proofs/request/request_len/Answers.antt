@@ -2,6 +2,7 @@ use Rattle.std.proofs.Common.{◌≡◌, ◌+◌, ◌-◌, ◌∙◌, length, dr
 use Rattle.std.specs.Prelude.{ℤ}
 use mir.Val.{SFits}
 use Rattle.std.proofs.lemmas.Int.{to_z-of_z}
+use Rattle.link_recs.specs.declared.inet.TheConstants.{INET_DEV_CONF_COUNT}
 use Rattle.link_afspec.specs.Requests.{settings_of, setting_text, settings_text}
 use Rattle.link_afspec.proofs.Requests.{request_from, request_end, request_whole, request_bound}
 use Rattle.link_afspec.proofs.request.request_len.Goals as goal
@@ -31,5 +32,5 @@ loop-number-preserved c =
 
 pub returns : goal.returns
 returns c =
-    let last : c.loop-number.number - 1 ≡ 33 = omega (arith, c.loop-number-test.false, c.loop-number.auto.number-end) in
+    let last : c.loop-number.number - 1 ≡ INET_DEV_CONF_COUNT = omega (arith, c.loop-number-test.false, c.loop-number.auto.number-end) in
     omega (arith, c.loop-number.invariant, ap (λ i. length (settings_text (drop i (settings_of c.args.conf.now)))) last, ap length (request_end c.args.conf.now))

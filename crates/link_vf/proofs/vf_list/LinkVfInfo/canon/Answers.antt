@@ -1,12 +1,11 @@
-use Rattle.link_vf.specs.Values.{link_vf_info_of, link_vf_info_members, link_vf_info_text, vf_info_frame, VfInfoFits}
-use Rattle.link_vf.specs.Places.{vf_info_place}
 use Rattle.nla_wire.specs.Canon.{AllFit}
+use Rattle.link_vf.specs.Tables.{vf_info_place, link_vf_info_of, link_vf_info_members, link_vf_info}
 use Rattle.link_vf.proofs.Entries.{entry_accepted, entry_text}
 use Rattle.link_vf.proofs.vf_list.LinkVfInfo.canon.Goals as goal
 
 pub canon_list-requires-clause-accepted : goal.canon_list-requires-clause-accepted
-canon_list-requires-clause-accepted c = entry_accepted link_vf_info_of vf_info_place c.args.payload.now c.requires.accepted
+canon_list-requires-clause-accepted c = entry_accepted link_vf_info_of vf_info_place.grammar c.args.payload.now c.requires.accepted
 
 pub returns : goal.returns
 returns c =
-    entry_text link_vf_info_of vf_info_place link_vf_info_text (λ v. AllFit VfInfoFits vf_info_frame (link_vf_info_members v)) c.args.out.now c.canon_list.new.out c.args.payload.now c.canon_list.result c.canon_list.ensures
+    entry_text link_vf_info_of vf_info_place.grammar link_vf_info.text (λ v. AllFit vf_info_place.Fits vf_info_place.frame (link_vf_info_members v)) c.args.out.now c.canon_list.new.out c.args.payload.now c.canon_list.result c.canon_list.ensures
