@@ -12,10 +12,8 @@ use Rattle.nla_wire.proofs.Lawful.{place_count, place_growth, place_all_fit}
 use Rattle.nla_wire.proofs.Memory.{memory_list}
 use Rattle.nla_wire.proofs.Steps.{bytes_right}
 use Rattle.link_msg.specs.Header.{header_size}
-use Rattle.link_msg.specs.Values.{attribute_frame, AttributeFits, HasPorts, attribute_count}
-use Rattle.link_msg.specs.Places.{attribute_place}
+use Rattle.link_msg.specs.Tables.{attribute_frame, AttributeFits, HasPorts, attribute_count, attribute_place, attribute_lawful}
 use Rattle.link_msg.specs.Messages.{Means, Refused, IsRefused, IsBounded, read_message, message_text}
-use Rattle.link_msg.specs.Laws.{attribute_lawful}
 use Rattle.link_msg.specs.declared.message.LinkMessage.{LinkMessage}
 use Rattle.link_msg.proofs.Reading.{message_agrees}
 use Rattle.link_msg.specs.CanonErrors.{refusal_for, refusal_of}

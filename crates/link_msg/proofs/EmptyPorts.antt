@@ -12,11 +12,11 @@ use Rattle.nla_wire.specs.declared.error.Cause.{Cause}
 use Rattle.nla_wire.proofs.Loop.{given, picks_one}
 use Rattle.nla_wire.proofs.Written.{Going, going_accepted, going_skip, going_unfit}
 use Rattle.link_vals.specs.declared.address_family.AddressFamily.{AddressFamily}
-use Rattle.link_vf.specs.Places.{link_vf_port_place, vf_port_list}
+use Rattle.link_vf.specs.Tables.{link_vf_port_place, vf_port_list}
 use Rattle.link_vf.specs.declared.port_list.LinkVfPort.{LinkVfPort}
-use Rattle.link_msg.specs.Values.{attribute_frame, HasPorts}
-use Rattle.link_msg.specs.Places.{attribute_place, other_place}
-use Rattle.link_msg.specs.Laws.{attribute_lawful, attribute_number}
+use Rattle.link_msg.specs.Tables.{attribute_frame, attribute_view, attribute_entries, HasPorts, attribute_place, attribute_lawful, attribute_number}
+use Rattle.link_vf.specs.declared.numbers.TheConstants.{IFLA_VF_PORT}
+use Rattle.link_msg.specs.declared.numbers.TheConstants.{IFLA_VF_PORTS}
 use Rattle.link_msg.specs.Canonical.{NoneTold, PortTold, PortsTold}
 use Rattle.link_msg.specs.declared.attribute.LinkAttribute.{LinkAttribute}
 use Rattle.link_msg.specs.declared.attribute.LinkAttribute.TheVariants as Attributes
@@ -43,8 +43,8 @@ one_kept : (r : Result LinkVfPort Cause) (old new : List ℕ) → Canonical sile
 one_kept (Ok v) old new = λ dropped. dropped
 one_kept (Err c) old new = tt
 
-pub one_unfit : (f : Frame) → number f ≡ 1 → (old new : List ℕ) → Canonical silent IsDropped ((picks link_vf_port_place).reads f) old new None
-one_unfit f one old new = subst (λ r. Canonical silent IsDropped r old new None) (sym (picks_one link_vf_port_place f one)) (one_kept (link_vf_port_place.reads f) old new)
+pub one_unfit : (f : Frame) → number f ≡ IFLA_VF_PORT → (old new : List ℕ) → Canonical silent IsDropped ((picks link_vf_port_place.grammar).reads f) old new None
+one_unfit f one old new = subst (λ r. Canonical silent IsDropped r old new None) (sym (picks_one link_vf_port_place.grammar f one)) (one_kept (link_vf_port_place.grammar.reads f) old new)
 
 some_kept : (os : List (Option LinkVfPort)) → (AllByRecursion IsDropped os → ⊥) → 0 < length (somes os)
 some_kept [] some = absurd (some tt)
@@ -67,40 +67,41 @@ told_none (Err e) old new n c = tt
 -- ** one attribute
 
 -- an attribute that is not written as IFLA_VF_PORTS
-has_ports : (v : LinkAttribute) → number (attribute_frame v) ≢ 24 → HasPorts v
+has_ports : (v : LinkAttribute) → number (attribute_frame v) ≢ IFLA_VF_PORTS → HasPorts v
+unfolding attribute_view
 has_ports (Attributes.VfPorts ports) other = absurd (other refl)
 has_ports _ other = tt
 
-told_other : (family : AddressFamily) (f : Frame) (r : Result LinkAttribute Cause) → ((v : LinkAttribute) → r ≡ Ok v → (attribute_place family).means f v) → number f ≢ 24 → PortTold r false
+told_other : (family : AddressFamily) (f : Frame) (r : Result LinkAttribute Cause) → ((v : LinkAttribute) → r ≡ Ok v → (attribute_place family).means f v) → number f ≢ IFLA_VF_PORTS → PortTold r false
 told_other family f (Ok v) found other = has_ports v (λ is. other (sym (attribute_number family f v (found v refl)) ∙ is))
 told_other family f (Err c) found other = tt
 
-pub port_other : (family : AddressFamily) (f : Frame) → IsFrame f → number f ≢ 24 → PortTold ((attribute_place family).reads f) false
+pub port_other : (family : AddressFamily) (f : Frame) → IsFrame f → number f ≢ IFLA_VF_PORTS → PortTold ((attribute_place family).reads f) false
 port_other family f one other = told_other family f ((attribute_place family).reads f) (λ v e. (attribute_lawful family).agrees.found f v one e) other
 
 -- IFLA_VF_PORTS is read from its payload
-pub ports_read : (family : AddressFamily) (f : Frame) → number f ≡ 24 → (attribute_place family).reads f ≡ (as_a Attributes.VfPorts (not_empty vf_port_list)).reads f.payload
-unfolding attribute_place other_place
+pub ports_read : (family : AddressFamily) (f : Frame) → number f ≡ IFLA_VF_PORTS → (attribute_place family).reads f ≡ (as_a Attributes.VfPorts (not_empty vf_port_list.grammar)).reads f.payload
+unfolding attribute_place attribute_entries attribute_view
 ports_read family f is = rw is refl
 
 accepted_inside : (r : Result (List LinkVfPort) Cause) → IsOk (r >>= λ vs. Ok (Attributes.VfPorts vs)) → IsOk r
 accepted_inside (Ok vs) accepted = refl
 accepted_inside (Err c) accepted = absurd cc
 
-pub ports_accepted : (p : List ℕ) → IsOk ((as_a Attributes.VfPorts (not_empty vf_port_list)).reads p) → IsOk (vf_port_list.reads p)
+pub ports_accepted : (p : List ℕ) → IsOk ((as_a Attributes.VfPorts (not_empty vf_port_list.grammar)).reads p) → IsOk (vf_port_list.grammar.reads p)
 unfolding unless_empty
 ports_accepted [] accepted = absurd cc
-ports_accepted (x ∷ p) accepted = accepted_inside (vf_port_list.reads (x ∷ p)) accepted
+ports_accepted (x ∷ p) accepted = accepted_inside (vf_port_list.grammar.reads (x ∷ p)) accepted
 
 told_inside : (r : Result (List LinkVfPort) Cause) (told : Bool) → NoneTold r told → PortTold (r >>= λ vs. Ok (Attributes.VfPorts vs)) told
 told_inside (Ok vs) true none = λ some. omega (arith, ap length none, some)
 told_inside (Ok vs) false some = some
 told_inside (Err c) told none = tt
 
-pub ports_told : (p : List ℕ) (told : Bool) → NoneTold (vf_port_list.reads p) told → PortTold ((as_a Attributes.VfPorts (not_empty vf_port_list)).reads p) told
+pub ports_told : (p : List ℕ) (told : Bool) → NoneTold (vf_port_list.grammar.reads p) told → PortTold ((as_a Attributes.VfPorts (not_empty vf_port_list.grammar)).reads p) told
 unfolding unless_empty
 ports_told [] told none = tt
-ports_told (x ∷ p) told none = told_inside (vf_port_list.reads (x ∷ p)) told none
+ports_told (x ∷ p) told none = told_inside (vf_port_list.grammar.reads (x ∷ p)) told none
 
 -- ** the attributes of a message
 

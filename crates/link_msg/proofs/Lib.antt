@@ -5,5 +5,5 @@ pub mod ReadingBack
 pub mod LawProofs
 pub mod Writing
 pub mod Payloads
-pub mod EmptyPorts
 pub mod Shaped
+pub mod EmptyPorts

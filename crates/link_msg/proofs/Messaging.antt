@@ -2,7 +2,7 @@
 use Rattle.std.proofs.Common.{◌≡◌, ◌+◌, ◌<◌, ◌^◌, length, refl, ap, ◌∙◌, length-append, arith}
 use Rattle.nla_wire.specs.Canon.{canons}
 use Rattle.link_msg.specs.Header.{header_size, header_bytes}
-use Rattle.link_msg.specs.Values.{attribute_frame}
+use Rattle.link_msg.specs.Tables.{attribute_frame}
 use Rattle.link_msg.specs.Messages.{message_text, MessageFits}
 use Rattle.link_msg.specs.declared.header.LinkHeader.{LinkHeader}
 use Rattle.link_msg.specs.declared.message.LinkMessage.{LinkMessage}

@@ -1,10 +1,6 @@
 -- The reader of messages answers what the relations say.
 use Rattle.std.proofs.Common.{◌≡◌, ℕ, ◌<◌, ◌≤◌, inl, inr, List, ◌++◌, length, take, drop, refl, sym, ap, ◌∙◌, subst, arith, length-append, lt-ltb, le-ltb, Result, Ok, Err}
-use Rattle.std.specs.Prelude.{Option, Some, None, IfOk, IfSome}
-use Rattle.std.specs.Result.{result_ok}
-use Rattle.nla_wire.specs.declared.error.DecodeError.{DecodeError}
-use Rattle.link_recs.specs.Stats64Fields.{stats64_size}
-use Rattle.link_msg.specs.Values.{attribute_frame}
+use Rattle.link_msg.specs.Tables.{attribute_place, attribute_lawful}
 use Rattle.std.proofs.lemmas.Bool.Decides.{leb_tells}
 use Rattle.std.proofs.lemmas.List.{take-append-drop, length-take-le}
 use Rattle.std.proofs.Math.Seq.{take-append_seam, drop-append_seam}
@@ -16,9 +12,7 @@ use Rattle.nla_wire.proofs.Lists.{list_agrees}
 use Rattle.nla_wire.proofs.Steps.{bytes_right}
 use Rattle.link_vals.specs.declared.address_family.AddressFamily.{AddressFamily}
 use Rattle.link_msg.specs.Header.{header_size, header_of, IsHeader}
-use Rattle.link_msg.specs.Places.{attribute_place}
 use Rattle.link_msg.specs.Messages.{Means, Refused, with_header, read_behind, read_message, message}
-use Rattle.link_msg.specs.Laws.{attribute_lawful}
 use Rattle.link_msg.specs.declared.attribute.LinkAttribute.{LinkAttribute}
 use Rattle.link_msg.specs.declared.header.LinkHeader.{LinkHeader}
 use Rattle.link_msg.specs.declared.message.LinkMessage.{LinkMessage}
@@ -43,12 +37,6 @@ read_split h c size =
     read_long (h ++ c) long ∙ ap (λ x. read_behind (header_of x) (drop header_size (h ++ c))) front ∙ ap (read_behind (header_of h)) behind
 
 -- ** values that take no memory
-
-pub plain_short : (r : Result (Option LinkAttribute) DecodeError) (v : LinkAttribute) → result_ok r ≡ Some (Some v)
-    → IfOk r (λ value. IfSome value (λ w. length (attribute_frame w).payload ≤ stats64_size)) → length (attribute_frame v).payload ≤ stats64_size
-plain_short (Ok (Some w)) v is short = let same : w ≡ v = cc in subst (λ x. length (attribute_frame x).payload ≤ stats64_size) same short
-plain_short (Ok None) v is short = absurd cc
-plain_short (Err e) v is short = absurd cc
 
 -- ** what is behind the header
 

@@ -15,8 +15,7 @@ use Rattle.nla_wire.proofs.Canonical.{write_on}
 use Rattle.nla_wire.proofs.Loop.{gives_fault}
 use Rattle.nla_wire.proofs.Steps.{bytes_right}
 use Rattle.link_msg.specs.Header.{header_size, header_of, IsHeader, header_bytes}
-use Rattle.link_msg.specs.Values.{attribute_frame, AttributeFits}
-use Rattle.link_msg.specs.Places.{attribute_place}
+use Rattle.link_msg.specs.Tables.{attribute_frame, AttributeFits, attribute_place}
 use Rattle.link_msg.specs.Messages.{Means, Refused, IsRefused, message, message_text, MessageFits}
 use Rattle.link_msg.specs.CanonErrors.{refusal_for, refusal_of}
 use Rattle.link_msg.specs.Canonical.{HasText, IsRefusal, IsUnfit, HasEmptyPorts, IsWritten, PortsTold}

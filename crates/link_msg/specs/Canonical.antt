@@ -7,7 +7,7 @@ use Rattle.nla_wire.specs.declared.error.Cause.TheVariants.{OutOfMemory}
 use Rattle.std.specs.List.{AllByRecursion}
 use Rattle.link_vf.specs.declared.port_list.LinkVfPort.{LinkVfPort}
 use Rattle.link_msg.specs.Header.{header_size}
-use Rattle.link_msg.specs.Values.{HasPorts}
+use Rattle.link_msg.specs.Tables.{HasPorts}
 use Rattle.link_msg.specs.Messages.{Means, Refused, IsRefused, message_text, MessageFits, NoEmptyPorts}
 use Rattle.link_msg.specs.declared.attribute.LinkAttribute.{LinkAttribute}
 use Rattle.link_msg.specs.declared.message.LinkMessage.{LinkMessage}

@@ -7,10 +7,10 @@ use Rattle.link_vals.specs.LinkPhysIdBytes.{phys_id_bytes}
 use Rattle.link_recs.specs.StatsFields.{stats_bytes}
 use Rattle.link_recs.specs.Stats64Fields.{stats64_bytes}
 use Rattle.link_recs.specs.MapFields.{map_bytes}
-use Rattle.link_nest.specs.Values.{prop_frame, PropFits, devlink_port_frame, DevlinkPortFits, dpll_pin_frame, DpllPinFits, down_reason_frame, DownReasonFits, xdp_frame, LinkXdpFits, link_info_frame, LinkInfoFits}
+use Rattle.link_nest.specs.Tables.{prop_place, devlink_port_place, dpll_pin_place, down_reason_place, xdp_place, link_info_place}
 use Rattle.link_nest.specs.Wireless.{wireless_text, WirelessFits}
-use Rattle.link_vf.specs.Values.{vf_port_frame, VfPortFits, link_vf_info_frame, LinkVfInfoFits, link_vf_port_frame, LinkVfPortFits}
-use Rattle.link_afspec.specs.Values.{af_spec_unspec_frame, AfSpecUnspecFits, af_spec_bridge_frame, AfSpecBridgeFits, link_proto_info_bridge_frame, LinkProtoInfoBridgeFits, link_proto_info_inet6_frame, LinkProtoInfoInet6Fits}
+use Rattle.link_vf.specs.Tables.{vf_port_place, link_vf_info_place, link_vf_port_place}
+use Rattle.link_afspec.specs.Tables.{af_spec_unspec_place, af_spec_bridge_place, link_proto_info_bridge_place, link_proto_info_inet6_place}
 use Rattle.link_msg.specs.declared.attribute.Content.{Content}
 use Rattle.link_msg.specs.declared.attribute.Content.TheVariants as Contents
 
@@ -26,36 +26,36 @@ content_text (Contents.Stats64 stats) = stats64_bytes stats.now
 content_text (Contents.Map map) = map_bytes map.now
 content_text (Contents.Mask flags) = to_le_bytes w32 (ext_sum flags.now)
 content_text (Contents.Event event) = wireless_text event.now
-content_text (Contents.Port vs) = canons vf_port_frame vs.now
-content_text (Contents.Infos vs) = canons link_info_frame vs.now
-content_text (Contents.Functions vs) = canons link_vf_info_frame vs.now
-content_text (Contents.Ports vs) = canons link_vf_port_frame vs.now
-content_text (Contents.Xdps vs) = canons xdp_frame vs.now
-content_text (Contents.Props vs) = canons prop_frame vs.now
-content_text (Contents.Reasons vs) = canons down_reason_frame vs.now
-content_text (Contents.DevlinkPorts vs) = canons devlink_port_frame vs.now
-content_text (Contents.DpllPins vs) = canons dpll_pin_frame vs.now
-content_text (Contents.BridgeInfos vs) = canons link_proto_info_bridge_frame vs.now
-content_text (Contents.Inet6Infos vs) = canons link_proto_info_inet6_frame vs.now
-content_text (Contents.Bridges vs) = canons af_spec_bridge_frame vs.now
-content_text (Contents.Unspecs vs) = canons af_spec_unspec_frame vs.now
+content_text (Contents.Port vs) = canons vf_port_place.frame vs.now
+content_text (Contents.Infos vs) = canons link_info_place.frame vs.now
+content_text (Contents.Functions vs) = canons link_vf_info_place.frame vs.now
+content_text (Contents.Ports vs) = canons link_vf_port_place.frame vs.now
+content_text (Contents.Xdps vs) = canons xdp_place.frame vs.now
+content_text (Contents.Props vs) = canons prop_place.frame vs.now
+content_text (Contents.Reasons vs) = canons down_reason_place.frame vs.now
+content_text (Contents.DevlinkPorts vs) = canons devlink_port_place.frame vs.now
+content_text (Contents.DpllPins vs) = canons dpll_pin_place.frame vs.now
+content_text (Contents.BridgeInfos vs) = canons link_proto_info_bridge_place.frame vs.now
+content_text (Contents.Inet6Infos vs) = canons link_proto_info_inet6_place.frame vs.now
+content_text (Contents.Bridges vs) = canons af_spec_bridge_place.frame vs.now
+content_text (Contents.Unspecs vs) = canons af_spec_unspec_place.frame vs.now
 
 -- what is inside of it fits
 abbrev pub ContentFits : Content → Type 0
 ContentFits (Contents.Id id) = id.now.len ≤ 32
 ContentFits (Contents.Mask flags) = ext_sum flags.now < 2 ^ 32
 ContentFits (Contents.Event event) = WirelessFits event.now
-ContentFits (Contents.Port vs) = AllFit VfPortFits vf_port_frame vs.now
-ContentFits (Contents.Infos vs) = AllFit LinkInfoFits link_info_frame vs.now
-ContentFits (Contents.Functions vs) = AllFit LinkVfInfoFits link_vf_info_frame vs.now
-ContentFits (Contents.Ports vs) = AllFit LinkVfPortFits link_vf_port_frame vs.now
-ContentFits (Contents.Xdps vs) = AllFit LinkXdpFits xdp_frame vs.now
-ContentFits (Contents.Props vs) = AllFit PropFits prop_frame vs.now
-ContentFits (Contents.Reasons vs) = AllFit DownReasonFits down_reason_frame vs.now
-ContentFits (Contents.DevlinkPorts vs) = AllFit DevlinkPortFits devlink_port_frame vs.now
-ContentFits (Contents.DpllPins vs) = AllFit DpllPinFits dpll_pin_frame vs.now
-ContentFits (Contents.BridgeInfos vs) = AllFit LinkProtoInfoBridgeFits link_proto_info_bridge_frame vs.now
-ContentFits (Contents.Inet6Infos vs) = AllFit LinkProtoInfoInet6Fits link_proto_info_inet6_frame vs.now
-ContentFits (Contents.Bridges vs) = AllFit AfSpecBridgeFits af_spec_bridge_frame vs.now
-ContentFits (Contents.Unspecs vs) = AllFit AfSpecUnspecFits af_spec_unspec_frame vs.now
+ContentFits (Contents.Port vs) = AllFit vf_port_place.Fits vf_port_place.frame vs.now
+ContentFits (Contents.Infos vs) = AllFit link_info_place.Fits link_info_place.frame vs.now
+ContentFits (Contents.Functions vs) = AllFit link_vf_info_place.Fits link_vf_info_place.frame vs.now
+ContentFits (Contents.Ports vs) = AllFit link_vf_port_place.Fits link_vf_port_place.frame vs.now
+ContentFits (Contents.Xdps vs) = AllFit xdp_place.Fits xdp_place.frame vs.now
+ContentFits (Contents.Props vs) = AllFit prop_place.Fits prop_place.frame vs.now
+ContentFits (Contents.Reasons vs) = AllFit down_reason_place.Fits down_reason_place.frame vs.now
+ContentFits (Contents.DevlinkPorts vs) = AllFit devlink_port_place.Fits devlink_port_place.frame vs.now
+ContentFits (Contents.DpllPins vs) = AllFit dpll_pin_place.Fits dpll_pin_place.frame vs.now
+ContentFits (Contents.BridgeInfos vs) = AllFit link_proto_info_bridge_place.Fits link_proto_info_bridge_place.frame vs.now
+ContentFits (Contents.Inet6Infos vs) = AllFit link_proto_info_inet6_place.Fits link_proto_info_inet6_place.frame vs.now
+ContentFits (Contents.Bridges vs) = AllFit af_spec_bridge_place.Fits af_spec_bridge_place.frame vs.now
+ContentFits (Contents.Unspecs vs) = AllFit af_spec_unspec_place.Fits af_spec_unspec_place.frame vs.now
 ContentFits _ = Unit {0}

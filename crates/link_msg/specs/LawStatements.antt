@@ -1,11 +1,10 @@
 -- Laws of messages, over the definitions alone.
-use Rattle.std.specs.Prelude.{◌≡◌, ◌≢◌, ◌↔◌, ℕ, ◌%◌, ◌^◌, ◌<◌, List, [], ◌∷◌, ◌++◌, length}
+use Rattle.std.specs.Prelude.{◌≡◌, ◌↔◌, ℕ, ◌%◌, ◌^◌, ◌<◌, List, ◌++◌, length}
 use Rattle.std.specs.List.{AllByRecursion}
-use Rattle.nla_wire.specs.Frames.{Frame, number, IsBytes}
-use Rattle.nla_wire.specs.Grammar.{list, Row}
+use Rattle.nla_wire.specs.Frames.{Frame, IsBytes}
+use Rattle.nla_wire.specs.Grammar.{list}
 use Rattle.link_vals.specs.declared.address_family.AddressFamily.{AddressFamily}
-use Rattle.link_msg.specs.Values.{attribute_frame}
-use Rattle.link_msg.specs.Places.{attribute_place, number_rows, other_rows}
+use Rattle.link_msg.specs.Tables.{attribute_frame, attribute_place, IsUnlisted}
 use Rattle.link_msg.specs.Messages.{Means, message_text, MessageFits, NoEmptyPorts, Meant}
 use Rattle.link_msg.specs.declared.attribute.LinkAttribute.{LinkAttribute}
 use Rattle.link_msg.specs.declared.message.LinkMessage.{LinkMessage}
@@ -43,13 +42,6 @@ Joined = (family : AddressFamily) (c d : List ℕ) (vs : List LinkAttribute) →
     → ((ws : List LinkAttribute) → (list (attribute_place family)).means d ws → (list (attribute_place family)).means (c ++ d) (vs ++ ws))
     × ((us : List LinkAttribute) → (list (attribute_place family)).means (c ++ d) us → (ws : List LinkAttribute) × (list (attribute_place family)).means d ws × (us ≡ vs ++ ws))
 
--- the numbers of some lines
-abbrev pub numbers_of : List {1} (Row LinkAttribute) → List ℕ
-numbers_of [] = []
-numbers_of (r ∷ rs) = r.number ∷ numbers_of rs
-
--- an attribute of a number that is not listed is written as the frame that it was read from: kind, both flag bits, payload
+-- an attribute that no line reads is written as the frame that it was read from: kind, both flag bits, payload
 abbrev pub ForeignKept : Type 0
-ForeignKept = (family : AddressFamily) (f : Frame) (v : LinkAttribute)
-    → AllByRecursion (λ n. number f ≢ n) (numbers_of number_rows) → AllByRecursion (λ n. number f ≢ n) (numbers_of (other_rows family))
-    → (attribute_place family).means f v → attribute_frame v ≡ f
+ForeignKept = (family : AddressFamily) (f : Frame) (v : LinkAttribute) → IsUnlisted family f → (attribute_place family).means f v → attribute_frame v ≡ f

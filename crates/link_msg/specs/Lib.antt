@@ -1,14 +1,10 @@
 pub mod Header
 pub mod HeaderBuffer
 pub mod HeaderExact
-pub mod Values
+pub mod Tables
 pub mod Content
-pub mod Places
-pub mod Plain
-pub mod Shapes
 pub mod Messages
 pub mod MessageExact
 pub mod CanonErrors
 pub mod Canonical
-pub mod Laws
 pub mod LawStatements

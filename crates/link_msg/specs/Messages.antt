@@ -7,8 +7,7 @@ use Rattle.nla_wire.specs.Canon.{canons, total}
 use Rattle.nla_wire.specs.declared.error.Cause.{Cause}
 use Rattle.nla_wire.specs.declared.error.Cause.TheVariants.{TooShort}
 use Rattle.link_msg.specs.Header.{header_size, header_of, IsHeader, header_bytes}
-use Rattle.link_msg.specs.Values.{attribute_frame, AttributeFits, HasPorts, attribute_count}
-use Rattle.link_msg.specs.Places.{attribute_place}
+use Rattle.link_msg.specs.Tables.{attribute_frame, AttributeFits, HasPorts, attribute_count, attribute_place}
 use Rattle.link_msg.specs.declared.attribute.LinkAttribute.{LinkAttribute}
 use Rattle.link_msg.specs.declared.header.LinkHeader.{LinkHeader}
 use Rattle.link_msg.specs.declared.message.LinkMessage.{LinkMessage}

@@ -2,6 +2,20 @@
 
 ghost use Rattle.std.specs.Prelude.{◌≡◌, length};
 
+use crate::numbers::{
+    IFLA_ADDRESS, IFLA_AF_SPEC, IFLA_ALLMULTI, IFLA_BROADCAST, IFLA_CARRIER, IFLA_CARRIER_CHANGES,
+    IFLA_CARRIER_DOWN_COUNT, IFLA_CARRIER_UP_COUNT, IFLA_DEVLINK_PORT, IFLA_DPLL_PIN, IFLA_EVENT,
+    IFLA_EXT_MASK, IFLA_GRO_IPV4_MAX_SIZE, IFLA_GRO_MAX_SIZE, IFLA_GROUP, IFLA_GSO_IPV4_MAX_SIZE,
+    IFLA_GSO_MAX_SEGS, IFLA_GSO_MAX_SIZE, IFLA_IF_NETNSID, IFLA_IFALIAS, IFLA_IFNAME, IFLA_LINK,
+    IFLA_LINK_NETNSID, IFLA_LINKINFO, IFLA_LINKMODE, IFLA_MAP, IFLA_MASTER, IFLA_MAX_MTU,
+    IFLA_MIN_MTU, IFLA_MTU, IFLA_NET_NS_FD, IFLA_NET_NS_PID, IFLA_NETNS_IMMUTABLE,
+    IFLA_NEW_IFINDEX, IFLA_NEW_NETNSID, IFLA_NUM_RX_QUEUES, IFLA_NUM_TX_QUEUES, IFLA_NUM_VF,
+    IFLA_OPERSTATE, IFLA_PARENT_DEV_BUS_NAME, IFLA_PARENT_DEV_NAME, IFLA_PERM_ADDRESS,
+    IFLA_PHYS_PORT_ID, IFLA_PHYS_PORT_NAME, IFLA_PHYS_SWITCH_ID, IFLA_PORT_SELF, IFLA_PROMISCUITY,
+    IFLA_PROP_LIST, IFLA_PROTINFO, IFLA_PROTO_DOWN, IFLA_PROTO_DOWN_REASON, IFLA_QDISC, IFLA_STATS,
+    IFLA_STATS64, IFLA_TSO_MAX_SEGS, IFLA_TSO_MAX_SIZE, IFLA_TXQLEN, IFLA_VF_PORTS,
+    IFLA_VFINFO_LIST, IFLA_WIRELESS, IFLA_XDP,
+};
 use crate::payload::{clone_mask, truth_byte};
 use link_afspec::{AfSpecBridge, AfSpecUnspec, LinkProtoInfoBridge, LinkProtoInfoInet6};
 use link_nest::{
@@ -19,136 +33,136 @@ use std::alloc::Global;
 /// An attribute of a link message (linux/if_link.h, IFLA_*). Numbers are in host order.
 #[derive(Debug, Drop, PartialEq, Eq)]
 pub enum LinkAttribute {
-    /// IFLA_ADDRESS, 1: the hardware address, bytes.
+    /// IFLA_ADDRESS: the hardware address, bytes.
     Address(Bytes),
-    /// IFLA_BROADCAST, 2: the broadcast address, bytes.
+    /// IFLA_BROADCAST: the broadcast address, bytes.
     Broadcast(Bytes),
-    /// IFLA_IFNAME, 3: the name, a text with one NUL.
+    /// IFLA_IFNAME: the name, a text with one NUL.
     IfName(Text),
-    /// IFLA_MTU, 4: the largest size of a packet, in bytes.
+    /// IFLA_MTU: the largest size of a packet, in bytes.
     Mtu(u32),
-    /// IFLA_LINK, 5: the index of the link below.
+    /// IFLA_LINK: the index of the link below.
     Link(u32),
-    /// IFLA_QDISC, 6: the queueing discipline, a text.
+    /// IFLA_QDISC: the queueing discipline, a text.
     Qdisc(Text),
-    /// IFLA_STATS, 7: counters of 32 bits, a record of 96 bytes. A shorter one is filled up with zeros.
+    /// IFLA_STATS: counters of 32 bits, a record of 96 bytes. A shorter one is filled up with zeros.
     Stats(Stats),
-    /// IFLA_MASTER, 10: the index of the link that this one belongs to.
+    /// IFLA_MASTER: the index of the link that this one belongs to.
     Controller(u32),
-    /// IFLA_WIRELESS, 11: an event of the wireless extensions.
+    /// IFLA_WIRELESS: an event of the wireless extensions.
     Wireless(WirelessEvent),
-    /// IFLA_PROTINFO, 12, of the family AF_BRIDGE: a list that is not empty; written with the nested flag.
+    /// IFLA_PROTINFO, of the family AF_BRIDGE: a list that is not empty; written with the nested flag.
     ProtoInfoBridge(List<LinkProtoInfoBridge>),
-    /// IFLA_PROTINFO, 12, of the family AF_INET6: a list that is not empty; written with the nested flag.
+    /// IFLA_PROTINFO, of the family AF_INET6: a list that is not empty; written with the nested flag.
     ProtoInfoInet6(List<LinkProtoInfoInet6>),
-    /// IFLA_PROTINFO, 12, of any other family: kept as it is, with its flags.
+    /// IFLA_PROTINFO, of any other family: kept as it is, with its flags.
     ProtoInfoUnknown(DefaultNla),
-    /// IFLA_TXQLEN, 13: the length of the transmit queue, in packets.
+    /// IFLA_TXQLEN: the length of the transmit queue, in packets.
     TxQueueLen(u32),
-    /// IFLA_MAP, 14: addresses of the device, a record of 32 bytes. A shorter one is refused.
+    /// IFLA_MAP: addresses of the device, a record of 32 bytes. A shorter one is refused.
     Map(Map),
-    /// IFLA_OPERSTATE, 16: the operational state, one byte.
+    /// IFLA_OPERSTATE: the operational state, one byte.
     OperState(State),
-    /// IFLA_LINKMODE, 17: the mode of the link, one byte.
+    /// IFLA_LINKMODE: the mode of the link, one byte.
     Mode(LinkMode),
-    /// IFLA_LINKINFO, 18: the kind of the link and its data, a list that is not empty.
+    /// IFLA_LINKINFO: the kind of the link and its data, a list that is not empty.
     LinkInfo(List<LinkInfo>),
-    /// IFLA_NET_NS_PID, 19: a process whose network namespace is meant.
+    /// IFLA_NET_NS_PID: a process whose network namespace is meant.
     NetNsPid(u32),
-    /// IFLA_IFALIAS, 20: an alias, a text.
+    /// IFLA_IFALIAS: an alias, a text.
     IfAlias(Text),
-    /// IFLA_NUM_VF, 21: how many virtual functions there are.
+    /// IFLA_NUM_VF: how many virtual functions there are.
     NumVf(u32),
-    /// IFLA_VFINFO_LIST, 22: virtual functions. Entries with another number than 1 are dropped.
+    /// IFLA_VFINFO_LIST: virtual functions. Entries with another number than 1 are dropped.
     VfInfoList(List<LinkVfInfo>),
-    /// IFLA_STATS64, 23: counters of 64 bits, a record of 200 bytes. A shorter one is filled up with zeros.
+    /// IFLA_STATS64: counters of 64 bits, a record of 200 bytes. A shorter one is filled up with zeros.
     Stats64(Stats64),
-    /// IFLA_VF_PORTS, 24: ports of virtual functions, a payload that is not empty. Entries with another number than 1 are
+    /// IFLA_VF_PORTS: ports of virtual functions, a payload that is not empty. Entries with another number than 1 are
     /// dropped, so that the list may be empty; it can not be written then.
     VfPorts(List<LinkVfPort>),
-    /// IFLA_PORT_SELF, 25: the port of the interface itself, a list that is not empty.
+    /// IFLA_PORT_SELF: the port of the interface itself, a list that is not empty.
     PortSelf(LinkVfPort),
-    /// IFLA_AF_SPEC, 26, of the family AF_BRIDGE: settings of a bridge, a list that is not empty.
+    /// IFLA_AF_SPEC, of the family AF_BRIDGE: settings of a bridge, a list that is not empty.
     AfSpecBridge(List<AfSpecBridge>),
-    /// IFLA_AF_SPEC, 26, of the family AF_UNSPEC: settings by family, a list.
+    /// IFLA_AF_SPEC, of the family AF_UNSPEC: settings by family, a list.
     AfSpecUnspec(List<AfSpecUnspec>),
-    /// IFLA_AF_SPEC, 26, of any other family: bytes.
+    /// IFLA_AF_SPEC, of any other family: bytes.
     AfSpecUnknown(Bytes),
-    /// IFLA_GROUP, 27: the group of the link.
+    /// IFLA_GROUP: the group of the link.
     Group(u32),
-    /// IFLA_NET_NS_FD, 28: a descriptor of a network namespace.
+    /// IFLA_NET_NS_FD: a descriptor of a network namespace.
     NetNsFd(i32),
-    /// IFLA_EXT_MASK, 29: what more is asked for, flags in a number of four bytes.
+    /// IFLA_EXT_MASK: what more is asked for, flags in a number of four bytes.
     ExtMask(List<LinkExtentMask>),
-    /// IFLA_PROMISCUITY, 30: how often promiscuous mode was asked for.
+    /// IFLA_PROMISCUITY: how often promiscuous mode was asked for.
     Promiscuity(u32),
-    /// IFLA_NUM_TX_QUEUES, 31: how many queues send.
+    /// IFLA_NUM_TX_QUEUES: how many queues send.
     NumTxQueues(u32),
-    /// IFLA_NUM_RX_QUEUES, 32: how many queues receive.
+    /// IFLA_NUM_RX_QUEUES: how many queues receive.
     NumRxQueues(u32),
-    /// IFLA_CARRIER, 33: 1 where there is a carrier.
+    /// IFLA_CARRIER: 1 where there is a carrier.
     Carrier(u8),
-    /// IFLA_PHYS_PORT_ID, 34: the id of the port, at most 32 bytes.
+    /// IFLA_PHYS_PORT_ID: the id of the port, at most 32 bytes.
     PhysPortId(LinkPhysId),
-    /// IFLA_CARRIER_CHANGES, 35: how often the carrier came or went.
+    /// IFLA_CARRIER_CHANGES: how often the carrier came or went.
     CarrierChanges(u32),
-    /// IFLA_PHYS_SWITCH_ID, 36: the id of the switch, at most 32 bytes.
+    /// IFLA_PHYS_SWITCH_ID: the id of the switch, at most 32 bytes.
     PhysSwitchId(LinkPhysId),
-    /// IFLA_LINK_NETNSID, 37: the id of the network namespace of the link below.
+    /// IFLA_LINK_NETNSID: the id of the network namespace of the link below.
     LinkNetNsId(i32),
-    /// IFLA_PHYS_PORT_NAME, 38: the name of the port, a text.
+    /// IFLA_PHYS_PORT_NAME: the name of the port, a text.
     PhysPortName(Text),
-    /// IFLA_PROTO_DOWN, 39: 1 where a protocol holds the link down.
+    /// IFLA_PROTO_DOWN: 1 where a protocol holds the link down.
     ProtoDown(u8),
-    /// IFLA_GSO_MAX_SEGS, 40: the most segments of one packet that the device splits.
+    /// IFLA_GSO_MAX_SEGS: the most segments of one packet that the device splits.
     GsoMaxSegs(u32),
-    /// IFLA_GSO_MAX_SIZE, 41: the most bytes of one packet that the device splits.
+    /// IFLA_GSO_MAX_SIZE: the most bytes of one packet that the device splits.
     GsoMaxSize(u32),
-    /// IFLA_XDP, 43: the attached program, a list that is not empty.
+    /// IFLA_XDP: the attached program, a list that is not empty.
     Xdp(List<LinkXdp>),
-    /// IFLA_EVENT, 44: why the link announced itself, four bytes.
+    /// IFLA_EVENT: why the link announced itself, four bytes.
     Event(LinkEvent),
-    /// IFLA_NEW_NETNSID, 45: the id of the network namespace that the link has moved to.
+    /// IFLA_NEW_NETNSID: the id of the network namespace that the link has moved to.
     NewNetnsId(i32),
-    /// IFLA_IF_NETNSID, 46, also IFLA_TARGET_NETNSID: the id of the network namespace that is asked about.
+    /// IFLA_IF_NETNSID, also IFLA_TARGET_NETNSID: the id of the network namespace that is asked about.
     IfNetnsId(i32),
-    /// IFLA_CARRIER_UP_COUNT, 47: how often the carrier came.
+    /// IFLA_CARRIER_UP_COUNT: how often the carrier came.
     CarrierUpCount(u32),
-    /// IFLA_CARRIER_DOWN_COUNT, 48: how often the carrier went.
+    /// IFLA_CARRIER_DOWN_COUNT: how often the carrier went.
     CarrierDownCount(u32),
-    /// IFLA_NEW_IFINDEX, 49: the index of the link in the network namespace that it has moved to.
+    /// IFLA_NEW_IFINDEX: the index of the link in the network namespace that it has moved to.
     NewIfIndex(i32),
-    /// IFLA_MIN_MTU, 50: the least MTU that the link takes, in bytes.
+    /// IFLA_MIN_MTU: the least MTU that the link takes, in bytes.
     MinMtu(u32),
-    /// IFLA_MAX_MTU, 51: the greatest MTU that the link takes, in bytes.
+    /// IFLA_MAX_MTU: the greatest MTU that the link takes, in bytes.
     MaxMtu(u32),
-    /// IFLA_PROP_LIST, 52: alternative names, a list; written with the nested flag.
+    /// IFLA_PROP_LIST: alternative names, a list; written with the nested flag.
     PropList(List<Prop>),
-    /// IFLA_PERM_ADDRESS, 54: the permanent hardware address, bytes.
+    /// IFLA_PERM_ADDRESS: the permanent hardware address, bytes.
     PermAddress(Bytes),
-    /// IFLA_PROTO_DOWN_REASON, 55: why a protocol holds the link down, a list.
+    /// IFLA_PROTO_DOWN_REASON: why a protocol holds the link down, a list.
     ProtoDownReason(List<LinkProtocolDownReason>),
-    /// IFLA_PARENT_DEV_NAME, 56: the name of the device above, a text.
+    /// IFLA_PARENT_DEV_NAME: the name of the device above, a text.
     ParentDevName(Text),
-    /// IFLA_PARENT_DEV_BUS_NAME, 57: the name of its bus, a text.
+    /// IFLA_PARENT_DEV_BUS_NAME: the name of its bus, a text.
     ParentDevBusName(Text),
-    /// IFLA_GRO_MAX_SIZE, 58: the most bytes of one packet that is joined from received ones.
+    /// IFLA_GRO_MAX_SIZE: the most bytes of one packet that is joined from received ones.
     GroMaxSize(u32),
-    /// IFLA_TSO_MAX_SIZE, 59: the most bytes of one packet that the hardware splits.
+    /// IFLA_TSO_MAX_SIZE: the most bytes of one packet that the hardware splits.
     TsoMaxSize(u32),
-    /// IFLA_TSO_MAX_SEGS, 60: the most segments of one packet that the hardware splits.
+    /// IFLA_TSO_MAX_SEGS: the most segments of one packet that the hardware splits.
     TsoMaxSegs(u32),
-    /// IFLA_ALLMULTI, 61: how often all multicast packets were asked for.
+    /// IFLA_ALLMULTI: how often all multicast packets were asked for.
     AllMulticast(u32),
-    /// IFLA_DEVLINK_PORT, 62: the port of devlink, a list; written with the nested flag.
+    /// IFLA_DEVLINK_PORT: the port of devlink, a list; written with the nested flag.
     DevlinkPort(List<DevlinkPort>),
-    /// IFLA_GSO_IPV4_MAX_SIZE, 63: as `GsoMaxSize`, of IPv4 packets.
+    /// IFLA_GSO_IPV4_MAX_SIZE: as `GsoMaxSize`, of IPv4 packets.
     GsoIpv4MaxSize(u32),
-    /// IFLA_GRO_IPV4_MAX_SIZE, 64: as `GroMaxSize`, of IPv4 packets.
+    /// IFLA_GRO_IPV4_MAX_SIZE: as `GroMaxSize`, of IPv4 packets.
     GroIpv4MaxSize(u32),
-    /// IFLA_DPLL_PIN, 65: the pin of a clock, a list; written with the nested flag.
+    /// IFLA_DPLL_PIN: the pin of a clock, a list; written with the nested flag.
     DpllPin(List<DpllPin>),
-    /// IFLA_NETNS_IMMUTABLE, 67: whether the link stays in its network namespace, one byte: 0 is false, all else true;
+    /// IFLA_NETNS_IMMUTABLE: whether the link stays in its network namespace, one byte: 0 is false, all else true;
     /// written 0 or 1.
     NetnsImmutable(bool),
     /// A number that is not listed here.
@@ -156,7 +170,7 @@ pub enum LinkAttribute {
 }
 
 impl Nla for LinkAttribute {
-    ghost use Rattle.link_msg.specs.Values.{attribute_frame, AttributeFits};
+    ghost use Rattle.link_msg.specs.Tables.{attribute_frame, AttributeFits};
 
     ghost frame = { attribute_frame };
 
@@ -165,73 +179,7 @@ impl Nla for LinkAttribute {
     ghost is_small = { λ x h. h.0 };
 
     fn kind(&self) -> u16 {
-        match self {
-            LinkAttribute::Address(_) => 1,
-            LinkAttribute::Broadcast(_) => 2,
-            LinkAttribute::IfName(_) => 3,
-            LinkAttribute::Mtu(_) => 4,
-            LinkAttribute::Link(_) => 5,
-            LinkAttribute::Qdisc(_) => 6,
-            LinkAttribute::Stats(_) => 7,
-            LinkAttribute::Controller(_) => 10,
-            LinkAttribute::Wireless(_) => 11,
-            LinkAttribute::ProtoInfoBridge(_) => 12 | NLA_F_NESTED,
-            LinkAttribute::ProtoInfoInet6(_) => 12 | NLA_F_NESTED,
-            LinkAttribute::TxQueueLen(_) => 13,
-            LinkAttribute::Map(_) => 14,
-            LinkAttribute::OperState(_) => 16,
-            LinkAttribute::Mode(_) => 17,
-            LinkAttribute::LinkInfo(_) => 18,
-            LinkAttribute::NetNsPid(_) => 19,
-            LinkAttribute::IfAlias(_) => 20,
-            LinkAttribute::NumVf(_) => 21,
-            LinkAttribute::VfInfoList(_) => 22,
-            LinkAttribute::Stats64(_) => 23,
-            LinkAttribute::VfPorts(_) => 24,
-            LinkAttribute::PortSelf(_) => 25,
-            LinkAttribute::AfSpecBridge(_) => 26,
-            LinkAttribute::AfSpecUnspec(_) => 26,
-            LinkAttribute::AfSpecUnknown(_) => 26,
-            LinkAttribute::Group(_) => 27,
-            LinkAttribute::NetNsFd(_) => 28,
-            LinkAttribute::ExtMask(_) => 29,
-            LinkAttribute::Promiscuity(_) => 30,
-            LinkAttribute::NumTxQueues(_) => 31,
-            LinkAttribute::NumRxQueues(_) => 32,
-            LinkAttribute::Carrier(_) => 33,
-            LinkAttribute::PhysPortId(_) => 34,
-            LinkAttribute::CarrierChanges(_) => 35,
-            LinkAttribute::PhysSwitchId(_) => 36,
-            LinkAttribute::LinkNetNsId(_) => 37,
-            LinkAttribute::PhysPortName(_) => 38,
-            LinkAttribute::ProtoDown(_) => 39,
-            LinkAttribute::GsoMaxSegs(_) => 40,
-            LinkAttribute::GsoMaxSize(_) => 41,
-            LinkAttribute::Xdp(_) => 43,
-            LinkAttribute::Event(_) => 44,
-            LinkAttribute::NewNetnsId(_) => 45,
-            LinkAttribute::IfNetnsId(_) => 46,
-            LinkAttribute::CarrierUpCount(_) => 47,
-            LinkAttribute::CarrierDownCount(_) => 48,
-            LinkAttribute::NewIfIndex(_) => 49,
-            LinkAttribute::MinMtu(_) => 50,
-            LinkAttribute::MaxMtu(_) => 51,
-            LinkAttribute::PropList(_) => 52 | NLA_F_NESTED,
-            LinkAttribute::PermAddress(_) => 54,
-            LinkAttribute::ProtoDownReason(_) => 55,
-            LinkAttribute::ParentDevName(_) => 56,
-            LinkAttribute::ParentDevBusName(_) => 57,
-            LinkAttribute::GroMaxSize(_) => 58,
-            LinkAttribute::TsoMaxSize(_) => 59,
-            LinkAttribute::TsoMaxSegs(_) => 60,
-            LinkAttribute::AllMulticast(_) => 61,
-            LinkAttribute::DevlinkPort(_) => 62 | NLA_F_NESTED,
-            LinkAttribute::GsoIpv4MaxSize(_) => 63,
-            LinkAttribute::GroIpv4MaxSize(_) => 64,
-            LinkAttribute::DpllPin(_) => 65 | NLA_F_NESTED,
-            LinkAttribute::NetnsImmutable(_) => 67,
-            LinkAttribute::ProtoInfoUnknown(nla) | LinkAttribute::Other(nla) => nla.kind(),
-        }
+        self.view().0
     }
 
     fn fits(&self) -> bool {
@@ -244,7 +192,7 @@ impl Nla for LinkAttribute {
 
     #[tactic(auto, using(link_recs::proofs::StatsLemmas::length_stats_bytes, link_recs::proofs::Stats64Lemmas::length_stats64_bytes, link_recs::proofs::MapLemmas::length_map_bytes))]
     fn fill_value(&self, buffer: &mut [u8]) -> usize {
-        match self.content() {
+        match self.view().1 {
             Content::Bytes(bytes) => fill_bytes(buffer, bytes),
             Content::Text(text) => fill_text(buffer, text),
             Content::U8(n) => fill_bytes(buffer, &[n]),
@@ -306,79 +254,125 @@ pub(crate) enum Content<'a> {
 
 impl LinkAttribute {
     ghost use Rattle.std.specs.Prelude.{◌↔◌, IsTrue, MatchBool};
-    ghost use Rattle.link_msg.specs.Values.{attribute_frame, InsideFits, AttributeFits, HasPorts};
+    ghost use Rattle.link_msg.specs.Tables.{attribute_frame, InsideFits, AttributeFits, HasPorts};
     ghost use Rattle.link_msg.specs.Content.{content_text, ContentFits};
 
-    fn content(&self) -> Content<'_>
-        ensures text { content_text result ≡ (attribute_frame self.now).payload }
-        ensures inside { ContentFits result ↔ InsideFits self.now }
+    /// Its kind, with both flag bits, and what its value is written from.
+    #[tactic(auto, unfolding(crate::specs::Tables::attribute_view))]
+    fn view(&self) -> (u16, Content<'_>)
+        ensures kind { result.0 ≡ (attribute_frame self.now).kind }
+        ensures text { content_text result.1 ≡ (attribute_frame self.now).payload }
+        ensures inside { ContentFits result.1 ↔ InsideFits self.now }
     {
         match self {
-            LinkAttribute::Address(bytes)
-            | LinkAttribute::Broadcast(bytes)
-            | LinkAttribute::AfSpecUnknown(bytes)
-            | LinkAttribute::PermAddress(bytes) => Content::Bytes(bytes.as_slice()),
-            LinkAttribute::IfName(text)
-            | LinkAttribute::Qdisc(text)
-            | LinkAttribute::IfAlias(text)
-            | LinkAttribute::PhysPortName(text)
-            | LinkAttribute::ParentDevName(text)
-            | LinkAttribute::ParentDevBusName(text) => Content::Text(text.as_str()),
-            LinkAttribute::Carrier(n) | LinkAttribute::ProtoDown(n) => Content::U8(*n),
-            LinkAttribute::OperState(state) => Content::U8(u8::from(*state)),
-            LinkAttribute::Mode(mode) => Content::U8(u8::from(*mode)),
-            LinkAttribute::NetnsImmutable(value) => Content::U8(truth_byte(*value)),
-            LinkAttribute::Mtu(n)
-            | LinkAttribute::Link(n)
-            | LinkAttribute::Controller(n)
-            | LinkAttribute::TxQueueLen(n)
-            | LinkAttribute::NetNsPid(n)
-            | LinkAttribute::NumVf(n)
-            | LinkAttribute::Group(n)
-            | LinkAttribute::Promiscuity(n)
-            | LinkAttribute::NumTxQueues(n)
-            | LinkAttribute::NumRxQueues(n)
-            | LinkAttribute::CarrierChanges(n)
-            | LinkAttribute::GsoMaxSegs(n)
-            | LinkAttribute::GsoMaxSize(n)
-            | LinkAttribute::CarrierUpCount(n)
-            | LinkAttribute::CarrierDownCount(n)
-            | LinkAttribute::MinMtu(n)
-            | LinkAttribute::MaxMtu(n)
-            | LinkAttribute::GroMaxSize(n)
-            | LinkAttribute::TsoMaxSize(n)
-            | LinkAttribute::TsoMaxSegs(n)
-            | LinkAttribute::AllMulticast(n)
-            | LinkAttribute::GsoIpv4MaxSize(n)
-            | LinkAttribute::GroIpv4MaxSize(n) => Content::U32(*n),
-            LinkAttribute::Event(event) => Content::U32(u32::from(*event)),
-            LinkAttribute::NetNsFd(n)
-            | LinkAttribute::LinkNetNsId(n)
-            | LinkAttribute::NewNetnsId(n)
-            | LinkAttribute::IfNetnsId(n)
-            | LinkAttribute::NewIfIndex(n) => Content::I32(*n),
-            LinkAttribute::PhysPortId(id) | LinkAttribute::PhysSwitchId(id) => Content::Id(id),
-            LinkAttribute::Stats(stats) => Content::Stats(stats),
-            LinkAttribute::Stats64(stats) => Content::Stats64(stats),
-            LinkAttribute::Map(map) => Content::Map(map),
-            LinkAttribute::ExtMask(flags) => Content::Mask(flags.as_slice()),
-            LinkAttribute::Wireless(event) => Content::Event(event),
-            LinkAttribute::PortSelf(port) => Content::Port(port.0.as_slice()),
-            LinkAttribute::LinkInfo(members) => Content::Infos(members.as_slice()),
-            LinkAttribute::VfInfoList(members) => Content::Functions(members.as_slice()),
-            LinkAttribute::VfPorts(members) => Content::Ports(members.as_slice()),
-            LinkAttribute::Xdp(members) => Content::Xdps(members.as_slice()),
-            LinkAttribute::PropList(members) => Content::Props(members.as_slice()),
-            LinkAttribute::ProtoDownReason(members) => Content::Reasons(members.as_slice()),
-            LinkAttribute::DevlinkPort(members) => Content::DevlinkPorts(members.as_slice()),
-            LinkAttribute::DpllPin(members) => Content::DpllPins(members.as_slice()),
-            LinkAttribute::ProtoInfoBridge(members) => Content::BridgeInfos(members.as_slice()),
-            LinkAttribute::ProtoInfoInet6(members) => Content::Inet6Infos(members.as_slice()),
-            LinkAttribute::AfSpecBridge(members) => Content::Bridges(members.as_slice()),
-            LinkAttribute::AfSpecUnspec(members) => Content::Unspecs(members.as_slice()),
-            LinkAttribute::ProtoInfoUnknown(nla) | LinkAttribute::Other(nla) => Content::Bytes(
-                nla.value(),
+            LinkAttribute::Address(bytes) => (IFLA_ADDRESS, Content::Bytes(bytes.as_slice())),
+            LinkAttribute::Broadcast(bytes) => (IFLA_BROADCAST, Content::Bytes(bytes.as_slice())),
+            LinkAttribute::IfName(text) => (IFLA_IFNAME, Content::Text(text.as_str())),
+            LinkAttribute::Mtu(n) => (IFLA_MTU, Content::U32(*n)),
+            LinkAttribute::Link(n) => (IFLA_LINK, Content::U32(*n)),
+            LinkAttribute::Qdisc(text) => (IFLA_QDISC, Content::Text(text.as_str())),
+            LinkAttribute::Stats(stats) => (IFLA_STATS, Content::Stats(stats)),
+            LinkAttribute::Controller(n) => (IFLA_MASTER, Content::U32(*n)),
+            LinkAttribute::Wireless(event) => (IFLA_WIRELESS, Content::Event(event)),
+            LinkAttribute::ProtoInfoBridge(members) => (
+                IFLA_PROTINFO | NLA_F_NESTED,
+                Content::BridgeInfos(members.as_slice()),
             ),
+            LinkAttribute::ProtoInfoInet6(members) => (
+                IFLA_PROTINFO | NLA_F_NESTED,
+                Content::Inet6Infos(members.as_slice()),
+            ),
+            LinkAttribute::ProtoInfoUnknown(nla) => (nla.kind(), Content::Bytes(nla.value())),
+            LinkAttribute::TxQueueLen(n) => (IFLA_TXQLEN, Content::U32(*n)),
+            LinkAttribute::Map(map) => (IFLA_MAP, Content::Map(map)),
+            LinkAttribute::OperState(state) => (IFLA_OPERSTATE, Content::U8(u8::from(*state))),
+            LinkAttribute::Mode(mode) => (IFLA_LINKMODE, Content::U8(u8::from(*mode))),
+            LinkAttribute::LinkInfo(members) => (IFLA_LINKINFO, Content::Infos(members.as_slice())),
+            LinkAttribute::NetNsPid(n) => (IFLA_NET_NS_PID, Content::U32(*n)),
+            LinkAttribute::IfAlias(text) => (IFLA_IFALIAS, Content::Text(text.as_str())),
+            LinkAttribute::NumVf(n) => (IFLA_NUM_VF, Content::U32(*n)),
+            LinkAttribute::VfInfoList(members) => (
+                IFLA_VFINFO_LIST,
+                Content::Functions(members.as_slice()),
+            ),
+            LinkAttribute::Stats64(stats) => (IFLA_STATS64, Content::Stats64(stats)),
+            LinkAttribute::VfPorts(members) => (IFLA_VF_PORTS, Content::Ports(members.as_slice())),
+            LinkAttribute::PortSelf(port) => (IFLA_PORT_SELF, Content::Port(port.0.as_slice())),
+            LinkAttribute::AfSpecBridge(members) => (
+                IFLA_AF_SPEC,
+                Content::Bridges(members.as_slice()),
+            ),
+            LinkAttribute::AfSpecUnspec(members) => (
+                IFLA_AF_SPEC,
+                Content::Unspecs(members.as_slice()),
+            ),
+            LinkAttribute::AfSpecUnknown(bytes) => (IFLA_AF_SPEC, Content::Bytes(bytes.as_slice())),
+            LinkAttribute::Group(n) => (IFLA_GROUP, Content::U32(*n)),
+            LinkAttribute::NetNsFd(n) => (IFLA_NET_NS_FD, Content::I32(*n)),
+            LinkAttribute::ExtMask(flags) => (IFLA_EXT_MASK, Content::Mask(flags.as_slice())),
+            LinkAttribute::Promiscuity(n) => (IFLA_PROMISCUITY, Content::U32(*n)),
+            LinkAttribute::NumTxQueues(n) => (IFLA_NUM_TX_QUEUES, Content::U32(*n)),
+            LinkAttribute::NumRxQueues(n) => (IFLA_NUM_RX_QUEUES, Content::U32(*n)),
+            LinkAttribute::Carrier(n) => (IFLA_CARRIER, Content::U8(*n)),
+            LinkAttribute::PhysPortId(id) => (IFLA_PHYS_PORT_ID, Content::Id(id)),
+            LinkAttribute::CarrierChanges(n) => (IFLA_CARRIER_CHANGES, Content::U32(*n)),
+            LinkAttribute::PhysSwitchId(id) => (IFLA_PHYS_SWITCH_ID, Content::Id(id)),
+            LinkAttribute::LinkNetNsId(n) => (IFLA_LINK_NETNSID, Content::I32(*n)),
+            LinkAttribute::PhysPortName(text) => (
+                IFLA_PHYS_PORT_NAME,
+                Content::Text(text.as_str()),
+            ),
+            LinkAttribute::ProtoDown(n) => (IFLA_PROTO_DOWN, Content::U8(*n)),
+            LinkAttribute::GsoMaxSegs(n) => (IFLA_GSO_MAX_SEGS, Content::U32(*n)),
+            LinkAttribute::GsoMaxSize(n) => (IFLA_GSO_MAX_SIZE, Content::U32(*n)),
+            LinkAttribute::Xdp(members) => (IFLA_XDP, Content::Xdps(members.as_slice())),
+            LinkAttribute::Event(event) => (IFLA_EVENT, Content::U32(u32::from(*event))),
+            LinkAttribute::NewNetnsId(n) => (IFLA_NEW_NETNSID, Content::I32(*n)),
+            LinkAttribute::IfNetnsId(n) => (IFLA_IF_NETNSID, Content::I32(*n)),
+            LinkAttribute::CarrierUpCount(n) => (IFLA_CARRIER_UP_COUNT, Content::U32(*n)),
+            LinkAttribute::CarrierDownCount(n) => (IFLA_CARRIER_DOWN_COUNT, Content::U32(*n)),
+            LinkAttribute::NewIfIndex(n) => (IFLA_NEW_IFINDEX, Content::I32(*n)),
+            LinkAttribute::MinMtu(n) => (IFLA_MIN_MTU, Content::U32(*n)),
+            LinkAttribute::MaxMtu(n) => (IFLA_MAX_MTU, Content::U32(*n)),
+            LinkAttribute::PropList(members) => (
+                IFLA_PROP_LIST | NLA_F_NESTED,
+                Content::Props(members.as_slice()),
+            ),
+            LinkAttribute::PermAddress(bytes) => (
+                IFLA_PERM_ADDRESS,
+                Content::Bytes(bytes.as_slice()),
+            ),
+            LinkAttribute::ProtoDownReason(members) => (
+                IFLA_PROTO_DOWN_REASON,
+                Content::Reasons(members.as_slice()),
+            ),
+            LinkAttribute::ParentDevName(text) => (
+                IFLA_PARENT_DEV_NAME,
+                Content::Text(text.as_str()),
+            ),
+            LinkAttribute::ParentDevBusName(text) => (
+                IFLA_PARENT_DEV_BUS_NAME,
+                Content::Text(text.as_str()),
+            ),
+            LinkAttribute::GroMaxSize(n) => (IFLA_GRO_MAX_SIZE, Content::U32(*n)),
+            LinkAttribute::TsoMaxSize(n) => (IFLA_TSO_MAX_SIZE, Content::U32(*n)),
+            LinkAttribute::TsoMaxSegs(n) => (IFLA_TSO_MAX_SEGS, Content::U32(*n)),
+            LinkAttribute::AllMulticast(n) => (IFLA_ALLMULTI, Content::U32(*n)),
+            LinkAttribute::DevlinkPort(members) => (
+                IFLA_DEVLINK_PORT | NLA_F_NESTED,
+                Content::DevlinkPorts(members.as_slice()),
+            ),
+            LinkAttribute::GsoIpv4MaxSize(n) => (IFLA_GSO_IPV4_MAX_SIZE, Content::U32(*n)),
+            LinkAttribute::GroIpv4MaxSize(n) => (IFLA_GRO_IPV4_MAX_SIZE, Content::U32(*n)),
+            LinkAttribute::DpllPin(members) => (
+                IFLA_DPLL_PIN | NLA_F_NESTED,
+                Content::DpllPins(members.as_slice()),
+            ),
+            LinkAttribute::NetnsImmutable(value) => (
+                IFLA_NETNS_IMMUTABLE,
+                Content::U8(truth_byte(*value)),
+            ),
+            LinkAttribute::Other(nla) => (nla.kind(), Content::Bytes(nla.value())),
         }
     }
 
@@ -386,7 +380,7 @@ impl LinkAttribute {
     fn inside_fits(&self) -> bool
         ensures { IsTrue result ↔ InsideFits self.now }
     {
-        match self.content() {
+        match self.view().1 {
             Content::Id(id) => id.fits(),
             Content::Mask(flags) => LinkExtentMask::sum_fits(flags),
             Content::Event(event) => event.fits(),
@@ -423,7 +417,7 @@ impl LinkAttribute {
         requires { InsideFits self.now }
         ensures { result ≡ length (attribute_frame self.now).payload }
     {
-        match self.content() {
+        match self.view().1 {
             Content::Bytes(bytes) => bytes.len(),
             Content::Text(text) => text.len() + 1,
             Content::U8(_) => 1,
@@ -452,114 +446,103 @@ impl LinkAttribute {
 
 impl CloneIn for LinkAttribute {
     fn clone(&self, alloc: Global) -> Result<LinkAttribute, DecodeError> {
-        match self {
-            LinkAttribute::Address(value) => Ok(LinkAttribute::Address(value.clone(alloc)?)),
-            LinkAttribute::Broadcast(value) => Ok(LinkAttribute::Broadcast(value.clone(alloc)?)),
-            LinkAttribute::IfName(value) => Ok(LinkAttribute::IfName(value.clone(alloc)?)),
-            LinkAttribute::Mtu(value) => Ok(LinkAttribute::Mtu(*value)),
-            LinkAttribute::Link(value) => Ok(LinkAttribute::Link(*value)),
-            LinkAttribute::Qdisc(value) => Ok(LinkAttribute::Qdisc(value.clone(alloc)?)),
-            LinkAttribute::Stats(value) => Ok(LinkAttribute::Stats(*value)),
-            LinkAttribute::Controller(value) => Ok(LinkAttribute::Controller(*value)),
-            LinkAttribute::Wireless(value) => Ok(LinkAttribute::Wireless(value.clone(alloc)?)),
-            LinkAttribute::ProtoInfoBridge(value) => Ok(LinkAttribute::ProtoInfoBridge(value.clone(
+        Ok(match self {
+            LinkAttribute::Address(value) => LinkAttribute::Address(value.clone(alloc)?),
+            LinkAttribute::Broadcast(value) => LinkAttribute::Broadcast(value.clone(alloc)?),
+            LinkAttribute::IfName(value) => LinkAttribute::IfName(value.clone(alloc)?),
+            LinkAttribute::Mtu(value) => LinkAttribute::Mtu(*value),
+            LinkAttribute::Link(value) => LinkAttribute::Link(*value),
+            LinkAttribute::Qdisc(value) => LinkAttribute::Qdisc(value.clone(alloc)?),
+            LinkAttribute::Stats(value) => LinkAttribute::Stats(*value),
+            LinkAttribute::Controller(value) => LinkAttribute::Controller(*value),
+            LinkAttribute::Wireless(value) => LinkAttribute::Wireless(value.clone(alloc)?),
+            LinkAttribute::ProtoInfoBridge(value) => LinkAttribute::ProtoInfoBridge(value.clone(
                 alloc,
-            )?)),
-            LinkAttribute::ProtoInfoInet6(value) => Ok(LinkAttribute::ProtoInfoInet6(value.clone(
+            )?),
+            LinkAttribute::ProtoInfoInet6(value) => LinkAttribute::ProtoInfoInet6(value.clone(
                 alloc,
-            )?)),
-            LinkAttribute::ProtoInfoUnknown(value) => Ok(LinkAttribute::ProtoInfoUnknown(
-                value.clone(alloc)?,
-            )),
-            LinkAttribute::TxQueueLen(value) => Ok(LinkAttribute::TxQueueLen(*value)),
-            LinkAttribute::Map(value) => Ok(LinkAttribute::Map(*value)),
-            LinkAttribute::OperState(value) => Ok(LinkAttribute::OperState(*value)),
-            LinkAttribute::Mode(value) => Ok(LinkAttribute::Mode(*value)),
-            LinkAttribute::LinkInfo(value) => Ok(LinkAttribute::LinkInfo(value.clone(alloc)?)),
-            LinkAttribute::NetNsPid(value) => Ok(LinkAttribute::NetNsPid(*value)),
-            LinkAttribute::IfAlias(value) => Ok(LinkAttribute::IfAlias(value.clone(alloc)?)),
-            LinkAttribute::NumVf(value) => Ok(LinkAttribute::NumVf(*value)),
-            LinkAttribute::VfInfoList(value) => Ok(LinkAttribute::VfInfoList(value.clone(alloc)?)),
-            LinkAttribute::Stats64(value) => Ok(LinkAttribute::Stats64(*value)),
-            LinkAttribute::VfPorts(value) => Ok(LinkAttribute::VfPorts(value.clone(alloc)?)),
-            LinkAttribute::PortSelf(value) => Ok(LinkAttribute::PortSelf(value.clone(alloc)?)),
-            LinkAttribute::AfSpecBridge(value) => Ok(LinkAttribute::AfSpecBridge(value.clone(
+            )?),
+            LinkAttribute::ProtoInfoUnknown(value) => LinkAttribute::ProtoInfoUnknown(value.clone(
                 alloc,
-            )?)),
-            LinkAttribute::AfSpecUnspec(value) => Ok(LinkAttribute::AfSpecUnspec(value.clone(
+            )?),
+            LinkAttribute::TxQueueLen(value) => LinkAttribute::TxQueueLen(*value),
+            LinkAttribute::Map(value) => LinkAttribute::Map(*value),
+            LinkAttribute::OperState(value) => LinkAttribute::OperState(*value),
+            LinkAttribute::Mode(value) => LinkAttribute::Mode(*value),
+            LinkAttribute::LinkInfo(value) => LinkAttribute::LinkInfo(value.clone(alloc)?),
+            LinkAttribute::NetNsPid(value) => LinkAttribute::NetNsPid(*value),
+            LinkAttribute::IfAlias(value) => LinkAttribute::IfAlias(value.clone(alloc)?),
+            LinkAttribute::NumVf(value) => LinkAttribute::NumVf(*value),
+            LinkAttribute::VfInfoList(value) => LinkAttribute::VfInfoList(value.clone(alloc)?),
+            LinkAttribute::Stats64(value) => LinkAttribute::Stats64(*value),
+            LinkAttribute::VfPorts(value) => LinkAttribute::VfPorts(value.clone(alloc)?),
+            LinkAttribute::PortSelf(value) => LinkAttribute::PortSelf(value.clone(alloc)?),
+            LinkAttribute::AfSpecBridge(value) => LinkAttribute::AfSpecBridge(value.clone(alloc)?),
+            LinkAttribute::AfSpecUnspec(value) => LinkAttribute::AfSpecUnspec(value.clone(alloc)?),
+            LinkAttribute::AfSpecUnknown(value) => LinkAttribute::AfSpecUnknown(value.clone(
                 alloc,
-            )?)),
-            LinkAttribute::AfSpecUnknown(value) => Ok(LinkAttribute::AfSpecUnknown(value.clone(
+            )?),
+            LinkAttribute::Group(value) => LinkAttribute::Group(*value),
+            LinkAttribute::NetNsFd(value) => LinkAttribute::NetNsFd(*value),
+            LinkAttribute::ExtMask(value) => LinkAttribute::ExtMask(clone_mask(
                 alloc,
-            )?)),
-            LinkAttribute::Group(value) => Ok(LinkAttribute::Group(*value)),
-            LinkAttribute::NetNsFd(value) => Ok(LinkAttribute::NetNsFd(*value)),
-            LinkAttribute::ExtMask(flags) => Ok(LinkAttribute::ExtMask(clone_mask(
+                value.as_slice(),
+            )?),
+            LinkAttribute::Promiscuity(value) => LinkAttribute::Promiscuity(*value),
+            LinkAttribute::NumTxQueues(value) => LinkAttribute::NumTxQueues(*value),
+            LinkAttribute::NumRxQueues(value) => LinkAttribute::NumRxQueues(*value),
+            LinkAttribute::Carrier(value) => LinkAttribute::Carrier(*value),
+            LinkAttribute::PhysPortId(value) => LinkAttribute::PhysPortId(*value),
+            LinkAttribute::CarrierChanges(value) => LinkAttribute::CarrierChanges(*value),
+            LinkAttribute::PhysSwitchId(value) => LinkAttribute::PhysSwitchId(*value),
+            LinkAttribute::LinkNetNsId(value) => LinkAttribute::LinkNetNsId(*value),
+            LinkAttribute::PhysPortName(value) => LinkAttribute::PhysPortName(value.clone(alloc)?),
+            LinkAttribute::ProtoDown(value) => LinkAttribute::ProtoDown(*value),
+            LinkAttribute::GsoMaxSegs(value) => LinkAttribute::GsoMaxSegs(*value),
+            LinkAttribute::GsoMaxSize(value) => LinkAttribute::GsoMaxSize(*value),
+            LinkAttribute::Xdp(value) => LinkAttribute::Xdp(value.clone(alloc)?),
+            LinkAttribute::Event(value) => LinkAttribute::Event(*value),
+            LinkAttribute::NewNetnsId(value) => LinkAttribute::NewNetnsId(*value),
+            LinkAttribute::IfNetnsId(value) => LinkAttribute::IfNetnsId(*value),
+            LinkAttribute::CarrierUpCount(value) => LinkAttribute::CarrierUpCount(*value),
+            LinkAttribute::CarrierDownCount(value) => LinkAttribute::CarrierDownCount(*value),
+            LinkAttribute::NewIfIndex(value) => LinkAttribute::NewIfIndex(*value),
+            LinkAttribute::MinMtu(value) => LinkAttribute::MinMtu(*value),
+            LinkAttribute::MaxMtu(value) => LinkAttribute::MaxMtu(*value),
+            LinkAttribute::PropList(value) => LinkAttribute::PropList(value.clone(alloc)?),
+            LinkAttribute::PermAddress(value) => LinkAttribute::PermAddress(value.clone(alloc)?),
+            LinkAttribute::ProtoDownReason(value) => LinkAttribute::ProtoDownReason(value.clone(
                 alloc,
-                flags.as_slice(),
-            )?)),
-            LinkAttribute::Promiscuity(value) => Ok(LinkAttribute::Promiscuity(*value)),
-            LinkAttribute::NumTxQueues(value) => Ok(LinkAttribute::NumTxQueues(*value)),
-            LinkAttribute::NumRxQueues(value) => Ok(LinkAttribute::NumRxQueues(*value)),
-            LinkAttribute::Carrier(value) => Ok(LinkAttribute::Carrier(*value)),
-            LinkAttribute::PhysPortId(value) => Ok(LinkAttribute::PhysPortId(*value)),
-            LinkAttribute::CarrierChanges(value) => Ok(LinkAttribute::CarrierChanges(*value)),
-            LinkAttribute::PhysSwitchId(value) => Ok(LinkAttribute::PhysSwitchId(*value)),
-            LinkAttribute::LinkNetNsId(value) => Ok(LinkAttribute::LinkNetNsId(*value)),
-            LinkAttribute::PhysPortName(value) => Ok(LinkAttribute::PhysPortName(value.clone(
+            )?),
+            LinkAttribute::ParentDevName(value) => LinkAttribute::ParentDevName(value.clone(
                 alloc,
-            )?)),
-            LinkAttribute::ProtoDown(value) => Ok(LinkAttribute::ProtoDown(*value)),
-            LinkAttribute::GsoMaxSegs(value) => Ok(LinkAttribute::GsoMaxSegs(*value)),
-            LinkAttribute::GsoMaxSize(value) => Ok(LinkAttribute::GsoMaxSize(*value)),
-            LinkAttribute::Xdp(value) => Ok(LinkAttribute::Xdp(value.clone(alloc)?)),
-            LinkAttribute::Event(value) => Ok(LinkAttribute::Event(*value)),
-            LinkAttribute::NewNetnsId(value) => Ok(LinkAttribute::NewNetnsId(*value)),
-            LinkAttribute::IfNetnsId(value) => Ok(LinkAttribute::IfNetnsId(*value)),
-            LinkAttribute::CarrierUpCount(value) => Ok(LinkAttribute::CarrierUpCount(*value)),
-            LinkAttribute::CarrierDownCount(value) => Ok(LinkAttribute::CarrierDownCount(*value)),
-            LinkAttribute::NewIfIndex(value) => Ok(LinkAttribute::NewIfIndex(*value)),
-            LinkAttribute::MinMtu(value) => Ok(LinkAttribute::MinMtu(*value)),
-            LinkAttribute::MaxMtu(value) => Ok(LinkAttribute::MaxMtu(*value)),
-            LinkAttribute::PropList(value) => Ok(LinkAttribute::PropList(value.clone(alloc)?)),
-            LinkAttribute::PermAddress(value) => Ok(LinkAttribute::PermAddress(value.clone(
+            )?),
+            LinkAttribute::ParentDevBusName(value) => LinkAttribute::ParentDevBusName(value.clone(
                 alloc,
-            )?)),
-            LinkAttribute::ProtoDownReason(value) => Ok(LinkAttribute::ProtoDownReason(value.clone(
-                alloc,
-            )?)),
-            LinkAttribute::ParentDevName(value) => Ok(LinkAttribute::ParentDevName(value.clone(
-                alloc,
-            )?)),
-            LinkAttribute::ParentDevBusName(value) => Ok(LinkAttribute::ParentDevBusName(
-                value.clone(alloc)?,
-            )),
-            LinkAttribute::GroMaxSize(value) => Ok(LinkAttribute::GroMaxSize(*value)),
-            LinkAttribute::TsoMaxSize(value) => Ok(LinkAttribute::TsoMaxSize(*value)),
-            LinkAttribute::TsoMaxSegs(value) => Ok(LinkAttribute::TsoMaxSegs(*value)),
-            LinkAttribute::AllMulticast(value) => Ok(LinkAttribute::AllMulticast(*value)),
-            LinkAttribute::DevlinkPort(value) => Ok(LinkAttribute::DevlinkPort(value.clone(
-                alloc,
-            )?)),
-            LinkAttribute::GsoIpv4MaxSize(value) => Ok(LinkAttribute::GsoIpv4MaxSize(*value)),
-            LinkAttribute::GroIpv4MaxSize(value) => Ok(LinkAttribute::GroIpv4MaxSize(*value)),
-            LinkAttribute::DpllPin(value) => Ok(LinkAttribute::DpllPin(value.clone(alloc)?)),
-            LinkAttribute::NetnsImmutable(value) => Ok(LinkAttribute::NetnsImmutable(*value)),
-            LinkAttribute::Other(nla) => Ok(LinkAttribute::Other(nla.clone(alloc)?)),
-        }
+            )?),
+            LinkAttribute::GroMaxSize(value) => LinkAttribute::GroMaxSize(*value),
+            LinkAttribute::TsoMaxSize(value) => LinkAttribute::TsoMaxSize(*value),
+            LinkAttribute::TsoMaxSegs(value) => LinkAttribute::TsoMaxSegs(*value),
+            LinkAttribute::AllMulticast(value) => LinkAttribute::AllMulticast(*value),
+            LinkAttribute::DevlinkPort(value) => LinkAttribute::DevlinkPort(value.clone(alloc)?),
+            LinkAttribute::GsoIpv4MaxSize(value) => LinkAttribute::GsoIpv4MaxSize(*value),
+            LinkAttribute::GroIpv4MaxSize(value) => LinkAttribute::GroIpv4MaxSize(*value),
+            LinkAttribute::DpllPin(value) => LinkAttribute::DpllPin(value.clone(alloc)?),
+            LinkAttribute::NetnsImmutable(value) => LinkAttribute::NetnsImmutable(*value),
+            LinkAttribute::Other(value) => LinkAttribute::Other(value.clone(alloc)?),
+        })
     }
 }
 
 impl Exact for LinkAttribute {
     ghost use Rattle.std.proofs.Common.{rules};
-    ghost use Rattle.nla_wire.specs.Decided.{by_exact, one_field, number_exact, signed_exact, bytes_exact, list_exact};
+    ghost use Rattle.nla_wire.specs.Decided.{◌&◌, by_exact, number_exact, signed_exact, bool_exact, bytes_exact, list_exact};
     ghost use Rattle.nla_wire.specs.Same.{same_frame-Decides};
     ghost use Rattle.link_recs.specs.StatsFields.{stats_decides};
     ghost use Rattle.link_recs.specs.Stats64Fields.{stats64_decides};
     ghost use Rattle.link_vf.specs.contracts.port_list.LinkVfPortExact.TheImpl.Laws.{decides-law as port_exact};
     ghost use Rattle.link_nest.specs.contracts.link_info.LinkInfoExact.TheImpl.Laws.{decides-law as info_exact};
     ghost use Rattle.link_vf.specs.contracts.vf_list.LinkVfInfoExact.TheImpl.Laws.{decides-law as functions_exact};
-    ghost use Rattle.link_vf.specs.contracts.port_list.LinkVfPortExact.TheImpl.Laws.{decides-law as ports_exact};
     ghost use Rattle.link_nest.specs.contracts.xdp.LinkXdpExact.TheImpl.Laws.{decides-law as xdp_exact};
     ghost use Rattle.link_nest.specs.contracts.prop_list.PropExact.TheImpl.Laws.{decides-law as props_exact};
     ghost use Rattle.link_nest.specs.contracts.down_reason.LinkProtocolDownReasonExact.TheImpl.Laws.{decides-law as reasons_exact};
@@ -578,5 +561,72 @@ impl Exact for LinkAttribute {
     ghost use Rattle.link_vals.specs.contracts.ext_mask.LinkExtentMaskExact.TheImpl.Laws.{decides-law as ext_mask_exact};
     ghost use Rattle.link_msg.specs.contracts.attribute.LinkAttribute.{enum};
 
-    ghost decides = { by_exact enum _ (one_field bytes_exact, (one_field bytes_exact, (one_field bytes_exact, (one_field number_exact, (one_field number_exact, (one_field bytes_exact, (one_field stats_decides, (one_field number_exact, (one_field wireless_exact, (one_field (list_exact proto_bridge_exact), (one_field (list_exact proto_inet6_exact), (one_field same_frame-Decides, (one_field number_exact, (one_field map_exact, (one_field state_exact, (one_field mode_exact, (one_field (list_exact info_exact), (one_field number_exact, (one_field bytes_exact, (one_field number_exact, (one_field (list_exact functions_exact), (one_field stats64_decides, (one_field (list_exact ports_exact), (one_field port_exact, (one_field (list_exact af_bridge_exact), (one_field (list_exact af_unspec_exact), (one_field bytes_exact, (one_field number_exact, (one_field signed_exact, (one_field (list_exact ext_mask_exact), (one_field number_exact, (one_field number_exact, (one_field number_exact, (one_field number_exact, (one_field phys_id_exact, (one_field number_exact, (one_field phys_id_exact, (one_field signed_exact, (one_field bytes_exact, (one_field number_exact, (one_field number_exact, (one_field number_exact, (one_field (list_exact xdp_exact), (one_field event_exact, (one_field signed_exact, (one_field signed_exact, (one_field number_exact, (one_field number_exact, (one_field signed_exact, (one_field number_exact, (one_field number_exact, (one_field (list_exact props_exact), (one_field bytes_exact, (one_field (list_exact reasons_exact), (one_field bytes_exact, (one_field bytes_exact, (one_field number_exact, (one_field number_exact, (one_field number_exact, (one_field number_exact, (one_field (list_exact devlink_exact), (one_field number_exact, (one_field number_exact, (one_field (list_exact dpll_exact), (one_field (λ x y. Prim.search rules), (one_field same_frame-Decides, tt)))))))))))))))))))))))))))))))))))))))))))))))))))))))))))))))))) };
+    ghost decides = { by_exact enum _ (
+        bytes_exact
+        & bytes_exact
+        & bytes_exact
+        & number_exact
+        & number_exact
+        & bytes_exact
+        & stats_decides
+        & number_exact
+        & wireless_exact
+        & list_exact proto_bridge_exact
+        & list_exact proto_inet6_exact
+        & same_frame-Decides
+        & number_exact
+        & map_exact
+        & state_exact
+        & mode_exact
+        & list_exact info_exact
+        & number_exact
+        & bytes_exact
+        & number_exact
+        & list_exact functions_exact
+        & stats64_decides
+        & list_exact port_exact
+        & port_exact
+        & list_exact af_bridge_exact
+        & list_exact af_unspec_exact
+        & bytes_exact
+        & number_exact
+        & signed_exact
+        & list_exact ext_mask_exact
+        & number_exact
+        & number_exact
+        & number_exact
+        & number_exact
+        & phys_id_exact
+        & number_exact
+        & phys_id_exact
+        & signed_exact
+        & bytes_exact
+        & number_exact
+        & number_exact
+        & number_exact
+        & list_exact xdp_exact
+        & event_exact
+        & signed_exact
+        & signed_exact
+        & number_exact
+        & number_exact
+        & signed_exact
+        & number_exact
+        & number_exact
+        & list_exact props_exact
+        & bytes_exact
+        & list_exact reasons_exact
+        & bytes_exact
+        & bytes_exact
+        & number_exact
+        & number_exact
+        & number_exact
+        & number_exact
+        & list_exact devlink_exact
+        & number_exact
+        & number_exact
+        & list_exact dpll_exact
+        & bool_exact
+        & same_frame-Decides
+        & tt) };
 }

@@ -24,8 +24,13 @@ ghost use Rattle.link_recs.specs.Inet6StatsFields.{inet6_stats_size};
 ghost use Rattle.link_recs.specs.Inet6CacheInfoFields.{inet6_cache_info_size};
 ghost use Rattle.link_recs.specs.Icmp6StatsFields.{icmp6_stats_size};
 ghost use Rattle.link_afspec.specs.PlaceLaws.{ZerosAdded, LongerIgnored};
-ghost use Rattle.link_afspec.specs.Places.{af_spec_inet_place, af_spec_inet6_place};
-ghost use Rattle.link_msg.specs.Places.{attribute_place};
+ghost use Rattle.link_afspec.specs.Tables.{af_spec_inet_place, af_spec_inet6_place};
+ghost use Rattle.link_afspec.specs.declared.numbers.TheConstants.{IFLA_INET_CONF, IFLA_INET6_CONF, IFLA_INET6_STATS, IFLA_INET6_CACHEINFO, IFLA_INET6_ICMP6STATS};
+ghost use Rattle.link_msg.specs.declared.numbers.TheConstants.{IFLA_STATS, IFLA_STATS64, IFLA_MAP};
+ghost use Rattle.std.specs.Prelude.{◌≡◌, [], ◌∷◌};
+ghost use Rattle.nla_wire.specs.Canon.{canon};
+ghost use Rattle.link_msg.specs.declared.attribute.LinkAttribute.TheVariants as Attributes;
+ghost use Rattle.link_msg.specs.Tables.{attribute_place, attribute_frame};
 ghost use Rattle.link_msg.specs.LawStatements.{OneMeaning, TextMeansTheSame, OnlyWithPorts, SameTextSameMessage, CanonicalTwice, Joined, ForeignKept};
 
 /// No bytes mean two messages.
@@ -59,20 +64,20 @@ pub fn law_joined()
 /// Records that are filled up mean the same with zeros added to the payload: statistics of a link under any family, and
 /// settings and statistics of AF_INET and AF_INET6. One longer than its record means the same as its beginning.
 pub fn law_short_records()
-    ensures stats_zeros { (family : AddressFamily) → ZerosAdded (attribute_place family).means 7 }
-    ensures stats_longer { (family : AddressFamily) → LongerIgnored (attribute_place family).means 7 stats_size }
-    ensures stats64_zeros { (family : AddressFamily) → ZerosAdded (attribute_place family).means 23 }
-    ensures stats64_longer { (family : AddressFamily) → LongerIgnored (attribute_place family).means 23 stats64_size }
-    ensures map_longer { (family : AddressFamily) → LongerIgnored (attribute_place family).means 14 map_size }
-    ensures inet_zeros { ZerosAdded af_spec_inet_place.means 1 }
-    ensures inet_longer { LongerIgnored af_spec_inet_place.means 1 inet_dev_conf_size }
-    ensures inet6_zeros { ZerosAdded af_spec_inet6_place.means 2 }
-    ensures inet6_longer { LongerIgnored af_spec_inet6_place.means 2 inet6_dev_conf_size }
-    ensures inet6_stats_zeros { ZerosAdded af_spec_inet6_place.means 3 }
-    ensures inet6_stats_longer { LongerIgnored af_spec_inet6_place.means 3 inet6_stats_size }
-    ensures cache_longer { LongerIgnored af_spec_inet6_place.means 5 inet6_cache_info_size }
-    ensures icmp_zeros { ZerosAdded af_spec_inet6_place.means 6 }
-    ensures icmp_longer { LongerIgnored af_spec_inet6_place.means 6 icmp6_stats_size }
+    ensures stats_zeros { (family : AddressFamily) → ZerosAdded (attribute_place family).means IFLA_STATS }
+    ensures stats_longer { (family : AddressFamily) → LongerIgnored (attribute_place family).means IFLA_STATS stats_size }
+    ensures stats64_zeros { (family : AddressFamily) → ZerosAdded (attribute_place family).means IFLA_STATS64 }
+    ensures stats64_longer { (family : AddressFamily) → LongerIgnored (attribute_place family).means IFLA_STATS64 stats64_size }
+    ensures map_longer { (family : AddressFamily) → LongerIgnored (attribute_place family).means IFLA_MAP map_size }
+    ensures inet_zeros { ZerosAdded af_spec_inet_place.grammar.means IFLA_INET_CONF }
+    ensures inet_longer { LongerIgnored af_spec_inet_place.grammar.means IFLA_INET_CONF inet_dev_conf_size }
+    ensures inet6_zeros { ZerosAdded af_spec_inet6_place.grammar.means IFLA_INET6_CONF }
+    ensures inet6_longer { LongerIgnored af_spec_inet6_place.grammar.means IFLA_INET6_CONF inet6_dev_conf_size }
+    ensures inet6_stats_zeros { ZerosAdded af_spec_inet6_place.grammar.means IFLA_INET6_STATS }
+    ensures inet6_stats_longer { LongerIgnored af_spec_inet6_place.grammar.means IFLA_INET6_STATS inet6_stats_size }
+    ensures cache_longer { LongerIgnored af_spec_inet6_place.grammar.means IFLA_INET6_CACHEINFO inet6_cache_info_size }
+    ensures icmp_zeros { ZerosAdded af_spec_inet6_place.grammar.means IFLA_INET6_ICMP6STATS }
+    ensures icmp_longer { LongerIgnored af_spec_inet6_place.grammar.means IFLA_INET6_ICMP6STATS icmp6_stats_size }
 {
     link_afspec::laws::law_short_records();
 }
@@ -120,7 +125,21 @@ pub fn law_state_texts()
     link_vals::laws::state_texts_read_back();
 }
 
-/// An attribute of a number that is not listed is written back with its kind, both flag bits and its payload.
+/// An attribute that no line of the table reads is written back with its kind, both flag bits and its payload.
 pub fn law_foreign_kept()
     ensures { ForeignKept }
+{}
+
+/// An MTU of 1500 is written as the length 8, the number 4, and four bytes, lowest first.
+#[tactic(auto, unfolding(crate::specs::Tables::attribute_view))]
+pub fn law_mtu_in_bytes()
+    ensures { canon (attribute_frame (Attributes.Mtu 1500))
+        ≡ 0x08 ∷ 0x00 ∷ 0x04 ∷ 0x00 ∷ 0xdc ∷ 0x05 ∷ 0x00 ∷ 0x00 ∷ [] }
+{}
+
+/// The name `lo` is written as the length 7, the number 3, its bytes with one NUL, and one byte of padding.
+#[tactic(auto, unfolding(crate::specs::Tables::attribute_view))]
+pub fn law_if_name_in_bytes()
+    ensures { canon (attribute_frame (Attributes.IfName (0x6c ∷ 0x6f ∷ [])))
+        ≡ 0x07 ∷ 0x00 ∷ 0x03 ∷ 0x00 ∷ 0x6c ∷ 0x6f ∷ 0x00 ∷ 0x00 ∷ [] }
 {}

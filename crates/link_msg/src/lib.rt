@@ -9,6 +9,7 @@ mod family;
 pub mod header;
 pub mod laws;
 pub mod message;
+pub mod numbers;
 mod payload;
 mod ports;
 mod shape;

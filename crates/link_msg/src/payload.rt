@@ -1,25 +1,21 @@
 //! Payloads of attributes: lists that are not empty, extent masks, events and truth values.
 
-ghost use Rattle.std.specs.Prelude.{◌≡◌, ◌*◌, ◌+◌, ◌≤◌, ◌<◌, ◌^◌, length, IsOk, IfOk, IfErr};
-ghost use Rattle.std.specs.Int.{w32, to_le_bytes};
+ghost use Rattle.std.specs.Prelude.{◌≡◌, ◌*◌, ◌+◌, ◌≤◌, length, IsOk, IfOk, IfErr};
 ghost use Rattle.nla_wire.specs.Sizes.{most_payload, growth_per_byte};
 ghost use Rattle.nla_wire.specs.Grammar.{list, not_empty};
 ghost use Rattle.nla_wire.specs.Canon.{canon, canons, AllFit, Canonical};
 ghost use Rattle.nla_wire.specs.Gives.{Gives, Checks};
 ghost use Rattle.nla_wire.specs.declared.error.Cause.TheVariants.{OutOfMemory};
-ghost use Rattle.link_vals.specs.LinkExtentMaskTable.{ext_sum};
-ghost use Rattle.link_nest.specs.Wireless.{wireless_event, wireless_text, WirelessFits};
-ghost use Rattle.link_vf.specs.Values.{link_vf_port_frame, LinkVfPortFits};
-ghost use Rattle.link_vf.specs.Places.{vf_port_list};
-ghost use Rattle.link_msg.specs.Places.{ext_mask};
-ghost use Rattle.link_msg.specs.Values.{truth_number};
+ghost use Rattle.link_nest.specs.Wireless.{wireless_event};
+ghost use Rattle.link_vf.specs.Tables.{link_vf_port_place, vf_port_list};
+ghost use Rattle.nla_wire.proofs.Shapes.{ShapeWrites};
+ghost use Rattle.link_msg.specs.Tables.{base, ext_masks, truth_number};
+ghost use Rattle.link_msg.specs.declared.shape.Shape.TheVariants as Shapes;
 
 use link_nest::WirelessEvent;
 use link_vals::LinkExtentMask;
 use link_vf::LinkVfPort;
-use nla_wire::{
-    DecodeError, List, NLA_HEADER_SIZE, NlaRead, canon_u32, close, empty_list, parse_u32,
-};
+use nla_wire::{DecodeError, List, NLA_HEADER_SIZE, NlaRead, close, empty_list, parse_u32};
 use std::alloc::Global;
 
 /// Reads a list that is not empty.
@@ -60,7 +56,7 @@ pub(crate) fn canon_some<N: NlaRead>(kind: u16, payload: &[u8], out: &mut [u8]) 
 /// Reads ports of virtual functions from a payload that is not empty.
 #[tactic(auto, unfolding(nla_wire::specs::Grammar::unless_empty))]
 pub(crate) fn parse_ports(alloc: Global, payload: &[u8]) -> Result<List<LinkVfPort>, DecodeError>
-    ensures { Gives result ((not_empty vf_port_list).reads payload.now) }
+    ensures { Gives result ((not_empty vf_port_list.grammar).reads payload.now) }
 {
     if payload.is_empty() {
         return Err(empty_list());
@@ -71,7 +67,7 @@ pub(crate) fn parse_ports(alloc: Global, payload: &[u8]) -> Result<List<LinkVfPo
 /// Whether a payload is one of ports of virtual functions, and the first fault if not.
 #[tactic(auto, unfolding(nla_wire::specs::Grammar::unless_empty))]
 pub(crate) fn check_ports(payload: &[u8]) -> Result<(), DecodeError>
-    ensures { Checks result ((not_empty vf_port_list).reads payload.now) }
+    ensures { Checks result ((not_empty vf_port_list.grammar).reads payload.now) }
 {
     if payload.is_empty() {
         return Err(empty_list());
@@ -82,9 +78,9 @@ pub(crate) fn check_ports(payload: &[u8]) -> Result<(), DecodeError>
 /// Writes the attribute of accepted ports of virtual functions.
 #[tactic(auto, unfolding(nla_wire::specs::Grammar::unless_empty))]
 pub(crate) fn canon_ports(kind: u16, payload: &[u8], out: &mut [u8]) -> Option<usize>
-    requires accepted { IsOk ((not_empty vf_port_list).reads payload.now) }
+    requires accepted { IsOk ((not_empty vf_port_list.grammar).reads payload.now) }
     requires room { growth_per_byte * (4 + length payload.now) ≤ length out.old }
-    ensures { Canonical (λ vs. canon (record { kind = kind; payload = canons link_vf_port_frame vs })) (λ vs. (length (canons link_vf_port_frame vs) ≤ most_payload) × AllFit LinkVfPortFits link_vf_port_frame vs) ((not_empty vf_port_list).reads payload.now) out.old out.new result }
+    ensures { Canonical (λ vs. canon (record { kind = kind; payload = canons link_vf_port_place.frame vs })) (λ vs. (length (canons link_vf_port_place.frame vs) ≤ most_payload) × AllFit link_vf_port_place.Fits link_vf_port_place.frame vs) ((not_empty vf_port_list.grammar).reads payload.now) out.old out.new result }
 {
     if payload.is_empty() {
         return None;
@@ -94,26 +90,10 @@ pub(crate) fn canon_ports(kind: u16, payload: &[u8], out: &mut [u8]) -> Option<u
 
 /// Reads an extent mask, a number of four bytes, as the list of its flags.
 pub(crate) fn parse_mask(alloc: Global, payload: &[u8]) -> Result<List<LinkExtentMask>, DecodeError>
-    ensures { Gives result (ext_mask.reads payload.now) }
+    ensures { Gives result (ext_masks.grammar.reads payload.now) }
 {
     let number = parse_u32(payload)?;
     LinkExtentMask::list_from(alloc, number).map(List::new)
-}
-
-/// Whether a payload is an extent mask, and the fault if not.
-pub(crate) fn check_mask(payload: &[u8]) -> Result<(), DecodeError>
-    ensures { Checks result (ext_mask.reads payload.now) }
-{
-    parse_u32(payload).map(|_| ())
-}
-
-/// Writes the attribute of an accepted extent mask: the sum of the flags of a number is that number.
-pub(crate) fn canon_mask(kind: u16, payload: &[u8], out: &mut [u8]) -> Option<usize>
-    requires accepted { IsOk (ext_mask.reads payload.now) }
-    requires room { growth_per_byte * (4 + length payload.now) ≤ length out.old }
-    ensures { Canonical (λ flags. canon (record { kind = kind; payload = to_le_bytes w32 (ext_sum flags) })) (λ flags. ext_sum flags < 2 ^ 32) (ext_mask.reads payload.now) out.old out.new result }
-{
-    canon_u32(kind, payload, out)
 }
 
 /// A copy of flags, or `OutOfMemory`.
@@ -132,7 +112,7 @@ pub(crate) fn clone_mask(
 pub(crate) fn canon_event(kind: u16, payload: &[u8], out: &mut [u8]) -> Option<usize>
     requires accepted { IsOk (wireless_event.reads payload.now) }
     requires room { growth_per_byte * (4 + length payload.now) ≤ length out.old }
-    ensures { Canonical (λ event. canon (record { kind = kind; payload = wireless_text event })) WirelessFits (wireless_event.reads payload.now) out.old out.new result }
+    ensures { ShapeWrites base Shapes.Event kind payload.now out.old out.new result }
 {
     let len = WirelessEvent::canon(payload, &mut out[NLA_HEADER_SIZE..])?;
     close(out, len, kind)

@@ -8,42 +8,119 @@ ghost use Rattle.nla_wire.specs.Gives.{Fails, Gives, Checks};
 ghost use Rattle.nla_wire.specs.declared.error.Cause.TheVariants.{OutOfMemory};
 
 use crate::attribute::LinkAttribute;
-use crate::family::{
-    canon_af_spec, canon_proto_info, check_af_spec, check_proto_info, parse_af_spec,
-    parse_proto_info,
-};
-use crate::payload::{
-    canon_event, canon_mask, canon_ports, canon_some, check_mask, check_ports, check_some,
-    parse_mask, parse_ports, parse_some,
-};
+use crate::family::parse_af_spec;
+use crate::family::parse_proto_info;
+use crate::numbers::IFLA_ADDRESS;
+use crate::numbers::IFLA_AF_SPEC;
+use crate::numbers::IFLA_ALLMULTI;
+use crate::numbers::IFLA_BROADCAST;
+use crate::numbers::IFLA_CARRIER;
+use crate::numbers::IFLA_CARRIER_CHANGES;
+use crate::numbers::IFLA_CARRIER_DOWN_COUNT;
+use crate::numbers::IFLA_CARRIER_UP_COUNT;
+use crate::numbers::IFLA_DEVLINK_PORT;
+use crate::numbers::IFLA_DPLL_PIN;
+use crate::numbers::IFLA_EVENT;
+use crate::numbers::IFLA_EXT_MASK;
+use crate::numbers::IFLA_GRO_IPV4_MAX_SIZE;
+use crate::numbers::IFLA_GRO_MAX_SIZE;
+use crate::numbers::IFLA_GROUP;
+use crate::numbers::IFLA_GSO_IPV4_MAX_SIZE;
+use crate::numbers::IFLA_GSO_MAX_SEGS;
+use crate::numbers::IFLA_GSO_MAX_SIZE;
+use crate::numbers::IFLA_IF_NETNSID;
+use crate::numbers::IFLA_IFALIAS;
+use crate::numbers::IFLA_IFNAME;
+use crate::numbers::IFLA_LINK;
+use crate::numbers::IFLA_LINK_NETNSID;
+use crate::numbers::IFLA_LINKINFO;
+use crate::numbers::IFLA_LINKMODE;
+use crate::numbers::IFLA_MAP;
+use crate::numbers::IFLA_MASTER;
+use crate::numbers::IFLA_MAX_MTU;
+use crate::numbers::IFLA_MIN_MTU;
+use crate::numbers::IFLA_MTU;
+use crate::numbers::IFLA_NET_NS_FD;
+use crate::numbers::IFLA_NET_NS_PID;
+use crate::numbers::IFLA_NETNS_IMMUTABLE;
+use crate::numbers::IFLA_NEW_IFINDEX;
+use crate::numbers::IFLA_NEW_NETNSID;
+use crate::numbers::IFLA_NUM_RX_QUEUES;
+use crate::numbers::IFLA_NUM_TX_QUEUES;
+use crate::numbers::IFLA_NUM_VF;
+use crate::numbers::IFLA_OPERSTATE;
+use crate::numbers::IFLA_PARENT_DEV_BUS_NAME;
+use crate::numbers::IFLA_PARENT_DEV_NAME;
+use crate::numbers::IFLA_PERM_ADDRESS;
+use crate::numbers::IFLA_PHYS_PORT_ID;
+use crate::numbers::IFLA_PHYS_PORT_NAME;
+use crate::numbers::IFLA_PHYS_SWITCH_ID;
+use crate::numbers::IFLA_PORT_SELF;
+use crate::numbers::IFLA_PROMISCUITY;
+use crate::numbers::IFLA_PROP_LIST;
+use crate::numbers::IFLA_PROTINFO;
+use crate::numbers::IFLA_PROTO_DOWN;
+use crate::numbers::IFLA_PROTO_DOWN_REASON;
+use crate::numbers::IFLA_QDISC;
+use crate::numbers::IFLA_STATS;
+use crate::numbers::IFLA_STATS64;
+use crate::numbers::IFLA_TSO_MAX_SEGS;
+use crate::numbers::IFLA_TSO_MAX_SIZE;
+use crate::numbers::IFLA_TXQLEN;
+use crate::numbers::IFLA_VF_PORTS;
+use crate::numbers::IFLA_VFINFO_LIST;
+use crate::numbers::IFLA_WIRELESS;
+use crate::numbers::IFLA_XDP;
+use crate::payload::parse_mask;
+use crate::payload::parse_ports;
+use crate::payload::parse_some;
 use crate::ports::holds_no_port;
 use crate::shape::Shape;
-use link_nest::{
-    DevlinkPort, DpllPin, LinkInfo, LinkProtocolDownReason, LinkXdp, Prop, WirelessEvent,
-};
-use link_recs::{Map, Stats, Stats64};
-use link_vals::{AddressFamily, LinkEvent, LinkMode, LinkPhysId, State};
-use link_vf::{LinkVfInfo, LinkVfPort};
-use nla_wire::{
-    Bytes, DecodeError, DefaultNla, List, NLA_F_NESTED, NlaBuffer, NlaRead, NlasIterator, Place,
-    append_members, canon_bytes, canon_members, canon_text, check_members, check_string, parse_i32,
-    parse_members, parse_string, parse_u8, parse_u32,
-};
+use link_nest::DevlinkPort;
+use link_nest::DpllPin;
+use link_nest::LinkInfo;
+use link_nest::LinkProtocolDownReason;
+use link_nest::LinkXdp;
+use link_nest::Prop;
+use link_nest::WirelessEvent;
+use link_recs::Map;
+use link_recs::Stats;
+use link_recs::Stats64;
+use link_vals::AddressFamily;
+use link_vals::LinkEvent;
+use link_vals::LinkMode;
+use link_vals::LinkPhysId;
+use link_vals::State;
+use link_vf::LinkVfInfo;
+use link_vf::LinkVfPort;
+use nla_wire::Bytes;
+use nla_wire::DecodeError;
+use nla_wire::DefaultNla;
+use nla_wire::List;
+use nla_wire::NlaBuffer;
+use nla_wire::NlaRead;
+use nla_wire::NlasIterator;
+use nla_wire::Place;
+use nla_wire::append_members;
+use nla_wire::canon_bytes;
+use nla_wire::canon_members;
+use nla_wire::check_members;
+use nla_wire::parse_i32;
+use nla_wire::parse_members;
+use nla_wire::parse_string;
+use nla_wire::parse_u8;
+use nla_wire::parse_u32;
 use std::alloc::Global;
 
-/// The number of IFLA_VF_PORTS.
-const VF_PORTS: u16 = 24;
-
 impl LinkAttribute {
-    ghost use Rattle.link_msg.specs.Places.{attribute_place, other_place};
     ghost use Rattle.nla_wire.specs.Frames.{IsFrame};
-    ghost use Rattle.link_msg.specs.Plain.{plain_answer};
-    ghost use Rattle.link_msg.specs.Values.{attribute_frame, AttributeFits, Values};
+    ghost use Rattle.link_msg.specs.Tables.{attribute_place, attribute_frame, AttributeFits, Values};
     ghost use Rattle.link_msg.specs.Canonical.{PortTold, PortsTold};
 
     /// Reads a frame under the header's family: the number selects the variant, whatever the flag bits of the kind.
     ///
     /// Refuses with the cause of the first fault of the payload; or with `OutOfMemory`, which says nothing of the bytes.
+    #[tactic(auto, unfolding(crate::specs::Tables::attribute_view, crate::specs::Tables::attribute_entries, crate::specs::Tables::attribute_place))]
     pub fn parse_with_param(
         alloc: Global,
         buffer: &NlaBuffer<'_>,
@@ -51,100 +128,83 @@ impl LinkAttribute {
     ) -> Result<LinkAttribute, DecodeError>
         ensures { Gives result ((attribute_place family).reads buffer.now) }
     {
-        match LinkAttribute::read_plain(buffer)? {
-            Some(attribute) => Ok(attribute),
-            None => LinkAttribute::parse_other(alloc, buffer, family),
-        }
-    }
-
-    /// The value of a frame, if its number is one of a number, an id or a record: no memory is taken.
-    #[tactic(auto, unfolding(crate::specs::Places::attribute_place))]
-    fn read_plain(buffer: &NlaBuffer<'_>) -> Result<Option<LinkAttribute>, DecodeError>
-        ensures { (family : AddressFamily) → (attribute_place family).reads buffer.now ≡ plain_answer result ((other_place family).reads buffer.now) }
-    {
         let payload = buffer.value();
         match buffer.kind() {
-            4 => parse_u32(payload).map(|n| Some(LinkAttribute::Mtu(n))),
-            5 => parse_u32(payload).map(|n| Some(LinkAttribute::Link(n))),
-            7 => Ok(Some(LinkAttribute::Stats(Stats::read_padded(payload)))),
-            10 => parse_u32(payload).map(|n| Some(LinkAttribute::Controller(n))),
-            13 => parse_u32(payload).map(|n| Some(LinkAttribute::TxQueueLen(n))),
-            14 => Map::parse(payload).map(|map| Some(LinkAttribute::Map(map))),
-            16 => parse_u8(payload).map(|n| Some(LinkAttribute::OperState(State::from(n)))),
-            17 => parse_u8(payload).map(|n| Some(LinkAttribute::Mode(LinkMode::from(n)))),
-            19 => parse_u32(payload).map(|n| Some(LinkAttribute::NetNsPid(n))),
-            21 => parse_u32(payload).map(|n| Some(LinkAttribute::NumVf(n))),
-            23 => Ok(Some(LinkAttribute::Stats64(Stats64::read_padded(payload)))),
-            27 => parse_u32(payload).map(|n| Some(LinkAttribute::Group(n))),
-            28 => parse_i32(payload).map(|n| Some(LinkAttribute::NetNsFd(n))),
-            30 => parse_u32(payload).map(|n| Some(LinkAttribute::Promiscuity(n))),
-            31 => parse_u32(payload).map(|n| Some(LinkAttribute::NumTxQueues(n))),
-            32 => parse_u32(payload).map(|n| Some(LinkAttribute::NumRxQueues(n))),
-            33 => parse_u8(payload).map(|n| Some(LinkAttribute::Carrier(n))),
-            34 => LinkPhysId::parse(payload).map(|id| Some(LinkAttribute::PhysPortId(id))),
-            35 => parse_u32(payload).map(|n| Some(LinkAttribute::CarrierChanges(n))),
-            36 => LinkPhysId::parse(payload).map(|id| Some(LinkAttribute::PhysSwitchId(id))),
-            37 => parse_i32(payload).map(|n| Some(LinkAttribute::LinkNetNsId(n))),
-            39 => parse_u8(payload).map(|n| Some(LinkAttribute::ProtoDown(n))),
-            40 => parse_u32(payload).map(|n| Some(LinkAttribute::GsoMaxSegs(n))),
-            41 => parse_u32(payload).map(|n| Some(LinkAttribute::GsoMaxSize(n))),
-            44 => LinkEvent::parse(payload).map(|event| Some(LinkAttribute::Event(event))),
-            45 => parse_i32(payload).map(|n| Some(LinkAttribute::NewNetnsId(n))),
-            46 => parse_i32(payload).map(|n| Some(LinkAttribute::IfNetnsId(n))),
-            47 => parse_u32(payload).map(|n| Some(LinkAttribute::CarrierUpCount(n))),
-            48 => parse_u32(payload).map(|n| Some(LinkAttribute::CarrierDownCount(n))),
-            49 => parse_i32(payload).map(|n| Some(LinkAttribute::NewIfIndex(n))),
-            50 => parse_u32(payload).map(|n| Some(LinkAttribute::MinMtu(n))),
-            51 => parse_u32(payload).map(|n| Some(LinkAttribute::MaxMtu(n))),
-            58 => parse_u32(payload).map(|n| Some(LinkAttribute::GroMaxSize(n))),
-            59 => parse_u32(payload).map(|n| Some(LinkAttribute::TsoMaxSize(n))),
-            60 => parse_u32(payload).map(|n| Some(LinkAttribute::TsoMaxSegs(n))),
-            61 => parse_u32(payload).map(|n| Some(LinkAttribute::AllMulticast(n))),
-            63 => parse_u32(payload).map(|n| Some(LinkAttribute::GsoIpv4MaxSize(n))),
-            64 => parse_u32(payload).map(|n| Some(LinkAttribute::GroIpv4MaxSize(n))),
-            67 => parse_u8(payload).map(|n| Some(LinkAttribute::NetnsImmutable(n != 0))),
-            _ => Ok(None),
-        }
-    }
-
-    #[tactic(auto, unfolding(crate::specs::Places::other_place))]
-    fn parse_other(
-        alloc: Global,
-        buffer: &NlaBuffer<'_>,
-        family: AddressFamily,
-    ) -> Result<LinkAttribute, DecodeError>
-        ensures { Gives result ((other_place family).reads buffer.now) }
-    {
-        let payload = buffer.value();
-        match buffer.kind() {
-            1 => Bytes::from_slice(alloc, payload).map(LinkAttribute::Address),
-            2 => Bytes::from_slice(alloc, payload).map(LinkAttribute::Broadcast),
-            3 => parse_string(alloc, payload).map(LinkAttribute::IfName),
-            6 => parse_string(alloc, payload).map(LinkAttribute::Qdisc),
-            11 => WirelessEvent::parse(alloc, payload).map(LinkAttribute::Wireless),
-            18 => parse_some(alloc, payload).map(LinkAttribute::LinkInfo),
-            20 => parse_string(alloc, payload).map(LinkAttribute::IfAlias),
-            22 => LinkVfInfo::parse_list(alloc, payload).map(|v| LinkAttribute::VfInfoList(
+            IFLA_ADDRESS => Bytes::from_slice(alloc, payload).map(LinkAttribute::Address),
+            IFLA_BROADCAST => Bytes::from_slice(alloc, payload).map(LinkAttribute::Broadcast),
+            IFLA_IFNAME => parse_string(alloc, payload).map(LinkAttribute::IfName),
+            IFLA_MTU => parse_u32(payload).map(LinkAttribute::Mtu),
+            IFLA_LINK => parse_u32(payload).map(LinkAttribute::Link),
+            IFLA_QDISC => parse_string(alloc, payload).map(LinkAttribute::Qdisc),
+            IFLA_STATS => Ok(LinkAttribute::Stats(Stats::read_padded(payload))),
+            IFLA_MASTER => parse_u32(payload).map(LinkAttribute::Controller),
+            IFLA_WIRELESS => WirelessEvent::parse(alloc, payload).map(LinkAttribute::Wireless),
+            IFLA_TXQLEN => parse_u32(payload).map(LinkAttribute::TxQueueLen),
+            IFLA_MAP => Map::parse(payload).map(LinkAttribute::Map),
+            IFLA_OPERSTATE => parse_u8(payload).map(|n| LinkAttribute::OperState(State::from(n))),
+            IFLA_LINKMODE => parse_u8(payload).map(|n| LinkAttribute::Mode(LinkMode::from(n))),
+            IFLA_LINKINFO => parse_some(alloc, payload).map(LinkAttribute::LinkInfo),
+            IFLA_NET_NS_PID => parse_u32(payload).map(LinkAttribute::NetNsPid),
+            IFLA_IFALIAS => parse_string(alloc, payload).map(LinkAttribute::IfAlias),
+            IFLA_NUM_VF => parse_u32(payload).map(LinkAttribute::NumVf),
+            IFLA_VFINFO_LIST => LinkVfInfo::parse_list(alloc, payload).map(
+                |v| LinkAttribute::VfInfoList(List::new(v)),
+            ),
+            IFLA_STATS64 => Ok(LinkAttribute::Stats64(Stats64::read_padded(payload))),
+            IFLA_VF_PORTS => parse_ports(alloc, payload).map(LinkAttribute::VfPorts),
+            IFLA_PORT_SELF => LinkVfPort::parse(alloc, payload).map(LinkAttribute::PortSelf),
+            IFLA_GROUP => parse_u32(payload).map(LinkAttribute::Group),
+            IFLA_NET_NS_FD => parse_i32(payload).map(LinkAttribute::NetNsFd),
+            IFLA_EXT_MASK => parse_mask(alloc, payload).map(LinkAttribute::ExtMask),
+            IFLA_PROMISCUITY => parse_u32(payload).map(LinkAttribute::Promiscuity),
+            IFLA_NUM_TX_QUEUES => parse_u32(payload).map(LinkAttribute::NumTxQueues),
+            IFLA_NUM_RX_QUEUES => parse_u32(payload).map(LinkAttribute::NumRxQueues),
+            IFLA_CARRIER => parse_u8(payload).map(LinkAttribute::Carrier),
+            IFLA_PHYS_PORT_ID => LinkPhysId::parse(payload).map(LinkAttribute::PhysPortId),
+            IFLA_CARRIER_CHANGES => parse_u32(payload).map(LinkAttribute::CarrierChanges),
+            IFLA_PHYS_SWITCH_ID => LinkPhysId::parse(payload).map(LinkAttribute::PhysSwitchId),
+            IFLA_LINK_NETNSID => parse_i32(payload).map(LinkAttribute::LinkNetNsId),
+            IFLA_PHYS_PORT_NAME => parse_string(alloc, payload).map(LinkAttribute::PhysPortName),
+            IFLA_PROTO_DOWN => parse_u8(payload).map(LinkAttribute::ProtoDown),
+            IFLA_GSO_MAX_SEGS => parse_u32(payload).map(LinkAttribute::GsoMaxSegs),
+            IFLA_GSO_MAX_SIZE => parse_u32(payload).map(LinkAttribute::GsoMaxSize),
+            IFLA_XDP => parse_some(alloc, payload).map(LinkAttribute::Xdp),
+            IFLA_EVENT => LinkEvent::parse(payload).map(LinkAttribute::Event),
+            IFLA_NEW_NETNSID => parse_i32(payload).map(LinkAttribute::NewNetnsId),
+            IFLA_IF_NETNSID => parse_i32(payload).map(LinkAttribute::IfNetnsId),
+            IFLA_CARRIER_UP_COUNT => parse_u32(payload).map(LinkAttribute::CarrierUpCount),
+            IFLA_CARRIER_DOWN_COUNT => parse_u32(payload).map(LinkAttribute::CarrierDownCount),
+            IFLA_NEW_IFINDEX => parse_i32(payload).map(LinkAttribute::NewIfIndex),
+            IFLA_MIN_MTU => parse_u32(payload).map(LinkAttribute::MinMtu),
+            IFLA_MAX_MTU => parse_u32(payload).map(LinkAttribute::MaxMtu),
+            IFLA_PROP_LIST => Prop::parse_list(alloc, payload).map(|v| LinkAttribute::PropList(
                 List::new(v),
             )),
-            24 => parse_ports(alloc, payload).map(LinkAttribute::VfPorts),
-            25 => LinkVfPort::parse(alloc, payload).map(LinkAttribute::PortSelf),
-            29 => parse_mask(alloc, payload).map(LinkAttribute::ExtMask),
-            38 => parse_string(alloc, payload).map(LinkAttribute::PhysPortName),
-            43 => parse_some(alloc, payload).map(LinkAttribute::Xdp),
-            52 => Prop::parse_list(alloc, payload).map(|v| LinkAttribute::PropList(List::new(v))),
-            54 => Bytes::from_slice(alloc, payload).map(LinkAttribute::PermAddress),
-            55 => LinkProtocolDownReason::parse_list(alloc, payload).map(
+            IFLA_PERM_ADDRESS => Bytes::from_slice(alloc, payload).map(LinkAttribute::PermAddress),
+            IFLA_PROTO_DOWN_REASON => LinkProtocolDownReason::parse_list(alloc, payload).map(
                 |v| LinkAttribute::ProtoDownReason(List::new(v)),
             ),
-            56 => parse_string(alloc, payload).map(LinkAttribute::ParentDevName),
-            57 => parse_string(alloc, payload).map(LinkAttribute::ParentDevBusName),
-            62 => DevlinkPort::parse_list(alloc, payload).map(|v| LinkAttribute::DevlinkPort(
+            IFLA_PARENT_DEV_NAME => parse_string(alloc, payload).map(LinkAttribute::ParentDevName),
+            IFLA_PARENT_DEV_BUS_NAME => parse_string(alloc, payload).map(
+                LinkAttribute::ParentDevBusName,
+            ),
+            IFLA_GRO_MAX_SIZE => parse_u32(payload).map(LinkAttribute::GroMaxSize),
+            IFLA_TSO_MAX_SIZE => parse_u32(payload).map(LinkAttribute::TsoMaxSize),
+            IFLA_TSO_MAX_SEGS => parse_u32(payload).map(LinkAttribute::TsoMaxSegs),
+            IFLA_ALLMULTI => parse_u32(payload).map(LinkAttribute::AllMulticast),
+            IFLA_DEVLINK_PORT => DevlinkPort::parse_list(alloc, payload).map(
+                |v| LinkAttribute::DevlinkPort(List::new(v)),
+            ),
+            IFLA_GSO_IPV4_MAX_SIZE => parse_u32(payload).map(LinkAttribute::GsoIpv4MaxSize),
+            IFLA_GRO_IPV4_MAX_SIZE => parse_u32(payload).map(LinkAttribute::GroIpv4MaxSize),
+            IFLA_DPLL_PIN => DpllPin::parse_list(alloc, payload).map(|v| LinkAttribute::DpllPin(
                 List::new(v),
             )),
-            65 => DpllPin::parse_list(alloc, payload).map(|v| LinkAttribute::DpllPin(List::new(v))),
-            12 => parse_proto_info(alloc, buffer, family),
-            26 => parse_af_spec(alloc, payload, family),
+            IFLA_NETNS_IMMUTABLE => parse_u8(payload).map(|n| LinkAttribute::NetnsImmutable(
+                n != 0,
+            )),
+            IFLA_PROTINFO => parse_proto_info(alloc, buffer, family),
+            IFLA_AF_SPEC => parse_af_spec(alloc, buffer, family),
             _ => DefaultNla::parse(alloc, buffer).map(LinkAttribute::Other),
         }
     }
@@ -157,38 +217,9 @@ impl LinkAttribute {
     ) -> Result<(), DecodeError>
         ensures { Checks result ((attribute_place family).reads buffer.now) }
     {
-        match Shape::of(buffer.kind()) {
+        match Shape::of(buffer.kind(), family) {
             Some(shape) => shape.check(buffer.value()),
-            None => LinkAttribute::check_other(buffer, family),
-        }
-    }
-
-    #[tactic(auto, unfolding(crate::specs::Places::other_place))]
-    fn check_other(buffer: &NlaBuffer<'_>, family: AddressFamily) -> Result<(), DecodeError>
-        ensures { Checks result ((other_place family).reads buffer.now) }
-    {
-        let payload = buffer.value();
-        match buffer.kind() {
-            3 => check_string(payload),
-            6 => check_string(payload),
-            11 => WirelessEvent::check(payload),
-            18 => check_some::<LinkInfo>(payload),
-            20 => check_string(payload),
-            22 => LinkVfInfo::check_list(payload),
-            24 => check_ports(payload),
-            25 => LinkVfPort::check(payload),
-            29 => check_mask(payload),
-            38 => check_string(payload),
-            43 => check_some::<LinkXdp>(payload),
-            52 => Prop::check_list(payload),
-            55 => LinkProtocolDownReason::check_list(payload),
-            56 => check_string(payload),
-            57 => check_string(payload),
-            62 => DevlinkPort::check_list(payload),
-            65 => DpllPin::check_list(payload),
-            12 => check_proto_info(buffer, family),
-            26 => check_af_spec(payload, family),
-            _ => Ok(()),
+            None => Ok(()),
         }
     }
 
@@ -203,43 +234,9 @@ impl LinkAttribute {
         requires room { growth_per_byte * (4 + length buffer.now.payload) ≤ length out.old }
         ensures { Canonical (λ v. canon (attribute_frame v)) AttributeFits ((attribute_place family).reads buffer.now) out.old out.new result }
     {
-        match Shape::of(buffer.kind()) {
+        match Shape::of(buffer.kind(), family) {
             Some(shape) => shape.canon(buffer.kind(), buffer.value(), out),
-            None => LinkAttribute::canon_other(buffer, out, family),
-        }
-    }
-
-    #[tactic(auto, unfolding(crate::specs::Places::other_place, nla_wire::specs::Payloads::read_text))]
-    fn canon_other(buffer: &NlaBuffer<'_>, out: &mut [u8], family: AddressFamily) -> Option<usize>
-        requires accepted { IsOk ((other_place family).reads buffer.now) }
-        requires room { growth_per_byte * (4 + length buffer.now.payload) ≤ length out.old }
-        ensures { Canonical (λ v. canon (attribute_frame v)) AttributeFits ((other_place family).reads buffer.now) out.old out.new result }
-    {
-        let payload = buffer.value();
-        match buffer.kind() {
-            1 => canon_bytes(1, payload, out),
-            2 => canon_bytes(2, payload, out),
-            3 => canon_text(3, payload, out),
-            6 => canon_text(6, payload, out),
-            11 => canon_event(11, payload, out),
-            18 => canon_some::<LinkInfo>(18, payload, out),
-            20 => canon_text(20, payload, out),
-            22 => LinkVfInfo::canon_nested_picked(22, payload, out),
-            24 => canon_ports(24, payload, out),
-            25 => LinkVfPort::canon_entry(25, payload, out),
-            29 => canon_mask(29, payload, out),
-            38 => canon_text(38, payload, out),
-            43 => canon_some::<LinkXdp>(43, payload, out),
-            52 => Prop::canon_nested(52 | NLA_F_NESTED, payload, out),
-            54 => canon_bytes(54, payload, out),
-            55 => LinkProtocolDownReason::canon_nested(55, payload, out),
-            56 => canon_text(56, payload, out),
-            57 => canon_text(57, payload, out),
-            62 => DevlinkPort::canon_nested(62 | NLA_F_NESTED, payload, out),
-            65 => DpllPin::canon_nested(65 | NLA_F_NESTED, payload, out),
-            12 => canon_proto_info(buffer, out, family),
-            26 => canon_af_spec(payload, out, family),
-            _ => canon_bytes(buffer.kind_with_flags(), payload, out),
+            None => canon_bytes(buffer.kind_with_flags(), buffer.value(), out),
         }
     }
 
@@ -308,7 +305,7 @@ impl LinkAttribute {
         requires accepted { IsOk ((attribute_place family).reads buffer.now) }
         ensures { PortTold ((attribute_place family).reads buffer.now) result }
     {
-        buffer.kind() == VF_PORTS && holds_no_port(buffer.value())
+        buffer.kind() == IFLA_VF_PORTS && holds_no_port(buffer.value())
     }
 
     /// Whether an accepted list of attributes under the header's family holds an empty list of ports. It takes no memory.
@@ -336,8 +333,7 @@ pub struct AttributePlace {
 }
 
 impl Place<LinkAttribute> for AttributePlace {
-    ghost use Rattle.link_msg.specs.Places.{attribute_place};
-    ghost use Rattle.link_msg.specs.Laws.{attribute_lawful, attribute_bounded};
+    ghost use Rattle.link_msg.specs.Tables.{attribute_place, attribute_lawful, attribute_bounded};
 
     ghost grammar = { λ place. attribute_place place.family };
 

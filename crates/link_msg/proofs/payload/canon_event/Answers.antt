@@ -1,4 +1,5 @@
-use Rattle.std.proofs.Common.{◌≡◌, ◌-◌, ◌∙◌, length, length-take, length-drop, arith}
+use Rattle.std.proofs.Common.{◌≡◌, ◌≤◌, ◌-◌, ◌∙◌, length, length-take, length-drop, arith}
+use Rattle.nla_wire.specs.Sizes.{most_payload}
 use Rattle.nla_wire.proofs.Front.{all_bytes}
 use Rattle.nla_wire.proofs.Written.{lent_length, value_canonical}
 use Rattle.link_nest.specs.Wireless.{wireless_event, wireless_text, WirelessFits}
@@ -15,5 +16,5 @@ close-requires c =
 
 pub returns : goal.returns
 returns c =
-    value_canonical wireless_text WirelessFits WirelessFits c.args.kind (wireless_event.reads c.args.payload.now) c.args.out.now c.canon.new.out c.in_ok-len.len
-    c.close.new.out c.close.result (omega (arith, c.requires.room)) (λ v fits short. fits) (λ v fits. fits) (rw c.in_ok-len.was at c.canon.ensures) c.close.ensures
+    value_canonical wireless_text WirelessFits (λ v. (length (wireless_text v) ≤ most_payload) × WirelessFits v) c.args.kind (wireless_event.reads c.args.payload.now) c.args.out.now c.canon.new.out c.in_ok-len.len
+    c.close.new.out c.close.result (omega (arith, c.requires.room)) (λ v fits short. (short, fits)) (λ v fits. fits.1) (rw c.in_ok-len.was at c.canon.ensures) c.close.ensures

@@ -4,8 +4,7 @@ use Rattle.nla_wire.proofs.Front.{all_bytes}
 use Rattle.nla_wire.proofs.Memory.{memory_list}
 use Rattle.nla_wire.proofs.Loop.{checks_found, checks_fault, checks_refused}
 use Rattle.nla_wire.proofs.Checked.{checks_memory}
-use Rattle.link_msg.specs.Places.{attribute_place}
-use Rattle.link_msg.specs.Laws.{attribute_lawful}
+use Rattle.link_msg.specs.Tables.{attribute_place, attribute_lawful}
 use Rattle.link_msg.proofs.Reading.{attributes_agree}
 use Rattle.link_msg.proofs.attribute.LinkAttribute.check_list_with_param.Goals as goal
 

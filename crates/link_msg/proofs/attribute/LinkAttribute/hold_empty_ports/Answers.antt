@@ -3,8 +3,7 @@ use Rattle.nla_wire.specs.Items.{items}
 use Rattle.nla_wire.specs.Grammar.{list}
 use Rattle.nla_wire.proofs.Front.{all_bytes}
 use Rattle.nla_wire.proofs.Written.{going_starts, going_framed, going_accepted, going_never_fails, going_ends}
-use Rattle.link_msg.specs.Values.{HasPorts}
-use Rattle.link_msg.specs.Places.{attribute_place}
+use Rattle.link_msg.specs.Tables.{HasPorts, attribute_place}
 use Rattle.link_msg.proofs.EmptyPorts.{silent, unused, unused_room, going_skip_port, going_port, told_false}
 use Rattle.link_msg.proofs.attribute.LinkAttribute.hold_empty_ports.Goals as goal
 

@@ -1,7 +1,6 @@
 use Rattle.nla_wire.specs.Grammar.{list}
 use Rattle.nla_wire.proofs.Written.{Going}
-use Rattle.link_msg.specs.Values.{HasPorts}
-use Rattle.link_msg.specs.Places.{attribute_place}
+use Rattle.link_msg.specs.Tables.{HasPorts, attribute_place}
 use Rattle.link_msg.proofs.EmptyPorts.{silent, unused}
 use Rattle.link_msg.proofs.attribute.LinkAttribute.hold_empty_ports.Given as goal
 

@@ -2,7 +2,7 @@ use Rattle.std.proofs.Common.{arith}
 use Rattle.nla_wire.specs.Grammar.{list}
 use Rattle.nla_wire.proofs.Front.{all_bytes}
 use Rattle.nla_wire.proofs.Checked.{given_found, given_fault, given_refused}
-use Rattle.link_msg.specs.Places.{attribute_place}
+use Rattle.link_msg.specs.Tables.{attribute_place}
 use Rattle.link_msg.proofs.Reading.{attributes_agree}
 use Rattle.link_msg.proofs.attribute.LinkAttribute.parse_list_with_param.Goals as goal
 

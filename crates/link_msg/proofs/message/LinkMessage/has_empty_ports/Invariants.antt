@@ -1,6 +1,6 @@
 use Rattle.std.specs.Prelude.{take}
 use Rattle.std.specs.List.{AllByRecursion}
-use Rattle.link_msg.specs.Values.{HasPorts}
+use Rattle.link_msg.specs.Tables.{HasPorts}
 use Rattle.link_msg.proofs.message.LinkMessage.has_empty_ports.Given as goal
 
 abbrev pub invariant-loop-attribute : goal.invariant-loop-attribute
