@@ -1,0 +1,157 @@
+#!/usr/bin/env python3
+"""Takes a list of edits apart into the files that `rt must-fail` reads.
+
+    python3 scripts/edits.py edits/CRATE.txt FOLDER [WORDS]
+    python3 scripts/edits.py --fit [edits/CRATE.txt ..]
+
+A list has lines '# ..' at its head, then groups and edits with an empty line between them. A group is a line '== TITLE'.
+An edit is a headline in plain words, a line 'file: PATH' with a file of the crate, and pairs of lines 'old: TEXT' and
+'new: TEXT', where the old text stands once in the file; further pairs, and further files, may follow. Each edit is
+written to FOLDER/NAME.edit, where NAME is its headline with _ between the words. With WORDS only those files stay in
+FOLDER whose name has these words, next to each other.
+
+--fit says which edits of the lists (of all lists, where none is named) do not fit their crate's files any more.
+"""
+
+import glob
+import os
+import re
+import sys
+
+LINE = re.compile(r"(file): (?:src|specs|proofs)/\S+|(old): .*\S.*|(new):(?: .*)?")
+
+
+def name_of(headline):
+    return "_".join(re.findall(r"[a-z0-9]+", headline.lower()))
+
+
+def paragraphs(path):
+    """Returns each paragraph's first line, counted from 1, and its lines."""
+    try:
+        with open(path, encoding="utf-8") as it:
+            lines = it.read().split("\n")
+    except (OSError, UnicodeDecodeError) as error:
+        sys.exit(f"{path}: it cannot be read: {error}")
+    found, is_open = [], False
+    for number, line in enumerate(lines, 1):
+        if line and not is_open:
+            found.append((number, []))
+        if line:
+            found[-1][1].append(line)
+        is_open = bool(line)
+    return found
+
+
+def fault(lines):
+    """Returns what is wrong with the lines of an edit, or None."""
+    if re.match(r"(file|old|new):", lines[0]):
+        return "an edit begins with its headline, and this one begins with a line 'file:', 'old:' or 'new:'"
+    if not name_of(lines[0]) or len(lines[0]) > 120:
+        return "a headline has words, and 120 characters at most"
+    keys = ""
+    for line in lines[1:]:
+        at = LINE.fullmatch(line)
+        if not at:
+            return f"this is no line 'file: PATH', 'old: TEXT' or 'new: TEXT': {line[:80]}"
+        keys += at[1] or at[2] or at[3]
+    if not re.fullmatch("(file(oldnew)+)+", keys):
+        return "behind its headline an edit has a line 'file:' and then pairs of a line 'old:' and a line 'new:'"
+    return None
+
+
+def read(path):
+    """Returns the edits of a list, as headline and lines, or stops and says what is wrong with it."""
+    edits, seen, group, is_empty, faults = [], {}, None, False, []
+    for number, lines in paragraphs(path):
+        first, why = lines[0], None
+        if first.startswith("#"):
+            if group or not all(it.startswith("#") for it in lines):
+                why = "lines '# ..' stand at the head of the list, and an empty line behind them"
+        elif first.startswith("=="):
+            if len(lines) > 1 or not re.fullmatch(r"== \S.*", first):
+                why = "a group is one line '== TITLE' with an empty line behind it"
+            elif is_empty:
+                why = f"the group before this one has no edit: {group}"
+            elif first in seen:
+                why = f"the group stands at line {seen[first]} too: {first}"
+            group, is_empty, seen[first] = first, True, number
+        else:
+            name, is_empty = name_of(first), False
+            why = fault(lines)
+            if not why and not group:
+                why = "an edit stands in a group, below a line '== TITLE'"
+            elif not why and name in seen:
+                why = f"the headline stands at line {seen[name]} too, in these words: {first}"
+            seen.setdefault(name, number)
+            edits.append((first, lines[1:]))
+        if why:
+            faults.append(f"{path}:{number}: {why}")
+    if is_empty or not edits:
+        faults.append(f"{path}: {f'the last group has no edit: {group}' if is_empty else 'it has no edit'}")
+    if faults:
+        sys.exit("\n".join(faults))
+    return edits
+
+
+def take_apart(path, folder, words):
+    edits = read(path)
+    os.makedirs(folder, exist_ok=True)
+    for headline, lines in edits:
+        file = f"{folder}/{name_of(headline)}.edit"
+        if os.path.exists(file):
+            sys.exit(f"{path}: there is a file of this name already, so word the headline anew: {headline}")
+        with open(file, "w", encoding="utf-8") as it:
+            it.write("\n".join(lines) + "\n")
+    for file in glob.glob(f"{folder}/*.edit"):
+        if f"_{name_of(words)}" not in f"_{os.path.basename(file)}":
+            os.remove(file)
+
+
+def misfit(lines, crate):
+    """Returns why an edit cannot be applied to the files of the crate, or None."""
+    texts, path, old = {}, None, None
+    for line in lines:
+        key, _, text = line.partition(":")
+        text = text[1:]
+        if key == "file":
+            path = text
+            if not os.path.isfile(f"{crate}/{path}"):
+                return f"there is no file {path}"
+            if path not in texts:
+                with open(f"{crate}/{path}", encoding="utf-8") as it:
+                    texts[path] = it.read()
+        elif key == "old":
+            old, count = text, texts[path].count(text)
+            if count != 1:
+                return f"this text is in {path} {count} times, and not once: {text.strip()[:80]}"
+        else:
+            texts[path] = texts[path].replace(old, text)
+    return None
+
+
+def fit(paths):
+    top = os.path.dirname(os.path.dirname(os.path.abspath(__file__)))
+    failed = 0
+    for path in paths or sorted(glob.glob(f"{top}/edits/*.txt")):
+        crate = os.path.basename(path)[: -len(".txt")]
+        edits = read(path)
+        bad = [(it, why) for it, lines in edits for why in [misfit(lines, f"{top}/crates/{crate}")] if why]
+        for headline, why in bad:
+            print(f"{crate}: {headline}: {why}")
+        print(f"{crate}: {len(edits)} edits, {len(bad)} do not fit")
+        failed += len(bad)
+    return 1 if failed else 0
+
+
+def main(words):
+    if words[:1] == ["--fit"]:
+        return fit(words[1:])
+    if len(words) not in (2, 3) or words[0].startswith("-"):
+        print(__doc__, end="", file=sys.stderr)
+        return 2
+    take_apart(words[0], words[1], words[2] if len(words) == 3 else "")
+    return 0
+
+
+if __name__ == "__main__":
+    sys.exit(main(sys.argv[1:]))
