@@ -1,7 +1,7 @@
 PREFIX ?= /usr/local
 PROGRAM = crates/linkwire/out/linkwire
 
-.PHONY: run build check edits bench install
+.PHONY: run build check edits tables bench install
 
 # Answers the lines of standard input: echo 00000000000000000000000000000000060003006c6f | make -s run
 run:
@@ -17,6 +17,11 @@ check:
 # Tries the edits that the gate has no time for; it takes more than an hour.
 edits:
 	@scripts/more_edits.sh
+
+# Prints the tables as JSON, after they were compared with the kernel's files: make -s tables >tables.json
+tables:
+	@scripts/kernel_tables.sh >&2
+	@scripts/kernel_tables.sh --json
 
 bench: build
 	@bench/run.sh $(PROGRAM)

@@ -1,6 +1,6 @@
 #!/usr/bin/env bash
 # The gate, and then the scripts over what it left: the program, and the libraries that the library for C stands on. So
-# nothing is proved twice. The last line is the gate's own, printed again.
+# nothing is proved twice. Then the tables beside the kernel's files. The last line is the gate's own, printed again.
 set -euo pipefail
 cd "$(dirname "$0")/.."
 log=$(mktemp)
@@ -9,4 +9,6 @@ rt ci | tee "$log"
 scripts/program.sh
 scripts/c_tests.sh --over-gate
 scripts/refused_memory.sh
+scripts/kernel_tables.sh
+scripts/test_kernel_tables.sh
 tail -n 1 "$log"

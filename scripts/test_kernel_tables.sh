@@ -1,0 +1,130 @@
+#!/usr/bin/env bash
+# Puts slips into a copy of the crates, one at a time: kernel_tables.py has to refuse each, and not the crates as they
+# are. KERNEL names the kernel's files, as there. The last line is 'test_kernel_tables: ok'.
+set -euo pipefail
+top=$(cd "$(dirname "$0")/.." && pwd)
+folder=$(mktemp -d)
+trap 'rm -rf "$folder"' EXIT
+kernel=${KERNEL:-/usr/src/linux-source-6.12.tar.xz}
+if [ -f "$kernel" ] && [ "${kernel%.yaml}" = "$kernel" ]; then
+    mkdir "$folder/kernel"
+    "$top/scripts/kernel_tables.sh" --unpack "$folder/kernel" "$kernel"
+    kernel=$folder/kernel
+fi
+mkdir -p "$folder/tree/crates"
+for crate in "$top"/crates/*; do
+    mkdir "$folder/tree/crates/$(basename "$crate")"
+    for part in src specs; do
+        if [ -d "$crate/$part" ]; then
+            cp -r "$crate/$part" "$folder/tree/crates/$(basename "$crate")/"
+        fi
+    done
+done
+cd "$folder/tree/crates"
+
+tables() {
+    "$top/scripts/kernel_tables.sh" --tree "$folder/tree" "$kernel" >"$folder/out" 2>"$folder/err"
+}
+
+if ! tables; then
+    echo 'test_kernel_tables: the crates as they are were refused' >&2
+    cat "$folder/err" >&2
+    exit 1
+fi
+if grep 'skipped' "$folder/out"; then
+    exit 0
+fi
+echo 'test_kernel_tables: the crates as they are: ok'
+
+# slip NAME WORDS EDIT FILE..: with the edit of sed in these files, the refusal has to say the words
+slip() {
+    local name=$1 words=$2 edit=$3 file status=0
+    shift 3
+    for file in "$@"; do
+        cp "$file" "$folder/kept"
+        sed -i -E "$edit" "$file"
+        if cmp -s "$file" "$folder/kept"; then
+            echo "test_kernel_tables: $name: nothing to edit in $file" >&2
+            exit 1
+        fi
+    done
+    tables || status=$?
+    if [ "$status" != 1 ] || ! grep -qF "$words" "$folder/err"; then
+        echo "test_kernel_tables: $name: status $status" >&2
+        cat "$folder/err" >&2
+        exit 1
+    fi
+    echo "test_kernel_tables: $name: refused"
+    for file in "$@"; do
+        cp "$top/crates/$file" "$file"
+    done
+}
+
+# records
+slip "a record's size" 'Map: size 28' 's/(MAP_SIZE: usize = )32/\128/' link_recs/src/map.rt
+slip 'the number of fields' 'Stats: size 100' 's/(STATS_COUNT: usize = )24/\125/' link_recs/src/stats.rt
+slip "a field's offset" 'VfInfoGuid.guid: offset 4' 's/(number_at w64 payload |u64_at\(payload, )8/\14/' \
+    link_vfrec/specs/Records.antt link_vfrec/src/guid.rt
+slip "a field's width" 'Map.irq: type u32' 's/(irq = number_at w|irq: u)16/\132/' \
+    link_recs/specs/MapFields.antt link_recs/src/map.rt
+slip "fields with a sign" 'Stats64.rx_packets: type s64' 's/number_at w64/signed_at w64/; s/(: )u64,/\1i64,/' \
+    link_recs/specs/Stats64Fields.antt link_recs/src/stats64.rt
+slip 'two fields exchanged' 'Stats.rx_crc_errors: name rx_crc_errors' \
+    's/rx_crc_errors/it/; s/rx_frame_errors/rx_crc_errors/; s/\bit\b/rx_frame_errors/' \
+    link_recs/specs/StatsFields.antt link_recs/src/stats.rt
+slip "a field's name" 'InetDevConf.arp_answer: name arp_answer' 's/\barp_accept\b/arp_answer/' \
+    link_recs/specs/InetDevConfFields.antt link_recs/src/inet.rt
+slip 'a field in one of its lists only' 'Icmp6Stats: fields are read otherwise' \
+    's/in_errors = field 2/in_errors = field 3/; s/out_msgs = field 3/out_msgs = field 2/' \
+    link_recs/specs/Icmp6StatsFields.antt
+slip 'numbers of settings that count from 0' 'IPV4_DEVCONF_FORWARDING: number 0' 's/numbered 1 /numbered 0 /' \
+    link_afspec/specs/Requests.antt
+
+# enums and flags
+slip "an enum's value" 'LinkLayerType.Can: number 281' 's/\b280\b/281/' \
+    link_vals/specs/LinkLayerTypeTable.antt link_vals/src/link_layer_type.rt
+slip 'two values exchanged' 'In6AddrGenMode.Random: number 2' \
+    's/(StablePrivacy = |StablePrivacy => )2/\1it/; s/(Random = |Random => )3/\12/; s/\bit\b/3/;
+     s/2 => In6AddrGenMode::StablePrivacy/2 => In6AddrGenMode::Random/; t
+     s/3 => In6AddrGenMode::Random/3 => In6AddrGenMode::StablePrivacy/' \
+    link_vals/specs/In6AddrGenModeTable.antt link_vals/src/addr_gen_mode.rt
+slip 'a value that has another name' 'XdpAttached.Hardware: name Hardware' \
+    's/\bHardware\b/it/; s/\bSocketBuffer\b/Hardware/; s/\bit\b/SocketBuffer/' \
+    link_vals/specs/XdpAttachedTable.antt link_vals/src/xdp_attached.rt
+slip 'a value that is left out' 'LinkLayerType.VSOCKMON: value none' '/\bVsockmon (=|=>)|=> LinkLayerType::Vsockmon/d' \
+    link_vals/specs/LinkLayerTypeTable.antt link_vals/src/link_layer_type.rt
+slip "a flag's bit" 'LinkFlags.Echo: number 524288' 's/262144/524288/; s/0x40000\b/0x80000/' \
+    link_vals/specs/LinkFlagsTable.antt link_vals/src/link_flags.rt
+slip "a flag's bit in specs only" 'Inet6IfaceFlags: numbers in code' 's/"Ready", 2147483648/"Ready", 1073741824/' \
+    link_vals/specs/Inet6IfaceFlagsTable.antt
+slip "an attribute's flag" 'NLA_F_NESTED: number 16384' 's/NLA_F_NESTED: u16 = 0x8000/NLA_F_NESTED: u16 = 0x4000/' \
+    nla_wire/src/buffer.rt
+
+# numbers of attributes
+slip 'the number of an attribute' 'IFLA_XDP_PROG_ID: number 9' 's/(IFLA_XDP_PROG_ID: u16 = )4/\19/' \
+    link_nest/src/numbers.rt
+slip 'the number of a family' 'AF_INET6: number 11' 's/(AF_INET6: u16 = )10/\111/' link_afspec/src/numbers.rt
+slip 'a name that is none' 'IFLA_XDP_HARD_PROG_ID: number 7' 's/IFLA_XDP_HW_PROG_ID/IFLA_XDP_HARD_PROG_ID/' \
+    link_nest/src/numbers.rt link_nest/specs/Tables.antt
+slip 'the constants of two events exchanged' 'IWEVASSOCREQIE: constant IWEVASSOCRESPIE' \
+    's/IWEVASSOCREQIE/it/; s/IWEVASSOCRESPIE/IWEVASSOCREQIE/; s/\bit\b/IWEVASSOCRESPIE/' link_nest/specs/Wireless.antt
+
+# lines of tables
+slip 'two variants exchanged' 'LinkAttribute.GsoMaxSegs: name GsoMaxSegs' \
+    's/Attributes.GsoMaxSegs$/it/; s/Attributes.GsoMaxSize$/Attributes.GsoMaxSegs/; s/\bit$/Attributes.GsoMaxSize/' \
+    link_msg/specs/Tables.antt
+slip 'a number of another place' 'DpllPin.PinId: name PinId' 's/line DPLL_A_PIN_ID/line IFLA_INFO_KIND/' \
+    link_nest/specs/Tables.antt
+slip 'a line that is left out' 'LinkXdp: line none' '/line IFLA_XDP_EXPECTED_FD/d' link_nest/specs/Tables.antt
+slip 'a payload' 'LinkXdp.Fd: payload u32' 's/line IFLA_XDP_FD i32/line IFLA_XDP_FD u32/' link_nest/specs/Tables.antt
+slip 'the width of a payload that has a name' 'LinkXdp.Attached: payload u32' \
+    's/^xdp_attached = enum w8/xdp_attached = enum w32/' link_nest/specs/Tables.antt
+slip 'the shape of a payload' 'LinkAttribute.Carrier: payload u32' \
+    's/^u8 = by_shape Shapes.U8/u8 = by_shape Shapes.U32/' link_msg/specs/Tables.antt
+slip 'a sign' 'LinkAttribute.NewIfIndex: payload u32' 's/^(i32 = .*) codec.i32 /\1 codec.u32 /' \
+    link_msg/specs/Tables.antt
+slip 'a record of another attribute' 'VfInfo.Trust: payload struct ifla-vf-spoofchk' \
+    's/(IFLA_VF_TRUST .*)vf_info_trust_laws/\1vf_info_spoof_check_laws/' link_vf/specs/Tables.antt
+slip 'the place inside' 'LinkAttribute.LinkInfo: payload nest xdp-attrs' \
+    's/^(base Shapes.Infos = .*)link_info_place/\1xdp_place/' link_msg/specs/Tables.antt
+echo 'test_kernel_tables: ok'
