@@ -42,7 +42,7 @@ impl Content<'_> {
         }
     }
 
-    /// Writes the text at the end of the buffer, and answers where it starts. The bytes before are kept.
+    /// Fills the last bytes of the buffer with the text, and returns the place of its first byte. Earlier bytes are kept.
     #[inline]
     pub fn fill(&self, buffer: &mut [u8]) -> usize
         requires { length (content_text self.now) ≤ length buffer.old }
