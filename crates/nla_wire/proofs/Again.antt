@@ -1,8 +1,8 @@
 -- What was read is written as the bytes that it was read from: numbers, and payloads that are cut or filled up with zeros.
 use Rattle.std.proofs.Common.{◌≡◌, ℕ, zero, suc, ◌+◌, ◌-◌, ◌*◌, ◌≤◌, List, [], ◌∷◌, ◌++◌, length, take, drop, replicate, take_all, append-nil, refl, sym, ap, ap₂, subst, ◌∙◌, length-drop, arith, lit<}
 use Rattle.std.proofs.lemmas.List.{take-append-drop, length-take-le}
-use Rattle.std.proofs.lemmas.Nat.{le_bytes_4, le_bytes_8}
-use Rattle.std.specs.Int.{Width, w32, w64, byte_len, to_le_bytes, from_le_bytes}
+use Rattle.std.proofs.lemmas.Nat.{le_bytes_2, le_bytes_4, le_bytes_8}
+use Rattle.std.specs.Int.{Width, w8, w16, w32, w64, byte_len, to_le_bytes, from_le_bytes}
 use Rattle.nla_wire.specs.Frames.{IsBytes}
 use Rattle.nla_wire.specs.Fields.{number_at, numbers_from, le_all, zero_filled}
 use Rattle.nla_wire.proofs.FieldLemmas.{IsBytes-get, number_at_before, number_at_front, numbers_from_behind}
@@ -11,6 +11,14 @@ use Rattle.nla_wire.proofs.Steps.{bytes_left, bytes_right}
 -- the bytes of this width spell a number that is written as them
 abbrev pub WritesAgain : Width → Type 0
 WritesAgain w = (b : List ℕ) → length b ≡ byte_len w → IsBytes b → to_le_bytes w (from_le_bytes w b) ≡ b
+
+pub writes_again_1 : WritesAgain w8
+writes_again_1 [] one small = absurd (omega (arith, one))
+writes_again_1 (x ∷ []) one small = ap (λ n. n ∷ []) (omega (arith, small.0))
+writes_again_1 (x ∷ y ∷ b) one small = absurd (omega (arith, one))
+
+pub writes_again_2 : WritesAgain w16
+writes_again_2 b two small = le_bytes_2 b (from_le_bytes w16 b) two (λ i. IsBytes-get b i small) refl
 
 pub writes_again_4 : WritesAgain w32
 writes_again_4 b four small = le_bytes_4 b (from_le_bytes w32 b) four (λ i. IsBytes-get b i small) refl

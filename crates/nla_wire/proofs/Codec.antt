@@ -1,14 +1,14 @@
 -- A type of payload with all that is proved of it, in one record: how bytes are read as a value, how the value is written,
 -- what is inside of it, and within which bounds that stays. A place is the same of frames.
-use Rattle.std.proofs.Common.{◌≡◌, ℕ, ℤ, ◌+◌, ◌*◌, ◌/◌, ◌^◌, ◌<◌, ◌≤◌, Bool, true, false, List, [], ◌∷◌, ◌++◌, length, refl, sym, ap, subst, ◌∙◌, arith, lit<, lit≤, leb-true, leb-false}
-use Rattle.std.specs.Prelude.{Option, None, Some, if◌then◌else◌}
+use Rattle.std.proofs.Common.{◌≡◌, ℕ, ℤ, ◌+◌, ◌*◌, ◌/◌, ◌^◌, ◌<◌, ◌≤◌, ◌-◌, Bool, true, false, List, [], ◌∷◌, ◌++◌, length, refl, sym, ap, subst, ◌∙◌, arith, lit<, lit≤, leb-true, leb-false, mul-le-mul_left, mul-le-mul_right, mul_comm, div-mul-le_self}
+use Rattle.std.specs.Prelude.{Option, None, Some, if◌then◌else◌, nat_le}
 use lib.Dec.{T, leb}
 use mir.Val.{bits}
-use Rattle.std.specs.Int.{Width, w8, w32, w64, to_le_bytes, cast_signed, cast_unsigned}
+use Rattle.std.specs.Int.{Width, w8, w16, w32, w64, to_le_bytes, cast_signed, cast_unsigned}
 use Rattle.std.specs.List.{AllByRecursion}
 use Rattle.std.specs.Net.Addr.{segments_of, octets_of, ipv6_octets}
 use Rattle.std.specs.declared.net.ipv6_addr.Ipv6Addr.{Ipv6Addr}
-use Rattle.nla_wire.specs.Sizes.{most_payload, growth, slack}
+use Rattle.nla_wire.specs.Sizes.{most_payload, plain_growth, growth}
 use Rattle.nla_wire.specs.Frames.{Frame, number, IsBytes, missing}
 use Rattle.nla_wire.specs.Grammar.{Grammar, as_a, list, not_empty, picked, by_payload}
 use Rattle.nla_wire.specs.Payloads as payload
@@ -30,16 +30,25 @@ pub record CodecWhere (A : Type 0) (Good : A → Type 0) : Type 1 where
   pub Inside : A → Type 0
   -- how many values are inside
   pub count : A → ℕ
-  -- the text stays so far below `growth` for each whole four bytes
+  -- the text has at most so many bytes for each whole four that were read, the header among them, and so many fewer
+  pub factor : ℕ
   pub fewer : ℕ
   -- what was read from so few bytes fits
   pub enough : ℕ
-  pub lawful : LawfulPayload grammar text Inside Good count growth fewer enough
+  pub lawful : LawfulPayload grammar text Inside Good count factor fewer enough
   -- where nothing is inside that might not fit
   pub sure : Option ((a : A) → Inside a)
 
 abbrev pub Codec : Type 0 → Type 1
 Codec A = CodecWhere A always
+
+-- a test that computes
+pub truth : (a : Bool) → T a → a ≡ true
+truth true h = refl
+truth false h = absurd h
+
+pub computed_le : {a b : ℕ} → T (nat_le a b) → a ≤ b
+computed_le {a} {b} h = leb-true a b (truth _ h)
 
 -- some codec, and whether its attributes have NLA_F_NESTED
 pub record Any : Type 1 where
@@ -64,7 +73,11 @@ pub record Place (V : Type 0) : Type 1 where
   pub frame : V → Frame
   pub Fits : V → Type 0
   pub count : V → ℕ
+  pub factor : ℕ
   pub fewer : ℕ
+  -- a frame that is kept takes `plain_growth`, and nothing takes more than `growth`
+  pub spare : plain_growth + fewer ≤ factor
+  pub within : factor ≤ growth
   pub enough : ℕ
   pub is_small : (v : V) → Fits v → length (frame v).payload ≤ most_payload
   -- whether nothing is inside of any value: then what is small fits
@@ -73,25 +86,28 @@ pub record Place (V : Type 0) : Type 1 where
   -- frames that are kept as they are
   pub Foreign : Frame → Type 0
   pub kept : (f : Frame) (v : V) → Foreign f → grammar.means f v → frame v ≡ f
-  pub lawful : LawfulPlace grammar frame Fits always count growth fewer enough
+  pub lawful : LawfulPlace grammar frame Fits always count factor fewer enough
 
 -- ** payloads with nothing inside
 
-abbrev pub flat : {A : Type 0} (g : Grammar (List ℕ) A) (text : A → List ℕ) (fewer enough : ℕ) → LawfulPayload g text always always none growth fewer enough → Codec A
-flat g text fewer enough h = record { grammar = g; text = text; Inside = always; count = none; fewer = fewer; enough = enough; lawful = h; sure = Some (λ a. tt) }
+abbrev pub flat : {A : Type 0} (g : Grammar (List ℕ) A) (text : A → List ℕ) (enough : ℕ) → LawfulPayload g text always always none plain_growth 0 enough → Codec A
+flat g text enough h = record { grammar = g; text = text; Inside = always; count = none; factor = plain_growth; fewer = 0; enough = enough; lawful = h; sure = Some (λ a. tt) }
 
 abbrev pub bytes : Codec (List ℕ)
-bytes = flat payload.bytes (λ p. p) slack most_payload (bytes_lawful most_payload (lit≤ tt))
+bytes = flat payload.bytes (λ p. p) most_payload (bytes_lawful most_payload (lit≤ tt))
 
 -- a text is written with one NUL behind it
 abbrev pub text : Codec (List ℕ)
-text = flat payload.text (λ s. s ++ 0 ∷ []) slack 65530 (text_lawful 65530 (lit< tt))
+text = flat payload.text (λ s. s ++ 0 ∷ []) 65530 (text_lawful 65530 (lit< tt))
 
 abbrev pub number_of : Width → Codec ℕ
-number_of w = flat (payload.number_of w) (to_le_bytes w) slack most_payload (number_lawful w most_payload)
+number_of w = flat (payload.number_of w) (to_le_bytes w) most_payload (number_lawful w most_payload)
 
 abbrev pub u8 : Codec ℕ
 u8 = number_of w8
+
+abbrev pub u16 : Codec ℕ
+u16 = number_of w16
 
 abbrev pub u32 : Codec ℕ
 u32 = number_of w32
@@ -100,7 +116,7 @@ abbrev pub u64 : Codec ℕ
 u64 = number_of w64
 
 abbrev pub i32 : Codec ℤ
-i32 = flat (payload.signed_of w32) (λ z. to_le_bytes w32 (cast_unsigned w32 z)) slack most_payload (signed_lawful w32 most_payload)
+i32 = flat (payload.signed_of w32) (λ z. to_le_bytes w32 (cast_unsigned w32 z)) most_payload (signed_lawful w32 most_payload)
 
 -- a number that was read as a signed one is written as it was
 pub signed_same : (w : Width) (p : List ℕ) (x : ℕ) → IsBytes p → (payload.number_of w).means p x → to_le_bytes w (cast_unsigned w (cast_signed w x)) ≡ to_le_bytes w x
@@ -110,34 +126,41 @@ signed_same w p x small means =
 
 -- the values that stand for the numbers of a width, each of which is the number of its value
 abbrev pub enum : {A : Type 0} (w : Width) (of : ℕ → A) (num : A → ℕ) → ((x : ℕ) → num (of x) ≡ x) → Codec A
-enum w of num again = flat (as_a of (payload.number_of w)) (λ a. to_le_bytes w (num a)) slack most_payload (enum_lawful w of num most_payload again)
+enum w of num again = flat (as_a of (payload.number_of w)) (λ a. to_le_bytes w (num a)) most_payload (enum_lawful w of num most_payload again)
 
 -- a record that is refused where the payload is short
 abbrev pub sized : {A : Type 0} (size : ℕ) (of : List ℕ → A) (text_of : A → List ℕ)
     → ((p : List ℕ) → length (text_of (of p)) ≡ size)
     → ((p : List ℕ) → IsBytes p → of (text_of (of p)) ≡ of p)
     → size ≤ most_payload
-    → 4 + size + missing size + slack ≤ growth * (1 + size / 4)
     → Codec A
-sized size of text_of sized_as again short wide =
-    flat (payload.sized size of) text_of slack most_payload (sized_record_lawful size slack most_payload of text_of sized_as again short wide)
+sized size of text_of sized_as again short =
+    flat (payload.sized size of) text_of most_payload (sized_record_lawful size most_payload of text_of sized_as again short)
 
 -- a record that is filled up with zeros where the payload is short
 abbrev pub filled : {A : Type 0} (size : ℕ) (of : List ℕ → A) (text_of : A → List ℕ)
     → ((p : List ℕ) → length (text_of (of p)) ≡ size)
     → ((p : List ℕ) → IsBytes p → of (text_of (of p)) ≡ of p)
     → size ≤ most_payload
-    → 4 + size + missing size + 0 ≤ growth
     → Codec A
-filled size of text_of sized_as again short wide =
-    flat (payload.filled of) text_of 0 most_payload (filled_record_lawful size most_payload of text_of sized_as again short wide)
+filled size of text_of sized_as again short = record {
+  grammar = payload.filled of;
+  text = text_of;
+  Inside = always;
+  count = none;
+  factor = 4 + size + missing size;
+  fewer = 0;
+  enough = most_payload;
+  lawful = filled_record_lawful size most_payload of text_of sized_as again short;
+  sure = Some (λ a. tt);
+}
 
 -- the same of a record with its laws
 abbrev pub sized_record : {A : Type 0} {size : ℕ} {of : List ℕ → A} {text_of : A → List ℕ} → RecordLaws size of text_of → size ≤ most_payload → Codec A
-sized_record {A} {size} {of} {text_of} laws short = sized size of text_of laws.sized laws.again short (omega arith)
+sized_record {A} {size} {of} {text_of} laws short = sized size of text_of laws.sized laws.again short
 
-abbrev pub filled_record : {A : Type 0} {size : ℕ} {of : List ℕ → A} {text_of : A → List ℕ} → RecordLaws size of text_of → 4 + size + missing size + 0 ≤ growth → Codec A
-filled_record {A} {size} {of} {text_of} laws wide = filled size of text_of laws.sized laws.again (omega (arith, wide)) wide
+abbrev pub filled_record : {A : Type 0} {size : ℕ} {of : List ℕ → A} {text_of : A → List ℕ} → RecordLaws size of text_of → size ≤ most_payload → Codec A
+filled_record {A} {size} {of} {text_of} laws short = filled size of text_of laws.sized laws.again short
 
 -- no more octets than were read
 octets_short : (p : List ℕ) → length (octets_of (segments_of p)) ≤ length p
@@ -155,7 +178,7 @@ address_again p a small means =
     ∙ ap (λ (octets : List ℕ). octets_of (segments_of octets)) means.1.1
     ∙ octets_again p (omega (arith, means.1.0)) small
 
-pub address_lawful : LawfulPayload payload.ipv6_address ipv6_octets always always none growth slack most_payload
+pub address_lawful : LawfulPayload payload.ipv6_address ipv6_octets always always none plain_growth 0 most_payload
 address_lawful = record {
   agrees = as_agrees IsBytes payload.address_of_octets (payload.exactly 16) (exactly_agrees 16);
   no_memory = memory_exactly 16;
@@ -167,7 +190,7 @@ address_lawful = record {
 
 -- an IPv6 address, its sixteen octets in order
 abbrev pub address : Codec Ipv6Addr
-address = flat payload.ipv6_address ipv6_octets slack most_payload address_lawful
+address = flat payload.ipv6_address ipv6_octets most_payload address_lawful
 
 -- ** lists of a place
 
@@ -179,15 +202,18 @@ least_below a b true e = (omega arith, leb-true a b e)
 least_below a b false e = (omega (arith, leb-false a b e), omega arith)
 
 -- what was read from so few bytes as a list fits
-abbrev pub list_enough : ℕ → ℕ → ℕ
-list_enough fewer enough = least (enough + 4) (4 * ((most_payload + fewer) / growth) + 3)
+abbrev pub list_enough : ℕ → ℕ → ℕ → ℕ
+list_enough factor fewer enough = least (enough + 4) (4 * ((most_payload + fewer) / factor) + 3)
 
-enough_below : (fewer enough : ℕ) → growth * (list_enough fewer enough / 4) ≤ most_payload + fewer
-enough_below fewer enough = omega (arith, (least_below (enough + 4) (4 * ((most_payload + fewer) / growth) + 3) _ refl).1)
+enough_below : (factor fewer enough : ℕ) → factor * (list_enough factor fewer enough / 4) ≤ most_payload + fewer
+enough_below factor fewer enough =
+    let quarter : list_enough factor fewer enough / 4 ≤ (most_payload + fewer) / factor =
+    omega (arith, (least_below (enough + 4) (4 * ((most_payload + fewer) / factor) + 3) _ refl).1) in
+    omega (arith, mul-le-mul_left factor quarter, div-mul-le_self (most_payload + fewer) factor, mul_comm ((most_payload + fewer) / factor) factor)
 
 -- where nothing is asked of members, nothing is asked of the list
-unasked : {V : Type 0} {g : Grammar (List ℕ) (List V)} {text : List V → List ℕ} {Fits : List V → Type 0} {count : List V → ℕ} {e n : ℕ}
-    → LawfulPayload g text Fits (AllByRecursion always) count growth e n → LawfulPayload g text Fits always count growth e n
+unasked : {V : Type 0} {g : Grammar (List ℕ) (List V)} {text : List V → List ℕ} {Fits : List V → Type 0} {count : List V → ℕ} {k e n : ℕ}
+    → LawfulPayload g text Fits (AllByRecursion always) count k e n → LawfulPayload g text Fits always count k e n
 unasked h = record {
   agrees = h.agrees;
   no_memory = h.no_memory;
@@ -198,37 +224,42 @@ unasked h = record {
 }
 
 abbrev pub listed : {V : Type 0} {Good : List V → Type 0} (p : Place V) (g : Grammar (List ℕ) (List V))
-    → LawfulPayload g (canons p.frame) (AllFit p.Fits p.frame) Good (total p.count) growth slack (list_enough p.fewer p.enough) → CodecWhere (List V) Good
+    → LawfulPayload g (canons p.frame) (AllFit p.Fits p.frame) Good (total p.count) p.factor (p.factor - plain_growth) (list_enough p.factor p.fewer p.enough) → CodecWhere (List V) Good
 listed p g h = record {
   grammar = g;
   text = canons p.frame;
   Inside = AllFit p.Fits p.frame;
   count = total p.count;
-  fewer = slack;
-  enough = list_enough p.fewer p.enough;
+  factor = p.factor;
+  fewer = p.factor - plain_growth;
+  enough = list_enough p.factor p.fewer p.enough;
   lawful = h;
   sure = None;
 }
 
 module _ {V : Type 0} (p : Place V) where
-  pub list_of_lawful : LawfulPayload (list p.grammar) (canons p.frame) (AllFit p.Fits p.frame) always (total p.count) growth slack (list_enough p.fewer p.enough)
-  list_of_lawful = unasked (list_lawful p.grammar p.frame p.Fits always p.count growth p.fewer p.enough p.lawful slack (list_enough p.fewer p.enough)
-      (lit≤ tt) ((least_below (p.enough + 4) (4 * ((most_payload + p.fewer) / growth) + 3) _ refl).0) (enough_below p.fewer p.enough))
+  pub list_of_lawful : LawfulPayload (list p.grammar) (canons p.frame) (AllFit p.Fits p.frame) always (total p.count) p.factor (p.factor - plain_growth) (list_enough p.factor p.fewer p.enough)
+  list_of_lawful = unasked (list_lawful p.grammar p.frame p.Fits always p.count p.factor p.fewer p.enough p.lawful (p.factor - plain_growth) (list_enough p.factor p.fewer p.enough)
+      (omega (arith, p.spare)) ((least_below (p.enough + 4) (4 * ((most_payload + p.fewer) / p.factor) + 3) _ refl).0)
+      (enough_below p.factor p.fewer p.enough))
 
-  pub some_of_lawful : LawfulPayload (not_empty (list p.grammar)) (canons p.frame) (AllFit p.Fits p.frame) always (total p.count) growth slack (list_enough p.fewer p.enough)
-  some_of_lawful = unasked (some_lawful p.grammar p.frame p.Fits always p.count growth p.fewer p.enough p.lawful slack (list_enough p.fewer p.enough)
-      (lit≤ tt) ((least_below (p.enough + 4) (4 * ((most_payload + p.fewer) / growth) + 3) _ refl).0) (enough_below p.fewer p.enough))
+  pub some_of_lawful : LawfulPayload (not_empty (list p.grammar)) (canons p.frame) (AllFit p.Fits p.frame) always (total p.count) p.factor (p.factor - plain_growth) (list_enough p.factor p.fewer p.enough)
+  some_of_lawful = unasked (some_lawful p.grammar p.frame p.Fits always p.count p.factor p.fewer p.enough p.lawful (p.factor - plain_growth) (list_enough p.factor p.fewer p.enough)
+      (omega (arith, p.spare)) ((least_below (p.enough + 4) (4 * ((most_payload + p.fewer) / p.factor) + 3) _ refl).0)
+      (enough_below p.factor p.fewer p.enough))
 
   -- members with another number than 1 dropped
   pub picked_of_lawful : ((v : V) → number (p.frame v) ≡ 1)
-      → LawfulPayload (picked p.grammar) (canons p.frame) (AllFit p.Fits p.frame) always (total p.count) growth slack (list_enough p.fewer p.enough)
-  picked_of_lawful ones = unasked (picked_lawful p.grammar p.frame p.Fits always p.count growth p.fewer p.enough p.lawful slack (list_enough p.fewer p.enough)
-      (lit≤ tt) ((least_below (p.enough + 4) (4 * ((most_payload + p.fewer) / growth) + 3) _ refl).0) (enough_below p.fewer p.enough) ones)
+      → LawfulPayload (picked p.grammar) (canons p.frame) (AllFit p.Fits p.frame) always (total p.count) p.factor (p.factor - plain_growth) (list_enough p.factor p.fewer p.enough)
+  picked_of_lawful ones = unasked (picked_lawful p.grammar p.frame p.Fits always p.count p.factor p.fewer p.enough p.lawful (p.factor - plain_growth) (list_enough p.factor p.fewer p.enough)
+      (omega (arith, p.spare)) ((least_below (p.enough + 4) (4 * ((most_payload + p.fewer) / p.factor) + 3) _ refl).0)
+      (enough_below p.factor p.fewer p.enough) ones)
 
   pub some_picked_of_lawful : ((v : V) → number (p.frame v) ≡ 1)
-      → LawfulPayload (not_empty (picked p.grammar)) (canons p.frame) (AllFit p.Fits p.frame) (λ vs. (0 < length vs) × AllByRecursion always vs) (total p.count) growth slack (list_enough p.fewer p.enough)
-  some_picked_of_lawful ones = some_picked_lawful p.grammar p.frame p.Fits always p.count growth p.fewer p.enough p.lawful slack (list_enough p.fewer p.enough)
-      (lit≤ tt) ((least_below (p.enough + 4) (4 * ((most_payload + p.fewer) / growth) + 3) _ refl).0) (enough_below p.fewer p.enough) ones
+      → LawfulPayload (not_empty (picked p.grammar)) (canons p.frame) (AllFit p.Fits p.frame) (λ vs. (0 < length vs) × AllByRecursion always vs) (total p.count) p.factor (p.factor - plain_growth) (list_enough p.factor p.fewer p.enough)
+  some_picked_of_lawful ones = some_picked_lawful p.grammar p.frame p.Fits always p.count p.factor p.fewer p.enough p.lawful (p.factor - plain_growth) (list_enough p.factor p.fewer p.enough)
+      (omega (arith, p.spare)) ((least_below (p.enough + 4) (4 * ((most_payload + p.fewer) / p.factor) + 3) _ refl).0)
+      (enough_below p.factor p.fewer p.enough) ones
 
 -- a list of members of the place
 abbrev pub list_of : {V : Type 0} → Place V → Codec (List V)
@@ -249,16 +280,16 @@ some_picked_of p ones = listed p (not_empty (picked p.grammar)) (some_picked_of_
 -- ** a newtype around a value
 
 module _ {A B : Type 0} (wrap : A → B) (inner : B → A) (c : Codec A) (same : (a : A) → inner (wrap a) ≡ a) where
-  pub as_codec_lawful : LawfulPayload (as_a wrap c.grammar) (λ b. c.text (inner b)) (λ b. c.Inside (inner b)) always (λ b. c.count (inner b)) growth c.fewer c.enough
-  as_codec_lawful = as_lawful wrap c.grammar c.text c.Inside always c.count growth c.fewer c.enough c.lawful
+  pub as_codec_lawful : LawfulPayload (as_a wrap c.grammar) (λ b. c.text (inner b)) (λ b. c.Inside (inner b)) always (λ b. c.count (inner b)) c.factor c.fewer c.enough
+  as_codec_lawful = as_lawful wrap c.grammar c.text c.Inside always c.count c.factor c.fewer c.enough c.lawful
       (λ b. c.text (inner b)) (λ b. c.Inside (inner b)) always (λ b. c.count (inner b))
       (λ a. ap c.text (same a)) (λ a. ap c.count (same a))
       (λ a inside. subst c.Inside (same a) inside) (λ a inside. subst c.Inside (sym (same a)) inside) (λ a good. tt)
 
   pub place_of_lawful : (kind : ℕ) → kind < 2 ^ 16
       → LawfulPlace (by_payload (as_a wrap c.grammar)) (λ b. record { kind = kind; payload = c.text (inner b) })
-      (λ b. (length (c.text (inner b)) ≤ most_payload) × c.Inside (inner b)) always (λ b. 1 + c.count (inner b)) growth c.fewer c.enough
-  place_of_lawful kind small = wrapped_lawful wrap c.grammar c.text c.Inside always c.count growth c.fewer c.enough c.lawful
+      (λ b. (length (c.text (inner b)) ≤ most_payload) × c.Inside (inner b)) always (λ b. 1 + c.count (inner b)) c.factor c.fewer c.enough
+  place_of_lawful kind small = wrapped_lawful wrap c.grammar c.text c.Inside always c.count c.factor c.fewer c.enough c.lawful
       kind (λ b. record { kind = kind; payload = c.text (inner b) })
       (λ b. (length (c.text (inner b)) ≤ most_payload) × c.Inside (inner b)) always (λ b. 1 + c.count (inner b)) small
       (λ a. ap (λ x. record { kind = kind; payload = c.text x }) (same a)) (λ a. ap (λ x. 1 + c.count x) (same a))
@@ -272,6 +303,7 @@ module _ {A B : Type 0} (wrap : A → B) (inner : B → A) (c : Codec A) (same :
     text = λ b. c.text (inner b);
     Inside = λ b. c.Inside (inner b);
     count = λ b. c.count (inner b);
+    factor = c.factor;
     fewer = c.fewer;
     enough = c.enough;
     lawful = as_codec_lawful;
@@ -279,13 +311,16 @@ module _ {A B : Type 0} (wrap : A → B) (inner : B → A) (c : Codec A) (same :
   }
 
   -- each frame is read by its payload, and written with one kind
-  abbrev pub place_of : (kind : ℕ) → kind < 2 ^ 16 → Place B
-  place_of kind small = record {
+  abbrev pub place_of : (kind : ℕ) → kind < 2 ^ 16 → T (nat_le (plain_growth + c.fewer) c.factor) → T (nat_le c.factor growth) → Place B
+  place_of kind small spare within = record {
     grammar = by_payload (as_a wrap c.grammar);
     frame = λ b. record { kind = kind; payload = c.text (inner b) };
     Fits = λ b. (length (c.text (inner b)) ≤ most_payload) × c.Inside (inner b);
     count = λ b. 1 + c.count (inner b);
+    factor = c.factor;
     fewer = c.fewer;
+    spare = computed_le spare;
+    within = computed_le within;
     enough = c.enough;
     is_small = λ b fits. fits.0;
     is_flat = false;
@@ -302,20 +337,20 @@ abbrev pub ForeignKept : {V : Type 0} → Place V → Type 0
 ForeignKept {V} p = (f : Frame) (v : V) → p.Foreign f → p.grammar.means f v → p.frame v ≡ f
 
 -- values that fit are read back, lists are so bounded, and what no line accepts is kept
-abbrev pub IsLawful : {V : Type 0} → ℕ → Place V → Type 0
-IsLawful fewer p =
+abbrev pub IsLawful : {V : Type 0} → ℕ → ℕ → Place V → Type 0
+IsLawful factor fewer p =
     ReadsBack p.grammar.means p.frame p.Fits
     × ListReadsBack (list p.grammar).means p.frame p.Fits
-    × ListsBounded fewer (list p.grammar).means p.count p.frame
+    × ListsBounded factor fewer (list p.grammar).means p.count p.frame
     × ForeignKept p
 
-pub is_lawful : {V : Type 0} (p : Place V) → p.fewer ≤ growth → IsLawful p.fewer p
-is_lawful p small = (
-  place_reads_back p.grammar p.frame p.Fits p.count p.fewer p.enough p.lawful,
-  list_reads_back p.grammar p.frame p.Fits p.count p.fewer p.enough p.lawful,
-  lists_bounded p.grammar p.frame p.Fits p.count p.fewer p.enough p.lawful small,
+pub is_lawful : {V : Type 0} (p : Place V) → IsLawful p.factor p.fewer p
+is_lawful p = (
+  place_reads_back p.grammar p.frame p.Fits p.count p.factor p.fewer p.enough p.lawful,
+  list_reads_back p.grammar p.frame p.Fits p.count p.factor p.fewer p.enough p.lawful,
+  lists_bounded p.grammar p.frame p.Fits p.count p.factor p.fewer p.enough p.lawful (omega (arith, p.spare)),
   p.kept,
 )
 
 pub place_bounded : {V : Type 0} (p : Place V) (f : Frame) (v : V) → p.grammar.means f v → length (canon (p.frame v)) ≤ growth * (1 + length f.payload / 4)
-place_bounded p = text_bounded p.lawful
+place_bounded p f v means = omega (arith, text_bounded p.lawful f v means, mul-le-mul_right (1 + length f.payload / 4) p.within)

@@ -5,7 +5,7 @@
 use Rattle.std.proofs.Common.{◌≡◌, ℕ, ◌+◌, ◌*◌, ◌/◌, ◌^◌, ◌<◌, ◌≤◌, inl, inr, List, [], ◌∷◌, ◌++◌, length, filter, refl, sym, ap, subst, ◌∙◌, mul-le-mul_left, mul-le-mul_right, arith, lit≤, length-append}
 use Rattle.std.specs.Int.{Width, w8, w16, w32, w64, w128, byte_len, to_le_bytes, from_le_bytes, cast_signed, cast_unsigned}
 use Rattle.std.specs.List.{AllByRecursion}
-use Rattle.nla_wire.specs.Sizes.{most_payload, growth, slack, growth_per_byte}
+use Rattle.nla_wire.specs.Sizes.{most_payload, plain_growth, growth, growth_per_byte}
 use Rattle.nla_wire.specs.Frames.{Frame, number, IsBytes, IsFrame, missing}
 use Rattle.nla_wire.specs.Grammar.{Grammar, Agrees, as_a, Every, list, not_empty, by_payload, kept, is_one, picked}
 use Rattle.nla_wire.specs.Payloads.{number_of, bytes, IsTextOf, text, filled, sized}
@@ -124,16 +124,16 @@ pub text_bounded : {V : Type 0} {g : Grammar Frame V} {frame : V → Frame} {Fit
     → (f : Frame) (v : V) → g.means f v → length (canon (frame v)) ≤ k * (1 + length f.payload / 4)
 text_bounded {V} {g} {frame} {Fits} {Good} {count} {k} {e} {n} h f v means = omega (arith, h.bounded f v means)
 
--- ** less slack, and a smaller bound under which all fits
+-- ** wider bounds: a greater factor, less slack, and a smaller bound under which all fits
 
-pub less : {A : Type 0} (g : Grammar (List ℕ) A) (text : A → List ℕ) (Fits Good : A → Type 0) (count : A → ℕ) (k e n u m : ℕ) → u ≤ e → m ≤ n
-    → LawfulPayload g text Fits Good count k e n → LawfulPayload g text Fits Good count k u m
-less g text Fits Good count k e n u m slacker smaller h = record {
+pub wider : {A : Type 0} (g : Grammar (List ℕ) A) (text : A → List ℕ) (Fits Good : A → Type 0) (count : A → ℕ) (k e n j u m : ℕ) → k ≤ j → u + k ≤ e + j → m ≤ n
+    → LawfulPayload g text Fits Good count k e n → LawfulPayload g text Fits Good count j u m
+wider g text Fits Good count k e n j u m greater slacker smaller h = record {
   agrees = h.agrees;
   no_memory = h.no_memory;
   back = h.back;
   counted = h.counted;
-  bounded = λ p a means. omega (arith, h.bounded p a means);
+  bounded = λ p a means. omega (arith, h.bounded p a means, mul-le-mul_right (length p / 4) greater);
   small = λ p a short. h.small p a (omega arith);
 }
 
@@ -284,7 +284,7 @@ module _ {V : Type 0} (g : Grammar Frame V) (frame : V → Frame) (Fits Good : V
         small = λ p vs short small means. picked_lawful.small p vs short small means.1;
       }
 
--- the text of what was read is at most 77 times as long
+-- the text of what was read is at most so many times as long
 pub place_growth : {V : Type 0} (g : Grammar Frame V) (frame : V → Frame) (Fits Good : V → Type 0) (count : V → ℕ) (e n : ℕ)
     → LawfulPlace g frame Fits Good count growth e n
     → (p : List ℕ) (vs : List V) → (list g).means p vs → length (canons frame vs) ≤ growth_per_byte * length p
@@ -301,17 +301,17 @@ place_all_fit g frame Fits Good count k e n h enough p vs short small m =
 
 -- ** leaf payloads
 
-whole_payload : (p : List ℕ) → 4 + length p + missing (length p) + slack ≤ growth * (1 + length p / 4)
+whole_payload : (p : List ℕ) → 4 + length p + missing (length p) + 0 ≤ plain_growth * (1 + length p / 4)
 whole_payload p = omega arith
 
 -- bytes as they are
-pub bytes_lawful : (n : ℕ) → n ≤ most_payload → LawfulPayload bytes (λ p. p) always always none growth slack n
+pub bytes_lawful : (n : ℕ) → n ≤ most_payload → LawfulPayload bytes (λ p. p) always always none plain_growth 0 n
 bytes_lawful n enough = record {
   agrees = bytes_agrees;
   no_memory = memory_bytes;
   back = λ p a small means fits good. refl;
   counted = λ p a means. omega arith;
-  bounded = λ p a means. subst (λ (x : List ℕ). 4 + length x + missing (length x) + slack ≤ growth * (1 + length p / 4)) (sym means) (whole_payload p);
+  bounded = λ p a means. subst (λ (x : List ℕ). 4 + length x + missing (length x) + 0 ≤ plain_growth * (1 + length p / 4)) (sym means) (whole_payload p);
   small = λ p a short small means. (omega (arith, ap length means), tt);
 }
 
@@ -320,7 +320,7 @@ text_length p s (inl e) = omega (arith, ap length e)
 text_length p s (inr h) = omega (arith, ap length h.1, length-append s (0 ∷ []))
 
 -- a text, written with one NUL behind it
-pub text_lawful : (n : ℕ) → n < most_payload → LawfulPayload text (λ s. s ++ 0 ∷ []) always always none growth slack n
+pub text_lawful : (n : ℕ) → n < most_payload → LawfulPayload text (λ s. s ++ 0 ∷ []) always always none plain_growth 0 n
 text_lawful n enough = record {
   agrees = text_agrees;
   no_memory = memory_text;
@@ -340,7 +340,7 @@ byte_len_small w128 = lit≤ tt
 -- a number of some width, through the values that stand for numbers
 pub through_lawful : {A : Type 0} (w : Width) (of : ℕ → A) (num : A → ℕ) (Fits : A → Type 0) (n : ℕ)
     → ((x : ℕ) → x < 2 ^ bits w → (num (of x) < 2 ^ bits w) × (of (num (of x)) ≡ of x) × Fits (of x))
-    → LawfulPayload (as_a of (number_of w)) (λ a. to_le_bytes w (num a)) Fits always none growth slack n
+    → LawfulPayload (as_a of (number_of w)) (λ a. to_le_bytes w (num a)) Fits always none plain_growth 0 n
 through_lawful {A} w of num Fits n again =
     let text_size = λ (a : A). length-to_le_bytes w (num a) in
     record {
@@ -360,7 +360,7 @@ through_lawful {A} w of num Fits n again =
           (omega (arith, text_size a, byte_len_small w), subst Fits (sym means.2) (again x below).2);
     }
 
-pub number_lawful : (w : Width) (n : ℕ) → LawfulPayload (number_of w) (to_le_bytes w) always always none growth slack n
+pub number_lawful : (w : Width) (n : ℕ) → LawfulPayload (number_of w) (to_le_bytes w) always always none plain_growth 0 n
 number_lawful w n = record {
   agrees = number_agrees w;
   no_memory = memory_number w;
@@ -373,14 +373,14 @@ number_lawful w n = record {
 }
 
 -- a signed number
-pub signed_lawful : (w : Width) (n : ℕ) → LawfulPayload (as_a (cast_signed w) (number_of w)) (λ z. to_le_bytes w (cast_unsigned w z)) always always none growth slack n
+pub signed_lawful : (w : Width) (n : ℕ) → LawfulPayload (as_a (cast_signed w) (number_of w)) (λ z. to_le_bytes w (cast_unsigned w z)) always always none plain_growth 0 n
 signed_lawful w n = through_lawful w (cast_signed w) (cast_unsigned w) always n (λ x below.
     let again : cast_unsigned w (cast_signed w x) ≡ x = signed_number_again w x below in
     (subst (λ y. y < 2 ^ bits w) (sym again) below, ap (cast_signed w) again, tt))
 
 -- an enum, of which each number is again the number of its value
 pub enum_lawful : {A : Type 0} (w : Width) (of : ℕ → A) (num : A → ℕ) (n : ℕ) → ((x : ℕ) → num (of x) ≡ x)
-    → LawfulPayload (as_a of (number_of w)) (λ a. to_le_bytes w (num a)) always always none growth slack n
+    → LawfulPayload (as_a of (number_of w)) (λ a. to_le_bytes w (num a)) always always none plain_growth 0 n
 enum_lawful w of num n again = through_lawful w of num always n (λ x below.
     (subst (λ y. y < 2 ^ bits w) (sym (again x)) below, ap of (again x), tt))
 
@@ -428,14 +428,13 @@ filled_lawful {A} fields text_of Fits most k e n enough wide length_most again f
 -- ** records, whose text always has `size` bytes
 
 -- one that is refused where the payload is shorter
-pub sized_record_lawful : {A : Type 0} (size e n : ℕ) (of : List ℕ → A) (text_of : A → List ℕ)
+pub sized_record_lawful : {A : Type 0} (size n : ℕ) (of : List ℕ → A) (text_of : A → List ℕ)
     → ((p : List ℕ) → length (text_of (of p)) ≡ size)
     → ((p : List ℕ) → IsBytes p → of (text_of (of p)) ≡ of p)
     → size ≤ most_payload
-    → 4 + size + missing size + e ≤ growth * (1 + size / 4)
-    → LawfulPayload (sized size of) text_of always always none growth e n
-sized_record_lawful size e n of text_of sized_as again enough wide =
-    sized_lawful size of text_of always size growth e n enough wide
+    → LawfulPayload (sized size of) text_of always always none plain_growth 0 n
+sized_record_lawful size n of text_of sized_as again enough =
+    sized_lawful size of text_of always size plain_growth 0 n enough (omega arith)
     (λ p. omega (arith, sized_as p)) (λ p long. omega (arith, sized_as p)) (λ p small long. again p small) (λ p small long. tt)
 
 -- one that is filled up with zeros
@@ -443,7 +442,6 @@ pub filled_record_lawful : {A : Type 0} (size n : ℕ) (of : List ℕ → A) (te
     → ((p : List ℕ) → length (text_of (of p)) ≡ size)
     → ((p : List ℕ) → IsBytes p → of (text_of (of p)) ≡ of p)
     → size ≤ most_payload
-    → 4 + size + missing size + 0 ≤ growth
-    → LawfulPayload (filled of) text_of always always none growth 0 n
-filled_record_lawful size n of text_of sized_as again enough wide =
-    filled_lawful of text_of always size growth 0 n enough wide (λ p. omega (arith, sized_as p)) again (λ p small. tt)
+    → LawfulPayload (filled of) text_of always always none (4 + size + missing size) 0 n
+filled_record_lawful size n of text_of sized_as again enough =
+    filled_lawful of text_of always size (4 + size + missing size) 0 n enough (omega arith) (λ p. omega (arith, sized_as p)) again (λ p small. tt)

@@ -1,15 +1,24 @@
 -- Code that goes by the shape of a payload, with no value made: what it answers is what reading the attribute would.
-use Rattle.std.proofs.Common.{◌≡◌, ℕ, ◌≤◌, List, length, refl, sym, ap, subst, ◌∙◌, arith}
-use Rattle.std.specs.Prelude.{Option, None, Some, Result, Ok, Err, IsOk}
-use Rattle.nla_wire.specs.Sizes.{most_payload}
+use Rattle.std.proofs.Common.{◌≡◌, ◌≢◌, ◌==◌, ℕ, ◌≤◌, Bool, true, false, List, [], ◌∷◌, ◌++◌, length, refl, sym, ap, subst, ◌∙◌, arith, lit<, lit≤, eqb-true}
+use Rattle.std.specs.Prelude.{Option, None, Some, Result, Ok, Err, IsOk, if◌then◌else◌}
+use Rattle.std.specs.Int.{Width, w8, w16, w32, w64, byte_len, from_le_bytes, to_le_bytes}
+use Rattle.std.specs.Str.{is_utf8}
+use Rattle.nla_wire.specs.Sizes.{most_payload, plain_growth}
 use Rattle.nla_wire.specs.Frames.{Frame, number, IsBytes}
 use Rattle.nla_wire.specs.Reading.{◌>>=◌}
 use Rattle.nla_wire.specs.Gives.{Checks}
 use Rattle.nla_wire.specs.Canon.{canon, Writes, Closed, Canonical}
 use Rattle.nla_wire.specs.declared.error.Cause.{Cause}
 use Rattle.nla_wire.specs.declared.error.DecodeError.{DecodeError}
+use Rattle.nla_wire.specs.declared.error.Cause.TheVariants.{NotUtf8, WrongLength}
 use Rattle.nla_wire.specs.Grammar.{kept}
-use Rattle.nla_wire.proofs.Codec.{Any, kind_of}
+use Rattle.nla_wire.specs.Leaves.{LeafValue, leaf_grammar, leaf_text, LeafWrites}
+use Rattle.nla_wire.specs.declared.leaf.Leaf.{Leaf}
+use Rattle.nla_wire.specs.declared.leaf.Leaf.TheVariants as leaf
+use Rattle.nla_wire.specs.Payloads.{read_text, without_nul, read_number}
+use Rattle.nla_wire.proofs.Lawful.{LawfulPayload, always, none, bytes_lawful, text_lawful, number_lawful}
+use Rattle.nla_wire.proofs.Again.{WritesAgain, writes_again_1, writes_again_2, writes_again_4, writes_again_8}
+use Rattle.nla_wire.proofs.Codec.{Any, any, flat, kind_of}
 use Rattle.nla_wire.proofs.Tables.{Seen, as_it_is, Way, Kept, Shape, Own, FitsAs, ReadsAs, ReadsBy, Entry, reads_in, lines, way_in, line_by}
 
 abbrev pub frame_with : ℕ → List ℕ → Frame
@@ -150,3 +159,53 @@ closed_writes text Inside r kind x old new (Some n) is inside h =
 closed_writes text Inside r kind x old new None is inside h =
     subst (λ r. Canonical (λ x. canon (frame_with kind (text x))) (λ x. (length (text x) ≤ most_payload) × Inside x) r old new None) (sym is)
     (λ fits. absurd (omega (arith, fits.0, h)))
+
+-- ** leaves
+
+pub leaf_lawful : (l : Leaf) → LawfulPayload (leaf_grammar l) (leaf_text l) always always none plain_growth 0 65530
+leaf_lawful leaf.Bytes = bytes_lawful 65530 (lit≤ tt)
+leaf_lawful leaf.Text = text_lawful 65530 (lit< tt)
+leaf_lawful leaf.U8 = number_lawful w8 65530
+leaf_lawful leaf.U16 = number_lawful w16 65530
+leaf_lawful leaf.U32 = number_lawful w32 65530
+leaf_lawful leaf.U64 = number_lawful w64 65530
+
+abbrev pub leaf_base : Leaf → Any
+leaf_base l = any (flat (leaf_grammar l) (leaf_text l) 65530 (leaf_lawful l))
+
+pub leaf_checks : (l m : Leaf) (p : List ℕ) (a : Result Unit DecodeError) → l ≡ m → Checks a ((leaf_grammar m).reads p) → Checks a ((leaf_grammar l).reads p)
+leaf_checks l m p a is h = subst (λ x. Checks a ((leaf_grammar x).reads p)) (sym is) h
+
+pub leaf_writes : (l : Leaf) (kind : ℕ) (p old new : List ℕ) (a : Option ℕ) → IsOk ((leaf_grammar l).reads p)
+    → LeafWrites l kind p old new a → ShapeWrites leaf_base l kind p old new a
+leaf_writes l kind p old new a accepted h = by ((leaf_grammar l).reads p) refl accepted where
+  by : (r : Result (LeafValue l) Cause) → (leaf_grammar l).reads p ≡ r → IsOk r → ShapeWrites leaf_base l kind p old new a
+  by (Ok x) is ok = closed_writes (leaf_text l) always ((leaf_grammar l).reads p) kind x old new a is tt (h x is)
+  by (Err c) is ok = absurd cc
+
+passed : {A : Type 0} (t : Bool) (x y : A) (e : Cause) → (if t then Ok x else Err e) ≡ Ok y → (t ≡ true) × (x ≡ y)
+passed true x y e h = (refl, cc)
+passed false x y e h = absurd cc
+
+text_once : (p s : List ℕ) → read_text p ≡ Ok s → without_nul p ≡ s
+unfolding read_text
+text_once p s h = (passed (is_utf8 (without_nul p)) (without_nul p) s NotUtf8 h).1
+
+number_again : (w : Width) → WritesAgain w → (p : List ℕ) (n : ℕ) → IsBytes p → read_number w p ≡ Ok n → p ≡ to_le_bytes w n
+unfolding read_number
+number_again w again p n small h =
+    let k = passed (length p == byte_len w) (from_le_bytes w p) n (WrongLength (length p) (byte_len w)) h in
+    sym (again p (eqb-true (length p) (byte_len w) k.0) small) ∙ ap (to_le_bytes w) k.1
+
+-- a text is written with one NUL
+pub text_closes : (kind : ℕ) (p old new : List ℕ) (a : Option ℕ) → Closed kind (without_nul p ++ 0 ∷ []) old new a → LeafWrites leaf.Text kind p old new a
+text_closes kind p old new a h s is = subst (λ x. Closed kind (x ++ 0 ∷ []) old new a) (text_once p s is) h
+
+-- any other leaf as it is
+pub leaf_kept : (l : Leaf) → l ≢ leaf.Text → (kind : ℕ) (p old new : List ℕ) (a : Option ℕ) → IsBytes p → Closed kind p old new a → LeafWrites l kind p old new a
+leaf_kept leaf.Bytes other kind p old new a small h b is = let same : p ≡ b = cc in subst (λ x. Closed kind x old new a) same h
+leaf_kept leaf.Text other kind p old new a small h s is = absurd (other refl)
+leaf_kept leaf.U8 other kind p old new a small h n is = subst (λ x. Closed kind x old new a) (number_again w8 writes_again_1 p n small is) h
+leaf_kept leaf.U16 other kind p old new a small h n is = subst (λ x. Closed kind x old new a) (number_again w16 writes_again_2 p n small is) h
+leaf_kept leaf.U32 other kind p old new a small h n is = subst (λ x. Closed kind x old new a) (number_again w32 writes_again_4 p n small is) h
+leaf_kept leaf.U64 other kind p old new a small h n is = subst (λ x. Closed kind x old new a) (number_again w64 writes_again_8 p n small is) h

@@ -1,17 +1,17 @@
 -- The lines of a place as a list, each with its test of a frame. From it follow how frames are read, that a value which was
 -- read is read back, its bounds, and that frames which no line accepts are kept as they are.
-use Rattle.std.proofs.Common.{◌≡◌, ◌≢◌, ℕ, ◌+◌, ◌%◌, ◌^◌, ◌≤◌, ◌==◌, ◌&&◌, Bool, true, false, not, List, [], ◌∷◌, length, refl, sym, ap, subst, ◌∙◌, eqb-true, eq-eqb, ne_eqb, leb-true, ltb-true}
+use Rattle.std.proofs.Common.{◌≡◌, ◌≢◌, ℕ, ◌+◌, ◌%◌, ◌^◌, ◌≤◌, ◌==◌, ◌&&◌, Bool, true, false, not, List, [], ◌∷◌, length, refl, sym, ap, subst, ◌∙◌, eqb-true, eq-eqb, ne_eqb, ltb-true}
 use Rattle.std.specs.Prelude.{Option, None, Some, Result, Ok, Err, if◌then◌else◌, nat_le, nat_lt}
 use lib.Dec.{T}
-use Rattle.nla_wire.specs.Sizes.{growth}
+use Rattle.nla_wire.specs.Sizes.{plain_growth}
 use Rattle.nla_wire.specs.Frames.{Frame, number, IsBytes, IsFrame}
 use Rattle.nla_wire.specs.Reading.{◌>>=◌}
 use Rattle.nla_wire.specs.Grammar.{Grammar, Agrees, as_a, by_payload, kept, if_true}
 use Rattle.nla_wire.specs.Canon.{IsSmall}
 use Rattle.nla_wire.specs.declared.error.Cause.{Cause}
 use Rattle.nla_wire.proofs.Agreement.{if_agrees, if_reads}
-use Rattle.nla_wire.proofs.Lawful.{LawfulPlace, LawfulReading, always, less, wrapped_lawful, numbered, kept_lawful, place_lawful}
-use Rattle.nla_wire.proofs.Codec.{CodecWhere, Any, kind_of}
+use Rattle.nla_wire.proofs.Lawful.{LawfulPlace, LawfulReading, always, wider, wrapped_lawful, numbered, kept_lawful, place_lawful}
+use Rattle.nla_wire.proofs.Codec.{CodecWhere, Any, kind_of, truth, computed_le}
 
 -- what is said of one value
 pub record Seen : Type 1 where
@@ -90,17 +90,14 @@ has_size None size = true
 has_size (Some s) size = size == s
 
 -- whether a line's bounds, and its kind, are such as its codec's are
-abbrev pub kind_holds : {A : Type 0} {Good : A → Type 0} (number kind : ℕ) (c : CodecWhere A Good) (fewer enough : ℕ) → Bool
-kind_holds number kind c fewer enough = (kind % 2 ^ 14 == number) && (nat_lt kind (2 ^ 16) && (nat_le fewer c.fewer && nat_le enough c.enough))
+abbrev pub kind_holds : {A : Type 0} {Good : A → Type 0} (number kind : ℕ) (c : CodecWhere A Good) (factor fewer enough : ℕ) → Bool
+kind_holds number kind c factor fewer enough =
+    (kind % 2 ^ 14 == number) && (nat_lt kind (2 ^ 16) && (nat_le c.factor factor && (nat_le (fewer + c.factor) (c.fewer + factor) && nat_le enough c.enough)))
 
 pub both : (a b : Bool) → T (a && b) → T a × T b
 both true true h = (tt, tt)
 both true false h = absurd h
 both false b h = absurd h
-
-truth : (a : Bool) → T a → a ≡ true
-truth true h = refl
-truth false h = absurd h
 
 module _ {S : Type 0} (base : S → Any) {V : Type 0} (view : V → Seen) (Good : V → Type 0) where
   abbrev pub frame_of : V → Frame
@@ -112,8 +109,8 @@ module _ {S : Type 0} (base : S → Any) {V : Type 0} (view : V → Seen) (Good 
   abbrev pub count_of : V → ℕ
   count_of v = (view v).count
 
-  abbrev pub Lawful : ℕ → ℕ → ℕ → Grammar Frame V → Type 0
-  Lawful fewer enough number g = LawfulReading frame_of FitsAs Good count_of growth fewer enough number g
+  abbrev pub Lawful : ℕ → ℕ → ℕ → ℕ → Grammar Frame V → Type 0
+  Lawful factor fewer enough number g = LawfulReading frame_of FitsAs Good count_of factor fewer enough number g
 
   -- frames are read by the shape of their payload
   pub record ReadsAs (s : S) (kind : ℕ) (read : Frame → Result V Cause) : Type 0 where
@@ -135,8 +132,8 @@ module _ {S : Type 0} (base : S → Any) {V : Type 0} (view : V → Seen) (Good 
     pub reads : Grammar Frame V
     pub by : ReadsBy number way reads.reads
     -- a test that computes, of the bounds and of the kind
-    pub holds : ℕ → ℕ → Bool
-    pub lawful : (fewer enough : ℕ) → T (holds fewer enough) → Lawful fewer enough number reads
+    pub holds : ℕ → ℕ → ℕ → Bool
+    pub lawful : (factor fewer enough : ℕ) → T (holds factor fewer enough) → Lawful factor fewer enough number reads
 
   abbrev pub KeepsSize : Option ℕ → Grammar Frame V → Type 0
   KeepsSize None g = Unit {0}
@@ -189,9 +186,9 @@ module _ {S : Type 0} (base : S → Any) {V : Type 0} (view : V → Seen) (Good 
   no_more n (e ∷ es) = not (n == e.number) && no_more n es
 
   -- each line is lawful, and no two have one number
-  abbrev pub all_hold : ℕ → ℕ → List {1} Entry → Bool
-  all_hold fewer enough [] = true
-  all_hold fewer enough (e ∷ es) = e.reading.holds fewer enough && (no_more e.number es && all_hold fewer enough es)
+  abbrev pub all_hold : ℕ → ℕ → ℕ → List {1} Entry → Bool
+  all_hold factor fewer enough [] = true
+  all_hold factor fewer enough (e ∷ es) = e.reading.holds factor fewer enough && (no_more e.number es && all_hold factor fewer enough es)
 
   -- ** readings
 
@@ -199,17 +196,18 @@ module _ {S : Type 0} (base : S → Any) {V : Type 0} (view : V → Seen) (Good 
   pub held_lawful : {A : Type 0} {GoodA : A → Type 0} (number kind : ℕ) (c : CodecWhere A GoodA) (variant : A → V)
       → ((a : A) → view (variant a) ≡ held kind c a)
       → ((a : A) → Good (variant a) → GoodA a)
-      → (fewer enough : ℕ) → T (kind_holds number kind c fewer enough)
-      → Lawful fewer enough number (by_payload (as_a variant c.grammar))
-  held_lawful {A} {GoodA} n kind c variant same good fewer enough h =
+      → (factor fewer enough : ℕ) → T (kind_holds number kind c factor fewer enough)
+      → Lawful factor fewer enough number (by_payload (as_a variant c.grammar))
+  held_lawful {A} {GoodA} n kind c variant same good factor fewer enough h =
       let first = both (kind % 2 ^ 14 == n) _ h in
       let second = both (nat_lt kind (2 ^ 16)) _ first.1 in
-      let third = both (nat_le fewer c.fewer) _ second.1 in
+      let third = both (nat_le c.factor factor) _ second.1 in
+      let fourth = both (nat_le (fewer + c.factor) (c.fewer + factor)) _ third.1 in
       let number_is : kind % 2 ^ 14 ≡ n = eqb-true (kind % 2 ^ 14) n (truth _ first.0) in
-      let inner = less c.grammar c.text c.Inside GoodA c.count growth c.fewer c.enough fewer enough
-      (leb-true fewer c.fewer (truth _ third.0)) (leb-true enough c.enough (truth _ third.1)) c.lawful in
-      numbered frame_of FitsAs Good count_of growth fewer enough n (by_payload (as_a variant c.grammar))
-      (wrapped_lawful variant c.grammar c.text c.Inside GoodA c.count growth fewer enough inner kind frame_of FitsAs Good count_of
+      let inner = wider c.grammar c.text c.Inside GoodA c.count c.factor c.fewer c.enough factor fewer enough
+      (computed_le third.0) (computed_le fourth.0) (computed_le fourth.1) c.lawful in
+      numbered frame_of FitsAs Good count_of factor fewer enough n (by_payload (as_a variant c.grammar))
+      (wrapped_lawful variant c.grammar c.text c.Inside GoodA c.count factor fewer enough inner kind frame_of FitsAs Good count_of
       (ltb-true kind (2 ^ 16) (truth _ second.0))
       (λ a. ap (λ (s : Seen). s.frame) (same a)) (λ a. ap (λ (s : Seen). s.count) (same a))
       (λ a fits. (subst (λ (s : Seen). IsSmall s.frame) (same a) fits.0, subst (λ (s : Seen). s.Inside) (same a) fits.1))
@@ -250,13 +248,10 @@ module _ {S : Type 0} (base : S → Any) {V : Type 0} (view : V → Seen) (Good 
     lawful = held_lawful number kind c variant same good;
   }
 
-  pub wide_enough : (fewer : ℕ) → T (nat_le (8 + fewer) growth) → 8 + fewer ≤ growth
-  wide_enough fewer h = leb-true (8 + fewer) growth (truth _ h)
-
-  pub kept_reading : (other : Frame → V) → ((f : Frame) → view (other f) ≡ as_it_is f) → (fewer enough : ℕ) → 8 + fewer ≤ growth → (n : ℕ)
-      → Lawful fewer enough n (kept other)
-  kept_reading other same fewer enough wide n =
-      kept_lawful frame_of FitsAs Good count_of growth fewer enough wide other
+  pub kept_reading : (other : Frame → V) → ((f : Frame) → view (other f) ≡ as_it_is f) → (factor fewer enough : ℕ) → plain_growth + fewer ≤ factor → (n : ℕ)
+      → Lawful factor fewer enough n (kept other)
+  kept_reading other same factor fewer enough wide n =
+      kept_lawful frame_of FitsAs Good count_of factor fewer enough wide other
       (λ f. ap (λ (s : Seen). s.frame) (same f)) (λ f. ap (λ (s : Seen). s.count) (same f))
       (λ f small. (subst (λ (s : Seen). IsSmall s.frame) (sym (same f)) small, subst (λ (s : Seen). s.Inside) (sym (same f)) tt)) n
 
@@ -266,8 +261,8 @@ module _ {S : Type 0} (base : S → Any) {V : Type 0} (view : V → Seen) (Good 
     way = Kept;
     reads = kept variant;
     by = λ f. (variant f, refl, ap (λ (s : Seen). s.frame) (same f), subst (λ (s : Seen). s.Inside) (sym (same f)) tt);
-    holds = λ fewer enough. nat_le (8 + fewer) growth;
-    lawful = λ fewer enough h. kept_reading variant same fewer enough (wide_enough fewer h) number;
+    holds = λ factor fewer enough. nat_le (plain_growth + fewer) factor;
+    lawful = λ factor fewer enough h. kept_reading variant same factor fewer enough (computed_le h) number;
   }
 
   -- ** all lines together
@@ -278,19 +273,19 @@ module _ {S : Type 0} (base : S → Any) {V : Type 0} (view : V → Seen) (Good 
       ap (λ x. if accepts e n size then e.reading.reads.reads f else x) (lines_reads_is n size es rest f)
       ∙ if_reads (accepts e n size) e.reading.reads (line_in n size es rest) f
 
-  module _ (fewer enough : ℕ) (other : Frame → V) (same : (f : Frame) → view (other f) ≡ as_it_is f) (wide : 8 + fewer ≤ growth) where
+  module _ (factor fewer enough : ℕ) (other : Frame → V) (same : (f : Frame) → view (other f) ≡ as_it_is f) (wide : plain_growth + fewer ≤ factor) where
     abbrev AllLawful : List {1} Entry → Type 0
     AllLawful [] = Unit {0}
-    AllLawful (e ∷ es) = Lawful fewer enough e.number e.reading.reads × AllLawful es
+    AllLawful (e ∷ es) = Lawful factor fewer enough e.number e.reading.reads × AllLawful es
 
-    each_lawful : (es : List {1} Entry) → T (all_hold fewer enough es) → AllLawful es
+    each_lawful : (es : List {1} Entry) → T (all_hold factor fewer enough es) → AllLawful es
     each_lawful [] h = tt
     each_lawful (e ∷ es) h =
-        let k = both (e.reading.holds fewer enough) _ h in
-        (e.reading.lawful fewer enough k.0, each_lawful es (both (no_more e.number es) _ k.1).1)
+        let k = both (e.reading.holds factor fewer enough) _ h in
+        (e.reading.lawful factor fewer enough k.0, each_lawful es (both (no_more e.number es) _ k.1).1)
 
     line_agrees : (n size : ℕ) (es : List {1} Entry) → AllLawful es → Agrees IsFrame (line_in n size es (kept other))
-    line_agrees n size [] each = (kept_reading other same fewer enough wide 0).agrees
+    line_agrees n size [] each = (kept_reading other same factor fewer enough wide 0).agrees
     line_agrees n size (e ∷ es) each = if_agrees (accepts e n size) e.reading.reads (line_in n size es (kept other)) each.0.agrees (line_agrees n size es each.1)
 
     lines_agree : (es : List {1} Entry) → AllLawful es → Agrees IsFrame (lines es (kept other))
@@ -304,14 +299,14 @@ module _ {S : Type 0} (base : S → Any) {V : Type 0} (view : V → Seen) (Good 
           refused = λ f c m. is f ∙ (at f).refused f c m;
         }
 
-    accepted_lawful : (e : Entry) (g : Grammar Frame V) (n : ℕ) → Lawful fewer enough e.number e.reading.reads → Lawful fewer enough n g
-        → (b c : Bool) → (n == e.number) ≡ b → Lawful fewer enough n (if_true (b && c) e.reading.reads g)
-    accepted_lawful e g n h k true true is = subst (λ x. Lawful fewer enough x e.reading.reads) (sym (eqb-true n e.number is)) h
+    accepted_lawful : (e : Entry) (g : Grammar Frame V) (n : ℕ) → Lawful factor fewer enough e.number e.reading.reads → Lawful factor fewer enough n g
+        → (b c : Bool) → (n == e.number) ≡ b → Lawful factor fewer enough n (if_true (b && c) e.reading.reads g)
+    accepted_lawful e g n h k true true is = subst (λ x. Lawful factor fewer enough x e.reading.reads) (sym (eqb-true n e.number is)) h
     accepted_lawful e g n h k true false is = k
     accepted_lawful e g n h k false c is = k
 
-    line_lawful : (n size : ℕ) (es : List {1} Entry) → AllLawful es → Lawful fewer enough n (line_in n size es (kept other))
-    line_lawful n size [] each = kept_reading other same fewer enough wide n
+    line_lawful : (n size : ℕ) (es : List {1} Entry) → AllLawful es → Lawful factor fewer enough n (line_in n size es (kept other))
+    line_lawful n size [] each = kept_reading other same factor fewer enough wide n
     line_lawful n size (e ∷ es) each =
         accepted_lawful e (line_in n size es (kept other)) n each.0 (line_lawful n size es each.1) (n == e.number) (has_size e.size size) refl
 
@@ -330,7 +325,7 @@ module _ {S : Type 0} (base : S → Any) {V : Type 0} (view : V → Seen) (Good 
 
     -- the frame of a value that was read is accepted by the line that it was read by
     accepted_back : (e : Entry) (g h : Grammar Frame V) (f : Frame) (v : V) → IsFrame f → FitsAs v → Good v
-        → Lawful fewer enough e.number e.reading.reads
+        → Lawful factor fewer enough e.number e.reading.reads
         → (g.means f v → h.means (frame_of v) v)
         → (number f ≡ e.number → g.means f v → frame_of v ≡ f)
         → (b c : Bool) → (number f == e.number) ≡ b → has_size e.size (length f.payload) ≡ c
@@ -344,19 +339,19 @@ module _ {S : Type 0} (base : S → Any) {V : Type 0} (view : V → Seen) (Good 
         let again : frame_of v ≡ f = kept_frame (eqb-true (number f) e.number is) means in
         subst (λ t. (if_true t e.reading.reads h).means (frame_of v) v) (sym (ap (λ (x : Frame). has_size e.size (length x.payload)) again ∙ sized)) (later means)
 
-    line_back : (es : List {1} Entry) → T (all_hold fewer enough es) → AllLawful es → (f : Frame) (v : V) → IsFrame f → FitsAs v → Good v
+    line_back : (es : List {1} Entry) → T (all_hold factor fewer enough es) → AllLawful es → (f : Frame) (v : V) → IsFrame f → FitsAs v → Good v
         → (line_in (number f) (length f.payload) es (kept other)).means f v
         → (line_in (number f) (length (frame_of v).payload) es (kept other)).means (frame_of v) v
-    line_back [] h each f v one fits good means = (kept_reading other same fewer enough wide (number f)).back f v one refl means fits good
+    line_back [] h each f v one fits good means = (kept_reading other same factor fewer enough wide (number f)).back f v one refl means fits good
     line_back (e ∷ es) h each f v one fits good means =
-        let k = both (e.reading.holds fewer enough) _ h in
+        let k = both (e.reading.holds factor fewer enough) _ h in
         let l = both (no_more e.number es) _ k.1 in
         accepted_back e (line_in (number f) (length f.payload) es (kept other)) (line_in (number f) (length (frame_of v).payload) es (kept other))
         f v one fits good each.0 (line_back es l.1 each.1 f v one fits good)
         (λ is. missed (number f) (length f.payload) es f v (subst (λ n. T (no_more n es)) (sym is) l.0))
         (number f == e.number) (has_size e.size (length f.payload)) refl refl means
 
-    pub lines_lawful : (es : List {1} Entry) → T (all_hold fewer enough es) → (m : ℕ) → Lawful fewer enough m (lines es (kept other))
+    pub lines_lawful : (es : List {1} Entry) → T (all_hold factor fewer enough es) → (m : ℕ) → Lawful factor fewer enough m (lines es (kept other))
     lines_lawful es h m =
         let each = each_lawful es h in
         let at = λ (f : Frame). line_lawful (number f) (length f.payload) es each in
@@ -373,9 +368,9 @@ module _ {S : Type 0} (base : S → Any) {V : Type 0} (view : V → Seen) (Good 
           small = λ f. (at f).small f;
         }
 
-    pub lined_lawful : (es : List {1} Entry) → T (all_hold fewer enough es)
-        → LawfulPlace (lines es (kept other)) frame_of FitsAs Good count_of growth fewer enough
-    lined_lawful es h = place_lawful frame_of FitsAs Good count_of growth fewer enough (lines es (kept other)) (lines_lawful es h)
+    pub lined_lawful : (es : List {1} Entry) → T (all_hold factor fewer enough es)
+        → LawfulPlace (lines es (kept other)) frame_of FitsAs Good count_of factor fewer enough
+    lined_lawful es h = place_lawful frame_of FitsAs Good count_of factor fewer enough (lines es (kept other)) (lines_lawful es h)
 
   -- ** frames that no line accepts
 

@@ -6,12 +6,12 @@ use lib.Dec.{T}
 use denote.Struct.Field.{Field}
 use denote.Struct.Values.{Values}
 use denote.Enum.Declared.{Record, Choice}
-use Rattle.nla_wire.specs.Sizes.{most_payload, growth}
+use Rattle.nla_wire.specs.Sizes.{most_payload, plain_growth, growth}
 use Rattle.nla_wire.specs.Frames.{Frame, number}
 use Rattle.nla_wire.specs.Grammar.{kept}
 use Rattle.nla_wire.proofs.Lawful.{always}
-use Rattle.nla_wire.proofs.Codec.{Codec, CodecWhere, Any, Place, kind_of}
-use Rattle.nla_wire.proofs.Tables.{Seen, held, as_it_is, Shaped, Reading, KeepsSize, Entry, both, IsForeign, shaping, having, frame_of, FitsAs, count_of, lines, all_hold, lined_lawful, foreign_kept, wide_enough}
+use Rattle.nla_wire.proofs.Codec.{Codec, CodecWhere, Any, Place, kind_of, computed_le}
+use Rattle.nla_wire.proofs.Tables.{Seen, held, as_it_is, Shaped, Reading, KeepsSize, Entry, both, IsForeign, shaping, having, frame_of, FitsAs, count_of, lines, all_hold, lined_lawful, foreign_kept}
 
 -- what a variant holds: its only field, or a tuple
 abbrev pub Held : List Field → Type 0
@@ -155,25 +155,29 @@ pub when_small : {S : Type 0} (base : S → Any) (N : Record) (ls : Table base N
 when_small base N ls h v small = (small, inside_all base always N.parts N.make ls h (N.as_values v))
 
 -- the place with these lines, which keeps what no line accepts
-abbrev pub place : {S : Type 0} (base : S → Any) (N : Record) (fewer enough : ℕ) (ls : Table base N always) (other : Frame → N.D)
+abbrev pub place : {S : Type 0} (base : S → Any) (N : Record) (factor fewer enough : ℕ) (ls : Table base N always) (other : Frame → N.D)
     → ((f : Frame) → view_of base N always ls (other f) ≡ as_it_is f)
-    → T (nat_le (8 + fewer) growth)
-    → T (all_hold base (view_of base N always ls) always fewer enough (entries_of base N always ls))
+    → T (nat_le (plain_growth + fewer) factor)
+    → T (nat_le factor growth)
+    → T (all_hold base (view_of base N always ls) always factor fewer enough (entries_of base N always ls))
     → Place N.D
-place base N fewer enough ls other same wide h = record {
+place base N factor fewer enough ls other same spare within h = record {
   grammar = lines base (view_of base N always ls) always (entries_of base N always ls) (kept other);
   frame = frame_of base (view_of base N always ls) always;
   Fits = FitsAs base (view_of base N always ls) always;
   count = count_of base (view_of base N always ls) always;
+  factor = factor;
   fewer = fewer;
+  spare = computed_le spare;
+  within = computed_le within;
   enough = enough;
   is_small = λ v fits. fits.0;
   is_flat = all_flat base always N.parts N.make ls;
   when_small = when_small base N ls;
   Foreign = IsForeign base (view_of base N always ls) always (entries_of base N always ls);
   kept = foreign_kept base (view_of base N always ls) always other same (entries_of base N always ls);
-  lawful = lined_lawful base (view_of base N always ls) always fewer enough other same
-      (wide_enough base (view_of base N always ls) always fewer wide) (entries_of base N always ls) h;
+  lawful = lined_lawful base (view_of base N always ls) always factor fewer enough other same
+      (computed_le spare) (entries_of base N always ls) h;
 }
 
 -- no line goes by a shape: the enums of most places are read variant by variant

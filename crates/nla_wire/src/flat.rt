@@ -18,6 +18,8 @@ pub enum Content<'a> {
     Text(&'a str),
     /// A number of one byte.
     U8(u8),
+    /// A number of two bytes.
+    U16(u16),
     /// A number of four bytes.
     U32(u32),
     /// A number of eight bytes.
@@ -36,6 +38,7 @@ impl Content<'_> {
             Content::Bytes(bytes) => bytes.len(),
             Content::Text(text) => text.len() + 1,
             Content::U8(_) => 1,
+            Content::U16(_) => 2,
             Content::U32(_) => 4,
             Content::U64(_) => 8,
             Content::I32(_) => 4,
@@ -52,6 +55,7 @@ impl Content<'_> {
             Content::Bytes(bytes) => fill_bytes(buffer, bytes),
             Content::Text(text) => fill_text(buffer, text),
             Content::U8(n) => fill_bytes(buffer, &[*n]),
+            Content::U16(n) => fill_bytes(buffer, &n.to_le_bytes()),
             Content::U32(n) => fill_bytes(buffer, &n.to_le_bytes()),
             Content::U64(n) => fill_bytes(buffer, &n.to_le_bytes()),
             Content::I32(n) => fill_bytes(buffer, &n.to_le_bytes()),

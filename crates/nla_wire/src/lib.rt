@@ -12,6 +12,7 @@ pub mod fill;
 pub mod flat;
 pub mod iterator;
 pub mod laws;
+pub mod leaf;
 pub mod nla;
 pub mod number;
 pub mod read;
@@ -31,6 +32,7 @@ pub use exact::Exact;
 pub use fill::{fill_bytes, fill_text};
 pub use flat::{Content, Flat};
 pub use iterator::NlasIterator;
+pub use leaf::Leaf;
 pub use nla::{Nla, emit_nlas, list_fits, nlas_buffer_len, nlas_fill, nlas_fit};
 pub use number::{
     emit_i32, emit_u16, emit_u32, emit_u64, parse_i32, parse_ipv6_addr, parse_u8, parse_u16,

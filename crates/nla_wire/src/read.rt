@@ -15,7 +15,8 @@ use crate::iterator::NlasIterator;
 use crate::nla::Nla;
 use std::alloc::Global;
 
-/// The number of the members that are read where others are dropped: `IFLA_VF_INFO` and `IFLA_VF_PORT` (linux/if_link.h).
+/// The number of the members that are read where others are dropped: `IFLA_VF_INFO` and `IFLA_VF_PORT`
+/// (linux/if_link.h).
 const PICKED_KIND: u16 = 1;
 
 /// A place of the grammar: it says how an attribute there is read as a value of `V`.
@@ -37,8 +38,8 @@ pub trait Place<V: Nla + Drop> {
     /// Writes the canonical text of an attribute's value to the front of the buffer, with no memory taken, and answers
     /// its length. The rest of the buffer is kept.
     ///
-    /// The buffer has 77 bytes for each byte of the attribute's header and payload. Answers `None` where the value does
-    /// not fit, and the buffer's bytes are open then.
+    /// The buffer has `growth_per_byte` bytes for each byte of the attribute's header and payload. Answers `None` where
+    /// the value does not fit, and the buffer's bytes are open then.
     fn canon(&self, buffer: &NlaBuffer<'_>, out: &mut [u8]) -> Option<usize>
         requires accepted { IsOk ((grammar self.now).reads buffer.now) }
         requires room { growth_per_byte * (4 + length buffer.now.payload) ≤ length out.old }
@@ -87,8 +88,8 @@ pub fn check_members<V: Nla + Drop, P: Place<V>>(place: &P, bytes: &[u8]) -> Res
 /// Writes the canonical text of a list's members, one behind the other, to the front of the buffer, with no memory
 /// taken, and answers its length. The rest of the buffer is kept.
 ///
-/// The buffer has 77 bytes for each byte of the list. Answers `None` where a member does not fit, and the buffer's
-/// bytes are open then.
+/// The buffer has `growth_per_byte` bytes for each byte of the list. Answers `None` where a member does not fit, and
+/// the buffer's bytes are open then.
 pub fn canon_members<V: Nla + Drop, P: Place<V>>(
     place: &P,
     bytes: &[u8],
@@ -224,8 +225,8 @@ pub trait NlaRead: Nla + Drop {
     /// Writes the canonical text of an attribute's value to the front of the buffer, with no memory taken, and answers
     /// its length. The rest of the buffer is kept.
     ///
-    /// The buffer has 77 bytes for each byte of the attribute's header and payload. Answers `None` where the value does
-    /// not fit, and the buffer's bytes are open then.
+    /// The buffer has `growth_per_byte` bytes for each byte of the attribute's header and payload. Answers `None` where
+    /// the value does not fit, and the buffer's bytes are open then.
     fn canon(buffer: &NlaBuffer<'_>, out: &mut [u8]) -> Option<usize>
         requires accepted { IsOk (grammar.reads buffer.now) }
         requires room { growth_per_byte * (4 + length buffer.now.payload) ≤ length out.old }
@@ -270,8 +271,8 @@ pub trait NlaRead: Nla + Drop {
     /// Writes the canonical text of a list of these attributes to the front of the buffer, with no memory taken, and
     /// answers its length. The rest of the buffer is kept.
     ///
-    /// The buffer has 77 bytes for each byte of the list. Answers `None` where a member does not fit, and the buffer's
-    /// bytes are open then.
+    /// The buffer has `growth_per_byte` bytes for each byte of the list. Answers `None` where a member does not fit,
+    /// and the buffer's bytes are open then.
     final fn canon_list(bytes: &[u8], out: &mut [u8]) -> Option<usize>
     where
         Self: Sized,
@@ -311,7 +312,8 @@ pub trait NlaRead: Nla + Drop {
         parse_picked_members::<Self, OwnPlace>(&OwnPlace, alloc, bytes)
     }
 
-    /// Whether the bytes are a list of these attributes of which those with number 1 have a value, with no memory taken.
+    /// Whether the bytes are a list of these attributes of which those with number 1 have a value, with no memory
+    /// taken.
     final fn check_picked(bytes: &[u8]) -> Result<(), DecodeError>
     where
         Self: Sized,
