@@ -7,3 +7,4 @@ pub mod Inet6StatsLemmas
 pub mod Icmp6StatsLemmas
 pub mod Inet6CacheInfoLemmas
 pub mod MapLemmas
+pub mod FilledLemmas

@@ -59,6 +59,7 @@ inet6_stats_members v =
     v.in_ce_pkts ∷
     v.reasm_overlaps ∷
     v.out_pkts ∷
+    v.reserved_39 ∷
     []
 
 -- the same as one word, which clauses and their readers need not open
@@ -106,6 +107,7 @@ inet6_stats_by field = record {
   in_ce_pkts = field 35;
   reasm_overlaps = field 36;
   out_pkts = field 37;
+  reserved_39 = field 38;
 }
 
 -- what a payload means, with zeros behind it

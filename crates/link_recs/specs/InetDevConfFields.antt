@@ -54,6 +54,7 @@ inet_dev_conf_members v =
     v.drop_gratuitous_arp ∷
     v.bc_forwarding ∷
     v.arp_evict_nocarrier ∷
+    v.reserved_34 ∷
     []
 
 -- the same as one word, which clauses and their readers need not open
@@ -96,6 +97,7 @@ inet_dev_conf_by field = record {
   drop_gratuitous_arp = field 30;
   bc_forwarding = field 31;
   arp_evict_nocarrier = field 32;
+  reserved_34 = field 33;
 }
 
 -- what a payload means, with zeros behind it

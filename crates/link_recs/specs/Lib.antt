@@ -9,3 +9,4 @@ pub mod Inet6StatsFields
 pub mod Icmp6StatsFields
 pub mod Inet6CacheInfoFields
 pub mod MapFields
+pub mod Filled

@@ -14,7 +14,7 @@ use nla_wire::fields::put_i32s;
 use nla_wire::{DecodeError, Exact, PlainRecord, Record, RecordBuffer};
 
 /// The number of fields of a record.
-pub const INET_DEV_CONF_COUNT: usize = 33;
+pub const INET_DEV_CONF_COUNT: usize = 34;
 
 /// The number of bytes of a record.
 pub const INET_DEV_CONF_SIZE: usize = 4 * INET_DEV_CONF_COUNT;
@@ -23,7 +23,7 @@ pub const INET_DEV_CONF_SIZE: usize = 4 * INET_DEV_CONF_COUNT;
 ///
 /// `INET_DEV_CONF_COUNT` signed numbers of four bytes each, lowest byte first, in the order of the constants
 /// IPV4_DEVCONF_* of linux/ip.h, which count from 1: setting number `n` stands at offset `4 * (n -
-/// 1)`.
+/// 1)`. The last field is no setting of the kernel's.
 #[derive(Clone, Copy, Debug, Default, PartialEq, Eq)]
 pub struct InetDevConf {
     pub forwarding: i32,
@@ -59,6 +59,8 @@ pub struct InetDevConf {
     pub drop_gratuitous_arp: i32,
     pub bc_forwarding: i32,
     pub arp_evict_nocarrier: i32,
+    /// Reserved: this project's own, and in no kernel. Zero where the payload is shorter.
+    pub reserved_34: i32,
 }
 
 impl InetDevConf {
@@ -100,6 +102,7 @@ impl InetDevConf {
             drop_gratuitous_arp: words[30],
             bc_forwarding: words[31],
             arp_evict_nocarrier: words[32],
+            reserved_34: words[33],
         }
     }
 
@@ -142,6 +145,7 @@ impl InetDevConf {
             self.drop_gratuitous_arp,
             self.bc_forwarding,
             self.arp_evict_nocarrier,
+            self.reserved_34,
         ]
     }
 }
@@ -223,7 +227,8 @@ impl InetDevConf {
         self.fill_back(buffer)
     }
 
-    /// The setting of this number, 1 to `INET_DEV_CONF_COUNT` as the constants IPV4_DEVCONF_* count them.
+    /// The setting of this number, 1 to `INET_DEV_CONF_COUNT` as the constants IPV4_DEVCONF_* count them; the last is
+    /// the field of this project's own.
     pub fn setting(&self, number: usize) -> i32
         requires low { 1 ≤ number }
         requires high { number ≤ INET_DEV_CONF_COUNT }

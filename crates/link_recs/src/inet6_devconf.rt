@@ -23,8 +23,8 @@ pub const INET6_DEV_CONF_SIZE: usize = 4 * INET6_DEV_CONF_COUNT;
 ///
 /// `INET6_DEV_CONF_COUNT` signed numbers of four bytes each, lowest byte first, in the order of the constants
 /// DEVCONF_* of linux/ipv6.h, which count from 0: setting number `n` stands at offset `4 * n`.
-/// Times are in milliseconds or, for lifetimes, in seconds, as the kernel's networking/ip-sysctl
-/// text says of each.
+/// Intervals and delays of solicitations, of reports and of probes are in milliseconds, as net/ipv6/addrconf.c turns them
+/// for netlink; the lifetimes `temp_valid_lft` and `temp_prefered_lft`, and `max_desync_factor`, are in seconds.
 #[derive(Clone, Copy, Debug, Default, PartialEq, Eq)]
 pub struct Inet6DevConf {
     pub forwarding: i32,

@@ -14,7 +14,7 @@ use nla_wire::fields::put_i64s;
 use nla_wire::{DecodeError, Exact, PlainRecord, Record, RecordBuffer};
 
 /// The number of fields of a record.
-pub const INET6_STATS_COUNT: usize = 38;
+pub const INET6_STATS_COUNT: usize = 39;
 
 /// The number of bytes of a record.
 pub const INET6_STATS_SIZE: usize = 8 * INET6_STATS_COUNT;
@@ -22,8 +22,9 @@ pub const INET6_STATS_SIZE: usize = 8 * INET6_STATS_COUNT;
 /// Counters of IPv6 on a link (IFLA_INET6_STATS).
 ///
 /// `INET6_STATS_COUNT` signed numbers of eight bytes each, lowest byte first, in the order of the
-/// constants IPSTATS_MIB_* of linux/snmp.h, which count from 0: counter number `n` stands at offset
-/// `8 * n`. `num` is the number of counters that the kernel sent.
+/// constants IPSTATS_MIB_* of linux/snmp.h in Linux 6.12, which count from 0: counter number `n` stands at
+/// offset `8 * n`. Other kernels may have another order. `num` is how many counters the kernel sent, itself
+/// among them. The last field is no counter of the kernel's.
 #[derive(Clone, Copy, Debug, Default, PartialEq, Eq)]
 pub struct Inet6Stats {
     pub num: i64,
@@ -64,6 +65,8 @@ pub struct Inet6Stats {
     pub in_ce_pkts: i64,
     pub reasm_overlaps: i64,
     pub out_pkts: i64,
+    /// Reserved: this project's own, and in no kernel. Zero where the payload is shorter.
+    pub reserved_39: i64,
 }
 
 impl Inet6Stats {
@@ -110,6 +113,7 @@ impl Inet6Stats {
             in_ce_pkts: words[35],
             reasm_overlaps: words[36],
             out_pkts: words[37],
+            reserved_39: words[38],
         }
     }
 
@@ -157,6 +161,7 @@ impl Inet6Stats {
             self.in_ce_pkts,
             self.reasm_overlaps,
             self.out_pkts,
+            self.reserved_39,
         ]
     }
 }

@@ -26,6 +26,7 @@ ghost use Rattle.link_recs.specs.declared.inet6_icmp.TheConstants.{ICMP6_STATS_C
 ghost use Rattle.link_recs.specs.Icmp6StatsFields.{icmp6_stats_size, icmp6_stats_fields, icmp6_stats_of, icmp6_stats_bytes};
 ghost use Rattle.link_recs.specs.declared.inet6_cache.TheConstants.{INET6_CACHE_INFO_COUNT};
 ghost use Rattle.link_recs.specs.Inet6CacheInfoFields.{inet6_cache_info_size, inet6_cache_info_fields, inet6_cache_info_of, inet6_cache_info_bytes};
+ghost use Rattle.link_recs.specs.Filled.{NoneIsLonger, OneIsAsLong};
 
 /// `Stats`.
 #[tactic(auto, using(crate::specs::StatsFields::stats_laws))]
@@ -67,6 +68,14 @@ pub fn icmp6_stats()
 #[tactic(auto, using(crate::specs::Inet6CacheInfoFields::inet6_cache_info_laws))]
 pub fn inet6_cache_info()
     ensures { WordLaws (FitsSigned w32) (signed_from w32) INET6_CACHE_INFO_COUNT inet6_cache_info_size inet6_cache_info_fields inet6_cache_info_of inet6_cache_info_bytes }
+{}
+
+/// Of the records that are filled up with zeros none is longer than `longest_filled`, from which the bound on canonical
+/// text is counted, and `Inet6Stats` is just as long.
+#[tactic(auto, using(crate::proofs::FilledLemmas::none_is_longer, crate::proofs::FilledLemmas::one_is_as_long))]
+pub fn filled()
+    ensures most { NoneIsLonger }
+    ensures reached { OneIsAsLong }
 {}
 
 /// `Map`: what is written reads back; zeros behind a payload and bytes behind a long one change nothing; a text has as

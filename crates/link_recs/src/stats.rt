@@ -23,7 +23,8 @@ pub const STATS_SIZE: usize = 4 * STATS_COUNT;
 ///
 /// `STATS_COUNT` numbers of four bytes each, lowest byte first, in the order of `struct
 /// rtnl_link_stats` in linux/if_link.h: field number `i`, counted from 0, stands at offset `4 * i`.
-/// Packets and errors are counted in frames, `rx_bytes` and `tx_bytes` in bytes.
+/// Packets and errors are counted in packets, `rx_bytes` and `tx_bytes` in bytes,
+/// `rx_over_errors` in events and `collisions` in collisions.
 #[derive(Clone, Copy, Debug, Default, PartialEq, Eq)]
 pub struct Stats {
     pub rx_packets: u32,

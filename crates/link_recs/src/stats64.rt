@@ -23,7 +23,8 @@ pub const STATS64_SIZE: usize = 8 * STATS64_COUNT;
 ///
 /// `STATS64_COUNT` numbers of eight bytes each, lowest byte first, in the order of `struct
 /// rtnl_link_stats64` in linux/if_link.h: field number `i`, counted from 0, stands at offset `8 *
-/// i`. Packets and errors are counted in frames, `rx_bytes` and `tx_bytes` in bytes.
+/// i`. Packets and errors are counted in packets, `rx_bytes` and `tx_bytes` in bytes,
+/// `rx_over_errors` in events and `collisions` in collisions.
 #[derive(Clone, Copy, Debug, Default, PartialEq, Eq)]
 pub struct Stats64 {
     pub rx_packets: u64,

@@ -1,5 +1,14 @@
 use crate::testing::{are, begin, got, is_read, is_same, prints_as, too_few, wrote};
+use link_recs::inet::{INET_DEV_CONF_COUNT, INET_DEV_CONF_SIZE};
+use link_recs::inet6_cache::INET6_CACHE_INFO_SIZE;
+use link_recs::inet6_devconf::INET6_DEV_CONF_SIZE;
+use link_recs::inet6_icmp::ICMP6_STATS_SIZE;
+use link_recs::inet6_stats::INET6_STATS_SIZE;
+use link_recs::map::MAP_SIZE;
+use link_recs::stats::STATS_SIZE;
+use link_recs::stats64::STATS64_SIZE;
 use link_recs::*;
+use nla_wire::NLA_HEADER_SIZE;
 
 fn put(buffer: &mut [u8], bytes: &[(usize, u8)]) {
     for (place, byte) in bytes {
@@ -12,7 +21,7 @@ fn put(buffer: &mut [u8], bytes: &[(usize, u8)]) {
 /// Offsets of the kernel's `struct rtnl_link_stats`, linux/if_link.h.
 #[test]
 fn statistics_stand_at_their_offsets(rt: HostRuntime) {
-    let mut bytes = [0; 96];
+    let mut bytes = [0; STATS_SIZE];
     put(&mut bytes, &[(0, 1), (32, 2), (60, 3), (92, 4)]);
     let stats = Stats {
         rx_packets: 1,
@@ -28,7 +37,7 @@ fn statistics_stand_at_their_offsets(rt: HostRuntime) {
 /// Offsets of the kernel's `struct rtnl_link_stats64`, linux/if_link.h.
 #[test]
 fn long_statistics_stand_at_their_offsets(rt: HostRuntime) {
-    let mut bytes = [0; 200];
+    let mut bytes = [0; STATS64_SIZE];
     put(
         &mut bytes,
         &[(0, 1), (64, 2), (120, 3), (192, 4), (199, 255)],
@@ -44,22 +53,23 @@ fn long_statistics_stand_at_their_offsets(rt: HostRuntime) {
     are(&rt, Stats64Buffer::from(&stats).as_bytes(), &bytes);
 }
 
-/// Settings of IPv4 with four numbers.
+/// Settings of IPv4 with five numbers.
 fn settings_of_ipv4() -> InetDevConf {
     InetDevConf {
         forwarding: 1,
         tag: 2,
         route_localnet: 3,
         arp_evict_nocarrier: 4,
+        reserved_34: 5,
         ..InetDevConf::default()
     }
 }
 
-/// Numbers of the constants IPV4_DEVCONF_* of linux/ip.h, from 1, times four.
+/// Numbers of the constants IPV4_DEVCONF_* of linux/ip.h, from 1, times four; behind them this project's own field.
 #[test]
 fn settings_of_ipv4_stand_at_their_offsets(rt: HostRuntime) {
-    let mut bytes = [0; 132];
-    put(&mut bytes, &[(0, 1), (44, 2), (100, 3), (128, 4)]);
+    let mut bytes = [0; INET_DEV_CONF_SIZE];
+    put(&mut bytes, &[(0, 1), (44, 2), (100, 3), (128, 4), (132, 5)]);
     let conf = settings_of_ipv4();
     is_same(&rt, &InetDevConf::read_padded(&bytes), &conf);
     are(&rt, InetDevConfBuffer::from(&conf).as_bytes(), &bytes);
@@ -74,14 +84,15 @@ fn settings_of_ipv4_have_numbers(rt: HostRuntime) {
         conf.setting(12),
         conf.setting(26),
         conf.setting(33),
+        conf.setting(INET_DEV_CONF_COUNT),
     ];
-    is_same(&rt, &found, &[1, 0, 2, 3, 4]);
+    is_same(&rt, &found, &[1, 0, 2, 3, 4, 5]);
 }
 
 /// Numbers of the constants DEVCONF_* of linux/ipv6.h, from 0, times four.
 #[test]
 fn settings_of_ipv6_stand_at_their_offsets(rt: HostRuntime) {
-    let mut bytes = [0; 240];
+    let mut bytes = [0; INET6_DEV_CONF_SIZE];
     put(
         &mut bytes,
         &[(0, 1), (104, 2), (176, 3), (232, 4), (236, 5)],
@@ -100,17 +111,21 @@ fn settings_of_ipv6_stand_at_their_offsets(rt: HostRuntime) {
     are(&rt, Inet6DevConfBuffer::from(&conf).as_bytes(), &bytes);
 }
 
-/// Numbers of the constants IPSTATS_MIB_* of linux/snmp.h, times eight.
+/// Numbers of the constants IPSTATS_MIB_* of linux/snmp.h, times eight; behind them this project's own field.
 #[test]
 fn counters_of_ipv6_stand_at_their_offsets(rt: HostRuntime) {
-    let mut bytes = [0; 304];
-    put(&mut bytes, &[(0, 1), (56, 2), (160, 3), (288, 4), (296, 5)]);
+    let mut bytes = [0; INET6_STATS_SIZE];
+    put(
+        &mut bytes,
+        &[(0, 1), (56, 2), (160, 3), (288, 4), (296, 5), (304, 6)],
+    );
     let stats = Inet6Stats {
         num: 1,
         in_hdr_errors: 2,
         frag_oks: 3,
         reasm_overlaps: 4,
         out_pkts: 5,
+        reserved_39: 6,
         ..Inet6Stats::default()
     };
     is_same(&rt, &Inet6Stats::read_padded(&bytes), &stats);
@@ -120,7 +135,7 @@ fn counters_of_ipv6_stand_at_their_offsets(rt: HostRuntime) {
 /// Numbers of the constants ICMP6_MIB_* of linux/snmp.h, times eight.
 #[test]
 fn counters_of_icmpv6_stand_at_their_offsets(rt: HostRuntime) {
-    let mut bytes = [0; 56];
+    let mut bytes = [0; ICMP6_STATS_SIZE];
     put(&mut bytes, &[(0, 1), (16, 2), (32, 3), (48, 4), (55, 128)]);
     let stats = Icmp6Stats {
         num: 1,
@@ -136,7 +151,7 @@ fn counters_of_icmpv6_stand_at_their_offsets(rt: HostRuntime) {
 /// Offsets of `struct rtnl_link_ifmap`, linux/if_link.h.
 #[test]
 fn maps_stand_at_their_offsets(rt: HostRuntime) {
-    let mut bytes = [0; 32];
+    let mut bytes = [0; MAP_SIZE];
     put(&mut bytes, &[(0, 1), (16, 2), (25, 3), (26, 5), (27, 4)]);
     let map = Map {
         memory_start: 1,
@@ -172,7 +187,7 @@ fn short_statistics_are_filled_up(rt: HostRuntime) {
     };
     is_read(&rt, Stats::parse(&[1, 2, 3]), &stats);
     is_read(&rt, Stats::parse(&[]), &Stats::default());
-    is_read(&rt, Stats::parse(&[0; 95]), &Stats::default());
+    is_read(&rt, Stats::parse(&[0; STATS_SIZE - 1]), &Stats::default());
     let stats = Stats64 {
         rx_packets: 5,
         ..Stats64::default()
@@ -191,48 +206,70 @@ fn short_settings_are_filled_up(rt: HostRuntime) {
     is_same(&rt, &read, &conf);
 }
 
+/// The records of the kernel, which are shorter by the field of this project's own, mean a zero there.
+#[test]
+fn records_of_the_kernel_are_filled_up(rt: HostRuntime) {
+    let conf = InetDevConf {
+        arp_evict_nocarrier: -1,
+        ..InetDevConf::default()
+    };
+    let mut bytes = [0; INET_DEV_CONF_SIZE - 4];
+    put(
+        &mut bytes,
+        &[(128, 255), (129, 255), (130, 255), (131, 255)],
+    );
+    is_same(&rt, &InetDevConf::read_padded(&bytes), &conf);
+    let stats = Inet6Stats {
+        out_pkts: 7,
+        ..Inet6Stats::default()
+    };
+    let mut bytes = [0; INET6_STATS_SIZE - 8];
+    put(&mut bytes, &[(296, 7)]);
+    is_same(&rt, &Inet6Stats::read_padded(&bytes), &stats);
+}
+
 #[test]
 fn payloads_are_cut_or_filled_up(rt: HostRuntime) {
-    let mut out = [255; 309];
+    let mut out = [255; NLA_HEADER_SIZE + INET6_STATS_SIZE + 1];
     wrote(
         &rt,
         Stats::canon(7, &[1], &mut out),
-        100,
+        NLA_HEADER_SIZE + STATS_SIZE,
         &out,
         &[100, 0, 7, 0, 1, 0],
     );
     wrote(
         &rt,
         Stats64::canon(23, &[2], &mut out),
-        204,
+        NLA_HEADER_SIZE + STATS64_SIZE,
         &out,
         &[204, 0, 23, 0, 2, 0],
     );
     wrote(
         &rt,
         InetDevConf::canon(1, &[3], &mut out),
-        136,
+        NLA_HEADER_SIZE + INET_DEV_CONF_SIZE,
         &out,
-        &[136, 0, 1, 0, 3, 0],
+        &[140, 0, 1, 0, 3, 0],
     );
     wrote(
         &rt,
         Inet6DevConf::canon(2, &[4], &mut out),
-        244,
+        NLA_HEADER_SIZE + INET6_DEV_CONF_SIZE,
         &out,
         &[244, 0, 2, 0, 4, 0],
     );
     wrote(
         &rt,
         Inet6Stats::canon(3, &[5], &mut out),
-        308,
+        NLA_HEADER_SIZE + INET6_STATS_SIZE,
         &out,
-        &[52, 1, 3, 0, 5, 0],
+        &[60, 1, 3, 0, 5, 0],
     );
     wrote(
         &rt,
         Icmp6Stats::canon(6, &[6], &mut out),
-        60,
+        NLA_HEADER_SIZE + ICMP6_STATS_SIZE,
         &out,
         &[60, 0, 6, 0, 6, 0],
     );
@@ -240,21 +277,21 @@ fn payloads_are_cut_or_filled_up(rt: HostRuntime) {
 
 #[test]
 fn payloads_are_written_as_records(rt: HostRuntime) {
-    let mut out = [255; 37];
-    let info = [7; 17];
+    let mut out = [255; NLA_HEADER_SIZE + MAP_SIZE + 1];
+    let info = [7; INET6_CACHE_INFO_SIZE + 1];
     wrote(
         &rt,
         Inet6CacheInfo::canon(5, &info, &mut out),
-        20,
+        NLA_HEADER_SIZE + INET6_CACHE_INFO_SIZE,
         &out,
         &[20, 0, 5, 0, 7],
     );
     assert!(rt; out[19] == 7 && out[20] == 255);
-    let map = [8; 32];
+    let map = [8; MAP_SIZE];
     wrote(
         &rt,
         Map::canon(14, &map, &mut out),
-        36,
+        NLA_HEADER_SIZE + MAP_SIZE,
         &out,
         &[36, 0, 14, 0, 8],
     );
@@ -263,10 +300,12 @@ fn payloads_are_written_as_records(rt: HostRuntime) {
 
 #[test]
 fn short_payloads_are_refused(rt: HostRuntime) {
-    let zeros = [0; 303];
-    too_few(&rt, InetDevConf::parse(&zeros[..131]), 131, 132);
+    let zeros = [0; 311];
+    too_few(&rt, InetDevConf::parse(&zeros[..131]), 131, 136);
+    too_few(&rt, InetDevConf::parse(&zeros[..135]), 135, 136);
     too_few(&rt, Inet6DevConf::parse(&zeros[..239]), 239, 240);
-    too_few(&rt, Inet6Stats::parse(&zeros), 303, 304);
+    too_few(&rt, Inet6Stats::parse(&zeros[..303]), 303, 312);
+    too_few(&rt, Inet6Stats::parse(&zeros), 311, 312);
     too_few(&rt, Icmp6Stats::parse(&zeros[..55]), 55, 56);
     too_few(&rt, Inet6CacheInfo::parse(&zeros[..15]), 15, 16);
     too_few(&rt, Map::parse(&zeros[..31]), 31, 32);
@@ -283,17 +322,17 @@ fn long_payloads_mean_their_front(rt: HostRuntime) {
         dma: 255,
         port: 255,
     };
-    is_read(&rt, Map::parse(&[255; 33]), &map);
-    let mut text = [255; 32];
+    is_read(&rt, Map::parse(&[255; MAP_SIZE + 1]), &map);
+    let mut text = [255; MAP_SIZE];
     put(&mut text, &[(28, 0), (29, 0), (30, 0), (31, 0)]);
     are(&rt, MapBuffer::from(&map).as_bytes(), &text);
-    is_read(&rt, Stats::parse(&[0; 97]), &Stats::default());
+    is_read(&rt, Stats::parse(&[0; STATS_SIZE + 1]), &Stats::default());
 }
 
 #[test]
 fn buffers_keep_padding(rt: HostRuntime) {
-    let (buffer, rest) = got(&rt, MapBuffer::read_from_prefix(&[255; 33]));
-    are(&rt, buffer.as_bytes(), &[255; 32]);
+    let (buffer, rest) = got(&rt, MapBuffer::read_from_prefix(&[255; MAP_SIZE + 1]));
+    are(&rt, buffer.as_bytes(), &[255; MAP_SIZE]);
     are(&rt, rest, &[255]);
 }
 
@@ -303,8 +342,8 @@ fn texts_stand_at_the_end_of_a_longer_buffer(rt: HostRuntime) {
         num: 7,
         ..Icmp6Stats::default()
     };
-    let mut buffer = [9; 58];
-    assert!(rt; stats.buffer_len() == 56);
+    let mut buffer = [9; ICMP6_STATS_SIZE + 2];
+    assert!(rt; stats.buffer_len() == ICMP6_STATS_SIZE);
     assert!(rt; stats.fill(&mut buffer) == 2);
     begin(&rt, &buffer, &[9, 9, 7, 0]);
     is_read(&rt, Icmp6Stats::parse(&buffer[2..]), &stats);
@@ -316,7 +355,7 @@ fn maps_stand_at_the_end_of_a_longer_buffer(rt: HostRuntime) {
         port: 3,
         ..Map::default()
     };
-    let mut buffer = [9; 33];
+    let mut buffer = [9; MAP_SIZE + 1];
     assert!(rt; map.fill(&mut buffer) == 1);
     assert!(rt; buffer[0] == 9);
     is_read(&rt, Map::parse(&buffer[1..]), &map);

@@ -1,10 +1,15 @@
 //! What the tests share.
 
+use link_recs::inet6_stats::INET6_STATS_SIZE;
 use nla_wire::exact::same;
-use nla_wire::{Cause, CloneIn, DecodeError, Exact};
+use nla_wire::{Cause, CloneIn, DecodeError, Exact, NLA_HEADER_SIZE};
 use std::alloc::Global;
 use std::fmt::{Debug, Display};
 use std::process::Abort;
+
+/// The bytes of buffer that a call with no memory asks for each byte that it reads: a header alone may become one of
+/// the longest record.
+pub(crate) const GROWTH: usize = (NLA_HEADER_SIZE + INET6_STATS_SIZE) / NLA_HEADER_SIZE;
 
 /// The bytes are these.
 pub(crate) fn are(rt: &impl Abort, bytes: &[u8], wanted: &[u8]) {

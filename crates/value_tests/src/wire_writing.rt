@@ -1,6 +1,6 @@
 //! Attributes written again from payloads, with no memory.
 
-use crate::testing::{got, wrote};
+use crate::testing::{GROWTH, got, wrote};
 use nla_wire::Nla;
 use nla_wire::canon::{
     canon_bytes, canon_filled, canon_i32, canon_ipv6_addr, canon_of, canon_text, canon_u8,
@@ -28,7 +28,7 @@ fn writes_short_payloads(rt: HostRuntime) {
 
 #[test]
 fn writes_long_payloads(rt: HostRuntime) {
-    let mut out = [255; 1540];
+    let mut out = [255; 20 * GROWTH];
     let len = canon_i32(28, &[255; 4], &mut out);
     wrote(&rt, len, 8, &out, &[8, 0, 28, 0, 255, 255, 255, 255]);
     let len = canon_u64(0, &[1, 0, 0, 0, 0, 0, 0, 2], &mut out);
