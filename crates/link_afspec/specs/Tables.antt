@@ -7,7 +7,7 @@
 use Rattle.std.specs.Prelude.{◌≤◌, true, length, refl}
 use Rattle.std.proofs.Common.{lit≤}
 use Rattle.std.specs.Int.{w8, w32}
-use Rattle.nla_wire.specs.Sizes.{most_payload, slack, inner_small}
+use Rattle.nla_wire.specs.Sizes.{most_payload, plain_growth, growth, slack, inner_small}
 use Rattle.nla_wire.proofs.Lawful.{always}
 use Rattle.nla_wire.proofs.Codec.{Codec, Place, kind_of, u32, enum, address, sized_record, filled_record, some_of}
 use Rattle.nla_wire.proofs.Variants.{Table, place, no_shapes, line, emits, keeps, ◌&◌}
@@ -66,7 +66,7 @@ af_spec_mctp_table =
     & tt
 
 unfoldable pub af_spec_mctp_place : Place AfSpecMctp
-af_spec_mctp_place = place no_shapes mctps slack inner_small af_spec_mctp_table mctp.Other (λ f. refl) tt tt
+af_spec_mctp_place = place no_shapes mctps plain_growth 0 inner_small af_spec_mctp_table mctp.Other (λ f. refl) tt tt tt
 
 pub af_spec_mctp_small : (v : AfSpecMctp) → length (af_spec_mctp_place.frame v).payload ≤ most_payload → af_spec_mctp_place.Fits v
 unfolding af_spec_mctp_place
@@ -86,7 +86,7 @@ af_spec_inet_table =
     & tt
 
 unfoldable pub af_spec_inet_place : Place AfSpecInet
-af_spec_inet_place = place no_shapes inets 0 inner_small af_spec_inet_table inet.Other (λ f. refl) tt tt
+af_spec_inet_place = place no_shapes inets growth 0 inner_small af_spec_inet_table inet.Other (λ f. refl) tt tt tt
 
 -- ** members of AF_INET6
 
@@ -126,7 +126,7 @@ af_spec_inet6_table =
     & tt
 
 unfoldable pub af_spec_inet6_place : Place AfSpecInet6
-af_spec_inet6_place = place no_shapes inet6s 0 inner_small af_spec_inet6_table inet6.Other (λ f. refl) tt tt
+af_spec_inet6_place = place no_shapes inet6s growth 0 inner_small af_spec_inet6_table inet6.Other (λ f. refl) tt tt tt
 
 -- ** members of IFLA_AF_SPEC of the family AF_UNSPEC
 
@@ -140,7 +140,7 @@ af_spec_unspec_table =
 
 unfoldable pub af_spec_unspec_place : Place AfSpecUnspec
 unfolding af_spec_inet_place af_spec_inet6_place af_spec_mctp_place
-af_spec_unspec_place = place no_shapes unspecs slack inner_small af_spec_unspec_table unspec.Other (λ f. refl) tt tt
+af_spec_unspec_place = place no_shapes unspecs growth slack inner_small af_spec_unspec_table unspec.Other (λ f. refl) tt tt tt
 
 -- ** members of IFLA_AF_SPEC of the family AF_BRIDGE, and of IFLA_PROTINFO: no number is listed
 
@@ -148,7 +148,7 @@ abbrev pub af_spec_bridge_table : Table no_shapes bridges always
 af_spec_bridge_table = keeps bridge.Other & tt
 
 unfoldable pub af_spec_bridge_place : Place AfSpecBridge
-af_spec_bridge_place = place no_shapes bridges slack inner_small af_spec_bridge_table bridge.Other (λ f. refl) tt tt
+af_spec_bridge_place = place no_shapes bridges plain_growth 0 inner_small af_spec_bridge_table bridge.Other (λ f. refl) tt tt tt
 
 pub af_spec_bridge_small : (v : AfSpecBridge) → length (af_spec_bridge_place.frame v).payload ≤ most_payload → af_spec_bridge_place.Fits v
 unfolding af_spec_bridge_place
@@ -158,7 +158,7 @@ abbrev pub link_proto_info_bridge_table : Table no_shapes proto_bridges always
 link_proto_info_bridge_table = keeps proto_bridge.Other & tt
 
 unfoldable pub link_proto_info_bridge_place : Place LinkProtoInfoBridge
-link_proto_info_bridge_place = place no_shapes proto_bridges slack inner_small link_proto_info_bridge_table proto_bridge.Other (λ f. refl) tt tt
+link_proto_info_bridge_place = place no_shapes proto_bridges plain_growth 0 inner_small link_proto_info_bridge_table proto_bridge.Other (λ f. refl) tt tt tt
 
 pub link_proto_info_bridge_small : (v : LinkProtoInfoBridge) → length (link_proto_info_bridge_place.frame v).payload ≤ most_payload → link_proto_info_bridge_place.Fits v
 unfolding link_proto_info_bridge_place
@@ -168,7 +168,7 @@ abbrev pub link_proto_info_inet6_table : Table no_shapes proto_inet6s always
 link_proto_info_inet6_table = keeps proto_inet6.Other & tt
 
 unfoldable pub link_proto_info_inet6_place : Place LinkProtoInfoInet6
-link_proto_info_inet6_place = place no_shapes proto_inet6s slack inner_small link_proto_info_inet6_table proto_inet6.Other (λ f. refl) tt tt
+link_proto_info_inet6_place = place no_shapes proto_inet6s plain_growth 0 inner_small link_proto_info_inet6_table proto_inet6.Other (λ f. refl) tt tt tt
 
 pub link_proto_info_inet6_small : (v : LinkProtoInfoInet6) → length (link_proto_info_inet6_place.frame v).payload ≤ most_payload → link_proto_info_inet6_place.Fits v
 unfolding link_proto_info_inet6_place

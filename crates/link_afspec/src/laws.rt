@@ -1,13 +1,14 @@
 //! Laws of settings by family, each the contract of a function that does nothing.
 //!
-//! Of each place: a value that some frame means there, and that fits, is what the frame of its canonical text means there;
-//! so are the values of a list. A list's payload has at least four bytes for each value, those inside of others among them.
-//! Its canonical text has at most 308 bytes for each whole four bytes of the payload, and 300 fewer for each member, save
-//! the lists whose members may be records that are filled up. A frame that no line of the table reads is kept: its kind, both
-//! flag bits and its payload come back.
+//! Of each place: a value that some frame means there, and that fits, is what the frame of its canonical text means
+//! there; so are the values of a list. A list's payload has at least four bytes for each value, those inside of others
+//! among them. Its canonical text has at most `plain_growth` bytes, which is 8, for each whole four bytes of the
+//! payload, where nothing is filled up; members of AF_INET and AF_INET6 may be records that are, and take `growth`; so
+//! does a list of such lists, with `slack` fewer for each member. A frame that no line of the table reads is kept: its
+//! kind, both flag bits and its payload come back.
 
 ghost use Rattle.std.specs.Prelude.{◌≡◌, [], ◌∷◌};
-ghost use Rattle.nla_wire.specs.Sizes.{slack};
+ghost use Rattle.nla_wire.specs.Sizes.{plain_growth, growth, slack};
 ghost use Rattle.nla_wire.specs.Canon.{canon};
 ghost use Rattle.nla_wire.proofs.Codec.{IsLawful};
 ghost use Rattle.link_recs.specs.InetDevConfFields.{inet_dev_conf_size};
@@ -25,38 +26,38 @@ ghost use Rattle.link_afspec.specs.declared.unspec.AfSpecUnspec.TheVariants.{Mct
 
 /// `AfSpecMctp`, members of AF_MCTP in IFLA_AF_SPEC.
 pub fn law_af_spec_mctp()
-    ensures { IsLawful slack af_spec_mctp_place }
+    ensures { IsLawful plain_growth 0 af_spec_mctp_place }
 {}
 
 /// `AfSpecInet`, members of AF_INET in IFLA_AF_SPEC; no bytes mean a request.
 pub fn law_af_spec_inet()
-    ensures lawful { IsLawful 0 af_spec_inet_place }
+    ensures lawful { IsLawful growth 0 af_spec_inet_place }
     ensures request { NeverRead af_spec_inet_place.grammar.means DevConfRequest }
 {}
 
 /// `AfSpecInet6`, members of AF_INET6 in IFLA_AF_SPEC.
 pub fn law_af_spec_inet6()
-    ensures { IsLawful 0 af_spec_inet6_place }
+    ensures { IsLawful growth 0 af_spec_inet6_place }
 {}
 
 /// `AfSpecUnspec`, members of IFLA_AF_SPEC of the family AF_UNSPEC.
 pub fn law_af_spec_unspec()
-    ensures { IsLawful slack af_spec_unspec_place }
+    ensures { IsLawful growth slack af_spec_unspec_place }
 {}
 
 /// `AfSpecBridge`, members of IFLA_AF_SPEC of the family AF_BRIDGE.
 pub fn law_af_spec_bridge()
-    ensures { IsLawful slack af_spec_bridge_place }
+    ensures { IsLawful plain_growth 0 af_spec_bridge_place }
 {}
 
 /// `LinkProtoInfoBridge`, members of IFLA_PROTINFO of the family AF_BRIDGE.
 pub fn law_link_proto_info_bridge()
-    ensures { IsLawful slack link_proto_info_bridge_place }
+    ensures { IsLawful plain_growth 0 link_proto_info_bridge_place }
 {}
 
 /// `LinkProtoInfoInet6`, members of IFLA_PROTINFO of the family AF_INET6.
 pub fn law_link_proto_info_inet6()
-    ensures { IsLawful slack link_proto_info_inet6_place }
+    ensures { IsLawful plain_growth 0 link_proto_info_inet6_place }
 {}
 
 /// A packet size of 1500 bytes is written as the length 8, the number 9, and four bytes, lowest first.
@@ -66,16 +67,16 @@ pub fn law_ra_mtu_in_bytes()
         ≡ 0x08 ∷ 0x00 ∷ 0x09 ∷ 0x00 ∷ 0xdc ∷ 0x05 ∷ 0x00 ∷ 0x00 ∷ [] }
 {}
 
-/// Settings of MCTP with one network, of number 1, are written as the length 12, the number 45 without the nested flag, and
-/// one attribute: the length 8, the number 1, and four bytes.
+/// Settings of MCTP with one network, of number 1, are written as the length 12, the number 45 without the nested flag,
+/// and one attribute: the length 8, the number 1, and four bytes.
 #[tactic(auto, unfolding(crate::specs::Tables::af_spec_unspec_place, crate::specs::Tables::af_spec_mctp_place))]
 pub fn law_mctp_net_in_bytes()
     ensures { canon (af_spec_unspec_place.frame (Mctp (Net 1 ∷ [])))
         ≡ 0x0c ∷ 0x00 ∷ 0x2d ∷ 0x00 ∷ 0x08 ∷ 0x00 ∷ 0x01 ∷ 0x00 ∷ 0x01 ∷ 0x00 ∷ 0x00 ∷ 0x00 ∷ [] }
 {}
 
-/// Records that are filled up: settings and statistics mean the same with zeros added to the payload. One longer than its
-/// record means the same as its beginning.
+/// Records that are filled up: settings and statistics mean the same with zeros added to the payload. One longer than
+/// its record means the same as its beginning.
 pub fn law_short_records()
     ensures inet_zeros { ZerosAdded af_spec_inet_place.grammar.means IFLA_INET_CONF }
     ensures inet_longer { LongerIgnored af_spec_inet_place.grammar.means IFLA_INET_CONF inet_dev_conf_size }

@@ -6,7 +6,7 @@
 -- values it is, and `.lawful` holds what is proved of them.
 use Rattle.std.specs.Prelude.{◌≤◌, length, refl}
 use Rattle.std.specs.Int.{w8}
-use Rattle.nla_wire.specs.Sizes.{most_payload, slack, inner_small}
+use Rattle.nla_wire.specs.Sizes.{most_payload, plain_growth, inner_small}
 use Rattle.nla_wire.proofs.Lawful.{always}
 use Rattle.nla_wire.proofs.Codec.{Codec, Place, text, u32, i32, enum}
 use Rattle.nla_wire.proofs.Variants.{Table, place, no_shapes, line, keeps, ◌&◌}
@@ -41,7 +41,7 @@ prop_table =
     & tt
 
 unfoldable pub prop_place : Place Prop
-prop_place = place no_shapes props slack inner_small prop_table prop.Other (λ f. refl) tt tt
+prop_place = place no_shapes props plain_growth 0 inner_small prop_table prop.Other (λ f. refl) tt tt tt
 
 pub prop_small : (v : Prop) → length (prop_place.frame v).payload ≤ most_payload → prop_place.Fits v
 unfolding prop_place
@@ -57,7 +57,7 @@ devlink_port_table =
     & tt
 
 unfoldable pub devlink_port_place : Place DevlinkPort
-devlink_port_place = place no_shapes ports slack inner_small devlink_port_table port.Other (λ f. refl) tt tt
+devlink_port_place = place no_shapes ports plain_growth 0 inner_small devlink_port_table port.Other (λ f. refl) tt tt tt
 
 pub devlink_port_small : (v : DevlinkPort) → length (devlink_port_place.frame v).payload ≤ most_payload → devlink_port_place.Fits v
 unfolding devlink_port_place
@@ -71,7 +71,7 @@ dpll_pin_table =
     & tt
 
 unfoldable pub dpll_pin_place : Place DpllPin
-dpll_pin_place = place no_shapes pins slack inner_small dpll_pin_table pin.Other (λ f. refl) tt tt
+dpll_pin_place = place no_shapes pins plain_growth 0 inner_small dpll_pin_table pin.Other (λ f. refl) tt tt tt
 
 pub dpll_pin_small : (v : DpllPin) → length (dpll_pin_place.frame v).payload ≤ most_payload → dpll_pin_place.Fits v
 unfolding dpll_pin_place
@@ -86,7 +86,7 @@ down_reason_table =
     & tt
 
 unfoldable pub down_reason_place : Place LinkProtocolDownReason
-down_reason_place = place no_shapes reasons slack inner_small down_reason_table reason.Other (λ f. refl) tt tt
+down_reason_place = place no_shapes reasons plain_growth 0 inner_small down_reason_table reason.Other (λ f. refl) tt tt tt
 
 pub down_reason_small : (v : LinkProtocolDownReason) → length (down_reason_place.frame v).payload ≤ most_payload → down_reason_place.Fits v
 unfolding down_reason_place
@@ -111,7 +111,7 @@ xdp_table =
     & tt
 
 unfoldable pub xdp_place : Place LinkXdp
-xdp_place = place no_shapes xdps slack inner_small xdp_table xdp.Other (λ f. refl) tt tt
+xdp_place = place no_shapes xdps plain_growth 0 inner_small xdp_table xdp.Other (λ f. refl) tt tt tt
 
 pub xdp_small : (v : LinkXdp) → length (xdp_place.frame v).payload ≤ most_payload → xdp_place.Fits v
 unfolding xdp_place
@@ -125,7 +125,7 @@ link_info_table =
     & tt
 
 unfoldable pub link_info_place : Place LinkInfo
-link_info_place = place no_shapes infos slack inner_small link_info_table info.Other (λ f. refl) tt tt
+link_info_place = place no_shapes infos plain_growth 0 inner_small link_info_table info.Other (λ f. refl) tt tt tt
 
 pub link_info_small : (v : LinkInfo) → length (link_info_place.frame v).payload ≤ most_payload → link_info_place.Fits v
 unfolding link_info_place

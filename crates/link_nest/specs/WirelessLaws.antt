@@ -2,7 +2,7 @@
 use Rattle.std.specs.Prelude.{refl}
 use Rattle.std.specs.Int.{w16, to_le_bytes}
 use Rattle.std.proofs.Common.{◌≡◌, ℕ, ◌+◌, ◌≤◌, ◌<◌, ◌^◌, ◌==◌, Bool, true, false, if◌then◌else◌, List, ◌∷◌, length, drop, sym, ap, subst, ◌∙◌, arith, lit<, length-drop}
-use Rattle.nla_wire.specs.Sizes.{most_payload, growth, slack}
+use Rattle.nla_wire.specs.Sizes.{most_payload, plain_growth}
 use Rattle.nla_wire.specs.Fields.{number_at}
 use Rattle.nla_wire.proofs.FieldLemmas.{number_again_between}
 use Rattle.nla_wire.proofs.Agreement.{sized_agrees}
@@ -44,7 +44,7 @@ wireless_again p v means =
     subst (λ w. w ≡ wireless_of (wireless_text w)) (sym means.1)
     (read_again (number_at w16 p 2 == IWEVASSOCREQIE) (number_at w16 p 2 == IWEVASSOCRESPIE) p refl)
 
-pub wireless_lawful : (n : ℕ) → n ≤ most_payload → LawfulPayload wireless_event wireless_text always always none growth slack n
+pub wireless_lawful : (n : ℕ) → n ≤ most_payload → LawfulPayload wireless_event wireless_text always always none plain_growth 0 n
 wireless_lawful n enough = record {
   agrees = sized_agrees 8 wireless_of;
   no_memory = memory_sized 8 wireless_of;

@@ -22,7 +22,9 @@ const MOST_TEXT_LEN: usize = 65531;
 /// The value of IFLA_WIRELESS: an event of the wireless extensions (`struct iw_event` of linux/wireless.h).
 ///
 /// A length of two bytes, which counts the whole event and is not looked at when it is read, a command of two bytes, four
-/// bytes of padding, and then the event's bytes.
+/// bytes of padding, and then the event's bytes. On a 64-bit machine the two events that are read begin, after the padding,
+/// with the length and the flags of their data, two bytes each, and four more of padding: these are kept as the first eight
+/// of the event's bytes.
 #[derive(Debug, Drop, PartialEq, Eq)]
 pub enum WirelessEvent {
     /// IWEVASSOCREQIE: the information elements of an association request.

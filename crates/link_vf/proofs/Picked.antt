@@ -1,6 +1,5 @@
 -- Laws of lists of which only the members with the number 1 are read.
-use Rattle.std.proofs.Common.{◌≡◌, ◌≤◌, filter, ap, subst, ◌∙◌}
-use Rattle.nla_wire.specs.Sizes.{growth}
+use Rattle.std.proofs.Common.{◌≡◌, filter, ap, subst, ◌∙◌, arith}
 use Rattle.nla_wire.specs.Frames.{Frame, number}
 use Rattle.nla_wire.specs.Grammar.{Grammar, Every, is_one, picked}
 use Rattle.nla_wire.specs.PlaceLaws.{ListReadsBack, ListsBounded}
@@ -16,7 +15,7 @@ others_dropped place p q fs gs front back same vs means =
 
 module _ {V : Type 0} (p : Place V) where
   pub entries_again : ((v : V) → number (p.frame v) ≡ 1) → ListReadsBack (picked p.grammar).means p.frame p.Fits
-  entries_again = picked_reads_back p.grammar p.frame p.Fits p.count p.fewer p.enough p.lawful
+  entries_again = picked_reads_back p.grammar p.frame p.Fits p.count p.factor p.fewer p.enough p.lawful
 
-  pub entries_bounded : p.fewer ≤ growth → ListsBounded p.fewer (picked p.grammar).means p.count p.frame
-  entries_bounded = picked_bounded p.grammar p.frame p.Fits p.count p.fewer p.enough p.lawful
+  pub entries_bounded : ListsBounded p.factor p.fewer (picked p.grammar).means p.count p.frame
+  entries_bounded = picked_bounded p.grammar p.frame p.Fits p.count p.factor p.fewer p.enough p.lawful (omega (arith, p.spare))

@@ -6,7 +6,7 @@
 -- values it is, and `.lawful` holds what is proved of them.
 use Rattle.std.specs.Prelude.{◌≡◌, ◌≤◌, List, length, refl}
 use Rattle.std.proofs.Common.{lit<, lit≤}
-use Rattle.nla_wire.specs.Sizes.{most_payload, slack, inner_small}
+use Rattle.nla_wire.specs.Sizes.{most_payload, plain_growth, inner_small}
 use Rattle.nla_wire.specs.Frames.{number}
 use Rattle.nla_wire.proofs.Lawful.{always}
 use Rattle.nla_wire.proofs.Codec.{Codec, Place, u64, sized_record, list_of, some_of, picked_of, as_codec, place_of}
@@ -43,7 +43,7 @@ vf_stats_table =
     & tt
 
 unfoldable pub vf_stats_place : Place VfStats
-vf_stats_place = place no_shapes statistics slack inner_small vf_stats_table stats.Other (λ f. refl) tt tt
+vf_stats_place = place no_shapes statistics plain_growth 0 inner_small vf_stats_table stats.Other (λ f. refl) tt tt tt
 
 pub vf_stats_small : (v : VfStats) → length (vf_stats_place.frame v).payload ≤ most_payload → vf_stats_place.Fits v
 unfolding vf_stats_place
@@ -57,7 +57,7 @@ vf_vlan_table =
     & tt
 
 unfoldable pub vf_vlan_place : Place VfVlan
-vf_vlan_place = place no_shapes vlans slack inner_small vf_vlan_table vlan.Other (λ f. refl) tt tt
+vf_vlan_place = place no_shapes vlans plain_growth 0 inner_small vf_vlan_table vlan.Other (λ f. refl) tt tt tt
 
 -- members of IFLA_VF_INFO
 abbrev pub vf_info_table : Table no_shapes infos always
@@ -80,14 +80,14 @@ vf_info_table =
 
 unfoldable pub vf_info_place : Place VfInfo
 unfolding vf_stats_place vf_vlan_place
-vf_info_place = place no_shapes infos slack inner_small vf_info_table info.Other (λ f. refl) tt tt
+vf_info_place = place no_shapes infos plain_growth 0 inner_small vf_info_table info.Other (λ f. refl) tt tt tt
 
 -- members of IFLA_VF_PORT and of IFLA_PORT_SELF: none is listed
 abbrev pub vf_port_table : Table no_shapes ports always
 vf_port_table = keeps port.Other & tt
 
 unfoldable pub vf_port_place : Place VfPort
-vf_port_place = place no_shapes ports slack inner_small vf_port_table port.Other (λ f. refl) tt tt
+vf_port_place = place no_shapes ports plain_growth 0 inner_small vf_port_table port.Other (λ f. refl) tt tt tt
 
 pub vf_port_small : (v : VfPort) → length (vf_port_place.frame v).payload ≤ most_payload → vf_port_place.Fits v
 unfolding vf_port_place
@@ -105,8 +105,9 @@ abbrev pub link_vf_info : Codec LinkVfInfo
 link_vf_info = as_codec link_vf_info_of link_vf_info_members (some_of vf_info_place) (λ vs. refl)
 
 unfoldable pub link_vf_info_place : Place LinkVfInfo
+unfolding vf_info_place
 link_vf_info_place =
-    place_of link_vf_info_of link_vf_info_members (some_of vf_info_place) (λ vs. refl) IFLA_VF_INFO (lit< tt)
+    place_of link_vf_info_of link_vf_info_members (some_of vf_info_place) (λ vs. refl) IFLA_VF_INFO (lit< tt) tt tt
 
 pub link_vf_info_ones : (v : LinkVfInfo) → number (link_vf_info_place.frame v) ≡ 1
 unfolding link_vf_info_place
@@ -128,8 +129,9 @@ abbrev pub link_vf_port : Codec LinkVfPort
 link_vf_port = as_codec link_vf_port_of link_vf_port_members (some_of vf_port_place) (λ vs. refl)
 
 unfoldable pub link_vf_port_place : Place LinkVfPort
+unfolding vf_port_place
 link_vf_port_place =
-    place_of link_vf_port_of link_vf_port_members (some_of vf_port_place) (λ vs. refl) IFLA_VF_PORT (lit< tt)
+    place_of link_vf_port_of link_vf_port_members (some_of vf_port_place) (λ vs. refl) IFLA_VF_PORT (lit< tt) tt tt
 
 pub link_vf_port_ones : (v : LinkVfPort) → number (link_vf_port_place.frame v) ≡ 1
 unfolding link_vf_port_place

@@ -2,13 +2,13 @@
 //!
 //! Of each place: a value that some frame means there, and that fits, is what the frame of its canonical text means
 //! there; so are the values of a list. A list's payload has at least four bytes for each value, those inside of others
-//! among them. Its canonical text has at most 308 bytes for each whole four bytes of the payload, and 300 fewer for
-//! each member. A frame that no line of the table reads is kept: its kind, both flag bits and its payload come back.
+//! among them. Its canonical text has at most `plain_growth` bytes, which is 8, for each whole four bytes of the
+//! payload. A frame that no line of the table reads is kept: its kind, both flag bits and its payload come back.
 //! The only frames that are not kept are those with other numbers in IFLA_VFINFO_LIST and in IFLA_VF_PORTS, which are
 //! dropped.
 
 ghost use Rattle.std.specs.Prelude.{◌≡◌, [], ◌∷◌, true};
-ghost use Rattle.nla_wire.specs.Sizes.{slack};
+ghost use Rattle.nla_wire.specs.Sizes.{plain_growth};
 ghost use Rattle.nla_wire.specs.Canon.{canon};
 ghost use Rattle.nla_wire.specs.PlaceLaws.{ReadsBack, ListReadsBack, ListsBounded};
 ghost use Rattle.nla_wire.proofs.Codec.{IsLawful};
@@ -19,22 +19,22 @@ ghost use Rattle.link_vf.specs.declared.vf_info.VfInfo.TheVariants as info;
 
 /// `VfStats`, members of IFLA_VF_STATS.
 pub fn law_vf_stats()
-    ensures { IsLawful slack vf_stats_place }
+    ensures { IsLawful plain_growth 0 vf_stats_place }
 {}
 
 /// `VfVlan`, members of IFLA_VF_VLAN_LIST.
 pub fn law_vf_vlan()
-    ensures { IsLawful slack vf_vlan_place }
+    ensures { IsLawful plain_growth 0 vf_vlan_place }
 {}
 
 /// `VfInfo`, members of IFLA_VF_INFO.
 pub fn law_vf_info()
-    ensures { IsLawful slack vf_info_place }
+    ensures { IsLawful plain_growth 0 vf_info_place }
 {}
 
 /// `VfPort`, members of IFLA_VF_PORT and of IFLA_PORT_SELF.
 pub fn law_vf_port()
-    ensures { IsLawful slack vf_port_place }
+    ensures { IsLawful plain_growth 0 vf_port_place }
 {}
 
 /// `LinkVfInfo`, entries of IFLA_VFINFO_LIST, which have the number of IFLA_VF_INFO. Frames of other numbers are
@@ -42,7 +42,7 @@ pub fn law_vf_port()
 pub fn law_link_vf_info()
     ensures member { ReadsBack link_vf_info_place.grammar.means link_vf_info_place.frame link_vf_info_place.Fits }
     ensures again { ListReadsBack vf_info_list.grammar.means link_vf_info_place.frame link_vf_info_place.Fits }
-    ensures bounds { ListsBounded slack vf_info_list.grammar.means link_vf_info_place.count link_vf_info_place.frame }
+    ensures bounds { ListsBounded plain_growth 0 vf_info_list.grammar.means link_vf_info_place.count link_vf_info_place.frame }
     ensures dropped { OthersDropped vf_info_list.grammar }
 {}
 
@@ -51,7 +51,7 @@ pub fn law_link_vf_info()
 pub fn law_link_vf_port()
     ensures member { ReadsBack link_vf_port_place.grammar.means link_vf_port_place.frame link_vf_port_place.Fits }
     ensures again { ListReadsBack vf_port_list.grammar.means link_vf_port_place.frame link_vf_port_place.Fits }
-    ensures bounds { ListsBounded slack vf_port_list.grammar.means link_vf_port_place.count link_vf_port_place.frame }
+    ensures bounds { ListsBounded plain_growth 0 vf_port_list.grammar.means link_vf_port_place.count link_vf_port_place.frame }
     ensures dropped { OthersDropped vf_port_list.grammar }
 {}
 

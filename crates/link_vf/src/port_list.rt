@@ -58,8 +58,8 @@ impl LinkVfPort {
     /// Writes the canonical text of the entry's members to the front of the buffer, with no memory taken, and answers
     /// its length. The rest of the buffer is kept.
     ///
-    /// The buffer has 77 bytes for each byte of the payload. Answers `None` where a member does not fit, and the
-    /// buffer's bytes are open then.
+    /// The buffer has `growth_per_byte` bytes for each byte of the payload. Answers `None` where a member does not fit,
+    /// and the buffer's bytes are open then.
     pub fn canon(payload: &[u8], out: &mut [u8]) -> Option<usize>
         requires accepted { IsOk (link_vf_port.grammar.reads payload.now) }
         requires room { growth_per_byte * length payload.now ≤ length out.old }
@@ -73,8 +73,8 @@ impl LinkVfPort {
     /// Writes the attribute of this kind whose value is the canonical text of the entry's members, with no memory
     /// taken, and answers its length. The rest of the buffer is kept.
     ///
-    /// The buffer has 77 bytes for each byte of the attribute's header and payload. Answers `None` too where the text
-    /// has more than 65531 bytes.
+    /// The buffer has `growth_per_byte` bytes for each byte of the attribute's header and payload. Answers `None` too
+    /// where the text has more than 65531 bytes.
     pub fn canon_entry(kind: u16, payload: &[u8], out: &mut [u8]) -> Option<usize>
         requires accepted { IsOk (link_vf_port.grammar.reads payload.now) }
         requires room { growth_per_byte * (4 + length payload.now) ≤ length out.old }
@@ -115,8 +115,8 @@ impl LinkVfPort {
     /// Writes the canonical text of such a list's entries to the front of the buffer, with no memory taken, and answers
     /// its length. The rest of the buffer is kept.
     ///
-    /// The buffer has 77 bytes for each byte of the payload. Answers `None` where an entry does not fit, and the
-    /// buffer's bytes are open then.
+    /// The buffer has `growth_per_byte` bytes for each byte of the payload. Answers `None` where an entry does not fit,
+    /// and the buffer's bytes are open then.
     pub fn canon_list(payload: &[u8], out: &mut [u8]) -> Option<usize>
         requires accepted { IsOk (vf_port_list.grammar.reads payload.now) }
         requires room { growth_per_byte * length payload.now ≤ length out.old }

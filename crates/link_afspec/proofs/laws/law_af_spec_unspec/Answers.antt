@@ -1,8 +1,7 @@
-use Rattle.std.proofs.Common.{lit≤}
 use Rattle.nla_wire.proofs.Codec.{is_lawful}
 use Rattle.link_afspec.specs.Tables.{af_spec_unspec_place}
 use Rattle.link_afspec.proofs.laws.law_af_spec_unspec.Goals as goal
 
 pub returns : goal.returns
 unfolding af_spec_unspec_place
-returns c = is_lawful af_spec_unspec_place (lit≤ tt)
+returns c = is_lawful af_spec_unspec_place
