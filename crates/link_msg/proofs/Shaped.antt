@@ -1,18 +1,18 @@
 -- The attribute of a frame by its shape: what is checked and written from its payload is what the place reads.
-use Rattle.std.proofs.Common.{◌≡◌, ◌==◌, ℕ, Bool, true, false, List, length, refl, sym, ap, subst, ◌∙◌, eqb-true, Option, Some, Result, Ok, Err, IsOk}
+use Rattle.std.proofs.Common.{◌≡◌, ℕ, Bool, true, false, List, length, refl, sym, ap, ap₂, subst, ◌∙◌, Option, Some, Result, Ok, Err, IsOk}
 use Rattle.std.specs.Prelude.{if◌then◌else◌, nat_lt}
-use Rattle.std.specs.Int.{Width, byte_len, from_le_bytes}
-use Rattle.std.specs.Str.{is_utf8}
 use Rattle.nla_wire.specs.Frames.{Frame, number, IsBytes}
 use Rattle.nla_wire.specs.Gives.{Checks, Gives}
 use Rattle.nla_wire.specs.Canon.{canon, Closed, Canonical}
-use Rattle.nla_wire.specs.Payloads.{read_text, without_nul, read_number, read_sized}
+use Rattle.nla_wire.specs.Payloads.{read_sized}
 use Rattle.nla_wire.specs.declared.error.Cause.{Cause}
-use Rattle.nla_wire.specs.declared.error.Cause.TheVariants.{NotUtf8, WrongLength, TooShort}
+use Rattle.nla_wire.specs.declared.error.Cause.TheVariants.{TooShort}
 use Rattle.nla_wire.specs.declared.error.DecodeError.{DecodeError}
-use Rattle.nla_wire.proofs.Codec.{kind_of}
+use Rattle.nla_wire.proofs.Codec.{Any, kind_of}
+use Rattle.nla_wire.specs.Leaves.{LeafWrites}
+use Rattle.nla_wire.specs.declared.leaf.Leaf.{Leaf}
 use Rattle.nla_wire.proofs.Tables.{Kept, ReadsBy, reads_in, line_by, IsOther, other_reads}
-use Rattle.nla_wire.proofs.Shapes.{ShapeWrites, writes_kept, WayChecks, WayWrites, lined_checks, lined_accepted, lined_writes}
+use Rattle.nla_wire.proofs.Shapes.{leaf_base, leaf_writes, ShapeWrites, writes_kept, WayChecks, WayWrites, lined_checks, lined_accepted, lined_writes}
 use Rattle.link_vals.specs.declared.address_family.AddressFamily.{AddressFamily}
 use Rattle.link_msg.specs.Tables.{base, HasPorts, attribute_view, attribute_entries, attribute_frame, AttributeFits, attribute_place, attribute_way, as_way, other_kept}
 use Rattle.link_msg.specs.declared.shape.Shape.{Shape}
@@ -20,11 +20,11 @@ use Rattle.link_msg.specs.declared.attribute.LinkAttribute.{LinkAttribute}
 use Rattle.link_msg.specs.declared.attribute.LinkAttribute.TheVariants as Attributes
 
 -- the shape that code told of a kind's number is that of the frame
-pub shape_here : (family : AddressFamily) (f : Frame) (n : ℕ) (told shape : Option Shape) → n ≡ number f → told ≡ shape
-    → ((size : ℕ) → as_way told ≡ attribute_way family n size)
+pub shape_here : (family : AddressFamily) (f : Frame) (n : ℕ) (p : List ℕ) (told shape : Option Shape) → n ≡ number f → p ≡ f.payload → told ≡ shape
+    → as_way told ≡ attribute_way family n (length p)
     → attribute_way family (number f) (length f.payload) ≡ as_way shape
-shape_here family f n told shape same is of =
-    ap (λ k. attribute_way family k (length f.payload)) (sym same) ∙ sym (of (length f.payload)) ∙ ap as_way is
+shape_here family f n p told shape same payload is of =
+    ap₂ (λ k (q : List ℕ). attribute_way family k (length q)) (sym same) (sym payload) ∙ sym of ∙ ap as_way is
 
 module _ (family : AddressFamily) (f : Frame) where
   pub shape_checks : (shape : Option Shape) (answer : Result Unit DecodeError) → attribute_way family (number f) (length f.payload) ≡ as_way shape
@@ -71,23 +71,16 @@ arm s t n p old new a is h = subst (λ x. ShapeWrites base x (kind_of (base x).f
 pub arm_accepted : (s t : Shape) (p : List ℕ) → s ≡ t → IsOk ((base s).codec.grammar.reads p) → IsOk ((base t).codec.grammar.reads p)
 arm_accepted s t p is h = subst (λ x. IsOk ((base x).codec.grammar.reads p)) is h
 
-passed : {A : Type 0} (t : Bool) (x : A) (e : Cause) → IsOk (if t then Ok x else Err e) → (t ≡ true) × ((if t then Ok x else Err e) ≡ Ok x)
-passed true x e h = (refl, refl)
-passed false x e h = absurd cc
+-- a shape that is a leaf's
+pub arm_leaf : (s t : Shape) (l : Leaf) → base t ≡ leaf_base l → (n : ℕ) (p old new : List ℕ) (a : Option ℕ) → s ≡ t
+    → IsOk ((base s).codec.grammar.reads p) → LeafWrites l n p old new a → ShapeWrites base s (kind_of (base s).flags n) p old new a
+arm_leaf s t l same n p old new a is accepted h =
+    let reads : IsOk ((leaf_base l).codec.grammar.reads p) = subst (λ (x : Any). IsOk (x.codec.grammar.reads p)) (ap base is ∙ same) accepted in
+    subst (λ (x : Any). ShapeWrites (λ (u : Leaf). x) l (kind_of x.flags n) p old new a) (sym (ap base is ∙ same)) (leaf_writes l n p old new a reads h)
 
 failed : {A : Type 0} (t : Bool) (x : A) (e : Cause) → IsOk (if t then Err e else Ok x) → (if t then Err e else Ok x) ≡ Ok x
 failed true x e h = absurd cc
 failed false x e h = refl
-
-pub text_read : (p : List ℕ) → IsOk (read_text p) → read_text p ≡ Ok (without_nul p)
-unfolding read_text
-text_read p h = (passed (is_utf8 (without_nul p)) (without_nul p) NotUtf8 h).1
-
-pub number_read : (w : Width) (p : List ℕ) → IsOk (read_number w p) → (length p ≡ byte_len w) × (read_number w p ≡ Ok (from_le_bytes w p))
-unfolding read_number
-number_read w p h =
-    let k = passed (length p == byte_len w) (from_le_bytes w p) (WrongLength (length p) (byte_len w)) h in
-    (eqb-true (length p) (byte_len w) k.0, k.1)
 
 pub sized_read : {A : Type 0} (size : ℕ) (of : List ℕ → A) (p : List ℕ) → IsOk (read_sized size of p) → read_sized size of p ≡ Ok (of p)
 unfolding read_sized

@@ -20,7 +20,8 @@ pub record IsAccepted (b : List ℕ) (m : LinkMessage) : Type 0 where
   pub fits : MessageFits m
   pub ports : NoEmptyPorts m
 
--- t is the canonical text of the message that b means, which it means too; its attributes are at most 77 times as long
+-- t is the canonical text of the message that b means, which it means too; its attributes are at most `growth_per_byte`
+-- times as long
 pub record HasText (b t : List ℕ) : Type 0 where
   pub message : LinkMessage
   pub accepted : IsAccepted b message
@@ -57,8 +58,8 @@ AreSame a b answer = (m : LinkMessage) × (n : LinkMessage) × AreSameMessages a
 abbrev pub IsRefusalOfTwo : List ℕ → List ℕ → CanonError → Type 0
 IsRefusalOfTwo a b e = IsRefusal a e ⊎ (((m : LinkMessage) × IsAccepted a m) × IsRefusal b e)
 
--- what `canonical_into` did: the canonical text stands at the front and the rest is kept; or nothing was written, where the
--- bytes are refused; or the buffer's bytes are open, where the message does not fit or holds an empty list of ports
+-- what `canonical_into` did: the canonical text stands at the front and the rest is kept; or nothing was written, where
+-- the bytes are refused; or the buffer's bytes are open, where the message does not fit or holds an empty list of ports
 abbrev pub IsWritten : List ℕ → List ℕ → List ℕ → Result ℕ CanonError → Type 0
 IsWritten b old new (Ok n) = (m : LinkMessage) × IsAccepted b m × Writes (message_text m) old new n
 IsWritten b old new (Err (Refusals.Decode e)) = IsRefusal b (Refusals.Decode e) × (new ≡ old)

@@ -1,7 +1,8 @@
 -- The text of an attribute's value, by what it is written from.
-use Rattle.std.specs.Prelude.{ℕ, ◌<◌, ◌≤◌, ◌^◌, List, [], ◌∷◌, ◌++◌}
-use Rattle.std.specs.Int.{w8, w32, to_le_bytes, cast_unsigned}
+use Rattle.std.specs.Prelude.{ℕ, ◌<◌, ◌≤◌, ◌^◌, List}
+use Rattle.std.specs.Int.{w32, to_le_bytes}
 use Rattle.nla_wire.specs.Canon.{AllFit, canons}
+use Rattle.nla_wire.specs.Contents.{content_text as flat_text}
 use Rattle.link_vals.specs.LinkExtentMaskTable.{ext_sum}
 use Rattle.link_vals.specs.LinkPhysIdBytes.{phys_id_bytes}
 use Rattle.link_recs.specs.StatsFields.{stats_bytes}
@@ -15,11 +16,7 @@ use Rattle.link_msg.specs.declared.attribute.Content.{Content}
 use Rattle.link_msg.specs.declared.attribute.Content.TheVariants as Contents
 
 abbrev pub content_text : Content → List ℕ
-content_text (Contents.Bytes bytes) = bytes.now
-content_text (Contents.Text text) = text.now ++ 0 ∷ []
-content_text (Contents.U8 n) = to_le_bytes w8 n
-content_text (Contents.U32 n) = to_le_bytes w32 n
-content_text (Contents.I32 n) = to_le_bytes w32 (cast_unsigned w32 n)
+content_text (Contents.Flat flat) = flat_text flat
 content_text (Contents.Id id) = phys_id_bytes id.now
 content_text (Contents.Stats stats) = stats_bytes stats.now
 content_text (Contents.Stats64 stats) = stats64_bytes stats.now

@@ -12,12 +12,14 @@ use Rattle.link_msg.specs.declared.attribute.LinkAttribute.{LinkAttribute}
 use Rattle.link_msg.specs.declared.header.LinkHeader.{LinkHeader}
 use Rattle.link_msg.specs.declared.message.LinkMessage.{LinkMessage}
 
--- b is a header of sixteen bytes and then frames, of which each means the attribute at its place, under the header's family
+-- b is a header of sixteen bytes and then frames, of which each means the attribute at its place, under the header's
+-- family
 abbrev pub Means : List ℕ → LinkMessage → Type 0
 Means b m =
     (h : List ℕ) × (c : List ℕ) × (b ≡ h ++ c) × IsHeader h m.header × (list (attribute_place m.header.interface_family)).means c m.attributes
 
--- b means no message, and this is the first fault: it is shorter than a header, or the attributes behind its header have it
+-- b means no message, and this is the first fault: it is shorter than a header, or the attributes behind its header
+-- have it
 abbrev pub Refused : List ℕ → Cause → Type 0
 Refused b c =
     ((length b < header_size) × (c ≡ TooShort (length b) header_size))
@@ -65,8 +67,9 @@ message_count m = total attribute_count m.attributes
 abbrev pub IsRefused : List ℕ → Type 0
 IsRefused b = (m : LinkMessage) → Means b m → ⊥
 
--- how a message is bounded by the bytes that it was read from: four bytes at least for each attribute at any level, canonical
--- attributes at most 77 times as long, and it fits where there were at most 859 bytes of attributes
+-- how a message is bounded by the bytes that it was read from: four bytes at least for each attribute at any level,
+-- canonical attributes at most `growth_per_byte` times as long, and it fits where there were at most `small_enough`
+-- bytes of attributes
 pub record IsBounded (b : List ℕ) (m : LinkMessage) : Type 0 where
   pub few : 4 * message_count m ≤ length b - header_size
   pub short : length (message_text m) ≤ header_size + growth_per_byte * (length b - header_size)

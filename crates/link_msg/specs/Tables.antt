@@ -5,22 +5,24 @@
 -- header's family decides stands below the table, in `proto_info` and `af_spec`: the variants of these two numbers are only
 -- `written` in the table. A payload is told by its shape: a state, a mode and a plain number of one byte are one shape.
 use Rattle.std.specs.Prelude.{◌≡◌, ◌==◌, ℕ, ℤ, ◌+◌, ◌*◌, ◌/◌, ◌<◌, ◌≤◌, ◌^◌, not, Bool, true, false, List, [], ◌∷◌, ◌++◌, length, Option, None, Some, refl}
-use Rattle.std.specs.Int.{w8, w32, to_le_bytes, cast_signed}
+use Rattle.std.specs.Int.{w8, w16, w32, to_le_bytes, cast_signed}
 use Rattle.std.proofs.Common.{ap, sym, subst, lit<, lit≤, arith}
 use lib.Dec.{T}
-use Rattle.nla_wire.specs.Sizes.{most_payload, growth, slack, attribute_small}
+use Rattle.nla_wire.specs.Sizes.{most_payload, plain_growth, growth, attribute_small}
 use Rattle.nla_wire.specs.Frames.{Frame, number, IsBytes}
 use Rattle.nla_wire.specs.Grammar.{Grammar, as_a, kept}
 use Rattle.nla_wire.specs.Payloads as payload
 use Rattle.nla_wire.specs.Canon.{canon}
 use Rattle.nla_wire.proofs.Lawful.{LawfulPayload, LawfulPlace, always, none, through_lawful, filled_lawful, text_bounded}
-use Rattle.nla_wire.proofs.FieldLemmas.{from_le_bytes_below}
+use Rattle.nla_wire.proofs.FieldLemmas.{from_le_bytes_below, length-to_le_bytes}
 use Rattle.nla_wire.proofs.PlaceLaws.{all_always}
 use Rattle.nla_wire.proofs.Codec as codec
 use Rattle.nla_wire.proofs.Codec.{Any, any, nested, Codec, kind_of, list_of, some_of, some_picked_of, enum, filled_record, sized_record, signed_same}
 use Rattle.nla_wire.proofs.Tables.{Seen, Way, Kept, Shaped, plain, standing, Reading, Entry, shaping, keeping, lines, way_in, all_hold, lines_lawful, lined_lawful}
 use Rattle.nla_wire.proofs.Tables as tables
-use Rattle.nla_wire.proofs.Variants.{Table, view_of, entries_of, line_by as line, line_where, written, keeps, ◌&◌}
+use Rattle.nla_wire.proofs.Shapes.{leaf_base}
+use Rattle.nla_wire.specs.declared.leaf.Leaf.TheVariants as Leaves
+use Rattle.nla_wire.proofs.Variants.{Table, view_of, entries_of, line_by as line, line_where, line_of_size, written, keeps, ◌&◌}
 use Rattle.link_vals.specs.StateTable.{state_of, state_number}
 use Rattle.link_vals.specs.LinkModeTable.{link_mode_of, link_mode_number}
 use Rattle.link_vals.specs.LinkEventTable.{link_event_of, link_event_number}
@@ -60,7 +62,7 @@ use Rattle.link_afspec.specs.declared.unspec.AfSpecUnspec.{AfSpecUnspec}
 use Rattle.link_afspec.specs.declared.bridge.AfSpecBridge.{AfSpecBridge}
 use Rattle.link_afspec.specs.declared.proto_bridge.LinkProtoInfoBridge.{LinkProtoInfoBridge}
 use Rattle.link_afspec.specs.declared.proto_inet6.LinkProtoInfoInet6.{LinkProtoInfoInet6}
-use Rattle.link_msg.specs.declared.numbers.TheConstants.{IFLA_ADDRESS, IFLA_BROADCAST, IFLA_IFNAME, IFLA_MTU, IFLA_LINK, IFLA_QDISC, IFLA_STATS, IFLA_MASTER, IFLA_WIRELESS, IFLA_PROTINFO, IFLA_TXQLEN, IFLA_MAP, IFLA_OPERSTATE, IFLA_LINKMODE, IFLA_LINKINFO, IFLA_NET_NS_PID, IFLA_IFALIAS, IFLA_NUM_VF, IFLA_VFINFO_LIST, IFLA_STATS64, IFLA_VF_PORTS, IFLA_PORT_SELF, IFLA_AF_SPEC, IFLA_GROUP, IFLA_NET_NS_FD, IFLA_EXT_MASK, IFLA_PROMISCUITY, IFLA_NUM_TX_QUEUES, IFLA_NUM_RX_QUEUES, IFLA_CARRIER, IFLA_PHYS_PORT_ID, IFLA_CARRIER_CHANGES, IFLA_PHYS_SWITCH_ID, IFLA_LINK_NETNSID, IFLA_PHYS_PORT_NAME, IFLA_PROTO_DOWN, IFLA_GSO_MAX_SEGS, IFLA_GSO_MAX_SIZE, IFLA_XDP, IFLA_EVENT, IFLA_NEW_NETNSID, IFLA_IF_NETNSID, IFLA_CARRIER_UP_COUNT, IFLA_CARRIER_DOWN_COUNT, IFLA_NEW_IFINDEX, IFLA_MIN_MTU, IFLA_MAX_MTU, IFLA_PROP_LIST, IFLA_PERM_ADDRESS, IFLA_PROTO_DOWN_REASON, IFLA_PARENT_DEV_NAME, IFLA_PARENT_DEV_BUS_NAME, IFLA_GRO_MAX_SIZE, IFLA_TSO_MAX_SIZE, IFLA_TSO_MAX_SEGS, IFLA_ALLMULTI, IFLA_DEVLINK_PORT, IFLA_GSO_IPV4_MAX_SIZE, IFLA_GRO_IPV4_MAX_SIZE, IFLA_DPLL_PIN, IFLA_NETNS_IMMUTABLE}
+use Rattle.link_msg.specs.declared.numbers.TheConstants.{IFLA_ADDRESS, IFLA_BROADCAST, IFLA_IFNAME, IFLA_MTU, IFLA_LINK, IFLA_QDISC, IFLA_STATS, IFLA_MASTER, IFLA_WIRELESS, IFLA_PROTINFO, IFLA_TXQLEN, IFLA_MAP, IFLA_OPERSTATE, IFLA_LINKMODE, IFLA_LINKINFO, IFLA_NET_NS_PID, IFLA_IFALIAS, IFLA_NUM_VF, IFLA_VFINFO_LIST, IFLA_STATS64, IFLA_VF_PORTS, IFLA_PORT_SELF, IFLA_AF_SPEC, IFLA_GROUP, IFLA_NET_NS_FD, IFLA_EXT_MASK, IFLA_PROMISCUITY, IFLA_NUM_TX_QUEUES, IFLA_NUM_RX_QUEUES, IFLA_CARRIER, IFLA_PHYS_PORT_ID, IFLA_CARRIER_CHANGES, IFLA_PHYS_SWITCH_ID, IFLA_LINK_NETNSID, IFLA_PHYS_PORT_NAME, IFLA_PROTO_DOWN, IFLA_GSO_MAX_SEGS, IFLA_GSO_MAX_SIZE, IFLA_XDP, IFLA_EVENT, IFLA_NEW_NETNSID, IFLA_IF_NETNSID, IFLA_CARRIER_UP_COUNT, IFLA_CARRIER_DOWN_COUNT, IFLA_NEW_IFINDEX, IFLA_MIN_MTU, IFLA_MAX_MTU, IFLA_PROP_LIST, IFLA_PERM_ADDRESS, IFLA_PROTO_DOWN_REASON, IFLA_PARENT_DEV_NAME, IFLA_PARENT_DEV_BUS_NAME, IFLA_GRO_MAX_SIZE, IFLA_TSO_MAX_SIZE, IFLA_TSO_MAX_SEGS, IFLA_ALLMULTI, IFLA_DEVLINK_PORT, IFLA_GSO_IPV4_MAX_SIZE, IFLA_GRO_IPV4_MAX_SIZE, IFLA_DPLL_PIN, IFLA_NETNS_IMMUTABLE, IFLA_HEADROOM, IFLA_TAILROOM}
 use Rattle.link_msg.specs.declared.shape.Shape.{Shape}
 use Rattle.link_msg.specs.declared.shape.Shape.TheVariants as Shapes
 use Rattle.link_msg.specs.declared.attribute.LinkAttribute.{LinkAttribute}
@@ -85,26 +87,26 @@ truth_again : (v : Bool) → is_true (truth_number v) ≡ v
 truth_again true = refl
 truth_again false = refl
 
-pub truth_lawful : LawfulPayload (as_a is_true (payload.number_of w8)) (λ v. to_le_bytes w8 (truth_number v)) always always none growth slack most_payload
+pub truth_lawful : LawfulPayload (as_a is_true (payload.number_of w8)) (λ v. to_le_bytes w8 (truth_number v)) always always none plain_growth 0 most_payload
 truth_lawful = through_lawful w8 is_true truth_number always most_payload (λ x below. (truth_below (is_true x), truth_again (is_true x), tt))
 
 -- the first 32 bytes of the payload
-pub phys_id_lawful : LawfulPayload (payload.filled phys_id_of) phys_id_bytes (λ id. id.len ≤ 32) always none growth 0 most_payload
-phys_id_lawful = filled_lawful phys_id_of phys_id_bytes (λ id. id.len ≤ 32) 32 growth 0 most_payload (lit≤ tt) (lit≤ tt)
+pub phys_id_lawful : LawfulPayload (payload.filled phys_id_of) phys_id_bytes (λ id. id.len ≤ 32) always none 36 0 most_payload
+phys_id_lawful = filled_lawful phys_id_of phys_id_bytes (λ id. id.len ≤ 32) 32 36 0 most_payload (lit≤ tt) (lit≤ tt)
     (λ p. omega (arith, length-phys_id_bytes p)) (λ p small. phys_id_again p) (λ p small. phys_id_len_le p)
 
 abbrev pub phys_ids : Codec LinkPhysId
-phys_ids = record { grammar = payload.filled phys_id_of; text = phys_id_bytes; Inside = λ id. id.len ≤ 32; count = none; fewer = 0; enough = most_payload; lawful = phys_id_lawful; sure = None }
+phys_ids = record { grammar = payload.filled phys_id_of; text = phys_id_bytes; Inside = λ id. id.len ≤ 32; count = none; factor = 36; fewer = 0; enough = most_payload; lawful = phys_id_lawful; sure = None }
 
 -- the list of the flags of a number of four bytes, written as their sum
-pub ext_mask_lawful : LawfulPayload (as_a ext_list (payload.number_of w32)) (λ flags. to_le_bytes w32 (ext_sum flags)) (λ flags. ext_sum flags < 2 ^ 32) always none growth slack most_payload
+pub ext_mask_lawful : LawfulPayload (as_a ext_list (payload.number_of w32)) (λ flags. to_le_bytes w32 (ext_sum flags)) (λ flags. ext_sum flags < 2 ^ 32) always none plain_growth 0 most_payload
 ext_mask_lawful = through_lawful w32 ext_list ext_sum (λ flags. ext_sum flags < 2 ^ 32) most_payload
     (λ x below. (omega (arith, sums_back x below), ap ext_list (sums_back x below), omega (arith, sums_back x below)))
 
 abbrev pub ext_masks : Codec (List LinkExtentMask)
-ext_masks = record { grammar = as_a ext_list (payload.number_of w32); text = λ flags. to_le_bytes w32 (ext_sum flags); Inside = λ flags. ext_sum flags < 2 ^ 32; count = none; fewer = slack; enough = most_payload; lawful = ext_mask_lawful; sure = None }
+ext_masks = record { grammar = as_a ext_list (payload.number_of w32); text = λ flags. to_le_bytes w32 (ext_sum flags); Inside = λ flags. ext_sum flags < 2 ^ 32; count = none; factor = plain_growth; fewer = 0; enough = most_payload; lawful = ext_mask_lawful; sure = None }
 
-pub wireless_fitting : LawfulPayload wireless_event wireless_text WirelessFits always none growth slack most_payload
+pub wireless_fitting : LawfulPayload wireless_event wireless_text WirelessFits always none plain_growth 0 most_payload
 wireless_fitting =
     let h = wireless_lawful most_payload (lit≤ tt) in
     record {
@@ -117,7 +119,7 @@ wireless_fitting =
     }
 
 abbrev pub wireless_events : Codec WirelessEvent
-wireless_events = record { grammar = wireless_event; text = wireless_text; Inside = WirelessFits; count = none; fewer = slack; enough = most_payload; lawful = wireless_fitting; sure = None }
+wireless_events = record { grammar = wireless_event; text = wireless_text; Inside = WirelessFits; count = none; factor = plain_growth; fewer = 0; enough = most_payload; lawful = wireless_fitting; sure = None }
 
 -- ** shapes, and what stands for the value of one
 
@@ -134,11 +136,13 @@ abbrev pub unspecs : Codec (List AfSpecUnspec)
 unspecs = list_of af_spec_unspec_place
 
 abbrev pub base : Shape → Any
-base Shapes.Bytes = any codec.bytes
-base Shapes.Text = any codec.text
-base Shapes.U8 = any codec.u8
-base Shapes.U32 = any codec.u32
-base Shapes.Truth = any (codec.flat (as_a is_true (payload.number_of w8)) (λ v. to_le_bytes w8 (truth_number v)) slack most_payload truth_lawful)
+base Shapes.Bytes = leaf_base Leaves.Bytes
+base Shapes.Text = leaf_base Leaves.Text
+base Shapes.U8 = leaf_base Leaves.U8
+base Shapes.U16 = leaf_base Leaves.U16
+base Shapes.U32 = leaf_base Leaves.U32
+base Shapes.U64 = leaf_base Leaves.U64
+base Shapes.Truth = any (codec.flat (as_a is_true (payload.number_of w8)) (λ v. to_le_bytes w8 (truth_number v)) most_payload truth_lawful)
 base Shapes.Id = any phys_ids
 base Shapes.Stats = any (filled_record stats_laws.laws (lit≤ tt))
 base Shapes.Stats64 = any (filled_record stats64_laws.laws (lit≤ tt))
@@ -170,8 +174,14 @@ text = by_shape Shapes.Text
 abbrev pub u8 : Shaped base ℕ always
 u8 = by_shape Shapes.U8
 
+abbrev pub u16 : Shaped base ℕ always
+u16 = by_shape Shapes.U16
+
 abbrev pub u32 : Shaped base ℕ always
 u32 = by_shape Shapes.U32
+
+abbrev pub u64 : Shaped base ℕ always
+u64 = by_shape Shapes.U64
 
 abbrev pub i32 : Shaped base ℤ always
 i32 = standing base Shapes.U32 (cast_signed w32) codec.i32 (λ p. refl) (signed_same w32) (λ x. tt) (λ a. tt)
@@ -325,6 +335,8 @@ attribute_table =
     & line IFLA_GRO_IPV4_MAX_SIZE u32 Attributes.GroIpv4MaxSize
     & line IFLA_DPLL_PIN dpll_pins Attributes.DpllPin
     & line IFLA_NETNS_IMMUTABLE truth Attributes.NetnsImmutable
+    & line_of_size IFLA_HEADROOM 2 u16 Attributes.Headroom (length-to_le_bytes w16)
+    & line_of_size IFLA_TAILROOM 2 u16 Attributes.Tailroom (length-to_le_bytes w16)
     & keeps Attributes.Other
     & tt
 
@@ -392,7 +404,7 @@ abbrev pub as_way : Option Shape → Way Shape
 as_way None = Kept
 as_way (Some s) = tables.Shape s
 
-entries_hold : (family : AddressFamily) → T (all_hold base attribute_view HasPorts 0 attribute_small (attribute_entries family))
+entries_hold : (family : AddressFamily) → T (all_hold base attribute_view HasPorts growth 0 attribute_small (attribute_entries family))
 unfolding attribute_view attribute_entries proto_info af_spec prop_place devlink_port_place dpll_pin_place down_reason_place xdp_place link_info_place vf_info_place vf_port_place link_vf_info_place link_vf_port_place af_spec_unspec_place af_spec_bridge_place link_proto_info_bridge_place link_proto_info_inet6_place
 entries_hold Families.Unspec = tt
 entries_hold Families.Inet = tt
@@ -407,13 +419,13 @@ other_kept f = refl
 
 pub attribute_lawful : (family : AddressFamily) → LawfulPlace (attribute_place family) attribute_frame AttributeFits HasPorts attribute_count growth 0 attribute_small
 unfolding attribute_place
-attribute_lawful family = lined_lawful base attribute_view HasPorts 0 attribute_small Attributes.Other other_kept (lit≤ tt) (attribute_entries family) (entries_hold family)
+attribute_lawful family = lined_lawful base attribute_view HasPorts growth 0 attribute_small Attributes.Other other_kept (lit≤ tt) (attribute_entries family) (entries_hold family)
 
 -- a value is written with the number that it was read from
 pub attribute_number : (family : AddressFamily) (f : Frame) (v : LinkAttribute) → (attribute_place family).means f v → number (attribute_frame v) ≡ number f
 unfolding attribute_place
 attribute_number family f v means =
-    (lines_lawful base attribute_view HasPorts 0 attribute_small Attributes.Other other_kept (lit≤ tt) (attribute_entries family) (entries_hold family) (number f)).same_number f v refl means
+    (lines_lawful base attribute_view HasPorts growth 0 attribute_small Attributes.Other other_kept (lit≤ tt) (attribute_entries family) (entries_hold family) (number f)).same_number f v refl means
 
 pub attribute_bounded : (family : AddressFamily) (f : Frame) (v : LinkAttribute) → (attribute_place family).means f v → length (canon (attribute_frame v)) ≤ growth * (1 + length f.payload / 4)
 attribute_bounded family = text_bounded (attribute_lawful family)

@@ -2,32 +2,107 @@
 
 ghost use Rattle.std.specs.Prelude.{◌≡◌, length};
 
-use crate::numbers::{
-    IFLA_ADDRESS, IFLA_AF_SPEC, IFLA_ALLMULTI, IFLA_BROADCAST, IFLA_CARRIER, IFLA_CARRIER_CHANGES,
-    IFLA_CARRIER_DOWN_COUNT, IFLA_CARRIER_UP_COUNT, IFLA_DEVLINK_PORT, IFLA_DPLL_PIN, IFLA_EVENT,
-    IFLA_EXT_MASK, IFLA_GRO_IPV4_MAX_SIZE, IFLA_GRO_MAX_SIZE, IFLA_GROUP, IFLA_GSO_IPV4_MAX_SIZE,
-    IFLA_GSO_MAX_SEGS, IFLA_GSO_MAX_SIZE, IFLA_IF_NETNSID, IFLA_IFALIAS, IFLA_IFNAME, IFLA_LINK,
-    IFLA_LINK_NETNSID, IFLA_LINKINFO, IFLA_LINKMODE, IFLA_MAP, IFLA_MASTER, IFLA_MAX_MTU,
-    IFLA_MIN_MTU, IFLA_MTU, IFLA_NET_NS_FD, IFLA_NET_NS_PID, IFLA_NETNS_IMMUTABLE,
-    IFLA_NEW_IFINDEX, IFLA_NEW_NETNSID, IFLA_NUM_RX_QUEUES, IFLA_NUM_TX_QUEUES, IFLA_NUM_VF,
-    IFLA_OPERSTATE, IFLA_PARENT_DEV_BUS_NAME, IFLA_PARENT_DEV_NAME, IFLA_PERM_ADDRESS,
-    IFLA_PHYS_PORT_ID, IFLA_PHYS_PORT_NAME, IFLA_PHYS_SWITCH_ID, IFLA_PORT_SELF, IFLA_PROMISCUITY,
-    IFLA_PROP_LIST, IFLA_PROTINFO, IFLA_PROTO_DOWN, IFLA_PROTO_DOWN_REASON, IFLA_QDISC, IFLA_STATS,
-    IFLA_STATS64, IFLA_TSO_MAX_SEGS, IFLA_TSO_MAX_SIZE, IFLA_TXQLEN, IFLA_VF_PORTS,
-    IFLA_VFINFO_LIST, IFLA_WIRELESS, IFLA_XDP,
-};
-use crate::payload::{clone_mask, truth_byte};
-use link_afspec::{AfSpecBridge, AfSpecUnspec, LinkProtoInfoBridge, LinkProtoInfoInet6};
-use link_nest::{
-    DevlinkPort, DpllPin, LinkInfo, LinkProtocolDownReason, LinkXdp, Prop, WirelessEvent,
-};
-use link_recs::{Map, Stats, Stats64};
-use link_vals::{LinkEvent, LinkExtentMask, LinkMode, LinkPhysId, State};
-use link_vf::{LinkVfInfo, LinkVfPort, VfPort};
-use nla_wire::{
-    Bytes, CloneIn, DecodeError, DefaultNla, Exact, List, NLA_F_NESTED, Nla, Text, fill_bytes,
-    fill_text, nlas_buffer_len, nlas_fill, nlas_fit,
-};
+use crate::numbers::IFLA_ADDRESS;
+use crate::numbers::IFLA_AF_SPEC;
+use crate::numbers::IFLA_ALLMULTI;
+use crate::numbers::IFLA_BROADCAST;
+use crate::numbers::IFLA_CARRIER;
+use crate::numbers::IFLA_CARRIER_CHANGES;
+use crate::numbers::IFLA_CARRIER_DOWN_COUNT;
+use crate::numbers::IFLA_CARRIER_UP_COUNT;
+use crate::numbers::IFLA_DEVLINK_PORT;
+use crate::numbers::IFLA_DPLL_PIN;
+use crate::numbers::IFLA_EVENT;
+use crate::numbers::IFLA_EXT_MASK;
+use crate::numbers::IFLA_GRO_IPV4_MAX_SIZE;
+use crate::numbers::IFLA_GRO_MAX_SIZE;
+use crate::numbers::IFLA_GROUP;
+use crate::numbers::IFLA_GSO_IPV4_MAX_SIZE;
+use crate::numbers::IFLA_GSO_MAX_SEGS;
+use crate::numbers::IFLA_GSO_MAX_SIZE;
+use crate::numbers::IFLA_HEADROOM;
+use crate::numbers::IFLA_IF_NETNSID;
+use crate::numbers::IFLA_IFALIAS;
+use crate::numbers::IFLA_IFNAME;
+use crate::numbers::IFLA_LINK;
+use crate::numbers::IFLA_LINK_NETNSID;
+use crate::numbers::IFLA_LINKINFO;
+use crate::numbers::IFLA_LINKMODE;
+use crate::numbers::IFLA_MAP;
+use crate::numbers::IFLA_MASTER;
+use crate::numbers::IFLA_MAX_MTU;
+use crate::numbers::IFLA_MIN_MTU;
+use crate::numbers::IFLA_MTU;
+use crate::numbers::IFLA_NET_NS_FD;
+use crate::numbers::IFLA_NET_NS_PID;
+use crate::numbers::IFLA_NETNS_IMMUTABLE;
+use crate::numbers::IFLA_NEW_IFINDEX;
+use crate::numbers::IFLA_NEW_NETNSID;
+use crate::numbers::IFLA_NUM_RX_QUEUES;
+use crate::numbers::IFLA_NUM_TX_QUEUES;
+use crate::numbers::IFLA_NUM_VF;
+use crate::numbers::IFLA_OPERSTATE;
+use crate::numbers::IFLA_PARENT_DEV_BUS_NAME;
+use crate::numbers::IFLA_PARENT_DEV_NAME;
+use crate::numbers::IFLA_PERM_ADDRESS;
+use crate::numbers::IFLA_PHYS_PORT_ID;
+use crate::numbers::IFLA_PHYS_PORT_NAME;
+use crate::numbers::IFLA_PHYS_SWITCH_ID;
+use crate::numbers::IFLA_PORT_SELF;
+use crate::numbers::IFLA_PROMISCUITY;
+use crate::numbers::IFLA_PROP_LIST;
+use crate::numbers::IFLA_PROTINFO;
+use crate::numbers::IFLA_PROTO_DOWN;
+use crate::numbers::IFLA_PROTO_DOWN_REASON;
+use crate::numbers::IFLA_QDISC;
+use crate::numbers::IFLA_STATS;
+use crate::numbers::IFLA_STATS64;
+use crate::numbers::IFLA_TAILROOM;
+use crate::numbers::IFLA_TSO_MAX_SEGS;
+use crate::numbers::IFLA_TSO_MAX_SIZE;
+use crate::numbers::IFLA_TXQLEN;
+use crate::numbers::IFLA_VF_PORTS;
+use crate::numbers::IFLA_VFINFO_LIST;
+use crate::numbers::IFLA_WIRELESS;
+use crate::numbers::IFLA_XDP;
+use crate::payload::clone_mask;
+use crate::payload::truth_byte;
+use link_afspec::AfSpecBridge;
+use link_afspec::AfSpecUnspec;
+use link_afspec::LinkProtoInfoBridge;
+use link_afspec::LinkProtoInfoInet6;
+use link_nest::DevlinkPort;
+use link_nest::DpllPin;
+use link_nest::LinkInfo;
+use link_nest::LinkProtocolDownReason;
+use link_nest::LinkXdp;
+use link_nest::Prop;
+use link_nest::WirelessEvent;
+use link_recs::Map;
+use link_recs::Stats;
+use link_recs::Stats64;
+use link_vals::LinkEvent;
+use link_vals::LinkExtentMask;
+use link_vals::LinkMode;
+use link_vals::LinkPhysId;
+use link_vals::State;
+use link_vf::LinkVfInfo;
+use link_vf::LinkVfPort;
+use link_vf::VfPort;
+use nla_wire::Bytes;
+use nla_wire::CloneIn;
+use nla_wire::Content as Flat;
+use nla_wire::DecodeError;
+use nla_wire::DefaultNla;
+use nla_wire::Exact;
+use nla_wire::List;
+use nla_wire::NLA_F_NESTED;
+use nla_wire::Nla;
+use nla_wire::Text;
+use nla_wire::fill_bytes;
+use nla_wire::nlas_buffer_len;
+use nla_wire::nlas_fill;
+use nla_wire::nlas_fit;
 use std::alloc::Global;
 
 /// An attribute of a link message (linux/if_link.h, IFLA_*). Numbers are in host order.
@@ -165,7 +240,11 @@ pub enum LinkAttribute {
     /// IFLA_NETNS_IMMUTABLE: whether the link stays in its network namespace, one byte: 0 is false, all else true;
     /// written 0 or 1.
     NetnsImmutable(bool),
-    /// A number that is not listed here.
+    /// IFLA_HEADROOM: how many bytes a packet needs in front of its data, where the payload has two bytes.
+    Headroom(u16),
+    /// IFLA_TAILROOM: how many bytes a packet needs behind its data, where the payload has two bytes.
+    Tailroom(u16),
+    /// A number that is not listed here, or a size of payload that its number is not read at: kept as it is, with its flags.
     Other(DefaultNla),
 }
 
@@ -193,11 +272,7 @@ impl Nla for LinkAttribute {
     #[tactic(auto, using(link_recs::proofs::StatsLemmas::length_stats_bytes, link_recs::proofs::Stats64Lemmas::length_stats64_bytes, link_recs::proofs::MapLemmas::length_map_bytes))]
     fn fill_value(&self, buffer: &mut [u8]) -> usize {
         match self.view().1 {
-            Content::Bytes(bytes) => fill_bytes(buffer, bytes),
-            Content::Text(text) => fill_text(buffer, text),
-            Content::U8(n) => fill_bytes(buffer, &[n]),
-            Content::U32(n) => fill_bytes(buffer, &n.to_le_bytes()),
-            Content::I32(n) => fill_bytes(buffer, &n.to_le_bytes()),
+            Content::Flat(flat) => flat.fill(buffer),
             Content::Id(id) => fill_bytes(buffer, &id.id[..id.len]),
             Content::Stats(stats) => stats.fill(buffer),
             Content::Stats64(stats) => stats.fill(buffer),
@@ -226,11 +301,7 @@ impl Nla for LinkAttribute {
 /// What an attribute's value is written from.
 #[derive(Clone, Copy)]
 pub(crate) enum Content<'a> {
-    Bytes(&'a [u8]),
-    Text(&'a str),
-    U8(u8),
-    U32(u32),
-    I32(i32),
+    Flat(Flat<'a>),
     Id(&'a LinkPhysId),
     Stats(&'a Stats),
     Stats64(&'a Stats64),
@@ -265,14 +336,20 @@ impl LinkAttribute {
         ensures inside { ContentFits result.1 ↔ InsideFits self.now }
     {
         match self {
-            LinkAttribute::Address(bytes) => (IFLA_ADDRESS, Content::Bytes(bytes.as_slice())),
-            LinkAttribute::Broadcast(bytes) => (IFLA_BROADCAST, Content::Bytes(bytes.as_slice())),
-            LinkAttribute::IfName(text) => (IFLA_IFNAME, Content::Text(text.as_str())),
-            LinkAttribute::Mtu(n) => (IFLA_MTU, Content::U32(*n)),
-            LinkAttribute::Link(n) => (IFLA_LINK, Content::U32(*n)),
-            LinkAttribute::Qdisc(text) => (IFLA_QDISC, Content::Text(text.as_str())),
+            LinkAttribute::Address(bytes) => (
+                IFLA_ADDRESS,
+                Content::Flat(Flat::Bytes(bytes.as_slice())),
+            ),
+            LinkAttribute::Broadcast(bytes) => (
+                IFLA_BROADCAST,
+                Content::Flat(Flat::Bytes(bytes.as_slice())),
+            ),
+            LinkAttribute::IfName(text) => (IFLA_IFNAME, Content::Flat(Flat::Text(text.as_str()))),
+            LinkAttribute::Mtu(n) => (IFLA_MTU, Content::Flat(Flat::U32(*n))),
+            LinkAttribute::Link(n) => (IFLA_LINK, Content::Flat(Flat::U32(*n))),
+            LinkAttribute::Qdisc(text) => (IFLA_QDISC, Content::Flat(Flat::Text(text.as_str()))),
             LinkAttribute::Stats(stats) => (IFLA_STATS, Content::Stats(stats)),
-            LinkAttribute::Controller(n) => (IFLA_MASTER, Content::U32(*n)),
+            LinkAttribute::Controller(n) => (IFLA_MASTER, Content::Flat(Flat::U32(*n))),
             LinkAttribute::Wireless(event) => (IFLA_WIRELESS, Content::Event(event)),
             LinkAttribute::ProtoInfoBridge(members) => (
                 IFLA_PROTINFO | NLA_F_NESTED,
@@ -282,15 +359,24 @@ impl LinkAttribute {
                 IFLA_PROTINFO | NLA_F_NESTED,
                 Content::Inet6Infos(members.as_slice()),
             ),
-            LinkAttribute::ProtoInfoUnknown(nla) => (nla.kind(), Content::Bytes(nla.value())),
-            LinkAttribute::TxQueueLen(n) => (IFLA_TXQLEN, Content::U32(*n)),
+            LinkAttribute::ProtoInfoUnknown(nla) => (
+                nla.kind(),
+                Content::Flat(Flat::Bytes(nla.value())),
+            ),
+            LinkAttribute::TxQueueLen(n) => (IFLA_TXQLEN, Content::Flat(Flat::U32(*n))),
             LinkAttribute::Map(map) => (IFLA_MAP, Content::Map(map)),
-            LinkAttribute::OperState(state) => (IFLA_OPERSTATE, Content::U8(u8::from(*state))),
-            LinkAttribute::Mode(mode) => (IFLA_LINKMODE, Content::U8(u8::from(*mode))),
+            LinkAttribute::OperState(state) => (
+                IFLA_OPERSTATE,
+                Content::Flat(Flat::U8(u8::from(*state))),
+            ),
+            LinkAttribute::Mode(mode) => (IFLA_LINKMODE, Content::Flat(Flat::U8(u8::from(*mode)))),
             LinkAttribute::LinkInfo(members) => (IFLA_LINKINFO, Content::Infos(members.as_slice())),
-            LinkAttribute::NetNsPid(n) => (IFLA_NET_NS_PID, Content::U32(*n)),
-            LinkAttribute::IfAlias(text) => (IFLA_IFALIAS, Content::Text(text.as_str())),
-            LinkAttribute::NumVf(n) => (IFLA_NUM_VF, Content::U32(*n)),
+            LinkAttribute::NetNsPid(n) => (IFLA_NET_NS_PID, Content::Flat(Flat::U32(*n))),
+            LinkAttribute::IfAlias(text) => (
+                IFLA_IFALIAS,
+                Content::Flat(Flat::Text(text.as_str())),
+            ),
+            LinkAttribute::NumVf(n) => (IFLA_NUM_VF, Content::Flat(Flat::U32(*n))),
             LinkAttribute::VfInfoList(members) => (
                 IFLA_VFINFO_LIST,
                 Content::Functions(members.as_slice()),
@@ -306,41 +392,56 @@ impl LinkAttribute {
                 IFLA_AF_SPEC,
                 Content::Unspecs(members.as_slice()),
             ),
-            LinkAttribute::AfSpecUnknown(bytes) => (IFLA_AF_SPEC, Content::Bytes(bytes.as_slice())),
-            LinkAttribute::Group(n) => (IFLA_GROUP, Content::U32(*n)),
-            LinkAttribute::NetNsFd(n) => (IFLA_NET_NS_FD, Content::I32(*n)),
+            LinkAttribute::AfSpecUnknown(bytes) => (
+                IFLA_AF_SPEC,
+                Content::Flat(Flat::Bytes(bytes.as_slice())),
+            ),
+            LinkAttribute::Group(n) => (IFLA_GROUP, Content::Flat(Flat::U32(*n))),
+            LinkAttribute::NetNsFd(n) => (IFLA_NET_NS_FD, Content::Flat(Flat::I32(*n))),
             LinkAttribute::ExtMask(flags) => (IFLA_EXT_MASK, Content::Mask(flags.as_slice())),
-            LinkAttribute::Promiscuity(n) => (IFLA_PROMISCUITY, Content::U32(*n)),
-            LinkAttribute::NumTxQueues(n) => (IFLA_NUM_TX_QUEUES, Content::U32(*n)),
-            LinkAttribute::NumRxQueues(n) => (IFLA_NUM_RX_QUEUES, Content::U32(*n)),
-            LinkAttribute::Carrier(n) => (IFLA_CARRIER, Content::U8(*n)),
+            LinkAttribute::Promiscuity(n) => (IFLA_PROMISCUITY, Content::Flat(Flat::U32(*n))),
+            LinkAttribute::NumTxQueues(n) => (IFLA_NUM_TX_QUEUES, Content::Flat(Flat::U32(*n))),
+            LinkAttribute::NumRxQueues(n) => (IFLA_NUM_RX_QUEUES, Content::Flat(Flat::U32(*n))),
+            LinkAttribute::Carrier(n) => (IFLA_CARRIER, Content::Flat(Flat::U8(*n))),
             LinkAttribute::PhysPortId(id) => (IFLA_PHYS_PORT_ID, Content::Id(id)),
-            LinkAttribute::CarrierChanges(n) => (IFLA_CARRIER_CHANGES, Content::U32(*n)),
+            LinkAttribute::CarrierChanges(n) => (
+                IFLA_CARRIER_CHANGES,
+                Content::Flat(Flat::U32(*n)),
+            ),
             LinkAttribute::PhysSwitchId(id) => (IFLA_PHYS_SWITCH_ID, Content::Id(id)),
-            LinkAttribute::LinkNetNsId(n) => (IFLA_LINK_NETNSID, Content::I32(*n)),
+            LinkAttribute::LinkNetNsId(n) => (IFLA_LINK_NETNSID, Content::Flat(Flat::I32(*n))),
             LinkAttribute::PhysPortName(text) => (
                 IFLA_PHYS_PORT_NAME,
-                Content::Text(text.as_str()),
+                Content::Flat(Flat::Text(text.as_str())),
             ),
-            LinkAttribute::ProtoDown(n) => (IFLA_PROTO_DOWN, Content::U8(*n)),
-            LinkAttribute::GsoMaxSegs(n) => (IFLA_GSO_MAX_SEGS, Content::U32(*n)),
-            LinkAttribute::GsoMaxSize(n) => (IFLA_GSO_MAX_SIZE, Content::U32(*n)),
+            LinkAttribute::ProtoDown(n) => (IFLA_PROTO_DOWN, Content::Flat(Flat::U8(*n))),
+            LinkAttribute::GsoMaxSegs(n) => (IFLA_GSO_MAX_SEGS, Content::Flat(Flat::U32(*n))),
+            LinkAttribute::GsoMaxSize(n) => (IFLA_GSO_MAX_SIZE, Content::Flat(Flat::U32(*n))),
             LinkAttribute::Xdp(members) => (IFLA_XDP, Content::Xdps(members.as_slice())),
-            LinkAttribute::Event(event) => (IFLA_EVENT, Content::U32(u32::from(*event))),
-            LinkAttribute::NewNetnsId(n) => (IFLA_NEW_NETNSID, Content::I32(*n)),
-            LinkAttribute::IfNetnsId(n) => (IFLA_IF_NETNSID, Content::I32(*n)),
-            LinkAttribute::CarrierUpCount(n) => (IFLA_CARRIER_UP_COUNT, Content::U32(*n)),
-            LinkAttribute::CarrierDownCount(n) => (IFLA_CARRIER_DOWN_COUNT, Content::U32(*n)),
-            LinkAttribute::NewIfIndex(n) => (IFLA_NEW_IFINDEX, Content::I32(*n)),
-            LinkAttribute::MinMtu(n) => (IFLA_MIN_MTU, Content::U32(*n)),
-            LinkAttribute::MaxMtu(n) => (IFLA_MAX_MTU, Content::U32(*n)),
+            LinkAttribute::Event(event) => (
+                IFLA_EVENT,
+                Content::Flat(Flat::U32(u32::from(*event))),
+            ),
+            LinkAttribute::NewNetnsId(n) => (IFLA_NEW_NETNSID, Content::Flat(Flat::I32(*n))),
+            LinkAttribute::IfNetnsId(n) => (IFLA_IF_NETNSID, Content::Flat(Flat::I32(*n))),
+            LinkAttribute::CarrierUpCount(n) => (
+                IFLA_CARRIER_UP_COUNT,
+                Content::Flat(Flat::U32(*n)),
+            ),
+            LinkAttribute::CarrierDownCount(n) => (
+                IFLA_CARRIER_DOWN_COUNT,
+                Content::Flat(Flat::U32(*n)),
+            ),
+            LinkAttribute::NewIfIndex(n) => (IFLA_NEW_IFINDEX, Content::Flat(Flat::I32(*n))),
+            LinkAttribute::MinMtu(n) => (IFLA_MIN_MTU, Content::Flat(Flat::U32(*n))),
+            LinkAttribute::MaxMtu(n) => (IFLA_MAX_MTU, Content::Flat(Flat::U32(*n))),
             LinkAttribute::PropList(members) => (
                 IFLA_PROP_LIST | NLA_F_NESTED,
                 Content::Props(members.as_slice()),
             ),
             LinkAttribute::PermAddress(bytes) => (
                 IFLA_PERM_ADDRESS,
-                Content::Bytes(bytes.as_slice()),
+                Content::Flat(Flat::Bytes(bytes.as_slice())),
             ),
             LinkAttribute::ProtoDownReason(members) => (
                 IFLA_PROTO_DOWN_REASON,
@@ -348,31 +449,39 @@ impl LinkAttribute {
             ),
             LinkAttribute::ParentDevName(text) => (
                 IFLA_PARENT_DEV_NAME,
-                Content::Text(text.as_str()),
+                Content::Flat(Flat::Text(text.as_str())),
             ),
             LinkAttribute::ParentDevBusName(text) => (
                 IFLA_PARENT_DEV_BUS_NAME,
-                Content::Text(text.as_str()),
+                Content::Flat(Flat::Text(text.as_str())),
             ),
-            LinkAttribute::GroMaxSize(n) => (IFLA_GRO_MAX_SIZE, Content::U32(*n)),
-            LinkAttribute::TsoMaxSize(n) => (IFLA_TSO_MAX_SIZE, Content::U32(*n)),
-            LinkAttribute::TsoMaxSegs(n) => (IFLA_TSO_MAX_SEGS, Content::U32(*n)),
-            LinkAttribute::AllMulticast(n) => (IFLA_ALLMULTI, Content::U32(*n)),
+            LinkAttribute::GroMaxSize(n) => (IFLA_GRO_MAX_SIZE, Content::Flat(Flat::U32(*n))),
+            LinkAttribute::TsoMaxSize(n) => (IFLA_TSO_MAX_SIZE, Content::Flat(Flat::U32(*n))),
+            LinkAttribute::TsoMaxSegs(n) => (IFLA_TSO_MAX_SEGS, Content::Flat(Flat::U32(*n))),
+            LinkAttribute::AllMulticast(n) => (IFLA_ALLMULTI, Content::Flat(Flat::U32(*n))),
             LinkAttribute::DevlinkPort(members) => (
                 IFLA_DEVLINK_PORT | NLA_F_NESTED,
                 Content::DevlinkPorts(members.as_slice()),
             ),
-            LinkAttribute::GsoIpv4MaxSize(n) => (IFLA_GSO_IPV4_MAX_SIZE, Content::U32(*n)),
-            LinkAttribute::GroIpv4MaxSize(n) => (IFLA_GRO_IPV4_MAX_SIZE, Content::U32(*n)),
+            LinkAttribute::GsoIpv4MaxSize(n) => (
+                IFLA_GSO_IPV4_MAX_SIZE,
+                Content::Flat(Flat::U32(*n)),
+            ),
+            LinkAttribute::GroIpv4MaxSize(n) => (
+                IFLA_GRO_IPV4_MAX_SIZE,
+                Content::Flat(Flat::U32(*n)),
+            ),
             LinkAttribute::DpllPin(members) => (
                 IFLA_DPLL_PIN | NLA_F_NESTED,
                 Content::DpllPins(members.as_slice()),
             ),
             LinkAttribute::NetnsImmutable(value) => (
                 IFLA_NETNS_IMMUTABLE,
-                Content::U8(truth_byte(*value)),
+                Content::Flat(Flat::U8(truth_byte(*value))),
             ),
-            LinkAttribute::Other(nla) => (nla.kind(), Content::Bytes(nla.value())),
+            LinkAttribute::Headroom(n) => (IFLA_HEADROOM, Content::Flat(Flat::U16(*n))),
+            LinkAttribute::Tailroom(n) => (IFLA_TAILROOM, Content::Flat(Flat::U16(*n))),
+            LinkAttribute::Other(nla) => (nla.kind(), Content::Flat(Flat::Bytes(nla.value()))),
         }
     }
 
@@ -418,10 +527,8 @@ impl LinkAttribute {
         ensures { result ≡ length (attribute_frame self.now).payload }
     {
         match self.view().1 {
-            Content::Bytes(bytes) => bytes.len(),
-            Content::Text(text) => text.len() + 1,
-            Content::U8(_) => 1,
-            Content::U32(_) | Content::I32(_) | Content::Mask(_) => 4,
+            Content::Flat(flat) => flat.len(),
+            Content::Mask(_) => 4,
             Content::Id(id) => id.id[..id.len].len(),
             Content::Stats(stats) => stats.buffer_len(),
             Content::Stats64(stats) => stats.buffer_len(),
@@ -529,6 +636,8 @@ impl CloneIn for LinkAttribute {
             LinkAttribute::GroIpv4MaxSize(value) => LinkAttribute::GroIpv4MaxSize(*value),
             LinkAttribute::DpllPin(value) => LinkAttribute::DpllPin(value.clone(alloc)?),
             LinkAttribute::NetnsImmutable(value) => LinkAttribute::NetnsImmutable(*value),
+            LinkAttribute::Headroom(value) => LinkAttribute::Headroom(*value),
+            LinkAttribute::Tailroom(value) => LinkAttribute::Tailroom(*value),
             LinkAttribute::Other(value) => LinkAttribute::Other(value.clone(alloc)?),
         })
     }
@@ -627,6 +736,8 @@ impl Exact for LinkAttribute {
         & number_exact
         & list_exact dpll_exact
         & bool_exact
+        & number_exact
+        & number_exact
         & same_frame-Decides
         & tt) };
 }

@@ -93,11 +93,15 @@ fn begin_text(alloc: Global, header: &LinkHeader, capacity: usize) -> Result<Vec
     Ok(begun)
 }
 
-/// The canonical text of the message that the bytes mean.
+/// The number of the canonical form: any change of any message's canonical text raises it. Texts of different numbers
+/// are not to be compared, so a store keeps the number beside its keys.
+pub const CANONICAL_FORM: u32 = 2;
+
+/// The canonical text of the message that the bytes mean, in the form `CANONICAL_FORM`.
 ///
-/// The text means the same message, and its attributes are at most 77 times as long as those read. Refuses, in this
-/// order: `Decode` with the first fault, `DoesNotFit`, `EmptyVfPorts`; `OutOfMemory` can come at any growth. It holds the
-/// text and one attribute at a time.
+/// The text means the same message, and its attributes are at most `growth_per_byte` times, which is 79, as long as
+/// those read. Refuses, in this order: `Decode` with the first fault, `DoesNotFit`, `EmptyVfPorts`; `OutOfMemory` can
+/// come at any growth. It holds the text and one attribute at a time.
 pub fn canonical(alloc: Global, input: &[u8]) -> Result<Vec<u8>, CanonError>
     ensures ok { IfOk result (λ t. HasText input.now t.items) }
     ensures err { IfErr result (IsRefusal input.now) }
@@ -116,8 +120,8 @@ pub fn canonical(alloc: Global, input: &[u8]) -> Result<Vec<u8>, CanonError>
 
 /// Whether two byte strings mean the same message, which is so exactly where their canonical texts are equal.
 ///
-/// Both have to mean messages that fit and hold no empty list of ports. Refuses as `canonical` does, each refusal of the
-/// first before those of the second.
+/// Both have to mean messages that fit and hold no empty list of ports. Refuses as `canonical` does, each refusal of
+/// the first before those of the second.
 pub fn same_message(alloc: Global, first: &[u8], second: &[u8]) -> Result<bool, CanonError>
     ensures ok { IfOk result (AreSame first.now second.now) }
     ensures err { IfErr result (IsRefusalOfTwo first.now second.now) }
@@ -130,9 +134,9 @@ pub fn same_message(alloc: Global, first: &[u8], second: &[u8]) -> Result<bool, 
 /// Writes the canonical text of the message that the bytes mean to the front of the buffer, with no memory, and answers
 /// its length. The rest of the buffer is kept.
 ///
-/// The buffer has at least 77 times as many bytes as the input. Answers exactly what `canonical` answers with ample
-/// memory, and never `OutOfMemory`. After `Decode` the buffer is unchanged; after `DoesNotFit` and `EmptyVfPorts` its
-/// bytes are open.
+/// The buffer has at least `growth_per_byte` times as many bytes as the input, which is 79 times. Answers exactly what
+/// `canonical` answers with ample memory, and never `OutOfMemory`. After `Decode` the buffer is unchanged; after
+/// `DoesNotFit` and `EmptyVfPorts` its bytes are open.
 pub fn canonical_into(input: &[u8], out: &mut [u8]) -> Result<usize, CanonError>
     requires { growth_per_byte * length input.now ≤ length out.old }
     ensures { IsWritten input.now out.old out.new result }

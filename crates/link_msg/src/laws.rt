@@ -143,3 +143,10 @@ pub fn law_if_name_in_bytes()
     ensures { canon (attribute_frame (Attributes.IfName (0x6c ∷ 0x6f ∷ [])))
         ≡ 0x07 ∷ 0x00 ∷ 0x03 ∷ 0x00 ∷ 0x6c ∷ 0x6f ∷ 0x00 ∷ 0x00 ∷ [] }
 {}
+
+/// A headroom of 32 bytes is written as the length 6, the number 68, two bytes, lowest first, and two bytes of padding.
+#[tactic(auto, unfolding(crate::specs::Tables::attribute_view))]
+pub fn law_headroom_in_bytes()
+    ensures { canon (attribute_frame (Attributes.Headroom 32))
+        ≡ 0x06 ∷ 0x00 ∷ 0x44 ∷ 0x00 ∷ 0x20 ∷ 0x00 ∷ 0x00 ∷ 0x00 ∷ [] }
+{}

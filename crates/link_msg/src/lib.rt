@@ -16,6 +16,7 @@ mod shape;
 pub mod table;
 
 pub use attribute::LinkAttribute;
+pub use canonical_text::CANONICAL_FORM;
 pub use canonical_text::CanonError;
 pub use canonical_text::canonical;
 pub use canonical_text::canonical_into;

@@ -123,3 +123,7 @@ pub const IFLA_GRO_IPV4_MAX_SIZE: u16 = 64;
 pub const IFLA_DPLL_PIN: u16 = 65;
 /// The number of `IFLA_NETNS_IMMUTABLE`.
 pub const IFLA_NETNS_IMMUTABLE: u16 = 67;
+/// The number of `IFLA_HEADROOM`.
+pub const IFLA_HEADROOM: u16 = 68;
+/// The number of `IFLA_TAILROOM`.
+pub const IFLA_TAILROOM: u16 = 69;

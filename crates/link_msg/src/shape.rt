@@ -12,14 +12,14 @@ use crate::numbers::{
     IFLA_ADDRESS, IFLA_AF_SPEC, IFLA_ALLMULTI, IFLA_BROADCAST, IFLA_CARRIER, IFLA_CARRIER_CHANGES,
     IFLA_CARRIER_DOWN_COUNT, IFLA_CARRIER_UP_COUNT, IFLA_DEVLINK_PORT, IFLA_DPLL_PIN, IFLA_EVENT,
     IFLA_EXT_MASK, IFLA_GRO_IPV4_MAX_SIZE, IFLA_GRO_MAX_SIZE, IFLA_GROUP, IFLA_GSO_IPV4_MAX_SIZE,
-    IFLA_GSO_MAX_SEGS, IFLA_GSO_MAX_SIZE, IFLA_IF_NETNSID, IFLA_IFALIAS, IFLA_IFNAME, IFLA_LINK,
-    IFLA_LINK_NETNSID, IFLA_LINKINFO, IFLA_LINKMODE, IFLA_MAP, IFLA_MASTER, IFLA_MAX_MTU,
-    IFLA_MIN_MTU, IFLA_MTU, IFLA_NET_NS_FD, IFLA_NET_NS_PID, IFLA_NETNS_IMMUTABLE,
+    IFLA_GSO_MAX_SEGS, IFLA_GSO_MAX_SIZE, IFLA_HEADROOM, IFLA_IF_NETNSID, IFLA_IFALIAS,
+    IFLA_IFNAME, IFLA_LINK, IFLA_LINK_NETNSID, IFLA_LINKINFO, IFLA_LINKMODE, IFLA_MAP, IFLA_MASTER,
+    IFLA_MAX_MTU, IFLA_MIN_MTU, IFLA_MTU, IFLA_NET_NS_FD, IFLA_NET_NS_PID, IFLA_NETNS_IMMUTABLE,
     IFLA_NEW_IFINDEX, IFLA_NEW_NETNSID, IFLA_NUM_RX_QUEUES, IFLA_NUM_TX_QUEUES, IFLA_NUM_VF,
     IFLA_OPERSTATE, IFLA_PARENT_DEV_BUS_NAME, IFLA_PARENT_DEV_NAME, IFLA_PERM_ADDRESS,
     IFLA_PHYS_PORT_ID, IFLA_PHYS_PORT_NAME, IFLA_PHYS_SWITCH_ID, IFLA_PORT_SELF, IFLA_PROMISCUITY,
     IFLA_PROP_LIST, IFLA_PROTINFO, IFLA_PROTO_DOWN, IFLA_PROTO_DOWN_REASON, IFLA_QDISC, IFLA_STATS,
-    IFLA_STATS64, IFLA_TSO_MAX_SEGS, IFLA_TSO_MAX_SIZE, IFLA_TXQLEN, IFLA_VF_PORTS,
+    IFLA_STATS64, IFLA_TAILROOM, IFLA_TSO_MAX_SEGS, IFLA_TSO_MAX_SIZE, IFLA_TXQLEN, IFLA_VF_PORTS,
     IFLA_VFINFO_LIST, IFLA_WIRELESS, IFLA_XDP,
 };
 use crate::payload::{canon_event, canon_ports, canon_some, check_ports, check_some, truth_byte};
@@ -31,10 +31,7 @@ use link_recs::{Map, Stats, Stats64};
 use link_vals::AddressFamily;
 use link_vf::{LinkVfInfo, LinkVfPort};
 use nla_wire::error::checked;
-use nla_wire::{
-    DecodeError, NLA_F_NESTED, NlaRead, canon_bytes, canon_text, canon_u8, canon_u32, canon_value,
-    check_string, parse_u8, parse_u32,
-};
+use nla_wire::{DecodeError, Leaf, NLA_F_NESTED, NlaRead, canon_value, parse_u8};
 
 /// The most bytes of an id that are written.
 const ID_SIZE: usize = 32;
@@ -48,8 +45,12 @@ pub(crate) enum Shape {
     Text,
     /// A number of one byte, written as it is.
     U8,
+    /// A number of two bytes, written as it is.
+    U16,
     /// A number of four bytes, written as it is.
     U32,
+    /// A number of eight bytes, written as it is.
+    U64,
     /// A number of one byte, written 0 or 1.
     Truth,
     /// Any bytes, of which the first 32 are written.
@@ -91,11 +92,11 @@ pub(crate) enum Shape {
 }
 
 impl Shape {
-    /// The shape of the payload of an attribute of this number under the header's family; `None` where the attribute is
-    /// kept.
+    /// The shape of a payload of this size, of an attribute of this number under the header's family; `None` where the
+    /// attribute is kept.
     #[tactic(auto, unfolding(crate::specs::Tables::attribute_view, crate::specs::Tables::attribute_entries))]
-    pub(crate) fn of(number: u16, family: AddressFamily) -> Option<Shape>
-        ensures { (size : ℕ) → as_way result ≡ attribute_way family number size }
+    pub(crate) fn of(number: u16, size: usize, family: AddressFamily) -> Option<Shape>
+        ensures { as_way result ≡ attribute_way family number size }
     {
         match number {
             IFLA_ADDRESS => Some(Shape::Bytes),
@@ -157,6 +158,8 @@ impl Shape {
             IFLA_GRO_IPV4_MAX_SIZE => Some(Shape::U32),
             IFLA_DPLL_PIN => Some(Shape::DpllPins),
             IFLA_NETNS_IMMUTABLE => Some(Shape::Truth),
+            IFLA_HEADROOM => (size == 2).then_some(Shape::U16),
+            IFLA_TAILROOM => (size == 2).then_some(Shape::U16),
             IFLA_PROTINFO => Shape::of_proto_info(family),
             IFLA_AF_SPEC => Shape::of_af_spec(family),
             _ => None,
@@ -190,10 +193,12 @@ impl Shape {
         ensures { ShapeChecks base self payload.now result }
     {
         match self {
-            Shape::Bytes => Ok(()),
-            Shape::Text => check_string(payload),
-            Shape::U8 => checked(parse_u8(payload)),
-            Shape::U32 => checked(parse_u32(payload)),
+            Shape::Bytes => Leaf::Bytes.check(payload),
+            Shape::Text => Leaf::Text.check(payload),
+            Shape::U8 => Leaf::U8.check(payload),
+            Shape::U16 => Leaf::U16.check(payload),
+            Shape::U32 => Leaf::U32.check(payload),
+            Shape::U64 => Leaf::U64.check(payload),
             Shape::Truth => check_truth(payload),
             Shape::Id => Ok(()),
             Shape::Stats => Ok(()),
@@ -227,10 +232,12 @@ impl Shape {
         ensures bytes { IsBytes payload.now }
     {
         match self {
-            Shape::Bytes => canon_bytes(number, payload, out),
-            Shape::Text => canon_text(number, payload, out),
-            Shape::U8 => canon_u8(number, payload, out),
-            Shape::U32 => canon_u32(number, payload, out),
+            Shape::Bytes => Leaf::Bytes.canon(number, payload, out),
+            Shape::Text => Leaf::Text.canon(number, payload, out),
+            Shape::U8 => Leaf::U8.canon(number, payload, out),
+            Shape::U16 => Leaf::U16.canon(number, payload, out),
+            Shape::U32 => Leaf::U32.canon(number, payload, out),
+            Shape::U64 => Leaf::U64.canon(number, payload, out),
             Shape::Truth => canon_truth(number, payload, out),
             Shape::Id => canon_value(number, &payload[..payload.len().min(ID_SIZE)], out),
             Shape::Stats => Stats::canon(number, payload, out),

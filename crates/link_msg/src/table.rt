@@ -28,6 +28,7 @@ use crate::numbers::IFLA_GROUP;
 use crate::numbers::IFLA_GSO_IPV4_MAX_SIZE;
 use crate::numbers::IFLA_GSO_MAX_SEGS;
 use crate::numbers::IFLA_GSO_MAX_SIZE;
+use crate::numbers::IFLA_HEADROOM;
 use crate::numbers::IFLA_IF_NETNSID;
 use crate::numbers::IFLA_IFALIAS;
 use crate::numbers::IFLA_IFNAME;
@@ -64,6 +65,7 @@ use crate::numbers::IFLA_PROTO_DOWN_REASON;
 use crate::numbers::IFLA_QDISC;
 use crate::numbers::IFLA_STATS;
 use crate::numbers::IFLA_STATS64;
+use crate::numbers::IFLA_TAILROOM;
 use crate::numbers::IFLA_TSO_MAX_SEGS;
 use crate::numbers::IFLA_TSO_MAX_SIZE;
 use crate::numbers::IFLA_TXQLEN;
@@ -109,6 +111,7 @@ use nla_wire::parse_i32;
 use nla_wire::parse_members;
 use nla_wire::parse_string;
 use nla_wire::parse_u8;
+use nla_wire::parse_u16;
 use nla_wire::parse_u32;
 use std::alloc::Global;
 
@@ -203,6 +206,14 @@ impl LinkAttribute {
             IFLA_NETNS_IMMUTABLE => parse_u8(payload).map(|n| LinkAttribute::NetnsImmutable(
                 n != 0,
             )),
+            IFLA_HEADROOM => match payload.len() {
+                2 => parse_u16(payload).map(LinkAttribute::Headroom),
+                _ => DefaultNla::parse(alloc, buffer).map(LinkAttribute::Other),
+            },
+            IFLA_TAILROOM => match payload.len() {
+                2 => parse_u16(payload).map(LinkAttribute::Tailroom),
+                _ => DefaultNla::parse(alloc, buffer).map(LinkAttribute::Other),
+            },
             IFLA_PROTINFO => parse_proto_info(alloc, buffer, family),
             IFLA_AF_SPEC => parse_af_spec(alloc, buffer, family),
             _ => DefaultNla::parse(alloc, buffer).map(LinkAttribute::Other),
@@ -217,8 +228,9 @@ impl LinkAttribute {
     ) -> Result<(), DecodeError>
         ensures { Checks result ((attribute_place family).reads buffer.now) }
     {
-        match Shape::of(buffer.kind(), family) {
-            Some(shape) => shape.check(buffer.value()),
+        let payload = buffer.value();
+        match Shape::of(buffer.kind(), payload.len(), family) {
+            Some(shape) => shape.check(payload),
             None => Ok(()),
         }
     }
@@ -234,9 +246,10 @@ impl LinkAttribute {
         requires room { growth_per_byte * (4 + length buffer.now.payload) ≤ length out.old }
         ensures { Canonical (λ v. canon (attribute_frame v)) AttributeFits ((attribute_place family).reads buffer.now) out.old out.new result }
     {
-        match Shape::of(buffer.kind(), family) {
-            Some(shape) => shape.canon(buffer.kind(), buffer.value(), out),
-            None => canon_bytes(buffer.kind_with_flags(), buffer.value(), out),
+        let payload = buffer.value();
+        match Shape::of(buffer.kind(), payload.len(), family) {
+            Some(shape) => shape.canon(buffer.kind(), payload, out),
+            None => canon_bytes(buffer.kind_with_flags(), payload, out),
         }
     }
 

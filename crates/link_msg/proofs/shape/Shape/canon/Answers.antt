@@ -1,8 +1,7 @@
-use Rattle.std.proofs.Common.{◌≤◌, ◌++◌, [], ◌∷◌, length, take, sym, ap, ◌∙◌, subst, refl, Ok}
+use Rattle.std.proofs.Common.{◌≤◌, length, take, sym, ap, ◌∙◌, subst, refl, Ok}
 use Rattle.std.proofs.Math.Nat.{min_comm}
 use Rattle.std.proofs.lemmas.List.{take_min}
-use Rattle.std.specs.Int.{w8, w32, to_le_bytes, from_le_bytes}
-use Rattle.nla_wire.specs.Payloads.{without_nul, read_text, read_number, read_sized}
+use Rattle.nla_wire.specs.Payloads.{read_sized}
 use Rattle.nla_wire.specs.Canon.{Closed}
 use Rattle.nla_wire.proofs.Lawful.{always}
 use Rattle.nla_wire.proofs.Shapes.{closed_writes}
@@ -12,35 +11,43 @@ use Rattle.link_recs.specs.StatsFields.{stats_of, stats_bytes}
 use Rattle.link_recs.specs.Stats64Fields.{stats64_of, stats64_bytes}
 use Rattle.link_recs.specs.MapFields.{map_size, map_of, map_bytes}
 use Rattle.link_vf.specs.Tables.{link_vf_port_place}
+use Rattle.nla_wire.specs.declared.leaf.Leaf.TheVariants as Leaves
 use Rattle.link_msg.specs.declared.shape.Shape.TheVariants as Shapes
-use Rattle.link_msg.proofs.Shaped.{arm, arm_accepted, text_read, number_read, sized_read}
+use Rattle.link_msg.proofs.Shaped.{arm, arm_accepted, arm_leaf, sized_read}
 use Rattle.link_msg.proofs.shape.Shape.canon.Goals as goal
+
+pub canon-requires-clause-accepted : goal.canon-requires-clause-accepted
+canon-requires-clause-accepted c = arm_accepted c.args.self Shapes.Bytes c.args.payload.now c.in-Bytes.is c.requires.accepted
 
 pub returns-in-Bytes-clause-text : goal.returns-in-Bytes-clause-text
 returns-in-Bytes-clause-text c =
-    arm c.args.self Shapes.Bytes c.args.number c.args.payload.now c.args.out.now c.canon_bytes.new.out c.canon_bytes.result c.in-Bytes.is
-    (closed_writes (λ x. x) always (Ok c.args.payload.now) c.args.number c.args.payload.now c.args.out.now c.canon_bytes.new.out c.canon_bytes.result refl tt c.canon_bytes.ensures)
+    arm_leaf c.args.self Shapes.Bytes Leaves.Bytes refl c.args.number c.args.payload.now c.args.out.now c.canon.new.out c.canon.result c.in-Bytes.is
+    c.requires.accepted c.canon.ensures
 
 pub returns-in-Text-clause-text : goal.returns-in-Text-clause-text
 returns-in-Text-clause-text c =
-    arm c.args.self Shapes.Text c.args.number c.args.payload.now c.args.out.now c.canon_text.new.out c.canon_text.result c.in-Text.is
-    (closed_writes (λ s. s ++ 0 ∷ []) always (read_text c.args.payload.now) c.args.number (without_nul c.args.payload.now) c.args.out.now c.canon_text.new.out c.canon_text.result (text_read c.args.payload.now (arm_accepted c.args.self Shapes.Text c.args.payload.now c.in-Text.is c.requires.accepted)) tt c.canon_text.ensures)
-
-pub canon_u8-requires-clause-exact : goal.canon_u8-requires-clause-exact
-canon_u8-requires-clause-exact c = (number_read w8 c.args.payload.now (arm_accepted c.args.self Shapes.U8 c.args.payload.now c.in-U8.is c.requires.accepted)).0
+    arm_leaf c.args.self Shapes.Text Leaves.Text refl c.args.number c.args.payload.now c.args.out.now c.canon-in-Text.new.out c.canon-in-Text.result c.in-Text.is
+    c.requires.accepted c.canon-in-Text.ensures
 
 pub returns-in-U8-clause-text : goal.returns-in-U8-clause-text
 returns-in-U8-clause-text c =
-    arm c.args.self Shapes.U8 c.args.number c.args.payload.now c.args.out.now c.canon_u8.new.out c.canon_u8.result c.in-U8.is
-    (closed_writes (to_le_bytes w8) always (read_number w8 c.args.payload.now) c.args.number (from_le_bytes w8 c.args.payload.now) c.args.out.now c.canon_u8.new.out c.canon_u8.result (number_read w8 c.args.payload.now (arm_accepted c.args.self Shapes.U8 c.args.payload.now c.in-U8.is c.requires.accepted)).1 tt c.canon_u8.ensures)
+    arm_leaf c.args.self Shapes.U8 Leaves.U8 refl c.args.number c.args.payload.now c.args.out.now c.canon-in-U8.new.out c.canon-in-U8.result c.in-U8.is
+    c.requires.accepted c.canon-in-U8.ensures
 
-pub canon_u32-requires-clause-exact : goal.canon_u32-requires-clause-exact
-canon_u32-requires-clause-exact c = (number_read w32 c.args.payload.now (arm_accepted c.args.self Shapes.U32 c.args.payload.now c.in-U32.is c.requires.accepted)).0
+pub returns-in-U16-clause-text : goal.returns-in-U16-clause-text
+returns-in-U16-clause-text c =
+    arm_leaf c.args.self Shapes.U16 Leaves.U16 refl c.args.number c.args.payload.now c.args.out.now c.canon-in-U16.new.out c.canon-in-U16.result c.in-U16.is
+    c.requires.accepted c.canon-in-U16.ensures
 
 pub returns-in-U32-clause-text : goal.returns-in-U32-clause-text
 returns-in-U32-clause-text c =
-    arm c.args.self Shapes.U32 c.args.number c.args.payload.now c.args.out.now c.canon_u32.new.out c.canon_u32.result c.in-U32.is
-    (closed_writes (to_le_bytes w32) always (read_number w32 c.args.payload.now) c.args.number (from_le_bytes w32 c.args.payload.now) c.args.out.now c.canon_u32.new.out c.canon_u32.result (number_read w32 c.args.payload.now (arm_accepted c.args.self Shapes.U32 c.args.payload.now c.in-U32.is c.requires.accepted)).1 tt c.canon_u32.ensures)
+    arm_leaf c.args.self Shapes.U32 Leaves.U32 refl c.args.number c.args.payload.now c.args.out.now c.canon-in-U32.new.out c.canon-in-U32.result c.in-U32.is
+    c.requires.accepted c.canon-in-U32.ensures
+
+pub returns-in-U64-clause-text : goal.returns-in-U64-clause-text
+returns-in-U64-clause-text c =
+    arm_leaf c.args.self Shapes.U64 Leaves.U64 refl c.args.number c.args.payload.now c.args.out.now c.canon-in-U64.new.out c.canon-in-U64.result c.in-U64.is
+    c.requires.accepted c.canon-in-U64.ensures
 
 pub returns-in-Id-clause-text : goal.returns-in-Id-clause-text
 returns-in-Id-clause-text c =
@@ -51,8 +58,8 @@ returns-in-Id-clause-text c =
 
 pub returns-in-Stats-clause-text : goal.returns-in-Stats-clause-text
 returns-in-Stats-clause-text c =
-    arm c.args.self Shapes.Stats c.args.number c.args.payload.now c.args.out.now c.canon.new.out c.canon.result c.in-Stats.is
-    (closed_writes stats_bytes always (Ok (stats_of c.args.payload.now)) c.args.number (stats_of c.args.payload.now) c.args.out.now c.canon.new.out c.canon.result refl tt c.canon.ensures)
+    arm c.args.self Shapes.Stats c.args.number c.args.payload.now c.args.out.now c.canon-in-Stats.new.out c.canon-in-Stats.result c.in-Stats.is
+    (closed_writes stats_bytes always (Ok (stats_of c.args.payload.now)) c.args.number (stats_of c.args.payload.now) c.args.out.now c.canon-in-Stats.new.out c.canon-in-Stats.result refl tt c.canon-in-Stats.ensures)
 
 pub returns-in-Stats64-clause-text : goal.returns-in-Stats64-clause-text
 returns-in-Stats64-clause-text c =

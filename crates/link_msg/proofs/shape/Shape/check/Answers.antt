@@ -3,9 +3,6 @@ use Rattle.nla_wire.specs.Gives.{Checks}
 use Rattle.link_msg.specs.Tables.{base}
 use Rattle.link_msg.proofs.shape.Shape.check.Goals as goal
 
-pub returns-in-Bytes : goal.returns-in-Bytes
-returns-in-Bytes c = subst (λ s. Checks (Ok tt) ((base s).codec.grammar.reads c.args.payload.now)) (sym c.in-Bytes.is) refl
-
 pub returns-in-Id : goal.returns-in-Id
 returns-in-Id c = subst (λ s. Checks (Ok tt) ((base s).codec.grammar.reads c.args.payload.now)) (sym c.in-Id.is) refl
 
