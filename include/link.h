@@ -26,7 +26,7 @@ extern "C" {
 #endif
 
 /* What `out` needs for each byte that `link_canonical_into` reads. */
-#define LINK_GROWTH 77
+#define LINK_GROWTH 79
 
 /* The causes of a fault. `link_check` answers the one that is met first, front to back, each value before the next
  * attribute, with a minus sign. */
@@ -54,11 +54,11 @@ int32_t link_check(const uint8_t *bytes, size_t len);
 
 /* Writes the canonical text of the message to the front of `out` and answers its length, which is at least 16; the bytes
  * behind it are kept. Else -1 to -5, and `out` is as it was. It answers -5 only where the text is longer than `cap`, and
- * the text is never longer than 77 times `len`. */
+ * the text is never longer than LINK_GROWTH times `len`. */
 ptrdiff_t link_canonical(const uint8_t *bytes, size_t len, uint8_t *out, size_t cap);
 
-/* The same with no memory taken, where `cap` is at least 77 times `len`; else -5. It never answers -4. After -1 and -5
- * `out` is as it was; after -2 and -3 what its bytes are is open. */
+/* The same with no memory taken, where `cap` is at least LINK_GROWTH times `len`; else -5. It never answers -4. After
+ * -1 and -5 `out` is as it was; after -2 and -3 what its bytes are is open. */
 ptrdiff_t link_canonical_into(const uint8_t *bytes, size_t len, uint8_t *out, size_t cap);
 
 /* 1 where both mean the same message, 0 where they mean two; or the refusal, -1 to -4, of the first that is refused. */

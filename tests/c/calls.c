@@ -57,7 +57,7 @@ static int all_bytes_are(const uint8_t *bytes, size_t len, uint8_t want) {
 }
 
 static void refuses(void) {
-    uint8_t out[77 * 40];
+    uint8_t out[LINK_GROWTH * 40];
     for (size_t i = 0; i < sizeof faults / sizeof *faults; i++) {
         const struct fault *fault = &faults[i];
         if (link_check(fault->bytes, fault->len) != -fault->cause) {
@@ -74,7 +74,7 @@ static void refuses(void) {
 }
 
 static void writes(void) {
-    uint8_t out[77 * sizeof message + 1];
+    uint8_t out[LINK_GROWTH * sizeof message + 1];
     EXPECT(link_check(message, sizeof message), 0);
     EXPECT(link_check(text, sizeof text), 0);
 
@@ -90,12 +90,13 @@ static void writes(void) {
 }
 
 static void tells_short_buffers(void) {
-    uint8_t out[77 * sizeof message];
+    uint8_t out[LINK_GROWTH * sizeof message];
     memset(out, 0x55, sizeof out);
     EXPECT(link_canonical(message, sizeof message, out, sizeof text - 1), LINK_OUT_TOO_SHORT);
     EXPECT(link_canonical(message, sizeof message, out, 0), LINK_OUT_TOO_SHORT);
     EXPECT(link_canonical_into(message, sizeof message, out, sizeof out - 1), LINK_OUT_TOO_SHORT);
-    EXPECT(link_canonical_into(faults[1].bytes, faults[1].len, out, 77 * faults[1].len - 1), LINK_OUT_TOO_SHORT);
+    const struct fault *fault = &faults[1];
+    EXPECT(link_canonical_into(fault->bytes, fault->len, out, LINK_GROWTH * fault->len - 1), LINK_OUT_TOO_SHORT);
     EXPECT(all_bytes_are(out, sizeof out, 0x55), 1);
     EXPECT(link_canonical(message, sizeof message, out, sizeof text), sizeof text);
     EXPECT(memcmp(out, text, sizeof text), 0);
@@ -139,7 +140,7 @@ static void refuses_what_does_not_fit(void) {
 /* The one entry has another number than 1 and is dropped, and the empty list of ports cannot be written. */
 static void refuses_empty_ports(void) {
     static const uint8_t bytes[] = {HEADER, 8, 0, 24, 0, 4, 0, 2, 0};
-    uint8_t out[77 * sizeof bytes];
+    uint8_t out[LINK_GROWTH * sizeof bytes];
     EXPECT(link_check(bytes, sizeof bytes), 0);
     memset(out, 0x55, sizeof out);
     EXPECT(link_canonical(bytes, sizeof bytes, out, sizeof out), LINK_EMPTY_PORTS);

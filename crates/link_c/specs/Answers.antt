@@ -35,7 +35,7 @@ IsText b old new (Ok n) = (t : List ℕ) × HasText b t × Writes t old new n
 IsText b old new (Err (NoText e)) = IsRefusal b e × (new ≡ old)
 IsText b old new (Err OutTooShort) = ((t : List ℕ) × HasText b t × (length old < length t)) × (new ≡ old)
 
--- the same with no memory; the buffer has fewer than 77 bytes for each that was read, and is as it was
+-- the same with no memory; the buffer has fewer than `growth_per_byte` bytes for each that was read, and is as it was
 abbrev pub IsTextInto : List ℕ → List ℕ → List ℕ → Result ℕ TextError → Type 0
 IsTextInto b old new (Ok n) = (growth_per_byte * length b ≤ length old) × IsWritten b old new (Ok n)
 IsTextInto b old new (Err (NoText e)) = (growth_per_byte * length b ≤ length old) × IsWritten b old new (Err e)

@@ -10,7 +10,7 @@ use std::alloc::Global;
 use thiserror::Error;
 
 /// How many bytes a buffer needs for each byte that is read.
-pub const GROWTH: usize = 77;
+pub const GROWTH: usize = 79;
 
 /// Why no text stands in the buffer.
 #[derive(Clone, Copy, Debug, PartialEq, Eq, Error)]
@@ -78,7 +78,7 @@ pub fn write_canonical(alloc: Global, bytes: &[u8], out: &mut [u8]) -> Result<us
     Ok(text.len())
 }
 
-/// The same with no memory, where the buffer has at least 77 times as many bytes as are read.
+/// The same with no memory, where the buffer has at least `GROWTH` bytes for each that is read.
 pub fn write_canonical_into(bytes: &[u8], out: &mut [u8]) -> Result<usize, TextError>
     ensures { IsTextInto bytes.now out.old out.new result }
 {
@@ -106,7 +106,7 @@ pub fn canonical_code(alloc: Global, bytes: &[u8], out: &mut [u8]) -> isize
     text_code(write_canonical(alloc, bytes, out))
 }
 
-/// The same with no memory; minus 5 where the buffer has fewer than 77 bytes for each that is read.
+/// The same with no memory; minus 5 where the buffer has fewer than `GROWTH` bytes for each that is read.
 pub fn canonical_into_code(bytes: &[u8], out: &mut [u8]) -> isize
     ensures { Says text_error_number (IsTextInto bytes.now out.old out.new) result }
 {

@@ -1,6 +1,6 @@
 //! Empty lists of ports, and what `same_message` answers of them.
 
-use crate::testing::{are_same, got, is_refused, read_message};
+use crate::testing::{GROWTH, are_same, got, is_refused, read_message};
 use link_msg::*;
 use std::alloc::Global;
 use std::process::Abort;
@@ -13,7 +13,7 @@ const NO_PORTS: [u8; 24] = [
 /// A message is refused with this number, when its text is made and when it is written.
 fn has_no_text(rt: &impl Abort, alloc: Global, bytes: &[u8], wanted: u8) {
     is_refused(rt, canonical(alloc, bytes), Some(wanted));
-    let mut out = [255; 2000];
+    let mut out = [255; 25 * GROWTH];
     assert!(rt; bytes.len() <= 25);
     is_refused(rt, canonical_into(bytes, &mut out), Some(wanted));
 }

@@ -208,7 +208,7 @@ fn event_means(
 ) {
     let read = got(rt, WirelessEvent::parse(alloc, payload));
     is_copied(rt, alloc, &read, event);
-    let mut out = [255; 700];
+    let mut out = [255; 9 * GROWTH];
     assert!(rt; WirelessEvent::check(payload).is_ok());
     assert!(rt; WirelessEvent::canon(payload, &mut out) == Some(9));
     begin(rt, &out, text);

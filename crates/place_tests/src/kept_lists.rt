@@ -1,6 +1,6 @@
 //! Lists of attributes that are all kept, read, checked and written again.
 
-use crate::testing::{fails, got, wrote};
+use crate::testing::{GROWTH, fails, got, wrote};
 use link_vf::VfPort;
 use nla_wire::{Cause, NLA_F_NESTED, Nla, NlaRead, OwnPlace, append_members};
 
@@ -31,7 +31,7 @@ fn refuses_lists(rt: HostRuntime) {
 
 #[test]
 fn writes_lists(rt: HostRuntime) {
-    let mut out = [255; 1001];
+    let mut out = [255; 13 * GROWTH];
     assert!(rt; VfPort::check_list(&TWO).is_ok());
     let len = VfPort::canon_list(&TWO, &mut out);
     let text = [4, 0, 2, 0x80, 5, 0, 1, 0, 7, 0, 0, 0, 255];
@@ -55,7 +55,7 @@ fn adds_lists(rt: HostRuntime) {
 
 #[test]
 fn writes_picked_lists(rt: HostRuntime) {
-    let mut out = [255; 1001];
+    let mut out = [255; 13 * GROWTH];
     assert!(rt; VfPort::check_picked(&TWO).is_ok());
     let len = VfPort::canon_picked(&TWO, &mut out);
     wrote(&rt, len, 8, &out, &SECOND);

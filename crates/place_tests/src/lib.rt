@@ -12,10 +12,14 @@ mod functions_and_ports;
 #[cfg(test)]
 mod kept_lists;
 #[cfg(test)]
+mod longer_records;
+#[cfg(test)]
 mod messages;
 #[cfg(test)]
 mod names;
 #[cfg(test)]
 mod settings;
+#[cfg(test)]
+mod sized_kinds;
 #[cfg(test)]
 mod testing;

@@ -41,7 +41,7 @@ fn becomes(rt: &impl Abort, alloc: Global, attributes: &[u8], want: &[u8]) {
 
 /// A message of at most 36 bytes is written as this text, of at most 400, with no memory.
 fn is_written(rt: &impl Abort, bytes: &[u8], text: &[u8]) {
-    let mut out = [255; 2772];
+    let mut out = [255; 36 * GROWTH];
     assert!(rt; bytes.len() <= 36);
     assert!(rt; text.len() <= 400);
     let len = got(rt, canonical_into(bytes, &mut out));
@@ -221,7 +221,7 @@ fn the_longest_names(rt: HostRuntime) {
 
 #[test]
 fn a_fault_leaves_the_buffer(rt: HostRuntime) {
-    let mut out = [7; 1540];
+    let mut out = [7; 20 * GROWTH];
     is_refused(&rt, canonical_into(&[255; 20], &mut out), Some(1));
     are_kept(&rt, &out, 7);
 }

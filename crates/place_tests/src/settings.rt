@@ -1,20 +1,28 @@
 use crate::testing::*;
 use link_afspec::*;
+use link_recs::inet::INET_DEV_CONF_SIZE;
+use link_recs::inet6_devconf::INET6_DEV_CONF_SIZE;
+use link_recs::inet6_icmp::ICMP6_STATS_SIZE;
+use link_recs::inet6_stats::INET6_STATS_SIZE;
 use link_recs::{Icmp6Stats, Inet6CacheInfo, Inet6DevConf, Inet6Stats, InetDevConf};
 use link_vals::{In6AddrGenMode, Inet6IfaceFlags, MctpPhysBinding};
-use nla_wire::{Cause, CloneIn, Exact, List, Nla, NlaRead};
+use nla_wire::{Cause, CloneIn, Exact, List, NLA_HEADER_SIZE, Nla, NlaRead};
 use std::alloc::Global;
 use std::net::Ipv6Addr;
 use std::process::Abort;
 
-/// Bytes with zeros behind them.
-fn zeros_behind<const N: usize>(bytes: &[u8]) -> [u8; N] {
-    let mut text = [0; N];
-    for (place, byte) in text.iter_mut().zip(bytes) {
-        *place = *byte;
-    }
-    text
-}
+/// The attribute of IPv4 settings.
+const SETTINGS: usize = NLA_HEADER_SIZE + INET_DEV_CONF_SIZE;
+
+/// The list of a family with these alone.
+const INET: usize = NLA_HEADER_SIZE + SETTINGS;
+
+/// The attribute of IPv6 settings, of IPv6 counters, and of ICMPv6 counters.
+const INET6_SETTINGS: usize = NLA_HEADER_SIZE + INET6_DEV_CONF_SIZE;
+
+const COUNTERS: usize = NLA_HEADER_SIZE + INET6_STATS_SIZE;
+
+const ICMP6_COUNTERS: usize = NLA_HEADER_SIZE + ICMP6_STATS_SIZE;
 
 #[test]
 fn settings_of_mctp(rt: HostRuntime) {
@@ -63,13 +71,13 @@ fn settings_of_ipv4(rt: HostRuntime) {
     let conf = two_settings();
     assert!(rt; conf.fits());
     assert!(rt; conf.kind() == 1);
-    assert!(rt; conf.value_len() == 132);
+    assert!(rt; conf.value_len() == 136);
 }
 
 #[test]
 fn flags_of_settings_of_ipv4(rt: HostRuntime) {
     let values = [two_settings()];
-    let text: [u8; 136] = zeros_behind(&[0x88, 0, 1, 0, 8, 0, 1, 0, 1, 0, 0, 0]);
+    let text: [u8; SETTINGS] = zeros_behind(&[0x8c, 0, 1, 0, 8, 0, 1, 0, 1, 0, 0, 0]);
     for kind in [0, 0x80, 0x40, 0xc0] {
         let bytes = [12, 0, 1, kind, 8, 0, 1, 0, 1, 0, 0, 0];
         means(&rt, rt.alloc(), &bytes, &values, &text);
@@ -80,7 +88,7 @@ fn flags_of_settings_of_ipv4(rt: HostRuntime) {
 fn short_settings_of_ipv4(rt: HostRuntime) {
     let alloc = rt.alloc();
     let none = AfSpecInet::DevConf(InetDevConf::default());
-    let text: [u8; 136] = zeros_behind(&[0x88, 0, 1, 0]);
+    let text: [u8; SETTINGS] = zeros_behind(&[0x8c, 0, 1, 0]);
     means(&rt, alloc, &[4, 0, 1, 0], &[none], &text);
     let other = AfSpecInet::Other(kept(&rt, alloc, 2, &[]));
     means(&rt, alloc, &[4, 0, 2, 0], &[other], &[4, 0, 2, 0]);
@@ -89,15 +97,31 @@ fn short_settings_of_ipv4(rt: HostRuntime) {
 /// A record that is longer than its table means its beginning.
 #[test]
 fn long_settings_of_ipv4(rt: HostRuntime) {
-    let mut bytes = [7; 140];
-    bytes[0] = 140;
+    let mut bytes = [7; SETTINGS + 4];
+    bytes[0] = 0x90;
     bytes[1] = 0;
     bytes[2] = 1;
     bytes[3] = 0;
     let long = got(&rt, AfSpecInet::parse_list(rt.alloc(), &bytes));
-    bytes[0] = 136;
-    let exact = got(&rt, AfSpecInet::parse_list(rt.alloc(), &bytes[..136]));
+    bytes[0] = 0x8c;
+    let exact = got(&rt, AfSpecInet::parse_list(rt.alloc(), &bytes[..SETTINGS]));
     assert!(rt; long == exact);
+}
+
+/// The record of the kernel is shorter by the field of this project's own, which means zero.
+#[test]
+fn settings_of_the_kernel(rt: HostRuntime) {
+    let conf = AfSpecInet::DevConf(InetDevConf {
+        arp_evict_nocarrier: 7,
+        ..InetDevConf::default()
+    });
+    let mut bytes = [0; SETTINGS - 4];
+    bytes[0] = 0x88;
+    bytes[2] = 1;
+    bytes[132] = 7;
+    let read = got(&rt, AfSpecInet::parse_list(rt.alloc(), &bytes));
+    assert!(rt; read.len() == 1);
+    is_copied(&rt, rt.alloc(), &read[0], &conf);
 }
 
 /// A request is written as this value.
@@ -117,11 +141,16 @@ fn requests(rt: HostRuntime) {
         ..InetDevConf::default()
     };
     asks(&rt, rp_filter, &[8, 0, 8, 0, 2, 0, 0, 0]);
-    let last = InetDevConf {
+    let arp_evict_nocarrier = InetDevConf {
         arp_evict_nocarrier: -1,
         ..InetDevConf::default()
     };
-    asks(&rt, last, &[8, 0, 33, 0, 255, 255, 255, 255]);
+    asks(&rt, arp_evict_nocarrier, &[8, 0, 33, 0, 255, 255, 255, 255]);
+    let reserved = InetDevConf {
+        reserved_34: 5,
+        ..InetDevConf::default()
+    };
+    asks(&rt, reserved, &[8, 0, 34, 0, 5, 0, 0, 0]);
 }
 
 #[test]
@@ -215,13 +244,13 @@ fn cache_info_of_ipv6(rt: HostRuntime) {
 #[test]
 fn records_of_ipv6(rt: HostRuntime) {
     let alloc = rt.alloc();
-    let text: [u8; 244] = zeros_behind(&[244, 0, 2, 0]);
+    let text: [u8; INET6_SETTINGS] = zeros_behind(&[244, 0, 2, 0]);
     let conf = AfSpecInet6::DevConf(Inet6DevConf::default());
     means(&rt, alloc, &[4, 0, 2, 0], &[conf], &text);
-    let text: [u8; 308] = zeros_behind(&[52, 1, 3, 0]);
+    let text: [u8; COUNTERS] = zeros_behind(&[60, 1, 3, 0]);
     let stats = AfSpecInet6::Stats(Inet6Stats::default());
     means(&rt, alloc, &[4, 0, 3, 0], &[stats], &text);
-    let text: [u8; 60] = zeros_behind(&[60, 0, 6, 0]);
+    let text: [u8; ICMP6_COUNTERS] = zeros_behind(&[60, 0, 6, 0]);
     let stats = AfSpecInet6::Icmp6Stats(Icmp6Stats::default());
     means(&rt, alloc, &[4, 0, 6, 0], &[stats], &text);
 }
@@ -232,7 +261,7 @@ fn half_a_record_of_ipv6(rt: HostRuntime) {
         num: 0x0201,
         ..Inet6Stats::default()
     });
-    let text: [u8; 308] = zeros_behind(&[52, 1, 3, 0, 1, 2]);
+    let text: [u8; COUNTERS] = zeros_behind(&[60, 1, 3, 0, 1, 2]);
     means(&rt, rt.alloc(), &[6, 0, 3, 0x80, 1, 2], &[stats], &text);
 }
 
@@ -295,7 +324,7 @@ fn family_of_ipv4(rt: HostRuntime) {
     let conf = got(&rt, Vec::from_array(alloc, [two_settings()]));
     let inet = AfSpecUnspec::Inet(List::new(conf));
     let bytes = [16, 0, 2, 0, 12, 0, 1, 0, 8, 0, 1, 0, 1, 0, 0, 0];
-    let text: [u8; 140] = zeros_behind(&[0x8c, 0, 2, 0, 0x88, 0, 1, 0, 8, 0, 1, 0, 1, 0, 0, 0]);
+    let text: [u8; INET] = zeros_behind(&[0x90, 0, 2, 0, 0x8c, 0, 1, 0, 8, 0, 1, 0, 1, 0, 0, 0]);
     means(&rt, alloc, &bytes, &[inet], &text);
 }
 
@@ -314,7 +343,7 @@ fn requests_of_a_family(rt: HostRuntime) {
     let member = one_request(&rt, rt.alloc());
     let bytes = [16, 0, 2, 0, 12, 0, 1, 0x80, 8, 0, 1, 0, 1, 0, 0, 0];
     writes(&rt, &[member], &bytes);
-    let text: [u8; 140] = zeros_behind(&[0x8c, 0, 2, 0, 0x88, 0, 1, 0, 8, 0, 1, 0, 1, 0, 0, 0]);
+    let text: [u8; INET] = zeros_behind(&[0x90, 0, 2, 0, 0x8c, 0, 1, 0, 8, 0, 1, 0, 1, 0, 0, 0]);
     rewrites::<AfSpecUnspec>(&rt, &bytes, &text);
 }
 

@@ -1,13 +1,18 @@
 //! What the tests share.
 
 use link_msg::{CanonError, LinkMessage, canonical, same_message};
+use link_recs::inet6_stats::INET6_STATS_SIZE;
 use nla_wire::exact::same;
 use nla_wire::{
-    Cause, CloneIn, DecodeError, DefaultNla, Exact, Nla, NlaRead, Text, emit_nlas, nlas_buffer_len,
-    nlas_fit,
+    Cause, CloneIn, DecodeError, DefaultNla, Exact, NLA_HEADER_SIZE, Nla, NlaRead, Text, emit_nlas,
+    nlas_buffer_len, nlas_fit,
 };
 use std::alloc::Global;
 use std::process::Abort;
+
+/// The bytes of buffer that a call with no memory asks for each byte that it reads: a header alone may become one of
+/// the longest record.
+pub(crate) const GROWTH: usize = (NLA_HEADER_SIZE + INET6_STATS_SIZE) / NLA_HEADER_SIZE;
 
 /// A stray end, a length that passes the bytes, a length below 4, and their causes.
 pub(crate) const BAD_FRAMES: [(&[u8], Cause); 6] = [
@@ -27,6 +32,15 @@ pub(crate) const BAD_FRAMES: [(&[u8], Cause); 6] = [
     (&[3, 0, 1, 0], Cause::FrameUnder { length: 3 }),
     (&[0, 0, 0, 0], Cause::FrameUnder { length: 0 }),
 ];
+
+/// Bytes with zeros behind them.
+pub(crate) fn zeros_behind<const N: usize>(bytes: &[u8]) -> [u8; N] {
+    let mut text = [0; N];
+    for (place, byte) in text.iter_mut().zip(bytes) {
+        *place = *byte;
+    }
+    text
+}
 
 /// The bytes are these.
 pub(crate) fn are(rt: &impl Abort, bytes: &[u8], wanted: &[u8]) {
@@ -83,7 +97,7 @@ pub(crate) fn writes<N: Nla>(rt: &impl Abort, values: &[N], text: &[u8]) {
 
 /// A list of at most 100 bytes is written again as this text, of at most 400, with no memory.
 pub(crate) fn rewrites<N: NlaRead>(rt: &impl Abort, bytes: &[u8], text: &[u8]) {
-    let mut out = [255; 8000];
+    let mut out = [255; 100 * GROWTH];
     assert!(rt; bytes.len() <= 100);
     assert!(rt; text.len() < 401);
     assert!(rt; N::check_list(bytes).is_ok());

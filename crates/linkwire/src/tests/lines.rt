@@ -40,6 +40,11 @@ fn numbers_and_texts(rt: HostRuntime) -> Result<(), Fail> {
 }
 
 #[test]
+fn numbers_of_one_size(rt: HostRuntime) -> Result<(), Fail> {
+    answers(&rt, rt.alloc(), &rows::SIZED)
+}
+
+#[test]
 fn records(rt: HostRuntime) -> Result<(), Fail> {
     answers(&rt, rt.alloc(), &rows::RECORDS)
 }
@@ -141,21 +146,103 @@ fn a_text_that_grows_too_long_is_unfit(rt: HostRuntime) -> Result<(), Fail> {
     Ok(())
 }
 
-/// Each empty IPV6 record of four bytes becomes one of 308: 212 of them fit, and 213 do not.
+/// An attribute of zeros: the digits of its header, and the count of zeros behind them.
+struct Zeros {
+    header: &'static str,
+    zeros: usize,
+}
+
+/// IPv6 counters of zeros: a header alone, as a kernel sends them, and as they are written.
+const SHORT: Zeros = Zeros {
+    header: "04000300",
+    zeros: 0,
+};
+
+const SENT: Zeros = Zeros {
+    header: "34010300",
+    zeros: 2 * 304,
+};
+
+const WRITTEN: Zeros = Zeros {
+    header: "3c010300",
+    zeros: 2 * 312,
+};
+
+/// A header of zeros, the headers of IFLA_AF_SPEC and of the list of AF_INET6, so many times the counters, and the
+/// digits behind them.
+fn counters(
+    alloc: Global,
+    headers: &str,
+    count: usize,
+    member: &Zeros,
+    behind: &str,
+) -> Result<Vec<u8>, Fail> {
+    let mut text = Vec::new(alloc);
+    text.extend_from_slice(b"00000000000000000000000000000000")?;
+    text.extend_from_slice(headers.as_bytes())?;
+    let zeros = vec![in alloc; b'0'; member.zeros]?;
+    for _ in 0..count {
+        text.extend_from_slice(member.header.as_bytes())?;
+        text.extend_from_slice(zeros.as_slice())?;
+    }
+    text.extend_from_slice(behind.as_bytes())?;
+    Ok(text)
+}
+
+/// Of counters of four bytes, each of which grows by its record, 207 fit, and a name with 206. So do 207 that kernels
+/// send.
 #[test]
-fn records_that_grow_too_long_are_unfit(rt: HostRuntime) -> Result<(), Fail> {
-    for (headers, count, want) in [
-        ("58031a0054030a00", 212, "ok "),
-        ("5c031a0058030a00", 213, "unfit\n"),
+fn counters_grow(rt: HostRuntime) -> Result<(), Fail> {
+    let alloc = rt.alloc();
+    for (headers, member, count, name, written, name_written) in [
+        ("44031a0040030a00", &SHORT, 207, "", "8cff1a0088ff0a00", ""),
+        ("14f91a0010f90a00", &SENT, 207, "", "8cff1a0088ff0a00", ""),
+        (
+            "8cff1a0088ff0a00",
+            &WRITTEN,
+            207,
+            "",
+            "8cff1a0088ff0a00",
+            "",
+        ),
+        (
+            "40031a003c030a00",
+            &SHORT,
+            206,
+            "070003006c6f00",
+            "50fe1a004cfe0a00",
+            "070003006c6f0000",
+        ),
     ] {
-        let mut text = Vec::new(rt.alloc());
-        text.extend_from_slice(b"00000000000000000000000000000000")?;
-        text.extend_from_slice(headers.as_bytes())?;
-        for _ in 0..count {
-            text.extend_from_slice(b"04000300")?;
-        }
-        let got = answers_to(rt.alloc(), text.as_slice())?;
-        assert!(rt; got.starts_with(want.as_bytes()), "{count} records");
+        let line = counters(alloc, headers, count, member, name)?;
+        let text = counters(alloc, written, count, &WRITTEN, name_written)?;
+        let mut want = Vec::from_slice(alloc, b"ok ")?;
+        want.extend_from_slice(text.as_slice())?;
+        want.push(b'\n')?;
+        let got = answers_to(alloc, line.as_slice())?;
+        assert!(rt;
+            got.as_slice() == want.as_slice(),
+            "{count} counters of {headers}"
+        );
+    }
+    Ok(())
+}
+
+/// One more does not fit, nor do 212 that kernels send, though they are short enough as they are.
+#[test]
+fn counters_that_grow_too_long_are_unfit(rt: HostRuntime) -> Result<(), Fail> {
+    for (headers, member, count) in [
+        ("48031a0044030a00", &SHORT, 208),
+        ("58031a0054030a00", &SHORT, 212),
+        ("18ff1a0014ff0a00", &SENT, 212),
+    ] {
+        let line = counters(rt.alloc(), headers, count, member, "")?;
+        let got = answers_to(rt.alloc(), line.as_slice())?;
+        assert_eq!(rt;
+            got.as_slice(),
+            b"unfit\n".as_slice(),
+            "{count} counters of {headers}"
+        );
     }
     Ok(())
 }
