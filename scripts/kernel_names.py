@@ -78,6 +78,9 @@ VALUES_LEFT_OUT = {
                           "ucie": 9, "vendor": 255},
 }
 
+# fields that no kernel has, behind all others; and the sizes of the records, here and the kernel's
+OWN_FIELDS = {"Inet6Stats.reserved_39": ("312", "304"), "InetDevConf.reserved_34": ("136", "132")}
+
 # ** reasons
 
 # where (* is anything), what, here, in the kernel's files (in small letters, without - and _), and why both are right.
@@ -122,6 +125,12 @@ REASONS = [
     ("MctpPhysBinding", "list", "MCTP_PHYS_BINDING_", "none", "newer than the headers of Linux 6.12"),
 ]
 
+# and those of OWN_FIELDS
+OWN = "a reserved field at the end is this project's own, and in no kernel"
+for where, sizes in OWN_FIELDS.items():
+    kind, field = where.split(".")
+    REASONS += [(where, "field", field, "none", OWN), (kind, "size", *sizes, OWN)]
+
 # names that the Rust crate netlink-packet-route gives, the last word of each, and those that the kernel gives
 RENAMED = {
     "VfInfo*.vf_id": "vf", "VfVlanInfo.vf_id": "vf", "Vf*.vlan_id": "vlan", "VfVlanInfo.protocol": "vlanproto",
@@ -143,7 +152,7 @@ REASONS += [(where, "name", where.split(".")[1], name, "so named in netlink-pack
             for where, name in RENAMED.items()]
 
 # what that crate does not list
-KEPT = {"LinkAttribute": "cost priority weight maxpacingoffloadhorizon headroom tailroom",
+KEPT = {"LinkAttribute": "cost priority weight maxpacingoffloadhorizon",
         "LinkInfo": "data xstats slavekind slavedata", "AfSpecInet6": "mcast"}
 REASONS += [(place, "line", "none", name, "kept as it is, as in netlink-packet-route")
             for place, names in KEPT.items() for name in names.split()]

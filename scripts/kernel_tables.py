@@ -18,7 +18,7 @@ import tempfile
 from collections import Counter, namedtuple
 
 sys.dont_write_bytecode = True
-from kernel_names import ALONE, LEFT_OUT, PLACES, REASONS, RECORDS, VALUES, VALUES_LEFT_OUT
+from kernel_names import ALONE, LEFT_OUT, OWN_FIELDS, PLACES, REASONS, RECORDS, VALUES, VALUES_LEFT_OUT
 
 PACKAGE = "/usr/src/linux-source-6.12.tar.xz"
 INCLUDE = "/usr/include"
@@ -537,6 +537,8 @@ class Repository:
         if head in ("sized", "filled", "sized_record", "filled_record"):
             record = self.prefixes.get(re.search(r"\b(\w+)_(?:of|laws)\b", text).group(1))
             return Payload("struct", None, record) if record else Payload("binary")
+        if head == "leaf_base":
+            return Payload(SIMPLE[words[-1].split(".")[-1].lower()])
         if head in ("plain", "by_shape"):
             return self.shape(words[-1], crate)
         if head == "standing":
@@ -652,6 +654,8 @@ def compare_numbers(category, kind, numbers, theirs, report, has_all=True):
 
 def compare_records(ours, kernel, report):
     report.same_names("record", ours.records, RECORDS)
+    here = {kind + "." + field.name for kind, (fields, _) in ours.records.items() for field in fields}
+    report.faults += ["%s: no such field is here" % name for name in OWN_FIELDS if name not in here]
     for kind in filter(RECORDS.get, ours.records):
         fields, size = ours.records[kind]
         known, headers = RECORDS[kind], kernel.headers
@@ -690,10 +694,13 @@ def in_header(kind, fields, size, structure, report):
 def by_number(kind, fields, size, numbers, prefix, report):
     """Fields of one width by the numbers that an enum gives them, of which the first is that of the first field."""
     first, wide = min(numbers.values(), default=0), width(fields[0].type)
-    here = {field.name: first + field.offset // wide for field in fields}
+    own = [field.name for field in fields if kind + "." + field.name in OWN_FIELDS]
+    for name in own:
+        report.compare("fields, headers", kind + "." + name, ("field", name, "none"))
+    here = {field.name: first + field.offset // wide for field in fields if field.name not in own}
     if report.has(kind, prefix, numbers and {prefix}):
         compare_numbers("fields, headers", kind, here, {name[len(prefix):]: n for name, n in numbers.items()}, report)
-    report.compare("records, headers", kind, ("size", size, wide * len(fields)))
+    report.compare("records, headers", kind, ("size", size, wide * len(here)))
 
 
 def compare_values(ours, kernel, report):

@@ -63,6 +63,13 @@ slip() {
 # records
 slip "a record's size" 'Map: size 28' 's/(MAP_SIZE: usize = )32/\128/' link_recs/src/map.rt
 slip 'the number of fields' 'Stats: size 100' 's/(STATS_COUNT: usize = )24/\125/' link_recs/src/stats.rt
+slip 'the number of fields, one of them in no kernel' 'InetDevConf: size 140' \
+    's/(INET_DEV_CONF_COUNT: usize = )34/\135/' link_recs/src/inet.rt
+slip 'a field in no kernel that is not the last' 'Inet6Stats.out_pkts: number 38' \
+    's/\bout_pkts\b/it/; s/\breserved_39\b/out_pkts/; s/\bit\b/reserved_39/' \
+    link_recs/specs/Inet6StatsFields.antt link_recs/src/inet6_stats.rt
+slip 'a field in no kernel with another name' 'InetDevConf.reserved_34: no such field' \
+    's/\breserved_34\b/reserved_35/' link_recs/specs/InetDevConfFields.antt link_recs/src/inet.rt
 slip "a field's offset" 'VfInfoGuid.guid: offset 4' 's/(number_at w64 payload |u64_at\(payload, )8/\14/' \
     link_vfrec/specs/Records.antt link_vfrec/src/guid.rt
 slip "a field's width" 'Map.irq: type u32' 's/(irq = number_at w|irq: u)16/\132/' \
