@@ -99,7 +99,7 @@ pub const CANONICAL_FORM: u32 = 2;
 
 /// The canonical text of the message that the bytes mean, in the form `CANONICAL_FORM`.
 ///
-/// The text means the same message, and its attributes are at most `growth_per_byte` times, which is 79, as long as
+/// The text means the same message, and its attributes are at most `growth_per_byte` times as long as
 /// those read. Refuses, in this order: `Decode` with the first fault, `DoesNotFit`, `EmptyVfPorts`; `OutOfMemory` can
 /// come at any growth. It holds the text and one attribute at a time.
 pub fn canonical(alloc: Global, input: &[u8]) -> Result<Vec<u8>, CanonError>
@@ -134,7 +134,7 @@ pub fn same_message(alloc: Global, first: &[u8], second: &[u8]) -> Result<bool, 
 /// Writes the canonical text of the message that the bytes mean to the front of the buffer, with no memory, and answers
 /// its length. The rest of the buffer is kept.
 ///
-/// The buffer has at least `growth_per_byte` times as many bytes as the input, which is 79 times. Answers exactly what
+/// The buffer has at least `growth_per_byte` times as many bytes as the input. Answers exactly what
 /// `canonical` answers with ample memory, and never `OutOfMemory`. After `Decode` the buffer is unchanged; after
 /// `DoesNotFit` and `EmptyVfPorts` its bytes are open.
 pub fn canonical_into(input: &[u8], out: &mut [u8]) -> Result<usize, CanonError>

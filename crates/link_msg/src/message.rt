@@ -55,8 +55,7 @@ impl LinkMessage {
     /// Refuses `TooShort` below 16 bytes, else with the first fault of the attributes, front to back, each value before
     /// the next attribute; or `OutOfMemory`, which says nothing of the bytes. Four times the number of attributes, at
     /// all levels, is at most the number of bytes behind the header; their canonical text is at most `growth_per_byte`
-    /// times as long, which is 79; and what was read from at most `small_enough` bytes behind the header, which is 839,
-    /// fits.
+    /// times as long; and what was read from at most `small_enough` bytes behind the header fits.
     pub fn parse(alloc: Global, input: &[u8]) -> Result<LinkMessage, DecodeError>
         ensures means { IfOk result (Means input.now) }
         ensures bounds { IfOk result (IsBounded input.now) }
