@@ -330,6 +330,7 @@ impl LinkAttribute {
 
     /// Its kind, with both flag bits, and what its value is written from.
     #[tactic(auto, unfolding(crate::specs::Tables::attribute_view))]
+    #[inline(always)]
     fn view(&self) -> (u16, Content<'_>)
         ensures kind { result.0 ≡ (attribute_frame self.now).kind }
         ensures text { content_text result.1 ≡ (attribute_frame self.now).payload }

@@ -95,6 +95,7 @@ impl Shape {
     /// The shape of a payload of this size, of an attribute of this number under the header's family; `None` where the
     /// attribute is kept.
     #[tactic(auto, unfolding(crate::specs::Tables::attribute_view, crate::specs::Tables::attribute_entries))]
+    #[inline(always)]
     pub(crate) fn of(number: u16, size: usize, family: AddressFamily) -> Option<Shape>
         ensures { as_way result ≡ attribute_way family number size }
     {
@@ -189,6 +190,7 @@ impl Shape {
     }
 
     /// Whether a payload of this shape is read, and the fault if not.
+    #[inline(always)]
     pub(crate) fn check(self, payload: &[u8]) -> Result<(), DecodeError>
         ensures { ShapeChecks base self payload.now result }
     {
