@@ -1,4 +1,5 @@
--- How settings of IPv4 are asked for: an attribute for each setting that is not zero (linux/ip.h numbers them from 1 on).
+-- How settings of IPv4 are asked for: an attribute for each setting that is not zero (linux/ip.h numbers them from 1
+-- on).
 use Rattle.std.specs.Prelude.{ℕ, ℤ, pos, ◌+◌, List, [], ◌∷◌, if◌then◌else◌, flat_map}
 use Rattle.std.specs.Ordering.{int_eq}
 use Rattle.std.specs.Int.{w32, to_le_bytes, cast_unsigned}

@@ -1,9 +1,9 @@
 -- The places of settings by family as tables (linux/if_link.h, and linux/socket.h for the families).
 --
--- A line says three things of an attribute: its number, what its payload is, and the variant that the value becomes. The
--- lines stand in the order in which the variants are declared, and `keeps` is for all frames that no line reads. Of such a
--- table `.grammar` is how frames are read, `.frame` how a value is written, `.Fits` when it can be, `.count` how many
--- values it is, and `.lawful` holds what is proved of them.
+-- A line says three things of an attribute: its number, what its payload is, and the variant that the value becomes.
+-- The lines stand in the order in which the variants are declared, and `keeps` is for all frames that no line reads. Of
+-- such a table `.grammar` is how frames are read, `.frame` how a value is written, `.Fits` when it can be, `.count` how
+-- many values it is, and `.lawful` holds what is proved of them.
 use Rattle.std.specs.Prelude.{◌≤◌, true, length, refl}
 use Rattle.std.proofs.Common.{lit≤}
 use Rattle.std.specs.Int.{w8, w32}

@@ -1,7 +1,7 @@
 //! Laws of settings by family, each the contract of a function that does nothing.
 //!
-//! Of each place: a value that some frame means there, and that fits, is what the frame of its canonical text means
-//! there; so are the values of a list. A list's payload has at least four bytes for each value, those inside of others
+//! Of each place: what was read from some frame there, if it fits, is read again from its canonical frame; so are the
+//! values of a list. A list's payload has at least four bytes for each value, those inside of others
 //! among them. Its canonical text has at most `plain_growth` bytes for each whole four bytes of the
 //! payload, where nothing is filled up; members of AF_INET and AF_INET6 may be records that are, and take `growth`; so
 //! does a list of such lists, with `slack` fewer for each member. A frame that no line of the table reads is kept: its
@@ -75,8 +75,8 @@ pub fn law_mctp_net_in_bytes()
         ≡ 0x0c ∷ 0x00 ∷ 0x2d ∷ 0x00 ∷ 0x08 ∷ 0x00 ∷ 0x01 ∷ 0x00 ∷ 0x01 ∷ 0x00 ∷ 0x00 ∷ 0x00 ∷ [] }
 {}
 
-/// Records that are filled up: settings and statistics mean the same with zeros added to the payload. One longer than
-/// its record means the same as its beginning.
+/// Records that are filled up: settings and statistics mean the same with zeros added to the payload. Of a payload
+/// that is longer than the record only the front counts.
 pub fn law_short_records()
     ensures inet_zeros { ZerosAdded af_spec_inet_place.grammar.means IFLA_INET_CONF }
     ensures inet_longer { LongerIgnored af_spec_inet_place.grammar.means IFLA_INET_CONF inet_dev_conf_size }

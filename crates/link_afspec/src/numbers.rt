@@ -1,5 +1,5 @@
-//! The numbers of the attributes that this crate reads, by their names in the kernel's headers. Each stands here and nowhere
-//! else.
+//! The numbers of the attributes that this crate reads, by their names in the kernel's headers. Each stands here and
+//! nowhere else.
 
 /// Settings of IPv4, in AF_INET (linux/if_link.h).
 pub const IFLA_INET_CONF: u16 = 1;

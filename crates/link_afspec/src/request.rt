@@ -50,8 +50,8 @@ pub(crate) fn request_len(conf: &InetDevConf) -> usize
     len
 }
 
-/// Writes a request for these settings at the end of the buffer, the last setting first, and answers where it starts. The
-/// bytes before are kept.
+/// Writes a request for these settings at the end of the buffer, the last setting first, and answers where it starts.
+/// The bytes before are kept.
 pub(crate) fn fill_request(conf: &InetDevConf, buffer: &mut [u8]) -> usize
     requires { length (request_text conf.now) ≤ length buffer.old }
     ensures { Filled buffer.old buffer.new (request_text conf.now) result }

@@ -18,7 +18,8 @@ abbrev pub text_error_number : TextError → ℕ
 text_error_number (NoText e) = canon_error_number e
 text_error_number OutTooShort = 5
 
--- a call of C's answered: what it says holds at the number that was found, or at a refusal whose number it answers negated
+-- a call of C's answered: what it says holds at the number that was found, or at a refusal whose number it answers
+-- negated
 abbrev pub Says : {E : Type 0} → (E → ℕ) → (Result ℕ E → Type 0) → ℤ → Type 0
 Says number says (pos n) = says (Ok n)
 Says {E} number says (negsuc n) = (e : E) × (number e ≡ suc n) × says (Err e)
@@ -28,8 +29,8 @@ abbrev pub IsLook : List ℕ → Result ℕ Cause → Type 0
 IsLook b (Ok n) = ((m : LinkMessage) × Means b m) × (n ≡ 0)
 IsLook b (Err c) = Refused b c × (c ≢ OutOfMemory) × IsRefused b
 
--- the canonical text of the message that b means stands at the front, n bytes, and the rest is kept; or the buffer is as it was,
--- since there is no text, or it has fewer bytes than the text
+-- the canonical text of the message that b means stands at the front, n bytes, and the rest is kept; or the buffer is
+-- as it was, since there is no text, or it has fewer bytes than the text
 abbrev pub IsText : List ℕ → List ℕ → List ℕ → Result ℕ TextError → Type 0
 IsText b old new (Ok n) = (t : List ℕ) × HasText b t × Writes t old new n
 IsText b old new (Err (NoText e)) = IsRefusal b e × (new ≡ old)

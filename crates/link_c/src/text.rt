@@ -64,7 +64,7 @@ pub fn check_code(bytes: &[u8]) -> i32
     }
 }
 
-/// Writes the canonical text of the message that the bytes mean to the front of the buffer, and answers its length.
+/// Writes what the bytes mean, as canonical text, to the front of the buffer, and returns its length.
 ///
 /// The rest of the buffer is kept, and all of it where there is no text or it is too short.
 pub fn write_canonical(alloc: Global, bytes: &[u8], out: &mut [u8]) -> Result<usize, TextError>

@@ -1,5 +1,5 @@
--- The header of a link message, sixteen bytes: family at 0, one byte that is not read, layer type at 2, index at 4, flags at 8
--- and the mask of changed flags at 12 (struct ifinfomsg of linux/rtnetlink.h).
+-- The header of a link message, sixteen bytes: family at 0, one byte that is not read, layer type at 2, index at 4,
+-- flags at 8 and the mask of changed flags at 12 (struct ifinfomsg of linux/rtnetlink.h).
 use Rattle.std.specs.Prelude.{◌≡◌, ℕ, List, [], ◌∷◌, ◌++◌, length, slice_index}
 use Rattle.std.specs.Int.{w16, w32, to_le_bytes}
 use Rattle.nla_wire.specs.Fields.{number_at}

@@ -25,7 +25,7 @@ KindsInRange m = AllByRecursion (λ v. (attribute_frame v).kind < 2 ^ 16) m.attr
 abbrev pub OnlyWithPorts : Type 0
 OnlyWithPorts = (m : LinkMessage) → KindsInRange m → MessageFits m → Means (message_text m) m → Meant m × NoEmptyPorts m
 
--- canonical texts are equal exactly where the messages are
+-- two messages have one canonical text exactly where they are one message
 abbrev pub SameTextSameMessage : Type 0
 SameTextSameMessage =
     (a b : List ℕ) (m n : LinkMessage) → IsBytes a → IsBytes b → Means a m → Means b n → MessageFits m → MessageFits n → NoEmptyPorts m → NoEmptyPorts n

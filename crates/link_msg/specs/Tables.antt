@@ -1,9 +1,10 @@
 -- The outermost place as a table (linux/if_link.h).
 --
--- A line says three things of an attribute: its number, what its payload is, and the variant that the value becomes. The
--- lines stand in the order in which the variants are declared, and `keeps` is for frames that no line reads. What the
--- header's family decides stands below the table, in `proto_info` and `af_spec`: the variants of these two numbers are only
--- `written` in the table. A payload is told by its shape: a state, a mode and a plain number of one byte are one shape.
+-- A line says three things of an attribute: its number, what its payload is, and the variant that the value becomes.
+-- The lines stand in the order in which the variants are declared, and `keeps` is for frames that no line reads. What
+-- the header's family decides stands below the table, in `proto_info` and `af_spec`: the variants of these two numbers
+-- are only `written` in the table. A payload is told by its shape: a state, a mode and a plain number of one byte are
+-- one shape.
 use Rattle.std.specs.Prelude.{◌≡◌, ◌==◌, ℕ, ℤ, ◌+◌, ◌*◌, ◌/◌, ◌<◌, ◌≤◌, ◌^◌, not, Bool, true, false, List, [], ◌∷◌, ◌++◌, length, Option, None, Some, refl}
 use Rattle.std.specs.Int.{w8, w16, w32, to_le_bytes, cast_signed}
 use Rattle.std.proofs.Common.{ap, sym, subst, lit<, lit≤, arith}

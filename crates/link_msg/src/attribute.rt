@@ -244,7 +244,8 @@ pub enum LinkAttribute {
     Headroom(u16),
     /// IFLA_TAILROOM: how many bytes a packet needs behind its data, where the payload has two bytes.
     Tailroom(u16),
-    /// A number that is not listed here, or a size of payload that its number is not read at: kept as it is, with its flags.
+    /// A number that is not listed here, or a size of payload that its number is not read at: kept as it is, with its
+    /// flags.
     Other(DefaultNla),
 }
 

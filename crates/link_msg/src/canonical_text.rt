@@ -97,7 +97,7 @@ fn begin_text(alloc: Global, header: &LinkHeader, capacity: usize) -> Result<Vec
 /// are not to be compared, so a store keeps the number beside its keys.
 pub const CANONICAL_FORM: u32 = 2;
 
-/// The canonical text of the message that the bytes mean, in the form `CANONICAL_FORM`.
+/// What the bytes mean, as canonical text of the form `CANONICAL_FORM`.
 ///
 /// The text means the same message, and its attributes are at most `growth_per_byte` times as long as
 /// those read. Refuses, in this order: `Decode` with the first fault, `DoesNotFit`, `EmptyVfPorts`; `OutOfMemory` can
@@ -131,8 +131,8 @@ pub fn same_message(alloc: Global, first: &[u8], second: &[u8]) -> Result<bool, 
     Ok(one == other)
 }
 
-/// Writes the canonical text of the message that the bytes mean to the front of the buffer, with no memory, and answers
-/// its length. The rest of the buffer is kept.
+/// Writes what the bytes mean, as canonical text, to the front of the buffer, with no memory, and returns its length.
+/// The rest of the buffer is kept.
 ///
 /// The buffer has at least `growth_per_byte` times as many bytes as the input. Answers exactly what
 /// `canonical` answers with ample memory, and never `OutOfMemory`. After `Decode` the buffer is unchanged; after

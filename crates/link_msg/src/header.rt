@@ -9,8 +9,8 @@ use nla_wire::{DecodeError, Exact};
 
 /// The header of a link message, 16 bytes: `struct ifinfomsg` of linux/rtnetlink.h.
 ///
-/// Layout: family at 0, one byte that is not read and written zero at 1, layer type (two bytes) at 2, index (four bytes)
-/// at 4, flags (four bytes) at 8, mask of the flags that change (four bytes) at 12. Numbers are in host order.
+/// Layout: family at 0, one byte that is not read and written zero at 1, layer type (two bytes) at 2, index (four
+/// bytes) at 4, flags (four bytes) at 8, mask of the flags that change (four bytes) at 12. Numbers are in host order.
 #[derive(Clone, Copy, Debug, Default, PartialEq, Eq)]
 pub struct LinkHeader {
     pub interface_family: AddressFamily,

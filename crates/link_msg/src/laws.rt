@@ -38,9 +38,9 @@ pub fn law_one_meaning()
     ensures { OneMeaning }
 {}
 
-/// Where bytes mean a message that fits and holds no empty list of ports, its canonical text means it too, canonical texts
-/// are equal exactly where the messages are, and canonical text of canonical text is itself. And a message that fits and
-/// that its canonical text means holds no empty list of ports.
+/// Where bytes mean a message that fits and holds no empty list of ports, its canonical text means it too; two such
+/// messages have one text exactly where they are one message; and the canonical text of such a text is that text. And a
+/// message that fits and that its canonical text means holds no empty list of ports.
 pub fn law_canonical_twice()
     ensures means_the_same { TextMeansTheSame }
     ensures only_with_ports { OnlyWithPorts }
@@ -62,7 +62,8 @@ pub fn law_joined()
 {}
 
 /// Records that are filled up mean the same with zeros added to the payload: statistics of a link under any family, and
-/// settings and statistics of AF_INET and AF_INET6. One longer than its record means the same as its beginning.
+/// settings and statistics of AF_INET and AF_INET6. Of a payload that is longer than the
+/// record only the front counts.
 pub fn law_short_records()
     ensures stats_zeros { (family : AddressFamily) → ZerosAdded (attribute_place family).means IFLA_STATS }
     ensures stats_longer { (family : AddressFamily) → LongerIgnored (attribute_place family).means IFLA_STATS stats_size }
@@ -82,8 +83,8 @@ pub fn law_short_records()
     link_afspec::laws::law_short_records();
 }
 
-/// The number of a layer type gives it again, and a number that is not listed gives `Void`; the number of a vlan protocol
-/// gives it again, and any other number gives `Ieee8021Q`.
+/// The number of a layer type gives it again, and a number that is not listed gives `Void`; the number of a vlan
+/// protocol gives it again, and any other number gives `Ieee8021Q`.
 pub fn law_layer_types()
     ensures named { IsNamedBack layer_type_of layer_type_number }
     ensures unlisted { GivesUnlisted layer_type_of layer_type_number layer_type_listed Void }
@@ -125,7 +126,7 @@ pub fn law_state_texts()
     link_vals::laws::state_texts_read_back();
 }
 
-/// An attribute that no line of the table reads is written back with its kind, both flag bits and its payload.
+/// An attribute that no line of the table reads is written as it was read: its number, its two flags, its payload.
 pub fn law_foreign_kept()
     ensures { ForeignKept }
 {}

@@ -120,7 +120,8 @@ impl LinkMessage {
         HEADER_SIZE + nlas_buffer_len(self.attributes.as_slice())
     }
 
-    /// Writes the canonical text at the end of the buffer, and answers where it starts. The bytes before are kept.
+    /// Fills the last bytes of the buffer with the canonical text, and returns the place of its first byte. Earlier
+    /// bytes are kept.
     #[tactic(auto, using(crate::proofs::Messaging::text_length))]
     pub fn fill(&self, buffer: &mut [u8]) -> usize
         requires fits { MessageFits self.now }

@@ -1,4 +1,5 @@
-//! The attributes by the shape of their payloads: they are checked, and written again, from the payload and without a value.
+//! The attributes by the shape of their payloads: they are checked, and written again, from the payload and without a
+//! value.
 
 ghost use Rattle.std.specs.Prelude.{◌≡◌, ℕ, ◌*◌, ◌+◌, ◌≤◌, ◌<◌, ◌^◌, length, IsOk};
 ghost use Rattle.nla_wire.specs.Sizes.{growth_per_byte};
@@ -223,8 +224,9 @@ impl Shape {
         }
     }
 
-    /// Writes the attribute of this number that an accepted payload of this shape means to the front of the buffer, with
-    /// no memory, and answers its length with padding; `None` where the value does not fit. The rest of the buffer is kept.
+    /// Writes the attribute of this number that an accepted payload of this shape means to the front of the buffer,
+    /// with no memory, and answers its length with padding; `None` where the value does not fit. The rest of the buffer
+    /// is kept.
     #[tactic(auto, unfolding(nla_wire::specs::Payloads::read_text, nla_wire::specs::Payloads::read_number, nla_wire::specs::Payloads::read_sized), using(nla_wire::proofs::Front::all_bytes))]
     pub(crate) fn canon(self, number: u16, payload: &[u8], out: &mut [u8]) -> Option<usize>
         requires number { number < 2 ^ 14 }

@@ -122,7 +122,8 @@ impl LinkAttribute {
 
     /// Reads a frame under the header's family: the number selects the variant, whatever the flag bits of the kind.
     ///
-    /// Refuses with the cause of the first fault of the payload; or with `OutOfMemory`, which says nothing of the bytes.
+    /// Refuses with the cause of the first fault of the payload; or with `OutOfMemory`, which says nothing of the
+    /// bytes.
     #[tactic(auto, unfolding(crate::specs::Tables::attribute_view, crate::specs::Tables::attribute_entries, crate::specs::Tables::attribute_place))]
     pub fn parse_with_param(
         alloc: Global,
@@ -220,8 +221,8 @@ impl LinkAttribute {
         }
     }
 
-    /// Whether a frame is read under the header's family: refuses what `parse_with_param` refuses, with the same cause. It
-    /// takes no memory, and so never answers `OutOfMemory`.
+    /// Whether a frame is read under the header's family: refuses what `parse_with_param` refuses, with the same cause.
+    /// It takes no memory, and so never answers `OutOfMemory`.
     pub fn check_with_param(
         buffer: &NlaBuffer<'_>,
         family: AddressFamily,
@@ -321,7 +322,8 @@ impl LinkAttribute {
         buffer.kind() == IFLA_VF_PORTS && holds_no_port(buffer.value())
     }
 
-    /// Whether an accepted list of attributes under the header's family holds an empty list of ports. It takes no memory.
+    /// Whether an accepted list of attributes under the header's family holds an empty list of ports. It takes no
+    /// memory.
     pub(crate) fn hold_empty_ports(bytes: &[u8], family: AddressFamily) -> bool
         requires { IsOk ((list (attribute_place family)).reads bytes.now) }
         ensures { PortsTold ((list (attribute_place family)).reads bytes.now) result }

@@ -21,10 +21,10 @@ const MOST_TEXT_LEN: usize = 65531;
 
 /// The value of IFLA_WIRELESS: an event of the wireless extensions (`struct iw_event` of linux/wireless.h).
 ///
-/// A length of two bytes, which counts the whole event and is not looked at when it is read, a command of two bytes, four
-/// bytes of padding, and then the event's bytes. On a 64-bit machine the two events that are read begin, after the padding,
-/// with the length and the flags of their data, two bytes each, and four more of padding: these are kept as the first eight
-/// of the event's bytes.
+/// A length of two bytes, which counts the whole event and is not looked at when it is read, a command of two bytes,
+/// four bytes of padding, and then the event's bytes. On a 64-bit machine the two events that are read begin, after the
+/// padding, with the length and the flags of their data, two bytes each, and four more of padding: these are kept as
+/// the first eight of the event's bytes.
 #[derive(Debug, Drop, PartialEq, Eq)]
 pub enum WirelessEvent {
     /// IWEVASSOCREQIE: the information elements of an association request.
@@ -44,7 +44,7 @@ fn header_of(len: u16, command: u16) -> [u8; 8]
     [len_low, len_high, command_low, command_high, 0, 0, 0, 0]
 }
 
-/// Writes an event with its header at the end of the buffer, and answers where it starts.
+/// Fills the last bytes of the buffer with an event and its header, and returns the place of the first.
 fn fill_event(buffer: &mut [u8], command: u16, bytes: &[u8]) -> usize
     requires small { 8 + length bytes.now ≤ 65531 }
     requires room { 8 + length bytes.now ≤ length buffer.old }
@@ -77,7 +77,8 @@ fn write_bytes(out: &mut [u8], bytes: &[u8]) -> usize
 }
 
 impl WirelessEvent {
-    /// Reads an event: a request or a response keeps the bytes behind its header, and any other event the whole payload.
+    /// Reads an event: a request or a response keeps the bytes behind its header, and any other event the whole
+    /// payload.
     ///
     /// Refuses a payload of fewer than 8 bytes with `TooShort`, and want of memory with `OutOfMemory`.
     #[tactic(auto, unfolding(nla_wire::specs::Payloads::read_sized))]
@@ -111,11 +112,11 @@ impl WirelessEvent {
         Ok(())
     }
 
-    /// Writes the text of the event that the payload means to the front of the buffer, with no memory taken, and answers
-    /// its length.
+    /// Writes the text of the event that the payload means to the front of the buffer, with no memory taken, and
+    /// answers its length.
     ///
-    /// Answers `None` where the text has more than 65531 bytes. The bytes behind the text are kept; after `None` nothing
-    /// is said of the buffer.
+    /// Answers `None` where the text has more than 65531 bytes. The bytes behind the text are kept; after `None`
+    /// nothing is said of the buffer.
     #[tactic(auto, unfolding(nla_wire::specs::Payloads::read_sized))]
     pub fn canon(payload: &[u8], out: &mut [u8]) -> Option<usize>
         requires accepted { IsOk (wireless_event.reads payload.now) }
@@ -155,7 +156,8 @@ impl WirelessEvent {
         }
     }
 
-    /// Writes the text at the end of the buffer, and answers where it starts. The bytes before are kept.
+    /// Fills the last bytes of the buffer with the text, and returns the place of its first byte. Earlier bytes are
+    /// kept.
     pub fn fill(&self, buffer: &mut [u8]) -> usize
         requires fits { WirelessFits self.now }
         requires room { length (wireless_text self.now) ≤ length buffer.old }

@@ -194,8 +194,8 @@ impl InetDevConf {
     }
 
     /// Writes the attribute of this kind whose value is the record that a payload means, the payload cut to
-    /// `INET_DEV_CONF_SIZE` bytes or filled up with zeros, to the front of the buffer, and answers its length. The rest of the
-    /// buffer is kept.
+    /// `INET_DEV_CONF_SIZE` bytes or filled up with zeros, to the front of the buffer, and answers its length. The rest
+    /// of the buffer is kept.
     pub fn canon(kind: u16, payload: &[u8], out: &mut [u8]) -> Option<usize>
         requires room { 4 + inet_dev_conf_size ≤ length out.old }
         ensures { Closed kind (inet_dev_conf_bytes (inet_dev_conf_of payload.now)) out.old out.new result }
@@ -218,8 +218,8 @@ impl InetDevConf {
         self.write(buffer);
     }
 
-    /// Writes the record to the end of a buffer of at least `INET_DEV_CONF_SIZE` bytes, keeps the bytes before it, and answers
-    /// where it starts.
+    /// Writes the record to the end of a buffer of at least `INET_DEV_CONF_SIZE` bytes, keeps the bytes before it, and
+    /// answers where it starts.
     pub fn fill(&self, buffer: &mut [u8]) -> usize
         requires { inet_dev_conf_size ≤ length buffer.old }
         ensures { Filled buffer.old buffer.new (inet_dev_conf_bytes self.now) result }

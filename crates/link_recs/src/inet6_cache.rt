@@ -82,8 +82,8 @@ impl PlainRecord<INET6_CACHE_INFO_SIZE> for Inet6CacheInfo {
 }
 
 impl Inet6CacheInfo {
-    /// Reads a record from the front of the payload. A payload of fewer than `INET6_CACHE_INFO_SIZE` bytes is refused with
-    /// `TooShort`.
+    /// Reads a record from the front of the payload. A payload of fewer than `INET6_CACHE_INFO_SIZE` bytes is refused
+    /// with `TooShort`.
     pub fn parse(payload: &[u8]) -> Result<Inet6CacheInfo, DecodeError>
         ensures { Parses (sized inet6_cache_info_size inet6_cache_info_of) payload.now result }
     {
@@ -91,8 +91,8 @@ impl Inet6CacheInfo {
     }
 
     /// Writes the attribute of this kind whose value is the record that a payload means, the payload cut to
-    /// `INET6_CACHE_INFO_SIZE` bytes or filled up with zeros, to the front of the buffer, and answers its length. The rest of the
-    /// buffer is kept.
+    /// `INET6_CACHE_INFO_SIZE` bytes or filled up with zeros, to the front of the buffer, and answers its length. The
+    /// rest of the buffer is kept.
     pub fn canon(kind: u16, payload: &[u8], out: &mut [u8]) -> Option<usize>
         requires room { 4 + inet6_cache_info_size ≤ length out.old }
         ensures { Closed kind (inet6_cache_info_bytes (inet6_cache_info_of payload.now)) out.old out.new result }
@@ -115,8 +115,8 @@ impl Inet6CacheInfo {
         self.write(buffer);
     }
 
-    /// Writes the record to the end of a buffer of at least `INET6_CACHE_INFO_SIZE` bytes, keeps the bytes before it, and answers
-    /// where it starts.
+    /// Writes the record to the end of a buffer of at least `INET6_CACHE_INFO_SIZE` bytes, keeps the bytes before it,
+    /// and answers where it starts.
     pub fn fill(&self, buffer: &mut [u8]) -> usize
         requires { inet6_cache_info_size ≤ length buffer.old }
         ensures { Filled buffer.old buffer.new (inet6_cache_info_bytes self.now) result }

@@ -21,10 +21,10 @@ pub const INET6_DEV_CONF_SIZE: usize = 4 * INET6_DEV_CONF_COUNT;
 
 /// Settings of IPv6 on a link (IFLA_INET6_CONF).
 ///
-/// `INET6_DEV_CONF_COUNT` signed numbers of four bytes each, lowest byte first, in the order of the constants
-/// DEVCONF_* of linux/ipv6.h, which count from 0: setting number `n` stands at offset `4 * n`.
-/// Intervals and delays of solicitations, of reports and of probes are in milliseconds, as net/ipv6/addrconf.c turns them
-/// for netlink; the lifetimes `temp_valid_lft` and `temp_prefered_lft`, and `max_desync_factor`, are in seconds.
+/// `INET6_DEV_CONF_COUNT` signed numbers of four bytes each, lowest byte first, in the order of the constants DEVCONF_*
+/// of linux/ipv6.h, which count from 0: setting number `n` stands at offset `4 * n`. Intervals and delays of
+/// solicitations, of reports and of probes are in milliseconds, as net/ipv6/addrconf.c turns them for netlink; the
+/// lifetimes `temp_valid_lft` and `temp_prefered_lft`, and `max_desync_factor`, are in seconds.
 #[derive(Clone, Copy, Debug, Default, PartialEq, Eq)]
 pub struct Inet6DevConf {
     pub forwarding: i32,
@@ -263,8 +263,8 @@ impl Inet6DevConf {
         Inet6DevConf::read(payload)
     }
 
-    /// Reads a record from the front of the payload. A payload of fewer than `INET6_DEV_CONF_SIZE` bytes is refused with
-    /// `TooShort`.
+    /// Reads a record from the front of the payload. A payload of fewer than `INET6_DEV_CONF_SIZE` bytes is refused
+    /// with `TooShort`.
     pub fn parse(payload: &[u8]) -> Result<Inet6DevConf, DecodeError>
         ensures { Parses (sized inet6_dev_conf_size inet6_dev_conf_of) payload.now result }
     {
@@ -272,8 +272,8 @@ impl Inet6DevConf {
     }
 
     /// Writes the attribute of this kind whose value is the record that a payload means, the payload cut to
-    /// `INET6_DEV_CONF_SIZE` bytes or filled up with zeros, to the front of the buffer, and answers its length. The rest of the
-    /// buffer is kept.
+    /// `INET6_DEV_CONF_SIZE` bytes or filled up with zeros, to the front of the buffer, and answers its length. The
+    /// rest of the buffer is kept.
     pub fn canon(kind: u16, payload: &[u8], out: &mut [u8]) -> Option<usize>
         requires room { 4 + inet6_dev_conf_size ≤ length out.old }
         ensures { Closed kind (inet6_dev_conf_bytes (inet6_dev_conf_of payload.now)) out.old out.new result }
@@ -296,8 +296,8 @@ impl Inet6DevConf {
         self.write(buffer);
     }
 
-    /// Writes the record to the end of a buffer of at least `INET6_DEV_CONF_SIZE` bytes, keeps the bytes before it, and answers
-    /// where it starts.
+    /// Writes the record to the end of a buffer of at least `INET6_DEV_CONF_SIZE` bytes, keeps the bytes before it, and
+    /// answers where it starts.
     pub fn fill(&self, buffer: &mut [u8]) -> usize
         requires { inet6_dev_conf_size ≤ length buffer.old }
         ensures { Filled buffer.old buffer.new (inet6_dev_conf_bytes self.now) result }

@@ -112,8 +112,8 @@ impl Icmp6Stats {
     }
 
     /// Writes the attribute of this kind whose value is the record that a payload means, the payload cut to
-    /// `ICMP6_STATS_SIZE` bytes or filled up with zeros, to the front of the buffer, and answers its length. The rest of the
-    /// buffer is kept.
+    /// `ICMP6_STATS_SIZE` bytes or filled up with zeros, to the front of the buffer, and answers its length. The rest
+    /// of the buffer is kept.
     pub fn canon(kind: u16, payload: &[u8], out: &mut [u8]) -> Option<usize>
         requires room { 4 + icmp6_stats_size ≤ length out.old }
         ensures { Closed kind (icmp6_stats_bytes (icmp6_stats_of payload.now)) out.old out.new result }
@@ -136,8 +136,8 @@ impl Icmp6Stats {
         self.write(buffer);
     }
 
-    /// Writes the record to the end of a buffer of at least `ICMP6_STATS_SIZE` bytes, keeps the bytes before it, and answers
-    /// where it starts.
+    /// Writes the record to the end of a buffer of at least `ICMP6_STATS_SIZE` bytes, keeps the bytes before it, and
+    /// answers where it starts.
     pub fn fill(&self, buffer: &mut [u8]) -> usize
         requires { icmp6_stats_size ≤ length buffer.old }
         ensures { Filled buffer.old buffer.new (icmp6_stats_bytes self.now) result }

@@ -166,8 +166,8 @@ impl Stats64 {
     }
 
     /// Writes the attribute of this kind whose value is the record that a payload means, the payload cut to
-    /// `STATS64_SIZE` bytes or filled up with zeros, to the front of the buffer, and answers its length. The rest of the
-    /// buffer is kept.
+    /// `STATS64_SIZE` bytes or filled up with zeros, to the front of the buffer, and answers its length. The rest of
+    /// the buffer is kept.
     pub fn canon(kind: u16, payload: &[u8], out: &mut [u8]) -> Option<usize>
         requires room { 4 + stats64_size ≤ length out.old }
         ensures { Closed kind (stats64_bytes (stats64_of payload.now)) out.old out.new result }
@@ -190,8 +190,8 @@ impl Stats64 {
         self.write(buffer);
     }
 
-    /// Writes the record to the end of a buffer of at least `STATS64_SIZE` bytes, keeps the bytes before it, and answers
-    /// where it starts.
+    /// Writes the record to the end of a buffer of at least `STATS64_SIZE` bytes, keeps the bytes before it, and
+    /// answers where it starts.
     pub fn fill(&self, buffer: &mut [u8]) -> usize
         requires { stats64_size ≤ length buffer.old }
         ensures { Filled buffer.old buffer.new (stats64_bytes self.now) result }

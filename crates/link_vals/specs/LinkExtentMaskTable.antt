@@ -37,7 +37,7 @@ flags_set n (flag ∷ flags) =
 abbrev pub other_of : ℕ → List LinkExtentMask
 other_of rest = if rest == 0 then [] else Other rest ∷ []
 
--- the listed flags that are set in n, ascending, then one `Other` of the other bits if there are any
+-- flags of n that have a name, the lowest first; behind them all its other bits, if it has any, as one `Other`
 unfoldable pub ext_list : ℕ → List LinkExtentMask
 ext_list n = flags_set n link_extent_mask_listed ++ other_of (bit_and n 0xffff_ff00)
 

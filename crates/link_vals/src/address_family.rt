@@ -5,8 +5,8 @@ ghost use Rattle.link_vals.specs.AddressFamilyTable.{address_family_of, address_
 
 use nla_wire::Exact;
 
-/// The address family of a link message, one byte: numbers `AF_..` of linux/socket.h. Reading depends on `Unspec`, `Bridge` and
-/// `Inet6` alone; `Inet` and `Mctp` are told apart from numbers without a name, and read like these.
+/// The address family of a link message, one byte: numbers `AF_..` of linux/socket.h. Reading depends on `Unspec`,
+/// `Bridge` and `Inet6` alone; `Inet` and `Mctp` are told apart from numbers without a name, and read like these.
 #[derive(Clone, Copy, Debug, Default, PartialEq, Eq)]
 pub enum AddressFamily {
     #[default]

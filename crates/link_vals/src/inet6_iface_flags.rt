@@ -11,7 +11,8 @@ use std::ops::{
     BitAnd, BitAndAssign, BitOr, BitOrAssign, BitXor, BitXorAssign, Not, Sub, SubAssign,
 };
 
-/// The flags of an IPv6 interface, four bytes in host order: `IF_RA_OTHERCONF` to `IF_READY` of net/if_inet6.h in the kernel.
+/// The flags of an IPv6 interface, four bytes in host order: `IF_RA_OTHERCONF` to `IF_READY` of net/if_inet6.h in the
+/// kernel.
 ///
 /// Every bit is kept; those without a name too.
 #[derive(Clone, Copy, Debug, PartialEq, Eq)]

@@ -414,7 +414,8 @@ impl fmt::Display for LinkFlags {
 
     ghost output = { λ v. Some (link_flags_text (link_flags_bits v)) };
 
-    /// Writes the names of the bits that are set, in declared order and with ` | ` between them; the bits without a name come last, as one number in hexadecimal.
+    /// Writes the names of the bits that are set, in declared order and with ` | ` between them; the bits without a
+    /// name come last, as one number in hexadecimal.
     #[tactic(auto, unfolding(crate::specs::LinkFlagsTable::link_flags_text, crate::specs::FlagText::flags_text, crate::specs::FlagText::names_set))]
     fn fmt<W: fmt::Write>(&self, f: &mut fmt::Formatter<W>) -> fmt::Result {
         write_flags(f, &LinkFlags::FLAGS[..19], *self, 0xfff8_0000)

@@ -6,7 +6,8 @@ ghost use Rattle.link_vals.specs.MctpPhysBindingTable.{mctp_phys_binding_of, mct
 use nla_wire::Exact;
 use std::fmt;
 
-/// The physical binding of an MCTP link, one byte: the numbers that DSP0239 of DMTF assigns, as `IFLA_MCTP_PHYS_BINDING` of linux/if_link.h carries them.
+/// The physical binding of an MCTP link, one byte: the numbers that DSP0239 of DMTF assigns, as
+/// `IFLA_MCTP_PHYS_BINDING` of linux/if_link.h carries them.
 #[derive(Clone, Copy, Debug, PartialEq, Eq)]
 pub enum MctpPhysBinding {
     Smbus,

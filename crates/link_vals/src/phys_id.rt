@@ -6,7 +6,8 @@ ghost use Rattle.link_vals.specs.LinkPhysIdBytes.{phys_id_of, phys_id_bytes};
 use nla_wire::fields::{put_bytes, zero_filled_32};
 use nla_wire::{DecodeError, Exact};
 
-/// The physical id of a port or a switch, as `IFLA_PHYS_PORT_ID` and `IFLA_PHYS_SWITCH_ID` of linux/if_link.h carry it: at most 32 bytes.
+/// The physical id of a port or a switch, as `IFLA_PHYS_PORT_ID` and `IFLA_PHYS_SWITCH_ID` of linux/if_link.h carry it:
+/// at most 32 bytes.
 ///
 /// The bytes of `id` from `len` on are no part of it.
 #[derive(Clone, Copy, Debug, PartialEq, Eq)]
@@ -16,7 +17,8 @@ pub struct LinkPhysId {
 }
 
 impl LinkPhysId {
-    /// Reads the first 32 bytes of a payload, with zeros behind them where there are fewer, and how many there were. It never fails.
+    /// Reads the first 32 bytes of a payload, with zeros behind them where there are fewer, and how many there were. It
+    /// never fails.
     #[tactic(auto, unfolding(crate::specs::LinkPhysIdBytes::phys_id_of))]
     pub fn parse(payload: &[u8]) -> Result<LinkPhysId, DecodeError>
         ensures { result ≡ Ok (phys_id_of payload.now) }

@@ -5,7 +5,8 @@ ghost use Rattle.link_vals.specs.VfLinkStateTable.{vf_link_state_of, vf_link_sta
 
 use nla_wire::Exact;
 
-/// How the link of a virtual function follows that of its device, four bytes: `IFLA_VF_LINK_STATE_..` of linux/if_link.h.
+/// How the link of a virtual function follows that of its device, four bytes: `IFLA_VF_LINK_STATE_..` of
+/// linux/if_link.h.
 #[derive(Clone, Copy, Debug, Default, PartialEq, Eq)]
 pub enum VfLinkState {
     #[default]

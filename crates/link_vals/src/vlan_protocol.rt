@@ -7,7 +7,8 @@ use nla_wire::Exact;
 
 /// The protocol of a vlan tag, `ETH_P_8021Q` and `ETH_P_8021AD` of linux/if_ether.h.
 ///
-/// Any other number is read as `Ieee8021Q`. The numbers here are those of the protocols; the wire has them highest byte first.
+/// Any other number is read as `Ieee8021Q`. The numbers here are those of the protocols; the wire has them highest byte
+/// first.
 #[derive(Clone, Copy, Debug, Default, PartialEq, Eq)]
 pub enum VlanProtocol {
     #[default]

@@ -1,9 +1,9 @@
 -- Virtual functions and ports as tables (linux/if_link.h).
 --
--- A line says three things of an attribute: its number, what its payload is, and the variant that the value becomes. The
--- lines stand in the order in which the variants are declared, and `keeps` is for all frames that no line reads. Of such a
--- table `.grammar` is how frames are read, `.frame` how a value is written, `.Fits` when it can be, `.count` how many
--- values it is, and `.lawful` holds what is proved of them.
+-- A line says three things of an attribute: its number, what its payload is, and the variant that the value becomes.
+-- The lines stand in the order in which the variants are declared, and `keeps` is for all frames that no line reads. Of
+-- such a table `.grammar` is how frames are read, `.frame` how a value is written, `.Fits` when it can be, `.count` how
+-- many values it is, and `.lawful` holds what is proved of them.
 use Rattle.std.specs.Prelude.{◌≡◌, ◌≤◌, List, length, refl}
 use Rattle.std.proofs.Common.{lit<, lit≤}
 use Rattle.nla_wire.specs.Sizes.{most_payload, plain_growth, inner_small}

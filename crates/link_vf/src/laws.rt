@@ -1,7 +1,7 @@
 //! Laws of the lists of virtual functions and ports, each the contract of a function that does nothing.
 //!
-//! Of each place: a value that some frame means there, and that fits, is what the frame of its canonical text means
-//! there; so are the values of a list. A list's payload has at least four bytes for each value, those inside of others
+//! Of each place: what was read from some frame there, if it fits, is read again from its canonical frame; so are the
+//! values of a list. A list's payload has at least four bytes for each value, those inside of others
 //! among them. Its canonical text has at most `plain_growth` bytes for each whole four bytes of the
 //! payload. A frame that no line of the table reads is kept: its kind, both flag bits and its payload come back.
 //! The only frames that are not kept are those with other numbers in IFLA_VFINFO_LIST and in IFLA_VF_PORTS, which are

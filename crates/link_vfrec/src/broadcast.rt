@@ -54,8 +54,8 @@ impl VfInfoBroadcast {
         }
     }
 
-    /// Reads a record from the front of the payload. A payload of fewer than `VF_INFO_BROADCAST_SIZE` bytes is refused with
-    /// `TooShort`.
+    /// Reads a record from the front of the payload. A payload of fewer than `VF_INFO_BROADCAST_SIZE` bytes is refused
+    /// with `TooShort`.
     pub fn parse(payload: &[u8]) -> Result<VfInfoBroadcast, DecodeError>
         ensures { Parses (sized vf_info_broadcast_size vf_info_broadcast_of) payload.now result }
     {

@@ -55,8 +55,8 @@ impl VfInfoLinkState {
         VfInfoLinkState { vf_id, state }
     }
 
-    /// Reads a record from the front of the payload. A payload of fewer than `VF_INFO_LINK_STATE_SIZE` bytes is refused with
-    /// `TooShort`.
+    /// Reads a record from the front of the payload. A payload of fewer than `VF_INFO_LINK_STATE_SIZE` bytes is refused
+    /// with `TooShort`.
     pub fn parse(payload: &[u8]) -> Result<VfInfoLinkState, DecodeError>
         ensures { Parses (sized vf_info_link_state_size vf_info_link_state_of) payload.now result }
     {

@@ -56,8 +56,8 @@ impl VfInfoSpoofCheck {
         VfInfoSpoofCheck { vf_id, enabled }
     }
 
-    /// Reads a record from the front of the payload. A payload of fewer than `VF_INFO_SPOOF_CHECK_SIZE` bytes is refused with
-    /// `TooShort`.
+    /// Reads a record from the front of the payload. A payload of fewer than `VF_INFO_SPOOF_CHECK_SIZE` bytes is
+    /// refused with `TooShort`.
     pub fn parse(payload: &[u8]) -> Result<VfInfoSpoofCheck, DecodeError>
         ensures { Parses (sized vf_info_spoof_check_size vf_info_spoof_check_of) payload.now result }
     {

@@ -54,8 +54,8 @@ impl VfInfoTxRate {
         VfInfoTxRate { vf_id, rate }
     }
 
-    /// Reads a record from the front of the payload. A payload of fewer than `VF_INFO_TX_RATE_SIZE` bytes is refused with
-    /// `TooShort`.
+    /// Reads a record from the front of the payload. A payload of fewer than `VF_INFO_TX_RATE_SIZE` bytes is refused
+    /// with `TooShort`.
     pub fn parse(payload: &[u8]) -> Result<VfInfoTxRate, DecodeError>
         ensures { Parses (sized vf_info_tx_rate_size vf_info_tx_rate_of) payload.now result }
     {

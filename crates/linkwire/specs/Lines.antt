@@ -12,7 +12,8 @@ abbrev pub put_front : Bool → ℕ → List (List ℕ) → List (List ℕ)
 put_front ended x [] = if ended then (x ∷ []) ∷ [] else []
 put_front ended x (line ∷ lines) = (x ∷ line) ∷ lines
 
--- the complete lines of a text: those that an LF (10) ends, and, if the text has ended, what follows the last LF, unless it is empty
+-- the complete lines of a text: those that an LF (10) ends, and, if the text has ended, what follows the last LF,
+-- unless it is empty
 abbrev pub complete_lines : Bool → List ℕ → List (List ℕ)
 complete_lines ended [] = []
 complete_lines ended (x ∷ xs) =
@@ -65,7 +66,7 @@ pub record RanToEnd (left left_after held held_after : Option (List ℕ)) : Type
   pub appended : Appends held held_after written
   pub answers : AreAnswers (lines_of text) written
 
--- some bytes were read, and what was written is a beginning of the answers to the first of their complete lines
+-- some bytes were read, and the output is cut off somewhere in the answers to their first complete lines
 pub record Stopped (left left_after held held_after : Option (List ℕ)) : Type 0 where
   pub text : List ℕ
   pub ended : Bool

@@ -1,4 +1,5 @@
--- What was read is written as the bytes that it was read from: numbers, and payloads that are cut or filled up with zeros.
+-- What was read is written as the bytes that it was read from: numbers, and payloads that are cut or filled up with
+-- zeros.
 use Rattle.std.proofs.Common.{◌≡◌, ℕ, zero, suc, ◌+◌, ◌-◌, ◌*◌, ◌≤◌, List, [], ◌∷◌, ◌++◌, length, take, drop, replicate, take_all, append-nil, refl, sym, ap, ap₂, subst, ◌∙◌, length-drop, arith, lit<}
 use Rattle.std.proofs.lemmas.List.{take-append-drop, length-take-le}
 use Rattle.std.proofs.lemmas.Nat.{le_bytes_2, le_bytes_4, le_bytes_8}
@@ -26,7 +27,8 @@ writes_again_4 b four small = le_bytes_4 b (from_le_bytes w32 b) four (λ i. IsB
 pub writes_again_8 : WritesAgain w64
 writes_again_8 b eight small = le_bytes_8 b (from_le_bytes w64 b) eight (λ i. IsBytes-get b i small) refl
 
--- numbers that were read one behind the other, with nothing behind them, are written as the bytes that they were read from
+-- numbers that were read one behind the other, with nothing behind them, are written as the bytes that they were read
+-- from
 pub numbers_text : (w : Width) → WritesAgain w → (q : List ℕ) (n : ℕ) → IsBytes q → length q ≡ n * byte_len w → le_all w (numbers_from w q 0 n) ≡ q
 numbers_text w again [] zero small is = refl
 numbers_text w again (x ∷ q) zero small is = absurd (omega (arith, is))

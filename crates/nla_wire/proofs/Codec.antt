@@ -1,5 +1,5 @@
--- A type of payload with all that is proved of it, in one record: how bytes are read as a value, how the value is written,
--- what is inside of it, and within which bounds that stays. A place is the same of frames.
+-- A type of payload with all that is proved of it, in one record: how bytes are read as a value, how the value is
+-- written, what is inside of it, and within which bounds that stays. A place is the same of frames.
 use Rattle.std.proofs.Common.{◌≡◌, ℕ, ℤ, ◌+◌, ◌*◌, ◌/◌, ◌^◌, ◌<◌, ◌≤◌, ◌-◌, Bool, true, false, List, [], ◌∷◌, ◌++◌, length, refl, sym, ap, subst, ◌∙◌, arith, lit<, lit≤, leb-true, leb-false, mul-le-mul_left, mul-le-mul_right, mul_comm, div-mul-le_self}
 use Rattle.std.specs.Prelude.{Option, None, Some, if◌then◌else◌, nat_le}
 use lib.Dec.{T, leb}

@@ -1,7 +1,7 @@
--- Everything that is proved of a payload, of a line of a table and of a place, each in one record, so that a place costs one
--- line a row. A value's text is `text a` or the text of its `frame`; `Fits` says that it has one, `Good` that the text is
--- not refused, and `count` is how many values it is. A text has at most k bytes for each whole four bytes that were read, the
--- header among them, and e bytes fewer than that. What was read from at most n bytes fits.
+-- Everything that is proved of a payload, of a line of a table and of a place, each in one record, so that a place
+-- costs one line a row. A value's text is `text a` or the text of its `frame`; `Fits` says that it has one, `Good` that
+-- the text is not refused, and `count` is how many values it is. A text has at most k bytes for each whole four bytes
+-- that were read, the header among them, and e bytes fewer than that. What was read from at most n bytes fits.
 use Rattle.std.proofs.Common.{◌≡◌, ℕ, ◌+◌, ◌*◌, ◌/◌, ◌^◌, ◌<◌, ◌≤◌, inl, inr, List, [], ◌∷◌, ◌++◌, length, filter, refl, sym, ap, subst, ◌∙◌, mul-le-mul_left, mul-le-mul_right, arith, lit≤, length-append}
 use Rattle.std.specs.Int.{Width, w8, w16, w32, w64, w128, byte_len, to_le_bytes, from_le_bytes, cast_signed, cast_unsigned}
 use Rattle.std.specs.List.{AllByRecursion}
@@ -196,7 +196,8 @@ every_small g Fits n small [] (v ∷ vs) one short h = absurd h
 every_small g Fits n small (f ∷ fs) [] one short h = absurd h
 every_small g Fits n small (f ∷ fs) (v ∷ vs) one short h = (small f v short.0 one.0 h.0, every_small g Fits n small fs vs one.1 short.1 h.1)
 
--- where k bytes for each whole four of n pass the most that a value may have by e at most, each member's slack makes up for it
+-- where k bytes for each whole four of n pass the most that a value may have by e at most, each member's slack makes up
+-- for it
 text_small : {V : Type 0} (frame : V → Frame) (k e n : ℕ) (p : List ℕ) (vs : List V) → k * (n / 4) ≤ most_payload + e → length p ≤ n
     → length (canons frame vs) + e * length vs ≤ k * (length p / 4) → length (canons frame vs) ≤ most_payload
 text_small frame k e n p [] enough short long = omega arith

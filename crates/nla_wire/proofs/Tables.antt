@@ -1,5 +1,5 @@
--- The lines of a place as a list, each with its test of a frame. From it follow how frames are read, that a value which was
--- read is read back, its bounds, and that frames which no line accepts are kept as they are.
+-- The lines of a place as a list, each with its test of a frame. From it follow how frames are read, that a value which
+-- was read is read back, its bounds, and that frames which no line accepts are kept as they are.
 use Rattle.std.proofs.Common.{◌≡◌, ◌≢◌, ℕ, ◌+◌, ◌%◌, ◌^◌, ◌≤◌, ◌==◌, ◌&&◌, Bool, true, false, not, List, [], ◌∷◌, length, refl, sym, ap, subst, ◌∙◌, eqb-true, eq-eqb, ne_eqb, ltb-true}
 use Rattle.std.specs.Prelude.{Option, None, Some, Result, Ok, Err, if◌then◌else◌, nat_le, nat_lt}
 use lib.Dec.{T}

@@ -1,5 +1,5 @@
--- A table: one line for each variant of an enum, in the order in which they are declared. Grammar, frame, what fits, count
--- and bounds of the place follow from its lines.
+-- A table: one line for each variant of an enum, in the order in which they are declared. Grammar, frame, what fits,
+-- count and bounds of the place follow from its lines.
 use Rattle.std.proofs.Common.{◌≡◌, ℕ, ◌+◌, ◌≤◌, ◌&&◌, inl, inr, Bool, true, false, List, [], ◌∷◌, ◌++◌, length, refl, ap, ◌∙◌}
 use Rattle.std.specs.Prelude.{Option, None, Some, nat_le}
 use lib.Dec.{T}

@@ -171,7 +171,8 @@ value_closed : {A : Type 0} (text : A → List ℕ) (inner fits : A → Type 0) 
 value_closed text inner fits kind v old new (Some n) made short inside c = (made inside c.0, c.1)
 value_closed text inner fits kind v old new None made short inside c = λ good. absurd (omega (arith, short good, c))
 
--- a value that stands behind the header of its frame: it fits where what is inside fits and its own text has at most 65531 bytes
+-- a value that stands behind the header of its frame: it fits where what is inside fits and its own text has at most
+-- 65531 bytes
 pub value_canonical : {A : Type 0} (text : A → List ℕ) (inner fits : A → Type 0) (kind : ℕ) (r : Result A Cause) (old part : List ℕ) (len : ℕ) (new : List ℕ) (a : Option ℕ) → 4 ≤ length old
     → ((v : A) → inner v → length (text v) ≤ most_payload → fits v)
     → ((v : A) → fits v → length (text v) ≤ most_payload)

@@ -37,7 +37,7 @@ total count (v ∷ vs) = count v + total count vs
 
 -- ** what a call did to a buffer
 
--- the text stands at the end of the buffer, from `start` on, and the bytes before it are kept
+-- the buffer's last bytes are the text, whose first byte is at `start`; the bytes before it are kept
 abbrev pub Filled : List ℕ → List ℕ → List ℕ → ℕ → Type 0
 Filled old new text start = (start + length text ≡ length old) × (new ≡ take start old ++ text)
 
@@ -46,7 +46,8 @@ pub record Writes (text old new : List ℕ) (n : ℕ) : Type 0 where
   pub length_is : n ≡ length text
   pub new_is : new ≡ text ++ drop n old
 
--- the text of the value that is read stands at the front; or nothing is promised of the buffer, where the value doesn't fit
+-- the text of the value that is read stands at the front; or nothing is promised of the buffer, where the value doesn't
+-- fit
 abbrev pub Canonical : {V : Type 0} → (V → List ℕ) → (V → Type 0) → Result V Cause → List ℕ → List ℕ → Option ℕ → Type 0
 Canonical text fits (Ok v) old new (Some n) = fits v × Writes (text v) old new n
 Canonical text fits (Ok v) old new None = fits v → ⊥

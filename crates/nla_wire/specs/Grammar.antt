@@ -40,7 +40,7 @@ abbrev pub FirstAfter : {V : Type 0} → Grammar Frame V → List ℕ → List F
 FirstAfter place b [] c = BadStart b c ⊎ ((f : Frame) × (rest : List ℕ) × Begins b f rest × place.bad f c)
 FirstAfter {V} place b (f ∷ fs) c = (rest : List ℕ) × Begins b f rest × ((v : V) × place.means f v) × FirstAfter place rest fs c
 
--- the first fault of b, front to back, each frame's value before the next frame
+-- the first fault of b, from its front on: that of a frame's value comes before that of the frame behind it
 abbrev pub First : {V : Type 0} → Grammar Frame V → List ℕ → Cause → Type 0
 First place b c = (fs : List Frame) × FirstAfter place b fs c
 

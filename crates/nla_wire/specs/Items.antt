@@ -1,4 +1,5 @@
--- What the iterator over frames gives: the frames of bytes in order, then either the end or one fault and the end.
+-- What the iterator over frames gives: the frames of bytes one after the other, and where one is damaged its fault, as
+-- the last item.
 use Rattle.std.specs.Prelude.{◌≡◌, ℕ, ◌+◌, List, [], ◌∷◌, ◌++◌, ◌⊎◌, length, map, Option, None, Some, Result, Ok, Err}
 use Rattle.nla_wire.specs.Frames.{Frame, IsFrame, Frames, Fault}
 use Rattle.nla_wire.specs.Reading.{cut, ◌>>=◌}

@@ -3,7 +3,7 @@ use Rattle.std.specs.Prelude.{ℕ, ◌+◌, ◌*◌, ◌/◌, ◌<◌, ◌≤◌
 use Rattle.nla_wire.specs.Frames.{Frame, IsBytes, IsFrame, Begins}
 use Rattle.nla_wire.specs.Canon.{canon, canons, AllFit, total}
 
--- a value that some frame means here, and that fits, is what the frame of its canonical text means here
+-- what was read from some frame here, if it fits, is read again from its canonical frame
 abbrev pub ReadsBack : {V : Type 0} → (Frame → V → Type 0) → (V → Frame) → (V → Type 0) → Type 0
 ReadsBack {V} means frame Fits = (f : Frame) (v : V) → IsFrame f → means f v → Fits v → Begins (canon (frame v)) (frame v) [] × means (frame v) v
 
@@ -11,8 +11,8 @@ ReadsBack {V} means frame Fits = (f : Frame) (v : V) → IsFrame f → means f v
 abbrev pub ListReadsBack : {V : Type 0} → (List ℕ → List V → Type 0) → (V → Frame) → (V → Type 0) → Type 0
 ListReadsBack {V} means frame Fits = (p : List ℕ) (vs : List V) → IsBytes p → means p vs → AllFit Fits frame vs → means (canons frame vs) vs
 
--- how many values a list holds, members of members among them, and how long its canonical text is, against its payload: at
--- most `factor` bytes for each whole four, and so many fewer for each member
+-- how many values a list holds, members of members among them, and how long its canonical text is, against its payload:
+-- at most `factor` bytes for each whole four, and so many fewer for each member
 pub record IsBounded (factor fewer_bytes : ℕ) (p : List ℕ) (members values : ℕ) (text : List ℕ) : Type 0 where
   -- four bytes for each value
   pub counted : 4 * values ≤ length p

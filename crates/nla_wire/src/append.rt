@@ -38,7 +38,8 @@ fn append_next<N: Nla>(fitted: bool, nla: &N, text: &mut Vec<u8>) -> Result<bool
 /// Reads a list of members of this place, adds the canonical text of each to `text`, and answers whether they all fit.
 /// Each value is dropped as soon as it is written.
 ///
-/// Refuses as `parse_members` does. Nothing is said of what was added where a member does not fit, or the list is refused.
+/// Refuses as `parse_members` does. Nothing is said of what was added where a member does not fit, or the list is
+/// refused.
 pub fn append_members<V: Nla + Drop, P: Place<V>>(
     place: &P,
     alloc: Global,

@@ -21,7 +21,7 @@ pub const NLA_TYPE_MASK: u16 = 0x3fff;
 /// The bytes of a frame's header: a length of two bytes and a kind of two bytes.
 pub const NLA_HEADER_SIZE: usize = 4;
 
-/// A frame over borrowed bytes: its kind, and the payload as a part of the caller's slice (rtnetlink(7)).
+/// A frame over borrowed bytes: its kind, and its payload, which is not copied (rtnetlink(7)).
 ///
 /// The length field was checked when it was made, so the payload has at most 65531 bytes.
 #[derive(Debug, Drop)]

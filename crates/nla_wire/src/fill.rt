@@ -7,7 +7,7 @@ ghost use Rattle.nla_wire.specs.Canon.{canon, Filled};
 
 use crate::fields::put_u16;
 
-/// Writes the bytes at the end of the buffer, and answers where they start.
+/// Fills the last bytes of the buffer with these, and returns the place of the first.
 pub fn fill_bytes(buffer: &mut [u8], bytes: &[u8]) -> usize
     requires { length bytes.now ≤ length buffer.old }
     ensures { Filled buffer.old buffer.new bytes.now result }
@@ -17,7 +17,7 @@ pub fn fill_bytes(buffer: &mut [u8], bytes: &[u8]) -> usize
     start
 }
 
-/// Writes the text and one NUL at the end of the buffer, and answers where they start.
+/// Fills the last bytes of the buffer with the text and one NUL, and returns the place of the first.
 pub fn fill_text(buffer: &mut [u8], text: &str) -> usize
     requires { length text.now + 1 ≤ length buffer.old }
     ensures { Filled buffer.old buffer.new (text.now ++ 0 ∷ []) result }
@@ -40,7 +40,7 @@ fn pad(buffer: &mut [u8], padding: usize)
     buffer[end..].fill(0);
 }
 
-/// Makes a frame of this kind of the value that stands at the end of the buffer, and answers where the frame starts.
+/// Makes a frame of this kind of the value that the last bytes of the buffer are, and returns the place of its header.
 ///
 /// The value is moved to the front by its padding, three bytes at most.
 pub fn close_frame(buffer: &mut [u8], start: usize, kind: u16) -> usize

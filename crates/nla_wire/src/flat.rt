@@ -45,7 +45,8 @@ impl Content<'_> {
         }
     }
 
-    /// Fills the last bytes of the buffer with the text, and returns the place of its first byte. Earlier bytes are kept.
+    /// Fills the last bytes of the buffer with the text, and returns the place of its first byte. Earlier bytes are
+    /// kept.
     #[inline]
     pub fn fill(&self, buffer: &mut [u8]) -> usize
         requires { length (content_text self.now) ≤ length buffer.old }

@@ -10,10 +10,11 @@ use crate::buffer::NlaBuffer;
 use crate::error::DecodeError;
 use std::marker::Model;
 
-/// The frames of a byte string in order, and then either the end or one fault and the end.
+/// The frames of a byte string, one after the other. Where one is damaged its fault comes in its place, and nothing
+/// after it.
 ///
-/// Behind a frame it goes on at the next multiple of four. Padding is not looked at, and the last frame may lack some
-/// or all of it.
+/// Behind a frame it goes on at the next multiple of four. Padding is not looked at, and behind the last frame it
+/// can be missing.
 #[derive(Debug, Drop)]
 pub struct NlasIterator<'a> {
     rest: &'a [u8],

@@ -28,8 +28,8 @@ pub enum Leaf {
 }
 
 impl Leaf {
-    /// Whether a payload of this shape is read. Refuses a text that is not UTF-8 with `NotUtf8`, and a number of another
-    /// length with `WrongLength`.
+    /// Whether a payload of this shape is read. Refuses a text that is not UTF-8 with `NotUtf8`, and a number of
+    /// another length with `WrongLength`.
     pub fn check(self, payload: &[u8]) -> Result<(), DecodeError>
         ensures { Checks result ((leaf_grammar self).reads payload.now) }
     {

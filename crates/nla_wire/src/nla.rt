@@ -29,7 +29,8 @@ pub trait Nla {
         requires { fits self.now }
         ensures { result ≡ length (frame self.now).payload };
 
-    /// Writes the value's text at the end of the buffer, and answers where it starts. The bytes before are kept.
+    /// Fills the last bytes of the buffer with the value's text, and returns the place of its first byte. Earlier bytes
+    /// are kept.
     fn fill_value(&self, buffer: &mut [u8]) -> usize
         requires fits { fits self.now }
         requires room { length (frame self.now).payload ≤ length buffer.old }
@@ -54,7 +55,8 @@ pub trait Nla {
         4 + (self.value_len() + 3) / 4 * 4
     }
 
-    /// Writes the attribute's text at the end of the buffer, and answers where it starts. The bytes before are kept.
+    /// Fills the last bytes of the buffer with the attribute's text, and returns the place of its first byte. Earlier
+    /// bytes are kept.
     final fn fill(&self, buffer: &mut [u8]) -> usize
         requires fits { fits self.now }
         requires room { length (canon (frame self.now)) ≤ length buffer.old }

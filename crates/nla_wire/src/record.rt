@@ -80,8 +80,9 @@ pub trait Record<const SIZE: usize>: Sized {
 pub trait PlainRecord<const SIZE: usize>: Record<SIZE> {
     ghost written: { WritesFilled SIZE Self.of Self.bytes };
 
-    /// Writes the attribute of this kind whose value is the record that a payload means, the payload cut to `SIZE` bytes
-    /// or filled up with zeros, to the front of the buffer, and answers its length. The rest of the buffer is kept.
+    /// Writes the attribute of this kind whose value is the record that a payload means, the payload cut to `SIZE`
+    /// bytes or filled up with zeros, to the front of the buffer, and answers its length. The rest of the buffer is
+    /// kept.
     #[tactic(auto, using(crate::proofs::Front::all_bytes))]
     final fn canon_record(kind: u16, payload: &[u8], out: &mut [u8]) -> Option<usize>
         requires { 4 + SIZE + missing SIZE ≤ length out.old }

@@ -34,8 +34,8 @@ fn are_causes(rt: &impl Abort, path: &[u8], found: Option<Cause>, wanted: Option
     assert!(rt; found == wanted, "path {path:?}");
 }
 
-/// A message with this payload in attributes of these numbers has this first fault or none, the same when it is read and
-/// when it is checked.
+/// A message with this payload in attributes of these numbers has this first fault or none, the same when it is read
+/// and when it is checked.
 fn fails_in(
     rt: &impl Abort,
     alloc: Global,

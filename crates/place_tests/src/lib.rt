@@ -1,4 +1,5 @@
-//! Tests of `link_nest`, `link_vf`, `link_afspec` and `link_msg`, in a crate of their own so that those are proved once.
+//! Tests of `link_nest`, `link_vf`, `link_afspec` and `link_msg`, in a crate of their own so that those are proved
+//! once.
 #![tactic(auto)]
 
 #[cfg(test)]

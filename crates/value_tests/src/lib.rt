@@ -1,4 +1,5 @@
-//! Tests of `nla_wire`, `link_vals`, `link_recs` and `link_vfrec`, in a crate of their own so that those are proved once.
+//! Tests of `nla_wire`, `link_vals`, `link_recs` and `link_vfrec`, in a crate of their own so that those are proved
+//! once.
 #![tactic(auto)]
 
 #[cfg(test)]

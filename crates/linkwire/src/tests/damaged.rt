@@ -1,6 +1,7 @@
 //! Damaged lists in each place of a message, as lines: the lists of IFLA_PROP_LIST, IFLA_DEVLINK_PORT, IFLA_DPLL_PIN,
 //! IFLA_PROTO_DOWN_REASON, IFLA_AF_SPEC, a function's statistics and vlans; IFLA_LINKINFO, IFLA_XDP, IFLA_PORT_SELF, a
-//! function, a port, AF_INET, AF_INET6 and AF_MCTP; and what AF_BRIDGE and AF_INET6 have in IFLA_AF_SPEC and IFLA_PROTINFO.
+//! function, a port, AF_INET, AF_INET6 and AF_MCTP; and what AF_BRIDGE and AF_INET6 have in IFLA_AF_SPEC and
+//! IFLA_PROTINFO.
 
 use super::rows::Row;
 
