@@ -1,5 +1,6 @@
 -- Settings that are asked for, one by one.
-use Rattle.std.proofs.Common.{◌≡◌, ℕ, zero, suc, ◌+◌, ◌-◌, ◌*◌, ◌<◌, ◌≤◌, Bool, true, false, if◌then◌else◌, List, [], ◌∷◌, ◌++◌, length, drop, refl, ap, ◌∙◌, sym, get_or, arith, length-append}
+use Rattle.std.proofs.Common.{◌≡◌, ℕ, zero, suc, ◌+◌, ◌-◌, ◌*◌, ◌<◌, ◌≤◌, Bool, true, false, if◌then◌else◌, List, []}
+use Rattle.std.proofs.Common.{◌∷◌, ◌++◌, length, drop, refl, ap, ◌∙◌, sym, get_or, arith, length-append}
 use Rattle.std.specs.Prelude.{ℤ, pos}
 use Rattle.std.specs.Ordering.{int_eq}
 use Rattle.std.specs.Int.{w32, cast_unsigned}
@@ -10,7 +11,8 @@ use Rattle.nla_wire.proofs.FieldLemmas.{length-to_le_bytes}
 use Rattle.link_recs.specs.InetDevConfFields.{inet_dev_conf_fields}
 use Rattle.link_recs.specs.declared.inet.TheConstants.{INET_DEV_CONF_COUNT}
 use Rattle.link_recs.specs.declared.inet.InetDevConf.{InetDevConf}
-use Rattle.link_afspec.specs.Requests.{Setting, numbered, settings_of, setting_frame, setting_text, settings_text, request_text}
+use Rattle.link_afspec.specs.Requests.{Setting, numbered, settings_of, setting_frame, setting_text, settings_text}
+use Rattle.link_afspec.specs.Requests.{request_text}
 
 -- the settings from the i-th on
 numbered_from : (n : ℕ) (zs : List ℤ) (i : ℕ) → i < length zs

@@ -29,7 +29,12 @@ use Rattle.link_recs.specs.Icmp6StatsFields.{icmp6_stats_laws}
 use Rattle.link_recs.specs.declared.inet6_cache.Inet6CacheInfo.{Inet6CacheInfo}
 use Rattle.link_recs.specs.Inet6CacheInfoFields.{inet6_cache_info_laws}
 use Rattle.link_afspec.specs.Requests.{request_text}
-use Rattle.link_afspec.specs.declared.numbers.TheConstants.{IFLA_INET_CONF, IFLA_INET6_FLAGS, IFLA_INET6_CONF, IFLA_INET6_STATS, IFLA_INET6_CACHEINFO, IFLA_INET6_ICMP6STATS, IFLA_INET6_TOKEN, IFLA_INET6_ADDR_GEN_MODE, IFLA_INET6_RA_MTU, IFLA_MCTP_NET, IFLA_MCTP_PHYS_BINDING, AF_INET, AF_INET6, AF_MCTP}
+use Rattle.link_afspec.specs.declared.numbers.TheConstants.{IFLA_INET_CONF, IFLA_INET6_FLAGS, IFLA_INET6_CONF}
+use Rattle.link_afspec.specs.declared.numbers.TheConstants.{IFLA_INET6_STATS, IFLA_INET6_CACHEINFO}
+use Rattle.link_afspec.specs.declared.numbers.TheConstants.{IFLA_INET6_ICMP6STATS, IFLA_INET6_TOKEN}
+use Rattle.link_afspec.specs.declared.numbers.TheConstants.{IFLA_INET6_ADDR_GEN_MODE, IFLA_INET6_RA_MTU}
+use Rattle.link_afspec.specs.declared.numbers.TheConstants.{IFLA_MCTP_NET, IFLA_MCTP_PHYS_BINDING, AF_INET, AF_INET6}
+use Rattle.link_afspec.specs.declared.numbers.TheConstants.{AF_MCTP}
 use Rattle.link_afspec.specs.declared.mctp.AfSpecMctp.{AfSpecMctp}
 use Rattle.link_afspec.specs.declared.mctp.AfSpecMctp.TheVariants as mctp
 use Rattle.link_afspec.specs.contracts.mctp.AfSpecMctp.{enum as mctps}

@@ -1,5 +1,6 @@
 -- What follows for a caller from the answer of the reader of messages.
-use Rattle.std.proofs.Common.{◌≡◌, ◌≢◌, ℕ, ◌+◌, List, length, refl, sym, ap, subst, arith, lit<, length-append, inl, inr, Result, Ok, Err}
+use Rattle.std.proofs.Common.{◌≡◌, ◌≢◌, ℕ, ◌+◌, List, length, refl, sym, ap, subst, arith, lit<, length-append, inl}
+use Rattle.std.proofs.Common.{inr, Result, Ok, Err}
 use Rattle.std.specs.Prelude.{IfOk, IsTrue, Bool, ◌↔◌}
 use Rattle.nla_wire.specs.Sizes.{growth, attribute_small}
 use Rattle.nla_wire.specs.Frames.{IsBytes}
@@ -12,7 +13,8 @@ use Rattle.nla_wire.proofs.Lawful.{place_count, place_growth, place_all_fit}
 use Rattle.nla_wire.proofs.Memory.{memory_list}
 use Rattle.nla_wire.proofs.Steps.{bytes_right}
 use Rattle.link_msg.specs.Header.{header_size}
-use Rattle.link_msg.specs.Tables.{attribute_frame, AttributeFits, HasPorts, attribute_count, attribute_place, attribute_lawful}
+use Rattle.link_msg.specs.Tables.{attribute_frame, AttributeFits, HasPorts, attribute_count, attribute_place}
+use Rattle.link_msg.specs.Tables.{attribute_lawful}
 use Rattle.link_msg.specs.Messages.{Means, Refused, IsRefused, IsBounded, read_message, message_text}
 use Rattle.link_msg.specs.declared.message.LinkMessage.{LinkMessage}
 use Rattle.link_msg.proofs.Reading.{message_agrees}

@@ -1,5 +1,6 @@
 -- Empty lists of ports, told from the frames of accepted lists.
-use Rattle.std.proofs.Common.{◌≡◌, ◌≢◌, ℕ, ◌*◌, ◌<◌, ◌≤◌, List, [], ◌∷◌, length, replicate, flat_map, refl, sym, ap, ◌∙◌, subst, arith, Result, Ok, Err, IsOk, Option, Some, None, Bool, true, false}
+use Rattle.std.proofs.Common.{◌≡◌, ◌≢◌, ℕ, ◌*◌, ◌<◌, ◌≤◌, List, [], ◌∷◌, length, replicate, flat_map, refl, sym, ap}
+use Rattle.std.proofs.Common.{◌∙◌, subst, arith, Result, Ok, Err, IsOk, Option, Some, None, Bool, true, false}
 use Rattle.std.proofs.lemmas.List.{length-replicate}
 use Rattle.std.specs.List.{AllByRecursion}
 use Rattle.nla_wire.specs.Sizes.{growth_per_byte}
@@ -14,7 +15,8 @@ use Rattle.nla_wire.proofs.Written.{Going, going_accepted, going_skip, going_unf
 use Rattle.link_vals.specs.declared.address_family.AddressFamily.{AddressFamily}
 use Rattle.link_vf.specs.Tables.{link_vf_port_place, vf_port_list}
 use Rattle.link_vf.specs.declared.port_list.LinkVfPort.{LinkVfPort}
-use Rattle.link_msg.specs.Tables.{attribute_frame, attribute_view, attribute_entries, HasPorts, attribute_place, attribute_lawful, attribute_number}
+use Rattle.link_msg.specs.Tables.{attribute_frame, attribute_view, attribute_entries, HasPorts, attribute_place}
+use Rattle.link_msg.specs.Tables.{attribute_lawful, attribute_number}
 use Rattle.link_vf.specs.declared.numbers.TheConstants.{IFLA_VF_PORT}
 use Rattle.link_msg.specs.declared.numbers.TheConstants.{IFLA_VF_PORTS}
 use Rattle.link_msg.specs.Canonical.{NoneTold, PortTold, PortsTold}

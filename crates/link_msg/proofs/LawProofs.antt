@@ -15,7 +15,8 @@ use Rattle.link_recs.specs.MapFields.{map_size, map_laws}
 use Rattle.link_afspec.specs.PlaceLaws.{ZerosAdded, LongerIgnored}
 use Rattle.link_afspec.proofs.Lawed.{filled_zeros, filled_longer, sized_longer}
 use Rattle.link_msg.specs.Header.{header_bytes}
-use Rattle.link_msg.specs.Tables.{attribute_frame, AttributeFits, HasPorts, attribute_view, attribute_entries, attribute_place, attribute_lawful}
+use Rattle.link_msg.specs.Tables.{attribute_frame, AttributeFits, HasPorts, attribute_view, attribute_entries}
+use Rattle.link_msg.specs.Tables.{attribute_place, attribute_lawful}
 use Rattle.link_msg.specs.declared.numbers.TheConstants.{IFLA_STATS, IFLA_MAP, IFLA_STATS64}
 use Rattle.link_msg.specs.Messages.{Means, message, message_text}
 use Rattle.link_msg.specs.LawStatements.{OneMeaning, OnlyWithPorts, SameTextSameMessage, CanonicalTwice, Joined}

@@ -17,7 +17,8 @@ use Rattle.link_vals.specs.declared.address_family.AddressFamily.{AddressFamily}
 use Rattle.link_vals.specs.declared.link_layer_type.LinkLayerType.{LinkLayerType}
 use Rattle.link_vals.specs.declared.link_flags.LinkFlags.{LinkFlags}
 use Rattle.link_msg.specs.Header.{header_of, IsHeader, header_bytes}
-use Rattle.link_msg.specs.Tables.{attribute_frame, AttributeFits, HasPorts, attribute_count, attribute_place, attribute_lawful}
+use Rattle.link_msg.specs.Tables.{attribute_frame, AttributeFits, HasPorts, attribute_count, attribute_place}
+use Rattle.link_msg.specs.Tables.{attribute_lawful}
 use Rattle.link_msg.specs.Messages.{Means, message_text, MessageFits, NoEmptyPorts}
 use Rattle.link_msg.specs.declared.header.LinkHeader.{LinkHeader}
 use Rattle.link_msg.specs.declared.message.LinkMessage.{LinkMessage}

@@ -1,5 +1,6 @@
 -- The attribute of a frame by its shape: what is checked and written from its payload is what the place reads.
-use Rattle.std.proofs.Common.{◌≡◌, ℕ, Bool, true, false, List, length, refl, sym, ap, ap₂, subst, ◌∙◌, Option, Some, Result, Ok, Err, IsOk}
+use Rattle.std.proofs.Common.{◌≡◌, ℕ, Bool, true, false, List, length, refl, sym, ap, ap₂, subst, ◌∙◌, Option, Some}
+use Rattle.std.proofs.Common.{Result, Ok, Err, IsOk}
 use Rattle.std.specs.Prelude.{if◌then◌else◌, nat_lt}
 use Rattle.nla_wire.specs.Frames.{Frame, number, IsBytes}
 use Rattle.nla_wire.specs.Gives.{Checks, Gives}
@@ -12,9 +13,11 @@ use Rattle.nla_wire.proofs.Codec.{Any, kind_of}
 use Rattle.nla_wire.specs.Leaves.{LeafWrites}
 use Rattle.nla_wire.specs.declared.leaf.Leaf.{Leaf}
 use Rattle.nla_wire.proofs.Tables.{Kept, ReadsBy, reads_in, line_by, IsOther, other_reads}
-use Rattle.nla_wire.proofs.Shapes.{leaf_base, leaf_writes, ShapeWrites, writes_kept, WayChecks, WayWrites, lined_checks, lined_accepted, lined_writes}
+use Rattle.nla_wire.proofs.Shapes.{leaf_base, leaf_writes, ShapeWrites, writes_kept, WayChecks, WayWrites}
+use Rattle.nla_wire.proofs.Shapes.{lined_checks, lined_accepted, lined_writes}
 use Rattle.link_vals.specs.declared.address_family.AddressFamily.{AddressFamily}
-use Rattle.link_msg.specs.Tables.{base, HasPorts, attribute_view, attribute_entries, attribute_frame, AttributeFits, attribute_place, attribute_way, as_way, other_kept}
+use Rattle.link_msg.specs.Tables.{base, HasPorts, attribute_view, attribute_entries, attribute_frame, AttributeFits}
+use Rattle.link_msg.specs.Tables.{attribute_place, attribute_way, as_way, other_kept}
 use Rattle.link_msg.specs.declared.shape.Shape.{Shape}
 use Rattle.link_msg.specs.declared.attribute.LinkAttribute.{LinkAttribute}
 use Rattle.link_msg.specs.declared.attribute.LinkAttribute.TheVariants as Attributes

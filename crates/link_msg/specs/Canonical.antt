@@ -1,5 +1,6 @@
 -- What `canonical` and its kin answer of a byte string.
-use Rattle.std.specs.Prelude.{◌≡◌, ◌≢◌, ℕ, ◌+◌, ◌-◌, ◌*◌, ◌<◌, ◌≤◌, ◌⊎◌, ◌↔◌, Bool, IsTrue, MatchBool, Result, Ok, Err, List, [], length}
+use Rattle.std.specs.Prelude.{◌≡◌, ◌≢◌, ℕ, ◌+◌, ◌-◌, ◌*◌, ◌<◌, ◌≤◌, ◌⊎◌, ◌↔◌, Bool, IsTrue, MatchBool, Result, Ok}
+use Rattle.std.specs.Prelude.{Err, List, [], length}
 use Rattle.nla_wire.specs.Sizes.{growth_per_byte}
 use Rattle.nla_wire.specs.Canon.{Writes}
 use Rattle.nla_wire.specs.declared.error.Cause.{Cause}

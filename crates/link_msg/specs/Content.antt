@@ -8,10 +8,12 @@ use Rattle.link_vals.specs.LinkPhysIdBytes.{phys_id_bytes}
 use Rattle.link_recs.specs.StatsFields.{stats_bytes}
 use Rattle.link_recs.specs.Stats64Fields.{stats64_bytes}
 use Rattle.link_recs.specs.MapFields.{map_bytes}
-use Rattle.link_nest.specs.Tables.{prop_place, devlink_port_place, dpll_pin_place, down_reason_place, xdp_place, link_info_place}
+use Rattle.link_nest.specs.Tables.{prop_place, devlink_port_place, dpll_pin_place, down_reason_place, xdp_place}
+use Rattle.link_nest.specs.Tables.{link_info_place}
 use Rattle.link_nest.specs.Wireless.{wireless_text, WirelessFits}
 use Rattle.link_vf.specs.Tables.{vf_port_place, link_vf_info_place, link_vf_port_place}
-use Rattle.link_afspec.specs.Tables.{af_spec_unspec_place, af_spec_bridge_place, link_proto_info_bridge_place, link_proto_info_inet6_place}
+use Rattle.link_afspec.specs.Tables.{af_spec_unspec_place, af_spec_bridge_place, link_proto_info_bridge_place}
+use Rattle.link_afspec.specs.Tables.{link_proto_info_inet6_place}
 use Rattle.link_msg.specs.declared.attribute.Content.{Content}
 use Rattle.link_msg.specs.declared.attribute.Content.TheVariants as Contents
 

@@ -1,5 +1,6 @@
 -- What bytes mean a message, why they mean none, its canonical text, and what fits.
-use Rattle.std.specs.Prelude.{◌≡◌, ℕ, ◌+◌, ◌-◌, ◌*◌, ◌<◌, ◌≤◌, ◌^◌, nat_lt, if◌then◌else◌, List, ◌++◌, ◌⊎◌, length, take, drop, Result, Ok, Err}
+use Rattle.std.specs.Prelude.{◌≡◌, ℕ, ◌+◌, ◌-◌, ◌*◌, ◌<◌, ◌≤◌, ◌^◌, nat_lt, if◌then◌else◌, List, ◌++◌, ◌⊎◌, length}
+use Rattle.std.specs.Prelude.{take, drop, Result, Ok, Err}
 use Rattle.std.specs.List.{AllByRecursion}
 use Rattle.nla_wire.specs.Sizes.{growth_per_byte, small_enough}
 use Rattle.nla_wire.specs.Grammar.{Grammar, list, First}

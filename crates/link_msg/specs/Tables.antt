@@ -5,7 +5,8 @@
 -- the header's family decides stands below the table, in `proto_info` and `af_spec`: the variants of these two numbers
 -- are only `written` in the table. A payload is told by its shape: a state, a mode and a plain number of one byte are
 -- one shape.
-use Rattle.std.specs.Prelude.{◌≡◌, ◌==◌, ℕ, ℤ, ◌+◌, ◌*◌, ◌/◌, ◌<◌, ◌≤◌, ◌^◌, not, Bool, true, false, List, [], ◌∷◌, ◌++◌, length, Option, None, Some, refl}
+use Rattle.std.specs.Prelude.{◌≡◌, ◌==◌, ℕ, ℤ, ◌+◌, ◌*◌, ◌/◌, ◌<◌, ◌≤◌, ◌^◌, not, Bool, true, false, List, [], ◌∷◌}
+use Rattle.std.specs.Prelude.{◌++◌, length, Option, None, Some, refl}
 use Rattle.std.specs.Int.{w8, w16, w32, to_le_bytes, cast_signed}
 use Rattle.std.proofs.Common.{ap, sym, subst, lit<, lit≤, arith}
 use lib.Dec.{T}
@@ -14,16 +15,20 @@ use Rattle.nla_wire.specs.Frames.{Frame, number, IsBytes}
 use Rattle.nla_wire.specs.Grammar.{Grammar, as_a, kept}
 use Rattle.nla_wire.specs.Payloads as payload
 use Rattle.nla_wire.specs.Canon.{canon}
-use Rattle.nla_wire.proofs.Lawful.{LawfulPayload, LawfulPlace, always, none, through_lawful, filled_lawful, text_bounded}
+use Rattle.nla_wire.proofs.Lawful.{LawfulPayload, LawfulPlace, always, none, through_lawful, filled_lawful}
+use Rattle.nla_wire.proofs.Lawful.{text_bounded}
 use Rattle.nla_wire.proofs.FieldLemmas.{from_le_bytes_below, length-to_le_bytes}
 use Rattle.nla_wire.proofs.PlaceLaws.{all_always}
 use Rattle.nla_wire.proofs.Codec as codec
-use Rattle.nla_wire.proofs.Codec.{Any, any, nested, Codec, kind_of, list_of, some_of, some_picked_of, enum, filled_record, sized_record, signed_same}
-use Rattle.nla_wire.proofs.Tables.{Seen, Way, Kept, Shaped, plain, standing, Reading, Entry, shaping, keeping, lines, way_in, all_hold, lines_lawful, lined_lawful}
+use Rattle.nla_wire.proofs.Codec.{Any, any, nested, Codec, kind_of, list_of, some_of, some_picked_of, enum}
+use Rattle.nla_wire.proofs.Codec.{filled_record, sized_record, signed_same}
+use Rattle.nla_wire.proofs.Tables.{Seen, Way, Kept, Shaped, plain, standing, Reading, Entry, shaping, keeping, lines}
+use Rattle.nla_wire.proofs.Tables.{way_in, all_hold, lines_lawful, lined_lawful}
 use Rattle.nla_wire.proofs.Tables as tables
 use Rattle.nla_wire.proofs.Shapes.{leaf_base}
 use Rattle.nla_wire.specs.declared.leaf.Leaf.TheVariants as Leaves
-use Rattle.nla_wire.proofs.Variants.{Table, view_of, entries_of, line_by as line, line_where, line_of_size, written, keeps, ◌&◌}
+use Rattle.nla_wire.proofs.Variants.{Table, view_of, entries_of, line_by as line, line_where, line_of_size, written}
+use Rattle.nla_wire.proofs.Variants.{keeps, ◌&◌}
 use Rattle.link_vals.specs.StateTable.{state_of, state_number}
 use Rattle.link_vals.specs.LinkModeTable.{link_mode_of, link_mode_number}
 use Rattle.link_vals.specs.LinkEventTable.{link_event_of, link_event_number}
@@ -42,13 +47,16 @@ use Rattle.link_vals.specs.declared.address_family.AddressFamily.TheVariants as 
 use Rattle.link_recs.specs.StatsFields.{stats_laws}
 use Rattle.link_recs.specs.Stats64Fields.{stats64_laws}
 use Rattle.link_recs.specs.MapFields.{map_laws}
-use Rattle.link_nest.specs.Tables.{prop_place, devlink_port_place, dpll_pin_place, down_reason_place, xdp_place, link_info_place}
+use Rattle.link_nest.specs.Tables.{prop_place, devlink_port_place, dpll_pin_place, down_reason_place, xdp_place}
+use Rattle.link_nest.specs.Tables.{link_info_place}
 use Rattle.link_nest.specs.Wireless.{wireless_event, wireless_text, WirelessFits}
 use Rattle.link_nest.specs.WirelessLaws.{wireless_lawful}
 use Rattle.link_nest.specs.declared.wireless.WirelessEvent.{WirelessEvent}
-use Rattle.link_vf.specs.Tables.{vf_info_place, vf_port_place, link_vf_info_place, vf_info_list, link_vf_port, link_vf_port_place, link_vf_port_ones}
+use Rattle.link_vf.specs.Tables.{vf_info_place, vf_port_place, link_vf_info_place, vf_info_list, link_vf_port}
+use Rattle.link_vf.specs.Tables.{link_vf_port_place, link_vf_port_ones}
 use Rattle.link_vf.specs.declared.port_list.LinkVfPort.{LinkVfPort}
-use Rattle.link_afspec.specs.Tables.{af_spec_unspec_place, af_spec_bridge_place, link_proto_info_bridge_place, link_proto_info_inet6_place}
+use Rattle.link_afspec.specs.Tables.{af_spec_unspec_place, af_spec_bridge_place, link_proto_info_bridge_place}
+use Rattle.link_afspec.specs.Tables.{link_proto_info_inet6_place}
 use Rattle.link_recs.specs.declared.stats.Stats.{Stats}
 use Rattle.link_recs.specs.declared.stats64.Stats64.{Stats64}
 use Rattle.link_recs.specs.declared.map.Map.{Map}
@@ -63,7 +71,26 @@ use Rattle.link_afspec.specs.declared.unspec.AfSpecUnspec.{AfSpecUnspec}
 use Rattle.link_afspec.specs.declared.bridge.AfSpecBridge.{AfSpecBridge}
 use Rattle.link_afspec.specs.declared.proto_bridge.LinkProtoInfoBridge.{LinkProtoInfoBridge}
 use Rattle.link_afspec.specs.declared.proto_inet6.LinkProtoInfoInet6.{LinkProtoInfoInet6}
-use Rattle.link_msg.specs.declared.numbers.TheConstants.{IFLA_ADDRESS, IFLA_BROADCAST, IFLA_IFNAME, IFLA_MTU, IFLA_LINK, IFLA_QDISC, IFLA_STATS, IFLA_MASTER, IFLA_WIRELESS, IFLA_PROTINFO, IFLA_TXQLEN, IFLA_MAP, IFLA_OPERSTATE, IFLA_LINKMODE, IFLA_LINKINFO, IFLA_NET_NS_PID, IFLA_IFALIAS, IFLA_NUM_VF, IFLA_VFINFO_LIST, IFLA_STATS64, IFLA_VF_PORTS, IFLA_PORT_SELF, IFLA_AF_SPEC, IFLA_GROUP, IFLA_NET_NS_FD, IFLA_EXT_MASK, IFLA_PROMISCUITY, IFLA_NUM_TX_QUEUES, IFLA_NUM_RX_QUEUES, IFLA_CARRIER, IFLA_PHYS_PORT_ID, IFLA_CARRIER_CHANGES, IFLA_PHYS_SWITCH_ID, IFLA_LINK_NETNSID, IFLA_PHYS_PORT_NAME, IFLA_PROTO_DOWN, IFLA_GSO_MAX_SEGS, IFLA_GSO_MAX_SIZE, IFLA_XDP, IFLA_EVENT, IFLA_NEW_NETNSID, IFLA_IF_NETNSID, IFLA_CARRIER_UP_COUNT, IFLA_CARRIER_DOWN_COUNT, IFLA_NEW_IFINDEX, IFLA_MIN_MTU, IFLA_MAX_MTU, IFLA_PROP_LIST, IFLA_PERM_ADDRESS, IFLA_PROTO_DOWN_REASON, IFLA_PARENT_DEV_NAME, IFLA_PARENT_DEV_BUS_NAME, IFLA_GRO_MAX_SIZE, IFLA_TSO_MAX_SIZE, IFLA_TSO_MAX_SEGS, IFLA_ALLMULTI, IFLA_DEVLINK_PORT, IFLA_GSO_IPV4_MAX_SIZE, IFLA_GRO_IPV4_MAX_SIZE, IFLA_DPLL_PIN, IFLA_NETNS_IMMUTABLE, IFLA_HEADROOM, IFLA_TAILROOM}
+use Rattle.link_msg.specs.declared.numbers.TheConstants.{IFLA_ADDRESS, IFLA_BROADCAST, IFLA_IFNAME, IFLA_MTU}
+use Rattle.link_msg.specs.declared.numbers.TheConstants.{IFLA_LINK, IFLA_QDISC, IFLA_STATS, IFLA_MASTER}
+use Rattle.link_msg.specs.declared.numbers.TheConstants.{IFLA_WIRELESS, IFLA_PROTINFO, IFLA_TXQLEN, IFLA_MAP}
+use Rattle.link_msg.specs.declared.numbers.TheConstants.{IFLA_OPERSTATE, IFLA_LINKMODE, IFLA_LINKINFO}
+use Rattle.link_msg.specs.declared.numbers.TheConstants.{IFLA_NET_NS_PID, IFLA_IFALIAS, IFLA_NUM_VF, IFLA_VFINFO_LIST}
+use Rattle.link_msg.specs.declared.numbers.TheConstants.{IFLA_STATS64, IFLA_VF_PORTS, IFLA_PORT_SELF, IFLA_AF_SPEC}
+use Rattle.link_msg.specs.declared.numbers.TheConstants.{IFLA_GROUP, IFLA_NET_NS_FD, IFLA_EXT_MASK, IFLA_PROMISCUITY}
+use Rattle.link_msg.specs.declared.numbers.TheConstants.{IFLA_NUM_TX_QUEUES, IFLA_NUM_RX_QUEUES, IFLA_CARRIER}
+use Rattle.link_msg.specs.declared.numbers.TheConstants.{IFLA_PHYS_PORT_ID, IFLA_CARRIER_CHANGES, IFLA_PHYS_SWITCH_ID}
+use Rattle.link_msg.specs.declared.numbers.TheConstants.{IFLA_LINK_NETNSID, IFLA_PHYS_PORT_NAME, IFLA_PROTO_DOWN}
+use Rattle.link_msg.specs.declared.numbers.TheConstants.{IFLA_GSO_MAX_SEGS, IFLA_GSO_MAX_SIZE, IFLA_XDP, IFLA_EVENT}
+use Rattle.link_msg.specs.declared.numbers.TheConstants.{IFLA_NEW_NETNSID, IFLA_IF_NETNSID, IFLA_CARRIER_UP_COUNT}
+use Rattle.link_msg.specs.declared.numbers.TheConstants.{IFLA_CARRIER_DOWN_COUNT, IFLA_NEW_IFINDEX, IFLA_MIN_MTU}
+use Rattle.link_msg.specs.declared.numbers.TheConstants.{IFLA_MAX_MTU, IFLA_PROP_LIST, IFLA_PERM_ADDRESS}
+use Rattle.link_msg.specs.declared.numbers.TheConstants.{IFLA_PROTO_DOWN_REASON, IFLA_PARENT_DEV_NAME}
+use Rattle.link_msg.specs.declared.numbers.TheConstants.{IFLA_PARENT_DEV_BUS_NAME, IFLA_GRO_MAX_SIZE}
+use Rattle.link_msg.specs.declared.numbers.TheConstants.{IFLA_TSO_MAX_SIZE, IFLA_TSO_MAX_SEGS, IFLA_ALLMULTI}
+use Rattle.link_msg.specs.declared.numbers.TheConstants.{IFLA_DEVLINK_PORT, IFLA_GSO_IPV4_MAX_SIZE}
+use Rattle.link_msg.specs.declared.numbers.TheConstants.{IFLA_GRO_IPV4_MAX_SIZE, IFLA_DPLL_PIN, IFLA_NETNS_IMMUTABLE}
+use Rattle.link_msg.specs.declared.numbers.TheConstants.{IFLA_HEADROOM, IFLA_TAILROOM}
 use Rattle.link_msg.specs.declared.shape.Shape.{Shape}
 use Rattle.link_msg.specs.declared.shape.Shape.TheVariants as Shapes
 use Rattle.link_msg.specs.declared.attribute.LinkAttribute.{LinkAttribute}

@@ -647,7 +647,8 @@ impl CloneIn for LinkAttribute {
 
 impl Exact for LinkAttribute {
     ghost use Rattle.std.proofs.Common.{rules};
-    ghost use Rattle.nla_wire.specs.Decided.{◌&◌, by_exact, number_exact, signed_exact, bool_exact, bytes_exact, list_exact};
+    ghost use Rattle.nla_wire.specs.Decided.{◌&◌, by_exact, number_exact, signed_exact, bool_exact, bytes_exact};
+    ghost use Rattle.nla_wire.specs.Decided.{list_exact};
     ghost use Rattle.nla_wire.specs.Same.{same_frame-Decides};
     ghost use Rattle.link_recs.specs.StatsFields.{stats_decides};
     ghost use Rattle.link_recs.specs.Stats64Fields.{stats64_decides};

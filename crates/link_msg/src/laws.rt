@@ -14,7 +14,8 @@ ghost use Rattle.link_vals.specs.VlanProtocolTable.{vlan_protocol_of, vlan_proto
 ghost use Rattle.link_vals.specs.declared.address_family.AddressFamily.{AddressFamily};
 ghost use Rattle.link_vals.specs.declared.link_layer_type.LinkLayerType.TheVariants.{Void};
 ghost use Rattle.link_vals.specs.declared.vlan_protocol.VlanProtocol.TheVariants.{Ieee8021Q};
-ghost use Rattle.link_vals.specs.Laws.{ReadsBack, IsNamedBack, GivesUnlisted, SumsBack, NamedStatesRead, OtherStatesRefused};
+ghost use Rattle.link_vals.specs.Laws.{ReadsBack, IsNamedBack, GivesUnlisted, SumsBack, NamedStatesRead};
+ghost use Rattle.link_vals.specs.Laws.{OtherStatesRefused};
 ghost use Rattle.link_recs.specs.StatsFields.{stats_size};
 ghost use Rattle.link_recs.specs.Stats64Fields.{stats64_size};
 ghost use Rattle.link_recs.specs.MapFields.{map_size};
@@ -25,13 +26,15 @@ ghost use Rattle.link_recs.specs.Inet6CacheInfoFields.{inet6_cache_info_size};
 ghost use Rattle.link_recs.specs.Icmp6StatsFields.{icmp6_stats_size};
 ghost use Rattle.link_afspec.specs.PlaceLaws.{ZerosAdded, LongerIgnored};
 ghost use Rattle.link_afspec.specs.Tables.{af_spec_inet_place, af_spec_inet6_place};
-ghost use Rattle.link_afspec.specs.declared.numbers.TheConstants.{IFLA_INET_CONF, IFLA_INET6_CONF, IFLA_INET6_STATS, IFLA_INET6_CACHEINFO, IFLA_INET6_ICMP6STATS};
+ghost use Rattle.link_afspec.specs.declared.numbers.TheConstants.{IFLA_INET_CONF, IFLA_INET6_CONF, IFLA_INET6_STATS};
+ghost use Rattle.link_afspec.specs.declared.numbers.TheConstants.{IFLA_INET6_CACHEINFO, IFLA_INET6_ICMP6STATS};
 ghost use Rattle.link_msg.specs.declared.numbers.TheConstants.{IFLA_STATS, IFLA_STATS64, IFLA_MAP};
 ghost use Rattle.std.specs.Prelude.{◌≡◌, [], ◌∷◌};
 ghost use Rattle.nla_wire.specs.Canon.{canon};
 ghost use Rattle.link_msg.specs.declared.attribute.LinkAttribute.TheVariants as Attributes;
 ghost use Rattle.link_msg.specs.Tables.{attribute_place, attribute_frame};
-ghost use Rattle.link_msg.specs.LawStatements.{OneMeaning, TextMeansTheSame, OnlyWithPorts, SameTextSameMessage, CanonicalTwice, Joined, ForeignKept};
+ghost use Rattle.link_msg.specs.LawStatements.{OneMeaning, TextMeansTheSame, OnlyWithPorts, SameTextSameMessage};
+ghost use Rattle.link_msg.specs.LawStatements.{CanonicalTwice, Joined, ForeignKept};
 
 /// No bytes mean two messages.
 pub fn law_one_meaning()

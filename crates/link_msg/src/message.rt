@@ -1,6 +1,7 @@
 //! Link messages.
 
-ghost use Rattle.std.specs.Prelude.{◌≡◌, ◌≢◌, ◌+◌, ◌-◌, ◌<◌, ◌≤◌, ◌++◌, ◌↔◌, [], length, take, drop, IsTrue, IfOk, IfErr, MatchResult, MatchBool};
+ghost use Rattle.std.specs.Prelude.{◌≡◌, ◌≢◌, ◌+◌, ◌-◌, ◌<◌, ◌≤◌, ◌++◌, ◌↔◌, [], length, take, drop, IsTrue, IfOk};
+ghost use Rattle.std.specs.Prelude.{IfErr, MatchResult, MatchBool};
 ghost use Rattle.nla_wire.specs.Canon.{Filled};
 ghost use Rattle.link_msg.specs.Header.{header_size, header_of};
 ghost use Rattle.nla_wire.specs.Fields.{IsShort};
@@ -37,7 +38,8 @@ pub(crate) fn split_header(input: &[u8]) -> Result<(LinkHeader, &[u8]), DecodeEr
 
 impl LinkMessage {
     ghost use Rattle.link_msg.specs.Header.{default_header};
-    ghost use Rattle.link_msg.specs.Messages.{Means, Refused, IsRefused, IsBounded, read_message, message_text, MessageFits, NoEmptyPorts};
+    ghost use Rattle.link_msg.specs.Messages.{Means, Refused, IsRefused, IsBounded, read_message, message_text};
+    ghost use Rattle.link_msg.specs.Messages.{MessageFits, NoEmptyPorts};
     ghost use Rattle.link_msg.specs.declared.message.LinkMessage.{LinkMessage};
 
     /// The message with the default header and no attributes. It takes no memory.

@@ -13,7 +13,13 @@ use Rattle.nla_wire.proofs.Variants.{Table, place, no_shapes, line, keeps, â—Œ&â
 use Rattle.link_vals.specs.XdpAttachedTable.{xdp_attached_of, xdp_attached_number}
 use Rattle.link_vals.proofs.Numbers.{xdp_attached_again}
 use Rattle.link_vals.specs.declared.xdp_attached.XdpAttached.{XdpAttached}
-use Rattle.link_nest.specs.declared.numbers.TheConstants.{IFLA_ALT_IFNAME, DEVLINK_ATTR_BUS_NAME, DEVLINK_ATTR_DEV_NAME, DEVLINK_ATTR_PORT_INDEX, DPLL_A_PIN_ID, IFLA_PROTO_DOWN_REASON_MASK, IFLA_PROTO_DOWN_REASON_VALUE, IFLA_XDP_FD, IFLA_XDP_ATTACHED, IFLA_XDP_FLAGS, IFLA_XDP_PROG_ID, IFLA_XDP_DRV_PROG_ID, IFLA_XDP_SKB_PROG_ID, IFLA_XDP_HW_PROG_ID, IFLA_XDP_EXPECTED_FD, IFLA_INFO_KIND}
+use Rattle.link_nest.specs.declared.numbers.TheConstants.{IFLA_ALT_IFNAME, DEVLINK_ATTR_BUS_NAME}
+use Rattle.link_nest.specs.declared.numbers.TheConstants.{DEVLINK_ATTR_DEV_NAME, DEVLINK_ATTR_PORT_INDEX}
+use Rattle.link_nest.specs.declared.numbers.TheConstants.{DPLL_A_PIN_ID, IFLA_PROTO_DOWN_REASON_MASK}
+use Rattle.link_nest.specs.declared.numbers.TheConstants.{IFLA_PROTO_DOWN_REASON_VALUE, IFLA_XDP_FD}
+use Rattle.link_nest.specs.declared.numbers.TheConstants.{IFLA_XDP_ATTACHED, IFLA_XDP_FLAGS, IFLA_XDP_PROG_ID}
+use Rattle.link_nest.specs.declared.numbers.TheConstants.{IFLA_XDP_DRV_PROG_ID, IFLA_XDP_SKB_PROG_ID}
+use Rattle.link_nest.specs.declared.numbers.TheConstants.{IFLA_XDP_HW_PROG_ID, IFLA_XDP_EXPECTED_FD, IFLA_INFO_KIND}
 use Rattle.link_nest.specs.declared.prop_list.Prop.{Prop}
 use Rattle.link_nest.specs.declared.prop_list.Prop.TheVariants as prop
 use Rattle.link_nest.specs.contracts.prop_list.Prop.{enum as props}

@@ -1,7 +1,8 @@
 -- What is proved of wireless events as payloads.
 use Rattle.std.specs.Prelude.{refl}
 use Rattle.std.specs.Int.{w16, to_le_bytes}
-use Rattle.std.proofs.Common.{◌≡◌, ℕ, ◌+◌, ◌≤◌, ◌<◌, ◌^◌, ◌==◌, Bool, true, false, if◌then◌else◌, List, ◌∷◌, length, drop, sym, ap, subst, ◌∙◌, arith, lit<, length-drop}
+use Rattle.std.proofs.Common.{◌≡◌, ℕ, ◌+◌, ◌≤◌, ◌<◌, ◌^◌, ◌==◌, Bool, true, false, if◌then◌else◌, List, ◌∷◌, length}
+use Rattle.std.proofs.Common.{drop, sym, ap, subst, ◌∙◌, arith, lit<, length-drop}
 use Rattle.nla_wire.specs.Sizes.{most_payload, plain_growth}
 use Rattle.nla_wire.specs.Fields.{number_at}
 use Rattle.nla_wire.proofs.FieldLemmas.{number_again_between}

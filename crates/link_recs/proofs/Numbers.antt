@@ -1,5 +1,6 @@
 -- Numbers one behind the other: one more.
-use Rattle.std.proofs.Common.{◌≡◌, ℕ, zero, suc, ◌+◌, ◌*◌, ◌<◌, List, [], ◌∷◌, ◌++◌, length, take, map, get_or-take, sym, ap, ap₂, ◌∙◌, add-one, zero-add, mul_comm, arith}
+use Rattle.std.proofs.Common.{◌≡◌, ℕ, zero, suc, ◌+◌, ◌*◌, ◌<◌, List, [], ◌∷◌, ◌++◌, length, take, map, get_or-take}
+use Rattle.std.proofs.Common.{sym, ap, ap₂, ◌∙◌, add-one, zero-add, mul_comm, arith}
 use Rattle.std.specs.Prelude.{ℤ, slice_set}
 use Rattle.std.proofs.lemmas.List.{take_more_set}
 use Rattle.std.specs.Int.{Width, byte_len, cast_signed}

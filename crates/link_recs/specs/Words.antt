@@ -1,5 +1,6 @@
 -- Numbers one behind the other, and what holds of a record of them.
-use Rattle.std.proofs.Common.{◌≡◌, ℕ, ◌-◌, ◌*◌, ◌^◌, ◌<◌, inl, inr, List, [], ◌∷◌, length, FitsSigned, arith, map, refl, sym, ap, ap₂, ◌∙◌}
+use Rattle.std.proofs.Common.{◌≡◌, ℕ, ◌-◌, ◌*◌, ◌^◌, ◌<◌, inl, inr, List, [], ◌∷◌, length, FitsSigned, arith, map}
+use Rattle.std.proofs.Common.{refl, sym, ap, ap₂, ◌∙◌}
 use Rattle.std.proofs.lemmas.Bool.{cases_lt}
 use Rattle.std.specs.Int.{Width, byte_len, cast_signed, cast_unsigned}
 use Rattle.std.specs.List.{AllByRecursion}
@@ -7,7 +8,10 @@ use Rattle.nla_wire.specs.Frames.{IsBytes}
 use Rattle.nla_wire.specs.Fields.{numbers_from, signed_from, le_all, le_all_signed, zero_filled}
 use Rattle.nla_wire.specs.Records.{RecordLaws}
 use Rattle.nla_wire.proofs.Again.{WritesAgain, numbers_text, bytes_filled, filled_behind, filled_front}
-use Rattle.nla_wire.proofs.FieldLemmas.{length-zero_filled, length-numbers_from, length-signed_from, numbers_from_same, numbers_from_below, numbers_again, length-le_all, le_all_signed_is, signed_number_again, signed_from_is, signed_from_fits, signed_again, length-le_all_signed}
+use Rattle.nla_wire.proofs.FieldLemmas.{length-zero_filled, length-numbers_from, length-signed_from}
+use Rattle.nla_wire.proofs.FieldLemmas.{numbers_from_same, numbers_from_below, numbers_again, length-le_all}
+use Rattle.nla_wire.proofs.FieldLemmas.{le_all_signed_is, signed_number_again, signed_from_is, signed_from_fits}
+use Rattle.nla_wire.proofs.FieldLemmas.{signed_again, length-le_all_signed}
 use Rattle.nla_wire.proofs.RecordParts.{Part, laws_of, front}
 use Rattle.link_recs.specs.Laws.{WordLaws}
 use mir.Val.{bits}

@@ -7,7 +7,9 @@ ghost use Rattle.nla_wire.specs.Payloads.{sized};
 ghost use Rattle.nla_wire.specs.Canon.{Filled, Closed};
 ghost use Rattle.nla_wire.specs.Records.{Parses};
 ghost use Rattle.link_recs.specs.declared.inet.TheConstants.{INET_DEV_CONF_COUNT};
-ghost use Rattle.link_recs.specs.InetDevConfFields.{inet_dev_conf_size, inet_dev_conf_fields, inet_dev_conf_of, inet_dev_conf_bytes, inet_dev_conf_listed, inet_dev_conf_decides, inet_dev_conf_laws};
+ghost use Rattle.link_recs.specs.InetDevConfFields.{inet_dev_conf_size, inet_dev_conf_fields, inet_dev_conf_of};
+ghost use Rattle.link_recs.specs.InetDevConfFields.{inet_dev_conf_bytes, inet_dev_conf_listed, inet_dev_conf_decides};
+ghost use Rattle.link_recs.specs.InetDevConfFields.{inet_dev_conf_laws};
 
 use crate::words::read_i32s;
 use nla_wire::fields::put_i32s;

@@ -4,7 +4,10 @@ ghost use Rattle.std.specs.Prelude.{◌≡◌, ◌+◌, ◌≤◌, length};
 ghost use Rattle.nla_wire.specs.Payloads.{sized};
 ghost use Rattle.nla_wire.specs.Canon.{Filled, Closed};
 ghost use Rattle.nla_wire.specs.Records.{Parses};
-ghost use Rattle.link_recs.specs.Inet6CacheInfoFields.{inet6_cache_info_size, inet6_cache_info_fields, inet6_cache_info_of, inet6_cache_info_bytes, inet6_cache_info_listed, inet6_cache_info_decides, inet6_cache_info_laws};
+ghost use Rattle.link_recs.specs.Inet6CacheInfoFields.{inet6_cache_info_size, inet6_cache_info_fields};
+ghost use Rattle.link_recs.specs.Inet6CacheInfoFields.{inet6_cache_info_of, inet6_cache_info_bytes};
+ghost use Rattle.link_recs.specs.Inet6CacheInfoFields.{inet6_cache_info_listed, inet6_cache_info_decides};
+ghost use Rattle.link_recs.specs.Inet6CacheInfoFields.{inet6_cache_info_laws};
 
 use crate::words::read_i32s;
 use nla_wire::fields::put_i32s;

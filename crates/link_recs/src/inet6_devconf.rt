@@ -7,7 +7,9 @@ ghost use Rattle.nla_wire.specs.Payloads.{sized};
 ghost use Rattle.nla_wire.specs.Canon.{Filled, Closed};
 ghost use Rattle.nla_wire.specs.Records.{Parses};
 ghost use Rattle.link_recs.specs.declared.inet6_devconf.TheConstants.{INET6_DEV_CONF_COUNT};
-ghost use Rattle.link_recs.specs.Inet6DevConfFields.{inet6_dev_conf_size, inet6_dev_conf_fields, inet6_dev_conf_of, inet6_dev_conf_bytes, inet6_dev_conf_listed, inet6_dev_conf_decides, inet6_dev_conf_laws};
+ghost use Rattle.link_recs.specs.Inet6DevConfFields.{inet6_dev_conf_size, inet6_dev_conf_fields, inet6_dev_conf_of};
+ghost use Rattle.link_recs.specs.Inet6DevConfFields.{inet6_dev_conf_bytes, inet6_dev_conf_listed};
+ghost use Rattle.link_recs.specs.Inet6DevConfFields.{inet6_dev_conf_decides, inet6_dev_conf_laws};
 
 use crate::words::read_i32s;
 use nla_wire::fields::put_i32s;

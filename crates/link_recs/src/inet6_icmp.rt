@@ -7,7 +7,9 @@ ghost use Rattle.nla_wire.specs.Payloads.{sized};
 ghost use Rattle.nla_wire.specs.Canon.{Filled, Closed};
 ghost use Rattle.nla_wire.specs.Records.{Parses};
 ghost use Rattle.link_recs.specs.declared.inet6_icmp.TheConstants.{ICMP6_STATS_COUNT};
-ghost use Rattle.link_recs.specs.Icmp6StatsFields.{icmp6_stats_size, icmp6_stats_fields, icmp6_stats_of, icmp6_stats_bytes, icmp6_stats_listed, icmp6_stats_decides, icmp6_stats_laws};
+ghost use Rattle.link_recs.specs.Icmp6StatsFields.{icmp6_stats_size, icmp6_stats_fields, icmp6_stats_of};
+ghost use Rattle.link_recs.specs.Icmp6StatsFields.{icmp6_stats_bytes, icmp6_stats_listed, icmp6_stats_decides};
+ghost use Rattle.link_recs.specs.Icmp6StatsFields.{icmp6_stats_laws};
 
 use crate::words::read_i64s;
 use nla_wire::fields::put_i64s;

@@ -7,7 +7,9 @@ ghost use Rattle.nla_wire.specs.Payloads.{sized};
 ghost use Rattle.nla_wire.specs.Canon.{Filled, Closed};
 ghost use Rattle.nla_wire.specs.Records.{Parses};
 ghost use Rattle.link_recs.specs.declared.inet6_stats.TheConstants.{INET6_STATS_COUNT};
-ghost use Rattle.link_recs.specs.Inet6StatsFields.{inet6_stats_size, inet6_stats_fields, inet6_stats_of, inet6_stats_bytes, inet6_stats_listed, inet6_stats_decides, inet6_stats_laws};
+ghost use Rattle.link_recs.specs.Inet6StatsFields.{inet6_stats_size, inet6_stats_fields, inet6_stats_of};
+ghost use Rattle.link_recs.specs.Inet6StatsFields.{inet6_stats_bytes, inet6_stats_listed, inet6_stats_decides};
+ghost use Rattle.link_recs.specs.Inet6StatsFields.{inet6_stats_laws};
 
 use crate::words::read_i64s;
 use nla_wire::fields::put_i64s;

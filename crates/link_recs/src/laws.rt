@@ -17,15 +17,20 @@ ghost use Rattle.link_recs.specs.StatsFields.{stats_size, stats_fields, stats_of
 ghost use Rattle.link_recs.specs.declared.stats64.TheConstants.{STATS64_COUNT};
 ghost use Rattle.link_recs.specs.Stats64Fields.{stats64_size, stats64_fields, stats64_of, stats64_bytes};
 ghost use Rattle.link_recs.specs.declared.inet.TheConstants.{INET_DEV_CONF_COUNT};
-ghost use Rattle.link_recs.specs.InetDevConfFields.{inet_dev_conf_size, inet_dev_conf_fields, inet_dev_conf_of, inet_dev_conf_bytes};
+ghost use Rattle.link_recs.specs.InetDevConfFields.{inet_dev_conf_size, inet_dev_conf_fields, inet_dev_conf_of};
+ghost use Rattle.link_recs.specs.InetDevConfFields.{inet_dev_conf_bytes};
 ghost use Rattle.link_recs.specs.declared.inet6_devconf.TheConstants.{INET6_DEV_CONF_COUNT};
-ghost use Rattle.link_recs.specs.Inet6DevConfFields.{inet6_dev_conf_size, inet6_dev_conf_fields, inet6_dev_conf_of, inet6_dev_conf_bytes};
+ghost use Rattle.link_recs.specs.Inet6DevConfFields.{inet6_dev_conf_size, inet6_dev_conf_fields, inet6_dev_conf_of};
+ghost use Rattle.link_recs.specs.Inet6DevConfFields.{inet6_dev_conf_bytes};
 ghost use Rattle.link_recs.specs.declared.inet6_stats.TheConstants.{INET6_STATS_COUNT};
-ghost use Rattle.link_recs.specs.Inet6StatsFields.{inet6_stats_size, inet6_stats_fields, inet6_stats_of, inet6_stats_bytes};
+ghost use Rattle.link_recs.specs.Inet6StatsFields.{inet6_stats_size, inet6_stats_fields, inet6_stats_of};
+ghost use Rattle.link_recs.specs.Inet6StatsFields.{inet6_stats_bytes};
 ghost use Rattle.link_recs.specs.declared.inet6_icmp.TheConstants.{ICMP6_STATS_COUNT};
-ghost use Rattle.link_recs.specs.Icmp6StatsFields.{icmp6_stats_size, icmp6_stats_fields, icmp6_stats_of, icmp6_stats_bytes};
+ghost use Rattle.link_recs.specs.Icmp6StatsFields.{icmp6_stats_size, icmp6_stats_fields, icmp6_stats_of};
+ghost use Rattle.link_recs.specs.Icmp6StatsFields.{icmp6_stats_bytes};
 ghost use Rattle.link_recs.specs.declared.inet6_cache.TheConstants.{INET6_CACHE_INFO_COUNT};
-ghost use Rattle.link_recs.specs.Inet6CacheInfoFields.{inet6_cache_info_size, inet6_cache_info_fields, inet6_cache_info_of, inet6_cache_info_bytes};
+ghost use Rattle.link_recs.specs.Inet6CacheInfoFields.{inet6_cache_info_size, inet6_cache_info_fields};
+ghost use Rattle.link_recs.specs.Inet6CacheInfoFields.{inet6_cache_info_of, inet6_cache_info_bytes};
 ghost use Rattle.link_recs.specs.Filled.{NoneIsLonger, OneIsAsLong};
 
 /// `Stats`.

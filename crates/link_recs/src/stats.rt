@@ -7,7 +7,8 @@ ghost use Rattle.nla_wire.specs.Payloads.{filled};
 ghost use Rattle.nla_wire.specs.Canon.{Filled, Closed};
 ghost use Rattle.nla_wire.specs.Records.{Parses};
 ghost use Rattle.link_recs.specs.declared.stats.TheConstants.{STATS_COUNT};
-ghost use Rattle.link_recs.specs.StatsFields.{stats_size, stats_fields, stats_of, stats_bytes, stats_listed, stats_decides, stats_laws};
+ghost use Rattle.link_recs.specs.StatsFields.{stats_size, stats_fields, stats_of, stats_bytes, stats_listed};
+ghost use Rattle.link_recs.specs.StatsFields.{stats_decides, stats_laws};
 
 use crate::words::read_u32s;
 use nla_wire::fields::put_u32s;

@@ -7,7 +7,8 @@ ghost use Rattle.nla_wire.specs.Payloads.{filled};
 ghost use Rattle.nla_wire.specs.Canon.{Filled, Closed};
 ghost use Rattle.nla_wire.specs.Records.{Parses};
 ghost use Rattle.link_recs.specs.declared.stats64.TheConstants.{STATS64_COUNT};
-ghost use Rattle.link_recs.specs.Stats64Fields.{stats64_size, stats64_fields, stats64_of, stats64_bytes, stats64_listed, stats64_decides, stats64_laws};
+ghost use Rattle.link_recs.specs.Stats64Fields.{stats64_size, stats64_fields, stats64_of, stats64_bytes};
+ghost use Rattle.link_recs.specs.Stats64Fields.{stats64_listed, stats64_decides, stats64_laws};
 
 use crate::words::read_u64s;
 use nla_wire::fields::put_u64s;

@@ -1,5 +1,6 @@
 -- The sum of the list of a mask is the mask.
-use Rattle.std.proofs.Common.{◌≡◌, ◌≢◌, ℕ, zero, suc, ◌+◌, ◌*◌, ◌/◌, ◌<◌, ◌^◌, ◌==◌, Bool, true, false, if◌then◌else◌, List, [], ◌∷◌, ◌++◌, refl, sym, ap, ◌∙◌, arith}
+use Rattle.std.proofs.Common.{◌≡◌, ◌≢◌, ℕ, zero, suc, ◌+◌, ◌*◌, ◌/◌, ◌<◌, ◌^◌, ◌==◌, Bool, true, false, if◌then◌else◌}
+use Rattle.std.proofs.Common.{List, [], ◌∷◌, ◌++◌, refl, sym, ap, ◌∙◌, arith}
 use Rattle.std.specs.Int.RustNames.{bit_and}
 use Rattle.std.specs.Int.{bit_at}
 use Rattle.std.proofs.lemmas.Bool.{eqb-true, eqb-false}
@@ -7,7 +8,8 @@ use Rattle.std.proofs.Math.Nat.{div-div-eq-div-mul}
 use Rattle.std.proofs.lemmas.Nat.{pow-add}
 use Rattle.std.proofs.lemmas.Nat.Bits.{and_pow, and_high_mask, bit_at-lt}
 use Rattle.link_vals.specs.declared.ext_mask.LinkExtentMask.{LinkExtentMask}
-use Rattle.link_vals.specs.declared.ext_mask.LinkExtentMask.TheVariants.{Vf, Brvlan, BrvlanCompressed, SkipStats, Mrp, CfmConfig, CfmStatus, Mst, Other}
+use Rattle.link_vals.specs.declared.ext_mask.LinkExtentMask.TheVariants.{Vf, Brvlan, BrvlanCompressed, SkipStats, Mrp}
+use Rattle.link_vals.specs.declared.ext_mask.LinkExtentMask.TheVariants.{CfmConfig, CfmStatus, Mst, Other}
 use Rattle.link_vals.specs.LinkExtentMaskTable.{link_extent_mask_number, flags_set, other_of, ext_list, ext_sum}
 use Rattle.link_vals.specs.Laws.{SumsBack}
 

@@ -1,5 +1,6 @@
 -- Numbers to values and back.
-use Rattle.std.proofs.Common.{◌≡◌, ◌≢◌, ℕ, ◌<◌, ◌^◌, ◌==◌, Bool, true, false, if◌then◌else◌, List, [], ◌∷◌, refl, sym, ap, ◌∙◌, arith}
+use Rattle.std.proofs.Common.{◌≡◌, ◌≢◌, ℕ, ◌<◌, ◌^◌, ◌==◌, Bool, true, false, if◌then◌else◌, List, [], ◌∷◌, refl, sym}
+use Rattle.std.proofs.Common.{ap, ◌∙◌, arith}
 use Rattle.std.proofs.lemmas.Bool.{eqb-true, ne_eqb}
 use Rattle.std.specs.List.{AllByRecursion}
 use Rattle.link_vals.specs.Table.{value_of}
@@ -7,8 +8,10 @@ use Rattle.link_vals.specs.LinkEventTable.{link_event_of, link_event_number, lin
 use Rattle.link_vals.specs.LinkExtentMaskTable.{link_extent_mask_of, link_extent_mask_number, link_extent_mask_listed}
 use Rattle.link_vals.specs.LinkModeTable.{link_mode_of, link_mode_number, link_mode_listed}
 use Rattle.link_vals.specs.StateTable.{state_of, state_number, state_listed}
-use Rattle.link_vals.specs.In6AddrGenModeTable.{in6_addr_gen_mode_of, in6_addr_gen_mode_number, in6_addr_gen_mode_listed}
-use Rattle.link_vals.specs.MctpPhysBindingTable.{mctp_phys_binding_of, mctp_phys_binding_number, mctp_phys_binding_listed}
+use Rattle.link_vals.specs.In6AddrGenModeTable.{in6_addr_gen_mode_of, in6_addr_gen_mode_number}
+use Rattle.link_vals.specs.In6AddrGenModeTable.{in6_addr_gen_mode_listed}
+use Rattle.link_vals.specs.MctpPhysBindingTable.{mctp_phys_binding_of, mctp_phys_binding_number}
+use Rattle.link_vals.specs.MctpPhysBindingTable.{mctp_phys_binding_listed}
 use Rattle.link_vals.specs.VfLinkStateTable.{vf_link_state_of, vf_link_state_number, vf_link_state_listed}
 use Rattle.link_vals.specs.XdpAttachedTable.{xdp_attached_of, xdp_attached_number, xdp_attached_listed}
 use Rattle.link_vals.specs.AddressFamilyTable.{address_family_of, address_family_number, address_family_listed}

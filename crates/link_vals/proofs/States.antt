@@ -1,5 +1,6 @@
 -- The texts of operational states, read again.
-use Rattle.std.proofs.Common.{◌≡◌, ℕ, ◌<◌, nat_lt, ◌+◌, ◌≤◌, ◌&&◌, Bool, false, if◌then◌else◌, List, [], ◌∷◌, refl, ap, ◌∙◌, Some, None, arith}
+use Rattle.std.proofs.Common.{◌≡◌, ℕ, ◌<◌, nat_lt, ◌+◌, ◌≤◌, ◌&&◌, Bool, false, if◌then◌else◌, List, [], ◌∷◌, refl}
+use Rattle.std.proofs.Common.{ap, ◌∙◌, Some, None, arith}
 use Rattle.std.proofs.lemmas.Bool.{ne_eqb, lt-ltb}
 use Rattle.std.proofs.lemmas.Fmt.{decimal_is_IsNumeral}
 use Rattle.std.proofs.lemmas.Str.Parse.{digit_from_value}
@@ -9,7 +10,8 @@ use Rattle.std.specs.List.{find, AllByRecursion}
 use Rattle.std.specs.Str.{str_eq_ignore_ascii_case}
 use Rattle.std.specs.Str.Parse.{IsNumeral}
 use Rattle.link_vals.specs.declared.link_state.State.{State}
-use Rattle.link_vals.specs.declared.link_state.State.TheVariants.{Unknown, NotPresent, Down, LowerLayerDown, Testing, Dormant, Up}
+use Rattle.link_vals.specs.declared.link_state.State.TheVariants.{Unknown, NotPresent, Down, LowerLayerDown, Testing}
+use Rattle.link_vals.specs.declared.link_state.State.TheVariants.{Dormant, Up}
 use Rattle.link_vals.specs.StateTable.{state_listed, state_text, state_read}
 use Rattle.link_vals.specs.Laws.{NamedStatesRead, OtherStatesRefused}
 

@@ -5,7 +5,8 @@ use Rattle.nla_wire.specs.Grammar.{Grammar, as_a}
 use Rattle.nla_wire.specs.Payloads.{number_of}
 use Rattle.link_vals.specs.Table.{value_of}
 use Rattle.link_vals.specs.declared.event.LinkEvent.{LinkEvent}
-use Rattle.link_vals.specs.declared.event.LinkEvent.TheVariants.{None, Reboot, Features, BondingFailover, NotifyPeers, IgmpResend, BondingOptions, Other}
+use Rattle.link_vals.specs.declared.event.LinkEvent.TheVariants.{None, Reboot, Features, BondingFailover, NotifyPeers}
+use Rattle.link_vals.specs.declared.event.LinkEvent.TheVariants.{IgmpResend, BondingOptions, Other}
 
 -- the listed values, in the order of their numbers
 abbrev pub link_event_listed : List LinkEvent

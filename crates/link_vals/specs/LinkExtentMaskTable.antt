@@ -3,7 +3,8 @@ use Rattle.std.specs.Prelude.{ℕ, ◌+◌, ◌==◌, if◌then◌else◌, List,
 use Rattle.std.specs.Int.RustNames.{bit_and}
 use Rattle.link_vals.specs.Table.{value_of}
 use Rattle.link_vals.specs.declared.ext_mask.LinkExtentMask.{LinkExtentMask}
-use Rattle.link_vals.specs.declared.ext_mask.LinkExtentMask.TheVariants.{Vf, Brvlan, BrvlanCompressed, SkipStats, Mrp, CfmConfig, CfmStatus, Mst, Other}
+use Rattle.link_vals.specs.declared.ext_mask.LinkExtentMask.TheVariants.{Vf, Brvlan, BrvlanCompressed, SkipStats, Mrp}
+use Rattle.link_vals.specs.declared.ext_mask.LinkExtentMask.TheVariants.{CfmConfig, CfmStatus, Mst, Other}
 
 -- the listed values, in the order of their numbers
 abbrev pub link_extent_mask_listed : List LinkExtentMask

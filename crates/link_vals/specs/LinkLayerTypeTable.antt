@@ -2,7 +2,21 @@
 use Rattle.std.specs.Prelude.{ℕ, List, [], ◌∷◌, codes}
 use Rattle.link_vals.specs.Table.{value_of}
 use Rattle.link_vals.specs.declared.link_layer_type.LinkLayerType.{LinkLayerType}
-use Rattle.link_vals.specs.declared.link_layer_type.LinkLayerType.TheVariants.{Netrom, Ether, Eether, Ax25, Pronet, Chaos, Ieee802, Arcnet, Appletlk, Dlci, Atm, Metricom, Ieee1394, Eui64, Infiniband, Slip, Cslip, Slip6, Cslip6, Rsrvd, Adapt, Rose, X25, Hwx25, Can, Mctp, Ppp, Hdlc, Lapb, Ddcmp, Rawhdlc, Rawip, Tunnel, Tunnel6, Frad, Skip, Loopback, Localtlk, Fddi, Bif, Sit, Ipddp, Ipgre, Pimreg, Hippi, Ash, Econet, Irda, Fcpp, Fcal, Fcpl, Fcfabric, Ieee802Tr, Ieee80211, Ieee80211Prism, Ieee80211Radiotap, Ieee802154, Ieee802154Monitor, Phonet, PhonetPipe, Caif, Ip6gre, Netlink, Sixlowpan, Vsockmon, None, Void}
+use Rattle.link_vals.specs.declared.link_layer_type.LinkLayerType.TheVariants.{Netrom, Ether, Eether, Ax25, Pronet}
+use Rattle.link_vals.specs.declared.link_layer_type.LinkLayerType.TheVariants.{Chaos, Ieee802, Arcnet, Appletlk, Dlci}
+use Rattle.link_vals.specs.declared.link_layer_type.LinkLayerType.TheVariants.{Atm, Metricom, Ieee1394, Eui64}
+use Rattle.link_vals.specs.declared.link_layer_type.LinkLayerType.TheVariants.{Infiniband, Slip, Cslip, Slip6, Cslip6}
+use Rattle.link_vals.specs.declared.link_layer_type.LinkLayerType.TheVariants.{Rsrvd, Adapt, Rose, X25, Hwx25, Can}
+use Rattle.link_vals.specs.declared.link_layer_type.LinkLayerType.TheVariants.{Mctp, Ppp, Hdlc, Lapb, Ddcmp, Rawhdlc}
+use Rattle.link_vals.specs.declared.link_layer_type.LinkLayerType.TheVariants.{Rawip, Tunnel, Tunnel6, Frad, Skip}
+use Rattle.link_vals.specs.declared.link_layer_type.LinkLayerType.TheVariants.{Loopback, Localtlk, Fddi, Bif, Sit}
+use Rattle.link_vals.specs.declared.link_layer_type.LinkLayerType.TheVariants.{Ipddp, Ipgre, Pimreg, Hippi, Ash}
+use Rattle.link_vals.specs.declared.link_layer_type.LinkLayerType.TheVariants.{Econet, Irda, Fcpp, Fcal, Fcpl}
+use Rattle.link_vals.specs.declared.link_layer_type.LinkLayerType.TheVariants.{Fcfabric, Ieee802Tr, Ieee80211}
+use Rattle.link_vals.specs.declared.link_layer_type.LinkLayerType.TheVariants.{Ieee80211Prism, Ieee80211Radiotap}
+use Rattle.link_vals.specs.declared.link_layer_type.LinkLayerType.TheVariants.{Ieee802154, Ieee802154Monitor, Phonet}
+use Rattle.link_vals.specs.declared.link_layer_type.LinkLayerType.TheVariants.{PhonetPipe, Caif, Ip6gre, Netlink}
+use Rattle.link_vals.specs.declared.link_layer_type.LinkLayerType.TheVariants.{Sixlowpan, Vsockmon, None, Void}
 
 -- the listed values from 512 on, in the order of their numbers
 abbrev pub layer_type_listed_high : List LinkLayerType

@@ -3,7 +3,9 @@ use Rattle.std.specs.Prelude.{ℕ, List, [], ◌∷◌, codes, ◌++◌}
 use Rattle.std.specs.Fmt.{decimal}
 use Rattle.link_vals.specs.Table.{value_of}
 use Rattle.link_vals.specs.declared.mctp_phys_binding.MctpPhysBinding.{MctpPhysBinding}
-use Rattle.link_vals.specs.declared.mctp_phys_binding.MctpPhysBinding.TheVariants.{Smbus, PcieVdm, Usb, Kcs, Serial, I3c, Mmbi, Pcc, Ucie, Vendor, Other}
+use Rattle.link_vals.specs.declared.mctp_phys_binding.MctpPhysBinding.TheVariants.{Smbus, PcieVdm, Usb, Kcs, Serial}
+use Rattle.link_vals.specs.declared.mctp_phys_binding.MctpPhysBinding.TheVariants.{I3c, Mmbi, Pcc, Ucie, Vendor}
+use Rattle.link_vals.specs.declared.mctp_phys_binding.MctpPhysBinding.TheVariants.{Other}
 
 -- the listed values, in the order of their numbers
 abbrev pub mctp_phys_binding_listed : List MctpPhysBinding

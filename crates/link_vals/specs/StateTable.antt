@@ -7,7 +7,8 @@ use Rattle.nla_wire.specs.declared.error.Cause.TheVariants.{InvalidState}
 use Rattle.nla_wire.specs.declared.error.DecodeError.{DecodeError}
 use Rattle.link_vals.specs.Table.{value_of}
 use Rattle.link_vals.specs.declared.link_state.State.{State}
-use Rattle.link_vals.specs.declared.link_state.State.TheVariants.{Unknown, NotPresent, Down, LowerLayerDown, Testing, Dormant, Up, Other}
+use Rattle.link_vals.specs.declared.link_state.State.TheVariants.{Unknown, NotPresent, Down, LowerLayerDown, Testing}
+use Rattle.link_vals.specs.declared.link_state.State.TheVariants.{Dormant, Up, Other}
 
 -- the listed values, in the order of their numbers
 abbrev pub state_listed : List State

@@ -2,7 +2,8 @@
 use Rattle.std.specs.Prelude.{ℕ, List, [], ◌∷◌}
 use Rattle.link_vals.specs.Table.{value_of}
 use Rattle.link_vals.specs.declared.xdp_attached.XdpAttached.{XdpAttached}
-use Rattle.link_vals.specs.declared.xdp_attached.XdpAttached.TheVariants.{None, Driver, SocketBuffer, Hardware, Multiple, Other}
+use Rattle.link_vals.specs.declared.xdp_attached.XdpAttached.TheVariants.{None, Driver, SocketBuffer, Hardware}
+use Rattle.link_vals.specs.declared.xdp_attached.XdpAttached.TheVariants.{Multiple, Other}
 
 -- the listed values, in the order of their numbers
 abbrev pub xdp_attached_listed : List XdpAttached

@@ -1,7 +1,8 @@
 //! How links make IPv6 addresses.
 
 ghost use Rattle.std.specs.Prelude.{◌≡◌, Some};
-ghost use Rattle.link_vals.specs.In6AddrGenModeTable.{in6_addr_gen_mode_of, in6_addr_gen_mode_number, in6_addr_gen_mode_text};
+ghost use Rattle.link_vals.specs.In6AddrGenModeTable.{in6_addr_gen_mode_of, in6_addr_gen_mode_number};
+ghost use Rattle.link_vals.specs.In6AddrGenModeTable.{in6_addr_gen_mode_text};
 
 use nla_wire::Exact;
 use std::fmt;

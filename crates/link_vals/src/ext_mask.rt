@@ -2,7 +2,8 @@
 
 ghost use Rattle.std.specs.Prelude.{◌≡◌, ◌<◌, ◌^◌, ◌↔◌, IsTrue, IfOk, IfErr};
 ghost use Rattle.nla_wire.specs.declared.error.Cause.TheVariants.{OutOfMemory};
-ghost use Rattle.link_vals.specs.LinkExtentMaskTable.{link_extent_mask_of, link_extent_mask_number, flags_set, ext_list, ext_sum};
+ghost use Rattle.link_vals.specs.LinkExtentMaskTable.{link_extent_mask_of, link_extent_mask_number, flags_set};
+ghost use Rattle.link_vals.specs.LinkExtentMaskTable.{ext_list, ext_sum};
 
 use nla_wire::{DecodeError, Exact};
 use std::alloc::Global;

@@ -3,7 +3,8 @@
 ghost use Rattle.std.specs.Prelude.{⊤, ◌≡◌, ◌==◌, ◌^◌, ◌-◌, not, option_map, IsSomeAnd, if◌then◌else◌};
 ghost use Rattle.std.specs.Int.RustNames.{bit_and, bit_or, bit_xor};
 ghost use Rattle.bitflags.specs.Sets.{without, find_name};
-ghost use Rattle.link_vals.specs.Inet6IfaceFlagsTable.{inet6_iface_flags_bits, inet6_iface_flags_table, inet6_iface_flags_of};
+ghost use Rattle.link_vals.specs.Inet6IfaceFlagsTable.{inet6_iface_flags_bits, inet6_iface_flags_table};
+ghost use Rattle.link_vals.specs.Inet6IfaceFlagsTable.{inet6_iface_flags_of};
 
 use bitflags::{Flag, Flags};
 use nla_wire::Exact;

@@ -13,7 +13,8 @@ ghost use Rattle.link_vals.specs.LinkLayerTypeTable.{layer_type_of, layer_type_n
 ghost use Rattle.link_vals.specs.VlanProtocolTable.{vlan_protocol_of, vlan_protocol_number, vlan_protocol_listed};
 ghost use Rattle.link_vals.specs.declared.link_layer_type.LinkLayerType.TheVariants.{Void};
 ghost use Rattle.link_vals.specs.declared.vlan_protocol.VlanProtocol.TheVariants.{Ieee8021Q};
-ghost use Rattle.link_vals.specs.Laws.{ReadsBack, IsNamedBack, GivesUnlisted, SumsBack, NamedStatesRead, OtherStatesRefused};
+ghost use Rattle.link_vals.specs.Laws.{ReadsBack, IsNamedBack, GivesUnlisted, SumsBack, NamedStatesRead};
+ghost use Rattle.link_vals.specs.Laws.{OtherStatesRefused};
 
 /// Number to value to number is the identity for events.
 pub fn link_events_read_back()

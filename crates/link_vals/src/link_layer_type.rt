@@ -3,7 +3,8 @@
 ghost use Rattle.std.specs.Prelude.{◌≡◌, Some};
 ghost use Rattle.link_vals.specs.Table.{value_of};
 ghost use Rattle.link_vals.specs.declared.link_layer_type.LinkLayerType.TheVariants.{Void};
-ghost use Rattle.link_vals.specs.LinkLayerTypeTable.{layer_type_of, layer_type_number, layer_type_text, layer_type_listed_high};
+ghost use Rattle.link_vals.specs.LinkLayerTypeTable.{layer_type_of, layer_type_number, layer_type_text};
+ghost use Rattle.link_vals.specs.LinkLayerTypeTable.{layer_type_listed_high};
 
 use nla_wire::Exact;
 use std::fmt;

@@ -1,7 +1,8 @@
 //! Physical bindings of MCTP links.
 
 ghost use Rattle.std.specs.Prelude.{◌≡◌, Some};
-ghost use Rattle.link_vals.specs.MctpPhysBindingTable.{mctp_phys_binding_of, mctp_phys_binding_number, mctp_phys_binding_text};
+ghost use Rattle.link_vals.specs.MctpPhysBindingTable.{mctp_phys_binding_of, mctp_phys_binding_number};
+ghost use Rattle.link_vals.specs.MctpPhysBindingTable.{mctp_phys_binding_text};
 
 use nla_wire::Exact;
 use std::fmt;

@@ -1,5 +1,6 @@
 -- Entries of the lists of functions and of ports: a list that is not empty, as one value.
-use Rattle.std.proofs.Common.{◌≡◌, ℕ, ◌==◌, true, false, eqb-true, arith, List, [], ◌∷◌, length, refl, ap, sym, subst, ◌∙◌, inl, inr, Option, Some, None, Result, Ok, Err, IsOk}
+use Rattle.std.proofs.Common.{◌≡◌, ℕ, ◌==◌, true, false, eqb-true, arith, List, [], ◌∷◌, length, refl, ap, sym, subst}
+use Rattle.std.proofs.Common.{◌∙◌, inl, inr, Option, Some, None, Result, Ok, Err, IsOk}
 use Rattle.nla_wire.specs.Reading.{list_of, ◌>>=◌}
 use Rattle.nla_wire.specs.Frames.{Frame}
 use Rattle.nla_wire.specs.Grammar.{Grammar, as_a, list, not_empty, unless_empty}

@@ -11,8 +11,18 @@ use Rattle.nla_wire.specs.Frames.{number}
 use Rattle.nla_wire.proofs.Lawful.{always}
 use Rattle.nla_wire.proofs.Codec.{Codec, Place, u64, sized_record, list_of, some_of, picked_of, as_codec, place_of}
 use Rattle.nla_wire.proofs.Variants.{Table, place, no_shapes, line, keeps, ◌&◌}
-use Rattle.link_vfrec.specs.Laws.{vf_info_mac_laws, vf_info_broadcast_laws, vf_info_vlan_laws, vf_info_tx_rate_laws, vf_info_rate_laws, vf_info_spoof_check_laws, vf_info_rss_query_en_laws, vf_info_trust_laws, vf_info_link_state_laws, vf_info_guid_laws, vf_vlan_info_laws}
-use Rattle.link_vf.specs.declared.numbers.TheConstants.{IFLA_VF_INFO, IFLA_VF_MAC, IFLA_VF_VLAN, IFLA_VF_TX_RATE, IFLA_VF_SPOOFCHK, IFLA_VF_LINK_STATE, IFLA_VF_RATE, IFLA_VF_RSS_QUERY_EN, IFLA_VF_STATS, IFLA_VF_TRUST, IFLA_VF_IB_NODE_GUID, IFLA_VF_IB_PORT_GUID, IFLA_VF_VLAN_LIST, IFLA_VF_BROADCAST, IFLA_VF_STATS_RX_PACKETS, IFLA_VF_STATS_TX_PACKETS, IFLA_VF_STATS_RX_BYTES, IFLA_VF_STATS_TX_BYTES, IFLA_VF_STATS_BROADCAST, IFLA_VF_STATS_MULTICAST, IFLA_VF_STATS_RX_DROPPED, IFLA_VF_STATS_TX_DROPPED, IFLA_VF_VLAN_INFO, IFLA_VF_PORT}
+use Rattle.link_vfrec.specs.Laws.{vf_info_mac_laws, vf_info_broadcast_laws, vf_info_vlan_laws, vf_info_tx_rate_laws}
+use Rattle.link_vfrec.specs.Laws.{vf_info_rate_laws, vf_info_spoof_check_laws, vf_info_rss_query_en_laws}
+use Rattle.link_vfrec.specs.Laws.{vf_info_trust_laws, vf_info_link_state_laws, vf_info_guid_laws, vf_vlan_info_laws}
+use Rattle.link_vf.specs.declared.numbers.TheConstants.{IFLA_VF_INFO, IFLA_VF_MAC, IFLA_VF_VLAN, IFLA_VF_TX_RATE}
+use Rattle.link_vf.specs.declared.numbers.TheConstants.{IFLA_VF_SPOOFCHK, IFLA_VF_LINK_STATE, IFLA_VF_RATE}
+use Rattle.link_vf.specs.declared.numbers.TheConstants.{IFLA_VF_RSS_QUERY_EN, IFLA_VF_STATS, IFLA_VF_TRUST}
+use Rattle.link_vf.specs.declared.numbers.TheConstants.{IFLA_VF_IB_NODE_GUID, IFLA_VF_IB_PORT_GUID, IFLA_VF_VLAN_LIST}
+use Rattle.link_vf.specs.declared.numbers.TheConstants.{IFLA_VF_BROADCAST, IFLA_VF_STATS_RX_PACKETS}
+use Rattle.link_vf.specs.declared.numbers.TheConstants.{IFLA_VF_STATS_TX_PACKETS, IFLA_VF_STATS_RX_BYTES}
+use Rattle.link_vf.specs.declared.numbers.TheConstants.{IFLA_VF_STATS_TX_BYTES, IFLA_VF_STATS_BROADCAST}
+use Rattle.link_vf.specs.declared.numbers.TheConstants.{IFLA_VF_STATS_MULTICAST, IFLA_VF_STATS_RX_DROPPED}
+use Rattle.link_vf.specs.declared.numbers.TheConstants.{IFLA_VF_STATS_TX_DROPPED, IFLA_VF_VLAN_INFO, IFLA_VF_PORT}
 use Rattle.link_vf.specs.declared.stats.VfStats.{VfStats}
 use Rattle.link_vf.specs.declared.stats.VfStats.TheVariants as stats
 use Rattle.link_vf.specs.contracts.stats.VfStats.{enum as statistics}

@@ -5,7 +5,8 @@ ghost use Rattle.nla_wire.specs.Sizes.{growth_per_byte};
 ghost use Rattle.nla_wire.specs.Canon.{canon, canons, AllFit, Canonical};
 ghost use Rattle.nla_wire.specs.Gives.{Fails, Gives, Checks};
 ghost use Rattle.nla_wire.specs.declared.error.Cause.TheVariants.{OutOfMemory};
-ghost use Rattle.link_vf.specs.Tables.{vf_port_place, link_vf_port_members, link_vf_port, link_vf_port_place, vf_port_list};
+ghost use Rattle.link_vf.specs.Tables.{vf_port_place, link_vf_port_members, link_vf_port, link_vf_port_place};
+ghost use Rattle.link_vf.specs.Tables.{vf_port_list};
 
 use crate::VfPort;
 use crate::numbers::IFLA_VF_PORT;

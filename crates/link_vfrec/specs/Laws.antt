@@ -10,7 +10,16 @@ use Rattle.link_vals.specs.declared.vlan_protocol.VlanProtocol.TheVariants.{Ieee
 use Rattle.link_vals.specs.VlanProtocolTable.{vlan_protocol_of, vlan_protocol_number}
 use Rattle.link_vals.specs.VfLinkStateTable.{vf_link_state_of, vf_link_state_number}
 use Rattle.link_vfrec.specs.Truth.{is_on, on_number}
-use Rattle.link_vfrec.specs.Records.{vf_info_mac_size, vf_info_mac_of, vf_info_mac_bytes, vf_info_broadcast_size, vf_info_broadcast_of, vf_info_broadcast_bytes, vf_info_vlan_size, vf_info_vlan_of, vf_info_vlan_bytes, vf_info_tx_rate_size, vf_info_tx_rate_of, vf_info_tx_rate_bytes, vf_info_rate_size, vf_info_rate_of, vf_info_rate_bytes, vf_info_spoof_check_size, vf_info_spoof_check_of, vf_info_spoof_check_bytes, vf_info_rss_query_en_size, vf_info_rss_query_en_of, vf_info_rss_query_en_bytes, vf_info_trust_size, vf_info_trust_of, vf_info_trust_bytes, vf_info_link_state_size, vf_info_link_state_of, vf_info_link_state_bytes, vf_info_guid_size, vf_info_guid_of, vf_info_guid_bytes, vf_vlan_info_size, vf_vlan_info_of, vf_vlan_info_bytes}
+use Rattle.link_vfrec.specs.Records.{vf_info_mac_size, vf_info_mac_of, vf_info_mac_bytes, vf_info_broadcast_size}
+use Rattle.link_vfrec.specs.Records.{vf_info_broadcast_of, vf_info_broadcast_bytes, vf_info_vlan_size}
+use Rattle.link_vfrec.specs.Records.{vf_info_vlan_of, vf_info_vlan_bytes, vf_info_tx_rate_size, vf_info_tx_rate_of}
+use Rattle.link_vfrec.specs.Records.{vf_info_tx_rate_bytes, vf_info_rate_size, vf_info_rate_of, vf_info_rate_bytes}
+use Rattle.link_vfrec.specs.Records.{vf_info_spoof_check_size, vf_info_spoof_check_of, vf_info_spoof_check_bytes}
+use Rattle.link_vfrec.specs.Records.{vf_info_rss_query_en_size, vf_info_rss_query_en_of, vf_info_rss_query_en_bytes}
+use Rattle.link_vfrec.specs.Records.{vf_info_trust_size, vf_info_trust_of, vf_info_trust_bytes}
+use Rattle.link_vfrec.specs.Records.{vf_info_link_state_size, vf_info_link_state_of, vf_info_link_state_bytes}
+use Rattle.link_vfrec.specs.Records.{vf_info_guid_size, vf_info_guid_of, vf_info_guid_bytes, vf_vlan_info_size}
+use Rattle.link_vfrec.specs.Records.{vf_vlan_info_of, vf_vlan_info_bytes}
 
 -- ** settings, states and protocols
 

@@ -5,7 +5,18 @@
 //! bytes as the record has.
 
 ghost use Rattle.nla_wire.specs.Records.{RecordLaws};
-ghost use Rattle.link_vfrec.specs.Records.{vf_info_mac_size, vf_info_mac_of, vf_info_mac_bytes, vf_info_broadcast_size, vf_info_broadcast_of, vf_info_broadcast_bytes, vf_info_vlan_size, vf_info_vlan_of, vf_info_vlan_bytes, vf_info_tx_rate_size, vf_info_tx_rate_of, vf_info_tx_rate_bytes, vf_info_rate_size, vf_info_rate_of, vf_info_rate_bytes, vf_info_spoof_check_size, vf_info_spoof_check_of, vf_info_spoof_check_bytes, vf_info_rss_query_en_size, vf_info_rss_query_en_of, vf_info_rss_query_en_bytes, vf_info_trust_size, vf_info_trust_of, vf_info_trust_bytes, vf_info_link_state_size, vf_info_link_state_of, vf_info_link_state_bytes, vf_info_guid_size, vf_info_guid_of, vf_info_guid_bytes, vf_vlan_info_size, vf_vlan_info_of, vf_vlan_info_bytes};
+ghost use Rattle.link_vfrec.specs.Records.{vf_info_mac_size, vf_info_mac_of, vf_info_mac_bytes};
+ghost use Rattle.link_vfrec.specs.Records.{vf_info_broadcast_size, vf_info_broadcast_of, vf_info_broadcast_bytes};
+ghost use Rattle.link_vfrec.specs.Records.{vf_info_vlan_size, vf_info_vlan_of, vf_info_vlan_bytes};
+ghost use Rattle.link_vfrec.specs.Records.{vf_info_tx_rate_size, vf_info_tx_rate_of, vf_info_tx_rate_bytes};
+ghost use Rattle.link_vfrec.specs.Records.{vf_info_rate_size, vf_info_rate_of, vf_info_rate_bytes};
+ghost use Rattle.link_vfrec.specs.Records.{vf_info_spoof_check_size, vf_info_spoof_check_of};
+ghost use Rattle.link_vfrec.specs.Records.{vf_info_spoof_check_bytes, vf_info_rss_query_en_size};
+ghost use Rattle.link_vfrec.specs.Records.{vf_info_rss_query_en_of, vf_info_rss_query_en_bytes, vf_info_trust_size};
+ghost use Rattle.link_vfrec.specs.Records.{vf_info_trust_of, vf_info_trust_bytes, vf_info_link_state_size};
+ghost use Rattle.link_vfrec.specs.Records.{vf_info_link_state_of, vf_info_link_state_bytes, vf_info_guid_size};
+ghost use Rattle.link_vfrec.specs.Records.{vf_info_guid_of, vf_info_guid_bytes, vf_vlan_info_size, vf_vlan_info_of};
+ghost use Rattle.link_vfrec.specs.Records.{vf_vlan_info_bytes};
 
 /// `VfInfoMac`.
 #[tactic(auto, using(crate::specs::Laws::vf_info_mac_laws))]

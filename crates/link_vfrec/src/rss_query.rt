@@ -4,7 +4,8 @@ ghost use Rattle.std.proofs.Common.{rules};
 ghost use Rattle.std.specs.Prelude.{◌≡◌, length};
 ghost use Rattle.nla_wire.specs.Payloads.{sized};
 ghost use Rattle.nla_wire.specs.Records.{Parses};
-ghost use Rattle.link_vfrec.specs.Records.{vf_info_rss_query_en_size, vf_info_rss_query_en_of, vf_info_rss_query_en_bytes};
+ghost use Rattle.link_vfrec.specs.Records.{vf_info_rss_query_en_size, vf_info_rss_query_en_of};
+ghost use Rattle.link_vfrec.specs.Records.{vf_info_rss_query_en_bytes};
 ghost use Rattle.link_vfrec.specs.Laws.{vf_info_rss_query_en_laws};
 
 use crate::truth::{is_on, on_number};

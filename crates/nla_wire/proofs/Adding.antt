@@ -1,5 +1,6 @@
 -- The loop that adds the texts of a list's members to a text.
-use Rattle.std.proofs.Common.{◌≡◌, ℕ, List, [], ◌∷◌, ◌++◌, append_assoc, append-nil, flat_map, refl, ap, sym, ◌∙◌, Bool, true, false, IsTrue, MatchBool, Result, Ok}
+use Rattle.std.proofs.Common.{◌≡◌, ℕ, List, [], ◌∷◌, ◌++◌, append_assoc, append-nil, flat_map, refl, ap, sym, ◌∙◌}
+use Rattle.std.proofs.Common.{Bool, true, false, IsTrue, MatchBool, Result, Ok}
 use Rattle.std.specs.List.{AllByRecursion}
 use Rattle.nla_wire.specs.Frames.{Frame}
 use Rattle.nla_wire.specs.Reading.{list_of, with_front}

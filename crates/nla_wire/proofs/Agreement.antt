@@ -1,5 +1,7 @@
 -- Readers answer what the relations say: each combinator and each leaf payload.
-use Rattle.std.proofs.Common.{◌≡◌, ◌≢◌, ℕ, ◌<◌, ◌≤◌, ◌==◌, ◌⊎◌, inl, inr, List, [], ◌∷◌, ◌++◌, length, length-append, refl, ap, sym, ◌∙◌, arith, Bool, true, false, if◌then◌else◌, lt-ltb, le-ltb, eq-eqb, ne_eqb, Result, Ok, Err}
+use Rattle.std.proofs.Common.{◌≡◌, ◌≢◌, ℕ, ◌<◌, ◌≤◌, ◌==◌, ◌⊎◌, inl, inr, List, [], ◌∷◌, ◌++◌, length, length-append}
+use Rattle.std.proofs.Common.{refl, ap, sym, ◌∙◌, arith, Bool, true, false, if◌then◌else◌, lt-ltb, le-ltb, eq-eqb}
+use Rattle.std.proofs.Common.{ne_eqb, Result, Ok, Err}
 use Rattle.std.proofs.lemmas.Bool.{cases_lt, cases_eq, cases_Bool}
 use Rattle.std.proofs.lemmas.Str.{IsUtf8-from_is_utf8, is_utf8-from_IsUtf8}
 use Rattle.std.specs.Str.{is_utf8}
@@ -7,7 +9,8 @@ use Rattle.std.specs.Int.{Width, byte_len, from_le_bytes}
 use Rattle.nla_wire.specs.Frames.{Frame, IsBytes, IsFrame}
 use Rattle.nla_wire.specs.Reading.{◌>>=◌}
 use Rattle.nla_wire.specs.Grammar.{Grammar, Agrees, as_a, unless_empty, not_empty, by_payload, kept, if_true, choose}
-use Rattle.nla_wire.specs.Payloads.{read_number, number_of, bytes, read_exactly, exactly, EndsInNul, IsTextOf, without_nul, read_text, text, filled, read_sized, sized}
+use Rattle.nla_wire.specs.Payloads.{read_number, number_of, bytes, read_exactly, exactly, EndsInNul, IsTextOf}
+use Rattle.nla_wire.specs.Payloads.{without_nul, read_text, text, filled, read_sized, sized}
 use Rattle.nla_wire.specs.declared.error.Cause.{Cause}
 use Rattle.nla_wire.specs.declared.error.Cause.TheVariants.{WrongLength, NotUtf8, TooShort, EmptyList}
 

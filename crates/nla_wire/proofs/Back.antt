@@ -1,5 +1,6 @@
 -- Canonical text begins with its frame, and lists of values are read back from theirs.
-use Rattle.std.proofs.Common.{◌≡◌, ℕ, ◌<◌, eq-eqb, List, [], ◌∷◌, ◌++◌, length, map, filter, replicate, Bool, cond, true, false, refl, sym, ap, subst, inl, le_of_eq, arith}
+use Rattle.std.proofs.Common.{◌≡◌, ℕ, ◌<◌, eq-eqb, List, [], ◌∷◌, ◌++◌, length, map, filter, replicate, Bool, cond}
+use Rattle.std.proofs.Common.{true, false, refl, sym, ap, subst, inl, le_of_eq, arith}
 use Rattle.std.proofs.lemmas.List.{length-replicate}
 use Rattle.std.specs.List.{AllByRecursion}
 use Rattle.nla_wire.specs.Frames.{Frame, number, IsBytes, IsFrame, missing, Begins, Frames}

@@ -1,5 +1,7 @@
 -- How long canonical text is, and how many values there are, against the bytes that were read.
-use Rattle.std.proofs.Common.{◌≡◌, ℕ, ◌+◌, ◌*◌, ◌/◌, ◌%◌, ◌≤◌, Bool, true, false, cond, ◌⊎◌, inl, inr, List, [], ◌∷◌, length, filter, replicate, refl, ap, ◌∙◌, le_trans, mul-le-mul_left, arith, length-append}
+use Rattle.std.proofs.Common.{◌≡◌, ℕ, ◌+◌, ◌*◌, ◌/◌, ◌%◌, ◌≤◌, Bool, true, false, cond, ◌⊎◌, inl, inr, List, [], ◌∷◌}
+use Rattle.std.proofs.Common.{length, filter, replicate, refl, ap, ◌∙◌, le_trans, mul-le-mul_left, arith}
+use Rattle.std.proofs.Common.{length-append}
 use Rattle.std.proofs.lemmas.List.{length-replicate}
 use Rattle.std.specs.List.{AllByRecursion}
 use Rattle.nla_wire.specs.Frames.{Frame, missing, Begins, Frames}

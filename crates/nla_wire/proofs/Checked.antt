@@ -1,6 +1,7 @@
 -- Loops over members, as they start, and what their answers say in the words of the relations. Where members are
 -- checked, what is still to come has the fault of the whole.
-use Rattle.std.proofs.Common.{◌≡◌, ◌≢◌, ℕ, ◌+◌, ◌*◌, ◌≤◌, arith, length, List, [], ap, sym, ◌∙◌, refl, Option, Some, None, inl, inr, Result, Ok, Err, IfOk, IfErr, MatchResult}
+use Rattle.std.proofs.Common.{◌≡◌, ◌≢◌, ℕ, ◌+◌, ◌*◌, ◌≤◌, arith, length, List, [], ap, sym, ◌∙◌, refl, Option, Some}
+use Rattle.std.proofs.Common.{None, inl, inr, Result, Ok, Err, IfOk, IfErr, MatchResult}
 use Rattle.nla_wire.specs.Frames.{Frame}
 use Rattle.nla_wire.specs.Reading.{list_of, with_front, ◌>>=◌}
 use Rattle.nla_wire.specs.Items.{Item, items, frame_count, read_items}

@@ -1,6 +1,8 @@
 -- A type of payload with all that is proved of it, in one record: how bytes are read as a value, how the value is
 -- written, what is inside of it, and within which bounds that stays. A place is the same of frames.
-use Rattle.std.proofs.Common.{◌≡◌, ℕ, ℤ, ◌+◌, ◌*◌, ◌/◌, ◌^◌, ◌<◌, ◌≤◌, ◌-◌, Bool, true, false, List, [], ◌∷◌, ◌++◌, length, refl, sym, ap, subst, ◌∙◌, arith, lit<, lit≤, leb-true, leb-false, mul-le-mul_left, mul-le-mul_right, mul_comm, div-mul-le_self}
+use Rattle.std.proofs.Common.{◌≡◌, ℕ, ℤ, ◌+◌, ◌*◌, ◌/◌, ◌^◌, ◌<◌, ◌≤◌, ◌-◌, Bool, true, false, List, [], ◌∷◌, ◌++◌}
+use Rattle.std.proofs.Common.{length, refl, sym, ap, subst, ◌∙◌, arith, lit<, lit≤, leb-true, leb-false}
+use Rattle.std.proofs.Common.{mul-le-mul_left, mul-le-mul_right, mul_comm, div-mul-le_self}
 use Rattle.std.specs.Prelude.{Option, None, Some, if◌then◌else◌, nat_le}
 use lib.Dec.{T, leb}
 use mir.Val.{bits}
@@ -18,7 +20,10 @@ use Rattle.nla_wire.specs.PlaceLaws.{ReadsBack, ListReadsBack, ListsBounded}
 use Rattle.nla_wire.proofs.Agreement.{as_agrees, exactly_agrees}
 use Rattle.nla_wire.proofs.Memory.{memory_exactly}
 use Rattle.nla_wire.proofs.Canonical.{octets_again}
-use Rattle.nla_wire.proofs.Lawful.{LawfulPayload, LawfulPlace, always, none, as_lawful, wrapped_lawful, list_lawful, some_lawful, picked_lawful, some_picked_lawful, text_bounded, bytes_lawful, text_lawful, number_lawful, signed_lawful, enum_lawful, sized_record_lawful, filled_record_lawful}
+use Rattle.nla_wire.proofs.Lawful.{LawfulPayload, LawfulPlace, always, none, as_lawful, wrapped_lawful, list_lawful}
+use Rattle.nla_wire.proofs.Lawful.{some_lawful, picked_lawful, some_picked_lawful, text_bounded, bytes_lawful}
+use Rattle.nla_wire.proofs.Lawful.{text_lawful, number_lawful, signed_lawful, enum_lawful, sized_record_lawful}
+use Rattle.nla_wire.proofs.Lawful.{filled_record_lawful}
 use Rattle.nla_wire.proofs.FieldLemmas.{signed_number_again, from_le_bytes_below}
 use Rattle.nla_wire.proofs.PlaceLaws.{all_always, place_reads_back, list_reads_back, lists_bounded}
 

@@ -1,5 +1,6 @@
 -- Bytes cut into frames from the front, against the relations on lists of frames.
-use Rattle.std.proofs.Common.{◌≡◌, ℕ, zero, suc, ◌<◌, ◌≤◌, ◌⊎◌, inl, inr, List, [], ◌∷◌, length, refl, ap, sym, ◌∙◌, subst, arith, Option, Some, None}
+use Rattle.std.proofs.Common.{◌≡◌, ℕ, zero, suc, ◌<◌, ◌≤◌, ◌⊎◌, inl, inr, List, [], ◌∷◌, length, refl, ap, sym, ◌∙◌}
+use Rattle.std.proofs.Common.{subst, arith, Option, Some, None}
 use Rattle.nla_wire.specs.Frames.{Frame, IsBytes, Begins, Frames, Fault}
 use Rattle.nla_wire.specs.Reading.{Step, step, Cut, cut_on, cut_within, cut}
 use Rattle.nla_wire.specs.Reading.Step.{End, Bad, Next}

@@ -1,12 +1,18 @@
 -- Numbers of records read again from their bytes.
-use Rattle.std.proofs.Common.{◌≡◌, ℕ, zero, suc, ◌+◌, ◌-◌, ◌*◌, ◌/◌, ◌%◌, ◌^◌, ◌<◌, ◌≤◌, ℤ, List, [], ◌∷◌, ◌++◌, length, get_or, map, take, replicate, FitsSigned, add_comm, add_assoc, zero-add, add-zero, mul_comm, mod-lt, mod-eq_of_lt, pow-suc, refl, sym, ap, ap₂, subst, ◌∙◌, append_assoc, append-nil, length-append, length-take, take_all, get_or-append-add, arith, lit<}
+use Rattle.std.proofs.Common.{◌≡◌, ℕ, zero, suc, ◌+◌, ◌-◌, ◌*◌, ◌/◌, ◌%◌, ◌^◌, ◌<◌, ◌≤◌, ℤ, List, [], ◌∷◌, ◌++◌}
+use Rattle.std.proofs.Common.{length, get_or, map, take, replicate, FitsSigned, add_comm, add_assoc, zero-add}
+use Rattle.std.proofs.Common.{add-zero, mul_comm, mod-lt, mod-eq_of_lt, pow-suc, refl, sym, ap, ap₂, subst, ◌∙◌}
+use Rattle.std.proofs.Common.{append_assoc, append-nil, length-append, length-take, take_all, get_or-append-add}
+use Rattle.std.proofs.Common.{arith, lit<}
 use Rattle.std.proofs.lemmas.List.{get_or_append_left, length-map, length-replicate}
 use Rattle.std.proofs.Math.Arith.{mod-mul, digits_lt}
 use Rattle.std.proofs.Math.Facts.{sfits_to_z, Fits-of_z, to_z-of_z, of_z-to_z}
-use Rattle.std.specs.Int.{Width, w8, w16, w32, w64, w128, byte_len, byte_at, byte_worth, bytes_low_first, to_le_bytes, from_le_bytes, from_be_bytes, cast_signed, cast_unsigned, sum_through}
+use Rattle.std.specs.Int.{Width, w8, w16, w32, w64, w128, byte_len, byte_at, byte_worth, bytes_low_first, to_le_bytes}
+use Rattle.std.specs.Int.{from_le_bytes, from_be_bytes, cast_signed, cast_unsigned, sum_through}
 use Rattle.std.specs.List.{AllByRecursion}
 use Rattle.nla_wire.specs.Frames.{IsBytes}
-use Rattle.nla_wire.specs.Fields.{zero_filled, be_number_at, number_at, signed_at, numbers_from, signed_from, le_all, le_all_signed}
+use Rattle.nla_wire.specs.Fields.{zero_filled, be_number_at, number_at, signed_at, numbers_from, signed_from, le_all}
+use Rattle.nla_wire.specs.Fields.{le_all_signed}
 use mir.Val.{bits}
 
 -- ** widths

@@ -1,5 +1,6 @@
 -- The items of bytes: their frames in order, then a fault or the end.
-use Rattle.std.proofs.Common.{◌≡◌, ℕ, zero, suc, ◌*◌, ◌<◌, ◌≤◌, inl, inr, List, [], ◌∷◌, ◌++◌, length, refl, ap, sym, subst, arith, Option, Some, None, Result, Ok, Err}
+use Rattle.std.proofs.Common.{◌≡◌, ℕ, zero, suc, ◌*◌, ◌<◌, ◌≤◌, inl, inr, List, [], ◌∷◌, ◌++◌, length, refl, ap, sym}
+use Rattle.std.proofs.Common.{subst, arith, Option, Some, None, Result, Ok, Err}
 use Rattle.nla_wire.specs.Frames.{Frame, IsBytes}
 use Rattle.nla_wire.specs.Reading.{Step, step, Cut, cut, each, unless, list_of, ◌>>=◌}
 use Rattle.nla_wire.specs.Reading.Step.{End, Bad, Next}

@@ -1,5 +1,6 @@
 -- Two strings of frames joined, where the first has a length that is a multiple of four.
-use Rattle.std.proofs.Common.{◌≡◌, ℕ, ◌%◌, List, [], ◌∷◌, ◌++◌, ◌⊎◌, length, refl, sym, ap, subst, ◌∙◌, inl, inr, append_assoc, length-append, arith}
+use Rattle.std.proofs.Common.{◌≡◌, ℕ, ◌%◌, List, [], ◌∷◌, ◌++◌, ◌⊎◌, length, refl, sym, ap, subst, ◌∙◌, inl, inr}
+use Rattle.std.proofs.Common.{append_assoc, length-append, arith}
 use Rattle.std.specs.List.{AllZip}
 use Rattle.nla_wire.specs.Frames.{Frame, unpadded, missing, Begins, Frames}
 use Rattle.nla_wire.specs.Reading.Step.{Next}

@@ -2,8 +2,11 @@
 -- costs one line a row. A value's text is `text a` or the text of its `frame`; `Fits` says that it has one, `Good` that
 -- the text is not refused, and `count` is how many values it is. A text has at most k bytes for each whole four bytes
 -- that were read, the header among them, and e bytes fewer than that. What was read from at most n bytes fits.
-use Rattle.std.proofs.Common.{◌≡◌, ℕ, ◌+◌, ◌*◌, ◌/◌, ◌^◌, ◌<◌, ◌≤◌, inl, inr, List, [], ◌∷◌, ◌++◌, length, filter, refl, sym, ap, subst, ◌∙◌, mul-le-mul_left, mul-le-mul_right, arith, lit≤, length-append}
-use Rattle.std.specs.Int.{Width, w8, w16, w32, w64, w128, byte_len, to_le_bytes, from_le_bytes, cast_signed, cast_unsigned}
+use Rattle.std.proofs.Common.{◌≡◌, ℕ, ◌+◌, ◌*◌, ◌/◌, ◌^◌, ◌<◌, ◌≤◌, inl, inr, List, [], ◌∷◌, ◌++◌, length, filter}
+use Rattle.std.proofs.Common.{refl, sym, ap, subst, ◌∙◌, mul-le-mul_left, mul-le-mul_right, arith, lit≤}
+use Rattle.std.proofs.Common.{length-append}
+use Rattle.std.specs.Int.{Width, w8, w16, w32, w64, w128, byte_len, to_le_bytes, from_le_bytes, cast_signed}
+use Rattle.std.specs.Int.{cast_unsigned}
 use Rattle.std.specs.List.{AllByRecursion}
 use Rattle.nla_wire.specs.Sizes.{most_payload, plain_growth, growth, growth_per_byte}
 use Rattle.nla_wire.specs.Frames.{Frame, number, IsBytes, IsFrame, missing}
@@ -11,12 +14,16 @@ use Rattle.nla_wire.specs.Grammar.{Grammar, Agrees, as_a, Every, list, not_empty
 use Rattle.nla_wire.specs.Payloads.{number_of, bytes, IsTextOf, text, filled, sized}
 use Rattle.nla_wire.specs.Canon.{canon, canons, AllFit, IsWritable, total}
 use Rattle.nla_wire.specs.declared.error.Cause.TheVariants.{OutOfMemory}
-use Rattle.nla_wire.proofs.Agreement.{as_agrees, kept_agrees, payload_agrees, not_empty_agrees, number_agrees, bytes_agrees, text_agrees, filled_agrees, sized_agrees}
+use Rattle.nla_wire.proofs.Agreement.{as_agrees, kept_agrees, payload_agrees, not_empty_agrees, number_agrees}
+use Rattle.nla_wire.proofs.Agreement.{bytes_agrees, text_agrees, filled_agrees, sized_agrees}
 use Rattle.nla_wire.proofs.Lists.{list_agrees, picked_agrees}
-use Rattle.nla_wire.proofs.Memory.{memory_list, memory_picked, memory_not_empty, memory_number, memory_bytes, memory_text, memory_filled, memory_sized}
+use Rattle.nla_wire.proofs.Memory.{memory_list, memory_picked, memory_not_empty, memory_number, memory_bytes}
+use Rattle.nla_wire.proofs.Memory.{memory_text, memory_filled, memory_sized}
 use Rattle.nla_wire.proofs.Back.{list_back, picked_back, list_some, canons_some, frames_framed, all_filtered}
-use Rattle.nla_wire.proofs.Bounds.{length-canon, canons_whole, list_count, picked_count, list_length, picked_length, frames_shorter}
-use Rattle.nla_wire.proofs.FieldLemmas.{signed_number_again, length-to_le_bytes, from_le_bytes-to_le_bytes, from_le_bytes_below}
+use Rattle.nla_wire.proofs.Bounds.{length-canon, canons_whole, list_count, picked_count, list_length, picked_length}
+use Rattle.nla_wire.proofs.Bounds.{frames_shorter}
+use Rattle.nla_wire.proofs.FieldLemmas.{signed_number_again, length-to_le_bytes, from_le_bytes-to_le_bytes}
+use Rattle.nla_wire.proofs.FieldLemmas.{from_le_bytes_below}
 use mir.Val.{bits}
 
 -- ** the records

@@ -1,12 +1,15 @@
 -- Lists of members: the reader answers what the relations say.
-use Rattle.std.proofs.Common.{◌≡◌, ℕ, zero, suc, ◌<◌, ◌⊎◌, inl, inr, List, [], ◌∷◌, length, refl, ap, sym, ◌∙◌, subst, arith, Bool, true, false, cond, filter, Option, Some, None, Result, Ok, Err}
+use Rattle.std.proofs.Common.{◌≡◌, ℕ, zero, suc, ◌<◌, ◌⊎◌, inl, inr, List, [], ◌∷◌, length, refl, ap, sym, ◌∙◌, subst}
+use Rattle.std.proofs.Common.{arith, Bool, true, false, cond, filter, Option, Some, None, Result, Ok, Err}
 use Rattle.nla_wire.specs.Frames.{Frame, IsBytes, IsFrame, Begins, Frames}
 use Rattle.nla_wire.specs.Reading.{Step, step, list_of, ◌>>=◌}
 use Rattle.nla_wire.specs.Reading.Step.{End, Bad, Next}
 use Rattle.nla_wire.specs.Items.{Item, read_items}
-use Rattle.nla_wire.specs.Grammar.{Grammar, Agrees, as_a, kept, if_true, Every, FirstAfter, First, list, is_one, picks, somes, picked}
+use Rattle.nla_wire.specs.Grammar.{Grammar, Agrees, as_a, kept, if_true, Every, FirstAfter, First, list, is_one}
+use Rattle.nla_wire.specs.Grammar.{picks, somes, picked}
 use Rattle.nla_wire.specs.declared.error.Cause.{Cause}
-use Rattle.nla_wire.proofs.Steps.{step_whole, step_begins, step_bad, bad_step, step_shorter, step_end, step_framed, step_rest_bytes}
+use Rattle.nla_wire.proofs.Steps.{step_whole, step_begins, step_bad, bad_step, step_shorter, step_end, step_framed}
+use Rattle.nla_wire.proofs.Steps.{step_rest_bytes}
 use Rattle.nla_wire.proofs.Items.{items_nil, items_next, items_bad, list_items}
 use Rattle.nla_wire.proofs.Agreement.{as_agrees, kept_agrees, choose_agrees}
 

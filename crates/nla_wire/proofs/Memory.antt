@@ -2,7 +2,8 @@
 use Rattle.std.proofs.Common.{◌≡◌, ℕ, inl, inr, List, [], ◌∷◌, Bool, true, false, Option, Some, None, Err}
 use Rattle.std.specs.Int.{Width}
 use Rattle.nla_wire.specs.Frames.{Frame}
-use Rattle.nla_wire.specs.Grammar.{Grammar, Agrees, as_a, FirstAfter, list, not_empty, kept, if_true, choose, is_one, picks, picked}
+use Rattle.nla_wire.specs.Grammar.{Grammar, Agrees, as_a, FirstAfter, list, not_empty, kept, if_true, choose, is_one}
+use Rattle.nla_wire.specs.Grammar.{picks, picked}
 use Rattle.nla_wire.specs.Payloads.{number_of, bytes, exactly, text, filled, sized}
 use Rattle.nla_wire.specs.declared.error.Cause.TheVariants.{EmptyList, WrongLength, NotUtf8, TooShort, OutOfMemory}
 

@@ -1,5 +1,6 @@
 -- The laws of a place and of its lists, from all that is proved of the place.
-use Rattle.std.proofs.Common.{◌≡◌, ℕ, ◌+◌, ◌*◌, ◌/◌, ◌<◌, ◌≤◌, List, [], ◌∷◌, length, arith, ap, subst, append-nil, mul-le-mul_left}
+use Rattle.std.proofs.Common.{◌≡◌, ℕ, ◌+◌, ◌*◌, ◌/◌, ◌<◌, ◌≤◌, List, [], ◌∷◌, length, arith, ap, subst, append-nil}
+use Rattle.std.proofs.Common.{mul-le-mul_left}
 use Rattle.std.specs.List.{AllByRecursion}
 use Rattle.nla_wire.specs.Frames.{Frame, number, Frames, Begins}
 use Rattle.nla_wire.specs.Grammar.{Grammar, list, picked}

@@ -1,5 +1,6 @@
 -- Parts of a buffer written one after the other.
-use Rattle.std.proofs.Common.{◌≡◌, ℕ, ◌+◌, ◌-◌, ◌≤◌, List, ◌++◌, length, take, drop, replicate, refl, sym, ap, ◌∙◌, arith, append_assoc, length-append, length-drop, take-take}
+use Rattle.std.proofs.Common.{◌≡◌, ℕ, ◌+◌, ◌-◌, ◌≤◌, List, ◌++◌, length, take, drop, replicate, refl, sym, ap, ◌∙◌}
+use Rattle.std.proofs.Common.{arith, append_assoc, length-append, length-drop, take-take}
 use Rattle.std.proofs.Math.Seq.{drop-drop, drop-append_seam}
 use lib.Seq.{paste}
 use Rattle.std.proofs.lemmas.List.Edits.{take-paste}

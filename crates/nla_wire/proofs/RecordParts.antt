@@ -1,12 +1,16 @@
 -- The laws of a record, from its fields one behind the other.
-use Rattle.std.proofs.Common.{◌≡◌, ℕ, ◌+◌, ◌-◌, ◌^◌, ◌<◌, ◌≤◌, List, [], ◌∷◌, ◌++◌, length, get_or, take, drop, replicate, add_assoc, add-zero, refl, sym, ap, ap₂, ◌∙◌, length-append, get_or-append-add, get_or-take, get_or-drop, arith, lit<}
+use Rattle.std.proofs.Common.{◌≡◌, ℕ, ◌+◌, ◌-◌, ◌^◌, ◌<◌, ◌≤◌, List, [], ◌∷◌, ◌++◌, length, get_or, take, drop}
+use Rattle.std.proofs.Common.{replicate, add_assoc, add-zero, refl, sym, ap, ap₂, ◌∙◌, length-append}
+use Rattle.std.proofs.Common.{get_or-append-add, get_or-take, get_or-drop, arith, lit<}
 use Rattle.std.proofs.lemmas.List.{get_or_append_left, take-append-drop, length-take-le, length-replicate, ext_get_or}
 use Rattle.std.specs.Int.{Width, w16, byte_len, to_le_bytes, from_le_bytes, to_be_bytes, from_be_bytes}
 use Rattle.nla_wire.specs.Frames.{IsBytes}
 use Rattle.nla_wire.specs.Fields.{number_at, be_number_at, zero_filled}
 use Rattle.nla_wire.specs.Records.{BytesBehind, RecordLaws}
 use mir.Val.{bits}
-use Rattle.nla_wire.proofs.FieldLemmas.{number_at_same, number_at_below, number_at_front, be_number_at_same, be_number_at_below, be_number_at_front, from_le_bytes-to_le_bytes, length-to_le_bytes, get_or_zeros, length-zero_filled, zero_filled_again}
+use Rattle.nla_wire.proofs.FieldLemmas.{number_at_same, number_at_below, number_at_front, be_number_at_same}
+use Rattle.nla_wire.proofs.FieldLemmas.{be_number_at_below, be_number_at_front, from_le_bytes-to_le_bytes}
+use Rattle.nla_wire.proofs.FieldLemmas.{length-to_le_bytes, get_or_zeros, length-zero_filled, zero_filled_again}
 
 -- a field of so many bytes: how it is read at a place of a payload that zeros follow, and how it is written
 pub record Part {A : Type 0} (size : ℕ) (read : List ℕ → ℕ → A) (text : A → List ℕ) : Type 0 where

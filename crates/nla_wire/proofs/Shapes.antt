@@ -1,5 +1,6 @@
 -- Code that goes by the shape of a payload, with no value made: what it answers is what reading the attribute would.
-use Rattle.std.proofs.Common.{◌≡◌, ◌≢◌, ◌==◌, ℕ, ◌≤◌, Bool, true, false, List, [], ◌∷◌, ◌++◌, length, refl, sym, ap, subst, ◌∙◌, arith, lit<, lit≤, eqb-true}
+use Rattle.std.proofs.Common.{◌≡◌, ◌≢◌, ◌==◌, ℕ, ◌≤◌, Bool, true, false, List, [], ◌∷◌, ◌++◌, length, refl, sym, ap}
+use Rattle.std.proofs.Common.{subst, ◌∙◌, arith, lit<, lit≤, eqb-true}
 use Rattle.std.specs.Prelude.{Option, None, Some, Result, Ok, Err, IsOk, if◌then◌else◌}
 use Rattle.std.specs.Int.{Width, w8, w16, w32, w64, byte_len, from_le_bytes, to_le_bytes}
 use Rattle.std.specs.Str.{is_utf8}
@@ -19,7 +20,8 @@ use Rattle.nla_wire.specs.Payloads.{read_text, without_nul, read_number}
 use Rattle.nla_wire.proofs.Lawful.{LawfulPayload, always, none, bytes_lawful, text_lawful, number_lawful}
 use Rattle.nla_wire.proofs.Again.{WritesAgain, writes_again_1, writes_again_2, writes_again_4, writes_again_8}
 use Rattle.nla_wire.proofs.Codec.{Any, any, flat, kind_of}
-use Rattle.nla_wire.proofs.Tables.{Seen, as_it_is, Way, Kept, Shape, Own, FitsAs, ReadsAs, ReadsBy, Entry, reads_in, lines, way_in, line_by}
+use Rattle.nla_wire.proofs.Tables.{Seen, as_it_is, Way, Kept, Shape, Own, FitsAs, ReadsAs, ReadsBy, Entry, reads_in}
+use Rattle.nla_wire.proofs.Tables.{lines, way_in, line_by}
 
 abbrev pub frame_with : ℕ → List ℕ → Frame
 frame_with kind payload = record { kind = kind; payload = payload }

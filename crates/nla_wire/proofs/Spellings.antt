@@ -1,10 +1,13 @@
 -- The frames of bytes by recursion agree with the format's own words, a concatenation of spellings, both ways.
-use Rattle.std.proofs.Common.{◌≡◌, ℕ, ◌<◌, List, [], ◌∷◌, ◌++◌, ◌⊎◌, length, refl, sym, ap, subst, ◌∙◌, inl, inr, append_assoc, arith}
+use Rattle.std.proofs.Common.{◌≡◌, ℕ, ◌<◌, List, [], ◌∷◌, ◌++◌, ◌⊎◌, length, refl, sym, ap, subst, ◌∙◌, inl, inr}
+use Rattle.std.proofs.Common.{append_assoc, arith}
 use Rattle.std.specs.List.{flat_map}
 use Rattle.nla_wire.specs.Frames.{Frame, unpadded, missing, Begins, Frames, BadStart, Fault}
-use Rattle.nla_wire.specs.Spellings.{IsSpelling, IsFullSpelling, AreSpellings, IsConcatenation, AreFullSpellings, IsFaultBehind}
+use Rattle.nla_wire.specs.Spellings.{IsSpelling, IsFullSpelling, AreSpellings, IsConcatenation, AreFullSpellings}
+use Rattle.nla_wire.specs.Spellings.{IsFaultBehind}
 use Rattle.nla_wire.specs.declared.error.Cause.{Cause}
-use Rattle.nla_wire.specs.declared.error.Cause.TheVariants.{TooShort, FrameShort, FrameOver, FrameUnder, EmptyList, WrongLength, NotUtf8, InvalidState, OutOfMemory}
+use Rattle.nla_wire.specs.declared.error.Cause.TheVariants.{TooShort, FrameShort, FrameOver, FrameUnder, EmptyList}
+use Rattle.nla_wire.specs.declared.error.Cause.TheVariants.{WrongLength, NotUtf8, InvalidState, OutOfMemory}
 use Rattle.nla_wire.proofs.Steps.{length-begins}
 
 -- ** one spelling

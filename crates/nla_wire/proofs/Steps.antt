@@ -1,5 +1,8 @@
 -- One step over bytes: what stands at their front, against the relations on frames.
-use Rattle.std.proofs.Common.{◌≡◌, ℕ, zero, suc, ◌+◌, ◌-◌, ◌<◌, ◌≤◌, ◌⊎◌, inl, inr, List, [], ◌∷◌, ◌++◌, length, take, drop, refl, ap, sym, ◌∙◌, subst, arith, append_assoc, length-append, length-take, length-drop, length-take-le, take-append-drop, drop-drop, take_at, drop_at, get_or, w16, lt-ltb, le-ltb}
+use Rattle.std.proofs.Common.{◌≡◌, ℕ, zero, suc, ◌+◌, ◌-◌, ◌<◌, ◌≤◌, ◌⊎◌, inl, inr, List, [], ◌∷◌, ◌++◌, length, take}
+use Rattle.std.proofs.Common.{drop, refl, ap, sym, ◌∙◌, subst, arith, append_assoc, length-append, length-take}
+use Rattle.std.proofs.Common.{length-drop, length-take-le, take-append-drop, drop-drop, take_at, drop_at, get_or, w16}
+use Rattle.std.proofs.Common.{lt-ltb, le-ltb}
 use Rattle.std.proofs.lemmas.Bool.{cases_lt}
 use Rattle.std.proofs.lemmas.List.{drop_all}
 use Rattle.std.proofs.lemmas.Nat.{from_le_bytes-to_le_bytes_2, le_bytes_2}
@@ -8,7 +11,8 @@ use Rattle.nla_wire.specs.Frames.{Frame, IsBytes, IsFrame, missing, unpadded, Be
 use Rattle.nla_wire.specs.Reading.{frame_at, step}
 use Rattle.nla_wire.specs.Reading.Step.{End, Bad, Next}
 use Rattle.nla_wire.specs.declared.error.Cause.{Cause}
-use Rattle.nla_wire.specs.declared.error.Cause.TheVariants.{TooShort, FrameShort, FrameOver, FrameUnder, EmptyList, WrongLength, NotUtf8, InvalidState, OutOfMemory}
+use Rattle.nla_wire.specs.declared.error.Cause.TheVariants.{TooShort, FrameShort, FrameOver, FrameUnder, EmptyList}
+use Rattle.nla_wire.specs.declared.error.Cause.TheVariants.{WrongLength, NotUtf8, InvalidState, OutOfMemory}
 
 -- ** what the tests of `frame_at` answer
 

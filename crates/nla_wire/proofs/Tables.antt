@@ -1,6 +1,7 @@
 -- The lines of a place as a list, each with its test of a frame. From it follow how frames are read, that a value which
 -- was read is read back, its bounds, and that frames which no line accepts are kept as they are.
-use Rattle.std.proofs.Common.{◌≡◌, ◌≢◌, ℕ, ◌+◌, ◌%◌, ◌^◌, ◌≤◌, ◌==◌, ◌&&◌, Bool, true, false, not, List, [], ◌∷◌, length, refl, sym, ap, subst, ◌∙◌, eqb-true, eq-eqb, ne_eqb, ltb-true}
+use Rattle.std.proofs.Common.{◌≡◌, ◌≢◌, ℕ, ◌+◌, ◌%◌, ◌^◌, ◌≤◌, ◌==◌, ◌&&◌, Bool, true, false, not, List, [], ◌∷◌}
+use Rattle.std.proofs.Common.{length, refl, sym, ap, subst, ◌∙◌, eqb-true, eq-eqb, ne_eqb, ltb-true}
 use Rattle.std.specs.Prelude.{Option, None, Some, Result, Ok, Err, if◌then◌else◌, nat_le, nat_lt}
 use lib.Dec.{T}
 use Rattle.nla_wire.specs.Sizes.{plain_growth}
@@ -10,7 +11,8 @@ use Rattle.nla_wire.specs.Grammar.{Grammar, Agrees, as_a, by_payload, kept, if_t
 use Rattle.nla_wire.specs.Canon.{IsSmall}
 use Rattle.nla_wire.specs.declared.error.Cause.{Cause}
 use Rattle.nla_wire.proofs.Agreement.{if_agrees, if_reads}
-use Rattle.nla_wire.proofs.Lawful.{LawfulPlace, LawfulReading, always, wider, wrapped_lawful, numbered, kept_lawful, place_lawful}
+use Rattle.nla_wire.proofs.Lawful.{LawfulPlace, LawfulReading, always, wider, wrapped_lawful, numbered, kept_lawful}
+use Rattle.nla_wire.proofs.Lawful.{place_lawful}
 use Rattle.nla_wire.proofs.Codec.{CodecWhere, Any, kind_of, truth, computed_le}
 
 -- what is said of one value

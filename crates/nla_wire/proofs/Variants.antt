@@ -1,6 +1,7 @@
 -- A table: one line for each variant of an enum, in the order in which they are declared. Grammar, frame, what fits,
 -- count and bounds of the place follow from its lines.
-use Rattle.std.proofs.Common.{◌≡◌, ℕ, ◌+◌, ◌≤◌, ◌&&◌, inl, inr, Bool, true, false, List, [], ◌∷◌, ◌++◌, length, refl, ap, ◌∙◌}
+use Rattle.std.proofs.Common.{◌≡◌, ℕ, ◌+◌, ◌≤◌, ◌&&◌, inl, inr, Bool, true, false, List, [], ◌∷◌, ◌++◌, length, refl}
+use Rattle.std.proofs.Common.{ap, ◌∙◌}
 use Rattle.std.specs.Prelude.{Option, None, Some, nat_le}
 use lib.Dec.{T}
 use denote.Struct.Field.{Field}
@@ -11,7 +12,8 @@ use Rattle.nla_wire.specs.Frames.{Frame, number}
 use Rattle.nla_wire.specs.Grammar.{kept}
 use Rattle.nla_wire.proofs.Lawful.{always}
 use Rattle.nla_wire.proofs.Codec.{Codec, CodecWhere, Any, Place, kind_of, computed_le}
-use Rattle.nla_wire.proofs.Tables.{Seen, held, as_it_is, Shaped, Reading, KeepsSize, Entry, both, IsForeign, shaping, having, frame_of, FitsAs, count_of, lines, all_hold, lined_lawful, foreign_kept}
+use Rattle.nla_wire.proofs.Tables.{Seen, held, as_it_is, Shaped, Reading, KeepsSize, Entry, both, IsForeign, shaping}
+use Rattle.nla_wire.proofs.Tables.{having, frame_of, FitsAs, count_of, lines, all_hold, lined_lawful, foreign_kept}
 
 -- what a variant holds: its only field, or a tuple
 abbrev pub Held : List Field → Type 0

@@ -1,5 +1,7 @@
 -- The loop that writes the texts of a list's members to the front of a buffer.
-use Rattle.std.proofs.Common.{◌≡◌, ℕ, ◌+◌, ◌-◌, ◌*◌, ◌/◌, ◌^◌, ◌<◌, ◌≤◌, List, [], ◌∷◌, ◌++◌, append_assoc, append-nil, length, take, drop, flat_map, refl, ap, sym, ◌∙◌, subst, arith, Option, Some, None, Result, Ok, Err, IsOk, length-append, length-take, length-drop}
+use Rattle.std.proofs.Common.{◌≡◌, ℕ, ◌+◌, ◌-◌, ◌*◌, ◌/◌, ◌^◌, ◌<◌, ◌≤◌, List, [], ◌∷◌, ◌++◌, append_assoc}
+use Rattle.std.proofs.Common.{append-nil, length, take, drop, flat_map, refl, ap, sym, ◌∙◌, subst, arith, Option}
+use Rattle.std.proofs.Common.{Some, None, Result, Ok, Err, IsOk, length-append, length-take, length-drop}
 use Rattle.std.specs.List.{AllByRecursion}
 use borrow.Rule.Slice.PartMut.{put_mid}
 use Rattle.nla_wire.specs.Sizes.{most_payload, growth, growth_per_byte}

@@ -1,7 +1,8 @@
 -- The causes of a fault and their numbers.
 use Rattle.std.specs.Prelude.{ℕ}
 use Rattle.nla_wire.specs.declared.error.Cause.{Cause}
-use Rattle.nla_wire.specs.declared.error.Cause.TheVariants.{TooShort, FrameShort, FrameOver, FrameUnder, EmptyList, WrongLength, NotUtf8, InvalidState, OutOfMemory}
+use Rattle.nla_wire.specs.declared.error.Cause.TheVariants.{TooShort, FrameShort, FrameOver, FrameUnder, EmptyList}
+use Rattle.nla_wire.specs.declared.error.Cause.TheVariants.{WrongLength, NotUtf8, InvalidState, OutOfMemory}
 
 abbrev pub cause_number : Cause → ℕ
 cause_number (TooShort got need) = 1

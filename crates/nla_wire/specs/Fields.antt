@@ -1,5 +1,6 @@
 -- Fields of fixed records: numbers at places of a payload that has zeros behind it, and the bytes of a record's fields.
-use Rattle.std.specs.Prelude.{◌≡◌, ℕ, zero, suc, ◌+◌, ◌-◌, ◌<◌, ℤ, List, [], ◌∷◌, ◌++◌, length, slice_index, take, replicate}
+use Rattle.std.specs.Prelude.{◌≡◌, ℕ, zero, suc, ◌+◌, ◌-◌, ◌<◌, ℤ, List, [], ◌∷◌, ◌++◌, length, slice_index, take}
+use Rattle.std.specs.Prelude.{replicate}
 use Rattle.std.specs.Int.{Width, byte_len, byte_worth, to_le_bytes, cast_signed, cast_unsigned, sum_through}
 use Rattle.std.specs.List.{flat_map}
 use Rattle.nla_wire.specs.declared.error.Cause.TheVariants.{TooShort}

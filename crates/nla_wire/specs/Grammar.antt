@@ -1,6 +1,7 @@
 -- The grammar of nested attributes: places as tables, built from a few combinators. Each combinator says side by side
 -- what bytes mean, why they mean nothing, and what a reader answers.
-use Rattle.std.specs.Prelude.{◌≡◌, ℕ, ◌<◌, ◌==◌, Bool, true, false, List, [], ◌∷◌, ◌⊎◌, length, filter, Option, None, Some, Result, Ok, Err}
+use Rattle.std.specs.Prelude.{◌≡◌, ℕ, ◌<◌, ◌==◌, Bool, true, false, List, [], ◌∷◌, ◌⊎◌, length, filter, Option, None}
+use Rattle.std.specs.Prelude.{Some, Result, Ok, Err}
 use Rattle.std.specs.List.{AllZip}
 use Rattle.nla_wire.specs.Frames.{Frame, number, Begins, Frames, BadStart}
 use Rattle.nla_wire.specs.Reading.{list_of, ◌>>=◌}

@@ -1,5 +1,6 @@
 -- What payloads mean: numbers, texts, bytes and records.
-use Rattle.std.specs.Prelude.{◌≡◌, ◌≢◌, ℕ, ◌<◌, ◌≤◌, ◌==◌, nat_lt, ℤ, List, [], ◌∷◌, ◌++◌, ◌⊎◌, length, if◌then◌else◌, IsUtf8, Result, Ok, Err}
+use Rattle.std.specs.Prelude.{◌≡◌, ◌≢◌, ℕ, ◌<◌, ◌≤◌, ◌==◌, nat_lt, ℤ, List, [], ◌∷◌, ◌++◌, ◌⊎◌, length, if◌then◌else◌}
+use Rattle.std.specs.Prelude.{IsUtf8, Result, Ok, Err}
 use Rattle.std.specs.Int.{Width, byte_len, from_le_bytes, cast_signed}
 use Rattle.std.specs.Str.{is_utf8}
 use Rattle.std.specs.Net.Addr.{segments_of}

@@ -1,5 +1,6 @@
 -- Bytes cut into frames from the front, and lists of values read from them, as functions.
-use Rattle.std.specs.Prelude.{ℕ, zero, suc, ◌+◌, ◌-◌, nat_lt, if◌then◌else◌, List, [], ◌∷◌, ◌++◌, length, take, drop, Option, None, Some, Result, Ok, Err}
+use Rattle.std.specs.Prelude.{ℕ, zero, suc, ◌+◌, ◌-◌, nat_lt, if◌then◌else◌, List, [], ◌∷◌, ◌++◌, length, take, drop}
+use Rattle.std.specs.Prelude.{Option, None, Some, Result, Ok, Err}
 use Rattle.std.specs.Int.{w16, from_le_bytes}
 use Rattle.nla_wire.specs.Frames.{Frame, missing}
 use Rattle.nla_wire.specs.declared.error.Cause.{Cause}

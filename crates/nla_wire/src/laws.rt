@@ -1,6 +1,7 @@
 //! Laws of frames: functions that do nothing, whose contracts are laws over the definitions alone.
 
-ghost use Rattle.nla_wire.specs.FrameLaws.{SomeReading, OneListOfFrames, NeverBoth, OneFault, FramesAreSpellings, FaultIsBehind};
+ghost use Rattle.nla_wire.specs.FrameLaws.{SomeReading, OneListOfFrames, NeverBoth, OneFault, FramesAreSpellings};
+ghost use Rattle.nla_wire.specs.FrameLaws.{FaultIsBehind};
 
 /// Every byte string has exactly one reading: its frames, or the frames in front of one fault.
 pub fn law_one_reading()

@@ -1,4 +1,5 @@
-use Rattle.std.proofs.Common.{◌≡◌, ◌-◌, ◌∙◌, ◌≤◌, List, [], ◌++◌, ℕ, length, drop, take, ap, subst, sym, arith, lit≤, refl, to_z, of_z, w32, rules, length-append, append-nil}
+use Rattle.std.proofs.Common.{◌≡◌, ◌-◌, ◌∙◌, ◌≤◌, List, [], ◌++◌, ℕ, length, drop, take, ap, subst, sym, arith, lit≤}
+use Rattle.std.proofs.Common.{refl, to_z, of_z, w32, rules, length-append, append-nil}
 use Rattle.std.specs.Prelude.{ℤ}
 use mir.Val.{SFits}
 use Rattle.std.proofs.lemmas.Int.{to_z-of_z}

@@ -1,4 +1,5 @@
-use Rattle.link_msg.proofs.LawProofs.{stats_zeros_added, stats_longer_ignored, stats64_zeros_added, stats64_longer_ignored, map_longer_ignored}
+use Rattle.link_msg.proofs.LawProofs.{stats_zeros_added, stats_longer_ignored, stats64_zeros_added}
+use Rattle.link_msg.proofs.LawProofs.{stats64_longer_ignored, map_longer_ignored}
 use Rattle.link_msg.proofs.laws.law_short_records.Goals as goal
 
 pub returns-clause-stats_zeros : goal.returns-clause-stats_zeros

@@ -5,7 +5,8 @@ use Rattle.nla_wire.specs.Items.{items}
 use Rattle.nla_wire.specs.Grammar.{picks}
 use Rattle.nla_wire.proofs.Front.{all_bytes}
 use Rattle.nla_wire.proofs.Loop.{picks_other}
-use Rattle.nla_wire.proofs.Written.{going_starts, going_skip, going_unfit, going_never_fails, going_ends, picked_accepted}
+use Rattle.nla_wire.proofs.Written.{going_starts, going_skip, going_unfit, going_never_fails, going_ends}
+use Rattle.nla_wire.proofs.Written.{picked_accepted}
 use Rattle.link_vf.specs.Tables.{link_vf_port_place}
 use Rattle.link_msg.proofs.EmptyPorts.{silent, unused, unused_room, IsDropped, one_unfit, told_some, told_none}
 use Rattle.link_msg.proofs.ports.holds_no_port.Goals as goal

@@ -6,7 +6,8 @@ use Rattle.nla_wire.specs.Items.{items}
 use Rattle.nla_wire.specs.Grammar.{picks}
 use Rattle.nla_wire.proofs.Front.{all_bytes}
 use Rattle.nla_wire.proofs.Loop.{picks_other}
-use Rattle.nla_wire.proofs.Written.{going_starts, going_on, going_skip, going_unfit, going_ends, kept_text, KeptFits, kept_short, kept_canonical, picked_accepted, picked_canonical}
+use Rattle.nla_wire.proofs.Written.{going_starts, going_on, going_skip, going_unfit, going_ends, kept_text, KeptFits}
+use Rattle.nla_wire.proofs.Written.{kept_short, kept_canonical, picked_accepted, picked_canonical}
 use Rattle.nla_wire.proofs.read.canon_picked_members.Goals as goal
 
 pub loop-item-init : goal.loop-item-init
