@@ -38,12 +38,12 @@ impl NlaRead for AfSpecBridge {
     ghost grammar = { af_spec_bridge_place.grammar };
 
     #[tactic(auto, unfolding(crate::specs::Tables::af_spec_bridge_place))]
-    fn parse(alloc: Global, buffer: &NlaBuffer<'_>) -> Result<AfSpecBridge, DecodeError> {
+    fn parse_frame(alloc: Global, buffer: &NlaBuffer<'_>) -> Result<AfSpecBridge, DecodeError> {
         DefaultNla::parse(alloc, buffer).map(AfSpecBridge::Other)
     }
 
     #[tactic(auto, unfolding(crate::specs::Tables::af_spec_bridge_place))]
-    fn check(_buffer: &NlaBuffer<'_>) -> Result<(), DecodeError> {
+    fn check_frame(_buffer: &NlaBuffer<'_>) -> Result<(), DecodeError> {
         Ok(())
     }
 

@@ -69,7 +69,7 @@ impl NlaRead for AfSpecInet {
     ghost grammar = { af_spec_inet_place.grammar };
 
     #[tactic(auto, unfolding(crate::specs::Tables::af_spec_inet_place))]
-    fn parse(alloc: Global, buffer: &NlaBuffer<'_>) -> Result<AfSpecInet, DecodeError> {
+    fn parse_frame(alloc: Global, buffer: &NlaBuffer<'_>) -> Result<AfSpecInet, DecodeError> {
         match buffer.kind() {
             IFLA_INET_CONF => Ok(AfSpecInet::DevConf(InetDevConf::read_padded(buffer.value()))),
             _ => DefaultNla::parse(alloc, buffer).map(AfSpecInet::Other),
@@ -77,7 +77,7 @@ impl NlaRead for AfSpecInet {
     }
 
     #[tactic(auto, unfolding(crate::specs::Tables::af_spec_inet_place))]
-    fn check(_buffer: &NlaBuffer<'_>) -> Result<(), DecodeError> {
+    fn check_frame(_buffer: &NlaBuffer<'_>) -> Result<(), DecodeError> {
         Ok(())
     }
 

@@ -121,7 +121,7 @@ impl NlaRead for AfSpecInet6 {
     ghost grammar = { af_spec_inet6_place.grammar };
 
     #[tactic(auto, unfolding(crate::specs::Tables::af_spec_inet6_place))]
-    fn parse(alloc: Global, buffer: &NlaBuffer<'_>) -> Result<AfSpecInet6, DecodeError> {
+    fn parse_frame(alloc: Global, buffer: &NlaBuffer<'_>) -> Result<AfSpecInet6, DecodeError> {
         let payload = buffer.value();
         match buffer.kind() {
             IFLA_INET6_FLAGS => Ok(AfSpecInet6::Flags(parse_flags(payload)?)),
@@ -137,7 +137,7 @@ impl NlaRead for AfSpecInet6 {
     }
 
     #[tactic(auto, unfolding(crate::specs::Tables::af_spec_inet6_place))]
-    fn check(buffer: &NlaBuffer<'_>) -> Result<(), DecodeError> {
+    fn check_frame(buffer: &NlaBuffer<'_>) -> Result<(), DecodeError> {
         let payload = buffer.value();
         match buffer.kind() {
             IFLA_INET6_FLAGS | IFLA_INET6_RA_MTU => checked(parse_u32(payload)),

@@ -63,7 +63,7 @@ impl NlaRead for AfSpecMctp {
     ghost grammar = { af_spec_mctp_place.grammar };
 
     #[tactic(auto, unfolding(crate::specs::Tables::af_spec_mctp_place))]
-    fn parse(alloc: Global, buffer: &NlaBuffer<'_>) -> Result<AfSpecMctp, DecodeError> {
+    fn parse_frame(alloc: Global, buffer: &NlaBuffer<'_>) -> Result<AfSpecMctp, DecodeError> {
         match buffer.kind() {
             IFLA_MCTP_NET => parse_u32(buffer.value()).map(AfSpecMctp::Net),
             IFLA_MCTP_PHYS_BINDING => parse_binding(buffer.value()).map(AfSpecMctp::PhysBinding),
@@ -72,7 +72,7 @@ impl NlaRead for AfSpecMctp {
     }
 
     #[tactic(auto, unfolding(crate::specs::Tables::af_spec_mctp_place))]
-    fn check(buffer: &NlaBuffer<'_>) -> Result<(), DecodeError> {
+    fn check_frame(buffer: &NlaBuffer<'_>) -> Result<(), DecodeError> {
         match buffer.kind() {
             IFLA_MCTP_NET => checked(parse_u32(buffer.value())),
             IFLA_MCTP_PHYS_BINDING => checked(parse_binding(buffer.value())),

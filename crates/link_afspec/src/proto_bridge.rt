@@ -38,12 +38,15 @@ impl NlaRead for LinkProtoInfoBridge {
     ghost grammar = { link_proto_info_bridge_place.grammar };
 
     #[tactic(auto, unfolding(crate::specs::Tables::link_proto_info_bridge_place))]
-    fn parse(alloc: Global, buffer: &NlaBuffer<'_>) -> Result<LinkProtoInfoBridge, DecodeError> {
+    fn parse_frame(
+        alloc: Global,
+        buffer: &NlaBuffer<'_>,
+    ) -> Result<LinkProtoInfoBridge, DecodeError> {
         DefaultNla::parse(alloc, buffer).map(LinkProtoInfoBridge::Other)
     }
 
     #[tactic(auto, unfolding(crate::specs::Tables::link_proto_info_bridge_place))]
-    fn check(_buffer: &NlaBuffer<'_>) -> Result<(), DecodeError> {
+    fn check_frame(_buffer: &NlaBuffer<'_>) -> Result<(), DecodeError> {
         Ok(())
     }
 

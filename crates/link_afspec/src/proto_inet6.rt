@@ -38,12 +38,15 @@ impl NlaRead for LinkProtoInfoInet6 {
     ghost grammar = { link_proto_info_inet6_place.grammar };
 
     #[tactic(auto, unfolding(crate::specs::Tables::link_proto_info_inet6_place))]
-    fn parse(alloc: Global, buffer: &NlaBuffer<'_>) -> Result<LinkProtoInfoInet6, DecodeError> {
+    fn parse_frame(
+        alloc: Global,
+        buffer: &NlaBuffer<'_>,
+    ) -> Result<LinkProtoInfoInet6, DecodeError> {
         DefaultNla::parse(alloc, buffer).map(LinkProtoInfoInet6::Other)
     }
 
     #[tactic(auto, unfolding(crate::specs::Tables::link_proto_info_inet6_place))]
-    fn check(_buffer: &NlaBuffer<'_>) -> Result<(), DecodeError> {
+    fn check_frame(_buffer: &NlaBuffer<'_>) -> Result<(), DecodeError> {
         Ok(())
     }
 

@@ -76,7 +76,7 @@ impl NlaRead for AfSpecUnspec {
     ghost grammar = { af_spec_unspec_place.grammar };
 
     #[tactic(auto, unfolding(crate::specs::Tables::af_spec_unspec_place, nla_wire::specs::Grammar::unless_empty))]
-    fn parse(alloc: Global, buffer: &NlaBuffer<'_>) -> Result<AfSpecUnspec, DecodeError> {
+    fn parse_frame(alloc: Global, buffer: &NlaBuffer<'_>) -> Result<AfSpecUnspec, DecodeError> {
         let payload = buffer.value();
         match buffer.kind() {
             AF_INET | AF_INET6 | AF_MCTP if payload.is_empty() => Err(empty_list()),
@@ -94,7 +94,7 @@ impl NlaRead for AfSpecUnspec {
     }
 
     #[tactic(auto, unfolding(crate::specs::Tables::af_spec_unspec_place, nla_wire::specs::Grammar::unless_empty))]
-    fn check(buffer: &NlaBuffer<'_>) -> Result<(), DecodeError> {
+    fn check_frame(buffer: &NlaBuffer<'_>) -> Result<(), DecodeError> {
         let payload = buffer.value();
         match buffer.kind() {
             AF_INET | AF_INET6 | AF_MCTP if payload.is_empty() => Err(empty_list()),

@@ -1,5 +1,5 @@
 -- The refusals and their numbers.
-use Rattle.std.specs.Prelude.{ℕ}
+use Rattle.std.specs.Prelude.{◌≡◌, ℕ}
 use Rattle.nla_wire.specs.declared.error.Cause.{Cause}
 use Rattle.nla_wire.specs.declared.error.Cause.TheVariants as Causes
 use Rattle.nla_wire.specs.declared.error.DecodeError.{DecodeError}
@@ -19,3 +19,8 @@ refusal_for _ e = Decode e
 
 abbrev pub refusal_of : DecodeError → CanonError
 refusal_of e = refusal_for e.cause e
+
+-- two refusals are one: the same variant, and of bytes that are no message one cause and one name of its place
+abbrev pub SameRefusal : CanonError → CanonError → Type 0
+SameRefusal (Decode e) (Decode f) = (e.place.now ≡ f.place.now) × (e.cause ≡ f.cause)
+SameRefusal a b = (canon_error_number a ≡ canon_error_number b)

@@ -1,8 +1,9 @@
 //! One canonical text for each message.
 
-ghost use Rattle.std.specs.Prelude.{◌≡◌, ◌*◌, ◌≤◌, length, vec_capacity, IfOk, IfErr};
+ghost use Rattle.std.specs.Prelude.{◌≡◌, ◌*◌, ◌≤◌, ◌↔◌, length, vec_capacity, IsTrue, IfOk, IfErr};
 ghost use Rattle.nla_wire.specs.Sizes.{growth_per_byte};
 ghost use Rattle.link_msg.specs.Header.{header_bytes};
+ghost use Rattle.link_msg.specs.CanonErrors.{SameRefusal};
 ghost use Rattle.link_msg.specs.Canonical.{IsAccepted, IsRefusal, HasText, AreSame, IsRefusalOfTwo, IsWritten};
 
 use crate::attribute::LinkAttribute;
@@ -43,6 +44,13 @@ impl CanonError {
             CanonError::OutOfMemory => 4,
         }
     }
+}
+
+/// Whether two refusals are equal.
+pub fn same_refusal(one: &CanonError, other: &CanonError) -> bool
+    ensures { IsTrue result ↔ SameRefusal one.now other.now }
+{
+    one == other
 }
 
 impl From<AllocError> for CanonError {
@@ -146,7 +154,7 @@ pub fn canonical_into(input: &[u8], out: &mut [u8]) -> Result<usize, CanonError>
     LinkAttribute::check_list_with_param(rest, family)?;
     header.emit(out);
     let attributes = &mut out[HEADER_SIZE..];
-    let Some(len) = LinkAttribute::canon_list_with_param(rest, attributes, family) else {
+    let Some(len) = LinkAttribute::canon_list_with_param(rest, family, attributes) else {
         return Err(CanonError::DoesNotFit);
     };
     if LinkAttribute::hold_empty_ports(rest, family) {

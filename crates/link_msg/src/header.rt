@@ -87,6 +87,12 @@ pub struct LinkMessageBuffer {
     bytes: [u8; 16],
 }
 
+impl Exact for LinkMessageBuffer {
+    ghost use Rattle.std.proofs.Common.{rules};
+
+    ghost decides = { Prim.search rules };
+}
+
 impl From<&LinkHeader> for LinkMessageBuffer {
     ghost use Rattle.link_msg.specs.HeaderBuffer.{link_message_buffer_bytes};
     ghost use Rattle.link_msg.specs.Header.{header_bytes};

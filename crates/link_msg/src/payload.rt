@@ -85,7 +85,7 @@ pub(crate) fn canon_ports(kind: u16, payload: &[u8], out: &mut [u8]) -> Option<u
     if payload.is_empty() {
         return None;
     }
-    LinkVfPort::canon_nested_picked(kind, payload, out)
+    LinkVfPort::canon_nested_list(kind, payload, out)
 }
 
 /// Reads an extent mask, a number of four bytes, as the list of its flags.

@@ -250,7 +250,7 @@ impl Shape {
             Shape::Event => canon_event(number, payload, out),
             Shape::Port => LinkVfPort::canon_entry(number, payload, out),
             Shape::Infos => canon_some::<LinkInfo>(number, payload, out),
-            Shape::Functions => LinkVfInfo::canon_nested_picked(number, payload, out),
+            Shape::Functions => LinkVfInfo::canon_nested_list(number, payload, out),
             Shape::Ports => canon_ports(number, payload, out),
             Shape::Xdps => canon_some::<LinkXdp>(number, payload, out),
             Shape::Props => Prop::canon_nested(number + NLA_F_NESTED, payload, out),

@@ -124,8 +124,23 @@ impl LinkAttribute {
     ///
     /// Refuses with the cause of the first fault of the payload; or with `OutOfMemory`, which says nothing of the
     /// bytes.
-    #[tactic(auto, unfolding(crate::specs::Tables::attribute_view, crate::specs::Tables::attribute_entries, crate::specs::Tables::attribute_place))]
     pub fn parse_with_param(
+        alloc: Global,
+        buffer: &NlaBuffer<'_>,
+        family: AddressFamily,
+    ) -> Result<LinkAttribute, DecodeError>
+        ensures found { IfOk result ((attribute_place family).means buffer.now) }
+        ensures fault { IfErr result (λ e. e.cause ≢ OutOfMemory → (attribute_place family).bad buffer.now e.cause) }
+        ensures refused { IfErr result (λ e. e.cause ≢ OutOfMemory → (v : LinkAttribute) → (attribute_place family).means buffer.now v → ⊥) }
+        ensures reads { Gives result ((attribute_place family).reads buffer.now) }
+    {
+        buffer.is_frame();
+        LinkAttribute::read(alloc, buffer, family)
+    }
+
+    /// The value of a frame, by its number.
+    #[tactic(auto, unfolding(crate::specs::Tables::attribute_view, crate::specs::Tables::attribute_entries, crate::specs::Tables::attribute_place))]
+    fn read(
         alloc: Global,
         buffer: &NlaBuffer<'_>,
         family: AddressFamily,
@@ -227,6 +242,18 @@ impl LinkAttribute {
         buffer: &NlaBuffer<'_>,
         family: AddressFamily,
     ) -> Result<(), DecodeError>
+        ensures found { IfOk result (λ _. (v : LinkAttribute) × (attribute_place family).means buffer.now v) }
+        ensures fault { IfErr result (λ e. (attribute_place family).bad buffer.now e.cause) }
+        ensures refused { IfErr result (λ e. (v : LinkAttribute) → (attribute_place family).means buffer.now v → ⊥) }
+        ensures memory { IfErr result (λ e. e.cause ≢ OutOfMemory) }
+        ensures reads { Checks result ((attribute_place family).reads buffer.now) }
+    {
+        buffer.is_frame();
+        LinkAttribute::fault(buffer, family)
+    }
+
+    /// `Ok` where a frame is read, else its first fault, by the shape of its payload.
+    fn fault(buffer: &NlaBuffer<'_>, family: AddressFamily) -> Result<(), DecodeError>
         ensures { Checks result ((attribute_place family).reads buffer.now) }
     {
         let payload = buffer.value();
@@ -240,8 +267,8 @@ impl LinkAttribute {
     /// buffer, with no memory, and answers its length; `None` where the value does not fit.
     pub fn canon_with_param(
         buffer: &NlaBuffer<'_>,
-        out: &mut [u8],
         family: AddressFamily,
+        out: &mut [u8],
     ) -> Option<usize>
         requires accepted { IsOk ((attribute_place family).reads buffer.now) }
         requires room { growth_per_byte * (4 + length buffer.now.payload) ≤ length out.old }
@@ -288,8 +315,8 @@ impl LinkAttribute {
     /// buffer, with no memory, and answers its length; `None` where an attribute does not fit.
     pub fn canon_list_with_param(
         bytes: &[u8],
-        out: &mut [u8],
         family: AddressFamily,
+        out: &mut [u8],
     ) -> Option<usize>
         requires accepted { IsOk ((list (attribute_place family)).reads bytes.now) }
         requires room { growth_per_byte * length bytes.now ≤ length out.old }
@@ -353,15 +380,15 @@ impl Place<LinkAttribute> for AttributePlace {
     ghost grammar = { λ place. attribute_place place.family };
 
     fn parse(&self, alloc: Global, buffer: &NlaBuffer<'_>) -> Result<LinkAttribute, DecodeError> {
-        LinkAttribute::parse_with_param(alloc, buffer, self.family)
+        LinkAttribute::read(alloc, buffer, self.family)
     }
 
     fn check(&self, buffer: &NlaBuffer<'_>) -> Result<(), DecodeError> {
-        LinkAttribute::check_with_param(buffer, self.family)
+        LinkAttribute::fault(buffer, self.family)
     }
 
     fn canon(&self, buffer: &NlaBuffer<'_>, out: &mut [u8]) -> Option<usize> {
-        LinkAttribute::canon_with_param(buffer, out, self.family)
+        LinkAttribute::canon_with_param(buffer, self.family, out)
     }
 
     ghost agrees = { λ place. (attribute_lawful place.family).agrees };

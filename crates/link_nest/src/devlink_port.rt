@@ -51,7 +51,7 @@ impl NlaRead for DevlinkPort {
     ghost grammar = { devlink_port_place.grammar };
 
     #[tactic(auto, unfolding(crate::specs::Tables::devlink_port_place))]
-    fn parse(alloc: Global, buffer: &NlaBuffer<'_>) -> Result<DevlinkPort, DecodeError> {
+    fn parse_frame(alloc: Global, buffer: &NlaBuffer<'_>) -> Result<DevlinkPort, DecodeError> {
         match buffer.kind() {
             DEVLINK_ATTR_BUS_NAME => parse_string(alloc, buffer.value()).map(DevlinkPort::BusName),
             DEVLINK_ATTR_DEV_NAME => parse_string(alloc, buffer.value()).map(DevlinkPort::DevName),
@@ -61,7 +61,7 @@ impl NlaRead for DevlinkPort {
     }
 
     #[tactic(auto, unfolding(crate::specs::Tables::devlink_port_place))]
-    fn check(buffer: &NlaBuffer<'_>) -> Result<(), DecodeError> {
+    fn check_frame(buffer: &NlaBuffer<'_>) -> Result<(), DecodeError> {
         match buffer.kind() {
             DEVLINK_ATTR_BUS_NAME => check_string(buffer.value()),
             DEVLINK_ATTR_DEV_NAME => check_string(buffer.value()),

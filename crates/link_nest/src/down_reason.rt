@@ -54,7 +54,10 @@ impl NlaRead for LinkProtocolDownReason {
     ghost grammar = { down_reason_place.grammar };
 
     #[tactic(auto, unfolding(crate::specs::Tables::down_reason_place))]
-    fn parse(alloc: Global, buffer: &NlaBuffer<'_>) -> Result<LinkProtocolDownReason, DecodeError> {
+    fn parse_frame(
+        alloc: Global,
+        buffer: &NlaBuffer<'_>,
+    ) -> Result<LinkProtocolDownReason, DecodeError> {
         match buffer.kind() {
             IFLA_PROTO_DOWN_REASON_MASK => parse_u32(buffer.value()).map(
                 LinkProtocolDownReason::Mask,
@@ -67,7 +70,7 @@ impl NlaRead for LinkProtocolDownReason {
     }
 
     #[tactic(auto, unfolding(crate::specs::Tables::down_reason_place))]
-    fn check(buffer: &NlaBuffer<'_>) -> Result<(), DecodeError> {
+    fn check_frame(buffer: &NlaBuffer<'_>) -> Result<(), DecodeError> {
         match buffer.kind() {
             IFLA_PROTO_DOWN_REASON_MASK => checked(parse_u32(buffer.value())),
             IFLA_PROTO_DOWN_REASON_VALUE => checked(parse_u32(buffer.value())),

@@ -45,7 +45,7 @@ impl NlaRead for DpllPin {
     ghost grammar = { dpll_pin_place.grammar };
 
     #[tactic(auto, unfolding(crate::specs::Tables::dpll_pin_place))]
-    fn parse(alloc: Global, buffer: &NlaBuffer<'_>) -> Result<DpllPin, DecodeError> {
+    fn parse_frame(alloc: Global, buffer: &NlaBuffer<'_>) -> Result<DpllPin, DecodeError> {
         match buffer.kind() {
             DPLL_A_PIN_ID => parse_u32(buffer.value()).map(DpllPin::PinId),
             _ => DefaultNla::parse(alloc, buffer).map(DpllPin::Other),
@@ -53,7 +53,7 @@ impl NlaRead for DpllPin {
     }
 
     #[tactic(auto, unfolding(crate::specs::Tables::dpll_pin_place))]
-    fn check(buffer: &NlaBuffer<'_>) -> Result<(), DecodeError> {
+    fn check_frame(buffer: &NlaBuffer<'_>) -> Result<(), DecodeError> {
         match buffer.kind() {
             DPLL_A_PIN_ID => checked(parse_u32(buffer.value())),
             _ => Ok(()),

@@ -44,7 +44,7 @@ impl NlaRead for LinkInfo {
     ghost grammar = { link_info_place.grammar };
 
     #[tactic(auto, unfolding(crate::specs::Tables::link_info_place))]
-    fn parse(alloc: Global, buffer: &NlaBuffer<'_>) -> Result<LinkInfo, DecodeError> {
+    fn parse_frame(alloc: Global, buffer: &NlaBuffer<'_>) -> Result<LinkInfo, DecodeError> {
         match buffer.kind() {
             IFLA_INFO_KIND => parse_string(alloc, buffer.value()).map(LinkInfo::Kind),
             _ => DefaultNla::parse(alloc, buffer).map(LinkInfo::Other),
@@ -52,7 +52,7 @@ impl NlaRead for LinkInfo {
     }
 
     #[tactic(auto, unfolding(crate::specs::Tables::link_info_place))]
-    fn check(buffer: &NlaBuffer<'_>) -> Result<(), DecodeError> {
+    fn check_frame(buffer: &NlaBuffer<'_>) -> Result<(), DecodeError> {
         match buffer.kind() {
             IFLA_INFO_KIND => check_string(buffer.value()),
             _ => Ok(()),

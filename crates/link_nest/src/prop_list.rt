@@ -44,7 +44,7 @@ impl NlaRead for Prop {
     ghost grammar = { prop_place.grammar };
 
     #[tactic(auto, unfolding(crate::specs::Tables::prop_place))]
-    fn parse(alloc: Global, buffer: &NlaBuffer<'_>) -> Result<Prop, DecodeError> {
+    fn parse_frame(alloc: Global, buffer: &NlaBuffer<'_>) -> Result<Prop, DecodeError> {
         match buffer.kind() {
             IFLA_ALT_IFNAME => parse_string(alloc, buffer.value()).map(Prop::AltIfName),
             _ => DefaultNla::parse(alloc, buffer).map(Prop::Other),
@@ -52,7 +52,7 @@ impl NlaRead for Prop {
     }
 
     #[tactic(auto, unfolding(crate::specs::Tables::prop_place))]
-    fn check(buffer: &NlaBuffer<'_>) -> Result<(), DecodeError> {
+    fn check_frame(buffer: &NlaBuffer<'_>) -> Result<(), DecodeError> {
         match buffer.kind() {
             IFLA_ALT_IFNAME => check_string(buffer.value()),
             _ => Ok(()),

@@ -1,6 +1,6 @@
 //! Wireless events.
 
-ghost use Rattle.std.specs.Prelude.{◌≡◌, ◌+◌, ◌*◌, ◌≤◌, ◌↔◌, ◌⊎◌, length, IsTrue, IfOk, IfErr, IsOk};
+ghost use Rattle.std.specs.Prelude.{◌≡◌, ◌≢◌, ◌+◌, ◌*◌, ◌≤◌, ◌↔◌, ◌⊎◌, length, IsTrue, IfOk, IfErr, IsOk};
 ghost use Rattle.std.specs.Int.{to_le_bytes};
 ghost use Rattle.nla_wire.specs.Sizes.{growth_per_byte};
 ghost use Rattle.nla_wire.specs.Canon.{Filled, Canonical, Writes};
@@ -101,15 +101,26 @@ impl WirelessEvent {
         }
     }
 
-    /// Whether a payload is an event, with no memory taken: `Ok` where `parse` reads it, else `TooShort`.
+    /// `Ok` where a payload is an event, else the fault.
     #[tactic(auto, unfolding(nla_wire::specs::Payloads::read_sized))]
-    pub fn check(payload: &[u8]) -> Result<(), DecodeError>
+    fn fault(payload: &[u8]) -> Result<(), DecodeError>
         ensures { Checks result (wireless_event.reads payload.now) }
     {
         if payload.len() < HEADER_LEN {
             return Err(too_short(payload.len(), HEADER_LEN));
         }
         Ok(())
+    }
+
+    /// Whether a payload is an event, with no memory taken: `Ok` where `parse` reads it, else `TooShort`.
+    pub fn check(payload: &[u8]) -> Result<(), DecodeError>
+        ensures found { IfOk result (λ _. (v : WirelessEvent) × wireless_event.means payload.now v) }
+        ensures fault { IfErr result (λ e. wireless_event.bad payload.now e.cause) }
+        ensures refused { IfErr result (λ e. (v : WirelessEvent) → wireless_event.means payload.now v → ⊥) }
+        ensures memory { IfErr result (λ e. e.cause ≢ OutOfMemory) }
+        ensures reads { Checks result (wireless_event.reads payload.now) }
+    {
+        WirelessEvent::fault(payload)
     }
 
     /// Writes the text of the event that the payload means to the front of the buffer, with no memory taken, and

@@ -71,7 +71,7 @@ impl NlaRead for LinkXdp {
     ghost grammar = { xdp_place.grammar };
 
     #[tactic(auto, unfolding(crate::specs::Tables::xdp_place))]
-    fn parse(alloc: Global, buffer: &NlaBuffer<'_>) -> Result<LinkXdp, DecodeError> {
+    fn parse_frame(alloc: Global, buffer: &NlaBuffer<'_>) -> Result<LinkXdp, DecodeError> {
         match buffer.kind() {
             IFLA_XDP_FD => parse_i32(buffer.value()).map(LinkXdp::Fd),
             IFLA_XDP_ATTACHED => parse_attached(buffer.value()).map(LinkXdp::Attached),
@@ -86,7 +86,7 @@ impl NlaRead for LinkXdp {
     }
 
     #[tactic(auto, unfolding(crate::specs::Tables::xdp_place))]
-    fn check(buffer: &NlaBuffer<'_>) -> Result<(), DecodeError> {
+    fn check_frame(buffer: &NlaBuffer<'_>) -> Result<(), DecodeError> {
         match buffer.kind() {
             IFLA_XDP_FD => checked(parse_i32(buffer.value())),
             IFLA_XDP_ATTACHED => checked(parse_attached(buffer.value())),

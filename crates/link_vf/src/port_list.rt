@@ -1,7 +1,7 @@
 //! The list of ports, IFLA_VF_PORTS, and the port of the interface itself, IFLA_PORT_SELF.
 
 ghost use Rattle.std.specs.Prelude.{◌≡◌, ◌≢◌, ◌+◌, ◌*◌, ◌≤◌, List, length, Ok, IsOk, IfOk, IfErr, MatchResult};
-ghost use Rattle.nla_wire.specs.Sizes.{growth_per_byte};
+ghost use Rattle.nla_wire.specs.Sizes.{most_payload, growth_per_byte};
 ghost use Rattle.nla_wire.specs.Canon.{canon, canons, AllFit, Canonical};
 ghost use Rattle.nla_wire.specs.Gives.{Fails, Gives, Checks};
 ghost use Rattle.nla_wire.specs.declared.error.Cause.TheVariants.{OutOfMemory};
@@ -11,8 +11,9 @@ ghost use Rattle.link_vf.specs.Tables.{vf_port_list};
 use crate::VfPort;
 use crate::numbers::IFLA_VF_PORT;
 use nla_wire::{
-    CloneIn, DecodeError, Exact, List, Nla, NlaBuffer, NlaRead, empty_list, list_fits,
-    nlas_buffer_len, nlas_fill,
+    CloneIn, DecodeError, Exact, List, Nla, NlaBuffer, NlaRead, Place, canon_nested_picked_members,
+    canon_picked_members, check_picked_members, empty_list, list_fits, nlas_buffer_len, nlas_fill,
+    parse_picked_members,
 };
 use std::alloc::Global;
 
@@ -98,7 +99,7 @@ impl LinkVfPort {
             (λ e. Fails e.cause (vf_port_list.grammar.reads payload.now)) }
         ensures few { IfOk result (λ v. 4 * length v.items ≤ length payload.now) }
     {
-        LinkVfPort::parse_picked(alloc, payload)
+        parse_picked_members(&EntryPlace, alloc, payload)
     }
 
     /// Whether a payload is such a list, with no memory taken: `Ok` where `parse_list` reads it, else the cause of its
@@ -110,7 +111,7 @@ impl LinkVfPort {
         ensures memory { IfErr result (λ e. e.cause ≢ OutOfMemory) }
         ensures reads { Checks result (vf_port_list.grammar.reads payload.now) }
     {
-        LinkVfPort::check_picked(payload)
+        check_picked_members(&EntryPlace, payload)
     }
 
     /// Writes the canonical text of such a list's entries to the front of the buffer, with no memory taken, and answers
@@ -124,7 +125,23 @@ impl LinkVfPort {
         ensures { Canonical (canons link_vf_port_place.frame) (AllFit link_vf_port_place.Fits link_vf_port_place.frame)
             (vf_port_list.grammar.reads payload.now) out.old out.new result }
     {
-        LinkVfPort::canon_picked(payload, out)
+        canon_picked_members(&EntryPlace, payload, out)
+    }
+
+    /// Writes the attribute of this kind whose value is the canonical text of such a list's entries, with no memory
+    /// taken, and answers its length. The rest of the buffer is kept.
+    ///
+    /// The buffer has `growth_per_byte` bytes for each byte of the attribute's header and payload. Answers `None` too
+    /// where the text has more than 65531 bytes.
+    pub fn canon_nested_list(kind: u16, payload: &[u8], out: &mut [u8]) -> Option<usize>
+        requires accepted { IsOk (vf_port_list.grammar.reads payload.now) }
+        requires room { growth_per_byte * (4 + length payload.now) ≤ length out.old }
+        ensures { Canonical (λ vs. canon (record { kind = kind; payload = canons link_vf_port_place.frame vs }))
+            (λ vs. (length (canons link_vf_port_place.frame vs) ≤ most_payload)
+            × AllFit link_vf_port_place.Fits link_vf_port_place.frame vs)
+            (vf_port_list.grammar.reads payload.now) out.old out.new result }
+    {
+        canon_nested_picked_members(&EntryPlace, kind, payload, out)
     }
 }
 
@@ -153,31 +170,35 @@ impl Nla for LinkVfPort {
     }
 }
 
-impl NlaRead for LinkVfPort {
+/// The place of an entry of IFLA_VF_PORTS. Nobody else reads entries, since those with another number are dropped.
+#[derive(Debug, Clone, Copy, Drop)]
+struct EntryPlace;
+
+impl Place<LinkVfPort> for EntryPlace {
     ghost use Rattle.nla_wire.proofs.Codec.{place_bounded};
 
-    ghost grammar = { link_vf_port_place.grammar };
+    ghost grammar = { λ place. link_vf_port_place.grammar };
 
     #[tactic(auto, unfolding(crate::specs::Tables::link_vf_port_place))]
-    fn parse(alloc: Global, buffer: &NlaBuffer<'_>) -> Result<LinkVfPort, DecodeError> {
+    fn parse(&self, alloc: Global, buffer: &NlaBuffer<'_>) -> Result<LinkVfPort, DecodeError> {
         LinkVfPort::parse(alloc, buffer.value())
     }
 
     #[tactic(auto, unfolding(crate::specs::Tables::link_vf_port_place))]
-    fn check(buffer: &NlaBuffer<'_>) -> Result<(), DecodeError> {
+    fn check(&self, buffer: &NlaBuffer<'_>) -> Result<(), DecodeError> {
         LinkVfPort::check(buffer.value())
     }
 
     #[tactic(auto, unfolding(crate::specs::Tables::link_vf_port_place))]
-    fn canon(buffer: &NlaBuffer<'_>, out: &mut [u8]) -> Option<usize> {
+    fn canon(&self, buffer: &NlaBuffer<'_>, out: &mut [u8]) -> Option<usize> {
         LinkVfPort::canon_entry(IFLA_VF_PORT, buffer.value(), out)
     }
 
-    ghost agrees = { link_vf_port_place.lawful.agrees };
+    ghost agrees = { λ place. link_vf_port_place.lawful.agrees };
 
-    ghost no_memory = { link_vf_port_place.lawful.no_memory };
+    ghost no_memory = { λ place. link_vf_port_place.lawful.no_memory };
 
-    ghost bounded = { place_bounded link_vf_port_place };
+    ghost bounded = { λ place. place_bounded link_vf_port_place };
 }
 
 impl CloneIn for LinkVfPort {

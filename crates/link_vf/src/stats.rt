@@ -70,7 +70,7 @@ impl NlaRead for VfStats {
     ghost grammar = { vf_stats_place.grammar };
 
     #[tactic(auto, unfolding(crate::specs::Tables::vf_stats_place))]
-    fn parse(alloc: Global, buffer: &NlaBuffer<'_>) -> Result<VfStats, DecodeError> {
+    fn parse_frame(alloc: Global, buffer: &NlaBuffer<'_>) -> Result<VfStats, DecodeError> {
         match buffer.kind() {
             IFLA_VF_STATS_RX_PACKETS => parse_u64(buffer.value()).map(VfStats::RxPackets),
             IFLA_VF_STATS_TX_PACKETS => parse_u64(buffer.value()).map(VfStats::TxPackets),
@@ -85,7 +85,7 @@ impl NlaRead for VfStats {
     }
 
     #[tactic(auto, unfolding(crate::specs::Tables::vf_stats_place))]
-    fn check(buffer: &NlaBuffer<'_>) -> Result<(), DecodeError> {
+    fn check_frame(buffer: &NlaBuffer<'_>) -> Result<(), DecodeError> {
         match buffer.kind() {
             IFLA_VF_STATS_RX_PACKETS => checked(parse_u64(buffer.value())),
             IFLA_VF_STATS_TX_PACKETS => checked(parse_u64(buffer.value())),

@@ -198,7 +198,7 @@ impl NlaRead for VfInfo {
     ghost grammar = { vf_info_place.grammar };
 
     #[tactic(auto, unfolding(crate::specs::Tables::vf_info_place))]
-    fn parse(alloc: Global, buffer: &NlaBuffer<'_>) -> Result<VfInfo, DecodeError> {
+    fn parse_frame(alloc: Global, buffer: &NlaBuffer<'_>) -> Result<VfInfo, DecodeError> {
         match buffer.kind() {
             IFLA_VF_STATS => VfStats::parse_list(alloc, buffer.value()).map(|v| VfInfo::Stats(
                 List::new(v),
@@ -214,7 +214,7 @@ impl NlaRead for VfInfo {
     }
 
     #[tactic(auto, unfolding(crate::specs::Tables::vf_info_place))]
-    fn check(buffer: &NlaBuffer<'_>) -> Result<(), DecodeError> {
+    fn check_frame(buffer: &NlaBuffer<'_>) -> Result<(), DecodeError> {
         match buffer.kind() {
             IFLA_VF_STATS => VfStats::check_list(buffer.value()),
             IFLA_VF_VLAN_LIST => VfVlan::check_list(buffer.value()),

@@ -39,12 +39,12 @@ impl NlaRead for VfPort {
     ghost grammar = { vf_port_place.grammar };
 
     #[tactic(auto, unfolding(crate::specs::Tables::vf_port_place))]
-    fn parse(alloc: Global, buffer: &NlaBuffer<'_>) -> Result<VfPort, DecodeError> {
+    fn parse_frame(alloc: Global, buffer: &NlaBuffer<'_>) -> Result<VfPort, DecodeError> {
         DefaultNla::parse(alloc, buffer).map(VfPort::Other)
     }
 
     #[tactic(auto, unfolding(crate::specs::Tables::vf_port_place))]
-    fn check(_buffer: &NlaBuffer<'_>) -> Result<(), DecodeError> {
+    fn check_frame(_buffer: &NlaBuffer<'_>) -> Result<(), DecodeError> {
         Ok(())
     }
 

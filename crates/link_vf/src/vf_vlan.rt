@@ -66,7 +66,7 @@ impl NlaRead for VfVlan {
     ghost grammar = { vf_vlan_place.grammar };
 
     #[tactic(auto, unfolding(crate::specs::Tables::vf_vlan_place))]
-    fn parse(alloc: Global, buffer: &NlaBuffer<'_>) -> Result<VfVlan, DecodeError> {
+    fn parse_frame(alloc: Global, buffer: &NlaBuffer<'_>) -> Result<VfVlan, DecodeError> {
         match buffer.kind() {
             IFLA_VF_VLAN_INFO => VfVlanInfo::parse(buffer.value()).map(VfVlan::Info),
             _ => DefaultNla::parse(alloc, buffer).map(VfVlan::Other),
@@ -74,7 +74,7 @@ impl NlaRead for VfVlan {
     }
 
     #[tactic(auto, unfolding(crate::specs::Tables::vf_vlan_place))]
-    fn check(buffer: &NlaBuffer<'_>) -> Result<(), DecodeError> {
+    fn check_frame(buffer: &NlaBuffer<'_>) -> Result<(), DecodeError> {
         match buffer.kind() {
             IFLA_VF_VLAN_INFO => checked(VfVlanInfo::parse(buffer.value())),
             _ => Ok(()),

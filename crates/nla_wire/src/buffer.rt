@@ -2,7 +2,7 @@
 
 ghost use Rattle.std.specs.Prelude.{◌≡◌, ◌+◌, ◌-◌, ◌≤◌, ◌<◌, List, ℕ, length, MatchResult};
 ghost use Rattle.nla_wire.specs.Sizes.{most_payload};
-ghost use Rattle.nla_wire.specs.Frames.{Frame, number, is_nested, is_network_order, Begins, BadFront, BeginsWithNone};
+ghost use Rattle.nla_wire.specs.Frames.{Frame, IsBytes, IsFrame, number, is_nested, is_network_order, Begins, BadFront, BeginsWithNone};
 ghost use Rattle.nla_wire.specs.Reading.{step, front};
 ghost use Rattle.nla_wire.specs.Gives.{without_place};
 ghost use Rattle.nla_wire.specs.Same.{same_frame, same_frame-laws, same_frame-partial, same_frame-Decides};
@@ -107,6 +107,16 @@ impl<'a> NlaBuffer<'a> {
         (NLA_HEADER_SIZE + self.value.len()) as u16
     }
 
+    /// What holds of every frame that was read: its kind is a number of two bytes, and its payload is bytes, at most
+    /// 65531. It does nothing.
+    #[inline(always)]
+    pub fn is_frame(&self)
+        ensures { IsFrame self.now }
+    {
+        let _kind = self.kind_with_flags();
+        are_bytes(self.value());
+    }
+
     /// The payload, a part of the slice that the frame was made over.
     pub fn value(&self) -> &'a [u8]
         ensures value { result.now ≡ self.now.payload }
@@ -115,6 +125,12 @@ impl<'a> NlaBuffer<'a> {
         self.value
     }
 }
+
+/// What holds of every slice of bytes: each is below 256. It does nothing.
+#[inline(always)]
+fn are_bytes(bytes: &[u8])
+    ensures { IsBytes bytes.now }
+{}
 
 fn frame_fault(cause: Cause) -> DecodeError
     ensures { result.cause ≡ cause }

@@ -1,10 +1,11 @@
 //! Why bytes were refused.
 
-ghost use Rattle.std.specs.Prelude.{◌≡◌};
+ghost use Rattle.std.specs.Prelude.{◌≡◌, ◌↔◌, IsTrue};
 ghost use Rattle.nla_wire.specs.Causes.{cause_number};
 ghost use Rattle.nla_wire.specs.Gives.{Checks, without_place};
 ghost use Rattle.nla_wire.specs.declared.error.Cause.TheVariants.{EmptyList, OutOfMemory};
 
+use crate::exact::Exact;
 use std::alloc::{AllocError, AllocFailed};
 use thiserror::Error;
 
@@ -59,6 +60,12 @@ impl Cause {
     }
 }
 
+impl Exact for Cause {
+    ghost use Rattle.std.proofs.Common.{rules};
+
+    ghost decides = { Prim.search rules };
+}
+
 /// A fault: why bytes were refused, and a name of the place for a log.
 ///
 /// No promise rests on `place`.
@@ -84,6 +91,13 @@ impl DecodeError {
     {
         self.cause.number()
     }
+}
+
+/// Whether two faults are equal: their causes are, and so are the names of their places.
+pub fn same_fault(one: &DecodeError, other: &DecodeError) -> bool
+    ensures { IsTrue result ↔ ((one.now.place.now ≡ other.now.place.now) × (one.now.cause ≡ other.now.cause)) }
+{
+    one == other
 }
 
 impl From<AllocError> for DecodeError {

@@ -27,7 +27,7 @@ pub use canon::{
     canon_u16, canon_u32, canon_u64, canon_value, close,
 };
 pub use default_nla::DefaultNla;
-pub use error::{Cause, DecodeError, empty_list};
+pub use error::{Cause, DecodeError, empty_list, same_fault};
 pub use exact::Exact;
 pub use fill::{fill_bytes, fill_text};
 pub use flat::{Content, Flat};

@@ -126,10 +126,8 @@ pub fn canon_nested_members<V: Nla + Drop, P: Place<V>>(
     close(out, len, kind)
 }
 
-/// Reads a list of which the members with another number than 1 are dropped unread.
-///
-/// Refuses as `parse_members` does.
-pub fn parse_picked_members<V: Nla + Drop, P: Place<V>>(
+/// The values of a list's members with number 1.
+fn picked_values<V: Nla + Drop, P: Place<V>>(
     place: &P,
     alloc: Global,
     bytes: &[u8],
@@ -148,8 +146,25 @@ pub fn parse_picked_members<V: Nla + Drop, P: Place<V>>(
     Ok(values)
 }
 
-/// Whether the bytes are a list of which the members with number 1 have a value, with no memory taken.
-pub fn check_picked_members<V: Nla + Drop, P: Place<V>>(
+/// Reads a list of which the members with another number than 1 are dropped unread.
+///
+/// Refuses as `parse_members` does.
+pub fn parse_picked_members<V: Nla + Drop, P: Place<V>>(
+    place: &P,
+    alloc: Global,
+    bytes: &[u8],
+) -> Result<Vec<V>, DecodeError>
+    ensures found { IfOk result (λ v. (picked (P.grammar place.now)).means bytes.now v.items) }
+    ensures fault { IfErr result (λ e. e.cause ≢ OutOfMemory → (picked (P.grammar place.now)).bad bytes.now e.cause) }
+    ensures refused { IfErr result (λ e. e.cause ≢ OutOfMemory → (vs : List V) → (picked (P.grammar place.now)).means bytes.now vs → ⊥) }
+    ensures reads { MatchResult result (λ v. (picked (P.grammar place.now)).reads bytes.now ≡ Ok v.items) (λ e. Fails e.cause ((picked (P.grammar place.now)).reads bytes.now)) }
+    ensures few { IfOk result (λ v. 4 * length v.items ≤ length bytes.now) }
+{
+    picked_values(place, alloc, bytes)
+}
+
+/// The first fault of a list of which the members with number 1 are checked.
+fn check_picked_values<V: Nla + Drop, P: Place<V>>(
     place: &P,
     bytes: &[u8],
 ) -> Result<(), DecodeError>
@@ -162,6 +177,20 @@ pub fn check_picked_members<V: Nla + Drop, P: Place<V>>(
         }
     }
     Ok(())
+}
+
+/// Whether the bytes are a list of which the members with number 1 have a value, with no memory taken.
+pub fn check_picked_members<V: Nla + Drop, P: Place<V>>(
+    place: &P,
+    bytes: &[u8],
+) -> Result<(), DecodeError>
+    ensures found { IfOk result (λ _. (vs : List V) × (picked (P.grammar place.now)).means bytes.now vs) }
+    ensures fault { IfErr result (λ e. (picked (P.grammar place.now)).bad bytes.now e.cause) }
+    ensures refused { IfErr result (λ e. (vs : List V) → (picked (P.grammar place.now)).means bytes.now vs → ⊥) }
+    ensures memory { IfErr result (λ e. e.cause ≢ OutOfMemory) }
+    ensures reads { Checks result ((picked (P.grammar place.now)).reads bytes.now) }
+{
+    check_picked_values(place, bytes)
 }
 
 /// Writes the canonical text of a list's members with number 1, as `canon_members` does.
@@ -205,21 +234,18 @@ pub fn canon_nested_picked_members<V: Nla + Drop, P: Place<V>>(
 
 /// A value that is read from an attribute, at the one place that its type has.
 ///
-/// The list calls read and write lists of such attributes; those with `picked` in their name drop the members with
-/// another number than 1 unread.
+/// The list calls read and write lists of such attributes.
 pub trait NlaRead: Nla + Drop {
     ghost grammar: { Grammar Frame Self };
 
-    /// Reads the value of an attribute.
-    ///
-    /// Refuses with the cause of the first fault, or with `OutOfMemory`.
-    fn parse(alloc: Global, buffer: &NlaBuffer<'_>) -> Result<Self, DecodeError>
+    /// Reads the value of an attribute, for `parse`.
+    fn parse_frame(alloc: Global, buffer: &NlaBuffer<'_>) -> Result<Self, DecodeError>
     where
         Self: Sized,
         ensures { Gives result (grammar.reads buffer.now) };
 
-    /// Whether an attribute has a value, with no memory taken: `Ok` where it has, else the cause of the first fault.
-    fn check(buffer: &NlaBuffer<'_>) -> Result<(), DecodeError>
+    /// Looks for the first fault of an attribute, with no memory taken, for `check`.
+    fn check_frame(buffer: &NlaBuffer<'_>) -> Result<(), DecodeError>
         ensures { Checks result (grammar.reads buffer.now) };
 
     /// Writes the canonical text of an attribute's value to the front of the buffer, with no memory taken, and answers
@@ -237,6 +263,37 @@ pub trait NlaRead: Nla + Drop {
     ghost no_memory: { (f : Frame) → grammar.bad f OutOfMemory → ⊥ };
 
     ghost bounded: { (f : Frame) (v : Self) → grammar.means f v → length (canon (Self.frame v)) ≤ growth * (1 + length f.payload / 4) };
+
+    /// Reads the value of an attribute.
+    ///
+    /// Refuses with the cause of the first fault, or with `OutOfMemory`.
+    #[inline(always)]
+    final fn parse(alloc: Global, buffer: &NlaBuffer<'_>) -> Result<Self, DecodeError>
+    where
+        Self: Sized,
+        ensures found { IfOk result (grammar.means buffer.now) }
+        ensures fault { IfErr result (λ e. e.cause ≢ OutOfMemory → grammar.bad buffer.now e.cause) }
+        ensures refused { IfErr result (λ e. e.cause ≢ OutOfMemory → (v : Self) → grammar.means buffer.now v → ⊥) }
+        ensures reads { Gives result (grammar.reads buffer.now) }
+    {
+        buffer.is_frame();
+        Self::parse_frame(alloc, buffer)
+    }
+
+    /// Whether an attribute has a value, with no memory taken: `Ok` where it has, else the cause of the first fault.
+    #[inline(always)]
+    final fn check(buffer: &NlaBuffer<'_>) -> Result<(), DecodeError>
+    where
+        Self: Sized,
+        ensures found { IfOk result (λ _. (v : Self) × grammar.means buffer.now v) }
+        ensures fault { IfErr result (λ e. grammar.bad buffer.now e.cause) }
+        ensures refused { IfErr result (λ e. (v : Self) → grammar.means buffer.now v → ⊥) }
+        ensures memory { IfErr result (λ e. e.cause ≢ OutOfMemory) }
+        ensures reads { Checks result (grammar.reads buffer.now) }
+    {
+        buffer.is_frame();
+        Self::check_frame(buffer)
+    }
 
     /// Reads a list of these attributes.
     ///
@@ -296,58 +353,6 @@ pub trait NlaRead: Nla + Drop {
     {
         canon_nested_members::<Self, OwnPlace>(&OwnPlace, kind, bytes, out)
     }
-
-    /// Reads a list of these attributes of which those with another number than 1 are dropped unread.
-    ///
-    /// Refuses as `parse_list` does.
-    final fn parse_picked(alloc: Global, bytes: &[u8]) -> Result<Vec<Self>, DecodeError>
-    where
-        Self: Sized,
-        ensures found { IfOk result (λ v. (picked grammar).means bytes.now v.items) }
-        ensures fault { IfErr result (λ e. e.cause ≢ OutOfMemory → (picked grammar).bad bytes.now e.cause) }
-        ensures refused { IfErr result (λ e. e.cause ≢ OutOfMemory → (vs : List Self) → (picked grammar).means bytes.now vs → ⊥) }
-        ensures reads { MatchResult result (λ v. (picked grammar).reads bytes.now ≡ Ok v.items) (λ e. Fails e.cause ((picked grammar).reads bytes.now)) }
-        ensures few { IfOk result (λ v. 4 * length v.items ≤ length bytes.now) }
-    {
-        parse_picked_members::<Self, OwnPlace>(&OwnPlace, alloc, bytes)
-    }
-
-    /// Whether the bytes are a list of these attributes of which those with number 1 have a value, with no memory
-    /// taken.
-    final fn check_picked(bytes: &[u8]) -> Result<(), DecodeError>
-    where
-        Self: Sized,
-        ensures found { IfOk result (λ _. (vs : List Self) × (picked grammar).means bytes.now vs) }
-        ensures fault { IfErr result (λ e. (picked grammar).bad bytes.now e.cause) }
-        ensures refused { IfErr result (λ e. (vs : List Self) → (picked grammar).means bytes.now vs → ⊥) }
-        ensures memory { IfErr result (λ e. e.cause ≢ OutOfMemory) }
-        ensures reads { Checks result ((picked grammar).reads bytes.now) }
-    {
-        check_picked_members::<Self, OwnPlace>(&OwnPlace, bytes)
-    }
-
-    /// Writes the canonical text of those attributes of a list that have number 1, as `canon_list` does.
-    final fn canon_picked(bytes: &[u8], out: &mut [u8]) -> Option<usize>
-    where
-        Self: Sized,
-        requires accepted { IsOk ((picked grammar).reads bytes.now) }
-        requires room { growth_per_byte * length bytes.now ≤ length out.old }
-        ensures { Canonical (canons Self.frame) (AllFit Self.fits Self.frame) ((picked grammar).reads bytes.now) out.old out.new result }
-    {
-        canon_picked_members::<Self, OwnPlace>(&OwnPlace, bytes, out)
-    }
-
-    /// Writes the attribute of this kind whose value is the canonical text of those attributes of a list that have
-    /// number 1, as `canon_nested` does.
-    final fn canon_nested_picked(kind: u16, bytes: &[u8], out: &mut [u8]) -> Option<usize>
-    where
-        Self: Sized,
-        requires accepted { IsOk ((picked grammar).reads bytes.now) }
-        requires room { growth_per_byte * (4 + length bytes.now) ≤ length out.old }
-        ensures { Canonical (λ vs. canon (record { kind = kind; payload = canons Self.frame vs })) (λ vs. (length (canons Self.frame vs) ≤ most_payload) × AllFit Self.fits Self.frame vs) ((picked grammar).reads bytes.now) out.old out.new result }
-    {
-        canon_nested_picked_members::<Self, OwnPlace>(&OwnPlace, kind, bytes, out)
-    }
 }
 
 /// The one place of a type of values that has no other.
@@ -358,11 +363,11 @@ impl<V: NlaRead> Place<V> for OwnPlace {
     ghost grammar = { λ place. V.NlaRead.grammar };
 
     fn parse(&self, alloc: Global, buffer: &NlaBuffer<'_>) -> Result<V, DecodeError> {
-        <V as NlaRead>::parse(alloc, buffer)
+        <V as NlaRead>::parse_frame(alloc, buffer)
     }
 
     fn check(&self, buffer: &NlaBuffer<'_>) -> Result<(), DecodeError> {
-        <V as NlaRead>::check(buffer)
+        <V as NlaRead>::check_frame(buffer)
     }
 
     fn canon(&self, buffer: &NlaBuffer<'_>, out: &mut [u8]) -> Option<usize> {

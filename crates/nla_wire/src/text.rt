@@ -1,6 +1,6 @@
 //! Texts as payloads: UTF-8, which may end in one NUL.
 
-ghost use Rattle.std.specs.Prelude.{◌≡◌, ◌⊎◌, IfOk, IfErr};
+ghost use Rattle.std.specs.Prelude.{◌≡◌, ◌≢◌, ◌⊎◌, List, ℕ, IfOk, IfErr};
 ghost use Rattle.nla_wire.specs.Payloads.{text, IsTextOf};
 ghost use Rattle.nla_wire.specs.Gives.{Gives, Checks};
 ghost use Rattle.nla_wire.specs.declared.error.Cause.TheVariants.{OutOfMemory, NotUtf8};
@@ -39,12 +39,23 @@ pub fn parse_string(alloc: Global, bytes: &[u8]) -> Result<Text, DecodeError>
     }
 }
 
-/// Whether a payload is a text, with no memory taken: `Ok` where `parse_string` reads it, else `NotUtf8`.
-pub fn check_string(bytes: &[u8]) -> Result<(), DecodeError>
+/// `Ok` where the payload is a text, else the fault.
+fn text_fault(bytes: &[u8]) -> Result<(), DecodeError>
     ensures { Checks result (text.reads bytes.now) }
 {
     match str::from_utf8(without_nul(bytes)) {
         Ok(_) => Ok(()),
         Err(_) => Err(not_utf8()),
     }
+}
+
+/// Whether a payload is a text, with no memory taken: `Ok` where `parse_string` reads it, else `NotUtf8`.
+pub fn check_string(bytes: &[u8]) -> Result<(), DecodeError>
+    ensures found { IfOk result (λ _. (s : List ℕ) × text.means bytes.now s) }
+    ensures fault { IfErr result (λ e. text.bad bytes.now e.cause) }
+    ensures refused { IfErr result (λ e. (s : List ℕ) → text.means bytes.now s → ⊥) }
+    ensures memory { IfErr result (λ e. e.cause ≢ OutOfMemory) }
+    ensures reads { Checks result (text.reads bytes.now) }
+{
+    text_fault(bytes)
 }

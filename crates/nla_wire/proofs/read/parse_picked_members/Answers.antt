@@ -1,12 +1,15 @@
-use Rattle.std.proofs.Common.{◌≡◌}
-use Rattle.nla_wire.specs.Items.{items}
-use Rattle.nla_wire.proofs.Checked.{few_start, parse_picked_start}
+use Rattle.std.proofs.Common.{arith}
+use Rattle.nla_wire.specs.Grammar.{picked}
+use Rattle.nla_wire.proofs.Front.{all_bytes}
+use Rattle.nla_wire.proofs.Lists.{picked_agrees}
+use Rattle.nla_wire.proofs.Checked.{given_found, given_fault, given_refused}
 use Rattle.nla_wire.proofs.read.parse_picked_members.Goals as goal
 
-pub loop-item-init : goal.loop-item-init
-loop-item-init g c =
-    let left : c.into_iter-item-iterator.result ≡ items c.args.bytes.now = cc in
-    record {
-      so_far = parse_picked_start c.args.bytes.now c.into_iter-item-iterator.result left (g.P.Place.grammar c.args.place.now) c.new-values.result.items c.new-values.ensures.items;
-      few = few_start c.args.bytes.now c.into_iter-item-iterator.result left c.new-values.result.items c.new-values.ensures.items;
-    }
+pub returns-clause-found : goal.returns-clause-found
+returns-clause-found g c = given_found (picked (g.P.Place.grammar c.args.place.now)) (picked_agrees (g.P.Place.grammar c.args.place.now) (g.met.P.Place.agrees c.args.place.now)) c.args.bytes.now (all_bytes c.args.bytes.now (λ i. omega (arith, c.type_inv.bytes i))) (λ v. v.items) c.picked_values.result c.picked_values.ensures.reads
+
+pub returns-clause-fault : goal.returns-clause-fault
+returns-clause-fault g c = given_fault (picked (g.P.Place.grammar c.args.place.now)) (picked_agrees (g.P.Place.grammar c.args.place.now) (g.met.P.Place.agrees c.args.place.now)) c.args.bytes.now (all_bytes c.args.bytes.now (λ i. omega (arith, c.type_inv.bytes i))) (λ v. v.items) c.picked_values.result c.picked_values.ensures.reads
+
+pub returns-clause-refused : goal.returns-clause-refused
+returns-clause-refused g c = given_refused (picked (g.P.Place.grammar c.args.place.now)) (picked_agrees (g.P.Place.grammar c.args.place.now) (g.met.P.Place.agrees c.args.place.now)) c.args.bytes.now (all_bytes c.args.bytes.now (λ i. omega (arith, c.type_inv.bytes i))) (λ v. v.items) c.picked_values.result c.picked_values.ensures.reads

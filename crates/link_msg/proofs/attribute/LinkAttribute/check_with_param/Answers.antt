@@ -1,14 +1,16 @@
-use Rattle.std.proofs.Common.{Some, None, Ok, refl}
-use Rattle.link_msg.proofs.Shaped.{shape_here, shape_checks}
+use Rattle.nla_wire.proofs.Loop.{checks_found, checks_fault, checks_refused}
+use Rattle.nla_wire.proofs.Checked.{checks_memory}
+use Rattle.link_msg.specs.Tables.{attribute_place, attribute_lawful}
 use Rattle.link_msg.proofs.attribute.LinkAttribute.check_with_param.Goals as goal
 
-pub returns-in-Some : goal.returns-in-Some
-returns-in-Some c =
-    shape_checks c.args.family c.args.buffer.now (Some c.in-Some.shape) c.check.result
-    (shape_here c.args.family c.args.buffer.now c.kind.result c.value-payload.result.now c.of.result (Some c.in-Some.shape) c.kind.ensures c.value-payload.ensures.value c.in-Some.is c.of.ensures)
-    (rw c.value-payload.ensures.value at c.check.ensures)
+pub returns-clause-found : goal.returns-clause-found
+returns-clause-found c = checks_found (attribute_place c.args.family) (attribute_lawful c.args.family).agrees c.args.buffer.now c.is_frame.ensures c.fault.result c.fault.ensures
 
-pub returns-in-None : goal.returns-in-None
-returns-in-None c =
-    shape_checks c.args.family c.args.buffer.now None (Ok tt)
-    (shape_here c.args.family c.args.buffer.now c.kind.result c.value-payload.result.now c.of.result None c.kind.ensures c.value-payload.ensures.value c.in-None.is c.of.ensures) refl
+pub returns-clause-fault : goal.returns-clause-fault
+returns-clause-fault c = checks_fault (attribute_place c.args.family) (attribute_lawful c.args.family).agrees c.args.buffer.now c.is_frame.ensures c.fault.result c.fault.ensures
+
+pub returns-clause-refused : goal.returns-clause-refused
+returns-clause-refused c = checks_refused (attribute_place c.args.family) (attribute_lawful c.args.family).agrees c.args.buffer.now c.is_frame.ensures c.fault.result c.fault.ensures
+
+pub returns-clause-memory : goal.returns-clause-memory
+returns-clause-memory c = checks_memory (attribute_place c.args.family) (attribute_lawful c.args.family).agrees c.args.buffer.now c.is_frame.ensures (attribute_lawful c.args.family).no_memory c.fault.result c.fault.ensures

@@ -1,8 +1,12 @@
-use Rattle.std.proofs.Common.{rules}
-use Rattle.link_msg.specs.Tables.{attribute_view, attribute_entries}
-use Rattle.link_msg.proofs.Shaped.{gives_other}
+use Rattle.nla_wire.proofs.Loop.{gives_found, gives_fault, gives_refused}
+use Rattle.link_msg.specs.Tables.{attribute_place, attribute_lawful}
 use Rattle.link_msg.proofs.attribute.LinkAttribute.parse_with_param.Goals as goal
 
-pub returns-in_default : goal.returns-in_default
-unfolding attribute_view attribute_entries
-returns-in_default c = gives_other c.args.family c.args.buffer.now _ (Prim.search rules) (Prim.search rules)
+pub returns-clause-found : goal.returns-clause-found
+returns-clause-found c = gives_found (attribute_place c.args.family) (attribute_lawful c.args.family).agrees c.args.buffer.now c.is_frame.ensures c.read.result c.read.ensures
+
+pub returns-clause-fault : goal.returns-clause-fault
+returns-clause-fault c = gives_fault (attribute_place c.args.family) (attribute_lawful c.args.family).agrees c.args.buffer.now c.is_frame.ensures c.read.result c.read.ensures
+
+pub returns-clause-refused : goal.returns-clause-refused
+returns-clause-refused c = gives_refused (attribute_place c.args.family) (attribute_lawful c.args.family).agrees c.args.buffer.now c.is_frame.ensures c.read.result c.read.ensures

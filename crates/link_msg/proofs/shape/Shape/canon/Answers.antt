@@ -84,8 +84,8 @@ returns-in-Infos-clause-text c =
 
 pub returns-in-Functions-clause-text : goal.returns-in-Functions-clause-text
 returns-in-Functions-clause-text c =
-    arm c.args.self Shapes.Functions c.args.number c.args.payload.now c.args.out.now c.canon_nested_picked.new.out c.canon_nested_picked.result c.in-Functions.is
-    c.canon_nested_picked.ensures
+    arm c.args.self Shapes.Functions c.args.number c.args.payload.now c.args.out.now c.canon_nested_list.new.out c.canon_nested_list.result c.in-Functions.is
+    c.canon_nested_list.ensures
 
 pub returns-in-Ports-clause-text : goal.returns-in-Ports-clause-text
 returns-in-Ports-clause-text c =

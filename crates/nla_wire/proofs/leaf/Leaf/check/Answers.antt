@@ -8,7 +8,7 @@ pub returns-in-Bytes : goal.returns-in-Bytes
 returns-in-Bytes c = leaf_checks c.args.self leaf.Bytes c.args.payload.now (Ok tt) c.in-Bytes.is refl
 
 pub returns-in-Text : goal.returns-in-Text
-returns-in-Text c = leaf_checks c.args.self leaf.Text c.args.payload.now c.check_string.result c.in-Text.is c.check_string.ensures
+returns-in-Text c = leaf_checks c.args.self leaf.Text c.args.payload.now c.check_string.result c.in-Text.is c.check_string.ensures.reads
 
 pub returns-in-U8 : goal.returns-in-U8
 returns-in-U8 c =

@@ -3,7 +3,7 @@ use Rattle.nla_wire.specs.Reading.{with_front}
 use Rattle.nla_wire.specs.Items.{frame_count}
 use Rattle.nla_wire.specs.Grammar.{picked}
 use Rattle.nla_wire.proofs.Loop.{read_picked}
-use Rattle.nla_wire.proofs.read.parse_picked_members.Given as goal
+use Rattle.nla_wire.proofs.read.picked_values.Given as goal
 
 abbrev pub invariant-loop-item : goal.invariant-loop-item
 invariant-loop-item g l = record {

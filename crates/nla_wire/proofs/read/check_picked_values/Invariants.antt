@@ -2,7 +2,7 @@ use Rattle.std.proofs.Common.{◌≡◌}
 use Rattle.nla_wire.specs.Items.{read_items}
 use Rattle.nla_wire.specs.Grammar.{picks, picked}
 use Rattle.nla_wire.proofs.Checked.{fault_of}
-use Rattle.nla_wire.proofs.read.check_picked_members.Given as goal
+use Rattle.nla_wire.proofs.read.check_picked_values.Given as goal
 
 abbrev pub invariant-loop-item : goal.invariant-loop-item
 invariant-loop-item g l =

@@ -1,0 +1,12 @@
+use Rattle.std.proofs.Common.{◌≡◌}
+use Rattle.nla_wire.specs.Items.{items}
+use Rattle.nla_wire.proofs.Checked.{few_start, parse_picked_start}
+use Rattle.nla_wire.proofs.read.picked_values.Goals as goal
+
+pub loop-item-init : goal.loop-item-init
+loop-item-init g c =
+    let left : c.into_iter-item-iterator.result ≡ items c.args.bytes.now = cc in
+    record {
+      so_far = parse_picked_start c.args.bytes.now c.into_iter-item-iterator.result left (g.P.Place.grammar c.args.place.now) c.new-values.result.items c.new-values.ensures.items;
+      few = few_start c.args.bytes.now c.into_iter-item-iterator.result left c.new-values.result.items c.new-values.ensures.items;
+    }
