@@ -1,9 +1,9 @@
 -- The attribute of a frame by its shape: what is checked and written from its payload is what the place reads.
-use Rattle.std.proofs.Common.{◌≡◌, ℕ, Bool, true, false, List, length, refl, sym, ap, ap₂, subst, ◌∙◌, Option, Some}
+use Rattle.std.proofs.Common.{◌≡◌, ℕ, Bool, true, false, List, [], ◌∷◌, ◌++◌, length, refl, sym, ap, ap₂, subst, ◌∙◌, Option, Some}
 use Rattle.std.proofs.Common.{Result, Ok, Err, IsOk}
 use Rattle.std.specs.Prelude.{if◌then◌else◌, nat_lt}
 use Rattle.nla_wire.specs.Frames.{Frame, number, IsBytes}
-use Rattle.nla_wire.specs.Gives.{Checks, Gives}
+use Rattle.nla_wire.specs.Gives.{Checks, Gives, Adds}
 use Rattle.nla_wire.specs.Canon.{canon, Closed, Canonical}
 use Rattle.nla_wire.specs.Payloads.{read_sized}
 use Rattle.nla_wire.specs.declared.error.Cause.{Cause}
@@ -64,6 +64,11 @@ unfolding attribute_place
 gives_other family f answer other h =
     subst (λ r. Gives answer r)
     (sym (other_reads base attribute_view HasPorts (number f) (length f.payload) (attribute_entries family) (λ f. Ok (Attributes.Other f)) f other)) h
+
+pub adds_other : (family : AddressFamily) (f d : Frame) (old new : List LinkAttribute) → IsOther base attribute_view HasPorts (attribute_entries family) (number f)
+    → d ≡ f → new ≡ old ++ Attributes.Other d ∷ [] → Adds (Ok tt) ((attribute_place family).reads f) old new
+adds_other family f d old new other same added =
+    (Attributes.Other f, gives_other family f (Ok (Attributes.Other f)) other refl, added ∙ ap (λ e. old ++ Attributes.Other e ∷ []) same)
 
 -- ** arms of code for one shape
 

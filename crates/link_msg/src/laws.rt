@@ -1,4 +1,5 @@
-//! Laws of messages: functions that do nothing, whose contracts are laws over the definitions alone.
+//! Laws of messages: functions that do nothing, or make a default value, whose contracts are laws over the definitions
+//! alone.
 
 ghost use Rattle.link_vals.specs.LinkEventTable.{link_event_of, link_event_number};
 ghost use Rattle.link_vals.specs.LinkExtentMaskTable.{link_extent_mask_of, link_extent_mask_number};
@@ -33,8 +34,11 @@ ghost use Rattle.std.specs.Prelude.{◌≡◌, [], ◌∷◌};
 ghost use Rattle.nla_wire.specs.Canon.{canon};
 ghost use Rattle.link_msg.specs.declared.attribute.LinkAttribute.TheVariants as Attributes;
 ghost use Rattle.link_msg.specs.Tables.{attribute_place, attribute_frame};
+ghost use Rattle.link_msg.specs.Header.{default_header};
 ghost use Rattle.link_msg.specs.LawStatements.{OneMeaning, TextMeansTheSame, OnlyWithPorts, SameTextSameMessage};
 ghost use Rattle.link_msg.specs.LawStatements.{CanonicalTwice, Joined, ForeignKept};
+
+use crate::header::LinkHeader;
 
 /// No bytes mean two messages.
 pub fn law_one_meaning()
@@ -154,3 +158,10 @@ pub fn law_headroom_in_bytes()
     ensures { canon (attribute_frame (Attributes.Headroom 32))
         ≡ 0x06 ∷ 0x00 ∷ 0x44 ∷ 0x00 ∷ 0x20 ∷ 0x00 ∷ 0x00 ∷ 0x00 ∷ [] }
 {}
+
+/// The default header is that of AF_UNSPEC, index 0 and layer type `Netrom`, with no flags.
+pub fn default_link_header() -> LinkHeader
+    ensures { result ≡ default_header }
+{
+    LinkHeader::default()
+}

@@ -21,6 +21,7 @@ pub use canonical_text::CanonError;
 pub use canonical_text::canonical;
 pub use canonical_text::canonical_into;
 pub use canonical_text::same_message;
+pub use canonical_text::same_refusal;
 pub use header::LinkHeader;
 pub use header::LinkMessageBuffer;
 pub use link_afspec::AfSpecBridge;

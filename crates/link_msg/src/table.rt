@@ -1,10 +1,11 @@
 //! The outermost table: how attributes are read under the header's family, checked, and written again without memory.
 
-ghost use Rattle.std.specs.Prelude.{◌≡◌, ◌≢◌, ◌*◌, ◌+◌, ◌≤◌, length, IsOk, IfOk, IfErr, MatchResult};
+ghost use Rattle.std.specs.Prelude.{◌≡◌, ◌≢◌, ◌*◌, ◌+◌, ◌<◌, ◌≤◌, length, vec_len, vec_capacity};
+ghost use Rattle.std.specs.Prelude.{IsOk, IfOk, IfErr, MatchResult};
 ghost use Rattle.nla_wire.specs.Sizes.{growth_per_byte};
 ghost use Rattle.nla_wire.specs.Grammar.{list};
 ghost use Rattle.nla_wire.specs.Canon.{canon, canons, AllFit, Appended, Canonical};
-ghost use Rattle.nla_wire.specs.Gives.{Fails, Gives, Checks};
+ghost use Rattle.nla_wire.specs.Gives.{Fails, Gives, Adds, Checks};
 ghost use Rattle.nla_wire.specs.declared.error.Cause.TheVariants.{OutOfMemory};
 
 use crate::attribute::LinkAttribute;
@@ -109,6 +110,7 @@ use nla_wire::canon_members;
 use nla_wire::check_members;
 use nla_wire::parse_i32;
 use nla_wire::parse_members;
+use nla_wire::parse_one;
 use nla_wire::parse_string;
 use nla_wire::parse_u8;
 use nla_wire::parse_u16;
@@ -135,104 +137,306 @@ impl LinkAttribute {
         ensures reads { Gives result ((attribute_place family).reads buffer.now) }
     {
         buffer.is_frame();
-        LinkAttribute::read(alloc, buffer, family)
+        parse_one(&AttributePlace { family }, alloc, buffer)
     }
 
-    /// The value of a frame, by its number.
+    /// Reads a frame into the room behind the last value: its number selects the variant.
     #[tactic(auto, unfolding(crate::specs::Tables::attribute_view, crate::specs::Tables::attribute_entries, crate::specs::Tables::attribute_place))]
-    fn read(
+    fn read_into(
         alloc: Global,
         buffer: &NlaBuffer<'_>,
         family: AddressFamily,
-    ) -> Result<LinkAttribute, DecodeError>
-        ensures { Gives result ((attribute_place family).reads buffer.now) }
+        values: &mut Vec<LinkAttribute>,
+    ) -> Result<(), DecodeError>
+        requires { vec_len values.old < vec_capacity values.old }
+        ensures { Adds result ((attribute_place family).reads buffer.now) values.old.items values.new.items }
     {
         let payload = buffer.value();
         match buffer.kind() {
-            IFLA_ADDRESS => Bytes::from_slice(alloc, payload).map(LinkAttribute::Address),
-            IFLA_BROADCAST => Bytes::from_slice(alloc, payload).map(LinkAttribute::Broadcast),
-            IFLA_IFNAME => parse_string(alloc, payload).map(LinkAttribute::IfName),
-            IFLA_MTU => parse_u32(payload).map(LinkAttribute::Mtu),
-            IFLA_LINK => parse_u32(payload).map(LinkAttribute::Link),
-            IFLA_QDISC => parse_string(alloc, payload).map(LinkAttribute::Qdisc),
-            IFLA_STATS => Ok(LinkAttribute::Stats(Stats::read_padded(payload))),
-            IFLA_MASTER => parse_u32(payload).map(LinkAttribute::Controller),
-            IFLA_WIRELESS => WirelessEvent::parse(alloc, payload).map(LinkAttribute::Wireless),
-            IFLA_TXQLEN => parse_u32(payload).map(LinkAttribute::TxQueueLen),
-            IFLA_MAP => Map::parse(payload).map(LinkAttribute::Map),
-            IFLA_OPERSTATE => parse_u8(payload).map(|n| LinkAttribute::OperState(State::from(n))),
-            IFLA_LINKMODE => parse_u8(payload).map(|n| LinkAttribute::Mode(LinkMode::from(n))),
-            IFLA_LINKINFO => parse_some(alloc, payload).map(LinkAttribute::LinkInfo),
-            IFLA_NET_NS_PID => parse_u32(payload).map(LinkAttribute::NetNsPid),
-            IFLA_IFALIAS => parse_string(alloc, payload).map(LinkAttribute::IfAlias),
-            IFLA_NUM_VF => parse_u32(payload).map(LinkAttribute::NumVf),
-            IFLA_VFINFO_LIST => LinkVfInfo::parse_list(alloc, payload).map(
-                |v| LinkAttribute::VfInfoList(List::new(v)),
-            ),
-            IFLA_STATS64 => Ok(LinkAttribute::Stats64(Stats64::read_padded(payload))),
-            IFLA_VF_PORTS => parse_ports(alloc, payload).map(LinkAttribute::VfPorts),
-            IFLA_PORT_SELF => LinkVfPort::parse(alloc, payload).map(LinkAttribute::PortSelf),
-            IFLA_GROUP => parse_u32(payload).map(LinkAttribute::Group),
-            IFLA_NET_NS_FD => parse_i32(payload).map(LinkAttribute::NetNsFd),
-            IFLA_EXT_MASK => parse_mask(alloc, payload).map(LinkAttribute::ExtMask),
-            IFLA_PROMISCUITY => parse_u32(payload).map(LinkAttribute::Promiscuity),
-            IFLA_NUM_TX_QUEUES => parse_u32(payload).map(LinkAttribute::NumTxQueues),
-            IFLA_NUM_RX_QUEUES => parse_u32(payload).map(LinkAttribute::NumRxQueues),
-            IFLA_CARRIER => parse_u8(payload).map(LinkAttribute::Carrier),
-            IFLA_PHYS_PORT_ID => LinkPhysId::parse(payload).map(LinkAttribute::PhysPortId),
-            IFLA_CARRIER_CHANGES => parse_u32(payload).map(LinkAttribute::CarrierChanges),
-            IFLA_PHYS_SWITCH_ID => LinkPhysId::parse(payload).map(LinkAttribute::PhysSwitchId),
-            IFLA_LINK_NETNSID => parse_i32(payload).map(LinkAttribute::LinkNetNsId),
-            IFLA_PHYS_PORT_NAME => parse_string(alloc, payload).map(LinkAttribute::PhysPortName),
-            IFLA_PROTO_DOWN => parse_u8(payload).map(LinkAttribute::ProtoDown),
-            IFLA_GSO_MAX_SEGS => parse_u32(payload).map(LinkAttribute::GsoMaxSegs),
-            IFLA_GSO_MAX_SIZE => parse_u32(payload).map(LinkAttribute::GsoMaxSize),
-            IFLA_XDP => parse_some(alloc, payload).map(LinkAttribute::Xdp),
-            IFLA_EVENT => LinkEvent::parse(payload).map(LinkAttribute::Event),
-            IFLA_NEW_NETNSID => parse_i32(payload).map(LinkAttribute::NewNetnsId),
-            IFLA_IF_NETNSID => parse_i32(payload).map(LinkAttribute::IfNetnsId),
-            IFLA_CARRIER_UP_COUNT => parse_u32(payload).map(LinkAttribute::CarrierUpCount),
-            IFLA_CARRIER_DOWN_COUNT => parse_u32(payload).map(LinkAttribute::CarrierDownCount),
-            IFLA_NEW_IFINDEX => parse_i32(payload).map(LinkAttribute::NewIfIndex),
-            IFLA_MIN_MTU => parse_u32(payload).map(LinkAttribute::MinMtu),
-            IFLA_MAX_MTU => parse_u32(payload).map(LinkAttribute::MaxMtu),
-            IFLA_PROP_LIST => Prop::parse_list(alloc, payload).map(|v| LinkAttribute::PropList(
-                List::new(v),
-            )),
-            IFLA_PERM_ADDRESS => Bytes::from_slice(alloc, payload).map(LinkAttribute::PermAddress),
-            IFLA_PROTO_DOWN_REASON => LinkProtocolDownReason::parse_list(alloc, payload).map(
-                |v| LinkAttribute::ProtoDownReason(List::new(v)),
-            ),
-            IFLA_PARENT_DEV_NAME => parse_string(alloc, payload).map(LinkAttribute::ParentDevName),
-            IFLA_PARENT_DEV_BUS_NAME => parse_string(alloc, payload).map(
-                LinkAttribute::ParentDevBusName,
-            ),
-            IFLA_GRO_MAX_SIZE => parse_u32(payload).map(LinkAttribute::GroMaxSize),
-            IFLA_TSO_MAX_SIZE => parse_u32(payload).map(LinkAttribute::TsoMaxSize),
-            IFLA_TSO_MAX_SEGS => parse_u32(payload).map(LinkAttribute::TsoMaxSegs),
-            IFLA_ALLMULTI => parse_u32(payload).map(LinkAttribute::AllMulticast),
-            IFLA_DEVLINK_PORT => DevlinkPort::parse_list(alloc, payload).map(
-                |v| LinkAttribute::DevlinkPort(List::new(v)),
-            ),
-            IFLA_GSO_IPV4_MAX_SIZE => parse_u32(payload).map(LinkAttribute::GsoIpv4MaxSize),
-            IFLA_GRO_IPV4_MAX_SIZE => parse_u32(payload).map(LinkAttribute::GroIpv4MaxSize),
-            IFLA_DPLL_PIN => DpllPin::parse_list(alloc, payload).map(|v| LinkAttribute::DpllPin(
-                List::new(v),
-            )),
-            IFLA_NETNS_IMMUTABLE => parse_u8(payload).map(|n| LinkAttribute::NetnsImmutable(
-                n != 0,
-            )),
+            IFLA_MTU => {
+                values.push_reserved(LinkAttribute::Mtu(parse_u32(payload)?));
+                Ok(())
+            }
+            IFLA_LINK => {
+                values.push_reserved(LinkAttribute::Link(parse_u32(payload)?));
+                Ok(())
+            }
+            IFLA_STATS => {
+                values.push_reserved(LinkAttribute::Stats(Stats::read_padded(payload)));
+                Ok(())
+            }
+            IFLA_MASTER => {
+                values.push_reserved(LinkAttribute::Controller(parse_u32(payload)?));
+                Ok(())
+            }
+            IFLA_TXQLEN => {
+                values.push_reserved(LinkAttribute::TxQueueLen(parse_u32(payload)?));
+                Ok(())
+            }
+            IFLA_MAP => {
+                values.push_reserved(LinkAttribute::Map(Map::parse(payload)?));
+                Ok(())
+            }
+            IFLA_OPERSTATE => {
+                values.push_reserved(LinkAttribute::OperState(State::from(parse_u8(payload)?)));
+                Ok(())
+            }
+            IFLA_LINKMODE => {
+                values.push_reserved(LinkAttribute::Mode(LinkMode::from(parse_u8(payload)?)));
+                Ok(())
+            }
+            IFLA_NET_NS_PID => {
+                values.push_reserved(LinkAttribute::NetNsPid(parse_u32(payload)?));
+                Ok(())
+            }
+            IFLA_NUM_VF => {
+                values.push_reserved(LinkAttribute::NumVf(parse_u32(payload)?));
+                Ok(())
+            }
+            IFLA_STATS64 => {
+                values.push_reserved(LinkAttribute::Stats64(Stats64::read_padded(payload)));
+                Ok(())
+            }
+            IFLA_GROUP => {
+                values.push_reserved(LinkAttribute::Group(parse_u32(payload)?));
+                Ok(())
+            }
+            IFLA_NET_NS_FD => {
+                values.push_reserved(LinkAttribute::NetNsFd(parse_i32(payload)?));
+                Ok(())
+            }
+            IFLA_PROMISCUITY => {
+                values.push_reserved(LinkAttribute::Promiscuity(parse_u32(payload)?));
+                Ok(())
+            }
+            IFLA_NUM_TX_QUEUES => {
+                values.push_reserved(LinkAttribute::NumTxQueues(parse_u32(payload)?));
+                Ok(())
+            }
+            IFLA_NUM_RX_QUEUES => {
+                values.push_reserved(LinkAttribute::NumRxQueues(parse_u32(payload)?));
+                Ok(())
+            }
+            IFLA_CARRIER => {
+                values.push_reserved(LinkAttribute::Carrier(parse_u8(payload)?));
+                Ok(())
+            }
+            IFLA_PHYS_PORT_ID => {
+                values.push_reserved(LinkAttribute::PhysPortId(LinkPhysId::parse(payload)?));
+                Ok(())
+            }
+            IFLA_CARRIER_CHANGES => {
+                values.push_reserved(LinkAttribute::CarrierChanges(parse_u32(payload)?));
+                Ok(())
+            }
+            IFLA_PHYS_SWITCH_ID => {
+                values.push_reserved(LinkAttribute::PhysSwitchId(LinkPhysId::parse(payload)?));
+                Ok(())
+            }
+            IFLA_LINK_NETNSID => {
+                values.push_reserved(LinkAttribute::LinkNetNsId(parse_i32(payload)?));
+                Ok(())
+            }
+            IFLA_PROTO_DOWN => {
+                values.push_reserved(LinkAttribute::ProtoDown(parse_u8(payload)?));
+                Ok(())
+            }
+            IFLA_GSO_MAX_SEGS => {
+                values.push_reserved(LinkAttribute::GsoMaxSegs(parse_u32(payload)?));
+                Ok(())
+            }
+            IFLA_GSO_MAX_SIZE => {
+                values.push_reserved(LinkAttribute::GsoMaxSize(parse_u32(payload)?));
+                Ok(())
+            }
+            IFLA_EVENT => {
+                values.push_reserved(LinkAttribute::Event(LinkEvent::parse(payload)?));
+                Ok(())
+            }
+            IFLA_NEW_NETNSID => {
+                values.push_reserved(LinkAttribute::NewNetnsId(parse_i32(payload)?));
+                Ok(())
+            }
+            IFLA_IF_NETNSID => {
+                values.push_reserved(LinkAttribute::IfNetnsId(parse_i32(payload)?));
+                Ok(())
+            }
+            IFLA_CARRIER_UP_COUNT => {
+                values.push_reserved(LinkAttribute::CarrierUpCount(parse_u32(payload)?));
+                Ok(())
+            }
+            IFLA_CARRIER_DOWN_COUNT => {
+                values.push_reserved(LinkAttribute::CarrierDownCount(parse_u32(payload)?));
+                Ok(())
+            }
+            IFLA_NEW_IFINDEX => {
+                values.push_reserved(LinkAttribute::NewIfIndex(parse_i32(payload)?));
+                Ok(())
+            }
+            IFLA_MIN_MTU => {
+                values.push_reserved(LinkAttribute::MinMtu(parse_u32(payload)?));
+                Ok(())
+            }
+            IFLA_MAX_MTU => {
+                values.push_reserved(LinkAttribute::MaxMtu(parse_u32(payload)?));
+                Ok(())
+            }
+            IFLA_GRO_MAX_SIZE => {
+                values.push_reserved(LinkAttribute::GroMaxSize(parse_u32(payload)?));
+                Ok(())
+            }
+            IFLA_TSO_MAX_SIZE => {
+                values.push_reserved(LinkAttribute::TsoMaxSize(parse_u32(payload)?));
+                Ok(())
+            }
+            IFLA_TSO_MAX_SEGS => {
+                values.push_reserved(LinkAttribute::TsoMaxSegs(parse_u32(payload)?));
+                Ok(())
+            }
+            IFLA_ALLMULTI => {
+                values.push_reserved(LinkAttribute::AllMulticast(parse_u32(payload)?));
+                Ok(())
+            }
+            IFLA_GSO_IPV4_MAX_SIZE => {
+                values.push_reserved(LinkAttribute::GsoIpv4MaxSize(parse_u32(payload)?));
+                Ok(())
+            }
+            IFLA_GRO_IPV4_MAX_SIZE => {
+                values.push_reserved(LinkAttribute::GroIpv4MaxSize(parse_u32(payload)?));
+                Ok(())
+            }
+            IFLA_NETNS_IMMUTABLE => {
+                values.push_reserved(LinkAttribute::NetnsImmutable(parse_u8(payload)? != 0));
+                Ok(())
+            }
+            IFLA_ADDRESS => {
+                values.push_reserved(LinkAttribute::Address(Bytes::from_slice(alloc, payload)?));
+                Ok(())
+            }
+            IFLA_BROADCAST => {
+                values.push_reserved(LinkAttribute::Broadcast(Bytes::from_slice(alloc, payload)?));
+                Ok(())
+            }
+            IFLA_IFNAME => {
+                values.push_reserved(LinkAttribute::IfName(parse_string(alloc, payload)?));
+                Ok(())
+            }
+            IFLA_QDISC => {
+                values.push_reserved(LinkAttribute::Qdisc(parse_string(alloc, payload)?));
+                Ok(())
+            }
+            IFLA_WIRELESS => {
+                values.push_reserved(LinkAttribute::Wireless(WirelessEvent::parse(
+                    alloc, payload,
+                )?));
+                Ok(())
+            }
+            IFLA_LINKINFO => {
+                values.push_reserved(LinkAttribute::LinkInfo(parse_some(alloc, payload)?));
+                Ok(())
+            }
+            IFLA_IFALIAS => {
+                values.push_reserved(LinkAttribute::IfAlias(parse_string(alloc, payload)?));
+                Ok(())
+            }
+            IFLA_VFINFO_LIST => {
+                values.push_reserved(LinkAttribute::VfInfoList(List::new(LinkVfInfo::parse_list(
+                    alloc, payload,
+                )?)));
+                Ok(())
+            }
+            IFLA_VF_PORTS => {
+                values.push_reserved(LinkAttribute::VfPorts(parse_ports(alloc, payload)?));
+                Ok(())
+            }
+            IFLA_PORT_SELF => {
+                values.push_reserved(LinkAttribute::PortSelf(LinkVfPort::parse(alloc, payload)?));
+                Ok(())
+            }
+            IFLA_EXT_MASK => {
+                values.push_reserved(LinkAttribute::ExtMask(parse_mask(alloc, payload)?));
+                Ok(())
+            }
+            IFLA_PHYS_PORT_NAME => {
+                values.push_reserved(LinkAttribute::PhysPortName(parse_string(alloc, payload)?));
+                Ok(())
+            }
+            IFLA_XDP => {
+                values.push_reserved(LinkAttribute::Xdp(parse_some(alloc, payload)?));
+                Ok(())
+            }
+            IFLA_PROP_LIST => {
+                values.push_reserved(LinkAttribute::PropList(List::new(Prop::parse_list(
+                    alloc, payload,
+                )?)));
+                Ok(())
+            }
+            IFLA_PERM_ADDRESS => {
+                values.push_reserved(LinkAttribute::PermAddress(Bytes::from_slice(
+                    alloc, payload,
+                )?));
+                Ok(())
+            }
+            IFLA_PROTO_DOWN_REASON => {
+                values.push_reserved(LinkAttribute::ProtoDownReason(List::new(
+                    LinkProtocolDownReason::parse_list(alloc, payload)?,
+                )));
+                Ok(())
+            }
+            IFLA_PARENT_DEV_NAME => {
+                values.push_reserved(LinkAttribute::ParentDevName(parse_string(alloc, payload)?));
+                Ok(())
+            }
+            IFLA_PARENT_DEV_BUS_NAME => {
+                values.push_reserved(LinkAttribute::ParentDevBusName(parse_string(
+                    alloc, payload,
+                )?));
+                Ok(())
+            }
+            IFLA_DEVLINK_PORT => {
+                values.push_reserved(LinkAttribute::DevlinkPort(List::new(DevlinkPort::parse_list(
+                    alloc, payload,
+                )?)));
+                Ok(())
+            }
+            IFLA_DPLL_PIN => {
+                values.push_reserved(LinkAttribute::DpllPin(List::new(DpllPin::parse_list(
+                    alloc, payload,
+                )?)));
+                Ok(())
+            }
             IFLA_HEADROOM => match payload.len() {
-                2 => parse_u16(payload).map(LinkAttribute::Headroom),
-                _ => DefaultNla::parse(alloc, buffer).map(LinkAttribute::Other),
+                2 => {
+                    values.push_reserved(LinkAttribute::Headroom(parse_u16(payload)?));
+                    Ok(())
+                }
+                _ => {
+                    values.push_reserved(LinkAttribute::Other(DefaultNla::parse(alloc, buffer)?));
+                    Ok(())
+                }
             },
             IFLA_TAILROOM => match payload.len() {
-                2 => parse_u16(payload).map(LinkAttribute::Tailroom),
-                _ => DefaultNla::parse(alloc, buffer).map(LinkAttribute::Other),
+                2 => {
+                    values.push_reserved(LinkAttribute::Tailroom(parse_u16(payload)?));
+                    Ok(())
+                }
+                _ => {
+                    values.push_reserved(LinkAttribute::Other(DefaultNla::parse(alloc, buffer)?));
+                    Ok(())
+                }
             },
-            IFLA_PROTINFO => parse_proto_info(alloc, buffer, family),
-            IFLA_AF_SPEC => parse_af_spec(alloc, buffer, family),
-            _ => DefaultNla::parse(alloc, buffer).map(LinkAttribute::Other),
+            IFLA_PROTINFO => {
+                values.push_reserved(parse_proto_info(alloc, buffer, family)?);
+                Ok(())
+            }
+            IFLA_AF_SPEC => {
+                values.push_reserved(parse_af_spec(alloc, buffer, family)?);
+                Ok(())
+            }
+            _ => {
+                values.push_reserved(LinkAttribute::Other(DefaultNla::parse(alloc, buffer)?));
+                Ok(())
+            }
         }
     }
 
@@ -379,8 +583,14 @@ impl Place<LinkAttribute> for AttributePlace {
 
     ghost grammar = { λ place. attribute_place place.family };
 
-    fn parse(&self, alloc: Global, buffer: &NlaBuffer<'_>) -> Result<LinkAttribute, DecodeError> {
-        LinkAttribute::read(alloc, buffer, self.family)
+    #[inline(always)]
+    fn parse_into(
+        &self,
+        alloc: Global,
+        buffer: &NlaBuffer<'_>,
+        values: &mut Vec<LinkAttribute>,
+    ) -> Result<(), DecodeError> {
+        LinkAttribute::read_into(alloc, buffer, self.family, values)
     }
 
     fn check(&self, buffer: &NlaBuffer<'_>) -> Result<(), DecodeError> {

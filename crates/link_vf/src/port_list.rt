@@ -180,8 +180,15 @@ impl Place<LinkVfPort> for EntryPlace {
     ghost grammar = { λ place. link_vf_port_place.grammar };
 
     #[tactic(auto, unfolding(crate::specs::Tables::link_vf_port_place))]
-    fn parse(&self, alloc: Global, buffer: &NlaBuffer<'_>) -> Result<LinkVfPort, DecodeError> {
-        LinkVfPort::parse(alloc, buffer.value())
+    fn parse_into(
+        &self,
+        alloc: Global,
+        buffer: &NlaBuffer<'_>,
+        values: &mut Vec<LinkVfPort>,
+    ) -> Result<(), DecodeError> {
+        let value = LinkVfPort::parse(alloc, buffer.value())?;
+        values.push_reserved(value);
+        Ok(())
     }
 
     #[tactic(auto, unfolding(crate::specs::Tables::link_vf_port_place))]

@@ -180,8 +180,15 @@ impl Place<LinkVfInfo> for EntryPlace {
     ghost grammar = { λ place. link_vf_info_place.grammar };
 
     #[tactic(auto, unfolding(crate::specs::Tables::link_vf_info_place))]
-    fn parse(&self, alloc: Global, buffer: &NlaBuffer<'_>) -> Result<LinkVfInfo, DecodeError> {
-        LinkVfInfo::parse(alloc, buffer.value())
+    fn parse_into(
+        &self,
+        alloc: Global,
+        buffer: &NlaBuffer<'_>,
+        values: &mut Vec<LinkVfInfo>,
+    ) -> Result<(), DecodeError> {
+        let value = LinkVfInfo::parse(alloc, buffer.value())?;
+        values.push_reserved(value);
+        Ok(())
     }
 
     #[tactic(auto, unfolding(crate::specs::Tables::link_vf_info_place))]

@@ -1,5 +1,5 @@
 -- How the answer of a call agrees with what a reader answers.
-use Rattle.std.specs.Prelude.{◌≡◌, ◌⊎◌, Result, Ok, Err, IsOk}
+use Rattle.std.specs.Prelude.{◌≡◌, ◌⊎◌, List, [], ◌∷◌, ◌++◌, Result, Ok, Err, IsOk}
 use Rattle.nla_wire.specs.declared.error.Cause.{Cause}
 use Rattle.nla_wire.specs.declared.error.Cause.TheVariants.{OutOfMemory}
 use Rattle.nla_wire.specs.declared.error.DecodeError.{DecodeError}
@@ -22,3 +22,8 @@ Checks (Err e) read = read ≡ Err e.cause
 abbrev pub without_place : {A : Type 0} → Result A DecodeError → Result A Cause
 without_place (Ok x) = Ok x
 without_place (Err e) = Err e.cause
+
+-- the value that is read was added at the end; or the cause is what the reading gives, or memory ran out
+abbrev pub Adds : {A : Type 0} → Result Unit DecodeError → Result A Cause → List A → List A → Type 0
+Adds {A} (Ok x) read old new = (v : A) × (read ≡ Ok v) × (new ≡ old ++ v ∷ [])
+Adds (Err e) read old new = Fails e.cause read

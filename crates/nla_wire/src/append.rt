@@ -8,7 +8,7 @@ ghost use Rattle.nla_wire.specs.Gives.{Fails};
 use crate::error::DecodeError;
 use crate::iterator::NlasIterator;
 use crate::nla::Nla;
-use crate::read::Place;
+use crate::read::{Place, parse_one};
 use std::alloc::{AllocError, Global};
 
 /// Adds the text of an attribute that fits.
@@ -53,7 +53,7 @@ pub fn append_members<V: Nla + Drop, P: Place<V>>(
     let mut fits = true;
     for item in NlasIterator::new(bytes) {
         let frame = item?;
-        let value = place.parse(alloc, &frame)?;
+        let value = parse_one(place, alloc, &frame)?;
         fits = append_next(fits, &value, text)?;
     }
     Ok(fits)

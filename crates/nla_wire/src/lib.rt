@@ -40,7 +40,8 @@ pub use number::{
 };
 pub use read::{
     NlaRead, OwnPlace, Place, canon_members, canon_nested_members, canon_nested_picked_members,
-    canon_picked_members, check_members, check_picked_members, parse_members, parse_picked_members,
+    canon_picked_members, check_members, check_picked_members, parse_members, parse_one,
+    parse_picked_members,
 };
 pub use record::{PlainRecord, Record, RecordBuffer};
 pub use text::{check_string, parse_string};

@@ -1,16 +1,17 @@
 //! What is read from attributes: places, lists of members, and types of values that have one place.
 
-ghost use Rattle.std.specs.Prelude.{◌≡◌, ◌≢◌, ◌+◌, ◌*◌, ◌/◌, ◌≤◌, List, length, IsOk, IfOk, IfErr, MatchResult};
+ghost use Rattle.std.specs.Prelude.{◌≡◌, ◌≢◌, ◌+◌, ◌*◌, ◌/◌, ◌<◌, ◌≤◌, List, length, vec_len, vec_capacity};
+ghost use Rattle.std.specs.Prelude.{IsOk, IfOk, IfErr, MatchResult};
 ghost use Rattle.nla_wire.specs.Sizes.{most_payload, growth, growth_per_byte};
 ghost use Rattle.nla_wire.specs.Frames.{Frame, IsFrame};
 ghost use Rattle.nla_wire.specs.Grammar.{Grammar, Agrees, list, picked};
 ghost use Rattle.nla_wire.specs.Canon.{canon, canons, AllFit, Canonical};
-ghost use Rattle.nla_wire.specs.Gives.{Fails, Gives, Checks};
+ghost use Rattle.nla_wire.specs.Gives.{Fails, Gives, Adds, Checks};
 ghost use Rattle.nla_wire.specs.declared.error.Cause.TheVariants.{OutOfMemory};
 
 use crate::buffer::{NLA_HEADER_SIZE, NlaBuffer};
 use crate::canon::close;
-use crate::error::DecodeError;
+use crate::error::{DecodeError, empty_list};
 use crate::iterator::NlasIterator;
 use crate::nla::Nla;
 use std::alloc::Global;
@@ -25,11 +26,17 @@ const PICKED_KIND: u16 = 1;
 pub trait Place<V: Nla + Drop> {
     ghost grammar: { Self → Grammar Frame V };
 
-    /// Reads the value of an attribute.
+    /// Reads the value of an attribute into the room behind the last value of a list.
     ///
     /// Refuses with the cause of the first fault, or with `OutOfMemory`.
-    fn parse(&self, alloc: Global, buffer: &NlaBuffer<'_>) -> Result<V, DecodeError>
-        ensures { Gives result ((grammar self.now).reads buffer.now) };
+    fn parse_into(
+        &self,
+        alloc: Global,
+        buffer: &NlaBuffer<'_>,
+        values: &mut Vec<V>,
+    ) -> Result<(), DecodeError>
+        requires { vec_len values.old < vec_capacity values.old }
+        ensures { Adds result ((grammar self.now).reads buffer.now) values.old.items values.new.items };
 
     /// Whether an attribute has a value, with no memory taken: `Ok` where it has, else the cause of the first fault.
     fn check(&self, buffer: &NlaBuffer<'_>) -> Result<(), DecodeError>
@@ -52,6 +59,38 @@ pub trait Place<V: Nla + Drop> {
     ghost bounded: { (place : Self) (f : Frame) (v : V) → (grammar place).means f v → length (canon (V.frame v)) ≤ growth * (1 + length f.payload / 4) };
 }
 
+/// How many frames the bytes begin with: at most one for each four bytes.
+fn count_frames(bytes: &[u8]) -> usize
+    ensures { 4 * result ≤ length bytes.now }
+{
+    let mut count = 0;
+    for item in NlasIterator::new(bytes) {
+        if item.is_err() {
+            return count;
+        }
+        count += 1;
+    }
+    count
+}
+
+/// Reads the value of one attribute.
+///
+/// Refuses as the place does.
+pub fn parse_one<V: Nla + Drop, P: Place<V>>(
+    place: &P,
+    alloc: Global,
+    buffer: &NlaBuffer<'_>,
+) -> Result<V, DecodeError>
+    ensures { Gives result ((P.grammar place.now).reads buffer.now) }
+{
+    let mut values = Vec::with_capacity(alloc, 1)?;
+    place.parse_into(alloc, buffer, &mut values)?;
+    let Some(value) = values.pop() else {
+        return Err(empty_list());
+    };
+    Ok(value)
+}
+
 /// Reads a list of members of this place.
 ///
 /// Refuses with the cause of the fault that is met first, front to back, each member's value before the next frame; or
@@ -64,11 +103,11 @@ pub fn parse_members<V: Nla + Drop, P: Place<V>>(
     ensures reads { MatchResult result (λ v. (list (P.grammar place.now)).reads bytes.now ≡ Ok v.items) (λ e. Fails e.cause ((list (P.grammar place.now)).reads bytes.now)) }
     ensures few { IfOk result (λ v. 4 * length v.items ≤ length bytes.now) }
 {
-    let mut values = Vec::new(alloc);
+    let mut values = Vec::with_capacity(alloc, count_frames(bytes))?;
     for item in NlasIterator::new(bytes) {
         let frame = item?;
-        let value = place.parse(alloc, &frame)?;
-        values.push(value)?;
+        values.reserve(1)?;
+        place.parse_into(alloc, &frame, &mut values)?;
     }
     Ok(values)
 }
@@ -135,12 +174,12 @@ fn picked_values<V: Nla + Drop, P: Place<V>>(
     ensures reads { MatchResult result (λ v. (picked (P.grammar place.now)).reads bytes.now ≡ Ok v.items) (λ e. Fails e.cause ((picked (P.grammar place.now)).reads bytes.now)) }
     ensures few { IfOk result (λ v. 4 * length v.items ≤ length bytes.now) }
 {
-    let mut values = Vec::new(alloc);
+    let mut values = Vec::with_capacity(alloc, count_frames(bytes))?;
     for item in NlasIterator::new(bytes) {
         let frame = item?;
         if frame.kind() == PICKED_KIND {
-            let value = place.parse(alloc, &frame)?;
-            values.push(value)?;
+            values.reserve(1)?;
+            place.parse_into(alloc, &frame, &mut values)?;
         }
     }
     Ok(values)
@@ -362,8 +401,16 @@ pub struct OwnPlace;
 impl<V: NlaRead> Place<V> for OwnPlace {
     ghost grammar = { λ place. V.NlaRead.grammar };
 
-    fn parse(&self, alloc: Global, buffer: &NlaBuffer<'_>) -> Result<V, DecodeError> {
-        <V as NlaRead>::parse_frame(alloc, buffer)
+    #[inline(always)]
+    fn parse_into(
+        &self,
+        alloc: Global,
+        buffer: &NlaBuffer<'_>,
+        values: &mut Vec<V>,
+    ) -> Result<(), DecodeError> {
+        let value = <V as NlaRead>::parse_frame(alloc, buffer)?;
+        values.push_reserved(value);
+        Ok(())
     }
 
     fn check(&self, buffer: &NlaBuffer<'_>) -> Result<(), DecodeError> {
