@@ -2,12 +2,11 @@
 use Rattle.std.specs.Prelude.{◌≡◌, ◌≢◌, ℕ, ℤ, pos, negsuc, suc, ◌*◌, ◌<◌, ◌≤◌, Bool, List, length, Result, Ok, Err, if◌then◌else◌}
 use Rattle.nla_wire.specs.Sizes.{growth_per_byte}
 use Rattle.nla_wire.specs.Canon.{Writes}
-use Rattle.nla_wire.specs.Causes.{cause_number}
 use Rattle.nla_wire.specs.declared.error.Cause.{Cause}
 use Rattle.nla_wire.specs.declared.error.Cause.TheVariants.{OutOfMemory}
 use Rattle.link_msg.specs.Messages.{Means, Refused, IsRefused}
 use Rattle.link_msg.specs.Canonical.{HasText, IsRefusal, IsRefusalOfTwo, AreSame, IsWritten}
-use Rattle.link_msg.specs.CanonErrors.{canon_error_number}
+use Rattle.link_msg.specs.CanonErrors.{canon_error_number, SameRefusal}
 use Rattle.link_msg.specs.declared.message.LinkMessage.{LinkMessage}
 use Rattle.link_msg.specs.declared.canonical_text.CanonError.{CanonError}
 use Rattle.link_c.specs.declared.text.TextError.{TextError}
@@ -17,6 +16,11 @@ use Rattle.link_c.specs.declared.text.TextError.TheVariants.{NoText, OutTooShort
 abbrev pub text_error_number : TextError → ℕ
 text_error_number (NoText e) = canon_error_number e
 text_error_number OutTooShort = 5
+
+-- two errors are one: one refusal, or both times a buffer that is too short
+abbrev pub SameError : TextError → TextError → Type 0
+SameError (NoText e) (NoText f) = SameRefusal e f
+SameError a b = text_error_number a ≡ text_error_number b
 
 -- a call of C's answered: what it says holds at the number that was found, or at a refusal whose number it answers
 -- negated

@@ -1,9 +1,9 @@
 //! Answers as numbers: a length or a truth value, or minus the number of a refusal.
 
-ghost use Rattle.std.specs.Prelude.{◌≡◌, ◌^◌, ◌<◌, pos, neg_ℤ, IfOk, MatchResult};
+ghost use Rattle.std.specs.Prelude.{◌≡◌, ◌^◌, ◌<◌, ◌↔◌, pos, neg_ℤ, IsTrue, IfOk, MatchResult};
 ghost use Rattle.nla_wire.specs.Causes.{cause_number};
 ghost use Rattle.link_msg.specs.CanonErrors.{canon_error_number};
-ghost use Rattle.link_c.specs.Answers.{Says, IsLook, IsText, IsTextInto, IsAlike, text_error_number};
+ghost use Rattle.link_c.specs.Answers.{Says, IsLook, IsText, IsTextInto, IsAlike, SameError, text_error_number};
 
 use link_msg::{CanonError, LinkMessage, canonical, canonical_into, same_message};
 use std::alloc::Global;
@@ -33,6 +33,13 @@ impl TextError {
             TextError::OutTooShort => 5,
         }
     }
+}
+
+/// Whether two errors are equal.
+pub fn same_error(one: &TextError, other: &TextError) -> bool
+    ensures { IsTrue result ↔ SameError one.now other.now }
+{
+    one == other
 }
 
 impl From<CanonError> for TextError {

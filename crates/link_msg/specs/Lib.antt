@@ -2,6 +2,7 @@ pub mod Header
 pub mod HeaderBuffer
 pub mod HeaderExact
 pub mod Tables
+pub mod Plain
 pub mod Content
 pub mod Messages
 pub mod MessageExact

@@ -118,7 +118,8 @@ use nla_wire::parse_u32;
 use std::alloc::Global;
 
 impl LinkAttribute {
-    ghost use Rattle.nla_wire.specs.Frames.{IsFrame};
+    ghost use Rattle.nla_wire.specs.Frames.{IsFrame, number};
+    ghost use Rattle.link_msg.specs.Plain.{NotPlain};
     ghost use Rattle.link_msg.specs.Tables.{attribute_place, attribute_frame, AttributeFits, Values};
     ghost use Rattle.link_msg.specs.Canonical.{PortTold, PortsTold};
 
@@ -140,7 +141,9 @@ impl LinkAttribute {
         parse_one(&AttributePlace { family }, alloc, buffer)
     }
 
-    /// Reads a frame into the room behind the last value: its number selects the variant.
+    /// Reads a frame into the room behind the last value: its number selects the variant. Numbers, ids and records are
+    /// read here, with no room on the stack for a value.
+    #[inline(always)]
     #[tactic(auto, unfolding(crate::specs::Tables::attribute_view, crate::specs::Tables::attribute_entries, crate::specs::Tables::attribute_place))]
     fn read_into(
         alloc: Global,
@@ -309,6 +312,25 @@ impl LinkAttribute {
                 values.push_reserved(LinkAttribute::NetnsImmutable(parse_u8(payload)? != 0));
                 Ok(())
             }
+            _ => LinkAttribute::read_other_into(alloc, buffer, family, values),
+        }
+    }
+
+    /// Reads a frame whose number `read_into` does not read by itself.
+    #[inline(never)]
+    #[tactic(auto, unfolding(crate::specs::Tables::attribute_view, crate::specs::Tables::attribute_entries, crate::specs::Tables::attribute_place))]
+    fn read_other_into(
+        alloc: Global,
+        buffer: &NlaBuffer<'_>,
+        family: AddressFamily,
+        values: &mut Vec<LinkAttribute>,
+    ) -> Result<(), DecodeError>
+        requires room { vec_len values.old < vec_capacity values.old }
+        requires other { NotPlain (number buffer.now) }
+        ensures { Adds result ((attribute_place family).reads buffer.now) values.old.items values.new.items }
+    {
+        let payload = buffer.value();
+        match buffer.kind() {
             IFLA_ADDRESS => {
                 values.push_reserved(LinkAttribute::Address(Bytes::from_slice(alloc, payload)?));
                 Ok(())
