@@ -1,5 +1,6 @@
-//! Laws of the values, each the contract of a function that does nothing.
+//! Laws of the values, each the contract of a function that does nothing, or that makes a default value.
 
+ghost use Rattle.std.specs.Prelude.{◌≡◌, [], ◌∷◌, map};
 ghost use Rattle.link_vals.specs.LinkEventTable.{link_event_of, link_event_number};
 ghost use Rattle.link_vals.specs.LinkExtentMaskTable.{link_extent_mask_of, link_extent_mask_number};
 ghost use Rattle.link_vals.specs.LinkModeTable.{link_mode_of, link_mode_number};
@@ -11,10 +12,22 @@ ghost use Rattle.link_vals.specs.XdpAttachedTable.{xdp_attached_of, xdp_attached
 ghost use Rattle.link_vals.specs.AddressFamilyTable.{address_family_of, address_family_number};
 ghost use Rattle.link_vals.specs.LinkLayerTypeTable.{layer_type_of, layer_type_number, layer_type_listed};
 ghost use Rattle.link_vals.specs.VlanProtocolTable.{vlan_protocol_of, vlan_protocol_number, vlan_protocol_listed};
+ghost use Rattle.link_vals.specs.LinkFlagsTable.{link_flags_bits, link_flags_named};
+ghost use Rattle.link_vals.specs.Inet6IfaceFlagsTable.{inet6_iface_flags_bits, inet6_iface_flags_named};
 ghost use Rattle.link_vals.specs.declared.link_layer_type.LinkLayerType.TheVariants.{Void};
 ghost use Rattle.link_vals.specs.declared.vlan_protocol.VlanProtocol.TheVariants.{Ieee8021Q};
 ghost use Rattle.link_vals.specs.Laws.{ReadsBack, IsNamedBack, GivesUnlisted, SumsBack, NamedStatesRead};
 ghost use Rattle.link_vals.specs.Laws.{OtherStatesRefused};
+
+use crate::addr_gen_mode::In6AddrGenMode;
+use crate::address_family::AddressFamily;
+use crate::event::LinkEvent;
+use crate::inet6_iface_flags::Inet6IfaceFlags;
+use crate::link_flags::LinkFlags;
+use crate::link_layer_type::LinkLayerType;
+use crate::link_mode::LinkMode;
+use crate::vf_link_state::VfLinkState;
+use crate::vlan_protocol::VlanProtocol;
 
 /// Number to value to number is the identity for events.
 pub fn link_events_read_back()
@@ -84,3 +97,83 @@ pub fn state_texts_read_back()
     ensures named { NamedStatesRead }
     ensures others { OtherStatesRefused }
 {}
+
+/// `Cisco` is another name of `Hdlc`.
+pub fn cisco_is_hdlc()
+    ensures { LinkLayerType.Cisco ≡ LinkLayerType.Hdlc }
+{}
+
+/// The constants of link flags have the bits of the table, in its order.
+pub fn link_flag_constants()
+    ensures { map link_flags_bits (
+        LinkFlags.Up ∷ LinkFlags.Broadcast ∷ LinkFlags.Debug ∷ LinkFlags.Loopback ∷
+        LinkFlags.Pointopoint ∷ LinkFlags.Notrailers ∷ LinkFlags.Running ∷ LinkFlags.Noarp ∷
+        LinkFlags.Promisc ∷ LinkFlags.Allmulti ∷ LinkFlags.Controller ∷ LinkFlags.Port ∷
+        LinkFlags.Multicast ∷ LinkFlags.Portsel ∷ LinkFlags.Automedia ∷ LinkFlags.Dynamic ∷
+        LinkFlags.LowerUp ∷ LinkFlags.Dormant ∷ LinkFlags.Echo ∷ [])
+        ≡ map (λ row. row.1) link_flags_named }
+{}
+
+/// The constants of flags of IPv6 interfaces have the bits of the table, in its order.
+pub fn inet6_iface_flag_constants()
+    ensures { map inet6_iface_flags_bits (
+        Inet6IfaceFlags.Otherconf ∷ Inet6IfaceFlags.RaManaged ∷ Inet6IfaceFlags.RaRcvd ∷
+        Inet6IfaceFlags.RsSent ∷ Inet6IfaceFlags.Ready ∷ [])
+        ≡ map (λ row. row.1) inet6_iface_flags_named }
+{}
+
+/// The default event is `None`.
+pub fn default_link_event() -> LinkEvent
+    ensures { result ≡ LinkEvent.None }
+{
+    LinkEvent::default()
+}
+
+/// The default mode of a link is `Default`.
+pub fn default_link_mode() -> LinkMode
+    ensures { result ≡ LinkMode.Default }
+{
+    LinkMode::default()
+}
+
+/// The default way to make IPv6 addresses is `Eui64`.
+pub fn default_addr_gen_mode() -> In6AddrGenMode
+    ensures { result ≡ In6AddrGenMode.Eui64 }
+{
+    In6AddrGenMode::default()
+}
+
+/// The default link state of a virtual function is `Auto`.
+pub fn default_vf_link_state() -> VfLinkState
+    ensures { result ≡ VfLinkState.Auto }
+{
+    VfLinkState::default()
+}
+
+/// The default address family is `Unspec`.
+pub fn default_address_family() -> AddressFamily
+    ensures { result ≡ AddressFamily.Unspec }
+{
+    AddressFamily::default()
+}
+
+/// The default layer type is `Netrom`, that of the number 0.
+pub fn default_link_layer_type() -> LinkLayerType
+    ensures { result ≡ LinkLayerType.Netrom }
+{
+    LinkLayerType::default()
+}
+
+/// The default vlan protocol is `Ieee8021Q`.
+pub fn default_vlan_protocol() -> VlanProtocol
+    ensures { result ≡ VlanProtocol.Ieee8021Q }
+{
+    VlanProtocol::default()
+}
+
+/// No bit of the default link flags is set.
+pub fn default_link_flags() -> LinkFlags
+    ensures { link_flags_bits result ≡ 0 }
+{
+    LinkFlags::default()
+}
