@@ -1,10 +1,12 @@
-//! What holds of the records' readings and bytes, beside the contracts of the calls.
+//! What holds of the records' readings and bytes, and of their defaults, beside the contracts of the calls.
 //!
 //! Of a record of numbers of one width: its fields are the numbers of the payload in order; a record is given by them;
 //! what is written reads back; zeros behind a payload and bytes behind a long one change nothing; a text has as many
 //! bytes as the record; and what was read is written as the payload, cut or filled up with zeros.
+//!
+//! The functions `default_..` make the default records, each field of which is zero.
 
-ghost use Rattle.std.specs.Prelude.{◌≡◌, ◌^◌, ◌<◌, length};
+ghost use Rattle.std.specs.Prelude.{◌≡◌, ◌^◌, ◌<◌, length, pos, replicate};
 ghost use Rattle.std.specs.Int.{w32, w64};
 ghost use Rattle.std.specs.Int.RustNames.{FitsSigned};
 ghost use Rattle.nla_wire.specs.Fields.{numbers_from, signed_from};
@@ -32,6 +34,14 @@ ghost use Rattle.link_recs.specs.declared.inet6_cache.TheConstants.{INET6_CACHE_
 ghost use Rattle.link_recs.specs.Inet6CacheInfoFields.{inet6_cache_info_size, inet6_cache_info_fields};
 ghost use Rattle.link_recs.specs.Inet6CacheInfoFields.{inet6_cache_info_of, inet6_cache_info_bytes};
 ghost use Rattle.link_recs.specs.Filled.{NoneIsLonger, OneIsAsLong};
+
+use crate::inet::InetDevConf;
+use crate::inet6_devconf::Inet6DevConf;
+use crate::inet6_icmp::Icmp6Stats;
+use crate::inet6_stats::Inet6Stats;
+use crate::map::Map;
+use crate::stats::Stats;
+use crate::stats64::Stats64;
 
 /// `Stats`.
 #[tactic(auto, using(crate::specs::StatsFields::stats_laws))]
@@ -91,3 +101,58 @@ pub fn map()
     ensures laws { RecordLaws map_size map_of map_bytes }
     ensures size { (v : Map) → length (map_bytes v) ≡ map_size }
 {}
+
+/// Each field of the default `Stats` is zero.
+#[tactic(auto, unfolding(crate::specs::StatsFields::stats_fields))]
+pub fn default_stats() -> Stats
+    ensures { stats_fields result ≡ replicate STATS_COUNT 0 }
+{
+    Stats::default()
+}
+
+/// Each field of the default `Stats64` is zero.
+#[tactic(auto, unfolding(crate::specs::Stats64Fields::stats64_fields))]
+pub fn default_stats64() -> Stats64
+    ensures { stats64_fields result ≡ replicate STATS64_COUNT 0 }
+{
+    Stats64::default()
+}
+
+/// Each field of the default `InetDevConf` is zero.
+#[tactic(auto, unfolding(crate::specs::InetDevConfFields::inet_dev_conf_fields))]
+pub fn default_inet_dev_conf() -> InetDevConf
+    ensures { inet_dev_conf_fields result ≡ replicate INET_DEV_CONF_COUNT (pos 0) }
+{
+    InetDevConf::default()
+}
+
+/// Each field of the default `Inet6DevConf` is zero.
+#[tactic(auto, unfolding(crate::specs::Inet6DevConfFields::inet6_dev_conf_fields))]
+pub fn default_inet6_dev_conf() -> Inet6DevConf
+    ensures { inet6_dev_conf_fields result ≡ replicate INET6_DEV_CONF_COUNT (pos 0) }
+{
+    Inet6DevConf::default()
+}
+
+/// Each field of the default `Inet6Stats` is zero.
+#[tactic(auto, unfolding(crate::specs::Inet6StatsFields::inet6_stats_fields))]
+pub fn default_inet6_stats() -> Inet6Stats
+    ensures { inet6_stats_fields result ≡ replicate INET6_STATS_COUNT (pos 0) }
+{
+    Inet6Stats::default()
+}
+
+/// Each field of the default `Icmp6Stats` is zero.
+#[tactic(auto, unfolding(crate::specs::Icmp6StatsFields::icmp6_stats_fields))]
+pub fn default_icmp6_stats() -> Icmp6Stats
+    ensures { icmp6_stats_fields result ≡ replicate ICMP6_STATS_COUNT (pos 0) }
+{
+    Icmp6Stats::default()
+}
+
+/// Each field of the default `Map` is zero.
+pub fn default_map() -> Map
+    ensures { result ≡ record { memory_start = 0; memory_end = 0; base_address = 0; irq = 0; dma = 0; port = 0 } }
+{
+    Map::default()
+}
