@@ -1,9 +1,13 @@
-//! What holds of the records' readings and bytes, beside the contracts of the calls.
+//! What holds of the records' readings and bytes, and of their defaults, beside the contracts of the calls.
 //!
 //! Each function's contract says of its record: what was read, written and read again is the same;
 //! bytes behind a payload that is long enough change nothing; what was read is written in as many
 //! bytes as the record has.
+//!
+//! The functions `default_..` make the default records: numbers and the bytes of addresses are zeros, a setting is off,
+//! a state is `Auto` and a protocol `Ieee8021Q`.
 
+ghost use Rattle.std.specs.Prelude.{◌≡◌, false, replicate};
 ghost use Rattle.nla_wire.specs.Records.{RecordLaws};
 ghost use Rattle.link_vfrec.specs.Records.{vf_info_mac_size, vf_info_mac_of, vf_info_mac_bytes};
 ghost use Rattle.link_vfrec.specs.Records.{vf_info_broadcast_size, vf_info_broadcast_of, vf_info_broadcast_bytes};
@@ -17,6 +21,19 @@ ghost use Rattle.link_vfrec.specs.Records.{vf_info_trust_of, vf_info_trust_bytes
 ghost use Rattle.link_vfrec.specs.Records.{vf_info_link_state_of, vf_info_link_state_bytes, vf_info_guid_size};
 ghost use Rattle.link_vfrec.specs.Records.{vf_info_guid_of, vf_info_guid_bytes, vf_vlan_info_size, vf_vlan_info_of};
 ghost use Rattle.link_vfrec.specs.Records.{vf_vlan_info_bytes};
+
+use crate::broadcast::VfInfoBroadcast;
+use crate::guid::VfInfoGuid;
+use crate::link_state::VfInfoLinkState;
+use crate::mac::VfInfoMac;
+use crate::rate::VfInfoRate;
+use crate::rss_query::VfInfoRssQueryEn;
+use crate::spoofchk::VfInfoSpoofCheck;
+use crate::trust::VfInfoTrust;
+use crate::tx_rate::VfInfoTxRate;
+use crate::vf_vlan::VfVlanInfo;
+use crate::vlan::VfInfoVlan;
+use link_vals::{VfLinkState, VlanProtocol};
 
 /// `VfInfoMac`.
 #[tactic(auto, using(crate::specs::Laws::vf_info_mac_laws))]
@@ -83,3 +100,82 @@ pub fn vf_info_guid()
 pub fn vf_vlan_info()
     ensures { RecordLaws vf_vlan_info_size vf_vlan_info_of vf_vlan_info_bytes }
 {}
+
+/// The default `VfInfoMac` is of function 0, with an address of zeros.
+#[tactic(auto, using(crate::proofs::Zeros::address_zeros))]
+pub fn default_vf_info_mac() -> VfInfoMac
+    ensures { result ≡ record { vf_id = 0; mac = replicate 32 0 } }
+{
+    VfInfoMac::default()
+}
+
+/// The default `VfInfoBroadcast` has an address of zeros.
+#[tactic(auto, using(crate::proofs::Zeros::address_zeros))]
+pub fn default_vf_info_broadcast() -> VfInfoBroadcast
+    ensures { result ≡ record { addr = replicate 32 0 } }
+{
+    VfInfoBroadcast::default()
+}
+
+/// The default `VfInfoVlan` has zeros.
+pub fn default_vf_info_vlan() -> VfInfoVlan
+    ensures { result ≡ record { vf_id = 0; vlan_id = 0; qos = 0 } }
+{
+    VfInfoVlan::default()
+}
+
+/// The default `VfInfoTxRate` has zeros.
+pub fn default_vf_info_tx_rate() -> VfInfoTxRate
+    ensures { result ≡ record { vf_id = 0; rate = 0 } }
+{
+    VfInfoTxRate::default()
+}
+
+/// The default `VfInfoRate` has zeros.
+pub fn default_vf_info_rate() -> VfInfoRate
+    ensures { result ≡ record { vf_id = 0; min_tx_rate = 0; max_tx_rate = 0 } }
+{
+    VfInfoRate::default()
+}
+
+/// The default `VfInfoSpoofCheck` is off, of function 0.
+pub fn default_vf_info_spoof_check() -> VfInfoSpoofCheck
+    ensures { result ≡ record { vf_id = 0; enabled = false } }
+{
+    VfInfoSpoofCheck::default()
+}
+
+/// The default `VfInfoRssQueryEn` is off, of function 0.
+pub fn default_vf_info_rss_query_en() -> VfInfoRssQueryEn
+    ensures { result ≡ record { vf_id = 0; enabled = false } }
+{
+    VfInfoRssQueryEn::default()
+}
+
+/// The default `VfInfoTrust` is off, of function 0.
+pub fn default_vf_info_trust() -> VfInfoTrust
+    ensures { result ≡ record { vf_id = 0; enabled = false } }
+{
+    VfInfoTrust::default()
+}
+
+/// The default `VfInfoLinkState` is `Auto`, of function 0.
+pub fn default_vf_info_link_state() -> VfInfoLinkState
+    ensures { result ≡ record { vf_id = 0; state = VfLinkState.Auto } }
+{
+    VfInfoLinkState::default()
+}
+
+/// The default `VfInfoGuid` has zeros.
+pub fn default_vf_info_guid() -> VfInfoGuid
+    ensures { result ≡ record { vf_id = 0; guid = 0 } }
+{
+    VfInfoGuid::default()
+}
+
+/// The default `VfVlanInfo` has zeros, and the protocol `Ieee8021Q`.
+pub fn default_vf_vlan_info() -> VfVlanInfo
+    ensures { result ≡ record { vf_id = 0; vlan_id = 0; qos = 0; protocol = VlanProtocol.Ieee8021Q } }
+{
+    VfVlanInfo::default()
+}
