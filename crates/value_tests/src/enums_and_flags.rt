@@ -91,95 +91,94 @@ fn payloads_of_events(rt: HostRuntime) {
     refuses(&rt, LinkEvent::parse(&[5, 0]), short);
 }
 
-/// Layer types by their numbers, and their texts.
-const LAYER_TYPES_BELOW_256: &[(u16, &str)] = &[
-    (0, "NETROM"),
-    (1, "ETHER"),
-    (2, "EETHER"),
-    (3, "AX25"),
-    (4, "PRONET"),
-    (5, "CHAOS"),
-    (6, "IEEE802"),
-    (7, "ARCNET"),
-    (8, "APPLETLK"),
-    (15, "DLCI"),
-    (19, "ATM"),
-    (23, "METRICOM"),
-    (24, "IEEE1394"),
-    (27, "EUI64"),
-    (32, "INFINIBAND"),
+/// Numbers, the layer types that they mean, and their texts: `ARPHRD_..` of linux/if_arp.h.
+const LAYER_TYPES_BELOW_256: &[(u16, LinkLayerType, &str)] = &[
+    (0, LinkLayerType::Netrom, "NETROM"),
+    (1, LinkLayerType::Ether, "ETHER"),
+    (2, LinkLayerType::Eether, "EETHER"),
+    (3, LinkLayerType::Ax25, "AX25"),
+    (4, LinkLayerType::Pronet, "PRONET"),
+    (5, LinkLayerType::Chaos, "CHAOS"),
+    (6, LinkLayerType::Ieee802, "IEEE802"),
+    (7, LinkLayerType::Arcnet, "ARCNET"),
+    (8, LinkLayerType::Appletlk, "APPLETLK"),
+    (15, LinkLayerType::Dlci, "DLCI"),
+    (19, LinkLayerType::Atm, "ATM"),
+    (23, LinkLayerType::Metricom, "METRICOM"),
+    (24, LinkLayerType::Ieee1394, "IEEE1394"),
+    (27, LinkLayerType::Eui64, "EUI64"),
+    (32, LinkLayerType::Infiniband, "INFINIBAND"),
 ];
 
 /// The next of them.
-const LAYER_TYPES_FROM_256: &[(u16, &str)] = &[
-    (256, "SLIP"),
-    (257, "CSLIP"),
-    (258, "SLIP6"),
-    (259, "CSLIP6"),
-    (260, "RSRVD"),
-    (264, "ADAPT"),
-    (270, "ROSE"),
-    (271, "X25"),
-    (272, "HWX25"),
-    (280, "CAN"),
-    (290, "MCTP"),
-    (512, "PPP"),
-    (513, "HDLC"),
-    (516, "LAPB"),
-    (517, "DDCMP"),
-    (518, "RAWHDLC"),
-    (519, "RAWIP"),
+const LAYER_TYPES_FROM_256: &[(u16, LinkLayerType, &str)] = &[
+    (256, LinkLayerType::Slip, "SLIP"),
+    (257, LinkLayerType::Cslip, "CSLIP"),
+    (258, LinkLayerType::Slip6, "SLIP6"),
+    (259, LinkLayerType::Cslip6, "CSLIP6"),
+    (260, LinkLayerType::Rsrvd, "RSRVD"),
+    (264, LinkLayerType::Adapt, "ADAPT"),
+    (270, LinkLayerType::Rose, "ROSE"),
+    (271, LinkLayerType::X25, "X25"),
+    (272, LinkLayerType::Hwx25, "HWX25"),
+    (280, LinkLayerType::Can, "CAN"),
+    (290, LinkLayerType::Mctp, "MCTP"),
+    (512, LinkLayerType::Ppp, "PPP"),
+    (513, LinkLayerType::Hdlc, "HDLC"),
+    (516, LinkLayerType::Lapb, "LAPB"),
+    (517, LinkLayerType::Ddcmp, "DDCMP"),
+    (518, LinkLayerType::Rawhdlc, "RAWHDLC"),
+    (519, LinkLayerType::Rawip, "RAWIP"),
 ];
 
 /// The next of them.
-const LAYER_TYPES_FROM_768: &[(u16, &str)] = &[
-    (768, "TUNNEL"),
-    (769, "TUNNEL6"),
-    (770, "FRAD"),
-    (771, "SKIP"),
-    (772, "LOOPBACK"),
-    (773, "LOCALTLK"),
-    (774, "FDDI"),
-    (775, "BIF"),
-    (776, "SIT"),
-    (777, "IPDDP"),
-    (778, "IPGRE"),
-    (779, "PIMREG"),
-    (780, "HIPPI"),
-    (781, "ASH"),
-    (782, "ECONET"),
-    (783, "IRDA"),
-    (784, "FCPP"),
-    (785, "FCAL"),
-    (786, "FCPL"),
-    (787, "FCFABRIC"),
+const LAYER_TYPES_FROM_768: &[(u16, LinkLayerType, &str)] = &[
+    (768, LinkLayerType::Tunnel, "TUNNEL"),
+    (769, LinkLayerType::Tunnel6, "TUNNEL6"),
+    (770, LinkLayerType::Frad, "FRAD"),
+    (771, LinkLayerType::Skip, "SKIP"),
+    (772, LinkLayerType::Loopback, "LOOPBACK"),
+    (773, LinkLayerType::Localtlk, "LOCALTLK"),
+    (774, LinkLayerType::Fddi, "FDDI"),
+    (775, LinkLayerType::Bif, "BIF"),
+    (776, LinkLayerType::Sit, "SIT"),
+    (777, LinkLayerType::Ipddp, "IPDDP"),
+    (778, LinkLayerType::Ipgre, "IPGRE"),
+    (779, LinkLayerType::Pimreg, "PIMREG"),
+    (780, LinkLayerType::Hippi, "HIPPI"),
+    (781, LinkLayerType::Ash, "ASH"),
+    (782, LinkLayerType::Econet, "ECONET"),
+    (783, LinkLayerType::Irda, "IRDA"),
+    (784, LinkLayerType::Fcpp, "FCPP"),
+    (785, LinkLayerType::Fcal, "FCAL"),
+    (786, LinkLayerType::Fcpl, "FCPL"),
+    (787, LinkLayerType::Fcfabric, "FCFABRIC"),
 ];
 
 /// The last of them.
-const LAYER_TYPES_FROM_800: &[(u16, &str)] = &[
-    (800, "IEEE802_TR"),
-    (801, "IEEE80211"),
-    (802, "IEEE80211_PRISM"),
-    (803, "IEEE80211_RADIOTAP"),
-    (804, "IEEE802154"),
-    (805, "IEEE802154_MONITOR"),
-    (820, "PHONET"),
-    (821, "PHONET_PIPE"),
-    (822, "CAIF"),
-    (823, "IP6GRE"),
-    (824, "NETLINK"),
-    (825, "6LOWPAN"),
-    (826, "VSOCKMON"),
-    (65534, "NONE"),
-    (65535, "VOID"),
+const LAYER_TYPES_FROM_800: &[(u16, LinkLayerType, &str)] = &[
+    (800, LinkLayerType::Ieee802Tr, "IEEE802_TR"),
+    (801, LinkLayerType::Ieee80211, "IEEE80211"),
+    (802, LinkLayerType::Ieee80211Prism, "IEEE80211_PRISM"),
+    (803, LinkLayerType::Ieee80211Radiotap, "IEEE80211_RADIOTAP"),
+    (804, LinkLayerType::Ieee802154, "IEEE802154"),
+    (805, LinkLayerType::Ieee802154Monitor, "IEEE802154_MONITOR"),
+    (820, LinkLayerType::Phonet, "PHONET"),
+    (821, LinkLayerType::PhonetPipe, "PHONET_PIPE"),
+    (822, LinkLayerType::Caif, "CAIF"),
+    (823, LinkLayerType::Ip6gre, "IP6GRE"),
+    (824, LinkLayerType::Netlink, "NETLINK"),
+    (825, LinkLayerType::Sixlowpan, "6LOWPAN"),
+    (826, LinkLayerType::Vsockmon, "VSOCKMON"),
+    (65534, LinkLayerType::None, "NONE"),
+    (65535, LinkLayerType::Void, "VOID"),
 ];
 
 /// Layer types have these numbers and texts.
-fn are_layer_types(rt: &impl Abort, alloc: Global, rows: &[(u16, &str)]) {
-    for (number, text) in rows {
-        let layer_type = LinkLayerType::from(*number);
-        assert!(rt; u16::from(layer_type) == *number);
-        prints(rt, alloc, &layer_type, text);
+fn are_layer_types(rt: &impl Abort, alloc: Global, rows: &[(u16, LinkLayerType, &str)]) {
+    for (number, layer_type, text) in rows {
+        means::<u16, LinkLayerType>(rt, *number, *layer_type, *number);
+        prints(rt, alloc, layer_type, text);
     }
 }
 
@@ -196,6 +195,7 @@ fn names_of_layer_types(rt: HostRuntime) {
     assert!(rt; LinkLayerType::from(7777) == LinkLayerType::Void);
     assert!(rt; LinkLayerType::default() == LinkLayerType::Netrom);
     assert!(rt; LinkLayerType::Cisco == LinkLayerType::Hdlc);
+    means::<u16, LinkLayerType>(&rt, 513, LinkLayerType::Cisco, 513);
     assert!(rt; same(&LinkLayerType::Ether, &LinkLayerType::from(1)));
 }
 
@@ -240,15 +240,22 @@ fn names_of_states(rt: HostRuntime) {
         ("TESTING", State::Testing),
         ("DORMANT", State::Dormant),
         ("UP", State::Up),
+        ("unknown", State::Unknown),
+        ("NotPresent", State::NotPresent),
+        ("down", State::Down),
         ("LowerLayerDown", State::LowerLayerDown),
+        ("tESTING", State::Testing),
+        ("dormant", State::Dormant),
+        ("uP", State::Up),
     ] {
         is_same(&rt, &got(&rt, State::from_str(text)), &state);
     }
 }
 
+/// The last two spell UNKNOWN and TESTING with a letter that is a K or an S only where case beyond ASCII is ignored.
 #[test]
 fn names_of_no_states(rt: HostRuntime) {
-    for text in ["7", "", "UP ", "lower"] {
+    for text in ["7", "", "UP ", "lower", "UN\u{212a}NOWN", "TE\u{17f}TING"] {
         refuses(&rt, State::from_str(text), Cause::InvalidState);
     }
 }
@@ -299,11 +306,17 @@ fn physical_bindings(rt: HostRuntime) {
 
 #[test]
 fn extent_flags(rt: HostRuntime) {
-    use LinkExtentMask::{Brvlan, Mst, Other, Vf};
+    use LinkExtentMask::Other;
     for (number, flag) in [
-        (1, Vf),
-        (2, Brvlan),
-        (128, Mst),
+        (1, LinkExtentMask::Vf),
+        (2, LinkExtentMask::Brvlan),
+        (4, LinkExtentMask::BrvlanCompressed),
+        (8, LinkExtentMask::SkipStats),
+        (16, LinkExtentMask::Mrp),
+        (32, LinkExtentMask::CfmConfig),
+        (64, LinkExtentMask::CfmStatus),
+        (128, LinkExtentMask::Mst),
+        (0, Other(0)),
         (3, Other(3)),
         (256, Other(256)),
     ] {
@@ -356,15 +369,45 @@ fn link_flag_texts(rt: HostRuntime) {
     }
 }
 
+/// `IFF_UP` to `IFF_ECHO` of linux/if.h, where `Controller` is `IFF_MASTER` and `Port` is `IFF_SLAVE`.
+const LINK_FLAGS: &[(LinkFlags, &str, u32)] = &[
+    (LinkFlags::Up, "Up", 1),
+    (LinkFlags::Broadcast, "Broadcast", 2),
+    (LinkFlags::Debug, "Debug", 4),
+    (LinkFlags::Loopback, "Loopback", 8),
+    (LinkFlags::Pointopoint, "Pointopoint", 0x10),
+    (LinkFlags::Notrailers, "Notrailers", 0x20),
+    (LinkFlags::Running, "Running", 0x40),
+    (LinkFlags::Noarp, "Noarp", 0x80),
+    (LinkFlags::Promisc, "Promisc", 0x100),
+    (LinkFlags::Allmulti, "Allmulti", 0x200),
+    (LinkFlags::Controller, "Controller", 0x400),
+    (LinkFlags::Port, "Port", 0x800),
+    (LinkFlags::Multicast, "Multicast", 0x1000),
+    (LinkFlags::Portsel, "Portsel", 0x2000),
+    (LinkFlags::Automedia, "Automedia", 0x4000),
+    (LinkFlags::Dynamic, "Dynamic", 0x8000),
+    (LinkFlags::LowerUp, "LowerUp", 0x1_0000),
+    (LinkFlags::Dormant, "Dormant", 0x2_0000),
+    (LinkFlags::Echo, "Echo", 0x4_0000),
+];
+
 #[test]
-fn link_flag_names(rt: HostRuntime) {
-    for (name, flag) in [
-        ("Up", Some(LinkFlags::Up)),
-        ("Echo", Some(LinkFlags::Echo)),
-        ("up", None),
-        ("", None),
+fn link_flag_numbers(rt: HostRuntime) {
+    for (flag, name, bits) in LINK_FLAGS {
+        assert!(rt; flag.bits() == *bits);
+        is_same(&rt, &LinkFlags::from_bits_retain(*bits), flag);
+        is_same(&rt, &LinkFlags::from_name(name), &Some(*flag));
+        prints(&rt, rt.alloc(), flag, name);
+    }
+}
+
+#[test]
+fn names_of_no_link_flags(rt: HostRuntime) {
+    for name in [
+        "", "up", "UP", "uP", "Up ", "echo", "ECHO", "lowerUp", "Lowerup", "LOWERUP", "IFF_UP",
     ] {
-        is_same(&rt, &LinkFlags::from_name(name), &flag);
+        is_same(&rt, &LinkFlags::from_name(name), &None);
     }
 }
 
@@ -454,6 +497,7 @@ fn link_flag_assignments(rt: HostRuntime) {
     assert_eq!(rt; flags, LinkFlags::Up | LinkFlags::Loopback);
 }
 
+/// `IF_RA_OTHERCONF` to `IF_READY` of net/if_inet6.h in the kernel.
 #[test]
 fn interface_flag_names(rt: HostRuntime) {
     for (flag, name, bits) in [
@@ -464,9 +508,26 @@ fn interface_flag_names(rt: HostRuntime) {
         (Inet6IfaceFlags::Ready, "Ready", 0x8000_0000),
     ] {
         assert!(rt; flag.bits() == bits);
+        is_same(&rt, &Inet6IfaceFlags::from_bits_retain(bits), &flag);
         is_same(&rt, &Inet6IfaceFlags::from_name(name), &Some(flag));
     }
-    is_same(&rt, &Inet6IfaceFlags::from_name("ready"), &None);
+}
+
+#[test]
+fn names_of_no_interface_flags(rt: HostRuntime) {
+    for name in [
+        "",
+        "ready",
+        "READY",
+        "Ready ",
+        "OtherConf",
+        "OTHERCONF",
+        "raManaged",
+        "RARCVD",
+        "Rssent",
+    ] {
+        is_same(&rt, &Inet6IfaceFlags::from_name(name), &None);
+    }
 }
 
 #[test]
