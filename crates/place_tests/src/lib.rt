@@ -3,6 +3,8 @@
 #![tactic(auto)]
 
 #[cfg(test)]
+mod attribute_values;
+#[cfg(test)]
 mod damaged_lists;
 #[cfg(test)]
 mod empty_ports;
@@ -13,14 +15,24 @@ mod functions_and_ports;
 #[cfg(test)]
 mod kept_lists;
 #[cfg(test)]
+mod list_values;
+#[cfg(test)]
 mod longer_records;
+#[cfg(test)]
+mod longest_messages;
 #[cfg(test)]
 mod messages;
 #[cfg(test)]
 mod names;
+#[cfg(test)]
+mod refused_messages;
+#[cfg(test)]
+mod rows;
 #[cfg(test)]
 mod settings;
 #[cfg(test)]
 mod sized_kinds;
 #[cfg(test)]
 mod testing;
+#[cfg(test)]
+mod whole_messages;

@@ -1,0 +1,231 @@
+//! Messages of one attribute that is a list: the value that is read, and its text.
+
+use crate::rows::*;
+use crate::testing::{are, got, kept, text_of};
+use link_msg::*;
+use std::alloc::Global;
+use std::process::Abort;
+
+/// A family, an attribute as it is read, what it means, and its text.
+type Row<'a> = (u8, &'a [u8], LinkAttribute, &'a [u8]);
+
+#[test]
+fn empty_lists(rt: HostRuntime) {
+    let alloc = rt.alloc();
+    let rows: [Row<'_>; 4] = [
+        (
+            0,
+            &[4, 0, 22, 0],
+            LinkAttribute::VfInfoList(list(&rt, alloc, [])),
+            &[4, 0, 22, 0],
+        ),
+        (
+            0,
+            &[12, 0, 22, 0, 8, 0, 5, 0, 0xff, 0xff, 0xff, 0xff],
+            LinkAttribute::VfInfoList(list(&rt, alloc, [])),
+            &[4, 0, 22, 0],
+        ),
+        (
+            0,
+            &[4, 0, 26, 0],
+            LinkAttribute::AfSpecUnspec(list(&rt, alloc, [])),
+            &[4, 0, 26, 0],
+        ),
+        (
+            0,
+            &[4, 0, 52, 0],
+            LinkAttribute::PropList(list(&rt, alloc, [])),
+            &[4, 0, 52, 0x80],
+        ),
+    ];
+    for (family, attribute, wanted, text) in rows {
+        is_attribute_row(&rt, alloc, family, attribute, wanted, text);
+    }
+}
+
+#[test]
+fn one_port(rt: HostRuntime) {
+    let alloc = rt.alloc();
+    let member = VfPort::Other(kept(&rt, alloc, 1, &[5, 0, 0, 0]));
+    let port = LinkAttribute::PortSelf(LinkVfPort(list(&rt, alloc, [member])));
+    let text = [12, 0, 25, 0, 8, 0, 1, 0, 5, 0, 0, 0];
+    is_attribute_row(&rt, alloc, 0, &text, port, &text);
+}
+
+/// The list of one function with one member.
+fn function(rt: &impl Abort, alloc: Global, member: VfInfo) -> LinkAttribute {
+    let function = LinkVfInfo(list(rt, alloc, [member]));
+    LinkAttribute::VfInfoList(list(rt, alloc, [function]))
+}
+
+#[test]
+fn functions_with_one_record(rt: HostRuntime) {
+    let alloc = rt.alloc();
+    let off = [
+        20, 0, 22, 0, 16, 0, 1, 0, 12, 0, 9, 0, 1, 0, 0, 0, 0, 0, 0, 0,
+    ];
+    let mut off_read = off;
+    off_read[16..].copy_from_slice(&[0xff; 4]);
+    let mut on = off;
+    on[16] = 1;
+    let mut on_read = off;
+    on_read[16] = 2;
+    let guid = [
+        28, 0, 22, 0, 24, 0, 1, 0, 20, 0, 10, 0, 2, 0, 0, 0, 0, 0, 0, 0, 1, 0, 0, 0, 0, 0, 0, 0,
+    ];
+    let mut guid_read = guid;
+    guid_read[16..20].copy_from_slice(&[0xff; 4]);
+    let trusted = VfInfo::Trust(VfInfoTrust::new(1, true));
+    let untrusted = VfInfo::Trust(VfInfoTrust::new(1, false));
+    let named = VfInfo::IbNodeGuid(VfInfoGuid::new(2, 1));
+    let rows: [Row<'_>; 3] = [
+        (0, &on_read, function(&rt, alloc, trusted), &on),
+        (0, &off_read, function(&rt, alloc, untrusted), &off),
+        (0, &guid_read, function(&rt, alloc, named), &guid),
+    ];
+    for (family, attribute, wanted, text) in rows {
+        is_attribute_row(&rt, alloc, family, attribute, wanted, text);
+    }
+}
+
+#[test]
+fn functions_with_lists(rt: HostRuntime) {
+    let alloc = rt.alloc();
+    let counted = [
+        24, 0, 22, 0, 20, 0, 1, 0, 16, 0, 8, 0, 12, 0, 0, 0, 7, 0, 0, 0, 0, 0, 0, 0,
+    ];
+    let uncounted = [12, 0, 22, 0, 8, 0, 1, 0, 4, 0, 8, 0];
+    let tagged = [
+        32, 0, 22, 0, 28, 0, 1, 0, 24, 0, 12, 0, 20, 0, 1, 0, 1, 0, 0, 0, 100, 0, 0, 0, 0, 0, 0, 0,
+        0x88, 0xa8, 0, 0,
+    ];
+    let mut tagged_read = tagged;
+    tagged_read[30] = 0x12;
+    tagged_read[31] = 0x34;
+    let one = VfInfo::Stats(list(&rt, alloc, [VfStats::RxPackets(7)]));
+    let none = VfInfo::Stats(list(&rt, alloc, []));
+    let vlan = VfVlan::Info(VfVlanInfo::new(1, 100, 0, VlanProtocol::Ieee8021Ad));
+    let vlans = VfInfo::VlanList(list(&rt, alloc, [vlan]));
+    let rows: [Row<'_>; 3] = [
+        (0, &counted, function(&rt, alloc, one), &counted),
+        (0, &uncounted, function(&rt, alloc, none), &uncounted),
+        (0, &tagged_read, function(&rt, alloc, vlans), &tagged),
+    ];
+    for (family, attribute, wanted, text) in rows {
+        is_attribute_row(&rt, alloc, family, attribute, wanted, text);
+    }
+}
+
+#[test]
+fn flat_lists(rt: HostRuntime) {
+    let alloc = rt.alloc();
+    let name = Prop::AltIfName(text_of(&rt, alloc, ""));
+    let letter = Prop::AltIfName(text_of(&rt, alloc, "a"));
+    let attached = LinkXdp::Attached(XdpAttached::SocketBuffer);
+    let binding = AfSpecMctp::PhysBinding(MctpPhysBinding::Vendor);
+    let mctp = AfSpecUnspec::Mctp(list(&rt, alloc, [binding]));
+    let path = [12, 0, 43, 0, 5, 0, 2, 0, 2, 0, 0, 0];
+    let families = [16, 0, 26, 0, 12, 0, 45, 0, 5, 0, 2, 0, 0xff, 0, 0, 0];
+    let rows: [Row<'_>; 4] = [
+        (
+            0,
+            &[8, 0, 52, 0, 4, 0, 53, 0],
+            LinkAttribute::PropList(list(&rt, alloc, [name])),
+            &[12, 0, 52, 0x80, 5, 0, 53, 0, 0, 0, 0, 0],
+        ),
+        (
+            0,
+            &[9, 0, 52, 0, 5, 0, 53, 0, 0x61],
+            LinkAttribute::PropList(list(&rt, alloc, [letter])),
+            &[12, 0, 52, 0x80, 6, 0, 53, 0, 0x61, 0, 0, 0],
+        ),
+        (
+            0,
+            &path,
+            LinkAttribute::Xdp(list(&rt, alloc, [attached])),
+            &path,
+        ),
+        (
+            0,
+            &families,
+            LinkAttribute::AfSpecUnspec(list(&rt, alloc, [mctp])),
+            &families,
+        ),
+    ];
+    for (family, attribute, wanted, text) in rows {
+        is_attribute_row(&rt, alloc, family, attribute, wanted, text);
+    }
+}
+
+/// What IFLA_PROTINFO and IFLA_AF_SPEC mean under the families that read them as lists.
+#[test]
+fn lists_by_family(rt: HostRuntime) {
+    let alloc = rt.alloc();
+    let inet6 = LinkProtoInfoInet6::Other(kept(&rt, alloc, 5, &[]));
+    let bridge = LinkProtoInfoBridge::Other(kept(&rt, alloc, 1, &[]));
+    let settings = AfSpecBridge::Other(kept(&rt, alloc, 2, &[]));
+    let rows: [Row<'_>; 3] = [
+        (
+            10,
+            &[8, 0, 12, 0, 4, 0, 5, 0],
+            LinkAttribute::ProtoInfoInet6(list(&rt, alloc, [inet6])),
+            &[8, 0, 12, 0x80, 4, 0, 5, 0],
+        ),
+        (
+            7,
+            &[8, 0, 12, 0, 4, 0, 1, 0],
+            LinkAttribute::ProtoInfoBridge(list(&rt, alloc, [bridge])),
+            &[8, 0, 12, 0x80, 4, 0, 1, 0],
+        ),
+        (
+            7,
+            &[8, 0, 26, 0, 4, 0, 2, 0],
+            LinkAttribute::AfSpecBridge(list(&rt, alloc, [settings])),
+            &[8, 0, 26, 0, 4, 0, 2, 0],
+        ),
+    ];
+    for (family, attribute, wanted, text) in rows {
+        is_attribute_row(&rt, alloc, family, attribute, wanted, text);
+    }
+}
+
+/// What they mean under other families.
+#[test]
+fn bytes_by_family(rt: HostRuntime) {
+    let alloc = rt.alloc();
+    let info = kept(&rt, alloc, 12, &[4, 0, 5, 0]);
+    let settings = got(&rt, Bytes::from_slice(alloc, &[0xff]));
+    let rows: [Row<'_>; 2] = [
+        (
+            2,
+            &[8, 0, 12, 0, 4, 0, 5, 0],
+            LinkAttribute::ProtoInfoUnknown(info),
+            &[8, 0, 12, 0, 4, 0, 5, 0],
+        ),
+        (
+            2,
+            &[5, 0, 26, 0, 0xff, 0, 0, 0],
+            LinkAttribute::AfSpecUnknown(settings),
+            &[5, 0, 26, 0, 0xff, 0, 0, 0],
+        ),
+    ];
+    for (family, attribute, wanted, text) in rows {
+        is_attribute_row(&rt, alloc, family, attribute, wanted, text);
+    }
+}
+
+/// A setting is written as its whole record.
+#[test]
+fn settings_of_ipv4(rt: HostRuntime) {
+    let conf = AfSpecInet::DevConf(InetDevConf {
+        forwarding: 1,
+        ..InetDevConf::default()
+    });
+    assert!(rt; conf.kind() == 1);
+    assert!(rt; conf.fits());
+    assert!(rt; conf.value_len() == 136);
+    let mut value = [255; 136];
+    conf.emit_value(&mut value);
+    are(&rt, &value[..4], &[1, 0, 0, 0]);
+    are_all(&rt, &value[4..], 0);
+}

@@ -1,0 +1,186 @@
+//! Messages whose header says something, or with several attributes, and the calls that take a longer buffer.
+
+use crate::rows::*;
+use crate::testing::{GROWTH, are, begin, got, kept, text_of};
+use link_msg::*;
+use std::alloc::Global;
+use std::process::Abort;
+
+/// A header of zeros and a name without its NUL and padding.
+const NAME: [u8; 22] = [
+    0, 0, 0, 0, 0, 0, 0, 0, 0, 0, 0, 0, 0, 0, 0, 0, 6, 0, 3, 0, 0x6c, 0x6f,
+];
+
+/// The canonical text of `NAME`.
+const NAME_TEXT: [u8; 24] = [
+    0, 0, 0, 0, 0, 0, 0, 0, 0, 0, 0, 0, 0, 0, 0, 0, 7, 0, 3, 0, 0x6c, 0x6f, 0, 0,
+];
+
+#[test]
+fn headers(rt: HostRuntime) {
+    let alloc = rt.alloc();
+    is_row(&rt, alloc, &[0; 16], &LinkMessage::new(alloc), &[0; 16]);
+    is_row(&rt, alloc, &[0; 16], &message_of(&rt, alloc, []), &[0; 16]);
+    let mut void = LinkMessage::new(alloc);
+    void.header.link_layer_type = LinkLayerType::Void;
+    let bytes = [0, 0xff, 0x61, 0x1e, 0, 0, 0, 0, 0, 0, 0, 0, 0, 0, 0, 0];
+    let text = [0, 0, 0xff, 0xff, 0, 0, 0, 0, 0, 0, 0, 0, 0, 0, 0, 0];
+    is_row(&rt, alloc, &bytes, &void, &text);
+}
+
+#[test]
+fn a_mask_and_a_name(rt: HostRuntime) {
+    let alloc = rt.alloc();
+    let mask = list(&rt, alloc, [LinkExtentMask::Vf, LinkExtentMask::SkipStats]);
+    let mask = LinkAttribute::ExtMask(mask);
+    let name = LinkAttribute::IfName(text_of(&rt, alloc, "lo"));
+    let message = message_of(&rt, alloc, [mask, name]);
+    let attributes = [8, 0, 29, 0, 9, 0, 0, 0, 7, 0, 3, 0, 0x6c, 0x6f, 0, 0];
+    let bytes = with_header(&rt, alloc, 0, &attributes);
+    let bytes = bytes.as_slice();
+    is_row(&rt, alloc, bytes, &message, bytes);
+}
+
+/// A wireless card with two more names.
+#[test]
+fn names_of_a_card(rt: HostRuntime) {
+    let alloc = rt.alloc();
+    let bytes = [
+        0, 0, 1, 0, 2, 0, 0, 0, 0x43, 0x10, 1, 0, 0, 0, 0, 0, 0x20, 0, 0x34, 0x80, 0x0e, 0, 0x35,
+        0, 0x77, 0x6c, 0x70, 0x30, 0x73, 0x32, 0x30, 0x66, 0x33, 0, 0, 0, 9, 0, 0x35, 0, 0x77,
+        0x69, 0x66, 0x69, 0, 0, 0, 0,
+    ];
+    let first = Prop::AltIfName(text_of(&rt, alloc, "wlp0s20f3"));
+    let second = Prop::AltIfName(text_of(&rt, alloc, "wifi"));
+    let names = LinkAttribute::PropList(list(&rt, alloc, [first, second]));
+    let message = LinkMessage {
+        header: LinkHeader {
+            interface_family: AddressFamily::Unspec,
+            index: 2,
+            link_layer_type: LinkLayerType::Ether,
+            flags: LinkFlags::from_bits_retain(0x11043),
+            change_mask: LinkFlags::empty(),
+        },
+        attributes: list(&rt, alloc, [names]),
+    };
+    is_row(&rt, alloc, &bytes, &message, &bytes);
+    let flags = got(&rt, LinkMessage::parse(alloc, &bytes)).header.flags;
+    let text = got(&rt, format!(in alloc; "{flags}"));
+    assert!(rt; text.as_str() == "Up | Broadcast | Running | Multicast | LowerUp");
+}
+
+/// The header of a link that has no layer type.
+fn layerless(index: u32, flags: u32) -> LinkHeader {
+    LinkHeader {
+        index,
+        link_layer_type: LinkLayerType::None,
+        flags: LinkFlags::from_bits_retain(flags),
+        ..LinkHeader::default()
+    }
+}
+
+#[test]
+fn a_tunnel_of_sessions(rt: HostRuntime) {
+    let alloc = rt.alloc();
+    let bytes = [
+        0, 0, 0xfe, 0xff, 16, 0, 0, 0, 0x90, 0x10, 0, 0, 0, 0, 0, 0, 10, 0, 3, 0, 0x70, 0x66, 0x63,
+        0x70, 0x30, 0, 0, 0, 16, 0, 18, 0, 9, 0, 1, 0, 0x70, 0x66, 0x63, 0x70, 0, 0, 0, 0,
+    ];
+    let kind = LinkInfo::Kind(text_of(&rt, alloc, "pfcp"));
+    let message = LinkMessage {
+        header: layerless(16, 0x1090),
+        attributes: list(
+            &rt,
+            alloc,
+            [
+                LinkAttribute::IfName(text_of(&rt, alloc, "pfcp0")),
+                LinkAttribute::LinkInfo(list(&rt, alloc, [kind])),
+            ],
+        ),
+    };
+    is_row(&rt, alloc, &bytes, &message, &bytes);
+}
+
+#[test]
+fn a_tunnel_of_packets(rt: HostRuntime) {
+    let alloc = rt.alloc();
+    let bytes = [
+        0, 0, 0xfe, 0xff, 40, 0, 0, 0, 0xc1, 0, 1, 0, 0, 0, 0, 0, 36, 0, 18, 0, 9, 0, 1, 0, 0x78,
+        0x66, 0x72, 0x6d, 0, 0, 0, 0, 20, 0, 2, 0, 8, 0, 1, 0, 2, 0, 0, 0, 8, 0, 2, 0, 10, 0, 0, 0,
+    ];
+    let kind = LinkInfo::Kind(text_of(&rt, alloc, "xfrm"));
+    let data = LinkInfo::Other(kept(&rt, alloc, 2, &bytes[36..]));
+    let message = LinkMessage {
+        header: layerless(40, 0x100c1),
+        attributes: list(
+            &rt,
+            alloc,
+            [LinkAttribute::LinkInfo(list(&rt, alloc, [kind, data]))],
+        ),
+    };
+    is_row(&rt, alloc, &bytes, &message, &bytes);
+}
+
+/// The message of a name.
+fn named(rt: &impl Abort, alloc: Global) -> LinkMessage {
+    message_of(rt, alloc, [LinkAttribute::IfName(text_of(rt, alloc, "lo"))])
+}
+
+/// A message of 24 bytes is written at the end of a buffer of 40 and of 24.
+#[test]
+fn a_name_at_the_end(rt: HostRuntime) {
+    let read = got(&rt, LinkMessage::parse(rt.alloc(), &NAME));
+    for message in [read, named(&rt, rt.alloc())] {
+        assert!(rt; message.fits());
+        assert!(rt; message.buffer_len() == 24);
+        let mut buffer = [255; 40];
+        assert!(rt; message.fill(&mut buffer) == 16);
+        are_all(&rt, &buffer[..16], 255);
+        are(&rt, &buffer[16..], &NAME_TEXT);
+        let mut buffer = [255; 24];
+        assert!(rt; message.fill(&mut buffer) == 0);
+        are(&rt, &buffer, &NAME_TEXT);
+    }
+}
+
+/// A message of four levels at the end of a buffer of 50 bytes.
+#[test]
+fn a_vlan_at_the_end(rt: HostRuntime) {
+    let alloc = rt.alloc();
+    let attributes = [
+        32, 0, 22, 0, 28, 0, 1, 0, 24, 0, 12, 0, 20, 0, 1, 0, 1, 0, 0, 0, 100, 0, 0, 0, 0, 0, 0, 0,
+        0x88, 0xa8, 0x12, 0x34,
+    ];
+    let bytes = with_header(&rt, alloc, 0, &attributes);
+    let message = got(&rt, LinkMessage::parse(alloc, bytes.as_slice()));
+    assert!(rt; message.fits());
+    assert!(rt; message.buffer_len() == 48);
+    let mut buffer = [255; 50];
+    assert!(rt; message.fill(&mut buffer) == 2);
+    are_all(&rt, &buffer[..2], 255);
+    are_all(&rt, &buffer[2..18], 0);
+    are(&rt, &buffer[18..46], &attributes[..28]);
+    are(&rt, &buffer[46..], &[0x88, 0xa8, 0, 0]);
+}
+
+#[test]
+fn nothing_at_the_end(rt: HostRuntime) {
+    let none: [LinkAttribute; 0] = [];
+    let mut buffer = [7; 3];
+    assert!(rt; nlas_fit(&none));
+    assert!(rt; nlas_buffer_len(&none) == 0);
+    assert!(rt; nlas_fill(&none, &mut buffer) == 3);
+    are_all(&rt, &buffer, 7);
+}
+
+#[test]
+fn texts_in_a_long_buffer(rt: HostRuntime) {
+    let mut out = [255; 2000];
+    assert!(rt; 22 * GROWTH <= 2000);
+    let short = no_message(Cause::TooShort { got: 15, need: 16 });
+    is_refused_so(&rt, canonical_into(&[0; 15], &mut out), short);
+    are_all(&rt, &out, 255);
+    assert!(rt; canonical_into(&NAME, &mut out) == Ok(24));
+    begin(&rt, &out, &NAME_TEXT);
+    are_all(&rt, &out[24..], 255);
+}
