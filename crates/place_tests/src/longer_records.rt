@@ -1,6 +1,7 @@
 //! Messages whose records are longer when they are written than when they were read.
 
-use crate::testing::*;
+use crate::rows::*;
+use crate::testing::{GROWTH, are, got, text_of, zeros_behind};
 use link_msg::*;
 use link_recs::inet::INET_DEV_CONF_SIZE;
 use link_recs::inet6_stats::INET6_STATS_SIZE;
@@ -16,9 +17,6 @@ const COUNTERS: usize = NLA_HEADER_SIZE + INET6_STATS_SIZE;
 
 const KERNEL_COUNTERS: usize = COUNTERS - 8;
 
-/// More bytes than the messages here have.
-const MOST: usize = 66000;
-
 /// A header of zeros, these headers of IFLA_AF_SPEC and of the list of a family, so many times this member, and the
 /// bytes behind them.
 fn message(
@@ -29,8 +27,7 @@ fn message(
     member: &[u8],
     behind: &[u8],
 ) -> Vec<u8> {
-    let mut bytes = got(rt, Vec::from_slice(alloc, &[0; 16]));
-    got(rt, bytes.extend_from_slice(headers));
+    let mut bytes = with_header(rt, alloc, 0, headers);
     for _ in 0..count {
         got(rt, bytes.extend_from_slice(member));
     }
@@ -38,189 +35,189 @@ fn message(
     bytes
 }
 
-/// A message of one attribute, the settings of this family.
-fn of_families(rt: &impl Abort, alloc: Global, family: AfSpecUnspec) -> LinkMessage {
-    let families = List::new(got(rt, Vec::from_array(alloc, [family])));
-    let attribute = LinkAttribute::AfSpecUnspec(families);
-    LinkMessage {
-        header: read_message(rt, alloc, &[0; 16]).header,
-        attributes: List::new(got(rt, Vec::from_array(alloc, [attribute]))),
-    }
+/// The settings of this family.
+fn families(rt: &impl Abort, alloc: Global, family: AfSpecUnspec) -> LinkAttribute {
+    LinkAttribute::AfSpecUnspec(list(rt, alloc, [family]))
 }
 
-/// A message of so many counters that are all zero.
-fn of_counters(rt: &impl Abort, alloc: Global, count: usize) -> LinkMessage {
+/// A message of these settings of IPv4.
+fn of_settings(rt: &impl Abort, alloc: Global, settings: AfSpecInet) -> LinkMessage {
+    let inet = AfSpecUnspec::Inet(list(rt, alloc, [settings]));
+    message_of(rt, alloc, [families(rt, alloc, inet)])
+}
+
+/// So many counters of IPv6 that are all zero.
+fn counters(rt: &impl Abort, alloc: Global, count: usize) -> LinkAttribute {
     let mut members = Vec::new(alloc);
     for _ in 0..count {
         let stats = AfSpecInet6::Stats(Inet6Stats::default());
         got(rt, members.push(stats));
     }
-    of_families(rt, alloc, AfSpecUnspec::Inet6(List::new(members)))
+    families(rt, alloc, AfSpecUnspec::Inet6(List::new(members)))
 }
 
-/// A message is written as this text, at the front of a longer buffer and at the end.
-fn is_written(rt: &impl Abort, read: &LinkMessage, text: &[u8]) {
-    assert!(rt; text.len() < MOST);
-    assert!(rt; read.fits());
-    assert!(rt; read.buffer_len() == text.len());
-    let mut out = [255; MOST];
-    read.emit(&mut out);
-    begin(rt, &out, text);
-    assert!(rt; out[text.len()] == 255);
-    let mut out = [255; MOST];
-    assert!(rt; read.fill(&mut out) == MOST - text.len());
-    are(rt, &out[MOST - text.len()..], text);
-    assert!(rt; out[MOST - text.len() - 1] == 255);
+/// A message of so many counters.
+fn of_counters(rt: &impl Abort, alloc: Global, count: usize) -> LinkMessage {
+    message_of(rt, alloc, [counters(rt, alloc, count)])
 }
 
-/// What the call with no memory answers, with a buffer that is as long as it asks.
-fn rewritten(
-    rt: &impl Abort,
-    alloc: Global,
-    bytes: &[u8],
-    text: &[u8],
-) -> Result<usize, CanonError> {
-    assert!(rt; bytes.len() < MOST);
-    let room = GROWTH * bytes.len();
-    let mut out = got(rt, vec![in alloc; 255u8; room]);
-    let out = out.as_mut_slice();
-    assert!(rt; out.len() == room);
-    let answer = canonical_into(bytes, out);
-    begin(rt, out, text);
-    answer
+/// The bytes of so many counters of four bytes, with the lengths of their lists.
+fn short_counters(rt: &impl Abort, alloc: Global, count: usize) -> Vec<u8> {
+    assert!(rt; count < 1000);
+    let [outer_low, outer_high] = (8 + 4 * count as u16).to_le_bytes();
+    let [low, high] = (4 + 4 * count as u16).to_le_bytes();
+    let headers = [outer_low, outer_high, 26, 0, low, high, 10, 0];
+    message(rt, alloc, &headers, count, &[4, 0, 3, 0], &[])
 }
 
-/// A message has this canonical text, which means the same.
-fn becomes(rt: &impl Abort, alloc: Global, bytes: &[u8], text: &[u8]) {
-    fails(rt, LinkMessage::check(bytes), None);
-    are(rt, text_made(rt, alloc, bytes).as_slice(), text);
-    is_written(rt, &read_message(rt, alloc, bytes), text);
-    assert!(rt; rewritten(rt, alloc, bytes, text) == Ok(text.len()));
-    are_same(rt, alloc, bytes, text, true);
-}
-
-/// A message is read, and has no canonical text.
-fn does_not_fit(rt: &impl Abort, alloc: Global, bytes: &[u8]) {
-    fails(rt, LinkMessage::check(bytes), None);
-    assert!(rt; !read_message(rt, alloc, bytes).fits());
-    is_refused(rt, canonical(alloc, bytes), Some(2));
-    is_refused(rt, rewritten(rt, alloc, bytes, &[]), Some(2));
-}
-
-#[test]
-fn settings_become_longer(rt: HostRuntime) {
-    let alloc = rt.alloc();
-    let numbers = [12, 0, 1, 0, 8, 0, 1, 0, 1, 0, 0, 0];
-    let short = message(&rt, alloc, &[20, 0, 26, 0, 16, 0, 2, 0], 1, &numbers, &[]);
+/// A message of two settings, and its text.
+fn two_settings(rt: &impl Abort, alloc: Global) -> (LinkMessage, Vec<u8>) {
     let conf = AfSpecInet::DevConf(InetDevConf {
         forwarding: 65544,
         mc_forwarding: 1,
         ..InetDevConf::default()
     });
-    let family = AfSpecUnspec::Inet(List::new(got(&rt, Vec::from_array(alloc, [conf]))));
-    let wanted = of_families(&rt, alloc, family);
-    is_copied(
-        &rt,
-        alloc,
-        &read_message(&rt, alloc, short.as_slice()),
-        &wanted,
-    );
     let member: [u8; SETTINGS] = zeros_behind(&[0x8c, 0, 1, 0, 8, 0, 1, 0, 1]);
-    let text = message(
-        &rt,
-        alloc,
-        &[0x94, 0, 26, 0, 0x90, 0, 2, 0],
-        1,
-        &member,
-        &[],
-    );
-    becomes(&rt, alloc, short.as_slice(), text.as_slice());
-    becomes(&rt, alloc, text.as_slice(), text.as_slice());
+    let headers = [0x94, 0, 26, 0, 0x90, 0, 2, 0];
+    let text = message(rt, alloc, &headers, 1, &member, &[]);
+    (of_settings(rt, alloc, conf), text)
+}
+
+#[test]
+fn settings_become_longer(rt: HostRuntime) {
+    let alloc = rt.alloc();
+    let (wanted, text) = two_settings(&rt, alloc);
+    let numbers = [12, 0, 1, 0, 8, 0, 1, 0, 1, 0, 0, 0];
+    let short = message(&rt, alloc, &[20, 0, 26, 0, 16, 0, 2, 0], 1, &numbers, &[]);
+    is_row(&rt, alloc, short.as_slice(), &wanted, text.as_slice());
     let member: [u8; KERNEL_SETTINGS] = zeros_behind(&[0x88, 0, 1, 0, 8, 0, 1, 0, 1]);
-    let sent = message(
+    let headers = [0x90, 0, 26, 0, 0x8c, 0, 2, 0];
+    let sent = message(&rt, alloc, &headers, 1, &member, &[]);
+    is_row(&rt, alloc, sent.as_slice(), &wanted, text.as_slice());
+}
+
+/// A message of a request for these settings, made by hand, is written as these attributes.
+fn asks(rt: &impl Abort, alloc: Global, settings: InetDevConf, attributes: &[u8]) -> Vec<u8> {
+    let made = of_settings(rt, alloc, AfSpecInet::DevConfRequest(settings));
+    let text = with_header(rt, alloc, 0, attributes);
+    is_written(rt, alloc, &made, text.as_slice());
+    text
+}
+
+/// A request is written as its attributes, which are read as the front of a record.
+#[test]
+fn requests_become_settings(rt: HostRuntime) {
+    let alloc = rt.alloc();
+    let none = InetDevConf::default();
+    asks(&rt, alloc, none, &[12, 0, 26, 0, 8, 0, 2, 0, 4, 0, 1, 0x80]);
+    let one = InetDevConf {
+        forwarding: 1,
+        ..none
+    };
+    let asked = asks(
         &rt,
         alloc,
-        &[0x90, 0, 26, 0, 0x8c, 0, 2, 0],
-        1,
-        &member,
-        &[],
+        one,
+        &[
+            20, 0, 26, 0, 16, 0, 2, 0, 12, 0, 1, 0x80, 8, 0, 1, 0, 1, 0, 0, 0,
+        ],
     );
-    becomes(&rt, alloc, sent.as_slice(), text.as_slice());
+    let (wanted, text) = two_settings(&rt, alloc);
+    is_row(&rt, alloc, asked.as_slice(), &wanted, text.as_slice());
+}
+
+/// The attributes at all levels of a message whose lists are those of families.
+fn attributes_in(message: &LinkMessage) -> usize {
+    let mut count = message.attributes.len();
+    for attribute in message.attributes.as_slice() {
+        if let LinkAttribute::AfSpecUnspec(members) = attribute {
+            count = count.saturating_add(families_in(members));
+        }
+    }
+    count
+}
+
+/// The families of a list, and their members.
+fn families_in(families: &List<AfSpecUnspec>) -> usize {
+    let mut count = families.len();
+    for family in families.as_slice() {
+        if let AfSpecUnspec::Inet6(members) = family {
+            count = count.saturating_add(members.len());
+        }
+    }
+    count
 }
 
 /// Of counters of four bytes, each of which grows by its record, 207 fit. So do as many that kernels send.
 #[test]
 fn the_most_counters(rt: HostRuntime) {
     let alloc = rt.alloc();
-    let headers = [0x44, 3, 26, 0, 0x40, 3, 10, 0];
-    let short = message(&rt, alloc, &headers, 207, &[4, 0, 3, 0], &[]);
-    let read = read_message(&rt, alloc, short.as_slice());
-    is_copied(&rt, alloc, &read, &of_counters(&rt, alloc, 207));
+    let short = short_counters(&rt, alloc, 207);
+    assert!(rt; short.len() == 16 + 836);
+    let wanted = of_counters(&rt, alloc, 207);
+    let count = attributes_in(&wanted);
+    assert!(rt; count == 209);
+    assert!(rt; 4 * count == 836);
     let member: [u8; COUNTERS] = zeros_behind(&[60, 1, 3, 0]);
-    let text = message(
-        &rt,
-        alloc,
-        &[0x8c, 0xff, 26, 0, 0x88, 0xff, 10, 0],
-        207,
-        &member,
-        &[],
-    );
-    assert!(rt; text.len() == 65436);
-    becomes(&rt, alloc, short.as_slice(), text.as_slice());
+    let headers = [0x8c, 0xff, 26, 0, 0x88, 0xff, 10, 0];
+    let text = message(&rt, alloc, &headers, 207, &member, &[]);
+    assert!(rt; text.len() == 16 + 65420);
+    is_row(&rt, alloc, short.as_slice(), &wanted, text.as_slice());
     let member: [u8; KERNEL_COUNTERS] = zeros_behind(&[52, 1, 3, 0]);
-    let sent = message(
-        &rt,
-        alloc,
-        &[0x14, 0xf9, 26, 0, 0x10, 0xf9, 10, 0],
-        207,
-        &member,
-        &[],
-    );
-    becomes(&rt, alloc, sent.as_slice(), text.as_slice());
+    let headers = [0x14, 0xf9, 26, 0, 0x10, 0xf9, 10, 0];
+    let sent = message(&rt, alloc, &headers, 207, &member, &[]);
+    is_row(&rt, alloc, sent.as_slice(), &wanted, text.as_slice());
 }
 
 /// With 839 bytes of attributes a message fits, whatever they are.
 #[test]
 fn counters_and_a_name(rt: HostRuntime) {
     let alloc = rt.alloc();
-    let headers = [0x40, 3, 26, 0, 0x3c, 3, 10, 0];
-    let name = [7, 0, 3, 0, 0x6c, 0x6f, 0];
-    let short = message(&rt, alloc, &headers, 206, &[4, 0, 3, 0], &name);
+    let mut short = short_counters(&rt, alloc, 206);
+    got(&rt, short.extend_from_slice(&[7, 0, 3, 0, 0x6c, 0x6f, 0]));
     assert!(rt; short.len() == 16 + 839);
+    let name = LinkAttribute::IfName(text_of(&rt, alloc, "lo"));
+    let wanted = message_of(&rt, alloc, [counters(&rt, alloc, 206), name]);
     let member: [u8; COUNTERS] = zeros_behind(&[60, 1, 3, 0]);
     let headers = [0x50, 0xfe, 26, 0, 0x4c, 0xfe, 10, 0];
-    let text = message(
-        &rt,
-        alloc,
-        &headers,
-        206,
-        &member,
-        &[7, 0, 3, 0, 0x6c, 0x6f, 0, 0],
-    );
+    let name = [7, 0, 3, 0, 0x6c, 0x6f, 0, 0];
+    let text = message(&rt, alloc, &headers, 206, &member, &name);
     assert!(rt; text.len() == 16 + 65112);
-    becomes(&rt, alloc, short.as_slice(), text.as_slice());
+    is_row(&rt, alloc, short.as_slice(), &wanted, text.as_slice());
 }
 
 /// One more does not fit, nor do 212 that kernels send, which are 65304 bytes and become more.
 #[test]
 fn too_many_counters(rt: HostRuntime) {
     let alloc = rt.alloc();
-    for (headers, count) in [
-        ([0x48, 3, 26, 0, 0x44, 3, 10, 0], 208),
-        ([0x58, 3, 26, 0, 0x54, 3, 10, 0], 212),
-    ] {
-        let short = message(&rt, alloc, &headers, count, &[4, 0, 3, 0], &[]);
-        does_not_fit(&rt, alloc, short.as_slice());
+    for (count, len) in [(208, 840), (212, 856), (213, 860)] {
+        let short = short_counters(&rt, alloc, count);
+        assert!(rt; short.len() == 16 + len);
+        let wanted = of_counters(&rt, alloc, count);
+        is_unfit_row(&rt, alloc, short.as_slice(), &wanted);
     }
     let member: [u8; KERNEL_COUNTERS] = zeros_behind(&[52, 1, 3, 0]);
-    let sent = message(
-        &rt,
-        alloc,
-        &[0x18, 0xff, 26, 0, 0x14, 0xff, 10, 0],
-        212,
-        &member,
-        &[],
-    );
+    let headers = [0x18, 0xff, 26, 0, 0x14, 0xff, 10, 0];
+    let sent = message(&rt, alloc, &headers, 212, &member, &[]);
     assert!(rt; sent.len() == 16 + 65304);
-    does_not_fit(&rt, alloc, sent.as_slice());
+    let wanted = of_counters(&rt, alloc, 212);
+    is_unfit_row(&rt, alloc, sent.as_slice(), &wanted);
+}
+
+/// A buffer of 100000 bytes is enough for the most counters that fit, and for one more.
+#[test]
+fn counters_in_a_long_buffer(rt: HostRuntime) {
+    let alloc = rt.alloc();
+    let mut out = [255; 100000];
+    let fit = short_counters(&rt, alloc, 207);
+    assert!(rt; GROWTH * 852 <= 100000);
+    assert!(rt; fit.len() == 852);
+    assert!(rt; canonical_into(fit.as_slice(), &mut out) == Ok(65436));
+    are(&rt, &out[16..24], &[0x8c, 0xff, 26, 0, 0x88, 0xff, 10, 0]);
+    are_all(&rt, &out[65436..], 255);
+    let unfit = short_counters(&rt, alloc, 208);
+    assert!(rt; GROWTH * 856 <= 100000);
+    assert!(rt; unfit.len() == 856);
+    let answer = canonical_into(unfit.as_slice(), &mut out);
+    is_refused_so(&rt, answer, CanonError::DoesNotFit);
 }

@@ -1,5 +1,6 @@
 //! Numbers round those that are read at one size of payload alone, at each place, with each flag and ten sizes.
 
+use crate::rows::*;
 use crate::testing::*;
 use link_msg::numbers::{IFLA_HEADROOM, IFLA_NETNS_IMMUTABLE, IFLA_TAILROOM};
 use link_msg::*;
@@ -44,15 +45,6 @@ fn frame(rt: &impl Abort, alloc: Global, kind: u16, payload: &[u8]) -> Vec<u8> {
     bytes
 }
 
-/// A message of this family and these attributes.
-fn message(rt: &impl Abort, alloc: Global, family: u8, attributes: &[u8]) -> Vec<u8> {
-    let mut bytes = got(rt, Vec::from_slice(alloc, &[0; 16]));
-    assert!(rt; bytes.len() == 16);
-    bytes[0] = family;
-    got(rt, bytes.extend_from_slice(attributes));
-    bytes
-}
-
 /// What an attribute of this kind and payload is read as, and the frame that it is written as.
 fn outcome(
     rt: &impl Abort,
@@ -87,43 +79,17 @@ fn outcome(
     Ok((LinkAttribute::Other(nla), frame(rt, alloc, kind, payload)))
 }
 
-/// A message means this one attribute, and has this canonical text.
-fn is_read(rt: &impl Abort, alloc: Global, bytes: &[u8], wanted: &LinkAttribute, text: &[u8]) {
-    fails(rt, LinkMessage::check(bytes), None);
-    let read = read_message(rt, alloc, bytes);
-    let attributes = read.attributes.as_slice();
-    assert!(rt; attributes.len() == 1);
-    is_copied(rt, alloc, &attributes[0], wanted);
-    are(rt, text_made(rt, alloc, bytes).as_slice(), text);
-    assert!(rt; text.len() <= 40);
-    assert!(rt; read.fits());
-    assert!(rt; read.buffer_len() == text.len());
-    let mut out = [255; 41];
-    read.emit(&mut out);
-    begin(rt, &out, text);
-    assert!(rt; out[text.len()] == 255);
-    let mut out = [255; 41];
-    assert!(rt; read.fill(&mut out) == 41 - text.len());
-    are(rt, &out[41 - text.len()..], text);
-    let mut out = [255; 40 * GROWTH];
-    assert!(rt; bytes.len() <= 40);
-    assert!(rt; canonical_into(bytes, &mut out) == Ok(text.len()));
-    begin(rt, &out, text);
-}
-
 /// An attribute of this kind and payload under this family is what the table of this file says.
 fn is_as_told(rt: &impl Abort, alloc: Global, family: u8, kind: u16, payload: &[u8]) {
     let attribute = frame(rt, alloc, kind, payload);
-    let bytes = message(rt, alloc, family, attribute.as_slice());
+    let attribute = attribute.as_slice();
     match outcome(rt, alloc, kind, payload) {
         Ok((wanted, text)) => {
-            let text = message(rt, alloc, family, text.as_slice());
-            is_read(rt, alloc, bytes.as_slice(), &wanted, text.as_slice());
+            is_attribute_row(rt, alloc, family, attribute, wanted, text.as_slice());
         },
         Err(cause) => {
-            fails(rt, LinkMessage::check(bytes.as_slice()), Some(cause));
-            fails(rt, LinkMessage::parse(alloc, bytes.as_slice()), Some(cause));
-            is_refused(rt, canonical(alloc, bytes.as_slice()), Some(1));
+            let bytes = with_header(rt, alloc, family, attribute);
+            is_refused_row(rt, alloc, bytes.as_slice(), cause);
         },
     }
 }
@@ -195,45 +161,4 @@ fn in_settings(rt: HostRuntime) {
     keeps_all::<AfSpecBridge>(&rt, alloc);
     keeps_all::<LinkProtoInfoBridge>(&rt, alloc);
     keeps_all::<LinkProtoInfoInet6>(&rt, alloc);
-}
-
-/// An `Other` of the headroom's number with two bytes, made by hand, is written as the headroom that its bytes mean.
-#[test]
-fn a_headroom_made_by_hand(rt: HostRuntime) {
-    let alloc = rt.alloc();
-    let nla = kept(&rt, alloc, IFLA_HEADROOM, &[0x20, 0]);
-    let made = LinkMessage {
-        header: read_message(&rt, alloc, &[0; 16]).header,
-        attributes: List::new(got(&rt, Vec::from_array(alloc, [LinkAttribute::Other(nla)]))),
-    };
-    let attribute = [6, 0, 0x44, 0, 0x20, 0, 0, 0];
-    let text = message(&rt, alloc, 0, &attribute);
-    assert!(rt; made.fits());
-    assert!(rt; made.buffer_len() == 24);
-    let mut out = [255; 24];
-    made.emit(&mut out);
-    are(&rt, &out, text.as_slice());
-    is_read(
-        &rt,
-        alloc,
-        text.as_slice(),
-        &LinkAttribute::Headroom(32),
-        text.as_slice(),
-    );
-}
-
-/// A tailroom is written without its flags; a headroom of four bytes, and one of none, come back as they were.
-#[test]
-fn rows_of_sized_kinds(rt: HostRuntime) {
-    let alloc = rt.alloc();
-    let read = message(&rt, alloc, 0, &[6, 0, 0x45, 0xc0, 16, 0, 0, 0]);
-    let text = message(&rt, alloc, 0, &[6, 0, 0x45, 0, 16, 0, 0, 0]);
-    let tailroom = LinkAttribute::Tailroom(16);
-    is_read(&rt, alloc, read.as_slice(), &tailroom, text.as_slice());
-    let text = message(&rt, alloc, 0, &[8, 0, 0x44, 0x80, 0x20, 0, 0, 0]);
-    let other = LinkAttribute::Other(kept(&rt, alloc, 0x8044, &[0x20, 0, 0, 0]));
-    is_read(&rt, alloc, text.as_slice(), &other, text.as_slice());
-    let text = message(&rt, alloc, 0, &[4, 0, 0x44, 0]);
-    let other = LinkAttribute::Other(kept(&rt, alloc, 0x44, &[]));
-    is_read(&rt, alloc, text.as_slice(), &other, text.as_slice());
 }
