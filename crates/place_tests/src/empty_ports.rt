@@ -1,63 +1,75 @@
-//! Empty lists of ports, and what `same_message` answers of them.
+//! Empty lists of ports, which are read and not written.
 
-use crate::testing::{GROWTH, are_same, got, is_refused, read_message};
+use crate::rows::*;
+use crate::testing::{GROWTH, got, text_of};
 use link_msg::*;
 use std::alloc::Global;
 use std::process::Abort;
 
-/// A header of zeros and a list of ports whose one entry is dropped.
+/// A header of zeros and a list of ports whose one entry is foreign.
 const NO_PORTS: [u8; 24] = [
     0, 0, 0, 0, 0, 0, 0, 0, 0, 0, 0, 0, 0, 0, 0, 0, 8, 0, 24, 0, 4, 0, 2, 0,
 ];
 
-/// A message is refused with this number, when its text is made and when it is written.
-fn has_no_text(rt: &impl Abort, alloc: Global, bytes: &[u8], wanted: u8) {
-    is_refused(rt, canonical(alloc, bytes), Some(wanted));
-    let mut out = [255; 25 * GROWTH];
-    assert!(rt; bytes.len() <= 25);
-    is_refused(rt, canonical_into(bytes, &mut out), Some(wanted));
+/// What such a list is written as is refused.
+#[test]
+fn no_ports(rt: HostRuntime) {
+    let alloc = rt.alloc();
+    let text = with_header(&rt, alloc, 0, &[4, 0, 24, 0]);
+    let made = message_of(&rt, alloc, [LinkAttribute::VfPorts(list(&rt, alloc, []))]);
+    is_portless_row(&rt, alloc, &NO_PORTS, &made, text.as_slice());
+    is_refused_row(&rt, alloc, text.as_slice(), Cause::EmptyList);
 }
 
 #[test]
-fn no_ports_cannot_be_written(rt: HostRuntime) {
-    let read = read_message(&rt, rt.alloc(), &NO_PORTS);
-    assert!(rt; read.fits());
-    assert!(rt; read.has_empty_ports());
-    has_no_text(&rt, rt.alloc(), &NO_PORTS, 3);
+fn in_a_long_buffer(rt: HostRuntime) {
+    let mut out = [255; 2000];
+    assert!(rt; 24 * GROWTH <= 2000);
+    let answer = canonical_into(&NO_PORTS, &mut out);
+    is_refused_so(&rt, answer, CanonError::EmptyVfPorts);
 }
 
-/// Two messages are refused with this number, when they are compared.
-fn refuses_two(rt: &impl Abort, alloc: Global, first: &[u8], second: &[u8], wanted: u8) {
-    is_refused(rt, same_message(alloc, first, second), Some(wanted));
-}
-
-#[test]
-fn refusals_have_an_order(rt: HostRuntime) {
-    refuses_two(&rt, rt.alloc(), &NO_PORTS, &[0; 15], 3);
-    refuses_two(&rt, rt.alloc(), &[0; 16], &[0; 15], 1);
-}
-
-/// A list of functions that is empty is no list of ports.
-#[test]
-fn no_functions_can_be_written(rt: HostRuntime) {
-    let functions = [0, 0, 0, 0, 0, 0, 0, 0, 0, 0, 0, 0, 0, 0, 0, 0, 4, 0, 22, 0];
-    are_same(&rt, rt.alloc(), &[0; 16], &functions, false);
-}
-
-/// `NO_PORTS`, and an alias that gets no room for its NUL.
-fn no_ports_and_unfit(rt: &impl Abort, alloc: Global) -> Vec<u8> {
-    let mut bytes = got(rt, Vec::from_slice(alloc, &NO_PORTS));
+/// These bytes, and an alias that gets no room for its NUL.
+fn with_alias(rt: &impl Abort, alloc: Global, front: &[u8]) -> Vec<u8> {
+    let mut bytes = got(rt, Vec::from_slice(alloc, front));
     got(rt, bytes.extend_from_slice(&[0xff, 0xff, 20, 0]));
-    let alias = got(rt, vec![in alloc; 0x61u8; 65531]);
-    got(rt, bytes.extend_from_slice(alias.as_slice()));
+    got(rt, bytes.extend_from_slice(&[0x61; 65531]));
     bytes
 }
 
-/// Of one message the fit is judged first, and of two the first message.
+/// Of one message the fit is judged first.
 #[test]
 fn what_does_not_fit_comes_first(rt: HostRuntime) {
-    let unfit = no_ports_and_unfit(&rt, rt.alloc());
-    is_refused(&rt, canonical(rt.alloc(), unfit.as_slice()), Some(2));
-    refuses_two(&rt, rt.alloc(), unfit.as_slice(), &NO_PORTS, 2);
-    refuses_two(&rt, rt.alloc(), &NO_PORTS, unfit.as_slice(), 3);
+    let alloc = rt.alloc();
+    let unfit = with_alias(&rt, alloc, &NO_PORTS);
+    let alias = text_of(&rt, alloc, got(&rt, std::str::from_utf8(&[0x61; 65531])));
+    let ports = LinkAttribute::VfPorts(list(&rt, alloc, []));
+    let wanted = message_of(&rt, alloc, [ports, LinkAttribute::IfAlias(alias)]);
+    is_unfit_row(&rt, alloc, unfit.as_slice(), &wanted);
+}
+
+/// Of two messages the first is judged first.
+#[test]
+fn refusals_have_an_order(rt: HostRuntime) {
+    let alloc = rt.alloc();
+    let unfit = with_alias(&rt, alloc, &[0; 16]);
+    for (first, second, wanted) in [
+        (
+            NO_PORTS.as_slice(),
+            [0; 15].as_slice(),
+            CanonError::EmptyVfPorts,
+        ),
+        (
+            NO_PORTS.as_slice(),
+            unfit.as_slice(),
+            CanonError::EmptyVfPorts,
+        ),
+        (
+            unfit.as_slice(),
+            NO_PORTS.as_slice(),
+            CanonError::DoesNotFit,
+        ),
+    ] {
+        is_refused_so(&rt, same_message(alloc, first, second), wanted);
+    }
 }
