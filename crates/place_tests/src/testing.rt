@@ -1,6 +1,6 @@
 //! What the tests share.
 
-use link_msg::{CanonError, LinkMessage, canonical, same_message};
+use link_msg::{LinkMessage, canonical, same_message};
 use link_recs::inet6_stats::INET6_STATS_SIZE;
 use nla_wire::exact::same;
 use nla_wire::{
@@ -152,19 +152,6 @@ pub(crate) fn kept(rt: &impl Abort, alloc: Global, kind: u16, value: &[u8]) -> D
 /// A text of these letters.
 pub(crate) fn text_of(rt: &impl Abort, alloc: Global, letters: &str) -> Text {
     got(rt, Text::from_str(alloc, letters))
-}
-
-/// The number of an error of a message's text, or nothing.
-pub(crate) fn is_refused<T: Drop>(
-    rt: &impl Abort,
-    answer: Result<T, CanonError>,
-    wanted: Option<u8>,
-) {
-    let number = match answer {
-        Ok(_) => None,
-        Err(error) => Some(error.number()),
-    };
-    assert!(rt; number == wanted);
 }
 
 /// So many bytes were written, which begin with these.
