@@ -8,7 +8,7 @@ ghost use Rattle.nla_wire.specs.Gives.{Fails};
 use crate::error::DecodeError;
 use crate::iterator::NlasIterator;
 use crate::nla::Nla;
-use crate::read::{Place, parse_one};
+use crate::read::Place;
 use std::alloc::{AllocError, Global};
 
 /// Adds the text of an attribute that fits.
@@ -36,7 +36,7 @@ fn append_next<N: Nla>(fitted: bool, nla: &N, text: &mut Vec<u8>) -> Result<bool
 }
 
 /// Reads a list of members of this place, adds the canonical text of each to `text`, and answers whether they all fit.
-/// Each value is dropped as soon as it is written.
+/// Each value is dropped before the next one is read.
 ///
 /// Refuses as `parse_members` does. Nothing is said of what was added where a member does not fit, or the list is
 /// refused.
@@ -51,10 +51,13 @@ pub fn append_members<V: Nla + Drop, P: Place<V>>(
         (λ e. Fails e.cause ((list (P.grammar place.now)).reads bytes.now)) }
 {
     let mut fits = true;
+    let mut held = Vec::with_capacity(alloc, 1)?;
     for item in NlasIterator::new(bytes) {
         let frame = item?;
-        let value = parse_one(place, alloc, &frame)?;
-        fits = append_next(fits, &value, text)?;
+        held.clear();
+        held.reserve(1)?;
+        place.parse_into(alloc, &frame, &mut held)?;
+        fits = append_next(fits, &held[0], text)?;
     }
     Ok(fits)
 }

@@ -2,7 +2,10 @@
 
 use crate::testing::{GROWTH, fails, got, wrote};
 use link_vf::VfPort;
-use nla_wire::{Cause, NLA_F_NESTED, Nla, NlaRead, OwnPlace, append_members};
+use nla_wire::{
+    Cause, NLA_F_NESTED, Nla, NlaRead, OwnPlace, append_members, canon_nested_picked_members,
+    canon_picked_members, check_picked_members, parse_picked_members,
+};
 
 /// Two attributes, of kinds 2 nested and 1. The last lacks its padding.
 const TWO: [u8; 9] = [4, 0, 2, 0x80, 5, 0, 1, 0, 7];
@@ -15,7 +18,10 @@ fn reads_lists(rt: HostRuntime) {
     let all = got(&rt, VfPort::parse_list(rt.alloc(), &TWO));
     assert!(rt; all.len() == 2);
     assert!(rt; all[0].kind() == 0x8002);
-    let ones = got(&rt, VfPort::parse_picked(rt.alloc(), &TWO));
+    let ones = got(
+        &rt,
+        parse_picked_members::<VfPort, OwnPlace>(&OwnPlace, rt.alloc(), &TWO),
+    );
     assert!(rt; ones.len() == 1);
     assert!(rt; ones[0].kind() == 1);
 }
@@ -26,7 +32,11 @@ fn refuses_lists(rt: HostRuntime) {
     let over = Some(Cause::FrameOver { length: 5, left: 4 });
     fails(&rt, VfPort::parse_list(rt.alloc(), short), over);
     fails(&rt, VfPort::check_list(short), over);
-    fails(&rt, VfPort::check_picked(short), over);
+    fails(
+        &rt,
+        check_picked_members::<VfPort, OwnPlace>(&OwnPlace, short),
+        over,
+    );
 }
 
 #[test]
@@ -56,10 +66,10 @@ fn adds_lists(rt: HostRuntime) {
 #[test]
 fn writes_picked_lists(rt: HostRuntime) {
     let mut out = [255; 13 * GROWTH];
-    assert!(rt; VfPort::check_picked(&TWO).is_ok());
-    let len = VfPort::canon_picked(&TWO, &mut out);
+    assert!(rt; check_picked_members::<VfPort, OwnPlace>(&OwnPlace, &TWO).is_ok());
+    let len = canon_picked_members::<VfPort, OwnPlace>(&OwnPlace, &TWO, &mut out);
     wrote(&rt, len, 8, &out, &SECOND);
-    let len = VfPort::canon_nested_picked(22, &TWO, &mut out);
+    let len = canon_nested_picked_members::<VfPort, OwnPlace>(&OwnPlace, 22, &TWO, &mut out);
     let text = [12, 0, 22, 0, 5, 0, 1, 0, 7, 0, 0, 0];
     wrote(&rt, len, 12, &out, &text);
 }
