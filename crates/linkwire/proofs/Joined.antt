@@ -1,13 +1,16 @@
 -- How answers join.
-use Rattle.std.proofs.Common.{◌≡◌, ℕ, List, [], ◌∷◌, ◌++◌, refl, sym, ap, ◌∙◌, subst, ◌<◌, length, append_assoc}
+use Rattle.std.proofs.Common.{◌≡◌, ◌≢◌, ℕ, List, [], ◌∷◌, ◌++◌, refl, sym, ap, ◌∙◌, subst, ◌<◌, length, append_assoc}
 use Rattle.std.specs.List.{flat_map, AllZip}
-use Rattle.std.specs.Prelude.{Option, Result, Ok, Err, OnErr}
+use Rattle.std.specs.Prelude.{Option}
 use Rattle.std.specs.Io.KnownBytes.{Appends}
 use Rattle.std.proofs.lemmas.List.{append-nil}
 use Rattle.std.proofs.lemmas.List.Concat.{flat_map-append}
-use Rattle.linkwire.specs.Lines.{IsAnswer, with_lf, AreAnswers, AppendsBeginning, lines_of}
-use Rattle.linkwire.specs.Steps.{WroteSome, AddsAnswer, NoLf}
-use Rattle.linkwire.proofs.Known.{AppendsBeginning-after, AppendsBeginning-none}
+use Rattle.linkwire.specs.Lines.{IsAnswer, with_lf, AreAnswers, IsCut, WroteSome, lines_of}
+use Rattle.linkwire.specs.Steps.{AddsAnswer, AppendsShort, FailedWrite, FinishedSome, NoLf}
+use Rattle.linkwire.specs.declared.error.RunError.{RunError}
+use Rattle.linkwire.specs.declared.error.RunError.TheVariants as Errors
+use Rattle.linkwire.proofs.Known.{Appends-none, Appends-join}
+use Rattle.linkwire.proofs.OneAnswer.{one_answer}
 use Rattle.linkwire.proofs.Text.{lines_of-rest}
 
 AllZip-join : {A B : Type 0} (R : A → B → Type 0) (xs more : List A) (ys later : List B) → AllZip R xs ys → AllZip R more later → AllZip R (xs ++ more) (ys ++ later)
@@ -29,38 +32,54 @@ AreAnswers-join lines more done later h k = record {
   joined = ap (λ t. t ++ later) h.joined ∙ ap (λ t. flat_map with_lf h.answers ++ t) k.joined ∙ sym (flat_map-append with_lf h.answers k.answers);
 }
 
--- answers that were written, and then a beginning of others
-pub WroteSome-after : (a b c : Option (List ℕ)) (lines more : List (List ℕ)) (done : List ℕ) → Appends a b done → AreAnswers lines done → WroteSome b c more → WroteSome a c (lines ++ more)
-WroteSome-after a b c lines more done h k s = record {
-  lines = lines ++ s.lines;
-  others = s.others;
-  complete = ap (λ t. lines ++ t) s.complete ∙ sym (append_assoc lines s.lines s.others);
-  answered = done ++ s.answered;
-  answers = AreAnswers-join lines s.lines done s.answered k s.answers;
-  appended = AppendsBeginning-after a b c done s.answered h s.appended;
+-- each line has an answer, so any lines have
+pub answers_due : (lines : List (List ℕ)) → (due : List ℕ) × AreAnswers lines due
+answers_due [] = ([], AreAnswers-none)
+answers_due (line ∷ lines) =
+    let first = one_answer line in
+    let others = answers_due lines in
+    (with_lf first.answer ++ others.0, AreAnswers-join (line ∷ []) lines (with_lf first.answer) others.0 (AreAnswers-one line first.answer first.is) others.1)
+
+IsCut-after : (e : RunError) (done written due : List ℕ) → IsCut e written due → IsCut e (done ++ written) (done ++ due)
+IsCut-after Errors.Read done written due h = ap (λ t. done ++ t) h
+IsCut-after Errors.Write done written due h = (h.0, h.1, ap (λ t. done ++ t) h.2 ∙ sym (append_assoc done written h.0))
+IsCut-after Errors.OutOfMemory done written due h = (h.0, ap (λ t. done ++ t) h.1 ∙ sym (append_assoc done written h.0))
+
+-- answers that were written, and then some of others
+pub WroteSome-after : (e : RunError) (a b c : Option (List ℕ)) (lines more : List (List ℕ)) (done : List ℕ)
+    → Appends a b done → AreAnswers lines done → WroteSome e b c more → WroteSome e a c (lines ++ more)
+WroteSome-after e a b c lines more done h k s = record {
+  due = done ++ s.due;
+  answers = AreAnswers-join lines more done s.due k s.answers;
+  written = done ++ s.written;
+  appended = Appends-join a b c done s.written h s.appended;
+  cut = IsCut-after e done s.written s.due s.cut;
 }
+
+-- where no memory is left, a beginning of the answers was written
+pub WroteSome-begun : (a b : Option (List ℕ)) (all : List (List ℕ)) (due written more : List ℕ)
+    → AreAnswers all due → Appends a b written → due ≡ written ++ more → WroteSome Errors.OutOfMemory a b all
+WroteSome-begun a b all due written more h s is = record { due = due; answers = h; written = written; appended = s; cut = (more, is) }
 
 -- nothing was written
-pub WroteSome-none : (a : Option (List ℕ)) (all : List (List ℕ)) → WroteSome a a all
-WroteSome-none a all = record {
-  lines = [];
-  others = all;
-  complete = refl;
-  answered = [];
-  answers = AreAnswers-none;
-  appended = AppendsBeginning-none a [];
-}
+pub WroteSome-none : (a : Option (List ℕ)) (all : List (List ℕ)) → WroteSome Errors.OutOfMemory a a all
+WroteSome-none a all =
+    let later = answers_due all in
+    WroteSome-begun a a all later.0 [] later.0 later.1 (Appends-none a) refl
 
--- a beginning of all the answers was written
-pub WroteSome-of : (a b : Option (List ℕ)) (all : List (List ℕ)) (answered : List ℕ) → AreAnswers all answered → AppendsBeginning a b answered → WroteSome a b all
-WroteSome-of a b all answered h s = record {
-  lines = all;
-  others = [];
-  complete = sym (append-nil all);
-  answered = answered;
-  answers = h;
-  appended = s;
-}
+-- where a write fails, not all the answers were written
+pub WroteSome-short : (e : RunError) (a b : Option (List ℕ)) (all : List (List ℕ)) (due : List ℕ) → AreAnswers all due → e ≡ Errors.Write → AppendsShort a b due → WroteSome e a b all
+WroteSome-short e a b all due h is s =
+    subst (λ (t : RunError). WroteSome t a b all) (sym is) (record { due = due; answers = h; written = s.0; appended = s.1; cut = s.2 })
+
+pub no_read : (e : RunError) → e ≡ Errors.Write → e ≢ Errors.Read
+no_read e is = λ k. let clash : Errors.Write ≡ Errors.Read = sym is ∙ k in absurd cc
+
+pub FinishedSome-short : (e : RunError) (a b : Option (List ℕ)) (text due : List ℕ) → AreAnswers (lines_of text) due → FailedWrite e a b due → FinishedSome e a b text
+FinishedSome-short e a b text due h s = (no_read e s.0, WroteSome-short e a b (lines_of text) due h s.0 s.1)
+
+pub FinishedSome-none : (a : Option (List ℕ)) (text : List ℕ) → FinishedSome Errors.OutOfMemory a a text
+FinishedSome-none a text = (λ k. absurd cc, WroteSome-none a (lines_of text))
 
 -- the answer to a last line
 pub AreAnswers-last : (line new : List ℕ) → 0 < length line → NoLf line → AddsAnswer (line ++ []) [] new → AreAnswers (lines_of line) new
@@ -68,8 +87,3 @@ AreAnswers-last line new some h k =
     let whole : lines_of line ≡ (line ++ []) ∷ [] = lines_of-rest line some h ∙ ap (λ t. t ∷ []) (sym (append-nil line)) in
     subst (λ (t : List ℕ). AreAnswers (lines_of line) t) (sym k.2)
     (subst (λ (t : List (List ℕ)). AreAnswers t (with_lf k.0)) (sym whole) (AreAnswers-one (line ++ []) k.0 k.1))
-
--- a fact that holds whatever was returned
-pub on_err_always : {T E P : Type 0} (r : Result T E) → P → OnErr r P
-on_err_always (Ok _) p = tt
-on_err_always (Err _) p = p

@@ -1,10 +1,9 @@
 -- How reads and writes join.
-use Rattle.std.proofs.Common.{ℕ, List, [], ◌++◌, refl, sym, ap, ◌∙◌, subst, append_assoc, take, drop}
+use Rattle.std.proofs.Common.{ℕ, ◌<◌, List, [], ◌++◌, length, length-append, arith, refl, sym, ap, ◌∙◌, subst, append_assoc, take, drop}
 use Rattle.std.specs.Prelude.{Option, None, Some}
 use Rattle.std.specs.Io.KnownBytes.{Consumes, Appends, Keeps}
 use Rattle.std.proofs.lemmas.List.{append-nil, take-append-drop}
-use Rattle.linkwire.specs.Lines.{AppendsBeginning}
-use Rattle.linkwire.specs.Steps.{Sends}
+use Rattle.linkwire.specs.Steps.{Sends, AppendsShort}
 
 pub Consumes-none : (a : Option (List ℕ)) → Consumes a a []
 Consumes-none None = tt
@@ -42,14 +41,6 @@ Appends-keeps (Some a) None c xs h k = absurd h
 Appends-keeps (Some a) (Some b) None xs h k = absurd k
 Appends-keeps (Some a) (Some b) (Some c) xs h k = k ∙ h
 
--- all is written, and then a beginning of what comes after it
-pub AppendsBeginning-after : (a b c : Option (List ℕ)) (done more : List ℕ) → Appends a b done → AppendsBeginning b c more → AppendsBeginning a c (done ++ more)
-AppendsBeginning-after a b c done more h k =
-    (done ++ k.0, Appends-join a b c done k.0 h k.1, (k.2.0, ap (λ t. done ++ t) k.2.1 ∙ sym (append_assoc done k.0 k.2.0)))
-
-pub AppendsBeginning-none : (a : Option (List ℕ)) (bytes : List ℕ) → AppendsBeginning a a bytes
-AppendsBeginning-none a bytes = ([], Appends-none a, (bytes, refl))
-
 -- ** bytes of which a part is written, and the others wait
 pub Sends-none : (a : Option (List ℕ)) (bytes : List ℕ) → Sends a a bytes bytes
 Sends-none a bytes = ([], Appends-none a, refl)
@@ -70,14 +61,20 @@ Sends-write a b c bytes rest n h k = Sends-join a b c bytes rest (drop n rest) h
 pub Sends-all : (a b c : Option (List ℕ)) (bytes waiting : List ℕ) → Sends a b bytes waiting → Appends b c waiting → Appends a c bytes
 Sends-all a b c bytes waiting h k = subst (λ (t : List ℕ). Appends a c t) (sym h.2) (Appends-join a b c h.0 waiting h.1 k)
 
--- a beginning of the others is written too
-pub Sends-begins : (a b c : Option (List ℕ)) (bytes waiting : List ℕ) → Sends a b bytes waiting → AppendsBeginning b c waiting → AppendsBeginning a c bytes
-Sends-begins a b c bytes waiting h k = subst (λ (t : List ℕ). AppendsBeginning a c t) (sym h.2) (AppendsBeginning-after a b c h.0 waiting h.1 k)
+-- some of the others are written too, and not all of them
+pub Sends-short : (a b c : Option (List ℕ)) (bytes waiting : List ℕ) → Sends a b bytes waiting → AppendsShort b c waiting → AppendsShort a c bytes
+Sends-short a b c bytes waiting h k =
+    (h.0 ++ k.0, Appends-join a b c h.0 k.0 h.1 k.1, (k.2.0, k.2.1, h.2 ∙ ap (λ t. h.0 ++ t) k.2.2 ∙ sym (append_assoc h.0 k.0 k.2.0)))
+
+-- the same where more is due
+pub AppendsShort-more : (a b : Option (List ℕ)) (bytes more : List ℕ) → AppendsShort a b bytes → AppendsShort a b (bytes ++ more)
+AppendsShort-more a b bytes more h =
+    (h.0, h.1, (h.2.0 ++ more, omega (arith, h.2.1, length-append h.2.0 more), ap (λ t. t ++ more) h.2.2 ∙ append_assoc h.0 h.2.0 more))
 
 -- no byte waits
 pub Sends-end : (a b : Option (List ℕ)) (bytes : List ℕ) → Sends a b bytes [] → Appends a b bytes
 Sends-end a b bytes h = Sends-all a b b bytes [] h (Appends-none b)
 
 -- a write that fails
-pub Sends-fails : (a b c : Option (List ℕ)) (bytes rest : List ℕ) → Sends a b bytes rest → Keeps b c → AppendsBeginning a c bytes
-Sends-fails a b c bytes rest h k = (h.0, Appends-keeps a b c h.0 h.1 k, (rest, h.2))
+pub Sends-fails : (a b c : Option (List ℕ)) (bytes rest : List ℕ) → Sends a b bytes rest → Keeps b c → 0 < length rest → AppendsShort a c bytes
+Sends-fails a b c bytes rest h k some = (h.0, Appends-keeps a b c h.0 h.1 k, (rest, some, h.2))

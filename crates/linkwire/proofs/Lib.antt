@@ -1,5 +1,7 @@
 mod Text
 mod Known
+mod Decided
+mod OneAnswer
 mod Joined
 mod Walk
 mod Added

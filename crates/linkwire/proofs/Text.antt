@@ -34,6 +34,14 @@ complete_lines-joined e (line ∷ lines) rest h =
 pub complete_lines-cut : (e : Bool) (text : List ℕ) (lines : List (List ℕ)) (rest : List ℕ) → Cut text lines rest → complete_lines e text ≡ lines ++ complete_lines e rest
 complete_lines-cut e text lines rest h = ap (complete_lines e) h.whole ∙ complete_lines-joined e lines rest h.each
 
+-- a text with no LF has no line that an LF ends
+pub complete_lines-none : (xs : List ℕ) → NoLf xs → complete_lines false xs ≡ []
+complete_lines-none [] h = refl
+complete_lines-none (x ∷ xs) h =
+    let later = complete_lines-none xs (All-tail (λ x. x ≢ 10) x xs h) in
+    let other = not_ten x (All-head (λ x. x ≢ 10) x xs h) in
+    rw (other, later) refl
+
 -- what no LF ends is a line of its own, unless it is empty
 lines_of-last : (x : ℕ) (xs : List ℕ) → NoLf (x ∷ xs) → lines_of (x ∷ xs) ≡ (x ∷ xs) ∷ []
 lines_of-last x [] h =

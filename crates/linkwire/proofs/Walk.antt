@@ -1,5 +1,5 @@
 -- What the loops keep, and what each step does to it.
-use Rattle.std.proofs.Common.{◌≡◌, ◌≢◌, ℕ, Bool, true, false, List, [], ◌∷◌, ◌++◌, refl, sym, ap, ◌∙◌, subst, append_assoc, take, drop}
+use Rattle.std.proofs.Common.{◌≡◌, ◌≢◌, ℕ, ◌+◌, ◌-◌, ◌^◌, ◌<◌, ◌≤◌, true, false, List, [], ◌∷◌, ◌++◌, length, length-append, arith, refl, sym, ap, ◌∙◌, subst, append_assoc, take, drop}
 use Rattle.std.specs.List.{flat_map, All}
 use Rattle.std.specs.Prelude.{Option, None, Some}
 use Rattle.std.specs.Io.KnownBytes.{Consumes, Appends, IsAtEnd, Keeps}
@@ -7,11 +7,13 @@ use Rattle.std.proofs.lemmas.List.{append-nil}
 use Rattle.std.proofs.lemmas.List.Concat.{flat_map-append}
 use Rattle.std.proofs.lemmas.List.Elements.{All-append, All-push, All-nil}
 use Rattle.memchr.specs.Find.{IsFirstByte, is_byte}
-use Rattle.linkwire.specs.Lines.{complete_lines, lines_of, with_lf, AreAnswers, AppendsBeginning, RanToEnd, Stopped}
-use Rattle.linkwire.specs.Steps.{NoLf, AddsAnswer, Sends, Answered, AnsweredSome, WroteSome, Finished, FinishedSome}
-use Rattle.linkwire.proofs.Text.{complete_lines-cut, complete_lines-joined, Cut-join, no_lf_before, cut_at_lf, no_lf_at_all}
-use Rattle.linkwire.proofs.Known.{Consumes-none, Consumes-join, Consumes-keeps, Consumes-all, Appends-none, Appends-join, AppendsBeginning-none, Sends-none, Sends-join, Sends-add, Sends-all, Sends-begins}
-use Rattle.linkwire.proofs.Joined.{AreAnswers-none, AreAnswers-one, AreAnswers-join, WroteSome-after}
+use Rattle.linkwire.specs.Lines.{complete_lines, lines_of, with_lf, AreAnswers, WroteSome, RanToEnd, Stopped}
+use Rattle.linkwire.specs.Steps.{NoLf, AddsAnswer, Sends, Answered, AnsweredSome, FailedWrite, Finished, FinishedSome, NotEnded}
+use Rattle.linkwire.specs.declared.error.RunError.{RunError}
+use Rattle.linkwire.specs.declared.error.RunError.TheVariants as Errors
+use Rattle.linkwire.proofs.Text.{complete_lines-cut, complete_lines-joined, complete_lines-none, Cut-join, no_lf_before, cut_at_lf, no_lf_at_all}
+use Rattle.linkwire.proofs.Known.{Consumes-none, Consumes-join, Consumes-keeps, Consumes-all, Appends-none, Appends-join, Sends-none, Sends-join, Sends-add, Sends-all, Sends-short, AppendsShort-more}
+use Rattle.linkwire.proofs.Joined.{AreAnswers-none, AreAnswers-one, AreAnswers-join, answers_due, WroteSome-after, WroteSome-begun, WroteSome-none, WroteSome-short}
 
 -- ** the lines of a piece
 pub record Going (held held_after : Option (List ℕ)) (text waiting kept rest : List ℕ) : Type 0 where
@@ -66,19 +68,30 @@ Going-send a b c text waiting later kept rest h s = record {
   sent = Sends-join a b c h.answered waiting later h.sent s;
 }
 
--- one that ends with a beginning of what waited written
-pub Going-stops : (a b c : Option (List ℕ)) (text waiting kept rest : List ℕ) → Going a b text waiting kept rest → AppendsBeginning b c waiting → AnsweredSome a c text
-Going-stops a b c text waiting kept rest h s = record {
-  lines = h.lines;
-  others = complete_lines false (kept ++ rest);
-  complete = ap (complete_lines false) h.whole ∙ complete_lines-joined false h.lines (kept ++ rest) h.each;
-  answered = h.answered;
-  answers = h.answers;
-  appended = Sends-begins a b c h.answered waiting h.sent s;
-}
+-- the answers to all the lines that an LF ends, those in the rest among them
+going_due : (a b : Option (List ℕ)) (text waiting kept rest : List ℕ) → (h : Going a b text waiting kept rest)
+    → (later : List ℕ) × AreAnswers (complete_lines false text) (h.answered ++ later)
+going_due a b text waiting kept rest h =
+    let whole : complete_lines false text ≡ h.lines ++ complete_lines false (kept ++ rest) =
+    ap (complete_lines false) h.whole ∙ complete_lines-joined false h.lines (kept ++ rest) h.each in
+    let later = answers_due (complete_lines false (kept ++ rest)) in (
+      later.0,
+      subst (λ (t : List (List ℕ)). AreAnswers t (h.answered ++ later.0)) (sym whole)
+          (AreAnswers-join h.lines (complete_lines false (kept ++ rest)) h.answered later.0 h.answers later.1),
+    )
 
-pub Going-stops_here : (a b : Option (List ℕ)) (text waiting kept rest : List ℕ) → Going a b text waiting kept rest → AnsweredSome a b text
-Going-stops_here a b text waiting kept rest h = Going-stops a b b text waiting kept rest h (AppendsBeginning-none b waiting)
+-- one that ends at a write that fails
+pub Going-stops : (e : RunError) (a b c : Option (List ℕ)) (text waiting kept rest : List ℕ) → Going a b text waiting kept rest → FailedWrite e b c waiting → AnsweredSome e a c text
+Going-stops e a b c text waiting kept rest h s =
+    let due = going_due a b text waiting kept rest h in
+    WroteSome-short e a c (complete_lines false text) (h.answered ++ due.0) due.1 s.0 (AppendsShort-more a c h.answered due.0 (Sends-short a b c h.answered waiting h.sent s.1))
+
+-- one that ends where no memory is left
+pub Going-stops_here : (a b : Option (List ℕ)) (text waiting kept rest : List ℕ) → Going a b text waiting kept rest → AnsweredSome Errors.OutOfMemory a b text
+Going-stops_here a b text waiting kept rest h =
+    let due = going_due a b text waiting kept rest h in
+    WroteSome-begun a b (complete_lines false text) (h.answered ++ due.0) h.sent.0 (waiting ++ due.0) due.1 h.sent.1
+    (ap (λ t. t ++ due.0) h.sent.2 ∙ append_assoc h.sent.0 waiting due.0)
 
 pub Going-ends : (a b c : Option (List ℕ)) (text waiting kept rest : List ℕ) → Going a b text waiting kept rest → IsFirstByte (is_byte 10) rest None → Appends b c waiting → Answered a c text (kept ++ rest)
 Going-ends a b c text waiting kept rest h f s = record {
@@ -89,13 +102,14 @@ Going-ends a b c text waiting kept rest h f s = record {
   answers = h.answers;
 }
 
--- ** the run
-pub record Reading (left left_now held held_now : Option (List ℕ)) (kept : List ℕ) : Type 0 where
+-- ** the run, after so many reads
+pub record Reading (left left_now held held_now : Option (List ℕ)) (kept : List ℕ) (reads : ℕ) : Type 0 where
   pub text : List ℕ
   pub consumed : Consumes left left_now text
   pub answered : Answered held held_now text kept
+  pub long : reads ≤ length text
 
-pub Reading-init : (a u : Option (List ℕ)) → Reading a a u u []
+pub Reading-init : (a u : Option (List ℕ)) → Reading a a u u [] 0
 Reading-init a u = record {
   text = [];
   consumed = Consumes-none a;
@@ -106,11 +120,12 @@ Reading-init a u = record {
     appended = Appends-none u;
     answers = AreAnswers-none;
   };
+  long = omega arith;
 }
 
-pub Reading-step : (a b c u v w : Option (List ℕ)) (kept piece later : List ℕ)
-    → Reading a b u v kept → Consumes b c piece → Answered v w (kept ++ piece) later → Reading a c u w later
-Reading-step a b c u v w kept piece later h r s =
+pub Reading-step : (a b c u v w : Option (List ℕ)) (kept piece later : List ℕ) (reads : ℕ)
+    → Reading a b u v kept reads → Consumes b c piece → 0 < length piece → Answered v w (kept ++ piece) later → Reading a c u w later (reads + 1)
+Reading-step a b c u v w kept piece later reads h r some s =
     let g = h.answered in
     record {
       text = h.text ++ piece;
@@ -122,56 +137,82 @@ Reading-step a b c u v w kept piece later h r s =
         appended = Appends-join u v w g.written s.written g.appended s.appended;
         answers = AreAnswers-join g.lines s.lines g.written s.written g.answers s.answers;
       };
+      long = omega (arith, h.long, some, length-append h.text piece);
     }
 
--- how a run stops, from what was written of a text's complete lines
-stopped : (a c u w : Option (List ℕ)) (text : List ℕ) (e : Bool) → Consumes a c text → (e ≡ true → IsAtEnd c) → WroteSome u w (complete_lines e text) → Stopped a c u w
-stopped a c u w text e h k s = record {
-  text = text;
-  ended = e;
-  consumed = h;
-  at_end = k;
-  lines = s.lines;
-  others = s.others;
-  complete = s.complete;
-  answered = s.answered;
-  answers = s.answers;
-  appended = s.appended;
+-- the answers to all the lines that an LF ended were written
+reading_due : (a b u v : Option (List ℕ)) (kept : List ℕ) (reads : ℕ) → (h : Reading a b u v kept reads) → AreAnswers (complete_lines false h.text) h.answered.written
+reading_due a b u v kept reads h =
+    let g = h.answered in
+    let whole : complete_lines false h.text ≡ g.lines =
+    complete_lines-cut false h.text g.lines kept g.cut ∙ ap (λ t. g.lines ++ t) (complete_lines-none kept g.cut.last) ∙ append-nil g.lines in
+    subst (λ (t : List (List ℕ)). AreAnswers t g.written) (sym whole) g.answers
+
+-- one that ends at a read that fails
+pub Reading-stops : (a b u v : Option (List ℕ)) (kept : List ℕ) (reads : ℕ) → Reading a b u v kept reads → Stopped Errors.Read a b u v
+Reading-stops a b u v kept reads h = record {
+  text = h.text;
+  ended = false;
+  consumed = h.consumed;
+  at_end = λ e. cc;
+  before_end = λ e. refl;
+  wrote = record {
+    due = h.answered.written;
+    answers = reading_due a b u v kept reads h;
+    written = h.answered.written;
+    appended = h.answered.appended;
+    cut = refl;
+  };
 }
 
--- one that ends with all the answers written whose lines ended
-pub Reading-stops : (a b u v : Option (List ℕ)) (kept : List ℕ) → Reading a b u v kept → Stopped a b u v
-Reading-stops a b u v kept h =
-    let g = h.answered in
-    stopped a b u v h.text false h.consumed (λ e. cc) (record {
-      lines = g.lines;
-      others = complete_lines false kept;
-      complete = complete_lines-cut false h.text g.lines kept g.cut;
-      answered = g.written;
-      answers = g.answers;
-      appended = (g.written, g.appended, ([], sym (append-nil g.written)));
-    })
-
 -- a read that fails
-pub Reading-keeps : (a b c u v : Option (List ℕ)) (kept : List ℕ) → Reading a b u v kept → Keeps b c → Reading a c u v kept
-Reading-keeps a b c u v kept h k = record { text = h.text; consumed = Consumes-keeps a b c h.text h.consumed k; answered = h.answered }
+pub Reading-keeps : (a b c u v : Option (List ℕ)) (kept : List ℕ) (reads : ℕ) → Reading a b u v kept reads → Keeps b c → Reading a c u v kept reads
+Reading-keeps a b c u v kept reads h k =
+    record { text = h.text; consumed = Consumes-keeps a b c h.text h.consumed k; answered = h.answered; long = h.long }
+
+-- one that has not ended after so many reads
+pub Reading-not_ended : (a b u v : Option (List ℕ)) (kept : List ℕ) (reads : ℕ) → Reading a b u v kept reads → 2 ^ 64 - 1 ≤ reads → NotEnded a b u v
+Reading-not_ended a b u v kept reads h many = record {
+  text = h.text;
+  consumed = h.consumed;
+  long = omega (arith, h.long, many);
+  written = h.answered.written;
+  appended = h.answered.appended;
+  answers = reading_due a b u v kept reads h;
+}
+
+pub NotEnded-stops : (a b u v : Option (List ℕ)) → NotEnded a b u v → Stopped Errors.Read a b u v
+NotEnded-stops a b u v h = record {
+  text = h.text;
+  ended = false;
+  consumed = h.consumed;
+  at_end = λ e. cc;
+  before_end = λ e. refl;
+  wrote = record { due = h.written; answers = h.answers; written = h.written; appended = h.appended; cut = refl };
+}
 
 -- one that ends amid the answers to the piece that was read
-pub Reading-stops_in : (a b c u v w : Option (List ℕ)) (kept piece : List ℕ)
-    → Reading a b u v kept → Consumes b c piece → AnsweredSome v w (kept ++ piece) → Stopped a c u w
-Reading-stops_in a b c u v w kept piece h r s =
+pub Reading-stops_in : (e : RunError) (a b c u v w : Option (List ℕ)) (kept piece : List ℕ) (reads : ℕ)
+    → Reading a b u v kept reads → Consumes b c piece → AnsweredSome e v w (kept ++ piece) → Stopped e a c u w
+Reading-stops_in e a b c u v w kept piece reads h r s =
     let g = h.answered in
     let whole : h.text ++ piece ≡ flat_map with_lf g.lines ++ (kept ++ piece) =
     ap (λ t. t ++ piece) g.cut.whole ∙ append_assoc (flat_map with_lf g.lines) kept piece in
     let lines : complete_lines false (h.text ++ piece) ≡ g.lines ++ complete_lines false (kept ++ piece) =
     ap (complete_lines false) whole ∙ complete_lines-joined false g.lines (kept ++ piece) g.cut.each in
-    stopped a c u w (h.text ++ piece) false (Consumes-join a b c h.text piece h.consumed r) (λ e. cc)
-    (subst (λ (t : List (List ℕ)). WroteSome u w t) (sym lines) (WroteSome-after u v w g.lines (complete_lines false (kept ++ piece)) g.written g.appended g.answers s))
+    record {
+      text = h.text ++ piece;
+      ended = false;
+      consumed = Consumes-join a b c h.text piece h.consumed r;
+      at_end = λ k. cc;
+      before_end = λ k. refl;
+      wrote = subst (λ (t : List (List ℕ)). WroteSome e u w t) (sym lines) (WroteSome-after e u v w g.lines (complete_lines false (kept ++ piece)) g.written g.appended g.answers s);
+    }
 
 -- the reader came to its end
-pub Reading-ends : (a b c u v w : Option (List ℕ)) (kept : List ℕ)
-    → Reading a b u v kept → Consumes b c [] → IsAtEnd c → Finished v w kept → RanToEnd a c u w
-Reading-ends a b c u v w kept h r e s =
+pub Reading-ends : (a b c u v w : Option (List ℕ)) (kept : List ℕ) (reads : ℕ)
+    → Reading a b u v kept reads → Consumes b c [] → IsAtEnd c → Finished v w kept → RanToEnd a c u w
+Reading-ends a b c u v w kept reads h r e s =
     let g = h.answered in
     record {
       text = h.text;
@@ -183,14 +224,27 @@ Reading-ends a b c u v w kept h r e s =
           (AreAnswers-join g.lines (lines_of kept) g.written s.0 g.answers s.2);
     }
 
-pub Reading-stops_at_end : (a b c u v w : Option (List ℕ)) (kept : List ℕ)
-    → Reading a b u v kept → Consumes b c [] → IsAtEnd c → FinishedSome v w kept → Stopped a c u w
-Reading-stops_at_end a b c u v w kept h r e s =
+pub Reading-stops_at_end : (e : RunError) (a b c u v w : Option (List ℕ)) (kept : List ℕ) (reads : ℕ)
+    → Reading a b u v kept reads → Consumes b c [] → IsAtEnd c → FinishedSome e v w kept → Stopped e a c u w
+Reading-stops_at_end e a b c u v w kept reads h r last s =
     let g = h.answered in
-    stopped a c u w h.text true (Consumes-all a b c h.text h.consumed r) (λ _. e)
-    (subst (λ (t : List (List ℕ)). WroteSome u w t) (sym (complete_lines-cut true h.text g.lines kept g.cut))
-    (WroteSome-after u v w g.lines (lines_of kept) g.written g.appended g.answers s))
+    record {
+      text = h.text;
+      ended = true;
+      consumed = Consumes-all a b c h.text h.consumed r;
+      at_end = λ _. last;
+      before_end = λ k. absurd (s.0 k);
+      wrote = subst (λ (t : List (List ℕ)). WroteSome e u w t) (sym (complete_lines-cut true h.text g.lines kept g.cut))
+          (WroteSome-after e u v w g.lines (lines_of kept) g.written g.appended g.answers s.1);
+    }
 
--- one that ends before the first read
-pub Stopped-none : (a u : Option (List ℕ)) → Stopped a a u u
-Stopped-none a u = Reading-stops a a u u [] (Reading-init a u)
+-- one that ends before the first read, where no memory is left
+pub Stopped-none : (a u : Option (List ℕ)) → Stopped Errors.OutOfMemory a a u u
+Stopped-none a u = record {
+  text = [];
+  ended = false;
+  consumed = Consumes-none a;
+  at_end = λ e. cc;
+  before_end = λ e. refl;
+  wrote = WroteSome-none u [];
+}

@@ -1,11 +1,13 @@
 -- What a run writes: the lines of a text, and what each of them is answered.
-use Rattle.std.specs.Prelude.{◌≡◌, ℕ, ◌==◌, Bool, true, List, [], ◌∷◌, ◌++◌, if◌then◌else◌, codes, Option, Result, Ok, Err}
+use Rattle.std.specs.Prelude.{◌≡◌, ℕ, ◌==◌, ◌<◌, Bool, true, false, List, [], ◌∷◌, ◌++◌, length, if◌then◌else◌, codes, Option, Result, Ok, Err}
 use Rattle.std.specs.List.{flat_map, AllZip}
 use Rattle.std.specs.Io.KnownBytes.{Consumes, Appends, IsAtEnd}
 use Rattle.hex.specs.Hex.{decode_of, encode_lower}
 use Rattle.hex.specs.declared.error.FromHexError.{FromHexError}
 use Rattle.link_msg.specs.Messages.{IsRefused}
 use Rattle.link_msg.specs.Canonical.{HasText, IsUnfit, HasEmptyPorts}
+use Rattle.linkwire.specs.declared.error.RunError.{RunError}
+use Rattle.linkwire.specs.declared.error.RunError.TheVariants as Errors
 
 -- the byte x, put before a text with these lines: where there is none, x is a line if the text has ended
 abbrev pub put_front : Bool → ℕ → List (List ℕ) → List (List ℕ)
@@ -53,9 +55,24 @@ pub record AreAnswers (lines : List (List ℕ)) (written : List ℕ) : Type 0 wh
 abbrev pub IsBeginning : List ℕ → List ℕ → Type 0
 IsBeginning xs ys = (more : List ℕ) × (ys ≡ xs ++ more)
 
--- known bytes grow by a beginning of bs
-abbrev pub AppendsBeginning : Option (List ℕ) → Option (List ℕ) → List ℕ → Type 0
-AppendsBeginning old new bs = (written : List ℕ) × Appends old new written × IsBeginning written bs
+-- xs is a beginning of ys that lacks some byte
+abbrev pub IsCutShort : List ℕ → List ℕ → Type 0
+IsCutShort xs ys = (more : List ℕ) × (0 < length more) × (ys ≡ xs ++ more)
+
+-- what is written of the bytes that are due where a run stops: all of them before a read that fails, not all of them
+-- where a write fails, and any beginning of them where no memory is left
+abbrev pub IsCut : RunError → List ℕ → List ℕ → Type 0
+IsCut Errors.Read written due = written ≡ due
+IsCut Errors.Write written due = IsCutShort written due
+IsCut Errors.OutOfMemory written due = IsBeginning written due
+
+-- the answers to these lines were due, and known bytes grew by what the error leaves of them
+pub record WroteSome (error : RunError) (held held_after : Option (List ℕ)) (lines : List (List ℕ)) : Type 0 where
+  pub due : List ℕ
+  pub answers : AreAnswers lines due
+  pub written : List ℕ
+  pub appended : Appends held held_after written
+  pub cut : IsCut error written due
 
 -- the reader was read to its end, and what was written are the answers to the lines of what it gave
 pub record RanToEnd (left left_after held held_after : Option (List ℕ)) : Type 0 where
@@ -66,15 +83,12 @@ pub record RanToEnd (left left_after held held_after : Option (List ℕ)) : Type
   pub appended : Appends held held_after written
   pub answers : AreAnswers (lines_of text) written
 
--- some bytes were read, and the output is cut off somewhere in the answers to their first complete lines
-pub record Stopped (left left_after held held_after : Option (List ℕ)) : Type 0 where
+-- some bytes were read, and of the answers to all complete lines among them was written what the error leaves; a read
+-- fails before the end
+pub record Stopped (error : RunError) (left left_after held held_after : Option (List ℕ)) : Type 0 where
   pub text : List ℕ
   pub ended : Bool
   pub consumed : Consumes left left_after text
   pub at_end : ended ≡ true → IsAtEnd left_after
-  pub lines : List (List ℕ)
-  pub others : List (List ℕ)
-  pub complete : complete_lines ended text ≡ lines ++ others
-  pub answered : List ℕ
-  pub answers : AreAnswers lines answered
-  pub appended : AppendsBeginning held held_after answered
+  pub before_end : error ≡ Errors.Read → ended ≡ false
+  pub wrote : WroteSome error held held_after (complete_lines ended text)

@@ -1,8 +1,11 @@
 -- What the steps of a run do.
-use Rattle.std.specs.Prelude.{◌≡◌, ◌≢◌, ℕ, false, List, ◌++◌, Option}
+use Rattle.std.specs.Prelude.{◌≡◌, ◌≢◌, ℕ, ◌-◌, ◌^◌, ◌≤◌, Bool, false, MatchBool, List, ◌++◌, length, Option}
 use Rattle.std.specs.List.{flat_map, All}
-use Rattle.std.specs.Io.KnownBytes.{Appends}
-use Rattle.linkwire.specs.Lines.{complete_lines, lines_of, IsAnswer, IsAnswerTo, with_lf, AreAnswers, AppendsBeginning}
+use Rattle.std.specs.Io.KnownBytes.{Consumes, Appends}
+use Rattle.linkwire.specs.Lines.{complete_lines, lines_of, IsAnswer, IsAnswerTo, with_lf, AreAnswers}
+use Rattle.linkwire.specs.Lines.{IsCutShort, WroteSome, RanToEnd}
+use Rattle.linkwire.specs.declared.error.RunError.{RunError}
+use Rattle.linkwire.specs.declared.error.RunError.TheVariants as Errors
 
 abbrev pub NoLf : List ℕ → Type 0
 NoLf line = All (λ x. x ≢ 10) line
@@ -34,22 +37,36 @@ pub record Answered (held held_after : Option (List ℕ)) (text rest : List ℕ)
   pub appended : Appends held held_after written
   pub answers : AreAnswers lines written
 
--- a beginning of the answers to the first of these lines was written
-pub record WroteSome (held held_after : Option (List ℕ)) (all : List (List ℕ)) : Type 0 where
-  pub lines : List (List ℕ)
-  pub others : List (List ℕ)
-  pub complete : all ≡ lines ++ others
-  pub answered : List ℕ
-  pub answers : AreAnswers lines answered
-  pub appended : AppendsBeginning held held_after answered
-
-abbrev pub AnsweredSome : Option (List ℕ) → Option (List ℕ) → List ℕ → Type 0
-AnsweredSome held held_after text = WroteSome held held_after (complete_lines false text)
+abbrev pub AnsweredSome : RunError → Option (List ℕ) → Option (List ℕ) → List ℕ → Type 0
+AnsweredSome error held held_after text = WroteSome error held held_after (complete_lines false text)
 
 -- the answers to the lines of a text that has ended were written
 abbrev pub Finished : Option (List ℕ) → Option (List ℕ) → List ℕ → Type 0
 Finished held held_after text =
     (written : List ℕ) × Appends held held_after written × AreAnswers (lines_of text) written
 
-abbrev pub FinishedSome : Option (List ℕ) → Option (List ℕ) → List ℕ → Type 0
-FinishedSome held held_after text = WroteSome held held_after (lines_of text)
+-- a text that has ended needs no read
+abbrev pub FinishedSome : RunError → Option (List ℕ) → Option (List ℕ) → List ℕ → Type 0
+FinishedSome error held held_after text = (error ≢ Errors.Read) × WroteSome error held held_after (lines_of text)
+
+-- known bytes grew by a beginning of what is due, which lacks some byte
+abbrev pub AppendsShort : Option (List ℕ) → Option (List ℕ) → List ℕ → Type 0
+AppendsShort held held_after due = (written : List ℕ) × Appends held held_after written × IsCutShort written due
+
+-- a write failed before all that is due was written
+abbrev pub FailedWrite : RunError → Option (List ℕ) → Option (List ℕ) → List ℕ → Type 0
+FailedWrite error held held_after due = (error ≡ Errors.Write) × AppendsShort held held_after due
+
+-- so many reads as there may be gave a byte at least, and the answers to the lines that an LF ends were written
+pub record NotEnded (left left_after held held_after : Option (List ℕ)) : Type 0 where
+  pub text : List ℕ
+  pub consumed : Consumes left left_after text
+  pub long : 2 ^ 64 - 1 ≤ length text
+  pub written : List ℕ
+  pub appended : Appends held held_after written
+  pub answers : AreAnswers (complete_lines false text) written
+
+-- whether the reader came to its end
+abbrev pub ToldEnd : Bool → Option (List ℕ) → Option (List ℕ) → Option (List ℕ) → Option (List ℕ) → Type 0
+ToldEnd ended left left_after held held_after =
+    MatchBool ended (RanToEnd left left_after held held_after) (NotEnded left left_after held held_after)

@@ -1,8 +1,8 @@
-ghost use Rattle.std.specs.Prelude.{◌≡◌, ◌++◌, ◌/◌, [], List, ℕ, OnOk, OnErr, codes, length};
+ghost use Rattle.std.specs.Prelude.{◌≡◌, ◌++◌, ◌/◌, [], List, ℕ, OnOk, IfErr, codes, length};
 ghost use Rattle.std.specs.Io.KnownBytes.{Appends};
 ghost use Rattle.hex.specs.Hex.{encode_lower};
-ghost use Rattle.linkwire.specs.Lines.{with_lf, AppendsBeginning};
-ghost use Rattle.linkwire.specs.Steps.{AddsAnswer, AddsAnswerTo, Sends};
+ghost use Rattle.linkwire.specs.Lines.{with_lf};
+ghost use Rattle.linkwire.specs.Steps.{AddsAnswer, AddsAnswerTo, Sends, FailedWrite};
 
 use crate::digits::{decode, values};
 use crate::error::RunError;
@@ -97,7 +97,7 @@ impl Answers {
     pub fn write_all<W: Write>(&mut self, writer: &mut W) -> Result<(), RunError>
         ensures none { OnOk result (self.new ≡ []) }
         ensures ok { OnOk result (Appends (W.contents writer.old) (W.contents writer.new) self.old) }
-        ensures err { OnErr result (AppendsBeginning (W.contents writer.old) (W.contents writer.new) self.old) }
+        ensures err { IfErr result (λ e. FailedWrite e (W.contents writer.old) (W.contents writer.new) self.old) }
     {
         write_out(writer, self.waiting.as_slice())?;
         self.waiting.clear();
@@ -107,7 +107,7 @@ impl Answers {
     /// Writes the answers if enough of them wait.
     pub fn write_full<W: Write>(&mut self, writer: &mut W) -> Result<(), RunError>
         ensures ok { OnOk result (Sends (W.contents writer.old) (W.contents writer.new) self.old self.new) }
-        ensures err { OnErr result (AppendsBeginning (W.contents writer.old) (W.contents writer.new) self.old) }
+        ensures err { IfErr result (λ e. FailedWrite e (W.contents writer.old) (W.contents writer.new) self.old) }
     {
         if self.waiting.len() < ENOUGH {
             return Ok(());

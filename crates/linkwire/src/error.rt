@@ -1,5 +1,7 @@
+ghost use Rattle.std.proofs.Common.{rules};
 ghost use Rattle.std.specs.Prelude.{◌≡◌};
 
+use nla_wire::Exact;
 use std::alloc::AllocError;
 use thiserror::Error;
 
@@ -25,4 +27,8 @@ impl From<AllocError> for RunError {
     fn from(_error: AllocError) -> RunError {
         RunError::OutOfMemory
     }
+}
+
+impl Exact for RunError {
+    ghost decides = { Prim.search rules };
 }

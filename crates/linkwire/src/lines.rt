@@ -1,4 +1,4 @@
-ghost use Rattle.std.specs.Prelude.{◌≡◌, ◌++◌, OnOk, OnErr, []};
+ghost use Rattle.std.specs.Prelude.{◌≡◌, ◌++◌, OnOk, IfErr, []};
 ghost use Rattle.linkwire.specs.Steps.{NoLf, AddsAnswer, Answered, AnsweredSome};
 
 use crate::answers::Answers;
@@ -40,7 +40,7 @@ pub fn answer_piece<W: Write>(
     requires none { answers.old ≡ [] }
     ensures none { OnOk result (answers.new ≡ []) }
     ensures ok { OnOk result (Answered (W.contents writer.old) (W.contents writer.new) (held.old.items ++ piece.now) held.new.items) }
-    ensures err { OnErr result (AnsweredSome (W.contents writer.old) (W.contents writer.new) (held.old.items ++ piece.now)) }
+    ensures err { IfErr result (λ e. AnsweredSome e (W.contents writer.old) (W.contents writer.new) (held.old.items ++ piece.now)) }
 {
     let mut rest = piece;
     while let Some(end) = memchr(b'\n', rest) {

@@ -4,6 +4,7 @@
 mod answers;
 mod digits;
 mod error;
+mod laws;
 mod lines;
 mod run;
 #[cfg(test)]

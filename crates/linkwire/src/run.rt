@@ -1,6 +1,6 @@
-ghost use Rattle.std.specs.Prelude.{◌≡◌, ◌<◌, IfOk, OnOk, OnErr, length, []};
+ghost use Rattle.std.specs.Prelude.{◌≡◌, ◌<◌, IfOk, IfErr, OnOk, length, []};
 ghost use Rattle.linkwire.specs.Lines.{RanToEnd, Stopped};
-ghost use Rattle.linkwire.specs.Steps.{NoLf, Finished, FinishedSome};
+ghost use Rattle.linkwire.specs.Steps.{NoLf, Finished, FinishedSome, ToldEnd};
 
 use crate::answers::Answers;
 use crate::error::RunError;
@@ -21,7 +21,7 @@ fn finish<W: Write>(
     requires held { NoLf held.old.items }
     requires none { answers.old ≡ [] }
     ensures ok { OnOk result (Finished (W.contents writer.old) (W.contents writer.new) held.old.items) }
-    ensures err { OnErr result (FinishedSome (W.contents writer.old) (W.contents writer.new) held.old.items) }
+    ensures err { IfErr result (λ e. FinishedSome e (W.contents writer.old) (W.contents writer.new) held.old.items) }
 {
     if held.is_empty() {
         return Ok(());
@@ -37,29 +37,31 @@ fn zeros(alloc: Global, count: usize) -> Result<Vec<u8>, AllocError>
     vec![in alloc; 0u8; count]
 }
 
-/// Answers each line that the reader gives, read into the chunk.
+/// Answers each line that the reader gives, read into the chunk, and returns whether the reader came to its end within
+/// 2^64 - 1 reads.
 fn answer_all<R: Read, W: Write>(
     alloc: Global,
     reader: &mut R,
     writer: &mut W,
     chunk: &mut [u8],
-) -> Result<(), RunError>
+) -> Result<bool, RunError>
     requires { 0 < length chunk.old }
-    ensures ok { OnOk result (RanToEnd (R.remaining reader.old) (R.remaining reader.new) (W.contents writer.old) (W.contents writer.new)) }
-    ensures err { OnErr result (Stopped (R.remaining reader.old) (R.remaining reader.new) (W.contents writer.old) (W.contents writer.new)) }
+    ensures ok { IfOk result (λ ended. ToldEnd ended (R.remaining reader.old) (R.remaining reader.new) (W.contents writer.old) (W.contents writer.new)) }
+    ensures err { IfErr result (λ e. Stopped e (R.remaining reader.old) (R.remaining reader.new) (W.contents writer.old) (W.contents writer.new)) }
 {
     let mut held = Vec::new(alloc);
     let mut answers = Answers::new(alloc);
-    for _ in 0..u64::MAX {
+    for reads in 0..u64::MAX {
         let Ok(n) = reader.read(chunk) else {
             return Err(RunError::Read);
         };
         if n == 0 {
-            return finish(alloc, &mut held, &mut answers, writer);
+            finish(alloc, &mut held, &mut answers, writer)?;
+            return Ok(true);
         }
         answer_piece(alloc, &mut held, &chunk[..n], &mut answers, writer)?;
     }
-    Err(RunError::Read)
+    Ok(false)
 }
 
 /// Answers each line that the reader gives, up to its end.
@@ -71,8 +73,12 @@ fn answer_all<R: Read, W: Write>(
 /// byte, and `OutOfMemory` where a growth is refused.
 pub fn run<R: Read, W: Write>(alloc: Global, reader: &mut R, writer: &mut W) -> Result<(), RunError>
     ensures ok { OnOk result (RanToEnd (R.remaining reader.old) (R.remaining reader.new) (W.contents writer.old) (W.contents writer.new)) }
-    ensures err { OnErr result (Stopped (R.remaining reader.old) (R.remaining reader.new) (W.contents writer.old) (W.contents writer.new)) }
+    ensures err { IfErr result (λ e. Stopped e (R.remaining reader.old) (R.remaining reader.new) (W.contents writer.old) (W.contents writer.new)) }
 {
     let mut chunk = zeros(alloc, CHUNK)?;
-    answer_all(alloc, reader, writer, chunk.as_mut_slice())
+    if answer_all(alloc, reader, writer, chunk.as_mut_slice())? {
+        Ok(())
+    } else {
+        Err(RunError::Read)
+    }
 }

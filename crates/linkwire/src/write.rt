@@ -1,6 +1,6 @@
-ghost use Rattle.std.specs.Prelude.{OnOk, OnErr};
+ghost use Rattle.std.specs.Prelude.{OnOk, IfErr};
 ghost use Rattle.std.specs.Io.KnownBytes.{Appends};
-ghost use Rattle.linkwire.specs.Lines.{AppendsBeginning};
+ghost use Rattle.linkwire.specs.Steps.{FailedWrite};
 
 use crate::error::RunError;
 use std::io::Write;
@@ -8,7 +8,7 @@ use std::io::Write;
 /// Writes all the bytes, with no retry. A write that takes no byte is refused.
 pub fn write_out<W: Write>(writer: &mut W, bytes: &[u8]) -> Result<(), RunError>
     ensures ok { OnOk result (Appends (W.contents writer.old) (W.contents writer.new) bytes.now) }
-    ensures err { OnErr result (AppendsBeginning (W.contents writer.old) (W.contents writer.new) bytes.now) }
+    ensures err { IfErr result (λ e. FailedWrite e (W.contents writer.old) (W.contents writer.new) bytes.now) }
 {
     let mut rest = bytes;
     while !rest.is_empty() {

@@ -1,23 +1,26 @@
-use super::lines::{ANSWERS, TEXT};
+use super::lines::{ANSWERS, STORED, STORED_ANSWERS, TEXT};
 use super::pieces::{NEVER, answers_to, run_in_pieces};
 use crate::error::RunError;
 use memchr::memrchr;
+use nla_wire::exact::same;
+use std::alloc::Global;
+use std::process::Abort;
 use std::test::Fail;
 
-#[test]
-fn each_read_may_fail(rt: HostRuntime) -> Result<(), Fail> {
+/// Fails each read in turn, until no read fails. The reads behind it would succeed.
+fn fail_each_read(rt: &impl Abort, alloc: Global, text: &[u8], answers: &[u8]) -> Result<(), Fail> {
     let piece = 7;
-    for reads in 0..TEXT.len() {
-        let ran = run_in_pieces(rt.alloc(), TEXT, (piece, NEVER), (reads, NEVER));
+    for reads in 0..100 {
+        let ran = run_in_pieces(alloc, text, (piece, NEVER), (reads, NEVER));
         if ran.result.is_ok() {
-            assert_eq!(rt; ran.written.as_slice(), ANSWERS);
-            assert!(rt; reads * piece > TEXT.len());
+            assert_eq!(rt; ran.written.as_slice(), answers);
+            assert!(rt; reads * piece > text.len(), "a failed read was tried again");
             return Ok(());
         }
         assert_eq!(rt; ran.result, Err(RunError::Read), "after {reads} reads");
-        let read = &TEXT[..TEXT.len().min(reads * piece)];
+        let read = &text[..text.len().min(reads * piece)];
         let ended = memrchr(b'\n', read).map_or(0, |end| end + 1);
-        let want = answers_to(rt.alloc(), &TEXT[..ended])?;
+        let want = answers_to(alloc, &text[..ended])?;
         assert_eq!(rt;
             ran.written.as_slice(),
             want.as_slice(),
@@ -29,17 +32,29 @@ fn each_read_may_fail(rt: HostRuntime) -> Result<(), Fail> {
 }
 
 #[test]
-fn each_write_may_fail(rt: HostRuntime) -> Result<(), Fail> {
-    for writes in 0..ANSWERS.len() + 1 {
-        let ran = run_in_pieces(rt.alloc(), TEXT, (NEVER, 1), (NEVER, writes));
+fn each_read_may_fail(rt: HostRuntime) -> Result<(), Fail> {
+    fail_each_read(&rt, rt.alloc(), STORED, STORED_ANSWERS)?;
+    fail_each_read(&rt, rt.alloc(), TEXT, ANSWERS)
+}
+
+/// Fails each write of one byte in turn, until no write fails. The writes behind it would succeed.
+fn fail_each_write(
+    rt: &impl Abort,
+    alloc: Global,
+    text: &[u8],
+    answers: &[u8],
+) -> Result<(), Fail> {
+    for writes in 0..answers.len() + 1 {
+        let ran = run_in_pieces(alloc, text, (NEVER, 1), (NEVER, writes));
         if ran.result.is_ok() {
-            assert_eq!(rt; ran.written.as_slice(), ANSWERS);
+            assert_eq!(rt; ran.written.as_slice(), answers);
+            assert_eq!(rt; writes, answers.len(), "a failed write was tried again");
             return Ok(());
         }
         assert_eq!(rt; ran.result, Err(RunError::Write), "after {writes} writes");
         assert_eq!(rt;
             ran.written.as_slice(),
-            &ANSWERS[..writes],
+            &answers[..writes],
             "after {writes} writes"
         );
     }
@@ -48,10 +63,26 @@ fn each_write_may_fail(rt: HostRuntime) -> Result<(), Fail> {
 }
 
 #[test]
+fn each_write_may_fail(rt: HostRuntime) -> Result<(), Fail> {
+    fail_each_write(&rt, rt.alloc(), STORED, STORED_ANSWERS)?;
+    fail_each_write(&rt, rt.alloc(), TEXT, ANSWERS)
+}
+
+#[test]
 fn a_write_that_takes_nothing_fails(rt: HostRuntime) -> Result<(), Fail> {
-    let ran = run_in_pieces(rt.alloc(), TEXT, (NEVER, 0), (NEVER, NEVER));
+    let ran = run_in_pieces(rt.alloc(), STORED, (NEVER, 0), (NEVER, NEVER));
     assert_eq!(rt; ran.result, Err(RunError::Write));
     assert!(rt; ran.written.is_empty());
+    Ok(())
+}
+
+/// A line of more reads than any small bound on them.
+#[test]
+fn many_reads_are_made(rt: HostRuntime) -> Result<(), Fail> {
+    let text = vec![in rt.alloc(); b'0'; 70000]?;
+    let ran = run_in_pieces(rt.alloc(), text.as_slice(), (1, NEVER), (NEVER, NEVER));
+    assert_eq!(rt; ran.result, Ok(()));
+    assert_eq!(rt; ran.written.as_slice(), b"refused\n".as_slice());
     Ok(())
 }
 
@@ -79,4 +110,11 @@ fn faults_have_their_texts(rt: HostRuntime) -> Result<(), Fail> {
         assert_eq!(rt; text.as_str(), want);
     }
     Ok(())
+}
+
+#[test]
+fn faults_are_compared(rt: HostRuntime) {
+    assert!(rt; same(&RunError::Read, &RunError::Read));
+    assert!(rt; !same(&RunError::Read, &RunError::Write));
+    assert!(rt; !same(&RunError::Write, &RunError::OutOfMemory));
 }

@@ -5,6 +5,13 @@ use std::alloc::Global;
 use std::process::Abort;
 use std::test::Fail;
 
+/// The lines of the stored run, and their answers.
+pub const STORED: &[u8] =
+    b"00000000000000000000000000000000060003006c6f\n\n0\n000000000000000000000000000000000800180004000200\n0000000000000000000000000000000008000480DC050000\n";
+
+pub const STORED_ANSWERS: &[u8] =
+    b"ok 00000000000000000000000000000000070003006c6f0000\nrefused\nnothex\nempty-ports\nok 0000000000000000000000000000000008000400dc050000\n";
+
 /// Some lines of each kind, the last of which no LF ends.
 pub const TEXT: &[u8] =
     b"00000000000000000000000000000000060003006c6f\n\n0\n000000000000000000000000000000000800180004000200\n0000000000000000000000000000000008000480DC050000\r\n00000000000000000000000000000000";
@@ -127,6 +134,14 @@ fn pieces_change_nothing(rt: HostRuntime) -> Result<(), Fail> {
             );
         }
     }
+    Ok(())
+}
+
+#[test]
+fn single_bytes_change_nothing_of_the_stored_run(rt: HostRuntime) -> Result<(), Fail> {
+    let ran = run_in_pieces(rt.alloc(), STORED, (1, 1), (NEVER, NEVER));
+    assert_eq!(rt; ran.result, Ok(()));
+    assert_eq!(rt; ran.written.as_slice(), STORED_ANSWERS);
     Ok(())
 }
 

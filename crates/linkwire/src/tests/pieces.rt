@@ -9,7 +9,7 @@ use std::io::{self, Read, Write};
 /// A count of calls that is never reached.
 pub const NEVER: usize = usize::MAX;
 
-/// Gives its bytes, at most `piece` of them at a read, and fails after so many reads.
+/// Gives its bytes, at most `piece` of them at a read. The read behind the first `reads` fails, and no other.
 #[derive(Drop)]
 pub struct PieceReader<'a> {
     pub bytes: &'a [u8],
@@ -20,6 +20,7 @@ pub struct PieceReader<'a> {
 impl<'a> Read for PieceReader<'a> {
     fn read(&mut self, buf: &mut [u8]) -> io::Result<usize> {
         if self.reads == 0 {
+            self.reads = NEVER;
             return Err(io::Error::from(io::ErrorKind::Interrupted));
         }
         self.reads -= 1;
@@ -30,7 +31,7 @@ impl<'a> Read for PieceReader<'a> {
     }
 }
 
-/// Takes at most `piece` bytes at a write, and fails after so many writes.
+/// Takes at most `piece` bytes at a write. The write behind the first `writes` fails, and no other.
 #[derive(Drop)]
 pub struct PieceWriter {
     pub taken: Vec<u8>,
@@ -42,6 +43,7 @@ pub struct PieceWriter {
 impl Write for PieceWriter {
     fn write(&mut self, buf: &[u8]) -> io::Result<usize> {
         if self.writes == 0 {
+            self.writes = NEVER;
             return Err(io::Error::from(io::ErrorKind::Interrupted));
         }
         self.writes -= 1;
