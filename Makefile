@@ -17,6 +17,7 @@ check:
 # Tries the edits that the gate has no time for; it takes more than an hour.
 edits:
 	@scripts/more_edits.sh
+	@scripts/tested_edits.sh
 
 # Prints the tables as JSON, after they were compared with the kernel's files: make -s tables >tables.json
 tables:

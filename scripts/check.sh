@@ -9,6 +9,7 @@ rt ci | tee "$log"
 scripts/program.sh
 scripts/c_tests.sh --over-gate
 scripts/refused_memory.sh
+scripts/refused_parse.sh
 scripts/kernel_tables.sh
 scripts/test_kernel_tables.sh
 tail -n 1 "$log"

@@ -3,6 +3,7 @@
 
     python3 scripts/edits.py edits/CRATE.txt FOLDER [WORDS]
     python3 scripts/edits.py --fit [edits/CRATE.txt ..]
+    python3 scripts/edits.py --apply FILE.edit CRATE
 
 A list has lines '# ..' at its head, then groups and edits with an empty line between them. A group is a line '== TITLE'.
 An edit is a headline in plain words, a line 'file: PATH' with a file of the crate, and pairs of lines 'old: TEXT' and
@@ -11,6 +12,7 @@ written to FOLDER/NAME.edit, where NAME is its headline with _ between the words
 FOLDER whose name has these words, next to each other.
 
 --fit says which edits of the lists (of all lists, where none is named) do not fit their crate's files any more.
+--apply makes one edit in the files of a crate's folder.
 """
 
 import glob
@@ -107,8 +109,8 @@ def take_apart(path, folder, words):
             os.remove(file)
 
 
-def misfit(lines, crate):
-    """Returns why an edit cannot be applied to the files of the crate, or None."""
+def edited(lines, crate):
+    """Returns the texts of the files that an edit changes, by their path, and why it cannot be applied, or None."""
     texts, path, old = {}, None, None
     for line in lines:
         key, _, text = line.partition(":")
@@ -116,29 +118,40 @@ def misfit(lines, crate):
         if key == "file":
             path = text
             if not os.path.isfile(f"{crate}/{path}"):
-                return f"there is no file {path}"
+                return texts, f"there is no file {path}"
             if path not in texts:
                 with open(f"{crate}/{path}", encoding="utf-8") as it:
                     texts[path] = it.read()
         elif key == "old":
             old, count = text, texts[path].count(text)
             if count != 1:
-                return f"this text is in {path} {count} times, and not once: {text.strip()[:80]}"
+                return texts, f"this text is in {path} {count} times, and not once: {text.strip()[:80]}"
         else:
             texts[path] = texts[path].replace(old, text)
-    return None
+    return texts, None
+
+
+def apply(edit, crate):
+    with open(edit, encoding="utf-8") as it:
+        texts, why = edited(it.read().rstrip("\n").split("\n"), crate)
+    if why:
+        sys.exit(f"{edit}: {why}")
+    for path, text in texts.items():
+        with open(f"{crate}/{path}", "w", encoding="utf-8") as it:
+            it.write(text)
+    return 0
 
 
 def fit(paths):
     top = os.path.dirname(os.path.dirname(os.path.abspath(__file__)))
     failed = 0
-    for path in paths or sorted(glob.glob(f"{top}/edits/*.txt")):
+    for path in paths or sorted(glob.glob(f"{top}/edits/*.txt") + glob.glob(f"{top}/tests/edits/*.txt")):
         crate = os.path.basename(path)[: -len(".txt")]
         edits = read(path)
-        bad = [(it, why) for it, lines in edits for why in [misfit(lines, f"{top}/crates/{crate}")] if why]
+        bad = [(it, why) for it, lines in edits for why in [edited(lines, f"{top}/crates/{crate}")[1]] if why]
         for headline, why in bad:
             print(f"{crate}: {headline}: {why}")
-        print(f"{crate}: {len(edits)} edits, {len(bad)} do not fit")
+        print(f"{os.path.relpath(path, top)}: {len(edits)} edits, {len(bad)} do not fit")
         failed += len(bad)
     return 1 if failed else 0
 
@@ -146,6 +159,8 @@ def fit(paths):
 def main(words):
     if words[:1] == ["--fit"]:
         return fit(words[1:])
+    if words[:1] == ["--apply"] and len(words) == 3:
+        return apply(words[1], words[2])
     if len(words) not in (2, 3) or words[0].startswith("-"):
         print(__doc__, end="", file=sys.stderr)
         return 2

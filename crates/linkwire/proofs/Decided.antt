@@ -1,11 +1,11 @@
--- What can be told of any bytes and of any message: whether they are read, whether it fits, and whether it holds ports.
-use Rattle.std.proofs.Common.{◌≡◌, ℕ, ◌≤◌, ◌^◌, List, [], ◌∷◌, length, inl, inr, refl, sym, ◌∙◌}
+-- Bytes mean a message or none; a message fits or not, and holds ports or not.
+use Rattle.std.proofs.Common.{◌≡◌, ℕ, ◌^◌, List, [], ◌∷◌, length, inl, inr, refl, sym, ◌∙◌}
 use Rattle.std.specs.Prelude.{◌⊎◌, Result, Ok, Err}
 use Rattle.std.specs.List.{AllByRecursion}
 use native.Mathlib.Decide.{dec_le, dec_lt}
 use Rattle.nla_wire.specs.Sizes.{most_payload}
-use Rattle.nla_wire.specs.Frames.{IsBytes}
-use Rattle.nla_wire.specs.Canon.{canons, AllFit}
+use Rattle.nla_wire.specs.Frames.{Frame, IsBytes}
+use Rattle.nla_wire.specs.Canon.{IsSmall, canons, AllFit}
 use Rattle.nla_wire.specs.declared.error.Cause.{Cause}
 use Rattle.nla_wire.proofs.Codec.{Place}
 use Rattle.link_vf.specs.Tables.{vf_stats_place, vf_stats_small, vf_vlan_place, vf_info_place, link_vf_info_place}
@@ -41,79 +41,82 @@ both (yes p) (no n) = no (λ h. n h.1)
 both (no n) q = no (λ h. n h.0)
 
 each : {V : Type 0} {P : V → Type 0} → ((v : V) → Dec (P v)) → (vs : List V) → Dec (AllByRecursion P vs)
-each told [] = yes tt
-each told (v ∷ vs) = both (told v) (each told vs)
+each test [] = yes tt
+each test (v ∷ vs) = both (test v) (each test vs)
 
 -- ** places
 
+small : (f : Frame) → Dec (IsSmall f)
+small f = dec_le (length f.payload) most_payload
+
 -- where all that is small fits
-small_told : {V : Type 0} (p : Place V) → ((v : V) → length (p.frame v).payload ≤ most_payload → p.Fits v) → (v : V) → Dec (p.Fits v)
-small_told p fits v = elim (dec_le (length (p.frame v).payload) most_payload) [ yes small ↦ yes (fits v small) | no n ↦ no (λ h. n (p.is_small v h)) ]
+flat : {V : Type 0} (p : Place V) → ((v : V) → IsSmall (p.frame v) → p.Fits v) → (v : V) → Dec (p.Fits v)
+flat p fits v = elim (small (p.frame v)) [ yes is ↦ yes (fits v is) | no n ↦ no (λ h. n (p.is_small v h)) ]
 
-members_told : {V : Type 0} (p : Place V) → ((v : V) → Dec (p.Fits v)) → (vs : List V) → Dec (AllFit p.Fits p.frame vs)
-members_told p told vs = both (each told vs) (dec_lt (length (canons p.frame vs)) (2 ^ 64))
+members : {V : Type 0} (p : Place V) → ((v : V) → Dec (p.Fits v)) → (vs : List V) → Dec (AllFit p.Fits p.frame vs)
+members p each_fits vs = both (each each_fits vs) (dec_lt (length (canons p.frame vs)) (2 ^ 64))
 
-vf_vlan_told : (v : VfVlan) → Dec (vf_vlan_place.Fits v)
+vf_vlan : (v : VfVlan) → Dec (vf_vlan_place.Fits v)
 unfolding vf_vlan_place
-vf_vlan_told = small_told vf_vlan_place (vf_vlan_place.when_small tt)
+vf_vlan = flat vf_vlan_place (vf_vlan_place.when_small tt)
 
-vf_info_told : (v : VfInfo) → Dec (vf_info_place.Fits v)
+vf_info : (v : VfInfo) → Dec (vf_info_place.Fits v)
 unfolding vf_info_place
-vf_info_told (Infos.Stats vs) = both (dec_le (length (vf_info_place.frame (Infos.Stats vs)).payload) most_payload) (members_told vf_stats_place (small_told vf_stats_place vf_stats_small) vs)
-vf_info_told (Infos.VlanList vs) = both (dec_le (length (vf_info_place.frame (Infos.VlanList vs)).payload) most_payload) (members_told vf_vlan_place vf_vlan_told vs)
-vf_info_told v = both (dec_le (length (vf_info_place.frame v).payload) most_payload) (yes tt)
+vf_info (Infos.Stats vs) = both (small (vf_info_place.frame (Infos.Stats vs))) (members vf_stats_place (flat vf_stats_place vf_stats_small) vs)
+vf_info (Infos.VlanList vs) = both (small (vf_info_place.frame (Infos.VlanList vs))) (members vf_vlan_place vf_vlan vs)
+vf_info v = both (small (vf_info_place.frame v)) (yes tt)
 
-functions_told : (v : LinkVfInfo) → Dec (link_vf_info_place.Fits v)
+function : (v : LinkVfInfo) → Dec (link_vf_info_place.Fits v)
 unfolding link_vf_info_place
-functions_told v = both (dec_le (length (link_vf_info_place.frame v).payload) most_payload) (members_told vf_info_place vf_info_told v.0)
+function v = both (small (link_vf_info_place.frame v)) (members vf_info_place vf_info v.0)
 
-ports_told : (v : LinkVfPort) → Dec (link_vf_port_place.Fits v)
+port : (v : LinkVfPort) → Dec (link_vf_port_place.Fits v)
 unfolding link_vf_port_place
-ports_told v = both (dec_le (length (link_vf_port_place.frame v).payload) most_payload) (members_told vf_port_place (small_told vf_port_place vf_port_small) v.0)
+port v = both (small (link_vf_port_place.frame v)) (members vf_port_place (flat vf_port_place vf_port_small) v.0)
 
-inet_told : (v : AfSpecInet) → Dec (af_spec_inet_place.Fits v)
+inet : (v : AfSpecInet) → Dec (af_spec_inet_place.Fits v)
 unfolding af_spec_inet_place
-inet_told = small_told af_spec_inet_place (af_spec_inet_place.when_small tt)
+inet = flat af_spec_inet_place (af_spec_inet_place.when_small tt)
 
-inet6_told : (v : AfSpecInet6) → Dec (af_spec_inet6_place.Fits v)
+inet6 : (v : AfSpecInet6) → Dec (af_spec_inet6_place.Fits v)
 unfolding af_spec_inet6_place
-inet6_told = small_told af_spec_inet6_place (af_spec_inet6_place.when_small tt)
+inet6 = flat af_spec_inet6_place (af_spec_inet6_place.when_small tt)
 
-unspec_told : (v : AfSpecUnspec) → Dec (af_spec_unspec_place.Fits v)
+unspec : (v : AfSpecUnspec) → Dec (af_spec_unspec_place.Fits v)
 unfolding af_spec_unspec_place
-unspec_told (Unspecs.Inet vs) = both (dec_le (length (af_spec_unspec_place.frame (Unspecs.Inet vs)).payload) most_payload) (members_told af_spec_inet_place inet_told vs)
-unspec_told (Unspecs.Inet6 vs) = both (dec_le (length (af_spec_unspec_place.frame (Unspecs.Inet6 vs)).payload) most_payload) (members_told af_spec_inet6_place inet6_told vs)
-unspec_told (Unspecs.Mctp vs) = both (dec_le (length (af_spec_unspec_place.frame (Unspecs.Mctp vs)).payload) most_payload) (members_told af_spec_mctp_place (small_told af_spec_mctp_place af_spec_mctp_small) vs)
-unspec_told v = both (dec_le (length (af_spec_unspec_place.frame v).payload) most_payload) (yes tt)
+unspec (Unspecs.Inet vs) = both (small (af_spec_unspec_place.frame (Unspecs.Inet vs))) (members af_spec_inet_place inet vs)
+unspec (Unspecs.Inet6 vs) = both (small (af_spec_unspec_place.frame (Unspecs.Inet6 vs))) (members af_spec_inet6_place inet6 vs)
+unspec (Unspecs.Mctp vs) = both (small (af_spec_unspec_place.frame (Unspecs.Mctp vs))) (members af_spec_mctp_place (flat af_spec_mctp_place af_spec_mctp_small) vs)
+unspec v = both (small (af_spec_unspec_place.frame v)) (yes tt)
 
 -- ** messages
 
-inside_told : (v : LinkAttribute) → Dec (InsideFits v)
+inside : (v : LinkAttribute) → Dec (InsideFits v)
 unfolding attribute_view
-inside_told (Attributes.Wireless event) = dec_le _ most_payload
-inside_told (Attributes.ProtoInfoBridge vs) = members_told link_proto_info_bridge_place (small_told link_proto_info_bridge_place link_proto_info_bridge_small) vs
-inside_told (Attributes.ProtoInfoInet6 vs) = members_told link_proto_info_inet6_place (small_told link_proto_info_inet6_place link_proto_info_inet6_small) vs
-inside_told (Attributes.LinkInfo vs) = members_told link_info_place (small_told link_info_place link_info_small) vs
-inside_told (Attributes.VfInfoList vs) = members_told link_vf_info_place functions_told vs
-inside_told (Attributes.VfPorts vs) = members_told link_vf_port_place ports_told vs
-inside_told (Attributes.PortSelf v) = members_told vf_port_place (small_told vf_port_place vf_port_small) v.0
-inside_told (Attributes.AfSpecBridge vs) = members_told af_spec_bridge_place (small_told af_spec_bridge_place af_spec_bridge_small) vs
-inside_told (Attributes.AfSpecUnspec vs) = members_told af_spec_unspec_place unspec_told vs
-inside_told (Attributes.ExtMask flags) = dec_lt _ (2 ^ 32)
-inside_told (Attributes.PhysPortId id) = dec_le id.len 32
-inside_told (Attributes.PhysSwitchId id) = dec_le id.len 32
-inside_told (Attributes.Xdp vs) = members_told xdp_place (small_told xdp_place xdp_small) vs
-inside_told (Attributes.PropList vs) = members_told prop_place (small_told prop_place prop_small) vs
-inside_told (Attributes.ProtoDownReason vs) = members_told down_reason_place (small_told down_reason_place down_reason_small) vs
-inside_told (Attributes.DevlinkPort vs) = members_told devlink_port_place (small_told devlink_port_place devlink_port_small) vs
-inside_told (Attributes.DpllPin vs) = members_told dpll_pin_place (small_told dpll_pin_place dpll_pin_small) vs
-inside_told _ = yes tt
+inside (Attributes.Wireless event) = dec_le _ most_payload
+inside (Attributes.ProtoInfoBridge vs) = members link_proto_info_bridge_place (flat link_proto_info_bridge_place link_proto_info_bridge_small) vs
+inside (Attributes.ProtoInfoInet6 vs) = members link_proto_info_inet6_place (flat link_proto_info_inet6_place link_proto_info_inet6_small) vs
+inside (Attributes.LinkInfo vs) = members link_info_place (flat link_info_place link_info_small) vs
+inside (Attributes.VfInfoList vs) = members link_vf_info_place function vs
+inside (Attributes.VfPorts vs) = members link_vf_port_place port vs
+inside (Attributes.PortSelf v) = members vf_port_place (flat vf_port_place vf_port_small) v.0
+inside (Attributes.AfSpecBridge vs) = members af_spec_bridge_place (flat af_spec_bridge_place af_spec_bridge_small) vs
+inside (Attributes.AfSpecUnspec vs) = members af_spec_unspec_place unspec vs
+inside (Attributes.ExtMask flags) = dec_lt _ (2 ^ 32)
+inside (Attributes.PhysPortId id) = dec_le id.len 32
+inside (Attributes.PhysSwitchId id) = dec_le id.len 32
+inside (Attributes.Xdp vs) = members xdp_place (flat xdp_place xdp_small) vs
+inside (Attributes.PropList vs) = members prop_place (flat prop_place prop_small) vs
+inside (Attributes.ProtoDownReason vs) = members down_reason_place (flat down_reason_place down_reason_small) vs
+inside (Attributes.DevlinkPort vs) = members devlink_port_place (flat devlink_port_place devlink_port_small) vs
+inside (Attributes.DpllPin vs) = members dpll_pin_place (flat dpll_pin_place dpll_pin_small) vs
+inside _ = yes tt
 
-attribute_told : (v : LinkAttribute) → Dec (AttributeFits v)
-attribute_told v = both (dec_le (length (attribute_frame v).payload) most_payload) (inside_told v)
+attribute : (v : LinkAttribute) → Dec (AttributeFits v)
+attribute v = both (small (attribute_frame v)) (inside v)
 
 pub fits_or_not : (m : LinkMessage) → Dec (MessageFits m)
-fits_or_not m = both (each attribute_told m.attributes) (dec_lt (length (message_text m)) (2 ^ 64))
+fits_or_not m = both (each attribute m.attributes) (dec_lt (length (message_text m)) (2 ^ 64))
 
 attribute_ports : (v : LinkAttribute) → Dec (HasPorts v)
 attribute_ports (Attributes.VfPorts ports) = dec_lt 0 (length ports)

@@ -70,11 +70,3 @@ Sends-short a b c bytes waiting h k =
 pub AppendsShort-more : (a b : Option (List ℕ)) (bytes more : List ℕ) → AppendsShort a b bytes → AppendsShort a b (bytes ++ more)
 AppendsShort-more a b bytes more h =
     (h.0, h.1, (h.2.0 ++ more, omega (arith, h.2.1, length-append h.2.0 more), ap (λ t. t ++ more) h.2.2 ∙ append_assoc h.0 h.2.0 more))
-
--- no byte waits
-pub Sends-end : (a b : Option (List ℕ)) (bytes : List ℕ) → Sends a b bytes [] → Appends a b bytes
-Sends-end a b bytes h = Sends-all a b b bytes [] h (Appends-none b)
-
--- a write that fails
-pub Sends-fails : (a b c : Option (List ℕ)) (bytes rest : List ℕ) → Sends a b bytes rest → Keeps b c → 0 < length rest → AppendsShort a c bytes
-Sends-fails a b c bytes rest h k some = (h.0, Appends-keeps a b c h.0 h.1 k, (rest, some, h.2))

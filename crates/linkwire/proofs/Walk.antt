@@ -13,7 +13,7 @@ use Rattle.linkwire.specs.declared.error.RunError.{RunError}
 use Rattle.linkwire.specs.declared.error.RunError.TheVariants as Errors
 use Rattle.linkwire.proofs.Text.{complete_lines-cut, complete_lines-joined, complete_lines-none, Cut-join, no_lf_before, cut_at_lf, no_lf_at_all}
 use Rattle.linkwire.proofs.Known.{Consumes-none, Consumes-join, Consumes-keeps, Consumes-all, Appends-none, Appends-join, Sends-none, Sends-join, Sends-add, Sends-all, Sends-short, AppendsShort-more}
-use Rattle.linkwire.proofs.Joined.{AreAnswers-none, AreAnswers-one, AreAnswers-join, answers_due, WroteSome-after, WroteSome-begun, WroteSome-none, WroteSome-short}
+use Rattle.linkwire.proofs.Joined.{AreAnswers-none, AreAnswers-one, AreAnswers-join, answers_due, WroteSome-after, WroteSome-begun, WroteSome-short}
 
 -- ** the lines of a piece
 pub record Going (held held_after : Option (List ℕ)) (text waiting kept rest : List ℕ) : Type 0 where
@@ -181,16 +181,6 @@ Reading-not_ended a b u v kept reads h many = record {
   answers = reading_due a b u v kept reads h;
 }
 
-pub NotEnded-stops : (a b u v : Option (List ℕ)) → NotEnded a b u v → Stopped Errors.Read a b u v
-NotEnded-stops a b u v h = record {
-  text = h.text;
-  ended = false;
-  consumed = h.consumed;
-  at_end = λ e. cc;
-  before_end = λ e. refl;
-  wrote = record { due = h.written; answers = h.answers; written = h.written; appended = h.appended; cut = refl };
-}
-
 -- one that ends amid the answers to the piece that was read
 pub Reading-stops_in : (e : RunError) (a b c u v w : Option (List ℕ)) (kept piece : List ℕ) (reads : ℕ)
     → Reading a b u v kept reads → Consumes b c piece → AnsweredSome e v w (kept ++ piece) → Stopped e a c u w
@@ -237,14 +227,3 @@ Reading-stops_at_end e a b c u v w kept reads h r last s =
       wrote = subst (λ (t : List (List ℕ)). WroteSome e u w t) (sym (complete_lines-cut true h.text g.lines kept g.cut))
           (WroteSome-after e u v w g.lines (lines_of kept) g.written g.appended g.answers s.1);
     }
-
--- one that ends before the first read, where no memory is left
-pub Stopped-none : (a u : Option (List ℕ)) → Stopped Errors.OutOfMemory a a u u
-Stopped-none a u = record {
-  text = [];
-  ended = false;
-  consumed = Consumes-none a;
-  at_end = λ e. cc;
-  before_end = λ e. refl;
-  wrote = WroteSome-none u [];
-}
