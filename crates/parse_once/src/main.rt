@@ -21,7 +21,12 @@ fn main(rt: HostRuntime) -> ExitCode {
             println!(rt; "ok, {count} attributes, {text_len} bytes of text")
         }
         Ok(_) => println!(rt; "ok, and too long to be written"),
-        Err(DecodeError { cause: Cause::OutOfMemory, .. }) => println!(rt; "out of memory"),
+        Err(
+            DecodeError {
+                cause: Cause::OutOfMemory,
+                ..
+            },
+        ) => println!(rt; "out of memory"),
         Err(_) => println!(rt; "refused"),
     };
     match printed {

@@ -5,6 +5,10 @@
 #[cfg(test)]
 mod attribute_values;
 #[cfg(test)]
+mod copies;
+#[cfg(test)]
+mod copies_of_members;
+#[cfg(test)]
 mod damaged_lists;
 #[cfg(test)]
 mod empty_ports;
@@ -16,6 +20,8 @@ mod functions_and_ports;
 mod kept_lists;
 #[cfg(test)]
 mod list_values;
+#[cfg(test)]
+mod long_inputs;
 #[cfg(test)]
 mod longer_records;
 #[cfg(test)]

@@ -1,0 +1,102 @@
+//! Messages of a million bytes, and of a quarter of a million.
+
+use crate::testing::*;
+use link_msg::*;
+use std::alloc::Global;
+use std::process::Abort;
+
+/// The bytes of a message here.
+const LENGTH: usize = 1_000_000;
+
+/// The bytes of one that is written again with no memory, into a buffer that is longer by far.
+const SHORTER: usize = 250_000;
+
+/// Two attributes in their canonical spelling, one that is kept and a name.
+const TWO: [u8; 48] = [
+    40, 0, 99, 0xc0, 1, 2, 3, 4, 5, 6, 7, 8, 9, 10, 11, 12, 13, 14, 15, 16, 17, 18, 19, 20, 21, 22,
+    23, 24, 25, 26, 27, 28, 29, 30, 31, 32, 33, 34, 35, 36, 7, 0, 3, 0, 0x6c, 0x6f, 0, 0,
+];
+
+/// A header of zeros and those attributes, one behind the other, in so many bytes.
+fn message(rt: &impl Abort, alloc: Global, length: usize) -> Vec<u8> {
+    let mut bytes = got(rt, vec![in alloc; 0u8; 16]);
+    for _ in 0..length.saturating_sub(16) / TWO.len() {
+        got(rt, bytes.extend_from_slice(&TWO));
+    }
+    assert!(rt; bytes.len() == length);
+    bytes
+}
+
+/// The last name is another one.
+fn other_name(rt: &impl Abort, bytes: &mut Vec<u8>) {
+    assert!(rt; bytes.len() == LENGTH);
+    bytes[LENGTH - 3] = 0x70;
+}
+
+#[test]
+fn is_read(rt: HostRuntime) {
+    let bytes = message(&rt, rt.alloc(), LENGTH);
+    let read = read_message(&rt, rt.alloc(), bytes.as_slice());
+    assert!(rt; read.attributes.len() == (LENGTH - 16) / TWO.len() * 2);
+    assert!(rt; read.fits());
+    assert!(rt; read.buffer_len() == LENGTH);
+    let mut text = got(&rt, vec![in rt.alloc(); 255u8; LENGTH]);
+    assert!(rt; text.len() == LENGTH);
+    read.emit(text.as_mut_slice());
+    are(&rt, text.as_slice(), bytes.as_slice());
+}
+
+#[test]
+fn is_checked(rt: HostRuntime) {
+    let mut bytes = message(&rt, rt.alloc(), LENGTH);
+    fails(&rt, LinkMessage::check(bytes.as_slice()), None);
+    got(&rt, bytes.push(0));
+    let short = Some(Cause::FrameShort { left: 1 });
+    fails(&rt, LinkMessage::check(bytes.as_slice()), short);
+    fails(&rt, LinkMessage::parse(rt.alloc(), bytes.as_slice()), short);
+}
+
+#[test]
+fn has_its_text(rt: HostRuntime) {
+    let bytes = message(&rt, rt.alloc(), LENGTH);
+    let text = text_made(&rt, rt.alloc(), bytes.as_slice());
+    assert!(rt; text.len() == LENGTH);
+    are(&rt, text.as_slice(), bytes.as_slice());
+}
+
+/// What was missing at the end is written.
+#[test]
+fn gets_its_padding(rt: HostRuntime) {
+    let mut bytes = message(&rt, rt.alloc(), LENGTH);
+    assert!(rt; bytes.len() == LENGTH);
+    bytes.truncate(LENGTH - 1);
+    let text = text_made(&rt, rt.alloc(), bytes.as_slice());
+    are(
+        &rt,
+        text.as_slice(),
+        message(&rt, rt.alloc(), LENGTH).as_slice(),
+    );
+}
+
+#[test]
+fn is_compared(rt: HostRuntime) {
+    let one = message(&rt, rt.alloc(), LENGTH);
+    let mut other = message(&rt, rt.alloc(), LENGTH);
+    are_same(&rt, rt.alloc(), one.as_slice(), other.as_slice(), true);
+    other_name(&rt, &mut other);
+    are_same(&rt, rt.alloc(), one.as_slice(), other.as_slice(), false);
+}
+
+#[test]
+fn is_rewritten(rt: HostRuntime) {
+    let bytes = message(&rt, rt.alloc(), SHORTER);
+    assert!(rt; bytes.len() == SHORTER);
+    let room = GROWTH * SHORTER;
+    let mut out = got(&rt, vec![in rt.alloc(); 255u8; room]);
+    let out = out.as_mut_slice();
+    assert!(rt; out.len() == room);
+    let len = canonical_into(bytes.as_slice(), out);
+    assert!(rt; len == Ok(SHORTER));
+    begin(&rt, out, bytes.as_slice());
+    assert!(rt; out[SHORTER] == 255);
+}
