@@ -1,7 +1,7 @@
 //! Settings of bridges, members of IFLA_AF_SPEC of the family AF_BRIDGE, which are kept undecoded.
 
 use nla_wire::{
-    CloneIn, Content, DecodeError, DefaultNla, Exact, Flat, Nla, NlaBuffer, NlaRead, canon_bytes,
+    CloneIn, Content, DecodeError, DefaultNla, Exact, Flat, Nla, NlaBuffer, NlaRead, write_value,
 };
 use std::alloc::Global;
 
@@ -48,8 +48,13 @@ impl NlaRead for AfSpecBridge {
     }
 
     #[tactic(auto, unfolding(crate::specs::Tables::af_spec_bridge_place))]
-    fn canon(buffer: &NlaBuffer<'_>, out: &mut [u8]) -> Option<usize> {
-        canon_bytes(buffer.kind_with_flags(), buffer.value(), out)
+    fn measure_frame(buffer: &NlaBuffer<'_>) -> Option<usize> {
+        Some(buffer.value().len())
+    }
+
+    #[tactic(auto, unfolding(crate::specs::Tables::af_spec_bridge_place))]
+    fn write_frame(buffer: &NlaBuffer<'_>, out: &mut [u8]) -> usize {
+        write_value(buffer.kind_with_flags(), buffer.value(), out)
     }
 
     ghost agrees = { af_spec_bridge_place.lawful.agrees };

@@ -6,7 +6,8 @@ use crate::numbers::IFLA_INET_CONF;
 use crate::request::{fill_request, request_len};
 use link_recs::InetDevConf;
 use nla_wire::{
-    CloneIn, DecodeError, DefaultNla, Exact, NLA_F_NESTED, Nla, NlaBuffer, NlaRead, canon_bytes,
+    CloneIn, DecodeError, DefaultNla, Exact, NLA_F_NESTED, Nla, NlaBuffer, NlaRead, PlainRecord,
+    Record, write_value,
 };
 use std::alloc::Global;
 
@@ -82,10 +83,18 @@ impl NlaRead for AfSpecInet {
     }
 
     #[tactic(auto, unfolding(crate::specs::Tables::af_spec_inet_place))]
-    fn canon(buffer: &NlaBuffer<'_>, out: &mut [u8]) -> Option<usize> {
+    fn measure_frame(buffer: &NlaBuffer<'_>) -> Option<usize> {
         match buffer.kind() {
-            IFLA_INET_CONF => InetDevConf::canon(IFLA_INET_CONF, buffer.value(), out),
-            _ => canon_bytes(buffer.kind_with_flags(), buffer.value(), out),
+            IFLA_INET_CONF => InetDevConf::measure_filled(buffer.value()),
+            _ => Some(buffer.value().len()),
+        }
+    }
+
+    #[tactic(auto, unfolding(crate::specs::Tables::af_spec_inet_place))]
+    fn write_frame(buffer: &NlaBuffer<'_>, out: &mut [u8]) -> usize {
+        match buffer.kind() {
+            IFLA_INET_CONF => InetDevConf::write_filled(IFLA_INET_CONF, buffer.value(), out),
+            _ => write_value(buffer.kind_with_flags(), buffer.value(), out),
         }
     }
 

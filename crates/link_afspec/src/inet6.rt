@@ -12,8 +12,9 @@ use link_recs::{Icmp6Stats, Inet6CacheInfo, Inet6DevConf, Inet6Stats};
 use link_vals::{In6AddrGenMode, Inet6IfaceFlags};
 use nla_wire::error::checked;
 use nla_wire::{
-    CloneIn, DecodeError, DefaultNla, Exact, Nla, NlaBuffer, NlaRead, canon_bytes, canon_ipv6_addr,
-    canon_u8, canon_u32, fill_bytes, parse_ipv6_addr, parse_u8, parse_u32,
+    CloneIn, DecodeError, DefaultNla, Exact, Nla, NlaBuffer, NlaRead, PlainRecord, Record,
+    fill_bytes, measure_ipv6_addr, measure_u8, measure_u32, parse_ipv6_addr, parse_u8, parse_u32,
+    write_ipv6_addr_payload, write_u8_payload, write_u32_payload, write_value,
 };
 use std::alloc::Global;
 use std::net::Ipv6Addr;
@@ -148,19 +149,39 @@ impl NlaRead for AfSpecInet6 {
         }
     }
 
-    #[tactic(auto, unfolding(crate::specs::Tables::af_spec_inet6_place, nla_wire::specs::Payloads::read_number, nla_wire::specs::Payloads::read_exactly, nla_wire::specs::Payloads::read_sized), using(link_vals::proofs::Numbers::in6_addr_gen_mode_again))]
-    fn canon(buffer: &NlaBuffer<'_>, out: &mut [u8]) -> Option<usize> {
+    #[tactic(auto, unfolding(crate::specs::Tables::af_spec_inet6_place), using(link_vals::proofs::Numbers::in6_addr_gen_mode_again))]
+    fn measure_frame(buffer: &NlaBuffer<'_>) -> Option<usize> {
         let payload = buffer.value();
         match buffer.kind() {
-            IFLA_INET6_FLAGS => canon_u32(IFLA_INET6_FLAGS, payload, out),
-            IFLA_INET6_CONF => Inet6DevConf::canon(IFLA_INET6_CONF, payload, out),
-            IFLA_INET6_STATS => Inet6Stats::canon(IFLA_INET6_STATS, payload, out),
-            IFLA_INET6_CACHEINFO => Inet6CacheInfo::canon(IFLA_INET6_CACHEINFO, payload, out),
-            IFLA_INET6_ICMP6STATS => Icmp6Stats::canon(IFLA_INET6_ICMP6STATS, payload, out),
-            IFLA_INET6_TOKEN => canon_ipv6_addr(IFLA_INET6_TOKEN, payload, out),
-            IFLA_INET6_ADDR_GEN_MODE => canon_u8(IFLA_INET6_ADDR_GEN_MODE, payload, out),
-            IFLA_INET6_RA_MTU => canon_u32(IFLA_INET6_RA_MTU, payload, out),
-            _ => canon_bytes(buffer.kind_with_flags(), payload, out),
+            IFLA_INET6_FLAGS => measure_u32(payload),
+            IFLA_INET6_CONF => Inet6DevConf::measure_filled(payload),
+            IFLA_INET6_STATS => Inet6Stats::measure_filled(payload),
+            IFLA_INET6_CACHEINFO => Inet6CacheInfo::measure_sized(payload),
+            IFLA_INET6_ICMP6STATS => Icmp6Stats::measure_filled(payload),
+            IFLA_INET6_TOKEN => measure_ipv6_addr(payload),
+            IFLA_INET6_ADDR_GEN_MODE => measure_u8(payload),
+            IFLA_INET6_RA_MTU => measure_u32(payload),
+            _ => Some(payload.len()),
+        }
+    }
+
+    #[tactic(auto, unfolding(crate::specs::Tables::af_spec_inet6_place, nla_wire::specs::Payloads::read_number, nla_wire::specs::Payloads::read_exactly, nla_wire::specs::Payloads::read_sized), using(link_vals::proofs::Numbers::in6_addr_gen_mode_again))]
+    fn write_frame(buffer: &NlaBuffer<'_>, out: &mut [u8]) -> usize {
+        let payload = buffer.value();
+        match buffer.kind() {
+            IFLA_INET6_FLAGS => write_u32_payload(IFLA_INET6_FLAGS, payload, out),
+            IFLA_INET6_CONF => Inet6DevConf::write_filled(IFLA_INET6_CONF, payload, out),
+            IFLA_INET6_STATS => Inet6Stats::write_filled(IFLA_INET6_STATS, payload, out),
+            IFLA_INET6_CACHEINFO => Inet6CacheInfo::write_filled(
+                IFLA_INET6_CACHEINFO,
+                payload,
+                out,
+            ),
+            IFLA_INET6_ICMP6STATS => Icmp6Stats::write_filled(IFLA_INET6_ICMP6STATS, payload, out),
+            IFLA_INET6_TOKEN => write_ipv6_addr_payload(IFLA_INET6_TOKEN, payload, out),
+            IFLA_INET6_ADDR_GEN_MODE => write_u8_payload(IFLA_INET6_ADDR_GEN_MODE, payload, out),
+            IFLA_INET6_RA_MTU => write_u32_payload(IFLA_INET6_RA_MTU, payload, out),
+            _ => write_value(buffer.kind_with_flags(), payload, out),
         }
     }
 

@@ -8,8 +8,8 @@ use crate::numbers::{IFLA_MCTP_NET, IFLA_MCTP_PHYS_BINDING};
 use link_vals::MctpPhysBinding;
 use nla_wire::error::checked;
 use nla_wire::{
-    CloneIn, Content, DecodeError, DefaultNla, Exact, Flat, Nla, NlaBuffer, NlaRead, canon_bytes,
-    canon_u8, canon_u32, parse_u8, parse_u32,
+    CloneIn, Content, DecodeError, DefaultNla, Exact, Flat, Nla, NlaBuffer, NlaRead, measure_u8,
+    measure_u32, parse_u8, parse_u32, write_u8_payload, write_u32_payload, write_value,
 };
 use std::alloc::Global;
 
@@ -81,11 +81,20 @@ impl NlaRead for AfSpecMctp {
     }
 
     #[tactic(auto, unfolding(crate::specs::Tables::af_spec_mctp_place, nla_wire::specs::Payloads::read_number), using(link_vals::proofs::Numbers::mctp_phys_binding_again))]
-    fn canon(buffer: &NlaBuffer<'_>, out: &mut [u8]) -> Option<usize> {
+    fn measure_frame(buffer: &NlaBuffer<'_>) -> Option<usize> {
         match buffer.kind() {
-            IFLA_MCTP_NET => canon_u32(IFLA_MCTP_NET, buffer.value(), out),
-            IFLA_MCTP_PHYS_BINDING => canon_u8(IFLA_MCTP_PHYS_BINDING, buffer.value(), out),
-            _ => canon_bytes(buffer.kind_with_flags(), buffer.value(), out),
+            IFLA_MCTP_NET => measure_u32(buffer.value()),
+            IFLA_MCTP_PHYS_BINDING => measure_u8(buffer.value()),
+            _ => Some(buffer.value().len()),
+        }
+    }
+
+    #[tactic(auto, unfolding(crate::specs::Tables::af_spec_mctp_place, nla_wire::specs::Payloads::read_number), using(link_vals::proofs::Numbers::mctp_phys_binding_again))]
+    fn write_frame(buffer: &NlaBuffer<'_>, out: &mut [u8]) -> usize {
+        match buffer.kind() {
+            IFLA_MCTP_NET => write_u32_payload(IFLA_MCTP_NET, buffer.value(), out),
+            IFLA_MCTP_PHYS_BINDING => write_u8_payload(IFLA_MCTP_PHYS_BINDING, buffer.value(), out),
+            _ => write_value(buffer.kind_with_flags(), buffer.value(), out),
         }
     }
 

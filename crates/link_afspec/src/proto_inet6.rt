@@ -1,7 +1,7 @@
 //! Members of IFLA_PROTINFO of IPv6, which are kept undecoded.
 
 use nla_wire::{
-    CloneIn, Content, DecodeError, DefaultNla, Exact, Flat, Nla, NlaBuffer, NlaRead, canon_bytes,
+    CloneIn, Content, DecodeError, DefaultNla, Exact, Flat, Nla, NlaBuffer, NlaRead, write_value,
 };
 use std::alloc::Global;
 
@@ -51,8 +51,13 @@ impl NlaRead for LinkProtoInfoInet6 {
     }
 
     #[tactic(auto, unfolding(crate::specs::Tables::link_proto_info_inet6_place))]
-    fn canon(buffer: &NlaBuffer<'_>, out: &mut [u8]) -> Option<usize> {
-        canon_bytes(buffer.kind_with_flags(), buffer.value(), out)
+    fn measure_frame(buffer: &NlaBuffer<'_>) -> Option<usize> {
+        Some(buffer.value().len())
+    }
+
+    #[tactic(auto, unfolding(crate::specs::Tables::link_proto_info_inet6_place))]
+    fn write_frame(buffer: &NlaBuffer<'_>, out: &mut [u8]) -> usize {
+        write_value(buffer.kind_with_flags(), buffer.value(), out)
     }
 
     ghost agrees = { link_proto_info_inet6_place.lawful.agrees };

@@ -3,8 +3,8 @@
 use crate::numbers::{AF_INET, AF_INET6, AF_MCTP};
 use crate::{AfSpecInet, AfSpecInet6, AfSpecMctp};
 use nla_wire::{
-    CloneIn, DecodeError, DefaultNla, Exact, List, Nla, NlaBuffer, NlaRead, canon_bytes,
-    empty_list, list_fits, nlas_buffer_len, nlas_fill,
+    CloneIn, DecodeError, DefaultNla, Exact, List, Nla, NlaBuffer, NlaRead, empty_list, list_fits,
+    nlas_buffer_len, nlas_fill, write_value,
 };
 use std::alloc::Global;
 
@@ -106,12 +106,22 @@ impl NlaRead for AfSpecUnspec {
     }
 
     #[tactic(auto, unfolding(crate::specs::Tables::af_spec_unspec_place, nla_wire::specs::Grammar::unless_empty))]
-    fn canon(buffer: &NlaBuffer<'_>, out: &mut [u8]) -> Option<usize> {
+    fn measure_frame(buffer: &NlaBuffer<'_>) -> Option<usize> {
         match buffer.kind() {
-            AF_INET => AfSpecInet::canon_nested(AF_INET, buffer.value(), out),
-            AF_INET6 => AfSpecInet6::canon_nested(AF_INET6, buffer.value(), out),
-            AF_MCTP => AfSpecMctp::canon_nested(AF_MCTP, buffer.value(), out),
-            _ => canon_bytes(buffer.kind_with_flags(), buffer.value(), out),
+            AF_INET => AfSpecInet::measure_some(buffer.value()),
+            AF_INET6 => AfSpecInet6::measure_some(buffer.value()),
+            AF_MCTP => AfSpecMctp::measure_some(buffer.value()),
+            _ => Some(buffer.value().len()),
+        }
+    }
+
+    #[tactic(auto, unfolding(crate::specs::Tables::af_spec_unspec_place, nla_wire::specs::Grammar::unless_empty))]
+    fn write_frame(buffer: &NlaBuffer<'_>, out: &mut [u8]) -> usize {
+        match buffer.kind() {
+            AF_INET => AfSpecInet::write_some(AF_INET, buffer.value(), out),
+            AF_INET6 => AfSpecInet6::write_some(AF_INET6, buffer.value(), out),
+            AF_MCTP => AfSpecMctp::write_some(AF_MCTP, buffer.value(), out),
+            _ => write_value(buffer.kind_with_flags(), buffer.value(), out),
         }
     }
 

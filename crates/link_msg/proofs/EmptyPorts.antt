@@ -1,134 +1,141 @@
--- Empty lists of ports, told from the frames of accepted lists.
-use Rattle.std.proofs.Common.{◌≡◌, ◌≢◌, ℕ, ◌*◌, ◌<◌, ◌≤◌, List, [], ◌∷◌, length, replicate, flat_map, refl, sym, ap}
-use Rattle.std.proofs.Common.{◌∙◌, subst, arith, Result, Ok, Err, IsOk, Option, Some, None, Bool, true, false}
-use Rattle.std.proofs.lemmas.List.{length-replicate}
+-- Empty lists of ports, told by the length of their text.
+use Rattle.std.proofs.Common.{◌≡◌, ◌≢◌, ℕ, ◌+◌, ◌^◌, ◌<◌, List, [], ◌∷◌, ◌++◌, length, refl, sym, ap, ◌∙◌, arith}
+use Rattle.std.proofs.Common.{Result, Ok, Err, Option, Some, None, Bool, true, false, MatchBool, length-append, append-nil, flat_map, subst}
 use Rattle.std.specs.List.{AllByRecursion}
-use Rattle.nla_wire.specs.Sizes.{growth_per_byte}
-use Rattle.nla_wire.specs.Frames.{Frame, number, IsFrame}
-use Rattle.nla_wire.specs.Reading.{◌>>=◌}
-use Rattle.nla_wire.specs.Items.{Item}
-use Rattle.nla_wire.specs.Grammar.{picks, somes, unless_empty, not_empty, as_a}
-use Rattle.nla_wire.specs.Canon.{Canonical}
+use Rattle.nla_wire.specs.Frames.{Frame, number, missing, IsFrame}
+use Rattle.nla_wire.specs.Reading.{list_of, with_front, ◌>>=◌}
+use Rattle.nla_wire.specs.Items.{Item, items, read_items}
+use Rattle.nla_wire.specs.Grammar.{as_a, not_empty}
+use Rattle.nla_wire.specs.Canon.{canon, canons, Weighs}
 use Rattle.nla_wire.specs.declared.error.Cause.{Cause}
-use Rattle.nla_wire.proofs.Loop.{given, picks_one}
-use Rattle.nla_wire.proofs.Written.{Going, going_accepted, going_skip, going_unfit}
+use Rattle.nla_wire.proofs.Bounds.{length-canon}
+use Rattle.nla_wire.proofs.Loop.{items_start, items_more}
+use Rattle.nla_wire.proofs.Written.{Weighing, Counted, all_here, all_more, flat_more}
 use Rattle.link_vals.specs.declared.address_family.AddressFamily.{AddressFamily}
 use Rattle.link_vf.specs.Tables.{link_vf_port_place, vf_port_list}
 use Rattle.link_vf.specs.declared.port_list.LinkVfPort.{LinkVfPort}
-use Rattle.link_msg.specs.Tables.{attribute_frame, attribute_view, attribute_entries, HasPorts, attribute_place}
+use Rattle.link_msg.specs.Tables.{attribute_frame, AttributeFits, attribute_view, attribute_entries, HasPorts, attribute_place}
 use Rattle.link_msg.specs.Tables.{attribute_lawful, attribute_number}
-use Rattle.link_vf.specs.declared.numbers.TheConstants.{IFLA_VF_PORT}
 use Rattle.link_msg.specs.declared.numbers.TheConstants.{IFLA_VF_PORTS}
-use Rattle.link_msg.specs.Canonical.{NoneTold, PortTold, PortsTold}
+use Rattle.link_msg.specs.Canonical.{ListWeighs}
 use Rattle.link_msg.specs.declared.attribute.LinkAttribute.{LinkAttribute}
 use Rattle.link_msg.specs.declared.attribute.LinkAttribute.TheVariants as Attributes
 
--- nothing is written, so that only what fits is told
-abbrev pub silent : {V : Type 0} → V → List ℕ
-silent v = []
-
--- room enough, of which nothing is used
-abbrev pub unused : List ℕ → List ℕ
-unused b = replicate (growth_per_byte * length b) 0
-
-pub unused_room : (b : List ℕ) → growth_per_byte * length b ≤ length (unused b)
-unused_room b = omega (arith, length-replicate {A = ℕ} (growth_per_byte * length b) 0)
-
--- ** the entries of a list of ports
-
--- the entry is dropped
-abbrev pub IsDropped : Option LinkVfPort → Type 0
-IsDropped None = Unit {0}
-IsDropped (Some v) = ⊥
-
-one_kept : (r : Result LinkVfPort Cause) (old new : List ℕ) → Canonical silent IsDropped (r >>= λ v. Ok (Some v)) old new None
-one_kept (Ok v) old new = λ dropped. dropped
-one_kept (Err c) old new = tt
-
-pub one_unfit : (f : Frame) → number f ≡ IFLA_VF_PORT → (old new : List ℕ) → Canonical silent IsDropped ((picks link_vf_port_place.grammar).reads f) old new None
-one_unfit f one old new = subst (λ r. Canonical silent IsDropped r old new None) (sym (picks_one link_vf_port_place.grammar f one)) (one_kept (link_vf_port_place.grammar.reads f) old new)
-
-some_kept : (os : List (Option LinkVfPort)) → (AllByRecursion IsDropped os → ⊥) → 0 < length (somes os)
-some_kept [] some = absurd (some tt)
-some_kept (None ∷ os) some = some_kept os (λ all. some (tt, all))
-some_kept ((Some v) ∷ os) some = omega arith
-
-none_kept : (os : List (Option LinkVfPort)) → AllByRecursion IsDropped os → somes os ≡ []
-none_kept [] all = refl
-none_kept (None ∷ os) all = none_kept os all.1
-none_kept ((Some v) ∷ os) all = absurd all.0
-
-pub told_some : (r : Result (List (Option LinkVfPort)) Cause) (old new : List ℕ) → Canonical (flat_map silent) (AllByRecursion IsDropped) r old new None → NoneTold (r >>= λ os. Ok (somes os)) false
-told_some (Ok os) old new c = some_kept os c
-told_some (Err e) old new c = tt
-
-pub told_none : (r : Result (List (Option LinkVfPort)) Cause) (old new : List ℕ) (n : ℕ) → Canonical (flat_map silent) (AllByRecursion IsDropped) r old new (Some n) → NoneTold (r >>= λ os. Ok (somes os)) true
-told_none (Ok os) old new n c = none_kept os c.0
-told_none (Err e) old new n c = tt
-
 -- ** one attribute
 
--- an attribute that is not written as IFLA_VF_PORTS
-has_ports : (v : LinkAttribute) → number (attribute_frame v) ≢ IFLA_VF_PORTS → HasPorts v
-unfolding attribute_view
-has_ports (Attributes.VfPorts ports) other = absurd (other refl)
-has_ports _ other = tt
+-- a text of no bytes is that of no ports
+ports_long : (ps : List LinkVfPort) → length (canons link_vf_port_place.frame ps) ≡ 0 → 0 < length ps → ⊥
+ports_long [] none some = absurd (omega (arith, some))
+ports_long (p ∷ ps) none some =
+    absurd (omega (arith, none, length-append (canon (link_vf_port_place.frame p)) (canons link_vf_port_place.frame ps), length-canon (link_vf_port_place.frame p)))
 
-told_other : (family : AddressFamily) (f : Frame) (r : Result LinkAttribute Cause) → ((v : LinkAttribute) → r ≡ Ok v → (attribute_place family).means f v) → number f ≢ IFLA_VF_PORTS → PortTold r false
-told_other family f (Ok v) found other = has_ports v (λ is. other (sym (attribute_number family f v (found v refl)) ∙ is))
-told_other family f (Err c) found other = tt
+ports_some : (ps : List LinkVfPort) → length (canons link_vf_port_place.frame ps) ≢ 0 → 0 < length ps
+ports_some [] some = absurd (some refl)
+ports_some (p ∷ ps) some = omega arith
 
-pub port_other : (family : AddressFamily) (f : Frame) → IsFrame f → number f ≢ IFLA_VF_PORTS → PortTold ((attribute_place family).reads f) false
-port_other family f one other = told_other family f ((attribute_place family).reads f) (λ v e. (attribute_lawful family).agrees.found f v one e) other
-
--- IFLA_VF_PORTS is read from its payload
-pub ports_read : (family : AddressFamily) (f : Frame) → number f ≡ IFLA_VF_PORTS → (attribute_place family).reads f ≡ (as_a Attributes.VfPorts (not_empty vf_port_list.grammar)).reads f.payload
+-- IFLA_VF_PORTS is read as ports
+ports_read : (family : AddressFamily) (f : Frame) → number f ≡ IFLA_VF_PORTS → (attribute_place family).reads f ≡ (as_a Attributes.VfPorts (not_empty vf_port_list.grammar)).reads f.payload
 unfolding attribute_place attribute_entries attribute_view
 ports_read family f is = rw is refl
 
-accepted_inside : (r : Result (List LinkVfPort) Cause) → IsOk (r >>= λ vs. Ok (Attributes.VfPorts vs)) → IsOk r
-accepted_inside (Ok vs) accepted = refl
-accepted_inside (Err c) accepted = absurd cc
+made : (r : Result (List LinkVfPort) Cause) (v : LinkAttribute) → (r >>= λ ps. Ok (Attributes.VfPorts ps)) ≡ Ok v → (ps : List LinkVfPort) × (v ≡ Attributes.VfPorts ps)
+made (Ok ps) v e = (ps, cc)
+made (Err c) v e = absurd cc
 
-pub ports_accepted : (p : List ℕ) → IsOk ((as_a Attributes.VfPorts (not_empty vf_port_list.grammar)).reads p) → IsOk (vf_port_list.grammar.reads p)
-unfolding unless_empty
-ports_accepted [] accepted = absurd cc
-ports_accepted (x ∷ p) accepted = accepted_inside (vf_port_list.grammar.reads (x ∷ p)) accepted
+-- one that was read from IFLA_VF_PORTS, with no bytes
+no_ports : (family : AddressFamily) (f : Frame) (v : LinkAttribute) → (attribute_place family).reads f ≡ Ok v → number f ≡ IFLA_VF_PORTS → length (attribute_frame v).payload ≡ 0 → HasPorts v → ⊥
+unfolding attribute_view
+no_ports family f v read is none some =
+    let k = made ((not_empty vf_port_list.grammar).reads f.payload) v (sym (ports_read family f is) ∙ read) in
+    ports_long k.0 (subst (λ x. length (attribute_frame x).payload ≡ 0) k.1 none) (subst HasPorts k.1 some)
 
-told_inside : (r : Result (List LinkVfPort) Cause) (told : Bool) → NoneTold r told → PortTold (r >>= λ vs. Ok (Attributes.VfPorts vs)) told
-told_inside (Ok vs) true none = λ some. omega (arith, ap length none, some)
-told_inside (Ok vs) false some = some
-told_inside (Err c) told none = tt
+-- an attribute that is not written as IFLA_VF_PORTS
+other_ports : (v : LinkAttribute) → number (attribute_frame v) ≢ IFLA_VF_PORTS → HasPorts v
+unfolding attribute_view
+other_ports (Attributes.VfPorts ports) other = absurd (other refl)
+other_ports _ other = tt
 
-pub ports_told : (p : List ℕ) (told : Bool) → NoneTold (vf_port_list.grammar.reads p) told → PortTold ((as_a Attributes.VfPorts (not_empty vf_port_list.grammar)).reads p) told
-unfolding unless_empty
-ports_told [] told none = tt
-ports_told (x ∷ p) told none = told_inside (vf_port_list.grammar.reads (x ∷ p)) told none
+-- any but one that is written as IFLA_VF_PORTS, with no bytes
+some_ports : (v : LinkAttribute) → ((number (attribute_frame v) ≡ IFLA_VF_PORTS) × (length (attribute_frame v).payload ≡ 0) → ⊥) → HasPorts v
+unfolding attribute_view
+some_ports (Attributes.VfPorts ports) never = ports_some ports (λ none. never (refl, none))
+some_ports _ never = tt
 
 -- ** the attributes of a message
 
-pub going_skip_port : (family : AddressFamily) (whole : Result (List LinkAttribute) Cause) (left : List Item) (old now : List ℕ)
-    → (h : Going (attribute_place family).reads silent HasPorts whole left 0 old now) (f : Frame) (rest : List Item) → left ≡ Ok f ∷ rest
-    → PortTold ((attribute_place family).reads f) false → Going (attribute_place family).reads silent HasPorts whole rest 0 old now
-going_skip_port family whole left old now h f rest left_is told =
-    let k = given ((attribute_place family).reads f) (going_accepted (attribute_place family).reads silent HasPorts whole left 0 old now h f rest left_is) in
-    going_skip (attribute_place family).reads silent HasPorts whole left 0 old now h f rest k.0 left_is k.1 refl (subst (λ r. PortTold r false) k.1 told)
+all_front : (P : LinkAttribute → Type 0) (front : List LinkAttribute) (v : LinkAttribute) → AllByRecursion P (front ++ v ∷ []) → AllByRecursion P front
+all_front P [] v all = tt
+all_front P (x ∷ front) v all = (all.0, all_front P front v all.1)
 
-port_unfit : (r : Result LinkAttribute Cause) (old new : List ℕ) → PortTold r true → Canonical silent HasPorts r old new None
-port_unfit (Ok v) old new told = told
-port_unfit (Err c) old new told = tt
+-- the attributes in front were measured, and whether they hold an empty list of ports is known
+pub record Telling (family : AddressFamily) (whole : Result (List LinkAttribute) Cause) (left : List Item) (len : ℕ) (empty : Bool) : Type 0 where
+  pub weighing : Weighing (attribute_place family).reads (λ v. canon (attribute_frame v)) AttributeFits whole left len
+  pub ports : MatchBool empty (AllByRecursion HasPorts weighing.front → ⊥) (AllByRecursion HasPorts weighing.front)
 
-told_true : (r : Result (List LinkAttribute) Cause) (old new : List ℕ) → Canonical (flat_map silent) (AllByRecursion HasPorts) r old new None → PortsTold r true
-told_true (Ok vs) old new c = c
-told_true (Err e) old new c = tt
+pub telling_starts : (family : AddressFamily) (b : List ℕ) (left : List Item) → left ≡ items b → Telling family (list_of (attribute_place family).reads b) left 0 false
+telling_starts family b left left_is = record {
+  weighing = record {
+    front = [];
+    so_far = ap (λ (xs : List Item). with_front [] (read_items (attribute_place family).reads xs)) left_is ∙ items_start (attribute_place family).reads b;
+    fit = tt;
+    len_is = refl;
+    counted = omega arith;
+  };
+  ports = tt;
+}
 
-pub told_false : (r : Result (List LinkAttribute) Cause) (old new : List ℕ) (n : ℕ) → Canonical (flat_map silent) (AllByRecursion HasPorts) r old new (Some n) → PortsTold r false
-told_false (Ok vs) old new n c = c.0
-told_false (Err e) old new n c = tt
+module _ (family : AddressFamily) (whole : Result (List LinkAttribute) Cause) (left : List Item) (len : ℕ) (empty : Bool) (h : Telling family whole left len empty)
+    (f : Frame) (rest : List Item) (left_is : left ≡ Ok f ∷ rest) (one : IsFrame f) (value padded new : ℕ)
+    (w : Weighs (λ v. (attribute_frame v).payload) AttributeFits ((attribute_place family).reads f) (Some value))
+    (padded_is : padded ≡ 4 + value + missing value) (new_is : new ≡ len + padded) (small : new < 2 ^ 64) where
+  on : (answer : Bool) → ((v : LinkAttribute) → (attribute_place family).reads f ≡ Ok v → number (attribute_frame v) ≡ number f → value ≡ length (attribute_frame v).payload
+      → MatchBool answer (AllByRecursion HasPorts (h.weighing.front ++ v ∷ []) → ⊥) (AllByRecursion HasPorts (h.weighing.front ++ v ∷ [])))
+      → (r : Result LinkAttribute Cause) → (attribute_place family).reads f ≡ r → Weighs (λ v. (attribute_frame v).payload) AttributeFits r (Some value)
+      → Telling family whole rest new answer
+  on answer ports (Err c) e w = absurd w
+  on answer ports (Ok v) e w = record {
+    weighing = record {
+      front = h.weighing.front ++ v ∷ [];
+      so_far = items_more (attribute_place family).reads h.weighing.front left whole h.weighing.so_far f rest v left_is e;
+      fit = all_more AttributeFits h.weighing.front v h.weighing.fit w.0;
+      len_is =
+          omega (
+            arith,
+            new_is,
+            padded_is,
+            w.1,
+            ap missing w.1,
+            h.weighing.len_is,
+            length-canon (attribute_frame v),
+            length-append (flat_map (λ v. canon (attribute_frame v)) h.weighing.front) (canon (attribute_frame v)),
+            ap (λ (t : List ℕ). length t) (flat_more (λ v. canon (attribute_frame v)) h.weighing.front v),
+          );
+      counted = small;
+    };
+    ports = ports v e (attribute_number family f v ((attribute_lawful family).agrees.found f v one e)) w.1;
+  }
 
-pub going_port : (family : AddressFamily) (whole : Result (List LinkAttribute) Cause) (left : List Item) (old now : List ℕ)
-    → (h : Going (attribute_place family).reads silent HasPorts whole left 0 old now) (f : Frame) (rest : List Item) → left ≡ Ok f ∷ rest
-    → PortTold ((attribute_place family).reads f) true → PortsTold whole true
-going_port family whole left old now h f rest left_is told =
-    told_true whole old now
-    (going_unfit (attribute_place family).reads silent HasPorts whole left 0 old now h f rest [] [] left_is (port_unfit ((attribute_place family).reads f) [] [] told) now)
+  pub telling_none : (number f ≡ IFLA_VF_PORTS) × (value ≡ 0) → Telling family whole rest new true
+  telling_none none =
+      on true (λ v read is size all. no_ports family f v read none.0 (sym size ∙ none.1) (all_here HasPorts h.weighing.front v [] all)) ((attribute_place family).reads f) refl w
+
+  pub telling_some : ((number f ≡ IFLA_VF_PORTS) × (value ≡ 0) → ⊥) → Telling family whole rest new empty
+  telling_some never = on empty (λ v read is size. next empty h.ports v (some_ports v (λ k. never (sym is ∙ k.0, size ∙ k.1)))) ((attribute_place family).reads f) refl w where
+    next : (e : Bool) → MatchBool e (AllByRecursion HasPorts h.weighing.front → ⊥) (AllByRecursion HasPorts h.weighing.front) → (v : LinkAttribute) → HasPorts v
+        → MatchBool e (AllByRecursion HasPorts (h.weighing.front ++ v ∷ []) → ⊥) (AllByRecursion HasPorts (h.weighing.front ++ v ∷ []))
+    next true never v some = λ all. never (all_front HasPorts h.weighing.front v all)
+    next false all v some = all_more HasPorts h.weighing.front v all some
+
+-- ** what is answered
+
+pub list_weighs_none : (r : Result (List LinkAttribute) Cause) → Weighs (flat_map (λ v. canon (attribute_frame v))) (Counted (λ v. canon (attribute_frame v)) AttributeFits) r None → ListWeighs r None
+list_weighs_none (Ok vs) w = w
+list_weighs_none (Err c) w = tt
+
+pub telling_ends : (family : AddressFamily) (whole : Result (List LinkAttribute) Cause) (left : List Item) (len : ℕ) (empty : Bool) → Telling family whole left len empty
+    → left ≡ [] → ListWeighs whole (Some (len, empty))
+telling_ends family whole left len empty h left_is =
+    let w = h.weighing in
+    let all_is : Ok w.front ≡ whole =
+    ap (λ (vs : List LinkAttribute). Ok vs) (sym (append-nil w.front)) ∙ ap (λ (xs : List Item). with_front w.front (read_items (attribute_place family).reads xs)) (sym left_is) ∙ w.so_far in
+    subst (λ r. ListWeighs r (Some (len, empty))) all_is ((w.fit, omega (arith, w.len_is, w.counted)), w.len_is, h.ports)

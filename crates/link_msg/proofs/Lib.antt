@@ -4,6 +4,6 @@ pub mod Answering
 pub mod ReadingBack
 pub mod LawProofs
 pub mod Writing
-pub mod Payloads
 pub mod Shaped
+pub mod Arms
 pub mod EmptyPorts

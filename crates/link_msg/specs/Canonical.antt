@@ -1,17 +1,20 @@
 -- What `canonical` and its kin answer of a byte string.
 use Rattle.std.specs.Prelude.{◌≡◌, ◌≢◌, ℕ, ◌+◌, ◌-◌, ◌*◌, ◌<◌, ◌≤◌, ◌⊎◌, ◌↔◌, Bool, IsTrue, MatchBool, Result, Ok}
-use Rattle.std.specs.Prelude.{Err, List, [], length}
+use Rattle.std.specs.Prelude.{Err, List, length, Option, Some, None}
 use Rattle.nla_wire.specs.Sizes.{growth_per_byte}
-use Rattle.nla_wire.specs.Canon.{Writes}
+use Rattle.nla_wire.specs.Grammar.{list}
+use Rattle.nla_wire.specs.Canon.{canons, AllFit, Writes}
 use Rattle.nla_wire.specs.declared.error.Cause.{Cause}
 use Rattle.nla_wire.specs.declared.error.Cause.TheVariants.{OutOfMemory}
 use Rattle.std.specs.List.{AllByRecursion}
-use Rattle.link_vf.specs.declared.port_list.LinkVfPort.{LinkVfPort}
 use Rattle.link_msg.specs.Header.{header_size}
-use Rattle.link_msg.specs.Tables.{HasPorts}
+use Rattle.link_msg.specs.Tables.{attribute_frame, AttributeFits, HasPorts, attribute_place}
 use Rattle.link_msg.specs.Messages.{Means, Refused, IsRefused, message_text, MessageFits, NoEmptyPorts}
 use Rattle.link_msg.specs.declared.attribute.LinkAttribute.{LinkAttribute}
+use Rattle.link_msg.specs.declared.header.LinkHeader.{LinkHeader}
 use Rattle.link_msg.specs.declared.message.LinkMessage.{LinkMessage}
+use Rattle.link_msg.specs.declared.canonical_text.RoomError.{RoomError}
+use Rattle.link_msg.specs.declared.canonical_text.RoomError.TheVariants as Rooms
 use Rattle.link_msg.specs.declared.canonical_text.CanonError.{CanonError}
 use Rattle.link_msg.specs.declared.canonical_text.CanonError.TheVariants as Refusals
 
@@ -59,26 +62,42 @@ AreSame a b answer = (m : LinkMessage) × (n : LinkMessage) × AreSameMessages a
 abbrev pub IsRefusalOfTwo : List ℕ → List ℕ → CanonError → Type 0
 IsRefusalOfTwo a b e = IsRefusal a e ⊎ (((m : LinkMessage) × IsAccepted a m) × IsRefusal b e)
 
--- what `canonical_into` did: the canonical text stands at the front and the rest is kept; or nothing was written, where
--- the bytes are refused; or the buffer's bytes are open, where the message does not fit or holds an empty list of ports
+-- a refusal, and not for want of memory
+abbrev pub IsRefusalAlone : List ℕ → CanonError → Type 0
+IsRefusalAlone b e = IsRefusal b e × (e ≢ Refusals.OutOfMemory)
+
+-- the length of the canonical text of the message that b means, or why there is none
+abbrev pub HasLength : List ℕ → Result ℕ CanonError → Type 0
+HasLength b (Ok n) = (m : LinkMessage) × IsAccepted b m × (n ≡ length (message_text m))
+HasLength b (Err e) = IsRefusalAlone b e
+
+-- where b has a canonical text, it has at most so many bytes
+abbrev pub HoldsText : List ℕ → ℕ → Type 0
+HoldsText b room = (m : LinkMessage) → IsAccepted b m → length (message_text m) ≤ room
+
+-- what `canonical_into` did: the canonical text stands at the front and the rest is kept; or nothing was written
 abbrev pub IsWritten : List ℕ → List ℕ → List ℕ → Result ℕ CanonError → Type 0
 IsWritten b old new (Ok n) = (m : LinkMessage) × IsAccepted b m × Writes (message_text m) old new n
-IsWritten b old new (Err (Refusals.Decode e)) = IsRefusal b (Refusals.Decode e) × (new ≡ old)
-IsWritten b old new (Err Refusals.DoesNotFit) = IsUnfit b
-IsWritten b old new (Err Refusals.EmptyVfPorts) = HasEmptyPorts b
-IsWritten b old new (Err Refusals.OutOfMemory) = ⊥
+IsWritten b old new (Err e) = IsRefusalAlone b e × (new ≡ old)
 
--- whether no port is read
-abbrev pub NoneTold : Result (List LinkVfPort) Cause → Bool → Type 0
-NoneTold (Ok ports) answer = MatchBool answer (ports ≡ []) (0 < length ports)
-NoneTold (Err c) answer = Unit {0}
+-- what `canonical_within` did: the same, and nothing was written either where the text has more bytes than the buffer
+abbrev pub IsWithin : List ℕ → List ℕ → List ℕ → Result ℕ RoomError → Type 0
+IsWithin b old new (Ok n) = (m : LinkMessage) × IsAccepted b m × Writes (message_text m) old new n
+IsWithin b old new (Err (Rooms.NoText e)) = IsRefusalAlone b e × (new ≡ old)
+IsWithin b old new (Err (Rooms.NoRoom wanted)) = (m : LinkMessage) × IsAccepted b m × (wanted ≡ length (message_text m)) × (length old < wanted) × (new ≡ old)
 
--- whether the attribute that is read is an empty list of ports
-abbrev pub PortTold : Result LinkAttribute Cause → Bool → Type 0
-PortTold (Ok v) answer = MatchBool answer (HasPorts v → ⊥) (HasPorts v)
-PortTold (Err c) answer = Unit {0}
+-- the attributes that are read fit and have so many bytes of text, and whether an empty list of ports is among them; or
+-- one does not fit, or none are read
+abbrev pub ListWeighs : Result (List LinkAttribute) Cause → Option (ℕ × Bool) → Type 0
+ListWeighs (Ok vs) (Some w) =
+    AllFit AttributeFits attribute_frame vs × (w.0 ≡ length (canons attribute_frame vs)) × MatchBool w.1 (AllByRecursion HasPorts vs → ⊥) (AllByRecursion HasPorts vs)
+ListWeighs (Ok vs) None = AllFit AttributeFits attribute_frame vs → ⊥
+ListWeighs (Err c) (Some w) = ⊥
+ListWeighs (Err c) None = Unit {0}
 
--- whether the attributes that are read hold an empty list of ports
-abbrev pub PortsTold : Result (List LinkAttribute) Cause → Bool → Type 0
-PortsTold (Ok attributes) answer = MatchBool answer (AllByRecursion HasPorts attributes → ⊥) (AllByRecursion HasPorts attributes)
-PortsTold (Err c) answer = Unit {0}
+-- b is an accepted message with this header and these bytes of attributes, whose text has n bytes
+pub record IsMeasured (b : List ℕ) (header : LinkHeader) (d : List ℕ) (n : ℕ) : Type 0 where
+  pub attributes : List LinkAttribute
+  pub accepted : IsAccepted b (record { header = header; attributes = attributes })
+  pub reads : (list (attribute_place header.interface_family)).reads d ≡ Ok attributes
+  pub len : n ≡ length (canons attribute_frame attributes)

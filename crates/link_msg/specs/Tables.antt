@@ -25,8 +25,6 @@ use Rattle.nla_wire.proofs.Codec.{filled_record, sized_record, signed_same}
 use Rattle.nla_wire.proofs.Tables.{Seen, Way, Kept, Shaped, plain, standing, Reading, Entry, shaping, keeping, lines}
 use Rattle.nla_wire.proofs.Tables.{way_in, all_hold, lines_lawful, lined_lawful}
 use Rattle.nla_wire.proofs.Tables as tables
-use Rattle.nla_wire.proofs.Shapes.{leaf_base}
-use Rattle.nla_wire.specs.declared.leaf.Leaf.TheVariants as Leaves
 use Rattle.nla_wire.proofs.Variants.{Table, view_of, entries_of, line_by as line, line_where, line_of_size, written}
 use Rattle.nla_wire.proofs.Variants.{keeps, ◌&◌}
 use Rattle.link_vals.specs.StateTable.{state_of, state_number}
@@ -164,12 +162,12 @@ abbrev pub unspecs : Codec (List AfSpecUnspec)
 unspecs = list_of af_spec_unspec_place
 
 abbrev pub base : Shape → Any
-base Shapes.Bytes = leaf_base Leaves.Bytes
-base Shapes.Text = leaf_base Leaves.Text
-base Shapes.U8 = leaf_base Leaves.U8
-base Shapes.U16 = leaf_base Leaves.U16
-base Shapes.U32 = leaf_base Leaves.U32
-base Shapes.U64 = leaf_base Leaves.U64
+base Shapes.Bytes = any codec.bytes
+base Shapes.Text = any codec.text
+base Shapes.U8 = any codec.u8
+base Shapes.U16 = any codec.u16
+base Shapes.U32 = any codec.u32
+base Shapes.U64 = any codec.u64
 base Shapes.Truth = any (codec.flat (as_a is_true (payload.number_of w8)) (λ v. to_le_bytes w8 (truth_number v)) most_payload truth_lawful)
 base Shapes.Id = any phys_ids
 base Shapes.Stats = any (filled_record stats_laws.laws (lit≤ tt))

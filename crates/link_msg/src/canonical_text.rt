@@ -1,13 +1,16 @@
 //! One canonical text for each message.
 
-ghost use Rattle.std.specs.Prelude.{◌≡◌, ◌*◌, ◌≤◌, ◌↔◌, length, vec_capacity, IsTrue, IfOk, IfErr};
-ghost use Rattle.nla_wire.specs.Sizes.{growth_per_byte};
-ghost use Rattle.link_msg.specs.Header.{header_bytes};
+ghost use Rattle.std.specs.Prelude.{◌≡◌, ◌+◌, ◌-◌, ◌^◌, ◌<◌, ◌≤◌, ◌++◌, ◌↔◌, length, IsTrue, IfOk, IfErr};
+ghost use Rattle.nla_wire.specs.Grammar.{list};
+ghost use Rattle.nla_wire.specs.Canon.{canons, AllFit, HasRoom, Rewrites};
+ghost use Rattle.link_msg.specs.Header.{header_size, header_bytes};
+ghost use Rattle.link_msg.specs.Tables.{attribute_frame, AttributeFits, attribute_place};
 ghost use Rattle.link_msg.specs.CanonErrors.{SameRefusal};
-ghost use Rattle.link_msg.specs.Canonical.{IsAccepted, IsRefusal, HasText, AreSame, IsRefusalOfTwo, IsWritten};
+ghost use Rattle.link_msg.specs.Canonical.{IsAccepted, IsRefusal, IsRefusalAlone, IsMeasured, HasLength, HasText};
+ghost use Rattle.link_msg.specs.Canonical.{HoldsText, AreSame, IsRefusalOfTwo, IsWritten, IsWithin};
 
 use crate::attribute::LinkAttribute;
-use crate::header::{HEADER_SIZE, LinkHeader, LinkMessageBuffer};
+use crate::header::{HEADER_SIZE, LinkHeader};
 use crate::message::{LinkMessage, split_header};
 use nla_wire::{Cause, DecodeError};
 use std::alloc::{AllocError, Global};
@@ -91,38 +94,65 @@ fn read_accepted(alloc: Global, input: &[u8]) -> Result<LinkMessage, CanonError>
     Ok(message)
 }
 
-/// A text that begins with the header, in memory for so many bytes.
-fn begin_text(alloc: Global, header: &LinkHeader, capacity: usize) -> Result<Vec<u8>, AllocError>
-    ensures text { IfOk result (λ t. t.items ≡ header_bytes header.now) }
-    ensures room { IfOk result (λ t. capacity ≤ vec_capacity t) }
+/// The header of a message, the bytes behind it, and the length of their canonical text, without memory.
+fn measure(input: &[u8]) -> Result<(LinkHeader, &[u8], usize), CanonError>
+    ensures ok { IfOk result (λ w. IsMeasured input.now w.0 w.1.now w.2) }
+    ensures room { IfOk result (λ w. header_size + w.2 < 2 ^ 64) }
+    ensures err { IfErr result (IsRefusalAlone input.now) }
 {
-    let mut begun = Vec::with_capacity(alloc, capacity)?;
-    begun.extend_from_slice(LinkMessageBuffer::from(header).as_bytes())?;
-    Ok(begun)
+    let (header, rest) = split_header(input)?;
+    let family = header.interface_family;
+    let Some((len, empty)) = LinkAttribute::measure_list_with_param(rest, family) else {
+        LinkAttribute::check_list_with_param(rest, family)?;
+        return Err(CanonError::DoesNotFit);
+    };
+    if len > usize::MAX - HEADER_SIZE {
+        return Err(CanonError::DoesNotFit);
+    }
+    if empty {
+        return Err(CanonError::EmptyVfPorts);
+    }
+    Ok((header, rest, len))
+}
+
+/// Writes the canonical text of a message that was measured to the front of the buffer, and answers its length.
+fn write_message(header: &LinkHeader, rest: &[u8], out: &mut [u8]) -> usize
+    requires measured { HasRoom (canons attribute_frame) (AllFit AttributeFits attribute_frame) ((list (attribute_place header.now.interface_family)).reads rest.now) (length out.old - header_size) }
+    requires long { header_size ≤ length out.old }
+    ensures { Rewrites (λ vs. header_bytes header.now ++ canons attribute_frame vs) ((list (attribute_place header.now.interface_family)).reads rest.now) out.old out.new result }
+{
+    header.emit(out);
+    let attributes = &mut out[HEADER_SIZE..];
+    HEADER_SIZE + LinkAttribute::write_list_with_param(rest, header.interface_family, attributes)
 }
 
 /// The number of the canonical form: any change of any message's canonical text raises it. Texts of different numbers
 /// are not to be compared, so a store keeps the number beside its keys.
 pub const CANONICAL_FORM: u32 = 2;
 
+/// The length of the canonical text of what the bytes mean, without memory.
+///
+/// Refuses, in this order: `Decode` with the first fault, `DoesNotFit`, `EmptyVfPorts`; and never `OutOfMemory`.
+pub fn canonical_len(input: &[u8]) -> Result<usize, CanonError>
+    ensures { HasLength input.now result }
+{
+    let (_header, _rest, len) = measure(input)?;
+    Ok(HEADER_SIZE + len)
+}
+
 /// What the bytes mean, as canonical text of the form `CANONICAL_FORM`.
 ///
 /// The text means the same message, and its attributes are at most `growth_per_byte` times as long as
-/// those read. Refuses, in this order: `Decode` with the first fault, `DoesNotFit`, `EmptyVfPorts`; `OutOfMemory` can
-/// come at any growth. It holds the text and one attribute at a time.
+/// those read. Refuses as `canonical_len` does, or with `OutOfMemory`: the text is measured, memory for it is taken
+/// once, and it is written.
 pub fn canonical(alloc: Global, input: &[u8]) -> Result<Vec<u8>, CanonError>
     ensures ok { IfOk result (λ t. HasText input.now t.items) }
     ensures err { IfErr result (IsRefusal input.now) }
 {
-    let (header, rest) = split_header(input)?;
-    let family = header.interface_family;
-    let mut text = begin_text(alloc, &header, input.len())?;
-    if !LinkAttribute::append_list_with_param(alloc, rest, family, &mut text)? {
-        return Err(CanonError::DoesNotFit);
-    }
-    if LinkAttribute::hold_empty_ports(rest, family) {
-        return Err(CanonError::EmptyVfPorts);
-    }
+    let (header, rest, len) = measure(input)?;
+    let mut text = Vec::with_capacity(alloc, HEADER_SIZE + len)?;
+    text.resize(HEADER_SIZE + len, 0)?;
+    let _len = write_message(&header, rest, text.as_mut_slice());
     Ok(text)
 }
 
@@ -139,26 +169,60 @@ pub fn same_message(alloc: Global, first: &[u8], second: &[u8]) -> Result<bool, 
     Ok(one == other)
 }
 
-/// Writes what the bytes mean, as canonical text, to the front of the buffer, with no memory, and returns its length.
+/// Why nothing was written to a buffer.
+#[derive(Clone, Copy, Debug, PartialEq, Eq, Error)]
+pub enum RoomError {
+    /// There is no canonical text.
+    #[error("{0}")]
+    NoText(CanonError),
+    /// The canonical text has more bytes than the buffer.
+    #[error("the text has {wanted} bytes")]
+    NoRoom {
+        /// The bytes of the text.
+        wanted: usize,
+    },
+}
+
+impl From<CanonError> for RoomError {
+    ghost use Rattle.link_msg.specs.declared.canonical_text.RoomError.TheVariants.{NoText};
+
+    ghost from_gives = { λ e r. r ≡ NoText e };
+
+    fn from(error: CanonError) -> RoomError {
+        RoomError::NoText(error)
+    }
+}
+
+/// Writes what the bytes mean, as canonical text, to the front of a buffer of any size, without memory, and answers its
+/// length. The rest of the buffer is kept.
+///
+/// Refuses as `canonical_len` does, and `NoRoom` exactly where the text is longer than the buffer. After a refusal the
+/// buffer is unchanged. The message must not change during the call: the text is measured, and written then.
+pub fn canonical_within(input: &[u8], out: &mut [u8]) -> Result<usize, RoomError>
+    ensures { IsWithin input.now out.old out.new result }
+{
+    let (header, rest, len) = measure(input)?;
+    if out.len() < HEADER_SIZE + len {
+        return Err(RoomError::NoRoom {
+            wanted: HEADER_SIZE + len,
+        });
+    }
+    Ok(write_message(&header, rest, out))
+}
+
+/// Writes what the bytes mean, as canonical text, to the front of the buffer, without memory, and answers its length.
 /// The rest of the buffer is kept.
 ///
-/// The buffer has at least `growth_per_byte` times as many bytes as the input. Answers exactly what
-/// `canonical` answers with ample memory, and never `OutOfMemory`. After `Decode` the buffer is unchanged; after
-/// `DoesNotFit` and `EmptyVfPorts` its bytes are open.
+/// The buffer has room for the text: `growth_per_byte` times as many bytes as the input are enough, and so are those
+/// that `canonical_len` answers. Answers exactly what `canonical` answers with ample memory, and never `OutOfMemory`.
+/// After a refusal the buffer is unchanged. The message must not change during the call.
 pub fn canonical_into(input: &[u8], out: &mut [u8]) -> Result<usize, CanonError>
-    requires { growth_per_byte * length input.now ≤ length out.old }
+    requires { HoldsText input.now (length out.old) }
     ensures { IsWritten input.now out.old out.new result }
 {
-    let (header, rest) = split_header(input)?;
-    let family = header.interface_family;
-    LinkAttribute::check_list_with_param(rest, family)?;
-    header.emit(out);
-    let attributes = &mut out[HEADER_SIZE..];
-    let Some(len) = LinkAttribute::canon_list_with_param(rest, family, attributes) else {
-        return Err(CanonError::DoesNotFit);
-    };
-    if LinkAttribute::hold_empty_ports(rest, family) {
-        return Err(CanonError::EmptyVfPorts);
+    match canonical_within(input, out) {
+        Ok(len) => Ok(len),
+        Err(RoomError::NoText(error)) => Err(error),
+        Err(RoomError::NoRoom { wanted }) => Ok(wanted),
     }
-    Ok(HEADER_SIZE + len)
 }

@@ -11,7 +11,6 @@ pub mod laws;
 pub mod message;
 pub mod numbers;
 mod payload;
-mod ports;
 mod shape;
 pub mod table;
 

@@ -1,21 +1,20 @@
 //! Payloads of attributes: lists that are not empty, extent masks, events and truth values.
 
-ghost use Rattle.std.specs.Prelude.{◌≡◌, ◌*◌, ◌+◌, ◌≤◌, length, IsOk, IfOk, IfErr};
-ghost use Rattle.nla_wire.specs.Sizes.{most_payload, growth_per_byte};
+ghost use Rattle.std.specs.Prelude.{◌≡◌, ◌≤◌, length, IfOk, IfErr};
+ghost use Rattle.nla_wire.specs.Sizes.{most_payload};
 ghost use Rattle.nla_wire.specs.Grammar.{list, not_empty};
-ghost use Rattle.nla_wire.specs.Canon.{canon, canons, AllFit, Canonical};
+ghost use Rattle.nla_wire.specs.Canon.{canon, canons, AllFit, Weighs, HasRoom, Rewrites};
 ghost use Rattle.nla_wire.specs.Gives.{Gives, Checks};
 ghost use Rattle.nla_wire.specs.declared.error.Cause.TheVariants.{OutOfMemory};
-ghost use Rattle.link_nest.specs.Wireless.{wireless_event};
 ghost use Rattle.link_vf.specs.Tables.{link_vf_port_place, vf_port_list};
-ghost use Rattle.nla_wire.proofs.Shapes.{ShapeWrites};
+ghost use Rattle.nla_wire.proofs.Shapes.{ShapeRoom, ShapeWrites};
 ghost use Rattle.link_msg.specs.Tables.{base, ext_masks, truth_number};
 ghost use Rattle.link_msg.specs.declared.shape.Shape.TheVariants as Shapes;
 
 use link_nest::WirelessEvent;
 use link_vals::LinkExtentMask;
 use link_vf::LinkVfPort;
-use nla_wire::{DecodeError, List, NLA_HEADER_SIZE, NlaRead, close, empty_list, parse_u32};
+use nla_wire::{DecodeError, List, NLA_HEADER_SIZE, NlaRead, empty_list, finish, parse_u32};
 use std::alloc::Global;
 
 /// Reads a list that is not empty.
@@ -40,19 +39,6 @@ pub(crate) fn check_some<N: NlaRead>(payload: &[u8]) -> Result<(), DecodeError>
     N::check_list(payload)
 }
 
-/// Writes the attribute of a list that is not empty and was accepted.
-#[tactic(auto, unfolding(nla_wire::specs::Grammar::unless_empty))]
-pub(crate) fn canon_some<N: NlaRead>(kind: u16, payload: &[u8], out: &mut [u8]) -> Option<usize>
-    requires accepted { IsOk ((not_empty (list N.grammar)).reads payload.now) }
-    requires room { growth_per_byte * (4 + length payload.now) ≤ length out.old }
-    ensures { Canonical (λ vs. canon (record { kind = kind; payload = canons N.frame vs })) (λ vs. (length (canons N.frame vs) ≤ most_payload) × AllFit N.fits N.frame vs) ((not_empty (list N.grammar)).reads payload.now) out.old out.new result }
-{
-    if payload.is_empty() {
-        return None;
-    }
-    N::canon_nested(kind, payload, out)
-}
-
 /// Reads ports of virtual functions from a payload that is not empty.
 #[tactic(auto, unfolding(nla_wire::specs::Grammar::unless_empty))]
 pub(crate) fn parse_ports(alloc: Global, payload: &[u8]) -> Result<List<LinkVfPort>, DecodeError>
@@ -75,17 +61,22 @@ pub(crate) fn check_ports(payload: &[u8]) -> Result<(), DecodeError>
     LinkVfPort::check_list(payload)
 }
 
-/// Writes the attribute of accepted ports of virtual functions.
-#[tactic(auto, unfolding(nla_wire::specs::Grammar::unless_empty))]
-pub(crate) fn canon_ports(kind: u16, payload: &[u8], out: &mut [u8]) -> Option<usize>
-    requires accepted { IsOk ((not_empty vf_port_list.grammar).reads payload.now) }
-    requires room { growth_per_byte * (4 + length payload.now) ≤ length out.old }
-    ensures { Canonical (λ vs. canon (record { kind = kind; payload = canons link_vf_port_place.frame vs })) (λ vs. (length (canons link_vf_port_place.frame vs) ≤ most_payload) × AllFit link_vf_port_place.Fits link_vf_port_place.frame vs) ((not_empty vf_port_list.grammar).reads payload.now) out.old out.new result }
+/// The length of the text of ports of virtual functions: `None` where it does not fit or the payload is refused.
+pub(crate) fn measure_ports(payload: &[u8]) -> Option<usize>
+    ensures { Weighs (canons link_vf_port_place.frame) (λ vs. (length (canons link_vf_port_place.frame vs) ≤ most_payload) × AllFit link_vf_port_place.Fits link_vf_port_place.frame vs) ((not_empty vf_port_list.grammar).reads payload.now) result }
 {
     if payload.is_empty() {
         return None;
     }
-    LinkVfPort::canon_nested_list(kind, payload, out)
+    LinkVfPort::measure_list(payload)
+}
+
+/// Writes the attribute of ports of virtual functions that were measured.
+pub(crate) fn write_ports(kind: u16, payload: &[u8], out: &mut [u8]) -> usize
+    requires { HasRoom (λ vs. canon (record { kind = kind; payload = canons link_vf_port_place.frame vs })) (λ vs. (length (canons link_vf_port_place.frame vs) ≤ most_payload) × AllFit link_vf_port_place.Fits link_vf_port_place.frame vs) ((not_empty vf_port_list.grammar).reads payload.now) (length out.old) }
+    ensures { Rewrites (λ vs. canon (record { kind = kind; payload = canons link_vf_port_place.frame vs })) ((not_empty vf_port_list.grammar).reads payload.now) out.old out.new result }
+{
+    LinkVfPort::write_list(kind, payload, out)
 }
 
 /// Reads an extent mask, a number of four bytes, as the list of its flags.
@@ -108,14 +99,13 @@ pub(crate) fn clone_mask(
     Ok(List::new(copy))
 }
 
-/// Writes the attribute of an accepted wireless event.
-pub(crate) fn canon_event(kind: u16, payload: &[u8], out: &mut [u8]) -> Option<usize>
-    requires accepted { IsOk (wireless_event.reads payload.now) }
-    requires room { growth_per_byte * (4 + length payload.now) ≤ length out.old }
+/// Writes the attribute of a wireless event that was measured.
+pub(crate) fn write_event(kind: u16, payload: &[u8], out: &mut [u8]) -> usize
+    requires { ShapeRoom base Shapes.Event kind payload.now (length out.old) }
     ensures { ShapeWrites base Shapes.Event kind payload.now out.old out.new result }
 {
-    let len = WirelessEvent::canon(payload, &mut out[NLA_HEADER_SIZE..])?;
-    close(out, len, kind)
+    let len = WirelessEvent::write(payload, &mut out[NLA_HEADER_SIZE..]);
+    finish(out, len, kind)
 }
 
 /// The byte of a truth value.

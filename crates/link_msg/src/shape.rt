@@ -1,38 +1,122 @@
 //! The attributes by the shape of their payloads: they are checked, and written again, from the payload and without a
 //! value.
 
-ghost use Rattle.std.specs.Prelude.{◌≡◌, ℕ, ◌*◌, ◌+◌, ◌≤◌, ◌<◌, ◌^◌, length, IsOk};
-ghost use Rattle.nla_wire.specs.Sizes.{growth_per_byte};
-ghost use Rattle.nla_wire.specs.Frames.{IsBytes};
+ghost use Rattle.std.specs.Prelude.{◌≡◌, ◌≤◌, ◌<◌, ◌^◌, length};
+ghost use Rattle.nla_wire.specs.Sizes.{most_payload};
 ghost use Rattle.nla_wire.proofs.Codec.{kind_of};
-ghost use Rattle.nla_wire.proofs.Shapes.{ShapeChecks, ShapeWrites};
+ghost use Rattle.nla_wire.proofs.Shapes.{ShapeChecks, ShapeWeighs, ShapeRoom, ShapeWrites};
 ghost use Rattle.link_msg.specs.Tables.{base, proto_info, af_spec, as_way, attribute_way};
 ghost use Rattle.link_msg.specs.declared.shape.Shape.TheVariants as Shapes;
 
-use crate::numbers::{
-    IFLA_ADDRESS, IFLA_AF_SPEC, IFLA_ALLMULTI, IFLA_BROADCAST, IFLA_CARRIER, IFLA_CARRIER_CHANGES,
-    IFLA_CARRIER_DOWN_COUNT, IFLA_CARRIER_UP_COUNT, IFLA_DEVLINK_PORT, IFLA_DPLL_PIN, IFLA_EVENT,
-    IFLA_EXT_MASK, IFLA_GRO_IPV4_MAX_SIZE, IFLA_GRO_MAX_SIZE, IFLA_GROUP, IFLA_GSO_IPV4_MAX_SIZE,
-    IFLA_GSO_MAX_SEGS, IFLA_GSO_MAX_SIZE, IFLA_HEADROOM, IFLA_IF_NETNSID, IFLA_IFALIAS,
-    IFLA_IFNAME, IFLA_LINK, IFLA_LINK_NETNSID, IFLA_LINKINFO, IFLA_LINKMODE, IFLA_MAP, IFLA_MASTER,
-    IFLA_MAX_MTU, IFLA_MIN_MTU, IFLA_MTU, IFLA_NET_NS_FD, IFLA_NET_NS_PID, IFLA_NETNS_IMMUTABLE,
-    IFLA_NEW_IFINDEX, IFLA_NEW_NETNSID, IFLA_NUM_RX_QUEUES, IFLA_NUM_TX_QUEUES, IFLA_NUM_VF,
-    IFLA_OPERSTATE, IFLA_PARENT_DEV_BUS_NAME, IFLA_PARENT_DEV_NAME, IFLA_PERM_ADDRESS,
-    IFLA_PHYS_PORT_ID, IFLA_PHYS_PORT_NAME, IFLA_PHYS_SWITCH_ID, IFLA_PORT_SELF, IFLA_PROMISCUITY,
-    IFLA_PROP_LIST, IFLA_PROTINFO, IFLA_PROTO_DOWN, IFLA_PROTO_DOWN_REASON, IFLA_QDISC, IFLA_STATS,
-    IFLA_STATS64, IFLA_TAILROOM, IFLA_TSO_MAX_SEGS, IFLA_TSO_MAX_SIZE, IFLA_TXQLEN, IFLA_VF_PORTS,
-    IFLA_VFINFO_LIST, IFLA_WIRELESS, IFLA_XDP,
-};
-use crate::payload::{canon_event, canon_ports, canon_some, check_ports, check_some, truth_byte};
-use link_afspec::{AfSpecBridge, AfSpecUnspec, LinkProtoInfoBridge, LinkProtoInfoInet6};
-use link_nest::{
-    DevlinkPort, DpllPin, LinkInfo, LinkProtocolDownReason, LinkXdp, Prop, WirelessEvent,
-};
-use link_recs::{Map, Stats, Stats64};
+use crate::numbers::IFLA_ADDRESS;
+use crate::numbers::IFLA_AF_SPEC;
+use crate::numbers::IFLA_ALLMULTI;
+use crate::numbers::IFLA_BROADCAST;
+use crate::numbers::IFLA_CARRIER;
+use crate::numbers::IFLA_CARRIER_CHANGES;
+use crate::numbers::IFLA_CARRIER_DOWN_COUNT;
+use crate::numbers::IFLA_CARRIER_UP_COUNT;
+use crate::numbers::IFLA_DEVLINK_PORT;
+use crate::numbers::IFLA_DPLL_PIN;
+use crate::numbers::IFLA_EVENT;
+use crate::numbers::IFLA_EXT_MASK;
+use crate::numbers::IFLA_GRO_IPV4_MAX_SIZE;
+use crate::numbers::IFLA_GRO_MAX_SIZE;
+use crate::numbers::IFLA_GROUP;
+use crate::numbers::IFLA_GSO_IPV4_MAX_SIZE;
+use crate::numbers::IFLA_GSO_MAX_SEGS;
+use crate::numbers::IFLA_GSO_MAX_SIZE;
+use crate::numbers::IFLA_HEADROOM;
+use crate::numbers::IFLA_IF_NETNSID;
+use crate::numbers::IFLA_IFALIAS;
+use crate::numbers::IFLA_IFNAME;
+use crate::numbers::IFLA_LINK;
+use crate::numbers::IFLA_LINK_NETNSID;
+use crate::numbers::IFLA_LINKINFO;
+use crate::numbers::IFLA_LINKMODE;
+use crate::numbers::IFLA_MAP;
+use crate::numbers::IFLA_MASTER;
+use crate::numbers::IFLA_MAX_MTU;
+use crate::numbers::IFLA_MIN_MTU;
+use crate::numbers::IFLA_MTU;
+use crate::numbers::IFLA_NET_NS_FD;
+use crate::numbers::IFLA_NET_NS_PID;
+use crate::numbers::IFLA_NETNS_IMMUTABLE;
+use crate::numbers::IFLA_NEW_IFINDEX;
+use crate::numbers::IFLA_NEW_NETNSID;
+use crate::numbers::IFLA_NUM_RX_QUEUES;
+use crate::numbers::IFLA_NUM_TX_QUEUES;
+use crate::numbers::IFLA_NUM_VF;
+use crate::numbers::IFLA_OPERSTATE;
+use crate::numbers::IFLA_PARENT_DEV_BUS_NAME;
+use crate::numbers::IFLA_PARENT_DEV_NAME;
+use crate::numbers::IFLA_PERM_ADDRESS;
+use crate::numbers::IFLA_PHYS_PORT_ID;
+use crate::numbers::IFLA_PHYS_PORT_NAME;
+use crate::numbers::IFLA_PHYS_SWITCH_ID;
+use crate::numbers::IFLA_PORT_SELF;
+use crate::numbers::IFLA_PROMISCUITY;
+use crate::numbers::IFLA_PROP_LIST;
+use crate::numbers::IFLA_PROTINFO;
+use crate::numbers::IFLA_PROTO_DOWN;
+use crate::numbers::IFLA_PROTO_DOWN_REASON;
+use crate::numbers::IFLA_QDISC;
+use crate::numbers::IFLA_STATS;
+use crate::numbers::IFLA_STATS64;
+use crate::numbers::IFLA_TAILROOM;
+use crate::numbers::IFLA_TSO_MAX_SEGS;
+use crate::numbers::IFLA_TSO_MAX_SIZE;
+use crate::numbers::IFLA_TXQLEN;
+use crate::numbers::IFLA_VF_PORTS;
+use crate::numbers::IFLA_VFINFO_LIST;
+use crate::numbers::IFLA_WIRELESS;
+use crate::numbers::IFLA_XDP;
+use crate::payload::check_ports;
+use crate::payload::check_some;
+use crate::payload::measure_ports;
+use crate::payload::truth_byte;
+use crate::payload::write_event;
+use crate::payload::write_ports;
+use link_afspec::AfSpecBridge;
+use link_afspec::AfSpecUnspec;
+use link_afspec::LinkProtoInfoBridge;
+use link_afspec::LinkProtoInfoInet6;
+use link_nest::DevlinkPort;
+use link_nest::DpllPin;
+use link_nest::LinkInfo;
+use link_nest::LinkProtocolDownReason;
+use link_nest::LinkXdp;
+use link_nest::Prop;
+use link_nest::WirelessEvent;
+use link_recs::Map;
+use link_recs::Stats;
+use link_recs::Stats64;
 use link_vals::AddressFamily;
-use link_vf::{LinkVfInfo, LinkVfPort};
+use link_vf::LinkVfInfo;
+use link_vf::LinkVfPort;
+use nla_wire::DecodeError;
+use nla_wire::NLA_F_NESTED;
+use nla_wire::NlaRead;
+use nla_wire::PlainRecord;
+use nla_wire::Record;
+use nla_wire::check_string;
 use nla_wire::error::checked;
-use nla_wire::{DecodeError, Leaf, NLA_F_NESTED, NlaRead, canon_value, parse_u8};
+use nla_wire::measure_text;
+use nla_wire::measure_u8;
+use nla_wire::measure_u16;
+use nla_wire::measure_u32;
+use nla_wire::measure_u64;
+use nla_wire::parse_u8;
+use nla_wire::parse_u16;
+use nla_wire::parse_u32;
+use nla_wire::parse_u64;
+use nla_wire::write_text_payload;
+use nla_wire::write_u8;
+use nla_wire::write_u8_payload;
+use nla_wire::write_u16_payload;
+use nla_wire::write_u32_payload;
+use nla_wire::write_u64_payload;
+use nla_wire::write_value;
 
 /// The most bytes of an id that are written.
 const ID_SIZE: usize = 32;
@@ -196,12 +280,12 @@ impl Shape {
         ensures { ShapeChecks base self payload.now result }
     {
         match self {
-            Shape::Bytes => Leaf::Bytes.check(payload),
-            Shape::Text => Leaf::Text.check(payload),
-            Shape::U8 => Leaf::U8.check(payload),
-            Shape::U16 => Leaf::U16.check(payload),
-            Shape::U32 => Leaf::U32.check(payload),
-            Shape::U64 => Leaf::U64.check(payload),
+            Shape::Bytes => Ok(()),
+            Shape::Text => check_string(payload),
+            Shape::U8 => checked(parse_u8(payload)),
+            Shape::U16 => checked(parse_u16(payload)),
+            Shape::U32 => checked(parse_u32(payload)),
+            Shape::U64 => checked(parse_u64(payload)),
             Shape::Truth => check_truth(payload),
             Shape::Id => Ok(()),
             Shape::Stats => Ok(()),
@@ -224,47 +308,86 @@ impl Shape {
         }
     }
 
-    /// Writes the attribute of this number that an accepted payload of this shape means to the front of the buffer,
-    /// with no memory, and answers its length with padding; `None` where the value does not fit. The rest of the buffer
-    /// is kept.
-    #[tactic(auto, unfolding(nla_wire::specs::Payloads::read_text, nla_wire::specs::Payloads::read_number, nla_wire::specs::Payloads::read_sized), using(nla_wire::proofs::Front::all_bytes))]
-    pub(crate) fn canon(self, number: u16, payload: &[u8], out: &mut [u8]) -> Option<usize>
-        requires number { number < 2 ^ 14 }
-        requires accepted { IsOk ((base self).codec.grammar.reads payload.now) }
-        requires room { growth_per_byte * (4 + length payload.now) ≤ length out.old }
-        ensures text { ShapeWrites base self (kind_of (base self).flags number) payload.now out.old out.new result }
-        ensures bytes { IsBytes payload.now }
+    /// The length of the text of the value that a payload of this shape means, with no memory; `None` where the value
+    /// does not fit, or the payload is refused.
+    #[tactic(auto, unfolding(nla_wire::specs::Payloads::read_text, nla_wire::specs::Payloads::read_number))]
+    #[inline(always)]
+    pub(crate) fn measure(self, payload: &[u8]) -> Option<usize>
+        requires { length payload.now ≤ most_payload }
+        ensures { ShapeWeighs base self payload.now result }
     {
         match self {
-            Shape::Bytes => Leaf::Bytes.canon(number, payload, out),
-            Shape::Text => Leaf::Text.canon(number, payload, out),
-            Shape::U8 => Leaf::U8.canon(number, payload, out),
-            Shape::U16 => Leaf::U16.canon(number, payload, out),
-            Shape::U32 => Leaf::U32.canon(number, payload, out),
-            Shape::U64 => Leaf::U64.canon(number, payload, out),
-            Shape::Truth => canon_truth(number, payload, out),
-            Shape::Id => canon_value(number, &payload[..payload.len().min(ID_SIZE)], out),
-            Shape::Stats => Stats::canon(number, payload, out),
-            Shape::Stats64 => Stats64::canon(number, payload, out),
-            Shape::Map => Map::canon(number, payload, out),
-            Shape::Event => canon_event(number, payload, out),
-            Shape::Port => LinkVfPort::canon_entry(number, payload, out),
-            Shape::Infos => canon_some::<LinkInfo>(number, payload, out),
-            Shape::Functions => LinkVfInfo::canon_nested_list(number, payload, out),
-            Shape::Ports => canon_ports(number, payload, out),
-            Shape::Xdps => canon_some::<LinkXdp>(number, payload, out),
-            Shape::Props => Prop::canon_nested(number + NLA_F_NESTED, payload, out),
-            Shape::Reasons => LinkProtocolDownReason::canon_nested(number, payload, out),
-            Shape::DevlinkPorts => DevlinkPort::canon_nested(number + NLA_F_NESTED, payload, out),
-            Shape::DpllPins => DpllPin::canon_nested(number + NLA_F_NESTED, payload, out),
-            Shape::BridgeInfos => {
-                canon_some::<LinkProtoInfoBridge>(number + NLA_F_NESTED, payload, out)
-            }
-            Shape::Inet6Infos => {
-                canon_some::<LinkProtoInfoInet6>(number + NLA_F_NESTED, payload, out)
-            }
-            Shape::Bridges => canon_some::<AfSpecBridge>(number, payload, out),
-            Shape::Unspecs => AfSpecUnspec::canon_nested(number, payload, out),
+            Shape::Bytes => Some(payload.len()),
+            Shape::Text => measure_text(payload),
+            Shape::U8 => measure_u8(payload),
+            Shape::U16 => measure_u16(payload),
+            Shape::U32 => measure_u32(payload),
+            Shape::U64 => measure_u64(payload),
+            Shape::Truth => measure_u8(payload),
+            Shape::Id => Some(payload.len().min(ID_SIZE)),
+            Shape::Stats => Stats::measure_filled(payload),
+            Shape::Stats64 => Stats64::measure_filled(payload),
+            Shape::Map => Map::measure_sized(payload),
+            Shape::Event => WirelessEvent::measure(payload),
+            Shape::Port => LinkVfPort::measure_entry(payload),
+            Shape::Infos => LinkInfo::measure_some(payload),
+            Shape::Functions => LinkVfInfo::measure_list(payload),
+            Shape::Ports => measure_ports(payload),
+            Shape::Xdps => LinkXdp::measure_some(payload),
+            Shape::Props => Prop::measure_nested(payload),
+            Shape::Reasons => LinkProtocolDownReason::measure_nested(payload),
+            Shape::DevlinkPorts => DevlinkPort::measure_nested(payload),
+            Shape::DpllPins => DpllPin::measure_nested(payload),
+            Shape::BridgeInfos => LinkProtoInfoBridge::measure_some(payload),
+            Shape::Inet6Infos => LinkProtoInfoInet6::measure_some(payload),
+            Shape::Bridges => AfSpecBridge::measure_some(payload),
+            Shape::Unspecs => AfSpecUnspec::measure_nested(payload),
+        }
+    }
+
+    /// Writes the attribute of this number that a payload of this shape means, which was measured, to the front of the
+    /// buffer, and answers its length with padding. The rest of the buffer is kept.
+    #[tactic(auto, unfolding(nla_wire::specs::Payloads::read_text, nla_wire::specs::Payloads::read_number, nla_wire::specs::Payloads::read_sized))]
+    #[inline(always)]
+    pub(crate) fn write(self, number: u16, payload: &[u8], out: &mut [u8]) -> usize
+        requires number { number < 2 ^ 14 }
+        requires room { ShapeRoom base self (kind_of (base self).flags number) payload.now (length out.old) }
+        ensures { ShapeWrites base self (kind_of (base self).flags number) payload.now out.old out.new result }
+    {
+        match self {
+            Shape::Bytes => write_value(number, payload, out),
+            Shape::Text => write_text_payload(number, payload, out),
+            Shape::U8 => write_u8_payload(number, payload, out),
+            Shape::U16 => write_u16_payload(number, payload, out),
+            Shape::U32 => write_u32_payload(number, payload, out),
+            Shape::U64 => write_u64_payload(number, payload, out),
+            Shape::Truth => write_truth(number, payload, out),
+            Shape::Id => write_value(number, &payload[..payload.len().min(ID_SIZE)], out),
+            Shape::Stats => Stats::write_filled(number, payload, out),
+            Shape::Stats64 => Stats64::write_filled(number, payload, out),
+            Shape::Map => Map::write_sized(number, payload, out),
+            Shape::Event => write_event(number, payload, out),
+            Shape::Port => LinkVfPort::write_entry(number, payload, out),
+            Shape::Infos => LinkInfo::write_some(number, payload, out),
+            Shape::Functions => LinkVfInfo::write_list(number, payload, out),
+            Shape::Ports => write_ports(number, payload, out),
+            Shape::Xdps => LinkXdp::write_some(number, payload, out),
+            Shape::Props => Prop::write_nested(number + NLA_F_NESTED, payload, out),
+            Shape::Reasons => LinkProtocolDownReason::write_nested(number, payload, out),
+            Shape::DevlinkPorts => DevlinkPort::write_nested(number + NLA_F_NESTED, payload, out),
+            Shape::DpllPins => DpllPin::write_nested(number + NLA_F_NESTED, payload, out),
+            Shape::BridgeInfos => LinkProtoInfoBridge::write_some(
+                number + NLA_F_NESTED,
+                payload,
+                out,
+            ),
+            Shape::Inet6Infos => LinkProtoInfoInet6::write_some(
+                number + NLA_F_NESTED,
+                payload,
+                out,
+            ),
+            Shape::Bridges => AfSpecBridge::write_some(number, payload, out),
+            Shape::Unspecs => AfSpecUnspec::write_nested(number, payload, out),
         }
     }
 }
@@ -277,11 +400,10 @@ fn check_truth(payload: &[u8]) -> Result<(), DecodeError>
 }
 
 /// Writes an attribute of one byte, 1 where the payload's is another than 0.
-fn canon_truth(kind: u16, payload: &[u8], out: &mut [u8]) -> Option<usize>
-    requires accepted { IsOk ((base Shapes.Truth).codec.grammar.reads payload.now) }
-    requires room { growth_per_byte * (4 + length payload.now) ≤ length out.old }
+#[tactic(auto, unfolding(nla_wire::specs::Payloads::read_number))]
+fn write_truth(kind: u16, payload: &[u8], out: &mut [u8]) -> usize
+    requires { ShapeRoom base Shapes.Truth kind payload.now (length out.old) }
     ensures { ShapeWrites base Shapes.Truth kind payload.now out.old out.new result }
 {
-    let value = parse_u8(payload).ok()? != 0;
-    canon_value(kind, &[truth_byte(value)], out)
+    write_u8(kind, truth_byte(payload[0] != 0), out)
 }

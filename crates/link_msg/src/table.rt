@@ -1,10 +1,11 @@
 //! The outermost table: how attributes are read under the header's family, checked, and written again without memory.
 
-ghost use Rattle.std.specs.Prelude.{◌≡◌, ◌≢◌, ◌*◌, ◌+◌, ◌<◌, ◌≤◌, length, vec_len, vec_capacity};
-ghost use Rattle.std.specs.Prelude.{IsOk, IfOk, IfErr, MatchResult};
-ghost use Rattle.nla_wire.specs.Sizes.{growth_per_byte};
+ghost use Rattle.std.specs.Prelude.{◌≡◌, ◌≢◌, ◌*◌, ◌<◌, ◌≤◌, ◌↔◌, length, vec_len, vec_capacity, IsTrue};
+ghost use Rattle.std.specs.Prelude.{IfOk, IfErr, MatchResult};
+ghost use Rattle.nla_wire.specs.Frames.{IsFrame, number};
 ghost use Rattle.nla_wire.specs.Grammar.{list};
-ghost use Rattle.nla_wire.specs.Canon.{canon, canons, AllFit, Appended, Canonical};
+ghost use Rattle.nla_wire.specs.Canon.{canon, canons, AllFit, Weighs, HasRoom, Rewrites, RoomWhereFit, Canonical};
+ghost use Rattle.link_msg.specs.declared.numbers.TheConstants.{IFLA_VF_PORTS};
 ghost use Rattle.nla_wire.specs.Gives.{Fails, Gives, Adds, Checks};
 ghost use Rattle.nla_wire.specs.declared.error.Cause.TheVariants.{OutOfMemory};
 
@@ -77,7 +78,6 @@ use crate::numbers::IFLA_XDP;
 use crate::payload::parse_mask;
 use crate::payload::parse_ports;
 use crate::payload::parse_some;
-use crate::ports::holds_no_port;
 use crate::shape::Shape;
 use link_nest::DevlinkPort;
 use link_nest::DpllPin;
@@ -104,10 +104,9 @@ use nla_wire::NlaBuffer;
 use nla_wire::NlaRead;
 use nla_wire::NlasIterator;
 use nla_wire::Place;
-use nla_wire::append_members;
-use nla_wire::canon_bytes;
-use nla_wire::canon_members;
 use nla_wire::check_members;
+use nla_wire::measure_members;
+use nla_wire::padded_len;
 use nla_wire::parse_i32;
 use nla_wire::parse_members;
 use nla_wire::parse_one;
@@ -115,13 +114,14 @@ use nla_wire::parse_string;
 use nla_wire::parse_u8;
 use nla_wire::parse_u16;
 use nla_wire::parse_u32;
+use nla_wire::write_members;
+use nla_wire::write_value;
 use std::alloc::Global;
 
 impl LinkAttribute {
-    ghost use Rattle.nla_wire.specs.Frames.{IsFrame, number};
     ghost use Rattle.link_msg.specs.Plain.{NotPlain};
     ghost use Rattle.link_msg.specs.Tables.{attribute_place, attribute_frame, AttributeFits, Values};
-    ghost use Rattle.link_msg.specs.Canonical.{PortTold, PortsTold};
+    ghost use Rattle.link_msg.specs.Canonical.{ListWeighs};
 
     /// Reads a frame under the header's family: the number selects the variant, whatever the flag bits of the kind.
     ///
@@ -489,22 +489,52 @@ impl LinkAttribute {
         }
     }
 
-    /// Writes the canonical text of the value that an accepted frame has under the header's family to the front of the
-    /// buffer, with no memory, and answers its length; `None` where the value does not fit.
+    /// The length of the text of a frame's value under the header's family, without header and padding and with no
+    /// memory; `None` where the value does not fit, or the frame is refused.
+    #[inline(always)]
+    fn measure_frame(buffer: &NlaBuffer<'_>, family: AddressFamily) -> Option<usize>
+        ensures { Weighs (λ v. (attribute_frame v).payload) AttributeFits ((attribute_place family).reads buffer.now) result }
+    {
+        buffer.is_frame();
+        let payload = buffer.value();
+        match Shape::of(buffer.kind(), payload.len(), family) {
+            Some(shape) => shape.measure(payload),
+            None => Some(payload.len()),
+        }
+    }
+
+    /// Writes the canonical text of a frame that was measured to the front of the buffer, and answers its length with
+    /// header and padding.
+    #[inline(always)]
+    fn write_frame(buffer: &NlaBuffer<'_>, family: AddressFamily, out: &mut [u8]) -> usize
+        requires { HasRoom (λ v. canon (attribute_frame v)) AttributeFits ((attribute_place family).reads buffer.now) (length out.old) }
+        ensures { Rewrites (λ v. canon (attribute_frame v)) ((attribute_place family).reads buffer.now) out.old out.new result }
+    {
+        buffer.is_frame();
+        let payload = buffer.value();
+        match Shape::of(buffer.kind(), payload.len(), family) {
+            Some(shape) => shape.write(buffer.kind(), payload, out),
+            None => write_value(buffer.kind_with_flags(), payload, out),
+        }
+    }
+
+    /// Writes the canonical text of the value that a frame has under the header's family to the front of the buffer,
+    /// with no memory, and answers its length. The rest of the buffer is kept.
+    ///
+    /// There is room for that text: `growth_per_byte` bytes for each byte of header and payload are enough. Answers
+    /// `None` where the value does not fit or the frame is refused, and changes nothing then.
     pub fn canon_with_param(
         buffer: &NlaBuffer<'_>,
         family: AddressFamily,
         out: &mut [u8],
     ) -> Option<usize>
-        requires accepted { IsOk ((attribute_place family).reads buffer.now) }
-        requires room { growth_per_byte * (4 + length buffer.now.payload) ≤ length out.old }
+        requires room { RoomWhereFit (λ v. canon (attribute_frame v)) AttributeFits ((attribute_place family).reads buffer.now) (length out.old) }
         ensures { Canonical (λ v. canon (attribute_frame v)) AttributeFits ((attribute_place family).reads buffer.now) out.old out.new result }
     {
-        let payload = buffer.value();
-        match Shape::of(buffer.kind(), payload.len(), family) {
-            Some(shape) => shape.canon(buffer.kind(), payload, out),
-            None => canon_bytes(buffer.kind_with_flags(), payload, out),
-        }
+        let Some(_len) = LinkAttribute::measure_frame(buffer, family) else {
+            return None;
+        };
+        Some(LinkAttribute::write_frame(buffer, family, out))
     }
 
     /// Reads a list of attributes under the header's family. The empty payload is the empty list.
@@ -537,60 +567,77 @@ impl LinkAttribute {
         check_members(&AttributePlace { family }, bytes)
     }
 
-    /// Writes the canonical text of an accepted list of attributes under the header's family to the front of the
-    /// buffer, with no memory, and answers its length; `None` where an attribute does not fit.
+    /// Writes the canonical text of a list of attributes under the header's family to the front of the buffer, with no
+    /// memory, and answers its length. The rest of the buffer is kept.
+    ///
+    /// There is room for that text: `growth_per_byte` bytes for each byte of the list are enough. Answers `None` where
+    /// an attribute does not fit or the list is refused, and changes nothing then.
     pub fn canon_list_with_param(
         bytes: &[u8],
         family: AddressFamily,
         out: &mut [u8],
     ) -> Option<usize>
-        requires accepted { IsOk ((list (attribute_place family)).reads bytes.now) }
-        requires room { growth_per_byte * length bytes.now ≤ length out.old }
+        requires room { RoomWhereFit (canons attribute_frame) (AllFit AttributeFits attribute_frame) ((list (attribute_place family)).reads bytes.now) (length out.old) }
         ensures { Canonical (canons attribute_frame) (AllFit AttributeFits attribute_frame) ((list (attribute_place family)).reads bytes.now) out.old out.new result }
     {
-        canon_members(&AttributePlace { family }, bytes, out)
+        let Some(_len) = measure_members(&AttributePlace { family }, bytes) else {
+            return None;
+        };
+        Some(write_members(&AttributePlace { family }, bytes, out))
     }
 
-    /// Reads a list of attributes under the header's family, adds the canonical text of each to `text`, and answers
-    /// whether they all fit. One value at a time is held.
-    pub(crate) fn append_list_with_param(
-        alloc: Global,
+    /// The length of the canonical text of a list of attributes under the header's family, and whether an empty list of
+    /// ports is among them, with no memory; `None` where one does not fit, or the list is refused.
+    ///
+    /// A list of ports has a text of no bytes exactly where it is empty, so that the same walk tells it.
+    pub(crate) fn measure_list_with_param(
         bytes: &[u8],
         family: AddressFamily,
-        text: &mut Vec<u8>,
-    ) -> Result<bool, DecodeError>
-        ensures { MatchResult result
-            (Appended (canons attribute_frame) (AllFit AttributeFits attribute_frame) ((list (attribute_place family)).reads bytes.now) text.old.items text.new.items)
-            (λ e. Fails e.cause ((list (attribute_place family)).reads bytes.now)) }
+    ) -> Option<(usize, bool)>
+        ensures { ListWeighs ((list (attribute_place family)).reads bytes.now) result }
     {
-        append_members(&AttributePlace { family }, alloc, bytes, text)
-    }
-
-    /// Whether an accepted frame means an empty list of ports. It takes no memory.
-    fn means_empty_ports(buffer: &NlaBuffer<'_>, family: AddressFamily) -> bool
-        requires frame { IsFrame buffer.now }
-        requires accepted { IsOk ((attribute_place family).reads buffer.now) }
-        ensures { PortTold ((attribute_place family).reads buffer.now) result }
-    {
-        buffer.kind() == IFLA_VF_PORTS && holds_no_port(buffer.value())
-    }
-
-    /// Whether an accepted list of attributes under the header's family holds an empty list of ports. It takes no
-    /// memory.
-    pub(crate) fn hold_empty_ports(bytes: &[u8], family: AddressFamily) -> bool
-        requires { IsOk ((list (attribute_place family)).reads bytes.now) }
-        ensures { PortsTold ((list (attribute_place family)).reads bytes.now) result }
-    {
+        let mut len: usize = 0;
+        let mut empty = false;
         for item in NlasIterator::new(bytes) {
             let Ok(frame) = item else {
-                return false;
+                return None;
             };
-            if LinkAttribute::means_empty_ports(&frame, family) {
-                return true;
+            let Some(value) = LinkAttribute::measure_frame(&frame, family) else {
+                return None;
+            };
+            let Some(more) = len.checked_add(padded_len(value)) else {
+                return None;
+            };
+            if has_no_port(&frame, value) {
+                empty = true;
             }
+            len = more;
         }
-        false
+        Some((len, empty))
     }
+
+    /// Writes the canonical text of a list of attributes that was measured to the front of the buffer, and answers its
+    /// length. The rest of the buffer is kept.
+    pub(crate) fn write_list_with_param(
+        bytes: &[u8],
+        family: AddressFamily,
+        out: &mut [u8],
+    ) -> usize
+        requires { HasRoom (canons attribute_frame) (AllFit AttributeFits attribute_frame) ((list (attribute_place family)).reads bytes.now) (length out.old) }
+        ensures { Rewrites (canons attribute_frame) ((list (attribute_place family)).reads bytes.now) out.old out.new result }
+    {
+        write_members(&AttributePlace { family }, bytes, out)
+    }
+}
+
+/// Whether a frame whose value has a text of so many bytes is an empty list of ports.
+#[inline(always)]
+fn has_no_port(buffer: &NlaBuffer<'_>, value_len: usize) -> bool
+    ensures told { IsTrue result ↔ ((number buffer.now ≡ IFLA_VF_PORTS) × (value_len ≡ 0)) }
+    ensures frame { IsFrame buffer.now }
+{
+    buffer.is_frame();
+    value_len == 0 && buffer.kind() == IFLA_VF_PORTS
 }
 
 /// The outermost place, under the family of the message's header.
@@ -619,8 +666,14 @@ impl Place<LinkAttribute> for AttributePlace {
         LinkAttribute::fault(buffer, self.family)
     }
 
-    fn canon(&self, buffer: &NlaBuffer<'_>, out: &mut [u8]) -> Option<usize> {
-        LinkAttribute::canon_with_param(buffer, self.family, out)
+    #[inline(always)]
+    fn measure(&self, buffer: &NlaBuffer<'_>) -> Option<usize> {
+        LinkAttribute::measure_frame(buffer, self.family)
+    }
+
+    #[inline(always)]
+    fn write(&self, buffer: &NlaBuffer<'_>, out: &mut [u8]) -> usize {
+        LinkAttribute::write_frame(buffer, self.family, out)
     }
 
     ghost agrees = { λ place. (attribute_lawful place.family).agrees };

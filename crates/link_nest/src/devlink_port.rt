@@ -4,7 +4,8 @@ use crate::numbers::{DEVLINK_ATTR_BUS_NAME, DEVLINK_ATTR_DEV_NAME, DEVLINK_ATTR_
 use nla_wire::error::checked;
 use nla_wire::{
     CloneIn, Content, DecodeError, DefaultNla, Exact, Flat, Nla, NlaBuffer, NlaRead, Text,
-    canon_bytes, canon_text, canon_u32, check_string, parse_string, parse_u32,
+    check_string, measure_text, measure_u32, parse_string, parse_u32, write_text_payload,
+    write_u32_payload, write_value,
 };
 use std::alloc::Global;
 
@@ -71,12 +72,26 @@ impl NlaRead for DevlinkPort {
     }
 
     #[tactic(auto, unfolding(crate::specs::Tables::devlink_port_place, nla_wire::specs::Payloads::read_text, nla_wire::specs::Payloads::read_number))]
-    fn canon(buffer: &NlaBuffer<'_>, out: &mut [u8]) -> Option<usize> {
+    fn measure_frame(buffer: &NlaBuffer<'_>) -> Option<usize> {
         match buffer.kind() {
-            DEVLINK_ATTR_BUS_NAME => canon_text(DEVLINK_ATTR_BUS_NAME, buffer.value(), out),
-            DEVLINK_ATTR_DEV_NAME => canon_text(DEVLINK_ATTR_DEV_NAME, buffer.value(), out),
-            DEVLINK_ATTR_PORT_INDEX => canon_u32(DEVLINK_ATTR_PORT_INDEX, buffer.value(), out),
-            _ => canon_bytes(buffer.kind_with_flags(), buffer.value(), out),
+            DEVLINK_ATTR_BUS_NAME => measure_text(buffer.value()),
+            DEVLINK_ATTR_DEV_NAME => measure_text(buffer.value()),
+            DEVLINK_ATTR_PORT_INDEX => measure_u32(buffer.value()),
+            _ => Some(buffer.value().len()),
+        }
+    }
+
+    #[tactic(auto, unfolding(crate::specs::Tables::devlink_port_place, nla_wire::specs::Payloads::read_text, nla_wire::specs::Payloads::read_number))]
+    fn write_frame(buffer: &NlaBuffer<'_>, out: &mut [u8]) -> usize {
+        match buffer.kind() {
+            DEVLINK_ATTR_BUS_NAME => write_text_payload(DEVLINK_ATTR_BUS_NAME, buffer.value(), out),
+            DEVLINK_ATTR_DEV_NAME => write_text_payload(DEVLINK_ATTR_DEV_NAME, buffer.value(), out),
+            DEVLINK_ATTR_PORT_INDEX => write_u32_payload(
+                DEVLINK_ATTR_PORT_INDEX,
+                buffer.value(),
+                out,
+            ),
+            _ => write_value(buffer.kind_with_flags(), buffer.value(), out),
         }
     }
 

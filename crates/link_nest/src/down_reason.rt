@@ -3,8 +3,8 @@
 use crate::numbers::{IFLA_PROTO_DOWN_REASON_MASK, IFLA_PROTO_DOWN_REASON_VALUE};
 use nla_wire::error::checked;
 use nla_wire::{
-    CloneIn, Content, DecodeError, DefaultNla, Exact, Flat, Nla, NlaBuffer, NlaRead, canon_bytes,
-    canon_u32, parse_u32,
+    CloneIn, Content, DecodeError, DefaultNla, Exact, Flat, Nla, NlaBuffer, NlaRead, measure_u32,
+    parse_u32, write_u32_payload, write_value,
 };
 use std::alloc::Global;
 
@@ -79,19 +79,28 @@ impl NlaRead for LinkProtocolDownReason {
     }
 
     #[tactic(auto, unfolding(crate::specs::Tables::down_reason_place, nla_wire::specs::Payloads::read_number))]
-    fn canon(buffer: &NlaBuffer<'_>, out: &mut [u8]) -> Option<usize> {
+    fn measure_frame(buffer: &NlaBuffer<'_>) -> Option<usize> {
         match buffer.kind() {
-            IFLA_PROTO_DOWN_REASON_MASK => canon_u32(
+            IFLA_PROTO_DOWN_REASON_MASK => measure_u32(buffer.value()),
+            IFLA_PROTO_DOWN_REASON_VALUE => measure_u32(buffer.value()),
+            _ => Some(buffer.value().len()),
+        }
+    }
+
+    #[tactic(auto, unfolding(crate::specs::Tables::down_reason_place, nla_wire::specs::Payloads::read_number))]
+    fn write_frame(buffer: &NlaBuffer<'_>, out: &mut [u8]) -> usize {
+        match buffer.kind() {
+            IFLA_PROTO_DOWN_REASON_MASK => write_u32_payload(
                 IFLA_PROTO_DOWN_REASON_MASK,
                 buffer.value(),
                 out,
             ),
-            IFLA_PROTO_DOWN_REASON_VALUE => canon_u32(
+            IFLA_PROTO_DOWN_REASON_VALUE => write_u32_payload(
                 IFLA_PROTO_DOWN_REASON_VALUE,
                 buffer.value(),
                 out,
             ),
-            _ => canon_bytes(buffer.kind_with_flags(), buffer.value(), out),
+            _ => write_value(buffer.kind_with_flags(), buffer.value(), out),
         }
     }
 

@@ -3,8 +3,8 @@
 use crate::numbers::DPLL_A_PIN_ID;
 use nla_wire::error::checked;
 use nla_wire::{
-    CloneIn, Content, DecodeError, DefaultNla, Exact, Flat, Nla, NlaBuffer, NlaRead, canon_bytes,
-    canon_u32, parse_u32,
+    CloneIn, Content, DecodeError, DefaultNla, Exact, Flat, Nla, NlaBuffer, NlaRead, measure_u32,
+    parse_u32, write_u32_payload, write_value,
 };
 use std::alloc::Global;
 
@@ -61,10 +61,18 @@ impl NlaRead for DpllPin {
     }
 
     #[tactic(auto, unfolding(crate::specs::Tables::dpll_pin_place, nla_wire::specs::Payloads::read_number))]
-    fn canon(buffer: &NlaBuffer<'_>, out: &mut [u8]) -> Option<usize> {
+    fn measure_frame(buffer: &NlaBuffer<'_>) -> Option<usize> {
         match buffer.kind() {
-            DPLL_A_PIN_ID => canon_u32(DPLL_A_PIN_ID, buffer.value(), out),
-            _ => canon_bytes(buffer.kind_with_flags(), buffer.value(), out),
+            DPLL_A_PIN_ID => measure_u32(buffer.value()),
+            _ => Some(buffer.value().len()),
+        }
+    }
+
+    #[tactic(auto, unfolding(crate::specs::Tables::dpll_pin_place, nla_wire::specs::Payloads::read_number))]
+    fn write_frame(buffer: &NlaBuffer<'_>, out: &mut [u8]) -> usize {
+        match buffer.kind() {
+            DPLL_A_PIN_ID => write_u32_payload(DPLL_A_PIN_ID, buffer.value(), out),
+            _ => write_value(buffer.kind_with_flags(), buffer.value(), out),
         }
     }
 

@@ -3,7 +3,7 @@
 use crate::numbers::IFLA_INFO_KIND;
 use nla_wire::{
     CloneIn, Content, DecodeError, DefaultNla, Exact, Flat, Nla, NlaBuffer, NlaRead, Text,
-    canon_bytes, canon_text, check_string, parse_string,
+    check_string, measure_text, parse_string, write_text_payload, write_value,
 };
 use std::alloc::Global;
 
@@ -60,10 +60,18 @@ impl NlaRead for LinkInfo {
     }
 
     #[tactic(auto, unfolding(crate::specs::Tables::link_info_place, nla_wire::specs::Payloads::read_text))]
-    fn canon(buffer: &NlaBuffer<'_>, out: &mut [u8]) -> Option<usize> {
+    fn measure_frame(buffer: &NlaBuffer<'_>) -> Option<usize> {
         match buffer.kind() {
-            IFLA_INFO_KIND => canon_text(IFLA_INFO_KIND, buffer.value(), out),
-            _ => canon_bytes(buffer.kind_with_flags(), buffer.value(), out),
+            IFLA_INFO_KIND => measure_text(buffer.value()),
+            _ => Some(buffer.value().len()),
+        }
+    }
+
+    #[tactic(auto, unfolding(crate::specs::Tables::link_info_place, nla_wire::specs::Payloads::read_text))]
+    fn write_frame(buffer: &NlaBuffer<'_>, out: &mut [u8]) -> usize {
+        match buffer.kind() {
+            IFLA_INFO_KIND => write_text_payload(IFLA_INFO_KIND, buffer.value(), out),
+            _ => write_value(buffer.kind_with_flags(), buffer.value(), out),
         }
     }
 

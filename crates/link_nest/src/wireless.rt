@@ -1,16 +1,15 @@
 //! Wireless events.
 
-ghost use Rattle.std.specs.Prelude.{◌≡◌, ◌≢◌, ◌+◌, ◌*◌, ◌≤◌, ◌↔◌, ◌⊎◌, length, IsTrue, IfOk, IfErr, IsOk};
+ghost use Rattle.std.specs.Prelude.{◌≡◌, ◌≢◌, ◌+◌, ◌≤◌, ◌↔◌, ◌⊎◌, length, IsTrue, IfOk, IfErr};
 ghost use Rattle.std.specs.Int.{to_le_bytes};
-ghost use Rattle.nla_wire.specs.Sizes.{growth_per_byte};
-ghost use Rattle.nla_wire.specs.Canon.{Filled, Canonical, Writes};
+ghost use Rattle.nla_wire.specs.Canon.{Filled, Weighs, HasRoom, Rewrites, RoomWhereFit, Canonical, Writes};
 ghost use Rattle.nla_wire.specs.Gives.{Gives, Checks};
 ghost use Rattle.nla_wire.specs.declared.error.Cause.TheVariants.{OutOfMemory};
 ghost use Rattle.link_nest.specs.Wireless.{wireless_event, wireless_text, WirelessFits, event_text, event_header};
 
 use crate::numbers::{IWEVASSOCREQIE, IWEVASSOCRESPIE};
 use nla_wire::fields::{too_short, u16_at};
-use nla_wire::{Bytes, CloneIn, DecodeError, Exact, fill_bytes};
+use nla_wire::{Bytes, CloneIn, DecodeError, Exact, fill_bytes, write_bytes};
 use std::alloc::Global;
 
 /// The bytes of an event's header: its length and its command of two bytes each, and padding of four bytes.
@@ -67,15 +66,6 @@ fn write_event(out: &mut [u8], command: u16, bytes: &[u8]) -> usize
     end
 }
 
-/// Writes bytes to the front of the buffer, and answers their number.
-fn write_bytes(out: &mut [u8], bytes: &[u8]) -> usize
-    requires { length bytes.now ≤ length out.old }
-    ensures { Writes bytes.now out.old out.new result }
-{
-    out[..bytes.len()].copy_from_slice(bytes);
-    bytes.len()
-}
-
 impl WirelessEvent {
     /// Reads an event: a request or a response keeps the bytes behind its header, and any other event the whole
     /// payload.
@@ -123,25 +113,45 @@ impl WirelessEvent {
         WirelessEvent::fault(payload)
     }
 
-    /// Writes the text of the event that the payload means to the front of the buffer, with no memory taken, and
-    /// answers its length.
-    ///
-    /// Answers `None` where the text has more than 65531 bytes. The bytes behind the text are kept; after `None`
-    /// nothing is said of the buffer.
+    /// The length of the text of the event that a payload means, with no memory taken: `None` where it has more than
+    /// 65531 bytes, or the payload is refused.
     #[tactic(auto, unfolding(nla_wire::specs::Payloads::read_sized))]
-    pub fn canon(payload: &[u8], out: &mut [u8]) -> Option<usize>
-        requires accepted { IsOk (wireless_event.reads payload.now) }
-        requires room { growth_per_byte * length payload.now ≤ length out.old }
-        ensures { Canonical wireless_text WirelessFits (wireless_event.reads payload.now) out.old out.new result }
+    pub fn measure(payload: &[u8]) -> Option<usize>
+        ensures { Weighs wireless_text WirelessFits (wireless_event.reads payload.now) result }
     {
-        if payload.len() > MOST_TEXT_LEN {
+        if payload.len() < HEADER_LEN || payload.len() > MOST_TEXT_LEN {
             return None;
         }
-        Some(match u16_at(payload, 2) {
+        Some(payload.len())
+    }
+
+    /// Writes the text of the event that a payload means, which was measured, to the front of the buffer, and answers
+    /// its length. The rest of the buffer is kept.
+    #[tactic(auto, unfolding(nla_wire::specs::Payloads::read_sized))]
+    pub fn write(payload: &[u8], out: &mut [u8]) -> usize
+        requires { HasRoom wireless_text WirelessFits (wireless_event.reads payload.now) (length out.old) }
+        ensures { Rewrites wireless_text (wireless_event.reads payload.now) out.old out.new result }
+    {
+        match u16_at(payload, 2) {
             IWEVASSOCREQIE => write_event(out, IWEVASSOCREQIE, &payload[8..]),
             IWEVASSOCRESPIE => write_event(out, IWEVASSOCRESPIE, &payload[8..]),
-            _ => write_bytes(out, payload),
-        })
+            _ => write_bytes(payload, out),
+        }
+    }
+
+    /// Writes the text of the event that a payload means to the front of the buffer, with no memory taken, and answers
+    /// its length. The rest of the buffer is kept.
+    ///
+    /// There is room for that text: as many bytes as the payload has are enough. Answers `None` where the text has more
+    /// than 65531 bytes or the payload is refused, and changes nothing then.
+    pub fn canon(payload: &[u8], out: &mut [u8]) -> Option<usize>
+        requires room { RoomWhereFit wireless_text WirelessFits (wireless_event.reads payload.now) (length out.old) }
+        ensures { Canonical wireless_text WirelessFits (wireless_event.reads payload.now) out.old out.new result }
+    {
+        let Some(_len) = WirelessEvent::measure(payload) else {
+            return None;
+        };
+        Some(WirelessEvent::write(payload, out))
     }
 
     /// Whether the text has at most 65531 bytes.

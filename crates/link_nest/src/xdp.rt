@@ -8,8 +8,9 @@ use crate::numbers::{
 use link_vals::XdpAttached;
 use nla_wire::error::checked;
 use nla_wire::{
-    CloneIn, Content, DecodeError, DefaultNla, Exact, Flat, Nla, NlaBuffer, NlaRead, canon_bytes,
-    canon_i32, canon_u8, canon_u32, parse_i32, parse_u32,
+    CloneIn, Content, DecodeError, DefaultNla, Exact, Flat, Nla, NlaBuffer, NlaRead, measure_i32,
+    measure_u8, measure_u32, parse_i32, parse_u32, write_i32_payload, write_u8_payload,
+    write_u32_payload, write_value,
 };
 use std::alloc::Global;
 
@@ -101,17 +102,32 @@ impl NlaRead for LinkXdp {
     }
 
     #[tactic(auto, unfolding(crate::specs::Tables::xdp_place, nla_wire::specs::Payloads::read_number), using(link_vals::proofs::Numbers::xdp_attached_again))]
-    fn canon(buffer: &NlaBuffer<'_>, out: &mut [u8]) -> Option<usize> {
+    fn measure_frame(buffer: &NlaBuffer<'_>) -> Option<usize> {
         match buffer.kind() {
-            IFLA_XDP_FD => canon_i32(IFLA_XDP_FD, buffer.value(), out),
-            IFLA_XDP_ATTACHED => canon_u8(IFLA_XDP_ATTACHED, buffer.value(), out),
-            IFLA_XDP_FLAGS => canon_u32(IFLA_XDP_FLAGS, buffer.value(), out),
-            IFLA_XDP_PROG_ID => canon_u32(IFLA_XDP_PROG_ID, buffer.value(), out),
-            IFLA_XDP_DRV_PROG_ID => canon_u32(IFLA_XDP_DRV_PROG_ID, buffer.value(), out),
-            IFLA_XDP_SKB_PROG_ID => canon_u32(IFLA_XDP_SKB_PROG_ID, buffer.value(), out),
-            IFLA_XDP_HW_PROG_ID => canon_u32(IFLA_XDP_HW_PROG_ID, buffer.value(), out),
-            IFLA_XDP_EXPECTED_FD => canon_u32(IFLA_XDP_EXPECTED_FD, buffer.value(), out),
-            _ => canon_bytes(buffer.kind_with_flags(), buffer.value(), out),
+            IFLA_XDP_FD => measure_i32(buffer.value()),
+            IFLA_XDP_ATTACHED => measure_u8(buffer.value()),
+            IFLA_XDP_FLAGS => measure_u32(buffer.value()),
+            IFLA_XDP_PROG_ID => measure_u32(buffer.value()),
+            IFLA_XDP_DRV_PROG_ID => measure_u32(buffer.value()),
+            IFLA_XDP_SKB_PROG_ID => measure_u32(buffer.value()),
+            IFLA_XDP_HW_PROG_ID => measure_u32(buffer.value()),
+            IFLA_XDP_EXPECTED_FD => measure_u32(buffer.value()),
+            _ => Some(buffer.value().len()),
+        }
+    }
+
+    #[tactic(auto, unfolding(crate::specs::Tables::xdp_place, nla_wire::specs::Payloads::read_number), using(link_vals::proofs::Numbers::xdp_attached_again))]
+    fn write_frame(buffer: &NlaBuffer<'_>, out: &mut [u8]) -> usize {
+        match buffer.kind() {
+            IFLA_XDP_FD => write_i32_payload(IFLA_XDP_FD, buffer.value(), out),
+            IFLA_XDP_ATTACHED => write_u8_payload(IFLA_XDP_ATTACHED, buffer.value(), out),
+            IFLA_XDP_FLAGS => write_u32_payload(IFLA_XDP_FLAGS, buffer.value(), out),
+            IFLA_XDP_PROG_ID => write_u32_payload(IFLA_XDP_PROG_ID, buffer.value(), out),
+            IFLA_XDP_DRV_PROG_ID => write_u32_payload(IFLA_XDP_DRV_PROG_ID, buffer.value(), out),
+            IFLA_XDP_SKB_PROG_ID => write_u32_payload(IFLA_XDP_SKB_PROG_ID, buffer.value(), out),
+            IFLA_XDP_HW_PROG_ID => write_u32_payload(IFLA_XDP_HW_PROG_ID, buffer.value(), out),
+            IFLA_XDP_EXPECTED_FD => write_u32_payload(IFLA_XDP_EXPECTED_FD, buffer.value(), out),
+            _ => write_value(buffer.kind_with_flags(), buffer.value(), out),
         }
     }
 

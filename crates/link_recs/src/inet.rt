@@ -1,10 +1,10 @@
 //! Settings of IPv4 on a link (IFLA_INET_CONF).
 
-ghost use Rattle.std.specs.Prelude.{◌≡◌, ◌+◌, ◌≤◌, length, ◌-◌, slice_index_or, pos};
+ghost use Rattle.std.specs.Prelude.{◌≡◌, ◌≤◌, length, ◌-◌, slice_index_or, pos};
 ghost use Rattle.std.specs.Int.{w32};
 ghost use Rattle.nla_wire.specs.Fields.{signed_from};
 ghost use Rattle.nla_wire.specs.Payloads.{sized};
-ghost use Rattle.nla_wire.specs.Canon.{Filled, Closed};
+ghost use Rattle.nla_wire.specs.Canon.{Filled};
 ghost use Rattle.nla_wire.specs.Records.{Parses};
 ghost use Rattle.link_recs.specs.declared.inet.TheConstants.{INET_DEV_CONF_COUNT};
 ghost use Rattle.link_recs.specs.InetDevConfFields.{inet_dev_conf_size, inet_dev_conf_fields, inet_dev_conf_of};
@@ -193,16 +193,6 @@ impl InetDevConf {
         ensures { Parses (sized inet_dev_conf_size inet_dev_conf_of) payload.now result }
     {
         InetDevConf::parse_sized(payload)
-    }
-
-    /// Writes the attribute of this kind whose value is the record that a payload means, the payload cut to
-    /// `INET_DEV_CONF_SIZE` bytes or filled up with zeros, to the front of the buffer, and answers its length. The rest
-    /// of the buffer is kept.
-    pub fn canon(kind: u16, payload: &[u8], out: &mut [u8]) -> Option<usize>
-        requires room { 4 + inet_dev_conf_size ≤ length out.old }
-        ensures { Closed kind (inet_dev_conf_bytes (inet_dev_conf_of payload.now)) out.old out.new result }
-    {
-        InetDevConf::canon_record(kind, payload, out)
     }
 
     /// The number of bytes that `emit` writes, `INET_DEV_CONF_SIZE`.

@@ -1,8 +1,8 @@
 //! Times of the IPv6 neighbour cache of a link (IFLA_INET6_CACHEINFO).
 
-ghost use Rattle.std.specs.Prelude.{◌≡◌, ◌+◌, ◌≤◌, length};
+ghost use Rattle.std.specs.Prelude.{◌≡◌, ◌≤◌, length};
 ghost use Rattle.nla_wire.specs.Payloads.{sized};
-ghost use Rattle.nla_wire.specs.Canon.{Filled, Closed};
+ghost use Rattle.nla_wire.specs.Canon.{Filled};
 ghost use Rattle.nla_wire.specs.Records.{Parses};
 ghost use Rattle.link_recs.specs.Inet6CacheInfoFields.{inet6_cache_info_size, inet6_cache_info_fields};
 ghost use Rattle.link_recs.specs.Inet6CacheInfoFields.{inet6_cache_info_of, inet6_cache_info_bytes};
@@ -91,16 +91,6 @@ impl Inet6CacheInfo {
         ensures { Parses (sized inet6_cache_info_size inet6_cache_info_of) payload.now result }
     {
         Inet6CacheInfo::parse_sized(payload)
-    }
-
-    /// Writes the attribute of this kind whose value is the record that a payload means, the payload cut to
-    /// `INET6_CACHE_INFO_SIZE` bytes or filled up with zeros, to the front of the buffer, and answers its length. The
-    /// rest of the buffer is kept.
-    pub fn canon(kind: u16, payload: &[u8], out: &mut [u8]) -> Option<usize>
-        requires room { 4 + inet6_cache_info_size ≤ length out.old }
-        ensures { Closed kind (inet6_cache_info_bytes (inet6_cache_info_of payload.now)) out.old out.new result }
-    {
-        Inet6CacheInfo::canon_record(kind, payload, out)
     }
 
     /// The number of bytes that `emit` writes, `INET6_CACHE_INFO_SIZE`.

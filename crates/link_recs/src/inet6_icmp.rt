@@ -1,10 +1,10 @@
 //! Counters of ICMPv6 on a link (IFLA_INET6_ICMP6STATS).
 
-ghost use Rattle.std.specs.Prelude.{◌≡◌, ◌+◌, ◌≤◌, length};
+ghost use Rattle.std.specs.Prelude.{◌≡◌, ◌≤◌, length};
 ghost use Rattle.std.specs.Int.{w64};
 ghost use Rattle.nla_wire.specs.Fields.{signed_from};
 ghost use Rattle.nla_wire.specs.Payloads.{sized};
-ghost use Rattle.nla_wire.specs.Canon.{Filled, Closed};
+ghost use Rattle.nla_wire.specs.Canon.{Filled};
 ghost use Rattle.nla_wire.specs.Records.{Parses};
 ghost use Rattle.link_recs.specs.declared.inet6_icmp.TheConstants.{ICMP6_STATS_COUNT};
 ghost use Rattle.link_recs.specs.Icmp6StatsFields.{icmp6_stats_size, icmp6_stats_fields, icmp6_stats_of};
@@ -111,16 +111,6 @@ impl Icmp6Stats {
         ensures { Parses (sized icmp6_stats_size icmp6_stats_of) payload.now result }
     {
         Icmp6Stats::parse_sized(payload)
-    }
-
-    /// Writes the attribute of this kind whose value is the record that a payload means, the payload cut to
-    /// `ICMP6_STATS_SIZE` bytes or filled up with zeros, to the front of the buffer, and answers its length. The rest
-    /// of the buffer is kept.
-    pub fn canon(kind: u16, payload: &[u8], out: &mut [u8]) -> Option<usize>
-        requires room { 4 + icmp6_stats_size ≤ length out.old }
-        ensures { Closed kind (icmp6_stats_bytes (icmp6_stats_of payload.now)) out.old out.new result }
-    {
-        Icmp6Stats::canon_record(kind, payload, out)
     }
 
     /// The number of bytes that `emit` writes, `ICMP6_STATS_SIZE`.

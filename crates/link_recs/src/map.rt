@@ -1,14 +1,14 @@
 //! The places in the machine of a link's device (IFLA_MAP).
 
 ghost use Rattle.std.proofs.Common.{rules};
-ghost use Rattle.std.specs.Prelude.{◌≡◌, ◌+◌, ◌≤◌, length};
+ghost use Rattle.std.specs.Prelude.{◌≡◌, ◌≤◌, length};
 ghost use Rattle.nla_wire.specs.Payloads.{sized};
-ghost use Rattle.nla_wire.specs.Canon.{Filled, Closed};
+ghost use Rattle.nla_wire.specs.Canon.{Filled};
 ghost use Rattle.nla_wire.specs.Records.{Parses};
 ghost use Rattle.link_recs.specs.MapFields.{map_size, map_of, map_bytes, map_laws};
 
 use nla_wire::fields::{put_bytes, put_u16, put_u64, u8_at, u16_at, u64_at};
-use nla_wire::{DecodeError, Exact, Record, RecordBuffer, canon_value};
+use nla_wire::{DecodeError, Exact, Record, RecordBuffer};
 
 /// The number of bytes of a record.
 pub const MAP_SIZE: usize = 32;
@@ -66,18 +66,6 @@ impl Map {
         ensures { Parses (sized map_size map_of) payload.now result }
     {
         Map::parse_sized(payload)
-    }
-
-    /// Writes the attribute of this kind whose value is the record that a payload means to the front of the buffer, and
-    /// answers its length. The rest of the buffer is kept.
-    #[tactic(auto, using(crate::proofs::MapLemmas::length_map_bytes))]
-    pub fn canon(kind: u16, payload: &[u8], out: &mut [u8]) -> Option<usize>
-        requires room { 4 + map_size ≤ length out.old }
-        ensures { Closed kind (map_bytes (map_of payload.now)) out.old out.new result }
-    {
-        let mut bytes = [0; MAP_SIZE];
-        Map::read(payload).emit(&mut bytes);
-        canon_value(kind, &bytes, out)
     }
 
     /// The number of bytes that `emit` writes, `MAP_SIZE`.

@@ -1,10 +1,10 @@
 //! Counters of a link, 32 bits each (IFLA_STATS).
 
-ghost use Rattle.std.specs.Prelude.{◌≡◌, ◌+◌, ◌≤◌, length};
+ghost use Rattle.std.specs.Prelude.{◌≡◌, ◌≤◌, length};
 ghost use Rattle.std.specs.Int.{w32};
 ghost use Rattle.nla_wire.specs.Fields.{numbers_from};
 ghost use Rattle.nla_wire.specs.Payloads.{filled};
-ghost use Rattle.nla_wire.specs.Canon.{Filled, Closed};
+ghost use Rattle.nla_wire.specs.Canon.{Filled};
 ghost use Rattle.nla_wire.specs.Records.{Parses};
 ghost use Rattle.link_recs.specs.declared.stats.TheConstants.{STATS_COUNT};
 ghost use Rattle.link_recs.specs.StatsFields.{stats_size, stats_fields, stats_of, stats_bytes, stats_listed};
@@ -161,16 +161,6 @@ impl Stats {
         ensures { Parses (filled stats_of) payload.now result }
     {
         Stats::parse_filled(payload)
-    }
-
-    /// Writes the attribute of this kind whose value is the record that a payload means, the payload cut to
-    /// `STATS_SIZE` bytes or filled up with zeros, to the front of the buffer, and answers its length. The rest of the
-    /// buffer is kept.
-    pub fn canon(kind: u16, payload: &[u8], out: &mut [u8]) -> Option<usize>
-        requires room { 4 + stats_size ≤ length out.old }
-        ensures { Closed kind (stats_bytes (stats_of payload.now)) out.old out.new result }
-    {
-        Stats::canon_record(kind, payload, out)
     }
 
     /// The number of bytes that `emit` writes, `STATS_SIZE`.

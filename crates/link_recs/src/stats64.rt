@@ -1,10 +1,10 @@
 //! Counters of a link, 64 bits each (IFLA_STATS64).
 
-ghost use Rattle.std.specs.Prelude.{◌≡◌, ◌+◌, ◌≤◌, length};
+ghost use Rattle.std.specs.Prelude.{◌≡◌, ◌≤◌, length};
 ghost use Rattle.std.specs.Int.{w64};
 ghost use Rattle.nla_wire.specs.Fields.{numbers_from};
 ghost use Rattle.nla_wire.specs.Payloads.{filled};
-ghost use Rattle.nla_wire.specs.Canon.{Filled, Closed};
+ghost use Rattle.nla_wire.specs.Canon.{Filled};
 ghost use Rattle.nla_wire.specs.Records.{Parses};
 ghost use Rattle.link_recs.specs.declared.stats64.TheConstants.{STATS64_COUNT};
 ghost use Rattle.link_recs.specs.Stats64Fields.{stats64_size, stats64_fields, stats64_of, stats64_bytes};
@@ -164,16 +164,6 @@ impl Stats64 {
         ensures { Parses (filled stats64_of) payload.now result }
     {
         Stats64::parse_filled(payload)
-    }
-
-    /// Writes the attribute of this kind whose value is the record that a payload means, the payload cut to
-    /// `STATS64_SIZE` bytes or filled up with zeros, to the front of the buffer, and answers its length. The rest of
-    /// the buffer is kept.
-    pub fn canon(kind: u16, payload: &[u8], out: &mut [u8]) -> Option<usize>
-        requires room { 4 + stats64_size ≤ length out.old }
-        ensures { Closed kind (stats64_bytes (stats64_of payload.now)) out.old out.new result }
-    {
-        Stats64::canon_record(kind, payload, out)
     }
 
     /// The number of bytes that `emit` writes, `STATS64_SIZE`.

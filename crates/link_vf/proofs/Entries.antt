@@ -1,10 +1,11 @@
 -- Entries of the lists of functions and of ports: a list that is not empty, as one value.
-use Rattle.std.proofs.Common.{◌≡◌, ℕ, ◌==◌, true, false, eqb-true, arith, List, [], ◌∷◌, length, refl, ap, sym, subst}
-use Rattle.std.proofs.Common.{◌∙◌, inl, inr, Option, Some, None, Result, Ok, Err, IsOk}
+use Rattle.std.proofs.Common.{◌≡◌, ℕ, ◌<◌, ◌==◌, true, false, eqb-true, arith, List, [], ◌∷◌, length, refl, ap, sym, subst}
+use Rattle.std.proofs.Common.{◌∙◌, inl, inr, Option, None, Result, Ok, Err}
 use Rattle.nla_wire.specs.Reading.{list_of, ◌>>=◌}
 use Rattle.nla_wire.specs.Frames.{Frame}
 use Rattle.nla_wire.specs.Grammar.{Grammar, as_a, list, not_empty, unless_empty}
-use Rattle.nla_wire.specs.Canon.{Canonical}
+use Rattle.nla_wire.specs.Canon.{RoomWhereFit, Canonical}
+use Rattle.nla_wire.proofs.Written.{room_where_as, canonical_as, some_room_where, some_canonical, empty_canonical}
 use Rattle.nla_wire.specs.Gives.{Fails, Checks}
 use Rattle.nla_wire.specs.declared.error.Cause.{Cause}
 use Rattle.nla_wire.specs.declared.error.Cause.TheVariants.{EmptyList}
@@ -50,26 +51,21 @@ module _ {V T : Type 0} (wrap : List V → T) (place : Grammar Frame V) where
   pub entry_checked : (p : List ℕ) → (length p == 0) ≡ false → (answer : Result Unit DecodeError) → Checks answer (list_of place.reads p) → Checks answer (entry.reads p)
   entry_checked p full answer checks = subst (λ r. Checks answer r) (sym (entry_reads p full)) (entry_checks (list_of place.reads p) answer checks)
 
-  -- what is accepted as an entry is accepted as a list
-  ok_inside : (r : Result (List V) Cause) → IsOk (r >>= λ vs. Ok (wrap vs)) → IsOk r
-  ok_inside (Ok vs) ok = refl
-  ok_inside (Err c) ok = absurd cc
-
-  pub entry_accepted : (p : List ℕ) → IsOk (entry.reads p) → IsOk (list_of place.reads p)
-  unfolding unless_empty
-  entry_accepted [] ok = absurd cc
-  entry_accepted (x ∷ p) ok = ok_inside (list_of place.reads (x ∷ p)) ok
-
   -- the text of the list is that of the entry
-  module _ (text : T → List ℕ) (Fits : T → Type 0) (old new : List ℕ) where
-    text_by : (r : Result (List V) Cause) (answer : Option ℕ) → Canonical (λ vs. text (wrap vs)) (λ vs. Fits (wrap vs)) r old new answer
-        → Canonical text Fits (r >>= λ vs. Ok (wrap vs)) old new answer
-    text_by (Ok vs) (Some n) written = written
-    text_by (Ok vs) None written = written
-    text_by (Err c) answer written = tt
+  module _ (text : T → List ℕ) (Fits : T → Type 0) (p : List ℕ) where
+    pub entry_room_where : (room : ℕ) → 0 < length p → RoomWhereFit text Fits (entry.reads p) room
+        → RoomWhereFit (λ vs. text (wrap vs)) (λ vs. Fits (wrap vs)) (list_of place.reads p) room
+    entry_room_where room some h =
+        some_room_where (λ vs. text (wrap vs)) (λ vs. Fits (wrap vs)) p (list_of place.reads p) room some
+        (room_where_as wrap text Fits (unless_empty p (list_of place.reads p)) room h)
 
-    pub entry_text : (p : List ℕ) (answer : Option ℕ) → Canonical (λ vs. text (wrap vs)) (λ vs. Fits (wrap vs)) (list_of place.reads p) old new answer
-        → Canonical text Fits (entry.reads p) old new answer
-    unfolding unless_empty
-    entry_text [] answer written = tt
-    entry_text (x ∷ p) answer written = text_by (list_of place.reads (x ∷ p)) answer written
+    pub entry_canonical : (old new : List ℕ) (a : Option ℕ) → 0 < length p
+        → Canonical (λ vs. text (wrap vs)) (λ vs. Fits (wrap vs)) (list_of place.reads p) old new a → Canonical text Fits (entry.reads p) old new a
+    entry_canonical old new a some w =
+        canonical_as wrap text Fits (unless_empty p (list_of place.reads p)) old new a
+        (some_canonical (λ vs. text (wrap vs)) (λ vs. Fits (wrap vs)) p (list_of place.reads p) old new a some w)
+
+    pub entry_none : (old : List ℕ) → length p ≡ 0 → Canonical text Fits (entry.reads p) old old None
+    entry_none old none =
+        canonical_as wrap text Fits (unless_empty p (list_of place.reads p)) old old None
+        (empty_canonical (λ vs. text (wrap vs)) (λ vs. Fits (wrap vs)) p (list_of place.reads p) old none)

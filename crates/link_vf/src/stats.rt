@@ -7,8 +7,8 @@ use crate::numbers::{
 };
 use nla_wire::error::checked;
 use nla_wire::{
-    CloneIn, Content, DecodeError, DefaultNla, Exact, Flat, Nla, NlaBuffer, NlaRead, canon_bytes,
-    canon_u64, parse_u64,
+    CloneIn, Content, DecodeError, DefaultNla, Exact, Flat, Nla, NlaBuffer, NlaRead, measure_u64,
+    parse_u64, write_u64_payload, write_value,
 };
 use std::alloc::Global;
 
@@ -100,17 +100,64 @@ impl NlaRead for VfStats {
     }
 
     #[tactic(auto, unfolding(crate::specs::Tables::vf_stats_place, nla_wire::specs::Payloads::read_number))]
-    fn canon(buffer: &NlaBuffer<'_>, out: &mut [u8]) -> Option<usize> {
+    fn measure_frame(buffer: &NlaBuffer<'_>) -> Option<usize> {
         match buffer.kind() {
-            IFLA_VF_STATS_RX_PACKETS => canon_u64(IFLA_VF_STATS_RX_PACKETS, buffer.value(), out),
-            IFLA_VF_STATS_TX_PACKETS => canon_u64(IFLA_VF_STATS_TX_PACKETS, buffer.value(), out),
-            IFLA_VF_STATS_RX_BYTES => canon_u64(IFLA_VF_STATS_RX_BYTES, buffer.value(), out),
-            IFLA_VF_STATS_TX_BYTES => canon_u64(IFLA_VF_STATS_TX_BYTES, buffer.value(), out),
-            IFLA_VF_STATS_BROADCAST => canon_u64(IFLA_VF_STATS_BROADCAST, buffer.value(), out),
-            IFLA_VF_STATS_MULTICAST => canon_u64(IFLA_VF_STATS_MULTICAST, buffer.value(), out),
-            IFLA_VF_STATS_RX_DROPPED => canon_u64(IFLA_VF_STATS_RX_DROPPED, buffer.value(), out),
-            IFLA_VF_STATS_TX_DROPPED => canon_u64(IFLA_VF_STATS_TX_DROPPED, buffer.value(), out),
-            _ => canon_bytes(buffer.kind_with_flags(), buffer.value(), out),
+            IFLA_VF_STATS_RX_PACKETS => measure_u64(buffer.value()),
+            IFLA_VF_STATS_TX_PACKETS => measure_u64(buffer.value()),
+            IFLA_VF_STATS_RX_BYTES => measure_u64(buffer.value()),
+            IFLA_VF_STATS_TX_BYTES => measure_u64(buffer.value()),
+            IFLA_VF_STATS_BROADCAST => measure_u64(buffer.value()),
+            IFLA_VF_STATS_MULTICAST => measure_u64(buffer.value()),
+            IFLA_VF_STATS_RX_DROPPED => measure_u64(buffer.value()),
+            IFLA_VF_STATS_TX_DROPPED => measure_u64(buffer.value()),
+            _ => Some(buffer.value().len()),
+        }
+    }
+
+    #[tactic(auto, unfolding(crate::specs::Tables::vf_stats_place, nla_wire::specs::Payloads::read_number))]
+    fn write_frame(buffer: &NlaBuffer<'_>, out: &mut [u8]) -> usize {
+        match buffer.kind() {
+            IFLA_VF_STATS_RX_PACKETS => write_u64_payload(
+                IFLA_VF_STATS_RX_PACKETS,
+                buffer.value(),
+                out,
+            ),
+            IFLA_VF_STATS_TX_PACKETS => write_u64_payload(
+                IFLA_VF_STATS_TX_PACKETS,
+                buffer.value(),
+                out,
+            ),
+            IFLA_VF_STATS_RX_BYTES => write_u64_payload(
+                IFLA_VF_STATS_RX_BYTES,
+                buffer.value(),
+                out,
+            ),
+            IFLA_VF_STATS_TX_BYTES => write_u64_payload(
+                IFLA_VF_STATS_TX_BYTES,
+                buffer.value(),
+                out,
+            ),
+            IFLA_VF_STATS_BROADCAST => write_u64_payload(
+                IFLA_VF_STATS_BROADCAST,
+                buffer.value(),
+                out,
+            ),
+            IFLA_VF_STATS_MULTICAST => write_u64_payload(
+                IFLA_VF_STATS_MULTICAST,
+                buffer.value(),
+                out,
+            ),
+            IFLA_VF_STATS_RX_DROPPED => write_u64_payload(
+                IFLA_VF_STATS_RX_DROPPED,
+                buffer.value(),
+                out,
+            ),
+            IFLA_VF_STATS_TX_DROPPED => write_u64_payload(
+                IFLA_VF_STATS_TX_DROPPED,
+                buffer.value(),
+                out,
+            ),
+            _ => write_value(buffer.kind_with_flags(), buffer.value(), out),
         }
     }
 

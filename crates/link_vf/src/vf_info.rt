@@ -22,8 +22,8 @@ use link_vfrec::{
 };
 use nla_wire::error::checked;
 use nla_wire::{
-    CloneIn, DecodeError, DefaultNla, Exact, List, Nla, NlaBuffer, NlaRead, Record, canon_bytes,
-    canon_of, fill_bytes, list_fits, nlas_buffer_len, nlas_fill,
+    CloneIn, DecodeError, DefaultNla, Exact, List, Nla, NlaBuffer, NlaRead, Record, fill_bytes,
+    list_fits, nlas_buffer_len, nlas_fill, write_value,
 };
 use std::alloc::Global;
 
@@ -226,15 +226,48 @@ impl NlaRead for VfInfo {
     }
 
     #[tactic(auto, unfolding(crate::specs::Tables::vf_info_place))]
-    fn canon(buffer: &NlaBuffer<'_>, out: &mut [u8]) -> Option<usize> {
+    fn measure_frame(buffer: &NlaBuffer<'_>) -> Option<usize> {
+        let payload = buffer.value();
         match buffer.kind() {
-            IFLA_VF_STATS => VfStats::canon_nested(IFLA_VF_STATS, buffer.value(), out),
-            IFLA_VF_VLAN_LIST => VfVlan::canon_nested(IFLA_VF_VLAN_LIST, buffer.value(), out),
-            _ => match read_record(buffer) {
-                Some(Ok(info)) => canon_of(&info, out),
-                Some(Err(_)) => None,
-                None => canon_bytes(buffer.kind_with_flags(), buffer.value(), out),
-            },
+            IFLA_VF_STATS => VfStats::measure_nested(payload),
+            IFLA_VF_VLAN_LIST => VfVlan::measure_nested(payload),
+            IFLA_VF_MAC => VfInfoMac::measure_sized(payload),
+            IFLA_VF_VLAN => VfInfoVlan::measure_sized(payload),
+            IFLA_VF_TX_RATE => VfInfoTxRate::measure_sized(payload),
+            IFLA_VF_SPOOFCHK => VfInfoSpoofCheck::measure_sized(payload),
+            IFLA_VF_LINK_STATE => VfInfoLinkState::measure_sized(payload),
+            IFLA_VF_RATE => VfInfoRate::measure_sized(payload),
+            IFLA_VF_RSS_QUERY_EN => VfInfoRssQueryEn::measure_sized(payload),
+            IFLA_VF_TRUST => VfInfoTrust::measure_sized(payload),
+            IFLA_VF_IB_NODE_GUID => VfInfoGuid::measure_sized(payload),
+            IFLA_VF_IB_PORT_GUID => VfInfoGuid::measure_sized(payload),
+            IFLA_VF_BROADCAST => VfInfoBroadcast::measure_sized(payload),
+            _ => Some(payload.len()),
+        }
+    }
+
+    #[tactic(auto, unfolding(crate::specs::Tables::vf_info_place, nla_wire::specs::Payloads::read_sized))]
+    fn write_frame(buffer: &NlaBuffer<'_>, out: &mut [u8]) -> usize {
+        let payload = buffer.value();
+        match buffer.kind() {
+            IFLA_VF_STATS => VfStats::write_nested(IFLA_VF_STATS, payload, out),
+            IFLA_VF_VLAN_LIST => VfVlan::write_nested(IFLA_VF_VLAN_LIST, payload, out),
+            IFLA_VF_MAC => VfInfoMac::write_sized(IFLA_VF_MAC, payload, out),
+            IFLA_VF_VLAN => VfInfoVlan::write_sized(IFLA_VF_VLAN, payload, out),
+            IFLA_VF_TX_RATE => VfInfoTxRate::write_sized(IFLA_VF_TX_RATE, payload, out),
+            IFLA_VF_SPOOFCHK => VfInfoSpoofCheck::write_sized(IFLA_VF_SPOOFCHK, payload, out),
+            IFLA_VF_LINK_STATE => VfInfoLinkState::write_sized(IFLA_VF_LINK_STATE, payload, out),
+            IFLA_VF_RATE => VfInfoRate::write_sized(IFLA_VF_RATE, payload, out),
+            IFLA_VF_RSS_QUERY_EN => VfInfoRssQueryEn::write_sized(
+                IFLA_VF_RSS_QUERY_EN,
+                payload,
+                out,
+            ),
+            IFLA_VF_TRUST => VfInfoTrust::write_sized(IFLA_VF_TRUST, payload, out),
+            IFLA_VF_IB_NODE_GUID => VfInfoGuid::write_sized(IFLA_VF_IB_NODE_GUID, payload, out),
+            IFLA_VF_IB_PORT_GUID => VfInfoGuid::write_sized(IFLA_VF_IB_PORT_GUID, payload, out),
+            IFLA_VF_BROADCAST => VfInfoBroadcast::write_sized(IFLA_VF_BROADCAST, payload, out),
+            _ => write_value(buffer.kind_with_flags(), payload, out),
         }
     }
 

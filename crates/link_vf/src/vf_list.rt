@@ -1,8 +1,8 @@
 //! The list of virtual functions, IFLA_VFINFO_LIST.
 
-ghost use Rattle.std.specs.Prelude.{◌≡◌, ◌≢◌, ◌+◌, ◌*◌, ◌≤◌, List, length, Ok, IsOk, IfOk, IfErr, MatchResult};
-ghost use Rattle.nla_wire.specs.Sizes.{most_payload, growth_per_byte};
-ghost use Rattle.nla_wire.specs.Canon.{canon, canons, AllFit, Canonical};
+ghost use Rattle.std.specs.Prelude.{◌≡◌, ◌≢◌, ◌*◌, ◌≤◌, List, length, Ok, IfOk, IfErr, MatchResult};
+ghost use Rattle.nla_wire.specs.Sizes.{most_payload};
+ghost use Rattle.nla_wire.specs.Canon.{canon, canons, AllFit, Weighs, HasRoom, Rewrites, RoomWhereFit, Canonical};
 ghost use Rattle.nla_wire.specs.Gives.{Fails, Gives, Checks};
 ghost use Rattle.nla_wire.specs.declared.error.Cause.TheVariants.{OutOfMemory};
 ghost use Rattle.link_vf.specs.Tables.{vf_info_place, link_vf_info_members, link_vf_info, link_vf_info_place};
@@ -11,9 +11,9 @@ ghost use Rattle.link_vf.specs.Tables.{vf_info_list};
 use crate::VfInfo;
 use crate::numbers::IFLA_VF_INFO;
 use nla_wire::{
-    CloneIn, DecodeError, Exact, List, Nla, NlaBuffer, NlaRead, Place, canon_nested_picked_members,
-    canon_picked_members, check_picked_members, empty_list, list_fits, nlas_buffer_len, nlas_fill,
-    parse_picked_members,
+    CloneIn, DecodeError, Exact, List, Nla, NlaBuffer, NlaRead, Place, check_picked_members,
+    empty_list, list_fits, measure_nested_picked_members, measure_picked_members, nlas_buffer_len,
+    nlas_fill, parse_picked_members, write_nested_picked_members, write_picked_members,
 };
 use std::alloc::Global;
 
@@ -60,30 +60,39 @@ impl LinkVfInfo {
     /// Writes the canonical text of the entry's members to the front of the buffer, with no memory taken, and answers
     /// its length. The rest of the buffer is kept.
     ///
-    /// The buffer has `growth_per_byte` bytes for each byte of the payload. Answers `None` where a member does not fit,
-    /// and the buffer's bytes are open then.
+    /// There is room for that text: `growth_per_byte` bytes for each byte of the payload are enough. Answers `None`
+    /// where a member does not fit or the payload is refused, and changes nothing then.
     pub fn canon(payload: &[u8], out: &mut [u8]) -> Option<usize>
-        requires accepted { IsOk (link_vf_info.grammar.reads payload.now) }
-        requires room { growth_per_byte * length payload.now ≤ length out.old }
+        requires room { RoomWhereFit link_vf_info.text
+            (λ v. AllFit vf_info_place.Fits vf_info_place.frame (link_vf_info_members v))
+            (link_vf_info.grammar.reads payload.now) (length out.old) }
         ensures { Canonical link_vf_info.text
             (λ v. AllFit vf_info_place.Fits vf_info_place.frame (link_vf_info_members v))
             (link_vf_info.grammar.reads payload.now) out.old out.new result }
     {
+        if payload.is_empty() {
+            return None;
+        }
         VfInfo::canon_list(payload, out)
     }
 
-    /// Writes the attribute of this kind whose value is the canonical text of the entry's members, with no memory
-    /// taken, and answers its length. The rest of the buffer is kept.
-    ///
-    /// The buffer has `growth_per_byte` bytes for each byte of the attribute's header and payload. Answers `None` too
-    /// where the text has more than 65531 bytes.
-    pub fn canon_entry(kind: u16, payload: &[u8], out: &mut [u8]) -> Option<usize>
-        requires accepted { IsOk (link_vf_info.grammar.reads payload.now) }
-        requires room { growth_per_byte * (4 + length payload.now) ≤ length out.old }
-        ensures { Canonical (λ v. canon (record { kind = kind; payload = link_vf_info.text v }))
-            link_vf_info_place.Fits (link_vf_info.grammar.reads payload.now) out.old out.new result }
+    /// The length of the canonical text of the entry's members as the value of an attribute, with no memory taken;
+    /// `None` where it does not fit or the payload is refused.
+    pub fn measure_entry(payload: &[u8]) -> Option<usize>
+        ensures { Weighs link_vf_info.text link_vf_info_place.Fits (link_vf_info.grammar.reads payload.now) result }
     {
-        VfInfo::canon_nested(kind, payload, out)
+        VfInfo::measure_some(payload)
+    }
+
+    /// Writes the attribute of this kind whose value is the canonical text of the entry's members, which was measured,
+    /// to the front of the buffer, and answers its length. The rest of the buffer is kept.
+    pub fn write_entry(kind: u16, payload: &[u8], out: &mut [u8]) -> usize
+        requires { HasRoom (λ v. canon (record { kind = kind; payload = link_vf_info.text v }))
+            link_vf_info_place.Fits (link_vf_info.grammar.reads payload.now) (length out.old) }
+        ensures { Rewrites (λ v. canon (record { kind = kind; payload = link_vf_info.text v }))
+            (link_vf_info.grammar.reads payload.now) out.old out.new result }
+    {
+        VfInfo::write_some(kind, payload, out)
     }
 
     /// Reads IFLA_VFINFO_LIST: entries with another number than IFLA_VF_INFO are dropped unread. The empty
@@ -117,31 +126,43 @@ impl LinkVfInfo {
     /// Writes the canonical text of such a list's entries to the front of the buffer, with no memory taken, and answers
     /// its length. The rest of the buffer is kept.
     ///
-    /// The buffer has `growth_per_byte` bytes for each byte of the payload. Answers `None` where an entry does not fit,
-    /// and the buffer's bytes are open then.
+    /// There is room for that text: `growth_per_byte` bytes for each byte of the payload are enough. Answers `None`
+    /// where an entry does not fit or the payload is refused, and changes nothing then.
     pub fn canon_list(payload: &[u8], out: &mut [u8]) -> Option<usize>
-        requires accepted { IsOk (vf_info_list.grammar.reads payload.now) }
-        requires room { growth_per_byte * length payload.now ≤ length out.old }
+        requires room { RoomWhereFit (canons link_vf_info_place.frame)
+            (AllFit link_vf_info_place.Fits link_vf_info_place.frame)
+            (vf_info_list.grammar.reads payload.now) (length out.old) }
         ensures { Canonical (canons link_vf_info_place.frame) (AllFit link_vf_info_place.Fits link_vf_info_place.frame)
             (vf_info_list.grammar.reads payload.now) out.old out.new result }
     {
-        canon_picked_members(&EntryPlace, payload, out)
+        let Some(_len) = measure_picked_members(&EntryPlace, payload) else {
+            return None;
+        };
+        Some(write_picked_members(&EntryPlace, payload, out))
     }
 
-    /// Writes the attribute of this kind whose value is the canonical text of such a list's entries, with no memory
-    /// taken, and answers its length. The rest of the buffer is kept.
-    ///
-    /// The buffer has `growth_per_byte` bytes for each byte of the attribute's header and payload. Answers `None` too
-    /// where the text has more than 65531 bytes.
-    pub fn canon_nested_list(kind: u16, payload: &[u8], out: &mut [u8]) -> Option<usize>
-        requires accepted { IsOk (vf_info_list.grammar.reads payload.now) }
-        requires room { growth_per_byte * (4 + length payload.now) ≤ length out.old }
-        ensures { Canonical (λ vs. canon (record { kind = kind; payload = canons link_vf_info_place.frame vs }))
+    /// The length of the canonical text of such a list's entries as the value of an attribute, with no memory taken;
+    /// `None` where it does not fit or the payload is refused.
+    pub fn measure_list(payload: &[u8]) -> Option<usize>
+        ensures { Weighs (canons link_vf_info_place.frame)
             (λ vs. (length (canons link_vf_info_place.frame vs) ≤ most_payload)
             × AllFit link_vf_info_place.Fits link_vf_info_place.frame vs)
+            (vf_info_list.grammar.reads payload.now) result }
+    {
+        measure_nested_picked_members(&EntryPlace, payload)
+    }
+
+    /// Writes the attribute of this kind whose value is the canonical text of such a list's entries, which was
+    /// measured, to the front of the buffer, and answers its length. The rest of the buffer is kept.
+    pub fn write_list(kind: u16, payload: &[u8], out: &mut [u8]) -> usize
+        requires { HasRoom (λ vs. canon (record { kind = kind; payload = canons link_vf_info_place.frame vs }))
+            (λ vs. (length (canons link_vf_info_place.frame vs) ≤ most_payload)
+            × AllFit link_vf_info_place.Fits link_vf_info_place.frame vs)
+            (vf_info_list.grammar.reads payload.now) (length out.old) }
+        ensures { Rewrites (λ vs. canon (record { kind = kind; payload = canons link_vf_info_place.frame vs }))
             (vf_info_list.grammar.reads payload.now) out.old out.new result }
     {
-        canon_nested_picked_members(&EntryPlace, kind, payload, out)
+        write_nested_picked_members(&EntryPlace, kind, payload, out)
     }
 }
 
@@ -197,8 +218,13 @@ impl Place<LinkVfInfo> for EntryPlace {
     }
 
     #[tactic(auto, unfolding(crate::specs::Tables::link_vf_info_place))]
-    fn canon(&self, buffer: &NlaBuffer<'_>, out: &mut [u8]) -> Option<usize> {
-        LinkVfInfo::canon_entry(IFLA_VF_INFO, buffer.value(), out)
+    fn measure(&self, buffer: &NlaBuffer<'_>) -> Option<usize> {
+        LinkVfInfo::measure_entry(buffer.value())
+    }
+
+    #[tactic(auto, unfolding(crate::specs::Tables::link_vf_info_place))]
+    fn write(&self, buffer: &NlaBuffer<'_>, out: &mut [u8]) -> usize {
+        LinkVfInfo::write_entry(IFLA_VF_INFO, buffer.value(), out)
     }
 
     ghost agrees = { λ place. link_vf_info_place.lawful.agrees };

@@ -1,7 +1,7 @@
 //! What is said of a port, members of IFLA_VF_PORT and of IFLA_PORT_SELF.
 
 use nla_wire::{
-    CloneIn, Content, DecodeError, DefaultNla, Exact, Flat, Nla, NlaBuffer, NlaRead, canon_bytes,
+    CloneIn, Content, DecodeError, DefaultNla, Exact, Flat, Nla, NlaBuffer, NlaRead, write_value,
 };
 use std::alloc::Global;
 
@@ -49,8 +49,13 @@ impl NlaRead for VfPort {
     }
 
     #[tactic(auto, unfolding(crate::specs::Tables::vf_port_place))]
-    fn canon(buffer: &NlaBuffer<'_>, out: &mut [u8]) -> Option<usize> {
-        canon_bytes(buffer.kind_with_flags(), buffer.value(), out)
+    fn measure_frame(buffer: &NlaBuffer<'_>) -> Option<usize> {
+        Some(buffer.value().len())
+    }
+
+    #[tactic(auto, unfolding(crate::specs::Tables::vf_port_place))]
+    fn write_frame(buffer: &NlaBuffer<'_>, out: &mut [u8]) -> usize {
+        write_value(buffer.kind_with_flags(), buffer.value(), out)
     }
 
     ghost agrees = { vf_port_place.lawful.agrees };

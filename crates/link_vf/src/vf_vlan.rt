@@ -4,7 +4,7 @@ use crate::numbers::IFLA_VF_VLAN_INFO;
 use link_vfrec::VfVlanInfo;
 use nla_wire::error::checked;
 use nla_wire::{
-    CloneIn, DecodeError, DefaultNla, Exact, Nla, NlaBuffer, NlaRead, Record, canon_bytes, canon_of,
+    CloneIn, DecodeError, DefaultNla, Exact, Nla, NlaBuffer, NlaRead, Record, write_value,
 };
 use std::alloc::Global;
 
@@ -81,14 +81,19 @@ impl NlaRead for VfVlan {
         }
     }
 
-    #[tactic(auto, unfolding(crate::specs::Tables::vf_vlan_place, link_vfrec::specs::Records::vf_vlan_info_bytes, nla_wire::specs::Payloads::read_sized))]
-    fn canon(buffer: &NlaBuffer<'_>, out: &mut [u8]) -> Option<usize> {
+    #[tactic(auto, unfolding(crate::specs::Tables::vf_vlan_place))]
+    fn measure_frame(buffer: &NlaBuffer<'_>) -> Option<usize> {
         match buffer.kind() {
-            IFLA_VF_VLAN_INFO => match VfVlanInfo::parse(buffer.value()) {
-                Ok(vlan) => canon_of(&VfVlan::Info(vlan), out),
-                Err(_) => None,
-            },
-            _ => canon_bytes(buffer.kind_with_flags(), buffer.value(), out),
+            IFLA_VF_VLAN_INFO => VfVlanInfo::measure_sized(buffer.value()),
+            _ => Some(buffer.value().len()),
+        }
+    }
+
+    #[tactic(auto, unfolding(crate::specs::Tables::vf_vlan_place, nla_wire::specs::Payloads::read_sized))]
+    fn write_frame(buffer: &NlaBuffer<'_>, out: &mut [u8]) -> usize {
+        match buffer.kind() {
+            IFLA_VF_VLAN_INFO => VfVlanInfo::write_sized(IFLA_VF_VLAN_INFO, buffer.value(), out),
+            _ => write_value(buffer.kind_with_flags(), buffer.value(), out),
         }
     }
 

@@ -7,6 +7,7 @@ use Rattle.std.proofs.lemmas.List.{take-append-drop, length-take-le}
 use Rattle.std.proofs.lemmas.Nat.{le_bytes_2, le_bytes_4, le_bytes_8}
 use Rattle.std.specs.Int.{Width, w8, w16, w32, w64, byte_len, to_le_bytes, from_le_bytes}
 use Rattle.nla_wire.specs.Frames.{IsBytes}
+use Rattle.nla_wire.specs.Canon.{canon, Writes}
 use Rattle.nla_wire.specs.Fields.{number_at, numbers_from, le_all, zero_filled}
 use Rattle.nla_wire.proofs.FieldLemmas.{IsBytes-get, number_at_before, number_at_front, numbers_from_behind}
 use Rattle.nla_wire.proofs.Steps.{bytes_left, bytes_right}
@@ -28,6 +29,14 @@ writes_again_4 b four small = le_bytes_4 b (from_le_bytes w32 b) four (λ i. IsB
 
 pub writes_again_8 : WritesAgain w64
 writes_again_8 b eight small = le_bytes_8 b (from_le_bytes w64 b) eight (λ i. IsBytes-get b i small) refl
+
+-- an attribute of the bytes is one of the number that they spell
+pub number_written : (w : Width) → WritesAgain w → (kind : ℕ) (p old new : List ℕ) (n : ℕ) → length p ≡ byte_len w → IsBytes p
+    → Writes (canon (record { kind = kind; payload = take (byte_len w) p })) old new n
+    → Writes (canon (record { kind = kind; payload = to_le_bytes w (from_le_bytes w p) })) old new n
+number_written w again kind p old new n exact small h =
+    subst (λ (value : List ℕ). Writes (canon (record { kind = kind; payload = value })) old new n)
+    (take_all (byte_len w) p (omega (arith, exact)) ∙ sym (again p exact small)) h
 
 -- numbers that were read one behind the other, with nothing behind them, are written as the bytes that they were read
 -- from

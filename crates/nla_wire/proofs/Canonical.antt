@@ -1,19 +1,17 @@
 -- Canonical text at the front of a buffer: a frame around a value, and texts one behind the other.
 use Rattle.std.proofs.Common.{◌≡◌, ℕ, suc, ◌+◌, ◌-◌, ◌*◌, ◌/◌, ◌%◌, ◌<◌, ◌≤◌, inl, inr, List, [], ◌∷◌, ◌++◌}
 use Rattle.std.proofs.Common.{append_assoc, append-nil, get_or, slice_set, length, take, drop, replicate}
-use Rattle.std.proofs.Common.{length-append, length-drop, length-take, refl, ap, sym, ◌∙◌, subst, arith, Option, Some}
-use Rattle.std.proofs.Common.{None}
+use Rattle.std.proofs.Common.{length-append, length-drop, length-take, refl, ap, sym, ◌∙◌, subst, arith}
 use Rattle.std.specs.Int.{w16, to_le_bytes}
 use Rattle.std.specs.Net.Addr.{segments_of, octets_of}
 use Rattle.std.proofs.lemmas.List.{take_at, take_all, drop_at, drop_more, take_rest, drop_all}
 use Rattle.std.proofs.Math.Seq.{drop-drop, set-append_seam}
 use Rattle.std.proofs.lemmas.Slice.{drop-append-drop}
 use borrow.Rule.Slice.PartMut.{put_mid}
-use Rattle.nla_wire.specs.Sizes.{most_payload}
 use Rattle.nla_wire.specs.Fields.{zero_filled}
-use Rattle.nla_wire.specs.Frames.{IsBytes, missing}
+use Rattle.nla_wire.specs.Frames.{Frame, IsBytes, missing}
 use Rattle.nla_wire.specs.Payloads.{IsTextOf}
-use Rattle.nla_wire.specs.Canon.{canon, Writes, Closed}
+use Rattle.nla_wire.specs.Canon.{canon, Filled, Writes}
 use Rattle.nla_wire.proofs.Bounds.{length-canon}
 use Rattle.nla_wire.proofs.FieldLemmas.{length-zero_filled}
 
@@ -68,10 +66,10 @@ around kind end value zeros rest end_is zeros_are =
     ∙ sym (append_assoc (to_le_bytes w16 (4 + length value) ++ to_le_bytes w16 kind ++ value) (replicate (missing (length value)) 0) rest)
 
 -- header and padding, around the value that stands behind four bytes
-pub closed : (kind len : ℕ) (old headed zeros : List ℕ) (end padded : ℕ) → 4 + len + missing len ≤ length old → end ≡ 4 + len → padded ≡ (end + 3) / 4 * 4
+pub finished : (kind len : ℕ) (old headed zeros : List ℕ) (end padded : ℕ) → 4 + len + missing len ≤ length old → end ≡ 4 + len → padded ≡ (end + 3) / 4 * 4
     → headed ≡ to_le_bytes w16 end ++ to_le_bytes w16 kind ++ drop 4 old → zeros ≡ replicate (length (take (padded - end) (drop end headed))) 0
     → Writes (canon (record { kind = kind; payload = take len (drop 4 old) })) old (put_mid end (padded - end) headed zeros) padded
-closed kind len old headed zeros end padded room end_is padded_is headed_is zeros_are =
+finished kind len old headed zeros end padded room end_is padded_is headed_is zeros_are =
     let t = drop 4 old in
     let value = take len t in
     let size : length value ≡ len = simp (length-take, length-drop) (omega arith) in
@@ -92,30 +90,50 @@ closed kind len old headed zeros end padded room end_is padded_is headed_is zero
           ∙ around kind end value zeros (drop padded old) (omega arith) zero;
     }
 
--- the value that stands behind four bytes was written there
-closed_behind : (kind : ℕ) (value old lent : List ℕ) (len : ℕ) (new : List ℕ) (r : Option ℕ) → len ≡ length value → 4 ≤ length old
-    → take len (drop 4 lent) ≡ value → ((n : ℕ) → 4 + len ≤ n → drop n lent ≡ drop n old)
-    → Closed kind (take len (drop 4 lent)) lent new r → Closed kind value old new r
-closed_behind kind value old lent len new (Some n) len_is long there kept h =
-    let w = subst (λ v. Writes (canon (record { kind = kind; payload = v })) lent new n) there h.1 in
-    let small : length value ≤ most_payload = subst (λ v. length v ≤ most_payload) there h.0 in
-    (small, record { length_is = w.length_is; new_is = w.new_is ∙ ap (λ (rest : List ℕ). canon (record { kind = kind; payload = value }) ++ rest) (kept n (omega (arith, w.length_is, length-canon (record { kind = kind; payload = value })))) })
-closed_behind kind value old lent len new None len_is long there kept h = subst (λ v. most_payload < length v) there h
-
-pub closed_value : (kind : ℕ) (value old part : List ℕ) (len : ℕ) (new : List ℕ) (r : Option ℕ) → 4 ≤ length old → Writes value (take (length old - 4) (drop 4 old)) part len
-    → Closed kind (take len (drop 4 (put_mid 4 (length old - 4) old part))) (put_mid 4 (length old - 4) old part) new r → Closed kind value old new r
-closed_value kind value old part len new r long w closing =
+-- a value that stands behind four bytes, whose frame was written round it
+finished_round : (kind : ℕ) (value old lent : List ℕ) (len : ℕ) (new : List ℕ) (n : ℕ) → 4 ≤ length old → len ≡ length value
+    → lent ≡ take 4 old ++ (value ++ drop len (drop 4 old))
+    → Writes (canon (record { kind = kind; payload = take len (drop 4 lent) })) lent new n
+    → Writes (canon (record { kind = kind; payload = value })) old new n
+finished_round kind value old lent len new n long len_is lent_is finishing =
     let header : length (take 4 old) ≡ 4 = simp length-take (omega arith) in
-    let lent : put_mid 4 (length old - 4) old part ≡ take 4 old ++ part = lent_back 4 old part in
-    let behind : drop 4 (put_mid 4 (length old - 4) old part) ≡ value ++ drop len (drop 4 old) =
-    ap (drop 4) lent ∙ drop_at (take 4 old) part 4 header ∙ w.new_is ∙ ap (λ (xs : List ℕ). value ++ drop len xs) (take_rest old 4) in
-    let there = ap (take len) behind ∙ take_at value (drop len (drop 4 old)) len (sym w.length_is) in
-    let kept = λ (n : ℕ) (far : 4 + len ≤ n).
-    let split : n ≡ 4 + (n - 4) = omega arith in
-    let whole : drop n (put_mid 4 (length old - 4) old part) ≡ drop (n - 4) (drop 4 (put_mid 4 (length old - 4) old part)) =
-    ap (λ k. drop k (put_mid 4 (length old - 4) old part)) split ∙ sym (drop-drop (n - 4) 4 (put_mid 4 (length old - 4) old part)) in
-    whole ∙ ap (drop (n - 4)) behind ∙ drop-append-drop len (drop 4 old) value (n - 4) (omega arith) (sym w.length_is) ∙ drop-drop (n - 4) 4 old ∙ ap (λ k. drop k old) (sym split) in
-    closed_behind kind value old (put_mid 4 (length old - 4) old part) len new r w.length_is long there kept closing
+    let behind : drop 4 lent ≡ value ++ drop len (drop 4 old) = ap (drop 4) lent_is ∙ drop_at (take 4 old) (value ++ drop len (drop 4 old)) 4 header in
+    let there = ap (take len) behind ∙ take_at value (drop len (drop 4 old)) len (sym len_is) in
+    let h = subst (λ v. Writes (canon (record { kind = kind; payload = v })) lent new n) there finishing in
+    let far : 4 + len ≤ n = omega (arith, h.length_is, len_is, length-canon (record { kind = kind; payload = value })) in
+    let split : n ≡ 4 + (n - 4) = omega (arith, far) in
+    let whole : drop n lent ≡ drop (n - 4) (drop 4 lent) = ap (λ k. drop k lent) split ∙ sym (drop-drop (n - 4) 4 lent) in
+    let kept : drop n lent ≡ drop n old =
+    whole ∙ ap (drop (n - 4)) behind ∙ drop-append-drop len (drop 4 old) value (n - 4) (omega (arith, far)) (sym len_is) ∙ drop-drop (n - 4) 4 old ∙ ap (λ k. drop k old) (sym split) in
+    record { length_is = h.length_is; new_is = h.new_is ∙ ap (λ (rest : List ℕ). canon (record { kind = kind; payload = value }) ++ rest) kept }
+
+-- the value was written to the front of all that is behind the header
+pub finished_value : (kind : ℕ) (value old part : List ℕ) (len : ℕ) (new : List ℕ) (n : ℕ) → 4 ≤ length old → Writes value (take (length old - 4) (drop 4 old)) part len
+    → Writes (canon (record { kind = kind; payload = take len (drop 4 (put_mid 4 (length old - 4) old part)) })) (put_mid 4 (length old - 4) old part) new n
+    → Writes (canon (record { kind = kind; payload = value })) old new n
+finished_value kind value old part len new n long w finishing =
+    finished_round kind value old (put_mid 4 (length old - 4) old part) len new n long w.length_is
+    (lent_back 4 old part ∙ ap (λ (xs : List ℕ). take 4 old ++ xs) (w.new_is ∙ ap (λ (xs : List ℕ). value ++ drop len xs) (take_rest old 4))) finishing
+
+-- the value was written to exactly its bytes
+pub finished_part : (kind : ℕ) (value old part : List ℕ) (len count : ℕ) (new : List ℕ) (n : ℕ) → 4 ≤ length old → part ≡ value → len ≡ length value → count ≡ len
+    → Writes (canon (record { kind = kind; payload = take len (drop 4 (put_mid 4 count old part)) })) (put_mid 4 count old part) new n
+    → Writes (canon (record { kind = kind; payload = value })) old new n
+finished_part kind value old part len count new n long part_is len_is count_is finishing =
+    finished_round kind value old (put_mid 4 count old part) len new n long len_is (λ i. take 4 old ++ (part_is i ++ drop (count_is i) (drop 4 old))) finishing
+
+-- the value was filled into exactly its bytes
+pub finished_filled : (kind : ℕ) (f : Frame) (old part : List ℕ) (len count start : ℕ) (new : List ℕ) (n : ℕ) → kind ≡ f.kind → length (canon f) ≤ length old → len ≡ length f.payload
+    → count ≡ len → Filled (take count (drop 4 old)) part f.payload start
+    → Writes (canon (record { kind = kind; payload = take len (drop 4 (put_mid 4 count old part)) })) (put_mid 4 count old part) new n
+    → Writes (canon f) old new n
+finished_filled kind f old part len count start new n kind_is room len_is count_is filled finishing =
+    let long : 4 + count ≤ length old = omega (arith, room, length-canon f, len_is, count_is) in
+    let size : length (take count (drop 4 old)) ≡ count = simp (length-take, length-drop) (omega (arith, long)) in
+    let none : start ≡ 0 = omega (arith, filled.0, size, len_is, count_is) in
+    let part_is : part ≡ f.payload = filled.1 ∙ ap (λ k. take k (take count (drop 4 old)) ++ f.payload) none in
+    subst (λ m. Writes (canon (record { kind = m; payload = f.payload })) old new n) kind_is
+    (finished_part kind f.payload old part len count new n (omega (arith, long)) part_is len_is count_is finishing)
 
 -- ** what is written as it was read
 

@@ -2,7 +2,6 @@ pub mod Steps
 pub mod Cuts
 pub mod Items
 pub mod Words
-pub mod Adding
 pub mod Again
 pub mod Agreement
 pub mod Back

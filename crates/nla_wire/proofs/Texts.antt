@@ -1,8 +1,13 @@
 -- Texts as code reads them: one NUL dropped, then a test of what is left.
-use Rattle.std.proofs.Common.{◌≡◌, ℕ, inl, List, refl, sym, ap, ◌∙◌, subst, Result, Ok, Err}
-use Rattle.std.specs.Prelude.{IsUtf8, IfOk, IfErr}
-use Rattle.nla_wire.specs.Payloads.{read_text, IsTextOf}
+use Rattle.std.proofs.Common.{◌≡◌, ℕ, ◌+◌, ◌<◌, ◌≤◌, inl, Bool, true, false, List, [], ◌∷◌, ◌++◌, length, refl, sym, ap, ◌∙◌, subst}
+use Rattle.std.proofs.Common.{arith, length-append, Option, Some, None, Result, Ok, Err}
+use Rattle.std.specs.Prelude.{IsUtf8, IfOk, IfErr, if◌then◌else◌}
+use Rattle.std.specs.Str.{is_utf8}
+use Rattle.nla_wire.specs.Sizes.{most_payload}
+use Rattle.nla_wire.specs.Payloads.{read_text, IsTextOf, without_nul}
+use Rattle.nla_wire.specs.Canon.{Weighs}
 use Rattle.nla_wire.specs.Gives.{Gives}
+use Rattle.nla_wire.specs.declared.error.Cause.{Cause}
 use Rattle.nla_wire.specs.declared.error.Cause.TheVariants.{NotUtf8, OutOfMemory}
 use Rattle.nla_wire.specs.declared.error.DecodeError.{DecodeError}
 use Rattle.nla_wire.proofs.Agreement.{text_agrees, text_is}
@@ -19,3 +24,33 @@ pub text_given : (p s copied : List ℕ) (r : Result (List ℕ) DecodeError) →
     → IfOk r (λ t. t ≡ copied) → IfErr r (λ e. e.cause ≡ OutOfMemory) → Gives r (read_text p)
 text_given p s copied (Ok t) is whole same ok err = text_found p s is whole ∙ ap (λ x. Ok x) (sym (ok ∙ same))
 text_given p s copied (Err e) is whole same ok err = inl err
+
+passed : {A : Type 0} (t : Bool) (x y : A) (e : Cause) → (if t then Ok x else Err e) ≡ Ok y → x ≡ y
+passed true x y e h = cc
+passed false x y e h = absurd cc
+
+text_once : (p s : List ℕ) → read_text p ≡ Ok s → without_nul p ≡ s
+unfolding read_text
+text_once p s h = passed (is_utf8 (without_nul p)) (without_nul p) s NotUtf8 h
+
+-- the text of a payload, measured: with the NUL behind it, which it gets if it had none
+abbrev pub TextWeighs : List ℕ → Option ℕ → Type 0
+TextWeighs p answer = Weighs (λ s. s ++ 0 ∷ []) (λ s. length (s ++ 0 ∷ []) ≤ most_payload) (read_text p) answer
+
+pub text_weighs : (p s : List ℕ) → IsTextOf p s → IsUtf8 s → length s < most_payload → TextWeighs p (Some (length s + 1))
+text_weighs p s is whole short =
+    let size = length-append s (0 ∷ []) in
+    subst (λ r. Weighs (λ s. s ++ 0 ∷ []) (λ s. length (s ++ 0 ∷ []) ≤ most_payload) r (Some (length s + 1))) (sym (text_found p s is whole))
+    (omega (arith, short, size), omega (arith, size))
+
+pub text_unread : (p s : List ℕ) → IsTextOf p s → (IsUtf8 s → ⊥) → TextWeighs p None
+text_unread p s is never =
+    subst (λ r. Weighs (λ s. s ++ 0 ∷ []) (λ s. length (s ++ 0 ∷ []) ≤ most_payload) r None) (sym (text_refused p s is never)) tt
+
+pub text_long : (p s : List ℕ) → IsTextOf p s → most_payload ≤ length s → TextWeighs p None
+text_long p s is long = by (read_text p) refl where
+  by : (r : Result (List ℕ) Cause) → read_text p ≡ r → Weighs (λ s. s ++ 0 ∷ []) (λ s. length (s ++ 0 ∷ []) ≤ most_payload) r None
+  by (Ok t) e =
+      let same : length t ≡ length s = ap (λ (x : List ℕ). length x) (sym (text_once p t e) ∙ text_is p s is) in
+      λ fits. absurd (omega (arith, fits, length-append t (0 ∷ []), same, long))
+  by (Err c) e = tt

@@ -1,6 +1,6 @@
 -- Canonical text: how frames and values are written, what a buffer holds after it, and what fits.
 use Rattle.std.specs.Prelude.{◌≡◌, ℕ, ◌+◌, ◌^◌, ◌<◌, ◌≤◌, List, [], ◌∷◌, ◌++◌, length, take, drop, replicate, Option}
-use Rattle.std.specs.Prelude.{None, Some, Bool, true, false, Result, Ok, Err}
+use Rattle.std.specs.Prelude.{None, Some, Result, Ok, Err}
 use Rattle.std.specs.List.{flat_map, AllByRecursion}
 use Rattle.nla_wire.specs.Sizes.{most_payload}
 use Rattle.nla_wire.specs.Frames.{Frame, unpadded, missing}
@@ -36,6 +36,11 @@ abbrev pub total : {V : Type 0} → (V → ℕ) → List V → ℕ
 total count [] = 0
 total count (v ∷ vs) = count v + total count vs
 
+-- the length of a value's text, where the value fits
+abbrev pub Measures : Type 0 → ℕ → Option ℕ → Type 0
+Measures fits len (Some n) = fits × (n ≡ len)
+Measures fits len None = fits → ⊥
+
 -- ** what a call did to a buffer
 
 -- the buffer's last bytes are the text, whose first byte is at `start`; the bytes before it are kept
@@ -47,20 +52,33 @@ pub record Writes (text old new : List ℕ) (n : ℕ) : Type 0 where
   pub length_is : n ≡ length text
   pub new_is : new ≡ text ++ drop n old
 
--- the text of the value that is read stands at the front; or nothing is promised of the buffer, where the value doesn't
--- fit
+-- ** texts of values that are read from bytes, with no value made
+
+-- how long the text of the value that is read is; nothing where the value does not fit, or none is read
+abbrev pub Weighs : {V : Type 0} → (V → List ℕ) → (V → Type 0) → Result V Cause → Option ℕ → Type 0
+Weighs text fits (Ok v) (Some n) = fits v × (n ≡ length (text v))
+Weighs text fits (Ok v) None = fits v → ⊥
+Weighs text fits (Err c) (Some n) = ⊥
+Weighs text fits (Err c) None = Unit {0}
+
+-- the value that is read fits, and there is room for its text
+abbrev pub HasRoom : {V : Type 0} → (V → List ℕ) → (V → Type 0) → Result V Cause → ℕ → Type 0
+HasRoom text fits (Ok v) room = fits v × (length (text v) ≤ room)
+HasRoom text fits (Err c) room = ⊥
+
+-- the text of the value that is read stands at the front
+abbrev pub Rewrites : {V : Type 0} → (V → List ℕ) → Result V Cause → List ℕ → List ℕ → ℕ → Type 0
+Rewrites text (Ok v) old new n = Writes (text v) old new n
+Rewrites text (Err c) old new n = Unit {0}
+
+-- there is room for the text of the value that is read, if it fits
+abbrev pub RoomWhereFit : {V : Type 0} → (V → List ℕ) → (V → Type 0) → Result V Cause → ℕ → Type 0
+RoomWhereFit text fits (Ok v) room = fits v → length (text v) ≤ room
+RoomWhereFit text fits (Err c) room = Unit {0}
+
+-- the text of the value that is read stands at the front; or nothing changed, where it does not fit or none is read
 abbrev pub Canonical : {V : Type 0} → (V → List ℕ) → (V → Type 0) → Result V Cause → List ℕ → List ℕ → Option ℕ → Type 0
 Canonical text fits (Ok v) old new (Some n) = fits v × Writes (text v) old new n
-Canonical text fits (Ok v) old new None = fits v → ⊥
-Canonical text fits (Err c) old new answer = Unit {0}
-
--- the frame of this kind and value stands at the front; or nothing is promised, where the value is too long
-abbrev pub Closed : ℕ → List ℕ → List ℕ → List ℕ → Option ℕ → Type 0
-Closed kind value old new (Some n) = (length value ≤ most_payload) × Writes (canon (record { kind = kind; payload = value })) old new n
-Closed kind value old new None = most_payload < length value
-
--- the text of the value that is read was added; or nothing is promised of what was added, where the value doesn't fit
-abbrev pub Appended : {V : Type 0} → (V → List ℕ) → (V → Type 0) → Result V Cause → List ℕ → List ℕ → Bool → Type 0
-Appended text fits (Ok v) old new true = fits v × (new ≡ old ++ text v)
-Appended text fits (Ok v) old new false = fits v → ⊥
-Appended text fits (Err c) old new answer = ⊥
+Canonical text fits (Ok v) old new None = (fits v → ⊥) × (new ≡ old)
+Canonical text fits (Err c) old new (Some n) = ⊥
+Canonical text fits (Err c) old new None = new ≡ old

@@ -9,7 +9,6 @@ pub mod Payloads
 pub mod Fields
 pub mod Canon
 pub mod Contents
-pub mod Leaves
 pub mod Records
 pub mod PlaceLaws
 pub mod Gives

@@ -12,6 +12,7 @@ use crate::exact::Exact;
 use crate::fill::fill_bytes;
 use crate::nla::Nla;
 use crate::values::CloneIn;
+use crate::write::write_value;
 use std::alloc::Global;
 use std::marker::Model;
 
@@ -77,6 +78,11 @@ impl Nla for DefaultNla {
 
     fn fill_value(&self, buffer: &mut [u8]) -> usize {
         fill_bytes(buffer, self.value.as_slice())
+    }
+
+    #[inline(always)]
+    fn write(&self, buffer: &mut [u8]) -> usize {
+        write_value(self.kind, self.value.as_slice(), buffer)
     }
 }
 

@@ -3,11 +3,12 @@
 ghost use Rattle.std.specs.Prelude.{◌≡◌, ◌≤◌, length};
 ghost use Rattle.nla_wire.specs.Sizes.{most_payload};
 ghost use Rattle.nla_wire.specs.Frames.{Frame};
-ghost use Rattle.nla_wire.specs.Canon.{Filled};
+ghost use Rattle.nla_wire.specs.Canon.{canon, Filled, Writes};
 ghost use Rattle.nla_wire.specs.Contents.{content_text};
 
 use crate::fill::{fill_bytes, fill_text};
 use crate::nla::Nla;
+use crate::write::{write_i32, write_text, write_u8, write_u16, write_u32, write_u64, write_value};
 
 /// What the value of an attribute is written from. Numbers are written lowest byte first.
 #[derive(Clone, Copy)]
@@ -62,6 +63,25 @@ impl Content<'_> {
             Content::I32(n) => fill_bytes(buffer, &n.to_le_bytes()),
         }
     }
+
+    /// Writes the attribute of this kind with the text as its value to the front of the buffer, and answers its length.
+    /// The rest of the buffer is kept.
+    #[inline(always)]
+    pub fn write(&self, kind: u16, buffer: &mut [u8]) -> usize
+        requires small { length (content_text self.now) ≤ most_payload }
+        requires room { length (canon (record { kind = kind; payload = content_text self.now })) ≤ length buffer.old }
+        ensures { Writes (canon (record { kind = kind; payload = content_text self.now })) buffer.old buffer.new result }
+    {
+        match self {
+            Content::Bytes(bytes) => write_value(kind, bytes, buffer),
+            Content::Text(text) => write_text(kind, text.as_bytes(), buffer),
+            Content::U8(n) => write_u8(kind, *n, buffer),
+            Content::U16(n) => write_u16(kind, *n, buffer),
+            Content::U32(n) => write_u32(kind, *n, buffer),
+            Content::U64(n) => write_u64(kind, *n, buffer),
+            Content::I32(n) => write_i32(kind, *n, buffer),
+        }
+    }
 }
 
 /// A value that is written as an attribute, and holds no others. Such a value is an `Nla`.
@@ -105,5 +125,17 @@ impl<T: Flat> Nla for T {
     #[inline]
     fn fill_value(&self, buffer: &mut [u8]) -> usize {
         self.view().1.fill(buffer)
+    }
+
+    #[inline(always)]
+    fn measure(&self) -> Option<usize> {
+        let len = self.view().1.len();
+        if len <= 65531 { Some(len) } else { None }
+    }
+
+    #[inline(always)]
+    fn write(&self, buffer: &mut [u8]) -> usize {
+        let (kind, content) = self.view();
+        content.write(kind, buffer)
     }
 }

@@ -1,7 +1,14 @@
 //! Laws of frames: functions that do nothing, whose contracts are laws over the definitions alone.
 
+ghost use Rattle.std.specs.Prelude.{◌*◌, ◌+◌, length};
+ghost use Rattle.nla_wire.specs.Sizes.{growth_per_byte};
+ghost use Rattle.nla_wire.specs.Grammar.{list};
+ghost use Rattle.nla_wire.specs.Canon.{canon, canons, AllFit, RoomWhereFit};
 ghost use Rattle.nla_wire.specs.FrameLaws.{SomeReading, OneListOfFrames, NeverBoth, OneFault, FramesAreSpellings};
 ghost use Rattle.nla_wire.specs.FrameLaws.{FaultIsBehind};
+
+use crate::buffer::NlaBuffer;
+use crate::read::NlaRead;
 
 /// Every byte string has exactly one reading: its frames, or the frames in front of one fault.
 pub fn law_one_reading()
@@ -16,4 +23,16 @@ pub fn law_one_reading()
 pub fn law_spellings()
     ensures frames { FramesAreSpellings }
     ensures fault { FaultIsBehind }
+{}
+
+/// `growth_per_byte` bytes of buffer for each byte of an attribute's header and payload are room for its canonical text.
+pub fn law_room<N: NlaRead>(buffer: &NlaBuffer<'_>)
+    ensures { RoomWhereFit (λ v. canon (N.frame v)) N.fits (N.grammar.reads buffer.now) (growth_per_byte * (4 + length buffer.now.payload)) }
+{
+    buffer.is_frame();
+}
+
+/// `growth_per_byte` bytes of buffer for each byte of a list are room for its canonical text.
+pub fn law_list_room<N: NlaRead>(bytes: &[u8])
+    ensures { RoomWhereFit (canons N.frame) (AllFit N.fits N.frame) ((list N.grammar).reads bytes.now) (growth_per_byte * length bytes.now) }
 {}

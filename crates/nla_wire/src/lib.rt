@@ -1,9 +1,7 @@
 //! Attribute frames of netlink messages, read and written.
 #![tactic(auto)]
 
-pub mod append;
 pub mod buffer;
-pub mod canon;
 pub mod default_nla;
 pub mod error;
 pub mod exact;
@@ -12,37 +10,45 @@ pub mod fill;
 pub mod flat;
 pub mod iterator;
 pub mod laws;
-pub mod leaf;
 pub mod nla;
 pub mod number;
+pub mod payload;
 pub mod read;
 pub mod record;
 pub mod text;
 pub mod values;
+pub mod write;
 
-pub use append::append_members;
 pub use buffer::{NLA_F_NESTED, NLA_F_NET_BYTEORDER, NLA_HEADER_SIZE, NLA_TYPE_MASK, NlaBuffer};
-pub use canon::{
-    canon_bytes, canon_filled, canon_i32, canon_ipv6_addr, canon_of, canon_text, canon_u8,
-    canon_u16, canon_u32, canon_u64, canon_value, close,
-};
 pub use default_nla::DefaultNla;
 pub use error::{Cause, DecodeError, empty_list, same_fault};
 pub use exact::Exact;
 pub use fill::{fill_bytes, fill_text};
 pub use flat::{Content, Flat};
 pub use iterator::NlasIterator;
-pub use leaf::Leaf;
-pub use nla::{Nla, emit_nlas, list_fits, nlas_buffer_len, nlas_fill, nlas_fit};
+pub use nla::{
+    Nla, emit_nlas, list_fits, list_measure, nlas_buffer_len, nlas_fill, nlas_fit, nlas_measure,
+    nlas_write, write_list,
+};
 pub use number::{
     emit_i32, emit_u16, emit_u32, emit_u64, parse_i32, parse_ipv6_addr, parse_u8, parse_u16,
     parse_u32, parse_u64,
 };
+pub use payload::{
+    measure_i32, measure_ipv6_addr, measure_text, measure_u8, measure_u16, measure_u32,
+    measure_u64, write_filled_payload, write_i32_payload, write_ipv6_addr_payload,
+    write_text_payload, write_u8_payload, write_u16_payload, write_u32_payload, write_u64_payload,
+};
 pub use read::{
-    NlaRead, OwnPlace, Place, canon_members, canon_nested_members, canon_nested_picked_members,
-    canon_picked_members, check_members, check_picked_members, parse_members, parse_one,
-    parse_picked_members,
+    NlaRead, OwnPlace, Place, check_members, check_picked_members, measure_members,
+    measure_nested_members, measure_nested_picked_members, measure_picked_members, parse_members,
+    parse_one, parse_picked_members, write_members, write_nested_members,
+    write_nested_picked_members, write_picked_members,
 };
 pub use record::{PlainRecord, Record, RecordBuffer};
 pub use text::{check_string, parse_string};
 pub use values::{Bytes, CloneIn, List, Text};
+pub use write::{
+    finish, padded_len, write_bytes, write_i32, write_text, write_u8, write_u16, write_u32,
+    write_u64, write_value,
+};

@@ -3,9 +3,11 @@
 ghost use Rattle.std.specs.Prelude.{◌≡◌, ◌+◌, ◌-◌, ◌<◌, ◌≤◌, ◌++◌, ◌↔◌, length, drop, IsTrue};
 ghost use Rattle.nla_wire.specs.Sizes.{most_payload};
 ghost use Rattle.nla_wire.specs.Frames.{Frame};
-ghost use Rattle.nla_wire.specs.Canon.{canon, canons, AllFit, Filled};
+ghost use Rattle.nla_wire.specs.Canon.{canon, canons, AllFit, Measures, Filled, Writes};
 
+use crate::buffer::NLA_HEADER_SIZE;
 use crate::fill::close_frame;
+use crate::write::{finish, padded_len};
 
 /// A value that is written as an attribute.
 ///
@@ -35,6 +37,29 @@ pub trait Nla {
         requires fits { fits self.now }
         requires room { length (frame self.now).payload ≤ length buffer.old }
         ensures { Filled buffer.old buffer.new (frame self.now).payload result };
+
+    /// The length of the value's text, as `value_len` answers it; `None` where the value does not fit. A type overrides
+    /// it where one walk answers both.
+    fn measure(&self) -> Option<usize>
+        ensures { Measures (fits self.now) (length (frame self.now).payload) result }
+    {
+        if !self.fits() {
+            return None;
+        }
+        Some(self.value_len())
+    }
+
+    /// Writes the attribute's text to the front of the buffer, and answers its length. The rest of the buffer is kept.
+    /// A type overrides it where it writes front to back.
+    fn write(&self, buffer: &mut [u8]) -> usize
+        requires fits { fits self.now }
+        requires room { length (canon (frame self.now)) ≤ length buffer.old }
+        ensures { Writes (canon (frame self.now)) buffer.old buffer.new result }
+    {
+        let len = self.value_len();
+        let _start = self.fill_value(&mut buffer[NLA_HEADER_SIZE..NLA_HEADER_SIZE + len]);
+        finish(buffer, len, self.kind())
+    }
 
     ghost is_small: { (x : Self) → fits x → length (frame x).payload ≤ most_payload };
 
@@ -72,26 +97,46 @@ pub trait Nla {
         requires room { length (canon (frame self.now)) ≤ length buffer.old }
         ensures { buffer.new ≡ canon (frame self.now) ++ drop (length (canon (frame self.now))) buffer.old }
     {
-        let len = self.buffer_len();
-        let _start = self.fill(&mut buffer[..len]);
+        let _len = self.write(buffer);
     }
+}
+
+/// The length of the text of the attributes, one behind the other; `None` where one does not fit, or the length is no
+/// `usize`.
+pub fn nlas_measure<N: Nla>(nlas: &[N]) -> Option<usize>
+    ensures { Measures (AllFit N.fits N.frame nlas.now) (length (canons N.frame nlas.now)) result }
+{
+    let mut len: usize = 0;
+    for nla in nlas {
+        let Some(value) = nla.measure() else {
+            return None;
+        };
+        let Some(more) = len.checked_add(padded_len(value)) else {
+            return None;
+        };
+        len = more;
+    }
+    Some(len)
+}
+
+/// The same where the text is to be the value of an attribute: `None` too where it has more than 65531 bytes.
+pub fn list_measure<N: Nla>(nlas: &[N]) -> Option<usize>
+    ensures { Measures ((length (canons N.frame nlas.now) ≤ most_payload) × AllFit N.fits N.frame nlas.now) (length (canons N.frame nlas.now)) result }
+{
+    let Some(len) = nlas_measure(nlas) else {
+        return None;
+    };
+    if len > 65531 {
+        return None;
+    }
+    Some(len)
 }
 
 /// Whether each attribute fits, and the length of their text is a `usize`.
 pub fn nlas_fit<N: Nla>(nlas: &[N]) -> bool
     ensures { IsTrue result ↔ AllFit N.fits N.frame nlas.now }
 {
-    let mut len: usize = 0;
-    for nla in nlas {
-        if !nla.fits() {
-            return false;
-        }
-        let Some(more) = len.checked_add(nla.buffer_len()) else {
-            return false;
-        };
-        len = more;
-    }
-    true
+    nlas_measure(nlas).is_some()
 }
 
 /// The length of the text of the attributes, one behind the other.
@@ -110,7 +155,7 @@ pub fn nlas_buffer_len<N: Nla>(nlas: &[N]) -> usize
 pub fn list_fits<N: Nla>(nlas: &[N]) -> bool
     ensures { IsTrue result ↔ ((length (canons N.frame nlas.now) ≤ most_payload) × AllFit N.fits N.frame nlas.now) }
 {
-    nlas_fit(nlas) && nlas_buffer_len(nlas) <= 65531
+    list_measure(nlas).is_some()
 }
 
 /// Writes the texts of the attributes at the end of the buffer, the last attribute first, and answers where they start.
@@ -129,12 +174,37 @@ pub fn nlas_fill<N: Nla>(nlas: &[N], buffer: &mut [u8]) -> usize
     start
 }
 
+/// Writes the texts of the attributes to the front of the buffer, one behind the other, and answers their length. The
+/// rest of the buffer is kept.
+pub fn nlas_write<N: Nla>(nlas: &[N], buffer: &mut [u8]) -> usize
+    requires fit { AllFit N.fits N.frame nlas.now }
+    requires room { length (canons N.frame nlas.now) ≤ length buffer.old }
+    ensures { Writes (canons N.frame nlas.now) buffer.old buffer.new result }
+{
+    let mut at = 0;
+    for nla in nlas {
+        at += nla.write(&mut buffer[at..]);
+    }
+    at
+}
+
+/// Writes the attribute of this kind whose value is the text of the attributes to the front of the buffer, and answers
+/// its length. The rest of the buffer is kept.
+pub fn write_list<N: Nla>(kind: u16, nlas: &[N], buffer: &mut [u8]) -> usize
+    requires small { length (canons N.frame nlas.now) ≤ most_payload }
+    requires fit { AllFit N.fits N.frame nlas.now }
+    requires room { length (canon (record { kind = kind; payload = canons N.frame nlas.now })) ≤ length buffer.old }
+    ensures { Writes (canon (record { kind = kind; payload = canons N.frame nlas.now })) buffer.old buffer.new result }
+{
+    let len = nlas_write(nlas, &mut buffer[NLA_HEADER_SIZE..]);
+    finish(buffer, len, kind)
+}
+
 /// Writes the texts of the attributes to the front of the buffer, and keeps the rest.
 pub fn emit_nlas<N: Nla>(nlas: &[N], buffer: &mut [u8])
     requires fit { AllFit N.fits N.frame nlas.now }
     requires room { length (canons N.frame nlas.now) ≤ length buffer.old }
     ensures { buffer.new ≡ canons N.frame nlas.now ++ drop (length (canons N.frame nlas.now)) buffer.old }
 {
-    let len = nlas_buffer_len(nlas);
-    let _start = nlas_fill(nlas, &mut buffer[..len]);
+    let _len = nlas_write(nlas, buffer);
 }

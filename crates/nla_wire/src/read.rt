@@ -1,24 +1,28 @@
 //! What is read from attributes: places, lists of members, and types of values that have one place.
 
 ghost use Rattle.std.specs.Prelude.{◌≡◌, ◌≢◌, ◌+◌, ◌*◌, ◌/◌, ◌<◌, ◌≤◌, List, length, vec_len, vec_capacity};
-ghost use Rattle.std.specs.Prelude.{IsOk, IfOk, IfErr, MatchResult};
-ghost use Rattle.nla_wire.specs.Sizes.{most_payload, growth, growth_per_byte};
+ghost use Rattle.std.specs.Prelude.{IfOk, IfErr, MatchResult};
+ghost use Rattle.nla_wire.specs.Sizes.{most_payload, growth};
 ghost use Rattle.nla_wire.specs.Frames.{Frame, IsFrame};
-ghost use Rattle.nla_wire.specs.Grammar.{Grammar, Agrees, list, picked};
-ghost use Rattle.nla_wire.specs.Canon.{canon, canons, AllFit, Canonical};
+ghost use Rattle.nla_wire.specs.Grammar.{Grammar, Agrees, list, not_empty, picked};
+ghost use Rattle.nla_wire.specs.Canon.{canon, canons, AllFit, Weighs, HasRoom, Rewrites, RoomWhereFit, Canonical};
+ghost use Rattle.nla_wire.specs.Items.{items, frame_count};
 ghost use Rattle.nla_wire.specs.Gives.{Fails, Gives, Adds, Checks};
 ghost use Rattle.nla_wire.specs.declared.error.Cause.TheVariants.{OutOfMemory};
 
 use crate::buffer::{NLA_HEADER_SIZE, NlaBuffer};
-use crate::canon::close;
 use crate::error::{DecodeError, empty_list};
 use crate::iterator::NlasIterator;
 use crate::nla::Nla;
+use crate::write::{finish, padded_len};
 use std::alloc::Global;
 
 /// The number of the members that are read where others are dropped: `IFLA_VF_INFO` and `IFLA_VF_PORT`
 /// (linux/if_link.h).
 const PICKED_KIND: u16 = 1;
+
+/// The most bytes that a value may have: the length field of two bytes counts the header too.
+const MOST_VALUE_LEN: usize = 65531;
 
 /// A place of the grammar: it says how an attribute there is read as a value of `V`.
 ///
@@ -42,15 +46,16 @@ pub trait Place<V: Nla + Drop> {
     fn check(&self, buffer: &NlaBuffer<'_>) -> Result<(), DecodeError>
         ensures { Checks result ((grammar self.now).reads buffer.now) };
 
-    /// Writes the canonical text of an attribute's value to the front of the buffer, with no memory taken, and answers
-    /// its length. The rest of the buffer is kept.
-    ///
-    /// The buffer has `growth_per_byte` bytes for each byte of the attribute's header and payload. Answers `None` where
-    /// the value does not fit, and the buffer's bytes are open then.
-    fn canon(&self, buffer: &NlaBuffer<'_>, out: &mut [u8]) -> Option<usize>
-        requires accepted { IsOk ((grammar self.now).reads buffer.now) }
-        requires room { growth_per_byte * (4 + length buffer.now.payload) ≤ length out.old }
-        ensures { Canonical (λ v. canon (V.frame v)) V.fits ((grammar self.now).reads buffer.now) out.old out.new result };
+    /// The length of the text of an attribute's value, without header and padding and with no memory taken; `None` where
+    /// the value does not fit, or the attribute is refused.
+    fn measure(&self, buffer: &NlaBuffer<'_>) -> Option<usize>
+        ensures { Weighs (λ v. (V.frame v).payload) V.fits ((grammar self.now).reads buffer.now) result };
+
+    /// Writes the canonical text of an attribute that was measured to the front of the buffer, and answers its length
+    /// with header and padding. The rest of the buffer is kept.
+    fn write(&self, buffer: &NlaBuffer<'_>, out: &mut [u8]) -> usize
+        requires { HasRoom (λ v. canon (V.frame v)) V.fits ((grammar self.now).reads buffer.now) (length out.old) }
+        ensures { Rewrites (λ v. canon (V.frame v)) ((grammar self.now).reads buffer.now) out.old out.new result };
 
     ghost agrees: { (place : Self) → Agrees IsFrame (grammar place) };
 
@@ -61,14 +66,14 @@ pub trait Place<V: Nla + Drop> {
 
 /// How many frames the bytes begin with: at most one for each four bytes.
 fn count_frames(bytes: &[u8]) -> usize
-    ensures { 4 * result ≤ length bytes.now }
+    ensures count { result ≡ frame_count (items bytes.now) }
+    ensures few { 4 * result ≤ length bytes.now }
 {
     let mut count = 0;
     for item in NlasIterator::new(bytes) {
-        if item.is_err() {
-            return count;
+        if item.is_ok() {
+            count += 1;
         }
-        count += 1;
     }
     count
 }
@@ -124,45 +129,70 @@ pub fn check_members<V: Nla + Drop, P: Place<V>>(place: &P, bytes: &[u8]) -> Res
     Ok(())
 }
 
-/// Writes the canonical text of a list's members, one behind the other, to the front of the buffer, with no memory
-/// taken, and answers its length. The rest of the buffer is kept.
-///
-/// The buffer has `growth_per_byte` bytes for each byte of the list. Answers `None` where a member does not fit, and
-/// the buffer's bytes are open then.
-pub fn canon_members<V: Nla + Drop, P: Place<V>>(
-    place: &P,
-    bytes: &[u8],
-    out: &mut [u8],
-) -> Option<usize>
-    requires accepted { IsOk ((list (P.grammar place.now)).reads bytes.now) }
-    requires room { growth_per_byte * length bytes.now ≤ length out.old }
-    ensures { Canonical (canons V.frame) (AllFit V.fits V.frame) ((list (P.grammar place.now)).reads bytes.now) out.old out.new result }
+/// The length of the canonical text of a list's members, with no memory taken; `None` where a member does not fit, or
+/// the list is refused.
+pub fn measure_members<V: Nla + Drop, P: Place<V>>(place: &P, bytes: &[u8]) -> Option<usize>
+    ensures { Weighs (canons V.frame) (AllFit V.fits V.frame) ((list (P.grammar place.now)).reads bytes.now) result }
 {
-    let mut at = 0;
+    let mut len: usize = 0;
     for item in NlasIterator::new(bytes) {
         let Ok(frame) = item else {
             return None;
         };
-        at += place.canon(&frame, &mut out[at..])?;
+        let Some(value) = place.measure(&frame) else {
+            return None;
+        };
+        let Some(more) = len.checked_add(padded_len(value)) else {
+            return None;
+        };
+        len = more;
     }
-    Some(at)
+    Some(len)
 }
 
-/// Writes the attribute of this kind whose value is the canonical text of a list's members, as `canon_members` does.
+/// The same where the text is to be the value of an attribute: `None` too where it has more than 65531 bytes.
+pub fn measure_nested_members<V: Nla + Drop, P: Place<V>>(place: &P, bytes: &[u8]) -> Option<usize>
+    ensures { Weighs (canons V.frame) (λ vs. (length (canons V.frame vs) ≤ most_payload) × AllFit V.fits V.frame vs) ((list (P.grammar place.now)).reads bytes.now) result }
+{
+    let Some(len) = measure_members(place, bytes) else {
+        return None;
+    };
+    if len > MOST_VALUE_LEN {
+        return None;
+    }
+    Some(len)
+}
+
+/// Writes the canonical text of a list's members, one behind the other, to the front of the buffer, and answers its
+/// length. The rest of the buffer is kept.
 ///
-/// Answers `None` too where that text has more than 65531 bytes.
-pub fn canon_nested_members<V: Nla + Drop, P: Place<V>>(
+/// The list was measured, and there is room for its text.
+pub fn write_members<V: Nla + Drop, P: Place<V>>(place: &P, bytes: &[u8], out: &mut [u8]) -> usize
+    requires { HasRoom (canons V.frame) (AllFit V.fits V.frame) ((list (P.grammar place.now)).reads bytes.now) (length out.old) }
+    ensures { Rewrites (canons V.frame) ((list (P.grammar place.now)).reads bytes.now) out.old out.new result }
+{
+    let mut at = 0;
+    for item in NlasIterator::new(bytes) {
+        let Ok(frame) = item else {
+            return at;
+        };
+        at += place.write(&frame, &mut out[at..]);
+    }
+    at
+}
+
+/// Writes the attribute of this kind whose value is the canonical text of a list's members, as `write_members` does.
+pub fn write_nested_members<V: Nla + Drop, P: Place<V>>(
     place: &P,
     kind: u16,
     bytes: &[u8],
     out: &mut [u8],
-) -> Option<usize>
-    requires accepted { IsOk ((list (P.grammar place.now)).reads bytes.now) }
-    requires room { growth_per_byte * (4 + length bytes.now) ≤ length out.old }
-    ensures { Canonical (λ vs. canon (record { kind = kind; payload = canons V.frame vs })) (λ vs. (length (canons V.frame vs) ≤ most_payload) × AllFit V.fits V.frame vs) ((list (P.grammar place.now)).reads bytes.now) out.old out.new result }
+) -> usize
+    requires { HasRoom (λ vs. canon (record { kind = kind; payload = canons V.frame vs })) (λ vs. (length (canons V.frame vs) ≤ most_payload) × AllFit V.fits V.frame vs) ((list (P.grammar place.now)).reads bytes.now) (length out.old) }
+    ensures { Rewrites (λ vs. canon (record { kind = kind; payload = canons V.frame vs })) ((list (P.grammar place.now)).reads bytes.now) out.old out.new result }
 {
-    let len = canon_members(place, bytes, &mut out[NLA_HEADER_SIZE..])?;
-    close(out, len, kind)
+    let len = write_members(place, bytes, &mut out[NLA_HEADER_SIZE..]);
+    finish(out, len, kind)
 }
 
 /// The values of a list's members with number 1.
@@ -232,43 +262,77 @@ pub fn check_picked_members<V: Nla + Drop, P: Place<V>>(
     check_picked_values(place, bytes)
 }
 
-/// Writes the canonical text of a list's members with number 1, as `canon_members` does.
-pub fn canon_picked_members<V: Nla + Drop, P: Place<V>>(
-    place: &P,
-    bytes: &[u8],
-    out: &mut [u8],
-) -> Option<usize>
-    requires accepted { IsOk ((picked (P.grammar place.now)).reads bytes.now) }
-    requires room { growth_per_byte * length bytes.now ≤ length out.old }
-    ensures { Canonical (canons V.frame) (AllFit V.fits V.frame) ((picked (P.grammar place.now)).reads bytes.now) out.old out.new result }
+/// The length of the canonical text of a list's members with number 1, as `measure_members` does.
+pub fn measure_picked_members<V: Nla + Drop, P: Place<V>>(place: &P, bytes: &[u8]) -> Option<usize>
+    ensures { Weighs (canons V.frame) (AllFit V.fits V.frame) ((picked (P.grammar place.now)).reads bytes.now) result }
 {
-    let mut at = 0;
+    let mut len: usize = 0;
     for item in NlasIterator::new(bytes) {
         let Ok(frame) = item else {
             return None;
         };
         if frame.kind() == PICKED_KIND {
-            at += place.canon(&frame, &mut out[at..])?;
+            let Some(value) = place.measure(&frame) else {
+                return None;
+            };
+            let Some(more) = len.checked_add(padded_len(value)) else {
+                return None;
+            };
+            len = more;
         }
     }
-    Some(at)
+    Some(len)
+}
+
+/// The same where the text is to be the value of an attribute: `None` too where it has more than 65531 bytes.
+pub fn measure_nested_picked_members<V: Nla + Drop, P: Place<V>>(
+    place: &P,
+    bytes: &[u8],
+) -> Option<usize>
+    ensures { Weighs (canons V.frame) (λ vs. (length (canons V.frame vs) ≤ most_payload) × AllFit V.fits V.frame vs) ((picked (P.grammar place.now)).reads bytes.now) result }
+{
+    let Some(len) = measure_picked_members(place, bytes) else {
+        return None;
+    };
+    if len > MOST_VALUE_LEN {
+        return None;
+    }
+    Some(len)
+}
+
+/// Writes the canonical text of a list's members with number 1, as `write_members` does.
+pub fn write_picked_members<V: Nla + Drop, P: Place<V>>(
+    place: &P,
+    bytes: &[u8],
+    out: &mut [u8],
+) -> usize
+    requires { HasRoom (canons V.frame) (AllFit V.fits V.frame) ((picked (P.grammar place.now)).reads bytes.now) (length out.old) }
+    ensures { Rewrites (canons V.frame) ((picked (P.grammar place.now)).reads bytes.now) out.old out.new result }
+{
+    let mut at = 0;
+    for item in NlasIterator::new(bytes) {
+        let Ok(frame) = item else {
+            return at;
+        };
+        if frame.kind() == PICKED_KIND {
+            at += place.write(&frame, &mut out[at..]);
+        }
+    }
+    at
 }
 
 /// Writes the attribute of this kind whose value is the canonical text of a list's members with number 1.
-///
-/// Answers `None` too where that text has more than 65531 bytes.
-pub fn canon_nested_picked_members<V: Nla + Drop, P: Place<V>>(
+pub fn write_nested_picked_members<V: Nla + Drop, P: Place<V>>(
     place: &P,
     kind: u16,
     bytes: &[u8],
     out: &mut [u8],
-) -> Option<usize>
-    requires accepted { IsOk ((picked (P.grammar place.now)).reads bytes.now) }
-    requires room { growth_per_byte * (4 + length bytes.now) ≤ length out.old }
-    ensures { Canonical (λ vs. canon (record { kind = kind; payload = canons V.frame vs })) (λ vs. (length (canons V.frame vs) ≤ most_payload) × AllFit V.fits V.frame vs) ((picked (P.grammar place.now)).reads bytes.now) out.old out.new result }
+) -> usize
+    requires { HasRoom (λ vs. canon (record { kind = kind; payload = canons V.frame vs })) (λ vs. (length (canons V.frame vs) ≤ most_payload) × AllFit V.fits V.frame vs) ((picked (P.grammar place.now)).reads bytes.now) (length out.old) }
+    ensures { Rewrites (λ vs. canon (record { kind = kind; payload = canons V.frame vs })) ((picked (P.grammar place.now)).reads bytes.now) out.old out.new result }
 {
-    let len = canon_picked_members(place, bytes, &mut out[NLA_HEADER_SIZE..])?;
-    close(out, len, kind)
+    let len = write_picked_members(place, bytes, &mut out[NLA_HEADER_SIZE..]);
+    finish(out, len, kind)
 }
 
 /// A value that is read from an attribute, at the one place that its type has.
@@ -287,15 +351,16 @@ pub trait NlaRead: Nla + Drop {
     fn check_frame(buffer: &NlaBuffer<'_>) -> Result<(), DecodeError>
         ensures { Checks result (grammar.reads buffer.now) };
 
-    /// Writes the canonical text of an attribute's value to the front of the buffer, with no memory taken, and answers
-    /// its length. The rest of the buffer is kept.
-    ///
-    /// The buffer has `growth_per_byte` bytes for each byte of the attribute's header and payload. Answers `None` where
-    /// the value does not fit, and the buffer's bytes are open then.
-    fn canon(buffer: &NlaBuffer<'_>, out: &mut [u8]) -> Option<usize>
-        requires accepted { IsOk (grammar.reads buffer.now) }
-        requires room { growth_per_byte * (4 + length buffer.now.payload) ≤ length out.old }
-        ensures { Canonical (λ v. canon (Self.frame v)) Self.fits (grammar.reads buffer.now) out.old out.new result };
+    /// The length of the text of an attribute's value, without header and padding and with no memory taken; `None` where
+    /// the value does not fit, or the attribute is refused.
+    fn measure_frame(buffer: &NlaBuffer<'_>) -> Option<usize>
+        ensures { Weighs (λ v. (Self.frame v).payload) Self.fits (grammar.reads buffer.now) result };
+
+    /// Writes the canonical text of an attribute that was measured to the front of the buffer, and answers its length
+    /// with header and padding. The rest of the buffer is kept.
+    fn write_frame(buffer: &NlaBuffer<'_>, out: &mut [u8]) -> usize
+        requires { HasRoom (λ v. canon (Self.frame v)) Self.fits (grammar.reads buffer.now) (length out.old) }
+        ensures { Rewrites (λ v. canon (Self.frame v)) (grammar.reads buffer.now) out.old out.new result };
 
     ghost agrees: { Agrees IsFrame grammar };
 
@@ -364,33 +429,90 @@ pub trait NlaRead: Nla + Drop {
         check_members::<Self, OwnPlace>(&OwnPlace, bytes)
     }
 
+    /// Writes the canonical text of an attribute's value to the front of the buffer, with no memory taken, and answers
+    /// its length. The rest of the buffer is kept.
+    ///
+    /// There is room for that text: `growth_per_byte` bytes for each byte of header and payload are enough. Answers
+    /// `None` where the value does not fit or the attribute is refused, and changes nothing then.
+    final fn canon(buffer: &NlaBuffer<'_>, out: &mut [u8]) -> Option<usize>
+    where
+        Self: Sized,
+        requires room { RoomWhereFit (λ v. canon (Self.frame v)) Self.fits (grammar.reads buffer.now) (length out.old) }
+        ensures { Canonical (λ v. canon (Self.frame v)) Self.fits (grammar.reads buffer.now) out.old out.new result }
+    {
+        let Some(_len) = Self::measure_frame(buffer) else {
+            return None;
+        };
+        Some(Self::write_frame(buffer, out))
+    }
+
+    /// The length of the canonical text of a list of these attributes, with no memory taken; `None` where one does not
+    /// fit, or the list is refused.
+    final fn measure_list(bytes: &[u8]) -> Option<usize>
+    where
+        Self: Sized,
+        ensures { Weighs (canons Self.frame) (AllFit Self.fits Self.frame) ((list grammar).reads bytes.now) result }
+    {
+        measure_members::<Self, OwnPlace>(&OwnPlace, bytes)
+    }
+
+    /// The same where the text is to be the value of an attribute: `None` too where it has more than 65531 bytes.
+    final fn measure_nested(bytes: &[u8]) -> Option<usize>
+    where
+        Self: Sized,
+        ensures { Weighs (canons Self.frame) (λ vs. (length (canons Self.frame vs) ≤ most_payload) × AllFit Self.fits Self.frame vs) ((list grammar).reads bytes.now) result }
+    {
+        measure_nested_members::<Self, OwnPlace>(&OwnPlace, bytes)
+    }
+
+    /// Writes the attribute of this kind whose value is the canonical text of a list of these attributes, which was
+    /// measured, to the front of the buffer, and answers its length with header and padding.
+    final fn write_nested(kind: u16, bytes: &[u8], out: &mut [u8]) -> usize
+    where
+        Self: Sized,
+        requires { HasRoom (λ vs. canon (record { kind = kind; payload = canons Self.frame vs })) (λ vs. (length (canons Self.frame vs) ≤ most_payload) × AllFit Self.fits Self.frame vs) ((list grammar).reads bytes.now) (length out.old) }
+        ensures { Rewrites (λ vs. canon (record { kind = kind; payload = canons Self.frame vs })) ((list grammar).reads bytes.now) out.old out.new result }
+    {
+        write_nested_members::<Self, OwnPlace>(&OwnPlace, kind, bytes, out)
+    }
+
+    /// As `measure_nested`, of a list that must not be empty: `None` too where it is.
+    final fn measure_some(bytes: &[u8]) -> Option<usize>
+    where
+        Self: Sized,
+        ensures { Weighs (canons Self.frame) (λ vs. (length (canons Self.frame vs) ≤ most_payload) × AllFit Self.fits Self.frame vs) ((not_empty (list grammar)).reads bytes.now) result }
+    {
+        if bytes.is_empty() {
+            return None;
+        }
+        Self::measure_nested(bytes)
+    }
+
+    /// As `write_nested`, of a list that must not be empty.
+    final fn write_some(kind: u16, bytes: &[u8], out: &mut [u8]) -> usize
+    where
+        Self: Sized,
+        requires { HasRoom (λ vs. canon (record { kind = kind; payload = canons Self.frame vs })) (λ vs. (length (canons Self.frame vs) ≤ most_payload) × AllFit Self.fits Self.frame vs) ((not_empty (list grammar)).reads bytes.now) (length out.old) }
+        ensures { Rewrites (λ vs. canon (record { kind = kind; payload = canons Self.frame vs })) ((not_empty (list grammar)).reads bytes.now) out.old out.new result }
+    {
+        Self::write_nested(kind, bytes, out)
+    }
+
     /// Writes the canonical text of a list of these attributes to the front of the buffer, with no memory taken, and
     /// answers its length. The rest of the buffer is kept.
     ///
-    /// The buffer has `growth_per_byte` bytes for each byte of the list. Answers `None` where a member does not fit,
-    /// and the buffer's bytes are open then.
+    /// There is room for that text: `growth_per_byte` bytes for each byte of the list are enough. Answers `None` where
+    /// a member does not fit or the list is refused, and changes nothing then.
     final fn canon_list(bytes: &[u8], out: &mut [u8]) -> Option<usize>
     where
         Self: Sized,
-        requires accepted { IsOk ((list grammar).reads bytes.now) }
-        requires room { growth_per_byte * length bytes.now ≤ length out.old }
+        requires room { RoomWhereFit (canons Self.frame) (AllFit Self.fits Self.frame) ((list grammar).reads bytes.now) (length out.old) }
         ensures { Canonical (canons Self.frame) (AllFit Self.fits Self.frame) ((list grammar).reads bytes.now) out.old out.new result }
     {
-        canon_members::<Self, OwnPlace>(&OwnPlace, bytes, out)
-    }
-
-    /// Writes the attribute of this kind whose value is the canonical text of a list of these attributes, as
-    /// `canon_list` does.
-    ///
-    /// Answers `None` too where that text has more than 65531 bytes.
-    final fn canon_nested(kind: u16, bytes: &[u8], out: &mut [u8]) -> Option<usize>
-    where
-        Self: Sized,
-        requires accepted { IsOk ((list grammar).reads bytes.now) }
-        requires room { growth_per_byte * (4 + length bytes.now) ≤ length out.old }
-        ensures { Canonical (λ vs. canon (record { kind = kind; payload = canons Self.frame vs })) (λ vs. (length (canons Self.frame vs) ≤ most_payload) × AllFit Self.fits Self.frame vs) ((list grammar).reads bytes.now) out.old out.new result }
-    {
-        canon_nested_members::<Self, OwnPlace>(&OwnPlace, kind, bytes, out)
+        let Some(_len) = Self::measure_list(bytes) else {
+            return None;
+        };
+        Some(write_members::<Self, OwnPlace>(&OwnPlace, bytes, out))
     }
 }
 
@@ -417,8 +539,14 @@ impl<V: NlaRead> Place<V> for OwnPlace {
         <V as NlaRead>::check_frame(buffer)
     }
 
-    fn canon(&self, buffer: &NlaBuffer<'_>, out: &mut [u8]) -> Option<usize> {
-        <V as NlaRead>::canon(buffer, out)
+    #[inline(always)]
+    fn measure(&self, buffer: &NlaBuffer<'_>) -> Option<usize> {
+        <V as NlaRead>::measure_frame(buffer)
+    }
+
+    #[inline(always)]
+    fn write(&self, buffer: &NlaBuffer<'_>, out: &mut [u8]) -> usize {
+        <V as NlaRead>::write_frame(buffer, out)
     }
 
     ghost agrees = { λ place. V.NlaRead.agrees };

@@ -2,16 +2,19 @@
 
 ghost use Rattle.std.proofs.Common.{rules};
 ghost use Rattle.std.specs.Prelude.{◌≡◌, ℕ, ◌+◌, ◌≤◌, List, length, take, drop, MatchResult};
+ghost use Rattle.nla_wire.specs.Sizes.{most_payload};
 ghost use Rattle.nla_wire.specs.Frames.{missing};
 ghost use Rattle.nla_wire.specs.Fields.{IsShort};
 ghost use Rattle.nla_wire.specs.Payloads.{sized, filled};
-ghost use Rattle.nla_wire.specs.Canon.{Filled, Closed};
+ghost use Rattle.nla_wire.specs.Canon.{canon, Filled, Writes, Weighs};
 ghost use Rattle.nla_wire.specs.Records.{Parses, RecordLaws, WritesFilled, buffer_bytes};
 
-use crate::canon::canon_filled;
+use crate::buffer::NLA_HEADER_SIZE;
 use crate::error::DecodeError;
 use crate::exact::Exact;
 use crate::fields::too_short;
+use crate::payload::write_filled_payload;
+use crate::write::finish;
 use std::marker::PhantomData;
 
 /// A record of `SIZE` bytes.
@@ -64,6 +67,27 @@ pub trait Record<const SIZE: usize>: Sized {
         Ok(Self::read_front(payload))
     }
 
+    /// The length of the text of the record that a payload means as if zeros followed it: `SIZE`, whatever it holds.
+    #[inline(always)]
+    final fn measure_filled(payload: &[u8]) -> Option<usize>
+        requires { SIZE ≤ most_payload }
+        ensures { Weighs bytes (λ r. length (bytes r) ≤ most_payload) ((filled of).reads payload.now) result }
+    {
+        Some(SIZE)
+    }
+
+    /// The length of the text of the record that a payload means: `None` where it has fewer than `SIZE` bytes.
+    #[inline(always)]
+    final fn measure_sized(payload: &[u8]) -> Option<usize>
+        requires { SIZE ≤ most_payload }
+        ensures { Weighs bytes (λ r. length (bytes r) ≤ most_payload) ((sized SIZE of).reads payload.now) result }
+    {
+        if payload.len() < SIZE {
+            return None;
+        }
+        Some(SIZE)
+    }
+
     /// Writes a record to the end of a buffer of at least `SIZE` bytes, keeps the bytes before it, and answers where it
     /// starts.
     final fn fill_back(&self, buffer: &mut [u8]) -> usize
@@ -74,6 +98,33 @@ pub trait Record<const SIZE: usize>: Sized {
         self.write(&mut buffer[start..]);
         start
     }
+
+    /// Writes the attribute of this kind whose value is the record to the front of the buffer, and answers its length
+    /// with padding. The rest of the buffer is kept.
+    #[inline(always)]
+    final fn write_attribute(&self, kind: u16, out: &mut [u8]) -> usize
+        requires small { SIZE ≤ most_payload }
+        requires room { 4 + SIZE + missing SIZE ≤ length out.old }
+        ensures { Writes (canon (record { kind = kind; payload = bytes self.now })) out.old out.new result }
+    {
+        self.write(&mut out[NLA_HEADER_SIZE..NLA_HEADER_SIZE + SIZE]);
+        finish(out, SIZE, kind)
+    }
+
+    /// Writes the attribute of this kind whose value is the record that a payload of `SIZE` bytes or more means to the
+    /// front of the buffer, and answers its length with padding. The rest of the buffer is kept.
+    #[inline(always)]
+    final fn write_sized(kind: u16, payload: &[u8], out: &mut [u8]) -> usize
+    where
+        Self: Drop,
+        requires small { SIZE ≤ most_payload }
+        requires whole { SIZE ≤ length payload.now }
+        requires room { length (canon (record { kind = kind; payload = bytes (of payload.now) })) ≤ length out.old }
+        ensures { Writes (canon (record { kind = kind; payload = bytes (of payload.now) })) out.old out.new result }
+    {
+        let value = Self::read_front(payload);
+        value.write_attribute(kind, out)
+    }
 }
 
 /// A record of which each byte is a field's.
@@ -81,14 +132,16 @@ pub trait PlainRecord<const SIZE: usize>: Record<SIZE> {
     ghost written: { WritesFilled SIZE Self.of Self.bytes };
 
     /// Writes the attribute of this kind whose value is the record that a payload means, the payload cut to `SIZE`
-    /// bytes or filled up with zeros, to the front of the buffer, and answers its length. The rest of the buffer is
-    /// kept.
+    /// bytes or filled up with zeros, to the front of the buffer, and answers its length with padding. The rest of the
+    /// buffer is kept.
+    #[inline(always)]
     #[tactic(auto, using(crate::proofs::Front::all_bytes))]
-    final fn canon_record(kind: u16, payload: &[u8], out: &mut [u8]) -> Option<usize>
-        requires { 4 + SIZE + missing SIZE ≤ length out.old }
-        ensures { Closed kind (Self.bytes (Self.of payload.now)) out.old out.new result }
+    final fn write_filled(kind: u16, payload: &[u8], out: &mut [u8]) -> usize
+        requires small { SIZE ≤ most_payload }
+        requires room { length (canon (record { kind = kind; payload = Self.bytes (Self.of payload.now) })) ≤ length out.old }
+        ensures { Writes (canon (record { kind = kind; payload = Self.bytes (Self.of payload.now) })) out.old out.new result }
     {
-        canon_filled(kind, SIZE, payload, out)
+        write_filled_payload(kind, SIZE, payload, out)
     }
 }
 

@@ -1,0 +1,20 @@
+use Rattle.std.proofs.Common.{◌*◌, length, arith}
+use Rattle.nla_wire.specs.Sizes.{growth, growth_per_byte}
+use Rattle.nla_wire.specs.Grammar.{list}
+use Rattle.nla_wire.specs.Canon.{canons, AllFit}
+use Rattle.nla_wire.proofs.Front.{all_bytes}
+use Rattle.nla_wire.proofs.Lists.{list_agrees}
+use Rattle.nla_wire.proofs.Bounds.{list_length}
+use Rattle.nla_wire.proofs.Written.{enough_room}
+use Rattle.nla_wire.proofs.laws.law_list_room.Goals as goal
+
+pub returns : goal.returns
+returns g c =
+    let place = g.N.NlaRead.grammar in
+    let small = all_bytes c.args.bytes.now (λ i. omega (arith, c.type_inv.bytes i)) in
+    enough_room (canons g.N.Nla.frame) (AllFit g.N.Nla.fits g.N.Nla.frame) ((list place).reads c.args.bytes.now) (growth_per_byte * length c.args.bytes.now)
+    (λ vs read. omega (
+      arith,
+      list_length place g.N.Nla.frame growth 0 (λ f v m. omega (arith, g.met.N.NlaRead.bounded f v m)) c.args.bytes.now vs
+          ((list_agrees place g.met.N.NlaRead.agrees).found c.args.bytes.now vs small read),
+    ))

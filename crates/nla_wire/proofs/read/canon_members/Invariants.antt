@@ -1,8 +1,0 @@
-use Rattle.nla_wire.specs.Grammar.{list}
-use Rattle.nla_wire.specs.Canon.{canon}
-use Rattle.nla_wire.proofs.Written.{Going}
-use Rattle.nla_wire.proofs.read.canon_members.Given as goal
-
-abbrev pub invariant-loop-item : goal.invariant-loop-item
-invariant-loop-item g l =
-    Going (g.P.Place.grammar l.place).reads (λ v. canon (g.V.Nla.frame v)) g.V.Nla.fits ((list (g.P.Place.grammar l.place)).reads l.bytes) l.item-iterator l.at l.initial.out l.out

@@ -1,0 +1,153 @@
+//! Attributes written to the front of a buffer: a header, a value, and its padding.
+
+ghost use Rattle.std.specs.Prelude.{◌≡◌, ◌+◌, ◌≤◌, ◌++◌, [], ◌∷◌, length, take, drop, replicate};
+ghost use Rattle.std.specs.Int.{w8, w16, w32, w64, to_le_bytes, cast_unsigned};
+ghost use Rattle.nla_wire.specs.Sizes.{most_payload};
+ghost use Rattle.nla_wire.specs.Frames.{missing};
+ghost use Rattle.nla_wire.specs.Canon.{canon, Writes};
+
+use crate::buffer::NLA_HEADER_SIZE;
+
+/// The length of an attribute whose value has so many bytes: with its header and its padding.
+#[inline(always)]
+pub fn padded_len(value_len: usize) -> usize
+    requires { value_len ≤ most_payload }
+    ensures { result ≡ 4 + value_len + missing value_len }
+{
+    NLA_HEADER_SIZE + (value_len + 3) / 4 * 4
+}
+
+/// Writes the header of a frame to the first four bytes, and keeps the rest.
+#[inline(always)]
+pub(crate) fn write_header(out: &mut [u8], len: u16, kind: u16)
+    requires { 4 ≤ length out.old }
+    ensures { out.new ≡ to_le_bytes w16 len ++ to_le_bytes w16 kind ++ drop 4 out.old }
+{
+    out[..2].copy_from_slice(&len.to_le_bytes());
+    out[2..4].copy_from_slice(&kind.to_le_bytes());
+}
+
+/// Clears at most three bytes, by a store each.
+#[inline(always)]
+fn clear(padding: &mut [u8])
+    requires { length padding.old ≤ 3 }
+    ensures { padding.new ≡ replicate (length padding.old) 0 }
+{
+    match padding.len() {
+        1 => padding[0] = 0,
+        2 => {
+            padding[0] = 0;
+            padding[1] = 0;
+        }
+        3 => {
+            padding[0] = 0;
+            padding[1] = 0;
+            padding[2] = 0;
+        }
+        _ => {}
+    }
+}
+
+/// Makes a frame of this kind of the value that stands behind the four bytes of its header: writes the header before it
+/// and the padding behind it, and answers the length with both. The rest of the buffer is kept.
+#[inline(always)]
+pub fn finish(out: &mut [u8], len: usize, kind: u16) -> usize
+    requires small { len ≤ most_payload }
+    requires room { 4 + len + missing len ≤ length out.old }
+    ensures { Writes (canon (record { kind = kind; payload = take len (drop 4 out.old) })) out.old out.new result }
+{
+    let end = NLA_HEADER_SIZE + len;
+    let padded = (end + 3) / 4 * 4;
+    write_header(out, end as u16, kind);
+    clear(&mut out[end..padded]);
+    padded
+}
+
+/// Writes bytes to the front of the buffer, and answers their number.
+#[inline(always)]
+pub fn write_bytes(bytes: &[u8], out: &mut [u8]) -> usize
+    requires { length bytes.now ≤ length out.old }
+    ensures { Writes bytes.now out.old out.new result }
+{
+    out[..bytes.len()].copy_from_slice(bytes);
+    bytes.len()
+}
+
+/// Writes the attribute of this kind and value to the front of the buffer, and answers its length with padding. The
+/// rest of the buffer is kept.
+#[inline(always)]
+pub fn write_value(kind: u16, value: &[u8], out: &mut [u8]) -> usize
+    requires small { length value.now ≤ most_payload }
+    requires room { length (canon (record { kind = kind; payload = value.now })) ≤ length out.old }
+    ensures { Writes (canon (record { kind = kind; payload = value.now })) out.old out.new result }
+{
+    let len = write_bytes(value, &mut out[NLA_HEADER_SIZE..]);
+    finish(out, len, kind)
+}
+
+/// Writes bytes and one NUL behind them to the front of the buffer, and answers their number.
+#[inline(always)]
+fn write_terminated(bytes: &[u8], out: &mut [u8]) -> usize
+    requires { length bytes.now + 1 ≤ length out.old }
+    ensures { Writes (bytes.now ++ 0 ∷ []) out.old out.new result }
+{
+    let len = write_bytes(bytes, out);
+    out[len] = 0;
+    len + 1
+}
+
+/// Writes the attribute of this kind with these bytes of a text, and one NUL behind them.
+#[inline(always)]
+pub fn write_text(kind: u16, text: &[u8], out: &mut [u8]) -> usize
+    requires small { length (text.now ++ 0 ∷ []) ≤ most_payload }
+    requires room { length (canon (record { kind = kind; payload = text.now ++ 0 ∷ [] })) ≤ length out.old }
+    ensures { Writes (canon (record { kind = kind; payload = text.now ++ 0 ∷ [] })) out.old out.new result }
+{
+    let len = write_terminated(text, &mut out[NLA_HEADER_SIZE..]);
+    finish(out, len, kind)
+}
+
+/// Writes the attribute of this kind with a number of one byte.
+#[inline(always)]
+pub fn write_u8(kind: u16, value: u8, out: &mut [u8]) -> usize
+    requires { 8 ≤ length out.old }
+    ensures { Writes (canon (record { kind = kind; payload = to_le_bytes w8 value })) out.old out.new result }
+{
+    write_value(kind, &[value], out)
+}
+
+/// Writes the attribute of this kind with a number of two bytes, lowest byte first.
+#[inline(always)]
+pub fn write_u16(kind: u16, value: u16, out: &mut [u8]) -> usize
+    requires { 8 ≤ length out.old }
+    ensures { Writes (canon (record { kind = kind; payload = to_le_bytes w16 value })) out.old out.new result }
+{
+    write_value(kind, &value.to_le_bytes(), out)
+}
+
+/// Writes the attribute of this kind with a number of four bytes, lowest byte first.
+#[inline(always)]
+pub fn write_u32(kind: u16, value: u32, out: &mut [u8]) -> usize
+    requires { 8 ≤ length out.old }
+    ensures { Writes (canon (record { kind = kind; payload = to_le_bytes w32 value })) out.old out.new result }
+{
+    write_value(kind, &value.to_le_bytes(), out)
+}
+
+/// Writes the attribute of this kind with a number of eight bytes, lowest byte first.
+#[inline(always)]
+pub fn write_u64(kind: u16, value: u64, out: &mut [u8]) -> usize
+    requires { 12 ≤ length out.old }
+    ensures { Writes (canon (record { kind = kind; payload = to_le_bytes w64 value })) out.old out.new result }
+{
+    write_value(kind, &value.to_le_bytes(), out)
+}
+
+/// Writes the attribute of this kind with a signed number of four bytes, in two's complement.
+#[inline(always)]
+pub fn write_i32(kind: u16, value: i32, out: &mut [u8]) -> usize
+    requires { 8 ≤ length out.old }
+    ensures { Writes (canon (record { kind = kind; payload = to_le_bytes w32 (cast_unsigned w32 value) })) out.old out.new result }
+{
+    write_value(kind, &value.to_le_bytes(), out)
+}
