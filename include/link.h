@@ -8,7 +8,8 @@
  * - a pointer is not null and has at least as many bytes behind it as its length says; where the length is 0, any address
  *   but null will do. No length is above PTRDIFF_MAX.
  * - `out` overlaps no other argument. Arguments that are only read may overlap.
- * - nobody else writes the bytes that are read, or touches `out`, during the call.
+ * - nobody else writes the bytes that are read, or touches `out`, during the call. A text is measured first and written
+ *   then: bytes that change in between, in memory that another thread or process shares, can make it write past `out`.
  * Nothing is asked of the bytes themselves: any bytes get an answer.
  *
  * Calls share nothing, so they can run side by side in several threads. `link_canonical` and `link_same_message` take
@@ -25,7 +26,7 @@
 extern "C" {
 #endif
 
-/* What `out` needs for each byte that `link_canonical_into` reads. */
+/* A buffer with so many bytes for each byte of the message has room for every canonical text. */
 #define LINK_GROWTH 79
 
 /* The causes of a fault. `link_check` answers the one that is met first, front to back, each value before the next
@@ -57,8 +58,7 @@ int32_t link_check(const uint8_t *bytes, size_t len);
  * the text is never longer than LINK_GROWTH times `len`. */
 ptrdiff_t link_canonical(const uint8_t *bytes, size_t len, uint8_t *out, size_t cap);
 
-/* The same with no memory taken, where `cap` is at least LINK_GROWTH times `len`; else -5. It never answers -4. After
- * -1 and -5 `out` is as it was; after -2 and -3 what its bytes are is open. */
+/* The same with no memory taken, so that it never answers -4. */
 ptrdiff_t link_canonical_into(const uint8_t *bytes, size_t len, uint8_t *out, size_t cap);
 
 /* 1 where both mean the same message, 0 where they mean two; or the refusal, -1 to -4, of the first that is refused. */

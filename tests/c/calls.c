@@ -94,15 +94,17 @@ static void tells_short_buffers(void) {
     memset(out, 0x55, sizeof out);
     EXPECT(link_canonical(message, sizeof message, out, sizeof text - 1), LINK_OUT_TOO_SHORT);
     EXPECT(link_canonical(message, sizeof message, out, 0), LINK_OUT_TOO_SHORT);
-    EXPECT(link_canonical_into(message, sizeof message, out, sizeof out - 1), LINK_OUT_TOO_SHORT);
+    EXPECT(link_canonical_into(message, sizeof message, out, sizeof text - 1), LINK_OUT_TOO_SHORT);
+    EXPECT(link_canonical_into(message, sizeof message, out, 0), LINK_OUT_TOO_SHORT);
     const struct fault *fault = &faults[1];
-    EXPECT(link_canonical_into(fault->bytes, fault->len, out, LINK_GROWTH * fault->len - 1), LINK_OUT_TOO_SHORT);
+    EXPECT(link_canonical_into(fault->bytes, fault->len, out, 0), LINK_REFUSED);
     EXPECT(all_bytes_are(out, sizeof out, 0x55), 1);
     EXPECT(link_canonical(message, sizeof message, out, sizeof text), sizeof text);
     EXPECT(memcmp(out, text, sizeof text), 0);
     memset(out, 0x55, sizeof out);
-    EXPECT(link_canonical_into(message, sizeof message, out, sizeof out), sizeof text);
+    EXPECT(link_canonical_into(message, sizeof message, out, sizeof text), sizeof text);
     EXPECT(memcmp(out, text, sizeof text), 0);
+    EXPECT(all_bytes_are(out + sizeof text, sizeof out - sizeof text, 0x55), 1);
 }
 
 static void compares(void) {
@@ -146,6 +148,7 @@ static void refuses_empty_ports(void) {
     EXPECT(link_canonical(bytes, sizeof bytes, out, sizeof out), LINK_EMPTY_PORTS);
     EXPECT(all_bytes_are(out, sizeof out, 0x55), 1);
     EXPECT(link_canonical_into(bytes, sizeof bytes, out, sizeof out), LINK_EMPTY_PORTS);
+    EXPECT(all_bytes_are(out, sizeof out, 0x55), 1);
     EXPECT(link_same_message(bytes, sizeof bytes, faults[0].bytes, faults[0].len), LINK_EMPTY_PORTS);
 }
 

@@ -4,7 +4,7 @@ use crate::numbers::{AF_INET, AF_INET6, AF_MCTP};
 use crate::{AfSpecInet, AfSpecInet6, AfSpecMctp};
 use nla_wire::{
     CloneIn, DecodeError, DefaultNla, Exact, List, Nla, NlaBuffer, NlaRead, empty_list, list_fits,
-    nlas_buffer_len, nlas_fill, write_value,
+    list_measure, nlas_buffer_len, nlas_fill, write_list, write_value,
 };
 use std::alloc::Global;
 
@@ -65,6 +65,24 @@ impl Nla for AfSpecUnspec {
             AfSpecUnspec::Inet6(members) => nlas_fill(members.as_slice(), buffer),
             AfSpecUnspec::Mctp(members) => nlas_fill(members.as_slice(), buffer),
             AfSpecUnspec::Other(nla) => nla.fill_value(buffer),
+        }
+    }
+
+    fn measure(&self) -> Option<usize> {
+        match self {
+            AfSpecUnspec::Inet(members) => list_measure(members.as_slice()),
+            AfSpecUnspec::Inet6(members) => list_measure(members.as_slice()),
+            AfSpecUnspec::Mctp(members) => list_measure(members.as_slice()),
+            AfSpecUnspec::Other(nla) => nla.measure(),
+        }
+    }
+
+    fn write(&self, buffer: &mut [u8]) -> usize {
+        match self {
+            AfSpecUnspec::Inet(members) => write_list(AF_INET, members.as_slice(), buffer),
+            AfSpecUnspec::Inet6(members) => write_list(AF_INET6, members.as_slice(), buffer),
+            AfSpecUnspec::Mctp(members) => write_list(AF_MCTP, members.as_slice(), buffer),
+            AfSpecUnspec::Other(nla) => nla.write(buffer),
         }
     }
 }

@@ -1,14 +1,14 @@
 -- What the exported functions answer: numbers of at least 0, and refusals as minus their numbers.
-use Rattle.std.specs.Prelude.{◌≡◌, ◌≢◌, ℕ, ℤ, pos, negsuc, suc, ◌*◌, ◌<◌, ◌≤◌, Bool, List, length, Result, Ok, Err, if◌then◌else◌}
-use Rattle.nla_wire.specs.Sizes.{growth_per_byte}
+use Rattle.std.specs.Prelude.{◌≡◌, ◌≢◌, ℕ, ℤ, pos, negsuc, suc, ◌<◌, Bool, List, length, Result, Ok, Err, if◌then◌else◌}
 use Rattle.nla_wire.specs.Canon.{Writes}
 use Rattle.nla_wire.specs.declared.error.Cause.{Cause}
 use Rattle.nla_wire.specs.declared.error.Cause.TheVariants.{OutOfMemory}
 use Rattle.link_msg.specs.Messages.{Means, Refused, IsRefused}
-use Rattle.link_msg.specs.Canonical.{HasText, IsRefusal, IsRefusalOfTwo, AreSame, IsWritten}
+use Rattle.link_msg.specs.Canonical.{HasText, IsRefusal, IsRefusalOfTwo, AreSame, IsWithin}
 use Rattle.link_msg.specs.CanonErrors.{canon_error_number, SameRefusal}
 use Rattle.link_msg.specs.declared.message.LinkMessage.{LinkMessage}
 use Rattle.link_msg.specs.declared.canonical_text.CanonError.{CanonError}
+use Rattle.link_msg.specs.declared.canonical_text.RoomError.TheVariants as Rooms
 use Rattle.link_c.specs.declared.text.TextError.{TextError}
 use Rattle.link_c.specs.declared.text.TextError.TheVariants.{NoText, OutTooShort}
 
@@ -40,11 +40,11 @@ IsText b old new (Ok n) = (t : List ℕ) × HasText b t × Writes t old new n
 IsText b old new (Err (NoText e)) = IsRefusal b e × (new ≡ old)
 IsText b old new (Err OutTooShort) = ((t : List ℕ) × HasText b t × (length old < length t)) × (new ≡ old)
 
--- the same with no memory; the buffer has fewer than `growth_per_byte` bytes for each that was read, and is as it was
+-- the same with no memory
 abbrev pub IsTextInto : List ℕ → List ℕ → List ℕ → Result ℕ TextError → Type 0
-IsTextInto b old new (Ok n) = (growth_per_byte * length b ≤ length old) × IsWritten b old new (Ok n)
-IsTextInto b old new (Err (NoText e)) = (growth_per_byte * length b ≤ length old) × IsWritten b old new (Err e)
-IsTextInto b old new (Err OutTooShort) = (length old < growth_per_byte * length b) × (new ≡ old)
+IsTextInto b old new (Ok n) = IsWithin b old new (Ok n)
+IsTextInto b old new (Err (NoText e)) = IsWithin b old new (Err (Rooms.NoText e))
+IsTextInto b old new (Err OutTooShort) = (wanted : ℕ) × IsWithin b old new (Err (Rooms.NoRoom wanted))
 
 -- 1 where a and b mean the same message, 0 where they do not; or why one of them means none that can be written
 abbrev pub IsAlike : List ℕ → List ℕ → Result ℕ CanonError → Type 0

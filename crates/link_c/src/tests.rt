@@ -48,13 +48,13 @@ fn writes_with_memory(rt: HostRuntime) -> Result<(), Fail> {
 
 #[test]
 fn writes_with_no_memory(rt: HostRuntime) -> Result<(), Fail> {
-    let room = GROWTH * MESSAGE.len();
-    let mut out = vec![in rt.alloc(); 85u8; room]?;
-    assert_eq!(rt; write_canonical_into(&MESSAGE, out.as_mut_slice()), Ok(32));
-    assert!(rt; out.as_slice().starts_with(&TEXT));
-    assert_eq!(rt; code_without(rt.alloc(), room)?, 32);
-    assert_eq!(rt; code_without(rt.alloc(), room - 1)?, -5);
-    assert_eq!(rt; canonical_into_code(&MESSAGE[..15], out.as_mut_slice()), -1);
+    let mut out = [85; 40];
+    assert_eq!(rt; write_canonical_into(&MESSAGE, &mut out), Ok(32));
+    assert!(rt; out.starts_with(&TEXT));
+    assert!(rt; out.ends_with(&[85; 8]));
+    assert_eq!(rt; code_without(rt.alloc(), 32)?, 32);
+    assert_eq!(rt; code_without(rt.alloc(), 31)?, -5);
+    assert_eq!(rt; canonical_into_code(&MESSAGE[..15], &mut out), -1);
     Ok(())
 }
 

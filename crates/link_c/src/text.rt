@@ -5,12 +5,9 @@ ghost use Rattle.nla_wire.specs.Causes.{cause_number};
 ghost use Rattle.link_msg.specs.CanonErrors.{canon_error_number};
 ghost use Rattle.link_c.specs.Answers.{Says, IsLook, IsText, IsTextInto, IsAlike, SameError, text_error_number};
 
-use link_msg::{CanonError, LinkMessage, canonical, canonical_into, same_message};
+use link_msg::{CanonError, LinkMessage, RoomError, canonical, canonical_within, same_message};
 use std::alloc::Global;
 use thiserror::Error;
-
-/// How many bytes a buffer needs for each byte that is read.
-pub const GROWTH: usize = 79;
 
 /// Why no text stands in the buffer.
 #[derive(Clone, Copy, Debug, PartialEq, Eq, Error)]
@@ -85,14 +82,15 @@ pub fn write_canonical(alloc: Global, bytes: &[u8], out: &mut [u8]) -> Result<us
     Ok(text.len())
 }
 
-/// The same with no memory, where the buffer has at least `GROWTH` bytes for each that is read.
+/// The same with no memory.
 pub fn write_canonical_into(bytes: &[u8], out: &mut [u8]) -> Result<usize, TextError>
     ensures { IsTextInto bytes.now out.old out.new result }
 {
-    if out.len() / GROWTH < bytes.len() {
-        return Err(TextError::OutTooShort);
+    match canonical_within(bytes, out) {
+        Ok(len) => Ok(len),
+        Err(RoomError::NoText(error)) => Err(TextError::NoText(error)),
+        Err(RoomError::NoRoom { .. }) => Err(TextError::OutTooShort),
     }
-    Ok(canonical_into(bytes, out)?)
 }
 
 /// The length of the text that stands in the buffer, or minus the number of the refusal.
@@ -113,7 +111,7 @@ pub fn canonical_code(alloc: Global, bytes: &[u8], out: &mut [u8]) -> isize
     text_code(write_canonical(alloc, bytes, out))
 }
 
-/// The same with no memory; minus 5 where the buffer has fewer than `GROWTH` bytes for each that is read.
+/// The same with no memory.
 pub fn canonical_into_code(bytes: &[u8], out: &mut [u8]) -> isize
     ensures { Says text_error_number (IsTextInto bytes.now out.old out.new) result }
 {

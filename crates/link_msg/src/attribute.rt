@@ -102,7 +102,6 @@ use nla_wire::Text;
 use nla_wire::fill_bytes;
 use nla_wire::nlas_buffer_len;
 use nla_wire::nlas_fill;
-use nla_wire::nlas_fit;
 use std::alloc::Global;
 
 /// An attribute of a link message (linux/if_link.h, IFLA_*). Numbers are in host order.
@@ -263,7 +262,7 @@ impl Nla for LinkAttribute {
     }
 
     fn fits(&self) -> bool {
-        self.inside_fits() && self.len() <= 65531
+        self.view().1.measure().is_some()
     }
 
     fn value_len(&self) -> usize {
@@ -296,6 +295,17 @@ impl Nla for LinkAttribute {
             Content::Bridges(members) => nlas_fill(members, buffer),
             Content::Unspecs(members) => nlas_fill(members, buffer),
         }
+    }
+
+    #[inline(always)]
+    fn measure(&self) -> Option<usize> {
+        self.view().1.measure()
+    }
+
+    #[inline(always)]
+    fn write(&self, buffer: &mut [u8]) -> usize {
+        let (kind, content) = self.view();
+        content.write(kind, buffer)
     }
 }
 
@@ -484,31 +494,6 @@ impl LinkAttribute {
             LinkAttribute::Headroom(n) => (IFLA_HEADROOM, Content::Flat(Flat::U16(*n))),
             LinkAttribute::Tailroom(n) => (IFLA_TAILROOM, Content::Flat(Flat::U16(*n))),
             LinkAttribute::Other(nla) => (nla.kind(), Content::Flat(Flat::Bytes(nla.value()))),
-        }
-    }
-
-    /// Whether what is inside of it fits.
-    fn inside_fits(&self) -> bool
-        ensures { IsTrue result ↔ InsideFits self.now }
-    {
-        match self.view().1 {
-            Content::Id(id) => id.fits(),
-            Content::Mask(flags) => LinkExtentMask::sum_fits(flags),
-            Content::Event(event) => event.fits(),
-            Content::Port(members) => nlas_fit(members),
-            Content::Infos(members) => nlas_fit(members),
-            Content::Functions(members) => nlas_fit(members),
-            Content::Ports(members) => nlas_fit(members),
-            Content::Xdps(members) => nlas_fit(members),
-            Content::Props(members) => nlas_fit(members),
-            Content::Reasons(members) => nlas_fit(members),
-            Content::DevlinkPorts(members) => nlas_fit(members),
-            Content::DpllPins(members) => nlas_fit(members),
-            Content::BridgeInfos(members) => nlas_fit(members),
-            Content::Inet6Infos(members) => nlas_fit(members),
-            Content::Bridges(members) => nlas_fit(members),
-            Content::Unspecs(members) => nlas_fit(members),
-            _ => true,
         }
     }
 

@@ -30,7 +30,9 @@ ghost use Rattle.link_afspec.specs.Tables.{af_spec_inet_place, af_spec_inet6_pla
 ghost use Rattle.link_afspec.specs.declared.numbers.TheConstants.{IFLA_INET_CONF, IFLA_INET6_CONF, IFLA_INET6_STATS};
 ghost use Rattle.link_afspec.specs.declared.numbers.TheConstants.{IFLA_INET6_CACHEINFO, IFLA_INET6_ICMP6STATS};
 ghost use Rattle.link_msg.specs.declared.numbers.TheConstants.{IFLA_STATS, IFLA_STATS64, IFLA_MAP};
-ghost use Rattle.std.specs.Prelude.{◌≡◌, [], ◌∷◌};
+ghost use Rattle.std.specs.Prelude.{◌≡◌, ◌*◌, [], ◌∷◌, length};
+ghost use Rattle.nla_wire.specs.Sizes.{growth_per_byte};
+ghost use Rattle.link_msg.specs.Canonical.{HoldsText};
 ghost use Rattle.nla_wire.specs.Canon.{canon};
 ghost use Rattle.link_msg.specs.declared.attribute.LinkAttribute.TheVariants as Attributes;
 ghost use Rattle.link_msg.specs.Tables.{attribute_place, attribute_frame};
@@ -53,6 +55,11 @@ pub fn law_canonical_twice()
     ensures only_with_ports { OnlyWithPorts }
     ensures same_text { SameTextSameMessage }
     ensures twice { CanonicalTwice }
+{}
+
+/// `growth_per_byte` bytes of buffer for each byte of a message are room for its canonical text.
+pub fn law_room(input: &[u8])
+    ensures { HoldsText input.now (growth_per_byte * length input.now) }
 {}
 
 /// The sum of the list of an extent mask is the mask.

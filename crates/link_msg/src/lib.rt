@@ -5,6 +5,7 @@
 
 pub mod attribute;
 pub mod canonical_text;
+mod content;
 mod family;
 pub mod header;
 pub mod laws;
@@ -17,8 +18,11 @@ pub mod table;
 pub use attribute::LinkAttribute;
 pub use canonical_text::CANONICAL_FORM;
 pub use canonical_text::CanonError;
+pub use canonical_text::RoomError;
 pub use canonical_text::canonical;
 pub use canonical_text::canonical_into;
+pub use canonical_text::canonical_len;
+pub use canonical_text::canonical_within;
 pub use canonical_text::same_message;
 pub use canonical_text::same_refusal;
 pub use header::LinkHeader;

@@ -12,7 +12,8 @@ use crate::attribute::LinkAttribute;
 use crate::header::{HEADER_SIZE, LinkHeader, LinkMessageBuffer};
 use nla_wire::fields::too_short;
 use nla_wire::{
-    CloneIn, DecodeError, Exact, List, fill_bytes, nlas_buffer_len, nlas_fill, nlas_fit,
+    CloneIn, DecodeError, Exact, List, fill_bytes, nlas_buffer_len, nlas_fill, nlas_measure,
+    nlas_write,
 };
 use std::alloc::Global;
 
@@ -109,8 +110,10 @@ impl LinkMessage {
     pub fn fits(&self) -> bool
         ensures { IsTrue result ↔ MessageFits self.now }
     {
-        let attributes = self.attributes.as_slice();
-        nlas_fit(attributes) && nlas_buffer_len(attributes) <= usize::MAX - HEADER_SIZE
+        match nlas_measure(self.attributes.as_slice()) {
+            Some(len) => len <= usize::MAX - HEADER_SIZE,
+            None => false,
+        }
     }
 
     /// The length of the canonical text.
@@ -142,8 +145,8 @@ impl LinkMessage {
         requires room { length (message_text self.now) ≤ length buffer.old }
         ensures { buffer.new ≡ message_text self.now ++ drop (length (message_text self.now)) buffer.old }
     {
-        let len = self.buffer_len();
-        let _start = self.fill(&mut buffer[..len]);
+        self.header.emit(buffer);
+        let _len = nlas_write(self.attributes.as_slice(), &mut buffer[HEADER_SIZE..]);
     }
 
     /// Whether some attribute is an empty list of ports, which can be read and not written.

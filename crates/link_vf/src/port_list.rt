@@ -12,8 +12,9 @@ use crate::VfPort;
 use crate::numbers::IFLA_VF_PORT;
 use nla_wire::{
     CloneIn, DecodeError, Exact, List, Nla, NlaBuffer, NlaRead, Place, check_picked_members,
-    empty_list, list_fits, measure_nested_picked_members, measure_picked_members, nlas_buffer_len,
-    nlas_fill, parse_picked_members, write_nested_picked_members, write_picked_members,
+    empty_list, list_fits, list_measure, measure_nested_picked_members, measure_picked_members,
+    nlas_buffer_len, nlas_fill, parse_picked_members, write_list, write_nested_picked_members,
+    write_picked_members,
 };
 use std::alloc::Global;
 
@@ -188,6 +189,14 @@ impl Nla for LinkVfPort {
 
     fn fill_value(&self, buffer: &mut [u8]) -> usize {
         nlas_fill(self.0.as_slice(), buffer)
+    }
+
+    fn measure(&self) -> Option<usize> {
+        list_measure(self.0.as_slice())
+    }
+
+    fn write(&self, buffer: &mut [u8]) -> usize {
+        write_list(IFLA_VF_PORT, self.0.as_slice(), buffer)
     }
 }
 

@@ -2,7 +2,8 @@
 
 ghost use Rattle.std.specs.Prelude.{◌≡◌, ◌≢◌, ◌+◌, ◌*◌, ◌≤◌, length, Ok, IfOk, IfSome, MatchOption};
 ghost use Rattle.nla_wire.specs.Frames.{number};
-ghost use Rattle.nla_wire.specs.Canon.{canon};
+ghost use Rattle.nla_wire.specs.Sizes.{most_payload};
+ghost use Rattle.nla_wire.specs.Canon.{Measures};
 ghost use Rattle.nla_wire.specs.Gives.{without_place};
 ghost use Rattle.link_vfrec.specs.Records.{vf_info_mac_bytes, vf_info_broadcast_bytes};
 ghost use Rattle.link_vf.specs.Tables.{vf_info_place};
@@ -23,7 +24,7 @@ use link_vfrec::{
 use nla_wire::error::checked;
 use nla_wire::{
     CloneIn, DecodeError, DefaultNla, Exact, List, Nla, NlaBuffer, NlaRead, Record, fill_bytes,
-    list_fits, nlas_buffer_len, nlas_fill, write_value,
+    list_fits, list_measure, nlas_buffer_len, nlas_fill, write_list, write_value,
 };
 use std::alloc::Global;
 
@@ -164,6 +165,59 @@ impl Nla for VfInfo {
             VfInfo::Other(nla) => nla.fill_value(buffer),
         }
     }
+
+    fn measure(&self) -> Option<usize> {
+        match self {
+            VfInfo::Mac(mac) => at_most_value(mac_len(mac)),
+            VfInfo::Vlan(vlan) => Some(vlan.buffer_len()),
+            VfInfo::TxRate(rate) => Some(rate.buffer_len()),
+            VfInfo::SpoofCheck(check) => Some(check.buffer_len()),
+            VfInfo::LinkState(state) => Some(state.buffer_len()),
+            VfInfo::Rate(rate) => Some(rate.buffer_len()),
+            VfInfo::RssQueryEn(query) => Some(query.buffer_len()),
+            VfInfo::Trust(trust) => Some(trust.buffer_len()),
+            VfInfo::IbNodeGuid(guid) => Some(guid.buffer_len()),
+            VfInfo::IbPortGuid(guid) => Some(guid.buffer_len()),
+            VfInfo::Stats(members) => list_measure(members.as_slice()),
+            VfInfo::VlanList(members) => list_measure(members.as_slice()),
+            VfInfo::Broadcast(broadcast) => at_most_value(broadcast_len(broadcast)),
+            VfInfo::Other(nla) => nla.measure(),
+        }
+    }
+
+    fn write(&self, buffer: &mut [u8]) -> usize {
+        match self {
+            VfInfo::Mac(mac) => write_value(
+                IFLA_VF_MAC,
+                VfInfoMacBuffer::from(mac).as_bytes(),
+                buffer,
+            ),
+            VfInfo::Vlan(vlan) => vlan.write_attribute(IFLA_VF_VLAN, buffer),
+            VfInfo::TxRate(rate) => rate.write_attribute(IFLA_VF_TX_RATE, buffer),
+            VfInfo::SpoofCheck(check) => check.write_attribute(IFLA_VF_SPOOFCHK, buffer),
+            VfInfo::LinkState(state) => state.write_attribute(IFLA_VF_LINK_STATE, buffer),
+            VfInfo::Rate(rate) => rate.write_attribute(IFLA_VF_RATE, buffer),
+            VfInfo::RssQueryEn(query) => query.write_attribute(IFLA_VF_RSS_QUERY_EN, buffer),
+            VfInfo::Trust(trust) => trust.write_attribute(IFLA_VF_TRUST, buffer),
+            VfInfo::IbNodeGuid(guid) => guid.write_attribute(IFLA_VF_IB_NODE_GUID, buffer),
+            VfInfo::IbPortGuid(guid) => guid.write_attribute(IFLA_VF_IB_PORT_GUID, buffer),
+            VfInfo::Stats(members) => write_list(IFLA_VF_STATS, members.as_slice(), buffer),
+            VfInfo::VlanList(members) => write_list(IFLA_VF_VLAN_LIST, members.as_slice(), buffer),
+            VfInfo::Broadcast(broadcast) => write_value(
+                IFLA_VF_BROADCAST,
+                VfInfoBroadcastBuffer::from(broadcast).as_bytes(),
+                buffer,
+            ),
+            VfInfo::Other(nla) => nla.write(buffer),
+        }
+    }
+}
+
+/// A length that the value of an attribute may have, or `None`.
+fn at_most_value(len: usize) -> Option<usize>
+    ensures { Measures (len ≤ most_payload) len result }
+{
+    if len <= 65531 { Some(len) } else { None }
 }
 
 /// The record that an attribute is, if its number is one of a record: no memory is taken.
@@ -215,13 +269,22 @@ impl NlaRead for VfInfo {
 
     #[tactic(auto, unfolding(crate::specs::Tables::vf_info_place))]
     fn check_frame(buffer: &NlaBuffer<'_>) -> Result<(), DecodeError> {
+        let payload = buffer.value();
         match buffer.kind() {
-            IFLA_VF_STATS => VfStats::check_list(buffer.value()),
-            IFLA_VF_VLAN_LIST => VfVlan::check_list(buffer.value()),
-            _ => match read_record(buffer) {
-                Some(info) => checked(info),
-                None => Ok(()),
-            },
+            IFLA_VF_STATS => VfStats::check_list(payload),
+            IFLA_VF_VLAN_LIST => VfVlan::check_list(payload),
+            IFLA_VF_MAC => checked(VfInfoMac::parse(payload)),
+            IFLA_VF_VLAN => checked(VfInfoVlan::parse(payload)),
+            IFLA_VF_TX_RATE => checked(VfInfoTxRate::parse(payload)),
+            IFLA_VF_SPOOFCHK => checked(VfInfoSpoofCheck::parse(payload)),
+            IFLA_VF_LINK_STATE => checked(VfInfoLinkState::parse(payload)),
+            IFLA_VF_RATE => checked(VfInfoRate::parse(payload)),
+            IFLA_VF_RSS_QUERY_EN => checked(VfInfoRssQueryEn::parse(payload)),
+            IFLA_VF_TRUST => checked(VfInfoTrust::parse(payload)),
+            IFLA_VF_IB_NODE_GUID => checked(VfInfoGuid::parse(payload)),
+            IFLA_VF_IB_PORT_GUID => checked(VfInfoGuid::parse(payload)),
+            IFLA_VF_BROADCAST => checked(VfInfoBroadcast::parse(payload)),
+            _ => Ok(()),
         }
     }
 
