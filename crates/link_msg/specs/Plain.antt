@@ -1,4 +1,5 @@
--- The numbers that are read with no room on the stack for a value: those of numbers, ids and records.
+-- The numbers that are read apart from the others: those of numbers, ids and records, with no room on the stack for a
+-- value, and those of bytes and texts.
 use Rattle.std.specs.Prelude.{◌≢◌, ℕ}
 use Rattle.link_msg.specs.declared.numbers.TheConstants.{IFLA_MTU, IFLA_LINK, IFLA_STATS, IFLA_MASTER, IFLA_TXQLEN}
 use Rattle.link_msg.specs.declared.numbers.TheConstants.{IFLA_MAP, IFLA_OPERSTATE, IFLA_LINKMODE, IFLA_NET_NS_PID}
@@ -11,7 +12,10 @@ use Rattle.link_msg.specs.declared.numbers.TheConstants.{IFLA_NEW_NETNSID, IFLA_
 use Rattle.link_msg.specs.declared.numbers.TheConstants.{IFLA_CARRIER_DOWN_COUNT, IFLA_NEW_IFINDEX, IFLA_MIN_MTU}
 use Rattle.link_msg.specs.declared.numbers.TheConstants.{IFLA_MAX_MTU, IFLA_GRO_MAX_SIZE, IFLA_TSO_MAX_SIZE}
 use Rattle.link_msg.specs.declared.numbers.TheConstants.{IFLA_TSO_MAX_SEGS, IFLA_ALLMULTI, IFLA_GSO_IPV4_MAX_SIZE}
-use Rattle.link_msg.specs.declared.numbers.TheConstants.{IFLA_GRO_IPV4_MAX_SIZE, IFLA_NETNS_IMMUTABLE}
+use Rattle.link_msg.specs.declared.numbers.TheConstants.{IFLA_GRO_IPV4_MAX_SIZE, IFLA_NETNS_IMMUTABLE, IFLA_ADDRESS}
+use Rattle.link_msg.specs.declared.numbers.TheConstants.{IFLA_BROADCAST, IFLA_IFNAME, IFLA_QDISC, IFLA_IFALIAS}
+use Rattle.link_msg.specs.declared.numbers.TheConstants.{IFLA_PHYS_PORT_NAME, IFLA_PERM_ADDRESS, IFLA_PARENT_DEV_NAME}
+use Rattle.link_msg.specs.declared.numbers.TheConstants.{IFLA_PARENT_DEV_BUS_NAME}
 
 -- the number is none of these
 abbrev pub NotPlain : ℕ → Type 0
@@ -55,3 +59,16 @@ NotPlain n =
     × (n ≢ IFLA_GSO_IPV4_MAX_SIZE)
     × (n ≢ IFLA_GRO_IPV4_MAX_SIZE)
     × (n ≢ IFLA_NETNS_IMMUTABLE)
+
+-- nor one of these, which are bytes and texts
+abbrev pub NotText : ℕ → Type 0
+NotText n =
+    (n ≢ IFLA_ADDRESS)
+    × (n ≢ IFLA_BROADCAST)
+    × (n ≢ IFLA_IFNAME)
+    × (n ≢ IFLA_QDISC)
+    × (n ≢ IFLA_IFALIAS)
+    × (n ≢ IFLA_PHYS_PORT_NAME)
+    × (n ≢ IFLA_PERM_ADDRESS)
+    × (n ≢ IFLA_PARENT_DEV_NAME)
+    × (n ≢ IFLA_PARENT_DEV_BUS_NAME)

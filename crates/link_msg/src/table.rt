@@ -119,7 +119,7 @@ use nla_wire::write_value;
 use std::alloc::Global;
 
 impl LinkAttribute {
-    ghost use Rattle.link_msg.specs.Plain.{NotPlain};
+    ghost use Rattle.link_msg.specs.Plain.{NotPlain, NotText};
     ghost use Rattle.link_msg.specs.Tables.{attribute_place, attribute_frame, AttributeFits, Values};
     ghost use Rattle.link_msg.specs.Canonical.{ListWeighs};
 
@@ -316,7 +316,8 @@ impl LinkAttribute {
         }
     }
 
-    /// Reads a frame whose number `read_into` does not read by itself.
+    /// Reads a frame whose number `read_into` does not read by itself: bytes and texts are read here, since a function's
+    /// room on the stack is cleared for all of its arms when it is entered.
     #[inline(never)]
     #[tactic(auto, unfolding(crate::specs::Tables::attribute_view, crate::specs::Tables::attribute_entries, crate::specs::Tables::attribute_place))]
     fn read_other_into(
@@ -347,6 +348,51 @@ impl LinkAttribute {
                 values.push_reserved(LinkAttribute::Qdisc(parse_string(alloc, payload)?));
                 Ok(())
             }
+            IFLA_IFALIAS => {
+                values.push_reserved(LinkAttribute::IfAlias(parse_string(alloc, payload)?));
+                Ok(())
+            }
+            IFLA_PHYS_PORT_NAME => {
+                values.push_reserved(LinkAttribute::PhysPortName(parse_string(alloc, payload)?));
+                Ok(())
+            }
+            IFLA_PERM_ADDRESS => {
+                values.push_reserved(LinkAttribute::PermAddress(Bytes::from_slice(
+                    alloc, payload,
+                )?));
+                Ok(())
+            }
+            IFLA_PARENT_DEV_NAME => {
+                values.push_reserved(LinkAttribute::ParentDevName(parse_string(alloc, payload)?));
+                Ok(())
+            }
+            IFLA_PARENT_DEV_BUS_NAME => {
+                values.push_reserved(LinkAttribute::ParentDevBusName(parse_string(
+                    alloc, payload,
+                )?));
+                Ok(())
+            }
+            _ => LinkAttribute::read_nested_into(alloc, buffer, family, values),
+        }
+    }
+
+    /// Reads a frame whose number neither of the two above reads: lists, events, masks, what its size or the family
+    /// decides, and frames that are kept.
+    #[inline(never)]
+    #[tactic(auto, unfolding(crate::specs::Tables::attribute_view, crate::specs::Tables::attribute_entries, crate::specs::Tables::attribute_place))]
+    fn read_nested_into(
+        alloc: Global,
+        buffer: &NlaBuffer<'_>,
+        family: AddressFamily,
+        values: &mut Vec<LinkAttribute>,
+    ) -> Result<(), DecodeError>
+        requires room { vec_len values.old < vec_capacity values.old }
+        requires other { NotPlain (number buffer.now) }
+        requires nested { NotText (number buffer.now) }
+        ensures { Adds result ((attribute_place family).reads buffer.now) values.old.items values.new.items }
+    {
+        let payload = buffer.value();
+        match buffer.kind() {
             IFLA_WIRELESS => {
                 values.push_reserved(LinkAttribute::Wireless(WirelessEvent::parse(
                     alloc, payload,
@@ -355,10 +401,6 @@ impl LinkAttribute {
             }
             IFLA_LINKINFO => {
                 values.push_reserved(LinkAttribute::LinkInfo(parse_some(alloc, payload)?));
-                Ok(())
-            }
-            IFLA_IFALIAS => {
-                values.push_reserved(LinkAttribute::IfAlias(parse_string(alloc, payload)?));
                 Ok(())
             }
             IFLA_VFINFO_LIST => {
@@ -379,10 +421,6 @@ impl LinkAttribute {
                 values.push_reserved(LinkAttribute::ExtMask(parse_mask(alloc, payload)?));
                 Ok(())
             }
-            IFLA_PHYS_PORT_NAME => {
-                values.push_reserved(LinkAttribute::PhysPortName(parse_string(alloc, payload)?));
-                Ok(())
-            }
             IFLA_XDP => {
                 values.push_reserved(LinkAttribute::Xdp(parse_some(alloc, payload)?));
                 Ok(())
@@ -393,26 +431,10 @@ impl LinkAttribute {
                 )?)));
                 Ok(())
             }
-            IFLA_PERM_ADDRESS => {
-                values.push_reserved(LinkAttribute::PermAddress(Bytes::from_slice(
-                    alloc, payload,
-                )?));
-                Ok(())
-            }
             IFLA_PROTO_DOWN_REASON => {
                 values.push_reserved(LinkAttribute::ProtoDownReason(List::new(
                     LinkProtocolDownReason::parse_list(alloc, payload)?,
                 )));
-                Ok(())
-            }
-            IFLA_PARENT_DEV_NAME => {
-                values.push_reserved(LinkAttribute::ParentDevName(parse_string(alloc, payload)?));
-                Ok(())
-            }
-            IFLA_PARENT_DEV_BUS_NAME => {
-                values.push_reserved(LinkAttribute::ParentDevBusName(parse_string(
-                    alloc, payload,
-                )?));
                 Ok(())
             }
             IFLA_DEVLINK_PORT => {

@@ -1,7 +1,7 @@
 use Rattle.std.proofs.Common.{rules}
 use Rattle.link_msg.specs.Tables.{attribute_view, attribute_entries}
 use Rattle.link_msg.proofs.Shaped.{adds_other}
-use Rattle.link_msg.proofs.attribute.LinkAttribute.read_other_into.Goals as goal
+use Rattle.link_msg.proofs.attribute.LinkAttribute.read_nested_into.Goals as goal
 
 pub returns-in_ok-parse-in_default : goal.returns-in_ok-parse-in_default
 unfolding attribute_view attribute_entries
