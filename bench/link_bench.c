@@ -184,6 +184,5 @@ int main(int argc, char **argv) {
         printf("%-20s %12.0f %10.0f\n", calls[i].name, took / MESSAGES * 1e9, starts[MESSAGES] / took * 1e-6);
     }
     printf("link_check / link_canonical_into      %.2f (at most 0.50 is wanted)\n", calls[1].best / calls[2].best);
-    printf("link_canonical_into / link_canonical  %.2f (at most 0.50 is wanted)\n", calls[2].best / calls[3].best);
     return 0;
 }

@@ -8,7 +8,7 @@ use link_recs::map::MAP_SIZE;
 use link_recs::stats::STATS_SIZE;
 use link_recs::stats64::STATS64_SIZE;
 use link_recs::*;
-use nla_wire::NLA_HEADER_SIZE;
+use nla_wire::{NLA_HEADER_SIZE, PlainRecord, Record};
 
 fn put(buffer: &mut [u8], bytes: &[(usize, u8)]) {
     for (place, byte) in bytes {
@@ -231,44 +231,50 @@ fn records_of_the_kernel_are_filled_up(rt: HostRuntime) {
 #[test]
 fn payloads_are_cut_or_filled_up(rt: HostRuntime) {
     let mut out = [255; NLA_HEADER_SIZE + INET6_STATS_SIZE + 1];
+    assert!(rt; Stats::measure_filled(&[1]) == Some(STATS_SIZE));
     wrote(
         &rt,
-        Stats::canon(7, &[1], &mut out),
+        Stats::write_filled(7, &[1], &mut out),
         NLA_HEADER_SIZE + STATS_SIZE,
         &out,
         &[100, 0, 7, 0, 1, 0],
     );
+    assert!(rt; Stats64::measure_filled(&[2]) == Some(STATS64_SIZE));
     wrote(
         &rt,
-        Stats64::canon(23, &[2], &mut out),
+        Stats64::write_filled(23, &[2], &mut out),
         NLA_HEADER_SIZE + STATS64_SIZE,
         &out,
         &[204, 0, 23, 0, 2, 0],
     );
+    assert!(rt; InetDevConf::measure_filled(&[3]) == Some(INET_DEV_CONF_SIZE));
     wrote(
         &rt,
-        InetDevConf::canon(1, &[3], &mut out),
+        InetDevConf::write_filled(1, &[3], &mut out),
         NLA_HEADER_SIZE + INET_DEV_CONF_SIZE,
         &out,
         &[140, 0, 1, 0, 3, 0],
     );
+    assert!(rt; Inet6DevConf::measure_filled(&[4]) == Some(INET6_DEV_CONF_SIZE));
     wrote(
         &rt,
-        Inet6DevConf::canon(2, &[4], &mut out),
+        Inet6DevConf::write_filled(2, &[4], &mut out),
         NLA_HEADER_SIZE + INET6_DEV_CONF_SIZE,
         &out,
         &[244, 0, 2, 0, 4, 0],
     );
+    assert!(rt; Inet6Stats::measure_filled(&[5]) == Some(INET6_STATS_SIZE));
     wrote(
         &rt,
-        Inet6Stats::canon(3, &[5], &mut out),
+        Inet6Stats::write_filled(3, &[5], &mut out),
         NLA_HEADER_SIZE + INET6_STATS_SIZE,
         &out,
         &[60, 1, 3, 0, 5, 0],
     );
+    assert!(rt; Icmp6Stats::measure_filled(&[6]) == Some(ICMP6_STATS_SIZE));
     wrote(
         &rt,
-        Icmp6Stats::canon(6, &[6], &mut out),
+        Icmp6Stats::write_filled(6, &[6], &mut out),
         NLA_HEADER_SIZE + ICMP6_STATS_SIZE,
         &out,
         &[60, 0, 6, 0, 6, 0],
@@ -276,21 +282,24 @@ fn payloads_are_cut_or_filled_up(rt: HostRuntime) {
 }
 
 #[test]
+#[tactic(auto, unfolding(nla_wire::specs::Payloads::read_sized))]
 fn payloads_are_written_as_records(rt: HostRuntime) {
     let mut out = [255; NLA_HEADER_SIZE + MAP_SIZE + 1];
     let info = [7; INET6_CACHE_INFO_SIZE + 1];
+    assert!(rt; Inet6CacheInfo::measure_sized(&info) == Some(INET6_CACHE_INFO_SIZE));
     wrote(
         &rt,
-        Inet6CacheInfo::canon(5, &info, &mut out),
+        Inet6CacheInfo::write_sized(5, &info, &mut out),
         NLA_HEADER_SIZE + INET6_CACHE_INFO_SIZE,
         &out,
         &[20, 0, 5, 0, 7],
     );
     assert!(rt; out[19] == 7 && out[20] == 255);
     let map = [8; MAP_SIZE];
+    assert!(rt; Map::measure_sized(&map) == Some(MAP_SIZE));
     wrote(
         &rt,
-        Map::canon(14, &map, &mut out),
+        Map::write_sized(14, &map, &mut out),
         NLA_HEADER_SIZE + MAP_SIZE,
         &out,
         &[36, 0, 14, 0, 8],

@@ -9,6 +9,8 @@ mod function_records;
 #[cfg(test)]
 mod kernel_records;
 #[cfg(test)]
+mod record_attributes;
+#[cfg(test)]
 mod testing;
 #[cfg(test)]
 mod wire_attributes;
@@ -17,7 +19,11 @@ mod wire_fields;
 #[cfg(test)]
 mod wire_frames;
 #[cfg(test)]
+mod wire_measured;
+#[cfg(test)]
 mod wire_numbers;
+#[cfg(test)]
+mod wire_stores;
 #[cfg(test)]
 mod wire_values;
 #[cfg(test)]

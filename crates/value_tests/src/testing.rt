@@ -1,15 +1,10 @@
 //! What the tests share.
 
-use link_recs::inet6_stats::INET6_STATS_SIZE;
 use nla_wire::exact::same;
-use nla_wire::{Cause, CloneIn, DecodeError, Exact, NLA_HEADER_SIZE};
+use nla_wire::{Cause, CloneIn, DecodeError, Exact};
 use std::alloc::Global;
 use std::fmt::{Debug, Display};
 use std::process::Abort;
-
-/// The bytes of buffer that a call with no memory asks for each byte that it reads: a header alone may become one of
-/// the longest record.
-pub(crate) const GROWTH: usize = (NLA_HEADER_SIZE + INET6_STATS_SIZE) / NLA_HEADER_SIZE;
 
 /// The bytes are these.
 pub(crate) fn are(rt: &impl Abort, bytes: &[u8], wanted: &[u8]) {
@@ -95,8 +90,23 @@ pub(crate) fn prints_as<T: Debug>(rt: &impl Abort, alloc: Global, value: &T, wan
     assert!(rt; text.as_str() == wanted);
 }
 
+/// This text was written to the front of a buffer of 255, whose other bytes are kept.
+pub(crate) fn stored(rt: &impl Abort, len: usize, out: &[u8], text: &[u8]) {
+    assert_eq!(rt; len, text.len());
+    begin(rt, out, text);
+    for byte in out.iter().skip(len) {
+        assert!(rt; *byte == 255);
+    }
+}
+
 /// So many bytes were written, which begin with these.
-pub(crate) fn wrote(rt: &impl Abort, len: Option<usize>, wanted: usize, out: &[u8], front: &[u8]) {
-    assert!(rt; len == Some(wanted));
+pub(crate) fn wrote(rt: &impl Abort, len: usize, wanted: usize, out: &[u8], front: &[u8]) {
+    assert_eq!(rt; len, wanted);
     begin(rt, out, front);
+}
+
+/// A payload of so many bytes was measured, where only one of the wanted length has a text.
+pub(crate) fn fits_in(rt: &impl Abort, found: Option<usize>, len: usize, wanted: usize) {
+    let answer = if len == wanted { Some(wanted) } else { None };
+    assert_eq!(rt; found, answer, "at {len}");
 }

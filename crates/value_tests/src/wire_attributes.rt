@@ -84,7 +84,7 @@ fn writes_no_attributes(rt: HostRuntime) {
 #[test]
 fn closes_frames(rt: HostRuntime) {
     let mut out = [255; 9];
-    assert!(rt; close(&mut out, 2, 0x8003) == Some(8));
+    assert!(rt; finish(&mut out, 2, 0x8003) == 8);
     are(&rt, &out, &[6, 0, 3, 0x80, 255, 255, 0, 0, 255]);
     let mut end = [255; 9];
     assert!(rt; close_frame(&mut end, 7, 0x8003) == 1);

@@ -1,68 +1,134 @@
-//! Attributes written again from payloads, with no memory.
+//! Attributes measured and written again from payloads, with no memory.
 
-use crate::testing::{GROWTH, got, wrote};
-use nla_wire::Nla;
-use nla_wire::canon::{
-    canon_bytes, canon_filled, canon_i32, canon_ipv6_addr, canon_of, canon_text, canon_u8,
-    canon_u16, canon_u32, canon_u64, canon_value,
-};
-use nla_wire::default_nla::DefaultNla;
-
-/// An attribute of kind 1 with its padding.
-const KEPT: [u8; 8] = [5, 0, 1, 0, 7, 0, 0, 0];
+use crate::testing::{are, begin, fits_in, got, stored};
+use nla_wire::*;
+use std::alloc::Global;
+use std::process::Abort;
 
 #[test]
 fn writes_short_payloads(rt: HostRuntime) {
-    let mut out = [255; 1001];
-    let len = canon_text(3, b"lo\0", &mut out);
-    wrote(&rt, len, 8, &out, &[7, 0, 3, 0, 0x6c, 0x6f, 0, 0]);
-    let len = canon_u8(1, &[7], &mut out);
-    wrote(&rt, len, 8, &out, &KEPT);
-    let len = canon_bytes(1, &[7], &mut out);
-    wrote(&rt, len, 8, &out, &KEPT);
-    let len = canon_u16(68, &[1, 2], &mut out);
-    wrote(&rt, len, 8, &out, &[6, 0, 68, 0, 1, 2, 0, 0]);
-    let len = canon_u32(4, &[0xdc, 5, 0, 0], &mut out);
-    wrote(&rt, len, 8, &out, &[8, 0, 4, 0, 0xdc, 5, 0, 0]);
+    let mut out = [255; 9];
+    let len = write_text_payload(3, b"lo\0", &mut out);
+    stored(&rt, len, &out, &[7, 0, 3, 0, 0x6c, 0x6f, 0, 0]);
+    let len = write_u8_payload(1, &[7], &mut out);
+    stored(&rt, len, &out, &[5, 0, 1, 0, 7, 0, 0, 0]);
+    let len = write_u16_payload(68, &[1, 2], &mut out);
+    stored(&rt, len, &out, &[6, 0, 68, 0, 1, 2, 0, 0]);
+    let len = write_u32_payload(4, &[0xdc, 5, 0, 0], &mut out);
+    stored(&rt, len, &out, &[8, 0, 4, 0, 0xdc, 5, 0, 0]);
+    let len = write_i32_payload(28, &[255; 4], &mut out);
+    stored(&rt, len, &out, &[8, 0, 28, 0, 255, 255, 255, 255]);
 }
 
 #[test]
 fn writes_long_payloads(rt: HostRuntime) {
-    let mut out = [255; 20 * GROWTH];
-    let len = canon_i32(28, &[255; 4], &mut out);
-    wrote(&rt, len, 8, &out, &[8, 0, 28, 0, 255, 255, 255, 255]);
-    let len = canon_u64(0, &[1, 0, 0, 0, 0, 0, 0, 2], &mut out);
-    wrote(&rt, len, 12, &out, &[12, 0, 0, 0, 1, 0, 0, 0, 0, 0, 0, 2]);
-    let len = canon_ipv6_addr(7, &[1; 16], &mut out);
-    wrote(&rt, len, 20, &out, &[20, 0, 7, 0, 1, 1, 1, 1]);
+    let mut out = [255; 13];
+    let len = write_u64_payload(0, &[1, 0, 0, 0, 0, 0, 0, 2], &mut out);
+    stored(&rt, len, &out, &[12, 0, 0, 0, 1, 0, 0, 0, 0, 0, 0, 2]);
+    let mut out = [255; 21];
+    let len = write_ipv6_addr_payload(7, &[1; 16], &mut out);
+    let text = [20, 0, 7, 0, 1, 1, 1, 1, 1, 1, 1, 1, 1, 1, 1, 1, 1, 1, 1, 1];
+    stored(&rt, len, &out, &text);
 }
 
 #[test]
+#[tactic(auto, unfolding(nla_wire::specs::Fields::zero_filled))]
 fn cuts_and_fills_payloads(rt: HostRuntime) {
     let mut out = [255; 16];
-    let len = canon_filled(7, 4, &[1, 2], &mut out);
-    wrote(&rt, len, 8, &out, &[8, 0, 7, 0, 1, 2, 0, 0, 255]);
-    let len = canon_filled(7, 4, &[1, 2, 3, 4, 5], &mut out);
-    wrote(&rt, len, 8, &out, &[8, 0, 7, 0, 1, 2, 3, 4, 255]);
+    let len = write_filled_payload(7, 4, &[1, 2], &mut out);
+    stored(&rt, len, &out, &[8, 0, 7, 0, 1, 2, 0, 0]);
+    let len = write_filled_payload(7, 4, &[1, 2, 3, 4, 5], &mut out);
+    stored(&rt, len, &out, &[8, 0, 7, 0, 1, 2, 3, 4]);
+    let len = write_filled_payload(7, 4, &[], &mut out);
+    stored(&rt, len, &out, &[8, 0, 7, 0, 0, 0, 0, 0]);
+    let len = write_filled_payload(7, 5, &[1, 2], &mut out);
+    stored(&rt, len, &out, &[9, 0, 7, 0, 1, 2, 0, 0, 0, 0, 0, 0]);
+}
+
+/// A text of the payload's bytes is written with one NUL, whether the payload ends in one or not.
+#[test]
+fn writes_texts_of_payloads(rt: HostRuntime) {
+    for payload in [b"wan0\0".as_slice(), b"wan0".as_slice()] {
+        let mut out = [255; 13];
+        assert!(rt; measure_text(payload) == Some(5));
+        let len = write_text_payload(53, payload, &mut out);
+        stored(
+            &rt,
+            len,
+            &out,
+            &[9, 0, 53, 0, 0x77, 0x61, 0x6e, 0x30, 0, 0, 0, 0],
+        );
+    }
+}
+
+/// Of numbers and addresses only payloads of their own length have one.
+#[test]
+fn measures_numbers_and_addresses(rt: HostRuntime) {
+    let zeros = [0; 18];
+    for len in 0..18 {
+        let payload = &zeros[..len];
+        fits_in(&rt, measure_u8(payload), len, 1);
+        fits_in(&rt, measure_u16(payload), len, 2);
+        fits_in(&rt, measure_u32(payload), len, 4);
+        fits_in(&rt, measure_u64(payload), len, 8);
+        fits_in(&rt, measure_i32(payload), len, 4);
+        fits_in(&rt, measure_ipv6_addr(payload), len, 16);
+    }
 }
 
 #[test]
-fn writes_values(rt: HostRuntime) {
-    let kept = DefaultNla::new(1, got(&rt, Vec::from_slice(rt.alloc(), &[7])));
-    assert!(rt; kept.fits());
-    assert!(rt; kept.buffer_len() == 8);
-    let mut out = [255; 8];
-    let len = canon_of(&kept, &mut out);
-    wrote(&rt, len, 8, &out, &KEPT);
+fn measures_texts(rt: HostRuntime) {
+    for (payload, wanted) in [
+        (b"".as_slice(), Some(1)),
+        (b"\0".as_slice(), Some(1)),
+        (b"\0\0".as_slice(), Some(2)),
+        (b"lo".as_slice(), Some(3)),
+        (b"lo\0".as_slice(), Some(3)),
+        ([0xc3, 0xa4, 0].as_slice(), Some(3)),
+        ([0xc3, 0x28].as_slice(), None),
+        ([0xc3, 0].as_slice(), None),
+        ([0x6c, 0xff, 0x6f].as_slice(), None),
+    ] {
+        assert_eq!(rt; measure_text(payload), wanted, "at {payload:?}");
+    }
+}
+
+/// So many letters, and so many NULs behind them.
+fn letters(rt: &impl Abort, alloc: Global, count: usize, nuls: usize) -> Vec<u8> {
+    let mut bytes = got(rt, vec![in alloc; 97u8; count]);
+    for _ in 0..nuls {
+        got(rt, bytes.push(0));
+    }
+    bytes
+}
+
+/// A text of 65530 bytes and its NUL are as much as an attribute's value may be.
+#[test]
+fn measures_the_longest_texts(rt: HostRuntime) {
+    for (count, nuls, wanted) in [
+        (65529, 0, Some(65530)),
+        (65530, 0, Some(65531)),
+        (65531, 0, None),
+        (65529, 2, Some(65531)),
+        (65530, 1, Some(65531)),
+        (65530, 2, None),
+        (65531, 1, None),
+    ] {
+        let payload = letters(&rt, rt.alloc(), count, nuls);
+        let found = measure_text(payload.as_slice());
+        assert_eq!(rt; found, wanted, "at {count} and {nuls}");
+    }
 }
 
 #[test]
-fn refuses_long_values(rt: HostRuntime) {
-    let value = got(&rt, vec![in rt.alloc(); 97u8; 65532]);
-    let mut out = got(&rt, vec![in rt.alloc(); 255u8; 65536]);
-    let out = out.as_mut_slice();
-    assert!(rt; value.len() == 65532);
-    assert!(rt; out.len() == 65536);
-    assert!(rt; canon_value(20, value.as_slice(), out).is_none());
-    assert!(rt; canon_value(20, &value.as_slice()[1..], out) == Some(65536));
+#[tactic(auto, unfolding(nla_wire::specs::Payloads::read_text))]
+fn writes_the_longest_text(rt: HostRuntime) {
+    for nuls in [0, 1] {
+        let payload = letters(&rt, rt.alloc(), 65530, nuls);
+        let mut out = [255; 65537];
+        assert!(rt; measure_text(payload.as_slice()) == Some(65531));
+        assert!(rt; write_text_payload(20, payload.as_slice(), &mut out) == 65536);
+        begin(&rt, &out, &[255, 255, 20, 0, 97]);
+        are(&rt, &out[65533..], &[97, 0, 0, 255]);
+    }
 }

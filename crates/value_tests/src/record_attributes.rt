@@ -1,0 +1,136 @@
+//! Records measured and written as attributes, from values and from payloads.
+
+use crate::testing::stored;
+use link_recs::*;
+use link_vfrec::*;
+use nla_wire::{PlainRecord, Record};
+use std::process::Abort;
+
+/// A payload of so many bytes was measured, where only one that has the record whole has a text.
+fn holds(rt: &impl Abort, found: Option<usize>, len: usize, size: usize) {
+    let answer = if len >= size { Some(size) } else { None };
+    assert_eq!(rt; found, answer, "at {len}");
+}
+
+#[test]
+fn whole_records_are_measured(rt: HostRuntime) {
+    let zeros = [0; 40];
+    for len in 0..40 {
+        let payload = &zeros[..len];
+        holds(&rt, Map::measure_sized(payload), len, 32);
+        holds(&rt, Inet6CacheInfo::measure_sized(payload), len, 16);
+        holds(&rt, VfInfoMac::measure_sized(payload), len, 36);
+        holds(&rt, VfInfoVlan::measure_sized(payload), len, 12);
+        holds(&rt, VfInfoTxRate::measure_sized(payload), len, 8);
+        holds(&rt, VfInfoSpoofCheck::measure_sized(payload), len, 8);
+        holds(&rt, VfInfoLinkState::measure_sized(payload), len, 8);
+        holds(&rt, VfInfoRate::measure_sized(payload), len, 12);
+        holds(&rt, VfInfoRssQueryEn::measure_sized(payload), len, 8);
+        holds(&rt, VfInfoTrust::measure_sized(payload), len, 8);
+        holds(&rt, VfInfoGuid::measure_sized(payload), len, 16);
+        holds(&rt, VfInfoBroadcast::measure_sized(payload), len, 32);
+        holds(&rt, VfVlanInfo::measure_sized(payload), len, 16);
+    }
+}
+
+/// A record that is filled up has one length, whatever it is read from.
+#[test]
+fn filled_records_are_measured(rt: HostRuntime) {
+    let zeros = [0; 320];
+    for len in [0, 1, 55, 56, 95, 96, 135, 136, 199, 200, 240, 311, 312, 320] {
+        let payload = &zeros[..len];
+        assert!(rt; Stats::measure_filled(payload) == Some(96));
+        assert!(rt; Stats64::measure_filled(payload) == Some(200));
+        assert!(rt; InetDevConf::measure_filled(payload) == Some(136));
+        assert!(rt; Inet6DevConf::measure_filled(payload) == Some(240));
+        assert!(rt; Inet6Stats::measure_filled(payload) == Some(312));
+        assert!(rt; Icmp6Stats::measure_filled(payload) == Some(56));
+    }
+}
+
+#[test]
+fn records_are_written_as_attributes(rt: HostRuntime) {
+    let mut out = [255; 13];
+    let len = VfInfoTrust::new(1, true).write_attribute(9, &mut out);
+    stored(&rt, len, &out, &[12, 0, 9, 0, 1, 0, 0, 0, 1, 0, 0, 0]);
+    let mut out = [255; 21];
+    let len = VfInfoGuid::new(2, 0x0200_0000_0000_0001).write_attribute(10, &mut out);
+    let text = [20, 0, 10, 0, 2, 0, 0, 0, 0, 0, 0, 0, 1, 0, 0, 0, 0, 0, 0, 2];
+    stored(&rt, len, &out, &text);
+    let times = Inet6CacheInfo {
+        max_reasm_len: 65535,
+        tstamp: 1,
+        reachable_time: -2,
+        retrans_time: 1000,
+    };
+    let mut out = [255; 21];
+    let len = times.write_attribute(0x4005, &mut out);
+    let text = [
+        20, 0, 5, 0x40, 255, 255, 0, 0, 1, 0, 0, 0, 254, 255, 255, 255, 0xe8, 3, 0, 0,
+    ];
+    stored(&rt, len, &out, &text);
+}
+
+/// The addresses of functions are written with the zeros behind a shorter one, and a map with its padding.
+#[test]
+fn addresses_and_maps_are_written_as_attributes(rt: HostRuntime) {
+    let mut out = [255; 41];
+    let mut text = [0; 40];
+    text[..9].copy_from_slice(&[40, 0, 1, 0, 3, 0, 0, 0, 0x52]);
+    let len = VfInfoMac::new(3, &[0x52]).write_attribute(1, &mut out);
+    stored(&rt, len, &out, &text);
+    let map = Map {
+        memory_start: 0x0102,
+        port: 3,
+        ..Map::default()
+    };
+    let mut out = [255; 37];
+    let mut text = [0; 36];
+    text[..6].copy_from_slice(&[36, 0, 14, 0, 2, 1]);
+    text[31] = 3;
+    let len = map.write_attribute(14, &mut out);
+    stored(&rt, len, &out, &text);
+}
+
+/// What a record does not keep of its payload is written as zeros, and what is behind it is not written.
+#[test]
+#[tactic(auto, unfolding(nla_wire::specs::Payloads::read_sized))]
+fn payloads_are_written_as_what_they_mean(rt: HostRuntime) {
+    let mut out = [255; 13];
+    let trust = [1, 0, 0, 0, 2, 0, 0, 0, 7];
+    assert!(rt; VfInfoTrust::measure_sized(&trust) == Some(8));
+    let len = VfInfoTrust::write_sized(9, &trust, &mut out);
+    stored(&rt, len, &out, &[12, 0, 9, 0, 1, 0, 0, 0, 1, 0, 0, 0]);
+    let mut out = [255; 21];
+    let guid = [2, 0, 0, 0, 255, 255, 255, 255, 1, 0, 0, 0, 0, 0, 0, 0];
+    assert!(rt; VfInfoGuid::measure_sized(&guid) == Some(16));
+    let len = VfInfoGuid::write_sized(10, &guid, &mut out);
+    let text = [20, 0, 10, 0, 2, 0, 0, 0, 0, 0, 0, 0, 1, 0, 0, 0, 0, 0, 0, 0];
+    stored(&rt, len, &out, &text);
+    let mut out = [255; 21];
+    let vlan = [
+        1, 0, 0, 0, 100, 0, 0, 0, 0, 0, 0, 0, 0x88, 0xa8, 0x12, 0x34, 9,
+    ];
+    assert!(rt; VfVlanInfo::measure_sized(&vlan) == Some(16));
+    let len = VfVlanInfo::write_sized(1, &vlan, &mut out);
+    let text = [
+        20, 0, 1, 0, 1, 0, 0, 0, 100, 0, 0, 0, 0, 0, 0, 0, 0x88, 0xa8, 0, 0,
+    ];
+    stored(&rt, len, &out, &text);
+}
+
+/// A payload of the counters of ICMPv6 is cut to them, or filled up with zeros.
+#[test]
+fn counters_are_cut_or_filled_up(rt: HostRuntime) {
+    for bytes in [[7; 60].as_slice(), [7; 56].as_slice(), [7; 5].as_slice()] {
+        let mut text = [0; 60];
+        text[..4].copy_from_slice(&[60, 0, 6, 0]);
+        for (place, byte) in text.iter_mut().skip(4).zip(bytes) {
+            *place = *byte;
+        }
+        assert!(rt; Icmp6Stats::measure_filled(bytes) == Some(56));
+        let mut out = [255; 61];
+        let len = Icmp6Stats::write_filled(6, bytes, &mut out);
+        stored(&rt, len, &out, &text);
+    }
+}

@@ -1,0 +1,182 @@
+//! Values that are measured, and then written to the front of a buffer, alone and one behind the other.
+
+ghost use Rattle.std.proofs.Common.{rules};
+ghost use Rattle.std.specs.Prelude.{◌<◌};
+ghost use Rattle.std.specs.Int.{w16, to_le_bytes};
+
+use crate::testing::{are, begin, got, stored};
+use nla_wire::*;
+use std::alloc::Global;
+use std::process::Abort;
+
+/// An attribute of this kind that is kept as it is, of so many bytes of 97.
+fn letters(rt: &impl Abort, alloc: Global, kind: u16, count: usize) -> DefaultNla {
+    DefaultNla::new(kind, got(rt, vec![in alloc; 97u8; count]))
+}
+
+/// A number below 1000, which is written as the attribute of kind 9. It says only what each value has to say.
+#[derive(Clone, Copy)]
+struct Small {
+    number: u16,
+}
+
+impl Nla for Small {
+    ghost frame = { λ s. record { kind = 9; payload = to_le_bytes w16 s.number } };
+
+    ghost fits = { λ s. s.number < 1000 };
+
+    ghost is_small = { Prim.search rules };
+
+    fn kind(&self) -> u16 {
+        9
+    }
+
+    fn fits(&self) -> bool {
+        self.number < 1000
+    }
+
+    fn value_len(&self) -> usize {
+        2
+    }
+
+    fn fill_value(&self, buffer: &mut [u8]) -> usize {
+        fill_bytes(buffer, &self.number.to_le_bytes())
+    }
+}
+
+#[test]
+fn measures_what_fits(rt: HostRuntime) {
+    assert!(rt; Small { number: 1000 }.measure().is_none());
+    let small = Small { number: 999 };
+    assert!(rt; small.measure() == Some(2));
+    let mut out = [255; 9];
+    let len = small.write(&mut out);
+    stored(&rt, len, &out, &[6, 0, 9, 0, 0xe7, 3, 0, 0]);
+    let both = [small, Small { number: 1000 }];
+    assert!(rt; nlas_measure(&both).is_none());
+    assert!(rt; nlas_measure(&both[..1]) == Some(8));
+}
+
+#[test]
+fn measures_values(rt: HostRuntime) {
+    for (count, wanted) in [
+        (0, Some(0)),
+        (1, Some(1)),
+        (4, Some(4)),
+        (65531, Some(65531)),
+        (65532, None),
+    ] {
+        let nla = letters(&rt, rt.alloc(), 20, count);
+        assert_eq!(rt; nla.measure(), wanted, "at {count}");
+        assert!(rt; nla.fits() == wanted.is_some());
+    }
+}
+
+#[test]
+fn writes_values(rt: HostRuntime) {
+    let kept = DefaultNla::new(1, got(&rt, Vec::from_slice(rt.alloc(), &[7])));
+    assert!(rt; kept.fits());
+    assert!(rt; kept.measure() == Some(1));
+    assert!(rt; kept.buffer_len() == 8);
+    let mut out = [255; 9];
+    let len = kept.write(&mut out);
+    stored(&rt, len, &out, &[5, 0, 1, 0, 7, 0, 0, 0]);
+    let none = letters(&rt, rt.alloc(), 0xc02a, 0);
+    assert!(rt; none.measure() == Some(0));
+    let mut out = [255; 9];
+    let len = none.write(&mut out);
+    stored(&rt, len, &out, &[4, 0, 42, 0xc0]);
+}
+
+#[test]
+fn writes_the_longest_value(rt: HostRuntime) {
+    let longest = letters(&rt, rt.alloc(), 20, 65531);
+    let mut out = got(&rt, vec![in rt.alloc(); 255u8; 65537]);
+    let out = out.as_mut_slice();
+    assert!(rt; out.len() == 65537);
+    assert!(rt; longest.measure() == Some(65531));
+    assert!(rt; longest.write(out) == 65536);
+    begin(&rt, out, &[255, 255, 20, 0, 97]);
+    assert!(rt; out[65534] == 97);
+    assert!(rt; out[65535] == 0);
+    assert!(rt; out[65536] == 255);
+}
+
+/// An attribute of one letter and one of none.
+fn two(rt: &impl Abort, alloc: Global) -> [DefaultNla; 2] {
+    [letters(rt, alloc, 1, 1), letters(rt, alloc, 0x8002, 0)]
+}
+
+#[test]
+fn writes_lists(rt: HostRuntime) {
+    let nlas = two(&rt, rt.alloc());
+    assert!(rt; nlas_measure(&nlas) == Some(12));
+    let mut out = [255; 13];
+    let len = nlas_write(&nlas, &mut out);
+    stored(&rt, len, &out, &[5, 0, 1, 0, 97, 0, 0, 0, 4, 0, 2, 0x80]);
+    assert!(rt; list_measure(&nlas) == Some(12));
+    let mut out = [255; 17];
+    let len = write_list(52, &nlas, &mut out);
+    stored(
+        &rt,
+        len,
+        &out,
+        &[16, 0, 52, 0, 5, 0, 1, 0, 97, 0, 0, 0, 4, 0, 2, 0x80],
+    );
+}
+
+#[test]
+fn writes_empty_lists(rt: HostRuntime) {
+    let none: &[DefaultNla] = &[];
+    assert!(rt; nlas_measure(none) == Some(0));
+    let mut out = [255; 5];
+    let len = nlas_write(none, &mut out);
+    stored(&rt, len, &out, &[]);
+    assert!(rt; list_measure(none) == Some(0));
+    let len = write_list(0x8034, none, &mut out);
+    stored(&rt, len, &out, &[4, 0, 52, 0x80]);
+}
+
+/// A list that is the value of an attribute has at most 65531 bytes of text, and so at most 65528. One that is not may
+/// have more.
+#[test]
+fn measures_long_lists(rt: HostRuntime) {
+    let alloc = rt.alloc();
+    for (first, second, all, nested) in [
+        (65524, None, Some(65528), Some(65528)),
+        (65525, None, Some(65532), None),
+        (65520, Some(0), Some(65528), Some(65528)),
+        (65520, Some(1), Some(65532), None),
+        (65531, Some(65531), Some(131072), None),
+        (65532, Some(0), None, None),
+        (0, Some(65532), None, None),
+    ] {
+        let mut nlas = Vec::new(alloc);
+        got(&rt, nlas.push(letters(&rt, alloc, 1, first)));
+        if let Some(count) = second {
+            got(&rt, nlas.push(letters(&rt, alloc, 2, count)));
+        }
+        assert_eq!(rt;
+            nlas_measure(nlas.as_slice()),
+            all,
+            "at {first} and {second:?}"
+        );
+        assert_eq!(rt;
+            list_measure(nlas.as_slice()),
+            nested,
+            "at {first} and {second:?}"
+        );
+        assert!(rt; nlas_fit(nlas.as_slice()) == all.is_some());
+        assert!(rt; list_fits(nlas.as_slice()) == nested.is_some());
+    }
+}
+
+#[test]
+fn writes_the_longest_list(rt: HostRuntime) {
+    let nlas = [letters(&rt, rt.alloc(), 1, 65524)];
+    let mut out = [255; 65533];
+    assert!(rt; list_measure(&nlas) == Some(65528));
+    assert!(rt; write_list(52, &nlas, &mut out) == 65532);
+    begin(&rt, &out, &[252, 255, 52, 0, 248, 255, 1, 0, 97]);
+    are(&rt, &out[65531..], &[97, 255]);
+}
