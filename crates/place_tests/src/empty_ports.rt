@@ -2,6 +2,7 @@
 
 use crate::rows::*;
 use crate::testing::{GROWTH, got, text_of};
+use link_msg::laws::law_room;
 use link_msg::*;
 use std::alloc::Global;
 use std::process::Abort;
@@ -25,8 +26,10 @@ fn no_ports(rt: HostRuntime) {
 fn in_a_long_buffer(rt: HostRuntime) {
     let mut out = [255; 2000];
     assert!(rt; 24 * GROWTH <= 2000);
+    law_room(&NO_PORTS);
     let answer = canonical_into(&NO_PORTS, &mut out);
     is_refused_so(&rt, answer, CanonError::EmptyVfPorts);
+    are_all(&rt, &out, 255);
 }
 
 /// These bytes, and an alias that gets no room for its NUL.

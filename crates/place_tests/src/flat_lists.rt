@@ -195,7 +195,32 @@ fn refused_wireless_events(rt: HostRuntime) {
         let short = Some(Cause::TooShort { got, need: 8 });
         fails(&rt, WirelessEvent::parse(rt.alloc(), payload), short);
         fails(&rt, WirelessEvent::check(payload), short);
+        let mut out = [255; 8];
+        assert!(rt; WirelessEvent::measure(payload).is_none());
+        assert!(rt; WirelessEvent::canon(payload, &mut out).is_none());
+        are(&rt, &out, &[255; 8]);
     }
+}
+
+/// The longest event is as long as the value of an attribute may be.
+#[test]
+fn long_wireless_payloads(rt: HostRuntime) {
+    let payload = [97; 65532];
+    assert!(rt; WirelessEvent::measure(&payload[1..]) == Some(65531));
+    assert!(rt; WirelessEvent::measure(&payload).is_none());
+    keeps_event(&rt, &payload[1..]);
+    let mut out = [255; 65532];
+    assert!(rt; WirelessEvent::canon(&payload, &mut out).is_none());
+    assert!(rt; out[0] == 255 && out[65531] == 255);
+}
+
+/// An event of no known command is written as it is.
+fn keeps_event(rt: &impl Abort, payload: &[u8]) {
+    let mut out = [255; 65532];
+    assert!(rt; payload.len() <= 65531);
+    assert!(rt; WirelessEvent::measure(payload) == Some(payload.len()));
+    assert!(rt; WirelessEvent::canon(payload, &mut out) == Some(payload.len()));
+    stored(rt, payload.len(), &out, payload);
 }
 
 /// A payload means this event, which is written as the text.
@@ -208,11 +233,14 @@ fn event_means(
 ) {
     let read = got(rt, WirelessEvent::parse(alloc, payload));
     is_copied(rt, alloc, &read, event);
-    let mut out = [255; 9 * GROWTH];
     assert!(rt; WirelessEvent::check(payload).is_ok());
+    assert!(rt; WirelessEvent::measure(payload) == Some(9));
+    let mut out = [255; 10];
     assert!(rt; WirelessEvent::canon(payload, &mut out) == Some(9));
-    begin(rt, &out, text);
-    assert!(rt; out[9] == 255);
+    stored(rt, 9, &out, text);
+    let mut out = [255; 9];
+    let len = WirelessEvent::write(payload, &mut out);
+    stored(rt, len, &out, text);
 }
 
 /// An event is written as this text.

@@ -223,16 +223,18 @@ fn lists_of_functions(rt: HostRuntime) {
     );
 }
 
-/// What an entry's payload is refused for, or nothing.
+/// What an entry's payload is refused for, or nothing. It has a text where it is not refused.
 fn entry_faults(rt: &impl Abort, alloc: Global, payload: &[u8], cause: Option<Cause>) {
     fails(rt, LinkVfInfo::parse(alloc, payload), cause);
     fails(rt, LinkVfInfo::check(payload), cause);
+    assert!(rt; LinkVfInfo::measure_entry(payload).is_none() == cause.is_some());
 }
 
-/// What a list of functions is refused for, or nothing.
+/// What a list of functions is refused for, or nothing. It has a text where it is not refused.
 fn list_faults(rt: &impl Abort, alloc: Global, payload: &[u8], cause: Option<Cause>) {
     fails(rt, LinkVfInfo::parse_list(alloc, payload), cause);
     fails(rt, LinkVfInfo::check_list(payload), cause);
+    assert!(rt; LinkVfInfo::measure_list(payload).is_none() == cause.is_some());
 }
 
 #[test]
@@ -310,22 +312,63 @@ fn four_levels_read(rt: HostRuntime) {
 
 #[test]
 fn four_levels_written(rt: HostRuntime) {
-    let mut out = [255; 4000];
+    let mut out = [255; 29];
     assert!(rt; LinkVfInfo::check_list(&VLAN_ENTRIES).is_ok());
-    let len = LinkVfInfo::canon_list(&VLAN_ENTRIES, &mut out);
-    wrote(&rt, len, 28, &out, &VLAN_TEXT);
+    assert!(rt; LinkVfInfo::measure_list(&VLAN_ENTRIES) == Some(28));
+    assert!(rt; LinkVfInfo::canon_list(&VLAN_ENTRIES, &mut out) == Some(28));
+    stored(&rt, 28, &out, &VLAN_TEXT);
+    let mut out = [255; 33];
+    let len = LinkVfInfo::write_list(22, &VLAN_ENTRIES, &mut out);
+    assert!(rt; len == 32);
+    begin(&rt, &out, &[32, 0, 22, 0]);
+    stored(&rt, 28, &out[4..], &VLAN_TEXT);
+}
+
+#[test]
+fn four_levels_written_alone(rt: HostRuntime) {
     let payload = &VLAN_ENTRIES[8..];
     assert!(rt; LinkVfInfo::check(payload).is_ok());
-    let len = LinkVfInfo::canon(payload, &mut out);
-    wrote(&rt, len, 24, &out, &VLAN_TEXT[4..]);
-    let len = LinkVfInfo::canon_entry(1, payload, &mut out);
-    wrote(&rt, len, 28, &out, &VLAN_TEXT);
+    assert!(rt; LinkVfInfo::measure_entry(payload) == Some(24));
+    let mut out = [255; 29];
+    assert!(rt; LinkVfInfo::canon(payload, &mut out) == Some(24));
+    stored(&rt, 24, &out, &VLAN_TEXT[4..]);
+    let mut out = [255; 29];
+    let len = LinkVfInfo::write_entry(1, payload, &mut out);
+    stored(&rt, len, &out, &VLAN_TEXT);
+}
+
+/// What is refused changes no byte.
+#[test]
+fn refused_functions_written(rt: HostRuntime) {
+    let mut out = [255; 8];
+    for payload in [[].as_slice(), &[4, 0, 9, 0], &[5, 0, 9, 0]] {
+        assert!(rt; LinkVfInfo::measure_entry(payload).is_none());
+        let Err(_error) = LinkVfInfo::check(payload) else {
+            panic!(rt; "there is an entry");
+        };
+        assert!(rt; LinkVfInfo::canon(payload, &mut out).is_none());
+        are(&rt, &out, &[255; 8]);
+    }
+}
+
+#[test]
+fn refused_lists_of_functions_written(rt: HostRuntime) {
+    let mut out = [255; 8];
+    for payload in [[4, 0, 1, 0].as_slice(), &[5, 0, 1, 0]] {
+        assert!(rt; LinkVfInfo::measure_list(payload).is_none());
+        let Err(_error) = LinkVfInfo::check_list(payload) else {
+            panic!(rt; "there is a list");
+        };
+        assert!(rt; LinkVfInfo::canon_list(payload, &mut out).is_none());
+        are(&rt, &out, &[255; 8]);
+    }
 }
 
 /// An attribute of this kind fits, and is written as this text, at the end of a longer buffer too.
 fn is_filled<N: Nla>(rt: &impl Abort, nla: &N, kind: u16, text: &[u8; 28]) {
     assert!(rt; nla.kind() == kind);
     assert!(rt; nla.fits());
+    assert!(rt; nla.measure() == Some(24));
     assert!(rt; nla.buffer_len() == 28);
     let mut buffer = [255; 30];
     nla.emit(&mut buffer);
@@ -339,16 +382,18 @@ fn four_levels_filled(rt: HostRuntime) {
     is_filled(&rt, &vlan_function(&rt, rt.alloc()), 1, &VLAN_TEXT);
 }
 
-/// What a port's payload is refused for, or nothing.
+/// What a port's payload is refused for, or nothing. It has a text where it is not refused.
 fn port_faults(rt: &impl Abort, alloc: Global, payload: &[u8], cause: Option<Cause>) {
     fails(rt, LinkVfPort::parse(alloc, payload), cause);
     fails(rt, LinkVfPort::check(payload), cause);
+    assert!(rt; LinkVfPort::measure_entry(payload).is_none() == cause.is_some());
 }
 
-/// What a list of ports is refused for, or nothing.
+/// What a list of ports is refused for, or nothing. It has a text where it is not refused.
 fn ports_faults(rt: &impl Abort, alloc: Global, payload: &[u8], cause: Option<Cause>) {
     fails(rt, LinkVfPort::parse_list(alloc, payload), cause);
     fails(rt, LinkVfPort::check_list(payload), cause);
+    assert!(rt; LinkVfPort::measure_list(payload).is_none() == cause.is_some());
 }
 
 #[test]
@@ -390,16 +435,51 @@ fn one_port(rt: HostRuntime) {
 
 #[test]
 fn ports_written(rt: HostRuntime) {
-    let mut out = [255; 2000];
     let entry = [8, 0, 1, 0, 5, 0, 0, 0];
     assert!(rt; LinkVfPort::check(&entry).is_ok());
-    let len = LinkVfPort::canon(&entry, &mut out);
-    wrote(&rt, len, 8, &out, &entry);
-    let len = LinkVfPort::canon_entry(25, &entry, &mut out);
-    let text = [12, 0, 25, 0, 8, 0, 1, 0, 5, 0, 0, 0];
-    wrote(&rt, len, 12, &out, &text);
+    assert!(rt; LinkVfPort::measure_entry(&entry) == Some(8));
+    let mut out = [255; 13];
+    assert!(rt; LinkVfPort::canon(&entry, &mut out) == Some(8));
+    stored(&rt, 8, &out, &entry);
+    let len = LinkVfPort::write_entry(25, &entry, &mut out);
+    stored(&rt, len, &out, &[12, 0, 25, 0, 8, 0, 1, 0, 5, 0, 0, 0]);
+}
+
+#[test]
+fn lists_of_ports_written(rt: HostRuntime) {
     let list = [5, 0, 3, 0, 1, 0, 0, 0, 8, 0, 1, 0, 4, 0, 9, 0];
     assert!(rt; LinkVfPort::check_list(&list).is_ok());
-    let len = LinkVfPort::canon_list(&list, &mut out);
-    wrote(&rt, len, 8, &out, &list[8..]);
+    assert!(rt; LinkVfPort::measure_list(&list) == Some(8));
+    let mut out = [255; 13];
+    assert!(rt; LinkVfPort::canon_list(&list, &mut out) == Some(8));
+    stored(&rt, 8, &out, &list[8..]);
+    let len = LinkVfPort::write_list(24, &list, &mut out);
+    stored(&rt, len, &out, &[12, 0, 24, 0, 8, 0, 1, 0, 4, 0, 9, 0]);
+}
+
+/// What is refused changes no byte.
+#[test]
+fn refused_ports_written(rt: HostRuntime) {
+    let mut out = [255; 8];
+    for payload in [[].as_slice(), &[5, 0, 9, 0]] {
+        assert!(rt; LinkVfPort::measure_entry(payload).is_none());
+        let Err(_error) = LinkVfPort::check(payload) else {
+            panic!(rt; "there is a port");
+        };
+        assert!(rt; LinkVfPort::canon(payload, &mut out).is_none());
+        are(&rt, &out, &[255; 8]);
+    }
+}
+
+#[test]
+fn refused_lists_of_ports_written(rt: HostRuntime) {
+    let mut out = [255; 8];
+    for payload in [[4, 0, 1, 0].as_slice(), &[5, 0, 1, 0]] {
+        assert!(rt; LinkVfPort::measure_list(payload).is_none());
+        let Err(_error) = LinkVfPort::check_list(payload) else {
+            panic!(rt; "there is a list");
+        };
+        assert!(rt; LinkVfPort::canon_list(payload, &mut out).is_none());
+        are(&rt, &out, &[255; 8]);
+    }
 }

@@ -1,11 +1,9 @@
 //! Lists of attributes that are all kept, read, checked and written again.
 
-use crate::testing::{GROWTH, fails, got, wrote};
-use link_vf::VfPort;
-use nla_wire::{
-    Cause, NLA_F_NESTED, Nla, NlaRead, OwnPlace, append_members, canon_nested_picked_members,
-    canon_picked_members, check_picked_members, parse_picked_members,
-};
+use crate::testing::{GROWTH, are, fails, got, stored};
+use link_vf::{VfPort, VfStats};
+use nla_wire::laws::{law_list_room, law_room};
+use nla_wire::*;
 
 /// Two attributes, of kinds 2 nested and 1. The last lacks its padding.
 const TWO: [u8; 9] = [4, 0, 2, 0x80, 5, 0, 1, 0, 7];
@@ -40,36 +38,129 @@ fn refuses_lists(rt: HostRuntime) {
 }
 
 #[test]
-fn writes_lists(rt: HostRuntime) {
-    let mut out = [255; 13 * GROWTH];
-    assert!(rt; VfPort::check_list(&TWO).is_ok());
-    let len = VfPort::canon_list(&TWO, &mut out);
-    let text = [4, 0, 2, 0x80, 5, 0, 1, 0, 7, 0, 0, 0, 255];
-    wrote(&rt, len, 12, &out, &text);
-    let len = VfPort::canon_nested(52 | NLA_F_NESTED, &TWO, &mut out);
-    let text = [16, 0, 52, 0x80, 4, 0, 2, 0x80, 5, 0, 1, 0, 7, 0, 0, 0];
-    wrote(&rt, len, 16, &out, &text);
+fn measures_lists(rt: HostRuntime) {
+    for (bytes, wanted) in [
+        (TWO.as_slice(), Some(12)),
+        (SECOND.as_slice(), Some(8)),
+        ([].as_slice(), Some(0)),
+        (&TWO[..8], None),
+    ] {
+        assert!(rt; VfPort::measure_list(bytes) == wanted);
+        assert!(rt; VfPort::measure_nested(bytes) == wanted);
+        assert!(rt; measure_members::<VfPort, OwnPlace>(&OwnPlace, bytes) == wanted);
+        assert!(rt; measure_nested_members::<VfPort, OwnPlace>(&OwnPlace, bytes) == wanted);
+    }
 }
 
 #[test]
+fn writes_lists(rt: HostRuntime) {
+    let mut out = [255; 13];
+    assert!(rt; VfPort::check_list(&TWO).is_ok());
+    assert!(rt; VfPort::measure_list(&TWO) == Some(12));
+    assert!(rt; VfPort::canon_list(&TWO, &mut out) == Some(12));
+    stored(&rt, 12, &out, &[4, 0, 2, 0x80, 5, 0, 1, 0, 7, 0, 0, 0]);
+    let mut out = [255; 17];
+    assert!(rt; VfPort::measure_nested(&TWO) == Some(12));
+    let len = VfPort::write_nested(52 | NLA_F_NESTED, &TWO, &mut out);
+    let text = [16, 0, 52, 0x80, 4, 0, 2, 0x80, 5, 0, 1, 0, 7, 0, 0, 0];
+    stored(&rt, len, &out, &text);
+}
+
+/// A list stands behind what was written before it.
+#[test]
 fn adds_lists(rt: HostRuntime) {
-    let alloc = rt.alloc();
-    let mut text = got(&rt, Vec::from_slice(alloc, &[255]));
-    let fits = append_members::<VfPort, OwnPlace>(&OwnPlace, alloc, &TWO, &mut text);
-    assert!(rt; got(&rt, fits));
-    let added = [255, 4, 0, 2, 0x80, 5, 0, 1, 0, 7, 0, 0, 0];
-    assert!(rt; text.as_slice() == added.as_slice());
-    let short = append_members::<VfPort, OwnPlace>(&OwnPlace, alloc, &TWO[..8], &mut text);
-    fails(&rt, short, Some(Cause::FrameOver { length: 5, left: 4 }));
+    let mut out = [255; 14];
+    assert!(rt; measure_members::<VfPort, OwnPlace>(&OwnPlace, &TWO) == Some(12));
+    let len = write_members::<VfPort, OwnPlace>(&OwnPlace, &TWO, &mut out[1..]);
+    assert!(rt; len == 12);
+    are(
+        &rt,
+        &out,
+        &[255, 4, 0, 2, 0x80, 5, 0, 1, 0, 7, 0, 0, 0, 255],
+    );
+    let mut out = [255; 17];
+    assert!(rt; measure_nested_members::<VfPort, OwnPlace>(&OwnPlace, &TWO) == Some(12));
+    let len = write_nested_members::<VfPort, OwnPlace>(&OwnPlace, 52, &TWO, &mut out);
+    let text = [16, 0, 52, 0, 4, 0, 2, 0x80, 5, 0, 1, 0, 7, 0, 0, 0];
+    stored(&rt, len, &out, &text);
+}
+
+/// Lists that must not be empty.
+#[test]
+fn writes_lists_of_some(rt: HostRuntime) {
+    assert!(rt; VfPort::measure_some(&[]).is_none());
+    assert!(rt; VfPort::measure_some(&TWO[..8]).is_none());
+    assert!(rt; VfPort::measure_some(&TWO) == Some(12));
+    let mut out = [255; 17];
+    let len = VfPort::write_some(25, &TWO, &mut out);
+    let text = [16, 0, 25, 0, 4, 0, 2, 0x80, 5, 0, 1, 0, 7, 0, 0, 0];
+    stored(&rt, len, &out, &text);
+}
+
+#[test]
+fn measures_picked_lists(rt: HostRuntime) {
+    for (bytes, wanted) in [
+        (TWO.as_slice(), Some(8)),
+        (&TWO[..4], Some(0)),
+        ([].as_slice(), Some(0)),
+        (&TWO[..8], None),
+    ] {
+        let all = measure_picked_members::<VfPort, OwnPlace>(&OwnPlace, bytes);
+        assert!(rt; all == wanted);
+        let nested = measure_nested_picked_members::<VfPort, OwnPlace>(&OwnPlace, bytes);
+        assert!(rt; nested == wanted);
+    }
 }
 
 #[test]
 fn writes_picked_lists(rt: HostRuntime) {
-    let mut out = [255; 13 * GROWTH];
+    let mut out = [255; 13];
     assert!(rt; check_picked_members::<VfPort, OwnPlace>(&OwnPlace, &TWO).is_ok());
-    let len = canon_picked_members::<VfPort, OwnPlace>(&OwnPlace, &TWO, &mut out);
-    wrote(&rt, len, 8, &out, &SECOND);
-    let len = canon_nested_picked_members::<VfPort, OwnPlace>(&OwnPlace, 22, &TWO, &mut out);
-    let text = [12, 0, 22, 0, 5, 0, 1, 0, 7, 0, 0, 0];
-    wrote(&rt, len, 12, &out, &text);
+    assert!(rt; measure_picked_members::<VfPort, OwnPlace>(&OwnPlace, &TWO) == Some(8));
+    let len = write_picked_members::<VfPort, OwnPlace>(&OwnPlace, &TWO, &mut out);
+    stored(&rt, len, &out, &SECOND);
+    let mut out = [255; 13];
+    assert!(rt; measure_nested_picked_members::<VfPort, OwnPlace>(&OwnPlace, &TWO) == Some(8));
+    let len = write_nested_picked_members::<VfPort, OwnPlace>(&OwnPlace, 22, &TWO, &mut out);
+    stored(&rt, len, &out, &[12, 0, 22, 0, 5, 0, 1, 0, 7, 0, 0, 0]);
+}
+
+#[test]
+fn writes_members(rt: HostRuntime) {
+    let frame = got(&rt, NlaBuffer::new_checked(&TWO[4..]));
+    let mut out = [255; 9];
+    assert!(rt; VfPort::measure_frame(&frame) == Some(1));
+    let len = VfPort::write_frame(&frame, &mut out);
+    stored(&rt, len, &out, &SECOND);
+    let mut out = [255; 9];
+    assert!(rt; VfPort::canon(&frame, &mut out) == Some(8));
+    stored(&rt, 8, &out, &SECOND);
+}
+
+/// What was not measured is written where there are `GROWTH` bytes for each byte that is read.
+#[test]
+fn writes_into_long_buffers(rt: HostRuntime) {
+    let mut out = [255; 9 * GROWTH];
+    law_list_room::<VfPort>(&TWO);
+    assert!(rt; VfPort::canon_list(&TWO, &mut out) == Some(12));
+    stored(&rt, 12, &out, &[4, 0, 2, 0x80, 5, 0, 1, 0, 7, 0, 0, 0]);
+    let frame = got(&rt, NlaBuffer::new_checked(&TWO[4..]));
+    let mut out = [255; 5 * GROWTH];
+    assert!(rt; frame.value().len() == 1);
+    law_room::<VfPort>(&frame);
+    assert!(rt; VfPort::canon(&frame, &mut out) == Some(8));
+    stored(&rt, 8, &out, &SECOND);
+}
+
+/// A counter of seven bytes is refused, and nothing is written.
+#[test]
+fn writes_no_refused_members(rt: HostRuntime) {
+    let frame = got(
+        &rt,
+        NlaBuffer::new_checked(&[11, 0, 0, 0, 1, 2, 3, 4, 5, 6, 7]),
+    );
+    let mut out = [255; 12];
+    assert!(rt; VfStats::measure_frame(&frame).is_none());
+    assert!(rt; VfStats::canon(&frame, &mut out).is_none());
+    are(&rt, &out, &[255; 12]);
 }

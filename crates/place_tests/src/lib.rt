@@ -5,6 +5,8 @@
 #[cfg(test)]
 mod attribute_values;
 #[cfg(test)]
+mod attributes_alone;
+#[cfg(test)]
 mod copies;
 #[cfg(test)]
 mod copies_of_members;

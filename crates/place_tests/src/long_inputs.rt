@@ -1,6 +1,8 @@
 //! Messages of a million bytes, and of a quarter of a million.
 
+use crate::rows::are_all;
 use crate::testing::*;
+use link_msg::laws::law_room;
 use link_msg::*;
 use std::alloc::Global;
 use std::process::Abort;
@@ -95,8 +97,24 @@ fn is_rewritten(rt: HostRuntime) {
     let mut out = got(&rt, vec![in rt.alloc(); 255u8; room]);
     let out = out.as_mut_slice();
     assert!(rt; out.len() == room);
+    law_room(bytes.as_slice());
     let len = canonical_into(bytes.as_slice(), out);
     assert!(rt; len == Ok(SHORTER));
     begin(&rt, out, bytes.as_slice());
     assert!(rt; out[SHORTER] == 255);
+}
+
+/// Into a buffer of its text's length, and into none that is shorter.
+#[test]
+fn is_rewritten_within(rt: HostRuntime) {
+    let bytes = message(&rt, rt.alloc(), LENGTH);
+    assert!(rt; canonical_len(bytes.as_slice()) == Ok(LENGTH));
+    let mut out = got(&rt, vec![in rt.alloc(); 255u8; LENGTH]);
+    let out = out.as_mut_slice();
+    assert!(rt; out.len() == LENGTH);
+    let short = canonical_within(bytes.as_slice(), &mut out[1..]);
+    assert_eq!(rt; short, Err(RoomError::NoRoom { wanted: LENGTH }));
+    are_all(&rt, out, 255);
+    assert!(rt; canonical_within(bytes.as_slice(), out) == Ok(LENGTH));
+    are(&rt, out, bytes.as_slice());
 }

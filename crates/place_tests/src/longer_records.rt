@@ -2,6 +2,7 @@
 
 use crate::rows::*;
 use crate::testing::{GROWTH, are, got, text_of, zeros_behind};
+use link_msg::laws::law_room;
 use link_msg::*;
 use link_recs::inet::INET_DEV_CONF_SIZE;
 use link_recs::inet6_stats::INET6_STATS_SIZE;
@@ -212,12 +213,21 @@ fn counters_in_a_long_buffer(rt: HostRuntime) {
     let fit = short_counters(&rt, alloc, 207);
     assert!(rt; GROWTH * 852 <= 100000);
     assert!(rt; fit.len() == 852);
+    law_room(fit.as_slice());
     assert!(rt; canonical_into(fit.as_slice(), &mut out) == Ok(65436));
     are(&rt, &out[16..24], &[0x8c, 0xff, 26, 0, 0x88, 0xff, 10, 0]);
     are_all(&rt, &out[65436..], 255);
+}
+
+#[test]
+fn too_many_counters_in_a_long_buffer(rt: HostRuntime) {
+    let alloc = rt.alloc();
+    let mut out = [255; 100000];
     let unfit = short_counters(&rt, alloc, 208);
     assert!(rt; GROWTH * 856 <= 100000);
     assert!(rt; unfit.len() == 856);
+    law_room(unfit.as_slice());
     let answer = canonical_into(unfit.as_slice(), &mut out);
     is_refused_so(&rt, answer, CanonError::DoesNotFit);
+    are_all(&rt, &out, 255);
 }

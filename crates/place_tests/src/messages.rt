@@ -69,3 +69,21 @@ fn refusals_have_numbers(rt: HostRuntime) {
     assert!(rt; CanonError::EmptyVfPorts.number() == 3);
     assert!(rt; CanonError::OutOfMemory.number() == 4);
 }
+
+#[test]
+fn refusals_for_want_of_room_are_printed(rt: HostRuntime) {
+    for (refusal, wanted) in [
+        (RoomError::NoRoom { wanted: 24 }, "the text has 24 bytes"),
+        (
+            RoomError::from(CanonError::DoesNotFit),
+            "the message does not fit",
+        ),
+        (
+            RoomError::NoText(CanonError::EmptyVfPorts),
+            "an empty list of ports",
+        ),
+    ] {
+        let text = got(&rt, format!(in rt.alloc(); "{refusal}"));
+        assert_eq!(rt; text.as_str(), wanted);
+    }
+}

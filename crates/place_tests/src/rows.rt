@@ -1,6 +1,11 @@
 //! What holds of bytes that mean a message, and of bytes that mean none.
 
-use crate::testing::{GROWTH, are, are_same, fails, got, is_copied, read_message, text_made};
+ghost use Rattle.std.specs.Prelude.{◌≡◌, length};
+
+use crate::testing::{
+    GROWTH, are, are_same, fails, got, is_copied, read_message, stored, text_made,
+};
+use link_msg::laws::law_room;
 use link_msg::*;
 use std::alloc::Global;
 use std::process::Abort;
@@ -97,34 +102,83 @@ pub(crate) fn no_message(cause: Cause) -> CanonError {
     CanonError::Decode(DecodeError::new("bytes", cause))
 }
 
-/// A buffer of 255, as long as the call with no memory asks.
-fn room_for(rt: &impl Abort, alloc: Global, bytes: &[u8]) -> Vec<u8> {
+/// A buffer of 255, so many bytes long.
+fn room_of(rt: &impl Abort, alloc: Global, count: usize) -> Vec<u8>
+    ensures { length result.items ≡ count }
+{
+    let room = got(rt, vec![in alloc; 255u8; count]);
+    assert!(rt; room.len() == count);
+    room
+}
+
+/// Bytes are written again as this text, into a buffer with `GROWTH` bytes for each of theirs, which is room enough.
+fn is_rewritten(rt: &impl Abort, alloc: Global, bytes: &[u8], text: &[u8]) {
     assert!(rt; bytes.len() < MOST);
-    got(rt, vec![in alloc; 255u8; GROWTH * bytes.len()])
+    law_room(bytes);
+    let mut out = room_of(rt, alloc, GROWTH * bytes.len());
+    let out = out.as_mut_slice();
+    assert!(rt; canonical_into(bytes, out) == Ok(text.len()));
+    stored(rt, text.len(), out, text);
+}
+
+/// Bytes are written again as this text where there is room for it, be it no byte more.
+fn is_rewritten_within(rt: &impl Abort, alloc: Global, bytes: &[u8], text: &[u8]) {
+    assert!(rt; text.len() < MOST);
+    for more in [0, 1, 5] {
+        let mut out = room_of(rt, alloc, text.len() + more);
+        let out = out.as_mut_slice();
+        assert!(rt; canonical_within(bytes, out) == Ok(text.len()));
+        stored(rt, text.len(), out, text);
+    }
+}
+
+/// With one byte less than the text has, or with none, the bytes are not written, and the buffer is left as it is.
+fn is_too_long(rt: &impl Abort, alloc: Global, bytes: &[u8], text: &[u8]) {
+    let wanted = text.len();
+    assert!(rt; 0 < wanted);
+    for room in [0, 1, wanted - 1] {
+        let mut out = room_of(rt, alloc, room);
+        let out = out.as_mut_slice();
+        assert_eq!(rt;
+            canonical_within(bytes, out),
+            Err(RoomError::NoRoom { wanted })
+        );
+        are_all(rt, out, 255);
+    }
 }
 
 /// Bytes have this canonical text, made in memory and without.
 fn has_text(rt: &impl Abort, alloc: Global, bytes: &[u8], text: &[u8]) {
     are(rt, text_made(rt, alloc, bytes).as_slice(), text);
-    let mut out = room_for(rt, alloc, bytes);
-    let out = out.as_mut_slice();
-    assert!(rt; bytes.len() < MOST);
-    assert!(rt; out.len() == GROWTH * bytes.len());
-    assert!(rt; canonical_into(bytes, out) == Ok(text.len()));
-    assert!(rt; text.len() <= out.len());
-    are(rt, &out[..text.len()], text);
-    are_all(rt, &out[text.len()..], 255);
+    assert!(rt; canonical_len(bytes) == Ok(text.len()));
+    is_rewritten(rt, alloc, bytes, text);
+    is_rewritten_within(rt, alloc, bytes, text);
+    is_too_long(rt, alloc, bytes, text);
 }
 
-/// Bytes have no canonical text, for this reason. If they are no message, the buffer is left as it is.
+/// What a call that writes into any buffer was refused for, other than want of room.
+fn without_room(rt: &impl Abort, answer: Result<usize, RoomError>) -> Result<usize, CanonError> {
+    match answer {
+        Ok(len) => Ok(len),
+        Err(RoomError::NoText(error)) => Err(error),
+        Err(RoomError::NoRoom { wanted }) => panic!(rt; "the call wants {wanted} bytes"),
+    }
+}
+
+/// Bytes have no canonical text, for this reason, and no buffer is changed.
 fn has_no_text(rt: &impl Abort, alloc: Global, bytes: &[u8], wanted: CanonError) {
     is_refused_so(rt, canonical(alloc, bytes), wanted);
-    let mut out = room_for(rt, alloc, bytes);
-    let out = out.as_mut_slice();
+    is_refused_so(rt, canonical_len(bytes), wanted);
     assert!(rt; bytes.len() < MOST);
-    assert!(rt; out.len() == GROWTH * bytes.len());
+    law_room(bytes);
+    let mut out = room_of(rt, alloc, GROWTH * bytes.len());
+    let out = out.as_mut_slice();
     is_refused_so(rt, canonical_into(bytes, out), wanted);
-    if wanted.number() == 1 {
+    are_all(rt, out, 255);
+    for room in [0, 15, 100] {
+        let mut out = room_of(rt, alloc, room);
+        let out = out.as_mut_slice();
+        is_refused_so(rt, without_room(rt, canonical_within(bytes, out)), wanted);
         are_all(rt, out, 255);
     }
 }

@@ -5,13 +5,13 @@ use link_recs::inet6_stats::INET6_STATS_SIZE;
 use nla_wire::exact::same;
 use nla_wire::{
     Cause, CloneIn, DecodeError, DefaultNla, Exact, NLA_HEADER_SIZE, Nla, NlaRead, Text, emit_nlas,
-    nlas_buffer_len, nlas_fit,
+    nlas_buffer_len, nlas_fill, nlas_fit, nlas_measure,
 };
 use std::alloc::Global;
 use std::process::Abort;
 
-/// The bytes of buffer that a call with no memory asks for each byte that it reads: a header alone may become one of
-/// the longest record.
+/// The bytes of buffer for each byte that is read that are room for any text: a header alone may become one of the
+/// longest record.
 pub(crate) const GROWTH: usize = (NLA_HEADER_SIZE + INET6_STATS_SIZE) / NLA_HEADER_SIZE;
 
 /// A stray end, a length that passes the bytes, a length below 4, and their causes.
@@ -69,10 +69,14 @@ pub(crate) fn fails<T: Drop>(rt: &impl Abort, read: Result<T, DecodeError>, want
     assert_eq!(rt; cause, wanted);
 }
 
-/// A list is refused with this cause, when it is read and when it is checked.
+/// A list is refused with this cause, when it is read and when it is checked. It is not written again either.
 pub(crate) fn refuses<N: NlaRead>(rt: &impl Abort, alloc: Global, bytes: &[u8], cause: Cause) {
     fails(rt, N::parse_list(alloc, bytes), Some(cause));
     fails(rt, N::check_list(bytes), Some(cause));
+    let mut out = [255; 4];
+    assert!(rt; N::measure_list(bytes).is_none());
+    assert!(rt; N::canon_list(bytes, &mut out).is_none());
+    are(rt, &out, &[255; 4]);
 }
 
 /// What a list is refused for at every place. The empty list is read.
@@ -84,24 +88,34 @@ pub(crate) fn refuses_bad_frames<N: NlaRead>(rt: &impl Abort, alloc: Global) {
     fails(rt, N::check_list(&[]), None);
 }
 
-/// Values are written as this text, of at most 400 bytes.
+/// Values are measured, and written as this text, of at most 400 bytes, to the front and to the end of a longer buffer.
 pub(crate) fn writes<N: Nla>(rt: &impl Abort, values: &[N], text: &[u8]) {
     let mut buffer = [255; 401];
     assert!(rt; text.len() < 401);
     assert!(rt; nlas_fit(values));
+    assert!(rt; nlas_measure(values) == Some(text.len()));
     assert!(rt; nlas_buffer_len(values) == text.len());
     emit_nlas(values, &mut buffer);
     begin(rt, &buffer, text);
     assert!(rt; buffer[text.len()] == 255);
+    let mut buffer = [255; 401];
+    let start = nlas_fill(values, &mut buffer);
+    assert!(rt; 0 < start && start + text.len() == 401);
+    are(rt, &buffer[start..], text);
+    assert!(rt; buffer[start - 1] == 255);
 }
 
-/// A list of at most 100 bytes is written again as this text, of at most 400, with no memory.
+/// A list is written again as this text, of at most 400 bytes, with no memory, in as much room as it has and in more.
 pub(crate) fn rewrites<N: NlaRead>(rt: &impl Abort, bytes: &[u8], text: &[u8]) {
-    let mut out = [255; 100 * GROWTH];
-    assert!(rt; bytes.len() <= 100);
+    let mut out = [255; 401];
     assert!(rt; text.len() < 401);
     assert!(rt; N::check_list(bytes).is_ok());
+    assert!(rt; N::measure_list(bytes) == Some(text.len()));
     assert!(rt; N::canon_list(bytes, &mut out) == Some(text.len()));
+    begin(rt, &out, text);
+    assert!(rt; out[text.len()] == 255);
+    let mut out = [255; 401];
+    assert!(rt; N::canon_list(bytes, &mut out[..text.len()]) == Some(text.len()));
     begin(rt, &out, text);
     assert!(rt; out[text.len()] == 255);
 }
@@ -154,10 +168,13 @@ pub(crate) fn text_of(rt: &impl Abort, alloc: Global, letters: &str) -> Text {
     got(rt, Text::from_str(alloc, letters))
 }
 
-/// So many bytes were written, which begin with these.
-pub(crate) fn wrote(rt: &impl Abort, len: Option<usize>, wanted: usize, out: &[u8], front: &[u8]) {
-    assert!(rt; len == Some(wanted));
-    begin(rt, out, front);
+/// This text was written to the front of a buffer of 255, whose other bytes are kept.
+pub(crate) fn stored(rt: &impl Abort, len: usize, out: &[u8], text: &[u8]) {
+    assert_eq!(rt; len, text.len());
+    begin(rt, out, text);
+    for byte in out.iter().skip(len) {
+        assert!(rt; *byte == 255);
+    }
 }
 
 /// The message that the bytes mean.
@@ -178,6 +195,7 @@ pub(crate) fn are_same(rt: &impl Abort, alloc: Global, one: &[u8], other: &[u8],
 /// An attribute of this kind fits, and its value is written as these bytes, at the end of a longer buffer too.
 pub(crate) fn has_value<N: Nla>(rt: &impl Abort, nla: &N, kind: u16, value: &[u8; 8]) {
     assert!(rt; nla.fits());
+    assert!(rt; nla.measure() == Some(8));
     assert!(rt; nla.kind() == kind);
     assert!(rt; nla.value_len() == 8);
     let mut exact = [255; 8];

@@ -2,6 +2,7 @@
 
 use crate::rows::*;
 use crate::testing::{GROWTH, are, begin, got, kept, text_of};
+use link_msg::laws::law_room;
 use link_msg::*;
 use std::alloc::Global;
 use std::process::Abort;
@@ -178,8 +179,10 @@ fn texts_in_a_long_buffer(rt: HostRuntime) {
     let mut out = [255; 2000];
     assert!(rt; 22 * GROWTH <= 2000);
     let short = no_message(Cause::TooShort { got: 15, need: 16 });
+    law_room(&[0; 15]);
     is_refused_so(&rt, canonical_into(&[0; 15], &mut out), short);
     are_all(&rt, &out, 255);
+    law_room(&NAME);
     assert!(rt; canonical_into(&NAME, &mut out) == Ok(24));
     begin(&rt, &out, &NAME_TEXT);
     are_all(&rt, &out[24..], 255);

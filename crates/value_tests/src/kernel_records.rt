@@ -255,6 +255,11 @@ fn payloads_are_cut_or_filled_up(rt: HostRuntime) {
         &out,
         &[140, 0, 1, 0, 3, 0],
     );
+}
+
+#[test]
+fn payloads_of_ipv6_are_cut_or_filled_up(rt: HostRuntime) {
+    let mut out = [255; NLA_HEADER_SIZE + INET6_STATS_SIZE + 1];
     assert!(rt; Inet6DevConf::measure_filled(&[4]) == Some(INET6_DEV_CONF_SIZE));
     wrote(
         &rt,

@@ -1,0 +1,81 @@
+//! Attributes, and lists of them, under the family of a header, with no message round them.
+
+use crate::testing::{are, got, stored};
+use link_msg::*;
+use nla_wire::{nlas_measure, nlas_write};
+
+/// A name without its NUL, an MTU whose kind has both flag bits, and an attribute of no known number, whose padding is
+/// no zeros.
+const LIST: [u8; 24] = [
+    6, 0, 3, 0, 0x6c, 0x6f, 9, 9, 8, 0, 4, 0xc0, 0xdc, 5, 0, 0, 5, 0, 99, 0xc0, 7, 9, 9, 9,
+];
+
+/// The canonical text of `LIST`.
+const TEXT: [u8; 24] = [
+    7, 0, 3, 0, 0x6c, 0x6f, 0, 0, 8, 0, 4, 0, 0xdc, 5, 0, 0, 5, 0, 99, 0xc0, 7, 0, 0, 0,
+];
+
+/// IFLA_AF_SPEC with bytes that are a member under AF_BRIDGE, and a damaged list of settings under AF_UNSPEC.
+const BRIDGE: [u8; 12] = [12, 0, 26, 0, 8, 0, 2, 0, 1, 0, 2, 0];
+
+#[test]
+fn one_is_written(rt: HostRuntime) {
+    let frame = got(&rt, NlaBuffer::new_checked(&LIST[..6]));
+    let family = AddressFamily::Unspec;
+    let Ok(name) = LinkAttribute::parse_with_param(rt.alloc(), &frame, family) else {
+        panic!(rt; "there is no attribute");
+    };
+    assert!(rt; LinkAttribute::check_with_param(&frame, family).is_ok());
+    assert!(rt; name.measure() == Some(3));
+    let mut out = [255; 9];
+    let len = name.write(&mut out);
+    stored(&rt, len, &out, &TEXT[..8]);
+    let mut out = [255; 9];
+    assert!(rt; LinkAttribute::canon_with_param(&frame, family, &mut out) == Some(8));
+    stored(&rt, 8, &out, &TEXT[..8]);
+}
+
+#[test]
+fn lists_are_written(rt: HostRuntime) {
+    let family = AddressFamily::Unspec;
+    let Ok(values) = LinkAttribute::parse_list_with_param(rt.alloc(), &LIST, family) else {
+        panic!(rt; "there is no list");
+    };
+    assert!(rt; LinkAttribute::check_list_with_param(&LIST, family).is_ok());
+    assert!(rt; nlas_measure(values.as_slice()) == Some(24));
+    let mut out = [255; 25];
+    let len = nlas_write(values.as_slice(), &mut out);
+    stored(&rt, len, &out, &TEXT);
+    let mut out = [255; 25];
+    assert!(rt; LinkAttribute::canon_list_with_param(&LIST, family, &mut out) == Some(24));
+    stored(&rt, 24, &out, &TEXT);
+}
+
+/// What the family of the header refuses is not written, and changes no byte.
+#[test]
+fn families_refuse(rt: HostRuntime) {
+    let frame = got(&rt, NlaBuffer::new_checked(&BRIDGE));
+    let (bridge, none) = (AddressFamily::Bridge, AddressFamily::Unspec);
+    let cause = Cause::FrameUnder { length: 1 };
+    assert!(rt; LinkAttribute::check_with_param(&frame, bridge).is_ok());
+    assert!(rt; LinkAttribute::check_list_with_param(&BRIDGE, bridge).is_ok());
+    let Err(error) = LinkAttribute::check_with_param(&frame, none) else {
+        panic!(rt; "there is an attribute");
+    };
+    assert_eq!(rt; error.cause, cause);
+    let mut out = [255; 12];
+    assert!(rt; LinkAttribute::canon_with_param(&frame, none, &mut out).is_none());
+    are(&rt, &out, &[255; 12]);
+}
+
+#[test]
+fn lists_that_are_refused(rt: HostRuntime) {
+    let none = AddressFamily::Unspec;
+    let Err(error) = LinkAttribute::check_list_with_param(&BRIDGE, none) else {
+        panic!(rt; "there is a list");
+    };
+    assert_eq!(rt; error.cause, Cause::FrameUnder { length: 1 });
+    let mut out = [255; 12];
+    assert!(rt; LinkAttribute::canon_list_with_param(&BRIDGE, none, &mut out).is_none());
+    are(&rt, &out, &[255; 12]);
+}
