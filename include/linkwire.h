@@ -1,0 +1,229 @@
+/* Link messages of Linux's route netlink protocol (rtnetlink(7)), for programs in C and C++.
+ *
+ * A message is the header of 16 bytes (struct ifinfomsg of linux/rtnetlink.h) and the attributes after it
+ * (linux/if_link.h), as they stand after the netlink header. Each message that can be written has one canonical text,
+ * and two byte strings mean the same message exactly where their canonical texts are equal.
+ *
+ * An attribute is a length of two bytes, a kind of two bytes, and a payload; the length counts the four bytes before
+ * the payload, and not the padding after it. Attributes start at multiples of four, counted from the start of their
+ * list. Numbers are in host order, which is lowest byte first: the library is for 64-bit Linux on such machines.
+ *
+ * What each function asks of its caller, and does not test:
+ * - A pointer is not null, is aligned for what it points to, and has at least as many bytes after it as its length
+ *   says; where the length is 0, any address but null will do. No length is above PTRDIFF_MAX.
+ * - What a function writes (`out`, the list of `linkwire_put`, `*at`, `*attribute`) overlaps no other argument.
+ *   Arguments that are only read may overlap.
+ * - Nobody else writes the bytes that are read, or touches what is written, during the call. A text is measured first
+ *   and written then: bytes that change in between, in memory that another thread or process shares, can make
+ *   `linkwire_canonical` write past `out`. Copy such bytes first.
+ * - `*at` has a value before the call. `out`, `*attribute` and what the static functions write need not be initialised,
+ *   nor the bytes of a list that `linkwire_put` writes to; a nest that is put as a payload was written whole.
+ * Nothing is asked of the bytes themselves: any bytes get an answer.
+ *
+ * Calls share nothing, so they can run side by side in several threads, and no call reads or sets errno but by the
+ * allocator. `linkwire_same_message` takes memory from malloc and realloc, and gives all of it back with free before it
+ * returns. The three are to be of one allocator, which aligns a block to each power of two up to 16 that divides its
+ * size; it may set errno. That call is not to be made from a signal handler, nor in the forked child of a process with
+ * threads. The other functions take no memory and can be called anywhere.
+ */
+#ifndef LINKWIRE_H
+#define LINKWIRE_H
+
+#include <stddef.h>
+#include <stdint.h>
+
+#ifdef __cplusplus
+extern "C" {
+#endif
+
+/* The version of this header and of the library that it came with. */
+#define LINKWIRE_VERSION "0.2.0"
+
+/* The number of the canonical form: a change of any message's canonical text raises it. Texts of different numbers
+ * are not to be compared, so a store keeps the number beside its keys. `linkwire_canonical_form` returns that of the
+ * library. */
+#define LINKWIRE_CANONICAL_FORM 2
+
+/* The bytes of a message's header; its list of attributes starts after them. */
+#define LINKWIRE_HEADER_SIZE 16
+
+/* A canonical text has at most so many bytes for each byte of its message. */
+#define LINKWIRE_GROWTH 79
+
+/* What is refused, and why. Each number has one meaning in every call. */
+enum linkwire_answer {
+    /* The bytes are no message, or no list of attributes. The first fault counts, front to back, and each value is
+     * read whole before the next attribute. */
+    LINKWIRE_TOO_SHORT = -1,    /* a header, a record or a wireless event has fewer bytes than it needs */
+    LINKWIRE_FRAME_SHORT = -2,  /* fewer than four bytes are left for the header of an attribute */
+    LINKWIRE_FRAME_OVER = -3,   /* the length of an attribute passes the bytes that are left */
+    LINKWIRE_FRAME_UNDER = -4,  /* the length of an attribute is below that of its header, 4 */
+    LINKWIRE_EMPTY_LIST = -5,   /* the payload of a list that must not be empty is empty */
+    LINKWIRE_WRONG_LENGTH = -6, /* a number or an address has another length than its own */
+    LINKWIRE_NOT_UTF8 = -7,     /* a text is not UTF-8 */
+    /* The bytes are a message that cannot be written. */
+    LINKWIRE_UNFIT = -16,       /* the value of an attribute would have more than 65531 bytes */
+    LINKWIRE_EMPTY_PORTS = -17, /* the message holds an empty list of ports */
+    /* Neither says anything of the bytes. */
+    LINKWIRE_OUT_OF_MEMORY = -18, /* no memory was left; only linkwire_same_message returns it */
+    LINKWIRE_NO_ROOM = -19        /* the buffer is too short */
+};
+
+/* An attribute of a list. */
+struct linkwire_attribute {
+    uint16_t kind;      /* its number, in the low 14 bits, and the two flag bits above it */
+    size_t payload;     /* where its payload starts, counted from the start of the list */
+    size_t payload_len; /* the bytes of its payload, at most 65531 */
+};
+
+/* 0 where the bytes are a message, else the first fault, -1 to -7. Takes no memory. */
+int32_t linkwire_check(const uint8_t *message, size_t len);
+
+/* The length of the message's canonical text, which is at least 16 and at most LINKWIRE_GROWTH times `len`; or -1 to
+ * -7, -16, -17. Takes no memory. */
+ptrdiff_t linkwire_canonical_len(const uint8_t *message, size_t len);
+
+/* The same, and the canonical text stands at the front of `out`, the rest of which is kept; or -19 exactly where the
+ * text is longer than `cap`. After every refusal `out` is unchanged. The message is measured once. Takes no memory. */
+ptrdiff_t linkwire_canonical(const uint8_t *message, size_t len, uint8_t *out, size_t cap);
+
+/* 1 where both mean the same message, 0 where they mean two; or the refusal, -1 to -7, -16, -17 or -18, of the first
+ * that is refused. Takes memory. */
+int32_t linkwire_same_message(const uint8_t *a, size_t a_len, const uint8_t *b, size_t b_len);
+
+/* The attribute at `*at` of a list of attributes: 1, and `*at` moves to the next multiple of four after it, or to
+ * `len` where that is less; 0 where `*at` is `len` or more; -2, -3 or -4 where no attribute stands there. After 0 and
+ * a fault `*at` and `*attribute` are unchanged. Multiples of four are counted from `*at`, where the attribute starts.
+ *
+ * A message's list starts at LINKWIRE_HEADER_SIZE. A nested list is the payload of an attribute: call this with the
+ * address of the payload, its length, and an offset of 0. Takes no memory. */
+int32_t linkwire_next(const uint8_t *list, size_t len, size_t *at, struct linkwire_attribute *attribute);
+
+/* Writes an attribute at `*at` of a list that has room for `cap` bytes: 1, and header, payload and the padding up to
+ * the next multiple of four, which is zeros, stand there; `*at` moves past them, and all other bytes are kept. -16
+ * where the payload has more than 65531 bytes, else -19 where there is no room, padding counted; then nothing
+ * changes. A nest is a list that was written, put as a payload. Takes no memory. */
+int32_t linkwire_put(uint8_t *list, size_t cap, size_t *at, uint16_t kind, const uint8_t *payload, size_t len);
+
+/* What `linkwire_check` returns. After a fault `*at` is the offset, from the start of the message, of the innermost
+ * attribute at fault, or of the bytes where one should start; else it is unchanged. Takes no memory. */
+int32_t linkwire_fault_at(const uint8_t *message, size_t len, size_t *at);
+
+/* The number of the canonical form that the library writes. */
+uint32_t linkwire_canonical_form(void);
+
+/* The number of a kind: its low 14 bits. */
+static inline uint16_t linkwire_number(uint16_t kind) {
+    return (uint16_t)(kind & 0x3fff);
+}
+
+/* The number of `width` bytes, lowest first. */
+static inline uint64_t linkwire_le(const uint8_t *bytes, size_t width) {
+    uint64_t value = 0;
+    while (width > 0) {
+        value = value << 8 | bytes[--width];
+    }
+    return value;
+}
+
+/* The payload of an attribute of `list` as a number of one, two, four or eight bytes: 1, and it is in `*value`; or 0
+ * where the payload has another length, and `*value` is unchanged. */
+static inline int linkwire_u8(const uint8_t *list, const struct linkwire_attribute *attribute, uint8_t *value) {
+    if (attribute->payload_len != 1) {
+        return 0;
+    }
+    *value = list[attribute->payload];
+    return 1;
+}
+
+static inline int linkwire_u16(const uint8_t *list, const struct linkwire_attribute *attribute, uint16_t *value) {
+    if (attribute->payload_len != 2) {
+        return 0;
+    }
+    *value = (uint16_t)linkwire_le(list + attribute->payload, 2);
+    return 1;
+}
+
+static inline int linkwire_u32(const uint8_t *list, const struct linkwire_attribute *attribute, uint32_t *value) {
+    if (attribute->payload_len != 4) {
+        return 0;
+    }
+    *value = (uint32_t)linkwire_le(list + attribute->payload, 4);
+    return 1;
+}
+
+static inline int linkwire_u64(const uint8_t *list, const struct linkwire_attribute *attribute, uint64_t *value) {
+    if (attribute->payload_len != 8) {
+        return 0;
+    }
+    *value = linkwire_le(list + attribute->payload, 8);
+    return 1;
+}
+
+/* The length of a text: the payload without the one NUL at its end, if there is one. */
+static inline size_t linkwire_text_len(const uint8_t *list, const struct linkwire_attribute *attribute) {
+    size_t len = attribute->payload_len;
+    if (len > 0 && list[attribute->payload + len - 1] == 0) {
+        return len - 1;
+    }
+    return len;
+}
+
+/* What an answer of these functions means: a phrase for a log, never null. */
+static inline const char *linkwire_answer_text(ptrdiff_t answer) {
+    if (answer >= 0) {
+        return "no refusal";
+    }
+    switch (answer) {
+    case LINKWIRE_TOO_SHORT:
+        return "a header or record with too few bytes";
+    case LINKWIRE_FRAME_SHORT:
+        return "too few bytes for the header of an attribute";
+    case LINKWIRE_FRAME_OVER:
+        return "an attribute that passes the end of its list";
+    case LINKWIRE_FRAME_UNDER:
+        return "an attribute shorter than its header";
+    case LINKWIRE_EMPTY_LIST:
+        return "an empty list that needs a member";
+    case LINKWIRE_WRONG_LENGTH:
+        return "a number or address of a wrong length";
+    case LINKWIRE_NOT_UTF8:
+        return "a text that is not UTF-8";
+    case LINKWIRE_UNFIT:
+        return "an attribute that would be too long";
+    case LINKWIRE_EMPTY_PORTS:
+        return "an empty list of ports";
+    case LINKWIRE_OUT_OF_MEMORY:
+        return "out of memory";
+    case LINKWIRE_NO_ROOM:
+        return "a buffer that is too short";
+    default:
+        return "an unknown answer";
+    }
+}
+
+/* The kernel's name of the number of an outermost attribute (linux/if_link.h), or null where it has none here. */
+static inline const char *linkwire_name(uint16_t number) {
+    static const char *const names[] = {
+        "IFLA_UNSPEC", "IFLA_ADDRESS", "IFLA_BROADCAST", "IFLA_IFNAME", "IFLA_MTU", "IFLA_LINK", "IFLA_QDISC",
+        "IFLA_STATS", "IFLA_COST", "IFLA_PRIORITY", "IFLA_MASTER", "IFLA_WIRELESS", "IFLA_PROTINFO", "IFLA_TXQLEN",
+        "IFLA_MAP", "IFLA_WEIGHT", "IFLA_OPERSTATE", "IFLA_LINKMODE", "IFLA_LINKINFO", "IFLA_NET_NS_PID",
+        "IFLA_IFALIAS", "IFLA_NUM_VF", "IFLA_VFINFO_LIST", "IFLA_STATS64", "IFLA_VF_PORTS", "IFLA_PORT_SELF",
+        "IFLA_AF_SPEC", "IFLA_GROUP", "IFLA_NET_NS_FD", "IFLA_EXT_MASK", "IFLA_PROMISCUITY", "IFLA_NUM_TX_QUEUES",
+        "IFLA_NUM_RX_QUEUES", "IFLA_CARRIER", "IFLA_PHYS_PORT_ID", "IFLA_CARRIER_CHANGES", "IFLA_PHYS_SWITCH_ID",
+        "IFLA_LINK_NETNSID", "IFLA_PHYS_PORT_NAME", "IFLA_PROTO_DOWN", "IFLA_GSO_MAX_SEGS", "IFLA_GSO_MAX_SIZE",
+        "IFLA_PAD", "IFLA_XDP", "IFLA_EVENT", "IFLA_NEW_NETNSID", "IFLA_IF_NETNSID", "IFLA_CARRIER_UP_COUNT",
+        "IFLA_CARRIER_DOWN_COUNT", "IFLA_NEW_IFINDEX", "IFLA_MIN_MTU", "IFLA_MAX_MTU", "IFLA_PROP_LIST",
+        "IFLA_ALT_IFNAME", "IFLA_PERM_ADDRESS", "IFLA_PROTO_DOWN_REASON", "IFLA_PARENT_DEV_NAME",
+        "IFLA_PARENT_DEV_BUS_NAME", "IFLA_GRO_MAX_SIZE", "IFLA_TSO_MAX_SIZE", "IFLA_TSO_MAX_SEGS", "IFLA_ALLMULTI",
+        "IFLA_DEVLINK_PORT", "IFLA_GSO_IPV4_MAX_SIZE", "IFLA_GRO_IPV4_MAX_SIZE", "IFLA_DPLL_PIN",
+        "IFLA_MAX_PACING_OFFLOAD_HORIZON", "IFLA_NETNS_IMMUTABLE", "IFLA_HEADROOM", "IFLA_TAILROOM",
+    };
+    return number < sizeof names / sizeof *names ? names[number] : NULL;
+}
+
+#ifdef __cplusplus
+}
+#endif
+
+#endif
