@@ -8,6 +8,8 @@ trap 'rm -f "$log"' EXIT
 rt ci | tee "$log"
 scripts/program.sh
 scripts/c_tests.sh --over-gate
+python3 scripts/readme.py out/liblinkwire.a
+scripts/test_install.sh
 scripts/refused_memory.sh
 scripts/refused_parse.sh
 scripts/kernel_tables.sh
