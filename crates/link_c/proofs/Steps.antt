@@ -34,7 +34,7 @@ told_is : (b : List ℕ) (at : ℕ) (a : Attribute) (f : Frame) (rest : List ℕ
     → a.payload_len ≡ length f.payload → told b a ≡ f
 told_is b at a f rest h kind payload len =
     let payload_is : take a.payload_len (drop a.payload b) ≡ f.payload =
-      ap (λ k. take a.payload_len (drop k b)) payload ∙ ap (take a.payload_len) (sym (drop-drop 4 at b)) ∙ payload_at (drop at b) f rest a.payload_len len h in
+    ap (λ k. take a.payload_len (drop k b)) payload ∙ ap (take a.payload_len) (sym (drop-drop 4 at b)) ∙ payload_at (drop at b) f rest a.payload_len len h in
     λ i. record { kind = kind i; payload = payload_is i }
 
 -- the frame that stands at a place, told, and the next place
@@ -44,10 +44,10 @@ told_step b at next a f rest some h kind payload len next_is =
     let told_f = told_is b at a f rest h kind payload len in
     let size = length-begins (drop at b) f rest h in
     let rest_is : rest ≡ drop next b =
-      step_rest (drop at b) f rest (step_whole (drop at b) f rest h)
-      ∙ drop-drop (4 + length f.payload + missing (length f.payload)) at b
-      ∙ ap (λ k. drop k b) (ap (λ n. at + (4 + n + missing n)) (sym len) ∙ omega arith)
-      ∙ sym (drop_min (at + 4 + a.payload_len + missing a.payload_len) b)
-      ∙ ap (λ k. drop k b) (sym next_is) in
+    step_rest (drop at b) f rest (step_whole (drop at b) f rest h)
+    ∙ drop-drop (4 + length f.payload + missing (length f.payload)) at b
+    ∙ ap (λ k. drop k b) (ap (λ n. at + (4 + n + missing n)) (sym len) ∙ omega arith)
+    ∙ sym (drop_min (at + 4 + a.payload_len + missing a.payload_len) b)
+    ∙ ap (λ k. drop k b) (sym next_is) in
     let begins : Begins (drop at b) (told b a) (drop next b) = subst (λ r. Begins (drop at b) (told b a) r) rest_is (subst (λ g. Begins (drop at b) g rest) (sym told_f) h) in
     record { begins = begins; payload = payload; within = omega (arith, size, length-drop at b); next_is = next_is; frames = frames_go_on (drop at b) (told b a) (drop next b) begins; fault = fault_goes_on (drop at b) (told b a) (drop next b) begins }

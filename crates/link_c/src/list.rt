@@ -37,7 +37,11 @@ fn after(size: usize, at: usize, payload_len: usize) -> usize
 /// The attribute at this place of a list, and the place moves on to the next; false at the end of the list.
 ///
 /// Refuses a fault. After it, and at the end, nothing changes.
-pub fn next_attribute(list: &[u8], at: &mut usize, attribute: &mut Attribute) -> Result<bool, Refusal>
+pub fn next_attribute(
+    list: &[u8],
+    at: &mut usize,
+    attribute: &mut Attribute,
+) -> Result<bool, Refusal>
     ensures { IsNext list.now at.old at.new attribute.old attribute.new result }
 {
     if *at >= list.len() {
@@ -58,7 +62,12 @@ pub fn next_attribute(list: &[u8], at: &mut usize, attribute: &mut Attribute) ->
 ///
 /// Refuses `Unfit` where the payload has more than 65531 bytes, and else `NoRoom` where the attribute and its padding have
 /// no room. Then nothing changes.
-pub fn put_attribute(list: &mut [u8], at: &mut usize, kind: u16, payload: &[u8]) -> Result<(), Refusal>
+pub fn put_attribute(
+    list: &mut [u8],
+    at: &mut usize,
+    kind: u16,
+    payload: &[u8],
+) -> Result<(), Refusal>
     ensures { IsPut kind payload.now list.old list.new at.old at.new result }
 {
     if payload.len() > 65531 {
