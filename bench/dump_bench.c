@@ -1,5 +1,5 @@
-/* Times the functions of linkwire.h on messages as kernels send them (linux/if_link.h), beside a plain copy of each, and
- * what a byte costs as a message grows. Processor time, the best of several rounds. */
+/* Times the functions of linkwire.h on messages as kernels send them (linux/if_link.h), beside a plain copy of each,
+ * and what a byte costs as a message grows. Processor time, the best of several rounds. */
 #include <stdint.h>
 #include <stdio.h>
 #include <stdlib.h>

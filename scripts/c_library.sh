@@ -14,7 +14,8 @@ cd "$top/crates/link_c"
 "${build[@]}" > "$top/out/link_c.log" 2>&1 || { tail -20 "$top/out/link_c.log" >&2; exit 1; }
 cd "$top/out"
 # One object of the crate and of what it calls of the toolchain, whose names are made local.
-ld -r -z noexecstack -o linkwire.o --whole-archive ../crates/link_c/out/liblink_c.a --no-whole-archive "$kit/c/liblibc_c.a"
+ld -r -z noexecstack -o linkwire.o \
+    --whole-archive ../crates/link_c/out/liblink_c.a --no-whole-archive "$kit/c/liblibc_c.a"
 objcopy --wildcard --keep-global-symbol='linkwire_*' linkwire.o
 rm -f liblinkwire.a
 ar rcs liblinkwire.a linkwire.o

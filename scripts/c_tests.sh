@@ -1,6 +1,6 @@
 #!/usr/bin/env bash
-# Builds the libraries for programs in C, looks at their symbols, compiles the header in each language, and runs the tests
-# of tests/c. Takes the flags of c_library.sh. The last line is 'c tests passed'.
+# Builds the libraries for programs in C, looks at their symbols, compiles the header in each language, and runs the
+# tests of tests/c. Takes the flags of c_library.sh. The last line is 'c tests passed'.
 set -euo pipefail
 top=$(cd "$(dirname "$0")/.." && pwd)
 library=$("$top/scripts/c_library.sh" "$@")
@@ -24,7 +24,8 @@ readelf -d "$shared" | grep -q 'SONAME.*\[liblinkwire\.so\.0\]'
 header() {
     for compiler in "${@:2}"; do
         command -v "$compiler" >/dev/null || continue
-        "$compiler" "${warnings[@]}" -std="$1" -x "${1%[0-9][0-9]}" -o "$top/out/header" "$top/tests/c/header.c" -x none "$library"
+        "$compiler" "${warnings[@]}" -std="$1" -o "$top/out/header" \
+            -x "${1%[0-9][0-9]}" "$top/tests/c/header.c" -x none "$library"
         "$top/out/header"
     done
 }

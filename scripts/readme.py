@@ -1,5 +1,5 @@
-"""Compiles and runs each program of README.md that the line '<!-- runs: c -->' stands before, and compares what it prints
-with the block after it, whose first line is the command. Takes the library; the last line is 'readme passed'."""
+"""Compiles and runs each program of README.md after a line '<!-- runs: c -->', and compares what it prints with the next
+block, whose first line is the command. Takes the library; the last line is 'readme passed'."""
 
 import os
 import re

@@ -1,6 +1,6 @@
 #!/usr/bin/env bash
-# Installs what is built into an empty folder, compiles tests/install.c there by pkg-config alone, runs it with each of the
-# libraries, looks at the manual pages, and takes all away again. The last line is 'install passed'.
+# Installs what is built into an empty folder, compiles tests/install.c there by pkg-config alone, runs it with each
+# library, looks at the manual pages, and takes all away again. The last line is 'install passed'.
 set -euo pipefail
 top=$(cd "$(dirname "$0")/.." && pwd)
 folder=$(mktemp -d)

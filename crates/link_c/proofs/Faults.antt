@@ -26,7 +26,8 @@ look_at b old new None (Ok fine) found refused moved h = (h, moved)
 look_at b old new None (Err (Refusals.Fault c)) found refused moved h = absurd (h.refused found.0 found.1)
 look_at b old new (Some at) (Ok fine) found refused moved h = absurd (refused h.0 h.1)
 look_at b old new (Some at) (Err (Refusals.Fault c)) found refused moved h =
-    (h, subst (λ n. FaultsAt b c n) (sym moved) (subst (λ d. FaultsAt b d at) (one_cause b found.0 c found.1 h.first) found.2))
+    let there = subst (λ d. FaultsAt b d at) (one_cause b found.0 c found.1 h.first) found.2 in
+    (h, subst (λ n. FaultsAt b c n) (sym moved) there)
 look_at b old new place (Err Refusals.Unfit) found refused moved h = absurd h
 look_at b old new place (Err Refusals.EmptyPorts) found refused moved h = absurd h
 look_at b old new place (Err Refusals.OutOfMemory) found refused moved h = absurd h

@@ -48,7 +48,8 @@ pub fn text_len(bytes: &[u8]) -> Result<usize, Refusal>
 /// Writes what the bytes mean, as canonical text, to the front of the buffer, and returns its length. The rest of the
 /// buffer is kept.
 ///
-/// Refuses faults, `Unfit`, `EmptyPorts`, and `NoRoom` where the text is longer than the buffer, which then is unchanged.
+/// Refuses faults, `Unfit`, `EmptyPorts`, and `NoRoom` where the text is longer than the buffer. Then the buffer is
+/// unchanged.
 pub fn write_text(bytes: &[u8], out: &mut [u8]) -> Result<usize, Refusal>
     ensures written { IsText bytes.now out.old out.new result }
     ensures short { IfOk result (λ n. n < 2 ^ 63) }
