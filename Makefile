@@ -1,34 +1,44 @@
 PREFIX ?= /usr/local
 PROGRAM = crates/linkwire/out/linkwire
+# With BUILT=1 `install` takes what is built already.
+BUILT ?=
 
-.PHONY: run build check edits tables bench install
+.PHONY: run build lib check edits tables bench c-tests c-bench install uninstall help
 
-# Answers the lines of standard input: echo 00000000000000000000000000000000060003006c6f | make -s run
-run:
+run: ## answers the lines of standard input: echo 00000000000000000000000000000000060003006c6f | make -s run
 	@scripts/build.sh && $(PROGRAM)
 
-build:
+build: ## proves and builds the program
 	@scripts/build.sh
 
-# The gate and the scripts beside it; its last line is the gate's.
-check:
+lib: ## proves and builds out/liblinkwire.a and out/liblinkwire.so.0, for programs in C, and prints where they are
+	@scripts/c_library.sh
+
+check: ## runs the gate and the scripts beside it; its last line is the gate's
 	@scripts/check.sh
 
-# Tries the edits that the gate has no time for; it takes more than an hour.
-edits:
+edits: ## tries the edits that the gate has no time for; it takes more than an hour
 	@scripts/more_edits.sh
 	@scripts/tested_edits.sh
 
-# Prints the tables as JSON, after they were compared with the kernel's files: make -s tables >tables.json
-tables:
+tables: ## prints the tables as JSON, after they were compared with the kernel's files: make -s tables >tables.json
 	@scripts/kernel_tables.sh >&2
 	@scripts/kernel_tables.sh --json
 
-bench: build
+bench: build c-bench ## times the program and the library
 	@bench/run.sh $(PROGRAM)
 
-install: build
-	install -d $(DESTDIR)$(PREFIX)/bin
-	install -m 755 $(PROGRAM) $(DESTDIR)$(PREFIX)/bin/linkwire
+c-tests: ## runs the tests of the library for C
+	@scripts/c_tests.sh
 
-include Makefile.lib
+c-bench: ## times the library for C
+	@scripts/c_bench.sh
+
+install: $(if $(BUILT),,build lib) ## installs program, header, libraries and manual pages below $(DESTDIR)$(PREFIX)
+	@scripts/install.sh "$(DESTDIR)" "$(PREFIX)"
+
+uninstall: ## takes them away
+	@scripts/install.sh --remove "$(DESTDIR)" "$(PREFIX)"
+
+help: ## lists the targets
+	@sed -n 's/^\([a-z][a-z-]*\):.*## \(.*\)/\1: \2/p' Makefile

@@ -1,7 +1,7 @@
 #!/usr/bin/env bash
-# Proves and builds the library for programs in C, out/liblink.a, and prints where it is. It holds the exported functions
-# and the toolchain's calls of malloc, realloc and free. With --over-gate it stands on the libraries that the gate proved
-# and left, and only its own crate is proved.
+# Proves and builds the libraries for programs in C, out/liblinkwire.a and out/liblinkwire.so.0, and prints where the
+# first is. They define linkwire_* and nothing else, and need nothing but the C library. With --over-gate they stand on
+# the libraries that the gate proved and left, and only their own crate is proved.
 set -euo pipefail
 top=$(cd "$(dirname "$0")/.." && pwd)
 kit=$(dirname "$(dirname "$(readlink -f "$(command -v rt)")")")
@@ -14,12 +14,11 @@ else
     "$top/scripts/progress.sh" link_c lib "$log"
 fi
 cd "$top/out"
-rm -f liblink.a
-ar -M <<END
-create liblink.a
-addlib ../crates/link_c/out/liblink_c.a
-addlib $kit/c/liblibc_c.a
-save
-end
-END
-echo "$top/out/liblink.a"
+# One object of the crate and of what it calls of the toolchain, whose names are made local.
+ld -r -z noexecstack -o linkwire.o --whole-archive ../crates/link_c/out/liblink_c.a --no-whole-archive "$kit/c/liblibc_c.a"
+objcopy --wildcard --keep-global-symbol='linkwire_*' linkwire.o
+rm -f liblinkwire.a
+ar rcs liblinkwire.a linkwire.o
+${CC:-cc} -shared -Wl,-soname,liblinkwire.so.0 -Wl,-z,defs -Wl,-z,noexecstack -o liblinkwire.so.0 linkwire.o
+ln -sf liblinkwire.so.0 liblinkwire.so
+echo "$top/out/liblinkwire.a"

@@ -1,11 +1,40 @@
-#!/bin/sh
-# Builds the library, and runs the tests of tests/c against it. The last line is 'c tests passed'.
-set -eu
+#!/usr/bin/env bash
+# Builds the libraries for programs in C, looks at their symbols, compiles the header in each language, and runs the tests
+# of tests/c. Takes the flags of c_library.sh. The last line is 'c tests passed'.
+set -euo pipefail
 top=$(cd "$(dirname "$0")/.." && pwd)
 library=$("$top/scripts/c_library.sh" "$@")
+shared=${library%.a}.so.0
+warnings=(-Wall -Wextra -Wpedantic -Wconversion -Wshadow -Werror -I"$top/include")
+
+# What a library defines for others, one name a line.
+names() {
+    nm --defined-only --extern-only --format=posix "$@" | awk 'NF > 1 { print $1 }' | sort
+}
+declared=$(sed -n 's/^[a-z][a-z0-9_]* *.*[ *]\(linkwire_[a-z_]*\)(.*;$/\1/p' "$top/include/linkwire.h" | sort)
+for found in "$(names "$library")" "$(names -D "$shared")"; do
+    if [ "$found" != "$declared" ]; then
+        printf 'c tests: a library defines other names than the header declares:\n%s\n' "$found" >&2
+        exit 1
+    fi
+done
+readelf -d "$shared" | grep -q 'SONAME.*\[liblinkwire\.so\.0\]'
+
+# Compiles the header's own program as a language, by each compiler of it that is there, and runs it.
+header() {
+    for compiler in "${@:2}"; do
+        command -v "$compiler" >/dev/null || continue
+        "$compiler" "${warnings[@]}" -std="$1" -x "${1%[0-9][0-9]}" -o "$top/out/header" "$top/tests/c/header.c" -x none "$library"
+        "$top/out/header"
+    done
+}
+header c99 gcc clang
+header c11 gcc clang
+header c++17 g++ clang++
+
 for test in "$top"/tests/c/*.c; do
     program="$top/out/$(basename "$test" .c)"
-    ${CC:-cc} -std=c11 -O1 -Wall -Wextra -Werror -I"$top/include" -o "$program" "$test" "$library"
+    ${CC:-cc} -std=c11 -O1 -Wall -Wextra -Wpedantic -Wshadow -Werror -I"$top/include" -o "$program" "$test" "$library"
     "$program"
 done
 echo 'c tests passed'

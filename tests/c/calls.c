@@ -1,9 +1,9 @@
-/* Calls each function of link.h: accepted texts, each refusal, and buffers that are too short. */
+/* Calls each function of linkwire.h on messages: accepted texts, each refusal, and buffers that are too short. */
 #include <stdio.h>
 #include <stdlib.h>
 #include <string.h>
 
-#include "link.h"
+#include "linkwire.h"
 
 static int failures;
 
@@ -16,30 +16,32 @@ static void expect(int line, const char *what, long found, long want) {
 
 #define EXPECT(call, want) expect(__LINE__, #call, (long)(call), (long)(want))
 
-/* A header of family 0 and index 7, and attributes behind it. */
+/* A header of family 0 and index 7, and attributes after it. */
 #define HEADER 0, 0, 1, 0, 7, 0, 0, 0, 0x43, 0, 1, 0, 0, 0, 0, 0
 /* A header whose second byte, which is not read, is not zero. */
 #define HEADER_RESERVED 0, 9, 1, 0, 7, 0, 0, 0, 0x43, 0, 1, 0, 0, 0, 0, 0
 
-#define BYTES(...) (const uint8_t[]){__VA_ARGS__}, sizeof((const uint8_t[]){__VA_ARGS__})
-
 struct fault {
     const char *name;
-    int cause;
+    int answer;
     size_t len;
-    uint8_t bytes[40];
+    size_t at;
+    uint8_t bytes[48];
 };
 
 static const struct fault faults[] = {
-    {"no bytes", LINK_TOO_SHORT, 0, {0}},
-    {"15 bytes", LINK_TOO_SHORT, 15, {0}},
-    {"three bytes behind the header", LINK_FRAME_SHORT, 19, {HEADER, 8, 0, 4}},
-    {"a length that passes the end", LINK_FRAME_OVER, 20, {HEADER, 5, 0, 1, 0}},
-    {"a length of 3", LINK_FRAME_UNDER, 20, {HEADER, 3, 0, 1, 0}},
-    {"an empty list that needs a member", LINK_EMPTY_LIST, 20, {HEADER, 4, 0, 43, 0}},
-    {"a number of three bytes", LINK_WRONG_LENGTH, 23, {HEADER, 7, 0, 4, 0, 1, 2, 3}},
-    {"a name that is not UTF-8", LINK_NOT_UTF8, 22, {HEADER, 6, 0, 3, 0, 0xff, 0}},
-    {"the first of two faults", LINK_NOT_UTF8, 29, {HEADER, 6, 0, 3, 0, 0xff, 0, 0, 0, 7, 0, 4, 0, 1}},
+    {"no bytes", LINKWIRE_TOO_SHORT, 0, 0, {0}},
+    {"15 bytes", LINKWIRE_TOO_SHORT, 15, 0, {0}},
+    {"three bytes after the header", LINKWIRE_FRAME_SHORT, 19, 16, {HEADER, 8, 0, 4}},
+    {"a length that passes the end", LINKWIRE_FRAME_OVER, 20, 16, {HEADER, 5, 0, 1, 0}},
+    {"a length of 3", LINKWIRE_FRAME_UNDER, 20, 16, {HEADER, 3, 0, 1, 0}},
+    {"an empty list that needs a member", LINKWIRE_EMPTY_LIST, 20, 16, {HEADER, 4, 0, 43, 0}},
+    {"a number of three bytes", LINKWIRE_WRONG_LENGTH, 23, 16, {HEADER, 7, 0, 4, 0, 1, 2, 3}},
+    {"a name that is not UTF-8", LINKWIRE_NOT_UTF8, 22, 16, {HEADER, 6, 0, 3, 0, 0xff, 0}},
+    {"the first of two faults", LINKWIRE_NOT_UTF8, 29, 16, {HEADER, 6, 0, 3, 0, 0xff, 0, 0, 0, 7, 0, 4, 0, 1}},
+    {"after an attribute", LINKWIRE_WRONG_LENGTH, 29, 24, {HEADER, 7, 0, 3, 0, 'l', 'o', 0, 0, 5, 0, 4, 0, 1}},
+    {"a name in a list", LINKWIRE_NOT_UTF8, 26, 20, {HEADER, 10, 0, 52, 0, 6, 0, 53, 0, 0xff, 0}},
+    {"stray bytes in a list", LINKWIRE_FRAME_SHORT, 30, 28, {HEADER, 14, 0, 52, 0, 6, 0, 53, 0, 'a', 0, 0, 0, 1, 0}},
 };
 
 /* A name with no NUL and a number with both flag bits, and its canonical text. */
@@ -57,68 +59,55 @@ static int all_bytes_are(const uint8_t *bytes, size_t len, uint8_t want) {
 }
 
 static void refuses(void) {
-    uint8_t out[LINK_GROWTH * 40];
+    uint8_t out[LINKWIRE_GROWTH * 48];
     for (size_t i = 0; i < sizeof faults / sizeof *faults; i++) {
         const struct fault *fault = &faults[i];
-        if (link_check(fault->bytes, fault->len) != -fault->cause) {
-            fprintf(stderr, "%s: %d\n", fault->name, (int)link_check(fault->bytes, fault->len));
+        if (linkwire_check(fault->bytes, fault->len) != fault->answer) {
+            fprintf(stderr, "%s: %d\n", fault->name, (int)linkwire_check(fault->bytes, fault->len));
             failures++;
         }
         memset(out, 0x55, sizeof out);
-        EXPECT(link_canonical(fault->bytes, fault->len, out, sizeof out), LINK_REFUSED);
-        EXPECT(link_canonical_into(fault->bytes, fault->len, out, sizeof out), LINK_REFUSED);
+        EXPECT(linkwire_canonical_len(fault->bytes, fault->len), fault->answer);
+        EXPECT(linkwire_canonical(fault->bytes, fault->len, out, sizeof out), fault->answer);
+        EXPECT(linkwire_canonical(fault->bytes, fault->len, out, 0), fault->answer);
         EXPECT(all_bytes_are(out, sizeof out, 0x55), 1);
-        EXPECT(link_same_message(fault->bytes, fault->len, text, sizeof text), LINK_REFUSED);
-        EXPECT(link_same_message(text, sizeof text, fault->bytes, fault->len), LINK_REFUSED);
+        EXPECT(linkwire_same_message(fault->bytes, fault->len, text, sizeof text), fault->answer);
+        EXPECT(linkwire_same_message(text, sizeof text, fault->bytes, fault->len), fault->answer);
+        EXPECT(linkwire_same_message(fault->bytes, fault->len, faults[0].bytes, 0), fault->answer);
     }
 }
 
 static void writes(void) {
-    uint8_t out[LINK_GROWTH * sizeof message + 1];
-    EXPECT(link_check(message, sizeof message), 0);
-    EXPECT(link_check(text, sizeof text), 0);
-
-    memset(out, 0x55, sizeof out);
-    EXPECT(link_canonical(message, sizeof message, out, sizeof out), sizeof text);
-    EXPECT(memcmp(out, text, sizeof text), 0);
-    EXPECT(all_bytes_are(out + sizeof text, sizeof out - sizeof text, 0x55), 1);
-
-    memset(out, 0x55, sizeof out);
-    EXPECT(link_canonical_into(message, sizeof message, out, sizeof out), sizeof text);
-    EXPECT(memcmp(out, text, sizeof text), 0);
-    EXPECT(all_bytes_are(out + sizeof text, sizeof out - sizeof text, 0x55), 1);
-}
-
-static void tells_short_buffers(void) {
-    uint8_t out[LINK_GROWTH * sizeof message];
-    memset(out, 0x55, sizeof out);
-    EXPECT(link_canonical(message, sizeof message, out, sizeof text - 1), LINK_OUT_TOO_SHORT);
-    EXPECT(link_canonical(message, sizeof message, out, 0), LINK_OUT_TOO_SHORT);
-    EXPECT(link_canonical_into(message, sizeof message, out, sizeof text - 1), LINK_OUT_TOO_SHORT);
-    EXPECT(link_canonical_into(message, sizeof message, out, 0), LINK_OUT_TOO_SHORT);
-    const struct fault *fault = &faults[1];
-    EXPECT(link_canonical_into(fault->bytes, fault->len, out, 0), LINK_REFUSED);
-    EXPECT(all_bytes_are(out, sizeof out, 0x55), 1);
-    EXPECT(link_canonical(message, sizeof message, out, sizeof text), sizeof text);
-    EXPECT(memcmp(out, text, sizeof text), 0);
-    memset(out, 0x55, sizeof out);
-    EXPECT(link_canonical_into(message, sizeof message, out, sizeof text), sizeof text);
-    EXPECT(memcmp(out, text, sizeof text), 0);
-    EXPECT(all_bytes_are(out + sizeof text, sizeof out - sizeof text, 0x55), 1);
+    uint8_t out[sizeof message + 9];
+    EXPECT(linkwire_check(message, sizeof message), 0);
+    EXPECT(linkwire_check(text, sizeof text), 0);
+    EXPECT(linkwire_canonical_len(message, sizeof message), sizeof text);
+    for (size_t cap = 0; cap <= sizeof out; cap++) {
+        memset(out, 0x55, sizeof out);
+        if (cap < sizeof text) {
+            EXPECT(linkwire_canonical(message, sizeof message, out, cap), LINKWIRE_NO_ROOM);
+            EXPECT(all_bytes_are(out, sizeof out, 0x55), 1);
+        } else {
+            EXPECT(linkwire_canonical(message, sizeof message, out, cap), sizeof text);
+            EXPECT(memcmp(out, text, sizeof text), 0);
+            EXPECT(all_bytes_are(out + sizeof text, sizeof out - sizeof text, 0x55), 1);
+        }
+    }
 }
 
 static void compares(void) {
-    EXPECT(link_same_message(message, sizeof message, text, sizeof text), 1);
-    EXPECT(link_same_message(text, sizeof text, text, sizeof text), 1);
-    EXPECT(link_same_message(message, sizeof message, other, sizeof other), 0);
-    EXPECT(link_same_message(BYTES(HEADER), text, sizeof text), 0);
+    static const uint8_t header[] = {HEADER};
+    EXPECT(linkwire_same_message(message, sizeof message, text, sizeof text), 1);
+    EXPECT(linkwire_same_message(text, sizeof text, text, sizeof text), 1);
+    EXPECT(linkwire_same_message(message, sizeof message, other, sizeof other), 0);
+    EXPECT(linkwire_same_message(header, sizeof header, text, sizeof text), 0);
 }
 
 /* A list of 16,382 names of no bytes: each grows from four bytes to eight, so that the list no longer fits. */
 static void refuses_what_does_not_fit(void) {
     enum { NAMES = 16382, PAYLOAD = 4 * NAMES, LEN = 16 + 4 + PAYLOAD };
     uint8_t *bytes = calloc(LEN, 1);
-    uint8_t *out = malloc((size_t)LINK_GROWTH * LEN);
+    uint8_t *out = malloc((size_t)LINKWIRE_GROWTH * LEN);
     if (bytes == NULL || out == NULL) {
         fprintf(stderr, "no memory\n");
         exit(1);
@@ -130,11 +119,14 @@ static void refuses_what_does_not_fit(void) {
         bytes[at] = 4;
         bytes[at + 2] = 53;
     }
-    EXPECT(link_check(bytes, LEN), 0);
-    EXPECT(link_canonical(bytes, LEN, out, (size_t)LINK_GROWTH * LEN), LINK_UNFIT);
-    EXPECT(link_canonical_into(bytes, LEN, out, (size_t)LINK_GROWTH * LEN), LINK_UNFIT);
-    EXPECT(link_same_message(text, sizeof text, bytes, LEN), LINK_UNFIT);
-    EXPECT(link_same_message(bytes, LEN, faults[0].bytes, faults[0].len), LINK_UNFIT);
+    memset(out, 0x55, (size_t)LINKWIRE_GROWTH * LEN);
+    EXPECT(linkwire_check(bytes, LEN), 0);
+    EXPECT(linkwire_canonical_len(bytes, LEN), LINKWIRE_UNFIT);
+    EXPECT(linkwire_canonical(bytes, LEN, out, (size_t)LINKWIRE_GROWTH * LEN), LINKWIRE_UNFIT);
+    EXPECT(linkwire_canonical(bytes, LEN, out, 0), LINKWIRE_UNFIT);
+    EXPECT(all_bytes_are(out, (size_t)LINKWIRE_GROWTH * LEN, 0x55), 1);
+    EXPECT(linkwire_same_message(text, sizeof text, bytes, LEN), LINKWIRE_UNFIT);
+    EXPECT(linkwire_same_message(bytes, LEN, faults[0].bytes, faults[0].len), LINKWIRE_UNFIT);
     free(out);
     free(bytes);
 }
@@ -142,22 +134,38 @@ static void refuses_what_does_not_fit(void) {
 /* The one entry has another number than 1 and is dropped, and the empty list of ports cannot be written. */
 static void refuses_empty_ports(void) {
     static const uint8_t bytes[] = {HEADER, 8, 0, 24, 0, 4, 0, 2, 0};
-    uint8_t out[LINK_GROWTH * sizeof bytes];
-    EXPECT(link_check(bytes, sizeof bytes), 0);
+    uint8_t out[LINKWIRE_GROWTH * sizeof bytes];
+    EXPECT(linkwire_check(bytes, sizeof bytes), 0);
+    EXPECT(linkwire_canonical_len(bytes, sizeof bytes), LINKWIRE_EMPTY_PORTS);
     memset(out, 0x55, sizeof out);
-    EXPECT(link_canonical(bytes, sizeof bytes, out, sizeof out), LINK_EMPTY_PORTS);
+    EXPECT(linkwire_canonical(bytes, sizeof bytes, out, sizeof out), LINKWIRE_EMPTY_PORTS);
+    EXPECT(linkwire_canonical(bytes, sizeof bytes, out, 0), LINKWIRE_EMPTY_PORTS);
     EXPECT(all_bytes_are(out, sizeof out, 0x55), 1);
-    EXPECT(link_canonical_into(bytes, sizeof bytes, out, sizeof out), LINK_EMPTY_PORTS);
-    EXPECT(all_bytes_are(out, sizeof out, 0x55), 1);
-    EXPECT(link_same_message(bytes, sizeof bytes, faults[0].bytes, faults[0].len), LINK_EMPTY_PORTS);
+    EXPECT(linkwire_same_message(bytes, sizeof bytes, faults[0].bytes, faults[0].len), LINKWIRE_EMPTY_PORTS);
+    EXPECT(linkwire_same_message(text, sizeof text, bytes, sizeof bytes), LINKWIRE_EMPTY_PORTS);
+}
+
+static void tells_where_a_fault_is(void) {
+    size_t at = 0x5555;
+    EXPECT(linkwire_fault_at(message, sizeof message, &at), 0);
+    EXPECT(at, 0x5555);
+    for (size_t i = 0; i < sizeof faults / sizeof *faults; i++) {
+        at = 0x5555;
+        EXPECT(linkwire_fault_at(faults[i].bytes, faults[i].len, &at), faults[i].answer);
+        if (at != faults[i].at) {
+            fprintf(stderr, "%s: at %zu and not %zu\n", faults[i].name, at, faults[i].at);
+            failures++;
+        }
+    }
 }
 
 int main(void) {
+    EXPECT(linkwire_canonical_form(), LINKWIRE_CANONICAL_FORM);
     refuses();
     writes();
-    tells_short_buffers();
     compares();
     refuses_what_does_not_fit();
     refuses_empty_ports();
+    tells_where_a_fault_is();
     return failures != 0;
 }

@@ -1,9 +1,9 @@
-/* Refuses each call for memory in turn: the answers are LINK_OUT_OF_MEMORY, never another one, until memory is ample, and
- * all memory is given back. The calls that take none get none. */
+/* Refuses each call of linkwire_same_message for memory in turn: it returns LINKWIRE_OUT_OF_MEMORY, and nothing else,
+ * until memory is ample, and all memory is given back. The other functions take none. */
 #include <stdio.h>
 #include <string.h>
 
-#include "link.h"
+#include "linkwire.h"
 
 static const uint8_t message[] = {
     /* a header and two alternative names */
@@ -60,19 +60,12 @@ void *calloc(size_t count, size_t size) {
 }
 
 static int wrong(const char *what, long at, long found) {
-    fprintf(stderr, "memory.c: %s answers %ld where call %ld for memory is refused\n", what, found, at);
+    fprintf(stderr, "memory.c: %s returns %ld where call %ld for memory is refused\n", what, found, at);
     return 1;
 }
 
-static uint8_t out[LINK_GROWTH * sizeof message];
-
-static long canonical(void) {
-    memset(out, 0x55, sizeof out);
-    return link_canonical(message, sizeof message, out, sizeof out);
-}
-
 static long same(void) {
-    return link_same_message(message, sizeof message, message, sizeof message);
+    return linkwire_same_message(message, sizeof message, message, sizeof message);
 }
 
 /* Refuses the first call for memory, then the second, and so on, until no call is refused. */
@@ -81,7 +74,6 @@ static int refuses_each(const char *what, long (*call)(void), long want) {
         used = 0;
         refused_from = at;
         taken = 0;
-        out[0] = 0x55;
         long found = call();
         if (in_use != 0) {
             return wrong("a call that kept memory", at, found);
@@ -89,22 +81,37 @@ static int refuses_each(const char *what, long (*call)(void), long want) {
         if (taken <= at) {
             return found == want ? 0 : wrong(what, at, found);
         }
-        if (found != LINK_OUT_OF_MEMORY || out[0] != 0x55) {
+        if (found != LINKWIRE_OUT_OF_MEMORY) {
             return wrong(what, at, found);
         }
     }
 }
 
-int main(void) {
-    setvbuf(stderr, NULL, _IONBF, 0);
+/* Calls each function that takes no memory where all memory is refused. */
+static int takes_none(void) {
+    static uint8_t out[LINKWIRE_GROWTH * sizeof message];
+    static uint8_t list[8];
+    size_t at = LINKWIRE_HEADER_SIZE, end = 0;
+    struct linkwire_attribute attribute;
     used = 0;
     in_use = 0;
     refused_from = 0;
     taken = 0;
-    long checked = link_check(message, sizeof message);
-    long len = link_canonical_into(message, sizeof message, out, sizeof out);
-    if (checked != 0 || len <= 0 || taken != 0) {
-        return wrong("a call that takes no memory", 0, checked != 0 ? checked : len);
+    long checked = linkwire_check(message, sizeof message);
+    long measured = linkwire_canonical_len(message, sizeof message);
+    long written = linkwire_canonical(message, sizeof message, out, sizeof out);
+    long found = linkwire_next(message, sizeof message, &at, &attribute);
+    long put = linkwire_put(list, sizeof list, &end, 4, message, 4);
+    long fault = linkwire_fault_at(message, 15, &at);
+    if (checked != 0 || measured <= 0 || written != measured || found != 1 || put != 1 || fault != -1 || taken != 0) {
+        fprintf(stderr, "memory.c: with no memory %ld %ld %ld %ld %ld %ld, and %ld calls for it\n", checked, measured,
+                written, found, put, fault, taken);
+        return 1;
     }
-    return refuses_each("link_canonical", canonical, len) || refuses_each("link_same_message", same, 1);
+    return 0;
+}
+
+int main(void) {
+    setvbuf(stderr, NULL, _IONBF, 0);
+    return takes_none() || refuses_each("linkwire_same_message", same, 1);
 }

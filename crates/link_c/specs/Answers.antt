@@ -1,52 +1,49 @@
--- What the exported functions answer: numbers of at least 0, and refusals as minus their numbers.
-use Rattle.std.specs.Prelude.{◌≡◌, ◌≢◌, ℕ, ℤ, pos, negsuc, suc, ◌<◌, Bool, List, length, Result, Ok, Err, if◌then◌else◌}
-use Rattle.nla_wire.specs.Canon.{Writes}
-use Rattle.nla_wire.specs.declared.error.Cause.{Cause}
-use Rattle.nla_wire.specs.declared.error.Cause.TheVariants.{OutOfMemory}
-use Rattle.link_msg.specs.Messages.{Means, Refused, IsRefused}
-use Rattle.link_msg.specs.Canonical.{HasText, IsRefusal, IsRefusalOfTwo, AreSame, IsWithin}
-use Rattle.link_msg.specs.CanonErrors.{canon_error_number, SameRefusal}
-use Rattle.link_msg.specs.declared.message.LinkMessage.{LinkMessage}
+-- What the exported functions return: numbers of at least 0, and refusals as minus their numbers.
+use Rattle.std.specs.Prelude.{◌≡◌, ℕ, ℤ, pos, negsuc, suc, Bool, Result, Ok, Err, if◌then◌else◌}
+use Rattle.nla_wire.specs.Causes.{cause_number}
 use Rattle.link_msg.specs.declared.canonical_text.CanonError.{CanonError}
+use Rattle.link_msg.specs.declared.canonical_text.CanonError.TheVariants as Canons
+use Rattle.link_msg.specs.declared.canonical_text.RoomError.{RoomError}
 use Rattle.link_msg.specs.declared.canonical_text.RoomError.TheVariants as Rooms
-use Rattle.link_c.specs.declared.text.TextError.{TextError}
-use Rattle.link_c.specs.declared.text.TextError.TheVariants.{NoText, OutTooShort}
+use Rattle.link_c.specs.declared.refusal.Refusal.{Refusal}
+use Rattle.link_c.specs.declared.refusal.Refusal.TheVariants.{Fault, Unfit, EmptyPorts, OutOfMemory, NoRoom}
 
--- the number of why nothing was written
-abbrev pub text_error_number : TextError → ℕ
-text_error_number (NoText e) = canon_error_number e
-text_error_number OutTooShort = 5
+abbrev pub refusal_number : Refusal → ℕ
+refusal_number (Fault c) = cause_number c
+refusal_number Unfit = 16
+refusal_number EmptyPorts = 17
+refusal_number OutOfMemory = 18
+refusal_number NoRoom = 19
 
--- two errors are one: one refusal, or both times a buffer that is too short
-abbrev pub SameError : TextError → TextError → Type 0
-SameError (NoText e) (NoText f) = SameRefusal e f
-SameError a b = text_error_number a ≡ text_error_number b
+-- a refusal of `canonical` and its kin
+abbrev pub of_canon : CanonError → Refusal
+of_canon (Canons.Decode e) = Fault e.cause
+of_canon Canons.DoesNotFit = Unfit
+of_canon Canons.EmptyVfPorts = EmptyPorts
+of_canon Canons.OutOfMemory = OutOfMemory
 
--- a call of C's answered: what it says holds at the number that was found, or at a refusal whose number it answers
--- negated
-abbrev pub Says : {E : Type 0} → (E → ℕ) → (Result ℕ E → Type 0) → ℤ → Type 0
-Says number says (pos n) = says (Ok n)
-Says {E} number says (negsuc n) = (e : E) × (number e ≡ suc n) × says (Err e)
+-- a refusal of `canonical_within`
+abbrev pub of_room : RoomError → Refusal
+of_room (Rooms.NoText e) = of_canon e
+of_room (Rooms.NoRoom wanted) = NoRoom
 
--- b means a message, and the number is 0; or this is its first fault
-abbrev pub IsLook : List ℕ → Result ℕ Cause → Type 0
-IsLook b (Ok n) = ((m : LinkMessage) × Means b m) × (n ≡ 0)
-IsLook b (Err c) = Refused b c × (c ≢ OutOfMemory) × IsRefused b
+-- what was found holds of the number that a call returned, or of a refusal whose number it returned negated
+abbrev pub Says : {A : Type 0} → (A → ℕ) → (Result A Refusal → Type 0) → ℤ → Type 0
+Says {A} number says (pos n) = (a : A) × (n ≡ number a) × says (Ok a)
+Says number says (negsuc n) = (e : Refusal) × (refusal_number e ≡ suc n) × says (Err e)
 
--- the canonical text of the message that b means stands at the front, n bytes, and the rest is kept; or the buffer is
--- as it was, since there is no text, or it has fewer bytes than the text
-abbrev pub IsText : List ℕ → List ℕ → List ℕ → Result ℕ TextError → Type 0
-IsText b old new (Ok n) = (t : List ℕ) × HasText b t × Writes t old new n
-IsText b old new (Err (NoText e)) = IsRefusal b e × (new ≡ old)
-IsText b old new (Err OutTooShort) = ((t : List ℕ) × HasText b t × (length old < length t)) × (new ≡ old)
+-- the number of a length is itself
+abbrev pub itself : ℕ → ℕ
+itself n = n
 
--- the same with no memory
-abbrev pub IsTextInto : List ℕ → List ℕ → List ℕ → Result ℕ TextError → Type 0
-IsTextInto b old new (Ok n) = IsWithin b old new (Ok n)
-IsTextInto b old new (Err (NoText e)) = IsWithin b old new (Err (Rooms.NoText e))
-IsTextInto b old new (Err OutTooShort) = (wanted : ℕ) × IsWithin b old new (Err (Rooms.NoRoom wanted))
+-- 1 for yes, 0 for no
+abbrev pub as_bit : Bool → ℕ
+as_bit answer = if answer then 1 else 0
 
--- 1 where a and b mean the same message, 0 where they do not; or why one of them means none that can be written
-abbrev pub IsAlike : List ℕ → List ℕ → Result ℕ CanonError → Type 0
-IsAlike a b (Ok n) = (answer : Bool) × AreSame a b answer × (n ≡ (if answer then 1 else 0))
-IsAlike a b (Err e) = IsRefusalOfTwo a b e
+-- 1 where something was done
+abbrev pub as_one : Unit {0} → ℕ
+as_one done = 1
+
+-- 0 where nothing was found amiss
+abbrev pub as_zero : Unit {0} → ℕ
+as_zero fine = 0

@@ -1,40 +1,68 @@
 //! The functions that a program in C calls. A slice is a pointer and then its length, and `Global` takes no bytes.
 
-ghost use Rattle.nla_wire.specs.Causes.{cause_number};
-ghost use Rattle.link_msg.specs.CanonErrors.{canon_error_number};
-ghost use Rattle.link_c.specs.Answers.{Says, IsLook, IsText, IsTextInto, IsAlike, text_error_number};
+ghost use Rattle.std.specs.Prelude.{◌≡◌};
+ghost use Rattle.link_c.specs.Answers.{Says, itself, as_bit, as_one, as_zero};
+ghost use Rattle.link_c.specs.Messages.{IsLook, IsLength, IsText, IsAlike};
+ghost use Rattle.link_c.specs.Lists.{IsNext, IsPut};
 
-use crate::text::{canonical_code, canonical_into_code, check_code, same_code};
+use crate::list::{Attribute, next_attribute, put_attribute};
+use crate::message::{are_alike, check_message, text_len, write_text};
+use crate::refusal::{done_code, fault_code, length_code, whether_code};
+use link_msg::CANONICAL_FORM;
 use std::alloc::Global;
 
-/// `link_check` of link.h.
+/// `linkwire_check` of linkwire.h.
 #[unsafe(no_mangle)]
-pub extern "C" fn link_check(bytes: &[u8]) -> i32
-    ensures { Says cause_number (IsLook bytes.now) result }
+pub extern "C" fn linkwire_check(message: &[u8]) -> i32
+    ensures { Says as_zero (IsLook message.now) result }
 {
-    check_code(bytes)
+    fault_code(check_message(message))
 }
 
-/// `link_canonical` of link.h.
+/// `linkwire_canonical_len` of linkwire.h.
 #[unsafe(no_mangle)]
-pub extern "C" fn link_canonical(alloc: Global, bytes: &[u8], out: &mut [u8]) -> isize
-    ensures { Says text_error_number (IsText bytes.now out.old out.new) result }
+pub extern "C" fn linkwire_canonical_len(message: &[u8]) -> isize
+    ensures { Says itself (IsLength message.now) result }
 {
-    canonical_code(alloc, bytes, out)
+    length_code(text_len(message))
 }
 
-/// `link_canonical_into` of link.h.
+/// `linkwire_canonical` of linkwire.h.
 #[unsafe(no_mangle)]
-pub extern "C" fn link_canonical_into(bytes: &[u8], out: &mut [u8]) -> isize
-    ensures { Says text_error_number (IsTextInto bytes.now out.old out.new) result }
+pub extern "C" fn linkwire_canonical(message: &[u8], out: &mut [u8]) -> isize
+    ensures { Says itself (IsText message.now out.old out.new) result }
 {
-    canonical_into_code(bytes, out)
+    length_code(write_text(message, out))
 }
 
-/// `link_same_message` of link.h.
+/// `linkwire_same_message` of linkwire.h.
 #[unsafe(no_mangle)]
-pub extern "C" fn link_same_message(alloc: Global, first: &[u8], second: &[u8]) -> i32
-    ensures { Says canon_error_number (IsAlike first.now second.now) result }
+pub extern "C" fn linkwire_same_message(alloc: Global, a: &[u8], b: &[u8]) -> i32
+    ensures { Says as_bit (IsAlike a.now b.now) result }
 {
-    same_code(alloc, first, second)
+    whether_code(are_alike(alloc, a, b))
+}
+
+/// `linkwire_next` of linkwire.h.
+#[unsafe(no_mangle)]
+pub extern "C" fn linkwire_next(list: &[u8], at: &mut usize, attribute: &mut Attribute) -> i32
+    ensures { Says as_bit (IsNext list.now at.old at.new attribute.old attribute.new) result }
+{
+    whether_code(next_attribute(list, at, attribute))
+}
+
+/// `linkwire_put` of linkwire.h.
+#[unsafe(no_mangle)]
+pub extern "C" fn linkwire_put(list: &mut [u8], at: &mut usize, kind: u16, payload: &[u8]) -> i32
+    ensures { Says as_one (IsPut kind payload.now list.old list.new at.old at.new) result }
+{
+    done_code(put_attribute(list, at, kind, payload))
+}
+
+/// `linkwire_canonical_form` of linkwire.h.
+#[unsafe(no_mangle)]
+pub extern "C" fn linkwire_canonical_form() -> u32
+    ensures { result ≡ 2 }
+{
+    CANONICAL_FORM
 }

@@ -1,7 +1,9 @@
-//! Link messages for programs in C: `include/link.h` declares what is exported here.
+//! Link messages for programs in C: `include/linkwire.h` declares what is exported here.
 #![tactic(auto)]
 
 pub mod export;
+pub mod list;
+pub mod message;
+pub mod refusal;
 #[cfg(test)]
 mod tests;
-pub mod text;

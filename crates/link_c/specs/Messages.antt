@@ -1,0 +1,70 @@
+-- What the calls on messages find.
+use Rattle.std.specs.Prelude.{◌≡◌, ◌≢◌, ℕ, ◌<◌, ◌≤◌, ◌^◌, ◌⊎◌, Bool, List, length, Result, Ok, Err}
+use Rattle.nla_wire.specs.Canon.{Writes}
+use Rattle.nla_wire.specs.declared.error.Cause.{Cause}
+use Rattle.nla_wire.specs.declared.error.Cause.TheVariants as Causes
+use Rattle.link_msg.specs.Messages.{Means, Refused, IsRefused, message_text}
+use Rattle.link_msg.specs.Canonical.{IsAccepted, IsUnfit, HasEmptyPorts, AreSame}
+use Rattle.link_msg.specs.declared.message.LinkMessage.{LinkMessage}
+use Rattle.link_c.specs.declared.refusal.Refusal.{Refusal}
+use Rattle.link_c.specs.declared.refusal.Refusal.TheVariants.{Fault, Unfit, EmptyPorts, OutOfMemory, NoRoom}
+
+-- this is the first fault of b, which means no message; it is never want of memory
+pub record IsFault (b : List ℕ) (c : Cause) : Type 0 where
+  pub first : Refused b c
+  pub refused : IsRefused b
+  pub memory : c ≢ Causes.OutOfMemory
+
+-- b means a message, or this is its first fault
+abbrev pub IsLook : List ℕ → Result (Unit {0}) Refusal → Type 0
+IsLook b (Ok fine) = (m : LinkMessage) × Means b m
+IsLook b (Err (Fault c)) = IsFault b c
+IsLook b (Err Unfit) = ⊥
+IsLook b (Err EmptyPorts) = ⊥
+IsLook b (Err OutOfMemory) = ⊥
+IsLook b (Err NoRoom) = ⊥
+
+-- why b means no message that can be written
+abbrev pub IsWhy : List ℕ → Refusal → Type 0
+IsWhy b (Fault c) = IsFault b c
+IsWhy b Unfit = IsUnfit b
+IsWhy b EmptyPorts = HasEmptyPorts b
+IsWhy b OutOfMemory = ⊥
+IsWhy b NoRoom = ⊥
+
+-- b means a message that can be written, and its canonical text has a number of bytes of which this holds
+abbrev pub HasTextOf : List ℕ → (ℕ → Type 0) → Type 0
+HasTextOf b holds = (m : LinkMessage) × IsAccepted b m × holds (length (message_text m))
+
+-- the length of the canonical text, which C can count; or why there is none. What has a longer text does not fit
+abbrev pub IsLength : List ℕ → Result ℕ Refusal → Type 0
+IsLength b (Ok n) = HasTextOf b (λ len. n ≡ len) × (n < 2 ^ 63)
+IsLength b (Err Unfit) = IsUnfit b ⊎ HasTextOf b (λ len. 2 ^ 63 ≤ len)
+IsLength b (Err (Fault c)) = IsWhy b (Fault c)
+IsLength b (Err EmptyPorts) = IsWhy b EmptyPorts
+IsLength b (Err OutOfMemory) = ⊥
+IsLength b (Err NoRoom) = ⊥
+
+-- the canonical text stands at the front, n bytes, and the rest is kept; or the buffer is as it was, since there is no
+-- text, or since it has fewer bytes than the text
+abbrev pub IsText : List ℕ → List ℕ → List ℕ → Result ℕ Refusal → Type 0
+IsText b old new (Ok n) = (m : LinkMessage) × IsAccepted b m × Writes (message_text m) old new n
+IsText b old new (Err NoRoom) = HasTextOf b (λ len. length old < len) × (new ≡ old)
+IsText b old new (Err (Fault c)) = IsWhy b (Fault c) × (new ≡ old)
+IsText b old new (Err Unfit) = IsWhy b Unfit × (new ≡ old)
+IsText b old new (Err EmptyPorts) = IsWhy b EmptyPorts × (new ≡ old)
+IsText b old new (Err OutOfMemory) = ⊥
+
+-- the first is refused so; or it can be written, and the second is refused so
+abbrev pub IsWhyOfTwo : List ℕ → List ℕ → Refusal → Type 0
+IsWhyOfTwo a b e = IsWhy a e ⊎ (((m : LinkMessage) × IsAccepted a m) × IsWhy b e)
+
+-- whether a and b mean the same message; or why one of them means none that can be written. That memory ran out says
+-- nothing of them
+abbrev pub IsAlike : List ℕ → List ℕ → Result Bool Refusal → Type 0
+IsAlike a b (Ok answer) = AreSame a b answer
+IsAlike a b (Err OutOfMemory) = Unit {0}
+IsAlike a b (Err (Fault c)) = IsWhyOfTwo a b (Fault c)
+IsAlike a b (Err Unfit) = IsWhyOfTwo a b Unfit
+IsAlike a b (Err EmptyPorts) = IsWhyOfTwo a b EmptyPorts
+IsAlike a b (Err NoRoom) = ⊥

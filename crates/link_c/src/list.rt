@@ -1,0 +1,72 @@
+//! Lists of attributes: read one at a time, and written.
+
+ghost use Rattle.std.specs.Prelude.{◌≡◌, ◌+◌, ◌≤◌, length, min};
+ghost use Rattle.nla_wire.specs.Frames.{missing};
+ghost use Rattle.link_c.specs.Lists.{IsNext, IsPut};
+
+use crate::refusal::Refusal;
+use nla_wire::{NLA_HEADER_SIZE, NlaBuffer, padded_len, write_value};
+
+/// An attribute of a list: `struct linkwire_attribute` of linkwire.h.
+#[repr(C)]
+#[derive(Clone, Copy, Debug, PartialEq, Eq)]
+pub struct Attribute {
+    /// The number, in the low 14 bits, and both flag bits.
+    pub kind: u16,
+    /// Where the payload starts, counted from the start of the list.
+    pub payload: usize,
+    /// The bytes of the payload.
+    pub payload_len: usize,
+}
+
+/// The next multiple of four after a frame with a payload of this length, counted from the place where it starts; or the
+/// end of the list, where that is less.
+fn after(size: usize, at: usize, payload_len: usize) -> usize
+    requires { at + 4 + payload_len ≤ size }
+    ensures { result ≡ min (at + 4 + payload_len + missing payload_len) size }
+{
+    let padding = (4 - payload_len % 4) % 4;
+    let end = at + NLA_HEADER_SIZE + payload_len;
+    if padding < size - end {
+        end + padding
+    } else {
+        size
+    }
+}
+
+/// The attribute at this place of a list, and the place moves on to the next; false at the end of the list.
+///
+/// Refuses a fault. After it, and at the end, nothing changes.
+pub fn next_attribute(list: &[u8], at: &mut usize, attribute: &mut Attribute) -> Result<bool, Refusal>
+    ensures { IsNext list.now at.old at.new attribute.old attribute.new result }
+{
+    if *at >= list.len() {
+        return Ok(false);
+    }
+    let frame = NlaBuffer::new_checked(&list[*at..])?;
+    let payload_len = frame.value().len();
+    *attribute = Attribute {
+        kind: frame.kind_with_flags(),
+        payload: *at + NLA_HEADER_SIZE,
+        payload_len,
+    };
+    *at = after(list.len(), *at, payload_len);
+    Ok(true)
+}
+
+/// Writes an attribute at this place of a list, and the place moves on past it.
+///
+/// Refuses `Unfit` where the payload has more than 65531 bytes, and else `NoRoom` where the attribute and its padding have
+/// no room. Then nothing changes.
+pub fn put_attribute(list: &mut [u8], at: &mut usize, kind: u16, payload: &[u8]) -> Result<(), Refusal>
+    ensures { IsPut kind payload.now list.old list.new at.old at.new result }
+{
+    if payload.len() > 65531 {
+        return Err(Refusal::Unfit);
+    }
+    if *at > list.len() || list.len() - *at < padded_len(payload.len()) {
+        return Err(Refusal::NoRoom);
+    }
+    *at += write_value(kind, payload, &mut list[*at..]);
+    Ok(())
+}

@@ -1,0 +1,51 @@
+//! Messages: checked, measured, written and compared.
+
+ghost use Rattle.std.specs.Prelude.{◌<◌, ◌^◌, IfOk};
+ghost use Rattle.link_c.specs.Messages.{IsLook, IsLength, IsText, IsAlike};
+
+use crate::refusal::Refusal;
+use link_msg::{LinkMessage, canonical_len, canonical_within, same_message};
+use std::alloc::Global;
+
+/// Whether the bytes are a message, or the first fault.
+pub fn check_message(bytes: &[u8]) -> Result<(), Refusal>
+    ensures { IsLook bytes.now result }
+{
+    LinkMessage::check(bytes)?;
+    Ok(())
+}
+
+/// The length of the canonical text of what the bytes mean.
+///
+/// Refuses faults, `Unfit`, also where C has no number for the length, and `EmptyPorts`.
+pub fn text_len(bytes: &[u8]) -> Result<usize, Refusal>
+    ensures { IsLength bytes.now result }
+{
+    let len = canonical_len(bytes)?;
+    if len > isize::MAX as usize {
+        return Err(Refusal::Unfit);
+    }
+    Ok(len)
+}
+
+/// Writes what the bytes mean, as canonical text, to the front of the buffer, and returns its length. The rest of the
+/// buffer is kept.
+///
+/// Refuses faults, `Unfit`, `EmptyPorts`, and `NoRoom` where the text is longer than the buffer, which then is unchanged.
+pub fn write_text(bytes: &[u8], out: &mut [u8]) -> Result<usize, Refusal>
+    ensures written { IsText bytes.now out.old out.new result }
+    ensures short { IfOk result (λ n. n < 2 ^ 63) }
+{
+    let len = canonical_within(bytes, out)?;
+    Ok(len)
+}
+
+/// Whether both mean the same message.
+///
+/// Refuses as `write_text` does, but for `NoRoom`, and `OutOfMemory`.
+pub fn are_alike(alloc: Global, first: &[u8], second: &[u8]) -> Result<bool, Refusal>
+    ensures { IsAlike first.now second.now result }
+{
+    let answer = same_message(alloc, first, second)?;
+    Ok(answer)
+}
