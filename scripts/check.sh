@@ -8,6 +8,9 @@ trap 'rm -f "$log"' EXIT
 rt ci | tee "$log"
 scripts/program.sh
 scripts/c_tests.sh --over-gate
+scripts/rust_tests.sh
+scripts/parallel_test.sh
+scripts/test_progress.sh
 scripts/refused_memory.sh
 scripts/refused_parse.sh
 scripts/kernel_tables.sh

@@ -20,7 +20,13 @@ seconds() {
 }
 one() { linkwire <"$folder/lines" >"$folder/one"; }
 spread() { parallel --pipe --keep-order --block 8M linkwire <"$folder/lines" >"$folder/spread" 2>"$folder/err"; }
+of_file() {
+    parallel --pipepart -a "$folder/lines" --keep-order --block 8M linkwire >"$folder/of_file" 2>"$folder/err"
+}
 one_took=$(seconds one)
 spread_took=$(seconds spread)
+of_file_took=$(seconds of_file)
 cmp "$folder/one" "$folder/spread"
-echo "parallel: the same bytes from $(nproc) cores, ${1:-20} MB: one process $one_took, parallel $spread_took"
+cmp "$folder/one" "$folder/of_file"
+echo "parallel: the same bytes from $(nproc) cores, ${1:-20} MB: one process $one_took," \
+    "parallel --pipe $spread_took, --pipepart $of_file_took"
