@@ -55,6 +55,34 @@ reads_hex() {
     fi
 }
 
+# with FAULT: what links prints where a kernel does what it seldom does
+with() {
+    LD_PRELOAD=$folder/kernel_faults.so KERNEL_FAULT=$1 "$folder/links"
+}
+
+# meets the faults of tests/live/kernel_faults.c, in a namespace, where nothing changes meanwhile
+meets_faults() {
+    ${CC:-cc} -O1 -Wall -Wextra -Werror -shared -fPIC -o "$folder/kernel_faults.so" "$top/tests/live/kernel_faults.c" -ldl
+    "$folder/links" >"$folder/lines"
+    local fault
+    for fault in interrupted 'ran over'; do
+        if ! with "$fault" | cmp -s - "$folder/lines"; then
+            fails "links does not ask again: $fault"
+        fi
+    done
+    for fault in error length; do
+        if with "$fault" >"$folder/out" 2>"$folder/err" || [ -s "$folder/out" ] || ! grep -q '^links: ' "$folder/err"; then
+            fails "links does not tell: $fault"
+        fi
+    done
+    with refused >"$folder/out"
+    if ! (echo 'refused: an attribute shorter than its header, at byte 16' && sed 1d "$folder/lines") |
+        cmp -s - "$folder/out"; then
+        fails 'links does not go on after a message that is refused'
+    fi
+    echo 'live: links: an interrupted dump, a queue that ran over, errors, a message that is refused'
+}
+
 # makes NAME COMMAND..: an interface, if the kernel knows its kind
 known='' unknown=''
 makes() {
@@ -138,6 +166,7 @@ inside() {
     echo "live: kinds that the kernel knows:${known:- none}; and not:${unknown:- none}"
     compares 'a namespace'
     reads_hex 'a namespace'
+    meets_faults
     if [ "$base" = none ]; then
         skips 'setmtu and watch: the kernel knows neither dummy nor veth'
     fi
