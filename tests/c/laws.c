@@ -431,9 +431,9 @@ static void tries_two(const uint8_t *a, size_t a_len, ptrdiff_t length, const ui
         LAW(answer == (length < 0 ? length : b_length));
         return;
     }
-    static uint8_t text[ROOM], b_text[ROOM];
-    LAW(canonical(a, a_len, text, sizeof text) == length);
-    LAW(canonical(b, b_len, b_text, sizeof b_text) == b_length);
+    uint8_t *text = place(&area_of_out, (size_t)length), *b_text = place(&area_of_text, (size_t)b_length);
+    LAW(canonical(a, a_len, text, (size_t)length) == length);
+    LAW(canonical(b, b_len, b_text, (size_t)b_length) == b_length);
     LAW(answer == (length == b_length && memcmp(text, b_text, (size_t)length) == 0));
 }
 
