@@ -39,19 +39,21 @@ ticks() {
 
 # works NAME VERB: one step, and its line
 works() {
-    local label="$((at + 1)) of ${#order[@]} $1" start=$SECONDS ticker='' status=0
+    local label="$((at + 1)) of ${#order[@]} $1" start=$SECONDS status=0
+    (cd "$top/crates/$1" && exec rt "$2") </dev/null >>"$log" 2>&1 &
+    work=$!
     if [ -t 2 ]; then
         ticks "$label" &
         ticker=$!
-        trap 'kill "$ticker" 2>/dev/null || true' EXIT
     else
         echo "$label .." >&2
     fi
-    (cd "$top/crates/$1" && rt "$2") </dev/null >>"$log" 2>&1 || status=$?
+    wait "$work" || status=$?
+    work=''
     if [ -n "$ticker" ]; then
         kill "$ticker" 2>/dev/null || true
         wait "$ticker" 2>/dev/null || true
-        trap - EXIT
+        ticker=''
         printf '\r' >&2
     fi
     if [ "$status" != 0 ]; then
@@ -61,6 +63,15 @@ works() {
     fi
     echo "$label .. $((SECONDS - start)) s" >&2
 }
+
+# Whatever ends this script ends what it started.
+work='' ticker=''
+ends() {
+    kill $work $ticker 2>/dev/null || true
+}
+trap ends EXIT
+trap 'exit 130' INT
+trap 'exit 143' TERM HUP
 
 is_new=no
 for at in "${!order[@]}"; do

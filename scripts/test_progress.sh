@@ -7,7 +7,8 @@ trap 'rm -rf "$folder"' EXIT
 mkdir -p "$folder/bin" "$folder/scripts" "$folder/crates/"{low,mid,top}
 cp "$top/scripts/progress.sh" "$folder/scripts/"
 printf 'low: std\nmid: low\nmid_not: low\ntop staticlib: mid low\n' >"$folder/crates.txt"
-cat >"$folder/bin/rt" <<'END'
+stand_in() {
+    cat >"$folder/bin/rt" <<'END'
 #!/bin/sh
 echo "said by $PWD $*"
 case $PWD in
@@ -19,7 +20,9 @@ if [ "$1" = lib ]; then
     touch out/rlib/stamp
 fi
 END
-chmod +x "$folder/bin/rt"
+    chmod +x "$folder/bin/rt"
+}
+stand_in
 export PATH="$folder/bin:$PATH"
 
 # wants NAME TEXT: what the last run must have printed, without its seconds
@@ -49,6 +52,32 @@ if [ "$status" != 1 ]; then
     echo 'progress: a failure is not told' >&2
     exit 1
 fi
+
+rm -r "$folder/crates/low/out"
+cat >"$folder/bin/rt" <<'END'
+#!/bin/sh
+echo "$$" >pid
+exec sleep 60
+END
+"$folder/scripts/progress.sh" top run "$folder/log" 2>"$folder/err" &
+for ((try = 0; try < 100; try++)); do
+    if [ -s "$folder/crates/low/pid" ]; then break; fi
+    sleep 0.1
+done
+kill $!
+wait $! || true
+pid=$(cat "$folder/crates/low/pid")
+for ((try = 0; try < 50; try++)); do
+    if ! kill -0 "$pid" 2>/dev/null; then break; fi
+    sleep 0.1
+done
+if kill -0 "$pid" 2>/dev/null; then
+    echo 'progress: what was started goes on after its end' >&2
+    exit 1
+fi
+echo 'progress: ended from outside: ok'
+rm "$folder/crates/low/pid"
+stand_in
 
 if ! command -v script >/dev/null; then
     echo 'progress: on a terminal: skipped, no command script'
