@@ -1,9 +1,11 @@
 PREFIX ?= /usr/local
 PROGRAM = crates/linkwire/out/linkwire
+# How long `fuzz` tries messages.
+SECONDS ?= 60
 # With BUILT=1 `install` takes what is built already.
 BUILT ?=
 
-.PHONY: run build lib check edits tables bench c-tests c-bench install uninstall help
+.PHONY: run build lib check edits tables bench c-tests rust-tests fuzz c-bench install uninstall help
 
 run: ## answers the lines of standard input: echo 00000000000000000000000000000000060003006c6f | make -s run
 	@scripts/build.sh && $(PROGRAM)
@@ -28,8 +30,14 @@ tables: ## prints the tables as JSON, after they were compared with the kernel's
 bench: build c-bench ## times the program and the library
 	@bench/run.sh $(PROGRAM)
 
-c-tests: ## runs the tests of the library for C
+c-tests: ## runs the tests of the library for C, and its examples on the running kernel
 	@scripts/c_tests.sh
+
+rust-tests: ## runs the tests of bindings/rust
+	@scripts/rust_tests.sh "$$(scripts/c_library.sh)"
+
+fuzz: ## tries the laws of the library on generated messages, for so long: make fuzz SECONDS=600
+	@scripts/laws.sh "$$(scripts/c_library.sh)" --seconds $(SECONDS)
 
 c-bench: ## times the library for C
 	@scripts/c_bench.sh

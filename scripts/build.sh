@@ -1,10 +1,7 @@
 #!/usr/bin/env bash
-# Proves and builds the program, and says nothing unless that fails.
+# Proves and builds the program, and shows on standard error how far it is.
 set -euo pipefail
-cd "$(dirname "$0")/../crates/linkwire"
+top=$(cd "$(dirname "$0")/.." && pwd)
 log=$(mktemp)
 trap 'rm -f "$log"' EXIT
-if ! rt run </dev/null >"$log" 2>&1; then
-    cat "$log" >&2
-    exit 1
-fi
+"$top/scripts/progress.sh" linkwire run "$log" >&2

@@ -6,12 +6,13 @@ set -euo pipefail
 top=$(cd "$(dirname "$0")/.." && pwd)
 kit=$(dirname "$(dirname "$(readlink -f "$(command -v rt)")")")
 mkdir -p "$top/out" "$top/crates/link_c/out"
-build=(rt lib)
+log=$top/out/link_c.log
 if [ "${1:-}" = --over-gate ]; then
-    build=(python3 "$top/scripts/over_gate.py" "$kit")
+    cd "$top/crates/link_c"
+    python3 "$top/scripts/over_gate.py" "$kit" >"$log" 2>&1 || { tail -20 "$log" >&2; exit 1; }
+else
+    "$top/scripts/progress.sh" link_c lib "$log"
 fi
-cd "$top/crates/link_c"
-"${build[@]}" > "$top/out/link_c.log" 2>&1 || { tail -20 "$top/out/link_c.log" >&2; exit 1; }
 cd "$top/out"
 # One object of the crate and of what it calls of the toolchain, whose names are made local.
 ld -r -z noexecstack -o linkwire.o \

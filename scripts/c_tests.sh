@@ -1,6 +1,7 @@
 #!/usr/bin/env bash
-# Builds the libraries for programs in C, looks at their symbols, compiles the header in each language, and runs the
-# tests of tests/c. Takes the flags of c_library.sh. The last line is 'c tests passed'.
+# Builds the libraries for programs in C, looks at their symbols, compiles the header in each language, and runs the tests
+# of tests/c, the laws, and the examples on the running kernel. Takes the flags of c_library.sh. The last line is 'c tests
+# passed'.
 set -euo pipefail
 top=$(cd "$(dirname "$0")/.." && pwd)
 library=$("$top/scripts/c_library.sh" "$@")
@@ -35,7 +36,10 @@ header c++17 g++ clang++
 
 for test in "$top"/tests/c/*.c; do
     program="$top/out/$(basename "$test" .c)"
+    [ "${program##*/}" != laws ] || continue
     ${CC:-cc} -std=c11 -O1 -Wall -Wextra -Wpedantic -Wshadow -Werror -I"$top/include" -o "$program" "$test" "$library"
     "$program"
 done
+"$top/scripts/laws.sh" "$library"
+"$top/scripts/live_tests.sh" "$library"
 echo 'c tests passed'

@@ -1,0 +1,85 @@
+#!/usr/bin/env bash
+# Proves the crates below a crate, lowest first, and then does its last step: progress.sh CRATE run|lib LOG. Standard
+# error shows which crate is at work, '3 of 9 link_recs .. 41 s'; what rt says goes to the log.
+set -euo pipefail
+top=$(cd "$(dirname "$0")/.." && pwd)
+crate=$1 verb=$2 log=$(realpath "$3")
+: >"$log"
+
+# adds NAME and the repository's crates below it to `order`, each after those that it stands on
+order=()
+add() {
+    local name=$1 dep
+    for dep in $(sed -n "s/^$name\( staticlib\)\?://p" "$top/crates.txt"); do
+        if grep -q "^$dep[: ]" "$top/crates.txt"; then
+            add "$dep"
+        fi
+    done
+    case " ${order[*]-} " in
+    *" $name "*) ;;
+    *) order+=("$name") ;;
+    esac
+}
+add "$crate"
+
+# is_kept NAME: whether the library of an earlier run is newer than all that it is made of
+is_kept() {
+    local stamp=$top/crates/$1/out/rlib/stamp
+    [ -e "$stamp" ] && [ -z "$(find "$top/crates.txt" "$top/crates/$1" -name out -prune -o -newer "$stamp" -type f -print -quit)" ]
+}
+
+# ticks LABEL: the seconds of a line, on a terminal
+ticks() {
+    local start=$SECONDS
+    while kill -0 "$$" 2>/dev/null; do
+        printf '\r%s .. %d s' "$1" $((SECONDS - start)) >&2
+        sleep 1
+    done
+}
+
+# works NAME VERB: one step, and its line
+works() {
+    local label="$((at + 1)) of ${#order[@]} $1" start=$SECONDS status=0
+    (cd "$top/crates/$1" && exec rt "$2") </dev/null >>"$log" 2>&1 &
+    work=$!
+    if [ -t 2 ]; then
+        ticks "$label" &
+        ticker=$!
+    else
+        echo "$label .." >&2
+    fi
+    wait "$work" || status=$?
+    work=''
+    if [ -n "$ticker" ]; then
+        kill "$ticker" 2>/dev/null || true
+        wait "$ticker" 2>/dev/null || true
+        ticker=''
+        printf '\r' >&2
+    fi
+    if [ "$status" != 0 ]; then
+        echo "$label .. failed after $((SECONDS - start)) s" >&2
+        tail -n 40 "$log" >&2
+        exit 1
+    fi
+    echo "$label .. $((SECONDS - start)) s" >&2
+}
+
+# Whatever ends this script ends what it started.
+work='' ticker=''
+ends() {
+    kill $work $ticker 2>/dev/null || true
+}
+trap ends EXIT
+trap 'exit 130' INT
+trap 'exit 143' TERM HUP
+
+is_new=no
+for at in "${!order[@]}"; do
+    name=${order[at]}
+    if [ "$name" = "$crate" ]; then
+        works "$name" "$verb"
+    elif [ "$is_new" = yes ] || ! is_kept "$name"; then
+        is_new=yes
+        works "$name" lib
+    fi
+done

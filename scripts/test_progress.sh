@@ -1,0 +1,92 @@
+#!/usr/bin/env bash
+# Looks at the lines of scripts/progress.sh, with a stand-in for rt that sleeps: in a file, on a terminal, after a failure.
+set -euo pipefail
+top=$(cd "$(dirname "$0")/.." && pwd)
+folder=$(mktemp -d)
+trap 'rm -rf "$folder"' EXIT
+mkdir -p "$folder/bin" "$folder/scripts" "$folder/crates/"{low,mid,top}
+cp "$top/scripts/progress.sh" "$folder/scripts/"
+printf 'low: std\nmid: low\nmid_not: low\ntop staticlib: mid low\n' >"$folder/crates.txt"
+stand_in() {
+    cat >"$folder/bin/rt" <<'END'
+#!/bin/sh
+echo "said by $PWD $*"
+case $PWD in
+*/mid) sleep "${MID_SECONDS:-0}" ;;
+*/top) exit "${TOP_STATUS:-0}" ;;
+esac
+if [ "$1" = lib ]; then
+    mkdir -p out/rlib
+    touch out/rlib/stamp
+fi
+END
+    chmod +x "$folder/bin/rt"
+}
+stand_in
+export PATH="$folder/bin:$PATH"
+
+# wants NAME TEXT: what the last run must have printed, without its seconds
+wants() {
+    if [ "$(sed -E 's/[0-9]+ s$/N s/' "$folder/err")" != "$2" ]; then
+        echo "progress: $1:" >&2
+        cat "$folder/err" >&2
+        exit 1
+    fi
+    echo "progress: $1: ok"
+}
+
+"$folder/scripts/progress.sh" top run "$folder/log" >"$folder/out" 2>"$folder/err"
+wants 'three crates' $'1 of 3 low ..\n1 of 3 low .. N s\n2 of 3 mid ..\n2 of 3 mid .. N s\n3 of 3 top ..\n3 of 3 top .. N s'
+if [ -s "$folder/out" ] || [ "$(grep -c '^said by' "$folder/log")" != 3 ]; then
+    echo 'progress: something is on standard output, or the log lacks a line' >&2
+    exit 1
+fi
+
+sleep 1.1
+touch "$folder/crates/mid/source"
+status=0
+TOP_STATUS=1 "$folder/scripts/progress.sh" top lib "$folder/log" 2>"$folder/err" || status=$?
+head -n 3 "$folder/err" >"$folder/cut" && mv "$folder/cut" "$folder/err"
+wants 'one that changed' $'2 of 3 mid ..\n2 of 3 mid .. N s\n3 of 3 top ..'
+if [ "$status" != 1 ]; then
+    echo 'progress: a failure is not told' >&2
+    exit 1
+fi
+
+rm -r "$folder/crates/low/out"
+cat >"$folder/bin/rt" <<'END'
+#!/bin/sh
+echo "$$" >pid
+exec sleep 60
+END
+"$folder/scripts/progress.sh" top run "$folder/log" 2>"$folder/err" &
+for ((try = 0; try < 100; try++)); do
+    if [ -s "$folder/crates/low/pid" ]; then break; fi
+    sleep 0.1
+done
+kill $!
+wait $! || true
+pid=$(cat "$folder/crates/low/pid")
+for ((try = 0; try < 50; try++)); do
+    if ! kill -0 "$pid" 2>/dev/null; then break; fi
+    sleep 0.1
+done
+if kill -0 "$pid" 2>/dev/null; then
+    echo 'progress: what was started goes on after its end' >&2
+    exit 1
+fi
+echo 'progress: ended from outside: ok'
+rm "$folder/crates/low/pid"
+stand_in
+
+if ! command -v script >/dev/null; then
+    echo 'progress: on a terminal: skipped, no command script'
+    exit 0
+fi
+touch "$folder/crates/mid/source"
+MID_SECONDS=7 script -qec "'$folder/scripts/progress.sh' top run '$folder/log'" /dev/null </dev/null >"$folder/err"
+if [ "$(tr '\r' '\n' <"$folder/err" | grep -c '^2 of 3 mid \.\. [0-9]* s$')" -lt 3 ]; then
+    echo 'progress: the seconds stand still on a terminal' >&2
+    exit 1
+fi
+echo 'progress: on a terminal: ok'

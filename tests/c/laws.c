@@ -1,0 +1,568 @@
+/* Tries the laws of linkwire.h on messages that a seed makes: valid ones from tables of every kind and depth, and
+ * damaged ones. Each message and each buffer ends right before a page that cannot be touched, and in a second round
+ * starts right after one; what is only read cannot be written.
+ *
+ *     laws [MESSAGES [SEED]]      laws --seconds N [SEED]
+ *
+ * A failure prints the message's own seed, with which `laws 1 SEED` tries it alone, and the bytes.
+ */
+#include <signal.h>
+#include <stdio.h>
+#include <stdlib.h>
+#include <string.h>
+#include <sys/mman.h>
+#include <sys/wait.h>
+#include <time.h>
+#include <unistd.h>
+
+#include "linkwire.h"
+
+enum { PAGE = 4096, MOST = 1 << 17, ROOM = 1 << 21, TOUCHED = 2 };
+
+/* The message that is tried. */
+static uint64_t seed;
+static uint8_t tried[MOST], other[MOST];
+static size_t tried_len, other_len;
+
+static void print_hex(const char *name, const uint8_t *bytes, size_t len) {
+    fprintf(stderr, "%s ", name);
+    for (size_t i = 0; i < len; i++) {
+        fprintf(stderr, "%02x", bytes[i]);
+    }
+    fprintf(stderr, "\n");
+}
+
+static void tell(const char *law) {
+    fprintf(stderr, "laws: seed %llu: %s\n", (unsigned long long)seed, law);
+    print_hex("message", tried, tried_len);
+    print_hex("other", other, other_len);
+}
+
+static void refuse(int line, const char *law) {
+    fprintf(stderr, "laws.c:%d: ", line);
+    tell(law);
+    exit(1);
+}
+
+#define LAW(law) ((law) ? (void)0 : refuse(__LINE__, #law))
+
+static void on_touch(int number) {
+    tell(number == SIGSEGV || number == SIGBUS ? "a page was touched that is not the call's" : "a signal");
+    _exit(TOUCHED);
+}
+
+/* Random numbers. */
+
+static uint64_t state;
+
+static uint64_t draw(void) {
+    uint64_t mixed = state += 0x9e3779b97f4a7c15u;
+    mixed = (mixed ^ mixed >> 30) * 0xbf58476d1ce4e5b9u;
+    mixed = (mixed ^ mixed >> 27) * 0x94d049bb133111ebu;
+    return mixed ^ mixed >> 31;
+}
+
+static size_t below(size_t bound) {
+    return (size_t)(draw() % bound);
+}
+
+static int one_in(size_t bound) {
+    return below(bound) == 0;
+}
+
+/* The tables: of each number what its payload is. */
+
+enum place {
+    NO_PLACE, MESSAGE, FUNCTIONS, FUNCTION, COUNTS, VLANS, PORTS, PORT, PROPS, DEVLINK, DPLL, REASONS, XDP, INFO, SPECS,
+    INET, INET6, MCTP, ANY, PLACES
+};
+
+enum shape {
+    BYTES,    /* any bytes */
+    TEXT,     /* UTF-8, and perhaps a NUL */
+    EXACT,    /* so many bytes */
+    AT_LEAST, /* so many bytes, or more */
+    FILLED,   /* a record of so many bytes, cut or filled up */
+    EVENT,    /* a wireless event */
+    LIST,     /* attributes of another place */
+    BY_FAMILY /* what the header's family says */
+};
+
+struct line {
+    uint16_t number;
+    uint8_t shape;
+    uint8_t place;
+    uint16_t size;
+};
+
+#define EXACTLY(number, size) {number, EXACT, NO_PLACE, size}
+
+static const struct line message_lines[] = {
+    {1, BYTES, 0, 0}, {2, BYTES, 0, 0}, {3, TEXT, 0, 0}, EXACTLY(4, 4), EXACTLY(5, 4), {6, TEXT, 0, 0},
+    {7, FILLED, 0, 96}, EXACTLY(10, 4), {11, EVENT, 0, 0}, {12, BY_FAMILY, 0, 0}, EXACTLY(13, 4), {14, AT_LEAST, 0, 32},
+    EXACTLY(16, 1), EXACTLY(17, 1), {18, LIST, INFO, 0}, EXACTLY(19, 4), {20, TEXT, 0, 0}, EXACTLY(21, 4),
+    {22, LIST, FUNCTIONS, 0}, {22, LIST, FUNCTIONS, 0}, {23, FILLED, 0, 200}, {24, LIST, PORTS, 0}, {25, LIST, PORT, 0},
+    {26, BY_FAMILY, 0, 0}, {26, BY_FAMILY, 0, 0}, EXACTLY(27, 4), EXACTLY(28, 4), EXACTLY(29, 4), EXACTLY(30, 4),
+    EXACTLY(31, 4), EXACTLY(32, 4), EXACTLY(33, 1), {34, BYTES, 0, 0}, EXACTLY(35, 4), {36, BYTES, 0, 0}, EXACTLY(37, 4),
+    {38, TEXT, 0, 0}, EXACTLY(39, 1), EXACTLY(40, 4), EXACTLY(41, 4), {43, LIST, XDP, 0}, EXACTLY(44, 4), EXACTLY(45, 4),
+    EXACTLY(46, 4), EXACTLY(47, 4), EXACTLY(48, 4), EXACTLY(49, 4), EXACTLY(50, 4), EXACTLY(51, 4), {52, LIST, PROPS, 0},
+    {54, BYTES, 0, 0}, {55, LIST, REASONS, 0}, {56, TEXT, 0, 0}, {57, TEXT, 0, 0}, EXACTLY(58, 4), EXACTLY(59, 4),
+    EXACTLY(60, 4), EXACTLY(61, 4), {62, LIST, DEVLINK, 0}, EXACTLY(63, 4), EXACTLY(64, 4), {65, LIST, DPLL, 0},
+    EXACTLY(67, 1), EXACTLY(68, 2), EXACTLY(69, 2),
+};
+static const struct line functions_lines[] = {{1, LIST, FUNCTION, 0}};
+static const struct line function_lines[] = {
+    {1, AT_LEAST, 0, 36}, {2, AT_LEAST, 0, 12}, {3, AT_LEAST, 0, 8}, {4, AT_LEAST, 0, 8}, {5, AT_LEAST, 0, 8},
+    {6, AT_LEAST, 0, 12}, {7, AT_LEAST, 0, 8}, {8, LIST, COUNTS, 0}, {9, AT_LEAST, 0, 8}, {10, AT_LEAST, 0, 16},
+    {11, AT_LEAST, 0, 16}, {12, LIST, VLANS, 0}, {13, AT_LEAST, 0, 32},
+};
+static const struct line counts_lines[] = {
+    EXACTLY(0, 8), EXACTLY(1, 8), EXACTLY(2, 8), EXACTLY(3, 8), EXACTLY(4, 8), EXACTLY(5, 8), EXACTLY(7, 8), EXACTLY(8, 8),
+};
+static const struct line vlans_lines[] = {{1, AT_LEAST, 0, 16}};
+static const struct line ports_lines[] = {{1, LIST, PORT, 0}};
+static const struct line props_lines[] = {{53, TEXT, 0, 0}};
+static const struct line devlink_lines[] = {{1, TEXT, 0, 0}, {2, TEXT, 0, 0}, EXACTLY(3, 4)};
+static const struct line dpll_lines[] = {EXACTLY(1, 4)};
+static const struct line reasons_lines[] = {EXACTLY(1, 4), EXACTLY(2, 4)};
+static const struct line xdp_lines[] = {
+    EXACTLY(1, 4), EXACTLY(2, 1), EXACTLY(3, 4), EXACTLY(4, 4), EXACTLY(5, 4), EXACTLY(6, 4), EXACTLY(7, 4), EXACTLY(8, 4),
+};
+static const struct line info_lines[] = {{1, TEXT, 0, 0}};
+static const struct line specs_lines[] = {{2, LIST, INET, 0}, {10, LIST, INET6, 0}, {45, LIST, MCTP, 0}};
+static const struct line inet_lines[] = {{1, FILLED, 0, 136}};
+static const struct line inet6_lines[] = {
+    EXACTLY(1, 4), {2, FILLED, 0, 240}, {3, FILLED, 0, 312}, {5, FILLED, 0, 16}, {6, FILLED, 0, 56}, EXACTLY(7, 16),
+    EXACTLY(8, 1), EXACTLY(9, 4),
+};
+static const struct line mctp_lines[] = {EXACTLY(1, 4), EXACTLY(2, 1)};
+static const struct line any_lines[] = {{1, BYTES, 0, 0}};
+
+#define LINES(lines) {lines, sizeof(lines) / sizeof *(lines)}
+
+static const struct table {
+    const struct line *lines;
+    size_t count;
+} tables[PLACES] = {
+    [MESSAGE] = LINES(message_lines), [FUNCTIONS] = LINES(functions_lines), [FUNCTION] = LINES(function_lines),
+    [COUNTS] = LINES(counts_lines), [VLANS] = LINES(vlans_lines), [PORTS] = LINES(ports_lines), [PORT] = LINES(any_lines),
+    [PROPS] = LINES(props_lines), [DEVLINK] = LINES(devlink_lines), [DPLL] = LINES(dpll_lines),
+    [REASONS] = LINES(reasons_lines), [XDP] = LINES(xdp_lines), [INFO] = LINES(info_lines), [SPECS] = LINES(specs_lines),
+    [INET] = LINES(inet_lines), [INET6] = LINES(inet6_lines), [MCTP] = LINES(mctp_lines), [ANY] = LINES(any_lines),
+};
+
+/* The generator. */
+
+struct text {
+    uint8_t *bytes;
+    size_t len;
+    unsigned char family;
+};
+
+static void add(struct text *out, size_t count) {
+    while (count-- > 0) {
+        out->bytes[out->len++] = one_in(3) ? 0 : (uint8_t)draw();
+    }
+}
+
+static void add_text(struct text *out) {
+    static const char *const pieces[] = {"e", "th0", "\xc3\xa9", "\xe2\x82\xac", "\xf0\x9f\x90\xa7", "a b", "\x7f", ".5"};
+    for (size_t count = below(5); count > 0; count--) {
+        const char *piece = pieces[below(sizeof pieces / sizeof *pieces)];
+        memcpy(out->bytes + out->len, piece, strlen(piece));
+        out->len += strlen(piece);
+    }
+    if (one_in(40)) {
+        out->bytes[out->len++] = (uint8_t)(0x80 + below(128)); /* alone it is no UTF-8 */
+    }
+    if (!one_in(4)) {
+        out->bytes[out->len++] = 0;
+    }
+}
+
+static void add_list(struct text *out, enum place place, size_t most);
+
+static void add_by_family(struct text *out, uint16_t number) {
+    if (number == 26 && out->family == 0) {
+        add_list(out, SPECS, 4);
+    } else if (out->family == 7 || (number == 12 && out->family == 10)) {
+        add_list(out, ANY, 4);
+    } else {
+        add(out, below(30));
+    }
+}
+
+static void add_payload(struct text *out, const struct line *line) {
+    static const uint16_t commands[] = {0x8c07, 0x8c08, 0x8c01};
+    size_t start = out->len;
+    switch (line->shape) {
+    case TEXT: add_text(out); break;
+    case EXACT: add(out, line->size); break;
+    case AT_LEAST: add(out, line->size + (one_in(4) ? below(9) : 0)); break;
+    case FILLED: add(out, one_in(3) ? below(line->size + 12u) : line->size); break;
+    case LIST: add_list(out, line->place, 5); break;
+    case BY_FAMILY: add_by_family(out, line->number); break;
+    case EVENT:
+        add(out, 8 + below(30));
+        memcpy(out->bytes + start + 2, &commands[below(3)], 2);
+        break;
+    default: add(out, below(40)); break;
+    }
+}
+
+static void close_frame(struct text *out, size_t start, uint16_t kind) {
+    size_t len = out->len - start;
+    out->bytes[start] = (uint8_t)len;
+    out->bytes[start + 1] = (uint8_t)(len >> 8);
+    out->bytes[start + 2] = (uint8_t)kind;
+    out->bytes[start + 3] = (uint8_t)(kind >> 8);
+}
+
+/* Padding of zeros, of other bytes, or, after the last attribute, less of it. */
+static void add_padding(struct text *out, size_t start, int is_last) {
+    int is_odd = one_in(8);
+    size_t count = -(out->len - start) & 3u;
+    count = is_last && one_in(4) ? below(count + 1) : count;
+    for (; count > 0; count--) {
+        out->bytes[out->len++] = is_odd ? (uint8_t)draw() : 0;
+    }
+}
+
+static void add_list(struct text *out, enum place place, size_t most) {
+    const struct table *table = &tables[place];
+    size_t count = one_in(16) ? 0 : 1 + below(most);
+    for (size_t i = 0; i < count && out->len < MOST / 8; i++) {
+        struct line line = table->lines[below(table->count)];
+        uint16_t flags = one_in(8) ? (uint16_t)(below(4) << 14) : 0;
+        size_t start = out->len;
+        if (one_in(12)) { /* most often one that no line reads */
+            line = (struct line){(uint16_t)below(one_in(2) ? 80 : 0x4000), BYTES, 0, 0};
+        }
+        out->len += 4;
+        add_payload(out, &line);
+        close_frame(out, start, line.number | flags);
+        add_padding(out, start, i + 1 == count);
+    }
+}
+
+/* A list of names without bytes: it grows, and with enough of them does not fit. */
+static void add_many(struct text *out) {
+    size_t start = out->len, count = 8160 + below(64);
+    out->len += 4;
+    for (; count > 0; count--) {
+        size_t name = out->len;
+        out->len += 4;
+        close_frame(out, name, 53);
+    }
+    close_frame(out, start, 52);
+}
+
+static size_t make(uint8_t *bytes) {
+    static const unsigned char families[] = {0, 0, 0, 7, 7, 10, 2, 28};
+    struct text out = {bytes, 0, families[below(sizeof families)]};
+    add(&out, LINKWIRE_HEADER_SIZE);
+    bytes[0] = out.family;
+    if (one_in(2000)) {
+        add_many(&out);
+    } else {
+        add_list(&out, MESSAGE, one_in(10) ? 60 : 8);
+    }
+    return out.len;
+}
+
+/* One byte, a cut, a length, or the end of another message. */
+static size_t damage(uint8_t *bytes, size_t len) {
+    static uint8_t end[MOST];
+    switch (len == 0 ? 4 : below(5)) {
+    case 0: bytes[below(len)] ^= (uint8_t)(1u << below(8)); return len;
+    case 1: bytes[below(len)] = (uint8_t)draw(); return len;
+    case 2: return below(len);
+    case 3:
+        if (len >= LINKWIRE_HEADER_SIZE + 4) {
+            size_t at = LINKWIRE_HEADER_SIZE + 4 * below((len - LINKWIRE_HEADER_SIZE) / 4);
+            size_t changed = one_in(3) ? below(8) : (size_t)bytes[at] + below(9) - 4;
+            bytes[at] = (uint8_t)changed;
+        }
+        return len;
+    default: {
+        size_t end_len = make(end), from = below(end_len + 1), at = below(len + 1);
+        if (at + end_len - from > MOST) {
+            return len;
+        }
+        memcpy(bytes + at, end + from, end_len - from);
+        return at + end_len - from;
+    }
+    }
+}
+
+/* The same list with other padding and flags, which can mean the same. */
+static size_t respell(uint8_t *into, const uint8_t *bytes, size_t len) {
+    struct linkwire_attribute it;
+    memcpy(into, bytes, len);
+    if (len > 1) {
+        into[1] ^= (uint8_t)below(2);
+    }
+    for (size_t at = LINKWIRE_HEADER_SIZE; linkwire_next(bytes, len, &at, &it) == 1;) {
+        into[it.payload - 1] ^= (uint8_t)(one_in(4) ? below(4) << 6 : 0);
+        for (size_t i = it.payload + it.payload_len; i < at; i++) {
+            into[i] = (uint8_t)(one_in(2) ? draw() : 0);
+        }
+    }
+    return len;
+}
+
+/* Memory between two pages that cannot be touched. */
+
+struct area {
+    uint8_t *start;
+    size_t locked; /* the bytes at its place that cannot be written */
+    uint8_t *place;
+};
+
+static struct area area_of_message, area_of_other, area_of_text, area_of_out;
+static int is_low; /* what is placed starts right after a page that cannot be touched, else it ends before one */
+
+static void reserve(struct area *area) {
+    uint8_t *pages = mmap(NULL, ROOM + 2 * PAGE, PROT_NONE, MAP_PRIVATE | MAP_ANONYMOUS, -1, 0);
+    if (pages == MAP_FAILED || mprotect(pages + PAGE, ROOM, PROT_READ | PROT_WRITE) != 0) {
+        perror("laws");
+        exit(1);
+    }
+    *area = (struct area){pages + PAGE, 0, pages + PAGE};
+}
+
+static void protect(const struct area *area, size_t len, int rights) {
+    size_t from = (size_t)(area->place - area->start) / PAGE * PAGE;
+    size_t to = (size_t)(area->place - area->start) + len;
+    if (len > 0 && mprotect(area->start + from, to - from, rights) != 0) {
+        perror("laws: mprotect");
+        exit(1);
+    }
+}
+
+static uint8_t *place(struct area *area, size_t len) {
+    protect(area, area->locked, PROT_READ | PROT_WRITE);
+    area->locked = 0;
+    LAW(len <= ROOM); /* else the generator makes what grows too much */
+    area->place = is_low ? area->start : area->start + ROOM - len;
+    return area->place;
+}
+
+static const uint8_t *place_message(struct area *area, const uint8_t *bytes, size_t len) {
+    uint8_t *placed = place(area, len);
+    memcpy(placed, bytes, len);
+    protect(area, len, PROT_READ);
+    area->locked = len;
+    return placed;
+}
+
+static uint8_t *place_out(size_t len) {
+    return memset(place(&area_of_out, len), 0x5a, len);
+}
+
+static int is_kept(const uint8_t *bytes, size_t len) {
+    static const uint8_t block[64] = {[0 ... 63] = 0x5a};
+    for (; len > sizeof block; len -= sizeof block, bytes += sizeof block) {
+        if (memcmp(bytes, block, sizeof block) != 0) {
+            return 0;
+        }
+    }
+    return memcmp(bytes, block, len) == 0;
+}
+
+/* The laws, over a stub of a call that can be put in its place. */
+
+static ptrdiff_t (*canonical)(const uint8_t *, size_t, uint8_t *, size_t) = linkwire_canonical;
+static int32_t (*check)(const uint8_t *, size_t) = linkwire_check;
+static unsigned long answers[20];
+
+/* The canonical text stands at the front of a buffer of just that size, or of more; one byte less is too short. */
+static void tries_buffers(const uint8_t *message, size_t len, ptrdiff_t length) {
+    static uint8_t text[ROOM];
+    size_t size = (size_t)length, more = 1 + below(80);
+    uint8_t *out = place_out(size);
+    LAW(canonical(message, len, out, size) == length);
+    memcpy(text, out, size);
+    out = place_out(size - 1);
+    LAW(canonical(message, len, out, size - 1) == LINKWIRE_NO_ROOM);
+    LAW(is_kept(out, size - 1));
+    out = place_out(size + more);
+    LAW(canonical(message, len, out, size + more) == length);
+    LAW(memcmp(out, text, size) == 0);
+    LAW(is_kept(out + size, more));
+
+    const uint8_t *again = place_message(&area_of_text, text, size);
+    LAW(check(again, size) == 0);
+    LAW(linkwire_canonical_len(again, size) == length);
+    out = place_out(size);
+    LAW(canonical(again, size, out, size) == length);
+    LAW(memcmp(out, text, size) == 0);
+    LAW(linkwire_same_message(message, len, again, size) == 1);
+    LAW(linkwire_same_message(again, size, message, len) == 1);
+}
+
+static void tries_one(const uint8_t *message, size_t len, ptrdiff_t length) {
+    size_t at = SIZE_MAX;
+    int32_t answer = check(message, len);
+    LAW(answer <= 0 && answer >= LINKWIRE_NOT_UTF8);
+    LAW(linkwire_fault_at(message, len, &at) == answer);
+    LAW(answer == 0 ? at == SIZE_MAX : at <= len);
+    LAW(length == linkwire_canonical_len(message, len));
+    if (answer != 0) {
+        LAW(length == answer);
+    } else {
+        LAW(length >= LINKWIRE_HEADER_SIZE || length == LINKWIRE_UNFIT || length == LINKWIRE_EMPTY_PORTS);
+    }
+    if (length < 0) {
+        uint8_t *out = place_out(len);
+        LAW(canonical(message, len, out, len) == length);
+        LAW(is_kept(out, len));
+    } else {
+        LAW((size_t)length <= LINKWIRE_GROWTH * len);
+        tries_buffers(message, len, length);
+    }
+}
+
+/* Two messages are the same exactly where their texts are equal, else the first refusal is told. */
+static void tries_two(const uint8_t *a, size_t a_len, ptrdiff_t length, const uint8_t *b, size_t b_len) {
+    ptrdiff_t b_length = linkwire_canonical_len(b, b_len);
+    int32_t answer = linkwire_same_message(a, a_len, b, b_len);
+    if (length < 0 || b_length < 0) {
+        LAW(answer == (length < 0 ? length : b_length));
+        return;
+    }
+    uint8_t *text = place(&area_of_out, (size_t)length), *b_text = place(&area_of_text, (size_t)b_length);
+    LAW(canonical(a, a_len, text, (size_t)length) == length);
+    LAW(canonical(b, b_len, b_text, (size_t)b_length) == b_length);
+    LAW(answer == (length == b_length && memcmp(text, b_text, (size_t)length) == 0));
+}
+
+/* The attributes of a message that is accepted are read to its end, and written again by linkwire_put they mean the same. */
+static void tries_list(const uint8_t *message, size_t len) {
+    struct linkwire_attribute it = {0};
+    size_t at = LINKWIRE_HEADER_SIZE, to = LINKWIRE_HEADER_SIZE, room = (len + 3) & ~(size_t)3;
+    uint8_t *list = place(&area_of_out, room);
+    memcpy(list, message, LINKWIRE_HEADER_SIZE);
+    while (linkwire_next(message, len, &at, &it) == 1) {
+        size_t before = to, end = (it.payload + it.payload_len + 3) & ~(size_t)3;
+        LAW(it.payload_len <= len - it.payload && at == (end < len ? end : len));
+        LAW(linkwire_put(list, it.payload + it.payload_len - 1, &to, it.kind, message + it.payload, it.payload_len) ==
+            LINKWIRE_NO_ROOM);
+        LAW(to == before);
+        LAW(linkwire_put(list, room, &to, it.kind, message + it.payload, it.payload_len) == 1);
+        LAW(to == end);
+    }
+    struct linkwire_attribute last = it;
+    LAW(at == len && linkwire_next(message, len, &at, &it) == 0);
+    LAW(at == len && memcmp(&it, &last, sizeof it) == 0 && to == room);
+    LAW(linkwire_same_message(message, len, list, room) == 1);
+}
+
+static void tries(uint64_t number) {
+    seed = state = number;
+    tried_len = make(tried);
+    for (size_t times = one_in(2) ? below(4) : 0; times > 0; times--) {
+        tried_len = damage(tried, tried_len);
+    }
+    other_len = one_in(4) ? make(other) : respell(other, tried, tried_len);
+    if (one_in(4)) {
+        other_len = damage(other, other_len);
+    }
+    for (is_low = 0; is_low < 2; is_low++) {
+        const uint8_t *message = place_message(&area_of_message, tried, tried_len);
+        const uint8_t *second = place_message(&area_of_other, other, other_len);
+        ptrdiff_t length = linkwire_canonical_len(message, tried_len);
+        tries_one(message, tried_len, length);
+        tries_two(message, tried_len, length, second, other_len);
+        if (length >= 0) {
+            tries_list(message, tried_len);
+        }
+        answers[length > 0 ? 0 : -length] += !is_low;
+    }
+}
+
+/* Stubs that go one byte too far. */
+
+static int32_t reads_after(const uint8_t *message, size_t len) {
+    return linkwire_check(message, len) + 0 * *(const volatile uint8_t *)(message + len);
+}
+
+static int32_t reads_before(const uint8_t *message, size_t len) {
+    return linkwire_check(message, len) + 0 * *(const volatile uint8_t *)(message - 1);
+}
+
+static int32_t writes_message(const uint8_t *message, size_t len) {
+    *(volatile uint8_t *)(uintptr_t)message = *message;
+    return linkwire_check(message, len);
+}
+
+static ptrdiff_t writes_after(const uint8_t *message, size_t len, uint8_t *out, size_t cap) {
+    ptrdiff_t length = linkwire_canonical(message, len, out, cap);
+    *(volatile uint8_t *)(out + (length < 0 ? (ptrdiff_t)cap : length)) = 1;
+    return length;
+}
+
+static ptrdiff_t writes_before(const uint8_t *message, size_t len, uint8_t *out, size_t cap) {
+    *(volatile uint8_t *)(out - 1) = 1;
+    return linkwire_canonical(message, len, out, cap);
+}
+
+/* Tries one message with a stub in another process, which has to end at the page that it touches. */
+static void sees(const char *name, int32_t (*of_check)(const uint8_t *, size_t),
+                 ptrdiff_t (*of_canonical)(const uint8_t *, size_t, uint8_t *, size_t)) {
+    int status = 0;
+    pid_t child = fork();
+    if (child == 0) {
+        check = of_check;
+        canonical = of_canonical;
+        if (freopen("/dev/null", "w", stderr) != NULL) {
+            tries(2);
+        }
+        _exit(0);
+    }
+    if (child < 0 || waitpid(child, &status, 0) != child || !WIFEXITED(status) || WEXITSTATUS(status) != TOUCHED) {
+        fprintf(stderr, "laws: not seen: %s\n", name);
+        exit(1);
+    }
+}
+
+static void tells_answers(unsigned long count, int needs_all) {
+    printf("laws: %lu messages: %lu written", count, answers[0]);
+    for (int i = 1; i <= 17; i++) {
+        if (i <= 7 || i >= 16) {
+            printf(", %lu of answer -%d", answers[i], i);
+        }
+        if (needs_all && answers[i] == 0 && (i <= 7 || i >= 16)) {
+            printf("\n");
+            fprintf(stderr, "laws: no message has answer -%d\n", i);
+            exit(1);
+        }
+    }
+    printf("\n");
+}
+
+int main(int words, char **word) {
+    int is_timed = words > 2 && strcmp(word[1], "--seconds") == 0;
+    unsigned long count = 200000, done = 0;
+    time_t until = is_timed ? time(NULL) + atol(word[2]) : 0;
+    if (words > 1 && !is_timed) {
+        count = strtoul(word[1], NULL, 10);
+    }
+    uint64_t first = words > 2 + is_timed ? strtoull(word[2 + is_timed], NULL, 10) : is_timed ? (uint64_t)time(NULL) << 32 : 1;
+    signal(SIGSEGV, on_touch);
+    signal(SIGBUS, on_touch);
+    reserve(&area_of_message);
+    reserve(&area_of_other);
+    reserve(&area_of_text);
+    reserve(&area_of_out);
+    sees("a read after the message", reads_after, linkwire_canonical);
+    sees("a read before the message", reads_before, linkwire_canonical);
+    sees("a write into the message", writes_message, linkwire_canonical);
+    sees("a write after the text", linkwire_check, writes_after);
+    sees("a write before the buffer", linkwire_check, writes_before);
+    while (is_timed ? done % 256 != 0 || time(NULL) < until : done < count) {
+        tries(first + done++);
+    }
+    tells_answers(done, done >= 200000);
+    return 0;
+}

@@ -1,0 +1,43 @@
+/* Preloaded into an example: once, recv fails or gives what a kernel gives seldom. KERNEL_FAULT says which. */
+#define _GNU_SOURCE
+#include <dlfcn.h>
+#include <errno.h>
+#include <linux/netlink.h>
+#include <linux/rtnetlink.h>
+#include <stdlib.h>
+#include <string.h>
+#include <sys/socket.h>
+
+static int is_over;
+
+static void change(struct nlmsghdr *head, const char *fault) {
+    if (strcmp(fault, "interrupted") == 0) {
+        head->nlmsg_flags |= NLM_F_DUMP_INTR;
+    } else if (strcmp(fault, "error") == 0) {
+        head->nlmsg_type = NLMSG_ERROR;
+        *(int *)NLMSG_DATA(head) = -EPERM;
+    } else if (strcmp(fault, "length") == 0) {
+        head->nlmsg_len = 0x7fffffff;
+    } else if (strcmp(fault, "refused") == 0) {
+        ((struct rtattr *)((char *)NLMSG_DATA(head) + sizeof(struct ifinfomsg)))->rta_len = 3;
+    }
+}
+
+ssize_t recv(int fd, void *buffer, size_t len, int flags) {
+    ssize_t (*own)(int, void *, size_t, int) = (ssize_t(*)(int, void *, size_t, int))dlsym(RTLD_NEXT, "recv");
+    const char *fault = getenv("KERNEL_FAULT");
+    if (fault == NULL || is_over) {
+        return own(fd, buffer, len, flags);
+    }
+    if (strcmp(fault, "ran over") == 0) {
+        is_over = 1;
+        errno = ENOBUFS;
+        return -1;
+    }
+    ssize_t found = own(fd, buffer, len, flags);
+    if (found > 0 && (flags & MSG_PEEK) == 0) {
+        is_over = 1;
+        change(buffer, fault);
+    }
+    return found;
+}
