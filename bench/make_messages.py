@@ -1,10 +1,14 @@
 #!/usr/bin/env python3
-"""Writes link messages as kernels send them, each after its length, the same each time: make_messages.py FILE [COUNT]."""
+"""Writes link messages as kernels send them, each after its length, the same each time: make_messages.py FILE [GROWING].
+
+Into GROWING go four messages of 1 kB to 1.5 MB, of names, MTUs and attributes that are kept as they are.
+"""
 
 import random
 import struct
 import sys
 
+COUNT = 240  # messages
 NESTED = 0x8000  # NLA_F_NESTED
 
 
@@ -121,13 +125,22 @@ def with_functions(chance, index):
 KINDS = (card, card, card, pair, pair, pair, pair, port, port, port, loopback, with_functions)
 
 
+def of_length(wanted):
+    out, part = head(0, 2, 0x11043), frame(3, text("eth0.100")) + frame(4, u32(1500)) + frame(99, b"\x11" * 9)
+    return out + part * ((wanted - len(out)) // len(part))
+
+
+def write(path, bodies):
+    with open(path, "wb") as out:
+        for body in bodies:
+            out.write(struct.pack("<I", len(body)) + body)
+
+
 def main():
     chance = random.Random(14)
-    count = int(sys.argv[2]) if len(sys.argv) > 2 else 240
-    with open(sys.argv[1], "wb") as out:
-        for place in range(count):
-            body = KINDS[place % len(KINDS)](chance, place + 1)
-            out.write(struct.pack("<I", len(body)) + body)
+    write(sys.argv[1], [KINDS[place % len(KINDS)](chance, place + 1) for place in range(COUNT)])
+    if len(sys.argv) > 2:
+        write(sys.argv[2], [of_length(wanted) for wanted in (1000, 10000, 100000, 1500000)])
 
 
 main()
