@@ -1,7 +1,7 @@
-/* Times the calls of linkwire.h and of link_msg, libnl-route-3 and Debian's crate netlink-packet-route on the same messages,
- * and what a byte costs as a message grows: compare MESSAGES DUMP GROWING. In processor time, the best of many rounds, in
- * which the calls take turns. DUMP may be '-', for none. A number in brackets counts the messages
- * that a call takes, where it refuses others; those alone are timed. */
+/* Times the calls of linkwire.h and of link_msg, libnl-route-3 and Debian's crate netlink-packet-route on the same
+ * messages, and what a byte costs as a message grows: compare MESSAGES DUMP GROWING. In processor time, the best of
+ * many rounds, in which the calls take turns. DUMP may be '-', for none. A number in brackets counts the messages that
+ * a call takes, where it fails on others; those alone are timed. */
 #include <time.h>
 
 #include "compare.h"
@@ -182,7 +182,7 @@ static void print_cell(const struct row *row, size_t file, const struct messages
     if (messages->count == 0 || row->run == NULL) {
         printf(" %14s", "skipped");
     } else if (count == 0) {
-        printf(" %14s", "refuses all");
+        printf(" %14s", "fails");
     } else if (count < messages->count) {
         printf(" (%3zu) %8.0f", count, row->best[file]);
     } else {
@@ -207,34 +207,42 @@ static void print_table(const struct messages *messages) {
     }
 }
 
-/* What a byte costs in each message of a file, each round over all of them. */
-static void print_growth(const struct messages *messages) {
-    double best[ROWS][8];
-    size_t count = messages->count < 8 ? messages->count : 8;
-    make_room(messages);
-    for (int round = 0; round < ROUNDS; round++) {
-        for (size_t i = 0; i < count; i++) {
-            struct messages one = {&messages->all[i], 1, messages->all[i].len, messages->all[i].len};
-            for (size_t row = 0; row < ROWS; row++) {
-                if (rows[row].run == NULL || rows[row].run == libnl_parse) {
-                    continue;
-                }
-                double cost = once(&rows[row], &one) / one.bytes;
-                best[row][i] = round == 0 || cost < best[row][i] ? cost : best[row][i];
-            }
+enum { LENGTHS = 4 };
+
+static int is_in_growth(const struct row *row) {
+    return row->run != NULL && row->run != libnl_parse;
+}
+
+/* What a byte costs in one message, by each call, where that is less than before. */
+static void time_length(const struct message *message, double *best) {
+    struct message alone = *message;
+    struct messages one = {&alone, 1, message->len, message->len};
+    for (size_t row = 0; row < ROWS; row++) {
+        if (is_in_growth(&rows[row])) {
+            double cost = once(&rows[row], &one) / message->len;
+            best[row] = best[row] == 0 || cost < best[row] ? cost : best[row];
         }
     }
+}
+
+/* What a byte costs in each message of a file, each round over all of them. */
+static void print_growth(const struct messages *messages) {
+    double best[LENGTHS][ROWS] = {{0}};
+    if (messages->count != LENGTHS) {
+        stop("compare", "wants four messages that grow");
+    }
+    make_room(messages);
+    for (int turn = 0; turn < ROUNDS * LENGTHS; turn++) {
+        time_length(&messages->all[turn % LENGTHS], best[turn % LENGTHS]);
+    }
     printf("\n%-46s", "ns a byte, in a message of so many bytes");
-    for (size_t i = 0; i < count; i++) {
+    for (size_t i = 0; i < LENGTHS; i++) {
         printf(" %9zu", messages->all[i].len);
     }
     for (size_t row = 0; row < ROWS; row++) {
-        if (rows[row].run == NULL || rows[row].run == libnl_parse) {
-            continue;
-        }
-        printf("\n%-46s", rows[row].name);
-        for (size_t i = 0; i < count; i++) {
-            printf(" %9.3f", best[row][i]);
+        if (is_in_growth(&rows[row])) {
+            printf("\n%-46s %9.3f %9.3f", rows[row].name, best[0][row], best[1][row]);
+            printf(" %9.3f %9.3f", best[2][row], best[3][row]);
         }
     }
     printf("\n");

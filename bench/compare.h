@@ -1,4 +1,4 @@
-/* What the benches share: the messages of a file, and the functions of crates/link_speed and of bench/debian_crate.rs. */
+/* The messages of a file, and the functions of crates/link_speed and of bench/debian_crate.rs. */
 #ifndef COMPARE_H
 #define COMPARE_H
 

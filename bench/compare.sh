@@ -1,6 +1,6 @@
 #!/usr/bin/env bash
-# Times the calls of this library beside libnl-route-3 and Debian's crate netlink-packet-route, each where it is installed,
-# on made messages and on a fresh dump of the kernel's links. With two archives as arguments it builds none.
+# Times the calls of this library beside libnl-route-3 and Debian's crate netlink-packet-route, each where it is
+# installed, on made messages and on a fresh dump of the kernel's links. With two archives as arguments it builds none.
 set -euo pipefail
 here=$(cd "$(dirname "$0")" && pwd)
 top=$(dirname "$here")

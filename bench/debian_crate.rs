@@ -26,8 +26,8 @@ pub unsafe extern "C" fn debian_parse(bytes: *const u8, len: usize) -> isize {
     }
 }
 
-/// The length of what is written so many times; or none where there is no room, or where writing panics, as it does where
-/// a record is longer than the crate knows it.
+/// The length of what is written so many times; or none where there is no room, or where writing panics, as it does
+/// where a record is longer than the crate knows it.
 fn emitted(message: &LinkMessage, out: &mut [u8], times: usize) -> Option<usize> {
     panic::set_hook(Box::new(|_| {}));
     let mut written = 0;
