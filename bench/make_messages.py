@@ -1,5 +1,5 @@
 #!/usr/bin/env python3
-"""Writes link messages as kernels send them, each after its length, the same each time: FILE [GROWING].
+"""Writes link messages as kernels send them, each after its length: make_messages.py FILE [GROWING].
 
 Into GROWING go four messages of 1 kB to 1.5 MB, of names, MTUs and attributes that are kept as they are.
 """
