@@ -31,7 +31,7 @@ else
 fi
 
 # Debian's crate, by cargo with Debian's folder of sources in place of the registry.
-debian=$(find "$registry" -maxdepth 1 -name 'netlink-packet-route-0.*' 2>/dev/null | sort | tail -1)
+debian=$(find "$registry" -maxdepth 1 -name 'netlink-packet-route-0.*' 2>/dev/null | sort | tail -1) || true
 if [ -n "$debian" ] && command -v cargo >/dev/null; then
     version=${debian##*-}
     mkdir -p "$folder/crate/.cargo"
