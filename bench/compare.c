@@ -63,6 +63,8 @@ static ptrdiff_t crate_emits(const struct message *message) {
 #endif
 
 #ifdef WITH_LIBNL
+#define LIBNL "libnl-route-3 " LIBNL_VERSION
+
 static struct nl_msg **packets;
 
 /* The messages as libnl holds them, each behind a netlink header. */
@@ -90,7 +92,7 @@ static ptrdiff_t libnl_parse(const struct message *message) {
     return nl_msg_parse(packets[message->place], take, &links) < 0 || links != 1 ? -1 : 0;
 }
 #else
-#define LIBNL_VERSION ""
+#define LIBNL "libnl-route-3"
 #define libnl_parse NULL
 static void make_packets(const struct messages *messages) {
     (void)messages;
@@ -110,7 +112,7 @@ static struct row {
     {"canonical, into memory taken", canonical_vec, 1, {0}, {{0}}},
     {"LinkMessage::parse, drop", parse, 1, {0}, {{0}}},
     {"fits, buffer_len, emit", emits, AGAIN, {0}, {{0}}},
-    {"libnl-route-3 " LIBNL_VERSION ": parse, free", libnl_parse, 1, {0}, {{0}}},
+    {LIBNL ": parse, free", libnl_parse, 1, {0}, {{0}}},
     {CRATE_VERSION ": parse, drop", crate_parse, 1, {0}, {{0}}},
     {CRATE_VERSION ": buffer_len, emit", crate_emits, AGAIN, {0}, {{0}}},
 };
