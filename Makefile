@@ -5,7 +5,7 @@ SECONDS ?= 60
 # With BUILT=1 `install` takes what is built already.
 BUILT ?=
 
-.PHONY: run build lib check edits tables bench c-tests rust-tests fuzz c-bench install uninstall help
+.PHONY: run build lib check edits tables bench compare c-tests rust-tests fuzz c-bench install uninstall help
 
 run: ## answers the lines of standard input: echo 00000000000000000000000000000000060003006c6f | make -s run
 	@scripts/build.sh && $(PROGRAM)
@@ -27,8 +27,11 @@ tables: ## prints the tables as JSON, after they were compared with the kernel's
 	@scripts/kernel_tables.sh >&2
 	@scripts/kernel_tables.sh --json
 
-bench: build c-bench ## times the program and the library
+bench: build c-bench compare ## times the program and the library
 	@bench/run.sh $(PROGRAM)
+
+compare: ## times the calls beside libnl-route-3 and Debian's netlink-packet-route, where they are installed
+	@bench/compare.sh
 
 c-tests: ## runs the tests of the library for C, and its examples on the running kernel
 	@scripts/c_tests.sh
