@@ -9,3 +9,4 @@ pub mod Arms
 pub mod EmptyPorts
 pub mod Walking
 pub mod Faults
+pub mod ReadAgain

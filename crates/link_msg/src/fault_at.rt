@@ -42,7 +42,9 @@ impl LinkMessage {
             return Some(0);
         };
         let family = header.interface_family;
-        let Found { at, frame } = first_fault(&AttributePlace { family }, rest)?;
+        let Some(Found { at, frame }) = first_fault(&AttributePlace { family }, rest) else {
+            return None;
+        };
         match frame {
             Some(frame) => Some(deeper(HEADER_SIZE + at, in_attribute(&frame, family))),
             None => Some(HEADER_SIZE + at),
