@@ -1,16 +1,16 @@
-/* Times the functions of link.h on messages as kernels send them (linux/if_link.h), beside a plain copy of each, and what a
- * byte costs as a message grows. Processor time, the best of several rounds. */
+/* Times the functions of linkwire.h on messages as kernels send them (linux/if_link.h), beside a plain copy of each,
+ * and what a byte costs as a message grows. Processor time, the best of several rounds. */
 #include <stdint.h>
 #include <stdio.h>
 #include <stdlib.h>
 #include <string.h>
 #include <time.h>
 
-#include "link.h"
+#include "linkwire.h"
 
 enum { ROUNDS = 9, MOST = 1600000 };
 
-static uint8_t message[MOST], out[LINK_GROWTH * (size_t)MOST];
+static uint8_t message[MOST], out[LINKWIRE_GROWTH * (size_t)MOST];
 static size_t len;
 
 static void put(const void *bytes, size_t count) {
@@ -144,15 +144,15 @@ static long copy(void) {
 }
 
 static long check(void) {
-    return link_check(message, len);
-}
-
-static long into(void) {
-    return link_canonical_into(message, len, out, sizeof out);
+    return linkwire_check(message, len);
 }
 
 static long canonical(void) {
-    return link_canonical(message, len, out, sizeof out);
+    return linkwire_canonical(message, len, out, sizeof out);
+}
+
+static long measure(void) {
+    return linkwire_canonical_len(message, len);
 }
 
 static double seconds(void) {
@@ -188,8 +188,8 @@ static double times(const char *name, long (*call)(void)) {
 }
 
 static void line(const char *what) {
-    double copied = times("memcpy", copy), checked = times("link_check", check);
-    double written = times("link_canonical_into", into), made = times("link_canonical", canonical);
+    double copied = times("memcpy", copy), checked = times("linkwire_check", check);
+    double written = times("linkwire_canonical", canonical), made = times("linkwire_canonical_len", measure);
     printf("%-24s %8zu %8.0f %8.0f (%4.0f) %8.0f (%4.0f) %8.0f (%4.0f)\n", what, len, copied, checked, len / checked * 1e3,
            written, len / written * 1e3, made, len / made * 1e3);
 }
@@ -214,15 +214,16 @@ static void growth(const char *name, long (*call)(void)) {
 }
 
 int main(void) {
-    printf("%-24s %8s %8s %15s %15s %15s\n", "ns a message (MB/s)", "bytes", "memcpy", "check", "canonical_into", "canonical");
+    printf("%-24s %8s %8s %15s %15s %15s\n", "ns a message (MB/s)", "bytes", "memcpy", "check", "canonical",
+           "canonical_len");
     short_one();
     line("a header and a name");
     interface();
     line("an interface");
     functions();
     line("128 virtual functions");
-    growth("link_check", check);
-    growth("link_canonical_into", into);
-    growth("link_canonical", canonical);
+    growth("linkwire_check", check);
+    growth("linkwire_canonical", canonical);
+    growth("linkwire_canonical_len", measure);
     return 0;
 }

@@ -1,11 +1,11 @@
-/* Times the functions of link.h on the same 50,000 messages of 20 to 2,000 bytes, beside a plain copy of each message, in
- * processor time: the best of several rounds, in which the functions take turns. */
+/* Times the functions of linkwire.h on the same 50,000 messages of 20 to 2,000 bytes, beside a plain copy of each
+ * message, in processor time: the best of several rounds, in which the functions take turns. */
 #include <stdio.h>
 #include <stdlib.h>
 #include <string.h>
 #include <time.h>
 
-#include "link.h"
+#include "linkwire.h"
 
 enum { MESSAGES = 50000, SHORTEST = 20, LONGEST = 2000, ROUNDS = 9, HEADER = 16 };
 
@@ -109,7 +109,7 @@ static size_t put_message(uint8_t *at, size_t want) {
 
 static uint8_t *bytes;
 static size_t starts[MESSAGES + 1];
-static uint8_t out[LINK_GROWTH * LONGEST];
+static uint8_t out[LINKWIRE_GROWTH * LONGEST];
 
 static long copy(const uint8_t *message, size_t len) {
     memcpy(out, message, len);
@@ -118,15 +118,15 @@ static long copy(const uint8_t *message, size_t len) {
 }
 
 static long check(const uint8_t *message, size_t len) {
-    return link_check(message, len);
+    return linkwire_check(message, len);
+}
+
+static long measure(const uint8_t *message, size_t len) {
+    return linkwire_canonical_len(message, len);
 }
 
 static long canonical(const uint8_t *message, size_t len) {
-    return link_canonical(message, len, out, sizeof out);
-}
-
-static long canonical_into(const uint8_t *message, size_t len) {
-    return link_canonical_into(message, len, out, sizeof out);
+    return linkwire_canonical(message, len, out, sizeof out);
 }
 
 static struct call {
@@ -135,9 +135,9 @@ static struct call {
     double best;
 } calls[] = {
     {"memcpy", copy, 1e300},
-    {"link_check", check, 1e300},
-    {"link_canonical_into", canonical_into, 1e300},
-    {"link_canonical", canonical, 1e300},
+    {"linkwire_check", check, 1e300},
+    {"linkwire_canonical", canonical, 1e300},
+    {"linkwire_canonical_len", measure, 1e300},
 };
 
 enum { CALLS = sizeof calls / sizeof *calls };
@@ -178,11 +178,11 @@ int main(int argc, char **argv) {
         }
     }
     printf("%d messages, %zu bytes\n", MESSAGES, starts[MESSAGES]);
-    printf("%-20s %12s %10s\n", "", "ns a message", "MB/s");
+    printf("%-24s %12s %10s\n", "", "ns a message", "MB/s");
     for (int i = 0; i < CALLS; i++) {
         double took = calls[i].best;
-        printf("%-20s %12.0f %10.0f\n", calls[i].name, took / MESSAGES * 1e9, starts[MESSAGES] / took * 1e-6);
+        printf("%-24s %12.0f %10.0f\n", calls[i].name, took / MESSAGES * 1e9, starts[MESSAGES] / took * 1e-6);
     }
-    printf("link_check / link_canonical_into      %.2f (at most 0.50 is wanted)\n", calls[1].best / calls[2].best);
+    printf("linkwire_check / linkwire_canonical      %.2f (at most 0.50 is wanted)\n", calls[1].best / calls[2].best);
     return 0;
 }

@@ -80,7 +80,7 @@ struct linkwire_attribute {
 int32_t linkwire_check(const uint8_t *message, size_t len);
 
 /* The length of the message's canonical text, which is at least 16 and at most LINKWIRE_GROWTH times `len`; or -1 to
- * -7, -16, -17. Takes no memory. */
+ * -7, -16, also where the length is above PTRDIFF_MAX, or -17. Takes no memory. */
 ptrdiff_t linkwire_canonical_len(const uint8_t *message, size_t len);
 
 /* The same, and the canonical text stands at the front of `out`, the rest of which is kept; or -19 exactly where the

@@ -15,7 +15,8 @@ else
 fi
 cd "$top/out"
 # One object of the crate and of what it calls of the toolchain, whose names are made local.
-ld -r -z noexecstack -o linkwire.o --whole-archive ../crates/link_c/out/liblink_c.a --no-whole-archive "$kit/c/liblibc_c.a"
+ld -r -z noexecstack -o linkwire.o \
+    --whole-archive ../crates/link_c/out/liblink_c.a --no-whole-archive "$kit/c/liblibc_c.a"
 objcopy --wildcard --keep-global-symbol='linkwire_*' linkwire.o
 rm -f liblinkwire.a
 ar rcs liblinkwire.a linkwire.o

@@ -25,7 +25,8 @@ readelf -d "$shared" | grep -q 'SONAME.*\[liblinkwire\.so\.0\]'
 header() {
     for compiler in "${@:2}"; do
         command -v "$compiler" >/dev/null || continue
-        "$compiler" "${warnings[@]}" -std="$1" -x "${1%[0-9][0-9]}" -o "$top/out/header" "$top/tests/c/header.c" -x none "$library"
+        "$compiler" "${warnings[@]}" -std="$1" -o "$top/out/header" \
+            -x "${1%[0-9][0-9]}" "$top/tests/c/header.c" -x none "$library"
         "$top/out/header"
     done
 }

@@ -1,10 +1,10 @@
 #!/usr/bin/env bash
-# Installs what is built below $1$2: the program, the header, the libraries for C, linkwire.pc and the manual pages. With
-# --remove in front it takes them away.
+# Installs what is built below $1$2: the program, the header, the libraries for C, linkwire.pc and the manual pages.
+# With --remove in front it takes them away.
 set -euo pipefail
 top=$(cd "$(dirname "$0")/.." && pwd)
-files=(bin/linkwire include/linkwire.h lib/liblinkwire.a lib/liblinkwire.so.0 lib/liblinkwire.so lib/pkgconfig/linkwire.pc
-    share/man/man1/linkwire.1 share/man/man3/linkwire.3)
+files=(bin/linkwire include/linkwire.h lib/liblinkwire.a lib/liblinkwire.so.0 lib/liblinkwire.so
+    lib/pkgconfig/linkwire.pc share/man/man1/linkwire.1 share/man/man3/linkwire.3)
 if [ "$1" = --remove ]; then
     for file in "${files[@]}"; do
         rm -f "$2$3/$file"

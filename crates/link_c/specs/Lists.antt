@@ -1,6 +1,6 @@
 -- Lists of attributes: what `linkwire_next` finds at a place, and what `linkwire_put` writes there.
-use Rattle.std.specs.Prelude.{◌≡◌, ◌↔◌, ℕ, ◌+◌, ◌<◌, ◌≤◌, min, Bool, true, false, List, [], ◌∷◌, ◌++◌, length, take, drop}
-use Rattle.std.specs.Prelude.{Result, Ok, Err}
+use Rattle.std.specs.Prelude.{◌≡◌, ◌↔◌, ℕ, ◌+◌, ◌<◌, ◌≤◌, min, Bool, true, false, List, [], ◌∷◌, ◌++◌, length, take}
+use Rattle.std.specs.Prelude.{drop, Result, Ok, Err}
 use Rattle.nla_wire.specs.Sizes.{most_payload}
 use Rattle.nla_wire.specs.Frames.{Frame, Frames, Fault, Begins, missing}
 use Rattle.nla_wire.specs.Canon.{canon}
@@ -13,8 +13,9 @@ use Rattle.link_c.specs.declared.refusal.Refusal.TheVariants as Refusals
 abbrev pub told : List ℕ → Attribute → Frame
 told b a = record { kind = a.kind; payload = take a.payload_len (drop a.payload b) }
 
--- the attribute tells of the frame at this place of b, and the next place is where the list goes on: at the next multiple
--- of four after the frame, or at the end of b. The frames from this place on are this one and those from the next place on
+-- the attribute tells of the frame at this place of b, and the next place is where the list goes on: at the next
+-- multiple of four after the frame, or at the end of b. The frames from this place on are this one and those from the
+-- next place on
 pub record IsStep (b : List ℕ) (at next : ℕ) (a : Attribute) : Type 0 where
   pub begins : Begins (drop at b) (told b a) (drop next b)
   pub payload : a.payload ≡ at + 4
@@ -23,8 +24,8 @@ pub record IsStep (b : List ℕ) (at next : ℕ) (a : Attribute) : Type 0 where
   pub frames : (fs : List Frame) → Frames (drop at b) (told b a ∷ fs) ↔ Frames (drop next b) fs
   pub fault : (fs : List Frame) (c : Cause) → Fault (drop at b) (told b a ∷ fs) c ↔ Fault (drop next b) fs c
 
--- yes, and the attribute tells of the frame at this place; no, where the list is over; or the fault that stands there. But
--- for the first, place and attribute are unchanged
+-- yes, and the attribute tells of the frame at this place; no, where the list is over; or the fault that stands there.
+-- But for the first, place and attribute are unchanged
 abbrev pub IsNext : List ℕ → ℕ → ℕ → Attribute → Attribute → Result Bool Refusal → Type 0
 IsNext b at next old new (Ok true) = (at < length b) × IsStep b at next new
 IsNext b at next old new (Ok false) = (length b ≤ at) × Frames (drop at b) [] × (next ≡ at) × (new ≡ old)
@@ -46,7 +47,8 @@ abbrev pub IsPut : ℕ → List ℕ → List ℕ → List ℕ → ℕ → ℕ �
 IsPut kind p old new at next (Ok done) = IsPlaced (record { kind = kind; payload = p }) old new at next
 IsPut kind p old new at next (Err Refusals.Unfit) = (most_payload < length p) × (new ≡ old) × (next ≡ at)
 IsPut kind p old new at next (Err Refusals.NoRoom) =
-    (length p ≤ most_payload) × (length old < at + length (canon (record { kind = kind; payload = p }))) × (new ≡ old) × (next ≡ at)
+    (length p ≤ most_payload) × (length old < at + length (canon (record { kind = kind; payload = p })))
+    × (new ≡ old) × (next ≡ at)
 IsPut kind p old new at next (Err (Refusals.Fault c)) = ⊥
 IsPut kind p old new at next (Err Refusals.EmptyPorts) = ⊥
 IsPut kind p old new at next (Err Refusals.OutOfMemory) = ⊥

@@ -4,6 +4,7 @@ use Rattle.nla_wire.specs.Canon.{Writes}
 use Rattle.nla_wire.specs.declared.error.Cause.{Cause}
 use Rattle.nla_wire.specs.declared.error.Cause.TheVariants as Causes
 use Rattle.link_msg.specs.Messages.{Means, Refused, IsRefused, message_text}
+use Rattle.link_msg.specs.FaultAt.{FaultsAt}
 use Rattle.link_msg.specs.Canonical.{IsAccepted, IsUnfit, HasEmptyPorts, AreSame}
 use Rattle.link_msg.specs.declared.message.LinkMessage.{LinkMessage}
 use Rattle.link_c.specs.declared.refusal.Refusal.{Refusal}
@@ -23,6 +24,15 @@ IsLook b (Err Unfit) = ⊥
 IsLook b (Err EmptyPorts) = ⊥
 IsLook b (Err OutOfMemory) = ⊥
 IsLook b (Err NoRoom) = ⊥
+
+-- the same; and where there is a fault, the new place is where it is, else the old one
+abbrev pub IsLookAt : List ℕ → ℕ → ℕ → Result (Unit {0}) Refusal → Type 0
+IsLookAt b old new (Ok fine) = IsLook b (Ok fine) × (new ≡ old)
+IsLookAt b old new (Err (Fault c)) = IsFault b c × FaultsAt b c new
+IsLookAt b old new (Err Unfit) = ⊥
+IsLookAt b old new (Err EmptyPorts) = ⊥
+IsLookAt b old new (Err OutOfMemory) = ⊥
+IsLookAt b old new (Err NoRoom) = ⊥
 
 -- why b means no message that can be written
 abbrev pub IsWhy : List ℕ → Refusal → Type 0

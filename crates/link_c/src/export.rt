@@ -2,11 +2,11 @@
 
 ghost use Rattle.std.specs.Prelude.{◌≡◌};
 ghost use Rattle.link_c.specs.Answers.{Says, itself, as_bit, as_one, as_zero};
-ghost use Rattle.link_c.specs.Messages.{IsLook, IsLength, IsText, IsAlike};
+ghost use Rattle.link_c.specs.Messages.{IsLook, IsLookAt, IsLength, IsText, IsAlike};
 ghost use Rattle.link_c.specs.Lists.{IsNext, IsPut};
 
 use crate::list::{Attribute, next_attribute, put_attribute};
-use crate::message::{are_alike, check_message, text_len, write_text};
+use crate::message::{are_alike, check_message, look_for_fault, text_len, write_text};
 use crate::refusal::{done_code, fault_code, length_code, whether_code};
 use link_msg::CANONICAL_FORM;
 use std::alloc::Global;
@@ -57,6 +57,14 @@ pub extern "C" fn linkwire_put(list: &mut [u8], at: &mut usize, kind: u16, paylo
     ensures { Says as_one (IsPut kind payload.now list.old list.new at.old at.new) result }
 {
     done_code(put_attribute(list, at, kind, payload))
+}
+
+/// `linkwire_fault_at` of linkwire.h.
+#[unsafe(no_mangle)]
+pub extern "C" fn linkwire_fault_at(message: &[u8], at: &mut usize) -> i32
+    ensures { Says as_zero (IsLookAt message.now at.old at.new) result }
+{
+    fault_code(look_for_fault(message, at))
 }
 
 /// `linkwire_canonical_form` of linkwire.h.

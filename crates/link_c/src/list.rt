@@ -1,6 +1,6 @@
 //! Lists of attributes: read one at a time, and written.
 
-ghost use Rattle.std.specs.Prelude.{◌≡◌, ◌+◌, ◌≤◌, length, min};
+ghost use Rattle.std.specs.Prelude.{◌≡◌, ◌+◌, ◌^◌, ◌<◌, ◌≤◌, length, min};
 ghost use Rattle.nla_wire.specs.Frames.{missing};
 ghost use Rattle.link_c.specs.Lists.{IsNext, IsPut};
 
@@ -19,8 +19,8 @@ pub struct Attribute {
     pub payload_len: usize,
 }
 
-/// The next multiple of four after a frame with a payload of this length, counted from the place where it starts; or the
-/// end of the list, where that is less.
+/// The next multiple of four after a frame with a payload of this length, counted from the place where it starts; or
+/// the end of the list, where that is less.
 fn after(size: usize, at: usize, payload_len: usize) -> usize
     requires { at + 4 + payload_len ≤ size }
     ensures { result ≡ min (at + 4 + payload_len + missing payload_len) size }
@@ -34,31 +34,47 @@ fn after(size: usize, at: usize, payload_len: usize) -> usize
     }
 }
 
+/// What is told of a frame that starts at this place.
+fn told(frame: &NlaBuffer<'_>, at: usize) -> Attribute
+    requires { at + 4 < 2 ^ 64 }
+    ensures { result ≡ record { kind = frame.now.kind; payload = at + 4; payload_len = length frame.now.payload } }
+{
+    Attribute {
+        kind: frame.kind_with_flags(),
+        payload: at + NLA_HEADER_SIZE,
+        payload_len: frame.value().len(),
+    }
+}
+
 /// The attribute at this place of a list, and the place moves on to the next; false at the end of the list.
 ///
 /// Refuses a fault. After it, and at the end, nothing changes.
-pub fn next_attribute(list: &[u8], at: &mut usize, attribute: &mut Attribute) -> Result<bool, Refusal>
+pub fn next_attribute(
+    list: &[u8],
+    at: &mut usize,
+    attribute: &mut Attribute,
+) -> Result<bool, Refusal>
     ensures { IsNext list.now at.old at.new attribute.old attribute.new result }
 {
     if *at >= list.len() {
         return Ok(false);
     }
     let frame = NlaBuffer::new_checked(&list[*at..])?;
-    let payload_len = frame.value().len();
-    *attribute = Attribute {
-        kind: frame.kind_with_flags(),
-        payload: *at + NLA_HEADER_SIZE,
-        payload_len,
-    };
-    *at = after(list.len(), *at, payload_len);
+    *attribute = told(&frame, *at);
+    *at = after(list.len(), *at, frame.value().len());
     Ok(true)
 }
 
 /// Writes an attribute at this place of a list, and the place moves on past it.
 ///
-/// Refuses `Unfit` where the payload has more than 65531 bytes, and else `NoRoom` where the attribute and its padding have
-/// no room. Then nothing changes.
-pub fn put_attribute(list: &mut [u8], at: &mut usize, kind: u16, payload: &[u8]) -> Result<(), Refusal>
+/// Refuses `Unfit` where the payload has more than 65531 bytes, and else `NoRoom` where the attribute and its padding
+/// have no room. Then nothing changes.
+pub fn put_attribute(
+    list: &mut [u8],
+    at: &mut usize,
+    kind: u16,
+    payload: &[u8],
+) -> Result<(), Refusal>
     ensures { IsPut kind payload.now list.old list.new at.old at.new result }
 {
     if payload.len() > 65531 {

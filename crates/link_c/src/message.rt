@@ -1,7 +1,7 @@
 //! Messages: checked, measured, written and compared.
 
-ghost use Rattle.std.specs.Prelude.{◌<◌, ◌^◌, IfOk};
-ghost use Rattle.link_c.specs.Messages.{IsLook, IsLength, IsText, IsAlike};
+ghost use Rattle.std.specs.Prelude.{◌≡◌, ◌<◌, ◌^◌, IfOk, MatchOption};
+ghost use Rattle.link_c.specs.Messages.{IsLook, IsLookAt, IsLength, IsText, IsAlike};
 
 use crate::refusal::Refusal;
 use link_msg::{LinkMessage, canonical_len, canonical_within, same_message};
@@ -13,6 +13,23 @@ pub fn check_message(bytes: &[u8]) -> Result<(), Refusal>
 {
     LinkMessage::check(bytes)?;
     Ok(())
+}
+
+/// What `check_message` finds; after a fault the place is where the fault is, and else it is unchanged.
+pub fn look_for_fault(bytes: &[u8], at: &mut usize) -> Result<(), Refusal>
+    ensures { IsLookAt bytes.now at.old at.new result }
+{
+    move_to(at, LinkMessage::fault_at(bytes));
+    check_message(bytes)
+}
+
+/// Moves to a place, if there is one.
+fn move_to(at: &mut usize, place: Option<usize>)
+    ensures { MatchOption place (at.new ≡ at.old) (λ there. at.new ≡ there) }
+{
+    if let Some(there) = place {
+        *at = there;
+    }
 }
 
 /// The length of the canonical text of what the bytes mean.
@@ -31,7 +48,8 @@ pub fn text_len(bytes: &[u8]) -> Result<usize, Refusal>
 /// Writes what the bytes mean, as canonical text, to the front of the buffer, and returns its length. The rest of the
 /// buffer is kept.
 ///
-/// Refuses faults, `Unfit`, `EmptyPorts`, and `NoRoom` where the text is longer than the buffer, which then is unchanged.
+/// Refuses faults, `Unfit`, `EmptyPorts`, and `NoRoom` where the text is longer than the buffer. Then the buffer is
+/// unchanged.
 pub fn write_text(bytes: &[u8], out: &mut [u8]) -> Result<usize, Refusal>
     ensures written { IsText bytes.now out.old out.new result }
     ensures short { IfOk result (λ n. n < 2 ^ 63) }

@@ -1,6 +1,6 @@
 //! Refusals and their numbers, and results as the numbers that C gets.
 
-ghost use Rattle.std.specs.Prelude.{◌≡◌, ◌<◌, ◌^◌, IfOk, pos, neg_ℤ};
+ghost use Rattle.std.specs.Prelude.{◌≡◌, ◌<◌, ◌^◌, ◌↔◌, IsTrue, IfOk, pos, neg_ℤ};
 ghost use Rattle.link_c.specs.Answers.{refusal_number, Says, itself, as_bit, as_one, as_zero};
 
 use link_msg::{CanonError, RoomError};
@@ -126,4 +126,11 @@ pub fn length_code(found: Result<usize, Refusal>) -> isize
         Ok(len) => len as isize,
         Err(refusal) => refusal.code() as isize,
     }
+}
+
+/// Whether two refusals are equal.
+pub fn same_refusal(one: &Refusal, other: &Refusal) -> bool
+    ensures { IsTrue result ↔ (one.now ≡ other.now) }
+{
+    one == other
 }

@@ -72,10 +72,20 @@ fn reads_a_list(rt: HostRuntime) {
     let mut at = 0;
     let mut attribute = DIRTY;
     assert_eq!(rt; next_attribute(list, &mut at, &mut attribute), Ok(true));
-    assert_eq!(rt; attribute, Attribute { kind: 3, payload: 4, payload_len: 2 });
+    assert_eq!(rt;
+        attribute,
+        Attribute {
+            kind: 3,
+            payload: 4,
+            payload_len: 2
+        }
+    );
     assert_eq!(rt; at, 8);
     let found = next_attribute(list, &mut at, &mut attribute);
-    assert_eq!(rt; found, Err(Refusal::Fault(Cause::FrameOver { length: 8, left: 6 })));
+    assert_eq!(rt;
+        found,
+        Err(Refusal::Fault(Cause::FrameOver { length: 8, left: 6 }))
+    );
     assert_eq!(rt; whether_code(found), -3);
     assert_eq!(rt; at, 8);
     assert_eq!(rt; attribute.kind, 3);
@@ -86,11 +96,24 @@ fn ends_a_list(rt: HostRuntime) {
     let mut at = 24;
     let mut attribute = DIRTY;
     assert_eq!(rt; next_attribute(&MESSAGE, &mut at, &mut attribute), Ok(true));
-    assert_eq!(rt; attribute, Attribute { kind: 0xc004, payload: 28, payload_len: 4 });
+    assert_eq!(rt;
+        attribute,
+        Attribute {
+            kind: 0xc004,
+            payload: 28,
+            payload_len: 4
+        }
+    );
     assert_eq!(rt; at, 32);
-    assert_eq!(rt; whether_code(next_attribute(&MESSAGE, &mut at, &mut attribute)), 0);
+    assert_eq!(rt;
+        whether_code(next_attribute(&MESSAGE, &mut at, &mut attribute)),
+        0
+    );
     at = usize::MAX;
-    assert_eq!(rt; whether_code(next_attribute(&MESSAGE, &mut at, &mut attribute)), 0);
+    assert_eq!(rt;
+        whether_code(next_attribute(&MESSAGE, &mut at, &mut attribute)),
+        0
+    );
     assert_eq!(rt; at, usize::MAX);
 }
 
@@ -106,12 +129,18 @@ fn puts(rt: HostRuntime) {
     assert_eq!(rt; list, [7, 0, 3, 0, 108, 111, 0, 0, 4, 0, 4, 0]);
     at = usize::MAX;
     assert_eq!(rt; done_code(put_attribute(&mut list, &mut at, 4, &[])), -19);
-    assert_eq!(rt; done_code(put_attribute(&mut list, &mut at, 4, &[0; 65532])), -16);
+    assert_eq!(rt;
+        done_code(put_attribute(&mut list, &mut at, 4, &[0; 65532])),
+        -16
+    );
 }
 
 #[test]
 fn numbers_refusals(rt: HostRuntime) {
-    assert_eq!(rt; Refusal::from(DecodeError::new("text", Cause::NotUtf8)).code(), -7);
+    assert_eq!(rt;
+        Refusal::from(DecodeError::new("text", Cause::NotUtf8)).code(),
+        -7
+    );
     assert_eq!(rt; Refusal::from(CanonError::DoesNotFit).code(), -16);
     assert_eq!(rt; Refusal::from(CanonError::EmptyVfPorts).code(), -17);
     assert_eq!(rt; Refusal::from(CanonError::OutOfMemory).code(), -18);

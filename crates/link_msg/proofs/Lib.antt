@@ -7,3 +7,5 @@ pub mod Writing
 pub mod Shaped
 pub mod Arms
 pub mod EmptyPorts
+pub mod Walking
+pub mod Faults

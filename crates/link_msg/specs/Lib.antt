@@ -9,3 +9,5 @@ pub mod MessageExact
 pub mod CanonErrors
 pub mod Canonical
 pub mod LawStatements
+pub mod FaultAt
+pub mod Written

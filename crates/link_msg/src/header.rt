@@ -21,7 +21,7 @@ pub struct LinkHeader {
 }
 
 /// The bytes of a message's header.
-pub(crate) const HEADER_SIZE: usize = 16;
+pub const HEADER_SIZE: usize = 16;
 
 impl Exact for LinkHeader {
     ghost use Rattle.link_vals.specs.contracts.address_family.AddressFamilyExact.TheImpl.Laws.{decides-law as family_exact};

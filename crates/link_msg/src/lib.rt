@@ -7,6 +7,7 @@ pub mod attribute;
 pub mod canonical_text;
 mod content;
 mod family;
+pub mod fault_at;
 pub mod header;
 pub mod laws;
 pub mod message;
@@ -14,6 +15,8 @@ pub mod numbers;
 mod payload;
 mod shape;
 pub mod table;
+pub mod to_vec;
+mod walk;
 
 pub use attribute::LinkAttribute;
 pub use canonical_text::CANONICAL_FORM;

@@ -15,3 +15,4 @@ pub mod Gives
 pub mod Items
 pub mod Same
 pub mod Decided
+pub mod Lending

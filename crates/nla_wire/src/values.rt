@@ -1,6 +1,11 @@
 //! Bytes, texts and lists whose contracts see them as lists.
 
-ghost use Rattle.std.specs.Prelude.{◌≡◌, ℕ, ◌==◌, List, length, IfOk, IfErr, refl};
+ghost use Rattle.std.specs.Prelude.{◌≡◌, ℕ, ◌==◌, List, [], ◌∷◌, ◌++◌, length, is_ok, IfOk, IfErr};
+ghost use Rattle.std.specs.Prelude.{if◌then◌else◌, refl};
+ghost use Rattle.std.specs.Borrow.{sem, Lends, Array};
+ghost use Rattle.std.specs.Slice.Iter.{iter_rest};
+ghost use Rattle.nla_wire.specs.Lending.{overwritten};
+ghost use Rattle.std.specs.Iterator.Adapters.{IterYieldsInOrder, IterYieldsInReverse};
 ghost use Rattle.std.specs.String.{string_bytes};
 ghost use Rattle.nla_wire.specs.declared.error.Cause.TheVariants.{OutOfMemory};
 ghost use Rattle.std.specs.Cmp.Rules.{comparing};
@@ -10,8 +15,9 @@ ghost use lib.Pointwise.{pointwise};
 
 use crate::error::DecodeError;
 use crate::exact::Exact;
-use std::alloc::Global;
+use std::alloc::{AllocFailed, Global};
 use std::marker::Model;
+use std::slice::Iter;
 
 /// A value that is copied with memory taken from the allocator that is passed.
 pub trait CloneIn: Sized {
@@ -195,6 +201,8 @@ impl<T> Model for List<T> {
 }
 
 impl<T> List<T> {
+    ghost use Rattle.nla_wire.specs.contracts.values.List.{the_row};
+
     /// The values of a vector, which is moved.
     pub fn new(vec: Vec<T>) -> List<T>
         ensures { result ≡ vec.items }
@@ -214,6 +222,31 @@ impl<T> List<T> {
         ensures { result.now ≡ self.now }
     {
         self.vec.as_slice()
+    }
+
+    /// The values, to be changed in place.
+    pub fn as_mut_slice(&mut self) -> &mut [T]
+        ensures* writes_back { sem 𝓛 (Lends (the_row T.row) (Array T.row 0) self.entry result (overwritten self.old)) }
+        ensures value { result.now ≡ self.old }
+    {
+        self.vec.as_mut_slice()
+    }
+
+    /// The values in order, or from the back.
+    pub fn iter(&self) -> Iter<'_, T>
+        ensures rest { iter_rest result ≡ self.now }
+        ensures runs { IterYieldsInOrder T }
+        ensures runs_back { IterYieldsInReverse T }
+    {
+        self.vec.as_slice().iter()
+    }
+
+    /// Adds a value at the end. Where memory ran out the list is unchanged, and the value is returned.
+    pub fn push(&mut self, value: T) -> Result<(), AllocFailed<T>>
+        ensures items { self.new ≡ (if is_ok result then self.old ++ value ∷ [] else self.old) }
+        ensures value_returned { IfErr result (λ failed. failed.value ≡ value) }
+    {
+        self.vec.push(value)
     }
 
     pub fn len(&self) -> usize

@@ -15,6 +15,8 @@ mod damaged_lists;
 #[cfg(test)]
 mod empty_ports;
 #[cfg(test)]
+mod fault_places;
+#[cfg(test)]
 mod flat_lists;
 #[cfg(test)]
 mod functions_and_ports;
@@ -36,6 +38,8 @@ mod names;
 mod refused_messages;
 #[cfg(test)]
 mod rows;
+#[cfg(test)]
+mod sent_messages;
 #[cfg(test)]
 mod settings;
 #[cfg(test)]

@@ -59,3 +59,22 @@ fn keeps_lists(rt: HostRuntime) {
     assert!(rt; list.as_slice()[0].as_str() == "lo");
     assert!(rt; copy.into_vec().len() == 1);
 }
+
+#[test]
+fn changes_lists(rt: HostRuntime) {
+    let mut list = List::new(Vec::new(rt.alloc()));
+    for value in [1u32, 2, 3] {
+        got(&rt, list.push(value));
+    }
+    for value in list.as_mut_slice().iter_mut() {
+        *value = if *value == 2 { 20 } else { *value };
+    }
+    let mut places = list.iter();
+    assert!(rt; places.next() == Some(&1));
+    assert!(rt; places.next_back() == Some(&3));
+    assert!(rt; places.next() == Some(&20));
+    assert!(rt; places.next().is_none());
+    list.as_mut_slice()[0] = 7;
+    is_same(&rt, &list.len(), &3);
+    assert!(rt; list.as_slice() == [7, 20, 3].as_slice());
+}

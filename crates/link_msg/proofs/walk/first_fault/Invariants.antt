@@ -1,0 +1,5 @@
+use Rattle.link_msg.proofs.Walking.{Walking}
+use Rattle.link_msg.proofs.walk.first_fault.Given as goal
+
+abbrev pub invariant-loop-item : goal.invariant-loop-item
+invariant-loop-item g l = Walking (g.P.Place.grammar l.place) l.bytes l.item-iterator l.at

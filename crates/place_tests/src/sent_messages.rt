@@ -1,0 +1,74 @@
+//! Messages that are built or changed, written into memory of their own, and read back.
+
+use crate::rows::*;
+use crate::testing::*;
+use link_msg::*;
+use std::alloc::Global;
+use std::process::Abort;
+
+/// A message is written as this text in memory of its own, and the text means it.
+fn is_sent(rt: &impl Abort, alloc: Global, message: &LinkMessage, text: &[u8]) {
+    are(rt, got(rt, message.to_vec(alloc)).as_slice(), text);
+    assert!(rt; got(rt, message.reads_back(alloc)));
+}
+
+/// The text of a message of the default header and this attribute means another message, or none.
+fn is_read_otherwise(rt: &impl Abort, alloc: Global, attribute: LinkAttribute) {
+    let message = message_of(rt, alloc, [attribute]);
+    assert!(rt; message.fits());
+    assert!(rt; !got(rt, message.reads_back(alloc)));
+}
+
+#[test]
+fn a_changed_message(rt: HostRuntime) {
+    let alloc = rt.alloc();
+    let bytes = with_header(
+        &rt,
+        alloc,
+        0,
+        &[7, 0, 3, 0, 0x6c, 0x6f, 0, 9, 8, 0, 4, 0, 0xdc, 5, 0, 0],
+    );
+    let mut message = read_message(&rt, alloc, bytes.as_slice());
+    for attribute in message.attributes.as_mut_slice() {
+        if let LinkAttribute::Mtu(mtu) = attribute {
+            *mtu = 9000;
+        }
+    }
+    got(&rt, message.attributes.push(LinkAttribute::Carrier(1)));
+    let wanted = with_header(
+        &rt,
+        alloc,
+        0,
+        &[
+            7, 0, 3, 0, 0x6c, 0x6f, 0, 0, 8, 0, 4, 0, 0x28, 0x23, 0, 0, 5, 0, 33, 0, 1, 0, 0, 0,
+        ],
+    );
+    is_sent(&rt, alloc, &message, wanted.as_slice());
+    is_sent(&rt, alloc, &LinkMessage::new(alloc), &[0; 16]);
+}
+
+#[test]
+fn what_is_not_sent(rt: HostRuntime) {
+    let alloc = rt.alloc();
+    let ports = LinkAttribute::VfPorts(list(&rt, alloc, []));
+    let empty = message_of(&rt, alloc, [ports]);
+    is_refused_so(&rt, empty.to_vec(alloc), CanonError::EmptyVfPorts);
+    assert!(rt; !got(&rt, empty.reads_back(alloc)));
+    let long = Bytes::new(got(&rt, vec![in alloc; 0u8; 65532]));
+    let unfit = message_of(&rt, alloc, [LinkAttribute::Address(long)]);
+    is_refused_so(&rt, unfit.to_vec(alloc), CanonError::DoesNotFit);
+    assert!(rt; !got(&rt, unfit.reads_back(alloc)));
+}
+
+/// A list that must not be empty, settings of a bridge under no family, and a frame of a listed number.
+#[test]
+fn what_is_read_otherwise(rt: HostRuntime) {
+    let alloc = rt.alloc();
+    let infos = list(&rt, alloc, []);
+    is_read_otherwise(&rt, alloc, LinkAttribute::LinkInfo(infos));
+    let bridge = AfSpecBridge::Other(kept(&rt, alloc, 1, &[2]));
+    let settings = LinkAttribute::AfSpecBridge(list(&rt, alloc, [bridge]));
+    is_read_otherwise(&rt, alloc, settings);
+    let mtu = LinkAttribute::Other(kept(&rt, alloc, 4, &[0xdc, 5, 0, 0]));
+    is_read_otherwise(&rt, alloc, mtu);
+}
