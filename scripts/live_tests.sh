@@ -50,7 +50,7 @@ reads_hex() {
     if [ "$(grep -cE '^([0-9a-f]{2}){16,}$' "$folder/hex")" != "$(wc -l <"$folder/lines")" ]; then
         fails "$1: links --hex prints another number of links"
     fi
-    if [ -x "$program" ] && "$program" <"$folder/hex" | grep -qv '^ok '; then
+    if [ -x "$program" ] && [ "$("$program" <"$folder/hex" | grep -c '^ok ')" != "$(wc -l <"$folder/lines")" ]; then
         fails "$1: the program refuses a link"
     fi
 }
