@@ -1,7 +1,7 @@
 #!/usr/bin/env bash
 # Tries the laws of the library for C on messages that a seed makes:
-# laws.sh LIBRARY [MESSAGES [SEED] | --seconds N [SEED]]. The test's own code is built with sanitizers, where the compiler
-# has them.
+# laws.sh LIBRARY [MESSAGES [SEED] | --seconds N [SEED]]. The test's own code is built with sanitizers, where the
+# compiler has them.
 set -euo pipefail
 top=$(cd "$(dirname "$0")/.." && pwd)
 library=$1
