@@ -1,7 +1,7 @@
 #!/usr/bin/env bash
-# Builds the libraries for programs in C, looks at their symbols, compiles the header in each language, and runs the tests
-# of tests/c, the laws, and the examples on the running kernel. Takes the flags of c_library.sh. The last line is 'c tests
-# passed'.
+# Builds the libraries for programs in C, looks at their symbols, compiles the header in each language, and runs the
+# tests of tests/c, the laws, and the examples on the running kernel. Takes the flags of c_library.sh. The last line is
+# 'c tests passed'.
 set -euo pipefail
 top=$(cd "$(dirname "$0")/.." && pwd)
 library=$("$top/scripts/c_library.sh" "$@")

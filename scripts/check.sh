@@ -8,11 +8,11 @@ trap 'rm -f "$log"' EXIT
 rt ci | tee "$log"
 scripts/program.sh
 scripts/c_tests.sh --over-gate
-python3 scripts/readme.py out/liblinkwire.a
-scripts/test_install.sh
 scripts/rust_tests.sh
 scripts/parallel_test.sh
 scripts/test_progress.sh
+python3 scripts/readme.py out/liblinkwire.a
+scripts/test_install.sh
 scripts/refused_memory.sh
 scripts/refused_parse.sh
 scripts/kernel_tables.sh

@@ -50,7 +50,7 @@ reads_hex() {
     if [ "$(grep -cE '^([0-9a-f]{2}){16,}$' "$folder/hex")" != "$(wc -l <"$folder/lines")" ]; then
         fails "$1: links --hex prints another number of links"
     fi
-    if [ -x "$program" ] && "$program" <"$folder/hex" | grep -qv '^ok '; then
+    if [ -x "$program" ] && [ "$("$program" <"$folder/hex" | grep -c '^ok ')" != "$(wc -l <"$folder/lines")" ]; then
         fails "$1: the program refuses a link"
     fi
 }
@@ -62,7 +62,8 @@ with() {
 
 # meets the faults of tests/live/kernel_faults.c, in a namespace, where nothing changes meanwhile
 meets_faults() {
-    ${CC:-cc} -O1 -Wall -Wextra -Werror -shared -fPIC -o "$folder/kernel_faults.so" "$top/tests/live/kernel_faults.c" -ldl
+    ${CC:-cc} -O1 -Wall -Wextra -Werror -shared -fPIC -o "$folder/kernel_faults.so" \
+        "$top/tests/live/kernel_faults.c" -ldl
     "$folder/links" >"$folder/lines"
     local fault
     for fault in interrupted 'ran over'; do
@@ -71,7 +72,8 @@ meets_faults() {
         fi
     done
     for fault in error length; do
-        if with "$fault" >"$folder/out" 2>"$folder/err" || [ -s "$folder/out" ] || ! grep -q '^links: ' "$folder/err"; then
+        if with "$fault" >"$folder/out" 2>"$folder/err" || [ -s "$folder/out" ] ||
+            ! grep -q '^links: ' "$folder/err"; then
             fails "links does not tell: $fault"
         fi
     done

@@ -2,6 +2,7 @@
 # Spreads generated lines over all cores by GNU parallel, and compares what comes with what one process answers:
 # parallel_test.sh [MEGABYTES]. Where parallel is not installed it says 'skipped'. The times are printed, not judged.
 set -euo pipefail
+shopt -s inherit_errexit
 top=$(cd "$(dirname "$0")/.." && pwd)
 PATH=$top/crates/linkwire/out:$PATH
 if ! parallel --version 2>/dev/null | grep -q '^GNU parallel'; then
@@ -26,6 +27,7 @@ of_file() {
 one_took=$(seconds one)
 spread_took=$(seconds spread)
 of_file_took=$(seconds of_file)
+[ "$(wc -l <"$folder/one")" = "$(wc -l <"$folder/lines")" ]
 cmp "$folder/one" "$folder/spread"
 cmp "$folder/one" "$folder/of_file"
 echo "parallel: the same bytes from $(nproc) cores, ${1:-20} MB: one process $one_took," \

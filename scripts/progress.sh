@@ -11,7 +11,7 @@ order=()
 add() {
     local name=$1 dep
     for dep in $(sed -n "s/^$name\( staticlib\)\?://p" "$top/crates.txt"); do
-        if grep -q "^$dep[: ]" "$top/crates.txt"; then
+        if grep -q "^${dep}[: ]" "$top/crates.txt"; then
             add "$dep"
         fi
     done
@@ -25,7 +25,8 @@ add "$crate"
 # is_kept NAME: whether the library of an earlier run is newer than all that it is made of
 is_kept() {
     local stamp=$top/crates/$1/out/rlib/stamp
-    [ -e "$stamp" ] && [ -z "$(find "$top/crates.txt" "$top/crates/$1" -name out -prune -o -newer "$stamp" -type f -print -quit)" ]
+    local sources=("$top/crates.txt" "$top/crates/$1")
+    [ -e "$stamp" ] && [ -z "$(find "${sources[@]}" -name out -prune -o -newer "$stamp" -type f -print -quit)" ]
 }
 
 # ticks LABEL: the seconds of a line, on a terminal

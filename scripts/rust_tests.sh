@@ -1,6 +1,6 @@
 #!/usr/bin/env bash
-# Runs the tests of bindings/rust against the built library, and then the README's program in Rust, taken out of it, whose
-# output is compared: rust_tests.sh [LIBRARY]. Where cargo is not there it says 'skipped'. It needs no registry.
+# Runs the tests of bindings/rust against the built library, and then the README's program in Rust, taken out of it,
+# whose output is compared: rust_tests.sh [LIBRARY]. Where cargo is not there it says 'skipped'. It needs no registry.
 set -euo pipefail
 top=$(cd "$(dirname "$0")/.." && pwd)
 library=$(realpath "${1:-$top/out/liblinkwire.a}")
@@ -42,8 +42,15 @@ mkdir -p "$folder/sample/src"
 block rust >"$folder/sample/src/main.rs"
 block console | sed 1d >"$folder/wanted"
 [ -s "$folder/sample/src/main.rs" ] && [ -s "$folder/wanted" ]
-printf '[package]\nname = "sample"\nversion = "0.0.0"\nedition = "2021"\n\n[dependencies]\nlinkwire = { path = "%s" }\n' \
-    "$top/bindings/rust" >"$folder/sample/Cargo.toml"
+cat >"$folder/sample/Cargo.toml" <<END
+[package]
+name = "sample"
+version = "0.0.0"
+edition = "2021"
+
+[dependencies]
+linkwire = { path = "$top/bindings/rust" }
+END
 cd "$folder/sample"
 runs cargo build
 "$CARGO_TARGET_DIR/debug/sample" >"$folder/found"

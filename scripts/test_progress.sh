@@ -1,5 +1,6 @@
 #!/usr/bin/env bash
-# Looks at the lines of scripts/progress.sh, with a stand-in for rt that sleeps: in a file, on a terminal, after a failure.
+# Looks at the lines of scripts/progress.sh, with a stand-in for rt that sleeps: in a file, on a terminal, after a
+# failure, and when it is ended.
 set -euo pipefail
 top=$(cd "$(dirname "$0")/.." && pwd)
 folder=$(mktemp -d)
@@ -36,7 +37,12 @@ wants() {
 }
 
 "$folder/scripts/progress.sh" top run "$folder/log" >"$folder/out" 2>"$folder/err"
-wants 'three crates' $'1 of 3 low ..\n1 of 3 low .. N s\n2 of 3 mid ..\n2 of 3 mid .. N s\n3 of 3 top ..\n3 of 3 top .. N s'
+wants 'three crates' '1 of 3 low ..
+1 of 3 low .. N s
+2 of 3 mid ..
+2 of 3 mid .. N s
+3 of 3 top ..
+3 of 3 top .. N s'
 if [ -s "$folder/out" ] || [ "$(grep -c '^said by' "$folder/log")" != 3 ]; then
     echo 'progress: something is on standard output, or the log lacks a line' >&2
     exit 1

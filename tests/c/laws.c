@@ -99,16 +99,17 @@ struct line {
 
 static const struct line message_lines[] = {
     {1, BYTES, 0, 0}, {2, BYTES, 0, 0}, {3, TEXT, 0, 0}, EXACTLY(4, 4), EXACTLY(5, 4), {6, TEXT, 0, 0},
-    {7, FILLED, 0, 96}, EXACTLY(10, 4), {11, EVENT, 0, 0}, {12, BY_FAMILY, 0, 0}, EXACTLY(13, 4), {14, AT_LEAST, 0, 32},
-    EXACTLY(16, 1), EXACTLY(17, 1), {18, LIST, INFO, 0}, EXACTLY(19, 4), {20, TEXT, 0, 0}, EXACTLY(21, 4),
-    {22, LIST, FUNCTIONS, 0}, {22, LIST, FUNCTIONS, 0}, {23, FILLED, 0, 200}, {24, LIST, PORTS, 0}, {25, LIST, PORT, 0},
-    {26, BY_FAMILY, 0, 0}, {26, BY_FAMILY, 0, 0}, EXACTLY(27, 4), EXACTLY(28, 4), EXACTLY(29, 4), EXACTLY(30, 4),
-    EXACTLY(31, 4), EXACTLY(32, 4), EXACTLY(33, 1), {34, BYTES, 0, 0}, EXACTLY(35, 4), {36, BYTES, 0, 0}, EXACTLY(37, 4),
-    {38, TEXT, 0, 0}, EXACTLY(39, 1), EXACTLY(40, 4), EXACTLY(41, 4), {43, LIST, XDP, 0}, EXACTLY(44, 4), EXACTLY(45, 4),
-    EXACTLY(46, 4), EXACTLY(47, 4), EXACTLY(48, 4), EXACTLY(49, 4), EXACTLY(50, 4), EXACTLY(51, 4), {52, LIST, PROPS, 0},
-    {54, BYTES, 0, 0}, {55, LIST, REASONS, 0}, {56, TEXT, 0, 0}, {57, TEXT, 0, 0}, EXACTLY(58, 4), EXACTLY(59, 4),
-    EXACTLY(60, 4), EXACTLY(61, 4), {62, LIST, DEVLINK, 0}, EXACTLY(63, 4), EXACTLY(64, 4), {65, LIST, DPLL, 0},
-    EXACTLY(67, 1), EXACTLY(68, 2), EXACTLY(69, 2),
+    {7, FILLED, 0, 96}, EXACTLY(10, 4), {11, EVENT, 0, 0}, {12, BY_FAMILY, 0, 0}, EXACTLY(13, 4),
+    {14, AT_LEAST, 0, 32}, EXACTLY(16, 1), EXACTLY(17, 1), {18, LIST, INFO, 0}, EXACTLY(19, 4), {20, TEXT, 0, 0},
+    EXACTLY(21, 4), {22, LIST, FUNCTIONS, 0}, {22, LIST, FUNCTIONS, 0}, {23, FILLED, 0, 200}, {24, LIST, PORTS, 0},
+    {25, LIST, PORT, 0}, {26, BY_FAMILY, 0, 0}, {26, BY_FAMILY, 0, 0}, EXACTLY(27, 4), EXACTLY(28, 4),
+    EXACTLY(29, 4), EXACTLY(30, 4), EXACTLY(31, 4), EXACTLY(32, 4), EXACTLY(33, 1), {34, BYTES, 0, 0},
+    EXACTLY(35, 4), {36, BYTES, 0, 0}, EXACTLY(37, 4), {38, TEXT, 0, 0}, EXACTLY(39, 1), EXACTLY(40, 4),
+    EXACTLY(41, 4), {43, LIST, XDP, 0}, EXACTLY(44, 4), EXACTLY(45, 4), EXACTLY(46, 4), EXACTLY(47, 4),
+    EXACTLY(48, 4), EXACTLY(49, 4), EXACTLY(50, 4), EXACTLY(51, 4), {52, LIST, PROPS, 0}, {54, BYTES, 0, 0},
+    {55, LIST, REASONS, 0}, {56, TEXT, 0, 0}, {57, TEXT, 0, 0}, EXACTLY(58, 4), EXACTLY(59, 4), EXACTLY(60, 4),
+    EXACTLY(61, 4), {62, LIST, DEVLINK, 0}, EXACTLY(63, 4), EXACTLY(64, 4), {65, LIST, DPLL, 0}, EXACTLY(67, 1),
+    EXACTLY(68, 2), EXACTLY(69, 2),
 };
 static const struct line functions_lines[] = {{1, LIST, FUNCTION, 0}};
 static const struct line function_lines[] = {
@@ -117,7 +118,8 @@ static const struct line function_lines[] = {
     {11, AT_LEAST, 0, 16}, {12, LIST, VLANS, 0}, {13, AT_LEAST, 0, 32},
 };
 static const struct line counts_lines[] = {
-    EXACTLY(0, 8), EXACTLY(1, 8), EXACTLY(2, 8), EXACTLY(3, 8), EXACTLY(4, 8), EXACTLY(5, 8), EXACTLY(7, 8), EXACTLY(8, 8),
+    EXACTLY(0, 8), EXACTLY(1, 8), EXACTLY(2, 8), EXACTLY(3, 8), EXACTLY(4, 8), EXACTLY(5, 8), EXACTLY(7, 8),
+    EXACTLY(8, 8),
 };
 static const struct line vlans_lines[] = {{1, AT_LEAST, 0, 16}};
 static const struct line ports_lines[] = {{1, LIST, PORT, 0}};
@@ -126,7 +128,8 @@ static const struct line devlink_lines[] = {{1, TEXT, 0, 0}, {2, TEXT, 0, 0}, EX
 static const struct line dpll_lines[] = {EXACTLY(1, 4)};
 static const struct line reasons_lines[] = {EXACTLY(1, 4), EXACTLY(2, 4)};
 static const struct line xdp_lines[] = {
-    EXACTLY(1, 4), EXACTLY(2, 1), EXACTLY(3, 4), EXACTLY(4, 4), EXACTLY(5, 4), EXACTLY(6, 4), EXACTLY(7, 4), EXACTLY(8, 4),
+    EXACTLY(1, 4), EXACTLY(2, 1), EXACTLY(3, 4), EXACTLY(4, 4), EXACTLY(5, 4), EXACTLY(6, 4), EXACTLY(7, 4),
+    EXACTLY(8, 4),
 };
 static const struct line info_lines[] = {{1, TEXT, 0, 0}};
 static const struct line specs_lines[] = {{2, LIST, INET, 0}, {10, LIST, INET6, 0}, {45, LIST, MCTP, 0}};
@@ -145,10 +148,11 @@ static const struct table {
     size_t count;
 } tables[PLACES] = {
     [MESSAGE] = LINES(message_lines), [FUNCTIONS] = LINES(functions_lines), [FUNCTION] = LINES(function_lines),
-    [COUNTS] = LINES(counts_lines), [VLANS] = LINES(vlans_lines), [PORTS] = LINES(ports_lines), [PORT] = LINES(any_lines),
-    [PROPS] = LINES(props_lines), [DEVLINK] = LINES(devlink_lines), [DPLL] = LINES(dpll_lines),
-    [REASONS] = LINES(reasons_lines), [XDP] = LINES(xdp_lines), [INFO] = LINES(info_lines), [SPECS] = LINES(specs_lines),
-    [INET] = LINES(inet_lines), [INET6] = LINES(inet6_lines), [MCTP] = LINES(mctp_lines), [ANY] = LINES(any_lines),
+    [COUNTS] = LINES(counts_lines), [VLANS] = LINES(vlans_lines), [PORTS] = LINES(ports_lines),
+    [PORT] = LINES(any_lines), [PROPS] = LINES(props_lines), [DEVLINK] = LINES(devlink_lines),
+    [DPLL] = LINES(dpll_lines), [REASONS] = LINES(reasons_lines), [XDP] = LINES(xdp_lines),
+    [INFO] = LINES(info_lines), [SPECS] = LINES(specs_lines), [INET] = LINES(inet_lines),
+    [INET6] = LINES(inet6_lines), [MCTP] = LINES(mctp_lines), [ANY] = LINES(any_lines),
 };
 
 /* The generator. */
@@ -166,7 +170,9 @@ static void add(struct text *out, size_t count) {
 }
 
 static void add_text(struct text *out) {
-    static const char *const pieces[] = {"e", "th0", "\xc3\xa9", "\xe2\x82\xac", "\xf0\x9f\x90\xa7", "a b", "\x7f", ".5"};
+    static const char *const pieces[] = {
+        "e", "th0", "\xc3\xa9", "\xe2\x82\xac", "\xf0\x9f\x90\xa7", "a b", "\x7f", ".5",
+    };
     for (size_t count = below(5); count > 0; count--) {
         const char *piece = pieces[below(sizeof pieces / sizeof *pieces)];
         memcpy(out->bytes + out->len, piece, strlen(piece));
@@ -437,7 +443,8 @@ static void tries_two(const uint8_t *a, size_t a_len, ptrdiff_t length, const ui
     LAW(answer == (length == b_length && memcmp(text, b_text, (size_t)length) == 0));
 }
 
-/* The attributes of a message that is accepted are read to its end, and written again by linkwire_put they mean the same. */
+/* The attributes of a message that is accepted are read to its end, and written again by linkwire_put they mean the
+ * same. */
 static void tries_list(const uint8_t *message, size_t len) {
     struct linkwire_attribute it = {0};
     size_t at = LINKWIRE_HEADER_SIZE, to = LINKWIRE_HEADER_SIZE, room = (len + 3) & ~(size_t)3;
@@ -548,7 +555,10 @@ int main(int words, char **word) {
     if (words > 1 && !is_timed) {
         count = strtoul(word[1], NULL, 10);
     }
-    uint64_t first = words > 2 + is_timed ? strtoull(word[2 + is_timed], NULL, 10) : is_timed ? (uint64_t)time(NULL) << 32 : 1;
+    uint64_t first = is_timed ? (uint64_t)time(NULL) << 32 : 1;
+    if (words > 2 + is_timed) {
+        first = strtoull(word[2 + is_timed], NULL, 10);
+    }
     signal(SIGSEGV, on_touch);
     signal(SIGBUS, on_touch);
     reserve(&area_of_message);

@@ -1,7 +1,7 @@
 //! The functions of `linkwire.h` that the library exports.
 //!
-//! What they ask of their caller holds for every slice: its pointer is not null, has its length of bytes after it, which
-//! is at most `isize::MAX`, and for the call nobody else writes them, or touches those of a `&mut`.
+//! What they ask of their caller holds for every slice: its pointer is not null, has its length of bytes after it,
+//! which is at most `isize::MAX`, and for the call nobody else writes them, or touches those of a `&mut`.
 
 /// `struct linkwire_attribute`.
 #[repr(C)]

@@ -52,8 +52,8 @@ impl<'a> Writer<'a> {
     /// ```
     pub fn put(&mut self, kind: u16, payload: &[u8]) -> Result<(), Refusal> {
         let (list, room) = (self.bytes.as_mut_ptr(), self.bytes.len());
-        // SAFETY: both pointers and lengths are a slice's. What is written, `bytes` and `at`, is borrowed mutably, and so
-        // overlaps nothing.
+        // SAFETY: both pointers and lengths are a slice's. What is written, `bytes` and `at`, is borrowed mutably, and
+        // so overlaps nothing.
         let answer = unsafe { linkwire_put(list, room, &mut self.at, kind, payload.as_ptr(), payload.len()) };
         match answer {
             1 => Ok(()),
