@@ -1,5 +1,5 @@
 -- Whether the text of a message means it, from what is read from the text.
-use Rattle.std.proofs.Common.{◌≡◌, ◌≢◌, List, ℕ, ap, sym, ◌∙◌, subst, true, false}
+use Rattle.std.proofs.Common.{◌≡◌, List, ℕ, sym, ◌∙◌, subst, false}
 use Rattle.std.specs.Prelude.{Bool, IsTrue, ◌↔◌}
 use Rattle.link_msg.specs.Messages.{Means, IsRefused, message_text, MessageFits}
 use Rattle.link_msg.specs.declared.message.LinkMessage.{LinkMessage}

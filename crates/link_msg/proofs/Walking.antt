@@ -1,6 +1,6 @@
 -- The walk to the first fault of a list: what it has gone past, and what is left.
-use Rattle.std.proofs.Common.{◌≡◌, ℕ, ◌+◌, ◌%◌, ◌<◌, ◌≤◌, ◌⊎◌, inl, inr, List, [], ◌∷◌, ◌++◌, length, refl, ap, sym, ◌∙◌, subst}
-use Rattle.std.proofs.Common.{append_assoc, append-nil, length-append, arith, Option, Some, None, Result, Ok, Err, IsOk}
+use Rattle.std.proofs.Common.{◌≡◌, ℕ, ◌+◌, ◌%◌, ◌≤◌, ◌⊎◌, inl, inr, List, [], ◌∷◌, ◌++◌, length, refl, ap, sym, ◌∙◌, subst}
+use Rattle.std.proofs.Common.{append_assoc, append-nil, length-append, arith, Option, Some, None, Result, Ok, Err}
 use Rattle.nla_wire.specs.Frames.{Frame, IsBytes, IsFrame, unpadded, missing, Begins, Frames, BadStart}
 use Rattle.nla_wire.specs.Reading.{Step, step}
 use Rattle.nla_wire.specs.Reading.Step.{End, Bad, Next}

@@ -1,4 +1,4 @@
-use Rattle.std.proofs.Common.{◌≡◌, arith, sym, ◌∙◌}
+use Rattle.std.proofs.Common.{◌≡◌, arith}
 use Rattle.nla_wire.specs.Items.{items}
 use Rattle.nla_wire.proofs.Front.{all_bytes}
 use Rattle.link_msg.proofs.Walking.{reached_start, reached_on, frame_inside, fault_inside}

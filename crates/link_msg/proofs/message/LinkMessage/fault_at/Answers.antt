@@ -1,5 +1,4 @@
-use Rattle.std.proofs.Common.{◌≡◌, ℕ, ◌+◌, Option, Some, None, refl, subst}
-use Rattle.nla_wire.specs.Frames.{Frame}
+use Rattle.std.proofs.Common.{◌+◌, Some, None, refl, subst}
 use Rattle.link_msg.specs.FaultAt.{IsFirstFault}
 use Rattle.link_msg.specs.Tables.{attribute_place}
 use Rattle.link_msg.proofs.Faults.{Told, told_short, told_none, told_fault, within_frame}

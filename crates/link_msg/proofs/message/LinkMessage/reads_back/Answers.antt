@@ -1,4 +1,4 @@
-use Rattle.std.proofs.Common.{◌≡◌, sym, ◌∙◌}
+use Rattle.std.proofs.Common.{sym, ◌∙◌}
 use Rattle.link_msg.specs.contracts.message.LinkMessageExact.TheImpl.Laws.{decides-law as message_exact}
 use Rattle.link_msg.proofs.ReadAgain.{read_again, not_read_again}
 use Rattle.link_msg.proofs.message.LinkMessage.reads_back.Goals as goal
