@@ -1,6 +1,7 @@
 #!/usr/bin/env bash
-# Refuses each growth of `LinkMessage::parse` in turn on a message of four levels, until none is, by the program that the
-# gate left: want of memory each time, and at last the message. It wants ten growths at least.
+# Refuses each allocation of `LinkMessage::parse` in turn on a message of four levels, by the program that the gate left,
+# then the one of `canonical`, until none is refused: out of memory each time, and at last the message and its text. It
+# wants ten of the first at least, and exactly one of the second.
 set -euo pipefail
 top=$(cd "$(dirname "$0")/.." && pwd)
 program=$top/crates/parse_once/out/parse_once
@@ -21,24 +22,32 @@ digits() {
 
 printf "$(digits | tr -d '\n' | sed 's/../\\x&/g')" >"$folder/message"
 ${CC:-cc} -O2 -Wall -Wextra -Werror -shared -fPIC -o "$folder/refuse.so" "$top/tests/program/refuse_growth.c"
-for ((call = 1; ; call++)); do
+parsed="ok, 5 attributes, 124 bytes of text"
+written="canonical: 124 bytes"
+# What the program prints where this allocation is refused.
+answers() {
     rm -f "$folder/refused"
-    answer=$(REFUSED_CALL=$call REFUSED_MARK=$folder/refused LD_PRELOAD=$folder/refuse.so \
-        "$program" <"$folder/message") || answer="status $?"
-    want="out of memory"
-    if [ ! -e "$folder/refused" ]; then
-        want="ok, 5 attributes, 124 bytes of text"
-    fi
-    if [ "$answer" != "$want" ]; then
-        echo "refused_parse: growth $call: $answer, not $want" >&2
-        exit 1
-    fi
-    if [ ! -e "$folder/refused" ]; then
-        break
-    fi
+    REFUSED_CALL=$1 REFUSED_MARK=$folder/refused LD_PRELOAD=$folder/refuse.so "$program" <"$folder/message" ||
+        echo "status $?"
+}
+
+call=1
+while [ "$(answers "$call")" = "out of memory"$'\n'"$written" ]; do
+    call=$((call + 1))
 done
 if ((call <= 10)); then
-    echo "refused_parse: only $((call - 1)) growths" >&2
+    echo "refused_parse: only $((call - 1)) allocations" >&2
     exit 1
 fi
-echo "refused_parse: $((call - 1)) growths refused in turn: ok"
+want="$parsed"$'\n'"canonical: out of memory"
+answer=$(answers "$call")
+if [ "$answer" != "$want" ]; then
+    echo "refused_parse: allocation $call: $answer, not $want" >&2
+    exit 1
+fi
+answer=$(answers $((call + 1)))
+if [ -e "$folder/refused" ] || [ "$answer" != "$parsed"$'\n'"$written" ]; then
+    echo "refused_parse: canonical allocates more than once: $answer" >&2
+    exit 1
+fi
+echo "refused_parse: $((call - 1)) allocations of parse and the one of canonical refused in turn: ok"

@@ -30,17 +30,22 @@ ghost use Rattle.link_afspec.specs.Tables.{af_spec_inet_place, af_spec_inet6_pla
 ghost use Rattle.link_afspec.specs.declared.numbers.TheConstants.{IFLA_INET_CONF, IFLA_INET6_CONF, IFLA_INET6_STATS};
 ghost use Rattle.link_afspec.specs.declared.numbers.TheConstants.{IFLA_INET6_CACHEINFO, IFLA_INET6_ICMP6STATS};
 ghost use Rattle.link_msg.specs.declared.numbers.TheConstants.{IFLA_STATS, IFLA_STATS64, IFLA_MAP};
-ghost use Rattle.std.specs.Prelude.{◌≡◌, ◌*◌, [], ◌∷◌, length};
+ghost use Rattle.std.specs.Prelude.{◌≡◌, ◌*◌, ◌+◌, [], ◌∷◌, length};
 ghost use Rattle.nla_wire.specs.Sizes.{growth_per_byte};
 ghost use Rattle.link_msg.specs.Canonical.{HoldsText};
-ghost use Rattle.nla_wire.specs.Canon.{canon};
+ghost use Rattle.nla_wire.specs.Canon.{canon, canons, AllFit, RoomWhereFit};
+ghost use Rattle.nla_wire.specs.Grammar.{list};
 ghost use Rattle.link_msg.specs.declared.attribute.LinkAttribute.TheVariants as Attributes;
-ghost use Rattle.link_msg.specs.Tables.{attribute_place, attribute_frame};
+ghost use Rattle.link_msg.specs.Tables.{attribute_place, attribute_frame, AttributeFits};
 ghost use Rattle.link_msg.specs.Header.{default_header};
 ghost use Rattle.link_msg.specs.LawStatements.{OneMeaning, TextMeansTheSame, OnlyWithPorts, SameTextSameMessage};
 ghost use Rattle.link_msg.specs.LawStatements.{CanonicalTwice, Joined, ForeignKept};
 
 use crate::header::LinkHeader;
+use crate::table::AttributePlace;
+use link_vals::AddressFamily;
+use nla_wire::NlaBuffer;
+use nla_wire::laws::{law_members_room, law_place_room};
 
 /// No bytes mean two messages.
 pub fn law_one_meaning()
@@ -61,6 +66,22 @@ pub fn law_canonical_twice()
 pub fn law_room(input: &[u8])
     ensures { HoldsText input.now (growth_per_byte * length input.now) }
 {}
+
+/// `growth_per_byte` bytes of buffer for each byte of an attribute's header and payload are room for its canonical text.
+pub fn law_attribute_room(buffer: &NlaBuffer<'_>, family: AddressFamily)
+    ensures { RoomWhereFit (λ v. canon (attribute_frame v)) AttributeFits
+        ((attribute_place family).reads buffer.now) (growth_per_byte * (4 + length buffer.now.payload)) }
+{
+    law_place_room(&AttributePlace { family }, buffer);
+}
+
+/// `growth_per_byte` bytes of buffer for each byte of a list of attributes are room for its canonical text.
+pub fn law_attributes_room(bytes: &[u8], family: AddressFamily)
+    ensures { RoomWhereFit (canons attribute_frame) (AllFit AttributeFits attribute_frame)
+        ((list (attribute_place family)).reads bytes.now) (growth_per_byte * length bytes.now) }
+{
+    law_members_room(&AttributePlace { family }, bytes);
+}
 
 /// The sum of the list of an extent mask is the mask.
 pub fn law_ext_sum()

@@ -5,13 +5,13 @@
 //! at most `plain_growth` bytes for each whole four bytes of the payload. A frame that no line of the
 //! table reads is kept: its kind, both flag bits and its payload come back.
 
-ghost use Rattle.std.specs.Prelude.{◌≡◌, [], ◌∷◌, pos, negsuc};
+ghost use Rattle.std.specs.Prelude.{◌≡◌, [], ◌∷◌, length, pos, negsuc};
 ghost use Rattle.nla_wire.specs.Sizes.{plain_growth};
-ghost use Rattle.nla_wire.specs.Canon.{canon};
+ghost use Rattle.nla_wire.specs.Canon.{canon, RoomWhereFit};
 ghost use Rattle.nla_wire.proofs.Codec.{IsLawful};
 ghost use Rattle.link_nest.specs.Tables.{prop_place, devlink_port_place, dpll_pin_place, down_reason_place};
 ghost use Rattle.link_nest.specs.Tables.{xdp_place, link_info_place};
-ghost use Rattle.link_nest.specs.Wireless.{EventsReadBack, EventsKeepLength};
+ghost use Rattle.link_nest.specs.Wireless.{EventsReadBack, EventsKeepLength, wireless_event, wireless_text, WirelessFits};
 ghost use Rattle.link_nest.specs.declared.prop_list.Prop.TheVariants as prop;
 ghost use Rattle.link_nest.specs.declared.xdp.LinkXdp.TheVariants as xdp;
 
@@ -65,4 +65,9 @@ pub fn law_fd_in_bytes()
 pub fn law_wireless_event()
     ensures again { EventsReadBack }
     ensures length { EventsKeepLength }
+{}
+
+/// As many bytes of buffer as the payload has are room for the text of a wireless event.
+pub fn law_wireless_room(payload: &[u8])
+    ensures { RoomWhereFit wireless_text WirelessFits (wireless_event.reads payload.now) (length payload.now) }
 {}

@@ -7,16 +7,20 @@
 //! The only frames that are not kept are those with other numbers in IFLA_VFINFO_LIST and in IFLA_VF_PORTS, which are
 //! dropped.
 
-ghost use Rattle.std.specs.Prelude.{◌≡◌, [], ◌∷◌, true};
-ghost use Rattle.nla_wire.specs.Sizes.{plain_growth};
-ghost use Rattle.nla_wire.specs.Canon.{canon};
+ghost use Rattle.std.specs.Prelude.{◌≡◌, ◌*◌, [], ◌∷◌, length, true};
+ghost use Rattle.nla_wire.specs.Sizes.{plain_growth, growth_per_byte};
+ghost use Rattle.nla_wire.specs.Canon.{canon, canons, AllFit, RoomWhereFit};
 ghost use Rattle.nla_wire.specs.PlaceLaws.{ReadsBack, ListReadsBack, ListsBounded};
 ghost use Rattle.nla_wire.proofs.Codec.{IsLawful};
 ghost use Rattle.link_vf.specs.Tables.{vf_stats_place, vf_vlan_place, vf_info_place, vf_port_place};
 ghost use Rattle.link_vf.specs.Tables.{link_vf_info_place, link_vf_port_place, vf_info_list, vf_port_list};
+ghost use Rattle.link_vf.specs.Tables.{link_vf_info, link_vf_port, link_vf_info_members, link_vf_port_members};
 ghost use Rattle.link_vf.specs.Dropped.{OthersDropped};
 ghost use Rattle.link_vf.specs.declared.stats.VfStats.TheVariants as stats;
 ghost use Rattle.link_vf.specs.declared.vf_info.VfInfo.TheVariants as info;
+
+use crate::{LinkVfInfo, LinkVfPort, VfInfo, VfPort, port_list, vf_list};
+use nla_wire::laws::{law_picked_room, law_some_room};
 
 /// `VfStats`, members of IFLA_VF_STATS.
 pub fn law_vf_stats()
@@ -47,6 +51,19 @@ pub fn law_link_vf_info()
     ensures dropped { OthersDropped vf_info_list.grammar }
 {}
 
+/// `growth_per_byte` bytes of buffer for each byte of an entry's payload, and of a list of entries, are room for the
+/// canonical text.
+pub fn law_link_vf_info_room(payload: &[u8])
+    ensures entry { RoomWhereFit link_vf_info.text
+        (λ v. AllFit vf_info_place.Fits vf_info_place.frame (link_vf_info_members v))
+        (link_vf_info.grammar.reads payload.now) (growth_per_byte * length payload.now) }
+    ensures entries { RoomWhereFit (canons link_vf_info_place.frame) (AllFit link_vf_info_place.Fits link_vf_info_place.frame)
+        (vf_info_list.grammar.reads payload.now) (growth_per_byte * length payload.now) }
+{
+    law_some_room::<VfInfo>(payload);
+    law_picked_room::<LinkVfInfo, vf_list::EntryPlace>(&vf_list::EntryPlace, payload);
+}
+
 /// `LinkVfPort`, entries of IFLA_VF_PORTS, which have the number of IFLA_VF_PORT. Frames of other numbers are dropped:
 /// they can be anywhere in the list, and it means the same. All other places keep what no line reads.
 pub fn law_link_vf_port()
@@ -55,6 +72,19 @@ pub fn law_link_vf_port()
     ensures bounds { ListsBounded plain_growth 0 vf_port_list.grammar.means link_vf_port_place.count link_vf_port_place.frame }
     ensures dropped { OthersDropped vf_port_list.grammar }
 {}
+
+/// `growth_per_byte` bytes of buffer for each byte of an entry's payload, and of a list of entries, are room for the
+/// canonical text.
+pub fn law_link_vf_port_room(payload: &[u8])
+    ensures entry { RoomWhereFit link_vf_port.text
+        (λ v. AllFit vf_port_place.Fits vf_port_place.frame (link_vf_port_members v))
+        (link_vf_port.grammar.reads payload.now) (growth_per_byte * length payload.now) }
+    ensures entries { RoomWhereFit (canons link_vf_port_place.frame) (AllFit link_vf_port_place.Fits link_vf_port_place.frame)
+        (vf_port_list.grammar.reads payload.now) (growth_per_byte * length payload.now) }
+{
+    law_some_room::<VfPort>(payload);
+    law_picked_room::<LinkVfPort, port_list::EntryPlace>(&port_list::EntryPlace, payload);
+}
 
 /// One packet received is written as the length 12, the number 0, and eight bytes, lowest first.
 #[tactic(auto, unfolding(crate::specs::Tables::vf_stats_place))]

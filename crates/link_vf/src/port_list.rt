@@ -202,7 +202,7 @@ impl Nla for LinkVfPort {
 
 /// The place of an entry of IFLA_VF_PORTS. Nobody else reads entries, since those with another number are dropped.
 #[derive(Debug, Clone, Copy, Drop)]
-struct EntryPlace;
+pub(crate) struct EntryPlace;
 
 impl Place<LinkVfPort> for EntryPlace {
     ghost use Rattle.nla_wire.proofs.Codec.{place_bounded};

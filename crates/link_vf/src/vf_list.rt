@@ -202,7 +202,7 @@ impl Nla for LinkVfInfo {
 
 /// The place of an entry of IFLA_VFINFO_LIST. Nobody else reads entries, since those with another number are dropped.
 #[derive(Debug, Clone, Copy, Drop)]
-struct EntryPlace;
+pub(crate) struct EntryPlace;
 
 impl Place<LinkVfInfo> for EntryPlace {
     ghost use Rattle.nla_wire.proofs.Codec.{place_bounded};

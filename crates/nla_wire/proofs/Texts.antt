@@ -3,6 +3,11 @@ use Rattle.std.proofs.Common.{◌≡◌, ℕ, ◌+◌, ◌<◌, ◌≤◌, inl, 
 use Rattle.std.proofs.Common.{arith, length-append, Option, Some, None, Result, Ok, Err}
 use Rattle.std.specs.Prelude.{IsUtf8, IfOk, IfErr, if◌then◌else◌}
 use Rattle.std.specs.Str.{is_utf8}
+use Rattle.std.specs.List.{AllByRecursion}
+use Rattle.std.proofs.Common.{◌↔◌, zero, suc, drop, get_or}
+use Rattle.std.proofs.lemmas.Str.{IsUtf8-append, IsUtf8-nil, IsUtf8-encode, encode_ascii}
+use Rattle.std.proofs.lemmas.List.{drop_all}
+use lib.Utf8.{low_scalar}
 use Rattle.nla_wire.specs.Sizes.{most_payload}
 use Rattle.nla_wire.specs.Payloads.{read_text, IsTextOf, without_nul}
 use Rattle.nla_wire.specs.Canon.{Weighs}
@@ -11,6 +16,41 @@ use Rattle.nla_wire.specs.declared.error.Cause.{Cause}
 use Rattle.nla_wire.specs.declared.error.Cause.TheVariants.{NotUtf8, OutOfMemory}
 use Rattle.nla_wire.specs.declared.error.DecodeError.{DecodeError}
 use Rattle.nla_wire.proofs.Agreement.{text_agrees, text_is}
+
+-- bytes below 128 are UTF-8
+ascii_then : (x : ℕ) (xs : List ℕ) → x < 128 → IsUtf8 xs → IsUtf8 (x ∷ xs)
+ascii_then x xs low whole = IsUtf8-append (x ∷ []) xs (subst IsUtf8 (encode_ascii x low) (IsUtf8-encode x (low_scalar x (omega (arith, low))))) whole
+
+all_low : (n : ℕ) → n < 128 → (xs : List ℕ) → AllByRecursion (λ b. b ≤ n) xs → IsUtf8 xs
+all_low n low [] all = IsUtf8-nil
+all_low n low (x ∷ xs) all = ascii_then x xs (omega (arith, all.0, low)) (all_low n low xs all.1)
+
+-- at index i the bytes in front are at most n exactly where the highest of them is
+abbrev pub IsHighest : List ℕ → ℕ → ℕ → Type 0
+IsHighest xs i high = (n : ℕ) → (AllByRecursion (λ b. b ≤ n) xs ↔ ((high ≤ n) × AllByRecursion (λ b. b ≤ n) (drop i xs)))
+
+all_at : (P : ℕ → Type 0) (xs : List ℕ) (i : ℕ) → i < length xs → (AllByRecursion P (drop i xs) ↔ (P (get_or xs i 0) × AllByRecursion P (drop (suc i) xs)))
+all_at P [] i within = absurd (omega (arith, within))
+all_at P (x ∷ xs) zero within = (λ all. all, λ all. all)
+all_at P (x ∷ xs) (suc i) within = all_at P xs i (omega (arith, within))
+
+pub high_starts : (xs : List ℕ) → IsHighest xs 0 0
+high_starts xs n = (λ all. (omega arith, all), λ both. both.1)
+
+pub high_ends : (xs : List ℕ) (i high : ℕ) → IsHighest xs i high → length xs ≤ i → (n : ℕ) → (AllByRecursion (λ b. b ≤ n) xs ↔ (high ≤ n))
+high_ends xs i high h ended n =
+    (λ all. ((h n).0 all).0, λ below. (h n).1 (below, subst (AllByRecursion (λ b. b ≤ n)) (sym (drop_all i xs ended)) tt))
+
+pub high_on : (xs : List ℕ) (i high new : ℕ) → IsHighest xs i high → i < length xs
+    → ((n : ℕ) → ((new ≤ n) ↔ ((high ≤ n) × (get_or xs i 0 ≤ n)))) → IsHighest xs (suc i) new
+high_on xs i high new h within both n =
+    let here = all_at (λ b. b ≤ n) xs i within in (
+      λ all. let k = (h n).0 all in let next = here.0 k.1 in ((both n).1 (k.0, next.0), next.1),
+      λ k. let parts = (both n).0 k.0 in (h n).1 (parts.0, here.1 (parts.1, k.1)),
+    )
+
+pub low_utf8 : (xs : List ℕ) (high : ℕ) → ((n : ℕ) → (AllByRecursion (λ b. b ≤ n) xs ↔ (high ≤ n))) → high < 128 → IsUtf8 xs
+low_utf8 xs high highest low = all_low high low xs ((highest high).1 (omega arith))
 
 pub text_found : (p s : List ℕ) → IsTextOf p s → IsUtf8 s → read_text p ≡ Ok s
 text_found p s is whole = text_agrees.only p s (whole, is)

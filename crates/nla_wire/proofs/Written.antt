@@ -320,6 +320,10 @@ module _ {A B : Type 0} (wrap : A → B) (text : B → List ℕ) (fits : B → T
   room_where_as (Ok x) room h = h
   room_where_as (Err c) room h = tt
 
+  pub room_wrapped : (r : Result A Cause) (room : ℕ) → RoomWhereFit (λ x. text (wrap x)) (λ x. fits (wrap x)) r room → RoomWhereFit text fits (r >>= λ x. Ok (wrap x)) room
+  room_wrapped (Ok x) room h = h
+  room_wrapped (Err c) room h = tt
+
   pub canonical_as : (r : Result A Cause) (old new : List ℕ) (a : Option ℕ) → Canonical (λ x. text (wrap x)) (λ x. fits (wrap x)) r old new a
       → Canonical text fits (r >>= λ x. Ok (wrap x)) old new a
   canonical_as (Ok x) old new (Some n) w = w
@@ -414,6 +418,12 @@ pub some_room : {A : Type 0} (text : A → List ℕ) (fits : A → Type 0) (p : 
 unfolding unless_empty
 some_room text fits [] r room h = absurd h
 some_room text fits (x ∷ p) r room h = h
+
+pub unless_empty_room : {A : Type 0} (text : A → List ℕ) (fits : A → Type 0) (p : List ℕ) (r : Result A Cause) (room : ℕ) → RoomWhereFit text fits r room
+    → RoomWhereFit text fits (unless_empty p r) room
+unfolding unless_empty
+unless_empty_room text fits [] r room h = tt
+unless_empty_room text fits (x ∷ p) r room h = h
 
 pub some_rewrites : {A : Type 0} (text : A → List ℕ) (p : List ℕ) (r : Result A Cause) (old new : List ℕ) (n : ℕ) → Rewrites text r old new n
     → Rewrites text (unless_empty p r) old new n

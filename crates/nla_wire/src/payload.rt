@@ -12,7 +12,6 @@ ghost use Rattle.nla_wire.specs.Canon.{canon, Writes, Weighs};
 use crate::buffer::NLA_HEADER_SIZE;
 use crate::text;
 use crate::write::{finish, write_bytes, write_text, write_value};
-use std::str;
 
 /// The most bytes that a value may have: the length field of two bytes counts the header too.
 const MOST_VALUE_LEN: usize = 65531;
@@ -79,9 +78,9 @@ pub fn measure_text(payload: &[u8]) -> Option<usize>
     if text.len() >= MOST_VALUE_LEN {
         return None;
     }
-    match str::from_utf8(text) {
-        Ok(_) => Some(text.len() + 1),
-        Err(_) => None,
+    match text::utf8(text) {
+        Some(_) => Some(text.len() + 1),
+        None => None,
     }
 }
 

@@ -149,7 +149,7 @@ pub trait PlainRecord<const SIZE: usize>: Record<SIZE> {
 #[derive(Clone, Copy, Debug, PartialEq, Eq)]
 pub struct RecordBuffer<R, const SIZE: usize> {
     bytes: [u8; SIZE],
-    record: PhantomData<R>,
+    marker: PhantomData<R>,
 }
 
 impl<R: Record<SIZE>, const SIZE: usize> From<&R> for RecordBuffer<R, SIZE> {
@@ -160,7 +160,7 @@ impl<R: Record<SIZE>, const SIZE: usize> From<&R> for RecordBuffer<R, SIZE> {
         value.write(&mut bytes);
         RecordBuffer {
             bytes,
-            record: PhantomData,
+            marker: PhantomData,
         }
     }
 }
@@ -190,7 +190,7 @@ impl<R, const SIZE: usize> RecordBuffer<R, SIZE> {
         Ok((
             RecordBuffer {
                 bytes,
-                record: PhantomData,
+                marker: PhantomData,
             },
             rest,
         ))

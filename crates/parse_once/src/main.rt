@@ -1,7 +1,8 @@
-//! Reads one message from standard input, with one read, and says what `LinkMessage::parse` answers.
+//! Reads one message from standard input, with one read, and says what `LinkMessage::parse` answers of it, and then what
+//! `canonical` does.
 #![tactic(auto)]
 
-use link_msg::LinkMessage;
+use link_msg::{CanonError, LinkMessage, canonical};
 use nla_wire::{Cause, DecodeError};
 use std::io::Read;
 use std::process::ExitCode;
@@ -29,8 +30,17 @@ fn main(rt: HostRuntime) -> ExitCode {
         ) => println!(rt; "out of memory"),
         Err(_) => println!(rt; "refused"),
     };
-    match printed {
-        Ok(()) => ExitCode::SUCCESS,
-        Err(_) => ExitCode::FAILURE,
+    let written = match canonical(rt.alloc(), &room[..len]) {
+        Ok(text) => {
+            let text_len = text.len();
+            println!(rt; "canonical: {text_len} bytes")
+        }
+        Err(CanonError::OutOfMemory) => println!(rt; "canonical: out of memory"),
+        Err(_) => println!(rt; "canonical: refused"),
+    };
+    if printed.is_ok() && written.is_ok() {
+        ExitCode::SUCCESS
+    } else {
+        ExitCode::FAILURE
     }
 }

@@ -6,15 +6,15 @@ use Rattle.nla_wire.proofs.Front.{all_bytes}
 use Rattle.nla_wire.proofs.Lists.{list_agrees}
 use Rattle.nla_wire.proofs.Bounds.{list_length}
 use Rattle.nla_wire.proofs.Written.{enough_room}
-use Rattle.nla_wire.proofs.laws.law_list_room.Goals as goal
+use Rattle.nla_wire.proofs.laws.law_members_room.Goals as goal
 
 pub returns : goal.returns
 returns g c =
-    let place = g.N.NlaRead.grammar in
+    let place = g.P.Place.grammar c.args.place.now in
     let small = all_bytes c.args.bytes.now (λ i. omega (arith, c.type_inv.bytes i)) in
-    enough_room (canons g.N.Nla.frame) (AllFit g.N.Nla.fits g.N.Nla.frame) ((list place).reads c.args.bytes.now) (growth_per_byte * length c.args.bytes.now)
+    enough_room (canons g.V.Nla.frame) (AllFit g.V.Nla.fits g.V.Nla.frame) ((list place).reads c.args.bytes.now) (growth_per_byte * length c.args.bytes.now)
     (λ vs read. omega (
       arith,
-      list_length place g.N.Nla.frame growth 0 (λ f v m. omega (arith, g.met.N.NlaRead.bounded f v m)) c.args.bytes.now vs
-          ((list_agrees place g.met.N.NlaRead.agrees).found c.args.bytes.now vs small read),
+      list_length place g.V.Nla.frame growth 0 (λ f v m. omega (arith, g.met.P.Place.bounded c.args.place.now f v m)) c.args.bytes.now vs
+          ((list_agrees place (g.met.P.Place.agrees c.args.place.now)).found c.args.bytes.now vs small read),
     ))
