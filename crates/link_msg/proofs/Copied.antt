@@ -2,7 +2,7 @@
 use Rattle.std.proofs.Common.{◌≡◌, ℕ, ◌+◌, List, [], ◌∷◌, ◌++◌, length, drop, refl, sym, ap, ap₂, subst, ◌∙◌, arith, inl, inr}
 use Rattle.std.proofs.Common.{Option, Some, None, Result, Ok, Err, append-nil, length-append}
 use Rattle.std.proofs.lemmas.List.{drop_all}
-use Rattle.std.specs.Int.{Width, byte_len, to_le_bytes, from_le_bytes}
+use Rattle.std.specs.Int.{Width, w8, w16, w32, w64, byte_len, to_le_bytes, from_le_bytes}
 use Rattle.nla_wire.specs.Frames.{Frame, number, IsBytes, IsFrame}
 use Rattle.nla_wire.specs.Fields.{zero_filled}
 use Rattle.nla_wire.specs.Payloads.{IsTextOf}
@@ -25,8 +25,8 @@ use Rattle.link_msg.proofs.Shaped.{shape_writes}
 
 -- ** payloads that are as long as their text
 
-number_copied : {w : Width} → WritesAgain w → (p : List ℕ) (n : ℕ) → IsBytes p → (length p ≡ byte_len w) × (n ≡ from_le_bytes w p) → to_le_bytes w n ≡ p
-number_copied {w} again p n small means = ap (to_le_bytes w) means.1 ∙ again p means.0 small
+number_copied : (w : Width) → WritesAgain w → (p : List ℕ) (n : ℕ) → IsBytes p → (length p ≡ byte_len w) × (n ≡ from_le_bytes w p) → to_le_bytes w n ≡ p
+number_copied w again p n small means = ap (to_le_bytes w) means.1 ∙ again p means.0 small
 
 filled_copied : {A : Type 0} (size : ℕ) (of : List ℕ → A) (text : A → List ℕ) → WritesFilled size of text → (p : List ℕ) (x : A) → IsBytes p → x ≡ of p → size ≡ length p → text x ≡ p
 filled_copied size of text plain p x small x_is same = ap text x_is ∙ plain p small ∙ zero_filled_whole size p (sym same)
@@ -43,16 +43,16 @@ pub text_copied : IsCopied Shapes.Text
 text_copied = record { text_is = λ p x small is same. text_again p x ((base Shapes.Text).codec.lawful.agrees.found p x small is).1 same; kind_is = λ n. refl }
 
 pub u8_copied : IsCopied Shapes.U8
-u8_copied = record { text_is = λ p x small is same. number_copied writes_again_1 p x small ((base Shapes.U8).codec.lawful.agrees.found p x small is); kind_is = λ n. refl }
+u8_copied = record { text_is = λ p x small is same. number_copied w8 writes_again_1 p x small ((base Shapes.U8).codec.lawful.agrees.found p x small is); kind_is = λ n. refl }
 
 pub u16_copied : IsCopied Shapes.U16
-u16_copied = record { text_is = λ p x small is same. number_copied writes_again_2 p x small ((base Shapes.U16).codec.lawful.agrees.found p x small is); kind_is = λ n. refl }
+u16_copied = record { text_is = λ p x small is same. number_copied w16 writes_again_2 p x small ((base Shapes.U16).codec.lawful.agrees.found p x small is); kind_is = λ n. refl }
 
 pub u32_copied : IsCopied Shapes.U32
-u32_copied = record { text_is = λ p x small is same. number_copied writes_again_4 p x small ((base Shapes.U32).codec.lawful.agrees.found p x small is); kind_is = λ n. refl }
+u32_copied = record { text_is = λ p x small is same. number_copied w32 writes_again_4 p x small ((base Shapes.U32).codec.lawful.agrees.found p x small is); kind_is = λ n. refl }
 
 pub u64_copied : IsCopied Shapes.U64
-u64_copied = record { text_is = λ p x small is same. number_copied writes_again_8 p x small ((base Shapes.U64).codec.lawful.agrees.found p x small is); kind_is = λ n. refl }
+u64_copied = record { text_is = λ p x small is same. number_copied w64 writes_again_8 p x small ((base Shapes.U64).codec.lawful.agrees.found p x small is); kind_is = λ n. refl }
 
 pub stats_copied : IsCopied Shapes.Stats
 stats_copied = record {

@@ -1,7 +1,7 @@
 -- What the walk that measures tells beside the length: empty lists of ports, by the length of their text, and the run in
 -- front.
 use Rattle.std.proofs.Common.{◌≡◌, ◌≢◌, ℕ, ◌+◌, ◌^◌, ◌<◌, List, [], ◌∷◌, ◌++◌, length, refl, sym, ap, ◌∙◌, arith}
-use Rattle.std.proofs.Common.{◌⊎◌, drop, Result, Ok, Err, Option, Some, None, Bool, true, false, MatchBool, length-append, append-nil, flat_map, subst}
+use Rattle.std.proofs.Common.{Result, Ok, Err, Option, Some, None, Bool, true, false, MatchBool, length-append, append-nil, flat_map, subst}
 use Rattle.std.specs.List.{AllByRecursion}
 use Rattle.nla_wire.specs.Frames.{Frame, number, missing, IsBytes, IsFrame}
 use Rattle.nla_wire.specs.Reading.{list_of, with_front, ◌>>=◌}
@@ -18,7 +18,7 @@ use Rattle.link_vf.specs.declared.port_list.LinkVfPort.{LinkVfPort}
 use Rattle.link_msg.specs.Tables.{attribute_frame, AttributeFits, attribute_view, attribute_entries, HasPorts, attribute_place}
 use Rattle.link_msg.specs.Tables.{attribute_lawful, attribute_number}
 use Rattle.link_msg.specs.declared.numbers.TheConstants.{IFLA_VF_PORTS}
-use Rattle.link_msg.specs.Runs.{IsPadded, FrameMeasures, attribute_text}
+use Rattle.link_msg.specs.Runs.{RunsOn, FrameMeasures, attribute_text}
 use Rattle.link_msg.specs.Canonical.{ListWeighs, ListMeasures}
 use Rattle.link_msg.proofs.Runs.{Running, running_starts, running_next, running_ends}
 use Rattle.link_msg.specs.declared.attribute.LinkAttribute.{LinkAttribute}
@@ -163,7 +163,7 @@ module _ (family : AddressFamily) (b : List ℕ) (bytes : IsBytes b) (left : Lis
     (f : Frame) (rest : List Item) (left_is : left ≡ Ok f ∷ rest) (one : IsFrame f) (value : ℕ) (spelled : Bool) (w : FrameMeasures family f (Some (value, spelled)))
     (padded new : ℕ) (padded_is : padded ≡ 4 + value + missing value) (new_is : new ≡ len + padded) (small : new < 2 ^ 64)
     (frame_len after : ℕ) (frame_is : frame_len ≡ 4 + length f.payload)
-    (after_is : ((run ≡ len) × (spelled ≡ true) × IsPadded (drop run b) frame_len × (after ≡ new)) ⊎ (after ≡ run)) where
+    (after_is : RunsOn b run len spelled frame_len new after) where
   read_one : (v : LinkAttribute) × ((attribute_place family).reads f ≡ Ok v) × AttributeFits v × (value ≡ length (attribute_frame v).payload)
   read_one = weighed ((attribute_place family).reads f) value w.0
 

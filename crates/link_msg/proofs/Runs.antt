@@ -17,7 +17,7 @@ use Rattle.nla_wire.proofs.Steps.{step_end, step_begins, length-begins, bytes_ri
 use Rattle.nla_wire.proofs.Bounds.{length-canon}
 use Rattle.nla_wire.proofs.Written.{flat_more, flat_joined, Counted}
 use Rattle.nla_wire.proofs.Canonical.{write_on}
-use Rattle.link_msg.specs.Runs.{IsPadded, BeginsCanonical}
+use Rattle.link_msg.specs.Runs.{IsPadded, RunsOn, BeginsCanonical}
 
 -- ** the frame in front
 
@@ -122,7 +122,7 @@ module _ {V : Type 0} (read : Frame → Result V Cause) (text : V → List ℕ) 
   -- what the run is behind the frame
   pub running_next : IsBytes b → (spelled : Bool) (frame_len after : ℕ) → (spelled ≡ true → text v ≡ canon f) → frame_len ≡ 4 + length f.payload
       → new ≡ len + length (text v) → len < new
-      → ((run ≡ len) × (spelled ≡ true) × IsPadded (drop run b) frame_len × (after ≡ new)) ⊎ (after ≡ run)
+      → RunsOn b run len spelled frame_len new after
       → Running read text b rest (front ++ v ∷ []) new after
   running_next small spelled frame_len after told frame_is new_is more (inl on) =
       subst (λ n. Running read text b rest (front ++ v ∷ []) new n) (sym on.3)
@@ -162,25 +162,21 @@ module _ {V : Type 0} (read : Frame → Result V Cause) (text : V → List ℕ) 
       → Counted text fits (h.front ++ h.others) × (length (flat_map text (h.front ++ h.others)) ≤ room)
   room_there room there = subst (λ r. HasRoom (flat_map text) (Counted text fits) r room) h.whole_is there
 
-  -- the run lies within the bytes, and within the buffer
-  pub run_long : (room : ℕ) → HasRoom (flat_map text) (Counted text fits) (list_of read b) room → run ≤ room
-  run_long room there = omega (arith, (room_there room there).1, sizes)
-
-  -- the buffer has room for the others
-  pub run_room : (room : ℕ) (rest : List ℕ) → rest ≡ drop run b → HasRoom (flat_map text) (Counted text fits) (list_of read b) room
-      → HasRoom (flat_map text) (Counted text fits) (list_of read rest) (room - run)
-  run_room room rest rest_is there =
-      let k = room_there room there in
-      subst (λ r. HasRoom (flat_map text) (Counted text fits) r (room - run)) (sym (ap (list_of read) rest_is ∙ h.others_are))
-      ((all_behind fits h.front h.others k.0.0, omega (arith, k.0.1, sizes)), omega (arith, k.1, sizes))
+  -- the buffer, whose front holds the run now, has room for the others
+  pub run_room : (rest old now : List ℕ) → rest ≡ drop run b → now ≡ take run b ++ drop run old → HasRoom (flat_map text) (Counted text fits) (list_of read b) (length old)
+      → HasRoom (flat_map text) (Counted text fits) (list_of read rest) (length (take (length now - run) (drop run now)))
+  run_room rest old now rest_is now_is there =
+      let k = room_there (length old) there in
+      let left : take (length now - run) (drop run now) ≡ drop run old =
+      take_rest now run ∙ ap (drop run) now_is ∙ drop_at (take run b) (drop run old) run (length-take-le run b h.within) in
+      subst (λ r. HasRoom (flat_map text) (Counted text fits) r (length (take (length now - run) (drop run now)))) (sym (ap (list_of read) rest_is ∙ h.others_are)) (
+        (all_behind fits h.front h.others k.0.0, omega (arith, k.0.1, sizes)),
+        omega (arith, k.1, sizes, ap (λ (t : List ℕ). length t) left, length-drop run old),
+      )
 
   module _ (rest : List ℕ) (rest_is : rest ≡ drop run b) (old now part : List ℕ) (n : ℕ) (w : Rewrites (flat_map text) (list_of read rest) (take (length now - run) (drop run now)) part n) where
     behind : Writes (flat_map text h.others) (take (length now - run) (drop run now)) part n
     behind = subst (λ r. Rewrites (flat_map text) r (take (length now - run) (drop run now)) part n) (ap (list_of read) rest_is ∙ h.others_are) w
-
-    -- the sum is one of the machine's
-    pub run_fits : HasRoom (flat_map text) (Counted text fits) (list_of read b) (length old) → run + n ≤ length old
-    run_fits there = omega (arith, (room_there (length old) there).1, sizes, behind.length_is)
 
     -- the run, and the text of the others behind it
     pub run_writes : now ≡ take run b ++ drop run old → Rewrites (flat_map text) (list_of read b) old (put_mid run (length now - run) now part) (run + n)

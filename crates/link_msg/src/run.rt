@@ -1,9 +1,9 @@
 //! The run in front: the attributes in front of a list that are canonical as they are spelled, and are copied.
 
-ghost use Rattle.std.specs.Prelude.{◌≡◌, ◌⊎◌, ◌≤◌, ◌↔◌, true, length, drop, replicate, IsTrue};
+ghost use Rattle.std.specs.Prelude.{◌≡◌, ◌≤◌, ◌↔◌, length, replicate, IsTrue};
 ghost use Rattle.nla_wire.specs.Grammar.{list};
 ghost use Rattle.nla_wire.specs.Canon.{canon, canons, AllFit, HasRoom, Rewrites};
-ghost use Rattle.link_msg.specs.Runs.{IsPadded, BeginsCanonical};
+ghost use Rattle.link_msg.specs.Runs.{IsPadded, RunsOn, BeginsCanonical};
 
 use nla_wire::{Nla, Place, write_members};
 
@@ -43,7 +43,7 @@ pub(crate) fn run_after(
     more: usize,
 ) -> usize
     requires { run ≤ length bytes.now }
-    ensures { ((run ≡ len) × (spelled ≡ true) × IsPadded (drop run bytes.now) frame_len × (result ≡ more)) ⊎ (result ≡ run) }
+    ensures { RunsOn bytes.now run len spelled frame_len more result }
 {
     if run == len && spelled && is_padded(&bytes[run..], frame_len) {
         more

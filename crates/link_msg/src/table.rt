@@ -5,7 +5,7 @@ ghost use Rattle.std.specs.Prelude.{IfOk, IfErr, MatchResult};
 ghost use Rattle.nla_wire.specs.Frames.{IsFrame, number};
 ghost use Rattle.nla_wire.specs.Grammar.{list};
 ghost use Rattle.nla_wire.specs.Canon.{canon, canons, AllFit, Weighs, HasRoom, Rewrites, RoomWhereFit, Canonical};
-ghost use Rattle.link_msg.specs.Runs.{IsCopied, FrameMeasures, IsRun};
+ghost use Rattle.link_msg.specs.Runs.{IsSpelled, FrameMeasures, IsRun};
 ghost use Rattle.link_msg.specs.declared.numbers.TheConstants.{IFLA_VF_PORTS};
 ghost use Rattle.nla_wire.specs.Gives.{Fails, Gives, Adds, Checks};
 ghost use Rattle.nla_wire.specs.declared.error.Cause.TheVariants.{OutOfMemory};
@@ -682,7 +682,7 @@ impl LinkAttribute {
 /// text has so many bytes.
 #[inline(always)]
 fn is_spelled(shape: Shape, value_len: usize, buffer: &NlaBuffer<'_>) -> bool
-    ensures { IsTrue result → IsCopied shape × (value_len ≡ length buffer.now.payload) × (buffer.now.kind ≡ number buffer.now) }
+    ensures { IsTrue result → IsSpelled shape value_len buffer.now }
 {
     value_len == buffer.value().len()
         && buffer.kind_with_flags() == buffer.kind()

@@ -9,8 +9,8 @@ returns-in_default c =
     (shape_here c.args.family c.args.buffer.now c.kind.result c.value-payload.result.now c.of.result (Some c.in-Some.shape) c.kind.ensures c.value-payload.ensures.value c.in-Some.is c.of.ensures) c.is_frame.ensures
     (rw c.in_default.is at (rw c.value-payload.ensures.value at c.measure.ensures))
 
-pub returns-in-Some : goal.returns-in-Some
-returns-in-Some c =
+pub returns-in-Some-measure : goal.returns-in-Some-measure
+returns-in-Some-measure c =
     let way = shape_here c.args.family c.args.buffer.now c.kind.result c.value-payload.result.now c.of.result (Some c.in-Some.shape) c.kind.ensures c.value-payload.ensures.value c.in-Some.is c.of.ensures in
     let weighs = rw c.in-Some-measure.is at (rw c.value-payload.ensures.value at c.measure.ensures) in (
       shape_weighs c.args.family c.args.buffer.now (Some c.in-Some.shape) (Some c.in-Some-measure.len) way c.is_frame.ensures weighs,
