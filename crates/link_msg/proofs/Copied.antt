@@ -1,10 +1,9 @@
 -- Attributes whose canonical text is the frame as it is spelled.
-use Rattle.std.proofs.Common.{◌≡◌, ℕ, ◌+◌, List, [], ◌∷◌, ◌++◌, length, drop, refl, sym, ap, ap₂, subst, ◌∙◌, arith, inl, inr}
-use Rattle.std.proofs.Common.{Option, Some, None, Result, Ok, Err, append-nil, length-append}
+use Rattle.std.proofs.Common.{◌≡◌, ℕ, List, [], ◌∷◌, ◌++◌, length, drop, refl, sym, ap, ap₂, subst, ◌∙◌, arith, inl, inr}
+use Rattle.std.proofs.Common.{Some, None, Result, Ok, Err, append-nil, length-append}
 use Rattle.std.proofs.lemmas.List.{drop_all}
 use Rattle.std.specs.Int.{Width, w8, w16, w32, w64, byte_len, to_le_bytes, from_le_bytes}
 use Rattle.nla_wire.specs.Frames.{Frame, number, IsBytes, IsFrame}
-use Rattle.nla_wire.specs.Fields.{zero_filled}
 use Rattle.nla_wire.specs.Payloads.{IsTextOf}
 use Rattle.nla_wire.specs.Records.{WritesFilled}
 use Rattle.nla_wire.specs.Canon.{canon, Writes, Weighs, Rewrites}
@@ -16,7 +15,7 @@ use Rattle.nla_wire.proofs.Shapes.{frame_with, ShapeFits, ShapeWeighs}
 use Rattle.link_recs.specs.StatsFields.{stats_size, stats_of, stats_bytes, stats_laws}
 use Rattle.link_recs.specs.Stats64Fields.{stats64_size, stats64_of, stats64_bytes, stats64_laws}
 use Rattle.link_vals.specs.declared.address_family.AddressFamily.{AddressFamily}
-use Rattle.link_msg.specs.Tables.{base, attribute_frame, attribute_place, attribute_way, as_way}
+use Rattle.link_msg.specs.Tables.{base, attribute_place, attribute_way, as_way}
 use Rattle.link_msg.specs.Runs.{attribute_text, IsCopied}
 use Rattle.link_msg.specs.declared.shape.Shape.{Shape}
 use Rattle.link_msg.specs.declared.shape.Shape.TheVariants as Shapes

@@ -1,7 +1,7 @@
 -- What the walk that measures tells beside the length: empty lists of ports, by the length of their text, and the run in
 -- front.
 use Rattle.std.proofs.Common.{◌≡◌, ◌≢◌, ℕ, ◌+◌, ◌^◌, ◌<◌, List, [], ◌∷◌, ◌++◌, length, refl, sym, ap, ◌∙◌, arith}
-use Rattle.std.proofs.Common.{Result, Ok, Err, Option, Some, None, Bool, true, false, MatchBool, length-append, append-nil, flat_map, subst}
+use Rattle.std.proofs.Common.{Result, Ok, Err, Some, None, Bool, true, false, MatchBool, length-append, append-nil, flat_map, subst}
 use Rattle.std.specs.List.{AllByRecursion}
 use Rattle.nla_wire.specs.Frames.{Frame, number, missing, IsBytes, IsFrame}
 use Rattle.nla_wire.specs.Reading.{list_of, with_front, ◌>>=◌}

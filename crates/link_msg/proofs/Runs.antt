@@ -1,8 +1,8 @@
 -- The run in front of a list: a walk over the list's items tells it, and it is copied.
-use Rattle.std.proofs.Common.{◌≡◌, ℕ, ◌+◌, ◌-◌, ◌<◌, ◌≤◌, ◌⊎◌, inl, inr, Bool, true, List, [], ◌∷◌, ◌++◌, append_assoc, append-nil}
-use Rattle.std.proofs.Common.{length, take, drop, replicate, flat_map, refl, ap, sym, ◌∙◌, subst, arith, Result, Ok, Err}
-use Rattle.std.proofs.Common.{length-append, length-take, length-drop}
-use Rattle.std.proofs.lemmas.List.{take-append-drop, length-take-le, take_at, drop_at, drop-drop, take_rest, take_all}
+use Rattle.std.proofs.Common.{◌≡◌, ℕ, ◌+◌, ◌-◌, ◌<◌, ◌≤◌, inl, inr, Bool, true, List, [], ◌∷◌, ◌++◌, append_assoc, append-nil}
+use Rattle.std.proofs.Common.{length, take, drop, replicate, flat_map, refl, ap, sym, ◌∙◌, subst, arith, Result, Ok}
+use Rattle.std.proofs.Common.{length-append, length-drop}
+use Rattle.std.proofs.lemmas.List.{take-append-drop, length-take-le, take_at, drop_at, take_rest}
 use Rattle.std.specs.List.{AllByRecursion}
 use borrow.Rule.Slice.PartMut.{put_mid}
 use Rattle.nla_wire.specs.Frames.{Frame, IsBytes, missing, unpadded, Begins}
@@ -14,7 +14,6 @@ use Rattle.nla_wire.specs.declared.error.Cause.{Cause}
 use Rattle.nla_wire.proofs.Items.{items_nil, items_next, items_bad}
 use Rattle.nla_wire.proofs.Loop.{items_start, items_more}
 use Rattle.nla_wire.proofs.Steps.{step_end, step_begins, length-begins, bytes_right}
-use Rattle.nla_wire.proofs.Bounds.{length-canon}
 use Rattle.nla_wire.proofs.Written.{flat_more, flat_joined, Counted}
 use Rattle.nla_wire.proofs.Canonical.{write_on}
 use Rattle.link_msg.specs.Runs.{IsPadded, RunsOn, BeginsCanonical}

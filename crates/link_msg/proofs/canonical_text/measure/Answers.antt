@@ -1,7 +1,6 @@
-use Rattle.std.proofs.Common.{◌≡◌, ◌≢◌, ◌+◌, ◌<◌, ◌^◌, arith}
+use Rattle.std.proofs.Common.{◌≢◌, arith}
 use Rattle.std.proofs.lemmas.Result.{err_from_is_err_and}
 use Rattle.nla_wire.proofs.Front.{all_bytes}
-use Rattle.link_msg.specs.Header.{header_size}
 use Rattle.link_msg.specs.declared.canonical_text.CanonError.TheVariants as Refusals
 use Rattle.link_msg.proofs.Writing.{measured_refused, measured_none, measured_long, measured_empty, measured_whole}
 use Rattle.link_msg.proofs.canonical_text.measure.Goals as goal

@@ -1,4 +1,4 @@
-use Rattle.std.proofs.Common.{◌≡◌, ◌-◌, ◌++◌, List, ℕ, length, take, drop, ap}
+use Rattle.std.proofs.Common.{◌-◌, ◌++◌, List, ℕ, length, take, drop, ap}
 use Rattle.std.proofs.lemmas.List.{take_rest}
 use Rattle.nla_wire.specs.Canon.{canon}
 use Rattle.link_msg.proofs.Runs.{run_room, run_writes}

@@ -1,4 +1,4 @@
-use Rattle.std.proofs.Common.{◌≡◌, true, false, refl, None, Some, arith}
+use Rattle.std.proofs.Common.{◌≡◌, true, false, refl, arith}
 use Rattle.nla_wire.specs.Reading.{list_of}
 use Rattle.nla_wire.specs.Items.{items}
 use Rattle.nla_wire.specs.Canon.{canon}
