@@ -99,7 +99,8 @@ ListWeighs (Err c) None = Unit {0}
 
 -- that of the attributes that bytes are under a family, and how long the run in front of them is
 abbrev pub ListMeasures : AddressFamily → List ℕ → Option (ℕ × Bool × ℕ) → Type 0
-ListMeasures family b (Some w) = ListWeighs ((list (attribute_place family)).reads b) (Some (w.0, w.1)) × IsRun family b w.2
+ListMeasures family b (Some w) =
+    ListWeighs ((list (attribute_place family)).reads b) (Some (w.0, w.1)) × IsRun family b w.2
 ListMeasures family b None = ListWeighs ((list (attribute_place family)).reads b) None
 
 -- b is an accepted message with this header and these bytes of attributes, whose text has n bytes

@@ -16,14 +16,15 @@ use Rattle.link_msg.specs.declared.attribute.LinkAttribute.{LinkAttribute}
 abbrev pub IsPadded : List ℕ → ℕ → Type 0
 IsPadded b n = (n + missing n ≤ length b) × (take (missing n) (drop n b) ≡ replicate (missing n) 0)
 
--- what a run is behind a frame of this length: it goes on to `more` where it reached up to the frame, which is told to be
--- its own text and has all of its padding; or it stays
+-- what a run is behind a frame of this length: it goes on to `more` where it reached up to the frame, which is told to
+-- be its own text and has all of its padding; or it stays
 abbrev pub RunsOn : List ℕ → ℕ → ℕ → Bool → ℕ → ℕ → ℕ → Type 0
 RunsOn b run len spelled frame_len more after =
     ((run ≡ len) × (spelled ≡ true) × IsPadded (drop run b) frame_len × (after ≡ more)) ⊎ (after ≡ run)
 
 -- the first bytes of a list are the text of its first values, and the rest of the bytes is read as the others
-pub record BeginsCanonical {V : Type 0} (read : Frame → Result V Cause) (text : V → List ℕ) (b : List ℕ) (run : ℕ) : Type 0 where
+pub record BeginsCanonical {V : Type 0} (read : Frame → Result V Cause) (text : V → List ℕ) (b : List ℕ)
+    (run : ℕ) : Type 0 where
   pub front : List V
   pub others : List V
   pub whole_is : list_of read b ≡ Ok (front ++ others)

@@ -31,8 +31,8 @@ fn is_padded(bytes: &[u8], front_len: u16) -> bool
     padded <= bytes.len() && is_clear(&bytes[end..padded])
 }
 
-/// The run behind the next frame, of this length. It grows to `more` where it reaches up to the frame, which is so while
-/// it is as long as the text, and where the frame with its padding is canonical as it is spelled.
+/// The run behind the next frame, of this length. It grows to `more` where it reaches up to the frame, as it does while
+/// it is as long as the text, and the frame with its padding is canonical as it is spelled.
 #[inline(always)]
 pub(crate) fn run_after(
     bytes: &[u8],
