@@ -1,8 +1,9 @@
--- Empty lists of ports, told by the length of their text.
+-- What the walk that measures tells beside the length: empty lists of ports, by the length of their text, and the run
+-- in front.
 use Rattle.std.proofs.Common.{◌≡◌, ◌≢◌, ℕ, ◌+◌, ◌^◌, ◌<◌, List, [], ◌∷◌, ◌++◌, length, refl, sym, ap, ◌∙◌, arith}
-use Rattle.std.proofs.Common.{Result, Ok, Err, Option, Some, None, Bool, true, false, MatchBool, length-append, append-nil, flat_map, subst}
+use Rattle.std.proofs.Common.{Result, Ok, Err, Some, None, Bool, true, false, MatchBool, length-append, append-nil, flat_map, subst}
 use Rattle.std.specs.List.{AllByRecursion}
-use Rattle.nla_wire.specs.Frames.{Frame, number, missing, IsFrame}
+use Rattle.nla_wire.specs.Frames.{Frame, number, missing, IsBytes, IsFrame}
 use Rattle.nla_wire.specs.Reading.{list_of, with_front, ◌>>=◌}
 use Rattle.nla_wire.specs.Items.{Item, items, read_items}
 use Rattle.nla_wire.specs.Grammar.{as_a, not_empty}
@@ -17,7 +18,9 @@ use Rattle.link_vf.specs.declared.port_list.LinkVfPort.{LinkVfPort}
 use Rattle.link_msg.specs.Tables.{attribute_frame, AttributeFits, attribute_view, attribute_entries, HasPorts, attribute_place}
 use Rattle.link_msg.specs.Tables.{attribute_lawful, attribute_number}
 use Rattle.link_msg.specs.declared.numbers.TheConstants.{IFLA_VF_PORTS}
-use Rattle.link_msg.specs.Canonical.{ListWeighs}
+use Rattle.link_msg.specs.Runs.{RunsOn, FrameMeasures, attribute_text}
+use Rattle.link_msg.specs.Canonical.{ListWeighs, ListMeasures}
+use Rattle.link_msg.proofs.Runs.{Running, running_starts, running_next, running_ends}
 use Rattle.link_msg.specs.declared.attribute.LinkAttribute.{LinkAttribute}
 use Rattle.link_msg.specs.declared.attribute.LinkAttribute.TheVariants as Attributes
 
@@ -72,7 +75,7 @@ pub record Telling (family : AddressFamily) (whole : Result (List LinkAttribute)
   pub weighing : Weighing (attribute_place family).reads (λ v. canon (attribute_frame v)) AttributeFits whole left len
   pub ports : MatchBool empty (AllByRecursion HasPorts weighing.front → ⊥) (AllByRecursion HasPorts weighing.front)
 
-pub telling_starts : (family : AddressFamily) (b : List ℕ) (left : List Item) → left ≡ items b → Telling family (list_of (attribute_place family).reads b) left 0 false
+telling_starts : (family : AddressFamily) (b : List ℕ) (left : List Item) → left ≡ items b → Telling family (list_of (attribute_place family).reads b) left 0 false
 telling_starts family b left left_is = record {
   weighing = record {
     front = [];
@@ -84,47 +87,47 @@ telling_starts family b left left_is = record {
   ports = tt;
 }
 
-module _ (family : AddressFamily) (whole : Result (List LinkAttribute) Cause) (left : List Item) (len : ℕ) (empty : Bool) (h : Telling family whole left len empty)
-    (f : Frame) (rest : List Item) (left_is : left ≡ Ok f ∷ rest) (one : IsFrame f) (value padded new : ℕ)
-    (w : Weighs (λ v. (attribute_frame v).payload) AttributeFits ((attribute_place family).reads f) (Some value))
-    (padded_is : padded ≡ 4 + value + missing value) (new_is : new ≡ len + padded) (small : new < 2 ^ 64) where
-  on : (answer : Bool) → ((v : LinkAttribute) → (attribute_place family).reads f ≡ Ok v → number (attribute_frame v) ≡ number f → value ≡ length (attribute_frame v).payload
-      → MatchBool answer (AllByRecursion HasPorts (h.weighing.front ++ v ∷ []) → ⊥) (AllByRecursion HasPorts (h.weighing.front ++ v ∷ [])))
-      → (r : Result LinkAttribute Cause) → (attribute_place family).reads f ≡ r → Weighs (λ v. (attribute_frame v).payload) AttributeFits r (Some value)
-      → Telling family whole rest new answer
-  on answer ports (Err c) e w = absurd w
-  on answer ports (Ok v) e w = record {
+module _ (family : AddressFamily) (whole : Result (List LinkAttribute) Cause) (left : List Item) (len : ℕ) (empty : Bool)
+    (h : Telling family whole left len empty) (f : Frame) (rest : List Item) (left_is : left ≡ Ok f ∷ rest)
+    (v : LinkAttribute) (reads : (attribute_place family).reads f ≡ Ok v) where
+  -- none of the attributes up to this one is an empty list of ports
+  abbrev AllPorts : Type 0
+  AllPorts = AllByRecursion HasPorts (h.weighing.front ++ v ∷ [])
+
+  telling_on : AttributeFits v → (new : ℕ) → new ≡ len + length (canon (attribute_frame v)) → new < 2 ^ 64
+      → (answer : Bool) → MatchBool answer (AllPorts → ⊥) AllPorts → Telling family whole rest new answer
+  telling_on fits new new_is small answer ports = record {
     weighing = record {
       front = h.weighing.front ++ v ∷ [];
-      so_far = items_more (attribute_place family).reads h.weighing.front left whole h.weighing.so_far f rest v left_is e;
-      fit = all_more AttributeFits h.weighing.front v h.weighing.fit w.0;
+      so_far = items_more (attribute_place family).reads h.weighing.front left whole h.weighing.so_far f rest v left_is reads;
+      fit = all_more AttributeFits h.weighing.front v h.weighing.fit fits;
       len_is =
           omega (
             arith,
             new_is,
-            padded_is,
-            w.1,
-            ap missing w.1,
             h.weighing.len_is,
-            length-canon (attribute_frame v),
             length-append (flat_map (λ v. canon (attribute_frame v)) h.weighing.front) (canon (attribute_frame v)),
             ap (λ (t : List ℕ). length t) (flat_more (λ v. canon (attribute_frame v)) h.weighing.front v),
           );
       counted = small;
     };
-    ports = ports v e (attribute_number family f v ((attribute_lawful family).agrees.found f v one e)) w.1;
+    ports = ports;
   }
 
-  pub telling_none : (number f ≡ IFLA_VF_PORTS) × (value ≡ 0) → Telling family whole rest new true
-  telling_none none =
-      on true (λ v read is size all. no_ports family f v read none.0 (sym size ∙ none.1) (all_here HasPorts h.weighing.front v [] all)) ((attribute_place family).reads f) refl w
+  ports_none : (value : ℕ) → value ≡ length (attribute_frame v).payload → (number f ≡ IFLA_VF_PORTS) × (value ≡ 0) → AllPorts → ⊥
+  ports_none value size none all =
+      no_ports family f v reads none.0 (sym size ∙ none.1) (all_here HasPorts h.weighing.front v [] all)
 
-  pub telling_some : ((number f ≡ IFLA_VF_PORTS) × (value ≡ 0) → ⊥) → Telling family whole rest new empty
-  telling_some never = on empty (λ v read is size. next empty h.ports v (some_ports v (λ k. never (sym is ∙ k.0, size ∙ k.1)))) ((attribute_place family).reads f) refl w where
-    next : (e : Bool) → MatchBool e (AllByRecursion HasPorts h.weighing.front → ⊥) (AllByRecursion HasPorts h.weighing.front) → (v : LinkAttribute) → HasPorts v
-        → MatchBool e (AllByRecursion HasPorts (h.weighing.front ++ v ∷ []) → ⊥) (AllByRecursion HasPorts (h.weighing.front ++ v ∷ []))
-    next true never v some = λ all. never (all_front HasPorts h.weighing.front v all)
-    next false all v some = all_more HasPorts h.weighing.front v all some
+  ports_more : (value : ℕ) → value ≡ length (attribute_frame v).payload → IsFrame f
+      → ((number f ≡ IFLA_VF_PORTS) × (value ≡ 0) → ⊥) → MatchBool empty (AllPorts → ⊥) AllPorts
+  ports_more value size one never =
+      let means = (attribute_lawful family).agrees.found f v one reads in
+      let same : number (attribute_frame v) ≡ number f = attribute_number family f v means in
+      next empty h.ports (some_ports v (λ k. never (sym same ∙ k.0, size ∙ k.1))) where
+        next : (e : Bool) → MatchBool e (AllByRecursion HasPorts h.weighing.front → ⊥) (AllByRecursion HasPorts h.weighing.front)
+            → HasPorts v → MatchBool e (AllPorts → ⊥) AllPorts
+        next true never some = λ all. never (all_front HasPorts h.weighing.front v all)
+        next false all some = all_more HasPorts h.weighing.front v all some
 
 -- ** what is answered
 
@@ -132,10 +135,82 @@ pub list_weighs_none : (r : Result (List LinkAttribute) Cause) → Weighs (flat_
 list_weighs_none (Ok vs) w = w
 list_weighs_none (Err c) w = tt
 
-pub telling_ends : (family : AddressFamily) (whole : Result (List LinkAttribute) Cause) (left : List Item) (len : ℕ) (empty : Bool) → Telling family whole left len empty
+telling_ends : (family : AddressFamily) (whole : Result (List LinkAttribute) Cause) (left : List Item) (len : ℕ) (empty : Bool) → Telling family whole left len empty
     → left ≡ [] → ListWeighs whole (Some (len, empty))
 telling_ends family whole left len empty h left_is =
     let w = h.weighing in
     let all_is : Ok w.front ≡ whole =
     ap (λ (vs : List LinkAttribute). Ok vs) (sym (append-nil w.front)) ∙ ap (λ (xs : List Item). with_front w.front (read_items (attribute_place family).reads xs)) (sym left_is) ∙ w.so_far in
     subst (λ r. ListWeighs r (Some (len, empty))) all_is ((w.fit, omega (arith, w.len_is, w.counted)), w.len_is, h.ports)
+
+-- ** the run in front, told by the same walk
+
+pub record Measuring (family : AddressFamily) (b : List ℕ) (left : List Item) (len : ℕ) (empty : Bool)
+    (run : ℕ) : Type 0 where
+  pub telling : Telling family (list_of (attribute_place family).reads b) left len empty
+  pub running : Running (attribute_place family).reads attribute_text b left telling.weighing.front len run
+
+pub measuring_starts : (family : AddressFamily) (b : List ℕ) (left : List Item) → left ≡ items b
+    → Measuring family b left 0 false 0
+unfolding telling_starts
+measuring_starts family b left left_is = record {
+  telling = telling_starts family b left left_is;
+  running = running_starts (attribute_place family).reads attribute_text b left left_is;
+}
+
+weighed : (r : Result LinkAttribute Cause) (n : ℕ) → Weighs (λ v. (attribute_frame v).payload) AttributeFits r (Some n)
+    → (v : LinkAttribute) × (r ≡ Ok v) × AttributeFits v × (n ≡ length (attribute_frame v).payload)
+weighed (Ok v) n w = (v, refl, w.0, w.1)
+weighed (Err c) n w = absurd w
+
+module _ (family : AddressFamily) (b : List ℕ) (bytes : IsBytes b) (left : List Item) (len : ℕ) (empty : Bool) (run : ℕ)
+    (h : Measuring family b left len empty run)
+    (f : Frame) (rest : List Item) (left_is : left ≡ Ok f ∷ rest) (one : IsFrame f)
+    (value : ℕ) (spelled : Bool) (w : FrameMeasures family f (Some (value, spelled)))
+    (padded new : ℕ) (padded_is : padded ≡ 4 + value + missing value) (new_is : new ≡ len + padded) (small : new < 2 ^ 64)
+    (frame_len after : ℕ) (frame_is : frame_len ≡ 4 + length f.payload)
+    (after_is : RunsOn b run len spelled frame_len new after) where
+  read_one : (v : LinkAttribute) × ((attribute_place family).reads f ≡ Ok v) × AttributeFits v
+      × (value ≡ length (attribute_frame v).payload)
+  read_one = weighed ((attribute_place family).reads f) value w.0
+
+  counted : new ≡ len + length (canon (attribute_frame read_one.0))
+  counted =
+      omega (arith, new_is, padded_is, read_one.3, ap missing read_one.3, length-canon (attribute_frame read_one.0))
+
+  running : Running (attribute_place family).reads attribute_text b rest (h.telling.weighing.front ++ read_one.0 ∷ [])
+      new after
+  running =
+      running_next (attribute_place family).reads attribute_text b left h.telling.weighing.front len run h.running
+      f rest left_is read_one.0 read_one.1 new bytes spelled frame_len after (λ told. w.1 told read_one.0 read_one.1)
+      frame_is counted (omega (arith, new_is, padded_is)) after_is
+
+  pub measuring_none : (number f ≡ IFLA_VF_PORTS) × (value ≡ 0) → Measuring family b rest new true after
+  unfolding telling_on
+  measuring_none none =
+      let whole = list_of (attribute_place family).reads b in record {
+        telling = telling_on family whole left len empty h.telling f rest left_is read_one.0 read_one.1 read_one.2 new
+            counted small true
+            (ports_none family whole left len empty h.telling f rest left_is read_one.0 read_one.1 value read_one.3 none);
+        running = running;
+      }
+
+  pub measuring_some : ((number f ≡ IFLA_VF_PORTS) × (value ≡ 0) → ⊥) → Measuring family b rest new empty after
+  unfolding telling_on
+  measuring_some never =
+      let whole = list_of (attribute_place family).reads b in record {
+        telling = telling_on family whole left len empty h.telling f rest left_is read_one.0 read_one.1 read_one.2 new
+            counted small empty
+            (ports_more family whole left len empty h.telling f rest left_is read_one.0 read_one.1 value read_one.3 one
+            never);
+        running = running;
+      }
+
+pub measuring_ends : (family : AddressFamily) (b : List ℕ) (left : List Item) (len : ℕ) (empty : Bool) (run : ℕ)
+    → Measuring family b left len empty run → left ≡ [] → ListMeasures family b (Some (len, empty, run))
+measuring_ends family b left len empty run h left_is =
+    let read = (attribute_place family).reads in (
+      telling_ends family (list_of read b) left len empty h.telling left_is,
+      running_ends read attribute_text b left h.telling.weighing.front len run h.running left_is
+          h.telling.weighing.so_far,
+    )

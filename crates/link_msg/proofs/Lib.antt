@@ -6,6 +6,8 @@ pub mod LawProofs
 pub mod Writing
 pub mod Shaped
 pub mod Arms
+pub mod Runs
+pub mod Copied
 pub mod EmptyPorts
 pub mod Walking
 pub mod Faults

@@ -1,7 +1,7 @@
 -- Canonical text of a message: measured, and written behind its header.
-use Rattle.std.proofs.Common.{◌≡◌, ◌≢◌, ℕ, ◌+◌, ◌-◌, ◌*◌, ◌^◌, ◌<◌, ◌≤◌, List, [], ◌++◌, length, take, drop, refl, sym}
-use Rattle.std.proofs.Common.{ap, ◌∙◌, subst, arith, inr, length-take, length-drop, append-nil, Result, Ok, Err, Some, None}
-use Rattle.std.proofs.Common.{Bool, false, true, MatchBool, Option}
+use Rattle.std.proofs.Common.{◌≡◌, ◌≢◌, ℕ, ◌+◌, ◌-◌, ◌^◌, ◌<◌, ◌≤◌, List, [], ◌++◌, length, take, drop, refl, sym}
+use Rattle.std.proofs.Common.{ap, ◌∙◌, subst, arith, inr, append-nil, Result, Ok, Err, Some, None}
+use Rattle.std.proofs.Common.{Bool, false, true, MatchBool}
 use Rattle.std.proofs.lemmas.List.{drop_all}
 use Rattle.std.specs.List.{AllByRecursion}
 use borrow.Rule.Slice.PartMut.{put_mid}
@@ -17,13 +17,12 @@ use Rattle.nla_wire.proofs.Canonical.{write_on}
 use Rattle.nla_wire.proofs.Steps.{bytes_right}
 use Rattle.link_msg.specs.Header.{header_size, header_of, IsHeader, header_bytes}
 use Rattle.link_msg.specs.Tables.{attribute_frame, AttributeFits, HasPorts, attribute_place}
-use Rattle.link_msg.specs.Messages.{Means, Refused, IsRefused, message, message_text, MessageFits, NoEmptyPorts}
+use Rattle.link_msg.specs.Messages.{Means, Refused, IsRefused, message, message_text, MessageFits}
 use Rattle.link_msg.specs.CanonErrors.{refusal_for, refusal_of}
-use Rattle.link_msg.specs.Canonical.{IsAccepted, HasText, IsRefusal, IsRefusalAlone, IsUnfit, HasEmptyPorts, ListWeighs, IsMeasured}
+use Rattle.link_msg.specs.Canonical.{IsAccepted, HasText, IsRefusalAlone, IsUnfit, HasEmptyPorts, ListWeighs, IsMeasured}
 use Rattle.link_msg.specs.declared.attribute.LinkAttribute.{LinkAttribute}
 use Rattle.link_msg.specs.declared.header.LinkHeader.{LinkHeader}
 use Rattle.link_msg.specs.declared.message.LinkMessage.{LinkMessage}
-use Rattle.link_msg.specs.declared.canonical_text.CanonError.{CanonError}
 use Rattle.link_msg.specs.declared.canonical_text.CanonError.TheVariants as Refusals
 use Rattle.link_msg.proofs.Reading.{message_agrees, attributes_agree, parts, is_header}
 use Rattle.link_msg.proofs.Messaging.{header_length, text_length, attributes_counted}

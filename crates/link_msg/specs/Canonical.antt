@@ -9,7 +9,9 @@ use Rattle.nla_wire.specs.declared.error.Cause.TheVariants.{OutOfMemory}
 use Rattle.std.specs.List.{AllByRecursion}
 use Rattle.link_msg.specs.Header.{header_size}
 use Rattle.link_msg.specs.Tables.{attribute_frame, AttributeFits, HasPorts, attribute_place}
+use Rattle.link_msg.specs.Runs.{IsRun}
 use Rattle.link_msg.specs.Messages.{Means, Refused, IsRefused, message_text, MessageFits, NoEmptyPorts}
+use Rattle.link_vals.specs.declared.address_family.AddressFamily.{AddressFamily}
 use Rattle.link_msg.specs.declared.attribute.LinkAttribute.{LinkAttribute}
 use Rattle.link_msg.specs.declared.header.LinkHeader.{LinkHeader}
 use Rattle.link_msg.specs.declared.message.LinkMessage.{LinkMessage}
@@ -94,6 +96,12 @@ ListWeighs (Ok vs) (Some w) =
 ListWeighs (Ok vs) None = AllFit AttributeFits attribute_frame vs → ⊥
 ListWeighs (Err c) (Some w) = ⊥
 ListWeighs (Err c) None = Unit {0}
+
+-- that of the attributes that bytes are under a family, and how long the run in front of them is
+abbrev pub ListMeasures : AddressFamily → List ℕ → Option (ℕ × Bool × ℕ) → Type 0
+ListMeasures family b (Some w) =
+    ListWeighs ((list (attribute_place family)).reads b) (Some (w.0, w.1)) × IsRun family b w.2
+ListMeasures family b None = ListWeighs ((list (attribute_place family)).reads b) None
 
 -- b is an accepted message with this header and these bytes of attributes, whose text has n bytes
 pub record IsMeasured (b : List ℕ) (header : LinkHeader) (d : List ℕ) (n : ℕ) : Type 0 where

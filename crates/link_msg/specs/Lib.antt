@@ -7,6 +7,7 @@ pub mod Content
 pub mod Messages
 pub mod MessageExact
 pub mod CanonErrors
+pub mod Runs
 pub mod Canonical
 pub mod LawStatements
 pub mod FaultAt

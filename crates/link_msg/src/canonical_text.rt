@@ -6,6 +6,7 @@ ghost use Rattle.nla_wire.specs.Canon.{canons, AllFit, HasRoom, Rewrites};
 ghost use Rattle.link_msg.specs.Header.{header_size, header_bytes};
 ghost use Rattle.link_msg.specs.Tables.{attribute_frame, AttributeFits, attribute_place};
 ghost use Rattle.link_msg.specs.CanonErrors.{SameRefusal};
+ghost use Rattle.link_msg.specs.Runs.{IsRun};
 ghost use Rattle.link_msg.specs.Canonical.{IsAccepted, IsRefusal, IsRefusalAlone, IsMeasured, HasLength, HasText};
 ghost use Rattle.link_msg.specs.Canonical.{HoldsText, AreSame, IsRefusalOfTwo, IsWritten, IsWithin};
 
@@ -94,15 +95,17 @@ fn read_accepted(alloc: Global, input: &[u8]) -> Result<LinkMessage, CanonError>
     Ok(message)
 }
 
-/// The header of a message, the bytes behind it, and the length of their canonical text, without memory.
-fn measure(input: &[u8]) -> Result<(LinkHeader, &[u8], usize), CanonError>
+/// The header of a message, the bytes behind it, the length of their canonical text, and how many of them in front are
+/// canonical as they are spelled, without memory.
+fn measure(input: &[u8]) -> Result<(LinkHeader, &[u8], usize, usize), CanonError>
     ensures ok { IfOk result (λ w. IsMeasured input.now w.0 w.1.now w.2) }
     ensures room { IfOk result (λ w. header_size + w.2 < 2 ^ 64) }
+    ensures run { IfOk result (λ w. IsRun w.0.interface_family w.1.now w.3) }
     ensures err { IfErr result (IsRefusalAlone input.now) }
 {
     let (header, rest) = split_header(input)?;
     let family = header.interface_family;
-    let Some((len, empty)) = LinkAttribute::measure_list_with_param(rest, family) else {
+    let Some((len, empty, run)) = LinkAttribute::measure_list_with_param(rest, family) else {
         LinkAttribute::check_list_with_param(rest, family)?;
         return Err(CanonError::DoesNotFit);
     };
@@ -112,18 +115,20 @@ fn measure(input: &[u8]) -> Result<(LinkHeader, &[u8], usize), CanonError>
     if empty {
         return Err(CanonError::EmptyVfPorts);
     }
-    Ok((header, rest, len))
+    Ok((header, rest, len, run))
 }
 
 /// Writes the canonical text of a message that was measured to the front of the buffer, and answers its length.
-fn write_message(header: &LinkHeader, rest: &[u8], out: &mut [u8]) -> usize
+fn write_message(header: &LinkHeader, rest: &[u8], run: usize, out: &mut [u8]) -> usize
+    requires begins { IsRun header.now.interface_family rest.now run }
     requires measured { HasRoom (canons attribute_frame) (AllFit AttributeFits attribute_frame) ((list (attribute_place header.now.interface_family)).reads rest.now) (length out.old - header_size) }
     requires long { header_size ≤ length out.old }
     ensures { Rewrites (λ vs. header_bytes header.now ++ canons attribute_frame vs) ((list (attribute_place header.now.interface_family)).reads rest.now) out.old out.new result }
 {
     header.emit(out);
     let attributes = &mut out[HEADER_SIZE..];
-    HEADER_SIZE + LinkAttribute::write_list_with_param(rest, header.interface_family, attributes)
+    let family = header.interface_family;
+    HEADER_SIZE + LinkAttribute::write_list_with_param(rest, family, run, attributes)
 }
 
 /// The number of the canonical form: any change of any message's canonical text raises it. Texts of different numbers
@@ -136,7 +141,7 @@ pub const CANONICAL_FORM: u32 = 2;
 pub fn canonical_len(input: &[u8]) -> Result<usize, CanonError>
     ensures { HasLength input.now result }
 {
-    let (_header, _rest, len) = measure(input)?;
+    let (_header, _rest, len, _run) = measure(input)?;
     Ok(HEADER_SIZE + len)
 }
 
@@ -149,10 +154,10 @@ pub fn canonical(alloc: Global, input: &[u8]) -> Result<Vec<u8>, CanonError>
     ensures ok { IfOk result (λ t. HasText input.now t.items) }
     ensures err { IfErr result (IsRefusal input.now) }
 {
-    let (header, rest, len) = measure(input)?;
+    let (header, rest, len, run) = measure(input)?;
     let mut text = Vec::with_capacity(alloc, HEADER_SIZE + len)?;
     text.resize(HEADER_SIZE + len, 0)?;
-    let _len = write_message(&header, rest, text.as_mut_slice());
+    let _len = write_message(&header, rest, run, text.as_mut_slice());
     Ok(text)
 }
 
@@ -201,13 +206,13 @@ impl From<CanonError> for RoomError {
 pub fn canonical_within(input: &[u8], out: &mut [u8]) -> Result<usize, RoomError>
     ensures { IsWithin input.now out.old out.new result }
 {
-    let (header, rest, len) = measure(input)?;
+    let (header, rest, len, run) = measure(input)?;
     if out.len() < HEADER_SIZE + len {
         return Err(RoomError::NoRoom {
             wanted: HEADER_SIZE + len,
         });
     }
-    Ok(write_message(&header, rest, out))
+    Ok(write_message(&header, rest, run, out))
 }
 
 /// Writes what the bytes mean, as canonical text, to the front of the buffer, without memory, and answers its length.

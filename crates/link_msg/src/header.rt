@@ -37,6 +37,7 @@ impl LinkHeader {
 
     /// Reads the header at the front of the bytes, or refuses with `TooShort` below 16 bytes.
     #[tactic(auto, unfolding(crate::specs::Header::header_of))]
+    #[inline(always)]
     pub fn parse(bytes: &[u8]) -> Result<LinkHeader, DecodeError>
         ensures { MatchResult result (λ v. (header_size ≤ length bytes.now) × (v ≡ header_of bytes.now)) (IsShort bytes.now header_size) }
     {
@@ -61,6 +62,7 @@ impl LinkHeader {
 
     /// Writes the header into exactly 16 bytes.
     #[tactic(auto, unfolding(crate::specs::Header::header_bytes))]
+    #[inline(always)]
     fn emit_whole(&self, buffer: &mut [u8])
         requires { length buffer.old ≡ header_size }
         ensures { buffer.new ≡ header_bytes self.now }
@@ -73,6 +75,7 @@ impl LinkHeader {
     }
 
     /// Writes the header to the first 16 bytes, and keeps the rest.
+    #[inline(always)]
     pub fn emit(&self, buffer: &mut [u8])
         requires { header_size ≤ length buffer.old }
         ensures { buffer.new ≡ header_bytes self.now ++ drop header_size buffer.old }

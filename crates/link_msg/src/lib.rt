@@ -13,6 +13,7 @@ pub mod laws;
 pub mod message;
 pub mod numbers;
 mod payload;
+mod run;
 mod shape;
 pub mod table;
 pub mod to_vec;

@@ -27,6 +27,7 @@ pub struct LinkMessage {
 }
 
 /// The header, and the bytes behind it.
+#[inline(always)]
 pub(crate) fn split_header(input: &[u8]) -> Result<(LinkHeader, &[u8]), DecodeError>
     ensures { MatchResult result (λ v. (header_size ≤ length input.now) × (v.0 ≡ header_of (take header_size input.now)) × (v.1.now ≡ drop header_size input.now)) (IsShort input.now header_size) }
 {

@@ -1,11 +1,12 @@
 //! The attributes by the shape of their payloads: they are checked, and written again, from the payload and without a
 //! value.
 
-ghost use Rattle.std.specs.Prelude.{◌≡◌, ◌≤◌, ◌<◌, ◌^◌, length};
+ghost use Rattle.std.specs.Prelude.{◌≡◌, ◌≤◌, ◌<◌, ◌^◌, length, IsTrue};
 ghost use Rattle.nla_wire.specs.Sizes.{most_payload};
 ghost use Rattle.nla_wire.proofs.Codec.{kind_of};
 ghost use Rattle.nla_wire.proofs.Shapes.{ShapeChecks, ShapeWeighs, ShapeRoom, ShapeWrites};
 ghost use Rattle.link_msg.specs.Tables.{base, proto_info, af_spec, as_way, attribute_way};
+ghost use Rattle.link_msg.specs.Runs.{IsCopied};
 ghost use Rattle.link_msg.specs.declared.shape.Shape.TheVariants as Shapes;
 
 use crate::numbers::IFLA_ADDRESS;
@@ -305,6 +306,24 @@ impl Shape {
             Shape::Inet6Infos => check_some::<LinkProtoInfoInet6>(payload),
             Shape::Bridges => check_some::<AfSpecBridge>(payload),
             Shape::Unspecs => AfSpecUnspec::check_list(payload),
+        }
+    }
+
+    /// Whether a payload of this shape that is as long as its canonical text is that text.
+    #[inline(always)]
+    pub(crate) fn is_copied(self) -> bool
+        ensures { IsTrue result → IsCopied self }
+    {
+        match self {
+            Shape::Bytes => true,
+            Shape::Text => true,
+            Shape::U8 => true,
+            Shape::U16 => true,
+            Shape::U32 => true,
+            Shape::U64 => true,
+            Shape::Stats => true,
+            Shape::Stats64 => true,
+            _ => false,
         }
     }
 

@@ -5,6 +5,7 @@ ghost use Rattle.std.specs.Prelude.{IfOk, IfErr, MatchResult};
 ghost use Rattle.nla_wire.specs.Frames.{IsFrame, number};
 ghost use Rattle.nla_wire.specs.Grammar.{list};
 ghost use Rattle.nla_wire.specs.Canon.{canon, canons, AllFit, Weighs, HasRoom, Rewrites, RoomWhereFit, Canonical};
+ghost use Rattle.link_msg.specs.Runs.{IsSpelled, FrameMeasures, IsRun};
 ghost use Rattle.link_msg.specs.declared.numbers.TheConstants.{IFLA_VF_PORTS};
 ghost use Rattle.nla_wire.specs.Gives.{Fails, Gives, Adds, Checks};
 ghost use Rattle.nla_wire.specs.declared.error.Cause.TheVariants.{OutOfMemory};
@@ -78,6 +79,8 @@ use crate::numbers::IFLA_XDP;
 use crate::payload::parse_mask;
 use crate::payload::parse_ports;
 use crate::payload::parse_some;
+use crate::run::run_after;
+use crate::run::write_members_after;
 use crate::shape::Shape;
 use link_nest::DevlinkPort;
 use link_nest::DpllPin;
@@ -121,7 +124,7 @@ use std::alloc::Global;
 impl LinkAttribute {
     ghost use Rattle.link_msg.specs.Plain.{NotPlain, NotText};
     ghost use Rattle.link_msg.specs.Tables.{attribute_place, attribute_frame, AttributeFits, Values};
-    ghost use Rattle.link_msg.specs.Canonical.{ListWeighs};
+    ghost use Rattle.link_msg.specs.Canonical.{ListMeasures};
 
     /// Reads a frame under the header's family: the number selects the variant, whatever the flag bits of the kind.
     ///
@@ -525,6 +528,24 @@ impl LinkAttribute {
         }
     }
 
+    /// The same, and whether the frame is canonical as it is spelled, but for its padding.
+    #[inline(always)]
+    fn measure_spelled(buffer: &NlaBuffer<'_>, family: AddressFamily) -> Option<(usize, bool)>
+        ensures { FrameMeasures family buffer.now result }
+    {
+        buffer.is_frame();
+        let payload = buffer.value();
+        match Shape::of(buffer.kind(), payload.len(), family) {
+            Some(shape) => {
+                let Some(len) = shape.measure(payload) else {
+                    return None;
+                };
+                Some((len, is_spelled(shape, len, buffer)))
+            }
+            None => Some((payload.len(), true)),
+        }
+    }
+
     /// Writes the canonical text of a frame that was measured to the front of the buffer, and answers its length with
     /// header and padding.
     #[inline(always)]
@@ -608,48 +629,64 @@ impl LinkAttribute {
         Some(write_members(&AttributePlace { family }, bytes, out))
     }
 
-    /// The length of the canonical text of a list of attributes under the header's family, and whether an empty list of
-    /// ports is among them, with no memory; `None` where one does not fit, or the list is refused.
+    /// The length of the canonical text of a list of attributes under the header's family, whether an empty list of
+    /// ports is among them, and how many bytes in front are canonical as they are spelled, with no memory; `None` where
+    /// one does not fit, or the list is refused.
     ///
     /// A list of ports has a text of no bytes exactly where it is empty, so that the same walk tells it.
     pub(crate) fn measure_list_with_param(
         bytes: &[u8],
         family: AddressFamily,
-    ) -> Option<(usize, bool)>
-        ensures { ListWeighs ((list (attribute_place family)).reads bytes.now) result }
+    ) -> Option<(usize, bool, usize)>
+        ensures { ListMeasures family bytes.now result }
     {
         let mut len: usize = 0;
         let mut empty = false;
+        let mut run: usize = 0;
         for item in NlasIterator::new(bytes) {
             let Ok(frame) = item else {
                 return None;
             };
-            let Some(value) = LinkAttribute::measure_frame(&frame, family) else {
+            let Some((value, spelled)) = LinkAttribute::measure_spelled(&frame, family) else {
                 return None;
             };
             let Some(more) = len.checked_add(padded_len(value)) else {
                 return None;
             };
+            run = run_after(bytes, run, len, spelled, frame.length(), more);
             if has_no_port(&frame, value) {
                 empty = true;
             }
             len = more;
         }
-        Some((len, empty))
+        Some((len, empty, run))
     }
 
     /// Writes the canonical text of a list of attributes that was measured to the front of the buffer, and answers its
-    /// length. The rest of the buffer is kept.
+    /// length. The bytes in front that are canonical as they are spelled are copied. The rest of the buffer is kept.
     pub(crate) fn write_list_with_param(
         bytes: &[u8],
         family: AddressFamily,
+        run: usize,
         out: &mut [u8],
     ) -> usize
-        requires { HasRoom (canons attribute_frame) (AllFit AttributeFits attribute_frame) ((list (attribute_place family)).reads bytes.now) (length out.old) }
+        requires begins { IsRun family bytes.now run }
+        requires room { HasRoom (canons attribute_frame) (AllFit AttributeFits attribute_frame) ((list (attribute_place family)).reads bytes.now) (length out.old) }
         ensures { Rewrites (canons attribute_frame) ((list (attribute_place family)).reads bytes.now) out.old out.new result }
     {
-        write_members(&AttributePlace { family }, bytes, out)
+        write_members_after(&AttributePlace { family }, run, bytes, out)
     }
+}
+
+/// Whether the canonical text of a frame of this shape is the frame as it is spelled, but for its padding. Its value's
+/// text has so many bytes.
+#[inline(always)]
+fn is_spelled(shape: Shape, value_len: usize, buffer: &NlaBuffer<'_>) -> bool
+    ensures { IsTrue result → IsSpelled shape value_len buffer.now }
+{
+    value_len == buffer.value().len()
+        && buffer.kind_with_flags() == buffer.kind()
+        && shape.is_copied()
 }
 
 /// Whether a frame whose value has a text of so many bytes is an empty list of ports.

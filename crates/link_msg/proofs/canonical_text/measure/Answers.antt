@@ -1,7 +1,6 @@
-use Rattle.std.proofs.Common.{◌≡◌, ◌≢◌, ◌+◌, ◌<◌, ◌^◌, arith}
+use Rattle.std.proofs.Common.{◌≢◌, arith}
 use Rattle.std.proofs.lemmas.Result.{err_from_is_err_and}
 use Rattle.nla_wire.proofs.Front.{all_bytes}
-use Rattle.link_msg.specs.Header.{header_size}
 use Rattle.link_msg.specs.declared.canonical_text.CanonError.TheVariants as Refusals
 use Rattle.link_msg.proofs.Writing.{measured_refused, measured_none, measured_long, measured_empty, measured_whole}
 use Rattle.link_msg.proofs.canonical_text.measure.Goals as goal
@@ -22,14 +21,14 @@ returns-in_default-clause-err c =
 
 pub returns-then-len-clause-err : goal.returns-then-len-clause-err
 returns-then-len-clause-err c =
-    (measured_long c.args.input.now c.in_ok-header.header c.in_ok-header.rest.now c.in_ok-header.ensures.0 c.in_ok-header.ensures.1 c.in_ok-header.ensures.2 (all_bytes c.args.input.now (λ i. omega (arith, c.type_inv.input i))) c.in-Some.len c.in-Some.empty c.in-Some.ensures (λ counted. absurd (omega (arith, counted, c.if-len.true))), unfit_alone)
+    (measured_long c.args.input.now c.in_ok-header.header c.in_ok-header.rest.now c.in_ok-header.ensures.0 c.in_ok-header.ensures.1 c.in_ok-header.ensures.2 (all_bytes c.args.input.now (λ i. omega (arith, c.type_inv.input i))) c.in-Some.len c.in-Some.empty c.in-Some.ensures.0 (λ counted. absurd (omega (arith, counted, c.if-len.true))), unfit_alone)
 
 ports_alone : Refusals.EmptyVfPorts ≢ Refusals.OutOfMemory
 ports_alone same = absurd cc
 
 pub returns-then-empty-clause-err : goal.returns-then-empty-clause-err
 returns-then-empty-clause-err c =
-    (measured_empty c.args.input.now c.in_ok-header.header c.in_ok-header.rest.now c.in_ok-header.ensures.0 c.in_ok-header.ensures.1 c.in_ok-header.ensures.2 (all_bytes c.args.input.now (λ i. omega (arith, c.type_inv.input i))) c.in-Some.len c.in-Some.empty c.in-Some.ensures c.if-empty.true (omega (arith, c.if-len.false)), ports_alone)
+    (measured_empty c.args.input.now c.in_ok-header.header c.in_ok-header.rest.now c.in_ok-header.ensures.0 c.in_ok-header.ensures.1 c.in_ok-header.ensures.2 (all_bytes c.args.input.now (λ i. omega (arith, c.type_inv.input i))) c.in-Some.len c.in-Some.empty c.in-Some.ensures.0 c.if-empty.true (omega (arith, c.if-len.false)), ports_alone)
 
 pub returns-clause-ok : goal.returns-clause-ok
-returns-clause-ok c = measured_whole c.args.input.now c.in_ok-header.header c.in_ok-header.rest.now c.in_ok-header.ensures.0 c.in_ok-header.ensures.1 c.in_ok-header.ensures.2 (all_bytes c.args.input.now (λ i. omega (arith, c.type_inv.input i))) c.in-Some.len c.in-Some.empty c.in-Some.ensures c.if-empty.false (omega (arith, c.if-len.false))
+returns-clause-ok c = measured_whole c.args.input.now c.in_ok-header.header c.in_ok-header.rest.now c.in_ok-header.ensures.0 c.in_ok-header.ensures.1 c.in_ok-header.ensures.2 (all_bytes c.args.input.now (λ i. omega (arith, c.type_inv.input i))) c.in-Some.len c.in-Some.empty c.in-Some.ensures.0 c.if-empty.false (omega (arith, c.if-len.false))
