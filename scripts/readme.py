@@ -1,5 +1,6 @@
-"""Compiles and runs each program of README.md after a line '<!-- runs: c -->', and compares what it prints with the next
-block, whose first line is the command. Takes the library; the last line is 'readme passed'."""
+"""Holds README.md to what it shows: each program after '<!-- runs: c -->' is compiled and run, each command after
+'<!-- runs: shell -->' too, and what they print is compared with what stands there; what follows '<!-- stands in: FILE -->'
+has to stand in that file. Takes the library, and the folder of the program; the last line is 'readme passed'."""
 
 import os
 import re
@@ -9,30 +10,47 @@ import tempfile
 
 TOP = os.path.dirname(os.path.dirname(os.path.abspath(__file__)))
 WARNINGS = ["-std=c11", "-Wall", "-Wextra", "-Wpedantic", "-Wconversion", "-Wshadow", "-Werror"]
-PROGRAM = re.compile(r"^<!-- runs: c -->\n```c\n(.*?)^```\n\n```\n\$ .*?\n(.*?)^```$", re.M | re.S)
+MARK = re.compile(r"^<!-- (?:runs: (?:c|shell)|stands in: .*) -->$", re.M)
+IN_C = re.compile(r"^<!-- runs: c -->\n```c\n(.*?)^```\n\n```\n\$ .*?\n(.*?)^```$", re.M | re.S)
+IN_SHELL = re.compile(r"^<!-- runs: shell -->\n```console\n\$ (.*?)\n(.*?)^```$", re.M | re.S)
+PART = re.compile(r"^<!-- stands in: (.*?) -->\n```rust\n(.*?)^```$", re.M | re.S)
 
 
-def printed(source, library, folder):
-    """What the program prints."""
-    with open(f"{folder}/program.c", "w", encoding="utf-8") as it:
-        it.write(source)
-    compiler = os.environ.get("CC", "cc")
-    build = [compiler, *WARNINGS, f"-I{TOP}/include", "-o", f"{folder}/program", f"{folder}/program.c", library]
-    subprocess.run(build, check=True)
-    return subprocess.run([f"{folder}/program"], check=True, capture_output=True, text=True, timeout=60).stdout
+def output(command, **kwargs):
+    return subprocess.run(command, check=True, capture_output=True, text=True, timeout=60, **kwargs).stdout
 
 
-def main(library):
+def compiled(source, library):
+    """What a program in C prints."""
+    with tempfile.TemporaryDirectory() as folder:
+        with open(f"{folder}/program.c", "w", encoding="utf-8") as it:
+            it.write(source)
+        compiler = os.environ.get("CC", "cc")
+        build = [compiler, *WARNINGS, f"-I{TOP}/include", "-o", f"{folder}/program", f"{folder}/program.c", library]
+        subprocess.run(build, check=True)
+        return output([f"{folder}/program"])
+
+
+def compare(found, wanted):
+    if found != wanted:
+        sys.exit(f"readme: a program prints\n{found}and not\n{wanted}")
+
+
+def main(library, programs):
     with open(f"{TOP}/README.md", encoding="utf-8") as it:
         readme = it.read()
-    programs = PROGRAM.findall(readme)
-    if not programs or len(programs) != readme.count("<!-- runs: c -->"):
+    in_c, in_shell, parts = (form.findall(readme) for form in (IN_C, IN_SHELL, PART))
+    if not (in_c and in_shell and parts) or len(in_c + in_shell + parts) != len(MARK.findall(readme)):
         sys.exit("readme: a program or its output is missing")
-    for source, wanted in programs:
-        with tempfile.TemporaryDirectory() as folder:
-            found = printed(source, library, folder)
-        if found != wanted:
-            sys.exit(f"readme: a program prints\n{found}and not\n{wanted}")
+    for source, wanted in in_c:
+        compare(compiled(source, library), wanted)
+    path = {**os.environ, "PATH": os.pathsep.join([os.path.abspath(programs), os.environ["PATH"]])}
+    for command, wanted in in_shell:
+        compare(output(["sh", "-c", command], env=path), wanted)
+    for file, part in parts:
+        with open(f"{TOP}/{file}", encoding="utf-8") as it:
+            if part not in it.read():
+                sys.exit(f"readme: {file} has not what stands in README.md")
     print("readme passed")
 
 

@@ -33,9 +33,9 @@ for tool in fmt clippy; do # where they are installed
     fi
 done
 
-# block LANGUAGE: the first of that language in the README's part on Rust
+# block LANGUAGE: the first of that language after README's line '<!-- runs: rust -->'
 block() {
-    awk -v fence="\`\`\`$1" '/^## / { is_part = $0 == "## From Rust" } is_part && $0 == "```" { if (in_block) exit }
+    awk -v fence="\`\`\`$1" '$0 == "<!-- runs: rust -->" { is_part = 1 } is_part && $0 == "```" { if (in_block) exit }
         in_block { print } is_part && $0 == fence { in_block = 1 }' "$top/README.md"
 }
 mkdir -p "$folder/sample/src"
