@@ -30,9 +30,9 @@ ghost use Rattle.link_afspec.specs.Tables.{af_spec_inet_place, af_spec_inet6_pla
 ghost use Rattle.link_afspec.specs.declared.numbers.TheConstants.{IFLA_INET_CONF, IFLA_INET6_CONF, IFLA_INET6_STATS};
 ghost use Rattle.link_afspec.specs.declared.numbers.TheConstants.{IFLA_INET6_CACHEINFO, IFLA_INET6_ICMP6STATS};
 ghost use Rattle.link_msg.specs.declared.numbers.TheConstants.{IFLA_STATS, IFLA_STATS64, IFLA_MAP};
-ghost use Rattle.std.specs.Prelude.{◌≡◌, ◌*◌, ◌+◌, [], ◌∷◌, length};
+ghost use Rattle.std.specs.Prelude.{◌≡◌, ◌*◌, ◌+◌, [], ◌∷◌, length, Ok};
 ghost use Rattle.nla_wire.specs.Sizes.{growth_per_byte};
-ghost use Rattle.link_msg.specs.Canonical.{HoldsText};
+ghost use Rattle.link_msg.specs.Canonical.{HoldsText, HasLength};
 ghost use Rattle.nla_wire.specs.Canon.{canon, canons, AllFit, RoomWhereFit};
 ghost use Rattle.nla_wire.specs.Grammar.{list};
 ghost use Rattle.link_msg.specs.declared.attribute.LinkAttribute.TheVariants as Attributes;
@@ -65,6 +65,12 @@ pub fn law_canonical_twice()
 /// `growth_per_byte` bytes of buffer for each byte of a message are room for its canonical text.
 pub fn law_room(input: &[u8])
     ensures { HoldsText input.now (growth_per_byte * length input.now) }
+{}
+
+/// As many bytes of buffer as `canonical_len` returns of a message are room for its canonical text.
+pub fn law_exact_room(input: &[u8], len: usize)
+    requires { HasLength input.now (Ok len) }
+    ensures { HoldsText input.now len }
 {}
 
 /// `growth_per_byte` bytes of buffer for each byte of an attribute's header and payload are room for its canonical text.

@@ -5,7 +5,7 @@ ghost use Rattle.std.specs.Prelude.{◌≡◌, length};
 use crate::testing::{
     GROWTH, are, are_same, fails, got, is_copied, read_message, stored, text_made,
 };
-use link_msg::laws::law_room;
+use link_msg::laws::{law_exact_room, law_room};
 use link_msg::*;
 use std::alloc::Global;
 use std::process::Abort;
@@ -121,6 +121,20 @@ fn is_rewritten(rt: &impl Abort, alloc: Global, bytes: &[u8], text: &[u8]) {
     stored(rt, text.len(), out, text);
 }
 
+/// Bytes are written again as this text into a buffer of just its length.
+fn is_rewritten_exactly(rt: &impl Abort, alloc: Global, bytes: &[u8], text: &[u8]) {
+    match canonical_len(bytes) {
+        Ok(len) => {
+            law_exact_room(bytes, len);
+            let mut out = room_of(rt, alloc, len);
+            let out = out.as_mut_slice();
+            assert!(rt; canonical_into(bytes, out) == Ok(text.len()));
+            are(rt, out, text);
+        },
+        Err(_) => panic!(rt; "the bytes have no canonical text"),
+    }
+}
+
 /// Bytes are written again as this text where there is room for it, be it no byte more.
 fn is_rewritten_within(rt: &impl Abort, alloc: Global, bytes: &[u8], text: &[u8]) {
     assert!(rt; text.len() < MOST);
@@ -152,6 +166,7 @@ fn has_text(rt: &impl Abort, alloc: Global, bytes: &[u8], text: &[u8]) {
     are(rt, text_made(rt, alloc, bytes).as_slice(), text);
     assert!(rt; canonical_len(bytes) == Ok(text.len()));
     is_rewritten(rt, alloc, bytes, text);
+    is_rewritten_exactly(rt, alloc, bytes, text);
     is_rewritten_within(rt, alloc, bytes, text);
     is_too_long(rt, alloc, bytes, text);
 }
