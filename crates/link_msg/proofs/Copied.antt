@@ -127,7 +127,8 @@ shape_same shape f value copied small bare same (Ok x) is w =
 
 module _ (family : AddressFamily) (f : Frame) (one : IsFrame f) where
   pub same_text : (shape : Shape) (value : ℕ)
-      → attribute_way family (number f) (length f.payload) ≡ as_way (Some shape) → IsCopied shape → f.kind ≡ number f → value ≡ length f.payload → ShapeWeighs base shape f.payload (Some value)
+      → attribute_way family (number f) (length f.payload) ≡ as_way (Some shape) → IsCopied shape
+      → f.kind ≡ number f → value ≡ length f.payload → ShapeWeighs base shape f.payload (Some value)
       → (v : LinkAttribute) → (attribute_place family).reads f ≡ Ok v → attribute_text v ≡ canon f
   same_text shape value is copied bare same w =
       only_text ((attribute_place family).reads f) (canon f) (length (canon f))
