@@ -6,5 +6,5 @@ use Rattle.link_msg.proofs.laws.law_exact_room.Goals as goal
 
 pub returns : goal.returns
 returns c = λ m accepted.
-    let same = one_message c.args.input.now m c.requires.0 accepted.means c.requires.1.0.means in
-    omega (arith, ap (λ (x : LinkMessage). length (message_text x)) same, c.requires.1.1)
+    let same = one_message c.args.input.now m c.requires.0 accepted.means c.requires.1.means in
+    omega (arith, ap (λ (x : LinkMessage). length (message_text x)) same, c.requires.2)
