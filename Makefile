@@ -33,7 +33,7 @@ tables: ## prints the tables as JSON, after they were compared with the kernel's
 	@scripts/kernel_tables.sh --json
 
 bench: build c-bench compare ## times the program and the library
-	@bench/run.sh $(PROGRAM)
+	@bench/run.sh $(PROGRAM) $(SHOW)
 
 compare: ## times the calls beside libnl-route-3 and Debian's netlink-packet-route, where they are installed
 	@bench/compare.sh

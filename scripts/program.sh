@@ -73,6 +73,6 @@ for ((call = 1; ; call++)); do
         echo "$name: growth $call refused: no beginning of the answers" >&2
         exit 1
     fi
-    wants "growth $call refused" 1 "$(cat "$folder/out")" "$name: out of memory"
+    wants "growth $call refused" 1 "$(cat "$folder/out")" "$name: out of memory" >/dev/null
 done
 wants "no growth refused, after $((call - 1))" 0 "$(cat "$stored/stdout")" ""

@@ -8,7 +8,7 @@ the same value. A name of an enum or flag stands for its number, flags are a set
 unsigned one. What differs between two dumps of ynl, before and after, moves and is left out. Two records of the file
 differ from the kernel's: the counters of IPv6 lack their first, so that each stands under the name before its own; and
 what follows addr-gen-mode in the settings of IPv6 is read from the wrong place, so that it is left out. Lists that the
-file has as bytes are left out too.
+file has as bytes are left out too, and a list of one stands for its member, as ynl prints it.
 """
 
 import ipaddress
@@ -96,6 +96,8 @@ class Comparison:
         name = path[-1]
         if name in BYTES_IN_FILE and isinstance(before, str):
             return
+        if isinstance(ours, list) and len(ours) == 1 and not isinstance(before, (list, int)):
+            ours = ours[0]
         if isinstance(ours, dict) and isinstance(before, dict) and isinstance(after, dict):
             if path[-2:] in (["inet6", "stats"], ["inet6", "icmp6-stats"]):
                 ours = shifted(ours)

@@ -6,6 +6,7 @@ mod answers;
 mod attribute;
 mod counts;
 mod fault;
+mod laws;
 mod member;
 mod names;
 mod nests;
