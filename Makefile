@@ -1,17 +1,22 @@
 PREFIX ?= /usr/local
 PROGRAM = crates/linkwire/out/linkwire
+SHOW = crates/linkshow/out/linkshow
 # How long `fuzz` tries messages.
 SECONDS ?= 60
 # With BUILT=1 `install` takes what is built already.
 BUILT ?=
 
-.PHONY: run build lib check edits tables bench compare c-tests rust-tests fuzz c-bench install uninstall help
+.PHONY: run show build lib check edits tables bench compare show-tests c-tests rust-tests fuzz c-bench install uninstall help
 
 run: ## answers the lines of standard input: echo 00000000000000000000000000000000060003006c6f | make -s run
 	@scripts/build.sh && $(PROGRAM)
 
-build: ## proves and builds the program
+show: ## shows the lines of standard input as JSON: echo 00000000000000000000000000000000060003006c6f | make -s show
+	@scripts/build.sh linkshow && $(SHOW)
+
+build: ## proves and builds the two programs
 	@scripts/build.sh
+	@scripts/build.sh linkshow
 
 lib: ## proves and builds out/liblinkwire.a and out/liblinkwire.so.0, for programs in C, and prints where they are
 	@scripts/c_library.sh
@@ -28,10 +33,14 @@ tables: ## prints the tables as JSON, after they were compared with the kernel's
 	@scripts/kernel_tables.sh --json
 
 bench: build c-bench compare ## times the program and the library
-	@bench/run.sh $(PROGRAM)
+	@bench/run.sh $(PROGRAM) $(SHOW)
 
 compare: ## times the calls beside libnl-route-3 and Debian's netlink-packet-route, where they are installed
 	@bench/compare.sh
+
+show-tests: ## compares what linkshow says of the running kernel's links with what the kernel's client ynl says
+	@python3 scripts/show_rows.py --check
+	@scripts/show_tests.sh
 
 c-tests: ## runs the tests of the library for C, and its examples on the running kernel
 	@scripts/c_tests.sh
@@ -45,7 +54,7 @@ fuzz: ## tries the laws of the library on generated messages, for so long: make 
 c-bench: ## times the library for C
 	@scripts/c_bench.sh
 
-install: $(if $(BUILT),,build lib) ## installs program, header, libraries and manual pages below $(DESTDIR)$(PREFIX)
+install: $(if $(BUILT),,build lib) ## installs programs, header, libraries and manual pages below $(DESTDIR)$(PREFIX)
 	@scripts/install.sh "$(DESTDIR)" "$(PREFIX)"
 
 uninstall: ## takes them away

@@ -1,5 +1,5 @@
 #!/usr/bin/env python3
-"""Times a program and a pipe of two on one file: measure.py PROGRAM FILE [ROUNDS]."""
+"""Times linkwire, a pipe of two and linkshow on one file: measure.py LINKWIRE FILE [ROUNDS] [LINKSHOW]."""
 
 import os
 import subprocess
@@ -54,6 +54,8 @@ def main():
         "linkwire": [[program]],
         "xxd -r -p | xxd -p": [["xxd", "-r", "-p"], ["xxd", "-p"]],
     }
+    if len(sys.argv) > 4:
+        pipes["linkshow"] = [[sys.argv[4]]]
     seconds = {name: [] for name in pipes}
     for _ in range(rounds):
         for name, commands in pipes.items():

@@ -1,7 +1,7 @@
 #!/usr/bin/env bash
-# Proves and builds the program, and shows on standard error how far it is.
+# Proves and builds a program, linkwire where none is named, and shows on standard error how far it is: build.sh [CRATE]
 set -euo pipefail
 top=$(cd "$(dirname "$0")/.." && pwd)
 log=$(mktemp)
 trap 'rm -f "$log"' EXIT
-"$top/scripts/progress.sh" linkwire run "$log" >&2
+"$top/scripts/progress.sh" "${1:-linkwire}" run "$log" >&2

@@ -7,6 +7,9 @@ log=$(mktemp)
 trap 'rm -f "$log"' EXIT
 rt ci | tee "$log"
 scripts/program.sh
+scripts/program.sh linkshow
+python3 scripts/show_rows.py --check
+scripts/show_tests.sh
 scripts/c_tests.sh --over-gate
 scripts/rust_tests.sh
 scripts/parallel_test.sh

@@ -1,52 +1,66 @@
 #!/usr/bin/env bash
-# Runs the built program where a read, a write or a growth fails, and looks at its status and its line.
+# Runs a built program where a read, a write or a growth fails, and looks at its status and its line:
+# program.sh [linkwire|linkshow]
 set -euo pipefail
 top=$(cd "$(dirname "$0")/.." && pwd)
-program=$top/crates/linkwire/out/linkwire
+name=${1:-linkwire}
+program=$top/crates/$name/out/$name
+case $name in
+linkwire) nothex=nothex refused=refused every=1 ;;
+linkshow)
+    nothex='{"fault":"not-hex"}' every=9
+    refused='{"fault":"too-short","at":"record","got":0,"need":16,"offset":0}'
+    ;;
+esac
 folder=$(mktemp -d)
 trap 'rm -rf "$folder"' EXIT
 
 # wants NAME STATUS OUTPUT ERRORS: what the last run of NAME must have left
 wants() {
     if [ "$status" != "$2" ] || [ "$(cat "$folder/out")" != "$3" ] || [ "$(cat "$folder/err")" != "$4" ]; then
-        echo "program: $1: status $status" >&2
+        echo "$name: $1: status $status" >&2
         head -c 300 "$folder/out" "$folder/err" >&2
         exit 1
     fi
-    echo "program: $1: ok"
+    echo "$name: $1: ok"
 }
 
 : >"$folder/out"
 status=0; "$program" <"$folder" >"$folder/out" 2>"$folder/err" || status=$?
-wants "a read that fails" 1 "" "linkwire: read failed"
+wants "a read that fails" 1 "" "$name: read failed"
 
 status=0; echo 0 | "$program" >/dev/full 2>"$folder/err" || status=$?
-wants "a write that fails" 1 "" "linkwire: write failed"
+wants "a write that fails" 1 "" "$name: write failed"
 
 status=0; echo 0 | "$program" >&- 2>"$folder/err" || status=$?
-wants "a closed output" 1 "" "linkwire: write failed"
+wants "a closed output" 1 "" "$name: write failed"
 
 status=0
 (ulimit -v 40000; { echo 0; head -c 60000000 /dev/zero | tr '\0' 0; } | "$program" >"$folder/out" 2>"$folder/err") || status=$?
-wants "a growth that fails" 1 nothex "linkwire: out of memory"
+wants "a growth that fails" 1 "$nothex" "$name: out of memory"
 
 status=0; printf '0\n\n0' | "$program" >"$folder/out" 2>"$folder/err" || status=$?
-wants "a whole run" 0 "$(printf 'nothex\nrefused\nnothex')" ""
+wants "a whole run" 0 "$(printf '%s\n' "$nothex" "$refused" "$nothex")" ""
 
 # each line is answered before the next is given
 coproc RUN { "$program"; }
 for line in 0 00 zz; do
     echo "$line" >&"${RUN[1]}"
     if ! read -r -t 10 answer <&"${RUN[0]}"; then
-        echo "program: no answer to $line before the next line" >&2
+        echo "$name: no answer to $line before the next line" >&2
         exit 1
     fi
 done
-echo "program: answers before the next line: ok"
+echo "$name: answers before the next line: ok"
 
-# each growth is refused in turn on the stored input, until none is: the fault, and a beginning of the answers
+# each growth is refused in turn on the stored input, or on some lines of it, until none is: the fault, and a beginning of
+# the answers
 ${CC:-cc} -O2 -Wall -Wextra -Werror -shared -fPIC -o "$folder/refuse.so" "$top/tests/program/refuse_growth.c"
-stored=$top/crates/linkwire
+stored=$folder/stored
+mkdir "$stored"
+for file in stdin stdout; do
+    awk -v every="$every" 'NR % every == 0' "$top/crates/$name/$file" >"$stored/$file"
+done
 for ((call = 1; ; call++)); do
     rm -f "$folder/refused"
     status=0
@@ -56,9 +70,9 @@ for ((call = 1; ; call++)); do
         break
     fi
     if ! head -c "$(stat -c %s "$folder/out")" "$stored/stdout" | cmp -s - "$folder/out"; then
-        echo "program: growth $call refused: no beginning of the answers" >&2
+        echo "$name: growth $call refused: no beginning of the answers" >&2
         exit 1
     fi
-    wants "growth $call refused" 1 "$(cat "$folder/out")" "linkwire: out of memory"
+    wants "growth $call refused" 1 "$(cat "$folder/out")" "$name: out of memory" >/dev/null
 done
 wants "no growth refused, after $((call - 1))" 0 "$(cat "$stored/stdout")" ""

@@ -28,8 +28,10 @@ ${CC:-cc} -static -o static install.c "${flags[@]}"
 expect ./static
 wanted='ok 00000000000000000000000000000000070003006c6f0000'
 expect "$prefix/bin/linkwire" <<< 00000000000000000000000000000000060003006c6f
+wanted='{"fault":"not-hex"}'
+expect "$prefix/bin/linkshow" <<< 0
 
-for page in "$prefix"/share/man/man[13]/linkwire.[13]; do
+for page in "$prefix"/share/man/man[13]/link*.[13]; do
     warnings=$(groff -ww -man -Tutf8 "$page" 2>&1 >/dev/null; man --warnings=w -l "$page" 2>&1 >/dev/null)
     if [ -n "$warnings" ]; then
         echo "install: $warnings" >&2

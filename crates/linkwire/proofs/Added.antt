@@ -9,8 +9,8 @@ use Rattle.link_msg.specs.declared.canonical_text.CanonError.TheVariants.{Decode
 use Rattle.link_msg.specs.Messages.{IsRefused}
 use Rattle.link_msg.specs.Canonical.{HasText, IsRefusal}
 use Rattle.nla_wire.specs.declared.error.DecodeError.{DecodeError}
-use Rattle.linkwire.specs.Lines.{IsAnswerTo, IsAnswerToSpelled, with_lf}
-use Rattle.linkwire.specs.Steps.{AddsAnswer, AddsAnswerTo}
+use Rattle.line_filter.specs.Lines.{with_lf}
+use Rattle.linkwire.specs.Lines.{IsAnswerTo, IsAnswerToSpelled, AddsAnswer, AddsAnswerTo}
 
 -- what an extended list holds where the call succeeds
 pub on_ok_extended : {P : Type 0} (r : Result (Unit {0}) AllocError) (new longer same : List ℕ) → new ≡ (if is_ok r then longer else same) → (new ≡ longer → P) → OnOk r P

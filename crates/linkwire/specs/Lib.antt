@@ -1,4 +1,4 @@
 pub mod Lines
 pub mod Laws
-pub mod Digits
-pub mod Steps
+pub mod Decided
+pub mod OneAnswer

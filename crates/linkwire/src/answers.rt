@@ -1,31 +1,42 @@
-ghost use Rattle.std.specs.Prelude.{◌≡◌, ◌++◌, ◌/◌, [], List, ℕ, OnOk, IfErr, codes, length};
-ghost use Rattle.std.specs.Io.KnownBytes.{Appends};
+ghost use Rattle.std.specs.Prelude.{◌≡◌, ◌++◌, ◌/◌, OnOk, codes, length};
 ghost use Rattle.hex.specs.Hex.{encode_lower};
-ghost use Rattle.linkwire.specs.Lines.{with_lf};
-ghost use Rattle.linkwire.specs.Steps.{AddsAnswer, AddsAnswerTo, Sends, FailedWrite};
+ghost use Rattle.line_filter.specs.Lines.{with_lf};
+ghost use Rattle.linkwire.specs.Lines.{IsAnswer, AddsAnswer, AddsAnswerTo};
+ghost use Rattle.linkwire.specs.OneAnswer.{each_answered};
 
-use crate::digits::{decode, values};
-use crate::error::RunError;
-use crate::write::write_out;
+use line_filter::answers::Answer;
+use line_filter::digits::{decode, values};
 use link_msg::{CanonError, canonical};
 use std::alloc::{AllocError, Global};
-use std::io::Write;
-use std::marker::Model;
 
-/// How many bytes of answers may wait.
-const ENOUGH: usize = 65536;
-
-/// Answers that wait to be written, with room for the bytes of one line.
+/// Answers lines by canonical texts, with room for the bytes of one line.
 #[derive(Drop)]
-pub struct Answers {
-    waiting: Vec<u8>,
+pub struct Canonical {
     message: Vec<u8>,
 }
 
-impl Model for Answers {
-    ghost Value = { List ℕ };
+impl Canonical {
+    pub fn new(alloc: Global) -> Canonical {
+        Canonical {
+            message: Vec::new(alloc),
+        }
+    }
+}
 
-    ghost view = { λ answers. answers.waiting.items };
+impl Answer for Canonical {
+    ghost is_answer = { IsAnswer };
+
+    fn push(
+        &mut self,
+        alloc: Global,
+        line: &[u8],
+        waiting: &mut Vec<u8>,
+    ) -> Result<(), AllocError> {
+        self.message.resize(line.len() / 2, 0)?;
+        push_spelled(alloc, waiting, line, self.message.as_mut_slice())
+    }
+
+    ghost has = { each_answered };
 }
 
 /// Adds `ok `, the text in lower-case hexadecimal and an LF.
@@ -72,46 +83,4 @@ fn push_spelled(
         return waiting.extend_from_slice(b"nothex\n");
     }
     push_canonical(alloc, waiting, room)
-}
-
-impl Answers {
-    /// No answers.
-    pub fn new(alloc: Global) -> Answers
-        ensures { result ≡ [] }
-    {
-        Answers {
-            waiting: Vec::new(alloc),
-            message: Vec::new(alloc),
-        }
-    }
-
-    /// Adds the answer to a line, and its LF.
-    pub fn push(&mut self, alloc: Global, line: &[u8]) -> Result<(), AllocError>
-        ensures { OnOk result (AddsAnswer line.now self.old self.new) }
-    {
-        self.message.resize(line.len() / 2, 0)?;
-        push_spelled(alloc, &mut self.waiting, line, self.message.as_mut_slice())
-    }
-
-    /// Writes all the answers, so that none waits.
-    pub fn write_all<W: Write>(&mut self, writer: &mut W) -> Result<(), RunError>
-        ensures none { OnOk result (self.new ≡ []) }
-        ensures ok { OnOk result (Appends (W.contents writer.old) (W.contents writer.new) self.old) }
-        ensures err { IfErr result (λ e. FailedWrite e (W.contents writer.old) (W.contents writer.new) self.old) }
-    {
-        write_out(writer, self.waiting.as_slice())?;
-        self.waiting.clear();
-        Ok(())
-    }
-
-    /// Writes the answers if enough of them wait.
-    pub fn write_full<W: Write>(&mut self, writer: &mut W) -> Result<(), RunError>
-        ensures ok { OnOk result (Sends (W.contents writer.old) (W.contents writer.new) self.old self.new) }
-        ensures err { IfErr result (λ e. FailedWrite e (W.contents writer.old) (W.contents writer.new) self.old) }
-    {
-        if self.waiting.len() < ENOUGH {
-            return Ok(());
-        }
-        self.write_all(writer)
-    }
 }

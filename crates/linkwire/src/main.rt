@@ -2,14 +2,10 @@
 #![tactic(auto)]
 
 mod answers;
-mod digits;
-mod error;
 mod laws;
-mod lines;
 mod run;
 #[cfg(test)]
 mod tests;
-mod write;
 
 use run::run;
 use std::process::ExitCode;

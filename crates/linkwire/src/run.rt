@@ -1,68 +1,11 @@
-ghost use Rattle.std.specs.Prelude.{◌≡◌, ◌<◌, IfOk, IfErr, OnOk, length, []};
+ghost use Rattle.std.specs.Prelude.{IfErr, OnOk};
 ghost use Rattle.linkwire.specs.Lines.{RanToEnd, Stopped};
-ghost use Rattle.linkwire.specs.Steps.{NoLf, Finished, FinishedSome, ToldEnd};
 
-use crate::answers::Answers;
-use crate::error::RunError;
-use crate::lines::{answer_piece, end_line};
-use std::alloc::{AllocError, Global};
+use crate::answers::Canonical;
+use line_filter::error::RunError;
+use line_filter::run as filter;
+use std::alloc::Global;
 use std::io::{Read, Write};
-
-/// How many bytes a read may give.
-const CHUNK: usize = 65536;
-
-/// Answers the last line, which no LF ends, if there is one.
-fn finish<W: Write>(
-    alloc: Global,
-    held: &mut Vec<u8>,
-    answers: &mut Answers,
-    writer: &mut W,
-) -> Result<(), RunError>
-    requires held { NoLf held.old.items }
-    requires none { answers.old ≡ [] }
-    ensures ok { OnOk result (Finished (W.contents writer.old) (W.contents writer.new) held.old.items) }
-    ensures err { IfErr result (λ e. FinishedSome e (W.contents writer.old) (W.contents writer.new) held.old.items) }
-{
-    if held.is_empty() {
-        return Ok(());
-    }
-    end_line(alloc, held, &[], answers)?;
-    answers.write_all(writer)
-}
-
-/// So many zeros.
-fn zeros(alloc: Global, count: usize) -> Result<Vec<u8>, AllocError>
-    ensures { IfOk result (λ zeros. length zeros.items ≡ count) }
-{
-    vec![in alloc; 0u8; count]
-}
-
-/// Answers each line that the reader gives, read into the chunk, and returns whether the reader came to its end within
-/// 2^64 - 1 reads.
-fn answer_all<R: Read, W: Write>(
-    alloc: Global,
-    reader: &mut R,
-    writer: &mut W,
-    chunk: &mut [u8],
-) -> Result<bool, RunError>
-    requires { 0 < length chunk.old }
-    ensures ok { IfOk result (λ ended. ToldEnd ended (R.remaining reader.old) (R.remaining reader.new) (W.contents writer.old) (W.contents writer.new)) }
-    ensures err { IfErr result (λ e. Stopped e (R.remaining reader.old) (R.remaining reader.new) (W.contents writer.old) (W.contents writer.new)) }
-{
-    let mut held = Vec::new(alloc);
-    let mut answers = Answers::new(alloc);
-    for reads in 0..u64::MAX {
-        let Ok(n) = reader.read(chunk) else {
-            return Err(RunError::Read);
-        };
-        if n == 0 {
-            finish(alloc, &mut held, &mut answers, writer)?;
-            return Ok(true);
-        }
-        answer_piece(alloc, &mut held, &chunk[..n], &mut answers, writer)?;
-    }
-    Ok(false)
-}
 
 /// Answers each line that the reader gives, up to its end.
 ///
@@ -75,10 +18,5 @@ pub fn run<R: Read, W: Write>(alloc: Global, reader: &mut R, writer: &mut W) -> 
     ensures ok { OnOk result (RanToEnd (R.remaining reader.old) (R.remaining reader.new) (W.contents writer.old) (W.contents writer.new)) }
     ensures err { IfErr result (λ e. Stopped e (R.remaining reader.old) (R.remaining reader.new) (W.contents writer.old) (W.contents writer.new)) }
 {
-    let mut chunk = zeros(alloc, CHUNK)?;
-    if answer_all(alloc, reader, writer, chunk.as_mut_slice())? {
-        Ok(())
-    } else {
-        Err(RunError::Read)
-    }
+    filter::run(alloc, Canonical::new(alloc), reader, writer)
 }

@@ -1,6 +1,6 @@
 use super::lines::{ANSWERS, STORED, STORED_ANSWERS, TEXT};
 use super::pieces::{NEVER, answers_to, run_in_pieces};
-use crate::error::RunError;
+use line_filter::error::RunError;
 use memchr::memrchr;
 use nla_wire::exact::same;
 use std::alloc::Global;

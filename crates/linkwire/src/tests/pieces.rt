@@ -1,8 +1,9 @@
 ghost use Rattle.std.specs.Prelude.{IfOk};
-ghost use Rattle.linkwire.specs.Lines.{AreAnswers, lines_of};
+ghost use Rattle.line_filter.specs.Lines.{lines_of};
+ghost use Rattle.linkwire.specs.Lines.{AreAnswers};
 
-use crate::error::RunError;
 use crate::run::run;
+use line_filter::error::RunError;
 use std::alloc::Global;
 use std::io::{self, Read, Write};
 

@@ -1,4 +1,4 @@
-use Rattle.linkwire.proofs.OneAnswer.{one_answer}
+use Rattle.linkwire.specs.OneAnswer.{one_answer}
 use Rattle.linkwire.proofs.laws.law_one_answer.Goals as goal
 
 pub returns : goal.returns

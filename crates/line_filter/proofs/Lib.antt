@@ -1,0 +1,5 @@
+mod Text
+mod Known
+mod Joined
+mod Walk
+mod Spelling

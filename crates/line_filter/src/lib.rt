@@ -1,0 +1,9 @@
+//! Filters of lines: each line of a reader is answered by one line, whatever the answers are.
+#![tactic(auto)]
+
+pub mod answers;
+pub mod digits;
+pub mod error;
+mod lines;
+pub mod run;
+mod write;

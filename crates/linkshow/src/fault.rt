@@ -1,0 +1,107 @@
+//! What is said of bytes that are no message.
+
+ghost use Rattle.std.specs.Prelude.{◌≡◌, ◌≤◌, length};
+ghost use Rattle.linkshow.specs.Lines.{cause_text};
+
+use crate::member::show_object;
+use link_msg::header::HEADER_SIZE;
+use link_msg::{Cause, DecodeError, LinkMessage, NlasIterator};
+use nla_wire::fields::u32_at;
+use shown::Page;
+use std::alloc::{AllocError, Global};
+
+/// The name of a cause.
+pub fn cause_name(cause: &Cause) -> &'static str
+    ensures { result.now ≡ cause_text cause.now }
+{
+    match cause {
+        Cause::TooShort { .. } => "too-short",
+        Cause::FrameShort { .. } => "frame-short",
+        Cause::FrameOver { .. } => "frame-over",
+        Cause::FrameUnder { .. } => "frame-under",
+        Cause::EmptyList => "empty-list",
+        Cause::WrongLength { .. } => "wrong-length",
+        Cause::NotUtf8 => "not-utf8",
+        Cause::InvalidState => "invalid-state",
+        Cause::OutOfMemory => "out-of-memory",
+    }
+}
+
+/// Adds two numbers.
+fn show_two(
+    page: &mut Page,
+    first: &str,
+    one: usize,
+    second: &str,
+    other: usize,
+) -> Result<(), AllocError> {
+    page.number(first, one as u64)?;
+    page.number(second, other as u64)
+}
+
+/// Adds the numbers of a cause.
+fn show_cause(page: &mut Page, cause: &Cause) -> Result<(), AllocError> {
+    match cause {
+        Cause::TooShort { got, need } => show_two(page, "got", *got, "need", *need),
+        Cause::FrameShort { left } => page.number("left", *left as u64),
+        Cause::FrameOver { length, left } => show_two(
+            page,
+            "length",
+            *length as usize,
+            "left",
+            *left,
+        ),
+        Cause::FrameUnder { length } => page.number("length", (*length).into()),
+        Cause::WrongLength { got, want } => show_two(page, "got", *got, "want", *want),
+        _ => Ok(()),
+    }
+}
+
+/// What is said behind a cause's name.
+pub fn fault_page(alloc: Global, bytes: &[u8], error: &DecodeError) -> Result<Page, AllocError> {
+    let mut page = Page::new(alloc)?;
+    page.string("at", error.place)?;
+    show_cause(&mut page, &error.cause)?;
+    if let Some(at) = LinkMessage::fault_at(bytes) {
+        page.number("offset", at as u64)?;
+        show_rest(alloc, &mut page, bytes, at)?;
+    }
+    Ok(page)
+}
+
+/// Adds what can be read of bytes with a fault at a place: family and index, and the attributes in front of the
+/// outermost one that has the fault.
+fn show_rest(alloc: Global, page: &mut Page, bytes: &[u8], at: usize) -> Result<(), AllocError> {
+    if bytes.len() < HEADER_SIZE {
+        return Ok(());
+    }
+    page.number("ifi-family", bytes[0].into())?;
+    page.number("ifi-index", u32_at(bytes, 4).into())?;
+    match LinkMessage::parse(alloc, &bytes[..front_of(bytes, at)]) {
+        Ok(message) => show_object(page, "before", message.attributes.as_slice()),
+        Err(error) => match error.cause {
+            Cause::OutOfMemory => Err(AllocError),
+            _ => Ok(()),
+        },
+    }
+}
+
+/// Where the outermost attribute begins that has the fault at a place.
+fn front_of(bytes: &[u8], at: usize) -> usize
+    requires { 16 ≤ length bytes.now }
+    ensures { result ≤ length bytes.now }
+{
+    let mut start = HEADER_SIZE;
+    for item in NlasIterator::new(&bytes[HEADER_SIZE..]) {
+        let Ok(frame) = item else {
+            return start.min(bytes.len());
+        };
+        let padded = (frame.length() as usize + 3) / 4 * 4;
+        let next = start.saturating_add(padded);
+        if next > at {
+            return start.min(bytes.len());
+        }
+        start = next;
+    }
+    start.min(bytes.len())
+}

@@ -1,0 +1,187 @@
+//! Virtual functions and ports.
+
+use crate::member::{Member, frame_of, show_listed, show_object};
+use crate::names::VF_LINK_STATES;
+use link_msg::{
+    LinkVfInfo, LinkVfPort, VfInfo, VfInfoGuid, VfInfoLinkState, VfInfoMac, VfInfoRate, VfInfoVlan,
+    VfPort, VfStats, VfVlan, VfVlanInfo, VlanProtocol,
+};
+use shown::{Nest, Page};
+use std::alloc::AllocError;
+
+/// Adds the list of virtual functions.
+pub fn show_functions(
+    page: &mut Page,
+    name: &str,
+    entries: &[LinkVfInfo],
+) -> Result<(), AllocError> {
+    page.begin(name, Nest::Object)?;
+    page.begin("info", Nest::List)?;
+    for entry in entries {
+        show_object(page, "", entry.0.as_slice())?;
+    }
+    page.end()?;
+    page.end()
+}
+
+/// Adds the list of ports.
+pub fn show_ports(page: &mut Page, name: &str, entries: &[LinkVfPort]) -> Result<(), AllocError> {
+    page.begin(name, Nest::Object)?;
+    page.begin("port", Nest::List)?;
+    for entry in entries {
+        show_object(page, "", entry.0.as_slice())?;
+    }
+    page.end()?;
+    page.end()
+}
+
+impl Member for VfPort {
+    fn kept(&self) -> Option<(u16, &[u8])> {
+        let VfPort::Other(nla) = self;
+        frame_of(nla)
+    }
+
+    fn show(&self, _page: &mut Page) -> Result<(), AllocError> {
+        Ok(())
+    }
+}
+
+impl Member for VfInfo {
+    fn kept(&self) -> Option<(u16, &[u8])> {
+        match self {
+            VfInfo::Other(nla) => frame_of(nla),
+            _ => None,
+        }
+    }
+
+    fn show(&self, page: &mut Page) -> Result<(), AllocError> {
+        match self {
+            VfInfo::Mac(mac) => show_mac(page, mac),
+            VfInfo::Vlan(vlan) => show_vlan(page, vlan),
+            VfInfo::TxRate(tx) => show_word(page, "tx-rate", tx.vf_id, "rate", tx.rate),
+            VfInfo::SpoofCheck(it) => show_setting(page, "spoofchk", it.vf_id, it.enabled),
+            VfInfo::LinkState(state) => show_link_state(page, state),
+            VfInfo::Rate(rate) => show_rate(page, rate),
+            VfInfo::RssQueryEn(it) => show_setting(page, "rss-query-en", it.vf_id, it.enabled),
+            VfInfo::Stats(items) => show_object(page, "stats", items.as_slice()),
+            VfInfo::Trust(it) => show_setting(page, "trust", it.vf_id, it.enabled),
+            VfInfo::IbNodeGuid(guid) => show_guid(page, "ib-node-guid", guid),
+            VfInfo::IbPortGuid(guid) => show_guid(page, "ib-port-guid", guid),
+            VfInfo::VlanList(items) => show_listed(page, "vlan-list", "info", items.as_slice()),
+            VfInfo::Broadcast(it) => page.hex("broadcast", &it.addr),
+            VfInfo::Other(_) => Ok(()),
+        }
+    }
+}
+
+/// Adds a record of a function and one number.
+fn show_word(
+    page: &mut Page,
+    name: &str,
+    function: u32,
+    field: &str,
+    value: u32,
+) -> Result<(), AllocError> {
+    page.begin(name, Nest::Object)?;
+    page.number("vf", function.into())?;
+    page.number(field, value.into())?;
+    page.end()
+}
+
+fn show_setting(
+    page: &mut Page,
+    name: &str,
+    function: u32,
+    is_enabled: bool,
+) -> Result<(), AllocError> {
+    show_word(page, name, function, "setting", is_enabled.into())
+}
+
+fn show_mac(page: &mut Page, mac: &VfInfoMac) -> Result<(), AllocError> {
+    page.begin("mac", Nest::Object)?;
+    page.number("vf", mac.vf_id.into())?;
+    page.hex("mac", &mac.mac)?;
+    page.end()
+}
+
+fn show_vlan(page: &mut Page, vlan: &VfInfoVlan) -> Result<(), AllocError> {
+    page.begin("vlan", Nest::Object)?;
+    page.number("vf", vlan.vf_id.into())?;
+    page.number("vlan", vlan.vlan_id.into())?;
+    page.number("qos", vlan.qos.into())?;
+    page.end()
+}
+
+fn show_link_state(page: &mut Page, state: &VfInfoLinkState) -> Result<(), AllocError> {
+    page.begin("link-state", Nest::Object)?;
+    page.number("vf", state.vf_id.into())?;
+    page.choice("link-state", u32::from(state.state).into(), &VF_LINK_STATES)?;
+    page.end()
+}
+
+fn show_rate(page: &mut Page, rate: &VfInfoRate) -> Result<(), AllocError> {
+    page.begin("rate", Nest::Object)?;
+    page.number("vf", rate.vf_id.into())?;
+    page.number("min-tx-rate", rate.min_tx_rate.into())?;
+    page.number("max-tx-rate", rate.max_tx_rate.into())?;
+    page.end()
+}
+
+fn show_guid(page: &mut Page, name: &str, guid: &VfInfoGuid) -> Result<(), AllocError> {
+    page.begin(name, Nest::Object)?;
+    page.number("vf", guid.vf_id.into())?;
+    page.number("guid", guid.guid)?;
+    page.end()
+}
+
+impl Member for VfVlan {
+    fn kept(&self) -> Option<(u16, &[u8])> {
+        match self {
+            VfVlan::Other(nla) => frame_of(nla),
+            _ => None,
+        }
+    }
+
+    fn show(&self, page: &mut Page) -> Result<(), AllocError> {
+        match self {
+            VfVlan::Info(info) => show_vlan_info(page, info),
+            VfVlan::Other(_) => Ok(()),
+        }
+    }
+}
+
+fn show_vlan_info(page: &mut Page, info: &VfVlanInfo) -> Result<(), AllocError> {
+    page.begin("info", Nest::Object)?;
+    page.number("vf", info.vf_id.into())?;
+    page.number("vlan", info.vlan_id.into())?;
+    page.number("qos", info.qos.into())?;
+    let protocol = match info.protocol {
+        VlanProtocol::Ieee8021Q => "8021q",
+        VlanProtocol::Ieee8021Ad => "8021ad",
+    };
+    page.string("vlan-proto", protocol)?;
+    page.end()
+}
+
+impl Member for VfStats {
+    fn kept(&self) -> Option<(u16, &[u8])> {
+        match self {
+            VfStats::Other(nla) => frame_of(nla),
+            _ => None,
+        }
+    }
+
+    fn show(&self, page: &mut Page) -> Result<(), AllocError> {
+        match self {
+            VfStats::RxPackets(n) => page.number("rx-packets", *n),
+            VfStats::TxPackets(n) => page.number("tx-packets", *n),
+            VfStats::RxBytes(n) => page.number("rx-bytes", *n),
+            VfStats::TxBytes(n) => page.number("tx-bytes", *n),
+            VfStats::Broadcast(n) => page.number("broadcast", *n),
+            VfStats::Multicast(n) => page.number("multicast", *n),
+            VfStats::RxDropped(n) => page.number("rx-dropped", *n),
+            VfStats::TxDropped(n) => page.number("tx-dropped", *n),
+            VfStats::Other(_) => Ok(()),
+        }
+    }
+}

@@ -1,6 +1,0 @@
-use Rattle.linkwire.proofs.Text.{take_rest}
-use Rattle.linkwire.proofs.Known.{Sends-write}
-use Rattle.linkwire.proofs.write.write_out.Goals as goal
-
-pub loop-rest-preserved : goal.loop-rest-preserved
-loop-rest-preserved g c = rw take_rest (Sends-write _ _ _ _ _ _ c.loop-rest.invariant c.in-Ok.ensures.bytes)

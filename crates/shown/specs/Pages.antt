@@ -1,0 +1,74 @@
+-- What a page is, and what it becomes.
+use Rattle.std.specs.Prelude.{◌≡◌, ℕ, ◌≤◌, List, [], ◌∷◌, ◌++◌, true, Some, cond, ◌==◌}
+use Rattle.std.specs.List.{fold, All}
+use Rattle.json.specs.Token.{Token, begin_object, end_object, begin_array, end_array, key, string, number, boolean, null, bad}
+use Rattle.json.specs.Print.{print, ends}
+use Rattle.json.specs.Written.{Written}
+use Rattle.shown.specs.Nesting.{Spot, due, object, after_value, after_token, after_tokens, IsValue, spot_of}
+use Rattle.shown.specs.declared.page.Nest.{Nest}
+use Rattle.shown.specs.declared.page.Nest.TheVariants.{Object, List as Items}
+
+-- each byte is printed on the line
+abbrev pub IsOneLine : List ℕ → Type 0
+IsOneLine text = All (λ x. 32 ≤ x) text
+
+-- a number's text stays on the line; texts and names do by their escapes
+abbrev pub IsPlain : Token → Type 0
+IsPlain (number s) = IsOneLine s
+IsPlain _ = Unit {0}
+
+-- what is open around, the innermost last
+abbrev pub spots_of : List Nest → List Spot
+spots_of outer = fold (λ spots nest. spot_of nest ∷ spots) [] outer
+
+-- the tokens of a page: an object, some of whose members are written
+pub record IsPage (ts : List Token) (inside : Nest) (outer : List Nest) : Type 0 where
+  pub first : (members : List Token) × (ts ≡ begin_object ∷ members)
+  pub nested : after_tokens (due ∷ []) ts ≡ Some (spot_of inside ∷ spots_of outer)
+  pub plain : All IsPlain ts
+
+-- the tokens with a name behind them, where one is due
+abbrev pub named : Nest → List ℕ → List Token → List Token
+named Object name ts = ts ++ key name ∷ []
+named Items name ts = ts
+
+-- a value was added, behind its name where one was due
+abbrev pub AddsValue : List ℕ → Token → List Token → List Token → Type 0
+AddsValue name t old new = (inside : Nest) × (new ≡ named inside name old ++ t ∷ [])
+
+-- the text of an object
+pub record IsWholeText (text : List ℕ) : Type 0 where
+  pub rest : List Token
+  pub printed : text ≡ print (begin_object ∷ rest)
+  pub nested : after_tokens (object ∷ []) rest ≡ Some []
+  pub plain : All IsPlain rest
+
+-- a token that is a value alone
+abbrev pub IsScalar : Token → Type 0
+IsScalar t = (spots : List Spot) → after_token spots t ≡ after_value spots
+
+-- the beginning of an object, and its first member
+pub record IsHead (head : Written) : Type 0 where
+  pub before : head.before ≡ []
+  pub name : List ℕ
+  pub value : Token
+  pub is : head.tokens ≡ begin_object ∷ key name ∷ value ∷ []
+  pub scalar : IsScalar value
+  pub ends : ends value ≡ true
+  pub plain : IsPlain value
+
+-- the text is an object that begins so, on one line
+pub record IsObject (head : List Token) (text : List ℕ) : Type 0 where
+  pub rest : List Token
+  pub printed : text ≡ print (head ++ rest)
+  pub value : IsValue (head ++ rest)
+  pub line : IsOneLine text
+
+-- the text of an object that begins so was added
+abbrev pub AddsObject : List Token → List ℕ → List ℕ → Type 0
+AddsObject head old new = (text : List ℕ) × IsObject head text × (new ≡ old ++ text)
+
+-- the rest of an object's text behind its bracket, where it follows a member: a quote begins the next one
+abbrev pub with_comma : List ℕ → List ℕ
+with_comma [] = []
+with_comma (x ∷ xs) = cond (x == 34) (44 ∷ x ∷ xs) (x ∷ xs)

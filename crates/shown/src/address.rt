@@ -1,0 +1,20 @@
+//! Hardware addresses.
+
+use std::alloc::{AllocError, Global};
+
+const DIGITS: [char; 16] = [
+    '0', '1', '2', '3', '4', '5', '6', '7', '8', '9', 'a', 'b', 'c', 'd', 'e', 'f',
+];
+
+/// Two digits for each byte, with colons between them.
+pub(crate) fn address_text(alloc: Global, bytes: &[u8]) -> Result<String, AllocError> {
+    let mut text = String::new(alloc);
+    for (i, byte) in bytes.iter().enumerate() {
+        if i > 0 {
+            text.push(':')?;
+        }
+        text.push(DIGITS[(*byte / 16) as usize])?;
+        text.push(DIGITS[(*byte % 16) as usize])?;
+    }
+    Ok(text)
+}

@@ -1,0 +1,297 @@
+//! An object that is written, member by member.
+
+ghost use Rattle.std.specs.Prelude.{◌≡◌, true, List, [], ◌∷◌, ◌++◌, decimal, OnOk, IfOk};
+ghost use Rattle.std.specs.Fmt.{signed_decimal};
+ghost use Rattle.json.specs.Token.{Token, begin_object, end_object, begin_array, end_array, key, string, number};
+ghost use Rattle.shown.specs.Nesting.{opening, closing};
+ghost use Rattle.shown.specs.Pages.{IsHead, IsWholeText, AddsObject, AddsValue, named, with_comma};
+
+use crate::address::address_text;
+use json::Writer;
+use std::alloc::{AllocError, Global};
+use std::marker::Model;
+use std::net::Ipv6Addr;
+
+/// What is open in a text.
+#[derive(Clone, Copy, Drop)]
+pub enum Nest {
+    Object,
+    List,
+}
+
+/// An object that is written, with the objects and lists that are open in it.
+///
+/// A value goes to the innermost of them. A name that is passed is written where that is an object. What failed once,
+/// for want of memory, fails from then on.
+#[derive(Drop)]
+pub struct Page {
+    alloc: Global,
+    writer: Writer,
+    outer: Vec<Nest>,
+    inside: Nest,
+    whole: bool,
+}
+
+impl Model for Page {
+    ghost use Rattle.std.specs.Prelude.{◌≡◌, true, List, []};
+    ghost use Rattle.json.specs.Token.{Token, tokens_code};
+    ghost use Rattle.shown.specs.Pages.{IsPage};
+
+    ghost Value = { List Token };
+
+    ghost coded = { tokens_code };
+
+    ghost view = { λ page. page.writer.tokens };
+
+    ghost invariant = { λ page. (page.writer.before ≡ [])
+        × (page.whole ≡ true → IsPage page.writer.tokens page.inside page.outer.items) };
+}
+
+/// Writes a name, where one is due.
+fn put_name(writer: &mut Writer, inside: Nest, name: &str) -> Result<(), AllocError>
+    ensures ok { OnOk result (writer.new.tokens ≡ named inside name.now writer.old.tokens) }
+    ensures before { writer.new.before ≡ writer.old.before }
+{
+    match inside {
+        Nest::Object => writer.key(name),
+        Nest::List => Ok(()),
+    }
+}
+
+/// Writes the beginning of an object or a list.
+fn put_begin(writer: &mut Writer, nest: Nest) -> Result<(), AllocError>
+    ensures ok { OnOk result (writer.new.tokens ≡ writer.old.tokens ++ opening nest ∷ []) }
+    ensures before { writer.new.before ≡ writer.old.before }
+{
+    match nest {
+        Nest::Object => writer.begin_object(),
+        Nest::List => writer.begin_array(),
+    }
+}
+
+/// Writes the end of an object or a list.
+fn put_end(writer: &mut Writer, nest: Nest) -> Result<(), AllocError>
+    ensures ok { OnOk result (writer.new.tokens ≡ writer.old.tokens ++ closing nest ∷ []) }
+    ensures before { writer.new.before ≡ writer.old.before }
+{
+    match nest {
+        Nest::Object => writer.end_object(),
+        Nest::List => writer.end_array(),
+    }
+}
+
+/// Adds what follows the bracket of an object's text, behind a comma if it has members.
+fn put_rest(out: &mut Vec<u8>, rest: &[u8]) -> Result<(), AllocError>
+    ensures { OnOk result (out.new.items ≡ out.old.items ++ with_comma rest.now) }
+{
+    if let [b'"', ..] = rest {
+        out.push(b',')?;
+    }
+    out.extend_from_slice(rest)
+}
+
+impl Page {
+    /// An object with no member.
+    pub fn new(alloc: Global) -> Result<Page, AllocError>
+        ensures { IfOk result (λ page. page ≡ begin_object ∷ []) }
+    {
+        let mut writer = Writer::new(Vec::new(alloc));
+        writer.begin_object()?;
+        Ok(Page {
+            alloc,
+            writer,
+            outer: Vec::new(alloc),
+            inside: Nest::Object,
+            whole: true,
+        })
+    }
+
+    /// Adds a text.
+    pub fn string(&mut self, name: &str, text: &str) -> Result<(), AllocError>
+        ensures { OnOk result (AddsValue name.now (string text.now) self.old self.new) }
+    {
+        if !self.whole {
+            return Err(AllocError);
+        }
+        self.whole = false;
+        put_name(&mut self.writer, self.inside, name)?;
+        self.writer.string(text)?;
+        self.whole = true;
+        Ok(())
+    }
+
+    /// Adds a number.
+    pub fn number(&mut self, name: &str, value: u64) -> Result<(), AllocError>
+        ensures { OnOk result (AddsValue name.now (number (decimal value)) self.old self.new) }
+    {
+        if !self.whole {
+            return Err(AllocError);
+        }
+        self.whole = false;
+        put_name(&mut self.writer, self.inside, name)?;
+        self.writer.u64(value)?;
+        self.whole = true;
+        Ok(())
+    }
+
+    /// Adds a number that may be below zero.
+    pub fn signed(&mut self, name: &str, value: i64) -> Result<(), AllocError>
+        ensures { OnOk result (AddsValue name.now (number (signed_decimal value)) self.old self.new) }
+    {
+        if !self.whole {
+            return Err(AllocError);
+        }
+        self.whole = false;
+        put_name(&mut self.writer, self.inside, name)?;
+        self.writer.i64(value)?;
+        self.whole = true;
+        Ok(())
+    }
+
+    /// Begins an object or a list, to which what is added goes from then on.
+    pub fn begin(&mut self, name: &str, nest: Nest) -> Result<(), AllocError>
+        ensures { OnOk result (AddsValue name.now (opening nest) self.old self.new) }
+    {
+        if !self.whole {
+            return Err(AllocError);
+        }
+        self.whole = false;
+        self.outer.push(self.inside)?;
+        put_name(&mut self.writer, self.inside, name)?;
+        put_begin(&mut self.writer, nest)?;
+        self.inside = nest;
+        self.whole = true;
+        Ok(())
+    }
+
+    /// Ends the innermost object or list that was begun; where none is open, nothing happens.
+    pub fn end(&mut self) -> Result<(), AllocError> {
+        if !self.whole {
+            return Err(AllocError);
+        }
+        let Some(around) = self.outer.pop() else {
+            return Ok(());
+        };
+        self.whole = false;
+        put_end(&mut self.writer, self.inside)?;
+        self.inside = around;
+        self.whole = true;
+        Ok(())
+    }
+
+    /// Adds bytes as hexadecimal digits.
+    pub fn hex(&mut self, name: &str, bytes: &[u8]) -> Result<(), AllocError> {
+        let text = hex::encode(self.alloc, bytes)?;
+        self.string(name, text.as_str())
+    }
+
+    /// Adds a hardware address.
+    pub fn address(&mut self, name: &str, bytes: &[u8]) -> Result<(), AllocError> {
+        let text = address_text(self.alloc, bytes)?;
+        self.string(name, text.as_str())
+    }
+
+    /// Adds an IPv6 address, as RFC 5952 writes it.
+    pub fn ipv6_address(&mut self, name: &str, address: &Ipv6Addr) -> Result<(), AllocError> {
+        let text = format!(in self.alloc; "{address}")?;
+        self.string(name, text.as_str())
+    }
+
+    /// Adds the name that a number has in a table, or the number where it has none there.
+    pub fn choice(&mut self, name: &str, value: u64, names: &[&str]) -> Result<(), AllocError> {
+        if value < names.len() as u64 {
+            let text = names[value as usize];
+            if !text.is_empty() {
+                return self.string(name, text);
+            }
+        }
+        self.number(name, value)
+    }
+
+    /// Adds a list of the names of the bits that are set, and behind them a number of those that have no name.
+    pub fn flags(
+        &mut self,
+        name: &str,
+        bits: u32,
+        names: &[(u32, &str)],
+    ) -> Result<(), AllocError> {
+        self.begin(name, Nest::List)?;
+        let mut others = bits;
+        for i in 0..names.len() {
+            let (bit, text) = names[i];
+            if others & bit != 0 {
+                self.string("", text)?;
+                others &= !bit;
+            }
+        }
+        if others != 0 {
+            self.number("", others.into())?;
+        }
+        self.end()
+    }
+
+    /// The text of the object, where all that was begun has been ended.
+    fn text(self) -> Result<Vec<u8>, AllocError>
+        ensures { IfOk result (λ text. IsWholeText text.items) }
+    {
+        let Page {
+            mut writer,
+            outer,
+            inside,
+            whole,
+            ..
+        } = self;
+        if !whole || !outer.is_empty() {
+            return Err(AllocError);
+        }
+        put_end(&mut writer, inside)?;
+        Ok(writer.into_inner())
+    }
+
+    /// Adds to `out` the text of an object whose first member is that of `head`, and the others those of this one.
+    fn add_behind(self, head: Writer, out: &mut Vec<u8>) -> Result<(), AllocError>
+        requires { IsHead head }
+        ensures { OnOk result (AddsObject head.tokens out.old.items out.new.items) }
+    {
+        let text = self.text()?;
+        // A text begins with its bracket, so it is never empty.
+        let Some((_, rest)) = text.as_slice().split_first() else {
+            return Err(AllocError);
+        };
+        let front = head.into_inner();
+        out.extend_from_slice(front.as_slice())?;
+        put_rest(out, rest)
+    }
+
+    /// Adds to `out` the text of this object with a text as a member in front.
+    pub fn add_behind_text(
+        self,
+        name: &str,
+        text: &str,
+        out: &mut Vec<u8>,
+    ) -> Result<(), AllocError>
+        ensures { OnOk result (AddsObject (begin_object ∷ key name.now ∷ string text.now ∷ []) out.old.items out.new.items) }
+    {
+        let mut head = Writer::new(Vec::new(self.alloc));
+        head.begin_object()?;
+        head.key(name)?;
+        head.string(text)?;
+        self.add_behind(head, out)
+    }
+
+    /// Adds to `out` the text of this object with a number as a member in front.
+    pub fn add_behind_number(
+        self,
+        name: &str,
+        value: u64,
+        out: &mut Vec<u8>,
+    ) -> Result<(), AllocError>
+        ensures { OnOk result (AddsObject (begin_object ∷ key name.now ∷ number (decimal value) ∷ []) out.old.items out.new.items) }
+    {
+        let mut head = Writer::new(Vec::new(self.alloc));
+        head.begin_object()?;
+        head.key(name)?;
+        head.u64(value)?;
+        self.add_behind(head, out)
+    }
+}

@@ -1,0 +1,307 @@
+#!/usr/bin/env python3
+"""The lines and answers of linkshow's stored run: each kind of attribute at each place, faults and duplicates.
+
+    python3 scripts/show_rows.py --write    writes crates/linkshow/stdin and stdout
+    python3 scripts/show_rows.py --check    compares them with what it would write
+
+The answers are made here from the values that the lines are made from, not by the program.
+"""
+
+import json
+import os
+import struct
+import sys
+
+TOP = os.path.dirname(os.path.dirname(os.path.abspath(__file__)))
+STATS = (
+    "rx-packets tx-packets rx-bytes tx-bytes rx-errors tx-errors rx-dropped tx-dropped multicast collisions "
+    "rx-length-errors rx-over-errors rx-crc-errors rx-frame-errors rx-fifo-errors rx-missed-errors tx-aborted-errors "
+    "tx-carrier-errors tx-fifo-errors tx-heartbeat-errors tx-window-errors rx-compressed tx-compressed rx-nohandler "
+    "rx-otherhost-dropped"
+).split()
+INET = (
+    "forwarding mc-forwarding proxy-arp accept-redirects secure-redirects send-redirects shared-media rp-filter "
+    "accept-source-route bootp-relay log-martians tag arpfilter medium-id noxfrm nopolicy force-igmp-version "
+    "arp-announce arp-ignore promote-secondaries arp-accept arp-notify accept-local src-vmark proxy-arp-pvlan "
+    "route-localnet igmpv2-unsolicited-report-interval igmpv3-unsolicited-report-interval ignore-routes-with-linkdown "
+    "drop-unicast-in-l2-multicast drop-gratuitous-arp bc-forwarding arp-evict-nocarrier reserved-34"
+).split()
+INET6 = (
+    "forwarding hoplimit mtu6 accept-ra accept-redirects autoconf dad-transmits rtr-solicits rtr-solicit-interval "
+    "rtr-solicit-delay use-tempaddr temp-valid-lft temp-prefered-lft regen-max-retry max-desync-factor max-addresses "
+    "force-mld-version accept-ra-defrtr accept-ra-pinfo accept-ra-rtr-pref rtr-probe-interval "
+    "accept-ra-rt-info-max-plen proxy-ndp optimistic-dad accept-source-route mc-forwarding disable-ipv6 accept-dad "
+    "force-tllao ndisc-notify mldv1-unsolicited-report-interval mldv2-unsolicited-report-interval suppress-frag-ndisc "
+    "accept-ra-from-local use-optimistic accept-ra-mtu stable-secret use-oif-addrs-only accept-ra-min-hop-limit "
+    "ignore-routes-with-linkdown drop-unicast-in-l2-multicast drop-unsolicited-na keep-addr-on-down "
+    "rtr-solicit-max-interval seg6-enabled seg6-require-hmac enhanced-dad addr-gen-mode disable-policy "
+    "accept-ra-rt-info-min-plen ndisc-tclass rpl-seg-enabled ra-defrtr-metric ioam6-enabled ioam6-id ioam6-id-wide "
+    "ndisc-evict-nocarrier accept-untracked-na accept-ra-min-lft force-forwarding"
+).split()
+INET6_STATS = (
+    "num inpkts inoctets indelivers outforwdatagrams outpkts outoctets inhdrerrors intoobigerrors innoroutes "
+    "inaddrerrors inunknownprotos intruncatedpkts indiscards outdiscards outnoroutes reasmtimeout reasmreqds reasmoks "
+    "reasmfails fragoks fragfails fragcreates inmcastpkts outmcastpkts inbcastpkts outbcastpkts inmcastoctets "
+    "outmcastoctets inbcastoctets outbcastoctets csumerrors noectpkts ect1-pkts ect0-pkts cepkts reasm-overlaps "
+    "outtransmits reserved-39"
+).split()
+ICMP6_STATS = "num inmsgs inerrors outmsgs outerrors csumerrors ratelimithost".split()
+FLAGS = (
+    "up broadcast debug loopback point-to-point no-trailers running no-arp promisc all-multi master slave multicast "
+    "portsel auto-media dynamic lower-up dormant echo"
+).split()
+U32S = {
+    4: "mtu", 5: "link", 10: "master", 13: "txqlen", 19: "net-ns-pid", 21: "num-vf", 27: "group", 30: "promiscuity",
+    31: "num-tx-queues", 32: "num-rx-queues", 35: "carrier-changes", 40: "gso-max-segs", 41: "gso-max-size",
+    47: "carrier-up-count", 48: "carrier-down-count", 50: "min-mtu", 51: "max-mtu", 58: "gro-max-size",
+    59: "tso-max-size", 60: "tso-max-segs", 61: "allmulti", 63: "gso-ipv4-max-size", 64: "gro-ipv4-max-size",
+}
+I32S = {28: "net-ns-fd", 37: "link-netnsid", 45: "new-netnsid", 46: "target-netnsid", 49: "new-ifindex"}
+TEXTS = {
+    3: "ifname", 6: "qdisc", 20: "ifalias", 38: "phys-port-name", 56: "parent-dev-name", 57: "parent-dev-bus-name",
+}
+ADDRESSES = {1: "address", 2: "broadcast", 54: "perm-address"}
+CHOICES = {
+    16: ("operstate", "B", "unknown notpresent down lowerlayerdown testing dormant up".split()),
+    17: ("linkmode", "B", "default dormant testing".split()),
+    44: ("event", "I", "none reboot features bonding-failover notify-peers igmp-resend bonding-options".split()),
+}
+ROWS = []
+
+
+def attr(kind, *payload):
+    """Returns the bytes of an attribute, with its padding."""
+    bytes_ = b"".join(payload)
+    return struct.pack("=HH", 4 + len(bytes_), kind) + bytes_ + bytes(-len(bytes_) % 4)
+
+
+def u32(*numbers):
+    return struct.pack(f"={len(numbers)}I", *(it % 2**32 for it in numbers))
+
+
+def u64(*numbers):
+    return struct.pack(f"={len(numbers)}Q", *numbers)
+
+
+def header(family, kind=0, index=0, flags=0, change=0):
+    return struct.pack("=BBHIII", family, 0, kind, index, flags, change)
+
+
+def said(family, members, kind=0, index=0, flags=(), change=0):
+    front = {"ifi-family": family, "ifi-type": kind, "ifi-index": index, "ifi-flags": list(flags), "ifi-change": change}
+    return {**front, **members}
+
+
+def row(bytes_, answer):
+    ROWS.append((bytes_.hex(), answer))
+
+
+def message(attributes, members, family=0):
+    """Adds a message of these attributes, which has these members."""
+    row(header(family) + attributes, said(family, members))
+
+
+def fault(attributes, name, at, offset, before, **numbers):
+    """Adds a message with a fault."""
+    answer = {"fault": name, "at": at, **numbers, "offset": offset, "ifi-family": 0, "ifi-index": 0, "before": before}
+    row(header(0) + attributes, answer)
+
+
+def kept(number, payload="", flags=()):
+    return {"number": number, "flags": list(flags), "payload": payload}
+
+
+def counted(names, start=1):
+    return {name: start + i for i, name in enumerate(names)}
+
+
+def flat():
+    for kind, name in U32S.items():
+        message(attr(kind, u32(4294967295 - kind)), {name: 4294967295 - kind})
+    for kind, name in I32S.items():
+        message(attr(kind, u32(-kind)), {name: -kind})
+    for kind, name in TEXTS.items():
+        message(attr(kind, f'a"\\\n\x01é{kind}'.encode() + b"\0"), {name: f'a"\\\n\x01é{kind}'})
+    message(attr(3, b""), {"ifname": ""})
+    for kind, name in ADDRESSES.items():
+        message(attr(kind, bytes([0, 0x1A, 255, 9, 16, kind])), {name: f"00:1a:ff:09:10:{kind:02x}"})
+    message(attr(1), {"address": ""})
+    message(attr(33, b"\1"), {"carrier": 1})
+    message(attr(39, b"\2"), {"proto-down": 2})
+    message(attr(67, b"\0"), {"netns-immutable": 0})
+    message(attr(67, b"\7"), {"netns-immutable": 1})
+    message(attr(68, b"\0\1"), {"headroom": 256})
+    message(attr(69, b"\1\0"), {"tailroom": 1})
+    for kind, (name, width, names) in CHOICES.items():
+        for number, text in enumerate(names):
+            message(attr(kind, struct.pack("=" + width, number)), {name: text})
+        message(attr(kind, struct.pack("=" + width, len(names))), {name: len(names)})
+    message(attr(34, b"\x12\x34\x56"), {"phys-port-id": "123456"})
+    message(attr(36, bytes(range(32))), {"phys-switch-id": bytes(range(32)).hex()})
+    message(attr(29, u32(0xFF)), {"ext-mask": "vf brvlan brvlan-compressed skip-stats mrp cfm-config cfm-status mst".split()})
+    message(attr(29, u32(0x80000009)), {"ext-mask": ["vf", "skip-stats", 0x80000000]})
+
+
+def records():
+    message(attr(7, u32(*range(1, 25))), {"stats": counted(STATS[:24])})
+    message(attr(23, u64(*range(2**64 - 25, 2**64))), {"stats64": counted(STATS, 2**64 - 25)})
+    message(attr(23, u64(1, 2)), {"stats64": dict.fromkeys(STATS, 0) | {"rx-packets": 1, "tx-packets": 2}})
+    map_ = {"mem-start": 1, "mem-end": 2**64 - 1, "base-addr": 3, "irq": 4, "dma": 5, "port": 6}
+    message(attr(14, u64(1, 2**64 - 1, 3), struct.pack("=HBBI", 4, 5, 6, 7)), {"map": map_})
+
+
+def lists():
+    message(attr(18, attr(1, b"vlan\0")), {"linkinfo": {"kind": "vlan"}})
+    data = attr(18, attr(2 | 0x8000, attr(1, b"\5\0")), attr(1, b"vlan\0"))
+    message(data, {"linkinfo": {"kind": "vlan", "other": [kept(2, "0600010005000000", ["nested"])]}})
+    message(attr(52 | 0x8000, attr(53, b"a\0"), attr(53, b"b\0")), {"prop-list": {"alt-ifname": ["a", "b"]}})
+    message(attr(52, attr(9), attr(53, b"a\0")), {"prop-list": {"alt-ifname": ["a"], "other": [kept(9)]}})
+    message(attr(52), {"prop-list": {}})
+    port = attr(1, b"pci\0") + attr(2, b"0\0") + attr(3, u32(7)) + attr(4, b"\1")
+    names = {"bus-name": "pci", "dev-name": "0", "port-index": 7, "other": [kept(4, "01")]}
+    message(attr(62 | 0x8000, port), {"devlink-port": names})
+    message(attr(65 | 0x8000, attr(1, u32(9)), attr(2)), {"dpll-pin": {"id": 9, "other": [kept(2)]}})
+    reasons = attr(1, u32(3)) + attr(2, u32(1)) + attr(3)
+    message(attr(55, reasons), {"proto-down-reason": {"mask": 3, "value": 1, "other": [kept(3)]}})
+    for number, name in enumerate("none drv skb hw multi".split()):
+        message(attr(43, attr(2, bytes([number]))), {"xdp": {"attached": name}})
+    message(attr(43, attr(2, b"\5")), {"xdp": {"attached": 5}})
+    xdp = "flags prog-id drv-prog-id skb-prog-id hw-prog-id expected-fd".split()
+    members = attr(1, u32(-1)) + b"".join(attr(3 + i, u32(i + 1)) for i in range(6)) + attr(9)
+    message(attr(43, members), {"xdp": {"fd": -1, **counted(xdp), "other": [kept(9)]}})
+    for command, name in ((0x8C07, "assocreqie"), (0x8C08, "assocrespie")):
+        message(attr(11, struct.pack("=HHHH", 10, command, 2, 0), b"\xab\xcd"), {"wireless": {name: "abcd"}})
+    message(attr(11, struct.pack("=HHHH", 8, 0x8B15, 0, 0)), {"wireless": {"payload": "0800158b00000000"}})
+    message(attr(24, attr(1, attr(5, b"\1"))), {"vf-ports": {"port": [{"other": [kept(5, "01")]}]}})
+    message(attr(25, attr(5, b"\1")), {"port-self": {"other": [kept(5, "01")]}})
+
+
+def functions():
+    records = [
+        (1, u32(1) + bytes(range(32)), {"mac": {"vf": 1, "mac": bytes(range(32)).hex()}}),
+        (2, u32(1, 100, 3), {"vlan": {"vf": 1, "vlan": 100, "qos": 3}}),
+        (3, u32(1, 1000), {"tx-rate": {"vf": 1, "rate": 1000}}),
+        (4, u32(1, 1), {"spoofchk": {"vf": 1, "setting": 1}}),
+        (6, u32(1, 10, 20), {"rate": {"vf": 1, "min-tx-rate": 10, "max-tx-rate": 20}}),
+        (7, u32(1, 0), {"rss-query-en": {"vf": 1, "setting": 0}}),
+        (9, u32(1, 2**32 - 1), {"trust": {"vf": 1, "setting": 0}}),
+        (10, u32(1, 0) + u64(2**64 - 1), {"ib-node-guid": {"vf": 1, "guid": 2**64 - 1}}),
+        (11, u32(1, 0) + u64(5), {"ib-port-guid": {"vf": 1, "guid": 5}}),
+        (13, bytes(range(32)), {"broadcast": bytes(range(32)).hex()}),
+        (14, b"\1", {"other": [kept(14, "01")]}),
+    ]
+    for number, state in enumerate(("auto", "enable", "disable", 3)):
+        records.append((5, u32(1, number), {"link-state": {"vf": 1, "link-state": state}}))
+    counts = "rx-packets tx-packets rx-bytes tx-bytes broadcast multicast".split()
+    stats = b"".join(attr(i, u64(1 + i)) for i in range(6)) + attr(7, u64(7)) + attr(8, u64(8)) + attr(6)
+    known = {**counted(counts), "rx-dropped": 7, "tx-dropped": 8, "other": [kept(6)]}
+    records.append((8, stats, {"stats": known}))
+    tags = [(0x8100, "8021q"), (0x88A8, "8021ad")]
+    vlans = b"".join(attr(1, u32(1, 2, 3), struct.pack(">HH", number, 0)) for number, _ in tags) + attr(2)
+    infos = [{"vf": 1, "vlan": 2, "qos": 3, "vlan-proto": name} for _, name in tags]
+    records.append((12, vlans, {"vlan-list": {"info": infos, "other": [kept(2)]}}))
+    for kind, payload, members in records:
+        message(attr(22, attr(1, attr(kind, payload))), {"vfinfo-list": {"info": [members]}})
+    entries = [attr(1, attr(kind, payload)) for kind, payload, _ in records]
+    message(attr(22, *entries, attr(2)), {"vfinfo-list": {"info": [members for _, _, members in records]}})
+    message(attr(22), {"vfinfo-list": {"info": []}})
+
+
+def families():
+    message(attr(26, attr(2, attr(1, u32(*range(1, 35))))), {"af-spec": {"inet": {"conf": counted(INET)}}})
+    message(attr(26, attr(2, attr(2))), {"af-spec": {"inet": {"other": [kept(2)]}}})
+    settings = [
+        (attr(1, u32(0x800000F1)), {"flags": ["ra-otherconf", "ra-managed", "ra-rcvd", "rs-sent", "ready", 1]}),
+        (attr(2, u32(*range(-60, 0))), {"conf": counted(INET6, -60)}),
+        (attr(3, u64(*range(1, 40))), {"stats": counted(INET6_STATS)}),
+        (attr(4), {"other": [kept(4)]}),
+        (attr(5, u32(1, 2, 3, -4)), {"cacheinfo": {"max-reasm-len": 1, "tstamp": 2, "reachable-time": 3, "retrans-time": -4}}),
+        (attr(6, u64(*range(1, 8))), {"icmp6-stats": counted(ICMP6_STATS)}),
+        (attr(7, bytes(15) + b"\1"), {"token": "::1"}),
+        (attr(7, bytes.fromhex("20010db8000000000001000000000001")), {"token": "2001:db8::1:0:0:1"}),
+        (attr(9, u32(1280)), {"ra-mtu": 1280}),
+    ]
+    for number, mode in enumerate(("eui64", "none", "stable-privacy", "random", 4)):
+        settings.append((attr(8, bytes([number])), {"addr-gen-mode": mode}))
+    for bytes_, members in settings:
+        message(attr(26, attr(10, bytes_)), {"af-spec": {"inet6": members}})
+    message(attr(26, attr(45, attr(1, u32(3)), attr(3))), {"af-spec": {"mctp": {"net": 3, "other": [kept(3)]}}})
+    bindings = [0, *"smbus pcie-vdm usb kcs serial i3c mmbi pcc ucie".split(), 10]
+    for number, binding in [*enumerate(bindings), (255, "vendor")]:
+        message(attr(26, attr(45, attr(2, bytes([number])))), {"af-spec": {"mctp": {"phys-binding": binding}}})
+    message(attr(26, attr(7)), {"af-spec": {"other": [kept(7)]}})
+    message(attr(26), {"af-spec": {}})
+    message(attr(26, attr(1, b"\1")), {"af-spec": {"other": [kept(1, "01")]}}, family=7)
+    message(attr(26, b"\1"), {"other": [kept(26, "01")]}, family=2)
+    message(attr(12, attr(1, b"\1")), {"protinfo": {"other": [kept(1, "01")]}}, family=7)
+    message(attr(12, attr(5)), {"protinfo": {"other": [kept(5)]}}, family=10)
+    message(attr(12 | 0x8000, b"\1"), {"other": [kept(12, "01", ["nested"])]}, family=2)
+
+
+def others():
+    for kind in (0, 8, 9, 15, 42, 53, 66, 70, 127, 128, 131, 1000, 0x3FFF):
+        message(attr(kind, b"\0"), {"other": [kept(kind, "00")]})
+    message(attr(68, u32(1)), {"other": [kept(68, "01000000")]})
+    message(attr(66 | 0xC000), {"other": [kept(66, "", ["nested", "net-byteorder"])]})
+    message(attr(3 | 0xC000, b"lo"), {"ifname": "lo"})
+    twice = attr(4, u32(1)) + attr(3, b"a\0") + attr(4, u32(2)) + attr(66) + attr(4, u32(3)) + attr(66)
+    message(twice, {"ifname": "a", "mtu": 3, "repeated": [{"mtu": 1}, {"mtu": 2}], "other": [kept(66), kept(66)]})
+    inner = attr(18, attr(1, b"a\0"), attr(1, b"b\0"))
+    message(inner, {"linkinfo": {"kind": "b", "repeated": [{"kind": "a"}]}})
+    message(attr(52, attr(53, b"a\0")) * 2, {"prop-list": {"alt-ifname": ["a"]}, "repeated": [{"prop-list": {"alt-ifname": ["a"]}}]})
+    far = attr(131, b"\1") + attr(3, b"lo\0")
+    message(far, {"ifname": "lo", "other": [kept(131, "01")]})
+
+
+def headers():
+    row(header(0), said(0, {}))
+    row(header(255, 65535, 2**32 - 1, 2**32 - 1, 2**32 - 1),
+        said(255, {}, 65535, 2**32 - 1, [*FLAGS, 2**32 - 2**19], 2**32 - 1))
+    for i, name in enumerate(FLAGS):
+        row(header(0, flags=1 << i), said(0, {}, flags=[name]))
+    row(b"\7\x09" + header(0)[2:], said(7, {}))
+
+
+def faults():
+    for line in ("0", "zz", "00 ", "0x00", "é", "\r"):
+        ROWS.append((line, {"fault": "not-hex"}))
+    row(b"", {"fault": "too-short", "at": "record", "got": 0, "need": 16, "offset": 0})
+    row(header(1)[:15], {"fault": "too-short", "at": "record", "got": 15, "need": 16, "offset": 0})
+    mtu = attr(4, u32(1500))
+    fault(mtu + b"\1", "frame-short", "frame", 24, {"mtu": 1500}, left=1)
+    fault(mtu + b"\xff\xff\1\0", "frame-over", "frame", 24, {"mtu": 1500}, length=65535, left=4)
+    fault(mtu + b"\3\0\1\0", "frame-under", "frame", 24, {"mtu": 1500}, length=3)
+    fault(b"\0\0\0\0", "frame-under", "frame", 16, {}, length=0)
+    fault(attr(18), "empty-list", "list", 16, {})
+    fault(attr(4, b"\1\2") + mtu, "wrong-length", "number", 16, {}, got=2, want=4)
+    fault(attr(3, b"\xff\0") + mtu, "not-utf8", "text", 16, {})
+    fault(attr(14, bytes(31)), "too-short", "record", 16, {}, got=31, need=32)
+    deep = attr(22, attr(1, attr(1, bytes(36)), b"\x09\0\1\0\0\0\0\0"))
+    fault(mtu + deep, "frame-over", "frame", 24 + 8 + 40, {"mtu": 1500}, length=9, left=8)
+    row(header(7, index=3) + attr(12), {"fault": "empty-list", "at": "list", "offset": 16, "ifi-family": 7,
+                                       "ifi-index": 3, "before": {}})
+
+
+def main():
+    for group in (headers, flat, records, lists, functions, families, others, faults):
+        group()
+    loopback = header(0, 772, 1, 0x10049) + attr(3, b"lo\0") + attr(4, u32(65536))
+    flags = ["up", "loopback", "running", "lower-up"]
+    row(loopback, said(0, {"ifname": "lo", "mtu": 65536}, 772, 1, flags))
+    files = {
+        "stdin": "".join(line + "\n" for line, _ in ROWS)[:-1],
+        "stdout": "".join(json.dumps(it, separators=(",", ":"), ensure_ascii=False) + "\n" for _, it in ROWS),
+    }
+    for name, text in files.items():
+        path = f"{TOP}/crates/linkshow/{name}"
+        if sys.argv[1:] == ["--write"]:
+            with open(path, "w", encoding="utf-8", newline="") as it:
+                it.write(text)
+        else:
+            with open(path, encoding="utf-8", newline="") as it:
+                if it.read() != text:
+                    sys.exit(f"show_rows: {path} is not what scripts/show_rows.py --write makes")
+    print(f"show_rows: {len(ROWS)} lines and answers")
+
+
+main()

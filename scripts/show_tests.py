@@ -1,0 +1,133 @@
+#!/usr/bin/env python3
+"""Compares what a program says of the kernel's links with what the kernel's client ynl says.
+
+    python3 scripts/show_tests.py PROGRAM TREE WHERE
+
+TREE has the kernel's tools/net/ynl and Documentation/netlink/specs/rt_link.yaml. Every name that both have must have
+the same value. A name of an enum or flag stands for its number, flags are a set, and a signed number stands for its
+unsigned one. What differs between two dumps of ynl, before and after, moves and is left out. Two records of the file
+differ from the kernel's: the counters of IPv6 lack their first, so that each stands under the name before its own; and
+what follows addr-gen-mode in the settings of IPv6 is read from the wrong place, so that it is left out. Lists that the
+file has as bytes are left out too, and a list of one stands for its member, as ynl prints it.
+"""
+
+import ipaddress
+import json
+import socket
+import struct
+import subprocess
+import sys
+
+FEWEST = 60
+NAMES = {
+    "operstate": "unknown notpresent down lowerlayerdown testing dormant up".split(),
+    "linkmode": "default dormant testing".split(),
+    "addr-gen-mode": "eui64 none stable-privacy random".split(),
+    "attached": "none drv skb hw multi".split(),
+    "event": "none reboot features bonding-failover notify-peers igmp-resend bonding-options".split(),
+}
+BYTES_IN_FILE = "devlink-port proto-down-reason wireless protinfo".split()
+FLAGS = {"ra-otherconf": 0x80, "ra-managed": 0x40, "ra-rcvd": 0x20, "rs-sent": 0x10, "ready": 0x80000000}
+BEHIND_WRONG_WIDTH = (
+    "disable-policy accept-ra-rt-info-min-plen ndisc-tclass rpl-seg-enabled ra-defrtr-metric ioam6-enabled ioam6-id "
+    "ioam6-id-wide ndisc-evict-nocarrier accept-untracked-na"
+).split()
+
+
+def kernel_messages():
+    """Returns the messages of the kernel's links, behind their netlink headers."""
+    with socket.socket(socket.AF_NETLINK, socket.SOCK_RAW, 0) as it:
+        it.send(struct.pack("=IHHII", 32, 18, 0x301, 1, 0) + bytes(16))
+        found = []
+        while True:
+            data, at = it.recv(1 << 20), 0
+            while at < len(data):
+                length, kind = struct.unpack_from("=IH", data, at)
+                if kind == 3:
+                    return found
+                if kind == 2:
+                    sys.exit("show: the kernel refuses a dump")
+                found.append(data[at + 16 : at + length])
+                at += (length + 3) // 4 * 4
+
+
+def shown(program):
+    lines = "".join(message.hex() + "\n" for message in kernel_messages())
+    ran = subprocess.run([program], input=lines, capture_output=True, text=True, check=True)
+    return [json.loads(line) for line in ran.stdout.splitlines()]
+
+
+def by_ynl(tree):
+    command = [sys.executable, f"{tree}/tools/net/ynl/cli.py", "--no-schema", "--output-json", "--process-unknown"]
+    command += ["--spec", f"{tree}/Documentation/netlink/specs/rt_link.yaml", "--dump", "getlink"]
+    ran = subprocess.run(command, capture_output=True, text=True)
+    if ran.returncode != 0:
+        print(f"show: skipped: ynl fails: {ran.stderr.strip().splitlines()[-1:]}")
+        sys.exit(0)
+    return json.loads(ran.stdout)
+
+
+def number_of(name, value):
+    """Returns what a value stands for."""
+    if isinstance(value, str) and value in NAMES.get(name, ()):
+        return NAMES[name].index(value)
+    if name == "token" and ":" in value:
+        return ipaddress.IPv6Address(value).packed.hex()
+    if name == "flags" and isinstance(value, list):
+        return sum(FLAGS.get(it, it) for it in value)
+    if isinstance(value, list) and all(isinstance(it, (str, int)) for it in value):
+        return sorted(map(str, value))
+    if isinstance(value, int) and value < 0:
+        return value % (1 << 32)
+    return value
+
+
+def shifted(record):
+    """Returns counters under the names that the file has for them."""
+    names = list(record)
+    return {names[i + 1]: record[names[i]] for i in range(len(names) - 1)}
+
+
+class Comparison:
+    def __init__(self):
+        self.count, self.moved, self.faults = 0, 0, []
+
+    def values(self, path, ours, before, after):
+        name = path[-1]
+        if name in BYTES_IN_FILE and isinstance(before, str):
+            return
+        if isinstance(ours, list) and len(ours) == 1 and not isinstance(before, (list, int)):
+            ours = ours[0]
+        if isinstance(ours, dict) and isinstance(before, dict) and isinstance(after, dict):
+            if path[-2:] in (["inet6", "stats"], ["inet6", "icmp6-stats"]):
+                ours = shifted(ours)
+            for key in ours:
+                if key in before and key in after and not (path[-2:] == ["inet6", "conf"] and key in BEHIND_WRONG_WIDTH):
+                    self.values(path + [key], ours[key], before[key], after[key])
+        elif before != after:
+            self.moved += 1
+        elif number_of(name, ours) == number_of(name, before):
+            self.count += 1
+        else:
+            self.faults.append(f"{'.'.join(path)}: {ours!r}, and ynl has {before!r}")
+
+
+def main():
+    program, tree, where = sys.argv[1:]
+    before = {it["ifname"]: it for it in by_ynl(tree)}
+    ours = {it["ifname"]: it for it in shown(program)}
+    after = {it["ifname"]: it for it in by_ynl(tree)}
+    failed = False
+    for name in sorted(ours.keys() & before.keys() & after.keys()):
+        it = Comparison()
+        it.values([name], ours[name], before[name], after[name])
+        print(f"show: {where}: {name}: {it.count} values as ynl has them, {it.moved} that move")
+        for fault in it.faults:
+            print(f"show: {fault}", file=sys.stderr)
+        if it.faults or it.count < FEWEST:
+            failed = True
+    if failed or not ours:
+        sys.exit(f"show: {where}: what linkshow and ynl say differs, or is too little")
+
+
+main()
