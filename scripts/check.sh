@@ -14,7 +14,7 @@ scripts/c_tests.sh --over-gate
 scripts/rust_tests.sh
 scripts/parallel_test.sh
 scripts/test_progress.sh
-python3 scripts/readme.py out/liblinkwire.a crates/linkwire/out
+python3 scripts/readme.py out/liblinkwire.a crates/linkwire/out crates/linkshow/out
 scripts/test_install.sh
 scripts/refused_memory.sh
 scripts/refused_parse.sh

@@ -1,6 +1,6 @@
 """Holds README.md to what it shows: each program after '<!-- runs: c -->' is compiled and run, each command after
 '<!-- runs: shell -->' too, and what they print is compared with what stands there; what follows '<!-- stands in: FILE -->'
-has to stand in that file. Takes the library, and the folder of the program; the last line is 'readme passed'."""
+has to stand in that file. Takes the library, and the folders of the programs; the last line is 'readme passed'."""
 
 import os
 import re
@@ -36,7 +36,7 @@ def compare(found, wanted):
         sys.exit(f"readme: a program prints\n{found}and not\n{wanted}")
 
 
-def main(library, programs):
+def main(library, *programs):
     with open(f"{TOP}/README.md", encoding="utf-8") as it:
         readme = it.read()
     in_c, in_shell, parts = (form.findall(readme) for form in (IN_C, IN_SHELL, PART))
@@ -44,7 +44,7 @@ def main(library, programs):
         sys.exit("readme: a program or its output is missing")
     for source, wanted in in_c:
         compare(compiled(source, library), wanted)
-    path = {**os.environ, "PATH": os.pathsep.join([os.path.abspath(programs), os.environ["PATH"]])}
+    path = {**os.environ, "PATH": os.pathsep.join([*map(os.path.abspath, programs), os.environ["PATH"]])}
     for command, wanted in in_shell:
         compare(output(["sh", "-c", command], env=path), wanted)
     for file, part in parts:
