@@ -9,6 +9,7 @@ rt ci | tee "$log"
 scripts/program.sh
 scripts/program.sh linkshow
 python3 scripts/show_rows.py --check
+python3 scripts/show_damaged.py crates/linkshow/out/linkshow crates/linkwire/out/linkwire
 scripts/show_tests.sh
 scripts/c_tests.sh --over-gate
 scripts/rust_tests.sh

@@ -1,6 +1,6 @@
 #!/usr/bin/env bash
 # Proves the crates below a crate, lowest first, and then does its last step: progress.sh CRATE run|lib LOG. Standard
-# error shows which crate is at work, '3 of 9 link_recs .. 41 s'; what rt says goes to the log.
+# error shows which crate is at work, '3 of 10 link_recs .. 41 s'; what rt says goes to the log.
 set -euo pipefail
 top=$(cd "$(dirname "$0")/.." && pwd)
 crate=$1 verb=$2 log=$(realpath "$3")

@@ -4,7 +4,7 @@
     python3 scripts/show_tests.py PROGRAM TREE WHERE
 
 TREE has the kernel's tools/net/ynl and Documentation/netlink/specs/rt_link.yaml. Every name that both have must have
-the same value. A name of an enum or flag stands for its number, flags are a set, and a signed number stands for its
+the same value, and ynl has no name that the program lacks, but for the data of a link's kind. A name of an enum or flag stands for its number, flags are a set, and a signed number stands for its
 unsigned one. What differs between two dumps of ynl, before and after, moves and is left out. Two records of the file
 differ from the kernel's: the counters of IPv6 lack their first, so that each stands under the name before its own; and
 what follows addr-gen-mode in the settings of IPv6 is read from the wrong place, so that it is left out. Lists that the
@@ -26,6 +26,7 @@ NAMES = {
     "attached": "none drv skb hw multi".split(),
     "event": "none reboot features bonding-failover notify-peers igmp-resend bonding-options".split(),
 }
+UNDECODED = "data slave-kind slave-data xstats".split()
 BYTES_IN_FILE = "devlink-port proto-down-reason wireless protinfo".split()
 FLAGS = {"ra-otherconf": 0x80, "ra-managed": 0x40, "ra-rcvd": 0x20, "rs-sent": 0x10, "ready": 0x80000000}
 BEHIND_WRONG_WIDTH = (
@@ -101,6 +102,9 @@ class Comparison:
         if isinstance(ours, dict) and isinstance(before, dict) and isinstance(after, dict):
             if path[-2:] in (["inet6", "stats"], ["inet6", "icmp6-stats"]):
                 ours = shifted(ours)
+            for key in before:
+                if key not in ours and key not in UNDECODED and not key.startswith("UnknownAttr"):
+                    self.faults.append(f"{'.'.join(path + [key])}: only ynl has it")
             for key in ours:
                 if key in before and key in after and not (path[-2:] == ["inet6", "conf"] and key in BEHIND_WRONG_WIDTH):
                     self.values(path + [key], ours[key], before[key], after[key])

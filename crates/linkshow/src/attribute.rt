@@ -6,7 +6,7 @@ use crate::names::{ATTRIBUTES, EVENTS, EXT_MASK, LINK_FLAGS, LINK_MODES, OPERSTA
 use crate::nests::show_wireless;
 use crate::vf::{show_functions, show_ports};
 use link_msg::numbers::IFLA_AF_SPEC;
-use link_msg::{LinkAttribute, LinkExtentMask, LinkPhysId, Nla};
+use link_msg::{LinkAttribute, LinkExtentMask, LinkPhysId, NLA_TYPE_MASK, Nla};
 use nla_wire::fields::{u16_at, u32_at};
 use shown::Page;
 use std::alloc::AllocError;
@@ -48,7 +48,7 @@ impl Member for LinkAttribute {
 
 /// The name of an attribute, by its number.
 fn name_of(attribute: &LinkAttribute) -> &'static str {
-    let number = (attribute.kind() & 0x3fff) as usize;
+    let number = (attribute.kind() & NLA_TYPE_MASK) as usize;
     if number < ATTRIBUTES.len() {
         ATTRIBUTES[number]
     } else {
@@ -56,6 +56,7 @@ fn name_of(attribute: &LinkAttribute) -> &'static str {
     }
 }
 
+/// A number, of any size.
 fn number_of(attribute: &LinkAttribute) -> Option<u64> {
     if let Some(number) = word_of(attribute) {
         return Some(number.into());
@@ -130,7 +131,7 @@ fn address_of(attribute: &LinkAttribute) -> Option<&[u8]> {
     }
 }
 
-/// Adds an id of a record, an enum or flags, or a list.
+/// Adds a record, a value of an enum, flags, an id, or a list.
 fn show_value(page: &mut Page, name: &str, attribute: &LinkAttribute) -> Result<(), AllocError> {
     match attribute {
         LinkAttribute::Stats(stats) => show_stats(page, name, stats),

@@ -57,6 +57,7 @@ fn show_u64s(page: &mut Page, names: &[&str], bytes: &[u8]) -> Result<(), AllocE
     Ok(())
 }
 
+/// Adds the counters of four bytes.
 pub fn show_stats(page: &mut Page, name: &str, stats: &Stats) -> Result<(), AllocError> {
     let mut bytes = [0; STATS_SIZE];
     stats.emit(&mut bytes);
@@ -65,6 +66,7 @@ pub fn show_stats(page: &mut Page, name: &str, stats: &Stats) -> Result<(), Allo
     page.end()
 }
 
+/// Adds the counters of eight bytes.
 pub fn show_stats64(page: &mut Page, name: &str, stats: &Stats64) -> Result<(), AllocError> {
     let mut bytes = [0; STATS64_SIZE];
     stats.emit(&mut bytes);
@@ -73,6 +75,7 @@ pub fn show_stats64(page: &mut Page, name: &str, stats: &Stats64) -> Result<(), 
     page.end()
 }
 
+/// Adds the settings of IPv4.
 pub fn show_inet_conf(page: &mut Page, name: &str, conf: &InetDevConf) -> Result<(), AllocError> {
     let mut bytes = [0; INET_DEV_CONF_SIZE];
     conf.emit(&mut bytes);
@@ -81,6 +84,7 @@ pub fn show_inet_conf(page: &mut Page, name: &str, conf: &InetDevConf) -> Result
     page.end()
 }
 
+/// Adds the settings of IPv6.
 pub fn show_inet6_conf(page: &mut Page, name: &str, conf: &Inet6DevConf) -> Result<(), AllocError> {
     let mut bytes = [0; INET6_DEV_CONF_SIZE];
     conf.emit(&mut bytes);
@@ -89,6 +93,7 @@ pub fn show_inet6_conf(page: &mut Page, name: &str, conf: &Inet6DevConf) -> Resu
     page.end()
 }
 
+/// Adds the counters of IPv6.
 pub fn show_inet6_stats(page: &mut Page, name: &str, stats: &Inet6Stats) -> Result<(), AllocError> {
     let mut bytes = [0; INET6_STATS_SIZE];
     stats.emit(&mut bytes);
@@ -97,6 +102,7 @@ pub fn show_inet6_stats(page: &mut Page, name: &str, stats: &Inet6Stats) -> Resu
     page.end()
 }
 
+/// Adds the counters of ICMPv6.
 pub fn show_icmp6_stats(page: &mut Page, name: &str, stats: &Icmp6Stats) -> Result<(), AllocError> {
     let mut bytes = [0; ICMP6_STATS_SIZE];
     stats.emit(&mut bytes);
@@ -105,6 +111,7 @@ pub fn show_icmp6_stats(page: &mut Page, name: &str, stats: &Icmp6Stats) -> Resu
     page.end()
 }
 
+/// Adds the times of the neighbour cache.
 pub fn show_cache_info(
     page: &mut Page,
     name: &str,
@@ -117,6 +124,7 @@ pub fn show_cache_info(
     page.end()
 }
 
+/// Adds the addresses of a device.
 pub fn show_map(page: &mut Page, name: &str, map: &Map) -> Result<(), AllocError> {
     page.begin(name, Nest::Object)?;
     page.number("mem-start", map.memory_start)?;
