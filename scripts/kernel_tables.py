@@ -735,6 +735,17 @@ def compare_constants(ours, kernel, report):
             report.faults.append("%s: not found in %s" % (name, file))
 
 
+def compare_names(ours, kernel, report):
+    """The names that faults are told by: each is that of its constant, and each line of a table has one."""
+    for crate in CRATES:
+        rows = re.findall(r'\b([A-Z]\w+) => "(\w+)",', ours.code(crate + "/src/*.rt"))
+        for constant, name in rows:
+            report.compare("names of faults", constant, ("constant", constant, name))
+        for kind, (home, lines) in ours.tables.items():
+            missing = [it.constant for it in lines if home == crate and (it.constant, it.constant) not in rows]
+            report.faults += ["%s: %s has no name for faults" % (kind, it) for it in missing]
+
+
 def beside(ours, kernel, crate, name):
     """The numbers that the headers have in the place of a constant that they do not have."""
     for kind, (home, lines) in ours.tables.items():
@@ -840,7 +851,7 @@ def shortened(places):
 
 def compare(ours, kernel):
     report = Report()
-    for step in (compare_constants, compare_tables, compare_records, compare_values):
+    for step in (compare_constants, compare_names, compare_tables, compare_records, compare_values):
         step(ours, kernel, report)
     show(report, ours)
     for fault in report.faults:

@@ -9,7 +9,7 @@ case $name in
 linkwire) nothex=nothex refused=refused every=1 ;;
 linkshow)
     nothex='{"fault":"not-hex"}' every=9
-    refused='{"fault":"too-short","at":"record","got":0,"need":16,"offset":0}'
+    refused='{"fault":"too-short","at":"header","got":0,"need":16,"offset":0}'
     ;;
 esac
 folder=$(mktemp -d)

@@ -12,7 +12,8 @@ TOP = os.path.dirname(os.path.dirname(os.path.abspath(__file__)))
 WARNINGS = ["-std=c11", "-Wall", "-Wextra", "-Wpedantic", "-Wconversion", "-Wshadow", "-Werror"]
 MARK = re.compile(r"^<!-- (?:runs: (?:c|shell)|stands in: .*) -->$", re.M)
 IN_C = re.compile(r"^<!-- runs: c -->\n```c\n(.*?)^```\n\n```\n\$ .*?\n(.*?)^```$", re.M | re.S)
-IN_SHELL = re.compile(r"^<!-- runs: shell -->\n```console\n\$ (.*?)\n(.*?)^```$", re.M | re.S)
+IN_SHELL = re.compile(r"^<!-- runs: shell -->\n```console\n(.*?)^```$", re.M | re.S)
+COMMAND = re.compile(r"^\$ (.*)\n((?:(?!\$ ).*\n)*)", re.M)
 PART = re.compile(r"^<!-- stands in: (.*?) -->\n```rust\n(.*?)^```$", re.M | re.S)
 
 
@@ -45,7 +46,7 @@ def main(library, *programs):
     for source, wanted in in_c:
         compare(compiled(source, library), wanted)
     path = {**os.environ, "PATH": os.pathsep.join([*map(os.path.abspath, programs), os.environ["PATH"]])}
-    for command, wanted in in_shell:
+    for command, wanted in (it for shown in in_shell for it in COMMAND.findall(shown)):
         compare(output(["sh", "-c", command], env=path), wanted)
     for file, part in parts:
         with open(f"{TOP}/{file}", encoding="utf-8") as it:

@@ -66,6 +66,20 @@ CHOICES = {
     17: ("linkmode", "B", "default dormant testing".split()),
     44: ("event", "I", "none reboot features bonding-failover notify-peers igmp-resend bonding-options".split()),
 }
+NAMES = {
+    3: "IFLA_IFNAME", 4: "IFLA_MTU", 5: "IFLA_LINK", 6: "IFLA_QDISC", 10: "IFLA_MASTER", 13: "IFLA_TXQLEN",
+    16: "IFLA_OPERSTATE", 17: "IFLA_LINKMODE", 18: "IFLA_LINKINFO", 19: "IFLA_NET_NS_PID", 20: "IFLA_IFALIAS",
+    21: "IFLA_NUM_VF", 22: "IFLA_VFINFO_LIST", 24: "IFLA_VF_PORTS", 25: "IFLA_PORT_SELF", 26: "IFLA_AF_SPEC",
+    27: "IFLA_GROUP", 28: "IFLA_NET_NS_FD", 30: "IFLA_PROMISCUITY", 31: "IFLA_NUM_TX_QUEUES",
+    32: "IFLA_NUM_RX_QUEUES", 33: "IFLA_CARRIER", 35: "IFLA_CARRIER_CHANGES", 37: "IFLA_LINK_NETNSID",
+    38: "IFLA_PHYS_PORT_NAME", 39: "IFLA_PROTO_DOWN", 40: "IFLA_GSO_MAX_SEGS", 41: "IFLA_GSO_MAX_SIZE",
+    43: "IFLA_XDP", 45: "IFLA_NEW_NETNSID", 46: "IFLA_IF_NETNSID", 47: "IFLA_CARRIER_UP_COUNT",
+    48: "IFLA_CARRIER_DOWN_COUNT", 49: "IFLA_NEW_IFINDEX", 50: "IFLA_MIN_MTU", 51: "IFLA_MAX_MTU",
+    52: "IFLA_PROP_LIST", 55: "IFLA_PROTO_DOWN_REASON", 56: "IFLA_PARENT_DEV_NAME", 57: "IFLA_PARENT_DEV_BUS_NAME",
+    58: "IFLA_GRO_MAX_SIZE", 59: "IFLA_TSO_MAX_SIZE", 60: "IFLA_TSO_MAX_SEGS", 61: "IFLA_ALLMULTI",
+    62: "IFLA_DEVLINK_PORT", 63: "IFLA_GSO_IPV4_MAX_SIZE", 64: "IFLA_GRO_IPV4_MAX_SIZE", 65: "IFLA_DPLL_PIN",
+    67: "IFLA_NETNS_IMMUTABLE",
+}
 ROWS = []
 
 
@@ -265,25 +279,94 @@ def headers():
 def faults():
     for line in ("0", "zz", "00 ", "0x00", "é", "\r"):
         ROWS.append((line, {"fault": "not-hex"}))
-    row(b"", {"fault": "too-short", "at": "record", "got": 0, "need": 16, "offset": 0})
-    row(header(1)[:15], {"fault": "too-short", "at": "record", "got": 15, "need": 16, "offset": 0})
+    row(b"", {"fault": "too-short", "at": "header", "got": 0, "need": 16, "offset": 0})
+    row(header(1)[:15], {"fault": "too-short", "at": "header", "got": 15, "need": 16, "offset": 0})
     mtu = attr(4, u32(1500))
-    fault(mtu + b"\1", "frame-short", "frame", 24, {"mtu": 1500}, left=1)
-    fault(mtu + b"\xff\xff\1\0", "frame-over", "frame", 24, {"mtu": 1500}, length=65535, left=4)
-    fault(mtu + b"\3\0\1\0", "frame-under", "frame", 24, {"mtu": 1500}, length=3)
-    fault(b"\0\0\0\0", "frame-under", "frame", 16, {}, length=0)
-    fault(attr(18), "empty-list", "list", 16, {})
-    fault(attr(4, b"\1\2") + mtu, "wrong-length", "number", 16, {}, got=2, want=4)
-    fault(attr(3, b"\xff\0") + mtu, "not-utf8", "text", 16, {})
-    fault(attr(14, bytes(31)), "too-short", "record", 16, {}, got=31, need=32)
+    fault(mtu + b"\1", "frame-short", "message", 24, {"mtu": 1500}, left=1)
+    fault(mtu + b"\xff\xff\1\0", "frame-over", "message", 24, {"mtu": 1500}, length=65535, left=4)
+    fault(mtu + b"\3\0\1\0", "frame-under", "message", 24, {"mtu": 1500}, length=3)
+    fault(b"\0\0\0\0", "frame-under", "message", 16, {}, length=0)
     deep = attr(22, attr(1, attr(1, bytes(36)), b"\x09\0\1\0\0\0\0\0"))
-    fault(mtu + deep, "frame-over", "frame", 24 + 8 + 40, {"mtu": 1500}, length=9, left=8)
-    row(header(7, index=3) + attr(12), {"fault": "empty-list", "at": "list", "offset": 16, "ifi-family": 7,
+    fault(mtu + deep, "frame-over", "IFLA_VF_INFO", 24 + 8 + 40, {"mtu": 1500}, length=9, left=8)
+    row(header(7, index=3) + attr(12), {"fault": "empty-list", "at": "IFLA_PROTINFO", "offset": 16, "ifi-family": 7,
                                        "ifi-index": 3, "before": {}})
 
 
+def places():
+    """Adds a fault of each kind of payload at each place."""
+    short, under = {"got": 2, "want": 4}, {"length": 1}
+    two, bad, frame = b"\1\2", b"\xff\0", b"\1\0\1\0"
+    numbers = {**U32S, **I32S}
+    for kind in numbers:
+        fault(attr(kind, two) + attr(4, u32(1)), "wrong-length", NAMES[kind], 16, {}, **short)
+    for kind in TEXTS:
+        fault(attr(kind, bad), "not-utf8", NAMES[kind], 16, {})
+    for kind in (16, 17, 33, 39, 67):
+        fault(attr(kind, two), "wrong-length", NAMES[kind], 16, {}, got=2, want=1)
+    fault(attr(44, two), "wrong-length", "IFLA_EVENT", 16, {}, **short)
+    fault(attr(29, two), "wrong-length", "IFLA_EXT_MASK", 16, {}, **short)
+    fault(attr(14, bytes(31)), "too-short", "IFLA_MAP", 16, {}, got=31, need=32)
+    fault(attr(11, bytes(7)), "too-short", "IFLA_WIRELESS", 16, {}, got=7, need=8)
+    for kind in (18, 25, 43):
+        fault(attr(kind), "empty-list", NAMES[kind], 16, {})
+    for kind in (18, 22, 24, 25, 26, 43, 52, 55, 62, 65):
+        fault(attr(kind, frame), "frame-under", NAMES[kind], 20, {}, **under)
+        fault(attr(kind, two), "frame-short", NAMES[kind], 20, {}, left=2)
+    fault(attr(18, attr(1, bad)), "not-utf8", "IFLA_INFO_KIND", 20, {})
+    fault(attr(52, attr(53, b"a"), attr(53, bad)), "not-utf8", "IFLA_ALT_IFNAME", 28, {})
+    for kind, name in enumerate("FD ATTACHED FLAGS PROG_ID DRV_PROG_ID SKB_PROG_ID HW_PROG_ID EXPECTED_FD".split(), 1):
+        want = 1 if kind == 2 else 4
+        fault(attr(43, attr(kind, two)), "wrong-length", "IFLA_XDP_" + name, 20, {}, got=2, want=want)
+    fault(attr(55, attr(1, two)), "wrong-length", "IFLA_PROTO_DOWN_REASON_MASK", 20, {}, **short)
+    fault(attr(55, attr(2, two)), "wrong-length", "IFLA_PROTO_DOWN_REASON_VALUE", 20, {}, **short)
+    fault(attr(62, attr(1, bad)), "not-utf8", "DEVLINK_ATTR_BUS_NAME", 20, {})
+    fault(attr(62, attr(2, bad)), "not-utf8", "DEVLINK_ATTR_DEV_NAME", 20, {})
+    fault(attr(62, attr(3, two)), "wrong-length", "DEVLINK_ATTR_PORT_INDEX", 20, {}, **short)
+    fault(attr(65, attr(1, two)), "wrong-length", "DPLL_A_PIN_ID", 20, {}, **short)
+    function_faults(two, frame)
+    family_faults(two, frame)
+
+
+def function_faults(two, frame):
+    """Adds a fault at each place of a virtual function, and of a port."""
+    sizes = {"VLAN": (2, 12), "TX_RATE": (3, 8), "SPOOFCHK": (4, 8), "LINK_STATE": (5, 8), "RATE": (6, 12),
+             "RSS_QUERY_EN": (7, 8), "TRUST": (9, 8), "IB_NODE_GUID": (10, 16), "IB_PORT_GUID": (11, 16),
+             "MAC": (1, 36), "BROADCAST": (13, 32)}
+    for name, (kind, need) in sizes.items():
+        fault(attr(22, attr(1, attr(kind, two))), "too-short", "IFLA_VF_" + name, 24, {}, got=2, need=need)
+    fault(attr(22, attr(1)), "empty-list", "IFLA_VF_INFO", 20, {})
+    fault(attr(22, attr(1, attr(8, frame))), "frame-under", "IFLA_VF_STATS", 28, {}, length=1)
+    fault(attr(22, attr(1, attr(12, frame))), "frame-under", "IFLA_VF_VLAN_LIST", 28, {}, length=1)
+    fault(attr(22, attr(1, attr(12, attr(1, two)))), "too-short", "IFLA_VF_VLAN_INFO", 28, {}, got=2, need=16)
+    stats = {0: "RX_PACKETS", 1: "TX_PACKETS", 2: "RX_BYTES", 3: "TX_BYTES", 4: "BROADCAST", 5: "MULTICAST",
+             7: "RX_DROPPED", 8: "TX_DROPPED"}
+    for kind, name in stats.items():
+        place = "IFLA_VF_STATS_" + name
+        fault(attr(22, attr(1, attr(8, attr(kind, two)))), "wrong-length", place, 28, {}, got=2, want=8)
+    fault(attr(24, attr(1)), "empty-list", "IFLA_VF_PORT", 20, {})
+    fault(attr(24, attr(1, frame)), "frame-under", "IFLA_VF_PORT", 24, {}, length=1)
+
+
+def family_faults(two, frame):
+    """Adds a fault at each place that the family decides."""
+    for kind, name in ((2, "AF_INET"), (10, "AF_INET6"), (45, "AF_MCTP")):
+        fault(attr(26, attr(kind)), "empty-list", name, 20, {})
+        fault(attr(26, attr(kind, frame)), "frame-under", name, 24, {}, length=1)
+    numbers = {"FLAGS": (1, 4), "ADDR_GEN_MODE": (8, 1), "RA_MTU": (9, 4), "TOKEN": (7, 16)}
+    for name, (kind, want) in numbers.items():
+        fault(attr(26, attr(10, attr(kind, two))), "wrong-length", "IFLA_INET6_" + name, 24, {}, got=2, want=want)
+    fault(attr(26, attr(10, attr(5, two))), "too-short", "IFLA_INET6_CACHEINFO", 24, {}, got=2, need=16)
+    fault(attr(26, attr(45, attr(1, two))), "wrong-length", "IFLA_MCTP_NET", 24, {}, got=2, want=4)
+    fault(attr(26, attr(45, attr(2, two))), "wrong-length", "IFLA_MCTP_PHYS_BINDING", 24, {}, got=2, want=1)
+    # Under the family AF_BRIDGE the members have no name here, and none can be refused but as frames.
+    for kind, name in ((12, "IFLA_PROTINFO"), (26, "IFLA_AF_SPEC")):
+        answer = {"fault": "frame-under", "at": name, "length": 1, "offset": 20, "ifi-family": 7, "ifi-index": 0,
+                  "before": {}}
+        row(header(7) + attr(kind, frame), answer)
+
+
 def main():
-    for group in (headers, flat, records, lists, functions, families, others, faults):
+    for group in (headers, flat, records, lists, functions, families, others, faults, places):
         group()
     loopback = header(0, 772, 1, 0x10049) + attr(3, b"lo\0") + attr(4, u32(65536))
     flags = ["up", "loopback", "running", "lower-up"]

@@ -37,6 +37,10 @@ impl NlaRead for AfSpecBridge {
 
     ghost grammar = { af_spec_bridge_place.grammar };
 
+    fn kind_name(_kind: u16) -> &'static str {
+        ""
+    }
+
     #[tactic(auto, unfolding(crate::specs::Tables::af_spec_bridge_place))]
     fn parse_frame(alloc: Global, buffer: &NlaBuffer<'_>) -> Result<AfSpecBridge, DecodeError> {
         DefaultNla::parse(alloc, buffer).map(AfSpecBridge::Other)

@@ -69,6 +69,13 @@ impl NlaRead for AfSpecInet {
 
     ghost grammar = { af_spec_inet_place.grammar };
 
+    fn kind_name(kind: u16) -> &'static str {
+        match kind {
+            IFLA_INET_CONF => "IFLA_INET_CONF",
+            _ => "",
+        }
+    }
+
     #[tactic(auto, unfolding(crate::specs::Tables::af_spec_inet_place))]
     fn parse_frame(alloc: Global, buffer: &NlaBuffer<'_>) -> Result<AfSpecInet, DecodeError> {
         match buffer.kind() {

@@ -121,6 +121,20 @@ impl NlaRead for AfSpecInet6 {
 
     ghost grammar = { af_spec_inet6_place.grammar };
 
+    fn kind_name(kind: u16) -> &'static str {
+        match kind {
+            IFLA_INET6_FLAGS => "IFLA_INET6_FLAGS",
+            IFLA_INET6_CONF => "IFLA_INET6_CONF",
+            IFLA_INET6_STATS => "IFLA_INET6_STATS",
+            IFLA_INET6_CACHEINFO => "IFLA_INET6_CACHEINFO",
+            IFLA_INET6_ICMP6STATS => "IFLA_INET6_ICMP6STATS",
+            IFLA_INET6_TOKEN => "IFLA_INET6_TOKEN",
+            IFLA_INET6_ADDR_GEN_MODE => "IFLA_INET6_ADDR_GEN_MODE",
+            IFLA_INET6_RA_MTU => "IFLA_INET6_RA_MTU",
+            _ => "",
+        }
+    }
+
     #[tactic(auto, unfolding(crate::specs::Tables::af_spec_inet6_place))]
     fn parse_frame(alloc: Global, buffer: &NlaBuffer<'_>) -> Result<AfSpecInet6, DecodeError> {
         let payload = buffer.value();

@@ -62,6 +62,14 @@ impl NlaRead for AfSpecMctp {
 
     ghost grammar = { af_spec_mctp_place.grammar };
 
+    fn kind_name(kind: u16) -> &'static str {
+        match kind {
+            IFLA_MCTP_NET => "IFLA_MCTP_NET",
+            IFLA_MCTP_PHYS_BINDING => "IFLA_MCTP_PHYS_BINDING",
+            _ => "",
+        }
+    }
+
     #[tactic(auto, unfolding(crate::specs::Tables::af_spec_mctp_place))]
     fn parse_frame(alloc: Global, buffer: &NlaBuffer<'_>) -> Result<AfSpecMctp, DecodeError> {
         match buffer.kind() {

@@ -37,6 +37,10 @@ impl NlaRead for LinkProtoInfoBridge {
 
     ghost grammar = { link_proto_info_bridge_place.grammar };
 
+    fn kind_name(_kind: u16) -> &'static str {
+        ""
+    }
+
     #[tactic(auto, unfolding(crate::specs::Tables::link_proto_info_bridge_place))]
     fn parse_frame(
         alloc: Global,

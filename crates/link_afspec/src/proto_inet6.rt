@@ -37,6 +37,10 @@ impl NlaRead for LinkProtoInfoInet6 {
 
     ghost grammar = { link_proto_info_inet6_place.grammar };
 
+    fn kind_name(_kind: u16) -> &'static str {
+        ""
+    }
+
     #[tactic(auto, unfolding(crate::specs::Tables::link_proto_info_inet6_place))]
     fn parse_frame(
         alloc: Global,

@@ -93,6 +93,15 @@ impl NlaRead for AfSpecUnspec {
 
     ghost grammar = { af_spec_unspec_place.grammar };
 
+    fn kind_name(kind: u16) -> &'static str {
+        match kind {
+            AF_INET => "AF_INET",
+            AF_INET6 => "AF_INET6",
+            AF_MCTP => "AF_MCTP",
+            _ => "",
+        }
+    }
+
     #[tactic(auto, unfolding(crate::specs::Tables::af_spec_unspec_place, nla_wire::specs::Grammar::unless_empty))]
     fn parse_frame(alloc: Global, buffer: &NlaBuffer<'_>) -> Result<AfSpecUnspec, DecodeError> {
         let payload = buffer.value();

@@ -2,6 +2,8 @@
 
 ghost use Rattle.std.specs.Prelude.{◌≡◌, ◌≤◌, ◌<◌, ◌++◌, length, take, drop, MatchResult};
 ghost use Rattle.nla_wire.specs.Fields.{IsShort};
+ghost use Rattle.nla_wire.specs.declared.error.Cause.TheVariants.{TooShort};
+ghost use Rattle.link_msg.specs.Header.{header_size};
 
 use link_vals::{AddressFamily, LinkFlags, LinkLayerType};
 use nla_wire::fields::{put_bytes, put_u16, put_u32, too_short, u16_at, u32_at};
@@ -32,8 +34,16 @@ impl Exact for LinkHeader {
     ghost decides = { header_decides _ _ _ family_exact layer_exact flags_exact };
 }
 
+/// The fault of bytes that are shorter than a header.
+#[cold]
+pub(crate) fn no_header(bytes: &[u8]) -> DecodeError
+    ensures { result.cause ≡ TooShort (length bytes.now) header_size }
+{
+    too_short(bytes.len(), HEADER_SIZE).within("header")
+}
+
 impl LinkHeader {
-    ghost use Rattle.link_msg.specs.Header.{header_of, header_bytes, header_size};
+    ghost use Rattle.link_msg.specs.Header.{header_of, header_bytes};
 
     /// Reads the header at the front of the bytes, or refuses with `TooShort` below 16 bytes.
     #[tactic(auto, unfolding(crate::specs::Header::header_of))]
@@ -42,7 +52,7 @@ impl LinkHeader {
         ensures { MatchResult result (λ v. (header_size ≤ length bytes.now) × (v ≡ header_of bytes.now)) (IsShort bytes.now header_size) }
     {
         if bytes.len() < HEADER_SIZE {
-            return Err(too_short(bytes.len(), HEADER_SIZE));
+            return Err(no_header(bytes));
         }
         Ok(LinkHeader {
             interface_family: AddressFamily::from(bytes[0]),
@@ -111,7 +121,6 @@ impl From<&LinkHeader> for LinkMessageBuffer {
 
 impl LinkMessageBuffer {
     ghost use Rattle.link_msg.specs.HeaderBuffer.{link_message_buffer_bytes};
-    ghost use Rattle.link_msg.specs.Header.{header_size};
 
     /// The bytes.
     pub fn as_bytes(&self) -> &[u8]
@@ -125,7 +134,7 @@ impl LinkMessageBuffer {
         ensures { MatchResult result (λ v. (link_message_buffer_bytes v.0 ≡ take header_size bytes.now) × (header_size ≤ length bytes.now) × (v.1.now ≡ drop header_size bytes.now)) (IsShort bytes.now header_size) }
     {
         if bytes.len() < HEADER_SIZE {
-            return Err(too_short(bytes.len(), HEADER_SIZE));
+            return Err(no_header(bytes));
         }
         let (front, rest) = bytes.split_at(HEADER_SIZE);
         let mut found = [0; 16];

@@ -9,6 +9,7 @@ mod content;
 mod family;
 pub mod fault_at;
 pub mod header;
+mod kind_names;
 pub mod laws;
 pub mod message;
 pub mod numbers;

@@ -9,8 +9,7 @@ ghost use Rattle.nla_wire.specs.Gives.{Gives, Checks};
 ghost use Rattle.nla_wire.specs.declared.error.Cause.TheVariants.{OutOfMemory};
 
 use crate::attribute::LinkAttribute;
-use crate::header::{HEADER_SIZE, LinkHeader, LinkMessageBuffer};
-use nla_wire::fields::too_short;
+use crate::header::{HEADER_SIZE, LinkHeader, LinkMessageBuffer, no_header};
 use nla_wire::{
     CloneIn, DecodeError, Exact, List, fill_bytes, nlas_buffer_len, nlas_fill, nlas_measure,
     nlas_write,
@@ -26,13 +25,16 @@ pub struct LinkMessage {
     pub attributes: List<LinkAttribute>,
 }
 
+/// The name of the place of a fault that no attribute holds.
+const OUTERMOST: &str = "message";
+
 /// The header, and the bytes behind it.
 #[inline(always)]
 pub(crate) fn split_header(input: &[u8]) -> Result<(LinkHeader, &[u8]), DecodeError>
     ensures { MatchResult result (λ v. (header_size ≤ length input.now) × (v.0 ≡ header_of (take header_size input.now)) × (v.1.now ≡ drop header_size input.now)) (IsShort input.now header_size) }
 {
     if input.len() < HEADER_SIZE {
-        return Err(too_short(input.len(), HEADER_SIZE));
+        return Err(no_header(input));
     }
     let (front, rest) = input.split_at(HEADER_SIZE);
     Ok((LinkHeader::parse(front)?, rest))
@@ -75,15 +77,13 @@ impl LinkMessage {
         ensures { Gives result (read_message input.now) }
     {
         let (header, rest) = split_header(input)?;
-        let attributes = LinkAttribute::parse_list_with_param(
-            alloc,
-            rest,
-            header.interface_family,
-        )?;
-        Ok(LinkMessage {
-            header,
-            attributes: List::new(attributes),
-        })
+        match LinkAttribute::parse_list_with_param(alloc, rest, header.interface_family) {
+            Ok(attributes) => Ok(LinkMessage {
+                header,
+                attributes: List::new(attributes),
+            }),
+            Err(error) => Err(error.within(OUTERMOST)),
+        }
     }
 
     /// Whether the bytes are a message: `Ok` exactly where `parse` reads one, else the first fault. It takes no memory,
@@ -103,7 +103,10 @@ impl LinkMessage {
         ensures { Checks result (read_message input.now) }
     {
         let (header, rest) = split_header(input)?;
-        LinkAttribute::check_list_with_param(rest, header.interface_family)
+        match LinkAttribute::check_list_with_param(rest, header.interface_family) {
+            Ok(()) => Ok(()),
+            Err(error) => Err(error.within(OUTERMOST)),
+        }
     }
 
     /// Whether each attribute fits, and the length of the text is a `usize`.

@@ -13,6 +13,7 @@ ghost use Rattle.nla_wire.specs.declared.error.Cause.TheVariants.{OutOfMemory};
 use crate::attribute::LinkAttribute;
 use crate::family::parse_af_spec;
 use crate::family::parse_proto_info;
+use crate::kind_names::kind_name;
 use crate::numbers::IFLA_ADDRESS;
 use crate::numbers::IFLA_AF_SPEC;
 use crate::numbers::IFLA_ALLMULTI;
@@ -108,6 +109,7 @@ use nla_wire::NlaRead;
 use nla_wire::NlasIterator;
 use nla_wire::Place;
 use nla_wire::check_members;
+use nla_wire::check_one;
 use nla_wire::measure_members;
 use nla_wire::padded_len;
 use nla_wire::parse_i32;
@@ -500,10 +502,11 @@ impl LinkAttribute {
         ensures reads { Checks result ((attribute_place family).reads buffer.now) }
     {
         buffer.is_frame();
-        LinkAttribute::fault(buffer, family)
+        check_one(&AttributePlace { family }, buffer)
     }
 
     /// `Ok` where a frame is read, else its first fault, by the shape of its payload.
+    #[inline(always)]
     fn fault(buffer: &NlaBuffer<'_>, family: AddressFamily) -> Result<(), DecodeError>
         ensures { Checks result ((attribute_place family).reads buffer.now) }
     {
@@ -711,6 +714,10 @@ impl Place<LinkAttribute> for AttributePlace {
 
     ghost grammar = { λ place. attribute_place place.family };
 
+    fn kind_name(&self, kind: u16) -> &'static str {
+        kind_name(kind)
+    }
+
     #[inline(always)]
     fn parse_into(
         &self,
@@ -721,6 +728,7 @@ impl Place<LinkAttribute> for AttributePlace {
         LinkAttribute::read_into(alloc, buffer, self.family, values)
     }
 
+    #[inline(always)]
     fn check(&self, buffer: &NlaBuffer<'_>) -> Result<(), DecodeError> {
         LinkAttribute::fault(buffer, self.family)
     }

@@ -51,6 +51,15 @@ impl NlaRead for DevlinkPort {
 
     ghost grammar = { devlink_port_place.grammar };
 
+    fn kind_name(kind: u16) -> &'static str {
+        match kind {
+            DEVLINK_ATTR_BUS_NAME => "DEVLINK_ATTR_BUS_NAME",
+            DEVLINK_ATTR_DEV_NAME => "DEVLINK_ATTR_DEV_NAME",
+            DEVLINK_ATTR_PORT_INDEX => "DEVLINK_ATTR_PORT_INDEX",
+            _ => "",
+        }
+    }
+
     #[tactic(auto, unfolding(crate::specs::Tables::devlink_port_place))]
     fn parse_frame(alloc: Global, buffer: &NlaBuffer<'_>) -> Result<DevlinkPort, DecodeError> {
         match buffer.kind() {

@@ -53,6 +53,14 @@ impl NlaRead for LinkProtocolDownReason {
 
     ghost grammar = { down_reason_place.grammar };
 
+    fn kind_name(kind: u16) -> &'static str {
+        match kind {
+            IFLA_PROTO_DOWN_REASON_MASK => "IFLA_PROTO_DOWN_REASON_MASK",
+            IFLA_PROTO_DOWN_REASON_VALUE => "IFLA_PROTO_DOWN_REASON_VALUE",
+            _ => "",
+        }
+    }
+
     #[tactic(auto, unfolding(crate::specs::Tables::down_reason_place))]
     fn parse_frame(
         alloc: Global,

@@ -44,6 +44,13 @@ impl NlaRead for DpllPin {
 
     ghost grammar = { dpll_pin_place.grammar };
 
+    fn kind_name(kind: u16) -> &'static str {
+        match kind {
+            DPLL_A_PIN_ID => "DPLL_A_PIN_ID",
+            _ => "",
+        }
+    }
+
     #[tactic(auto, unfolding(crate::specs::Tables::dpll_pin_place))]
     fn parse_frame(alloc: Global, buffer: &NlaBuffer<'_>) -> Result<DpllPin, DecodeError> {
         match buffer.kind() {

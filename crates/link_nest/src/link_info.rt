@@ -43,6 +43,13 @@ impl NlaRead for LinkInfo {
 
     ghost grammar = { link_info_place.grammar };
 
+    fn kind_name(kind: u16) -> &'static str {
+        match kind {
+            IFLA_INFO_KIND => "IFLA_INFO_KIND",
+            _ => "",
+        }
+    }
+
     #[tactic(auto, unfolding(crate::specs::Tables::link_info_place))]
     fn parse_frame(alloc: Global, buffer: &NlaBuffer<'_>) -> Result<LinkInfo, DecodeError> {
         match buffer.kind() {

@@ -43,6 +43,13 @@ impl NlaRead for Prop {
 
     ghost grammar = { prop_place.grammar };
 
+    fn kind_name(kind: u16) -> &'static str {
+        match kind {
+            IFLA_ALT_IFNAME => "IFLA_ALT_IFNAME",
+            _ => "",
+        }
+    }
+
     #[tactic(auto, unfolding(crate::specs::Tables::prop_place))]
     fn parse_frame(alloc: Global, buffer: &NlaBuffer<'_>) -> Result<Prop, DecodeError> {
         match buffer.kind() {

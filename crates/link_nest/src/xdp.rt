@@ -71,6 +71,20 @@ impl NlaRead for LinkXdp {
 
     ghost grammar = { xdp_place.grammar };
 
+    fn kind_name(kind: u16) -> &'static str {
+        match kind {
+            IFLA_XDP_FD => "IFLA_XDP_FD",
+            IFLA_XDP_ATTACHED => "IFLA_XDP_ATTACHED",
+            IFLA_XDP_FLAGS => "IFLA_XDP_FLAGS",
+            IFLA_XDP_PROG_ID => "IFLA_XDP_PROG_ID",
+            IFLA_XDP_DRV_PROG_ID => "IFLA_XDP_DRV_PROG_ID",
+            IFLA_XDP_SKB_PROG_ID => "IFLA_XDP_SKB_PROG_ID",
+            IFLA_XDP_HW_PROG_ID => "IFLA_XDP_HW_PROG_ID",
+            IFLA_XDP_EXPECTED_FD => "IFLA_XDP_EXPECTED_FD",
+            _ => "",
+        }
+    }
+
     #[tactic(auto, unfolding(crate::specs::Tables::xdp_place))]
     fn parse_frame(alloc: Global, buffer: &NlaBuffer<'_>) -> Result<LinkXdp, DecodeError> {
         match buffer.kind() {

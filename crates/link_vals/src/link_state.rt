@@ -3,7 +3,7 @@
 ghost use Rattle.std.specs.Prelude.{◌≡◌, Some};
 ghost use Rattle.link_vals.specs.StateTable.{state_of, state_number, state_text};
 
-use nla_wire::{Cause, DecodeError, Exact};
+use nla_wire::{Cause, DecodeError, Exact, PAYLOAD};
 use std::fmt;
 use std::str::FromStr;
 
@@ -106,7 +106,7 @@ impl FromStr for State {
         if text.eq_ignore_ascii_case("UP") {
             return Ok(State::Up);
         }
-        Err(DecodeError::new("state", Cause::InvalidState))
+        Err(DecodeError::new(PAYLOAD, Cause::InvalidState))
     }
 }
 

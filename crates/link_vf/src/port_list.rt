@@ -209,6 +209,13 @@ impl Place<LinkVfPort> for EntryPlace {
 
     ghost grammar = { λ place. link_vf_port_place.grammar };
 
+    fn kind_name(&self, kind: u16) -> &'static str {
+        match kind {
+            IFLA_VF_PORT => "IFLA_VF_PORT",
+            _ => "",
+        }
+    }
+
     #[tactic(auto, unfolding(crate::specs::Tables::link_vf_port_place))]
     fn parse_into(
         &self,

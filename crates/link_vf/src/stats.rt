@@ -69,6 +69,20 @@ impl NlaRead for VfStats {
 
     ghost grammar = { vf_stats_place.grammar };
 
+    fn kind_name(kind: u16) -> &'static str {
+        match kind {
+            IFLA_VF_STATS_RX_PACKETS => "IFLA_VF_STATS_RX_PACKETS",
+            IFLA_VF_STATS_TX_PACKETS => "IFLA_VF_STATS_TX_PACKETS",
+            IFLA_VF_STATS_RX_BYTES => "IFLA_VF_STATS_RX_BYTES",
+            IFLA_VF_STATS_TX_BYTES => "IFLA_VF_STATS_TX_BYTES",
+            IFLA_VF_STATS_BROADCAST => "IFLA_VF_STATS_BROADCAST",
+            IFLA_VF_STATS_MULTICAST => "IFLA_VF_STATS_MULTICAST",
+            IFLA_VF_STATS_RX_DROPPED => "IFLA_VF_STATS_RX_DROPPED",
+            IFLA_VF_STATS_TX_DROPPED => "IFLA_VF_STATS_TX_DROPPED",
+            _ => "",
+        }
+    }
+
     #[tactic(auto, unfolding(crate::specs::Tables::vf_stats_place))]
     fn parse_frame(alloc: Global, buffer: &NlaBuffer<'_>) -> Result<VfStats, DecodeError> {
         match buffer.kind() {

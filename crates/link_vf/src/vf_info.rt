@@ -251,6 +251,25 @@ impl NlaRead for VfInfo {
 
     ghost grammar = { vf_info_place.grammar };
 
+    fn kind_name(kind: u16) -> &'static str {
+        match kind {
+            IFLA_VF_MAC => "IFLA_VF_MAC",
+            IFLA_VF_VLAN => "IFLA_VF_VLAN",
+            IFLA_VF_TX_RATE => "IFLA_VF_TX_RATE",
+            IFLA_VF_SPOOFCHK => "IFLA_VF_SPOOFCHK",
+            IFLA_VF_LINK_STATE => "IFLA_VF_LINK_STATE",
+            IFLA_VF_RATE => "IFLA_VF_RATE",
+            IFLA_VF_RSS_QUERY_EN => "IFLA_VF_RSS_QUERY_EN",
+            IFLA_VF_STATS => "IFLA_VF_STATS",
+            IFLA_VF_TRUST => "IFLA_VF_TRUST",
+            IFLA_VF_IB_NODE_GUID => "IFLA_VF_IB_NODE_GUID",
+            IFLA_VF_IB_PORT_GUID => "IFLA_VF_IB_PORT_GUID",
+            IFLA_VF_VLAN_LIST => "IFLA_VF_VLAN_LIST",
+            IFLA_VF_BROADCAST => "IFLA_VF_BROADCAST",
+            _ => "",
+        }
+    }
+
     #[tactic(auto, unfolding(crate::specs::Tables::vf_info_place))]
     fn parse_frame(alloc: Global, buffer: &NlaBuffer<'_>) -> Result<VfInfo, DecodeError> {
         match buffer.kind() {

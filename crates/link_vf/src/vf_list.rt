@@ -209,6 +209,13 @@ impl Place<LinkVfInfo> for EntryPlace {
 
     ghost grammar = { λ place. link_vf_info_place.grammar };
 
+    fn kind_name(&self, kind: u16) -> &'static str {
+        match kind {
+            IFLA_VF_INFO => "IFLA_VF_INFO",
+            _ => "",
+        }
+    }
+
     #[tactic(auto, unfolding(crate::specs::Tables::link_vf_info_place))]
     fn parse_into(
         &self,

@@ -38,6 +38,10 @@ impl NlaRead for VfPort {
 
     ghost grammar = { vf_port_place.grammar };
 
+    fn kind_name(_kind: u16) -> &'static str {
+        ""
+    }
+
     #[tactic(auto, unfolding(crate::specs::Tables::vf_port_place))]
     fn parse_frame(alloc: Global, buffer: &NlaBuffer<'_>) -> Result<VfPort, DecodeError> {
         DefaultNla::parse(alloc, buffer).map(VfPort::Other)

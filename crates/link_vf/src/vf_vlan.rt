@@ -65,6 +65,13 @@ impl NlaRead for VfVlan {
 
     ghost grammar = { vf_vlan_place.grammar };
 
+    fn kind_name(kind: u16) -> &'static str {
+        match kind {
+            IFLA_VF_VLAN_INFO => "IFLA_VF_VLAN_INFO",
+            _ => "",
+        }
+    }
+
     #[tactic(auto, unfolding(crate::specs::Tables::vf_vlan_place))]
     fn parse_frame(alloc: Global, buffer: &NlaBuffer<'_>) -> Result<VfVlan, DecodeError> {
         match buffer.kind() {

@@ -7,7 +7,7 @@ ghost use Rattle.nla_wire.specs.Reading.{step, front};
 ghost use Rattle.nla_wire.specs.Gives.{without_place};
 ghost use Rattle.nla_wire.specs.Same.{same_frame, same_frame-laws, same_frame-partial, same_frame-Decides};
 
-use crate::error::{Cause, DecodeError};
+use crate::error::{Cause, DecodeError, PAYLOAD};
 use crate::exact::Exact;
 use std::alloc::AllocError;
 use std::marker::Model;
@@ -135,7 +135,7 @@ fn are_bytes(bytes: &[u8])
 fn frame_fault(cause: Cause) -> DecodeError
     ensures { result.cause ≡ cause }
 {
-    DecodeError::new("frame", cause)
+    DecodeError::new(PAYLOAD, cause)
 }
 
 impl<'a> Clone for NlaBuffer<'a> {

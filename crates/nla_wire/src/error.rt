@@ -66,9 +66,15 @@ impl Exact for Cause {
     ghost decides = { Prim.search rules };
 }
 
-/// A fault: why bytes were refused, and a name of the place for a log.
+/// The place of a fault that no attribute is known to hold.
+pub const PAYLOAD: &str = "payload";
+
+/// A fault: why bytes were refused, and where, for a log.
 ///
-/// No promise rests on `place`.
+/// `place` names the innermost attribute whose payload was read: of the fault of a frame the attribute that holds its
+/// list, `message` for the outermost list; `header` for the bytes in front of that; of a number without a name the
+/// nearest attribute around it that has one; `memory` where none was left; and `payload` where a payload was read by
+/// itself. No clause rests on it.
 #[derive(Clone, Copy, Debug, PartialEq, Eq, Error)]
 #[error("{place}: {cause}")]
 pub struct DecodeError {
@@ -83,6 +89,18 @@ impl DecodeError {
         ensures named { result.place.now ≡ place.now }
     {
         DecodeError { place, cause }
+    }
+
+    /// The same fault in what has this name, unless its place is known or the name is empty.
+    #[cold]
+    pub fn within(self, holder: &'static str) -> DecodeError
+        ensures { result.cause ≡ self.cause }
+    {
+        if self.place == PAYLOAD && !holder.is_empty() {
+            DecodeError::new(holder, self.cause)
+        } else {
+            self
+        }
     }
 
     /// The number of the cause.
@@ -120,7 +138,7 @@ impl<T: Drop> From<AllocFailed<T>> for DecodeError {
 pub fn empty_list() -> DecodeError
     ensures { result.cause ≡ EmptyList }
 {
-    DecodeError::new("list", Cause::EmptyList)
+    DecodeError::new(PAYLOAD, Cause::EmptyList)
 }
 
 /// Whether something was read, without what was read.

@@ -5,13 +5,13 @@ ghost use Rattle.std.specs.Int.{w16, w32, w64, to_le_bytes, to_be_bytes, cast_si
 ghost use Rattle.nla_wire.specs.Fields.{number_at, be_number_at, signed_at, le_all, le_all_signed, zero_filled};
 ghost use Rattle.nla_wire.specs.declared.error.Cause.TheVariants.{TooShort};
 
-use crate::error::{Cause, DecodeError};
+use crate::error::{Cause, DecodeError, PAYLOAD};
 
 /// The fault of a payload that is shorter than its record.
 pub fn too_short(got: usize, need: usize) -> DecodeError
     ensures { result.cause ≡ TooShort got need }
 {
-    DecodeError::new("record", Cause::TooShort { got, need })
+    DecodeError::new(PAYLOAD, Cause::TooShort { got, need })
 }
 
 /// The byte at a place, zero past the end.

@@ -21,7 +21,7 @@ pub mod write;
 
 pub use buffer::{NLA_F_NESTED, NLA_F_NET_BYTEORDER, NLA_HEADER_SIZE, NLA_TYPE_MASK, NlaBuffer};
 pub use default_nla::DefaultNla;
-pub use error::{Cause, DecodeError, empty_list, same_fault};
+pub use error::{Cause, DecodeError, PAYLOAD, empty_list, same_fault};
 pub use exact::Exact;
 pub use fill::{fill_bytes, fill_text};
 pub use flat::{Content, Flat};
@@ -40,7 +40,7 @@ pub use payload::{
     write_text_payload, write_u8_payload, write_u16_payload, write_u32_payload, write_u64_payload,
 };
 pub use read::{
-    NlaRead, OwnPlace, Place, check_members, check_picked_members, measure_members,
+    NlaRead, OwnPlace, Place, check_members, check_one, check_picked_members, measure_members,
     measure_nested_members, measure_nested_picked_members, measure_picked_members, parse_members,
     parse_one, parse_picked_members, write_members, write_nested_members,
     write_nested_picked_members, write_picked_members,

@@ -6,14 +6,14 @@ ghost use Rattle.nla_wire.specs.Payloads.{number_of, signed_of, ipv6_address};
 ghost use Rattle.nla_wire.specs.Gives.{without_place};
 ghost use Rattle.nla_wire.specs.declared.error.Cause.TheVariants.{WrongLength};
 
-use crate::error::{Cause, DecodeError};
+use crate::error::{Cause, DecodeError, PAYLOAD};
 use std::net::Ipv6Addr;
 
 fn wrong_length(bytes: &[u8], want: usize) -> DecodeError
     ensures { result.cause ≡ WrongLength (length bytes.now) want }
 {
     DecodeError::new(
-        "number",
+        PAYLOAD,
         Cause::WrongLength {
             got: bytes.len(),
             want,

@@ -30,6 +30,9 @@ const MOST_VALUE_LEN: usize = 65531;
 pub trait Place<V: Nla + Drop> {
     ghost grammar: { Self → Grammar Frame V };
 
+    /// The name of the attributes of this number, for a log; empty where they have none.
+    fn kind_name(&self, kind: u16) -> &'static str;
+
     /// Reads the value of an attribute into the room behind the last value of a list.
     ///
     /// Refuses with the cause of the first fault, or with `OutOfMemory`.
@@ -78,6 +81,37 @@ fn count_frames(bytes: &[u8]) -> usize
     count
 }
 
+/// Reads the value of an attribute as the place does. A fault is told with the attribute's name.
+#[inline(always)]
+fn add_one<V: Nla + Drop, P: Place<V>>(
+    place: &P,
+    alloc: Global,
+    buffer: &NlaBuffer<'_>,
+    values: &mut Vec<V>,
+) -> Result<(), DecodeError>
+    requires { vec_len values.old < vec_capacity values.old }
+    ensures { Adds result ((P.grammar place.now).reads buffer.now) values.old.items values.new.items }
+{
+    match place.parse_into(alloc, buffer, values) {
+        Ok(()) => Ok(()),
+        Err(error) => Err(error.within(place.kind_name(buffer.kind()))),
+    }
+}
+
+/// Whether an attribute has a value, as the place says it. A fault is told with the attribute's name.
+#[inline(always)]
+pub fn check_one<V: Nla + Drop, P: Place<V>>(
+    place: &P,
+    buffer: &NlaBuffer<'_>,
+) -> Result<(), DecodeError>
+    ensures { Checks result ((P.grammar place.now).reads buffer.now) }
+{
+    match place.check(buffer) {
+        Ok(()) => Ok(()),
+        Err(error) => Err(error.within(place.kind_name(buffer.kind()))),
+    }
+}
+
 /// Reads the value of one attribute.
 ///
 /// Refuses as the place does.
@@ -89,7 +123,7 @@ pub fn parse_one<V: Nla + Drop, P: Place<V>>(
     ensures { Gives result ((P.grammar place.now).reads buffer.now) }
 {
     let mut values = Vec::with_capacity(alloc, 1)?;
-    place.parse_into(alloc, buffer, &mut values)?;
+    add_one(place, alloc, buffer, &mut values)?;
     let Some(value) = values.pop() else {
         return Err(empty_list());
     };
@@ -112,7 +146,7 @@ pub fn parse_members<V: Nla + Drop, P: Place<V>>(
     for item in NlasIterator::new(bytes) {
         let frame = item?;
         values.reserve(1)?;
-        place.parse_into(alloc, &frame, &mut values)?;
+        add_one(place, alloc, &frame, &mut values)?;
     }
     Ok(values)
 }
@@ -124,7 +158,7 @@ pub fn check_members<V: Nla + Drop, P: Place<V>>(place: &P, bytes: &[u8]) -> Res
 {
     for item in NlasIterator::new(bytes) {
         let frame = item?;
-        place.check(&frame)?;
+        check_one(place, &frame)?;
     }
     Ok(())
 }
@@ -209,7 +243,7 @@ fn picked_values<V: Nla + Drop, P: Place<V>>(
         let frame = item?;
         if frame.kind() == PICKED_KIND {
             values.reserve(1)?;
-            place.parse_into(alloc, &frame, &mut values)?;
+            add_one(place, alloc, &frame, &mut values)?;
         }
     }
     Ok(values)
@@ -242,7 +276,7 @@ fn check_picked_values<V: Nla + Drop, P: Place<V>>(
     for item in NlasIterator::new(bytes) {
         let frame = item?;
         if frame.kind() == PICKED_KIND {
-            place.check(&frame)?;
+            check_one(place, &frame)?;
         }
     }
     Ok(())
@@ -341,6 +375,9 @@ pub fn write_nested_picked_members<V: Nla + Drop, P: Place<V>>(
 pub trait NlaRead: Nla + Drop {
     ghost grammar: { Grammar Frame Self };
 
+    /// The name of the attributes of this number, for a log; empty where they have none.
+    fn kind_name(kind: u16) -> &'static str;
+
     /// Reads the value of an attribute, for `parse`.
     fn parse_frame(alloc: Global, buffer: &NlaBuffer<'_>) -> Result<Self, DecodeError>
     where
@@ -381,7 +418,7 @@ pub trait NlaRead: Nla + Drop {
         ensures reads { Gives result (grammar.reads buffer.now) }
     {
         buffer.is_frame();
-        Self::parse_frame(alloc, buffer)
+        parse_named(alloc, buffer)
     }
 
     /// Whether an attribute has a value, with no memory taken: `Ok` where it has, else the cause of the first fault.
@@ -396,7 +433,7 @@ pub trait NlaRead: Nla + Drop {
         ensures reads { Checks result (grammar.reads buffer.now) }
     {
         buffer.is_frame();
-        Self::check_frame(buffer)
+        check_one::<Self, OwnPlace>(&OwnPlace, buffer)
     }
 
     /// Reads a list of these attributes.
@@ -516,12 +553,27 @@ pub trait NlaRead: Nla + Drop {
     }
 }
 
+/// Reads the value of an attribute. A fault is told with the attribute's name.
+#[inline(always)]
+fn parse_named<V: NlaRead>(alloc: Global, buffer: &NlaBuffer<'_>) -> Result<V, DecodeError>
+    ensures { Gives result (V.NlaRead.grammar.reads buffer.now) }
+{
+    match V::parse_frame(alloc, buffer) {
+        Ok(value) => Ok(value),
+        Err(error) => Err(error.within(V::kind_name(buffer.kind()))),
+    }
+}
+
 /// The one place of a type of values that has no other.
 #[derive(Debug, Clone, Copy, Drop)]
 pub struct OwnPlace;
 
 impl<V: NlaRead> Place<V> for OwnPlace {
     ghost grammar = { λ place. V.NlaRead.grammar };
+
+    fn kind_name(&self, kind: u16) -> &'static str {
+        <V as NlaRead>::kind_name(kind)
+    }
 
     #[inline(always)]
     fn parse_into(
@@ -535,6 +587,7 @@ impl<V: NlaRead> Place<V> for OwnPlace {
         Ok(())
     }
 
+    #[inline(always)]
     fn check(&self, buffer: &NlaBuffer<'_>) -> Result<(), DecodeError> {
         <V as NlaRead>::check_frame(buffer)
     }

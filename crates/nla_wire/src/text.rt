@@ -6,7 +6,7 @@ ghost use Rattle.nla_wire.specs.Payloads.{text, IsTextOf};
 ghost use Rattle.nla_wire.specs.Gives.{Gives, Checks};
 ghost use Rattle.nla_wire.specs.declared.error.Cause.TheVariants.{OutOfMemory, NotUtf8};
 
-use crate::error::{Cause, DecodeError};
+use crate::error::{Cause, DecodeError, PAYLOAD};
 use crate::values::Text;
 use std::alloc::Global;
 use std::str;
@@ -24,7 +24,7 @@ pub(crate) fn without_nul(bytes: &[u8]) -> &[u8]
 fn not_utf8() -> DecodeError
     ensures { result.cause ≡ NotUtf8 }
 {
-    DecodeError::new("text", Cause::NotUtf8)
+    DecodeError::new(PAYLOAD, Cause::NotUtf8)
 }
 
 /// The highest of the bytes, or 0: one look at each, with no branch.
