@@ -67,7 +67,7 @@ static ptrdiff_t crate_emits(const struct message *message) {
 
 static struct nl_msg **packets;
 
-/* The messages as libnl holds them, each behind a netlink header. */
+/* The messages as libnl holds them, each after a netlink header. */
 static void make_packets(const struct messages *messages) {
     free(packets);
     packets = calloc(messages->count, sizeof *packets);

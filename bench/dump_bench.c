@@ -22,7 +22,7 @@ static void put(const void *bytes, size_t count) {
     len += count;
 }
 
-/* Opens an attribute, and answers where it starts. */
+/* Opens an attribute, and returns where it starts. */
 static size_t opens(uint16_t kind) {
     size_t at = len;
     const uint8_t header[4] = {0, 0, kind & 0xff, kind >> 8};

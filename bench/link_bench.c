@@ -51,7 +51,7 @@ static size_t put_bytes(uint8_t *at, size_t len) {
     return len;
 }
 
-/* Closes an attribute around a value that stands at at + 4, and answers how many bytes it takes. */
+/* Closes an attribute around a value that stands at at + 4, and returns how many bytes it takes. */
 static size_t close_attribute(uint8_t *at, uint16_t kind, size_t value) {
     size_t len = 4 + value;
     at[0] = len & 0xff;

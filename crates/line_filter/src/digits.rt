@@ -28,7 +28,7 @@ pub fn values() -> &'static [u8; 256]
     &VALUES
 }
 
-/// Reads a text of digits by a table of their values, and answers whether it is an even number of digits.
+/// Reads a text of digits by a table of their values, and returns whether it is an even number of digits.
 ///
 /// If not, nothing is said of the bytes.
 pub fn decode(digits: &[u8], values: &[u8; 256], bytes: &mut [u8]) -> bool

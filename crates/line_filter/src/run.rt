@@ -69,10 +69,10 @@ fn answer_all<A: Answer, R: Read, W: Write>(
 
 /// Answers each line that the reader gives, up to its end.
 ///
-/// A line ends with an LF; bytes behind the last LF are one too. Its answer is the filter's, ended by an LF. Every
+/// A line ends with an LF; bytes after the last LF are one too. Its answer is the filter's, ended by an LF. Every
 /// answer to what was read is written before the next read. A reader or writer that fails is not asked again, and the
 /// run is over: `Read` where the reader fails or has not ended after 2^64 - 1 reads, `Write` where the writer fails or
-/// takes no byte, and `OutOfMemory` where a growth is refused.
+/// takes no byte, and `OutOfMemory` where an allocation is refused.
 pub fn run<A: Answer, R: Read, W: Write>(
     alloc: Global,
     answer: A,

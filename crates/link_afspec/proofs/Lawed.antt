@@ -2,7 +2,7 @@
 use Rattle.std.specs.Prelude.{◌↔◌, replicate}
 use Rattle.std.proofs.Common.{ℕ, ◌≤◌, ◌==◌, ◌&&◌, Bool, true, false, List, ◌++◌, length, arith, sym, ◌∙◌, length-append}
 use Rattle.nla_wire.specs.Frames.{Frame, number}
-use Rattle.nla_wire.specs.Grammar.{Grammar, as_a, kept, if_true, by_payload}
+use Rattle.nla_wire.specs.Grammar.{Grammar, as_a, undecoded, if_true, by_payload}
 use Rattle.nla_wire.specs.Payloads.{filled, sized}
 use Rattle.nla_wire.specs.Records.{RecordLaws}
 use Rattle.link_recs.specs.declared.inet.InetDevConf.{InetDevConf}
@@ -36,7 +36,7 @@ module _ {A V : Type 0} {size : ℕ} {of : List ℕ → A} {text : A → List �
 -- ** requests
 
 never_at : (t : Bool) (f : Frame) (conf : InetDevConf)
-    → (if_true (t && true) (by_payload (as_a DevConf inet_dev_conf.grammar)) (kept Other)).means f (DevConfRequest conf) → ⊥
+    → (if_true (t && true) (by_payload (as_a DevConf inet_dev_conf.grammar)) (undecoded Other)).means f (DevConfRequest conf) → ⊥
 never_at true f conf m = absurd cc
 never_at false f conf m = absurd cc
 

@@ -44,7 +44,7 @@ request_from conf k z some few is =
     ∙ ap (λ y. setting_text (record { number = k; value = y }) ++ settings_text (drop (k - 1 + 1) (settings_of conf))) (sym is)
     ∙ ap (λ i. setting_text (record { number = k; value = z }) ++ settings_text (drop i (settings_of conf))) behind
 
--- nothing stands behind the last setting
+-- nothing stands after the last setting
 pub request_end : (conf : InetDevConf) → settings_text (drop INET_DEV_CONF_COUNT (settings_of conf)) ≡ []
 unfolding inet_dev_conf_fields
 request_end conf = refl
@@ -71,7 +71,7 @@ request_bound conf = omega (arith, texts_short 1 (inet_dev_conf_fields conf), fi
 pub request_short : (conf : InetDevConf) → length (request_text conf) ≤ most_payload
 request_short conf = omega (arith, request_bound conf)
 
--- what stands behind some settings is shorter than all
+-- what stands after some settings is shorter than all
 texts_behind : (ss : List Setting) (i : ℕ) → length (settings_text (drop i ss)) ≤ length (settings_text ss)
 texts_behind [] zero = omega arith
 texts_behind [] (suc i) = omega arith

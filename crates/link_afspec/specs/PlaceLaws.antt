@@ -2,7 +2,7 @@
 use Rattle.std.specs.Prelude.{◌≡◌, ◌↔◌, ℕ, ◌≤◌, List, ◌++◌, length, replicate}
 use Rattle.nla_wire.specs.Frames.{Frame, number}
 
--- zeros behind the payload of an attribute of this number change nothing of what it means
+-- zeros after the payload of an attribute of this number change nothing of what it means
 abbrev pub ZerosAdded : {V : Type 0} → (Frame → V → Type 0) → ℕ → Type 0
 ZerosAdded {V} means n = (kind : ℕ) (p : List ℕ) (zeros : ℕ) (v : V) → number (record { kind = kind; payload = p }) ≡ n
     → means (record { kind = kind; payload = p ++ replicate zeros 0 }) v ↔ means (record { kind = kind; payload = p }) v

@@ -30,7 +30,7 @@ setting_frame s = record { kind = s.number; payload = to_le_bytes w32 (cast_unsi
 abbrev pub setting_text : Setting → List ℕ
 setting_text s = if int_eq s.value (pos 0) then [] else canon (setting_frame s)
 
--- the texts of settings, one behind the other
+-- the texts of settings, one after the other
 abbrev pub settings_text : List Setting → List ℕ
 settings_text settings = flat_map setting_text settings
 

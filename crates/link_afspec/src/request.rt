@@ -28,7 +28,7 @@ fn setting_len(number: u16, value: i32) -> usize
     if value == 0 { 0 } else { SETTING_LEN }
 }
 
-/// Writes a setting at the end of the buffer, if it is not zero, and answers where it starts.
+/// Writes a setting at the end of the buffer, if it is not zero, and returns where it starts.
 fn fill_setting(buffer: &mut [u8], number: u16, value: i32) -> usize
     requires { length (setting_text (record { number = number; value = value })) ≤ length buffer.old }
     ensures { Filled buffer.old buffer.new (setting_text (record { number = number; value = value })) result }
@@ -50,7 +50,7 @@ pub(crate) fn request_len(conf: &InetDevConf) -> usize
     len
 }
 
-/// Writes a request for these settings at the end of the buffer, the last setting first, and answers where it starts.
+/// Writes a request for these settings at the end of the buffer, the last setting first, and returns where it starts.
 /// The bytes before are kept.
 pub(crate) fn fill_request(conf: &InetDevConf, buffer: &mut [u8]) -> usize
     requires { length (request_text conf.now) ≤ length buffer.old }

@@ -3,31 +3,31 @@ use Rattle.std.specs.Prelude.{◌≡◌, ◌≢◌, ℕ, ◌<◌, ◌≤◌, ◌
 use Rattle.nla_wire.specs.Canon.{Writes}
 use Rattle.nla_wire.specs.declared.error.Cause.{Cause}
 use Rattle.nla_wire.specs.declared.error.Cause.TheVariants as Causes
-use Rattle.link_msg.specs.Messages.{Means, Refused, IsRefused, message_text}
+use Rattle.link_msg.specs.Messages.{Means, FirstFault, MeansNothing, message_text}
 use Rattle.link_msg.specs.FaultAt.{FaultsAt}
 use Rattle.link_msg.specs.Canonical.{IsAccepted, IsUnfit, HasEmptyPorts, AreSame}
 use Rattle.link_msg.specs.declared.message.LinkMessage.{LinkMessage}
 use Rattle.link_c.specs.declared.refusal.Refusal.{Refusal}
 use Rattle.link_c.specs.declared.refusal.Refusal.TheVariants.{Fault, Unfit, EmptyPorts, OutOfMemory, NoRoom}
 
--- this is the first fault of b, which means no message; it is never want of memory
+-- this is the first fault of b, which means no message; it is never lack of memory
 pub record IsFault (b : List ℕ) (c : Cause) : Type 0 where
-  pub first : Refused b c
-  pub refused : IsRefused b
+  pub first : FirstFault b c
+  pub refused : MeansNothing b
   pub memory : c ≢ Causes.OutOfMemory
 
 -- b means a message, or this is its first fault
-abbrev pub IsLook : List ℕ → Result (Unit {0}) Refusal → Type 0
-IsLook b (Ok fine) = (m : LinkMessage) × Means b m
-IsLook b (Err (Fault c)) = IsFault b c
-IsLook b (Err Unfit) = ⊥
-IsLook b (Err EmptyPorts) = ⊥
-IsLook b (Err OutOfMemory) = ⊥
-IsLook b (Err NoRoom) = ⊥
+abbrev pub MeansOrFaults : List ℕ → Result (Unit {0}) Refusal → Type 0
+MeansOrFaults b (Ok fine) = (m : LinkMessage) × Means b m
+MeansOrFaults b (Err (Fault c)) = IsFault b c
+MeansOrFaults b (Err Unfit) = ⊥
+MeansOrFaults b (Err EmptyPorts) = ⊥
+MeansOrFaults b (Err OutOfMemory) = ⊥
+MeansOrFaults b (Err NoRoom) = ⊥
 
 -- the same; and where there is a fault, the new place is where it is, else the old one
 abbrev pub IsLookAt : List ℕ → ℕ → ℕ → Result (Unit {0}) Refusal → Type 0
-IsLookAt b old new (Ok fine) = IsLook b (Ok fine) × (new ≡ old)
+IsLookAt b old new (Ok fine) = MeansOrFaults b (Ok fine) × (new ≡ old)
 IsLookAt b old new (Err (Fault c)) = IsFault b c × FaultsAt b c new
 IsLookAt b old new (Err Unfit) = ⊥
 IsLookAt b old new (Err EmptyPorts) = ⊥
@@ -71,10 +71,10 @@ IsWhyOfTwo a b e = IsWhy a e ⊎ (((m : LinkMessage) × IsAccepted a m) × IsWhy
 
 -- whether a and b mean the same message; or why one of them means none that can be written. That memory ran out says
 -- nothing of them
-abbrev pub IsAlike : List ℕ → List ℕ → Result Bool Refusal → Type 0
-IsAlike a b (Ok answer) = AreSame a b answer
-IsAlike a b (Err OutOfMemory) = Unit {0}
-IsAlike a b (Err (Fault c)) = IsWhyOfTwo a b (Fault c)
-IsAlike a b (Err Unfit) = IsWhyOfTwo a b Unfit
-IsAlike a b (Err EmptyPorts) = IsWhyOfTwo a b EmptyPorts
-IsAlike a b (Err NoRoom) = ⊥
+abbrev pub IsComparison : List ℕ → List ℕ → Result Bool Refusal → Type 0
+IsComparison a b (Ok answer) = AreSame a b answer
+IsComparison a b (Err OutOfMemory) = Unit {0}
+IsComparison a b (Err (Fault c)) = IsWhyOfTwo a b (Fault c)
+IsComparison a b (Err Unfit) = IsWhyOfTwo a b Unfit
+IsComparison a b (Err EmptyPorts) = IsWhyOfTwo a b EmptyPorts
+IsComparison a b (Err NoRoom) = ⊥

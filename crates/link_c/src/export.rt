@@ -2,7 +2,7 @@
 
 ghost use Rattle.std.specs.Prelude.{◌≡◌};
 ghost use Rattle.link_c.specs.Answers.{Says, itself, as_bit, as_one, as_zero};
-ghost use Rattle.link_c.specs.Messages.{IsLook, IsLookAt, IsLength, IsText, IsAlike};
+ghost use Rattle.link_c.specs.Messages.{MeansOrFaults, IsLookAt, IsLength, IsText, IsComparison};
 ghost use Rattle.link_c.specs.Lists.{IsNext, IsPut};
 
 use crate::list::{Attribute, next_attribute, put_attribute};
@@ -14,7 +14,7 @@ use std::alloc::Global;
 /// `linkwire_check` of linkwire.h.
 #[unsafe(no_mangle)]
 pub extern "C" fn linkwire_check(message: &[u8]) -> i32
-    ensures { Says as_zero (IsLook message.now) result }
+    ensures { Says as_zero (MeansOrFaults message.now) result }
 {
     fault_code(check_message(message))
 }
@@ -38,7 +38,7 @@ pub extern "C" fn linkwire_canonical(message: &[u8], out: &mut [u8]) -> isize
 /// `linkwire_same_message` of linkwire.h.
 #[unsafe(no_mangle)]
 pub extern "C" fn linkwire_same_message(alloc: Global, a: &[u8], b: &[u8]) -> i32
-    ensures { Says as_bit (IsAlike a.now b.now) result }
+    ensures { Says as_bit (IsComparison a.now b.now) result }
 {
     whether_code(are_alike(alloc, a, b))
 }

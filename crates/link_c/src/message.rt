@@ -1,7 +1,7 @@
 //! Messages: checked, measured, written and compared.
 
 ghost use Rattle.std.specs.Prelude.{◌≡◌, ◌<◌, ◌^◌, IfOk, MatchOption};
-ghost use Rattle.link_c.specs.Messages.{IsLook, IsLookAt, IsLength, IsText, IsAlike};
+ghost use Rattle.link_c.specs.Messages.{MeansOrFaults, IsLookAt, IsLength, IsText, IsComparison};
 
 use crate::refusal::Refusal;
 use link_msg::{LinkMessage, canonical_len, canonical_within, same_message};
@@ -9,7 +9,7 @@ use std::alloc::Global;
 
 /// Whether the bytes are a message, or the first fault.
 pub fn check_message(bytes: &[u8]) -> Result<(), Refusal>
-    ensures { IsLook bytes.now result }
+    ensures { MeansOrFaults bytes.now result }
 {
     LinkMessage::check(bytes)?;
     Ok(())
@@ -62,7 +62,7 @@ pub fn write_text(bytes: &[u8], out: &mut [u8]) -> Result<usize, Refusal>
 ///
 /// Refuses as `write_text` does, but for `NoRoom`, and `OutOfMemory`.
 pub fn are_alike(alloc: Global, first: &[u8], second: &[u8]) -> Result<bool, Refusal>
-    ensures { IsAlike first.now second.now result }
+    ensures { IsComparison first.now second.now result }
 {
     let answer = same_message(alloc, first, second)?;
     Ok(answer)

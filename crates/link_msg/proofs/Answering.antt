@@ -1,4 +1,4 @@
--- What follows for a caller from the answer of the reader of messages.
+-- What follows for a caller from the result of the reader of messages.
 use Rattle.std.proofs.Common.{◌≡◌, ◌≢◌, ℕ, ◌+◌, List, length, refl, sym, ap, subst, arith, lit<, length-append, inl}
 use Rattle.std.proofs.Common.{inr, Result, Ok, Err}
 use Rattle.std.specs.Prelude.{IfOk, IsTrue, Bool, ◌↔◌}
@@ -13,9 +13,9 @@ use Rattle.nla_wire.proofs.Lawful.{place_count, place_growth, place_all_fit}
 use Rattle.nla_wire.proofs.Memory.{memory_list}
 use Rattle.nla_wire.proofs.Steps.{bytes_right}
 use Rattle.link_msg.specs.Header.{header_size}
-use Rattle.link_msg.specs.Tables.{attribute_frame, AttributeFits, HasPorts, attribute_count, attribute_place}
+use Rattle.link_msg.specs.Tables.{attribute_frame, AttributeFits, NotEmptyPorts, attribute_count, attribute_place}
 use Rattle.link_msg.specs.Tables.{attribute_lawful}
-use Rattle.link_msg.specs.Messages.{Means, Refused, IsRefused, IsBounded, read_message, message_text}
+use Rattle.link_msg.specs.Messages.{Means, FirstFault, MeansNothing, IsBounded, read_message, message_text}
 use Rattle.link_msg.specs.declared.message.LinkMessage.{LinkMessage}
 use Rattle.link_msg.proofs.Reading.{message_agrees}
 use Rattle.link_msg.specs.CanonErrors.{refusal_for, refusal_of}
@@ -28,14 +28,14 @@ pub message_bounded : (b : List ℕ) (m : LinkMessage) → IsBytes b → Means b
 message_bounded b m bytes (h, c, whole, header, means) =
     let family = m.header.interface_family in
     let size : length b ≡ header_size + length c = omega (arith, ap (λ (x : List ℕ). length x) whole, length-append h c, header.size) in
-    let counted = place_count (attribute_place family) attribute_frame AttributeFits HasPorts attribute_count growth 0 attribute_small (attribute_lawful family) c m.attributes means in
-    let grown = place_growth (attribute_place family) attribute_frame AttributeFits HasPorts attribute_count 0 attribute_small (attribute_lawful family) c m.attributes means in
+    let counted = place_count (attribute_place family) attribute_frame AttributeFits NotEmptyPorts attribute_count growth 0 attribute_small (attribute_lawful family) c m.attributes means in
+    let grown = place_growth (attribute_place family) attribute_frame AttributeFits NotEmptyPorts attribute_count 0 attribute_small (attribute_lawful family) c m.attributes means in
     record {
       few = omega (arith, size, counted);
       short = omega (arith, size, grown, text_length m);
       small = λ few.
           let behind : IsBytes c = bytes_right h c (subst IsBytes whole bytes) in
-          let fit = place_all_fit (attribute_place family) attribute_frame AttributeFits HasPorts attribute_count growth 0 attribute_small (attribute_lawful family) (lit< tt) c m.attributes (omega (arith, size, few)) behind means in
+          let fit = place_all_fit (attribute_place family) attribute_frame AttributeFits NotEmptyPorts attribute_count growth 0 attribute_small (attribute_lawful family) (lit< tt) c m.attributes (omega (arith, size, few)) behind means in
           (fit.0, omega (arith, text_length m, grown, size, few));
     }
 
@@ -43,14 +43,14 @@ pub gives_bounded : (b : List ℕ) (r : Result LinkMessage DecodeError) → IsBy
 gives_bounded b (Ok m) bytes gives = message_bounded b m bytes (message_agrees.found b m bytes gives)
 gives_bounded b (Err e) bytes gives = tt
 
--- no byte string is refused for want of memory
-pub message_memory : (b : List ℕ) → Refused b OutOfMemory → ⊥
+-- no byte string is refused for lack of memory
+pub message_memory : (b : List ℕ) → FirstFault b OutOfMemory → ⊥
 message_memory b (inl (short, is)) = absurd cc
 message_memory b (inr (h, d, v, whole, header, first)) = memory_list (attribute_place v.interface_family) (attribute_lawful v.interface_family).no_memory d first
 
 -- ** refusals
 
-refused_as : (b : List ℕ) (e : DecodeError) (c : Cause) → e.cause ≡ c → (e.cause ≢ OutOfMemory → Refused b e.cause) → (e.cause ≢ OutOfMemory → IsRefused b) → IsRefusal b (refusal_for c e)
+refused_as : (b : List ℕ) (e : DecodeError) (c : Cause) → e.cause ≡ c → (e.cause ≢ OutOfMemory → FirstFault b e.cause) → (e.cause ≢ OutOfMemory → MeansNothing b) → IsRefusal b (refusal_for c e)
 refused_as b e Causes.OutOfMemory is fault none = tt
 refused_as b e (Causes.TooShort got need) is fault none = let other : e.cause ≢ OutOfMemory = λ k. absurd cc in (fault other, other, none other)
 refused_as b e (Causes.FrameShort left) is fault none = let other : e.cause ≢ OutOfMemory = λ k. absurd cc in (fault other, other, none other)
@@ -62,7 +62,7 @@ refused_as b e Causes.NotUtf8 is fault none = let other : e.cause ≢ OutOfMemor
 refused_as b e Causes.InvalidState is fault none = let other : e.cause ≢ OutOfMemory = λ k. absurd cc in (fault other, other, none other)
 
 -- a fault of `parse` is a refusal
-pub refused_for : (b : List ℕ) (e : DecodeError) → (e.cause ≢ OutOfMemory → Refused b e.cause) → (e.cause ≢ OutOfMemory → IsRefused b) → IsRefusal b (refusal_of e)
+pub refused_for : (b : List ℕ) (e : DecodeError) → (e.cause ≢ OutOfMemory → FirstFault b e.cause) → (e.cause ≢ OutOfMemory → MeansNothing b) → IsRefusal b (refusal_of e)
 refused_for b e fault none = refused_as b e e.cause refl fault none
 
 -- the canonical text of an accepted message

@@ -15,7 +15,7 @@ use Rattle.nla_wire.proofs.Written.{Weighing, Counted, all_here, all_more, flat_
 use Rattle.link_vals.specs.declared.address_family.AddressFamily.{AddressFamily}
 use Rattle.link_vf.specs.Tables.{link_vf_port_place, vf_port_list}
 use Rattle.link_vf.specs.declared.port_list.LinkVfPort.{LinkVfPort}
-use Rattle.link_msg.specs.Tables.{attribute_frame, AttributeFits, attribute_view, attribute_entries, HasPorts, attribute_place}
+use Rattle.link_msg.specs.Tables.{attribute_frame, AttributeFits, attribute_view, attribute_entries, NotEmptyPorts, attribute_place}
 use Rattle.link_msg.specs.Tables.{attribute_lawful, attribute_number}
 use Rattle.link_msg.specs.declared.numbers.TheConstants.{IFLA_VF_PORTS}
 use Rattle.link_msg.specs.Runs.{RunsOn, FrameMeasures, attribute_text}
@@ -46,20 +46,20 @@ made (Ok ps) v e = (ps, cc)
 made (Err c) v e = absurd cc
 
 -- one that was read from IFLA_VF_PORTS, with no bytes
-no_ports : (family : AddressFamily) (f : Frame) (v : LinkAttribute) → (attribute_place family).reads f ≡ Ok v → number f ≡ IFLA_VF_PORTS → length (attribute_frame v).payload ≡ 0 → HasPorts v → ⊥
+no_ports : (family : AddressFamily) (f : Frame) (v : LinkAttribute) → (attribute_place family).reads f ≡ Ok v → number f ≡ IFLA_VF_PORTS → length (attribute_frame v).payload ≡ 0 → NotEmptyPorts v → ⊥
 unfolding attribute_view
 no_ports family f v read is none some =
     let k = made ((not_empty vf_port_list.grammar).reads f.payload) v (sym (ports_read family f is) ∙ read) in
-    ports_long k.0 (subst (λ x. length (attribute_frame x).payload ≡ 0) k.1 none) (subst HasPorts k.1 some)
+    ports_long k.0 (subst (λ x. length (attribute_frame x).payload ≡ 0) k.1 none) (subst NotEmptyPorts k.1 some)
 
 -- an attribute that is not written as IFLA_VF_PORTS
-other_ports : (v : LinkAttribute) → number (attribute_frame v) ≢ IFLA_VF_PORTS → HasPorts v
+other_ports : (v : LinkAttribute) → number (attribute_frame v) ≢ IFLA_VF_PORTS → NotEmptyPorts v
 unfolding attribute_view
 other_ports (Attributes.VfPorts ports) other = absurd (other refl)
 other_ports _ other = tt
 
 -- any but one that is written as IFLA_VF_PORTS, with no bytes
-some_ports : (v : LinkAttribute) → ((number (attribute_frame v) ≡ IFLA_VF_PORTS) × (length (attribute_frame v).payload ≡ 0) → ⊥) → HasPorts v
+some_ports : (v : LinkAttribute) → ((number (attribute_frame v) ≡ IFLA_VF_PORTS) × (length (attribute_frame v).payload ≡ 0) → ⊥) → NotEmptyPorts v
 unfolding attribute_view
 some_ports (Attributes.VfPorts ports) never = ports_some ports (λ none. never (refl, none))
 some_ports _ never = tt
@@ -73,7 +73,7 @@ all_front P (x ∷ front) v all = (all.0, all_front P front v all.1)
 -- the attributes in front were measured, and whether they hold an empty list of ports is known
 pub record Telling (family : AddressFamily) (whole : Result (List LinkAttribute) Cause) (left : List Item) (len : ℕ) (empty : Bool) : Type 0 where
   pub weighing : Weighing (attribute_place family).reads (λ v. canon (attribute_frame v)) AttributeFits whole left len
-  pub ports : MatchBool empty (AllByRecursion HasPorts weighing.front → ⊥) (AllByRecursion HasPorts weighing.front)
+  pub ports : MatchBool empty (AllByRecursion NotEmptyPorts weighing.front → ⊥) (AllByRecursion NotEmptyPorts weighing.front)
 
 telling_starts : (family : AddressFamily) (b : List ℕ) (left : List Item) → left ≡ items b → Telling family (list_of (attribute_place family).reads b) left 0 false
 telling_starts family b left left_is = record {
@@ -92,7 +92,7 @@ module _ (family : AddressFamily) (whole : Result (List LinkAttribute) Cause) (l
     (v : LinkAttribute) (reads : (attribute_place family).reads f ≡ Ok v) where
   -- none of the attributes up to this one is an empty list of ports
   abbrev AllPorts : Type 0
-  AllPorts = AllByRecursion HasPorts (h.weighing.front ++ v ∷ [])
+  AllPorts = AllByRecursion NotEmptyPorts (h.weighing.front ++ v ∷ [])
 
   telling_on : AttributeFits v → (new : ℕ) → new ≡ len + length (canon (attribute_frame v)) → new < 2 ^ 64
       → (answer : Bool) → MatchBool answer (AllPorts → ⊥) AllPorts → Telling family whole rest new answer
@@ -116,7 +116,7 @@ module _ (family : AddressFamily) (whole : Result (List LinkAttribute) Cause) (l
 
   ports_none : (value : ℕ) → value ≡ length (attribute_frame v).payload → (number f ≡ IFLA_VF_PORTS) × (value ≡ 0) → AllPorts → ⊥
   ports_none value size none all =
-      no_ports family f v reads none.0 (sym size ∙ none.1) (all_here HasPorts h.weighing.front v [] all)
+      no_ports family f v reads none.0 (sym size ∙ none.1) (all_here NotEmptyPorts h.weighing.front v [] all)
 
   ports_more : (value : ℕ) → value ≡ length (attribute_frame v).payload → IsFrame f
       → ((number f ≡ IFLA_VF_PORTS) × (value ≡ 0) → ⊥) → MatchBool empty (AllPorts → ⊥) AllPorts
@@ -124,12 +124,12 @@ module _ (family : AddressFamily) (whole : Result (List LinkAttribute) Cause) (l
       let means = (attribute_lawful family).agrees.found f v one reads in
       let same : number (attribute_frame v) ≡ number f = attribute_number family f v means in
       next empty h.ports (some_ports v (λ k. never (sym same ∙ k.0, size ∙ k.1))) where
-        next : (e : Bool) → MatchBool e (AllByRecursion HasPorts h.weighing.front → ⊥) (AllByRecursion HasPorts h.weighing.front)
-            → HasPorts v → MatchBool e (AllPorts → ⊥) AllPorts
-        next true never some = λ all. never (all_front HasPorts h.weighing.front v all)
-        next false all some = all_more HasPorts h.weighing.front v all some
+        next : (e : Bool) → MatchBool e (AllByRecursion NotEmptyPorts h.weighing.front → ⊥) (AllByRecursion NotEmptyPorts h.weighing.front)
+            → NotEmptyPorts v → MatchBool e (AllPorts → ⊥) AllPorts
+        next true never some = λ all. never (all_front NotEmptyPorts h.weighing.front v all)
+        next false all some = all_more NotEmptyPorts h.weighing.front v all some
 
--- ** what is answered
+-- ** what is returned
 
 pub list_weighs_none : (r : Result (List LinkAttribute) Cause) → Weighs (flat_map (λ v. canon (attribute_frame v))) (Counted (λ v. canon (attribute_frame v)) AttributeFits) r None → ListWeighs r None
 list_weighs_none (Ok vs) w = w

@@ -7,7 +7,7 @@ use Rattle.nla_wire.specs.declared.error.Cause.{Cause}
 use Rattle.nla_wire.specs.declared.error.Cause.TheVariants.{TooShort}
 use Rattle.link_msg.specs.Header.{header_size, header_of, IsHeader}
 use Rattle.link_msg.specs.Tables.{attribute_place}
-use Rattle.link_msg.specs.Messages.{Means, Refused, IsRefused}
+use Rattle.link_msg.specs.Messages.{Means, FirstFault, MeansNothing}
 use Rattle.link_msg.specs.FaultAt.{IsFirstFault, IsWithin, FaultsAt}
 use Rattle.link_msg.specs.declared.attribute.LinkAttribute.{LinkAttribute}
 use Rattle.link_msg.specs.declared.header.LinkHeader.{LinkHeader}
@@ -16,18 +16,18 @@ use Rattle.link_msg.proofs.Reading.{message_agrees, parts, is_header}
 use Rattle.link_msg.proofs.Walking.{found_first}
 
 -- what has a fault means nothing
-pub refused_means_none : (b : List ℕ) (c : Cause) → Refused b c → IsRefused b
+pub refused_means_none : (b : List ℕ) (c : Cause) → FirstFault b c → MeansNothing b
 refused_means_none b c refused m means =
     let clash = sym (message_agrees.refused b c refused) ∙ message_agrees.only b m means in absurd cc
 
 -- what is known of a fault, once its place is
 abbrev pub Told : List ℕ → ℕ → Type 0
-Told b at = ((c : Cause) × Refused b c × FaultsAt b c at) × IsRefused b × (at ≤ length b)
+Told b at = ((c : Cause) × FirstFault b c × FaultsAt b c at) × MeansNothing b × (at ≤ length b)
 
 pub told_short : (b : List ℕ) → length b < header_size → Told b 0
 told_short b short =
     let cause = TooShort (length b) header_size in
-    let refused : Refused b cause = inl (short, refl) in
+    let refused : FirstFault b cause = inl (short, refl) in
     ((cause, refused, inl (short, refl)), refused_means_none b cause refused, omega arith)
 
 -- where a fault is, whose frame starts there
@@ -56,7 +56,7 @@ module _ (b : List ℕ) (v : LinkHeader) (d : List ℕ) (long : header_size ≤ 
   told_none vs means = (record { header = v; attributes = vs }, (front, d, front_parts, front_says, means))
 
   module _ (start : ℕ) (frame : Option Frame) (h : IsFirstFault (attribute_place v.interface_family) d start frame) (at : ℕ) (within : IsWithin (header_size + start) frame at) where
-    behind_refused : Refused b h.cause
+    behind_refused : FirstFault b h.cause
     behind_refused = inr (front, d, v, front_parts, front_says, found_first (attribute_place v.interface_family) d start frame h)
 
     in_bytes : (some : Option Frame) → IsFirstFault (attribute_place v.interface_family) d start some → IsWithin (header_size + start) some at → at ≤ length b

@@ -15,7 +15,7 @@ use Rattle.link_recs.specs.MapFields.{map_size, map_laws}
 use Rattle.link_afspec.specs.PlaceLaws.{ZerosAdded, LongerIgnored}
 use Rattle.link_afspec.proofs.Lawed.{filled_zeros, filled_longer, sized_longer}
 use Rattle.link_msg.specs.Header.{header_bytes}
-use Rattle.link_msg.specs.Tables.{attribute_frame, AttributeFits, HasPorts, attribute_view, attribute_entries}
+use Rattle.link_msg.specs.Tables.{attribute_frame, AttributeFits, NotEmptyPorts, attribute_view, attribute_entries}
 use Rattle.link_msg.specs.Tables.{attribute_place, attribute_lawful}
 use Rattle.link_msg.specs.declared.numbers.TheConstants.{IFLA_STATS, IFLA_MAP, IFLA_STATS64}
 use Rattle.link_msg.specs.Messages.{Means, message, message_text}
@@ -46,12 +46,12 @@ joined family c d vs aligned means = (
       (parts.0, parts.2, parts.1),
 )
 
--- what stands behind parts of one length is the same
+-- what stands after parts of one length is the same
 behind_same : (a b c d : List ℕ) → length a ≡ length b → a ++ c ≡ b ++ d → d ≡ c
 behind_same a b c d size whole =
     sym (drop-append_seam b d) ∙ ap (drop (length b)) (sym whole) ∙ ap (λ n. drop n (a ++ c)) (sym size) ∙ drop-append_seam a c
 
--- ** records that are filled up, and records with bytes behind them
+-- ** records that are filled up, and records with bytes after them
 
 module _ (family : AddressFamily) where
   pub stats_zeros_added : ZerosAdded (attribute_place family).means IFLA_STATS
@@ -76,13 +76,13 @@ module _ (family : AddressFamily) where
 
 -- ** what its own text means holds no empty list of ports
 
-ports_of : (family : AddressFamily) (v : LinkAttribute) → (attribute_place family).means (attribute_frame v) v → HasPorts v
+ports_of : (family : AddressFamily) (v : LinkAttribute) → (attribute_place family).means (attribute_frame v) v → NotEmptyPorts v
 unfolding attribute_place attribute_entries attribute_view
 ports_of family (Attributes.VfPorts []) means = absurd (omega (arith, means.1.0))
 ports_of family (Attributes.VfPorts (port ∷ ports)) means = omega arith
 ports_of family _ means = tt
 
-all_ports : (family : AddressFamily) (vs : List LinkAttribute) → AllByRecursion (λ v. (attribute_place family).means (attribute_frame v) v) vs → AllByRecursion HasPorts vs
+all_ports : (family : AddressFamily) (vs : List LinkAttribute) → AllByRecursion (λ v. (attribute_place family).means (attribute_frame v) v) vs → AllByRecursion NotEmptyPorts vs
 all_ports family [] means = tt
 all_ports family (v ∷ vs) means = (ports_of family v means.0, all_ports family vs means.1)
 

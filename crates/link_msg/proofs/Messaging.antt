@@ -14,6 +14,6 @@ header_length v = refl
 pub text_length : (m : LinkMessage) → length (message_text m) ≡ header_size + length (canons attribute_frame m.attributes)
 text_length m = length-append (header_bytes m.header) (canons attribute_frame m.attributes) ∙ ap (λ n. n + length (canons attribute_frame m.attributes)) (header_length m.header)
 
--- what is behind the header is shorter than the machine can count
+-- what is after the header is shorter than the machine can count
 pub attributes_counted : (m : LinkMessage) → MessageFits m → length (canons attribute_frame m.attributes) < 2 ^ 64
 attributes_counted m fits = omega (arith, text_length m, fits.1)

@@ -1,7 +1,7 @@
 -- Whether the text of a message means it, from what is read from the text.
 use Rattle.std.proofs.Common.{◌≡◌, List, ℕ, sym, ◌∙◌, subst, false}
 use Rattle.std.specs.Prelude.{Bool, IsTrue, ◌↔◌}
-use Rattle.link_msg.specs.Messages.{Means, IsRefused, message_text, MessageFits}
+use Rattle.link_msg.specs.Messages.{Means, MeansNothing, message_text, MessageFits}
 use Rattle.link_msg.specs.declared.message.LinkMessage.{LinkMessage}
 use Rattle.link_msg.proofs.Reading.{message_agrees}
 
@@ -21,5 +21,5 @@ read_again t m n same fits is means decided = (
 )
 
 -- the text means nothing
-pub not_read_again : (t : List ℕ) (m : LinkMessage) → t ≡ message_text m → IsRefused t → IsTrue false ↔ IsMeantByText m
+pub not_read_again : (t : List ℕ) (m : LinkMessage) → t ≡ message_text m → MeansNothing t → IsTrue false ↔ IsMeantByText m
 not_read_again t m is refused = (λ yes. absurd cc, λ meant. absurd (refused m (subst (λ x. Means x m) (sym is) meant.1)))

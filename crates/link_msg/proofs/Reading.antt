@@ -1,4 +1,4 @@
--- The reader of messages answers what the relations say.
+-- The reader of messages returns what the relations say.
 use Rattle.std.proofs.Common.{◌≡◌, ℕ, ◌<◌, ◌≤◌, inl, inr, List, ◌++◌, length, take, drop, refl, sym, ap, ◌∙◌, subst}
 use Rattle.std.proofs.Common.{arith, length-append, lt-ltb, le-ltb, Result, Ok, Err}
 use Rattle.link_msg.specs.Tables.{attribute_place, attribute_lawful}
@@ -13,7 +13,7 @@ use Rattle.nla_wire.proofs.Lists.{list_agrees}
 use Rattle.nla_wire.proofs.Steps.{bytes_right}
 use Rattle.link_vals.specs.declared.address_family.AddressFamily.{AddressFamily}
 use Rattle.link_msg.specs.Header.{header_size, header_of, IsHeader}
-use Rattle.link_msg.specs.Messages.{Means, Refused, with_header, read_behind, read_message, message}
+use Rattle.link_msg.specs.Messages.{Means, FirstFault, with_header, read_behind, read_message, message}
 use Rattle.link_msg.specs.declared.attribute.LinkAttribute.{LinkAttribute}
 use Rattle.link_msg.specs.declared.header.LinkHeader.{LinkHeader}
 use Rattle.link_msg.specs.declared.message.LinkMessage.{LinkMessage}
@@ -39,7 +39,7 @@ read_split h c size =
 
 -- ** values that take no memory
 
--- ** what is behind the header
+-- ** what is after the header
 
 bound_ok : (v : LinkHeader) (r : Result (List LinkAttribute) Cause) (m : LinkMessage) → with_header v r ≡ Ok m
     → (attributes : List LinkAttribute) × (r ≡ Ok attributes) × (m ≡ record { header = v; attributes = attributes })
@@ -50,7 +50,7 @@ bound_err : (v : LinkHeader) (r : Result (List LinkAttribute) Cause) (c : Cause)
 bound_err v (Ok attributes) c e = absurd cc
 bound_err v (Err d) c e = let same : d ≡ c = cc in ap (λ x. Err x) same
 
--- every byte string is shorter than a header, or a header and what is behind it
+-- every byte string is shorter than a header, or a header and what is after it
 pub parts : (b : List ℕ) → header_size ≤ length b → b ≡ take header_size b ++ drop header_size b
 parts b long = sym (take-append-drop header_size b)
 
@@ -80,7 +80,7 @@ read_found b m small e = elim (leb_tells header_size (length b)) [
       ))
 ]
 
-read_fault : (b : List ℕ) (c : Cause) → IsBytes b → read_message b ≡ Err c → Refused b c
+read_fault : (b : List ℕ) (c : Cause) → IsBytes b → read_message b ≡ Err c → FirstFault b c
 read_fault b c small e = elim (leb_tells header_size (length b)) [
   | inr short ↦ (let clash = sym (read_short b short.1) ∙ e in let same : TooShort (length b) header_size ≡ c = cc in inl (short.1, sym same))
   | inl long ↦
@@ -95,7 +95,7 @@ read_fault b c small e = elim (leb_tells header_size (length b)) [
       ))
 ]
 
-read_refused : (b : List ℕ) (c : Cause) → Refused b c → read_message b ≡ Err c
+read_refused : (b : List ℕ) (c : Cause) → FirstFault b c → read_message b ≡ Err c
 read_refused b c (inl (short, is)) = read_short b short ∙ ap (λ x. Err x) (sym is)
 read_refused b c (inr (h, d, v, whole, header, first)) =
     ap read_message whole ∙ read_split h d header.size ∙ ap (λ x. read_behind x d) (sym header.says)

@@ -17,7 +17,7 @@ use Rattle.link_vals.specs.declared.address_family.AddressFamily.{AddressFamily}
 use Rattle.link_vals.specs.declared.link_layer_type.LinkLayerType.{LinkLayerType}
 use Rattle.link_vals.specs.declared.link_flags.LinkFlags.{LinkFlags}
 use Rattle.link_msg.specs.Header.{header_of, IsHeader, header_bytes}
-use Rattle.link_msg.specs.Tables.{attribute_frame, AttributeFits, HasPorts, attribute_count, attribute_place}
+use Rattle.link_msg.specs.Tables.{attribute_frame, AttributeFits, NotEmptyPorts, attribute_count, attribute_place}
 use Rattle.link_msg.specs.Tables.{attribute_lawful}
 use Rattle.link_msg.specs.Messages.{Means, message_text, MessageFits, NoEmptyPorts}
 use Rattle.link_msg.specs.declared.header.LinkHeader.{LinkHeader}
@@ -65,6 +65,6 @@ message_back b m small (h, c, whole, header, means) fits ports =
       canons attribute_frame m.attributes,
       refl,
       header_back h m.header (bytes_left h c bytes) header,
-      place_back (attribute_place m.header.interface_family) attribute_frame AttributeFits HasPorts attribute_count growth 0 attribute_small (attribute_lawful m.header.interface_family)
+      place_back (attribute_place m.header.interface_family) attribute_frame AttributeFits NotEmptyPorts attribute_count growth 0 attribute_small (attribute_lawful m.header.interface_family)
           c m.attributes (bytes_right h c bytes) means fits.0 ports,
     )

@@ -57,7 +57,7 @@ canon_first b f rest h padded =
 
 -- ** the walk
 
--- of the values in front, the early ones have the run as their text, and the bytes behind it are read as the later ones
+-- of the values in front, the early ones have the run as their text, and the bytes after it are read as the later ones
 -- and those of the items that are left
 pub record Running {V : Type 0} (read : Frame → Result V Cause) (text : V → List ℕ) (b : List ℕ)
     (left : List Item) (front : List V) (len run : ℕ) : Type 0 where
@@ -131,7 +131,7 @@ module _ {V : Type 0} (read : Frame → Result V Cause) (text : V → List ℕ) 
         short = omega arith;
       }
 
-  -- what the run is behind the frame
+  -- what the run is after the frame
   pub running_next : IsBytes b → (spelled : Bool) (frame_len after : ℕ) → (spelled ≡ true → text v ≡ canon f)
       → frame_len ≡ 4 + length f.payload → new ≡ len + length (text v) → len < new
       → RunsOn b run len spelled frame_len new after
@@ -205,7 +205,7 @@ module _ {V : Type 0} (read : Frame → Result V Cause) (text : V → List ℕ) 
         subst (λ r. Rewrites (flat_map text) r (take (length now - run) (drop run now)) part n)
         (ap (list_of read) rest_is ∙ h.others_are) w
 
-    -- the run, and the text of the others behind it
+    -- the run, and the text of the others after it
     pub run_writes : now ≡ take run b ++ drop run old
         → Rewrites (flat_map text) (list_of read b) old (put_mid run (length now - run) now part) (run + n)
     run_writes now_is =

@@ -10,7 +10,7 @@ use Rattle.nla_wire.proofs.Tables.{IsOther, other_reads}
 use Rattle.nla_wire.proofs.Shapes.{ShapeChecks, ShapeWeighs, ShapeRoom, ShapeWrites, WayChecks, WayWeighs, WayRoom}
 use Rattle.nla_wire.proofs.Shapes.{WayWrites, lined_checks, lined_weighs, lined_room, lined_writes}
 use Rattle.link_vals.specs.declared.address_family.AddressFamily.{AddressFamily}
-use Rattle.link_msg.specs.Tables.{base, HasPorts, attribute_view, attribute_entries, attribute_frame, AttributeFits}
+use Rattle.link_msg.specs.Tables.{base, NotEmptyPorts, attribute_view, attribute_entries, attribute_frame, AttributeFits}
 use Rattle.link_msg.specs.Tables.{attribute_place, attribute_way, as_way, other_kept}
 use Rattle.link_msg.specs.declared.shape.Shape.{Shape}
 use Rattle.link_msg.specs.declared.attribute.LinkAttribute.{LinkAttribute}
@@ -25,40 +25,40 @@ shape_here family f n p told shape same payload is of =
 
 module _ (family : AddressFamily) (f : Frame) where
   pub shape_checks : (shape : Option Shape) (answer : Result Unit DecodeError) → attribute_way family (number f) (length f.payload) ≡ as_way shape
-      → WayChecks base attribute_view HasPorts (as_way shape) f.payload answer → Checks answer ((attribute_place family).reads f)
+      → WayChecks base attribute_view NotEmptyPorts (as_way shape) f.payload answer → Checks answer ((attribute_place family).reads f)
   unfolding attribute_place
-  shape_checks shape answer is h = lined_checks base attribute_view HasPorts Attributes.Other other_kept (attribute_entries family) f (as_way shape) is answer h
+  shape_checks shape answer is h = lined_checks base attribute_view NotEmptyPorts Attributes.Other other_kept (attribute_entries family) f (as_way shape) is answer h
 
   pub shape_weighs : (shape : Option Shape) (a : Option ℕ) → attribute_way family (number f) (length f.payload) ≡ as_way shape → IsFrame f
-      → WayWeighs base attribute_view HasPorts (as_way shape) f.payload a
+      → WayWeighs base attribute_view NotEmptyPorts (as_way shape) f.payload a
       → Weighs (λ v. (attribute_frame v).payload) AttributeFits ((attribute_place family).reads f) a
   unfolding attribute_place
   shape_weighs shape a is one h =
-      lined_weighs base attribute_view HasPorts Attributes.Other other_kept (attribute_entries family) f (as_way shape) is one.bytes one.size a h
+      lined_weighs base attribute_view NotEmptyPorts Attributes.Other other_kept (attribute_entries family) f (as_way shape) is one.bytes one.size a h
 
   pub shape_room : (shape : Option Shape) (room : ℕ) → attribute_way family (number f) (length f.payload) ≡ as_way shape → IsFrame f
       → HasRoom (λ v. canon (attribute_frame v)) AttributeFits ((attribute_place family).reads f) room
-      → WayRoom base attribute_view HasPorts (as_way shape) f room
+      → WayRoom base attribute_view NotEmptyPorts (as_way shape) f room
   unfolding attribute_place
   shape_room shape room is one h =
-      lined_room base attribute_view HasPorts Attributes.Other other_kept (attribute_entries family) f (as_way shape) is one.bytes room h
+      lined_room base attribute_view NotEmptyPorts Attributes.Other other_kept (attribute_entries family) f (as_way shape) is one.bytes room h
 
   pub shape_writes : (shape : Option Shape) (old new : List ℕ) (n : ℕ) → attribute_way family (number f) (length f.payload) ≡ as_way shape → IsFrame f
-      → WayWrites base attribute_view HasPorts (as_way shape) f old new n
+      → WayWrites base attribute_view NotEmptyPorts (as_way shape) f old new n
       → Rewrites (λ v. canon (attribute_frame v)) ((attribute_place family).reads f) old new n
   unfolding attribute_place
   shape_writes shape old new n is one h =
-      lined_writes base attribute_view HasPorts Attributes.Other other_kept (attribute_entries family) f (as_way shape) is one.bytes old new n h
+      lined_writes base attribute_view NotEmptyPorts Attributes.Other other_kept (attribute_entries family) f (as_way shape) is one.bytes old new n h
 
 -- an attribute of a number that no line has is kept
-pub gives_other : (family : AddressFamily) (f : Frame) (answer : Result LinkAttribute DecodeError) → IsOther base attribute_view HasPorts (attribute_entries family) (number f)
+pub gives_other : (family : AddressFamily) (f : Frame) (answer : Result LinkAttribute DecodeError) → IsOther base attribute_view NotEmptyPorts (attribute_entries family) (number f)
     → Gives answer (Ok (Attributes.Other f)) → Gives answer ((attribute_place family).reads f)
 unfolding attribute_place
 gives_other family f answer other h =
     subst (λ r. Gives answer r)
-    (sym (other_reads base attribute_view HasPorts (number f) (length f.payload) (attribute_entries family) (λ f. Ok (Attributes.Other f)) f other)) h
+    (sym (other_reads base attribute_view NotEmptyPorts (number f) (length f.payload) (attribute_entries family) (λ f. Ok (Attributes.Other f)) f other)) h
 
-pub adds_other : (family : AddressFamily) (f d : Frame) (old new : List LinkAttribute) → IsOther base attribute_view HasPorts (attribute_entries family) (number f)
+pub adds_other : (family : AddressFamily) (f d : Frame) (old new : List LinkAttribute) → IsOther base attribute_view NotEmptyPorts (attribute_entries family) (number f)
     → d ≡ f → new ≡ old ++ Attributes.Other d ∷ [] → Adds (Ok tt) ((attribute_place family).reads f) old new
 adds_other family f d old new other same added =
     (Attributes.Other f, gives_other family f (Ok (Attributes.Other f)) other refl, added ∙ ap (λ e. old ++ Attributes.Other e ∷ []) same)

@@ -242,7 +242,7 @@ module _ {V : Type 0} (place : Grammar Frame V) (b : List ℕ) where
 
 -- ** the first fault is that of the list
 
--- behind a frame a length that is a multiple of four is left
+-- after a frame a length that is a multiple of four is left
 left_whole : (c : List ℕ) (f : Frame) (rest : List ℕ) (h : Begins c f rest) → length c % 4 ≡ 0 → (length h.padding ≡ missing (length f.payload)) ⊎ (rest ≡ []) → length rest % 4 ≡ 0
 left_whole c f rest h whole (inl full) = omega (arith, length-begins c f rest h, whole, full)
 left_whole c f rest h whole (inr ended) = omega (arith, ap (λ (x : List ℕ). length x) ended)

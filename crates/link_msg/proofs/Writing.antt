@@ -1,4 +1,4 @@
--- Canonical text of a message: measured, and written behind its header.
+-- Canonical text of a message: measured, and written after its header.
 use Rattle.std.proofs.Common.{◌≡◌, ◌≢◌, ℕ, ◌+◌, ◌-◌, ◌^◌, ◌<◌, ◌≤◌, List, [], ◌++◌, length, take, drop, refl, sym}
 use Rattle.std.proofs.Common.{ap, ◌∙◌, subst, arith, inr, append-nil, Result, Ok, Err, Some, None}
 use Rattle.std.proofs.Common.{Bool, false, true, MatchBool}
@@ -16,8 +16,8 @@ use Rattle.nla_wire.proofs.Meaning.{never_both}
 use Rattle.nla_wire.proofs.Canonical.{write_on}
 use Rattle.nla_wire.proofs.Steps.{bytes_right}
 use Rattle.link_msg.specs.Header.{header_size, header_of, IsHeader, header_bytes}
-use Rattle.link_msg.specs.Tables.{attribute_frame, AttributeFits, HasPorts, attribute_place}
-use Rattle.link_msg.specs.Messages.{Means, Refused, IsRefused, message, message_text, MessageFits}
+use Rattle.link_msg.specs.Tables.{attribute_frame, AttributeFits, NotEmptyPorts, attribute_place}
+use Rattle.link_msg.specs.Messages.{Means, FirstFault, MeansNothing, message, message_text, MessageFits}
 use Rattle.link_msg.specs.CanonErrors.{refusal_for, refusal_of}
 use Rattle.link_msg.specs.Canonical.{IsAccepted, HasText, IsRefusalAlone, IsUnfit, HasEmptyPorts, ListWeighs, IsMeasured}
 use Rattle.link_msg.specs.declared.attribute.LinkAttribute.{LinkAttribute}
@@ -33,7 +33,7 @@ use Rattle.link_msg.proofs.Answering.{accepted_text}
 decoded : (e : DecodeError) → Refusals.Decode e ≢ Refusals.OutOfMemory
 decoded e same = absurd cc
 
-refused_by : (b : List ℕ) (e : DecodeError) (c : Cause) → e.cause ≡ c → Refused b e.cause → e.cause ≢ OutOfMemory → IsRefused b → IsRefusalAlone b (refusal_for c e)
+refused_by : (b : List ℕ) (e : DecodeError) (c : Cause) → e.cause ≡ c → FirstFault b e.cause → e.cause ≢ OutOfMemory → MeansNothing b → IsRefusalAlone b (refusal_for c e)
 refused_by b e Causes.OutOfMemory is fault memory none = absurd (memory is)
 refused_by b e (Causes.TooShort got need) is fault memory none = ((fault, memory, none), decoded e)
 refused_by b e (Causes.FrameShort left) is fault memory none = ((fault, memory, none), decoded e)
@@ -44,7 +44,7 @@ refused_by b e (Causes.WrongLength got want) is fault memory none = ((fault, mem
 refused_by b e Causes.NotUtf8 is fault memory none = ((fault, memory, none), decoded e)
 refused_by b e Causes.InvalidState is fault memory none = ((fault, memory, none), decoded e)
 
--- ** measured: a header and what stands behind it
+-- ** measured: a header and what stands after it
 
 module _ (b : List ℕ) (v : LinkHeader) (d : List ℕ) (long : header_size ≤ length b) (v_is : v ≡ header_of (take header_size b)) (d_is : d ≡ drop header_size b) where
   whole : b ≡ take header_size b ++ d
@@ -59,7 +59,7 @@ module _ (b : List ℕ) (v : LinkHeader) (d : List ℕ) (long : header_size ≤ 
   -- the attributes are refused
   pub measured_refused : (e : DecodeError) → (list (attribute_place v.interface_family)).bad d e.cause → e.cause ≢ OutOfMemory → IsRefusalAlone b (refusal_of e)
   measured_refused e fault memory =
-      let refused : Refused b e.cause = inr (take header_size b, d, v, whole, header, fault) in
+      let refused : FirstFault b e.cause = inr (take header_size b, d, v, whole, header, fault) in
       refused_by b e e.cause refl refused memory (λ m means. never_both IsBytes message message_agrees b m e.cause means refused)
 
   -- not all of the attributes fit
@@ -70,13 +70,13 @@ module _ (b : List ℕ) (v : LinkHeader) (d : List ℕ) (long : header_size ≤ 
       (m, behind_means vs means, λ fits. unfit (fits.0, attributes_counted m fits))
 
   weighed : (r : Result (List LinkAttribute) Cause) (w : ℕ × Bool) → ListWeighs r (Some w)
-      → (vs : List LinkAttribute) × (r ≡ Ok vs) × AllFit AttributeFits attribute_frame vs × (w.0 ≡ length (canons attribute_frame vs)) × MatchBool w.1 (AllByRecursion HasPorts vs → ⊥) (AllByRecursion HasPorts vs)
+      → (vs : List LinkAttribute) × (r ≡ Ok vs) × AllFit AttributeFits attribute_frame vs × (w.0 ≡ length (canons attribute_frame vs)) × MatchBool w.1 (AllByRecursion NotEmptyPorts vs → ⊥) (AllByRecursion NotEmptyPorts vs)
   weighed (Ok vs) w h = (vs, refl, h.0, h.1, h.2)
   weighed (Err c) w h = absurd h
 
   module _ (bytes : IsBytes b) (n : ℕ) (empty : Bool) (h : ListWeighs ((list (attribute_place v.interface_family)).reads d) (Some (n, empty))) where
     measured : (vs : List LinkAttribute) × ((list (attribute_place v.interface_family)).reads d ≡ Ok vs) × AllFit AttributeFits attribute_frame vs × (n ≡ length (canons attribute_frame vs))
-        × MatchBool empty (AllByRecursion HasPorts vs → ⊥) (AllByRecursion HasPorts vs)
+        × MatchBool empty (AllByRecursion NotEmptyPorts vs → ⊥) (AllByRecursion NotEmptyPorts vs)
     measured = weighed ((list (attribute_place v.interface_family)).reads d) (n, empty) h
 
     behind_bytes : IsBytes d
@@ -102,7 +102,7 @@ module _ (b : List ℕ) (v : LinkHeader) (d : List ℕ) (long : header_size ≤ 
     pub measured_empty : empty ≡ true → header_size + n < 2 ^ 64 → HasEmptyPorts b
     unfolding message_read
     measured_empty is counted =
-        (message_read, read_means, read_fits counted, subst (λ t. MatchBool t (AllByRecursion HasPorts measured.0 → ⊥) (AllByRecursion HasPorts measured.0)) is measured.4)
+        (message_read, read_means, read_fits counted, subst (λ t. MatchBool t (AllByRecursion NotEmptyPorts measured.0 → ⊥) (AllByRecursion NotEmptyPorts measured.0)) is measured.4)
 
     pub measured_whole : empty ≡ false → header_size + n < 2 ^ 64 → IsMeasured b v d n
     unfolding message_read
@@ -111,7 +111,7 @@ module _ (b : List ℕ) (v : LinkHeader) (d : List ℕ) (long : header_size ≤ 
       accepted = record {
         means = read_means;
         fits = read_fits counted;
-        ports = subst (λ t. MatchBool t (AllByRecursion HasPorts measured.0 → ⊥) (AllByRecursion HasPorts measured.0)) is measured.4;
+        ports = subst (λ t. MatchBool t (AllByRecursion NotEmptyPorts measured.0 → ⊥) (AllByRecursion NotEmptyPorts measured.0)) is measured.4;
       };
       reads = measured.1;
       len = measured.3;
@@ -150,7 +150,7 @@ module _ (b : List ℕ) (v : LinkHeader) (d : List ℕ) (n : ℕ) (h : IsMeasure
       let rest : drop k old ≡ [] = drop_all k old (omega (arith, exact, one.length_is, measured_length)) in
       accepted_text b new measured_message bytes measured_accepted (one.new_is ∙ ap (λ (t : List ℕ). message_text measured_message ++ t) rest ∙ append-nil (message_text measured_message))
 
--- the attributes behind the header
+-- the attributes after the header
 pub written_behind : (v : LinkHeader) (r : Result (List LinkAttribute) Cause) (old emitted part : List ℕ) (k : ℕ) → emitted ≡ header_bytes v ++ drop header_size old
     → Rewrites (canons attribute_frame) r (take (length emitted - header_size) (drop header_size emitted)) part k
     → Rewrites (λ vs. header_bytes v ++ canons attribute_frame vs) r old (put_mid header_size (length emitted - header_size) emitted part) (header_size + k)

@@ -12,7 +12,7 @@ canon_error_number DoesNotFit = 2
 canon_error_number EmptyVfPorts = 3
 canon_error_number OutOfMemory = 4
 
--- the refusal of this cause: want of memory is a refusal of its own
+-- the refusal of this cause: lack of memory is a refusal of its own
 abbrev pub refusal_for : Cause → DecodeError → CanonError
 refusal_for Causes.OutOfMemory e = OutOfMemory
 refusal_for _ e = Decode e

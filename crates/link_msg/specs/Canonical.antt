@@ -1,4 +1,4 @@
--- What `canonical` and its kin answer of a byte string.
+-- What `canonical` and its kin return of a byte string.
 use Rattle.std.specs.Prelude.{◌≡◌, ◌≢◌, ℕ, ◌+◌, ◌-◌, ◌*◌, ◌<◌, ◌≤◌, ◌⊎◌, ◌↔◌, Bool, IsTrue, MatchBool, Result, Ok}
 use Rattle.std.specs.Prelude.{Err, List, length, Option, Some, None}
 use Rattle.nla_wire.specs.Sizes.{growth_per_byte}
@@ -8,9 +8,9 @@ use Rattle.nla_wire.specs.declared.error.Cause.{Cause}
 use Rattle.nla_wire.specs.declared.error.Cause.TheVariants.{OutOfMemory}
 use Rattle.std.specs.List.{AllByRecursion}
 use Rattle.link_msg.specs.Header.{header_size}
-use Rattle.link_msg.specs.Tables.{attribute_frame, AttributeFits, HasPorts, attribute_place}
+use Rattle.link_msg.specs.Tables.{attribute_frame, AttributeFits, NotEmptyPorts, attribute_place}
 use Rattle.link_msg.specs.Runs.{IsRun}
-use Rattle.link_msg.specs.Messages.{Means, Refused, IsRefused, message_text, MessageFits, NoEmptyPorts}
+use Rattle.link_msg.specs.Messages.{Means, FirstFault, MeansNothing, message_text, MessageFits, NoEmptyPorts}
 use Rattle.link_vals.specs.declared.address_family.AddressFamily.{AddressFamily}
 use Rattle.link_msg.specs.declared.attribute.LinkAttribute.{LinkAttribute}
 use Rattle.link_msg.specs.declared.header.LinkHeader.{LinkHeader}
@@ -45,12 +45,12 @@ HasEmptyPorts b = (m : LinkMessage) × Means b m × MessageFits m × (NoEmptyPor
 
 -- why there is no canonical text of b; that memory ran out says nothing of it
 abbrev pub IsRefusal : List ℕ → CanonError → Type 0
-IsRefusal b (Refusals.Decode e) = Refused b e.cause × (e.cause ≢ OutOfMemory) × IsRefused b
+IsRefusal b (Refusals.Decode e) = FirstFault b e.cause × (e.cause ≢ OutOfMemory) × MeansNothing b
 IsRefusal b Refusals.DoesNotFit = IsUnfit b
 IsRefusal b Refusals.EmptyVfPorts = HasEmptyPorts b
 IsRefusal b Refusals.OutOfMemory = Unit {0}
 
--- both are accepted, and the answer is whether they mean the same message, which is whether their texts are equal
+-- both are accepted, and the result is whether they mean the same message, which is whether their texts are equal
 pub record AreSameMessages (a b : List ℕ) (m n : LinkMessage) (answer : Bool) : Type 0 where
   pub first : IsAccepted a m
   pub second : IsAccepted b n
@@ -64,7 +64,7 @@ AreSame a b answer = (m : LinkMessage) × (n : LinkMessage) × AreSameMessages a
 abbrev pub IsRefusalOfTwo : List ℕ → List ℕ → CanonError → Type 0
 IsRefusalOfTwo a b e = IsRefusal a e ⊎ (((m : LinkMessage) × IsAccepted a m) × IsRefusal b e)
 
--- a refusal, and not for want of memory
+-- a refusal, and not for lack of memory
 abbrev pub IsRefusalAlone : List ℕ → CanonError → Type 0
 IsRefusalAlone b e = IsRefusal b e × (e ≢ Refusals.OutOfMemory)
 
@@ -92,7 +92,7 @@ IsWithin b old new (Err (Rooms.NoRoom wanted)) = (m : LinkMessage) × IsAccepted
 -- one does not fit, or none are read
 abbrev pub ListWeighs : Result (List LinkAttribute) Cause → Option (ℕ × Bool) → Type 0
 ListWeighs (Ok vs) (Some w) =
-    AllFit AttributeFits attribute_frame vs × (w.0 ≡ length (canons attribute_frame vs)) × MatchBool w.1 (AllByRecursion HasPorts vs → ⊥) (AllByRecursion HasPorts vs)
+    AllFit AttributeFits attribute_frame vs × (w.0 ≡ length (canons attribute_frame vs)) × MatchBool w.1 (AllByRecursion NotEmptyPorts vs → ⊥) (AllByRecursion NotEmptyPorts vs)
 ListWeighs (Ok vs) None = AllFit AttributeFits attribute_frame vs → ⊥
 ListWeighs (Err c) (Some w) = ⊥
 ListWeighs (Err c) None = Unit {0}

@@ -21,7 +21,7 @@ least_size (Some f) = 4 + length f.payload
 abbrev pub IsInside : List ℕ → ℕ → Option Frame → Type 0
 IsInside b at frame = at + least_size frame ≤ length b
 
--- `at` bytes of b, which are a list of their own, have values; and what begins behind them has this fault by itself
+-- `at` bytes of b, which are a list of their own, have values; and what begins after them has this fault by itself
 pub record IsFirstFault {V : Type 0} (place : Grammar Frame V) (b : List ℕ) (at : ℕ) (frame : Option Frame) : Type 0 where
   pub before : List ℕ
   pub behind : List ℕ
@@ -38,7 +38,7 @@ abbrev pub IsWithin : ℕ → Option Frame → ℕ → Type 0
 IsWithin start None at = at ≡ start
 IsWithin start (Some f) at = (at ≡ start) ⊎ ((start + 4 ≤ at) × (at < start + 4 + length f.payload))
 
--- the attributes behind the header have this fault: the outermost one that has it starts there, or holds that place
+-- the attributes after the header have this fault: the outermost one that has it starts there, or holds that place
 pub record FaultsBehind (b : List ℕ) (c : Cause) (at : ℕ) : Type 0 where
   pub header : List ℕ
   pub fields : LinkHeader

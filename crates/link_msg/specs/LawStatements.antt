@@ -36,7 +36,7 @@ abbrev pub CanonicalTwice : Type 0
 CanonicalTwice =
     (b : List ℕ) (m n : LinkMessage) → IsBytes b → Means b m → MessageFits m → NoEmptyPorts m → Means (message_text m) n → message_text n ≡ message_text m
 
--- behind a list of attributes whose length is a multiple of four, bytes are read as they are alone
+-- after a list of attributes whose length is a multiple of four, bytes are read as they are alone
 abbrev pub Joined : Type 0
 Joined = (family : AddressFamily) (c d : List ℕ) (vs : List LinkAttribute) → length c % 4 ≡ 0 → (list (attribute_place family)).means c vs
     → ((ws : List LinkAttribute) → (list (attribute_place family)).means d ws → (list (attribute_place family)).means (c ++ d) (vs ++ ws))

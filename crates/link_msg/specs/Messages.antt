@@ -8,7 +8,7 @@ use Rattle.nla_wire.specs.Canon.{canons, total}
 use Rattle.nla_wire.specs.declared.error.Cause.{Cause}
 use Rattle.nla_wire.specs.declared.error.Cause.TheVariants.{TooShort}
 use Rattle.link_msg.specs.Header.{header_size, header_of, IsHeader, header_bytes}
-use Rattle.link_msg.specs.Tables.{attribute_frame, AttributeFits, HasPorts, attribute_count, attribute_place}
+use Rattle.link_msg.specs.Tables.{attribute_frame, AttributeFits, NotEmptyPorts, attribute_count, attribute_place}
 use Rattle.link_msg.specs.declared.attribute.LinkAttribute.{LinkAttribute}
 use Rattle.link_msg.specs.declared.header.LinkHeader.{LinkHeader}
 use Rattle.link_msg.specs.declared.message.LinkMessage.{LinkMessage}
@@ -19,30 +19,30 @@ abbrev pub Means : List ℕ → LinkMessage → Type 0
 Means b m =
     (h : List ℕ) × (c : List ℕ) × (b ≡ h ++ c) × IsHeader h m.header × (list (attribute_place m.header.interface_family)).means c m.attributes
 
--- b means no message, and this is the first fault: it is shorter than a header, or the attributes behind its header
+-- b means no message, and this is the first fault: it is shorter than a header, or the attributes after its header
 -- have it
-abbrev pub Refused : List ℕ → Cause → Type 0
-Refused b c =
+abbrev pub FirstFault : List ℕ → Cause → Type 0
+FirstFault b c =
     ((length b < header_size) × (c ≡ TooShort (length b) header_size))
     ⊎ ((h : List ℕ) × (d : List ℕ) × (v : LinkHeader) × (b ≡ h ++ d) × IsHeader h v × First (attribute_place v.interface_family) d c)
 
--- a header and what was read behind it
+-- a header and what was read after it
 abbrev pub with_header : LinkHeader → Result (List LinkAttribute) Cause → Result LinkMessage Cause
 with_header v (Ok attributes) = Ok (record { header = v; attributes = attributes })
 with_header v (Err c) = Err c
 
--- what a reader answers of the bytes behind a header
+-- what a reader returns of the bytes after a header
 abbrev pub read_behind : LinkHeader → List ℕ → Result LinkMessage Cause
 read_behind v d = with_header v ((list (attribute_place v.interface_family)).reads d)
 
--- what a reader of messages answers
+-- what a reader of messages returns
 unfoldable pub read_message : List ℕ → Result LinkMessage Cause
 read_message b =
     if nat_lt (length b) header_size then Err (TooShort (length b) header_size) else read_behind (header_of (take header_size b)) (drop header_size b)
 
--- messages: what they mean, why bytes mean none, and what a reader answers
+-- messages: what they mean, why bytes mean none, and what a reader returns
 abbrev pub message : Grammar (List ℕ) LinkMessage
-message = record { means = Means; bad = Refused; reads = read_message }
+message = record { means = Means; bad = FirstFault; reads = read_message }
 
 -- the canonical text: the header, and the canonical text of each attribute
 abbrev pub message_text : LinkMessage → List ℕ
@@ -54,7 +54,7 @@ MessageFits m = AllByRecursion AttributeFits m.attributes × (length (message_te
 
 -- no attribute is an empty list of ports
 abbrev pub NoEmptyPorts : LinkMessage → Type 0
-NoEmptyPorts m = AllByRecursion HasPorts m.attributes
+NoEmptyPorts m = AllByRecursion NotEmptyPorts m.attributes
 
 -- some bytes mean it
 abbrev pub Meant : LinkMessage → Type 0
@@ -65,8 +65,8 @@ abbrev pub message_count : LinkMessage → ℕ
 message_count m = total attribute_count m.attributes
 
 -- b means no message
-abbrev pub IsRefused : List ℕ → Type 0
-IsRefused b = (m : LinkMessage) → Means b m → ⊥
+abbrev pub MeansNothing : List ℕ → Type 0
+MeansNothing b = (m : LinkMessage) → Means b m → ⊥
 
 -- how a message is bounded by the bytes that it was read from: four bytes at least for each attribute at any level,
 -- canonical attributes at most `growth_per_byte` times as long, and it fits where there were at most `small_enough`

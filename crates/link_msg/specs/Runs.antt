@@ -12,11 +12,11 @@ use Rattle.link_msg.specs.Tables.{base, attribute_frame, AttributeFits, attribut
 use Rattle.link_msg.specs.declared.shape.Shape.{Shape}
 use Rattle.link_msg.specs.declared.attribute.LinkAttribute.{LinkAttribute}
 
--- behind n bytes at the front stands all of their padding, and it is zeros
+-- after n bytes at the front stands all of their padding, and it is zeros
 abbrev pub IsPadded : List ℕ → ℕ → Type 0
 IsPadded b n = (n + missing n ≤ length b) × (take (missing n) (drop n b) ≡ replicate (missing n) 0)
 
--- what a run is behind a frame of this length: it goes on to `more` where it reached up to the frame, which is told to
+-- what a run is after a frame of this length: it goes on to `more` where it reached up to the frame, which is told to
 -- be its own text and has all of its padding; or it stays
 abbrev pub RunsOn : List ℕ → ℕ → ℕ → Bool → ℕ → ℕ → ℕ → Type 0
 RunsOn b run len spelled frame_len more after =

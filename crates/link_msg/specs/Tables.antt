@@ -12,7 +12,7 @@ use Rattle.std.proofs.Common.{ap, sym, subst, lit<, lit≤, arith}
 use lib.Dec.{T}
 use Rattle.nla_wire.specs.Sizes.{most_payload, plain_growth, growth, attribute_small}
 use Rattle.nla_wire.specs.Frames.{Frame, number, IsBytes}
-use Rattle.nla_wire.specs.Grammar.{Grammar, as_a, kept}
+use Rattle.nla_wire.specs.Grammar.{Grammar, as_a, undecoded}
 use Rattle.nla_wire.specs.Payloads as payload
 use Rattle.nla_wire.specs.Canon.{canon}
 use Rattle.nla_wire.proofs.Lawful.{LawfulPayload, LawfulPlace, always, none, through_lawful, filled_lawful}
@@ -290,11 +290,11 @@ ports = by_shape Shapes.Ports
 -- ** the table
 
 -- it is no empty list of ports, whose text would be refused
-abbrev pub HasPorts : LinkAttribute → Type 0
-HasPorts (Attributes.VfPorts ports) = 0 < length ports
-HasPorts _ = Unit {0}
+abbrev pub NotEmptyPorts : LinkAttribute → Type 0
+NotEmptyPorts (Attributes.VfPorts ports) = 0 < length ports
+NotEmptyPorts _ = Unit {0}
 
-abbrev pub attribute_table : Table base attributes HasPorts
+abbrev pub attribute_table : Table base attributes NotEmptyPorts
 attribute_table =
     line IFLA_ADDRESS bytes Attributes.Address
     & line IFLA_BROADCAST bytes Attributes.Broadcast
@@ -367,11 +367,11 @@ attribute_table =
     & tt
 
 unfoldable pub attribute_view : LinkAttribute → Seen
-attribute_view = view_of base attributes HasPorts attribute_table
+attribute_view = view_of base attributes NotEmptyPorts attribute_table
 
 -- the frame that an attribute is written as
 abbrev pub attribute_frame : LinkAttribute → Frame
-attribute_frame = tables.frame_of base attribute_view HasPorts
+attribute_frame = tables.frame_of base attribute_view NotEmptyPorts
 
 -- what is inside of it fits
 abbrev pub InsideFits : LinkAttribute → Type 0
@@ -379,11 +379,11 @@ InsideFits v = (attribute_view v).Inside
 
 -- its value has at most 65531 bytes, and what is inside of it fits
 abbrev pub AttributeFits : LinkAttribute → Type 0
-AttributeFits = tables.FitsAs base attribute_view HasPorts
+AttributeFits = tables.FitsAs base attribute_view NotEmptyPorts
 
 -- how many values it is: itself, and the members of its lists at all levels
 abbrev pub attribute_count : LinkAttribute → ℕ
-attribute_count = tables.count_of base attribute_view HasPorts
+attribute_count = tables.count_of base attribute_view NotEmptyPorts
 
 -- a list of attributes
 abbrev pub Values : Type 0
@@ -392,45 +392,45 @@ Values = List LinkAttribute
 -- ** what the header's family decides
 
 -- IFLA_PROTINFO
-unfoldable pub proto_info : AddressFamily → Reading base attribute_view HasPorts IFLA_PROTINFO
+unfoldable pub proto_info : AddressFamily → Reading base attribute_view NotEmptyPorts IFLA_PROTINFO
 unfolding attribute_view
-proto_info Families.Inet6 = shaping base attribute_view HasPorts IFLA_PROTINFO (by_shape Shapes.Inet6Infos) Attributes.ProtoInfoInet6 (λ a. refl) (λ a good. tt)
-proto_info Families.Bridge = shaping base attribute_view HasPorts IFLA_PROTINFO (by_shape Shapes.BridgeInfos) Attributes.ProtoInfoBridge (λ a. refl) (λ a good. tt)
-proto_info _ = keeping base attribute_view HasPorts IFLA_PROTINFO Attributes.ProtoInfoUnknown (λ f. refl)
+proto_info Families.Inet6 = shaping base attribute_view NotEmptyPorts IFLA_PROTINFO (by_shape Shapes.Inet6Infos) Attributes.ProtoInfoInet6 (λ a. refl) (λ a good. tt)
+proto_info Families.Bridge = shaping base attribute_view NotEmptyPorts IFLA_PROTINFO (by_shape Shapes.BridgeInfos) Attributes.ProtoInfoBridge (λ a. refl) (λ a good. tt)
+proto_info _ = keeping base attribute_view NotEmptyPorts IFLA_PROTINFO Attributes.ProtoInfoUnknown (λ f. refl)
 
 -- IFLA_AF_SPEC
-unfoldable pub af_spec : AddressFamily → Reading base attribute_view HasPorts IFLA_AF_SPEC
+unfoldable pub af_spec : AddressFamily → Reading base attribute_view NotEmptyPorts IFLA_AF_SPEC
 unfolding attribute_view
-af_spec Families.Unspec = shaping base attribute_view HasPorts IFLA_AF_SPEC (by_shape Shapes.Unspecs) Attributes.AfSpecUnspec (λ a. refl) (λ a good. tt)
-af_spec Families.Bridge = shaping base attribute_view HasPorts IFLA_AF_SPEC (by_shape Shapes.Bridges) Attributes.AfSpecBridge (λ a. refl) (λ a good. tt)
-af_spec _ = shaping base attribute_view HasPorts IFLA_AF_SPEC bytes Attributes.AfSpecUnknown (λ a. refl) (λ a good. tt)
+af_spec Families.Unspec = shaping base attribute_view NotEmptyPorts IFLA_AF_SPEC (by_shape Shapes.Unspecs) Attributes.AfSpecUnspec (λ a. refl) (λ a good. tt)
+af_spec Families.Bridge = shaping base attribute_view NotEmptyPorts IFLA_AF_SPEC (by_shape Shapes.Bridges) Attributes.AfSpecBridge (λ a. refl) (λ a good. tt)
+af_spec _ = shaping base attribute_view NotEmptyPorts IFLA_AF_SPEC bytes Attributes.AfSpecUnknown (λ a. refl) (λ a good. tt)
 
 -- ** the place
 
-unfoldable pub attribute_entries : AddressFamily → List {1} (Entry base attribute_view HasPorts)
+unfoldable pub attribute_entries : AddressFamily → List {1} (Entry base attribute_view NotEmptyPorts)
 unfolding attribute_view
 attribute_entries family =
-    entries_of base attributes HasPorts attribute_table
+    entries_of base attributes NotEmptyPorts attribute_table
     ++ record { number = IFLA_PROTINFO; size = None; reading = proto_info family; keeps_size = tt }
     ∷ record { number = IFLA_AF_SPEC; size = None; reading = af_spec family; keeps_size = tt }
     ∷ []
 
 unfoldable pub attribute_place : AddressFamily → Grammar Frame LinkAttribute
-attribute_place family = lines base attribute_view HasPorts (attribute_entries family) (kept Attributes.Other)
+attribute_place family = lines base attribute_view NotEmptyPorts (attribute_entries family) (undecoded Attributes.Other)
 
 -- no line reads the frame under the family
 abbrev pub IsUnlisted : AddressFamily → Frame → Type 0
-IsUnlisted family f = tables.IsForeign base attribute_view HasPorts (attribute_entries family) f
+IsUnlisted family f = tables.IsForeign base attribute_view NotEmptyPorts (attribute_entries family) f
 
 -- what code does with such frames
 abbrev pub attribute_way : AddressFamily → ℕ → ℕ → Way Shape
-attribute_way family n size = way_in base attribute_view HasPorts (attribute_entries family) n size
+attribute_way family n size = way_in base attribute_view NotEmptyPorts (attribute_entries family) n size
 
 abbrev pub as_way : Option Shape → Way Shape
 as_way None = Kept
 as_way (Some s) = tables.Shape s
 
-entries_hold : (family : AddressFamily) → T (all_hold base attribute_view HasPorts growth 0 attribute_small (attribute_entries family))
+entries_hold : (family : AddressFamily) → T (all_hold base attribute_view NotEmptyPorts growth 0 attribute_small (attribute_entries family))
 unfolding attribute_view attribute_entries proto_info af_spec prop_place devlink_port_place dpll_pin_place down_reason_place xdp_place link_info_place vf_info_place vf_port_place link_vf_info_place link_vf_port_place af_spec_unspec_place af_spec_bridge_place link_proto_info_bridge_place link_proto_info_inet6_place
 entries_hold Families.Unspec = tt
 entries_hold Families.Inet = tt
@@ -443,15 +443,15 @@ pub other_kept : (f : Frame) → attribute_view (Attributes.Other f) ≡ tables.
 unfolding attribute_view
 other_kept f = refl
 
-pub attribute_lawful : (family : AddressFamily) → LawfulPlace (attribute_place family) attribute_frame AttributeFits HasPorts attribute_count growth 0 attribute_small
+pub attribute_lawful : (family : AddressFamily) → LawfulPlace (attribute_place family) attribute_frame AttributeFits NotEmptyPorts attribute_count growth 0 attribute_small
 unfolding attribute_place
-attribute_lawful family = lined_lawful base attribute_view HasPorts growth 0 attribute_small Attributes.Other other_kept (lit≤ tt) (attribute_entries family) (entries_hold family)
+attribute_lawful family = lined_lawful base attribute_view NotEmptyPorts growth 0 attribute_small Attributes.Other other_kept (lit≤ tt) (attribute_entries family) (entries_hold family)
 
 -- a value is written with the number that it was read from
 pub attribute_number : (family : AddressFamily) (f : Frame) (v : LinkAttribute) → (attribute_place family).means f v → number (attribute_frame v) ≡ number f
 unfolding attribute_place
 attribute_number family f v means =
-    (lines_lawful base attribute_view HasPorts growth 0 attribute_small Attributes.Other other_kept (lit≤ tt) (attribute_entries family) (entries_hold family) (number f)).same_number f v refl means
+    (lines_lawful base attribute_view NotEmptyPorts growth 0 attribute_small Attributes.Other other_kept (lit≤ tt) (attribute_entries family) (entries_hold family) (number f)).same_number f v refl means
 
 pub attribute_bounded : (family : AddressFamily) (f : Frame) (v : LinkAttribute) → (attribute_place family).means f v → length (canon (attribute_frame v)) ≤ growth * (1 + length f.payload / 4)
 attribute_bounded family = text_bounded (attribute_lawful family)
@@ -459,4 +459,4 @@ attribute_bounded family = text_bounded (attribute_lawful family)
 -- what no line reads is kept
 pub foreign_kept : (family : AddressFamily) (f : Frame) (v : LinkAttribute) → IsUnlisted family f → (attribute_place family).means f v → attribute_frame v ≡ f
 unfolding attribute_place
-foreign_kept family f v foreign means = tables.foreign_kept base attribute_view HasPorts Attributes.Other other_kept (attribute_entries family) f v foreign means
+foreign_kept family f v foreign means = tables.foreign_kept base attribute_view NotEmptyPorts Attributes.Other other_kept (attribute_entries family) f v foreign means

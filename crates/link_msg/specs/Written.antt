@@ -1,4 +1,4 @@
--- What `to_vec` answers of a message.
+-- What `to_vec` returns of a message.
 use Rattle.std.specs.Prelude.{◌≡◌, ℕ, List}
 use Rattle.link_msg.specs.Messages.{message_text, MessageFits, NoEmptyPorts}
 use Rattle.link_msg.specs.declared.message.LinkMessage.{LinkMessage}

@@ -241,7 +241,7 @@ pub enum LinkAttribute {
     NetnsImmutable(bool),
     /// IFLA_HEADROOM: how many bytes a packet needs in front of its data, where the payload has two bytes.
     Headroom(u16),
-    /// IFLA_TAILROOM: how many bytes a packet needs behind its data, where the payload has two bytes.
+    /// IFLA_TAILROOM: how many bytes a packet needs after its data, where the payload has two bytes.
     Tailroom(u16),
     /// A number that is not listed here, or a size of payload that its number is not read at: kept as it is, with its
     /// flags.
@@ -336,7 +336,7 @@ pub(crate) enum Content<'a> {
 
 impl LinkAttribute {
     ghost use Rattle.std.specs.Prelude.{◌↔◌, IsTrue, MatchBool};
-    ghost use Rattle.link_msg.specs.Tables.{attribute_frame, InsideFits, AttributeFits, HasPorts};
+    ghost use Rattle.link_msg.specs.Tables.{attribute_frame, InsideFits, AttributeFits, NotEmptyPorts};
     ghost use Rattle.link_msg.specs.Content.{content_text, ContentFits};
 
     /// Its kind, with both flag bits, and what its value is written from.
@@ -499,7 +499,7 @@ impl LinkAttribute {
 
     /// Whether it is an empty list of ports, whose text would be refused.
     pub(crate) fn is_empty_ports(&self) -> bool
-        ensures { MatchBool result (HasPorts self.now → ⊥) (HasPorts self.now) }
+        ensures { MatchBool result (NotEmptyPorts self.now → ⊥) (NotEmptyPorts self.now) }
     {
         match self {
             LinkAttribute::VfPorts(ports) => ports.is_empty(),

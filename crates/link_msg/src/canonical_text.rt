@@ -95,7 +95,7 @@ fn read_accepted(alloc: Global, input: &[u8]) -> Result<LinkMessage, CanonError>
     Ok(message)
 }
 
-/// The header of a message, the bytes behind it, the length of their canonical text, and how many of them in front are
+/// The header of a message, the bytes after it, the length of their canonical text, and how many of them in front are
 /// canonical as they are spelled, without memory.
 fn measure(input: &[u8]) -> Result<(LinkHeader, &[u8], usize, usize), CanonError>
     ensures ok { IfOk result (λ w. IsMeasured input.now w.0 w.1.now w.2) }
@@ -118,7 +118,7 @@ fn measure(input: &[u8]) -> Result<(LinkHeader, &[u8], usize, usize), CanonError
     Ok((header, rest, len, run))
 }
 
-/// Writes the canonical text of a message that was measured to the front of the buffer, and answers its length.
+/// Writes the canonical text of a message that was measured to the front of the buffer, and returns its length.
 fn write_message(header: &LinkHeader, rest: &[u8], run: usize, out: &mut [u8]) -> usize
     requires begins { IsRun header.now.interface_family rest.now run }
     requires measured { HasRoom (canons attribute_frame) (AllFit AttributeFits attribute_frame) ((list (attribute_place header.now.interface_family)).reads rest.now) (length out.old - header_size) }
@@ -198,7 +198,7 @@ impl From<CanonError> for RoomError {
     }
 }
 
-/// Writes what the bytes mean, as canonical text, to the front of a buffer of any size, without memory, and answers its
+/// Writes what the bytes mean, as canonical text, to the front of a buffer of any size, without memory, and returns its
 /// length. The rest of the buffer is kept.
 ///
 /// Refuses as `canonical_len` does, and `NoRoom` exactly where the text is longer than the buffer. After a refusal the
@@ -215,11 +215,11 @@ pub fn canonical_within(input: &[u8], out: &mut [u8]) -> Result<usize, RoomError
     Ok(write_message(&header, rest, run, out))
 }
 
-/// Writes what the bytes mean, as canonical text, to the front of the buffer, without memory, and answers its length.
+/// Writes what the bytes mean, as canonical text, to the front of the buffer, without memory, and returns its length.
 /// The rest of the buffer is kept.
 ///
 /// The buffer has room for the text: `growth_per_byte` times as many bytes as the input are enough, and so are those
-/// that `canonical_len` answers. Answers exactly what `canonical` answers with ample memory, and never `OutOfMemory`.
+/// that `canonical_len` returns. Returns exactly what `canonical` returns with ample memory, and never `OutOfMemory`.
 /// After a refusal the buffer is unchanged. The message must not change during the call.
 pub fn canonical_into(input: &[u8], out: &mut [u8]) -> Result<usize, CanonError>
     requires { HoldsText input.now (length out.old) }

@@ -66,7 +66,7 @@ impl Content<'_> {
         }
     }
 
-    /// Writes the attribute of this kind with the text as its value to the front of the buffer, and answers its length.
+    /// Writes the attribute of this kind with the text as its value to the front of the buffer, and returns its length.
     /// The rest of the buffer is kept.
     #[inline(always)]
     #[tactic(auto, using(link_recs::proofs::StatsLemmas::length_stats_bytes, link_recs::proofs::Stats64Lemmas::length_stats64_bytes, link_recs::proofs::MapLemmas::length_map_bytes))]

@@ -1,7 +1,7 @@
 //! Where the fault of a message is: the innermost frame that is refused, or the stray bytes.
 
 ghost use Rattle.std.specs.Prelude.{◌≡◌, ◌+◌, ◌^◌, ◌<◌, ◌≤◌, length, IfSome, MatchOption};
-ghost use Rattle.link_msg.specs.Messages.{Means, Refused, IsRefused};
+ghost use Rattle.link_msg.specs.Messages.{Means, FirstFault, MeansNothing};
 ghost use Rattle.link_msg.specs.FaultAt.{FaultsAt};
 ghost use Rattle.nla_wire.specs.declared.error.Cause.{Cause};
 
@@ -34,8 +34,8 @@ impl LinkMessage {
     pub fn fault_at(input: &[u8]) -> Option<usize>
         ensures found { MatchOption result
             ((m : LinkMessage) × Means input.now m)
-            (λ at. (c : Cause) × Refused input.now c × FaultsAt input.now c at) }
-        ensures refused { IfSome result (λ _. IsRefused input.now) }
+            (λ at. (c : Cause) × FirstFault input.now c × FaultsAt input.now c at) }
+        ensures refused { IfSome result (λ _. MeansNothing input.now) }
         ensures inside { IfSome result (λ at. at ≤ length input.now) }
     {
         let Ok((header, rest)) = split_header(input) else {

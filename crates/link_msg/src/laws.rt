@@ -96,7 +96,7 @@ pub fn law_ext_sum()
     link_vals::laws::extent_sums_read_back();
 }
 
-/// Behind an accepted list of attributes whose length is a multiple of four, bytes are accepted exactly where they are
+/// After an accepted list of attributes whose length is a multiple of four, bytes are accepted exactly where they are
 /// alone, and give the two lists joined.
 pub fn law_joined()
     ensures { Joined }

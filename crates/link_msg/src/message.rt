@@ -16,19 +16,19 @@ use nla_wire::{
 };
 use std::alloc::Global;
 
-/// A link message: RTM_NEWLINK and its kin behind the netlink header (rtnetlink(7)).
+/// A link message: RTM_NEWLINK and its kin after the netlink header (rtnetlink(7)).
 #[derive(Debug, Drop, PartialEq, Eq)]
 pub struct LinkMessage {
     /// The 16 bytes at the front.
     pub header: LinkHeader,
-    /// What stands behind it, in the order of the bytes.
+    /// What stands after it, in the order of the bytes.
     pub attributes: List<LinkAttribute>,
 }
 
 /// The name of the place of a fault that no attribute holds.
 const OUTERMOST: &str = "message";
 
-/// The header, and the bytes behind it.
+/// The header, and the bytes after it.
 #[inline(always)]
 pub(crate) fn split_header(input: &[u8]) -> Result<(LinkHeader, &[u8]), DecodeError>
     ensures { MatchResult result (λ v. (header_size ≤ length input.now) × (v.0 ≡ header_of (take header_size input.now)) × (v.1.now ≡ drop header_size input.now)) (IsShort input.now header_size) }
@@ -42,7 +42,7 @@ pub(crate) fn split_header(input: &[u8]) -> Result<(LinkHeader, &[u8]), DecodeEr
 
 impl LinkMessage {
     ghost use Rattle.link_msg.specs.Header.{default_header};
-    ghost use Rattle.link_msg.specs.Messages.{Means, Refused, IsRefused, IsBounded, read_message, message_text};
+    ghost use Rattle.link_msg.specs.Messages.{Means, FirstFault, MeansNothing, IsBounded, read_message, message_text};
     ghost use Rattle.link_msg.specs.Messages.{MessageFits, NoEmptyPorts};
     ghost use Rattle.link_msg.specs.declared.message.LinkMessage.{LinkMessage};
 
@@ -60,13 +60,13 @@ impl LinkMessage {
     ///
     /// Refuses `TooShort` below 16 bytes, else with the first fault of the attributes, front to back, each value before
     /// the next attribute; or `OutOfMemory`, which says nothing of the bytes. Four times the number of attributes, at
-    /// all levels, is at most the number of bytes behind the header; their canonical text is at most `growth_per_byte`
-    /// times as long; and what was read from at most `small_enough` bytes behind the header fits.
+    /// all levels, is at most the number of bytes after the header; their canonical text is at most `growth_per_byte`
+    /// times as long; and what was read from at most `small_enough` bytes after the header fits.
     pub fn parse(alloc: Global, input: &[u8]) -> Result<LinkMessage, DecodeError>
         ensures means { IfOk result (Means input.now) }
         ensures bounds { IfOk result (IsBounded input.now) }
-        ensures fault { IfErr result (λ e. e.cause ≢ OutOfMemory → Refused input.now e.cause) }
-        ensures refused { IfErr result (λ e. e.cause ≢ OutOfMemory → IsRefused input.now) }
+        ensures fault { IfErr result (λ e. e.cause ≢ OutOfMemory → FirstFault input.now e.cause) }
+        ensures refused { IfErr result (λ e. e.cause ≢ OutOfMemory → MeansNothing input.now) }
         ensures reads { Gives result (read_message input.now) }
     {
         LinkMessage::read(alloc, input)
@@ -87,11 +87,11 @@ impl LinkMessage {
     }
 
     /// Whether the bytes are a message: `Ok` exactly where `parse` reads one, else the first fault. It takes no memory,
-    /// and never answers `OutOfMemory`.
+    /// and never returns `OutOfMemory`.
     pub fn check(input: &[u8]) -> Result<(), DecodeError>
         ensures found { IfOk result (λ _. (m : LinkMessage) × Means input.now m) }
-        ensures fault { IfErr result (λ e. Refused input.now e.cause) }
-        ensures refused { IfErr result (λ e. IsRefused input.now) }
+        ensures fault { IfErr result (λ e. FirstFault input.now e.cause) }
+        ensures refused { IfErr result (λ e. MeansNothing input.now) }
         ensures memory { IfErr result (λ e. e.cause ≢ OutOfMemory) }
         ensures reads { Checks result (read_message input.now) }
     {

@@ -21,7 +21,7 @@ fn is_clear(padding: &[u8]) -> bool
     }
 }
 
-/// Whether all of the padding stands behind a frame of this length at the front, and is zeros.
+/// Whether all of the padding stands after a frame of this length at the front, and is zeros.
 #[inline(always)]
 fn is_padded(bytes: &[u8], front_len: u16) -> bool
     ensures { IsTrue result ↔ IsPadded bytes.now front_len }
@@ -31,7 +31,7 @@ fn is_padded(bytes: &[u8], front_len: u16) -> bool
     padded <= bytes.len() && is_clear(&bytes[end..padded])
 }
 
-/// The run behind the next frame, of this length. It grows to `more` where it reaches up to the frame, as it does while
+/// The run after the next frame, of this length. It grows to `more` where it reaches up to the frame, as it does while
 /// it is as long as the text, and the frame with its padding is canonical as it is spelled.
 #[inline(always)]
 pub(crate) fn run_after(

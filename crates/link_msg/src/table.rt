@@ -146,7 +146,7 @@ impl LinkAttribute {
         parse_one(&AttributePlace { family }, alloc, buffer)
     }
 
-    /// Reads a frame into the room behind the last value: its number selects the variant. Numbers, ids and records are
+    /// Reads a frame into the room after the last value: its number selects the variant. Numbers, ids and records are
     /// read here, with no room on the stack for a value.
     #[inline(always)]
     #[tactic(auto, unfolding(crate::specs::Tables::attribute_view, crate::specs::Tables::attribute_entries, crate::specs::Tables::attribute_place))]
@@ -490,7 +490,7 @@ impl LinkAttribute {
     }
 
     /// Whether a frame is read under the header's family: refuses what `parse_with_param` refuses, with the same cause.
-    /// It takes no memory, and so never answers `OutOfMemory`.
+    /// It takes no memory, and so never returns `OutOfMemory`.
     pub fn check_with_param(
         buffer: &NlaBuffer<'_>,
         family: AddressFamily,
@@ -549,7 +549,7 @@ impl LinkAttribute {
         }
     }
 
-    /// Writes the canonical text of a frame that was measured to the front of the buffer, and answers its length with
+    /// Writes the canonical text of a frame that was measured to the front of the buffer, and returns its length with
     /// header and padding.
     #[inline(always)]
     fn write_frame(buffer: &NlaBuffer<'_>, family: AddressFamily, out: &mut [u8]) -> usize
@@ -565,9 +565,9 @@ impl LinkAttribute {
     }
 
     /// Writes the canonical text of the value that a frame has under the header's family to the front of the buffer,
-    /// with no memory, and answers its length. The rest of the buffer is kept.
+    /// with no memory, and returns its length. The rest of the buffer is kept.
     ///
-    /// There is room for that text: `growth_per_byte` bytes for each byte of header and payload are enough. Answers
+    /// There is room for that text: `growth_per_byte` bytes for each byte of header and payload are enough. Returns
     /// `None` where the value does not fit or the frame is refused, and changes nothing then.
     pub fn canon_with_param(
         buffer: &NlaBuffer<'_>,
@@ -614,9 +614,9 @@ impl LinkAttribute {
     }
 
     /// Writes the canonical text of a list of attributes under the header's family to the front of the buffer, with no
-    /// memory, and answers its length. The rest of the buffer is kept.
+    /// memory, and returns its length. The rest of the buffer is kept.
     ///
-    /// There is room for that text: `growth_per_byte` bytes for each byte of the list are enough. Answers `None` where
+    /// There is room for that text: `growth_per_byte` bytes for each byte of the list are enough. Returns `None` where
     /// an attribute does not fit or the list is refused, and changes nothing then.
     pub fn canon_list_with_param(
         bytes: &[u8],
@@ -665,7 +665,7 @@ impl LinkAttribute {
         Some((len, empty, run))
     }
 
-    /// Writes the canonical text of a list of attributes that was measured to the front of the buffer, and answers its
+    /// Writes the canonical text of a list of attributes that was measured to the front of the buffer, and returns its
     /// length. The bytes in front that are canonical as they are spelled are copied. The rest of the buffer is kept.
     pub(crate) fn write_list_with_param(
         bytes: &[u8],

@@ -10,7 +10,7 @@ use nla_wire::Cause;
 use std::alloc::{AllocError, Global};
 
 impl LinkMessage {
-    /// The canonical text of a message that fits, or want of memory.
+    /// The canonical text of a message that fits, or out of memory.
     fn text(&self, alloc: Global) -> Result<Vec<u8>, AllocError>
         requires { MessageFits self.now }
         ensures { IfOk result (λ text. text.items ≡ message_text self.now) }

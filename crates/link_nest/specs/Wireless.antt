@@ -10,7 +10,7 @@ use Rattle.link_nest.specs.declared.numbers.TheConstants.{IWEVASSOCREQIE, IWEVAS
 use Rattle.link_nest.specs.declared.wireless.WirelessEvent.{WirelessEvent}
 use Rattle.link_nest.specs.declared.wireless.WirelessEvent.TheVariants.{AssociateRequest, AssociateResponse, Other}
 
--- the event of this command: the bytes behind the header, or the whole payload
+-- the event of this command: the bytes after the header, or the whole payload
 abbrev pub event_of : ℕ → List ℕ → WirelessEvent
 event_of command p =
     if command == IWEVASSOCREQIE then AssociateRequest (drop 8 p)

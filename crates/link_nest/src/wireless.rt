@@ -54,7 +54,7 @@ fn fill_event(buffer: &mut [u8], command: u16, bytes: &[u8]) -> usize
     fill_bytes(&mut buffer[..start], &header)
 }
 
-/// Writes an event with its header to the front of the buffer, and answers its length.
+/// Writes an event with its header to the front of the buffer, and returns its length.
 fn write_event(out: &mut [u8], command: u16, bytes: &[u8]) -> usize
     requires small { 8 + length bytes.now ≤ 65531 }
     requires room { 8 + length bytes.now ≤ length out.old }
@@ -67,10 +67,10 @@ fn write_event(out: &mut [u8], command: u16, bytes: &[u8]) -> usize
 }
 
 impl WirelessEvent {
-    /// Reads an event: a request or a response keeps the bytes behind its header, and any other event the whole
+    /// Reads an event: a request or a response keeps the bytes after its header, and any other event the whole
     /// payload.
     ///
-    /// Refuses a payload of fewer than 8 bytes with `TooShort`, and want of memory with `OutOfMemory`.
+    /// Refuses a payload of fewer than 8 bytes with `TooShort`, and out of memory with `OutOfMemory`.
     #[tactic(auto, unfolding(nla_wire::specs::Payloads::read_sized))]
     pub fn parse(alloc: Global, payload: &[u8]) -> Result<WirelessEvent, DecodeError>
         ensures means { IfOk result (wireless_event.means payload.now) }
@@ -125,7 +125,7 @@ impl WirelessEvent {
         Some(payload.len())
     }
 
-    /// Writes the text of the event that a payload means, which was measured, to the front of the buffer, and answers
+    /// Writes the text of the event that a payload means, which was measured, to the front of the buffer, and returns
     /// its length. The rest of the buffer is kept.
     #[tactic(auto, unfolding(nla_wire::specs::Payloads::read_sized))]
     pub fn write(payload: &[u8], out: &mut [u8]) -> usize
@@ -139,10 +139,10 @@ impl WirelessEvent {
         }
     }
 
-    /// Writes the text of the event that a payload means to the front of the buffer, with no memory taken, and answers
+    /// Writes the text of the event that a payload means to the front of the buffer, with no memory taken, and returns
     /// its length. The rest of the buffer is kept.
     ///
-    /// There is room for that text: as many bytes as the payload has are enough. Answers `None` where the text has more
+    /// There is room for that text: as many bytes as the payload has are enough. Returns `None` where the text has more
     /// than 65531 bytes or the payload is refused, and changes nothing then.
     pub fn canon(payload: &[u8], out: &mut [u8]) -> Option<usize>
         requires room { RoomWhereFit wireless_text WirelessFits (wireless_event.reads payload.now) (length out.old) }

@@ -1,4 +1,4 @@
--- Numbers one behind the other: one more.
+-- Numbers one after the other: one more.
 use Rattle.std.proofs.Common.{◌≡◌, ℕ, zero, suc, ◌+◌, ◌*◌, ◌<◌, List, [], ◌∷◌, ◌++◌, length, take, map, get_or-take}
 use Rattle.std.proofs.Common.{sym, ap, ap₂, ◌∙◌, add-one, zero-add, mul_comm, arith}
 use Rattle.std.specs.Prelude.{ℤ, slice_set}
@@ -41,7 +41,7 @@ signed_turn w p words i k x width h was is =
     ∙ sym (signed_from-more w p 0 i)
     ∙ ap (signed_from w p 0) (sym (add-one i))
 
--- those of a payload that is cut behind them
+-- those of a payload that is cut after them
 pub numbers_cut : (w : Width) (p : List ℕ) (n k : ℕ) → k ≡ n * byte_len w → numbers_from w (take k p) 0 n ≡ numbers_from w p 0 n
 numbers_cut w p n k is = numbers_from_same w (take k p) p 0 0 n (λ i l. get_or-take k p (0 + i) 0 (omega (arith, l, is)))
 

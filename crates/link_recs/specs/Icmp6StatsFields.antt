@@ -30,7 +30,7 @@ icmp6_stats_members v =
     v.rate_limit_host ∷
     []
 
--- the same as one word, which clauses and their readers need not open
+-- the same as one word, which clauses and their readers need not unfold
 unfoldable pub icmp6_stats_fields : Icmp6Stats → List ℤ
 icmp6_stats_fields v = icmp6_stats_members v
 
@@ -46,7 +46,7 @@ icmp6_stats_by field = record {
   rate_limit_host = field 6;
 }
 
--- what a payload means, with zeros behind it
+-- what a payload means, with zeros after it
 unfoldable pub icmp6_stats_of : List ℕ → Icmp6Stats
 icmp6_stats_of payload = icmp6_stats_by (λ i. signed_at w64 payload (8 * i))
 

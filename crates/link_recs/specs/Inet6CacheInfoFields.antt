@@ -27,7 +27,7 @@ inet6_cache_info_members v =
     v.retrans_time ∷
     []
 
--- the same as one word, which clauses and their readers need not open
+-- the same as one word, which clauses and their readers need not unfold
 unfoldable pub inet6_cache_info_fields : Inet6CacheInfo → List ℤ
 inet6_cache_info_fields v = inet6_cache_info_members v
 
@@ -40,7 +40,7 @@ inet6_cache_info_by field = record {
   retrans_time = field 3;
 }
 
--- what a payload means, with zeros behind it
+-- what a payload means, with zeros after it
 unfoldable pub inet6_cache_info_of : List ℕ → Inet6CacheInfo
 inet6_cache_info_of payload = inet6_cache_info_by (λ i. signed_at w32 payload (4 * i))
 

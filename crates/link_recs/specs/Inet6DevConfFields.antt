@@ -83,7 +83,7 @@ inet6_dev_conf_members v =
     v.force_forwarding ∷
     []
 
--- the same as one word, which clauses and their readers need not open
+-- the same as one word, which clauses and their readers need not unfold
 unfoldable pub inet6_dev_conf_fields : Inet6DevConf → List ℤ
 inet6_dev_conf_fields v = inet6_dev_conf_members v
 
@@ -152,7 +152,7 @@ inet6_dev_conf_by field = record {
   force_forwarding = field 59;
 }
 
--- what a payload means, with zeros behind it
+-- what a payload means, with zeros after it
 unfoldable pub inet6_dev_conf_of : List ℕ → Inet6DevConf
 inet6_dev_conf_of payload = inet6_dev_conf_by (λ i. signed_at w32 payload (4 * i))
 

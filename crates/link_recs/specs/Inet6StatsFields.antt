@@ -62,7 +62,7 @@ inet6_stats_members v =
     v.reserved_39 ∷
     []
 
--- the same as one word, which clauses and their readers need not open
+-- the same as one word, which clauses and their readers need not unfold
 unfoldable pub inet6_stats_fields : Inet6Stats → List ℤ
 inet6_stats_fields v = inet6_stats_members v
 
@@ -110,7 +110,7 @@ inet6_stats_by field = record {
   reserved_39 = field 38;
 }
 
--- what a payload means, with zeros behind it
+-- what a payload means, with zeros after it
 unfoldable pub inet6_stats_of : List ℕ → Inet6Stats
 inet6_stats_of payload = inet6_stats_by (λ i. signed_at w64 payload (8 * i))
 

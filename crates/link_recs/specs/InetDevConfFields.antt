@@ -57,7 +57,7 @@ inet_dev_conf_members v =
     v.reserved_34 ∷
     []
 
--- the same as one word, which clauses and their readers need not open
+-- the same as one word, which clauses and their readers need not unfold
 unfoldable pub inet_dev_conf_fields : InetDevConf → List ℤ
 inet_dev_conf_fields v = inet_dev_conf_members v
 
@@ -100,7 +100,7 @@ inet_dev_conf_by field = record {
   reserved_34 = field 33;
 }
 
--- what a payload means, with zeros behind it
+-- what a payload means, with zeros after it
 unfoldable pub inet_dev_conf_of : List ℕ → InetDevConf
 inet_dev_conf_of payload = inet_dev_conf_by (λ i. signed_at w32 payload (4 * i))
 

@@ -12,7 +12,7 @@ use Rattle.link_recs.specs.declared.map.TheConstants.{MAP_SIZE}
 abbrev pub map_size : ℕ
 map_size = MAP_SIZE
 
--- what a payload means, with zeros behind it. The last four bytes are padding
+-- what a payload means, with zeros after it. The last four bytes are padding
 unfoldable pub map_of : List ℕ → Map
 map_of payload = record {
   memory_start = number_at w64 payload 0;

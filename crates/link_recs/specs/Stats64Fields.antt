@@ -46,7 +46,7 @@ stats64_members v =
     v.rx_otherhost_dropped ∷
     []
 
--- the same as one word, which clauses and their readers need not open
+-- the same as one word, which clauses and their readers need not unfold
 unfoldable pub stats64_fields : Stats64 → List ℕ
 stats64_fields v = stats64_members v
 
@@ -80,7 +80,7 @@ stats64_by field = record {
   rx_otherhost_dropped = field 24;
 }
 
--- what a payload means, with zeros behind it
+-- what a payload means, with zeros after it
 unfoldable pub stats64_of : List ℕ → Stats64
 stats64_of payload = stats64_by (λ i. number_at w64 payload (8 * i))
 

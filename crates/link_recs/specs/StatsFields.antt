@@ -45,7 +45,7 @@ stats_members v =
     v.rx_nohandler ∷
     []
 
--- the same as one word, which clauses and their readers need not open
+-- the same as one word, which clauses and their readers need not unfold
 unfoldable pub stats_fields : Stats → List ℕ
 stats_fields v = stats_members v
 
@@ -78,7 +78,7 @@ stats_by field = record {
   rx_nohandler = field 23;
 }
 
--- what a payload means, with zeros behind it
+-- what a payload means, with zeros after it
 unfoldable pub stats_of : List ℕ → Stats
 stats_of payload = stats_by (λ i. number_at w32 payload (4 * i))
 

@@ -1,4 +1,4 @@
--- Numbers one behind the other, and what holds of a record of them.
+-- Numbers one after the other, and what holds of a record of them.
 use Rattle.std.proofs.Common.{◌≡◌, ℕ, ◌-◌, ◌*◌, ◌^◌, ◌<◌, inl, inr, List, [], ◌∷◌, length, FitsSigned, arith, map}
 use Rattle.std.proofs.Common.{refl, sym, ap, ap₂, ◌∙◌}
 use Rattle.std.proofs.lemmas.Bool.{cases_lt}
@@ -16,7 +16,7 @@ use Rattle.nla_wire.proofs.RecordParts.{Part, laws_of, front}
 use Rattle.link_recs.specs.Laws.{WordLaws}
 use mir.Val.{bits}
 
--- numbers one behind the other, as they are read and written
+-- numbers one after the other, as they are read and written
 pub record Words {N : Type 0} (width : ℕ) (Fits : N → Type 0) (read : List ℕ → ℕ → ℕ → List N) (text : List N → List ℕ) : Type 0 where
   -- so many of them are a part of a record
   pub part : (n : ℕ) → Part (n * width) (λ p x. read p x n) text

@@ -109,7 +109,7 @@ impl Inet6CacheInfo {
     }
 
     /// Writes the record to the end of a buffer of at least `INET6_CACHE_INFO_SIZE` bytes, keeps the bytes before it,
-    /// and answers where it starts.
+    /// and returns where it starts.
     pub fn fill(&self, buffer: &mut [u8]) -> usize
         requires { inet6_cache_info_size ≤ length buffer.old }
         ensures { Filled buffer.old buffer.new (inet6_cache_info_bytes self.now) result }

@@ -289,7 +289,7 @@ impl Inet6DevConf {
     }
 
     /// Writes the record to the end of a buffer of at least `INET6_DEV_CONF_SIZE` bytes, keeps the bytes before it, and
-    /// answers where it starts.
+    /// returns where it starts.
     pub fn fill(&self, buffer: &mut [u8]) -> usize
         requires { inet6_dev_conf_size ≤ length buffer.old }
         ensures { Filled buffer.old buffer.new (inet6_dev_conf_bytes self.now) result }

@@ -129,7 +129,7 @@ impl Icmp6Stats {
     }
 
     /// Writes the record to the end of a buffer of at least `ICMP6_STATS_SIZE` bytes, keeps the bytes before it, and
-    /// answers where it starts.
+    /// returns where it starts.
     pub fn fill(&self, buffer: &mut [u8]) -> usize
         requires { icmp6_stats_size ≤ length buffer.old }
         ensures { Filled buffer.old buffer.new (icmp6_stats_bytes self.now) result }

@@ -1,7 +1,7 @@
 //! What holds of the records' readings and bytes, and of their defaults, beside the contracts of the calls.
 //!
 //! Of a record of numbers of one width: its fields are the numbers of the payload in order; a record is given by them;
-//! what is written reads back; zeros behind a payload and bytes behind a long one change nothing; a text has as many
+//! what is written reads back; zeros after a payload and bytes after a long one change nothing; a text has as many
 //! bytes as the record; and what was read is written as the payload, cut or filled up with zeros.
 //!
 //! The functions `default_..` make the default records, each field of which is zero.
@@ -93,7 +93,7 @@ pub fn filled()
     ensures reached { OneIsAsLong }
 {}
 
-/// `Map`: what is written reads back; zeros behind a payload and bytes behind a long one change nothing; a text has as
+/// `Map`: what is written reads back; zeros after a payload and bytes after a long one change nothing; a text has as
 /// many bytes as the record.
 #[tactic(auto, using(crate::specs::MapFields::map_laws, crate::proofs::MapLemmas::map_written, crate::proofs::MapLemmas::length_map_bytes))]
 pub fn map()

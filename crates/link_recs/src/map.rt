@@ -83,7 +83,7 @@ impl Map {
         self.write(buffer);
     }
 
-    /// Writes the record to the end of a buffer of at least `MAP_SIZE` bytes, keeps the bytes before it, and answers
+    /// Writes the record to the end of a buffer of at least `MAP_SIZE` bytes, keeps the bytes before it, and returns
     /// where it starts.
     pub fn fill(&self, buffer: &mut [u8]) -> usize
         requires { map_size ≤ length buffer.old }

@@ -178,7 +178,7 @@ impl Stats {
         self.write(buffer);
     }
 
-    /// Writes the record to the end of a buffer of at least `STATS_SIZE` bytes, keeps the bytes before it, and answers
+    /// Writes the record to the end of a buffer of at least `STATS_SIZE` bytes, keeps the bytes before it, and returns
     /// where it starts.
     pub fn fill(&self, buffer: &mut [u8]) -> usize
         requires { stats_size ≤ length buffer.old }

@@ -182,7 +182,7 @@ impl Stats64 {
     }
 
     /// Writes the record to the end of a buffer of at least `STATS64_SIZE` bytes, keeps the bytes before it, and
-    /// answers where it starts.
+    /// returns where it starts.
     pub fn fill(&self, buffer: &mut [u8]) -> usize
         requires { stats64_size ≤ length buffer.old }
         ensures { Filled buffer.old buffer.new (stats64_bytes self.now) result }

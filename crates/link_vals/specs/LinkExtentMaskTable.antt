@@ -38,7 +38,7 @@ flags_set n (flag ∷ flags) =
 abbrev pub other_of : ℕ → List LinkExtentMask
 other_of rest = if rest == 0 then [] else Other rest ∷ []
 
--- flags of n that have a name, the lowest first; behind them all its other bits, if it has any, as one `Other`
+-- flags of n that have a name, the lowest first; after them all its other bits, if it has any, as one `Other`
 unfoldable pub ext_list : ℕ → List LinkExtentMask
 ext_list n = flags_set n link_extent_mask_listed ++ other_of (bit_and n 0xffff_ff00)
 

@@ -45,6 +45,6 @@ state_text (Other n) = decimal n
 unfoldable pub state_read : List ℕ → Option State
 state_read text = find (λ s. str_eq_ignore_ascii_case text (state_text s)) state_listed
 
--- the answer is the state that was named, else the text is refused
+-- the result is the state that was named, else the text is refused
 abbrev pub IsRead : Option State → Result State DecodeError → Type 0
 IsRead named result = MatchOption named (IsErrAnd result (λ e. e.cause ≡ InvalidState)) (λ s. result ≡ Ok s)

@@ -81,7 +81,7 @@ impl From<LinkExtentMask> for u32 {
 impl LinkExtentMask {
     /// The listed flags of a mask in ascending order, and then one `Other` of the bits that are left, if any.
     ///
-    /// It fails only for want of memory.
+    /// It fails only for lack of memory.
     #[tactic(auto, unfolding(crate::specs::LinkExtentMaskTable::ext_list))]
     pub fn list_from(alloc: Global, number: u32) -> Result<Vec<LinkExtentMask>, DecodeError>
         ensures list { IfOk result (λ v. v.items ≡ ext_list number) }

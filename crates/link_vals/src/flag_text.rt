@@ -33,7 +33,7 @@ fn write_number<W: fmt::Write>(
     write!(f, "0x{number:x}")
 }
 
-/// Writes the names of the flags that are set, and answers whether there were none.
+/// Writes the names of the flags that are set, and returns whether there were none.
 fn write_names<W: fmt::Write>(
     f: &mut fmt::Formatter<W>,
     flags: &[Flag<LinkFlags>],

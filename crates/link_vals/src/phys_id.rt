@@ -17,7 +17,7 @@ pub struct LinkPhysId {
 }
 
 impl LinkPhysId {
-    /// Reads the first 32 bytes of a payload, with zeros behind them where there are fewer, and how many there were. It
+    /// Reads the first 32 bytes of a payload, with zeros after them where there are fewer, and how many there were. It
     /// never fails.
     #[tactic(auto, unfolding(crate::specs::LinkPhysIdBytes::phys_id_of))]
     pub fn parse(payload: &[u8]) -> Result<LinkPhysId, DecodeError>

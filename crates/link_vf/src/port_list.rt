@@ -58,10 +58,10 @@ impl LinkVfPort {
         VfPort::check_list(payload)
     }
 
-    /// Writes the canonical text of the entry's members to the front of the buffer, with no memory taken, and answers
+    /// Writes the canonical text of the entry's members to the front of the buffer, with no memory taken, and returns
     /// its length. The rest of the buffer is kept.
     ///
-    /// There is room for that text: `growth_per_byte` bytes for each byte of the payload are enough. Answers `None`
+    /// There is room for that text: `growth_per_byte` bytes for each byte of the payload are enough. Returns `None`
     /// where a member does not fit or the payload is refused, and changes nothing then.
     pub fn canon(payload: &[u8], out: &mut [u8]) -> Option<usize>
         requires room { RoomWhereFit link_vf_port.text
@@ -86,7 +86,7 @@ impl LinkVfPort {
     }
 
     /// Writes the attribute of this kind whose value is the canonical text of the entry's members, which was measured,
-    /// to the front of the buffer, and answers its length. The rest of the buffer is kept.
+    /// to the front of the buffer, and returns its length. The rest of the buffer is kept.
     pub fn write_entry(kind: u16, payload: &[u8], out: &mut [u8]) -> usize
         requires { HasRoom (λ v. canon (record { kind = kind; payload = link_vf_port.text v }))
             link_vf_port_place.Fits (link_vf_port.grammar.reads payload.now) (length out.old) }
@@ -124,10 +124,10 @@ impl LinkVfPort {
         check_picked_members(&EntryPlace, payload)
     }
 
-    /// Writes the canonical text of such a list's entries to the front of the buffer, with no memory taken, and answers
+    /// Writes the canonical text of such a list's entries to the front of the buffer, with no memory taken, and returns
     /// its length. The rest of the buffer is kept.
     ///
-    /// There is room for that text: `growth_per_byte` bytes for each byte of the payload are enough. Answers `None`
+    /// There is room for that text: `growth_per_byte` bytes for each byte of the payload are enough. Returns `None`
     /// where an entry does not fit or the payload is refused, and changes nothing then.
     pub fn canon_list(payload: &[u8], out: &mut [u8]) -> Option<usize>
         requires room { RoomWhereFit (canons link_vf_port_place.frame)
@@ -154,7 +154,7 @@ impl LinkVfPort {
     }
 
     /// Writes the attribute of this kind whose value is the canonical text of such a list's entries, which was
-    /// measured, to the front of the buffer, and answers its length. The rest of the buffer is kept.
+    /// measured, to the front of the buffer, and returns its length. The rest of the buffer is kept.
     pub fn write_list(kind: u16, payload: &[u8], out: &mut [u8]) -> usize
         requires { HasRoom (λ vs. canon (record { kind = kind; payload = canons link_vf_port_place.frame vs }))
             (λ vs. (length (canons link_vf_port_place.frame vs) ≤ most_payload)

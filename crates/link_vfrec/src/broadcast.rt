@@ -16,7 +16,7 @@ pub const VF_INFO_BROADCAST_SIZE: usize = 32;
 
 /// The broadcast address of a virtual function (IFLA_VF_BROADCAST).
 ///
-/// `struct ifla_vf_broadcast` of linux/if_link.h: the address at 0, of 32 bytes, with zeros behind
+/// `struct ifla_vf_broadcast` of linux/if_link.h: the address at 0, of 32 bytes, with zeros after
 /// a shorter one.
 #[derive(Clone, Copy, Debug, Default, PartialEq, Eq)]
 pub struct VfInfoBroadcast {

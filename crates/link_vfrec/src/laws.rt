@@ -1,7 +1,7 @@
 //! What holds of the records' readings and bytes, and of their defaults, beside the contracts of the calls.
 //!
 //! Each function's contract says of its record: what was read, written and read again is the same;
-//! bytes behind a payload that is long enough change nothing; what was read is written in as many
+//! bytes after a payload that is long enough change nothing; what was read is written in as many
 //! bytes as the record has.
 //!
 //! The functions `default_..` make the default records: numbers and the bytes of addresses are zeros, a setting is off,

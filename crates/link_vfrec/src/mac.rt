@@ -17,7 +17,7 @@ pub const VF_INFO_MAC_SIZE: usize = 36;
 /// The hardware address of a virtual function (IFLA_VF_MAC).
 ///
 /// `struct ifla_vf_mac` of linux/if_link.h: `vf_id` at 0, of four bytes, lowest byte first; the
-/// address at 4, of 32 bytes, with zeros behind a shorter one.
+/// address at 4, of 32 bytes, with zeros after a shorter one.
 #[derive(Clone, Copy, Debug, Default, PartialEq, Eq)]
 pub struct VfInfoMac {
     pub vf_id: u32,

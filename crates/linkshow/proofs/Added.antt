@@ -5,7 +5,7 @@ use Rattle.std.specs.declared.alloc.AllocError.{AllocError}
 use Rattle.hex.specs.Hex.{decode_of}
 use Rattle.hex.specs.declared.error.FromHexError.{FromHexError}
 use Rattle.nla_wire.specs.declared.error.Cause.{Cause}
-use Rattle.link_msg.specs.Messages.{Means, Refused}
+use Rattle.link_msg.specs.Messages.{Means, FirstFault}
 use Rattle.link_msg.specs.declared.message.LinkMessage.{LinkMessage}
 use Rattle.line_filter.specs.Lines.{with_lf}
 use Rattle.shown.specs.Pages.{AddsObject}
@@ -20,7 +20,7 @@ on_ok_extended (Err _) new longer same h k = tt
 lf_behind : (old text mid new : List ℕ) → mid ≡ old ++ text → new ≡ mid ++ 10 ∷ [] → new ≡ old ++ with_lf text
 lf_behind old text mid new h k = k ∙ ap (λ l. l ++ 10 ∷ []) h ∙ append_assoc old text (10 ∷ [])
 
-pub adds_fault : (bytes old mid new : List ℕ) (c : Cause) → Refused bytes c → AddsObject (fault_head c) old mid → new ≡ mid ++ 10 ∷ [] → AddsAnswerTo bytes old new
+pub adds_fault : (bytes old mid new : List ℕ) (c : Cause) → FirstFault bytes c → AddsObject (fault_head c) old mid → new ≡ mid ++ 10 ∷ [] → AddsAnswerTo bytes old new
 adds_fault bytes old mid new c h s k = (s.0, IsAnswerTo.fault c h s.1, lf_behind old s.0 mid new s.2 k)
 
 pub adds_message : (bytes old mid new : List ℕ) (m : LinkMessage) → Means bytes m → AddsObject (message_head m) old mid → new ≡ mid ++ 10 ∷ [] → AddsAnswerTo bytes old new

@@ -4,14 +4,14 @@ use Rattle.std.specs.Prelude.{Ok, Err}
 use Rattle.json.specs.Token.{Token}
 use Rattle.json.specs.Print.{print, print_from, escape_byte}
 use Rattle.nla_wire.specs.declared.error.Cause.{Cause}
-use Rattle.link_msg.specs.Messages.{Means, Refused, IsRefused, read_message}
+use Rattle.link_msg.specs.Messages.{Means, FirstFault, MeansNothing, read_message}
 use Rattle.link_msg.specs.declared.message.LinkMessage.{LinkMessage}
 use Rattle.link_msg.proofs.Reading.{message_agrees}
 use Rattle.shown.specs.Pages.{IsObject}
 use Rattle.linkshow.specs.Lines.{IsAnswerTo, fault_head, message_head}
 use Rattle.linkshow.specs.Laws.{FaultsAreRefusals}
 
-no_message : (b : List ℕ) (c : Cause) → Refused b c → IsRefused b
+no_message : (b : List ℕ) (c : Cause) → FirstFault b c → MeansNothing b
 no_message b c h = λ m means. let clash : Err c ≡ Ok m = sym (message_agrees.refused b c h) ∙ message_agrees.only b m means in absurd cc
 
 -- the third byte of an answer is the first letter of its first name
@@ -30,11 +30,11 @@ not_both : (c : Cause) (m : LinkMessage) (answer : List ℕ) → IsObject (fault
 not_both c m answer h k =
     letters_differ _ _ (fault_letter c h.rest) (message_letter m k.rest) (ap (λ t. get_or t 2 0) (sym h.printed ∙ k.printed))
 
-refused : (bytes answer : List ℕ) → IsAnswerTo bytes answer → IsRefused bytes → (c : Cause) × Refused bytes c × IsObject (fault_head c) answer
+refused : (bytes answer : List ℕ) → IsAnswerTo bytes answer → MeansNothing bytes → (c : Cause) × FirstFault bytes c × IsObject (fault_head c) answer
 refused bytes answer (IsAnswerTo.fault c h o) none = (c, h, o)
 refused bytes answer (IsAnswerTo.message m h o) none = absurd (none m h)
 
-only : (bytes answer : List ℕ) (c : Cause) → IsAnswerTo bytes answer → IsObject (fault_head c) answer → IsRefused bytes
+only : (bytes answer : List ℕ) (c : Cause) → IsAnswerTo bytes answer → IsObject (fault_head c) answer → MeansNothing bytes
 only bytes answer c (IsAnswerTo.fault d h o) k = no_message bytes d h
 only bytes answer c (IsAnswerTo.message m h o) k = absurd (not_both c m answer k o)
 

@@ -7,7 +7,7 @@ use Rattle.nla_wire.specs.declared.error.Cause.{Cause}
 use Rattle.nla_wire.specs.declared.error.Cause.TheVariants.{TooShort, FrameShort, FrameOver, FrameUnder, EmptyList}
 use Rattle.nla_wire.specs.declared.error.Cause.TheVariants.{WrongLength, NotUtf8, InvalidState, OutOfMemory}
 use Rattle.link_vals.specs.AddressFamilyTable.{address_family_number}
-use Rattle.link_msg.specs.Messages.{Means, Refused}
+use Rattle.link_msg.specs.Messages.{Means, FirstFault}
 use Rattle.link_msg.specs.declared.message.LinkMessage.{LinkMessage}
 use Rattle.shown.specs.Pages.{IsObject}
 use Rattle.line_filter.specs.Lines as filter
@@ -37,7 +37,7 @@ message_head m = begin_object ∷ key (codes "ifi-family") ∷ number (decimal (
 
 -- what a line is answered that spells these bytes
 pub data IsAnswerTo (bytes answer : List ℕ) : Type 0 where
-  fault : (c : Cause) → Refused bytes c → IsObject (fault_head c) answer → IsAnswerTo bytes answer
+  fault : (c : Cause) → FirstFault bytes c → IsObject (fault_head c) answer → IsAnswerTo bytes answer
   message : (m : LinkMessage) → Means bytes m → IsObject (message_head m) answer → IsAnswerTo bytes answer
 
 -- a line that is no even number of hexadecimal digits spells no bytes

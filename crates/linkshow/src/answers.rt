@@ -2,7 +2,7 @@
 
 ghost use Rattle.std.specs.Prelude.{◌≡◌, ◌/◌, OnOk, IfErr, ◌≢◌, length};
 ghost use Rattle.nla_wire.specs.declared.error.Cause.TheVariants.{OutOfMemory};
-ghost use Rattle.link_msg.specs.Messages.{Means, Refused};
+ghost use Rattle.link_msg.specs.Messages.{Means, FirstFault};
 ghost use Rattle.linkshow.specs.Lines.{IsAnswer, AddsAnswer, AddsAnswerTo};
 ghost use Rattle.linkshow.specs.Answered.{each_answered};
 
@@ -45,7 +45,7 @@ impl Answer for Shown {
     ghost has = { each_answered };
 }
 
-/// What a message says behind its family.
+/// What a message says after its family.
 fn message_page(alloc: Global, bytes: &[u8], message: &LinkMessage) -> Result<Page, AllocError> {
     let mut page = Page::new(alloc)?;
     show_header(&mut page, bytes)?;
@@ -77,7 +77,7 @@ fn push_fault(
     bytes: &[u8],
     error: &DecodeError,
 ) -> Result<(), AllocError>
-    requires { Refused bytes.now error.now.cause }
+    requires { FirstFault bytes.now error.now.cause }
     ensures { OnOk result (AddsAnswerTo bytes.now waiting.old.items waiting.new.items) }
 {
     let page = fault_page(alloc, bytes, error)?;

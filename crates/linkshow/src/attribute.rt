@@ -11,7 +11,7 @@ use nla_wire::fields::{u16_at, u32_at};
 use shown::Page;
 use std::alloc::AllocError;
 
-/// Adds what the header says behind its family.
+/// Adds what the header says after its family.
 pub fn show_header(page: &mut Page, bytes: &[u8]) -> Result<(), AllocError> {
     page.number("ifi-type", u16_at(bytes, 2).into())?;
     page.number("ifi-index", u32_at(bytes, 4).into())?;

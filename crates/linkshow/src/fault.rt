@@ -57,7 +57,7 @@ fn show_cause(page: &mut Page, cause: &Cause) -> Result<(), AllocError> {
     }
 }
 
-/// What is said behind a cause's name.
+/// What is said after a cause's name.
 pub fn fault_page(alloc: Global, bytes: &[u8], error: &DecodeError) -> Result<Page, AllocError> {
     let mut page = Page::new(alloc)?;
     page.string("at", error.place)?;

@@ -40,7 +40,7 @@ fn last_places<T: Member>(items: &[T]) -> [usize; NUMBERS] {
     last
 }
 
-/// Adds the attributes of a place: the last one of each name, and behind them those that came before it, and those that
+/// Adds the attributes of a place: the last one of each name, and after them those that came before it, and those that
 /// are kept.
 pub fn show_members<T: Member>(page: &mut Page, items: &[T]) -> Result<(), AllocError> {
     let last = last_places(items);
@@ -60,7 +60,7 @@ pub fn show_members<T: Member>(page: &mut Page, items: &[T]) -> Result<(), Alloc
     show_kept(page, items)
 }
 
-/// Adds the attributes behind which another of their name stands, as objects of one member.
+/// Adds the attributes after which another of their name stands, as objects of one member.
 fn show_repeated<T: Member>(
     page: &mut Page,
     items: &[T],

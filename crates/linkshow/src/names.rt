@@ -289,7 +289,7 @@ pub const INET6_CONF: [&str; 60] = [
     "force-forwarding",
 ];
 
-/// The counters of IPv6, behind how many there are.
+/// The counters of IPv6, after how many there are.
 pub const INET6_STATS: [&str; 39] = [
     "num",
     "inpkts",
@@ -332,7 +332,7 @@ pub const INET6_STATS: [&str; 39] = [
     "reserved-39",
 ];
 
-/// The counters of ICMPv6, behind how many there are.
+/// The counters of ICMPv6, after how many there are.
 pub const ICMP6_STATS: [&str; 7] = [
     "num",
     "inmsgs",

@@ -6,7 +6,7 @@ use Rattle.hex.specs.Hex.{decode_of, encode_lower}
 use Rattle.hex.specs.declared.error.FromHexError.{FromHexError}
 use Rattle.link_msg.specs.declared.canonical_text.CanonError.{CanonError}
 use Rattle.link_msg.specs.declared.canonical_text.CanonError.TheVariants.{Decode, DoesNotFit, EmptyVfPorts}
-use Rattle.link_msg.specs.Messages.{IsRefused}
+use Rattle.link_msg.specs.Messages.{MeansNothing}
 use Rattle.link_msg.specs.Canonical.{HasText, IsRefusal}
 use Rattle.nla_wire.specs.declared.error.DecodeError.{DecodeError}
 use Rattle.line_filter.specs.Lines.{with_lf}
@@ -19,7 +19,7 @@ on_ok_extended (Err _) new longer same h k = tt
 
 -- ** what was answered by the bytes
 -- bytes that are refused with some cause are refused
-is_refused : (bytes : List ℕ) (fault : DecodeError) → IsRefusal bytes (Decode fault) → IsRefused bytes
+is_refused : (bytes : List ℕ) (fault : DecodeError) → IsRefusal bytes (Decode fault) → MeansNothing bytes
 is_refused bytes fault h = h.2
 
 pub adds_text : (bytes text shown old new : List ℕ) → HasText bytes text → shown ≡ text → new ≡ old ++ with_lf (codes "ok " ++ encode_lower shown) → AddsAnswerTo bytes old new

@@ -26,8 +26,8 @@ use Rattle.link_afspec.specs.declared.inet.AfSpecInet.{AfSpecInet}
 use Rattle.link_afspec.specs.declared.inet6.AfSpecInet6.{AfSpecInet6}
 use Rattle.link_afspec.specs.declared.unspec.AfSpecUnspec.{AfSpecUnspec}
 use Rattle.link_afspec.specs.declared.unspec.AfSpecUnspec.TheVariants as Unspecs
-use Rattle.link_msg.specs.Tables.{attribute_view, attribute_frame, InsideFits, AttributeFits, HasPorts}
-use Rattle.link_msg.specs.Messages.{Means, IsRefused, MessageFits, NoEmptyPorts, message_text, read_message}
+use Rattle.link_msg.specs.Tables.{attribute_view, attribute_frame, InsideFits, AttributeFits, NotEmptyPorts}
+use Rattle.link_msg.specs.Messages.{Means, MeansNothing, MessageFits, NoEmptyPorts, message_text, read_message}
 use Rattle.link_msg.specs.declared.attribute.LinkAttribute.{LinkAttribute}
 use Rattle.link_msg.specs.declared.attribute.LinkAttribute.TheVariants as Attributes
 use Rattle.link_msg.specs.declared.message.LinkMessage.{LinkMessage}
@@ -118,16 +118,16 @@ attribute v = both (small (attribute_frame v)) (inside v)
 pub fits_or_not : (m : LinkMessage) → Dec (MessageFits m)
 fits_or_not m = both (each attribute m.attributes) (dec_lt (length (message_text m)) (2 ^ 64))
 
-attribute_ports : (v : LinkAttribute) → Dec (HasPorts v)
+attribute_ports : (v : LinkAttribute) → Dec (NotEmptyPorts v)
 attribute_ports (Attributes.VfPorts ports) = dec_lt 0 (length ports)
 attribute_ports _ = yes tt
 
 pub ports_or_not : (m : LinkMessage) → Dec (NoEmptyPorts m)
 ports_or_not m = each attribute_ports m.attributes
 
-by_reading : (b : List ℕ) → IsBytes b → (r : Result LinkMessage Cause) → read_message b ≡ r → IsRefused b ⊎ ((m : LinkMessage) × Means b m)
+by_reading : (b : List ℕ) → IsBytes b → (r : Result LinkMessage Cause) → read_message b ≡ r → MeansNothing b ⊎ ((m : LinkMessage) × Means b m)
 by_reading b bytes (Ok m) is = inr (m, message_agrees.found b m bytes is)
 by_reading b bytes (Err c) is = inl (λ m means. let clash : Err c ≡ Ok m = sym is ∙ message_agrees.only b m means in absurd cc)
 
-pub read_or_refused : (b : List ℕ) → IsBytes b → IsRefused b ⊎ ((m : LinkMessage) × Means b m)
+pub read_or_refused : (b : List ℕ) → IsBytes b → MeansNothing b ⊎ ((m : LinkMessage) × Means b m)
 read_or_refused b bytes = by_reading b bytes (read_message b) refl

@@ -2,7 +2,7 @@
 use Rattle.std.specs.Prelude.{◌≡◌, ℕ, List, ◌++◌, codes, Option, Result, Ok, Err}
 use Rattle.hex.specs.Hex.{decode_of, encode_lower}
 use Rattle.hex.specs.declared.error.FromHexError.{FromHexError}
-use Rattle.link_msg.specs.Messages.{IsRefused}
+use Rattle.link_msg.specs.Messages.{MeansNothing}
 use Rattle.link_msg.specs.Canonical.{HasText, IsUnfit, HasEmptyPorts}
 use Rattle.line_filter.specs.Lines as filter
 use Rattle.line_filter.specs.Lines.{with_lf}
@@ -11,7 +11,7 @@ use Rattle.line_filter.specs.declared.error.RunError.{RunError}
 
 -- what a line is answered that spells these bytes
 pub data IsAnswerTo (bytes answer : List ℕ) : Type 0 where
-  refused : IsRefused bytes → answer ≡ codes "refused" → IsAnswerTo bytes answer
+  refused : MeansNothing bytes → answer ≡ codes "refused" → IsAnswerTo bytes answer
   unfit : IsUnfit bytes → answer ≡ codes "unfit" → IsAnswerTo bytes answer
   empty_ports : HasEmptyPorts bytes → answer ≡ codes "empty-ports" → IsAnswerTo bytes answer
   ok : (text : List ℕ) → HasText bytes text → answer ≡ codes "ok " ++ encode_lower text → IsAnswerTo bytes answer

@@ -38,7 +38,7 @@ number_written w again kind p old new n exact small h =
     subst (λ (value : List ℕ). Writes (canon (record { kind = kind; payload = value })) old new n)
     (take_all (byte_len w) p (omega (arith, exact)) ∙ sym (again p exact small)) h
 
--- numbers that were read one behind the other, with nothing behind them, are written as the bytes that they were read
+-- numbers that were read one after the other, with nothing after them, are written as the bytes that they were read
 -- from
 pub numbers_text : (w : Width) → WritesAgain w → (q : List ℕ) (n : ℕ) → IsBytes q → length q ≡ n * byte_len w → le_all w (numbers_from w q 0 n) ≡ q
 numbers_text w again [] zero small is = refl

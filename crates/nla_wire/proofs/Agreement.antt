@@ -1,4 +1,4 @@
--- Readers answer what the relations say: each combinator and each leaf payload.
+-- Readers return what the relations say: each combinator and each leaf payload.
 use Rattle.std.proofs.Common.{◌≡◌, ◌≢◌, ℕ, ◌<◌, ◌≤◌, ◌==◌, ◌⊎◌, inl, inr, List, [], ◌∷◌, ◌++◌, length, length-append}
 use Rattle.std.proofs.Common.{refl, ap, sym, ◌∙◌, arith, Bool, true, false, if◌then◌else◌, lt-ltb, le-ltb, eq-eqb}
 use Rattle.std.proofs.Common.{ne_eqb, Result, Ok, Err}
@@ -8,7 +8,7 @@ use Rattle.std.specs.Str.{is_utf8}
 use Rattle.std.specs.Int.{Width, byte_len, from_le_bytes}
 use Rattle.nla_wire.specs.Frames.{Frame, IsBytes, IsFrame}
 use Rattle.nla_wire.specs.Reading.{◌>>=◌}
-use Rattle.nla_wire.specs.Grammar.{Grammar, Agrees, as_a, unless_empty, not_empty, by_payload, kept, if_true, choose}
+use Rattle.nla_wire.specs.Grammar.{Grammar, Agrees, as_a, unless_empty, not_empty, by_payload, undecoded, if_true, choose}
 use Rattle.nla_wire.specs.Payloads.{read_number, number_of, bytes, read_exactly, exactly, EndsInNul, IsTextOf}
 use Rattle.nla_wire.specs.Payloads.{without_nul, read_text, text, filled, read_sized, sized}
 use Rattle.nla_wire.specs.declared.error.Cause.{Cause}
@@ -41,7 +41,7 @@ err_is r c d e k = cc
 ok_not_err : {A : Type 0} (r : Result A Cause) (x : A) (c : Cause) → r ≡ Ok x → r ≡ Err c → ⊥
 ok_not_err r x c e k = absurd cc
 
-pub kept_agrees : {V : Type 0} (One : Frame → Type 0) (other : Frame → V) → Agrees One (kept other)
+pub kept_agrees : {V : Type 0} (One : Frame → Type 0) (other : Frame → V) → Agrees One (undecoded other)
 kept_agrees One other = record {
   only = λ f v m. ap (λ x. Ok x) (sym m);
   found = λ f v one e. ok_is (Ok (other f)) (other f) v refl e;
@@ -125,7 +125,7 @@ filled_agrees fields = record {
   refused = λ p c m. absurd m;
 }
 
--- a length that is wanted exactly: what the test answers
+-- a length that is wanted exactly: what the test returns
 exact : {A : Type 0} → ℕ → ℕ → A → Cause → Result A Cause
 exact got want x c = if got == want then Ok x else Err c
 

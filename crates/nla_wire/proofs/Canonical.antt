@@ -1,4 +1,4 @@
--- Canonical text at the front of a buffer: a frame around a value, and texts one behind the other.
+-- Canonical text at the front of a buffer: a frame around a value, and texts one after the other.
 use Rattle.std.proofs.Common.{◌≡◌, ℕ, suc, ◌+◌, ◌-◌, ◌*◌, ◌/◌, ◌%◌, ◌<◌, ◌≤◌, inl, inr, List, [], ◌∷◌, ◌++◌}
 use Rattle.std.proofs.Common.{append_assoc, append-nil, get_or, slice_set, length, take, drop, replicate}
 use Rattle.std.proofs.Common.{length-append, length-drop, length-take, refl, ap, sym, ◌∙◌, subst, arith}
@@ -15,7 +15,7 @@ use Rattle.nla_wire.specs.Canon.{canon, Filled, Writes}
 use Rattle.nla_wire.proofs.Bounds.{length-canon}
 use Rattle.nla_wire.proofs.FieldLemmas.{length-zero_filled}
 
--- ** one text behind another
+-- ** one text after another
 
 -- the end of a buffer from `at` on, lent and given back
 pub lent_back : (at : ℕ) (now part : List ℕ) → put_mid at (length now - at) now part ≡ take at now ++ part
@@ -39,7 +39,7 @@ write_on done text old now part at n before w =
           ∙ sym (append_assoc done text (drop (at + n) old));
     }
 
--- one NUL behind the text
+-- one NUL after the text
 pub nul_behind : (text old now : List ℕ) (n : ℕ) → n < length old → Writes text old now n → Writes (text ++ 0 ∷ []) old (slice_set now n 0) (n + 1)
 nul_behind text old now n room w =
     let front : now ≡ text ++ get_or old n 0 ∷ drop (n + 1) old = w.new_is ∙ ap (λ (xs : List ℕ). text ++ xs) (drop_more old n 0 room) in
@@ -65,7 +65,7 @@ around kind end value zeros rest end_is zeros_are =
     (λ i. (to_le_bytes w16 (end_is i) ++ to_le_bytes w16 kind ++ value) ++ (zeros_are i ++ rest))
     ∙ sym (append_assoc (to_le_bytes w16 (4 + length value) ++ to_le_bytes w16 kind ++ value) (replicate (missing (length value)) 0) rest)
 
--- header and padding, around the value that stands behind four bytes
+-- header and padding, around the value that stands after four bytes
 pub finished : (kind len : ℕ) (old headed zeros : List ℕ) (end padded : ℕ) → 4 + len + missing len ≤ length old → end ≡ 4 + len → padded ≡ (end + 3) / 4 * 4
     → headed ≡ to_le_bytes w16 end ++ to_le_bytes w16 kind ++ drop 4 old → zeros ≡ replicate (length (take (padded - end) (drop end headed))) 0
     → Writes (canon (record { kind = kind; payload = take len (drop 4 old) })) old (put_mid end (padded - end) headed zeros) padded
@@ -90,7 +90,7 @@ finished kind len old headed zeros end padded room end_is padded_is headed_is ze
           ∙ around kind end value zeros (drop padded old) (omega arith) zero;
     }
 
--- a value that stands behind four bytes, whose frame was written round it
+-- a value that stands after four bytes, whose frame was written round it
 finished_round : (kind : ℕ) (value old lent : List ℕ) (len : ℕ) (new : List ℕ) (n : ℕ) → 4 ≤ length old → len ≡ length value
     → lent ≡ take 4 old ++ (value ++ drop len (drop 4 old))
     → Writes (canon (record { kind = kind; payload = take len (drop 4 lent) })) lent new n
@@ -107,7 +107,7 @@ finished_round kind value old lent len new n long len_is lent_is finishing =
     whole ∙ ap (drop (n - 4)) behind ∙ drop-append-drop len (drop 4 old) value (n - 4) (omega (arith, far)) (sym len_is) ∙ drop-drop (n - 4) 4 old ∙ ap (λ k. drop k old) (sym split) in
     record { length_is = h.length_is; new_is = h.new_is ∙ ap (λ (rest : List ℕ). canon (record { kind = kind; payload = value }) ++ rest) kept }
 
--- the value was written to the front of all that is behind the header
+-- the value was written to the front of all that is after the header
 pub finished_value : (kind : ℕ) (value old part : List ℕ) (len : ℕ) (new : List ℕ) (n : ℕ) → 4 ≤ length old → Writes value (take (length old - 4) (drop 4 old)) part len
     → Writes (canon (record { kind = kind; payload = take len (drop 4 (put_mid 4 (length old - 4) old part)) })) (put_mid 4 (length old - 4) old part) new n
     → Writes (canon (record { kind = kind; payload = value })) old new n

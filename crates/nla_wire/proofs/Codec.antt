@@ -101,7 +101,7 @@ flat g text enough h = record { grammar = g; text = text; Inside = always; count
 abbrev pub bytes : Codec (List ℕ)
 bytes = flat payload.bytes (λ p. p) most_payload (bytes_lawful most_payload (lit≤ tt))
 
--- a text is written with one NUL behind it
+-- a text is written with one NUL after it
 abbrev pub text : Codec (List ℕ)
 text = flat payload.text (λ s. s ++ 0 ∷ []) 65530 (text_lawful 65530 (lit< tt))
 

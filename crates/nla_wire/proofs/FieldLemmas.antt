@@ -125,13 +125,13 @@ zero_there zero j = refl
 zero_there (suc m) zero = refl
 zero_there (suc m) (suc j) = zero_there m j
 
--- zeros behind bytes aren't seen
+-- zeros after bytes aren't seen
 pub get_or_zeros : (bytes : List ℕ) (m j : ℕ) → get_or (bytes ++ replicate m 0) j 0 ≡ get_or bytes j 0
 get_or_zeros [] m j = zero_there m j
 get_or_zeros (x ∷ bytes) m zero = refl
 get_or_zeros (x ∷ bytes) m (suc j) = get_or_zeros bytes m j
 
--- bytes behind a payload that is long enough aren't seen, nor are bytes in front of the place
+-- bytes after a payload that is long enough aren't seen, nor are bytes in front of the place
 pub number_at_before : (w : Width) (bytes more : List ℕ) (place : ℕ) → place + byte_len w ≤ length bytes → number_at w (bytes ++ more) place ≡ number_at w bytes place
 number_at_before w bytes more place h = number_at_same w (bytes ++ more) bytes place place (λ i l. get_or_append_left bytes more 0 (place + i) (omega arith))
 
@@ -139,7 +139,7 @@ pub number_at_behind : (w : Width) (front bytes : List ℕ) (place : ℕ) → nu
 number_at_behind w front bytes place = number_at_same w (front ++ bytes) bytes (length front + place) place (λ i l.
     ap (λ z. get_or (front ++ bytes) z 0) (add_assoc (length front) place i) ∙ get_or-append-add front bytes (place + i) 0)
 
--- ** numbers one behind the other
+-- ** numbers one after the other
 
 pub length-numbers_from : (w : Width) (p : List ℕ) (place n : ℕ) → length (numbers_from w p place n) ≡ n
 length-numbers_from w p place zero = refl

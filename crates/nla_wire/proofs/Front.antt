@@ -1,4 +1,4 @@
--- The frame at the front of bytes, as code reads it: from the bytes of the header, and the rest behind four of them.
+-- The frame at the front of bytes, as code reads it: from the bytes of the header, and the rest after four of them.
 use Rattle.std.proofs.Common.{◌≡◌, ℕ, suc, ◌+◌, ◌-◌, ◌<◌, ◌≤◌, ◌⊎◌, inl, inr, List, [], ◌∷◌, length, get_or, take}
 use Rattle.std.proofs.Common.{drop, refl, ap, sym, ◌∙◌, arith, Result, Ok, Err}
 use Rattle.std.specs.Prelude.{MatchResult}
@@ -63,7 +63,7 @@ step_fine b long fits whole =
     let size = behind_header b long in
     step_long b long ∙ frame_fine (length_field b) (kind_field b) (drop 4 b) (omega arith) whole
 
--- ** what stands behind the frame
+-- ** what stands after the frame
 
 next_rest : (f g : Frame) (r s : List ℕ) → Next f r ≡ Next g s → (f ≡ g) × (r ≡ s)
 next_rest f g r s e = (cc, cc)
@@ -96,7 +96,7 @@ step_rest b f rest e = elim (lt_or_le (length b) 4) [
   ]
 ]
 
--- ** the first item, from the answer of a reader of the front
+-- ** the first item, from the result of a reader of the front
 
 bad_front : (b : List ℕ) (s : Step) (c : Cause) → step b ≡ s → 0 < length b → front s ≡ Err c → step b ≡ Bad c
 bad_front b End c e some h = absurd (omega (arith, ap length (step_end b e)))
@@ -133,7 +133,7 @@ checked_front b (Ok f) bytes h =
     (next.0, step_begins b f next.0 bytes next.1)
 checked_front b (Err e) bytes h = (bad_meaning b (step b) e.cause refl (sym h), not_both b (step b) e.cause refl (sym h))
 
--- what stands behind the padding, from the length field
+-- what stands after the padding, from the length field
 pub padded_behind : (b : List ℕ) (len n : ℕ) → len ≡ 4 + n → drop (4 + n + missing n) b ≡ drop (len + missing len) b
 padded_behind b len n e = let same : 4 + n + missing n ≡ len + missing len = omega (arith, e) in ap (λ k. drop k b) same
 

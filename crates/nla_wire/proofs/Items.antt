@@ -23,7 +23,7 @@ pub items_bad : (b : List ℕ) (c : Cause) → step b ≡ Bad c → items b ≡ 
 unfolding items
 items_bad b c e = ap (λ (k : Cut). items_of k.frames k.stop) (cut_bad b c e)
 
--- what holds of the end and of a fault, and of each frame and the items behind it, holds of the items of all bytes
+-- what holds of the end and of a fault, and of each frame and the items after it, holds of the items of all bytes
 module _ (P : List ℕ → List Item → Type 0) (at_end : P [] []) (at_fault : (b : List ℕ) (c : Cause) → step b ≡ Bad c → P b (Err c ∷ [])) (at_frame : (b : List ℕ) (f : Frame) (rest : List ℕ) → step b ≡ Next f rest → P rest (items rest) → P b (Ok f ∷ items rest)) where
   case_on : (b : List ℕ) (s : Step) → step b ≡ s → ((rest : List ℕ) → length rest < length b → P rest (items rest)) → P b (items b)
   case_on b End e more = subst (λ x. P x (items x)) (sym (step_end b e)) (subst (λ xs. P [] xs) (sym items_nil) at_end)

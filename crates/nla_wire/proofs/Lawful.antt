@@ -10,7 +10,7 @@ use Rattle.std.specs.Int.{cast_unsigned}
 use Rattle.std.specs.List.{AllByRecursion}
 use Rattle.nla_wire.specs.Sizes.{most_payload, plain_growth, growth, growth_per_byte}
 use Rattle.nla_wire.specs.Frames.{Frame, number, IsBytes, IsFrame, missing}
-use Rattle.nla_wire.specs.Grammar.{Grammar, Agrees, as_a, Every, list, not_empty, by_payload, kept, is_one, picked}
+use Rattle.nla_wire.specs.Grammar.{Grammar, Agrees, as_a, Every, list, not_empty, by_payload, undecoded, is_one, picked}
 use Rattle.nla_wire.specs.Payloads.{number_of, bytes, IsTextOf, text, filled, sized}
 use Rattle.nla_wire.specs.Canon.{canon, canons, AllFit, IsWritable, total}
 use Rattle.nla_wire.specs.declared.error.Cause.TheVariants.{OutOfMemory}
@@ -169,7 +169,7 @@ module _ {V : Type 0} (frame : V → Frame) (Fits Good : V → Type 0) (count : 
         omega (arith, length-canon f)
 
     -- frames that are kept as they are
-    pub kept_lawful : (m : ℕ) → LawfulReading frame Fits Good count k e n m (kept other)
+    pub kept_lawful : (m : ℕ) → LawfulReading frame Fits Good count k e n m (undecoded other)
     kept_lawful m = record {
       agrees = kept_agrees IsFrame other;
       no_memory = λ f bad. bad;
@@ -327,7 +327,7 @@ text_length : (p s : List ℕ) → IsTextOf p s → length (s ++ 0 ∷ []) ≤ l
 text_length p s (inl e) = omega (arith, ap length e)
 text_length p s (inr h) = omega (arith, ap length h.1, length-append s (0 ∷ []))
 
--- a text, written with one NUL behind it
+-- a text, written with one NUL after it
 pub text_lawful : (n : ℕ) → n < most_payload → LawfulPayload text (λ s. s ++ 0 ∷ []) always always none plain_growth 0 n
 text_lawful n enough = record {
   agrees = text_agrees;

@@ -1,12 +1,12 @@
--- Lists of members: the reader answers what the relations say.
+-- Lists of members: the reader returns what the relations say.
 use Rattle.std.proofs.Common.{◌≡◌, ℕ, zero, suc, ◌<◌, ◌⊎◌, inl, inr, List, [], ◌∷◌, length, refl, ap, sym, ◌∙◌, subst}
 use Rattle.std.proofs.Common.{arith, Bool, true, false, cond, filter, Option, Some, None, Result, Ok, Err}
 use Rattle.nla_wire.specs.Frames.{Frame, IsBytes, IsFrame, Begins, Frames}
 use Rattle.nla_wire.specs.Reading.{Step, step, list_of, ◌>>=◌}
 use Rattle.nla_wire.specs.Reading.Step.{End, Bad, Next}
 use Rattle.nla_wire.specs.Items.{Item, read_items}
-use Rattle.nla_wire.specs.Grammar.{Grammar, Agrees, as_a, kept, if_true, Every, FirstAfter, First, list, is_one}
-use Rattle.nla_wire.specs.Grammar.{picks, somes, picked}
+use Rattle.nla_wire.specs.Grammar.{Grammar, Agrees, as_a, undecoded, if_true, Every, FirstAfter, First, list, is_one}
+use Rattle.nla_wire.specs.Grammar.{some_if_picked, present_values, picked}
 use Rattle.nla_wire.specs.declared.error.Cause.{Cause}
 use Rattle.nla_wire.proofs.Steps.{step_whole, step_begins, step_bad, bad_step, step_shorter, step_end, step_framed}
 use Rattle.nla_wire.proofs.Steps.{step_rest_bytes}
@@ -121,8 +121,8 @@ module _ {V : Type 0} (place : Grammar Frame V) (agrees : Agrees IsFrame place) 
 
 -- ** a list of which members with other numbers than 1 are dropped
 
-pub picks_agrees : {V : Type 0} (place : Grammar Frame V) → Agrees IsFrame place → Agrees IsFrame (picks place)
-picks_agrees {V} place agrees = choose_agrees is_one (as_a (λ (v : V). Some v) place) (kept (λ f. None)) (as_agrees IsFrame (λ (v : V). Some v) place agrees) (kept_agrees IsFrame (λ f. None))
+pub picks_agrees : {V : Type 0} (place : Grammar Frame V) → Agrees IsFrame place → Agrees IsFrame (some_if_picked place)
+picks_agrees {V} place agrees = choose_agrees is_one (as_a (λ (v : V). Some v) place) (undecoded (λ f. None)) (as_agrees IsFrame (λ (v : V). Some v) place agrees) (kept_agrees IsFrame (λ f. None))
 
 module _ {V : Type 0} (place : Grammar Frame V) where
   nothing_is_some : (v : V) → None ≡ Some v → ⊥
@@ -131,16 +131,16 @@ module _ {V : Type 0} (place : Grammar Frame V) where
   some_means : (f : Frame) (v w : V) → place.means f v → Some w ≡ Some v → place.means f w
   some_means f v w m e = let same : v ≡ w = cc in subst (λ x. place.means f x) same m
 
-  pick_one : (f : Frame) (v : V) → is_one f ≡ true → place.means f v → (picks place).means f (Some v)
+  pick_one : (f : Frame) (v : V) → is_one f ≡ true → place.means f v → (some_if_picked place).means f (Some v)
   pick_one f v one m = rw one (v, m, refl)
 
-  pick_other : (f : Frame) → is_one f ≡ false → (picks place).means f None
+  pick_other : (f : Frame) → is_one f ≡ false → (some_if_picked place).means f None
   pick_other f other = rw other refl
 
   options_more : (f : Frame) (fs kept_behind : List Frame) (test : Bool) (vs : List V) → is_one f ≡ test
-      → ((ws : List V) → Every place.means kept_behind ws → (os : List (Option V)) × Every (picks place).means fs os × (ws ≡ somes os))
+      → ((ws : List V) → Every place.means kept_behind ws → (os : List (Option V)) × Every (some_if_picked place).means fs os × (ws ≡ present_values os))
       → Every place.means (cond test (f ∷ kept_behind) kept_behind) vs
-      → (os : List (Option V)) × Every (picks place).means (f ∷ fs) os × (vs ≡ somes os)
+      → (os : List (Option V)) × Every (some_if_picked place).means (f ∷ fs) os × (vs ≡ present_values os)
   options_more f fs kept_behind true [] one behind every = absurd every
   options_more f fs kept_behind true (v ∷ vs) one behind every =
       let more = behind vs every.1 in
@@ -150,20 +150,20 @@ module _ {V : Type 0} (place : Grammar Frame V) where
       (None ∷ more.0, (pick_other f other, more.1), more.2)
 
   -- the values of the members with number 1, with nothing in the place of each that is dropped
-  pub options : (fs : List Frame) (vs : List V) → Every place.means (filter is_one fs) vs → (os : List (Option V)) × Every (picks place).means fs os × (vs ≡ somes os)
+  pub options : (fs : List Frame) (vs : List V) → Every place.means (filter is_one fs) vs → (os : List (Option V)) × Every (some_if_picked place).means fs os × (vs ≡ present_values os)
   options [] [] every = ([], tt, refl)
   options [] (v ∷ vs) every = absurd every
   options (f ∷ fs) vs every = options_more f fs (filter is_one fs) (is_one f) vs refl (options fs) every
 
   values_more : (f : Frame) (kept_behind : List Frame) (test : Bool) (o : Option V) (os : List (Option V))
-      → (if_true test (as_a (λ (v : V). Some v) place) (kept (λ f. None))).means f o → Every place.means kept_behind (somes os)
-      → Every place.means (cond test (f ∷ kept_behind) kept_behind) (somes (o ∷ os))
+      → (if_true test (as_a (λ (v : V). Some v) place) (undecoded (λ f. None))).means f o → Every place.means kept_behind (present_values os)
+      → Every place.means (cond test (f ∷ kept_behind) kept_behind) (present_values (o ∷ os))
   values_more f kept_behind true None os m every = absurd (nothing_is_some m.0 m.2)
   values_more f kept_behind true (Some v) os m every = (some_means f m.0 v m.1 m.2, every)
   values_more f kept_behind false None os m every = every
   values_more f kept_behind false (Some v) os m every = absurd cc
 
-  pub values : (fs : List Frame) (os : List (Option V)) → Every (picks place).means fs os → Every place.means (filter is_one fs) (somes os)
+  pub values : (fs : List Frame) (os : List (Option V)) → Every (some_if_picked place).means fs os → Every place.means (filter is_one fs) (present_values os)
   values [] [] every = tt
   values [] (o ∷ os) every = absurd every
   values (f ∷ fs) [] every = absurd every
@@ -171,7 +171,7 @@ module _ {V : Type 0} (place : Grammar Frame V) where
 
   pub picked_agrees : Agrees IsFrame place → Agrees IsBytes (picked place)
   picked_agrees agrees =
-      let h = as_agrees IsBytes (λ (os : List (Option V)). somes os) (list (picks place)) (list_agrees (picks place) (picks_agrees place agrees)) in
+      let h = as_agrees IsBytes (λ (os : List (Option V)). present_values os) (list (some_if_picked place)) (list_agrees (some_if_picked place) (picks_agrees place agrees)) in
       record {
         only = λ p vs m. let k = options m.0 vs m.2 in h.only p vs (k.0, (m.0, m.1, k.1), k.2);
         found = λ p vs small e. let k = h.found p vs small e in (k.1.0, k.1.1, subst (λ ws. Every place.means (filter is_one k.1.0) ws) (sym k.2) (values k.1.0 k.0 k.1.2));

@@ -5,13 +5,13 @@ use Rattle.nla_wire.specs.Frames.{Frame, number}
 use Rattle.nla_wire.specs.Reading.{list_of, with_front, ◌>>=◌}
 use Rattle.nla_wire.specs.Items.{Item, items, read_items}
 use Rattle.nla_wire.specs.Gives.{Fails, Gives, Checks}
-use Rattle.nla_wire.specs.Grammar.{Grammar, Agrees, picks, somes, picked}
+use Rattle.nla_wire.specs.Grammar.{Grammar, Agrees, some_if_picked, present_values, picked}
 use Rattle.nla_wire.specs.declared.error.Cause.{Cause}
 use Rattle.nla_wire.specs.declared.error.Cause.TheVariants.{OutOfMemory}
 use Rattle.nla_wire.specs.declared.error.DecodeError.{DecodeError}
 use Rattle.nla_wire.proofs.Items.{list_items}
 
--- ** answers of readers
+-- ** results of readers
 
 -- a reading that is Ok has a value
 pub given : {A : Type 0} (r : Result A Cause) → IsOk r → (a : A) × (r ≡ Ok a)
@@ -81,17 +81,17 @@ module _ {V : Type 0} (read : Frame → Result V Cause) (front : List V) (left :
 -- ** the same where members with other numbers than 1 are dropped
 
 module _ {V : Type 0} (place : Grammar Frame V) (f : Frame) where
-  pub picks_one : number f ≡ 1 → (picks place).reads f ≡ (place.reads f >>= λ v. Ok (Some v))
+  pub picks_one : number f ≡ 1 → (some_if_picked place).reads f ≡ (place.reads f >>= λ v. Ok (Some v))
   picks_one one = rw (eq-eqb (number f) 1 one)
 
-  pub picks_other : number f ≢ 1 → (picks place).reads f ≡ Ok None
+  pub picks_other : number f ≢ 1 → (some_if_picked place).reads f ≡ Ok None
   picks_other other = rw (ne_eqb (number f) 1 other)
 
 -- the values that these items are read as
 abbrev pub read_picked : {V : Type 0} → Grammar Frame V → List Item → Result (List V) Cause
-read_picked place xs = read_items (picks place).reads xs >>= λ os. Ok (somes os)
+read_picked place xs = read_items (some_if_picked place).reads xs >>= λ os. Ok (present_values os)
 
 pub picked_start : {V : Type 0} (place : Grammar Frame V) (b : List ℕ) → with_front [] (read_picked place (items b)) ≡ (picked place).reads b
 picked_start {V} place b =
     front_none (read_picked place (items b))
-    ∙ ap (λ (r : Result (List (Option V)) Cause). r >>= λ os. Ok (somes os)) (sym (list_items (picks place).reads b))
+    ∙ ap (λ (r : Result (List (Option V)) Cause). r >>= λ os. Ok (present_values os)) (sym (list_items (some_if_picked place).reads b))

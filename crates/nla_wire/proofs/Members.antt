@@ -32,7 +32,7 @@ module _ {A : Type 0} (frame : A → Frame) where
   pub canons_within : (xs : List A) (i : ℕ) (d : A) → i < length xs → length (canons frame (take i xs)) + length (canon (frame (get_or xs i d))) ≤ length (canons frame xs)
   canons_within xs i d h = length-flat_map-take (λ x. canon (frame x)) xs i d h
 
-  -- one text, and those behind it, are within the texts of them all
+  -- one text, and those after it, are within the texts of them all
   pub canons_behind : (xs : List A) (i n : ℕ) (d : A) → i < length xs → n ≡ i + 1 → length (canon (frame (get_or xs i d))) + length (canons frame (drop n xs)) ≤ length (canons frame xs)
   canons_behind xs i n d h e =
       let parts : canons frame xs ≡ canons frame (take i xs) ++ canons frame (drop i xs) =
@@ -69,7 +69,7 @@ canons_up_to frame xs i x h is =
     let at_place : length (canon (frame x)) ≡ length (canon (frame (get_or xs i x))) = ap (λ y. length (canon (frame y))) is in
     omega (arith, canons_within frame xs i x h, at_place)
 
--- a member's text, and those behind it, are within the texts of them all
+-- a member's text, and those after it, are within the texts of them all
 pub canons_from : {A : Type 0} (frame : A → Frame) (xs : List A) (i n : ℕ) (x : A) → i < length xs → n ≡ i + 1 → x ≡ get_or xs i x
     → length (canon (frame x)) + length (canons frame (drop n xs)) ≤ length (canons frame xs)
 canons_from frame xs i n x h e is =

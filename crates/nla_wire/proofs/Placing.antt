@@ -19,7 +19,7 @@ put_end at k old part k_is =
 pub lent_end : (at k : ℕ) (old : List ℕ) → k ≡ length old - at → take k (drop at old) ≡ drop at old
 lent_end at k old k_is = take_all k (drop at old) (omega (arith, k_is, length-drop at old))
 
--- what stands behind a place, moved to the front
+-- what stands after a place, moved to the front
 pub moved_front : (n : ℕ) (s : List ℕ) → n ≤ length s → take (length s - n) (paste s 0 (drop n s) (length s - n)) ≡ drop n s
 moved_front n s fits =
     let k = length s - n in
@@ -31,7 +31,7 @@ pub take_twice : (n m : ℕ) (xs tail : List ℕ) → n ≤ m → m ≤ length x
 take_twice n m xs tail le fits =
     take-append-le n (take m xs) tail (omega (arith, le, length-take-le m xs fits)) ∙ take-take n m xs le
 
--- two bytes put in front of the part behind `n + 2`
+-- two bytes put in front of the part after `n + 2`
 pub put_two : (n m : ℕ) (old tail two before after : List ℕ)
     → m ≡ n + 2 → m ≤ length old → before ≡ take m old ++ tail → after ≡ take n before ++ two ++ drop m before
     → after ≡ take n old ++ (two ++ tail)

@@ -1,4 +1,4 @@
--- The laws of a record, from its fields one behind the other.
+-- The laws of a record, from its fields one after the other.
 use Rattle.std.proofs.Common.{◌≡◌, ℕ, ◌+◌, ◌-◌, ◌^◌, ◌<◌, ◌≤◌, List, [], ◌∷◌, ◌++◌, length, get_or, take, drop}
 use Rattle.std.proofs.Common.{replicate, add_assoc, add-zero, refl, sym, ap, ap₂, ◌∙◌, length-append}
 use Rattle.std.proofs.Common.{get_or-append-add, get_or-take, get_or-drop, arith, lit<}
@@ -19,7 +19,7 @@ pub record Part {A : Type 0} (size : ℕ) (read : List ℕ → ℕ → A) (text 
   pub again : (p : List ℕ) (x : ℕ) → IsBytes p → read (text (read p x)) 0 ≡ read p x
   pub sized : (p : List ℕ) (x : ℕ) → length (text (read p x)) ≡ size
 
--- one field behind the other
+-- one field after the other
 infixr 4 ◌&◌
 pub ◌&◌ : {A B : Type 0} {m n : ℕ} {read : List ℕ → ℕ → A} {text : A → List ℕ} {read' : List ℕ → ℕ → B} {text' : B → List ℕ}
     → Part m read text → Part n read' text' → Part (m + n) (λ p x. (read p x, read' p (x + m))) (λ (v : A × B). text v.0 ++ text' v.1)

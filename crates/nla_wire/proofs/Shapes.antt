@@ -1,4 +1,4 @@
--- Code that goes by the shape of a payload, with no value made: what it answers is what reading the attribute would.
+-- Code that goes by the shape of a payload, with no value made: what it returns is what reading the attribute would.
 use Rattle.std.proofs.Common.{◌≡◌, ℕ, ◌≤◌, List, length, refl, sym, ap, subst, ◌∙◌}
 use Rattle.std.specs.Prelude.{Option, None, Some, Result, Ok, Err, IsOk}
 use Rattle.nla_wire.specs.Sizes.{most_payload}
@@ -8,7 +8,7 @@ use Rattle.nla_wire.specs.Gives.{Checks}
 use Rattle.nla_wire.specs.Canon.{canon, Writes, Weighs, HasRoom, Rewrites}
 use Rattle.nla_wire.specs.declared.error.Cause.{Cause}
 use Rattle.nla_wire.specs.declared.error.DecodeError.{DecodeError}
-use Rattle.nla_wire.specs.Grammar.{kept}
+use Rattle.nla_wire.specs.Grammar.{undecoded}
 use Rattle.nla_wire.proofs.Codec.{Any, kind_of}
 use Rattle.nla_wire.proofs.Tables.{Seen, as_it_is, Way, Kept, Shape, Own, FitsAs, ReadsAs, ReadsBy, Entry, reads_in}
 use Rattle.nla_wire.proofs.Tables.{lines, way_in, line_by}
@@ -182,22 +182,22 @@ module _ {S : Type 0} (base : S → Any) {V : Type 0} (view : V → Seen) (Good 
         (line_by base view Good other same (number f) (length f.payload) es)
 
     pub lined_checks : (w : Way S) → way_in base view Good es (number f) (length f.payload) ≡ w
-        → (answer : Result Unit DecodeError) → WayChecks w f.payload answer → Checks answer ((lines base view Good es (kept other)).reads f)
+        → (answer : Result Unit DecodeError) → WayChecks w f.payload answer → Checks answer ((lines base view Good es (undecoded other)).reads f)
     lined_checks w is answer h = way_checks (number f) w (reads_in base view Good (number f) (length f.payload) es (λ f. Ok (other f))) (by_way w is) f answer h
 
     pub lined_weighs : (w : Way S) → way_in base view Good es (number f) (length f.payload) ≡ w → IsBytes f.payload → length f.payload ≤ most_payload
         → (a : Option ℕ) → WayWeighs w f.payload a
-        → Weighs (λ v. (view v).frame.payload) (FitsAs base view Good) ((lines base view Good es (kept other)).reads f) a
+        → Weighs (λ v. (view v).frame.payload) (FitsAs base view Good) ((lines base view Good es (undecoded other)).reads f) a
     lined_weighs w is small short a h =
         way_weighs f small (reads_in base view Good (number f) (length f.payload) es (λ f. Ok (other f))) w (by_way w is) short a h
 
     pub lined_room : (w : Way S) → way_in base view Good es (number f) (length f.payload) ≡ w → IsBytes f.payload → (room : ℕ)
-        → HasRoom (λ v. canon (view v).frame) (FitsAs base view Good) ((lines base view Good es (kept other)).reads f) room → WayRoom w f room
+        → HasRoom (λ v. canon (view v).frame) (FitsAs base view Good) ((lines base view Good es (undecoded other)).reads f) room → WayRoom w f room
     lined_room w is small room h =
         way_room f small (reads_in base view Good (number f) (length f.payload) es (λ f. Ok (other f))) w (by_way w is) room h
 
     pub lined_writes : (w : Way S) → way_in base view Good es (number f) (length f.payload) ≡ w → IsBytes f.payload
         → (old new : List ℕ) (n : ℕ) → WayWrites w f old new n
-        → Rewrites (λ v. canon (view v).frame) ((lines base view Good es (kept other)).reads f) old new n
+        → Rewrites (λ v. canon (view v).frame) ((lines base view Good es (undecoded other)).reads f) old new n
     lined_writes w is small old new n h =
         way_writes f small (reads_in base view Good (number f) (length f.payload) es (λ f. Ok (other f))) w (by_way w is) old new n h

@@ -64,7 +64,7 @@ concatenated (s ∷ t ∷ ss) (f ∷ g ∷ fs) b e h =
 pub concatenation_frames : (b : List ℕ) (fs : List Frame) → IsConcatenation b fs → Frames b fs
 concatenation_frames b fs h = concatenated h.0 fs b h.1 h.2
 
--- ** frames and a fault behind them
+-- ** frames and a fault after them
 
 -- what begins with no frame isn't empty
 pub bad_start_some : (b : List ℕ) (c : Cause) → BadStart b c → 0 < length b

@@ -14,7 +14,7 @@ use Rattle.nla_wire.specs.declared.error.Cause.{Cause}
 use Rattle.nla_wire.specs.declared.error.Cause.TheVariants.{TooShort, FrameShort, FrameOver, FrameUnder, EmptyList}
 use Rattle.nla_wire.specs.declared.error.Cause.TheVariants.{WrongLength, NotUtf8, InvalidState, OutOfMemory}
 
--- ** what the tests of `frame_at` answer
+-- ** what the tests of `frame_at` return
 
 pub frame_over : (len kind : ℕ) (p : List ℕ) → length p + 4 < len → frame_at len kind p ≡ Bad (FrameOver len (length p + 4))
 frame_over len kind p over = rw (lt-ltb _ _ over)
@@ -66,7 +66,7 @@ next_is P b f g r s e h =
     let rest_is : r ≡ s = cc in
     subst (λ x. P b g x) rest_is (subst (λ x. P b x r) frame_is h)
 
--- what holds of each frame that `frame_at` finds behind four bytes holds of each step
+-- what holds of each frame that `frame_at` finds after four bytes holds of each step
 next_case : (P : List ℕ → Frame → List ℕ → Type 0)
     → ((a b c d : ℕ) (p : List ℕ) → from_le_bytes w16 (a ∷ b ∷ []) ≤ length p + 4 → 4 ≤ from_le_bytes w16 (a ∷ b ∷ [])
     → P (a ∷ b ∷ c ∷ d ∷ p)
@@ -138,7 +138,7 @@ step_begins b f rest small e = next_case (λ b f rest. IsBytes b → Begins b f 
 pub step_shorter : (b : List ℕ) (f : Frame) (rest : List ℕ) → step b ≡ Next f rest → length rest < length b
 step_shorter b f rest e = next_case (λ b f rest. length rest < length b) (λ a b c d p within whole. omega (arith, length-drop (from_le_bytes w16 (a ∷ b ∷ []) - 4 + missing (from_le_bytes w16 (a ∷ b ∷ []) - 4)) p)) b f rest e
 
--- the bytes of a frame, without its padding, and those behind it are among those that it was read from
+-- the bytes of a frame, without its padding, and those after it are among those that it was read from
 pub step_size : (b : List ℕ) (f : Frame) (rest : List ℕ) → step b ≡ Next f rest → 4 + length f.payload + length rest ≤ length b
 step_size b f rest e = next_case (λ b f rest. 4 + length f.payload + length rest ≤ length b)
     (λ a b c d p within whole. omega (arith, length-take (from_le_bytes w16 (a ∷ b ∷ []) - 4) p, length-drop (from_le_bytes w16 (a ∷ b ∷ []) - 4 + missing (from_le_bytes w16 (a ∷ b ∷ []) - 4)) p)) b f rest e

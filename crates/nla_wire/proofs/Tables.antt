@@ -7,7 +7,7 @@ use lib.Dec.{T}
 use Rattle.nla_wire.specs.Sizes.{plain_growth}
 use Rattle.nla_wire.specs.Frames.{Frame, number, IsBytes, IsFrame}
 use Rattle.nla_wire.specs.Reading.{◌>>=◌}
-use Rattle.nla_wire.specs.Grammar.{Grammar, Agrees, as_a, by_payload, kept, if_true}
+use Rattle.nla_wire.specs.Grammar.{Grammar, Agrees, as_a, by_payload, undecoded, if_true}
 use Rattle.nla_wire.specs.Canon.{IsSmall}
 use Rattle.nla_wire.specs.declared.error.Cause.{Cause}
 use Rattle.nla_wire.proofs.Agreement.{if_agrees, if_reads}
@@ -251,7 +251,7 @@ module _ {S : Type 0} (base : S → Any) {V : Type 0} (view : V → Seen) (Good 
   }
 
   pub kept_reading : (other : Frame → V) → ((f : Frame) → view (other f) ≡ as_it_is f) → (factor fewer enough : ℕ) → plain_growth + fewer ≤ factor → (n : ℕ)
-      → Lawful factor fewer enough n (kept other)
+      → Lawful factor fewer enough n (undecoded other)
   kept_reading other same factor fewer enough wide n =
       kept_lawful frame_of FitsAs Good count_of factor fewer enough wide other
       (λ f. ap (λ (s : Seen). s.frame) (same f)) (λ f. ap (λ (s : Seen). s.count) (same f))
@@ -261,7 +261,7 @@ module _ {S : Type 0} (base : S → Any) {V : Type 0} (view : V → Seen) (Good 
   abbrev pub keeping : (number : ℕ) (variant : Frame → V) → ((f : Frame) → view (variant f) ≡ as_it_is f) → Reading number
   keeping number variant same = record {
     way = Kept;
-    reads = kept variant;
+    reads = undecoded variant;
     by = λ f. (variant f, refl, ap (λ (s : Seen). s.frame) (same f), subst (λ (s : Seen). s.Inside) (sym (same f)) tt);
     holds = λ factor fewer enough. nat_le (plain_growth + fewer) factor;
     lawful = λ factor fewer enough h. kept_reading variant same factor fewer enough (computed_le h) number;
@@ -286,14 +286,14 @@ module _ {S : Type 0} (base : S → Any) {V : Type 0} (view : V → Seen) (Good 
         let k = both (e.reading.holds factor fewer enough) _ h in
         (e.reading.lawful factor fewer enough k.0, each_lawful es (both (no_more e.number es) _ k.1).1)
 
-    line_agrees : (n size : ℕ) (es : List {1} Entry) → AllLawful es → Agrees IsFrame (line_in n size es (kept other))
+    line_agrees : (n size : ℕ) (es : List {1} Entry) → AllLawful es → Agrees IsFrame (line_in n size es (undecoded other))
     line_agrees n size [] each = (kept_reading other same factor fewer enough wide 0).agrees
-    line_agrees n size (e ∷ es) each = if_agrees (accepts e n size) e.reading.reads (line_in n size es (kept other)) each.0.agrees (line_agrees n size es each.1)
+    line_agrees n size (e ∷ es) each = if_agrees (accepts e n size) e.reading.reads (line_in n size es (undecoded other)) each.0.agrees (line_agrees n size es each.1)
 
-    lines_agree : (es : List {1} Entry) → AllLawful es → Agrees IsFrame (lines es (kept other))
+    lines_agree : (es : List {1} Entry) → AllLawful es → Agrees IsFrame (lines es (undecoded other))
     lines_agree es each =
         let at = λ (f : Frame). line_agrees (number f) (length f.payload) es each in
-        let is = λ (f : Frame). lines_reads_is (number f) (length f.payload) es (kept other) f in
+        let is = λ (f : Frame). lines_reads_is (number f) (length f.payload) es (undecoded other) f in
         record {
           only = λ f v m. is f ∙ (at f).only f v m;
           found = λ f v one e. (at f).found f v one (sym (is f) ∙ e);
@@ -307,21 +307,21 @@ module _ {S : Type 0} (base : S → Any) {V : Type 0} (view : V → Seen) (Good 
     accepted_lawful e g n h k true false is = k
     accepted_lawful e g n h k false c is = k
 
-    line_lawful : (n size : ℕ) (es : List {1} Entry) → AllLawful es → Lawful factor fewer enough n (line_in n size es (kept other))
+    line_lawful : (n size : ℕ) (es : List {1} Entry) → AllLawful es → Lawful factor fewer enough n (line_in n size es (undecoded other))
     line_lawful n size [] each = kept_reading other same factor fewer enough wide n
     line_lawful n size (e ∷ es) each =
-        accepted_lawful e (line_in n size es (kept other)) n each.0 (line_lawful n size es each.1) (n == e.number) (has_size e.size size) refl
+        accepted_lawful e (line_in n size es (undecoded other)) n each.0 (line_lawful n size es each.1) (n == e.number) (has_size e.size size) refl
 
     kept_size : (size : Option ℕ) (g : Grammar Frame V) → KeepsSize size g → (f : Frame) (v : V) → g.means f v → has_size size (length (frame_of v).payload) ≡ true
     kept_size None g keeps f v means = refl
     kept_size (Some size) g keeps f v means = eq-eqb (length (frame_of v).payload) size (keeps f v means)
 
     -- frames of a number that no line has are kept
-    missed : (n size : ℕ) (es : List {1} Entry) (f : Frame) (v : V) → T (no_more n es) → (line_in n size es (kept other)).means f v → frame_of v ≡ f
+    missed : (n size : ℕ) (es : List {1} Entry) (f : Frame) (v : V) → T (no_more n es) → (line_in n size es (undecoded other)).means f v → frame_of v ≡ f
     missed n size [] f v none means = ap frame_of means ∙ ap (λ (s : Seen). s.frame) (same f)
     missed n size (e ∷ es) f v none means = by (n == e.number) (has_size e.size size) (missed n size es f v) none means where
-      by : (b c : Bool) → (T (no_more n es) → (line_in n size es (kept other)).means f v → frame_of v ≡ f)
-          → T (not b && no_more n es) → (if_true (b && c) e.reading.reads (line_in n size es (kept other))).means f v → frame_of v ≡ f
+      by : (b c : Bool) → (T (no_more n es) → (line_in n size es (undecoded other)).means f v → frame_of v ≡ f)
+          → T (not b && no_more n es) → (if_true (b && c) e.reading.reads (line_in n size es (undecoded other))).means f v → frame_of v ≡ f
       by true c later none means = absurd none
       by false c later none means = later none means
 
@@ -342,18 +342,18 @@ module _ {S : Type 0} (base : S → Any) {V : Type 0} (view : V → Seen) (Good 
         subst (λ t. (if_true t e.reading.reads h).means (frame_of v) v) (sym (ap (λ (x : Frame). has_size e.size (length x.payload)) again ∙ sized)) (later means)
 
     line_back : (es : List {1} Entry) → T (all_hold factor fewer enough es) → AllLawful es → (f : Frame) (v : V) → IsFrame f → FitsAs v → Good v
-        → (line_in (number f) (length f.payload) es (kept other)).means f v
-        → (line_in (number f) (length (frame_of v).payload) es (kept other)).means (frame_of v) v
+        → (line_in (number f) (length f.payload) es (undecoded other)).means f v
+        → (line_in (number f) (length (frame_of v).payload) es (undecoded other)).means (frame_of v) v
     line_back [] h each f v one fits good means = (kept_reading other same factor fewer enough wide (number f)).back f v one refl means fits good
     line_back (e ∷ es) h each f v one fits good means =
         let k = both (e.reading.holds factor fewer enough) _ h in
         let l = both (no_more e.number es) _ k.1 in
-        accepted_back e (line_in (number f) (length f.payload) es (kept other)) (line_in (number f) (length (frame_of v).payload) es (kept other))
+        accepted_back e (line_in (number f) (length f.payload) es (undecoded other)) (line_in (number f) (length (frame_of v).payload) es (undecoded other))
         f v one fits good each.0 (line_back es l.1 each.1 f v one fits good)
         (λ is. missed (number f) (length f.payload) es f v (subst (λ n. T (no_more n es)) (sym is) l.0))
         (number f == e.number) (has_size e.size (length f.payload)) refl refl means
 
-    pub lines_lawful : (es : List {1} Entry) → T (all_hold factor fewer enough es) → (m : ℕ) → Lawful factor fewer enough m (lines es (kept other))
+    pub lines_lawful : (es : List {1} Entry) → T (all_hold factor fewer enough es) → (m : ℕ) → Lawful factor fewer enough m (lines es (undecoded other))
     lines_lawful es h m =
         let each = each_lawful es h in
         let at = λ (f : Frame). line_lawful (number f) (length f.payload) es each in
@@ -363,7 +363,7 @@ module _ {S : Type 0} (base : S → Any) {V : Type 0} (view : V → Seen) (Good 
           same_number = λ f v is means. (at f).same_number f v refl means ∙ is;
           writable = λ f. (at f).writable f;
           back = λ f v one is means fits good.
-              subst (λ n. (line_in n (length (frame_of v).payload) es (kept other)).means (frame_of v) v) (sym ((at f).same_number f v refl means))
+              subst (λ n. (line_in n (length (frame_of v).payload) es (undecoded other)).means (frame_of v) v) (sym ((at f).same_number f v refl means))
               (line_back es h each f v one fits good means);
           counted = λ f. (at f).counted f;
           bounded = λ f. (at f).bounded f;
@@ -371,17 +371,17 @@ module _ {S : Type 0} (base : S → Any) {V : Type 0} (view : V → Seen) (Good 
         }
 
     pub lined_lawful : (es : List {1} Entry) → T (all_hold factor fewer enough es)
-        → LawfulPlace (lines es (kept other)) frame_of FitsAs Good count_of factor fewer enough
-    lined_lawful es h = place_lawful frame_of FitsAs Good count_of factor fewer enough (lines es (kept other)) (lines_lawful es h)
+        → LawfulPlace (lines es (undecoded other)) frame_of FitsAs Good count_of factor fewer enough
+    lined_lawful es h = place_lawful frame_of FitsAs Good count_of factor fewer enough (lines es (undecoded other)) (lines_lawful es h)
 
   -- ** frames that no line accepts
 
   pub foreign_kept : (other : Frame → V) → ((f : Frame) → view (other f) ≡ as_it_is f)
-      → (es : List {1} Entry) (f : Frame) (v : V) → IsForeign es f → (lines es (kept other)).means f v → frame_of v ≡ f
+      → (es : List {1} Entry) (f : Frame) (v : V) → IsForeign es f → (lines es (undecoded other)).means f v → frame_of v ≡ f
   foreign_kept other same [] f v foreign means = ap frame_of means ∙ ap (λ (s : Seen). s.frame) (same f)
   foreign_kept other same (e ∷ es) f v foreign means =
       foreign_kept other same es f v foreign.1
-      (subst (λ t. (if_true t e.reading.reads (line_in (number f) (length f.payload) es (kept other))).means f v) foreign.0 means)
+      (subst (λ t. (if_true t e.reading.reads (line_in (number f) (length f.payload) es (undecoded other))).means f v) foreign.0 means)
 
   missed_number : (a b : ℕ) (c : Bool) → (a ≢ b) → ((a == b) && c) ≡ false
   missed_number a b c other = ap (λ t. t && c) (ne_eqb a b other)

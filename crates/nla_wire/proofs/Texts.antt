@@ -73,7 +73,7 @@ text_once : (p s : List ℕ) → read_text p ≡ Ok s → without_nul p ≡ s
 unfolding read_text
 text_once p s h = passed (is_utf8 (without_nul p)) (without_nul p) s NotUtf8 h
 
--- the text of a payload, measured: with the NUL behind it, which it gets if it had none
+-- the text of a payload, measured: with the NUL after it, which it gets if it had none
 abbrev pub TextWeighs : List ℕ → Option ℕ → Type 0
 TextWeighs p answer = Weighs (λ s. s ++ 0 ∷ []) (λ s. length (s ++ 0 ∷ []) ≤ most_payload) (read_text p) answer
 

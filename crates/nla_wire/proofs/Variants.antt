@@ -9,7 +9,7 @@ use denote.Struct.Values.{Values}
 use denote.Enum.Declared.{Record, Choice}
 use Rattle.nla_wire.specs.Sizes.{most_payload, plain_growth, growth}
 use Rattle.nla_wire.specs.Frames.{Frame, number}
-use Rattle.nla_wire.specs.Grammar.{kept}
+use Rattle.nla_wire.specs.Grammar.{undecoded}
 use Rattle.nla_wire.proofs.Lawful.{always}
 use Rattle.nla_wire.proofs.Codec.{Codec, CodecWhere, Any, Place, kind_of, computed_le}
 use Rattle.nla_wire.proofs.Tables.{Seen, held, as_it_is, Shaped, Reading, KeepsSize, Entry, both, IsForeign, shaping}
@@ -164,7 +164,7 @@ abbrev pub place : {S : Type 0} (base : S → Any) (N : Record) (factor fewer en
     → T (all_hold base (view_of base N always ls) always factor fewer enough (entries_of base N always ls))
     → Place N.D
 place base N factor fewer enough ls other same spare within h = record {
-  grammar = lines base (view_of base N always ls) always (entries_of base N always ls) (kept other);
+  grammar = lines base (view_of base N always ls) always (entries_of base N always ls) (undecoded other);
   frame = frame_of base (view_of base N always ls) always;
   Fits = FitsAs base (view_of base N always ls) always;
   count = count_of base (view_of base N always ls) always;

@@ -1,4 +1,4 @@
--- Numbers written one behind the other.
+-- Numbers written one after the other.
 use Rattle.std.proofs.Common.{◌≡◌, ℕ, ◌+◌, ◌<◌, List, [], ◌∷◌, ◌++◌, sym, ap, ◌∙◌, length, get_or, take, drop, ◌*◌}
 use Rattle.std.proofs.Common.{arith, add-one, min, replicate, ◌-◌}
 use Rattle.std.specs.List.{flat_map}

@@ -9,7 +9,7 @@ use Rattle.nla_wire.specs.Frames.{Frame, number, missing, IsFrame}
 use Rattle.nla_wire.specs.Payloads.{read_sized}
 use Rattle.nla_wire.specs.Reading.{list_of, with_front, ◌>>=◌}
 use Rattle.nla_wire.specs.Items.{Item, items, read_items}
-use Rattle.nla_wire.specs.Grammar.{Grammar, Agrees, unless_empty, picks, somes}
+use Rattle.nla_wire.specs.Grammar.{Grammar, Agrees, unless_empty, some_if_picked, present_values}
 use Rattle.nla_wire.specs.Canon.{canon, canons, AllFit, Writes, Weighs, HasRoom, Rewrites, RoomWhereFit, Canonical}
 use Rattle.nla_wire.specs.declared.error.Cause.{Cause}
 use Rattle.nla_wire.proofs.Items.{list_items}
@@ -460,27 +460,27 @@ abbrev pub KeptFits : {V : Type 0} → (V → Type 0) → Option V → Type 0
 KeptFits fits None = Unit {0}
 KeptFits fits (Some v) = fits v
 
-kept_texts : {V : Type 0} (frame : V → Frame) (os : List (Option V)) → flat_map (kept_text frame) os ≡ canons frame (somes os)
+kept_texts : {V : Type 0} (frame : V → Frame) (os : List (Option V)) → flat_map (kept_text frame) os ≡ canons frame (present_values os)
 kept_texts frame [] = refl
 kept_texts frame (None ∷ os) = kept_texts frame os
 kept_texts frame ((Some v) ∷ os) = ap (λ t. canon (frame v) ++ t) (kept_texts frame os)
 
-kept_fit : {V : Type 0} (fits : V → Type 0) (os : List (Option V)) → AllByRecursion (KeptFits fits) os → AllByRecursion fits (somes os)
+kept_fit : {V : Type 0} (fits : V → Type 0) (os : List (Option V)) → AllByRecursion (KeptFits fits) os → AllByRecursion fits (present_values os)
 kept_fit fits [] all = tt
 kept_fit fits (None ∷ os) all = kept_fit fits os all.1
 kept_fit fits ((Some v) ∷ os) all = (all.0, kept_fit fits os all.1)
 
-fit_kept : {V : Type 0} (fits : V → Type 0) (os : List (Option V)) → AllByRecursion fits (somes os) → AllByRecursion (KeptFits fits) os
+fit_kept : {V : Type 0} (fits : V → Type 0) (os : List (Option V)) → AllByRecursion fits (present_values os) → AllByRecursion (KeptFits fits) os
 fit_kept fits [] all = tt
 fit_kept fits (None ∷ os) all = (tt, fit_kept fits os all)
 fit_kept fits ((Some v) ∷ os) all = (all.0, fit_kept fits os all.1)
 
 module _ {V : Type 0} (frame : V → Frame) (fits : V → Type 0) where
-  counted_kept : (os : List (Option V)) → AllFit fits frame (somes os) → Counted (kept_text frame) (KeptFits fits) os
+  counted_kept : (os : List (Option V)) → AllFit fits frame (present_values os) → Counted (kept_text frame) (KeptFits fits) os
   counted_kept os all = (fit_kept fits os all.0, omega (arith, all.1, ap (λ (t : List ℕ). length t) (kept_texts frame os)))
 
   pub picked_weighs : (r : Result (List (Option V)) Cause) (a : Option ℕ) → Weighs (flat_map (kept_text frame)) (Counted (kept_text frame) (KeptFits fits)) r a
-      → Weighs (canons frame) (AllFit fits frame) (r >>= λ os. Ok (somes os)) a
+      → Weighs (canons frame) (AllFit fits frame) (r >>= λ os. Ok (present_values os)) a
   picked_weighs (Ok os) (Some n) w =
       let same = ap (λ (t : List ℕ). length t) (kept_texts frame os) in
       ((kept_fit fits os w.0.0, omega (arith, w.0.1, same)), w.1 ∙ same)
@@ -488,13 +488,13 @@ module _ {V : Type 0} (frame : V → Frame) (fits : V → Type 0) where
   picked_weighs (Err e) (Some n) w = w
   picked_weighs (Err e) None w = tt
 
-  pub picked_room : (r : Result (List (Option V)) Cause) (room : ℕ) → HasRoom (canons frame) (AllFit fits frame) (r >>= λ os. Ok (somes os)) room
+  pub picked_room : (r : Result (List (Option V)) Cause) (room : ℕ) → HasRoom (canons frame) (AllFit fits frame) (r >>= λ os. Ok (present_values os)) room
       → HasRoom (flat_map (kept_text frame)) (Counted (kept_text frame) (KeptFits fits)) r room
   picked_room (Ok os) room h = (counted_kept os h.0, omega (arith, h.1, ap (λ (t : List ℕ). length t) (kept_texts frame os)))
   picked_room (Err e) room h = h
 
   pub picked_rewrites : (r : Result (List (Option V)) Cause) (old new : List ℕ) (n : ℕ) → Rewrites (flat_map (kept_text frame)) r old new n
-      → Rewrites (canons frame) (r >>= λ os. Ok (somes os)) old new n
+      → Rewrites (canons frame) (r >>= λ os. Ok (present_values os)) old new n
   picked_rewrites (Ok os) old new n w = subst (λ t. Writes t old new n) (kept_texts frame os) w
   picked_rewrites (Err e) old new n w = tt
 
@@ -513,11 +513,11 @@ module _ {V : Type 0} (place : Grammar Frame V) (f : Frame) (one : number f ≡ 
   rewrites_some (Ok v) old new n w = w
   rewrites_some (Err c) old new n w = tt
 
-  pub kept_weighs : (a : Option ℕ) → Weighs (λ v. canon (frame v)) fits (place.reads f) a → Weighs (kept_text frame) (KeptFits fits) ((picks place).reads f) a
+  pub kept_weighs : (a : Option ℕ) → Weighs (λ v. canon (frame v)) fits (place.reads f) a → Weighs (kept_text frame) (KeptFits fits) ((some_if_picked place).reads f) a
   kept_weighs a w = subst (λ r. Weighs (kept_text frame) (KeptFits fits) r a) (sym (picks_one place f one)) (weighs_some (place.reads f) a w)
 
-  pub kept_room : (room : ℕ) → HasRoom (kept_text frame) (KeptFits fits) ((picks place).reads f) room → HasRoom (λ v. canon (frame v)) fits (place.reads f) room
+  pub kept_room : (room : ℕ) → HasRoom (kept_text frame) (KeptFits fits) ((some_if_picked place).reads f) room → HasRoom (λ v. canon (frame v)) fits (place.reads f) room
   kept_room room h = room_some (place.reads f) room (subst (λ r. HasRoom (kept_text frame) (KeptFits fits) r room) (picks_one place f one) h)
 
-  pub kept_rewrites : (old new : List ℕ) (n : ℕ) → Rewrites (λ v. canon (frame v)) (place.reads f) old new n → Rewrites (kept_text frame) ((picks place).reads f) old new n
+  pub kept_rewrites : (old new : List ℕ) (n : ℕ) → Rewrites (λ v. canon (frame v)) (place.reads f) old new n → Rewrites (kept_text frame) ((some_if_picked place).reads f) old new n
   kept_rewrites old new n w = subst (λ r. Rewrites (kept_text frame) r old new n) (sym (picks_one place f one)) (rewrites_some (place.reads f) old new n w)

@@ -4,7 +4,7 @@ use Rattle.std.specs.Int.{w8, w16, w32, w64, to_le_bytes, cast_unsigned}
 use Rattle.nla_wire.specs.declared.flat.Content.{Content}
 use Rattle.nla_wire.specs.declared.flat.Content.TheVariants as content
 
--- a text has one NUL behind it, a number its lowest byte first
+-- a text has one NUL after it, a number its lowest byte first
 abbrev pub content_text : Content → List ℕ
 content_text (content.Bytes bytes) = bytes.now
 content_text (content.Text text) = text.now ++ 0 ∷ []

@@ -32,7 +32,7 @@ by_exact N es all x y = (
   λ e. (choices_exact N.parts es all (N.as_values x) (N.as_values y)).1 (ap N.as_values e),
 )
 
--- two tests, one behind the other
+-- two tests, one after the other
 pub both_exact : {P Q : Type 0} (a b : Bool) → Decides a P → Decides b Q → Decides (a && b) (P × Q)
 both_exact true b p q = (λ e. (p.0 refl, q.0 e), λ h. q.1 h.1)
 both_exact false b p q = (λ e. absurd cc, λ h. absurd (let k : false ≡ true = p.1 h.0 in cc))
@@ -58,7 +58,7 @@ bytes_exact = list_exact number_exact
 pub bool_exact : (x y : Bool) → Decides (beq x y) (x ≡ y)
 bool_exact = booleans_Decides
 
--- one variant of one field, before those that are declared behind it
+-- one variant of one field, before those that are declared after it
 infixr 5 ◌&◌
 abbrev pub ◌&◌ : {A B : Type 0} {E : A → A → Bool} → ((x y : A) → Decides (E x y) (x ≡ y)) → B → ((x y : A × Unit {0}) → Decides (E x.0 y.0) (x ≡ y)) × B
 d & rest = (one_field d, rest)

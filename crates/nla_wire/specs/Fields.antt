@@ -1,4 +1,4 @@
--- Fields of fixed records: numbers at places of a payload that has zeros behind it, and the bytes of a record's fields.
+-- Fields of fixed records: numbers at places of a payload that has zeros after it, and the bytes of a record's fields.
 use Rattle.std.specs.Prelude.{◌≡◌, ℕ, zero, suc, ◌+◌, ◌-◌, ◌<◌, ℤ, List, [], ◌∷◌, ◌++◌, length, slice_index, take}
 use Rattle.std.specs.Prelude.{replicate}
 use Rattle.std.specs.Int.{Width, byte_len, byte_worth, to_le_bytes, cast_signed, cast_unsigned, sum_through}
@@ -18,7 +18,7 @@ be_number_at w bytes place = sum_through (λ i. byte_worth (byte_len w - 1 - i) 
 abbrev pub signed_at : Width → List ℕ → ℕ → ℤ
 signed_at w bytes place = cast_signed w (number_at w bytes place)
 
--- so many numbers of one width, one behind the other
+-- so many numbers of one width, one after the other
 abbrev pub numbers_from : Width → List ℕ → ℕ → ℕ → List ℕ
 numbers_from w bytes place zero = []
 numbers_from w bytes place (suc n) = number_at w bytes place ∷ numbers_from w bytes (place + byte_len w) n
@@ -34,7 +34,7 @@ le_all w ns = flat_map (λ n. to_le_bytes w n) ns
 abbrev pub le_all_signed : Width → List ℤ → List ℕ
 le_all_signed w ns = flat_map (λ n. to_le_bytes w (cast_unsigned w n)) ns
 
--- the first n bytes, with zeros behind them where there are fewer
+-- the first n bytes, with zeros after them where there are fewer
 unfoldable pub zero_filled : ℕ → List ℕ → List ℕ
 zero_filled n bytes = take n bytes ++ replicate (n - length bytes) 0
 

@@ -16,14 +16,14 @@ OneListOfFrames = (b : List ℕ) (fs gs : List Frame) → Frames b fs → Frames
 abbrev pub NeverBoth : Type 0
 NeverBoth = (b : List ℕ) (fs gs : List Frame) (c : Cause) → Frames b fs → Fault b gs c → ⊥
 
--- no bytes have two faults, or one behind two lists of frames
+-- no bytes have two faults, or one after two lists of frames
 abbrev pub OneFault : Type 0
 OneFault = (b : List ℕ) (fs gs : List Frame) (c d : Cause) → Fault b fs c → Fault b gs d → (fs ≡ gs) × (c ≡ d)
 
--- the frames of bytes are those whose spellings, one behind the other, the bytes are
+-- the frames of bytes are those whose spellings, one after the other, the bytes are
 abbrev pub FramesAreSpellings : Type 0
 FramesAreSpellings = (b : List ℕ) (fs : List Frame) → Frames b fs ↔ IsConcatenation b fs
 
--- and a fault stands behind full spellings of the frames in front of it
+-- and a fault stands after full spellings of the frames in front of it
 abbrev pub FaultIsBehind : Type 0
 FaultIsBehind = (b : List ℕ) (fs : List Frame) (c : Cause) → Fault b fs c ↔ IsFaultBehind b fs c

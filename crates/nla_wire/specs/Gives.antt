@@ -1,4 +1,4 @@
--- How the answer of a call agrees with what a reader answers.
+-- How the result of a call agrees with what a reader returns.
 use Rattle.std.specs.Prelude.{◌≡◌, ◌⊎◌, List, [], ◌∷◌, ◌++◌, Result, Ok, Err, IsOk}
 use Rattle.nla_wire.specs.declared.error.Cause.{Cause}
 use Rattle.nla_wire.specs.declared.error.Cause.TheVariants.{OutOfMemory}
@@ -8,7 +8,7 @@ use Rattle.nla_wire.specs.declared.error.DecodeError.{DecodeError}
 abbrev pub Fails : {A : Type 0} → Cause → Result A Cause → Type 0
 Fails c read = (c ≡ OutOfMemory) ⊎ (read ≡ Err c)
 
--- the answer is what the reading gives, or memory ran out
+-- the result is what the reading gives, or memory ran out
 abbrev pub Gives : {A : Type 0} → Result A DecodeError → Result A Cause → Type 0
 Gives (Ok x) read = read ≡ Ok x
 Gives (Err e) read = Fails e.cause read

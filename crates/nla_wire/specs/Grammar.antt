@@ -1,5 +1,5 @@
 -- The grammar of nested attributes: places as tables, built from a few combinators. Each combinator says side by side
--- what bytes mean, why they mean nothing, and what a reader answers.
+-- what bytes mean, why they mean nothing, and what a reader returns.
 use Rattle.std.specs.Prelude.{◌≡◌, ℕ, ◌<◌, ◌==◌, Bool, true, false, List, [], ◌∷◌, ◌⊎◌, length, filter, Option, None}
 use Rattle.std.specs.Prelude.{Some, Result, Ok, Err}
 use Rattle.std.specs.List.{AllZip}
@@ -14,10 +14,10 @@ pub record Grammar (S A : Type 0) : Type 1 where
   pub means : S → A → Type 0
   -- s means nothing, and this is its first fault
   pub bad : S → Cause → Type 0
-  -- what a reader answers
+  -- what a reader returns
   pub reads : S → Result A Cause
 
--- the reader answers what the relations say
+-- the reader returns what the relations say
 pub record Agrees {S A : Type 0} (IsOne : S → Type 0) (g : Grammar S A) : Type 0 where
   pub only : (s : S) (a : A) → g.means s a → g.reads s ≡ Ok a
   pub found : (s : S) (a : A) → IsOne s → g.reads s ≡ Ok a → g.means s a
@@ -41,7 +41,7 @@ abbrev pub FirstAfter : {V : Type 0} → Grammar Frame V → List ℕ → List F
 FirstAfter place b [] c = BadStart b c ⊎ ((f : Frame) × (rest : List ℕ) × Begins b f rest × place.bad f c)
 FirstAfter {V} place b (f ∷ fs) c = (rest : List ℕ) × Begins b f rest × ((v : V) × place.means f v) × FirstAfter place rest fs c
 
--- the first fault of b, from its front on: that of a frame's value comes before that of the frame behind it
+-- the first fault of b, from its front on: that of a frame's value comes before that of the frame after it
 abbrev pub First : {V : Type 0} → Grammar Frame V → List ℕ → Cause → Type 0
 First place b c = (fs : List Frame) × FirstAfter place b fs c
 
@@ -71,8 +71,8 @@ abbrev pub by_payload : {V : Type 0} → Grammar (List ℕ) V → Grammar Frame 
 by_payload g = record { means = λ f. g.means f.payload; bad = λ f. g.bad f.payload; reads = λ f. g.reads f.payload }
 
 -- a frame that is kept as it is: it always has a value
-abbrev pub kept : {V : Type 0} → (Frame → V) → Grammar Frame V
-kept other = record { means = λ f v. v ≡ other f; bad = λ f c. ⊥; reads = λ f. Ok (other f) }
+abbrev pub undecoded : {V : Type 0} → (Frame → V) → Grammar Frame V
+undecoded other = record { means = λ f v. v ≡ other f; bad = λ f c. ⊥; reads = λ f. Ok (other f) }
 
 abbrev pub if_true : {V : Type 0} → Bool → Grammar Frame V → Grammar Frame V → Grammar Frame V
 if_true true g h = g
@@ -92,17 +92,17 @@ abbrev pub is_one : Frame → Bool
 is_one f = number f == 1
 
 -- a value at this place, or nothing where the frame is dropped
-abbrev pub picks : {V : Type 0} → Grammar Frame V → Grammar Frame (Option V)
-picks {V} place = choose is_one (as_a (λ (v : V). Some v) place) (kept (λ f. None))
+abbrev pub some_if_picked : {V : Type 0} → Grammar Frame V → Grammar Frame (Option V)
+some_if_picked {V} place = choose is_one (as_a (λ (v : V). Some v) place) (undecoded (λ f. None))
 
-abbrev pub somes : {V : Type 0} → List (Option V) → List V
-somes [] = []
-somes (None ∷ os) = somes os
-somes ((Some v) ∷ os) = v ∷ somes os
+abbrev pub present_values : {V : Type 0} → List (Option V) → List V
+present_values [] = []
+present_values (None ∷ os) = present_values os
+present_values ((Some v) ∷ os) = v ∷ present_values os
 
 abbrev pub picked : {V : Type 0} → Grammar Frame V → Grammar (List ℕ) (List V)
 picked {V} place = record {
   means = λ p vs. (fs : List Frame) × Frames p fs × Every place.means (filter is_one fs) vs;
-  bad = First (picks place);
-  reads = λ p. list_of (picks place).reads p >>= λ os. Ok (somes os);
+  bad = First (some_if_picked place);
+  reads = λ p. list_of (some_if_picked place).reads p >>= λ os. Ok (present_values os);
 }

@@ -7,7 +7,7 @@ use Rattle.nla_wire.specs.Canon.{canon, canons, AllFit, total}
 abbrev pub ReadsBack : {V : Type 0} → (Frame → V → Type 0) → (V → Frame) → (V → Type 0) → Type 0
 ReadsBack {V} means frame Fits = (f : Frame) (v : V) → IsFrame f → means f v → Fits v → Begins (canon (frame v)) (frame v) [] × means (frame v) v
 
--- values that some payload means as a list, and that fit, are what their canonical texts, one behind the other, mean
+-- values that some payload means as a list, and that fit, are what their canonical texts, one after the other, mean
 abbrev pub ListReadsBack : {V : Type 0} → (List ℕ → List V → Type 0) → (V → Frame) → (V → Type 0) → Type 0
 ListReadsBack {V} means frame Fits = (p : List ℕ) (vs : List V) → IsBytes p → means p vs → AllFit Fits frame vs → means (canons frame vs) vs
 

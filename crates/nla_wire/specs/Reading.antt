@@ -12,7 +12,7 @@ pub data Step : Type 0 where
   Bad : Cause → Step
   Next : Frame → List ℕ → Step
 
--- behind the header, whose length and kind are known
+-- after the header, whose length and kind are known
 abbrev pub frame_at : ℕ → ℕ → List ℕ → Step
 frame_at len kind p =
     if nat_lt (length p + 4) len then Bad (FrameOver len (length p + 4))

@@ -1,4 +1,4 @@
--- Records: what their calls answer, and the laws of a record, over its reading `of` and its bytes `text`.
+-- Records: what their calls return, and the laws of a record, over its reading `of` and its bytes `text`.
 use Rattle.std.specs.Prelude.{◌≡◌, ℕ, ◌≤◌, List, ◌++◌, length, replicate, MatchResult, Result}
 use Rattle.nla_wire.specs.Frames.{IsBytes}
 use Rattle.nla_wire.specs.Fields.{zero_filled}
@@ -7,7 +7,7 @@ use Rattle.nla_wire.specs.Gives.{without_place}
 use Rattle.nla_wire.specs.declared.error.DecodeError.{DecodeError}
 use Rattle.nla_wire.specs.declared.record.RecordBuffer.{RecordBuffer}
 
--- the answer is what the grammar says, by its relations and by its reader
+-- the result is what the grammar says, by its relations and by its reader
 abbrev pub Parses : {A : Type 0} → Grammar (List ℕ) A → List ℕ → Result A DecodeError → Type 0
 Parses g payload result = MatchResult result (g.means payload) (λ e. g.bad payload e.cause) × (without_place result ≡ g.reads payload)
 
@@ -15,11 +15,11 @@ Parses g payload result = MatchResult result (g.means payload) (λ e. g.bad payl
 abbrev pub buffer_bytes : {R : Type 0} {size : ℕ} → RecordBuffer R size → List ℕ
 buffer_bytes b = b.bytes
 
--- zeros behind a payload change nothing
+-- zeros after a payload change nothing
 abbrev pub ZerosBehind : {V : Type 0} → (List ℕ → V) → Type 0
 ZerosBehind of = (p : List ℕ) (m : ℕ) → of (p ++ replicate m 0) ≡ of p
 
--- bytes behind a payload that is long enough change nothing
+-- bytes after a payload that is long enough change nothing
 abbrev pub BytesBehind : {V : Type 0} → ℕ → (List ℕ → V) → Type 0
 BytesBehind size of = (p more : List ℕ) → size ≤ length p → of (p ++ more) ≡ of p
 

@@ -30,7 +30,7 @@ growth_per_byte = growth / 4
 abbrev pub inner_small : ℕ
 inner_small = 4 * (most_payload / growth) + 3
 
--- so has a list of such lists, each behind a header of four bytes
+-- so has a list of such lists, each after a header of four bytes
 abbrev pub attribute_small : ℕ
 attribute_small = 4 + inner_small
 

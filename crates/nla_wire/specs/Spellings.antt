@@ -28,7 +28,7 @@ AreSpellings (s ∷ t ∷ ss) (f ∷ []) = ⊥
 AreSpellings (s ∷ []) (f ∷ g ∷ fs) = ⊥
 AreSpellings (s ∷ t ∷ ss) (f ∷ g ∷ fs) = IsFullSpelling s f × AreSpellings (t ∷ ss) (g ∷ fs)
 
--- b spells the frames one behind the other, each with all its padding but perhaps the last
+-- b spells the frames one after the other, each with all its padding but perhaps the last
 abbrev pub IsConcatenation : List ℕ → List Frame → Type 0
 IsConcatenation b fs = (ss : List (List ℕ)) × (b ≡ flat_map (λ s. s) ss) × AreSpellings ss fs
 

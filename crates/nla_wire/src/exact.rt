@@ -3,7 +3,7 @@
 ghost use Rattle.std.specs.Prelude.{◌≡◌, ◌↔◌, IsTrue};
 ghost use Rattle.std.specs.Bool.{Decides};
 
-/// A type whose `==` answers yes exactly where two values are equal.
+/// A type whose `==` is true exactly where two values are equal.
 pub trait Exact: PartialEq {
     ghost decides: { (x y : Self) → Decides (Self.eq x y) (x ≡ y) };
 }

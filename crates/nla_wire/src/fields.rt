@@ -1,4 +1,4 @@
-//! Fields of fixed records: numbers at a place of a payload that has zeros behind it, and numbers put at a place.
+//! Fields of fixed records: numbers at a place of a payload that has zeros after it, and numbers put at a place.
 
 ghost use Rattle.std.specs.Prelude.{◌≡◌, ◌+◌, ◌*◌, ◌^◌, ◌<◌, ◌≤◌, ◌++◌, length, take, drop, slice_index};
 ghost use Rattle.std.specs.Int.{w16, w32, w64, to_le_bytes, to_be_bytes, cast_signed, cast_unsigned};
@@ -136,7 +136,7 @@ pub fn i64_at(bytes: &[u8], place: usize) -> i64
     u64_at(bytes, place).cast_signed()
 }
 
-/// The first 32 bytes, with zeros behind them where there are fewer.
+/// The first 32 bytes, with zeros after them where there are fewer.
 #[inline(always)]
 #[tactic(auto, unfolding(crate::specs::Fields::zero_filled))]
 pub fn zero_filled_32(bytes: &[u8]) -> [u8; 32]

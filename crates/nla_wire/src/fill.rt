@@ -26,7 +26,7 @@ pub fn fill_text(buffer: &mut [u8], text: &str) -> usize
     fill_bytes(&mut buffer[..last], text.as_bytes())
 }
 
-/// Moves a value to the front, over the padding that stands before it, and writes the padding behind it.
+/// Moves a value to the front, over the padding that stands before it, and writes the padding after it.
 #[tactic(auto, using(crate::proofs::Placing::moved_front))]
 fn pad(buffer: &mut [u8], padding: usize)
     requires { padding ≤ length buffer.old }

@@ -15,7 +15,7 @@ use crate::write::{write_i32, write_text, write_u8, write_u16, write_u32, write_
 pub enum Content<'a> {
     /// Bytes, written as they are.
     Bytes(&'a [u8]),
-    /// A text, written with one NUL behind it.
+    /// A text, written with one NUL after it.
     Text(&'a str),
     /// A number of one byte.
     U8(u8),
@@ -64,7 +64,7 @@ impl Content<'_> {
         }
     }
 
-    /// Writes the attribute of this kind with the text as its value to the front of the buffer, and answers its length.
+    /// Writes the attribute of this kind with the text as its value to the front of the buffer, and returns its length.
     /// The rest of the buffer is kept.
     #[inline(always)]
     pub fn write(&self, kind: u16, buffer: &mut [u8]) -> usize

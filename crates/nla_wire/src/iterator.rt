@@ -13,7 +13,7 @@ use std::marker::Model;
 /// The frames of a byte string, one after the other. Where one is damaged its fault comes in its place, and nothing
 /// after it.
 ///
-/// Behind a frame it goes on at the next multiple of four. Padding is not looked at, and behind the last frame it
+/// After a frame it goes on at the next multiple of four. Padding is not looked at, and after the last frame it
 /// can be missing.
 #[derive(Debug, Drop)]
 pub struct NlasIterator<'a> {
@@ -37,7 +37,7 @@ impl<'a> NlasIterator<'a> {
     }
 }
 
-/// What stands behind a frame of this length.
+/// What stands after a frame of this length.
 fn behind(bytes: &[u8], length: u16) -> &[u8]
     ensures { result.now ≡ drop (length + missing length) bytes.now }
 {

@@ -38,8 +38,8 @@ pub trait Nla {
         requires room { length (frame self.now).payload ≤ length buffer.old }
         ensures { Filled buffer.old buffer.new (frame self.now).payload result };
 
-    /// The length of the value's text, as `value_len` answers it; `None` where the value does not fit. A type overrides
-    /// it where one walk answers both.
+    /// The length of the value's text, as `value_len` returns it; `None` where the value does not fit. A type overrides
+    /// it where one walk returns both.
     fn measure(&self) -> Option<usize>
         ensures { Measures (fits self.now) (length (frame self.now).payload) result }
     {
@@ -49,7 +49,7 @@ pub trait Nla {
         Some(self.value_len())
     }
 
-    /// Writes the attribute's text to the front of the buffer, and answers its length. The rest of the buffer is kept.
+    /// Writes the attribute's text to the front of the buffer, and returns its length. The rest of the buffer is kept.
     /// A type overrides it where it writes front to back.
     fn write(&self, buffer: &mut [u8]) -> usize
         requires fits { fits self.now }
@@ -101,7 +101,7 @@ pub trait Nla {
     }
 }
 
-/// The length of the text of the attributes, one behind the other; `None` where one does not fit, or the length is no
+/// The length of the text of the attributes, one after the other; `None` where one does not fit, or the length is no
 /// `usize`.
 pub fn nlas_measure<N: Nla>(nlas: &[N]) -> Option<usize>
     ensures { Measures (AllFit N.fits N.frame nlas.now) (length (canons N.frame nlas.now)) result }
@@ -139,7 +139,7 @@ pub fn nlas_fit<N: Nla>(nlas: &[N]) -> bool
     nlas_measure(nlas).is_some()
 }
 
-/// The length of the text of the attributes, one behind the other.
+/// The length of the text of the attributes, one after the other.
 pub fn nlas_buffer_len<N: Nla>(nlas: &[N]) -> usize
     requires { AllFit N.fits N.frame nlas.now }
     ensures { result ≡ length (canons N.frame nlas.now) }
@@ -158,7 +158,7 @@ pub fn list_fits<N: Nla>(nlas: &[N]) -> bool
     list_measure(nlas).is_some()
 }
 
-/// Writes the texts of the attributes at the end of the buffer, the last attribute first, and answers where they start.
+/// Writes the texts of the attributes at the end of the buffer, the last attribute first, and returns where they start.
 /// The bytes before are kept.
 pub fn nlas_fill<N: Nla>(nlas: &[N], buffer: &mut [u8]) -> usize
     requires fit { AllFit N.fits N.frame nlas.now }
@@ -174,7 +174,7 @@ pub fn nlas_fill<N: Nla>(nlas: &[N], buffer: &mut [u8]) -> usize
     start
 }
 
-/// Writes the texts of the attributes to the front of the buffer, one behind the other, and answers their length. The
+/// Writes the texts of the attributes to the front of the buffer, one after the other, and returns their length. The
 /// rest of the buffer is kept.
 pub fn nlas_write<N: Nla>(nlas: &[N], buffer: &mut [u8]) -> usize
     requires fit { AllFit N.fits N.frame nlas.now }
@@ -188,7 +188,7 @@ pub fn nlas_write<N: Nla>(nlas: &[N], buffer: &mut [u8]) -> usize
     at
 }
 
-/// Writes the attribute of this kind whose value is the text of the attributes to the front of the buffer, and answers
+/// Writes the attribute of this kind whose value is the text of the attributes to the front of the buffer, and returns
 /// its length. The rest of the buffer is kept.
 pub fn write_list<N: Nla>(kind: u16, nlas: &[N], buffer: &mut [u8]) -> usize
     requires small { length (canons N.frame nlas.now) ≤ most_payload }

@@ -154,7 +154,7 @@ pub fn write_ipv6_addr_payload(kind: u16, payload: &[u8], out: &mut [u8]) -> usi
     write_value(kind, &payload[..16], out)
 }
 
-/// Writes a payload of fewer than `size` bytes to the front of the buffer, zeros behind it up to `size`, and answers
+/// Writes a payload of fewer than `size` bytes to the front of the buffer, zeros after it up to `size`, and returns
 /// `size`.
 fn write_filled(payload: &[u8], size: usize, out: &mut [u8]) -> usize
     requires short { length payload.now < size }
@@ -166,7 +166,7 @@ fn write_filled(payload: &[u8], size: usize, out: &mut [u8]) -> usize
     size
 }
 
-/// Writes the attribute of this kind with the first `size` bytes of a payload, and zeros behind a shorter one.
+/// Writes the attribute of this kind with the first `size` bytes of a payload, and zeros after a shorter one.
 #[inline(always)]
 pub fn write_filled_payload(kind: u16, size: usize, payload: &[u8], out: &mut [u8]) -> usize
     requires small { size ≤ most_payload }

@@ -33,7 +33,7 @@ pub trait Place<V: Nla + Drop> {
     /// The name of the attributes of this number, for a log; empty where they have none.
     fn kind_name(&self, kind: u16) -> &'static str;
 
-    /// Reads the value of an attribute into the room behind the last value of a list.
+    /// Reads the value of an attribute into the room after the last value of a list.
     ///
     /// Refuses with the cause of the first fault, or with `OutOfMemory`.
     fn parse_into(
@@ -54,7 +54,7 @@ pub trait Place<V: Nla + Drop> {
     fn measure(&self, buffer: &NlaBuffer<'_>) -> Option<usize>
         ensures { Weighs (λ v. (V.frame v).payload) V.fits ((grammar self.now).reads buffer.now) result };
 
-    /// Writes the canonical text of an attribute that was measured to the front of the buffer, and answers its length
+    /// Writes the canonical text of an attribute that was measured to the front of the buffer, and returns its length
     /// with header and padding. The rest of the buffer is kept.
     fn write(&self, buffer: &NlaBuffer<'_>, out: &mut [u8]) -> usize
         requires { HasRoom (λ v. canon (V.frame v)) V.fits ((grammar self.now).reads buffer.now) (length out.old) }
@@ -197,7 +197,7 @@ pub fn measure_nested_members<V: Nla + Drop, P: Place<V>>(place: &P, bytes: &[u8
     Some(len)
 }
 
-/// Writes the canonical text of a list's members, one behind the other, to the front of the buffer, and answers its
+/// Writes the canonical text of a list's members, one after the other, to the front of the buffer, and returns its
 /// length. The rest of the buffer is kept.
 ///
 /// The list was measured, and there is room for its text.
@@ -393,7 +393,7 @@ pub trait NlaRead: Nla + Drop {
     fn measure_frame(buffer: &NlaBuffer<'_>) -> Option<usize>
         ensures { Weighs (λ v. (Self.frame v).payload) Self.fits (grammar.reads buffer.now) result };
 
-    /// Writes the canonical text of an attribute that was measured to the front of the buffer, and answers its length
+    /// Writes the canonical text of an attribute that was measured to the front of the buffer, and returns its length
     /// with header and padding. The rest of the buffer is kept.
     fn write_frame(buffer: &NlaBuffer<'_>, out: &mut [u8]) -> usize
         requires { HasRoom (λ v. canon (Self.frame v)) Self.fits (grammar.reads buffer.now) (length out.old) }
@@ -466,10 +466,10 @@ pub trait NlaRead: Nla + Drop {
         check_members::<Self, OwnPlace>(&OwnPlace, bytes)
     }
 
-    /// Writes the canonical text of an attribute's value to the front of the buffer, with no memory taken, and answers
+    /// Writes the canonical text of an attribute's value to the front of the buffer, with no memory taken, and returns
     /// its length. The rest of the buffer is kept.
     ///
-    /// There is room for that text: `growth_per_byte` bytes for each byte of header and payload are enough. Answers
+    /// There is room for that text: `growth_per_byte` bytes for each byte of header and payload are enough. Returns
     /// `None` where the value does not fit or the attribute is refused, and changes nothing then.
     final fn canon(buffer: &NlaBuffer<'_>, out: &mut [u8]) -> Option<usize>
     where
@@ -503,7 +503,7 @@ pub trait NlaRead: Nla + Drop {
     }
 
     /// Writes the attribute of this kind whose value is the canonical text of a list of these attributes, which was
-    /// measured, to the front of the buffer, and answers its length with header and padding.
+    /// measured, to the front of the buffer, and returns its length with header and padding.
     final fn write_nested(kind: u16, bytes: &[u8], out: &mut [u8]) -> usize
     where
         Self: Sized,
@@ -536,9 +536,9 @@ pub trait NlaRead: Nla + Drop {
     }
 
     /// Writes the canonical text of a list of these attributes to the front of the buffer, with no memory taken, and
-    /// answers its length. The rest of the buffer is kept.
+    /// returns its length. The rest of the buffer is kept.
     ///
-    /// There is room for that text: `growth_per_byte` bytes for each byte of the list are enough. Answers `None` where
+    /// There is room for that text: `growth_per_byte` bytes for each byte of the list are enough. Returns `None` where
     /// a member does not fit or the list is refused, and changes nothing then.
     final fn canon_list(bytes: &[u8], out: &mut [u8]) -> Option<usize>
     where

@@ -88,7 +88,7 @@ pub trait Record<const SIZE: usize>: Sized {
         Some(SIZE)
     }
 
-    /// Writes a record to the end of a buffer of at least `SIZE` bytes, keeps the bytes before it, and answers where it
+    /// Writes a record to the end of a buffer of at least `SIZE` bytes, keeps the bytes before it, and returns where it
     /// starts.
     final fn fill_back(&self, buffer: &mut [u8]) -> usize
         requires { SIZE ≤ length buffer.old }
@@ -99,7 +99,7 @@ pub trait Record<const SIZE: usize>: Sized {
         start
     }
 
-    /// Writes the attribute of this kind whose value is the record to the front of the buffer, and answers its length
+    /// Writes the attribute of this kind whose value is the record to the front of the buffer, and returns its length
     /// with padding. The rest of the buffer is kept.
     #[inline(always)]
     final fn write_attribute(&self, kind: u16, out: &mut [u8]) -> usize
@@ -112,7 +112,7 @@ pub trait Record<const SIZE: usize>: Sized {
     }
 
     /// Writes the attribute of this kind whose value is the record that a payload of `SIZE` bytes or more means to the
-    /// front of the buffer, and answers its length with padding. The rest of the buffer is kept.
+    /// front of the buffer, and returns its length with padding. The rest of the buffer is kept.
     #[inline(always)]
     final fn write_sized(kind: u16, payload: &[u8], out: &mut [u8]) -> usize
     where
@@ -132,7 +132,7 @@ pub trait PlainRecord<const SIZE: usize>: Record<SIZE> {
     ghost written: { WritesFilled SIZE Self.of Self.bytes };
 
     /// Writes the attribute of this kind whose value is the record that a payload means, the payload cut to `SIZE`
-    /// bytes or filled up with zeros, to the front of the buffer, and answers its length with padding. The rest of the
+    /// bytes or filled up with zeros, to the front of the buffer, and returns its length with padding. The rest of the
     /// buffer is kept.
     #[inline(always)]
     #[tactic(auto, using(crate::proofs::Front::all_bytes))]

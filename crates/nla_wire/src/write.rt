@@ -48,8 +48,8 @@ fn clear(padding: &mut [u8])
     }
 }
 
-/// Makes a frame of this kind of the value that stands behind the four bytes of its header: writes the header before it
-/// and the padding behind it, and answers the length with both. The rest of the buffer is kept.
+/// Makes a frame of this kind of the value that stands after the four bytes of its header: writes the header before it
+/// and the padding after it, and returns the length with both. The rest of the buffer is kept.
 #[inline(always)]
 pub fn finish(out: &mut [u8], len: usize, kind: u16) -> usize
     requires small { len ≤ most_payload }
@@ -63,7 +63,7 @@ pub fn finish(out: &mut [u8], len: usize, kind: u16) -> usize
     padded
 }
 
-/// Writes bytes to the front of the buffer, and answers their number.
+/// Writes bytes to the front of the buffer, and returns their number.
 #[inline(always)]
 pub fn write_bytes(bytes: &[u8], out: &mut [u8]) -> usize
     requires { length bytes.now ≤ length out.old }
@@ -73,7 +73,7 @@ pub fn write_bytes(bytes: &[u8], out: &mut [u8]) -> usize
     bytes.len()
 }
 
-/// Writes the attribute of this kind and value to the front of the buffer, and answers its length with padding. The
+/// Writes the attribute of this kind and value to the front of the buffer, and returns its length with padding. The
 /// rest of the buffer is kept.
 #[inline(always)]
 pub fn write_value(kind: u16, value: &[u8], out: &mut [u8]) -> usize
@@ -85,7 +85,7 @@ pub fn write_value(kind: u16, value: &[u8], out: &mut [u8]) -> usize
     finish(out, len, kind)
 }
 
-/// Writes bytes and one NUL behind them to the front of the buffer, and answers their number.
+/// Writes bytes and one NUL after them to the front of the buffer, and returns their number.
 #[inline(always)]
 fn write_terminated(bytes: &[u8], out: &mut [u8]) -> usize
     requires { length bytes.now + 1 ≤ length out.old }
@@ -96,7 +96,7 @@ fn write_terminated(bytes: &[u8], out: &mut [u8]) -> usize
     len + 1
 }
 
-/// Writes the attribute of this kind with these bytes of a text, and one NUL behind them.
+/// Writes the attribute of this kind with these bytes of a text, and one NUL after them.
 #[inline(always)]
 pub fn write_text(kind: u16, text: &[u8], out: &mut [u8]) -> usize
     requires small { length (text.now ++ 0 ∷ []) ≤ most_payload }

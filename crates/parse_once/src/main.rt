@@ -1,4 +1,4 @@
-//! Reads one message from standard input, with one read, and says what `LinkMessage::parse` answers of it, and then what
+//! Reads one message from standard input, with one read, and says what `LinkMessage::parse` returns of it, and then what
 //! `canonical` does.
 #![tactic(auto)]
 

@@ -166,7 +166,7 @@ fn short_records(rt: HostRuntime) {
     }
 }
 
-/// A map has 32 bytes, the last four of which are not read; behind them stand 33 and padding.
+/// A map has 32 bytes, the last four of which are not read; after them stand 33 and padding.
 #[test]
 fn a_long_map(rt: HostRuntime) {
     let map = Map {

@@ -243,7 +243,7 @@ fn ports(rt: &impl Abort, alloc: Global, n: u8) -> [LinkAttribute; 2] {
     ]
 }
 
-/// Adds values behind others.
+/// Adds values after others.
 fn add<const N: usize>(
     rt: &impl Abort,
     alloc: Global,

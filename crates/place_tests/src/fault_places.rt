@@ -6,7 +6,7 @@ use link_msg::*;
 use std::alloc::Global;
 use std::process::Abort;
 
-/// Each of these attributes is refused under its family, and its fault is so many bytes behind the header.
+/// Each of these attributes is refused under its family, and its fault is so many bytes after the header.
 fn are_at(rt: &impl Abort, alloc: Global, rows: &[(u8, &[u8], usize)]) {
     for (family, attributes, at) in rows {
         let bytes = with_header(rt, alloc, *family, attributes);

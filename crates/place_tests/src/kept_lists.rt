@@ -66,7 +66,7 @@ fn writes_lists(rt: HostRuntime) {
     stored(&rt, len, &out, &text);
 }
 
-/// A list stands behind what was written before it.
+/// A list stands after what was written before it.
 #[test]
 fn adds_lists(rt: HostRuntime) {
     let mut out = [255; 14];

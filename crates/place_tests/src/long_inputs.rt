@@ -19,7 +19,7 @@ const TWO: [u8; 48] = [
     23, 24, 25, 26, 27, 28, 29, 30, 31, 32, 33, 34, 35, 36, 7, 0, 3, 0, 0x6c, 0x6f, 0, 0,
 ];
 
-/// A header of zeros and those attributes, one behind the other, in so many bytes.
+/// A header of zeros and those attributes, one after the other, in so many bytes.
 fn message(rt: &impl Abort, alloc: Global, length: usize) -> Vec<u8> {
     let mut bytes = got(rt, vec![in alloc; 0u8; 16]);
     for _ in 0..length.saturating_sub(16) / TWO.len() {

@@ -19,7 +19,7 @@ const COUNTERS: usize = NLA_HEADER_SIZE + INET6_STATS_SIZE;
 const KERNEL_COUNTERS: usize = COUNTERS - 8;
 
 /// A header of zeros, these headers of IFLA_AF_SPEC and of the list of a family, so many times this member, and the
-/// bytes behind them.
+/// bytes after them.
 fn message(
     rt: &impl Abort,
     alloc: Global,

@@ -10,7 +10,7 @@ use std::str::from_utf8;
 /// The letters of the longest names.
 const LETTERS: [u8; 65531] = [0x61; 65531];
 
-/// A header of zeros, these headers of attributes, so many letters, and these bytes behind them.
+/// A header of zeros, these headers of attributes, so many letters, and these bytes after them.
 fn bytes_of(
     rt: &impl Abort,
     alloc: Global,

@@ -25,7 +25,7 @@ fn spellings_mean_the_same(rt: HostRuntime) {
     }
 }
 
-/// Behind the NUL of a name stands one byte of padding, which may be any, or missing at the end.
+/// After the NUL of a name stands one byte of padding, which may be any, or missing at the end.
 #[test]
 fn padding_means_nothing(rt: HostRuntime) {
     let mut other = NAME_TEXT;

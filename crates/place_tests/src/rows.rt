@@ -34,7 +34,7 @@ pub(crate) fn message_of<const N: usize>(
     }
 }
 
-/// The bytes of a header of zeros behind this family, and of these attributes.
+/// The bytes of a header of zeros after this family, and of these attributes.
 pub(crate) fn with_header(
     rt: &impl Abort,
     alloc: Global,
@@ -82,7 +82,7 @@ pub(crate) fn is_written(rt: &impl Abort, alloc: Global, message: &LinkMessage, 
     }
 }
 
-/// A call that makes a text is refused so. The name of the place is left open.
+/// A call that makes a text is refused so. The name of the place is unspecified.
 pub(crate) fn is_refused_so<T: Drop>(
     rt: &impl Abort,
     answer: Result<T, CanonError>,

@@ -190,7 +190,7 @@ fn refused_settings_of_ipv6(rt: HostRuntime) {
         bytes[2] = number;
         assert!(rt; len < 24);
         refuses::<AfSpecInet6>(&rt, alloc, &bytes[..len as usize], cause);
-        // a length below 4 behind it is not come to
+        // a length below 4 after it is not come to
         refuses::<AfSpecInet6>(&rt, alloc, &bytes, cause);
     }
 }

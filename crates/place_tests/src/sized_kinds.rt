@@ -7,7 +7,7 @@ use link_msg::*;
 use std::alloc::Global;
 use std::process::Abort;
 
-/// The numbers: two before the headroom, headroom, tailroom, and one behind.
+/// The numbers: two before the headroom, headroom, tailroom, and one after.
 const NUMBERS: [u16; 5] = [
     IFLA_HEADROOM - 2,
     IFLA_NETNS_IMMUTABLE,

@@ -33,7 +33,7 @@ pub(crate) const BAD_FRAMES: [(&[u8], Cause); 6] = [
     (&[0, 0, 0, 0], Cause::FrameUnder { length: 0 }),
 ];
 
-/// Bytes with zeros behind them.
+/// Bytes with zeros after them.
 pub(crate) fn zeros_behind<const N: usize>(bytes: &[u8]) -> [u8; N] {
     let mut text = [0; N];
     for (place, byte) in text.iter_mut().zip(bytes) {

@@ -7,7 +7,7 @@ use link_msg::{CanonError, LinkAttribute, LinkMessage, NlasIterator, parse_u32};
 use std::alloc::Global;
 use std::process::ExitCode;
 
-/// What a dump says of interface 7 behind the netlink header: the name "lo", with no NUL, and an MTU of 1500.
+/// What a dump says of interface 7 after the netlink header: the name "lo", with no NUL, and an MTU of 1500.
 const MESSAGE: [u8; 32] = [
     0, 9, 1, 0, 7, 0, 0, 0, 0, 0, 0, 0, 0, 0, 0, 0, // the header
     6, 0, 3, 0, b'l', b'o', 0, 0, // IFLA_IFNAME

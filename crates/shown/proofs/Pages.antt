@@ -37,7 +37,7 @@ more_first : (ts : List Token) (t : Token) → ((members : List Token) × (ts �
 more_first ts t h = (h.0 ++ t ∷ [], ap (λ l. l ++ t ∷ []) h.1)
 
 -- ** pages
--- a token behind a page's
+-- a token after a page's
 pushed : (ts : List Token) (t : Token) (inside inside' : Nest) (outer outer' : List Nest) → IsPage ts inside outer → IsPlain t
     → after_token (spot_of inside ∷ spots_of outer) t ≡ Some (spot_of inside' ∷ spots_of outer') → IsPage (ts ++ t ∷ []) inside' outer'
 pushed ts t inside inside' outer outer' h p k = record {
@@ -46,7 +46,7 @@ pushed ts t inside inside' outer outer' h p k = record {
   plain = All-push IsPlain ts t h.plain p;
 }
 
--- a token behind a name
+-- a token after a name
 name_pushed : (ts : List Token) (name : List ℕ) (t : Token) (inside' : Nest) (outer outer' : List Nest) → IsPage ts Object outer → IsPlain t
     → after_token (due ∷ object ∷ spots_of outer) t ≡ Some (spot_of inside' ∷ spots_of outer') → IsPage ((ts ++ key name ∷ []) ++ t ∷ []) inside' outer'
 name_pushed ts name t inside' outer outer' h p k = record {

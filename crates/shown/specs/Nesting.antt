@@ -4,13 +4,13 @@ use Rattle.json.specs.Token.{Token, begin_object, end_object, begin_array, end_a
 use Rattle.shown.specs.declared.page.Nest.{Nest}
 use Rattle.shown.specs.declared.page.Nest.TheVariants.{Object, List as Items}
 
--- what a token stands in; `due` is where one value stands, at the beginning or behind a name
+-- what a token stands in; `due` is where one value stands, at the beginning or after a name
 pub data Spot : Type 0 where
   due : Spot
   object : Spot
   list : Spot
 
--- where the next token stands behind a value
+-- where the next token stands after a value
 abbrev pub after_value : List Spot → Option (List Spot)
 after_value [] = None
 after_value (due ∷ spots) = Some spots

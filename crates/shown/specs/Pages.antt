@@ -27,12 +27,12 @@ pub record IsPage (ts : List Token) (inside : Nest) (outer : List Nest) : Type 0
   pub nested : after_tokens (due ∷ []) ts ≡ Some (spot_of inside ∷ spots_of outer)
   pub plain : All IsPlain ts
 
--- the tokens with a name behind them, where one is due
+-- the tokens with a name after them, where one is due
 abbrev pub named : Nest → List ℕ → List Token → List Token
 named Object name ts = ts ++ key name ∷ []
 named Items name ts = ts
 
--- a value was added, behind its name where one was due
+-- a value was added, after its name where one was due
 abbrev pub AddsValue : List ℕ → Token → List Token → List Token → Type 0
 AddsValue name t old new = (inside : Nest) × (new ≡ named inside name old ++ t ∷ [])
 
@@ -68,7 +68,7 @@ pub record IsObject (head : List Token) (text : List ℕ) : Type 0 where
 abbrev pub AddsObject : List Token → List ℕ → List ℕ → Type 0
 AddsObject head old new = (text : List ℕ) × IsObject head text × (new ≡ old ++ text)
 
--- the rest of an object's text behind its bracket, where it follows a member: a quote begins the next one
+-- the rest of an object's text after its bracket, where it follows a member: a quote begins the next one
 abbrev pub with_comma : List ℕ → List ℕ
 with_comma [] = []
 with_comma (x ∷ xs) = cond (x == 34) (44 ∷ x ∷ xs) (x ∷ xs)

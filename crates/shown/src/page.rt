@@ -22,7 +22,7 @@ pub enum Nest {
 /// An object that is written, with the objects and lists that are open in it.
 ///
 /// A value goes to the innermost of them. A name that is passed is written where that is an object. What failed once,
-/// for want of memory, fails from then on.
+/// for lack of memory, fails from then on.
 #[derive(Drop)]
 pub struct Page {
     alloc: Global,
@@ -80,7 +80,7 @@ fn put_end(writer: &mut Writer, nest: Nest) -> Result<(), AllocError>
     }
 }
 
-/// Adds what follows the bracket of an object's text, behind a comma if it has members.
+/// Adds what follows the bracket of an object's text, after a comma if it has members.
 fn put_rest(out: &mut Vec<u8>, rest: &[u8]) -> Result<(), AllocError>
     ensures { OnOk result (out.new.items ≡ out.old.items ++ with_comma rest.now) }
 {
@@ -208,7 +208,7 @@ impl Page {
         self.number(name, value)
     }
 
-    /// Adds a list of the names of the bits that are set, and behind them a number of those that have no name.
+    /// Adds a list of the names of the bits that are set, and after them a number of those that have no name.
     pub fn flags(
         &mut self,
         name: &str,

@@ -122,7 +122,7 @@ fn protocols_are_in_network_order(rt: HostRuntime) {
     is_same(&rt, &VfVlanInfo::default(), &zeros);
 }
 
-/// The two bytes behind the protocol are not read, and written as zeros.
+/// The two bytes after the protocol are not read, and written as zeros.
 #[test]
 fn padding_of_a_vlan_is_not_read(rt: HostRuntime) {
     let text = [7, 0, 0, 0, 1, 2, 0, 0, 3, 0, 0, 0, 0x88, 0xa8, 0, 0];

@@ -65,7 +65,7 @@ fn settings_of_ipv4() -> InetDevConf {
     }
 }
 
-/// Numbers of the constants IPV4_DEVCONF_* of linux/ip.h, from 1, times four; behind them this project's own field.
+/// Numbers of the constants IPV4_DEVCONF_* of linux/ip.h, from 1, times four; after them this project's own field.
 #[test]
 fn settings_of_ipv4_stand_at_their_offsets(rt: HostRuntime) {
     let mut bytes = [0; INET_DEV_CONF_SIZE];
@@ -111,7 +111,7 @@ fn settings_of_ipv6_stand_at_their_offsets(rt: HostRuntime) {
     are(&rt, Inet6DevConfBuffer::from(&conf).as_bytes(), &bytes);
 }
 
-/// Numbers of the constants IPSTATS_MIB_* of linux/snmp.h, times eight; behind them this project's own field.
+/// Numbers of the constants IPSTATS_MIB_* of linux/snmp.h, times eight; after them this project's own field.
 #[test]
 fn counters_of_ipv6_stand_at_their_offsets(rt: HostRuntime) {
     let mut bytes = [0; INET6_STATS_SIZE];

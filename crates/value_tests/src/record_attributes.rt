@@ -71,7 +71,7 @@ fn records_are_written_as_attributes(rt: HostRuntime) {
     stored(&rt, len, &out, &text);
 }
 
-/// The addresses of functions are written with the zeros behind a shorter one, and a map with its padding.
+/// The addresses of functions are written with the zeros after a shorter one, and a map with its padding.
 #[test]
 fn addresses_and_maps_are_written_as_attributes(rt: HostRuntime) {
     let mut out = [255; 41];
@@ -92,7 +92,7 @@ fn addresses_and_maps_are_written_as_attributes(rt: HostRuntime) {
     stored(&rt, len, &out, &text);
 }
 
-/// What a record does not keep of its payload is written as zeros, and what is behind it is not written.
+/// What a record does not keep of its payload is written as zeros, and what is after it is not written.
 #[test]
 #[tactic(auto, unfolding(nla_wire::specs::Payloads::read_sized))]
 fn payloads_are_written_as_what_they_mean(rt: HostRuntime) {

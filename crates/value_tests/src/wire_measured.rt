@@ -1,4 +1,4 @@
-//! Values that are measured, and then written to the front of a buffer, alone and one behind the other.
+//! Values that are measured, and then written to the front of a buffer, alone and one after the other.
 
 ghost use Rattle.std.proofs.Common.{rules};
 ghost use Rattle.std.specs.Prelude.{◌<◌};

@@ -133,7 +133,7 @@ fn knows_lengths_with_padding(rt: HostRuntime) {
     }
 }
 
-/// A value of so many bytes of 255 behind a header of 255 becomes a frame of kind 0x8003, which is this text.
+/// A value of so many bytes of 255 after a header of 255 becomes a frame of kind 0x8003, which is this text.
 fn finishes(rt: &impl Abort, len: usize, text: &[u8]) {
     let mut out = [255; 13];
     assert!(rt; len <= 8);

@@ -93,7 +93,7 @@ fn measures_texts(rt: HostRuntime) {
     }
 }
 
-/// So many letters, and so many NULs behind them.
+/// So many letters, and so many NULs after them.
 fn letters(rt: &impl Abort, alloc: Global, count: usize, nuls: usize) -> Vec<u8> {
     let mut bytes = got(rt, vec![in alloc; 97u8; count]);
     for _ in 0..nuls {

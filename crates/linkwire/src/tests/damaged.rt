@@ -5,7 +5,7 @@
 
 use super::rows::Row;
 
-/// A member without a value, and one byte behind it.
+/// A member without a value, and one byte after it.
 pub const STRAY_ENDS: [&str; 18] = [
     "00000000000000000000000000000000090034000400630001",
     "0000000000000000000000000000000009003e000400630001",

@@ -7,7 +7,7 @@ use std::alloc::Global;
 use std::process::Abort;
 use std::test::Fail;
 
-/// Fails each read in turn, until no read fails. The reads behind it would succeed.
+/// Fails each read in turn, until no read fails. The reads after it would succeed.
 fn fail_each_read(rt: &impl Abort, alloc: Global, text: &[u8], answers: &[u8]) -> Result<(), Fail> {
     let piece = 7;
     for reads in 0..100 {
@@ -37,7 +37,7 @@ fn each_read_may_fail(rt: HostRuntime) -> Result<(), Fail> {
     fail_each_read(&rt, rt.alloc(), TEXT, ANSWERS)
 }
 
-/// Fails each write of one byte in turn, until no write fails. The writes behind it would succeed.
+/// Fails each write of one byte in turn, until no write fails. The writes after it would succeed.
 fn fail_each_write(
     rt: &impl Abort,
     alloc: Global,
@@ -86,7 +86,7 @@ fn many_reads_are_made(rt: HostRuntime) -> Result<(), Fail> {
     Ok(())
 }
 
-/// Passes also where any growth is refused, as the fault of a run.
+/// Passes also where any allocation is refused, as the fault of a run.
 #[test]
 fn refused_memory_changes_no_answer(rt: HostRuntime) {
     let ran = run_in_pieces(rt.alloc(), TEXT, (7, 5), (NEVER, NEVER));

@@ -161,7 +161,7 @@ fn a_text_that_grows_too_long_is_unfit(rt: HostRuntime) -> Result<(), Fail> {
     Ok(())
 }
 
-/// An attribute of zeros: the digits of its header, and the count of zeros behind them.
+/// An attribute of zeros: the digits of its header, and the count of zeros after them.
 struct Zeros {
     header: &'static str,
     zeros: usize,
@@ -184,7 +184,7 @@ const WRITTEN: Zeros = Zeros {
 };
 
 /// A header of zeros, the headers of IFLA_AF_SPEC and of the list of AF_INET6, so many times the counters, and the
-/// digits behind them.
+/// digits after them.
 fn counters(
     alloc: Global,
     headers: &str,

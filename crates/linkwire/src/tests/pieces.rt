@@ -10,7 +10,7 @@ use std::io::{self, Read, Write};
 /// A count of calls that is never reached.
 pub const NEVER: usize = usize::MAX;
 
-/// Gives its bytes, at most `piece` of them at a read. The read behind the first `reads` fails, and no other.
+/// Gives its bytes, at most `piece` of them at a read. The read after the first `reads` fails, and no other.
 #[derive(Drop)]
 pub struct PieceReader<'a> {
     pub bytes: &'a [u8],
@@ -32,7 +32,7 @@ impl<'a> Read for PieceReader<'a> {
     }
 }
 
-/// Takes at most `piece` bytes at a write. The write behind the first `writes` fails, and no other.
+/// Takes at most `piece` bytes at a write. The write after the first `writes` fails, and no other.
 #[derive(Drop)]
 pub struct PieceWriter {
     pub taken: Vec<u8>,
