@@ -6,7 +6,8 @@ SECONDS ?= 60
 # With BUILT=1 `install` takes what is built already.
 BUILT ?=
 
-.PHONY: run show build lib check edits tables bench compare show-tests c-tests rust-tests fuzz c-bench install uninstall help
+.PHONY: run show build lib check edits tables bench compare show-tests c-tests rust-tests fuzz c-bench
+.PHONY: install uninstall help
 
 run: ## answers the lines of standard input: echo 00000000000000000000000000000000060003006c6f | make -s run
 	@scripts/build.sh && $(PROGRAM)

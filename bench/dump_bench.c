@@ -89,8 +89,10 @@ static void settings(void) {
 
 /* One interface as a dump of links shows it. */
 static void interface(void) {
-    static const struct sized numbers[] = {{13, 4}, {4, 4},  {50, 4}, {51, 4}, {27, 4}, {30, 4}, {61, 4}, {31, 4}, {40, 4}, {41, 4},
-                                           {58, 4}, {59, 4}, {60, 4}, {63, 4}, {64, 4}, {32, 4}, {35, 4}, {47, 4}, {48, 4}};
+    static const struct sized numbers[] = {
+        {13, 4}, {4, 4},  {50, 4}, {51, 4}, {27, 4}, {30, 4}, {61, 4}, {31, 4}, {40, 4}, {41, 4},
+        {58, 4}, {59, 4}, {60, 4}, {63, 4}, {64, 4}, {32, 4}, {35, 4}, {47, 4}, {48, 4},
+    };
     static const struct sized records[] = {{14, 32}, {1, 6}, {2, 6}, {54, 6}, {23, 200}, {7, 96}};
     header();
     texts(3, "enp0s31f6");
@@ -111,7 +113,8 @@ static void interface(void) {
 
 /* One interface with 128 virtual functions. */
 static void functions(void) {
-    static const struct sized before[] = {{1, 36}, {13, 32}, {2, 12}}, after[] = {{3, 8}, {4, 8}, {5, 8}, {6, 12}, {9, 8}};
+    static const struct sized before[] = {{1, 36}, {13, 32}, {2, 12}};
+    static const struct sized after[] = {{3, 8}, {4, 8}, {5, 8}, {6, 12}, {9, 8}};
     header();
     texts(3, "enp1s0f0");
     size_t list = opens(22);
@@ -190,7 +193,8 @@ static double times(const char *name, long (*call)(void)) {
 static void line(const char *what) {
     double copied = times("memcpy", copy), checked = times("linkwire_check", check);
     double written = times("linkwire_canonical", canonical), made = times("linkwire_canonical_len", measure);
-    printf("%-24s %8zu %8.0f %8.0f (%4.0f) %8.0f (%4.0f) %8.0f (%4.0f)\n", what, len, copied, checked, len / checked * 1e3,
+    printf("%-24s %8zu %8.0f %8.0f (%4.0f) %8.0f (%4.0f) %8.0f (%4.0f)\n", what, len, copied, checked,
+           len / checked * 1e3,
            written, len / written * 1e3, made, len / made * 1e3);
 }
 

@@ -5,6 +5,7 @@ set -euo pipefail
 cd "$(dirname "$0")/.."
 log=$(mktemp)
 trap 'rm -f "$log"' EXIT
+python3 scripts/lines.py
 rt ci | tee "$log"
 scripts/program.sh
 scripts/program.sh linkshow

@@ -5,7 +5,8 @@
     python3 scripts/edits.py --fit [edits/CRATE.txt ..]
     python3 scripts/edits.py --apply FILE.edit CRATE
 
-A list has lines '# ..' at its head, then groups and edits with an empty line between them. A group is a line '== TITLE'.
+A list has lines '# ..' at its head, then groups and edits with an empty line between them. A group is a line
+'== TITLE'.
 An edit is a headline in plain words, a line 'file: PATH' with a file of the crate, and pairs of lines 'old: TEXT' and
 'new: TEXT', where the old text stands once in the file; further pairs, and further files, may follow. Each edit is
 written to FOLDER/NAME.edit, where NAME is its headline with _ between the words. With WORDS only those files stay in

@@ -36,7 +36,8 @@ status=0; echo 0 | "$program" >&- 2>"$folder/err" || status=$?
 wants "a closed output" 1 "" "$name: write failed"
 
 status=0
-(ulimit -v 40000; { echo 0; head -c 60000000 /dev/zero | tr '\0' 0; } | "$program" >"$folder/out" 2>"$folder/err") || status=$?
+(ulimit -v 40000; { echo 0; head -c 60000000 /dev/zero | tr '\0' 0; } | "$program" >"$folder/out" 2>"$folder/err") ||
+    status=$?
 wants "a growth that fails" 1 "$nothex" "$name: out of memory"
 
 status=0; printf '0\n\n0' | "$program" >"$folder/out" 2>"$folder/err" || status=$?
@@ -53,8 +54,8 @@ for line in 0 00 zz; do
 done
 echo "$name: answers before the next line: ok"
 
-# each growth is refused in turn on the stored input, or on some lines of it, until none is: the fault, and a beginning of
-# the answers
+# each allocation is refused in turn on the stored input, or on some lines of it, until none is: the fault, and a
+# beginning of the answers
 ${CC:-cc} -O2 -Wall -Wextra -Werror -shared -fPIC -o "$folder/refuse.so" "$top/tests/program/refuse_growth.c"
 stored=$folder/stored
 mkdir "$stored"

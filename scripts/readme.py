@@ -1,6 +1,7 @@
 """Holds README.md to what it shows: each program after '<!-- runs: c -->' is compiled and run, each command after
-'<!-- runs: shell -->' too, and what they print is compared with what stands there; what follows '<!-- stands in: FILE -->'
-has to stand in that file. Takes the library, and the folders of the programs; the last line is 'readme passed'."""
+'<!-- runs: shell -->' too, and what they print is compared with what stands there; what follows
+'<!-- stands in: FILE -->' has to stand in that file. Takes the library, and the folders of the programs; the last line
+is 'readme passed'."""
 
 import os
 import re

@@ -1,7 +1,7 @@
 #!/usr/bin/env bash
-# Refuses each allocation of `LinkMessage::parse` in turn on a message of four levels, by the program that the gate left,
-# then the one of `canonical`, until none is refused: out of memory each time, and at last the message and its text. It
-# wants ten of the first at least, and exactly one of the second.
+# Refuses each allocation of `LinkMessage::parse` in turn on a message of four levels, by the program that the gate
+# left, then the one of `canonical`, until none is refused: out of memory each time, and at last the message and its
+# text. It wants ten of the first at least, and exactly one of the second.
 set -euo pipefail
 top=$(cd "$(dirname "$0")/.." && pwd)
 program=$top/crates/parse_once/out/parse_once

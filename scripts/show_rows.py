@@ -152,7 +152,8 @@ def flat():
         message(attr(kind, struct.pack("=" + width, len(names))), {name: len(names)})
     message(attr(34, b"\x12\x34\x56"), {"phys-port-id": "123456"})
     message(attr(36, bytes(range(32))), {"phys-switch-id": bytes(range(32)).hex()})
-    message(attr(29, u32(0xFF)), {"ext-mask": "vf brvlan brvlan-compressed skip-stats mrp cfm-config cfm-status mst".split()})
+    masks = "vf brvlan brvlan-compressed skip-stats mrp cfm-config cfm-status mst".split()
+    message(attr(29, u32(0xFF)), {"ext-mask": masks})
     message(attr(29, u32(0x80000009)), {"ext-mask": ["vf", "skip-stats", 0x80000000]})
 
 
@@ -224,12 +225,13 @@ def functions():
 def families():
     message(attr(26, attr(2, attr(1, u32(*range(1, 35))))), {"af-spec": {"inet": {"conf": counted(INET)}}})
     message(attr(26, attr(2, attr(2))), {"af-spec": {"inet": {"other": [kept(2)]}}})
+    times = {"max-reasm-len": 1, "tstamp": 2, "reachable-time": 3, "retrans-time": -4}
     settings = [
         (attr(1, u32(0x800000F1)), {"flags": ["ra-otherconf", "ra-managed", "ra-rcvd", "rs-sent", "ready", 1]}),
         (attr(2, u32(*range(-60, 0))), {"conf": counted(INET6, -60)}),
         (attr(3, u64(*range(1, 40))), {"stats": counted(INET6_STATS)}),
         (attr(4), {"other": [kept(4)]}),
-        (attr(5, u32(1, 2, 3, -4)), {"cacheinfo": {"max-reasm-len": 1, "tstamp": 2, "reachable-time": 3, "retrans-time": -4}}),
+        (attr(5, u32(1, 2, 3, -4)), {"cacheinfo": times}),
         (attr(6, u64(*range(1, 8))), {"icmp6-stats": counted(ICMP6_STATS)}),
         (attr(7, bytes(15) + b"\1"), {"token": "::1"}),
         (attr(7, bytes.fromhex("20010db8000000000001000000000001")), {"token": "2001:db8::1:0:0:1"}),
@@ -262,7 +264,8 @@ def others():
     message(twice, {"ifname": "a", "mtu": 3, "repeated": [{"mtu": 1}, {"mtu": 2}], "other": [kept(66), kept(66)]})
     inner = attr(18, attr(1, b"a\0"), attr(1, b"b\0"))
     message(inner, {"linkinfo": {"kind": "b", "repeated": [{"kind": "a"}]}})
-    message(attr(52, attr(53, b"a\0")) * 2, {"prop-list": {"alt-ifname": ["a"]}, "repeated": [{"prop-list": {"alt-ifname": ["a"]}}]})
+    names = {"prop-list": {"alt-ifname": ["a"]}}
+    message(attr(52, attr(53, b"a\0")) * 2, {**names, "repeated": [names]})
     far = attr(131, b"\1") + attr(3, b"lo\0")
     message(far, {"ifname": "lo", "other": [kept(131, "01")]})
 

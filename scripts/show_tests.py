@@ -4,8 +4,9 @@
     python3 scripts/show_tests.py PROGRAM TREE WHERE
 
 TREE has the kernel's tools/net/ynl and Documentation/netlink/specs/rt_link.yaml. Every name that both have must have
-the same value, and ynl has no name that the program lacks, but for the data of a link's kind. A name of an enum or flag stands for its number, flags are a set, and a signed number stands for its
-unsigned one. What differs between two dumps of ynl, before and after, moves and is left out. Two records of the file
+the same value, and ynl has no name that the program lacks, but for the data of a link's kind. A name of an enum or flag
+stands for its number, flags are a set, and a signed number stands for its unsigned one. What differs between two dumps
+of ynl, before and after, moves and is left out. Two records of the file
 differ from the kernel's: the counters of IPv6 lack their first, so that each stands under the name before its own; and
 what follows addr-gen-mode in the settings of IPv6 is read from the wrong place, so that it is left out. Lists that the
 file has as bytes are left out too, and a list of one stands for its member, as ynl prints it.
@@ -106,7 +107,8 @@ class Comparison:
                 if key not in ours and key not in UNDECODED and not key.startswith("UnknownAttr"):
                     self.faults.append(f"{'.'.join(path + [key])}: only ynl has it")
             for key in ours:
-                if key in before and key in after and not (path[-2:] == ["inet6", "conf"] and key in BEHIND_WRONG_WIDTH):
+                is_wrong = path[-2:] == ["inet6", "conf"] and key in BEHIND_WRONG_WIDTH
+                if key in before and key in after and not is_wrong:
                     self.values(path + [key], ours[key], before[key], after[key])
         elif before != after:
             self.moved += 1

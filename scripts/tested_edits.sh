@@ -1,7 +1,7 @@
 #!/usr/bin/env bash
-# Tries the edits of the lists tests/edits/CRATE.txt, which the contracts let through, in a copy of the crates: the tests
-# of the crate, or of linkwire where it has none, have to refuse each. Words limit it to the edits whose headlines have
-# them:
+# Tries the edits of the lists tests/edits/CRATE.txt, which the contracts let through, in a copy of the crates: the
+# tests of the crate, or of linkwire where it has none, have to refuse each. Words limit it to the edits whose headlines
+# have them:
 #     scripts/tested_edits.sh [WORDS]
 set -euo pipefail
 cd "$(dirname "$0")/.."

@@ -1,5 +1,5 @@
-/* Loaded before the C library: refuses one call for memory, the one whose number REFUSED_CALL has, and then makes the file
- * that REFUSED_MARK names. */
+/* Loaded before the C library: refuses one call for memory, the one whose number REFUSED_CALL has, and then makes the
+ * file that REFUSED_MARK names. */
 #define _GNU_SOURCE
 #include <dlfcn.h>
 #include <fcntl.h>

@@ -55,7 +55,8 @@ IsCut Errors.Write written due = IsCutShort written due
 IsCut Errors.OutOfMemory written due = IsBeginning written due
 
 -- the answers to these lines were due, and known bytes grew by what the error leaves of them
-pub record WroteSome (is : Relation) (error : RunError) (held held_after : Option (List ℕ)) (lines : List (List ℕ)) : Type 0 where
+pub record WroteSome (is : Relation) (error : RunError) (held held_after : Option (List ℕ))
+    (lines : List (List ℕ)) : Type 0 where
   pub due : List ℕ
   pub answers : AreAnswers is lines due
   pub written : List ℕ

@@ -59,8 +59,10 @@ impl<A: Answer> Answers<A> {
     /// Writes all the answers, so that none waits.
     pub(crate) fn write_all<W: Write>(&mut self, writer: &mut W) -> Result<(), RunError>
         ensures none { OnOk result (self.new ≡ []) }
-        ensures ok { OnOk result (Appends (W.contents writer.old) (W.contents writer.new) self.old) }
-        ensures err { IfErr result (λ e. FailedWrite e (W.contents writer.old) (W.contents writer.new) self.old) }
+        ensures ok { OnOk result
+            (Appends (W.contents writer.old) (W.contents writer.new) self.old) }
+        ensures err { IfErr result
+            (λ e. FailedWrite e (W.contents writer.old) (W.contents writer.new) self.old) }
     {
         write_out(writer, self.waiting.as_slice())?;
         self.waiting.clear();
@@ -69,8 +71,10 @@ impl<A: Answer> Answers<A> {
 
     /// Writes the answers if enough of them wait.
     pub(crate) fn write_full<W: Write>(&mut self, writer: &mut W) -> Result<(), RunError>
-        ensures ok { OnOk result (Sends (W.contents writer.old) (W.contents writer.new) self.old self.new) }
-        ensures err { IfErr result (λ e. FailedWrite e (W.contents writer.old) (W.contents writer.new) self.old) }
+        ensures ok { OnOk result
+            (Sends (W.contents writer.old) (W.contents writer.new) self.old self.new) }
+        ensures err { IfErr result
+            (λ e. FailedWrite e (W.contents writer.old) (W.contents writer.new) self.old) }
     {
         if self.waiting.len() < ENOUGH {
             return Ok(());

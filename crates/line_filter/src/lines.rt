@@ -16,7 +16,8 @@ pub(crate) fn end_line<A: Answer>(
     part: &[u8],
     answers: &mut Answers<A>,
 ) -> Result<(), AllocError>
-    ensures answer { OnOk result (AddsAnswer A.is_answer (held.old.items ++ part.now) answers.old answers.new) }
+    ensures answer { OnOk result
+        (AddsAnswer A.is_answer (held.old.items ++ part.now) answers.old answers.new) }
     ensures held { OnOk result (held.new.items ≡ []) }
 {
     if held.is_empty() {
@@ -41,8 +42,10 @@ pub(crate) fn answer_piece<A: Answer, W: Write>(
     requires held { NoLf held.old.items }
     requires none { answers.old ≡ [] }
     ensures none { OnOk result (answers.new ≡ []) }
-    ensures ok { OnOk result (Answered A.is_answer (W.contents writer.old) (W.contents writer.new) (held.old.items ++ piece.now) held.new.items) }
-    ensures err { IfErr result (λ e. AnsweredSome A.is_answer e (W.contents writer.old) (W.contents writer.new) (held.old.items ++ piece.now)) }
+    ensures ok { OnOk result (Answered A.is_answer (W.contents writer.old) (W.contents writer.new)
+        (held.old.items ++ piece.now) held.new.items) }
+    ensures err { IfErr result (λ e. AnsweredSome A.is_answer e (W.contents writer.old)
+        (W.contents writer.new) (held.old.items ++ piece.now)) }
 {
     let mut rest = piece;
     while let Some(end) = memchr(b'\n', rest) {

@@ -22,8 +22,10 @@ fn finish<A: Answer, W: Write>(
 ) -> Result<(), RunError>
     requires held { NoLf held.old.items }
     requires none { answers.old ≡ [] }
-    ensures ok { OnOk result (Finished A.is_answer (W.contents writer.old) (W.contents writer.new) held.old.items) }
-    ensures err { IfErr result (λ e. FinishedSome A.is_answer e (W.contents writer.old) (W.contents writer.new) held.old.items) }
+    ensures ok { OnOk result
+        (Finished A.is_answer (W.contents writer.old) (W.contents writer.new) held.old.items) }
+    ensures err { IfErr result (λ e. FinishedSome A.is_answer e (W.contents writer.old)
+        (W.contents writer.new) held.old.items) }
 {
     if held.is_empty() {
         return Ok(());
@@ -49,8 +51,10 @@ fn answer_all<A: Answer, R: Read, W: Write>(
     answer: A,
 ) -> Result<bool, RunError>
     requires { 0 < length chunk.old }
-    ensures ok { IfOk result (λ ended. ToldEnd A.is_answer ended (R.remaining reader.old) (R.remaining reader.new) (W.contents writer.old) (W.contents writer.new)) }
-    ensures err { IfErr result (λ e. Stopped A.is_answer e (R.remaining reader.old) (R.remaining reader.new) (W.contents writer.old) (W.contents writer.new)) }
+    ensures ok { IfOk result (λ ended. ToldEnd A.is_answer ended (R.remaining reader.old)
+        (R.remaining reader.new) (W.contents writer.old) (W.contents writer.new)) }
+    ensures err { IfErr result (λ e. Stopped A.is_answer e (R.remaining reader.old)
+        (R.remaining reader.new) (W.contents writer.old) (W.contents writer.new)) }
 {
     let mut held = Vec::new(alloc);
     let mut answers = Answers::new(alloc, answer);
@@ -79,8 +83,10 @@ pub fn run<A: Answer, R: Read, W: Write>(
     reader: &mut R,
     writer: &mut W,
 ) -> Result<(), RunError>
-    ensures ok { OnOk result (RanToEnd A.is_answer (R.remaining reader.old) (R.remaining reader.new) (W.contents writer.old) (W.contents writer.new)) }
-    ensures err { IfErr result (λ e. Stopped A.is_answer e (R.remaining reader.old) (R.remaining reader.new) (W.contents writer.old) (W.contents writer.new)) }
+    ensures ok { OnOk result (RanToEnd A.is_answer (R.remaining reader.old) (R.remaining reader.new)
+        (W.contents writer.old) (W.contents writer.new)) }
+    ensures err { IfErr result (λ e. Stopped A.is_answer e (R.remaining reader.old)
+        (R.remaining reader.new) (W.contents writer.old) (W.contents writer.new)) }
 {
     let mut chunk = zeros(alloc, CHUNK)?;
     if answer_all(alloc, reader, writer, chunk.as_mut_slice(), answer)? {

@@ -17,7 +17,8 @@ use Rattle.link_afspec.specs.declared.inet.AfSpecInet.TheVariants.{DevConf, DevC
 abbrev pub SameMeaning : {A : Type 0} → Grammar (List ℕ) A → List ℕ → List ℕ → Type 0
 SameMeaning {A} g p q = (a : A) → g.means p a ↔ g.means q a
 
-module _ {A V : Type 0} {size : ℕ} {of : List ℕ → A} {text : A → List ℕ} (variant : A → V) (laws : RecordLaws size of text) where
+module _ {A V : Type 0} {size : ℕ} {of : List ℕ → A} {text : A → List ℕ} (variant : A → V)
+    (laws : RecordLaws size of text) where
   pub filled_zeros : (p : List ℕ) (zeros : ℕ) → SameMeaning (as_a variant (filled of)) (p ++ replicate zeros 0) p
   filled_zeros p zeros v =
       let same = laws.zeros p zeros in
@@ -36,7 +37,8 @@ module _ {A V : Type 0} {size : ℕ} {of : List ℕ → A} {text : A → List �
 -- ** requests
 
 never_at : (t : Bool) (f : Frame) (conf : InetDevConf)
-    → (if_true (t && true) (by_payload (as_a DevConf inet_dev_conf.grammar)) (undecoded Other)).means f (DevConfRequest conf) → ⊥
+    → (if_true (t && true) (by_payload (as_a DevConf inet_dev_conf.grammar)) (undecoded Other)).means f
+    (DevConfRequest conf) → ⊥
 never_at true f conf m = absurd cc
 never_at false f conf m = absurd cc
 

@@ -33,15 +33,19 @@ unfolding inet_dev_conf_fields
 fields_count conf = refl
 
 -- the text from the setting k on begins with that setting's
-pub request_from : (conf : InetDevConf) (k : ℕ) (z : ℤ) → 0 < k → k ≤ INET_DEV_CONF_COUNT → z ≡ get_or (inet_dev_conf_fields conf) (k - 1) (pos 0)
-    → settings_text (drop (k - 1) (settings_of conf)) ≡ setting_text (record { number = k; value = z }) ++ settings_text (drop k (settings_of conf))
+pub request_from : (conf : InetDevConf) (k : ℕ) (z : ℤ) → 0 < k → k ≤ INET_DEV_CONF_COUNT
+    → z ≡ get_or (inet_dev_conf_fields conf) (k - 1) (pos 0)
+    → settings_text (drop (k - 1) (settings_of conf))
+    ≡ setting_text (record { number = k; value = z }) ++ settings_text (drop k (settings_of conf))
 request_from conf k z some few is =
     let zs = inet_dev_conf_fields conf in
     let number : 1 + (k - 1) ≡ k = omega arith in
     let behind : k - 1 + 1 ≡ k = omega arith in
     ap settings_text (numbered_from 1 zs (k - 1) (omega (arith, fields_count conf)))
-    ∙ ap (λ n. setting_text (record { number = n; value = get_or zs (k - 1) (pos 0) }) ++ settings_text (drop (k - 1 + 1) (settings_of conf))) number
-    ∙ ap (λ y. setting_text (record { number = k; value = y }) ++ settings_text (drop (k - 1 + 1) (settings_of conf))) (sym is)
+    ∙ ap (λ n. setting_text (record { number = n; value = get_or zs (k - 1) (pos 0) })
+    ++ settings_text (drop (k - 1 + 1) (settings_of conf))) number
+    ∙ ap (λ y. setting_text (record { number = k; value = y }) ++ settings_text (drop (k - 1 + 1) (settings_of conf)))
+    (sym is)
     ∙ ap (λ i. setting_text (record { number = k; value = z }) ++ settings_text (drop i (settings_of conf))) behind
 
 -- nothing stands after the last setting
@@ -61,7 +65,12 @@ texts_short : (n : ℕ) (zs : List ℤ) → length (settings_text (numbered n zs
 texts_short n [] = omega arith
 texts_short n (z ∷ zs) =
     let s : Setting = record { number = n; value = z } in
-    omega (arith, length-append (setting_text s) (settings_text (numbered (n + 1) zs)), text_if s (int_eq z (pos 0)), texts_short (n + 1) zs)
+    omega (
+      arith,
+      length-append (setting_text s) (settings_text (numbered (n + 1) zs)),
+      text_if s (int_eq z (pos 0)),
+      texts_short (n + 1) zs,
+    )
 
 -- a request is short
 pub request_bound : (conf : InetDevConf) → length (request_text conf) ≤ 8 * INET_DEV_CONF_COUNT
@@ -78,6 +87,7 @@ texts_behind [] (suc i) = omega arith
 texts_behind (s ∷ ss) zero = omega arith
 texts_behind (s ∷ ss) (suc i) = omega (arith, texts_behind ss i, length-append (setting_text s) (settings_text ss))
 
-pub request_behind : (conf : InetDevConf) (i : ℕ) → length (settings_text (drop i (settings_of conf))) ≤ length (request_text conf)
+pub request_behind : (conf : InetDevConf) (i : ℕ)
+    → length (settings_text (drop i (settings_of conf))) ≤ length (request_text conf)
 unfolding request_text
 request_behind conf i = texts_behind (settings_of conf) i

@@ -9,7 +9,8 @@ ZerosAdded {V} means n = (kind : ℕ) (p : List ℕ) (zeros : ℕ) (v : V) → n
 
 -- of a payload longer than its record, which has this size, only the front counts
 abbrev pub LongerIgnored : {V : Type 0} → (Frame → V → Type 0) → ℕ → ℕ → Type 0
-LongerIgnored {V} means n size = (kind : ℕ) (p more : List ℕ) (v : V) → number (record { kind = kind; payload = p }) ≡ n → size ≤ length p
+LongerIgnored {V} means n size = (kind : ℕ) (p more : List ℕ) (v : V) → number (record { kind = kind; payload = p }) ≡ n
+    → size ≤ length p
     → means (record { kind = kind; payload = p ++ more }) v ↔ means (record { kind = kind; payload = p }) v
 
 -- no attribute means such a value

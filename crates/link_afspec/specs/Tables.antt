@@ -73,7 +73,8 @@ af_spec_mctp_table =
 unfoldable pub af_spec_mctp_place : Place AfSpecMctp
 af_spec_mctp_place = place no_shapes mctps plain_growth 0 inner_small af_spec_mctp_table mctp.Other (λ f. refl) tt tt tt
 
-pub af_spec_mctp_small : (v : AfSpecMctp) → length (af_spec_mctp_place.frame v).payload ≤ most_payload → af_spec_mctp_place.Fits v
+pub af_spec_mctp_small : (v : AfSpecMctp) → length (af_spec_mctp_place.frame v).payload ≤ most_payload
+    → af_spec_mctp_place.Fits v
 unfolding af_spec_mctp_place
 af_spec_mctp_small = af_spec_mctp_place.when_small tt
 
@@ -145,7 +146,8 @@ af_spec_unspec_table =
 
 unfoldable pub af_spec_unspec_place : Place AfSpecUnspec
 unfolding af_spec_inet_place af_spec_inet6_place af_spec_mctp_place
-af_spec_unspec_place = place no_shapes unspecs growth slack inner_small af_spec_unspec_table unspec.Other (λ f. refl) tt tt tt
+af_spec_unspec_place =
+    place no_shapes unspecs growth slack inner_small af_spec_unspec_table unspec.Other (λ f. refl) tt tt tt
 
 -- ** members of IFLA_AF_SPEC of the family AF_BRIDGE, and of IFLA_PROTINFO: no number is listed
 
@@ -153,9 +155,11 @@ abbrev pub af_spec_bridge_table : Table no_shapes bridges always
 af_spec_bridge_table = keeps bridge.Other & tt
 
 unfoldable pub af_spec_bridge_place : Place AfSpecBridge
-af_spec_bridge_place = place no_shapes bridges plain_growth 0 inner_small af_spec_bridge_table bridge.Other (λ f. refl) tt tt tt
+af_spec_bridge_place =
+    place no_shapes bridges plain_growth 0 inner_small af_spec_bridge_table bridge.Other (λ f. refl) tt tt tt
 
-pub af_spec_bridge_small : (v : AfSpecBridge) → length (af_spec_bridge_place.frame v).payload ≤ most_payload → af_spec_bridge_place.Fits v
+pub af_spec_bridge_small : (v : AfSpecBridge) → length (af_spec_bridge_place.frame v).payload ≤ most_payload
+    → af_spec_bridge_place.Fits v
 unfolding af_spec_bridge_place
 af_spec_bridge_small = af_spec_bridge_place.when_small tt
 
@@ -163,9 +167,11 @@ abbrev pub link_proto_info_bridge_table : Table no_shapes proto_bridges always
 link_proto_info_bridge_table = keeps proto_bridge.Other & tt
 
 unfoldable pub link_proto_info_bridge_place : Place LinkProtoInfoBridge
-link_proto_info_bridge_place = place no_shapes proto_bridges plain_growth 0 inner_small link_proto_info_bridge_table proto_bridge.Other (λ f. refl) tt tt tt
+link_proto_info_bridge_place = place no_shapes proto_bridges plain_growth 0 inner_small link_proto_info_bridge_table
+    proto_bridge.Other (λ f. refl) tt tt tt
 
-pub link_proto_info_bridge_small : (v : LinkProtoInfoBridge) → length (link_proto_info_bridge_place.frame v).payload ≤ most_payload → link_proto_info_bridge_place.Fits v
+pub link_proto_info_bridge_small : (v : LinkProtoInfoBridge)
+    → length (link_proto_info_bridge_place.frame v).payload ≤ most_payload → link_proto_info_bridge_place.Fits v
 unfolding link_proto_info_bridge_place
 link_proto_info_bridge_small = link_proto_info_bridge_place.when_small tt
 
@@ -173,8 +179,10 @@ abbrev pub link_proto_info_inet6_table : Table no_shapes proto_inet6s always
 link_proto_info_inet6_table = keeps proto_inet6.Other & tt
 
 unfoldable pub link_proto_info_inet6_place : Place LinkProtoInfoInet6
-link_proto_info_inet6_place = place no_shapes proto_inet6s plain_growth 0 inner_small link_proto_info_inet6_table proto_inet6.Other (λ f. refl) tt tt tt
+link_proto_info_inet6_place = place no_shapes proto_inet6s plain_growth 0 inner_small link_proto_info_inet6_table
+    proto_inet6.Other (λ f. refl) tt tt tt
 
-pub link_proto_info_inet6_small : (v : LinkProtoInfoInet6) → length (link_proto_info_inet6_place.frame v).payload ≤ most_payload → link_proto_info_inet6_place.Fits v
+pub link_proto_info_inet6_small : (v : LinkProtoInfoInet6)
+    → length (link_proto_info_inet6_place.frame v).payload ≤ most_payload → link_proto_info_inet6_place.Fits v
 unfolding link_proto_info_inet6_place
 link_proto_info_inet6_small = link_proto_info_inet6_place.when_small tt

@@ -229,8 +229,12 @@ impl Exact for AfSpecInet6 {
     ghost use Rattle.link_recs.specs.Inet6StatsFields.{inet6_stats_decides};
     ghost use Rattle.link_recs.specs.Icmp6StatsFields.{icmp6_stats_decides};
     ghost use Rattle.link_recs.specs.Inet6CacheInfoFields.{inet6_cache_info_decides};
-    ghost use Rattle.link_vals.specs.contracts.inet6_iface_flags.Inet6IfaceFlagsExact.TheImpl.Laws.{decides-law as flags_exact};
-    ghost use Rattle.link_vals.specs.contracts.addr_gen_mode.In6AddrGenModeExact.TheImpl.Laws.{decides-law as mode_exact};
+    ghost use Rattle.link_vals.specs.contracts.inet6_iface_flags.Inet6IfaceFlagsExact.TheImpl.Laws.{
+      decides-law as flags_exact,
+    };
+    ghost use Rattle.link_vals.specs.contracts.addr_gen_mode.In6AddrGenModeExact.TheImpl.Laws.{
+      decides-law as mode_exact,
+    };
     ghost use Rattle.link_afspec.specs.Same.{address_exact};
     ghost use Rattle.link_afspec.specs.contracts.inet6.AfSpecInet6.{enum};
 

@@ -82,12 +82,17 @@ pub fn law_mctp_net_in_bytes()
 /// that is longer than the record only the front counts.
 pub fn law_short_records()
     ensures inet_zeros { ZerosAdded af_spec_inet_place.grammar.means IFLA_INET_CONF }
-    ensures inet_longer { LongerIgnored af_spec_inet_place.grammar.means IFLA_INET_CONF inet_dev_conf_size }
+    ensures inet_longer { LongerIgnored af_spec_inet_place.grammar.means IFLA_INET_CONF
+        inet_dev_conf_size }
     ensures inet6_zeros { ZerosAdded af_spec_inet6_place.grammar.means IFLA_INET6_CONF }
-    ensures inet6_longer { LongerIgnored af_spec_inet6_place.grammar.means IFLA_INET6_CONF inet6_dev_conf_size }
+    ensures inet6_longer { LongerIgnored af_spec_inet6_place.grammar.means IFLA_INET6_CONF
+        inet6_dev_conf_size }
     ensures stats_zeros { ZerosAdded af_spec_inet6_place.grammar.means IFLA_INET6_STATS }
-    ensures stats_longer { LongerIgnored af_spec_inet6_place.grammar.means IFLA_INET6_STATS inet6_stats_size }
-    ensures cache_longer { LongerIgnored af_spec_inet6_place.grammar.means IFLA_INET6_CACHEINFO inet6_cache_info_size }
+    ensures stats_longer { LongerIgnored af_spec_inet6_place.grammar.means IFLA_INET6_STATS
+        inet6_stats_size }
+    ensures cache_longer { LongerIgnored af_spec_inet6_place.grammar.means IFLA_INET6_CACHEINFO
+        inet6_cache_info_size }
     ensures icmp_zeros { ZerosAdded af_spec_inet6_place.grammar.means IFLA_INET6_ICMP6STATS }
-    ensures icmp_longer { LongerIgnored af_spec_inet6_place.grammar.means IFLA_INET6_ICMP6STATS icmp6_stats_size }
+    ensures icmp_longer { LongerIgnored af_spec_inet6_place.grammar.means IFLA_INET6_ICMP6STATS
+        icmp6_stats_size }
 {}

@@ -30,8 +30,10 @@ fn setting_len(number: u16, value: i32) -> usize
 
 /// Writes a setting at the end of the buffer, if it is not zero, and returns where it starts.
 fn fill_setting(buffer: &mut [u8], number: u16, value: i32) -> usize
-    requires { length (setting_text (record { number = number; value = value })) ≤ length buffer.old }
-    ensures { Filled buffer.old buffer.new (setting_text (record { number = number; value = value })) result }
+    requires { length (setting_text (record { number = number; value = value }))
+        ≤ length buffer.old }
+    ensures { Filled buffer.old buffer.new
+        (setting_text (record { number = number; value = value })) result }
 {
     if value == 0 {
         return buffer.len();

@@ -37,7 +37,11 @@ fn after(size: usize, at: usize, payload_len: usize) -> usize
 /// What is told of a frame that starts at this place.
 fn told(frame: &NlaBuffer<'_>, at: usize) -> Attribute
     requires { at + 4 < 2 ^ 64 }
-    ensures { result ≡ record { kind = frame.now.kind; payload = at + 4; payload_len = length frame.now.payload } }
+    ensures { result ≡ record {
+      kind = frame.now.kind;
+      payload = at + 4;
+      payload_len = length frame.now.payload;
+    } }
 {
     Attribute {
         kind: frame.kind_with_flags(),

@@ -27,42 +27,59 @@ use Rattle.link_msg.proofs.LawProofs.{same_text}
 pub message_bounded : (b : List ℕ) (m : LinkMessage) → IsBytes b → Means b m → IsBounded b m
 message_bounded b m bytes (h, c, whole, header, means) =
     let family = m.header.interface_family in
-    let size : length b ≡ header_size + length c = omega (arith, ap (λ (x : List ℕ). length x) whole, length-append h c, header.size) in
-    let counted = place_count (attribute_place family) attribute_frame AttributeFits NotEmptyPorts attribute_count growth 0 attribute_small (attribute_lawful family) c m.attributes means in
-    let grown = place_growth (attribute_place family) attribute_frame AttributeFits NotEmptyPorts attribute_count 0 attribute_small (attribute_lawful family) c m.attributes means in
+    let size : length b ≡ header_size + length c =
+    omega (arith, ap (λ (x : List ℕ). length x) whole, length-append h c, header.size) in
+    let counted = place_count (attribute_place family) attribute_frame AttributeFits NotEmptyPorts attribute_count
+    growth 0 attribute_small (attribute_lawful family) c m.attributes means in
+    let grown = place_growth (attribute_place family) attribute_frame AttributeFits NotEmptyPorts attribute_count 0
+    attribute_small (attribute_lawful family) c m.attributes means in
     record {
       few = omega (arith, size, counted);
       short = omega (arith, size, grown, text_length m);
       small = λ few.
           let behind : IsBytes c = bytes_right h c (subst IsBytes whole bytes) in
-          let fit = place_all_fit (attribute_place family) attribute_frame AttributeFits NotEmptyPorts attribute_count growth 0 attribute_small (attribute_lawful family) (lit< tt) c m.attributes (omega (arith, size, few)) behind means in
+          let fit =
+          place_all_fit (attribute_place family) attribute_frame AttributeFits NotEmptyPorts attribute_count growth 0
+          attribute_small (attribute_lawful family) (lit< tt) c m.attributes (omega (arith, size, few)) behind means in
           (fit.0, omega (arith, text_length m, grown, size, few));
     }
 
-pub gives_bounded : (b : List ℕ) (r : Result LinkMessage DecodeError) → IsBytes b → Gives r (read_message b) → IfOk r (IsBounded b)
+pub gives_bounded : (b : List ℕ) (r : Result LinkMessage DecodeError) → IsBytes b → Gives r (read_message b)
+    → IfOk r (IsBounded b)
 gives_bounded b (Ok m) bytes gives = message_bounded b m bytes (message_agrees.found b m bytes gives)
 gives_bounded b (Err e) bytes gives = tt
 
 -- no byte string is refused for lack of memory
 pub message_memory : (b : List ℕ) → FirstFault b OutOfMemory → ⊥
 message_memory b (inl (short, is)) = absurd cc
-message_memory b (inr (h, d, v, whole, header, first)) = memory_list (attribute_place v.interface_family) (attribute_lawful v.interface_family).no_memory d first
+message_memory b (inr (h, d, v, whole, header, first)) =
+    memory_list (attribute_place v.interface_family) (attribute_lawful v.interface_family).no_memory d first
 
 -- ** refusals
 
-refused_as : (b : List ℕ) (e : DecodeError) (c : Cause) → e.cause ≡ c → (e.cause ≢ OutOfMemory → FirstFault b e.cause) → (e.cause ≢ OutOfMemory → MeansNothing b) → IsRefusal b (refusal_for c e)
+refused_as : (b : List ℕ) (e : DecodeError) (c : Cause) → e.cause ≡ c → (e.cause ≢ OutOfMemory → FirstFault b e.cause)
+    → (e.cause ≢ OutOfMemory → MeansNothing b) → IsRefusal b (refusal_for c e)
 refused_as b e Causes.OutOfMemory is fault none = tt
-refused_as b e (Causes.TooShort got need) is fault none = let other : e.cause ≢ OutOfMemory = λ k. absurd cc in (fault other, other, none other)
-refused_as b e (Causes.FrameShort left) is fault none = let other : e.cause ≢ OutOfMemory = λ k. absurd cc in (fault other, other, none other)
-refused_as b e (Causes.FrameOver len left) is fault none = let other : e.cause ≢ OutOfMemory = λ k. absurd cc in (fault other, other, none other)
-refused_as b e (Causes.FrameUnder len) is fault none = let other : e.cause ≢ OutOfMemory = λ k. absurd cc in (fault other, other, none other)
-refused_as b e Causes.EmptyList is fault none = let other : e.cause ≢ OutOfMemory = λ k. absurd cc in (fault other, other, none other)
-refused_as b e (Causes.WrongLength got want) is fault none = let other : e.cause ≢ OutOfMemory = λ k. absurd cc in (fault other, other, none other)
-refused_as b e Causes.NotUtf8 is fault none = let other : e.cause ≢ OutOfMemory = λ k. absurd cc in (fault other, other, none other)
-refused_as b e Causes.InvalidState is fault none = let other : e.cause ≢ OutOfMemory = λ k. absurd cc in (fault other, other, none other)
+refused_as b e (Causes.TooShort got need) is fault none = let other : e.cause ≢ OutOfMemory = λ k.
+    absurd cc in (fault other, other, none other)
+refused_as b e (Causes.FrameShort left) is fault none = let other : e.cause ≢ OutOfMemory = λ k.
+    absurd cc in (fault other, other, none other)
+refused_as b e (Causes.FrameOver len left) is fault none = let other : e.cause ≢ OutOfMemory = λ k.
+    absurd cc in (fault other, other, none other)
+refused_as b e (Causes.FrameUnder len) is fault none = let other : e.cause ≢ OutOfMemory = λ k.
+    absurd cc in (fault other, other, none other)
+refused_as b e Causes.EmptyList is fault none = let other : e.cause ≢ OutOfMemory = λ k.
+    absurd cc in (fault other, other, none other)
+refused_as b e (Causes.WrongLength got want) is fault none = let other : e.cause ≢ OutOfMemory = λ k.
+    absurd cc in (fault other, other, none other)
+refused_as b e Causes.NotUtf8 is fault none = let other : e.cause ≢ OutOfMemory = λ k.
+    absurd cc in (fault other, other, none other)
+refused_as b e Causes.InvalidState is fault none = let other : e.cause ≢ OutOfMemory = λ k.
+    absurd cc in (fault other, other, none other)
 
 -- a fault of `parse` is a refusal
-pub refused_for : (b : List ℕ) (e : DecodeError) → (e.cause ≢ OutOfMemory → FirstFault b e.cause) → (e.cause ≢ OutOfMemory → MeansNothing b) → IsRefusal b (refusal_of e)
+pub refused_for : (b : List ℕ) (e : DecodeError) → (e.cause ≢ OutOfMemory → FirstFault b e.cause)
+    → (e.cause ≢ OutOfMemory → MeansNothing b) → IsRefusal b (refusal_of e)
 refused_for b e fault none = refused_as b e e.cause refl fault none
 
 -- the canonical text of an accepted message
@@ -76,9 +93,11 @@ accepted_text b t m bytes h is = record {
 }
 
 -- two accepted messages, compared
-pub compared : (a b : List ℕ) (m n : LinkMessage) (answer : Bool) → IsBytes a → IsBytes b → IsAccepted a m → IsAccepted b n → (IsTrue answer ↔ (m ≡ n)) → AreSame a b answer
+pub compared : (a b : List ℕ) (m n : LinkMessage) (answer : Bool) → IsBytes a → IsBytes b → IsAccepted a m
+    → IsAccepted b n → (IsTrue answer ↔ (m ≡ n)) → AreSame a b answer
 compared a b m n answer bytes_a bytes_b first second same =
-    let texts = same_text a b m n bytes_a bytes_b first.means second.means first.fits second.fits first.ports second.ports in (
+    let texts =
+    same_text a b m n bytes_a bytes_b first.means second.means first.fits second.fits first.ports second.ports in (
       m,
       n,
       record {

@@ -1,7 +1,8 @@
 -- What the walk that measures tells beside the length: empty lists of ports, by the length of their text, and the run
 -- in front.
 use Rattle.std.proofs.Common.{◌≡◌, ◌≢◌, ℕ, ◌+◌, ◌^◌, ◌<◌, List, [], ◌∷◌, ◌++◌, length, refl, sym, ap, ◌∙◌, arith}
-use Rattle.std.proofs.Common.{Result, Ok, Err, Some, None, Bool, true, false, MatchBool, length-append, append-nil, flat_map, subst}
+use Rattle.std.proofs.Common.{Result, Ok, Err, Some, None, Bool, true, false, MatchBool, length-append, append-nil}
+use Rattle.std.proofs.Common.{flat_map, subst}
 use Rattle.std.specs.List.{AllByRecursion}
 use Rattle.nla_wire.specs.Frames.{Frame, number, missing, IsBytes, IsFrame}
 use Rattle.nla_wire.specs.Reading.{list_of, with_front, ◌>>=◌}
@@ -15,8 +16,8 @@ use Rattle.nla_wire.proofs.Written.{Weighing, Counted, all_here, all_more, flat_
 use Rattle.link_vals.specs.declared.address_family.AddressFamily.{AddressFamily}
 use Rattle.link_vf.specs.Tables.{link_vf_port_place, vf_port_list}
 use Rattle.link_vf.specs.declared.port_list.LinkVfPort.{LinkVfPort}
-use Rattle.link_msg.specs.Tables.{attribute_frame, AttributeFits, attribute_view, attribute_entries, NotEmptyPorts, attribute_place}
-use Rattle.link_msg.specs.Tables.{attribute_lawful, attribute_number}
+use Rattle.link_msg.specs.Tables.{attribute_frame, AttributeFits, attribute_view, attribute_entries, NotEmptyPorts}
+use Rattle.link_msg.specs.Tables.{attribute_place, attribute_lawful, attribute_number}
 use Rattle.link_msg.specs.declared.numbers.TheConstants.{IFLA_VF_PORTS}
 use Rattle.link_msg.specs.Runs.{RunsOn, FrameMeasures, attribute_text}
 use Rattle.link_msg.specs.Canonical.{ListWeighs, ListMeasures}
@@ -30,23 +31,31 @@ use Rattle.link_msg.specs.declared.attribute.LinkAttribute.TheVariants as Attrib
 ports_long : (ps : List LinkVfPort) → length (canons link_vf_port_place.frame ps) ≡ 0 → 0 < length ps → ⊥
 ports_long [] none some = absurd (omega (arith, some))
 ports_long (p ∷ ps) none some =
-    absurd (omega (arith, none, length-append (canon (link_vf_port_place.frame p)) (canons link_vf_port_place.frame ps), length-canon (link_vf_port_place.frame p)))
+    absurd (omega (
+      arith,
+      none,
+      length-append (canon (link_vf_port_place.frame p)) (canons link_vf_port_place.frame ps),
+      length-canon (link_vf_port_place.frame p),
+    ))
 
 ports_some : (ps : List LinkVfPort) → length (canons link_vf_port_place.frame ps) ≢ 0 → 0 < length ps
 ports_some [] some = absurd (some refl)
 ports_some (p ∷ ps) some = omega arith
 
 -- IFLA_VF_PORTS is read as ports
-ports_read : (family : AddressFamily) (f : Frame) → number f ≡ IFLA_VF_PORTS → (attribute_place family).reads f ≡ (as_a Attributes.VfPorts (not_empty vf_port_list.grammar)).reads f.payload
+ports_read : (family : AddressFamily) (f : Frame) → number f ≡ IFLA_VF_PORTS
+    → (attribute_place family).reads f ≡ (as_a Attributes.VfPorts (not_empty vf_port_list.grammar)).reads f.payload
 unfolding attribute_place attribute_entries attribute_view
 ports_read family f is = rw is refl
 
-made : (r : Result (List LinkVfPort) Cause) (v : LinkAttribute) → (r >>= λ ps. Ok (Attributes.VfPorts ps)) ≡ Ok v → (ps : List LinkVfPort) × (v ≡ Attributes.VfPorts ps)
+made : (r : Result (List LinkVfPort) Cause) (v : LinkAttribute) → (r >>= λ ps. Ok (Attributes.VfPorts ps)) ≡ Ok v
+    → (ps : List LinkVfPort) × (v ≡ Attributes.VfPorts ps)
 made (Ok ps) v e = (ps, cc)
 made (Err c) v e = absurd cc
 
 -- one that was read from IFLA_VF_PORTS, with no bytes
-no_ports : (family : AddressFamily) (f : Frame) (v : LinkAttribute) → (attribute_place family).reads f ≡ Ok v → number f ≡ IFLA_VF_PORTS → length (attribute_frame v).payload ≡ 0 → NotEmptyPorts v → ⊥
+no_ports : (family : AddressFamily) (f : Frame) (v : LinkAttribute) → (attribute_place family).reads f ≡ Ok v
+    → number f ≡ IFLA_VF_PORTS → length (attribute_frame v).payload ≡ 0 → NotEmptyPorts v → ⊥
 unfolding attribute_view
 no_ports family f v read is none some =
     let k = made ((not_empty vf_port_list.grammar).reads f.payload) v (sym (ports_read family f is) ∙ read) in
@@ -59,27 +68,33 @@ other_ports (Attributes.VfPorts ports) other = absurd (other refl)
 other_ports _ other = tt
 
 -- any but one that is written as IFLA_VF_PORTS, with no bytes
-some_ports : (v : LinkAttribute) → ((number (attribute_frame v) ≡ IFLA_VF_PORTS) × (length (attribute_frame v).payload ≡ 0) → ⊥) → NotEmptyPorts v
+some_ports : (v : LinkAttribute)
+    → ((number (attribute_frame v) ≡ IFLA_VF_PORTS) × (length (attribute_frame v).payload ≡ 0) → ⊥) → NotEmptyPorts v
 unfolding attribute_view
 some_ports (Attributes.VfPorts ports) never = ports_some ports (λ none. never (refl, none))
 some_ports _ never = tt
 
 -- ** the attributes of a message
 
-all_front : (P : LinkAttribute → Type 0) (front : List LinkAttribute) (v : LinkAttribute) → AllByRecursion P (front ++ v ∷ []) → AllByRecursion P front
+all_front : (P : LinkAttribute → Type 0) (front : List LinkAttribute) (v : LinkAttribute)
+    → AllByRecursion P (front ++ v ∷ []) → AllByRecursion P front
 all_front P [] v all = tt
 all_front P (x ∷ front) v all = (all.0, all_front P front v all.1)
 
 -- the attributes in front were measured, and whether they hold an empty list of ports is known
-pub record Telling (family : AddressFamily) (whole : Result (List LinkAttribute) Cause) (left : List Item) (len : ℕ) (empty : Bool) : Type 0 where
+pub record Telling (family : AddressFamily) (whole : Result (List LinkAttribute) Cause) (left : List Item) (len : ℕ)
+    (empty : Bool) : Type 0 where
   pub weighing : Weighing (attribute_place family).reads (λ v. canon (attribute_frame v)) AttributeFits whole left len
-  pub ports : MatchBool empty (AllByRecursion NotEmptyPorts weighing.front → ⊥) (AllByRecursion NotEmptyPorts weighing.front)
+  pub ports : MatchBool empty (AllByRecursion NotEmptyPorts weighing.front → ⊥)
+      (AllByRecursion NotEmptyPorts weighing.front)
 
-telling_starts : (family : AddressFamily) (b : List ℕ) (left : List Item) → left ≡ items b → Telling family (list_of (attribute_place family).reads b) left 0 false
+telling_starts : (family : AddressFamily) (b : List ℕ) (left : List Item) → left ≡ items b
+    → Telling family (list_of (attribute_place family).reads b) left 0 false
 telling_starts family b left left_is = record {
   weighing = record {
     front = [];
-    so_far = ap (λ (xs : List Item). with_front [] (read_items (attribute_place family).reads xs)) left_is ∙ items_start (attribute_place family).reads b;
+    so_far = ap (λ (xs : List Item). with_front [] (read_items (attribute_place family).reads xs)) left_is
+        ∙ items_start (attribute_place family).reads b;
     fit = tt;
     len_is = refl;
     counted = omega arith;
@@ -87,7 +102,8 @@ telling_starts family b left left_is = record {
   ports = tt;
 }
 
-module _ (family : AddressFamily) (whole : Result (List LinkAttribute) Cause) (left : List Item) (len : ℕ) (empty : Bool)
+module _ (family : AddressFamily) (whole : Result (List LinkAttribute) Cause) (left : List Item) (len : ℕ)
+    (empty : Bool)
     (h : Telling family whole left len empty) (f : Frame) (rest : List Item) (left_is : left ≡ Ok f ∷ rest)
     (v : LinkAttribute) (reads : (attribute_place family).reads f ≡ Ok v) where
   -- none of the attributes up to this one is an empty list of ports
@@ -99,7 +115,8 @@ module _ (family : AddressFamily) (whole : Result (List LinkAttribute) Cause) (l
   telling_on fits new new_is small answer ports = record {
     weighing = record {
       front = h.weighing.front ++ v ∷ [];
-      so_far = items_more (attribute_place family).reads h.weighing.front left whole h.weighing.so_far f rest v left_is reads;
+      so_far = items_more (attribute_place family).reads h.weighing.front left whole h.weighing.so_far f rest v
+          left_is reads;
       fit = all_more AttributeFits h.weighing.front v h.weighing.fit fits;
       len_is =
           omega (
@@ -114,7 +131,8 @@ module _ (family : AddressFamily) (whole : Result (List LinkAttribute) Cause) (l
     ports = ports;
   }
 
-  ports_none : (value : ℕ) → value ≡ length (attribute_frame v).payload → (number f ≡ IFLA_VF_PORTS) × (value ≡ 0) → AllPorts → ⊥
+  ports_none : (value : ℕ) → value ≡ length (attribute_frame v).payload → (number f ≡ IFLA_VF_PORTS) × (value ≡ 0)
+      → AllPorts → ⊥
   ports_none value size none all =
       no_ports family f v reads none.0 (sym size ∙ none.1) (all_here NotEmptyPorts h.weighing.front v [] all)
 
@@ -124,24 +142,30 @@ module _ (family : AddressFamily) (whole : Result (List LinkAttribute) Cause) (l
       let means = (attribute_lawful family).agrees.found f v one reads in
       let same : number (attribute_frame v) ≡ number f = attribute_number family f v means in
       next empty h.ports (some_ports v (λ k. never (sym same ∙ k.0, size ∙ k.1))) where
-        next : (e : Bool) → MatchBool e (AllByRecursion NotEmptyPorts h.weighing.front → ⊥) (AllByRecursion NotEmptyPorts h.weighing.front)
+        next : (e : Bool) → MatchBool e (AllByRecursion NotEmptyPorts h.weighing.front
+            → ⊥) (AllByRecursion NotEmptyPorts h.weighing.front)
             → NotEmptyPorts v → MatchBool e (AllPorts → ⊥) AllPorts
         next true never some = λ all. never (all_front NotEmptyPorts h.weighing.front v all)
         next false all some = all_more NotEmptyPorts h.weighing.front v all some
 
 -- ** what is returned
 
-pub list_weighs_none : (r : Result (List LinkAttribute) Cause) → Weighs (flat_map (λ v. canon (attribute_frame v))) (Counted (λ v. canon (attribute_frame v)) AttributeFits) r None → ListWeighs r None
+pub list_weighs_none : (r : Result (List LinkAttribute) Cause) → Weighs (flat_map (λ v. canon (attribute_frame v)))
+    (Counted (λ v. canon (attribute_frame v)) AttributeFits) r None → ListWeighs r None
 list_weighs_none (Ok vs) w = w
 list_weighs_none (Err c) w = tt
 
-telling_ends : (family : AddressFamily) (whole : Result (List LinkAttribute) Cause) (left : List Item) (len : ℕ) (empty : Bool) → Telling family whole left len empty
+telling_ends : (family : AddressFamily) (whole : Result (List LinkAttribute) Cause) (left : List Item) (len : ℕ)
+    (empty : Bool) → Telling family whole left len empty
     → left ≡ [] → ListWeighs whole (Some (len, empty))
 telling_ends family whole left len empty h left_is =
     let w = h.weighing in
     let all_is : Ok w.front ≡ whole =
-    ap (λ (vs : List LinkAttribute). Ok vs) (sym (append-nil w.front)) ∙ ap (λ (xs : List Item). with_front w.front (read_items (attribute_place family).reads xs)) (sym left_is) ∙ w.so_far in
-    subst (λ r. ListWeighs r (Some (len, empty))) all_is ((w.fit, omega (arith, w.len_is, w.counted)), w.len_is, h.ports)
+    ap (λ (vs : List LinkAttribute). Ok vs) (sym (append-nil w.front))
+    ∙ ap (λ (xs : List Item). with_front w.front (read_items (attribute_place family).reads xs)) (sym left_is)
+    ∙ w.so_far in
+    subst (λ r. ListWeighs r (Some (len, empty))) all_is
+    ((w.fit, omega (arith, w.len_is, w.counted)), w.len_is, h.ports)
 
 -- ** the run in front, told by the same walk
 
@@ -167,7 +191,8 @@ module _ (family : AddressFamily) (b : List ℕ) (bytes : IsBytes b) (left : Lis
     (h : Measuring family b left len empty run)
     (f : Frame) (rest : List Item) (left_is : left ≡ Ok f ∷ rest) (one : IsFrame f)
     (value : ℕ) (spelled : Bool) (w : FrameMeasures family f (Some (value, spelled)))
-    (padded new : ℕ) (padded_is : padded ≡ 4 + value + missing value) (new_is : new ≡ len + padded) (small : new < 2 ^ 64)
+    (padded new : ℕ) (padded_is : padded ≡ 4 + value + missing value) (new_is : new ≡ len + padded)
+    (small : new < 2 ^ 64)
     (frame_len after : ℕ) (frame_is : frame_len ≡ 4 + length f.payload)
     (after_is : RunsOn b run len spelled frame_len new after) where
   read_one : (v : LinkAttribute) × ((attribute_place family).reads f ≡ Ok v) × AttributeFits v
@@ -191,7 +216,8 @@ module _ (family : AddressFamily) (b : List ℕ) (bytes : IsBytes b) (left : Lis
       let whole = list_of (attribute_place family).reads b in record {
         telling = telling_on family whole left len empty h.telling f rest left_is read_one.0 read_one.1 read_one.2 new
             counted small true
-            (ports_none family whole left len empty h.telling f rest left_is read_one.0 read_one.1 value read_one.3 none);
+            (ports_none family whole left len empty h.telling f rest left_is read_one.0 read_one.1 value
+            read_one.3 none);
         running = running;
       }
 

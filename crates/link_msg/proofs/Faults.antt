@@ -1,6 +1,6 @@
 -- The first fault of a message's attributes is that of the message.
-use Rattle.std.proofs.Common.{◌≡◌, ℕ, ◌+◌, ◌<◌, ◌≤◌, inl, inr, List, ◌++◌, length, take, drop, refl, sym, ap, ◌∙◌, arith}
-use Rattle.std.proofs.Common.{length-append, Option, Some, None, IfSome, MatchOption}
+use Rattle.std.proofs.Common.{◌≡◌, ℕ, ◌+◌, ◌<◌, ◌≤◌, inl, inr, List, ◌++◌, length, take, drop, refl, sym, ap, ◌∙◌}
+use Rattle.std.proofs.Common.{arith, length-append, Option, Some, None, IfSome, MatchOption}
 use Rattle.nla_wire.specs.Frames.{Frame}
 use Rattle.nla_wire.specs.Grammar.{list}
 use Rattle.nla_wire.specs.declared.error.Cause.{Cause}
@@ -31,12 +31,14 @@ told_short b short =
     ((cause, refused, inl (short, refl)), refused_means_none b cause refused, omega arith)
 
 -- where a fault is, whose frame starts there
-pub within_frame : (start : ℕ) (f : Frame) (inside : Option ℕ) (at : ℕ) → MatchOption inside (at ≡ start) (λ n. at ≡ start + 4 + n) → IfSome inside (λ n. n < length f.payload)
+pub within_frame : (start : ℕ) (f : Frame) (inside : Option ℕ) (at : ℕ)
+    → MatchOption inside (at ≡ start) (λ n. at ≡ start + 4 + n) → IfSome inside (λ n. n < length f.payload)
     → IsWithin start (Some f) at
 within_frame start f None at is small = inl is
 within_frame start f (Some n) at is small = inr (omega (arith, is), omega (arith, is, small))
 
-module _ (b : List ℕ) (v : LinkHeader) (d : List ℕ) (long : header_size ≤ length b) (says : v ≡ header_of (take header_size b)) (left : d ≡ drop header_size b) where
+module _ (b : List ℕ) (v : LinkHeader) (d : List ℕ) (long : header_size ≤ length b)
+    (says : v ≡ header_of (take header_size b)) (left : d ≡ drop header_size b) where
   front : List ℕ
   front = take header_size b
 
@@ -52,14 +54,18 @@ module _ (b : List ℕ) (v : LinkHeader) (d : List ℕ) (long : header_size ≤ 
   front_size = omega (arith, ap (λ (x : List ℕ). length x) front_parts, length-append front d, front_says.size)
 
   -- all attributes are read
-  pub told_none : (vs : List LinkAttribute) → (list (attribute_place v.interface_family)).means d vs → (m : LinkMessage) × Means b m
+  pub told_none : (vs : List LinkAttribute) → (list (attribute_place v.interface_family)).means d vs
+      → (m : LinkMessage) × Means b m
   told_none vs means = (record { header = v; attributes = vs }, (front, d, front_parts, front_says, means))
 
-  module _ (start : ℕ) (frame : Option Frame) (h : IsFirstFault (attribute_place v.interface_family) d start frame) (at : ℕ) (within : IsWithin (header_size + start) frame at) where
+  module _ (start : ℕ) (frame : Option Frame) (h : IsFirstFault (attribute_place v.interface_family) d start frame)
+      (at : ℕ) (within : IsWithin (header_size + start) frame at) where
     behind_refused : FirstFault b h.cause
-    behind_refused = inr (front, d, v, front_parts, front_says, found_first (attribute_place v.interface_family) d start frame h)
+    behind_refused =
+        inr (front, d, v, front_parts, front_says, found_first (attribute_place v.interface_family) d start frame h)
 
-    in_bytes : (some : Option Frame) → IsFirstFault (attribute_place v.interface_family) d start some → IsWithin (header_size + start) some at → at ≤ length b
+    in_bytes : (some : Option Frame) → IsFirstFault (attribute_place v.interface_family) d start some
+        → IsWithin (header_size + start) some at → at ≤ length b
     in_bytes None k is = omega (arith, k.inside, is, front_size)
     in_bytes (Some f) k (inl is) = omega (arith, k.inside, is, front_size)
     in_bytes (Some f) k (inr is) = omega (arith, k.inside, is.1, front_size)

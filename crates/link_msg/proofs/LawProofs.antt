@@ -31,25 +31,29 @@ one_message b m n = one_meaning IsBytes message message_agrees b m n
 
 pub same_text : SameTextSameMessage
 same_text a b m n small_a small_b means_a means_b fits_a fits_b ports_a ports_b = (
-  λ e. one_message (message_text n) m n (subst (λ t. Means t m) e (message_back a m small_a means_a fits_a ports_a)) (message_back b n small_b means_b fits_b ports_b),
+  λ e. one_message (message_text n) m n (subst (λ t. Means t m) e (message_back a m small_a means_a fits_a ports_a))
+      (message_back b n small_b means_b fits_b ports_b),
   λ e. ap message_text e,
 )
 
 pub canonical_twice : CanonicalTwice
-canonical_twice b m n small means fits ports again = ap message_text (one_message (message_text m) n m again (message_back b m small means fits ports))
+canonical_twice b m n small means fits ports again =
+    ap message_text (one_message (message_text m) n m again (message_back b m small means fits ports))
 
 pub joined : Joined
 joined family c d vs aligned means = (
   λ ws behind. list_join (attribute_place family) c d vs ws aligned means behind,
   λ us whole.
-      let parts = list_parts (attribute_place family) (λ f v w. one_meaning IsFrame (attribute_place family) (attribute_lawful family).agrees f v w) c d vs us aligned means whole in
+      let parts = list_parts (attribute_place family) (λ f v w. one_meaning IsFrame (attribute_place family)
+      (attribute_lawful family).agrees f v w) c d vs us aligned means whole in
       (parts.0, parts.2, parts.1),
 )
 
 -- what stands after parts of one length is the same
 behind_same : (a b c d : List ℕ) → length a ≡ length b → a ++ c ≡ b ++ d → d ≡ c
 behind_same a b c d size whole =
-    sym (drop-append_seam b d) ∙ ap (drop (length b)) (sym whole) ∙ ap (λ n. drop n (a ++ c)) (sym size) ∙ drop-append_seam a c
+    sym (drop-append_seam b d) ∙ ap (drop (length b)) (sym whole) ∙ ap (λ n. drop n (a ++ c)) (sym size)
+    ∙ drop-append_seam a c
 
 -- ** records that are filled up, and records with bytes after them
 
@@ -68,7 +72,8 @@ module _ (family : AddressFamily) where
 
   pub stats64_longer_ignored : LongerIgnored (attribute_place family).means IFLA_STATS64 stats64_size
   unfolding attribute_place attribute_entries attribute_view
-  stats64_longer_ignored kind p more v is long = rw is (filled_longer Attributes.Stats64 stats64_laws.laws p more long v)
+  stats64_longer_ignored kind p more v is long =
+      rw is (filled_longer Attributes.Stats64 stats64_laws.laws p more long v)
 
   pub map_longer_ignored : LongerIgnored (attribute_place family).means IFLA_MAP map_size
   unfolding attribute_place attribute_entries attribute_view
@@ -76,25 +81,30 @@ module _ (family : AddressFamily) where
 
 -- ** what its own text means holds no empty list of ports
 
-ports_of : (family : AddressFamily) (v : LinkAttribute) → (attribute_place family).means (attribute_frame v) v → NotEmptyPorts v
+ports_of : (family : AddressFamily) (v : LinkAttribute) → (attribute_place family).means (attribute_frame v) v
+    → NotEmptyPorts v
 unfolding attribute_place attribute_entries attribute_view
 ports_of family (Attributes.VfPorts []) means = absurd (omega (arith, means.1.0))
 ports_of family (Attributes.VfPorts (port ∷ ports)) means = omega arith
 ports_of family _ means = tt
 
-all_ports : (family : AddressFamily) (vs : List LinkAttribute) → AllByRecursion (λ v. (attribute_place family).means (attribute_frame v) v) vs → AllByRecursion NotEmptyPorts vs
+all_ports : (family : AddressFamily) (vs : List LinkAttribute)
+    → AllByRecursion (λ v. (attribute_place family).means (attribute_frame v) v) vs → AllByRecursion NotEmptyPorts vs
 all_ports family [] means = tt
 all_ports family (v ∷ vs) means = (ports_of family v means.0, all_ports family vs means.1)
 
-writable : (vs : List LinkAttribute) → AllByRecursion (λ v. (attribute_frame v).kind < 2 ^ 16) vs → AllByRecursion AttributeFits vs → AllByRecursion (λ v. IsWritable (attribute_frame v)) vs
+writable : (vs : List LinkAttribute) → AllByRecursion (λ v. (attribute_frame v).kind < 2 ^ 16) vs
+    → AllByRecursion AttributeFits vs → AllByRecursion (λ v. IsWritable (attribute_frame v)) vs
 writable [] kinds fits = tt
 writable (v ∷ vs) kinds fits = (record { kind = kinds.0; size = fits.0.0 }, writable vs kinds.1 fits.1)
 
 pub only_with_ports : OnlyWithPorts
 only_with_ports m kinds fits (h, c, whole, header, means) =
-    let same : c ≡ canons attribute_frame m.attributes = behind_same (header_bytes m.header) h (canons attribute_frame m.attributes) c (header_length m.header ∙ sym header.size) whole in (
+    let same : c ≡ canons attribute_frame m.attributes = behind_same (header_bytes m.header) h
+    (canons attribute_frame m.attributes) c (header_length m.header ∙ sym header.size) whole in (
       (message_text m, (h, c, whole, header, means)),
       all_ports m.header.interface_family m.attributes
           (list_members (attribute_place m.header.interface_family) attribute_frame m.attributes
-          (subst (λ x. (list (attribute_place m.header.interface_family)).means x m.attributes) same means) (writable m.attributes kinds fits.0)),
+          (subst (λ x. (list (attribute_place m.header.interface_family)).means x m.attributes) same means)
+          (writable m.attributes kinds fits.0)),
     )

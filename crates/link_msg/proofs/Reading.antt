@@ -25,7 +25,8 @@ pub read_short : (b : List ℕ) → length b < header_size → read_message b �
 unfolding read_message
 read_short b short = rw (lt-ltb (length b) header_size short) refl
 
-pub read_long : (b : List ℕ) → header_size ≤ length b → read_message b ≡ read_behind (header_of (take header_size b)) (drop header_size b)
+pub read_long : (b : List ℕ) → header_size ≤ length b
+    → read_message b ≡ read_behind (header_of (take header_size b)) (drop header_size b)
 unfolding read_message
 read_long b long = rw (le-ltb (length b) header_size long) refl
 
@@ -35,7 +36,8 @@ read_split h c size =
     let long : header_size ≤ length (h ++ c) = omega (arith, length-append h c, size) in
     let front : take header_size (h ++ c) ≡ h = ap (λ n. take n (h ++ c)) (sym size) ∙ take-append_seam h c in
     let behind : drop header_size (h ++ c) ≡ c = ap (λ n. drop n (h ++ c)) (sym size) ∙ drop-append_seam h c in
-    read_long (h ++ c) long ∙ ap (λ x. read_behind (header_of x) (drop header_size (h ++ c))) front ∙ ap (read_behind (header_of h)) behind
+    read_long (h ++ c) long ∙ ap (λ x. read_behind (header_of x) (drop header_size (h ++ c))) front
+    ∙ ap (read_behind (header_of h)) behind
 
 -- ** values that take no memory
 
@@ -76,13 +78,15 @@ read_found b m small e = elim (leb_tells header_size (length b)) [
         drop header_size b,
         parts b long.1,
         is_header b long.1,
-        (attributes_agree v.interface_family).found (drop header_size b) found.0 (bytes_behind header_size b small) found.1,
+        (attributes_agree v.interface_family).found (drop header_size b) found.0
+            (bytes_behind header_size b small) found.1,
       ))
 ]
 
 read_fault : (b : List ℕ) (c : Cause) → IsBytes b → read_message b ≡ Err c → FirstFault b c
 read_fault b c small e = elim (leb_tells header_size (length b)) [
-  | inr short ↦ (let clash = sym (read_short b short.1) ∙ e in let same : TooShort (length b) header_size ≡ c = cc in inl (short.1, sym same))
+  | inr short ↦ (let clash = sym (read_short b short.1) ∙ e in let same : TooShort (length b) header_size ≡ c = cc in
+      inl (short.1, sym same))
   | inl long ↦
       (let v : LinkHeader = header_of (take header_size b) in
       inr (
@@ -91,7 +95,8 @@ read_fault b c small e = elim (leb_tells header_size (length b)) [
         v,
         parts b long.1,
         is_header b long.1,
-        (attributes_agree v.interface_family).fault (drop header_size b) c (bytes_behind header_size b small) (bound_err v _ c (sym (read_long b long.1) ∙ e)),
+        (attributes_agree v.interface_family).fault (drop header_size b) c (bytes_behind header_size b small)
+            (bound_err v _ c (sym (read_long b long.1) ∙ e)),
       ))
 ]
 

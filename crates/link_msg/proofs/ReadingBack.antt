@@ -25,7 +25,8 @@ use Rattle.link_msg.specs.declared.message.LinkMessage.{LinkMessage}
 use Rattle.link_msg.proofs.Messaging.{header_length}
 
 made : AddressFamily → ℕ → LinkLayerType → LinkFlags → LinkFlags → LinkHeader
-made family index layer flags mask = record { interface_family = family; index = index; link_layer_type = layer; flags = flags; change_mask = mask }
+made family index layer flags mask =
+    record { interface_family = family; index = index; link_layer_type = layer; flags = flags; change_mask = mask }
 
 header_again : (h : List ℕ) → IsBytes h → header_of (header_bytes (header_of h)) ≡ header_of h
 unfolding header_of header_bytes made
@@ -37,19 +38,34 @@ header_again h small =
     let mask : ℕ = number_at w32 h 12 in
     let kind : List ℕ = to_le_bytes w16 (layer_type_number layer) in
     let first : ℕ = address_family_number (address_family_of family) in
-    let index_again : number_at w32 ((first ∷ 0 ∷ kind) ++ (to_le_bytes w32 index ++ (to_le_bytes w32 flags ++ to_le_bytes w32 mask))) 4 ≡ index =
-    number_again_between w32 (first ∷ 0 ∷ kind) index (to_le_bytes w32 flags ++ to_le_bytes w32 mask) 4 (number_at_below w32 h 4 small) refl in
-    let layer_again : number_at w16 ((first ∷ 0 ∷ []) ++ (kind ++ (to_le_bytes w32 index ++ (to_le_bytes w32 flags ++ to_le_bytes w32 mask)))) 2 ≡ layer_type_number layer =
-    number_again_between w16 (first ∷ 0 ∷ []) (layer_type_number layer) (to_le_bytes w32 index ++ (to_le_bytes w32 flags ++ to_le_bytes w32 mask)) 2 (layer_type_below layer) refl in
-    let flags_again : number_at w32 ((first ∷ 0 ∷ (kind ++ to_le_bytes w32 index)) ++ (to_le_bytes w32 flags ++ to_le_bytes w32 mask)) 8 ≡ flags =
-    number_again_between w32 (first ∷ 0 ∷ (kind ++ to_le_bytes w32 index)) flags (to_le_bytes w32 mask) 8 (number_at_below w32 h 8 small) refl in
-    let mask_again : number_at w32 ((first ∷ 0 ∷ (kind ++ (to_le_bytes w32 index ++ to_le_bytes w32 flags))) ++ (to_le_bytes w32 mask ++ [])) 12 ≡ mask =
-    number_again_between w32 (first ∷ 0 ∷ (kind ++ (to_le_bytes w32 index ++ to_le_bytes w32 flags))) mask [] 12 (number_at_below w32 h 12 small) refl in
-    ap (λ x. made x (number_at w32 (header_bytes (header_of h)) 4) (layer_type_of (number_at w16 (header_bytes (header_of h)) 2)) (link_flags_of (number_at w32 (header_bytes (header_of h)) 8)) (link_flags_of (number_at w32 (header_bytes (header_of h)) 12)))
+    let index_again : number_at w32
+    ((first ∷ 0 ∷ kind) ++ (to_le_bytes w32 index ++ (to_le_bytes w32 flags ++ to_le_bytes w32 mask))) 4 ≡ index =
+    number_again_between w32 (first ∷ 0 ∷ kind) index (to_le_bytes w32 flags ++ to_le_bytes w32 mask) 4
+    (number_at_below w32 h 4 small) refl in
+    let layer_again : number_at w16 ((first ∷ 0 ∷ []) ++ (kind
+    ++ (to_le_bytes w32 index ++ (to_le_bytes w32 flags ++ to_le_bytes w32 mask)))) 2 ≡ layer_type_number layer =
+    number_again_between w16 (first ∷ 0 ∷ []) (layer_type_number layer)
+    (to_le_bytes w32 index ++ (to_le_bytes w32 flags ++ to_le_bytes w32 mask)) 2 (layer_type_below layer) refl in
+    let flags_again : number_at w32
+    ((first ∷ 0 ∷ (kind ++ to_le_bytes w32 index)) ++ (to_le_bytes w32 flags ++ to_le_bytes w32 mask)) 8 ≡ flags =
+    number_again_between w32 (first ∷ 0 ∷ (kind ++ to_le_bytes w32 index)) flags (to_le_bytes w32 mask) 8
+    (number_at_below w32 h 8 small) refl in
+    let mask_again : number_at w32 ((first ∷ 0 ∷ (kind ++ (to_le_bytes w32 index ++ to_le_bytes w32 flags)))
+    ++ (to_le_bytes w32 mask ++ [])) 12 ≡ mask =
+    number_again_between w32 (first ∷ 0 ∷ (kind ++ (to_le_bytes w32 index ++ to_le_bytes w32 flags))) mask [] 12
+    (number_at_below w32 h 12 small) refl in
+    ap (λ x. made x (number_at w32 (header_bytes (header_of h)) 4)
+    (layer_type_of (number_at w16 (header_bytes (header_of h)) 2)) (link_flags_of
+    (number_at w32 (header_bytes (header_of h)) 8)) (link_flags_of (number_at w32 (header_bytes (header_of h)) 12)))
     (ap address_family_of (address_family_again family))
-    ∙ ap (λ x. made (address_family_of family) x (layer_type_of (number_at w16 (header_bytes (header_of h)) 2)) (link_flags_of (number_at w32 (header_bytes (header_of h)) 8)) (link_flags_of (number_at w32 (header_bytes (header_of h)) 12))) index_again
-    ∙ ap (λ x. made (address_family_of family) index x (link_flags_of (number_at w32 (header_bytes (header_of h)) 8)) (link_flags_of (number_at w32 (header_bytes (header_of h)) 12))) (ap layer_type_of layer_again ∙ layer_type_again layer)
-    ∙ ap (λ x. made (address_family_of family) index layer (link_flags_of x) (link_flags_of (number_at w32 (header_bytes (header_of h)) 12))) flags_again
+    ∙ ap (λ x. made (address_family_of family) x (layer_type_of (number_at w16 (header_bytes (header_of h)) 2))
+    (link_flags_of (number_at w32 (header_bytes (header_of h)) 8))
+    (link_flags_of (number_at w32 (header_bytes (header_of h)) 12))) index_again
+    ∙ ap (λ x. made (address_family_of family) index x (link_flags_of (number_at w32 (header_bytes (header_of h)) 8))
+    (link_flags_of (number_at w32 (header_bytes (header_of h)) 12)))
+    (ap layer_type_of layer_again ∙ layer_type_again layer)
+    ∙ ap (λ x. made (address_family_of family) index layer (link_flags_of x)
+    (link_flags_of (number_at w32 (header_bytes (header_of h)) 12))) flags_again
     ∙ ap (λ x. made (address_family_of family) index layer (link_flags_of flags) (link_flags_of x)) mask_again
 
 pub header_back : (h : List ℕ) (v : LinkHeader) → IsBytes h → IsHeader h v → IsHeader (header_bytes v) v
@@ -58,13 +74,15 @@ header_back h v small is = record {
   says = is.says ∙ sym (header_again h small) ∙ ap (λ x. header_of (header_bytes x)) (sym is.says);
 }
 
-pub message_back : (b : List ℕ) (m : LinkMessage) → IsBytes b → Means b m → MessageFits m → NoEmptyPorts m → Means (message_text m) m
+pub message_back : (b : List ℕ) (m : LinkMessage) → IsBytes b → Means b m → MessageFits m → NoEmptyPorts m
+    → Means (message_text m) m
 message_back b m small (h, c, whole, header, means) fits ports =
     let bytes : IsBytes (h ++ c) = subst IsBytes whole small in (
       header_bytes m.header,
       canons attribute_frame m.attributes,
       refl,
       header_back h m.header (bytes_left h c bytes) header,
-      place_back (attribute_place m.header.interface_family) attribute_frame AttributeFits NotEmptyPorts attribute_count growth 0 attribute_small (attribute_lawful m.header.interface_family)
+      place_back (attribute_place m.header.interface_family) attribute_frame AttributeFits NotEmptyPorts attribute_count
+          growth 0 attribute_small (attribute_lawful m.header.interface_family)
           c m.attributes (bytes_right h c bytes) means fits.0 ports,
     )

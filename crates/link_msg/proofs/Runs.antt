@@ -1,7 +1,7 @@
 -- The run in front of a list: a walk over the list's items tells it, and it is copied.
-use Rattle.std.proofs.Common.{◌≡◌, ℕ, ◌+◌, ◌-◌, ◌<◌, ◌≤◌, inl, inr, Bool, true, List, [], ◌∷◌, ◌++◌, append_assoc, append-nil}
-use Rattle.std.proofs.Common.{length, take, drop, replicate, flat_map, refl, ap, sym, ◌∙◌, subst, arith, Result, Ok}
-use Rattle.std.proofs.Common.{length-append, length-drop}
+use Rattle.std.proofs.Common.{◌≡◌, ℕ, ◌+◌, ◌-◌, ◌<◌, ◌≤◌, inl, inr, Bool, true, List, [], ◌∷◌, ◌++◌, append_assoc}
+use Rattle.std.proofs.Common.{append-nil, length, take, drop, replicate, flat_map, refl, ap, sym, ◌∙◌, subst, arith}
+use Rattle.std.proofs.Common.{Result, Ok, length-append, length-drop}
 use Rattle.std.proofs.lemmas.List.{take-append-drop, length-take-le, take_at, drop_at, take_rest}
 use Rattle.std.specs.List.{AllByRecursion}
 use borrow.Rule.Slice.PartMut.{put_mid}
@@ -186,7 +186,8 @@ module _ {V : Type 0} (read : Frame → Result V Cause) (text : V → List ℕ) 
   -- the buffer, whose front holds the run now, has room for the others
   pub run_room : (rest old now : List ℕ) → rest ≡ drop run b → now ≡ take run b ++ drop run old
       → HasRoom (flat_map text) (Counted text fits) (list_of read b) (length old)
-      → HasRoom (flat_map text) (Counted text fits) (list_of read rest) (length (take (length now - run) (drop run now)))
+      → HasRoom (flat_map text) (Counted text fits) (list_of read rest)
+      (length (take (length now - run) (drop run now)))
   run_room rest old now rest_is now_is there =
       let k = room_there (length old) there in
       let left : take (length now - run) (drop run now) ≡ drop run old =

@@ -1,6 +1,7 @@
 -- The walk to the first fault of a list: what it has gone past, and what is left.
-use Rattle.std.proofs.Common.{◌≡◌, ℕ, ◌+◌, ◌%◌, ◌≤◌, ◌⊎◌, inl, inr, List, [], ◌∷◌, ◌++◌, length, refl, ap, sym, ◌∙◌, subst}
-use Rattle.std.proofs.Common.{append_assoc, append-nil, length-append, arith, Option, Some, None, Result, Ok, Err}
+use Rattle.std.proofs.Common.{◌≡◌, ℕ, ◌+◌, ◌%◌, ◌≤◌, ◌⊎◌, inl, inr, List, [], ◌∷◌, ◌++◌, length, refl, ap, sym, ◌∙◌}
+use Rattle.std.proofs.Common.{subst, append_assoc, append-nil, length-append, arith, Option, Some, None, Result, Ok}
+use Rattle.std.proofs.Common.{Err}
 use Rattle.nla_wire.specs.Frames.{Frame, IsBytes, IsFrame, unpadded, missing, Begins, Frames, BadStart}
 use Rattle.nla_wire.specs.Reading.{Step, step}
 use Rattle.nla_wire.specs.Reading.Step.{End, Bad, Next}
@@ -78,8 +79,10 @@ reached_start b left bytes is = record {
   bound = omega arith;
 }
 
-at_spot : (b : List ℕ) (left : List Item) (at : ℕ) (w : Reached b left at) → 1 ≤ length w.behind → (at ≡ length w.before) × (at % 4 ≡ 0)
-at_spot b left at w some = elim w.spot [ inl spot ↦ spot | inr ended ↦ absurd (omega (arith, ap (λ (x : List ℕ). length x) ended, some)) ]
+at_spot : (b : List ℕ) (left : List Item) (at : ℕ) (w : Reached b left at) → 1 ≤ length w.behind
+    → (at ≡ length w.before) × (at % 4 ≡ 0)
+at_spot b left at w some =
+    elim w.spot [ inl spot ↦ spot | inr ended ↦ absurd (omega (arith, ap (λ (x : List ℕ). length x) ended, some)) ]
 
 -- what a frame spells, with the padding that is there
 pub spelling : (b : List ℕ) (f : Frame) (rest : List ℕ) → Begins b f rest → List ℕ
@@ -89,9 +92,15 @@ spelt : (b : List ℕ) (f : Frame) (rest : List ℕ) (h : Begins b f rest) → b
 unfolding spelling
 spelt b f rest h = h.parts
 
-spelling_size : (b : List ℕ) (f : Frame) (rest : List ℕ) (h : Begins b f rest) → length (spelling b f rest h) ≡ 4 + length f.payload + length h.padding
+spelling_size : (b : List ℕ) (f : Frame) (rest : List ℕ) (h : Begins b f rest)
+    → length (spelling b f rest h) ≡ 4 + length f.payload + length h.padding
 spelling_size b f rest h =
-    omega (arith, length-begins b f rest h, ap (λ (x : List ℕ). length x) (spelt b f rest h), length-append (spelling b f rest h) rest)
+    omega (
+      arith,
+      length-begins b f rest h,
+      ap (λ (x : List ℕ). length x) (spelt b f rest h),
+      length-append (spelling b f rest h) rest,
+    )
 
 -- a frame alone, with the padding that is there
 spelling_begins : (b : List ℕ) (f : Frame) (rest : List ℕ) (h : Begins b f rest) → Begins (spelling b f rest h) f []
@@ -131,11 +140,19 @@ module _ (b : List ℕ) (left : List Item) (at : ℕ) (w : Reached b left at) wh
         w.parts ∙ ap (λ (x : List ℕ). w.before ++ x) (spelt w.behind f next_frame.0 next_frame.1)
         ∙ sym (append_assoc w.before (spelling w.behind f next_frame.0 next_frame.1) next_frame.0)
 
-    pub past_spot : (p : ℕ) → p ≡ 4 + length f.payload + missing (length f.payload) → (length next_frame.1.padding ≡ missing (length f.payload)) ⊎ (next_frame.0 ≡ [])
+    pub past_spot : (p : ℕ) → p ≡ 4 + length f.payload + missing (length f.payload)
+        → (length next_frame.1.padding ≡ missing (length f.payload)) ⊎ (next_frame.0 ≡ [])
         → ((at + p ≡ length past) × ((at + p) % 4 ≡ 0)) ⊎ (next_frame.0 ≡ [])
     past_spot p is_p (inl full) =
         inl (
-          omega (arith, is_p, full, frame_spot.0, spelling_size w.behind f next_frame.0 next_frame.1, length-append w.before (spelling w.behind f next_frame.0 next_frame.1)),
+          omega (
+            arith,
+            is_p,
+            full,
+            frame_spot.0,
+            spelling_size w.behind f next_frame.0 next_frame.1,
+            length-append w.before (spelling w.behind f next_frame.0 next_frame.1),
+          ),
           omega (arith, is_p, frame_spot.1),
         )
     past_spot p is_p (inr ended) = inr ended
@@ -183,7 +200,8 @@ module _ {V : Type 0} (place : Grammar Frame V) (b : List ℕ) where
     pub walk_ends : left ≡ [] → (vs : List V) × (list place).means b vs
     walk_ends is =
         let none = front_end w.reached.behind (step w.reached.behind) refl (sym w.reached.items_left ∙ is) in
-        let whole : b ≡ w.reached.before = w.reached.parts ∙ ap (λ (x : List ℕ). w.reached.before ++ x) none ∙ append-nil w.reached.before in
+        let whole : b ≡ w.reached.before = w.reached.parts ∙ ap (λ (x : List ℕ). w.reached.before ++ x) none
+        ∙ append-nil w.reached.before in
         (w.accepted.0, subst (λ x. (list place).means x w.accepted.0) (sym whole) w.accepted.1)
 
     -- bytes that are no frame
@@ -206,7 +224,8 @@ module _ {V : Type 0} (place : Grammar Frame V) (b : List ℕ) where
 
     module _ (agrees : Agrees IsFrame place) (f : Frame) (xs : List Item) (is : left ≡ Ok f ∷ xs) where
       is_frame : IsFrame f
-      is_frame = let next = next_frame b left at w.reached f xs is in begins_framed w.reached.behind f next.0 next.1 w.reached.bytes
+      is_frame = let next = next_frame b left at w.reached f xs is in
+          begins_framed w.reached.behind f next.0 next.1 w.reached.bytes
 
       -- a frame that is refused
       pub walk_refuses : (c : Cause) → place.reads f ≡ Err c → IsFirstFault place b at (Some f)
@@ -226,46 +245,58 @@ module _ {V : Type 0} (place : Grammar Frame V) (b : List ℕ) where
           }
 
       -- a frame that has a value
-      pub walk_on : (v : V) → place.reads f ≡ Ok v → (p : ℕ) → p ≡ 4 + length f.payload + missing (length f.payload) → Walking place b xs (at + p)
+      pub walk_on : (v : V) → place.reads f ≡ Ok v → (p : ℕ) → p ≡ 4 + length f.payload + missing (length f.payload)
+          → Walking place b xs (at + p)
       walk_on v read p is_p =
           let next = next_frame b left at w.reached f xs is in
           let spot = frame_spot b left at w.reached f xs is in
-          let alone : (list place).means (spelling w.reached.behind f next.0 next.1) (v ∷ []) =
-          (f ∷ [], ([], spelling_begins w.reached.behind f next.0 next.1, refl), (agrees.found f v is_frame read, tt)) in
+          let alone : (list place).means (spelling w.reached.behind f next.0 next.1) (v ∷ []) = (
+            f ∷ [],
+            ([], spelling_begins w.reached.behind f next.0 next.1, refl),
+            (agrees.found f v is_frame read, tt),
+          ) in
           record {
             reached = reached_on b left at w.reached f xs is p is_p;
             accepted = (
               w.accepted.0 ++ v ∷ [],
-              list_join place w.reached.before (spelling w.reached.behind f next.0 next.1) w.accepted.0 (v ∷ []) (omega (arith, spot.0, spot.1)) w.accepted.1 alone,
+              list_join place w.reached.before (spelling w.reached.behind f next.0 next.1) w.accepted.0 (v ∷ [])
+                  (omega (arith, spot.0, spot.1)) w.accepted.1 alone,
             );
           }
 
 -- ** the first fault is that of the list
 
 -- after a frame a length that is a multiple of four is left
-left_whole : (c : List ℕ) (f : Frame) (rest : List ℕ) (h : Begins c f rest) → length c % 4 ≡ 0 → (length h.padding ≡ missing (length f.payload)) ⊎ (rest ≡ []) → length rest % 4 ≡ 0
+left_whole : (c : List ℕ) (f : Frame) (rest : List ℕ) (h : Begins c f rest) → length c % 4 ≡ 0
+    → (length h.padding ≡ missing (length f.payload)) ⊎ (rest ≡ []) → length rest % 4 ≡ 0
 left_whole c f rest h whole (inl full) = omega (arith, length-begins c f rest h, whole, full)
 left_whole c f rest h whole (inr ended) = omega (arith, ap (λ (x : List ℕ). length x) ended)
 
-first_after : {V : Type 0} (place : Grammar Frame V) (c d : List ℕ) (fs : List Frame) (vs : List V) (cause : Cause) → length c % 4 ≡ 0 → Frames c fs → Every place.means fs vs
+first_after : {V : Type 0} (place : Grammar Frame V) (c d : List ℕ) (fs : List Frame) (vs : List V) (cause : Cause)
+    → length c % 4 ≡ 0 → Frames c fs → Every place.means fs vs
     → FirstAfter place d [] cause → FirstAfter place (c ++ d) fs cause
-first_after place c d [] vs cause whole frames every fault = subst (λ x. FirstAfter place (x ++ d) [] cause) (sym frames) fault
+first_after place c d [] vs cause whole frames every fault =
+    subst (λ x. FirstAfter place (x ++ d) [] cause) (sym frames) fault
 first_after place c d (f ∷ fs) [] cause whole frames every fault = absurd every
 first_after place c d (f ∷ fs) (v ∷ vs) cause whole frames every fault = (
   frames.0 ++ d,
   begins_join c d f frames.0 whole frames.1,
   (v, every.0),
-  first_after place frames.0 d fs vs cause (left_whole c f frames.0 frames.1 whole frames.1.full) frames.2 every.1 fault,
+  first_after place frames.0 d fs vs cause
+      (left_whole c f frames.0 frames.1 whole frames.1.full) frames.2 every.1 fault,
 )
 
-alone_first : {V : Type 0} (place : Grammar Frame V) (d : List ℕ) (frame : Option Frame) (cause : Cause) → FaultsAlone place d frame cause → FirstAfter place d [] cause
+alone_first : {V : Type 0} (place : Grammar Frame V) (d : List ℕ) (frame : Option Frame) (cause : Cause)
+    → FaultsAlone place d frame cause → FirstAfter place d [] cause
 alone_first place d None cause bad = inl bad
 alone_first place d (Some f) cause (rest, begins, bad) = inr (f, rest, begins, bad)
 
-pub found_first : {V : Type 0} (place : Grammar Frame V) (b : List ℕ) (at : ℕ) (frame : Option Frame) (h : IsFirstFault place b at frame) → First place b h.cause
+pub found_first : {V : Type 0} (place : Grammar Frame V) (b : List ℕ) (at : ℕ) (frame : Option Frame)
+    (h : IsFirstFault place b at frame) → First place b h.cause
 found_first place b at frame h =
     let whole : length h.before % 4 ≡ 0 = omega (arith, h.at_end, h.aligned) in
     let fault = alone_first place h.behind frame h.cause h.alone in (
       h.accepted.1.0,
-      subst (λ x. FirstAfter place x h.accepted.1.0 h.cause) (sym h.parts) (first_after place h.before h.behind h.accepted.1.0 h.accepted.0 h.cause whole h.accepted.1.1 h.accepted.1.2 fault),
+      subst (λ x. FirstAfter place x h.accepted.1.0 h.cause) (sym h.parts) (first_after place h.before h.behind
+          h.accepted.1.0 h.accepted.0 h.cause whole h.accepted.1.1 h.accepted.1.2 fault),
     )

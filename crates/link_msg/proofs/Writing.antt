@@ -19,7 +19,8 @@ use Rattle.link_msg.specs.Header.{header_size, header_of, IsHeader, header_bytes
 use Rattle.link_msg.specs.Tables.{attribute_frame, AttributeFits, NotEmptyPorts, attribute_place}
 use Rattle.link_msg.specs.Messages.{Means, FirstFault, MeansNothing, message, message_text, MessageFits}
 use Rattle.link_msg.specs.CanonErrors.{refusal_for, refusal_of}
-use Rattle.link_msg.specs.Canonical.{IsAccepted, HasText, IsRefusalAlone, IsUnfit, HasEmptyPorts, ListWeighs, IsMeasured}
+use Rattle.link_msg.specs.Canonical.{IsAccepted, HasText, IsRefusalAlone, IsUnfit, HasEmptyPorts, ListWeighs}
+use Rattle.link_msg.specs.Canonical.{IsMeasured}
 use Rattle.link_msg.specs.declared.attribute.LinkAttribute.{LinkAttribute}
 use Rattle.link_msg.specs.declared.header.LinkHeader.{LinkHeader}
 use Rattle.link_msg.specs.declared.message.LinkMessage.{LinkMessage}
@@ -33,7 +34,8 @@ use Rattle.link_msg.proofs.Answering.{accepted_text}
 decoded : (e : DecodeError) → Refusals.Decode e ≢ Refusals.OutOfMemory
 decoded e same = absurd cc
 
-refused_by : (b : List ℕ) (e : DecodeError) (c : Cause) → e.cause ≡ c → FirstFault b e.cause → e.cause ≢ OutOfMemory → MeansNothing b → IsRefusalAlone b (refusal_for c e)
+refused_by : (b : List ℕ) (e : DecodeError) (c : Cause) → e.cause ≡ c → FirstFault b e.cause → e.cause ≢ OutOfMemory
+    → MeansNothing b → IsRefusalAlone b (refusal_for c e)
 refused_by b e Causes.OutOfMemory is fault memory none = absurd (memory is)
 refused_by b e (Causes.TooShort got need) is fault memory none = ((fault, memory, none), decoded e)
 refused_by b e (Causes.FrameShort left) is fault memory none = ((fault, memory, none), decoded e)
@@ -46,36 +48,46 @@ refused_by b e Causes.InvalidState is fault memory none = ((fault, memory, none)
 
 -- ** measured: a header and what stands after it
 
-module _ (b : List ℕ) (v : LinkHeader) (d : List ℕ) (long : header_size ≤ length b) (v_is : v ≡ header_of (take header_size b)) (d_is : d ≡ drop header_size b) where
+module _ (b : List ℕ) (v : LinkHeader) (d : List ℕ) (long : header_size ≤ length b)
+    (v_is : v ≡ header_of (take header_size b)) (d_is : d ≡ drop header_size b) where
   whole : b ≡ take header_size b ++ d
   whole = parts b long ∙ ap (λ x. take header_size b ++ x) (sym d_is)
 
   header : IsHeader (take header_size b) v
   header = record { size = (is_header b long).size; says = v_is }
 
-  behind_means : (vs : List LinkAttribute) → (list (attribute_place v.interface_family)).means d vs → Means b (record { header = v; attributes = vs })
+  behind_means : (vs : List LinkAttribute) → (list (attribute_place v.interface_family)).means d vs
+      → Means b (record { header = v; attributes = vs })
   behind_means vs means = (take header_size b, d, whole, header, means)
 
   -- the attributes are refused
-  pub measured_refused : (e : DecodeError) → (list (attribute_place v.interface_family)).bad d e.cause → e.cause ≢ OutOfMemory → IsRefusalAlone b (refusal_of e)
+  pub measured_refused : (e : DecodeError) → (list (attribute_place v.interface_family)).bad d e.cause
+      → e.cause ≢ OutOfMemory → IsRefusalAlone b (refusal_of e)
   measured_refused e fault memory =
       let refused : FirstFault b e.cause = inr (take header_size b, d, v, whole, header, fault) in
-      refused_by b e e.cause refl refused memory (λ m means. never_both IsBytes message message_agrees b m e.cause means refused)
+      refused_by b e e.cause refl refused memory
+      (λ m means. never_both IsBytes message message_agrees b m e.cause means refused)
 
   -- not all of the attributes fit
-  pub measured_none : (vs : List LinkAttribute) → (list (attribute_place v.interface_family)).means d vs → ListWeighs ((list (attribute_place v.interface_family)).reads d) None → IsUnfit b
+  pub measured_none : (vs : List LinkAttribute) → (list (attribute_place v.interface_family)).means d vs
+      → ListWeighs ((list (attribute_place v.interface_family)).reads d) None → IsUnfit b
   measured_none vs means none =
       let m : LinkMessage = record { header = v; attributes = vs } in
-      let unfit : AllFit AttributeFits attribute_frame vs → ⊥ = subst (λ r. ListWeighs r None) ((attributes_agree v.interface_family).only d vs means) none in
+      let unfit : AllFit AttributeFits attribute_frame vs → ⊥ =
+      subst (λ r. ListWeighs r None) ((attributes_agree v.interface_family).only d vs means) none in
       (m, behind_means vs means, λ fits. unfit (fits.0, attributes_counted m fits))
 
   weighed : (r : Result (List LinkAttribute) Cause) (w : ℕ × Bool) → ListWeighs r (Some w)
-      → (vs : List LinkAttribute) × (r ≡ Ok vs) × AllFit AttributeFits attribute_frame vs × (w.0 ≡ length (canons attribute_frame vs)) × MatchBool w.1 (AllByRecursion NotEmptyPorts vs → ⊥) (AllByRecursion NotEmptyPorts vs)
+      → (vs : List LinkAttribute)
+      × (r ≡ Ok vs) × AllFit AttributeFits attribute_frame vs × (w.0 ≡ length (canons attribute_frame vs))
+      × MatchBool w.1 (AllByRecursion NotEmptyPorts vs → ⊥) (AllByRecursion NotEmptyPorts vs)
   weighed (Ok vs) w h = (vs, refl, h.0, h.1, h.2)
   weighed (Err c) w h = absurd h
 
-  module _ (bytes : IsBytes b) (n : ℕ) (empty : Bool) (h : ListWeighs ((list (attribute_place v.interface_family)).reads d) (Some (n, empty))) where
-    measured : (vs : List LinkAttribute) × ((list (attribute_place v.interface_family)).reads d ≡ Ok vs) × AllFit AttributeFits attribute_frame vs × (n ≡ length (canons attribute_frame vs))
+  module _ (bytes : IsBytes b) (n : ℕ) (empty : Bool)
+      (h : ListWeighs ((list (attribute_place v.interface_family)).reads d) (Some (n, empty))) where
+    measured : (vs : List LinkAttribute) × ((list (attribute_place v.interface_family)).reads d ≡ Ok vs)
+        × AllFit AttributeFits attribute_frame vs × (n ≡ length (canons attribute_frame vs))
         × MatchBool empty (AllByRecursion NotEmptyPorts vs → ⊥) (AllByRecursion NotEmptyPorts vs)
     measured = weighed ((list (attribute_place v.interface_family)).reads d) (n, empty) h
 
@@ -87,12 +99,14 @@ module _ (b : List ℕ) (v : LinkHeader) (d : List ℕ) (long : header_size ≤ 
 
     read_means : Means b message_read
     unfolding message_read
-    read_means = behind_means measured.0 ((attributes_agree v.interface_family).found d measured.0 behind_bytes measured.1)
+    read_means =
+        behind_means measured.0 ((attributes_agree v.interface_family).found d measured.0 behind_bytes measured.1)
 
     -- the text is longer than the machine can count
     pub measured_long : (header_size + n < 2 ^ 64 → ⊥) → IsUnfit b
     unfolding message_read
-    measured_long over = (message_read, read_means, λ fits. over (omega (arith, text_length message_read, fits.1, measured.3)))
+    measured_long over =
+        (message_read, read_means, λ fits. over (omega (arith, text_length message_read, fits.1, measured.3)))
 
     read_fits : header_size + n < 2 ^ 64 → MessageFits message_read
     unfolding message_read
@@ -101,8 +115,13 @@ module _ (b : List ℕ) (v : LinkHeader) (d : List ℕ) (long : header_size ≤ 
     -- an empty list of ports is among the attributes
     pub measured_empty : empty ≡ true → header_size + n < 2 ^ 64 → HasEmptyPorts b
     unfolding message_read
-    measured_empty is counted =
-        (message_read, read_means, read_fits counted, subst (λ t. MatchBool t (AllByRecursion NotEmptyPorts measured.0 → ⊥) (AllByRecursion NotEmptyPorts measured.0)) is measured.4)
+    measured_empty is counted = (
+      message_read,
+      read_means,
+      read_fits counted,
+      subst (λ t. MatchBool t (AllByRecursion NotEmptyPorts measured.0 → ⊥)
+          (AllByRecursion NotEmptyPorts measured.0)) is measured.4,
+    )
 
     pub measured_whole : empty ≡ false → header_size + n < 2 ^ 64 → IsMeasured b v d n
     unfolding message_read
@@ -111,7 +130,8 @@ module _ (b : List ℕ) (v : LinkHeader) (d : List ℕ) (long : header_size ≤ 
       accepted = record {
         means = read_means;
         fits = read_fits counted;
-        ports = subst (λ t. MatchBool t (AllByRecursion NotEmptyPorts measured.0 → ⊥) (AllByRecursion NotEmptyPorts measured.0)) is measured.4;
+        ports = subst (λ t. MatchBool t (AllByRecursion NotEmptyPorts measured.0 → ⊥)
+            (AllByRecursion NotEmptyPorts measured.0)) is measured.4;
       };
       reads = measured.1;
       len = measured.3;
@@ -131,29 +151,39 @@ module _ (b : List ℕ) (v : LinkHeader) (d : List ℕ) (n : ℕ) (h : IsMeasure
   unfolding measured_message
   measured_length = omega (arith, text_length (record { header = v; attributes = h.attributes }), h.len)
 
-  pub measured_room : (room : ℕ) → n ≤ room → HasRoom (canons attribute_frame) (AllFit AttributeFits attribute_frame) ((list (attribute_place v.interface_family)).reads d) room
+  pub measured_room : (room : ℕ) → n ≤ room → HasRoom (canons attribute_frame) (AllFit AttributeFits attribute_frame)
+      ((list (attribute_place v.interface_family)).reads d) room
   measured_room room enough =
-      subst (λ r. HasRoom (canons attribute_frame) (AllFit AttributeFits attribute_frame) r room) (sym h.reads)
-      ((h.accepted.fits.0, attributes_counted (record { header = v; attributes = h.attributes }) h.accepted.fits), omega (arith, enough, h.len))
+      subst (λ r. HasRoom (canons attribute_frame) (AllFit AttributeFits attribute_frame) r room) (sym h.reads) (
+        (h.accepted.fits.0, attributes_counted (record { header = v; attributes = h.attributes }) h.accepted.fits),
+        omega (arith, enough, h.len),
+      )
 
   pub measured_writes : (old new : List ℕ) (k : ℕ)
-      → Rewrites (λ vs. header_bytes v ++ canons attribute_frame vs) ((list (attribute_place v.interface_family)).reads d) old new k
+      → Rewrites (λ vs. header_bytes v ++ canons attribute_frame vs)
+      ((list (attribute_place v.interface_family)).reads d) old new k
       → Writes (message_text measured_message) old new k
   unfolding measured_message
-  measured_writes old new k w = subst (λ r. Rewrites (λ vs. header_bytes v ++ canons attribute_frame vs) r old new k) h.reads w
+  measured_writes old new k w =
+      subst (λ r. Rewrites (λ vs. header_bytes v ++ canons attribute_frame vs) r old new k) h.reads w
 
   -- memory of exactly the text's length
   pub measured_text : (old new : List ℕ) (k : ℕ) → IsBytes b → length old ≡ header_size + n
-      → Rewrites (λ vs. header_bytes v ++ canons attribute_frame vs) ((list (attribute_place v.interface_family)).reads d) old new k → HasText b new
+      → Rewrites (λ vs. header_bytes v ++ canons attribute_frame vs)
+      ((list (attribute_place v.interface_family)).reads d) old new k → HasText b new
   measured_text old new k bytes exact w =
       let one = measured_writes old new k w in
       let rest : drop k old ≡ [] = drop_all k old (omega (arith, exact, one.length_is, measured_length)) in
-      accepted_text b new measured_message bytes measured_accepted (one.new_is ∙ ap (λ (t : List ℕ). message_text measured_message ++ t) rest ∙ append-nil (message_text measured_message))
+      accepted_text b new measured_message bytes measured_accepted (one.new_is
+      ∙ ap (λ (t : List ℕ). message_text measured_message ++ t) rest ∙ append-nil (message_text measured_message))
 
 -- the attributes after the header
-pub written_behind : (v : LinkHeader) (r : Result (List LinkAttribute) Cause) (old emitted part : List ℕ) (k : ℕ) → emitted ≡ header_bytes v ++ drop header_size old
+pub written_behind : (v : LinkHeader) (r : Result (List LinkAttribute) Cause) (old emitted part : List ℕ) (k : ℕ)
+    → emitted ≡ header_bytes v ++ drop header_size old
     → Rewrites (canons attribute_frame) r (take (length emitted - header_size) (drop header_size emitted)) part k
-    → Rewrites (λ vs. header_bytes v ++ canons attribute_frame vs) r old (put_mid header_size (length emitted - header_size) emitted part) (header_size + k)
+    → Rewrites (λ vs. header_bytes v ++ canons attribute_frame vs) r old
+    (put_mid header_size (length emitted - header_size) emitted part) (header_size + k)
 written_behind v (Ok vs) old emitted part k is w =
-    write_on (header_bytes v) (canons attribute_frame vs) old emitted part header_size k (record { length_is = sym (header_length v); new_is = is }) w
+    write_on (header_bytes v) (canons attribute_frame vs) old emitted part header_size k
+    (record { length_is = sym (header_length v); new_is = is }) w
 written_behind v (Err c) old emitted part k is w = tt

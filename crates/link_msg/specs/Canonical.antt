@@ -86,13 +86,15 @@ IsWritten b old new (Err e) = IsRefusalAlone b e × (new ≡ old)
 abbrev pub IsWithin : List ℕ → List ℕ → List ℕ → Result ℕ RoomError → Type 0
 IsWithin b old new (Ok n) = (m : LinkMessage) × IsAccepted b m × Writes (message_text m) old new n
 IsWithin b old new (Err (Rooms.NoText e)) = IsRefusalAlone b e × (new ≡ old)
-IsWithin b old new (Err (Rooms.NoRoom wanted)) = (m : LinkMessage) × IsAccepted b m × (wanted ≡ length (message_text m)) × (length old < wanted) × (new ≡ old)
+IsWithin b old new (Err (Rooms.NoRoom wanted)) =
+    (m : LinkMessage) × IsAccepted b m × (wanted ≡ length (message_text m)) × (length old < wanted) × (new ≡ old)
 
 -- the attributes that are read fit and have so many bytes of text, and whether an empty list of ports is among them; or
 -- one does not fit, or none are read
 abbrev pub ListWeighs : Result (List LinkAttribute) Cause → Option (ℕ × Bool) → Type 0
 ListWeighs (Ok vs) (Some w) =
-    AllFit AttributeFits attribute_frame vs × (w.0 ≡ length (canons attribute_frame vs)) × MatchBool w.1 (AllByRecursion NotEmptyPorts vs → ⊥) (AllByRecursion NotEmptyPorts vs)
+    AllFit AttributeFits attribute_frame vs × (w.0 ≡ length (canons attribute_frame vs))
+    × MatchBool w.1 (AllByRecursion NotEmptyPorts vs → ⊥) (AllByRecursion NotEmptyPorts vs)
 ListWeighs (Ok vs) None = AllFit AttributeFits attribute_frame vs → ⊥
 ListWeighs (Err c) (Some w) = ⊥
 ListWeighs (Err c) None = Unit {0}

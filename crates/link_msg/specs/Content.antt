@@ -53,7 +53,8 @@ ContentFits (Contents.Props vs) = AllFit prop_place.Fits prop_place.frame vs.now
 ContentFits (Contents.Reasons vs) = AllFit down_reason_place.Fits down_reason_place.frame vs.now
 ContentFits (Contents.DevlinkPorts vs) = AllFit devlink_port_place.Fits devlink_port_place.frame vs.now
 ContentFits (Contents.DpllPins vs) = AllFit dpll_pin_place.Fits dpll_pin_place.frame vs.now
-ContentFits (Contents.BridgeInfos vs) = AllFit link_proto_info_bridge_place.Fits link_proto_info_bridge_place.frame vs.now
+ContentFits (Contents.BridgeInfos vs) =
+    AllFit link_proto_info_bridge_place.Fits link_proto_info_bridge_place.frame vs.now
 ContentFits (Contents.Inet6Infos vs) = AllFit link_proto_info_inet6_place.Fits link_proto_info_inet6_place.frame vs.now
 ContentFits (Contents.Bridges vs) = AllFit af_spec_bridge_place.Fits af_spec_bridge_place.frame vs.now
 ContentFits (Contents.Unspecs vs) = AllFit af_spec_unspec_place.Fits af_spec_unspec_place.frame vs.now

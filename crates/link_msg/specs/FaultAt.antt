@@ -22,7 +22,8 @@ abbrev pub IsInside : List ℕ → ℕ → Option Frame → Type 0
 IsInside b at frame = at + least_size frame ≤ length b
 
 -- `at` bytes of b, which are a list of their own, have values; and what begins after them has this fault by itself
-pub record IsFirstFault {V : Type 0} (place : Grammar Frame V) (b : List ℕ) (at : ℕ) (frame : Option Frame) : Type 0 where
+pub record IsFirstFault {V : Type 0} (place : Grammar Frame V) (b : List ℕ) (at : ℕ)
+    (frame : Option Frame) : Type 0 where
   pub before : List ℕ
   pub behind : List ℕ
   pub parts : b ≡ before ++ behind

@@ -32,9 +32,16 @@ pub record IsHeader (h : List ℕ) (v : LinkHeader) : Type 0 where
 -- the header as it is written: the byte that is not read is zero
 unfoldable pub header_bytes : LinkHeader → List ℕ
 header_bytes v =
-    (address_family_number v.interface_family ∷ 0 ∷ []) ++ to_le_bytes w16 (layer_type_number v.link_layer_type) ++ to_le_bytes w32 v.index
+    (address_family_number v.interface_family ∷ 0 ∷ []) ++ to_le_bytes w16 (layer_type_number v.link_layer_type)
+    ++ to_le_bytes w32 v.index
     ++ to_le_bytes w32 (link_flags_bits v.flags) ++ to_le_bytes w32 (link_flags_bits v.change_mask)
 
 -- the header of no family, index 0, layer type 0 and no flags
 abbrev pub default_header : LinkHeader
-default_header = record { interface_family = Unspec; index = 0; link_layer_type = Netrom; flags = link_flags_of 0; change_mask = link_flags_of 0 }
+default_header = record {
+  interface_family = Unspec;
+  index = 0;
+  link_layer_type = Netrom;
+  flags = link_flags_of 0;
+  change_mask = link_flags_of 0;
+}

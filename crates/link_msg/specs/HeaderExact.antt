@@ -10,10 +10,12 @@ use Rattle.link_vals.specs.declared.link_flags.LinkFlags.{LinkFlags}
 use Rattle.link_msg.specs.declared.header.LinkHeader.{LinkHeader}
 
 made : AddressFamily → ℕ → LinkLayerType → LinkFlags → LinkFlags → LinkHeader
-made family index layer flags mask = record { interface_family = family; index = index; link_layer_type = layer; flags = flags; change_mask = mask }
+made family index layer flags mask =
+    record { interface_family = family; index = index; link_layer_type = layer; flags = flags; change_mask = mask }
 
 SameFields : LinkHeader → LinkHeader → Type 0
-SameFields x y = (x.interface_family ≡ y.interface_family) × ((x.index ≡ y.index) × ((x.link_layer_type ≡ y.link_layer_type) × ((x.flags ≡ y.flags) × (x.change_mask ≡ y.change_mask))))
+SameFields x y = (x.interface_family ≡ y.interface_family) × ((x.index ≡ y.index)
+    × ((x.link_layer_type ≡ y.link_layer_type) × ((x.flags ≡ y.flags) × (x.change_mask ≡ y.change_mask))))
 
 joined : (x y : LinkHeader) → SameFields x y → x ≡ y
 unfolding SameFields made
@@ -26,19 +28,26 @@ joined x y h =
 
 apart : (x y : LinkHeader) → x ≡ y → SameFields x y
 unfolding SameFields
-apart x y e = (ap (λ h. h.interface_family) e, (ap (λ h. h.index) e, (ap (λ h. h.link_layer_type) e, (ap (λ h. h.flags) e, ap (λ h. h.change_mask) e))))
+apart x y e = (
+  ap (λ h. h.interface_family) e,
+  (ap (λ h. h.index) e, (ap (λ h. h.link_layer_type) e, (ap (λ h. h.flags) e, ap (λ h. h.change_mask) e))),
+)
 
-module _ (family_test : AddressFamily → AddressFamily → Bool) (layer_test : LinkLayerType → LinkLayerType → Bool) (flags_test : LinkFlags → LinkFlags → Bool)
-    (family : (a b : AddressFamily) → Decides (family_test a b) (a ≡ b)) (layer : (a b : LinkLayerType) → Decides (layer_test a b) (a ≡ b)) (flags : (a b : LinkFlags) → Decides (flags_test a b) (a ≡ b)) where
+module _ (family_test : AddressFamily → AddressFamily → Bool) (layer_test : LinkLayerType → LinkLayerType → Bool)
+    (flags_test : LinkFlags → LinkFlags → Bool)
+    (family : (a b : AddressFamily) → Decides (family_test a b) (a ≡ b)) (layer : (a b : LinkLayerType)
+    → Decides (layer_test a b) (a ≡ b)) (flags : (a b : LinkFlags) → Decides (flags_test a b) (a ≡ b)) where
   abbrev pub header_test : LinkHeader → LinkHeader → Bool
   header_test x y =
       family_test x.interface_family y.interface_family
-      && (x.index == y.index && (layer_test x.link_layer_type y.link_layer_type && (flags_test x.flags y.flags && flags_test x.change_mask y.change_mask)))
+      && (x.index == y.index && (layer_test x.link_layer_type y.link_layer_type
+      && (flags_test x.flags y.flags && flags_test x.change_mask y.change_mask)))
 
   pub header_decides : (x y : LinkHeader) → Decides (header_test x y) (x ≡ y)
   unfolding SameFields
   header_decides x y =
       let fields : Decides (header_test x y) (SameFields x y) =
       both_exact _ _ (family x.interface_family y.interface_family) (both_exact _ _ (unsigned_Decides x.index y.index)
-      (both_exact _ _ (layer x.link_layer_type y.link_layer_type) (both_exact _ _ (flags x.flags y.flags) (flags x.change_mask y.change_mask)))) in
+      (both_exact _ _ (layer x.link_layer_type y.link_layer_type)
+      (both_exact _ _ (flags x.flags y.flags) (flags x.change_mask y.change_mask)))) in
       (λ e. joined x y (fields.0 e), λ e. fields.1 (apart x y e))

@@ -15,7 +15,8 @@ OneMeaning = (b : List ℕ) (m n : LinkMessage) → Means b m → Means b n → 
 
 -- what bytes mean is what its canonical text means, where it fits and holds no empty list of ports
 abbrev pub TextMeansTheSame : Type 0
-TextMeansTheSame = (b : List ℕ) (m : LinkMessage) → IsBytes b → Means b m → MessageFits m → NoEmptyPorts m → Means (message_text m) m
+TextMeansTheSame = (b : List ℕ) (m : LinkMessage) → IsBytes b → Means b m → MessageFits m → NoEmptyPorts m
+    → Means (message_text m) m
 
 -- the kind of each attribute has two bytes, as every kind in a program has
 abbrev pub KindsInRange : LinkMessage → Type 0
@@ -28,20 +29,26 @@ OnlyWithPorts = (m : LinkMessage) → KindsInRange m → MessageFits m → Means
 -- two messages have one canonical text exactly where they are one message
 abbrev pub SameTextSameMessage : Type 0
 SameTextSameMessage =
-    (a b : List ℕ) (m n : LinkMessage) → IsBytes a → IsBytes b → Means a m → Means b n → MessageFits m → MessageFits n → NoEmptyPorts m → NoEmptyPorts n
+    (a b : List ℕ) (m n : LinkMessage) → IsBytes a → IsBytes b → Means a m → Means b n → MessageFits m → MessageFits n
+    → NoEmptyPorts m → NoEmptyPorts n
     → (message_text m ≡ message_text n) ↔ (m ≡ n)
 
 -- the canonical text of a canonical text is itself
 abbrev pub CanonicalTwice : Type 0
 CanonicalTwice =
-    (b : List ℕ) (m n : LinkMessage) → IsBytes b → Means b m → MessageFits m → NoEmptyPorts m → Means (message_text m) n → message_text n ≡ message_text m
+    (b : List ℕ) (m n : LinkMessage) → IsBytes b → Means b m → MessageFits m → NoEmptyPorts m → Means (message_text m) n
+    → message_text n ≡ message_text m
 
 -- after a list of attributes whose length is a multiple of four, bytes are read as they are alone
 abbrev pub Joined : Type 0
-Joined = (family : AddressFamily) (c d : List ℕ) (vs : List LinkAttribute) → length c % 4 ≡ 0 → (list (attribute_place family)).means c vs
-    → ((ws : List LinkAttribute) → (list (attribute_place family)).means d ws → (list (attribute_place family)).means (c ++ d) (vs ++ ws))
-    × ((us : List LinkAttribute) → (list (attribute_place family)).means (c ++ d) us → (ws : List LinkAttribute) × (list (attribute_place family)).means d ws × (us ≡ vs ++ ws))
+Joined = (family : AddressFamily) (c d : List ℕ) (vs : List LinkAttribute) → length c % 4 ≡ 0
+    → (list (attribute_place family)).means c vs
+    → ((ws : List LinkAttribute) → (list (attribute_place family)).means d ws
+    → (list (attribute_place family)).means (c ++ d) (vs ++ ws))
+    × ((us : List LinkAttribute) → (list (attribute_place family)).means (c ++ d) us
+    → (ws : List LinkAttribute) × (list (attribute_place family)).means d ws × (us ≡ vs ++ ws))
 
 -- an attribute that no line reads is written as the frame that it was read from: kind, both flag bits, payload
 abbrev pub ForeignKept : Type 0
-ForeignKept = (family : AddressFamily) (f : Frame) (v : LinkAttribute) → IsUnlisted family f → (attribute_place family).means f v → attribute_frame v ≡ f
+ForeignKept = (family : AddressFamily) (f : Frame) (v : LinkAttribute) → IsUnlisted family f
+    → (attribute_place family).means f v → attribute_frame v ≡ f

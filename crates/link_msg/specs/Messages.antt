@@ -17,14 +17,16 @@ use Rattle.link_msg.specs.declared.message.LinkMessage.{LinkMessage}
 -- family
 abbrev pub Means : List ℕ → LinkMessage → Type 0
 Means b m =
-    (h : List ℕ) × (c : List ℕ) × (b ≡ h ++ c) × IsHeader h m.header × (list (attribute_place m.header.interface_family)).means c m.attributes
+    (h : List ℕ) × (c : List ℕ) × (b ≡ h ++ c) × IsHeader h m.header
+    × (list (attribute_place m.header.interface_family)).means c m.attributes
 
 -- b means no message, and this is the first fault: it is shorter than a header, or the attributes after its header
 -- have it
 abbrev pub FirstFault : List ℕ → Cause → Type 0
 FirstFault b c =
     ((length b < header_size) × (c ≡ TooShort (length b) header_size))
-    ⊎ ((h : List ℕ) × (d : List ℕ) × (v : LinkHeader) × (b ≡ h ++ d) × IsHeader h v × First (attribute_place v.interface_family) d c)
+    ⊎ ((h : List ℕ) × (d : List ℕ) × (v : LinkHeader) × (b ≡ h ++ d) × IsHeader h v
+    × First (attribute_place v.interface_family) d c)
 
 -- a header and what was read after it
 abbrev pub with_header : LinkHeader → Result (List LinkAttribute) Cause → Result LinkMessage Cause
@@ -38,7 +40,8 @@ read_behind v d = with_header v ((list (attribute_place v.interface_family)).rea
 -- what a reader of messages returns
 unfoldable pub read_message : List ℕ → Result LinkMessage Cause
 read_message b =
-    if nat_lt (length b) header_size then Err (TooShort (length b) header_size) else read_behind (header_of (take header_size b)) (drop header_size b)
+    if nat_lt (length b) header_size then Err (TooShort (length b) header_size)
+    else read_behind (header_of (take header_size b)) (drop header_size b)
 
 -- messages: what they mean, why bytes mean none, and what a reader returns
 abbrev pub message : Grammar (List ℕ) LinkMessage

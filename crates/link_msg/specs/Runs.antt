@@ -1,6 +1,6 @@
 -- The run in front: the attributes in front of a list whose canonical text is the bytes that they were read from.
-use Rattle.std.specs.Prelude.{◌≡◌, ℕ, ◌+◌, ◌≤◌, Bool, true, List, ◌++◌, ◌⊎◌, length, take, drop, replicate, Option, None}
-use Rattle.std.specs.Prelude.{Some, Result, Ok}
+use Rattle.std.specs.Prelude.{◌≡◌, ℕ, ◌+◌, ◌≤◌, Bool, true, List, ◌++◌, ◌⊎◌, length, take, drop, replicate, Option}
+use Rattle.std.specs.Prelude.{None, Some, Result, Ok}
 use Rattle.std.specs.List.{flat_map}
 use Rattle.nla_wire.specs.Frames.{Frame, number, IsBytes, missing}
 use Rattle.nla_wire.specs.Reading.{list_of}

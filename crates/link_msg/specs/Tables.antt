@@ -113,24 +113,48 @@ truth_again : (v : Bool) → is_true (truth_number v) ≡ v
 truth_again true = refl
 truth_again false = refl
 
-pub truth_lawful : LawfulPayload (as_a is_true (payload.number_of w8)) (λ v. to_le_bytes w8 (truth_number v)) always always none plain_growth 0 most_payload
-truth_lawful = through_lawful w8 is_true truth_number always most_payload (λ x below. (truth_below (is_true x), truth_again (is_true x), tt))
+pub truth_lawful : LawfulPayload (as_a is_true (payload.number_of w8))
+    (λ v. to_le_bytes w8 (truth_number v)) always always none plain_growth 0 most_payload
+truth_lawful = through_lawful w8 is_true truth_number always most_payload
+    (λ x below. (truth_below (is_true x), truth_again (is_true x), tt))
 
 -- the first 32 bytes of the payload
-pub phys_id_lawful : LawfulPayload (payload.filled phys_id_of) phys_id_bytes (λ id. id.len ≤ 32) always none 36 0 most_payload
+pub phys_id_lawful : LawfulPayload (payload.filled phys_id_of) phys_id_bytes
+    (λ id. id.len ≤ 32) always none 36 0 most_payload
 phys_id_lawful = filled_lawful phys_id_of phys_id_bytes (λ id. id.len ≤ 32) 32 36 0 most_payload (lit≤ tt) (lit≤ tt)
     (λ p. omega (arith, length-phys_id_bytes p)) (λ p small. phys_id_again p) (λ p small. phys_id_len_le p)
 
 abbrev pub phys_ids : Codec LinkPhysId
-phys_ids = record { grammar = payload.filled phys_id_of; text = phys_id_bytes; Inside = λ id. id.len ≤ 32; count = none; factor = 36; fewer = 0; enough = most_payload; lawful = phys_id_lawful; sure = None }
+phys_ids = record {
+  grammar = payload.filled phys_id_of;
+  text = phys_id_bytes;
+  Inside = λ id. id.len ≤ 32;
+  count = none;
+  factor = 36;
+  fewer = 0;
+  enough = most_payload;
+  lawful = phys_id_lawful;
+  sure = None;
+}
 
 -- the list of the flags of a number of four bytes, written as their sum
-pub ext_mask_lawful : LawfulPayload (as_a ext_list (payload.number_of w32)) (λ flags. to_le_bytes w32 (ext_sum flags)) (λ flags. ext_sum flags < 2 ^ 32) always none plain_growth 0 most_payload
+pub ext_mask_lawful : LawfulPayload (as_a ext_list (payload.number_of w32)) (λ flags. to_le_bytes w32 (ext_sum flags))
+    (λ flags. ext_sum flags < 2 ^ 32) always none plain_growth 0 most_payload
 ext_mask_lawful = through_lawful w32 ext_list ext_sum (λ flags. ext_sum flags < 2 ^ 32) most_payload
     (λ x below. (omega (arith, sums_back x below), ap ext_list (sums_back x below), omega (arith, sums_back x below)))
 
 abbrev pub ext_masks : Codec (List LinkExtentMask)
-ext_masks = record { grammar = as_a ext_list (payload.number_of w32); text = λ flags. to_le_bytes w32 (ext_sum flags); Inside = λ flags. ext_sum flags < 2 ^ 32; count = none; factor = plain_growth; fewer = 0; enough = most_payload; lawful = ext_mask_lawful; sure = None }
+ext_masks = record {
+  grammar = as_a ext_list (payload.number_of w32);
+  text = λ flags. to_le_bytes w32 (ext_sum flags);
+  Inside = λ flags. ext_sum flags < 2 ^ 32;
+  count = none;
+  factor = plain_growth;
+  fewer = 0;
+  enough = most_payload;
+  lawful = ext_mask_lawful;
+  sure = None;
+}
 
 pub wireless_fitting : LawfulPayload wireless_event wireless_text WirelessFits always none plain_growth 0 most_payload
 wireless_fitting =
@@ -145,7 +169,17 @@ wireless_fitting =
     }
 
 abbrev pub wireless_events : Codec WirelessEvent
-wireless_events = record { grammar = wireless_event; text = wireless_text; Inside = WirelessFits; count = none; factor = plain_growth; fewer = 0; enough = most_payload; lawful = wireless_fitting; sure = None }
+wireless_events = record {
+  grammar = wireless_event;
+  text = wireless_text;
+  Inside = WirelessFits;
+  count = none;
+  factor = plain_growth;
+  fewer = 0;
+  enough = most_payload;
+  lawful = wireless_fitting;
+  sure = None;
+}
 
 -- ** shapes, and what stands for the value of one
 
@@ -168,7 +202,8 @@ base Shapes.U8 = any codec.u8
 base Shapes.U16 = any codec.u16
 base Shapes.U32 = any codec.u32
 base Shapes.U64 = any codec.u64
-base Shapes.Truth = any (codec.flat (as_a is_true (payload.number_of w8)) (λ v. to_le_bytes w8 (truth_number v)) most_payload truth_lawful)
+base Shapes.Truth = any
+    (codec.flat (as_a is_true (payload.number_of w8)) (λ v. to_le_bytes w8 (truth_number v)) most_payload truth_lawful)
 base Shapes.Id = any phys_ids
 base Shapes.Stats = any (filled_record stats_laws.laws (lit≤ tt))
 base Shapes.Stats64 = any (filled_record stats64_laws.laws (lit≤ tt))
@@ -213,13 +248,16 @@ abbrev pub i32 : Shaped base ℤ always
 i32 = standing base Shapes.U32 (cast_signed w32) codec.i32 (λ p. refl) (signed_same w32) (λ x. tt) (λ a. tt)
 
 abbrev pub oper_state : Shaped base State always
-oper_state = standing base Shapes.U8 state_of (enum w8 state_of state_number state_again) (λ p. refl) (λ p x small means. ap (to_le_bytes w8) (state_again x)) (λ x. tt) (λ a. tt)
+oper_state = standing base Shapes.U8 state_of (enum w8 state_of state_number state_again) (λ p. refl)
+    (λ p x small means. ap (to_le_bytes w8) (state_again x)) (λ x. tt) (λ a. tt)
 
 abbrev pub mode : Shaped base LinkMode always
-mode = standing base Shapes.U8 link_mode_of (enum w8 link_mode_of link_mode_number link_mode_again) (λ p. refl) (λ p x small means. ap (to_le_bytes w8) (link_mode_again x)) (λ x. tt) (λ a. tt)
+mode = standing base Shapes.U8 link_mode_of (enum w8 link_mode_of link_mode_number link_mode_again) (λ p. refl)
+    (λ p x small means. ap (to_le_bytes w8) (link_mode_again x)) (λ x. tt) (λ a. tt)
 
 abbrev pub link_event : Shaped base LinkEvent always
-link_event = standing base Shapes.U32 link_event_of (enum w32 link_event_of link_event_number link_event_again) (λ p. refl) (λ p x small means. ap (to_le_bytes w32) (link_event_again x)) (λ x. tt) (λ a. tt)
+link_event = standing base Shapes.U32 link_event_of (enum w32 link_event_of link_event_number link_event_again)
+    (λ p. refl) (λ p x small means. ap (to_le_bytes w32) (link_event_again x)) (λ x. tt) (λ a. tt)
 
 abbrev pub truth : Shaped base Bool always
 truth = by_shape Shapes.Truth
@@ -240,7 +278,8 @@ mask_below : (p : List ℕ) (x : ℕ) → IsBytes p → (payload.number_of w32).
 mask_below p x small means = subst (λ n. n < 2 ^ 32) (sym means.1) (from_le_bytes_below w32 p small)
 
 -- the sum of the flags of a number is that number
-pub mask_same : (p : List ℕ) (x : ℕ) → IsBytes p → (payload.number_of w32).means p x → to_le_bytes w32 (ext_sum (ext_list x)) ≡ to_le_bytes w32 x
+pub mask_same : (p : List ℕ) (x : ℕ) → IsBytes p → (payload.number_of w32).means p x
+    → to_le_bytes w32 (ext_sum (ext_list x)) ≡ to_le_bytes w32 x
 mask_same p x small means = ap (to_le_bytes w32) (sums_back x (mask_below p x small means))
 
 pub mask_fits : (p : List ℕ) (x : ℕ) → IsBytes p → (payload.number_of w32).means p x → ext_sum (ext_list x) < 2 ^ 32
@@ -394,16 +433,21 @@ Values = List LinkAttribute
 -- IFLA_PROTINFO
 unfoldable pub proto_info : AddressFamily → Reading base attribute_view NotEmptyPorts IFLA_PROTINFO
 unfolding attribute_view
-proto_info Families.Inet6 = shaping base attribute_view NotEmptyPorts IFLA_PROTINFO (by_shape Shapes.Inet6Infos) Attributes.ProtoInfoInet6 (λ a. refl) (λ a good. tt)
-proto_info Families.Bridge = shaping base attribute_view NotEmptyPorts IFLA_PROTINFO (by_shape Shapes.BridgeInfos) Attributes.ProtoInfoBridge (λ a. refl) (λ a good. tt)
+proto_info Families.Inet6 = shaping base attribute_view NotEmptyPorts IFLA_PROTINFO
+    (by_shape Shapes.Inet6Infos) Attributes.ProtoInfoInet6 (λ a. refl) (λ a good. tt)
+proto_info Families.Bridge = shaping base attribute_view NotEmptyPorts IFLA_PROTINFO
+    (by_shape Shapes.BridgeInfos) Attributes.ProtoInfoBridge (λ a. refl) (λ a good. tt)
 proto_info _ = keeping base attribute_view NotEmptyPorts IFLA_PROTINFO Attributes.ProtoInfoUnknown (λ f. refl)
 
 -- IFLA_AF_SPEC
 unfoldable pub af_spec : AddressFamily → Reading base attribute_view NotEmptyPorts IFLA_AF_SPEC
 unfolding attribute_view
-af_spec Families.Unspec = shaping base attribute_view NotEmptyPorts IFLA_AF_SPEC (by_shape Shapes.Unspecs) Attributes.AfSpecUnspec (λ a. refl) (λ a good. tt)
-af_spec Families.Bridge = shaping base attribute_view NotEmptyPorts IFLA_AF_SPEC (by_shape Shapes.Bridges) Attributes.AfSpecBridge (λ a. refl) (λ a good. tt)
-af_spec _ = shaping base attribute_view NotEmptyPorts IFLA_AF_SPEC bytes Attributes.AfSpecUnknown (λ a. refl) (λ a good. tt)
+af_spec Families.Unspec = shaping base attribute_view NotEmptyPorts IFLA_AF_SPEC
+    (by_shape Shapes.Unspecs) Attributes.AfSpecUnspec (λ a. refl) (λ a good. tt)
+af_spec Families.Bridge = shaping base attribute_view NotEmptyPorts IFLA_AF_SPEC
+    (by_shape Shapes.Bridges) Attributes.AfSpecBridge (λ a. refl) (λ a good. tt)
+af_spec _ =
+    shaping base attribute_view NotEmptyPorts IFLA_AF_SPEC bytes Attributes.AfSpecUnknown (λ a. refl) (λ a good. tt)
 
 -- ** the place
 
@@ -430,8 +474,11 @@ abbrev pub as_way : Option Shape → Way Shape
 as_way None = Kept
 as_way (Some s) = tables.Shape s
 
-entries_hold : (family : AddressFamily) → T (all_hold base attribute_view NotEmptyPorts growth 0 attribute_small (attribute_entries family))
-unfolding attribute_view attribute_entries proto_info af_spec prop_place devlink_port_place dpll_pin_place down_reason_place xdp_place link_info_place vf_info_place vf_port_place link_vf_info_place link_vf_port_place af_spec_unspec_place af_spec_bridge_place link_proto_info_bridge_place link_proto_info_inet6_place
+entries_hold : (family : AddressFamily)
+    → T (all_hold base attribute_view NotEmptyPorts growth 0 attribute_small (attribute_entries family))
+unfolding attribute_view attribute_entries proto_info af_spec prop_place devlink_port_place dpll_pin_place
+    down_reason_place xdp_place link_info_place vf_info_place vf_port_place link_vf_info_place link_vf_port_place
+    af_spec_unspec_place af_spec_bridge_place link_proto_info_bridge_place link_proto_info_inet6_place
 entries_hold Families.Unspec = tt
 entries_hold Families.Inet = tt
 entries_hold Families.Bridge = tt
@@ -443,20 +490,27 @@ pub other_kept : (f : Frame) → attribute_view (Attributes.Other f) ≡ tables.
 unfolding attribute_view
 other_kept f = refl
 
-pub attribute_lawful : (family : AddressFamily) → LawfulPlace (attribute_place family) attribute_frame AttributeFits NotEmptyPorts attribute_count growth 0 attribute_small
+pub attribute_lawful : (family : AddressFamily) → LawfulPlace (attribute_place family) attribute_frame AttributeFits
+    NotEmptyPorts attribute_count growth 0 attribute_small
 unfolding attribute_place
-attribute_lawful family = lined_lawful base attribute_view NotEmptyPorts growth 0 attribute_small Attributes.Other other_kept (lit≤ tt) (attribute_entries family) (entries_hold family)
+attribute_lawful family = lined_lawful base attribute_view NotEmptyPorts growth 0 attribute_small Attributes.Other
+    other_kept (lit≤ tt) (attribute_entries family) (entries_hold family)
 
 -- a value is written with the number that it was read from
-pub attribute_number : (family : AddressFamily) (f : Frame) (v : LinkAttribute) → (attribute_place family).means f v → number (attribute_frame v) ≡ number f
+pub attribute_number : (family : AddressFamily) (f : Frame) (v : LinkAttribute) → (attribute_place family).means f v
+    → number (attribute_frame v) ≡ number f
 unfolding attribute_place
 attribute_number family f v means =
-    (lines_lawful base attribute_view NotEmptyPorts growth 0 attribute_small Attributes.Other other_kept (lit≤ tt) (attribute_entries family) (entries_hold family) (number f)).same_number f v refl means
+    (lines_lawful base attribute_view NotEmptyPorts growth 0 attribute_small Attributes.Other other_kept (lit≤ tt)
+    (attribute_entries family) (entries_hold family) (number f)).same_number f v refl means
 
-pub attribute_bounded : (family : AddressFamily) (f : Frame) (v : LinkAttribute) → (attribute_place family).means f v → length (canon (attribute_frame v)) ≤ growth * (1 + length f.payload / 4)
+pub attribute_bounded : (family : AddressFamily) (f : Frame) (v : LinkAttribute) → (attribute_place family).means f v
+    → length (canon (attribute_frame v)) ≤ growth * (1 + length f.payload / 4)
 attribute_bounded family = text_bounded (attribute_lawful family)
 
 -- what no line reads is kept
-pub foreign_kept : (family : AddressFamily) (f : Frame) (v : LinkAttribute) → IsUnlisted family f → (attribute_place family).means f v → attribute_frame v ≡ f
+pub foreign_kept : (family : AddressFamily) (f : Frame) (v : LinkAttribute) → IsUnlisted family f
+    → (attribute_place family).means f v → attribute_frame v ≡ f
 unfolding attribute_place
-foreign_kept family f v foreign means = tables.foreign_kept base attribute_view NotEmptyPorts Attributes.Other other_kept (attribute_entries family) f v foreign means
+foreign_kept family f v foreign means = tables.foreign_kept base attribute_view NotEmptyPorts Attributes.Other
+    other_kept (attribute_entries family) f v foreign means

@@ -642,11 +642,19 @@ impl Exact for LinkAttribute {
     ghost use Rattle.link_vf.specs.contracts.vf_list.LinkVfInfoExact.TheImpl.Laws.{decides-law as functions_exact};
     ghost use Rattle.link_nest.specs.contracts.xdp.LinkXdpExact.TheImpl.Laws.{decides-law as xdp_exact};
     ghost use Rattle.link_nest.specs.contracts.prop_list.PropExact.TheImpl.Laws.{decides-law as props_exact};
-    ghost use Rattle.link_nest.specs.contracts.down_reason.LinkProtocolDownReasonExact.TheImpl.Laws.{decides-law as reasons_exact};
-    ghost use Rattle.link_nest.specs.contracts.devlink_port.DevlinkPortExact.TheImpl.Laws.{decides-law as devlink_exact};
+    ghost use Rattle.link_nest.specs.contracts.down_reason.LinkProtocolDownReasonExact.TheImpl.Laws.{
+      decides-law as reasons_exact,
+    };
+    ghost use Rattle.link_nest.specs.contracts.devlink_port.DevlinkPortExact.TheImpl.Laws.{
+      decides-law as devlink_exact,
+    };
     ghost use Rattle.link_nest.specs.contracts.dpll_pin.DpllPinExact.TheImpl.Laws.{decides-law as dpll_exact};
-    ghost use Rattle.link_afspec.specs.contracts.proto_bridge.LinkProtoInfoBridgeExact.TheImpl.Laws.{decides-law as proto_bridge_exact};
-    ghost use Rattle.link_afspec.specs.contracts.proto_inet6.LinkProtoInfoInet6Exact.TheImpl.Laws.{decides-law as proto_inet6_exact};
+    ghost use Rattle.link_afspec.specs.contracts.proto_bridge.LinkProtoInfoBridgeExact.TheImpl.Laws.{
+      decides-law as proto_bridge_exact,
+    };
+    ghost use Rattle.link_afspec.specs.contracts.proto_inet6.LinkProtoInfoInet6Exact.TheImpl.Laws.{
+      decides-law as proto_inet6_exact,
+    };
     ghost use Rattle.link_afspec.specs.contracts.bridge.AfSpecBridgeExact.TheImpl.Laws.{decides-law as af_bridge_exact};
     ghost use Rattle.link_afspec.specs.contracts.unspec.AfSpecUnspecExact.TheImpl.Laws.{decides-law as af_unspec_exact};
     ghost use Rattle.link_vals.specs.contracts.link_state.StateExact.TheImpl.Laws.{decides-law as state_exact};
@@ -655,7 +663,9 @@ impl Exact for LinkAttribute {
     ghost use Rattle.link_vals.specs.contracts.phys_id.LinkPhysIdExact.TheImpl.Laws.{decides-law as phys_id_exact};
     ghost use Rattle.link_recs.specs.contracts.map.MapExact.TheImpl.Laws.{decides-law as map_exact};
     ghost use Rattle.link_nest.specs.contracts.wireless.WirelessEventExact.TheImpl.Laws.{decides-law as wireless_exact};
-    ghost use Rattle.link_vals.specs.contracts.ext_mask.LinkExtentMaskExact.TheImpl.Laws.{decides-law as ext_mask_exact};
+    ghost use Rattle.link_vals.specs.contracts.ext_mask.LinkExtentMaskExact.TheImpl.Laws.{
+      decides-law as ext_mask_exact,
+    };
     ghost use Rattle.link_msg.specs.contracts.attribute.LinkAttribute.{enum};
 
     ghost decides = { by_exact enum _ (

@@ -121,9 +121,13 @@ fn measure(input: &[u8]) -> Result<(LinkHeader, &[u8], usize, usize), CanonError
 /// Writes the canonical text of a message that was measured to the front of the buffer, and returns its length.
 fn write_message(header: &LinkHeader, rest: &[u8], run: usize, out: &mut [u8]) -> usize
     requires begins { IsRun header.now.interface_family rest.now run }
-    requires measured { HasRoom (canons attribute_frame) (AllFit AttributeFits attribute_frame) ((list (attribute_place header.now.interface_family)).reads rest.now) (length out.old - header_size) }
+    requires measured { HasRoom (canons attribute_frame) (AllFit AttributeFits attribute_frame)
+        ((list (attribute_place header.now.interface_family)).reads rest.now)
+        (length out.old - header_size) }
     requires long { header_size ≤ length out.old }
-    ensures { Rewrites (λ vs. header_bytes header.now ++ canons attribute_frame vs) ((list (attribute_place header.now.interface_family)).reads rest.now) out.old out.new result }
+    ensures { Rewrites (λ vs. header_bytes header.now ++ canons attribute_frame vs)
+        ((list (attribute_place header.now.interface_family)).reads rest.now) out.old
+        out.new result }
 {
     header.emit(out);
     let attributes = &mut out[HEADER_SIZE..];

@@ -25,8 +25,10 @@ fn at_most_value(len: usize) -> Option<usize>
 /// Writes the attribute of this kind with the text of an event.
 fn write_event(kind: u16, event: &WirelessEvent, buffer: &mut [u8]) -> usize
     requires fits { WirelessFits event.now }
-    requires room { length (canon (record { kind = kind; payload = wireless_text event.now })) ≤ length buffer.old }
-    ensures { Writes (canon (record { kind = kind; payload = wireless_text event.now })) buffer.old buffer.new result }
+    requires room { length (canon (record { kind = kind; payload = wireless_text event.now }))
+        ≤ length buffer.old }
+    ensures { Writes (canon (record { kind = kind; payload = wireless_text event.now })) buffer.old
+        buffer.new result }
 {
     let len = event.buffer_len();
     event.emit(&mut buffer[NLA_HEADER_SIZE..NLA_HEADER_SIZE + len]);
@@ -38,7 +40,8 @@ impl Content<'_> {
     #[inline(always)]
     #[tactic(auto, using(link_recs::proofs::StatsLemmas::length_stats_bytes, link_recs::proofs::Stats64Lemmas::length_stats64_bytes, link_recs::proofs::MapLemmas::length_map_bytes))]
     pub(crate) fn measure(&self) -> Option<usize>
-        ensures { Measures ((length (content_text self.now) ≤ most_payload) × ContentFits self.now) (length (content_text self.now)) result }
+        ensures { Measures ((length (content_text self.now) ≤ most_payload) × ContentFits self.now)
+            (length (content_text self.now)) result }
     {
         match self {
             Content::Flat(flat) => at_most_value(flat.len()),
@@ -73,8 +76,10 @@ impl Content<'_> {
     pub(crate) fn write(&self, kind: u16, buffer: &mut [u8]) -> usize
         requires small { length (content_text self.now) ≤ most_payload }
         requires inside { ContentFits self.now }
-        requires room { length (canon (record { kind = kind; payload = content_text self.now })) ≤ length buffer.old }
-        ensures { Writes (canon (record { kind = kind; payload = content_text self.now })) buffer.old buffer.new result }
+        requires room { length (canon (record { kind = kind; payload = content_text self.now }))
+            ≤ length buffer.old }
+        ensures { Writes (canon (record { kind = kind; payload = content_text self.now }))
+            buffer.old buffer.new result }
     {
         match self {
             Content::Flat(flat) => flat.write(kind, buffer),

@@ -26,8 +26,12 @@ pub struct LinkHeader {
 pub const HEADER_SIZE: usize = 16;
 
 impl Exact for LinkHeader {
-    ghost use Rattle.link_vals.specs.contracts.address_family.AddressFamilyExact.TheImpl.Laws.{decides-law as family_exact};
-    ghost use Rattle.link_vals.specs.contracts.link_layer_type.LinkLayerTypeExact.TheImpl.Laws.{decides-law as layer_exact};
+    ghost use Rattle.link_vals.specs.contracts.address_family.AddressFamilyExact.TheImpl.Laws.{
+      decides-law as family_exact,
+    };
+    ghost use Rattle.link_vals.specs.contracts.link_layer_type.LinkLayerTypeExact.TheImpl.Laws.{
+      decides-law as layer_exact,
+    };
     ghost use Rattle.link_vals.specs.contracts.link_flags.LinkFlagsExact.TheImpl.Laws.{decides-law as flags_exact};
     ghost use Rattle.link_msg.specs.HeaderExact.{header_decides};
 
@@ -49,7 +53,8 @@ impl LinkHeader {
     #[tactic(auto, unfolding(crate::specs::Header::header_of))]
     #[inline(always)]
     pub fn parse(bytes: &[u8]) -> Result<LinkHeader, DecodeError>
-        ensures { MatchResult result (λ v. (header_size ≤ length bytes.now) × (v ≡ header_of bytes.now)) (IsShort bytes.now header_size) }
+        ensures { MatchResult result (λ v. (header_size ≤ length bytes.now)
+            × (v ≡ header_of bytes.now)) (IsShort bytes.now header_size) }
     {
         if bytes.len() < HEADER_SIZE {
             return Err(no_header(bytes));
@@ -131,7 +136,10 @@ impl LinkMessageBuffer {
 
     /// The first 16 bytes as they are, and the rest of the slice, or `TooShort`.
     pub fn read_from_prefix(bytes: &[u8]) -> Result<(LinkMessageBuffer, &[u8]), DecodeError>
-        ensures { MatchResult result (λ v. (link_message_buffer_bytes v.0 ≡ take header_size bytes.now) × (header_size ≤ length bytes.now) × (v.1.now ≡ drop header_size bytes.now)) (IsShort bytes.now header_size) }
+        ensures { MatchResult result
+            (λ v. (link_message_buffer_bytes v.0 ≡ take header_size bytes.now)
+            × (header_size ≤ length bytes.now) × (v.1.now ≡ drop header_size bytes.now))
+            (IsShort bytes.now header_size) }
     {
         if bytes.len() < HEADER_SIZE {
             return Err(no_header(bytes));

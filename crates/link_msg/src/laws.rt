@@ -73,10 +73,12 @@ pub fn law_exact_room(input: &[u8], len: usize)
     ensures { HoldsText input.now len }
 {}
 
-/// `growth_per_byte` bytes of buffer for each byte of an attribute's header and payload are room for its canonical text.
+/// `growth_per_byte` bytes of buffer for each byte of an attribute's header and payload are room for its canonical
+/// text.
 pub fn law_attribute_room(buffer: &NlaBuffer<'_>, family: AddressFamily)
     ensures { RoomWhereFit (λ v. canon (attribute_frame v)) AttributeFits
-        ((attribute_place family).reads buffer.now) (growth_per_byte * (4 + length buffer.now.payload)) }
+        ((attribute_place family).reads buffer.now)
+        (growth_per_byte * (4 + length buffer.now.payload)) }
 {
     law_place_room(&AttributePlace { family }, buffer);
 }
@@ -106,20 +108,30 @@ pub fn law_joined()
 /// settings and statistics of AF_INET and AF_INET6. Of a payload that is longer than the
 /// record only the front counts.
 pub fn law_short_records()
-    ensures stats_zeros { (family : AddressFamily) → ZerosAdded (attribute_place family).means IFLA_STATS }
-    ensures stats_longer { (family : AddressFamily) → LongerIgnored (attribute_place family).means IFLA_STATS stats_size }
-    ensures stats64_zeros { (family : AddressFamily) → ZerosAdded (attribute_place family).means IFLA_STATS64 }
-    ensures stats64_longer { (family : AddressFamily) → LongerIgnored (attribute_place family).means IFLA_STATS64 stats64_size }
-    ensures map_longer { (family : AddressFamily) → LongerIgnored (attribute_place family).means IFLA_MAP map_size }
+    ensures stats_zeros { (family : AddressFamily)
+        → ZerosAdded (attribute_place family).means IFLA_STATS }
+    ensures stats_longer { (family : AddressFamily)
+        → LongerIgnored (attribute_place family).means IFLA_STATS stats_size }
+    ensures stats64_zeros { (family : AddressFamily)
+        → ZerosAdded (attribute_place family).means IFLA_STATS64 }
+    ensures stats64_longer { (family : AddressFamily)
+        → LongerIgnored (attribute_place family).means IFLA_STATS64 stats64_size }
+    ensures map_longer { (family : AddressFamily)
+        → LongerIgnored (attribute_place family).means IFLA_MAP map_size }
     ensures inet_zeros { ZerosAdded af_spec_inet_place.grammar.means IFLA_INET_CONF }
-    ensures inet_longer { LongerIgnored af_spec_inet_place.grammar.means IFLA_INET_CONF inet_dev_conf_size }
+    ensures inet_longer { LongerIgnored af_spec_inet_place.grammar.means IFLA_INET_CONF
+        inet_dev_conf_size }
     ensures inet6_zeros { ZerosAdded af_spec_inet6_place.grammar.means IFLA_INET6_CONF }
-    ensures inet6_longer { LongerIgnored af_spec_inet6_place.grammar.means IFLA_INET6_CONF inet6_dev_conf_size }
+    ensures inet6_longer { LongerIgnored af_spec_inet6_place.grammar.means IFLA_INET6_CONF
+        inet6_dev_conf_size }
     ensures inet6_stats_zeros { ZerosAdded af_spec_inet6_place.grammar.means IFLA_INET6_STATS }
-    ensures inet6_stats_longer { LongerIgnored af_spec_inet6_place.grammar.means IFLA_INET6_STATS inet6_stats_size }
-    ensures cache_longer { LongerIgnored af_spec_inet6_place.grammar.means IFLA_INET6_CACHEINFO inet6_cache_info_size }
+    ensures inet6_stats_longer { LongerIgnored af_spec_inet6_place.grammar.means IFLA_INET6_STATS
+        inet6_stats_size }
+    ensures cache_longer { LongerIgnored af_spec_inet6_place.grammar.means IFLA_INET6_CACHEINFO
+        inet6_cache_info_size }
     ensures icmp_zeros { ZerosAdded af_spec_inet6_place.grammar.means IFLA_INET6_ICMP6STATS }
-    ensures icmp_longer { LongerIgnored af_spec_inet6_place.grammar.means IFLA_INET6_ICMP6STATS icmp6_stats_size }
+    ensures icmp_longer { LongerIgnored af_spec_inet6_place.grammar.means IFLA_INET6_ICMP6STATS
+        icmp6_stats_size }
 {
     link_afspec::laws::law_short_records();
 }
@@ -130,7 +142,8 @@ pub fn law_layer_types()
     ensures named { IsNamedBack layer_type_of layer_type_number }
     ensures unlisted { GivesUnlisted layer_type_of layer_type_number layer_type_listed Void }
     ensures protocols { IsNamedBack vlan_protocol_of vlan_protocol_number }
-    ensures others { GivesUnlisted vlan_protocol_of vlan_protocol_number vlan_protocol_listed Ieee8021Q }
+    ensures others { GivesUnlisted vlan_protocol_of vlan_protocol_number
+        vlan_protocol_listed Ieee8021Q }
 {
     link_vals::laws::layer_types_read_back();
     link_vals::laws::vlan_protocols_read_back();

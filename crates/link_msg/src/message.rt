@@ -31,7 +31,9 @@ const OUTERMOST: &str = "message";
 /// The header, and the bytes after it.
 #[inline(always)]
 pub(crate) fn split_header(input: &[u8]) -> Result<(LinkHeader, &[u8]), DecodeError>
-    ensures { MatchResult result (λ v. (header_size ≤ length input.now) × (v.0 ≡ header_of (take header_size input.now)) × (v.1.now ≡ drop header_size input.now)) (IsShort input.now header_size) }
+    ensures { MatchResult result
+        (λ v. (header_size ≤ length input.now) × (v.0 ≡ header_of (take header_size input.now))
+        × (v.1.now ≡ drop header_size input.now)) (IsShort input.now header_size) }
 {
     if input.len() < HEADER_SIZE {
         return Err(no_header(input));
@@ -147,7 +149,8 @@ impl LinkMessage {
     pub fn emit(&self, buffer: &mut [u8])
         requires fits { MessageFits self.now }
         requires room { length (message_text self.now) ≤ length buffer.old }
-        ensures { buffer.new ≡ message_text self.now ++ drop (length (message_text self.now)) buffer.old }
+        ensures { buffer.new
+            ≡ message_text self.now ++ drop (length (message_text self.now)) buffer.old }
     {
         self.header.emit(buffer);
         let _len = nlas_write(self.attributes.as_slice(), &mut buffer[HEADER_SIZE..]);
@@ -177,7 +180,9 @@ impl CloneIn for LinkMessage {
 
 impl Exact for LinkMessage {
     ghost use Rattle.nla_wire.specs.Decided.{list_exact};
-    ghost use Rattle.link_msg.specs.contracts.attribute.LinkAttributeExact.TheImpl.Laws.{decides-law as attribute_exact};
+    ghost use Rattle.link_msg.specs.contracts.attribute.LinkAttributeExact.TheImpl.Laws.{
+      decides-law as attribute_exact,
+    };
     ghost use Rattle.link_msg.specs.contracts.header.LinkHeaderExact.TheImpl.Laws.{decides-law as header_exact};
     ghost use Rattle.link_msg.specs.MessageExact.{message_decides};
 

@@ -63,7 +63,10 @@ pub(crate) fn check_ports(payload: &[u8]) -> Result<(), DecodeError>
 
 /// The length of the text of ports of virtual functions: `None` where it does not fit or the payload is refused.
 pub(crate) fn measure_ports(payload: &[u8]) -> Option<usize>
-    ensures { Weighs (canons link_vf_port_place.frame) (λ vs. (length (canons link_vf_port_place.frame vs) ≤ most_payload) × AllFit link_vf_port_place.Fits link_vf_port_place.frame vs) ((not_empty vf_port_list.grammar).reads payload.now) result }
+    ensures { Weighs (canons link_vf_port_place.frame)
+        (λ vs. (length (canons link_vf_port_place.frame vs) ≤ most_payload)
+        × AllFit link_vf_port_place.Fits link_vf_port_place.frame vs)
+        ((not_empty vf_port_list.grammar).reads payload.now) result }
 {
     if payload.is_empty() {
         return None;
@@ -73,8 +76,14 @@ pub(crate) fn measure_ports(payload: &[u8]) -> Option<usize>
 
 /// Writes the attribute of ports of virtual functions that were measured.
 pub(crate) fn write_ports(kind: u16, payload: &[u8], out: &mut [u8]) -> usize
-    requires { HasRoom (λ vs. canon (record { kind = kind; payload = canons link_vf_port_place.frame vs })) (λ vs. (length (canons link_vf_port_place.frame vs) ≤ most_payload) × AllFit link_vf_port_place.Fits link_vf_port_place.frame vs) ((not_empty vf_port_list.grammar).reads payload.now) (length out.old) }
-    ensures { Rewrites (λ vs. canon (record { kind = kind; payload = canons link_vf_port_place.frame vs })) ((not_empty vf_port_list.grammar).reads payload.now) out.old out.new result }
+    requires { HasRoom
+        (λ vs. canon (record { kind = kind; payload = canons link_vf_port_place.frame vs }))
+        (λ vs. (length (canons link_vf_port_place.frame vs) ≤ most_payload)
+        × AllFit link_vf_port_place.Fits link_vf_port_place.frame vs)
+        ((not_empty vf_port_list.grammar).reads payload.now) (length out.old) }
+    ensures { Rewrites
+        (λ vs. canon (record { kind = kind; payload = canons link_vf_port_place.frame vs }))
+        ((not_empty vf_port_list.grammar).reads payload.now) out.old out.new result }
 {
     LinkVfPort::write_list(kind, payload, out)
 }

@@ -60,9 +60,12 @@ pub(crate) fn write_members_after<V: Nla + Drop, P: Place<V>>(
     bytes: &[u8],
     out: &mut [u8],
 ) -> usize
-    requires begins { BeginsCanonical (P.grammar place.now).reads (λ v. canon (V.frame v)) bytes.now run }
-    requires room { HasRoom (canons V.frame) (AllFit V.fits V.frame) ((list (P.grammar place.now)).reads bytes.now) (length out.old) }
-    ensures { Rewrites (canons V.frame) ((list (P.grammar place.now)).reads bytes.now) out.old out.new result }
+    requires begins { BeginsCanonical (P.grammar place.now).reads
+        (λ v. canon (V.frame v)) bytes.now run }
+    requires room { HasRoom (canons V.frame) (AllFit V.fits V.frame)
+        ((list (P.grammar place.now)).reads bytes.now) (length out.old) }
+    ensures { Rewrites (canons V.frame)
+        ((list (P.grammar place.now)).reads bytes.now) out.old out.new result }
 {
     out[..run].copy_from_slice(&bytes[..run]);
     run + write_members(place, &bytes[run..], &mut out[run..])

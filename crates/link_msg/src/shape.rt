@@ -370,8 +370,10 @@ impl Shape {
     #[inline(always)]
     pub(crate) fn write(self, number: u16, payload: &[u8], out: &mut [u8]) -> usize
         requires number { number < 2 ^ 14 }
-        requires room { ShapeRoom base self (kind_of (base self).flags number) payload.now (length out.old) }
-        ensures { ShapeWrites base self (kind_of (base self).flags number) payload.now out.old out.new result }
+        requires room { ShapeRoom base self (kind_of (base self).flags number) payload.now
+            (length out.old) }
+        ensures { ShapeWrites base self
+            (kind_of (base self).flags number) payload.now out.old out.new result }
     {
         match self {
             Shape::Bytes => write_value(number, payload, out),

@@ -138,8 +138,10 @@ impl LinkAttribute {
         family: AddressFamily,
     ) -> Result<LinkAttribute, DecodeError>
         ensures found { IfOk result ((attribute_place family).means buffer.now) }
-        ensures fault { IfErr result (λ e. e.cause ≢ OutOfMemory → (attribute_place family).bad buffer.now e.cause) }
-        ensures refused { IfErr result (λ e. e.cause ≢ OutOfMemory → (v : LinkAttribute) → (attribute_place family).means buffer.now v → ⊥) }
+        ensures fault { IfErr result
+            (λ e. e.cause ≢ OutOfMemory → (attribute_place family).bad buffer.now e.cause) }
+        ensures refused { IfErr result (λ e. e.cause ≢ OutOfMemory → (v : LinkAttribute)
+            → (attribute_place family).means buffer.now v → ⊥) }
         ensures reads { Gives result ((attribute_place family).reads buffer.now) }
     {
         buffer.is_frame();
@@ -157,7 +159,8 @@ impl LinkAttribute {
         values: &mut Vec<LinkAttribute>,
     ) -> Result<(), DecodeError>
         requires { vec_len values.old < vec_capacity values.old }
-        ensures { Adds result ((attribute_place family).reads buffer.now) values.old.items values.new.items }
+        ensures { Adds result
+            ((attribute_place family).reads buffer.now) values.old.items values.new.items }
     {
         let payload = buffer.value();
         match buffer.kind() {
@@ -321,8 +324,8 @@ impl LinkAttribute {
         }
     }
 
-    /// Reads a frame whose number `read_into` does not read by itself: bytes and texts are read here, since a function's
-    /// room on the stack is cleared for all of its arms when it is entered.
+    /// Reads a frame whose number `read_into` does not read by itself: bytes and texts are read here, since a
+    /// function's room on the stack is cleared for all of its arms when it is entered.
     #[inline(never)]
     #[tactic(auto, unfolding(crate::specs::Tables::attribute_view, crate::specs::Tables::attribute_entries, crate::specs::Tables::attribute_place))]
     fn read_other_into(
@@ -333,7 +336,8 @@ impl LinkAttribute {
     ) -> Result<(), DecodeError>
         requires room { vec_len values.old < vec_capacity values.old }
         requires other { NotPlain (number buffer.now) }
-        ensures { Adds result ((attribute_place family).reads buffer.now) values.old.items values.new.items }
+        ensures { Adds result
+            ((attribute_place family).reads buffer.now) values.old.items values.new.items }
     {
         let payload = buffer.value();
         match buffer.kind() {
@@ -394,7 +398,8 @@ impl LinkAttribute {
         requires room { vec_len values.old < vec_capacity values.old }
         requires other { NotPlain (number buffer.now) }
         requires nested { NotText (number buffer.now) }
-        ensures { Adds result ((attribute_place family).reads buffer.now) values.old.items values.new.items }
+        ensures { Adds result
+            ((attribute_place family).reads buffer.now) values.old.items values.new.items }
     {
         let payload = buffer.value();
         match buffer.kind() {
@@ -495,9 +500,11 @@ impl LinkAttribute {
         buffer: &NlaBuffer<'_>,
         family: AddressFamily,
     ) -> Result<(), DecodeError>
-        ensures found { IfOk result (λ _. (v : LinkAttribute) × (attribute_place family).means buffer.now v) }
+        ensures found { IfOk result
+            (λ _. (v : LinkAttribute) × (attribute_place family).means buffer.now v) }
         ensures fault { IfErr result (λ e. (attribute_place family).bad buffer.now e.cause) }
-        ensures refused { IfErr result (λ e. (v : LinkAttribute) → (attribute_place family).means buffer.now v → ⊥) }
+        ensures refused { IfErr result
+            (λ e. (v : LinkAttribute) → (attribute_place family).means buffer.now v → ⊥) }
         ensures memory { IfErr result (λ e. e.cause ≢ OutOfMemory) }
         ensures reads { Checks result ((attribute_place family).reads buffer.now) }
     {
@@ -521,7 +528,8 @@ impl LinkAttribute {
     /// memory; `None` where the value does not fit, or the frame is refused.
     #[inline(always)]
     fn measure_frame(buffer: &NlaBuffer<'_>, family: AddressFamily) -> Option<usize>
-        ensures { Weighs (λ v. (attribute_frame v).payload) AttributeFits ((attribute_place family).reads buffer.now) result }
+        ensures { Weighs (λ v. (attribute_frame v).payload) AttributeFits
+            ((attribute_place family).reads buffer.now) result }
     {
         buffer.is_frame();
         let payload = buffer.value();
@@ -553,8 +561,10 @@ impl LinkAttribute {
     /// header and padding.
     #[inline(always)]
     fn write_frame(buffer: &NlaBuffer<'_>, family: AddressFamily, out: &mut [u8]) -> usize
-        requires { HasRoom (λ v. canon (attribute_frame v)) AttributeFits ((attribute_place family).reads buffer.now) (length out.old) }
-        ensures { Rewrites (λ v. canon (attribute_frame v)) ((attribute_place family).reads buffer.now) out.old out.new result }
+        requires { HasRoom (λ v. canon (attribute_frame v)) AttributeFits
+            ((attribute_place family).reads buffer.now) (length out.old) }
+        ensures { Rewrites (λ v. canon (attribute_frame v))
+            ((attribute_place family).reads buffer.now) out.old out.new result }
     {
         buffer.is_frame();
         let payload = buffer.value();
@@ -574,8 +584,10 @@ impl LinkAttribute {
         family: AddressFamily,
         out: &mut [u8],
     ) -> Option<usize>
-        requires room { RoomWhereFit (λ v. canon (attribute_frame v)) AttributeFits ((attribute_place family).reads buffer.now) (length out.old) }
-        ensures { Canonical (λ v. canon (attribute_frame v)) AttributeFits ((attribute_place family).reads buffer.now) out.old out.new result }
+        requires room { RoomWhereFit (λ v. canon (attribute_frame v)) AttributeFits
+            ((attribute_place family).reads buffer.now) (length out.old) }
+        ensures { Canonical (λ v. canon (attribute_frame v)) AttributeFits
+            ((attribute_place family).reads buffer.now) out.old out.new result }
     {
         let Some(_len) = LinkAttribute::measure_frame(buffer, family) else {
             return None;
@@ -593,9 +605,12 @@ impl LinkAttribute {
         family: AddressFamily,
     ) -> Result<Vec<LinkAttribute>, DecodeError>
         ensures found { IfOk result (λ v. (list (attribute_place family)).means bytes.now v.items) }
-        ensures fault { IfErr result (λ e. e.cause ≢ OutOfMemory → (list (attribute_place family)).bad bytes.now e.cause) }
-        ensures refused { IfErr result (λ e. e.cause ≢ OutOfMemory → (vs : Values) → (list (attribute_place family)).means bytes.now vs → ⊥) }
-        ensures reads { MatchResult result (λ v. (list (attribute_place family)).reads bytes.now ≡ Ok v.items) (λ e. Fails e.cause ((list (attribute_place family)).reads bytes.now)) }
+        ensures fault { IfErr result
+            (λ e. e.cause ≢ OutOfMemory → (list (attribute_place family)).bad bytes.now e.cause) }
+        ensures refused { IfErr result (λ e. e.cause ≢ OutOfMemory → (vs : Values)
+            → (list (attribute_place family)).means bytes.now vs → ⊥) }
+        ensures reads { MatchResult result (λ v. (list (attribute_place family)).reads bytes.now
+            ≡ Ok v.items) (λ e. Fails e.cause ((list (attribute_place family)).reads bytes.now)) }
         ensures few { IfOk result (λ v. 4 * length v.items ≤ length bytes.now) }
     {
         parse_members(&AttributePlace { family }, alloc, bytes)
@@ -604,9 +619,11 @@ impl LinkAttribute {
     /// Whether the bytes are a list of attributes under the header's family, and the first fault if not. It takes no
     /// memory.
     pub fn check_list_with_param(bytes: &[u8], family: AddressFamily) -> Result<(), DecodeError>
-        ensures found { IfOk result (λ _. (vs : Values) × (list (attribute_place family)).means bytes.now vs) }
+        ensures found { IfOk result
+            (λ _. (vs : Values) × (list (attribute_place family)).means bytes.now vs) }
         ensures fault { IfErr result (λ e. (list (attribute_place family)).bad bytes.now e.cause) }
-        ensures refused { IfErr result (λ e. (vs : Values) → (list (attribute_place family)).means bytes.now vs → ⊥) }
+        ensures refused { IfErr result
+            (λ e. (vs : Values) → (list (attribute_place family)).means bytes.now vs → ⊥) }
         ensures memory { IfErr result (λ e. e.cause ≢ OutOfMemory) }
         ensures reads { Checks result ((list (attribute_place family)).reads bytes.now) }
     {
@@ -623,8 +640,10 @@ impl LinkAttribute {
         family: AddressFamily,
         out: &mut [u8],
     ) -> Option<usize>
-        requires room { RoomWhereFit (canons attribute_frame) (AllFit AttributeFits attribute_frame) ((list (attribute_place family)).reads bytes.now) (length out.old) }
-        ensures { Canonical (canons attribute_frame) (AllFit AttributeFits attribute_frame) ((list (attribute_place family)).reads bytes.now) out.old out.new result }
+        requires room { RoomWhereFit (canons attribute_frame) (AllFit AttributeFits attribute_frame)
+            ((list (attribute_place family)).reads bytes.now) (length out.old) }
+        ensures { Canonical (canons attribute_frame) (AllFit AttributeFits attribute_frame)
+            ((list (attribute_place family)).reads bytes.now) out.old out.new result }
     {
         let Some(_len) = measure_members(&AttributePlace { family }, bytes) else {
             return None;
@@ -674,8 +693,10 @@ impl LinkAttribute {
         out: &mut [u8],
     ) -> usize
         requires begins { IsRun family bytes.now run }
-        requires room { HasRoom (canons attribute_frame) (AllFit AttributeFits attribute_frame) ((list (attribute_place family)).reads bytes.now) (length out.old) }
-        ensures { Rewrites (canons attribute_frame) ((list (attribute_place family)).reads bytes.now) out.old out.new result }
+        requires room { HasRoom (canons attribute_frame) (AllFit AttributeFits attribute_frame)
+            ((list (attribute_place family)).reads bytes.now) (length out.old) }
+        ensures { Rewrites (canons attribute_frame)
+            ((list (attribute_place family)).reads bytes.now) out.old out.new result }
     {
         write_members_after(&AttributePlace { family }, run, bytes, out)
     }

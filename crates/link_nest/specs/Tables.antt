@@ -65,7 +65,8 @@ devlink_port_table =
 unfoldable pub devlink_port_place : Place DevlinkPort
 devlink_port_place = place no_shapes ports plain_growth 0 inner_small devlink_port_table port.Other (λ f. refl) tt tt tt
 
-pub devlink_port_small : (v : DevlinkPort) → length (devlink_port_place.frame v).payload ≤ most_payload → devlink_port_place.Fits v
+pub devlink_port_small : (v : DevlinkPort) → length (devlink_port_place.frame v).payload ≤ most_payload
+    → devlink_port_place.Fits v
 unfolding devlink_port_place
 devlink_port_small = devlink_port_place.when_small tt
 
@@ -92,9 +93,11 @@ down_reason_table =
     & tt
 
 unfoldable pub down_reason_place : Place LinkProtocolDownReason
-down_reason_place = place no_shapes reasons plain_growth 0 inner_small down_reason_table reason.Other (λ f. refl) tt tt tt
+down_reason_place =
+    place no_shapes reasons plain_growth 0 inner_small down_reason_table reason.Other (λ f. refl) tt tt tt
 
-pub down_reason_small : (v : LinkProtocolDownReason) → length (down_reason_place.frame v).payload ≤ most_payload → down_reason_place.Fits v
+pub down_reason_small : (v : LinkProtocolDownReason) → length (down_reason_place.frame v).payload ≤ most_payload
+    → down_reason_place.Fits v
 unfolding down_reason_place
 down_reason_small = down_reason_place.when_small tt
 

@@ -46,7 +46,8 @@ WirelessFits v = length (wireless_text v) ≤ most_payload
 
 -- an event that some payload means is what its text means
 abbrev pub EventsReadBack : Type 0
-EventsReadBack = (p : List ℕ) (v : WirelessEvent) → IsBytes p → wireless_event.means p v → wireless_event.means (wireless_text v) v
+EventsReadBack = (p : List ℕ) (v : WirelessEvent) → IsBytes p → wireless_event.means p v
+    → wireless_event.means (wireless_text v) v
 
 -- and its text is as long as the payload
 abbrev pub EventsKeepLength : Type 0

@@ -16,12 +16,15 @@ use Rattle.link_nest.specs.declared.wireless.WirelessEvent.TheVariants.{Associat
 
 -- the event, by what its command is
 abbrev event_by : Bool → Bool → List ℕ → WirelessEvent
-event_by request response p = if request then AssociateRequest (drop 8 p) else if response then AssociateResponse (drop 8 p) else Other p
+event_by request response p =
+    if request then AssociateRequest (drop 8 p) else if response then AssociateResponse (drop 8 p) else Other p
 
 -- the command is read again from the text
-event_again : (command : ℕ) (x : List ℕ) → command < 2 ^ 16 → wireless_of (event_text command x) ≡ event_of command (event_text command x)
+event_again : (command : ℕ) (x : List ℕ) → command < 2 ^ 16
+    → wireless_of (event_text command x) ≡ event_of command (event_text command x)
 event_again command x h =
-    ap (λ c. event_of c (event_text command x)) (number_again_between w16 (to_le_bytes w16 (8 + length x)) command (0 ∷ 0 ∷ 0 ∷ 0 ∷ x) 2 h refl)
+    ap (λ c. event_of c (event_text command x))
+    (number_again_between w16 (to_le_bytes w16 (8 + length x)) command (0 ∷ 0 ∷ 0 ∷ 0 ∷ x) 2 h refl)
 
 read_again : (request response : Bool) (p : List ℕ) → event_by request response p ≡ wireless_of p
     → event_by request response p ≡ wireless_of (wireless_text (event_by request response p))
@@ -29,7 +32,8 @@ read_again true response p is = sym (event_again IWEVASSOCREQIE (drop 8 p) (lit<
 read_again false true p is = sym (event_again IWEVASSOCRESPIE (drop 8 p) (lit< tt))
 read_again false false p is = is
 
-same_length : (request response : Bool) (p : List ℕ) → 8 ≤ length p → length (wireless_text (event_by request response p)) ≡ length p
+same_length : (request response : Bool) (p : List ℕ) → 8 ≤ length p
+    → length (wireless_text (event_by request response p)) ≡ length p
 same_length true response p long = omega (arith, length-drop 8 p)
 same_length false true p long = omega (arith, length-drop 8 p)
 same_length false false p long = refl
@@ -45,7 +49,8 @@ wireless_again p v means =
     subst (λ w. w ≡ wireless_of (wireless_text w)) (sym means.1)
     (read_again (number_at w16 p 2 == IWEVASSOCREQIE) (number_at w16 p 2 == IWEVASSOCRESPIE) p refl)
 
-pub wireless_lawful : (n : ℕ) → n ≤ most_payload → LawfulPayload wireless_event wireless_text always always none plain_growth 0 n
+pub wireless_lawful : (n : ℕ) → n ≤ most_payload
+    → LawfulPayload wireless_event wireless_text always always none plain_growth 0 n
 wireless_lawful n enough = record {
   agrees = sized_agrees 8 wireless_of;
   no_memory = memory_sized 8 wireless_of;

@@ -74,7 +74,8 @@ impl WirelessEvent {
     #[tactic(auto, unfolding(nla_wire::specs::Payloads::read_sized))]
     pub fn parse(alloc: Global, payload: &[u8]) -> Result<WirelessEvent, DecodeError>
         ensures means { IfOk result (wireless_event.means payload.now) }
-        ensures refused { IfErr result (λ e. (e.cause ≡ OutOfMemory) ⊎ wireless_event.bad payload.now e.cause) }
+        ensures refused { IfErr result
+            (λ e. (e.cause ≡ OutOfMemory) ⊎ wireless_event.bad payload.now e.cause) }
         ensures reads { Gives result (wireless_event.reads payload.now) }
     {
         if payload.len() < HEADER_LEN {
@@ -104,9 +105,11 @@ impl WirelessEvent {
 
     /// Whether a payload is an event, with no memory taken: `Ok` where `parse` reads it, else `TooShort`.
     pub fn check(payload: &[u8]) -> Result<(), DecodeError>
-        ensures found { IfOk result (λ _. (v : WirelessEvent) × wireless_event.means payload.now v) }
+        ensures found { IfOk result
+            (λ _. (v : WirelessEvent) × wireless_event.means payload.now v) }
         ensures fault { IfErr result (λ e. wireless_event.bad payload.now e.cause) }
-        ensures refused { IfErr result (λ e. (v : WirelessEvent) → wireless_event.means payload.now v → ⊥) }
+        ensures refused { IfErr result
+            (λ e. (v : WirelessEvent) → wireless_event.means payload.now v → ⊥) }
         ensures memory { IfErr result (λ e. e.cause ≢ OutOfMemory) }
         ensures reads { Checks result (wireless_event.reads payload.now) }
     {
@@ -129,7 +132,8 @@ impl WirelessEvent {
     /// its length. The rest of the buffer is kept.
     #[tactic(auto, unfolding(nla_wire::specs::Payloads::read_sized))]
     pub fn write(payload: &[u8], out: &mut [u8]) -> usize
-        requires { HasRoom wireless_text WirelessFits (wireless_event.reads payload.now) (length out.old) }
+        requires { HasRoom wireless_text WirelessFits (wireless_event.reads payload.now)
+            (length out.old) }
         ensures { Rewrites wireless_text (wireless_event.reads payload.now) out.old out.new result }
     {
         match u16_at(payload, 2) {
@@ -145,8 +149,10 @@ impl WirelessEvent {
     /// There is room for that text: as many bytes as the payload has are enough. Returns `None` where the text has more
     /// than 65531 bytes or the payload is refused, and changes nothing then.
     pub fn canon(payload: &[u8], out: &mut [u8]) -> Option<usize>
-        requires room { RoomWhereFit wireless_text WirelessFits (wireless_event.reads payload.now) (length out.old) }
-        ensures { Canonical wireless_text WirelessFits (wireless_event.reads payload.now) out.old out.new result }
+        requires room { RoomWhereFit wireless_text WirelessFits (wireless_event.reads payload.now)
+            (length out.old) }
+        ensures { Canonical wireless_text WirelessFits
+            (wireless_event.reads payload.now) out.old out.new result }
     {
         let Some(_len) = WirelessEvent::measure(payload) else {
             return None;

@@ -66,9 +66,12 @@ pub icmp6_stats_table : (p : List ℕ) → icmp6_stats_fields (icmp6_stats_of p)
 unfolding icmp6_stats_fields icmp6_stats_of
 icmp6_stats_table p = refl
 
-pub icmp6_stats_decides : (v w : Icmp6Stats) → Decides (each_same int_eq (icmp6_stats_members v) (icmp6_stats_members w)) (v ≡ w)
+pub icmp6_stats_decides : (v w : Icmp6Stats)
+    → Decides (each_same int_eq (icmp6_stats_members v) (icmp6_stats_members w)) (v ≡ w)
 icmp6_stats_decides v w = decides_by icmp6_stats_members icmp6_stats_listed int_eq signed_Decides (λ v. refl) v w refl
 
-pub icmp6_stats_laws : WordLaws (FitsSigned w64) (signed_from w64) ICMP6_STATS_COUNT icmp6_stats_size icmp6_stats_fields icmp6_stats_of icmp6_stats_bytes
+pub icmp6_stats_laws : WordLaws (FitsSigned w64)
+    (signed_from w64) ICMP6_STATS_COUNT icmp6_stats_size icmp6_stats_fields icmp6_stats_of icmp6_stats_bytes
 unfolding icmp6_stats_fields icmp6_stats_bytes
-icmp6_stats_laws = word_laws (signed_words w64 writes_again_8) ICMP6_STATS_COUNT icmp6_stats_listed icmp6_stats_fields icmp6_stats_of (λ p. sym (icmp6_stats_of_table p)) icmp6_stats_table (λ v. refl) (λ v. refl)
+icmp6_stats_laws = word_laws (signed_words w64 writes_again_8) ICMP6_STATS_COUNT icmp6_stats_listed icmp6_stats_fields
+    icmp6_stats_of (λ p. sym (icmp6_stats_of_table p)) icmp6_stats_table (λ v. refl) (λ v. refl)

@@ -52,17 +52,24 @@ inet6_cache_info_bytes v = le_all_signed w32 (inet6_cache_info_fields v)
 abbrev pub inet6_cache_info_listed : List ℤ → Inet6CacheInfo
 inet6_cache_info_listed xs = inet6_cache_info_by (λ i. slice_index_or xs i (pos 0))
 
-pub inet6_cache_info_of_table : (p : List ℕ) → inet6_cache_info_listed (signed_from w32 p 0 INET6_CACHE_INFO_COUNT) ≡ inet6_cache_info_of p
+pub inet6_cache_info_of_table : (p : List ℕ)
+    → inet6_cache_info_listed (signed_from w32 p 0 INET6_CACHE_INFO_COUNT) ≡ inet6_cache_info_of p
 unfolding inet6_cache_info_of
 inet6_cache_info_of_table p = refl
 
-pub inet6_cache_info_table : (p : List ℕ) → inet6_cache_info_fields (inet6_cache_info_of p) ≡ signed_from w32 p 0 INET6_CACHE_INFO_COUNT
+pub inet6_cache_info_table : (p : List ℕ)
+    → inet6_cache_info_fields (inet6_cache_info_of p) ≡ signed_from w32 p 0 INET6_CACHE_INFO_COUNT
 unfolding inet6_cache_info_fields inet6_cache_info_of
 inet6_cache_info_table p = refl
 
-pub inet6_cache_info_decides : (v w : Inet6CacheInfo) → Decides (each_same int_eq (inet6_cache_info_members v) (inet6_cache_info_members w)) (v ≡ w)
-inet6_cache_info_decides v w = decides_by inet6_cache_info_members inet6_cache_info_listed int_eq signed_Decides (λ v. refl) v w refl
+pub inet6_cache_info_decides : (v w : Inet6CacheInfo)
+    → Decides (each_same int_eq (inet6_cache_info_members v) (inet6_cache_info_members w)) (v ≡ w)
+inet6_cache_info_decides v w =
+    decides_by inet6_cache_info_members inet6_cache_info_listed int_eq signed_Decides (λ v. refl) v w refl
 
-pub inet6_cache_info_laws : WordLaws (FitsSigned w32) (signed_from w32) INET6_CACHE_INFO_COUNT inet6_cache_info_size inet6_cache_info_fields inet6_cache_info_of inet6_cache_info_bytes
+pub inet6_cache_info_laws : WordLaws (FitsSigned w32) (signed_from w32) INET6_CACHE_INFO_COUNT inet6_cache_info_size
+    inet6_cache_info_fields inet6_cache_info_of inet6_cache_info_bytes
 unfolding inet6_cache_info_fields inet6_cache_info_bytes
-inet6_cache_info_laws = word_laws (signed_words w32 writes_again_4) INET6_CACHE_INFO_COUNT inet6_cache_info_listed inet6_cache_info_fields inet6_cache_info_of (λ p. sym (inet6_cache_info_of_table p)) inet6_cache_info_table (λ v. refl) (λ v. refl)
+inet6_cache_info_laws =
+    word_laws (signed_words w32 writes_again_4) INET6_CACHE_INFO_COUNT inet6_cache_info_listed inet6_cache_info_fields
+    inet6_cache_info_of (λ p. sym (inet6_cache_info_of_table p)) inet6_cache_info_table (λ v. refl) (λ v. refl)

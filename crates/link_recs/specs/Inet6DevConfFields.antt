@@ -164,17 +164,24 @@ inet6_dev_conf_bytes v = le_all_signed w32 (inet6_dev_conf_fields v)
 abbrev pub inet6_dev_conf_listed : List ℤ → Inet6DevConf
 inet6_dev_conf_listed xs = inet6_dev_conf_by (λ i. slice_index_or xs i (pos 0))
 
-pub inet6_dev_conf_of_table : (p : List ℕ) → inet6_dev_conf_listed (signed_from w32 p 0 INET6_DEV_CONF_COUNT) ≡ inet6_dev_conf_of p
+pub inet6_dev_conf_of_table : (p : List ℕ)
+    → inet6_dev_conf_listed (signed_from w32 p 0 INET6_DEV_CONF_COUNT) ≡ inet6_dev_conf_of p
 unfolding inet6_dev_conf_of
 inet6_dev_conf_of_table p = refl
 
-pub inet6_dev_conf_table : (p : List ℕ) → inet6_dev_conf_fields (inet6_dev_conf_of p) ≡ signed_from w32 p 0 INET6_DEV_CONF_COUNT
+pub inet6_dev_conf_table : (p : List ℕ)
+    → inet6_dev_conf_fields (inet6_dev_conf_of p) ≡ signed_from w32 p 0 INET6_DEV_CONF_COUNT
 unfolding inet6_dev_conf_fields inet6_dev_conf_of
 inet6_dev_conf_table p = refl
 
-pub inet6_dev_conf_decides : (v w : Inet6DevConf) → Decides (each_same int_eq (inet6_dev_conf_members v) (inet6_dev_conf_members w)) (v ≡ w)
-inet6_dev_conf_decides v w = decides_by inet6_dev_conf_members inet6_dev_conf_listed int_eq signed_Decides (λ v. refl) v w refl
+pub inet6_dev_conf_decides : (v w : Inet6DevConf)
+    → Decides (each_same int_eq (inet6_dev_conf_members v) (inet6_dev_conf_members w)) (v ≡ w)
+inet6_dev_conf_decides v w =
+    decides_by inet6_dev_conf_members inet6_dev_conf_listed int_eq signed_Decides (λ v. refl) v w refl
 
-pub inet6_dev_conf_laws : WordLaws (FitsSigned w32) (signed_from w32) INET6_DEV_CONF_COUNT inet6_dev_conf_size inet6_dev_conf_fields inet6_dev_conf_of inet6_dev_conf_bytes
+pub inet6_dev_conf_laws : WordLaws (FitsSigned w32) (signed_from w32) INET6_DEV_CONF_COUNT inet6_dev_conf_size
+    inet6_dev_conf_fields inet6_dev_conf_of inet6_dev_conf_bytes
 unfolding inet6_dev_conf_fields inet6_dev_conf_bytes
-inet6_dev_conf_laws = word_laws (signed_words w32 writes_again_4) INET6_DEV_CONF_COUNT inet6_dev_conf_listed inet6_dev_conf_fields inet6_dev_conf_of (λ p. sym (inet6_dev_conf_of_table p)) inet6_dev_conf_table (λ v. refl) (λ v. refl)
+inet6_dev_conf_laws =
+    word_laws (signed_words w32 writes_again_4) INET6_DEV_CONF_COUNT inet6_dev_conf_listed inet6_dev_conf_fields
+    inet6_dev_conf_of (λ p. sym (inet6_dev_conf_of_table p)) inet6_dev_conf_table (λ v. refl) (λ v. refl)

@@ -130,9 +130,12 @@ pub inet6_stats_table : (p : List ℕ) → inet6_stats_fields (inet6_stats_of p)
 unfolding inet6_stats_fields inet6_stats_of
 inet6_stats_table p = refl
 
-pub inet6_stats_decides : (v w : Inet6Stats) → Decides (each_same int_eq (inet6_stats_members v) (inet6_stats_members w)) (v ≡ w)
+pub inet6_stats_decides : (v w : Inet6Stats)
+    → Decides (each_same int_eq (inet6_stats_members v) (inet6_stats_members w)) (v ≡ w)
 inet6_stats_decides v w = decides_by inet6_stats_members inet6_stats_listed int_eq signed_Decides (λ v. refl) v w refl
 
-pub inet6_stats_laws : WordLaws (FitsSigned w64) (signed_from w64) INET6_STATS_COUNT inet6_stats_size inet6_stats_fields inet6_stats_of inet6_stats_bytes
+pub inet6_stats_laws : WordLaws (FitsSigned w64)
+    (signed_from w64) INET6_STATS_COUNT inet6_stats_size inet6_stats_fields inet6_stats_of inet6_stats_bytes
 unfolding inet6_stats_fields inet6_stats_bytes
-inet6_stats_laws = word_laws (signed_words w64 writes_again_8) INET6_STATS_COUNT inet6_stats_listed inet6_stats_fields inet6_stats_of (λ p. sym (inet6_stats_of_table p)) inet6_stats_table (λ v. refl) (λ v. refl)
+inet6_stats_laws = word_laws (signed_words w64 writes_again_8) INET6_STATS_COUNT inet6_stats_listed inet6_stats_fields
+    inet6_stats_of (λ p. sym (inet6_stats_of_table p)) inet6_stats_table (λ v. refl) (λ v. refl)

@@ -112,17 +112,24 @@ inet_dev_conf_bytes v = le_all_signed w32 (inet_dev_conf_fields v)
 abbrev pub inet_dev_conf_listed : List ℤ → InetDevConf
 inet_dev_conf_listed xs = inet_dev_conf_by (λ i. slice_index_or xs i (pos 0))
 
-pub inet_dev_conf_of_table : (p : List ℕ) → inet_dev_conf_listed (signed_from w32 p 0 INET_DEV_CONF_COUNT) ≡ inet_dev_conf_of p
+pub inet_dev_conf_of_table : (p : List ℕ)
+    → inet_dev_conf_listed (signed_from w32 p 0 INET_DEV_CONF_COUNT) ≡ inet_dev_conf_of p
 unfolding inet_dev_conf_of
 inet_dev_conf_of_table p = refl
 
-pub inet_dev_conf_table : (p : List ℕ) → inet_dev_conf_fields (inet_dev_conf_of p) ≡ signed_from w32 p 0 INET_DEV_CONF_COUNT
+pub inet_dev_conf_table : (p : List ℕ)
+    → inet_dev_conf_fields (inet_dev_conf_of p) ≡ signed_from w32 p 0 INET_DEV_CONF_COUNT
 unfolding inet_dev_conf_fields inet_dev_conf_of
 inet_dev_conf_table p = refl
 
-pub inet_dev_conf_decides : (v w : InetDevConf) → Decides (each_same int_eq (inet_dev_conf_members v) (inet_dev_conf_members w)) (v ≡ w)
-inet_dev_conf_decides v w = decides_by inet_dev_conf_members inet_dev_conf_listed int_eq signed_Decides (λ v. refl) v w refl
+pub inet_dev_conf_decides : (v w : InetDevConf)
+    → Decides (each_same int_eq (inet_dev_conf_members v) (inet_dev_conf_members w)) (v ≡ w)
+inet_dev_conf_decides v w =
+    decides_by inet_dev_conf_members inet_dev_conf_listed int_eq signed_Decides (λ v. refl) v w refl
 
-pub inet_dev_conf_laws : WordLaws (FitsSigned w32) (signed_from w32) INET_DEV_CONF_COUNT inet_dev_conf_size inet_dev_conf_fields inet_dev_conf_of inet_dev_conf_bytes
+pub inet_dev_conf_laws : WordLaws (FitsSigned w32)
+    (signed_from w32) INET_DEV_CONF_COUNT inet_dev_conf_size inet_dev_conf_fields inet_dev_conf_of inet_dev_conf_bytes
 unfolding inet_dev_conf_fields inet_dev_conf_bytes
-inet_dev_conf_laws = word_laws (signed_words w32 writes_again_4) INET_DEV_CONF_COUNT inet_dev_conf_listed inet_dev_conf_fields inet_dev_conf_of (λ p. sym (inet_dev_conf_of_table p)) inet_dev_conf_table (λ v. refl) (λ v. refl)
+inet_dev_conf_laws =
+    word_laws (signed_words w32 writes_again_4) INET_DEV_CONF_COUNT inet_dev_conf_listed inet_dev_conf_fields
+    inet_dev_conf_of (λ p. sym (inet_dev_conf_of_table p)) inet_dev_conf_table (λ v. refl) (λ v. refl)

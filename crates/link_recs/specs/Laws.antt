@@ -8,7 +8,8 @@ pub use Rattle.nla_wire.specs.Records.{ZerosBehind, BytesBehind}
 abbrev pub ReadsBack : {V N : Type 0} → (N → Type 0) → (V → List N) → (List ℕ → V) → (V → List ℕ) → Type 0
 ReadsBack {V} Fits fields of text = (v : V) → AllByRecursion Fits (fields v) → of (text v) ≡ v
 
-pub record WordLaws {V N : Type 0} (Fits : N → Type 0) (read : List ℕ → ℕ → ℕ → List N) (count size : ℕ) (fields : V → List N) (of : List ℕ → V) (text : V → List ℕ) : Type 0 where
+pub record WordLaws {V N : Type 0} (Fits : N → Type 0) (read : List ℕ → ℕ → ℕ → List N) (count size : ℕ)
+    (fields : V → List N) (of : List ℕ → V) (text : V → List ℕ) : Type 0 where
   -- the fields are the numbers of the payload in order
   pub table : (p : List ℕ) → fields (of p) ≡ read p 0 count
   -- a record is given by them

@@ -26,7 +26,8 @@ map_of payload = record {
 -- the bytes of a record
 unfoldable pub map_bytes : Map → List ℕ
 map_bytes v =
-    to_le_bytes w64 v.memory_start ++ to_le_bytes w64 v.memory_end ++ to_le_bytes w64 v.base_address ++ to_le_bytes w16 v.irq
+    to_le_bytes w64 v.memory_start ++ to_le_bytes w64 v.memory_end ++ to_le_bytes w64 v.base_address
+    ++ to_le_bytes w16 v.irq
     ++ (v.dma ∷ v.port ∷ 0 ∷ 0 ∷ 0 ∷ 0 ∷ [])
 
 -- each field fits its width
@@ -39,5 +40,11 @@ pub record MapFits (v : Map) : Type 0 where
 pub map_laws : RecordLaws map_size map_of map_bytes
 unfolding map_of map_bytes
 map_laws = laws_of (number w64 & number w64 & number w64 & number w16 & byte & byte & padding 4)
-    (λ v. record { memory_start = v.0; memory_end = v.1.0; base_address = v.1.1.0; irq = v.1.1.1.0; dma = v.1.1.1.1.0; port = v.1.1.1.1.1.0 })
-    map_of map_bytes (λ p. refl) (λ p. refl)
+    (λ v. record {
+      memory_start = v.0;
+      memory_end = v.1.0;
+      base_address = v.1.1.0;
+      irq = v.1.1.1.0;
+      dma = v.1.1.1.1.0;
+      port = v.1.1.1.1.1.0;
+    }) map_of map_bytes (λ p. refl) (λ p. refl)

@@ -103,6 +103,8 @@ stats64_table p = refl
 pub stats64_decides : (v w : Stats64) → Decides (each_same nat_eq (stats64_members v) (stats64_members w)) (v ≡ w)
 stats64_decides v w = decides_by stats64_members stats64_listed nat_eq unsigned_Decides (λ v. refl) v w refl
 
-pub stats64_laws : WordLaws (λ n. n < 2 ^ 64) (numbers_from w64) STATS64_COUNT stats64_size stats64_fields stats64_of stats64_bytes
+pub stats64_laws : WordLaws (λ n. n < 2 ^ 64)
+    (numbers_from w64) STATS64_COUNT stats64_size stats64_fields stats64_of stats64_bytes
 unfolding stats64_fields stats64_bytes
-stats64_laws = word_laws (unsigned_words w64 writes_again_8) STATS64_COUNT stats64_listed stats64_fields stats64_of (λ p. sym (stats64_of_table p)) stats64_table (λ v. refl) (λ v. refl)
+stats64_laws = word_laws (unsigned_words w64 writes_again_8) STATS64_COUNT stats64_listed stats64_fields stats64_of
+    (λ p. sym (stats64_of_table p)) stats64_table (λ v. refl) (λ v. refl)

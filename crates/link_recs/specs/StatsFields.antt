@@ -103,4 +103,5 @@ stats_decides v w = decides_by stats_members stats_listed nat_eq unsigned_Decide
 
 pub stats_laws : WordLaws (λ n. n < 2 ^ 32) (numbers_from w32) STATS_COUNT stats_size stats_fields stats_of stats_bytes
 unfolding stats_fields stats_bytes
-stats_laws = word_laws (unsigned_words w32 writes_again_4) STATS_COUNT stats_listed stats_fields stats_of (λ p. sym (stats_of_table p)) stats_table (λ v. refl) (λ v. refl)
+stats_laws = word_laws (unsigned_words w32 writes_again_4) STATS_COUNT stats_listed stats_fields stats_of
+    (λ p. sym (stats_of_table p)) stats_table (λ v. refl) (λ v. refl)

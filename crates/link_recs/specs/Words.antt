@@ -17,7 +17,8 @@ use Rattle.link_recs.specs.Laws.{WordLaws}
 use mir.Val.{bits}
 
 -- numbers one after the other, as they are read and written
-pub record Words {N : Type 0} (width : ℕ) (Fits : N → Type 0) (read : List ℕ → ℕ → ℕ → List N) (text : List N → List ℕ) : Type 0 where
+pub record Words {N : Type 0} (width : ℕ) (Fits : N → Type 0) (read : List ℕ → ℕ → ℕ → List N)
+    (text : List N → List ℕ) : Type 0 where
   -- so many of them are a part of a record
   pub part : (n : ℕ) → Part (n * width) (λ p x. read p x n) text
   pub again : (ns : List N) → AllByRecursion Fits ns → read (text ns) 0 (length ns) ≡ ns
@@ -30,7 +31,8 @@ unsigned_words w same = record {
   part = λ n. record {
     same = λ a b x y h. numbers_from_same w a b x y n h;
     again = λ p x h.
-        ap (numbers_from w (le_all w (numbers_from w p x n)) 0) (sym (length-numbers_from w p x n)) ∙ numbers_again w (numbers_from w p x n) (numbers_from_below w p x n h);
+        ap (numbers_from w (le_all w (numbers_from w p x n)) 0) (sym (length-numbers_from w p x n))
+        ∙ numbers_again w (numbers_from w p x n) (numbers_from_below w p x n h);
     sized = λ p x. length-le_all w (numbers_from w p x n) ∙ ap (λ k. k * byte_len w) (length-numbers_from w p x n);
   };
   again = numbers_again w;
@@ -38,16 +40,20 @@ unsigned_words w same = record {
   whole = numbers_text w same;
 }
 
-numbers_below_again : (w : Width) (ns : List ℕ) → AllByRecursion (λ x. x < 2 ^ bits w) ns → map (cast_unsigned w) (map (cast_signed w) ns) ≡ ns
+numbers_below_again : (w : Width) (ns : List ℕ) → AllByRecursion (λ x. x < 2 ^ bits w) ns
+    → map (cast_unsigned w) (map (cast_signed w) ns) ≡ ns
 numbers_below_again w [] small = refl
-numbers_below_again w (n ∷ ns) small = ap₂ (λ (x : ℕ) (xs : List ℕ). x ∷ xs) (signed_number_again w n small.0) (numbers_below_again w ns small.1)
+numbers_below_again w (n ∷ ns) small =
+    ap₂ (λ (x : ℕ) (xs : List ℕ). x ∷ xs) (signed_number_again w n small.0) (numbers_below_again w ns small.1)
 
 pub signed_words : (w : Width) → WritesAgain w → Words (byte_len w) (FitsSigned w) (signed_from w) (le_all_signed w)
 signed_words w same = record {
   part = λ n. record {
-    same = λ a b x y h. signed_from_is w a x n ∙ ap (map (cast_signed w)) (numbers_from_same w a b x y n h) ∙ sym (signed_from_is w b y n);
+    same = λ a b x y h. signed_from_is w a x n ∙ ap (map (cast_signed w)) (numbers_from_same w a b x y n h)
+        ∙ sym (signed_from_is w b y n);
     again = λ p x h.
-        ap (signed_from w (le_all_signed w (signed_from w p x n)) 0) (sym (length-signed_from w p x n)) ∙ signed_again w (signed_from w p x n) (signed_from_fits w p x n h);
+        ap (signed_from w (le_all_signed w (signed_from w p x n)) 0) (sym (length-signed_from w p x n))
+        ∙ signed_again w (signed_from w p x n) (signed_from_fits w p x n h);
     sized = λ p x. length-le_all_signed w (signed_from w p x n) ∙ ap (λ k. k * byte_len w) (length-signed_from w p x n);
   };
   again = signed_again w;
@@ -61,7 +67,8 @@ signed_words w same = record {
 }
 
 -- what is read is what the payload means when it is cut or filled up with zeros
-of_filled : {V : Type 0} {text : V → List ℕ} (size : ℕ) (of : List ℕ → V) → RecordLaws size of text → (p : List ℕ) → of (zero_filled size p) ≡ of p
+of_filled : {V : Type 0} {text : V → List ℕ} (size : ℕ) (of : List ℕ → V) → RecordLaws size of text → (p : List ℕ)
+    → of (zero_filled size p) ≡ of p
 of_filled size of laws p = elim (cases_lt (length p) size) [
   | inl short ↦ ap of (filled_behind size p (omega (arith, short))) ∙ laws.zeros p (size - length p)
   | inr long ↦ ap of (filled_front size p long) ∙ front size of laws.longer p long
@@ -74,7 +81,8 @@ pub word_laws : {V N : Type 0} {width : ℕ} {Fits : N → Type 0} {read : List 
     → ((v : V) → make (fields v) ≡ v) → ((v : V) → length (fields v) ≡ n)
     → WordLaws Fits read n (n * width) fields of (λ v. text (fields v))
 word_laws {width} {read} {text} words n make fields of reads table made count =
-    let laws : RecordLaws (n * width) of (λ v. text (fields v)) = laws_of (words.part n) make of (λ v. text (fields v)) reads (λ p. ap text (table p)) in
+    let laws : RecordLaws (n * width) of (λ v. text (fields v)) =
+    laws_of (words.part n) make of (λ v. text (fields v)) reads (λ p. ap text (table p)) in
     record {
       table = table;
       only = λ v w e. sym (made v) ∙ ap make e ∙ made w;

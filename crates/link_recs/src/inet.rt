@@ -182,7 +182,8 @@ impl InetDevConf {
     #[tactic(auto, using(crate::specs::InetDevConfFields::inet_dev_conf_table))]
     pub fn read_padded(payload: &[u8]) -> InetDevConf
         ensures value { result ≡ inet_dev_conf_of payload.now }
-        ensures fields { inet_dev_conf_fields result ≡ signed_from w32 payload.now 0 INET_DEV_CONF_COUNT }
+        ensures fields { inet_dev_conf_fields result
+            ≡ signed_from w32 payload.now 0 INET_DEV_CONF_COUNT }
     {
         InetDevConf::read(payload)
     }

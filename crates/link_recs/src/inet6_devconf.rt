@@ -260,7 +260,8 @@ impl Inet6DevConf {
     #[tactic(auto, using(crate::specs::Inet6DevConfFields::inet6_dev_conf_table))]
     pub fn read_padded(payload: &[u8]) -> Inet6DevConf
         ensures value { result ≡ inet6_dev_conf_of payload.now }
-        ensures fields { inet6_dev_conf_fields result ≡ signed_from w32 payload.now 0 INET6_DEV_CONF_COUNT }
+        ensures fields { inet6_dev_conf_fields result
+            ≡ signed_from w32 payload.now 0 INET6_DEV_CONF_COUNT }
     {
         Inet6DevConf::read(payload)
     }

@@ -100,7 +100,8 @@ impl Icmp6Stats {
     #[tactic(auto, using(crate::specs::Icmp6StatsFields::icmp6_stats_table))]
     pub fn read_padded(payload: &[u8]) -> Icmp6Stats
         ensures value { result ≡ icmp6_stats_of payload.now }
-        ensures fields { icmp6_stats_fields result ≡ signed_from w64 payload.now 0 ICMP6_STATS_COUNT }
+        ensures fields { icmp6_stats_fields result
+            ≡ signed_from w64 payload.now 0 ICMP6_STATS_COUNT }
     {
         Icmp6Stats::read(payload)
     }

@@ -198,7 +198,8 @@ impl Inet6Stats {
     #[tactic(auto, using(crate::specs::Inet6StatsFields::inet6_stats_table))]
     pub fn read_padded(payload: &[u8]) -> Inet6Stats
         ensures value { result ≡ inet6_stats_of payload.now }
-        ensures fields { inet6_stats_fields result ≡ signed_from w64 payload.now 0 INET6_STATS_COUNT }
+        ensures fields { inet6_stats_fields result
+            ≡ signed_from w64 payload.now 0 INET6_STATS_COUNT }
     {
         Inet6Stats::read(payload)
     }

@@ -46,43 +46,50 @@ use crate::stats64::Stats64;
 /// `Stats`.
 #[tactic(auto, using(crate::specs::StatsFields::stats_laws))]
 pub fn stats()
-    ensures { WordLaws (λ n. n < 2 ^ 32) (numbers_from w32) STATS_COUNT stats_size stats_fields stats_of stats_bytes }
+    ensures { WordLaws (λ n. n < 2 ^ 32)
+        (numbers_from w32) STATS_COUNT stats_size stats_fields stats_of stats_bytes }
 {}
 
 /// `Stats64`.
 #[tactic(auto, using(crate::specs::Stats64Fields::stats64_laws))]
 pub fn stats64()
-    ensures { WordLaws (λ n. n < 2 ^ 64) (numbers_from w64) STATS64_COUNT stats64_size stats64_fields stats64_of stats64_bytes }
+    ensures { WordLaws (λ n. n < 2 ^ 64)
+        (numbers_from w64) STATS64_COUNT stats64_size stats64_fields stats64_of stats64_bytes }
 {}
 
 /// `InetDevConf`.
 #[tactic(auto, using(crate::specs::InetDevConfFields::inet_dev_conf_laws))]
 pub fn inet_dev_conf()
-    ensures { WordLaws (FitsSigned w32) (signed_from w32) INET_DEV_CONF_COUNT inet_dev_conf_size inet_dev_conf_fields inet_dev_conf_of inet_dev_conf_bytes }
+    ensures { WordLaws (FitsSigned w32) (signed_from w32) INET_DEV_CONF_COUNT inet_dev_conf_size
+        inet_dev_conf_fields inet_dev_conf_of inet_dev_conf_bytes }
 {}
 
 /// `Inet6DevConf`.
 #[tactic(auto, using(crate::specs::Inet6DevConfFields::inet6_dev_conf_laws))]
 pub fn inet6_dev_conf()
-    ensures { WordLaws (FitsSigned w32) (signed_from w32) INET6_DEV_CONF_COUNT inet6_dev_conf_size inet6_dev_conf_fields inet6_dev_conf_of inet6_dev_conf_bytes }
+    ensures { WordLaws (FitsSigned w32) (signed_from w32) INET6_DEV_CONF_COUNT inet6_dev_conf_size
+        inet6_dev_conf_fields inet6_dev_conf_of inet6_dev_conf_bytes }
 {}
 
 /// `Inet6Stats`.
 #[tactic(auto, using(crate::specs::Inet6StatsFields::inet6_stats_laws))]
 pub fn inet6_stats()
-    ensures { WordLaws (FitsSigned w64) (signed_from w64) INET6_STATS_COUNT inet6_stats_size inet6_stats_fields inet6_stats_of inet6_stats_bytes }
+    ensures { WordLaws (FitsSigned w64) (signed_from w64) INET6_STATS_COUNT inet6_stats_size
+        inet6_stats_fields inet6_stats_of inet6_stats_bytes }
 {}
 
 /// `Icmp6Stats`.
 #[tactic(auto, using(crate::specs::Icmp6StatsFields::icmp6_stats_laws))]
 pub fn icmp6_stats()
-    ensures { WordLaws (FitsSigned w64) (signed_from w64) ICMP6_STATS_COUNT icmp6_stats_size icmp6_stats_fields icmp6_stats_of icmp6_stats_bytes }
+    ensures { WordLaws (FitsSigned w64) (signed_from w64) ICMP6_STATS_COUNT icmp6_stats_size
+        icmp6_stats_fields icmp6_stats_of icmp6_stats_bytes }
 {}
 
 /// `Inet6CacheInfo`.
 #[tactic(auto, using(crate::specs::Inet6CacheInfoFields::inet6_cache_info_laws))]
 pub fn inet6_cache_info()
-    ensures { WordLaws (FitsSigned w32) (signed_from w32) INET6_CACHE_INFO_COUNT inet6_cache_info_size inet6_cache_info_fields inet6_cache_info_of inet6_cache_info_bytes }
+    ensures { WordLaws (FitsSigned w32) (signed_from w32) INET6_CACHE_INFO_COUNT
+        inet6_cache_info_size inet6_cache_info_fields inet6_cache_info_of inet6_cache_info_bytes }
 {}
 
 /// Of the records that are filled up with zeros none is longer than `longest_filled`, from which the bound on canonical
@@ -152,7 +159,14 @@ pub fn default_icmp6_stats() -> Icmp6Stats
 
 /// Each field of the default `Map` is zero.
 pub fn default_map() -> Map
-    ensures { result ≡ record { memory_start = 0; memory_end = 0; base_address = 0; irq = 0; dma = 0; port = 0 } }
+    ensures { result ≡ record {
+      memory_start = 0;
+      memory_end = 0;
+      base_address = 0;
+      irq = 0;
+      dma = 0;
+      port = 0;
+    } }
 {
     Map::default()
 }

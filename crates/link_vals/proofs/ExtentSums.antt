@@ -23,8 +23,10 @@ no_bit zero p small differs = omega arith
 no_bit (suc zero) p small differs = absurd (differs (omega arith))
 no_bit (suc (suc b)) p small differs = absurd (omega arith)
 
-sum_if : (flag : LinkExtentMask) (rest : List LinkExtentMask) (part : ℕ) (same : Bool) → (part == link_extent_mask_number flag) ≡ same
-    → (part ≢ link_extent_mask_number flag → part ≡ 0) → ext_sum (if same then flag ∷ rest else rest) ≡ part + ext_sum rest
+sum_if : (flag : LinkExtentMask) (rest : List LinkExtentMask) (part : ℕ) (same : Bool)
+    → (part == link_extent_mask_number flag) ≡ same
+    → (part ≢ link_extent_mask_number flag → part ≡ 0)
+    → ext_sum (if same then flag ∷ rest else rest) ≡ part + ext_sum rest
 sum_if flag rest part true is unset = omega (arith, eqb-true part (link_extent_mask_number flag) is)
 sum_if flag rest part false is unset = omega (arith, unset (eqb-false part (link_extent_mask_number flag) is))
 
@@ -46,17 +48,21 @@ rest_if rest false is = omega arith
 -- the lowest bit and the others
 halves : (n k : ℕ) → n / 2 ^ k ≡ bit_at n k + n / 2 ^ (k + 1) * 2
 halves n k =
-    let next : n / 2 ^ (k + 1) ≡ n / 2 ^ k / 2 = ap (λ p. n / p) (pow-add 2 k 1) ∙ sym (div-div-eq-div-mul n (2 ^ k) 2) in
+    let next : n / 2 ^ (k + 1) ≡ n / 2 ^ k / 2 =
+    ap (λ p. n / p) (pow-add 2 k 1) ∙ sym (div-div-eq-div-mul n (2 ^ k) 2) in
     omega (arith, next)
 
 pub sums_back : SumsBack
 unfolding ext_list flags_set link_extent_mask_number
 sums_back n small =
-    let listed : List LinkExtentMask = Vf ∷ Brvlan ∷ BrvlanCompressed ∷ SkipStats ∷ Mrp ∷ CfmConfig ∷ CfmStatus ∷ Mst ∷ [] in
-    let whole : ext_sum (ext_list n) ≡ ext_sum (flags_set n listed) + ext_sum (other_of (bit_and n 0xffff_ff00)) = sum-append (flags_set n listed) (other_of (bit_and n 0xffff_ff00)) in
+    let listed : List LinkExtentMask =
+    Vf ∷ Brvlan ∷ BrvlanCompressed ∷ SkipStats ∷ Mrp ∷ CfmConfig ∷ CfmStatus ∷ Mst ∷ [] in
+    let whole : ext_sum (ext_list n) ≡ ext_sum (flags_set n listed) + ext_sum (other_of (bit_and n 0xffff_ff00)) =
+    sum-append (flags_set n listed) (other_of (bit_and n 0xffff_ff00)) in
     let none : ext_sum (flags_set n []) ≡ 0 = refl in
     let high : bit_and n 0xffff_ff00 ≡ n / 2 ^ 8 * 2 ^ 8 = and_high_mask 32 8 (omega arith) n small in
-    let rest : ext_sum (other_of (bit_and n 0xffff_ff00)) ≡ bit_and n 0xffff_ff00 = rest_if (bit_and n 0xffff_ff00) _ refl in
+    let rest : ext_sum (other_of (bit_and n 0xffff_ff00)) ≡ bit_and n 0xffff_ff00 =
+    rest_if (bit_and n 0xffff_ff00) _ refl in
     omega (
       arith,
       high,

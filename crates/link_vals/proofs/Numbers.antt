@@ -32,13 +32,16 @@ use Rattle.link_vals.specs.declared.xdp_attached.XdpAttached.TheVariants as xdp_
 use Rattle.link_vals.specs.declared.address_family.AddressFamily.TheVariants as address_family
 
 -- the value that was found has the number that was looked for
-value_if : {A : Type 0} (number : A → ℕ) (v w : A) (n : ℕ) (same : Bool) → (n == number v) ≡ same → number w ≡ n → number (if same then v else w) ≡ n
+value_if : {A : Type 0} (number : A → ℕ) (v w : A) (n : ℕ) (same : Bool) → (n == number v) ≡ same → number w ≡ n
+    → number (if same then v else w) ≡ n
 value_if number v w n true is back = sym (eqb-true n (number v) is)
 value_if number v w n false is back = back
 
-pub number-value_of : {A : Type 0} (number : A → ℕ) (listed : List A) (other : A) (n : ℕ) → number other ≡ n → number (value_of number listed other n) ≡ n
+pub number-value_of : {A : Type 0} (number : A → ℕ) (listed : List A) (other : A) (n : ℕ) → number other ≡ n
+    → number (value_of number listed other n) ≡ n
 number-value_of number [] other n back = back
-number-value_of number (v ∷ vs) other n back = value_if number v (value_of number vs other n) n (n == number v) refl (number-value_of number vs other n back)
+number-value_of number (v ∷ vs) other n back =
+    value_if number v (value_of number vs other n) n (n == number v) refl (number-value_of number vs other n back)
 
 pub link_event_again : (n : ℕ) → link_event_number (link_event_of n) ≡ n
 unfolding link_event_of link_event_number
@@ -70,14 +73,16 @@ state_below n k small = omega (arith, state_again n)
 
 pub in6_addr_gen_mode_again : (n : ℕ) → in6_addr_gen_mode_number (in6_addr_gen_mode_of n) ≡ n
 unfolding in6_addr_gen_mode_of in6_addr_gen_mode_number
-in6_addr_gen_mode_again n = number-value_of in6_addr_gen_mode_number in6_addr_gen_mode_listed (addr_gen_mode.Other n) n refl
+in6_addr_gen_mode_again n =
+    number-value_of in6_addr_gen_mode_number in6_addr_gen_mode_listed (addr_gen_mode.Other n) n refl
 
 pub in6_addr_gen_mode_below : (n k : ℕ) → n < 2 ^ k → in6_addr_gen_mode_number (in6_addr_gen_mode_of n) < 2 ^ k
 in6_addr_gen_mode_below n k small = omega (arith, in6_addr_gen_mode_again n)
 
 pub mctp_phys_binding_again : (n : ℕ) → mctp_phys_binding_number (mctp_phys_binding_of n) ≡ n
 unfolding mctp_phys_binding_of mctp_phys_binding_number
-mctp_phys_binding_again n = number-value_of mctp_phys_binding_number mctp_phys_binding_listed (mctp_phys_binding.Other n) n refl
+mctp_phys_binding_again n =
+    number-value_of mctp_phys_binding_number mctp_phys_binding_listed (mctp_phys_binding.Other n) n refl
 
 pub mctp_phys_binding_below : (n k : ℕ) → n < 2 ^ k → mctp_phys_binding_number (mctp_phys_binding_of n) < 2 ^ k
 mctp_phys_binding_below n k small = omega (arith, mctp_phys_binding_again n)
@@ -104,10 +109,12 @@ pub address_family_below : (n k : ℕ) → n < 2 ^ k → address_family_number (
 address_family_below n k small = omega (arith, address_family_again n)
 
 -- a number that no listed value has
-pub value_of_unlisted : {A : Type 0} (number : A → ℕ) (listed : List A) (other : A) (n : ℕ) → AllByRecursion (λ v. number v ≢ n) listed → value_of number listed other n ≡ other
+pub value_of_unlisted : {A : Type 0} (number : A → ℕ) (listed : List A) (other : A) (n : ℕ)
+    → AllByRecursion (λ v. number v ≢ n) listed → value_of number listed other n ≡ other
 value_of_unlisted number [] other n h = refl
 value_of_unlisted number (v ∷ vs) other n h =
-    ap (λ b. if b then v else value_of number vs other n) (ne_eqb n (number v) (λ e. h.0 (sym e))) ∙ value_of_unlisted number vs other n h.1
+    ap (λ b. if b then v else value_of number vs other n) (ne_eqb n (number v) (λ e. h.0 (sym e)))
+    ∙ value_of_unlisted number vs other n h.1
 
 pub layer_type_again : (t : LinkLayerType) → layer_type_of (layer_type_number t) ≡ t
 unfolding layer_type_of layer_type_number
@@ -179,7 +186,8 @@ layer_type_again layer.Vsockmon = refl
 layer_type_again layer.None = refl
 layer_type_again layer.Void = refl
 
-pub layer_type_unlisted : (n : ℕ) → AllByRecursion (λ t. layer_type_number t ≢ n) layer_type_listed → layer_type_of n ≡ layer.Void
+pub layer_type_unlisted : (n : ℕ) → AllByRecursion (λ t. layer_type_number t ≢ n) layer_type_listed
+    → layer_type_of n ≡ layer.Void
 unfolding layer_type_of
 layer_type_unlisted n h = value_of_unlisted layer_type_number layer_type_listed layer.Void n h
 
@@ -258,7 +266,8 @@ unfolding vlan_protocol_of vlan_protocol_number
 vlan_protocol_again vlan.Ieee8021Q = refl
 vlan_protocol_again vlan.Ieee8021Ad = refl
 
-pub vlan_protocol_unlisted : (n : ℕ) → AllByRecursion (λ p. vlan_protocol_number p ≢ n) vlan_protocol_listed → vlan_protocol_of n ≡ vlan.Ieee8021Q
+pub vlan_protocol_unlisted : (n : ℕ) → AllByRecursion (λ p. vlan_protocol_number p ≢ n) vlan_protocol_listed
+    → vlan_protocol_of n ≡ vlan.Ieee8021Q
 unfolding vlan_protocol_of
 vlan_protocol_unlisted n h = value_of_unlisted vlan_protocol_number vlan_protocol_listed vlan.Ieee8021Q n h
 

@@ -16,7 +16,8 @@ phys_id_len_le p = omega arith
 take_filled : (n : ℕ) (p : List ℕ) → take (min (length p) n) (take n p ++ replicate (n - length p) 0) ≡ take n p
 take_filled n p =
     let len : length (take n p) ≡ min (length p) n = length-take n p ∙ min_comm n (length p) in
-    ap (λ m. take m (take n p ++ replicate (n - length p) 0)) (sym len) ∙ take-append_seam (take n p) (replicate (n - length p) 0)
+    ap (λ m. take m (take n p ++ replicate (n - length p) 0)) (sym len)
+    ∙ take-append_seam (take n p) (replicate (n - length p) 0)
 
 -- the bytes of an id that was read
 pub phys_id_bytes_is : (p : List ℕ) → phys_id_bytes (phys_id_of p) ≡ take 32 p
@@ -38,7 +39,8 @@ phys_id_of_cut p =
     let left : 32 - length (take 32 p) ≡ 32 - length p = omega (arith, short) in
     let long : min (length (take 32 p)) 32 ≡ min (length p) 32 = omega (arith, short) in
     let id : zero_filled 32 (take 32 p) ≡ zero_filled 32 p =
-    ap (λ t. t ++ replicate (32 - length (take 32 p)) 0) (take_all 32 (take 32 p) within) ∙ ap (λ k. take 32 p ++ replicate k 0) left in
+    ap (λ t. t ++ replicate (32 - length (take 32 p)) 0) (take_all 32 (take 32 p) within)
+    ∙ ap (λ k. take 32 p ++ replicate k 0) left in
     ap (λ t. record_of t (min (length (take 32 p)) 32)) id ∙ ap (record_of (zero_filled 32 p)) long
 
 -- an id that was read is what its bytes mean

@@ -28,10 +28,12 @@ BeginsWithLetter [] = ⊥
 BeginsWithLetter (x ∷ xs) = 65 ≤ to_ascii_lowercase x
 
 -- a text that begins with a digit is not one that begins with a letter
-digit_differs : (c : ℕ) (cs name : List ℕ) → c < 65 → BeginsWithLetter name → str_eq_ignore_ascii_case (c ∷ cs) name ≡ false
+digit_differs : (c : ℕ) (cs name : List ℕ) → c < 65 → BeginsWithLetter name
+    → str_eq_ignore_ascii_case (c ∷ cs) name ≡ false
 digit_differs c cs [] small none = absurd none
 digit_differs c cs (x ∷ xs) small large =
-    ap (λ b. b && str_eq_ignore_ascii_case cs xs) (ne_eqb (to_ascii_lowercase c) (to_ascii_lowercase x) (λ e. omega (arith, lower_digit c small)))
+    ap (λ b. b && str_eq_ignore_ascii_case cs xs)
+    (ne_eqb (to_ascii_lowercase c) (to_ascii_lowercase x) (λ e. omega (arith, lower_digit c small)))
 
 -- a test that no element passes finds none
 find_none : {X : Type 0} (test : X → Bool) (xs : List X) → AllByRecursion (λ x. test x ≡ false) xs → find test xs ≡ None
@@ -44,9 +46,21 @@ unfolding state_read state_text
 digits_refused [] h = absurd (omega (arith, h.0))
 digits_refused (c ∷ cs) h =
     let small : c < 65 = let r = digit_from_value c h.1.0 in omega (arith, r) in
-    let no : (s : State) → BeginsWithLetter (state_text s) → str_eq_ignore_ascii_case (c ∷ cs) (state_text s) ≡ false = λ s l. digit_differs c cs (state_text s) small l in
-    find_none (λ s. str_eq_ignore_ascii_case (c ∷ cs) (state_text s)) state_listed
-    (no Unknown (omega arith), (no NotPresent (omega arith), (no Down (omega arith), (no LowerLayerDown (omega arith), (no Testing (omega arith), (no Dormant (omega arith), (no Up (omega arith), tt)))))))
+    let no : (s : State) → BeginsWithLetter (state_text s)
+    → str_eq_ignore_ascii_case (c ∷ cs) (state_text s) ≡ false = λ s l. digit_differs c cs (state_text s) small l in
+    find_none (λ s. str_eq_ignore_ascii_case (c ∷ cs) (state_text s)) state_listed (
+      no Unknown (omega arith),
+      (
+        no NotPresent (omega arith),
+        (
+          no Down (omega arith),
+          (
+            no LowerLayerDown (omega arith),
+            (no Testing (omega arith), (no Dormant (omega arith), (no Up (omega arith), tt))),
+          ),
+        ),
+      ),
+    )
 
 pub other_states_refused : OtherStatesRefused
 unfolding state_text

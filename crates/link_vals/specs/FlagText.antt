@@ -6,7 +6,8 @@ use Rattle.std.specs.List.{flat_map, join_by}
 
 -- the names of the rows of which all bits are set, in their order
 unfoldable pub names_set : {R : Type 0} → (R → List ℕ) → (R → ℕ) → ℕ → List R → List (List ℕ)
-names_set name bits_of bits rows = flat_map (λ row. if bit_and bits (bits_of row) == bits_of row then name row ∷ [] else []) rows
+names_set name bits_of bits rows =
+    flat_map (λ row. if bit_and bits (bits_of row) == bits_of row then name row ∷ [] else []) rows
 
 -- a number in lower-case hexadecimal
 abbrev pub hexadecimal : ℕ → List ℕ
@@ -22,7 +23,8 @@ joined pieces = join_by (λ piece. piece) (codes " | ") pieces
 
 -- the text of bits, where rows name some of them and `unnamed` are the others
 unfoldable pub flags_text : {R : Type 0} → (R → List ℕ) → (R → ℕ) → List R → ℕ → ℕ → List ℕ
-flags_text name bits_of rows unnamed bits = joined (names_set name bits_of bits rows ++ unnamed_piece (bit_and bits unnamed))
+flags_text name bits_of rows unnamed bits =
+    joined (names_set name bits_of bits rows ++ unnamed_piece (bit_and bits unnamed))
 
 -- what stands in front of a piece
 abbrev pub bar_unless : Bool → List ℕ

@@ -39,9 +39,9 @@ fn write_names<W: fmt::Write>(
     flags: &[Flag<LinkFlags>],
     value: LinkFlags,
 ) -> Result<bool, fmt::Error>
-    ensures text { IsPlainFormatter f.old → IfOk result (λ none. HasWritten W.Write.write_str_gives f.old
-        (joined (names_set (λ flag. flag.name.now) (λ flag. link_flags_bits flag.value)
-        (link_flags_bits value) flags.now)) f.new) }
+    ensures text { IsPlainFormatter f.old → IfOk result
+        (λ none. HasWritten W.Write.write_str_gives f.old (joined (names_set (λ flag. flag.name.now)
+        (λ flag. link_flags_bits flag.value) (link_flags_bits value) flags.now)) f.new) }
     ensures none { IfOk result (λ none. none
         ≡ is_none (names_set (λ flag. flag.name.now) (λ flag. link_flags_bits flag.value)
         (link_flags_bits value) flags.now)) }

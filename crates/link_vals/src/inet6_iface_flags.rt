@@ -124,8 +124,8 @@ impl Inet6IfaceFlags {
 
     /// Whether every bit of `other` is set.
     pub fn contains(&self, other: Inet6IfaceFlags) -> bool
-        ensures { result
-            ≡ (bit_and (inet6_iface_flags_bits self.now) (inet6_iface_flags_bits other) == inet6_iface_flags_bits other) }
+        ensures { result ≡ (bit_and (inet6_iface_flags_bits self.now) (inet6_iface_flags_bits other)
+            == inet6_iface_flags_bits other) }
     {
         self.0 & other.0 == other.0
     }

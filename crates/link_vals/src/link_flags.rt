@@ -207,8 +207,8 @@ impl LinkFlags {
 
     /// Whether every bit of `other` is set.
     pub fn contains(&self, other: LinkFlags) -> bool
-        ensures { result
-            ≡ (bit_and (link_flags_bits self.now) (link_flags_bits other) == link_flags_bits other) }
+        ensures { result ≡ (bit_and (link_flags_bits self.now) (link_flags_bits other)
+            == link_flags_bits other) }
     {
         self.0 & other.0 == other.0
     }

@@ -10,7 +10,8 @@ use Rattle.link_vf.specs.Dropped.{OthersDropped}
 
 pub others_dropped : {V : Type 0} (place : Grammar Frame V) → OthersDropped (picked place)
 others_dropped place p q fs gs front back same vs means =
-    let ones : filter is_one means.0 ≡ filter is_one gs = ap (λ hs. filter is_one hs) (frames_once p means.0 fs means.1 front) ∙ same in
+    let ones : filter is_one means.0 ≡ filter is_one gs =
+    ap (λ hs. filter is_one hs) (frames_once p means.0 fs means.1 front) ∙ same in
     (gs, back, subst (λ hs. Every place.means hs vs) ones means.2)
 
 module _ {V : Type 0} (p : Place V) where
@@ -18,4 +19,5 @@ module _ {V : Type 0} (p : Place V) where
   entries_again = picked_reads_back p.grammar p.frame p.Fits p.count p.factor p.fewer p.enough p.lawful
 
   pub entries_bounded : ListsBounded p.factor p.fewer (picked p.grammar).means p.count p.frame
-  entries_bounded = picked_bounded p.grammar p.frame p.Fits p.count p.factor p.fewer p.enough p.lawful (omega (arith, p.spare))
+  entries_bounded =
+      picked_bounded p.grammar p.frame p.Fits p.count p.factor p.fewer p.enough p.lawful (omega (arith, p.spare))

@@ -45,9 +45,12 @@ pub fn law_vf_port()
 /// `LinkVfInfo`, entries of IFLA_VFINFO_LIST, which have the number of IFLA_VF_INFO. Frames of other numbers are
 /// dropped: they can be anywhere in the list, and it means the same. All other places keep what no line reads.
 pub fn law_link_vf_info()
-    ensures member { ReadsBack link_vf_info_place.grammar.means link_vf_info_place.frame link_vf_info_place.Fits }
-    ensures again { ListReadsBack vf_info_list.grammar.means link_vf_info_place.frame link_vf_info_place.Fits }
-    ensures bounds { ListsBounded plain_growth 0 vf_info_list.grammar.means link_vf_info_place.count link_vf_info_place.frame }
+    ensures member { ReadsBack link_vf_info_place.grammar.means link_vf_info_place.frame
+        link_vf_info_place.Fits }
+    ensures again { ListReadsBack vf_info_list.grammar.means link_vf_info_place.frame
+        link_vf_info_place.Fits }
+    ensures bounds { ListsBounded plain_growth 0 vf_info_list.grammar.means link_vf_info_place.count
+        link_vf_info_place.frame }
     ensures dropped { OthersDropped vf_info_list.grammar }
 {}
 
@@ -57,7 +60,8 @@ pub fn law_link_vf_info_room(payload: &[u8])
     ensures entry { RoomWhereFit link_vf_info.text
         (λ v. AllFit vf_info_place.Fits vf_info_place.frame (link_vf_info_members v))
         (link_vf_info.grammar.reads payload.now) (growth_per_byte * length payload.now) }
-    ensures entries { RoomWhereFit (canons link_vf_info_place.frame) (AllFit link_vf_info_place.Fits link_vf_info_place.frame)
+    ensures entries { RoomWhereFit (canons link_vf_info_place.frame)
+        (AllFit link_vf_info_place.Fits link_vf_info_place.frame)
         (vf_info_list.grammar.reads payload.now) (growth_per_byte * length payload.now) }
 {
     law_some_room::<VfInfo>(payload);
@@ -67,9 +71,12 @@ pub fn law_link_vf_info_room(payload: &[u8])
 /// `LinkVfPort`, entries of IFLA_VF_PORTS, which have the number of IFLA_VF_PORT. Frames of other numbers are dropped:
 /// they can be anywhere in the list, and it means the same. All other places keep what no line reads.
 pub fn law_link_vf_port()
-    ensures member { ReadsBack link_vf_port_place.grammar.means link_vf_port_place.frame link_vf_port_place.Fits }
-    ensures again { ListReadsBack vf_port_list.grammar.means link_vf_port_place.frame link_vf_port_place.Fits }
-    ensures bounds { ListsBounded plain_growth 0 vf_port_list.grammar.means link_vf_port_place.count link_vf_port_place.frame }
+    ensures member { ReadsBack link_vf_port_place.grammar.means link_vf_port_place.frame
+        link_vf_port_place.Fits }
+    ensures again { ListReadsBack vf_port_list.grammar.means link_vf_port_place.frame
+        link_vf_port_place.Fits }
+    ensures bounds { ListsBounded plain_growth 0 vf_port_list.grammar.means link_vf_port_place.count
+        link_vf_port_place.frame }
     ensures dropped { OthersDropped vf_port_list.grammar }
 {}
 
@@ -79,7 +86,8 @@ pub fn law_link_vf_port_room(payload: &[u8])
     ensures entry { RoomWhereFit link_vf_port.text
         (λ v. AllFit vf_port_place.Fits vf_port_place.frame (link_vf_port_members v))
         (link_vf_port.grammar.reads payload.now) (growth_per_byte * length payload.now) }
-    ensures entries { RoomWhereFit (canons link_vf_port_place.frame) (AllFit link_vf_port_place.Fits link_vf_port_place.frame)
+    ensures entries { RoomWhereFit (canons link_vf_port_place.frame)
+        (AllFit link_vf_port_place.Fits link_vf_port_place.frame)
         (vf_port_list.grammar.reads payload.now) (growth_per_byte * length payload.now) }
 {
     law_some_room::<VfPort>(payload);

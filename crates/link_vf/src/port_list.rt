@@ -30,7 +30,8 @@ impl LinkVfPort {
     /// `OutOfMemory`.
     pub fn parse(alloc: Global, payload: &[u8]) -> Result<LinkVfPort, DecodeError>
         ensures found { IfOk result (link_vf_port.grammar.means payload.now) }
-        ensures fault { IfErr result (λ e. e.cause ≢ OutOfMemory → link_vf_port.grammar.bad payload.now e.cause) }
+        ensures fault { IfErr result
+            (λ e. e.cause ≢ OutOfMemory → link_vf_port.grammar.bad payload.now e.cause) }
         ensures refused { IfErr result (λ e. e.cause ≢ OutOfMemory
             → (v : LinkVfPort) → link_vf_port.grammar.means payload.now v → ⊥) }
         ensures reads { Gives result (link_vf_port.grammar.reads payload.now) }
@@ -46,9 +47,11 @@ impl LinkVfPort {
     /// Whether a payload is an entry, with no memory taken: `Ok` where `parse` reads it, else the cause of its first
     /// fault.
     pub fn check(payload: &[u8]) -> Result<(), DecodeError>
-        ensures found { IfOk result (λ _. (v : LinkVfPort) × link_vf_port.grammar.means payload.now v) }
+        ensures found { IfOk result
+            (λ _. (v : LinkVfPort) × link_vf_port.grammar.means payload.now v) }
         ensures fault { IfErr result (λ e. link_vf_port.grammar.bad payload.now e.cause) }
-        ensures refused { IfErr result (λ e. (v : LinkVfPort) → link_vf_port.grammar.means payload.now v → ⊥) }
+        ensures refused { IfErr result
+            (λ e. (v : LinkVfPort) → link_vf_port.grammar.means payload.now v → ⊥) }
         ensures memory { IfErr result (λ e. e.cause ≢ OutOfMemory) }
         ensures reads { Checks result (link_vf_port.grammar.reads payload.now) }
     {
@@ -80,7 +83,8 @@ impl LinkVfPort {
     /// The length of the canonical text of the entry's members as the value of an attribute, with no memory taken;
     /// `None` where it does not fit or the payload is refused.
     pub fn measure_entry(payload: &[u8]) -> Option<usize>
-        ensures { Weighs link_vf_port.text link_vf_port_place.Fits (link_vf_port.grammar.reads payload.now) result }
+        ensures { Weighs link_vf_port.text link_vf_port_place.Fits
+            (link_vf_port.grammar.reads payload.now) result }
     {
         VfPort::measure_some(payload)
     }
@@ -102,11 +106,12 @@ impl LinkVfPort {
     /// Refuses with the cause of the first fault, front to back, or with `OutOfMemory`.
     pub fn parse_list(alloc: Global, payload: &[u8]) -> Result<Vec<LinkVfPort>, DecodeError>
         ensures found { IfOk result (λ v. vf_port_list.grammar.means payload.now v.items) }
-        ensures fault { IfErr result (λ e. e.cause ≢ OutOfMemory → vf_port_list.grammar.bad payload.now e.cause) }
+        ensures fault { IfErr result
+            (λ e. e.cause ≢ OutOfMemory → vf_port_list.grammar.bad payload.now e.cause) }
         ensures refused { IfErr result (λ e. e.cause ≢ OutOfMemory
             → (vs : List LinkVfPort) → vf_port_list.grammar.means payload.now vs → ⊥) }
-        ensures reads { MatchResult result (λ v. vf_port_list.grammar.reads payload.now ≡ Ok v.items)
-            (λ e. Fails e.cause (vf_port_list.grammar.reads payload.now)) }
+        ensures reads { MatchResult result (λ v. vf_port_list.grammar.reads payload.now
+            ≡ Ok v.items) (λ e. Fails e.cause (vf_port_list.grammar.reads payload.now)) }
         ensures few { IfOk result (λ v. 4 * length v.items ≤ length payload.now) }
     {
         parse_picked_members(&EntryPlace, alloc, payload)
@@ -115,9 +120,11 @@ impl LinkVfPort {
     /// Whether a payload is such a list, with no memory taken: `Ok` where `parse_list` reads it, else the cause of its
     /// first fault.
     pub fn check_list(payload: &[u8]) -> Result<(), DecodeError>
-        ensures found { IfOk result (λ _. (vs : List LinkVfPort) × vf_port_list.grammar.means payload.now vs) }
+        ensures found { IfOk result
+            (λ _. (vs : List LinkVfPort) × vf_port_list.grammar.means payload.now vs) }
         ensures fault { IfErr result (λ e. vf_port_list.grammar.bad payload.now e.cause) }
-        ensures refused { IfErr result (λ e. (vs : List LinkVfPort) → vf_port_list.grammar.means payload.now vs → ⊥) }
+        ensures refused { IfErr result
+            (λ e. (vs : List LinkVfPort) → vf_port_list.grammar.means payload.now vs → ⊥) }
         ensures memory { IfErr result (λ e. e.cause ≢ OutOfMemory) }
         ensures reads { Checks result (vf_port_list.grammar.reads payload.now) }
     {
@@ -133,7 +140,8 @@ impl LinkVfPort {
         requires room { RoomWhereFit (canons link_vf_port_place.frame)
             (AllFit link_vf_port_place.Fits link_vf_port_place.frame)
             (vf_port_list.grammar.reads payload.now) (length out.old) }
-        ensures { Canonical (canons link_vf_port_place.frame) (AllFit link_vf_port_place.Fits link_vf_port_place.frame)
+        ensures { Canonical (canons link_vf_port_place.frame)
+            (AllFit link_vf_port_place.Fits link_vf_port_place.frame)
             (vf_port_list.grammar.reads payload.now) out.old out.new result }
     {
         let Some(_len) = measure_picked_members(&EntryPlace, payload) else {
@@ -156,11 +164,13 @@ impl LinkVfPort {
     /// Writes the attribute of this kind whose value is the canonical text of such a list's entries, which was
     /// measured, to the front of the buffer, and returns its length. The rest of the buffer is kept.
     pub fn write_list(kind: u16, payload: &[u8], out: &mut [u8]) -> usize
-        requires { HasRoom (λ vs. canon (record { kind = kind; payload = canons link_vf_port_place.frame vs }))
+        requires { HasRoom
+            (λ vs. canon (record { kind = kind; payload = canons link_vf_port_place.frame vs }))
             (λ vs. (length (canons link_vf_port_place.frame vs) ≤ most_payload)
             × AllFit link_vf_port_place.Fits link_vf_port_place.frame vs)
             (vf_port_list.grammar.reads payload.now) (length out.old) }
-        ensures { Rewrites (λ vs. canon (record { kind = kind; payload = canons link_vf_port_place.frame vs }))
+        ensures { Rewrites
+            (λ vs. canon (record { kind = kind; payload = canons link_vf_port_place.frame vs }))
             (vf_port_list.grammar.reads payload.now) out.old out.new result }
     {
         write_nested_picked_members(&EntryPlace, kind, payload, out)
@@ -264,5 +274,6 @@ impl Exact for LinkVfPort {
     ghost use Rattle.link_vf.specs.declared.vf_port.VfPort.{VfPort};
     ghost use Rattle.link_vf.specs.contracts.vf_port.VfPortExact.TheImpl.Laws.{decides-law};
 
-    ghost decides = { λ x y. let h : (p q : List VfPort) → Decides (⟦<List<VfPort> as PartialEq>⟧.eq p q) (p ≡ q) = list_exact decides-law in Prim.search (rules, h) };
+    ghost decides = { λ x y. let h : (p q : List VfPort) → Decides (⟦<List<VfPort> as PartialEq>⟧.eq p q) (p ≡ q) =
+        list_exact decides-law in Prim.search (rules, h) };
 }

@@ -227,7 +227,8 @@ fn read_record(buffer: &NlaBuffer<'_>) -> Option<Result<VfInfo, DecodeError>>
         (number buffer.now ≢ IFLA_VF_STATS → number buffer.now ≢ IFLA_VF_VLAN_LIST
         → vf_info_place.grammar.reads buffer.now ≡ Ok (Other buffer.now))
         (λ read. without_place read ≡ vf_info_place.grammar.reads buffer.now) }
-    ensures short { IfSome result (λ read. IfOk read (λ v. length (vf_info_place.frame v).payload ≤ 36)) }
+    ensures short { IfSome result
+        (λ read. IfOk read (λ v. length (vf_info_place.frame v).payload ≤ 36)) }
 {
     let payload = buffer.value();
     match buffer.kind() {
@@ -385,15 +386,27 @@ impl Exact for VfInfo {
     ghost use Rattle.nla_wire.specs.Decided.{◌&◌, by_exact, list_exact};
     ghost use Rattle.nla_wire.specs.Same.{same_frame-Decides};
     ghost use Rattle.link_vf.specs.contracts.vf_info.VfInfo.{enum};
-    ghost use Rattle.link_vfrec.specs.contracts.broadcast.VfInfoBroadcastExact.TheImpl.Laws.{decides-law as vf_info_broadcast_exact};
+    ghost use Rattle.link_vfrec.specs.contracts.broadcast.VfInfoBroadcastExact.TheImpl.Laws.{
+      decides-law as vf_info_broadcast_exact,
+    };
     ghost use Rattle.link_vfrec.specs.contracts.guid.VfInfoGuidExact.TheImpl.Laws.{decides-law as vf_info_guid_exact};
-    ghost use Rattle.link_vfrec.specs.contracts.link_state.VfInfoLinkStateExact.TheImpl.Laws.{decides-law as vf_info_link_state_exact};
+    ghost use Rattle.link_vfrec.specs.contracts.link_state.VfInfoLinkStateExact.TheImpl.Laws.{
+      decides-law as vf_info_link_state_exact,
+    };
     ghost use Rattle.link_vfrec.specs.contracts.mac.VfInfoMacExact.TheImpl.Laws.{decides-law as vf_info_mac_exact};
     ghost use Rattle.link_vfrec.specs.contracts.rate.VfInfoRateExact.TheImpl.Laws.{decides-law as vf_info_rate_exact};
-    ghost use Rattle.link_vfrec.specs.contracts.rss_query.VfInfoRssQueryEnExact.TheImpl.Laws.{decides-law as vf_info_rss_query_en_exact};
-    ghost use Rattle.link_vfrec.specs.contracts.spoofchk.VfInfoSpoofCheckExact.TheImpl.Laws.{decides-law as vf_info_spoof_check_exact};
-    ghost use Rattle.link_vfrec.specs.contracts.trust.VfInfoTrustExact.TheImpl.Laws.{decides-law as vf_info_trust_exact};
-    ghost use Rattle.link_vfrec.specs.contracts.tx_rate.VfInfoTxRateExact.TheImpl.Laws.{decides-law as vf_info_tx_rate_exact};
+    ghost use Rattle.link_vfrec.specs.contracts.rss_query.VfInfoRssQueryEnExact.TheImpl.Laws.{
+      decides-law as vf_info_rss_query_en_exact,
+    };
+    ghost use Rattle.link_vfrec.specs.contracts.spoofchk.VfInfoSpoofCheckExact.TheImpl.Laws.{
+      decides-law as vf_info_spoof_check_exact,
+    };
+    ghost use Rattle.link_vfrec.specs.contracts.trust.VfInfoTrustExact.TheImpl.Laws.{
+      decides-law as vf_info_trust_exact,
+    };
+    ghost use Rattle.link_vfrec.specs.contracts.tx_rate.VfInfoTxRateExact.TheImpl.Laws.{
+      decides-law as vf_info_tx_rate_exact,
+    };
     ghost use Rattle.link_vfrec.specs.contracts.vlan.VfInfoVlanExact.TheImpl.Laws.{decides-law as vf_info_vlan_exact};
     ghost use Rattle.link_vf.specs.contracts.stats.VfStatsExact.TheImpl.Laws.{decides-law as vf_stats_exact};
     ghost use Rattle.link_vf.specs.contracts.vf_vlan.VfVlanExact.TheImpl.Laws.{decides-law as vf_vlan_exact};

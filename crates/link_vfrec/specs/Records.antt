@@ -56,7 +56,8 @@ abbrev pub vf_info_vlan_size : ℕ
 vf_info_vlan_size = VF_INFO_VLAN_SIZE
 
 unfoldable pub vf_info_vlan_of : List ℕ → VfInfoVlan
-vf_info_vlan_of payload = record { vf_id = number_at w32 payload 0; vlan_id = number_at w32 payload 4; qos = number_at w32 payload 8 }
+vf_info_vlan_of payload =
+    record { vf_id = number_at w32 payload 0; vlan_id = number_at w32 payload 4; qos = number_at w32 payload 8 }
 
 unfoldable pub vf_info_vlan_bytes : VfInfoVlan → List ℕ
 vf_info_vlan_bytes v = to_le_bytes w32 v.vf_id ++ to_le_bytes w32 v.vlan_id ++ to_le_bytes w32 v.qos
@@ -78,7 +79,11 @@ abbrev pub vf_info_rate_size : ℕ
 vf_info_rate_size = VF_INFO_RATE_SIZE
 
 unfoldable pub vf_info_rate_of : List ℕ → VfInfoRate
-vf_info_rate_of payload = record { vf_id = number_at w32 payload 0; min_tx_rate = number_at w32 payload 4; max_tx_rate = number_at w32 payload 8 }
+vf_info_rate_of payload = record {
+  vf_id = number_at w32 payload 0;
+  min_tx_rate = number_at w32 payload 4;
+  max_tx_rate = number_at w32 payload 8;
+}
 
 unfoldable pub vf_info_rate_bytes : VfInfoRate → List ℕ
 vf_info_rate_bytes v = to_le_bytes w32 v.vf_id ++ to_le_bytes w32 v.min_tx_rate ++ to_le_bytes w32 v.max_tx_rate
@@ -122,7 +127,8 @@ abbrev pub vf_info_link_state_size : ℕ
 vf_info_link_state_size = VF_INFO_LINK_STATE_SIZE
 
 unfoldable pub vf_info_link_state_of : List ℕ → VfInfoLinkState
-vf_info_link_state_of payload = record { vf_id = number_at w32 payload 0; state = vf_link_state_of (number_at w32 payload 4) }
+vf_info_link_state_of payload =
+    record { vf_id = number_at w32 payload 0; state = vf_link_state_of (number_at w32 payload 4) }
 
 unfoldable pub vf_info_link_state_bytes : VfInfoLinkState → List ℕ
 vf_info_link_state_bytes v = to_le_bytes w32 v.vf_id ++ to_le_bytes w32 (vf_link_state_number v.state)
@@ -144,7 +150,13 @@ abbrev pub vf_vlan_info_size : ℕ
 vf_vlan_info_size = VF_VLAN_INFO_SIZE
 
 unfoldable pub vf_vlan_info_of : List ℕ → VfVlanInfo
-vf_vlan_info_of payload = record { vf_id = number_at w32 payload 0; vlan_id = number_at w32 payload 4; qos = number_at w32 payload 8; protocol = vlan_protocol_of (be_number_at w16 payload 12) }
+vf_vlan_info_of payload = record {
+  vf_id = number_at w32 payload 0;
+  vlan_id = number_at w32 payload 4;
+  qos = number_at w32 payload 8;
+  protocol = vlan_protocol_of (be_number_at w16 payload 12);
+}
 
 unfoldable pub vf_vlan_info_bytes : VfVlanInfo → List ℕ
-vf_vlan_info_bytes v = to_le_bytes w32 v.vf_id ++ to_le_bytes w32 v.vlan_id ++ to_le_bytes w32 v.qos ++ to_be_bytes w16 (vlan_protocol_number v.protocol) ++ (0 ∷ 0 ∷ [])
+vf_vlan_info_bytes v = to_le_bytes w32 v.vf_id ++ to_le_bytes w32 v.vlan_id ++ to_le_bytes w32 v.qos
+    ++ to_be_bytes w16 (vlan_protocol_number v.protocol) ++ (0 ∷ 0 ∷ [])

@@ -74,7 +74,8 @@ pub fn vf_info_spoof_check()
 /// `VfInfoRssQueryEn`.
 #[tactic(auto, using(crate::specs::Laws::vf_info_rss_query_en_laws))]
 pub fn vf_info_rss_query_en()
-    ensures { RecordLaws vf_info_rss_query_en_size vf_info_rss_query_en_of vf_info_rss_query_en_bytes }
+    ensures { RecordLaws vf_info_rss_query_en_size vf_info_rss_query_en_of
+        vf_info_rss_query_en_bytes }
 {}
 
 /// `VfInfoTrust`.
@@ -175,7 +176,8 @@ pub fn default_vf_info_guid() -> VfInfoGuid
 
 /// The default `VfVlanInfo` has zeros, and the protocol `Ieee8021Q`.
 pub fn default_vf_vlan_info() -> VfVlanInfo
-    ensures { result ≡ record { vf_id = 0; vlan_id = 0; qos = 0; protocol = VlanProtocol.Ieee8021Q } }
+    ensures { result
+        ≡ record { vf_id = 0; vlan_id = 0; qos = 0; protocol = VlanProtocol.Ieee8021Q } }
 {
     VfVlanInfo::default()
 }

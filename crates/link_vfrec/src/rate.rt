@@ -52,7 +52,8 @@ impl Record<VF_INFO_RATE_SIZE> for VfInfoRate {
 impl VfInfoRate {
     /// The record with these fields.
     pub fn new(vf_id: u32, min_tx_rate: u32, max_tx_rate: u32) -> VfInfoRate
-        ensures { result ≡ record { vf_id = vf_id; min_tx_rate = min_tx_rate; max_tx_rate = max_tx_rate } }
+        ensures { result
+            ≡ record { vf_id = vf_id; min_tx_rate = min_tx_rate; max_tx_rate = max_tx_rate } }
     {
         VfInfoRate {
             vf_id,

@@ -60,7 +60,8 @@ impl VfInfoRssQueryEn {
     /// Reads a record from the front of the payload. A payload of fewer than `VF_INFO_RSS_QUERY_EN_SIZE` bytes is
     /// refused with `TooShort`.
     pub fn parse(payload: &[u8]) -> Result<VfInfoRssQueryEn, DecodeError>
-        ensures { Parses (sized vf_info_rss_query_en_size vf_info_rss_query_en_of) payload.now result }
+        ensures { Parses (sized vf_info_rss_query_en_size vf_info_rss_query_en_of)
+            payload.now result }
     {
         VfInfoRssQueryEn::parse_sized(payload)
     }

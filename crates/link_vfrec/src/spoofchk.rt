@@ -59,7 +59,8 @@ impl VfInfoSpoofCheck {
     /// Reads a record from the front of the payload. A payload of fewer than `VF_INFO_SPOOF_CHECK_SIZE` bytes is
     /// refused with `TooShort`.
     pub fn parse(payload: &[u8]) -> Result<VfInfoSpoofCheck, DecodeError>
-        ensures { Parses (sized vf_info_spoof_check_size vf_info_spoof_check_of) payload.now result }
+        ensures { Parses (sized vf_info_spoof_check_size vf_info_spoof_check_of)
+            payload.now result }
     {
         VfInfoSpoofCheck::parse_sized(payload)
     }

@@ -59,7 +59,8 @@ impl Record<VF_VLAN_INFO_SIZE> for VfVlanInfo {
 impl VfVlanInfo {
     /// The record with these fields.
     pub fn new(vf_id: u32, vlan_id: u32, qos: u32, protocol: VlanProtocol) -> VfVlanInfo
-        ensures { result ≡ record { vf_id = vf_id; vlan_id = vlan_id; qos = qos; protocol = protocol } }
+        ensures { result
+            ≡ record { vf_id = vf_id; vlan_id = vlan_id; qos = qos; protocol = protocol } }
     {
         VfVlanInfo {
             vf_id,

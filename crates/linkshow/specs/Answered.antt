@@ -26,32 +26,47 @@ first_small : (h : List ℕ) → IsBytes h → slice_index h 0 < 2 ^ 64
 first_small [] bytes = omega arith
 first_small (x ∷ h) bytes = let byte : x < 256 = bytes.0 in omega arith
 
-header_small : (h : List ℕ) (v : LinkHeader) → IsBytes h → IsHeader h v → address_family_number v.interface_family < 2 ^ 64
+header_small : (h : List ℕ) (v : LinkHeader) → IsBytes h → IsHeader h v
+    → address_family_number v.interface_family < 2 ^ 64
 unfolding header_of
 header_small h v bytes is =
-    let family : v.interface_family ≡ address_family_of (slice_index h 0) = ap (λ (x : LinkHeader). x.interface_family) is.says in
-    subst (λ (f : AddressFamily). address_family_number f < 2 ^ 64) (sym family) (address_family_below (slice_index h 0) 64 (first_small h bytes))
+    let family : v.interface_family ≡ address_family_of (slice_index h 0) =
+    ap (λ (x : LinkHeader). x.interface_family) is.says in
+    subst (λ (f : AddressFamily). address_family_number f < 2 ^ 64) (sym family)
+    (address_family_below (slice_index h 0) 64 (first_small h bytes))
 
-family_small : (b : List ℕ) (m : LinkMessage) → IsBytes b → Means b m → address_family_number m.header.interface_family < 2 ^ 64
+family_small : (b : List ℕ) (m : LinkMessage) → IsBytes b → Means b m
+    → address_family_number m.header.interface_family < 2 ^ 64
 family_small b m bytes k = header_small k.0 m.header (bytes_left k.0 k.1 (subst IsBytes k.2 bytes)) k.3
 
-by_reading : (b : List ℕ) → IsBytes b → (r : Result LinkMessage Cause) → read_message b ≡ r → (answer : List ℕ) × IsAnswerTo b answer
-by_reading b bytes (Ok m) is =
-    (_, IsAnswerTo.message m (message_agrees.found b m bytes is) (least (codes "ifi-family") (number (decimal (address_family_number m.header.interface_family))) (λ _. refl) (decimal_on_line _ (family_small b m bytes (message_agrees.found b m bytes is)))))
-by_reading b bytes (Err c) is =
-    (_, IsAnswerTo.fault c (message_agrees.fault b c bytes is) (least (codes "fault") (string (cause_text c)) (λ _. refl) tt))
+by_reading : (b : List ℕ) → IsBytes b → (r : Result LinkMessage Cause) → read_message b ≡ r
+    → (answer : List ℕ) × IsAnswerTo b answer
+by_reading b bytes (Ok m) is = (
+  _,
+  IsAnswerTo.message m (message_agrees.found b m bytes is)
+      (least (codes "ifi-family") (number (decimal (address_family_number m.header.interface_family))) (λ _. refl)
+      (decimal_on_line _ (family_small b m bytes (message_agrees.found b m bytes is)))),
+)
+by_reading b bytes (Err c) is = (
+  _,
+  IsAnswerTo.fault c (message_agrees.fault b c bytes is)
+      (least (codes "fault") (string (cause_text c)) (λ _. refl) tt),
+)
 
 -- the bytes that digits spell are bytes
 spelled_bytes : (b : List ℕ) → hex.IsBytes b → IsBytes b
 spelled_bytes [] h = tt
 spelled_bytes (x ∷ b) h = (h 0, spelled_bytes b (λ i. h (suc i)))
 
-by_spelling : (line : List ℕ) (r : Result (List ℕ) FromHexError) → decode_of line ≡ r → (answer : List ℕ) × IsAnswerToSpelled (decode_of line) answer
+by_spelling : (line : List ℕ) (r : Result (List ℕ) FromHexError) → decode_of line ≡ r
+    → (answer : List ℕ) × IsAnswerToSpelled (decode_of line) answer
 by_spelling line (Ok b) is =
     let some = by_reading b (spelled_bytes b (decode_of-ok line b is).3) (read_message b) refl in
     (some.0, subst (λ (t : Result (List ℕ) FromHexError). IsAnswerToSpelled t some.0) (sym is) some.1)
-by_spelling line (Err e) is =
-    (codes "{\"fault\":\"not-hex\"}", subst (λ (t : Result (List ℕ) FromHexError). IsAnswerToSpelled t (codes "{\"fault\":\"not-hex\"}")) (sym is) refl)
+by_spelling line (Err e) is = (
+  codes "{\"fault\":\"not-hex\"}",
+  subst (λ (t : Result (List ℕ) FromHexError). IsAnswerToSpelled t (codes "{\"fault\":\"not-hex\"}")) (sym is) refl,
+)
 
 pub each_answered : AnswersEach IsAnswer
 each_answered line = by_spelling line (decode_of line) refl

@@ -7,5 +7,7 @@ use Rattle.linkshow.specs.Lines.{IsAnswerTo, fault_head}
 
 -- the answer to bytes that mean no message begins with the cause of their fault, and no other answer begins with one
 pub record FaultsAreRefusals : Type 0 where
-  pub refused : (bytes answer : List ℕ) → IsAnswerTo bytes answer → MeansNothing bytes → (c : Cause) × FirstFault bytes c × IsObject (fault_head c) answer
-  pub only : (bytes answer : List ℕ) (c : Cause) → IsAnswerTo bytes answer → IsObject (fault_head c) answer → MeansNothing bytes
+  pub refused : (bytes answer : List ℕ) → IsAnswerTo bytes answer → MeansNothing bytes
+      → (c : Cause) × FirstFault bytes c × IsObject (fault_head c) answer
+  pub only : (bytes answer : List ℕ) (c : Cause) → IsAnswerTo bytes answer → IsObject (fault_head c) answer
+      → MeansNothing bytes

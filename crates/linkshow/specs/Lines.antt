@@ -33,7 +33,8 @@ fault_head c = begin_object ∷ key (codes "fault") ∷ string (cause_text c) �
 
 -- how the answer begins to bytes that mean a message
 abbrev pub message_head : LinkMessage → List Token
-message_head m = begin_object ∷ key (codes "ifi-family") ∷ number (decimal (address_family_number m.header.interface_family)) ∷ []
+message_head m =
+    begin_object ∷ key (codes "ifi-family") ∷ number (decimal (address_family_number m.header.interface_family)) ∷ []
 
 -- what a line is answered that spells these bytes
 pub data IsAnswerTo (bytes answer : List ℕ) : Type 0 where

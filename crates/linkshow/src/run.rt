@@ -16,8 +16,10 @@ use std::io::{Read, Write};
 /// has not ended after 2^64 - 1 reads, `Write` where the writer fails or takes no byte, and `OutOfMemory` where a
 /// allocation is refused.
 pub fn run<R: Read, W: Write>(alloc: Global, reader: &mut R, writer: &mut W) -> Result<(), RunError>
-    ensures ok { OnOk result (RanToEnd (R.remaining reader.old) (R.remaining reader.new) (W.contents writer.old) (W.contents writer.new)) }
-    ensures err { IfErr result (λ e. Stopped e (R.remaining reader.old) (R.remaining reader.new) (W.contents writer.old) (W.contents writer.new)) }
+    ensures ok { OnOk result (RanToEnd (R.remaining reader.old) (R.remaining reader.new)
+        (W.contents writer.old) (W.contents writer.new)) }
+    ensures err { IfErr result (λ e. Stopped e (R.remaining reader.old) (R.remaining reader.new)
+        (W.contents writer.old) (W.contents writer.new)) }
 {
     filter::run(alloc, Shown::new(alloc), reader, writer)
 }

@@ -62,7 +62,8 @@ vf_vlan = flat vf_vlan_place (vf_vlan_place.when_small tt)
 
 vf_info : (v : VfInfo) → Dec (vf_info_place.Fits v)
 unfolding vf_info_place
-vf_info (Infos.Stats vs) = both (small (vf_info_place.frame (Infos.Stats vs))) (members vf_stats_place (flat vf_stats_place vf_stats_small) vs)
+vf_info (Infos.Stats vs) =
+    both (small (vf_info_place.frame (Infos.Stats vs))) (members vf_stats_place (flat vf_stats_place vf_stats_small) vs)
 vf_info (Infos.VlanList vs) = both (small (vf_info_place.frame (Infos.VlanList vs))) (members vf_vlan_place vf_vlan vs)
 vf_info v = both (small (vf_info_place.frame v)) (yes tt)
 
@@ -84,9 +85,12 @@ inet6 = flat af_spec_inet6_place (af_spec_inet6_place.when_small tt)
 
 unspec : (v : AfSpecUnspec) → Dec (af_spec_unspec_place.Fits v)
 unfolding af_spec_unspec_place
-unspec (Unspecs.Inet vs) = both (small (af_spec_unspec_place.frame (Unspecs.Inet vs))) (members af_spec_inet_place inet vs)
-unspec (Unspecs.Inet6 vs) = both (small (af_spec_unspec_place.frame (Unspecs.Inet6 vs))) (members af_spec_inet6_place inet6 vs)
-unspec (Unspecs.Mctp vs) = both (small (af_spec_unspec_place.frame (Unspecs.Mctp vs))) (members af_spec_mctp_place (flat af_spec_mctp_place af_spec_mctp_small) vs)
+unspec (Unspecs.Inet vs) =
+    both (small (af_spec_unspec_place.frame (Unspecs.Inet vs))) (members af_spec_inet_place inet vs)
+unspec (Unspecs.Inet6 vs) =
+    both (small (af_spec_unspec_place.frame (Unspecs.Inet6 vs))) (members af_spec_inet6_place inet6 vs)
+unspec (Unspecs.Mctp vs) = both (small (af_spec_unspec_place.frame (Unspecs.Mctp vs)))
+    (members af_spec_mctp_place (flat af_spec_mctp_place af_spec_mctp_small) vs)
 unspec v = both (small (af_spec_unspec_place.frame v)) (yes tt)
 
 -- ** messages
@@ -94,8 +98,10 @@ unspec v = both (small (af_spec_unspec_place.frame v)) (yes tt)
 inside : (v : LinkAttribute) → Dec (InsideFits v)
 unfolding attribute_view
 inside (Attributes.Wireless event) = dec_le _ most_payload
-inside (Attributes.ProtoInfoBridge vs) = members link_proto_info_bridge_place (flat link_proto_info_bridge_place link_proto_info_bridge_small) vs
-inside (Attributes.ProtoInfoInet6 vs) = members link_proto_info_inet6_place (flat link_proto_info_inet6_place link_proto_info_inet6_small) vs
+inside (Attributes.ProtoInfoBridge vs) =
+    members link_proto_info_bridge_place (flat link_proto_info_bridge_place link_proto_info_bridge_small) vs
+inside (Attributes.ProtoInfoInet6 vs) =
+    members link_proto_info_inet6_place (flat link_proto_info_inet6_place link_proto_info_inet6_small) vs
 inside (Attributes.LinkInfo vs) = members link_info_place (flat link_info_place link_info_small) vs
 inside (Attributes.VfInfoList vs) = members link_vf_info_place function vs
 inside (Attributes.VfPorts vs) = members link_vf_port_place port vs
@@ -125,9 +131,11 @@ attribute_ports _ = yes tt
 pub ports_or_not : (m : LinkMessage) → Dec (NoEmptyPorts m)
 ports_or_not m = each attribute_ports m.attributes
 
-by_reading : (b : List ℕ) → IsBytes b → (r : Result LinkMessage Cause) → read_message b ≡ r → MeansNothing b ⊎ ((m : LinkMessage) × Means b m)
+by_reading : (b : List ℕ) → IsBytes b → (r : Result LinkMessage Cause) → read_message b ≡ r
+    → MeansNothing b ⊎ ((m : LinkMessage) × Means b m)
 by_reading b bytes (Ok m) is = inr (m, message_agrees.found b m bytes is)
-by_reading b bytes (Err c) is = inl (λ m means. let clash : Err c ≡ Ok m = sym is ∙ message_agrees.only b m means in absurd cc)
+by_reading b bytes (Err c) is =
+    inl (λ m means. let clash : Err c ≡ Ok m = sym is ∙ message_agrees.only b m means in absurd cc)
 
 pub read_or_refused : (b : List ℕ) → IsBytes b → MeansNothing b ⊎ ((m : LinkMessage) × Means b m)
 read_or_refused b bytes = by_reading b bytes (read_message b) refl

@@ -27,7 +27,8 @@ has_answer b bytes = elim (read_or_refused b bytes) [
             elim (ports_or_not read.0) [
               | no not ↦ (codes "empty-ports", IsAnswerTo.empty_ports (read.0, read.1, fits, not) refl)
               | yes ports ↦
-                  let text = accepted_text b (message_text read.0) read.0 bytes (record { means = read.1; fits = fits; ports = ports }) refl in
+                  let text = accepted_text b (message_text read.0) read.0 bytes
+                  (record { means = read.1; fits = fits; ports = ports }) refl in
                   (codes "ok " ++ encode_lower (message_text read.0), IsAnswerTo.ok (message_text read.0) text refl)
             ]
       ]
@@ -35,25 +36,35 @@ has_answer b bytes = elim (read_or_refused b bytes) [
 
 -- two texts of one byte string are one text
 one_text : (b s t : List ℕ) → HasText b s → HasText b t → s ≡ t
-one_text b s t h k = h.text ∙ ap message_text (one_message b h.message k.message h.accepted.means k.accepted.means) ∙ sym k.text
+one_text b s t h k = h.text ∙ ap message_text (one_message b h.message k.message h.accepted.means k.accepted.means)
+    ∙ sym k.text
 
 only_answer : (b answer other : List ℕ) → IsAnswerTo b answer → IsAnswerTo b other → other ≡ answer
 only_answer b answer other (IsAnswerTo.refused none is) (IsAnswerTo.refused none' is') = is' ∙ sym is
 only_answer b answer other (IsAnswerTo.refused none is) (IsAnswerTo.unfit k is') = absurd (none k.0 k.1)
 only_answer b answer other (IsAnswerTo.refused none is) (IsAnswerTo.empty_ports k is') = absurd (none k.0 k.1)
-only_answer b answer other (IsAnswerTo.refused none is) (IsAnswerTo.ok text k is') = absurd (none k.message k.accepted.means)
+only_answer b answer other (IsAnswerTo.refused none is) (IsAnswerTo.ok text k is') =
+    absurd (none k.message k.accepted.means)
 only_answer b answer other (IsAnswerTo.unfit h is) (IsAnswerTo.refused none is') = absurd (none h.0 h.1)
 only_answer b answer other (IsAnswerTo.unfit h is) (IsAnswerTo.unfit k is') = is' ∙ sym is
-only_answer b answer other (IsAnswerTo.unfit h is) (IsAnswerTo.empty_ports k is') = absurd (h.2 (subst MessageFits (one_message b k.0 h.0 k.1 h.1) k.2))
-only_answer b answer other (IsAnswerTo.unfit h is) (IsAnswerTo.ok text k is') = absurd (h.2 (subst MessageFits (one_message b k.message h.0 k.accepted.means h.1) k.accepted.fits))
+only_answer b answer other (IsAnswerTo.unfit h is) (IsAnswerTo.empty_ports k is') =
+    absurd (h.2 (subst MessageFits (one_message b k.0 h.0 k.1 h.1) k.2))
+only_answer b answer other (IsAnswerTo.unfit h is) (IsAnswerTo.ok text k is') =
+    absurd (h.2 (subst MessageFits (one_message b k.message h.0 k.accepted.means h.1) k.accepted.fits))
 only_answer b answer other (IsAnswerTo.empty_ports h is) (IsAnswerTo.refused none is') = absurd (none h.0 h.1)
-only_answer b answer other (IsAnswerTo.empty_ports h is) (IsAnswerTo.unfit k is') = absurd (k.2 (subst MessageFits (one_message b h.0 k.0 h.1 k.1) h.2))
+only_answer b answer other (IsAnswerTo.empty_ports h is) (IsAnswerTo.unfit k is') =
+    absurd (k.2 (subst MessageFits (one_message b h.0 k.0 h.1 k.1) h.2))
 only_answer b answer other (IsAnswerTo.empty_ports h is) (IsAnswerTo.empty_ports k is') = is' ∙ sym is
-only_answer b answer other (IsAnswerTo.empty_ports h is) (IsAnswerTo.ok text k is') = absurd (h.3 (subst NoEmptyPorts (one_message b k.message h.0 k.accepted.means h.1) k.accepted.ports))
-only_answer b answer other (IsAnswerTo.ok text h is) (IsAnswerTo.refused none is') = absurd (none h.message h.accepted.means)
-only_answer b answer other (IsAnswerTo.ok text h is) (IsAnswerTo.unfit k is') = absurd (k.2 (subst MessageFits (one_message b h.message k.0 h.accepted.means k.1) h.accepted.fits))
-only_answer b answer other (IsAnswerTo.ok text h is) (IsAnswerTo.empty_ports k is') = absurd (k.3 (subst NoEmptyPorts (one_message b h.message k.0 h.accepted.means k.1) h.accepted.ports))
-only_answer b answer other (IsAnswerTo.ok text h is) (IsAnswerTo.ok text' k is') = is' ∙ ap (λ t. codes "ok " ++ encode_lower t) (one_text b text' text k h) ∙ sym is
+only_answer b answer other (IsAnswerTo.empty_ports h is) (IsAnswerTo.ok text k is') =
+    absurd (h.3 (subst NoEmptyPorts (one_message b k.message h.0 k.accepted.means h.1) k.accepted.ports))
+only_answer b answer other (IsAnswerTo.ok text h is) (IsAnswerTo.refused none is') =
+    absurd (none h.message h.accepted.means)
+only_answer b answer other (IsAnswerTo.ok text h is) (IsAnswerTo.unfit k is') =
+    absurd (k.2 (subst MessageFits (one_message b h.message k.0 h.accepted.means k.1) h.accepted.fits))
+only_answer b answer other (IsAnswerTo.ok text h is) (IsAnswerTo.empty_ports k is') =
+    absurd (k.3 (subst NoEmptyPorts (one_message b h.message k.0 h.accepted.means k.1) h.accepted.ports))
+only_answer b answer other (IsAnswerTo.ok text h is) (IsAnswerTo.ok text' k is') =
+    is' ∙ ap (λ t. codes "ok " ++ encode_lower t) (one_text b text' text k h) ∙ sym is
 
 -- ** an answer to a line
 
@@ -69,7 +80,8 @@ one_spelled line (Ok b) is =
     record {
       answer = some.0;
       is = subst (λ (t : Result (List ℕ) FromHexError). IsAnswerToSpelled t some.0) (sym is) some.1;
-      only = λ other h. only_answer b some.0 other some.1 (subst (λ (t : Result (List ℕ) FromHexError). IsAnswerToSpelled t other) is h);
+      only = λ other h. only_answer b some.0 other some.1
+          (subst (λ (t : Result (List ℕ) FromHexError). IsAnswerToSpelled t other) is h);
     }
 one_spelled line (Err e) is = record {
   answer = codes "nothex";

@@ -41,7 +41,8 @@ impl Answer for Canonical {
 
 /// Adds `ok `, the text in lower-case hexadecimal and an LF.
 fn push_text(waiting: &mut Vec<u8>, text: &[u8]) -> Result<(), AllocError>
-    ensures { OnOk result (waiting.new.items ≡ waiting.old.items ++ with_lf (codes "ok " ++ encode_lower text.now)) }
+    ensures { OnOk result
+        (waiting.new.items ≡ waiting.old.items ++ with_lf (codes "ok " ++ encode_lower text.now)) }
 {
     waiting.extend_from_slice(b"ok ")?;
     let start = waiting.len();

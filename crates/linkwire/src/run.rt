@@ -15,8 +15,10 @@ use std::io::{Read, Write};
 /// `Read` where the reader fails or has not ended after 2^64 - 1 reads, `Write` where the writer fails or takes no
 /// byte, and `OutOfMemory` where an allocation is refused.
 pub fn run<R: Read, W: Write>(alloc: Global, reader: &mut R, writer: &mut W) -> Result<(), RunError>
-    ensures ok { OnOk result (RanToEnd (R.remaining reader.old) (R.remaining reader.new) (W.contents writer.old) (W.contents writer.new)) }
-    ensures err { IfErr result (λ e. Stopped e (R.remaining reader.old) (R.remaining reader.new) (W.contents writer.old) (W.contents writer.new)) }
+    ensures ok { OnOk result (RanToEnd (R.remaining reader.old) (R.remaining reader.new)
+        (W.contents writer.old) (W.contents writer.new)) }
+    ensures err { IfErr result (λ e. Stopped e (R.remaining reader.old) (R.remaining reader.new)
+        (W.contents writer.old) (W.contents writer.new)) }
 {
     filter::run(alloc, Canonical::new(alloc), reader, writer)
 }

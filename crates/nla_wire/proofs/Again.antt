@@ -31,7 +31,8 @@ pub writes_again_8 : WritesAgain w64
 writes_again_8 b eight small = le_bytes_8 b (from_le_bytes w64 b) eight (λ i. IsBytes-get b i small) refl
 
 -- an attribute of the bytes is one of the number that they spell
-pub number_written : (w : Width) → WritesAgain w → (kind : ℕ) (p old new : List ℕ) (n : ℕ) → length p ≡ byte_len w → IsBytes p
+pub number_written : (w : Width) → WritesAgain w → (kind : ℕ) (p old new : List ℕ) (n : ℕ)
+    → length p ≡ byte_len w → IsBytes p
     → Writes (canon (record { kind = kind; payload = take (byte_len w) p })) old new n
     → Writes (canon (record { kind = kind; payload = to_le_bytes w (from_le_bytes w p) })) old new n
 number_written w again kind p old new n exact small h =
@@ -40,7 +41,8 @@ number_written w again kind p old new n exact small h =
 
 -- numbers that were read one after the other, with nothing after them, are written as the bytes that they were read
 -- from
-pub numbers_text : (w : Width) → WritesAgain w → (q : List ℕ) (n : ℕ) → IsBytes q → length q ≡ n * byte_len w → le_all w (numbers_from w q 0 n) ≡ q
+pub numbers_text : (w : Width) → WritesAgain w → (q : List ℕ) (n : ℕ) → IsBytes q → length q ≡ n * byte_len w
+    → le_all w (numbers_from w q 0 n) ≡ q
 numbers_text w again [] zero small is = refl
 numbers_text w again (x ∷ q) zero small is = absurd (omega (arith, is))
 numbers_text w again q (suc n) small is =
@@ -50,9 +52,11 @@ numbers_text w again q (suc n) small is =
     let first : length (take k q) ≡ k = length-take-le k q (omega (arith, is)) in
     let rest : length (drop k q) ≡ n * k = omega (arith, length-drop k q, is) in
     let head : number_at w q 0 ≡ from_le_bytes w (take k q) =
-    ap (λ x. number_at w x 0) (sym cut) ∙ number_at_before w (take k q) (drop k q) 0 (omega (arith, first)) ∙ number_at_front w (take k q) in
+    ap (λ x. number_at w x 0) (sym cut) ∙ number_at_before w (take k q) (drop k q) 0 (omega (arith, first))
+    ∙ number_at_front w (take k q) in
     let tail : numbers_from w q (0 + k) n ≡ numbers_from w (drop k q) 0 n =
-    ap (λ x. numbers_from w x (0 + k) n) (sym cut) ∙ ap (λ z. numbers_from w (take k q ++ drop k q) z n) (omega (arith, first)) ∙ numbers_from_behind w (take k q) (drop k q) 0 n in
+    ap (λ x. numbers_from w x (0 + k) n) (sym cut) ∙ ap (λ z. numbers_from w (take k q ++ drop k q) z n)
+    (omega (arith, first)) ∙ numbers_from_behind w (take k q) (drop k q) 0 n in
     ap₂ (λ (x y : List ℕ). x ++ y)
     (ap (to_le_bytes w) head ∙ again (take k q) first (bytes_left (take k q) (drop k q) parts))
     (ap (le_all w) tail ∙ numbers_text w again (drop k q) n (bytes_right (take k q) (drop k q) parts) rest)
@@ -83,4 +87,5 @@ zero_bytes (suc n) = (lit< tt, zero_bytes n)
 pub bytes_filled : (size : ℕ) (p : List ℕ) → IsBytes p → IsBytes (zero_filled size p)
 unfolding zero_filled
 bytes_filled size p small =
-    bytes_joined (take size p) (replicate (size - length p) 0) (bytes_left (take size p) (drop size p) (subst IsBytes (sym (take-append-drop size p)) small)) (zero_bytes (size - length p))
+    bytes_joined (take size p) (replicate (size - length p) 0) (bytes_left (take size p) (drop size p)
+    (subst IsBytes (sym (take-append-drop size p)) small)) (zero_bytes (size - length p))

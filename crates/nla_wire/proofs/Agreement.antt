@@ -8,7 +8,8 @@ use Rattle.std.specs.Str.{is_utf8}
 use Rattle.std.specs.Int.{Width, byte_len, from_le_bytes}
 use Rattle.nla_wire.specs.Frames.{Frame, IsBytes, IsFrame}
 use Rattle.nla_wire.specs.Reading.{◌>>=◌}
-use Rattle.nla_wire.specs.Grammar.{Grammar, Agrees, as_a, unless_empty, not_empty, by_payload, undecoded, if_true, choose}
+use Rattle.nla_wire.specs.Grammar.{Grammar, Agrees, as_a, unless_empty, not_empty, by_payload, undecoded, if_true}
+use Rattle.nla_wire.specs.Grammar.{choose}
 use Rattle.nla_wire.specs.Payloads.{read_number, number_of, bytes, read_exactly, exactly, EndsInNul, IsTextOf}
 use Rattle.nla_wire.specs.Payloads.{without_nul, read_text, text, filled, read_sized, sized}
 use Rattle.nla_wire.specs.declared.error.Cause.{Cause}
@@ -16,15 +17,18 @@ use Rattle.nla_wire.specs.declared.error.Cause.TheVariants.{WrongLength, NotUtf8
 
 -- ** combinators
 
-variant_found : {A B : Type 0} (variant : A → B) (r : Result A Cause) (b : B) → (r >>= λ a. Ok (variant a)) ≡ Ok b → (a : A) × (r ≡ Ok a) × (b ≡ variant a)
+variant_found : {A B : Type 0} (variant : A → B) (r : Result A Cause) (b : B) → (r >>= λ a. Ok (variant a)) ≡ Ok b
+    → (a : A) × (r ≡ Ok a) × (b ≡ variant a)
 variant_found variant (Ok a) b e = (a, refl, cc)
 variant_found variant (Err c) b e = absurd cc
 
-variant_fault : {A B : Type 0} (variant : A → B) (r : Result A Cause) (c : Cause) → (r >>= λ a. Ok (variant a)) ≡ Err c → r ≡ Err c
+variant_fault : {A B : Type 0} (variant : A → B) (r : Result A Cause) (c : Cause)
+    → (r >>= λ a. Ok (variant a)) ≡ Err c → r ≡ Err c
 variant_fault variant (Ok a) c e = absurd cc
 variant_fault variant (Err d) c e = cc
 
-pub as_agrees : {S A B : Type 0} (One : S → Type 0) (variant : A → B) (g : Grammar S A) → Agrees One g → Agrees One (as_a variant g)
+pub as_agrees : {S A B : Type 0} (One : S → Type 0) (variant : A → B) (g : Grammar S A) → Agrees One g
+    → Agrees One (as_a variant g)
 as_agrees One variant g h = record {
   only = λ s b m. ap (λ r. r >>= λ a. Ok (variant a)) (h.only s m.0 m.1) ∙ ap (λ x. Ok x) (sym m.2);
   found = λ s b one e. let k = variant_found variant (g.reads s) b e in (k.0, h.found s k.0 one k.1, k.2);
@@ -57,11 +61,13 @@ payload_agrees g h = record {
   refused = λ f c m. h.refused f.payload c m;
 }
 
-pub if_agrees : {V : Type 0} (test : Bool) (g h : Grammar Frame V) → Agrees IsFrame g → Agrees IsFrame h → Agrees IsFrame (if_true test g h)
+pub if_agrees : {V : Type 0} (test : Bool) (g h : Grammar Frame V) → Agrees IsFrame g → Agrees IsFrame h
+    → Agrees IsFrame (if_true test g h)
 if_agrees true g h a b = a
 if_agrees false g h a b = b
 
-pub choose_agrees : {V : Type 0} (test : Frame → Bool) (g h : Grammar Frame V) → Agrees IsFrame g → Agrees IsFrame h → Agrees IsFrame (choose test g h)
+pub choose_agrees : {V : Type 0} (test : Frame → Bool) (g h : Grammar Frame V) → Agrees IsFrame g → Agrees IsFrame h
+    → Agrees IsFrame (choose test g h)
 choose_agrees test g h a b = record {
   only = λ f v m. (if_agrees (test f) g h a b).only f v m;
   found = λ f v one e. (if_agrees (test f) g h a b).found f v one e;
@@ -69,7 +75,8 @@ choose_agrees test g h a b = record {
   refused = λ f c m. (if_agrees (test f) g h a b).refused f c m;
 }
 
-pub if_reads : {V : Type 0} (test : Bool) (g h : Grammar Frame V) (f : Frame) → (if test then g.reads f else h.reads f) ≡ (if_true test g h).reads f
+pub if_reads : {V : Type 0} (test : Bool) (g h : Grammar Frame V) (f : Frame)
+    → (if test then g.reads f else h.reads f) ≡ (if_true test g h).reads f
 if_reads true g h f = refl
 if_reads false g h f = refl
 
@@ -90,13 +97,16 @@ module _ {A : Type 0} (g : Grammar (List ℕ) A) (h : Agrees IsBytes g) where
   some_found [] a small e = absurd cc
   some_found (x ∷ p) a small e = (omega arith, h.found (x ∷ p) a small e)
 
-  some_fault : (p : List ℕ) (c : Cause) → IsBytes p → unless_empty p (g.reads p) ≡ Err c → ((p ≡ []) × (c ≡ EmptyList)) ⊎ ((0 < length p) × g.bad p c)
+  some_fault : (p : List ℕ) (c : Cause) → IsBytes p → unless_empty p (g.reads p) ≡ Err c
+      → ((p ≡ []) × (c ≡ EmptyList)) ⊎ ((0 < length p) × g.bad p c)
   unfolding unless_empty
   some_fault [] c small e = inl (refl, cc)
   some_fault (x ∷ p) c small e = inr (omega arith, h.fault (x ∷ p) c small e)
 
-  some_refused : (p : List ℕ) (c : Cause) → ((p ≡ []) × (c ≡ EmptyList)) ⊎ ((0 < length p) × g.bad p c) → unless_empty p (g.reads p) ≡ Err c
-  some_refused p c (inl m) = ap (λ q. unless_empty q (g.reads p)) m.0 ∙ unless_empty_nil (g.reads p) ∙ ap (λ d. Err d) (sym m.1)
+  some_refused : (p : List ℕ) (c : Cause) → ((p ≡ []) × (c ≡ EmptyList)) ⊎ ((0 < length p) × g.bad p c)
+      → unless_empty p (g.reads p) ≡ Err c
+  some_refused p c (inl m) = ap (λ q. unless_empty q (g.reads p)) m.0 ∙ unless_empty_nil (g.reads p)
+      ∙ ap (λ d. Err d) (sym m.1)
   some_refused p c (inr m) = unless_empty_some p (g.reads p) m.0 ∙ h.refused p c m.1
 
   pub not_empty_agrees : Agrees IsBytes (not_empty g)
@@ -153,10 +163,14 @@ module _ {A : Type 0} (got want : ℕ) (x : A) (c : Cause) where
 pub number_agrees : (w : Width) → Agrees IsBytes (number_of w)
 unfolding read_number exact
 number_agrees w = record {
-  only = λ p n m. exact_is (length p) (byte_len w) (from_le_bytes w p) (WrongLength (length p) (byte_len w)) m.0 ∙ ap (λ x. Ok x) (sym m.1);
-  found = λ p n small e. exact_found (length p) (byte_len w) (from_le_bytes w p) (WrongLength (length p) (byte_len w)) n e;
-  fault = λ p c small e. exact_fault (length p) (byte_len w) (from_le_bytes w p) (WrongLength (length p) (byte_len w)) c e;
-  refused = λ p c m. exact_not (length p) (byte_len w) (from_le_bytes w p) (WrongLength (length p) (byte_len w)) m.0 ∙ ap (λ x. Err x) (sym m.1);
+  only = λ p n m. exact_is (length p) (byte_len w) (from_le_bytes w p) (WrongLength (length p) (byte_len w)) m.0
+      ∙ ap (λ x. Ok x) (sym m.1);
+  found = λ p n small e.
+      exact_found (length p) (byte_len w) (from_le_bytes w p) (WrongLength (length p) (byte_len w)) n e;
+  fault = λ p c small e.
+      exact_fault (length p) (byte_len w) (from_le_bytes w p) (WrongLength (length p) (byte_len w)) c e;
+  refused = λ p c m. exact_not (length p) (byte_len w) (from_le_bytes w p) (WrongLength (length p) (byte_len w)) m.0
+      ∙ ap (λ x. Err x) (sym m.1);
 }
 
 pub exactly_agrees : (n : ℕ) → Agrees IsBytes (exactly n)
@@ -212,7 +226,8 @@ ends_behind x y p [] e = absurd cc
 ends_behind x y p (z ∷ s) e = (s, cc)
 
 nothing_ends : EndsInNul [] → ⊥
-nothing_ends e = let lengths : length {A = ℕ} [] ≡ length (e.0 ++ 0 ∷ []) = ap length e.1 in omega (arith, length-append e.0 (0 ∷ []))
+nothing_ends e = let lengths : length {A = ℕ} [] ≡ length (e.0 ++ 0 ∷ []) = ap length e.1 in
+    omega (arith, length-append e.0 (0 ∷ []))
 
 ends_alone : (x : ℕ) (s : List ℕ) → x ∷ [] ≡ s ++ 0 ∷ [] → x ≡ 0
 ends_alone x [] e = cc
@@ -222,7 +237,8 @@ ends_alone x (y ∷ z ∷ s) e = absurd cc
 without_nul_other : (p : List ℕ) → (EndsInNul p → ⊥) → without_nul p ≡ p
 without_nul_other [] never = refl
 without_nul_other (x ∷ []) never = other_alone x (λ e. never ([], ap (λ (y : ℕ). y ∷ []) e))
-without_nul_other (x ∷ y ∷ p) never = ap (λ (t : List ℕ). x ∷ t) (without_nul_other (y ∷ p) (λ e. never (ends_further x (y ∷ p) e)))
+without_nul_other (x ∷ y ∷ p) never =
+    ap (λ (t : List ℕ). x ∷ t) (without_nul_other (y ∷ p) (λ e. never (ends_further x (y ∷ p) e)))
 
 pub text_is : (p s : List ℕ) → IsTextOf p s → without_nul p ≡ s
 text_is p s (inl e) = ap without_nul e ∙ without_nul_end s
@@ -230,7 +246,8 @@ text_is p s (inr (never, e)) = without_nul_other p never ∙ e
 
 text_further : (x y : ℕ) (p s : List ℕ) → IsTextOf (y ∷ p) s → IsTextOf (x ∷ y ∷ p) (x ∷ s)
 text_further x y p s (inl e) = inl (ap (λ (t : List ℕ). x ∷ t) e)
-text_further x y p s (inr (never, e)) = inr (λ ends. never (ends_behind x y p ends.0 ends.1), ap (λ (t : List ℕ). x ∷ t) e)
+text_further x y p s (inr (never, e)) =
+    inr (λ ends. never (ends_behind x y p ends.0 ends.1), ap (λ (t : List ℕ). x ∷ t) e)
 
 pub is_text : (p : List ℕ) → IsTextOf p (without_nul p)
 is_text [] = inr (nothing_ends, refl)
@@ -253,7 +270,8 @@ true_not_false b e k = absurd cc
 
 pub text_agrees : Agrees IsBytes text
 text_agrees = record {
-  only = λ p s m. text_fine p (ap is_utf8 (text_is p s m.1) ∙ is_utf8-from_IsUtf8 s m.0) ∙ ap (λ x. Ok x) (text_is p s m.1);
+  only = λ p s m.
+      text_fine p (ap is_utf8 (text_is p s m.1) ∙ is_utf8-from_IsUtf8 s m.0) ∙ ap (λ x. Ok x) (text_is p s m.1);
   found = λ p s small e. elim (cases_Bool (is_utf8 (without_nul p))) [
     | inl fine ↦ let is : s ≡ without_nul p = ok_is _ (without_nul p) s (text_fine p fine) e in
         (rw is (IsUtf8-from_is_utf8 (without_nul p) fine), rw is (is_text p))
@@ -261,7 +279,11 @@ text_agrees = record {
   ];
   fault = λ p c small e. elim (cases_Bool (is_utf8 (without_nul p))) [
     | inl fine ↦ absurd (ok_not_err _ (without_nul p) c (text_fine p fine) e)
-    | inr wrong ↦ (λ s is whole. true_not_false (is_utf8 (without_nul p)) (ap is_utf8 (text_is p s is) ∙ is_utf8-from_IsUtf8 s whole) wrong, err_is _ NotUtf8 c (text_wrong p wrong) e)
+    | inr wrong ↦ (
+      λ s is whole. true_not_false (is_utf8 (without_nul p))
+          (ap is_utf8 (text_is p s is) ∙ is_utf8-from_IsUtf8 s whole) wrong,
+      err_is _ NotUtf8 c (text_wrong p wrong) e,
+    )
   ];
   refused = λ p c m. elim (cases_Bool (is_utf8 (without_nul p))) [
     | inl fine ↦ absurd (m.0 (without_nul p) (is_text p) (IsUtf8-from_is_utf8 (without_nul p) fine))

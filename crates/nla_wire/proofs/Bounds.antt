@@ -12,21 +12,29 @@ use Rattle.nla_wire.proofs.Steps.{length-begins}
 -- ** lengths of text
 
 pub length-canon : (f : Frame) → length (canon f) ≡ 4 + length f.payload + missing (length f.payload)
-length-canon f = omega (arith, length-append f.payload (replicate (missing (length f.payload)) 0), length-replicate {A = ℕ} (missing (length f.payload)) 0)
+length-canon f = omega (
+  arith,
+  length-append f.payload (replicate (missing (length f.payload)) 0),
+  length-replicate {A = ℕ} (missing (length f.payload)) 0,
+)
 
 pub canon_whole : (f : Frame) → length (canon f) % 4 ≡ 0
 canon_whole f = omega (arith, length-canon f)
 
 pub canons_whole : {V : Type 0} (frame : V → Frame) (vs : List V) → length (canons frame vs) % 4 ≡ 0
 canons_whole frame [] = refl
-canons_whole frame (v ∷ vs) = rw (length-append (canon (frame v)) (canons frame vs)) (omega (arith, canon_whole (frame v), canons_whole frame vs))
+canons_whole frame (v ∷ vs) =
+    rw (length-append (canon (frame v)) (canons frame vs)) (omega (arith, canon_whole (frame v), canons_whole frame vs))
 
 -- the text of a list is as long as its members' texts together
-pub length-canons : {V : Type 0} (frame : V → Frame) (vs : List V) → length (canons frame vs) ≡ total (λ v. length (canon (frame v))) vs
+pub length-canons : {V : Type 0} (frame : V → Frame) (vs : List V)
+    → length (canons frame vs) ≡ total (λ v. length (canon (frame v))) vs
 length-canons frame [] = refl
-length-canons frame (v ∷ vs) = length-append (canon (frame v)) (canons frame vs) ∙ ap (λ n. length (canon (frame v)) + n) (length-canons frame vs)
+length-canons frame (v ∷ vs) =
+    length-append (canon (frame v)) (canons frame vs) ∙ ap (λ n. length (canon (frame v)) + n) (length-canons frame vs)
 
-total_more : {V : Type 0} (weight : V → ℕ) (e : ℕ) (vs : List V) → total (λ v. weight v + e) vs ≡ total weight vs + e * length vs
+total_more : {V : Type 0} (weight : V → ℕ) (e : ℕ) (vs : List V)
+    → total (λ v. weight v + e) vs ≡ total weight vs + e * length vs
 total_more weight e [] = omega arith
 total_more weight e (v ∷ vs) = omega (arith, total_more weight e vs)
 
@@ -36,7 +44,8 @@ total_more weight e (v ∷ vs) = omega (arith, total_more weight e vs)
 abbrev pub room : Frame → ℕ
 room f = 1 + length f.payload / 4
 
-frame_room : (b : List ℕ) (f : Frame) (rest : List ℕ) (h : Begins b f rest) → (length h.padding ≡ missing (length f.payload)) ⊎ (rest ≡ [])
+frame_room : (b : List ℕ) (f : Frame) (rest : List ℕ) (h : Begins b f rest)
+    → (length h.padding ≡ missing (length f.payload)) ⊎ (rest ≡ [])
     → 1 + length f.payload / 4 + length rest / 4 ≤ length b / 4
 frame_room b f rest h (inl full) = omega (arith, length-begins b f rest h)
 frame_room b f rest h (inr ended) = omega (arith, length-begins b f rest h, ap length ended)
@@ -45,17 +54,20 @@ pub frames_room : (b : List ℕ) (fs : List Frame) → Frames b fs → total roo
 frames_room b [] h = omega arith
 frames_room b (f ∷ fs) h = omega (arith, frame_room b f h.0 h.1 h.1.full, frames_room h.0 fs h.2)
 
-total_here : {A : Type 0} (weight : A → ℕ) (test : A → Bool) (x : A) (xs : List A) (t : Bool) → total weight (filter test xs) ≤ total weight xs
+total_here : {A : Type 0} (weight : A → ℕ) (test : A → Bool) (x : A) (xs : List A) (t : Bool)
+    → total weight (filter test xs) ≤ total weight xs
     → total weight (cond t (x ∷ filter test xs) (filter test xs)) ≤ weight x + total weight xs
 total_here weight test x xs true h = omega arith
 total_here weight test x xs false h = omega arith
 
-total_filtered : {A : Type 0} (weight : A → ℕ) (test : A → Bool) (xs : List A) → total weight (filter test xs) ≤ total weight xs
+total_filtered : {A : Type 0} (weight : A → ℕ) (test : A → Bool) (xs : List A)
+    → total weight (filter test xs) ≤ total weight xs
 total_filtered weight test [] = omega arith
 total_filtered weight test (x ∷ xs) = total_here weight test x xs (test x) (total_filtered weight test xs)
 
 -- each payload is four bytes shorter than the bytes of all frames, or more
-pub frames_shorter : (b : List ℕ) (fs : List Frame) (n : ℕ) → Frames b fs → length b ≤ n + 4 → AllByRecursion (λ f. length f.payload ≤ n) fs
+pub frames_shorter : (b : List ℕ) (fs : List Frame) (n : ℕ) → Frames b fs → length b ≤ n + 4
+    → AllByRecursion (λ f. length f.payload ≤ n) fs
 frames_shorter b [] n h short = tt
 frames_shorter b (f ∷ fs) n h short =
     (omega (arith, length-begins b f h.0 h.1), frames_shorter h.0 fs n h.2 (omega (arith, length-begins b f h.0 h.1)))
@@ -75,7 +87,8 @@ module _ {V : Type 0} (place : Grammar Frame V) (weight : V → ℕ) (k : ℕ)
 
   pub picked_total : (p : List ℕ) (vs : List V) → (picked place).means p vs → total weight vs ≤ k * (length p / 4)
   picked_total p vs h =
-      le_trans (every_total (filter is_one h.0) vs h.2) (mul-le-mul_left k (le_trans (total_filtered room is_one h.0) (frames_room p h.0 h.1)))
+      le_trans (every_total (filter is_one h.0) vs h.2)
+      (mul-le-mul_left k (le_trans (total_filtered room is_one h.0) (frames_room p h.0 h.1)))
 
 -- ** counts
 
@@ -93,11 +106,24 @@ module _ {V : Type 0} (place : Grammar Frame V) (count : V → ℕ)
 -- ** lengths
 
 module _ {V : Type 0} (place : Grammar Frame V) (frame : V → Frame) (k e : ℕ)
-    (bounded : (f : Frame) (v : V) → place.means f v → length (canon (frame v)) + e ≤ k * (1 + length f.payload / 4)) where
-  pub list_length : (p : List ℕ) (vs : List V) → (list place).means p vs → length (canons frame vs) + e * length vs ≤ k * (length p / 4)
+    (bounded : (f : Frame) (v : V) → place.means f v
+    → length (canon (frame v)) + e ≤ k * (1 + length f.payload / 4)) where
+  pub list_length : (p : List ℕ) (vs : List V) → (list place).means p vs
+      → length (canons frame vs) + e * length vs ≤ k * (length p / 4)
   list_length p vs h =
-      omega (arith, list_total place (λ v. length (canon (frame v)) + e) k bounded p vs h, total_more (λ v. length (canon (frame v))) e vs, length-canons frame vs)
+      omega (
+        arith,
+        list_total place (λ v. length (canon (frame v)) + e) k bounded p vs h,
+        total_more (λ v. length (canon (frame v))) e vs,
+        length-canons frame vs,
+      )
 
-  pub picked_length : (p : List ℕ) (vs : List V) → (picked place).means p vs → length (canons frame vs) + e * length vs ≤ k * (length p / 4)
+  pub picked_length : (p : List ℕ) (vs : List V) → (picked place).means p vs
+      → length (canons frame vs) + e * length vs ≤ k * (length p / 4)
   picked_length p vs h =
-      omega (arith, picked_total place (λ v. length (canon (frame v)) + e) k bounded p vs h, total_more (λ v. length (canon (frame v))) e vs, length-canons frame vs)
+      omega (
+        arith,
+        picked_total place (λ v. length (canon (frame v)) + e) k bounded p vs h,
+        total_more (λ v. length (canon (frame v))) e vs,
+        length-canons frame vs,
+      )

@@ -95,8 +95,19 @@ pub record Place (V : Type 0) : Type 1 where
 
 -- ** payloads with nothing inside
 
-abbrev pub flat : {A : Type 0} (g : Grammar (List ℕ) A) (text : A → List ℕ) (enough : ℕ) → LawfulPayload g text always always none plain_growth 0 enough → Codec A
-flat g text enough h = record { grammar = g; text = text; Inside = always; count = none; factor = plain_growth; fewer = 0; enough = enough; lawful = h; sure = Some (λ a. tt) }
+abbrev pub flat : {A : Type 0} (g : Grammar (List ℕ) A) (text : A → List ℕ) (enough : ℕ)
+    → LawfulPayload g text always always none plain_growth 0 enough → Codec A
+flat g text enough h = record {
+  grammar = g;
+  text = text;
+  Inside = always;
+  count = none;
+  factor = plain_growth;
+  fewer = 0;
+  enough = enough;
+  lawful = h;
+  sure = Some (λ a. tt);
+}
 
 abbrev pub bytes : Codec (List ℕ)
 bytes = flat payload.bytes (λ p. p) most_payload (bytes_lawful most_payload (lit≤ tt))
@@ -121,17 +132,20 @@ abbrev pub u64 : Codec ℕ
 u64 = number_of w64
 
 abbrev pub i32 : Codec ℤ
-i32 = flat (payload.signed_of w32) (λ z. to_le_bytes w32 (cast_unsigned w32 z)) most_payload (signed_lawful w32 most_payload)
+i32 = flat (payload.signed_of w32) (λ z. to_le_bytes w32 (cast_unsigned w32 z)) most_payload
+    (signed_lawful w32 most_payload)
 
 -- a number that was read as a signed one is written as it was
-pub signed_same : (w : Width) (p : List ℕ) (x : ℕ) → IsBytes p → (payload.number_of w).means p x → to_le_bytes w (cast_unsigned w (cast_signed w x)) ≡ to_le_bytes w x
+pub signed_same : (w : Width) (p : List ℕ) (x : ℕ) → IsBytes p → (payload.number_of w).means p x
+    → to_le_bytes w (cast_unsigned w (cast_signed w x)) ≡ to_le_bytes w x
 signed_same w p x small means =
     let below : x < 2 ^ bits w = subst (λ y. y < 2 ^ bits w) (sym means.1) (from_le_bytes_below w p small) in
     ap (to_le_bytes w) (signed_number_again w x below)
 
 -- the values that stand for the numbers of a width, each of which is the number of its value
 abbrev pub enum : {A : Type 0} (w : Width) (of : ℕ → A) (num : A → ℕ) → ((x : ℕ) → num (of x) ≡ x) → Codec A
-enum w of num again = flat (as_a of (payload.number_of w)) (λ a. to_le_bytes w (num a)) most_payload (enum_lawful w of num most_payload again)
+enum w of num again = flat (as_a of (payload.number_of w)) (λ a. to_le_bytes w (num a)) most_payload
+    (enum_lawful w of num most_payload again)
 
 -- a record that is refused where the payload is short
 abbrev pub sized : {A : Type 0} (size : ℕ) (of : List ℕ → A) (text_of : A → List ℕ)
@@ -140,7 +154,8 @@ abbrev pub sized : {A : Type 0} (size : ℕ) (of : List ℕ → A) (text_of : A 
     → size ≤ most_payload
     → Codec A
 sized size of text_of sized_as again short =
-    flat (payload.sized size of) text_of most_payload (sized_record_lawful size most_payload of text_of sized_as again short)
+    flat (payload.sized size of) text_of most_payload
+    (sized_record_lawful size most_payload of text_of sized_as again short)
 
 -- a record that is filled up with zeros where the payload is short
 abbrev pub filled : {A : Type 0} (size : ℕ) (of : List ℕ → A) (text_of : A → List ℕ)
@@ -161,10 +176,12 @@ filled size of text_of sized_as again short = record {
 }
 
 -- the same of a record with its laws
-abbrev pub sized_record : {A : Type 0} {size : ℕ} {of : List ℕ → A} {text_of : A → List ℕ} → RecordLaws size of text_of → size ≤ most_payload → Codec A
+abbrev pub sized_record : {A : Type 0} {size : ℕ} {of : List ℕ → A} {text_of : A → List ℕ} → RecordLaws size of text_of
+    → size ≤ most_payload → Codec A
 sized_record {A} {size} {of} {text_of} laws short = sized size of text_of laws.sized laws.again short
 
-abbrev pub filled_record : {A : Type 0} {size : ℕ} {of : List ℕ → A} {text_of : A → List ℕ} → RecordLaws size of text_of → size ≤ most_payload → Codec A
+abbrev pub filled_record : {A : Type 0} {size : ℕ} {of : List ℕ → A} {text_of : A → List ℕ} → RecordLaws size of text_of
+    → size ≤ most_payload → Codec A
 filled_record {A} {size} {of} {text_of} laws short = filled size of text_of laws.sized laws.again short
 
 -- no more octets than were read
@@ -187,7 +204,8 @@ pub address_lawful : LawfulPayload payload.ipv6_address ipv6_octets always alway
 address_lawful = record {
   agrees = as_agrees IsBytes payload.address_of_octets (payload.exactly 16) (exactly_agrees 16);
   no_memory = memory_exactly 16;
-  back = λ p a small means fits good. subst (λ (octets : List ℕ). payload.ipv6_address.means octets a) (sym (address_again p a small means)) means;
+  back = λ p a small means fits good.
+      subst (λ (octets : List ℕ). payload.ipv6_address.means octets a) (sym (address_again p a small means)) means;
   counted = λ p a means. omega arith;
   bounded = λ p a means. omega (arith, address_short p a means, means.1.0);
   small = λ p a short small means. (omega (arith, address_short p a means), tt);
@@ -214,10 +232,16 @@ enough_below : (factor fewer enough : ℕ) → factor * (list_enough factor fewe
 enough_below factor fewer enough =
     let quarter : list_enough factor fewer enough / 4 ≤ (most_payload + fewer) / factor =
     omega (arith, (least_below (enough + 4) (4 * ((most_payload + fewer) / factor) + 3) _ refl).1) in
-    omega (arith, mul-le-mul_left factor quarter, div-mul-le_self (most_payload + fewer) factor, mul_comm ((most_payload + fewer) / factor) factor)
+    omega (
+      arith,
+      mul-le-mul_left factor quarter,
+      div-mul-le_self (most_payload + fewer) factor,
+      mul_comm ((most_payload + fewer) / factor) factor,
+    )
 
 -- where nothing is asked of members, nothing is asked of the list
-unasked : {V : Type 0} {g : Grammar (List ℕ) (List V)} {text : List V → List ℕ} {Fits : List V → Type 0} {count : List V → ℕ} {k e n : ℕ}
+unasked : {V : Type 0} {g : Grammar (List ℕ) (List V)} {text : List V → List ℕ} {Fits : List V → Type 0}
+    {count : List V → ℕ} {k e n : ℕ}
     → LawfulPayload g text Fits (AllByRecursion always) count k e n → LawfulPayload g text Fits always count k e n
 unasked h = record {
   agrees = h.agrees;
@@ -229,7 +253,8 @@ unasked h = record {
 }
 
 abbrev pub listed : {V : Type 0} {Good : List V → Type 0} (p : Place V) (g : Grammar (List ℕ) (List V))
-    → LawfulPayload g (canons p.frame) (AllFit p.Fits p.frame) Good (total p.count) p.factor (p.factor - plain_growth) (list_enough p.factor p.fewer p.enough) → CodecWhere (List V) Good
+    → LawfulPayload g (canons p.frame) (AllFit p.Fits p.frame) Good (total p.count) p.factor (p.factor - plain_growth)
+    (list_enough p.factor p.fewer p.enough) → CodecWhere (List V) Good
 listed p g h = record {
   grammar = g;
   text = canons p.frame;
@@ -243,26 +268,35 @@ listed p g h = record {
 }
 
 module _ {V : Type 0} (p : Place V) where
-  pub list_of_lawful : LawfulPayload (list p.grammar) (canons p.frame) (AllFit p.Fits p.frame) always (total p.count) p.factor (p.factor - plain_growth) (list_enough p.factor p.fewer p.enough)
-  list_of_lawful = unasked (list_lawful p.grammar p.frame p.Fits always p.count p.factor p.fewer p.enough p.lawful (p.factor - plain_growth) (list_enough p.factor p.fewer p.enough)
+  pub list_of_lawful : LawfulPayload (list p.grammar) (canons p.frame) (AllFit p.Fits p.frame) always
+      (total p.count) p.factor (p.factor - plain_growth) (list_enough p.factor p.fewer p.enough)
+  list_of_lawful = unasked (list_lawful p.grammar p.frame p.Fits always p.count p.factor p.fewer p.enough p.lawful
+      (p.factor - plain_growth) (list_enough p.factor p.fewer p.enough)
       (omega (arith, p.spare)) ((least_below (p.enough + 4) (4 * ((most_payload + p.fewer) / p.factor) + 3) _ refl).0)
       (enough_below p.factor p.fewer p.enough))
 
-  pub some_of_lawful : LawfulPayload (not_empty (list p.grammar)) (canons p.frame) (AllFit p.Fits p.frame) always (total p.count) p.factor (p.factor - plain_growth) (list_enough p.factor p.fewer p.enough)
-  some_of_lawful = unasked (some_lawful p.grammar p.frame p.Fits always p.count p.factor p.fewer p.enough p.lawful (p.factor - plain_growth) (list_enough p.factor p.fewer p.enough)
+  pub some_of_lawful : LawfulPayload (not_empty (list p.grammar)) (canons p.frame) (AllFit p.Fits p.frame) always
+      (total p.count) p.factor (p.factor - plain_growth) (list_enough p.factor p.fewer p.enough)
+  some_of_lawful = unasked (some_lawful p.grammar p.frame p.Fits always p.count p.factor p.fewer p.enough p.lawful
+      (p.factor - plain_growth) (list_enough p.factor p.fewer p.enough)
       (omega (arith, p.spare)) ((least_below (p.enough + 4) (4 * ((most_payload + p.fewer) / p.factor) + 3) _ refl).0)
       (enough_below p.factor p.fewer p.enough))
 
   -- members with another number than 1 dropped
   pub picked_of_lawful : ((v : V) → number (p.frame v) ≡ 1)
-      → LawfulPayload (picked p.grammar) (canons p.frame) (AllFit p.Fits p.frame) always (total p.count) p.factor (p.factor - plain_growth) (list_enough p.factor p.fewer p.enough)
-  picked_of_lawful ones = unasked (picked_lawful p.grammar p.frame p.Fits always p.count p.factor p.fewer p.enough p.lawful (p.factor - plain_growth) (list_enough p.factor p.fewer p.enough)
+      → LawfulPayload (picked p.grammar) (canons p.frame) (AllFit p.Fits p.frame) always (total p.count) p.factor
+      (p.factor - plain_growth) (list_enough p.factor p.fewer p.enough)
+  picked_of_lawful ones = unasked (picked_lawful p.grammar p.frame p.Fits always
+      p.count p.factor p.fewer p.enough p.lawful (p.factor - plain_growth) (list_enough p.factor p.fewer p.enough)
       (omega (arith, p.spare)) ((least_below (p.enough + 4) (4 * ((most_payload + p.fewer) / p.factor) + 3) _ refl).0)
       (enough_below p.factor p.fewer p.enough) ones)
 
   pub some_picked_of_lawful : ((v : V) → number (p.frame v) ≡ 1)
-      → LawfulPayload (not_empty (picked p.grammar)) (canons p.frame) (AllFit p.Fits p.frame) (λ vs. (0 < length vs) × AllByRecursion always vs) (total p.count) p.factor (p.factor - plain_growth) (list_enough p.factor p.fewer p.enough)
-  some_picked_of_lawful ones = some_picked_lawful p.grammar p.frame p.Fits always p.count p.factor p.fewer p.enough p.lawful (p.factor - plain_growth) (list_enough p.factor p.fewer p.enough)
+      → LawfulPayload (not_empty (picked p.grammar)) (canons p.frame) (AllFit p.Fits p.frame)
+      (λ vs. (0 < length vs) × AllByRecursion always vs) (total p.count) p.factor (p.factor - plain_growth)
+      (list_enough p.factor p.fewer p.enough)
+  some_picked_of_lawful ones = some_picked_lawful p.grammar p.frame p.Fits always
+      p.count p.factor p.fewer p.enough p.lawful (p.factor - plain_growth) (list_enough p.factor p.fewer p.enough)
       (omega (arith, p.spare)) ((least_below (p.enough + 4) (4 * ((most_payload + p.fewer) / p.factor) + 3) _ refl).0)
       (enough_below p.factor p.fewer p.enough) ones
 
@@ -279,13 +313,15 @@ abbrev pub picked_of : {V : Type 0} (p : Place V) → ((v : V) → number (p.fra
 picked_of p ones = listed p (picked p.grammar) (picked_of_lawful p ones)
 
 -- the same, where the empty payload is refused: a text of no members would be
-abbrev pub some_picked_of : {V : Type 0} (p : Place V) → ((v : V) → number (p.frame v) ≡ 1) → CodecWhere (List V) (λ vs. (0 < length vs) × AllByRecursion always vs)
+abbrev pub some_picked_of : {V : Type 0} (p : Place V) → ((v : V) → number (p.frame v) ≡ 1)
+    → CodecWhere (List V) (λ vs. (0 < length vs) × AllByRecursion always vs)
 some_picked_of p ones = listed p (not_empty (picked p.grammar)) (some_picked_of_lawful p ones)
 
 -- ** a newtype around a value
 
 module _ {A B : Type 0} (wrap : A → B) (inner : B → A) (c : Codec A) (same : (a : A) → inner (wrap a) ≡ a) where
-  pub as_codec_lawful : LawfulPayload (as_a wrap c.grammar) (λ b. c.text (inner b)) (λ b. c.Inside (inner b)) always (λ b. c.count (inner b)) c.factor c.fewer c.enough
+  pub as_codec_lawful : LawfulPayload (as_a wrap c.grammar) (λ b. c.text (inner b)) (λ b. c.Inside (inner b)) always
+      (λ b. c.count (inner b)) c.factor c.fewer c.enough
   as_codec_lawful = as_lawful wrap c.grammar c.text c.Inside always c.count c.factor c.fewer c.enough c.lawful
       (λ b. c.text (inner b)) (λ b. c.Inside (inner b)) always (λ b. c.count (inner b))
       (λ a. ap c.text (same a)) (λ a. ap c.count (same a))
@@ -293,14 +329,18 @@ module _ {A B : Type 0} (wrap : A → B) (inner : B → A) (c : Codec A) (same :
 
   pub place_of_lawful : (kind : ℕ) → kind < 2 ^ 16
       → LawfulPlace (by_payload (as_a wrap c.grammar)) (λ b. record { kind = kind; payload = c.text (inner b) })
-      (λ b. (length (c.text (inner b)) ≤ most_payload) × c.Inside (inner b)) always (λ b. 1 + c.count (inner b)) c.factor c.fewer c.enough
-  place_of_lawful kind small = wrapped_lawful wrap c.grammar c.text c.Inside always c.count c.factor c.fewer c.enough c.lawful
+      (λ b. (length (c.text (inner b)) ≤ most_payload) × c.Inside (inner b)) always
+      (λ b. 1 + c.count (inner b)) c.factor c.fewer c.enough
+  place_of_lawful kind small =
+      wrapped_lawful wrap c.grammar c.text c.Inside always c.count c.factor c.fewer c.enough c.lawful
       kind (λ b. record { kind = kind; payload = c.text (inner b) })
       (λ b. (length (c.text (inner b)) ≤ most_payload) × c.Inside (inner b)) always (λ b. 1 + c.count (inner b)) small
       (λ a. ap (λ x. record { kind = kind; payload = c.text x }) (same a)) (λ a. ap (λ x. 1 + c.count x) (same a))
       (λ a fits. (subst (λ x. length (c.text x) ≤ most_payload) (same a) fits.0, subst c.Inside (same a) fits.1))
-      (λ a short inside. (subst (λ x. length (c.text x) ≤ most_payload) (sym (same a)) short, subst c.Inside (sym (same a)) inside))
-      (λ a good. tt)
+      (λ a short inside. (
+        subst (λ x. length (c.text x) ≤ most_payload) (sym (same a)) short,
+        subst c.Inside (sym (same a)) inside,
+      )) (λ a good. tt)
 
   abbrev pub as_codec : Codec B
   as_codec = record {
@@ -316,7 +356,8 @@ module _ {A B : Type 0} (wrap : A → B) (inner : B → A) (c : Codec A) (same :
   }
 
   -- each frame is read by its payload, and written with one kind
-  abbrev pub place_of : (kind : ℕ) → kind < 2 ^ 16 → T (nat_le (plain_growth + c.fewer) c.factor) → T (nat_le c.factor growth) → Place B
+  abbrev pub place_of : (kind : ℕ) → kind < 2 ^ 16 → T (nat_le (plain_growth + c.fewer) c.factor)
+      → T (nat_le c.factor growth) → Place B
   place_of kind small spare within = record {
     grammar = by_payload (as_a wrap c.grammar);
     frame = λ b. record { kind = kind; payload = c.text (inner b) };
@@ -357,5 +398,7 @@ is_lawful p = (
   p.kept,
 )
 
-pub place_bounded : {V : Type 0} (p : Place V) (f : Frame) (v : V) → p.grammar.means f v → length (canon (p.frame v)) ≤ growth * (1 + length f.payload / 4)
-place_bounded p f v means = omega (arith, text_bounded p.lawful f v means, mul-le-mul_right (1 + length f.payload / 4) p.within)
+pub place_bounded : {V : Type 0} (p : Place V) (f : Frame) (v : V) → p.grammar.means f v
+    → length (canon (p.frame v)) ≤ growth * (1 + length f.payload / 4)
+place_bounded p f v means =
+    omega (arith, text_bounded p.lawful f v means, mul-le-mul_right (1 + length f.payload / 4) p.within)

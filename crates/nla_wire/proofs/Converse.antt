@@ -13,7 +13,9 @@ module _ {V : Type 0} (place : Grammar Frame V) (frame : V → Frame) where
   each_means (v ∷ vs) h = (h.0, each_means vs h.1)
 
   -- the frame of each member means it
-  pub list_members : (vs : List V) → (list place).means (canons frame vs) vs → AllByRecursion (λ v. IsWritable (frame v)) vs
+  pub list_members : (vs : List V) → (list place).means (canons frame vs) vs
+      → AllByRecursion (λ v. IsWritable (frame v)) vs
       → AllByRecursion (λ v. place.means (frame v) v) vs
   list_members vs h writable =
-      each_means vs (subst (λ fs. Every place.means fs vs) (frames_once (canons frame vs) h.0 (map frame vs) h.1 (canons_frames frame vs writable)) h.2)
+      each_means vs (subst (λ fs. Every place.means fs vs)
+      (frames_once (canons frame vs) h.0 (map frame vs) h.1 (canons_frames frame vs writable)) h.2)

@@ -41,7 +41,8 @@ same_sum f g (suc k) h = ap₂ (λ a b. a + b) (same_sum f g k (λ i l. h i (ome
 -- so many numbers below the width's bytes
 same_number : (w : Width) (f g : ℕ → ℕ) → ((i : ℕ) → i < byte_len w → f i ≡ g i)
     → sum_through (λ i. byte_worth i (f i)) (byte_len w - 1) ≡ sum_through (λ i. byte_worth i (g i)) (byte_len w - 1)
-same_number w f g h = same_sum (λ i. byte_worth i (f i)) (λ i. byte_worth i (g i)) (byte_len w - 1) (λ i l. ap (byte_worth i) (h i (omega (arith, byte_len_pos w))))
+same_number w f g h = same_sum (λ i. byte_worth i (f i)) (λ i. byte_worth i (g i)) (byte_len w - 1)
+    (λ i l. ap (byte_worth i) (h i (omega (arith, byte_len_pos w))))
 
 power_pos : (k : ℕ) → 0 < 256 ^ k
 power_pos zero = lit< tt
@@ -77,7 +78,8 @@ length-to_le_bytes w n = length-low_first 0 (byte_len w) n
 pub from_le_bytes-to_le_bytes : (w : Width) (n : ℕ) → n < 2 ^ bits w → from_le_bytes w (to_le_bytes w n) ≡ n
 from_le_bytes-to_le_bytes w n h =
     let last : suc (byte_len w - 1) ≡ byte_len w = omega (arith, byte_len_pos w) in
-    same_number w (λ i. get_or (to_le_bytes w n) i 0) (λ i. byte_at i n) (λ i l. get_low 0 (byte_len w) n i l ∙ ap (λ x. byte_at x n) (zero-add i))
+    same_number w (λ i. get_or (to_le_bytes w n) i 0) (λ i. byte_at i n)
+    (λ i l. get_low 0 (byte_len w) n i l ∙ ap (λ x. byte_at x n) (zero-add i))
     ∙ sum_of_bytes n (byte_len w - 1)
     ∙ ap (λ x. n % 256 ^ x) last
     ∙ ap (λ x. n % x) (bytes_of_width w)
@@ -88,10 +90,12 @@ IsBytes-get [] i h = lit< tt
 IsBytes-get (x ∷ b) zero h = h.0
 IsBytes-get (x ∷ b) (suc i) h = IsBytes-get b i h.1
 
-sum_fits : (w : Width) (f : ℕ → ℕ) → ((i : ℕ) → f i < 256) → sum_through (λ i. byte_worth i (f i)) (byte_len w - 1) < 2 ^ bits w
+sum_fits : (w : Width) (f : ℕ → ℕ) → ((i : ℕ) → f i < 256)
+    → sum_through (λ i. byte_worth i (f i)) (byte_len w - 1) < 2 ^ bits w
 sum_fits w f h =
     let last : suc (byte_len w - 1) ≡ byte_len w = omega (arith, byte_len_pos w) in
-    subst (λ x. sum_through (λ i. byte_worth i (f i)) (byte_len w - 1) < x) (ap (λ x. 256 ^ x) last ∙ bytes_of_width w) (sum_below f h (byte_len w - 1))
+    subst (λ x. sum_through (λ i. byte_worth i (f i)) (byte_len w - 1) < x) (ap (λ x. 256 ^ x) last ∙ bytes_of_width w)
+    (sum_below f h (byte_len w - 1))
 
 pub from_le_bytes_below : (w : Width) (p : List ℕ) → IsBytes p → from_le_bytes w p < 2 ^ bits w
 from_le_bytes_below w p h = sum_fits w (λ i. get_or p i 0) (λ i. IsBytes-get p i h)
@@ -111,14 +115,16 @@ unfolding number_at
 number_at_below w p place h = sum_fits w (λ i. get_or p (place + i) 0) (λ i. IsBytes-get p (place + i) h)
 
 -- it is the number of those bytes alone
-pub number_at_same : (w : Width) (a b : List ℕ) (x y : ℕ) → ((i : ℕ) → i < byte_len w → get_or a (x + i) 0 ≡ get_or b (y + i) 0)
+pub number_at_same : (w : Width) (a b : List ℕ) (x y : ℕ)
+    → ((i : ℕ) → i < byte_len w → get_or a (x + i) 0 ≡ get_or b (y + i) 0)
     → number_at w a x ≡ number_at w b y
 unfolding number_at
 number_at_same w a b x y h = same_number w (λ i. get_or a (x + i) 0) (λ i. get_or b (y + i) 0) h
 
 pub number_at_front : (w : Width) (p : List ℕ) → number_at w p 0 ≡ from_le_bytes w p
 unfolding number_at
-number_at_front w p = same_number w (λ i. get_or p (0 + i) 0) (λ i. get_or p i 0) (λ i l. ap (λ x. get_or p x 0) (zero-add i))
+number_at_front w p =
+    same_number w (λ i. get_or p (0 + i) 0) (λ i. get_or p i 0) (λ i l. ap (λ x. get_or p x 0) (zero-add i))
 
 zero_there : (m j : ℕ) → get_or {A = ℕ} (replicate m 0) j 0 ≡ 0
 zero_there zero j = refl
@@ -132,12 +138,16 @@ get_or_zeros (x ∷ bytes) m zero = refl
 get_or_zeros (x ∷ bytes) m (suc j) = get_or_zeros bytes m j
 
 -- bytes after a payload that is long enough aren't seen, nor are bytes in front of the place
-pub number_at_before : (w : Width) (bytes more : List ℕ) (place : ℕ) → place + byte_len w ≤ length bytes → number_at w (bytes ++ more) place ≡ number_at w bytes place
-number_at_before w bytes more place h = number_at_same w (bytes ++ more) bytes place place (λ i l. get_or_append_left bytes more 0 (place + i) (omega arith))
+pub number_at_before : (w : Width) (bytes more : List ℕ) (place : ℕ) → place + byte_len w ≤ length bytes
+    → number_at w (bytes ++ more) place ≡ number_at w bytes place
+number_at_before w bytes more place h = number_at_same w (bytes ++ more) bytes place place
+    (λ i l. get_or_append_left bytes more 0 (place + i) (omega arith))
 
-pub number_at_behind : (w : Width) (front bytes : List ℕ) (place : ℕ) → number_at w (front ++ bytes) (length front + place) ≡ number_at w bytes place
+pub number_at_behind : (w : Width) (front bytes : List ℕ) (place : ℕ)
+    → number_at w (front ++ bytes) (length front + place) ≡ number_at w bytes place
 number_at_behind w front bytes place = number_at_same w (front ++ bytes) bytes (length front + place) place (λ i l.
-    ap (λ z. get_or (front ++ bytes) z 0) (add_assoc (length front) place i) ∙ get_or-append-add front bytes (place + i) 0)
+    ap (λ z. get_or (front ++ bytes) z 0) (add_assoc (length front) place i)
+    ∙ get_or-append-add front bytes (place + i) 0)
 
 -- ** numbers one after the other
 
@@ -145,11 +155,13 @@ pub length-numbers_from : (w : Width) (p : List ℕ) (place n : ℕ) → length 
 length-numbers_from w p place zero = refl
 length-numbers_from w p place (suc n) = ap suc (length-numbers_from w p (place + byte_len w) n)
 
-pub numbers_from_below : (w : Width) (p : List ℕ) (place n : ℕ) → IsBytes p → AllByRecursion (λ x. x < 2 ^ bits w) (numbers_from w p place n)
+pub numbers_from_below : (w : Width) (p : List ℕ) (place n : ℕ) → IsBytes p
+    → AllByRecursion (λ x. x < 2 ^ bits w) (numbers_from w p place n)
 numbers_from_below w p place zero h = tt
 numbers_from_below w p place (suc n) h = (number_at_below w p place h, numbers_from_below w p (place + byte_len w) n h)
 
-pub numbers_from_same : (w : Width) (a b : List ℕ) (x y n : ℕ) → ((i : ℕ) → i < n * byte_len w → get_or a (x + i) 0 ≡ get_or b (y + i) 0)
+pub numbers_from_same : (w : Width) (a b : List ℕ) (x y n : ℕ)
+    → ((i : ℕ) → i < n * byte_len w → get_or a (x + i) 0 ≡ get_or b (y + i) 0)
     → numbers_from w a x n ≡ numbers_from w b y n
 numbers_from_same w a b x y zero h = refl
 numbers_from_same w a b x y (suc n) h =
@@ -162,16 +174,21 @@ numbers_from_same w a b x y (suc n) h =
     (λ j. here j ∷ after j)
 
 -- nor are bytes in front of the place
-pub numbers_from_behind : (w : Width) (front bytes : List ℕ) (place n : ℕ) → numbers_from w (front ++ bytes) (length front + place) n ≡ numbers_from w bytes place n
-numbers_from_behind w front bytes place n = numbers_from_same w (front ++ bytes) bytes (length front + place) place n (λ i l.
-    ap (λ z. get_or (front ++ bytes) z 0) (add_assoc (length front) place i) ∙ get_or-append-add front bytes (place + i) 0)
+pub numbers_from_behind : (w : Width) (front bytes : List ℕ) (place n : ℕ)
+    → numbers_from w (front ++ bytes) (length front + place) n ≡ numbers_from w bytes place n
+numbers_from_behind w front bytes place n =
+    numbers_from_same w (front ++ bytes) bytes (length front + place) place n (λ i l.
+    ap (λ z. get_or (front ++ bytes) z 0) (add_assoc (length front) place i)
+    ∙ get_or-append-add front bytes (place + i) 0)
 
 -- a number is read again from its bytes, whatever follows, and whatever stands in front of them
 pub number_again : (w : Width) (n : ℕ) (more : List ℕ) → n < 2 ^ bits w → number_at w (to_le_bytes w n ++ more) 0 ≡ n
 number_again w n more h =
-    number_at_before w (to_le_bytes w n) more 0 (omega (arith, length-to_le_bytes w n)) ∙ number_at_front w (to_le_bytes w n) ∙ from_le_bytes-to_le_bytes w n h
+    number_at_before w (to_le_bytes w n) more 0 (omega (arith, length-to_le_bytes w n))
+    ∙ number_at_front w (to_le_bytes w n) ∙ from_le_bytes-to_le_bytes w n h
 
-pub number_again_between : (w : Width) (front : List ℕ) (n : ℕ) (more : List ℕ) (place : ℕ) → n < 2 ^ bits w → length front ≡ place
+pub number_again_between : (w : Width) (front : List ℕ) (n : ℕ) (more : List ℕ) (place : ℕ) → n < 2 ^ bits w
+    → length front ≡ place
     → number_at w (front ++ (to_le_bytes w n ++ more)) place ≡ n
 number_again_between w front n more place h is =
     ap (number_at w (front ++ (to_le_bytes w n ++ more))) (sym is ∙ sym (add-zero (length front)))
@@ -179,12 +196,15 @@ number_again_between w front n more place h is =
     ∙ number_again w n more h
 
 -- numbers are read again from their bytes, whatever follows
-pub numbers_again_before : (w : Width) (ns : List ℕ) (more : List ℕ) → AllByRecursion (λ n. n < 2 ^ bits w) ns → numbers_from w (le_all w ns ++ more) 0 (length ns) ≡ ns
+pub numbers_again_before : (w : Width) (ns : List ℕ) (more : List ℕ) → AllByRecursion (λ n. n < 2 ^ bits w) ns
+    → numbers_from w (le_all w ns ++ more) 0 (length ns) ≡ ns
 numbers_again_before w [] more h = refl
 numbers_again_before w (n ∷ ns) more h =
     let text : List ℕ = to_le_bytes w n in
-    let regroup : (text ++ le_all w ns) ++ more ≡ text ++ (le_all w ns ++ more) = append_assoc text (le_all w ns) more in
-    let here : number_at w ((text ++ le_all w ns) ++ more) 0 ≡ n = ap (λ x. number_at w x 0) regroup ∙ number_again w n (le_all w ns ++ more) h.0 in
+    let regroup : (text ++ le_all w ns) ++ more ≡ text ++ (le_all w ns ++ more) =
+    append_assoc text (le_all w ns) more in
+    let here : number_at w ((text ++ le_all w ns) ++ more) 0 ≡ n =
+    ap (λ x. number_at w x 0) regroup ∙ number_again w n (le_all w ns ++ more) h.0 in
     let place : 0 + byte_len w ≡ length text + 0 = omega (arith, length-to_le_bytes w n) in
     let after : numbers_from w ((text ++ le_all w ns) ++ more) (0 + byte_len w) (length ns) ≡ ns =
     ap₂ (λ x y. numbers_from w x y (length ns)) regroup place
@@ -192,16 +212,20 @@ numbers_again_before w (n ∷ ns) more h =
     ∙ numbers_again_before w ns more h.1 in
     (λ j. here j ∷ after j)
 
-pub numbers_again : (w : Width) (ns : List ℕ) → AllByRecursion (λ n. n < 2 ^ bits w) ns → numbers_from w (le_all w ns) 0 (length ns) ≡ ns
-numbers_again w ns h = ap (λ x. numbers_from w x 0 (length ns)) (sym (append-nil (le_all w ns))) ∙ numbers_again_before w ns [] h
+pub numbers_again : (w : Width) (ns : List ℕ) → AllByRecursion (λ n. n < 2 ^ bits w) ns
+    → numbers_from w (le_all w ns) 0 (length ns) ≡ ns
+numbers_again w ns h = ap (λ x. numbers_from w x 0 (length ns)) (sym (append-nil (le_all w ns)))
+    ∙ numbers_again_before w ns [] h
 
 pub length-le_all : (w : Width) (ns : List ℕ) → length (le_all w ns) ≡ length ns * byte_len w
 length-le_all w [] = omega arith
-length-le_all w (n ∷ ns) = omega (arith, length-append (to_le_bytes w n) (le_all w ns), length-to_le_bytes w n, length-le_all w ns)
+length-le_all w (n ∷ ns) =
+    omega (arith, length-append (to_le_bytes w n) (le_all w ns), length-to_le_bytes w n, length-le_all w ns)
 
 -- ** signed numbers
 
-pub signed_from_is : (w : Width) (p : List ℕ) (place n : ℕ) → signed_from w p place n ≡ map (cast_signed w) (numbers_from w p place n)
+pub signed_from_is : (w : Width) (p : List ℕ) (place n : ℕ)
+    → signed_from w p place n ≡ map (cast_signed w) (numbers_from w p place n)
 signed_from_is w p place zero = refl
 signed_from_is w p place (suc n) = ap (λ zs. signed_at w p place ∷ zs) (signed_from_is w p (place + byte_len w) n)
 
@@ -209,19 +233,24 @@ pub le_all_signed_is : (w : Width) (zs : List ℤ) → le_all_signed w zs ≡ le
 le_all_signed_is w [] = refl
 le_all_signed_is w (z ∷ zs) = ap (λ b. to_le_bytes w (cast_unsigned w z) ++ b) (le_all_signed_is w zs)
 
-unsigned_below : (w : Width) (zs : List ℤ) → AllByRecursion (FitsSigned w) zs → AllByRecursion (λ n. n < 2 ^ bits w) (map (cast_unsigned w) zs)
+unsigned_below : (w : Width) (zs : List ℤ) → AllByRecursion (FitsSigned w) zs
+    → AllByRecursion (λ n. n < 2 ^ bits w) (map (cast_unsigned w) zs)
 unsigned_below w [] h = tt
 unsigned_below w (z ∷ zs) h = ((Fits-of_z h.0).fits, unsigned_below w zs h.1)
 
-signed_there : (w : Width) (zs : List ℤ) → AllByRecursion (FitsSigned w) zs → map (cast_signed w) (map (cast_unsigned w) zs) ≡ zs
+signed_there : (w : Width) (zs : List ℤ) → AllByRecursion (FitsSigned w) zs
+    → map (cast_signed w) (map (cast_unsigned w) zs) ≡ zs
 signed_there w [] h = refl
 signed_there w (z ∷ zs) h = let here = to_z-of_z h.0 in let after = signed_there w zs h.1 in (λ i. here i ∷ after i)
 
-pub signed_from_fits : (w : Width) (p : List ℕ) (place n : ℕ) → IsBytes p → AllByRecursion (FitsSigned w) (signed_from w p place n)
+pub signed_from_fits : (w : Width) (p : List ℕ) (place n : ℕ) → IsBytes p
+    → AllByRecursion (FitsSigned w) (signed_from w p place n)
 signed_from_fits w p place zero h = tt
-signed_from_fits w p place (suc n) h = (sfits_to_z (record { fits = number_at_below w p place h }), signed_from_fits w p (place + byte_len w) n h)
+signed_from_fits w p place (suc n) h =
+    (sfits_to_z (record { fits = number_at_below w p place h }), signed_from_fits w p (place + byte_len w) n h)
 
-pub signed_again_before : (w : Width) (zs : List ℤ) (more : List ℕ) → AllByRecursion (FitsSigned w) zs → signed_from w (le_all_signed w zs ++ more) 0 (length zs) ≡ zs
+pub signed_again_before : (w : Width) (zs : List ℤ) (more : List ℕ) → AllByRecursion (FitsSigned w) zs
+    → signed_from w (le_all_signed w zs ++ more) 0 (length zs) ≡ zs
 signed_again_before w zs more h =
     ap (λ x. signed_from w (x ++ more) 0 (length zs)) (le_all_signed_is w zs)
     ∙ ap (λ n. signed_from w (le_all w (map (cast_unsigned w) zs) ++ more) 0 n) (sym (length-map zs (cast_unsigned w)))
@@ -229,12 +258,15 @@ signed_again_before w zs more h =
     ∙ ap (map (cast_signed w)) (numbers_again_before w (map (cast_unsigned w) zs) more (unsigned_below w zs h))
     ∙ signed_there w zs h
 
-pub signed_again : (w : Width) (zs : List ℤ) → AllByRecursion (FitsSigned w) zs → signed_from w (le_all_signed w zs) 0 (length zs) ≡ zs
-signed_again w zs h = ap (λ x. signed_from w x 0 (length zs)) (sym (append-nil (le_all_signed w zs))) ∙ signed_again_before w zs [] h
+pub signed_again : (w : Width) (zs : List ℤ) → AllByRecursion (FitsSigned w) zs
+    → signed_from w (le_all_signed w zs) 0 (length zs) ≡ zs
+signed_again w zs h = ap (λ x. signed_from w x 0 (length zs)) (sym (append-nil (le_all_signed w zs)))
+    ∙ signed_again_before w zs [] h
 
 pub length-le_all_signed : (w : Width) (zs : List ℤ) → length (le_all_signed w zs) ≡ length zs * byte_len w
 length-le_all_signed w zs =
-    ap length (le_all_signed_is w zs) ∙ length-le_all w (map (cast_unsigned w) zs) ∙ ap (λ n. n * byte_len w) (length-map zs (cast_unsigned w))
+    ap length (le_all_signed_is w zs) ∙ length-le_all w (map (cast_unsigned w) zs)
+    ∙ ap (λ n. n * byte_len w) (length-map zs (cast_unsigned w))
 
 pub length-signed_from : (w : Width) (p : List ℕ) (place n : ℕ) → length (signed_from w p place n) ≡ n
 length-signed_from w p place zero = refl
@@ -246,18 +278,20 @@ signed_number_again w n h = of_z-to_z (record { fits = h })
 
 -- ** numbers whose highest byte comes first
 
-pub be_number_at_same : (w : Width) (a b : List ℕ) (x y : ℕ) → ((i : ℕ) → i < byte_len w → get_or a (x + i) 0 ≡ get_or b (y + i) 0)
+pub be_number_at_same : (w : Width) (a b : List ℕ) (x y : ℕ)
+    → ((i : ℕ) → i < byte_len w → get_or a (x + i) 0 ≡ get_or b (y + i) 0)
     → be_number_at w a x ≡ be_number_at w b y
 unfolding be_number_at
 be_number_at_same w a b x y h =
-    same_sum (λ i. byte_worth (byte_len w - 1 - i) (get_or a (x + i) 0)) (λ i. byte_worth (byte_len w - 1 - i) (get_or b (y + i) 0)) (byte_len w - 1)
+    same_sum (λ i. byte_worth (byte_len w - 1 - i) (get_or a (x + i) 0))
+    (λ i. byte_worth (byte_len w - 1 - i) (get_or b (y + i) 0)) (byte_len w - 1)
     (λ i l. ap (byte_worth (byte_len w - 1 - i)) (h i (omega (arith, byte_len_pos w))))
 
 pub be_number_at_front : (w : Width) (p : List ℕ) → be_number_at w p 0 ≡ from_be_bytes w p
 unfolding be_number_at
 be_number_at_front w p =
-    same_sum (λ i. byte_worth (byte_len w - 1 - i) (get_or p (0 + i) 0)) (λ i. byte_worth (byte_len w - 1 - i) (get_or p i 0)) (byte_len w - 1)
-    (λ i l. ap (λ x. byte_worth (byte_len w - 1 - i) (get_or p x 0)) (zero-add i))
+    same_sum (λ i. byte_worth (byte_len w - 1 - i) (get_or p (0 + i) 0)) (λ i. byte_worth (byte_len w - 1 - i)
+    (get_or p i 0)) (byte_len w - 1) (λ i l. ap (λ x. byte_worth (byte_len w - 1 - i) (get_or p x 0)) (zero-add i))
 
 pub be_number_at_below : (p : List ℕ) (place : ℕ) → IsBytes p → be_number_at w16 p place < 2 ^ 16
 unfolding be_number_at
@@ -267,7 +301,12 @@ be_number_at_below p place h = omega (arith, IsBytes-get p (place + 0) h, IsByte
 
 pub length-zero_filled : (n : ℕ) (bytes : List ℕ) → length (zero_filled n bytes) ≡ n
 unfolding zero_filled
-length-zero_filled n bytes = omega (arith, length-append (take n bytes) (replicate (n - length bytes) 0), length-take n bytes, length-replicate {A = ℕ} (n - length bytes) 0)
+length-zero_filled n bytes = omega (
+  arith,
+  length-append (take n bytes) (replicate (n - length bytes) 0),
+  length-take n bytes,
+  length-replicate {A = ℕ} (n - length bytes) 0,
+)
 
 -- so many bytes stay as they are
 pub zero_filled_whole : (n : ℕ) (bytes : List ℕ) → length bytes ≡ n → zero_filled n bytes ≡ bytes

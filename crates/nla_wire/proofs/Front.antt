@@ -47,18 +47,22 @@ step_long (a ∷ b ∷ c ∷ d ∷ p) h = refl
 behind_header : (b : List ℕ) → 4 ≤ length b → length (drop 4 b) + 4 ≡ length b
 behind_header b h = simp length-drop (omega arith)
 
-pub front_over : (b : List ℕ) → 4 ≤ length b → length b < length_field b → front (step b) ≡ Err (FrameOver (length_field b) (length b))
+pub front_over : (b : List ℕ) → 4 ≤ length b → length b < length_field b
+    → front (step b) ≡ Err (FrameOver (length_field b) (length b))
 front_over b long over =
     let size = behind_header b long in
-    ap front (step_long b long ∙ frame_over (length_field b) (kind_field b) (drop 4 b) (omega arith)) ∙ ap (λ n. Err (FrameOver (length_field b) n)) size
+    ap front (step_long b long ∙ frame_over (length_field b) (kind_field b) (drop 4 b) (omega arith))
+    ∙ ap (λ n. Err (FrameOver (length_field b) n)) size
 
-pub front_under : (b : List ℕ) → 4 ≤ length b → length_field b ≤ length b → length_field b < 4 → front (step b) ≡ Err (FrameUnder (length_field b))
+pub front_under : (b : List ℕ) → 4 ≤ length b → length_field b ≤ length b → length_field b < 4
+    → front (step b) ≡ Err (FrameUnder (length_field b))
 front_under b long fits under =
     let size = behind_header b long in
     ap front (step_long b long ∙ frame_under (length_field b) (kind_field b) (drop 4 b) (omega arith) under)
 
 pub step_fine : (b : List ℕ) → 4 ≤ length b → length_field b ≤ length b → 4 ≤ length_field b
-    → step b ≡ Next (record { kind = kind_field b; payload = take (length_field b - 4) (drop 4 b) }) (drop (length_field b - 4 + missing (length_field b - 4)) (drop 4 b))
+    → step b ≡ Next (record { kind = kind_field b; payload = take (length_field b - 4) (drop 4 b) })
+    (drop (length_field b - 4 + missing (length_field b - 4)) (drop 4 b))
 step_fine b long fits whole =
     let size = behind_header b long in
     step_long b long ∙ frame_fine (length_field b) (kind_field b) (drop 4 b) (omega arith) whole
@@ -69,8 +73,10 @@ next_rest : (f g : Frame) (r s : List ℕ) → Next f r ≡ Next g s → (f ≡ 
 next_rest f g r s e = (cc, cc)
 
 -- the frame that is made of the header's fields has as long a payload as the length field says
-made_size : (b : List ℕ) (len kind : ℕ) (f : Frame) → 4 ≤ length b → len ≤ length b → f ≡ record { kind = kind; payload = take (len - 4) (drop 4 b) } → length f.payload ≡ len - 4
-made_size b len kind f long fits e = ap (λ (g : Frame). length g.payload) e ∙ simp (length-take, length-drop) (omega arith)
+made_size : (b : List ℕ) (len kind : ℕ) (f : Frame) → 4 ≤ length b → len ≤ length b
+    → f ≡ record { kind = kind; payload = take (len - 4) (drop 4 b) } → length f.payload ≡ len - 4
+made_size b len kind f long fits e =
+    ap (λ (g : Frame). length g.payload) e ∙ simp (length-take, length-drop) (omega arith)
 
 -- one of the two holds
 lt_or_le : (a b : ℕ) → (a < b) ⊎ (b ≤ a)
@@ -80,7 +86,8 @@ step_short_cases : (b : List ℕ) (f : Frame) (rest : List ℕ) → length b < 4
 step_short_cases b f rest h e =
     let fault = sym (front_short b h) ∙ ap front e in cc
 
-pub step_rest : (b : List ℕ) (f : Frame) (rest : List ℕ) → step b ≡ Next f rest → rest ≡ drop (4 + length f.payload + missing (length f.payload)) b
+pub step_rest : (b : List ℕ) (f : Frame) (rest : List ℕ) → step b ≡ Next f rest
+    → rest ≡ drop (4 + length f.payload + missing (length f.payload)) b
 step_rest b f rest e = elim (lt_or_le (length b) 4) [
   | inl short ↦ absurd (step_short_cases b f rest short e)
   | inr long ↦ elim (lt_or_le (length b) (length_field b)) [
@@ -103,15 +110,18 @@ bad_front b End c e some h = absurd (omega (arith, ap length (step_end b e)))
 bad_front b (Bad d) c e some h = let same : d ≡ c = cc in e ∙ ap Bad same
 bad_front b (Next f rest) c e some h = absurd cc
 
-good_front : (b : List ℕ) (s : Step) (f : Frame) → step b ≡ s → front s ≡ Ok f → (rest : List ℕ) × (step b ≡ Next f rest)
+good_front : (b : List ℕ) (s : Step) (f : Frame) → step b ≡ s → front s ≡ Ok f
+    → (rest : List ℕ) × (step b ≡ Next f rest)
 good_front b End f e h = absurd cc
 good_front b (Bad d) f e h = absurd cc
 good_front b (Next g rest) f e h = let same : g ≡ f = cc in (rest, e ∙ ap (λ k. Next k rest) same)
 
 pub first_fails : (b : List ℕ) (c : Cause) → 0 < length b → front (step b) ≡ Err c → items b ≡ Err c ∷ items []
-first_fails b c some h = items_bad b c (bad_front b (step b) c refl some h) ∙ ap (λ (xs : List Item). Err c ∷ xs) (sym items_nil)
+first_fails b c some h =
+    items_bad b c (bad_front b (step b) c refl some h) ∙ ap (λ (xs : List Item). Err c ∷ xs) (sym items_nil)
 
-pub first_comes : (b : List ℕ) (f : Frame) → front (step b) ≡ Ok f → items b ≡ Ok f ∷ items (drop (4 + length f.payload + missing (length f.payload)) b)
+pub first_comes : (b : List ℕ) (f : Frame) → front (step b) ≡ Ok f
+    → items b ≡ Ok f ∷ items (drop (4 + length f.payload + missing (length f.payload)) b)
 first_comes b f h =
     let next = good_front b (step b) f refl h in
     items_next b f next.0 next.1 ∙ ap (λ r. Ok f ∷ items r) (step_rest b f next.0 next.1)
@@ -131,7 +141,8 @@ pub checked_front : (b : List ℕ) (r : Result Frame DecodeError) → IsBytes b 
 checked_front b (Ok f) bytes h =
     let next = good_front b (step b) f refl (sym h) in
     (next.0, step_begins b f next.0 bytes next.1)
-checked_front b (Err e) bytes h = (bad_meaning b (step b) e.cause refl (sym h), not_both b (step b) e.cause refl (sym h))
+checked_front b (Err e) bytes h =
+    (bad_meaning b (step b) e.cause refl (sym h), not_both b (step b) e.cause refl (sym h))
 
 -- what stands after the padding, from the length field
 pub padded_behind : (b : List ℕ) (len n : ℕ) → len ≡ 4 + n → drop (4 + n + missing n) b ≡ drop (len + missing len) b

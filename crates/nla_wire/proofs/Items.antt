@@ -24,11 +24,16 @@ unfolding items
 items_bad b c e = ap (λ (k : Cut). items_of k.frames k.stop) (cut_bad b c e)
 
 -- what holds of the end and of a fault, and of each frame and the items after it, holds of the items of all bytes
-module _ (P : List ℕ → List Item → Type 0) (at_end : P [] []) (at_fault : (b : List ℕ) (c : Cause) → step b ≡ Bad c → P b (Err c ∷ [])) (at_frame : (b : List ℕ) (f : Frame) (rest : List ℕ) → step b ≡ Next f rest → P rest (items rest) → P b (Ok f ∷ items rest)) where
-  case_on : (b : List ℕ) (s : Step) → step b ≡ s → ((rest : List ℕ) → length rest < length b → P rest (items rest)) → P b (items b)
+module _ (P : List ℕ → List Item → Type 0)
+    (at_end : P [] []) (at_fault : (b : List ℕ) (c : Cause) → step b ≡ Bad c → P b (Err c ∷ []))
+    (at_frame : (b : List ℕ) (f : Frame) (rest : List ℕ) → step b ≡ Next f rest → P rest (items rest)
+    → P b (Ok f ∷ items rest)) where
+  case_on : (b : List ℕ) (s : Step) → step b ≡ s → ((rest : List ℕ) → length rest < length b → P rest (items rest))
+      → P b (items b)
   case_on b End e more = subst (λ x. P x (items x)) (sym (step_end b e)) (subst (λ xs. P [] xs) (sym items_nil) at_end)
   case_on b (Bad c) e more = subst (λ xs. P b xs) (sym (items_bad b c e)) (at_fault b c e)
-  case_on b (Next f rest) e more = subst (λ xs. P b xs) (sym (items_next b f rest e)) (at_frame b f rest e (more rest (step_shorter b f rest e)))
+  case_on b (Next f rest) e more =
+      subst (λ xs. P b xs) (sym (items_next b f rest e)) (at_frame b f rest e (more rest (step_shorter b f rest e)))
 
   case_within : (n : ℕ) (b : List ℕ) → length b < n → P b (items b)
   case_within zero b h = absurd (omega arith)
@@ -57,7 +62,8 @@ items_are b small = ended_are b (cut b).frames (cut b).stop (cut_ended b small)
 
 -- ** reading
 
-read_more : {V : Type 0} (stop : Option Cause) (r : Result V Cause) (each_read : Result (List V) Cause) (after : Result (List V) Cause)
+read_more : {V : Type 0} (stop : Option Cause) (r : Result V Cause) (each_read : Result (List V) Cause)
+    (after : Result (List V) Cause)
     → (each_read >>= λ vs. unless stop vs) ≡ after
     → ((r >>= λ v. each_read >>= λ vs. Ok (v ∷ vs)) >>= λ vs. unless stop vs) ≡ (r >>= λ v. after >>= λ vs. Ok (v ∷ vs))
 read_more stop (Err e) each_read after h = refl
@@ -69,7 +75,8 @@ read_of : {V : Type 0} (read : Frame → Result V Cause) (fs : List Frame) (stop
     → (each read fs >>= λ vs. unless stop vs) ≡ read_items read (items_of fs stop)
 read_of read [] None = refl
 read_of read [] (Some c) = refl
-read_of read (f ∷ fs) stop = read_more stop (read f) (each read fs) (read_items read (items_of fs stop)) (read_of read fs stop)
+read_of read (f ∷ fs) stop =
+    read_more stop (read f) (each read fs) (read_items read (items_of fs stop)) (read_of read fs stop)
 
 -- a list is read item by item
 pub list_items : {V : Type 0} (read : Frame → Result V Cause) (b : List ℕ) → list_of read b ≡ read_items read (items b)

@@ -28,15 +28,18 @@ use mir.Val.{bits}
 
 -- ** the records
 
-pub record LawfulPayload {A : Type 0} (g : Grammar (List ℕ) A) (text : A → List ℕ) (Fits Good : A → Type 0) (count : A → ℕ) (k e n : ℕ) : Type 0 where
+pub record LawfulPayload {A : Type 0} (g : Grammar (List ℕ) A) (text : A → List ℕ) (Fits Good : A → Type 0)
+    (count : A → ℕ) (k e n : ℕ) : Type 0 where
   pub agrees : Agrees IsBytes g
   pub no_memory : (p : List ℕ) → g.bad p OutOfMemory → ⊥
   pub back : (p : List ℕ) (a : A) → IsBytes p → g.means p a → Fits a → Good a → g.means (text a) a
   pub counted : (p : List ℕ) (a : A) → g.means p a → count a ≤ length p / 4
-  pub bounded : (p : List ℕ) (a : A) → g.means p a → 4 + length (text a) + missing (length (text a)) + e ≤ k * (1 + length p / 4)
+  pub bounded : (p : List ℕ) (a : A) → g.means p a
+      → 4 + length (text a) + missing (length (text a)) + e ≤ k * (1 + length p / 4)
   pub small : (p : List ℕ) (a : A) → length p ≤ n → IsBytes p → g.means p a → (length (text a) ≤ most_payload) × Fits a
 
-pub record LawfulPlace {V : Type 0} (g : Grammar Frame V) (frame : V → Frame) (Fits Good : V → Type 0) (count : V → ℕ) (k e n : ℕ) : Type 0 where
+pub record LawfulPlace {V : Type 0} (g : Grammar Frame V) (frame : V → Frame) (Fits Good : V → Type 0) (count : V → ℕ)
+    (k e n : ℕ) : Type 0 where
   pub agrees : Agrees IsFrame g
   pub no_memory : (f : Frame) → g.bad f OutOfMemory → ⊥
   pub writable : (f : Frame) (v : V) → IsFrame f → g.means f v → Fits v → IsWritable (frame v)
@@ -46,7 +49,8 @@ pub record LawfulPlace {V : Type 0} (g : Grammar Frame V) (frame : V → Frame) 
   pub small : (f : Frame) (v : V) → length f.payload ≤ n → IsFrame f → g.means f v → Fits v
 
 -- the same of frames of the number m alone, whose values are written with that number again
-pub record LawfulReading {V : Type 0} (frame : V → Frame) (Fits Good : V → Type 0) (count : V → ℕ) (k e n : ℕ) (m : ℕ) (g : Grammar Frame V) : Type 0 where
+pub record LawfulReading {V : Type 0} (frame : V → Frame) (Fits Good : V → Type 0) (count : V → ℕ) (k e n : ℕ) (m : ℕ)
+    (g : Grammar Frame V) : Type 0 where
   pub agrees : Agrees IsFrame g
   pub no_memory : (f : Frame) → g.bad f OutOfMemory → ⊥
   pub same_number : (f : Frame) (v : V) → number f ≡ m → g.means f v → number (frame v) ≡ m
@@ -66,7 +70,8 @@ always a = Unit {0}
 
 -- ** a payload's value wrapped as a variant
 
-module _ {A B : Type 0} (wrap : A → B) (g : Grammar (List ℕ) A) (text : A → List ℕ) (FitsA GoodA : A → Type 0) (countA : A → ℕ) (k e n : ℕ)
+module _ {A B : Type 0} (wrap : A → B) (g : Grammar (List ℕ) A) (text : A → List ℕ) (FitsA GoodA : A → Type 0)
+    (countA : A → ℕ) (k e n : ℕ)
     (h : LawfulPayload g text FitsA GoodA countA k e n) where
   -- as a payload: a newtype around the value
   pub as_lawful : (text_of : B → List ℕ) (Fits Good : B → Type 0) (count : B → ℕ)
@@ -88,10 +93,13 @@ module _ {A B : Type 0} (wrap : A → B) (g : Grammar (List ℕ) A) (text : A �
           m.2,
         );
         counted = λ p b m. omega (arith, ap count m.2, count_is m.0, h.counted p m.0 m.1);
-        bounded = λ p b m. subst (λ x. 4 + length x + missing (length x) + e ≤ k * (1 + length p / 4)) (sym (written p b m)) (h.bounded p m.0 m.1);
+        bounded = λ p b m. subst (λ x. 4 + length x + missing (length x) + e ≤ k * (1 + length p / 4))
+            (sym (written p b m)) (h.bounded p m.0 m.1);
         small = λ p b short small m.
-            let s = h.small p m.0 short small m.1 in
-            (subst (λ x. length x ≤ most_payload) (sym (written p b m)) s.0, subst Fits (sym m.2) (fits_outside m.0 s.1));
+            let s = h.small p m.0 short small m.1 in (
+              subst (λ x. length x ≤ most_payload) (sym (written p b m)) s.0,
+              subst Fits (sym m.2) (fits_outside m.0 s.1),
+            );
       }
 
   -- as a place: each frame is read by its payload, and written with one kind
@@ -109,11 +117,13 @@ module _ {A B : Type 0} (wrap : A → B) (g : Grammar (List ℕ) A) (text : A �
         agrees = payload_agrees (as_a wrap g) (as_agrees IsBytes wrap g h.agrees);
         no_memory = λ f. h.no_memory f.payload;
         writable = λ f b one m fits.
-            subst IsWritable (sym (written f b m)) (record { kind = kind_small; size = (fits_inside m.0 (subst Fits m.2 fits)).0 });
+            subst IsWritable (sym (written f b m))
+            (record { kind = kind_small; size = (fits_inside m.0 (subst Fits m.2 fits)).0 });
         back = λ f b one m fits good. (
           m.0,
           subst (λ (x : Frame). g.means x.payload m.0) (sym (written f b m))
-              (h.back f.payload m.0 one.bytes m.1 (fits_inside m.0 (subst Fits m.2 fits)).1 (good_inside m.0 (subst Good m.2 good))),
+              (h.back f.payload m.0 one.bytes m.1 (fits_inside m.0 (subst Fits m.2 fits)).1
+              (good_inside m.0 (subst Good m.2 good))),
           m.2,
         );
         counted = λ f b m. omega (arith, ap count m.2, count_is m.0, h.counted f.payload m.0 m.1);
@@ -126,14 +136,16 @@ module _ {A B : Type 0} (wrap : A → B) (g : Grammar (List ℕ) A) (text : A �
       }
 
 -- a text has at most k bytes for each whole four bytes that were read
-pub text_bounded : {V : Type 0} {g : Grammar Frame V} {frame : V → Frame} {Fits Good : V → Type 0} {count : V → ℕ} {k e n : ℕ}
+pub text_bounded : {V : Type 0} {g : Grammar Frame V} {frame : V → Frame} {Fits Good : V → Type 0}
+    {count : V → ℕ} {k e n : ℕ}
     → LawfulPlace g frame Fits Good count k e n
     → (f : Frame) (v : V) → g.means f v → length (canon (frame v)) ≤ k * (1 + length f.payload / 4)
 text_bounded {V} {g} {frame} {Fits} {Good} {count} {k} {e} {n} h f v means = omega (arith, h.bounded f v means)
 
 -- ** wider bounds: a greater factor, less slack, and a smaller bound under which all fits
 
-pub wider : {A : Type 0} (g : Grammar (List ℕ) A) (text : A → List ℕ) (Fits Good : A → Type 0) (count : A → ℕ) (k e n j u m : ℕ) → k ≤ j → u + k ≤ e + j → m ≤ n
+pub wider : {A : Type 0} (g : Grammar (List ℕ) A) (text : A → List ℕ) (Fits Good : A → Type 0) (count : A → ℕ)
+    (k e n j u m : ℕ) → k ≤ j → u + k ≤ e + j → m ≤ n
     → LawfulPayload g text Fits Good count k e n → LawfulPayload g text Fits Good count j u m
 wider g text Fits Good count k e n j u m greater slacker smaller h = record {
   agrees = h.agrees;
@@ -161,11 +173,13 @@ module _ {V : Type 0} (frame : V → Frame) (Fits Good : V → Type 0) (count : 
     small = h.small;
   }
 
-  module _ (wide : 8 + e ≤ k) (other : Frame → V) (frame_is : (f : Frame) → frame (other f) ≡ f) (count_is : (f : Frame) → count (other f) ≡ 1)
+  module _ (wide : 8 + e ≤ k) (other : Frame → V) (frame_is : (f : Frame) → frame (other f) ≡ f)
+      (count_is : (f : Frame) → count (other f) ≡ 1)
       (fits : (f : Frame) → length f.payload ≤ most_payload → Fits (other f)) where
     kept_bounded : (f : Frame) → length (canon f) + e ≤ k * (1 + length f.payload / 4)
     kept_bounded f =
-        let four : 4 * (length f.payload / 4) ≤ k * (length f.payload / 4) = mul-le-mul_right (length f.payload / 4) (omega arith) in
+        let four : 4 * (length f.payload / 4) ≤ k * (length f.payload / 4) =
+        mul-le-mul_right (length f.payload / 4) (omega arith) in
         omega (arith, length-canon f)
 
     -- frames that are kept as they are
@@ -174,15 +188,18 @@ module _ {V : Type 0} (frame : V → Frame) (Fits Good : V → Type 0) (count : 
       agrees = kept_agrees IsFrame other;
       no_memory = λ f bad. bad;
       same_number = λ f v is means. ap (λ w. number (frame w)) means ∙ ap number (frame_is f) ∙ is;
-      writable = λ f v one means fine. subst IsWritable (sym (ap frame means ∙ frame_is f)) (record { kind = one.kind; size = one.size });
+      writable = λ f v one means fine.
+          subst IsWritable (sym (ap frame means ∙ frame_is f)) (record { kind = one.kind; size = one.size });
       back = λ f v one is means fine good. means ∙ ap other (sym (ap frame means ∙ frame_is f));
       counted = λ f v means. omega (arith, ap count means, count_is f);
-      bounded = λ f v means. subst (λ (x : Frame). length (canon x) + e ≤ k * (1 + length f.payload / 4)) (sym (ap frame means ∙ frame_is f)) (kept_bounded f);
+      bounded = λ f v means. subst (λ (x : Frame). length (canon x) + e ≤ k * (1 + length f.payload / 4))
+          (sym (ap frame means ∙ frame_is f)) (kept_bounded f);
       small = λ f v short one means. subst Fits (sym means) (fits f one.size);
     }
 
   -- what is lawful at each number is a lawful place
-  pub place_lawful : (g : Grammar Frame V) → ((m : ℕ) → LawfulReading frame Fits Good count k e n m g) → LawfulPlace g frame Fits Good count k e n
+  pub place_lawful : (g : Grammar Frame V) → ((m : ℕ) → LawfulReading frame Fits Good count k e n m g)
+      → LawfulPlace g frame Fits Good count k e n
   place_lawful g h = record {
     agrees = (h 0).agrees;
     no_memory = (h 0).no_memory;
@@ -197,15 +214,18 @@ module _ {V : Type 0} (frame : V → Frame) (Fits Good : V → Type 0) (count : 
 
 every_small : {V : Type 0} (g : Grammar Frame V) (Fits : V → Type 0) (n : ℕ)
     → ((f : Frame) (v : V) → length f.payload ≤ n → IsFrame f → g.means f v → Fits v)
-    → (fs : List Frame) (vs : List V) → AllByRecursion IsFrame fs → AllByRecursion (λ f. length f.payload ≤ n) fs → Every g.means fs vs → AllByRecursion Fits vs
+    → (fs : List Frame) (vs : List V) → AllByRecursion IsFrame fs → AllByRecursion (λ f. length f.payload ≤ n) fs
+    → Every g.means fs vs → AllByRecursion Fits vs
 every_small g Fits n small [] [] one short h = tt
 every_small g Fits n small [] (v ∷ vs) one short h = absurd h
 every_small g Fits n small (f ∷ fs) [] one short h = absurd h
-every_small g Fits n small (f ∷ fs) (v ∷ vs) one short h = (small f v short.0 one.0 h.0, every_small g Fits n small fs vs one.1 short.1 h.1)
+every_small g Fits n small (f ∷ fs) (v ∷ vs) one short h =
+    (small f v short.0 one.0 h.0, every_small g Fits n small fs vs one.1 short.1 h.1)
 
 -- where k bytes for each whole four of n pass the most that a value may have by e at most, each member's slack makes up
 -- for it
-text_small : {V : Type 0} (frame : V → Frame) (k e n : ℕ) (p : List ℕ) (vs : List V) → k * (n / 4) ≤ most_payload + e → length p ≤ n
+text_small : {V : Type 0} (frame : V → Frame) (k e n : ℕ) (p : List ℕ) (vs : List V) → k * (n / 4) ≤ most_payload + e
+    → length p ≤ n
     → length (canons frame vs) + e * length vs ≤ k * (length p / 4) → length (canons frame vs) ≤ most_payload
 text_small frame k e n p [] enough short long = omega arith
 text_small frame k e n p (v ∷ vs) enough short long =
@@ -219,17 +239,20 @@ module _ {V : Type 0} (g : Grammar Frame V) (frame : V → Frame) (Fits Good : V
   pub place_count : (p : List ℕ) (vs : List V) → (list g).means p vs → 4 * total count vs ≤ length p
   place_count = list_count g count h.counted
 
-  pub place_length : (p : List ℕ) (vs : List V) → (list g).means p vs → length (canons frame vs) + e * length vs ≤ k * (length p / 4)
+  pub place_length : (p : List ℕ) (vs : List V) → (list g).means p vs
+      → length (canons frame vs) + e * length vs ≤ k * (length p / 4)
   place_length = list_length g frame k e h.bounded
 
   pub place_text : (p : List ℕ) (vs : List V) → (list g).means p vs → length (canons frame vs) ≤ k * (length p / 4)
   place_text p vs m = omega (arith, place_length p vs m)
 
-  pub place_small : (p : List ℕ) (vs : List V) → length p ≤ n + 4 → IsBytes p → (list g).means p vs → AllByRecursion Fits vs
+  pub place_small : (p : List ℕ) (vs : List V) → length p ≤ n + 4 → IsBytes p → (list g).means p vs
+      → AllByRecursion Fits vs
   place_small p vs short small m =
       every_small g Fits n h.small m.0 vs (frames_framed p m.0 small m.1) (frames_shorter p m.0 n m.1 short) m.2
 
-  pub place_back : (p : List ℕ) (vs : List V) → IsBytes p → (list g).means p vs → AllByRecursion Fits vs → AllByRecursion Good vs
+  pub place_back : (p : List ℕ) (vs : List V) → IsBytes p → (list g).means p vs → AllByRecursion Fits vs
+      → AllByRecursion Good vs
       → (list g).means (canons frame vs) vs
   place_back = list_back g frame Fits Good h.writable h.back
 
@@ -240,28 +263,33 @@ module _ {V : Type 0} (g : Grammar Frame V) (frame : V → Frame) (Fits Good : V
         → 4 + length (canons frame vs) + missing (length (canons frame vs)) + u ≤ k * (1 + length p / 4)
     list_bounded p vs long = omega (arith, canons_whole frame vs)
 
-    all_fit : (p : List ℕ) (vs : List V) → length p ≤ m → length (canons frame vs) + e * length vs ≤ k * (length p / 4) → AllByRecursion Fits vs
+    all_fit : (p : List ℕ) (vs : List V) → length p ≤ m → length (canons frame vs) + e * length vs ≤ k * (length p / 4)
+        → AllByRecursion Fits vs
         → (length (canons frame vs) ≤ most_payload) × AllFit Fits frame vs
     all_fit p vs short long fits =
         let few : length (canons frame vs) ≤ most_payload = text_small frame k e m p vs enough short long in
         (few, (fits, omega arith))
 
-    pub list_lawful : LawfulPayload (list g) (canons frame) (AllFit Fits frame) (AllByRecursion Good) (total count) k u m
+    pub list_lawful : LawfulPayload (list g) (canons frame) (AllFit Fits frame) (AllByRecursion Good)
+        (total count) k u m
     list_lawful = record {
       agrees = list_agrees g h.agrees;
       no_memory = memory_list g h.no_memory;
       back = λ p vs small means fits good. list_back g frame Fits Good h.writable h.back p vs small means fits.0 good;
       counted = λ p vs means. omega (arith, list_count g count h.counted p vs means);
       bounded = λ p vs means. list_bounded p vs (list_length g frame k e h.bounded p vs means);
-      small = λ p vs short small means. all_fit p vs short (list_length g frame k e h.bounded p vs means) (place_small p vs (omega arith) small means);
+      small = λ p vs short small means. all_fit p vs short (list_length g frame k e h.bounded p vs means)
+          (place_small p vs (omega arith) small means);
     }
 
     -- the empty payload refused
-    pub some_lawful : LawfulPayload (not_empty (list g)) (canons frame) (AllFit Fits frame) (AllByRecursion Good) (total count) k u m
+    pub some_lawful : LawfulPayload (not_empty (list g)) (canons frame) (AllFit Fits frame) (AllByRecursion Good)
+        (total count) k u m
     some_lawful = record {
       agrees = not_empty_agrees (list g) list_lawful.agrees;
       no_memory = memory_not_empty (list g) list_lawful.no_memory;
-      back = λ p vs small means fits good. (canons_some frame vs (list_some g p vs means.0 means.1), list_lawful.back p vs small means.1 fits good);
+      back = λ p vs small means fits good.
+          (canons_some frame vs (list_some g p vs means.0 means.1), list_lawful.back p vs small means.1 fits good);
       counted = λ p vs means. list_lawful.counted p vs means.1;
       bounded = λ p vs means. list_lawful.bounded p vs means.1;
       small = λ p vs short small means. list_lawful.small p vs short small means.1;
@@ -269,43 +297,53 @@ module _ {V : Type 0} (g : Grammar Frame V) (frame : V → Frame) (Fits Good : V
 
     -- members with another number than 1 dropped: each member is written with that number
     module _ (ones : (v : V) → number (frame v) ≡ 1) where
-      pub picked_lawful : LawfulPayload (picked g) (canons frame) (AllFit Fits frame) (AllByRecursion Good) (total count) k u m
+      pub picked_lawful : LawfulPayload (picked g) (canons frame) (AllFit Fits frame) (AllByRecursion Good)
+          (total count) k u m
       picked_lawful = record {
         agrees = picked_agrees g h.agrees;
         no_memory = memory_picked g h.no_memory;
-        back = λ p vs small means fits good. picked_back g frame Fits Good h.writable h.back ones p vs small means fits.0 good;
+        back = λ p vs small means fits good.
+            picked_back g frame Fits Good h.writable h.back ones p vs small means fits.0 good;
         counted = λ p vs means. omega (arith, picked_count g count h.counted p vs means);
         bounded = λ p vs means. list_bounded p vs (picked_length g frame k e h.bounded p vs means);
         small = λ p vs short small means. all_fit p vs short (picked_length g frame k e h.bounded p vs means)
-            (every_small g Fits n h.small (filter is_one means.0) vs (all_filtered IsFrame is_one means.0 (frames_framed p means.0 small means.1))
-            (all_filtered (λ f. length f.payload ≤ n) is_one means.0 (frames_shorter p means.0 n means.1 (omega arith))) means.2);
+            (every_small g Fits n h.small (filter is_one means.0) vs
+            (all_filtered IsFrame is_one means.0 (frames_framed p means.0 small means.1)) (all_filtered
+            (λ f. length f.payload ≤ n) is_one means.0 (frames_shorter p means.0 n means.1 (omega arith))) means.2);
       }
 
       -- the empty payload refused: a text of no members would be
-      pub some_picked_lawful : LawfulPayload (not_empty (picked g)) (canons frame) (AllFit Fits frame) (λ vs. (0 < length vs) × AllByRecursion Good vs) (total count) k u m
+      pub some_picked_lawful : LawfulPayload (not_empty (picked g)) (canons frame) (AllFit Fits frame)
+          (λ vs. (0 < length vs) × AllByRecursion Good vs) (total count) k u m
       some_picked_lawful = record {
         agrees = not_empty_agrees (picked g) picked_lawful.agrees;
         no_memory = memory_not_empty (picked g) picked_lawful.no_memory;
-        back = λ p vs small means fits good. (canons_some frame vs good.0, picked_lawful.back p vs small means.1 fits good.1);
+        back = λ p vs small means fits good.
+            (canons_some frame vs good.0, picked_lawful.back p vs small means.1 fits good.1);
         counted = λ p vs means. picked_lawful.counted p vs means.1;
         bounded = λ p vs means. picked_lawful.bounded p vs means.1;
         small = λ p vs short small means. picked_lawful.small p vs short small means.1;
       }
 
 -- the text of what was read is at most so many times as long
-pub place_growth : {V : Type 0} (g : Grammar Frame V) (frame : V → Frame) (Fits Good : V → Type 0) (count : V → ℕ) (e n : ℕ)
+pub place_growth : {V : Type 0} (g : Grammar Frame V) (frame : V → Frame) (Fits Good : V → Type 0)
+    (count : V → ℕ) (e n : ℕ)
     → LawfulPlace g frame Fits Good count growth e n
     → (p : List ℕ) (vs : List V) → (list g).means p vs → length (canons frame vs) ≤ growth_per_byte * length p
-place_growth g frame Fits Good count e n h p vs m = omega (arith, place_text g frame Fits Good count growth e n h p vs m)
+place_growth g frame Fits Good count e n h p vs m =
+    omega (arith, place_text g frame Fits Good count growth e n h p vs m)
 
 -- a list that was read from few bytes fits whole
-pub place_all_fit : {V : Type 0} (g : Grammar Frame V) (frame : V → Frame) (Fits Good : V → Type 0) (count : V → ℕ) (k e n : ℕ)
+pub place_all_fit : {V : Type 0} (g : Grammar Frame V) (frame : V → Frame) (Fits Good : V → Type 0)
+    (count : V → ℕ) (k e n : ℕ)
     → LawfulPlace g frame Fits Good count k e n
     → k * ((n + 4) / 4) < 2 ^ 64
     → (p : List ℕ) (vs : List V) → length p ≤ n + 4 → IsBytes p → (list g).means p vs → AllFit Fits frame vs
 place_all_fit g frame Fits Good count k e n h enough p vs short small m =
-    let fewer : k * (length p / 4) ≤ k * ((n + 4) / 4) = mul-le-mul_left k (omega arith) in
-    (place_small g frame Fits Good count k e n h p vs short small m, omega (arith, place_text g frame Fits Good count k e n h p vs m))
+    let fewer : k * (length p / 4) ≤ k * ((n + 4) / 4) = mul-le-mul_left k (omega arith) in (
+      place_small g frame Fits Good count k e n h p vs short small m,
+      omega (arith, place_text g frame Fits Good count k e n h p vs m),
+    )
 
 -- ** leaf payloads
 
@@ -319,7 +357,8 @@ bytes_lawful n enough = record {
   no_memory = memory_bytes;
   back = λ p a small means fits good. refl;
   counted = λ p a means. omega arith;
-  bounded = λ p a means. subst (λ (x : List ℕ). 4 + length x + missing (length x) + 0 ≤ plain_growth * (1 + length p / 4)) (sym means) (whole_payload p);
+  bounded = λ p a means. subst (λ (x : List ℕ). 4 + length x + missing (length x) + 0
+      ≤ plain_growth * (1 + length p / 4)) (sym means) (whole_payload p);
   small = λ p a short small means. (omega (arith, ap length means), tt);
 }
 
@@ -358,8 +397,12 @@ through_lawful {A} w of num Fits n again =
           let x : ℕ = means.0 in
           let below : x < 2 ^ bits w = subst (λ y. y < 2 ^ bits w) (sym means.1.1) (from_le_bytes_below w p small) in
           let same : num a ≡ num (of x) = ap num means.2 in
-          let read : from_le_bytes w (to_le_bytes w (num (of x))) ≡ num (of x) = from_le_bytes-to_le_bytes w (num (of x)) (again x below).0 in
-          (num (of x), (text_size a, sym (ap (λ y. from_le_bytes w (to_le_bytes w y)) same ∙ read)), means.2 ∙ sym (again x below).1);
+          let read : from_le_bytes w (to_le_bytes w (num (of x))) ≡ num (of x) =
+          from_le_bytes-to_le_bytes w (num (of x)) (again x below).0 in (
+            num (of x),
+            (text_size a, sym (ap (λ y. from_le_bytes w (to_le_bytes w y)) same ∙ read)),
+            means.2 ∙ sym (again x below).1,
+          );
       counted = λ p a means. omega arith;
       bounded = λ p a means. omega (arith, text_size a, means.1.0);
       small = λ p a short small means.
@@ -368,7 +411,8 @@ through_lawful {A} w of num Fits n again =
           (omega (arith, text_size a, byte_len_small w), subst Fits (sym means.2) (again x below).2);
     }
 
-pub number_lawful : (w : Width) (n : ℕ) → LawfulPayload (number_of w) (to_le_bytes w) always always none plain_growth 0 n
+pub number_lawful : (w : Width) (n : ℕ)
+    → LawfulPayload (number_of w) (to_le_bytes w) always always none plain_growth 0 n
 number_lawful w n = record {
   agrees = number_agrees w;
   no_memory = memory_number w;
@@ -381,7 +425,8 @@ number_lawful w n = record {
 }
 
 -- a signed number
-pub signed_lawful : (w : Width) (n : ℕ) → LawfulPayload (as_a (cast_signed w) (number_of w)) (λ z. to_le_bytes w (cast_unsigned w z)) always always none plain_growth 0 n
+pub signed_lawful : (w : Width) (n : ℕ) → LawfulPayload (as_a (cast_signed w) (number_of w))
+    (λ z. to_le_bytes w (cast_unsigned w z)) always always none plain_growth 0 n
 signed_lawful w n = through_lawful w (cast_signed w) (cast_unsigned w) always n (λ x below.
     let again : cast_unsigned w (cast_signed w x) ≡ x = signed_number_again w x below in
     (subst (λ y. y < 2 ^ bits w) (sym again) below, ap (cast_signed w) again, tt))
@@ -393,7 +438,8 @@ enum_lawful w of num n again = through_lawful w of num always n (λ x below.
     (subst (λ y. y < 2 ^ bits w) (sym (again x)) below, ap of (again x), tt))
 
 -- a record that is refused where the payload is shorter, whose text has at most `most` bytes
-pub sized_lawful : {A : Type 0} (size : ℕ) (fields : List ℕ → A) (text_of : A → List ℕ) (Fits : A → Type 0) (most k e n : ℕ)
+pub sized_lawful : {A : Type 0} (size : ℕ) (fields : List ℕ → A) (text_of : A → List ℕ) (Fits : A → Type 0)
+    (most k e n : ℕ)
     → most ≤ most_payload
     → 4 + most + missing most + e ≤ k * (1 + size / 4)
     → ((p : List ℕ) → length (text_of (fields p)) ≤ most)
@@ -406,13 +452,18 @@ sized_lawful {A} size fields text_of Fits most k e n enough wide length_most len
       agrees = sized_agrees size fields;
       no_memory = memory_sized size fields;
       back = λ p a small means fine good.
-          let same : text_of a ≡ text_of (fields p) = ap text_of means.1 in
-          (subst (λ (x : List ℕ). size ≤ length x) (sym same) (length_least p means.0), means.1 ∙ sym (again p small means.0) ∙ ap fields (sym same));
+          let same : text_of a ≡ text_of (fields p) = ap text_of means.1 in (
+            subst (λ (x : List ℕ). size ≤ length x) (sym same) (length_least p means.0),
+            means.1 ∙ sym (again p small means.0) ∙ ap fields (sym same),
+          );
       counted = λ p a means. omega arith;
       bounded = λ p a means.
           let more : k * (1 + size / 4) ≤ k * (1 + length p / 4) = mul-le-mul_left k (omega (arith, means.0)) in
           omega (arith, ap (λ x. length (text_of x)) means.1, length_most p);
-      small = λ p a short small means. (omega (arith, ap (λ x. length (text_of x)) means.1, length_most p), subst Fits (sym means.1) (fits p small means.0));
+      small = λ p a short small means. (
+        omega (arith, ap (λ x. length (text_of x)) means.1, length_most p),
+        subst Fits (sym means.1) (fits p small means.0),
+      );
     }
 
 -- a record that is filled up with zeros
@@ -430,7 +481,8 @@ filled_lawful {A} fields text_of Fits most k e n enough wide length_most again f
       back = λ p a small means fine good. means ∙ sym (again p small) ∙ ap (λ x. fields (text_of x)) (sym means);
       counted = λ p a means. omega arith;
       bounded = λ p a means. omega (arith, ap (λ x. length (text_of x)) means, length_most p);
-      small = λ p a short small means. (omega (arith, ap (λ x. length (text_of x)) means, length_most p), subst Fits (sym means) (fits p small));
+      small = λ p a short small means.
+          (omega (arith, ap (λ x. length (text_of x)) means, length_most p), subst Fits (sym means) (fits p small));
     }
 
 -- ** records, whose text always has `size` bytes
@@ -443,7 +495,8 @@ pub sized_record_lawful : {A : Type 0} (size n : ℕ) (of : List ℕ → A) (tex
     → LawfulPayload (sized size of) text_of always always none plain_growth 0 n
 sized_record_lawful size n of text_of sized_as again enough =
     sized_lawful size of text_of always size plain_growth 0 n enough (omega arith)
-    (λ p. omega (arith, sized_as p)) (λ p long. omega (arith, sized_as p)) (λ p small long. again p small) (λ p small long. tt)
+    (λ p. omega (arith, sized_as p)) (λ p long. omega (arith, sized_as p)) (λ p small long. again p small)
+    (λ p small long. tt)
 
 -- one that is filled up with zeros
 pub filled_record_lawful : {A : Type 0} (size n : ℕ) (of : List ℕ → A) (text_of : A → List ℕ)
@@ -452,4 +505,5 @@ pub filled_record_lawful : {A : Type 0} (size n : ℕ) (of : List ℕ → A) (te
     → size ≤ most_payload
     → LawfulPayload (filled of) text_of always always none (4 + size + missing size) 0 n
 filled_record_lawful size n of text_of sized_as again enough =
-    filled_lawful of text_of always size (4 + size + missing size) 0 n enough (omega arith) (λ p. omega (arith, sized_as p)) again (λ p small. tt)
+    filled_lawful of text_of always size (4 + size + missing size) 0 n enough (omega arith)
+    (λ p. omega (arith, sized_as p)) again (λ p small. tt)

@@ -31,20 +31,23 @@ module _ {V : Type 0} (read : Frame → Result V Cause) where
 
 -- ** a list of members
 
-first_found : {V : Type 0} (r : Result V Cause) (more : Result (List V) Cause) (vs : List V) → (r >>= λ v. more >>= λ ws. Ok (v ∷ ws)) ≡ Ok vs
+first_found : {V : Type 0} (r : Result V Cause) (more : Result (List V) Cause) (vs : List V)
+    → (r >>= λ v. more >>= λ ws. Ok (v ∷ ws)) ≡ Ok vs
     → (v : V) × (ws : List V) × (r ≡ Ok v) × (more ≡ Ok ws) × (vs ≡ v ∷ ws)
 first_found (Err c) more vs e = absurd cc
 first_found (Ok v) (Err c) vs e = absurd cc
 first_found (Ok v) (Ok ws) vs e = (v, ws, refl, refl, cc)
 
-first_fault : {V : Type 0} (r : Result V Cause) (more : Result (List V) Cause) (c : Cause) → (r >>= λ v. more >>= λ ws. Ok (v ∷ ws)) ≡ Err c
+first_fault : {V : Type 0} (r : Result V Cause) (more : Result (List V) Cause) (c : Cause)
+    → (r >>= λ v. more >>= λ ws. Ok (v ∷ ws)) ≡ Err c
     → (r ≡ Err c) ⊎ ((v : V) × (r ≡ Ok v) × (more ≡ Err c))
 first_fault (Err d) more c e = inl cc
 first_fault (Ok v) (Err d) c e = inr (v, refl, cc)
 first_fault (Ok v) (Ok ws) c e = absurd cc
 
 module _ {V : Type 0} (place : Grammar Frame V) (agrees : Agrees IsFrame place) where
-  pub list_only : (p : List ℕ) (fs : List Frame) (vs : List V) → Frames p fs → Every place.means fs vs → list_of place.reads p ≡ Ok vs
+  pub list_only : (p : List ℕ) (fs : List Frame) (vs : List V) → Frames p fs → Every place.means fs vs
+      → list_of place.reads p ≡ Ok vs
   list_only p [] [] frames every = ap (list_of place.reads) frames ∙ list_nil place.reads
   list_only p [] (v ∷ vs) frames every = absurd every
   list_only p (f ∷ fs) [] frames every = absurd every
@@ -52,7 +55,8 @@ module _ {V : Type 0} (place : Grammar Frame V) (agrees : Agrees IsFrame place) 
       list_next place.reads p f frames.0 (step_whole p f frames.0 frames.1)
       ∙ (λ i. agrees.only f v every.0 i >>= λ w. list_only frames.0 fs vs frames.2 every.1 i >>= λ ws. Ok (w ∷ ws))
 
-  pub list_refused : (p : List ℕ) (fs : List Frame) (c : Cause) → FirstAfter place p fs c → list_of place.reads p ≡ Err c
+  pub list_refused : (p : List ℕ) (fs : List Frame) (c : Cause) → FirstAfter place p fs c
+      → list_of place.reads p ≡ Err c
   list_refused p [] c (inl start) = list_bad place.reads p c (bad_step p c start)
   list_refused p [] c (inr (f, rest, begins, bad)) =
       list_next place.reads p f rest (step_whole p f rest begins)
@@ -62,7 +66,8 @@ module _ {V : Type 0} (place : Grammar Frame V) (agrees : Agrees IsFrame place) 
       ∙ (λ i. agrees.only f h.2.0 h.2.1 i >>= λ w. list_refused h.0 fs c h.3 i >>= λ ws. Ok (w ∷ ws))
 
   found_on : (p : List ℕ) (s : Step) (vs : List V) → step p ≡ s → IsBytes p
-      → ((rest : List ℕ) (ws : List V) → length rest < length p → IsBytes rest → list_of place.reads rest ≡ Ok ws → (list place).means rest ws)
+      → ((rest : List ℕ) (ws : List V) → length rest < length p → IsBytes rest → list_of place.reads rest ≡ Ok ws
+      → (list place).means rest ws)
       → list_of place.reads p ≡ Ok vs → (list place).means p vs
   found_on p End vs s small more e =
       let none : list_of place.reads p ≡ Ok [] = ap (list_of place.reads) (step_end p s) ∙ list_nil place.reads in
@@ -72,22 +77,27 @@ module _ {V : Type 0} (place : Grammar Frame V) (agrees : Agrees IsFrame place) 
       let fault : list_of place.reads p ≡ Err c = list_bad place.reads p c s in
       absurd cc
   found_on p (Next f rest) vs s small more e =
-      let both = first_found (place.reads f) (list_of place.reads rest) vs (sym (list_next place.reads p f rest s) ∙ e) in
+      let both =
+      first_found (place.reads f) (list_of place.reads rest) vs (sym (list_next place.reads p f rest s) ∙ e) in
       let behind = more rest both.1 (step_shorter p f rest s) (step_rest_bytes p f rest small s) both.3 in (
         f ∷ behind.0,
         (rest, step_begins p f rest small s, behind.1),
-        subst (λ ws. Every place.means (f ∷ behind.0) ws) (sym both.4) (agrees.found f both.0 (step_framed p f rest small s) both.2, behind.2),
+        subst (λ ws. Every place.means (f ∷ behind.0) ws) (sym both.4)
+            (agrees.found f both.0 (step_framed p f rest small s) both.2, behind.2),
       )
 
-  found_within : (n : ℕ) (p : List ℕ) (vs : List V) → length p < n → IsBytes p → list_of place.reads p ≡ Ok vs → (list place).means p vs
+  found_within : (n : ℕ) (p : List ℕ) (vs : List V) → length p < n → IsBytes p → list_of place.reads p ≡ Ok vs
+      → (list place).means p vs
   found_within zero p vs h small e = absurd (omega arith)
-  found_within (suc n) p vs h small e = found_on p (step p) vs refl small (λ rest ws shorter rest_small k. found_within n rest ws (omega arith) rest_small k) e
+  found_within (suc n) p vs h small e = found_on p (step p) vs refl small
+      (λ rest ws shorter rest_small k. found_within n rest ws (omega arith) rest_small k) e
 
   pub list_found : (p : List ℕ) (vs : List V) → IsBytes p → list_of place.reads p ≡ Ok vs → (list place).means p vs
   list_found p vs small e = found_within (suc (length p)) p vs (omega arith) small e
 
   fault_on : (p : List ℕ) (s : Step) (c : Cause) → step p ≡ s → IsBytes p
-      → ((rest : List ℕ) → length rest < length p → IsBytes rest → list_of place.reads rest ≡ Err c → First place rest c)
+      → ((rest : List ℕ) → length rest < length p → IsBytes rest → list_of place.reads rest ≡ Err c
+      → First place rest c)
       → list_of place.reads p ≡ Err c → First place p c
   fault_on p End c s small more e =
       let none : list_of place.reads p ≡ Ok [] = ap (list_of place.reads) (step_end p s) ∙ list_nil place.reads in
@@ -100,13 +110,17 @@ module _ {V : Type 0} (place : Grammar Frame V) (agrees : Agrees IsFrame place) 
       let begins : Begins p f rest = step_begins p f rest small s in
       elim (first_fault (place.reads f) (list_of place.reads rest) c (sym (list_next place.reads p f rest s) ∙ e)) [
         | inl here ↦ ([], inr (f, rest, begins, agrees.fault f c (step_framed p f rest small s) here))
-        | inr behind ↦ let later = more rest (step_shorter p f rest s) (step_rest_bytes p f rest small s) behind.2 in
-            (f ∷ later.0, (rest, begins, (behind.0, agrees.found f behind.0 (step_framed p f rest small s) behind.1), later.1))
+        | inr behind ↦ let later = more rest (step_shorter p f rest s) (step_rest_bytes p f rest small s) behind.2 in (
+          f ∷ later.0,
+          (rest, begins, (behind.0, agrees.found f behind.0 (step_framed p f rest small s) behind.1), later.1),
+        )
       ]
 
-  fault_within : (n : ℕ) (p : List ℕ) (c : Cause) → length p < n → IsBytes p → list_of place.reads p ≡ Err c → First place p c
+  fault_within : (n : ℕ) (p : List ℕ) (c : Cause) → length p < n → IsBytes p → list_of place.reads p ≡ Err c
+      → First place p c
   fault_within zero p c h small e = absurd (omega arith)
-  fault_within (suc n) p c h small e = fault_on p (step p) c refl small (λ rest shorter rest_small k. fault_within n rest c (omega arith) rest_small k) e
+  fault_within (suc n) p c h small e =
+      fault_on p (step p) c refl small (λ rest shorter rest_small k. fault_within n rest c (omega arith) rest_small k) e
 
   pub list_fault : (p : List ℕ) (c : Cause) → IsBytes p → list_of place.reads p ≡ Err c → First place p c
   list_fault p c small e = fault_within (suc (length p)) p c (omega arith) small e
@@ -122,7 +136,8 @@ module _ {V : Type 0} (place : Grammar Frame V) (agrees : Agrees IsFrame place) 
 -- ** a list of which members with other numbers than 1 are dropped
 
 pub picks_agrees : {V : Type 0} (place : Grammar Frame V) → Agrees IsFrame place → Agrees IsFrame (some_if_picked place)
-picks_agrees {V} place agrees = choose_agrees is_one (as_a (λ (v : V). Some v) place) (undecoded (λ f. None)) (as_agrees IsFrame (λ (v : V). Some v) place agrees) (kept_agrees IsFrame (λ f. None))
+picks_agrees {V} place agrees = choose_agrees is_one (as_a (λ (v : V). Some v) place) (undecoded (λ f. None))
+    (as_agrees IsFrame (λ (v : V). Some v) place agrees) (kept_agrees IsFrame (λ f. None))
 
 module _ {V : Type 0} (place : Grammar Frame V) where
   nothing_is_some : (v : V) → None ≡ Some v → ⊥
@@ -138,7 +153,8 @@ module _ {V : Type 0} (place : Grammar Frame V) where
   pick_other f other = rw other refl
 
   options_more : (f : Frame) (fs kept_behind : List Frame) (test : Bool) (vs : List V) → is_one f ≡ test
-      → ((ws : List V) → Every place.means kept_behind ws → (os : List (Option V)) × Every (some_if_picked place).means fs os × (ws ≡ present_values os))
+      → ((ws : List V) → Every place.means kept_behind ws
+      → (os : List (Option V)) × Every (some_if_picked place).means fs os × (ws ≡ present_values os))
       → Every place.means (cond test (f ∷ kept_behind) kept_behind) vs
       → (os : List (Option V)) × Every (some_if_picked place).means (f ∷ fs) os × (vs ≡ present_values os)
   options_more f fs kept_behind true [] one behind every = absurd every
@@ -150,20 +166,23 @@ module _ {V : Type 0} (place : Grammar Frame V) where
       (None ∷ more.0, (pick_other f other, more.1), more.2)
 
   -- the values of the members with number 1, with nothing in the place of each that is dropped
-  pub options : (fs : List Frame) (vs : List V) → Every place.means (filter is_one fs) vs → (os : List (Option V)) × Every (some_if_picked place).means fs os × (vs ≡ present_values os)
+  pub options : (fs : List Frame) (vs : List V) → Every place.means (filter is_one fs) vs
+      → (os : List (Option V)) × Every (some_if_picked place).means fs os × (vs ≡ present_values os)
   options [] [] every = ([], tt, refl)
   options [] (v ∷ vs) every = absurd every
   options (f ∷ fs) vs every = options_more f fs (filter is_one fs) (is_one f) vs refl (options fs) every
 
   values_more : (f : Frame) (kept_behind : List Frame) (test : Bool) (o : Option V) (os : List (Option V))
-      → (if_true test (as_a (λ (v : V). Some v) place) (undecoded (λ f. None))).means f o → Every place.means kept_behind (present_values os)
+      → (if_true test (as_a (λ (v : V). Some v) place) (undecoded (λ f. None))).means f o
+      → Every place.means kept_behind (present_values os)
       → Every place.means (cond test (f ∷ kept_behind) kept_behind) (present_values (o ∷ os))
   values_more f kept_behind true None os m every = absurd (nothing_is_some m.0 m.2)
   values_more f kept_behind true (Some v) os m every = (some_means f m.0 v m.1 m.2, every)
   values_more f kept_behind false None os m every = every
   values_more f kept_behind false (Some v) os m every = absurd cc
 
-  pub values : (fs : List Frame) (os : List (Option V)) → Every (some_if_picked place).means fs os → Every place.means (filter is_one fs) (present_values os)
+  pub values : (fs : List Frame) (os : List (Option V)) → Every (some_if_picked place).means fs os
+      → Every place.means (filter is_one fs) (present_values os)
   values [] [] every = tt
   values [] (o ∷ os) every = absurd every
   values (f ∷ fs) [] every = absurd every
@@ -171,10 +190,12 @@ module _ {V : Type 0} (place : Grammar Frame V) where
 
   pub picked_agrees : Agrees IsFrame place → Agrees IsBytes (picked place)
   picked_agrees agrees =
-      let h = as_agrees IsBytes (λ (os : List (Option V)). present_values os) (list (some_if_picked place)) (list_agrees (some_if_picked place) (picks_agrees place agrees)) in
+      let h = as_agrees IsBytes (λ (os : List (Option V)). present_values os) (list (some_if_picked place))
+      (list_agrees (some_if_picked place) (picks_agrees place agrees)) in
       record {
         only = λ p vs m. let k = options m.0 vs m.2 in h.only p vs (k.0, (m.0, m.1, k.1), k.2);
-        found = λ p vs small e. let k = h.found p vs small e in (k.1.0, k.1.1, subst (λ ws. Every place.means (filter is_one k.1.0) ws) (sym k.2) (values k.1.0 k.0 k.1.2));
+        found = λ p vs small e. let k = h.found p vs small e in
+            (k.1.0, k.1.1, subst (λ ws. Every place.means (filter is_one k.1.0) ws) (sym k.2) (values k.1.0 k.0 k.1.2));
         fault = h.fault;
         refused = h.refused;
       }

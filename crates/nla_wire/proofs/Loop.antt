@@ -32,14 +32,17 @@ module _ {S A : Type 0} {One : S → Type 0} (g : Grammar S A) (h : Agrees One g
   gives_found (Err e) gives = tt
 
   -- the cause of a fault is that of the first fault, unless memory ran out
-  pub gives_fault : (r : Result A DecodeError) → Gives r (g.reads s) → IfErr r (λ e. e.cause ≢ OutOfMemory → g.bad s e.cause)
+  pub gives_fault : (r : Result A DecodeError) → Gives r (g.reads s)
+      → IfErr r (λ e. e.cause ≢ OutOfMemory → g.bad s e.cause)
   gives_fault (Ok a) gives = tt
   gives_fault (Err e) gives = λ other. h.fault s e.cause one (fails_as e.cause gives other)
 
   -- what is refused means nothing, unless memory ran out
-  pub gives_refused : (r : Result A DecodeError) → Gives r (g.reads s) → IfErr r (λ e. e.cause ≢ OutOfMemory → (a : A) → g.means s a → ⊥)
+  pub gives_refused : (r : Result A DecodeError) → Gives r (g.reads s)
+      → IfErr r (λ e. e.cause ≢ OutOfMemory → (a : A) → g.means s a → ⊥)
   gives_refused (Ok a) gives = tt
-  gives_refused (Err e) gives = λ other a m. ok_not_err (g.reads s) a e.cause (h.only s a m) (fails_as e.cause gives other)
+  gives_refused (Err e) gives = λ other a m.
+      ok_not_err (g.reads s) a e.cause (h.only s a m) (fails_as e.cause gives other)
 
   -- what is accepted has a meaning
   pub checks_found : (r : Result Unit DecodeError) → Checks r (g.reads s) → IfOk r (λ x. (a : A) × g.means s a)
@@ -60,15 +63,19 @@ front_none : {V : Type 0} (r : Result (List V) Cause) → with_front [] r ≡ r
 front_none (Ok vs) = refl
 front_none (Err c) = refl
 
-front_one : {V : Type 0} (front : List V) (v : V) (r : Result (List V) Cause) → with_front (front ++ v ∷ []) r ≡ with_front front (r >>= λ vs. Ok (v ∷ vs))
+front_one : {V : Type 0} (front : List V) (v : V) (r : Result (List V) Cause)
+    → with_front (front ++ v ∷ []) r ≡ with_front front (r >>= λ vs. Ok (v ∷ vs))
 front_one front v (Ok vs) = ap (λ (ws : List _). Ok ws) (append_assoc front (v ∷ []) vs)
 front_one front v (Err c) = refl
 
-pub items_start : {V : Type 0} (read : Frame → Result V Cause) (b : List ℕ) → with_front [] (read_items read (items b)) ≡ list_of read b
+pub items_start : {V : Type 0} (read : Frame → Result V Cause) (b : List ℕ)
+    → with_front [] (read_items read (items b)) ≡ list_of read b
 items_start read b = front_none (read_items read (items b)) ∙ sym (list_items read b)
 
-module _ {V : Type 0} (read : Frame → Result V Cause) (front : List V) (left : List Item) (total : Result (List V) Cause) (so_far : with_front front (read_items read left) ≡ total) where
-  pub items_more : (f : Frame) (rest : List Item) (v : V) → left ≡ Ok f ∷ rest → read f ≡ Ok v → with_front (front ++ v ∷ []) (read_items read rest) ≡ total
+module _ {V : Type 0} (read : Frame → Result V Cause) (front : List V) (left : List Item)
+    (total : Result (List V) Cause) (so_far : with_front front (read_items read left) ≡ total) where
+  pub items_more : (f : Frame) (rest : List Item) (v : V) → left ≡ Ok f ∷ rest → read f ≡ Ok v
+      → with_front (front ++ v ∷ []) (read_items read rest) ≡ total
   items_more f rest v left_is e =
       front_one front v (read_items read rest)
       ∙ ap (λ (r : Result V Cause). with_front front (r >>= λ w. read_items read rest >>= λ ws. Ok (w ∷ ws))) (sym e)
@@ -91,7 +98,9 @@ module _ {V : Type 0} (place : Grammar Frame V) (f : Frame) where
 abbrev pub read_picked : {V : Type 0} → Grammar Frame V → List Item → Result (List V) Cause
 read_picked place xs = read_items (some_if_picked place).reads xs >>= λ os. Ok (present_values os)
 
-pub picked_start : {V : Type 0} (place : Grammar Frame V) (b : List ℕ) → with_front [] (read_picked place (items b)) ≡ (picked place).reads b
+pub picked_start : {V : Type 0} (place : Grammar Frame V) (b : List ℕ)
+    → with_front [] (read_picked place (items b)) ≡ (picked place).reads b
 picked_start {V} place b =
     front_none (read_picked place (items b))
-    ∙ ap (λ (r : Result (List (Option V)) Cause). r >>= λ os. Ok (present_values os)) (sym (list_items (some_if_picked place).reads b))
+    ∙ ap (λ (r : Result (List (Option V)) Cause). r >>= λ os. Ok (present_values os))
+    (sym (list_items (some_if_picked place).reads b))

@@ -20,27 +20,36 @@ module _ {A : Type 0} (P : A → Type 0) where
   all_join [] ys h k = k
   all_join (x ∷ xs) ys h k = (h.0, all_join xs ys h.1 k)
 
-  pub all_more : (xs : List A) (i : ℕ) (d : A) → i < length xs → AllByRecursion P (take i xs) → P (get_or xs i d) → AllByRecursion P (take (i + 1) xs)
+  pub all_more : (xs : List A) (i : ℕ) (d : A) → i < length xs → AllByRecursion P (take i xs) → P (get_or xs i d)
+      → AllByRecursion P (take (i + 1) xs)
   all_more xs i d h all one =
-      subst (AllByRecursion P) (sym (ap (λ n. take n xs) (add-one i) ∙ take-suc xs i d h)) (all_join (take i xs) (get_or xs i d ∷ []) all (one, tt))
+      subst (AllByRecursion P) (sym (ap (λ n. take n xs) (add-one i) ∙ take-suc xs i d h))
+      (all_join (take i xs) (get_or xs i d ∷ []) all (one, tt))
 
 module _ {A : Type 0} (frame : A → Frame) where
   -- one more text in front of those that were written
-  pub canons_front : (xs : List A) (i n : ℕ) (d : A) → i < length xs → n ≡ i + 1 → canons frame (drop i xs) ≡ canon (frame (get_or xs i d)) ++ canons frame (drop n xs)
-  canons_front xs i n d h e = ap (canons frame) (drop-cons xs i d h ∙ ap (λ k. get_or xs i d ∷ drop k xs) (sym (add-one i) ∙ sym e))
+  pub canons_front : (xs : List A) (i n : ℕ) (d : A) → i < length xs → n ≡ i + 1
+      → canons frame (drop i xs) ≡ canon (frame (get_or xs i d)) ++ canons frame (drop n xs)
+  canons_front xs i n d h e =
+      ap (canons frame) (drop-cons xs i d h ∙ ap (λ k. get_or xs i d ∷ drop k xs) (sym (add-one i) ∙ sym e))
 
-  pub canons_within : (xs : List A) (i : ℕ) (d : A) → i < length xs → length (canons frame (take i xs)) + length (canon (frame (get_or xs i d))) ≤ length (canons frame xs)
+  pub canons_within : (xs : List A) (i : ℕ) (d : A) → i < length xs
+      → length (canons frame (take i xs)) + length (canon (frame (get_or xs i d))) ≤ length (canons frame xs)
   canons_within xs i d h = length-flat_map-take (λ x. canon (frame x)) xs i d h
 
   -- one text, and those after it, are within the texts of them all
-  pub canons_behind : (xs : List A) (i n : ℕ) (d : A) → i < length xs → n ≡ i + 1 → length (canon (frame (get_or xs i d))) + length (canons frame (drop n xs)) ≤ length (canons frame xs)
+  pub canons_behind : (xs : List A) (i n : ℕ) (d : A) → i < length xs → n ≡ i + 1
+      → length (canon (frame (get_or xs i d))) + length (canons frame (drop n xs)) ≤ length (canons frame xs)
   canons_behind xs i n d h e =
       let parts : canons frame xs ≡ canons frame (take i xs) ++ canons frame (drop i xs) =
-      ap (canons frame) (sym (take-append-drop i xs)) ∙ flat_map-append (λ x. canon (frame x)) (take i xs) (drop i xs) in
+      ap (canons frame) (sym (take-append-drop i xs))
+      ∙ flat_map-append (λ x. canon (frame x)) (take i xs) (drop i xs) in
       let size : length (canons frame xs) ≡ length (canons frame (take i xs)) + length (canons frame (drop i xs)) =
       ap (λ (t : List ℕ). length t) parts ∙ length-append (canons frame (take i xs)) (canons frame (drop i xs)) in
-      let front : length (canons frame (drop i xs)) ≡ length (canon (frame (get_or xs i d))) + length (canons frame (drop n xs)) =
-      ap (λ (t : List ℕ). length t) (canons_front xs i n d h e) ∙ length-append (canon (frame (get_or xs i d))) (canons frame (drop n xs)) in
+      let front : length (canons frame (drop i xs))
+      ≡ length (canon (frame (get_or xs i d))) + length (canons frame (drop n xs)) =
+      ap (λ (t : List ℕ). length t) (canons_front xs i n d h e)
+      ∙ length-append (canon (frame (get_or xs i d))) (canons frame (drop n xs)) in
       omega (arith, size, front)
 
 -- a text written in front of what stands at the end
@@ -59,19 +68,23 @@ Filled-more old mid new part text more at start n h k n_is new_is =
     let kept : take at (take start mid) ≡ take at old = ap (take at) front ∙ take-take at start old le in
     let begun : part ≡ take at old ++ more = k.1 ∙ ap (λ (t : List ℕ). t ++ more) kept in (
       omega (arith, h.0, k.0, ap (λ (t : List ℕ). length t) front, size, length-append more text),
-      new_is ∙ ap (λ i. part ++ drop i mid) n_is ∙ ap (λ (t : List ℕ). part ++ t) behind ∙ ap (λ (t : List ℕ). t ++ text) begun ∙ append_assoc (take at old) more text,
+      new_is ∙ ap (λ i. part ++ drop i mid) n_is ∙ ap (λ (t : List ℕ). part ++ t) behind
+          ∙ ap (λ (t : List ℕ). t ++ text) begun ∙ append_assoc (take at old) more text,
     )
 
 -- the texts up to a member, and that member's, are within the texts of them all
 pub canons_up_to : {A : Type 0} (frame : A → Frame) (xs : List A) (i : ℕ) (x : A) → i < length xs → x ≡ get_or xs i x
     → length (canons frame (take i xs)) + length (canon (frame x)) ≤ length (canons frame xs)
 canons_up_to frame xs i x h is =
-    let at_place : length (canon (frame x)) ≡ length (canon (frame (get_or xs i x))) = ap (λ y. length (canon (frame y))) is in
+    let at_place : length (canon (frame x)) ≡ length (canon (frame (get_or xs i x))) =
+    ap (λ y. length (canon (frame y))) is in
     omega (arith, canons_within frame xs i x h, at_place)
 
 -- a member's text, and those after it, are within the texts of them all
-pub canons_from : {A : Type 0} (frame : A → Frame) (xs : List A) (i n : ℕ) (x : A) → i < length xs → n ≡ i + 1 → x ≡ get_or xs i x
+pub canons_from : {A : Type 0} (frame : A → Frame) (xs : List A) (i n : ℕ) (x : A) → i < length xs → n ≡ i + 1
+    → x ≡ get_or xs i x
     → length (canon (frame x)) + length (canons frame (drop n xs)) ≤ length (canons frame xs)
 canons_from frame xs i n x h e is =
-    let at_place : length (canon (frame x)) ≡ length (canon (frame (get_or xs i x))) = ap (λ y. length (canon (frame y))) is in
+    let at_place : length (canon (frame x)) ≡ length (canon (frame (get_or xs i x))) =
+    ap (λ y. length (canon (frame y))) is in
     omega (arith, canons_behind frame xs i n x h e, at_place)

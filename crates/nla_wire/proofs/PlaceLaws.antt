@@ -33,12 +33,14 @@ module _ {V : Type 0} (g : Grammar Frame V) (frame : V → Frame) (Fits : V → 
     (h : LawfulPlace g frame Fits always count k e n) where
   pub place_reads_back : ReadsBack g.means frame Fits
   place_reads_back f v one means fits = (
-    subst (λ b. Begins b (frame v) []) (append-nil (canon (frame v))) (canon_begins (frame v) [] (h.writable f v one means fits)),
+    subst (λ b. Begins b (frame v) []) (append-nil (canon (frame v)))
+        (canon_begins (frame v) [] (h.writable f v one means fits)),
     h.back f v one means fits tt,
   )
 
   pub list_reads_back : ListReadsBack (list g).means frame Fits
-  list_reads_back p vs small means fits = place_back g frame Fits always count k e n h p vs small means fits.0 (all_always vs)
+  list_reads_back p vs small means fits =
+      place_back g frame Fits always count k e n h p vs small means fits.0 (all_always vs)
 
   pub lists_bounded : e ≤ k → ListsBounded k e (list g).means count frame
   lists_bounded small p vs means =
@@ -51,7 +53,8 @@ module _ {V : Type 0} (g : Grammar Frame V) (frame : V → Frame) (Fits : V → 
 
   -- of a list of which members with another number than 1 are dropped
   pub picked_reads_back : ((v : V) → number (frame v) ≡ 1) → ListReadsBack (picked g).means frame Fits
-  picked_reads_back ones p vs small means fits = picked_back g frame Fits always h.writable h.back ones p vs small means fits.0 (all_always vs)
+  picked_reads_back ones p vs small means fits =
+      picked_back g frame Fits always h.writable h.back ones p vs small means fits.0 (all_always vs)
 
   pub picked_bounded : e ≤ k → ListsBounded k e (picked g).means count frame
   picked_bounded small p vs means =

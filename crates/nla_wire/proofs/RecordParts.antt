@@ -15,19 +15,23 @@ use Rattle.nla_wire.proofs.FieldLemmas.{length-to_le_bytes, get_or_zeros, length
 -- a field of so many bytes: how it is read at a place of a payload that zeros follow, and how it is written
 pub record Part {A : Type 0} (size : ℕ) (read : List ℕ → ℕ → A) (text : A → List ℕ) : Type 0 where
   -- it is read from its own bytes alone
-  pub same : (a b : List ℕ) (x y : ℕ) → ((i : ℕ) → i < size → get_or a (x + i) 0 ≡ get_or b (y + i) 0) → read a x ≡ read b y
+  pub same : (a b : List ℕ) (x y : ℕ) → ((i : ℕ) → i < size → get_or a (x + i) 0 ≡ get_or b (y + i) 0)
+      → read a x ≡ read b y
   pub again : (p : List ℕ) (x : ℕ) → IsBytes p → read (text (read p x)) 0 ≡ read p x
   pub sized : (p : List ℕ) (x : ℕ) → length (text (read p x)) ≡ size
 
 -- one field after the other
 infixr 4 ◌&◌
-pub ◌&◌ : {A B : Type 0} {m n : ℕ} {read : List ℕ → ℕ → A} {text : A → List ℕ} {read' : List ℕ → ℕ → B} {text' : B → List ℕ}
-    → Part m read text → Part n read' text' → Part (m + n) (λ p x. (read p x, read' p (x + m))) (λ (v : A × B). text v.0 ++ text' v.1)
+pub ◌&◌ : {A B : Type 0} {m n : ℕ} {read : List ℕ → ℕ → A} {text : A → List ℕ} {read' : List ℕ → ℕ → B}
+    {text' : B → List ℕ}
+    → Part m read text → Part n read' text'
+    → Part (m + n) (λ p x. (read p x, read' p (x + m))) (λ (v : A × B). text v.0 ++ text' v.1)
 ◌&◌ {m} {n} {read} {text} {read'} {text'} f g = record {
   same = λ a b x y h.
       let here : read a x ≡ read b y = f.same a b x y (λ i l. h i (omega (arith, l))) in
       let behind : read' a (x + m) ≡ read' b (y + m) = g.same a b (x + m) (y + m) (λ i l.
-      ap (λ k. get_or a k 0) (add_assoc x m i) ∙ h (m + i) (omega (arith, l)) ∙ ap (λ k. get_or b k 0) (sym (add_assoc y m i))) in
+      ap (λ k. get_or a k 0) (add_assoc x m i) ∙ h (m + i) (omega (arith, l))
+      ∙ ap (λ k. get_or b k 0) (sym (add_assoc y m i))) in
       (λ j. (here j, behind j));
   again = λ p x h.
       let t : List ℕ = text (read p x) in
@@ -36,9 +40,11 @@ pub ◌&◌ : {A B : Type 0} {m n : ℕ} {read : List ℕ → ℕ → A} {text :
       f.same (t ++ u) t 0 0 (λ i l. get_or_append_left t u 0 (0 + i) (omega (arith, l, f.sized p x))) ∙ f.again p x h in
       let behind : read' (t ++ u) (0 + m) ≡ read' p (x + m) =
       g.same (t ++ u) u (0 + m) 0 (λ i l.
-      ap (λ k. get_or (t ++ u) k 0) (omega (arith, f.sized p x)) ∙ get_or-append-add t u (0 + i) 0) ∙ g.again p (x + m) h in
+      ap (λ k. get_or (t ++ u) k 0) (omega (arith, f.sized p x)) ∙ get_or-append-add t u (0 + i) 0)
+      ∙ g.again p (x + m) h in
       (λ j. (here j, behind j));
-  sized = λ p x. length-append (text (read p x)) (text' (read' p (x + m))) ∙ ap₂ (λ a b. a + b) (f.sized p x) (g.sized p (x + m));
+  sized = λ p x.
+      length-append (text (read p x)) (text' (read' p (x + m))) ∙ ap₂ (λ a b. a + b) (f.sized p x) (g.sized p (x + m));
 }
 
 pub laws_of : {A V : Type 0} {size : ℕ} {read : List ℕ → ℕ → A} {text : A → List ℕ} → Part size read text
@@ -47,15 +53,19 @@ pub laws_of : {A V : Type 0} {size : ℕ} {read : List ℕ → ℕ → A} {text 
     → RecordLaws size of bytes
 laws_of {read} part make of bytes reads writes = record {
   zeros = λ p m.
-      reads (p ++ replicate m 0) ∙ ap make (part.same (p ++ replicate m 0) p 0 0 (λ i l. get_or_zeros p m (0 + i))) ∙ sym (reads p);
+      reads (p ++ replicate m 0) ∙ ap make (part.same (p ++ replicate m 0) p 0 0 (λ i l. get_or_zeros p m (0 + i)))
+      ∙ sym (reads p);
   longer = λ p more h.
-      reads (p ++ more) ∙ ap make (part.same (p ++ more) p 0 0 (λ i l. get_or_append_left p more 0 (0 + i) (omega (arith, l, h)))) ∙ sym (reads p);
-  again = λ p h. reads (bytes (of p)) ∙ ap (λ t. make (read t 0)) (writes p) ∙ ap make (part.again p 0 h) ∙ sym (reads p);
+      reads (p ++ more) ∙ ap make
+      (part.same (p ++ more) p 0 0 (λ i l. get_or_append_left p more 0 (0 + i) (omega (arith, l, h)))) ∙ sym (reads p);
+  again = λ p h.
+      reads (bytes (of p)) ∙ ap (λ t. make (read t 0)) (writes p) ∙ ap make (part.again p 0 h) ∙ sym (reads p);
   sized = λ p. ap length (writes p) ∙ part.sized p 0;
 }
 
 -- the front alone means the same
-pub front : {V : Type 0} (size : ℕ) (of : List ℕ → V) → BytesBehind size of → (p : List ℕ) → size ≤ length p → of (take size p) ≡ of p
+pub front : {V : Type 0} (size : ℕ) (of : List ℕ → V) → BytesBehind size of → (p : List ℕ) → size ≤ length p
+    → of (take size p) ≡ of p
 front size of longer p h =
     let long : size ≤ length (take size p) = omega (arith, length-take-le size p h) in
     sym (longer (take size p) (drop size p) long) ∙ ap of (take-append-drop size p)
@@ -63,11 +73,13 @@ front size of longer p h =
 -- ** fields
 
 -- a number of this width, as the value that it stands for
-pub number_as : {B : Type 0} (w : Width) (to : ℕ → B) (from : B → ℕ) → ((n : ℕ) → n < 2 ^ bits w → to (from_le_bytes w (to_le_bytes w (from (to n)))) ≡ to n)
+pub number_as : {B : Type 0} (w : Width) (to : ℕ → B) (from : B → ℕ)
+    → ((n : ℕ) → n < 2 ^ bits w → to (from_le_bytes w (to_le_bytes w (from (to n)))) ≡ to n)
     → Part (byte_len w) (λ p x. to (number_at w p x)) (λ v. to_le_bytes w (from v))
 number_as w to from back = record {
   same = λ a b x y h. ap to (number_at_same w a b x y h);
-  again = λ p x h. ap to (number_at_front w (to_le_bytes w (from (to (number_at w p x))))) ∙ back (number_at w p x) (number_at_below w p x h);
+  again = λ p x h. ap to (number_at_front w (to_le_bytes w (from (to (number_at w p x)))))
+      ∙ back (number_at w p x) (number_at_below w p x h);
   sized = λ p x. length-to_le_bytes w (from (to (number_at w p x)));
 }
 
@@ -75,11 +87,13 @@ pub number : (w : Width) → Part (byte_len w) (number_at w) (to_le_bytes w)
 number w = number_as w (λ n. n) (λ n. n) (from_le_bytes-to_le_bytes w)
 
 -- the same of two bytes, the highest first
-pub be_number_as : {B : Type 0} (to : ℕ → B) (from : B → ℕ) → ((n : ℕ) → n < 2 ^ 16 → to (from_be_bytes w16 (to_be_bytes w16 (from (to n)))) ≡ to n)
+pub be_number_as : {B : Type 0} (to : ℕ → B) (from : B → ℕ)
+    → ((n : ℕ) → n < 2 ^ 16 → to (from_be_bytes w16 (to_be_bytes w16 (from (to n)))) ≡ to n)
     → Part 2 (λ p x. to (be_number_at w16 p x)) (λ v. to_be_bytes w16 (from v))
 be_number_as to from back = record {
   same = λ a b x y h. ap to (be_number_at_same w16 a b x y h);
-  again = λ p x h. ap to (be_number_at_front w16 (to_be_bytes w16 (from (to (be_number_at w16 p x))))) ∙ back (be_number_at w16 p x) (be_number_at_below p x h);
+  again = λ p x h. ap to (be_number_at_front w16 (to_be_bytes w16 (from (to (be_number_at w16 p x)))))
+      ∙ back (be_number_at w16 p x) (be_number_at_below p x h);
   sized = λ p x. refl;
 }
 
@@ -101,9 +115,11 @@ get_filled n p i l = get_or_zeros (take n p) (n - length p) i ∙ get_or-take n 
 -- bytes as they are
 pub bytes : (n : ℕ) → Part n (λ p x. zero_filled n (drop x p)) (λ v. v)
 bytes n = record {
-  same = λ a b x y h. ext_get_or 0 (zero_filled n (drop x a)) (zero_filled n (drop y b)) (length-zero_filled n (drop x a) ∙ sym (length-zero_filled n (drop y b))) (λ i l.
+  same = λ a b x y h. ext_get_or 0 (zero_filled n (drop x a)) (zero_filled n (drop y b))
+      (length-zero_filled n (drop x a) ∙ sym (length-zero_filled n (drop y b))) (λ i l.
       let below : i < n = omega (arith, l, length-zero_filled n (drop x a)) in
-      get_filled n (drop x a) i below ∙ get_or-drop x a i 0 ∙ h i below ∙ sym (get_or-drop y b i 0) ∙ sym (get_filled n (drop y b) i below));
+      get_filled n (drop x a) i below ∙ get_or-drop x a i 0 ∙ h i below ∙ sym (get_or-drop y b i 0)
+      ∙ sym (get_filled n (drop y b) i below));
   again = λ p x h. zero_filled_again n (drop x p);
   sized = λ p x. length-zero_filled n (drop x p);
 }

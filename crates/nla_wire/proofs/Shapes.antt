@@ -30,13 +30,16 @@ ShapeWeighs base s p answer = Weighs (base s).codec.text (ShapeFits base s) ((ba
 
 -- there is room for the attribute of this kind that a payload of this shape means
 abbrev pub ShapeRoom : {S : Type 0} (base : S → Any) (s : S) (kind : ℕ) → List ℕ → ℕ → Type 0
-ShapeRoom base s kind p room = HasRoom (λ x. canon (frame_with kind ((base s).codec.text x))) (ShapeFits base s) ((base s).codec.grammar.reads p) room
+ShapeRoom base s kind p room = HasRoom (λ x. canon (frame_with kind ((base s).codec.text x))) (ShapeFits base s)
+    ((base s).codec.grammar.reads p) room
 
 -- that attribute stands at the front of a buffer
 abbrev pub ShapeWrites : {S : Type 0} (base : S → Any) (s : S) (kind : ℕ) → List ℕ → List ℕ → List ℕ → ℕ → Type 0
-ShapeWrites base s kind p old new n = Rewrites (λ x. canon (frame_with kind ((base s).codec.text x))) ((base s).codec.grammar.reads p) old new n
+ShapeWrites base s kind p old new n =
+    Rewrites (λ x. canon (frame_with kind ((base s).codec.text x))) ((base s).codec.grammar.reads p) old new n
 
-checks_wrapped : {A V : Type 0} (make : A → V) (r : Result A Cause) (answer : Result Unit DecodeError) → Checks answer r → Checks answer (r >>= λ x. Ok (make x))
+checks_wrapped : {A V : Type 0} (make : A → V) (r : Result A Cause) (answer : Result Unit DecodeError) → Checks answer r
+    → Checks answer (r >>= λ x. Ok (make x))
 checks_wrapped make (Ok x) (Ok a) h = refl
 checks_wrapped make (Ok x) (Err e) h = absurd cc
 checks_wrapped make (Err c) (Ok a) h = absurd cc
@@ -46,28 +49,38 @@ module _ {S : Type 0} (base : S → Any) {V : Type 0} (view : V → Seen) (Good 
   pub checks_as : (s : S) (kind : ℕ) (read : Frame → Result V Cause) → ReadsAs base view Good s kind read
       → (f : Frame) (answer : Result Unit DecodeError) → ShapeChecks base s f.payload answer → Checks answer (read f)
   checks_as s kind read by f answer h =
-      subst (λ r. Checks answer r) (sym (by.reads f)) (checks_wrapped by.make ((base s).codec.grammar.reads f.payload) answer h)
+      subst (λ r. Checks answer r) (sym (by.reads f))
+      (checks_wrapped by.make ((base s).codec.grammar.reads f.payload) answer h)
 
   -- a value at the place, and the shape's value that it is made of
-  module _ (s : S) (kind : ℕ) (p : List ℕ) (small : IsBytes p) (read : Frame → Result V Cause) (by : ReadsAs base view Good s kind read) where
+  module _ (s : S) (kind : ℕ) (p : List ℕ) (small : IsBytes p) (read : Frame → Result V Cause)
+      (by : ReadsAs base view Good s kind read) where
     means : (x : (base s).A) → (base s).codec.grammar.reads p ≡ Ok x → (base s).codec.grammar.means p x
     means x is = (base s).codec.lawful.agrees.found p x small is
 
-    frame_is : (x : (base s).A) → (base s).codec.grammar.reads p ≡ Ok x → (view (by.make x)).frame ≡ frame_with kind ((base s).codec.text x)
+    frame_is : (x : (base s).A) → (base s).codec.grammar.reads p ≡ Ok x
+        → (view (by.make x)).frame ≡ frame_with kind ((base s).codec.text x)
     frame_is x is = by.frame_is p x small (means x is)
 
-    fits_there : (x : (base s).A) → (base s).codec.grammar.reads p ≡ Ok x → FitsAs base view Good (by.make x) → ShapeFits base s x
-    fits_there x is fits =
-        (subst (λ (g : Frame). length g.payload ≤ most_payload) (frame_is x is) fits.0, by.inside p x small (means x is) fits.1)
+    fits_there : (x : (base s).A) → (base s).codec.grammar.reads p ≡ Ok x → FitsAs base view Good (by.make x)
+        → ShapeFits base s x
+    fits_there x is fits = (
+      subst (λ (g : Frame). length g.payload ≤ most_payload) (frame_is x is) fits.0,
+      by.inside p x small (means x is) fits.1,
+    )
 
-    fits_here : (x : (base s).A) → (base s).codec.grammar.reads p ≡ Ok x → ShapeFits base s x → FitsAs base view Good (by.make x)
-    fits_here x is fits =
-        (subst (λ (g : Frame). length g.payload ≤ most_payload) (sym (frame_is x is)) fits.0, by.outside p x small (means x is) fits.1)
+    fits_here : (x : (base s).A) → (base s).codec.grammar.reads p ≡ Ok x → ShapeFits base s x
+        → FitsAs base view Good (by.make x)
+    fits_here x is fits = (
+      subst (λ (g : Frame). length g.payload ≤ most_payload) (sym (frame_is x is)) fits.0,
+      by.outside p x small (means x is) fits.1,
+    )
 
     weighs_read : (r : Result (base s).A Cause) → (base s).codec.grammar.reads p ≡ r → (a : Option ℕ)
         → Weighs (base s).codec.text (ShapeFits base s) r a
         → Weighs (λ v. (view v).frame.payload) (FitsAs base view Good) (r >>= λ x. Ok (by.make x)) a
-    weighs_read (Ok x) is (Some n) w = (fits_here x is w.0, w.1 ∙ sym (ap (λ (g : Frame). length g.payload) (frame_is x is)))
+    weighs_read (Ok x) is (Some n) w =
+        (fits_here x is w.0, w.1 ∙ sym (ap (λ (g : Frame). length g.payload) (frame_is x is)))
     weighs_read (Ok x) is None w = λ fits. w (fits_there x is fits)
     weighs_read (Err c) is (Some n) w = w
     weighs_read (Err c) is None w = tt
@@ -75,7 +88,8 @@ module _ {S : Type 0} (base : S → Any) {V : Type 0} (view : V → Seen) (Good 
     room_read : (r : Result (base s).A Cause) → (base s).codec.grammar.reads p ≡ r → (room : ℕ)
         → HasRoom (λ v. canon (view v).frame) (FitsAs base view Good) (r >>= λ x. Ok (by.make x)) room
         → HasRoom (λ x. canon (frame_with kind ((base s).codec.text x))) (ShapeFits base s) r room
-    room_read (Ok x) is room h = (fits_there x is h.0, subst (λ (g : Frame). length (canon g) ≤ room) (frame_is x is) h.1)
+    room_read (Ok x) is room h =
+        (fits_there x is h.0, subst (λ (g : Frame). length (canon g) ≤ room) (frame_is x is) h.1)
     room_read (Err c) is room h = h
 
     writes_read : (r : Result (base s).A Cause) → (base s).codec.grammar.reads p ≡ r → (old new : List ℕ) (n : ℕ)
@@ -84,34 +98,44 @@ module _ {S : Type 0} (base : S → Any) {V : Type 0} (view : V → Seen) (Good 
     writes_read (Ok x) is old new n w = subst (λ (g : Frame). Writes (canon g) old new n) (sym (frame_is x is)) w
     writes_read (Err c) is old new n w = tt
 
-  weighs_as : (s : S) (kind : ℕ) (read : Frame → Result V Cause) → ReadsAs base view Good s kind read → (f : Frame) → IsBytes f.payload
-      → (a : Option ℕ) → ShapeWeighs base s f.payload a → Weighs (λ v. (view v).frame.payload) (FitsAs base view Good) (read f) a
+  weighs_as : (s : S) (kind : ℕ) (read : Frame → Result V Cause) → ReadsAs base view Good s kind read → (f : Frame)
+      → IsBytes f.payload
+      → (a : Option ℕ) → ShapeWeighs base s f.payload a
+      → Weighs (λ v. (view v).frame.payload) (FitsAs base view Good) (read f) a
   weighs_as s kind read by f small a w =
       subst (λ r. Weighs (λ v. (view v).frame.payload) (FitsAs base view Good) r a) (sym (by.reads f))
       (weighs_read s kind f.payload small read by ((base s).codec.grammar.reads f.payload) refl a w)
 
-  room_as : (s : S) (kind : ℕ) (read : Frame → Result V Cause) → ReadsAs base view Good s kind read → (f : Frame) → IsBytes f.payload
-      → (room : ℕ) → HasRoom (λ v. canon (view v).frame) (FitsAs base view Good) (read f) room → ShapeRoom base s kind f.payload room
+  room_as : (s : S) (kind : ℕ) (read : Frame → Result V Cause) → ReadsAs base view Good s kind read → (f : Frame)
+      → IsBytes f.payload
+      → (room : ℕ) → HasRoom (λ v. canon (view v).frame) (FitsAs base view Good) (read f) room
+      → ShapeRoom base s kind f.payload room
   room_as s kind read by f small room h =
       room_read s kind f.payload small read by ((base s).codec.grammar.reads f.payload) refl room
       (subst (λ r. HasRoom (λ v. canon (view v).frame) (FitsAs base view Good) r room) (by.reads f) h)
 
-  writes_as : (s : S) (kind : ℕ) (read : Frame → Result V Cause) → ReadsAs base view Good s kind read → (f : Frame) → IsBytes f.payload
-      → (old new : List ℕ) (n : ℕ) → ShapeWrites base s kind f.payload old new n → Rewrites (λ v. canon (view v).frame) (read f) old new n
+  writes_as : (s : S) (kind : ℕ) (read : Frame → Result V Cause) → ReadsAs base view Good s kind read → (f : Frame)
+      → IsBytes f.payload
+      → (old new : List ℕ) (n : ℕ) → ShapeWrites base s kind f.payload old new n
+      → Rewrites (λ v. canon (view v).frame) (read f) old new n
   writes_as s kind read by f small old new n w =
       subst (λ r. Rewrites (λ v. canon (view v).frame) r old new n) (sym (by.reads f))
       (writes_read s kind f.payload small read by ((base s).codec.grammar.reads f.payload) refl old new n w)
 
   -- where frames are kept
-  pub checks_kept : (n : ℕ) (read : Frame → Result V Cause) → ReadsBy base view Good n Kept read → (f : Frame) → Checks (Ok tt) (read f)
+  pub checks_kept : (n : ℕ) (read : Frame → Result V Cause) → ReadsBy base view Good n Kept read → (f : Frame)
+      → Checks (Ok tt) (read f)
   checks_kept n read by f = let k = by f in let is : read f ≡ Ok k.0 = k.1 in subst (λ r. IsOk r) (sym is) refl
 
-  weighs_kept : (n : ℕ) (read : Frame → Result V Cause) → ReadsBy base view Good n Kept read → (f : Frame) → length f.payload ≤ most_payload
+  weighs_kept : (n : ℕ) (read : Frame → Result V Cause) → ReadsBy base view Good n Kept read → (f : Frame)
+      → length f.payload ≤ most_payload
       → Weighs (λ v. (view v).frame.payload) (FitsAs base view Good) (read f) (Some (length f.payload))
   weighs_kept n read by f small =
       let k = by f in
-      subst (λ r. Weighs (λ v. (view v).frame.payload) (FitsAs base view Good) r (Some (length f.payload))) (sym k.1)
-      ((subst (λ (g : Frame). length g.payload ≤ most_payload) (sym k.2) small, k.3), sym (ap (λ (g : Frame). length g.payload) k.2))
+      subst (λ r. Weighs (λ v. (view v).frame.payload) (FitsAs base view Good) r (Some (length f.payload))) (sym k.1) (
+        (subst (λ (g : Frame). length g.payload ≤ most_payload) (sym k.2) small, k.3),
+        sym (ap (λ (g : Frame). length g.payload) k.2),
+      )
 
   room_kept : (n : ℕ) (read : Frame → Result V Cause) → ReadsBy base view Good n Kept read → (f : Frame) (room : ℕ)
       → HasRoom (λ v. canon (view v).frame) (FitsAs base view Good) (read f) room → length (canon f) ≤ room
@@ -121,11 +145,13 @@ module _ {S : Type 0} (base : S → Any) {V : Type 0} (view : V → Seen) (Good 
       subst (λ r. HasRoom (λ v. canon (view v).frame) (FitsAs base view Good) r room) k.1 h in
       subst (λ (g : Frame). length (canon g) ≤ room) k.2 there.1
 
-  writes_kept : (n : ℕ) (read : Frame → Result V Cause) → ReadsBy base view Good n Kept read → (f : Frame) (old new : List ℕ) (m : ℕ)
+  writes_kept : (n : ℕ) (read : Frame → Result V Cause) → ReadsBy base view Good n Kept read
+      → (f : Frame) (old new : List ℕ) (m : ℕ)
       → Writes (canon f) old new m → Rewrites (λ v. canon (view v).frame) (read f) old new m
   writes_kept n read by f old new m w =
       let k = by f in
-      subst (λ r. Rewrites (λ v. canon (view v).frame) r old new m) (sym k.1) (subst (λ (g : Frame). Writes (canon g) old new m) (sym k.2) w)
+      subst (λ r. Rewrites (λ v. canon (view v).frame) r old new m) (sym k.1)
+      (subst (λ (g : Frame). Writes (canon g) old new m) (sym k.2) w)
 
   -- ** all lines of a table, by the way of a frame
 
@@ -156,10 +182,12 @@ module _ {S : Type 0} (base : S → Any) {V : Type 0} (view : V → Seen) (Good 
   way_checks n Own read by f answer h = absurd h
 
   module _ (f : Frame) (small : IsBytes f.payload) (read : Frame → Result V Cause) where
-    way_weighs : (w : Way S) → ReadsBy base view Good (number f) w read → length f.payload ≤ most_payload → (a : Option ℕ)
+    way_weighs : (w : Way S) → ReadsBy base view Good (number f) w read → length f.payload ≤ most_payload
+        → (a : Option ℕ)
         → WayWeighs w f.payload a → Weighs (λ v. (view v).frame.payload) (FitsAs base view Good) (read f) a
     way_weighs Kept by short a w =
-        subst (λ x. Weighs (λ v. (view v).frame.payload) (FitsAs base view Good) (read f) x) (sym w) (weighs_kept (number f) read by f short)
+        subst (λ x. Weighs (λ v. (view v).frame.payload) (FitsAs base view Good) (read f) x) (sym w)
+        (weighs_kept (number f) read by f short)
     way_weighs (Shape s) by short a w = weighs_as s (kind_of (base s).flags (number f)) read by f small a w
     way_weighs Own by short a w = absurd w
 
@@ -175,29 +203,40 @@ module _ {S : Type 0} (base : S → Any) {V : Type 0} (view : V → Seen) (Good 
     way_writes (Shape s) by old new n w = writes_as s (kind_of (base s).flags (number f)) read by f small old new n w
     way_writes Own by old new n w = absurd w
 
-  module _ (other : Frame → V) (same : (f : Frame) → view (other f) ≡ as_it_is f) (es : List {1} (Entry base view Good)) (f : Frame) where
+  module _ (other : Frame → V) (same : (f : Frame) → view (other f) ≡ as_it_is f) (es : List {1} (Entry base view Good))
+      (f : Frame) where
     by_way : (w : Way S) → way_in base view Good es (number f) (length f.payload) ≡ w
-        → ReadsBy base view Good (number f) w (reads_in base view Good (number f) (length f.payload) es (λ f. Ok (other f)))
-    by_way w is = subst (λ x. ReadsBy base view Good (number f) x (reads_in base view Good (number f) (length f.payload) es (λ f. Ok (other f)))) is
-        (line_by base view Good other same (number f) (length f.payload) es)
+        → ReadsBy base view Good (number f) w
+        (reads_in base view Good (number f) (length f.payload) es (λ f. Ok (other f)))
+    by_way w is = subst (λ x. ReadsBy base view Good (number f) x (reads_in base view Good (number f) (length f.payload)
+        es (λ f. Ok (other f)))) is (line_by base view Good other same (number f) (length f.payload) es)
 
     pub lined_checks : (w : Way S) → way_in base view Good es (number f) (length f.payload) ≡ w
-        → (answer : Result Unit DecodeError) → WayChecks w f.payload answer → Checks answer ((lines base view Good es (undecoded other)).reads f)
-    lined_checks w is answer h = way_checks (number f) w (reads_in base view Good (number f) (length f.payload) es (λ f. Ok (other f))) (by_way w is) f answer h
+        → (answer : Result Unit DecodeError) → WayChecks w f.payload answer
+        → Checks answer ((lines base view Good es (undecoded other)).reads f)
+    lined_checks w is answer h = way_checks (number f) w
+        (reads_in base view Good (number f) (length f.payload) es (λ f. Ok (other f))) (by_way w is) f answer h
 
-    pub lined_weighs : (w : Way S) → way_in base view Good es (number f) (length f.payload) ≡ w → IsBytes f.payload → length f.payload ≤ most_payload
+    pub lined_weighs : (w : Way S) → way_in base view Good es (number f) (length f.payload) ≡ w → IsBytes f.payload
+        → length f.payload ≤ most_payload
         → (a : Option ℕ) → WayWeighs w f.payload a
-        → Weighs (λ v. (view v).frame.payload) (FitsAs base view Good) ((lines base view Good es (undecoded other)).reads f) a
+        → Weighs (λ v. (view v).frame.payload) (FitsAs base view Good)
+        ((lines base view Good es (undecoded other)).reads f) a
     lined_weighs w is small short a h =
-        way_weighs f small (reads_in base view Good (number f) (length f.payload) es (λ f. Ok (other f))) w (by_way w is) short a h
+        way_weighs f small (reads_in base view Good (number f) (length f.payload) es (λ f. Ok (other f))) w
+        (by_way w is) short a h
 
-    pub lined_room : (w : Way S) → way_in base view Good es (number f) (length f.payload) ≡ w → IsBytes f.payload → (room : ℕ)
-        → HasRoom (λ v. canon (view v).frame) (FitsAs base view Good) ((lines base view Good es (undecoded other)).reads f) room → WayRoom w f room
+    pub lined_room : (w : Way S) → way_in base view Good es (number f) (length f.payload) ≡ w → IsBytes f.payload
+        → (room : ℕ)
+        → HasRoom (λ v. canon (view v).frame) (FitsAs base view Good)
+        ((lines base view Good es (undecoded other)).reads f) room → WayRoom w f room
     lined_room w is small room h =
-        way_room f small (reads_in base view Good (number f) (length f.payload) es (λ f. Ok (other f))) w (by_way w is) room h
+        way_room f small (reads_in base view Good (number f) (length f.payload) es (λ f. Ok (other f))) w
+        (by_way w is) room h
 
     pub lined_writes : (w : Way S) → way_in base view Good es (number f) (length f.payload) ≡ w → IsBytes f.payload
         → (old new : List ℕ) (n : ℕ) → WayWrites w f old new n
         → Rewrites (λ v. canon (view v).frame) ((lines base view Good es (undecoded other)).reads f) old new n
     lined_writes w is small old new n h =
-        way_writes f small (reads_in base view Good (number f) (length f.payload) es (λ f. Ok (other f))) w (by_way w is) old new n h
+        way_writes f small (reads_in base view Good (number f) (length f.payload) es (λ f. Ok (other f))) w
+        (by_way w is) old new n h

@@ -16,7 +16,8 @@ spelled : (b : List ℕ) (f : Frame) (rest : List ℕ) (h : Begins b f rest) →
 spelled b f rest h = record { kind = h.kind; size = h.size; padding = h.padding; is = refl; padded = h.padded }
 
 -- what is followed by bytes has all of its padding
-fully_spelled : (b : List ℕ) (f : Frame) (rest : List ℕ) (h : Begins b f rest) → 0 < length rest → IsFullSpelling (unpadded f ++ h.padding) f
+fully_spelled : (b : List ℕ) (f : Frame) (rest : List ℕ) (h : Begins b f rest) → 0 < length rest
+    → IsFullSpelling (unpadded f ++ h.padding) f
 unfolding spelled
 fully_spelled b f rest h some = record { spelling = spelled b f rest h; full = all h.full }
   where
@@ -36,30 +37,51 @@ begins_fully s f b rest h e = record {
 
 -- ** frames to the end
 
-spell_more : (b : List ℕ) (f : Frame) (rest : List ℕ) (h : Begins b f rest) → 0 < length rest → (g : Frame) (fs : List Frame) (ss : List (List ℕ))
+spell_more : (b : List ℕ) (f : Frame) (rest : List ℕ) (h : Begins b f rest) → 0 < length rest
+    → (g : Frame) (fs : List Frame) (ss : List (List ℕ))
     → rest ≡ flat_map (λ s. s) ss → AreSpellings ss (g ∷ fs) → IsConcatenation b (f ∷ g ∷ fs)
 spell_more b f rest h some g fs [] e spell = absurd spell
-spell_more b f rest h some g fs (t ∷ ss) e spell =
-    ((unpadded f ++ h.padding) ∷ t ∷ ss, h.parts ∙ ap (λ (r : List ℕ). (unpadded f ++ h.padding) ++ r) e, (fully_spelled b f rest h some, spell))
+spell_more b f rest h some g fs (t ∷ ss) e spell = (
+  (unpadded f ++ h.padding) ∷ t ∷ ss,
+  h.parts ∙ ap (λ (r : List ℕ). (unpadded f ++ h.padding) ++ r) e,
+  (fully_spelled b f rest h some, spell),
+)
 
 pub frames_concatenation : (b : List ℕ) (fs : List Frame) → Frames b fs → IsConcatenation b fs
 frames_concatenation b [] h = ([], h, tt)
-frames_concatenation b (f ∷ []) h =
-    ((unpadded f ++ h.1.padding) ∷ [], h.1.parts ∙ ap (λ (r : List ℕ). (unpadded f ++ h.1.padding) ++ r) h.2, spelled b f h.0 h.1)
+frames_concatenation b (f ∷ []) h = (
+  (unpadded f ++ h.1.padding) ∷ [],
+  h.1.parts ∙ ap (λ (r : List ℕ). (unpadded f ++ h.1.padding) ++ r) h.2,
+  spelled b f h.0 h.1,
+)
 frames_concatenation b (f ∷ g ∷ fs) h =
     let after = frames_concatenation h.0 (g ∷ fs) h.2 in
     spell_more b f h.0 h.1 (omega (arith, length-begins h.0 g h.2.0 h.2.1)) g fs after.0 after.1 after.2
 
-concatenated : (ss : List (List ℕ)) (fs : List Frame) (b : List ℕ) → b ≡ flat_map (λ s. s) ss → AreSpellings ss fs → Frames b fs
+concatenated : (ss : List (List ℕ)) (fs : List Frame) (b : List ℕ) → b ≡ flat_map (λ s. s) ss → AreSpellings ss fs
+    → Frames b fs
 concatenated [] [] b e h = e
 concatenated [] (f ∷ fs) b e h = absurd h
 concatenated (s ∷ ss) [] b e h = absurd h
-concatenated (s ∷ []) (f ∷ []) b e h =
-    ([], record { kind = h.kind; size = h.size; padding = h.padding; parts = e ∙ ap (λ (x : List ℕ). x ++ []) h.is; padded = h.padded; full = inr refl }, refl)
+concatenated (s ∷ []) (f ∷ []) b e h = (
+  [],
+  record {
+    kind = h.kind;
+    size = h.size;
+    padding = h.padding;
+    parts = e ∙ ap (λ (x : List ℕ). x ++ []) h.is;
+    padded = h.padded;
+    full = inr refl;
+  },
+  refl,
+)
 concatenated (s ∷ []) (f ∷ g ∷ fs) b e h = absurd h
 concatenated (s ∷ t ∷ ss) (f ∷ []) b e h = absurd h
-concatenated (s ∷ t ∷ ss) (f ∷ g ∷ fs) b e h =
-    (flat_map (λ s. s) (t ∷ ss), begins_fully s f b (flat_map (λ s. s) (t ∷ ss)) h.0 e, concatenated (t ∷ ss) (g ∷ fs) (flat_map (λ s. s) (t ∷ ss)) refl h.1)
+concatenated (s ∷ t ∷ ss) (f ∷ g ∷ fs) b e h = (
+  flat_map (λ s. s) (t ∷ ss),
+  begins_fully s f b (flat_map (λ s. s) (t ∷ ss)) h.0 e,
+  concatenated (t ∷ ss) (g ∷ fs) (flat_map (λ s. s) (t ∷ ss)) refl h.1,
+)
 
 pub concatenation_frames : (b : List ℕ) (fs : List Frame) → IsConcatenation b fs → Frames b fs
 concatenation_frames b fs h = concatenated h.0 fs b h.1 h.2
@@ -95,13 +117,17 @@ fault_behind b (f ∷ fs) c h =
       after.4,
     )
 
-behind_fault_at : (ss : List (List ℕ)) (fs : List Frame) (b rest : List ℕ) (c : Cause) → b ≡ flat_map (λ s. s) ss ++ rest → AreFullSpellings ss fs → BadStart rest c → Fault b fs c
+behind_fault_at : (ss : List (List ℕ)) (fs : List Frame) (b rest : List ℕ) (c : Cause)
+    → b ≡ flat_map (λ s. s) ss ++ rest → AreFullSpellings ss fs → BadStart rest c → Fault b fs c
 behind_fault_at [] [] b rest c e h bad = subst (λ x. BadStart x c) (sym e) bad
 behind_fault_at [] (f ∷ fs) b rest c e h bad = absurd h
 behind_fault_at (s ∷ ss) [] b rest c e h bad = absurd h
 behind_fault_at (s ∷ ss) (f ∷ fs) b rest c e h bad =
-    let after : List ℕ = flat_map (λ s. s) ss ++ rest in
-    (after, begins_fully s f b after h.0 (e ∙ append_assoc s (flat_map (λ s. s) ss) rest), behind_fault_at ss fs after rest c refl h.1 bad)
+    let after : List ℕ = flat_map (λ s. s) ss ++ rest in (
+      after,
+      begins_fully s f b after h.0 (e ∙ append_assoc s (flat_map (λ s. s) ss) rest),
+      behind_fault_at ss fs after rest c refl h.1 bad,
+    )
 
 pub behind_fault : (b : List ℕ) (fs : List Frame) (c : Cause) → IsFaultBehind b fs c → Fault b fs c
 behind_fault b fs c h = behind_fault_at h.0 fs b h.1 c h.2 h.3 h.4

@@ -23,7 +23,8 @@ pub record Seen : Type 1 where
 
 -- a value that is written with this kind by this codec
 abbrev pub held : {A : Type 0} {Good : A → Type 0} → ℕ → CodecWhere A Good → A → Seen
-held kind c a = record { frame = record { kind = kind; payload = c.text a }; Inside = c.Inside a; count = 1 + c.count a }
+held kind c a =
+    record { frame = record { kind = kind; payload = c.text a }; Inside = c.Inside a; count = 1 + c.count a }
 
 -- a frame that is kept
 abbrev pub as_it_is : Frame → Seen
@@ -42,9 +43,12 @@ pub record Shaped {S : Type 0} (base : S → Any) (A : Type 0) (Good : A → Typ
   pub codec : CodecWhere A Good
   pub wrap : (base shape).A → A
   pub reads : (p : List ℕ) → codec.grammar.reads p ≡ ((base shape).codec.grammar.reads p >>= λ x. Ok (wrap x))
-  pub text_is : (p : List ℕ) (x : (base shape).A) → IsBytes p → (base shape).codec.grammar.means p x → codec.text (wrap x) ≡ (base shape).codec.text x
-  pub inside : (p : List ℕ) (x : (base shape).A) → IsBytes p → (base shape).codec.grammar.means p x → codec.Inside (wrap x) → (base shape).codec.Inside x
-  pub outside : (p : List ℕ) (x : (base shape).A) → IsBytes p → (base shape).codec.grammar.means p x → (base shape).codec.Inside x → codec.Inside (wrap x)
+  pub text_is : (p : List ℕ) (x : (base shape).A) → IsBytes p → (base shape).codec.grammar.means p x
+      → codec.text (wrap x) ≡ (base shape).codec.text x
+  pub inside : (p : List ℕ) (x : (base shape).A) → IsBytes p → (base shape).codec.grammar.means p x
+      → codec.Inside (wrap x) → (base shape).codec.Inside x
+  pub outside : (p : List ℕ) (x : (base shape).A) → IsBytes p → (base shape).codec.grammar.means p x
+      → (base shape).codec.Inside x → codec.Inside (wrap x)
 
 pub same_answer : {A : Type 0} (r : Result A Cause) → r ≡ (r >>= λ x. Ok x)
 same_answer (Ok x) = refl
@@ -70,7 +74,8 @@ plain base s = record {
 -- a value that stands for that of the shape, with nothing inside
 abbrev pub standing : {S : Type 0} (base : S → Any) (s : S) {A : Type 0} (of : (base s).A → A) (c : CodecWhere A always)
     → ((p : List ℕ) → c.grammar.reads p ≡ ((base s).codec.grammar.reads p >>= λ x. Ok (of x)))
-    → ((p : List ℕ) (x : (base s).A) → IsBytes p → (base s).codec.grammar.means p x → c.text (of x) ≡ (base s).codec.text x)
+    → ((p : List ℕ) (x : (base s).A) → IsBytes p → (base s).codec.grammar.means p x
+    → c.text (of x) ≡ (base s).codec.text x)
     → ((x : (base s).A) → (base s).codec.Inside x)
     → ((a : A) → c.Inside a)
     → Shaped base A always
@@ -92,9 +97,11 @@ has_size None size = true
 has_size (Some s) size = size == s
 
 -- whether a line's bounds, and its kind, are such as its codec's are
-abbrev pub kind_holds : {A : Type 0} {Good : A → Type 0} (number kind : ℕ) (c : CodecWhere A Good) (factor fewer enough : ℕ) → Bool
+abbrev pub kind_holds : {A : Type 0} {Good : A → Type 0} (number kind : ℕ) (c : CodecWhere A Good)
+    (factor fewer enough : ℕ) → Bool
 kind_holds number kind c factor fewer enough =
-    (kind % 2 ^ 14 == number) && (nat_lt kind (2 ^ 16) && (nat_le c.factor factor && (nat_le (fewer + c.factor) (c.fewer + factor) && nat_le enough c.enough)))
+    (kind % 2 ^ 14 == number) && (nat_lt kind (2 ^ 16)
+    && (nat_le c.factor factor && (nat_le (fewer + c.factor) (c.fewer + factor) && nat_le enough c.enough)))
 
 pub both : (a b : Bool) → T (a && b) → T a × T b
 both true true h = (tt, tt)
@@ -120,8 +127,10 @@ module _ {S : Type 0} (base : S → Any) {V : Type 0} (view : V → Seen) (Good 
     pub reads : (f : Frame) → read f ≡ ((base s).codec.grammar.reads f.payload >>= λ x. Ok (make x))
     pub frame_is : (p : List ℕ) (x : (base s).A) → IsBytes p → (base s).codec.grammar.means p x
         → (view (make x)).frame ≡ record { kind = kind; payload = (base s).codec.text x }
-    pub inside : (p : List ℕ) (x : (base s).A) → IsBytes p → (base s).codec.grammar.means p x → (view (make x)).Inside → (base s).codec.Inside x
-    pub outside : (p : List ℕ) (x : (base s).A) → IsBytes p → (base s).codec.grammar.means p x → (base s).codec.Inside x → (view (make x)).Inside
+    pub inside : (p : List ℕ) (x : (base s).A) → IsBytes p → (base s).codec.grammar.means p x → (view (make x)).Inside
+        → (base s).codec.Inside x
+    pub outside : (p : List ℕ) (x : (base s).A) → IsBytes p → (base s).codec.grammar.means p x → (base s).codec.Inside x
+        → (view (make x)).Inside
 
   abbrev pub ReadsBy : ℕ → Way S → (Frame → Result V Cause) → Type 0
   ReadsBy n Kept read = (f : Frame) → (v : V) × (read f ≡ Ok v) × ((view v).frame ≡ f) × (view v).Inside
@@ -190,7 +199,8 @@ module _ {S : Type 0} (base : S → Any) {V : Type 0} (view : V → Seen) (Good 
   -- each line is lawful, and no two have one number
   abbrev pub all_hold : ℕ → ℕ → ℕ → List {1} Entry → Bool
   all_hold factor fewer enough [] = true
-  all_hold factor fewer enough (e ∷ es) = e.reading.holds factor fewer enough && (no_more e.number es && all_hold factor fewer enough es)
+  all_hold factor fewer enough (e ∷ es) =
+      e.reading.holds factor fewer enough && (no_more e.number es && all_hold factor fewer enough es)
 
   -- ** readings
 
@@ -209,13 +219,17 @@ module _ {S : Type 0} (base : S → Any) {V : Type 0} (view : V → Seen) (Good 
       let inner = wider c.grammar c.text c.Inside GoodA c.count c.factor c.fewer c.enough factor fewer enough
       (computed_le third.0) (computed_le fourth.0) (computed_le fourth.1) c.lawful in
       numbered frame_of FitsAs Good count_of factor fewer enough n (by_payload (as_a variant c.grammar))
-      (wrapped_lawful variant c.grammar c.text c.Inside GoodA c.count factor fewer enough inner kind frame_of FitsAs Good count_of
-      (ltb-true kind (2 ^ 16) (truth _ second.0))
+      (wrapped_lawful variant c.grammar c.text c.Inside GoodA c.count factor fewer enough inner kind frame_of FitsAs
+      Good count_of (ltb-true kind (2 ^ 16) (truth _ second.0))
       (λ a. ap (λ (s : Seen). s.frame) (same a)) (λ a. ap (λ (s : Seen). s.count) (same a))
-      (λ a fits. (subst (λ (s : Seen). IsSmall s.frame) (same a) fits.0, subst (λ (s : Seen). s.Inside) (same a) fits.1))
-      (λ a short inside. (subst (λ (s : Seen). IsSmall s.frame) (sym (same a)) short, subst (λ (s : Seen). s.Inside) (sym (same a)) inside))
-      good)
-      (λ f v is means. ap (λ w. number (frame_of w)) means.2 ∙ ap (λ (s : Seen). number s.frame) (same means.0) ∙ number_is)
+      (λ a fits.
+      (subst (λ (s : Seen). IsSmall s.frame) (same a) fits.0, subst (λ (s : Seen). s.Inside) (same a) fits.1))
+      (λ a short inside. (
+        subst (λ (s : Seen). IsSmall s.frame) (sym (same a)) short,
+        subst (λ (s : Seen). s.Inside) (sym (same a)) inside,
+      )) good)
+      (λ f v is means. ap (λ w. number (frame_of w)) means.2 ∙ ap (λ (s : Seen). number s.frame) (same means.0)
+      ∙ number_is)
 
   -- a payload by its shape
   abbrev pub shaping : (number : ℕ) {A : Type 0} {GoodA : A → Type 0} (s : Shaped base A GoodA) (variant : A → V)
@@ -227,11 +241,13 @@ module _ {S : Type 0} (base : S → Any) {V : Type 0} (view : V → Seen) (Good 
     reads = by_payload (as_a variant s.codec.grammar);
     by = record {
       make = λ x. variant (s.wrap x);
-      reads = λ f. ap (λ r. r >>= λ a. Ok (variant a)) (s.reads f.payload) ∙ two_steps ((base s.shape).codec.grammar.reads f.payload) s.wrap variant;
+      reads = λ f. ap (λ r. r >>= λ a. Ok (variant a)) (s.reads f.payload)
+          ∙ two_steps ((base s.shape).codec.grammar.reads f.payload) s.wrap variant;
       frame_is = λ p x small means. ap (λ (w : Seen). w.frame) (same (s.wrap x))
           ∙ ap (λ t. record { kind = kind_of (base s.shape).flags number; payload = t }) (s.text_is p x small means);
       inside = λ p x small means fits. s.inside p x small means (subst (λ (w : Seen). w.Inside) (same (s.wrap x)) fits);
-      outside = λ p x small means fits. subst (λ (w : Seen). w.Inside) (sym (same (s.wrap x))) (s.outside p x small means fits);
+      outside = λ p x small means fits.
+          subst (λ (w : Seen). w.Inside) (sym (same (s.wrap x))) (s.outside p x small means fits);
     };
     holds = kind_holds number (kind_of (base s.shape).flags number) s.codec;
     lawful = held_lawful number (kind_of (base s.shape).flags number) s.codec variant same good;
@@ -250,15 +266,18 @@ module _ {S : Type 0} (base : S → Any) {V : Type 0} (view : V → Seen) (Good 
     lawful = held_lawful number kind c variant same good;
   }
 
-  pub kept_reading : (other : Frame → V) → ((f : Frame) → view (other f) ≡ as_it_is f) → (factor fewer enough : ℕ) → plain_growth + fewer ≤ factor → (n : ℕ)
+  pub kept_reading : (other : Frame → V) → ((f : Frame) → view (other f) ≡ as_it_is f) → (factor fewer enough : ℕ)
+      → plain_growth + fewer ≤ factor → (n : ℕ)
       → Lawful factor fewer enough n (undecoded other)
   kept_reading other same factor fewer enough wide n =
       kept_lawful frame_of FitsAs Good count_of factor fewer enough wide other
       (λ f. ap (λ (s : Seen). s.frame) (same f)) (λ f. ap (λ (s : Seen). s.count) (same f))
-      (λ f small. (subst (λ (s : Seen). IsSmall s.frame) (sym (same f)) small, subst (λ (s : Seen). s.Inside) (sym (same f)) tt)) n
+      (λ f small.
+      (subst (λ (s : Seen). IsSmall s.frame) (sym (same f)) small, subst (λ (s : Seen). s.Inside) (sym (same f)) tt)) n
 
   -- frames of this number are kept
-  abbrev pub keeping : (number : ℕ) (variant : Frame → V) → ((f : Frame) → view (variant f) ≡ as_it_is f) → Reading number
+  abbrev pub keeping : (number : ℕ) (variant : Frame → V) → ((f : Frame) → view (variant f) ≡ as_it_is f)
+      → Reading number
   keeping number variant same = record {
     way = Kept;
     reads = undecoded variant;
@@ -269,13 +288,15 @@ module _ {S : Type 0} (base : S → Any) {V : Type 0} (view : V → Seen) (Good 
 
   -- ** all lines together
 
-  lines_reads_is : (n size : ℕ) (es : List {1} Entry) (rest : Grammar Frame V) (f : Frame) → reads_in n size es rest.reads f ≡ (line_in n size es rest).reads f
+  lines_reads_is : (n size : ℕ) (es : List {1} Entry) (rest : Grammar Frame V) (f : Frame)
+      → reads_in n size es rest.reads f ≡ (line_in n size es rest).reads f
   lines_reads_is n size [] rest f = refl
   lines_reads_is n size (e ∷ es) rest f =
       ap (λ x. if accepts e n size then e.reading.reads.reads f else x) (lines_reads_is n size es rest f)
       ∙ if_reads (accepts e n size) e.reading.reads (line_in n size es rest) f
 
-  module _ (factor fewer enough : ℕ) (other : Frame → V) (same : (f : Frame) → view (other f) ≡ as_it_is f) (wide : plain_growth + fewer ≤ factor) where
+  module _ (factor fewer enough : ℕ) (other : Frame → V) (same : (f : Frame) → view (other f) ≡ as_it_is f)
+      (wide : plain_growth + fewer ≤ factor) where
     abbrev AllLawful : List {1} Entry → Type 0
     AllLawful [] = Unit {0}
     AllLawful (e ∷ es) = Lawful factor fewer enough e.number e.reading.reads × AllLawful es
@@ -286,9 +307,11 @@ module _ {S : Type 0} (base : S → Any) {V : Type 0} (view : V → Seen) (Good 
         let k = both (e.reading.holds factor fewer enough) _ h in
         (e.reading.lawful factor fewer enough k.0, each_lawful es (both (no_more e.number es) _ k.1).1)
 
-    line_agrees : (n size : ℕ) (es : List {1} Entry) → AllLawful es → Agrees IsFrame (line_in n size es (undecoded other))
+    line_agrees : (n size : ℕ) (es : List {1} Entry) → AllLawful es
+        → Agrees IsFrame (line_in n size es (undecoded other))
     line_agrees n size [] each = (kept_reading other same factor fewer enough wide 0).agrees
-    line_agrees n size (e ∷ es) each = if_agrees (accepts e n size) e.reading.reads (line_in n size es (undecoded other)) each.0.agrees (line_agrees n size es each.1)
+    line_agrees n size (e ∷ es) each = if_agrees (accepts e n size) e.reading.reads
+        (line_in n size es (undecoded other)) each.0.agrees (line_agrees n size es each.1)
 
     lines_agree : (es : List {1} Entry) → AllLawful es → Agrees IsFrame (lines es (undecoded other))
     lines_agree es each =
@@ -301,29 +324,37 @@ module _ {S : Type 0} (base : S → Any) {V : Type 0} (view : V → Seen) (Good 
           refused = λ f c m. is f ∙ (at f).refused f c m;
         }
 
-    accepted_lawful : (e : Entry) (g : Grammar Frame V) (n : ℕ) → Lawful factor fewer enough e.number e.reading.reads → Lawful factor fewer enough n g
+    accepted_lawful : (e : Entry) (g : Grammar Frame V) (n : ℕ) → Lawful factor fewer enough e.number e.reading.reads
+        → Lawful factor fewer enough n g
         → (b c : Bool) → (n == e.number) ≡ b → Lawful factor fewer enough n (if_true (b && c) e.reading.reads g)
-    accepted_lawful e g n h k true true is = subst (λ x. Lawful factor fewer enough x e.reading.reads) (sym (eqb-true n e.number is)) h
+    accepted_lawful e g n h k true true is =
+        subst (λ x. Lawful factor fewer enough x e.reading.reads) (sym (eqb-true n e.number is)) h
     accepted_lawful e g n h k true false is = k
     accepted_lawful e g n h k false c is = k
 
-    line_lawful : (n size : ℕ) (es : List {1} Entry) → AllLawful es → Lawful factor fewer enough n (line_in n size es (undecoded other))
+    line_lawful : (n size : ℕ) (es : List {1} Entry) → AllLawful es
+        → Lawful factor fewer enough n (line_in n size es (undecoded other))
     line_lawful n size [] each = kept_reading other same factor fewer enough wide n
     line_lawful n size (e ∷ es) each =
-        accepted_lawful e (line_in n size es (undecoded other)) n each.0 (line_lawful n size es each.1) (n == e.number) (has_size e.size size) refl
+        accepted_lawful e (line_in n size es (undecoded other)) n each.0 (line_lawful n size es each.1) (n == e.number)
+        (has_size e.size size) refl
 
-    kept_size : (size : Option ℕ) (g : Grammar Frame V) → KeepsSize size g → (f : Frame) (v : V) → g.means f v → has_size size (length (frame_of v).payload) ≡ true
+    kept_size : (size : Option ℕ) (g : Grammar Frame V) → KeepsSize size g → (f : Frame) (v : V) → g.means f v
+        → has_size size (length (frame_of v).payload) ≡ true
     kept_size None g keeps f v means = refl
     kept_size (Some size) g keeps f v means = eq-eqb (length (frame_of v).payload) size (keeps f v means)
 
     -- frames of a number that no line has are kept
-    missed : (n size : ℕ) (es : List {1} Entry) (f : Frame) (v : V) → T (no_more n es) → (line_in n size es (undecoded other)).means f v → frame_of v ≡ f
+    missed : (n size : ℕ) (es : List {1} Entry) (f : Frame) (v : V) → T (no_more n es)
+        → (line_in n size es (undecoded other)).means f v → frame_of v ≡ f
     missed n size [] f v none means = ap frame_of means ∙ ap (λ (s : Seen). s.frame) (same f)
-    missed n size (e ∷ es) f v none means = by (n == e.number) (has_size e.size size) (missed n size es f v) none means where
-      by : (b c : Bool) → (T (no_more n es) → (line_in n size es (undecoded other)).means f v → frame_of v ≡ f)
-          → T (not b && no_more n es) → (if_true (b && c) e.reading.reads (line_in n size es (undecoded other))).means f v → frame_of v ≡ f
-      by true c later none means = absurd none
-      by false c later none means = later none means
+    missed n size (e ∷ es) f v none means =
+        by (n == e.number) (has_size e.size size) (missed n size es f v) none means where
+          by : (b c : Bool) → (T (no_more n es) → (line_in n size es (undecoded other)).means f v → frame_of v ≡ f)
+              → T (not b && no_more n es)
+              → (if_true (b && c) e.reading.reads (line_in n size es (undecoded other))).means f v → frame_of v ≡ f
+          by true c later none means = absurd none
+          by false c later none means = later none means
 
     -- the frame of a value that was read is accepted by the line that it was read by
     accepted_back : (e : Entry) (g h : Grammar Frame V) (f : Frame) (v : V) → IsFrame f → FitsAs v → Good v
@@ -335,25 +366,31 @@ module _ {S : Type 0} (base : S → Any) {V : Type 0} (view : V → Seen) (Good 
         → (if_true (b && has_size e.size (length (frame_of v).payload)) e.reading.reads h).means (frame_of v) v
     accepted_back e g h f v one fits good lawful later kept_frame false c is sized means = later means
     accepted_back e g h f v one fits good lawful later kept_frame true true is sized means =
-        subst (λ t. (if_true t e.reading.reads h).means (frame_of v) v) (sym (kept_size e.size e.reading.reads e.keeps_size f v means))
+        subst (λ t. (if_true t e.reading.reads h).means (frame_of v) v)
+        (sym (kept_size e.size e.reading.reads e.keeps_size f v means))
         (lawful.back f v one (eqb-true (number f) e.number is) means fits good)
     accepted_back e g h f v one fits good lawful later kept_frame true false is sized means =
         let again : frame_of v ≡ f = kept_frame (eqb-true (number f) e.number is) means in
-        subst (λ t. (if_true t e.reading.reads h).means (frame_of v) v) (sym (ap (λ (x : Frame). has_size e.size (length x.payload)) again ∙ sized)) (later means)
+        subst (λ t. (if_true t e.reading.reads h).means (frame_of v) v)
+        (sym (ap (λ (x : Frame). has_size e.size (length x.payload)) again ∙ sized)) (later means)
 
-    line_back : (es : List {1} Entry) → T (all_hold factor fewer enough es) → AllLawful es → (f : Frame) (v : V) → IsFrame f → FitsAs v → Good v
+    line_back : (es : List {1} Entry) → T (all_hold factor fewer enough es) → AllLawful es → (f : Frame) (v : V)
+        → IsFrame f → FitsAs v → Good v
         → (line_in (number f) (length f.payload) es (undecoded other)).means f v
         → (line_in (number f) (length (frame_of v).payload) es (undecoded other)).means (frame_of v) v
-    line_back [] h each f v one fits good means = (kept_reading other same factor fewer enough wide (number f)).back f v one refl means fits good
+    line_back [] h each f v one fits good means =
+        (kept_reading other same factor fewer enough wide (number f)).back f v one refl means fits good
     line_back (e ∷ es) h each f v one fits good means =
         let k = both (e.reading.holds factor fewer enough) _ h in
         let l = both (no_more e.number es) _ k.1 in
-        accepted_back e (line_in (number f) (length f.payload) es (undecoded other)) (line_in (number f) (length (frame_of v).payload) es (undecoded other))
-        f v one fits good each.0 (line_back es l.1 each.1 f v one fits good)
+        accepted_back e (line_in (number f) (length f.payload) es (undecoded other))
+        (line_in (number f) (length (frame_of v).payload) es (undecoded other)) f v one fits good each.0
+        (line_back es l.1 each.1 f v one fits good)
         (λ is. missed (number f) (length f.payload) es f v (subst (λ n. T (no_more n es)) (sym is) l.0))
         (number f == e.number) (has_size e.size (length f.payload)) refl refl means
 
-    pub lines_lawful : (es : List {1} Entry) → T (all_hold factor fewer enough es) → (m : ℕ) → Lawful factor fewer enough m (lines es (undecoded other))
+    pub lines_lawful : (es : List {1} Entry) → T (all_hold factor fewer enough es) → (m : ℕ)
+        → Lawful factor fewer enough m (lines es (undecoded other))
     lines_lawful es h m =
         let each = each_lawful es h in
         let at = λ (f : Frame). line_lawful (number f) (length f.payload) es each in
@@ -363,7 +400,8 @@ module _ {S : Type 0} (base : S → Any) {V : Type 0} (view : V → Seen) (Good 
           same_number = λ f v is means. (at f).same_number f v refl means ∙ is;
           writable = λ f. (at f).writable f;
           back = λ f v one is means fits good.
-              subst (λ n. (line_in n (length (frame_of v).payload) es (undecoded other)).means (frame_of v) v) (sym ((at f).same_number f v refl means))
+              subst (λ n. (line_in n (length (frame_of v).payload) es (undecoded other)).means (frame_of v) v)
+              (sym ((at f).same_number f v refl means))
               (line_back es h each f v one fits good means);
           counted = λ f. (at f).counted f;
           bounded = λ f. (at f).bounded f;
@@ -372,33 +410,40 @@ module _ {S : Type 0} (base : S → Any) {V : Type 0} (view : V → Seen) (Good 
 
     pub lined_lawful : (es : List {1} Entry) → T (all_hold factor fewer enough es)
         → LawfulPlace (lines es (undecoded other)) frame_of FitsAs Good count_of factor fewer enough
-    lined_lawful es h = place_lawful frame_of FitsAs Good count_of factor fewer enough (lines es (undecoded other)) (lines_lawful es h)
+    lined_lawful es h =
+        place_lawful frame_of FitsAs Good count_of factor fewer enough (lines es (undecoded other)) (lines_lawful es h)
 
   -- ** frames that no line accepts
 
   pub foreign_kept : (other : Frame → V) → ((f : Frame) → view (other f) ≡ as_it_is f)
-      → (es : List {1} Entry) (f : Frame) (v : V) → IsForeign es f → (lines es (undecoded other)).means f v → frame_of v ≡ f
+      → (es : List {1} Entry) (f : Frame) (v : V) → IsForeign es f → (lines es (undecoded other)).means f v
+      → frame_of v ≡ f
   foreign_kept other same [] f v foreign means = ap frame_of means ∙ ap (λ (s : Seen). s.frame) (same f)
   foreign_kept other same (e ∷ es) f v foreign means =
       foreign_kept other same es f v foreign.1
-      (subst (λ t. (if_true t e.reading.reads (line_in (number f) (length f.payload) es (undecoded other))).means f v) foreign.0 means)
+      (subst (λ t. (if_true t e.reading.reads (line_in (number f) (length f.payload) es (undecoded other))).means f v)
+      foreign.0 means)
 
   missed_number : (a b : ℕ) (c : Bool) → (a ≢ b) → ((a == b) && c) ≡ false
   missed_number a b c other = ap (λ t. t && c) (ne_eqb a b other)
 
   pub other_foreign : (es : List {1} Entry) (f : Frame) → IsOther es (number f) → IsForeign es f
   other_foreign [] f other = tt
-  other_foreign (e ∷ es) f other = (missed_number (number f) e.number (has_size e.size (length f.payload)) other.0, other_foreign es f other.1)
+  other_foreign (e ∷ es) f other =
+      (missed_number (number f) e.number (has_size e.size (length f.payload)) other.0, other_foreign es f other.1)
 
   pub other_way : (n size : ℕ) (es : List {1} Entry) → IsOther es n → way_in es n size ≡ Kept
   other_way n size [] other = refl
   other_way n size (e ∷ es) other =
-      ap (λ t. if t then e.reading.way else way_in es n size) (missed_number n e.number (has_size e.size size) other.0) ∙ other_way n size es other.1
+      ap (λ t. if t then e.reading.way else way_in es n size) (missed_number n e.number (has_size e.size size) other.0)
+      ∙ other_way n size es other.1
 
-  pub other_reads : (n size : ℕ) (es : List {1} Entry) (rest : Frame → Result V Cause) (f : Frame) → IsOther es n → reads_in n size es rest f ≡ rest f
+  pub other_reads : (n size : ℕ) (es : List {1} Entry) (rest : Frame → Result V Cause) (f : Frame) → IsOther es n
+      → reads_in n size es rest f ≡ rest f
   other_reads n size [] rest f other = refl
   other_reads n size (e ∷ es) rest f other =
-      ap (λ t. if t then e.reading.reads.reads f else reads_in n size es rest f) (missed_number n e.number (has_size e.size size) other.0)
+      ap (λ t. if t then e.reading.reads.reads f else reads_in n size es rest f)
+      (missed_number n e.number (has_size e.size size) other.0)
       ∙ other_reads n size es rest f other.1
 
   -- ** code over shapes
@@ -406,12 +451,15 @@ module _ {S : Type 0} (base : S → Any) {V : Type 0} (view : V → Seen) (Good 
   by_line : (e : Entry) (way : Way S) (read : Frame → Result V Cause) (n : ℕ) → ReadsBy n way read
       → (b c : Bool) → (n == e.number) ≡ b
       → ReadsBy n (if (b && c) then e.reading.way else way) (λ f. if (b && c) then e.reading.reads.reads f else read f)
-  by_line e way read n by true true is = subst (λ x. ReadsBy x e.reading.way e.reading.reads.reads) (sym (eqb-true n e.number is)) e.reading.by
+  by_line e way read n by true true is =
+      subst (λ x. ReadsBy x e.reading.way e.reading.reads.reads) (sym (eqb-true n e.number is)) e.reading.by
   by_line e way read n by true false is = by
   by_line e way read n by false c is = by
 
   pub line_by : (other : Frame → V) → ((f : Frame) → view (other f) ≡ as_it_is f)
       → (n size : ℕ) (es : List {1} Entry) → ReadsBy n (way_in es n size) (reads_in n size es (λ f. Ok (other f)))
-  line_by other same n size [] = λ f. (other f, refl, ap (λ (s : Seen). s.frame) (same f), subst (λ (s : Seen). s.Inside) (sym (same f)) tt)
+  line_by other same n size [] = λ f.
+      (other f, refl, ap (λ (s : Seen). s.frame) (same f), subst (λ (s : Seen). s.Inside) (sym (same f)) tt)
   line_by other same n size (e ∷ es) =
-      by_line e (way_in es n size) (reads_in n size es (λ f. Ok (other f))) n (line_by other same n size es) (n == e.number) (has_size e.size size) refl
+      by_line e (way_in es n size) (reads_in n size es (λ f. Ok (other f))) n (line_by other same n size es)
+      (n == e.number) (has_size e.size size) refl

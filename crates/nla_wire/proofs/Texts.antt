@@ -1,6 +1,6 @@
 -- Texts as code reads them: one NUL dropped, then a test of what is left.
-use Rattle.std.proofs.Common.{◌≡◌, ℕ, ◌+◌, ◌<◌, ◌≤◌, inl, Bool, true, false, List, [], ◌∷◌, ◌++◌, length, refl, sym, ap, ◌∙◌, subst}
-use Rattle.std.proofs.Common.{arith, length-append, Option, Some, None, Result, Ok, Err}
+use Rattle.std.proofs.Common.{◌≡◌, ℕ, ◌+◌, ◌<◌, ◌≤◌, inl, Bool, true, false, List, [], ◌∷◌, ◌++◌, length, refl, sym, ap}
+use Rattle.std.proofs.Common.{◌∙◌, subst, arith, length-append, Option, Some, None, Result, Ok, Err}
 use Rattle.std.specs.Prelude.{IsUtf8, IfOk, IfErr, if◌then◌else◌}
 use Rattle.std.specs.Str.{is_utf8}
 use Rattle.std.specs.List.{AllByRecursion}
@@ -19,7 +19,8 @@ use Rattle.nla_wire.proofs.Agreement.{text_agrees, text_is}
 
 -- bytes below 128 are UTF-8
 ascii_then : (x : ℕ) (xs : List ℕ) → x < 128 → IsUtf8 xs → IsUtf8 (x ∷ xs)
-ascii_then x xs low whole = IsUtf8-append (x ∷ []) xs (subst IsUtf8 (encode_ascii x low) (IsUtf8-encode x (low_scalar x (omega (arith, low))))) whole
+ascii_then x xs low whole = IsUtf8-append (x ∷ []) xs
+    (subst IsUtf8 (encode_ascii x low) (IsUtf8-encode x (low_scalar x (omega (arith, low))))) whole
 
 all_low : (n : ℕ) → n < 128 → (xs : List ℕ) → AllByRecursion (λ b. b ≤ n) xs → IsUtf8 xs
 all_low n low [] all = IsUtf8-nil
@@ -27,9 +28,11 @@ all_low n low (x ∷ xs) all = ascii_then x xs (omega (arith, all.0, low)) (all_
 
 -- at index i the bytes in front are at most n exactly where the highest of them is
 abbrev pub IsHighest : List ℕ → ℕ → ℕ → Type 0
-IsHighest xs i high = (n : ℕ) → (AllByRecursion (λ b. b ≤ n) xs ↔ ((high ≤ n) × AllByRecursion (λ b. b ≤ n) (drop i xs)))
+IsHighest xs i high = (n : ℕ)
+    → (AllByRecursion (λ b. b ≤ n) xs ↔ ((high ≤ n) × AllByRecursion (λ b. b ≤ n) (drop i xs)))
 
-all_at : (P : ℕ → Type 0) (xs : List ℕ) (i : ℕ) → i < length xs → (AllByRecursion P (drop i xs) ↔ (P (get_or xs i 0) × AllByRecursion P (drop (suc i) xs)))
+all_at : (P : ℕ → Type 0) (xs : List ℕ) (i : ℕ) → i < length xs
+    → (AllByRecursion P (drop i xs) ↔ (P (get_or xs i 0) × AllByRecursion P (drop (suc i) xs)))
 all_at P [] i within = absurd (omega (arith, within))
 all_at P (x ∷ xs) zero within = (λ all. all, λ all. all)
 all_at P (x ∷ xs) (suc i) within = all_at P xs i (omega (arith, within))
@@ -37,9 +40,12 @@ all_at P (x ∷ xs) (suc i) within = all_at P xs i (omega (arith, within))
 pub high_starts : (xs : List ℕ) → IsHighest xs 0 0
 high_starts xs n = (λ all. (omega arith, all), λ both. both.1)
 
-pub high_ends : (xs : List ℕ) (i high : ℕ) → IsHighest xs i high → length xs ≤ i → (n : ℕ) → (AllByRecursion (λ b. b ≤ n) xs ↔ (high ≤ n))
-high_ends xs i high h ended n =
-    (λ all. ((h n).0 all).0, λ below. (h n).1 (below, subst (AllByRecursion (λ b. b ≤ n)) (sym (drop_all i xs ended)) tt))
+pub high_ends : (xs : List ℕ) (i high : ℕ) → IsHighest xs i high → length xs ≤ i → (n : ℕ)
+    → (AllByRecursion (λ b. b ≤ n) xs ↔ (high ≤ n))
+high_ends xs i high h ended n = (
+  λ all. ((h n).0 all).0,
+  λ below. (h n).1 (below, subst (AllByRecursion (λ b. b ≤ n)) (sym (drop_all i xs ended)) tt),
+)
 
 pub high_on : (xs : List ℕ) (i high new : ℕ) → IsHighest xs i high → i < length xs
     → ((n : ℕ) → ((new ≤ n) ↔ ((high ≤ n) × (get_or xs i 0 ≤ n)))) → IsHighest xs (suc i) new
@@ -49,7 +55,8 @@ high_on xs i high new h within both n =
       λ k. let parts = (both n).0 k.0 in (h n).1 (parts.0, here.1 (parts.1, k.1)),
     )
 
-pub low_utf8 : (xs : List ℕ) (high : ℕ) → ((n : ℕ) → (AllByRecursion (λ b. b ≤ n) xs ↔ (high ≤ n))) → high < 128 → IsUtf8 xs
+pub low_utf8 : (xs : List ℕ) (high : ℕ) → ((n : ℕ) → (AllByRecursion (λ b. b ≤ n) xs ↔ (high ≤ n)))
+    → high < 128 → IsUtf8 xs
 low_utf8 xs high highest low = all_low high low xs ((highest high).1 (omega arith))
 
 pub text_found : (p s : List ℕ) → IsTextOf p s → IsUtf8 s → read_text p ≡ Ok s
@@ -57,7 +64,8 @@ text_found p s is whole = text_agrees.only p s (whole, is)
 
 pub text_refused : (p s : List ℕ) → IsTextOf p s → (IsUtf8 s → ⊥) → read_text p ≡ Err NotUtf8
 text_refused p s is never =
-    text_agrees.refused p NotUtf8 (λ other is_other whole. never (subst IsUtf8 (sym (text_is p other is_other) ∙ text_is p s is) whole), refl)
+    text_agrees.refused p NotUtf8
+    (λ other is_other whole. never (subst IsUtf8 (sym (text_is p other is_other) ∙ text_is p s is) whole), refl)
 
 -- a copy of the text that was read, or no memory for it
 pub text_given : (p s copied : List ℕ) (r : Result (List ℕ) DecodeError) → IsTextOf p s → IsUtf8 s → copied ≡ s
@@ -77,19 +85,22 @@ text_once p s h = passed (is_utf8 (without_nul p)) (without_nul p) s NotUtf8 h
 abbrev pub TextWeighs : List ℕ → Option ℕ → Type 0
 TextWeighs p answer = Weighs (λ s. s ++ 0 ∷ []) (λ s. length (s ++ 0 ∷ []) ≤ most_payload) (read_text p) answer
 
-pub text_weighs : (p s : List ℕ) → IsTextOf p s → IsUtf8 s → length s < most_payload → TextWeighs p (Some (length s + 1))
+pub text_weighs : (p s : List ℕ) → IsTextOf p s → IsUtf8 s → length s < most_payload
+    → TextWeighs p (Some (length s + 1))
 text_weighs p s is whole short =
     let size = length-append s (0 ∷ []) in
-    subst (λ r. Weighs (λ s. s ++ 0 ∷ []) (λ s. length (s ++ 0 ∷ []) ≤ most_payload) r (Some (length s + 1))) (sym (text_found p s is whole))
-    (omega (arith, short, size), omega (arith, size))
+    subst (λ r. Weighs (λ s. s ++ 0 ∷ []) (λ s. length (s ++ 0 ∷ []) ≤ most_payload) r (Some (length s + 1)))
+    (sym (text_found p s is whole)) (omega (arith, short, size), omega (arith, size))
 
 pub text_unread : (p s : List ℕ) → IsTextOf p s → (IsUtf8 s → ⊥) → TextWeighs p None
 text_unread p s is never =
-    subst (λ r. Weighs (λ s. s ++ 0 ∷ []) (λ s. length (s ++ 0 ∷ []) ≤ most_payload) r None) (sym (text_refused p s is never)) tt
+    subst (λ r. Weighs (λ s. s ++ 0 ∷ []) (λ s. length (s ++ 0 ∷ []) ≤ most_payload) r None)
+    (sym (text_refused p s is never)) tt
 
 pub text_long : (p s : List ℕ) → IsTextOf p s → most_payload ≤ length s → TextWeighs p None
 text_long p s is long = by (read_text p) refl where
-  by : (r : Result (List ℕ) Cause) → read_text p ≡ r → Weighs (λ s. s ++ 0 ∷ []) (λ s. length (s ++ 0 ∷ []) ≤ most_payload) r None
+  by : (r : Result (List ℕ) Cause) → read_text p ≡ r
+      → Weighs (λ s. s ++ 0 ∷ []) (λ s. length (s ++ 0 ∷ []) ≤ most_payload) r None
   by (Ok t) e =
       let same : length t ≡ length s = ap (λ (x : List ℕ). length x) (sym (text_once p t e) ∙ text_is p s is) in
       λ fits. absurd (omega (arith, fits, length-append t (0 ∷ []), same, long))

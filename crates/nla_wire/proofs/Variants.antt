@@ -87,13 +87,15 @@ module _ {S : Type 0} (base : S → Any) {V : Type 0} (Good : V → Type 0) wher
 module _ {S : Type 0} {base : S → Any} {V : Type 0} {Good : V → Type 0} where
   abbrev one_entry : (view : V → Seen) (number : ℕ) (size : Option ℕ) (reading : Reading base view Good number)
       → KeepsSize base view Good size reading.reads → List {1} (Entry base view Good)
-  one_entry view number size reading keeps = record { number = number; size = size; reading = reading; keeps_size = keeps } ∷ []
+  one_entry view number size reading keeps =
+      record { number = number; size = size; reading = reading; keeps_size = keeps } ∷ []
 
   abbrev own : {A : Type 0} (number kind : ℕ) (c : Codec A) (variant : A → V) → Line base Good A variant
   own number kind c variant = record {
     seen = held kind c;
     sure = c.sure;
-    entries = λ view same. one_entry view number None (having base view Good number kind c variant same (λ a good. tt)) tt;
+    entries = λ view same.
+        one_entry view number None (having base view Good number kind c variant same (λ a good. tt)) tt;
   }
 
   -- this number, whose payload is this, as this variant
@@ -119,12 +121,15 @@ module _ {S : Type 0} {base : S → Any} {V : Type 0} {Good : V → Type 0} wher
   line_of_size number size s variant sized = record {
     seen = held (kind_of (base s.shape).flags number) s.codec;
     sure = s.codec.sure;
-    entries = λ view same. one_entry view number (Some size) (shaping base view Good number s variant same (λ a good. tt))
-        (λ f v means. ap (λ w. length (view w).frame.payload) means.2 ∙ ap (λ (w : Seen). length w.frame.payload) (same means.0) ∙ sized means.0);
+    entries = λ view same.
+        one_entry view number (Some size) (shaping base view Good number s variant same (λ a good. tt))
+        (λ f v means. ap (λ w. length (view w).frame.payload) means.2
+        ∙ ap (λ (w : Seen). length w.frame.payload) (same means.0) ∙ sized means.0);
   }
 
   -- written so, and read by an entry elsewhere
-  abbrev pub written : {A : Type 0} {GoodA : A → Type 0} (kind : ℕ) (c : CodecWhere A GoodA) (variant : A → V) → Line base Good A variant
+  abbrev pub written : {A : Type 0} {GoodA : A → Type 0} (kind : ℕ) (c : CodecWhere A GoodA) (variant : A → V)
+      → Line base Good A variant
   written kind c variant = record { seen = held kind c; sure = c.sure; entries = λ view same. [] }
 
   -- written so, and never read
@@ -152,12 +157,15 @@ module _ {S : Type 0} (base : S → Any) (N : Record) (Good : N.D → Type 0) (l
   entries_of = entries_in base Good view_of N.parts N.make ls (λ c. ap (seen_in base Good N.parts N.make ls) (N.beta c))
 
 -- where nothing is inside, what is small fits
-pub when_small : {S : Type 0} (base : S → Any) (N : Record) (ls : Table base N always) → T (all_flat base always N.parts N.make ls)
-    → (v : N.D) → length (view_of base N always ls v).frame.payload ≤ most_payload → FitsAs base (view_of base N always ls) always v
+pub when_small : {S : Type 0} (base : S → Any) (N : Record) (ls : Table base N always)
+    → T (all_flat base always N.parts N.make ls)
+    → (v : N.D) → length (view_of base N always ls v).frame.payload ≤ most_payload
+    → FitsAs base (view_of base N always ls) always v
 when_small base N ls h v small = (small, inside_all base always N.parts N.make ls h (N.as_values v))
 
 -- the place with these lines, which keeps what no line accepts
-abbrev pub place : {S : Type 0} (base : S → Any) (N : Record) (factor fewer enough : ℕ) (ls : Table base N always) (other : Frame → N.D)
+abbrev pub place : {S : Type 0} (base : S → Any) (N : Record) (factor fewer enough : ℕ) (ls : Table base N always)
+    (other : Frame → N.D)
     → ((f : Frame) → view_of base N always ls (other f) ≡ as_it_is f)
     → T (nat_le (plain_growth + fewer) factor)
     → T (nat_le factor growth)

@@ -1,7 +1,8 @@
 -- The loops that measure the texts of a list's members, and that write them to the front of a buffer.
-use Rattle.std.proofs.Common.{◌≡◌, ℕ, ◌+◌, ◌-◌, ◌*◌, ◌/◌, ◌^◌, ◌<◌, ◌≤◌, ◌==◌, Bool, true, false, List, [], ◌∷◌, ◌++◌, append_assoc}
-use Rattle.std.proofs.Common.{append-nil, length, take, drop, flat_map, refl, ap, sym, ◌∙◌, subst, arith, Option}
-use Rattle.std.proofs.Common.{lt-ltb, le-ltb, Some, None, Result, Ok, Err, IsOk, length-append, length-take, length-drop}
+use Rattle.std.proofs.Common.{◌≡◌, ℕ, ◌+◌, ◌-◌, ◌*◌, ◌/◌, ◌^◌, ◌<◌, ◌≤◌, ◌==◌, Bool, true, false, List, [], ◌∷◌, ◌++◌}
+use Rattle.std.proofs.Common.{append_assoc, append-nil, length, take, drop, flat_map, refl, ap, sym, ◌∙◌, subst, arith}
+use Rattle.std.proofs.Common.{Option, lt-ltb, le-ltb, Some, None, Result, Ok, Err, IsOk, length-append, length-take}
+use Rattle.std.proofs.Common.{length-drop}
 use Rattle.std.specs.List.{AllByRecursion}
 use borrow.Rule.Slice.PartMut.{put_mid}
 use Rattle.nla_wire.specs.Sizes.{most_payload, growth, growth_per_byte}
@@ -19,19 +20,25 @@ use Rattle.nla_wire.proofs.Canonical.{write_on, lent_back, finished_value}
 
 -- ** lists one longer
 
-pub flat_more : {V : Type 0} (text_of : V → List ℕ) (front : List V) (v : V) → flat_map text_of (front ++ v ∷ []) ≡ flat_map text_of front ++ text_of v
+pub flat_more : {V : Type 0} (text_of : V → List ℕ) (front : List V) (v : V)
+    → flat_map text_of (front ++ v ∷ []) ≡ flat_map text_of front ++ text_of v
 flat_more text_of [] v = append-nil (text_of v)
-flat_more text_of (x ∷ front) v = ap (λ (t : List ℕ). text_of x ++ t) (flat_more text_of front v) ∙ sym (append_assoc (text_of x) (flat_map text_of front) (text_of v))
+flat_more text_of (x ∷ front) v = ap (λ (t : List ℕ). text_of x ++ t) (flat_more text_of front v)
+    ∙ sym (append_assoc (text_of x) (flat_map text_of front) (text_of v))
 
-pub flat_joined : {V : Type 0} (text_of : V → List ℕ) (front : List V) (vs : List V) → flat_map text_of (front ++ vs) ≡ flat_map text_of front ++ flat_map text_of vs
+pub flat_joined : {V : Type 0} (text_of : V → List ℕ) (front : List V) (vs : List V)
+    → flat_map text_of (front ++ vs) ≡ flat_map text_of front ++ flat_map text_of vs
 flat_joined text_of [] vs = refl
-flat_joined text_of (x ∷ front) vs = ap (λ (t : List ℕ). text_of x ++ t) (flat_joined text_of front vs) ∙ sym (append_assoc (text_of x) (flat_map text_of front) (flat_map text_of vs))
+flat_joined text_of (x ∷ front) vs = ap (λ (t : List ℕ). text_of x ++ t) (flat_joined text_of front vs)
+    ∙ sym (append_assoc (text_of x) (flat_map text_of front) (flat_map text_of vs))
 
-pub all_more : {V : Type 0} (fits : V → Type 0) (front : List V) (v : V) → AllByRecursion fits front → fits v → AllByRecursion fits (front ++ v ∷ [])
+pub all_more : {V : Type 0} (fits : V → Type 0) (front : List V) (v : V) → AllByRecursion fits front → fits v
+    → AllByRecursion fits (front ++ v ∷ [])
 all_more fits [] v all one = (one, tt)
 all_more fits (x ∷ front) v all one = (all.0, all_more fits front v all.1 one)
 
-pub all_here : {V : Type 0} (fits : V → Type 0) (front : List V) (v : V) (vs : List V) → AllByRecursion fits (front ++ v ∷ vs) → fits v
+pub all_here : {V : Type 0} (fits : V → Type 0) (front : List V) (v : V) (vs : List V)
+    → AllByRecursion fits (front ++ v ∷ vs) → fits v
 all_here fits [] v vs all = all.0
 all_here fits (x ∷ front) v vs all = all_here fits front v vs all.1
 
@@ -42,14 +49,16 @@ abbrev pub Counted : {V : Type 0} → (V → List ℕ) → (V → Type 0) → Li
 Counted text_of fits vs = AllByRecursion fits vs × (length (flat_map text_of vs) < 2 ^ 64)
 
 -- the values in front were measured, and those of the items left are still to come
-pub record Weighing {V : Type 0} (read : Frame → Result V Cause) (text_of : V → List ℕ) (fits : V → Type 0) (whole : Result (List V) Cause) (left : List Item) (len : ℕ) : Type 0 where
+pub record Weighing {V : Type 0} (read : Frame → Result V Cause) (text_of : V → List ℕ) (fits : V → Type 0)
+    (whole : Result (List V) Cause) (left : List Item) (len : ℕ) : Type 0 where
   pub front : List V
   pub so_far : with_front front (read_items read left) ≡ whole
   pub fit : AllByRecursion fits front
   pub len_is : len ≡ length (flat_map text_of front)
   pub counted : len < 2 ^ 64
 
-pub weighing_starts : {V : Type 0} (read : Frame → Result V Cause) (text_of : V → List ℕ) (fits : V → Type 0) (b : List ℕ) (left : List Item)
+pub weighing_starts : {V : Type 0} (read : Frame → Result V Cause) (text_of : V → List ℕ) (fits : V → Type 0)
+    (b : List ℕ) (left : List Item)
     → left ≡ items b → Weighing read text_of fits (list_of read b) left 0
 weighing_starts read text_of fits b left left_is = record {
   front = [];
@@ -59,13 +68,15 @@ weighing_starts read text_of fits b left left_is = record {
   counted = omega arith;
 }
 
-weighed : {V : Type 0} (text_of : V → List ℕ) (fits : V → Type 0) (r : Result V Cause) (n : ℕ) → Weighs text_of fits r (Some n)
+weighed : {V : Type 0} (text_of : V → List ℕ) (fits : V → Type 0) (r : Result V Cause) (n : ℕ)
+    → Weighs text_of fits r (Some n)
     → (v : V) × (r ≡ Ok v) × fits v × (n ≡ length (text_of v))
 weighed text_of fits (Ok v) n h = (v, refl, h.0, h.1)
 weighed text_of fits (Err c) n h = absurd h
 
 -- no value of the whole fits where none with this member does
-stops : {V : Type 0} (text_of : V → List ℕ) (Fit : List V → Type 0) (front : List V) (r : Result V Cause) (more : Result (List V) Cause)
+stops : {V : Type 0} (text_of : V → List ℕ) (Fit : List V → Type 0) (front : List V) (r : Result V Cause)
+    (more : Result (List V) Cause)
     → ((v : V) (vs : List V) → r ≡ Ok v → Fit (front ++ v ∷ vs) → ⊥)
     → Weighs (flat_map text_of) Fit (with_front front (r >>= λ v. more >>= λ vs. Ok (v ∷ vs))) None
 stops text_of Fit front (Err c) more never = tt
@@ -75,9 +86,11 @@ stops text_of Fit front (Ok v) (Ok vs) never = never v vs refl
 ok_once : {V : Type 0} (r : Result V Cause) (a b : V) → r ≡ Ok a → r ≡ Ok b → a ≡ b
 ok_once r a b e k = cc
 
-module _ {V : Type 0} (read : Frame → Result V Cause) (text_of : V → List ℕ) (fits : V → Type 0) (whole : Result (List V) Cause) (left : List Item) (len : ℕ) (h : Weighing read text_of fits whole left len) where
+module _ {V : Type 0} (read : Frame → Result V Cause) (text_of : V → List ℕ) (fits : V → Type 0)
+    (whole : Result (List V) Cause) (left : List Item) (len : ℕ) (h : Weighing read text_of fits whole left len) where
   -- a member was measured, and the sum is one of the machine's
-  pub weighing_on : (f : Frame) (rest : List Item) (n new : ℕ) → left ≡ Ok f ∷ rest → Weighs text_of fits (read f) (Some n) → new ≡ len + n → new < 2 ^ 64
+  pub weighing_on : (f : Frame) (rest : List Item) (n new : ℕ) → left ≡ Ok f ∷ rest
+      → Weighs text_of fits (read f) (Some n) → new ≡ len + n → new < 2 ^ 64
       → Weighing read text_of fits whole rest new
   weighing_on f rest n new left_is w new_is small =
       let k = weighed text_of fits (read f) n w in
@@ -85,14 +98,23 @@ module _ {V : Type 0} (read : Frame → Result V Cause) (text_of : V → List �
         front = h.front ++ k.0 ∷ [];
         so_far = items_more read h.front left whole h.so_far f rest k.0 left_is k.1;
         fit = all_more fits h.front k.0 h.fit k.2;
-        len_is = omega (arith, new_is, h.len_is, k.3, length-append (flat_map text_of h.front) (text_of k.0), ap (λ (t : List ℕ). length t) (flat_more text_of h.front k.0));
+        len_is = omega (
+          arith,
+          new_is,
+          h.len_is,
+          k.3,
+          length-append (flat_map text_of h.front) (text_of k.0),
+          ap (λ (t : List ℕ). length t) (flat_more text_of h.front k.0),
+        );
         counted = small;
       }
 
   -- a member without a text, which fits
-  pub weighing_skip : (f : Frame) (rest : List Item) (v : V) → left ≡ Ok f ∷ rest → read f ≡ Ok v → text_of v ≡ [] → fits v → Weighing read text_of fits whole rest len
+  pub weighing_skip : (f : Frame) (rest : List Item) (v : V) → left ≡ Ok f ∷ rest → read f ≡ Ok v → text_of v ≡ []
+      → fits v → Weighing read text_of fits whole rest len
   weighing_skip f rest v left_is reads nothing good =
-      weighing_on f rest 0 len left_is (subst (λ r. Weighs text_of fits r (Some 0)) (sym reads) (good, sym (ap (λ (t : List ℕ). length t) nothing))) (omega arith) h.counted
+      weighing_on f rest 0 len left_is (subst (λ r. Weighs text_of fits r (Some 0)) (sym reads)
+      (good, sym (ap (λ (t : List ℕ). length t) nothing))) (omega arith) h.counted
 
   member_stops : (f : Frame) (rest : List Item) → left ≡ Ok f ∷ rest
       → ((v : V) (vs : List V) → read f ≡ Ok v → Counted text_of fits (h.front ++ v ∷ vs) → ⊥)
@@ -107,12 +129,15 @@ module _ {V : Type 0} (read : Frame → Result V Cause) (text_of : V → List �
   never_weighed (Err c) v e w good = absurd cc
 
   -- a member that does not fit, or is refused
-  pub weighing_stops : (f : Frame) (rest : List Item) → left ≡ Ok f ∷ rest → Weighs text_of fits (read f) None → Weighs (flat_map text_of) (Counted text_of fits) whole None
+  pub weighing_stops : (f : Frame) (rest : List Item) → left ≡ Ok f ∷ rest → Weighs text_of fits (read f) None
+      → Weighs (flat_map text_of) (Counted text_of fits) whole None
   weighing_stops f rest left_is w =
-      member_stops f rest left_is (λ v vs reads all. never_weighed (read f) v reads w (all_here fits h.front v vs all.0))
+      member_stops f rest left_is
+      (λ v vs reads all. never_weighed (read f) v reads w (all_here fits h.front v vs all.0))
 
   -- a sum that is none of the machine's
-  pub weighing_passes : (f : Frame) (rest : List Item) (n : ℕ) → left ≡ Ok f ∷ rest → Weighs text_of fits (read f) (Some n) → (len + n < 2 ^ 64 → ⊥)
+  pub weighing_passes : (f : Frame) (rest : List Item) (n : ℕ) → left ≡ Ok f ∷ rest
+      → Weighs text_of fits (read f) (Some n) → (len + n < 2 ^ 64 → ⊥)
       → Weighs (flat_map text_of) (Counted text_of fits) whole None
   weighing_passes f rest n left_is w over =
       let k = weighed text_of fits (read f) n w in
@@ -130,34 +155,41 @@ module _ {V : Type 0} (read : Frame → Result V Cause) (text_of : V → List �
       )))
 
   -- a damaged frame
-  pub weighing_faults : (c : Cause) (rest : List Item) → left ≡ Err c ∷ rest → Weighs (flat_map text_of) (Counted text_of fits) whole None
+  pub weighing_faults : (c : Cause) (rest : List Item) → left ≡ Err c ∷ rest
+      → Weighs (flat_map text_of) (Counted text_of fits) whole None
   weighing_faults c rest left_is =
-      subst (λ r. Weighs (flat_map text_of) (Counted text_of fits) r None) (ap (λ (xs : List Item). with_front h.front (read_items read xs)) (sym left_is) ∙ h.so_far) tt
+      subst (λ r. Weighs (flat_map text_of) (Counted text_of fits) r None)
+      (ap (λ (xs : List Item). with_front h.front (read_items read xs)) (sym left_is) ∙ h.so_far) tt
 
   pub weighing_ends : left ≡ [] → Weighs (flat_map text_of) (Counted text_of fits) whole (Some len)
   weighing_ends left_is =
       subst (λ r. Weighs (flat_map text_of) (Counted text_of fits) r (Some len))
-      (ap (λ (vs : List V). Ok vs) (sym (append-nil h.front)) ∙ ap (λ (xs : List Item). with_front h.front (read_items read xs)) (sym left_is) ∙ h.so_far)
-      ((h.fit, omega (arith, h.len_is, h.counted)), h.len_is)
+      (ap (λ (vs : List V). Ok vs) (sym (append-nil h.front)) ∙ ap (λ (xs : List Item). with_front h.front
+      (read_items read xs)) (sym left_is) ∙ h.so_far) ((h.fit, omega (arith, h.len_is, h.counted)), h.len_is)
 
 -- the attribute's length from its value's
-pub weighs_frame : {V : Type 0} (frame : V → Frame) (fits : V → Type 0) (r : Result V Cause) (n padded : ℕ) → Weighs (λ v. (frame v).payload) fits r (Some n)
+pub weighs_frame : {V : Type 0} (frame : V → Frame) (fits : V → Type 0) (r : Result V Cause) (n padded : ℕ)
+    → Weighs (λ v. (frame v).payload) fits r (Some n)
     → padded ≡ 4 + n + missing n → Weighs (λ v. canon (frame v)) fits r (Some padded)
-weighs_frame frame fits (Ok v) n padded w is = (w.0, is ∙ ap (λ k. 4 + k + missing k) w.1 ∙ sym (length-canon (frame v)))
+weighs_frame frame fits (Ok v) n padded w is =
+    (w.0, is ∙ ap (λ k. 4 + k + missing k) w.1 ∙ sym (length-canon (frame v)))
 weighs_frame frame fits (Err c) n padded w is = w
 
-pub weighs_none : {V : Type 0} (text_of other : V → List ℕ) (fits : V → Type 0) (r : Result V Cause) → Weighs text_of fits r None → Weighs other fits r None
+pub weighs_none : {V : Type 0} (text_of other : V → List ℕ) (fits : V → Type 0) (r : Result V Cause)
+    → Weighs text_of fits r None → Weighs other fits r None
 weighs_none text_of other fits (Ok v) w = w
 weighs_none text_of other fits (Err c) w = tt
 
-pub weighed_small : {V : Type 0} (text_of : V → List ℕ) (fits : V → Type 0) (most : ℕ) → ((v : V) → fits v → length (text_of v) ≤ most)
+pub weighed_small : {V : Type 0} (text_of : V → List ℕ) (fits : V → Type 0) (most : ℕ)
+    → ((v : V) → fits v → length (text_of v) ≤ most)
     → (r : Result V Cause) (n : ℕ) → Weighs text_of fits r (Some n) → n ≤ most
 weighed_small text_of fits most short r n w = let k = weighed text_of fits r n w in omega (arith, short k.0 k.2, k.3)
 
 -- ** writing
 
 -- the values in front are written, and those of the items left are still to come
-pub record Rewriting {V : Type 0} (read : Frame → Result V Cause) (text_of : V → List ℕ) (fits : V → Type 0) (whole : Result (List V) Cause) (left : List Item) (at : ℕ) (old now : List ℕ) : Type 0 where
+pub record Rewriting {V : Type 0} (read : Frame → Result V Cause) (text_of : V → List ℕ) (fits : V → Type 0)
+    (whole : Result (List V) Cause) (left : List Item) (at : ℕ) (old now : List ℕ) : Type 0 where
   pub front : List V
   pub todo : List V
   pub whole_is : whole ≡ Ok (front ++ todo)
@@ -172,8 +204,10 @@ roomy : {A : Type 0} (text : A → List ℕ) (fits : A → Type 0) (r : Result A
 roomy text fits (Ok v) room h = (v, refl, h.0, h.1)
 roomy text fits (Err c) room h = absurd h
 
-pub rewriting_starts : {V : Type 0} (read : Frame → Result V Cause) (text_of : V → List ℕ) (fits : V → Type 0) (b : List ℕ) (left : List Item) (old : List ℕ)
-    → left ≡ items b → HasRoom (flat_map text_of) (Counted text_of fits) (list_of read b) (length old) → Rewriting read text_of fits (list_of read b) left 0 old old
+pub rewriting_starts : {V : Type 0} (read : Frame → Result V Cause) (text_of : V → List ℕ) (fits : V → Type 0)
+    (b : List ℕ) (left : List Item) (old : List ℕ)
+    → left ≡ items b → HasRoom (flat_map text_of) (Counted text_of fits) (list_of read b) (length old)
+    → Rewriting read text_of fits (list_of read b) left 0 old old
 rewriting_starts read text_of fits b left old left_is room =
     let k = roomy (flat_map text_of) (Counted text_of fits) (list_of read b) (length old) room in record {
       front = [];
@@ -186,28 +220,40 @@ rewriting_starts read text_of fits b left old left_is room =
       same = refl;
     }
 
-member : {V : Type 0} (r : Result V Cause) (more : Result (List V) Cause) (todo : List V) → (r >>= λ v. more >>= λ vs. Ok (v ∷ vs)) ≡ Ok todo
+member : {V : Type 0} (r : Result V Cause) (more : Result (List V) Cause) (todo : List V)
+    → (r >>= λ v. more >>= λ vs. Ok (v ∷ vs)) ≡ Ok todo
     → (v : V) × (vs : List V) × (r ≡ Ok v) × (more ≡ Ok vs) × (todo ≡ v ∷ vs)
 member (Err c) more todo e = absurd cc
 member (Ok v) (Err c) todo e = absurd cc
 member (Ok v) (Ok vs) todo e = (v, vs, refl, refl, cc)
 
-module _ {V : Type 0} (read : Frame → Result V Cause) (text_of : V → List ℕ) (fits : V → Type 0) (whole : Result (List V) Cause) (left : List Item) (at : ℕ) (old now : List ℕ) (h : Rewriting read text_of fits whole left at old now) where
+module _ {V : Type 0} (read : Frame → Result V Cause) (text_of : V → List ℕ)
+    (fits : V → Type 0) (whole : Result (List V) Cause) (left : List Item) (at : ℕ) (old now : List ℕ)
+    (h : Rewriting read text_of fits whole left at old now) where
   -- the value of the member that is next
-  next : (f : Frame) (rest : List Item) → left ≡ Ok f ∷ rest → (v : V) × (vs : List V) × (read f ≡ Ok v) × (read_items read rest ≡ Ok vs) × (h.todo ≡ v ∷ vs)
-  next f rest left_is = member (read f) (read_items read rest) h.todo (ap (λ (xs : List Item). read_items read xs) (sym left_is) ∙ h.todo_is)
+  next : (f : Frame) (rest : List Item) → left ≡ Ok f ∷ rest
+      → (v : V) × (vs : List V) × (read f ≡ Ok v) × (read_items read rest ≡ Ok vs) × (h.todo ≡ v ∷ vs)
+  next f rest left_is = member (read f) (read_items read rest) h.todo
+      (ap (λ (xs : List Item). read_items read xs) (sym left_is) ∙ h.todo_is)
 
   ahead : (v : V) (vs : List V) → h.todo ≡ v ∷ vs → at + length (text_of v) + length (flat_map text_of vs) ≤ length old
   ahead v vs todo_is =
-      omega (arith, h.room, ap (λ (xs : List V). length (flat_map text_of xs)) todo_is, length-append (text_of v) (flat_map text_of vs))
+      omega (
+        arith,
+        h.room,
+        ap (λ (xs : List V). length (flat_map text_of xs)) todo_is,
+        length-append (text_of v) (flat_map text_of vs),
+      )
 
   pub rewriting_within : at ≤ length now
   rewriting_within = omega (arith, h.room, h.same)
 
-  pub rewriting_room : (f : Frame) (rest : List Item) → left ≡ Ok f ∷ rest → HasRoom text_of fits (read f) (length (take (length now - at) (drop at now)))
+  pub rewriting_room : (f : Frame) (rest : List Item) → left ≡ Ok f ∷ rest
+      → HasRoom text_of fits (read f) (length (take (length now - at) (drop at now)))
   rewriting_room f rest left_is =
       let k = next f rest left_is in
-      let size : length (take (length now - at) (drop at now)) ≡ length now - at = simp (length-take, length-drop) (omega arith) in
+      let size : length (take (length now - at) (drop at now)) ≡ length now - at =
+      simp (length-take, length-drop) (omega arith) in
       let fit : AllByRecursion fits (k.0 ∷ k.1) = subst (λ (xs : List V). AllByRecursion fits xs) k.4 h.fit in
       subst (λ r. HasRoom text_of fits r (length (take (length now - at) (drop at now)))) (sym k.2)
       (fit.0, omega (arith, size, h.same, ahead k.0 k.1 k.4))
@@ -225,13 +271,24 @@ module _ {V : Type 0} (read : Frame → Result V Cause) (text_of : V → List �
       record {
         front = h.front ++ v ∷ [];
         todo = k.1;
-        whole_is = h.whole_is ∙ ap (λ (vs : List V). Ok (h.front ++ vs)) k.4 ∙ ap (λ (vs : List V). Ok vs) (sym (append_assoc h.front (v ∷ []) k.1));
+        whole_is = h.whole_is ∙ ap (λ (vs : List V). Ok (h.front ++ vs)) k.4
+            ∙ ap (λ (vs : List V). Ok vs) (sym (append_assoc h.front (v ∷ []) k.1));
         todo_is = k.3;
         fit = fit.1;
-        written = subst (λ t. Writes t old (put_mid at (length now - at) now part) (at + n)) (sym (flat_more text_of h.front v))
+        written = subst (λ t. Writes t old (put_mid at (length now - at) now part) (at + n))
+            (sym (flat_more text_of h.front v))
             (write_on (flat_map text_of h.front) (text_of v) old now part at n h.written one);
         room = omega (arith, ahead v k.1 k.4, one.length_is);
-        same = ap (λ (t : List ℕ). length t) (lent_back at now part) ∙ length-append (take at now) part ∙ simp (length-take, length-drop) (omega (arith, kept, h.same, h.room, length-take at now, length-take (length now - at) (drop at now), length-drop at now));
+        same = ap (λ (t : List ℕ). length t) (lent_back at now part) ∙ length-append (take at now) part
+            ∙ simp (length-take, length-drop) (omega (
+              arith,
+              kept,
+              h.same,
+              h.room,
+              length-take at now,
+              length-take (length now - at) (drop at now),
+              length-drop at now,
+            ));
       }
 
   -- the text that was written lies within the buffer
@@ -244,7 +301,8 @@ module _ {V : Type 0} (read : Frame → Result V Cause) (text_of : V → List �
       omega (arith, ahead k.0 k.1 k.4, one.length_is)
 
   -- a member without a text
-  pub rewriting_skip : (f : Frame) (rest : List Item) (v : V) → left ≡ Ok f ∷ rest → read f ≡ Ok v → text_of v ≡ [] → Rewriting read text_of fits whole rest at old now
+  pub rewriting_skip : (f : Frame) (rest : List Item) (v : V) → left ≡ Ok f ∷ rest → read f ≡ Ok v → text_of v ≡ []
+      → Rewriting read text_of fits whole rest at old now
   rewriting_skip f rest v left_is reads nothing =
       let k = next f rest left_is in
       let none : text_of k.0 ≡ [] = ap text_of (ok_once (read f) k.0 v k.2 reads) ∙ nothing in
@@ -252,21 +310,26 @@ module _ {V : Type 0} (read : Frame → Result V Cause) (text_of : V → List �
       record {
         front = h.front ++ k.0 ∷ [];
         todo = k.1;
-        whole_is = h.whole_is ∙ ap (λ (vs : List V). Ok (h.front ++ vs)) k.4 ∙ ap (λ (vs : List V). Ok vs) (sym (append_assoc h.front (k.0 ∷ []) k.1));
+        whole_is = h.whole_is ∙ ap (λ (vs : List V). Ok (h.front ++ vs)) k.4
+            ∙ ap (λ (vs : List V). Ok vs) (sym (append_assoc h.front (k.0 ∷ []) k.1));
         todo_is = k.3;
         fit = fit.1;
-        written = subst (λ t. Writes t old now at) (sym (flat_more text_of h.front k.0 ∙ ap (λ t. flat_map text_of h.front ++ t) none ∙ append-nil (flat_map text_of h.front))) h.written;
+        written = subst (λ t. Writes t old now at) (sym (flat_more text_of h.front k.0
+            ∙ ap (λ t. flat_map text_of h.front ++ t) none ∙ append-nil (flat_map text_of h.front))) h.written;
         room = omega (arith, ahead k.0 k.1 k.4);
         same = h.same;
       }
 
   pub rewriting_never_fails : (c : Cause) (rest : List Item) → left ≡ Err c ∷ rest → ⊥
-  rewriting_never_fails c rest left_is = let fails = ap (λ (xs : List Item). read_items read xs) (sym left_is) ∙ h.todo_is in absurd cc
+  rewriting_never_fails c rest left_is = let fails =
+      ap (λ (xs : List Item). read_items read xs) (sym left_is) ∙ h.todo_is in absurd cc
 
   pub rewriting_ends : left ≡ [] → Rewrites (flat_map text_of) whole old now at
   rewriting_ends left_is =
-      let ended : [] ≡ h.todo = let both = ap (λ (xs : List Item). read_items read xs) (sym left_is) ∙ h.todo_is in cc in
-      let all_is = h.whole_is ∙ ap (λ (vs : List V). Ok (h.front ++ vs)) (sym ended) ∙ ap (λ (vs : List V). Ok vs) (append-nil h.front) in
+      let ended : [] ≡ h.todo = let both =
+      ap (λ (xs : List Item). read_items read xs) (sym left_is) ∙ h.todo_is in cc in
+      let all_is = h.whole_is ∙ ap (λ (vs : List V). Ok (h.front ++ vs)) (sym ended)
+      ∙ ap (λ (vs : List V). Ok vs) (append-nil h.front) in
       subst (λ r. Rewrites (flat_map text_of) r old now at) (sym all_is) h.written
 
 -- ** measured, and then written
@@ -274,27 +337,32 @@ module _ {V : Type 0} (read : Frame → Result V Cause) (text_of : V → List �
 -- a member's text takes a part of the room of its frame
 pub member_short : {V : Type 0} (place : Grammar Frame V) (frame : V → Frame) → Agrees IsFrame place
     → ((f : Frame) (v : V) → place.means f v → length (canon (frame v)) ≤ growth * (1 + length f.payload / 4))
-    → (f : Frame) (v : V) → IsFrame f → place.reads f ≡ Ok v → length (canon (frame v)) ≤ growth_per_byte * (4 + length f.payload)
+    → (f : Frame) (v : V) → IsFrame f → place.reads f ≡ Ok v
+    → length (canon (frame v)) ≤ growth_per_byte * (4 + length f.payload)
 member_short place frame agrees bounded f v one e = omega (arith, bounded f v (agrees.found f v one e))
 
 -- what was measured has room where there is room for what fits
-pub measured_room : {A : Type 0} (text other : A → List ℕ) (fits : A → Type 0) (r : Result A Cause) (n room : ℕ) → Weighs text fits r (Some n)
+pub measured_room : {A : Type 0} (text other : A → List ℕ) (fits : A → Type 0) (r : Result A Cause) (n room : ℕ)
+    → Weighs text fits r (Some n)
     → RoomWhereFit other fits r room → HasRoom other fits r room
 measured_room text other fits (Ok v) n room w enough = (w.0, enough w.0)
 measured_room text other fits (Err c) n room w enough = w
 
-pub written_canonical : {A : Type 0} (text other : A → List ℕ) (fits : A → Type 0) (r : Result A Cause) (len : ℕ) (old new : List ℕ) (n : ℕ) → Weighs text fits r (Some len)
+pub written_canonical : {A : Type 0} (text other : A → List ℕ) (fits : A → Type 0) (r : Result A Cause) (len : ℕ)
+    (old new : List ℕ) (n : ℕ) → Weighs text fits r (Some len)
     → Rewrites other r old new n → Canonical other fits r old new (Some n)
 written_canonical text other fits (Ok v) len old new n w wrote = (w.0, wrote)
 written_canonical text other fits (Err c) len old new n w wrote = w
 
-pub unwritten_canonical : {A : Type 0} (text other : A → List ℕ) (fits : A → Type 0) (r : Result A Cause) (old : List ℕ) → Weighs text fits r None
+pub unwritten_canonical : {A : Type 0} (text other : A → List ℕ) (fits : A → Type 0) (r : Result A Cause) (old : List ℕ)
+    → Weighs text fits r None
     → Canonical other fits r old old None
 unwritten_canonical text other fits (Ok v) old w = (w, refl)
 unwritten_canonical text other fits (Err c) old w = refl
 
 -- there is room enough where there is for each value that is read
-pub enough_room : {A : Type 0} (text : A → List ℕ) (fits : A → Type 0) (r : Result A Cause) (room : ℕ) → ((v : A) → r ≡ Ok v → length (text v) ≤ room)
+pub enough_room : {A : Type 0} (text : A → List ℕ) (fits : A → Type 0) (r : Result A Cause) (room : ℕ)
+    → ((v : A) → r ≡ Ok v → length (text v) ≤ room)
     → RoomWhereFit text fits r room
 enough_room text fits (Ok v) room short = λ good. short v refl
 enough_room text fits (Err c) room short = tt
@@ -302,29 +370,35 @@ enough_room text fits (Err c) room short = tt
 -- ** what is read as something else, a variant or an entry
 
 module _ {A B : Type 0} (wrap : A → B) (text : B → List ℕ) (fits : B → Type 0) where
-  pub weighs_as : (r : Result A Cause) (a : Option ℕ) → Weighs (λ x. text (wrap x)) (λ x. fits (wrap x)) r a → Weighs text fits (r >>= λ x. Ok (wrap x)) a
+  pub weighs_as : (r : Result A Cause) (a : Option ℕ) → Weighs (λ x. text (wrap x)) (λ x. fits (wrap x)) r a
+      → Weighs text fits (r >>= λ x. Ok (wrap x)) a
   weighs_as (Ok x) (Some n) w = w
   weighs_as (Ok x) None w = w
   weighs_as (Err c) (Some n) w = w
   weighs_as (Err c) None w = tt
 
-  pub room_as : (r : Result A Cause) (room : ℕ) → HasRoom text fits (r >>= λ x. Ok (wrap x)) room → HasRoom (λ x. text (wrap x)) (λ x. fits (wrap x)) r room
+  pub room_as : (r : Result A Cause) (room : ℕ) → HasRoom text fits (r >>= λ x. Ok (wrap x)) room
+      → HasRoom (λ x. text (wrap x)) (λ x. fits (wrap x)) r room
   room_as (Ok x) room h = h
   room_as (Err c) room h = h
 
-  pub rewrites_as : (r : Result A Cause) (old new : List ℕ) (n : ℕ) → Rewrites (λ x. text (wrap x)) r old new n → Rewrites text (r >>= λ x. Ok (wrap x)) old new n
+  pub rewrites_as : (r : Result A Cause) (old new : List ℕ) (n : ℕ) → Rewrites (λ x. text (wrap x)) r old new n
+      → Rewrites text (r >>= λ x. Ok (wrap x)) old new n
   rewrites_as (Ok x) old new n w = w
   rewrites_as (Err c) old new n w = tt
 
-  pub room_where_as : (r : Result A Cause) (room : ℕ) → RoomWhereFit text fits (r >>= λ x. Ok (wrap x)) room → RoomWhereFit (λ x. text (wrap x)) (λ x. fits (wrap x)) r room
+  pub room_where_as : (r : Result A Cause) (room : ℕ) → RoomWhereFit text fits (r >>= λ x. Ok (wrap x)) room
+      → RoomWhereFit (λ x. text (wrap x)) (λ x. fits (wrap x)) r room
   room_where_as (Ok x) room h = h
   room_where_as (Err c) room h = tt
 
-  pub room_wrapped : (r : Result A Cause) (room : ℕ) → RoomWhereFit (λ x. text (wrap x)) (λ x. fits (wrap x)) r room → RoomWhereFit text fits (r >>= λ x. Ok (wrap x)) room
+  pub room_wrapped : (r : Result A Cause) (room : ℕ) → RoomWhereFit (λ x. text (wrap x)) (λ x. fits (wrap x)) r room
+      → RoomWhereFit text fits (r >>= λ x. Ok (wrap x)) room
   room_wrapped (Ok x) room h = h
   room_wrapped (Err c) room h = tt
 
-  pub canonical_as : (r : Result A Cause) (old new : List ℕ) (a : Option ℕ) → Canonical (λ x. text (wrap x)) (λ x. fits (wrap x)) r old new a
+  pub canonical_as : (r : Result A Cause) (old new : List ℕ) (a : Option ℕ)
+      → Canonical (λ x. text (wrap x)) (λ x. fits (wrap x)) r old new a
       → Canonical text fits (r >>= λ x. Ok (wrap x)) old new a
   canonical_as (Ok x) old new (Some n) w = w
   canonical_as (Ok x) old new None w = w
@@ -333,11 +407,13 @@ module _ {A B : Type 0} (wrap : A → B) (text : B → List ℕ) (fits : B → T
 
 -- ** a record that is refused where the payload is short
 
-pub short_weighs : {A : Type 0} (size : ℕ) (of : List ℕ → A) (text : A → List ℕ) (fits : A → Type 0) (p : List ℕ) → length p < size → Weighs text fits (read_sized size of p) None
+pub short_weighs : {A : Type 0} (size : ℕ) (of : List ℕ → A) (text : A → List ℕ) (fits : A → Type 0) (p : List ℕ)
+    → length p < size → Weighs text fits (read_sized size of p) None
 unfolding read_sized
 short_weighs size of text fits p short = rw (lt-ltb (length p) size short) tt
 
-pub whole_weighs : {A : Type 0} (size : ℕ) (of : List ℕ → A) (text : A → List ℕ) (fits : A → Type 0) (p : List ℕ) → size ≤ length p → fits (of p) → length (text (of p)) ≡ size
+pub whole_weighs : {A : Type 0} (size : ℕ) (of : List ℕ → A) (text : A → List ℕ) (fits : A → Type 0) (p : List ℕ)
+    → size ≤ length p → fits (of p) → length (text (of p)) ≡ size
     → Weighs text fits (read_sized size of p) (Some size)
 unfolding read_sized
 whole_weighs size of text fits p whole good exact = rw (le-ltb (length p) size whole) (good, sym exact)
@@ -346,7 +422,8 @@ whole_weighs size of text fits p whole good exact = rw (le-ltb (length p) size w
 
 pub lent_length : (old part : List ℕ) → 4 ≤ length old → length (put_mid 4 (length old - 4) old part) ≡ 4 + length part
 lent_length old part long =
-    ap length (lent_back 4 old part) ∙ length-append (take 4 old) part ∙ let four : length (take 4 old) ≡ 4 = simp length-take (omega arith) in ap (λ n. n + length part) four
+    ap length (lent_back 4 old part) ∙ length-append (take 4 old) part ∙ let four : length (take 4 old) ≡ 4 =
+    simp length-take (omega arith) in ap (λ n. n + length part) four
 
 -- the values that fit as one attribute, of which the text has at most 65531 bytes
 abbrev pub NestFits : {A : Type 0} → (A → List ℕ) → (A → Type 0) → A → Type 0
@@ -355,45 +432,63 @@ NestFits text fits v = (length (text v) ≤ most_payload) × fits v
 abbrev pub nest : {A : Type 0} → (A → List ℕ) → ℕ → A → Frame
 nest text kind v = record { kind = kind; payload = text v }
 
-pub nested_weighs : {A : Type 0} (text : A → List ℕ) (fits : A → Type 0) (r : Result A Cause) (n : ℕ) → Weighs text fits r (Some n) → n ≤ most_payload
+pub nested_weighs : {A : Type 0} (text : A → List ℕ) (fits : A → Type 0) (r : Result A Cause) (n : ℕ)
+    → Weighs text fits r (Some n) → n ≤ most_payload
     → Weighs text (NestFits text fits) r (Some n)
 nested_weighs text fits (Ok v) n w small = ((omega (arith, small, w.1), w.0), w.1)
 nested_weighs text fits (Err c) n w small = w
 
-pub nested_long : {A : Type 0} (text : A → List ℕ) (fits : A → Type 0) (r : Result A Cause) (n : ℕ) → Weighs text fits r (Some n) → most_payload < n
+pub nested_long : {A : Type 0} (text : A → List ℕ) (fits : A → Type 0) (r : Result A Cause) (n : ℕ)
+    → Weighs text fits r (Some n) → most_payload < n
     → Weighs text (NestFits text fits) r None
 nested_long text fits (Ok v) n w long = λ good. absurd (omega (arith, good.0, w.1, long))
 nested_long text fits (Err c) n w long = tt
 
-pub nested_unfit : {A : Type 0} (text : A → List ℕ) (fits : A → Type 0) (r : Result A Cause) → Weighs text fits r None → Weighs text (NestFits text fits) r None
+pub nested_unfit : {A : Type 0} (text : A → List ℕ) (fits : A → Type 0) (r : Result A Cause) → Weighs text fits r None
+    → Weighs text (NestFits text fits) r None
 nested_unfit text fits (Ok v) w = λ good. w good.1
 nested_unfit text fits (Err c) w = tt
 
-pub nested_room : {A : Type 0} (text : A → List ℕ) (fits : A → Type 0) (kind : ℕ) (r : Result A Cause) (room : ℕ) → HasRoom (λ v. canon (nest text kind v)) (NestFits text fits) r room
+pub nested_room : {A : Type 0} (text : A → List ℕ) (fits : A → Type 0) (kind : ℕ) (r : Result A Cause) (room : ℕ)
+    → HasRoom (λ v. canon (nest text kind v)) (NestFits text fits) r room
     → HasRoom text fits r (room - 4) × (4 ≤ room)
 nested_room text fits kind (Ok v) room h =
     ((h.0.1, omega (arith, h.1, length-canon (nest text kind v))), omega (arith, h.1, length-canon (nest text kind v)))
 nested_room text fits kind (Err c) room h = absurd h
 
 -- there is room for header and padding round the value that was written
-pub nested_finish : {A : Type 0} (text : A → List ℕ) (fits : A → Type 0) (kind : ℕ) (r : Result A Cause) (old part : List ℕ) (len : ℕ)
+pub nested_finish : {A : Type 0} (text : A → List ℕ) (fits : A → Type 0) (kind : ℕ) (r : Result A Cause)
+    (old part : List ℕ) (len : ℕ)
     → HasRoom (λ v. canon (nest text kind v)) (NestFits text fits) r (length old)
     → length part ≡ length (take (length old - 4) (drop 4 old))
     → Rewrites text r (take (length old - 4) (drop 4 old)) part len
     → (len ≤ most_payload) × (4 + len + missing len ≤ length (put_mid 4 (length old - 4) old part))
 nested_finish text fits kind (Ok v) old part len h kept w =
     let long : 4 ≤ length old = omega (arith, h.1, length-canon (nest text kind v)) in
-    let size : length (take (length old - 4) (drop 4 old)) ≡ length old - 4 = simp (length-take, length-drop) (omega arith) in (
+    let size : length (take (length old - 4) (drop 4 old)) ≡ length old - 4 =
+    simp (length-take, length-drop) (omega arith) in (
       omega (arith, h.0.0, w.length_is),
-      omega (arith, h.1, length-canon (nest text kind v), w.length_is, ap missing w.length_is, lent_length old part long, kept, size),
+      omega (
+        arith,
+        h.1,
+        length-canon (nest text kind v),
+        w.length_is,
+        ap missing w.length_is,
+        lent_length old part long,
+        kept,
+        size,
+      ),
     )
 nested_finish text fits kind (Err c) old part len h kept w = absurd h
 
-pub nested_written : {A : Type 0} (text : A → List ℕ) (kind : ℕ) (r : Result A Cause) (old part : List ℕ) (len : ℕ) (new : List ℕ) (n : ℕ) → 4 ≤ length old
+pub nested_written : {A : Type 0} (text : A → List ℕ) (kind : ℕ) (r : Result A Cause) (old part : List ℕ) (len : ℕ)
+    (new : List ℕ) (n : ℕ) → 4 ≤ length old
     → Rewrites text r (take (length old - 4) (drop 4 old)) part len
-    → Writes (canon (record { kind = kind; payload = take len (drop 4 (put_mid 4 (length old - 4) old part)) })) (put_mid 4 (length old - 4) old part) new n
+    → Writes (canon (record { kind = kind; payload = take len (drop 4 (put_mid 4 (length old - 4) old part)) }))
+    (put_mid 4 (length old - 4) old part) new n
     → Rewrites (λ v. canon (nest text kind v)) r old new n
-nested_written text kind (Ok v) old part len new n long w finishing = finished_value kind (text v) old part len new n long w finishing
+nested_written text kind (Ok v) old part len new n long w finishing =
+    finished_value kind (text v) old part len new n long w finishing
 nested_written text kind (Err c) old part len new n long w finishing = tt
 
 -- ** a list that must not be empty
@@ -402,48 +497,56 @@ pub not_none : (p : List ℕ) → false ≡ (length p == 0) → 0 < length p
 not_none [] e = absurd cc
 not_none (x ∷ p) e = omega arith
 
-pub empty_weighs : {A : Type 0} (text : A → List ℕ) (fits : A → Type 0) (p : List ℕ) (r : Result A Cause) → length p ≡ 0 → Weighs text fits (unless_empty p r) None
+pub empty_weighs : {A : Type 0} (text : A → List ℕ) (fits : A → Type 0) (p : List ℕ) (r : Result A Cause) → length p ≡ 0
+    → Weighs text fits (unless_empty p r) None
 unfolding unless_empty
 empty_weighs text fits [] r none = tt
 empty_weighs text fits (x ∷ p) r none = absurd (omega (arith, none))
 
-pub some_weighs : {A : Type 0} (text : A → List ℕ) (fits : A → Type 0) (p : List ℕ) (r : Result A Cause) (a : Option ℕ) → 0 < length p → Weighs text fits r a
+pub some_weighs : {A : Type 0} (text : A → List ℕ) (fits : A → Type 0) (p : List ℕ) (r : Result A Cause) (a : Option ℕ)
+    → 0 < length p → Weighs text fits r a
     → Weighs text fits (unless_empty p r) a
 unfolding unless_empty
 some_weighs text fits [] r a some w = absurd (omega (arith, some))
 some_weighs text fits (x ∷ p) r a some w = w
 
-pub some_room : {A : Type 0} (text : A → List ℕ) (fits : A → Type 0) (p : List ℕ) (r : Result A Cause) (room : ℕ) → HasRoom text fits (unless_empty p r) room
+pub some_room : {A : Type 0} (text : A → List ℕ) (fits : A → Type 0) (p : List ℕ) (r : Result A Cause) (room : ℕ)
+    → HasRoom text fits (unless_empty p r) room
     → HasRoom text fits r room
 unfolding unless_empty
 some_room text fits [] r room h = absurd h
 some_room text fits (x ∷ p) r room h = h
 
-pub unless_empty_room : {A : Type 0} (text : A → List ℕ) (fits : A → Type 0) (p : List ℕ) (r : Result A Cause) (room : ℕ) → RoomWhereFit text fits r room
+pub unless_empty_room : {A : Type 0} (text : A → List ℕ) (fits : A → Type 0) (p : List ℕ) (r : Result A Cause)
+    (room : ℕ) → RoomWhereFit text fits r room
     → RoomWhereFit text fits (unless_empty p r) room
 unfolding unless_empty
 unless_empty_room text fits [] r room h = tt
 unless_empty_room text fits (x ∷ p) r room h = h
 
-pub some_rewrites : {A : Type 0} (text : A → List ℕ) (p : List ℕ) (r : Result A Cause) (old new : List ℕ) (n : ℕ) → Rewrites text r old new n
+pub some_rewrites : {A : Type 0} (text : A → List ℕ) (p : List ℕ) (r : Result A Cause) (old new : List ℕ) (n : ℕ)
+    → Rewrites text r old new n
     → Rewrites text (unless_empty p r) old new n
 unfolding unless_empty
 some_rewrites text [] r old new n w = tt
 some_rewrites text (x ∷ p) r old new n w = w
 
-pub some_room_where : {A : Type 0} (text : A → List ℕ) (fits : A → Type 0) (p : List ℕ) (r : Result A Cause) (room : ℕ) → 0 < length p
+pub some_room_where : {A : Type 0} (text : A → List ℕ) (fits : A → Type 0) (p : List ℕ) (r : Result A Cause) (room : ℕ)
+    → 0 < length p
     → RoomWhereFit text fits (unless_empty p r) room → RoomWhereFit text fits r room
 unfolding unless_empty
 some_room_where text fits [] r room some h = absurd (omega (arith, some))
 some_room_where text fits (x ∷ p) r room some h = h
 
-pub some_canonical : {A : Type 0} (text : A → List ℕ) (fits : A → Type 0) (p : List ℕ) (r : Result A Cause) (old new : List ℕ) (a : Option ℕ) → 0 < length p
+pub some_canonical : {A : Type 0} (text : A → List ℕ) (fits : A → Type 0) (p : List ℕ) (r : Result A Cause)
+    (old new : List ℕ) (a : Option ℕ) → 0 < length p
     → Canonical text fits r old new a → Canonical text fits (unless_empty p r) old new a
 unfolding unless_empty
 some_canonical text fits [] r old new a some w = absurd (omega (arith, some))
 some_canonical text fits (x ∷ p) r old new a some w = w
 
-pub empty_canonical : {A : Type 0} (text : A → List ℕ) (fits : A → Type 0) (p : List ℕ) (r : Result A Cause) (old : List ℕ) → length p ≡ 0
+pub empty_canonical : {A : Type 0} (text : A → List ℕ) (fits : A → Type 0) (p : List ℕ) (r : Result A Cause)
+    (old : List ℕ) → length p ≡ 0
     → Canonical text fits (unless_empty p r) old old None
 unfolding unless_empty
 empty_canonical text fits [] r old none = refl
@@ -460,26 +563,32 @@ abbrev pub KeptFits : {V : Type 0} → (V → Type 0) → Option V → Type 0
 KeptFits fits None = Unit {0}
 KeptFits fits (Some v) = fits v
 
-kept_texts : {V : Type 0} (frame : V → Frame) (os : List (Option V)) → flat_map (kept_text frame) os ≡ canons frame (present_values os)
+kept_texts : {V : Type 0} (frame : V → Frame) (os : List (Option V))
+    → flat_map (kept_text frame) os ≡ canons frame (present_values os)
 kept_texts frame [] = refl
 kept_texts frame (None ∷ os) = kept_texts frame os
 kept_texts frame ((Some v) ∷ os) = ap (λ t. canon (frame v) ++ t) (kept_texts frame os)
 
-kept_fit : {V : Type 0} (fits : V → Type 0) (os : List (Option V)) → AllByRecursion (KeptFits fits) os → AllByRecursion fits (present_values os)
+kept_fit : {V : Type 0} (fits : V → Type 0) (os : List (Option V)) → AllByRecursion (KeptFits fits) os
+    → AllByRecursion fits (present_values os)
 kept_fit fits [] all = tt
 kept_fit fits (None ∷ os) all = kept_fit fits os all.1
 kept_fit fits ((Some v) ∷ os) all = (all.0, kept_fit fits os all.1)
 
-fit_kept : {V : Type 0} (fits : V → Type 0) (os : List (Option V)) → AllByRecursion fits (present_values os) → AllByRecursion (KeptFits fits) os
+fit_kept : {V : Type 0} (fits : V → Type 0) (os : List (Option V)) → AllByRecursion fits (present_values os)
+    → AllByRecursion (KeptFits fits) os
 fit_kept fits [] all = tt
 fit_kept fits (None ∷ os) all = (tt, fit_kept fits os all)
 fit_kept fits ((Some v) ∷ os) all = (all.0, fit_kept fits os all.1)
 
 module _ {V : Type 0} (frame : V → Frame) (fits : V → Type 0) where
-  counted_kept : (os : List (Option V)) → AllFit fits frame (present_values os) → Counted (kept_text frame) (KeptFits fits) os
-  counted_kept os all = (fit_kept fits os all.0, omega (arith, all.1, ap (λ (t : List ℕ). length t) (kept_texts frame os)))
+  counted_kept : (os : List (Option V)) → AllFit fits frame (present_values os)
+      → Counted (kept_text frame) (KeptFits fits) os
+  counted_kept os all =
+      (fit_kept fits os all.0, omega (arith, all.1, ap (λ (t : List ℕ). length t) (kept_texts frame os)))
 
-  pub picked_weighs : (r : Result (List (Option V)) Cause) (a : Option ℕ) → Weighs (flat_map (kept_text frame)) (Counted (kept_text frame) (KeptFits fits)) r a
+  pub picked_weighs : (r : Result (List (Option V)) Cause) (a : Option ℕ)
+      → Weighs (flat_map (kept_text frame)) (Counted (kept_text frame) (KeptFits fits)) r a
       → Weighs (canons frame) (AllFit fits frame) (r >>= λ os. Ok (present_values os)) a
   picked_weighs (Ok os) (Some n) w =
       let same = ap (λ (t : List ℕ). length t) (kept_texts frame os) in
@@ -488,36 +597,49 @@ module _ {V : Type 0} (frame : V → Frame) (fits : V → Type 0) where
   picked_weighs (Err e) (Some n) w = w
   picked_weighs (Err e) None w = tt
 
-  pub picked_room : (r : Result (List (Option V)) Cause) (room : ℕ) → HasRoom (canons frame) (AllFit fits frame) (r >>= λ os. Ok (present_values os)) room
+  pub picked_room : (r : Result (List (Option V)) Cause) (room : ℕ)
+      → HasRoom (canons frame) (AllFit fits frame) (r >>= λ os. Ok (present_values os)) room
       → HasRoom (flat_map (kept_text frame)) (Counted (kept_text frame) (KeptFits fits)) r room
-  picked_room (Ok os) room h = (counted_kept os h.0, omega (arith, h.1, ap (λ (t : List ℕ). length t) (kept_texts frame os)))
+  picked_room (Ok os) room h =
+      (counted_kept os h.0, omega (arith, h.1, ap (λ (t : List ℕ). length t) (kept_texts frame os)))
   picked_room (Err e) room h = h
 
-  pub picked_rewrites : (r : Result (List (Option V)) Cause) (old new : List ℕ) (n : ℕ) → Rewrites (flat_map (kept_text frame)) r old new n
+  pub picked_rewrites : (r : Result (List (Option V)) Cause) (old new : List ℕ) (n : ℕ)
+      → Rewrites (flat_map (kept_text frame)) r old new n
       → Rewrites (canons frame) (r >>= λ os. Ok (present_values os)) old new n
   picked_rewrites (Ok os) old new n w = subst (λ t. Writes t old new n) (kept_texts frame os) w
   picked_rewrites (Err e) old new n w = tt
 
-module _ {V : Type 0} (place : Grammar Frame V) (f : Frame) (one : number f ≡ 1) (frame : V → Frame) (fits : V → Type 0) where
-  weighs_some : (r : Result V Cause) (a : Option ℕ) → Weighs (λ v. canon (frame v)) fits r a → Weighs (kept_text frame) (KeptFits fits) (r >>= λ v. Ok (Some v)) a
+module _ {V : Type 0} (place : Grammar Frame V) (f : Frame) (one : number f ≡ 1) (frame : V → Frame)
+    (fits : V → Type 0) where
+  weighs_some : (r : Result V Cause) (a : Option ℕ) → Weighs (λ v. canon (frame v)) fits r a
+      → Weighs (kept_text frame) (KeptFits fits) (r >>= λ v. Ok (Some v)) a
   weighs_some (Ok v) (Some n) w = w
   weighs_some (Ok v) None w = w
   weighs_some (Err c) (Some n) w = w
   weighs_some (Err c) None w = tt
 
-  room_some : (r : Result V Cause) (room : ℕ) → HasRoom (kept_text frame) (KeptFits fits) (r >>= λ v. Ok (Some v)) room → HasRoom (λ v. canon (frame v)) fits r room
+  room_some : (r : Result V Cause) (room : ℕ) → HasRoom (kept_text frame) (KeptFits fits) (r >>= λ v. Ok (Some v)) room
+      → HasRoom (λ v. canon (frame v)) fits r room
   room_some (Ok v) room h = h
   room_some (Err c) room h = h
 
-  rewrites_some : (r : Result V Cause) (old new : List ℕ) (n : ℕ) → Rewrites (λ v. canon (frame v)) r old new n → Rewrites (kept_text frame) (r >>= λ v. Ok (Some v)) old new n
+  rewrites_some : (r : Result V Cause) (old new : List ℕ) (n : ℕ) → Rewrites (λ v. canon (frame v)) r old new n
+      → Rewrites (kept_text frame) (r >>= λ v. Ok (Some v)) old new n
   rewrites_some (Ok v) old new n w = w
   rewrites_some (Err c) old new n w = tt
 
-  pub kept_weighs : (a : Option ℕ) → Weighs (λ v. canon (frame v)) fits (place.reads f) a → Weighs (kept_text frame) (KeptFits fits) ((some_if_picked place).reads f) a
-  kept_weighs a w = subst (λ r. Weighs (kept_text frame) (KeptFits fits) r a) (sym (picks_one place f one)) (weighs_some (place.reads f) a w)
+  pub kept_weighs : (a : Option ℕ) → Weighs (λ v. canon (frame v)) fits (place.reads f) a
+      → Weighs (kept_text frame) (KeptFits fits) ((some_if_picked place).reads f) a
+  kept_weighs a w = subst (λ r. Weighs (kept_text frame) (KeptFits fits) r a) (sym (picks_one place f one))
+      (weighs_some (place.reads f) a w)
 
-  pub kept_room : (room : ℕ) → HasRoom (kept_text frame) (KeptFits fits) ((some_if_picked place).reads f) room → HasRoom (λ v. canon (frame v)) fits (place.reads f) room
-  kept_room room h = room_some (place.reads f) room (subst (λ r. HasRoom (kept_text frame) (KeptFits fits) r room) (picks_one place f one) h)
+  pub kept_room : (room : ℕ) → HasRoom (kept_text frame) (KeptFits fits) ((some_if_picked place).reads f) room
+      → HasRoom (λ v. canon (frame v)) fits (place.reads f) room
+  kept_room room h = room_some (place.reads f) room
+      (subst (λ r. HasRoom (kept_text frame) (KeptFits fits) r room) (picks_one place f one) h)
 
-  pub kept_rewrites : (old new : List ℕ) (n : ℕ) → Rewrites (λ v. canon (frame v)) (place.reads f) old new n → Rewrites (kept_text frame) ((some_if_picked place).reads f) old new n
-  kept_rewrites old new n w = subst (λ r. Rewrites (kept_text frame) r old new n) (sym (picks_one place f one)) (rewrites_some (place.reads f) old new n w)
+  pub kept_rewrites : (old new : List ℕ) (n : ℕ) → Rewrites (λ v. canon (frame v)) (place.reads f) old new n
+      → Rewrites (kept_text frame) ((some_if_picked place).reads f) old new n
+  kept_rewrites old new n w = subst (λ r. Rewrites (kept_text frame) r old new n) (sym (picks_one place f one))
+      (rewrites_some (place.reads f) old new n w)

@@ -12,7 +12,8 @@ number_at w bytes place = sum_through (λ i. byte_worth i (slice_index bytes (pl
 
 -- the same, highest byte first
 unfoldable pub be_number_at : Width → List ℕ → ℕ → ℕ
-be_number_at w bytes place = sum_through (λ i. byte_worth (byte_len w - 1 - i) (slice_index bytes (place + i))) (byte_len w - 1)
+be_number_at w bytes place =
+    sum_through (λ i. byte_worth (byte_len w - 1 - i) (slice_index bytes (place + i))) (byte_len w - 1)
 
 -- the same as a signed number
 abbrev pub signed_at : Width → List ℕ → ℕ → ℤ

@@ -6,7 +6,8 @@ use Rattle.nla_wire.specs.declared.error.Cause.{Cause}
 
 -- bytes are frames, or frames and then a fault
 abbrev pub SomeReading : Type 0
-SomeReading = (b : List ℕ) → IsBytes b → ((fs : List Frame) × Frames b fs) ⊎ ((fs : List Frame) × (c : Cause) × Fault b fs c)
+SomeReading = (b : List ℕ) → IsBytes b
+    → ((fs : List Frame) × Frames b fs) ⊎ ((fs : List Frame) × (c : Cause) × Fault b fs c)
 
 -- no bytes are two lists of frames
 abbrev pub OneListOfFrames : Type 0

@@ -60,7 +60,8 @@ Frames b (f ∷ fs) = (rest : List ℕ) × Begins b f rest × Frames rest fs
 -- why b, which isn't empty, begins with no frame
 abbrev pub BadStart : List ℕ → Cause → Type 0
 BadStart b (FrameShort left) = (0 < length b) × (length b < 4) × (left ≡ length b)
-BadStart b (FrameOver len left) = (4 ≤ length b) × (len ≡ from_le_bytes w16 (take 2 b)) × (length b < len) × (left ≡ length b)
+BadStart b (FrameOver len left) =
+    (4 ≤ length b) × (len ≡ from_le_bytes w16 (take 2 b)) × (length b < len) × (left ≡ length b)
 BadStart b (FrameUnder len) = (4 ≤ length b) × (len ≡ from_le_bytes w16 (take 2 b)) × (len < 4)
 BadStart b (TooShort got need) = ⊥
 BadStart b EmptyList = ⊥

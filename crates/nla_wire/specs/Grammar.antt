@@ -39,7 +39,8 @@ Every M fs vs = AllZip M fs vs
 -- each of the frames fs at the front of b has a value, and what follows them is the fault
 abbrev pub FirstAfter : {V : Type 0} → Grammar Frame V → List ℕ → List Frame → Cause → Type 0
 FirstAfter place b [] c = BadStart b c ⊎ ((f : Frame) × (rest : List ℕ) × Begins b f rest × place.bad f c)
-FirstAfter {V} place b (f ∷ fs) c = (rest : List ℕ) × Begins b f rest × ((v : V) × place.means f v) × FirstAfter place rest fs c
+FirstAfter {V} place b (f ∷ fs) c =
+    (rest : List ℕ) × Begins b f rest × ((v : V) × place.means f v) × FirstAfter place rest fs c
 
 -- the first fault of b, from its front on: that of a frame's value comes before that of the frame after it
 abbrev pub First : {V : Type 0} → Grammar Frame V → List ℕ → Cause → Type 0

@@ -5,11 +5,13 @@ use Rattle.nla_wire.specs.Canon.{canon, canons, AllFit, total}
 
 -- what was read from some frame here, if it fits, is read again from its canonical frame
 abbrev pub ReadsBack : {V : Type 0} → (Frame → V → Type 0) → (V → Frame) → (V → Type 0) → Type 0
-ReadsBack {V} means frame Fits = (f : Frame) (v : V) → IsFrame f → means f v → Fits v → Begins (canon (frame v)) (frame v) [] × means (frame v) v
+ReadsBack {V} means frame Fits = (f : Frame) (v : V) → IsFrame f → means f v → Fits v
+    → Begins (canon (frame v)) (frame v) [] × means (frame v) v
 
 -- values that some payload means as a list, and that fit, are what their canonical texts, one after the other, mean
 abbrev pub ListReadsBack : {V : Type 0} → (List ℕ → List V → Type 0) → (V → Frame) → (V → Type 0) → Type 0
-ListReadsBack {V} means frame Fits = (p : List ℕ) (vs : List V) → IsBytes p → means p vs → AllFit Fits frame vs → means (canons frame vs) vs
+ListReadsBack {V} means frame Fits = (p : List ℕ) (vs : List V) → IsBytes p → means p vs → AllFit Fits frame vs
+    → means (canons frame vs) vs
 
 -- how many values a list holds, members of members among them, and how long its canonical text is, against its payload:
 -- at most `factor` bytes for each whole four, and so many fewer for each member
@@ -23,4 +25,5 @@ pub record IsBounded (factor fewer_bytes : ℕ) (p : List ℕ) (members values :
 -- each list of this meaning is so bounded
 abbrev pub ListsBounded : {V : Type 0} → ℕ → ℕ → (List ℕ → List V → Type 0) → (V → ℕ) → (V → Frame) → Type 0
 ListsBounded {V} factor fewer_bytes means count frame =
-    (p : List ℕ) (vs : List V) → means p vs → IsBounded factor fewer_bytes p (length vs) (total count vs) (canons frame vs)
+    (p : List ℕ) (vs : List V) → means p vs
+    → IsBounded factor fewer_bytes p (length vs) (total count vs) (canons frame vs)

@@ -9,7 +9,8 @@ use Rattle.nla_wire.specs.declared.record.RecordBuffer.{RecordBuffer}
 
 -- the result is what the grammar says, by its relations and by its reader
 abbrev pub Parses : {A : Type 0} → Grammar (List ℕ) A → List ℕ → Result A DecodeError → Type 0
-Parses g payload result = MatchResult result (g.means payload) (λ e. g.bad payload e.cause) × (without_place result ≡ g.reads payload)
+Parses g payload result =
+    MatchResult result (g.means payload) (λ e. g.bad payload e.cause) × (without_place result ≡ g.reads payload)
 
 -- the bytes that a buffer holds
 abbrev pub buffer_bytes : {R : Type 0} {size : ℕ} → RecordBuffer R size → List ℕ

@@ -20,7 +20,8 @@ same_frame-Decides f g = (
       let parts = both (f.kind == g.kind) (pointwise ◌==◌ f.payload g.payload) e in
       let kinds = (unsigned_Decides f.kind g.kind).0 parts.0 in
       let payloads = (bytes_eq-Decides f.payload g.payload).0 parts.1 in
-      ap (λ k. record { kind = k; payload = f.payload }) kinds ∙ ap (λ p. record { kind = g.kind; payload = p }) payloads,
+      ap (λ k. record { kind = k; payload = f.payload }) kinds
+      ∙ ap (λ p. record { kind = g.kind; payload = p }) payloads,
   λ e.
       let kinds = (unsigned_Decides f.kind g.kind).1 (ap (λ h. h.kind) e) in
       let payloads = (bytes_eq-Decides f.payload g.payload).1 (ap (λ h. h.payload) e) in

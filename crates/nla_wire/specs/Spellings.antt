@@ -41,4 +41,5 @@ AreFullSpellings (s ∷ ss) (f ∷ fs) = IsFullSpelling s f × AreFullSpellings 
 
 -- b is full spellings of the frames, and then a rest, not empty, that begins with no spelling, for this cause
 abbrev pub IsFaultBehind : List ℕ → List Frame → Cause → Type 0
-IsFaultBehind b fs c = (ss : List (List ℕ)) × (rest : List ℕ) × (b ≡ flat_map (λ s. s) ss ++ rest) × AreFullSpellings ss fs × BadStart rest c
+IsFaultBehind b fs c = (ss : List (List ℕ)) × (rest : List ℕ) × (b ≡ flat_map (λ s. s) ss ++ rest)
+    × AreFullSpellings ss fs × BadStart rest c

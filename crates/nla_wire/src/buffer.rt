@@ -2,7 +2,8 @@
 
 ghost use Rattle.std.specs.Prelude.{◌≡◌, ◌+◌, ◌-◌, ◌≤◌, ◌<◌, List, ℕ, length, MatchResult};
 ghost use Rattle.nla_wire.specs.Sizes.{most_payload};
-ghost use Rattle.nla_wire.specs.Frames.{Frame, IsBytes, IsFrame, number, is_nested, is_network_order, Begins, BadFront, BeginsWithNone};
+ghost use Rattle.nla_wire.specs.Frames.{Frame, IsBytes, IsFrame, number, is_nested, is_network_order, Begins, BadFront};
+ghost use Rattle.nla_wire.specs.Frames.{BeginsWithNone};
 ghost use Rattle.nla_wire.specs.Reading.{step, front};
 ghost use Rattle.nla_wire.specs.Gives.{without_place};
 ghost use Rattle.nla_wire.specs.Same.{same_frame, same_frame-laws, same_frame-partial, same_frame-Decides};
@@ -44,7 +45,8 @@ impl<'a> NlaBuffer<'a> {
     /// Refuses `FrameShort` where fewer than four bytes are there, `FrameOver` where the length passes them, and
     /// `FrameUnder` where it is below four.
     pub fn new_checked(bytes: &'a [u8]) -> Result<NlaBuffer<'a>, DecodeError>
-        ensures { MatchResult result (λ f. (rest : List ℕ) × Begins bytes.now f rest) (λ e. BadFront bytes.now e.cause × BeginsWithNone bytes.now) }
+        ensures { MatchResult result (λ f. (rest : List ℕ) × Begins bytes.now f rest)
+            (λ e. BadFront bytes.now e.cause × BeginsWithNone bytes.now) }
     {
         NlaBuffer::at_front(bytes)
     }

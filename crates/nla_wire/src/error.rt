@@ -113,7 +113,8 @@ impl DecodeError {
 
 /// Whether two faults are equal: their causes are, and so are the names of their places.
 pub fn same_fault(one: &DecodeError, other: &DecodeError) -> bool
-    ensures { IsTrue result ↔ ((one.now.place.now ≡ other.now.place.now) × (one.now.cause ≡ other.now.cause)) }
+    ensures { IsTrue result
+        ↔ ((one.now.place.now ≡ other.now.place.now) × (one.now.cause ≡ other.now.cause)) }
 {
     one == other
 }

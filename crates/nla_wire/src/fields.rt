@@ -159,8 +159,10 @@ pub fn bytes_32_at(bytes: &[u8], place: usize) -> [u8; 32]
 /// Puts bytes at a place, and keeps the rest.
 pub fn put_bytes(buffer: &mut [u8], place: usize, bytes: &[u8])
     requires { place + length bytes.now ≤ length buffer.old }
-    ensures after { buffer.new ≡ take place buffer.old ++ bytes.now ++ drop (place + length bytes.now) buffer.old }
-    ensures front { take (place + length bytes.now) buffer.new ≡ take place buffer.old ++ bytes.now }
+    ensures after { buffer.new
+        ≡ take place buffer.old ++ bytes.now ++ drop (place + length bytes.now) buffer.old }
+    ensures front { take (place + length bytes.now) buffer.new
+        ≡ take place buffer.old ++ bytes.now }
 {
     buffer[place..place + bytes.len()].copy_from_slice(bytes);
 }
@@ -168,7 +170,8 @@ pub fn put_bytes(buffer: &mut [u8], place: usize, bytes: &[u8])
 /// Puts a number of two bytes at a place, lowest byte first, and keeps the rest.
 pub fn put_u16(buffer: &mut [u8], place: usize, value: u16)
     requires { place + 2 ≤ length buffer.old }
-    ensures after { buffer.new ≡ take place buffer.old ++ to_le_bytes w16 value ++ drop (place + 2) buffer.old }
+    ensures after { buffer.new
+        ≡ take place buffer.old ++ to_le_bytes w16 value ++ drop (place + 2) buffer.old }
     ensures front { take (place + 2) buffer.new ≡ take place buffer.old ++ to_le_bytes w16 value }
 {
     buffer[place..place + 2].copy_from_slice(&value.to_le_bytes());
@@ -177,7 +180,8 @@ pub fn put_u16(buffer: &mut [u8], place: usize, value: u16)
 /// Puts a number of two bytes at a place, highest byte first, and keeps the rest.
 pub fn put_be16(buffer: &mut [u8], place: usize, value: u16)
     requires { place + 2 ≤ length buffer.old }
-    ensures after { buffer.new ≡ take place buffer.old ++ to_be_bytes w16 value ++ drop (place + 2) buffer.old }
+    ensures after { buffer.new
+        ≡ take place buffer.old ++ to_be_bytes w16 value ++ drop (place + 2) buffer.old }
     ensures front { take (place + 2) buffer.new ≡ take place buffer.old ++ to_be_bytes w16 value }
 {
     buffer[place..place + 2].copy_from_slice(&value.to_be_bytes());
@@ -186,7 +190,8 @@ pub fn put_be16(buffer: &mut [u8], place: usize, value: u16)
 /// Puts a number of four bytes at a place, lowest byte first, and keeps the rest.
 pub fn put_u32(buffer: &mut [u8], place: usize, value: u32)
     requires { place + 4 ≤ length buffer.old }
-    ensures after { buffer.new ≡ take place buffer.old ++ to_le_bytes w32 value ++ drop (place + 4) buffer.old }
+    ensures after { buffer.new
+        ≡ take place buffer.old ++ to_le_bytes w32 value ++ drop (place + 4) buffer.old }
     ensures front { take (place + 4) buffer.new ≡ take place buffer.old ++ to_le_bytes w32 value }
 {
     buffer[place..place + 4].copy_from_slice(&value.to_le_bytes());
@@ -195,7 +200,8 @@ pub fn put_u32(buffer: &mut [u8], place: usize, value: u32)
 /// Puts a number of eight bytes at a place, lowest byte first, and keeps the rest.
 pub fn put_u64(buffer: &mut [u8], place: usize, value: u64)
     requires { place + 8 ≤ length buffer.old }
-    ensures after { buffer.new ≡ take place buffer.old ++ to_le_bytes w64 value ++ drop (place + 8) buffer.old }
+    ensures after { buffer.new
+        ≡ take place buffer.old ++ to_le_bytes w64 value ++ drop (place + 8) buffer.old }
     ensures front { take (place + 8) buffer.new ≡ take place buffer.old ++ to_le_bytes w64 value }
 {
     buffer[place..place + 8].copy_from_slice(&value.to_le_bytes());
@@ -204,8 +210,10 @@ pub fn put_u64(buffer: &mut [u8], place: usize, value: u64)
 /// Puts a signed number of four bytes at a place, in two's complement, and keeps the rest.
 pub fn put_i32(buffer: &mut [u8], place: usize, value: i32)
     requires { place + 4 ≤ length buffer.old }
-    ensures after { buffer.new ≡ take place buffer.old ++ to_le_bytes w32 (cast_unsigned w32 value) ++ drop (place + 4) buffer.old }
-    ensures front { take (place + 4) buffer.new ≡ take place buffer.old ++ to_le_bytes w32 (cast_unsigned w32 value) }
+    ensures after { buffer.new ≡ take place buffer.old ++ to_le_bytes w32 (cast_unsigned w32 value)
+        ++ drop (place + 4) buffer.old }
+    ensures front { take (place + 4) buffer.new
+        ≡ take place buffer.old ++ to_le_bytes w32 (cast_unsigned w32 value) }
 {
     buffer[place..place + 4].copy_from_slice(&value.to_le_bytes());
 }
@@ -213,8 +221,10 @@ pub fn put_i32(buffer: &mut [u8], place: usize, value: i32)
 /// Puts a signed number of eight bytes at a place, in two's complement, and keeps the rest.
 pub fn put_i64(buffer: &mut [u8], place: usize, value: i64)
     requires { place + 8 ≤ length buffer.old }
-    ensures after { buffer.new ≡ take place buffer.old ++ to_le_bytes w64 (cast_unsigned w64 value) ++ drop (place + 8) buffer.old }
-    ensures front { take (place + 8) buffer.new ≡ take place buffer.old ++ to_le_bytes w64 (cast_unsigned w64 value) }
+    ensures after { buffer.new ≡ take place buffer.old ++ to_le_bytes w64 (cast_unsigned w64 value)
+        ++ drop (place + 8) buffer.old }
+    ensures front { take (place + 8) buffer.new
+        ≡ take place buffer.old ++ to_le_bytes w64 (cast_unsigned w64 value) }
 {
     buffer[place..place + 8].copy_from_slice(&value.to_le_bytes());
 }

@@ -47,7 +47,8 @@ pub fn close_frame(buffer: &mut [u8], start: usize, kind: u16) -> usize
     requires within { start ≤ length buffer.old }
     requires small { length buffer.old - start ≤ most_payload }
     requires room { 4 + missing (length buffer.old - start) ≤ start }
-    ensures { Filled buffer.old buffer.new (canon (record { kind = kind; payload = drop start buffer.old })) result }
+    ensures { Filled buffer.old buffer.new
+        (canon (record { kind = kind; payload = drop start buffer.old })) result }
 {
     let len = buffer.len() - start;
     let padding = (len + 3) / 4 * 4 - len;

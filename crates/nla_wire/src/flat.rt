@@ -69,8 +69,10 @@ impl Content<'_> {
     #[inline(always)]
     pub fn write(&self, kind: u16, buffer: &mut [u8]) -> usize
         requires small { length (content_text self.now) ≤ most_payload }
-        requires room { length (canon (record { kind = kind; payload = content_text self.now })) ≤ length buffer.old }
-        ensures { Writes (canon (record { kind = kind; payload = content_text self.now })) buffer.old buffer.new result }
+        requires room { length (canon (record { kind = kind; payload = content_text self.now }))
+            ≤ length buffer.old }
+        ensures { Writes (canon (record { kind = kind; payload = content_text self.now }))
+            buffer.old buffer.new result }
     {
         match self {
             Content::Bytes(bytes) => write_value(kind, bytes, buffer),

@@ -26,8 +26,8 @@ pub fn law_spellings()
     ensures fault { FaultIsBehind }
 {}
 
-/// `growth_per_byte` bytes of buffer for each byte of an attribute's header and payload are room for its canonical text at
-/// a place.
+/// `growth_per_byte` bytes of buffer for each byte of an attribute's header and payload are room for its canonical text
+/// at a place.
 pub fn law_place_room<V: Nla + Drop, P: Place<V>>(place: &P, buffer: &NlaBuffer<'_>)
     ensures { RoomWhereFit (λ v. canon (V.frame v)) V.fits ((P.grammar place.now).reads buffer.now)
         (growth_per_byte * (4 + length buffer.now.payload)) }
@@ -37,18 +37,19 @@ pub fn law_place_room<V: Nla + Drop, P: Place<V>>(place: &P, buffer: &NlaBuffer<
 
 /// `growth_per_byte` bytes of buffer for each byte of a list of members of a place are room for its canonical text.
 pub fn law_members_room<V: Nla + Drop, P: Place<V>>(place: &P, bytes: &[u8])
-    ensures { RoomWhereFit (canons V.frame) (AllFit V.fits V.frame) ((list (P.grammar place.now)).reads bytes.now)
-        (growth_per_byte * length bytes.now) }
+    ensures { RoomWhereFit (canons V.frame) (AllFit V.fits V.frame)
+        ((list (P.grammar place.now)).reads bytes.now) (growth_per_byte * length bytes.now) }
 {}
 
-/// `growth_per_byte` bytes of buffer for each byte of a list whose members with another number than 1 are dropped are room
-/// for its canonical text.
+/// `growth_per_byte` bytes of buffer for each byte of a list whose members with another number than 1 are dropped are
+/// room for its canonical text.
 pub fn law_picked_room<V: Nla + Drop, P: Place<V>>(place: &P, bytes: &[u8])
-    ensures { RoomWhereFit (canons V.frame) (AllFit V.fits V.frame) ((picked (P.grammar place.now)).reads bytes.now)
-        (growth_per_byte * length bytes.now) }
+    ensures { RoomWhereFit (canons V.frame) (AllFit V.fits V.frame)
+        ((picked (P.grammar place.now)).reads bytes.now) (growth_per_byte * length bytes.now) }
 {}
 
-/// `growth_per_byte` bytes of buffer for each byte of an attribute's header and payload are room for its canonical text.
+/// `growth_per_byte` bytes of buffer for each byte of an attribute's header and payload are room for its canonical
+/// text.
 pub fn law_room<N: NlaRead>(buffer: &NlaBuffer<'_>)
     ensures { RoomWhereFit (λ v. canon (N.frame v)) N.fits (N.grammar.reads buffer.now)
         (growth_per_byte * (4 + length buffer.now.payload)) }
@@ -58,16 +59,16 @@ pub fn law_room<N: NlaRead>(buffer: &NlaBuffer<'_>)
 
 /// `growth_per_byte` bytes of buffer for each byte of a list are room for its canonical text.
 pub fn law_list_room<N: NlaRead>(bytes: &[u8])
-    ensures { RoomWhereFit (canons N.frame) (AllFit N.fits N.frame) ((list N.grammar).reads bytes.now)
-        (growth_per_byte * length bytes.now) }
+    ensures { RoomWhereFit (canons N.frame) (AllFit N.fits N.frame)
+        ((list N.grammar).reads bytes.now) (growth_per_byte * length bytes.now) }
 {
     law_members_room::<N, OwnPlace>(&OwnPlace, bytes);
 }
 
 /// The same of a list that must not be empty.
 pub fn law_some_room<N: NlaRead>(bytes: &[u8])
-    ensures { RoomWhereFit (canons N.frame) (AllFit N.fits N.frame) ((not_empty (list N.grammar)).reads bytes.now)
-        (growth_per_byte * length bytes.now) }
+    ensures { RoomWhereFit (canons N.frame) (AllFit N.fits N.frame)
+        ((not_empty (list N.grammar)).reads bytes.now) (growth_per_byte * length bytes.now) }
 {
     law_list_room::<N>(bytes);
 }

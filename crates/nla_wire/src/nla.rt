@@ -95,7 +95,8 @@ pub trait Nla {
     final fn emit(&self, buffer: &mut [u8])
         requires fits { fits self.now }
         requires room { length (canon (frame self.now)) ≤ length buffer.old }
-        ensures { buffer.new ≡ canon (frame self.now) ++ drop (length (canon (frame self.now))) buffer.old }
+        ensures { buffer.new
+            ≡ canon (frame self.now) ++ drop (length (canon (frame self.now))) buffer.old }
     {
         let _len = self.write(buffer);
     }
@@ -121,7 +122,8 @@ pub fn nlas_measure<N: Nla>(nlas: &[N]) -> Option<usize>
 
 /// The same where the text is to be the value of an attribute: `None` too where it has more than 65531 bytes.
 pub fn list_measure<N: Nla>(nlas: &[N]) -> Option<usize>
-    ensures { Measures ((length (canons N.frame nlas.now) ≤ most_payload) × AllFit N.fits N.frame nlas.now) (length (canons N.frame nlas.now)) result }
+    ensures { Measures ((length (canons N.frame nlas.now) ≤ most_payload)
+        × AllFit N.fits N.frame nlas.now) (length (canons N.frame nlas.now)) result }
 {
     let Some(len) = nlas_measure(nlas) else {
         return None;
@@ -153,7 +155,8 @@ pub fn nlas_buffer_len<N: Nla>(nlas: &[N]) -> usize
 
 /// Whether each attribute fits, and their text is one that the value of an attribute may have.
 pub fn list_fits<N: Nla>(nlas: &[N]) -> bool
-    ensures { IsTrue result ↔ ((length (canons N.frame nlas.now) ≤ most_payload) × AllFit N.fits N.frame nlas.now) }
+    ensures { IsTrue result
+        ↔ ((length (canons N.frame nlas.now) ≤ most_payload) × AllFit N.fits N.frame nlas.now) }
 {
     list_measure(nlas).is_some()
 }
@@ -193,8 +196,10 @@ pub fn nlas_write<N: Nla>(nlas: &[N], buffer: &mut [u8]) -> usize
 pub fn write_list<N: Nla>(kind: u16, nlas: &[N], buffer: &mut [u8]) -> usize
     requires small { length (canons N.frame nlas.now) ≤ most_payload }
     requires fit { AllFit N.fits N.frame nlas.now }
-    requires room { length (canon (record { kind = kind; payload = canons N.frame nlas.now })) ≤ length buffer.old }
-    ensures { Writes (canon (record { kind = kind; payload = canons N.frame nlas.now })) buffer.old buffer.new result }
+    requires room { length (canon (record { kind = kind; payload = canons N.frame nlas.now }))
+        ≤ length buffer.old }
+    ensures { Writes (canon (record { kind = kind; payload = canons N.frame nlas.now })) buffer.old
+        buffer.new result }
 {
     let len = nlas_write(nlas, &mut buffer[NLA_HEADER_SIZE..]);
     finish(buffer, len, kind)
@@ -204,7 +209,8 @@ pub fn write_list<N: Nla>(kind: u16, nlas: &[N], buffer: &mut [u8]) -> usize
 pub fn emit_nlas<N: Nla>(nlas: &[N], buffer: &mut [u8])
     requires fit { AllFit N.fits N.frame nlas.now }
     requires room { length (canons N.frame nlas.now) ≤ length buffer.old }
-    ensures { buffer.new ≡ canons N.frame nlas.now ++ drop (length (canons N.frame nlas.now)) buffer.old }
+    ensures { buffer.new
+        ≡ canons N.frame nlas.now ++ drop (length (canons N.frame nlas.now)) buffer.old }
 {
     let _len = nlas_write(nlas, buffer);
 }

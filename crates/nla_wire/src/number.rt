@@ -24,7 +24,8 @@ fn wrong_length(bytes: &[u8], want: usize) -> DecodeError
 /// Reads a number of one byte, or refuses with `WrongLength`.
 #[tactic(auto, unfolding(crate::specs::Payloads::read_number))]
 pub fn parse_u8(bytes: &[u8]) -> Result<u8, DecodeError>
-    ensures means { MatchResult result ((number_of w8).means bytes.now) (λ e. (number_of w8).bad bytes.now e.cause) }
+    ensures means { MatchResult result ((number_of w8).means bytes.now)
+        (λ e. (number_of w8).bad bytes.now e.cause) }
     ensures reads { without_place result ≡ (number_of w8).reads bytes.now }
 {
     match bytes {
@@ -36,7 +37,8 @@ pub fn parse_u8(bytes: &[u8]) -> Result<u8, DecodeError>
 /// Reads a number of two bytes in host order, lowest byte first, or refuses with `WrongLength`.
 #[tactic(auto, unfolding(crate::specs::Payloads::read_number))]
 pub fn parse_u16(bytes: &[u8]) -> Result<u16, DecodeError>
-    ensures means { MatchResult result ((number_of w16).means bytes.now) (λ e. (number_of w16).bad bytes.now e.cause) }
+    ensures means { MatchResult result ((number_of w16).means bytes.now)
+        (λ e. (number_of w16).bad bytes.now e.cause) }
     ensures reads { without_place result ≡ (number_of w16).reads bytes.now }
 {
     if bytes.len() != 2 {
@@ -48,7 +50,8 @@ pub fn parse_u16(bytes: &[u8]) -> Result<u16, DecodeError>
 /// Reads a number of four bytes in host order, or refuses with `WrongLength`.
 #[tactic(auto, unfolding(crate::specs::Payloads::read_number))]
 pub fn parse_u32(bytes: &[u8]) -> Result<u32, DecodeError>
-    ensures means { MatchResult result ((number_of w32).means bytes.now) (λ e. (number_of w32).bad bytes.now e.cause) }
+    ensures means { MatchResult result ((number_of w32).means bytes.now)
+        (λ e. (number_of w32).bad bytes.now e.cause) }
     ensures reads { without_place result ≡ (number_of w32).reads bytes.now }
 {
     if bytes.len() != 4 {
@@ -60,7 +63,8 @@ pub fn parse_u32(bytes: &[u8]) -> Result<u32, DecodeError>
 /// Reads a number of eight bytes in host order, or refuses with `WrongLength`.
 #[tactic(auto, unfolding(crate::specs::Payloads::read_number))]
 pub fn parse_u64(bytes: &[u8]) -> Result<u64, DecodeError>
-    ensures means { MatchResult result ((number_of w64).means bytes.now) (λ e. (number_of w64).bad bytes.now e.cause) }
+    ensures means { MatchResult result ((number_of w64).means bytes.now)
+        (λ e. (number_of w64).bad bytes.now e.cause) }
     ensures reads { without_place result ≡ (number_of w64).reads bytes.now }
 {
     if bytes.len() != 8 {
@@ -74,7 +78,8 @@ pub fn parse_u64(bytes: &[u8]) -> Result<u64, DecodeError>
 /// Reads a signed number of four bytes in host order, in two's complement, or refuses with `WrongLength`.
 #[tactic(auto, unfolding(crate::specs::Payloads::read_number))]
 pub fn parse_i32(bytes: &[u8]) -> Result<i32, DecodeError>
-    ensures means { MatchResult result ((signed_of w32).means bytes.now) (λ e. (signed_of w32).bad bytes.now e.cause) }
+    ensures means { MatchResult result ((signed_of w32).means bytes.now)
+        (λ e. (signed_of w32).bad bytes.now e.cause) }
     ensures reads { without_place result ≡ (signed_of w32).reads bytes.now }
 {
     if bytes.len() != 4 {
@@ -86,7 +91,8 @@ pub fn parse_i32(bytes: &[u8]) -> Result<i32, DecodeError>
 /// Reads an IPv6 address, its sixteen octets in order, or refuses with `WrongLength`.
 #[tactic(auto, unfolding(crate::specs::Payloads::read_exactly))]
 pub fn parse_ipv6_addr(bytes: &[u8]) -> Result<Ipv6Addr, DecodeError>
-    ensures means { MatchResult result (ipv6_address.means bytes.now) (λ e. ipv6_address.bad bytes.now e.cause) }
+    ensures means { MatchResult result (ipv6_address.means bytes.now)
+        (λ e. ipv6_address.bad bytes.now e.cause) }
     ensures reads { without_place result ≡ ipv6_address.reads bytes.now }
 {
     if bytes.len() != 16 {

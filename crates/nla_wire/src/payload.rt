@@ -20,7 +20,8 @@ const MOST_VALUE_LEN: usize = 65531;
 #[inline(always)]
 #[tactic(auto, unfolding(crate::specs::Payloads::read_number))]
 pub fn measure_u8(payload: &[u8]) -> Option<usize>
-    ensures { Weighs (λ n. to_le_bytes w8 n) (λ n. length (to_le_bytes w8 n) ≤ most_payload) ((number_of w8).reads payload.now) result }
+    ensures { Weighs (λ n. to_le_bytes w8 n) (λ n. length (to_le_bytes w8 n) ≤ most_payload)
+        ((number_of w8).reads payload.now) result }
 {
     if payload.len() == 1 { Some(1) } else { None }
 }
@@ -29,7 +30,8 @@ pub fn measure_u8(payload: &[u8]) -> Option<usize>
 #[inline(always)]
 #[tactic(auto, unfolding(crate::specs::Payloads::read_number))]
 pub fn measure_u16(payload: &[u8]) -> Option<usize>
-    ensures { Weighs (λ n. to_le_bytes w16 n) (λ n. length (to_le_bytes w16 n) ≤ most_payload) ((number_of w16).reads payload.now) result }
+    ensures { Weighs (λ n. to_le_bytes w16 n) (λ n. length (to_le_bytes w16 n) ≤ most_payload)
+        ((number_of w16).reads payload.now) result }
 {
     if payload.len() == 2 { Some(2) } else { None }
 }
@@ -38,7 +40,8 @@ pub fn measure_u16(payload: &[u8]) -> Option<usize>
 #[inline(always)]
 #[tactic(auto, unfolding(crate::specs::Payloads::read_number))]
 pub fn measure_u32(payload: &[u8]) -> Option<usize>
-    ensures { Weighs (λ n. to_le_bytes w32 n) (λ n. length (to_le_bytes w32 n) ≤ most_payload) ((number_of w32).reads payload.now) result }
+    ensures { Weighs (λ n. to_le_bytes w32 n) (λ n. length (to_le_bytes w32 n) ≤ most_payload)
+        ((number_of w32).reads payload.now) result }
 {
     if payload.len() == 4 { Some(4) } else { None }
 }
@@ -47,7 +50,8 @@ pub fn measure_u32(payload: &[u8]) -> Option<usize>
 #[inline(always)]
 #[tactic(auto, unfolding(crate::specs::Payloads::read_number))]
 pub fn measure_u64(payload: &[u8]) -> Option<usize>
-    ensures { Weighs (λ n. to_le_bytes w64 n) (λ n. length (to_le_bytes w64 n) ≤ most_payload) ((number_of w64).reads payload.now) result }
+    ensures { Weighs (λ n. to_le_bytes w64 n) (λ n. length (to_le_bytes w64 n) ≤ most_payload)
+        ((number_of w64).reads payload.now) result }
 {
     if payload.len() == 8 { Some(8) } else { None }
 }
@@ -56,7 +60,9 @@ pub fn measure_u64(payload: &[u8]) -> Option<usize>
 #[inline(always)]
 #[tactic(auto, unfolding(crate::specs::Payloads::read_number))]
 pub fn measure_i32(payload: &[u8]) -> Option<usize>
-    ensures { Weighs (λ z. to_le_bytes w32 (cast_unsigned w32 z)) (λ z. length (to_le_bytes w32 (cast_unsigned w32 z)) ≤ most_payload) ((signed_of w32).reads payload.now) result }
+    ensures { Weighs (λ z. to_le_bytes w32 (cast_unsigned w32 z))
+        (λ z. length (to_le_bytes w32 (cast_unsigned w32 z)) ≤ most_payload)
+        ((signed_of w32).reads payload.now) result }
 {
     if payload.len() == 4 { Some(4) } else { None }
 }
@@ -65,14 +71,16 @@ pub fn measure_i32(payload: &[u8]) -> Option<usize>
 #[inline(always)]
 #[tactic(auto, unfolding(crate::specs::Payloads::read_exactly))]
 pub fn measure_ipv6_addr(payload: &[u8]) -> Option<usize>
-    ensures { Weighs (λ a. ipv6_octets a) (λ a. length (ipv6_octets a) ≤ most_payload) (ipv6_address.reads payload.now) result }
+    ensures { Weighs (λ a. ipv6_octets a) (λ a. length (ipv6_octets a) ≤ most_payload)
+        (ipv6_address.reads payload.now) result }
 {
     if payload.len() == 16 { Some(16) } else { None }
 }
 
 /// The length of the text that a payload is, with its NUL: `None` where it is not UTF-8, or longer than 65530 bytes.
 pub fn measure_text(payload: &[u8]) -> Option<usize>
-    ensures { Weighs (λ s. s ++ 0 ∷ []) (λ s. length (s ++ 0 ∷ []) ≤ most_payload) (text.reads payload.now) result }
+    ensures { Weighs (λ s. s ++ 0 ∷ []) (λ s. length (s ++ 0 ∷ []) ≤ most_payload)
+        (text.reads payload.now) result }
 {
     let text = text::without_nul(payload);
     if text.len() >= MOST_VALUE_LEN {
@@ -88,8 +96,10 @@ pub fn measure_text(payload: &[u8]) -> Option<usize>
 #[inline(always)]
 pub fn write_text_payload(kind: u16, payload: &[u8], out: &mut [u8]) -> usize
     requires small { length (without_nul payload.now ++ 0 ∷ []) ≤ most_payload }
-    requires room { length (canon (record { kind = kind; payload = without_nul payload.now ++ 0 ∷ [] })) ≤ length out.old }
-    ensures { Writes (canon (record { kind = kind; payload = without_nul payload.now ++ 0 ∷ [] })) out.old out.new result }
+    requires room { length (canon
+        (record { kind = kind; payload = without_nul payload.now ++ 0 ∷ [] })) ≤ length out.old }
+    ensures { Writes (canon (record { kind = kind; payload = without_nul payload.now ++ 0 ∷ [] }))
+        out.old out.new result }
 {
     write_text(kind, text::without_nul(payload), out)
 }
@@ -99,7 +109,9 @@ pub fn write_text_payload(kind: u16, payload: &[u8], out: &mut [u8]) -> usize
 pub fn write_u8_payload(kind: u16, payload: &[u8], out: &mut [u8]) -> usize
     requires exact { length payload.now ≡ 1 }
     requires room { 8 ≤ length out.old }
-    ensures { Writes (canon (record { kind = kind; payload = to_le_bytes w8 (from_le_bytes w8 payload.now) })) out.old out.new result }
+    ensures { Writes
+        (canon (record { kind = kind; payload = to_le_bytes w8 (from_le_bytes w8 payload.now) }))
+        out.old out.new result }
 {
     write_value(kind, &payload[..1], out)
 }
@@ -109,7 +121,9 @@ pub fn write_u8_payload(kind: u16, payload: &[u8], out: &mut [u8]) -> usize
 pub fn write_u16_payload(kind: u16, payload: &[u8], out: &mut [u8]) -> usize
     requires exact { length payload.now ≡ 2 }
     requires room { 8 ≤ length out.old }
-    ensures { Writes (canon (record { kind = kind; payload = to_le_bytes w16 (from_le_bytes w16 payload.now) })) out.old out.new result }
+    ensures { Writes
+        (canon (record { kind = kind; payload = to_le_bytes w16 (from_le_bytes w16 payload.now) }))
+        out.old out.new result }
 {
     write_value(kind, &payload[..2], out)
 }
@@ -119,7 +133,9 @@ pub fn write_u16_payload(kind: u16, payload: &[u8], out: &mut [u8]) -> usize
 pub fn write_u32_payload(kind: u16, payload: &[u8], out: &mut [u8]) -> usize
     requires exact { length payload.now ≡ 4 }
     requires room { 8 ≤ length out.old }
-    ensures { Writes (canon (record { kind = kind; payload = to_le_bytes w32 (from_le_bytes w32 payload.now) })) out.old out.new result }
+    ensures { Writes
+        (canon (record { kind = kind; payload = to_le_bytes w32 (from_le_bytes w32 payload.now) }))
+        out.old out.new result }
 {
     write_value(kind, &payload[..4], out)
 }
@@ -129,7 +145,9 @@ pub fn write_u32_payload(kind: u16, payload: &[u8], out: &mut [u8]) -> usize
 pub fn write_u64_payload(kind: u16, payload: &[u8], out: &mut [u8]) -> usize
     requires exact { length payload.now ≡ 8 }
     requires room { 12 ≤ length out.old }
-    ensures { Writes (canon (record { kind = kind; payload = to_le_bytes w64 (from_le_bytes w64 payload.now) })) out.old out.new result }
+    ensures { Writes
+        (canon (record { kind = kind; payload = to_le_bytes w64 (from_le_bytes w64 payload.now) }))
+        out.old out.new result }
 {
     write_value(kind, &payload[..8], out)
 }
@@ -139,7 +157,11 @@ pub fn write_u64_payload(kind: u16, payload: &[u8], out: &mut [u8]) -> usize
 pub fn write_i32_payload(kind: u16, payload: &[u8], out: &mut [u8]) -> usize
     requires exact { length payload.now ≡ 4 }
     requires room { 8 ≤ length out.old }
-    ensures { Writes (canon (record { kind = kind; payload = to_le_bytes w32 (cast_unsigned w32 (cast_signed w32 (from_le_bytes w32 payload.now))) })) out.old out.new result }
+    ensures { Writes (canon (record {
+      kind = kind;
+      payload =
+          to_le_bytes w32 (cast_unsigned w32 (cast_signed w32 (from_le_bytes w32 payload.now)));
+    })) out.old out.new result }
 {
     write_value(kind, &payload[..4], out)
 }
@@ -149,7 +171,9 @@ pub fn write_i32_payload(kind: u16, payload: &[u8], out: &mut [u8]) -> usize
 pub fn write_ipv6_addr_payload(kind: u16, payload: &[u8], out: &mut [u8]) -> usize
     requires exact { length payload.now ≡ 16 }
     requires room { 20 ≤ length out.old }
-    ensures { Writes (canon (record { kind = kind; payload = ipv6_octets (address_of_octets payload.now) })) out.old out.new result }
+    ensures { Writes
+        (canon (record { kind = kind; payload = ipv6_octets (address_of_octets payload.now) }))
+        out.old out.new result }
 {
     write_value(kind, &payload[..16], out)
 }
@@ -170,8 +194,10 @@ fn write_filled(payload: &[u8], size: usize, out: &mut [u8]) -> usize
 #[inline(always)]
 pub fn write_filled_payload(kind: u16, size: usize, payload: &[u8], out: &mut [u8]) -> usize
     requires small { size ≤ most_payload }
-    requires room { length (canon (record { kind = kind; payload = zero_filled size payload.now })) ≤ length out.old }
-    ensures { Writes (canon (record { kind = kind; payload = zero_filled size payload.now })) out.old out.new result }
+    requires room { length (canon (record { kind = kind; payload = zero_filled size payload.now }))
+        ≤ length out.old }
+    ensures { Writes (canon (record { kind = kind; payload = zero_filled size payload.now }))
+        out.old out.new result }
 {
     if size <= payload.len() {
         return write_value(kind, &payload[..size], out);

@@ -43,28 +43,33 @@ pub trait Place<V: Nla + Drop> {
         values: &mut Vec<V>,
     ) -> Result<(), DecodeError>
         requires { vec_len values.old < vec_capacity values.old }
-        ensures { Adds result ((grammar self.now).reads buffer.now) values.old.items values.new.items };
+        ensures { Adds result
+            ((grammar self.now).reads buffer.now) values.old.items values.new.items };
 
     /// Whether an attribute has a value, with no memory taken: `Ok` where it has, else the cause of the first fault.
     fn check(&self, buffer: &NlaBuffer<'_>) -> Result<(), DecodeError>
         ensures { Checks result ((grammar self.now).reads buffer.now) };
 
-    /// The length of the text of an attribute's value, without header and padding and with no memory taken; `None` where
-    /// the value does not fit, or the attribute is refused.
+    /// The length of the text of an attribute's value, without header and padding and with no memory taken; `None`
+    /// where the value does not fit, or the attribute is refused.
     fn measure(&self, buffer: &NlaBuffer<'_>) -> Option<usize>
-        ensures { Weighs (λ v. (V.frame v).payload) V.fits ((grammar self.now).reads buffer.now) result };
+        ensures { Weighs (λ v. (V.frame v).payload) V.fits
+            ((grammar self.now).reads buffer.now) result };
 
     /// Writes the canonical text of an attribute that was measured to the front of the buffer, and returns its length
     /// with header and padding. The rest of the buffer is kept.
     fn write(&self, buffer: &NlaBuffer<'_>, out: &mut [u8]) -> usize
-        requires { HasRoom (λ v. canon (V.frame v)) V.fits ((grammar self.now).reads buffer.now) (length out.old) }
-        ensures { Rewrites (λ v. canon (V.frame v)) ((grammar self.now).reads buffer.now) out.old out.new result };
+        requires { HasRoom (λ v. canon (V.frame v)) V.fits ((grammar self.now).reads buffer.now)
+            (length out.old) }
+        ensures { Rewrites (λ v. canon (V.frame v))
+            ((grammar self.now).reads buffer.now) out.old out.new result };
 
     ghost agrees: { (place : Self) → Agrees IsFrame (grammar place) };
 
     ghost no_memory: { (place : Self) (f : Frame) → (grammar place).bad f OutOfMemory → ⊥ };
 
-    ghost bounded: { (place : Self) (f : Frame) (v : V) → (grammar place).means f v → length (canon (V.frame v)) ≤ growth * (1 + length f.payload / 4) };
+    ghost bounded: { (place : Self) (f : Frame) (v : V) → (grammar place).means f v
+        → length (canon (V.frame v)) ≤ growth * (1 + length f.payload / 4) };
 }
 
 /// How many frames the bytes begin with: at most one for each four bytes.
@@ -90,7 +95,8 @@ fn add_one<V: Nla + Drop, P: Place<V>>(
     values: &mut Vec<V>,
 ) -> Result<(), DecodeError>
     requires { vec_len values.old < vec_capacity values.old }
-    ensures { Adds result ((P.grammar place.now).reads buffer.now) values.old.items values.new.items }
+    ensures { Adds result
+        ((P.grammar place.now).reads buffer.now) values.old.items values.new.items }
 {
     match place.parse_into(alloc, buffer, values) {
         Ok(()) => Ok(()),
@@ -139,7 +145,8 @@ pub fn parse_members<V: Nla + Drop, P: Place<V>>(
     alloc: Global,
     bytes: &[u8],
 ) -> Result<Vec<V>, DecodeError>
-    ensures reads { MatchResult result (λ v. (list (P.grammar place.now)).reads bytes.now ≡ Ok v.items) (λ e. Fails e.cause ((list (P.grammar place.now)).reads bytes.now)) }
+    ensures reads { MatchResult result (λ v. (list (P.grammar place.now)).reads bytes.now
+        ≡ Ok v.items) (λ e. Fails e.cause ((list (P.grammar place.now)).reads bytes.now)) }
     ensures few { IfOk result (λ v. 4 * length v.items ≤ length bytes.now) }
 {
     let mut values = Vec::with_capacity(alloc, count_frames(bytes))?;
@@ -166,7 +173,8 @@ pub fn check_members<V: Nla + Drop, P: Place<V>>(place: &P, bytes: &[u8]) -> Res
 /// The length of the canonical text of a list's members, with no memory taken; `None` where a member does not fit, or
 /// the list is refused.
 pub fn measure_members<V: Nla + Drop, P: Place<V>>(place: &P, bytes: &[u8]) -> Option<usize>
-    ensures { Weighs (canons V.frame) (AllFit V.fits V.frame) ((list (P.grammar place.now)).reads bytes.now) result }
+    ensures { Weighs (canons V.frame) (AllFit V.fits V.frame)
+        ((list (P.grammar place.now)).reads bytes.now) result }
 {
     let mut len: usize = 0;
     for item in NlasIterator::new(bytes) {
@@ -186,7 +194,8 @@ pub fn measure_members<V: Nla + Drop, P: Place<V>>(place: &P, bytes: &[u8]) -> O
 
 /// The same where the text is to be the value of an attribute: `None` too where it has more than 65531 bytes.
 pub fn measure_nested_members<V: Nla + Drop, P: Place<V>>(place: &P, bytes: &[u8]) -> Option<usize>
-    ensures { Weighs (canons V.frame) (λ vs. (length (canons V.frame vs) ≤ most_payload) × AllFit V.fits V.frame vs) ((list (P.grammar place.now)).reads bytes.now) result }
+    ensures { Weighs (canons V.frame) (λ vs. (length (canons V.frame vs) ≤ most_payload)
+        × AllFit V.fits V.frame vs) ((list (P.grammar place.now)).reads bytes.now) result }
 {
     let Some(len) = measure_members(place, bytes) else {
         return None;
@@ -202,8 +211,10 @@ pub fn measure_nested_members<V: Nla + Drop, P: Place<V>>(place: &P, bytes: &[u8
 ///
 /// The list was measured, and there is room for its text.
 pub fn write_members<V: Nla + Drop, P: Place<V>>(place: &P, bytes: &[u8], out: &mut [u8]) -> usize
-    requires { HasRoom (canons V.frame) (AllFit V.fits V.frame) ((list (P.grammar place.now)).reads bytes.now) (length out.old) }
-    ensures { Rewrites (canons V.frame) ((list (P.grammar place.now)).reads bytes.now) out.old out.new result }
+    requires { HasRoom (canons V.frame) (AllFit V.fits V.frame)
+        ((list (P.grammar place.now)).reads bytes.now) (length out.old) }
+    ensures { Rewrites (canons V.frame)
+        ((list (P.grammar place.now)).reads bytes.now) out.old out.new result }
 {
     let mut at = 0;
     for item in NlasIterator::new(bytes) {
@@ -222,8 +233,11 @@ pub fn write_nested_members<V: Nla + Drop, P: Place<V>>(
     bytes: &[u8],
     out: &mut [u8],
 ) -> usize
-    requires { HasRoom (λ vs. canon (record { kind = kind; payload = canons V.frame vs })) (λ vs. (length (canons V.frame vs) ≤ most_payload) × AllFit V.fits V.frame vs) ((list (P.grammar place.now)).reads bytes.now) (length out.old) }
-    ensures { Rewrites (λ vs. canon (record { kind = kind; payload = canons V.frame vs })) ((list (P.grammar place.now)).reads bytes.now) out.old out.new result }
+    requires { HasRoom (λ vs. canon (record { kind = kind; payload = canons V.frame vs }))
+        (λ vs. (length (canons V.frame vs) ≤ most_payload) × AllFit V.fits V.frame vs)
+        ((list (P.grammar place.now)).reads bytes.now) (length out.old) }
+    ensures { Rewrites (λ vs. canon (record { kind = kind; payload = canons V.frame vs }))
+        ((list (P.grammar place.now)).reads bytes.now) out.old out.new result }
 {
     let len = write_members(place, bytes, &mut out[NLA_HEADER_SIZE..]);
     finish(out, len, kind)
@@ -235,7 +249,8 @@ fn picked_values<V: Nla + Drop, P: Place<V>>(
     alloc: Global,
     bytes: &[u8],
 ) -> Result<Vec<V>, DecodeError>
-    ensures reads { MatchResult result (λ v. (picked (P.grammar place.now)).reads bytes.now ≡ Ok v.items) (λ e. Fails e.cause ((picked (P.grammar place.now)).reads bytes.now)) }
+    ensures reads { MatchResult result (λ v. (picked (P.grammar place.now)).reads bytes.now
+        ≡ Ok v.items) (λ e. Fails e.cause ((picked (P.grammar place.now)).reads bytes.now)) }
     ensures few { IfOk result (λ v. 4 * length v.items ≤ length bytes.now) }
 {
     let mut values = Vec::with_capacity(alloc, count_frames(bytes))?;
@@ -258,9 +273,12 @@ pub fn parse_picked_members<V: Nla + Drop, P: Place<V>>(
     bytes: &[u8],
 ) -> Result<Vec<V>, DecodeError>
     ensures found { IfOk result (λ v. (picked (P.grammar place.now)).means bytes.now v.items) }
-    ensures fault { IfErr result (λ e. e.cause ≢ OutOfMemory → (picked (P.grammar place.now)).bad bytes.now e.cause) }
-    ensures refused { IfErr result (λ e. e.cause ≢ OutOfMemory → (vs : List V) → (picked (P.grammar place.now)).means bytes.now vs → ⊥) }
-    ensures reads { MatchResult result (λ v. (picked (P.grammar place.now)).reads bytes.now ≡ Ok v.items) (λ e. Fails e.cause ((picked (P.grammar place.now)).reads bytes.now)) }
+    ensures fault { IfErr result
+        (λ e. e.cause ≢ OutOfMemory → (picked (P.grammar place.now)).bad bytes.now e.cause) }
+    ensures refused { IfErr result (λ e. e.cause ≢ OutOfMemory → (vs : List V)
+        → (picked (P.grammar place.now)).means bytes.now vs → ⊥) }
+    ensures reads { MatchResult result (λ v. (picked (P.grammar place.now)).reads bytes.now
+        ≡ Ok v.items) (λ e. Fails e.cause ((picked (P.grammar place.now)).reads bytes.now)) }
     ensures few { IfOk result (λ v. 4 * length v.items ≤ length bytes.now) }
 {
     picked_values(place, alloc, bytes)
@@ -287,9 +305,11 @@ pub fn check_picked_members<V: Nla + Drop, P: Place<V>>(
     place: &P,
     bytes: &[u8],
 ) -> Result<(), DecodeError>
-    ensures found { IfOk result (λ _. (vs : List V) × (picked (P.grammar place.now)).means bytes.now vs) }
+    ensures found { IfOk result
+        (λ _. (vs : List V) × (picked (P.grammar place.now)).means bytes.now vs) }
     ensures fault { IfErr result (λ e. (picked (P.grammar place.now)).bad bytes.now e.cause) }
-    ensures refused { IfErr result (λ e. (vs : List V) → (picked (P.grammar place.now)).means bytes.now vs → ⊥) }
+    ensures refused { IfErr result
+        (λ e. (vs : List V) → (picked (P.grammar place.now)).means bytes.now vs → ⊥) }
     ensures memory { IfErr result (λ e. e.cause ≢ OutOfMemory) }
     ensures reads { Checks result ((picked (P.grammar place.now)).reads bytes.now) }
 {
@@ -298,7 +318,8 @@ pub fn check_picked_members<V: Nla + Drop, P: Place<V>>(
 
 /// The length of the canonical text of a list's members with number 1, as `measure_members` does.
 pub fn measure_picked_members<V: Nla + Drop, P: Place<V>>(place: &P, bytes: &[u8]) -> Option<usize>
-    ensures { Weighs (canons V.frame) (AllFit V.fits V.frame) ((picked (P.grammar place.now)).reads bytes.now) result }
+    ensures { Weighs (canons V.frame) (AllFit V.fits V.frame)
+        ((picked (P.grammar place.now)).reads bytes.now) result }
 {
     let mut len: usize = 0;
     for item in NlasIterator::new(bytes) {
@@ -323,7 +344,8 @@ pub fn measure_nested_picked_members<V: Nla + Drop, P: Place<V>>(
     place: &P,
     bytes: &[u8],
 ) -> Option<usize>
-    ensures { Weighs (canons V.frame) (λ vs. (length (canons V.frame vs) ≤ most_payload) × AllFit V.fits V.frame vs) ((picked (P.grammar place.now)).reads bytes.now) result }
+    ensures { Weighs (canons V.frame) (λ vs. (length (canons V.frame vs) ≤ most_payload)
+        × AllFit V.fits V.frame vs) ((picked (P.grammar place.now)).reads bytes.now) result }
 {
     let Some(len) = measure_picked_members(place, bytes) else {
         return None;
@@ -340,8 +362,10 @@ pub fn write_picked_members<V: Nla + Drop, P: Place<V>>(
     bytes: &[u8],
     out: &mut [u8],
 ) -> usize
-    requires { HasRoom (canons V.frame) (AllFit V.fits V.frame) ((picked (P.grammar place.now)).reads bytes.now) (length out.old) }
-    ensures { Rewrites (canons V.frame) ((picked (P.grammar place.now)).reads bytes.now) out.old out.new result }
+    requires { HasRoom (canons V.frame) (AllFit V.fits V.frame)
+        ((picked (P.grammar place.now)).reads bytes.now) (length out.old) }
+    ensures { Rewrites (canons V.frame)
+        ((picked (P.grammar place.now)).reads bytes.now) out.old out.new result }
 {
     let mut at = 0;
     for item in NlasIterator::new(bytes) {
@@ -362,8 +386,11 @@ pub fn write_nested_picked_members<V: Nla + Drop, P: Place<V>>(
     bytes: &[u8],
     out: &mut [u8],
 ) -> usize
-    requires { HasRoom (λ vs. canon (record { kind = kind; payload = canons V.frame vs })) (λ vs. (length (canons V.frame vs) ≤ most_payload) × AllFit V.fits V.frame vs) ((picked (P.grammar place.now)).reads bytes.now) (length out.old) }
-    ensures { Rewrites (λ vs. canon (record { kind = kind; payload = canons V.frame vs })) ((picked (P.grammar place.now)).reads bytes.now) out.old out.new result }
+    requires { HasRoom (λ vs. canon (record { kind = kind; payload = canons V.frame vs }))
+        (λ vs. (length (canons V.frame vs) ≤ most_payload) × AllFit V.fits V.frame vs)
+        ((picked (P.grammar place.now)).reads bytes.now) (length out.old) }
+    ensures { Rewrites (λ vs. canon (record { kind = kind; payload = canons V.frame vs }))
+        ((picked (P.grammar place.now)).reads bytes.now) out.old out.new result }
 {
     let len = write_picked_members(place, bytes, &mut out[NLA_HEADER_SIZE..]);
     finish(out, len, kind)
@@ -388,22 +415,26 @@ pub trait NlaRead: Nla + Drop {
     fn check_frame(buffer: &NlaBuffer<'_>) -> Result<(), DecodeError>
         ensures { Checks result (grammar.reads buffer.now) };
 
-    /// The length of the text of an attribute's value, without header and padding and with no memory taken; `None` where
-    /// the value does not fit, or the attribute is refused.
+    /// The length of the text of an attribute's value, without header and padding and with no memory taken; `None`
+    /// where the value does not fit, or the attribute is refused.
     fn measure_frame(buffer: &NlaBuffer<'_>) -> Option<usize>
-        ensures { Weighs (λ v. (Self.frame v).payload) Self.fits (grammar.reads buffer.now) result };
+        ensures { Weighs (λ v. (Self.frame v).payload) Self.fits
+            (grammar.reads buffer.now) result };
 
     /// Writes the canonical text of an attribute that was measured to the front of the buffer, and returns its length
     /// with header and padding. The rest of the buffer is kept.
     fn write_frame(buffer: &NlaBuffer<'_>, out: &mut [u8]) -> usize
-        requires { HasRoom (λ v. canon (Self.frame v)) Self.fits (grammar.reads buffer.now) (length out.old) }
-        ensures { Rewrites (λ v. canon (Self.frame v)) (grammar.reads buffer.now) out.old out.new result };
+        requires { HasRoom (λ v. canon (Self.frame v)) Self.fits (grammar.reads buffer.now)
+            (length out.old) }
+        ensures { Rewrites (λ v. canon (Self.frame v))
+            (grammar.reads buffer.now) out.old out.new result };
 
     ghost agrees: { Agrees IsFrame grammar };
 
     ghost no_memory: { (f : Frame) → grammar.bad f OutOfMemory → ⊥ };
 
-    ghost bounded: { (f : Frame) (v : Self) → grammar.means f v → length (canon (Self.frame v)) ≤ growth * (1 + length f.payload / 4) };
+    ghost bounded: { (f : Frame) (v : Self) → grammar.means f v
+        → length (canon (Self.frame v)) ≤ growth * (1 + length f.payload / 4) };
 
     /// Reads the value of an attribute.
     ///
@@ -414,7 +445,8 @@ pub trait NlaRead: Nla + Drop {
         Self: Sized,
         ensures found { IfOk result (grammar.means buffer.now) }
         ensures fault { IfErr result (λ e. e.cause ≢ OutOfMemory → grammar.bad buffer.now e.cause) }
-        ensures refused { IfErr result (λ e. e.cause ≢ OutOfMemory → (v : Self) → grammar.means buffer.now v → ⊥) }
+        ensures refused { IfErr result
+            (λ e. e.cause ≢ OutOfMemory → (v : Self) → grammar.means buffer.now v → ⊥) }
         ensures reads { Gives result (grammar.reads buffer.now) }
     {
         buffer.is_frame();
@@ -444,9 +476,12 @@ pub trait NlaRead: Nla + Drop {
     where
         Self: Sized,
         ensures found { IfOk result (λ v. (list grammar).means bytes.now v.items) }
-        ensures fault { IfErr result (λ e. e.cause ≢ OutOfMemory → (list grammar).bad bytes.now e.cause) }
-        ensures refused { IfErr result (λ e. e.cause ≢ OutOfMemory → (vs : List Self) → (list grammar).means bytes.now vs → ⊥) }
-        ensures reads { MatchResult result (λ v. (list grammar).reads bytes.now ≡ Ok v.items) (λ e. Fails e.cause ((list grammar).reads bytes.now)) }
+        ensures fault { IfErr result
+            (λ e. e.cause ≢ OutOfMemory → (list grammar).bad bytes.now e.cause) }
+        ensures refused { IfErr result (λ e. e.cause ≢ OutOfMemory → (vs : List Self)
+            → (list grammar).means bytes.now vs → ⊥) }
+        ensures reads { MatchResult result (λ v. (list grammar).reads bytes.now ≡ Ok v.items)
+            (λ e. Fails e.cause ((list grammar).reads bytes.now)) }
         ensures few { IfOk result (λ v. 4 * length v.items ≤ length bytes.now) }
     {
         parse_members::<Self, OwnPlace>(&OwnPlace, alloc, bytes)
@@ -459,7 +494,8 @@ pub trait NlaRead: Nla + Drop {
         Self: Sized,
         ensures found { IfOk result (λ _. (vs : List Self) × (list grammar).means bytes.now vs) }
         ensures fault { IfErr result (λ e. (list grammar).bad bytes.now e.cause) }
-        ensures refused { IfErr result (λ e. (vs : List Self) → (list grammar).means bytes.now vs → ⊥) }
+        ensures refused { IfErr result
+            (λ e. (vs : List Self) → (list grammar).means bytes.now vs → ⊥) }
         ensures memory { IfErr result (λ e. e.cause ≢ OutOfMemory) }
         ensures reads { Checks result ((list grammar).reads bytes.now) }
     {
@@ -474,8 +510,10 @@ pub trait NlaRead: Nla + Drop {
     final fn canon(buffer: &NlaBuffer<'_>, out: &mut [u8]) -> Option<usize>
     where
         Self: Sized,
-        requires room { RoomWhereFit (λ v. canon (Self.frame v)) Self.fits (grammar.reads buffer.now) (length out.old) }
-        ensures { Canonical (λ v. canon (Self.frame v)) Self.fits (grammar.reads buffer.now) out.old out.new result }
+        requires room { RoomWhereFit (λ v. canon (Self.frame v)) Self.fits
+            (grammar.reads buffer.now) (length out.old) }
+        ensures { Canonical (λ v. canon (Self.frame v)) Self.fits
+            (grammar.reads buffer.now) out.old out.new result }
     {
         let Some(_len) = Self::measure_frame(buffer) else {
             return None;
@@ -488,7 +526,8 @@ pub trait NlaRead: Nla + Drop {
     final fn measure_list(bytes: &[u8]) -> Option<usize>
     where
         Self: Sized,
-        ensures { Weighs (canons Self.frame) (AllFit Self.fits Self.frame) ((list grammar).reads bytes.now) result }
+        ensures { Weighs (canons Self.frame) (AllFit Self.fits Self.frame)
+            ((list grammar).reads bytes.now) result }
     {
         measure_members::<Self, OwnPlace>(&OwnPlace, bytes)
     }
@@ -497,7 +536,8 @@ pub trait NlaRead: Nla + Drop {
     final fn measure_nested(bytes: &[u8]) -> Option<usize>
     where
         Self: Sized,
-        ensures { Weighs (canons Self.frame) (λ vs. (length (canons Self.frame vs) ≤ most_payload) × AllFit Self.fits Self.frame vs) ((list grammar).reads bytes.now) result }
+        ensures { Weighs (canons Self.frame) (λ vs. (length (canons Self.frame vs) ≤ most_payload)
+            × AllFit Self.fits Self.frame vs) ((list grammar).reads bytes.now) result }
     {
         measure_nested_members::<Self, OwnPlace>(&OwnPlace, bytes)
     }
@@ -507,8 +547,11 @@ pub trait NlaRead: Nla + Drop {
     final fn write_nested(kind: u16, bytes: &[u8], out: &mut [u8]) -> usize
     where
         Self: Sized,
-        requires { HasRoom (λ vs. canon (record { kind = kind; payload = canons Self.frame vs })) (λ vs. (length (canons Self.frame vs) ≤ most_payload) × AllFit Self.fits Self.frame vs) ((list grammar).reads bytes.now) (length out.old) }
-        ensures { Rewrites (λ vs. canon (record { kind = kind; payload = canons Self.frame vs })) ((list grammar).reads bytes.now) out.old out.new result }
+        requires { HasRoom (λ vs. canon (record { kind = kind; payload = canons Self.frame vs }))
+            (λ vs. (length (canons Self.frame vs) ≤ most_payload) × AllFit Self.fits Self.frame vs)
+            ((list grammar).reads bytes.now) (length out.old) }
+        ensures { Rewrites (λ vs. canon (record { kind = kind; payload = canons Self.frame vs }))
+            ((list grammar).reads bytes.now) out.old out.new result }
     {
         write_nested_members::<Self, OwnPlace>(&OwnPlace, kind, bytes, out)
     }
@@ -517,7 +560,8 @@ pub trait NlaRead: Nla + Drop {
     final fn measure_some(bytes: &[u8]) -> Option<usize>
     where
         Self: Sized,
-        ensures { Weighs (canons Self.frame) (λ vs. (length (canons Self.frame vs) ≤ most_payload) × AllFit Self.fits Self.frame vs) ((not_empty (list grammar)).reads bytes.now) result }
+        ensures { Weighs (canons Self.frame) (λ vs. (length (canons Self.frame vs) ≤ most_payload)
+            × AllFit Self.fits Self.frame vs) ((not_empty (list grammar)).reads bytes.now) result }
     {
         if bytes.is_empty() {
             return None;
@@ -529,8 +573,11 @@ pub trait NlaRead: Nla + Drop {
     final fn write_some(kind: u16, bytes: &[u8], out: &mut [u8]) -> usize
     where
         Self: Sized,
-        requires { HasRoom (λ vs. canon (record { kind = kind; payload = canons Self.frame vs })) (λ vs. (length (canons Self.frame vs) ≤ most_payload) × AllFit Self.fits Self.frame vs) ((not_empty (list grammar)).reads bytes.now) (length out.old) }
-        ensures { Rewrites (λ vs. canon (record { kind = kind; payload = canons Self.frame vs })) ((not_empty (list grammar)).reads bytes.now) out.old out.new result }
+        requires { HasRoom (λ vs. canon (record { kind = kind; payload = canons Self.frame vs }))
+            (λ vs. (length (canons Self.frame vs) ≤ most_payload) × AllFit Self.fits Self.frame vs)
+            ((not_empty (list grammar)).reads bytes.now) (length out.old) }
+        ensures { Rewrites (λ vs. canon (record { kind = kind; payload = canons Self.frame vs }))
+            ((not_empty (list grammar)).reads bytes.now) out.old out.new result }
     {
         Self::write_nested(kind, bytes, out)
     }
@@ -543,8 +590,10 @@ pub trait NlaRead: Nla + Drop {
     final fn canon_list(bytes: &[u8], out: &mut [u8]) -> Option<usize>
     where
         Self: Sized,
-        requires room { RoomWhereFit (canons Self.frame) (AllFit Self.fits Self.frame) ((list grammar).reads bytes.now) (length out.old) }
-        ensures { Canonical (canons Self.frame) (AllFit Self.fits Self.frame) ((list grammar).reads bytes.now) out.old out.new result }
+        requires room { RoomWhereFit (canons Self.frame) (AllFit Self.fits Self.frame)
+            ((list grammar).reads bytes.now) (length out.old) }
+        ensures { Canonical (canons Self.frame) (AllFit Self.fits Self.frame)
+            ((list grammar).reads bytes.now) out.old out.new result }
     {
         let Some(_len) = Self::measure_list(bytes) else {
             return None;

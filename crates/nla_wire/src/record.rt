@@ -71,7 +71,8 @@ pub trait Record<const SIZE: usize>: Sized {
     #[inline(always)]
     final fn measure_filled(payload: &[u8]) -> Option<usize>
         requires { SIZE ≤ most_payload }
-        ensures { Weighs bytes (λ r. length (bytes r) ≤ most_payload) ((filled of).reads payload.now) result }
+        ensures { Weighs bytes (λ r. length (bytes r) ≤ most_payload)
+            ((filled of).reads payload.now) result }
     {
         Some(SIZE)
     }
@@ -80,7 +81,8 @@ pub trait Record<const SIZE: usize>: Sized {
     #[inline(always)]
     final fn measure_sized(payload: &[u8]) -> Option<usize>
         requires { SIZE ≤ most_payload }
-        ensures { Weighs bytes (λ r. length (bytes r) ≤ most_payload) ((sized SIZE of).reads payload.now) result }
+        ensures { Weighs bytes (λ r. length (bytes r) ≤ most_payload)
+            ((sized SIZE of).reads payload.now) result }
     {
         if payload.len() < SIZE {
             return None;
@@ -105,7 +107,8 @@ pub trait Record<const SIZE: usize>: Sized {
     final fn write_attribute(&self, kind: u16, out: &mut [u8]) -> usize
         requires small { SIZE ≤ most_payload }
         requires room { 4 + SIZE + missing SIZE ≤ length out.old }
-        ensures { Writes (canon (record { kind = kind; payload = bytes self.now })) out.old out.new result }
+        ensures { Writes (canon (record { kind = kind; payload = bytes self.now })) out.old
+            out.new result }
     {
         self.write(&mut out[NLA_HEADER_SIZE..NLA_HEADER_SIZE + SIZE]);
         finish(out, SIZE, kind)
@@ -119,8 +122,10 @@ pub trait Record<const SIZE: usize>: Sized {
         Self: Drop,
         requires small { SIZE ≤ most_payload }
         requires whole { SIZE ≤ length payload.now }
-        requires room { length (canon (record { kind = kind; payload = bytes (of payload.now) })) ≤ length out.old }
-        ensures { Writes (canon (record { kind = kind; payload = bytes (of payload.now) })) out.old out.new result }
+        requires room { length (canon (record { kind = kind; payload = bytes (of payload.now) }))
+            ≤ length out.old }
+        ensures { Writes (canon (record { kind = kind; payload = bytes (of payload.now) })) out.old
+            out.new result }
     {
         let value = Self::read_front(payload);
         value.write_attribute(kind, out)
@@ -138,8 +143,11 @@ pub trait PlainRecord<const SIZE: usize>: Record<SIZE> {
     #[tactic(auto, using(crate::proofs::Front::all_bytes))]
     final fn write_filled(kind: u16, payload: &[u8], out: &mut [u8]) -> usize
         requires small { SIZE ≤ most_payload }
-        requires room { length (canon (record { kind = kind; payload = Self.bytes (Self.of payload.now) })) ≤ length out.old }
-        ensures { Writes (canon (record { kind = kind; payload = Self.bytes (Self.of payload.now) })) out.old out.new result }
+        requires room { length (canon
+            (record { kind = kind; payload = Self.bytes (Self.of payload.now) })) ≤ length out.old }
+        ensures { Writes
+            (canon (record { kind = kind; payload = Self.bytes (Self.of payload.now) })) out.old
+            out.new result }
     {
         write_filled_payload(kind, SIZE, payload, out)
     }

@@ -44,7 +44,8 @@ fn highest(bytes: &[u8]) -> u8
 /// The bytes as a text, where they are UTF-8. Most texts are ASCII, which the highest byte tells.
 #[inline(always)]
 pub(crate) fn utf8(bytes: &[u8]) -> Option<&str>
-    ensures { MatchOption result (IsUtf8 bytes.now → ⊥) (λ s. (s.now ≡ bytes.now) × IsUtf8 bytes.now) }
+    ensures { MatchOption result (IsUtf8 bytes.now → ⊥)
+        (λ s. (s.now ≡ bytes.now) × IsUtf8 bytes.now) }
 {
     if highest(bytes) < 128 {
         // SAFETY: bytes below 128 are ASCII.

@@ -226,7 +226,8 @@ impl<T> List<T> {
 
     /// The values, to be changed in place.
     pub fn as_mut_slice(&mut self) -> &mut [T]
-        ensures* writes_back { sem 𝓛 (Lends (the_row T.row) (Array T.row 0) self.entry result (overwritten self.old)) }
+        ensures* writes_back { sem 𝓛
+            (Lends (the_row T.row) (Array T.row 0) self.entry result (overwritten self.old)) }
         ensures value { result.now ≡ self.old }
     {
         self.vec.as_mut_slice()

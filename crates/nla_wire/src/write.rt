@@ -54,7 +54,8 @@ fn clear(padding: &mut [u8])
 pub fn finish(out: &mut [u8], len: usize, kind: u16) -> usize
     requires small { len ≤ most_payload }
     requires room { 4 + len + missing len ≤ length out.old }
-    ensures { Writes (canon (record { kind = kind; payload = take len (drop 4 out.old) })) out.old out.new result }
+    ensures { Writes (canon (record { kind = kind; payload = take len (drop 4 out.old) })) out.old
+        out.new result }
 {
     let end = NLA_HEADER_SIZE + len;
     let padded = (end + 3) / 4 * 4;
@@ -100,8 +101,10 @@ fn write_terminated(bytes: &[u8], out: &mut [u8]) -> usize
 #[inline(always)]
 pub fn write_text(kind: u16, text: &[u8], out: &mut [u8]) -> usize
     requires small { length (text.now ++ 0 ∷ []) ≤ most_payload }
-    requires room { length (canon (record { kind = kind; payload = text.now ++ 0 ∷ [] })) ≤ length out.old }
-    ensures { Writes (canon (record { kind = kind; payload = text.now ++ 0 ∷ [] })) out.old out.new result }
+    requires room { length (canon (record { kind = kind; payload = text.now ++ 0 ∷ [] }))
+        ≤ length out.old }
+    ensures { Writes (canon (record { kind = kind; payload = text.now ++ 0 ∷ [] })) out.old
+        out.new result }
 {
     let len = write_terminated(text, &mut out[NLA_HEADER_SIZE..]);
     finish(out, len, kind)
@@ -111,7 +114,8 @@ pub fn write_text(kind: u16, text: &[u8], out: &mut [u8]) -> usize
 #[inline(always)]
 pub fn write_u8(kind: u16, value: u8, out: &mut [u8]) -> usize
     requires { 8 ≤ length out.old }
-    ensures { Writes (canon (record { kind = kind; payload = to_le_bytes w8 value })) out.old out.new result }
+    ensures { Writes (canon (record { kind = kind; payload = to_le_bytes w8 value })) out.old
+        out.new result }
 {
     write_value(kind, &[value], out)
 }
@@ -120,7 +124,8 @@ pub fn write_u8(kind: u16, value: u8, out: &mut [u8]) -> usize
 #[inline(always)]
 pub fn write_u16(kind: u16, value: u16, out: &mut [u8]) -> usize
     requires { 8 ≤ length out.old }
-    ensures { Writes (canon (record { kind = kind; payload = to_le_bytes w16 value })) out.old out.new result }
+    ensures { Writes (canon (record { kind = kind; payload = to_le_bytes w16 value })) out.old
+        out.new result }
 {
     write_value(kind, &value.to_le_bytes(), out)
 }
@@ -129,7 +134,8 @@ pub fn write_u16(kind: u16, value: u16, out: &mut [u8]) -> usize
 #[inline(always)]
 pub fn write_u32(kind: u16, value: u32, out: &mut [u8]) -> usize
     requires { 8 ≤ length out.old }
-    ensures { Writes (canon (record { kind = kind; payload = to_le_bytes w32 value })) out.old out.new result }
+    ensures { Writes (canon (record { kind = kind; payload = to_le_bytes w32 value })) out.old
+        out.new result }
 {
     write_value(kind, &value.to_le_bytes(), out)
 }
@@ -138,7 +144,8 @@ pub fn write_u32(kind: u16, value: u32, out: &mut [u8]) -> usize
 #[inline(always)]
 pub fn write_u64(kind: u16, value: u64, out: &mut [u8]) -> usize
     requires { 12 ≤ length out.old }
-    ensures { Writes (canon (record { kind = kind; payload = to_le_bytes w64 value })) out.old out.new result }
+    ensures { Writes (canon (record { kind = kind; payload = to_le_bytes w64 value })) out.old
+        out.new result }
 {
     write_value(kind, &value.to_le_bytes(), out)
 }
@@ -147,7 +154,9 @@ pub fn write_u64(kind: u16, value: u64, out: &mut [u8]) -> usize
 #[inline(always)]
 pub fn write_i32(kind: u16, value: i32, out: &mut [u8]) -> usize
     requires { 8 ≤ length out.old }
-    ensures { Writes (canon (record { kind = kind; payload = to_le_bytes w32 (cast_unsigned w32 value) })) out.old out.new result }
+    ensures { Writes
+        (canon (record { kind = kind; payload = to_le_bytes w32 (cast_unsigned w32 value) }))
+        out.old out.new result }
 {
     write_value(kind, &value.to_le_bytes(), out)
 }

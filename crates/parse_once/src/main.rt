@@ -1,5 +1,5 @@
-//! Reads one message from standard input, with one read, and says what `LinkMessage::parse` returns of it, and then what
-//! `canonical` does.
+//! Reads one message from standard input, with one read, and says what `LinkMessage::parse` returns of it, and then
+//! what `canonical` does.
 #![tactic(auto)]
 
 use link_msg::{CanonError, LinkMessage, canonical};

@@ -1,5 +1,6 @@
 -- What is printed stays on its line.
-use Rattle.std.proofs.Common.{◌≡◌, ℕ, ℤ, pos, negsuc, zero, suc, ◌+◌, ◌/◌, ◌%◌, ◌^◌, ◌<◌, ◌≤◌, ◌==◌, ◌||◌, Bool, true, false, cond, List, [], ◌∷◌, ◌++◌, length, get_or, decimal, refl, sym, ap, subst, arith}
+use Rattle.std.proofs.Common.{◌≡◌, ℕ, ℤ, pos, negsuc, zero, suc, ◌+◌, ◌/◌, ◌%◌, ◌^◌, ◌<◌, ◌≤◌, ◌==◌, ◌||◌, Bool, true}
+use Rattle.std.proofs.Common.{false, cond, List, [], ◌∷◌, ◌++◌, length, get_or, decimal, refl, sym, ap, subst, arith}
 use Rattle.std.specs.Prelude.{nat_lt, flat_map}
 use Rattle.std.specs.List.{All}
 use Rattle.std.specs.Fmt.{signed_decimal}
@@ -9,7 +10,8 @@ use Rattle.std.proofs.lemmas.Bool.Decides.{nat_tests}
 use Rattle.std.proofs.lemmas.List.Elements.{All-nil, All-cons, All-head, All-tail, All-append, All-from_get_or}
 use Rattle.std.proofs.lemmas.Fmt.{decimal_is_IsNumeral, decimal_digit}
 use Rattle.std.proofs.lemmas.Str.Parse.{digit_at}
-use Rattle.json.specs.Token.{Token, begin_object, end_object, begin_array, end_array, key, string, number, boolean, null, bad}
+use Rattle.json.specs.Token.{Token, begin_object, end_object, begin_array, end_array, key, string, number, boolean}
+use Rattle.json.specs.Token.{null, bad}
 use Rattle.json.specs.Print.{escape_letter, escape_byte, escape, quoted, token_text, ends, separator, print_from}
 use Rattle.shown.specs.Pages.{IsOneLine, IsPlain}
 
@@ -35,9 +37,10 @@ not_below x h = grind (arith, nat_tests)
 
 unicode_on_line : (x : ℕ) → IsOneLine (92 ∷ 117 ∷ 48 ∷ 48 ∷ digit_char (x / 16) ∷ digit_char (x % 16) ∷ [])
 unicode_on_line x =
-    All-append (λ y. 32 ≤ y) (92 ∷ 117 ∷ []) (48 ∷ 48 ∷ digit_char (x / 16) ∷ digit_char (x % 16) ∷ []) (two 92 117 (omega arith) (omega arith))
-    (All-append (λ y. 32 ≤ y) (48 ∷ 48 ∷ []) (digit_char (x / 16) ∷ digit_char (x % 16) ∷ []) (two 48 48 (omega arith) (omega arith))
-    (two _ _ (digit_on_line (x / 16)) (digit_on_line (x % 16))))
+    All-append (λ y. 32 ≤ y)
+    (92 ∷ 117 ∷ []) (48 ∷ 48 ∷ digit_char (x / 16) ∷ digit_char (x % 16) ∷ []) (two 92 117 (omega arith) (omega arith))
+    (All-append (λ y. 32 ≤ y) (48 ∷ 48 ∷ []) (digit_char (x / 16) ∷ digit_char (x % 16) ∷ [])
+    (two 48 48 (omega arith) (omega arith)) (two _ _ (digit_on_line (x / 16)) (digit_on_line (x % 16))))
 
 byte_on_line : (x : ℕ) → IsOneLine (escape_byte x)
 unfolding escape_byte
@@ -50,18 +53,21 @@ text_on_line [] = All-nil (λ y. 32 ≤ y)
 text_on_line (x ∷ s) = All-append (λ y. 32 ≤ y) (escape_byte x) (escape s) (byte_on_line x) (text_on_line s)
 
 quoted_on_line : (s : List ℕ) → IsOneLine (quoted s)
-quoted_on_line s = All-cons (λ y. 32 ≤ y) 34 (escape s ++ 34 ∷ []) (omega arith) (All-append (λ y. 32 ≤ y) (escape s) (34 ∷ []) (text_on_line s) (one 34 (omega arith)))
+quoted_on_line s = All-cons (λ y. 32 ≤ y) 34 (escape s ++ 34 ∷ []) (omega arith)
+    (All-append (λ y. 32 ≤ y) (escape s) (34 ∷ []) (text_on_line s) (one 34 (omega arith)))
 
 -- ** numbers
 pub decimal_on_line : (n : ℕ) → n < 2 ^ 64 → IsOneLine (decimal n)
-decimal_on_line zero h = subst (λ (t : List ℕ). IsOneLine t) (sym (decimal_digit 0 (omega arith))) (one 48 (omega arith))
+decimal_on_line zero h =
+    subst (λ (t : List ℕ). IsOneLine t) (sym (decimal_digit 0 (omega arith))) (one 48 (omega arith))
 decimal_on_line (suc n) h =
     All-from_get_or (λ x. 32 ≤ x) (decimal (suc n)) 0 (λ i l.
     let d = digit_at (decimal (suc n)) i (decimal_is_IsNumeral (suc n) h).0.1 l in omega (arith, d.0))
 
 pub signed_on_line : (z : ℤ) → mag z < 2 ^ 63 → IsOneLine (signed_decimal z)
 signed_on_line (pos n) h = decimal_on_line n (omega arith)
-signed_on_line (negsuc n) h = All-cons (λ x. 32 ≤ x) 45 (decimal (suc n)) (omega arith) (decimal_on_line (suc n) (omega arith))
+signed_on_line (negsuc n) h =
+    All-cons (λ x. 32 ≤ x) 45 (decimal (suc n)) (omega arith) (decimal_on_line (suc n) (omega arith))
 
 -- ** tokens
 token_on_line : (t : Token) → IsPlain t → IsOneLine (token_text t)
@@ -72,9 +78,13 @@ token_on_line end_array h = one 93 (omega arith)
 token_on_line (key s) h = All-append (λ x. 32 ≤ x) (quoted s) (58 ∷ []) (quoted_on_line s) (one 58 (omega arith))
 token_on_line (string s) h = quoted_on_line s
 token_on_line (number s) h = h
-token_on_line (boolean true) h = All-append (λ x. 32 ≤ x) (116 ∷ 114 ∷ []) (117 ∷ 101 ∷ []) (two 116 114 (omega arith) (omega arith)) (two 117 101 (omega arith) (omega arith))
-token_on_line (boolean false) h = All-cons (λ x. 32 ≤ x) 102 (97 ∷ 108 ∷ 115 ∷ 101 ∷ []) (omega arith) (All-append (λ x. 32 ≤ x) (97 ∷ 108 ∷ []) (115 ∷ 101 ∷ []) (two 97 108 (omega arith) (omega arith)) (two 115 101 (omega arith) (omega arith)))
-token_on_line null h = All-append (λ x. 32 ≤ x) (110 ∷ 117 ∷ []) (108 ∷ 108 ∷ []) (two 110 117 (omega arith) (omega arith)) (two 108 108 (omega arith) (omega arith))
+token_on_line (boolean true) h = All-append (λ x. 32 ≤ x) (116 ∷ 114 ∷ []) (117 ∷ 101 ∷ [])
+    (two 116 114 (omega arith) (omega arith)) (two 117 101 (omega arith) (omega arith))
+token_on_line (boolean false) h = All-cons (λ x. 32 ≤ x) 102 (97 ∷ 108 ∷ 115 ∷ 101 ∷ []) (omega arith)
+    (All-append (λ x. 32 ≤ x) (97 ∷ 108 ∷ []) (115 ∷ 101 ∷ []) (two 97 108 (omega arith) (omega arith))
+    (two 115 101 (omega arith) (omega arith)))
+token_on_line null h = All-append (λ x. 32 ≤ x) (110 ∷ 117 ∷ []) (108 ∷ 108 ∷ [])
+    (two 110 117 (omega arith) (omega arith)) (two 108 108 (omega arith) (omega arith))
 token_on_line bad h = All-nil (λ y. 32 ≤ y)
 
 comma_on_line : (b : Bool) → IsOneLine (cond b (44 ∷ []) [])
@@ -86,4 +96,5 @@ unfolding print_from
 print_on_line c [] h = All-nil (λ y. 32 ≤ y)
 print_on_line c (t ∷ ts) h =
     All-append (λ x. 32 ≤ x) (separator c t) (token_text t ++ print_from (ends t) ts) (comma_on_line _)
-    (All-append (λ x. 32 ≤ x) (token_text t) (print_from (ends t) ts) (token_on_line t (All-head IsPlain t ts h)) (print_on_line (ends t) ts (All-tail IsPlain t ts h)))
+    (All-append (λ x. 32 ≤ x) (token_text t) (print_from (ends t) ts) (token_on_line t (All-head IsPlain t ts h))
+    (print_on_line (ends t) ts (All-tail IsPlain t ts h)))

@@ -1,6 +1,7 @@
 -- Which tokens are one JSON value: the objects and lists that are open, innermost first.
 use Rattle.std.specs.Prelude.{◌≡◌, List, [], ◌∷◌, Option, Some, None, option_and_then}
-use Rattle.json.specs.Token.{Token, begin_object, end_object, begin_array, end_array, key, string, number, boolean, null, bad}
+use Rattle.json.specs.Token.{Token, begin_object, end_object, begin_array, end_array, key, string, number, boolean}
+use Rattle.json.specs.Token.{null, bad}
 use Rattle.shown.specs.declared.page.Nest.{Nest}
 use Rattle.shown.specs.declared.page.Nest.TheVariants.{Object, List as Items}
 

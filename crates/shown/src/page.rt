@@ -136,7 +136,8 @@ impl Page {
 
     /// Adds a number that may be below zero.
     pub fn signed(&mut self, name: &str, value: i64) -> Result<(), AllocError>
-        ensures { OnOk result (AddsValue name.now (number (signed_decimal value)) self.old self.new) }
+        ensures { OnOk result
+            (AddsValue name.now (number (signed_decimal value)) self.old self.new) }
     {
         if !self.whole {
             return Err(AllocError);
@@ -270,7 +271,8 @@ impl Page {
         text: &str,
         out: &mut Vec<u8>,
     ) -> Result<(), AllocError>
-        ensures { OnOk result (AddsObject (begin_object ∷ key name.now ∷ string text.now ∷ []) out.old.items out.new.items) }
+        ensures { OnOk result (AddsObject (begin_object ∷ key name.now ∷ string text.now ∷ [])
+            out.old.items out.new.items) }
     {
         let mut head = Writer::new(Vec::new(self.alloc));
         head.begin_object()?;
@@ -286,7 +288,9 @@ impl Page {
         value: u64,
         out: &mut Vec<u8>,
     ) -> Result<(), AllocError>
-        ensures { OnOk result (AddsObject (begin_object ∷ key name.now ∷ number (decimal value) ∷ []) out.old.items out.new.items) }
+        ensures { OnOk result
+            (AddsObject (begin_object ∷ key name.now ∷ number (decimal value) ∷ []) out.old.items
+            out.new.items) }
     {
         let mut head = Writer::new(Vec::new(self.alloc));
         head.begin_object()?;

@@ -24,13 +24,16 @@ loop-end-preserved g c =
 
 pub returns-in_err-extend_from_slice-clause-err : goal.returns-in_err-extend_from_slice-clause-err
 returns-in_err-extend_from_slice-clause-err g c =
-    let p = err_from_is_err_and c.from_residual-in_err-extend_from_slice.result c.from_residual-in_err-extend_from_slice.ensures.1 in
+    let p = err_from_is_err_and c.from_residual-in_err-extend_from_slice.result
+    c.from_residual-in_err-extend_from_slice.ensures.1 in
     rw (p.1, p.2) (Going-stops_here _ g.met.A.Answer.has _ _ _ _ _ _ c.loop-end.invariant)
 
 pub returns-clause-ok : goal.returns-clause-ok
 returns-clause-ok g c =
     rw c.in_ok-extend_from_slice.ensures.items
-    (on_ok_weaker c.write_all.result (λ s. Going-ends _ _ _ _ _ _ _ _ c.loop-end.invariant c.in_default.ensures s) c.write_all.ensures.ok)
+    (on_ok_weaker c.write_all.result
+    (λ s. Going-ends _ _ _ _ _ _ _ _ c.loop-end.invariant c.in_default.ensures s) c.write_all.ensures.ok)
 
 pub returns-clause-err : goal.returns-clause-err
-returns-clause-err g c = IfErr-weaker c.write_all.result _ _ (λ e s. Going-stops _ g.met.A.Answer.has e _ _ _ _ _ _ _ c.loop-end.invariant s) c.write_all.ensures.err
+returns-clause-err g c = IfErr-weaker c.write_all.result _ _
+    (λ e s. Going-stops _ g.met.A.Answer.has e _ _ _ _ _ _ _ c.loop-end.invariant s) c.write_all.ensures.err

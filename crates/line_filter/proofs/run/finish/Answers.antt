@@ -13,10 +13,12 @@ pub returns-clause-ok : goal.returns-clause-ok
 returns-clause-ok g c =
     let some : 0 < length c.args.held.now.items = grind (arith, nat_tests) in
     let added = rw c.requires.none at c.in_ok-end_line.ensures.answer in
-    on_ok_weaker c.write_all.result (λ s. (_, s, AreAnswers-last _ _ _ some c.requires.held added)) c.write_all.ensures.ok
+    on_ok_weaker c.write_all.result
+    (λ s. (_, s, AreAnswers-last _ _ _ some c.requires.held added)) c.write_all.ensures.ok
 
 pub returns-clause-err : goal.returns-clause-err
 returns-clause-err g c =
     let some : 0 < length c.args.held.now.items = grind (arith, nat_tests) in
     let added = rw c.requires.none at c.in_ok-end_line.ensures.answer in
-    IfErr-weaker c.write_all.result _ _ (λ e s. FinishedSome-short _ e _ _ c.args.held.now.items _ (AreAnswers-last _ _ _ some c.requires.held added) s) c.write_all.ensures.err
+    IfErr-weaker c.write_all.result _ _ (λ e s. FinishedSome-short _ e _ _ c.args.held.now.items _
+    (AreAnswers-last _ _ _ some c.requires.held added) s) c.write_all.ensures.err

@@ -15,7 +15,8 @@ returns-clause-inet_zeros c kind p zeros v is = rw is (filled_zeros inet.DevConf
 
 pub returns-clause-inet_longer : goal.returns-clause-inet_longer
 unfolding af_spec_inet_place
-returns-clause-inet_longer c kind p more v is long = rw is (filled_longer inet.DevConf inet_dev_conf_laws.laws p more long v)
+returns-clause-inet_longer c kind p more v is long =
+    rw is (filled_longer inet.DevConf inet_dev_conf_laws.laws p more long v)
 
 pub returns-clause-inet6_zeros : goal.returns-clause-inet6_zeros
 unfolding af_spec_inet6_place
@@ -23,7 +24,8 @@ returns-clause-inet6_zeros c kind p zeros v is = rw is (filled_zeros inet6.DevCo
 
 pub returns-clause-inet6_longer : goal.returns-clause-inet6_longer
 unfolding af_spec_inet6_place
-returns-clause-inet6_longer c kind p more v is long = rw is (filled_longer inet6.DevConf inet6_dev_conf_laws.laws p more long v)
+returns-clause-inet6_longer c kind p more v is long =
+    rw is (filled_longer inet6.DevConf inet6_dev_conf_laws.laws p more long v)
 
 pub returns-clause-stats_zeros : goal.returns-clause-stats_zeros
 unfolding af_spec_inet6_place
@@ -31,11 +33,13 @@ returns-clause-stats_zeros c kind p zeros v is = rw is (filled_zeros inet6.Stats
 
 pub returns-clause-stats_longer : goal.returns-clause-stats_longer
 unfolding af_spec_inet6_place
-returns-clause-stats_longer c kind p more v is long = rw is (filled_longer inet6.Stats inet6_stats_laws.laws p more long v)
+returns-clause-stats_longer c kind p more v is long =
+    rw is (filled_longer inet6.Stats inet6_stats_laws.laws p more long v)
 
 pub returns-clause-cache_longer : goal.returns-clause-cache_longer
 unfolding af_spec_inet6_place
-returns-clause-cache_longer c kind p more v is long = rw is (sized_longer inet6.CacheInfo inet6_cache_info_laws.laws p more long v)
+returns-clause-cache_longer c kind p more v is long =
+    rw is (sized_longer inet6.CacheInfo inet6_cache_info_laws.laws p more long v)
 
 pub returns-clause-icmp_zeros : goal.returns-clause-icmp_zeros
 unfolding af_spec_inet6_place
@@ -43,4 +47,5 @@ returns-clause-icmp_zeros c kind p zeros v is = rw is (filled_zeros inet6.Icmp6S
 
 pub returns-clause-icmp_longer : goal.returns-clause-icmp_longer
 unfolding af_spec_inet6_place
-returns-clause-icmp_longer c kind p more v is long = rw is (filled_longer inet6.Icmp6Stats icmp6_stats_laws.laws p more long v)
+returns-clause-icmp_longer c kind p more v is long =
+    rw is (filled_longer inet6.Icmp6Stats icmp6_stats_laws.laws p more long v)

@@ -16,7 +16,8 @@ nothing_filled old = (omega arith, sym (append-nil (take (length old) old) ∙ t
 pub loop-number-init : goal.loop-number-init
 loop-number-init c = record {
   in_range = lit≤ tt;
-  filled = subst (λ text. Filled c.args.buffer.now c.args.buffer.now text (length c.args.buffer.now)) (sym (request_end c.args.conf.now)) (nothing_filled c.args.buffer.now);
+  filled = subst (λ text. Filled c.args.buffer.now c.args.buffer.now text (length c.args.buffer.now))
+      (sym (request_end c.args.conf.now)) (nothing_filled c.args.buffer.now);
 }
 
 pub fill_setting-start-requires : goal.fill_setting-start-requires
@@ -26,7 +27,8 @@ fill_setting-start-requires c =
     let fits : SFits w32 c.setting.result = search rules in
     let is = to_z-of_z w32 c.setting.result fits ∙ c.setting.ensures in
     let from = request_from conf c.loop-number.number z c.loop-number-test.true c.loop-number.invariant.in_range is in
-    let within : c.loop-number.start ≤ length c.loop-number.buffer = omega (arith, c.loop-number.invariant.filled.0, c.loop-number.auto.buffer) in
+    let within : c.loop-number.start ≤ length c.loop-number.buffer =
+    omega (arith, c.loop-number.invariant.filled.0, c.loop-number.auto.buffer) in
     omega (
       arith,
       ap length from,
@@ -34,7 +36,8 @@ fill_setting-start-requires c =
       c.requires,
       request_behind conf (c.loop-number.number - 1),
       length-take-le c.loop-number.start c.loop-number.buffer within,
-      length-append (setting_text (record { number = c.loop-number.number; value = z })) (settings_text (drop c.loop-number.number (settings_of conf))),
+      length-append (setting_text (record { number = c.loop-number.number; value = z }))
+          (settings_text (drop c.loop-number.number (settings_of conf))),
     )
 
 pub loop-number-preserved : goal.loop-number-preserved
@@ -46,9 +49,10 @@ loop-number-preserved c =
     let is = to_z-of_z w32 c.setting.result fits ∙ c.setting.ensures in
     let from = request_from conf c.loop-number.number z c.loop-number-test.true c.loop-number.invariant.in_range is in
     let now : List ℕ = c.fill_setting-start.new.buffer ++ drop c.loop-number.start c.loop-number.buffer in
-    let more = Filled-more old c.loop-number.buffer now c.fill_setting-start.new.buffer (settings_text (drop c.loop-number.number (settings_of conf)))
-    (setting_text (record { number = c.loop-number.number; value = z })) c.fill_setting-start.result c.loop-number.start c.loop-number.start
-    c.loop-number.invariant.filled c.fill_setting-start.ensures refl refl in
+    let more = Filled-more old c.loop-number.buffer now c.fill_setting-start.new.buffer
+    (settings_text (drop c.loop-number.number (settings_of conf)))
+    (setting_text (record { number = c.loop-number.number; value = z })) c.fill_setting-start.result c.loop-number.start
+    c.loop-number.start c.loop-number.invariant.filled c.fill_setting-start.ensures refl refl in
     record {
       in_range = omega (arith, c.loop-number.invariant.in_range);
       filled = subst (λ text. Filled old now text c.fill_setting-start.result) (sym from) more;

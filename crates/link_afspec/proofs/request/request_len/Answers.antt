@@ -11,7 +11,8 @@ pub loop-number-init : goal.loop-number-init
 loop-number-init c = omega (arith, ap length (request_whole c.args.conf.now))
 
 pub overflow_add-len : goal.overflow_add-len
-overflow_add-len c = omega (arith, c.loop-number.invariant, request_bound c.args.conf.now, c.setting_len-len.ensures.short)
+overflow_add-len c =
+    omega (arith, c.loop-number.invariant, request_bound c.args.conf.now, c.setting_len-len.ensures.short)
 
 pub loop-number-preserved : goal.loop-number-preserved
 loop-number-preserved c =
@@ -19,7 +20,8 @@ loop-number-preserved c =
     let z : ℤ = to_z w32 (of_z w32 c.setting.result) in
     let fits : SFits w32 c.setting.result = search rules in
     let is = to_z-of_z w32 c.setting.result fits ∙ c.setting.ensures in
-    let from = request_from conf c.loop-number.number z c.loop-number.auto.number (omega (arith, c.loop-number-test.true)) is in
+    let from =
+    request_from conf c.loop-number.number z c.loop-number.auto.number (omega (arith, c.loop-number-test.true)) is in
     let next : c.loop-number.number + 1 - 1 ≡ c.loop-number.number = omega arith in
     omega (
       arith,
@@ -27,10 +29,17 @@ loop-number-preserved c =
       c.setting_len-len.ensures.text,
       ap length from,
       ap (λ i. length (settings_text (drop i (settings_of conf)))) next,
-      length-append (setting_text (record { number = c.loop-number.number; value = z })) (settings_text (drop c.loop-number.number (settings_of conf))),
+      length-append (setting_text (record { number = c.loop-number.number; value = z }))
+          (settings_text (drop c.loop-number.number (settings_of conf))),
     )
 
 pub returns : goal.returns
 returns c =
-    let last : c.loop-number.number - 1 ≡ INET_DEV_CONF_COUNT = omega (arith, c.loop-number-test.false, c.loop-number.auto.number-end) in
-    omega (arith, c.loop-number.invariant, ap (λ i. length (settings_text (drop i (settings_of c.args.conf.now)))) last, ap length (request_end c.args.conf.now))
+    let last : c.loop-number.number - 1 ≡ INET_DEV_CONF_COUNT =
+    omega (arith, c.loop-number-test.false, c.loop-number.auto.number-end) in
+    omega (
+      arith,
+      c.loop-number.invariant,
+      ap (λ i. length (settings_text (drop i (settings_of c.args.conf.now)))) last,
+      ap length (request_end c.args.conf.now),
+    )

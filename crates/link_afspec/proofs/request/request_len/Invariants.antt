@@ -3,4 +3,5 @@ use Rattle.link_afspec.specs.Requests.{settings_of, settings_text, request_text}
 use Rattle.link_afspec.proofs.request.request_len.Given as goal
 
 abbrev pub invariant-loop-number : goal.invariant-loop-number
-invariant-loop-number l = l.len + length (settings_text (drop (l.number - 1) (settings_of l.conf))) ≡ length (request_text l.conf)
+invariant-loop-number l =
+    l.len + length (settings_text (drop (l.number - 1) (settings_of l.conf))) ≡ length (request_text l.conf)

@@ -2,4 +2,11 @@ use Rattle.link_msg.proofs.Writing.{measured_message, measured_accepted, measure
 use Rattle.link_msg.proofs.canonical_text.canonical_len.Goals as goal
 
 pub returns : goal.returns
-returns c = (measured_message c.args.input.now c.in_ok-_header._header c.in_ok-_header._rest.now c.in_ok-_header.len c.in_ok-_header.ensures.ok, measured_accepted c.args.input.now c.in_ok-_header._header c.in_ok-_header._rest.now c.in_ok-_header.len c.in_ok-_header.ensures.ok, measured_length c.args.input.now c.in_ok-_header._header c.in_ok-_header._rest.now c.in_ok-_header.len c.in_ok-_header.ensures.ok)
+returns c = (
+  measured_message c.args.input.now c.in_ok-_header._header c.in_ok-_header._rest.now c.in_ok-_header.len
+      c.in_ok-_header.ensures.ok,
+  measured_accepted c.args.input.now c.in_ok-_header._header c.in_ok-_header._rest.now c.in_ok-_header.len
+      c.in_ok-_header.ensures.ok,
+  measured_length c.args.input.now c.in_ok-_header._header c.in_ok-_header._rest.now c.in_ok-_header.len
+      c.in_ok-_header.ensures.ok,
+)

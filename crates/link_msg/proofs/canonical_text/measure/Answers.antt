@@ -7,28 +7,47 @@ use Rattle.link_msg.proofs.canonical_text.measure.Goals as goal
 
 pub returns-in_err-check_list_with_param-clause-err : goal.returns-in_err-check_list_with_param-clause-err
 returns-in_err-check_list_with_param-clause-err c =
-    let p = err_from_is_err_and c.from_residual-in_err-check_list_with_param.result c.from_residual-in_err-check_list_with_param.ensures.1 in
+    let p = err_from_is_err_and c.from_residual-in_err-check_list_with_param.result
+    c.from_residual-in_err-check_list_with_param.ensures.1 in
     rw (p.1, p.2)
-    (measured_refused c.args.input.now c.in_ok-header.header c.in_ok-header.rest.now c.in_ok-header.ensures.0 c.in_ok-header.ensures.1 c.in_ok-header.ensures.2 c.in_err-check_list_with_param.field-0.0 c.in_err-check_list_with_param.ensures.fault c.in_err-check_list_with_param.ensures.memory)
+    (measured_refused c.args.input.now c.in_ok-header.header c.in_ok-header.rest.now
+    c.in_ok-header.ensures.0 c.in_ok-header.ensures.1 c.in_ok-header.ensures.2 c.in_err-check_list_with_param.field-0.0
+    c.in_err-check_list_with_param.ensures.fault c.in_err-check_list_with_param.ensures.memory)
 
 unfit_alone : Refusals.DoesNotFit ≢ Refusals.OutOfMemory
 unfit_alone same = absurd cc
 
 pub returns-in_default-clause-err : goal.returns-in_default-clause-err
 returns-in_default-clause-err c =
-    let found = c.in_ok-check_list_with_param.ensures.found in
-    (measured_none c.args.input.now c.in_ok-header.header c.in_ok-header.rest.now c.in_ok-header.ensures.0 c.in_ok-header.ensures.1 c.in_ok-header.ensures.2 found.0 found.1 c.in_default.ensures, unfit_alone)
+    let found = c.in_ok-check_list_with_param.ensures.found in (
+      measured_none c.args.input.now c.in_ok-header.header c.in_ok-header.rest.now c.in_ok-header.ensures.0
+          c.in_ok-header.ensures.1 c.in_ok-header.ensures.2 found.0 found.1 c.in_default.ensures,
+      unfit_alone,
+    )
 
 pub returns-then-len-clause-err : goal.returns-then-len-clause-err
-returns-then-len-clause-err c =
-    (measured_long c.args.input.now c.in_ok-header.header c.in_ok-header.rest.now c.in_ok-header.ensures.0 c.in_ok-header.ensures.1 c.in_ok-header.ensures.2 (all_bytes c.args.input.now (λ i. omega (arith, c.type_inv.input i))) c.in-Some.len c.in-Some.empty c.in-Some.ensures.0 (λ counted. absurd (omega (arith, counted, c.if-len.true))), unfit_alone)
+returns-then-len-clause-err c = (
+  measured_long c.args.input.now c.in_ok-header.header c.in_ok-header.rest.now
+      c.in_ok-header.ensures.0 c.in_ok-header.ensures.1 c.in_ok-header.ensures.2
+      (all_bytes c.args.input.now (λ i. omega (arith, c.type_inv.input i))) c.in-Some.len c.in-Some.empty
+      c.in-Some.ensures.0 (λ counted. absurd (omega (arith, counted, c.if-len.true))),
+  unfit_alone,
+)
 
 ports_alone : Refusals.EmptyVfPorts ≢ Refusals.OutOfMemory
 ports_alone same = absurd cc
 
 pub returns-then-empty-clause-err : goal.returns-then-empty-clause-err
-returns-then-empty-clause-err c =
-    (measured_empty c.args.input.now c.in_ok-header.header c.in_ok-header.rest.now c.in_ok-header.ensures.0 c.in_ok-header.ensures.1 c.in_ok-header.ensures.2 (all_bytes c.args.input.now (λ i. omega (arith, c.type_inv.input i))) c.in-Some.len c.in-Some.empty c.in-Some.ensures.0 c.if-empty.true (omega (arith, c.if-len.false)), ports_alone)
+returns-then-empty-clause-err c = (
+  measured_empty c.args.input.now c.in_ok-header.header
+      c.in_ok-header.rest.now c.in_ok-header.ensures.0 c.in_ok-header.ensures.1 c.in_ok-header.ensures.2
+      (all_bytes c.args.input.now (λ i. omega (arith, c.type_inv.input i))) c.in-Some.len c.in-Some.empty
+      c.in-Some.ensures.0 c.if-empty.true (omega (arith, c.if-len.false)),
+  ports_alone,
+)
 
 pub returns-clause-ok : goal.returns-clause-ok
-returns-clause-ok c = measured_whole c.args.input.now c.in_ok-header.header c.in_ok-header.rest.now c.in_ok-header.ensures.0 c.in_ok-header.ensures.1 c.in_ok-header.ensures.2 (all_bytes c.args.input.now (λ i. omega (arith, c.type_inv.input i))) c.in-Some.len c.in-Some.empty c.in-Some.ensures.0 c.if-empty.false (omega (arith, c.if-len.false))
+returns-clause-ok c = measured_whole c.args.input.now c.in_ok-header.header
+    c.in_ok-header.rest.now c.in_ok-header.ensures.0 c.in_ok-header.ensures.1 c.in_ok-header.ensures.2
+    (all_bytes c.args.input.now (λ i. omega (arith, c.type_inv.input i))) c.in-Some.len c.in-Some.empty
+    c.in-Some.ensures.0 c.if-empty.false (omega (arith, c.if-len.false))

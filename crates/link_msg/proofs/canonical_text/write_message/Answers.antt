@@ -5,5 +5,6 @@ use Rattle.link_msg.proofs.canonical_text.write_message.Goals as goal
 
 pub returns : goal.returns
 returns c =
-    written_behind c.args.header.now ((list (attribute_place c.args.header.now.interface_family)).reads c.args.rest.now) c.args.out.now c.emit.new.buffer
+    written_behind c.args.header.now
+    ((list (attribute_place c.args.header.now.interface_family)).reads c.args.rest.now) c.args.out.now c.emit.new.buffer
     c.write_list_with_param.new.out c.write_list_with_param.result c.emit.ensures c.write_list_with_param.ensures

@@ -6,5 +6,10 @@ use Rattle.link_msg.proofs.content.write_event.Goals as goal
 
 pub returns : goal.returns
 returns c =
-    finished_part c.args.kind (wireless_text c.args.event.now) c.args.buffer.now c.emit.new.buffer c.buffer_len-len.result (4 + c.buffer_len-len.result - 4) c.finish.new.out c.finish.result
-    (omega (arith, c.requires.room, length-canon (record { kind = c.args.kind; payload = wireless_text c.args.event.now }))) c.emit.ensures c.buffer_len-len.ensures (omega arith) c.finish.ensures
+    finished_part c.args.kind (wireless_text c.args.event.now) c.args.buffer.now c.emit.new.buffer
+    c.buffer_len-len.result (4 + c.buffer_len-len.result - 4) c.finish.new.out c.finish.result
+    (omega (
+      arith,
+      c.requires.room,
+      length-canon (record { kind = c.args.kind; payload = wireless_text c.args.event.now }),
+    )) c.emit.ensures c.buffer_len-len.ensures (omega arith) c.finish.ensures

@@ -5,6 +5,7 @@ use Rattle.link_msg.proofs.laws.law_room.Goals as goal
 
 pub returns : goal.returns
 returns c = λ m accepted.
-    let bounds = message_bounded c.args.input.now m (all_bytes c.args.input.now (λ i. omega (arith, c.type_inv.input i))) accepted.means in
+    let bounds = message_bounded c.args.input.now m
+    (all_bytes c.args.input.now (λ i. omega (arith, c.type_inv.input i))) accepted.means in
     let size = ap (λ (t : List ℕ). length t) accepted.means.2 in
     omega (arith, bounds.short, size, length-append accepted.means.0 accepted.means.1, accepted.means.3.size)

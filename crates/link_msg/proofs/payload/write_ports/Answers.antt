@@ -6,9 +6,12 @@ use Rattle.link_msg.proofs.payload.write_ports.Goals as goal
 
 pub write_list-requires : goal.write_list-requires
 write_list-requires c =
-    some_room (λ vs. canon (nest (canons link_vf_port_place.frame) c.args.kind vs)) (NestFits (canons link_vf_port_place.frame) (AllFit link_vf_port_place.Fits link_vf_port_place.frame))
+    some_room (λ vs. canon (nest (canons link_vf_port_place.frame) c.args.kind vs))
+    (NestFits (canons link_vf_port_place.frame) (AllFit link_vf_port_place.Fits link_vf_port_place.frame))
     c.args.payload.now (vf_port_list.grammar.reads c.args.payload.now) (length c.args.out.now) c.requires
 
 pub returns : goal.returns
 returns c =
-    some_rewrites (λ vs. canon (nest (canons link_vf_port_place.frame) c.args.kind vs)) c.args.payload.now (vf_port_list.grammar.reads c.args.payload.now) c.args.out.now c.write_list.new.out c.write_list.result c.write_list.ensures
+    some_rewrites (λ vs. canon (nest (canons link_vf_port_place.frame) c.args.kind vs)) c.args.payload.now
+    (vf_port_list.grammar.reads c.args.payload.now) c.args.out.now c.write_list.new.out c.write_list.result
+    c.write_list.ensures

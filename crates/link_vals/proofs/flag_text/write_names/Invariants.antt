@@ -6,5 +6,7 @@ use Rattle.link_vals.proofs.flag_text.write_names.Given as goal
 
 abbrev pub invariant-loop-flag : goal.invariant-loop-flag
 invariant-loop-flag g l =
-    let names : List (List ℕ) = names_set (λ flag. flag.name.now) (λ flag. link_flags_bits flag.value) (link_flags_bits l.value) (take l.flag-index l.flags) in
-    (IsPlainFormatter l.fn.f → HasWritten g.W.Write.write_str_gives l.fn.f (joined names) l.f) × (l.is_first ≡ is_none names)
+    let names : List (List ℕ) = names_set (λ flag. flag.name.now) (λ flag. link_flags_bits flag.value)
+    (link_flags_bits l.value) (take l.flag-index l.flags) in
+    (IsPlainFormatter l.fn.f → HasWritten g.W.Write.write_str_gives l.fn.f (joined names) l.f)
+    × (l.is_first ≡ is_none names)

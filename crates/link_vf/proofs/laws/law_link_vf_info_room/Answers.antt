@@ -9,5 +9,6 @@ use Rattle.link_vf.proofs.laws.law_link_vf_info_room.Goals as goal
 
 pub returns-clause-entry : goal.returns-clause-entry
 returns-clause-entry c =
-    room_wrapped link_vf_info_of link_vf_info.text (λ v. AllFit vf_info_place.Fits vf_info_place.frame (link_vf_info_members v))
-    (unless_empty c.args.payload.now (list_of vf_info_place.grammar.reads c.args.payload.now)) (growth_per_byte * length c.args.payload.now) c.law_some_room.ensures
+    room_wrapped link_vf_info_of link_vf_info.text (λ v. AllFit vf_info_place.Fits vf_info_place.frame
+    (link_vf_info_members v)) (unless_empty c.args.payload.now (list_of vf_info_place.grammar.reads c.args.payload.now))
+    (growth_per_byte * length c.args.payload.now) c.law_some_room.ensures

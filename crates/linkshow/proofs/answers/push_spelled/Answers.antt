@@ -4,7 +4,8 @@ use Rattle.linkshow.proofs.answers.push_spelled.Goals as goal
 
 pub returns-then-not-decode : goal.returns-then-not-decode
 returns-then-not-decode c =
-    on_ok_extended c.extend_from_slice.result _ _ _ c.extend_from_slice.ensures.items (λ s. adds_nothex _ _ _ _ c.if-not-decode.ensures.1 s)
+    on_ok_extended c.extend_from_slice.result _ _ _ c.extend_from_slice.ensures.items
+    (λ s. adds_nothex _ _ _ _ c.if-not-decode.ensures.1 s)
 
 pub returns : goal.returns
 returns c = on_ok_weaker c.push_bytes.result (λ s. adds_spelled _ _ _ _ c.if-not-decode.ensures s) c.push_bytes.ensures

@@ -11,5 +11,7 @@ loop-i-preserved c =
     let fits : SFits w64 (get_or c.args.words.now c.loop-i.i (pos 0)) = search rules in
     let front =
     c.put_i64.ensures.front
-    ∙ ap (λ z. take (8 * c.loop-i.i) c.loop-i.buffer ++ to_le_bytes w64 (cast_unsigned w64 z)) (to_z-of_z w64 (get_or c.args.words.now c.loop-i.i (pos 0)) fits) in
-    words_more (λ n. to_le_bytes w64 (cast_unsigned w64 n)) c.args.words.now c.loop-i.i 8 (pos 0) c.loop-i.buffer c.put_i64.new.buffer c.loop-i-test.true c.loop-i.invariant front
+    ∙ ap (λ z. take (8 * c.loop-i.i) c.loop-i.buffer ++ to_le_bytes w64 (cast_unsigned w64 z))
+    (to_z-of_z w64 (get_or c.args.words.now c.loop-i.i (pos 0)) fits) in
+    words_more (λ n. to_le_bytes w64 (cast_unsigned w64 n)) c.args.words.now c.loop-i.i 8
+    (pos 0) c.loop-i.buffer c.put_i64.new.buffer c.loop-i-test.true c.loop-i.invariant front

@@ -4,4 +4,5 @@ use Rattle.nla_wire.proofs.fields.zero_filled_32.Goals as goal
 
 pub returns : goal.returns
 unfolding zero_filled
-returns c = zeros_behind 32 c.min-len.result c.copy_from_slice.new.self c.args.bytes.now c.min-len.ensures c.copy_from_slice.ensures.after
+returns c = zeros_behind 32 c.min-len.result c.copy_from_slice.new.self c.args.bytes.now
+    c.min-len.ensures c.copy_from_slice.ensures.after

@@ -6,7 +6,8 @@ use Rattle.nla_wire.proofs.iterator.first.Goals as goal
 pub returns-in-Ok : goal.returns-in-Ok
 returns-in-Ok c =
     first_comes c.args.bytes.now c.in-Ok.frame (sym c.in-Ok.ensures)
-    ∙ ap (λ r. Ok c.in-Ok.frame ∷ items r) (padded_behind c.args.bytes.now c.length.result (length c.in-Ok.frame.payload) c.length.ensures ∙ sym c.behind-rest.ensures)
+    ∙ ap (λ r. Ok c.in-Ok.frame ∷ items r) (padded_behind c.args.bytes.now c.length.result
+    (length c.in-Ok.frame.payload) c.length.ensures ∙ sym c.behind-rest.ensures)
 
 pub returns-in-Err : goal.returns-in-Err
 returns-in-Err c = first_fails c.args.bytes.now c.in-Err.error.cause c.requires (sym c.in-Err.ensures)

@@ -7,5 +7,6 @@ use Rattle.nla_wire.proofs.laws.law_some_room.Goals as goal
 
 pub returns : goal.returns
 returns g c =
-    unless_empty_room (canons g.N.Nla.frame) (AllFit g.N.Nla.fits g.N.Nla.frame) c.args.bytes.now ((list g.N.NlaRead.grammar).reads c.args.bytes.now) (growth_per_byte * length c.args.bytes.now)
-    c.law_list_room.ensures
+    unless_empty_room (canons g.N.Nla.frame)
+    (AllFit g.N.Nla.fits g.N.Nla.frame) c.args.bytes.now ((list g.N.NlaRead.grammar).reads c.args.bytes.now)
+    (growth_per_byte * length c.args.bytes.now) c.law_list_room.ensures

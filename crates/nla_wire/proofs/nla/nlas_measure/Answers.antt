@@ -6,6 +6,16 @@ use Rattle.nla_wire.proofs.nla.nlas_measure.Goals as goal
 
 pub returns-in_default-checked_add : goal.returns-in_default-checked_add
 returns-in_default-checked_add g c = λ all.
-    let here = canons_up_to g.N.Nla.frame c.args.nlas.now c.loop-nla.nla-index c.nla-item.result c.loop-nla-test.true c.nla-item.is in
+    let here = canons_up_to g.N.Nla.frame c.args.nlas.now c.loop-nla.nla-index c.nla-item.result c.loop-nla-test.true
+    c.nla-item.is in
     absurd (c.in_default-checked_add.ensures
-    (omega (arith, here, all.1, c.loop-nla.invariant.len_is, c.padded_len.ensures, c.in-Some.ensures.1, length-canon (g.N.Nla.frame c.nla-item.result), ap missing c.in-Some.ensures.1)))
+    (omega (
+      arith,
+      here,
+      all.1,
+      c.loop-nla.invariant.len_is,
+      c.padded_len.ensures,
+      c.in-Some.ensures.1,
+      length-canon (g.N.Nla.frame c.nla-item.result),
+      ap missing c.in-Some.ensures.1,
+    )))

@@ -4,5 +4,7 @@ use Rattle.nla_wire.proofs.nla.nlas_write.Goals as goal
 
 pub write-at-requires-clause-room : goal.write-at-requires-clause-room
 write-at-requires-clause-room g c =
-    let here = canons_up_to g.N.Nla.frame c.args.nlas.now c.loop-nla.nla-index c.nla-item.result c.loop-nla-test.true c.nla-item.is in
-    simp (length-take, length-drop) (omega (arith, here, c.requires.room, c.loop-nla.invariant.written.length_is, c.loop-nla.invariant.same))
+    let here = canons_up_to g.N.Nla.frame c.args.nlas.now c.loop-nla.nla-index c.nla-item.result c.loop-nla-test.true
+    c.nla-item.is in
+    simp (length-take, length-drop)
+    (omega (arith, here, c.requires.room, c.loop-nla.invariant.written.length_is, c.loop-nla.invariant.same))

@@ -6,4 +6,5 @@ use Rattle.nla_wire.proofs.read.check_picked_values.Given as goal
 
 abbrev pub invariant-loop-item : goal.invariant-loop-item
 invariant-loop-item g l =
-    fault_of (read_items (some_if_picked (g.P.Place.grammar l.place)).reads l.item-iterator) ≡ fault_of ((picked (g.P.Place.grammar l.place)).reads l.bytes)
+    fault_of (read_items (some_if_picked (g.P.Place.grammar l.place)).reads l.item-iterator)
+    ≡ fault_of ((picked (g.P.Place.grammar l.place)).reads l.bytes)

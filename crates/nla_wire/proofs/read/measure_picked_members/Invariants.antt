@@ -5,4 +5,5 @@ use Rattle.nla_wire.proofs.read.measure_picked_members.Given as goal
 
 abbrev pub invariant-loop-item : goal.invariant-loop-item
 invariant-loop-item g l =
-    Weighing (some_if_picked (g.P.Place.grammar l.place)).reads (kept_text g.V.Nla.frame) (KeptFits g.V.Nla.fits) (list_of (some_if_picked (g.P.Place.grammar l.place)).reads l.bytes) l.item-iterator l.len
+    Weighing (some_if_picked (g.P.Place.grammar l.place)).reads (kept_text g.V.Nla.frame) (KeptFits g.V.Nla.fits)
+    (list_of (some_if_picked (g.P.Place.grammar l.place)).reads l.bytes) l.item-iterator l.len

@@ -7,6 +7,8 @@ pub loop-item-init : goal.loop-item-init
 loop-item-init g c =
     let left : c.into_iter-item-iterator.result ≡ items c.args.bytes.now = cc in
     record {
-      so_far = parse_start c.args.bytes.now c.into_iter-item-iterator.result left (g.P.Place.grammar c.args.place.now).reads c.in_ok-values.values.items c.in_ok-values.ensures.items;
-      few = few_start c.args.bytes.now c.into_iter-item-iterator.result left c.in_ok-values.values.items c.in_ok-values.ensures.items;
+      so_far = parse_start c.args.bytes.now c.into_iter-item-iterator.result left
+          (g.P.Place.grammar c.args.place.now).reads c.in_ok-values.values.items c.in_ok-values.ensures.items;
+      few = few_start c.args.bytes.now c.into_iter-item-iterator.result left c.in_ok-values.values.items
+          c.in_ok-values.ensures.items;
     }

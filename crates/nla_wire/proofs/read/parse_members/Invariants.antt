@@ -6,6 +6,7 @@ use Rattle.nla_wire.proofs.read.parse_members.Given as goal
 
 abbrev pub invariant-loop-item : goal.invariant-loop-item
 invariant-loop-item g l = record {
-  so_far : with_front l.values.items (read_items (g.P.Place.grammar l.place).reads l.item-iterator) ≡ (list (g.P.Place.grammar l.place)).reads l.bytes;
+  so_far : with_front l.values.items (read_items (g.P.Place.grammar l.place).reads l.item-iterator)
+      ≡ (list (g.P.Place.grammar l.place)).reads l.bytes;
   few : 4 * (length l.values.items + frame_count l.item-iterator) ≤ length l.bytes;
 }

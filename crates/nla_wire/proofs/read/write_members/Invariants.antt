@@ -5,4 +5,5 @@ use Rattle.nla_wire.proofs.read.write_members.Given as goal
 
 abbrev pub invariant-loop-item : goal.invariant-loop-item
 invariant-loop-item g l =
-    Rewriting (g.P.Place.grammar l.place).reads (λ v. canon (g.V.Nla.frame v)) g.V.Nla.fits (list_of (g.P.Place.grammar l.place).reads l.bytes) l.item-iterator l.at l.initial.out l.out
+    Rewriting (g.P.Place.grammar l.place).reads (λ v. canon (g.V.Nla.frame v)) g.V.Nla.fits
+    (list_of (g.P.Place.grammar l.place).reads l.bytes) l.item-iterator l.at l.initial.out l.out

@@ -7,6 +7,7 @@ use Rattle.nla_wire.proofs.read.write_nested_picked_members.Goals as goal
 pub returns : goal.returns
 returns g c =
     let reads = (picked (g.P.Place.grammar c.args.place.now)).reads c.args.bytes.now in
-    nested_written (canons g.V.Nla.frame) c.args.kind reads c.args.out.now c.write_picked_members-len.new.out c.write_picked_members-len.result c.finish.new.out c.finish.result
-    (nested_room (canons g.V.Nla.frame) (AllFit g.V.Nla.fits g.V.Nla.frame) c.args.kind reads (length c.args.out.now) c.requires).1
-    c.write_picked_members-len.ensures c.finish.ensures
+    nested_written (canons g.V.Nla.frame) c.args.kind reads
+    c.args.out.now c.write_picked_members-len.new.out c.write_picked_members-len.result c.finish.new.out c.finish.result
+    (nested_room (canons g.V.Nla.frame) (AllFit g.V.Nla.fits g.V.Nla.frame) c.args.kind reads
+    (length c.args.out.now) c.requires).1 c.write_picked_members-len.ensures c.finish.ensures

@@ -9,4 +9,5 @@ returns-in-Some c =
 
 pub returns-in-None : goal.returns-in-None
 returns-in-None c =
-    text_refused c.args.bytes.now c.without_nul.result.now c.without_nul.ensures c.in-None.ensures ∙ ap (λ e. Err e) (sym c.not_utf8.ensures)
+    text_refused c.args.bytes.now c.without_nul.result.now c.without_nul.ensures c.in-None.ensures ∙ ap (λ e. Err e)
+    (sym c.not_utf8.ensures)

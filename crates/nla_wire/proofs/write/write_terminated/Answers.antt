@@ -4,4 +4,5 @@ use Rattle.nla_wire.proofs.write.write_terminated.Goals as goal
 
 pub returns : goal.returns
 returns c =
-    nul_behind c.args.bytes.now c.args.out.now c.write_bytes-len.new.out c.write_bytes-len.result (omega (arith, c.requires)) c.write_bytes-len.ensures
+    nul_behind c.args.bytes.now c.args.out.now c.write_bytes-len.new.out c.write_bytes-len.result
+    (omega (arith, c.requires)) c.write_bytes-len.ensures

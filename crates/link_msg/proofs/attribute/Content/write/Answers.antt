@@ -10,14 +10,32 @@ use Rattle.link_msg.proofs.attribute.Content.write.Goals as goal
 pub write_attribute-requires-clause-room : goal.write_attribute-requires-clause-room
 write_attribute-requires-clause-room c =
     let size = ap (λ t. length (content_text t)) c.in-Stats.is ∙ length_stats_bytes c.in-Stats.stats.now in
-    omega (arith, c.requires.room, length-canon (record { kind = c.args.kind; payload = content_text c.args.self.now }), size, ap missing size)
+    omega (
+      arith,
+      c.requires.room,
+      length-canon (record { kind = c.args.kind; payload = content_text c.args.self.now }),
+      size,
+      ap missing size,
+    )
 
 pub write_attribute-requires-in-Stats64-clause-room : goal.write_attribute-requires-in-Stats64-clause-room
 write_attribute-requires-in-Stats64-clause-room c =
     let size = ap (λ t. length (content_text t)) c.in-Stats64.is ∙ length_stats64_bytes c.in-Stats64.stats.now in
-    omega (arith, c.requires.room, length-canon (record { kind = c.args.kind; payload = content_text c.args.self.now }), size, ap missing size)
+    omega (
+      arith,
+      c.requires.room,
+      length-canon (record { kind = c.args.kind; payload = content_text c.args.self.now }),
+      size,
+      ap missing size,
+    )
 
 pub write_attribute-requires-in-Map-clause-room : goal.write_attribute-requires-in-Map-clause-room
 write_attribute-requires-in-Map-clause-room c =
     let size = ap (λ t. length (content_text t)) c.in-Map.is ∙ length_map_bytes c.in-Map.map.now in
-    omega (arith, c.requires.room, length-canon (record { kind = c.args.kind; payload = content_text c.args.self.now }), size, ap missing size)
+    omega (
+      arith,
+      c.requires.room,
+      length-canon (record { kind = c.args.kind; payload = content_text c.args.self.now }),
+      size,
+      ap missing size,
+    )

@@ -7,10 +7,16 @@ use Rattle.link_msg.proofs.Reading.{attributes_agree}
 use Rattle.link_msg.proofs.attribute.LinkAttribute.parse_list_with_param.Goals as goal
 
 pub returns-clause-found : goal.returns-clause-found
-returns-clause-found c = given_found (list (attribute_place c.args.family)) (attributes_agree c.args.family) c.args.bytes.now (all_bytes c.args.bytes.now (λ i. omega (arith, c.type_inv.bytes i))) (λ v. v.items) c.parse_members.result c.parse_members.ensures.reads
+returns-clause-found c = given_found (list (attribute_place c.args.family)) (attributes_agree c.args.family)
+    c.args.bytes.now (all_bytes c.args.bytes.now (λ i. omega (arith, c.type_inv.bytes i)))
+    (λ v. v.items) c.parse_members.result c.parse_members.ensures.reads
 
 pub returns-clause-fault : goal.returns-clause-fault
-returns-clause-fault c = given_fault (list (attribute_place c.args.family)) (attributes_agree c.args.family) c.args.bytes.now (all_bytes c.args.bytes.now (λ i. omega (arith, c.type_inv.bytes i))) (λ v. v.items) c.parse_members.result c.parse_members.ensures.reads
+returns-clause-fault c = given_fault (list (attribute_place c.args.family)) (attributes_agree c.args.family)
+    c.args.bytes.now (all_bytes c.args.bytes.now (λ i. omega (arith, c.type_inv.bytes i)))
+    (λ v. v.items) c.parse_members.result c.parse_members.ensures.reads
 
 pub returns-clause-refused : goal.returns-clause-refused
-returns-clause-refused c = given_refused (list (attribute_place c.args.family)) (attributes_agree c.args.family) c.args.bytes.now (all_bytes c.args.bytes.now (λ i. omega (arith, c.type_inv.bytes i))) (λ v. v.items) c.parse_members.result c.parse_members.ensures.reads
+returns-clause-refused c = given_refused (list (attribute_place c.args.family)) (attributes_agree c.args.family)
+    c.args.bytes.now (all_bytes c.args.bytes.now (λ i. omega (arith, c.type_inv.bytes i)))
+    (λ v. v.items) c.parse_members.result c.parse_members.ensures.reads

@@ -17,9 +17,12 @@ returns-in_default-first_fault-clause-found c =
 told_frame : (c : goal.After-deeper) → Told c.args.input.now c.deeper.result
 told_frame c =
     let header = c.in-Ok.ensures in
-    let fault = subst (λ f. IsFirstFault (attribute_place c.in-Ok.header.interface_family) c.in-Ok.rest.now c.in-Some.field-0.at f) c.in-Some-frame.is c.in-Some.ensures in
-    let within = within_frame (16 + c.in-Some.field-0.at) c.in-Some-frame.frame c.in_attribute.result c.deeper.result c.deeper.ensures c.in_attribute.ensures in
-    told_fault c.args.input.now c.in-Ok.header c.in-Ok.rest.now header.0 header.1 header.2 c.in-Some.field-0.at (Some c.in-Some-frame.frame) fault c.deeper.result within
+    let fault = subst (λ f. IsFirstFault (attribute_place c.in-Ok.header.interface_family) c.in-Ok.rest.now
+    c.in-Some.field-0.at f) c.in-Some-frame.is c.in-Some.ensures in
+    let within = within_frame (16 + c.in-Some.field-0.at) c.in-Some-frame.frame c.in_attribute.result c.deeper.result
+    c.deeper.ensures c.in_attribute.ensures in
+    told_fault c.args.input.now c.in-Ok.header c.in-Ok.rest.now header.0 header.1 header.2 c.in-Some.field-0.at
+    (Some c.in-Some-frame.frame) fault c.deeper.result within
 
 pub returns-in-Some-frame-clause-found : goal.returns-in-Some-frame-clause-found
 returns-in-Some-frame-clause-found c = (told_frame c).0
@@ -31,8 +34,10 @@ returns-in-Some-frame-clause-refused c = (told_frame c).1
 told_stray : (c : goal.In-None) → Told c.args.input.now (16 + c.in-Some.field-0.at)
 told_stray c =
     let header = c.in-Ok.ensures in
-    let fault = subst (λ f. IsFirstFault (attribute_place c.in-Ok.header.interface_family) c.in-Ok.rest.now c.in-Some.field-0.at f) c.in-None.is c.in-Some.ensures in
-    told_fault c.args.input.now c.in-Ok.header c.in-Ok.rest.now header.0 header.1 header.2 c.in-Some.field-0.at None fault (16 + c.in-Some.field-0.at) refl
+    let fault = subst (λ f. IsFirstFault (attribute_place c.in-Ok.header.interface_family) c.in-Ok.rest.now
+    c.in-Some.field-0.at f) c.in-None.is c.in-Some.ensures in
+    told_fault c.args.input.now c.in-Ok.header c.in-Ok.rest.now header.0 header.1 header.2 c.in-Some.field-0.at None
+    fault (16 + c.in-Some.field-0.at) refl
 
 pub returns-in-None-clause-found : goal.returns-in-None-clause-found
 returns-in-None-clause-found c = (told_stray c).0

@@ -24,57 +24,73 @@ returns-in-Bytes c =
 pub returns-in-Text : goal.returns-in-Text
 returns-in-Text c =
     arm_weighs c.args.self Shapes.Text c.args.payload.now c.measure_text.result c.in-Text.is
-    (weighs_inside (λ (s : List ℕ). s ++ 0 ∷ []) (λ x. length ((λ (s : List ℕ). s ++ 0 ∷ []) x) ≤ most_payload) always (λ x fits. tt) ((base Shapes.Text).codec.grammar.reads c.args.payload.now) c.measure_text.result c.measure_text.ensures)
+    (weighs_inside (λ (s : List ℕ). s ++ 0 ∷ [])
+    (λ x. length ((λ (s : List ℕ). s ++ 0 ∷ []) x) ≤ most_payload) always (λ x fits. tt)
+    ((base Shapes.Text).codec.grammar.reads c.args.payload.now) c.measure_text.result c.measure_text.ensures)
 
 pub returns-in-U8 : goal.returns-in-U8
 returns-in-U8 c =
     arm_weighs c.args.self Shapes.U8 c.args.payload.now c.measure_u8.result c.in-U8.is
-    (weighs_inside (to_le_bytes w8) (λ x. length ((to_le_bytes w8) x) ≤ most_payload) always (λ x fits. tt) ((base Shapes.U8).codec.grammar.reads c.args.payload.now) c.measure_u8.result c.measure_u8.ensures)
+    (weighs_inside (to_le_bytes w8) (λ x. length ((to_le_bytes w8) x) ≤ most_payload) always (λ x fits. tt)
+    ((base Shapes.U8).codec.grammar.reads c.args.payload.now) c.measure_u8.result c.measure_u8.ensures)
 
 pub returns-in-U16 : goal.returns-in-U16
 returns-in-U16 c =
     arm_weighs c.args.self Shapes.U16 c.args.payload.now c.measure_u16.result c.in-U16.is
-    (weighs_inside (to_le_bytes w16) (λ x. length ((to_le_bytes w16) x) ≤ most_payload) always (λ x fits. tt) ((base Shapes.U16).codec.grammar.reads c.args.payload.now) c.measure_u16.result c.measure_u16.ensures)
+    (weighs_inside (to_le_bytes w16) (λ x. length ((to_le_bytes w16) x) ≤ most_payload) always (λ x fits. tt)
+    ((base Shapes.U16).codec.grammar.reads c.args.payload.now) c.measure_u16.result c.measure_u16.ensures)
 
 pub returns-in-U32 : goal.returns-in-U32
 returns-in-U32 c =
     arm_weighs c.args.self Shapes.U32 c.args.payload.now c.measure_u32.result c.in-U32.is
-    (weighs_inside (to_le_bytes w32) (λ x. length ((to_le_bytes w32) x) ≤ most_payload) always (λ x fits. tt) ((base Shapes.U32).codec.grammar.reads c.args.payload.now) c.measure_u32.result c.measure_u32.ensures)
+    (weighs_inside (to_le_bytes w32) (λ x. length ((to_le_bytes w32) x) ≤ most_payload) always (λ x fits. tt)
+    ((base Shapes.U32).codec.grammar.reads c.args.payload.now) c.measure_u32.result c.measure_u32.ensures)
 
 pub returns-in-U64 : goal.returns-in-U64
 returns-in-U64 c =
     arm_weighs c.args.self Shapes.U64 c.args.payload.now c.measure_u64.result c.in-U64.is
-    (weighs_inside (to_le_bytes w64) (λ x. length ((to_le_bytes w64) x) ≤ most_payload) always (λ x fits. tt) ((base Shapes.U64).codec.grammar.reads c.args.payload.now) c.measure_u64.result c.measure_u64.ensures)
+    (weighs_inside (to_le_bytes w64) (λ x. length ((to_le_bytes w64) x) ≤ most_payload) always (λ x fits. tt)
+    ((base Shapes.U64).codec.grammar.reads c.args.payload.now) c.measure_u64.result c.measure_u64.ensures)
 
 pub returns-in-Truth : goal.returns-in-Truth
 returns-in-Truth c =
     arm_weighs c.args.self Shapes.Truth c.args.payload.now c.measure_u8-in-Truth.result c.in-Truth.is
-    (weighs_inside (λ v. to_le_bytes w8 (truth_number v)) (λ v. length (to_le_bytes w8 (truth_number v)) ≤ most_payload) always (λ x fits. tt) ((base Shapes.Truth).codec.grammar.reads c.args.payload.now) c.measure_u8-in-Truth.result (weighs_same is_true (to_le_bytes w8) (λ v. to_le_bytes w8 (truth_number v)) truth_length (read_number w8 c.args.payload.now) c.measure_u8-in-Truth.result c.measure_u8-in-Truth.ensures))
+    (weighs_inside (λ v. to_le_bytes w8 (truth_number v)) (λ v. length (to_le_bytes w8 (truth_number v)) ≤ most_payload)
+    always (λ x fits. tt) ((base Shapes.Truth).codec.grammar.reads c.args.payload.now) c.measure_u8-in-Truth.result
+    (weighs_same is_true (to_le_bytes w8) (λ v. to_le_bytes w8 (truth_number v)) truth_length
+    (read_number w8 c.args.payload.now) c.measure_u8-in-Truth.result c.measure_u8-in-Truth.ensures))
 
 pub returns-in-Id : goal.returns-in-Id
 returns-in-Id c =
-    let size = ap (λ (t : List ℕ). length t) (phys_id_bytes_is c.args.payload.now) ∙ length-take 32 c.args.payload.now ∙ min_comm 32 (length c.args.payload.now) in
-    arm_weighs c.args.self Shapes.Id c.args.payload.now (Some c.min.result) c.in-Id.is ((omega (arith, size, c.requires), phys_id_len_le c.args.payload.now), c.min.ensures ∙ sym size)
+    let size = ap (λ (t : List ℕ). length t) (phys_id_bytes_is c.args.payload.now) ∙ length-take 32 c.args.payload.now
+    ∙ min_comm 32 (length c.args.payload.now) in
+    arm_weighs c.args.self Shapes.Id c.args.payload.now (Some c.min.result) c.in-Id.is
+    ((omega (arith, size, c.requires), phys_id_len_le c.args.payload.now), c.min.ensures ∙ sym size)
 
 pub returns-in-Stats : goal.returns-in-Stats
 returns-in-Stats c =
     arm_weighs c.args.self Shapes.Stats c.args.payload.now c.measure_filled.result c.in-Stats.is
-    (weighs_inside stats_bytes (λ x. length (stats_bytes x) ≤ most_payload) always (λ x fits. tt) ((base Shapes.Stats).codec.grammar.reads c.args.payload.now) c.measure_filled.result c.measure_filled.ensures)
+    (weighs_inside stats_bytes (λ x. length (stats_bytes x) ≤ most_payload) always (λ x fits. tt)
+    ((base Shapes.Stats).codec.grammar.reads c.args.payload.now) c.measure_filled.result c.measure_filled.ensures)
 
 pub returns-in-Stats64 : goal.returns-in-Stats64
 returns-in-Stats64 c =
     arm_weighs c.args.self Shapes.Stats64 c.args.payload.now c.measure_filled-in-Stats64.result c.in-Stats64.is
-    (weighs_inside stats64_bytes (λ x. length (stats64_bytes x) ≤ most_payload) always (λ x fits. tt) ((base Shapes.Stats64).codec.grammar.reads c.args.payload.now) c.measure_filled-in-Stats64.result c.measure_filled-in-Stats64.ensures)
+    (weighs_inside stats64_bytes (λ x. length (stats64_bytes x) ≤ most_payload) always
+    (λ x fits. tt) ((base Shapes.Stats64).codec.grammar.reads c.args.payload.now) c.measure_filled-in-Stats64.result
+    c.measure_filled-in-Stats64.ensures)
 
 pub returns-in-Map : goal.returns-in-Map
 returns-in-Map c =
     arm_weighs c.args.self Shapes.Map c.args.payload.now c.measure_sized.result c.in-Map.is
-    (weighs_inside map_bytes (λ x. length (map_bytes x) ≤ most_payload) always (λ x fits. tt) ((base Shapes.Map).codec.grammar.reads c.args.payload.now) c.measure_sized.result c.measure_sized.ensures)
+    (weighs_inside map_bytes (λ x. length (map_bytes x) ≤ most_payload) always (λ x fits. tt)
+    ((base Shapes.Map).codec.grammar.reads c.args.payload.now) c.measure_sized.result c.measure_sized.ensures)
 
 pub returns-in-Event : goal.returns-in-Event
 returns-in-Event c =
     arm_weighs c.args.self Shapes.Event c.args.payload.now c.measure.result c.in-Event.is
-    (weighs_inside wireless_text WirelessFits WirelessFits (λ x fits. fits) (wireless_event.reads c.args.payload.now) c.measure.result c.measure.ensures)
+    (weighs_inside wireless_text WirelessFits WirelessFits (λ x fits. fits)
+    (wireless_event.reads c.args.payload.now) c.measure.result c.measure.ensures)
 
 pub returns-in-Port : goal.returns-in-Port
 unfolding link_vf_port_place
@@ -114,8 +130,8 @@ returns-in-Reasons c =
 
 pub returns-in-DevlinkPorts : goal.returns-in-DevlinkPorts
 returns-in-DevlinkPorts c =
-    arm_weighs c.args.self Shapes.DevlinkPorts c.args.payload.now c.measure_nested-in-DevlinkPorts.result c.in-DevlinkPorts.is
-    (c.measure_nested-in-DevlinkPorts.ensures)
+    arm_weighs c.args.self Shapes.DevlinkPorts c.args.payload.now c.measure_nested-in-DevlinkPorts.result
+    c.in-DevlinkPorts.is (c.measure_nested-in-DevlinkPorts.ensures)
 
 pub returns-in-DpllPins : goal.returns-in-DpllPins
 returns-in-DpllPins c =
@@ -124,8 +140,8 @@ returns-in-DpllPins c =
 
 pub returns-in-BridgeInfos : goal.returns-in-BridgeInfos
 returns-in-BridgeInfos c =
-    arm_weighs c.args.self Shapes.BridgeInfos c.args.payload.now c.measure_some-in-BridgeInfos.result c.in-BridgeInfos.is
-    (c.measure_some-in-BridgeInfos.ensures)
+    arm_weighs c.args.self Shapes.BridgeInfos c.args.payload.now c.measure_some-in-BridgeInfos.result
+    c.in-BridgeInfos.is (c.measure_some-in-BridgeInfos.ensures)
 
 pub returns-in-Inet6Infos : goal.returns-in-Inet6Infos
 returns-in-Inet6Infos c =

@@ -5,4 +5,5 @@ use Rattle.link_msg.proofs.shape.Shape.of.Goals as goal
 
 pub returns-in_default : goal.returns-in_default
 unfolding attribute_view attribute_entries
-returns-in_default c = sym (other_way base attribute_view NotEmptyPorts c.args.number c.args.size (attribute_entries c.args.family) (Prim.search rules))
+returns-in_default c = sym (other_way base attribute_view NotEmptyPorts c.args.number c.args.size
+    (attribute_entries c.args.family) (Prim.search rules))

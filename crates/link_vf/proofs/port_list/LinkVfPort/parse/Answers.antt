@@ -7,19 +7,21 @@ use Rattle.link_vf.proofs.port_list.LinkVfPort.parse.Goals as goal
 
 pub returns-then-is_empty-clause-reads : goal.returns-then-is_empty-clause-reads
 returns-then-is_empty-clause-reads c =
-    inr (entry_empty link_vf_port_of vf_port_place.grammar c.args.payload.now (sym c.is_empty.ensures ∙ c.if-is_empty.true) ∙ ap (λ e. Err e) (sym c.empty_list.ensures))
+    inr (entry_empty link_vf_port_of vf_port_place.grammar c.args.payload.now
+    (sym c.is_empty.ensures ∙ c.if-is_empty.true) ∙ ap (λ e. Err e) (sym c.empty_list.ensures))
 
 pub returns-in_err-members-clause-reads : goal.returns-in_err-members-clause-reads
 returns-in_err-members-clause-reads c =
-    let fails = entry_fails link_vf_port_of vf_port_place.grammar c.args.payload.now (sym c.is_empty.ensures ∙ c.if-is_empty.false) c.in_err-members.field-0.0.cause c.in_err-members.ensures.reads in
+    let fails = entry_fails link_vf_port_of vf_port_place.grammar c.args.payload.now
+    (sym c.is_empty.ensures ∙ c.if-is_empty.false) c.in_err-members.field-0.0.cause c.in_err-members.ensures.reads in
     search (rules, fails)
 
 pub returns-in_err-members-clause-refused : goal.returns-in_err-members-clause-refused
 returns-in_err-members-clause-refused c =
-    gives_refused link_vf_port.grammar link_vf_port.lawful.agrees c.args.payload.now (all_bytes c.args.payload.now (λ i. omega (arith, c.type_inv.payload i))) c.from_residual.result
-    (returns-in_err-members-clause-reads c)
+    gives_refused link_vf_port.grammar link_vf_port.lawful.agrees c.args.payload.now (all_bytes c.args.payload.now
+    (λ i. omega (arith, c.type_inv.payload i))) c.from_residual.result (returns-in_err-members-clause-reads c)
 
 pub returns-clause-reads : goal.returns-clause-reads
 returns-clause-reads c =
-    entry_given link_vf_port_of vf_port_place.grammar c.args.payload.now (sym c.is_empty.ensures ∙ c.if-is_empty.false) c.new.result
-    (c.in_ok-members.ensures.reads ∙ ap (λ vs. Ok vs) (sym c.new.ensures))
+    entry_given link_vf_port_of vf_port_place.grammar c.args.payload.now (sym c.is_empty.ensures ∙ c.if-is_empty.false)
+    c.new.result (c.in_ok-members.ensures.reads ∙ ap (λ vs. Ok vs) (sym c.new.ensures))

@@ -6,4 +6,5 @@ use Rattle.link_vf.proofs.vf_list.LinkVfInfo.measure_entry.Goals as goal
 pub returns : goal.returns
 unfolding link_vf_info_place
 returns c =
-    weighs_as link_vf_info_of link_vf_info.text link_vf_info_place.Fits ((not_empty (list vf_info_place.grammar)).reads c.args.payload.now) c.measure_some.result c.measure_some.ensures
+    weighs_as link_vf_info_of link_vf_info.text link_vf_info_place.Fits
+    ((not_empty (list vf_info_place.grammar)).reads c.args.payload.now) c.measure_some.result c.measure_some.ensures

@@ -8,8 +8,12 @@ use Rattle.link_vf.proofs.vf_list.LinkVfInfo.write_entry.Goals as goal
 pub write_some-requires : goal.write_some-requires
 unfolding link_vf_info_place
 write_some-requires c =
-    room_as link_vf_info_of (λ v. canon (record { kind = c.args.kind; payload = link_vf_info.text v })) link_vf_info_place.Fits ((not_empty (list vf_info_place.grammar)).reads c.args.payload.now) (length c.args.out.now) c.requires
+    room_as link_vf_info_of
+    (λ v. canon (record { kind = c.args.kind; payload = link_vf_info.text v })) link_vf_info_place.Fits
+    ((not_empty (list vf_info_place.grammar)).reads c.args.payload.now) (length c.args.out.now) c.requires
 
 pub returns : goal.returns
 returns c =
-    rewrites_as link_vf_info_of (λ v. canon (record { kind = c.args.kind; payload = link_vf_info.text v })) link_vf_info_place.Fits ((not_empty (list vf_info_place.grammar)).reads c.args.payload.now) c.args.out.now c.write_some.new.out c.write_some.result c.write_some.ensures
+    rewrites_as link_vf_info_of (λ v. canon (record { kind = c.args.kind; payload = link_vf_info.text v }))
+    link_vf_info_place.Fits ((not_empty (list vf_info_place.grammar)).reads c.args.payload.now) c.args.out.now
+    c.write_some.new.out c.write_some.result c.write_some.ensures

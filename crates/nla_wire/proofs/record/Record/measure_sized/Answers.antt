@@ -5,9 +5,11 @@ use Rattle.nla_wire.proofs.record.Record.measure_sized.Goals as goal
 
 pub returns-then-payload : goal.returns-then-payload
 returns-then-payload g c =
-    short_weighs g.row.SIZE g.Self.Record.of g.Self.Record.bytes (λ r. length (g.Self.Record.bytes r) ≤ most_payload) c.args.payload.now c.if-payload.true
+    short_weighs g.row.SIZE g.Self.Record.of g.Self.Record.bytes
+    (λ r. length (g.Self.Record.bytes r) ≤ most_payload) c.args.payload.now c.if-payload.true
 
 pub returns : goal.returns
 returns g c =
     let size = g.met.Self.Record.laws.sized c.args.payload.now in
-    whole_weighs g.row.SIZE g.Self.Record.of g.Self.Record.bytes (λ r. length (g.Self.Record.bytes r) ≤ most_payload) c.args.payload.now c.if-payload.false (omega (arith, size, c.requires)) size
+    whole_weighs g.row.SIZE g.Self.Record.of g.Self.Record.bytes (λ r. length (g.Self.Record.bytes r) ≤ most_payload)
+    c.args.payload.now c.if-payload.false (omega (arith, size, c.requires)) size

@@ -7,4 +7,5 @@ pub returns : goal.returns
 returns c =
     let none : c.self.inside.outer.items ≡ [] = no_items _ (grind (arith, nat_tests)) in
     let page = rw none at (c.self.invariant.1 c.if-not-whole.false) in
-    rw (c.into_inner.ensures.items, c.in_ok-put_end.ensures.before, c.self.invariant.0, c.in_ok-put_end.ensures.ok) (page_text _ _ page)
+    rw (c.into_inner.ensures.items, c.in_ok-put_end.ensures.before, c.self.invariant.0, c.in_ok-put_end.ensures.ok)
+    (page_text _ _ page)
