@@ -1,9 +1,11 @@
 /* Times the functions of linkwire.h on messages as kernels send them (linux/if_link.h), beside a plain copy of each,
  * and what a byte costs as a message grows. Processor time, the best of several rounds. */
+#include <linux/if_link.h>
 #include <stdint.h>
 #include <stdio.h>
 #include <stdlib.h>
 #include <string.h>
+#include <sys/socket.h>
 #include <time.h>
 
 #include "linkwire.h"
@@ -58,10 +60,13 @@ static void header(void) {
 
 static void short_one(void) {
     header();
-    texts(3, "");
+    texts(IFLA_IFNAME, "");
 }
 
 /* A kind and the length of its value. */
+/* Two numbers that older headers lack, and one that is not listed. */
+enum { GSO_IPV4_MAX_SIZE = 63, GRO_IPV4_MAX_SIZE = 64, UNLISTED = 99 };
+
 struct sized {
     uint16_t kind;
     uint16_t count;
@@ -77,11 +82,15 @@ static void values(const struct sized *rows, size_t count) {
 
 /* Settings and statistics of both families. */
 static void settings(void) {
-    static const struct sized rows[] = {{1, 4}, {5, 16}, {2, 240}, {3, 304}, {6, 56}, {7, 16}, {8, 1}};
-    size_t spec = opens(26), inet = opens(2);
-    value(1, NULL, 132);
+    static const struct sized rows[] = {
+        {IFLA_INET6_FLAGS, 4},   {IFLA_INET6_CACHEINFO, 16},  {IFLA_INET6_CONF, 240},
+        {IFLA_INET6_STATS, 304}, {IFLA_INET6_ICMP6STATS, 56}, {IFLA_INET6_TOKEN, 16},
+        {IFLA_INET6_ADDR_GEN_MODE, 1},
+    };
+    size_t spec = opens(IFLA_AF_SPEC), inet = opens(AF_INET);
+    value(IFLA_INET_CONF, NULL, 132);
     closes(inet);
-    size_t inet6 = opens(10);
+    size_t inet6 = opens(AF_INET6);
     VALUES(rows);
     closes(inet6);
     closes(spec);
@@ -89,40 +98,48 @@ static void settings(void) {
 
 /* One interface as a dump of links shows it. */
 static void interface(void) {
-    static const struct sized numbers[] = {
-        {13, 4}, {4, 4},  {50, 4}, {51, 4}, {27, 4}, {30, 4}, {61, 4}, {31, 4}, {40, 4}, {41, 4},
-        {58, 4}, {59, 4}, {60, 4}, {63, 4}, {64, 4}, {32, 4}, {35, 4}, {47, 4}, {48, 4},
+    static const uint16_t numbers[] = {
+        IFLA_TXQLEN,           IFLA_MTU,           IFLA_MIN_MTU,         IFLA_MAX_MTU,          IFLA_GROUP,
+        IFLA_PROMISCUITY,      IFLA_ALLMULTI,      IFLA_NUM_TX_QUEUES,   IFLA_GSO_MAX_SEGS,     IFLA_GSO_MAX_SIZE,
+        IFLA_GRO_MAX_SIZE,     IFLA_TSO_MAX_SIZE,  IFLA_TSO_MAX_SEGS,    GSO_IPV4_MAX_SIZE,     GRO_IPV4_MAX_SIZE,
+        IFLA_NUM_RX_QUEUES,    IFLA_CARRIER_CHANGES, IFLA_CARRIER_UP_COUNT, IFLA_CARRIER_DOWN_COUNT,
     };
-    static const struct sized records[] = {{14, 32}, {1, 6}, {2, 6}, {54, 6}, {23, 200}, {7, 96}};
+    static const struct sized records[] = {
+        {IFLA_MAP, 32},         {IFLA_ADDRESS, 6},   {IFLA_BROADCAST, 6},
+        {IFLA_PERM_ADDRESS, 6}, {IFLA_STATS64, 200}, {IFLA_STATS, 96},
+    };
     header();
-    texts(3, "enp0s31f6");
-    VALUES(numbers);
-    value(16, "\6", 1);
-    value(17, "", 1);
-    value(33, "\1", 1);
-    value(39, "", 1);
-    texts(6, "fq_codel");
+    texts(IFLA_IFNAME, "enp0s31f6");
+    for (size_t i = 0; i < sizeof numbers / sizeof *numbers; i++)
+        value(numbers[i], NULL, 4);
+    value(IFLA_OPERSTATE, "\6", 1);
+    value(IFLA_LINKMODE, "", 1);
+    value(IFLA_CARRIER, "\1", 1);
+    value(IFLA_PROTO_DOWN, "", 1);
+    texts(IFLA_QDISC, "fq_codel");
     VALUES(records);
-    size_t xdp = opens(43);
-    value(2, "", 1);
+    size_t xdp = opens(IFLA_XDP);
+    value(IFLA_XDP_ATTACHED, "", 1);
     closes(xdp);
     settings();
-    texts(56, "0000:00:1f.6");
-    texts(57, "pci");
+    texts(IFLA_PARENT_DEV_NAME, "0000:00:1f.6");
+    texts(IFLA_PARENT_DEV_BUS_NAME, "pci");
 }
 
 /* One interface with 128 virtual functions. */
 static void functions(void) {
-    static const struct sized before[] = {{1, 36}, {13, 32}, {2, 12}};
-    static const struct sized after[] = {{3, 8}, {4, 8}, {5, 8}, {6, 12}, {9, 8}};
+    static const struct sized before[] = {{IFLA_VF_MAC, 36}, {IFLA_VF_BROADCAST, 32}, {IFLA_VF_VLAN, 12}};
+    static const struct sized after[] = {
+        {IFLA_VF_TX_RATE, 8}, {IFLA_VF_SPOOFCHK, 8}, {IFLA_VF_LINK_STATE, 8}, {IFLA_VF_RATE, 12}, {IFLA_VF_TRUST, 8},
+    };
     header();
-    texts(3, "enp1s0f0");
-    size_t list = opens(22);
+    texts(IFLA_IFNAME, "enp1s0f0");
+    size_t list = opens(IFLA_VFINFO_LIST);
     for (int i = 0; i < 128; i++) {
-        size_t one = opens(1);
+        size_t one = opens(IFLA_VF_INFO);
         VALUES(before);
-        size_t vlans = opens(12);
-        value(1, NULL, 16);
+        size_t vlans = opens(IFLA_VF_VLAN_LIST);
+        value(IFLA_VF_VLAN_INFO, NULL, 16);
         closes(vlans);
         VALUES(after);
         closes(one);
@@ -134,9 +151,9 @@ static void functions(void) {
 static void of_length(size_t want) {
     header();
     while (len + 40 < want) {
-        texts(3, "eth0.100");
-        value(4, NULL, 4);
-        value(99, NULL, 9);
+        texts(IFLA_IFNAME, "eth0.100");
+        value(IFLA_MTU, NULL, 4);
+        value(UNLISTED, NULL, 9);
     }
 }
 
