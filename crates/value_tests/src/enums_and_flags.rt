@@ -356,11 +356,13 @@ fn link_flag_texts(rt: HostRuntime) {
         (0x80000, "0x80000"),
         (
             0x7ffff,
-            "Up | Broadcast | Debug | Loopback | Pointopoint | Notrailers | Running | Noarp | Promisc | Allmulti | Controller | Port | Multicast | Portsel | Automedia | Dynamic | LowerUp | Dormant | Echo",
+            "Up | Broadcast | Debug | Loopback | Pointopoint | Notrailers | Running | Noarp | Promisc | Allmulti | \
+                Controller | Port | Multicast | Portsel | Automedia | Dynamic | LowerUp | Dormant | Echo",
         ),
         (
             0xffff_ffff,
-            "Up | Broadcast | Debug | Loopback | Pointopoint | Notrailers | Running | Noarp | Promisc | Allmulti | Controller | Port | Multicast | Portsel | Automedia | Dynamic | LowerUp | Dormant | Echo | 0xfff80000",
+            "Up | Broadcast | Debug | Loopback | Pointopoint | Notrailers | Running | Noarp | Promisc | Allmulti | \
+                Controller | Port | Multicast | Portsel | Automedia | Dynamic | LowerUp | Dormant | Echo | 0xfff80000",
         ),
     ] {
         let flags = LinkFlags::from_bits_retain(bits);
