@@ -1,7 +1,7 @@
 -- The loops that measure the texts of a list's members, and that write them to the front of a buffer.
-use Rattle.std.proofs.Common.{◌≡◌, ℕ, ◌+◌, ◌-◌, ◌*◌, ◌/◌, ◌^◌, ◌<◌, ◌≤◌, ◌==◌, Bool, true, false, List, [], ◌∷◌, ◌++◌}
+use Rattle.std.proofs.Common.{◌≡◌, ℕ, ◌+◌, ◌-◌, ◌*◌, ◌/◌, ◌^◌, ◌<◌, ◌≤◌, ◌==◌, false, List, [], ◌∷◌, ◌++◌}
 use Rattle.std.proofs.Common.{append_assoc, append-nil, length, take, drop, flat_map, refl, ap, sym, ◌∙◌, subst, arith}
-use Rattle.std.proofs.Common.{Option, lt-ltb, le-ltb, Some, None, Result, Ok, Err, IsOk, length-append, length-take}
+use Rattle.std.proofs.Common.{Option, lt-ltb, le-ltb, Some, None, Result, Ok, Err, length-append, length-take}
 use Rattle.std.proofs.Common.{length-drop}
 use Rattle.std.specs.List.{AllByRecursion}
 use borrow.Rule.Slice.PartMut.{put_mid}
@@ -15,7 +15,7 @@ use Rattle.nla_wire.specs.Canon.{canon, canons, AllFit, Writes, Weighs, HasRoom,
 use Rattle.nla_wire.specs.declared.error.Cause.{Cause}
 use Rattle.nla_wire.proofs.Items.{list_items}
 use Rattle.nla_wire.proofs.Loop.{items_start, items_more, picks_one}
-use Rattle.nla_wire.proofs.Bounds.{length-canon, canons_whole}
+use Rattle.nla_wire.proofs.Bounds.{length-canon}
 use Rattle.nla_wire.proofs.Canonical.{write_on, lent_back, finished_value}
 
 -- ** lists one longer

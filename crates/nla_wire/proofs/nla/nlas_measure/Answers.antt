@@ -1,4 +1,4 @@
-use Rattle.std.proofs.Common.{◌≡◌, ◌+◌, ap, arith}
+use Rattle.std.proofs.Common.{ap, arith}
 use Rattle.nla_wire.specs.Frames.{missing}
 use Rattle.nla_wire.proofs.Bounds.{length-canon}
 use Rattle.nla_wire.proofs.Members.{canons_up_to}

@@ -1,4 +1,4 @@
-use Rattle.std.proofs.Common.{arith, length}
+use Rattle.std.proofs.Common.{length}
 use Rattle.nla_wire.specs.Grammar.{list}
 use Rattle.nla_wire.specs.Canon.{canons, AllFit}
 use Rattle.nla_wire.proofs.Written.{nested_room, nested_written}

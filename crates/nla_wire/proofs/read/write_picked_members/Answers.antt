@@ -3,10 +3,9 @@ use Rattle.nla_wire.specs.Reading.{list_of}
 use Rattle.nla_wire.specs.Frames.{number}
 use Rattle.nla_wire.specs.Items.{items}
 use Rattle.nla_wire.specs.Grammar.{some_if_picked}
-use Rattle.nla_wire.specs.Canon.{canon}
 use Rattle.nla_wire.proofs.Loop.{picks_other}
-use Rattle.nla_wire.proofs.Written.{rewriting_starts, rewriting_room, rewriting_on, rewriting_sum, rewriting_skip}
-use Rattle.nla_wire.proofs.Written.{rewriting_ends, kept_text, KeptFits, kept_room, kept_rewrites, picked_room}
+use Rattle.nla_wire.proofs.Written.{rewriting_starts, rewriting_on, rewriting_sum, rewriting_skip}
+use Rattle.nla_wire.proofs.Written.{rewriting_ends, kept_text, KeptFits, kept_rewrites, picked_room}
 use Rattle.nla_wire.proofs.Written.{picked_rewrites}
 use Rattle.nla_wire.proofs.read.write_picked_members.Goals as goal
 

@@ -1,4 +1,4 @@
-use Rattle.std.proofs.Common.{ℕ, ◌+◌, ◌*◌, ◌/◌, refl, arith, rules, length-take}
+use Rattle.std.proofs.Common.{◌+◌, ◌*◌, ◌/◌, refl}
 use Rattle.nla_wire.proofs.Canonical.{finished}
 use Rattle.nla_wire.proofs.write.finish.Goals as goal
 

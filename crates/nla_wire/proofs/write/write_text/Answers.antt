@@ -1,4 +1,4 @@
-use Rattle.std.proofs.Common.{◌++◌, ◌∷◌, [], arith, length-append}
+use Rattle.std.proofs.Common.{◌++◌, ◌∷◌, [], arith}
 use Rattle.nla_wire.proofs.Canonical.{finished_value}
 use Rattle.nla_wire.proofs.write.write_text.Goals as goal
 
