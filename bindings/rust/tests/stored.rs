@@ -73,12 +73,21 @@ fn stored_input() {
     }
 }
 
+/// Code without its comments, each line that ends in a backslash joined with the next.
+fn joined(source: &str) -> String {
+    let mut code = String::new();
+    for line in source.lines().filter(|it| !it.trim_start().starts_with("//")) {
+        let goes_on = code.ends_with('\\');
+        code.truncate(code.len() - usize::from(goes_on));
+        code.push_str(if goes_on { line.trim_start() } else { line });
+    }
+    code
+}
+
 /// The rows are pairs of texts between quotes, in which only a CR is escaped.
 #[test]
 fn rows() {
-    let source = stored("src/tests/rows.rt");
-    let code: Vec<&str> = source.lines().filter(|it| !it.trim_start().starts_with("//")).collect();
-    let code = code.join("\n").replace("\\r", "\r");
+    let code = joined(&stored("src/tests/rows.rt")).replace("\\r", "\r");
     let texts: Vec<&str> = code.split('"').skip(1).step_by(2).collect();
     assert!(texts.len() > 100 && texts.len() % 2 == 0);
     for row in texts.chunks(2) {
