@@ -1,5 +1,5 @@
 #!/usr/bin/env bash
-# Runs a built program where a read, a write or a growth fails, and looks at its status and its line:
+# Runs a built program where a read, a write or an allocation fails, and looks at its status and its line:
 # program.sh [linkwire|linkshow]
 set -euo pipefail
 top=$(cd "$(dirname "$0")/.." && pwd)
@@ -38,7 +38,7 @@ wants "a closed output" 1 "" "$name: write failed"
 status=0
 (ulimit -v 40000; { echo 0; head -c 60000000 /dev/zero | tr '\0' 0; } | "$program" >"$folder/out" 2>"$folder/err") ||
     status=$?
-wants "a growth that fails" 1 "$nothex" "$name: out of memory"
+wants "an allocation that fails" 1 "$nothex" "$name: out of memory"
 
 status=0; printf '0\n\n0' | "$program" >"$folder/out" 2>"$folder/err" || status=$?
 wants "a whole run" 0 "$(printf '%s\n' "$nothex" "$refused" "$nothex")" ""
@@ -56,7 +56,7 @@ echo "$name: answers before the next line: ok"
 
 # each allocation is refused in turn on the stored input, or on some lines of it, until none is: the fault, and a
 # beginning of the answers
-${CC:-cc} -O2 -Wall -Wextra -Werror -shared -fPIC -o "$folder/refuse.so" "$top/tests/program/refuse_growth.c"
+${CC:-cc} -O2 -Wall -Wextra -Werror -shared -fPIC -o "$folder/refuse.so" "$top/tests/program/refuse_allocation.c"
 stored=$folder/stored
 mkdir "$stored"
 for file in stdin stdout; do
@@ -71,9 +71,9 @@ for ((call = 1; ; call++)); do
         break
     fi
     if ! head -c "$(stat -c %s "$folder/out")" "$stored/stdout" | cmp -s - "$folder/out"; then
-        echo "$name: growth $call refused: no beginning of the answers" >&2
+        echo "$name: allocation $call refused: no beginning of the answers" >&2
         exit 1
     fi
-    wants "growth $call refused" 1 "$(cat "$folder/out")" "$name: out of memory" >/dev/null
+    wants "allocation $call refused" 1 "$(cat "$folder/out")" "$name: out of memory" >/dev/null
 done
-wants "no growth refused, after $((call - 1))" 0 "$(cat "$stored/stdout")" ""
+wants "no allocation refused, after $((call - 1))" 0 "$(cat "$stored/stdout")" ""

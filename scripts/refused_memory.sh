@@ -1,5 +1,5 @@
 #!/usr/bin/env bash
-# Refuses one growth after the other in the tests of the program: where one is refused, a run must end with
+# Refuses one allocation after the other in the tests of the program: where one is refused, a run must end with
 # `OutOfMemory` and a beginning of the answers, or go on and write them all.
 set -euo pipefail
 cd "$(dirname "$0")/../crates/linkwire"
@@ -7,9 +7,9 @@ test=tests::faults::refused_memory_changes_no_answer
 for count in ${REFUSED:-1 4 11}; do
     log=$(rt try --test --fail-alloc "$count" 2>&1 || true)
     if ! grep -q "^test $test \.\.\. ok" <<<"$log"; then
-        echo "refused_memory: growth $count changed an answer" >&2
+        echo "refused_memory: allocation $count changed an answer" >&2
         tail -n 40 <<<"$log" | cut -c 1-200 >&2
         exit 1
     fi
-    echo "refused_memory: growth $count refused: ok"
+    echo "refused_memory: allocation $count refused: ok"
 done

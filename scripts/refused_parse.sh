@@ -21,7 +21,7 @@ digits() {
 }
 
 printf "$(digits | tr -d '\n' | sed 's/../\\x&/g')" >"$folder/message"
-${CC:-cc} -O2 -Wall -Wextra -Werror -shared -fPIC -o "$folder/refuse.so" "$top/tests/program/refuse_growth.c"
+${CC:-cc} -O2 -Wall -Wextra -Werror -shared -fPIC -o "$folder/refuse.so" "$top/tests/program/refuse_allocation.c"
 parsed="ok, 5 attributes, 124 bytes of text"
 written="canonical: 124 bytes"
 # What the program prints where this allocation is refused.
