@@ -8,9 +8,10 @@
 A list has lines '# ..' at its head, then groups and edits with an empty line between them. A group is a line
 '== TITLE'.
 An edit is a headline in plain words, a line 'file: PATH' with a file of the crate, and pairs of lines 'old: TEXT' and
-'new: TEXT', where the old text stands once in the file; further pairs, and further files, may follow. Each edit is
-written to FOLDER/NAME.edit, where NAME is its headline with _ between the words. With WORDS only those files stay in
-FOLDER whose name has these words, next to each other.
+'new: TEXT', where the old text stands once in the file; further pairs, and further files, may follow. A text goes on
+in lines that begin with eight blanks, which are one blank in it. Each edit is written to FOLDER/NAME.edit, where NAME
+is its headline with _ between the words. With WORDS only those files stay in FOLDER whose name has these words, next
+to each other.
 
 --fit says which edits of the lists (of all lists, where none is named) do not fit their crate's files any more.
 --apply makes one edit in the files of a crate's folder.
@@ -22,6 +23,7 @@ import re
 import sys
 
 LINE = re.compile(r"(file): (?:src|specs|proofs)/\S+|(old): .*\S.*|(new):(?: .*)?")
+GOES_ON = " " * 8
 
 
 def name_of(headline):
@@ -39,7 +41,9 @@ def paragraphs(path):
     for number, line in enumerate(lines, 1):
         if line and not is_open:
             found.append((number, []))
-        if line:
+        if line.startswith(GOES_ON) and found[-1][1]:
+            found[-1][1][-1] += " " + line.removeprefix(GOES_ON)
+        elif line:
             found[-1][1].append(line)
         is_open = bool(line)
     return found
@@ -58,7 +62,7 @@ def fault(lines):
             return f"this is no line 'file: PATH', 'old: TEXT' or 'new: TEXT': {line[:80]}"
         keys += at[1] or at[2] or at[3]
     if not re.fullmatch("(file(oldnew)+)+", keys):
-        return "behind its headline an edit has a line 'file:' and then pairs of a line 'old:' and a line 'new:'"
+        return "after its headline an edit has a line 'file:' and then pairs of a line 'old:' and a line 'new:'"
     return None
 
 
@@ -69,10 +73,10 @@ def read(path):
         first, why = lines[0], None
         if first.startswith("#"):
             if group or not all(it.startswith("#") for it in lines):
-                why = "lines '# ..' stand at the head of the list, and an empty line behind them"
+                why = "lines '# ..' stand at the head of the list, and an empty line after them"
         elif first.startswith("=="):
             if len(lines) > 1 or not re.fullmatch(r"== \S.*", first):
-                why = "a group is one line '== TITLE' with an empty line behind it"
+                why = "a group is one line '== TITLE' with an empty line after it"
             elif is_empty:
                 why = f"the group before this one has no edit: {group}"
             elif first in seen:

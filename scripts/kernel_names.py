@@ -78,7 +78,7 @@ VALUES_LEFT_OUT = {
                           "ucie": 9, "vendor": 255},
 }
 
-# fields that no kernel has, behind all others; and the sizes of the records, here and the kernel's
+# fields that no kernel has, after all others; and the sizes of the records, here and the kernel's
 OWN_FIELDS = {"Inet6Stats.reserved_39": ("312", "304"), "InetDevConf.reserved_34": ("136", "132")}
 
 # ** reasons

@@ -81,7 +81,7 @@ class Yaml:
         return items
 
     def item(self, rest, indent):
-        """What stands behind a dash or a colon, on the same line or on those that follow."""
+        """What stands after a dash or a colon, on the same line or on those that follow."""
         anchor = re.match(r"&(\S+)\s*", rest)
         if anchor:
             rest = rest[anchor.end():]
@@ -340,7 +340,7 @@ def atoms(text):
     return words
 
 
-# the crates with tables; what stands behind the first word of a line; and the words for payloads with nothing inside
+# the crates with tables; what stands after the first word of a line; and the words for payloads with nothing inside
 CRATES = ["link_nest", "link_vf", "link_afspec", "link_msg"]
 LINES = {"line": "number payload variant", "line_by": "number payload variant", "line_nested": "number payload variant",
          "line_where": "number payload variant", "line_of_size": "number size payload variant",
@@ -426,8 +426,8 @@ class Repository:
             if number:
                 fields.append(Field(name, int(number.group(3)), (number.group(1) or "u").strip("_") + number.group(2)))
             elif octets:
-                at, count, behind = octets.groups()
-                fields.append(Field(name, int(at or behind or 0), count + " bytes" if count else "u8"))
+                at, count, after = octets.groups()
+                fields.append(Field(name, int(at or after or 0), count + " bytes" if count else "u8"))
             else:
                 raise Unread("%s.%s: how it is read: %s" % (kind, name, it))
         return fields
@@ -668,7 +668,7 @@ def compare_records(ours, kernel, report):
 
 
 def in_yaml(kind, fields, listed, report):
-    """Names and types in their order. Those behind the last there are newer."""
+    """Names and types in their order. Those after the last there are newer."""
     listed = list(listed)
     for field in fields:
         where = kind + "." + field.name

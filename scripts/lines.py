@@ -20,12 +20,9 @@ LINE, CLAUSE = 120, 100
 EXCEPTIONS = [(files, re.compile(begins), why) for files, begins, why in [
     ("*.md", r" *\|", "a row of a table is one line in Markdown"),
     ("README.md", r'\{"', "a program's output is shown as it is printed, and a message is one line of JSON"),
-    ("edits/*.txt", r"(old|new): ", "the text of an edit is one line of its list"),
-    ("tests/edits/*.txt", r"(old|new): ", "the text of an edit is one line of its list"),
     ("crates/*/must-fail/*.edit", r"(old|new): ", "`rt must-fail` reads each text of an edit from one line"),
     ("crates/*/stdin", "", "what a program is run on: a message is one line of hexadecimal"),
     ("crates/*/stdout", "", "what a program prints: a message is one line"),
-    ("crates/*.rt", r" *#!?\[tactic\(", "`rt fmt` joins an attribute into one line, and a function has one alone"),
 ]]
 
 CLAUSE_HEAD = re.compile(r" *(requires|ensures|invariant|decreases)\b[^{]*\{")

@@ -30,14 +30,14 @@ NAMES = {
 UNDECODED = "data slave-kind slave-data xstats".split()
 BYTES_IN_FILE = "devlink-port proto-down-reason wireless protinfo".split()
 FLAGS = {"ra-otherconf": 0x80, "ra-managed": 0x40, "ra-rcvd": 0x20, "rs-sent": 0x10, "ready": 0x80000000}
-BEHIND_WRONG_WIDTH = (
+AFTER_WRONG_WIDTH = (
     "disable-policy accept-ra-rt-info-min-plen ndisc-tclass rpl-seg-enabled ra-defrtr-metric ioam6-enabled ioam6-id "
     "ioam6-id-wide ndisc-evict-nocarrier accept-untracked-na"
 ).split()
 
 
 def kernel_messages():
-    """Returns the messages of the kernel's links, behind their netlink headers."""
+    """Returns the messages of the kernel's links, after their netlink headers."""
     with socket.socket(socket.AF_NETLINK, socket.SOCK_RAW, 0) as it:
         it.send(struct.pack("=IHHII", 32, 18, 0x301, 1, 0) + bytes(16))
         found = []
@@ -107,7 +107,7 @@ class Comparison:
                 if key not in ours and key not in UNDECODED and not key.startswith("UnknownAttr"):
                     self.faults.append(f"{'.'.join(path + [key])}: only ynl has it")
             for key in ours:
-                is_wrong = path[-2:] == ["inet6", "conf"] and key in BEHIND_WRONG_WIDTH
+                is_wrong = path[-2:] == ["inet6", "conf"] and key in AFTER_WRONG_WIDTH
                 if key in before and key in after and not is_wrong:
                     self.values(path + [key], ours[key], before[key], after[key])
         elif before != after:

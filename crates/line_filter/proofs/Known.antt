@@ -37,12 +37,6 @@ Appends-join (Some a) None c xs ys h k = absurd h
 Appends-join (Some a) (Some b) None xs ys h k = absurd k
 Appends-join (Some a) (Some b) (Some c) xs ys h k = k ∙ ap (λ t. t ++ ys) h ∙ append_assoc a xs ys
 
-pub Appends-keeps : (a b c : Option (List ℕ)) (xs : List ℕ) → Appends a b xs → Keeps b c → Appends a c xs
-Appends-keeps None b c xs h k = tt
-Appends-keeps (Some a) None c xs h k = absurd h
-Appends-keeps (Some a) (Some b) None xs h k = absurd k
-Appends-keeps (Some a) (Some b) (Some c) xs h k = k ∙ h
-
 -- ** bytes of which a part is written, and the others wait
 pub Sends-none : (a : Option (List ℕ)) (bytes : List ℕ) → Sends a a bytes bytes
 Sends-none a bytes = ([], Appends-none a, refl)

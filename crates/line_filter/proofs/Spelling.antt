@@ -1,5 +1,5 @@
 -- Digits by a table: one pair, and the table itself.
-use Rattle.std.proofs.Common.{◌≡◌, ℕ, zero, suc, ◌+◌, ◌*◌, ◌<◌, ◌≤◌, ◌==◌, ◌&&◌, Bool, true, false, not, List, ◌≢◌, ◌/◌}
+use Rattle.std.proofs.Common.{◌≡◌, ℕ, zero, suc, ◌+◌, ◌*◌, ◌<◌, ◌≤◌, ◌==◌, ◌&&◌, Bool, true, false, not, List, ◌/◌}
 use Rattle.std.proofs.Common.{◌%◌, length, take, drop, slice_index, refl, sym, ap, ◌∙◌, arith, inl, inr}
 use Rattle.std.specs.Prelude.{Option, Some, None, Ok, Err, nat_lt}
 use Rattle.std.proofs.lemmas.Bool.{and_parts, cases_lt, eqb-true}
@@ -7,7 +7,7 @@ use Rattle.hex.specs.Hex.{hex_digit_value, digit_or_error, value_at, pair_value,
 use Rattle.hex.proofs.Pairs.{prepend, decode_done, decode_err}
 use Rattle.hex.proofs.HexLemmas.{decode_of-even}
 use Rattle.hex.specs.declared.error.FromHexError.{FromHexError}
-use Rattle.hex.specs.declared.error.FromHexError.TheVariants.{InvalidHexCharacter, OddLength}
+use Rattle.hex.specs.declared.error.FromHexError.TheVariants.{InvalidHexCharacter}
 use Rattle.line_filter.specs.Digits.{listed, IsTable, Spells}
 
 -- ** one pair
@@ -46,10 +46,6 @@ pair_refuses_second table a b i t ha hb low high =
     let first = reads table a i t ha low in
     let second = refuses table b (i + 1) t hb high in
     rw (first, second) refl
-
--- ** a text
-pub spells_odd : (digits bytes : List ℕ) → length digits % 2 ≢ 0 → Spells digits bytes false
-spells_odd digits bytes h = (OddLength, grind arith)
 
 pub spells_all : (digits bytes : List ℕ) (i : ℕ) → length digits % 2 ≡ 0 → length bytes ≡ length digits / 2
     → length bytes ≤ i

@@ -1,2 +1,4 @@
 pub mod Requests
 pub mod Lawed
+pub mod Opened
+pub mod Lengths

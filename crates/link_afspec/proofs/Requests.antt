@@ -23,10 +23,10 @@ numbered_from n (z ∷ zs) zero h =
     ap (λ k. record { number = k; value = z } ∷ numbered (n + 1) zs) number
 numbered_from n (z ∷ zs) (suc i) h =
     let number : n + 1 + i ≡ n + suc i = omega arith in
-    let behind : suc (i + 1) ≡ suc i + 1 = omega arith in
+    let after : suc (i + 1) ≡ suc i + 1 = omega arith in
     numbered_from (n + 1) zs i (omega arith)
     ∙ ap (λ k. record { number = k; value = get_or zs i (pos 0) } ∷ drop (i + 1) (numbered (n + 1) zs)) number
-    ∙ ap (λ k. record { number = n + suc i; value = get_or zs i (pos 0) } ∷ drop k (numbered n (z ∷ zs))) behind
+    ∙ ap (λ k. record { number = n + suc i; value = get_or zs i (pos 0) } ∷ drop k (numbered n (z ∷ zs))) after
 
 fields_count : (conf : InetDevConf) → length (inet_dev_conf_fields conf) ≡ INET_DEV_CONF_COUNT
 unfolding inet_dev_conf_fields
@@ -40,13 +40,13 @@ pub request_from : (conf : InetDevConf) (k : ℕ) (z : ℤ) → 0 < k → k ≤ 
 request_from conf k z some few is =
     let zs = inet_dev_conf_fields conf in
     let number : 1 + (k - 1) ≡ k = omega arith in
-    let behind : k - 1 + 1 ≡ k = omega arith in
+    let after : k - 1 + 1 ≡ k = omega arith in
     ap settings_text (numbered_from 1 zs (k - 1) (omega (arith, fields_count conf)))
     ∙ ap (λ n. setting_text (record { number = n; value = get_or zs (k - 1) (pos 0) })
     ++ settings_text (drop (k - 1 + 1) (settings_of conf))) number
     ∙ ap (λ y. setting_text (record { number = k; value = y }) ++ settings_text (drop (k - 1 + 1) (settings_of conf)))
     (sym is)
-    ∙ ap (λ i. setting_text (record { number = k; value = z }) ++ settings_text (drop i (settings_of conf))) behind
+    ∙ ap (λ i. setting_text (record { number = k; value = z }) ++ settings_text (drop i (settings_of conf))) after
 
 -- nothing stands after the last setting
 pub request_end : (conf : InetDevConf) → settings_text (drop INET_DEV_CONF_COUNT (settings_of conf)) ≡ []
@@ -81,13 +81,13 @@ pub request_short : (conf : InetDevConf) → length (request_text conf) ≤ most
 request_short conf = omega (arith, request_bound conf)
 
 -- what stands after some settings is shorter than all
-texts_behind : (ss : List Setting) (i : ℕ) → length (settings_text (drop i ss)) ≤ length (settings_text ss)
-texts_behind [] zero = omega arith
-texts_behind [] (suc i) = omega arith
-texts_behind (s ∷ ss) zero = omega arith
-texts_behind (s ∷ ss) (suc i) = omega (arith, texts_behind ss i, length-append (setting_text s) (settings_text ss))
+texts_after : (ss : List Setting) (i : ℕ) → length (settings_text (drop i ss)) ≤ length (settings_text ss)
+texts_after [] zero = omega arith
+texts_after [] (suc i) = omega arith
+texts_after (s ∷ ss) zero = omega arith
+texts_after (s ∷ ss) (suc i) = omega (arith, texts_after ss i, length-append (setting_text s) (settings_text ss))
 
-pub request_behind : (conf : InetDevConf) (i : ℕ)
+pub request_after : (conf : InetDevConf) (i : ℕ)
     → length (settings_text (drop i (settings_of conf))) ≤ length (request_text conf)
 unfolding request_text
-request_behind conf i = texts_behind (settings_of conf) i
+request_after conf i = texts_after (settings_of conf) i

@@ -24,7 +24,7 @@ pub enum AfSpecInet {
     Other(DefaultNla),
 }
 
-#[tactic(auto, unfolding(crate::specs::Tables::af_spec_inet_place), using(link_recs::proofs::InetDevConfLemmas::length_inet_dev_conf_bytes, crate::proofs::Requests::request_short))]
+#[tactic(auto, unfolding(crate::specs::Tables::af_spec_inet_place), using(crate::proofs::Lengths::inet_lengths))]
 impl Nla for AfSpecInet {
     ghost frame = { af_spec_inet_place.frame };
 

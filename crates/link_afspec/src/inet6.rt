@@ -44,7 +44,7 @@ pub enum AfSpecInet6 {
     Other(DefaultNla),
 }
 
-#[tactic(auto, unfolding(crate::specs::Tables::af_spec_inet6_place), using(link_recs::proofs::Inet6DevConfLemmas::length_inet6_dev_conf_bytes, link_recs::proofs::Inet6StatsLemmas::length_inet6_stats_bytes, link_recs::proofs::Icmp6StatsLemmas::length_icmp6_stats_bytes, link_recs::proofs::Inet6CacheInfoLemmas::length_inet6_cache_info_bytes))]
+#[tactic(auto, unfolding(crate::specs::Tables::af_spec_inet6_place), using(crate::proofs::Lengths::inet6_lengths))]
 impl Nla for AfSpecInet6 {
     ghost frame = { af_spec_inet6_place.frame };
 
@@ -163,7 +163,7 @@ impl NlaRead for AfSpecInet6 {
         }
     }
 
-    #[tactic(auto, unfolding(crate::specs::Tables::af_spec_inet6_place), using(link_vals::proofs::Numbers::in6_addr_gen_mode_again))]
+    #[tactic(auto, unfolding(crate::proofs::Opened::inet6), using(link_vals::proofs::Numbers::in6_addr_gen_mode_again))]
     fn measure_frame(buffer: &NlaBuffer<'_>) -> Option<usize> {
         let payload = buffer.value();
         match buffer.kind() {
@@ -179,7 +179,7 @@ impl NlaRead for AfSpecInet6 {
         }
     }
 
-    #[tactic(auto, unfolding(crate::specs::Tables::af_spec_inet6_place, nla_wire::specs::Payloads::read_number, nla_wire::specs::Payloads::read_exactly, nla_wire::specs::Payloads::read_sized), using(link_vals::proofs::Numbers::in6_addr_gen_mode_again))]
+    #[tactic(auto, unfolding(crate::proofs::Opened::inet6), using(link_vals::proofs::Numbers::in6_addr_gen_mode_again))]
     fn write_frame(buffer: &NlaBuffer<'_>, out: &mut [u8]) -> usize {
         let payload = buffer.value();
         match buffer.kind() {

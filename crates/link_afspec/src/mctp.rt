@@ -88,7 +88,7 @@ impl NlaRead for AfSpecMctp {
         }
     }
 
-    #[tactic(auto, unfolding(crate::specs::Tables::af_spec_mctp_place, nla_wire::specs::Payloads::read_number), using(link_vals::proofs::Numbers::mctp_phys_binding_again))]
+    #[tactic(auto, unfolding(crate::proofs::Opened::mctp), using(link_vals::proofs::Numbers::mctp_phys_binding_again))]
     fn measure_frame(buffer: &NlaBuffer<'_>) -> Option<usize> {
         match buffer.kind() {
             IFLA_MCTP_NET => measure_u32(buffer.value()),
@@ -97,7 +97,7 @@ impl NlaRead for AfSpecMctp {
         }
     }
 
-    #[tactic(auto, unfolding(crate::specs::Tables::af_spec_mctp_place, nla_wire::specs::Payloads::read_number), using(link_vals::proofs::Numbers::mctp_phys_binding_again))]
+    #[tactic(auto, unfolding(crate::proofs::Opened::mctp), using(link_vals::proofs::Numbers::mctp_phys_binding_again))]
     fn write_frame(buffer: &NlaBuffer<'_>, out: &mut [u8]) -> usize {
         match buffer.kind() {
             IFLA_MCTP_NET => write_u32_payload(IFLA_MCTP_NET, buffer.value(), out),

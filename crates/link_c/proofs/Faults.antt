@@ -1,6 +1,6 @@
 -- The first fault of bytes that are no message, and where it is.
 use Rattle.std.specs.Prelude.{◌≡◌, ℕ, List, Option, None, Some, Result, Ok, Err, MatchOption, IfSome}
-use Rattle.std.proofs.Common.{sym, subst, ◌∙◌}
+use Rattle.std.proofs.Common.{sym, subst}
 use Rattle.nla_wire.specs.declared.error.Cause.{Cause}
 use Rattle.link_msg.specs.Messages.{Means, FirstFault, MeansNothing}
 use Rattle.link_msg.specs.FaultAt.{FaultsAt}

@@ -37,10 +37,10 @@ message_bounded b m bytes (h, c, whole, header, means) =
       few = omega (arith, size, counted);
       short = omega (arith, size, grown, text_length m);
       small = λ few.
-          let behind : IsBytes c = bytes_right h c (subst IsBytes whole bytes) in
+          let after : IsBytes c = bytes_right h c (subst IsBytes whole bytes) in
           let fit =
           place_all_fit (attribute_place family) attribute_frame AttributeFits NotEmptyPorts attribute_count growth 0
-          attribute_small (attribute_lawful family) (lit< tt) c m.attributes (omega (arith, size, few)) behind means in
+          attribute_small (attribute_lawful family) (lit< tt) c m.attributes (omega (arith, size, few)) after means in
           (fit.0, omega (arith, text_length m, grown, size, few));
     }
 

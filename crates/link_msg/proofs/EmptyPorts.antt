@@ -61,12 +61,6 @@ no_ports family f v read is none some =
     let k = made ((not_empty vf_port_list.grammar).reads f.payload) v (sym (ports_read family f is) ∙ read) in
     ports_long k.0 (subst (λ x. length (attribute_frame x).payload ≡ 0) k.1 none) (subst NotEmptyPorts k.1 some)
 
--- an attribute that is not written as IFLA_VF_PORTS
-other_ports : (v : LinkAttribute) → number (attribute_frame v) ≢ IFLA_VF_PORTS → NotEmptyPorts v
-unfolding attribute_view
-other_ports (Attributes.VfPorts ports) other = absurd (other refl)
-other_ports _ other = tt
-
 -- any but one that is written as IFLA_VF_PORTS, with no bytes
 some_ports : (v : LinkAttribute)
     → ((number (attribute_frame v) ≡ IFLA_VF_PORTS) × (length (attribute_frame v).payload ≡ 0) → ⊥) → NotEmptyPorts v

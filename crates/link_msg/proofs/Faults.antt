@@ -60,8 +60,8 @@ module _ (b : List ℕ) (v : LinkHeader) (d : List ℕ) (long : header_size ≤ 
 
   module _ (start : ℕ) (frame : Option Frame) (h : IsFirstFault (attribute_place v.interface_family) d start frame)
       (at : ℕ) (within : IsWithin (header_size + start) frame at) where
-    behind_refused : FirstFault b h.cause
-    behind_refused =
+    after_refused : FirstFault b h.cause
+    after_refused =
         inr (front, d, v, front_parts, front_says, found_first (attribute_place v.interface_family) d start frame h)
 
     in_bytes : (some : Option Frame) → IsFirstFault (attribute_place v.interface_family) d start some
@@ -74,7 +74,7 @@ module _ (b : List ℕ) (v : LinkHeader) (d : List ℕ) (long : header_size ≤ 
     told_fault = (
       (
         h.cause,
-        behind_refused,
+        after_refused,
         inr (record {
           header = front;
           fields = v;
@@ -88,6 +88,6 @@ module _ (b : List ℕ) (v : LinkHeader) (d : List ℕ) (long : header_size ≤ 
           within = within;
         }),
       ),
-      refused_means_none b h.cause behind_refused,
+      refused_means_none b h.cause after_refused,
       in_bytes frame h within,
     )

@@ -42,7 +42,7 @@ canonical_twice b m n small means fits ports again =
 
 pub joined : Joined
 joined family c d vs aligned means = (
-  λ ws behind. list_join (attribute_place family) c d vs ws aligned means behind,
+  λ ws after. list_join (attribute_place family) c d vs ws aligned means after,
   λ us whole.
       let parts = list_parts (attribute_place family) (λ f v w. one_meaning IsFrame (attribute_place family)
       (attribute_lawful family).agrees f v w) c d vs us aligned means whole in
@@ -50,8 +50,8 @@ joined family c d vs aligned means = (
 )
 
 -- what stands after parts of one length is the same
-behind_same : (a b c d : List ℕ) → length a ≡ length b → a ++ c ≡ b ++ d → d ≡ c
-behind_same a b c d size whole =
+after_same : (a b c d : List ℕ) → length a ≡ length b → a ++ c ≡ b ++ d → d ≡ c
+after_same a b c d size whole =
     sym (drop-append_seam b d) ∙ ap (drop (length b)) (sym whole) ∙ ap (λ n. drop n (a ++ c)) (sym size)
     ∙ drop-append_seam a c
 
@@ -100,7 +100,7 @@ writable (v ∷ vs) kinds fits = (record { kind = kinds.0; size = fits.0.0 }, wr
 
 pub only_with_ports : OnlyWithPorts
 only_with_ports m kinds fits (h, c, whole, header, means) =
-    let same : c ≡ canons attribute_frame m.attributes = behind_same (header_bytes m.header) h
+    let same : c ≡ canons attribute_frame m.attributes = after_same (header_bytes m.header) h
     (canons attribute_frame m.attributes) c (header_length m.header ∙ sym header.size) whole in (
       (message_text m, (h, c, whole, header, means)),
       all_ports m.header.interface_family m.attributes

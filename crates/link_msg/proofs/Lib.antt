@@ -12,3 +12,5 @@ pub mod EmptyPorts
 pub mod Walking
 pub mod Faults
 pub mod ReadAgain
+pub mod Opened
+pub mod Lengths

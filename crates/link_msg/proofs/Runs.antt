@@ -27,8 +27,8 @@ head_on b f rest (Bad c) e is = let none = sym (items_bad b c e) ∙ is in absur
 head_on b f rest (Next g r) e is =
     let both = sym (items_next b g r e) ∙ is in
     let same : g ≡ f = cc in
-    let behind : items r ≡ rest = cc in
-    (r, e ∙ ap (λ k. Next k r) same, sym behind)
+    let remaining : items r ≡ rest = cc in
+    (r, e ∙ ap (λ k. Next k r) same, sym remaining)
 
 -- what the first item is read from
 items_head : (b : List ℕ) (f : Frame) (rest : List Item) → IsBytes b → items b ≡ Ok f ∷ rest
@@ -47,11 +47,11 @@ canon_first b f rest h padded =
     λ none. omega (arith, none, padded.0, h.padded, length-begins b f rest h) in
     let size : length h.padding ≡ missing (length f.payload) =
     elim h.full [ inl all ↦ all | inr none ↦ short (ap (λ (t : List ℕ). length t) none) ] in
-    let behind : drop (4 + length f.payload) b ≡ h.padding ++ rest =
+    let remaining : drop (4 + length f.payload) b ≡ h.padding ++ rest =
     ap (drop (4 + length f.payload)) (h.parts ∙ append_assoc (unpadded f) h.padding rest)
     ∙ drop_at (unpadded f) (h.padding ++ rest) (4 + length f.payload) header in
     let zeros : h.padding ≡ replicate (missing (length f.payload)) 0 =
-    sym (ap (take (missing (length f.payload))) behind ∙ take_at h.padding rest (missing (length f.payload)) size)
+    sym (ap (take (missing (length f.payload))) remaining ∙ take_at h.padding rest (missing (length f.payload)) size)
     ∙ ap (λ n. take n (drop (4 + length f.payload) b)) (sym gap) ∙ padded.1 ∙ ap (λ n. replicate n 0) gap in
     h.parts ∙ ap (λ (t : List ℕ). unpadded f ++ t ++ rest) zeros
 
@@ -105,9 +105,9 @@ module _ {V : Type 0} (read : Frame → Result V Cause) (text : V → List ℕ) 
       → new ≡ len + length (text v) → Running read text b rest (front ++ v ∷ []) new new
   running_on small same padded spelled new_is =
       let level = h.level same in
-      let behind : IsBytes (drop run b) =
+      let remaining : IsBytes (drop run b) =
       bytes_right (take run b) (drop run b) (subst IsBytes (sym (take-append-drop run b)) small) in
-      let k = items_head (drop run b) f rest behind (sym level.1 ∙ left_is) in
+      let k = items_head (drop run b) f rest remaining (sym level.1 ∙ left_is) in
       let whole : drop run b ≡ text v ++ k.0 =
       canon_first (drop run b) f k.0 k.1 padded ∙ ap (λ (t : List ℕ). t ++ k.0) (sym spelled) in
       let taken : length (take run b) ≡ run = length-take-le run b h.within in
@@ -160,10 +160,10 @@ running_ends {V} read text b left front len run h left_is so_far =
 
 -- ** writing
 
-all_behind : {V : Type 0} (fits : V → Type 0) (front others : List V) → AllByRecursion fits (front ++ others)
+all_after : {V : Type 0} (fits : V → Type 0) (front others : List V) → AllByRecursion fits (front ++ others)
     → AllByRecursion fits others
-all_behind fits [] others all = all
-all_behind fits (v ∷ front) others all = all_behind fits front others all.1
+all_after fits [] others all = all
+all_after fits (v ∷ front) others all = all_after fits front others all.1
 
 module _ {V : Type 0} (read : Frame → Result V Cause) (text : V → List ℕ) (fits : V → Type 0) (b : List ℕ)
     (run : ℕ) (h : BeginsCanonical read text b run) where
@@ -195,14 +195,14 @@ module _ {V : Type 0} (read : Frame → Result V Cause) (text : V → List ℕ) 
       ∙ drop_at (take run b) (drop run old) run (length-take-le run b h.within) in
       subst (λ r. HasRoom (flat_map text) (Counted text fits) r (length (take (length now - run) (drop run now))))
       (sym (ap (list_of read) rest_is ∙ h.others_are)) (
-        (all_behind fits h.front h.others k.0.0, omega (arith, k.0.1, sizes)),
+        (all_after fits h.front h.others k.0.0, omega (arith, k.0.1, sizes)),
         omega (arith, k.1, sizes, ap (λ (t : List ℕ). length t) left, length-drop run old),
       )
 
   module _ (rest : List ℕ) (rest_is : rest ≡ drop run b) (old now part : List ℕ) (n : ℕ)
       (w : Rewrites (flat_map text) (list_of read rest) (take (length now - run) (drop run now)) part n) where
-    behind : Writes (flat_map text h.others) (take (length now - run) (drop run now)) part n
-    behind =
+    remaining : Writes (flat_map text h.others) (take (length now - run) (drop run now)) part n
+    remaining =
         subst (λ r. Rewrites (flat_map text) r (take (length now - run) (drop run now)) part n)
         (ap (list_of read) rest_is ∙ h.others_are) w
 
@@ -215,4 +215,4 @@ module _ {V : Type 0} (read : Frame → Result V Cause) (text : V → List ℕ) 
         subst (λ r. Rewrites (flat_map text) r old (put_mid run (length now - run) now part) (run + n)) (sym h.whole_is)
         (subst (λ t. Writes t old (put_mid run (length now - run) now part) (run + n))
         (sym (flat_joined text h.front h.others))
-        (write_on (flat_map text h.front) (flat_map text h.others) old now part run n copied behind))
+        (write_on (flat_map text h.front) (flat_map text h.others) old now part run n copied remaining))

@@ -61,17 +61,17 @@ bad_some b OutOfMemory bad = absurd bad
 -- b is bytes that were gone past, `at` of them, and others with these items
 pub record Reached (b : List ℕ) (left : List Item) (at : ℕ) : Type 0 where
   pub before : List ℕ
-  pub behind : List ℕ
-  pub parts : b ≡ before ++ behind
-  pub bytes : IsBytes behind
-  pub items_left : left ≡ items behind
-  pub spot : ((at ≡ length before) × (at % 4 ≡ 0)) ⊎ (behind ≡ [])
+  pub later : List ℕ
+  pub parts : b ≡ before ++ later
+  pub bytes : IsBytes later
+  pub items_left : left ≡ items later
+  pub spot : ((at ≡ length before) × (at % 4 ≡ 0)) ⊎ (later ≡ [])
   pub bound : at ≤ length b + 3
 
 abbrev pub reached_start : (b : List ℕ) (left : List Item) → IsBytes b → left ≡ items b → Reached b left 0
 reached_start b left bytes is = record {
   before = [];
-  behind = b;
+  later = b;
   parts = refl;
   bytes = bytes;
   items_left = is;
@@ -79,7 +79,7 @@ reached_start b left bytes is = record {
   bound = omega arith;
 }
 
-at_spot : (b : List ℕ) (left : List Item) (at : ℕ) (w : Reached b left at) → 1 ≤ length w.behind
+at_spot : (b : List ℕ) (left : List Item) (at : ℕ) (w : Reached b left at) → 1 ≤ length w.later
     → (at ≡ length w.before) × (at % 4 ≡ 0)
 at_spot b left at w some =
     elim w.spot [ inl spot ↦ spot | inr ended ↦ absurd (omega (arith, ap (λ (x : List ℕ). length x) ended, some)) ]
@@ -115,15 +115,15 @@ spelling_begins b f rest h = record {
 }
 
 module _ (b : List ℕ) (left : List Item) (at : ℕ) (w : Reached b left at) where
-  whole_size : length b ≡ length w.before + length w.behind
-  whole_size = ap (λ (x : List ℕ). length x) w.parts ∙ length-append w.before w.behind
+  whole_size : length b ≡ length w.before + length w.later
+  whole_size = ap (λ (x : List ℕ). length x) w.parts ∙ length-append w.before w.later
 
   module _ (f : Frame) (xs : List Item) (is : left ≡ Ok f ∷ xs) where
-    pub next_frame : (rest : List ℕ) × Begins w.behind f rest × (xs ≡ items rest)
-    next_frame = front_frame w.behind (step w.behind) f xs refl w.bytes (sym w.items_left ∙ is)
+    pub next_frame : (rest : List ℕ) × Begins w.later f rest × (xs ≡ items rest)
+    next_frame = front_frame w.later (step w.later) f xs refl w.bytes (sym w.items_left ∙ is)
 
-    next_size : length w.behind ≡ 4 + length f.payload + length next_frame.1.padding + length next_frame.0
-    next_size = length-begins w.behind f next_frame.0 next_frame.1
+    next_size : length w.later ≡ 4 + length f.payload + length next_frame.1.padding + length next_frame.0
+    next_size = length-begins w.later f next_frame.0 next_frame.1
 
     pub frame_spot : (at ≡ length w.before) × (at % 4 ≡ 0)
     frame_spot = at_spot b left at w (omega (arith, next_size))
@@ -133,12 +133,12 @@ module _ (b : List ℕ) (left : List Item) (at : ℕ) (w : Reached b left at) wh
     frame_inside = omega (arith, next_size, whole_size, frame_spot.0)
 
     abbrev past : List ℕ
-    past = w.before ++ spelling w.behind f next_frame.0 next_frame.1
+    past = w.before ++ spelling w.later f next_frame.0 next_frame.1
 
     pub past_parts : b ≡ past ++ next_frame.0
     past_parts =
-        w.parts ∙ ap (λ (x : List ℕ). w.before ++ x) (spelt w.behind f next_frame.0 next_frame.1)
-        ∙ sym (append_assoc w.before (spelling w.behind f next_frame.0 next_frame.1) next_frame.0)
+        w.parts ∙ ap (λ (x : List ℕ). w.before ++ x) (spelt w.later f next_frame.0 next_frame.1)
+        ∙ sym (append_assoc w.before (spelling w.later f next_frame.0 next_frame.1) next_frame.0)
 
     pub past_spot : (p : ℕ) → p ≡ 4 + length f.payload + missing (length f.payload)
         → (length next_frame.1.padding ≡ missing (length f.payload)) ⊎ (next_frame.0 ≡ [])
@@ -150,8 +150,8 @@ module _ (b : List ℕ) (left : List Item) (at : ℕ) (w : Reached b left at) wh
             is_p,
             full,
             frame_spot.0,
-            spelling_size w.behind f next_frame.0 next_frame.1,
-            length-append w.before (spelling w.behind f next_frame.0 next_frame.1),
+            spelling_size w.later f next_frame.0 next_frame.1,
+            length-append w.before (spelling w.later f next_frame.0 next_frame.1),
           ),
           omega (arith, is_p, frame_spot.1),
         )
@@ -160,9 +160,9 @@ module _ (b : List ℕ) (left : List Item) (at : ℕ) (w : Reached b left at) wh
     abbrev pub reached_on : (p : ℕ) → p ≡ 4 + length f.payload + missing (length f.payload) → Reached b xs (at + p)
     reached_on p is_p = record {
       before = past;
-      behind = next_frame.0;
+      later = next_frame.0;
       parts = past_parts;
-      bytes = (IsBytes-begins w.behind f next_frame.0 next_frame.1 w.bytes).1;
+      bytes = (IsBytes-begins w.later f next_frame.0 next_frame.1 w.bytes).1;
       items_left = next_frame.2;
       spot = past_spot p is_p next_frame.1.full;
       bound = omega (arith, is_p, frame_inside);
@@ -171,7 +171,7 @@ module _ (b : List ℕ) (left : List Item) (at : ℕ) (w : Reached b left at) wh
   -- bytes that are no frame stand inside of the bytes
   pub fault_inside : (c : Cause) (xs : List Item) → left ≡ Err c ∷ xs → at + 1 ≤ length b
   fault_inside c xs is =
-      let some = bad_some w.behind c (front_fault w.behind (step w.behind) c xs refl (sym w.items_left ∙ is)) in
+      let some = bad_some w.later c (front_fault w.later (step w.later) c xs refl (sym w.items_left ∙ is)) in
       omega (arith, some, (at_spot b left at w some).0, whole_size)
 
 -- ** what a check tells
@@ -199,7 +199,7 @@ module _ {V : Type 0} (place : Grammar Frame V) (b : List ℕ) where
     -- at the end all is read
     pub walk_ends : left ≡ [] → (vs : List V) × (list place).means b vs
     walk_ends is =
-        let none = front_end w.reached.behind (step w.reached.behind) refl (sym w.reached.items_left ∙ is) in
+        let none = front_end w.reached.later (step w.reached.later) refl (sym w.reached.items_left ∙ is) in
         let whole : b ≡ w.reached.before = w.reached.parts ∙ ap (λ (x : List ℕ). w.reached.before ++ x) none
         ∙ append-nil w.reached.before in
         (w.accepted.0, subst (λ x. (list place).means x w.accepted.0) (sym whole) w.accepted.1)
@@ -207,12 +207,12 @@ module _ {V : Type 0} (place : Grammar Frame V) (b : List ℕ) where
     -- bytes that are no frame
     pub walk_faults : (c : Cause) (xs : List Item) → left ≡ Err c ∷ xs → IsFirstFault place b at None
     walk_faults c xs is =
-        let bad = front_fault w.reached.behind (step w.reached.behind) c xs refl (sym w.reached.items_left ∙ is) in
-        let some = bad_some w.reached.behind c bad in
+        let bad = front_fault w.reached.later (step w.reached.later) c xs refl (sym w.reached.items_left ∙ is) in
+        let some = bad_some w.reached.later c bad in
         let spot = at_spot b left at w.reached some in
         record {
           before = w.reached.before;
-          behind = w.reached.behind;
+          later = w.reached.later;
           parts = w.reached.parts;
           at_end = spot.0;
           aligned = spot.1;
@@ -225,7 +225,7 @@ module _ {V : Type 0} (place : Grammar Frame V) (b : List ℕ) where
     module _ (agrees : Agrees IsFrame place) (f : Frame) (xs : List Item) (is : left ≡ Ok f ∷ xs) where
       is_frame : IsFrame f
       is_frame = let next = next_frame b left at w.reached f xs is in
-          begins_framed w.reached.behind f next.0 next.1 w.reached.bytes
+          begins_framed w.reached.later f next.0 next.1 w.reached.bytes
 
       -- a frame that is refused
       pub walk_refuses : (c : Cause) → place.reads f ≡ Err c → IsFirstFault place b at (Some f)
@@ -234,7 +234,7 @@ module _ {V : Type 0} (place : Grammar Frame V) (b : List ℕ) where
           let spot = frame_spot b left at w.reached f xs is in
           record {
             before = w.reached.before;
-            behind = w.reached.behind;
+            later = w.reached.later;
             parts = w.reached.parts;
             at_end = spot.0;
             aligned = spot.1;
@@ -250,16 +250,16 @@ module _ {V : Type 0} (place : Grammar Frame V) (b : List ℕ) where
       walk_on v read p is_p =
           let next = next_frame b left at w.reached f xs is in
           let spot = frame_spot b left at w.reached f xs is in
-          let alone : (list place).means (spelling w.reached.behind f next.0 next.1) (v ∷ []) = (
+          let alone : (list place).means (spelling w.reached.later f next.0 next.1) (v ∷ []) = (
             f ∷ [],
-            ([], spelling_begins w.reached.behind f next.0 next.1, refl),
+            ([], spelling_begins w.reached.later f next.0 next.1, refl),
             (agrees.found f v is_frame read, tt),
           ) in
           record {
             reached = reached_on b left at w.reached f xs is p is_p;
             accepted = (
               w.accepted.0 ++ v ∷ [],
-              list_join place w.reached.before (spelling w.reached.behind f next.0 next.1) w.accepted.0 (v ∷ [])
+              list_join place w.reached.before (spelling w.reached.later f next.0 next.1) w.accepted.0 (v ∷ [])
                   (omega (arith, spot.0, spot.1)) w.accepted.1 alone,
             );
           }
@@ -295,8 +295,8 @@ pub found_first : {V : Type 0} (place : Grammar Frame V) (b : List ℕ) (at : �
     (h : IsFirstFault place b at frame) → First place b h.cause
 found_first place b at frame h =
     let whole : length h.before % 4 ≡ 0 = omega (arith, h.at_end, h.aligned) in
-    let fault = alone_first place h.behind frame h.cause h.alone in (
+    let fault = alone_first place h.later frame h.cause h.alone in (
       h.accepted.1.0,
-      subst (λ x. FirstAfter place x h.accepted.1.0 h.cause) (sym h.parts) (first_after place h.before h.behind
+      subst (λ x. FirstAfter place x h.accepted.1.0 h.cause) (sym h.parts) (first_after place h.before h.later
           h.accepted.1.0 h.accepted.0 h.cause whole h.accepted.1.1 h.accepted.1.2 fault),
     )

@@ -56,9 +56,9 @@ module _ (b : List ℕ) (v : LinkHeader) (d : List ℕ) (long : header_size ≤ 
   header : IsHeader (take header_size b) v
   header = record { size = (is_header b long).size; says = v_is }
 
-  behind_means : (vs : List LinkAttribute) → (list (attribute_place v.interface_family)).means d vs
+  after_means : (vs : List LinkAttribute) → (list (attribute_place v.interface_family)).means d vs
       → Means b (record { header = v; attributes = vs })
-  behind_means vs means = (take header_size b, d, whole, header, means)
+  after_means vs means = (take header_size b, d, whole, header, means)
 
   -- the attributes are refused
   pub measured_refused : (e : DecodeError) → (list (attribute_place v.interface_family)).bad d e.cause
@@ -75,7 +75,7 @@ module _ (b : List ℕ) (v : LinkHeader) (d : List ℕ) (long : header_size ≤ 
       let m : LinkMessage = record { header = v; attributes = vs } in
       let unfit : AllFit AttributeFits attribute_frame vs → ⊥ =
       subst (λ r. ListWeighs r None) ((attributes_agree v.interface_family).only d vs means) none in
-      (m, behind_means vs means, λ fits. unfit (fits.0, attributes_counted m fits))
+      (m, after_means vs means, λ fits. unfit (fits.0, attributes_counted m fits))
 
   weighed : (r : Result (List LinkAttribute) Cause) (w : ℕ × Bool) → ListWeighs r (Some w)
       → (vs : List LinkAttribute)
@@ -91,8 +91,8 @@ module _ (b : List ℕ) (v : LinkHeader) (d : List ℕ) (long : header_size ≤ 
         × MatchBool empty (AllByRecursion NotEmptyPorts vs → ⊥) (AllByRecursion NotEmptyPorts vs)
     measured = weighed ((list (attribute_place v.interface_family)).reads d) (n, empty) h
 
-    behind_bytes : IsBytes d
-    behind_bytes = bytes_right (take header_size b) d (subst IsBytes whole bytes)
+    after_bytes : IsBytes d
+    after_bytes = bytes_right (take header_size b) d (subst IsBytes whole bytes)
 
     message_read : LinkMessage
     message_read = record { header = v; attributes = measured.0 }
@@ -100,7 +100,7 @@ module _ (b : List ℕ) (v : LinkHeader) (d : List ℕ) (long : header_size ≤ 
     read_means : Means b message_read
     unfolding message_read
     read_means =
-        behind_means measured.0 ((attributes_agree v.interface_family).found d measured.0 behind_bytes measured.1)
+        after_means measured.0 ((attributes_agree v.interface_family).found d measured.0 after_bytes measured.1)
 
     -- the text is longer than the machine can count
     pub measured_long : (header_size + n < 2 ^ 64 → ⊥) → IsUnfit b
@@ -178,12 +178,12 @@ module _ (b : List ℕ) (v : LinkHeader) (d : List ℕ) (n : ℕ) (h : IsMeasure
       ∙ ap (λ (t : List ℕ). message_text measured_message ++ t) rest ∙ append-nil (message_text measured_message))
 
 -- the attributes after the header
-pub written_behind : (v : LinkHeader) (r : Result (List LinkAttribute) Cause) (old emitted part : List ℕ) (k : ℕ)
+pub written_after : (v : LinkHeader) (r : Result (List LinkAttribute) Cause) (old emitted part : List ℕ) (k : ℕ)
     → emitted ≡ header_bytes v ++ drop header_size old
     → Rewrites (canons attribute_frame) r (take (length emitted - header_size) (drop header_size emitted)) part k
     → Rewrites (λ vs. header_bytes v ++ canons attribute_frame vs) r old
     (put_mid header_size (length emitted - header_size) emitted part) (header_size + k)
-written_behind v (Ok vs) old emitted part k is w =
+written_after v (Ok vs) old emitted part k is w =
     write_on (header_bytes v) (canons attribute_frame vs) old emitted part header_size k
     (record { length_is = sym (header_length v); new_is = is }) w
-written_behind v (Err c) old emitted part k is w = tt
+written_after v (Err c) old emitted part k is w = tt

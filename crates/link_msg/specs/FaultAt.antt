@@ -25,13 +25,13 @@ IsInside b at frame = at + least_size frame ≤ length b
 pub record IsFirstFault {V : Type 0} (place : Grammar Frame V) (b : List ℕ) (at : ℕ)
     (frame : Option Frame) : Type 0 where
   pub before : List ℕ
-  pub behind : List ℕ
-  pub parts : b ≡ before ++ behind
+  pub later : List ℕ
+  pub parts : b ≡ before ++ later
   pub at_end : at ≡ length before
   pub aligned : at % 4 ≡ 0
   pub accepted : (vs : List V) × (list place).means before vs
   pub cause : Cause
-  pub alone : FaultsAlone place behind frame cause
+  pub alone : FaultsAlone place later frame cause
   pub inside : IsInside b at frame
 
 -- the start of what is at fault, or a place in its payload
@@ -40,7 +40,7 @@ IsWithin start None at = at ≡ start
 IsWithin start (Some f) at = (at ≡ start) ⊎ ((start + 4 ≤ at) × (at < start + 4 + length f.payload))
 
 -- the attributes after the header have this fault: the outermost one that has it starts there, or holds that place
-pub record FaultsBehind (b : List ℕ) (c : Cause) (at : ℕ) : Type 0 where
+pub record FaultsAfter (b : List ℕ) (c : Cause) (at : ℕ) : Type 0 where
   pub header : List ℕ
   pub fields : LinkHeader
   pub attributes : List ℕ
@@ -54,4 +54,4 @@ pub record FaultsBehind (b : List ℕ) (c : Cause) (at : ℕ) : Type 0 where
 
 -- the fault of b is there: b is shorter than a header, or its attributes have the fault
 abbrev pub FaultsAt : List ℕ → Cause → ℕ → Type 0
-FaultsAt b c at = ((length b < header_size) × (at ≡ 0)) ⊎ FaultsBehind b c at
+FaultsAt b c at = ((length b < header_size) × (at ≡ 0)) ⊎ FaultsAfter b c at

@@ -34,14 +34,14 @@ with_header v (Ok attributes) = Ok (record { header = v; attributes = attributes
 with_header v (Err c) = Err c
 
 -- what a reader returns of the bytes after a header
-abbrev pub read_behind : LinkHeader → List ℕ → Result LinkMessage Cause
-read_behind v d = with_header v ((list (attribute_place v.interface_family)).reads d)
+abbrev pub read_after : LinkHeader → List ℕ → Result LinkMessage Cause
+read_after v d = with_header v ((list (attribute_place v.interface_family)).reads d)
 
 -- what a reader of messages returns
 unfoldable pub read_message : List ℕ → Result LinkMessage Cause
 read_message b =
     if nat_lt (length b) header_size then Err (TooShort (length b) header_size)
-    else read_behind (header_of (take header_size b)) (drop header_size b)
+    else read_after (header_of (take header_size b)) (drop header_size b)
 
 -- messages: what they mean, why bytes mean none, and what a reader returns
 abbrev pub message : Grammar (List ℕ) LinkMessage

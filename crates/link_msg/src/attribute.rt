@@ -269,7 +269,7 @@ impl Nla for LinkAttribute {
         self.len()
     }
 
-    #[tactic(auto, using(link_recs::proofs::StatsLemmas::length_stats_bytes, link_recs::proofs::Stats64Lemmas::length_stats64_bytes, link_recs::proofs::MapLemmas::length_map_bytes))]
+    #[tactic(auto, using(crate::proofs::Lengths::record_lengths))]
     fn fill_value(&self, buffer: &mut [u8]) -> usize {
         match self.view().1 {
             Content::Flat(flat) => flat.fill(buffer),
@@ -508,7 +508,7 @@ impl LinkAttribute {
     }
 
     /// The length of its value.
-    #[tactic(auto, using(link_recs::proofs::StatsLemmas::length_stats_bytes, link_recs::proofs::Stats64Lemmas::length_stats64_bytes, link_recs::proofs::MapLemmas::length_map_bytes))]
+    #[tactic(auto, using(crate::proofs::Lengths::record_lengths))]
     fn len(&self) -> usize
         requires { InsideFits self.now }
         ensures { result ≡ length (attribute_frame self.now).payload }

@@ -38,7 +38,7 @@ fn write_event(kind: u16, event: &WirelessEvent, buffer: &mut [u8]) -> usize
 impl Content<'_> {
     /// The length of the text; `None` where it has more than 65531 bytes, or what is inside does not fit.
     #[inline(always)]
-    #[tactic(auto, using(link_recs::proofs::StatsLemmas::length_stats_bytes, link_recs::proofs::Stats64Lemmas::length_stats64_bytes, link_recs::proofs::MapLemmas::length_map_bytes))]
+    #[tactic(auto, using(crate::proofs::Lengths::record_lengths))]
     pub(crate) fn measure(&self) -> Option<usize>
         ensures { Measures ((length (content_text self.now) ≤ most_payload) × ContentFits self.now)
             (length (content_text self.now)) result }
@@ -72,7 +72,7 @@ impl Content<'_> {
     /// Writes the attribute of this kind with the text as its value to the front of the buffer, and returns its length.
     /// The rest of the buffer is kept.
     #[inline(always)]
-    #[tactic(auto, using(link_recs::proofs::StatsLemmas::length_stats_bytes, link_recs::proofs::Stats64Lemmas::length_stats64_bytes, link_recs::proofs::MapLemmas::length_map_bytes))]
+    #[tactic(auto, using(crate::proofs::Lengths::record_lengths))]
     pub(crate) fn write(&self, kind: u16, buffer: &mut [u8]) -> usize
         requires small { length (content_text self.now) ≤ most_payload }
         requires inside { ContentFits self.now }

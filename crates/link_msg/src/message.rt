@@ -2,7 +2,7 @@
 
 ghost use Rattle.std.specs.Prelude.{◌≡◌, ◌≢◌, ◌+◌, ◌-◌, ◌<◌, ◌≤◌, ◌++◌, ◌↔◌, [], length, take, drop, IsTrue, IfOk};
 ghost use Rattle.std.specs.Prelude.{IfErr, MatchResult, MatchBool};
-ghost use Rattle.nla_wire.specs.Canon.{Filled};
+ghost use Rattle.nla_wire.specs.Canon.{Filled, Measures};
 ghost use Rattle.link_msg.specs.Header.{header_size, header_of};
 ghost use Rattle.nla_wire.specs.Fields.{IsShort};
 ghost use Rattle.nla_wire.specs.Gives.{Gives, Checks};
@@ -11,8 +11,7 @@ ghost use Rattle.nla_wire.specs.declared.error.Cause.TheVariants.{OutOfMemory};
 use crate::attribute::LinkAttribute;
 use crate::header::{HEADER_SIZE, LinkHeader, LinkMessageBuffer, no_header};
 use nla_wire::{
-    CloneIn, DecodeError, Exact, List, fill_bytes, nlas_buffer_len, nlas_fill, nlas_measure,
-    nlas_write,
+    CloneIn, DecodeError, Exact, List, fill_bytes, nlas_fill, nlas_measure, nlas_write,
 };
 use std::alloc::Global;
 
@@ -111,24 +110,35 @@ impl LinkMessage {
         }
     }
 
-    /// Whether each attribute fits, and the length of the text is a `usize`.
+    /// The length of the canonical text, or `None` where the message does not fit. It is not inlined, so a caller of
+    /// `fits` and then of `buffer_len` walks over the values once.
+    #[inline(never)]
     #[tactic(auto, using(crate::proofs::Messaging::text_length))]
-    pub fn fits(&self) -> bool
-        ensures { IsTrue result ↔ MessageFits self.now }
+    fn measured(&self) -> Option<usize>
+        ensures { Measures (MessageFits self.now) (length (message_text self.now)) result }
     {
         match nlas_measure(self.attributes.as_slice()) {
-            Some(len) => len <= usize::MAX - HEADER_SIZE,
-            None => false,
+            Some(len) => len.checked_add(HEADER_SIZE),
+            None => None,
         }
     }
 
+    /// Whether each attribute fits, and the length of the text is a `usize`.
+    pub fn fits(&self) -> bool
+        ensures { IsTrue result ↔ MessageFits self.now }
+    {
+        self.measured().is_some()
+    }
+
     /// The length of the canonical text.
-    #[tactic(auto, using(crate::proofs::Messaging::text_length))]
     pub fn buffer_len(&self) -> usize
         requires { MessageFits self.now }
         ensures { result ≡ length (message_text self.now) }
     {
-        HEADER_SIZE + nlas_buffer_len(self.attributes.as_slice())
+        match self.measured() {
+            Some(len) => len,
+            None => unreachable!(),
+        }
     }
 
     /// Fills the last bytes of the buffer with the canonical text, and returns the place of its first byte. Earlier

@@ -366,7 +366,7 @@ impl Shape {
 
     /// Writes the attribute of this number that a payload of this shape means, which was measured, to the front of the
     /// buffer, and returns its length with padding. The rest of the buffer is kept.
-    #[tactic(auto, unfolding(nla_wire::specs::Payloads::read_text, nla_wire::specs::Payloads::read_number, nla_wire::specs::Payloads::read_sized))]
+    #[tactic(auto, unfolding(nla_wire::proofs::Opened::readers))]
     #[inline(always)]
     pub(crate) fn write(self, number: u16, payload: &[u8], out: &mut [u8]) -> usize
         requires number { number < 2 ^ 14 }

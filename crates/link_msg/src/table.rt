@@ -151,7 +151,7 @@ impl LinkAttribute {
     /// Reads a frame into the room after the last value: its number selects the variant. Numbers, ids and records are
     /// read here, with no room on the stack for a value.
     #[inline(always)]
-    #[tactic(auto, unfolding(crate::specs::Tables::attribute_view, crate::specs::Tables::attribute_entries, crate::specs::Tables::attribute_place))]
+    #[tactic(auto, unfolding(crate::proofs::Opened::table))]
     fn read_into(
         alloc: Global,
         buffer: &NlaBuffer<'_>,
@@ -327,7 +327,7 @@ impl LinkAttribute {
     /// Reads a frame whose number `read_into` does not read by itself: bytes and texts are read here, since a
     /// function's room on the stack is cleared for all of its arms when it is entered.
     #[inline(never)]
-    #[tactic(auto, unfolding(crate::specs::Tables::attribute_view, crate::specs::Tables::attribute_entries, crate::specs::Tables::attribute_place))]
+    #[tactic(auto, unfolding(crate::proofs::Opened::table))]
     fn read_other_into(
         alloc: Global,
         buffer: &NlaBuffer<'_>,
@@ -388,7 +388,7 @@ impl LinkAttribute {
     /// Reads a frame whose number neither of the two above reads: lists, events, masks, what its size or the family
     /// decides, and frames that are kept.
     #[inline(never)]
-    #[tactic(auto, unfolding(crate::specs::Tables::attribute_view, crate::specs::Tables::attribute_entries, crate::specs::Tables::attribute_place))]
+    #[tactic(auto, unfolding(crate::proofs::Opened::table))]
     fn read_nested_into(
         alloc: Global,
         buffer: &NlaBuffer<'_>,

@@ -80,7 +80,7 @@ impl NlaRead for DevlinkPort {
         }
     }
 
-    #[tactic(auto, unfolding(crate::specs::Tables::devlink_port_place, nla_wire::specs::Payloads::read_text, nla_wire::specs::Payloads::read_number))]
+    #[tactic(auto, unfolding(crate::proofs::Opened::devlink_port))]
     fn measure_frame(buffer: &NlaBuffer<'_>) -> Option<usize> {
         match buffer.kind() {
             DEVLINK_ATTR_BUS_NAME => measure_text(buffer.value()),
@@ -90,7 +90,7 @@ impl NlaRead for DevlinkPort {
         }
     }
 
-    #[tactic(auto, unfolding(crate::specs::Tables::devlink_port_place, nla_wire::specs::Payloads::read_text, nla_wire::specs::Payloads::read_number))]
+    #[tactic(auto, unfolding(crate::proofs::Opened::devlink_port))]
     fn write_frame(buffer: &NlaBuffer<'_>, out: &mut [u8]) -> usize {
         match buffer.kind() {
             DEVLINK_ATTR_BUS_NAME => write_text_payload(DEVLINK_ATTR_BUS_NAME, buffer.value(), out),

@@ -115,7 +115,7 @@ impl NlaRead for LinkXdp {
         }
     }
 
-    #[tactic(auto, unfolding(crate::specs::Tables::xdp_place, nla_wire::specs::Payloads::read_number), using(link_vals::proofs::Numbers::xdp_attached_again))]
+    #[tactic(auto, unfolding(crate::proofs::Opened::xdp), using(link_vals::proofs::Numbers::xdp_attached_again))]
     fn measure_frame(buffer: &NlaBuffer<'_>) -> Option<usize> {
         match buffer.kind() {
             IFLA_XDP_FD => measure_i32(buffer.value()),
@@ -130,7 +130,7 @@ impl NlaRead for LinkXdp {
         }
     }
 
-    #[tactic(auto, unfolding(crate::specs::Tables::xdp_place, nla_wire::specs::Payloads::read_number), using(link_vals::proofs::Numbers::xdp_attached_again))]
+    #[tactic(auto, unfolding(crate::proofs::Opened::xdp), using(link_vals::proofs::Numbers::xdp_attached_again))]
     fn write_frame(buffer: &NlaBuffer<'_>, out: &mut [u8]) -> usize {
         match buffer.kind() {
             IFLA_XDP_FD => write_i32_payload(IFLA_XDP_FD, buffer.value(), out),

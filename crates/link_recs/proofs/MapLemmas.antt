@@ -2,7 +2,7 @@
 use Rattle.std.proofs.Common.{◌≡◌, length, refl}
 use Rattle.std.specs.Int.{w16, w64}
 use Rattle.nla_wire.specs.Fields.{number_at}
-use Rattle.nla_wire.specs.Records.{BytesBehind}
+use Rattle.nla_wire.specs.Records.{BytesAfter}
 use Rattle.nla_wire.proofs.FieldLemmas.{from_le_bytes-to_le_bytes}
 use Rattle.link_recs.specs.declared.map.Map.{Map}
 use Rattle.link_recs.specs.MapFields.{map_size, map_of, map_bytes, map_laws, MapFits}
@@ -18,9 +18,12 @@ map_written v fits = λ i. record {
   port = v.port;
 }
 
-pub map_longer : BytesBehind map_size map_of
+pub map_longer : BytesAfter map_size map_of
 map_longer = map_laws.longer
 
 pub length_map_bytes : (v : Map) → length (map_bytes v) ≡ map_size
 unfolding map_bytes
 length_map_bytes v = refl
+
+-- what the law of short and long maps cites
+pub ruleset map_lemmas = (map_laws, map_written, length_map_bytes)

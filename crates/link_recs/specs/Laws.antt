@@ -2,7 +2,7 @@
 use Rattle.std.specs.Prelude.{◌≡◌, ℕ, List, length}
 use Rattle.std.specs.List.{AllByRecursion}
 use Rattle.nla_wire.specs.Records.{RecordLaws, WritesFilled}
-pub use Rattle.nla_wire.specs.Records.{ZerosBehind, BytesBehind}
+pub use Rattle.nla_wire.specs.Records.{ZerosAfter, BytesAfter}
 
 -- a record whose fields fit is read back from its bytes
 abbrev pub ReadsBack : {V N : Type 0} → (N → Type 0) → (V → List N) → (List ℕ → V) → (V → List ℕ) → Type 0

@@ -7,7 +7,7 @@ use Rattle.std.specs.List.{AllByRecursion}
 use Rattle.nla_wire.specs.Frames.{IsBytes}
 use Rattle.nla_wire.specs.Fields.{numbers_from, signed_from, le_all, le_all_signed, zero_filled}
 use Rattle.nla_wire.specs.Records.{RecordLaws}
-use Rattle.nla_wire.proofs.Again.{WritesAgain, numbers_text, bytes_filled, filled_behind, filled_front}
+use Rattle.nla_wire.proofs.Again.{WritesAgain, numbers_text, bytes_filled, filled_after, filled_front}
 use Rattle.nla_wire.proofs.FieldLemmas.{length-zero_filled, length-numbers_from, length-signed_from}
 use Rattle.nla_wire.proofs.FieldLemmas.{numbers_from_same, numbers_from_below, numbers_again, length-le_all}
 use Rattle.nla_wire.proofs.FieldLemmas.{le_all_signed_is, signed_number_again, signed_from_is, signed_from_fits}
@@ -70,7 +70,7 @@ signed_words w same = record {
 of_filled : {V : Type 0} {text : V → List ℕ} (size : ℕ) (of : List ℕ → V) → RecordLaws size of text → (p : List ℕ)
     → of (zero_filled size p) ≡ of p
 of_filled size of laws p = elim (cases_lt (length p) size) [
-  | inl short ↦ ap of (filled_behind size p (omega (arith, short))) ∙ laws.zeros p (size - length p)
+  | inl short ↦ ap of (filled_after size p (omega (arith, short))) ∙ laws.zeros p (size - length p)
   | inr long ↦ ap of (filled_front size p long) ∙ front size of laws.longer p long
 ]
 

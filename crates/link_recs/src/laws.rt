@@ -102,7 +102,7 @@ pub fn filled()
 
 /// `Map`: what is written reads back; zeros after a payload and bytes after a long one change nothing; a text has as
 /// many bytes as the record.
-#[tactic(auto, using(crate::specs::MapFields::map_laws, crate::proofs::MapLemmas::map_written, crate::proofs::MapLemmas::length_map_bytes))]
+#[tactic(auto, using(crate::proofs::MapLemmas::map_lemmas))]
 pub fn map()
     ensures written { (v : Map) → MapFits v → map_of (map_bytes v) ≡ v }
     ensures laws { RecordLaws map_size map_of map_bytes }

@@ -2,5 +2,5 @@ pub mod Pieces
 pub mod Numbers
 pub mod ExtentSums
 pub mod States
-pub mod Flags
 pub mod PhysIds
+pub mod Opened

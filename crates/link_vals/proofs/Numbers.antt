@@ -47,59 +47,35 @@ pub link_event_again : (n : ℕ) → link_event_number (link_event_of n) ≡ n
 unfolding link_event_of link_event_number
 link_event_again n = number-value_of link_event_number link_event_listed (event.Other n) n refl
 
-pub link_event_below : (n k : ℕ) → n < 2 ^ k → link_event_number (link_event_of n) < 2 ^ k
-link_event_below n k small = omega (arith, link_event_again n)
-
 pub link_extent_mask_again : (n : ℕ) → link_extent_mask_number (link_extent_mask_of n) ≡ n
 unfolding link_extent_mask_of link_extent_mask_number
 link_extent_mask_again n = number-value_of link_extent_mask_number link_extent_mask_listed (ext_mask.Other n) n refl
-
-pub link_extent_mask_below : (n k : ℕ) → n < 2 ^ k → link_extent_mask_number (link_extent_mask_of n) < 2 ^ k
-link_extent_mask_below n k small = omega (arith, link_extent_mask_again n)
 
 pub link_mode_again : (n : ℕ) → link_mode_number (link_mode_of n) ≡ n
 unfolding link_mode_of link_mode_number
 link_mode_again n = number-value_of link_mode_number link_mode_listed (link_mode.Other n) n refl
 
-pub link_mode_below : (n k : ℕ) → n < 2 ^ k → link_mode_number (link_mode_of n) < 2 ^ k
-link_mode_below n k small = omega (arith, link_mode_again n)
-
 pub state_again : (n : ℕ) → state_number (state_of n) ≡ n
 unfolding state_of state_number
 state_again n = number-value_of state_number state_listed (link_state.Other n) n refl
-
-pub state_below : (n k : ℕ) → n < 2 ^ k → state_number (state_of n) < 2 ^ k
-state_below n k small = omega (arith, state_again n)
 
 pub in6_addr_gen_mode_again : (n : ℕ) → in6_addr_gen_mode_number (in6_addr_gen_mode_of n) ≡ n
 unfolding in6_addr_gen_mode_of in6_addr_gen_mode_number
 in6_addr_gen_mode_again n =
     number-value_of in6_addr_gen_mode_number in6_addr_gen_mode_listed (addr_gen_mode.Other n) n refl
 
-pub in6_addr_gen_mode_below : (n k : ℕ) → n < 2 ^ k → in6_addr_gen_mode_number (in6_addr_gen_mode_of n) < 2 ^ k
-in6_addr_gen_mode_below n k small = omega (arith, in6_addr_gen_mode_again n)
-
 pub mctp_phys_binding_again : (n : ℕ) → mctp_phys_binding_number (mctp_phys_binding_of n) ≡ n
 unfolding mctp_phys_binding_of mctp_phys_binding_number
 mctp_phys_binding_again n =
     number-value_of mctp_phys_binding_number mctp_phys_binding_listed (mctp_phys_binding.Other n) n refl
 
-pub mctp_phys_binding_below : (n k : ℕ) → n < 2 ^ k → mctp_phys_binding_number (mctp_phys_binding_of n) < 2 ^ k
-mctp_phys_binding_below n k small = omega (arith, mctp_phys_binding_again n)
-
 pub vf_link_state_again : (n : ℕ) → vf_link_state_number (vf_link_state_of n) ≡ n
 unfolding vf_link_state_of vf_link_state_number
 vf_link_state_again n = number-value_of vf_link_state_number vf_link_state_listed (vf_link_state.Other n) n refl
 
-pub vf_link_state_below : (n k : ℕ) → n < 2 ^ k → vf_link_state_number (vf_link_state_of n) < 2 ^ k
-vf_link_state_below n k small = omega (arith, vf_link_state_again n)
-
 pub xdp_attached_again : (n : ℕ) → xdp_attached_number (xdp_attached_of n) ≡ n
 unfolding xdp_attached_of xdp_attached_number
 xdp_attached_again n = number-value_of xdp_attached_number xdp_attached_listed (xdp_attached.Other n) n refl
-
-pub xdp_attached_below : (n k : ℕ) → n < 2 ^ k → xdp_attached_number (xdp_attached_of n) < 2 ^ k
-xdp_attached_below n k small = omega (arith, xdp_attached_again n)
 
 pub address_family_again : (n : ℕ) → address_family_number (address_family_of n) ≡ n
 unfolding address_family_of address_family_number
@@ -270,8 +246,3 @@ pub vlan_protocol_unlisted : (n : ℕ) → AllByRecursion (λ p. vlan_protocol_n
     → vlan_protocol_of n ≡ vlan.Ieee8021Q
 unfolding vlan_protocol_of
 vlan_protocol_unlisted n h = value_of_unlisted vlan_protocol_number vlan_protocol_listed vlan.Ieee8021Q n h
-
-pub vlan_protocol_below : (p : VlanProtocol) → vlan_protocol_number p < 2 ^ 16
-unfolding vlan_protocol_number
-vlan_protocol_below vlan.Ieee8021Q = omega arith
-vlan_protocol_below vlan.Ieee8021Ad = omega arith

@@ -22,7 +22,7 @@ pub enum In6AddrGenMode {
 impl From<u8> for In6AddrGenMode {
     ghost from_gives = { λ n v. v ≡ in6_addr_gen_mode_of n };
 
-    #[tactic(auto, unfolding(crate::specs::In6AddrGenModeTable::in6_addr_gen_mode_of, crate::specs::In6AddrGenModeTable::in6_addr_gen_mode_number))]
+    #[tactic(auto, unfolding(crate::proofs::Opened::in6_addr_gen_mode))]
     fn from(number: u8) -> In6AddrGenMode {
         match number {
             0 => In6AddrGenMode::Eui64,

@@ -22,7 +22,7 @@ pub enum AddressFamily {
 impl From<u8> for AddressFamily {
     ghost from_gives = { λ n v. v ≡ address_family_of n };
 
-    #[tactic(auto, unfolding(crate::specs::AddressFamilyTable::address_family_of, crate::specs::AddressFamilyTable::address_family_number))]
+    #[tactic(auto, unfolding(crate::proofs::Opened::address_family))]
     fn from(number: u8) -> AddressFamily {
         match number {
             0 => AddressFamily::Unspec,

@@ -23,7 +23,7 @@ pub enum LinkEvent {
 impl From<u32> for LinkEvent {
     ghost from_gives = { λ n v. v ≡ link_event_of n };
 
-    #[tactic(auto, unfolding(crate::specs::LinkEventTable::link_event_of, crate::specs::LinkEventTable::link_event_number))]
+    #[tactic(auto, unfolding(crate::proofs::Opened::link_event))]
     fn from(number: u32) -> LinkEvent {
         match number {
             0 => LinkEvent::None,

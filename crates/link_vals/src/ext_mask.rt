@@ -43,7 +43,7 @@ const UNLISTED: u32 = 0xffff_ff00;
 impl From<u32> for LinkExtentMask {
     ghost from_gives = { λ n v. v ≡ link_extent_mask_of n };
 
-    #[tactic(auto, unfolding(crate::specs::LinkExtentMaskTable::link_extent_mask_of, crate::specs::LinkExtentMaskTable::link_extent_mask_number))]
+    #[tactic(auto, unfolding(crate::proofs::Opened::link_extent_mask))]
     fn from(number: u32) -> LinkExtentMask {
         match number {
             1 => LinkExtentMask::Vf,

@@ -416,7 +416,7 @@ impl fmt::Display for LinkFlags {
 
     /// Writes the names of the bits that are set, in declared order and with ` | ` between them; the bits without a
     /// name come last, as one number in hexadecimal.
-    #[tactic(auto, unfolding(crate::specs::LinkFlagsTable::link_flags_text, crate::specs::FlagText::flags_text, crate::specs::FlagText::names_set))]
+    #[tactic(auto, unfolding(crate::proofs::Opened::link_flags))]
     fn fmt<W: fmt::Write>(&self, f: &mut fmt::Formatter<W>) -> fmt::Result {
         write_flags(f, &LinkFlags::FLAGS[..19], *self, 0xfff8_0000)
     }

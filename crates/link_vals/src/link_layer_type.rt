@@ -85,7 +85,7 @@ pub enum LinkLayerType {
 }
 
 /// The value of a number from 512 on.
-#[tactic(auto, unfolding(crate::specs::LinkLayerTypeTable::layer_type_of, crate::specs::LinkLayerTypeTable::layer_type_number))]
+#[tactic(auto, unfolding(crate::proofs::Opened::layer_type))]
 fn high(number: u16) -> LinkLayerType
     ensures { result ≡ value_of layer_type_number layer_type_listed_high Void number }
 {
@@ -138,7 +138,7 @@ fn high(number: u16) -> LinkLayerType
 impl From<u16> for LinkLayerType {
     ghost from_gives = { λ n v. v ≡ layer_type_of n };
 
-    #[tactic(auto, unfolding(crate::specs::LinkLayerTypeTable::layer_type_of, crate::specs::LinkLayerTypeTable::layer_type_number))]
+    #[tactic(auto, unfolding(crate::proofs::Opened::layer_type))]
     fn from(number: u16) -> LinkLayerType {
         match number {
             0 => LinkLayerType::Netrom,

@@ -20,7 +20,7 @@ pub enum LinkMode {
 impl From<u8> for LinkMode {
     ghost from_gives = { λ n v. v ≡ link_mode_of n };
 
-    #[tactic(auto, unfolding(crate::specs::LinkModeTable::link_mode_of, crate::specs::LinkModeTable::link_mode_number))]
+    #[tactic(auto, unfolding(crate::proofs::Opened::link_mode))]
     fn from(number: u8) -> LinkMode {
         match number {
             0 => LinkMode::Default,

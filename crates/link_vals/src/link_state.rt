@@ -24,7 +24,7 @@ pub enum State {
 impl From<u8> for State {
     ghost from_gives = { λ n v. v ≡ state_of n };
 
-    #[tactic(auto, unfolding(crate::specs::StateTable::state_of, crate::specs::StateTable::state_number))]
+    #[tactic(auto, unfolding(crate::proofs::Opened::state))]
     fn from(number: u8) -> State {
         match number {
             0 => State::Unknown,

@@ -28,7 +28,7 @@ pub enum MctpPhysBinding {
 impl From<u8> for MctpPhysBinding {
     ghost from_gives = { λ n v. v ≡ mctp_phys_binding_of n };
 
-    #[tactic(auto, unfolding(crate::specs::MctpPhysBindingTable::mctp_phys_binding_of, crate::specs::MctpPhysBindingTable::mctp_phys_binding_number))]
+    #[tactic(auto, unfolding(crate::proofs::Opened::mctp_phys_binding))]
     fn from(number: u8) -> MctpPhysBinding {
         match number {
             1 => MctpPhysBinding::Smbus,

@@ -20,7 +20,7 @@ pub enum VfLinkState {
 impl From<u32> for VfLinkState {
     ghost from_gives = { λ n v. v ≡ vf_link_state_of n };
 
-    #[tactic(auto, unfolding(crate::specs::VfLinkStateTable::vf_link_state_of, crate::specs::VfLinkStateTable::vf_link_state_number))]
+    #[tactic(auto, unfolding(crate::proofs::Opened::vf_link_state))]
     fn from(number: u32) -> VfLinkState {
         match number {
             0 => VfLinkState::Auto,

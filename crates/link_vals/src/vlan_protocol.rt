@@ -19,7 +19,7 @@ pub enum VlanProtocol {
 impl From<u16> for VlanProtocol {
     ghost from_gives = { λ n v. v ≡ vlan_protocol_of n };
 
-    #[tactic(auto, unfolding(crate::specs::VlanProtocolTable::vlan_protocol_of, crate::specs::VlanProtocolTable::vlan_protocol_number))]
+    #[tactic(auto, unfolding(crate::proofs::Opened::vlan_protocol))]
     fn from(number: u16) -> VlanProtocol {
         match number {
             0x8100 => VlanProtocol::Ieee8021Q,

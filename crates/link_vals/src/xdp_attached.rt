@@ -23,7 +23,7 @@ impl TryFrom<u8> for XdpAttached {
     ghost try_from_gives = { λ n result. result ≡ Ok (xdp_attached_of n) };
 
     /// Never fails.
-    #[tactic(auto, unfolding(crate::specs::XdpAttachedTable::xdp_attached_of, crate::specs::XdpAttachedTable::xdp_attached_number))]
+    #[tactic(auto, unfolding(crate::proofs::Opened::xdp_attached))]
     fn try_from(number: u8) -> Result<XdpAttached, DecodeError> {
         Ok(match number {
             0 => XdpAttached::None,

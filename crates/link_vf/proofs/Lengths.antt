@@ -9,3 +9,5 @@ mac_length = vf_info_mac_laws.sized
 
 pub broadcast_length : HasSize vf_info_broadcast_size vf_info_broadcast_of vf_info_broadcast_bytes
 broadcast_length = vf_info_broadcast_laws.sized
+
+pub ruleset address_lengths = (mac_length, broadcast_length)

@@ -1,3 +1,4 @@
 pub mod Entries
 pub mod Picked
 pub mod Lengths
+pub mod Opened

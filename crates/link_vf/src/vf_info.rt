@@ -79,7 +79,7 @@ fn broadcast_len(broadcast: &VfInfoBroadcast) -> usize
     address.len()
 }
 
-#[tactic(auto, unfolding(crate::specs::Tables::vf_info_place, link_vfrec::specs::Records::vf_info_broadcast_bytes, link_vfrec::specs::Records::vf_info_guid_bytes, link_vfrec::specs::Records::vf_info_link_state_bytes, link_vfrec::specs::Records::vf_info_mac_bytes, link_vfrec::specs::Records::vf_info_rate_bytes, link_vfrec::specs::Records::vf_info_rss_query_en_bytes, link_vfrec::specs::Records::vf_info_spoof_check_bytes, link_vfrec::specs::Records::vf_info_trust_bytes, link_vfrec::specs::Records::vf_info_tx_rate_bytes, link_vfrec::specs::Records::vf_info_vlan_bytes))]
+#[tactic(auto, unfolding(crate::proofs::Opened::vf_info))]
 impl Nla for VfInfo {
     ghost frame = { vf_info_place.frame };
 
@@ -221,7 +221,7 @@ fn at_most_value(len: usize) -> Option<usize>
 }
 
 /// The record that an attribute is, if its number is one of a record: no memory is taken.
-#[tactic(auto, unfolding(crate::specs::Tables::vf_info_place, link_vfrec::specs::Records::vf_info_broadcast_bytes, link_vfrec::specs::Records::vf_info_guid_bytes, link_vfrec::specs::Records::vf_info_link_state_bytes, link_vfrec::specs::Records::vf_info_mac_bytes, link_vfrec::specs::Records::vf_info_rate_bytes, link_vfrec::specs::Records::vf_info_rss_query_en_bytes, link_vfrec::specs::Records::vf_info_spoof_check_bytes, link_vfrec::specs::Records::vf_info_trust_bytes, link_vfrec::specs::Records::vf_info_tx_rate_bytes, link_vfrec::specs::Records::vf_info_vlan_bytes), using(crate::proofs::Lengths::mac_length, crate::proofs::Lengths::broadcast_length))]
+#[tactic(auto, unfolding(crate::proofs::Opened::vf_info), using(crate::proofs::Lengths::address_lengths))]
 fn read_record(buffer: &NlaBuffer<'_>) -> Option<Result<VfInfo, DecodeError>>
     ensures reads { MatchOption result
         (number buffer.now ≢ IFLA_VF_STATS → number buffer.now ≢ IFLA_VF_VLAN_LIST

@@ -18,16 +18,16 @@ on_ok_extended (Ok _) new longer same h k = k h
 on_ok_extended (Err _) new longer same h k = tt
 
 -- ** what is added
-lf_behind : (old text mid new : List ℕ) → mid ≡ old ++ text → new ≡ mid ++ 10 ∷ [] → new ≡ old ++ with_lf text
-lf_behind old text mid new h k = k ∙ ap (λ l. l ++ 10 ∷ []) h ∙ append_assoc old text (10 ∷ [])
+lf_after : (old text mid new : List ℕ) → mid ≡ old ++ text → new ≡ mid ++ 10 ∷ [] → new ≡ old ++ with_lf text
+lf_after old text mid new h k = k ∙ ap (λ l. l ++ 10 ∷ []) h ∙ append_assoc old text (10 ∷ [])
 
 pub adds_fault : (bytes old mid new : List ℕ) (c : Cause) → FirstFault bytes c → AddsObject (fault_head c) old mid
     → new ≡ mid ++ 10 ∷ [] → AddsAnswerTo bytes old new
-adds_fault bytes old mid new c h s k = (s.0, IsAnswerTo.fault c h s.1, lf_behind old s.0 mid new s.2 k)
+adds_fault bytes old mid new c h s k = (s.0, IsAnswerTo.fault c h s.1, lf_after old s.0 mid new s.2 k)
 
 pub adds_message : (bytes old mid new : List ℕ) (m : LinkMessage) → Means bytes m → AddsObject (message_head m) old mid
     → new ≡ mid ++ 10 ∷ [] → AddsAnswerTo bytes old new
-adds_message bytes old mid new m h s k = (s.0, IsAnswerTo.message m h s.1, lf_behind old s.0 mid new s.2 k)
+adds_message bytes old mid new m h s k = (s.0, IsAnswerTo.message m h s.1, lf_after old s.0 mid new s.2 k)
 
 pub adds_spelled : (line room old new : List ℕ) → decode_of line ≡ Ok room → AddsAnswerTo room old new
     → AddsAnswer line old new

@@ -4,7 +4,7 @@ use Rattle.std.specs.Prelude.{Ok, Err}
 use Rattle.json.specs.Token.{Token}
 use Rattle.json.specs.Print.{print, print_from, escape_byte}
 use Rattle.nla_wire.specs.declared.error.Cause.{Cause}
-use Rattle.link_msg.specs.Messages.{Means, FirstFault, MeansNothing, read_message}
+use Rattle.link_msg.specs.Messages.{FirstFault, MeansNothing}
 use Rattle.link_msg.specs.declared.message.LinkMessage.{LinkMessage}
 use Rattle.link_msg.proofs.Reading.{message_agrees}
 use Rattle.shown.specs.Pages.{IsObject}

@@ -65,7 +65,7 @@ fn push_message(
 {
     let page = message_page(alloc, bytes, message)?;
     let family = u8::from(message.header.interface_family);
-    page.add_behind_number("ifi-family", family.into(), waiting)?;
+    page.add_after_number("ifi-family", family.into(), waiting)?;
     waiting.push(b'\n')?;
     Ok(())
 }
@@ -81,7 +81,7 @@ fn push_fault(
     ensures { OnOk result (AddsAnswerTo bytes.now waiting.old.items waiting.new.items) }
 {
     let page = fault_page(alloc, bytes, error)?;
-    page.add_behind_text("fault", cause_name(&error.cause), waiting)?;
+    page.add_after_text("fault", cause_name(&error.cause), waiting)?;
     waiting.push(b'\n')?;
     Ok(())
 }

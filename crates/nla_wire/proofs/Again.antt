@@ -9,7 +9,7 @@ use Rattle.std.specs.Int.{Width, w8, w16, w32, w64, byte_len, to_le_bytes, from_
 use Rattle.nla_wire.specs.Frames.{IsBytes}
 use Rattle.nla_wire.specs.Canon.{canon, Writes}
 use Rattle.nla_wire.specs.Fields.{number_at, numbers_from, le_all, zero_filled}
-use Rattle.nla_wire.proofs.FieldLemmas.{IsBytes-get, number_at_before, number_at_front, numbers_from_behind}
+use Rattle.nla_wire.proofs.FieldLemmas.{IsBytes-get, number_at_before, number_at_front, numbers_from_after}
 use Rattle.nla_wire.proofs.Steps.{bytes_left, bytes_right}
 
 -- the bytes of this width spell a number that is written as them
@@ -56,7 +56,7 @@ numbers_text w again q (suc n) small is =
     ∙ number_at_front w (take k q) in
     let tail : numbers_from w q (0 + k) n ≡ numbers_from w (drop k q) 0 n =
     ap (λ x. numbers_from w x (0 + k) n) (sym cut) ∙ ap (λ z. numbers_from w (take k q ++ drop k q) z n)
-    (omega (arith, first)) ∙ numbers_from_behind w (take k q) (drop k q) 0 n in
+    (omega (arith, first)) ∙ numbers_from_after w (take k q) (drop k q) 0 n in
     ap₂ (λ (x y : List ℕ). x ++ y)
     (ap (to_le_bytes w) head ∙ again (take k q) first (bytes_left (take k q) (drop k q) parts))
     (ap (le_all w) tail ∙ numbers_text w again (drop k q) n (bytes_right (take k q) (drop k q) parts) rest)
@@ -72,9 +72,9 @@ filled_front size p long =
     ap (λ n. take size p ++ replicate n 0) no_more ∙ append-nil (take size p)
 
 -- a shorter one is filled up
-pub filled_behind : (size : ℕ) (p : List ℕ) → length p ≤ size → zero_filled size p ≡ p ++ replicate (size - length p) 0
+pub filled_after : (size : ℕ) (p : List ℕ) → length p ≤ size → zero_filled size p ≡ p ++ replicate (size - length p) 0
 unfolding zero_filled
-filled_behind size p short = ap (λ xs. xs ++ replicate (size - length p) 0) (take_all size p short)
+filled_after size p short = ap (λ xs. xs ++ replicate (size - length p) 0) (take_all size p short)
 
 bytes_joined : (xs ys : List ℕ) → IsBytes xs → IsBytes ys → IsBytes (xs ++ ys)
 bytes_joined [] ys a b = b

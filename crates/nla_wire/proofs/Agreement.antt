@@ -221,9 +221,9 @@ other_alone x never = rw (ne_eqb x 0 never)
 ends_further : (x : ℕ) (p : List ℕ) → EndsInNul p → EndsInNul (x ∷ p)
 ends_further x p e = (x ∷ e.0, ap (λ (t : List ℕ). x ∷ t) e.1)
 
-ends_behind : (x y : ℕ) (p s : List ℕ) → x ∷ y ∷ p ≡ s ++ 0 ∷ [] → EndsInNul (y ∷ p)
-ends_behind x y p [] e = absurd cc
-ends_behind x y p (z ∷ s) e = (s, cc)
+ends_after : (x y : ℕ) (p s : List ℕ) → x ∷ y ∷ p ≡ s ++ 0 ∷ [] → EndsInNul (y ∷ p)
+ends_after x y p [] e = absurd cc
+ends_after x y p (z ∷ s) e = (s, cc)
 
 nothing_ends : EndsInNul [] → ⊥
 nothing_ends e = let lengths : length {A = ℕ} [] ≡ length (e.0 ++ 0 ∷ []) = ap length e.1 in
@@ -247,7 +247,7 @@ text_is p s (inr (never, e)) = without_nul_other p never ∙ e
 text_further : (x y : ℕ) (p s : List ℕ) → IsTextOf (y ∷ p) s → IsTextOf (x ∷ y ∷ p) (x ∷ s)
 text_further x y p s (inl e) = inl (ap (λ (t : List ℕ). x ∷ t) e)
 text_further x y p s (inr (never, e)) =
-    inr (λ ends. never (ends_behind x y p ends.0 ends.1), ap (λ (t : List ℕ). x ∷ t) e)
+    inr (λ ends. never (ends_after x y p ends.0 ends.1), ap (λ (t : List ℕ). x ∷ t) e)
 
 pub is_text : (p : List ℕ) → IsTextOf p (without_nul p)
 is_text [] = inr (nothing_ends, refl)

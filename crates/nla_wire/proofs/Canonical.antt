@@ -1,5 +1,5 @@
 -- Canonical text at the front of a buffer: a frame around a value, and texts one after the other.
-use Rattle.std.proofs.Common.{◌≡◌, ℕ, suc, ◌+◌, ◌-◌, ◌*◌, ◌/◌, ◌%◌, ◌<◌, ◌≤◌, inl, inr, List, [], ◌∷◌, ◌++◌}
+use Rattle.std.proofs.Common.{◌≡◌, ℕ, suc, ◌+◌, ◌-◌, ◌*◌, ◌/◌, ◌%◌, ◌<◌, ◌≤◌, List, [], ◌∷◌, ◌++◌}
 use Rattle.std.proofs.Common.{append_assoc, append-nil, get_or, slice_set, length, take, drop, replicate}
 use Rattle.std.proofs.Common.{length-append, length-drop, length-take, refl, ap, sym, ◌∙◌, subst, arith}
 use Rattle.std.specs.Int.{w16, to_le_bytes}
@@ -10,7 +10,6 @@ use Rattle.std.proofs.lemmas.Slice.{drop-append-drop}
 use borrow.Rule.Slice.PartMut.{put_mid}
 use Rattle.nla_wire.specs.Fields.{zero_filled}
 use Rattle.nla_wire.specs.Frames.{Frame, IsBytes, missing}
-use Rattle.nla_wire.specs.Payloads.{IsTextOf}
 use Rattle.nla_wire.specs.Canon.{canon, Filled, Writes}
 use Rattle.nla_wire.proofs.Bounds.{length-canon}
 use Rattle.nla_wire.proofs.FieldLemmas.{length-zero_filled}
@@ -33,21 +32,21 @@ write_on done text old now part at n before w =
     ap (take at) before.new_is ∙ take_at done (drop at old) at (sym before.length_is) in
     let rest : drop at now ≡ drop at old =
     ap (drop at) before.new_is ∙ drop_at done (drop at old) at (sym before.length_is) in
-    let behind : drop n (take (length now - at) (drop at now)) ≡ drop (at + n) old =
+    let after : drop n (take (length now - at) (drop at now)) ≡ drop (at + n) old =
     ap (drop n) (take_rest now at ∙ rest) ∙ drop-drop n at old ∙ ap (λ k. drop k old) (omega arith) in
     record {
       length_is = omega (arith, before.length_is, w.length_is, length-append done text);
       new_is =
           lent_back at now part
           ∙ ap (λ (xs : List ℕ). xs ++ part) front
-          ∙ ap (λ (xs : List ℕ). done ++ xs) (w.new_is ∙ ap (λ (xs : List ℕ). text ++ xs) behind)
+          ∙ ap (λ (xs : List ℕ). done ++ xs) (w.new_is ∙ ap (λ (xs : List ℕ). text ++ xs) after)
           ∙ sym (append_assoc done text (drop (at + n) old));
     }
 
 -- one NUL after the text
-pub nul_behind : (text old now : List ℕ) (n : ℕ) → n < length old → Writes text old now n
+pub nul_after : (text old now : List ℕ) (n : ℕ) → n < length old → Writes text old now n
     → Writes (text ++ 0 ∷ []) old (slice_set now n 0) (n + 1)
-nul_behind text old now n room w =
+nul_after text old now n room w =
     let front : now ≡ text ++ get_or old n 0 ∷ drop (n + 1) old =
     w.new_is ∙ ap (λ (xs : List ℕ). text ++ xs) (drop_more old n 0 room) in
     record {
@@ -99,13 +98,13 @@ finished kind len old headed zeros end padded room end_is padded_is headed_is ze
     let count : length (take (padded - end) (drop end headed)) ≡ missing (length value) =
     rw lent (simp (length-take, length-drop) (omega arith)) in
     zeros_are ∙ ap (λ n. replicate n 0) count in
-    let behind : drop (padded - end) (drop end headed) ≡ drop padded old =
+    let after : drop (padded - end) (drop end headed) ≡ drop padded old =
     ap (drop (padded - end)) lent ∙ drop-drop (padded - end) len t ∙ drop-drop (len + (padded - end)) 4 old
     ∙ ap (λ n. drop n old) (let same : 4 + (len + (padded - end)) ≡ padded = omega arith in same) in
     record {
       length_is = omega (arith, length-canon (record { kind = kind; payload = value }));
       new_is =
-          (λ i. front i ++ (zeros ++ behind i))
+          (λ i. front i ++ (zeros ++ after i))
           ∙ around kind end value zeros (drop padded old) (omega arith) zero;
     }
 
@@ -117,9 +116,9 @@ finished_round : (kind : ℕ) (value old lent : List ℕ) (len : ℕ) (new : Lis
     → Writes (canon (record { kind = kind; payload = value })) old new n
 finished_round kind value old lent len new n long len_is lent_is finishing =
     let header : length (take 4 old) ≡ 4 = simp length-take (omega arith) in
-    let behind : drop 4 lent ≡ value ++ drop len (drop 4 old) =
+    let after : drop 4 lent ≡ value ++ drop len (drop 4 old) =
     ap (drop 4) lent_is ∙ drop_at (take 4 old) (value ++ drop len (drop 4 old)) 4 header in
-    let there = ap (take len) behind ∙ take_at value (drop len (drop 4 old)) len (sym len_is) in
+    let there = ap (take len) after ∙ take_at value (drop len (drop 4 old)) len (sym len_is) in
     let h = subst (λ v. Writes (canon (record { kind = kind; payload = v })) lent new n) there finishing in
     let far : 4 + len ≤ n =
     omega (arith, h.length_is, len_is, length-canon (record { kind = kind; payload = value })) in
@@ -127,7 +126,7 @@ finished_round kind value old lent len new n long len_is lent_is finishing =
     let whole : drop n lent ≡ drop (n - 4) (drop 4 lent) =
     ap (λ k. drop k lent) split ∙ sym (drop-drop (n - 4) 4 lent) in
     let kept : drop n lent ≡ drop n old =
-    whole ∙ ap (drop (n - 4)) behind ∙ drop-append-drop len (drop 4 old) value (n - 4) (omega (arith, far)) (sym len_is)
+    whole ∙ ap (drop (n - 4)) after ∙ drop-append-drop len (drop 4 old) value (n - 4) (omega (arith, far)) (sym len_is)
     ∙ drop-drop (n - 4) 4 old ∙ ap (λ k. drop k old) (sym split) in
     record {
       length_is = h.length_is;
@@ -172,10 +171,6 @@ finished_filled kind f old part len count start new n kind_is room len_is count_
 
 -- ** what is written as it was read
 
-pub text_short : (p s : List ℕ) → IsTextOf p s → length s ≤ length p
-text_short p s (inl e) = omega (arith, ap length e, length-append s (0 ∷ []))
-text_short p s (inr (never, e)) = omega (arith, ap length e)
-
 two_octets : (a b : ℕ) → b < 256 → ((a * 256 + b) / 256 ≡ a) × ((a * 256 + b) % 256 ≡ b)
 two_octets a b small = (omega arith, omega arith)
 
@@ -184,8 +179,8 @@ octets_again [] e small = refl
 octets_again (a ∷ []) e small = absurd (omega arith)
 octets_again (a ∷ b ∷ p) e small =
     let here = two_octets a b small.1.0 in
-    let behind = octets_again p (omega arith) small.1.1 in
-    λ i. here.0 i ∷ here.1 i ∷ behind i
+    let after = octets_again p (omega arith) small.1.1 in
+    λ i. here.0 i ∷ here.1 i ∷ after i
 
 -- ** a payload that is filled up with zeros
 
@@ -200,11 +195,11 @@ filled_up p old now zeros size len short room w zeros_are =
     let count : length (take (size - len) (drop len now)) ≡ size - length p =
     ap (λ xs. length (take (size - len) xs)) rest ∙ simp (length-take, length-drop) (omega (arith, w.length_is)) in
     let zero : zeros ≡ replicate (size - length p) 0 = zeros_are ∙ ap (λ n. replicate n 0) count in
-    let behind : drop (size - len) (drop len now) ≡ drop size old =
+    let after : drop (size - len) (drop len now) ≡ drop size old =
     ap (drop (size - len)) rest ∙ drop-drop (size - len) len old
     ∙ ap (λ n. drop n old) (let same : len + (size - len) ≡ size = omega (arith, w.length_is) in same) in
     record {
       length_is = sym (length-zero_filled size p);
-      new_is = (λ i. front i ++ (zero i ++ behind i))
+      new_is = (λ i. front i ++ (zero i ++ after i))
           ∙ sym (append_assoc (take size p) (replicate (size - length p) 0) (drop size old));
     }

@@ -1,7 +1,7 @@
 -- Numbers of records read again from their bytes.
 use Rattle.std.proofs.Common.{◌≡◌, ℕ, zero, suc, ◌+◌, ◌-◌, ◌*◌, ◌/◌, ◌%◌, ◌^◌, ◌<◌, ◌≤◌, ℤ, List, [], ◌∷◌, ◌++◌}
 use Rattle.std.proofs.Common.{length, get_or, map, take, replicate, FitsSigned, add_comm, add_assoc, zero-add}
-use Rattle.std.proofs.Common.{add-zero, mul_comm, mod-lt, mod-eq_of_lt, pow-suc, refl, sym, ap, ap₂, subst, ◌∙◌}
+use Rattle.std.proofs.Common.{add-zero, mul_comm, mod-eq_of_lt, pow-suc, refl, sym, ap, ap₂, subst, ◌∙◌}
 use Rattle.std.proofs.Common.{append_assoc, append-nil, length-append, length-take, take_all, get_or-append-add}
 use Rattle.std.proofs.Common.{arith, lit<}
 use Rattle.std.proofs.lemmas.List.{get_or_append_left, length-map, length-replicate}
@@ -100,14 +100,6 @@ sum_fits w f h =
 pub from_le_bytes_below : (w : Width) (p : List ℕ) → IsBytes p → from_le_bytes w p < 2 ^ bits w
 from_le_bytes_below w p h = sum_fits w (λ i. get_or p i 0) (λ i. IsBytes-get p i h)
 
-pub byte_at_below : (i n : ℕ) → byte_at i n < 256
-byte_at_below zero n = mod-lt n (lit< tt)
-byte_at_below (suc i) n = mod-lt (n / 256 ^ suc i) (lit< tt)
-
-low_first_bytes : (i k n : ℕ) → IsBytes (bytes_low_first i k n)
-low_first_bytes i zero n = tt
-low_first_bytes i (suc k) n = (byte_at_below i n, low_first_bytes (suc i) k n)
-
 -- ** a number at a place
 
 pub number_at_below : (w : Width) (p : List ℕ) (place : ℕ) → IsBytes p → number_at w p place < 2 ^ bits w
@@ -143,9 +135,9 @@ pub number_at_before : (w : Width) (bytes more : List ℕ) (place : ℕ) → pla
 number_at_before w bytes more place h = number_at_same w (bytes ++ more) bytes place place
     (λ i l. get_or_append_left bytes more 0 (place + i) (omega arith))
 
-pub number_at_behind : (w : Width) (front bytes : List ℕ) (place : ℕ)
+pub number_at_after : (w : Width) (front bytes : List ℕ) (place : ℕ)
     → number_at w (front ++ bytes) (length front + place) ≡ number_at w bytes place
-number_at_behind w front bytes place = number_at_same w (front ++ bytes) bytes (length front + place) place (λ i l.
+number_at_after w front bytes place = number_at_same w (front ++ bytes) bytes (length front + place) place (λ i l.
     ap (λ z. get_or (front ++ bytes) z 0) (add_assoc (length front) place i)
     ∙ get_or-append-add front bytes (place + i) 0)
 
@@ -174,9 +166,9 @@ numbers_from_same w a b x y (suc n) h =
     (λ j. here j ∷ after j)
 
 -- nor are bytes in front of the place
-pub numbers_from_behind : (w : Width) (front bytes : List ℕ) (place n : ℕ)
+pub numbers_from_after : (w : Width) (front bytes : List ℕ) (place n : ℕ)
     → numbers_from w (front ++ bytes) (length front + place) n ≡ numbers_from w bytes place n
-numbers_from_behind w front bytes place n =
+numbers_from_after w front bytes place n =
     numbers_from_same w (front ++ bytes) bytes (length front + place) place n (λ i l.
     ap (λ z. get_or (front ++ bytes) z 0) (add_assoc (length front) place i)
     ∙ get_or-append-add front bytes (place + i) 0)
@@ -192,7 +184,7 @@ pub number_again_between : (w : Width) (front : List ℕ) (n : ℕ) (more : List
     → number_at w (front ++ (to_le_bytes w n ++ more)) place ≡ n
 number_again_between w front n more place h is =
     ap (number_at w (front ++ (to_le_bytes w n ++ more))) (sym is ∙ sym (add-zero (length front)))
-    ∙ number_at_behind w front (to_le_bytes w n ++ more) 0
+    ∙ number_at_after w front (to_le_bytes w n ++ more) 0
     ∙ number_again w n more h
 
 -- numbers are read again from their bytes, whatever follows
@@ -208,7 +200,7 @@ numbers_again_before w (n ∷ ns) more h =
     let place : 0 + byte_len w ≡ length text + 0 = omega (arith, length-to_le_bytes w n) in
     let after : numbers_from w ((text ++ le_all w ns) ++ more) (0 + byte_len w) (length ns) ≡ ns =
     ap₂ (λ x y. numbers_from w x y (length ns)) regroup place
-    ∙ numbers_from_behind w text (le_all w ns ++ more) 0 (length ns)
+    ∙ numbers_from_after w text (le_all w ns ++ more) 0 (length ns)
     ∙ numbers_again_before w ns more h.1 in
     (λ j. here j ∷ after j)
 

@@ -44,27 +44,27 @@ step_long (a ∷ b ∷ []) h = absurd (omega arith)
 step_long (a ∷ b ∷ c ∷ []) h = absurd (omega arith)
 step_long (a ∷ b ∷ c ∷ d ∷ p) h = refl
 
-behind_header : (b : List ℕ) → 4 ≤ length b → length (drop 4 b) + 4 ≡ length b
-behind_header b h = simp length-drop (omega arith)
+after_header : (b : List ℕ) → 4 ≤ length b → length (drop 4 b) + 4 ≡ length b
+after_header b h = simp length-drop (omega arith)
 
 pub front_over : (b : List ℕ) → 4 ≤ length b → length b < length_field b
     → front (step b) ≡ Err (FrameOver (length_field b) (length b))
 front_over b long over =
-    let size = behind_header b long in
+    let size = after_header b long in
     ap front (step_long b long ∙ frame_over (length_field b) (kind_field b) (drop 4 b) (omega arith))
     ∙ ap (λ n. Err (FrameOver (length_field b) n)) size
 
 pub front_under : (b : List ℕ) → 4 ≤ length b → length_field b ≤ length b → length_field b < 4
     → front (step b) ≡ Err (FrameUnder (length_field b))
 front_under b long fits under =
-    let size = behind_header b long in
+    let size = after_header b long in
     ap front (step_long b long ∙ frame_under (length_field b) (kind_field b) (drop 4 b) (omega arith) under)
 
 pub step_fine : (b : List ℕ) → 4 ≤ length b → length_field b ≤ length b → 4 ≤ length_field b
     → step b ≡ Next (record { kind = kind_field b; payload = take (length_field b - 4) (drop 4 b) })
     (drop (length_field b - 4 + missing (length_field b - 4)) (drop 4 b))
 step_fine b long fits whole =
-    let size = behind_header b long in
+    let size = after_header b long in
     step_long b long ∙ frame_fine (length_field b) (kind_field b) (drop 4 b) (omega arith) whole
 
 -- ** what stands after the frame
@@ -145,8 +145,8 @@ checked_front b (Err e) bytes h =
     (bad_meaning b (step b) e.cause refl (sym h), not_both b (step b) e.cause refl (sym h))
 
 -- what stands after the padding, from the length field
-pub padded_behind : (b : List ℕ) (len n : ℕ) → len ≡ 4 + n → drop (4 + n + missing n) b ≡ drop (len + missing len) b
-padded_behind b len n e = let same : 4 + n + missing n ≡ len + missing len = omega (arith, e) in ap (λ k. drop k b) same
+pub padded_after : (b : List ℕ) (len n : ℕ) → len ≡ 4 + n → drop (4 + n + missing n) b ≡ drop (len + missing len) b
+padded_after b len n e = let same : 4 + n + missing n ≡ len + missing len = omega (arith, e) in ap (λ k. drop k b) same
 
 -- nothing is left of no bytes
 pub items_ended : (b : List ℕ) → length b ≡ 0 → items b ≡ []

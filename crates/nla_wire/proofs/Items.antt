@@ -4,9 +4,9 @@ use Rattle.std.proofs.Common.{subst, arith, Option, Some, None, Result, Ok, Err}
 use Rattle.nla_wire.specs.Frames.{Frame, IsBytes}
 use Rattle.nla_wire.specs.Reading.{Step, step, Cut, cut, each, unless, list_of, ◌>>=◌}
 use Rattle.nla_wire.specs.Reading.Step.{End, Bad, Next}
-use Rattle.nla_wire.specs.Items.{Item, items_of, items, all_frames, AreItems, size, frame_count, AreFramed, read_items}
+use Rattle.nla_wire.specs.Items.{Item, items_of, items, all_frames, AreItems, frame_count, read_items}
 use Rattle.nla_wire.specs.declared.error.Cause.{Cause}
-use Rattle.nla_wire.proofs.Steps.{step_shorter, step_size, step_end, step_framed, step_rest_bytes}
+use Rattle.nla_wire.proofs.Steps.{step_shorter, step_size, step_end}
 use Rattle.nla_wire.proofs.Cuts.{cut_nil, cut_next, cut_bad, cut_ended, Ended}
 
 -- ** step by step
@@ -85,15 +85,7 @@ list_items read b = read_of read (cut b).frames (cut b).stop
 
 -- ** sizes
 
-pub items_size : (b : List ℕ) → size (items b) ≤ length b
-items_size b = items_case (λ b xs. size xs ≤ length b) (omega arith) (λ b c e. omega arith)
-    (λ b f rest e more. omega (arith, step_size b f rest e)) b
-
 -- each frame has at least four bytes
 pub items_count : (b : List ℕ) → 4 * frame_count (items b) ≤ length b
 items_count b = items_case (λ b xs. 4 * frame_count xs ≤ length b) (omega arith) (λ b c e. omega arith)
     (λ b f rest e more. omega (arith, step_size b f rest e)) b
-
-pub items_framed : (b : List ℕ) → IsBytes b → AreFramed (items b)
-items_framed b small = items_case (λ b xs. IsBytes b → AreFramed xs) (λ small. tt) (λ b c e small. tt)
-    (λ b f rest e more small. (step_framed b f rest small e, more (step_rest_bytes b f rest small e))) b small

@@ -29,3 +29,4 @@ pub mod RecordParts
 pub mod Spellings
 pub mod Texts
 pub mod Written
+pub mod Opened

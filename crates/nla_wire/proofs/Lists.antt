@@ -79,11 +79,11 @@ module _ {V : Type 0} (place : Grammar Frame V) (agrees : Agrees IsFrame place) 
   found_on p (Next f rest) vs s small more e =
       let both =
       first_found (place.reads f) (list_of place.reads rest) vs (sym (list_next place.reads p f rest s) ∙ e) in
-      let behind = more rest both.1 (step_shorter p f rest s) (step_rest_bytes p f rest small s) both.3 in (
-        f ∷ behind.0,
-        (rest, step_begins p f rest small s, behind.1),
-        subst (λ ws. Every place.means (f ∷ behind.0) ws) (sym both.4)
-            (agrees.found f both.0 (step_framed p f rest small s) both.2, behind.2),
+      let after = more rest both.1 (step_shorter p f rest s) (step_rest_bytes p f rest small s) both.3 in (
+        f ∷ after.0,
+        (rest, step_begins p f rest small s, after.1),
+        subst (λ ws. Every place.means (f ∷ after.0) ws) (sym both.4)
+            (agrees.found f both.0 (step_framed p f rest small s) both.2, after.2),
       )
 
   found_within : (n : ℕ) (p : List ℕ) (vs : List V) → length p < n → IsBytes p → list_of place.reads p ≡ Ok vs
@@ -110,9 +110,9 @@ module _ {V : Type 0} (place : Grammar Frame V) (agrees : Agrees IsFrame place) 
       let begins : Begins p f rest = step_begins p f rest small s in
       elim (first_fault (place.reads f) (list_of place.reads rest) c (sym (list_next place.reads p f rest s) ∙ e)) [
         | inl here ↦ ([], inr (f, rest, begins, agrees.fault f c (step_framed p f rest small s) here))
-        | inr behind ↦ let later = more rest (step_shorter p f rest s) (step_rest_bytes p f rest small s) behind.2 in (
+        | inr after ↦ let later = more rest (step_shorter p f rest s) (step_rest_bytes p f rest small s) after.2 in (
           f ∷ later.0,
-          (rest, begins, (behind.0, agrees.found f behind.0 (step_framed p f rest small s) behind.1), later.1),
+          (rest, begins, (after.0, agrees.found f after.0 (step_framed p f rest small s) after.1), later.1),
         )
       ]
 
@@ -152,17 +152,17 @@ module _ {V : Type 0} (place : Grammar Frame V) where
   pick_other : (f : Frame) → is_one f ≡ false → (some_if_picked place).means f None
   pick_other f other = rw other refl
 
-  options_more : (f : Frame) (fs kept_behind : List Frame) (test : Bool) (vs : List V) → is_one f ≡ test
-      → ((ws : List V) → Every place.means kept_behind ws
+  options_more : (f : Frame) (fs kept_after : List Frame) (test : Bool) (vs : List V) → is_one f ≡ test
+      → ((ws : List V) → Every place.means kept_after ws
       → (os : List (Option V)) × Every (some_if_picked place).means fs os × (ws ≡ present_values os))
-      → Every place.means (cond test (f ∷ kept_behind) kept_behind) vs
+      → Every place.means (cond test (f ∷ kept_after) kept_after) vs
       → (os : List (Option V)) × Every (some_if_picked place).means (f ∷ fs) os × (vs ≡ present_values os)
-  options_more f fs kept_behind true [] one behind every = absurd every
-  options_more f fs kept_behind true (v ∷ vs) one behind every =
-      let more = behind vs every.1 in
+  options_more f fs kept_after true [] one after every = absurd every
+  options_more f fs kept_after true (v ∷ vs) one after every =
+      let more = after vs every.1 in
       (Some v ∷ more.0, (pick_one f v one every.0, more.1), ap (λ (ws : List V). v ∷ ws) more.2)
-  options_more f fs kept_behind false vs other behind every =
-      let more = behind vs every in
+  options_more f fs kept_after false vs other after every =
+      let more = after vs every in
       (None ∷ more.0, (pick_other f other, more.1), more.2)
 
   -- the values of the members with number 1, with nothing in the place of each that is dropped
@@ -172,14 +172,14 @@ module _ {V : Type 0} (place : Grammar Frame V) where
   options [] (v ∷ vs) every = absurd every
   options (f ∷ fs) vs every = options_more f fs (filter is_one fs) (is_one f) vs refl (options fs) every
 
-  values_more : (f : Frame) (kept_behind : List Frame) (test : Bool) (o : Option V) (os : List (Option V))
+  values_more : (f : Frame) (kept_after : List Frame) (test : Bool) (o : Option V) (os : List (Option V))
       → (if_true test (as_a (λ (v : V). Some v) place) (undecoded (λ f. None))).means f o
-      → Every place.means kept_behind (present_values os)
-      → Every place.means (cond test (f ∷ kept_behind) kept_behind) (present_values (o ∷ os))
-  values_more f kept_behind true None os m every = absurd (nothing_is_some m.0 m.2)
-  values_more f kept_behind true (Some v) os m every = (some_means f m.0 v m.1 m.2, every)
-  values_more f kept_behind false None os m every = every
-  values_more f kept_behind false (Some v) os m every = absurd cc
+      → Every place.means kept_after (present_values os)
+      → Every place.means (cond test (f ∷ kept_after) kept_after) (present_values (o ∷ os))
+  values_more f kept_after true None os m every = absurd (nothing_is_some m.0 m.2)
+  values_more f kept_after true (Some v) os m every = (some_means f m.0 v m.1 m.2, every)
+  values_more f kept_after false None os m every = every
+  values_more f kept_after false (Some v) os m every = absurd cc
 
   pub values : (fs : List Frame) (os : List (Option V)) → Every (some_if_picked place).means fs os
       → Every place.means (filter is_one fs) (present_values os)

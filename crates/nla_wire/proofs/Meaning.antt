@@ -1,8 +1,7 @@
 -- What follows from agreement: one meaning, one cause, never both, and always one of both.
-use Rattle.std.proofs.Common.{◌≡◌, Result, Ok, Err, IsOk}
+use Rattle.std.proofs.Common.{◌≡◌, Result, Ok, Err}
 use Rattle.nla_wire.specs.Grammar.{Grammar, Agrees}
 use Rattle.nla_wire.specs.declared.error.Cause.{Cause}
-use Rattle.nla_wire.proofs.Loop.{given}
 
 ok_once : {A : Type 0} (r : Result A Cause) (a b : A) → r ≡ Ok a → r ≡ Ok b → a ≡ b
 ok_once r a b e k = cc
@@ -16,6 +15,3 @@ module _ {S A : Type 0} (One : S → Type 0) (g : Grammar S A) (h : Agrees One g
 
   pub never_both : (s : S) (a : A) (c : Cause) → g.means s a → g.bad s c → ⊥
   never_both s a c m n = not_both (g.reads s) a c (h.only s a m) (h.refused s c n)
-
-  pub accepted_means : (s : S) → One s → IsOk (g.reads s) → (a : A) × (g.reads s ≡ Ok a) × g.means s a
-  accepted_means s one accepted = let k = given (g.reads s) accepted in (k.0, k.1, h.found s k.0 one k.1)

@@ -38,9 +38,9 @@ module _ {A : Type 0} (frame : A → Frame) where
   canons_within xs i d h = length-flat_map-take (λ x. canon (frame x)) xs i d h
 
   -- one text, and those after it, are within the texts of them all
-  pub canons_behind : (xs : List A) (i n : ℕ) (d : A) → i < length xs → n ≡ i + 1
+  pub canons_after : (xs : List A) (i n : ℕ) (d : A) → i < length xs → n ≡ i + 1
       → length (canon (frame (get_or xs i d))) + length (canons frame (drop n xs)) ≤ length (canons frame xs)
-  canons_behind xs i n d h e =
+  canons_after xs i n d h e =
       let parts : canons frame xs ≡ canons frame (take i xs) ++ canons frame (drop i xs) =
       ap (canons frame) (sym (take-append-drop i xs))
       ∙ flat_map-append (λ x. canon (frame x)) (take i xs) (drop i xs) in
@@ -63,12 +63,12 @@ Filled-more old mid new part text more at start n h k n_is new_is =
     let fits : start ≤ length old = omega (arith, h.0) in
     let size : length (take start old) ≡ start = length-take-le start old fits in
     let front : take start mid ≡ take start old = ap (take start) h.1 ∙ take_front start old text fits in
-    let behind : drop start mid ≡ text = ap (drop start) h.1 ∙ drop_front start old text fits in
+    let after : drop start mid ≡ text = ap (drop start) h.1 ∙ drop_front start old text fits in
     let le : at ≤ start = omega (arith, k.0, ap (λ (t : List ℕ). length t) front, size) in
     let kept : take at (take start mid) ≡ take at old = ap (take at) front ∙ take-take at start old le in
     let begun : part ≡ take at old ++ more = k.1 ∙ ap (λ (t : List ℕ). t ++ more) kept in (
       omega (arith, h.0, k.0, ap (λ (t : List ℕ). length t) front, size, length-append more text),
-      new_is ∙ ap (λ i. part ++ drop i mid) n_is ∙ ap (λ (t : List ℕ). part ++ t) behind
+      new_is ∙ ap (λ i. part ++ drop i mid) n_is ∙ ap (λ (t : List ℕ). part ++ t) after
           ∙ ap (λ (t : List ℕ). t ++ text) begun ∙ append_assoc (take at old) more text,
     )
 
@@ -87,4 +87,4 @@ pub canons_from : {A : Type 0} (frame : A → Frame) (xs : List A) (i n : ℕ) (
 canons_from frame xs i n x h e is =
     let at_place : length (canon (frame x)) ≡ length (canon (frame (get_or xs i x))) =
     ap (λ y. length (canon (frame y))) is in
-    omega (arith, canons_behind frame xs i n x h e, at_place)
+    omega (arith, canons_after frame xs i n x h e, at_place)

@@ -40,10 +40,10 @@ pub put_two : (n m : ℕ) (old tail two before after : List ℕ)
     → after ≡ take n old ++ (two ++ tail)
 put_two n m old tail two before after m_is fits b_is a_is =
     let front : take n before ≡ take n old = ap (take n) b_is ∙ take_twice n m old tail (omega (arith, m_is)) fits in
-    let behind : drop m before ≡ tail =
+    let later : drop m before ≡ tail =
     ap (drop m) b_is ∙ ap (λ k. drop k (take m old ++ tail)) (sym (length-take-le m old fits))
     ∙ drop-append_seam (take m old) tail in
-    a_is ∙ ap (λ (t : List ℕ). t ++ two ++ drop m before) front ∙ ap (λ (t : List ℕ). take n old ++ two ++ t) behind
+    a_is ∙ ap (λ (t : List ℕ). t ++ two ++ drop m before) front ∙ ap (λ (t : List ℕ). take n old ++ two ++ t) later
     ∙ append_assoc (take n old) two tail
 
 -- the header put in front of a value that was moved to the front by its padding

@@ -6,7 +6,7 @@ use Rattle.std.proofs.lemmas.List.{get_or_append_left, take-append-drop, length-
 use Rattle.std.specs.Int.{Width, w16, byte_len, to_le_bytes, from_le_bytes, to_be_bytes, from_be_bytes}
 use Rattle.nla_wire.specs.Frames.{IsBytes}
 use Rattle.nla_wire.specs.Fields.{number_at, be_number_at, zero_filled}
-use Rattle.nla_wire.specs.Records.{BytesBehind, RecordLaws}
+use Rattle.nla_wire.specs.Records.{BytesAfter, RecordLaws}
 use mir.Val.{bits}
 use Rattle.nla_wire.proofs.FieldLemmas.{number_at_same, number_at_below, number_at_front, be_number_at_same}
 use Rattle.nla_wire.proofs.FieldLemmas.{be_number_at_below, be_number_at_front, from_le_bytes-to_le_bytes}
@@ -29,20 +29,20 @@ pub ◌&◌ : {A B : Type 0} {m n : ℕ} {read : List ℕ → ℕ → A} {text :
 ◌&◌ {m} {n} {read} {text} {read'} {text'} f g = record {
   same = λ a b x y h.
       let here : read a x ≡ read b y = f.same a b x y (λ i l. h i (omega (arith, l))) in
-      let behind : read' a (x + m) ≡ read' b (y + m) = g.same a b (x + m) (y + m) (λ i l.
+      let after : read' a (x + m) ≡ read' b (y + m) = g.same a b (x + m) (y + m) (λ i l.
       ap (λ k. get_or a k 0) (add_assoc x m i) ∙ h (m + i) (omega (arith, l))
       ∙ ap (λ k. get_or b k 0) (sym (add_assoc y m i))) in
-      (λ j. (here j, behind j));
+      (λ j. (here j, after j));
   again = λ p x h.
       let t : List ℕ = text (read p x) in
       let u : List ℕ = text' (read' p (x + m)) in
       let here : read (t ++ u) 0 ≡ read p x =
       f.same (t ++ u) t 0 0 (λ i l. get_or_append_left t u 0 (0 + i) (omega (arith, l, f.sized p x))) ∙ f.again p x h in
-      let behind : read' (t ++ u) (0 + m) ≡ read' p (x + m) =
+      let after : read' (t ++ u) (0 + m) ≡ read' p (x + m) =
       g.same (t ++ u) u (0 + m) 0 (λ i l.
       ap (λ k. get_or (t ++ u) k 0) (omega (arith, f.sized p x)) ∙ get_or-append-add t u (0 + i) 0)
       ∙ g.again p (x + m) h in
-      (λ j. (here j, behind j));
+      (λ j. (here j, after j));
   sized = λ p x.
       length-append (text (read p x)) (text' (read' p (x + m))) ∙ ap₂ (λ a b. a + b) (f.sized p x) (g.sized p (x + m));
 }
@@ -64,7 +64,7 @@ laws_of {read} part make of bytes reads writes = record {
 }
 
 -- the front alone means the same
-pub front : {V : Type 0} (size : ℕ) (of : List ℕ → V) → BytesBehind size of → (p : List ℕ) → size ≤ length p
+pub front : {V : Type 0} (size : ℕ) (of : List ℕ → V) → BytesAfter size of → (p : List ℕ) → size ≤ length p
     → of (take size p) ≡ of p
 front size of longer p h =
     let long : size ≤ length (take size p) = omega (arith, length-take-le size p h) in

@@ -4,7 +4,7 @@ use Rattle.std.proofs.Common.{append_assoc, arith}
 use Rattle.std.specs.List.{flat_map}
 use Rattle.nla_wire.specs.Frames.{Frame, unpadded, missing, Begins, Frames, BadStart, Fault}
 use Rattle.nla_wire.specs.Spellings.{IsSpelling, IsFullSpelling, AreSpellings, IsConcatenation, AreFullSpellings}
-use Rattle.nla_wire.specs.Spellings.{IsFaultBehind}
+use Rattle.nla_wire.specs.Spellings.{IsFaultAfter}
 use Rattle.nla_wire.specs.declared.error.Cause.{Cause}
 use Rattle.nla_wire.specs.declared.error.Cause.TheVariants.{TooShort, FrameShort, FrameOver, FrameUnder, EmptyList}
 use Rattle.nla_wire.specs.declared.error.Cause.TheVariants.{WrongLength, NotUtf8, InvalidState, OutOfMemory}
@@ -105,10 +105,10 @@ pub fault_some : (b : List ℕ) (fs : List Frame) (c : Cause) → Fault b fs c �
 fault_some b [] c h = bad_start_some b c h
 fault_some b (f ∷ fs) c h = omega (arith, length-begins b f h.0 h.1)
 
-pub fault_behind : (b : List ℕ) (fs : List Frame) (c : Cause) → Fault b fs c → IsFaultBehind b fs c
-fault_behind b [] c h = ([], b, refl, tt, h)
-fault_behind b (f ∷ fs) c h =
-    let after = fault_behind h.0 fs c h.2 in
+pub fault_after : (b : List ℕ) (fs : List Frame) (c : Cause) → Fault b fs c → IsFaultAfter b fs c
+fault_after b [] c h = ([], b, refl, tt, h)
+fault_after b (f ∷ fs) c h =
+    let after = fault_after h.0 fs c h.2 in
     let s : List ℕ = unpadded f ++ h.1.padding in (
       s ∷ after.0,
       after.1,
@@ -117,17 +117,17 @@ fault_behind b (f ∷ fs) c h =
       after.4,
     )
 
-behind_fault_at : (ss : List (List ℕ)) (fs : List Frame) (b rest : List ℕ) (c : Cause)
+after_fault_at : (ss : List (List ℕ)) (fs : List Frame) (b rest : List ℕ) (c : Cause)
     → b ≡ flat_map (λ s. s) ss ++ rest → AreFullSpellings ss fs → BadStart rest c → Fault b fs c
-behind_fault_at [] [] b rest c e h bad = subst (λ x. BadStart x c) (sym e) bad
-behind_fault_at [] (f ∷ fs) b rest c e h bad = absurd h
-behind_fault_at (s ∷ ss) [] b rest c e h bad = absurd h
-behind_fault_at (s ∷ ss) (f ∷ fs) b rest c e h bad =
+after_fault_at [] [] b rest c e h bad = subst (λ x. BadStart x c) (sym e) bad
+after_fault_at [] (f ∷ fs) b rest c e h bad = absurd h
+after_fault_at (s ∷ ss) [] b rest c e h bad = absurd h
+after_fault_at (s ∷ ss) (f ∷ fs) b rest c e h bad =
     let after : List ℕ = flat_map (λ s. s) ss ++ rest in (
       after,
       begins_fully s f b after h.0 (e ∙ append_assoc s (flat_map (λ s. s) ss) rest),
-      behind_fault_at ss fs after rest c refl h.1 bad,
+      after_fault_at ss fs after rest c refl h.1 bad,
     )
 
-pub behind_fault : (b : List ℕ) (fs : List Frame) (c : Cause) → IsFaultBehind b fs c → Fault b fs c
-behind_fault b fs c h = behind_fault_at h.0 fs b h.1 c h.2 h.3 h.4
+pub after_fault : (b : List ℕ) (fs : List Frame) (c : Cause) → IsFaultAfter b fs c → Fault b fs c
+after_fault b fs c h = after_fault_at h.0 fs b h.1 c h.2 h.3 h.4

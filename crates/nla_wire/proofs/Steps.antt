@@ -31,12 +31,12 @@ frame_fine len kind p within whole = rw (le-ltb _ _ within, le-ltb _ _ whole)
 
 -- ** a spelling gives a step
 
-behind : (n : ℕ) (payload padding rest : List ℕ) → n ≡ length payload → length padding ≤ missing n
+after : (n : ℕ) (payload padding rest : List ℕ) → n ≡ length payload → length padding ≤ missing n
     → (length padding ≡ missing n) ⊎ (rest ≡ [])
     → drop (n + missing n) (payload ++ padding ++ rest) ≡ rest
-behind n payload padding rest is padded (inl full) =
+after n payload padding rest is padded (inl full) =
     drop_at (payload ++ padding) rest (n + missing n) (omega (arith, length-append payload padding))
-behind n payload padding rest is padded (inr ended) =
+after n payload padding rest is padded (inr ended) =
     ap (λ (r : List ℕ). drop (n + missing n) (payload ++ padding ++ r)) ended
     ∙ drop_all (n + missing n) (payload ++ padding ++ [])
     (omega (arith, length-append payload padding, length-append (payload ++ padding) []))
@@ -56,7 +56,7 @@ frame_whole len kind f padding rest len_is kind_is padded full =
     (omega (arith, length-append f.payload padding, length-append (f.payload ++ padding) rest)) (omega arith)
     ∙ same_next _ f _ rest
     (λ i. record { kind = kind_is i; payload = payload_is i })
-    (behind (len - 4) f.payload padding rest n_is (rw n_is padded) (rw n_is full))
+    (after (len - 4) f.payload padding rest n_is (rw n_is padded) (rw n_is full))
 
 pub step_whole : (b : List ℕ) (f : Frame) (rest : List ℕ) → Begins b f rest → step b ≡ Next f rest
 step_whole b f rest h =

@@ -26,9 +26,9 @@ words_more f xs i k d old new h was front =
     ap (λ n. take n new) more ∙ front ∙ ap (λ t. t ++ f (get_or xs i d)) was ∙ sym (flat_map-take-more f xs i d h)
 
 -- so many zeros after the first `m` are overwritten
-pub zeros_behind : (n m : ℕ) (front bytes : List ℕ) → m ≡ min (length bytes) n → front ≡ take m bytes
+pub zeros_after : (n m : ℕ) (front bytes : List ℕ) → m ≡ min (length bytes) n → front ≡ take m bytes
     → front ++ drop m (replicate n 0) ≡ take n bytes ++ replicate (n - length bytes) 0
-zeros_behind n m front bytes m_is front_is =
+zeros_after n m front bytes m_is front_is =
     let first : front ≡ take n bytes = front_is ∙ ap (λ k. take k bytes) (m_is ∙ min_comm (length bytes) n)
     ∙ take_min n bytes in
     let left : n - m ≡ n - length bytes = omega arith in

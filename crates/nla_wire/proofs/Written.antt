@@ -180,11 +180,6 @@ pub weighs_none : {V : Type 0} (text_of other : V → List ℕ) (fits : V → Ty
 weighs_none text_of other fits (Ok v) w = w
 weighs_none text_of other fits (Err c) w = tt
 
-pub weighed_small : {V : Type 0} (text_of : V → List ℕ) (fits : V → Type 0) (most : ℕ)
-    → ((v : V) → fits v → length (text_of v) ≤ most)
-    → (r : Result V Cause) (n : ℕ) → Weighs text_of fits r (Some n) → n ≤ most
-weighed_small text_of fits most short r n w = let k = weighed text_of fits r n w in omega (arith, short k.0 k.2, k.3)
-
 -- ** writing
 
 -- the values in front are written, and those of the items left are still to come
@@ -244,19 +239,6 @@ module _ {V : Type 0} (read : Frame → Result V Cause) (text_of : V → List �
         ap (λ (xs : List V). length (flat_map text_of xs)) todo_is,
         length-append (text_of v) (flat_map text_of vs),
       )
-
-  pub rewriting_within : at ≤ length now
-  rewriting_within = omega (arith, h.room, h.same)
-
-  pub rewriting_room : (f : Frame) (rest : List Item) → left ≡ Ok f ∷ rest
-      → HasRoom text_of fits (read f) (length (take (length now - at) (drop at now)))
-  rewriting_room f rest left_is =
-      let k = next f rest left_is in
-      let size : length (take (length now - at) (drop at now)) ≡ length now - at =
-      simp (length-take, length-drop) (omega arith) in
-      let fit : AllByRecursion fits (k.0 ∷ k.1) = subst (λ (xs : List V). AllByRecursion fits xs) k.4 h.fit in
-      subst (λ r. HasRoom text_of fits r (length (take (length now - at) (drop at now)))) (sym k.2)
-      (fit.0, omega (arith, size, h.same, ahead k.0 k.1 k.4))
 
   pub rewriting_on : (f : Frame) (rest : List Item) (part : List ℕ) (n : ℕ) → left ≡ Ok f ∷ rest
       → length part ≡ length (take (length now - at) (drop at now))
@@ -320,10 +302,6 @@ module _ {V : Type 0} (read : Frame → Result V Cause) (text_of : V → List �
         same = h.same;
       }
 
-  pub rewriting_never_fails : (c : Cause) (rest : List Item) → left ≡ Err c ∷ rest → ⊥
-  rewriting_never_fails c rest left_is = let fails =
-      ap (λ (xs : List Item). read_items read xs) (sym left_is) ∙ h.todo_is in absurd cc
-
   pub rewriting_ends : left ≡ [] → Rewrites (flat_map text_of) whole old now at
   rewriting_ends left_is =
       let ended : [] ≡ h.todo = let both =
@@ -347,18 +325,6 @@ pub measured_room : {A : Type 0} (text other : A → List ℕ) (fits : A → Typ
     → RoomWhereFit other fits r room → HasRoom other fits r room
 measured_room text other fits (Ok v) n room w enough = (w.0, enough w.0)
 measured_room text other fits (Err c) n room w enough = w
-
-pub written_canonical : {A : Type 0} (text other : A → List ℕ) (fits : A → Type 0) (r : Result A Cause) (len : ℕ)
-    (old new : List ℕ) (n : ℕ) → Weighs text fits r (Some len)
-    → Rewrites other r old new n → Canonical other fits r old new (Some n)
-written_canonical text other fits (Ok v) len old new n w wrote = (w.0, wrote)
-written_canonical text other fits (Err c) len old new n w wrote = w
-
-pub unwritten_canonical : {A : Type 0} (text other : A → List ℕ) (fits : A → Type 0) (r : Result A Cause) (old : List ℕ)
-    → Weighs text fits r None
-    → Canonical other fits r old old None
-unwritten_canonical text other fits (Ok v) old w = (w, refl)
-unwritten_canonical text other fits (Err c) old w = refl
 
 -- there is room enough where there is for each value that is read
 pub enough_room : {A : Type 0} (text : A → List ℕ) (fits : A → Type 0) (r : Result A Cause) (room : ℕ)
@@ -432,54 +398,12 @@ NestFits text fits v = (length (text v) ≤ most_payload) × fits v
 abbrev pub nest : {A : Type 0} → (A → List ℕ) → ℕ → A → Frame
 nest text kind v = record { kind = kind; payload = text v }
 
-pub nested_weighs : {A : Type 0} (text : A → List ℕ) (fits : A → Type 0) (r : Result A Cause) (n : ℕ)
-    → Weighs text fits r (Some n) → n ≤ most_payload
-    → Weighs text (NestFits text fits) r (Some n)
-nested_weighs text fits (Ok v) n w small = ((omega (arith, small, w.1), w.0), w.1)
-nested_weighs text fits (Err c) n w small = w
-
-pub nested_long : {A : Type 0} (text : A → List ℕ) (fits : A → Type 0) (r : Result A Cause) (n : ℕ)
-    → Weighs text fits r (Some n) → most_payload < n
-    → Weighs text (NestFits text fits) r None
-nested_long text fits (Ok v) n w long = λ good. absurd (omega (arith, good.0, w.1, long))
-nested_long text fits (Err c) n w long = tt
-
-pub nested_unfit : {A : Type 0} (text : A → List ℕ) (fits : A → Type 0) (r : Result A Cause) → Weighs text fits r None
-    → Weighs text (NestFits text fits) r None
-nested_unfit text fits (Ok v) w = λ good. w good.1
-nested_unfit text fits (Err c) w = tt
-
 pub nested_room : {A : Type 0} (text : A → List ℕ) (fits : A → Type 0) (kind : ℕ) (r : Result A Cause) (room : ℕ)
     → HasRoom (λ v. canon (nest text kind v)) (NestFits text fits) r room
     → HasRoom text fits r (room - 4) × (4 ≤ room)
 nested_room text fits kind (Ok v) room h =
     ((h.0.1, omega (arith, h.1, length-canon (nest text kind v))), omega (arith, h.1, length-canon (nest text kind v)))
 nested_room text fits kind (Err c) room h = absurd h
-
--- there is room for header and padding round the value that was written
-pub nested_finish : {A : Type 0} (text : A → List ℕ) (fits : A → Type 0) (kind : ℕ) (r : Result A Cause)
-    (old part : List ℕ) (len : ℕ)
-    → HasRoom (λ v. canon (nest text kind v)) (NestFits text fits) r (length old)
-    → length part ≡ length (take (length old - 4) (drop 4 old))
-    → Rewrites text r (take (length old - 4) (drop 4 old)) part len
-    → (len ≤ most_payload) × (4 + len + missing len ≤ length (put_mid 4 (length old - 4) old part))
-nested_finish text fits kind (Ok v) old part len h kept w =
-    let long : 4 ≤ length old = omega (arith, h.1, length-canon (nest text kind v)) in
-    let size : length (take (length old - 4) (drop 4 old)) ≡ length old - 4 =
-    simp (length-take, length-drop) (omega arith) in (
-      omega (arith, h.0.0, w.length_is),
-      omega (
-        arith,
-        h.1,
-        length-canon (nest text kind v),
-        w.length_is,
-        ap missing w.length_is,
-        lent_length old part long,
-        kept,
-        size,
-      ),
-    )
-nested_finish text fits kind (Err c) old part len h kept w = absurd h
 
 pub nested_written : {A : Type 0} (text : A → List ℕ) (kind : ℕ) (r : Result A Cause) (old part : List ℕ) (len : ℕ)
     (new : List ℕ) (n : ℕ) → 4 ≤ length old
@@ -619,11 +543,6 @@ module _ {V : Type 0} (place : Grammar Frame V) (f : Frame) (one : number f ≡ 
   weighs_some (Err c) (Some n) w = w
   weighs_some (Err c) None w = tt
 
-  room_some : (r : Result V Cause) (room : ℕ) → HasRoom (kept_text frame) (KeptFits fits) (r >>= λ v. Ok (Some v)) room
-      → HasRoom (λ v. canon (frame v)) fits r room
-  room_some (Ok v) room h = h
-  room_some (Err c) room h = h
-
   rewrites_some : (r : Result V Cause) (old new : List ℕ) (n : ℕ) → Rewrites (λ v. canon (frame v)) r old new n
       → Rewrites (kept_text frame) (r >>= λ v. Ok (Some v)) old new n
   rewrites_some (Ok v) old new n w = w
@@ -633,11 +552,6 @@ module _ {V : Type 0} (place : Grammar Frame V) (f : Frame) (one : number f ≡ 
       → Weighs (kept_text frame) (KeptFits fits) ((some_if_picked place).reads f) a
   kept_weighs a w = subst (λ r. Weighs (kept_text frame) (KeptFits fits) r a) (sym (picks_one place f one))
       (weighs_some (place.reads f) a w)
-
-  pub kept_room : (room : ℕ) → HasRoom (kept_text frame) (KeptFits fits) ((some_if_picked place).reads f) room
-      → HasRoom (λ v. canon (frame v)) fits (place.reads f) room
-  kept_room room h = room_some (place.reads f) room
-      (subst (λ r. HasRoom (kept_text frame) (KeptFits fits) r room) (picks_one place f one) h)
 
   pub kept_rewrites : (old new : List ℕ) (n : ℕ) → Rewrites (λ v. canon (frame v)) (place.reads f) old new n
       → Rewrites (kept_text frame) ((some_if_picked place).reads f) old new n

@@ -1,7 +1,7 @@
 -- Laws of frames, over the definitions alone.
 use Rattle.std.specs.Prelude.{◌≡◌, ◌⊎◌, ◌↔◌, ℕ, List}
 use Rattle.nla_wire.specs.Frames.{Frame, IsBytes, Frames, Fault}
-use Rattle.nla_wire.specs.Spellings.{IsConcatenation, IsFaultBehind}
+use Rattle.nla_wire.specs.Spellings.{IsConcatenation, IsFaultAfter}
 use Rattle.nla_wire.specs.declared.error.Cause.{Cause}
 
 -- bytes are frames, or frames and then a fault
@@ -26,5 +26,5 @@ abbrev pub FramesAreSpellings : Type 0
 FramesAreSpellings = (b : List ℕ) (fs : List Frame) → Frames b fs ↔ IsConcatenation b fs
 
 -- and a fault stands after full spellings of the frames in front of it
-abbrev pub FaultIsBehind : Type 0
-FaultIsBehind = (b : List ℕ) (fs : List Frame) (c : Cause) → Fault b fs c ↔ IsFaultBehind b fs c
+abbrev pub FaultIsAfter : Type 0
+FaultIsAfter = (b : List ℕ) (fs : List Frame) (c : Cause) → Fault b fs c ↔ IsFaultAfter b fs c

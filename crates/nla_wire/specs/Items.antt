@@ -1,7 +1,7 @@
 -- What the iterator over frames gives: the frames of bytes one after the other, and where one is damaged its fault, as
 -- the last item.
 use Rattle.std.specs.Prelude.{◌≡◌, ℕ, ◌+◌, List, [], ◌∷◌, ◌++◌, ◌⊎◌, length, map, Option, None, Some, Result, Ok, Err}
-use Rattle.nla_wire.specs.Frames.{Frame, IsFrame, Frames, Fault}
+use Rattle.nla_wire.specs.Frames.{Frame, Frames, Fault}
 use Rattle.nla_wire.specs.Reading.{cut, ◌>>=◌}
 use Rattle.nla_wire.specs.declared.error.Cause.{Cause}
 
@@ -40,12 +40,6 @@ abbrev pub frame_count : List Item → ℕ
 frame_count [] = 0
 frame_count ((Ok f) ∷ xs) = 1 + frame_count xs
 frame_count ((Err c) ∷ xs) = frame_count xs
-
--- each frame is one that bytes can spell
-abbrev pub AreFramed : List Item → Type 0
-AreFramed [] = Unit {0}
-AreFramed ((Ok f) ∷ xs) = IsFrame f × AreFramed xs
-AreFramed ((Err c) ∷ xs) = AreFramed xs
 
 -- the list that these items are read as
 abbrev pub read_items : {V : Type 0} → (Frame → Result V Cause) → List Item → Result (List V) Cause

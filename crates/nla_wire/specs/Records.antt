@@ -17,12 +17,12 @@ abbrev pub buffer_bytes : {R : Type 0} {size : ℕ} → RecordBuffer R size → 
 buffer_bytes b = b.bytes
 
 -- zeros after a payload change nothing
-abbrev pub ZerosBehind : {V : Type 0} → (List ℕ → V) → Type 0
-ZerosBehind of = (p : List ℕ) (m : ℕ) → of (p ++ replicate m 0) ≡ of p
+abbrev pub ZerosAfter : {V : Type 0} → (List ℕ → V) → Type 0
+ZerosAfter of = (p : List ℕ) (m : ℕ) → of (p ++ replicate m 0) ≡ of p
 
 -- bytes after a payload that is long enough change nothing
-abbrev pub BytesBehind : {V : Type 0} → ℕ → (List ℕ → V) → Type 0
-BytesBehind size of = (p more : List ℕ) → size ≤ length p → of (p ++ more) ≡ of p
+abbrev pub BytesAfter : {V : Type 0} → ℕ → (List ℕ → V) → Type 0
+BytesAfter size of = (p more : List ℕ) → size ≤ length p → of (p ++ more) ≡ of p
 
 -- what was read from bytes, written and read again, is the same
 abbrev pub ReadsAgain : {V : Type 0} → (List ℕ → V) → (V → List ℕ) → Type 0
@@ -37,7 +37,7 @@ abbrev pub WritesFilled : {V : Type 0} → ℕ → (List ℕ → V) → (V → L
 WritesFilled size of text = (p : List ℕ) → IsBytes p → text (of p) ≡ zero_filled size p
 
 pub record RecordLaws {V : Type 0} (size : ℕ) (of : List ℕ → V) (text : V → List ℕ) : Type 0 where
-  pub zeros : ZerosBehind of
-  pub longer : BytesBehind size of
+  pub zeros : ZerosAfter of
+  pub longer : BytesAfter size of
   pub again : ReadsAgain of text
   pub sized : HasSize size of text

@@ -215,7 +215,7 @@ pub fn put_i32(buffer: &mut [u8], place: usize, value: i32)
     ensures front { take (place + 4) buffer.new
         ≡ take place buffer.old ++ to_le_bytes w32 (cast_unsigned w32 value) }
 {
-    buffer[place..place + 4].copy_from_slice(&value.to_le_bytes());
+    put_u32(buffer, place, value.cast_unsigned());
 }
 
 /// Puts a signed number of eight bytes at a place, in two's complement, and keeps the rest.
@@ -226,7 +226,7 @@ pub fn put_i64(buffer: &mut [u8], place: usize, value: i64)
     ensures front { take (place + 8) buffer.new
         ≡ take place buffer.old ++ to_le_bytes w64 (cast_unsigned w64 value) }
 {
-    buffer[place..place + 8].copy_from_slice(&value.to_le_bytes());
+    put_u64(buffer, place, value.cast_unsigned());
 }
 
 /// Writes all the numbers, four bytes each, lowest byte first.

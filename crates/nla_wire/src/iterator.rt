@@ -38,7 +38,7 @@ impl<'a> NlasIterator<'a> {
 }
 
 /// What stands after a frame of this length.
-fn behind(bytes: &[u8], length: u16) -> &[u8]
+fn after(bytes: &[u8], length: u16) -> &[u8]
     ensures { result.now ≡ drop (length + missing length) bytes.now }
 {
     let padded = (length as usize + 3) / 4 * 4;
@@ -56,7 +56,7 @@ fn first(bytes: &[u8]) -> (Result<NlaBuffer<'_>, DecodeError>, &[u8])
 {
     match NlaBuffer::at_front(bytes) {
         Ok(frame) => {
-            let rest = behind(bytes, frame.length());
+            let rest = after(bytes, frame.length());
             (Ok(frame), rest)
         }
         Err(error) => (Err(error), &[]),

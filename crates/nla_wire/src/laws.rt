@@ -5,7 +5,7 @@ ghost use Rattle.nla_wire.specs.Sizes.{growth_per_byte};
 ghost use Rattle.nla_wire.specs.Grammar.{list, picked, not_empty};
 ghost use Rattle.nla_wire.specs.Canon.{canon, canons, AllFit, RoomWhereFit};
 ghost use Rattle.nla_wire.specs.FrameLaws.{SomeReading, OneListOfFrames, NeverBoth, OneFault, FramesAreSpellings};
-ghost use Rattle.nla_wire.specs.FrameLaws.{FaultIsBehind};
+ghost use Rattle.nla_wire.specs.FrameLaws.{FaultIsAfter};
 
 use crate::buffer::NlaBuffer;
 use crate::nla::Nla;
@@ -23,7 +23,7 @@ pub fn law_one_reading()
 /// padding, but for the last, which may lack some.
 pub fn law_spellings()
     ensures frames { FramesAreSpellings }
-    ensures fault { FaultIsBehind }
+    ensures fault { FaultIsAfter }
 {}
 
 /// `growth_per_byte` bytes of buffer for each byte of an attribute's header and payload are room for its canonical text

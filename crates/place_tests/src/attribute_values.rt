@@ -1,7 +1,8 @@
 //! Messages of one attribute that is no list: the value that is read, and its text.
 
 use crate::rows::*;
-use crate::testing::{got, kept, text_of, zeros_behind};
+use crate::testing::{text_of, zeros_after};
+use asserting::{got, kept};
 use link_msg::*;
 
 /// An attribute as it is read, what it means, and its text.
@@ -145,9 +146,9 @@ fn short_records(rt: HostRuntime) {
         rx_packets: 5,
         ..Stats64::default()
     };
-    let none: [u8; 100] = zeros_behind(&[100, 0, 7, 0]);
-    let some: [u8; 100] = zeros_behind(&[100, 0, 7, 0, 1, 2, 3]);
-    let long: [u8; 204] = zeros_behind(&[204, 0, 23, 0, 5]);
+    let none: [u8; 100] = zeros_after(&[100, 0, 7, 0]);
+    let some: [u8; 100] = zeros_after(&[100, 0, 7, 0, 1, 2, 3]);
+    let long: [u8; 204] = zeros_after(&[204, 0, 23, 0, 5]);
     let rows: [Row<'_>; 3] = [
         (&[4, 0, 7, 0], LinkAttribute::Stats(Stats::default()), &none),
         (

@@ -1,4 +1,5 @@
 use crate::testing::*;
+use asserting::{are, begin, got, kept, stored};
 use link_vals::{VfLinkState, VlanProtocol};
 use link_vf::*;
 use link_vfrec::{

@@ -1,7 +1,8 @@
 //! Messages of one attribute that is a list: the value that is read, and its text.
 
 use crate::rows::*;
-use crate::testing::{are, got, kept, text_of};
+use crate::testing::text_of;
+use asserting::{are, got, kept};
 use link_msg::*;
 use std::alloc::Global;
 use std::process::Abort;

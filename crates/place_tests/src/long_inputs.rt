@@ -2,6 +2,7 @@
 
 use crate::rows::are_all;
 use crate::testing::*;
+use asserting::{are, begin, got};
 use link_msg::laws::law_room;
 use link_msg::*;
 use std::alloc::Global;

@@ -1,7 +1,8 @@
 //! Messages whose records are longer when they are written than when they were read.
 
 use crate::rows::*;
-use crate::testing::{GROWTH, are, got, text_of, zeros_behind};
+use crate::testing::{GROWTH, text_of, zeros_after};
+use asserting::{are, got};
 use link_msg::laws::law_room;
 use link_msg::*;
 use link_recs::inet::INET_DEV_CONF_SIZE;
@@ -26,13 +27,13 @@ fn message(
     headers: &[u8; 8],
     count: usize,
     member: &[u8],
-    behind: &[u8],
+    after: &[u8],
 ) -> Vec<u8> {
     let mut bytes = with_header(rt, alloc, 0, headers);
     for _ in 0..count {
         got(rt, bytes.extend_from_slice(member));
     }
-    got(rt, bytes.extend_from_slice(behind));
+    got(rt, bytes.extend_from_slice(after));
     bytes
 }
 
@@ -78,7 +79,7 @@ fn two_settings(rt: &impl Abort, alloc: Global) -> (LinkMessage, Vec<u8>) {
         mc_forwarding: 1,
         ..InetDevConf::default()
     });
-    let member: [u8; SETTINGS] = zeros_behind(&[0x8c, 0, 1, 0, 8, 0, 1, 0, 1]);
+    let member: [u8; SETTINGS] = zeros_after(&[0x8c, 0, 1, 0, 8, 0, 1, 0, 1]);
     let headers = [0x94, 0, 26, 0, 0x90, 0, 2, 0];
     let text = message(rt, alloc, &headers, 1, &member, &[]);
     (of_settings(rt, alloc, conf), text)
@@ -91,7 +92,7 @@ fn settings_become_longer(rt: HostRuntime) {
     let numbers = [12, 0, 1, 0, 8, 0, 1, 0, 1, 0, 0, 0];
     let short = message(&rt, alloc, &[20, 0, 26, 0, 16, 0, 2, 0], 1, &numbers, &[]);
     is_row(&rt, alloc, short.as_slice(), &wanted, text.as_slice());
-    let member: [u8; KERNEL_SETTINGS] = zeros_behind(&[0x88, 0, 1, 0, 8, 0, 1, 0, 1]);
+    let member: [u8; KERNEL_SETTINGS] = zeros_after(&[0x88, 0, 1, 0, 8, 0, 1, 0, 1]);
     let headers = [0x90, 0, 26, 0, 0x8c, 0, 2, 0];
     let sent = message(&rt, alloc, &headers, 1, &member, &[]);
     is_row(&rt, alloc, sent.as_slice(), &wanted, text.as_slice());
@@ -159,12 +160,12 @@ fn the_most_counters(rt: HostRuntime) {
     let count = attributes_in(&wanted);
     assert!(rt; count == 209);
     assert!(rt; 4 * count == 836);
-    let member: [u8; COUNTERS] = zeros_behind(&[60, 1, 3, 0]);
+    let member: [u8; COUNTERS] = zeros_after(&[60, 1, 3, 0]);
     let headers = [0x8c, 0xff, 26, 0, 0x88, 0xff, 10, 0];
     let text = message(&rt, alloc, &headers, 207, &member, &[]);
     assert!(rt; text.len() == 16 + 65420);
     is_row(&rt, alloc, short.as_slice(), &wanted, text.as_slice());
-    let member: [u8; KERNEL_COUNTERS] = zeros_behind(&[52, 1, 3, 0]);
+    let member: [u8; KERNEL_COUNTERS] = zeros_after(&[52, 1, 3, 0]);
     let headers = [0x14, 0xf9, 26, 0, 0x10, 0xf9, 10, 0];
     let sent = message(&rt, alloc, &headers, 207, &member, &[]);
     is_row(&rt, alloc, sent.as_slice(), &wanted, text.as_slice());
@@ -179,7 +180,7 @@ fn counters_and_a_name(rt: HostRuntime) {
     assert!(rt; short.len() == 16 + 839);
     let name = LinkAttribute::IfName(text_of(&rt, alloc, "lo"));
     let wanted = message_of(&rt, alloc, [counters(&rt, alloc, 206), name]);
-    let member: [u8; COUNTERS] = zeros_behind(&[60, 1, 3, 0]);
+    let member: [u8; COUNTERS] = zeros_after(&[60, 1, 3, 0]);
     let headers = [0x50, 0xfe, 26, 0, 0x4c, 0xfe, 10, 0];
     let name = [7, 0, 3, 0, 0x6c, 0x6f, 0, 0];
     let text = message(&rt, alloc, &headers, 206, &member, &name);
@@ -197,7 +198,7 @@ fn too_many_counters(rt: HostRuntime) {
         let wanted = of_counters(&rt, alloc, count);
         is_unfit_row(&rt, alloc, short.as_slice(), &wanted);
     }
-    let member: [u8; KERNEL_COUNTERS] = zeros_behind(&[52, 1, 3, 0]);
+    let member: [u8; KERNEL_COUNTERS] = zeros_after(&[52, 1, 3, 0]);
     let headers = [0x18, 0xff, 26, 0, 0x14, 0xff, 10, 0];
     let sent = message(&rt, alloc, &headers, 212, &member, &[]);
     assert!(rt; sent.len() == 16 + 65304);

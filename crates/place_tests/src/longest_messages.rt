@@ -1,7 +1,8 @@
 //! Messages whose one attribute is as long as fits, or longer by one byte.
 
 use crate::rows::*;
-use crate::testing::{got, kept, text_of};
+use crate::testing::text_of;
+use asserting::{got, kept};
 use link_msg::*;
 use std::alloc::Global;
 use std::process::Abort;
@@ -16,12 +17,12 @@ fn bytes_of(
     alloc: Global,
     headers: &[u8],
     letters: usize,
-    behind: &[u8],
+    after: &[u8],
 ) -> Vec<u8> {
     assert!(rt; letters <= 65531);
     let mut bytes = with_header(rt, alloc, 0, headers);
     got(rt, bytes.extend_from_slice(&LETTERS[..letters]));
-    got(rt, bytes.extend_from_slice(behind));
+    got(rt, bytes.extend_from_slice(after));
     bytes
 }
 

@@ -2,6 +2,7 @@
 
 use crate::rows::*;
 use crate::testing::*;
+use asserting::{are, got, kept};
 use link_msg::*;
 use std::alloc::Global;
 use std::process::Abort;

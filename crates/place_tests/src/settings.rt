@@ -1,4 +1,5 @@
 use crate::testing::*;
+use asserting::{got, kept};
 use link_afspec::*;
 use link_recs::inet::INET_DEV_CONF_SIZE;
 use link_recs::inet6_devconf::INET6_DEV_CONF_SIZE;
@@ -77,7 +78,7 @@ fn settings_of_ipv4(rt: HostRuntime) {
 #[test]
 fn flags_of_settings_of_ipv4(rt: HostRuntime) {
     let values = [two_settings()];
-    let text: [u8; SETTINGS] = zeros_behind(&[0x8c, 0, 1, 0, 8, 0, 1, 0, 1, 0, 0, 0]);
+    let text: [u8; SETTINGS] = zeros_after(&[0x8c, 0, 1, 0, 8, 0, 1, 0, 1, 0, 0, 0]);
     for kind in [0, 0x80, 0x40, 0xc0] {
         let bytes = [12, 0, 1, kind, 8, 0, 1, 0, 1, 0, 0, 0];
         means(&rt, rt.alloc(), &bytes, &values, &text);
@@ -88,7 +89,7 @@ fn flags_of_settings_of_ipv4(rt: HostRuntime) {
 fn short_settings_of_ipv4(rt: HostRuntime) {
     let alloc = rt.alloc();
     let none = AfSpecInet::DevConf(InetDevConf::default());
-    let text: [u8; SETTINGS] = zeros_behind(&[0x8c, 0, 1, 0]);
+    let text: [u8; SETTINGS] = zeros_after(&[0x8c, 0, 1, 0]);
     means(&rt, alloc, &[4, 0, 1, 0], &[none], &text);
     let other = AfSpecInet::Other(kept(&rt, alloc, 2, &[]));
     means(&rt, alloc, &[4, 0, 2, 0], &[other], &[4, 0, 2, 0]);
@@ -244,13 +245,13 @@ fn cache_info_of_ipv6(rt: HostRuntime) {
 #[test]
 fn records_of_ipv6(rt: HostRuntime) {
     let alloc = rt.alloc();
-    let text: [u8; INET6_SETTINGS] = zeros_behind(&[244, 0, 2, 0]);
+    let text: [u8; INET6_SETTINGS] = zeros_after(&[244, 0, 2, 0]);
     let conf = AfSpecInet6::DevConf(Inet6DevConf::default());
     means(&rt, alloc, &[4, 0, 2, 0], &[conf], &text);
-    let text: [u8; COUNTERS] = zeros_behind(&[60, 1, 3, 0]);
+    let text: [u8; COUNTERS] = zeros_after(&[60, 1, 3, 0]);
     let stats = AfSpecInet6::Stats(Inet6Stats::default());
     means(&rt, alloc, &[4, 0, 3, 0], &[stats], &text);
-    let text: [u8; ICMP6_COUNTERS] = zeros_behind(&[60, 0, 6, 0]);
+    let text: [u8; ICMP6_COUNTERS] = zeros_after(&[60, 0, 6, 0]);
     let stats = AfSpecInet6::Icmp6Stats(Icmp6Stats::default());
     means(&rt, alloc, &[4, 0, 6, 0], &[stats], &text);
 }
@@ -261,7 +262,7 @@ fn half_a_record_of_ipv6(rt: HostRuntime) {
         num: 0x0201,
         ..Inet6Stats::default()
     });
-    let text: [u8; COUNTERS] = zeros_behind(&[60, 1, 3, 0, 1, 2]);
+    let text: [u8; COUNTERS] = zeros_after(&[60, 1, 3, 0, 1, 2]);
     means(&rt, rt.alloc(), &[6, 0, 3, 0x80, 1, 2], &[stats], &text);
 }
 
@@ -324,7 +325,7 @@ fn family_of_ipv4(rt: HostRuntime) {
     let conf = got(&rt, Vec::from_array(alloc, [two_settings()]));
     let inet = AfSpecUnspec::Inet(List::new(conf));
     let bytes = [16, 0, 2, 0, 12, 0, 1, 0, 8, 0, 1, 0, 1, 0, 0, 0];
-    let text: [u8; INET] = zeros_behind(&[0x90, 0, 2, 0, 0x8c, 0, 1, 0, 8, 0, 1, 0, 1, 0, 0, 0]);
+    let text: [u8; INET] = zeros_after(&[0x90, 0, 2, 0, 0x8c, 0, 1, 0, 8, 0, 1, 0, 1, 0, 0, 0]);
     means(&rt, alloc, &bytes, &[inet], &text);
 }
 
@@ -343,7 +344,7 @@ fn requests_of_a_family(rt: HostRuntime) {
     let member = one_request(&rt, rt.alloc());
     let bytes = [16, 0, 2, 0, 12, 0, 1, 0x80, 8, 0, 1, 0, 1, 0, 0, 0];
     writes(&rt, &[member], &bytes);
-    let text: [u8; INET] = zeros_behind(&[0x90, 0, 2, 0, 0x8c, 0, 1, 0, 8, 0, 1, 0, 1, 0, 0, 0]);
+    let text: [u8; INET] = zeros_after(&[0x90, 0, 2, 0, 0x8c, 0, 1, 0, 8, 0, 1, 0, 1, 0, 0, 0]);
     rewrites::<AfSpecUnspec>(&rt, &bytes, &text);
 }
 

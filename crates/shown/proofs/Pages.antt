@@ -1,18 +1,18 @@
 -- What tokens do to a page, and how its text joins a head.
-use Rattle.std.proofs.Common.{◌≡◌, ℕ, ◌<◌, ◌≤◌, ◌==◌, Bool, true, false, cond, List, [], ◌∷◌, ◌++◌, length, get_or}
+use Rattle.std.proofs.Common.{◌≡◌, ℕ, true, false, List, [], ◌∷◌, ◌++◌, length}
 use Rattle.std.proofs.Common.{refl, sym, ap, subst, ◌∙◌, append_assoc, arith}
-use Rattle.std.specs.Prelude.{Option, Some, None, option_and_then, option_to_list}
+use Rattle.std.specs.Prelude.{Option, Some, None, option_and_then}
 use Rattle.std.specs.List.{All, fold}
-use Rattle.std.proofs.lemmas.List.Elements.{All-nil, All-cons, All-head, All-tail, All-append, All-push}
+use Rattle.std.proofs.lemmas.List.Elements.{All-nil, All-cons, All-tail, All-append, All-push}
 use Rattle.std.proofs.lemmas.List.Sums.{fold-append}
 use Rattle.json.specs.Token.{Token, begin_object, end_object, begin_array, end_array, key, string, number, boolean}
 use Rattle.json.specs.Token.{null, bad}
-use Rattle.json.specs.Print.{print, print_from, ends, quoted}
+use Rattle.json.specs.Print.{print, print_from, ends}
 use Rattle.json.specs.Written.{Written}
 use Rattle.json.proofs.Printed.Tokens.{print_from-append}
-use Rattle.shown.specs.Nesting.{Spot, due, object, list, after_value, after_token, after_tokens, IsValue, spot_of}
+use Rattle.shown.specs.Nesting.{Spot, due, object, list, after_token, after_tokens, spot_of}
 use Rattle.shown.specs.Nesting.{opening, closing}
-use Rattle.shown.specs.Pages.{IsOneLine, IsPlain, IsScalar, IsPage, IsWholeText, IsHead, IsObject, AddsObject, named}
+use Rattle.shown.specs.Pages.{IsPlain, IsScalar, IsPage, IsWholeText, IsHead, IsObject, AddsObject, named}
 use Rattle.shown.specs.Pages.{spots_of, with_comma}
 use Rattle.shown.specs.declared.page.Nest.{Nest}
 use Rattle.shown.specs.declared.page.Nest.TheVariants.{Object, List as Items}
@@ -147,20 +147,20 @@ pub print_whole : (rest : List Token) → print (begin_object ∷ rest) ≡ 123 
 unfolding print_from
 print_whole rest = refl
 
-pub print_behind : (rest : List Token) → after_tokens (object ∷ []) rest ≡ Some []
+pub print_after : (rest : List Token) → after_tokens (object ∷ []) rest ≡ Some []
     → print_from true rest ≡ with_comma (print_from false rest)
 unfolding print_from after_tokens
-print_behind [] h = absurd cc
-print_behind (begin_object ∷ ts) h = absurd cc
-print_behind (end_object ∷ ts) h = refl
-print_behind (begin_array ∷ ts) h = absurd cc
-print_behind (end_array ∷ ts) h = absurd cc
-print_behind (key s ∷ ts) h = refl
-print_behind (string s ∷ ts) h = absurd cc
-print_behind (number s ∷ ts) h = absurd cc
-print_behind (boolean b ∷ ts) h = absurd cc
-print_behind (null ∷ ts) h = absurd cc
-print_behind (bad ∷ ts) h = absurd cc
+print_after [] h = absurd cc
+print_after (begin_object ∷ ts) h = absurd cc
+print_after (end_object ∷ ts) h = refl
+print_after (begin_array ∷ ts) h = absurd cc
+print_after (end_array ∷ ts) h = absurd cc
+print_after (key s ∷ ts) h = refl
+print_after (string s ∷ ts) h = absurd cc
+print_after (number s ∷ ts) h = absurd cc
+print_after (boolean b ∷ ts) h = absurd cc
+print_after (null ∷ ts) h = absurd cc
+print_after (bad ∷ ts) h = absurd cc
 
 head_ends : (head : Written) → IsHead head → fold (λ _ t. ends t) false head.tokens ≡ true
 head_ends head h = ap (λ ts. fold (λ _ t. ends t) false ts) h.is ∙ h.ends
@@ -182,10 +182,10 @@ pub joined : (head : Written) (text : List ℕ) (x : ℕ) (rest old new : List �
 joined head text x rest old new h w is e =
     let tail : rest ≡ print_from false w.rest = let both : x ∷ rest ≡ 123 ∷ print_from false w.rest =
     sym is ∙ w.printed ∙ print_whole w.rest in cc in
-    let behind : print_from true w.rest ≡ with_comma rest = rw tail (print_behind w.rest w.nested) in
+    let after : print_from true w.rest ≡ with_comma rest = rw tail (print_after w.rest w.nested) in
     let whole : print (head.tokens ++ w.rest) ≡ print head.tokens ++ with_comma rest =
     print_from-append false head.tokens w.rest ∙ ap (λ b. print head.tokens ++ print_from b w.rest) (head_ends head h)
-    ∙ ap (λ l. print head.tokens ++ l) behind in
+    ∙ ap (λ l. print head.tokens ++ l) after in
     let nested : after_tokens (due ∷ []) head.tokens ≡ Some (object ∷ []) =
     ap (after_tokens (due ∷ [])) h.is ∙ head_nested h.name h.value h.scalar in
     let plain : All IsPlain head.tokens =

@@ -1,8 +1,7 @@
 -- What a page is, and what it becomes.
 use Rattle.std.specs.Prelude.{◌≡◌, ℕ, ◌≤◌, List, [], ◌∷◌, ◌++◌, true, Some, cond, ◌==◌}
 use Rattle.std.specs.List.{fold, All}
-use Rattle.json.specs.Token.{Token, begin_object, end_object, begin_array, end_array, key, string, number, boolean}
-use Rattle.json.specs.Token.{null, bad}
+use Rattle.json.specs.Token.{Token, begin_object, key, number}
 use Rattle.json.specs.Print.{print, ends}
 use Rattle.json.specs.Written.{Written}
 use Rattle.shown.specs.Nesting.{Spot, due, object, after_value, after_token, after_tokens, IsValue, spot_of}

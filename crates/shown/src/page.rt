@@ -250,7 +250,7 @@ impl Page {
     }
 
     /// Adds to `out` the text of an object whose first member is that of `head`, and the others those of this one.
-    fn add_behind(self, head: Writer, out: &mut Vec<u8>) -> Result<(), AllocError>
+    fn add_after(self, head: Writer, out: &mut Vec<u8>) -> Result<(), AllocError>
         requires { IsHead head }
         ensures { OnOk result (AddsObject head.tokens out.old.items out.new.items) }
     {
@@ -265,7 +265,7 @@ impl Page {
     }
 
     /// Adds to `out` the text of this object with a text as a member in front.
-    pub fn add_behind_text(
+    pub fn add_after_text(
         self,
         name: &str,
         text: &str,
@@ -278,11 +278,11 @@ impl Page {
         head.begin_object()?;
         head.key(name)?;
         head.string(text)?;
-        self.add_behind(head, out)
+        self.add_after(head, out)
     }
 
     /// Adds to `out` the text of this object with a number as a member in front.
-    pub fn add_behind_number(
+    pub fn add_after_number(
         self,
         name: &str,
         value: u64,
@@ -296,6 +296,6 @@ impl Page {
         head.begin_object()?;
         head.key(name)?;
         head.u64(value)?;
-        self.add_behind(head, out)
+        self.add_after(head, out)
     }
 }

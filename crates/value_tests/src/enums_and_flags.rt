@@ -1,4 +1,5 @@
-use crate::testing::{are, got, is_same, means, prints, refuses};
+use crate::testing::{is_same, means, prints, refuses};
+use asserting::{are, got};
 use bitflags::Flags;
 use link_vals::*;
 use nla_wire::Cause;

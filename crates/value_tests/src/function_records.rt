@@ -1,4 +1,5 @@
-use crate::testing::{are, got, is_read, is_same, prints_as, too_few};
+use crate::testing::{is_read, is_same, prints_as, too_few};
+use asserting::{are, got};
 use link_vals::{VfLinkState, VlanProtocol};
 use link_vfrec::*;
 

@@ -1,6 +1,6 @@
 //! Records measured and written as attributes, from values and from payloads.
 
-use crate::testing::stored;
+use asserting::stored;
 use link_recs::*;
 use link_vfrec::*;
 use nla_wire::{PlainRecord, Record};

@@ -1,31 +1,11 @@
 //! What the tests share.
 
+use asserting::{are, begin, got};
 use nla_wire::exact::same;
 use nla_wire::{Cause, CloneIn, DecodeError, Exact};
 use std::alloc::Global;
 use std::fmt::{Debug, Display};
 use std::process::Abort;
-
-/// The bytes are these.
-pub(crate) fn are(rt: &impl Abort, bytes: &[u8], wanted: &[u8]) {
-    assert_eq!(rt; bytes, wanted);
-}
-
-/// The bytes begin with these.
-pub(crate) fn begin(rt: &impl Abort, bytes: &[u8], wanted: &[u8]) {
-    assert!(rt;
-        bytes.starts_with(wanted),
-        "{bytes:?} do not begin with {wanted:?}"
-    );
-}
-
-/// What a call gave.
-pub(crate) fn got<T: Drop, E: Drop>(rt: &impl Abort, answer: Result<T, E>) -> T {
-    match answer {
-        Ok(value) => value,
-        Err(_) => panic!(rt; "the call gave an error"),
-    }
-}
 
 /// A copy of a value, which is equal to it.
 pub(crate) fn copied<N: Exact + CloneIn + Drop>(rt: &impl Abort, alloc: Global, value: &N) -> N {
@@ -88,15 +68,6 @@ pub(crate) fn prints<T: Display>(rt: &impl Abort, alloc: Global, value: &T, want
 pub(crate) fn prints_as<T: Debug>(rt: &impl Abort, alloc: Global, value: &T, wanted: &str) {
     let text = got(rt, format!(in alloc; "{value:?}"));
     assert!(rt; text.as_str() == wanted);
-}
-
-/// This text was written to the front of a buffer of 255, whose other bytes are kept.
-pub(crate) fn stored(rt: &impl Abort, len: usize, out: &[u8], text: &[u8]) {
-    assert_eq!(rt; len, text.len());
-    begin(rt, out, text);
-    for byte in out.iter().skip(len) {
-        assert!(rt; *byte == 255);
-    }
 }
 
 /// So many bytes were written, which begin with these.

@@ -1,15 +1,11 @@
 //! Attributes that are kept as they are, and slices of attributes.
 
-use crate::testing::{are, copied, got};
+use crate::testing::copied;
+use asserting::{are, got, kept};
 use nla_wire::fill::close_frame;
 use nla_wire::*;
 use std::alloc::Global;
 use std::process::Abort;
-
-/// An attribute that is kept as it is.
-fn kept(rt: &impl Abort, alloc: Global, kind: u16, value: &[u8]) -> DefaultNla {
-    DefaultNla::new(kind, got(rt, Vec::from_slice(alloc, value)))
-}
 
 #[test]
 fn keeps_attributes(rt: HostRuntime) {

@@ -1,6 +1,7 @@
 //! Fields of records, read past the end and put at their places.
 
-use crate::testing::{are, begin, is_same};
+use crate::testing::is_same;
+use asserting::{are, begin};
 use nla_wire::fields::*;
 
 #[test]

@@ -1,6 +1,7 @@
 //! Frames at the front of bytes, and the frames of a byte string.
 
-use crate::testing::{are, got, is_same, refuses};
+use crate::testing::{is_same, refuses};
+use asserting::{are, got};
 use nla_wire::*;
 
 #[test]

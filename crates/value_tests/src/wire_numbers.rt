@@ -1,6 +1,7 @@
 //! Numbers, addresses and texts as payloads.
 
-use crate::testing::{are, got, is_read, refuses};
+use crate::testing::{is_read, refuses};
+use asserting::{are, got};
 use nla_wire::error::checked;
 use nla_wire::*;
 use std::alloc::Global;

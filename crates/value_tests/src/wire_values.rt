@@ -1,6 +1,7 @@
 //! Causes, fault texts, and bytes, texts and lists as values.
 
-use crate::testing::{are, copied, got, is_same, prints};
+use crate::testing::{copied, is_same, prints};
+use asserting::{are, got};
 use nla_wire::error::checked;
 use nla_wire::*;
 

@@ -194,7 +194,7 @@ fn counters(
     headers: &str,
     count: usize,
     member: &Zeros,
-    behind: &str,
+    after: &str,
 ) -> Result<Vec<u8>, Fail> {
     let mut text = Vec::new(alloc);
     text.extend_from_slice(b"00000000000000000000000000000000")?;
@@ -204,7 +204,7 @@ fn counters(
         text.extend_from_slice(member.header.as_bytes())?;
         text.extend_from_slice(zeros.as_slice())?;
     }
-    text.extend_from_slice(behind.as_bytes())?;
+    text.extend_from_slice(after.as_bytes())?;
     Ok(text)
 }
 

@@ -7,7 +7,7 @@ use Rattle.std.proofs.lemmas.List.{length-take-le, take_all}
 use Rattle.nla_wire.specs.Canon.{Filled}
 use Rattle.nla_wire.proofs.Members.{Filled-more}
 use Rattle.link_afspec.specs.Requests.{settings_of, setting_text, settings_text}
-use Rattle.link_afspec.proofs.Requests.{request_from, request_end, request_whole, request_behind}
+use Rattle.link_afspec.proofs.Requests.{request_from, request_end, request_whole, request_after}
 use Rattle.link_afspec.proofs.request.fill_request.Goals as goal
 
 nothing_filled : (old : List ℕ) → Filled old old [] (length old)
@@ -34,7 +34,7 @@ fill_setting-start-requires c =
       ap length from,
       c.loop-number.invariant.filled.0,
       c.requires,
-      request_behind conf (c.loop-number.number - 1),
+      request_after conf (c.loop-number.number - 1),
       length-take-le c.loop-number.start c.loop-number.buffer within,
       length-append (setting_text (record { number = c.loop-number.number; value = z }))
           (settings_text (drop c.loop-number.number (settings_of conf))),

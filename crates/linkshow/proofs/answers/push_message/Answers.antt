@@ -11,5 +11,5 @@ returns c =
     let family : c.into.result ≡ address_family_number c.args.message.now.header.interface_family =
     cc (c.into.ensures, c.from-family.ensures) in
     let object = subst (λ (n : ℕ). AddsObject (begin_object ∷ key (codes "ifi-family") ∷ number (decimal n) ∷ [])
-    c.args.waiting.now.items c.add_behind_number.new.out.items) family c.in_ok-add_behind_number.ensures in
+    c.args.waiting.now.items c.add_after_number.new.out.items) family c.in_ok-add_after_number.ensures in
     adds_message _ _ _ _ c.args.message.now c.requires object c.in_ok-push.ensures.items

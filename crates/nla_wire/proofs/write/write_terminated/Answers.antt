@@ -1,8 +1,8 @@
 use Rattle.std.proofs.Common.{arith}
-use Rattle.nla_wire.proofs.Canonical.{nul_behind}
+use Rattle.nla_wire.proofs.Canonical.{nul_after}
 use Rattle.nla_wire.proofs.write.write_terminated.Goals as goal
 
 pub returns : goal.returns
 returns c =
-    nul_behind c.args.bytes.now c.args.out.now c.write_bytes-len.new.out c.write_bytes-len.result
+    nul_after c.args.bytes.now c.args.out.now c.write_bytes-len.new.out c.write_bytes-len.result
     (omega (arith, c.requires)) c.write_bytes-len.ensures

@@ -2,7 +2,7 @@ use Rattle.std.proofs.Common.{ap, ◌++◌}
 use Rattle.std.proofs.lemmas.Result.{on_ok_weaker}
 use Rattle.json.specs.Print.{print}
 use Rattle.shown.proofs.Pages.{joined}
-use Rattle.shown.proofs.page.Page.add_behind.Goals as goal
+use Rattle.shown.proofs.page.Page.add_after.Goals as goal
 
 pub returns : goal.returns
 returns c =

@@ -1,10 +1,9 @@
-use Rattle.std.proofs.Common.{refl, ◌∙◌, ap, ◌∷◌, [], ◌++◌}
+use Rattle.std.proofs.Common.{refl}
 use Rattle.json.specs.Token.{string}
-use Rattle.shown.proofs.Lines.{decimal_on_line}
-use Rattle.shown.proofs.page.Page.add_behind_text.Goals as goal
+use Rattle.shown.proofs.page.Page.add_after_text.Goals as goal
 
-pub add_behind-requires : goal.add_behind-requires
-add_behind-requires c = record {
+pub add_after-requires : goal.add_after-requires
+add_after-requires c = record {
   before = cc (
     c.in_ok-string.ensures.room.0,
     c.in_ok-key.ensures.room.0,

@@ -1,10 +1,10 @@
-use Rattle.std.proofs.Common.{refl, decimal, ◌∙◌, ap, ◌∷◌, [], ◌++◌}
+use Rattle.std.proofs.Common.{refl, decimal}
 use Rattle.json.specs.Token.{number}
 use Rattle.shown.proofs.Lines.{decimal_on_line}
-use Rattle.shown.proofs.page.Page.add_behind_number.Goals as goal
+use Rattle.shown.proofs.page.Page.add_after_number.Goals as goal
 
-pub add_behind-requires : goal.add_behind-requires
-add_behind-requires c = record {
+pub add_after-requires : goal.add_after-requires
+add_after-requires c = record {
   before = cc (
     c.in_ok-u64.ensures.room.0,
     c.in_ok-key.ensures.room.0,
