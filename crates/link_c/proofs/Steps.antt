@@ -1,5 +1,5 @@
 -- The frame at a place of a list, and where the list goes on.
-use Rattle.std.specs.Prelude.{◌≡◌, ◌↔◌, ℕ, ◌+◌, ◌-◌, ◌<◌, min, List, ◌∷◌, ◌++◌, length, take, drop}
+use Rattle.std.specs.Prelude.{◌≡◌, ◌↔◌, ℕ, ◌+◌, ◌<◌, min, List, ◌∷◌, ◌++◌, length, take, drop}
 use Rattle.std.proofs.Common.{arith, ap, sym, ◌∙◌, subst, append_assoc, length-drop, drop-drop, take_at}
 use Rattle.std.proofs.lemmas.List.{drop_min}
 use Rattle.nla_wire.specs.Frames.{Frame, Frames, Fault, Begins, missing}
