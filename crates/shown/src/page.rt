@@ -265,12 +265,7 @@ impl Page {
     }
 
     /// Adds to `out` the text of this object with a text as a member in front.
-    pub fn add_after_text(
-        self,
-        name: &str,
-        text: &str,
-        out: &mut Vec<u8>,
-    ) -> Result<(), AllocError>
+    pub fn add_after_text(self, name: &str, text: &str, out: &mut Vec<u8>) -> Result<(), AllocError>
         ensures { OnOk result (AddsObject (begin_object ∷ key name.now ∷ string text.now ∷ [])
             out.old.items out.new.items) }
     {
