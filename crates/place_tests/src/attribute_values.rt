@@ -1,8 +1,7 @@
 //! Messages of one attribute that is no list: the value that is read, and its text.
 
 use crate::rows::*;
-use crate::testing::{text_of, zeros_after};
-use asserting::{got, kept};
+use crate::testing::{got, kept, text_of, zeros_after};
 use link_msg::*;
 
 /// An attribute as it is read, what it means, and its text.

@@ -1,6 +1,6 @@
 //! Attributes, and lists of them, under the family of a header, with no message round them.
 
-use asserting::{are, got, stored};
+use crate::testing::{are, got, stored};
 use link_msg::*;
 use nla_wire::{nlas_measure, nlas_write};
 

@@ -2,7 +2,6 @@
 //! written as the same text.
 
 use crate::testing::*;
-use asserting::{are, got, kept};
 use link_msg::*;
 use nla_wire::exact::same;
 use std::alloc::Global;

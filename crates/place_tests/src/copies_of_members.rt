@@ -3,7 +3,6 @@
 
 use crate::copies::{are_copied_alike, are_told_apart, kept_byte, list_of_one, port};
 use crate::testing::*;
-use asserting::{are, got, kept};
 use link_msg::*;
 use std::alloc::Global;
 use std::net::Ipv6Addr;

@@ -1,8 +1,7 @@
 //! Damaged lists in each place, and the refusals of whole messages.
 
 use crate::rows::is_refused_row;
-use crate::testing::fails;
-use asserting::got;
+use crate::testing::{fails, got};
 use link_msg::*;
 use std::alloc::Global;
 use std::process::Abort;

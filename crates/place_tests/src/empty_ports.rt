@@ -1,8 +1,7 @@
 //! Empty lists of ports, which are read and not written.
 
 use crate::rows::*;
-use crate::testing::{GROWTH, text_of};
-use asserting::got;
+use crate::testing::{GROWTH, got, text_of};
 use link_msg::laws::law_room;
 use link_msg::*;
 use std::alloc::Global;

@@ -1,5 +1,4 @@
 use crate::testing::*;
-use asserting::{are, begin, got, kept, stored};
 use link_nest::*;
 use link_vals::XdpAttached;
 use nla_wire::exact::same;

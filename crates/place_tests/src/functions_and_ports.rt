@@ -1,5 +1,4 @@
 use crate::testing::*;
-use asserting::{are, begin, got, kept, stored};
 use link_vals::{VfLinkState, VlanProtocol};
 use link_vf::*;
 use link_vfrec::{

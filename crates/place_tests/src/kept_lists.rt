@@ -1,7 +1,6 @@
 //! Lists of attributes that are all kept, read, checked and written again.
 
-use crate::testing::{GROWTH, fails};
-use asserting::{are, got, stored};
+use crate::testing::{GROWTH, are, fails, got, stored};
 use link_vf::{VfPort, VfStats};
 use nla_wire::laws::{law_list_room, law_room};
 use nla_wire::*;

@@ -1,8 +1,7 @@
 //! Messages of one attribute that is a list: the value that is read, and its text.
 
 use crate::rows::*;
-use crate::testing::text_of;
-use asserting::{are, got, kept};
+use crate::testing::{are, got, kept, text_of};
 use link_msg::*;
 use std::alloc::Global;
 use std::process::Abort;

@@ -2,7 +2,6 @@
 
 use crate::rows::are_all;
 use crate::testing::*;
-use asserting::{are, begin, got};
 use link_msg::laws::law_room;
 use link_msg::*;
 use std::alloc::Global;

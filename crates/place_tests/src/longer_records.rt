@@ -1,8 +1,7 @@
 //! Messages whose records are longer when they are written than when they were read.
 
 use crate::rows::*;
-use crate::testing::{GROWTH, text_of, zeros_after};
-use asserting::{are, got};
+use crate::testing::{GROWTH, are, got, text_of, zeros_after};
 use link_msg::laws::law_room;
 use link_msg::*;
 use link_recs::inet::INET_DEV_CONF_SIZE;

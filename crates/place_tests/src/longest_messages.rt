@@ -1,8 +1,7 @@
 //! Messages whose one attribute is as long as fits, or longer by one byte.
 
 use crate::rows::*;
-use crate::testing::text_of;
-use asserting::{got, kept};
+use crate::testing::{got, kept, text_of};
 use link_msg::*;
 use std::alloc::Global;
 use std::process::Abort;

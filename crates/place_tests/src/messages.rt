@@ -2,7 +2,6 @@
 
 use crate::rows::{is_refused_so, no_message, with_header};
 use crate::testing::*;
-use asserting::got;
 use link_msg::*;
 
 /// A header of zeros and a name without its NUL and padding.

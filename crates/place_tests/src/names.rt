@@ -1,7 +1,7 @@
 //! The names that `link_msg` gives: a user's crate names no other.
 
-use asserting::are;
-use asserting::got;
+use crate::testing::are;
+use crate::testing::got;
 use link_msg::AddressFamily;
 use link_msg::AfSpecBridge;
 use link_msg::AfSpecInet;

@@ -2,8 +2,9 @@
 
 ghost use Rattle.std.specs.Prelude.{◌≡◌, length};
 
-use crate::testing::{GROWTH, are_same, fails, is_copied, read_message, text_made};
-use asserting::{are, got, stored};
+use crate::testing::{
+    GROWTH, are, are_same, fails, got, is_copied, read_message, stored, text_made,
+};
 use link_msg::laws::{law_exact_room, law_room};
 use link_msg::*;
 use std::alloc::Global;

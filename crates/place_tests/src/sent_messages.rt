@@ -2,7 +2,6 @@
 
 use crate::rows::*;
 use crate::testing::*;
-use asserting::{are, got, kept};
 use link_msg::*;
 use std::alloc::Global;
 use std::process::Abort;

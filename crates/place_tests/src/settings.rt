@@ -1,5 +1,4 @@
 use crate::testing::*;
-use asserting::{got, kept};
 use link_afspec::*;
 use link_recs::inet::INET_DEV_CONF_SIZE;
 use link_recs::inet6_devconf::INET6_DEV_CONF_SIZE;

@@ -2,7 +2,6 @@
 
 use crate::rows::*;
 use crate::testing::*;
-use asserting::{got, kept};
 use link_msg::numbers::{IFLA_HEADROOM, IFLA_NETNS_IMMUTABLE, IFLA_TAILROOM};
 use link_msg::*;
 use std::alloc::Global;

@@ -1,6 +1,5 @@
 //! What the tests share.
 
-use asserting::{are, begin, got};
 use link_msg::{LinkMessage, canonical, same_message};
 use link_recs::inet6_stats::INET6_STATS_SIZE;
 use nla_wire::exact::same;
@@ -41,6 +40,24 @@ pub(crate) fn zeros_after<const N: usize>(bytes: &[u8]) -> [u8; N] {
         *place = *byte;
     }
     text
+}
+
+/// The bytes are these.
+pub(crate) fn are(rt: &impl Abort, bytes: &[u8], wanted: &[u8]) {
+    assert_eq!(rt; bytes, wanted);
+}
+
+/// The bytes begin with these.
+pub(crate) fn begin(rt: &impl Abort, bytes: &[u8], wanted: &[u8]) {
+    assert!(rt; bytes.starts_with(wanted));
+}
+
+/// What a call returned, which is no error.
+pub(crate) fn got<T: Drop, E: Drop>(rt: &impl Abort, returned: Result<T, E>) -> T {
+    match returned {
+        Ok(value) => value,
+        Err(_) => panic!(rt; "the call returned an error"),
+    }
 }
 
 /// What a read is refused for, or nothing.
@@ -141,9 +158,23 @@ pub(crate) fn means<N: NlaRead + Exact + CloneIn>(
     rewrites::<N>(rt, bytes, text);
 }
 
+/// An attribute that is kept as it is.
+pub(crate) fn kept(rt: &impl Abort, alloc: Global, kind: u16, value: &[u8]) -> DefaultNla {
+    DefaultNla::new(kind, got(rt, Vec::from_slice(alloc, value)))
+}
+
 /// A text of these letters.
 pub(crate) fn text_of(rt: &impl Abort, alloc: Global, letters: &str) -> Text {
     got(rt, Text::from_str(alloc, letters))
+}
+
+/// This text was written to the front of a buffer of 255, whose other bytes are kept.
+pub(crate) fn stored(rt: &impl Abort, len: usize, out: &[u8], text: &[u8]) {
+    assert_eq!(rt; len, text.len());
+    begin(rt, out, text);
+    for byte in out.iter().skip(len) {
+        assert!(rt; *byte == 255);
+    }
 }
 
 /// The message that the bytes mean.

@@ -1,8 +1,7 @@
 //! Messages whose header says something, or with several attributes, and the calls that take a longer buffer.
 
 use crate::rows::*;
-use crate::testing::{GROWTH, text_of};
-use asserting::{are, begin, got, kept};
+use crate::testing::{GROWTH, are, begin, got, kept, text_of};
 use link_msg::laws::law_room;
 use link_msg::*;
 use std::alloc::Global;

@@ -1,5 +1,4 @@
-use crate::testing::{is_same, means, prints, refuses};
-use asserting::{are, got};
+use crate::testing::{are, got, is_same, means, prints, refuses};
 use bitflags::Flags;
 use link_vals::*;
 use nla_wire::Cause;

@@ -1,5 +1,4 @@
-use crate::testing::{is_read, is_same, prints_as, too_few};
-use asserting::{are, got};
+use crate::testing::{are, got, is_read, is_same, prints_as, too_few};
 use link_vals::{VfLinkState, VlanProtocol};
 use link_vfrec::*;
 

@@ -1,5 +1,4 @@
-use crate::testing::{is_read, is_same, prints_as, too_few, wrote};
-use asserting::{are, begin, got};
+use crate::testing::{are, begin, got, is_read, is_same, prints_as, too_few, wrote};
 use link_recs::inet::{INET_DEV_CONF_COUNT, INET_DEV_CONF_SIZE};
 use link_recs::inet6_cache::INET6_CACHE_INFO_SIZE;
 use link_recs::inet6_devconf::INET6_DEV_CONF_SIZE;

@@ -1,6 +1,6 @@
 //! Records measured and written as attributes, from values and from payloads.
 
-use asserting::stored;
+use crate::testing::stored;
 use link_recs::*;
 use link_vfrec::*;
 use nla_wire::{PlainRecord, Record};

@@ -1,11 +1,42 @@
 //! What the tests share.
 
-use asserting::{are, begin, got};
 use nla_wire::exact::same;
-use nla_wire::{Cause, CloneIn, DecodeError, Exact};
+use nla_wire::{Cause, CloneIn, DecodeError, DefaultNla, Exact};
 use std::alloc::Global;
 use std::fmt::{Debug, Display};
 use std::process::Abort;
+
+/// The bytes are these.
+pub(crate) fn are(rt: &impl Abort, bytes: &[u8], wanted: &[u8]) {
+    assert_eq!(rt; bytes, wanted);
+}
+
+/// The bytes begin with these.
+pub(crate) fn begin(rt: &impl Abort, bytes: &[u8], wanted: &[u8]) {
+    assert!(rt; bytes.starts_with(wanted));
+}
+
+/// What a call returned, which is no error.
+pub(crate) fn got<T: Drop, E: Drop>(rt: &impl Abort, returned: Result<T, E>) -> T {
+    match returned {
+        Ok(value) => value,
+        Err(_) => panic!(rt; "the call returned an error"),
+    }
+}
+
+/// An attribute that is kept as it is.
+pub(crate) fn kept(rt: &impl Abort, alloc: Global, kind: u16, value: &[u8]) -> DefaultNla {
+    DefaultNla::new(kind, got(rt, Vec::from_slice(alloc, value)))
+}
+
+/// This text was written to the front of a buffer of 255, whose other bytes are kept.
+pub(crate) fn stored(rt: &impl Abort, len: usize, out: &[u8], text: &[u8]) {
+    assert_eq!(rt; len, text.len());
+    begin(rt, out, text);
+    for byte in out.iter().skip(len) {
+        assert!(rt; *byte == 255);
+    }
+}
 
 /// A copy of a value, which is equal to it.
 pub(crate) fn copied<N: Exact + CloneIn + Drop>(rt: &impl Abort, alloc: Global, value: &N) -> N {

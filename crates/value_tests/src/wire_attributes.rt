@@ -1,7 +1,6 @@
 //! Attributes that are kept as they are, and slices of attributes.
 
-use crate::testing::copied;
-use asserting::{are, got, kept};
+use crate::testing::{are, copied, got, kept};
 use nla_wire::fill::close_frame;
 use nla_wire::*;
 use std::alloc::Global;

@@ -1,7 +1,6 @@
 //! Fields of records, read past the end and put at their places.
 
-use crate::testing::is_same;
-use asserting::{are, begin};
+use crate::testing::{are, begin, is_same};
 use nla_wire::fields::*;
 
 #[test]

@@ -1,7 +1,6 @@
 //! Frames at the front of bytes, and the frames of a byte string.
 
-use crate::testing::{is_same, refuses};
-use asserting::{are, got};
+use crate::testing::{are, got, is_same, refuses};
 use nla_wire::*;
 
 #[test]

@@ -4,7 +4,7 @@ ghost use Rattle.std.proofs.Common.{rules};
 ghost use Rattle.std.specs.Prelude.{◌<◌};
 ghost use Rattle.std.specs.Int.{w16, to_le_bytes};
 
-use asserting::{are, begin, got, stored};
+use crate::testing::{are, begin, got, stored};
 use nla_wire::*;
 use std::alloc::Global;
 use std::process::Abort;

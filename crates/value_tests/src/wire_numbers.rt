@@ -1,7 +1,6 @@
 //! Numbers, addresses and texts as payloads.
 
-use crate::testing::{is_read, refuses};
-use asserting::{are, got};
+use crate::testing::{are, got, is_read, refuses};
 use nla_wire::error::checked;
 use nla_wire::*;
 use std::alloc::Global;

@@ -1,6 +1,6 @@
 //! Values stored as attributes at the front of a buffer.
 
-use asserting::{are, begin, got, stored};
+use crate::testing::{are, begin, got, stored};
 use nla_wire::*;
 use std::process::Abort;
 

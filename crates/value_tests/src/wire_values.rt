@@ -1,7 +1,6 @@
 //! Causes, fault texts, and bytes, texts and lists as values.
 
-use crate::testing::{copied, is_same, prints};
-use asserting::{are, got};
+use crate::testing::{are, copied, got, is_same, prints};
 use nla_wire::error::checked;
 use nla_wire::*;
 

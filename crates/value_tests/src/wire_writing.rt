@@ -1,7 +1,6 @@
 //! Attributes measured and written again from payloads, with no memory.
 
-use crate::testing::fits_in;
-use asserting::{are, begin, got, stored};
+use crate::testing::{are, begin, fits_in, got, stored};
 use nla_wire::*;
 use std::alloc::Global;
 use std::process::Abort;
