@@ -1,9 +1,14 @@
 //! Copies of what stands inside of attributes: each is equal to what it was made from and to nothing else, and is
 //! written as the same text.
 
-use crate::copies::{are_copied_alike, are_told_apart, kept_byte, list_of_one, port};
-use crate::testing::*;
-use link_msg::*;
+use expected::{are_copied_alike, are_told_apart, equal, kept, kept_byte, list};
+use link_afspec::*;
+use link_nest::*;
+use link_recs::*;
+use link_vals::*;
+use link_vf::*;
+use link_vfrec::*;
+use nla_wire::*;
 use std::alloc::Global;
 use std::net::Ipv6Addr;
 use std::process::Abort;
@@ -12,56 +17,62 @@ use std::process::Abort;
 fn bytes_and_texts(rt: HostRuntime) {
     let alloc = rt.alloc();
     let bytes = [
-        got(&rt, Bytes::from_slice(alloc, &[])),
-        got(&rt, Bytes::from_slice(alloc, &[0])),
-        got(&rt, Bytes::from_slice(alloc, &[0, 1])),
-        got(&rt, Bytes::from_slice(alloc, &[0, 2])),
+        Bytes::from_slice(alloc, &[]).expect(&rt, "memory"),
+        Bytes::from_slice(alloc, &[0]).expect(&rt, "memory"),
+        Bytes::from_slice(alloc, &[0, 1]).expect(&rt, "memory"),
+        Bytes::from_slice(alloc, &[0, 2]).expect(&rt, "memory"),
     ];
-    are_told_apart(&rt, alloc, &bytes, &[]);
+    assert!(rt; are_told_apart(alloc, &bytes, &[]));
     let texts = [
-        text_of(&rt, alloc, ""),
-        text_of(&rt, alloc, "l"),
-        text_of(&rt, alloc, "lo"),
-        text_of(&rt, alloc, "l\0"),
+        Text::from_str(alloc, "").expect(&rt, "memory"),
+        Text::from_str(alloc, "l").expect(&rt, "memory"),
+        Text::from_str(alloc, "lo").expect(&rt, "memory"),
+        Text::from_str(alloc, "l\0").expect(&rt, "memory"),
     ];
-    are_told_apart(&rt, alloc, &texts, &[]);
+    assert!(rt; are_told_apart(alloc, &texts, &[]));
 }
 
 #[test]
 fn lists(rt: HostRuntime) {
     let alloc = rt.alloc();
-    let two = [text_of(&rt, alloc, ""), text_of(&rt, alloc, "lo")];
-    let turned = [text_of(&rt, alloc, "lo"), text_of(&rt, alloc, "")];
+    let two = [
+        Text::from_str(alloc, "").expect(&rt, "memory"),
+        Text::from_str(alloc, "lo").expect(&rt, "memory"),
+    ];
+    let turned = [
+        Text::from_str(alloc, "lo").expect(&rt, "memory"),
+        Text::from_str(alloc, "").expect(&rt, "memory"),
+    ];
     let values = [
         List::new(Vec::new(alloc)),
-        list_of_one(&rt, alloc, text_of(&rt, alloc, "")),
-        list_of_one(&rt, alloc, text_of(&rt, alloc, "lo")),
-        List::new(got(&rt, Vec::from_array(alloc, two))),
-        List::new(got(&rt, Vec::from_array(alloc, turned))),
+        list(alloc, [Text::from_str(alloc, "").expect(&rt, "memory")]).expect(&rt, "memory"),
+        list(alloc, [Text::from_str(alloc, "lo").expect(&rt, "memory")]).expect(&rt, "memory"),
+        List::new(Vec::from_array(alloc, two).expect(&rt, "memory")),
+        List::new(Vec::from_array(alloc, turned).expect(&rt, "memory")),
     ];
-    are_told_apart(&rt, alloc, &values, &[]);
+    assert!(rt; are_told_apart(alloc, &values, &[]));
 }
 
 #[test]
 fn kept_attributes(rt: HostRuntime) {
     let alloc = rt.alloc();
     let values = [
-        kept(&rt, alloc, 99, &[]),
-        kept(&rt, alloc, 99, &[1]),
-        kept(&rt, alloc, 99, &[2]),
-        kept(&rt, alloc, 99 | NLA_F_NESTED, &[1]),
-        kept(&rt, alloc, 99 | NLA_F_NET_BYTEORDER, &[1]),
-        kept(&rt, alloc, 98, &[1]),
+        kept(alloc, 99, &[]).expect(&rt, "memory"),
+        kept(alloc, 99, &[1]).expect(&rt, "memory"),
+        kept(alloc, 99, &[2]).expect(&rt, "memory"),
+        kept(alloc, 99 | NLA_F_NESTED, &[1]).expect(&rt, "memory"),
+        kept(alloc, 99 | NLA_F_NET_BYTEORDER, &[1]).expect(&rt, "memory"),
+        kept(alloc, 98, &[1]).expect(&rt, "memory"),
     ];
-    are_copied_alike(&rt, alloc, &values, &[]);
+    assert!(rt; are_copied_alike(alloc, &values, &[]));
 }
 
 /// Wireless events with these bytes.
 fn events(rt: &impl Abort, alloc: Global, bytes: &[u8]) -> [WirelessEvent; 3] {
     [
-        WirelessEvent::AssociateRequest(got(rt, Bytes::from_slice(alloc, bytes))),
-        WirelessEvent::AssociateResponse(got(rt, Bytes::from_slice(alloc, bytes))),
-        WirelessEvent::Other(got(rt, Bytes::from_slice(alloc, bytes))),
+        WirelessEvent::AssociateRequest(Bytes::from_slice(alloc, bytes).expect(rt, "memory")),
+        WirelessEvent::AssociateResponse(Bytes::from_slice(alloc, bytes).expect(rt, "memory")),
+        WirelessEvent::Other(Bytes::from_slice(alloc, bytes).expect(rt, "memory")),
     ]
 }
 
@@ -69,7 +80,7 @@ fn events(rt: &impl Abort, alloc: Global, bytes: &[u8]) -> [WirelessEvent; 3] {
 fn event_written(rt: &impl Abort, alloc: Global, event: &WirelessEvent) -> Vec<u8> {
     assert!(rt; event.fits());
     let len = event.buffer_len();
-    let mut text = got(rt, vec![in alloc; 255u8; len]);
+    let mut text = vec![in alloc; 255u8; len].expect(rt, "memory");
     assert!(rt; text.len() == len);
     event.emit(text.as_mut_slice());
     text
@@ -80,32 +91,28 @@ fn wireless_events(rt: HostRuntime) {
     let alloc = rt.alloc();
     let ones = events(&rt, alloc, &[1]);
     let others = events(&rt, alloc, &[2]);
-    are_told_apart(&rt, alloc, &ones, &others);
-    are_told_apart(&rt, alloc, &others, &ones);
+    assert!(rt; are_told_apart(alloc, &ones, &others));
+    assert!(rt; are_told_apart(alloc, &others, &ones));
     for event in &ones {
-        let copy = got(&rt, event.clone(alloc));
+        let copy = event.clone(alloc).expect(&rt, "memory");
         let text = event_written(&rt, alloc, event);
-        are(
-            &rt,
-            event_written(&rt, alloc, &copy).as_slice(),
-            text.as_slice(),
-        );
+        assert!(rt; equal(event_written(&rt, alloc, &copy).as_slice(), text.as_slice()));
     }
 }
 
 /// Members of IFLA_PROP_LIST with these letters and this number.
 fn properties(rt: &impl Abort, alloc: Global, letters: &str, n: u8) -> [Prop; 2] {
     [
-        Prop::AltIfName(text_of(rt, alloc, letters)),
-        Prop::Other(kept_byte(rt, alloc, n)),
+        Prop::AltIfName(Text::from_str(alloc, letters).expect(rt, "memory")),
+        Prop::Other(kept_byte(alloc, n).expect(rt, "memory")),
     ]
 }
 
 /// Members of IFLA_LINKINFO with these letters and this number.
 fn infos(rt: &impl Abort, alloc: Global, letters: &str, n: u8) -> [LinkInfo; 2] {
     [
-        LinkInfo::Kind(text_of(rt, alloc, letters)),
-        LinkInfo::Other(kept_byte(rt, alloc, n)),
+        LinkInfo::Kind(Text::from_str(alloc, letters).expect(rt, "memory")),
+        LinkInfo::Other(kept_byte(alloc, n).expect(rt, "memory")),
     ]
 }
 
@@ -113,18 +120,18 @@ fn infos(rt: &impl Abort, alloc: Global, letters: &str, n: u8) -> [LinkInfo; 2] 
 fn properties_and_infos(rt: HostRuntime) {
     let alloc = rt.alloc();
     let ones = properties(&rt, alloc, "lo", 1);
-    are_copied_alike(&rt, alloc, &ones, &properties(&rt, alloc, "", 2));
+    assert!(rt; are_copied_alike(alloc, &ones, &properties(&rt, alloc, "", 2)));
     let ones = infos(&rt, alloc, "veth", 1);
-    are_copied_alike(&rt, alloc, &ones, &infos(&rt, alloc, "vlan", 2));
+    assert!(rt; are_copied_alike(alloc, &ones, &infos(&rt, alloc, "vlan", 2)));
 }
 
 /// Members of IFLA_DEVLINK_PORT with these letters and this number.
 fn devlink(rt: &impl Abort, alloc: Global, letters: &str, n: u8) -> [DevlinkPort; 4] {
     [
-        DevlinkPort::BusName(text_of(rt, alloc, letters)),
-        DevlinkPort::DevName(text_of(rt, alloc, letters)),
+        DevlinkPort::BusName(Text::from_str(alloc, letters).expect(rt, "memory")),
+        DevlinkPort::DevName(Text::from_str(alloc, letters).expect(rt, "memory")),
         DevlinkPort::PortIndex(u32::from(n)),
-        DevlinkPort::Other(kept_byte(rt, alloc, n)),
+        DevlinkPort::Other(kept_byte(alloc, n).expect(rt, "memory")),
     ]
 }
 
@@ -133,7 +140,7 @@ fn reasons(rt: &impl Abort, alloc: Global, n: u8) -> [LinkProtocolDownReason; 3]
     [
         LinkProtocolDownReason::Mask(u32::from(n)),
         LinkProtocolDownReason::Value(u32::from(n)),
-        LinkProtocolDownReason::Other(kept_byte(rt, alloc, n)),
+        LinkProtocolDownReason::Other(kept_byte(alloc, n).expect(rt, "memory")),
     ]
 }
 
@@ -141,7 +148,7 @@ fn reasons(rt: &impl Abort, alloc: Global, n: u8) -> [LinkProtocolDownReason; 3]
 fn pins(rt: &impl Abort, alloc: Global, n: u8) -> [DpllPin; 2] {
     [
         DpllPin::PinId(u32::from(n)),
-        DpllPin::Other(kept_byte(rt, alloc, n)),
+        DpllPin::Other(kept_byte(alloc, n).expect(rt, "memory")),
     ]
 }
 
@@ -149,9 +156,9 @@ fn pins(rt: &impl Abort, alloc: Global, n: u8) -> [DpllPin; 2] {
 fn ports_reasons_and_pins(rt: HostRuntime) {
     let alloc = rt.alloc();
     let ones = devlink(&rt, alloc, "p", 1);
-    are_copied_alike(&rt, alloc, &ones, &devlink(&rt, alloc, "q", 2));
-    are_copied_alike(&rt, alloc, &reasons(&rt, alloc, 1), &reasons(&rt, alloc, 2));
-    are_copied_alike(&rt, alloc, &pins(&rt, alloc, 1), &pins(&rt, alloc, 2));
+    assert!(rt; are_copied_alike(alloc, &ones, &devlink(&rt, alloc, "q", 2)));
+    assert!(rt; are_copied_alike(alloc, &reasons(&rt, alloc, 1), &reasons(&rt, alloc, 2)));
+    assert!(rt; are_copied_alike(alloc, &pins(&rt, alloc, 1), &pins(&rt, alloc, 2)));
 }
 
 /// Members of IFLA_XDP with this number.
@@ -166,14 +173,14 @@ fn paths(rt: &impl Abort, alloc: Global, n: u8) -> [LinkXdp; 9] {
         LinkXdp::SkbProgId(number),
         LinkXdp::HwProgId(number),
         LinkXdp::ExpectedFd(number),
-        LinkXdp::Other(kept_byte(rt, alloc, n)),
+        LinkXdp::Other(kept_byte(alloc, n).expect(rt, "memory")),
     ]
 }
 
 #[test]
 fn express_data_paths(rt: HostRuntime) {
     let alloc = rt.alloc();
-    are_copied_alike(&rt, alloc, &paths(&rt, alloc, 1), &paths(&rt, alloc, 200));
+    assert!(rt; are_copied_alike(alloc, &paths(&rt, alloc, 1), &paths(&rt, alloc, 200)));
 }
 
 /// Statistics of a function with this number.
@@ -188,22 +195,25 @@ fn statistics_of(rt: &impl Abort, alloc: Global, n: u8) -> [VfStats; 9] {
         VfStats::Multicast(number),
         VfStats::RxDropped(number),
         VfStats::TxDropped(number),
-        VfStats::Other(kept_byte(rt, alloc, n)),
+        VfStats::Other(kept_byte(alloc, n).expect(rt, "memory")),
     ]
 }
 
 /// Vlans of a function with this number.
 fn vlans(rt: &impl Abort, alloc: Global, n: u8) -> [VfVlan; 2] {
     let info = VfVlanInfo::new(1, 2, u32::from(n), VlanProtocol::Ieee8021Ad);
-    [VfVlan::Info(info), VfVlan::Other(kept_byte(rt, alloc, n))]
+    [
+        VfVlan::Info(info),
+        VfVlan::Other(kept_byte(alloc, n).expect(rt, "memory")),
+    ]
 }
 
 #[test]
 fn statistics_and_vlans(rt: HostRuntime) {
     let alloc = rt.alloc();
     let ones = statistics_of(&rt, alloc, 1);
-    are_copied_alike(&rt, alloc, &ones, &statistics_of(&rt, alloc, 2));
-    are_copied_alike(&rt, alloc, &vlans(&rt, alloc, 1), &vlans(&rt, alloc, 2));
+    assert!(rt; are_copied_alike(alloc, &ones, &statistics_of(&rt, alloc, 2)));
+    assert!(rt; are_copied_alike(alloc, &vlans(&rt, alloc, 1), &vlans(&rt, alloc, 2)));
 }
 
 /// What is told of a function, with this number.
@@ -217,13 +227,17 @@ fn functions_of(rt: &impl Abort, alloc: Global, n: u8) -> [VfInfo; 14] {
         VfInfo::LinkState(VfInfoLinkState::new(id, VfLinkState::Other(9))),
         VfInfo::Rate(VfInfoRate::new(id, 1, 2)),
         VfInfo::RssQueryEn(VfInfoRssQueryEn::new(id, true)),
-        VfInfo::Stats(list_of_one(rt, alloc, VfStats::RxBytes(u64::from(n)))),
+        VfInfo::Stats(list(alloc, [VfStats::RxBytes(u64::from(n))]).expect(rt, "memory")),
         VfInfo::Trust(VfInfoTrust::new(id, true)),
         VfInfo::IbNodeGuid(VfInfoGuid::new(id, 7)),
         VfInfo::IbPortGuid(VfInfoGuid::new(id, 7)),
-        VfInfo::VlanList(list_of_one(rt, alloc, VfVlan::Other(kept_byte(rt, alloc, n)))),
+        VfInfo::VlanList(list(
+            alloc,
+            [VfVlan::Other(kept_byte(alloc, n).expect(rt, "memory"))],
+        )
+        .expect(rt, "memory")),
         VfInfo::Broadcast(VfInfoBroadcast::new(&[n])),
-        VfInfo::Other(kept_byte(rt, alloc, n)),
+        VfInfo::Other(kept_byte(alloc, n).expect(rt, "memory")),
     ]
 }
 
@@ -231,21 +245,27 @@ fn functions_of(rt: &impl Abort, alloc: Global, n: u8) -> [VfInfo; 14] {
 fn functions(rt: HostRuntime) {
     let alloc = rt.alloc();
     let ones = functions_of(&rt, alloc, 1);
-    are_copied_alike(&rt, alloc, &ones, &functions_of(&rt, alloc, 2));
+    assert!(rt; are_copied_alike(alloc, &ones, &functions_of(&rt, alloc, 2)));
+}
+
+/// A port of one attribute that is kept, with this payload.
+fn port(rt: &impl Abort, alloc: Global, n: u8) -> [LinkVfPort; 1] {
+    let member = VfPort::Other(kept_byte(alloc, n).expect(rt, "memory"));
+    [LinkVfPort(list(alloc, [member]).expect(rt, "memory"))]
 }
 
 #[test]
 fn lists_of_functions_and_ports(rt: HostRuntime) {
     let alloc = rt.alloc();
-    let ones = got(&rt, Vec::from_array(alloc, functions_of(&rt, alloc, 1)));
-    let others = got(&rt, Vec::from_array(alloc, functions_of(&rt, alloc, 2)));
+    let ones = Vec::from_array(alloc, functions_of(&rt, alloc, 1)).expect(&rt, "memory");
+    let others = Vec::from_array(alloc, functions_of(&rt, alloc, 2)).expect(&rt, "memory");
     let functions = [LinkVfInfo(List::new(ones)), LinkVfInfo(List::new(others))];
     let other = [LinkVfInfo(List::new(Vec::new(alloc)))];
-    are_copied_alike(&rt, alloc, &functions, &other);
-    are_copied_alike(&rt, alloc, &[port(&rt, alloc, 1)], &[port(&rt, alloc, 2)]);
-    let one = [VfPort::Other(kept_byte(&rt, alloc, 1))];
-    let other = [VfPort::Other(kept_byte(&rt, alloc, 2))];
-    are_copied_alike(&rt, alloc, &one, &other);
+    assert!(rt; are_copied_alike(alloc, &functions, &other));
+    assert!(rt; are_copied_alike(alloc, &port(&rt, alloc, 1), &port(&rt, alloc, 2)));
+    let one = [VfPort::Other(kept_byte(alloc, 1).expect(&rt, "memory"))];
+    let other = [VfPort::Other(kept_byte(alloc, 2).expect(&rt, "memory"))];
+    assert!(rt; are_copied_alike(alloc, &one, &other));
 }
 
 /// Settings of IPv4 with this number, as they are told and as they are asked for.
@@ -257,7 +277,7 @@ fn ipv4(rt: &impl Abort, alloc: Global, n: u8) -> [AfSpecInet; 3] {
     [
         AfSpecInet::DevConf(conf),
         AfSpecInet::DevConfRequest(conf),
-        AfSpecInet::Other(kept_byte(rt, alloc, n)),
+        AfSpecInet::Other(kept_byte(alloc, n).expect(rt, "memory")),
     ]
 }
 
@@ -266,7 +286,7 @@ fn mctp(rt: &impl Abort, alloc: Global, n: u8) -> [AfSpecMctp; 3] {
     [
         AfSpecMctp::Net(u32::from(n)),
         AfSpecMctp::PhysBinding(MctpPhysBinding::Other(n)),
-        AfSpecMctp::Other(kept_byte(rt, alloc, n)),
+        AfSpecMctp::Other(kept_byte(alloc, n).expect(rt, "memory")),
     ]
 }
 
@@ -274,9 +294,9 @@ fn mctp(rt: &impl Abort, alloc: Global, n: u8) -> [AfSpecMctp; 3] {
 fn settings_of_ipv4_and_mctp(rt: HostRuntime) {
     let alloc = rt.alloc();
     let ones = ipv4(&rt, alloc, 1);
-    are_copied_alike(&rt, alloc, &ones, &ipv4(&rt, alloc, 2));
+    assert!(rt; are_copied_alike(alloc, &ones, &ipv4(&rt, alloc, 2)));
     let ones = mctp(&rt, alloc, 101);
-    are_copied_alike(&rt, alloc, &ones, &mctp(&rt, alloc, 102));
+    assert!(rt; are_copied_alike(alloc, &ones, &mctp(&rt, alloc, 102)));
 }
 
 /// Settings and statistics of IPv6 with this number.
@@ -297,7 +317,7 @@ fn ipv6(rt: &impl Abort, alloc: Global, n: u8) -> [AfSpecInet6; 9] {
         AfSpecInet6::Token(Ipv6Addr::from_octets([n; 16])),
         AfSpecInet6::AddrGenMode(In6AddrGenMode::Other(n)),
         AfSpecInet6::RaMtu(number),
-        AfSpecInet6::Other(kept_byte(rt, alloc, n)),
+        AfSpecInet6::Other(kept_byte(alloc, n).expect(rt, "memory")),
     ]
 }
 
@@ -305,19 +325,19 @@ fn ipv6(rt: &impl Abort, alloc: Global, n: u8) -> [AfSpecInet6; 9] {
 fn settings_of_ipv6(rt: HostRuntime) {
     let alloc = rt.alloc();
     let ones = ipv6(&rt, alloc, 101);
-    are_copied_alike(&rt, alloc, &ones, &ipv6(&rt, alloc, 102));
+    assert!(rt; are_copied_alike(alloc, &ones, &ipv6(&rt, alloc, 102)));
 }
 
 /// Settings by family with this number.
 fn families_of(rt: &impl Abort, alloc: Global, n: u8) -> [AfSpecUnspec; 4] {
-    let inet = AfSpecInet::Other(kept_byte(rt, alloc, n));
-    let inet6 = AfSpecInet6::Other(kept_byte(rt, alloc, n));
-    let mctp = AfSpecMctp::Other(kept_byte(rt, alloc, n));
+    let inet = AfSpecInet::Other(kept_byte(alloc, n).expect(rt, "memory"));
+    let inet6 = AfSpecInet6::Other(kept_byte(alloc, n).expect(rt, "memory"));
+    let mctp = AfSpecMctp::Other(kept_byte(alloc, n).expect(rt, "memory"));
     [
-        AfSpecUnspec::Inet(list_of_one(rt, alloc, inet)),
-        AfSpecUnspec::Inet6(list_of_one(rt, alloc, inet6)),
-        AfSpecUnspec::Mctp(list_of_one(rt, alloc, mctp)),
-        AfSpecUnspec::Other(kept_byte(rt, alloc, n)),
+        AfSpecUnspec::Inet(list(alloc, [inet]).expect(rt, "memory")),
+        AfSpecUnspec::Inet6(list(alloc, [inet6]).expect(rt, "memory")),
+        AfSpecUnspec::Mctp(list(alloc, [mctp]).expect(rt, "memory")),
+        AfSpecUnspec::Other(kept_byte(alloc, n).expect(rt, "memory")),
     ]
 }
 
@@ -325,19 +345,19 @@ fn families_of(rt: &impl Abort, alloc: Global, n: u8) -> [AfSpecUnspec; 4] {
 fn families(rt: HostRuntime) {
     let alloc = rt.alloc();
     let ones = families_of(&rt, alloc, 1);
-    are_copied_alike(&rt, alloc, &ones, &families_of(&rt, alloc, 2));
+    assert!(rt; are_copied_alike(alloc, &ones, &families_of(&rt, alloc, 2)));
 }
 
 #[test]
 fn members_that_are_all_kept(rt: HostRuntime) {
     let alloc = rt.alloc();
-    let one = [AfSpecBridge::Other(kept_byte(&rt, alloc, 1))];
-    let other = [AfSpecBridge::Other(kept_byte(&rt, alloc, 2))];
-    are_copied_alike(&rt, alloc, &one, &other);
-    let one = [LinkProtoInfoBridge::Other(kept_byte(&rt, alloc, 1))];
-    let other = [LinkProtoInfoBridge::Other(kept_byte(&rt, alloc, 2))];
-    are_copied_alike(&rt, alloc, &one, &other);
-    let one = [LinkProtoInfoInet6::Other(kept_byte(&rt, alloc, 1))];
-    let other = [LinkProtoInfoInet6::Other(kept_byte(&rt, alloc, 2))];
-    are_copied_alike(&rt, alloc, &one, &other);
+    let one = [AfSpecBridge::Other(kept_byte(alloc, 1).expect(&rt, "memory"))];
+    let other = [AfSpecBridge::Other(kept_byte(alloc, 2).expect(&rt, "memory"))];
+    assert!(rt; are_copied_alike(alloc, &one, &other));
+    let one = [LinkProtoInfoBridge::Other(kept_byte(alloc, 1).expect(&rt, "memory"))];
+    let other = [LinkProtoInfoBridge::Other(kept_byte(alloc, 2).expect(&rt, "memory"))];
+    assert!(rt; are_copied_alike(alloc, &one, &other));
+    let one = [LinkProtoInfoInet6::Other(kept_byte(alloc, 1).expect(&rt, "memory"))];
+    let other = [LinkProtoInfoInet6::Other(kept_byte(alloc, 2).expect(&rt, "memory"))];
+    assert!(rt; are_copied_alike(alloc, &one, &other));
 }

@@ -1,4 +1,7 @@
-use crate::testing::*;
+use expected::{
+    BAD_FRAMES, cause_of, equal, has_value, is_copied, is_stored, kept, means, refuses,
+    refuses_bad_frames,
+};
 use link_vals::{VfLinkState, VlanProtocol};
 use link_vf::*;
 use link_vfrec::{
@@ -13,11 +16,11 @@ use std::process::Abort;
 #[test]
 fn refused_statistics(rt: HostRuntime) {
     let alloc = rt.alloc();
-    refuses_bad_frames::<VfStats>(&rt, alloc);
+    assert!(rt; refuses_bad_frames::<VfStats>(alloc));
     let short = Cause::WrongLength { got: 7, want: 8 };
-    refuses::<VfStats>(&rt, alloc, &[11, 0, 0, 0, 0, 0, 0, 0, 0, 0, 0], short);
+    assert!(rt; refuses::<VfStats>(alloc, &[11, 0, 0, 0, 0, 0, 0, 0, 0, 0, 0], short));
     let none = Cause::WrongLength { got: 0, want: 8 };
-    refuses::<VfStats>(&rt, alloc, &[4, 0, 8, 0], none);
+    assert!(rt; refuses::<VfStats>(alloc, &[4, 0, 8, 0], none));
 }
 
 #[test]
@@ -33,44 +36,46 @@ fn statistics(rt: HostRuntime) {
         (8, VfStats::TxDropped(7)),
     ] {
         let bytes = [12, 0, number, 0, 7, 0, 0, 0, 0, 0, 0, 0];
-        means(&rt, rt.alloc(), &bytes, &[value], &bytes);
+        assert!(rt; means(rt.alloc(), &bytes, &[value], &bytes));
     }
 }
 
 #[test]
 fn padding_among_statistics(rt: HostRuntime) {
     let alloc = rt.alloc();
-    let padding = VfStats::Other(kept(&rt, alloc, 6 | 0x8000, &[1]));
+    let padding = VfStats::Other(kept(alloc, 6 | 0x8000, &[1]).expect(&rt, "memory"));
     let text = [5, 0, 6, 0x80, 1, 0, 0, 0];
-    means(&rt, alloc, &[5, 0, 6, 0x80, 1], &[padding], &text);
+    assert!(rt; means(alloc, &[5, 0, 6, 0x80, 1], &[padding], &text));
 }
 
 #[test]
 fn vlans(rt: HostRuntime) {
     let alloc = rt.alloc();
-    refuses_bad_frames::<VfVlan>(&rt, alloc);
+    assert!(rt; refuses_bad_frames::<VfVlan>(alloc));
     let short = Cause::TooShort { got: 0, need: 16 };
-    refuses::<VfVlan>(&rt, alloc, &[4, 0, 1, 0], short);
-    means(
-        &rt,
-        alloc,
-        &[
-            20, 0, 1, 0, 1, 0, 0, 0, 100, 0, 0, 0, 0, 0, 0, 0, 0x88, 0xa8, 0x12, 0x34, 4, 0, 2, 0,
-        ],
-        &[
-            VfVlan::Info(VfVlanInfo::new(1, 100, 0, VlanProtocol::Ieee8021Ad)),
-            VfVlan::Other(kept(&rt, alloc, 2, &[])),
-        ],
-        &[
-            20, 0, 1, 0, 1, 0, 0, 0, 100, 0, 0, 0, 0, 0, 0, 0, 0x88, 0xa8, 0, 0, 4, 0, 2, 0,
-        ],
+    assert!(rt; refuses::<VfVlan>(alloc, &[4, 0, 1, 0], short));
+    assert!(rt;
+        means(
+            alloc,
+            &[
+                20, 0, 1, 0, 1, 0, 0, 0, 100, 0, 0, 0, 0, 0, 0, 0, 0x88, 0xa8, 0x12, 0x34, 4, 0, 2,
+                0,
+            ],
+            &[
+                VfVlan::Info(VfVlanInfo::new(1, 100, 0, VlanProtocol::Ieee8021Ad)),
+                VfVlan::Other(kept(alloc, 2, &[]).expect(&rt, "memory")),
+            ],
+            &[
+                20, 0, 1, 0, 1, 0, 0, 0, 100, 0, 0, 0, 0, 0, 0, 0, 0x88, 0xa8, 0, 0, 4, 0, 2, 0,
+            ]
+        )
     );
 }
 
 #[test]
 fn short_records_of_functions(rt: HostRuntime) {
     let alloc = rt.alloc();
-    refuses_bad_frames::<VfInfo>(&rt, alloc);
+    assert!(rt; refuses_bad_frames::<VfInfo>(alloc));
     for (number, need) in [
         (1, 36),
         (2, 12),
@@ -85,51 +90,53 @@ fn short_records_of_functions(rt: HostRuntime) {
         (13, 32),
     ] {
         let empty = [4, 0, number, 0];
-        refuses::<VfInfo>(&rt, alloc, &empty, Cause::TooShort { got: 0, need });
+        assert!(rt; refuses::<VfInfo>(alloc, &empty, Cause::TooShort { got: 0, need }));
         let four = [8, 0, number, 0, 1, 2, 3, 4];
-        refuses::<VfInfo>(&rt, alloc, &four, Cause::TooShort { got: 4, need });
+        assert!(rt; refuses::<VfInfo>(alloc, &four, Cause::TooShort { got: 4, need }));
     }
 }
 
 #[test]
 fn functions(rt: HostRuntime) {
     let alloc = rt.alloc();
-    means(
-        &rt,
-        alloc,
-        &[
-            12, 0, 9, 0, 1, 0, 0, 0, 2, 0, 0, 0, 12, 0, 9, 0, 1, 0, 0, 0, 255, 255, 255, 255, 4, 0,
-            14, 0x40,
-        ],
-        &[
-            VfInfo::Trust(VfInfoTrust::new(1, true)),
-            VfInfo::Trust(VfInfoTrust::new(1, false)),
-            VfInfo::Other(kept(&rt, alloc, 14 | 0x4000, &[])),
-        ],
-        &[
-            12, 0, 9, 0, 1, 0, 0, 0, 1, 0, 0, 0, 12, 0, 9, 0, 1, 0, 0, 0, 0, 0, 0, 0, 4, 0, 14,
-            0x40,
-        ],
+    assert!(rt;
+        means(
+            alloc,
+            &[
+                12, 0, 9, 0, 1, 0, 0, 0, 2, 0, 0, 0, 12, 0, 9, 0, 1, 0, 0, 0, 255, 255, 255, 255,
+                4, 0, 14, 0x40,
+            ],
+            &[
+                VfInfo::Trust(VfInfoTrust::new(1, true)),
+                VfInfo::Trust(VfInfoTrust::new(1, false)),
+                VfInfo::Other(kept(alloc, 14 | 0x4000, &[]).expect(&rt, "memory")),
+            ],
+            &[
+                12, 0, 9, 0, 1, 0, 0, 0, 1, 0, 0, 0, 12, 0, 9, 0, 1, 0, 0, 0, 0, 0, 0, 0, 4, 0, 14,
+                0x40,
+            ]
+        )
     );
 }
 
 #[test]
 fn guids_of_functions(rt: HostRuntime) {
-    means(
-        &rt,
-        rt.alloc(),
-        &[
-            20, 0, 10, 0, 2, 0, 0, 0, 255, 255, 255, 255, 1, 0, 0, 0, 0, 0, 0, 0, 20, 0, 11, 0, 3,
-            0, 0, 0, 0, 0, 0, 0, 1, 0, 0, 0, 0, 0, 0, 2,
-        ],
-        &[
-            VfInfo::IbNodeGuid(VfInfoGuid::new(2, 1)),
-            VfInfo::IbPortGuid(VfInfoGuid::new(3, 0x0200000000000001)),
-        ],
-        &[
-            20, 0, 10, 0, 2, 0, 0, 0, 0, 0, 0, 0, 1, 0, 0, 0, 0, 0, 0, 0, 20, 0, 11, 0, 3, 0, 0, 0,
-            0, 0, 0, 0, 1, 0, 0, 0, 0, 0, 0, 2,
-        ],
+    assert!(rt;
+        means(
+            rt.alloc(),
+            &[
+                20, 0, 10, 0, 2, 0, 0, 0, 255, 255, 255, 255, 1, 0, 0, 0, 0, 0, 0, 0, 20, 0, 11, 0,
+                3, 0, 0, 0, 0, 0, 0, 0, 1, 0, 0, 0, 0, 0, 0, 2,
+            ],
+            &[
+                VfInfo::IbNodeGuid(VfInfoGuid::new(2, 1)),
+                VfInfo::IbPortGuid(VfInfoGuid::new(3, 0x0200000000000001)),
+            ],
+            &[
+                20, 0, 10, 0, 2, 0, 0, 0, 0, 0, 0, 0, 1, 0, 0, 0, 0, 0, 0, 0, 20, 0, 11, 0, 3, 0,
+                0, 0, 0, 0, 0, 0, 1, 0, 0, 0, 0, 0, 0, 2,
+            ]
+        )
     );
 }
 
@@ -141,7 +148,7 @@ fn addresses_of_functions(rt: HostRuntime) {
     bytes[4] = 3;
     bytes[8] = 0x52;
     let address = VfInfo::Mac(VfInfoMac::new(3, &[0x52]));
-    means(&rt, rt.alloc(), &bytes, &[address], &bytes);
+    assert!(rt; means(rt.alloc(), &bytes, &[address], &bytes));
 }
 
 #[test]
@@ -151,7 +158,7 @@ fn broadcasts_of_functions(rt: HostRuntime) {
     bytes[2] = 13;
     bytes[4] = 0xff;
     let broadcast = VfInfo::Broadcast(VfInfoBroadcast::new(&[0xff]));
-    means(&rt, rt.alloc(), &bytes, &[broadcast], &bytes);
+    assert!(rt; means(rt.alloc(), &bytes, &[broadcast], &bytes));
 }
 
 #[test]
@@ -166,7 +173,7 @@ fn records_of_functions(rt: HostRuntime) {
         (VfInfo::RssQueryEn(VfInfoRssQueryEn::new(3, true)), 7),
     ] {
         let bytes = [12, 0, number, 0, 3, 0, 0, 0, 1, 0, 0, 0];
-        means(&rt, rt.alloc(), &bytes, &[value], &bytes);
+        assert!(rt; means(rt.alloc(), &bytes, &[value], &bytes));
     }
 }
 
@@ -178,7 +185,7 @@ fn vlans_and_rates_of_functions(rt: HostRuntime) {
     ];
     let vlan = VfInfo::Vlan(VfInfoVlan::new(3, 1, 2));
     let rate = VfInfo::Rate(VfInfoRate::new(3, 1, 2));
-    means(&rt, rt.alloc(), &bytes, &[vlan, rate], &bytes);
+    assert!(rt; means(rt.alloc(), &bytes, &[vlan, rate], &bytes));
 }
 
 #[test]
@@ -198,42 +205,43 @@ fn refused_lists_of_functions(rt: HostRuntime) {
             Cause::TooShort { got: 0, need: 16 },
         ),
     ] {
-        refuses::<VfInfo>(&rt, rt.alloc(), bytes, cause);
+        assert!(rt; refuses::<VfInfo>(rt.alloc(), bytes, cause));
     }
 }
 
 #[test]
 fn lists_of_functions(rt: HostRuntime) {
     let alloc = rt.alloc();
-    let stats = got(&rt, Vec::from_array(alloc, [VfStats::RxPackets(7)]));
-    means(
-        &rt,
-        alloc,
-        &[
-            16, 0, 8, 0, 12, 0, 0, 0, 7, 0, 0, 0, 0, 0, 0, 0, 4, 0, 8, 0, 4, 0, 12, 0x80,
-        ],
-        &[
-            VfInfo::Stats(List::new(stats)),
-            VfInfo::Stats(List::new(Vec::new(alloc))),
-            VfInfo::VlanList(List::new(Vec::new(alloc))),
-        ],
-        &[
-            16, 0, 8, 0, 12, 0, 0, 0, 7, 0, 0, 0, 0, 0, 0, 0, 4, 0, 8, 0, 4, 0, 12, 0,
-        ],
+    let stats = Vec::from_array(alloc, [VfStats::RxPackets(7)]).expect(&rt, "memory");
+    assert!(rt;
+        means(
+            alloc,
+            &[
+                16, 0, 8, 0, 12, 0, 0, 0, 7, 0, 0, 0, 0, 0, 0, 0, 4, 0, 8, 0, 4, 0, 12, 0x80,
+            ],
+            &[
+                VfInfo::Stats(List::new(stats)),
+                VfInfo::Stats(List::new(Vec::new(alloc))),
+                VfInfo::VlanList(List::new(Vec::new(alloc))),
+            ],
+            &[
+                16, 0, 8, 0, 12, 0, 0, 0, 7, 0, 0, 0, 0, 0, 0, 0, 4, 0, 8, 0, 4, 0, 12, 0,
+            ]
+        )
     );
 }
 
 /// What an entry's payload is refused for, or nothing. It has a text where it is not refused.
 fn entry_faults(rt: &impl Abort, alloc: Global, payload: &[u8], cause: Option<Cause>) {
-    fails(rt, LinkVfInfo::parse(alloc, payload), cause);
-    fails(rt, LinkVfInfo::check(payload), cause);
+    assert_eq!(rt; cause_of(LinkVfInfo::parse(alloc, payload)), cause);
+    assert_eq!(rt; cause_of(LinkVfInfo::check(payload)), cause);
     assert!(rt; LinkVfInfo::measure_entry(payload).is_none() == cause.is_some());
 }
 
 /// What a list of functions is refused for, or nothing. It has a text where it is not refused.
 fn list_faults(rt: &impl Abort, alloc: Global, payload: &[u8], cause: Option<Cause>) {
-    fails(rt, LinkVfInfo::parse_list(alloc, payload), cause);
-    fails(rt, LinkVfInfo::check_list(payload), cause);
+    assert_eq!(rt; cause_of(LinkVfInfo::parse_list(alloc, payload)), cause);
+    assert_eq!(rt; cause_of(LinkVfInfo::check_list(payload)), cause);
     assert!(rt; LinkVfInfo::measure_list(payload).is_none() == cause.is_some());
 }
 
@@ -279,7 +287,7 @@ fn entries_in_lists_of_functions(rt: HostRuntime) {
         list_faults(&rt, alloc, payload, cause);
     }
     let dropped = LinkVfInfo::parse_list(alloc, &[8, 0, 5, 0, 255, 255, 255, 255]);
-    assert!(rt; got(&rt, dropped).len() == 0);
+    assert!(rt; dropped.expect(&rt, "memory").len() == 0);
 }
 
 /// Two entries of a list of functions, the first of which is foreign; then the text of the other.
@@ -295,18 +303,18 @@ const VLAN_TEXT: [u8; 28] = [
 /// A function with a list of one vlan.
 fn vlan_function(rt: &impl Abort, alloc: Global) -> LinkVfInfo {
     let vlan = VfVlan::Info(VfVlanInfo::new(1, 100, 0, VlanProtocol::Ieee8021Ad));
-    let vlans = VfInfo::VlanList(List::new(got(rt, Vec::from_array(alloc, [vlan]))));
-    LinkVfInfo(List::new(got(rt, Vec::from_array(alloc, [vlans]))))
+    let vlans = VfInfo::VlanList(List::new(Vec::from_array(alloc, [vlan]).expect(rt, "memory")));
+    LinkVfInfo(List::new(Vec::from_array(alloc, [vlans]).expect(rt, "memory")))
 }
 
 #[test]
 fn four_levels_read(rt: HostRuntime) {
     let alloc = rt.alloc();
     let function = vlan_function(&rt, alloc);
-    let functions = got(&rt, LinkVfInfo::parse_list(alloc, &VLAN_ENTRIES));
+    let functions = LinkVfInfo::parse_list(alloc, &VLAN_ENTRIES).expect(&rt, "it is read");
     assert!(rt; functions.len() == 1);
-    is_copied(&rt, alloc, &functions[0], &function);
-    let entry = got(&rt, LinkVfInfo::parse(alloc, &VLAN_TEXT[4..]));
+    assert!(rt; is_copied(alloc, &functions[0], &function));
+    let entry = LinkVfInfo::parse(alloc, &VLAN_TEXT[4..]).expect(&rt, "it is read");
     assert!(rt; same(&entry, &function));
 }
 
@@ -316,12 +324,12 @@ fn four_levels_written(rt: HostRuntime) {
     assert!(rt; LinkVfInfo::check_list(&VLAN_ENTRIES).is_ok());
     assert!(rt; LinkVfInfo::measure_list(&VLAN_ENTRIES) == Some(28));
     assert!(rt; LinkVfInfo::canon_list(&VLAN_ENTRIES, &mut out) == Some(28));
-    stored(&rt, 28, &out, &VLAN_TEXT);
+    assert!(rt; is_stored(28, &out, &VLAN_TEXT));
     let mut out = [255; 33];
     let len = LinkVfInfo::write_list(22, &VLAN_ENTRIES, &mut out);
     assert!(rt; len == 32);
-    begin(&rt, &out, &[32, 0, 22, 0]);
-    stored(&rt, 28, &out[4..], &VLAN_TEXT);
+    assert!(rt; out.starts_with(&[32, 0, 22, 0]));
+    assert!(rt; is_stored(28, &out[4..], &VLAN_TEXT));
 }
 
 #[test]
@@ -331,10 +339,10 @@ fn four_levels_written_alone(rt: HostRuntime) {
     assert!(rt; LinkVfInfo::measure_entry(payload) == Some(24));
     let mut out = [255; 29];
     assert!(rt; LinkVfInfo::canon(payload, &mut out) == Some(24));
-    stored(&rt, 24, &out, &VLAN_TEXT[4..]);
+    assert!(rt; is_stored(24, &out, &VLAN_TEXT[4..]));
     let mut out = [255; 29];
     let len = LinkVfInfo::write_entry(1, payload, &mut out);
-    stored(&rt, len, &out, &VLAN_TEXT);
+    assert!(rt; is_stored(len, &out, &VLAN_TEXT));
 }
 
 /// What is refused changes no byte.
@@ -347,7 +355,7 @@ fn refused_functions_written(rt: HostRuntime) {
             panic!(rt; "there is an entry");
         };
         assert!(rt; LinkVfInfo::canon(payload, &mut out).is_none());
-        are(&rt, &out, &[255; 8]);
+        assert!(rt; equal(&out, &[255; 8]));
     }
 }
 
@@ -360,7 +368,7 @@ fn refused_lists_of_functions_written(rt: HostRuntime) {
             panic!(rt; "there is a list");
         };
         assert!(rt; LinkVfInfo::canon_list(payload, &mut out).is_none());
-        are(&rt, &out, &[255; 8]);
+        assert!(rt; equal(&out, &[255; 8]));
     }
 }
 
@@ -372,9 +380,9 @@ fn is_filled<N: Nla>(rt: &impl Abort, nla: &N, kind: u16, text: &[u8; 28]) {
     assert!(rt; nla.buffer_len() == 28);
     let mut buffer = [255; 30];
     nla.emit(&mut buffer);
-    begin(rt, &buffer, text);
+    assert!(rt; buffer.starts_with(text));
     assert!(rt; nla.fill(&mut buffer) == 2);
-    are(rt, &buffer[2..], text);
+    assert!(rt; equal(&buffer[2..], text));
 }
 
 #[test]
@@ -384,22 +392,22 @@ fn four_levels_filled(rt: HostRuntime) {
 
 /// What a port's payload is refused for, or nothing. It has a text where it is not refused.
 fn port_faults(rt: &impl Abort, alloc: Global, payload: &[u8], cause: Option<Cause>) {
-    fails(rt, LinkVfPort::parse(alloc, payload), cause);
-    fails(rt, LinkVfPort::check(payload), cause);
+    assert_eq!(rt; cause_of(LinkVfPort::parse(alloc, payload)), cause);
+    assert_eq!(rt; cause_of(LinkVfPort::check(payload)), cause);
     assert!(rt; LinkVfPort::measure_entry(payload).is_none() == cause.is_some());
 }
 
 /// What a list of ports is refused for, or nothing. It has a text where it is not refused.
 fn ports_faults(rt: &impl Abort, alloc: Global, payload: &[u8], cause: Option<Cause>) {
-    fails(rt, LinkVfPort::parse_list(alloc, payload), cause);
-    fails(rt, LinkVfPort::check_list(payload), cause);
+    assert_eq!(rt; cause_of(LinkVfPort::parse_list(alloc, payload)), cause);
+    assert_eq!(rt; cause_of(LinkVfPort::check_list(payload)), cause);
     assert!(rt; LinkVfPort::measure_list(payload).is_none() == cause.is_some());
 }
 
 #[test]
 fn refused_ports(rt: HostRuntime) {
     let alloc = rt.alloc();
-    refuses_bad_frames::<VfPort>(&rt, alloc);
+    assert!(rt; refuses_bad_frames::<VfPort>(alloc));
     for (bytes, cause) in BAD_FRAMES {
         port_faults(&rt, alloc, bytes, Some(cause));
         ports_faults(&rt, alloc, bytes, Some(cause));
@@ -413,24 +421,24 @@ fn refused_ports(rt: HostRuntime) {
 #[test]
 fn ports(rt: HostRuntime) {
     let alloc = rt.alloc();
-    let kind_one = VfPort::Other(kept(&rt, alloc, 1 | 0x8000, &[7]));
+    let kind_one = VfPort::Other(kept(alloc, 1 | 0x8000, &[7]).expect(&rt, "memory"));
     let text = [5, 0, 1, 0x80, 7, 0, 0, 0];
-    means(&rt, alloc, &[5, 0, 1, 0x80, 7], &[kind_one], &text);
+    assert!(rt; means(alloc, &[5, 0, 1, 0x80, 7], &[kind_one], &text));
 }
 
 /// A port with one member.
 fn port_of_one(rt: &impl Abort, alloc: Global) -> LinkVfPort {
-    let member = VfPort::Other(kept(rt, alloc, 1, &[5, 0, 0, 0]));
-    LinkVfPort(List::new(got(rt, Vec::from_array(alloc, [member]))))
+    let member = VfPort::Other(kept(alloc, 1, &[5, 0, 0, 0]).expect(rt, "memory"));
+    LinkVfPort(List::new(Vec::from_array(alloc, [member]).expect(rt, "memory")))
 }
 
 #[test]
 fn one_port(rt: HostRuntime) {
     let entry = [8, 0, 1, 0, 5, 0, 0, 0];
     let port = port_of_one(&rt, rt.alloc());
-    let read = got(&rt, LinkVfPort::parse(rt.alloc(), &entry));
-    is_copied(&rt, rt.alloc(), &read, &port);
-    has_value(&rt, &port, 1, &entry);
+    let read = LinkVfPort::parse(rt.alloc(), &entry).expect(&rt, "it is read");
+    assert!(rt; is_copied(rt.alloc(), &read, &port));
+    assert!(rt; has_value(&port, 1, &entry));
 }
 
 #[test]
@@ -440,9 +448,9 @@ fn ports_written(rt: HostRuntime) {
     assert!(rt; LinkVfPort::measure_entry(&entry) == Some(8));
     let mut out = [255; 13];
     assert!(rt; LinkVfPort::canon(&entry, &mut out) == Some(8));
-    stored(&rt, 8, &out, &entry);
+    assert!(rt; is_stored(8, &out, &entry));
     let len = LinkVfPort::write_entry(25, &entry, &mut out);
-    stored(&rt, len, &out, &[12, 0, 25, 0, 8, 0, 1, 0, 5, 0, 0, 0]);
+    assert!(rt; is_stored(len, &out, &[12, 0, 25, 0, 8, 0, 1, 0, 5, 0, 0, 0]));
 }
 
 #[test]
@@ -452,9 +460,9 @@ fn lists_of_ports_written(rt: HostRuntime) {
     assert!(rt; LinkVfPort::measure_list(&list) == Some(8));
     let mut out = [255; 13];
     assert!(rt; LinkVfPort::canon_list(&list, &mut out) == Some(8));
-    stored(&rt, 8, &out, &list[8..]);
+    assert!(rt; is_stored(8, &out, &list[8..]));
     let len = LinkVfPort::write_list(24, &list, &mut out);
-    stored(&rt, len, &out, &[12, 0, 24, 0, 8, 0, 1, 0, 4, 0, 9, 0]);
+    assert!(rt; is_stored(len, &out, &[12, 0, 24, 0, 8, 0, 1, 0, 4, 0, 9, 0]));
 }
 
 /// What is refused changes no byte.
@@ -467,7 +475,7 @@ fn refused_ports_written(rt: HostRuntime) {
             panic!(rt; "there is a port");
         };
         assert!(rt; LinkVfPort::canon(payload, &mut out).is_none());
-        are(&rt, &out, &[255; 8]);
+        assert!(rt; equal(&out, &[255; 8]));
     }
 }
 
@@ -480,6 +488,6 @@ fn refused_lists_of_ports_written(rt: HostRuntime) {
             panic!(rt; "there is a list");
         };
         assert!(rt; LinkVfPort::canon_list(payload, &mut out).is_none());
-        are(&rt, &out, &[255; 8]);
+        assert!(rt; equal(&out, &[255; 8]));
     }
 }

@@ -1,6 +1,6 @@
 //! Lists of attributes that are all kept, read, checked and written again.
 
-use crate::testing::{GROWTH, are, fails, got, stored};
+use expected::{GROWTH, cause_of, equal, is_stored};
 use link_vf::{VfPort, VfStats};
 use nla_wire::laws::{law_list_room, law_room};
 use nla_wire::*;
@@ -13,12 +13,12 @@ const SECOND: [u8; 8] = [5, 0, 1, 0, 7, 0, 0, 0];
 
 #[test]
 fn reads_lists(rt: HostRuntime) {
-    let all = got(&rt, VfPort::parse_list(rt.alloc(), &TWO));
+    let all = VfPort::parse_list(rt.alloc(), &TWO).expect(&rt, "it is read");
     assert!(rt; all.len() == 2);
     assert!(rt; all[0].kind() == 0x8002);
-    let ones = got(
+    let ones = parse_picked_members::<VfPort, OwnPlace>(&OwnPlace, rt.alloc(), &TWO).expect(
         &rt,
-        parse_picked_members::<VfPort, OwnPlace>(&OwnPlace, rt.alloc(), &TWO),
+        "it is read",
     );
     assert!(rt; ones.len() == 1);
     assert!(rt; ones[0].kind() == 1);
@@ -28,12 +28,11 @@ fn reads_lists(rt: HostRuntime) {
 fn refuses_lists(rt: HostRuntime) {
     let short = &TWO[..8];
     let over = Some(Cause::FrameOver { length: 5, left: 4 });
-    fails(&rt, VfPort::parse_list(rt.alloc(), short), over);
-    fails(&rt, VfPort::check_list(short), over);
-    fails(
-        &rt,
-        check_picked_members::<VfPort, OwnPlace>(&OwnPlace, short),
-        over,
+    assert_eq!(rt; cause_of(VfPort::parse_list(rt.alloc(), short)), over);
+    assert_eq!(rt; cause_of(VfPort::check_list(short)), over);
+    assert_eq!(rt;
+        cause_of(check_picked_members::<VfPort, OwnPlace>(&OwnPlace, short)),
+        over
     );
 }
 
@@ -58,12 +57,12 @@ fn writes_lists(rt: HostRuntime) {
     assert!(rt; VfPort::check_list(&TWO).is_ok());
     assert!(rt; VfPort::measure_list(&TWO) == Some(12));
     assert!(rt; VfPort::canon_list(&TWO, &mut out) == Some(12));
-    stored(&rt, 12, &out, &[4, 0, 2, 0x80, 5, 0, 1, 0, 7, 0, 0, 0]);
+    assert!(rt; is_stored(12, &out, &[4, 0, 2, 0x80, 5, 0, 1, 0, 7, 0, 0, 0]));
     let mut out = [255; 17];
     assert!(rt; VfPort::measure_nested(&TWO) == Some(12));
     let len = VfPort::write_nested(52 | NLA_F_NESTED, &TWO, &mut out);
     let text = [16, 0, 52, 0x80, 4, 0, 2, 0x80, 5, 0, 1, 0, 7, 0, 0, 0];
-    stored(&rt, len, &out, &text);
+    assert!(rt; is_stored(len, &out, &text));
 }
 
 /// A list stands after what was written before it.
@@ -73,16 +72,12 @@ fn adds_lists(rt: HostRuntime) {
     assert!(rt; measure_members::<VfPort, OwnPlace>(&OwnPlace, &TWO) == Some(12));
     let len = write_members::<VfPort, OwnPlace>(&OwnPlace, &TWO, &mut out[1..]);
     assert!(rt; len == 12);
-    are(
-        &rt,
-        &out,
-        &[255, 4, 0, 2, 0x80, 5, 0, 1, 0, 7, 0, 0, 0, 255],
-    );
+    assert!(rt; equal(&out, &[255, 4, 0, 2, 0x80, 5, 0, 1, 0, 7, 0, 0, 0, 255]));
     let mut out = [255; 17];
     assert!(rt; measure_nested_members::<VfPort, OwnPlace>(&OwnPlace, &TWO) == Some(12));
     let len = write_nested_members::<VfPort, OwnPlace>(&OwnPlace, 52, &TWO, &mut out);
     let text = [16, 0, 52, 0, 4, 0, 2, 0x80, 5, 0, 1, 0, 7, 0, 0, 0];
-    stored(&rt, len, &out, &text);
+    assert!(rt; is_stored(len, &out, &text));
 }
 
 /// Lists that must not be empty.
@@ -94,7 +89,7 @@ fn writes_lists_of_some(rt: HostRuntime) {
     let mut out = [255; 17];
     let len = VfPort::write_some(25, &TWO, &mut out);
     let text = [16, 0, 25, 0, 4, 0, 2, 0x80, 5, 0, 1, 0, 7, 0, 0, 0];
-    stored(&rt, len, &out, &text);
+    assert!(rt; is_stored(len, &out, &text));
 }
 
 #[test]
@@ -118,23 +113,23 @@ fn writes_picked_lists(rt: HostRuntime) {
     assert!(rt; check_picked_members::<VfPort, OwnPlace>(&OwnPlace, &TWO).is_ok());
     assert!(rt; measure_picked_members::<VfPort, OwnPlace>(&OwnPlace, &TWO) == Some(8));
     let len = write_picked_members::<VfPort, OwnPlace>(&OwnPlace, &TWO, &mut out);
-    stored(&rt, len, &out, &SECOND);
+    assert!(rt; is_stored(len, &out, &SECOND));
     let mut out = [255; 13];
     assert!(rt; measure_nested_picked_members::<VfPort, OwnPlace>(&OwnPlace, &TWO) == Some(8));
     let len = write_nested_picked_members::<VfPort, OwnPlace>(&OwnPlace, 22, &TWO, &mut out);
-    stored(&rt, len, &out, &[12, 0, 22, 0, 5, 0, 1, 0, 7, 0, 0, 0]);
+    assert!(rt; is_stored(len, &out, &[12, 0, 22, 0, 5, 0, 1, 0, 7, 0, 0, 0]));
 }
 
 #[test]
 fn writes_members(rt: HostRuntime) {
-    let frame = got(&rt, NlaBuffer::new_checked(&TWO[4..]));
+    let frame = NlaBuffer::new_checked(&TWO[4..]).expect(&rt, "it is read");
     let mut out = [255; 9];
     assert!(rt; VfPort::measure_frame(&frame) == Some(1));
     let len = VfPort::write_frame(&frame, &mut out);
-    stored(&rt, len, &out, &SECOND);
+    assert!(rt; is_stored(len, &out, &SECOND));
     let mut out = [255; 9];
     assert!(rt; VfPort::canon(&frame, &mut out) == Some(8));
-    stored(&rt, 8, &out, &SECOND);
+    assert!(rt; is_stored(8, &out, &SECOND));
 }
 
 /// What was not measured is written where there are `GROWTH` bytes for each byte that is read.
@@ -143,24 +138,24 @@ fn writes_into_long_buffers(rt: HostRuntime) {
     let mut out = [255; 9 * GROWTH];
     law_list_room::<VfPort>(&TWO);
     assert!(rt; VfPort::canon_list(&TWO, &mut out) == Some(12));
-    stored(&rt, 12, &out, &[4, 0, 2, 0x80, 5, 0, 1, 0, 7, 0, 0, 0]);
-    let frame = got(&rt, NlaBuffer::new_checked(&TWO[4..]));
+    assert!(rt; is_stored(12, &out, &[4, 0, 2, 0x80, 5, 0, 1, 0, 7, 0, 0, 0]));
+    let frame = NlaBuffer::new_checked(&TWO[4..]).expect(&rt, "it is read");
     let mut out = [255; 5 * GROWTH];
     assert!(rt; frame.value().len() == 1);
     law_room::<VfPort>(&frame);
     assert!(rt; VfPort::canon(&frame, &mut out) == Some(8));
-    stored(&rt, 8, &out, &SECOND);
+    assert!(rt; is_stored(8, &out, &SECOND));
 }
 
 /// A counter of seven bytes is refused, and nothing is written.
 #[test]
 fn writes_no_refused_members(rt: HostRuntime) {
-    let frame = got(
+    let frame = NlaBuffer::new_checked(&[11, 0, 0, 0, 1, 2, 3, 4, 5, 6, 7]).expect(
         &rt,
-        NlaBuffer::new_checked(&[11, 0, 0, 0, 1, 2, 3, 4, 5, 6, 7]),
+        "it is read",
     );
     let mut out = [255; 12];
     assert!(rt; VfStats::measure_frame(&frame).is_none());
     assert!(rt; VfStats::canon(&frame, &mut out).is_none());
-    are(&rt, &out, &[255; 12]);
+    assert!(rt; equal(&out, &[255; 12]));
 }

@@ -1,21 +1,8 @@
-//! Tests of `link_nest`, `link_vf`, `link_afspec` and `link_msg`, in a crate of their own so that those are proved
-//! once.
+//! Tests of `link_nest`, `link_vf` and `link_afspec`, in a crate of their own so that those are proved once.
 #![tactic(auto)]
 
 #[cfg(test)]
-mod attribute_values;
-#[cfg(test)]
-mod attributes_alone;
-#[cfg(test)]
-mod copies;
-#[cfg(test)]
 mod copies_of_members;
-#[cfg(test)]
-mod damaged_lists;
-#[cfg(test)]
-mod empty_ports;
-#[cfg(test)]
-mod fault_places;
 #[cfg(test)]
 mod flat_lists;
 #[cfg(test)]
@@ -23,28 +10,6 @@ mod functions_and_ports;
 #[cfg(test)]
 mod kept_lists;
 #[cfg(test)]
-mod list_values;
-#[cfg(test)]
-mod long_inputs;
-#[cfg(test)]
-mod longer_records;
-#[cfg(test)]
-mod longest_messages;
-#[cfg(test)]
-mod messages;
-#[cfg(test)]
-mod names;
-#[cfg(test)]
-mod refused_messages;
-#[cfg(test)]
-mod rows;
-#[cfg(test)]
-mod sent_messages;
-#[cfg(test)]
 mod settings;
 #[cfg(test)]
-mod sized_kinds;
-#[cfg(test)]
-mod testing;
-#[cfg(test)]
-mod whole_messages;
+mod what_is_not_so;

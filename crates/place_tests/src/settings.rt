@@ -1,4 +1,7 @@
-use crate::testing::*;
+use expected::{
+    BAD_FRAMES, has_value, is_copied, kept, means, refuses, refuses_bad_frames, rewrites, writes,
+    zeros_after,
+};
 use link_afspec::*;
 use link_recs::inet::INET_DEV_CONF_SIZE;
 use link_recs::inet6_devconf::INET6_DEV_CONF_SIZE;
@@ -27,32 +30,33 @@ const ICMP6_COUNTERS: usize = NLA_HEADER_SIZE + ICMP6_STATS_SIZE;
 #[test]
 fn settings_of_mctp(rt: HostRuntime) {
     let alloc = rt.alloc();
-    refuses_bad_frames::<AfSpecMctp>(&rt, alloc);
+    assert!(rt; refuses_bad_frames::<AfSpecMctp>(alloc));
     for (bytes, got, want) in [
         ([7, 0, 1, 0, 1, 2, 3].as_slice(), 3, 4),
         ([4, 0, 2, 0].as_slice(), 0, 1),
         ([6, 0, 2, 0, 1, 2].as_slice(), 2, 1),
     ] {
-        refuses::<AfSpecMctp>(&rt, alloc, bytes, Cause::WrongLength { got, want });
+        assert!(rt; refuses::<AfSpecMctp>(alloc, bytes, Cause::WrongLength { got, want }));
     }
-    means(
-        &rt,
-        alloc,
-        &[
-            8, 0, 1, 0, 5, 1, 0, 0, 5, 0, 2, 0, 1, 0, 0, 0, 5, 0, 2, 0, 255, 0, 0, 0, 5, 0, 2, 0,
-            77, 0, 0, 0, 5, 0, 3, 0xc0, 9,
-        ],
-        &[
-            AfSpecMctp::Net(261),
-            AfSpecMctp::PhysBinding(MctpPhysBinding::Smbus),
-            AfSpecMctp::PhysBinding(MctpPhysBinding::Vendor),
-            AfSpecMctp::PhysBinding(MctpPhysBinding::Other(77)),
-            AfSpecMctp::Other(kept(&rt, alloc, 3 | 0xc000, &[9])),
-        ],
-        &[
-            8, 0, 1, 0, 5, 1, 0, 0, 5, 0, 2, 0, 1, 0, 0, 0, 5, 0, 2, 0, 255, 0, 0, 0, 5, 0, 2, 0,
-            77, 0, 0, 0, 5, 0, 3, 0xc0, 9, 0, 0, 0,
-        ],
+    assert!(rt;
+        means(
+            alloc,
+            &[
+                8, 0, 1, 0, 5, 1, 0, 0, 5, 0, 2, 0, 1, 0, 0, 0, 5, 0, 2, 0, 255, 0, 0, 0, 5, 0, 2,
+                0, 77, 0, 0, 0, 5, 0, 3, 0xc0, 9,
+            ],
+            &[
+                AfSpecMctp::Net(261),
+                AfSpecMctp::PhysBinding(MctpPhysBinding::Smbus),
+                AfSpecMctp::PhysBinding(MctpPhysBinding::Vendor),
+                AfSpecMctp::PhysBinding(MctpPhysBinding::Other(77)),
+                AfSpecMctp::Other(kept(alloc, 3 | 0xc000, &[9]).expect(&rt, "memory")),
+            ],
+            &[
+                8, 0, 1, 0, 5, 1, 0, 0, 5, 0, 2, 0, 1, 0, 0, 0, 5, 0, 2, 0, 255, 0, 0, 0, 5, 0, 2,
+                0, 77, 0, 0, 0, 5, 0, 3, 0xc0, 9, 0, 0, 0,
+            ]
+        )
     );
 }
 
@@ -67,7 +71,7 @@ fn two_settings() -> AfSpecInet {
 
 #[test]
 fn settings_of_ipv4(rt: HostRuntime) {
-    refuses_bad_frames::<AfSpecInet>(&rt, rt.alloc());
+    assert!(rt; refuses_bad_frames::<AfSpecInet>(rt.alloc()));
     let conf = two_settings();
     assert!(rt; conf.fits());
     assert!(rt; conf.kind() == 1);
@@ -80,7 +84,7 @@ fn flags_of_settings_of_ipv4(rt: HostRuntime) {
     let text: [u8; SETTINGS] = zeros_after(&[0x8c, 0, 1, 0, 8, 0, 1, 0, 1, 0, 0, 0]);
     for kind in [0, 0x80, 0x40, 0xc0] {
         let bytes = [12, 0, 1, kind, 8, 0, 1, 0, 1, 0, 0, 0];
-        means(&rt, rt.alloc(), &bytes, &values, &text);
+        assert!(rt; means(rt.alloc(), &bytes, &values, &text));
     }
 }
 
@@ -89,9 +93,9 @@ fn short_settings_of_ipv4(rt: HostRuntime) {
     let alloc = rt.alloc();
     let none = AfSpecInet::DevConf(InetDevConf::default());
     let text: [u8; SETTINGS] = zeros_after(&[0x8c, 0, 1, 0]);
-    means(&rt, alloc, &[4, 0, 1, 0], &[none], &text);
-    let other = AfSpecInet::Other(kept(&rt, alloc, 2, &[]));
-    means(&rt, alloc, &[4, 0, 2, 0], &[other], &[4, 0, 2, 0]);
+    assert!(rt; means(alloc, &[4, 0, 1, 0], &[none], &text));
+    let other = AfSpecInet::Other(kept(alloc, 2, &[]).expect(&rt, "memory"));
+    assert!(rt; means(alloc, &[4, 0, 2, 0], &[other], &[4, 0, 2, 0]));
 }
 
 /// A record that is longer than its table means its beginning.
@@ -102,9 +106,9 @@ fn long_settings_of_ipv4(rt: HostRuntime) {
     bytes[1] = 0;
     bytes[2] = 1;
     bytes[3] = 0;
-    let long = got(&rt, AfSpecInet::parse_list(rt.alloc(), &bytes));
+    let long = AfSpecInet::parse_list(rt.alloc(), &bytes).expect(&rt, "it is read");
     bytes[0] = 0x8c;
-    let exact = got(&rt, AfSpecInet::parse_list(rt.alloc(), &bytes[..SETTINGS]));
+    let exact = AfSpecInet::parse_list(rt.alloc(), &bytes[..SETTINGS]).expect(&rt, "it is read");
     assert!(rt; long == exact);
 }
 
@@ -119,14 +123,14 @@ fn settings_of_the_kernel(rt: HostRuntime) {
     bytes[0] = 0x88;
     bytes[2] = 1;
     bytes[132] = 7;
-    let read = got(&rt, AfSpecInet::parse_list(rt.alloc(), &bytes));
+    let read = AfSpecInet::parse_list(rt.alloc(), &bytes).expect(&rt, "it is read");
     assert!(rt; read.len() == 1);
-    is_copied(&rt, rt.alloc(), &read[0], &conf);
+    assert!(rt; is_copied(rt.alloc(), &read[0], &conf));
 }
 
 /// A request is written as this value.
 fn asks(rt: &impl Abort, conf: InetDevConf, value: &[u8; 8]) {
-    has_value(rt, &AfSpecInet::DevConfRequest(conf), 0x8001, value);
+    assert!(rt; has_value(&AfSpecInet::DevConfRequest(conf), 0x8001, value));
 }
 
 #[test]
@@ -156,25 +160,26 @@ fn requests(rt: HostRuntime) {
 #[test]
 fn written_requests(rt: HostRuntime) {
     let none = InetDevConf::default();
-    writes(&rt, &[AfSpecInet::DevConfRequest(none)], &[4, 0, 1, 0x80]);
+    assert!(rt; writes(&[AfSpecInet::DevConfRequest(none)], &[4, 0, 1, 0x80]));
     let two = InetDevConf {
         forwarding: 1,
         rp_filter: 2,
         ..none
     };
-    writes(
-        &rt,
-        &[AfSpecInet::DevConfRequest(two)],
-        &[
-            20, 0, 1, 0x80, 8, 0, 1, 0, 1, 0, 0, 0, 8, 0, 8, 0, 2, 0, 0, 0,
-        ],
+    assert!(rt;
+        writes(
+            &[AfSpecInet::DevConfRequest(two)],
+            &[
+                20, 0, 1, 0x80, 8, 0, 1, 0, 1, 0, 0, 0, 8, 0, 8, 0, 2, 0, 0, 0,
+            ]
+        )
     );
 }
 
 #[test]
 fn refused_settings_of_ipv6(rt: HostRuntime) {
     let alloc = rt.alloc();
-    refuses_bad_frames::<AfSpecInet6>(&rt, alloc);
+    assert!(rt; refuses_bad_frames::<AfSpecInet6>(alloc));
     for (number, len, cause) in [
         (1, 7, Cause::WrongLength { got: 3, want: 4 }),
         (5, 19, Cause::TooShort { got: 15, need: 16 }),
@@ -189,32 +194,33 @@ fn refused_settings_of_ipv6(rt: HostRuntime) {
         bytes[0] = len;
         bytes[2] = number;
         assert!(rt; len < 24);
-        refuses::<AfSpecInet6>(&rt, alloc, &bytes[..len as usize], cause);
+        assert!(rt; refuses::<AfSpecInet6>(alloc, &bytes[..len as usize], cause));
         // a length below 4 after it is not come to
-        refuses::<AfSpecInet6>(&rt, alloc, &bytes, cause);
+        assert!(rt; refuses::<AfSpecInet6>(alloc, &bytes, cause));
     }
 }
 
 #[test]
 fn settings_of_ipv6(rt: HostRuntime) {
     let alloc = rt.alloc();
-    means(
-        &rt,
-        alloc,
-        &[
-            8, 0, 1, 0, 1, 0, 0, 0x80, 5, 0, 8, 0, 2, 0, 0, 0, 8, 0, 9, 0, 0xdc, 5, 0, 0, 5, 0, 4,
-            0, 1,
-        ],
-        &[
-            AfSpecInet6::Flags(Inet6IfaceFlags::from_bits_retain(0x8000_0001)),
-            AfSpecInet6::AddrGenMode(In6AddrGenMode::StablePrivacy),
-            AfSpecInet6::RaMtu(1500),
-            AfSpecInet6::Other(kept(&rt, alloc, 4, &[1])),
-        ],
-        &[
-            8, 0, 1, 0, 1, 0, 0, 0x80, 5, 0, 8, 0, 2, 0, 0, 0, 8, 0, 9, 0, 0xdc, 5, 0, 0, 5, 0, 4,
-            0, 1, 0, 0, 0,
-        ],
+    assert!(rt;
+        means(
+            alloc,
+            &[
+                8, 0, 1, 0, 1, 0, 0, 0x80, 5, 0, 8, 0, 2, 0, 0, 0, 8, 0, 9, 0, 0xdc, 5, 0, 0, 5, 0,
+                4, 0, 1,
+            ],
+            &[
+                AfSpecInet6::Flags(Inet6IfaceFlags::from_bits_retain(0x8000_0001)),
+                AfSpecInet6::AddrGenMode(In6AddrGenMode::StablePrivacy),
+                AfSpecInet6::RaMtu(1500),
+                AfSpecInet6::Other(kept(alloc, 4, &[1]).expect(&rt, "memory")),
+            ],
+            &[
+                8, 0, 1, 0, 1, 0, 0, 0x80, 5, 0, 8, 0, 2, 0, 0, 0, 8, 0, 9, 0, 0xdc, 5, 0, 0, 5, 0,
+                4, 0, 1, 0, 0, 0,
+            ]
+        )
     );
 }
 
@@ -224,7 +230,7 @@ fn token_of_ipv6(rt: HostRuntime) {
     let bytes = [
         20, 0, 7, 0, 0x20, 1, 0xd, 0xb8, 0, 0, 0, 0, 0, 0, 0, 0, 0, 0, 1, 2,
     ];
-    means(&rt, rt.alloc(), &bytes, &[token], &bytes);
+    assert!(rt; means(rt.alloc(), &bytes, &[token], &bytes));
 }
 
 #[test]
@@ -238,7 +244,7 @@ fn cache_info_of_ipv6(rt: HostRuntime) {
     let bytes = [
         20, 0, 5, 0, 1, 0, 0, 0, 2, 0, 0, 0, 3, 0, 0, 0, 255, 255, 255, 255,
     ];
-    means(&rt, rt.alloc(), &bytes, &[info], &bytes);
+    assert!(rt; means(rt.alloc(), &bytes, &[info], &bytes));
 }
 
 #[test]
@@ -246,13 +252,13 @@ fn records_of_ipv6(rt: HostRuntime) {
     let alloc = rt.alloc();
     let text: [u8; INET6_SETTINGS] = zeros_after(&[244, 0, 2, 0]);
     let conf = AfSpecInet6::DevConf(Inet6DevConf::default());
-    means(&rt, alloc, &[4, 0, 2, 0], &[conf], &text);
+    assert!(rt; means(alloc, &[4, 0, 2, 0], &[conf], &text));
     let text: [u8; COUNTERS] = zeros_after(&[60, 1, 3, 0]);
     let stats = AfSpecInet6::Stats(Inet6Stats::default());
-    means(&rt, alloc, &[4, 0, 3, 0], &[stats], &text);
+    assert!(rt; means(alloc, &[4, 0, 3, 0], &[stats], &text));
     let text: [u8; ICMP6_COUNTERS] = zeros_after(&[60, 0, 6, 0]);
     let stats = AfSpecInet6::Icmp6Stats(Icmp6Stats::default());
-    means(&rt, alloc, &[4, 0, 6, 0], &[stats], &text);
+    assert!(rt; means(alloc, &[4, 0, 6, 0], &[stats], &text));
 }
 
 #[test]
@@ -262,7 +268,7 @@ fn half_a_record_of_ipv6(rt: HostRuntime) {
         ..Inet6Stats::default()
     });
     let text: [u8; COUNTERS] = zeros_after(&[60, 1, 3, 0, 1, 2]);
-    means(&rt, rt.alloc(), &[6, 0, 3, 0x80, 1, 2], &[stats], &text);
+    assert!(rt; means(rt.alloc(), &[6, 0, 3, 0x80, 1, 2], &[stats], &text));
 }
 
 /// The list of a family is refused for each damaged frame in it.
@@ -270,62 +276,63 @@ fn refuses_bad_members(rt: &impl Abort, alloc: Global, family: u8) {
     for (members, cause) in BAD_FRAMES {
         assert!(rt; members.len() <= 12);
         let len = 4 + members.len() as u8;
-        let mut bytes = got(rt, Vec::from_slice(alloc, &[len, 0, family, 0]));
-        got(rt, bytes.extend_from_slice(members));
-        refuses::<AfSpecUnspec>(rt, alloc, bytes.as_slice(), cause);
+        let mut bytes = Vec::from_slice(alloc, &[len, 0, family, 0]).expect(rt, "memory");
+        bytes.extend_from_slice(members).expect(rt, "memory");
+        assert!(rt; refuses::<AfSpecUnspec>(alloc, bytes.as_slice(), cause));
     }
 }
 
 #[test]
 fn refused_families(rt: HostRuntime) {
     let alloc = rt.alloc();
-    refuses_bad_frames::<AfSpecUnspec>(&rt, alloc);
+    assert!(rt; refuses_bad_frames::<AfSpecUnspec>(alloc));
     for family in [2, 10, 45] {
-        refuses::<AfSpecUnspec>(&rt, alloc, &[4, 0, family, 0], Cause::EmptyList);
-        refuses::<AfSpecUnspec>(&rt, alloc, &[4, 0, family, 0x80], Cause::EmptyList);
+        assert!(rt; refuses::<AfSpecUnspec>(alloc, &[4, 0, family, 0], Cause::EmptyList));
+        assert!(rt; refuses::<AfSpecUnspec>(alloc, &[4, 0, family, 0x80], Cause::EmptyList));
         let followed = [4, 0, family, 0, 3, 0, 2, 0];
-        refuses::<AfSpecUnspec>(&rt, alloc, &followed, Cause::EmptyList);
+        assert!(rt; refuses::<AfSpecUnspec>(alloc, &followed, Cause::EmptyList));
         refuses_bad_members(&rt, alloc, family);
     }
     let short = Cause::WrongLength { got: 0, want: 1 };
     let second = [8, 0, 45, 0, 4, 0, 2, 0, 4, 0, 2, 0];
-    refuses::<AfSpecUnspec>(&rt, alloc, &second, short);
+    assert!(rt; refuses::<AfSpecUnspec>(alloc, &second, short));
 }
 
 #[test]
 fn families(rt: HostRuntime) {
     let alloc = rt.alloc();
-    let mtus = got(&rt, Vec::from_array(alloc, [AfSpecInet6::RaMtu(1500)]));
+    let mtus = Vec::from_array(alloc, [AfSpecInet6::RaMtu(1500)]).expect(&rt, "memory");
     let vendor = AfSpecMctp::PhysBinding(MctpPhysBinding::Vendor);
-    let vendors = got(&rt, Vec::from_array(alloc, [vendor]));
-    let foreign = AfSpecMctp::Other(kept(&rt, alloc, 99, &[]));
-    let others = got(&rt, Vec::from_array(alloc, [foreign]));
+    let vendors = Vec::from_array(alloc, [vendor]).expect(&rt, "memory");
+    let foreign = AfSpecMctp::Other(kept(alloc, 99, &[]).expect(&rt, "memory"));
+    let others = Vec::from_array(alloc, [foreign]).expect(&rt, "memory");
     let bytes = [
         12, 0, 10, 0, 8, 0, 9, 0, 0xdc, 5, 0, 0, 12, 0, 45, 0, 5, 0, 2, 0, 255, 0, 0, 0, 8, 0, 45,
         0, 4, 0, 99, 0, 4, 0, 3, 0,
     ];
-    means(
-        &rt,
-        alloc,
-        &bytes,
-        &[
-            AfSpecUnspec::Inet6(List::new(mtus)),
-            AfSpecUnspec::Mctp(List::new(vendors)),
-            AfSpecUnspec::Mctp(List::new(others)),
-            AfSpecUnspec::Other(kept(&rt, alloc, 3, &[])),
-        ],
-        &bytes,
+    assert!(rt;
+        means(
+            alloc,
+            &bytes,
+            &[
+                AfSpecUnspec::Inet6(List::new(mtus)),
+                AfSpecUnspec::Mctp(List::new(vendors)),
+                AfSpecUnspec::Mctp(List::new(others)),
+                AfSpecUnspec::Other(kept(alloc, 3, &[]).expect(&rt, "memory")),
+            ],
+            &bytes
+        )
     );
 }
 
 #[test]
 fn family_of_ipv4(rt: HostRuntime) {
     let alloc = rt.alloc();
-    let conf = got(&rt, Vec::from_array(alloc, [two_settings()]));
+    let conf = Vec::from_array(alloc, [two_settings()]).expect(&rt, "memory");
     let inet = AfSpecUnspec::Inet(List::new(conf));
     let bytes = [16, 0, 2, 0, 12, 0, 1, 0, 8, 0, 1, 0, 1, 0, 0, 0];
     let text: [u8; INET] = zeros_after(&[0x90, 0, 2, 0, 0x8c, 0, 1, 0, 8, 0, 1, 0, 1, 0, 0, 0]);
-    means(&rt, alloc, &bytes, &[inet], &text);
+    assert!(rt; means(alloc, &bytes, &[inet], &text));
 }
 
 /// A member of one request.
@@ -334,7 +341,7 @@ fn one_request(rt: &impl Abort, alloc: Global) -> AfSpecUnspec {
         forwarding: 1,
         ..InetDevConf::default()
     });
-    AfSpecUnspec::Inet(List::new(got(rt, Vec::from_array(alloc, [request]))))
+    AfSpecUnspec::Inet(List::new(Vec::from_array(alloc, [request]).expect(rt, "memory")))
 }
 
 /// A request is read as settings, whose record begins with its attributes.
@@ -342,26 +349,26 @@ fn one_request(rt: &impl Abort, alloc: Global) -> AfSpecUnspec {
 fn requests_of_a_family(rt: HostRuntime) {
     let member = one_request(&rt, rt.alloc());
     let bytes = [16, 0, 2, 0, 12, 0, 1, 0x80, 8, 0, 1, 0, 1, 0, 0, 0];
-    writes(&rt, &[member], &bytes);
+    assert!(rt; writes(&[member], &bytes));
     let text: [u8; INET] = zeros_after(&[0x90, 0, 2, 0, 0x8c, 0, 1, 0, 8, 0, 1, 0, 1, 0, 0, 0]);
-    rewrites::<AfSpecUnspec>(&rt, &bytes, &text);
+    assert!(rt; rewrites::<AfSpecUnspec>(&bytes, &text));
 }
 
 /// A list takes these values, one of kind 2 with both flags, and is refused where it is damaged.
 fn keeps<N: NlaRead + Exact + CloneIn>(rt: &impl Abort, alloc: Global, values: &[N]) {
-    refuses_bad_frames::<N>(rt, alloc);
+    assert!(rt; refuses_bad_frames::<N>(alloc));
     let bytes = [5, 0, 2, 0xc0, 7];
     let text = [5, 0, 2, 0xc0, 7, 0, 0, 0];
-    means(rt, alloc, &bytes, values, &text);
+    assert!(rt; means(alloc, &bytes, values, &text));
 }
 
 #[test]
 fn kept_members(rt: HostRuntime) {
     let alloc = rt.alloc();
-    let member = kept(&rt, alloc, 2 | 0xc000, &[7]);
+    let member = kept(alloc, 2 | 0xc000, &[7]).expect(&rt, "memory");
     keeps(&rt, alloc, &[AfSpecBridge::Other(member)]);
-    let member = kept(&rt, alloc, 2 | 0xc000, &[7]);
+    let member = kept(alloc, 2 | 0xc000, &[7]).expect(&rt, "memory");
     keeps(&rt, alloc, &[LinkProtoInfoBridge::Other(member)]);
-    let member = kept(&rt, alloc, 2 | 0xc000, &[7]);
+    let member = kept(alloc, 2 | 0xc000, &[7]).expect(&rt, "memory");
     keeps(&rt, alloc, &[LinkProtoInfoInet6::Other(member)]);
 }

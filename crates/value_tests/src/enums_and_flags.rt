@@ -1,5 +1,6 @@
-use crate::testing::{are, got, is_same, means, prints, refuses};
+use crate::testing::{is_same, means, prints, refuses};
 use bitflags::Flags;
+use expected::equal;
 use link_vals::*;
 use nla_wire::Cause;
 use nla_wire::exact::same;
@@ -32,7 +33,11 @@ fn numbers_of_attachments(rt: HostRuntime) {
         (4, XdpAttached::Multiple),
         (5, XdpAttached::Other(5)),
     ] {
-        is_same(&rt, &got(&rt, XdpAttached::try_from(number)), &attached);
+        is_same(
+            &rt,
+            &XdpAttached::try_from(number).expect(&rt, "memory"),
+            &attached,
+        );
         assert!(rt; u8::from(attached) == number);
     }
 }
@@ -81,12 +86,12 @@ fn numbers_of_events(rt: HostRuntime) {
 
 #[test]
 fn payloads_of_events(rt: HostRuntime) {
-    let event = got(&rt, LinkEvent::parse(&[5, 0, 0, 0]));
+    let event = LinkEvent::parse(&[5, 0, 0, 0]).expect(&rt, "it is read");
     assert!(rt; event == LinkEvent::IgmpResend);
     assert!(rt; event.buffer_len() == 4);
     let mut buffer = [255; 6];
     event.emit(&mut buffer);
-    are(&rt, &buffer, &[5, 0, 0, 0, 255, 255]);
+    assert!(rt; equal(&buffer, &[5, 0, 0, 0, 255, 255]));
     let short = Cause::WrongLength { got: 2, want: 4 };
     refuses(&rt, LinkEvent::parse(&[5, 0]), short);
 }
@@ -248,7 +253,7 @@ fn names_of_states(rt: HostRuntime) {
         ("dormant", State::Dormant),
         ("uP", State::Up),
     ] {
-        is_same(&rt, &got(&rt, State::from_str(text)), &state);
+        is_same(&rt, &State::from_str(text).expect(&rt, "memory"), &state);
     }
 }
 
@@ -332,7 +337,7 @@ fn extent_lists(rt: HostRuntime) {
         (0, &[]),
         (0x81, &[Vf, Mst]),
     ] {
-        let list = got(&rt, LinkExtentMask::list_from(rt.alloc(), mask));
+        let list = LinkExtentMask::list_from(rt.alloc(), mask).expect(&rt, "memory");
         assert!(rt; list.as_slice() == wanted);
     }
 }
@@ -613,8 +618,8 @@ fn interface_flag_assignments(rt: HostRuntime) {
 fn physical_ids(rt: HostRuntime) {
     let mut payload = [7; 33];
     payload[32] = 9;
-    let id = got(&rt, LinkPhysId::parse(&payload));
-    are(&rt, &id.id, &[7; 32]);
+    let id = LinkPhysId::parse(&payload).expect(&rt, "it is read");
+    assert!(rt; equal(&id.id, &[7; 32]));
     assert!(rt; id.len == 32);
     assert!(rt; id.fits());
     let long = LinkPhysId {
@@ -626,11 +631,11 @@ fn physical_ids(rt: HostRuntime) {
 
 #[test]
 fn short_physical_ids(rt: HostRuntime) {
-    let short = got(&rt, LinkPhysId::parse(&[1, 2]));
+    let short = LinkPhysId::parse(&[1, 2]).expect(&rt, "it is read");
     assert!(rt; short.len == 2);
     assert!(rt; short.buffer_len() == 2);
-    are(&rt, &short.id[..4], &[1, 2, 0, 0]);
+    assert!(rt; equal(&short.id[..4], &[1, 2, 0, 0]));
     let mut buffer = [255; 4];
     short.emit(&mut buffer);
-    are(&rt, &buffer, &[1, 2, 255, 255]);
+    assert!(rt; equal(&buffer, &[1, 2, 255, 255]));
 }

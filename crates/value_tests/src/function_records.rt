@@ -1,4 +1,5 @@
-use crate::testing::{are, got, is_read, is_same, prints_as, too_few};
+use crate::testing::{is_read, is_same, prints_as, too_few};
+use expected::equal;
 use link_vals::{VfLinkState, VlanProtocol};
 use link_vfrec::*;
 
@@ -10,7 +11,7 @@ const NUMBERS: [u8; 12] = [1, 0, 0, 0, 0xff, 0x0f, 0, 0, 7, 0, 0, 128];
 fn vlans_stand_at_their_offsets(rt: HostRuntime) {
     let vlan = VfInfoVlan::new(1, 4095, 0x8000_0007);
     is_read(&rt, VfInfoVlan::parse(&NUMBERS), &vlan);
-    are(&rt, VfInfoVlanBuffer::from(&vlan).as_bytes(), &NUMBERS);
+    assert!(rt; equal(VfInfoVlanBuffer::from(&vlan).as_bytes(), &NUMBERS));
 }
 
 /// Offsets of `struct ifla_vf_rate` and `struct ifla_vf_tx_rate`, linux/if_link.h.
@@ -18,14 +19,10 @@ fn vlans_stand_at_their_offsets(rt: HostRuntime) {
 fn rates_stand_at_their_offsets(rt: HostRuntime) {
     let rate = VfInfoRate::new(1, 4095, 0x8000_0007);
     is_read(&rt, VfInfoRate::parse(&NUMBERS), &rate);
-    are(&rt, VfInfoRateBuffer::from(&rate).as_bytes(), &NUMBERS);
+    assert!(rt; equal(VfInfoRateBuffer::from(&rate).as_bytes(), &NUMBERS));
     let rate = VfInfoTxRate::new(1, 4095);
     is_read(&rt, VfInfoTxRate::parse(&NUMBERS), &rate);
-    are(
-        &rt,
-        VfInfoTxRateBuffer::from(&rate).as_bytes(),
-        &NUMBERS[..8],
-    );
+    assert!(rt; equal(VfInfoTxRateBuffer::from(&rate).as_bytes(), &NUMBERS[..8]));
 }
 
 /// Offsets of `struct ifla_vf_guid`, linux/if_link.h.
@@ -35,7 +32,7 @@ fn guids_stand_at_their_offsets(rt: HostRuntime) {
     let text = [2, 0, 0, 0, 0, 0, 0, 0, 1, 0, 0, 0, 0, 0, 0, 0];
     let guid = VfInfoGuid::new(2, 1);
     is_read(&rt, VfInfoGuid::parse(&bytes), &guid);
-    are(&rt, VfInfoGuidBuffer::from(&guid).as_bytes(), &text);
+    assert!(rt; equal(VfInfoGuidBuffer::from(&guid).as_bytes(), &text));
 }
 
 /// Offsets of `struct ifla_vf_mac`, linux/if_link.h.
@@ -44,10 +41,10 @@ fn addresses_are_filled(rt: HostRuntime) {
     let mut text = [0; 36];
     text[..10].copy_from_slice(&[3, 0, 0, 0, 2, 0, 0, 0, 0, 9]);
     let mac = VfInfoMac::new(3, &[2, 0, 0, 0, 0, 9]);
-    are(&rt, &mac.mac, &text[4..]);
+    assert!(rt; equal(&mac.mac, &text[4..]));
     let mut bytes = [0; 36];
     mac.emit(&mut bytes);
-    are(&rt, &bytes, &text);
+    assert!(rt; equal(&bytes, &text));
     is_read(&rt, VfInfoMac::parse(&bytes), &mac);
 }
 
@@ -55,10 +52,10 @@ fn addresses_are_filled(rt: HostRuntime) {
 #[test]
 fn addresses_are_cut(rt: HostRuntime) {
     let broadcast = VfInfoBroadcast::new(&[255; 33]);
-    are(&rt, &broadcast.addr, &[255; 32]);
+    assert!(rt; equal(&broadcast.addr, &[255; 32]));
     is_read(&rt, VfInfoBroadcast::parse(&[255; 40]), &broadcast);
     let buffer = VfInfoBroadcastBuffer::from(&broadcast);
-    are(&rt, buffer.as_bytes(), &[255; 32]);
+    assert!(rt; equal(buffer.as_bytes(), &[255; 32]));
 }
 
 /// The setting of `struct ifla_vf_trust` and its kind, linux/if_link.h: 0 and the number of all
@@ -79,7 +76,7 @@ fn settings_are_on_or_off(rt: HostRuntime) {
         let query = VfInfoRssQueryEn::new(1, enabled);
         is_read(&rt, VfInfoRssQueryEn::parse(&bytes), &query);
         let text = [1, 0, 0, 0, u8::from(enabled), 0, 0, 0];
-        are(&rt, VfInfoTrustBuffer::from(&trust).as_bytes(), &text);
+        assert!(rt; equal(VfInfoTrustBuffer::from(&trust).as_bytes(), &text));
     }
 }
 
@@ -94,7 +91,7 @@ fn states_go_through_their_table(rt: HostRuntime) {
         let bytes = [4, 0, 0, 0, number, 0, 0, 0];
         let link = VfInfoLinkState::new(4, state);
         is_read(&rt, VfInfoLinkState::parse(&bytes), &link);
-        are(&rt, VfInfoLinkStateBuffer::from(&link).as_bytes(), &bytes);
+        assert!(rt; equal(VfInfoLinkStateBuffer::from(&link).as_bytes(), &bytes));
     }
     let auto = VfInfoLinkState::new(0, VfLinkState::Auto);
     is_same(&rt, &VfInfoLinkState::default(), &auto);
@@ -116,7 +113,7 @@ fn protocols_are_in_network_order(rt: HostRuntime) {
         let mut buffer = [9; 16];
         info.emit(&mut buffer);
         let text = [1, 0, 0, 0, 100, 0, 0, 0, 5, 0, 0, 0, high, low, 0, 0];
-        are(&rt, &buffer, &text);
+        assert!(rt; equal(&buffer, &text));
     }
     let zeros = VfVlanInfo::new(0, 0, 0, VlanProtocol::Ieee8021Q);
     is_same(&rt, &VfVlanInfo::default(), &zeros);
@@ -131,10 +128,10 @@ fn padding_of_a_vlan_is_not_read(rt: HostRuntime) {
         let mut bytes = text;
         bytes[14] = first;
         bytes[15] = second;
-        let read = got(&rt, VfVlanInfo::parse(&bytes));
+        let read = VfVlanInfo::parse(&bytes).expect(&rt, "it is read");
         is_same(&rt, &read, &info);
         read.emit(&mut bytes);
-        are(&rt, &bytes, &text);
+        assert!(rt; equal(&bytes, &text));
     }
 }
 
@@ -162,15 +159,15 @@ fn short_settings_and_guids_are_refused(rt: HostRuntime) {
 
 #[test]
 fn buffers_keep_padding(rt: HostRuntime) {
-    let (buffer, rest) = got(&rt, VfInfoGuidBuffer::read_from_prefix(&[255; 17]));
-    are(&rt, buffer.as_bytes(), &[255; 16]);
-    are(&rt, rest, &[255]);
+    let (buffer, rest) = VfInfoGuidBuffer::read_from_prefix(&[255; 17]).expect(&rt, "memory");
+    assert!(rt; equal(buffer.as_bytes(), &[255; 16]));
+    assert!(rt; equal(rest, &[255]));
 }
 
 #[test]
 fn records_are_printed_and_copied(rt: HostRuntime) {
     let trust = VfInfoTrust::new(1, true);
-    is_same(&rt, &got(&rt, trust.clone()), &trust);
+    is_same(&rt, &trust.clone().expect(&rt, "memory"), &trust);
     let text = "VfInfoTrust { vf_id: 1, enabled: true }";
     prints_as(&rt, rt.alloc(), &trust, text);
 }

@@ -1,4 +1,5 @@
-use crate::testing::{are, begin, got, is_read, is_same, prints_as, too_few, wrote};
+use crate::testing::{is_read, is_same, prints_as, too_few, wrote};
+use expected::equal;
 use link_recs::inet::{INET_DEV_CONF_COUNT, INET_DEV_CONF_SIZE};
 use link_recs::inet6_cache::INET6_CACHE_INFO_SIZE;
 use link_recs::inet6_devconf::INET6_DEV_CONF_SIZE;
@@ -31,7 +32,7 @@ fn statistics_stand_at_their_offsets(rt: HostRuntime) {
         ..Stats::default()
     };
     is_same(&rt, &Stats::read_padded(&bytes), &stats);
-    are(&rt, StatsBuffer::from(&stats).as_bytes(), &bytes);
+    assert!(rt; equal(StatsBuffer::from(&stats).as_bytes(), &bytes));
 }
 
 /// Offsets of the kernel's `struct rtnl_link_stats64`, linux/if_link.h.
@@ -50,7 +51,7 @@ fn long_statistics_stand_at_their_offsets(rt: HostRuntime) {
         ..Stats64::default()
     };
     is_same(&rt, &Stats64::read_padded(&bytes), &stats);
-    are(&rt, Stats64Buffer::from(&stats).as_bytes(), &bytes);
+    assert!(rt; equal(Stats64Buffer::from(&stats).as_bytes(), &bytes));
 }
 
 /// Settings of IPv4 with five numbers.
@@ -72,7 +73,7 @@ fn settings_of_ipv4_stand_at_their_offsets(rt: HostRuntime) {
     put(&mut bytes, &[(0, 1), (44, 2), (100, 3), (128, 4), (132, 5)]);
     let conf = settings_of_ipv4();
     is_same(&rt, &InetDevConf::read_padded(&bytes), &conf);
-    are(&rt, InetDevConfBuffer::from(&conf).as_bytes(), &bytes);
+    assert!(rt; equal(InetDevConfBuffer::from(&conf).as_bytes(), &bytes));
 }
 
 #[test]
@@ -108,7 +109,7 @@ fn settings_of_ipv6_stand_at_their_offsets(rt: HostRuntime) {
         ..Inet6DevConf::default()
     };
     is_same(&rt, &Inet6DevConf::read_padded(&bytes), &conf);
-    are(&rt, Inet6DevConfBuffer::from(&conf).as_bytes(), &bytes);
+    assert!(rt; equal(Inet6DevConfBuffer::from(&conf).as_bytes(), &bytes));
 }
 
 /// Numbers of the constants IPSTATS_MIB_* of linux/snmp.h, times eight; after them this project's own field.
@@ -129,7 +130,7 @@ fn counters_of_ipv6_stand_at_their_offsets(rt: HostRuntime) {
         ..Inet6Stats::default()
     };
     is_same(&rt, &Inet6Stats::read_padded(&bytes), &stats);
-    are(&rt, Inet6StatsBuffer::from(&stats).as_bytes(), &bytes);
+    assert!(rt; equal(Inet6StatsBuffer::from(&stats).as_bytes(), &bytes));
 }
 
 /// Numbers of the constants ICMP6_MIB_* of linux/snmp.h, times eight.
@@ -145,7 +146,7 @@ fn counters_of_icmpv6_stand_at_their_offsets(rt: HostRuntime) {
         ..Icmp6Stats::default()
     };
     is_same(&rt, &Icmp6Stats::read_padded(&bytes), &stats);
-    are(&rt, Icmp6StatsBuffer::from(&stats).as_bytes(), &bytes);
+    assert!(rt; equal(Icmp6StatsBuffer::from(&stats).as_bytes(), &bytes));
 }
 
 /// Offsets of `struct rtnl_link_ifmap`, linux/if_link.h.
@@ -162,7 +163,7 @@ fn maps_stand_at_their_offsets(rt: HostRuntime) {
         ..Map::default()
     };
     is_read(&rt, Map::parse(&bytes), &map);
-    are(&rt, MapBuffer::from(&map).as_bytes(), &bytes);
+    assert!(rt; equal(MapBuffer::from(&map).as_bytes(), &bytes));
 }
 
 /// Offsets of `struct ifla_cacheinfo`, linux/if_link.h.
@@ -176,7 +177,7 @@ fn times_stand_at_their_offsets(rt: HostRuntime) {
         retrans_time: 4,
     };
     is_read(&rt, Inet6CacheInfo::parse(&bytes), &times);
-    are(&rt, Inet6CacheInfoBuffer::from(&times).as_bytes(), &bytes);
+    assert!(rt; equal(Inet6CacheInfoBuffer::from(&times).as_bytes(), &bytes));
 }
 
 #[test]
@@ -339,15 +340,15 @@ fn long_payloads_mean_their_front(rt: HostRuntime) {
     is_read(&rt, Map::parse(&[255; MAP_SIZE + 1]), &map);
     let mut text = [255; MAP_SIZE];
     put(&mut text, &[(28, 0), (29, 0), (30, 0), (31, 0)]);
-    are(&rt, MapBuffer::from(&map).as_bytes(), &text);
+    assert!(rt; equal(MapBuffer::from(&map).as_bytes(), &text));
     is_read(&rt, Stats::parse(&[0; STATS_SIZE + 1]), &Stats::default());
 }
 
 #[test]
 fn buffers_keep_padding(rt: HostRuntime) {
-    let (buffer, rest) = got(&rt, MapBuffer::read_from_prefix(&[255; MAP_SIZE + 1]));
-    are(&rt, buffer.as_bytes(), &[255; MAP_SIZE]);
-    are(&rt, rest, &[255]);
+    let (buffer, rest) = MapBuffer::read_from_prefix(&[255; MAP_SIZE + 1]).expect(&rt, "memory");
+    assert!(rt; equal(buffer.as_bytes(), &[255; MAP_SIZE]));
+    assert!(rt; equal(rest, &[255]));
 }
 
 #[test]
@@ -359,7 +360,7 @@ fn texts_stand_at_the_end_of_a_longer_buffer(rt: HostRuntime) {
     let mut buffer = [9; ICMP6_STATS_SIZE + 2];
     assert!(rt; stats.buffer_len() == ICMP6_STATS_SIZE);
     assert!(rt; stats.fill(&mut buffer) == 2);
-    begin(&rt, &buffer, &[9, 9, 7, 0]);
+    assert!(rt; buffer.starts_with(&[9, 9, 7, 0]));
     is_read(&rt, Icmp6Stats::parse(&buffer[2..]), &stats);
 }
 
@@ -385,6 +386,6 @@ fn records_are_printed_and_copied(rt: HostRuntime) {
     };
     let text =
         "Inet6CacheInfo { max_reasm_len: 65535, tstamp: 1, reachable_time: -2, retrans_time: 1000 }";
-    is_same(&rt, &got(&rt, times.clone()), &times);
+    is_same(&rt, &times.clone().expect(&rt, "memory"), &times);
     prints_as(&rt, rt.alloc(), &times, text);
 }

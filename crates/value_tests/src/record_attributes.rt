@@ -1,6 +1,6 @@
 //! Records measured and written as attributes, from values and from payloads.
 
-use crate::testing::stored;
+use expected::is_stored;
 use link_recs::*;
 use link_vfrec::*;
 use nla_wire::{PlainRecord, Record};
@@ -52,11 +52,11 @@ fn filled_records_are_measured(rt: HostRuntime) {
 fn records_are_written_as_attributes(rt: HostRuntime) {
     let mut out = [255; 13];
     let len = VfInfoTrust::new(1, true).write_attribute(9, &mut out);
-    stored(&rt, len, &out, &[12, 0, 9, 0, 1, 0, 0, 0, 1, 0, 0, 0]);
+    assert!(rt; is_stored(len, &out, &[12, 0, 9, 0, 1, 0, 0, 0, 1, 0, 0, 0]));
     let mut out = [255; 21];
     let len = VfInfoGuid::new(2, 0x0200_0000_0000_0001).write_attribute(10, &mut out);
     let text = [20, 0, 10, 0, 2, 0, 0, 0, 0, 0, 0, 0, 1, 0, 0, 0, 0, 0, 0, 2];
-    stored(&rt, len, &out, &text);
+    assert!(rt; is_stored(len, &out, &text));
     let times = Inet6CacheInfo {
         max_reasm_len: 65535,
         tstamp: 1,
@@ -68,7 +68,7 @@ fn records_are_written_as_attributes(rt: HostRuntime) {
     let text = [
         20, 0, 5, 0x40, 255, 255, 0, 0, 1, 0, 0, 0, 254, 255, 255, 255, 0xe8, 3, 0, 0,
     ];
-    stored(&rt, len, &out, &text);
+    assert!(rt; is_stored(len, &out, &text));
 }
 
 /// The addresses of functions are written with the zeros after a shorter one, and a map with its padding.
@@ -78,7 +78,7 @@ fn addresses_and_maps_are_written_as_attributes(rt: HostRuntime) {
     let mut text = [0; 40];
     text[..9].copy_from_slice(&[40, 0, 1, 0, 3, 0, 0, 0, 0x52]);
     let len = VfInfoMac::new(3, &[0x52]).write_attribute(1, &mut out);
-    stored(&rt, len, &out, &text);
+    assert!(rt; is_stored(len, &out, &text));
     let map = Map {
         memory_start: 0x0102,
         port: 3,
@@ -89,7 +89,7 @@ fn addresses_and_maps_are_written_as_attributes(rt: HostRuntime) {
     text[..6].copy_from_slice(&[36, 0, 14, 0, 2, 1]);
     text[31] = 3;
     let len = map.write_attribute(14, &mut out);
-    stored(&rt, len, &out, &text);
+    assert!(rt; is_stored(len, &out, &text));
 }
 
 /// What a record does not keep of its payload is written as zeros, and what is after it is not written.
@@ -100,13 +100,13 @@ fn payloads_are_written_as_what_they_mean(rt: HostRuntime) {
     let trust = [1, 0, 0, 0, 2, 0, 0, 0, 7];
     assert!(rt; VfInfoTrust::measure_sized(&trust) == Some(8));
     let len = VfInfoTrust::write_sized(9, &trust, &mut out);
-    stored(&rt, len, &out, &[12, 0, 9, 0, 1, 0, 0, 0, 1, 0, 0, 0]);
+    assert!(rt; is_stored(len, &out, &[12, 0, 9, 0, 1, 0, 0, 0, 1, 0, 0, 0]));
     let mut out = [255; 21];
     let guid = [2, 0, 0, 0, 255, 255, 255, 255, 1, 0, 0, 0, 0, 0, 0, 0];
     assert!(rt; VfInfoGuid::measure_sized(&guid) == Some(16));
     let len = VfInfoGuid::write_sized(10, &guid, &mut out);
     let text = [20, 0, 10, 0, 2, 0, 0, 0, 0, 0, 0, 0, 1, 0, 0, 0, 0, 0, 0, 0];
-    stored(&rt, len, &out, &text);
+    assert!(rt; is_stored(len, &out, &text));
     let mut out = [255; 21];
     let vlan = [
         1, 0, 0, 0, 100, 0, 0, 0, 0, 0, 0, 0, 0x88, 0xa8, 0x12, 0x34, 9,
@@ -116,7 +116,7 @@ fn payloads_are_written_as_what_they_mean(rt: HostRuntime) {
     let text = [
         20, 0, 1, 0, 1, 0, 0, 0, 100, 0, 0, 0, 0, 0, 0, 0, 0x88, 0xa8, 0, 0,
     ];
-    stored(&rt, len, &out, &text);
+    assert!(rt; is_stored(len, &out, &text));
 }
 
 /// A payload of the counters of ICMPv6 is cut to them, or filled up with zeros.
@@ -131,6 +131,6 @@ fn counters_are_cut_or_filled_up(rt: HostRuntime) {
         assert!(rt; Icmp6Stats::measure_filled(bytes) == Some(56));
         let mut out = [255; 61];
         let len = Icmp6Stats::write_filled(6, bytes, &mut out);
-        stored(&rt, len, &out, &text);
+        assert!(rt; is_stored(len, &out, &text));
     }
 }

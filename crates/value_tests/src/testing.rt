@@ -1,57 +1,22 @@
 //! What the tests share.
 
+use expected::cause_of;
 use nla_wire::exact::same;
-use nla_wire::{Cause, CloneIn, DecodeError, DefaultNla, Exact};
+use nla_wire::{Cause, CloneIn, DecodeError, Exact};
 use std::alloc::Global;
 use std::fmt::{Debug, Display};
 use std::process::Abort;
 
-/// The bytes are these.
-pub(crate) fn are(rt: &impl Abort, bytes: &[u8], wanted: &[u8]) {
-    assert_eq!(rt; bytes, wanted);
-}
-
-/// The bytes begin with these.
-pub(crate) fn begin(rt: &impl Abort, bytes: &[u8], wanted: &[u8]) {
-    assert!(rt; bytes.starts_with(wanted));
-}
-
-/// What a call returned, which is no error.
-pub(crate) fn got<T: Drop, E: Drop>(rt: &impl Abort, returned: Result<T, E>) -> T {
-    match returned {
-        Ok(value) => value,
-        Err(_) => panic!(rt; "the call returned an error"),
-    }
-}
-
-/// An attribute that is kept as it is.
-pub(crate) fn kept(rt: &impl Abort, alloc: Global, kind: u16, value: &[u8]) -> DefaultNla {
-    DefaultNla::new(kind, got(rt, Vec::from_slice(alloc, value)))
-}
-
-/// This text was written to the front of a buffer of 255, whose other bytes are kept.
-pub(crate) fn stored(rt: &impl Abort, len: usize, out: &[u8], text: &[u8]) {
-    assert_eq!(rt; len, text.len());
-    begin(rt, out, text);
-    for byte in out.iter().skip(len) {
-        assert!(rt; *byte == 255);
-    }
-}
-
 /// A copy of a value, which is equal to it.
 pub(crate) fn copied<N: Exact + CloneIn + Drop>(rt: &impl Abort, alloc: Global, value: &N) -> N {
-    let copy = got(rt, value.clone(alloc));
+    let copy = value.clone(alloc).expect(rt, "memory");
     assert!(rt; same(&copy, value));
     copy
 }
 
 /// Nothing was read, for this cause.
 pub(crate) fn refuses<T: Drop>(rt: &impl Abort, read: Result<T, DecodeError>, wanted: Cause) {
-    let cause = match read {
-        Ok(_) => None,
-        Err(error) => Some(error.cause),
-    };
-    assert_eq!(rt; cause, Some(wanted));
+    assert_eq!(rt; cause_of(read), Some(wanted));
 }
 
 /// This many bytes were too few to be read.
@@ -75,7 +40,7 @@ pub(crate) fn is_read<T: PartialEq + Debug + Drop>(
     read: Result<T, DecodeError>,
     wanted: &T,
 ) {
-    is_same(rt, &got(rt, read), wanted);
+    is_same(rt, &read.expect(rt, "memory"), wanted);
 }
 
 /// A number means this value, which is written as the other.
@@ -91,20 +56,20 @@ pub(crate) fn means<N: Copy + PartialEq + From<T>, T: Copy + PartialEq + From<N>
 
 /// A value is printed as this text.
 pub(crate) fn prints<T: Display>(rt: &impl Abort, alloc: Global, value: &T, wanted: &str) {
-    let text = got(rt, format!(in alloc; "{value}"));
+    let text = format!(in alloc; "{value}").expect(rt, "memory");
     assert!(rt; text.as_str() == wanted);
 }
 
 /// A value is printed for a programmer as this text.
 pub(crate) fn prints_as<T: Debug>(rt: &impl Abort, alloc: Global, value: &T, wanted: &str) {
-    let text = got(rt, format!(in alloc; "{value:?}"));
+    let text = format!(in alloc; "{value:?}").expect(rt, "memory");
     assert!(rt; text.as_str() == wanted);
 }
 
 /// So many bytes were written, which begin with these.
 pub(crate) fn wrote(rt: &impl Abort, len: usize, wanted: usize, out: &[u8], front: &[u8]) {
     assert_eq!(rt; len, wanted);
-    begin(rt, out, front);
+    assert!(rt; out.starts_with(front));
 }
 
 /// A payload of so many bytes was measured, where only one of the wanted length has a text.

@@ -1,6 +1,7 @@
 //! Attributes that are kept as they are, and slices of attributes.
 
-use crate::testing::{are, copied, got, kept};
+use crate::testing::copied;
+use expected::{equal, kept};
 use nla_wire::fill::close_frame;
 use nla_wire::*;
 use std::alloc::Global;
@@ -8,43 +9,46 @@ use std::process::Abort;
 
 #[test]
 fn keeps_attributes(rt: HostRuntime) {
-    let frame = got(&rt, NlaBuffer::new_checked(&[6, 0, 0x2a, 0xc0, 0xde, 0xad]));
-    let parsed = got(&rt, DefaultNla::parse(rt.alloc(), &frame));
+    let frame = NlaBuffer::new_checked(&[6, 0, 0x2a, 0xc0, 0xde, 0xad]).expect(&rt, "it is read");
+    let parsed = DefaultNla::parse(rt.alloc(), &frame).expect(&rt, "it is read");
     assert!(rt; parsed.kind() == 0xc02a);
-    are(&rt, parsed.value(), &[0xde, 0xad]);
+    assert!(rt; equal(parsed.value(), &[0xde, 0xad]));
     copied(&rt, rt.alloc(), &parsed);
-    assert!(rt; kept(&rt, rt.alloc(), 0x2a, &[0xde, 0xad]) != parsed);
+    assert!(rt; kept(rt.alloc(), 0x2a, &[0xde, 0xad]).expect(&rt, "memory") != parsed);
 }
 
 #[test]
 fn writes_attributes(rt: HostRuntime) {
-    let made = kept(&rt, rt.alloc(), 0xc02a, &[0xde, 0xad]);
+    let made = kept(rt.alloc(), 0xc02a, &[0xde, 0xad]).expect(&rt, "memory");
     assert!(rt; made.fits());
     assert!(rt; made.buffer_len() == 8);
     let mut out = [255; 9];
     made.emit(&mut out);
-    are(&rt, &out, &[6, 0, 0x2a, 0xc0, 0xde, 0xad, 0, 0, 255]);
+    assert!(rt; equal(&out, &[6, 0, 0x2a, 0xc0, 0xde, 0xad, 0, 0, 255]));
     let mut out = [255; 9];
     assert!(rt; made.fill(&mut out) == 1);
-    are(&rt, &out, &[255, 6, 0, 0x2a, 0xc0, 0xde, 0xad, 0, 0]);
+    assert!(rt; equal(&out, &[255, 6, 0, 0x2a, 0xc0, 0xde, 0xad, 0, 0]));
 }
 
 #[test]
 fn writes_values_alone(rt: HostRuntime) {
-    let made = kept(&rt, rt.alloc(), 3, &[0x6c, 0x6f]);
+    let made = kept(rt.alloc(), 3, &[0x6c, 0x6f]).expect(&rt, "memory");
     assert!(rt; made.fits());
     assert!(rt; made.value_len() == 2);
     let mut out = [255; 3];
     assert!(rt; made.fill_value(&mut out) == 1);
-    are(&rt, &out, &[255, 0x6c, 0x6f]);
+    assert!(rt; equal(&out, &[255, 0x6c, 0x6f]));
     let mut exact = [255; 2];
     made.emit_value(&mut exact);
-    are(&rt, &exact, &[0x6c, 0x6f]);
+    assert!(rt; equal(&exact, &[0x6c, 0x6f]));
 }
 
 /// An attribute of one byte and one of none.
 fn two_kept(rt: &impl Abort, alloc: Global) -> [DefaultNla; 2] {
-    [kept(rt, alloc, 1, &[7]), kept(rt, alloc, 0x8002, &[])]
+    [
+        kept(alloc, 1, &[7]).expect(rt, "memory"),
+        kept(alloc, 0x8002, &[]).expect(rt, "memory"),
+    ]
 }
 
 #[test]
@@ -54,7 +58,7 @@ fn writes_slices(rt: HostRuntime) {
     assert!(rt; nlas_buffer_len(&nlas) == 12);
     let mut out = [255; 13];
     emit_nlas(&nlas, &mut out);
-    are(&rt, &out, &[5, 0, 1, 0, 7, 0, 0, 0, 4, 0, 2, 0x80, 255]);
+    assert!(rt; equal(&out, &[5, 0, 1, 0, 7, 0, 0, 0, 4, 0, 2, 0x80, 255]));
 }
 
 #[test]
@@ -64,7 +68,7 @@ fn fills_slices(rt: HostRuntime) {
     assert!(rt; nlas_buffer_len(&nlas) == 12);
     let mut out = [255; 13];
     assert!(rt; nlas_fill(&nlas, &mut out) == 1);
-    are(&rt, &out, &[255, 5, 0, 1, 0, 7, 0, 0, 0, 4, 0, 2, 0x80]);
+    assert!(rt; equal(&out, &[255, 5, 0, 1, 0, 7, 0, 0, 0, 4, 0, 2, 0x80]));
 }
 
 #[test]
@@ -73,24 +77,24 @@ fn writes_no_attributes(rt: HostRuntime) {
     assert!(rt; nlas_fit(none));
     let mut out = [255; 3];
     assert!(rt; nlas_fill(none, &mut out) == 3);
-    are(&rt, &out, &[255, 255, 255]);
+    assert!(rt; equal(&out, &[255, 255, 255]));
 }
 
 #[test]
 fn closes_frames(rt: HostRuntime) {
     let mut out = [255; 9];
     assert!(rt; finish(&mut out, 2, 0x8003) == 8);
-    are(&rt, &out, &[6, 0, 3, 0x80, 255, 255, 0, 0, 255]);
+    assert!(rt; equal(&out, &[6, 0, 3, 0x80, 255, 255, 0, 0, 255]));
     let mut end = [255; 9];
     assert!(rt; close_frame(&mut end, 7, 0x8003) == 1);
-    are(&rt, &end, &[255, 6, 0, 3, 0x80, 255, 255, 0, 0]);
+    assert!(rt; equal(&end, &[255, 6, 0, 3, 0x80, 255, 255, 0, 0]));
 }
 
 #[test]
 fn fills_from_the_end(rt: HostRuntime) {
     let mut end = [255; 5];
     assert!(rt; fill_bytes(&mut end, &[1, 2]) == 3);
-    are(&rt, &end, &[255, 255, 255, 1, 2]);
+    assert!(rt; equal(&end, &[255, 255, 255, 1, 2]));
     assert!(rt; fill_text(&mut end, "lo") == 2);
-    are(&rt, &end, &[255, 255, 0x6c, 0x6f, 0]);
+    assert!(rt; equal(&end, &[255, 255, 0x6c, 0x6f, 0]));
 }

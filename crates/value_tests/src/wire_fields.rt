@@ -1,6 +1,7 @@
 //! Fields of records, read past the end and put at their places.
 
-use crate::testing::{are, begin, is_same};
+use crate::testing::is_same;
+use expected::equal;
 use nla_wire::fields::*;
 
 #[test]
@@ -27,7 +28,7 @@ fn reads_long_fields(rt: HostRuntime) {
 
 #[test]
 fn fills_up_with_zeros(rt: HostRuntime) {
-    begin(&rt, &zero_filled_32(&[7, 8]), &[7, 8, 0, 0]);
+    assert!(rt; zero_filled_32(&[7, 8]).starts_with(&[7, 8, 0, 0]));
     assert!(rt; too_short(15, 16).number() == 1);
 }
 
@@ -37,25 +38,25 @@ fn puts_fields(rt: HostRuntime) {
     put_bytes(&mut out, 1, &[1, 2]);
     put_u16(&mut out, 3, 0x1234);
     put_be16(&mut out, 5, 0x1234);
-    are(&rt, &out, &[255, 1, 2, 0x34, 0x12, 0x12, 0x34, 255]);
+    assert!(rt; equal(&out, &[255, 1, 2, 0x34, 0x12, 0x12, 0x34, 255]));
     put_u32(&mut out, 0, 1500);
     put_i32(&mut out, 4, -2);
-    are(&rt, &out, &[0xdc, 5, 0, 0, 0xfe, 255, 255, 255]);
+    assert!(rt; equal(&out, &[0xdc, 5, 0, 0, 0xfe, 255, 255, 255]));
     put_u64(&mut out, 0, 0x0123_4567_89ab_cdef);
-    are(&rt, &out, &[0xef, 0xcd, 0xab, 0x89, 0x67, 0x45, 0x23, 1]);
+    assert!(rt; equal(&out, &[0xef, 0xcd, 0xab, 0x89, 0x67, 0x45, 0x23, 1]));
     put_i64(&mut out, 0, -2);
-    are(&rt, &out, &[0xfe, 255, 255, 255, 255, 255, 255, 255]);
+    assert!(rt; equal(&out, &[0xfe, 255, 255, 255, 255, 255, 255, 255]));
 }
 
 #[test]
 fn puts_rows_of_numbers(rt: HostRuntime) {
     let mut out = [255; 8];
     put_u32s(&mut out, &[1500, 7]);
-    are(&rt, &out, &[0xdc, 5, 0, 0, 7, 0, 0, 0]);
+    assert!(rt; equal(&out, &[0xdc, 5, 0, 0, 7, 0, 0, 0]));
     put_i32s(&mut out, &[-1, -2]);
-    are(&rt, &out, &[255, 255, 255, 255, 254, 255, 255, 255]);
+    assert!(rt; equal(&out, &[255, 255, 255, 255, 254, 255, 255, 255]));
     put_u64s(&mut out, &[1500]);
-    are(&rt, &out, &[0xdc, 5, 0, 0, 0, 0, 0, 0]);
+    assert!(rt; equal(&out, &[0xdc, 5, 0, 0, 0, 0, 0, 0]));
     put_i64s(&mut out, &[-2]);
-    are(&rt, &out, &[254, 255, 255, 255, 255, 255, 255, 255]);
+    assert!(rt; equal(&out, &[254, 255, 255, 255, 255, 255, 255, 255]));
 }

@@ -1,6 +1,7 @@
 //! Frames at the front of bytes, and the frames of a byte string.
 
-use crate::testing::{are, got, is_same, refuses};
+use crate::testing::{is_same, refuses};
+use expected::equal;
 use nla_wire::*;
 
 #[test]
@@ -26,16 +27,16 @@ fn refuses_fronts(rt: HostRuntime) {
 
 #[test]
 fn reads_frames(rt: HostRuntime) {
-    let frame = got(
+    let frame = NlaBuffer::new_checked(&[6, 0, 0x2a, 0xc0, 0xde, 0xad, 9, 9]).expect(
         &rt,
-        NlaBuffer::new_checked(&[6, 0, 0x2a, 0xc0, 0xde, 0xad, 9, 9]),
+        "it is read",
     );
     let numbers = [frame.kind_with_flags(), frame.kind(), frame.length()];
     is_same(&rt, &numbers, &[0xc02a, 42, 6]);
     let flags = [frame.nested_flag(), frame.network_byte_order_flag()];
     is_same(&rt, &flags, &[true, true]);
-    are(&rt, frame.value(), &[0xde, 0xad]);
-    assert!(rt; got(&rt, frame.clone()) == frame);
+    assert!(rt; equal(frame.value(), &[0xde, 0xad]));
+    assert!(rt; frame.clone().expect(&rt, "memory") == frame);
 }
 
 /// The kind of the next frame, or the number of the fault.

@@ -4,14 +4,14 @@ ghost use Rattle.std.proofs.Common.{rules};
 ghost use Rattle.std.specs.Prelude.{◌<◌};
 ghost use Rattle.std.specs.Int.{w16, to_le_bytes};
 
-use crate::testing::{are, begin, got, stored};
+use expected::{equal, is_stored};
 use nla_wire::*;
 use std::alloc::Global;
 use std::process::Abort;
 
 /// An attribute of this kind that is kept as it is, of so many bytes of 97.
 fn letters(rt: &impl Abort, alloc: Global, kind: u16, count: usize) -> DefaultNla {
-    DefaultNla::new(kind, got(rt, vec![in alloc; 97u8; count]))
+    DefaultNla::new(kind, vec![in alloc; 97u8; count].expect(rt, "memory"))
 }
 
 /// A number below 1000, which is written as the attribute of kind 9. It says only what each value has to say.
@@ -51,7 +51,7 @@ fn measures_what_fits(rt: HostRuntime) {
     assert!(rt; small.measure() == Some(2));
     let mut out = [255; 9];
     let len = small.write(&mut out);
-    stored(&rt, len, &out, &[6, 0, 9, 0, 0xe7, 3, 0, 0]);
+    assert!(rt; is_stored(len, &out, &[6, 0, 9, 0, 0xe7, 3, 0, 0]));
     let both = [small, Small { number: 1000 }];
     assert!(rt; nlas_measure(&both).is_none());
     assert!(rt; nlas_measure(&both[..1]) == Some(8));
@@ -74,29 +74,29 @@ fn measures_values(rt: HostRuntime) {
 
 #[test]
 fn writes_values(rt: HostRuntime) {
-    let kept = DefaultNla::new(1, got(&rt, Vec::from_slice(rt.alloc(), &[7])));
+    let kept = DefaultNla::new(1, Vec::from_slice(rt.alloc(), &[7]).expect(&rt, "memory"));
     assert!(rt; kept.fits());
     assert!(rt; kept.measure() == Some(1));
     assert!(rt; kept.buffer_len() == 8);
     let mut out = [255; 9];
     let len = kept.write(&mut out);
-    stored(&rt, len, &out, &[5, 0, 1, 0, 7, 0, 0, 0]);
+    assert!(rt; is_stored(len, &out, &[5, 0, 1, 0, 7, 0, 0, 0]));
     let none = letters(&rt, rt.alloc(), 0xc02a, 0);
     assert!(rt; none.measure() == Some(0));
     let mut out = [255; 9];
     let len = none.write(&mut out);
-    stored(&rt, len, &out, &[4, 0, 42, 0xc0]);
+    assert!(rt; is_stored(len, &out, &[4, 0, 42, 0xc0]));
 }
 
 #[test]
 fn writes_the_longest_value(rt: HostRuntime) {
     let longest = letters(&rt, rt.alloc(), 20, 65531);
-    let mut out = got(&rt, vec![in rt.alloc(); 255u8; 65537]);
+    let mut out = vec![in rt.alloc(); 255u8; 65537].expect(&rt, "memory");
     let out = out.as_mut_slice();
     assert!(rt; out.len() == 65537);
     assert!(rt; longest.measure() == Some(65531));
     assert!(rt; longest.write(out) == 65536);
-    begin(&rt, out, &[255, 255, 20, 0, 97]);
+    assert!(rt; out.starts_with(&[255, 255, 20, 0, 97]));
     assert!(rt; out[65534] == 97);
     assert!(rt; out[65535] == 0);
     assert!(rt; out[65536] == 255);
@@ -113,15 +113,16 @@ fn writes_lists(rt: HostRuntime) {
     assert!(rt; nlas_measure(&nlas) == Some(12));
     let mut out = [255; 13];
     let len = nlas_write(&nlas, &mut out);
-    stored(&rt, len, &out, &[5, 0, 1, 0, 97, 0, 0, 0, 4, 0, 2, 0x80]);
+    assert!(rt; is_stored(len, &out, &[5, 0, 1, 0, 97, 0, 0, 0, 4, 0, 2, 0x80]));
     assert!(rt; list_measure(&nlas) == Some(12));
     let mut out = [255; 17];
     let len = write_list(52, &nlas, &mut out);
-    stored(
-        &rt,
-        len,
-        &out,
-        &[16, 0, 52, 0, 5, 0, 1, 0, 97, 0, 0, 0, 4, 0, 2, 0x80],
+    assert!(rt;
+        is_stored(
+            len,
+            &out,
+            &[16, 0, 52, 0, 5, 0, 1, 0, 97, 0, 0, 0, 4, 0, 2, 0x80]
+        )
     );
 }
 
@@ -131,10 +132,10 @@ fn writes_empty_lists(rt: HostRuntime) {
     assert!(rt; nlas_measure(none) == Some(0));
     let mut out = [255; 5];
     let len = nlas_write(none, &mut out);
-    stored(&rt, len, &out, &[]);
+    assert!(rt; is_stored(len, &out, &[]));
     assert!(rt; list_measure(none) == Some(0));
     let len = write_list(0x8034, none, &mut out);
-    stored(&rt, len, &out, &[4, 0, 52, 0x80]);
+    assert!(rt; is_stored(len, &out, &[4, 0, 52, 0x80]));
 }
 
 /// A list that is the value of an attribute has at most 65531 bytes of text, and so at most 65528. One that is not may
@@ -152,9 +153,11 @@ fn measures_long_lists(rt: HostRuntime) {
         (0, Some(65532), None, None),
     ] {
         let mut nlas = Vec::new(alloc);
-        got(&rt, nlas.push(letters(&rt, alloc, 1, first)));
+        nlas.push(letters(&rt, alloc, 1, first))
+            .expect(&rt, "memory");
         if let Some(count) = second {
-            got(&rt, nlas.push(letters(&rt, alloc, 2, count)));
+            nlas.push(letters(&rt, alloc, 2, count))
+                .expect(&rt, "memory");
         }
         assert_eq!(rt;
             nlas_measure(nlas.as_slice()),
@@ -177,6 +180,6 @@ fn writes_the_longest_list(rt: HostRuntime) {
     let mut out = [255; 65533];
     assert!(rt; list_measure(&nlas) == Some(65528));
     assert!(rt; write_list(52, &nlas, &mut out) == 65532);
-    begin(&rt, &out, &[252, 255, 52, 0, 248, 255, 1, 0, 97]);
-    are(&rt, &out[65531..], &[97, 255]);
+    assert!(rt; out.starts_with(&[252, 255, 52, 0, 248, 255, 1, 0, 97]));
+    assert!(rt; equal(&out[65531..], &[97, 255]));
 }

@@ -1,6 +1,7 @@
 //! Numbers, addresses and texts as payloads.
 
-use crate::testing::{are, got, is_read, refuses};
+use crate::testing::{is_read, refuses};
+use expected::equal;
 use nla_wire::error::checked;
 use nla_wire::*;
 use std::alloc::Global;
@@ -37,23 +38,19 @@ fn refuses_payloads(rt: HostRuntime) {
 fn writes_numbers(rt: HostRuntime) {
     let mut out = [255; 9];
     emit_u16(&mut out, 0x1234);
-    are(&rt, &out, &[0x34, 0x12, 255, 255, 255, 255, 255, 255, 255]);
+    assert!(rt; equal(&out, &[0x34, 0x12, 255, 255, 255, 255, 255, 255, 255]));
     emit_u32(&mut out, 1500);
-    are(&rt, &out, &[0xdc, 5, 0, 0, 255, 255, 255, 255, 255]);
+    assert!(rt; equal(&out, &[0xdc, 5, 0, 0, 255, 255, 255, 255, 255]));
     emit_u64(&mut out, 0x0123_4567_89ab_cdef);
-    are(
-        &rt,
-        &out,
-        &[0xef, 0xcd, 0xab, 0x89, 0x67, 0x45, 0x23, 1, 255],
-    );
+    assert!(rt; equal(&out, &[0xef, 0xcd, 0xab, 0x89, 0x67, 0x45, 0x23, 1, 255]));
     emit_i32(&mut out, -2);
-    are(&rt, &out, &[0xfe, 255, 255, 255, 0x67, 0x45, 0x23, 1, 255]);
+    assert!(rt; equal(&out, &[0xfe, 255, 255, 255, 0x67, 0x45, 0x23, 1, 255]));
 }
 
 /// The bytes are read as this text.
 fn reads(rt: &impl Abort, alloc: Global, bytes: &[u8], text: &str) {
-    got(rt, check_string(bytes));
-    let found = got(rt, parse_string(alloc, bytes));
+    check_string(bytes).expect(rt, "it is read");
+    let found = parse_string(alloc, bytes).expect(rt, "it is read");
     assert!(rt; found.as_str() == text);
 }
 

@@ -1,6 +1,6 @@
 //! Values stored as attributes at the front of a buffer.
 
-use crate::testing::{are, begin, got, stored};
+use expected::{equal, is_stored};
 use nla_wire::*;
 use std::process::Abort;
 
@@ -8,15 +8,15 @@ use std::process::Abort;
 fn stores_bytes_and_words(rt: HostRuntime) {
     let mut out = [255; 9];
     let len = write_u8(1, 7, &mut out);
-    stored(&rt, len, &out, &[5, 0, 1, 0, 7, 0, 0, 0]);
+    assert!(rt; is_stored(len, &out, &[5, 0, 1, 0, 7, 0, 0, 0]));
     let len = write_u8(0xc001, 255, &mut out);
-    stored(&rt, len, &out, &[5, 0, 1, 0xc0, 255, 0, 0, 0]);
+    assert!(rt; is_stored(len, &out, &[5, 0, 1, 0xc0, 255, 0, 0, 0]));
     let len = write_u16(68, 0x1234, &mut out);
-    stored(&rt, len, &out, &[6, 0, 68, 0, 0x34, 0x12, 0, 0]);
+    assert!(rt; is_stored(len, &out, &[6, 0, 68, 0, 0x34, 0x12, 0, 0]));
     let len = write_u32(4, 1500, &mut out);
-    stored(&rt, len, &out, &[8, 0, 4, 0, 0xdc, 5, 0, 0]);
+    assert!(rt; is_stored(len, &out, &[8, 0, 4, 0, 0xdc, 5, 0, 0]));
     let len = write_i32(28, -2, &mut out);
-    stored(&rt, len, &out, &[8, 0, 28, 0, 254, 255, 255, 255]);
+    assert!(rt; is_stored(len, &out, &[8, 0, 28, 0, 254, 255, 255, 255]));
 }
 
 #[test]
@@ -24,42 +24,37 @@ fn stores_long_words(rt: HostRuntime) {
     let mut out = [255; 13];
     let len = write_u64(0x8000, 0x0123_4567_89ab_cdef, &mut out);
     let text = [12, 0, 0, 0x80, 0xef, 0xcd, 0xab, 0x89, 0x67, 0x45, 0x23, 1];
-    stored(&rt, len, &out, &text);
+    assert!(rt; is_stored(len, &out, &text));
 }
 
 #[test]
 fn stores_texts(rt: HostRuntime) {
     let mut out = [255; 16];
     let len = write_text(53, &[], &mut out);
-    stored(&rt, len, &out, &[5, 0, 53, 0, 0, 0, 0, 0]);
+    assert!(rt; is_stored(len, &out, &[5, 0, 53, 0, 0, 0, 0, 0]));
     let len = write_text(3, b"lo", &mut out);
-    stored(&rt, len, &out, &[7, 0, 3, 0, 0x6c, 0x6f, 0, 0]);
+    assert!(rt; is_stored(len, &out, &[7, 0, 3, 0, 0x6c, 0x6f, 0, 0]));
     let len = write_text(3, b"eth", &mut out);
-    stored(&rt, len, &out, &[8, 0, 3, 0, 0x65, 0x74, 0x68, 0]);
+    assert!(rt; is_stored(len, &out, &[8, 0, 3, 0, 0x65, 0x74, 0x68, 0]));
     let len = write_text(3, b"wan0", &mut out);
-    stored(
-        &rt,
-        len,
-        &out,
-        &[9, 0, 3, 0, 0x77, 0x61, 0x6e, 0x30, 0, 0, 0, 0],
-    );
+    assert!(rt; is_stored(len, &out, &[9, 0, 3, 0, 0x77, 0x61, 0x6e, 0x30, 0, 0, 0, 0]));
 }
 
 #[test]
 fn stores_values(rt: HostRuntime) {
     let mut out = [255; 13];
     let len = write_value(0x802a, &[], &mut out);
-    stored(&rt, len, &out, &[4, 0, 42, 0x80]);
+    assert!(rt; is_stored(len, &out, &[4, 0, 42, 0x80]));
     let len = write_value(1, &[7], &mut out);
-    stored(&rt, len, &out, &[5, 0, 1, 0, 7, 0, 0, 0]);
+    assert!(rt; is_stored(len, &out, &[5, 0, 1, 0, 7, 0, 0, 0]));
     let len = write_value(1, &[7, 8], &mut out);
-    stored(&rt, len, &out, &[6, 0, 1, 0, 7, 8, 0, 0]);
+    assert!(rt; is_stored(len, &out, &[6, 0, 1, 0, 7, 8, 0, 0]));
     let len = write_value(1, &[7, 8, 9], &mut out);
-    stored(&rt, len, &out, &[7, 0, 1, 0, 7, 8, 9, 0]);
+    assert!(rt; is_stored(len, &out, &[7, 0, 1, 0, 7, 8, 9, 0]));
     let len = write_value(1, &[7, 8, 9, 10], &mut out);
-    stored(&rt, len, &out, &[8, 0, 1, 0, 7, 8, 9, 10]);
+    assert!(rt; is_stored(len, &out, &[8, 0, 1, 0, 7, 8, 9, 10]));
     let len = write_value(1, &[7, 8, 9, 10, 11], &mut out);
-    stored(&rt, len, &out, &[9, 0, 1, 0, 7, 8, 9, 10, 11, 0, 0, 0]);
+    assert!(rt; is_stored(len, &out, &[9, 0, 1, 0, 7, 8, 9, 10, 11, 0, 0, 0]));
 }
 
 #[test]
@@ -88,20 +83,20 @@ fn stores_contents(rt: HostRuntime) {
         let mut out = [255; 13];
         assert!(rt; content.len() <= 8);
         let len = content.write(1, &mut out);
-        stored(&rt, len, &out, text);
+        assert!(rt; is_stored(len, &out, text));
     }
 }
 
 /// A value of 65531 bytes is the longest that an attribute has.
 #[test]
 fn stores_the_longest_value(rt: HostRuntime) {
-    let value = got(&rt, vec![in rt.alloc(); 97u8; 65531]);
-    let mut out = got(&rt, vec![in rt.alloc(); 255u8; 65537]);
+    let value = vec![in rt.alloc(); 97u8; 65531].expect(&rt, "memory");
+    let mut out = vec![in rt.alloc(); 255u8; 65537].expect(&rt, "memory");
     let out = out.as_mut_slice();
     assert!(rt; value.len() == 65531);
     assert!(rt; out.len() == 65537);
     assert!(rt; write_value(20, value.as_slice(), out) == 65536);
-    begin(&rt, out, &[255, 255, 20, 0, 97]);
+    assert!(rt; out.starts_with(&[255, 255, 20, 0, 97]));
     assert!(rt; out[65534] == 97);
     assert!(rt; out[65535] == 0);
     assert!(rt; out[65536] == 255);
@@ -111,9 +106,9 @@ fn stores_the_longest_value(rt: HostRuntime) {
 fn stores_bytes_alone(rt: HostRuntime) {
     let mut out = [255; 3];
     assert!(rt; write_bytes(&[], &mut out) == 0);
-    are(&rt, &out, &[255, 255, 255]);
+    assert!(rt; equal(&out, &[255, 255, 255]));
     assert!(rt; write_bytes(&[1, 2], &mut out) == 2);
-    are(&rt, &out, &[1, 2, 255]);
+    assert!(rt; equal(&out, &[1, 2, 255]));
 }
 
 #[test]
@@ -138,7 +133,7 @@ fn finishes(rt: &impl Abort, len: usize, text: &[u8]) {
     let mut out = [255; 13];
     assert!(rt; len <= 8);
     let padded = finish(&mut out, len, 0x8003);
-    stored(rt, padded, &out, text);
+    assert!(rt; is_stored(padded, &out, text));
 }
 
 #[test]

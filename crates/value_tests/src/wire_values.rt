@@ -1,6 +1,7 @@
 //! Causes, fault texts, and bytes, texts and lists as values.
 
-use crate::testing::{are, copied, got, is_same, prints};
+use crate::testing::{copied, is_same, prints};
+use expected::equal;
 use nla_wire::error::checked;
 use nla_wire::*;
 
@@ -14,7 +15,7 @@ fn numbers_causes(rt: HostRuntime) {
     ];
     is_same(&rt, &numbers, &[1, 9, 5]);
     assert!(rt; error.place == "record");
-    got(&rt, checked(parse_u8(&[1])));
+    checked(parse_u8(&[1])).expect(&rt, "it is read");
 }
 
 #[test]
@@ -27,23 +28,23 @@ fn prints_faults(rt: HostRuntime) {
 
 #[test]
 fn keeps_bytes(rt: HostRuntime) {
-    let bytes = Bytes::new(got(&rt, Vec::from_slice(rt.alloc(), &[1, 2, 3])));
+    let bytes = Bytes::new(Vec::from_slice(rt.alloc(), &[1, 2, 3]).expect(&rt, "memory"));
     is_same(&rt, &bytes.len(), &3);
     is_same(&rt, &bytes.is_empty(), &false);
     let copy = copied(&rt, rt.alloc(), &bytes);
-    let other = got(&rt, Bytes::from_slice(rt.alloc(), &[1, 2, 4]));
+    let other = Bytes::from_slice(rt.alloc(), &[1, 2, 4]).expect(&rt, "memory");
     assert!(rt; other != bytes);
-    are(&rt, bytes.as_slice(), &[1, 2, 3]);
-    are(&rt, copy.into_vec().as_slice(), &[1, 2, 3]);
+    assert!(rt; equal(bytes.as_slice(), &[1, 2, 3]));
+    assert!(rt; equal(copy.into_vec().as_slice(), &[1, 2, 3]));
 }
 
 #[test]
 fn keeps_texts(rt: HostRuntime) {
-    let text = Text::new(got(&rt, String::from_str(rt.alloc(), "ä0")));
+    let text = Text::new(String::from_str(rt.alloc(), "ä0").expect(&rt, "memory"));
     is_same(&rt, &text.len(), &3);
     is_same(&rt, &text.is_empty(), &false);
     let copy = copied(&rt, rt.alloc(), &text);
-    let other = got(&rt, Text::from_str(rt.alloc(), "a0"));
+    let other = Text::from_str(rt.alloc(), "a0").expect(&rt, "memory");
     assert!(rt; other != text);
     assert!(rt; text.as_str() == "ä0");
     assert!(rt; copy.into_string().as_str() == "ä0");
@@ -51,8 +52,8 @@ fn keeps_texts(rt: HostRuntime) {
 
 #[test]
 fn keeps_lists(rt: HostRuntime) {
-    let text = got(&rt, Text::from_str(rt.alloc(), "lo"));
-    let list = List::new(got(&rt, Vec::from_array(rt.alloc(), [text])));
+    let text = Text::from_str(rt.alloc(), "lo").expect(&rt, "memory");
+    let list = List::new(Vec::from_array(rt.alloc(), [text]).expect(&rt, "memory"));
     is_same(&rt, &list.is_empty(), &false);
     assert!(rt; list.len() == 1);
     let copy = copied(&rt, rt.alloc(), &list);
@@ -64,7 +65,7 @@ fn keeps_lists(rt: HostRuntime) {
 fn changes_lists(rt: HostRuntime) {
     let mut list = List::new(Vec::new(rt.alloc()));
     for value in [1u32, 2, 3] {
-        got(&rt, list.push(value));
+        list.push(value).expect(&rt, "memory");
     }
     for value in list.as_mut_slice().iter_mut() {
         *value = if *value == 2 { 20 } else { *value };

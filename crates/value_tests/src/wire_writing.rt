@@ -1,6 +1,7 @@
 //! Attributes measured and written again from payloads, with no memory.
 
-use crate::testing::{are, begin, fits_in, got, stored};
+use crate::testing::fits_in;
+use expected::{equal, is_stored};
 use nla_wire::*;
 use std::alloc::Global;
 use std::process::Abort;
@@ -9,26 +10,26 @@ use std::process::Abort;
 fn writes_short_payloads(rt: HostRuntime) {
     let mut out = [255; 9];
     let len = write_text_payload(3, b"lo\0", &mut out);
-    stored(&rt, len, &out, &[7, 0, 3, 0, 0x6c, 0x6f, 0, 0]);
+    assert!(rt; is_stored(len, &out, &[7, 0, 3, 0, 0x6c, 0x6f, 0, 0]));
     let len = write_u8_payload(1, &[7], &mut out);
-    stored(&rt, len, &out, &[5, 0, 1, 0, 7, 0, 0, 0]);
+    assert!(rt; is_stored(len, &out, &[5, 0, 1, 0, 7, 0, 0, 0]));
     let len = write_u16_payload(68, &[1, 2], &mut out);
-    stored(&rt, len, &out, &[6, 0, 68, 0, 1, 2, 0, 0]);
+    assert!(rt; is_stored(len, &out, &[6, 0, 68, 0, 1, 2, 0, 0]));
     let len = write_u32_payload(4, &[0xdc, 5, 0, 0], &mut out);
-    stored(&rt, len, &out, &[8, 0, 4, 0, 0xdc, 5, 0, 0]);
+    assert!(rt; is_stored(len, &out, &[8, 0, 4, 0, 0xdc, 5, 0, 0]));
     let len = write_i32_payload(28, &[255; 4], &mut out);
-    stored(&rt, len, &out, &[8, 0, 28, 0, 255, 255, 255, 255]);
+    assert!(rt; is_stored(len, &out, &[8, 0, 28, 0, 255, 255, 255, 255]));
 }
 
 #[test]
 fn writes_long_payloads(rt: HostRuntime) {
     let mut out = [255; 13];
     let len = write_u64_payload(0, &[1, 0, 0, 0, 0, 0, 0, 2], &mut out);
-    stored(&rt, len, &out, &[12, 0, 0, 0, 1, 0, 0, 0, 0, 0, 0, 2]);
+    assert!(rt; is_stored(len, &out, &[12, 0, 0, 0, 1, 0, 0, 0, 0, 0, 0, 2]));
     let mut out = [255; 21];
     let len = write_ipv6_addr_payload(7, &[1; 16], &mut out);
     let text = [20, 0, 7, 0, 1, 1, 1, 1, 1, 1, 1, 1, 1, 1, 1, 1, 1, 1, 1, 1];
-    stored(&rt, len, &out, &text);
+    assert!(rt; is_stored(len, &out, &text));
 }
 
 #[test]
@@ -36,13 +37,13 @@ fn writes_long_payloads(rt: HostRuntime) {
 fn cuts_and_fills_payloads(rt: HostRuntime) {
     let mut out = [255; 16];
     let len = write_filled_payload(7, 4, &[1, 2], &mut out);
-    stored(&rt, len, &out, &[8, 0, 7, 0, 1, 2, 0, 0]);
+    assert!(rt; is_stored(len, &out, &[8, 0, 7, 0, 1, 2, 0, 0]));
     let len = write_filled_payload(7, 4, &[1, 2, 3, 4, 5], &mut out);
-    stored(&rt, len, &out, &[8, 0, 7, 0, 1, 2, 3, 4]);
+    assert!(rt; is_stored(len, &out, &[8, 0, 7, 0, 1, 2, 3, 4]));
     let len = write_filled_payload(7, 4, &[], &mut out);
-    stored(&rt, len, &out, &[8, 0, 7, 0, 0, 0, 0, 0]);
+    assert!(rt; is_stored(len, &out, &[8, 0, 7, 0, 0, 0, 0, 0]));
     let len = write_filled_payload(7, 5, &[1, 2], &mut out);
-    stored(&rt, len, &out, &[9, 0, 7, 0, 1, 2, 0, 0, 0, 0, 0, 0]);
+    assert!(rt; is_stored(len, &out, &[9, 0, 7, 0, 1, 2, 0, 0, 0, 0, 0, 0]));
 }
 
 /// A text of the payload's bytes is written with one NUL, whether the payload ends in one or not.
@@ -52,11 +53,12 @@ fn writes_texts_of_payloads(rt: HostRuntime) {
         let mut out = [255; 13];
         assert!(rt; measure_text(payload) == Some(5));
         let len = write_text_payload(53, payload, &mut out);
-        stored(
-            &rt,
-            len,
-            &out,
-            &[9, 0, 53, 0, 0x77, 0x61, 0x6e, 0x30, 0, 0, 0, 0],
+        assert!(rt;
+            is_stored(
+                len,
+                &out,
+                &[9, 0, 53, 0, 0x77, 0x61, 0x6e, 0x30, 0, 0, 0, 0]
+            )
         );
     }
 }
@@ -95,9 +97,9 @@ fn measures_texts(rt: HostRuntime) {
 
 /// So many letters, and so many NULs after them.
 fn letters(rt: &impl Abort, alloc: Global, count: usize, nuls: usize) -> Vec<u8> {
-    let mut bytes = got(rt, vec![in alloc; 97u8; count]);
+    let mut bytes = vec![in alloc; 97u8; count].expect(rt, "memory");
     for _ in 0..nuls {
-        got(rt, bytes.push(0));
+        bytes.push(0).expect(rt, "memory");
     }
     bytes
 }
@@ -128,7 +130,7 @@ fn writes_the_longest_text(rt: HostRuntime) {
         let mut out = [255; 65537];
         assert!(rt; measure_text(payload.as_slice()) == Some(65531));
         assert!(rt; write_text_payload(20, payload.as_slice(), &mut out) == 65536);
-        begin(&rt, &out, &[255, 255, 20, 0, 97]);
-        are(&rt, &out[65533..], &[97, 0, 0, 255]);
+        assert!(rt; out.starts_with(&[255, 255, 20, 0, 97]));
+        assert!(rt; equal(&out[65533..], &[97, 0, 0, 255]));
     }
 }

@@ -1,7 +1,7 @@
 //! Messages whose header says something, or with several attributes, and the calls that take a longer buffer.
 
 use crate::rows::*;
-use crate::testing::{GROWTH, are, begin, got, kept, text_of};
+use expected::{GROWTH, equal, kept, list};
 use link_msg::laws::law_room;
 use link_msg::*;
 use std::alloc::Global;
@@ -32,9 +32,9 @@ fn headers(rt: HostRuntime) {
 #[test]
 fn a_mask_and_a_name(rt: HostRuntime) {
     let alloc = rt.alloc();
-    let mask = list(&rt, alloc, [LinkExtentMask::Vf, LinkExtentMask::SkipStats]);
+    let mask = list(alloc, [LinkExtentMask::Vf, LinkExtentMask::SkipStats]).expect(&rt, "memory");
     let mask = LinkAttribute::ExtMask(mask);
-    let name = LinkAttribute::IfName(text_of(&rt, alloc, "lo"));
+    let name = LinkAttribute::IfName(Text::from_str(alloc, "lo").expect(&rt, "memory"));
     let message = message_of(&rt, alloc, [mask, name]);
     let attributes = [8, 0, 29, 0, 9, 0, 0, 0, 7, 0, 3, 0, 0x6c, 0x6f, 0, 0];
     let bytes = with_header(&rt, alloc, 0, &attributes);
@@ -51,9 +51,9 @@ fn names_of_a_card(rt: HostRuntime) {
         0, 0x77, 0x6c, 0x70, 0x30, 0x73, 0x32, 0x30, 0x66, 0x33, 0, 0, 0, 9, 0, 0x35, 0, 0x77,
         0x69, 0x66, 0x69, 0, 0, 0, 0,
     ];
-    let first = Prop::AltIfName(text_of(&rt, alloc, "wlp0s20f3"));
-    let second = Prop::AltIfName(text_of(&rt, alloc, "wifi"));
-    let names = LinkAttribute::PropList(list(&rt, alloc, [first, second]));
+    let first = Prop::AltIfName(Text::from_str(alloc, "wlp0s20f3").expect(&rt, "memory"));
+    let second = Prop::AltIfName(Text::from_str(alloc, "wifi").expect(&rt, "memory"));
+    let names = LinkAttribute::PropList(list(alloc, [first, second]).expect(&rt, "memory"));
     let message = LinkMessage {
         header: LinkHeader {
             interface_family: AddressFamily::Unspec,
@@ -62,11 +62,14 @@ fn names_of_a_card(rt: HostRuntime) {
             flags: LinkFlags::from_bits_retain(0x11043),
             change_mask: LinkFlags::empty(),
         },
-        attributes: list(&rt, alloc, [names]),
+        attributes: list(alloc, [names]).expect(&rt, "memory"),
     };
     is_row(&rt, alloc, &bytes, &message, &bytes);
-    let flags = got(&rt, LinkMessage::parse(alloc, &bytes)).header.flags;
-    let text = got(&rt, format!(in alloc; "{flags}"));
+    let flags = LinkMessage::parse(alloc, &bytes)
+        .expect(&rt, "it is read")
+        .header
+        .flags;
+    let text = format!(in alloc; "{flags}").expect(&rt, "memory");
     assert!(rt; text.as_str() == "Up | Broadcast | Running | Multicast | LowerUp");
 }
 
@@ -87,17 +90,17 @@ fn a_tunnel_of_sessions(rt: HostRuntime) {
         0, 0, 0xfe, 0xff, 16, 0, 0, 0, 0x90, 0x10, 0, 0, 0, 0, 0, 0, 10, 0, 3, 0, 0x70, 0x66, 0x63,
         0x70, 0x30, 0, 0, 0, 16, 0, 18, 0, 9, 0, 1, 0, 0x70, 0x66, 0x63, 0x70, 0, 0, 0, 0,
     ];
-    let kind = LinkInfo::Kind(text_of(&rt, alloc, "pfcp"));
+    let kind = LinkInfo::Kind(Text::from_str(alloc, "pfcp").expect(&rt, "memory"));
     let message = LinkMessage {
         header: layerless(16, 0x1090),
         attributes: list(
-            &rt,
             alloc,
             [
-                LinkAttribute::IfName(text_of(&rt, alloc, "pfcp0")),
-                LinkAttribute::LinkInfo(list(&rt, alloc, [kind])),
+                LinkAttribute::IfName(Text::from_str(alloc, "pfcp0").expect(&rt, "memory")),
+                LinkAttribute::LinkInfo(list(alloc, [kind]).expect(&rt, "memory")),
             ],
-        ),
+        )
+        .expect(&rt, "memory"),
     };
     is_row(&rt, alloc, &bytes, &message, &bytes);
 }
@@ -109,38 +112,42 @@ fn a_tunnel_of_packets(rt: HostRuntime) {
         0, 0, 0xfe, 0xff, 40, 0, 0, 0, 0xc1, 0, 1, 0, 0, 0, 0, 0, 36, 0, 18, 0, 9, 0, 1, 0, 0x78,
         0x66, 0x72, 0x6d, 0, 0, 0, 0, 20, 0, 2, 0, 8, 0, 1, 0, 2, 0, 0, 0, 8, 0, 2, 0, 10, 0, 0, 0,
     ];
-    let kind = LinkInfo::Kind(text_of(&rt, alloc, "xfrm"));
-    let data = LinkInfo::Other(kept(&rt, alloc, 2, &bytes[36..]));
+    let kind = LinkInfo::Kind(Text::from_str(alloc, "xfrm").expect(&rt, "memory"));
+    let data = LinkInfo::Other(kept(alloc, 2, &bytes[36..]).expect(&rt, "memory"));
     let message = LinkMessage {
         header: layerless(40, 0x100c1),
         attributes: list(
-            &rt,
             alloc,
-            [LinkAttribute::LinkInfo(list(&rt, alloc, [kind, data]))],
-        ),
+            [LinkAttribute::LinkInfo(list(alloc, [kind, data]).expect(&rt, "memory"))],
+        )
+        .expect(&rt, "memory"),
     };
     is_row(&rt, alloc, &bytes, &message, &bytes);
 }
 
 /// The message of a name.
 fn named(rt: &impl Abort, alloc: Global) -> LinkMessage {
-    message_of(rt, alloc, [LinkAttribute::IfName(text_of(rt, alloc, "lo"))])
+    message_of(
+        rt,
+        alloc,
+        [LinkAttribute::IfName(Text::from_str(alloc, "lo").expect(rt, "memory"))],
+    )
 }
 
 /// A message of 24 bytes is written at the end of a buffer of 40 and of 24.
 #[test]
 fn a_name_at_the_end(rt: HostRuntime) {
-    let read = got(&rt, LinkMessage::parse(rt.alloc(), &NAME));
+    let read = LinkMessage::parse(rt.alloc(), &NAME).expect(&rt, "it is read");
     for message in [read, named(&rt, rt.alloc())] {
         assert!(rt; message.fits());
         assert!(rt; message.buffer_len() == 24);
         let mut buffer = [255; 40];
         assert!(rt; message.fill(&mut buffer) == 16);
         are_all(&rt, &buffer[..16], 255);
-        are(&rt, &buffer[16..], &NAME_TEXT);
+        assert!(rt; equal(&buffer[16..], &NAME_TEXT));
         let mut buffer = [255; 24];
         assert!(rt; message.fill(&mut buffer) == 0);
-        are(&rt, &buffer, &NAME_TEXT);
+        assert!(rt; equal(&buffer, &NAME_TEXT));
     }
 }
 
@@ -153,15 +160,15 @@ fn a_vlan_at_the_end(rt: HostRuntime) {
         0x88, 0xa8, 0x12, 0x34,
     ];
     let bytes = with_header(&rt, alloc, 0, &attributes);
-    let message = got(&rt, LinkMessage::parse(alloc, bytes.as_slice()));
+    let message = LinkMessage::parse(alloc, bytes.as_slice()).expect(&rt, "it is read");
     assert!(rt; message.fits());
     assert!(rt; message.buffer_len() == 48);
     let mut buffer = [255; 50];
     assert!(rt; message.fill(&mut buffer) == 2);
     are_all(&rt, &buffer[..2], 255);
     are_all(&rt, &buffer[2..18], 0);
-    are(&rt, &buffer[18..46], &attributes[..28]);
-    are(&rt, &buffer[46..], &[0x88, 0xa8, 0, 0]);
+    assert!(rt; equal(&buffer[18..46], &attributes[..28]));
+    assert!(rt; equal(&buffer[46..], &[0x88, 0xa8, 0, 0]));
 }
 
 #[test]
@@ -184,6 +191,6 @@ fn texts_in_a_long_buffer(rt: HostRuntime) {
     are_all(&rt, &out, 255);
     law_room(&NAME);
     assert!(rt; canonical_into(&NAME, &mut out) == Ok(24));
-    begin(&rt, &out, &NAME_TEXT);
+    assert!(rt; out.starts_with(&NAME_TEXT));
     are_all(&rt, &out[24..], 255);
 }

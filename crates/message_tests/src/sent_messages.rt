@@ -1,22 +1,23 @@
 //! Messages that are built or changed, written into memory of their own, and read back.
 
 use crate::rows::*;
-use crate::testing::*;
+use crate::testing::read_message;
+use expected::{equal, kept, list};
 use link_msg::*;
 use std::alloc::Global;
 use std::process::Abort;
 
 /// A message is written as this text in memory of its own, and the text means it.
 fn is_sent(rt: &impl Abort, alloc: Global, message: &LinkMessage, text: &[u8]) {
-    are(rt, got(rt, message.to_vec(alloc)).as_slice(), text);
-    assert!(rt; got(rt, message.reads_back(alloc)));
+    assert!(rt; equal(message.to_vec(alloc).expect(rt, "memory").as_slice(), text));
+    assert!(rt; message.reads_back(alloc).expect(rt, "memory"));
 }
 
 /// The text of a message of the default header and this attribute means another message, or none.
 fn is_read_otherwise(rt: &impl Abort, alloc: Global, attribute: LinkAttribute) {
     let message = message_of(rt, alloc, [attribute]);
     assert!(rt; message.fits());
-    assert!(rt; !got(rt, message.reads_back(alloc)));
+    assert!(rt; !message.reads_back(alloc).expect(rt, "memory"));
 }
 
 #[test]
@@ -34,7 +35,10 @@ fn a_changed_message(rt: HostRuntime) {
             *mtu = 9000;
         }
     }
-    got(&rt, message.attributes.push(LinkAttribute::Carrier(1)));
+    message
+        .attributes
+        .push(LinkAttribute::Carrier(1))
+        .expect(&rt, "memory");
     let wanted = with_header(
         &rt,
         alloc,
@@ -50,25 +54,25 @@ fn a_changed_message(rt: HostRuntime) {
 #[test]
 fn what_is_not_sent(rt: HostRuntime) {
     let alloc = rt.alloc();
-    let ports = LinkAttribute::VfPorts(list(&rt, alloc, []));
+    let ports = LinkAttribute::VfPorts(list(alloc, []).expect(&rt, "memory"));
     let empty = message_of(&rt, alloc, [ports]);
     is_refused_so(&rt, empty.to_vec(alloc), CanonError::EmptyVfPorts);
-    assert!(rt; !got(&rt, empty.reads_back(alloc)));
-    let long = Bytes::new(got(&rt, vec![in alloc; 0u8; 65532]));
+    assert!(rt; !empty.reads_back(alloc).expect(&rt, "memory"));
+    let long = Bytes::new(vec![in alloc; 0u8; 65532].expect(&rt, "memory"));
     let unfit = message_of(&rt, alloc, [LinkAttribute::Address(long)]);
     is_refused_so(&rt, unfit.to_vec(alloc), CanonError::DoesNotFit);
-    assert!(rt; !got(&rt, unfit.reads_back(alloc)));
+    assert!(rt; !unfit.reads_back(alloc).expect(&rt, "memory"));
 }
 
 /// A list that must not be empty, settings of a bridge under no family, and a frame of a listed number.
 #[test]
 fn what_is_read_otherwise(rt: HostRuntime) {
     let alloc = rt.alloc();
-    let infos = list(&rt, alloc, []);
+    let infos = list(alloc, []).expect(&rt, "memory");
     is_read_otherwise(&rt, alloc, LinkAttribute::LinkInfo(infos));
-    let bridge = AfSpecBridge::Other(kept(&rt, alloc, 1, &[2]));
-    let settings = LinkAttribute::AfSpecBridge(list(&rt, alloc, [bridge]));
+    let bridge = AfSpecBridge::Other(kept(alloc, 1, &[2]).expect(&rt, "memory"));
+    let settings = LinkAttribute::AfSpecBridge(list(alloc, [bridge]).expect(&rt, "memory"));
     is_read_otherwise(&rt, alloc, settings);
-    let mtu = LinkAttribute::Other(kept(&rt, alloc, 4, &[0xdc, 5, 0, 0]));
+    let mtu = LinkAttribute::Other(kept(alloc, 4, &[0xdc, 5, 0, 0]).expect(&rt, "memory"));
     is_read_otherwise(&rt, alloc, mtu);
 }

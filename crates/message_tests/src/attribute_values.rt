@@ -1,7 +1,7 @@
 //! Messages of one attribute that is no list: the value that is read, and its text.
 
 use crate::rows::*;
-use crate::testing::{got, kept, text_of, zeros_after};
+use expected::{kept, list, zeros_after};
 use link_msg::*;
 
 /// An attribute as it is read, what it means, and its text.
@@ -19,7 +19,7 @@ fn names(rt: HostRuntime) {
         &[7, 0, 3, 0, 0x6c, 0x6f, 0],
         text,
     ] {
-        let name = LinkAttribute::IfName(text_of(&rt, alloc, "lo"));
+        let name = LinkAttribute::IfName(Text::from_str(alloc, "lo").expect(&rt, "memory"));
         is_attribute_row(&rt, alloc, 0, bytes, name, text);
     }
 }
@@ -64,11 +64,13 @@ fn numbers(rt: HostRuntime) {
         ),
         (
             &[8, 0, 29, 0, 9, 1, 0, 0],
-            LinkAttribute::ExtMask(list(&rt, alloc, [vf, skip, LinkExtentMask::Other(256)])),
+            LinkAttribute::ExtMask(list(alloc, [vf, skip, LinkExtentMask::Other(256)]).expect(
+                &rt, "memory",
+            )),
         ),
         (
             &[8, 0, 29, 0, 0, 0, 0, 0],
-            LinkAttribute::ExtMask(list(&rt, alloc, [])),
+            LinkAttribute::ExtMask(list(alloc, []).expect(&rt, "memory")),
         ),
         (&[6, 0, 68, 0, 0x20, 0, 0, 0], LinkAttribute::Headroom(32)),
     ];
@@ -83,15 +85,15 @@ fn kept_attributes(rt: HostRuntime) {
     let rows: [Kept<'_>; 3] = [
         (
             &[6, 0, 0x2a, 0xc0, 0xde, 0xad, 0, 0],
-            LinkAttribute::Other(kept(&rt, alloc, 0xc02a, &[0xde, 0xad])),
+            LinkAttribute::Other(kept(alloc, 0xc02a, &[0xde, 0xad]).expect(&rt, "memory")),
         ),
         (
             &[8, 0, 68, 0x80, 0x20, 0, 0, 0],
-            LinkAttribute::Other(kept(&rt, alloc, 0x8044, &[0x20, 0, 0, 0])),
+            LinkAttribute::Other(kept(alloc, 0x8044, &[0x20, 0, 0, 0]).expect(&rt, "memory")),
         ),
         (
             &[4, 0, 68, 0],
-            LinkAttribute::Other(kept(&rt, alloc, 68, &[])),
+            LinkAttribute::Other(kept(alloc, 68, &[]).expect(&rt, "memory")),
         ),
     ];
     for (text, wanted) in rows {
@@ -103,7 +105,7 @@ fn kept_attributes(rt: HostRuntime) {
 #[test]
 fn a_kept_headroom(rt: HostRuntime) {
     let alloc = rt.alloc();
-    let nla = kept(&rt, alloc, 68, &[0x20, 0]);
+    let nla = kept(alloc, 68, &[0x20, 0]).expect(&rt, "memory");
     let made = message_of(&rt, alloc, [LinkAttribute::Other(nla)]);
     let text = with_header(&rt, alloc, 0, &[6, 0, 68, 0, 0x20, 0, 0, 0]);
     is_written(&rt, alloc, &made, text.as_slice());
@@ -114,9 +116,11 @@ fn a_kept_headroom(rt: HostRuntime) {
 #[test]
 fn wireless_events(rt: HostRuntime) {
     let alloc = rt.alloc();
-    let request = WirelessEvent::AssociateRequest(got(&rt, Bytes::from_slice(alloc, &[0xaa])));
+    let request = WirelessEvent::AssociateRequest(Bytes::from_slice(alloc, &[0xaa]).expect(
+        &rt, "memory",
+    ));
     let other = [8, 0, 1, 0x8b, 0, 0, 0, 0];
-    let other = WirelessEvent::Other(got(&rt, Bytes::from_slice(alloc, &other)));
+    let other = WirelessEvent::Other(Bytes::from_slice(alloc, &other).expect(&rt, "memory"));
     let rows: [Row<'_>; 2] = [
         (
             &[13, 0, 11, 0, 0xff, 0xff, 7, 0x8c, 1, 2, 3, 4, 0xaa, 0, 0, 0],
@@ -213,7 +217,7 @@ fn what_does_not_fit(rt: HostRuntime) {
         len: 33,
     };
     for attribute in [
-        LinkAttribute::ExtMask(list(&rt, alloc, flags)),
+        LinkAttribute::ExtMask(list(alloc, flags).expect(&rt, "memory")),
         LinkAttribute::PhysPortId(id),
     ] {
         assert!(rt; !attribute.fits());
@@ -225,10 +229,10 @@ fn what_does_not_fit(rt: HostRuntime) {
 fn an_unlisted_state_is_printed_as_its_number(rt: HostRuntime) {
     let alloc = rt.alloc();
     let bytes = with_header(&rt, alloc, 0, &[5, 0, 16, 0, 7, 0, 0, 0]);
-    let read = got(&rt, LinkMessage::parse(alloc, bytes.as_slice()));
+    let read = LinkMessage::parse(alloc, bytes.as_slice()).expect(&rt, "it is read");
     let [LinkAttribute::OperState(state)] = read.attributes.as_slice() else {
         panic!(rt; "another attribute");
     };
-    let text = got(&rt, format!(in alloc; "{state}"));
+    let text = format!(in alloc; "{state}").expect(&rt, "memory");
     assert!(rt; text.as_str() == "7");
 }

@@ -1,7 +1,7 @@
 //! Messages whose records are longer when they are written than when they were read.
 
 use crate::rows::*;
-use crate::testing::{GROWTH, are, got, text_of, zeros_after};
+use expected::{GROWTH, equal, list, zeros_after};
 use link_msg::laws::law_room;
 use link_msg::*;
 use link_recs::inet::INET_DEV_CONF_SIZE;
@@ -30,20 +30,20 @@ fn message(
 ) -> Vec<u8> {
     let mut bytes = with_header(rt, alloc, 0, headers);
     for _ in 0..count {
-        got(rt, bytes.extend_from_slice(member));
+        bytes.extend_from_slice(member).expect(rt, "memory");
     }
-    got(rt, bytes.extend_from_slice(after));
+    bytes.extend_from_slice(after).expect(rt, "memory");
     bytes
 }
 
 /// The settings of this family.
 fn families(rt: &impl Abort, alloc: Global, family: AfSpecUnspec) -> LinkAttribute {
-    LinkAttribute::AfSpecUnspec(list(rt, alloc, [family]))
+    LinkAttribute::AfSpecUnspec(list(alloc, [family]).expect(rt, "memory"))
 }
 
 /// A message of these settings of IPv4.
 fn of_settings(rt: &impl Abort, alloc: Global, settings: AfSpecInet) -> LinkMessage {
-    let inet = AfSpecUnspec::Inet(list(rt, alloc, [settings]));
+    let inet = AfSpecUnspec::Inet(list(alloc, [settings]).expect(rt, "memory"));
     message_of(rt, alloc, [families(rt, alloc, inet)])
 }
 
@@ -52,7 +52,7 @@ fn counters(rt: &impl Abort, alloc: Global, count: usize) -> LinkAttribute {
     let mut members = Vec::new(alloc);
     for _ in 0..count {
         let stats = AfSpecInet6::Stats(Inet6Stats::default());
-        got(rt, members.push(stats));
+        members.push(stats).expect(rt, "memory");
     }
     families(rt, alloc, AfSpecUnspec::Inet6(List::new(members)))
 }
@@ -175,9 +175,11 @@ fn the_most_counters(rt: HostRuntime) {
 fn counters_and_a_name(rt: HostRuntime) {
     let alloc = rt.alloc();
     let mut short = short_counters(&rt, alloc, 206);
-    got(&rt, short.extend_from_slice(&[7, 0, 3, 0, 0x6c, 0x6f, 0]));
+    short
+        .extend_from_slice(&[7, 0, 3, 0, 0x6c, 0x6f, 0])
+        .expect(&rt, "memory");
     assert!(rt; short.len() == 16 + 839);
-    let name = LinkAttribute::IfName(text_of(&rt, alloc, "lo"));
+    let name = LinkAttribute::IfName(Text::from_str(alloc, "lo").expect(&rt, "memory"));
     let wanted = message_of(&rt, alloc, [counters(&rt, alloc, 206), name]);
     let member: [u8; COUNTERS] = zeros_after(&[60, 1, 3, 0]);
     let headers = [0x50, 0xfe, 26, 0, 0x4c, 0xfe, 10, 0];
@@ -215,7 +217,7 @@ fn counters_in_a_long_buffer(rt: HostRuntime) {
     assert!(rt; fit.len() == 852);
     law_room(fit.as_slice());
     assert!(rt; canonical_into(fit.as_slice(), &mut out) == Ok(65436));
-    are(&rt, &out[16..24], &[0x8c, 0xff, 26, 0, 0x88, 0xff, 10, 0]);
+    assert!(rt; equal(&out[16..24], &[0x8c, 0xff, 26, 0, 0x88, 0xff, 10, 0]));
     are_all(&rt, &out[65436..], 255);
 }
 

@@ -1,7 +1,7 @@
 //! Numbers round those that are read at one size of payload alone, at each place, with each flag and ten sizes.
 
 use crate::rows::*;
-use crate::testing::*;
+use expected::{kept, rewrites, writes};
 use link_msg::numbers::{IFLA_HEADROOM, IFLA_NETNS_IMMUTABLE, IFLA_TAILROOM};
 use link_msg::*;
 use std::alloc::Global;
@@ -34,14 +34,15 @@ const PAYLOAD: [u8; 9] = [0x20, 1, 2, 3, 4, 5, 6, 7, 8];
 fn frame(rt: &impl Abort, alloc: Global, kind: u16, payload: &[u8]) -> Vec<u8> {
     assert!(rt; payload.len() < 10);
     let [low, high] = kind.to_le_bytes();
-    let mut bytes = got(
-        rt,
-        Vec::from_slice(alloc, &[4 + payload.len() as u8, 0, low, high]),
+    let mut bytes = Vec::from_slice(alloc, &[4 + payload.len() as u8, 0, low, high]).expect(
+        rt, "memory",
     );
-    got(rt, bytes.extend_from_slice(payload));
+    bytes.extend_from_slice(payload).expect(rt, "memory");
     let padding = [0; 3];
     let missing = (4 - payload.len() % 4) % 4;
-    got(rt, bytes.extend_from_slice(&padding[..missing]));
+    bytes
+        .extend_from_slice(&padding[..missing])
+        .expect(rt, "memory");
     bytes
 }
 
@@ -75,7 +76,7 @@ fn outcome(
             frame(rt, alloc, number, payload),
         ));
     }
-    let nla = kept(rt, alloc, kind, payload);
+    let nla = kept(alloc, kind, payload).expect(rt, "memory");
     Ok((LinkAttribute::Other(nla), frame(rt, alloc, kind, payload)))
 }
 
@@ -111,13 +112,13 @@ fn at_the_outermost_place(rt: HostRuntime) {
 /// A member of this kind and payload is kept as it is.
 fn is_kept<N: NlaRead + Drop>(rt: &impl Abort, alloc: Global, kind: u16, payload: &[u8]) {
     let bytes = frame(rt, alloc, kind, payload);
-    let values = got(rt, N::parse_list(alloc, bytes.as_slice()));
+    let values = N::parse_list(alloc, bytes.as_slice()).expect(rt, "it is read");
     assert!(rt; values.len() == 1);
     assert!(rt; values[0].kind() == kind);
     assert!(rt; values[0].fits());
     assert!(rt; values[0].value_len() == payload.len());
-    writes(rt, values.as_slice(), bytes.as_slice());
-    rewrites::<N>(rt, bytes.as_slice(), bytes.as_slice());
+    assert!(rt; writes(values.as_slice(), bytes.as_slice()));
+    assert!(rt; rewrites::<N>(bytes.as_slice(), bytes.as_slice()));
 }
 
 /// At this place none of the numbers is read.

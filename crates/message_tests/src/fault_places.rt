@@ -1,7 +1,7 @@
 //! Where faults are: the innermost frame that is refused, or the stray bytes, at each place where attributes stand.
 
 use crate::rows::with_header;
-use crate::testing::fails;
+use expected::cause_of;
 use link_msg::*;
 use std::alloc::Global;
 use std::process::Abort;
@@ -33,7 +33,7 @@ fn of_what_is_read(rt: HostRuntime) {
     ];
     for (family, attributes) in rows {
         let bytes = with_header(&rt, rt.alloc(), family, attributes);
-        fails(&rt, LinkMessage::check(bytes.as_slice()), None);
+        assert_eq!(rt; cause_of(LinkMessage::check(bytes.as_slice())), None);
         assert!(rt; LinkMessage::fault_at(bytes.as_slice()).is_none());
     }
 }

@@ -1,7 +1,6 @@
 //! The names that `link_msg` gives: a user's crate names no other.
 
-use crate::testing::are;
-use crate::testing::got;
+use expected::equal;
 use link_msg::AddressFamily;
 use link_msg::AfSpecBridge;
 use link_msg::AfSpecInet;
@@ -211,19 +210,22 @@ fn records_of_functions(_rt: HostRuntime) {
 #[test]
 fn readers_and_writers(rt: HostRuntime) {
     let mut out = [0; 8];
-    emit_u16(&mut out, got(&rt, parse_u16(&[1, 2])));
-    emit_u32(&mut out, got(&rt, parse_u32(&[1, 2, 3, 4])));
-    emit_i32(&mut out, got(&rt, parse_i32(&[1, 2, 3, 4])));
-    emit_u64(&mut out, got(&rt, parse_u64(&[1, 2, 3, 4, 5, 6, 7, 8])));
-    are(&rt, &out, &[1, 2, 3, 4, 5, 6, 7, 8]);
-    assert!(rt; got(&rt, parse_u8(&[9])) == 9);
+    emit_u16(&mut out, parse_u16(&[1, 2]).expect(&rt, "it is read"));
+    emit_u32(&mut out, parse_u32(&[1, 2, 3, 4]).expect(&rt, "it is read"));
+    emit_i32(&mut out, parse_i32(&[1, 2, 3, 4]).expect(&rt, "it is read"));
+    emit_u64(
+        &mut out,
+        parse_u64(&[1, 2, 3, 4, 5, 6, 7, 8]).expect(&rt, "it is read"),
+    );
+    assert!(rt; equal(&out, &[1, 2, 3, 4, 5, 6, 7, 8]));
+    assert!(rt; parse_u8(&[9]).expect(&rt, "it is read") == 9);
 }
 
 #[test]
 fn readers_of_texts(rt: HostRuntime) {
-    got(&rt, parse_ipv6_addr(&[1; 16]));
-    got(&rt, parse_string(rt.alloc(), b"lo\0"));
-    got(&rt, check_string(b"lo"));
+    parse_ipv6_addr(&[1; 16]).expect(&rt, "it is read");
+    parse_string(rt.alloc(), b"lo\0").expect(&rt, "it is read");
+    check_string(b"lo").expect(&rt, "it is read");
 }
 
 #[test]

@@ -1,7 +1,8 @@
 //! Messages of a million bytes, and of a quarter of a million.
 
 use crate::rows::are_all;
-use crate::testing::*;
+use crate::testing::{are_same, read_message, text_made};
+use expected::{GROWTH, cause_of, equal};
 use link_msg::laws::law_room;
 use link_msg::*;
 use std::alloc::Global;
@@ -21,9 +22,9 @@ const TWO: [u8; 48] = [
 
 /// A header of zeros and those attributes, one after the other, in so many bytes.
 fn message(rt: &impl Abort, alloc: Global, length: usize) -> Vec<u8> {
-    let mut bytes = got(rt, vec![in alloc; 0u8; 16]);
+    let mut bytes = vec![in alloc; 0u8; 16].expect(rt, "memory");
     for _ in 0..length.saturating_sub(16) / TWO.len() {
-        got(rt, bytes.extend_from_slice(&TWO));
+        bytes.extend_from_slice(&TWO).expect(rt, "memory");
     }
     assert!(rt; bytes.len() == length);
     bytes
@@ -42,20 +43,23 @@ fn is_read(rt: HostRuntime) {
     assert!(rt; read.attributes.len() == (LENGTH - 16) / TWO.len() * 2);
     assert!(rt; read.fits());
     assert!(rt; read.buffer_len() == LENGTH);
-    let mut text = got(&rt, vec![in rt.alloc(); 255u8; LENGTH]);
+    let mut text = vec![in rt.alloc(); 255u8; LENGTH].expect(&rt, "memory");
     assert!(rt; text.len() == LENGTH);
     read.emit(text.as_mut_slice());
-    are(&rt, text.as_slice(), bytes.as_slice());
+    assert!(rt; equal(text.as_slice(), bytes.as_slice()));
 }
 
 #[test]
 fn is_checked(rt: HostRuntime) {
     let mut bytes = message(&rt, rt.alloc(), LENGTH);
-    fails(&rt, LinkMessage::check(bytes.as_slice()), None);
-    got(&rt, bytes.push(0));
+    assert_eq!(rt; cause_of(LinkMessage::check(bytes.as_slice())), None);
+    bytes.push(0).expect(&rt, "memory");
     let short = Some(Cause::FrameShort { left: 1 });
-    fails(&rt, LinkMessage::check(bytes.as_slice()), short);
-    fails(&rt, LinkMessage::parse(rt.alloc(), bytes.as_slice()), short);
+    assert_eq!(rt; cause_of(LinkMessage::check(bytes.as_slice())), short);
+    assert_eq!(rt;
+        cause_of(LinkMessage::parse(rt.alloc(), bytes.as_slice())),
+        short
+    );
 }
 
 #[test]
@@ -63,7 +67,7 @@ fn has_its_text(rt: HostRuntime) {
     let bytes = message(&rt, rt.alloc(), LENGTH);
     let text = text_made(&rt, rt.alloc(), bytes.as_slice());
     assert!(rt; text.len() == LENGTH);
-    are(&rt, text.as_slice(), bytes.as_slice());
+    assert!(rt; equal(text.as_slice(), bytes.as_slice()));
 }
 
 /// What was missing at the end is written.
@@ -73,11 +77,7 @@ fn gets_its_padding(rt: HostRuntime) {
     assert!(rt; bytes.len() == LENGTH);
     bytes.truncate(LENGTH - 1);
     let text = text_made(&rt, rt.alloc(), bytes.as_slice());
-    are(
-        &rt,
-        text.as_slice(),
-        message(&rt, rt.alloc(), LENGTH).as_slice(),
-    );
+    assert!(rt; equal(text.as_slice(), message(&rt, rt.alloc(), LENGTH).as_slice()));
 }
 
 #[test]
@@ -94,13 +94,13 @@ fn is_rewritten(rt: HostRuntime) {
     let bytes = message(&rt, rt.alloc(), SHORTER);
     assert!(rt; bytes.len() == SHORTER);
     let room = GROWTH * SHORTER;
-    let mut out = got(&rt, vec![in rt.alloc(); 255u8; room]);
+    let mut out = vec![in rt.alloc(); 255u8; room].expect(&rt, "memory");
     let out = out.as_mut_slice();
     assert!(rt; out.len() == room);
     law_room(bytes.as_slice());
     let len = canonical_into(bytes.as_slice(), out);
     assert!(rt; len == Ok(SHORTER));
-    begin(&rt, out, bytes.as_slice());
+    assert!(rt; out.starts_with(bytes.as_slice()));
     assert!(rt; out[SHORTER] == 255);
 }
 
@@ -109,12 +109,12 @@ fn is_rewritten(rt: HostRuntime) {
 fn is_rewritten_within(rt: HostRuntime) {
     let bytes = message(&rt, rt.alloc(), LENGTH);
     assert!(rt; canonical_len(bytes.as_slice()) == Ok(LENGTH));
-    let mut out = got(&rt, vec![in rt.alloc(); 255u8; LENGTH]);
+    let mut out = vec![in rt.alloc(); 255u8; LENGTH].expect(&rt, "memory");
     let out = out.as_mut_slice();
     assert!(rt; out.len() == LENGTH);
     let short = canonical_within(bytes.as_slice(), &mut out[1..]);
     assert_eq!(rt; short, Err(RoomError::NoRoom { wanted: LENGTH }));
     are_all(&rt, out, 255);
     assert!(rt; canonical_within(bytes.as_slice(), out) == Ok(LENGTH));
-    are(&rt, out, bytes.as_slice());
+    assert!(rt; equal(out, bytes.as_slice()));
 }

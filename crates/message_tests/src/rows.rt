@@ -2,9 +2,8 @@
 
 ghost use Rattle.std.specs.Prelude.{◌≡◌, length};
 
-use crate::testing::{
-    GROWTH, are, are_same, fails, got, is_copied, read_message, stored, text_made,
-};
+use crate::testing::{are_same, read_message, text_made};
+use expected::{GROWTH, cause_of, equal, is_copied, is_stored, list};
 use link_msg::laws::{law_exact_room, law_room};
 use link_msg::*;
 use std::alloc::Global;
@@ -12,15 +11,6 @@ use std::process::Abort;
 
 /// More bytes than a message of these tests has.
 const MOST: usize = 66000;
-
-/// A list of these values.
-pub(crate) fn list<T: Drop, const N: usize>(
-    rt: &impl Abort,
-    alloc: Global,
-    values: [T; N],
-) -> List<T> {
-    List::new(got(rt, Vec::from_array(alloc, values)))
-}
 
 /// A message of the default header and these attributes.
 pub(crate) fn message_of<const N: usize>(
@@ -30,7 +20,7 @@ pub(crate) fn message_of<const N: usize>(
 ) -> LinkMessage {
     LinkMessage {
         header: LinkHeader::default(),
-        attributes: list(rt, alloc, attributes),
+        attributes: list(alloc, attributes).expect(rt, "memory"),
     }
 }
 
@@ -42,8 +32,8 @@ pub(crate) fn with_header(
     attributes: &[u8],
 ) -> Vec<u8> {
     let header = [family, 0, 0, 0, 0, 0, 0, 0, 0, 0, 0, 0, 0, 0, 0, 0];
-    let mut bytes = got(rt, Vec::from_slice(alloc, &header));
-    got(rt, bytes.extend_from_slice(attributes));
+    let mut bytes = Vec::from_slice(alloc, &header).expect(rt, "memory");
+    bytes.extend_from_slice(attributes).expect(rt, "memory");
     bytes
 }
 
@@ -56,8 +46,8 @@ pub(crate) fn are_all(rt: &impl Abort, bytes: &[u8], wanted: u8) {
 
 /// Bytes mean this message, when they are checked and when they are read.
 pub(crate) fn is_read(rt: &impl Abort, alloc: Global, bytes: &[u8], wanted: &LinkMessage) {
-    fails(rt, LinkMessage::check(bytes), None);
-    is_copied(rt, alloc, &read_message(rt, alloc, bytes), wanted);
+    assert_eq!(rt; cause_of(LinkMessage::check(bytes)), None);
+    assert!(rt; is_copied(alloc, &read_message(rt, alloc, bytes), wanted));
 }
 
 /// A message is written as this text, to the front and to the end of longer buffers, which keep their other bytes.
@@ -67,18 +57,18 @@ pub(crate) fn is_written(rt: &impl Abort, alloc: Global, message: &LinkMessage, 
     assert!(rt; message.buffer_len() == text.len());
     for byte in [0, 255] {
         let room = text.len() + 3;
-        let mut out = got(rt, vec![in alloc; byte; room]);
+        let mut out = vec![in alloc; byte; room].expect(rt, "memory");
         let out = out.as_mut_slice();
         assert!(rt; out.len() == room);
         message.emit(out);
-        are(rt, &out[..text.len()], text);
+        assert!(rt; equal(&out[..text.len()], text));
         are_all(rt, &out[text.len()..], byte);
-        let mut out = got(rt, vec![in alloc; byte; room]);
+        let mut out = vec![in alloc; byte; room].expect(rt, "memory");
         let out = out.as_mut_slice();
         assert!(rt; out.len() == room);
         assert!(rt; message.fill(out) == 3);
         are_all(rt, &out[..3], byte);
-        are(rt, &out[3..], text);
+        assert!(rt; equal(&out[3..], text));
     }
 }
 
@@ -106,7 +96,7 @@ pub(crate) fn no_message(cause: Cause) -> CanonError {
 fn room_of(rt: &impl Abort, alloc: Global, count: usize) -> Vec<u8>
     ensures { length result.items ≡ count }
 {
-    let room = got(rt, vec![in alloc; 255u8; count]);
+    let room = vec![in alloc; 255u8; count].expect(rt, "memory");
     assert!(rt; room.len() == count);
     room
 }
@@ -118,7 +108,7 @@ fn is_rewritten(rt: &impl Abort, alloc: Global, bytes: &[u8], text: &[u8]) {
     let mut out = room_of(rt, alloc, GROWTH * bytes.len());
     let out = out.as_mut_slice();
     assert!(rt; canonical_into(bytes, out) == Ok(text.len()));
-    stored(rt, text.len(), out, text);
+    assert!(rt; is_stored(text.len(), out, text));
 }
 
 /// Bytes are written again as this text into a buffer of just its length.
@@ -129,7 +119,7 @@ fn is_rewritten_exactly(rt: &impl Abort, alloc: Global, bytes: &[u8], text: &[u8
             let mut out = room_of(rt, alloc, len);
             let out = out.as_mut_slice();
             assert!(rt; canonical_into(bytes, out) == Ok(text.len()));
-            are(rt, out, text);
+            assert!(rt; equal(out, text));
         },
         Err(_) => panic!(rt; "the bytes have no canonical text"),
     }
@@ -142,7 +132,7 @@ fn is_rewritten_within(rt: &impl Abort, alloc: Global, bytes: &[u8], text: &[u8]
         let mut out = room_of(rt, alloc, text.len() + more);
         let out = out.as_mut_slice();
         assert!(rt; canonical_within(bytes, out) == Ok(text.len()));
-        stored(rt, text.len(), out, text);
+        assert!(rt; is_stored(text.len(), out, text));
     }
 }
 
@@ -163,7 +153,7 @@ fn is_too_long(rt: &impl Abort, alloc: Global, bytes: &[u8], text: &[u8]) {
 
 /// Bytes have this canonical text, made in memory and without.
 fn has_text(rt: &impl Abort, alloc: Global, bytes: &[u8], text: &[u8]) {
-    are(rt, text_made(rt, alloc, bytes).as_slice(), text);
+    assert!(rt; equal(text_made(rt, alloc, bytes).as_slice(), text));
     assert!(rt; canonical_len(bytes) == Ok(text.len()));
     is_rewritten(rt, alloc, bytes, text);
     is_rewritten_exactly(rt, alloc, bytes, text);
@@ -229,7 +219,7 @@ pub(crate) fn is_attribute_row(
             interface_family: AddressFamily::from(family),
             ..LinkHeader::default()
         },
-        attributes: list(rt, alloc, [wanted]),
+        attributes: list(alloc, [wanted]).expect(rt, "memory"),
     };
     let bytes = with_header(rt, alloc, family, attribute);
     let text = with_header(rt, alloc, family, text);
@@ -238,8 +228,8 @@ pub(crate) fn is_attribute_row(
 
 /// Bytes are no message, for this cause.
 pub(crate) fn is_refused_row(rt: &impl Abort, alloc: Global, bytes: &[u8], cause: Cause) {
-    fails(rt, LinkMessage::check(bytes), Some(cause));
-    fails(rt, LinkMessage::parse(alloc, bytes), Some(cause));
+    assert_eq!(rt; cause_of(LinkMessage::check(bytes)), Some(cause));
+    assert_eq!(rt; cause_of(LinkMessage::parse(alloc, bytes)), Some(cause));
     has_no_text(rt, alloc, bytes, no_message(cause));
 }
 

@@ -1,90 +1,17 @@
 //! Copies of messages and of their attributes: each is equal to what it was made from and to nothing else, and is
 //! written as the same text.
 
-use crate::testing::*;
+use expected::{are_copied_alike, are_told_apart, equal, kept_byte, list};
 use link_msg::*;
 use nla_wire::exact::same;
 use std::alloc::Global;
 use std::process::Abort;
-
-/// More bytes than an attribute here has.
-const MOST: usize = 400;
 
 /// More bytes than a message here has.
 const MOST_OF_MESSAGE: usize = 8000;
 
 /// The variants of `LinkAttribute`.
 const VARIANTS: usize = 68;
-
-/// A copy is equal to the value at this place, and to no other.
-fn is_that_at<N: Exact>(rt: &impl Abort, copy: &N, values: &[N], at: usize) {
-    for (place, value) in values.iter().enumerate() {
-        assert!(rt; same(copy, value) == (place == at));
-    }
-}
-
-/// A copy is equal to none of these.
-fn is_none_of<N: Exact>(rt: &impl Abort, copy: &N, others: &[N]) {
-    for other in others {
-        assert!(rt; !same(copy, other));
-    }
-}
-
-/// A copy of each value is equal to that value alone, and to none of the others.
-pub(crate) fn are_told_apart<N: Exact + CloneIn + Drop>(
-    rt: &impl Abort,
-    alloc: Global,
-    values: &[N],
-    others: &[N],
-) {
-    for (at, value) in values.iter().enumerate() {
-        let copy = got(rt, value.clone(alloc));
-        is_that_at(rt, &copy, values, at);
-        is_none_of(rt, &copy, others);
-    }
-}
-
-/// The text of an attribute, at the front of a buffer.
-fn written<N: Nla>(rt: &impl Abort, nla: &N) -> [u8; MOST] {
-    let mut text = [255; MOST];
-    assert!(rt; nla.fits());
-    assert!(rt; nla.buffer_len() <= MOST);
-    nla.emit(&mut text);
-    text
-}
-
-/// A copy of each value is written as the value is.
-fn are_written_alike<N: Nla + CloneIn + Drop>(rt: &impl Abort, alloc: Global, values: &[N]) {
-    for value in values {
-        let copy = got(rt, value.clone(alloc));
-        are(rt, &written(rt, &copy), &written(rt, value));
-    }
-}
-
-/// Attributes that are all different have copies, which are equal to them alone and written as they are.
-pub(crate) fn are_copied_alike<N: Nla + Exact + CloneIn + Drop>(
-    rt: &impl Abort,
-    alloc: Global,
-    ones: &[N],
-    others: &[N],
-) {
-    are_told_apart(rt, alloc, ones, others);
-    are_told_apart(rt, alloc, others, ones);
-    are_written_alike(rt, alloc, ones);
-    are_written_alike(rt, alloc, others);
-}
-
-/// A list of one value.
-pub(crate) fn list_of_one<N: Drop>(rt: &impl Abort, alloc: Global, value: N) -> List<N> {
-    let mut values = Vec::new(alloc);
-    got(rt, values.push(value));
-    List::new(values)
-}
-
-/// An attribute that is kept, with this payload.
-pub(crate) fn kept_byte(rt: &impl Abort, alloc: Global, n: u8) -> DefaultNla {
-    kept(rt, alloc, 99 | NLA_F_NESTED, &[n])
-}
 
 /// Attributes that hold this number of four bytes.
 fn words(n: u32) -> [LinkAttribute; 23] {
@@ -166,18 +93,18 @@ fn records(n: u8) -> [LinkAttribute; 5] {
 /// Attributes that hold this text.
 fn texts(rt: &impl Abort, alloc: Global, letters: &str) -> [LinkAttribute; 6] {
     [
-        LinkAttribute::IfName(text_of(rt, alloc, letters)),
-        LinkAttribute::Qdisc(text_of(rt, alloc, letters)),
-        LinkAttribute::IfAlias(text_of(rt, alloc, letters)),
-        LinkAttribute::PhysPortName(text_of(rt, alloc, letters)),
-        LinkAttribute::ParentDevName(text_of(rt, alloc, letters)),
-        LinkAttribute::ParentDevBusName(text_of(rt, alloc, letters)),
+        LinkAttribute::IfName(Text::from_str(alloc, letters).expect(rt, "memory")),
+        LinkAttribute::Qdisc(Text::from_str(alloc, letters).expect(rt, "memory")),
+        LinkAttribute::IfAlias(Text::from_str(alloc, letters).expect(rt, "memory")),
+        LinkAttribute::PhysPortName(Text::from_str(alloc, letters).expect(rt, "memory")),
+        LinkAttribute::ParentDevName(Text::from_str(alloc, letters).expect(rt, "memory")),
+        LinkAttribute::ParentDevBusName(Text::from_str(alloc, letters).expect(rt, "memory")),
     ]
 }
 
 /// These bytes.
 fn bytes_of(rt: &impl Abort, alloc: Global, n: u8) -> Bytes {
-    got(rt, Bytes::from_slice(alloc, &[n, 0, n]))
+    Bytes::from_slice(alloc, &[n, 0, n]).expect(rt, "memory")
 }
 
 /// Attributes that hold bytes with this one.
@@ -189,8 +116,8 @@ fn bytes(rt: &impl Abort, alloc: Global, n: u8) -> [LinkAttribute; 7] {
         LinkAttribute::PermAddress(bytes_of(rt, alloc, n)),
         LinkAttribute::AfSpecUnknown(bytes_of(rt, alloc, n)),
         LinkAttribute::Wireless(event),
-        LinkAttribute::ProtoInfoUnknown(kept_byte(rt, alloc, n)),
-        LinkAttribute::Other(kept_byte(rt, alloc, n)),
+        LinkAttribute::ProtoInfoUnknown(kept_byte(alloc, n).expect(rt, "memory")),
+        LinkAttribute::Other(kept_byte(alloc, n).expect(rt, "memory")),
     ]
 }
 
@@ -201,44 +128,48 @@ fn lists_of_numbers(rt: &impl Abort, alloc: Global, n: u8) -> [LinkAttribute; 5]
     let port = DevlinkPort::PortIndex(number);
     let flag = LinkExtentMask::Other(number);
     [
-        LinkAttribute::Xdp(list_of_one(rt, alloc, LinkXdp::Flags(number))),
-        LinkAttribute::ProtoDownReason(list_of_one(rt, alloc, reason)),
-        LinkAttribute::DevlinkPort(list_of_one(rt, alloc, port)),
-        LinkAttribute::ExtMask(list_of_one(rt, alloc, flag)),
-        LinkAttribute::DpllPin(list_of_one(rt, alloc, DpllPin::PinId(number))),
+        LinkAttribute::Xdp(list(alloc, [LinkXdp::Flags(number)]).expect(rt, "memory")),
+        LinkAttribute::ProtoDownReason(list(alloc, [reason]).expect(rt, "memory")),
+        LinkAttribute::DevlinkPort(list(alloc, [port]).expect(rt, "memory")),
+        LinkAttribute::ExtMask(list(alloc, [flag]).expect(rt, "memory")),
+        LinkAttribute::DpllPin(list(alloc, [DpllPin::PinId(number)]).expect(rt, "memory")),
     ]
 }
 
 /// Attributes that hold a list of one attribute that is kept.
 fn lists(rt: &impl Abort, alloc: Global, n: u8) -> [LinkAttribute; 7] {
-    let bridge = LinkProtoInfoBridge::Other(kept_byte(rt, alloc, n));
-    let inet6 = LinkProtoInfoInet6::Other(kept_byte(rt, alloc, n));
-    let info = LinkInfo::Other(kept_byte(rt, alloc, n));
-    let of_bridge = AfSpecBridge::Other(kept_byte(rt, alloc, n));
-    let unspec = AfSpecUnspec::Other(kept_byte(rt, alloc, n));
-    let prop = Prop::Other(kept_byte(rt, alloc, n));
-    let function = VfInfo::Other(kept_byte(rt, alloc, n));
-    let function = LinkVfInfo(list_of_one(rt, alloc, function));
+    let bridge = LinkProtoInfoBridge::Other(kept_byte(alloc, n).expect(rt, "memory"));
+    let inet6 = LinkProtoInfoInet6::Other(kept_byte(alloc, n).expect(rt, "memory"));
+    let info = LinkInfo::Other(kept_byte(alloc, n).expect(rt, "memory"));
+    let of_bridge = AfSpecBridge::Other(kept_byte(alloc, n).expect(rt, "memory"));
+    let unspec = AfSpecUnspec::Other(kept_byte(alloc, n).expect(rt, "memory"));
+    let prop = Prop::Other(kept_byte(alloc, n).expect(rt, "memory"));
+    let function = VfInfo::Other(kept_byte(alloc, n).expect(rt, "memory"));
+    let function = LinkVfInfo(list(alloc, [function]).expect(rt, "memory"));
     [
-        LinkAttribute::ProtoInfoBridge(list_of_one(rt, alloc, bridge)),
-        LinkAttribute::ProtoInfoInet6(list_of_one(rt, alloc, inet6)),
-        LinkAttribute::LinkInfo(list_of_one(rt, alloc, info)),
-        LinkAttribute::AfSpecBridge(list_of_one(rt, alloc, of_bridge)),
-        LinkAttribute::AfSpecUnspec(list_of_one(rt, alloc, unspec)),
-        LinkAttribute::PropList(list_of_one(rt, alloc, prop)),
-        LinkAttribute::VfInfoList(list_of_one(rt, alloc, function)),
+        LinkAttribute::ProtoInfoBridge(list(alloc, [bridge]).expect(rt, "memory")),
+        LinkAttribute::ProtoInfoInet6(list(alloc, [inet6]).expect(rt, "memory")),
+        LinkAttribute::LinkInfo(list(alloc, [info]).expect(rt, "memory")),
+        LinkAttribute::AfSpecBridge(list(alloc, [of_bridge]).expect(rt, "memory")),
+        LinkAttribute::AfSpecUnspec(list(alloc, [unspec]).expect(rt, "memory")),
+        LinkAttribute::PropList(list(alloc, [prop]).expect(rt, "memory")),
+        LinkAttribute::VfInfoList(list(alloc, [function]).expect(rt, "memory")),
     ]
 }
 
 /// A port of one attribute that is kept.
-pub(crate) fn port(rt: &impl Abort, alloc: Global, n: u8) -> LinkVfPort {
-    LinkVfPort(list_of_one(rt, alloc, VfPort::Other(kept_byte(rt, alloc, n))))
+fn port(rt: &impl Abort, alloc: Global, n: u8) -> LinkVfPort {
+    LinkVfPort(list(
+        alloc,
+        [VfPort::Other(kept_byte(alloc, n).expect(rt, "memory"))],
+    )
+    .expect(rt, "memory"))
 }
 
 /// Attributes that hold ports.
 fn ports(rt: &impl Abort, alloc: Global, n: u8) -> [LinkAttribute; 2] {
     [
-        LinkAttribute::VfPorts(list_of_one(rt, alloc, port(rt, alloc, n))),
+        LinkAttribute::VfPorts(list(alloc, [port(rt, alloc, n)]).expect(rt, "memory")),
         LinkAttribute::PortSelf(port(rt, alloc, n)),
     ]
 }
@@ -250,8 +181,8 @@ fn add<const N: usize>(
     all: &mut Vec<LinkAttribute>,
     values: [LinkAttribute; N],
 ) {
-    let mut more = got(rt, Vec::from_array(alloc, values));
-    got(rt, all.append(&mut more));
+    let mut more = Vec::from_array(alloc, values).expect(rt, "memory");
+    all.append(&mut more).expect(rt, "memory");
 }
 
 /// An attribute of each variant, with this payload.
@@ -273,7 +204,7 @@ fn every_variant(rt: &impl Abort, alloc: Global, n: u8, letters: &str) -> Vec<Li
 fn two_of_each(rt: &impl Abort, alloc: Global) -> Vec<LinkAttribute> {
     let mut all = every_variant(rt, alloc, 1, "lo");
     let mut more = every_variant(rt, alloc, 2, "l\0");
-    got(rt, all.append(&mut more));
+    all.append(&mut more).expect(rt, "memory");
     all
 }
 
@@ -282,7 +213,7 @@ fn attributes(rt: HostRuntime) {
     let alloc = rt.alloc();
     let ones = every_variant(&rt, alloc, 1, "lo");
     let others = every_variant(&rt, alloc, 2, "l\0");
-    are_copied_alike(&rt, alloc, ones.as_slice(), others.as_slice());
+    assert!(rt; are_copied_alike(alloc, ones.as_slice(), others.as_slice()));
 }
 
 /// A message of these attributes, and a header with this index.
@@ -305,7 +236,7 @@ fn messages(rt: HostRuntime) {
         message(1, every_variant(&rt, alloc, 1, "lo")),
         message(1, Vec::new(alloc)),
     ];
-    are_told_apart(&rt, alloc, &values, &[]);
+    assert!(rt; are_told_apart(alloc, &values, &[]));
 }
 
 /// The text of a message, at the front of a buffer.
@@ -320,10 +251,6 @@ fn message_written(rt: &impl Abort, message: &LinkMessage) -> [u8; MOST_OF_MESSA
 #[test]
 fn texts_of_messages(rt: HostRuntime) {
     let value = message(1, two_of_each(&rt, rt.alloc()));
-    let copy = got(&rt, value.clone(rt.alloc()));
-    are(
-        &rt,
-        &message_written(&rt, &copy),
-        &message_written(&rt, &value),
-    );
+    let copy = value.clone(rt.alloc()).expect(&rt, "memory");
+    assert!(rt; equal(&message_written(&rt, &copy), &message_written(&rt, &value)));
 }

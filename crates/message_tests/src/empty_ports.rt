@@ -1,7 +1,7 @@
 //! Empty lists of ports, which are read and not written.
 
 use crate::rows::*;
-use crate::testing::{GROWTH, got, text_of};
+use expected::{GROWTH, list};
 use link_msg::laws::law_room;
 use link_msg::*;
 use std::alloc::Global;
@@ -17,7 +17,11 @@ const NO_PORTS: [u8; 24] = [
 fn no_ports(rt: HostRuntime) {
     let alloc = rt.alloc();
     let text = with_header(&rt, alloc, 0, &[4, 0, 24, 0]);
-    let made = message_of(&rt, alloc, [LinkAttribute::VfPorts(list(&rt, alloc, []))]);
+    let made = message_of(
+        &rt,
+        alloc,
+        [LinkAttribute::VfPorts(list(alloc, []).expect(&rt, "memory"))],
+    );
     is_portless_row(&rt, alloc, &NO_PORTS, &made, text.as_slice());
     is_refused_row(&rt, alloc, text.as_slice(), Cause::EmptyList);
 }
@@ -34,9 +38,11 @@ fn in_a_long_buffer(rt: HostRuntime) {
 
 /// These bytes, and an alias that gets no room for its NUL.
 fn with_alias(rt: &impl Abort, alloc: Global, front: &[u8]) -> Vec<u8> {
-    let mut bytes = got(rt, Vec::from_slice(alloc, front));
-    got(rt, bytes.extend_from_slice(&[0xff, 0xff, 20, 0]));
-    got(rt, bytes.extend_from_slice(&[0x61; 65531]));
+    let mut bytes = Vec::from_slice(alloc, front).expect(rt, "memory");
+    bytes
+        .extend_from_slice(&[0xff, 0xff, 20, 0])
+        .expect(rt, "memory");
+    bytes.extend_from_slice(&[0x61; 65531]).expect(rt, "memory");
     bytes
 }
 
@@ -45,8 +51,12 @@ fn with_alias(rt: &impl Abort, alloc: Global, front: &[u8]) -> Vec<u8> {
 fn what_does_not_fit_comes_first(rt: HostRuntime) {
     let alloc = rt.alloc();
     let unfit = with_alias(&rt, alloc, &NO_PORTS);
-    let alias = text_of(&rt, alloc, got(&rt, std::str::from_utf8(&[0x61; 65531])));
-    let ports = LinkAttribute::VfPorts(list(&rt, alloc, []));
+    let alias = Text::from_str(
+        alloc,
+        std::str::from_utf8(&[0x61; 65531]).expect(&rt, "memory"),
+    )
+    .expect(&rt, "memory");
+    let ports = LinkAttribute::VfPorts(list(alloc, []).expect(&rt, "memory"));
     let wanted = message_of(&rt, alloc, [ports, LinkAttribute::IfAlias(alias)]);
     is_unfit_row(&rt, alloc, unfit.as_slice(), &wanted);
 }

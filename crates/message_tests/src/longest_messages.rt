@@ -1,7 +1,7 @@
 //! Messages whose one attribute is as long as fits, or longer by one byte.
 
 use crate::rows::*;
-use crate::testing::{got, kept, text_of};
+use expected::{kept, list};
 use link_msg::*;
 use std::alloc::Global;
 use std::process::Abort;
@@ -20,15 +20,21 @@ fn bytes_of(
 ) -> Vec<u8> {
     assert!(rt; letters <= 65531);
     let mut bytes = with_header(rt, alloc, 0, headers);
-    got(rt, bytes.extend_from_slice(&LETTERS[..letters]));
-    got(rt, bytes.extend_from_slice(after));
+    bytes
+        .extend_from_slice(&LETTERS[..letters])
+        .expect(rt, "memory");
+    bytes.extend_from_slice(after).expect(rt, "memory");
     bytes
 }
 
 /// A text of so many letters.
 fn letters(rt: &impl Abort, alloc: Global, count: usize) -> Text {
     assert!(rt; count <= 65531);
-    text_of(rt, alloc, got(rt, from_utf8(&LETTERS[..count])))
+    Text::from_str(
+        alloc,
+        from_utf8(&LETTERS[..count]).expect(rt, "it is written"),
+    )
+    .expect(rt, "memory")
 }
 
 /// The attribute of so many letters, an alias or else a name.
@@ -63,7 +69,7 @@ fn renamed(rt: &impl Abort, alloc: Global, count: usize) -> LinkMessage {
     message_of(
         rt,
         alloc,
-        [LinkAttribute::PropList(list(rt, alloc, [name]))],
+        [LinkAttribute::PropList(list(alloc, [name]).expect(rt, "memory"))],
     )
 }
 
@@ -84,7 +90,7 @@ fn names_in_a_list(rt: HostRuntime) {
 #[test]
 fn bytes_that_are_kept(rt: HostRuntime) {
     let alloc = rt.alloc();
-    let nla = LinkAttribute::Other(kept(&rt, alloc, 42, &LETTERS));
+    let nla = LinkAttribute::Other(kept(alloc, 42, &LETTERS).expect(&rt, "memory"));
     let bytes = bytes_of(&rt, alloc, &[0xff, 0xff, 42, 0], 65531, &[]);
     let text = bytes_of(&rt, alloc, &[0xff, 0xff, 42, 0], 65531, &[0]);
     assert!(rt; text.len() == 16 + 65536);
@@ -95,7 +101,7 @@ fn bytes_that_are_kept(rt: HostRuntime) {
 /// A message of a request to associate, with so many letters.
 fn asked(rt: &impl Abort, alloc: Global, count: usize) -> LinkMessage {
     assert!(rt; count <= 65531);
-    let request = got(rt, Bytes::from_slice(alloc, &LETTERS[..count]));
+    let request = Bytes::from_slice(alloc, &LETTERS[..count]).expect(rt, "memory");
     let event = WirelessEvent::AssociateRequest(request);
     message_of(rt, alloc, [LinkAttribute::Wireless(event)])
 }

@@ -1,6 +1,6 @@
 //! Attributes, and lists of them, under the family of a header, with no message round them.
 
-use crate::testing::{are, got, stored};
+use expected::{equal, is_stored};
 use link_msg::*;
 use nla_wire::{nlas_measure, nlas_write};
 
@@ -20,7 +20,7 @@ const BRIDGE: [u8; 12] = [12, 0, 26, 0, 8, 0, 2, 0, 1, 0, 2, 0];
 
 #[test]
 fn one_is_written(rt: HostRuntime) {
-    let frame = got(&rt, NlaBuffer::new_checked(&LIST[..6]));
+    let frame = NlaBuffer::new_checked(&LIST[..6]).expect(&rt, "it is read");
     let family = AddressFamily::Unspec;
     let Ok(name) = LinkAttribute::parse_with_param(rt.alloc(), &frame, family) else {
         panic!(rt; "there is no attribute");
@@ -29,10 +29,10 @@ fn one_is_written(rt: HostRuntime) {
     assert!(rt; name.measure() == Some(3));
     let mut out = [255; 9];
     let len = name.write(&mut out);
-    stored(&rt, len, &out, &TEXT[..8]);
+    assert!(rt; is_stored(len, &out, &TEXT[..8]));
     let mut out = [255; 9];
     assert!(rt; LinkAttribute::canon_with_param(&frame, family, &mut out) == Some(8));
-    stored(&rt, 8, &out, &TEXT[..8]);
+    assert!(rt; is_stored(8, &out, &TEXT[..8]));
 }
 
 #[test]
@@ -45,16 +45,16 @@ fn lists_are_written(rt: HostRuntime) {
     assert!(rt; nlas_measure(values.as_slice()) == Some(24));
     let mut out = [255; 25];
     let len = nlas_write(values.as_slice(), &mut out);
-    stored(&rt, len, &out, &TEXT);
+    assert!(rt; is_stored(len, &out, &TEXT));
     let mut out = [255; 25];
     assert!(rt; LinkAttribute::canon_list_with_param(&LIST, family, &mut out) == Some(24));
-    stored(&rt, 24, &out, &TEXT);
+    assert!(rt; is_stored(24, &out, &TEXT));
 }
 
 /// What the family of the header refuses is not written, and changes no byte.
 #[test]
 fn families_refuse(rt: HostRuntime) {
-    let frame = got(&rt, NlaBuffer::new_checked(&BRIDGE));
+    let frame = NlaBuffer::new_checked(&BRIDGE).expect(&rt, "it is read");
     let (bridge, none) = (AddressFamily::Bridge, AddressFamily::Unspec);
     let cause = Cause::FrameUnder { length: 1 };
     assert!(rt; LinkAttribute::check_with_param(&frame, bridge).is_ok());
@@ -65,7 +65,7 @@ fn families_refuse(rt: HostRuntime) {
     assert_eq!(rt; error.cause, cause);
     let mut out = [255; 12];
     assert!(rt; LinkAttribute::canon_with_param(&frame, none, &mut out).is_none());
-    are(&rt, &out, &[255; 12]);
+    assert!(rt; equal(&out, &[255; 12]));
 }
 
 #[test]
@@ -77,5 +77,5 @@ fn lists_that_are_refused(rt: HostRuntime) {
     assert_eq!(rt; error.cause, Cause::FrameUnder { length: 1 });
     let mut out = [255; 12];
     assert!(rt; LinkAttribute::canon_list_with_param(&BRIDGE, none, &mut out).is_none());
-    are(&rt, &out, &[255; 12]);
+    assert!(rt; equal(&out, &[255; 12]));
 }

@@ -1,7 +1,7 @@
 //! Which bytes mean the same message.
 
 use crate::rows::{is_refused_so, no_message, with_header};
-use crate::testing::*;
+use crate::testing::are_same;
 use link_msg::*;
 
 /// A header of zeros and a name without its NUL and padding.
@@ -83,7 +83,7 @@ fn refusals_for_want_of_room_are_printed(rt: HostRuntime) {
             "an empty list of ports",
         ),
     ] {
-        let text = got(&rt, format!(in rt.alloc(); "{refusal}"));
+        let text = format!(in rt.alloc(); "{refusal}").expect(&rt, "memory");
         assert_eq!(rt; text.as_str(), wanted);
     }
 }

@@ -1,7 +1,7 @@
 //! Messages of one attribute that is a list: the value that is read, and its text.
 
 use crate::rows::*;
-use crate::testing::{are, got, kept, text_of};
+use expected::{equal, kept, list};
 use link_msg::*;
 use std::alloc::Global;
 use std::process::Abort;
@@ -16,25 +16,25 @@ fn empty_lists(rt: HostRuntime) {
         (
             0,
             &[4, 0, 22, 0],
-            LinkAttribute::VfInfoList(list(&rt, alloc, [])),
+            LinkAttribute::VfInfoList(list(alloc, []).expect(&rt, "memory")),
             &[4, 0, 22, 0],
         ),
         (
             0,
             &[12, 0, 22, 0, 8, 0, 5, 0, 0xff, 0xff, 0xff, 0xff],
-            LinkAttribute::VfInfoList(list(&rt, alloc, [])),
+            LinkAttribute::VfInfoList(list(alloc, []).expect(&rt, "memory")),
             &[4, 0, 22, 0],
         ),
         (
             0,
             &[4, 0, 26, 0],
-            LinkAttribute::AfSpecUnspec(list(&rt, alloc, [])),
+            LinkAttribute::AfSpecUnspec(list(alloc, []).expect(&rt, "memory")),
             &[4, 0, 26, 0],
         ),
         (
             0,
             &[4, 0, 52, 0],
-            LinkAttribute::PropList(list(&rt, alloc, [])),
+            LinkAttribute::PropList(list(alloc, []).expect(&rt, "memory")),
             &[4, 0, 52, 0x80],
         ),
     ];
@@ -46,16 +46,16 @@ fn empty_lists(rt: HostRuntime) {
 #[test]
 fn one_port(rt: HostRuntime) {
     let alloc = rt.alloc();
-    let member = VfPort::Other(kept(&rt, alloc, 1, &[5, 0, 0, 0]));
-    let port = LinkAttribute::PortSelf(LinkVfPort(list(&rt, alloc, [member])));
+    let member = VfPort::Other(kept(alloc, 1, &[5, 0, 0, 0]).expect(&rt, "memory"));
+    let port = LinkAttribute::PortSelf(LinkVfPort(list(alloc, [member]).expect(&rt, "memory")));
     let text = [12, 0, 25, 0, 8, 0, 1, 0, 5, 0, 0, 0];
     is_attribute_row(&rt, alloc, 0, &text, port, &text);
 }
 
 /// The list of one function with one member.
 fn function(rt: &impl Abort, alloc: Global, member: VfInfo) -> LinkAttribute {
-    let function = LinkVfInfo(list(rt, alloc, [member]));
-    LinkAttribute::VfInfoList(list(rt, alloc, [function]))
+    let function = LinkVfInfo(list(alloc, [member]).expect(rt, "memory"));
+    LinkAttribute::VfInfoList(list(alloc, [function]).expect(rt, "memory"))
 }
 
 #[test]
@@ -102,10 +102,10 @@ fn functions_with_lists(rt: HostRuntime) {
     let mut tagged_read = tagged;
     tagged_read[30] = 0x12;
     tagged_read[31] = 0x34;
-    let one = VfInfo::Stats(list(&rt, alloc, [VfStats::RxPackets(7)]));
-    let none = VfInfo::Stats(list(&rt, alloc, []));
+    let one = VfInfo::Stats(list(alloc, [VfStats::RxPackets(7)]).expect(&rt, "memory"));
+    let none = VfInfo::Stats(list(alloc, []).expect(&rt, "memory"));
     let vlan = VfVlan::Info(VfVlanInfo::new(1, 100, 0, VlanProtocol::Ieee8021Ad));
-    let vlans = VfInfo::VlanList(list(&rt, alloc, [vlan]));
+    let vlans = VfInfo::VlanList(list(alloc, [vlan]).expect(&rt, "memory"));
     let rows: [Row<'_>; 3] = [
         (0, &counted, function(&rt, alloc, one), &counted),
         (0, &uncounted, function(&rt, alloc, none), &uncounted),
@@ -119,36 +119,36 @@ fn functions_with_lists(rt: HostRuntime) {
 #[test]
 fn flat_lists(rt: HostRuntime) {
     let alloc = rt.alloc();
-    let name = Prop::AltIfName(text_of(&rt, alloc, ""));
-    let letter = Prop::AltIfName(text_of(&rt, alloc, "a"));
+    let name = Prop::AltIfName(Text::from_str(alloc, "").expect(&rt, "memory"));
+    let letter = Prop::AltIfName(Text::from_str(alloc, "a").expect(&rt, "memory"));
     let attached = LinkXdp::Attached(XdpAttached::SocketBuffer);
     let binding = AfSpecMctp::PhysBinding(MctpPhysBinding::Vendor);
-    let mctp = AfSpecUnspec::Mctp(list(&rt, alloc, [binding]));
+    let mctp = AfSpecUnspec::Mctp(list(alloc, [binding]).expect(&rt, "memory"));
     let path = [12, 0, 43, 0, 5, 0, 2, 0, 2, 0, 0, 0];
     let families = [16, 0, 26, 0, 12, 0, 45, 0, 5, 0, 2, 0, 0xff, 0, 0, 0];
     let rows: [Row<'_>; 4] = [
         (
             0,
             &[8, 0, 52, 0, 4, 0, 53, 0],
-            LinkAttribute::PropList(list(&rt, alloc, [name])),
+            LinkAttribute::PropList(list(alloc, [name]).expect(&rt, "memory")),
             &[12, 0, 52, 0x80, 5, 0, 53, 0, 0, 0, 0, 0],
         ),
         (
             0,
             &[9, 0, 52, 0, 5, 0, 53, 0, 0x61],
-            LinkAttribute::PropList(list(&rt, alloc, [letter])),
+            LinkAttribute::PropList(list(alloc, [letter]).expect(&rt, "memory")),
             &[12, 0, 52, 0x80, 6, 0, 53, 0, 0x61, 0, 0, 0],
         ),
         (
             0,
             &path,
-            LinkAttribute::Xdp(list(&rt, alloc, [attached])),
+            LinkAttribute::Xdp(list(alloc, [attached]).expect(&rt, "memory")),
             &path,
         ),
         (
             0,
             &families,
-            LinkAttribute::AfSpecUnspec(list(&rt, alloc, [mctp])),
+            LinkAttribute::AfSpecUnspec(list(alloc, [mctp]).expect(&rt, "memory")),
             &families,
         ),
     ];
@@ -161,26 +161,26 @@ fn flat_lists(rt: HostRuntime) {
 #[test]
 fn lists_by_family(rt: HostRuntime) {
     let alloc = rt.alloc();
-    let inet6 = LinkProtoInfoInet6::Other(kept(&rt, alloc, 5, &[]));
-    let bridge = LinkProtoInfoBridge::Other(kept(&rt, alloc, 1, &[]));
-    let settings = AfSpecBridge::Other(kept(&rt, alloc, 2, &[]));
+    let inet6 = LinkProtoInfoInet6::Other(kept(alloc, 5, &[]).expect(&rt, "memory"));
+    let bridge = LinkProtoInfoBridge::Other(kept(alloc, 1, &[]).expect(&rt, "memory"));
+    let settings = AfSpecBridge::Other(kept(alloc, 2, &[]).expect(&rt, "memory"));
     let rows: [Row<'_>; 3] = [
         (
             10,
             &[8, 0, 12, 0, 4, 0, 5, 0],
-            LinkAttribute::ProtoInfoInet6(list(&rt, alloc, [inet6])),
+            LinkAttribute::ProtoInfoInet6(list(alloc, [inet6]).expect(&rt, "memory")),
             &[8, 0, 12, 0x80, 4, 0, 5, 0],
         ),
         (
             7,
             &[8, 0, 12, 0, 4, 0, 1, 0],
-            LinkAttribute::ProtoInfoBridge(list(&rt, alloc, [bridge])),
+            LinkAttribute::ProtoInfoBridge(list(alloc, [bridge]).expect(&rt, "memory")),
             &[8, 0, 12, 0x80, 4, 0, 1, 0],
         ),
         (
             7,
             &[8, 0, 26, 0, 4, 0, 2, 0],
-            LinkAttribute::AfSpecBridge(list(&rt, alloc, [settings])),
+            LinkAttribute::AfSpecBridge(list(alloc, [settings]).expect(&rt, "memory")),
             &[8, 0, 26, 0, 4, 0, 2, 0],
         ),
     ];
@@ -193,8 +193,8 @@ fn lists_by_family(rt: HostRuntime) {
 #[test]
 fn bytes_by_family(rt: HostRuntime) {
     let alloc = rt.alloc();
-    let info = kept(&rt, alloc, 12, &[4, 0, 5, 0]);
-    let settings = got(&rt, Bytes::from_slice(alloc, &[0xff]));
+    let info = kept(alloc, 12, &[4, 0, 5, 0]).expect(&rt, "memory");
+    let settings = Bytes::from_slice(alloc, &[0xff]).expect(&rt, "memory");
     let rows: [Row<'_>; 2] = [
         (
             2,
@@ -226,6 +226,6 @@ fn settings_of_ipv4(rt: HostRuntime) {
     assert!(rt; conf.value_len() == 136);
     let mut value = [255; 136];
     conf.emit_value(&mut value);
-    are(&rt, &value[..4], &[1, 0, 0, 0]);
+    assert!(rt; equal(&value[..4], &[1, 0, 0, 0]));
     are_all(&rt, &value[4..], 0);
 }

@@ -1,0 +1,43 @@
+//! Bytes and buffers, and what a read is refused for.
+
+use link_recs::inet6_stats::INET6_STATS_SIZE;
+use nla_wire::{Cause, DecodeError, DefaultNla, NLA_F_NESTED, NLA_HEADER_SIZE};
+use std::alloc::{AllocError, Global};
+
+/// The bytes of buffer for each byte that is read that are room for any text: a header alone may become one of the
+/// longest record.
+pub const GROWTH: usize = (NLA_HEADER_SIZE + INET6_STATS_SIZE) / NLA_HEADER_SIZE;
+
+/// Bytes with zeros after them.
+pub fn zeros_after<const N: usize>(bytes: &[u8]) -> [u8; N] {
+    let mut text = [0; N];
+    for (place, byte) in text.iter_mut().zip(bytes) {
+        *place = *byte;
+    }
+    text
+}
+
+/// Whether the bytes are these.
+pub fn equal(bytes: &[u8], wanted: &[u8]) -> bool {
+    bytes == wanted
+}
+
+/// Whether this text was written to the front of a buffer of 255, whose other bytes are kept.
+pub fn is_stored(len: usize, out: &[u8], text: &[u8]) -> bool {
+    len == text.len() && out.starts_with(text) && out.iter().skip(len).all(|byte| *byte == 255)
+}
+
+/// What a read is refused for, or nothing.
+pub fn cause_of<T: Drop>(read: Result<T, DecodeError>) -> Option<Cause> {
+    read.err().map(|error| error.cause)
+}
+
+/// An attribute that is kept as it is.
+pub fn kept(alloc: Global, kind: u16, value: &[u8]) -> Result<DefaultNla, AllocError> {
+    Ok(DefaultNla::new(kind, Vec::from_slice(alloc, value)?))
+}
+
+/// An attribute that is kept, with this byte of payload.
+pub fn kept_byte(alloc: Global, byte: u8) -> Result<DefaultNla, AllocError> {
+    kept(alloc, 99 | NLA_F_NESTED, &[byte])
+}

@@ -1,0 +1,63 @@
+//! The shared calls of the tests say no where something does not hold.
+
+use expected::{
+    are_told_apart, equal, has_value, is_copied, is_stored, kept_byte, means, refuses, rewrites,
+    writes,
+};
+use link_vf::{VfPort, VfStats};
+use nla_wire::Cause;
+
+/// An attribute that is kept, with its padding.
+const TEXT: [u8; 8] = [5, 0, 99, 0x80, 1, 0, 0, 0];
+
+/// The same with another payload.
+const OTHER: [u8; 8] = [5, 0, 99, 0x80, 2, 0, 0, 0];
+
+#[test]
+fn bytes(rt: HostRuntime) {
+    assert!(rt; equal(&TEXT, &TEXT));
+    assert!(rt; !equal(&TEXT, &OTHER));
+    assert!(rt; !equal(&TEXT, &TEXT[..5]));
+    assert!(rt; is_stored(1, &[1, 255], &[1]));
+    for (len, out) in [(2, [1, 255]), (1, [2, 255]), (1, [1, 0])] {
+        assert!(rt; !is_stored(len, &out, &[1]));
+    }
+}
+
+#[test]
+fn refusals(rt: HostRuntime) {
+    let alloc = rt.alloc();
+    let cause = Cause::FrameUnder { length: 3 };
+    assert!(rt; refuses::<VfPort>(alloc, &[3, 0, 1, 0], cause));
+    assert!(rt; !refuses::<VfPort>(alloc, &[2, 0, 1, 0], cause));
+    assert!(rt; !refuses::<VfPort>(alloc, &TEXT, cause));
+}
+
+#[test]
+fn texts(rt: HostRuntime) {
+    let alloc = rt.alloc();
+    let value = [VfPort::Other(kept_byte(alloc, 1).expect(&rt, "memory"))];
+    assert!(rt; means(alloc, &TEXT, &value, &TEXT));
+    assert!(rt; !means(alloc, &OTHER, &value, &TEXT));
+    assert!(rt; !means(alloc, &TEXT, &value, &OTHER));
+    assert!(rt; !means::<VfPort>(alloc, &TEXT, &[], &[]));
+    assert!(rt; !writes(&value, &OTHER));
+    assert!(rt; !rewrites::<VfPort>(&TEXT, &OTHER));
+    assert!(rt; !rewrites::<VfPort>(&TEXT[..4], &[]));
+}
+
+#[test]
+fn values(rt: HostRuntime) {
+    let alloc = rt.alloc();
+    let one = kept_byte(alloc, 1).expect(&rt, "memory");
+    let twin = kept_byte(alloc, 1).expect(&rt, "memory");
+    let other = kept_byte(alloc, 2).expect(&rt, "memory");
+    assert!(rt; is_copied(alloc, &one, &twin));
+    assert!(rt; !is_copied(alloc, &one, &other));
+    assert!(rt; !are_told_apart(alloc, &[one, twin], &[]));
+    assert!(rt; are_told_apart(alloc, &[other], &[]));
+    let counter = VfStats::RxBytes(1);
+    assert!(rt; has_value(&counter, 2, &[1, 0, 0, 0, 0, 0, 0, 0]));
+    assert!(rt; !has_value(&counter, 1, &[1, 0, 0, 0, 0, 0, 0, 0]));
+    assert!(rt; !has_value(&counter, 2, &[0, 0, 0, 0, 0, 0, 0, 1]));
+}
