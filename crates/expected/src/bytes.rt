@@ -1,5 +1,7 @@
 //! Bytes and buffers, and what a read is refused for.
 
+ghost use Rattle.std.specs.Prelude.{◌≡◌, length, IfOk};
+
 use link_recs::inet6_stats::INET6_STATS_SIZE;
 use nla_wire::{Cause, DecodeError, DefaultNla, NLA_F_NESTED, NLA_HEADER_SIZE};
 use std::alloc::{AllocError, Global};
@@ -15,6 +17,13 @@ pub fn zeros_after<const N: usize>(bytes: &[u8]) -> [u8; N] {
         *place = *byte;
     }
     text
+}
+
+/// A buffer of this byte, so many times. Of its bytes no test has to know more than how many they are.
+pub fn filled(alloc: Global, byte: u8, count: usize) -> Result<Vec<u8>, AllocError>
+    ensures { IfOk result (λ v. length v.items ≡ count) }
+{
+    vec![in alloc; byte; count]
 }
 
 /// Whether the bytes are these.

@@ -101,14 +101,14 @@ impl NlaRead for VfStats {
     #[tactic(auto, unfolding(crate::specs::Tables::vf_stats_place))]
     fn check_frame(buffer: &NlaBuffer<'_>) -> Result<(), DecodeError> {
         match buffer.kind() {
-            IFLA_VF_STATS_RX_PACKETS => checked(parse_u64(buffer.value())),
-            IFLA_VF_STATS_TX_PACKETS => checked(parse_u64(buffer.value())),
-            IFLA_VF_STATS_RX_BYTES => checked(parse_u64(buffer.value())),
-            IFLA_VF_STATS_TX_BYTES => checked(parse_u64(buffer.value())),
-            IFLA_VF_STATS_BROADCAST => checked(parse_u64(buffer.value())),
-            IFLA_VF_STATS_MULTICAST => checked(parse_u64(buffer.value())),
-            IFLA_VF_STATS_RX_DROPPED => checked(parse_u64(buffer.value())),
-            IFLA_VF_STATS_TX_DROPPED => checked(parse_u64(buffer.value())),
+            IFLA_VF_STATS_RX_PACKETS
+            | IFLA_VF_STATS_TX_PACKETS
+            | IFLA_VF_STATS_RX_BYTES
+            | IFLA_VF_STATS_TX_BYTES
+            | IFLA_VF_STATS_BROADCAST
+            | IFLA_VF_STATS_MULTICAST
+            | IFLA_VF_STATS_RX_DROPPED
+            | IFLA_VF_STATS_TX_DROPPED => checked(parse_u64(buffer.value())),
             _ => Ok(()),
         }
     }
@@ -116,14 +116,14 @@ impl NlaRead for VfStats {
     #[tactic(auto, unfolding(crate::specs::Tables::vf_stats_place, nla_wire::specs::Payloads::read_number))]
     fn measure_frame(buffer: &NlaBuffer<'_>) -> Option<usize> {
         match buffer.kind() {
-            IFLA_VF_STATS_RX_PACKETS => measure_u64(buffer.value()),
-            IFLA_VF_STATS_TX_PACKETS => measure_u64(buffer.value()),
-            IFLA_VF_STATS_RX_BYTES => measure_u64(buffer.value()),
-            IFLA_VF_STATS_TX_BYTES => measure_u64(buffer.value()),
-            IFLA_VF_STATS_BROADCAST => measure_u64(buffer.value()),
-            IFLA_VF_STATS_MULTICAST => measure_u64(buffer.value()),
-            IFLA_VF_STATS_RX_DROPPED => measure_u64(buffer.value()),
-            IFLA_VF_STATS_TX_DROPPED => measure_u64(buffer.value()),
+            IFLA_VF_STATS_RX_PACKETS
+            | IFLA_VF_STATS_TX_PACKETS
+            | IFLA_VF_STATS_RX_BYTES
+            | IFLA_VF_STATS_TX_BYTES
+            | IFLA_VF_STATS_BROADCAST
+            | IFLA_VF_STATS_MULTICAST
+            | IFLA_VF_STATS_RX_DROPPED
+            | IFLA_VF_STATS_TX_DROPPED => measure_u64(buffer.value()),
             _ => Some(buffer.value().len()),
         }
     }

@@ -2,7 +2,7 @@
 
 use crate::rows::are_all;
 use crate::testing::{are_same, read_message, text_made};
-use expected::{GROWTH, cause_of, equal};
+use expected::{GROWTH, cause_of, equal, filled};
 use link_msg::laws::law_room;
 use link_msg::*;
 use std::alloc::Global;
@@ -22,7 +22,7 @@ const TWO: [u8; 48] = [
 
 /// A header of zeros and those attributes, one after the other, in so many bytes.
 fn message(rt: &impl Abort, alloc: Global, length: usize) -> Vec<u8> {
-    let mut bytes = vec![in alloc; 0u8; 16].expect(rt, "memory");
+    let mut bytes = filled(alloc, 0, 16).expect(rt, "memory");
     for _ in 0..length.saturating_sub(16) / TWO.len() {
         bytes.extend_from_slice(&TWO).expect(rt, "memory");
     }
@@ -43,7 +43,7 @@ fn is_read(rt: HostRuntime) {
     assert!(rt; read.attributes.len() == (LENGTH - 16) / TWO.len() * 2);
     assert!(rt; read.fits());
     assert!(rt; read.buffer_len() == LENGTH);
-    let mut text = vec![in rt.alloc(); 255u8; LENGTH].expect(&rt, "memory");
+    let mut text = filled(rt.alloc(), 255, LENGTH).expect(&rt, "memory");
     assert!(rt; text.len() == LENGTH);
     read.emit(text.as_mut_slice());
     assert!(rt; equal(text.as_slice(), bytes.as_slice()));
@@ -94,7 +94,7 @@ fn is_rewritten(rt: HostRuntime) {
     let bytes = message(&rt, rt.alloc(), SHORTER);
     assert!(rt; bytes.len() == SHORTER);
     let room = GROWTH * SHORTER;
-    let mut out = vec![in rt.alloc(); 255u8; room].expect(&rt, "memory");
+    let mut out = filled(rt.alloc(), 255, room).expect(&rt, "memory");
     let out = out.as_mut_slice();
     assert!(rt; out.len() == room);
     law_room(bytes.as_slice());
@@ -109,7 +109,7 @@ fn is_rewritten(rt: HostRuntime) {
 fn is_rewritten_within(rt: HostRuntime) {
     let bytes = message(&rt, rt.alloc(), LENGTH);
     assert!(rt; canonical_len(bytes.as_slice()) == Ok(LENGTH));
-    let mut out = vec![in rt.alloc(); 255u8; LENGTH].expect(&rt, "memory");
+    let mut out = filled(rt.alloc(), 255, LENGTH).expect(&rt, "memory");
     let out = out.as_mut_slice();
     assert!(rt; out.len() == LENGTH);
     let short = canonical_within(bytes.as_slice(), &mut out[1..]);

@@ -3,7 +3,7 @@
 ghost use Rattle.std.specs.Prelude.{◌≡◌, length};
 
 use crate::testing::{are_same, read_message, text_made};
-use expected::{GROWTH, cause_of, equal, is_copied, is_stored, list};
+use expected::{GROWTH, cause_of, equal, filled, is_copied, is_stored, list};
 use link_msg::laws::{law_exact_room, law_room};
 use link_msg::*;
 use std::alloc::Global;
@@ -57,13 +57,13 @@ pub(crate) fn is_written(rt: &impl Abort, alloc: Global, message: &LinkMessage, 
     assert!(rt; message.buffer_len() == text.len());
     for byte in [0, 255] {
         let room = text.len() + 3;
-        let mut out = vec![in alloc; byte; room].expect(rt, "memory");
+        let mut out = filled(alloc, byte, room).expect(rt, "memory");
         let out = out.as_mut_slice();
         assert!(rt; out.len() == room);
         message.emit(out);
         assert!(rt; equal(&out[..text.len()], text));
         are_all(rt, &out[text.len()..], byte);
-        let mut out = vec![in alloc; byte; room].expect(rt, "memory");
+        let mut out = filled(alloc, byte, room).expect(rt, "memory");
         let out = out.as_mut_slice();
         assert!(rt; out.len() == room);
         assert!(rt; message.fill(out) == 3);
@@ -96,9 +96,7 @@ pub(crate) fn no_message(cause: Cause) -> CanonError {
 fn room_of(rt: &impl Abort, alloc: Global, count: usize) -> Vec<u8>
     ensures { length result.items ≡ count }
 {
-    let room = vec![in alloc; 255u8; count].expect(rt, "memory");
-    assert!(rt; room.len() == count);
-    room
+    filled(alloc, 255, count).expect(rt, "memory")
 }
 
 /// Bytes are written again as this text, into a buffer with `GROWTH` bytes for each of theirs, which is room enough.

@@ -2,7 +2,7 @@
 
 use crate::rows::*;
 use crate::testing::read_message;
-use expected::{equal, kept, list};
+use expected::{equal, filled, kept, list};
 use link_msg::*;
 use std::alloc::Global;
 use std::process::Abort;
@@ -58,7 +58,7 @@ fn what_is_not_sent(rt: HostRuntime) {
     let empty = message_of(&rt, alloc, [ports]);
     is_refused_so(&rt, empty.to_vec(alloc), CanonError::EmptyVfPorts);
     assert!(rt; !empty.reads_back(alloc).expect(&rt, "memory"));
-    let long = Bytes::new(vec![in alloc; 0u8; 65532].expect(&rt, "memory"));
+    let long = Bytes::new(filled(alloc, 0, 65532).expect(&rt, "memory"));
     let unfit = message_of(&rt, alloc, [LinkAttribute::Address(long)]);
     is_refused_so(&rt, unfit.to_vec(alloc), CanonError::DoesNotFit);
     assert!(rt; !unfit.reads_back(alloc).expect(&rt, "memory"));

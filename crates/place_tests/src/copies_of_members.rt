@@ -1,7 +1,7 @@
 //! Copies of what stands inside of attributes: each is equal to what it was made from and to nothing else, and is
 //! written as the same text.
 
-use expected::{are_copied_alike, are_told_apart, equal, kept, kept_byte, list};
+use expected::{are_copied_alike, are_told_apart, equal, filled, kept, kept_byte, list};
 use link_afspec::*;
 use link_nest::*;
 use link_recs::*;
@@ -80,7 +80,7 @@ fn events(rt: &impl Abort, alloc: Global, bytes: &[u8]) -> [WirelessEvent; 3] {
 fn event_written(rt: &impl Abort, alloc: Global, event: &WirelessEvent) -> Vec<u8> {
     assert!(rt; event.fits());
     let len = event.buffer_len();
-    let mut text = vec![in alloc; 255u8; len].expect(rt, "memory");
+    let mut text = filled(alloc, 255, len).expect(rt, "memory");
     assert!(rt; text.len() == len);
     event.emit(text.as_mut_slice());
     text

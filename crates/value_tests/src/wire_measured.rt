@@ -4,14 +4,14 @@ ghost use Rattle.std.proofs.Common.{rules};
 ghost use Rattle.std.specs.Prelude.{◌<◌};
 ghost use Rattle.std.specs.Int.{w16, to_le_bytes};
 
-use expected::{equal, is_stored};
+use expected::{equal, filled, is_stored};
 use nla_wire::*;
 use std::alloc::Global;
 use std::process::Abort;
 
 /// An attribute of this kind that is kept as it is, of so many bytes of 97.
 fn letters(rt: &impl Abort, alloc: Global, kind: u16, count: usize) -> DefaultNla {
-    DefaultNla::new(kind, vec![in alloc; 97u8; count].expect(rt, "memory"))
+    DefaultNla::new(kind, filled(alloc, 97, count).expect(rt, "memory"))
 }
 
 /// A number below 1000, which is written as the attribute of kind 9. It says only what each value has to say.
@@ -91,7 +91,7 @@ fn writes_values(rt: HostRuntime) {
 #[test]
 fn writes_the_longest_value(rt: HostRuntime) {
     let longest = letters(&rt, rt.alloc(), 20, 65531);
-    let mut out = vec![in rt.alloc(); 255u8; 65537].expect(&rt, "memory");
+    let mut out = filled(rt.alloc(), 255, 65537).expect(&rt, "memory");
     let out = out.as_mut_slice();
     assert!(rt; out.len() == 65537);
     assert!(rt; longest.measure() == Some(65531));

@@ -1,6 +1,6 @@
 //! Values stored as attributes at the front of a buffer.
 
-use expected::{equal, is_stored};
+use expected::{equal, filled, is_stored};
 use nla_wire::*;
 use std::process::Abort;
 
@@ -90,8 +90,8 @@ fn stores_contents(rt: HostRuntime) {
 /// A value of 65531 bytes is the longest that an attribute has.
 #[test]
 fn stores_the_longest_value(rt: HostRuntime) {
-    let value = vec![in rt.alloc(); 97u8; 65531].expect(&rt, "memory");
-    let mut out = vec![in rt.alloc(); 255u8; 65537].expect(&rt, "memory");
+    let value = filled(rt.alloc(), 97, 65531).expect(&rt, "memory");
+    let mut out = filled(rt.alloc(), 255, 65537).expect(&rt, "memory");
     let out = out.as_mut_slice();
     assert!(rt; value.len() == 65531);
     assert!(rt; out.len() == 65537);

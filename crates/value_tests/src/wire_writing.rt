@@ -1,7 +1,7 @@
 //! Attributes measured and written again from payloads, with no memory.
 
 use crate::testing::fits_in;
-use expected::{equal, is_stored};
+use expected::{equal, filled, is_stored};
 use nla_wire::*;
 use std::alloc::Global;
 use std::process::Abort;
@@ -97,7 +97,7 @@ fn measures_texts(rt: HostRuntime) {
 
 /// So many letters, and so many NULs after them.
 fn letters(rt: &impl Abort, alloc: Global, count: usize, nuls: usize) -> Vec<u8> {
-    let mut bytes = vec![in alloc; 97u8; count].expect(rt, "memory");
+    let mut bytes = filled(alloc, 97, count).expect(rt, "memory");
     for _ in 0..nuls {
         bytes.push(0).expect(rt, "memory");
     }
