@@ -221,6 +221,7 @@ fn at_most_value(len: usize) -> Option<usize>
 }
 
 /// The record that an attribute is, if its number is one of a record: no memory is taken.
+#[inline(always)]
 #[tactic(auto, unfolding(crate::proofs::Opened::vf_info), using(crate::proofs::Lengths::address_lengths))]
 fn read_record(buffer: &NlaBuffer<'_>) -> Option<Result<VfInfo, DecodeError>>
     ensures reads { MatchOption result
