@@ -51,6 +51,7 @@ impl NlaRead for AfSpecBridge {
         Ok(())
     }
 
+    #[inline(always)]
     #[tactic(auto, unfolding(crate::specs::Tables::af_spec_bridge_place))]
     fn measure_frame(buffer: &NlaBuffer<'_>) -> Option<usize> {
         Some(buffer.value().len())

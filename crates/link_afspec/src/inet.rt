@@ -89,6 +89,7 @@ impl NlaRead for AfSpecInet {
         Ok(())
     }
 
+    #[inline(always)]
     #[tactic(auto, unfolding(crate::specs::Tables::af_spec_inet_place))]
     fn measure_frame(buffer: &NlaBuffer<'_>) -> Option<usize> {
         match buffer.kind() {

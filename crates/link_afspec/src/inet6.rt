@@ -163,6 +163,7 @@ impl NlaRead for AfSpecInet6 {
         }
     }
 
+    #[inline(always)]
     #[tactic(auto, unfolding(crate::proofs::Opened::inet6), using(link_vals::proofs::Numbers::in6_addr_gen_mode_again))]
     fn measure_frame(buffer: &NlaBuffer<'_>) -> Option<usize> {
         let payload = buffer.value();

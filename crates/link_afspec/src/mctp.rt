@@ -88,6 +88,7 @@ impl NlaRead for AfSpecMctp {
         }
     }
 
+    #[inline(always)]
     #[tactic(auto, unfolding(crate::proofs::Opened::mctp), using(link_vals::proofs::Numbers::mctp_phys_binding_again))]
     fn measure_frame(buffer: &NlaBuffer<'_>) -> Option<usize> {
         match buffer.kind() {

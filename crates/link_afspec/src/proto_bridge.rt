@@ -54,6 +54,7 @@ impl NlaRead for LinkProtoInfoBridge {
         Ok(())
     }
 
+    #[inline(always)]
     #[tactic(auto, unfolding(crate::specs::Tables::link_proto_info_bridge_place))]
     fn measure_frame(buffer: &NlaBuffer<'_>) -> Option<usize> {
         Some(buffer.value().len())

@@ -54,6 +54,7 @@ impl NlaRead for LinkProtoInfoInet6 {
         Ok(())
     }
 
+    #[inline(always)]
     #[tactic(auto, unfolding(crate::specs::Tables::link_proto_info_inet6_place))]
     fn measure_frame(buffer: &NlaBuffer<'_>) -> Option<usize> {
         Some(buffer.value().len())

@@ -132,6 +132,7 @@ impl NlaRead for AfSpecUnspec {
         }
     }
 
+    #[inline(always)]
     #[tactic(auto, unfolding(crate::specs::Tables::af_spec_unspec_place, nla_wire::specs::Grammar::unless_empty))]
     fn measure_frame(buffer: &NlaBuffer<'_>) -> Option<usize> {
         match buffer.kind() {

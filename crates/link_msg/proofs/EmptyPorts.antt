@@ -1,13 +1,13 @@
--- What the walk that measures tells beside the length: empty lists of ports, by the length of their text, and the run
--- in front.
-use Rattle.std.proofs.Common.{◌≡◌, ◌≢◌, ℕ, ◌+◌, ◌^◌, ◌<◌, List, [], ◌∷◌, ◌++◌, length, refl, sym, ap, ◌∙◌, arith}
+-- What the walk that measures tells beside the length: empty lists of ports, by the length of their text. What stands
+-- after the run in front is measured, and the run counts as long as it is.
+use Rattle.std.proofs.Common.{◌≡◌, ◌≢◌, ℕ, ◌+◌, ◌^◌, ◌<◌, List, [], ◌∷◌, ◌++◌, length, drop, refl, sym, ap, ◌∙◌, arith}
 use Rattle.std.proofs.Common.{Result, Ok, Err, Some, None, Bool, true, false, MatchBool, length-append, append-nil}
 use Rattle.std.proofs.Common.{flat_map, subst}
 use Rattle.std.specs.List.{AllByRecursion}
 use Rattle.nla_wire.specs.Frames.{Frame, number, missing, IsBytes, IsFrame}
 use Rattle.nla_wire.specs.Reading.{list_of, with_front, ◌>>=◌}
 use Rattle.nla_wire.specs.Items.{Item, items, read_items}
-use Rattle.nla_wire.specs.Grammar.{as_a, not_empty}
+use Rattle.nla_wire.specs.Grammar.{as_a, not_empty, list}
 use Rattle.nla_wire.specs.Canon.{canon, canons, Weighs}
 use Rattle.nla_wire.specs.declared.error.Cause.{Cause}
 use Rattle.nla_wire.proofs.Bounds.{length-canon}
@@ -19,9 +19,9 @@ use Rattle.link_vf.specs.declared.port_list.LinkVfPort.{LinkVfPort}
 use Rattle.link_msg.specs.Tables.{attribute_frame, AttributeFits, attribute_view, attribute_entries, NotEmptyPorts}
 use Rattle.link_msg.specs.Tables.{attribute_place, attribute_lawful, attribute_number}
 use Rattle.link_msg.specs.declared.numbers.TheConstants.{IFLA_VF_PORTS}
-use Rattle.link_msg.specs.Runs.{RunsOn, FrameMeasures, attribute_text}
+use Rattle.link_msg.specs.Runs.{IsOwnText, CanBeWritten, IsCopiedRun, attribute_text}
 use Rattle.link_msg.specs.Canonical.{ListWeighs, ListMeasures}
-use Rattle.link_msg.proofs.Runs.{Running, running_starts, running_next, running_ends}
+use Rattle.link_msg.proofs.Runs.{whole_from, run_sizes, all_after, all_both}
 use Rattle.link_msg.specs.declared.attribute.LinkAttribute.{LinkAttribute}
 use Rattle.link_msg.specs.declared.attribute.LinkAttribute.TheVariants as Attributes
 
@@ -82,7 +82,7 @@ pub record Telling (family : AddressFamily) (whole : Result (List LinkAttribute)
   pub ports : MatchBool empty (AllByRecursion NotEmptyPorts weighing.front → ⊥)
       (AllByRecursion NotEmptyPorts weighing.front)
 
-telling_starts : (family : AddressFamily) (b : List ℕ) (left : List Item) → left ≡ items b
+pub telling_starts : (family : AddressFamily) (b : List ℕ) (left : List Item) → left ≡ items b
     → Telling family (list_of (attribute_place family).reads b) left 0 false
 telling_starts family b left left_is = record {
   weighing = record {
@@ -149,7 +149,7 @@ pub list_weighs_none : (r : Result (List LinkAttribute) Cause) → Weighs (flat_
 list_weighs_none (Ok vs) w = w
 list_weighs_none (Err c) w = tt
 
-telling_ends : (family : AddressFamily) (whole : Result (List LinkAttribute) Cause) (left : List Item) (len : ℕ)
+pub telling_ends : (family : AddressFamily) (whole : Result (List LinkAttribute) Cause) (left : List Item) (len : ℕ)
     (empty : Bool) → Telling family whole left len empty
     → left ≡ [] → ListWeighs whole (Some (len, empty))
 telling_ends family whole left len empty h left_is =
@@ -161,76 +161,129 @@ telling_ends family whole left len empty h left_is =
     subst (λ r. ListWeighs r (Some (len, empty))) all_is
     ((w.fit, omega (arith, w.len_is, w.counted)), w.len_is, h.ports)
 
--- ** the run in front, told by the same walk
-
-pub record Measuring (family : AddressFamily) (b : List ℕ) (left : List Item) (len : ℕ) (empty : Bool)
-    (run : ℕ) : Type 0 where
-  pub telling : Telling family (list_of (attribute_place family).reads b) left len empty
-  pub running : Running (attribute_place family).reads attribute_text b left telling.weighing.front len run
-
-pub measuring_starts : (family : AddressFamily) (b : List ℕ) (left : List Item) → left ≡ items b
-    → Measuring family b left 0 false 0
-unfolding telling_starts
-measuring_starts family b left left_is = record {
-  telling = telling_starts family b left left_is;
-  running = running_starts (attribute_place family).reads attribute_text b left left_is;
-}
+-- ** one more attribute
 
 weighed : (r : Result LinkAttribute Cause) (n : ℕ) → Weighs (λ v. (attribute_frame v).payload) AttributeFits r (Some n)
     → (v : LinkAttribute) × (r ≡ Ok v) × AttributeFits v × (n ≡ length (attribute_frame v).payload)
 weighed (Ok v) n w = (v, refl, w.0, w.1)
 weighed (Err c) n w = absurd w
 
-module _ (family : AddressFamily) (b : List ℕ) (bytes : IsBytes b) (left : List Item) (len : ℕ) (empty : Bool) (run : ℕ)
-    (h : Measuring family b left len empty run)
-    (f : Frame) (rest : List Item) (left_is : left ≡ Ok f ∷ rest) (one : IsFrame f)
-    (value : ℕ) (spelled : Bool) (w : FrameMeasures family f (Some (value, spelled)))
+module _ (family : AddressFamily) (whole : Result (List LinkAttribute) Cause) (left : List Item) (len : ℕ)
+    (empty : Bool) (h : Telling family whole left len empty)
+    (f : Frame) (rest : List Item) (left_is : left ≡ Ok f ∷ rest) (one : IsFrame f) (value : ℕ)
+    (w : Weighs (λ v. (attribute_frame v).payload) AttributeFits ((attribute_place family).reads f) (Some value))
     (padded new : ℕ) (padded_is : padded ≡ 4 + value + missing value) (new_is : new ≡ len + padded)
-    (small : new < 2 ^ 64)
-    (frame_len after : ℕ) (frame_is : frame_len ≡ 4 + length f.payload)
-    (after_is : RunsOn b run len spelled frame_len new after) where
+    (small : new < 2 ^ 64) where
   read_one : (v : LinkAttribute) × ((attribute_place family).reads f ≡ Ok v) × AttributeFits v
       × (value ≡ length (attribute_frame v).payload)
-  read_one = weighed ((attribute_place family).reads f) value w.0
+  read_one = weighed ((attribute_place family).reads f) value w
 
   counted : new ≡ len + length (canon (attribute_frame read_one.0))
   counted =
       omega (arith, new_is, padded_is, read_one.3, ap missing read_one.3, length-canon (attribute_frame read_one.0))
 
-  running : Running (attribute_place family).reads attribute_text b rest (h.telling.weighing.front ++ read_one.0 ∷ [])
-      new after
-  running =
-      running_next (attribute_place family).reads attribute_text b left h.telling.weighing.front len run h.running
-      f rest left_is read_one.0 read_one.1 new bytes spelled frame_len after (λ told. w.1 told read_one.0 read_one.1)
-      frame_is counted (omega (arith, new_is, padded_is)) after_is
+  pub telling_none : (number f ≡ IFLA_VF_PORTS) × (value ≡ 0) → Telling family whole rest new true
+  telling_none none =
+      telling_on family whole left len empty h f rest left_is read_one.0 read_one.1 read_one.2 new counted small true
+      (ports_none family whole left len empty h f rest left_is read_one.0 read_one.1 value read_one.3 none)
 
-  pub measuring_none : (number f ≡ IFLA_VF_PORTS) × (value ≡ 0) → Measuring family b rest new true after
-  unfolding telling_on
-  measuring_none none =
-      let whole = list_of (attribute_place family).reads b in record {
-        telling = telling_on family whole left len empty h.telling f rest left_is read_one.0 read_one.1 read_one.2 new
-            counted small true
-            (ports_none family whole left len empty h.telling f rest left_is read_one.0 read_one.1 value
-            read_one.3 none);
-        running = running;
-      }
+  pub telling_some : ((number f ≡ IFLA_VF_PORTS) × (value ≡ 0) → ⊥) → Telling family whole rest new empty
+  telling_some never =
+      telling_on family whole left len empty h f rest left_is read_one.0 read_one.1 read_one.2 new counted small empty
+      (ports_more family whole left len empty h f rest left_is read_one.0 read_one.1 value read_one.3 one never)
 
-  pub measuring_some : ((number f ≡ IFLA_VF_PORTS) × (value ≡ 0) → ⊥) → Measuring family b rest new empty after
-  unfolding telling_on
-  measuring_some never =
-      let whole = list_of (attribute_place family).reads b in record {
-        telling = telling_on family whole left len empty h.telling f rest left_is read_one.0 read_one.1 read_one.2 new
-            counted small empty
-            (ports_more family whole left len empty h.telling f rest left_is read_one.0 read_one.1 value read_one.3 one
-            never);
-        running = running;
-      }
+-- ** a frame that is its own text
 
-pub measuring_ends : (family : AddressFamily) (b : List ℕ) (left : List Item) (len : ℕ) (empty : Bool) (run : ℕ)
-    → Measuring family b left len empty run → left ≡ [] → ListMeasures family b (Some (len, empty, run))
-measuring_ends family b left len empty run h left_is =
-    let read = (attribute_place family).reads in (
-      telling_ends family (list_of read b) left len empty h.telling left_is,
-      running_ends read attribute_text b left h.telling.weighing.front len run h.running left_is
-          h.telling.weighing.so_far,
+-- what is known of the value of a frame that is not an empty list of ports, and is as long as its text
+pub own_text : (family : AddressFamily) (f : Frame) → IsFrame f
+    → Weighs (λ v. (attribute_frame v).payload) AttributeFits ((attribute_place family).reads f)
+    (Some (length f.payload))
+    → ((v : LinkAttribute) → (attribute_place family).reads f ≡ Ok v → attribute_text v ≡ canon f)
+    → ((number f ≡ IFLA_VF_PORTS) × (length f.payload ≡ 0) → ⊥) → IsOwnText family f
+own_text family f one w same never =
+    let k = weighed ((attribute_place family).reads f) (length f.payload) w in
+    let means = (attribute_lawful family).agrees.found f k.0 one k.1 in
+    let number_is : number (attribute_frame k.0) ≡ number f = attribute_number family f k.0 means in
+    (k.0, k.1, (k.2, some_ports k.0 (λ n. never (sym number_is ∙ n.0, k.3 ∙ n.1))), same k.0 k.1)
+
+-- ** the run, and what stands after it
+
+fits_all : (vs : List LinkAttribute) → AllByRecursion CanBeWritten vs → AllByRecursion AttributeFits vs
+fits_all [] all = tt
+fits_all (v ∷ vs) all = (all.0.0, fits_all vs all.1)
+
+ports_all : (vs : List LinkAttribute) → AllByRecursion CanBeWritten vs → AllByRecursion NotEmptyPorts vs
+ports_all [] all = tt
+ports_all (v ∷ vs) all = (all.0.1, ports_all vs all.1)
+
+module _ (family : AddressFamily) (b : List ℕ) (run : ℕ) (h : IsCopiedRun family b run) where
+  abbrev reads_rest : Result (List LinkAttribute) Cause
+  reads_rest = list_of (attribute_place family).reads (drop run b)
+
+  abbrev reads_all : Result (List LinkAttribute) Cause
+  reads_all = list_of (attribute_place family).reads b
+
+  whole : (r : Result (List LinkAttribute) Cause) → reads_rest ≡ r → reads_all ≡ with_front h.0.front r
+  whole = whole_from (attribute_place family).reads attribute_text b run h.0
+
+  sizes : (others : List LinkAttribute) → length (canons attribute_frame (h.0.front ++ others))
+      ≡ run + length (canons attribute_frame others)
+  sizes = run_sizes (attribute_place family).reads attribute_text b run h.0
+
+  ports_both : (others : List LinkAttribute) (empty : Bool)
+      → MatchBool empty (AllByRecursion NotEmptyPorts others → ⊥) (AllByRecursion NotEmptyPorts others)
+      → MatchBool empty (AllByRecursion NotEmptyPorts (h.0.front ++ others) → ⊥)
+      (AllByRecursion NotEmptyPorts (h.0.front ++ others))
+  ports_both others true never = λ all. never (all_after NotEmptyPorts h.0.front others all)
+  ports_both others false all = all_both NotEmptyPorts h.0.front others (ports_all h.0.front h.1) all
+
+  some_by : (r : Result (List LinkAttribute) Cause) → reads_rest ≡ r → (after : ℕ) (empty : Bool)
+      → ListWeighs r (Some (after, empty)) → run + after < 2 ^ 64
+      → ListWeighs reads_all (Some (run + after, empty))
+  some_by (Ok others) e after empty w small =
+      let size = sizes others in
+      subst (λ r. ListWeighs r (Some (run + after, empty))) (sym (whole (Ok others) e)) (
+        (
+          all_both AttributeFits h.0.front others (fits_all h.0.front h.1) w.0.0,
+          omega (arith, size, w.1, small),
+        ),
+        omega (arith, size, w.1),
+        ports_both others empty w.2,
+      )
+  some_by (Err c) e after empty w small = absurd w
+
+  none_by : (r : Result (List LinkAttribute) Cause) → reads_rest ≡ r → ListWeighs r None → ListWeighs reads_all None
+  none_by (Ok others) e unfit =
+      subst (λ r. ListWeighs r None) (sym (whole (Ok others) e))
+      (λ fits. unfit (all_after AttributeFits h.0.front others fits.0, omega (arith, fits.1, sizes others)))
+  none_by (Err c) e unfit = subst (λ r. ListWeighs r None) (sym (whole (Err c) e)) tt
+
+  long_by : (r : Result (List LinkAttribute) Cause) → reads_rest ≡ r → (after : ℕ) (empty : Bool)
+      → ListWeighs r (Some (after, empty)) → (run + after < 2 ^ 64 → ⊥) → ListWeighs reads_all None
+  long_by (Ok others) e after empty w long =
+      subst (λ r. ListWeighs r None) (sym (whole (Ok others) e))
+      (λ fits. long (omega (arith, fits.1, sizes others, w.1)))
+  long_by (Err c) e after empty w long = absurd w
+
+  module _ (rest : List ℕ) (rest_is : rest ≡ drop run b) where
+    rest_reads : reads_rest ≡ list_of (attribute_place family).reads rest
+    rest_reads = ap (list_of (attribute_place family).reads) (sym rest_is)
+
+    pub run_some : (after : ℕ) (empty : Bool)
+        → ListWeighs ((list (attribute_place family)).reads rest) (Some (after, empty)) → (total : ℕ)
+        → total ≡ run + after → total < 2 ^ 64 → ListMeasures family b (Some (total, empty, run))
+    run_some after empty w total total_is small = (
+      subst (λ n. ListWeighs reads_all (Some (n, empty))) (sym total_is)
+          (some_by (list_of (attribute_place family).reads rest) rest_reads after empty w
+          (omega (arith, total_is, small))),
+      h.0,
     )
+
+    pub run_none : ListWeighs ((list (attribute_place family)).reads rest) None → ListMeasures family b None
+    run_none w = none_by (list_of (attribute_place family).reads rest) rest_reads w
+
+    pub run_long : (after : ℕ) (empty : Bool)
+        → ListWeighs ((list (attribute_place family)).reads rest) (Some (after, empty))
+        → (run + after < 2 ^ 64 → ⊥) → ListMeasures family b None
+    run_long after empty w long =
+        long_by (list_of (attribute_place family).reads rest) rest_reads after empty w long

@@ -1,7 +1,7 @@
 -- The run in front of a list: a walk over the list's items tells it, and it is copied.
-use Rattle.std.proofs.Common.{◌≡◌, ℕ, ◌+◌, ◌-◌, ◌<◌, ◌≤◌, inl, inr, Bool, true, List, [], ◌∷◌, ◌++◌, append_assoc}
-use Rattle.std.proofs.Common.{append-nil, length, take, drop, replicate, flat_map, refl, ap, sym, ◌∙◌, subst, arith}
-use Rattle.std.proofs.Common.{Result, Ok, length-append, length-drop}
+use Rattle.std.proofs.Common.{◌≡◌, ℕ, ◌+◌, ◌-◌, ◌≤◌, inl, inr, List, [], ◌∷◌, ◌++◌, append_assoc}
+use Rattle.std.proofs.Common.{length, take, drop, replicate, flat_map, refl, ap, sym, ◌∙◌, subst, arith}
+use Rattle.std.proofs.Common.{Result, Ok, Err, length-append, length-drop}
 use Rattle.std.proofs.lemmas.List.{take-append-drop, length-take-le, take_at, drop_at, take_rest}
 use Rattle.std.specs.List.{AllByRecursion}
 use borrow.Rule.Slice.PartMut.{put_mid}
@@ -11,12 +11,12 @@ use Rattle.nla_wire.specs.Reading.Step.{End, Bad, Next}
 use Rattle.nla_wire.specs.Items.{Item, items, read_items}
 use Rattle.nla_wire.specs.Canon.{canon, HasRoom, Rewrites, Writes}
 use Rattle.nla_wire.specs.declared.error.Cause.{Cause}
-use Rattle.nla_wire.proofs.Items.{items_nil, items_next, items_bad}
+use Rattle.nla_wire.proofs.Items.{list_items, items_nil, items_next, items_bad}
 use Rattle.nla_wire.proofs.Loop.{items_start, items_more}
 use Rattle.nla_wire.proofs.Steps.{step_end, step_begins, length-begins, bytes_right}
-use Rattle.nla_wire.proofs.Written.{flat_more, flat_joined, Counted}
+use Rattle.nla_wire.proofs.Written.{flat_more, flat_joined, all_more, Counted}
 use Rattle.nla_wire.proofs.Canonical.{write_on}
-use Rattle.link_msg.specs.Runs.{IsPadded, RunsOn, BeginsCanonical}
+use Rattle.link_msg.specs.Runs.{IsPadded, RunInFront}
 
 -- ** the frame in front
 
@@ -57,162 +57,163 @@ canon_first b f rest h padded =
 
 -- ** the walk
 
--- of the values in front, the early ones have the run as their text, and the bytes after it are read as the later ones
--- and those of the items that are left
-pub record Running {V : Type 0} (read : Frame → Result V Cause) (text : V → List ℕ) (b : List ℕ)
-    (left : List Item) (front : List V) (len run : ℕ) : Type 0 where
-  pub early : List V
-  pub later : List V
-  pub split : front ≡ early ++ later
-  pub text_is : flat_map text early ≡ take run b
+-- the values in front are good and have the run as their text, and the items that are left are those of the bytes after
+pub record Running {V : Type 0} (read : Frame → Result V Cause) (text : V → List ℕ) (Good : V → Type 0) (b : List ℕ)
+    (left : List Item) (run : ℕ) : Type 0 where
+  pub front : List V
+  pub so_far : with_front front (read_items read left) ≡ list_of read b
+  pub left_is : left ≡ items (drop run b)
+  pub text_is : flat_map text front ≡ take run b
   pub within : run ≤ length b
-  pub so_far : with_front later (read_items read left) ≡ list_of read (drop run b)
-  -- while it is as long as the text, the run reaches up to what is left
-  pub level : run ≡ len → (later ≡ []) × (left ≡ items (drop run b))
-  pub short : run ≤ len
+  pub good : AllByRecursion Good front
 
-pub running_starts : {V : Type 0} (read : Frame → Result V Cause) (text : V → List ℕ) (b : List ℕ) (left : List Item)
-    → left ≡ items b → Running read text b left [] 0 0
-running_starts read text b left left_is = record {
-  early = [];
-  later = [];
-  split = refl;
+pub running_starts : {V : Type 0} (read : Frame → Result V Cause) (text : V → List ℕ) (Good : V → Type 0) (b : List ℕ)
+    (left : List Item) → left ≡ items b → Running read text Good b left 0
+running_starts read text Good b left left_is = record {
+  front = [];
+  so_far = ap (λ (xs : List Item). with_front [] (read_items read xs)) left_is ∙ items_start read b;
+  left_is = left_is;
   text_is = refl;
   within = omega arith;
-  so_far = ap (λ (xs : List Item). with_front [] (read_items read xs)) left_is ∙ items_start read b;
-  level = λ same. (refl, left_is);
-  short = omega arith;
+  good = tt;
 }
 
-module _ {V : Type 0} (read : Frame → Result V Cause) (text : V → List ℕ) (b : List ℕ) (left : List Item)
-    (front : List V) (len run : ℕ) (h : Running read text b left front len run)
-    (f : Frame) (rest : List Item) (left_is : left ≡ Ok f ∷ rest) (v : V) (reads : read f ≡ Ok v) (new : ℕ) where
-  -- the frame is not in the run
-  running_over : len < new → Running read text b rest (front ++ v ∷ []) new run
-  running_over more = record {
-    early = h.early;
-    later = h.later ++ v ∷ [];
-    split = ap (λ (vs : List V). vs ++ v ∷ []) h.split ∙ append_assoc h.early h.later (v ∷ []);
-    text_is = h.text_is;
-    within = h.within;
-    so_far = items_more read h.later left (list_of read (drop run b)) h.so_far f rest v left_is reads;
-    level = λ same. absurd (omega (arith, same, more, h.short));
-    short = omega (arith, more, h.short);
-  }
-
-  -- the frame is in the run
-  running_on : IsBytes b → run ≡ len → IsPadded (drop run b) (4 + length f.payload) → text v ≡ canon f
-      → new ≡ len + length (text v) → Running read text b rest (front ++ v ∷ []) new new
-  running_on small same padded spelled new_is =
-      let level = h.level same in
-      let remaining : IsBytes (drop run b) =
-      bytes_right (take run b) (drop run b) (subst IsBytes (sym (take-append-drop run b)) small) in
-      let k = items_head (drop run b) f rest remaining (sym level.1 ∙ left_is) in
-      let whole : drop run b ≡ text v ++ k.0 =
-      canon_first (drop run b) f k.0 k.1 padded ∙ ap (λ (t : List ℕ). t ++ k.0) (sym spelled) in
-      let taken : length (take run b) ≡ run = length-take-le run b h.within in
-      let all : b ≡ (take run b ++ text v) ++ k.0 =
-      sym (take-append-drop run b) ∙ ap (λ (t : List ℕ). take run b ++ t) whole
-      ∙ sym (append_assoc (take run b) (text v) k.0) in
-      let size : length (take run b ++ text v) ≡ new =
-      omega (arith, length-append (take run b) (text v), taken, same, new_is) in
-      let ahead : take new b ≡ take run b ++ text v = ap (take new) all ∙ take_at (take run b ++ text v) k.0 new size in
-      let left_over : drop new b ≡ k.0 = ap (drop new) all ∙ drop_at (take run b ++ text v) k.0 new size in
-      let rest_is : rest ≡ items (drop new b) = k.2 ∙ ap items (sym left_over) in
-      let front_is : front ≡ h.early = h.split ∙ ap (λ (vs : List V). h.early ++ vs) level.0 ∙ append-nil h.early in
-      record {
-        early = h.early ++ v ∷ [];
-        later = [];
-        split = ap (λ (vs : List V). vs ++ v ∷ []) front_is ∙ sym (append-nil (h.early ++ v ∷ []));
-        text_is = flat_more text h.early v ∙ ap (λ (t : List ℕ). t ++ text v) h.text_is ∙ sym ahead;
-        within = omega (arith, size, length-append (take run b ++ text v) k.0, ap (λ (t : List ℕ). length t) all);
-        so_far = ap (λ (xs : List Item). with_front [] (read_items read xs)) rest_is ∙ items_start read (drop new b);
-        level = λ same. (refl, rest_is);
-        short = omega arith;
-      }
-
-  -- what the run is after the frame
-  pub running_next : IsBytes b → (spelled : Bool) (frame_len after : ℕ) → (spelled ≡ true → text v ≡ canon f)
-      → frame_len ≡ 4 + length f.payload → new ≡ len + length (text v) → len < new
-      → RunsOn b run len spelled frame_len new after
-      → Running read text b rest (front ++ v ∷ []) new after
-  running_next small spelled frame_len after told frame_is new_is more (inl on) =
-      subst (λ n. Running read text b rest (front ++ v ∷ []) new n) (sym on.3)
-      (running_on small on.0 (subst (λ n. IsPadded (drop run b) n) frame_is on.2) (told on.1) new_is)
-  running_next small spelled frame_len after told frame_is new_is more (inr over) =
-      subst (λ n. Running read text b rest (front ++ v ∷ []) new n) (sym over) (running_over more)
-
-pub running_ends : {V : Type 0} (read : Frame → Result V Cause) (text : V → List ℕ) (b : List ℕ) (left : List Item)
-    (front : List V) (len run : ℕ) → Running read text b left front len run → left ≡ []
-    → with_front front (read_items read left) ≡ list_of read b → BeginsCanonical read text b run
-running_ends {V} read text b left front len run h left_is so_far =
-    let ended : (vs : List V) → with_front vs (read_items read left) ≡ Ok vs =
-    λ vs. ap (λ (xs : List Item). with_front vs (read_items read xs)) left_is
-    ∙ ap (λ (ws : List V). Ok ws) (append-nil vs) in
+-- the next frame is a good value's own text, with all of its padding
+pub running_on : {V : Type 0} (read : Frame → Result V Cause) (text : V → List ℕ) (Good : V → Type 0) (b : List ℕ)
+    (left : List Item) (run : ℕ) → Running read text Good b left run → IsBytes b
+    → (f : Frame) (rest : List Item) → left ≡ Ok f ∷ rest → (v : V) → read f ≡ Ok v → Good v → text v ≡ canon f
+    → IsPadded (drop run b) (4 + length f.payload) → (new : ℕ) → new ≡ run + length (canon f)
+    → Running read text Good b rest new
+running_on {V} read text Good b left run h small f rest left_is v reads good spelled padded new new_is =
+    let remaining : IsBytes (drop run b) =
+    bytes_right (take run b) (drop run b) (subst IsBytes (sym (take-append-drop run b)) small) in
+    let k = items_head (drop run b) f rest remaining (sym h.left_is ∙ left_is) in
+    let whole : drop run b ≡ text v ++ k.0 =
+    canon_first (drop run b) f k.0 k.1 padded ∙ ap (λ (t : List ℕ). t ++ k.0) (sym spelled) in
+    let taken : length (take run b) ≡ run = length-take-le run b h.within in
+    let all : b ≡ (take run b ++ text v) ++ k.0 =
+    sym (take-append-drop run b) ∙ ap (λ (t : List ℕ). take run b ++ t) whole
+    ∙ sym (append_assoc (take run b) (text v) k.0) in
+    let size : length (take run b ++ text v) ≡ new =
+    omega (
+      arith,
+      length-append (take run b) (text v),
+      taken,
+      new_is,
+      ap (λ (t : List ℕ). length t) spelled,
+    ) in
+    let ahead : take new b ≡ take run b ++ text v = ap (take new) all ∙ take_at (take run b ++ text v) k.0 new size in
+    let left_over : drop new b ≡ k.0 = ap (drop new) all ∙ drop_at (take run b ++ text v) k.0 new size in
     record {
-      front = h.early;
-      others = h.later;
-      whole_is = sym so_far ∙ ended front ∙ ap (λ (vs : List V). Ok vs) h.split;
-      others_are = sym h.so_far ∙ ended h.later;
-      text_is = h.text_is;
-      within = h.within;
+      front = h.front ++ v ∷ [];
+      so_far = items_more read h.front left (list_of read b) h.so_far f rest v left_is reads;
+      left_is = k.2 ∙ ap items (sym left_over);
+      text_is = flat_more text h.front v ∙ ap (λ (t : List ℕ). t ++ text v) h.text_is ∙ sym ahead;
+      within = omega (arith, size, length-append (take run b ++ text v) k.0, ap (λ (t : List ℕ). length t) all);
+      good = all_more Good h.front v h.good good;
     }
 
--- ** writing
+-- wherever the walk stops
+pub running_told : {V : Type 0} (read : Frame → Result V Cause) (text : V → List ℕ) (Good : V → Type 0) (b : List ℕ)
+    (left : List Item) (run : ℕ) → Running read text Good b left run
+    → (r : RunInFront read text b run) × AllByRecursion Good r.front
+running_told read text Good b left run h = (
+  record {
+    front = h.front;
+    parts =
+        ap (with_front h.front) (list_items read (drop run b))
+        ∙ ap (λ (xs : List Item). with_front h.front (read_items read xs)) (sym h.left_is) ∙ h.so_far;
+    text_is = h.text_is;
+    within = h.within;
+  },
+  h.good,
+)
 
-all_after : {V : Type 0} (fits : V → Type 0) (front others : List V) → AllByRecursion fits (front ++ others)
-    → AllByRecursion fits others
-all_after fits [] others all = all
-all_after fits (v ∷ front) others all = all_after fits front others all.1
+-- ** what stands after the run
 
-module _ {V : Type 0} (read : Frame → Result V Cause) (text : V → List ℕ) (fits : V → Type 0) (b : List ℕ)
-    (run : ℕ) (h : BeginsCanonical read text b run) where
+pub all_after : {V : Type 0} (P : V → Type 0) (front others : List V) → AllByRecursion P (front ++ others)
+    → AllByRecursion P others
+all_after P [] others all = all
+all_after P (v ∷ front) others all = all_after P front others all.1
+
+pub all_both : {V : Type 0} (P : V → Type 0) (front others : List V) → AllByRecursion P front
+    → AllByRecursion P others → AllByRecursion P (front ++ others)
+all_both P [] others all more = more
+all_both P (v ∷ front) others all more = (all.0, all_both P front others all.1 more)
+
+module _ {V : Type 0} (read : Frame → Result V Cause) (text : V → List ℕ) (b : List ℕ) (run : ℕ)
+    (h : RunInFront read text b run) where
+  -- the whole list is read as what the rest is read as, after the values in front
+  pub whole_from : (r : Result (List V) Cause) → list_of read (drop run b) ≡ r → list_of read b ≡ with_front h.front r
+  whole_from r e = sym h.parts ∙ ap (with_front h.front) e
+
   taken : run ≡ length (flat_map text h.front)
   taken = sym (length-take-le run b h.within) ∙ ap (λ (t : List ℕ). length t) (sym h.text_is)
 
-  sizes : length (flat_map text (h.front ++ h.others)) ≡ run + length (flat_map text h.others)
-  sizes =
+  pub run_sizes : (others : List V)
+      → length (flat_map text (h.front ++ others)) ≡ run + length (flat_map text others)
+  run_sizes others =
       omega (
         arith,
         taken,
-        ap (λ (t : List ℕ). length t) (flat_joined text h.front h.others),
-        length-append (flat_map text h.front) (flat_map text h.others),
+        ap (λ (t : List ℕ). length t) (flat_joined text h.front others),
+        length-append (flat_map text h.front) (flat_map text others),
       )
 
-  room_there : (room : ℕ) → HasRoom (flat_map text) (Counted text fits) (list_of read b) room
-      → Counted text fits (h.front ++ h.others) × (length (flat_map text (h.front ++ h.others)) ≤ room)
-  room_there room there = subst (λ r. HasRoom (flat_map text) (Counted text fits) r room) h.whole_is there
+-- ** writing
 
-  -- the buffer, whose front holds the run now, has room for the others
-  pub run_room : (rest old now : List ℕ) → rest ≡ drop run b → now ≡ take run b ++ drop run old
-      → HasRoom (flat_map text) (Counted text fits) (list_of read b) (length old)
-      → HasRoom (flat_map text) (Counted text fits) (list_of read rest)
-      (length (take (length now - run) (drop run now)))
-  run_room rest old now rest_is now_is there =
-      let k = room_there (length old) there in
-      let left : take (length now - run) (drop run now) ≡ drop run old =
-      take_rest now run ∙ ap (drop run) now_is
-      ∙ drop_at (take run b) (drop run old) run (length-take-le run b h.within) in
-      subst (λ r. HasRoom (flat_map text) (Counted text fits) r (length (take (length now - run) (drop run now))))
-      (sym (ap (list_of read) rest_is ∙ h.others_are)) (
-        (all_after fits h.front h.others k.0.0, omega (arith, k.0.1, sizes)),
-        omega (arith, k.1, sizes, ap (λ (t : List ℕ). length t) left, length-drop run old),
-      )
+-- a list that has room is read, and so is the rest of it after the run
+pub record Begun {V : Type 0} (read : Frame → Result V Cause) (b : List ℕ) (run : ℕ) (front : List V) : Type 0 where
+  pub others : List V
+  pub others_are : list_of read (drop run b) ≡ Ok others
+  pub whole_is : list_of read b ≡ Ok (front ++ others)
 
-  module _ (rest : List ℕ) (rest_is : rest ≡ drop run b) (old now part : List ℕ) (n : ℕ)
-      (w : Rewrites (flat_map text) (list_of read rest) (take (length now - run) (drop run now)) part n) where
-    remaining : Writes (flat_map text h.others) (take (length now - run) (drop run now)) part n
-    remaining =
-        subst (λ r. Rewrites (flat_map text) r (take (length now - run) (drop run now)) part n)
-        (ap (list_of read) rest_is ∙ h.others_are) w
+module _ {V : Type 0} (read : Frame → Result V Cause) (text : V → List ℕ) (fits : V → Type 0) (b : List ℕ)
+    (run : ℕ) (h : RunInFront read text b run) (room : ℕ)
+    (there : HasRoom (flat_map text) (Counted text fits) (list_of read b) room) where
+  begun_by : (r : Result (List V) Cause) → list_of read (drop run b) ≡ r → Begun read b run h.front
+  begun_by (Ok others) e =
+      record { others = others; others_are = e; whole_is = whole_from read text b run h (Ok others) e }
+  begun_by (Err c) e = absurd (subst (λ r. HasRoom (flat_map text) (Counted text fits) r room)
+      (whole_from read text b run h (Err c) e) there)
+
+  begun : Begun read b run h.front
+  begun = begun_by (list_of read (drop run b)) refl
+
+  room_there : Counted text fits (h.front ++ begun.others) × (length (flat_map text (h.front ++ begun.others)) ≤ room)
+  room_there = subst (λ r. HasRoom (flat_map text) (Counted text fits) r room) begun.whole_is there
+
+  module _ (rest old now : List ℕ) (rest_is : rest ≡ drop run b) (now_is : now ≡ take run b ++ drop run old) where
+    -- the buffer, whose front holds the run now, has room for the others
+    pub run_room : room ≡ length old → HasRoom (flat_map text) (Counted text fits) (list_of read rest)
+        (length (take (length now - run) (drop run now)))
+    run_room room_is =
+        let k = room_there in
+        let sizes = run_sizes read text b run h begun.others in
+        let left : take (length now - run) (drop run now) ≡ drop run old =
+        take_rest now run ∙ ap (drop run) now_is
+        ∙ drop_at (take run b) (drop run old) run (length-take-le run b h.within) in
+        subst (λ r. HasRoom (flat_map text) (Counted text fits) r (length (take (length now - run) (drop run now))))
+        (sym (ap (list_of read) rest_is ∙ begun.others_are)) (
+          (all_after fits h.front begun.others k.0.0, omega (arith, k.0.1, sizes)),
+          omega (arith, k.1, sizes, room_is, ap (λ (t : List ℕ). length t) left, length-drop run old),
+        )
 
     -- the run, and the text of the others after it
-    pub run_writes : now ≡ take run b ++ drop run old
+    pub run_writes : (part : List ℕ) (n : ℕ)
+        → Rewrites (flat_map text) (list_of read rest) (take (length now - run) (drop run now)) part n
         → Rewrites (flat_map text) (list_of read b) old (put_mid run (length now - run) now part) (run + n)
-    run_writes now_is =
+    run_writes part n w =
+        let remaining : Writes (flat_map text begun.others) (take (length now - run) (drop run now)) part n =
+        subst (λ r. Rewrites (flat_map text) r (take (length now - run) (drop run now)) part n)
+        (ap (list_of read) rest_is ∙ begun.others_are) w in
         let copied : Writes (flat_map text h.front) old now run =
-        record { length_is = taken; new_is = now_is ∙ ap (λ (t : List ℕ). t ++ drop run old) (sym h.text_is) } in
-        subst (λ r. Rewrites (flat_map text) r old (put_mid run (length now - run) now part) (run + n)) (sym h.whole_is)
+        record {
+          length_is = taken read text b run h;
+          new_is = now_is ∙ ap (λ (t : List ℕ). t ++ drop run old) (sym h.text_is);
+        } in
+        subst (λ r. Rewrites (flat_map text) r old (put_mid run (length now - run) now part) (run + n))
+        (sym begun.whole_is)
         (subst (λ t. Writes t old (put_mid run (length now - run) now part) (run + n))
-        (sym (flat_joined text h.front h.others))
-        (write_on (flat_map text h.front) (flat_map text h.others) old now part run n copied remaining))
+        (sym (flat_joined text h.front begun.others))
+        (write_on (flat_map text h.front) (flat_map text begun.others) old now part run n copied remaining))

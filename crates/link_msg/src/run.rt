@@ -3,9 +3,11 @@
 ghost use Rattle.std.specs.Prelude.{◌≡◌, ◌≤◌, ◌↔◌, length, replicate, IsTrue};
 ghost use Rattle.nla_wire.specs.Grammar.{list};
 ghost use Rattle.nla_wire.specs.Canon.{canon, canons, AllFit, HasRoom, Rewrites};
-ghost use Rattle.link_msg.specs.Runs.{IsPadded, RunsOn, BeginsCanonical};
+ghost use Rattle.link_msg.specs.Runs.{IsPadded, RunInFront, IsCopiedRun};
 
-use nla_wire::{Nla, Place, write_members};
+use crate::attribute::LinkAttribute;
+use link_vals::AddressFamily;
+use nla_wire::{Nla, NlasIterator, Place, padded_len, write_members};
 
 /// Whether at most three bytes are all zero.
 #[inline(always)]
@@ -31,25 +33,23 @@ fn is_padded(bytes: &[u8], front_len: u16) -> bool
     padded <= bytes.len() && is_clear(&bytes[end..padded])
 }
 
-/// The run after the next frame, of this length. It grows to `more` where it reaches up to the frame, as it does while
-/// it is as long as the text, and the frame with its padding is canonical as it is spelled.
-#[inline(always)]
-pub(crate) fn run_after(
-    bytes: &[u8],
-    run: usize,
-    len: usize,
-    spelled: bool,
-    frame_len: u16,
-    more: usize,
-) -> usize
-    requires { run ≤ length bytes.now }
-    ensures { RunsOn bytes.now run len spelled frame_len more result }
+/// How many bytes in front are attributes that are canonical as they are spelled, under the header's family.
+pub(crate) fn run_in_front(bytes: &[u8], family: AddressFamily) -> usize
+    ensures { IsCopiedRun family bytes.now result }
 {
-    if run == len && spelled && is_padded(&bytes[run..], frame_len) {
-        more
-    } else {
-        run
+    let mut run = 0;
+    for item in NlasIterator::new(bytes) {
+        let Ok(frame) = item else {
+            return run;
+        };
+        if !is_padded(&bytes[run..], frame.length())
+            || !LinkAttribute::is_own_text(&frame, family)
+        {
+            return run;
+        }
+        run += padded_len(frame.value().len());
     }
+    run
 }
 
 /// Writes the canonical text of a list's members as `write_members` does: the run in front is copied at once.
@@ -60,7 +60,7 @@ pub(crate) fn write_members_after<V: Nla + Drop, P: Place<V>>(
     bytes: &[u8],
     out: &mut [u8],
 ) -> usize
-    requires begins { BeginsCanonical (P.grammar place.now).reads
+    requires begins { RunInFront (P.grammar place.now).reads
         (λ v. canon (V.frame v)) bytes.now run }
     requires room { HasRoom (canons V.frame) (AllFit V.fits V.frame)
         ((list (P.grammar place.now)).reads bytes.now) (length out.old) }

@@ -1,7 +1,7 @@
 //! The attributes by the shape of their payloads: they are checked, and written again, from the payload and without a
 //! value.
 
-ghost use Rattle.std.specs.Prelude.{◌≡◌, ◌≤◌, ◌<◌, ◌^◌, length, IsTrue, Ok};
+ghost use Rattle.std.specs.Prelude.{◌≡◌, ◌≤◌, ◌<◌, ◌^◌, length, IsTrue};
 ghost use Rattle.nla_wire.specs.Sizes.{most_payload};
 ghost use Rattle.nla_wire.proofs.Codec.{kind_of};
 ghost use Rattle.nla_wire.proofs.Shapes.{ShapeChecks, ShapeWeighs, ShapeRoom, ShapeWrites};
@@ -275,40 +275,8 @@ impl Shape {
         }
     }
 
-    /// Whether the length of a payload of this shape says that it is read. `false` where more has to be looked at.
-    #[inline(always)]
-    fn is_read_by_length(self, payload: &[u8]) -> bool
-        ensures { IsTrue result → ShapeChecks base self payload.now (Ok tt) }
-    {
-        match self {
-            Shape::Bytes => true,
-            Shape::Id => true,
-            Shape::Stats => true,
-            Shape::Stats64 => true,
-            Shape::U8 => checked(parse_u8(payload)).is_ok(),
-            Shape::U16 => checked(parse_u16(payload)).is_ok(),
-            Shape::U32 => checked(parse_u32(payload)).is_ok(),
-            Shape::U64 => checked(parse_u64(payload)).is_ok(),
-            Shape::Truth => check_truth(payload).is_ok(),
-            _ => false,
-        }
-    }
-
-    /// Whether a payload of this shape is read, and the fault if not. A number costs one look at its length: no result
-    /// with room for a fault is put together.
-    #[inline(always)]
+    /// Whether a payload of this shape is read, and the fault if not.
     pub(crate) fn check(self, payload: &[u8]) -> Result<(), DecodeError>
-        ensures { ShapeChecks base self payload.now result }
-    {
-        if self.is_read_by_length(payload) {
-            return Ok(());
-        }
-        self.look(payload)
-    }
-
-    /// The same, whatever the shape.
-    #[inline(never)]
-    fn look(self, payload: &[u8]) -> Result<(), DecodeError>
         ensures { ShapeChecks base self payload.now result }
     {
         match self {

@@ -5,7 +5,7 @@ ghost use Rattle.std.specs.Prelude.{IfOk, IfErr, MatchResult};
 ghost use Rattle.nla_wire.specs.Frames.{IsFrame, number};
 ghost use Rattle.nla_wire.specs.Grammar.{list};
 ghost use Rattle.nla_wire.specs.Canon.{canon, canons, AllFit, Weighs, HasRoom, Rewrites, RoomWhereFit, Canonical};
-ghost use Rattle.link_msg.specs.Runs.{IsSpelled, FrameMeasures, IsRun};
+ghost use Rattle.link_msg.specs.Runs.{IsSpelled, IsOwnText, IsRun};
 ghost use Rattle.link_msg.specs.declared.numbers.TheConstants.{IFLA_VF_PORTS};
 ghost use Rattle.nla_wire.specs.Gives.{Fails, Gives, Adds, Checks};
 ghost use Rattle.nla_wire.specs.declared.error.Cause.TheVariants.{OutOfMemory};
@@ -80,7 +80,7 @@ use crate::numbers::IFLA_XDP;
 use crate::payload::parse_mask;
 use crate::payload::parse_ports;
 use crate::payload::parse_some;
-use crate::run::run_after;
+use crate::run::run_in_front;
 use crate::run::write_members_after;
 use crate::shape::Shape;
 use link_nest::DevlinkPort;
@@ -108,6 +108,7 @@ use nla_wire::NlaBuffer;
 use nla_wire::NlaRead;
 use nla_wire::NlasIterator;
 use nla_wire::Place;
+use nla_wire::add_len;
 use nla_wire::check_members;
 use nla_wire::check_one;
 use nla_wire::measure_members;
@@ -126,7 +127,7 @@ use std::alloc::Global;
 impl LinkAttribute {
     ghost use Rattle.link_msg.specs.Plain.{NotPlain, NotText};
     ghost use Rattle.link_msg.specs.Tables.{attribute_place, attribute_frame, AttributeFits, Values};
-    ghost use Rattle.link_msg.specs.Canonical.{ListMeasures};
+    ghost use Rattle.link_msg.specs.Canonical.{ListWeighs, ListMeasures};
 
     /// Reads a frame under the header's family: the number selects the variant, whatever the flag bits of the kind.
     ///
@@ -539,21 +540,24 @@ impl LinkAttribute {
         }
     }
 
-    /// The same, and whether the frame is canonical as it is spelled, but for its padding.
+    /// Whether a frame is canonical as it is spelled, but for its padding, and not an empty list of ports.
     #[inline(always)]
-    fn measure_spelled(buffer: &NlaBuffer<'_>, family: AddressFamily) -> Option<(usize, bool)>
-        ensures { FrameMeasures family buffer.now result }
+    pub(crate) fn is_own_text(buffer: &NlaBuffer<'_>, family: AddressFamily) -> bool
+        ensures { IsTrue result → IsOwnText family buffer.now }
     {
-        buffer.is_frame();
         let payload = buffer.value();
-        match Shape::of(buffer.kind(), payload.len(), family) {
-            Some(shape) => {
-                let Some(len) = shape.measure(payload) else {
-                    return None;
-                };
-                Some((len, is_spelled(shape, len, buffer)))
-            }
-            None => Some((payload.len(), true)),
+        if has_no_port(buffer, payload.len()) {
+            return false;
+        }
+        let Some(shape) = Shape::of(buffer.kind(), payload.len(), family) else {
+            return true;
+        };
+        if !is_spelled(shape, buffer) {
+            return false;
+        }
+        match shape.measure(payload) {
+            Some(len) => len == payload.len(),
+            None => false,
         }
     }
 
@@ -651,36 +655,48 @@ impl LinkAttribute {
         Some(write_members(&AttributePlace { family }, bytes, out))
     }
 
-    /// The length of the canonical text of a list of attributes under the header's family, whether an empty list of
-    /// ports is among them, and how many bytes in front are canonical as they are spelled, with no memory; `None` where
-    /// one does not fit, or the list is refused.
+    /// The length of the canonical text of a list of attributes under the header's family, and whether an empty list of
+    /// ports is among them, with no memory; `None` where one does not fit, or the list is refused.
     ///
     /// A list of ports has a text of no bytes exactly where it is empty, so that the same walk tells it.
+    fn measure_with_ports(bytes: &[u8], family: AddressFamily) -> Option<(usize, bool)>
+        ensures { ListWeighs ((list (attribute_place family)).reads bytes.now) result }
+    {
+        let mut len: usize = 0;
+        let mut empty = false;
+        for item in NlasIterator::new(bytes) {
+            let Ok(frame) = item else {
+                return None;
+            };
+            let Some(value) = LinkAttribute::measure_frame(&frame, family) else {
+                return None;
+            };
+            let Some(more) = add_len(len, padded_len(value)) else {
+                return None;
+            };
+            if has_no_port(&frame, value) {
+                empty = true;
+            }
+            len = more;
+        }
+        Some((len, empty))
+    }
+
+    /// The same of a whole list, and how many bytes in front are canonical as they are spelled: these are looked at
+    /// first, and only what stands after them is measured.
     pub(crate) fn measure_list_with_param(
         bytes: &[u8],
         family: AddressFamily,
     ) -> Option<(usize, bool, usize)>
         ensures { ListMeasures family bytes.now result }
     {
-        let mut len: usize = 0;
-        let mut empty = false;
-        let mut run: usize = 0;
-        for item in NlasIterator::new(bytes) {
-            let Ok(frame) = item else {
-                return None;
-            };
-            let Some((value, spelled)) = LinkAttribute::measure_spelled(&frame, family) else {
-                return None;
-            };
-            let Some(more) = len.checked_add(padded_len(value)) else {
-                return None;
-            };
-            run = run_after(bytes, run, len, spelled, frame.length(), more);
-            if has_no_port(&frame, value) {
-                empty = true;
-            }
-            len = more;
-        }
+        let run = run_in_front(bytes, family);
+        let Some((after, empty)) = LinkAttribute::measure_with_ports(&bytes[run..], family) else {
+            return None;
+        };
+        let Some(len) = add_len(run, after) else {
+            return None;
+        };
         Some((len, empty, run))
     }
 
@@ -702,15 +718,13 @@ impl LinkAttribute {
     }
 }
 
-/// Whether the canonical text of a frame of this shape is the frame as it is spelled, but for its padding. Its value's
-/// text has so many bytes.
+/// Whether a frame of this shape is written as it is spelled, but for its padding, where its value's text is as long as
+/// its payload.
 #[inline(always)]
-fn is_spelled(shape: Shape, value_len: usize, buffer: &NlaBuffer<'_>) -> bool
-    ensures { IsTrue result → IsSpelled shape value_len buffer.now }
+fn is_spelled(shape: Shape, buffer: &NlaBuffer<'_>) -> bool
+    ensures { IsTrue result → IsSpelled shape buffer.now }
 {
-    value_len == buffer.value().len()
-        && buffer.kind_with_flags() == buffer.kind()
-        && shape.is_copied()
+    shape.is_copied() && buffer.kind_with_flags() == buffer.kind()
 }
 
 /// Whether a frame whose value has a text of so many bytes is an empty list of ports.

@@ -80,6 +80,7 @@ impl NlaRead for DevlinkPort {
         }
     }
 
+    #[inline(always)]
     #[tactic(auto, unfolding(crate::proofs::Opened::devlink_port))]
     fn measure_frame(buffer: &NlaBuffer<'_>) -> Option<usize> {
         match buffer.kind() {

@@ -86,6 +86,7 @@ impl NlaRead for LinkProtocolDownReason {
         }
     }
 
+    #[inline(always)]
     #[tactic(auto, unfolding(crate::specs::Tables::down_reason_place, nla_wire::specs::Payloads::read_number))]
     fn measure_frame(buffer: &NlaBuffer<'_>) -> Option<usize> {
         match buffer.kind() {

@@ -67,6 +67,7 @@ impl NlaRead for DpllPin {
         }
     }
 
+    #[inline(always)]
     #[tactic(auto, unfolding(crate::specs::Tables::dpll_pin_place, nla_wire::specs::Payloads::read_number))]
     fn measure_frame(buffer: &NlaBuffer<'_>) -> Option<usize> {
         match buffer.kind() {

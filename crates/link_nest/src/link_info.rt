@@ -66,6 +66,7 @@ impl NlaRead for LinkInfo {
         }
     }
 
+    #[inline(always)]
     #[tactic(auto, unfolding(crate::specs::Tables::link_info_place, nla_wire::specs::Payloads::read_text))]
     fn measure_frame(buffer: &NlaBuffer<'_>) -> Option<usize> {
         match buffer.kind() {

@@ -66,6 +66,7 @@ impl NlaRead for Prop {
         }
     }
 
+    #[inline(always)]
     #[tactic(auto, unfolding(crate::specs::Tables::prop_place, nla_wire::specs::Payloads::read_text))]
     fn measure_frame(buffer: &NlaBuffer<'_>) -> Option<usize> {
         match buffer.kind() {

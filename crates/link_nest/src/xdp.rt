@@ -115,6 +115,7 @@ impl NlaRead for LinkXdp {
         }
     }
 
+    #[inline(always)]
     #[tactic(auto, unfolding(crate::proofs::Opened::xdp), using(link_vals::proofs::Numbers::xdp_attached_again))]
     fn measure_frame(buffer: &NlaBuffer<'_>) -> Option<usize> {
         match buffer.kind() {

@@ -113,6 +113,7 @@ impl NlaRead for VfStats {
         }
     }
 
+    #[inline(always)]
     #[tactic(auto, unfolding(crate::specs::Tables::vf_stats_place, nla_wire::specs::Payloads::read_number))]
     fn measure_frame(buffer: &NlaBuffer<'_>) -> Option<usize> {
         match buffer.kind() {

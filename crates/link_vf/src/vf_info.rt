@@ -1,10 +1,10 @@
 //! What is said of a virtual function, members of IFLA_VF_INFO.
 
-ghost use Rattle.std.specs.Prelude.{◌≡◌, ◌≢◌, ◌+◌, ◌*◌, ◌≤◌, length, Ok, IsTrue, IfOk, IfSome, MatchOption};
+ghost use Rattle.std.specs.Prelude.{◌≡◌, ◌≢◌, ◌+◌, ◌*◌, ◌≤◌, length, Ok, IfOk, IfSome, MatchOption};
 ghost use Rattle.nla_wire.specs.Frames.{number};
 ghost use Rattle.nla_wire.specs.Sizes.{most_payload};
 ghost use Rattle.nla_wire.specs.Canon.{Measures};
-ghost use Rattle.nla_wire.specs.Gives.{without_place, Checks};
+ghost use Rattle.nla_wire.specs.Gives.{without_place};
 ghost use Rattle.link_vfrec.specs.Records.{vf_info_mac_bytes, vf_info_broadcast_bytes};
 ghost use Rattle.link_vf.specs.Tables.{vf_info_place};
 ghost use Rattle.link_vf.specs.declared.numbers.TheConstants.{IFLA_VF_STATS, IFLA_VF_VLAN_LIST};
@@ -248,48 +248,6 @@ fn read_record(buffer: &NlaBuffer<'_>) -> Option<Result<VfInfo, DecodeError>>
     }
 }
 
-/// Whether the length of a member's payload says that it is read: no result with room for a fault is put together.
-/// `false` where more has to be looked at.
-#[inline(always)]
-#[tactic(auto, unfolding(crate::specs::Tables::vf_info_place))]
-fn is_read_by_length(buffer: &NlaBuffer<'_>) -> bool
-    ensures { IsTrue result → Checks (Ok tt) (vf_info_place.grammar.reads buffer.now) }
-{
-    let payload = buffer.value();
-    match buffer.kind() {
-        IFLA_VF_STATS => false,
-        IFLA_VF_VLAN_LIST => false,
-        IFLA_VF_MAC => VfInfoMac::parse(payload).is_ok(),
-        IFLA_VF_VLAN => VfInfoVlan::parse(payload).is_ok(),
-        IFLA_VF_TX_RATE => VfInfoTxRate::parse(payload).is_ok(),
-        IFLA_VF_SPOOFCHK => VfInfoSpoofCheck::parse(payload).is_ok(),
-        IFLA_VF_LINK_STATE => VfInfoLinkState::parse(payload).is_ok(),
-        IFLA_VF_RATE => VfInfoRate::parse(payload).is_ok(),
-        IFLA_VF_RSS_QUERY_EN => VfInfoRssQueryEn::parse(payload).is_ok(),
-        IFLA_VF_TRUST => VfInfoTrust::parse(payload).is_ok(),
-        IFLA_VF_IB_NODE_GUID => VfInfoGuid::parse(payload).is_ok(),
-        IFLA_VF_IB_PORT_GUID => VfInfoGuid::parse(payload).is_ok(),
-        IFLA_VF_BROADCAST => VfInfoBroadcast::parse(payload).is_ok(),
-        _ => true,
-    }
-}
-
-/// Whether a member is read, and its fault if not.
-#[inline(never)]
-#[tactic(auto, unfolding(crate::specs::Tables::vf_info_place))]
-fn look(buffer: &NlaBuffer<'_>) -> Result<(), DecodeError>
-    ensures { Checks result (vf_info_place.grammar.reads buffer.now) }
-{
-    match buffer.kind() {
-        IFLA_VF_STATS => VfStats::check_list(buffer.value()),
-        IFLA_VF_VLAN_LIST => VfVlan::check_list(buffer.value()),
-        _ => match read_record(buffer) {
-            Some(read) => checked(read),
-            None => Ok(()),
-        },
-    }
-}
-
 impl NlaRead for VfInfo {
     ghost use Rattle.nla_wire.proofs.Codec.{place_bounded};
 
@@ -330,14 +288,19 @@ impl NlaRead for VfInfo {
         }
     }
 
-    #[inline(always)]
+    #[tactic(auto, unfolding(crate::specs::Tables::vf_info_place))]
     fn check_frame(buffer: &NlaBuffer<'_>) -> Result<(), DecodeError> {
-        if is_read_by_length(buffer) {
-            return Ok(());
+        match buffer.kind() {
+            IFLA_VF_STATS => VfStats::check_list(buffer.value()),
+            IFLA_VF_VLAN_LIST => VfVlan::check_list(buffer.value()),
+            _ => match read_record(buffer) {
+                Some(read) => checked(read),
+                None => Ok(()),
+            },
         }
-        look(buffer)
     }
 
+    #[inline(always)]
     #[tactic(auto, unfolding(crate::specs::Tables::vf_info_place))]
     fn measure_frame(buffer: &NlaBuffer<'_>) -> Option<usize> {
         let payload = buffer.value();

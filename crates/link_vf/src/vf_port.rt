@@ -52,6 +52,7 @@ impl NlaRead for VfPort {
         Ok(())
     }
 
+    #[inline(always)]
     #[tactic(auto, unfolding(crate::specs::Tables::vf_port_place))]
     fn measure_frame(buffer: &NlaBuffer<'_>) -> Option<usize> {
         Some(buffer.value().len())

@@ -88,6 +88,7 @@ impl NlaRead for VfVlan {
         }
     }
 
+    #[inline(always)]
     #[tactic(auto, unfolding(crate::specs::Tables::vf_vlan_place))]
     fn measure_frame(buffer: &NlaBuffer<'_>) -> Option<usize> {
         match buffer.kind() {

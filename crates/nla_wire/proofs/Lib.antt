@@ -1,8 +1,10 @@
 pub mod Steps
 pub mod Cuts
+pub mod Ends
 pub mod Items
 pub mod Words
 pub mod Again
+pub mod Ascii
 pub mod Agreement
 pub mod Back
 pub mod Bounds

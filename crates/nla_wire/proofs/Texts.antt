@@ -9,7 +9,7 @@ use Rattle.std.proofs.lemmas.Str.{IsUtf8-append, IsUtf8-nil, IsUtf8-encode, enco
 use Rattle.std.proofs.lemmas.List.{drop_all}
 use lib.Utf8.{low_scalar}
 use Rattle.nla_wire.specs.Sizes.{most_payload}
-use Rattle.nla_wire.specs.Payloads.{read_text, IsTextOf, without_nul}
+use Rattle.nla_wire.specs.Payloads.{read_text, AreAscii, IsTextOf, without_nul}
 use Rattle.nla_wire.specs.Canon.{Weighs}
 use Rattle.nla_wire.specs.Gives.{Gives}
 use Rattle.nla_wire.specs.declared.error.Cause.{Cause}
@@ -22,9 +22,13 @@ ascii_then : (x : ℕ) (xs : List ℕ) → x < 128 → IsUtf8 xs → IsUtf8 (x �
 ascii_then x xs low whole = IsUtf8-append (x ∷ []) xs
     (subst IsUtf8 (encode_ascii x low) (IsUtf8-encode x (low_scalar x (omega (arith, low))))) whole
 
-all_low : (n : ℕ) → n < 128 → (xs : List ℕ) → AllByRecursion (λ b. b ≤ n) xs → IsUtf8 xs
-all_low n low [] all = IsUtf8-nil
-all_low n low (x ∷ xs) all = ascii_then x xs (omega (arith, all.0, low)) (all_low n low xs all.1)
+pub ascii_utf8 : (xs : List ℕ) → AreAscii xs → IsUtf8 xs
+ascii_utf8 [] all = IsUtf8-nil
+ascii_utf8 (x ∷ xs) all = ascii_then x xs all.0 (ascii_utf8 xs all.1)
+
+all_low : (n : ℕ) → n < 128 → (xs : List ℕ) → AllByRecursion (λ b. b ≤ n) xs → AreAscii xs
+all_low n low [] all = tt
+all_low n low (x ∷ xs) all = (omega (arith, all.0, low), all_low n low xs all.1)
 
 -- at index i the bytes in front are at most n exactly where the highest of them is
 abbrev pub IsHighest : List ℕ → ℕ → ℕ → Type 0
@@ -55,9 +59,9 @@ high_on xs i high new h within both n =
       λ k. let parts = (both n).0 k.0 in (h n).1 (parts.0, here.1 (parts.1, k.1)),
     )
 
-pub low_utf8 : (xs : List ℕ) (high : ℕ) → ((n : ℕ) → (AllByRecursion (λ b. b ≤ n) xs ↔ (high ≤ n)))
-    → high < 128 → IsUtf8 xs
-low_utf8 xs high highest low = all_low high low xs ((highest high).1 (omega arith))
+pub high_ascii : (xs : List ℕ) (high : ℕ) → ((n : ℕ) → (AllByRecursion (λ b. b ≤ n) xs ↔ (high ≤ n)))
+    → high < 128 → AreAscii xs
+high_ascii xs high highest low = all_low high low xs ((highest high).1 (omega arith))
 
 pub text_found : (p s : List ℕ) → IsTextOf p s → IsUtf8 s → read_text p ≡ Ok s
 text_found p s is whole = text_agrees.only p s (whole, is)

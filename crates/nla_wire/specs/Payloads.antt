@@ -2,6 +2,7 @@
 use Rattle.std.specs.Prelude.{◌≡◌, ◌≢◌, ℕ, ◌<◌, ◌≤◌, ◌==◌, nat_lt, ℤ, List, [], ◌∷◌, ◌++◌, ◌⊎◌, length, if◌then◌else◌}
 use Rattle.std.specs.Prelude.{IsUtf8, Result, Ok, Err}
 use Rattle.std.specs.Int.{Width, byte_len, from_le_bytes, cast_signed}
+use Rattle.std.specs.List.{AllByRecursion}
 use Rattle.std.specs.Str.{is_utf8}
 use Rattle.std.specs.Net.Addr.{segments_of}
 use Rattle.std.specs.declared.net.ipv6_addr.Ipv6Addr.{Ipv6Addr}
@@ -50,6 +51,10 @@ without_nul (x ∷ y ∷ p) = x ∷ without_nul (y ∷ p)
 
 unfoldable pub read_text : List ℕ → Result (List ℕ) Cause
 read_text p = if is_utf8 (without_nul p) then Ok (without_nul p) else Err NotUtf8
+
+-- each byte is below 128
+abbrev pub AreAscii : List ℕ → Type 0
+AreAscii bytes = AllByRecursion (λ b. b < 128) bytes
 
 -- a text, which may end in one NUL
 abbrev pub text : Grammar (List ℕ) (List ℕ)

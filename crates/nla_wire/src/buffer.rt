@@ -109,6 +109,17 @@ impl<'a> NlaBuffer<'a> {
         (NLA_HEADER_SIZE + self.value.len()) as u16
     }
 
+    /// The same frame: what is lent to a call that is rarely made is a copy, so that this one can stay in registers.
+    #[inline(always)]
+    pub(crate) fn again(&self) -> NlaBuffer<'a>
+        ensures { result ≡ self.now }
+    {
+        NlaBuffer {
+            kind: self.kind,
+            value: self.value,
+        }
+    }
+
     /// What holds of every frame that was read: its kind is a number of two bytes, and its payload is bytes, at most
     /// 65531. It does nothing.
     #[inline(always)]
@@ -144,10 +155,7 @@ impl<'a> Clone for NlaBuffer<'a> {
     ghost is_clone = { λ x y. y ≡ x };
 
     fn clone(&self) -> Result<NlaBuffer<'a>, AllocError> {
-        Ok(NlaBuffer {
-            kind: self.kind,
-            value: self.value,
-        })
+        Ok(self.again())
     }
 }
 

@@ -17,13 +17,16 @@ use std::marker::Model;
 /// can be missing.
 #[derive(Debug, Drop)]
 pub struct NlasIterator<'a> {
-    rest: &'a [u8],
+    /// What is left, with the frame in front that was given last.
+    left: &'a [u8],
+    /// The bytes of that frame, with its padding; it may be more than there are, where padding is missing.
+    given: usize,
 }
 
 impl<'a> Model for NlasIterator<'a> {
     ghost Value = { List Item };
 
-    ghost view = { λ s. items s.rest.now };
+    ghost view = { λ s. items (drop s.given s.left.now) };
 }
 
 impl<'a> NlasIterator<'a> {
@@ -33,33 +36,33 @@ impl<'a> NlasIterator<'a> {
         ensures frames { AreItems bytes.now result }
         ensures few { 4 * frame_count result ≤ length bytes.now }
     {
-        NlasIterator { rest: bytes }
+        NlasIterator {
+            left: bytes,
+            given: 0,
+        }
     }
 }
 
-/// What stands after a frame of this length.
-fn after(bytes: &[u8], length: u16) -> &[u8]
-    ensures { result.now ≡ drop (length + missing length) bytes.now }
+/// The bytes of a frame of this length, with its padding.
+#[inline(always)]
+fn with_padding(length: u16) -> usize
+    ensures { result ≡ length + missing length }
 {
-    let padded = (length as usize + 3) / 4 * 4;
-    if padded < bytes.len() {
-        &bytes[padded..]
-    } else {
-        &[]
-    }
+    (length as usize + 3) / 4 * 4
 }
 
-/// The first item, and the bytes that the others are read from.
-fn first(bytes: &[u8]) -> (Result<NlaBuffer<'_>, DecodeError>, &[u8])
+/// The first item, and the place from which the others are read.
+#[inline(always)]
+fn first(bytes: &[u8]) -> (Result<NlaBuffer<'_>, DecodeError>, usize)
     requires { 0 < length bytes.now }
-    ensures { items bytes.now ≡ without_place result.0 ∷ items result.1.now }
+    ensures { items bytes.now ≡ without_place result.0 ∷ items (drop result.1 bytes.now) }
 {
     match NlaBuffer::at_front(bytes) {
         Ok(frame) => {
-            let rest = after(bytes, frame.length());
-            (Ok(frame), rest)
+            let given = with_padding(frame.length());
+            (Ok(frame), given)
         }
-        Err(error) => (Err(error), &[]),
+        Err(error) => (Err(error), bytes.len()),
     }
 }
 
@@ -70,12 +73,15 @@ impl<'a> Iterator for NlasIterator<'a> {
 
     ghost remaining = { item_count (λ items. items) };
 
+    #[inline(always)]
     fn next(&mut self) -> Option<Result<NlaBuffer<'a>, DecodeError>> {
-        if self.rest.is_empty() {
+        if self.left.len() <= self.given {
             return None;
         }
-        let (item, rest) = first(self.rest);
-        self.rest = rest;
+        let bytes = &self.left[self.given..];
+        let (item, given) = first(bytes);
+        self.left = bytes;
+        self.given = given;
         Some(item)
     }
 }

@@ -49,6 +49,6 @@ pub use record::{PlainRecord, Record, RecordBuffer};
 pub use text::{check_string, parse_string};
 pub use values::{Bytes, CloneIn, List, Text};
 pub use write::{
-    finish, padded_len, write_bytes, write_i32, write_text, write_u8, write_u16, write_u32,
-    write_u64, write_value,
+    add_len, finish, padded_len, write_bytes, write_i32, write_text, write_u8, write_u16,
+    write_u32, write_u64, write_value,
 };

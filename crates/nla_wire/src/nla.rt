@@ -7,7 +7,7 @@ ghost use Rattle.nla_wire.specs.Canon.{canon, canons, AllFit, Measures, Filled, 
 
 use crate::buffer::NLA_HEADER_SIZE;
 use crate::fill::close_frame;
-use crate::write::{finish, padded_len};
+use crate::write::{add_len, finish, padded_len};
 
 /// A value that is written as an attribute.
 ///
@@ -103,7 +103,8 @@ pub trait Nla {
 }
 
 /// The length of the text of the attributes, one after the other; `None` where one does not fit, or the length is no
-/// `usize`.
+/// `usize`. It is a function of its own for each type, whose loop has the registers.
+#[inline(never)]
 pub fn nlas_measure<N: Nla>(nlas: &[N]) -> Option<usize>
     ensures { Measures (AllFit N.fits N.frame nlas.now) (length (canons N.frame nlas.now)) result }
 {
@@ -112,7 +113,7 @@ pub fn nlas_measure<N: Nla>(nlas: &[N]) -> Option<usize>
         let Some(value) = nla.measure() else {
             return None;
         };
-        let Some(more) = len.checked_add(padded_len(value)) else {
+        let Some(more) = add_len(len, padded_len(value)) else {
             return None;
         };
         len = more;
@@ -179,6 +180,7 @@ pub fn nlas_fill<N: Nla>(nlas: &[N], buffer: &mut [u8]) -> usize
 
 /// Writes the texts of the attributes to the front of the buffer, one after the other, and returns their length. The
 /// rest of the buffer is kept.
+#[inline(never)]
 pub fn nlas_write<N: Nla>(nlas: &[N], buffer: &mut [u8]) -> usize
     requires fit { AllFit N.fits N.frame nlas.now }
     requires room { length (canons N.frame nlas.now) ≤ length buffer.old }

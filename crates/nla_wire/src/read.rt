@@ -1,7 +1,7 @@
 //! What is read from attributes: places, lists of members, and types of values that have one place.
 
 ghost use Rattle.std.specs.Prelude.{◌≡◌, ◌≢◌, ◌+◌, ◌*◌, ◌/◌, ◌<◌, ◌≤◌, List, length, vec_len, vec_capacity};
-ghost use Rattle.std.specs.Prelude.{IfOk, IfErr, MatchResult};
+ghost use Rattle.std.specs.Prelude.{IfOk, IfErr, IsOk, IsTrue, MatchResult};
 ghost use Rattle.nla_wire.specs.Sizes.{most_payload, growth};
 ghost use Rattle.nla_wire.specs.Frames.{Frame, IsFrame};
 ghost use Rattle.nla_wire.specs.Grammar.{Grammar, Agrees, list, not_empty, picked};
@@ -14,7 +14,7 @@ use crate::buffer::{NLA_HEADER_SIZE, NlaBuffer};
 use crate::error::{DecodeError, empty_list};
 use crate::iterator::NlasIterator;
 use crate::nla::Nla;
-use crate::write::{finish, padded_len};
+use crate::write::{add_len, finish, padded_len};
 use std::alloc::Global;
 
 /// The number of the members that are read where others are dropped: `IFLA_VF_INFO` and `IFLA_VF_PORT`
@@ -104,8 +104,17 @@ fn add_one<V: Nla + Drop, P: Place<V>>(
     }
 }
 
-/// Whether an attribute has a value, as the place says it. A fault is told with the attribute's name.
+/// Whether an attribute was found to have a value, by measuring its text. `false` where the value does not fit, or
+/// there is none.
 #[inline(always)]
+fn is_measured<V: Nla + Drop, P: Place<V>>(place: &P, buffer: &NlaBuffer<'_>) -> bool
+    ensures { IsTrue result → IsOk ((P.grammar place.now).reads buffer.now) }
+{
+    place.measure(buffer).is_some()
+}
+
+/// Whether an attribute has a value, as the place says it. A fault is told with the attribute's name.
+#[inline(never)]
 pub fn check_one<V: Nla + Drop, P: Place<V>>(
     place: &P,
     buffer: &NlaBuffer<'_>,
@@ -159,19 +168,22 @@ pub fn parse_members<V: Nla + Drop, P: Place<V>>(
 }
 
 /// Whether the bytes are a list of members of this place, with no memory taken: `Ok` where they are, else the cause of
-/// the fault that is met first.
+/// the fault that is met first. Members are measured, and only one that has no length is looked at for a fault.
 pub fn check_members<V: Nla + Drop, P: Place<V>>(place: &P, bytes: &[u8]) -> Result<(), DecodeError>
     ensures { Checks result ((list (P.grammar place.now)).reads bytes.now) }
 {
     for item in NlasIterator::new(bytes) {
         let frame = item?;
-        check_one(place, &frame)?;
+        if !is_measured(place, &frame) {
+            check_one(place, &frame.again())?;
+        }
     }
     Ok(())
 }
 
 /// The length of the canonical text of a list's members, with no memory taken; `None` where a member does not fit, or
-/// the list is refused.
+/// the list is refused. It is a function of its own for each place, whose loop has the registers.
+#[inline(never)]
 pub fn measure_members<V: Nla + Drop, P: Place<V>>(place: &P, bytes: &[u8]) -> Option<usize>
     ensures { Weighs (canons V.frame) (AllFit V.fits V.frame)
         ((list (P.grammar place.now)).reads bytes.now) result }
@@ -184,7 +196,7 @@ pub fn measure_members<V: Nla + Drop, P: Place<V>>(place: &P, bytes: &[u8]) -> O
         let Some(value) = place.measure(&frame) else {
             return None;
         };
-        let Some(more) = len.checked_add(padded_len(value)) else {
+        let Some(more) = add_len(len, padded_len(value)) else {
             return None;
         };
         len = more;
@@ -210,6 +222,7 @@ pub fn measure_nested_members<V: Nla + Drop, P: Place<V>>(place: &P, bytes: &[u8
 /// length. The rest of the buffer is kept.
 ///
 /// The list was measured, and there is room for its text.
+#[inline(never)]
 pub fn write_members<V: Nla + Drop, P: Place<V>>(place: &P, bytes: &[u8], out: &mut [u8]) -> usize
     requires { HasRoom (canons V.frame) (AllFit V.fits V.frame)
         ((list (P.grammar place.now)).reads bytes.now) (length out.old) }
@@ -293,8 +306,8 @@ fn check_picked_values<V: Nla + Drop, P: Place<V>>(
 {
     for item in NlasIterator::new(bytes) {
         let frame = item?;
-        if frame.kind() == PICKED_KIND {
-            check_one(place, &frame)?;
+        if frame.kind() == PICKED_KIND && !is_measured(place, &frame) {
+            check_one(place, &frame.again())?;
         }
     }
     Ok(())
@@ -317,6 +330,7 @@ pub fn check_picked_members<V: Nla + Drop, P: Place<V>>(
 }
 
 /// The length of the canonical text of a list's members with number 1, as `measure_members` does.
+#[inline(never)]
 pub fn measure_picked_members<V: Nla + Drop, P: Place<V>>(place: &P, bytes: &[u8]) -> Option<usize>
     ensures { Weighs (canons V.frame) (AllFit V.fits V.frame)
         ((picked (P.grammar place.now)).reads bytes.now) result }
@@ -330,7 +344,7 @@ pub fn measure_picked_members<V: Nla + Drop, P: Place<V>>(place: &P, bytes: &[u8
             let Some(value) = place.measure(&frame) else {
                 return None;
             };
-            let Some(more) = len.checked_add(padded_len(value)) else {
+            let Some(more) = add_len(len, padded_len(value)) else {
                 return None;
             };
             len = more;
@@ -357,6 +371,7 @@ pub fn measure_nested_picked_members<V: Nla + Drop, P: Place<V>>(
 }
 
 /// Writes the canonical text of a list's members with number 1, as `write_members` does.
+#[inline(never)]
 pub fn write_picked_members<V: Nla + Drop, P: Place<V>>(
     place: &P,
     bytes: &[u8],

@@ -1,12 +1,14 @@
 //! Texts as payloads: UTF-8, which may end in one NUL.
 
-ghost use Rattle.std.specs.Prelude.{◌≡◌, ◌≢◌, ◌⊎◌, ◌≤◌, ◌↔◌, List, ℕ, IfOk, IfErr, IsUtf8, MatchOption};
+ghost use Rattle.std.specs.Prelude.{◌≡◌, ◌≢◌, ◌⊎◌, ◌<◌, ◌≤◌, ◌↔◌, List, ℕ, IfOk, IfErr, IsTrue, IsUtf8, MatchOption};
+ghost use Rattle.std.specs.Prelude.{length, take};
 ghost use Rattle.std.specs.List.{AllByRecursion};
-ghost use Rattle.nla_wire.specs.Payloads.{text, IsTextOf};
+ghost use Rattle.nla_wire.specs.Payloads.{text, AreAscii, IsTextOf};
 ghost use Rattle.nla_wire.specs.Gives.{Gives, Checks};
 ghost use Rattle.nla_wire.specs.declared.error.Cause.TheVariants.{OutOfMemory, NotUtf8};
 
 use crate::error::{Cause, DecodeError, PAYLOAD};
+use crate::fields::{u32_at, u64_at};
 use crate::values::Text;
 use std::alloc::Global;
 use std::str;
@@ -41,17 +43,75 @@ fn highest(bytes: &[u8]) -> u8
     high
 }
 
-/// The bytes as a text, where they are UTF-8. Most texts are ASCII, which the highest byte tells.
+/// The highest bit of each of four bytes.
+const HIGH_BITS_4: u32 = 0x8080_8080;
+
+/// The highest bit of each of eight bytes.
+const HIGH_BITS_8: u64 = 0x8080_8080_8080_8080;
+
+/// Whether the first four bytes are ASCII.
+#[inline(always)]
+fn begins_ascii_4(bytes: &[u8]) -> bool
+    requires { 4 ≤ length bytes.now }
+    ensures { IsTrue result → AreAscii (take 4 bytes.now) }
+{
+    u32_at(bytes, 0) & HIGH_BITS_4 == 0
+}
+
+/// Whether the first eight bytes are ASCII.
+#[inline(always)]
+fn begins_ascii_8(bytes: &[u8]) -> bool
+    requires { 8 ≤ length bytes.now }
+    ensures { IsTrue result → AreAscii (take 8 bytes.now) }
+{
+    u64_at(bytes, 0) & HIGH_BITS_8 == 0
+}
+
+/// Whether at most three bytes, and not none, are ASCII.
+#[inline(always)]
+fn is_ascii_short(bytes: &[u8]) -> bool
+    requires some { 0 < length bytes.now }
+    requires short { length bytes.now < 4 }
+    ensures { IsTrue result → AreAscii bytes.now }
+{
+    let last = bytes.len() - 1;
+    bytes[0] < 128 && bytes[bytes.len() / 2] < 128 && bytes[last] < 128
+}
+
+/// Whether bytes are ASCII. Most names are short, and two words that overlap are all of their bytes.
+#[inline(always)]
+fn is_ascii(bytes: &[u8]) -> bool
+    ensures { IsTrue result → AreAscii bytes.now }
+{
+    match bytes.len() {
+        0 => true,
+        1..=3 => is_ascii_short(bytes),
+        4..=7 => begins_ascii_4(bytes) && begins_ascii_4(&bytes[bytes.len() - 4..]),
+        8..=16 => begins_ascii_8(bytes) && begins_ascii_8(&bytes[bytes.len() - 8..]),
+        _ => highest(bytes) < 128,
+    }
+}
+
+/// The bytes as a text, where they are UTF-8.
+#[inline(never)]
+fn decoded(bytes: &[u8]) -> Option<&str>
+    ensures { MatchOption result (IsUtf8 bytes.now → ⊥)
+        (λ s. (s.now ≡ bytes.now) × IsUtf8 bytes.now) }
+{
+    str::from_utf8(bytes).ok()
+}
+
+/// The bytes as a text, where they are UTF-8, as ASCII is.
 #[inline(always)]
 pub(crate) fn utf8(bytes: &[u8]) -> Option<&str>
     ensures { MatchOption result (IsUtf8 bytes.now → ⊥)
         (λ s. (s.now ≡ bytes.now) × IsUtf8 bytes.now) }
 {
-    if highest(bytes) < 128 {
+    if is_ascii(bytes) {
         // SAFETY: bytes below 128 are ASCII.
         return Some(unsafe { str::from_utf8_unchecked(bytes) });
     }
-    str::from_utf8(bytes).ok()
+    decoded(bytes)
 }
 
 /// Reads a text: one NUL at the end is dropped, and the rest has to be UTF-8, else `NotUtf8`. The empty payload is the

@@ -1,6 +1,7 @@
 //! Attributes written to the front of a buffer: a header, a value, and its padding.
 
-ghost use Rattle.std.specs.Prelude.{◌≡◌, ◌+◌, ◌≤◌, ◌++◌, [], ◌∷◌, length, take, drop, replicate};
+ghost use Rattle.std.specs.Prelude.{◌≡◌, ◌+◌, ◌^◌, ◌<◌, ◌≤◌, ◌++◌, [], ◌∷◌, length, take, drop, replicate};
+ghost use Rattle.std.specs.Option.{SomeIff};
 ghost use Rattle.std.specs.Int.{w8, w16, w32, w64, to_le_bytes, cast_unsigned};
 ghost use Rattle.nla_wire.specs.Sizes.{most_payload};
 ghost use Rattle.nla_wire.specs.Frames.{missing};
@@ -15,6 +16,15 @@ pub fn padded_len(value_len: usize) -> usize
     ensures { result ≡ 4 + value_len + missing value_len }
 {
     NLA_HEADER_SIZE + (value_len + 3) / 4 * 4
+}
+
+/// The sum of two lengths, or `None` where it is no `usize`, which its carry tells.
+#[inline(always)]
+pub fn add_len(len: usize, more: usize) -> Option<usize>
+    ensures { SomeIff result (len + more < 2 ^ 64) (len + more) }
+{
+    let sum = len.wrapping_add(more);
+    if sum < len { None } else { Some(sum) }
 }
 
 /// Writes the header of a frame to the first four bytes, and keeps the rest.
@@ -86,13 +96,41 @@ pub fn write_value(kind: u16, value: &[u8], out: &mut [u8]) -> usize
     finish(out, len, kind)
 }
 
+/// Writes bytes to the front of the buffer as their first and their last `half` bytes, which meet or overlap.
+#[inline(always)]
+fn write_ends(bytes: &[u8], half: usize, out: &mut [u8])
+    requires some { half ≤ length bytes.now }
+    requires all { length bytes.now ≤ half + half }
+    requires room { length bytes.now ≤ length out.old }
+    ensures { out.new ≡ bytes.now ++ drop (length bytes.now) out.old }
+{
+    let last = bytes.len() - half;
+    out[..half].copy_from_slice(&bytes[..half]);
+    out[last..bytes.len()].copy_from_slice(&bytes[last..]);
+}
+
+/// Writes the bytes of a text, and returns their number. Most names are short, and are two words that overlap.
+#[inline(always)]
+fn write_name(bytes: &[u8], out: &mut [u8]) -> usize
+    requires { length bytes.now ≤ length out.old }
+    ensures { Writes bytes.now out.old out.new result }
+{
+    let len = bytes.len();
+    match len {
+        4..=7 => write_ends(bytes, 4, out),
+        8..=16 => write_ends(bytes, 8, out),
+        _ => return write_bytes(bytes, out),
+    }
+    len
+}
+
 /// Writes bytes and one NUL after them to the front of the buffer, and returns their number.
 #[inline(always)]
 fn write_terminated(bytes: &[u8], out: &mut [u8]) -> usize
     requires { length bytes.now + 1 ≤ length out.old }
     ensures { Writes (bytes.now ++ 0 ∷ []) out.old out.new result }
 {
-    let len = write_bytes(bytes, out);
+    let len = write_name(bytes, out);
     out[len] = 0;
     len + 1
 }

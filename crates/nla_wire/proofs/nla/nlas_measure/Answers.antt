@@ -4,11 +4,11 @@ use Rattle.nla_wire.proofs.Bounds.{length-canon}
 use Rattle.nla_wire.proofs.Members.{canons_up_to}
 use Rattle.nla_wire.proofs.nla.nlas_measure.Goals as goal
 
-pub returns-in_default-checked_add : goal.returns-in_default-checked_add
-returns-in_default-checked_add g c = λ all.
+pub returns-in_default-add_len : goal.returns-in_default-add_len
+returns-in_default-add_len g c = λ all.
     let here = canons_up_to g.N.Nla.frame c.args.nlas.now c.loop-nla.nla-index c.nla-item.result c.loop-nla-test.true
     c.nla-item.is in
-    absurd (c.in_default-checked_add.ensures
+    absurd (c.in_default-add_len.ensures
     (omega (
       arith,
       here,

@@ -29,8 +29,8 @@ returns-in_default-measure g c =
     (weighs_none (λ v. (g.V.Nla.frame v).payload) (λ v. canon (g.V.Nla.frame v)) g.V.Nla.fits
     (place.reads c.in-Ok.frame) (rw c.in_default-measure.is at c.measure.ensures))))
 
-pub returns-in_default-checked_add : goal.returns-in_default-checked_add
-returns-in_default-checked_add g c =
+pub returns-in_default-add_len : goal.returns-in_default-add_len
+returns-in_default-add_len g c =
     let steps = rw c.in-Ok.is at c.in-Some.ensures.steps in
     let place = g.P.Place.grammar c.args.place.now in
     let one : number c.in-Ok.frame ≡ 1 = search (rules, c.if-kind-eq-PICKED_KIND.true, c.kind.ensures) in
@@ -40,7 +40,7 @@ returns-in_default-checked_add g c =
     c.loop-item.len c.loop-item.invariant c.in-Ok.frame c.next.new.self c.padded_len.result steps
     (kept_weighs place c.in-Ok.frame one g.V.Nla.frame g.V.Nla.fits (Some c.padded_len.result)
     (weighs_frame g.V.Nla.frame g.V.Nla.fits (place.reads c.in-Ok.frame) c.in-Some-measure.value c.padded_len.result
-    (rw c.in-Some-measure.is at c.measure.ensures) c.padded_len.ensures)) c.in_default-checked_add.ensures)
+    (rw c.in-Some-measure.is at c.measure.ensures) c.padded_len.ensures)) c.in_default-add_len.ensures)
 
 pub loop-item-preserved-then-kind-eq-PICKED_KIND : goal.loop-item-preserved-then-kind-eq-PICKED_KIND
 loop-item-preserved-then-kind-eq-PICKED_KIND g c =
@@ -49,11 +49,11 @@ loop-item-preserved-then-kind-eq-PICKED_KIND g c =
     let one : number c.in-Ok.frame ≡ 1 = search (rules, c.if-kind-eq-PICKED_KIND.true, c.kind.ensures) in
     weighing_on (some_if_picked place).reads (kept_text g.V.Nla.frame) (KeptFits g.V.Nla.fits)
     (list_of (some_if_picked (g.P.Place.grammar c.args.place.now)).reads c.args.bytes.now) c.loop-item.item-iterator
-    c.loop-item.len c.loop-item.invariant c.in-Ok.frame c.next.new.self c.padded_len.result c.in-Some-checked_add.more
+    c.loop-item.len c.loop-item.invariant c.in-Ok.frame c.next.new.self c.padded_len.result c.in-Some-add_len.more
     steps (kept_weighs place c.in-Ok.frame one g.V.Nla.frame g.V.Nla.fits (Some c.padded_len.result)
     (weighs_frame g.V.Nla.frame g.V.Nla.fits (place.reads c.in-Ok.frame) c.in-Some-measure.value c.padded_len.result
-    (rw c.in-Some-measure.is at c.measure.ensures) c.padded_len.ensures)) c.in-Some-checked_add.ensures.1
-    (omega (arith, c.in-Some-checked_add.ensures.0, c.in-Some-checked_add.ensures.1))
+    (rw c.in-Some-measure.is at c.measure.ensures) c.padded_len.ensures)) c.in-Some-add_len.ensures.1
+    (omega (arith, c.in-Some-add_len.ensures.0, c.in-Some-add_len.ensures.1))
 
 pub loop-item-preserved : goal.loop-item-preserved
 loop-item-preserved g c =

@@ -4,5 +4,5 @@ use Rattle.nla_wire.proofs.write.write_terminated.Goals as goal
 
 pub returns : goal.returns
 returns c =
-    nul_after c.args.bytes.now c.args.out.now c.write_bytes-len.new.out c.write_bytes-len.result
-    (omega (arith, c.requires)) c.write_bytes-len.ensures
+    nul_after c.args.bytes.now c.args.out.now c.write_name-len.new.out c.write_name-len.result
+    (omega (arith, c.requires)) c.write_name-len.ensures

@@ -1,74 +1,26 @@
-use Rattle.std.proofs.Common.{◌≡◌, true, false, refl, arith}
-use Rattle.nla_wire.specs.Reading.{list_of}
-use Rattle.nla_wire.specs.Items.{items}
-use Rattle.nla_wire.specs.Canon.{canon}
-use Rattle.nla_wire.proofs.Front.{all_bytes}
-use Rattle.nla_wire.proofs.Written.{weighing_stops, weighing_passes, weighing_faults, weighs_frame, weighs_none}
-use Rattle.link_msg.specs.Tables.{attribute_frame, AttributeFits, attribute_place}
-use Rattle.link_msg.proofs.EmptyPorts.{measuring_starts, measuring_none, measuring_some, measuring_ends}
-use Rattle.link_msg.proofs.EmptyPorts.{list_weighs_none}
+use Rattle.std.proofs.Common.{◌≡◌, ◌-◌, length, take, drop, arith}
+use Rattle.std.proofs.lemmas.List.{take_rest}
+use Rattle.link_msg.proofs.EmptyPorts.{run_some, run_none, run_long}
 use Rattle.link_msg.proofs.attribute.LinkAttribute.measure_list_with_param.Goals as goal
-
-pub loop-item-init : goal.loop-item-init
-loop-item-init c =
-    let left : c.into_iter-item-iterator.result ≡ items c.args.bytes.now = cc in
-    measuring_starts c.args.family c.args.bytes.now c.into_iter-item-iterator.result left
 
 pub returns-in_default : goal.returns-in_default
 returns-in_default c =
-    let steps = rw c.in_default.is at c.in-Some.ensures.steps in
-    list_weighs_none (list_of (attribute_place c.args.family).reads c.args.bytes.now)
-    (weighing_faults (attribute_place c.args.family).reads (λ v. canon (attribute_frame v)) AttributeFits
-    (list_of (attribute_place c.args.family).reads c.args.bytes.now) c.loop-item.item-iterator c.loop-item.len
-    c.loop-item.invariant.telling.weighing c.in_default.field-0.cause c.next.new.self steps)
+    let b = c.args.bytes.now in
+    let run = c.run_in_front-run.result in
+    run_none c.args.family b run c.run_in_front-run.ensures (take (length b - run) (drop run b)) (take_rest b run)
+    c.in_default.ensures
 
-pub returns-in_default-measure_spelled : goal.returns-in_default-measure_spelled
-returns-in_default-measure_spelled c =
-    let steps = rw c.in-Ok.is at c.in-Some.ensures.steps in
-    list_weighs_none (list_of (attribute_place c.args.family).reads c.args.bytes.now)
-    (weighing_stops (attribute_place c.args.family).reads
-    (λ v. canon (attribute_frame v)) AttributeFits (list_of (attribute_place c.args.family).reads c.args.bytes.now)
-    c.loop-item.item-iterator c.loop-item.len c.loop-item.invariant.telling.weighing c.in-Ok.frame c.next.new.self steps
-    (weighs_none (λ v. (attribute_frame v).payload)
-    (λ v. canon (attribute_frame v)) AttributeFits ((attribute_place c.args.family).reads c.in-Ok.frame)
-    (rw c.in_default-measure_spelled.is at c.measure_spelled.ensures)))
-
-pub returns-in_default-checked_add : goal.returns-in_default-checked_add
-returns-in_default-checked_add c =
-    let steps = rw c.in-Ok.is at c.in-Some.ensures.steps in
-    list_weighs_none (list_of (attribute_place c.args.family).reads c.args.bytes.now)
-    (weighing_passes (attribute_place c.args.family).reads (λ v. canon (attribute_frame v)) AttributeFits
-    (list_of (attribute_place c.args.family).reads c.args.bytes.now) c.loop-item.item-iterator
-    c.loop-item.len c.loop-item.invariant.telling.weighing c.in-Ok.frame c.next.new.self c.padded_len.result steps
-    (weighs_frame attribute_frame AttributeFits ((attribute_place c.args.family).reads c.in-Ok.frame)
-    c.in-Some-measure_spelled.value c.padded_len.result (rw c.in-Some-measure_spelled.is at c.measure_spelled.ensures).0
-    c.padded_len.ensures) c.in_default-checked_add.ensures)
-
-pub loop-item-preserved-then-has_no_port : goal.loop-item-preserved-then-has_no_port
-loop-item-preserved-then-has_no_port c =
-    let steps = rw c.in-Ok.is at c.in-Some.ensures.steps in
-    let small = all_bytes c.args.bytes.now (λ i. omega (arith, c.type_inv.bytes i)) in
-    measuring_none c.args.family c.args.bytes.now small
-    c.loop-item.item-iterator c.loop-item.len c.loop-item.empty c.loop-item.run c.loop-item.invariant c.in-Ok.frame
-    c.next.new.self steps c.has_no_port.ensures.frame c.in-Some-measure_spelled.value c.in-Some-measure_spelled.spelled
-    (rw c.in-Some-measure_spelled.is at c.measure_spelled.ensures)
-    c.padded_len.result c.in-Some-checked_add.more c.padded_len.ensures c.in-Some-checked_add.ensures.1
-    (omega (arith, c.in-Some-checked_add.ensures.0, c.in-Some-checked_add.ensures.1)) c.length.result
-    c.run_after-run.result c.length.ensures c.run_after-run.ensures (c.if-has_no_port.ensures.told.0 refl)
-
-pub loop-item-preserved : goal.loop-item-preserved
-loop-item-preserved c =
-    let steps = rw c.in-Ok.is at c.in-Some.ensures.steps in
-    let small = all_bytes c.args.bytes.now (λ i. omega (arith, c.type_inv.bytes i)) in
-    measuring_some c.args.family c.args.bytes.now small
-    c.loop-item.item-iterator c.loop-item.len c.loop-item.empty c.loop-item.run c.loop-item.invariant c.in-Ok.frame
-    c.next.new.self steps c.has_no_port.ensures.frame c.in-Some-measure_spelled.value c.in-Some-measure_spelled.spelled
-    (rw c.in-Some-measure_spelled.is at c.measure_spelled.ensures)
-    c.padded_len.result c.in-Some-checked_add.more c.padded_len.ensures c.in-Some-checked_add.ensures.1
-    (omega (arith, c.in-Some-checked_add.ensures.0, c.in-Some-checked_add.ensures.1)) c.length.result
-    c.run_after-run.result c.length.ensures c.run_after-run.ensures
-    (λ none. let wrong : false ≡ true = c.if-has_no_port.ensures.told.1 none in absurd cc)
+pub returns-in_default-add_len : goal.returns-in_default-add_len
+returns-in_default-add_len c =
+    let b = c.args.bytes.now in
+    let run = c.run_in_front-run.result in
+    run_long c.args.family b run c.run_in_front-run.ensures (take (length b - run) (drop run b)) (take_rest b run)
+    c.in-Some.after c.in-Some.empty c.in-Some.ensures c.in_default-add_len.ensures
 
 pub returns : goal.returns
-returns c = measuring_ends c.args.family c.args.bytes.now c.loop-item.item-iterator c.loop-item.len c.loop-item.empty
-    c.loop-item.run c.loop-item.invariant c.in-None.ensures.steps.0
+returns c =
+    let b = c.args.bytes.now in
+    let run = c.run_in_front-run.result in
+    run_some c.args.family b run c.run_in_front-run.ensures (take (length b - run) (drop run b)) (take_rest b run)
+    c.in-Some.after c.in-Some.empty c.in-Some.ensures c.in-Some-add_len.len c.in-Some-add_len.ensures.1
+    (omega (arith, c.in-Some-add_len.ensures.0, c.in-Some-add_len.ensures.1))

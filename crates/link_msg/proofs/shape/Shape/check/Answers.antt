@@ -1,7 +1,7 @@
 use Rattle.std.proofs.Common.{refl, Ok}
 use Rattle.link_msg.specs.declared.shape.Shape.TheVariants as Shapes
 use Rattle.link_msg.proofs.Shaped.{arm_checks}
-use Rattle.link_msg.proofs.shape.Shape.look.Goals as goal
+use Rattle.link_msg.proofs.shape.Shape.check.Goals as goal
 
 pub returns-in-Bytes : goal.returns-in-Bytes
 returns-in-Bytes c = arm_checks c.args.self Shapes.Bytes c.args.payload.now (Ok tt) c.in-Bytes.is refl
