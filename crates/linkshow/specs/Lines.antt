@@ -4,28 +4,15 @@ use Rattle.hex.specs.Hex.{decode_of}
 use Rattle.hex.specs.declared.error.FromHexError.{FromHexError}
 use Rattle.json.specs.Token.{Token, begin_object, key, string, number}
 use Rattle.nla_wire.specs.declared.error.Cause.{Cause}
-use Rattle.nla_wire.specs.declared.error.Cause.TheVariants.{TooShort, FrameShort, FrameOver, FrameUnder, EmptyList}
-use Rattle.nla_wire.specs.declared.error.Cause.TheVariants.{WrongLength, NotUtf8, InvalidState, OutOfMemory}
 use Rattle.link_vals.specs.AddressFamilyTable.{address_family_number}
 use Rattle.link_msg.specs.Messages.{Means, FirstFault}
 use Rattle.link_msg.specs.declared.message.LinkMessage.{LinkMessage}
+use Rattle.shown.specs.Causes.{cause_text}
 use Rattle.shown.specs.Pages.{IsObject}
 use Rattle.line_filter.specs.Lines as filter
 use Rattle.line_filter.specs.Lines.{with_lf}
 use Rattle.line_filter.specs.Steps as steps
 use Rattle.line_filter.specs.declared.error.RunError.{RunError}
-
--- the name of a cause
-abbrev pub cause_text : Cause → List ℕ
-cause_text (TooShort got need) = codes "too-short"
-cause_text (FrameShort left) = codes "frame-short"
-cause_text (FrameOver len left) = codes "frame-over"
-cause_text (FrameUnder len) = codes "frame-under"
-cause_text EmptyList = codes "empty-list"
-cause_text (WrongLength got want) = codes "wrong-length"
-cause_text NotUtf8 = codes "not-utf8"
-cause_text InvalidState = codes "invalid-state"
-cause_text OutOfMemory = codes "out-of-memory"
 
 -- how the answer begins to bytes that are refused for a cause
 abbrev pub fault_head : Cause → List Token

@@ -7,12 +7,12 @@ ghost use Rattle.linkshow.specs.Lines.{IsAnswer, AddsAnswer, AddsAnswerTo};
 ghost use Rattle.linkshow.specs.Answered.{each_answered};
 
 use crate::attribute::show_header;
-use crate::fault::{cause_name, fault_page};
+use crate::fault::fault_page;
 use crate::member::show_members;
 use line_filter::answers::Answer;
 use line_filter::digits::{decode, values};
 use link_msg::{Cause, DecodeError, LinkMessage};
-use shown::Page;
+use shown::{Page, cause_name};
 use std::alloc::{AllocError, Global};
 
 /// Answers lines by what they say, with room for the bytes of one line.

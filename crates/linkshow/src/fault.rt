@@ -1,61 +1,13 @@
 //! What is said of bytes that are no message.
 
-ghost use Rattle.std.specs.Prelude.{◌≡◌, ◌≤◌, length};
-ghost use Rattle.linkshow.specs.Lines.{cause_text};
+ghost use Rattle.std.specs.Prelude.{◌≤◌, length};
 
 use crate::member::show_object;
 use link_msg::header::HEADER_SIZE;
 use link_msg::{Cause, DecodeError, LinkMessage, NlasIterator};
 use nla_wire::fields::u32_at;
-use shown::Page;
+use shown::{Page, show_cause};
 use std::alloc::{AllocError, Global};
-
-/// The name of a cause.
-pub fn cause_name(cause: &Cause) -> &'static str
-    ensures { result.now ≡ cause_text cause.now }
-{
-    match cause {
-        Cause::TooShort { .. } => "too-short",
-        Cause::FrameShort { .. } => "frame-short",
-        Cause::FrameOver { .. } => "frame-over",
-        Cause::FrameUnder { .. } => "frame-under",
-        Cause::EmptyList => "empty-list",
-        Cause::WrongLength { .. } => "wrong-length",
-        Cause::NotUtf8 => "not-utf8",
-        Cause::InvalidState => "invalid-state",
-        Cause::OutOfMemory => "out-of-memory",
-    }
-}
-
-/// Adds two numbers.
-fn show_two(
-    page: &mut Page,
-    first: &str,
-    one: usize,
-    second: &str,
-    other: usize,
-) -> Result<(), AllocError> {
-    page.number(first, one as u64)?;
-    page.number(second, other as u64)
-}
-
-/// Adds the numbers of a cause.
-fn show_cause(page: &mut Page, cause: &Cause) -> Result<(), AllocError> {
-    match cause {
-        Cause::TooShort { got, need } => show_two(page, "got", *got, "need", *need),
-        Cause::FrameShort { left } => page.number("left", *left as u64),
-        Cause::FrameOver { length, left } => show_two(
-            page,
-            "length",
-            *length as usize,
-            "left",
-            *left,
-        ),
-        Cause::FrameUnder { length } => page.number("length", (*length).into()),
-        Cause::WrongLength { got, want } => show_two(page, "got", *got, "want", *want),
-        _ => Ok(()),
-    }
-}
 
 /// What is said after a cause's name.
 pub fn fault_page(alloc: Global, bytes: &[u8], error: &DecodeError) -> Result<Page, AllocError> {

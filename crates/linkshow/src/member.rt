@@ -1,7 +1,7 @@
 //! Attributes of one place, as the members of an object.
 
-use link_msg::{DefaultNla, NLA_F_NESTED, NLA_F_NET_BYTEORDER, NLA_TYPE_MASK, Nla};
-use shown::{Nest, Page};
+use link_msg::{DefaultNla, NLA_TYPE_MASK, Nla};
+use shown::{Nest, Page, show_frame};
 use std::alloc::AllocError;
 
 /// An attribute that is shown under its name.
@@ -93,22 +93,6 @@ pub fn show_kept<T: Member>(page: &mut Page, items: &[T]) -> Result<(), AllocErr
         page.end()?;
     }
     Ok(())
-}
-
-/// Adds an attribute as it is.
-pub fn show_frame(page: &mut Page, kind: u16, payload: &[u8]) -> Result<(), AllocError> {
-    page.begin("", Nest::Object)?;
-    page.number("number", (kind & NLA_TYPE_MASK).into())?;
-    page.begin("flags", Nest::List)?;
-    if kind & NLA_F_NESTED != 0 {
-        page.string("", "nested")?;
-    }
-    if kind & NLA_F_NET_BYTEORDER != 0 {
-        page.string("", "net-byteorder")?;
-    }
-    page.end()?;
-    page.hex("payload", payload)?;
-    page.end()
 }
 
 /// Adds the attributes of a place as an object.
