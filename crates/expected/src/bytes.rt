@@ -3,7 +3,7 @@
 ghost use Rattle.std.specs.Prelude.{◌≡◌, length, IfOk};
 
 use link_recs::inet6_stats::INET6_STATS_SIZE;
-use nla_wire::{Cause, DecodeError, DefaultNla, NLA_F_NESTED, NLA_HEADER_SIZE};
+use nla_wire::{Bytes, Cause, DecodeError, DefaultNla, NLA_F_NESTED, NLA_HEADER_SIZE, Text};
 use std::alloc::{AllocError, Global};
 
 /// The bytes of buffer for each byte that is read that are room for any text: a header alone may become one of the
@@ -24,6 +24,21 @@ pub fn filled(alloc: Global, byte: u8, count: usize) -> Result<Vec<u8>, AllocErr
     ensures { IfOk result (λ v. length v.items ≡ count) }
 {
     vec![in alloc; byte; count]
+}
+
+/// A text of these letters. What it holds is looked at when the test runs.
+pub fn text_from(alloc: Global, letters: &str) -> Result<Text, AllocError> {
+    Text::from_str(alloc, letters)
+}
+
+/// These bytes as a value.
+pub fn bytes_from(alloc: Global, bytes: &[u8]) -> Result<Bytes, AllocError> {
+    Bytes::from_slice(alloc, bytes)
+}
+
+/// These bytes in memory of their own.
+pub fn vec_from(alloc: Global, bytes: &[u8]) -> Result<Vec<u8>, AllocError> {
+    Vec::from_slice(alloc, bytes)
 }
 
 /// Whether the bytes are these.

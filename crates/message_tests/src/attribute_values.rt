@@ -1,7 +1,7 @@
 //! Messages of one attribute that is no list: the value that is read, and its text.
 
 use crate::rows::*;
-use expected::{kept, list, zeros_after};
+use expected::{bytes_from, kept, list, text_from, zeros_after};
 use link_msg::*;
 
 /// An attribute as it is read, what it means, and its text.
@@ -19,7 +19,7 @@ fn names(rt: HostRuntime) {
         &[7, 0, 3, 0, 0x6c, 0x6f, 0],
         text,
     ] {
-        let name = LinkAttribute::IfName(Text::from_str(alloc, "lo").expect(&rt, "memory"));
+        let name = LinkAttribute::IfName(text_from(alloc, "lo").expect(&rt, "memory"));
         is_attribute_row(&rt, alloc, 0, bytes, name, text);
     }
 }
@@ -116,11 +116,9 @@ fn a_kept_headroom(rt: HostRuntime) {
 #[test]
 fn wireless_events(rt: HostRuntime) {
     let alloc = rt.alloc();
-    let request = WirelessEvent::AssociateRequest(Bytes::from_slice(alloc, &[0xaa]).expect(
-        &rt, "memory",
-    ));
+    let request = WirelessEvent::AssociateRequest(bytes_from(alloc, &[0xaa]).expect(&rt, "memory"));
     let other = [8, 0, 1, 0x8b, 0, 0, 0, 0];
-    let other = WirelessEvent::Other(Bytes::from_slice(alloc, &other).expect(&rt, "memory"));
+    let other = WirelessEvent::Other(bytes_from(alloc, &other).expect(&rt, "memory"));
     let rows: [Row<'_>; 2] = [
         (
             &[13, 0, 11, 0, 0xff, 0xff, 7, 0x8c, 1, 2, 3, 4, 0xaa, 0, 0, 0],

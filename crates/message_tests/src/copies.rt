@@ -1,7 +1,7 @@
 //! Copies of messages and of their attributes: each is equal to what it was made from and to nothing else, and is
 //! written as the same text.
 
-use expected::{are_copied_alike, are_told_apart, equal, kept_byte, list};
+use expected::{are_copied_alike, are_told_apart, bytes_from, equal, kept_byte, list, text_from};
 use link_msg::*;
 use nla_wire::exact::same;
 use std::alloc::Global;
@@ -93,18 +93,18 @@ fn records(n: u8) -> [LinkAttribute; 5] {
 /// Attributes that hold this text.
 fn texts(rt: &impl Abort, alloc: Global, letters: &str) -> [LinkAttribute; 6] {
     [
-        LinkAttribute::IfName(Text::from_str(alloc, letters).expect(rt, "memory")),
-        LinkAttribute::Qdisc(Text::from_str(alloc, letters).expect(rt, "memory")),
-        LinkAttribute::IfAlias(Text::from_str(alloc, letters).expect(rt, "memory")),
-        LinkAttribute::PhysPortName(Text::from_str(alloc, letters).expect(rt, "memory")),
-        LinkAttribute::ParentDevName(Text::from_str(alloc, letters).expect(rt, "memory")),
-        LinkAttribute::ParentDevBusName(Text::from_str(alloc, letters).expect(rt, "memory")),
+        LinkAttribute::IfName(text_from(alloc, letters).expect(rt, "memory")),
+        LinkAttribute::Qdisc(text_from(alloc, letters).expect(rt, "memory")),
+        LinkAttribute::IfAlias(text_from(alloc, letters).expect(rt, "memory")),
+        LinkAttribute::PhysPortName(text_from(alloc, letters).expect(rt, "memory")),
+        LinkAttribute::ParentDevName(text_from(alloc, letters).expect(rt, "memory")),
+        LinkAttribute::ParentDevBusName(text_from(alloc, letters).expect(rt, "memory")),
     ]
 }
 
 /// These bytes.
 fn bytes_of(rt: &impl Abort, alloc: Global, n: u8) -> Bytes {
-    Bytes::from_slice(alloc, &[n, 0, n]).expect(rt, "memory")
+    bytes_from(alloc, &[n, 0, n]).expect(rt, "memory")
 }
 
 /// Attributes that hold bytes with this one.

@@ -1,7 +1,7 @@
 //! Damaged lists in each place, and the refusals of whole messages.
 
 use crate::rows::is_refused_row;
-use expected::cause_of;
+use expected::{cause_of, vec_from};
 use link_msg::*;
 use std::alloc::Global;
 use std::process::Abort;
@@ -10,7 +10,7 @@ use std::process::Abort;
 /// without padding.
 fn message(rt: &impl Abort, alloc: Global, family: u8, path: &[u8], payload: &[u8]) -> Vec<u8> {
     let header = [family, 0, 0, 0, 0, 0, 0, 0, 0, 0, 0, 0, 0, 0, 0, 0];
-    let mut bytes = Vec::from_slice(alloc, &header).expect(rt, "memory");
+    let mut bytes = vec_from(alloc, &header).expect(rt, "memory");
     assert!(rt; path.len() < 10);
     assert!(rt; payload.len() < 100);
     let mut len = (4 * path.len() + payload.len()) as u8;

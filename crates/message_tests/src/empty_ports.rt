@@ -1,7 +1,7 @@
 //! Empty lists of ports, which are read and not written.
 
 use crate::rows::*;
-use expected::{GROWTH, list};
+use expected::{GROWTH, list, text_from, vec_from};
 use link_msg::laws::law_room;
 use link_msg::*;
 use std::alloc::Global;
@@ -38,7 +38,7 @@ fn in_a_long_buffer(rt: HostRuntime) {
 
 /// These bytes, and an alias that gets no room for its NUL.
 fn with_alias(rt: &impl Abort, alloc: Global, front: &[u8]) -> Vec<u8> {
-    let mut bytes = Vec::from_slice(alloc, front).expect(rt, "memory");
+    let mut bytes = vec_from(alloc, front).expect(rt, "memory");
     bytes
         .extend_from_slice(&[0xff, 0xff, 20, 0])
         .expect(rt, "memory");
@@ -51,7 +51,7 @@ fn with_alias(rt: &impl Abort, alloc: Global, front: &[u8]) -> Vec<u8> {
 fn what_does_not_fit_comes_first(rt: HostRuntime) {
     let alloc = rt.alloc();
     let unfit = with_alias(&rt, alloc, &NO_PORTS);
-    let alias = Text::from_str(
+    let alias = text_from(
         alloc,
         std::str::from_utf8(&[0x61; 65531]).expect(&rt, "memory"),
     )

@@ -1,7 +1,7 @@
 //! Messages of one attribute that is a list: the value that is read, and its text.
 
 use crate::rows::*;
-use expected::{equal, kept, list};
+use expected::{bytes_from, equal, kept, list, text_from};
 use link_msg::*;
 use std::alloc::Global;
 use std::process::Abort;
@@ -119,8 +119,8 @@ fn functions_with_lists(rt: HostRuntime) {
 #[test]
 fn flat_lists(rt: HostRuntime) {
     let alloc = rt.alloc();
-    let name = Prop::AltIfName(Text::from_str(alloc, "").expect(&rt, "memory"));
-    let letter = Prop::AltIfName(Text::from_str(alloc, "a").expect(&rt, "memory"));
+    let name = Prop::AltIfName(text_from(alloc, "").expect(&rt, "memory"));
+    let letter = Prop::AltIfName(text_from(alloc, "a").expect(&rt, "memory"));
     let attached = LinkXdp::Attached(XdpAttached::SocketBuffer);
     let binding = AfSpecMctp::PhysBinding(MctpPhysBinding::Vendor);
     let mctp = AfSpecUnspec::Mctp(list(alloc, [binding]).expect(&rt, "memory"));
@@ -194,7 +194,7 @@ fn lists_by_family(rt: HostRuntime) {
 fn bytes_by_family(rt: HostRuntime) {
     let alloc = rt.alloc();
     let info = kept(alloc, 12, &[4, 0, 5, 0]).expect(&rt, "memory");
-    let settings = Bytes::from_slice(alloc, &[0xff]).expect(&rt, "memory");
+    let settings = bytes_from(alloc, &[0xff]).expect(&rt, "memory");
     let rows: [Row<'_>; 2] = [
         (
             2,

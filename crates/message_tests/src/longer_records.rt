@@ -1,7 +1,7 @@
 //! Messages whose records are longer when they are written than when they were read.
 
 use crate::rows::*;
-use expected::{GROWTH, equal, list, zeros_after};
+use expected::{GROWTH, equal, list, text_from, zeros_after};
 use link_msg::laws::law_room;
 use link_msg::*;
 use link_recs::inet::INET_DEV_CONF_SIZE;
@@ -179,7 +179,7 @@ fn counters_and_a_name(rt: HostRuntime) {
         .extend_from_slice(&[7, 0, 3, 0, 0x6c, 0x6f, 0])
         .expect(&rt, "memory");
     assert!(rt; short.len() == 16 + 839);
-    let name = LinkAttribute::IfName(Text::from_str(alloc, "lo").expect(&rt, "memory"));
+    let name = LinkAttribute::IfName(text_from(alloc, "lo").expect(&rt, "memory"));
     let wanted = message_of(&rt, alloc, [counters(&rt, alloc, 206), name]);
     let member: [u8; COUNTERS] = zeros_after(&[60, 1, 3, 0]);
     let headers = [0x50, 0xfe, 26, 0, 0x4c, 0xfe, 10, 0];

@@ -1,7 +1,7 @@
 //! Messages whose one attribute is as long as fits, or longer by one byte.
 
 use crate::rows::*;
-use expected::{kept, list};
+use expected::{bytes_from, kept, list, text_from};
 use link_msg::*;
 use std::alloc::Global;
 use std::process::Abort;
@@ -30,7 +30,7 @@ fn bytes_of(
 /// A text of so many letters.
 fn letters(rt: &impl Abort, alloc: Global, count: usize) -> Text {
     assert!(rt; count <= 65531);
-    Text::from_str(
+    text_from(
         alloc,
         from_utf8(&LETTERS[..count]).expect(rt, "it is written"),
     )
@@ -101,7 +101,7 @@ fn bytes_that_are_kept(rt: HostRuntime) {
 /// A message of a request to associate, with so many letters.
 fn asked(rt: &impl Abort, alloc: Global, count: usize) -> LinkMessage {
     assert!(rt; count <= 65531);
-    let request = Bytes::from_slice(alloc, &LETTERS[..count]).expect(rt, "memory");
+    let request = bytes_from(alloc, &LETTERS[..count]).expect(rt, "memory");
     let event = WirelessEvent::AssociateRequest(request);
     message_of(rt, alloc, [LinkAttribute::Wireless(event)])
 }

@@ -3,7 +3,7 @@
 ghost use Rattle.std.specs.Prelude.{◌≡◌, length};
 
 use crate::testing::{are_same, read_message, text_made};
-use expected::{GROWTH, cause_of, equal, filled, is_copied, is_stored, list};
+use expected::{GROWTH, cause_of, equal, filled, is_copied, is_stored, list, vec_from};
 use link_msg::laws::{law_exact_room, law_room};
 use link_msg::*;
 use std::alloc::Global;
@@ -32,7 +32,7 @@ pub(crate) fn with_header(
     attributes: &[u8],
 ) -> Vec<u8> {
     let header = [family, 0, 0, 0, 0, 0, 0, 0, 0, 0, 0, 0, 0, 0, 0, 0];
-    let mut bytes = Vec::from_slice(alloc, &header).expect(rt, "memory");
+    let mut bytes = vec_from(alloc, &header).expect(rt, "memory");
     bytes.extend_from_slice(attributes).expect(rt, "memory");
     bytes
 }

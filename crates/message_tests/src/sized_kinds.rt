@@ -1,7 +1,7 @@
 //! Numbers round those that are read at one size of payload alone, at each place, with each flag and ten sizes.
 
 use crate::rows::*;
-use expected::{kept, rewrites, writes};
+use expected::{kept, rewrites, vec_from, writes};
 use link_msg::numbers::{IFLA_HEADROOM, IFLA_NETNS_IMMUTABLE, IFLA_TAILROOM};
 use link_msg::*;
 use std::alloc::Global;
@@ -34,9 +34,7 @@ const PAYLOAD: [u8; 9] = [0x20, 1, 2, 3, 4, 5, 6, 7, 8];
 fn frame(rt: &impl Abort, alloc: Global, kind: u16, payload: &[u8]) -> Vec<u8> {
     assert!(rt; payload.len() < 10);
     let [low, high] = kind.to_le_bytes();
-    let mut bytes = Vec::from_slice(alloc, &[4 + payload.len() as u8, 0, low, high]).expect(
-        rt, "memory",
-    );
+    let mut bytes = vec_from(alloc, &[4 + payload.len() as u8, 0, low, high]).expect(rt, "memory");
     bytes.extend_from_slice(payload).expect(rt, "memory");
     let padding = [0; 3];
     let missing = (4 - payload.len() % 4) % 4;

@@ -1,7 +1,7 @@
 //! Messages whose header says something, or with several attributes, and the calls that take a longer buffer.
 
 use crate::rows::*;
-use expected::{GROWTH, equal, kept, list};
+use expected::{GROWTH, equal, kept, list, text_from};
 use link_msg::laws::law_room;
 use link_msg::*;
 use std::alloc::Global;
@@ -34,7 +34,7 @@ fn a_mask_and_a_name(rt: HostRuntime) {
     let alloc = rt.alloc();
     let mask = list(alloc, [LinkExtentMask::Vf, LinkExtentMask::SkipStats]).expect(&rt, "memory");
     let mask = LinkAttribute::ExtMask(mask);
-    let name = LinkAttribute::IfName(Text::from_str(alloc, "lo").expect(&rt, "memory"));
+    let name = LinkAttribute::IfName(text_from(alloc, "lo").expect(&rt, "memory"));
     let message = message_of(&rt, alloc, [mask, name]);
     let attributes = [8, 0, 29, 0, 9, 0, 0, 0, 7, 0, 3, 0, 0x6c, 0x6f, 0, 0];
     let bytes = with_header(&rt, alloc, 0, &attributes);
@@ -51,8 +51,8 @@ fn names_of_a_card(rt: HostRuntime) {
         0, 0x77, 0x6c, 0x70, 0x30, 0x73, 0x32, 0x30, 0x66, 0x33, 0, 0, 0, 9, 0, 0x35, 0, 0x77,
         0x69, 0x66, 0x69, 0, 0, 0, 0,
     ];
-    let first = Prop::AltIfName(Text::from_str(alloc, "wlp0s20f3").expect(&rt, "memory"));
-    let second = Prop::AltIfName(Text::from_str(alloc, "wifi").expect(&rt, "memory"));
+    let first = Prop::AltIfName(text_from(alloc, "wlp0s20f3").expect(&rt, "memory"));
+    let second = Prop::AltIfName(text_from(alloc, "wifi").expect(&rt, "memory"));
     let names = LinkAttribute::PropList(list(alloc, [first, second]).expect(&rt, "memory"));
     let message = LinkMessage {
         header: LinkHeader {
@@ -90,13 +90,13 @@ fn a_tunnel_of_sessions(rt: HostRuntime) {
         0, 0, 0xfe, 0xff, 16, 0, 0, 0, 0x90, 0x10, 0, 0, 0, 0, 0, 0, 10, 0, 3, 0, 0x70, 0x66, 0x63,
         0x70, 0x30, 0, 0, 0, 16, 0, 18, 0, 9, 0, 1, 0, 0x70, 0x66, 0x63, 0x70, 0, 0, 0, 0,
     ];
-    let kind = LinkInfo::Kind(Text::from_str(alloc, "pfcp").expect(&rt, "memory"));
+    let kind = LinkInfo::Kind(text_from(alloc, "pfcp").expect(&rt, "memory"));
     let message = LinkMessage {
         header: layerless(16, 0x1090),
         attributes: list(
             alloc,
             [
-                LinkAttribute::IfName(Text::from_str(alloc, "pfcp0").expect(&rt, "memory")),
+                LinkAttribute::IfName(text_from(alloc, "pfcp0").expect(&rt, "memory")),
                 LinkAttribute::LinkInfo(list(alloc, [kind]).expect(&rt, "memory")),
             ],
         )
@@ -112,7 +112,7 @@ fn a_tunnel_of_packets(rt: HostRuntime) {
         0, 0, 0xfe, 0xff, 40, 0, 0, 0, 0xc1, 0, 1, 0, 0, 0, 0, 0, 36, 0, 18, 0, 9, 0, 1, 0, 0x78,
         0x66, 0x72, 0x6d, 0, 0, 0, 0, 20, 0, 2, 0, 8, 0, 1, 0, 2, 0, 0, 0, 8, 0, 2, 0, 10, 0, 0, 0,
     ];
-    let kind = LinkInfo::Kind(Text::from_str(alloc, "xfrm").expect(&rt, "memory"));
+    let kind = LinkInfo::Kind(text_from(alloc, "xfrm").expect(&rt, "memory"));
     let data = LinkInfo::Other(kept(alloc, 2, &bytes[36..]).expect(&rt, "memory"));
     let message = LinkMessage {
         header: layerless(40, 0x100c1),
@@ -130,7 +130,7 @@ fn named(rt: &impl Abort, alloc: Global) -> LinkMessage {
     message_of(
         rt,
         alloc,
-        [LinkAttribute::IfName(Text::from_str(alloc, "lo").expect(rt, "memory"))],
+        [LinkAttribute::IfName(text_from(alloc, "lo").expect(rt, "memory"))],
     )
 }
 

@@ -1,7 +1,9 @@
 //! Copies of what stands inside of attributes: each is equal to what it was made from and to nothing else, and is
 //! written as the same text.
 
-use expected::{are_copied_alike, are_told_apart, equal, filled, kept, kept_byte, list};
+use expected::{
+    are_copied_alike, are_told_apart, bytes_from, equal, filled, kept, kept_byte, list, text_from,
+};
 use link_afspec::*;
 use link_nest::*;
 use link_recs::*;
@@ -17,17 +19,17 @@ use std::process::Abort;
 fn bytes_and_texts(rt: HostRuntime) {
     let alloc = rt.alloc();
     let bytes = [
-        Bytes::from_slice(alloc, &[]).expect(&rt, "memory"),
-        Bytes::from_slice(alloc, &[0]).expect(&rt, "memory"),
-        Bytes::from_slice(alloc, &[0, 1]).expect(&rt, "memory"),
-        Bytes::from_slice(alloc, &[0, 2]).expect(&rt, "memory"),
+        bytes_from(alloc, &[]).expect(&rt, "memory"),
+        bytes_from(alloc, &[0]).expect(&rt, "memory"),
+        bytes_from(alloc, &[0, 1]).expect(&rt, "memory"),
+        bytes_from(alloc, &[0, 2]).expect(&rt, "memory"),
     ];
     assert!(rt; are_told_apart(alloc, &bytes, &[]));
     let texts = [
-        Text::from_str(alloc, "").expect(&rt, "memory"),
-        Text::from_str(alloc, "l").expect(&rt, "memory"),
-        Text::from_str(alloc, "lo").expect(&rt, "memory"),
-        Text::from_str(alloc, "l\0").expect(&rt, "memory"),
+        text_from(alloc, "").expect(&rt, "memory"),
+        text_from(alloc, "l").expect(&rt, "memory"),
+        text_from(alloc, "lo").expect(&rt, "memory"),
+        text_from(alloc, "l\0").expect(&rt, "memory"),
     ];
     assert!(rt; are_told_apart(alloc, &texts, &[]));
 }
@@ -36,17 +38,17 @@ fn bytes_and_texts(rt: HostRuntime) {
 fn lists(rt: HostRuntime) {
     let alloc = rt.alloc();
     let two = [
-        Text::from_str(alloc, "").expect(&rt, "memory"),
-        Text::from_str(alloc, "lo").expect(&rt, "memory"),
+        text_from(alloc, "").expect(&rt, "memory"),
+        text_from(alloc, "lo").expect(&rt, "memory"),
     ];
     let turned = [
-        Text::from_str(alloc, "lo").expect(&rt, "memory"),
-        Text::from_str(alloc, "").expect(&rt, "memory"),
+        text_from(alloc, "lo").expect(&rt, "memory"),
+        text_from(alloc, "").expect(&rt, "memory"),
     ];
     let values = [
         List::new(Vec::new(alloc)),
-        list(alloc, [Text::from_str(alloc, "").expect(&rt, "memory")]).expect(&rt, "memory"),
-        list(alloc, [Text::from_str(alloc, "lo").expect(&rt, "memory")]).expect(&rt, "memory"),
+        list(alloc, [text_from(alloc, "").expect(&rt, "memory")]).expect(&rt, "memory"),
+        list(alloc, [text_from(alloc, "lo").expect(&rt, "memory")]).expect(&rt, "memory"),
         List::new(Vec::from_array(alloc, two).expect(&rt, "memory")),
         List::new(Vec::from_array(alloc, turned).expect(&rt, "memory")),
     ];
@@ -70,9 +72,9 @@ fn kept_attributes(rt: HostRuntime) {
 /// Wireless events with these bytes.
 fn events(rt: &impl Abort, alloc: Global, bytes: &[u8]) -> [WirelessEvent; 3] {
     [
-        WirelessEvent::AssociateRequest(Bytes::from_slice(alloc, bytes).expect(rt, "memory")),
-        WirelessEvent::AssociateResponse(Bytes::from_slice(alloc, bytes).expect(rt, "memory")),
-        WirelessEvent::Other(Bytes::from_slice(alloc, bytes).expect(rt, "memory")),
+        WirelessEvent::AssociateRequest(bytes_from(alloc, bytes).expect(rt, "memory")),
+        WirelessEvent::AssociateResponse(bytes_from(alloc, bytes).expect(rt, "memory")),
+        WirelessEvent::Other(bytes_from(alloc, bytes).expect(rt, "memory")),
     ]
 }
 
@@ -103,7 +105,7 @@ fn wireless_events(rt: HostRuntime) {
 /// Members of IFLA_PROP_LIST with these letters and this number.
 fn properties(rt: &impl Abort, alloc: Global, letters: &str, n: u8) -> [Prop; 2] {
     [
-        Prop::AltIfName(Text::from_str(alloc, letters).expect(rt, "memory")),
+        Prop::AltIfName(text_from(alloc, letters).expect(rt, "memory")),
         Prop::Other(kept_byte(alloc, n).expect(rt, "memory")),
     ]
 }
@@ -111,7 +113,7 @@ fn properties(rt: &impl Abort, alloc: Global, letters: &str, n: u8) -> [Prop; 2]
 /// Members of IFLA_LINKINFO with these letters and this number.
 fn infos(rt: &impl Abort, alloc: Global, letters: &str, n: u8) -> [LinkInfo; 2] {
     [
-        LinkInfo::Kind(Text::from_str(alloc, letters).expect(rt, "memory")),
+        LinkInfo::Kind(text_from(alloc, letters).expect(rt, "memory")),
         LinkInfo::Other(kept_byte(alloc, n).expect(rt, "memory")),
     ]
 }
@@ -128,8 +130,8 @@ fn properties_and_infos(rt: HostRuntime) {
 /// Members of IFLA_DEVLINK_PORT with these letters and this number.
 fn devlink(rt: &impl Abort, alloc: Global, letters: &str, n: u8) -> [DevlinkPort; 4] {
     [
-        DevlinkPort::BusName(Text::from_str(alloc, letters).expect(rt, "memory")),
-        DevlinkPort::DevName(Text::from_str(alloc, letters).expect(rt, "memory")),
+        DevlinkPort::BusName(text_from(alloc, letters).expect(rt, "memory")),
+        DevlinkPort::DevName(text_from(alloc, letters).expect(rt, "memory")),
         DevlinkPort::PortIndex(u32::from(n)),
         DevlinkPort::Other(kept_byte(alloc, n).expect(rt, "memory")),
     ]

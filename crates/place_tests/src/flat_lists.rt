@@ -1,4 +1,7 @@
-use expected::{cause_of, equal, is_copied, is_stored, kept, means, refuses, refuses_bad_frames};
+use expected::{
+    bytes_from, cause_of, equal, is_copied, is_stored, kept, means, refuses, refuses_bad_frames,
+    text_from,
+};
 use link_nest::*;
 use link_vals::XdpAttached;
 use nla_wire::exact::same;
@@ -17,9 +20,9 @@ fn alternative_names(rt: HostRuntime) {
         assert!(rt; refuses::<Prop>(alloc, bytes, Cause::NotUtf8));
     }
     let values = [
-        Prop::AltIfName(Text::from_str(alloc, "").expect(&rt, "memory")),
+        Prop::AltIfName(text_from(alloc, "").expect(&rt, "memory")),
         Prop::Other(kept(alloc, 99 | 0xc000, &[7]).expect(&rt, "memory")),
-        Prop::AltIfName(Text::from_str(alloc, "lo").expect(&rt, "memory")),
+        Prop::AltIfName(text_from(alloc, "lo").expect(&rt, "memory")),
     ];
     assert!(rt;
         means(
@@ -52,8 +55,8 @@ fn devlink_ports(rt: HostRuntime) {
             &[
                 DevlinkPort::PortIndex(258),
                 DevlinkPort::Other(kept(alloc, 4 | 0x4000, &[]).expect(&rt, "memory")),
-                DevlinkPort::DevName(Text::from_str(alloc, "").expect(&rt, "memory")),
-                DevlinkPort::BusName(Text::from_str(alloc, "p").expect(&rt, "memory")),
+                DevlinkPort::DevName(text_from(alloc, "").expect(&rt, "memory")),
+                DevlinkPort::BusName(text_from(alloc, "p").expect(&rt, "memory")),
             ],
             &[
                 8, 0, 3, 0, 2, 1, 0, 0, 4, 0, 4, 0x40, 5, 0, 2, 0, 0, 0, 0, 0, 6, 0, 1, 0, 0x70, 0,
@@ -177,7 +180,7 @@ fn link_infos(rt: HostRuntime) {
             &[4, 0, 2, 0, 9, 0, 1, 0, 0x70, 0x66, 0x63, 0x70, 0],
             &[
                 LinkInfo::Other(kept(alloc, 2, &[]).expect(&rt, "memory")),
-                LinkInfo::Kind(Text::from_str(alloc, "pfcp").expect(&rt, "memory")),
+                LinkInfo::Kind(text_from(alloc, "pfcp").expect(&rt, "memory")),
             ],
             &[4, 0, 2, 0, 9, 0, 1, 0, 0x70, 0x66, 0x63, 0x70, 0, 0, 0, 0]
         )
@@ -189,7 +192,7 @@ fn long_names(rt: HostRuntime) {
     let letters = [97; 65531];
     for (from, fits) in [(0, false), (1, true)] {
         let letters = std::str::from_utf8(&letters[from..]).expect(&rt, "memory");
-        let name = Prop::AltIfName(Text::from_str(rt.alloc(), letters).expect(&rt, "memory"));
+        let name = Prop::AltIfName(text_from(rt.alloc(), letters).expect(&rt, "memory"));
         assert!(rt; name.fits() == fits);
     }
 }
@@ -264,9 +267,7 @@ fn event_writes(rt: &impl Abort, event: &WirelessEvent, text: &[u8; 9]) {
 #[test]
 fn wireless_events(rt: HostRuntime) {
     let alloc = rt.alloc();
-    let event = WirelessEvent::AssociateRequest(Bytes::from_slice(alloc, &[0xaa]).expect(
-        &rt, "memory",
-    ));
+    let event = WirelessEvent::AssociateRequest(bytes_from(alloc, &[0xaa]).expect(&rt, "memory"));
     let text = [9, 0, 7, 0x8c, 0, 0, 0, 0, 0xaa];
     let payload = [255, 255, 7, 0x8c, 1, 2, 3, 4, 0xaa];
     event_means(&rt, alloc, &payload, &event, &text);
@@ -276,9 +277,7 @@ fn wireless_events(rt: HostRuntime) {
 #[test]
 fn more_wireless_events(rt: HostRuntime) {
     let alloc = rt.alloc();
-    let event = WirelessEvent::AssociateResponse(Bytes::from_slice(alloc, &[0xbb]).expect(
-        &rt, "memory",
-    ));
+    let event = WirelessEvent::AssociateResponse(bytes_from(alloc, &[0xbb]).expect(&rt, "memory"));
     let text = [9, 0, 8, 0x8c, 0, 0, 0, 0, 0xbb];
     event_means(
         &rt,
@@ -294,14 +293,14 @@ fn more_wireless_events(rt: HostRuntime) {
 fn other_wireless_events(rt: HostRuntime) {
     let alloc = rt.alloc();
     let text = [9, 0, 1, 0x8b, 1, 2, 3, 4, 5];
-    let event = WirelessEvent::Other(Bytes::from_slice(alloc, &text).expect(&rt, "memory"));
+    let event = WirelessEvent::Other(bytes_from(alloc, &text).expect(&rt, "memory"));
     event_means(&rt, alloc, &text, &event, &text);
     event_writes(&rt, &event, &text);
 }
 
 /// A request of these bytes.
 fn request_of(rt: &impl Abort, alloc: Global, bytes: &[u8]) -> WirelessEvent {
-    WirelessEvent::AssociateRequest(Bytes::from_slice(alloc, bytes).expect(rt, "memory"))
+    WirelessEvent::AssociateRequest(bytes_from(alloc, bytes).expect(rt, "memory"))
 }
 
 #[test]

@@ -1,6 +1,6 @@
 use expected::{
-    BAD_FRAMES, has_value, is_copied, kept, means, refuses, refuses_bad_frames, rewrites, writes,
-    zeros_after,
+    BAD_FRAMES, has_value, is_copied, kept, means, refuses, refuses_bad_frames, rewrites, vec_from,
+    writes, zeros_after,
 };
 use link_afspec::*;
 use link_recs::inet::INET_DEV_CONF_SIZE;
@@ -276,7 +276,7 @@ fn refuses_bad_members(rt: &impl Abort, alloc: Global, family: u8) {
     for (members, cause) in BAD_FRAMES {
         assert!(rt; members.len() <= 12);
         let len = 4 + members.len() as u8;
-        let mut bytes = Vec::from_slice(alloc, &[len, 0, family, 0]).expect(rt, "memory");
+        let mut bytes = vec_from(alloc, &[len, 0, family, 0]).expect(rt, "memory");
         bytes.extend_from_slice(members).expect(rt, "memory");
         assert!(rt; refuses::<AfSpecUnspec>(alloc, bytes.as_slice(), cause));
     }
