@@ -27,12 +27,12 @@ pub fn filled(alloc: Global, byte: u8, count: usize) -> Result<Vec<u8>, AllocErr
 }
 
 /// A text of these letters. What it holds is looked at when the test runs.
-pub fn text_from(alloc: Global, letters: &str) -> Result<Text, AllocError> {
+pub fn text_from(alloc: Global, letters: &str) -> Result<Text, DecodeError> {
     Text::from_str(alloc, letters)
 }
 
 /// These bytes as a value.
-pub fn bytes_from(alloc: Global, bytes: &[u8]) -> Result<Bytes, AllocError> {
+pub fn bytes_from(alloc: Global, bytes: &[u8]) -> Result<Bytes, DecodeError> {
     Bytes::from_slice(alloc, bytes)
 }
 
