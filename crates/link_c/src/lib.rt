@@ -5,5 +5,3 @@ pub mod export;
 pub mod list;
 pub mod message;
 pub mod refusal;
-#[cfg(test)]
-mod tests;

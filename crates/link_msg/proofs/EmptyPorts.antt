@@ -4,7 +4,7 @@ use Rattle.std.proofs.Common.{◌≡◌, ◌≢◌, ℕ, ◌+◌, ◌^◌, ◌<�
 use Rattle.std.proofs.Common.{Result, Ok, Err, Some, None, Bool, true, false, MatchBool, length-append, append-nil}
 use Rattle.std.proofs.Common.{flat_map, subst}
 use Rattle.std.specs.List.{AllByRecursion}
-use Rattle.nla_wire.specs.Frames.{Frame, number, missing, IsBytes, IsFrame}
+use Rattle.nla_wire.specs.Frames.{Frame, number, missing, IsFrame}
 use Rattle.nla_wire.specs.Reading.{list_of, with_front, ◌>>=◌}
 use Rattle.nla_wire.specs.Items.{Item, items, read_items}
 use Rattle.nla_wire.specs.Grammar.{as_a, not_empty, list}

@@ -59,9 +59,16 @@ high_on xs i high new h within both n =
       λ k. let parts = (both n).0 k.0 in (h n).1 (parts.0, here.1 (parts.1, k.1)),
     )
 
+low_all : (xs : List ℕ) → AreAscii xs → AllByRecursion (λ b. b ≤ 127) xs
+low_all [] all = tt
+low_all (x ∷ xs) all = (omega (arith, all.0), low_all xs all.1)
+
 pub high_ascii : (xs : List ℕ) (high : ℕ) → ((n : ℕ) → (AllByRecursion (λ b. b ≤ n) xs ↔ (high ≤ n)))
-    → high < 128 → AreAscii xs
-high_ascii xs high highest low = all_low high low xs ((highest high).1 (omega arith))
+    → ((high < 128) ↔ AreAscii xs)
+high_ascii xs high highest = (
+  λ low. all_low high low xs ((highest high).1 (omega arith)),
+  λ all. omega (arith, (highest 127).0 (low_all xs all)),
+)
 
 pub text_found : (p s : List ℕ) → IsTextOf p s → IsUtf8 s → read_text p ≡ Ok s
 text_found p s is whole = text_agrees.only p s (whole, is)

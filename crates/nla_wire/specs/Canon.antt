@@ -61,6 +61,11 @@ Weighs text fits (Ok v) None = fits v → ⊥
 Weighs text fits (Err c) (Some n) = ⊥
 Weighs text fits (Err c) None = Unit {0}
 
+-- a value is read, and it fits
+abbrev pub IsFitting : {V : Type 0} → (V → Type 0) → Result V Cause → Type 0
+IsFitting fits (Ok v) = fits v
+IsFitting fits (Err c) = ⊥
+
 -- the value that is read fits, and there is room for its text
 abbrev pub HasRoom : {V : Type 0} → (V → List ℕ) → (V → Type 0) → Result V Cause → ℕ → Type 0
 HasRoom text fits (Ok v) room = fits v × (length (text v) ≤ room)

@@ -1,11 +1,12 @@
 //! What is read from attributes: places, lists of members, and types of values that have one place.
 
 ghost use Rattle.std.specs.Prelude.{◌≡◌, ◌≢◌, ◌+◌, ◌*◌, ◌/◌, ◌<◌, ◌≤◌, List, length, vec_len, vec_capacity};
-ghost use Rattle.std.specs.Prelude.{IfOk, IfErr, IsOk, IsTrue, MatchResult};
+ghost use Rattle.std.specs.Prelude.{◌↔◌, IfOk, IfErr, IsTrue, MatchResult};
 ghost use Rattle.nla_wire.specs.Sizes.{most_payload, growth};
 ghost use Rattle.nla_wire.specs.Frames.{Frame, IsFrame};
 ghost use Rattle.nla_wire.specs.Grammar.{Grammar, Agrees, list, not_empty, picked};
-ghost use Rattle.nla_wire.specs.Canon.{canon, canons, AllFit, Weighs, HasRoom, Rewrites, RoomWhereFit, Canonical};
+ghost use Rattle.nla_wire.specs.Canon.{canon, canons, AllFit, IsFitting, Weighs, HasRoom, Rewrites};
+ghost use Rattle.nla_wire.specs.Canon.{RoomWhereFit, Canonical};
 ghost use Rattle.nla_wire.specs.Items.{items, frame_count};
 ghost use Rattle.nla_wire.specs.Gives.{Fails, Gives, Adds, Checks};
 ghost use Rattle.nla_wire.specs.declared.error.Cause.TheVariants.{OutOfMemory};
@@ -104,11 +105,10 @@ fn add_one<V: Nla + Drop, P: Place<V>>(
     }
 }
 
-/// Whether an attribute was found to have a value, by measuring its text. `false` where the value does not fit, or
-/// there is none.
+/// Whether an attribute has a value that fits, by measuring its text.
 #[inline(always)]
 fn is_measured<V: Nla + Drop, P: Place<V>>(place: &P, buffer: &NlaBuffer<'_>) -> bool
-    ensures { IsTrue result → IsOk ((P.grammar place.now).reads buffer.now) }
+    ensures { IsTrue result ↔ IsFitting V.fits ((P.grammar place.now).reads buffer.now) }
 {
     place.measure(buffer).is_some()
 }

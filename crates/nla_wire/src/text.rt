@@ -53,7 +53,7 @@ const HIGH_BITS_8: u64 = 0x8080_8080_8080_8080;
 #[inline(always)]
 fn begins_ascii_4(bytes: &[u8]) -> bool
     requires { 4 ≤ length bytes.now }
-    ensures { IsTrue result → AreAscii (take 4 bytes.now) }
+    ensures { IsTrue result ↔ AreAscii (take 4 bytes.now) }
 {
     u32_at(bytes, 0) & HIGH_BITS_4 == 0
 }
@@ -62,7 +62,7 @@ fn begins_ascii_4(bytes: &[u8]) -> bool
 #[inline(always)]
 fn begins_ascii_8(bytes: &[u8]) -> bool
     requires { 8 ≤ length bytes.now }
-    ensures { IsTrue result → AreAscii (take 8 bytes.now) }
+    ensures { IsTrue result ↔ AreAscii (take 8 bytes.now) }
 {
     u64_at(bytes, 0) & HIGH_BITS_8 == 0
 }
@@ -72,7 +72,7 @@ fn begins_ascii_8(bytes: &[u8]) -> bool
 fn is_ascii_short(bytes: &[u8]) -> bool
     requires some { 0 < length bytes.now }
     requires short { length bytes.now < 4 }
-    ensures { IsTrue result → AreAscii bytes.now }
+    ensures { IsTrue result ↔ AreAscii bytes.now }
 {
     let last = bytes.len() - 1;
     bytes[0] < 128 && bytes[bytes.len() / 2] < 128 && bytes[last] < 128
@@ -81,7 +81,7 @@ fn is_ascii_short(bytes: &[u8]) -> bool
 /// Whether bytes are ASCII. Most names are short, and two words that overlap are all of their bytes.
 #[inline(always)]
 fn is_ascii(bytes: &[u8]) -> bool
-    ensures { IsTrue result → AreAscii bytes.now }
+    ensures { IsTrue result ↔ AreAscii bytes.now }
 {
     match bytes.len() {
         0 => true,

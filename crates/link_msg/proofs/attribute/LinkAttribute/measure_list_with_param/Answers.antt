@@ -1,4 +1,4 @@
-use Rattle.std.proofs.Common.{◌≡◌, ◌-◌, length, take, drop, arith}
+use Rattle.std.proofs.Common.{◌-◌, length, take, drop, arith}
 use Rattle.std.proofs.lemmas.List.{take_rest}
 use Rattle.link_msg.proofs.EmptyPorts.{run_some, run_none, run_long}
 use Rattle.link_msg.proofs.attribute.LinkAttribute.measure_list_with_param.Goals as goal

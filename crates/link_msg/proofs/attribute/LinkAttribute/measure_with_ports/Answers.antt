@@ -2,7 +2,6 @@ use Rattle.std.proofs.Common.{◌≡◌, true, false, refl, arith}
 use Rattle.nla_wire.specs.Reading.{list_of}
 use Rattle.nla_wire.specs.Items.{items}
 use Rattle.nla_wire.specs.Canon.{canon}
-use Rattle.nla_wire.proofs.Front.{all_bytes}
 use Rattle.nla_wire.proofs.Written.{weighing_stops, weighing_passes, weighing_faults, weighs_frame, weighs_none}
 use Rattle.link_msg.specs.Tables.{attribute_frame, AttributeFits, attribute_place}
 use Rattle.link_msg.proofs.EmptyPorts.{telling_starts, telling_none, telling_some, telling_ends}
