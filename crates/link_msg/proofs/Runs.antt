@@ -183,37 +183,37 @@ module _ {V : Type 0} (read : Frame → Result V Cause) (text : V → List ℕ) 
   room_there : Counted text fits (h.front ++ begun.others) × (length (flat_map text (h.front ++ begun.others)) ≤ room)
   room_there = subst (λ r. HasRoom (flat_map text) (Counted text fits) r room) begun.whole_is there
 
-  module _ (rest old now : List ℕ) (rest_is : rest ≡ drop run b) (now_is : now ≡ take run b ++ drop run old) where
-    -- the buffer, whose front holds the run now, has room for the others
-    pub run_room : room ≡ length old → HasRoom (flat_map text) (Counted text fits) (list_of read rest)
-        (length (take (length now - run) (drop run now)))
-    run_room room_is =
+  pub run_within : run ≤ room
+  run_within = omega (arith, room_there.1, run_sizes read text b run h begun.others)
+
+  module _ (rest : List ℕ) (rest_is : rest ≡ drop run b) where
+    -- what is left of the room is enough for the others
+    pub run_room : (left : ℕ) → room ≤ run + left
+        → HasRoom (flat_map text) (Counted text fits) (list_of read rest) left
+    run_room left enough =
         let k = room_there in
         let sizes = run_sizes read text b run h begun.others in
-        let left : take (length now - run) (drop run now) ≡ drop run old =
-        take_rest now run ∙ ap (drop run) now_is
-        ∙ drop_at (take run b) (drop run old) run (length-take-le run b h.within) in
-        subst (λ r. HasRoom (flat_map text) (Counted text fits) r (length (take (length now - run) (drop run now))))
+        subst (λ r. HasRoom (flat_map text) (Counted text fits) r left)
         (sym (ap (list_of read) rest_is ∙ begun.others_are)) (
           (all_after fits h.front begun.others k.0.0, omega (arith, k.0.1, sizes)),
-          omega (arith, k.1, sizes, room_is, ap (λ (t : List ℕ). length t) left, length-drop run old),
+          omega (arith, k.1, sizes, enough),
         )
 
-    -- the run, and the text of the others after it
-    pub run_writes : (part : List ℕ) (n : ℕ)
-        → Rewrites (flat_map text) (list_of read rest) (take (length now - run) (drop run now)) part n
-        → Rewrites (flat_map text) (list_of read b) old (put_mid run (length now - run) now part) (run + n)
-    run_writes part n w =
-        let remaining : Writes (flat_map text begun.others) (take (length now - run) (drop run now)) part n =
-        subst (λ r. Rewrites (flat_map text) r (take (length now - run) (drop run now)) part n)
+    -- the text of the others is written after the run, before which something else stands
+    pub run_writes : (head old now part : List ℕ) (at n : ℕ) → Writes (head ++ take run b) old now at
+        → Rewrites (flat_map text) (list_of read rest) (take (length now - at) (drop at now)) part n
+        → Rewrites (λ vs. head ++ flat_map text vs) (list_of read b) old
+        (put_mid at (length now - at) now part) (at + n)
+    run_writes head old now part at n before w =
+        let remaining : Writes (flat_map text begun.others) (take (length now - at) (drop at now)) part n =
+        subst (λ r. Rewrites (flat_map text) r (take (length now - at) (drop at now)) part n)
         (ap (list_of read) rest_is ∙ begun.others_are) w in
-        let copied : Writes (flat_map text h.front) old now run =
-        record {
-          length_is = taken read text b run h;
-          new_is = now_is ∙ ap (λ (t : List ℕ). t ++ drop run old) (sym h.text_is);
-        } in
-        subst (λ r. Rewrites (flat_map text) r old (put_mid run (length now - run) now part) (run + n))
-        (sym begun.whole_is)
-        (subst (λ t. Writes t old (put_mid run (length now - run) now part) (run + n))
-        (sym (flat_joined text h.front begun.others))
-        (write_on (flat_map text h.front) (flat_map text begun.others) old now part run n copied remaining))
+        let joined : (head ++ take run b) ++ flat_map text begun.others
+            ≡ head ++ flat_map text (h.front ++ begun.others) =
+        append_assoc head (take run b) (flat_map text begun.others)
+        ∙ ap (λ (t : List ℕ). head ++ (t ++ flat_map text begun.others)) (sym h.text_is)
+        ∙ ap (λ (t : List ℕ). head ++ t) (sym (flat_joined text h.front begun.others)) in
+        subst (λ r. Rewrites (λ vs. head ++ flat_map text vs) r old
+        (put_mid at (length now - at) now part) (at + n)) (sym begun.whole_is)
+        (subst (λ t. Writes t old (put_mid at (length now - at) now part) (at + n)) joined
+        (write_on (head ++ take run b) (flat_map text begun.others) old now part at n before remaining))

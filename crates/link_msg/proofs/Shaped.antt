@@ -61,23 +61,14 @@ module _ (family : AddressFamily) (f : Frame) where
       (as_way shape) is one.bytes old new n h
 
 -- an attribute of a number that no line has is kept
-pub gives_other : (family : AddressFamily) (f : Frame) (answer : Result LinkAttribute DecodeError)
+pub adds_other : (family : AddressFamily) (f : Frame) (answer : Result Unit DecodeError) (old new : List LinkAttribute)
     → IsOther base attribute_view NotEmptyPorts (attribute_entries family) (number f)
-    → Gives answer (Ok (Attributes.Other f)) → Gives answer ((attribute_place family).reads f)
+    → Adds answer (Ok (Attributes.Other f)) old new → Adds answer ((attribute_place family).reads f) old new
 unfolding attribute_place
-gives_other family f answer other h =
-    subst (λ r. Gives answer r)
+adds_other family f answer old new other h =
+    subst (λ r. Adds answer r old new)
     (sym (other_reads base attribute_view NotEmptyPorts (number f) (length f.payload) (attribute_entries family)
     (λ f. Ok (Attributes.Other f)) f other)) h
-
-pub adds_other : (family : AddressFamily) (f d : Frame) (old new : List LinkAttribute)
-    → IsOther base attribute_view NotEmptyPorts (attribute_entries family) (number f)
-    → d ≡ f → new ≡ old ++ Attributes.Other d ∷ [] → Adds (Ok tt) ((attribute_place family).reads f) old new
-adds_other family f d old new other same added = (
-  Attributes.Other f,
-  gives_other family f (Ok (Attributes.Other f)) other refl,
-  added ∙ ap (λ e. old ++ Attributes.Other e ∷ []) same,
-)
 
 -- ** arms of code for one shape
 

@@ -2,7 +2,9 @@
 use Rattle.std.proofs.Common.{◌≡◌, ◌≢◌, ℕ, ◌+◌, ◌-◌, ◌^◌, ◌<◌, ◌≤◌, List, [], ◌++◌, length, take, drop, refl, sym}
 use Rattle.std.proofs.Common.{ap, ◌∙◌, subst, arith, inr, append-nil, Result, Ok, Err, Some, None}
 use Rattle.std.proofs.Common.{Bool, false, true, MatchBool}
-use Rattle.std.proofs.lemmas.List.{drop_all}
+use Rattle.std.proofs.Common.{append_assoc, length-append, drop-drop}
+use Rattle.std.proofs.Common.{replicate}
+use Rattle.std.proofs.lemmas.List.{drop_all, drop_at, take_at, length-take-le, length-replicate}
 use Rattle.std.specs.List.{AllByRecursion}
 use borrow.Rule.Slice.PartMut.{put_mid}
 use Rattle.nla_wire.specs.Frames.{IsBytes}
@@ -13,7 +15,6 @@ use Rattle.nla_wire.specs.declared.error.Cause.TheVariants.{OutOfMemory}
 use Rattle.nla_wire.specs.declared.error.Cause.TheVariants as Causes
 use Rattle.nla_wire.specs.declared.error.DecodeError.{DecodeError}
 use Rattle.nla_wire.proofs.Meaning.{never_both}
-use Rattle.nla_wire.proofs.Canonical.{write_on}
 use Rattle.nla_wire.proofs.Steps.{bytes_right}
 use Rattle.link_msg.specs.Header.{header_size, header_of, IsHeader, header_bytes}
 use Rattle.link_msg.specs.Tables.{attribute_frame, AttributeFits, NotEmptyPorts, attribute_place}
@@ -21,6 +22,7 @@ use Rattle.link_msg.specs.Messages.{Means, FirstFault, MeansNothing, message, me
 use Rattle.link_msg.specs.CanonErrors.{refusal_for, refusal_of}
 use Rattle.link_msg.specs.Canonical.{IsAccepted, HasText, IsRefusalAlone, IsUnfit, HasEmptyPorts, ListWeighs}
 use Rattle.link_msg.specs.Canonical.{IsMeasured}
+use Rattle.link_msg.specs.Runs.{IsRun, attribute_text}
 use Rattle.link_msg.specs.declared.attribute.LinkAttribute.{LinkAttribute}
 use Rattle.link_msg.specs.declared.header.LinkHeader.{LinkHeader}
 use Rattle.link_msg.specs.declared.message.LinkMessage.{LinkMessage}
@@ -28,6 +30,7 @@ use Rattle.link_msg.specs.declared.canonical_text.CanonError.TheVariants as Refu
 use Rattle.link_msg.proofs.Reading.{message_agrees, attributes_agree, parts, is_header}
 use Rattle.link_msg.proofs.Messaging.{header_length, text_length, attributes_counted}
 use Rattle.link_msg.proofs.Answering.{accepted_text}
+use Rattle.link_msg.proofs.Runs.{run_within}
 
 -- ** refusals
 
@@ -139,6 +142,24 @@ module _ (b : List ℕ) (v : LinkHeader) (d : List ℕ) (long : header_size ≤ 
 
 -- ** written
 
+-- memory of so many bytes, which begins with the header and the run, and ends with zeros
+pub begun_length : (v : LinkHeader) (run_bytes text : List ℕ) (n : ℕ) → header_size + length run_bytes ≤ n
+    → text ≡ header_bytes v ++ run_bytes ++ replicate (n - (header_size + length run_bytes)) 0 → length text ≡ n
+begun_length v run_bytes text n enough is =
+    let count : ℕ = n - (header_size + length run_bytes) in
+    let zeros : List ℕ = replicate count 0 in
+    let size : length text ≡ length (header_bytes v ++ run_bytes ++ zeros) = ap (λ (t : List ℕ). length t) is in
+    let cleared : length zeros ≡ count = length-replicate count 0 in
+    omega (
+      arith,
+      size,
+      length-append (header_bytes v ++ run_bytes) zeros,
+      length-append (header_bytes v) run_bytes,
+      header_length v,
+      cleared,
+      enough,
+    )
+
 module _ (b : List ℕ) (v : LinkHeader) (d : List ℕ) (n : ℕ) (h : IsMeasured b v d n) where
   pub measured_message : LinkMessage
   measured_message = record { header = v; attributes = h.attributes }
@@ -167,6 +188,19 @@ module _ (b : List ℕ) (v : LinkHeader) (d : List ℕ) (n : ℕ) (h : IsMeasure
   measured_writes old new k w =
       subst (λ r. Rewrites (λ vs. header_bytes v ++ canons attribute_frame vs) r old new k) h.reads w
 
+  -- memory of just that length, which begins with the header and the run
+  pub measured_begun : (run : ℕ) (text : List ℕ) → IsRun v.interface_family d run
+      → text ≡ header_bytes v ++ take run d ++ replicate (header_size + n - (header_size + length (take run d))) 0
+      → length text ≡ header_size + n
+  measured_begun run text r is =
+      begun_length v (take run d) text (header_size + n)
+      (omega (
+        arith,
+        length-take-le run d r.within,
+        run_within (attribute_place v.interface_family).reads attribute_text AttributeFits d run r n
+            (measured_room n (omega arith)),
+      )) is
+
   -- memory of exactly the text's length
   pub measured_text : (old new : List ℕ) (k : ℕ) → IsBytes b → length old ≡ header_size + n
       → Rewrites (λ vs. header_bytes v ++ canons attribute_frame vs)
@@ -177,13 +211,44 @@ module _ (b : List ℕ) (v : LinkHeader) (d : List ℕ) (n : ℕ) (h : IsMeasure
       accepted_text b new measured_message bytes measured_accepted (one.new_is
       ∙ ap (λ (t : List ℕ). message_text measured_message ++ t) rest ∙ append-nil (message_text measured_message))
 
--- the attributes after the header
-pub written_after : (v : LinkHeader) (r : Result (List LinkAttribute) Cause) (old emitted part : List ℕ) (k : ℕ)
-    → emitted ≡ header_bytes v ++ drop header_size old
-    → Rewrites (canons attribute_frame) r (take (length emitted - header_size) (drop header_size emitted)) part k
-    → Rewrites (λ vs. header_bytes v ++ canons attribute_frame vs) r old
-    (put_mid header_size (length emitted - header_size) emitted part) (header_size + k)
-written_after v (Ok vs) old emitted part k is w =
-    write_on (header_bytes v) (canons attribute_frame vs) old emitted part header_size k
-    (record { length_is = sym (header_length v); new_is = is }) w
-written_after v (Err c) old emitted part k is w = tt
+-- the header, and after it the run, which is copied
+pub begun : (v : LinkHeader) (d : List ℕ) (run count : ℕ) (old emitted part : List ℕ) → run ≤ length d → count ≡ run
+    → emitted ≡ header_bytes v ++ drop header_size old → part ≡ take run d
+    → Writes (header_bytes v ++ take run d) old (put_mid header_size count emitted part) (header_size + run)
+begun v d run count old emitted part within counts is copied =
+    let front : take header_size emitted ≡ header_bytes v =
+    ap (take header_size) is ∙ take_at (header_bytes v) (drop header_size old) header_size (header_length v) in
+    let rest : drop header_size emitted ≡ drop header_size old =
+    ap (drop header_size) is ∙ drop_at (header_bytes v) (drop header_size old) header_size (header_length v) in
+    let after : drop count (drop header_size emitted) ≡ drop (header_size + run) old =
+    ap (drop count) rest ∙ drop-drop count header_size old ∙ ap (λ k. drop k old) (omega (arith, counts)) in
+    record {
+      length_is =
+          omega (
+            arith,
+            length-append (header_bytes v) (take run d),
+            header_length v,
+            length-take-le run d within,
+          );
+      new_is =
+          ap (λ (t : List ℕ). t ++ (part ++ drop count (drop header_size emitted))) front
+          ∙ ap (λ (t : List ℕ). header_bytes v ++ (t ++ drop count (drop header_size emitted))) copied
+          ∙ ap (λ (t : List ℕ). header_bytes v ++ (take run d ++ t)) after
+          ∙ sym (append_assoc (header_bytes v) (take run d) (drop (header_size + run) old));
+    }
+
+-- memory that begins with the header and the run, and goes on
+pub began : (v : LinkHeader) (d run_bytes rest text : List ℕ) (run : ℕ) → run ≤ length d → run_bytes ≡ take run d
+    → text ≡ header_bytes v ++ run_bytes ++ rest → Writes (header_bytes v ++ take run d) text text (header_size + run)
+began v d run_bytes rest text run within same is =
+    let front = header_bytes v ++ take run d in
+    let size : length front ≡ header_size + run =
+    omega (arith, length-append (header_bytes v) (take run d), header_length v, length-take-le run d within) in
+    let whole : text ≡ front ++ rest = is ∙ ap (λ (t : List ℕ). header_bytes v ++ t ++ rest) same in
+    record {
+      length_is = sym size;
+      new_is =
+          whole
+          ∙ ap (λ (t : List ℕ). front ++ t)
+          (sym (ap (drop (header_size + run)) whole ∙ drop_at front rest (header_size + run) size));
+    }

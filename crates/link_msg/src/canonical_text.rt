@@ -1,8 +1,9 @@
 //! One canonical text for each message.
 
-ghost use Rattle.std.specs.Prelude.{◌≡◌, ◌+◌, ◌-◌, ◌^◌, ◌<◌, ◌≤◌, ◌++◌, ◌↔◌, length, IsTrue, IfOk, IfErr};
+ghost use Rattle.std.specs.Prelude.{◌≡◌, ℕ, ◌+◌, ◌-◌, ◌^◌, ◌<◌, ◌≤◌, ◌++◌, ◌↔◌, List, length, take, replicate};
+ghost use Rattle.std.specs.Prelude.{IsTrue, IfOk, IfErr};
 ghost use Rattle.nla_wire.specs.Grammar.{list};
-ghost use Rattle.nla_wire.specs.Canon.{canons, AllFit, HasRoom, Rewrites};
+ghost use Rattle.nla_wire.specs.Canon.{canons, AllFit, HasRoom, Rewrites, Writes};
 ghost use Rattle.link_msg.specs.Header.{header_size, header_bytes};
 ghost use Rattle.link_msg.specs.Tables.{attribute_frame, AttributeFits, attribute_place};
 ghost use Rattle.link_msg.specs.CanonErrors.{SameRefusal};
@@ -11,9 +12,10 @@ ghost use Rattle.link_msg.specs.Canonical.{IsAccepted, IsRefusal, IsRefusalAlone
 ghost use Rattle.link_msg.specs.Canonical.{HoldsText, AreSame, IsRefusalOfTwo, IsWritten, IsWithin};
 
 use crate::attribute::LinkAttribute;
-use crate::header::{HEADER_SIZE, LinkHeader};
+use crate::header::{HEADER_SIZE, LinkHeader, LinkMessageBuffer};
 use crate::message::{LinkMessage, split_header};
-use nla_wire::{Cause, DecodeError};
+use crate::table::AttributePlace;
+use nla_wire::{Cause, DecodeError, write_members};
 use std::alloc::{AllocError, Global};
 use thiserror::Error;
 
@@ -118,7 +120,29 @@ fn measure(input: &[u8]) -> Result<(LinkHeader, &[u8], usize, usize), CanonError
     Ok((header, rest, len, run))
 }
 
-/// Writes the canonical text of a message that was measured to the front of the buffer, and returns its length.
+/// Writes the canonical text of the attributes after the run in front, where the header and the run stand in the buffer,
+/// and returns the length of the message's text.
+fn write_after_run(header: &LinkHeader, rest: &[u8], run: usize, out: &mut [u8]) -> usize
+    requires begins { IsRun header.now.interface_family rest.now run }
+    requires measured { HasRoom (canons attribute_frame) (AllFit AttributeFits attribute_frame)
+        ((list (attribute_place header.now.interface_family)).reads rest.now)
+        (length out.old - header_size) }
+    requires long { header_size ≤ length out.old }
+    ensures { (before : List ℕ) → Writes (header_bytes header.now ++ take run rest.now) before
+        out.old (header_size + run)
+        → Rewrites (λ vs. header_bytes header.now ++ canons attribute_frame vs)
+        ((list (attribute_place header.now.interface_family)).reads rest.now) before
+        out.new result }
+{
+    let start = HEADER_SIZE + run;
+    let place = AttributePlace {
+        family: header.interface_family,
+    };
+    start + write_members(&place, &rest[run..], &mut out[start..])
+}
+
+/// Writes the canonical text of a message that was measured to the front of the buffer, and returns its length. The run
+/// in front is copied at once.
 fn write_message(header: &LinkHeader, rest: &[u8], run: usize, out: &mut [u8]) -> usize
     requires begins { IsRun header.now.interface_family rest.now run }
     requires measured { HasRoom (canons attribute_frame) (AllFit AttributeFits attribute_frame)
@@ -130,9 +154,26 @@ fn write_message(header: &LinkHeader, rest: &[u8], run: usize, out: &mut [u8]) -
         out.new result }
 {
     header.emit(out);
-    let attributes = &mut out[HEADER_SIZE..];
-    let family = header.interface_family;
-    HEADER_SIZE + LinkAttribute::write_list_with_param(rest, family, run, attributes)
+    out[HEADER_SIZE..HEADER_SIZE + run].copy_from_slice(&rest[..run]);
+    write_after_run(header, rest, run, out)
+}
+
+/// Memory for a text of this length, which begins with the header and the run in front, and ends with zeros.
+fn begin_text(
+    alloc: Global,
+    header: &LinkHeader,
+    run: &[u8],
+    len: usize,
+) -> Result<Vec<u8>, AllocError>
+    requires { header_size + length run.now ≤ len }
+    ensures { IfOk result (λ t. t.items ≡ header_bytes header.now ++ run.now
+        ++ replicate (len - (header_size + length run.now)) 0) }
+{
+    let mut text = Vec::with_capacity(alloc, len)?;
+    text.extend_from_slice(LinkMessageBuffer::from(header).as_bytes())?;
+    text.extend_from_slice(run)?;
+    text.resize(len, 0)?;
+    Ok(text)
 }
 
 /// The number of the canonical form: any change of any message's canonical text raises it. Texts of different numbers
@@ -159,9 +200,8 @@ pub fn canonical(alloc: Global, input: &[u8]) -> Result<Vec<u8>, CanonError>
     ensures err { IfErr result (IsRefusal input.now) }
 {
     let (header, rest, len, run) = measure(input)?;
-    let mut text = Vec::with_capacity(alloc, HEADER_SIZE + len)?;
-    text.resize(HEADER_SIZE + len, 0)?;
-    let _len = write_message(&header, rest, run, text.as_mut_slice());
+    let mut text = begin_text(alloc, &header, &rest[..run], HEADER_SIZE + len)?;
+    let _len = write_after_run(&header, rest, run, text.as_mut_slice());
     Ok(text)
 }
 

@@ -1,47 +1,73 @@
 //! Attributes whose payload depends on the family of the message's header: IFLA_AF_SPEC and IFLA_PROTINFO.
 
-ghost use Rattle.nla_wire.specs.Gives.{Gives};
+ghost use Rattle.std.specs.Prelude.{◌<◌, vec_len, vec_capacity};
+ghost use Rattle.nla_wire.specs.Gives.{Adds};
 ghost use Rattle.link_msg.specs.Tables.{af_spec, proto_info};
 
 use crate::attribute::LinkAttribute;
-use crate::payload::parse_some;
-use link_afspec::AfSpecUnspec;
+use crate::payload::{parse_any, parse_some};
 use link_vals::AddressFamily;
-use nla_wire::{Bytes, DecodeError, DefaultNla, List, NlaBuffer, NlaRead};
+use nla_wire::{Bytes, DecodeError, DefaultNla, NlaBuffer};
 use std::alloc::Global;
 
-/// Reads IFLA_AF_SPEC.
+/// Reads IFLA_AF_SPEC into the room after the last value.
+#[inline(never)]
 #[tactic(auto, unfolding(crate::specs::Tables::af_spec))]
-pub(crate) fn parse_af_spec(
+pub(crate) fn read_af_spec_into(
     alloc: Global,
     buffer: &NlaBuffer<'_>,
     family: AddressFamily,
-) -> Result<LinkAttribute, DecodeError>
-    ensures { Gives result ((af_spec family).reads.reads buffer.now) }
+    values: &mut Vec<LinkAttribute>,
+) -> Result<(), DecodeError>
+    requires { vec_len values.old < vec_capacity values.old }
+    ensures { Adds result
+        ((af_spec family).reads.reads buffer.now) values.old.items values.new.items }
 {
     let payload = buffer.value();
     match family {
-        AddressFamily::Unspec => AfSpecUnspec::parse_list(alloc, payload).map(
-            |v| LinkAttribute::AfSpecUnspec(List::new(v)),
-        ),
-        AddressFamily::Bridge => parse_some(alloc, payload).map(LinkAttribute::AfSpecBridge),
-        _ => Bytes::from_slice(alloc, payload).map(LinkAttribute::AfSpecUnknown),
+        AddressFamily::Unspec => {
+            values.push_reserved(LinkAttribute::AfSpecUnspec(parse_any(alloc, payload)?));
+            Ok(())
+        }
+        AddressFamily::Bridge => {
+            values.push_reserved(LinkAttribute::AfSpecBridge(parse_some(alloc, payload)?));
+            Ok(())
+        }
+        _ => {
+            values.push_reserved(LinkAttribute::AfSpecUnknown(Bytes::from_slice(alloc, payload)?));
+            Ok(())
+        }
     }
 }
 
-/// Reads IFLA_PROTINFO.
+/// Reads IFLA_PROTINFO into the room after the last value.
+#[inline(never)]
 #[tactic(auto, unfolding(crate::specs::Tables::proto_info))]
-pub(crate) fn parse_proto_info(
+pub(crate) fn read_proto_info_into(
     alloc: Global,
     buffer: &NlaBuffer<'_>,
     family: AddressFamily,
-) -> Result<LinkAttribute, DecodeError>
-    ensures { Gives result ((proto_info family).reads.reads buffer.now) }
+    values: &mut Vec<LinkAttribute>,
+) -> Result<(), DecodeError>
+    requires { vec_len values.old < vec_capacity values.old }
+    ensures { Adds result
+        ((proto_info family).reads.reads buffer.now) values.old.items values.new.items }
 {
     let payload = buffer.value();
     match family {
-        AddressFamily::Inet6 => parse_some(alloc, payload).map(LinkAttribute::ProtoInfoInet6),
-        AddressFamily::Bridge => parse_some(alloc, payload).map(LinkAttribute::ProtoInfoBridge),
-        _ => DefaultNla::parse(alloc, buffer).map(LinkAttribute::ProtoInfoUnknown),
+        AddressFamily::Inet6 => {
+            values.push_reserved(LinkAttribute::ProtoInfoInet6(parse_some(alloc, payload)?));
+            Ok(())
+        }
+        AddressFamily::Bridge => {
+            values.push_reserved(LinkAttribute::ProtoInfoBridge(parse_some(alloc, payload)?));
+            Ok(())
+        }
+        _ => {
+            values.push_reserved(LinkAttribute::ProtoInfoUnknown(DefaultNla::parse(
+                alloc, buffer,
+            )?));
+            Ok(())
+        }
     }
 }

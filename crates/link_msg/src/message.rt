@@ -110,9 +110,9 @@ impl LinkMessage {
         }
     }
 
-    /// The length of the canonical text, or `None` where the message does not fit. It is not inlined, so a caller of
-    /// `fits` and then of `buffer_len` walks over the values once.
-    #[inline(never)]
+    /// The length of the canonical text, or `None` where the message does not fit. The walk over the values is a call
+    /// that only reads, so a caller of `fits` and then of `buffer_len` makes it once.
+    #[inline(always)]
     #[tactic(auto, using(crate::proofs::Messaging::text_length))]
     fn measured(&self) -> Option<usize>
         ensures { Measures (MessageFits self.now) (length (message_text self.now)) result }

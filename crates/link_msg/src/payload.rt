@@ -6,18 +6,28 @@ ghost use Rattle.nla_wire.specs.Grammar.{list, not_empty};
 ghost use Rattle.nla_wire.specs.Canon.{canon, canons, AllFit, Weighs, HasRoom, Rewrites};
 ghost use Rattle.nla_wire.specs.Gives.{Gives, Checks};
 ghost use Rattle.nla_wire.specs.declared.error.Cause.TheVariants.{OutOfMemory};
-ghost use Rattle.link_vf.specs.Tables.{link_vf_port_place, vf_port_list};
+ghost use Rattle.link_vf.specs.Tables.{link_vf_port_place, vf_info_list, vf_port_list};
 ghost use Rattle.nla_wire.proofs.Shapes.{ShapeRoom, ShapeWrites};
 ghost use Rattle.link_msg.specs.Tables.{base, ext_masks, truth_number};
 ghost use Rattle.link_msg.specs.declared.shape.Shape.TheVariants as Shapes;
 
 use link_nest::WirelessEvent;
 use link_vals::LinkExtentMask;
-use link_vf::LinkVfPort;
+use link_vf::{LinkVfInfo, LinkVfPort};
 use nla_wire::{DecodeError, List, NLA_HEADER_SIZE, NlaRead, empty_list, finish, parse_u32};
 use std::alloc::Global;
 
+/// Reads a list. It and the readers of lists below are functions of their own, so that where they are called a result
+/// has room on the stack, and not what each of them needs.
+#[inline(never)]
+pub(crate) fn parse_any<N: NlaRead>(alloc: Global, payload: &[u8]) -> Result<List<N>, DecodeError>
+    ensures { Gives result ((list N.grammar).reads payload.now) }
+{
+    N::parse_list(alloc, payload).map(List::new)
+}
+
 /// Reads a list that is not empty.
+#[inline(never)]
 #[tactic(auto, unfolding(nla_wire::specs::Grammar::unless_empty))]
 pub(crate) fn parse_some<N: NlaRead>(alloc: Global, payload: &[u8]) -> Result<List<N>, DecodeError>
     ensures { Gives result ((not_empty (list N.grammar)).reads payload.now) }
@@ -39,7 +49,19 @@ pub(crate) fn check_some<N: NlaRead>(payload: &[u8]) -> Result<(), DecodeError>
     N::check_list(payload)
 }
 
+/// Reads virtual functions.
+#[inline(never)]
+pub(crate) fn parse_functions(
+    alloc: Global,
+    payload: &[u8],
+) -> Result<List<LinkVfInfo>, DecodeError>
+    ensures { Gives result (vf_info_list.grammar.reads payload.now) }
+{
+    LinkVfInfo::parse_list(alloc, payload).map(List::new)
+}
+
 /// Reads ports of virtual functions from a payload that is not empty.
+#[inline(never)]
 #[tactic(auto, unfolding(nla_wire::specs::Grammar::unless_empty))]
 pub(crate) fn parse_ports(alloc: Global, payload: &[u8]) -> Result<List<LinkVfPort>, DecodeError>
     ensures { Gives result ((not_empty vf_port_list.grammar).reads payload.now) }
@@ -89,6 +111,7 @@ pub(crate) fn write_ports(kind: u16, payload: &[u8], out: &mut [u8]) -> usize
 }
 
 /// Reads an extent mask, a number of four bytes, as the list of its flags.
+#[inline(never)]
 pub(crate) fn parse_mask(alloc: Global, payload: &[u8]) -> Result<List<LinkExtentMask>, DecodeError>
     ensures { Gives result (ext_masks.grammar.reads payload.now) }
 {

@@ -1,13 +1,11 @@
 //! The run in front: the attributes in front of a list that are canonical as they are spelled, and are copied.
 
 ghost use Rattle.std.specs.Prelude.{◌≡◌, ◌≤◌, ◌↔◌, length, replicate, IsTrue};
-ghost use Rattle.nla_wire.specs.Grammar.{list};
-ghost use Rattle.nla_wire.specs.Canon.{canon, canons, AllFit, HasRoom, Rewrites};
-ghost use Rattle.link_msg.specs.Runs.{IsPadded, RunInFront, IsCopiedRun};
+ghost use Rattle.link_msg.specs.Runs.{IsPadded, IsCopiedRun};
 
 use crate::attribute::LinkAttribute;
 use link_vals::AddressFamily;
-use nla_wire::{Nla, NlasIterator, Place, padded_len, write_members};
+use nla_wire::{NlasIterator, padded_len};
 
 /// Whether at most three bytes are all zero.
 #[inline(always)]
@@ -50,23 +48,4 @@ pub(crate) fn run_in_front(bytes: &[u8], family: AddressFamily) -> usize
         run += padded_len(frame.value().len());
     }
     run
-}
-
-/// Writes the canonical text of a list's members as `write_members` does: the run in front is copied at once.
-#[inline(always)]
-pub(crate) fn write_members_after<V: Nla + Drop, P: Place<V>>(
-    place: &P,
-    run: usize,
-    bytes: &[u8],
-    out: &mut [u8],
-) -> usize
-    requires begins { RunInFront (P.grammar place.now).reads
-        (λ v. canon (V.frame v)) bytes.now run }
-    requires room { HasRoom (canons V.frame) (AllFit V.fits V.frame)
-        ((list (P.grammar place.now)).reads bytes.now) (length out.old) }
-    ensures { Rewrites (canons V.frame)
-        ((list (P.grammar place.now)).reads bytes.now) out.old out.new result }
-{
-    out[..run].copy_from_slice(&bytes[..run]);
-    run + write_members(place, &bytes[run..], &mut out[run..])
 }

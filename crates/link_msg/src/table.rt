@@ -6,13 +6,14 @@ ghost use Rattle.nla_wire.specs.Frames.{IsFrame, number};
 ghost use Rattle.nla_wire.specs.Grammar.{list};
 ghost use Rattle.nla_wire.specs.Canon.{canon, canons, AllFit, Weighs, HasRoom, Rewrites, RoomWhereFit, Canonical};
 ghost use Rattle.link_msg.specs.Runs.{IsSpelled, IsOwnText, IsRun};
+ghost use Rattle.link_msg.specs.declared.attribute.LinkAttribute.TheVariants.{Other};
 ghost use Rattle.link_msg.specs.declared.numbers.TheConstants.{IFLA_VF_PORTS};
 ghost use Rattle.nla_wire.specs.Gives.{Fails, Gives, Adds, Checks};
 ghost use Rattle.nla_wire.specs.declared.error.Cause.TheVariants.{OutOfMemory};
 
 use crate::attribute::LinkAttribute;
-use crate::family::parse_af_spec;
-use crate::family::parse_proto_info;
+use crate::family::read_af_spec_into;
+use crate::family::read_proto_info_into;
 use crate::kind_names::kind_name;
 use crate::numbers::IFLA_ADDRESS;
 use crate::numbers::IFLA_AF_SPEC;
@@ -77,18 +78,13 @@ use crate::numbers::IFLA_VF_PORTS;
 use crate::numbers::IFLA_VFINFO_LIST;
 use crate::numbers::IFLA_WIRELESS;
 use crate::numbers::IFLA_XDP;
+use crate::payload::parse_any;
+use crate::payload::parse_functions;
 use crate::payload::parse_mask;
 use crate::payload::parse_ports;
 use crate::payload::parse_some;
 use crate::run::run_in_front;
-use crate::run::write_members_after;
 use crate::shape::Shape;
-use link_nest::DevlinkPort;
-use link_nest::DpllPin;
-use link_nest::LinkInfo;
-use link_nest::LinkProtocolDownReason;
-use link_nest::LinkXdp;
-use link_nest::Prop;
 use link_nest::WirelessEvent;
 use link_recs::Map;
 use link_recs::Stats;
@@ -98,14 +94,11 @@ use link_vals::LinkEvent;
 use link_vals::LinkMode;
 use link_vals::LinkPhysId;
 use link_vals::State;
-use link_vf::LinkVfInfo;
 use link_vf::LinkVfPort;
 use nla_wire::Bytes;
 use nla_wire::DecodeError;
 use nla_wire::DefaultNla;
-use nla_wire::List;
 use nla_wire::NlaBuffer;
-use nla_wire::NlaRead;
 use nla_wire::NlasIterator;
 use nla_wire::Place;
 use nla_wire::add_len;
@@ -415,9 +408,7 @@ impl LinkAttribute {
                 Ok(())
             }
             IFLA_VFINFO_LIST => {
-                values.push_reserved(LinkAttribute::VfInfoList(List::new(LinkVfInfo::parse_list(
-                    alloc, payload,
-                )?)));
+                values.push_reserved(LinkAttribute::VfInfoList(parse_functions(alloc, payload)?));
                 Ok(())
             }
             IFLA_VF_PORTS => {
@@ -437,27 +428,19 @@ impl LinkAttribute {
                 Ok(())
             }
             IFLA_PROP_LIST => {
-                values.push_reserved(LinkAttribute::PropList(List::new(Prop::parse_list(
-                    alloc, payload,
-                )?)));
+                values.push_reserved(LinkAttribute::PropList(parse_any(alloc, payload)?));
                 Ok(())
             }
             IFLA_PROTO_DOWN_REASON => {
-                values.push_reserved(LinkAttribute::ProtoDownReason(List::new(
-                    LinkProtocolDownReason::parse_list(alloc, payload)?,
-                )));
+                values.push_reserved(LinkAttribute::ProtoDownReason(parse_any(alloc, payload)?));
                 Ok(())
             }
             IFLA_DEVLINK_PORT => {
-                values.push_reserved(LinkAttribute::DevlinkPort(List::new(DevlinkPort::parse_list(
-                    alloc, payload,
-                )?)));
+                values.push_reserved(LinkAttribute::DevlinkPort(parse_any(alloc, payload)?));
                 Ok(())
             }
             IFLA_DPLL_PIN => {
-                values.push_reserved(LinkAttribute::DpllPin(List::new(DpllPin::parse_list(
-                    alloc, payload,
-                )?)));
+                values.push_reserved(LinkAttribute::DpllPin(parse_any(alloc, payload)?));
                 Ok(())
             }
             IFLA_HEADROOM => match payload.len() {
@@ -465,33 +448,18 @@ impl LinkAttribute {
                     values.push_reserved(LinkAttribute::Headroom(parse_u16(payload)?));
                     Ok(())
                 }
-                _ => {
-                    values.push_reserved(LinkAttribute::Other(DefaultNla::parse(alloc, buffer)?));
-                    Ok(())
-                }
+                _ => keep_into(alloc, buffer, values),
             },
             IFLA_TAILROOM => match payload.len() {
                 2 => {
                     values.push_reserved(LinkAttribute::Tailroom(parse_u16(payload)?));
                     Ok(())
                 }
-                _ => {
-                    values.push_reserved(LinkAttribute::Other(DefaultNla::parse(alloc, buffer)?));
-                    Ok(())
-                }
+                _ => keep_into(alloc, buffer, values),
             },
-            IFLA_PROTINFO => {
-                values.push_reserved(parse_proto_info(alloc, buffer, family)?);
-                Ok(())
-            }
-            IFLA_AF_SPEC => {
-                values.push_reserved(parse_af_spec(alloc, buffer, family)?);
-                Ok(())
-            }
-            _ => {
-                values.push_reserved(LinkAttribute::Other(DefaultNla::parse(alloc, buffer)?));
-                Ok(())
-            }
+            IFLA_PROTINFO => read_proto_info_into(alloc, buffer, family, values),
+            IFLA_AF_SPEC => read_af_spec_into(alloc, buffer, family, values),
+            _ => keep_into(alloc, buffer, values),
         }
     }
 
@@ -699,23 +667,20 @@ impl LinkAttribute {
         };
         Some((len, empty, run))
     }
+}
 
-    /// Writes the canonical text of a list of attributes that was measured to the front of the buffer, and returns its
-    /// length. The bytes in front that are canonical as they are spelled are copied. The rest of the buffer is kept.
-    pub(crate) fn write_list_with_param(
-        bytes: &[u8],
-        family: AddressFamily,
-        run: usize,
-        out: &mut [u8],
-    ) -> usize
-        requires begins { IsRun family bytes.now run }
-        requires room { HasRoom (canons attribute_frame) (AllFit AttributeFits attribute_frame)
-            ((list (attribute_place family)).reads bytes.now) (length out.old) }
-        ensures { Rewrites (canons attribute_frame)
-            ((list (attribute_place family)).reads bytes.now) out.old out.new result }
-    {
-        write_members_after(&AttributePlace { family }, run, bytes, out)
-    }
+/// Keeps a frame that no line reads.
+#[inline(never)]
+fn keep_into(
+    alloc: Global,
+    buffer: &NlaBuffer<'_>,
+    values: &mut Vec<LinkAttribute>,
+) -> Result<(), DecodeError>
+    requires { vec_len values.old < vec_capacity values.old }
+    ensures { Adds result (Ok (Other buffer.now)) values.old.items values.new.items }
+{
+    values.push_reserved(LinkAttribute::Other(DefaultNla::parse(alloc, buffer)?));
+    Ok(())
 }
 
 /// Whether a frame of this shape is written as it is spelled, but for its padding, where its value's text is as long as

@@ -23,6 +23,7 @@ impl From<u8> for AddressFamily {
     ghost from_gives = { λ n v. v ≡ address_family_of n };
 
     #[tactic(auto, unfolding(crate::proofs::Opened::address_family))]
+    #[inline(always)]
     fn from(number: u8) -> AddressFamily {
         match number {
             0 => AddressFamily::Unspec,
@@ -39,6 +40,7 @@ impl From<AddressFamily> for u8 {
     ghost from_gives = { λ v n. n ≡ address_family_number v };
 
     #[tactic(auto, unfolding(crate::specs::AddressFamilyTable::address_family_number))]
+    #[inline(always)]
     fn from(value: AddressFamily) -> u8 {
         match value {
             AddressFamily::Unspec => 0,

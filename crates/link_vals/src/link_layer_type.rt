@@ -139,6 +139,7 @@ impl From<u16> for LinkLayerType {
     ghost from_gives = { λ n v. v ≡ layer_type_of n };
 
     #[tactic(auto, unfolding(crate::proofs::Opened::layer_type))]
+    #[inline(always)]
     fn from(number: u16) -> LinkLayerType {
         match number {
             0 => LinkLayerType::Netrom,
@@ -176,6 +177,7 @@ impl From<LinkLayerType> for u16 {
     ghost from_gives = { λ v n. n ≡ layer_type_number v };
 
     #[tactic(auto, unfolding(crate::specs::LinkLayerTypeTable::layer_type_number))]
+    #[inline(always)]
     fn from(value: LinkLayerType) -> u16 {
         match value {
             LinkLayerType::Netrom => 0,

@@ -3,7 +3,7 @@
 ghost use Rattle.std.specs.Prelude.{◌≡◌, ◌≢◌, ◌+◌, ◌*◌, ◌≤◌, length, Ok, IfOk, IfSome, MatchOption};
 ghost use Rattle.nla_wire.specs.Frames.{number};
 ghost use Rattle.nla_wire.specs.Sizes.{most_payload};
-ghost use Rattle.nla_wire.specs.Canon.{Measures};
+ghost use Rattle.nla_wire.specs.Canon.{Measures, WeighsBySize};
 ghost use Rattle.nla_wire.specs.Gives.{without_place};
 ghost use Rattle.link_vfrec.specs.Records.{vf_info_mac_bytes, vf_info_broadcast_bytes};
 ghost use Rattle.link_vf.specs.Tables.{vf_info_place};
@@ -24,7 +24,7 @@ use link_vfrec::{
 use nla_wire::error::checked;
 use nla_wire::{
     CloneIn, DecodeError, DefaultNla, Exact, List, Nla, NlaBuffer, NlaRead, Record, fill_bytes,
-    list_fits, list_measure, nlas_buffer_len, nlas_fill, write_list, write_value,
+    list_fits, list_measure, measure_by_size, nlas_buffer_len, nlas_fill, write_list, write_value,
 };
 use std::alloc::Global;
 
@@ -248,6 +248,33 @@ fn read_record(buffer: &NlaBuffer<'_>) -> Option<Result<VfInfo, DecodeError>>
     }
 }
 
+/// The bytes that the payload of a record's number has to have: one comparison measures every record.
+#[inline(always)]
+#[tactic(auto, unfolding(crate::specs::Tables::vf_info_place))]
+fn record_size(buffer: &NlaBuffer<'_>) -> Option<usize>
+    ensures { MatchOption result
+        (number buffer.now ≢ IFLA_VF_STATS → number buffer.now ≢ IFLA_VF_VLAN_LIST
+        → vf_info_place.grammar.reads buffer.now ≡ Ok (Other buffer.now))
+        (λ size. WeighsBySize (λ v. (vf_info_place.frame v).payload) vf_info_place.Fits
+        (vf_info_place.grammar.reads buffer.now) (length buffer.now.payload) size) }
+{
+    let payload = buffer.value();
+    match buffer.kind() {
+        IFLA_VF_MAC => Some(VfInfoMac::size_for(payload)),
+        IFLA_VF_VLAN => Some(VfInfoVlan::size_for(payload)),
+        IFLA_VF_TX_RATE => Some(VfInfoTxRate::size_for(payload)),
+        IFLA_VF_SPOOFCHK => Some(VfInfoSpoofCheck::size_for(payload)),
+        IFLA_VF_LINK_STATE => Some(VfInfoLinkState::size_for(payload)),
+        IFLA_VF_RATE => Some(VfInfoRate::size_for(payload)),
+        IFLA_VF_RSS_QUERY_EN => Some(VfInfoRssQueryEn::size_for(payload)),
+        IFLA_VF_TRUST => Some(VfInfoTrust::size_for(payload)),
+        IFLA_VF_IB_NODE_GUID => Some(VfInfoGuid::size_for(payload)),
+        IFLA_VF_IB_PORT_GUID => Some(VfInfoGuid::size_for(payload)),
+        IFLA_VF_BROADCAST => Some(VfInfoBroadcast::size_for(payload)),
+        _ => None,
+    }
+}
+
 impl NlaRead for VfInfo {
     ghost use Rattle.nla_wire.proofs.Codec.{place_bounded};
 
@@ -304,21 +331,13 @@ impl NlaRead for VfInfo {
     #[tactic(auto, unfolding(crate::specs::Tables::vf_info_place))]
     fn measure_frame(buffer: &NlaBuffer<'_>) -> Option<usize> {
         let payload = buffer.value();
-        match buffer.kind() {
-            IFLA_VF_STATS => VfStats::measure_nested(payload),
-            IFLA_VF_VLAN_LIST => VfVlan::measure_nested(payload),
-            IFLA_VF_MAC => VfInfoMac::measure_sized(payload),
-            IFLA_VF_VLAN => VfInfoVlan::measure_sized(payload),
-            IFLA_VF_TX_RATE => VfInfoTxRate::measure_sized(payload),
-            IFLA_VF_SPOOFCHK => VfInfoSpoofCheck::measure_sized(payload),
-            IFLA_VF_LINK_STATE => VfInfoLinkState::measure_sized(payload),
-            IFLA_VF_RATE => VfInfoRate::measure_sized(payload),
-            IFLA_VF_RSS_QUERY_EN => VfInfoRssQueryEn::measure_sized(payload),
-            IFLA_VF_TRUST => VfInfoTrust::measure_sized(payload),
-            IFLA_VF_IB_NODE_GUID => VfInfoGuid::measure_sized(payload),
-            IFLA_VF_IB_PORT_GUID => VfInfoGuid::measure_sized(payload),
-            IFLA_VF_BROADCAST => VfInfoBroadcast::measure_sized(payload),
-            _ => Some(payload.len()),
+        match record_size(buffer) {
+            Some(size) => measure_by_size(payload, size),
+            None => match buffer.kind() {
+                IFLA_VF_STATS => VfStats::measure_nested(payload),
+                IFLA_VF_VLAN_LIST => VfVlan::measure_nested(payload),
+                _ => Some(payload.len()),
+            },
         }
     }
 

@@ -1,7 +1,7 @@
 -- Bytes that are ASCII, told by the highest bits of words.
 use Rattle.std.proofs.Common.{◌≡◌, ℕ, zero, suc, ◌+◌, ◌*◌, ◌/◌, ◌%◌, ◌^◌, ◌<◌, ◌≤◌, List, [], ◌∷◌, length, get_or, take}
 use Rattle.std.proofs.Common.{◌-◌, ◌↔◌, drop, refl, sym, ap, ◌∙◌, subst, arith, lit<, eqb-true, eq-eqb, take_all}
-use Rattle.std.proofs.Common.{length-drop}
+use Rattle.std.proofs.Common.{length-drop, length-take}
 use Rattle.std.proofs.lemmas.List.{take_rest}
 use Rattle.std.specs.Prelude.{IsTrue, nat_eq}
 use Rattle.std.specs.List.{AllByRecursion}
@@ -130,22 +130,38 @@ all_front P xs zero all = tt
 all_front P [] (suc n) all = tt
 all_front P (x ∷ xs) (suc n) all = (all.0, all_front P xs n all.1)
 
-all_behind : (P : ℕ → Type 0) (xs : List ℕ) (n : ℕ) → AllByRecursion P xs → AllByRecursion P (drop n xs)
-all_behind P xs zero all = all
-all_behind P [] (suc n) all = tt
-all_behind P (x ∷ xs) (suc n) all = all_behind P xs n all.1
+all_after : (P : ℕ → Type 0) (xs : List ℕ) (n : ℕ) → AllByRecursion P xs → AllByRecursion P (drop n xs)
+all_after P xs zero all = all
+all_after P [] (suc n) all = tt
+all_after P (x ∷ xs) (suc n) all = all_after P xs n all.1
 
--- so do n bytes in front and n of the end, which are all of it
-pub all_ends : (P : ℕ → Type 0) (xs : List ℕ) (n : ℕ) → n ≤ length xs → length xs ≤ n + n
+-- so do so many bytes in front and so many at the end, which are all of it
+pub all_ends : (P : ℕ → Type 0) (xs : List ℕ) (front back : ℕ) → back ≤ length xs → length xs ≤ front + back
+    → (AllByRecursion P xs ↔ (AllByRecursion P (take front xs)
+    × AllByRecursion P (take (length xs - (length xs - back)) (drop (length xs - back) xs))))
+all_ends P xs front back long meet =
+    let last : take (length xs - (length xs - back)) (drop (length xs - back) xs) ≡ drop (length xs - back) xs =
+    take_rest xs (length xs - back) in (
+      λ all. (
+        all_front P xs front all,
+        subst (AllByRecursion P) (sym last) (all_after P xs (length xs - back) all),
+      ),
+      λ both. all_over P xs front (length xs - back) (omega (arith, meet)) both.0
+          (subst (AllByRecursion P) last both.1),
+    )
+
+-- the same of n bytes in front and n at the end
+pub all_halves : (P : ℕ → Type 0) (xs : List ℕ) (n : ℕ) → n ≤ length xs → length xs ≤ n + n
     → (AllByRecursion P xs ↔ (AllByRecursion P (take n xs)
     × AllByRecursion P (take n (take (length xs - (length xs - n)) (drop (length xs - n) xs)))))
-all_ends P xs n long meet =
-    let last : take n (take (length xs - (length xs - n)) (drop (length xs - n) xs)) ≡ drop (length xs - n) xs =
-    ap (take n) (take_rest xs (length xs - n))
-    ∙ take_all n (drop (length xs - n) xs) (omega (arith, length-drop (length xs - n) xs, long)) in (
-      λ all. (
-        all_front P xs n all,
-        subst (AllByRecursion P) (sym last) (all_behind P xs (length xs - n) all),
-      ),
-      λ both. all_over P xs n (length xs - n) (omega (arith, meet)) both.0 (subst (AllByRecursion P) last both.1),
-    )
+all_halves P xs n long meet =
+    let end = take (length xs - (length xs - n)) (drop (length xs - n) xs) in
+    let whole : take n end ≡ end =
+    take_all n end (omega (
+      arith,
+      length-take (length xs - (length xs - n)) (drop (length xs - n) xs),
+      length-drop (length xs - n) xs,
+      long,
+    )) in
+    subst (λ ys. AllByRecursion P xs ↔ (AllByRecursion P (take n xs) × AllByRecursion P ys)) (sym whole)
+    (all_ends P xs n n long meet)

@@ -61,6 +61,11 @@ Weighs text fits (Ok v) None = fits v → ⊥
 Weighs text fits (Err c) (Some n) = ⊥
 Weighs text fits (Err c) None = Unit {0}
 
+-- the same where bytes are read exactly if so many are there: that is how long the text is then
+abbrev pub WeighsBySize : {V : Type 0} → (V → List ℕ) → (V → Type 0) → Result V Cause → ℕ → ℕ → Type 0
+WeighsBySize text fits read there wanted =
+    (wanted ≤ there → Weighs text fits read (Some wanted)) × (there < wanted → Weighs text fits read None)
+
 -- a value is read, and it fits
 abbrev pub IsFitting : {V : Type 0} → (V → Type 0) → Result V Cause → Type 0
 IsFitting fits (Ok v) = fits v

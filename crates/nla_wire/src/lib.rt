@@ -45,7 +45,7 @@ pub use read::{
     parse_one, parse_picked_members, write_members, write_nested_members,
     write_nested_picked_members, write_picked_members,
 };
-pub use record::{PlainRecord, Record, RecordBuffer};
+pub use record::{PlainRecord, Record, RecordBuffer, measure_by_size};
 pub use text::{check_string, parse_string};
 pub use values::{Bytes, CloneIn, List, Text};
 pub use write::{

@@ -1,12 +1,12 @@
 //! Fixed records, which stand at the front of a payload: the calls that all have, and their bytes.
 
 ghost use Rattle.std.proofs.Common.{rules};
-ghost use Rattle.std.specs.Prelude.{◌≡◌, ℕ, ◌+◌, ◌≤◌, List, length, take, drop, MatchResult};
+ghost use Rattle.std.specs.Prelude.{◌≡◌, ℕ, ◌+◌, ◌<◌, ◌≤◌, List, length, take, drop, MatchResult, MatchOption};
 ghost use Rattle.nla_wire.specs.Sizes.{most_payload};
 ghost use Rattle.nla_wire.specs.Frames.{missing};
 ghost use Rattle.nla_wire.specs.Fields.{IsShort};
 ghost use Rattle.nla_wire.specs.Payloads.{sized, filled};
-ghost use Rattle.nla_wire.specs.Canon.{canon, Filled, Writes, Weighs};
+ghost use Rattle.nla_wire.specs.Canon.{canon, Filled, Writes, Weighs, WeighsBySize};
 ghost use Rattle.nla_wire.specs.Records.{Parses, RecordLaws, WritesFilled, buffer_bytes};
 
 use crate::buffer::NLA_HEADER_SIZE;
@@ -16,6 +16,19 @@ use crate::fields::too_short;
 use crate::payload::write_filled_payload;
 use crate::write::finish;
 use std::marker::PhantomData;
+
+/// `size`, where so many bytes are there: the length of what is written of a payload that is read exactly then.
+#[inline(always)]
+pub fn measure_by_size(payload: &[u8], size: usize) -> Option<usize>
+    ensures { MatchOption result (length payload.now < size)
+        (λ n. (n ≡ size) × (size ≤ length payload.now)) }
+{
+    if payload.len() < size {
+        None
+    } else {
+        Some(size)
+    }
+}
 
 /// A record of `SIZE` bytes.
 ///
@@ -77,6 +90,16 @@ pub trait Record<const SIZE: usize>: Sized {
         Some(SIZE)
     }
 
+    /// The bytes that a payload has to have, by which alone it is measured.
+    #[inline(always)]
+    final fn size_for(payload: &[u8]) -> usize
+        requires { SIZE ≤ most_payload }
+        ensures { WeighsBySize bytes (λ r. length (bytes r) ≤ most_payload)
+            ((sized SIZE of).reads payload.now) (length payload.now) result }
+    {
+        SIZE
+    }
+
     /// The length of the text of the record that a payload means: `None` where it has fewer than `SIZE` bytes.
     #[inline(always)]
     final fn measure_sized(payload: &[u8]) -> Option<usize>
@@ -84,10 +107,7 @@ pub trait Record<const SIZE: usize>: Sized {
         ensures { Weighs bytes (λ r. length (bytes r) ≤ most_payload)
             ((sized SIZE of).reads payload.now) result }
     {
-        if payload.len() < SIZE {
-            return None;
-        }
-        Some(SIZE)
+        measure_by_size(payload, Self::size_for(payload))
     }
 
     /// Writes a record to the end of a buffer of at least `SIZE` bytes, keeps the bytes before it, and returns where it

@@ -1,7 +1,7 @@
 //! Texts as payloads: UTF-8, which may end in one NUL.
 
 ghost use Rattle.std.specs.Prelude.{◌≡◌, ◌≢◌, ◌⊎◌, ◌<◌, ◌≤◌, ◌↔◌, List, ℕ, IfOk, IfErr, IsTrue, IsUtf8, MatchOption};
-ghost use Rattle.std.specs.Prelude.{length, take};
+ghost use Rattle.std.specs.Prelude.{◌+◌, length, take};
 ghost use Rattle.std.specs.List.{AllByRecursion};
 ghost use Rattle.nla_wire.specs.Payloads.{text, AreAscii, IsTextOf};
 ghost use Rattle.nla_wire.specs.Gives.{Gives, Checks};
@@ -78,7 +78,19 @@ fn is_ascii_short(bytes: &[u8]) -> bool
     bytes[0] < 128 && bytes[bytes.len() / 2] < 128 && bytes[last] < 128
 }
 
-/// Whether bytes are ASCII. Most names are short, and two words that overlap are all of their bytes.
+/// Whether bytes are ASCII, of which so many in front and so many at the end, which meet or overlap, are all.
+#[inline(always)]
+fn are_ends_ascii(bytes: &[u8], front: usize, back: usize) -> bool
+    requires first { front ≤ length bytes.now }
+    requires last { back ≤ length bytes.now }
+    requires all { length bytes.now ≤ front + back }
+    ensures { IsTrue result ↔ AreAscii bytes.now }
+{
+    highest(&bytes[..front]) < 128 && highest(&bytes[bytes.len() - back..]) < 128
+}
+
+/// Whether bytes are ASCII. Most names are short, and two words that overlap are all of their bytes; of a longer text
+/// whole blocks of 32 bytes are looked at, and the last 32, so that no loop goes byte by byte.
 #[inline(always)]
 fn is_ascii(bytes: &[u8]) -> bool
     ensures { IsTrue result ↔ AreAscii bytes.now }
@@ -88,17 +100,17 @@ fn is_ascii(bytes: &[u8]) -> bool
         1..=3 => is_ascii_short(bytes),
         4..=7 => begins_ascii_4(bytes) && begins_ascii_4(&bytes[bytes.len() - 4..]),
         8..=16 => begins_ascii_8(bytes) && begins_ascii_8(&bytes[bytes.len() - 8..]),
-        _ => highest(bytes) < 128,
+        17..=31 => are_ends_ascii(bytes, 16, 16),
+        len => are_ends_ascii(bytes, len / 32 * 32, 32),
     }
 }
 
-/// The bytes as a text, where they are UTF-8.
+/// Whether bytes, some of which are not ASCII, are UTF-8.
 #[inline(never)]
-fn decoded(bytes: &[u8]) -> Option<&str>
-    ensures { MatchOption result (IsUtf8 bytes.now → ⊥)
-        (λ s. (s.now ≡ bytes.now) × IsUtf8 bytes.now) }
+fn is_decoded(bytes: &[u8]) -> bool
+    ensures { IsTrue result ↔ IsUtf8 bytes.now }
 {
-    str::from_utf8(bytes).ok()
+    str::from_utf8(bytes).is_ok()
 }
 
 /// The bytes as a text, where they are UTF-8, as ASCII is.
@@ -107,15 +119,16 @@ pub(crate) fn utf8(bytes: &[u8]) -> Option<&str>
     ensures { MatchOption result (IsUtf8 bytes.now → ⊥)
         (λ s. (s.now ≡ bytes.now) × IsUtf8 bytes.now) }
 {
-    if is_ascii(bytes) {
-        // SAFETY: bytes below 128 are ASCII.
+    if is_ascii(bytes) || is_decoded(bytes) {
+        // SAFETY: the bytes are ASCII, which is UTF-8, or were found to be UTF-8.
         return Some(unsafe { str::from_utf8_unchecked(bytes) });
     }
-    decoded(bytes)
+    None
 }
 
 /// Reads a text: one NUL at the end is dropped, and the rest has to be UTF-8, else `NotUtf8`. The empty payload is the
 /// empty text.
+#[inline(always)]
 pub fn parse_string(alloc: Global, bytes: &[u8]) -> Result<Text, DecodeError>
     ensures means { IfOk result (text.means bytes.now) }
     ensures refused { IfErr result (λ e. (e.cause ≡ OutOfMemory) ⊎ text.bad bytes.now e.cause) }

@@ -1,10 +1,9 @@
-use Rattle.nla_wire.specs.Grammar.{list}
-use Rattle.link_msg.specs.Tables.{attribute_place}
-use Rattle.link_msg.proofs.Writing.{written_after}
+use Rattle.std.proofs.Common.{◌+◌, ◌-◌, arith}
+use Rattle.link_msg.proofs.Writing.{begun}
 use Rattle.link_msg.proofs.canonical_text.write_message.Goals as goal
 
 pub returns : goal.returns
 returns c =
-    written_after c.args.header.now
-    ((list (attribute_place c.args.header.now.interface_family)).reads c.args.rest.now) c.args.out.now c.emit.new.buffer
-    c.write_list_with_param.new.out c.write_list_with_param.result c.emit.ensures c.write_list_with_param.ensures
+    c.write_after_run.ensures c.args.out.now
+    (begun c.args.header.now c.args.rest.now c.args.run (16 + c.args.run - 16) c.args.out.now c.emit.new.buffer
+    c.copy_from_slice.new.self c.requires.begins.within (omega arith) c.emit.ensures c.copy_from_slice.ensures.after)

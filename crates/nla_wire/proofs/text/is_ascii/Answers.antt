@@ -1,23 +1,17 @@
-use Rattle.std.proofs.Common.{arith, ltb-true, lt-ltb, ◌<◌}
-use Rattle.nla_wire.proofs.Ascii.{all_ends}
-use Rattle.nla_wire.proofs.Texts.{high_ascii}
+use Rattle.std.proofs.Common.{arith, ◌<◌}
+use Rattle.nla_wire.proofs.Ascii.{all_halves}
 use Rattle.nla_wire.proofs.text.is_ascii.Goals as goal
-
-pub returns-in_default : goal.returns-in_default
-returns-in_default c =
-    let all = high_ascii c.args.bytes.now c.highest.result c.highest.ensures in
-    (λ low. all.0 (ltb-true c.highest.result 128 low), λ ascii. lt-ltb c.highest.result 128 (all.1 ascii))
 
 pub returns-then-begins_ascii_4 : goal.returns-then-begins_ascii_4
 returns-then-begins_ascii_4 c =
     let front = c.begins_ascii_4.ensures.0 c.if-begins_ascii_4.true in
     let end = c.begins_ascii_4-then-begins_ascii_4.ensures in
-    let ends = all_ends (λ b. b < 128) c.args.bytes.now 4 (omega arith) (omega arith) in
+    let ends = all_halves (λ b. b < 128) c.args.bytes.now 4 (omega arith) (omega arith) in
     (λ low. ends.1 (front, end.0 low), λ all. end.1 (ends.0 all).1)
 
 pub returns-then-begins_ascii_8 : goal.returns-then-begins_ascii_8
 returns-then-begins_ascii_8 c =
     let front = c.begins_ascii_8.ensures.0 c.if-begins_ascii_8.true in
     let end = c.begins_ascii_8-then-begins_ascii_8.ensures in
-    let ends = all_ends (λ b. b < 128) c.args.bytes.now 8 (omega arith) (omega arith) in
+    let ends = all_halves (λ b. b < 128) c.args.bytes.now 8 (omega arith) (omega arith) in
     (λ low. ends.1 (front, end.0 low), λ all. end.1 (ends.0 all).1)
