@@ -36,10 +36,6 @@ pub record IsCopied (s : Shape) : Type 0 where
       → length ((base s).codec.text x) ≡ length p → (base s).codec.text x ≡ p
   pub kind_is : (n : ℕ) → kind_of (base s).flags n ≡ n
 
--- a payload of this shape is written as it is where its text is as long, and the frame's kind has no flags
-abbrev pub IsSpelled : Shape → Frame → Type 0
-IsSpelled s f = IsCopied s × (f.kind ≡ number f)
-
 -- it fits, and is no empty list of ports
 abbrev pub CanBeWritten : LinkAttribute → Type 0
 CanBeWritten v = AttributeFits v × NotEmptyPorts v

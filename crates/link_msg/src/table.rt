@@ -5,7 +5,7 @@ ghost use Rattle.std.specs.Prelude.{IfOk, IfErr, MatchResult};
 ghost use Rattle.nla_wire.specs.Frames.{IsFrame, number};
 ghost use Rattle.nla_wire.specs.Grammar.{list};
 ghost use Rattle.nla_wire.specs.Canon.{canon, canons, AllFit, Weighs, HasRoom, Rewrites, RoomWhereFit, Canonical};
-ghost use Rattle.link_msg.specs.Runs.{IsSpelled, IsOwnText, IsRun};
+ghost use Rattle.link_msg.specs.Runs.{IsOwnText};
 ghost use Rattle.link_msg.specs.declared.attribute.LinkAttribute.TheVariants.{Other};
 ghost use Rattle.link_msg.specs.declared.numbers.TheConstants.{IFLA_VF_PORTS};
 ghost use Rattle.nla_wire.specs.Gives.{Fails, Gives, Adds, Checks};
@@ -508,19 +508,23 @@ impl LinkAttribute {
         }
     }
 
-    /// Whether a frame is canonical as it is spelled, but for its padding, and not an empty list of ports.
+    /// Whether a frame is canonical as it is spelled, but for its padding, and not an empty list of ports. One with flags
+    /// is not looked at.
     #[inline(always)]
     pub(crate) fn is_own_text(buffer: &NlaBuffer<'_>, family: AddressFamily) -> bool
         ensures { IsTrue result → IsOwnText family buffer.now }
     {
         let payload = buffer.value();
+        if !has_no_flags(buffer) {
+            return false;
+        }
         if has_no_port(buffer, payload.len()) {
             return false;
         }
         let Some(shape) = Shape::of(buffer.kind(), payload.len(), family) else {
             return true;
         };
-        if !is_spelled(shape, buffer) {
+        if !shape.is_copied() {
             return false;
         }
         match shape.measure(payload) {
@@ -683,13 +687,12 @@ fn keep_into(
     Ok(())
 }
 
-/// Whether a frame of this shape is written as it is spelled, but for its padding, where its value's text is as long as
-/// its payload.
+/// Whether the kind of a frame is its number alone.
 #[inline(always)]
-fn is_spelled(shape: Shape, buffer: &NlaBuffer<'_>) -> bool
-    ensures { IsTrue result → IsSpelled shape buffer.now }
+fn has_no_flags(buffer: &NlaBuffer<'_>) -> bool
+    ensures { IsTrue result ↔ (buffer.now.kind ≡ number buffer.now) }
 {
-    shape.is_copied() && buffer.kind_with_flags() == buffer.kind()
+    buffer.kind_with_flags() == buffer.kind()
 }
 
 /// Whether a frame whose value has a text of so many bytes is an empty list of ports.

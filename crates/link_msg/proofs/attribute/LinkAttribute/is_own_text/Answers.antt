@@ -26,12 +26,13 @@ returns-in-Some-measure c = λ told.
     let weighs = rw c.in-Some-measure.is at (rw c.value-payload.ensures.value at c.measure.ensures) in
     let same : c.in-Some-measure.len ≡ length f.payload =
     eqb-true c.in-Some-measure.len (length c.value-payload.result.now) told ∙ payload_is in
-    let spelled = c.is_spelled.ensures c.if-not-is_spelled.false in
+    let copied = c.is_copied.ensures c.if-not-is_copied.false in
+    let plain = c.has_no_flags.ensures.0 c.if-not-has_no_flags.false in
     own_text c.args.family f c.has_no_port.ensures.frame
     (subst (λ n. Weighs (λ v. (attribute_frame v).payload) AttributeFits ((attribute_place c.args.family).reads f)
     (Some n)) same
     (shape_weighs c.args.family f (Some c.in-Some.shape) (Some c.in-Some-measure.len) way c.has_no_port.ensures.frame
     weighs))
-    (same_text c.args.family f c.has_no_port.ensures.frame c.in-Some.shape c.in-Some-measure.len way spelled.0 spelled.1
+    (same_text c.args.family f c.has_no_port.ensures.frame c.in-Some.shape c.in-Some-measure.len way copied plain
     same weighs)
     (λ none. let wrong : false ≡ true = c.if-has_no_port.ensures.told.1 (none.0, payload_is ∙ none.1) in absurd cc)
