@@ -1,8 +1,8 @@
 /* Link messages of Linux's route netlink protocol (rtnetlink(7)), for programs in C and C++.
  *
  * A message is the header of 16 bytes (struct ifinfomsg of linux/rtnetlink.h) and the attributes after it
- * (linux/if_link.h), as they stand after the netlink header. Each message that can be written has one canonical text,
- * and two byte strings mean the same message exactly where their canonical texts are equal.
+ * (linux/if_link.h), as they stand after the netlink header. Each message that can be written has one canonical
+ * encoding, and two byte strings mean the same message exactly where their canonical encodings are equal.
  *
  * An attribute is a length of two bytes, a kind of two bytes, and a payload; the length counts the four bytes before
  * the payload, and not the padding after it. Attributes start at multiples of four, counted from the start of their
@@ -13,12 +13,12 @@
  *   says; where the length is 0, any address but null will do. No length is above PTRDIFF_MAX.
  * - What a function writes (`out`, the list of `linkwire_put`, `*at`, `*attribute`) overlaps no other argument.
  *   Arguments that are only read may overlap.
- * - Nobody else writes the bytes that are read, or touches what is written, during the call. A text is measured first
- *   and written then: bytes that change in between, in memory that another thread or process shares, can make
+ * - Nobody else writes the bytes that are read, or touches what is written, during the call. An encoding is measured
+ *   first and then written: bytes that change in between, in memory that another thread or process shares, can make
  *   `linkwire_canonical` write past `out`. Copy such bytes first.
  * - `*at` has a value before the call. `out`, `*attribute` and what the static functions write need not be initialised,
  *   nor the bytes of a list that `linkwire_put` writes to; a nest that is put as a payload was written whole.
- * Nothing is asked of the bytes themselves: any bytes get an answer.
+ * Nothing is asked of the bytes themselves: every call returns, whatever the bytes are.
  *
  * Calls share nothing, so they can run side by side in several threads, and no call reads or sets errno but by the
  * allocator. `linkwire_same_message` takes memory from malloc and realloc, and gives all of it back with free before it
@@ -39,15 +39,15 @@ extern "C" {
 /* The version of this header and of the library that it came with. */
 #define LINKWIRE_VERSION "0.2.0"
 
-/* The number of the canonical form: a change of any message's canonical text raises it. Texts of different numbers
- * are not to be compared, so a store keeps the number beside its keys. `linkwire_canonical_form` returns that of the
- * library. */
+/* The number of the canonical form: a change of any message's canonical encoding raises it. Encodings of different
+ * numbers are not to be compared, so a store keeps the number beside its keys. `linkwire_canonical_form` returns that
+ * of the library. */
 #define LINKWIRE_CANONICAL_FORM 2
 
 /* The bytes of a message's header; its list of attributes starts after them. */
 #define LINKWIRE_HEADER_SIZE 16
 
-/* A canonical text has at most so many bytes for each byte of its message. */
+/* A canonical encoding has at most so many bytes for each byte of its message. */
 #define LINKWIRE_GROWTH 79
 
 /* What is refused, and why. Each number has one meaning in every call. */
@@ -79,12 +79,12 @@ struct linkwire_attribute {
 /* 0 where the bytes are a message, else the first fault, -1 to -7. Takes no memory. */
 int32_t linkwire_check(const uint8_t *message, size_t len);
 
-/* The length of the message's canonical text, which is at least 16 and at most LINKWIRE_GROWTH times `len`; or -1 to
- * -7, -16, also where the length is above PTRDIFF_MAX, or -17. Takes no memory. */
+/* The length of the message's canonical encoding, which is at least 16 and at most LINKWIRE_GROWTH times `len`; or -1
+ * to -7, -16, also where the length is above PTRDIFF_MAX, or -17. Takes no memory. */
 ptrdiff_t linkwire_canonical_len(const uint8_t *message, size_t len);
 
-/* The same, and the canonical text stands at the front of `out`, the rest of which is kept; or -19 exactly where the
- * text is longer than `cap`. After every refusal `out` is unchanged. The message is measured once. Takes no memory. */
+/* The same, and the canonical encoding stands at the front of `out`, the rest of which is kept; or -19 exactly where it
+ * is longer than `cap`. After every refusal `out` is unchanged. The message is measured once. Takes no memory. */
 ptrdiff_t linkwire_canonical(const uint8_t *message, size_t len, uint8_t *out, size_t cap);
 
 /* 1 where both mean the same message, 0 where they mean two; or the refusal, -1 to -7, -16, -17 or -18, of the first
@@ -169,7 +169,7 @@ static inline size_t linkwire_text_len(const uint8_t *list, const struct linkwir
     return len;
 }
 
-/* What an answer of these functions means: a phrase for a log, never null. */
+/* What a number that these functions return means: a phrase for a log, never null. */
 static inline const char *linkwire_answer_text(ptrdiff_t answer) {
     if (answer >= 0) {
         return "no refusal";

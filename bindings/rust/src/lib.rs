@@ -1,9 +1,9 @@
 //! Link messages of Linux's route netlink protocol, `rtnetlink(7)`: read, checked, written, and brought into one
-//! canonical text. Each call is one of the proved library `liblinkwire`, which `build.rs` finds.
+//! canonical encoding. Each call is one of the proved library `liblinkwire`, which `build.rs` finds.
 //!
 //! A message is the header of 16 bytes (`struct ifinfomsg` of linux/rtnetlink.h) and the attributes after it
-//! (linux/if_link.h), as they stand after the netlink header. Each message that can be written has one canonical text,
-//! and two byte strings mean the same message exactly where their canonical texts are equal.
+//! (linux/if_link.h), as they stand after the netlink header. Each message that can be written has one canonical
+//! encoding, and two byte strings mean the same message exactly where their canonical encodings are equal.
 //!
 //! ```
 //! // A header whose second byte is not zero, and the name "lo" with no NUL.
@@ -11,9 +11,9 @@
 //! for attribute in linkwire::attributes(&message) {
 //!     assert_eq!(attribute?.as_str(), Some("lo"));
 //! }
-//! let text = linkwire::canonical(&message)?;
-//! assert_eq!(text[..2], [0, 0]);
-//! assert_eq!(text[16..], [7, 0, 3, 0, b'l', b'o', 0, 0]);
+//! let encoding = linkwire::canonical(&message)?;
+//! assert_eq!(encoding[..2], [0, 0]);
+//! assert_eq!(encoding[16..], [7, 0, 3, 0, b'l', b'o', 0, 0]);
 //! # Ok::<(), linkwire::Refusal>(())
 //! ```
 
@@ -34,7 +34,7 @@ pub use writer::Writer;
 /// The bytes of a message's header; its list of attributes starts after them.
 pub const HEADER_SIZE: usize = 16;
 
-/// A canonical text has at most so many bytes for each byte of its message.
+/// A canonical encoding has at most so many bytes for each byte of its message.
 pub const GROWTH: usize = 79;
 
 /// The number of the canonical form that this crate was written for; a store keeps it beside its keys.
@@ -82,8 +82,8 @@ pub fn fault_at(message: &[u8]) -> Option<(Fault, usize)> {
     }
 }
 
-/// The length of the message's canonical text, which is at least 16 and at most [`GROWTH`] times that of the message.
-/// Takes no memory.
+/// The length of the message's canonical encoding, which is at least 16 and at most [`GROWTH`] times that of the
+/// message. Takes no memory.
 ///
 /// ```
 /// let message = [0, 9, 1, 0, 7, 0, 0, 0, 0, 0, 0, 0, 0, 0, 0, 0, 6, 0, 3, 0, b'l', b'o'];
@@ -94,7 +94,7 @@ pub fn canonical_len(message: &[u8]) -> Result<usize, Refusal> {
     length(unsafe { sys::linkwire_canonical_len(message.as_ptr(), message.len()) })
 }
 
-/// The message's canonical text.
+/// The message's canonical encoding.
 ///
 /// ```
 /// let header = [0, 9, 1, 0, 7, 0, 0, 0, 0, 0, 0, 0, 0, 0, 0, 0];
@@ -110,9 +110,9 @@ pub fn canonical(message: &[u8]) -> Result<Vec<u8>, Refusal> {
     Ok(text)
 }
 
-/// Writes the message's canonical text to the front of `out` and returns its length; the rest of `out` is kept.
-/// [`Refusal::NoRoom`] exactly where the text is longer than `out`. After every refusal `out` is unchanged. Takes no
-/// memory.
+/// Writes the message's canonical encoding to the front of `out` and returns its length; the rest of `out` is kept.
+/// [`Refusal::NoRoom`] exactly where the encoding is longer than `out`. After every refusal `out` is unchanged. Takes
+/// no memory.
 ///
 /// ```
 /// use linkwire::{canonical_into, Refusal};
@@ -143,7 +143,7 @@ pub fn same_message(a: &[u8], b: &[u8]) -> Result<bool, Refusal> {
     }
 }
 
-/// The length that an answer is, or the refusal.
+/// The length that was returned, or the refusal.
 fn length(answer: isize) -> Result<usize, Refusal> {
     usize::try_from(answer).map_err(|_| Refusal::from_answer(answer))
 }

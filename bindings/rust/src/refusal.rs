@@ -35,7 +35,7 @@ impl Fault {
         })
     }
 
-    /// The fault of an answer that is one.
+    /// The fault that a call returned.
     pub(crate) fn from_answer(answer: i32) -> Fault {
         Fault::of(answer as isize).unwrap_or_else(|| unreachable!("linkwire returned {answer}"))
     }
@@ -57,7 +57,7 @@ impl fmt::Display for Fault {
 
 impl Error for Fault {}
 
-/// Why nothing was written, or no answer given.
+/// Why nothing was written, or no result returned.
 #[derive(Clone, Copy, Debug, PartialEq, Eq, Hash)]
 pub enum Refusal {
     /// The bytes are no message.
@@ -73,7 +73,7 @@ pub enum Refusal {
 }
 
 impl Refusal {
-    /// The refusal of an answer that is one.
+    /// The refusal that a call returned.
     pub(crate) fn from_answer(answer: isize) -> Refusal {
         match answer {
             -16 => Refusal::Unfit,

@@ -51,6 +51,7 @@ pub(crate) fn answer_piece<A: Answer, W: Write>(
     while let Some(end) = memchr(b'\n', rest) {
         end_line(alloc, held, &rest[..end], answers)?;
         answers.write_full(writer)?;
+        // for the proof: cut in two steps, at the LF and after it
         rest = &rest[end..][1..];
     }
     held.extend_from_slice(rest)?;

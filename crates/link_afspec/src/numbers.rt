@@ -1,5 +1,5 @@
 //! The numbers of the attributes that this crate reads, by their names in the kernel's headers. Each stands here and
-//! nowhere else.
+//! nowhere else, but AF_INET, AF_INET6 and AF_MCTP, which are address families in `link_vals` too.
 
 /// Settings of IPv4, in AF_INET (linux/if_link.h).
 pub const IFLA_INET_CONF: u16 = 1;

@@ -9,7 +9,7 @@ use nla_wire::{
 use std::alloc::Global;
 
 /// A member of IFLA_AF_SPEC of the family AF_UNSPEC (linux/if_link.h): its number is a family (linux/socket.h), and its
-/// payload a list, which is not empty.
+/// payload a non-empty list.
 #[derive(Debug, Drop, PartialEq, Eq)]
 pub enum AfSpecUnspec {
     /// AF_INET: settings of IPv4.

@@ -209,7 +209,7 @@ module _ {V : Type 0} (read : Frame → Result V Cause) (text : V → List ℕ) 
         subst (λ r. Rewrites (flat_map text) r (take (length now - at) (drop at now)) part n)
         (ap (list_of read) rest_is ∙ begun.others_are) w in
         let joined : (head ++ take run b) ++ flat_map text begun.others
-            ≡ head ++ flat_map text (h.front ++ begun.others) =
+        ≡ head ++ flat_map text (h.front ++ begun.others) =
         append_assoc head (take run b) (flat_map text begun.others)
         ∙ ap (λ (t : List ℕ). head ++ (t ++ flat_map text begun.others)) (sym h.text_is)
         ∙ ap (λ (t : List ℕ). head ++ t) (sym (flat_joined text h.front begun.others)) in

@@ -125,9 +125,9 @@ pub enum LinkAttribute {
     Controller(u32),
     /// IFLA_WIRELESS: an event of the wireless extensions.
     Wireless(WirelessEvent),
-    /// IFLA_PROTINFO, of the family AF_BRIDGE: a list that is not empty; written with the nested flag.
+    /// IFLA_PROTINFO, of the family AF_BRIDGE: a non-empty list; written with the nested flag.
     ProtoInfoBridge(List<LinkProtoInfoBridge>),
-    /// IFLA_PROTINFO, of the family AF_INET6: a list that is not empty; written with the nested flag.
+    /// IFLA_PROTINFO, of the family AF_INET6: a non-empty list; written with the nested flag.
     ProtoInfoInet6(List<LinkProtoInfoInet6>),
     /// IFLA_PROTINFO, of any other family: kept as it is, with its flags.
     ProtoInfoUnknown(DefaultNla),
@@ -139,7 +139,7 @@ pub enum LinkAttribute {
     OperState(State),
     /// IFLA_LINKMODE: the mode of the link, one byte.
     Mode(LinkMode),
-    /// IFLA_LINKINFO: the kind of the link and its data, a list that is not empty.
+    /// IFLA_LINKINFO: the kind of the link and its data, a non-empty list.
     LinkInfo(List<LinkInfo>),
     /// IFLA_NET_NS_PID: a process whose network namespace is meant.
     NetNsPid(u32),
@@ -147,16 +147,16 @@ pub enum LinkAttribute {
     IfAlias(Text),
     /// IFLA_NUM_VF: how many virtual functions there are.
     NumVf(u32),
-    /// IFLA_VFINFO_LIST: virtual functions. Entries with another number than 1 are dropped.
+    /// IFLA_VFINFO_LIST: virtual functions. Entries with another number than IFLA_VF_INFO are dropped.
     VfInfoList(List<LinkVfInfo>),
     /// IFLA_STATS64: counters of 64 bits, a record of 200 bytes. A shorter one is filled up with zeros.
     Stats64(Stats64),
-    /// IFLA_VF_PORTS: ports of virtual functions, a payload that is not empty. Entries with another number than 1 are
-    /// dropped, so that the list may be empty; it can not be written then.
+    /// IFLA_VF_PORTS: ports of virtual functions, a non-empty payload. Entries with another number than IFLA_VF_PORT
+    /// are dropped, so that the list may be empty; it can not be written then.
     VfPorts(List<LinkVfPort>),
-    /// IFLA_PORT_SELF: the port of the interface itself, a list that is not empty.
+    /// IFLA_PORT_SELF: the port of the interface itself, a non-empty list.
     PortSelf(LinkVfPort),
-    /// IFLA_AF_SPEC, of the family AF_BRIDGE: settings of a bridge, a list that is not empty.
+    /// IFLA_AF_SPEC, of the family AF_BRIDGE: settings of a bridge, a non-empty list.
     AfSpecBridge(List<AfSpecBridge>),
     /// IFLA_AF_SPEC, of the family AF_UNSPEC: settings by family, a list.
     AfSpecUnspec(List<AfSpecUnspec>),
@@ -192,7 +192,7 @@ pub enum LinkAttribute {
     GsoMaxSegs(u32),
     /// IFLA_GSO_MAX_SIZE: the most bytes of one packet that the device splits.
     GsoMaxSize(u32),
-    /// IFLA_XDP: the attached program, a list that is not empty.
+    /// IFLA_XDP: the attached program, a non-empty list.
     Xdp(List<LinkXdp>),
     /// IFLA_EVENT: why the link announced itself, four bytes.
     Event(LinkEvent),
@@ -516,6 +516,7 @@ impl LinkAttribute {
         match self.view().1 {
             Content::Flat(flat) => flat.len(),
             Content::Mask(_) => 4,
+            // for the proof: the length of the slice that is written, where `id.len` would do
             Content::Id(id) => id.id[..id.len].len(),
             Content::Stats(stats) => stats.buffer_len(),
             Content::Stats64(stats) => stats.buffer_len(),

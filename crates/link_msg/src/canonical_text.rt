@@ -120,8 +120,8 @@ fn measure(input: &[u8]) -> Result<(LinkHeader, &[u8], usize, usize), CanonError
     Ok((header, rest, len, run))
 }
 
-/// Writes the canonical text of the attributes after the run in front, where the header and the run stand in the buffer,
-/// and returns the length of the message's text.
+/// Writes the canonical text of the attributes after the run in front, where the header and the run stand in the
+/// buffer, and returns the length of the message's text.
 fn write_after_run(header: &LinkHeader, rest: &[u8], run: usize, out: &mut [u8]) -> usize
     requires begins { IsRun header.now.interface_family rest.now run }
     requires measured { HasRoom (canons attribute_frame) (AllFit AttributeFits attribute_frame)
@@ -272,6 +272,7 @@ pub fn canonical_into(input: &[u8], out: &mut [u8]) -> Result<usize, CanonError>
     match canonical_within(input, out) {
         Ok(len) => Ok(len),
         Err(RoomError::NoText(error)) => Err(error),
+        // for the proof: never taken, since there is room
         Err(RoomError::NoRoom { wanted }) => Ok(wanted),
     }
 }

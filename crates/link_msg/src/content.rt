@@ -45,6 +45,7 @@ impl Content<'_> {
     {
         match self {
             Content::Flat(flat) => at_most_value(flat.len()),
+            // for the proof: the length of the slice that is written, where `id.len` would do
             Content::Id(id) if id.fits() => Some(id.id[..id.len].len()),
             Content::Id(_) => None,
             Content::Stats(_) => Some(STATS_SIZE),

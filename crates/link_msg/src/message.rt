@@ -73,6 +73,7 @@ impl LinkMessage {
         LinkMessage::read(alloc, input)
     }
 
+    /// What `parse` does; for the proof: its clause cites the reader alone, and those of `parse` follow.
     #[tactic(auto, unfolding(crate::specs::Messages::read_message))]
     fn read(alloc: Global, input: &[u8]) -> Result<LinkMessage, DecodeError>
         ensures { Gives result (read_message input.now) }
@@ -99,6 +100,7 @@ impl LinkMessage {
         LinkMessage::look(input)
     }
 
+    /// What `check` does; for the proof: its clause cites the reader alone, and those of `check` follow.
     #[tactic(auto, unfolding(crate::specs::Messages::read_message))]
     fn look(input: &[u8]) -> Result<(), DecodeError>
         ensures { Checks result (read_message input.now) }

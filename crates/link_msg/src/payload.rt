@@ -1,4 +1,4 @@
-//! Payloads of attributes: lists that are not empty, extent masks, events and truth values.
+//! Payloads of attributes: non-empty lists, extent masks, events and truth values.
 
 ghost use Rattle.std.specs.Prelude.{◌≡◌, ◌≤◌, length, IfOk, IfErr};
 ghost use Rattle.nla_wire.specs.Sizes.{most_payload};
@@ -26,7 +26,7 @@ pub(crate) fn parse_any<N: NlaRead>(alloc: Global, payload: &[u8]) -> Result<Lis
     N::parse_list(alloc, payload).map(List::new)
 }
 
-/// Reads a list that is not empty.
+/// Reads a non-empty list.
 #[inline(never)]
 #[tactic(auto, unfolding(nla_wire::specs::Grammar::unless_empty))]
 pub(crate) fn parse_some<N: NlaRead>(alloc: Global, payload: &[u8]) -> Result<List<N>, DecodeError>
@@ -38,7 +38,7 @@ pub(crate) fn parse_some<N: NlaRead>(alloc: Global, payload: &[u8]) -> Result<Li
     N::parse_list(alloc, payload).map(List::new)
 }
 
-/// Whether a payload is a list that is not empty, and the first fault if not.
+/// Whether a payload is a non-empty list, and the first fault if not.
 #[tactic(auto, unfolding(nla_wire::specs::Grammar::unless_empty))]
 pub(crate) fn check_some<N: NlaRead>(payload: &[u8]) -> Result<(), DecodeError>
     ensures { Checks result ((not_empty (list N.grammar)).reads payload.now) }
@@ -60,7 +60,7 @@ pub(crate) fn parse_functions(
     LinkVfInfo::parse_list(alloc, payload).map(List::new)
 }
 
-/// Reads ports of virtual functions from a payload that is not empty.
+/// Reads ports of virtual functions from a non-empty payload.
 #[inline(never)]
 #[tactic(auto, unfolding(nla_wire::specs::Grammar::unless_empty))]
 pub(crate) fn parse_ports(alloc: Global, payload: &[u8]) -> Result<List<LinkVfPort>, DecodeError>

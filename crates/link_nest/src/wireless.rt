@@ -92,7 +92,8 @@ impl WirelessEvent {
         }
     }
 
-    /// `Ok` where a payload is an event, else the fault.
+    /// `Ok` where a payload is an event, else the fault; for the proof: its clause cites the reader alone, and those of
+    /// `check` follow.
     #[tactic(auto, unfolding(nla_wire::specs::Payloads::read_sized))]
     fn fault(payload: &[u8]) -> Result<(), DecodeError>
         ensures { Checks result (wireless_event.reads payload.now) }

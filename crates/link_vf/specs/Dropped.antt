@@ -1,4 +1,4 @@
--- Lists of which only the members with the number 1 are read.
+-- Lists of which only the members with the number 1 are read: that of IFLA_VF_INFO and of IFLA_VF_PORT.
 use Rattle.std.specs.Prelude.{◌≡◌, ℕ, List, filter}
 use Rattle.nla_wire.specs.Frames.{Frame, Frames}
 use Rattle.nla_wire.specs.Grammar.{Grammar, is_one}

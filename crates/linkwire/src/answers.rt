@@ -49,7 +49,7 @@ fn push_text(waiting: &mut Vec<u8>, text: &[u8]) -> Result<(), AllocError>
     let end = start.checked_add(2 * text.len()).ok_or(AllocError)?;
     waiting.resize(end, 0)?;
     let written = hex::encode_to_slice(text, &mut waiting[start..]);
-    // The room is just what the text needs, so this never fails.
+    // for the proof: this never fails, since the room is just what the text needs
     if written.is_err() {
         return Err(AllocError);
     }

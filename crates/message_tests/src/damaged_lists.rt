@@ -113,7 +113,7 @@ fn bytes_of_other_families(rt: HostRuntime) {
     }
 }
 
-/// Entries with another number than 1 are dropped unread, but their frames are whole.
+/// Entries with another number than IFLA_VF_INFO or IFLA_VF_PORT are dropped unread, but their frames are whole.
 #[test]
 fn entries_are_dropped(rt: HostRuntime) {
     for number in [22, 24] {

@@ -427,11 +427,6 @@ module _ {S : Type 0} (base : S → Any) {V : Type 0} (view : V → Seen) (Good 
   missed_number : (a b : ℕ) (c : Bool) → (a ≢ b) → ((a == b) && c) ≡ false
   missed_number a b c other = ap (λ t. t && c) (ne_eqb a b other)
 
-  pub other_foreign : (es : List {1} Entry) (f : Frame) → IsOther es (number f) → IsForeign es f
-  other_foreign [] f other = tt
-  other_foreign (e ∷ es) f other =
-      (missed_number (number f) e.number (has_size e.size (length f.payload)) other.0, other_foreign es f other.1)
-
   pub other_way : (n size : ℕ) (es : List {1} Entry) → IsOther es n → way_in es n size ≡ Kept
   other_way n size [] other = refl
   other_way n size (e ∷ es) other =

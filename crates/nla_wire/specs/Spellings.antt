@@ -39,7 +39,7 @@ AreFullSpellings [] (f ∷ fs) = ⊥
 AreFullSpellings (s ∷ ss) [] = ⊥
 AreFullSpellings (s ∷ ss) (f ∷ fs) = IsFullSpelling s f × AreFullSpellings ss fs
 
--- b is full spellings of the frames, and then a rest, not empty, that begins with no spelling, for this cause
+-- b is full spellings of the frames, and then a non-empty rest that begins with no spelling, for this cause
 abbrev pub IsFaultAfter : List ℕ → List Frame → Cause → Type 0
 IsFaultAfter b fs c = (ss : List (List ℕ)) × (rest : List ℕ) × (b ≡ flat_map (λ s. s) ss ++ rest)
     × AreFullSpellings ss fs × BadStart rest c

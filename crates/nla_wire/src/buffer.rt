@@ -121,7 +121,7 @@ impl<'a> NlaBuffer<'a> {
     }
 
     /// What holds of every frame that was read: its kind is a number of two bytes, and its payload is bytes, at most
-    /// 65531. It does nothing.
+    /// 65531. It does nothing; for the proof: a call of it states this.
     #[inline(always)]
     pub fn is_frame(&self)
         ensures { IsFrame self.now }
@@ -139,7 +139,7 @@ impl<'a> NlaBuffer<'a> {
     }
 }
 
-/// What holds of every slice of bytes: each is below 256. It does nothing.
+/// What holds of every slice of bytes: each is below 256. It does nothing; for the proof: a call of it states this.
 #[inline(always)]
 fn are_bytes(bytes: &[u8])
     ensures { IsBytes bytes.now }

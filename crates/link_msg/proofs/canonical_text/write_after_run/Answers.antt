@@ -21,6 +21,6 @@ returns c =
     let d = c.args.rest.now in
     let run = c.args.run in
     λ before begun. run_writes (attribute_place c.args.header.now.interface_family).reads attribute_text AttributeFits
-        d run c.requires.begins (length c.args.out.now - header_size) c.requires.measured
-        (take (length d - run) (drop run d)) (take_rest d run) (header_bytes c.args.header.now) before
-        c.args.out.now c.write_members.new.out (16 + run) c.write_members.result begun c.write_members.ensures
+    d run c.requires.begins (length c.args.out.now - header_size) c.requires.measured
+    (take (length d - run) (drop run d)) (take_rest d run) (header_bytes c.args.header.now) before
+    c.args.out.now c.write_members.new.out (16 + run) c.write_members.result begun c.write_members.ensures
