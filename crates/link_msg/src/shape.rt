@@ -149,15 +149,15 @@ pub(crate) enum Shape {
     Map,
     /// A wireless event.
     Event,
-    /// A list of members of IFLA_VF_PORT, not empty.
+    /// A non-empty list of members of IFLA_VF_PORT.
     Port,
-    /// A list of members of IFLA_LINKINFO, not empty.
+    /// A non-empty list of members of IFLA_LINKINFO.
     Infos,
     /// A list of virtual functions.
     Functions,
-    /// A list of ports, of a payload that is not empty.
+    /// A list of ports, of a non-empty payload.
     Ports,
-    /// A list of members of IFLA_XDP, not empty.
+    /// A non-empty list of members of IFLA_XDP.
     Xdps,
     /// A list of members of IFLA_PROP_LIST.
     Props,
@@ -167,11 +167,11 @@ pub(crate) enum Shape {
     DevlinkPorts,
     /// A list of members of IFLA_DPLL_PIN.
     DpllPins,
-    /// A list of members of IFLA_PROTINFO of a bridge, not empty.
+    /// A non-empty list of members of IFLA_PROTINFO of a bridge.
     BridgeInfos,
-    /// A list of members of IFLA_PROTINFO of IPv6, not empty.
+    /// A non-empty list of members of IFLA_PROTINFO of IPv6.
     Inet6Infos,
-    /// A list of settings of a bridge, not empty.
+    /// A non-empty list of settings of a bridge.
     Bridges,
     /// A list of settings by family.
     Unspecs,

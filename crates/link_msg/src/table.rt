@@ -481,7 +481,8 @@ impl LinkAttribute {
         check_one(&AttributePlace { family }, buffer)
     }
 
-    /// `Ok` where a frame is read, else its first fault, by the shape of its payload.
+    /// `Ok` where a frame is read, else its first fault, by the shape of its payload; for the proof: its clause cites the
+    /// reader alone, and those of `check_with_param` follow.
     #[inline(always)]
     fn fault(buffer: &NlaBuffer<'_>, family: AddressFamily) -> Result<(), DecodeError>
         ensures { Checks result ((attribute_place family).reads buffer.now) }
@@ -508,8 +509,8 @@ impl LinkAttribute {
         }
     }
 
-    /// Whether a frame is canonical as it is spelled, but for its padding, and not an empty list of ports. One with flags
-    /// is not looked at.
+    /// Whether a frame is canonical as it is spelled, but for its padding, and not an empty list of ports. One with
+    /// flags is not looked at.
     #[inline(always)]
     pub(crate) fn is_own_text(buffer: &NlaBuffer<'_>, family: AddressFamily) -> bool
         ensures { IsTrue result → IsOwnText family buffer.now }

@@ -256,7 +256,7 @@ pub fn write_nested_members<V: Nla + Drop, P: Place<V>>(
     finish(out, len, kind)
 }
 
-/// The values of a list's members with number 1.
+/// The values of a list's members with the number `PICKED_KIND`.
 fn picked_values<V: Nla + Drop, P: Place<V>>(
     place: &P,
     alloc: Global,
@@ -277,7 +277,7 @@ fn picked_values<V: Nla + Drop, P: Place<V>>(
     Ok(values)
 }
 
-/// Reads a list of which the members with another number than 1 are dropped unread.
+/// Reads a list of which the members with another number than `PICKED_KIND` are dropped unread.
 ///
 /// Refuses as `parse_members` does.
 pub fn parse_picked_members<V: Nla + Drop, P: Place<V>>(
@@ -297,7 +297,7 @@ pub fn parse_picked_members<V: Nla + Drop, P: Place<V>>(
     picked_values(place, alloc, bytes)
 }
 
-/// The first fault of a list of which the members with number 1 are checked.
+/// The first fault of a list of which the members with the number `PICKED_KIND` are checked.
 fn check_picked_values<V: Nla + Drop, P: Place<V>>(
     place: &P,
     bytes: &[u8],
@@ -313,7 +313,7 @@ fn check_picked_values<V: Nla + Drop, P: Place<V>>(
     Ok(())
 }
 
-/// Whether the bytes are a list of which the members with number 1 have a value, with no memory taken.
+/// Whether the bytes are a list of which the members with the number `PICKED_KIND` have a value, with no memory taken.
 pub fn check_picked_members<V: Nla + Drop, P: Place<V>>(
     place: &P,
     bytes: &[u8],
@@ -329,7 +329,7 @@ pub fn check_picked_members<V: Nla + Drop, P: Place<V>>(
     check_picked_values(place, bytes)
 }
 
-/// The length of the canonical text of a list's members with number 1, as `measure_members` does.
+/// The length of the canonical text of a list's members with the number `PICKED_KIND`, as `measure_members` does.
 #[inline(never)]
 pub fn measure_picked_members<V: Nla + Drop, P: Place<V>>(place: &P, bytes: &[u8]) -> Option<usize>
     ensures { Weighs (canons V.frame) (AllFit V.fits V.frame)
@@ -370,7 +370,7 @@ pub fn measure_nested_picked_members<V: Nla + Drop, P: Place<V>>(
     Some(len)
 }
 
-/// Writes the canonical text of a list's members with number 1, as `write_members` does.
+/// Writes the canonical text of a list's members with the number `PICKED_KIND` as `write_members` does.
 #[inline(never)]
 pub fn write_picked_members<V: Nla + Drop, P: Place<V>>(
     place: &P,
@@ -394,7 +394,7 @@ pub fn write_picked_members<V: Nla + Drop, P: Place<V>>(
     at
 }
 
-/// Writes the attribute of this kind whose value is the canonical text of a list's members with number 1.
+/// Writes the attribute of this kind whose value is the canonical text of a list's members with the number `PICKED_KIND`.
 pub fn write_nested_picked_members<V: Nla + Drop, P: Place<V>>(
     place: &P,
     kind: u16,

@@ -67,7 +67,7 @@ fn begins_ascii_8(bytes: &[u8]) -> bool
     u64_at(bytes, 0) & HIGH_BITS_8 == 0
 }
 
-/// Whether at most three bytes, and not none, are ASCII.
+/// Whether one to three bytes are ASCII.
 #[inline(always)]
 fn is_ascii_short(bytes: &[u8]) -> bool
     requires some { 0 < length bytes.now }
