@@ -481,8 +481,8 @@ impl LinkAttribute {
         check_one(&AttributePlace { family }, buffer)
     }
 
-    /// `Ok` where a frame is read, else its first fault, by the shape of its payload; for the proof: its clause cites the
-    /// reader alone, and those of `check_with_param` follow.
+    /// `Ok` where a frame is read, else its first fault, by the shape of its payload; for the proof: its clause cites
+    /// the reader alone, and those of `check_with_param` follow.
     #[inline(always)]
     fn fault(buffer: &NlaBuffer<'_>, family: AddressFamily) -> Result<(), DecodeError>
         ensures { Checks result ((attribute_place family).reads buffer.now) }

@@ -394,7 +394,8 @@ pub fn write_picked_members<V: Nla + Drop, P: Place<V>>(
     at
 }
 
-/// Writes the attribute of this kind whose value is the canonical text of a list's members with the number `PICKED_KIND`.
+/// Writes the attribute of this kind whose value is the canonical text of a list's members with the number
+/// `PICKED_KIND`.
 pub fn write_nested_picked_members<V: Nla + Drop, P: Place<V>>(
     place: &P,
     kind: u16,
