@@ -371,8 +371,15 @@ def faults():
     fault(b"\0\0\0\0", "frame-under", "message", 16, {}, length=0)
     deep = attr(22, attr(1, attr(1, bytes(36)), b"\x09\0\1\0\0\0\0\0"))
     fault(mtu + deep, "frame-over", "IFLA_VF_INFO", 24 + 8 + 40, {"mtu": 1500}, length=9, left=8)
-    row(header(7, index=3) + attr(12), {"fault": "empty-list", "at": "IFLA_PROTINFO", "offset": 16, "ifi-family": 7,
-                                       "ifi-index": 3, "before": {}})
+    nested = attr(22 | 0x8000, attr(1 | 0x8000, attr(8 | 0x8000, b"\1\0\1\0")))
+    before = {"linkinfo": {"kind": "vlan"}, "vfinfo-list": {"info": [{"spoofchk": {"vf": 1, "setting": 0}}]}}
+    front = attr(18, attr(1, b"vlan\0")) + attr(22, attr(1, attr(4, u32(1, 0))))
+    fault(front + nested, "frame-under", "IFLA_VF_STATS", 16 + len(front) + 12, before, length=1)
+    where = {"ifi-family": 7, "ifi-index": 3, "before": {}}
+    row(header(7, index=3) + attr(12), {"fault": "empty-list", "at": "IFLA_PROTINFO", "offset": 16, **where})
+    where = {"ifi-family": 10, "ifi-index": 2**32 - 1, "before": {"protinfo": {"other": [kept(5)]}}}
+    broken = header(10, index=2**32 - 1) + attr(12, attr(5)) + attr(4)
+    row(broken, {"fault": "wrong-length", "at": "IFLA_MTU", "got": 0, "want": 4, "offset": 24, **where})
 
 
 def places():
