@@ -457,35 +457,44 @@ def family_faults(two, frame):
 
 def damaged_lists():
     """Adds to each list a stray end, a length that passes it by one byte, one below a header's, and no member."""
-    may_be_empty = True
-    lists_ = [
-        (0, (18,), "IFLA_LINKINFO", False), (0, (22,), "IFLA_VFINFO_LIST", may_be_empty),
-        (0, (22, 1), "IFLA_VF_INFO", False), (0, (22, 1, 8), "IFLA_VF_STATS", may_be_empty),
-        (0, (22, 1, 12), "IFLA_VF_VLAN_LIST", may_be_empty), (0, (24,), "IFLA_VF_PORTS", False),
-        (0, (24, 1), "IFLA_VF_PORT", False), (0, (25,), "IFLA_PORT_SELF", False),
-        (0, (26,), "IFLA_AF_SPEC", may_be_empty), (0, (26, 2), "AF_INET", False), (0, (26, 10), "AF_INET6", False),
-        (0, (26, 45), "AF_MCTP", False), (0, (43,), "IFLA_XDP", False), (0, (52,), "IFLA_PROP_LIST", may_be_empty),
-        (0, (55,), "IFLA_PROTO_DOWN_REASON", may_be_empty), (0, (62,), "IFLA_DEVLINK_PORT", may_be_empty),
-        (0, (65,), "IFLA_DPLL_PIN", may_be_empty), (7, (12,), "IFLA_PROTINFO", False),
-        (7, (26,), "IFLA_AF_SPEC", False), (10, (12,), "IFLA_PROTINFO", False),
+    with_members = [
+        (0, (18,), "IFLA_LINKINFO"), (0, (22, 1), "IFLA_VF_INFO"), (0, (24,), "IFLA_VF_PORTS"),
+        (0, (24, 1), "IFLA_VF_PORT"), (0, (25,), "IFLA_PORT_SELF"), (0, (26, 2), "AF_INET"), (0, (26, 10), "AF_INET6"),
+        (0, (26, 45), "AF_MCTP"), (0, (43,), "IFLA_XDP"), (7, (12,), "IFLA_PROTINFO"), (7, (26,), "IFLA_AF_SPEC"),
+        (10, (12,), "IFLA_PROTINFO"),
     ]
-    for family, kinds, name, may in lists_:
+    may_be_empty = [
+        (0, (22,), "IFLA_VFINFO_LIST"), (0, (22, 1, 8), "IFLA_VF_STATS"), (0, (22, 1, 12), "IFLA_VF_VLAN_LIST"),
+        (0, (26,), "IFLA_AF_SPEC"), (0, (52,), "IFLA_PROP_LIST"), (0, (55,), "IFLA_PROTO_DOWN_REASON"),
+        (0, (62,), "IFLA_DEVLINK_PORT"), (0, (65,), "IFLA_DPLL_PIN"),
+    ]
+    for place in with_members + may_be_empty:
+        family, kinds, name = place
         start = 16 + 4 * len(kinds)
         damages = [
             (attr(99) + b"\1", "frame-short", start + 4, {"left": 1}),
             (b"\x09\0\x63\0\1\2\3\4", "frame-over", start, {"length": 9, "left": 8}),
             (b"\3\0\x63\0", "frame-under", start, {"length": 3}),
         ]
-        if not may:
+        if place in with_members:
             damages.append((b"", "empty-list", start - 4, {}))
         for payload, cause, offset, numbers in damages:
             answer = {"fault": cause, "at": name, **numbers, "offset": offset, "ifi-family": family, "ifi-index": 0}
             row(header(family) + inside(kinds, payload), {**answer, "before": {}})
 
 
+def empty_lists():
+    """Adds each list that may be empty without a member, where no other row has it."""
+    stats, vlans = (inside((22, 1), attr(kind)) for kind in (8, 12))
+    message(stats, {"vfinfo-list": {"info": [{"stats": {}}]}})
+    message(vlans, {"vfinfo-list": {"info": [{"vlan-list": {}}]}})
+    for kind, name in ((55, "proto-down-reason"), (62, "devlink-port"), (65, "dpll-pin")):
+        message(attr(kind), {name: {}})
+
+
 def main():
-    groups = headers, flat, records, lists, functions, families, others, repeats, faults, places, damaged_lists
-    for group in groups:
+    shown = headers, flat, records, lists, functions, families, others, repeats, empty_lists
+    for group in (*shown, faults, places, damaged_lists):
         group()
     loopback = header(0, 772, 1, 0x10049) + attr(3, b"lo\0") + attr(4, u32(65536))
     flags = ["up", "loopback", "running", "lower-up"]
