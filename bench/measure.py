@@ -1,10 +1,16 @@
 #!/usr/bin/env python3
-"""Times linkwire, a pipe of two and linkshow on one file: measure.py LINKWIRE FILE [ROUNDS] [LINKSHOW]."""
+"""Times linkwire, a pipe of two and linkshow on one file: measure.py LINKWIRE FILE [ROUNDS] [LINKSHOW].
+
+It fails where linkshow reads less than 50 MB of lines in a second, or holds more than 16 MB of memory.
+"""
 
 import os
 import subprocess
 import sys
 import time
+
+SLOWEST = 50e6  # bytes of lines in a second
+LARGEST = 16e6  # bytes of memory
 
 
 def held(running):
@@ -60,12 +66,17 @@ def main():
     for _ in range(rounds):
         for name, commands in pipes.items():
             seconds[name].append(run(commands, path, False))
-    for name, commands in pipes.items():
-        best = min(seconds[name])
-        most = run(commands, path, True)
-        print(f"{name}: {size / best / 1e6:.0f} MB/s of input, {best:.3f} s, at most {most / 1e6:.1f} MB of memory")
-    ratio = min(seconds["xxd -r -p | xxd -p"]) / min(seconds["linkwire"])
+    most = {name: run(commands, path, True) for name, commands in pipes.items()}
+    speeds = {name: size / min(seconds[name]) for name in pipes}
+    for name, speed in speeds.items():
+        print(f"{name}: {speed / 1e6:.0f} MB/s of input, {min(seconds[name]):.3f} s, "
+              f"at most {most[name] / 1e6:.1f} MB of memory")
+    ratio = speeds["linkwire"] / speeds["xxd -r -p | xxd -p"]
     print(f"linkwire is {ratio:.1f} times as fast, on {size / 1e6:.0f} MB of lines, the best of {rounds} rounds")
+    if "linkshow" in pipes and speeds["linkshow"] < SLOWEST:
+        sys.exit(f"linkshow reads less than {SLOWEST / 1e6:.0f} MB/s")
+    if "linkshow" in pipes and most["linkshow"] > LARGEST:
+        sys.exit(f"linkshow holds more than {LARGEST / 1e6:.0f} MB of memory")
 
 
 main()

@@ -6,10 +6,14 @@ top=$(cd "$(dirname "$0")/.." && pwd)
 name=${1:-linkwire}
 program=$top/crates/$name/out/$name
 case $name in
-linkwire) nothex=nothex refused=refused every=1 ;;
+linkwire) nothex=nothex refused=refused chosen=1 ;;
 linkshow)
-    nothex='{"fault":"not-hex"}' every=9
+    nothex='{"fault":"not-hex"}'
     refused='{"fault":"too-short","at":"header","got":0,"need":16,"offset":0}'
+    # every ninth line, and the first few that show a hardware address, a wireless event, counters of eight bytes, a
+    # name that comes again, and what stands before a fault
+    chosen='NR % 9 == 0 || few("address", /"(address|broadcast)":"..:/) || few("wireless", /"wireless":/) ||
+        few("stats64", /"stats64":/) || few("repeated", /"repeated":/) || few("before", /"before":[{]"/)'
     ;;
 esac
 folder=$(mktemp -d)
@@ -35,6 +39,20 @@ wants "a write that fails" 1 "" "$name: write failed"
 status=0; echo 0 | "$program" >&- 2>"$folder/err" || status=$?
 wants "a closed output" 1 "" "$name: write failed"
 
+# a pipe that has no reader
+mkfifo "$folder/pipe"
+exec 5<>"$folder/pipe"
+exec 6>"$folder/pipe" 5<&-
+for signal in default ignore; do
+    status=0; echo 0 | env "--$signal-signal=PIPE" "$program" >&6 2>"$folder/err" || status=$?
+    wants "a closed pipe, SIGPIPE $signal" 1 "" "$name: write failed"
+done
+exec 6>&-
+
+status=0
+(yes 0 | "$program" 2>"$folder/err" | head -n 1 >"$folder/out"; exit "${PIPESTATUS[1]}") || status=$?
+wants "a pipe that is closed after one line" 1 "$nothex" "$name: write failed"
+
 status=0
 (ulimit -v 40000; { echo 0; head -c 60000000 /dev/zero | tr '\0' 0; } | "$program" >"$folder/out" 2>"$folder/err") ||
     status=$?
@@ -59,9 +77,9 @@ echo "$name: answers before the next line: ok"
 ${CC:-cc} -O2 -Wall -Wextra -Werror -shared -fPIC -o "$folder/refuse.so" "$top/tests/program/refuse_allocation.c"
 stored=$folder/stored
 mkdir "$stored"
-for file in stdin stdout; do
-    awk -v every="$every" 'NR % every == 0' "$top/crates/$name/$file" >"$stored/$file"
-done
+paste "$top/crates/$name/stdin" "$top/crates/$name/stdout" | awk -F '\t' -v stored="$stored" '
+    function few(what, is_one) { return is_one && ++count[what] <= 3 }
+    '"$chosen"' { print $1 >(stored "/stdin"); print $2 >(stored "/stdout") }'
 for ((call = 1; ; call++)); do
     rm -f "$folder/refused"
     status=0

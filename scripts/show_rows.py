@@ -80,6 +80,12 @@ NAMES = {
     62: "IFLA_DEVLINK_PORT", 63: "IFLA_GSO_IPV4_MAX_SIZE", 64: "IFLA_GRO_IPV4_MAX_SIZE", 65: "IFLA_DPLL_PIN",
     67: "IFLA_NETNS_IMMUTABLE",
 }
+# RFC 5952: the longest run of zeros, of two the first, one zero alone not shortened, an IPv4-mapped address
+TOKENS = [
+    ("0" * 32, "::"), ("fe80" + "0" * 28, "fe80::"), ("0000000000000000000000000000000a", "::a"),
+    ("20010db8000000010001000100010001", "2001:db8:0:1:1:1:1:1"), ("20010000000000010000000000000001", "2001:0:0:1::1"),
+    ("ABCD000100200300400000050006000f", "abcd:1:20:300:4000:5:6:f"), ("0" * 20 + "ffffc0000201", "::ffff:192.0.2.1"),
+]
 ROWS = []
 
 
@@ -129,6 +135,11 @@ def counted(names, start=1):
     return {name: start + i for i, name in enumerate(names)}
 
 
+def short(names, first):
+    """Returns a record of which only the first number is not zero."""
+    return {**dict.fromkeys(names, 0), names[0]: first}
+
+
 def flat():
     for kind, name in U32S.items():
         message(attr(kind, u32(4294967295 - kind)), {name: 4294967295 - kind})
@@ -140,6 +151,12 @@ def flat():
     for kind, name in ADDRESSES.items():
         message(attr(kind, bytes([0, 0x1A, 255, 9, 16, kind])), {name: f"00:1a:ff:09:10:{kind:02x}"})
     message(attr(1), {"address": ""})
+    message(attr(1, b"\xc0\0\2\1"), {"address": "c0:00:02:01"})
+    long = bytes(range(0xF0, 0xFA)) + bytes(range(10))
+    message(attr(2, long), {"broadcast": ":".join(f"{it:02x}" for it in long)})
+    specials = "".join(map(chr, range(1, 32))) + "\x7f\u2028\U0001f41c"
+    message(attr(20, specials.encode()), {"ifalias": specials})
+    message(attr(20, b"a\0b\0\0"), {"ifalias": "a\0b\0"})
     message(attr(33, b"\1"), {"carrier": 1})
     message(attr(39, b"\2"), {"proto-down": 2})
     message(attr(67, b"\0"), {"netns-immutable": 0})
@@ -152,6 +169,7 @@ def flat():
         message(attr(kind, struct.pack("=" + width, len(names))), {name: len(names)})
     message(attr(34, b"\x12\x34\x56"), {"phys-port-id": "123456"})
     message(attr(36, bytes(range(32))), {"phys-switch-id": bytes(range(32)).hex()})
+    message(attr(36, bytes(range(33))), {"phys-switch-id": bytes(range(32)).hex()})
     masks = "vf brvlan brvlan-compressed skip-stats mrp cfm-config cfm-status mst".split()
     message(attr(29, u32(0xFF)), {"ext-mask": masks})
     message(attr(29, u32(0x80000009)), {"ext-mask": ["vf", "skip-stats", 0x80000000]})
@@ -163,6 +181,16 @@ def records():
     message(attr(23, u64(1, 2)), {"stats64": dict.fromkeys(STATS, 0) | {"rx-packets": 1, "tx-packets": 2}})
     map_ = {"mem-start": 1, "mem-end": 2**64 - 1, "base-addr": 3, "irq": 4, "dma": 5, "port": 6}
     message(attr(14, u64(1, 2**64 - 1, 3), struct.pack("=HBBI", 4, 5, 6, 7)), {"map": map_})
+    # A record that is shorter has zeros for what it lacks; of one that is longer the rest is not read.
+    message(attr(7), {"stats": dict.fromkeys(STATS[:24], 0)})
+    cut = dict.fromkeys(STATS[:24], 0) | {"rx-packets": 1, "tx-packets": 0x103}
+    message(attr(7, u32(1), b"\3\1"), {"stats": cut})
+    message(attr(7, u32(*range(1, 27))), {"stats": counted(STATS[:24])})
+    message(attr(23, u64(*range(1, 27))), {"stats64": counted(STATS)})
+    message(attr(26, attr(2, attr(1, u32(1)))), {"af-spec": {"inet": {"conf": short(INET, 1)}}})
+    inner = attr(2, u32(-1)) + attr(3, u64(2)) + attr(6, b"\3")
+    members = {"conf": short(INET6, -1), "stats": short(INET6_STATS, 2), "icmp6-stats": short(ICMP6_STATS, 3)}
+    message(attr(26, attr(10, inner)), {"af-spec": {"inet6": members}})
 
 
 def lists():
@@ -235,6 +263,7 @@ def families():
         (attr(6, u64(*range(1, 8))), {"icmp6-stats": counted(ICMP6_STATS)}),
         (attr(7, bytes(15) + b"\1"), {"token": "::1"}),
         (attr(7, bytes.fromhex("20010db8000000000001000000000001")), {"token": "2001:db8::1:0:0:1"}),
+        *((attr(7, bytes.fromhex(it)), {"token": text}) for it, text in TOKENS),
         (attr(9, u32(1280)), {"ra-mtu": 1280}),
     ]
     for number, mode in enumerate(("eui64", "none", "stable-privacy", "random", 4)):
@@ -249,6 +278,8 @@ def families():
     message(attr(26), {"af-spec": {}})
     message(attr(26, attr(1, b"\1")), {"af-spec": {"other": [kept(1, "01")]}}, family=7)
     message(attr(26, b"\1"), {"other": [kept(26, "01")]}, family=2)
+    # A message keeps no flags of this one.
+    message(attr(26 | 0x8000, b"\1"), {"other": [kept(26, "01")]}, family=2)
     message(attr(12, attr(1, b"\1")), {"protinfo": {"other": [kept(1, "01")]}}, family=7)
     message(attr(12, attr(5)), {"protinfo": {"other": [kept(5)]}}, family=10)
     message(attr(12 | 0x8000, b"\1"), {"other": [kept(12, "01", ["nested"])]}, family=2)
@@ -266,8 +297,57 @@ def others():
     message(inner, {"linkinfo": {"kind": "b", "repeated": [{"kind": "a"}]}})
     names = {"prop-list": {"alt-ifname": ["a"]}}
     message(attr(52, attr(53, b"a\0")) * 2, {**names, "repeated": [names]})
+    down = attr(16, b"\6") + attr(13, u32(1000)) + attr(4, u32(1500)) + attr(66) + attr(3, b"lo\0")
+    message(down, {"operstate": "up", "txqlen": 1000, "mtu": 1500, "ifname": "lo", "other": [kept(66)]})
+    message(attr(43, attr(8, u32(1)), attr(2, b"\0")), {"xdp": {"expected-fd": 1, "attached": "none"}})
+    message(attr(24, attr(2)), {"vf-ports": {"port": []}})
+    front = attr(13, u32(5)) + attr(66, b"\1") + attr(4, u32(1)) + attr(4, u32(2)) + attr(1, bytes(4))
+    before = {"txqlen": 5, "mtu": 2, "address": "00:00:00:00", "repeated": [{"mtu": 1}], "other": [kept(66, "01")]}
+    fault(front + attr(5, b"\1"), "wrong-length", "IFLA_LINK", 16 + len(front), before, got=1, want=4)
     far = attr(131, b"\1") + attr(3, b"lo\0")
     message(far, {"ifname": "lo", "other": [kept(131, "01")]})
+    message(attr(68, b"\0\1") + attr(68, u32(1)), {"headroom": 256, "other": [kept(68, "01000000")]})
+
+
+def inside(kinds, payload):
+    """Returns the attribute of the first number that holds one of the next, and so on, around a payload."""
+    for kind in reversed(kinds):
+        payload = attr(kind, payload)
+    return payload
+
+
+def repeats():
+    """Adds a name three times at each place, beside one that is kept: the last is the value."""
+    places = [
+        ((), lambda it: it, 4, u32, "mtu"),
+        ((18,), lambda it: {"linkinfo": it}, 1, lambda n: b"%d\0" % n, "kind"),
+        ((43,), lambda it: {"xdp": it}, 4, u32, "prog-id"),
+        ((55,), lambda it: {"proto-down-reason": it}, 1, u32, "mask"),
+        ((62,), lambda it: {"devlink-port": it}, 3, u32, "port-index"),
+        ((65,), lambda it: {"dpll-pin": it}, 1, u32, "id"),
+        ((22, 1), lambda it: {"vfinfo-list": {"info": [it]}}, 4, lambda n: u32(n, 1), "spoofchk"),
+        ((22, 1, 8), lambda it: {"vfinfo-list": {"info": [{"stats": it}]}}, 0, u64, "rx-packets"),
+        ((26,), lambda it: {"af-spec": it}, 45, lambda n: attr(1, u32(n)), "mctp"),
+        ((26, 2), lambda it: {"af-spec": {"inet": it}}, 1, u32, "conf"),
+        ((26, 10), lambda it: {"af-spec": {"inet6": it}}, 9, u32, "ra-mtu"),
+        ((26, 45), lambda it: {"af-spec": {"mctp": it}}, 1, u32, "net"),
+    ]
+    values = {
+        "kind": str, "spoofchk": lambda n: {"vf": n, "setting": 1}, "mctp": lambda n: {"net": n},
+        "conf": lambda n: short(INET, n),
+    }
+    for holders, around, kind, bytes_, name in places:
+        of = values.get(name, lambda n: n)
+        members = attr(kind, bytes_(1)) + attr(99, b"\1") + attr(kind, bytes_(2)) + attr(kind, bytes_(3))
+        repeated = [{name: of(1)}, {name: of(2)}]
+        message(inside(holders, members), around({name: of(3), "repeated": repeated, "other": [kept(99, "01")]}))
+    tags = [u32(1, n, 0) + b"\x81\0\0\0" for n in (1, 2)]
+    infos = [{"vf": 1, "vlan": n, "qos": 0, "vlan-proto": "8021q"} for n in (1, 2)]
+    vlans = inside((22, 1, 12), b"".join(attr(1, it) for it in tags))
+    message(vlans, {"vfinfo-list": {"info": [{"vlan-list": {"info": infos}}]}})
+    first, second = (attr(22, attr(1, attr(4, u32(n, 1)))) for n in (1, 2))
+    shown = [{"vfinfo-list": {"info": [{"spoofchk": {"vf": n, "setting": 1}}]}} for n in (1, 2)]
+    message(first + second, {**shown[1], "repeated": shown[:1]})
 
 
 def headers():
@@ -291,8 +371,15 @@ def faults():
     fault(b"\0\0\0\0", "frame-under", "message", 16, {}, length=0)
     deep = attr(22, attr(1, attr(1, bytes(36)), b"\x09\0\1\0\0\0\0\0"))
     fault(mtu + deep, "frame-over", "IFLA_VF_INFO", 24 + 8 + 40, {"mtu": 1500}, length=9, left=8)
-    row(header(7, index=3) + attr(12), {"fault": "empty-list", "at": "IFLA_PROTINFO", "offset": 16, "ifi-family": 7,
-                                       "ifi-index": 3, "before": {}})
+    nested = attr(22 | 0x8000, attr(1 | 0x8000, attr(8 | 0x8000, b"\1\0\1\0")))
+    before = {"linkinfo": {"kind": "vlan"}, "vfinfo-list": {"info": [{"spoofchk": {"vf": 1, "setting": 0}}]}}
+    front = attr(18, attr(1, b"vlan\0")) + attr(22, attr(1, attr(4, u32(1, 0))))
+    fault(front + nested, "frame-under", "IFLA_VF_STATS", 16 + len(front) + 12, before, length=1)
+    where = {"ifi-family": 7, "ifi-index": 3, "before": {}}
+    row(header(7, index=3) + attr(12), {"fault": "empty-list", "at": "IFLA_PROTINFO", "offset": 16, **where})
+    where = {"ifi-family": 10, "ifi-index": 2**32 - 1, "before": {"protinfo": {"other": [kept(5)]}}}
+    broken = header(10, index=2**32 - 1) + attr(12, attr(5)) + attr(4)
+    row(broken, {"fault": "wrong-length", "at": "IFLA_MTU", "got": 0, "want": 4, "offset": 24, **where})
 
 
 def places():
@@ -368,12 +455,52 @@ def family_faults(two, frame):
         row(header(7) + attr(kind, frame), answer)
 
 
+def damaged_lists():
+    """Adds to each list a stray end, a length that passes it by one byte, one below a header's, and no member."""
+    with_members = [
+        (0, (18,), "IFLA_LINKINFO"), (0, (22, 1), "IFLA_VF_INFO"), (0, (24,), "IFLA_VF_PORTS"),
+        (0, (24, 1), "IFLA_VF_PORT"), (0, (25,), "IFLA_PORT_SELF"), (0, (26, 2), "AF_INET"), (0, (26, 10), "AF_INET6"),
+        (0, (26, 45), "AF_MCTP"), (0, (43,), "IFLA_XDP"), (7, (12,), "IFLA_PROTINFO"), (7, (26,), "IFLA_AF_SPEC"),
+        (10, (12,), "IFLA_PROTINFO"),
+    ]
+    may_be_empty = [
+        (0, (22,), "IFLA_VFINFO_LIST"), (0, (22, 1, 8), "IFLA_VF_STATS"), (0, (22, 1, 12), "IFLA_VF_VLAN_LIST"),
+        (0, (26,), "IFLA_AF_SPEC"), (0, (52,), "IFLA_PROP_LIST"), (0, (55,), "IFLA_PROTO_DOWN_REASON"),
+        (0, (62,), "IFLA_DEVLINK_PORT"), (0, (65,), "IFLA_DPLL_PIN"),
+    ]
+    for place in with_members + may_be_empty:
+        family, kinds, name = place
+        start = 16 + 4 * len(kinds)
+        damages = [
+            (attr(99) + b"\1", "frame-short", start + 4, {"left": 1}),
+            (b"\x09\0\x63\0\1\2\3\4", "frame-over", start, {"length": 9, "left": 8}),
+            (b"\3\0\x63\0", "frame-under", start, {"length": 3}),
+        ]
+        if place in with_members:
+            damages.append((b"", "empty-list", start - 4, {}))
+        for payload, cause, offset, numbers in damages:
+            answer = {"fault": cause, "at": name, **numbers, "offset": offset, "ifi-family": family, "ifi-index": 0}
+            row(header(family) + inside(kinds, payload), {**answer, "before": {}})
+
+
+def empty_lists():
+    """Adds each list that may be empty without a member, where no other row has it."""
+    stats, vlans = (inside((22, 1), attr(kind)) for kind in (8, 12))
+    message(stats, {"vfinfo-list": {"info": [{"stats": {}}]}})
+    message(vlans, {"vfinfo-list": {"info": [{"vlan-list": {}}]}})
+    for kind, name in ((55, "proto-down-reason"), (62, "devlink-port"), (65, "dpll-pin")):
+        message(attr(kind), {name: {}})
+
+
 def main():
-    for group in (headers, flat, records, lists, functions, families, others, faults, places):
+    shown = headers, flat, records, lists, functions, families, others, repeats, empty_lists
+    for group in (*shown, faults, places, damaged_lists):
         group()
     loopback = header(0, 772, 1, 0x10049) + attr(3, b"lo\0") + attr(4, u32(65536))
     flags = ["up", "loopback", "running", "lower-up"]
     row(loopback, said(0, {"ifname": "lo", "mtu": 65536}, 772, 1, flags))
+    upper = header(0, 1, 0xABCDEF, 0x49) + attr(1, b"\xab\xcd\xef\0\0\xfe")
+    ROWS.append((upper.hex().upper(), said(0, {"address": "ab:cd:ef:00:00:fe"}, 1, 0xABCDEF, flags[:3])))
     files = {
         "stdin": "".join(line + "\n" for line, _ in ROWS)[:-1],
         "stdout": "".join(json.dumps(it, separators=(",", ":"), ensure_ascii=False) + "\n" for _, it in ROWS),

@@ -1,15 +1,19 @@
 #!/usr/bin/env python3
 """Compares what a program says of the kernel's links with what the kernel's client ynl says.
 
-    python3 scripts/show_tests.py PROGRAM TREE WHERE
+    python3 scripts/show_tests.py PROGRAM TREE WHERE [made]
 
-TREE has the kernel's tools/net/ynl and Documentation/netlink/specs/rt_link.yaml. Every name that both have must have
-the same value, and ynl has no name that the program lacks, but for the data of a link's kind. A name of an enum or flag
-stands for its number, flags are a set, and a signed number stands for its unsigned one. What differs between two dumps
-of ynl, before and after, moves and is left out. Two records of the file
-differ from the kernel's: the counters of IPv6 lack their first, so that each stands under the name before its own; and
-what follows addr-gen-mode in the settings of IPv6 is read from the wrong place, so that it is left out. Lists that the
-file has as bytes are left out too, and a list of one stands for its member, as ynl prints it.
+TREE has the kernel's tools/net/ynl and Documentation/netlink/specs/rt_link.yaml. Every interface that ynl has before
+and after must be shown, and none that it has neither before nor after. Every name that both have must have the same
+value, and ynl has no name that the program lacks, but for the data of a link's kind. A name of an enum or flag stands
+for its number, flags are a set, and a signed number stands for its unsigned one. What differs between two dumps of ynl,
+before and after, moves and is left out. Two records of the file differ from the kernel's: the counters of IPv6 lack
+their first, so that each stands under the name before its own; and what follows addr-gen-mode in the settings of IPv6
+is read from the wrong place, so that it is left out. Lists that the file has as bytes are left out too, and a list of
+one stands for its member, as ynl prints it.
+
+Where ynl fails, that is 'skipped'; but with 'made', among links that were made to be compared, it is a fault, and so is
+an interface that comes or goes.
 """
 
 import ipaddress
@@ -54,17 +58,24 @@ def kernel_messages():
 
 
 def shown(program):
-    lines = "".join(message.hex() + "\n" for message in kernel_messages())
+    messages = kernel_messages()
+    lines = "".join(message.hex() + "\n" for message in messages)
     ran = subprocess.run([program], input=lines, capture_output=True, text=True, check=True)
-    return [json.loads(line) for line in ran.stdout.splitlines()]
+    found = [json.loads(line) for line in ran.stdout.split("\n")[:-1]]
+    if len(found) != len(messages) or not all("ifname" in it for it in found):
+        sys.exit("show: linkshow does not show each link of the kernel")
+    return found
 
 
-def by_ynl(tree):
+def by_ynl(tree, is_made):
     command = [sys.executable, f"{tree}/tools/net/ynl/cli.py", "--no-schema", "--output-json", "--process-unknown"]
     command += ["--spec", f"{tree}/Documentation/netlink/specs/rt_link.yaml", "--dump", "getlink"]
     ran = subprocess.run(command, capture_output=True, text=True)
     if ran.returncode != 0:
-        print(f"show: skipped: ynl fails: {ran.stderr.strip().splitlines()[-1:]}")
+        why = f"ynl fails: {ran.stderr.strip().splitlines()[-1:]}"
+        if is_made:
+            sys.exit(f"show: {why}")
+        print(f"show: skipped: {why}")
         sys.exit(0)
     return json.loads(ran.stdout)
 
@@ -118,13 +129,29 @@ class Comparison:
             self.faults.append(f"{'.'.join(path)}: {ours!r}, and ynl has {before!r}")
 
 
-def main():
-    program, tree, where = sys.argv[1:]
-    before = {it["ifname"]: it for it in by_ynl(tree)}
-    ours = {it["ifname"]: it for it in shown(program)}
-    after = {it["ifname"]: it for it in by_ynl(tree)}
+def names_alone(ours, before, after, is_made):
+    """Says which interfaces not all have, and returns whether one of them should not be so."""
     failed = False
-    for name in sorted(ours.keys() & before.keys() & after.keys()):
+    for name in sorted(ours.keys() | before.keys() | after.keys()):
+        has = name in ours, name in before, name in after
+        if has == (False, True, True) or has == (True, False, False) or is_made and not all(has):
+            lacks = [who for who, it in zip(("linkshow", "ynl before", "ynl after"), has) if not it]
+            print(f"show: {name}: missing from {' and '.join(lacks)}", file=sys.stderr)
+            failed = True
+        elif not all(has):
+            print(f"show: {name}: comes or goes, and is left out")
+    return failed
+
+
+def main():
+    program, tree, where = sys.argv[1:4]
+    is_made = sys.argv[4:] == ["made"]
+    before = {it["ifname"]: it for it in by_ynl(tree, is_made)}
+    ours = {it["ifname"]: it for it in shown(program)}
+    after = {it["ifname"]: it for it in by_ynl(tree, is_made)}
+    failed = names_alone(ours, before, after, is_made)
+    common = sorted(ours.keys() & before.keys() & after.keys())
+    for name in common:
         it = Comparison()
         it.values([name], ours[name], before[name], after[name])
         print(f"show: {where}: {name}: {it.count} values as ynl has them, {it.moved} that move")
@@ -132,7 +159,7 @@ def main():
             print(f"show: {fault}", file=sys.stderr)
         if it.faults or it.count < FEWEST:
             failed = True
-    if failed or not ours:
+    if failed or not common:
         sys.exit(f"show: {where}: what linkshow and ynl say differs, or is too little")
 
 

@@ -1,7 +1,7 @@
 #!/usr/bin/env bash
 # Compares what linkshow says of the running kernel's links with what the kernel's client ynl says, here and in a
 # network namespace with links of a few kinds: show_tests.sh [SOURCES], where SOURCES is a kernel's tree or a package's
-# archive of it; else Debian's linux-source-6.12. What cannot be had is 'skipped'.
+# archive of it; else Debian's linux-source-6.12. What cannot be had is 'skipped'; in the namespace ynl has to run.
 set -euo pipefail
 top=$(cd "$(dirname "$0")/.." && pwd)
 program=$top/crates/linkshow/out/linkshow
@@ -27,7 +27,7 @@ else
         '*/tools/net/ynl/*' || skips "$sources has no ynl"
 fi
 compares() {
-    python3 "$top/scripts/show_tests.py" "$program" "$tree" "$1"
+    python3 "$top/scripts/show_tests.py" "$program" "$tree" "$@"
 }
 
 compares "the running kernel"
@@ -48,5 +48,5 @@ unshare -rn bash -euo pipefail -c '
     tries set veth0 up
     tries set veth1 up
     tries set bridge0 up
-    compares "a namespace"
+    compares "a namespace" made
 '
