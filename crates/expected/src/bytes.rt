@@ -2,13 +2,20 @@
 
 ghost use Rattle.std.specs.Prelude.{◌≡◌, length, IfOk};
 
+use link_recs::inet::INET_DEV_CONF_SIZE;
 use link_recs::inet6_stats::INET6_STATS_SIZE;
 use nla_wire::{Bytes, Cause, DecodeError, DefaultNla, NLA_F_NESTED, NLA_HEADER_SIZE, Text};
 use std::alloc::{AllocError, Global};
 
+/// The bytes of an attribute of IPv4 settings, as it is written.
+pub const SETTINGS: usize = NLA_HEADER_SIZE + INET_DEV_CONF_SIZE;
+
+/// The bytes of an attribute of IPv6 counters, as it is written.
+pub const COUNTERS: usize = NLA_HEADER_SIZE + INET6_STATS_SIZE;
+
 /// The bytes of buffer for each byte that is read that are room for any text: a header alone may become one of the
 /// longest record.
-pub const GROWTH: usize = (NLA_HEADER_SIZE + INET6_STATS_SIZE) / NLA_HEADER_SIZE;
+pub const GROWTH: usize = COUNTERS / NLA_HEADER_SIZE;
 
 /// Bytes with zeros after them.
 pub fn zeros_after<const N: usize>(bytes: &[u8]) -> [u8; N] {

@@ -6,8 +6,8 @@ mod copies;
 mod lists;
 
 pub use bytes::{
-    GROWTH, bytes_from, cause_of, equal, filled, is_stored, kept, kept_byte, text_from, vec_from,
-    zeros_after,
+    COUNTERS, GROWTH, SETTINGS, bytes_from, cause_of, equal, filled, is_stored, kept, kept_byte,
+    text_from, vec_from, zeros_after,
 };
 pub use copies::{are_copied_alike, are_told_apart, is_copied, list};
 pub use lists::{BAD_FRAMES, has_value, means, refuses, refuses_bad_frames, rewrites, writes};

@@ -1,20 +1,14 @@
 //! Messages whose records are longer when they are written than when they were read.
 
 use crate::rows::*;
-use expected::{GROWTH, equal, list, text_from, zeros_after};
+use expected::{COUNTERS, GROWTH, SETTINGS, equal, list, text_from, zeros_after};
 use link_msg::laws::law_room;
 use link_msg::*;
-use link_recs::inet::INET_DEV_CONF_SIZE;
-use link_recs::inet6_stats::INET6_STATS_SIZE;
 use std::alloc::Global;
 use std::process::Abort;
 
-/// The attributes of IPv4 settings and of IPv6 counters, as they are written, and as kernels send them.
-const SETTINGS: usize = NLA_HEADER_SIZE + INET_DEV_CONF_SIZE;
-
+/// The attributes of IPv4 settings and of IPv6 counters, as kernels send them.
 const KERNEL_SETTINGS: usize = SETTINGS - 4;
-
-const COUNTERS: usize = NLA_HEADER_SIZE + INET6_STATS_SIZE;
 
 const KERNEL_COUNTERS: usize = COUNTERS - 8;
 

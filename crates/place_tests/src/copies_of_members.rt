@@ -250,12 +250,6 @@ fn functions(rt: HostRuntime) {
     assert!(rt; are_copied_alike(alloc, &ones, &functions_of(&rt, alloc, 2)));
 }
 
-/// A port of one attribute that is kept, with this payload.
-fn port(rt: &impl Abort, alloc: Global, n: u8) -> [LinkVfPort; 1] {
-    let member = VfPort::Other(kept_byte(alloc, n).expect(rt, "memory"));
-    [LinkVfPort(list(alloc, [member]).expect(rt, "memory"))]
-}
-
 #[test]
 fn lists_of_functions_and_ports(rt: HostRuntime) {
     let alloc = rt.alloc();
@@ -264,9 +258,11 @@ fn lists_of_functions_and_ports(rt: HostRuntime) {
     let functions = [LinkVfInfo(List::new(ones)), LinkVfInfo(List::new(others))];
     let other = [LinkVfInfo(List::new(Vec::new(alloc)))];
     assert!(rt; are_copied_alike(alloc, &functions, &other));
-    assert!(rt; are_copied_alike(alloc, &port(&rt, alloc, 1), &port(&rt, alloc, 2)));
     let one = [VfPort::Other(kept_byte(alloc, 1).expect(&rt, "memory"))];
     let other = [VfPort::Other(kept_byte(alloc, 2).expect(&rt, "memory"))];
+    assert!(rt; are_copied_alike(alloc, &one, &other));
+    let one = [LinkVfPort(list(alloc, one).expect(&rt, "memory"))];
+    let other = [LinkVfPort(list(alloc, other).expect(&rt, "memory"))];
     assert!(rt; are_copied_alike(alloc, &one, &other));
 }
 

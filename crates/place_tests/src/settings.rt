@@ -1,12 +1,10 @@
 use expected::{
-    BAD_FRAMES, has_value, is_copied, kept, means, refuses, refuses_bad_frames, rewrites, vec_from,
-    writes, zeros_after,
+    BAD_FRAMES, COUNTERS, SETTINGS, has_value, is_copied, kept, means, refuses, refuses_bad_frames,
+    rewrites, vec_from, writes, zeros_after,
 };
 use link_afspec::*;
-use link_recs::inet::INET_DEV_CONF_SIZE;
 use link_recs::inet6_devconf::INET6_DEV_CONF_SIZE;
 use link_recs::inet6_icmp::ICMP6_STATS_SIZE;
-use link_recs::inet6_stats::INET6_STATS_SIZE;
 use link_recs::{Icmp6Stats, Inet6CacheInfo, Inet6DevConf, Inet6Stats, InetDevConf};
 use link_vals::{In6AddrGenMode, Inet6IfaceFlags, MctpPhysBinding};
 use nla_wire::{Cause, CloneIn, Exact, List, NLA_HEADER_SIZE, Nla, NlaRead};
@@ -14,16 +12,11 @@ use std::alloc::Global;
 use std::net::Ipv6Addr;
 use std::process::Abort;
 
-/// The attribute of IPv4 settings.
-const SETTINGS: usize = NLA_HEADER_SIZE + INET_DEV_CONF_SIZE;
-
 /// The list of a family with these alone.
 const INET: usize = NLA_HEADER_SIZE + SETTINGS;
 
-/// The attribute of IPv6 settings, of IPv6 counters, and of ICMPv6 counters.
+/// The attribute of IPv6 settings, and of ICMPv6 counters.
 const INET6_SETTINGS: usize = NLA_HEADER_SIZE + INET6_DEV_CONF_SIZE;
-
-const COUNTERS: usize = NLA_HEADER_SIZE + INET6_STATS_SIZE;
 
 const ICMP6_COUNTERS: usize = NLA_HEADER_SIZE + ICMP6_STATS_SIZE;
 
