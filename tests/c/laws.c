@@ -21,7 +21,18 @@
 
 #include "linkwire.h"
 
-enum { PAGE = 4096, MOST = 1 << 17, ROOM = 1 << 21, TOUCHED = 2 };
+enum { PAGE = 4096, MOST = 1 << 17, ROOM = 1 << 21, TOUCHED = 2, SECONDS = 60 };
+
+/* What a sanitizer finds ends in a signal too, so that the seed is told. */
+const char *__asan_default_options(void);
+const char *__asan_default_options(void) {
+    return "abort_on_error=1";
+}
+
+const char *__ubsan_default_options(void);
+const char *__ubsan_default_options(void) {
+    return "abort_on_error=1";
+}
 
 /* The message that is tried. */
 static uint64_t seed;
@@ -49,11 +60,6 @@ static void refuse(int line, const char *law) {
 }
 
 #define LAW(law) ((law) ? (void)0 : refuse(__LINE__, #law))
-
-static void on_touch(int number) {
-    tell(number == SIGSEGV || number == SIGBUS ? "a page was touched that is not the call's" : "a signal");
-    _exit(TOUCHED);
-}
 
 /* Random numbers. */
 
@@ -250,8 +256,12 @@ static void add_payload(struct text *out, const struct line *line) {
     }
 }
 
+/* Where the frames of a message start, at each level. */
+static size_t starts[MOST], starts_len;
+
 static void close_frame(struct text *out, size_t start, uint16_t kind) {
     size_t len = out->len - start;
+    starts[starts_len++] = start;
     out->bytes[start] = (uint8_t)len;
     out->bytes[start + 1] = (uint8_t)(len >> 8);
     out->bytes[start + 2] = (uint8_t)kind;
@@ -312,26 +322,44 @@ static size_t make(uint8_t *bytes) {
     return out.len;
 }
 
-/* One byte, a cut, a length, or the end of another message. */
+/* Where frames start after a splice: the first `of_front` as far as `at`, and there what the other message has from
+ * `from` on. */
+static void splice_starts(size_t of_front, size_t at, size_t from) {
+    size_t kept = 0;
+    for (size_t i = 0; i < starts_len; i++) {
+        if (i < of_front ? starts[i] < at : starts[i] >= from) {
+            starts[kept++] = i < of_front ? starts[i] : starts[i] - from + at;
+        }
+    }
+    starts_len = kept;
+}
+
+/* One byte, a cut, a frame's length, or the end of another message. The frames are the last that `starts` was told. */
 static size_t damage(uint8_t *bytes, size_t len) {
     static uint8_t end[MOST];
     switch (len == 0 ? 4 : below(5)) {
     case 0: bytes[below(len)] ^= (uint8_t)(1u << below(8)); return len;
     case 1: bytes[below(len)] = (uint8_t)draw(); return len;
     case 2: return below(len);
-    case 3:
-        if (len >= LINKWIRE_HEADER_SIZE + 4) {
-            size_t at = LINKWIRE_HEADER_SIZE + 4 * below((len - LINKWIRE_HEADER_SIZE) / 4);
-            size_t changed = one_in(3) ? below(8) : (size_t)bytes[at] + below(9) - 4;
+    case 3: {
+        size_t at = starts_len > 0 ? starts[below(starts_len)] : len;
+        if (at + 2 <= len) {
+            size_t near = linkwire_le(bytes + at, 2) + below(9) - 4;
+            size_t changed = one_in(3) ? below(8) : one_in(4) ? below(1 << 16) : near;
             bytes[at] = (uint8_t)changed;
+            bytes[at + 1] = (uint8_t)(changed >> 8);
         }
         return len;
+    }
     default: {
+        size_t of_front = starts_len;
         size_t end_len = make(end), from = below(end_len + 1), at = below(len + 1);
         if (at + end_len - from > MOST) {
+            starts_len = of_front;
             return len;
         }
         memcpy(bytes + at, end + from, end_len - from);
+        splice_starts(of_front, at, from);
         return at + end_len - from;
     }
     }
@@ -362,6 +390,7 @@ struct area {
 };
 
 static struct area area_of_message, area_of_other, area_of_text, area_of_out;
+static struct area *const areas[] = {&area_of_message, &area_of_other, &area_of_text, &area_of_out};
 static int is_low; /* what is placed starts right after a page that cannot be touched, else it ends before one */
 
 static void reserve(struct area *area) {
@@ -404,6 +433,49 @@ static uint8_t *place_out(size_t len) {
 
 static int is_kept(const uint8_t *bytes, size_t len) {
     return len == 0 || (bytes[0] == 0x5a && memcmp(bytes, bytes + 1, len - 1) == 0);
+}
+
+/* Signals, each of which tells the seed. */
+
+static const struct {
+    int number;
+    const char *means;
+} signals[] = {
+    {SIGSEGV, "an address was touched where no memory is"}, {SIGBUS, "an address was touched where no memory is"},
+    {SIGILL, "an instruction that cannot run"}, {SIGFPE, "a division that has no result"}, {SIGTRAP, "a trap"},
+    {SIGABRT, "an abort, above which a sanitizer's report may stand"}, {SIGALRM, "a call does not return"},
+};
+
+static void on_signal(int number, siginfo_t *info, void *context) {
+    (void)context;
+    for (size_t i = 0; i < sizeof areas / sizeof *areas && (number == SIGSEGV || number == SIGBUS); i++) {
+        if ((uintptr_t)info->si_addr - (uintptr_t)(areas[i]->start - PAGE) < ROOM + 2 * PAGE) {
+            tell("a page was touched that is not the call's");
+            _exit(TOUCHED);
+        }
+    }
+    for (size_t i = 0; i < sizeof signals / sizeof *signals; i++) {
+        if (signals[i].number == number) {
+            tell(signals[i].means);
+        }
+    }
+    _exit(1);
+}
+
+/* The handler has a stack of its own, so that it tells of one that ran over too. */
+static void handle_signals(void) {
+    static uint8_t stack[1 << 16];
+    const stack_t own = {.ss_sp = stack, .ss_size = sizeof stack};
+    struct sigaction action = {.sa_flags = SA_SIGINFO | SA_ONSTACK};
+    action.sa_sigaction = on_signal;
+    int fails = sigaltstack(&own, NULL);
+    for (size_t i = 0; i < sizeof signals / sizeof *signals; i++) {
+        fails |= sigaction(signals[i].number, &action, NULL);
+    }
+    if (fails) {
+        perror("laws: sigaction");
+        exit(1);
+    }
 }
 
 /* The laws, over a stub of a call that can be put in its place. */
@@ -497,11 +569,19 @@ static void tries_list(const uint8_t *message, size_t len) {
 
 static void tries(uint64_t number) {
     seed = state = number;
+    tried_len = other_len = 0;
+    alarm(SECONDS); /* for this message; one takes some milliseconds at most */
+    starts_len = 0;
     tried_len = make(tried);
     for (size_t times = one_in(2) ? below(4) : 0; times > 0; times--) {
         tried_len = damage(tried, tried_len);
     }
-    other_len = one_in(4) ? make(other) : respell(other, tried, tried_len);
+    if (one_in(4)) {
+        starts_len = 0;
+        other_len = make(other);
+    } else {
+        other_len = respell(other, tried, tried_len);
+    }
     if (one_in(4)) {
         other_len = damage(other, other_len);
     }
@@ -589,12 +669,10 @@ int main(int words, char **word) {
     if (words > 2 + is_timed) {
         first = strtoull(word[2 + is_timed], NULL, 10);
     }
-    signal(SIGSEGV, on_touch);
-    signal(SIGBUS, on_touch);
-    reserve(&area_of_message);
-    reserve(&area_of_other);
-    reserve(&area_of_text);
-    reserve(&area_of_out);
+    for (size_t i = 0; i < sizeof areas / sizeof *areas; i++) {
+        reserve(areas[i]);
+    }
+    handle_signals();
     sees("a read after the message", reads_after, linkwire_canonical);
     sees("a read before the message", reads_before, linkwire_canonical);
     sees("a write into the message", writes_message, linkwire_canonical);
@@ -604,5 +682,6 @@ int main(int words, char **word) {
         tries(first + done++);
     }
     tells_answers(done, done >= 200000);
+    signal(SIGABRT, SIG_DFL); /* what a sanitizer says of memory that leaked is of no one seed */
     return 0;
 }
