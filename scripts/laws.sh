@@ -8,7 +8,7 @@ library=$1
 shift
 mkdir -p "$top/out"
 program=$top/out/laws
-sanitizers=(-fsanitize=address,undefined -fno-sanitize-recover=all)
+sanitizers=("-fsanitize=address,undefined" -fno-sanitize-recover=all)
 if ! ${CC:-cc} "${sanitizers[@]}" -o "$program" -x c - <<<'int main(void) { return 0; }' >"$top/out/laws.log" 2>&1 ||
     ! "$program" >>"$top/out/laws.log" 2>&1; then
     echo "laws: without sanitizers, which are not to be had: $(head -n 1 "$top/out/laws.log")"

@@ -57,9 +57,10 @@ reads_hex() {
         "$folder/links" --hex >"$folder/hex"
         if [ "$(grep -cE '^([0-9a-f]{2}){16,}$' "$folder/hex")" = "$(wc -l <"$folder/lines")" ]; then
             if [ -x "$program" ]; then
-                "$program" <"$folder/hex" | paste -d ' ' - "$folder/hex" >"$folder/answers"
+                "$program" <"$folder/hex" >"$folder/answers"
+                sed 's/^/ok /' "$folder/hex" >"$folder/own"
                 if grep -qv '^ok ' "$folder/answers" ||
-                    [ "$(awk '$2 "" == $3' "$folder/answers" | wc -l)" != "$(canonical)" ]; then
+                    [ "$(grep -cxFf "$folder/own" "$folder/answers" || true)" != "$(canonical)" ]; then
                     fails "$1: the program refuses a link, or calls others canonical"
                 fi
             fi

@@ -125,7 +125,7 @@ static void learn(const uint8_t *message, size_t len, int is_gone) {
         at = &old->next;
     }
     if (is_gone || !find(new, IFLA_IFNAME, &name)) { /* without a name it tells of an event, as wireless devices do */
-        for (old = links; is_gone && old != NULL; old = old->next) { /* AF_UNSPEC: from each family */
+        for (old = links; is_gone && old != NULL; old = old->next) { /* AF_UNSPEC: in every family */
             int is_meant = new->info.ifi_family == AF_UNSPEC || new->info.ifi_family == old->info.ifi_family;
             old->round = is_meant && new->info.ifi_index == old->info.ifi_index ? 0 : old->round;
         }

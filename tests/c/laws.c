@@ -4,7 +4,8 @@
  *
  *     laws [MESSAGES [SEED]]      laws --seconds N [SEED]
  *
- * A failure prints the message's own seed, with which `laws 1 SEED` tries it alone, and the bytes.
+ * A failure prints the message's own seed, with which `laws 1 SEED` tries it alone, and the bytes. A signal, a
+ * sanitizer's report and a call that does not return are failures too.
  */
 #include <linux/devlink.h>
 #include <linux/if_link.h>
