@@ -1,16 +1,19 @@
 #!/usr/bin/env bash
 # Tries the laws of the library for C on messages that a seed makes:
-# laws.sh LIBRARY [MESSAGES [SEED] | --seconds N [SEED]]. The test's own code is built with sanitizers, where the
-# compiler has them.
+# laws.sh LIBRARY [MESSAGES [SEED] | --seconds N [SEED]]. The test's own code is built with sanitizers, where a program
+# with them can be built and runs.
 set -euo pipefail
 top=$(cd "$(dirname "$0")/.." && pwd)
 library=$1
 shift
 mkdir -p "$top/out"
-build=("${CC:-cc}" -std=gnu11 -O1 -g -Wall -Wextra -Werror -I"$top/include" -o "$top/out/laws")
-build+=("$top/tests/c/laws.c" "$library")
-if ! "${build[@]}" -fsanitize=address,undefined -fno-sanitize-recover=all 2>"$top/out/laws.log"; then
-    echo 'laws: without sanitizers, which the compiler lacks'
-    "${build[@]}"
+program=$top/out/laws
+sanitizers=("-fsanitize=address,undefined" -fno-sanitize-recover=all)
+if ! ${CC:-cc} "${sanitizers[@]}" -o "$program" -x c - <<<'int main(void) { return 0; }' >"$top/out/laws.log" 2>&1 ||
+    ! "$program" >>"$top/out/laws.log" 2>&1; then
+    echo "laws: without sanitizers, which are not to be had: $(head -n 1 "$top/out/laws.log")"
+    sanitizers=()
 fi
-"$top/out/laws" "$@"
+${CC:-cc} -std=gnu11 -O1 -g -Wall -Wextra -Wpedantic -Wshadow -Werror -I"$top/include" "${sanitizers[@]}" \
+    -o "$program" "$top/tests/c/laws.c" "$library"
+"$program" "$@"

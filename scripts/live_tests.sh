@@ -1,6 +1,7 @@
 #!/usr/bin/env bash
 # Runs the examples against the running kernel: live_tests.sh LIBRARY. Links are compared with /sys/class/net, here and
-# in a network namespace of their own, where an MTU is set and changes are watched. What cannot be had is 'skipped'.
+# in a network namespace of their own, where an MTU is set and changes are watched. What needs netlink, a command or a
+# right that is not there is 'skipped'.
 set -euo pipefail
 top=$(cd "$(dirname "$0")/.." && pwd)
 
@@ -25,6 +26,11 @@ of_sysfs() {
     done | sort
 }
 
+# of how many links it was said
+canonical() {
+    awk '$6 == "canonical"' "$folder/lines" | wc -l
+}
+
 # compares WHERE: what the kernel says in messages and in files, again where something changed in between
 compares() {
     local try
@@ -34,7 +40,7 @@ compares() {
         awk '{ print $1, $2, $4, $5 }' "$folder/lines" | sort >"$folder/messages"
         if cmp -s "$folder/files" "$folder/messages"; then
             echo "live: $1: $(wc -l <"$folder/lines") links as in /sys/class/net," \
-                "$(grep -c ' canonical$' "$folder/lines" || true) of them canonical"
+                "$(canonical) of them canonical"
             return
         fi
         sleep 0.3
@@ -43,46 +49,99 @@ compares() {
     fails "$1: the kernel's messages and files differ"
 }
 
-# hexadecimal lines, and what the program says of them where it is built
+# hexadecimal lines, as many as there are links, and what the program says of them where it is built
 reads_hex() {
-    local program=$top/crates/linkwire/out/linkwire
-    "$folder/links" --hex >"$folder/hex"
-    if [ "$(grep -cE '^([0-9a-f]{2}){16,}$' "$folder/hex")" != "$(wc -l <"$folder/lines")" ]; then
-        fails "$1: links --hex prints another number of links"
-    fi
-    if [ -x "$program" ] && [ "$("$program" <"$folder/hex" | grep -c '^ok ')" != "$(wc -l <"$folder/lines")" ]; then
-        fails "$1: the program refuses a link"
-    fi
+    local try program=$top/crates/linkwire/out/linkwire
+    for try in 1 2 3 4 5; do
+        "$folder/links" >"$folder/lines"
+        "$folder/links" --hex >"$folder/hex"
+        if [ "$(grep -cE '^([0-9a-f]{2}){16,}$' "$folder/hex")" = "$(wc -l <"$folder/lines")" ]; then
+            if [ -x "$program" ]; then
+                "$program" <"$folder/hex" >"$folder/answers"
+                sed 's/^/ok /' "$folder/hex" >"$folder/own"
+                if grep -qv '^ok ' "$folder/answers" ||
+                    [ "$(grep -cxFf "$folder/own" "$folder/answers" || true)" != "$(canonical)" ]; then
+                    fails "$1: the program refuses a link, or calls others canonical"
+                fi
+            fi
+            return
+        fi
+        sleep 0.3
+    done
+    fails "$1: links --hex prints another number of links"
 }
 
-# with FAULT: what links prints where a kernel does what it seldom does
+# waits COMMAND..: until it succeeds, ten seconds at most
+waits() {
+    local try
+    for try in $(seq 100); do
+        if "$@"; then
+            return
+        fi
+        sleep 0.1
+    done
+    return 1
+}
+
+# asked COUNT: whether the example that ran last, or runs, has sent so many requests
+asked() {
+    [ "$(grep -c '^asked$' "$folder/err")" -ge "$1" ]
+}
+
+# with FAULT EXAMPLE ..: what it prints where a kernel does what it seldom does
 with() {
-    LD_PRELOAD=$folder/kernel_faults.so KERNEL_FAULT=$1 "$folder/links"
+    LD_PRELOAD=$folder/kernel_faults.so KERNEL_FAULT=$1 timeout 20 "$folder/$2" "${@:3}" 2>"$folder/err"
+}
+
+# tells FAULT MESSAGE EXAMPLE ..: it prints nothing else, and fails
+tells() {
+    if with "$1" "${@:3}" >"$folder/out" || [ -s "$folder/out" ] || ! grep -qx "$3: $2" "$folder/err"; then
+        cat "$folder/out" "$folder/err" >&2
+        fails "$3 does not tell: $1"
+    fi
 }
 
 # meets the faults of tests/live/kernel_faults.c, in a namespace, where nothing changes meanwhile
 meets_faults() {
-    ${CC:-cc} -O1 -Wall -Wextra -Werror -shared -fPIC -o "$folder/kernel_faults.so" \
+    ${CC:-cc} -O1 -Wall -Wextra -Wpedantic -Werror -shared -fPIC -o "$folder/kernel_faults.so" \
         "$top/tests/live/kernel_faults.c" -ldl
     "$folder/links" >"$folder/lines"
-    local fault
+    local fault mtu
     for fault in interrupted 'ran over'; do
-        if ! with "$fault" | cmp -s - "$folder/lines"; then
+        if ! with "$fault" links >"$folder/out" || ! cmp -s "$folder/out" "$folder/lines" || ! asked 2; then
             fails "links does not ask again: $fault"
         fi
     done
-    for fault in error length; do
-        if with "$fault" >"$folder/out" 2>"$folder/err" || [ -s "$folder/out" ] ||
-            ! grep -q '^links: ' "$folder/err"; then
-            fails "links does not tell: $fault"
-        fi
-    done
-    with refused >"$folder/out"
+    with refused links >"$folder/out"
     if ! (echo 'refused: an attribute shorter than its header, at byte 16' && sed 1d "$folder/lines") |
         cmp -s - "$folder/out"; then
         fails 'links does not go on after a message that is refused'
     fi
-    echo 'live: links: an interrupted dump, a queue that ran over, errors, a message that is refused'
+    mtu=$(cat /sys/class/net/lo/mtu)
+    if [ "$(with 'ran over' setmtu lo "$mtu")" != "lo $mtu" ] || ! asked 3; then
+        fails 'setmtu does not ask again: ran over'
+    fi
+    tells error 'Operation not permitted' links
+    tells 'short error' 'Bad message' links
+    tells length 'Bad message' links
+    tells error 'Operation not permitted' watch
+    tells 'short error' 'Bad message' watch
+    tells error 'the kernel: Operation not permitted' setmtu lo "$mtu"
+    tells 'short error' 'the kernel: Bad message' setmtu lo "$mtu"
+    for fault in interrupted 'ran over' 'cut off'; do # links and ports are asked for once more
+        LD_PRELOAD=$folder/kernel_faults.so KERNEL_FAULT=$fault "$folder/watch" >"$folder/news" 2>"$folder/err" &
+        watch=$!
+        trap 'kill -KILL "$watch" 2>/dev/null || true' EXIT
+        if [ "$fault" = 'cut off' ]; then
+            waits asked 2 || fails 'watch does not ask for ports'
+            ip link set lo txqueuelen 900
+            waits_for ' lo: IFLA_TXQLEN [0-9]+ -> 900$'
+        fi
+        waits asked 4 || fails "watch does not ask again: $fault"
+        stops_watch
+    done
+    echo 'live: links, setmtu, watch: an interrupted dump, queues that ran over, errors, a datagram that is cut off,' \
+        'a message that is refused'
 }
 
 # makes NAME COMMAND..: an interface, if the kernel knows its kind
@@ -99,22 +158,40 @@ makes() {
 
 # waits_for PATTERN: until the watch has printed such a line
 waits_for() {
+    if ! waits grep -qE "$1" "$folder/news"; then
+        cat "$folder/news" >&2
+        fails "watch does not print $1"
+    fi
+}
+
+stops_watch() {
+    kill "$watch"
+    wait "$watch" || true
+    trap - EXIT
+}
+
+# whether the kernel had to drop messages for the watch
+dropped() {
+    awk -v id="$watch" '$2 == 0 && $3 == id && $9 > 0 { found = 1 } END { exit !found }' /proc/net/netlink
+}
+
+# runs over: more messages than the socket of the watch, which is stopped, holds
+runs_over() {
     local try
-    for try in $(seq 100); do
-        if grep -qE "$1" "$folder/news"; then
+    for try in $(seq 20); do
+        seq 1000 1400 | sed "s/.*/link set $base mtu &/" | ip -batch -
+        if dropped; then
             return
         fi
-        sleep 0.1
     done
-    cat "$folder/news" >&2
-    fails "watch does not print $1"
+    fails 'the queue of watch does not run over'
 }
 
 watches() {
-    local try mtu
+    local try host
     "$folder/watch" >"$folder/news" &
     watch=$!
-    trap 'kill "$watch" 2>/dev/null || true' EXIT
+    trap 'kill -KILL "$watch" 2>/dev/null || true' EXIT
     for try in $(seq 100); do # until its first dump is over
         ip link set "$base" mtu $((1300 + try))
         if [ -s "$folder/news" ]; then
@@ -124,25 +201,38 @@ watches() {
     done
     ip link set "$base" mtu 1290
     waits_for "$base: IFLA_MTU [0-9]+ -> 1290$"
+    for host in 127.0.0.1 ::1; do # counters of lo count it
+        (echo >"/dev/udp/$host/9") 2>/dev/null || true
+    done
+    ip link set lo txqueuelen 77
+    waits_for ' lo: IFLA_TXQLEN [0-9]+ -> 77$'
+    if [ "$(grep -c ' lo: ' "$folder/news")" != 1 ]; then
+        grep ' lo: ' "$folder/news" >&2
+        fails 'watch prints more than what changed'
+    fi
     if [[ $known == *port* ]]; then
         ip link set port0 nomaster
         waits_for ' port0 in its bridge: gone$'
         waits_for ' port0: IFLA_MASTER [0-9]+ -> none$'
     fi
-    kill -STOP "$watch" # more than its socket holds
-    for mtu in $(seq 1000 1400); do
-        echo "link set $base mtu $mtu"
-    done | ip -batch -
+    if [[ $known == *bridge* ]]; then
+        ip link del bridge0
+        waits_for ' bridge0: gone$'
+        waits_for ' bridge0 in its bridge: gone$'
+    fi
+    kill -STOP "$watch"
+    runs_over
     if ip link add gone0 type bridge 2>/dev/null; then
         ip link del gone0
     fi
     ip link set "$base" mtu 1234
     kill -CONT "$watch"
     waits_for "$base: IFLA_MTU [0-9]+ -> 1234$"
-    kill "$watch"
-    wait "$watch" || true
-    trap - EXIT
-    echo "live: watch: changes, a port that left, and a queue that ran over"
+    stops_watch
+    if grep -E ' IFLA_STATS(64)? ' "$folder/news" >&2; then
+        fails 'watch prints counters'
+    fi
+    echo 'live: watch: changes without counters, a port that left, a bridge that went, and a queue that ran over'
 }
 
 # in the namespace
@@ -192,10 +282,18 @@ library=$1
 folder=$(mktemp -d)
 trap 'rm -rf "$folder"' EXIT
 for example in links setmtu watch; do
-    ${CC:-cc} -std=c11 -D_GNU_SOURCE -O1 -Wall -Wextra -Werror -I"$top/include" -o "$folder/$example" \
+    ${CC:-cc} -std=c11 -D_GNU_SOURCE -O1 -Wall -Wextra -Wpedantic -Werror -I"$top/include" -o "$folder/$example" \
         "$top/examples/c/$example.c" "$library"
 done
-"$folder/links" >"$folder/lines" 2>"$folder/err" || skips "no netlink: $(cat "$folder/err")"
+# what links says where there is no netlink, or no right to it
+absent='Address family not supported by protocol|Protocol not supported|Operation not supported|Connection refused'
+absent="$absent|Function not implemented|Operation not permitted|Permission denied"
+if ! "$folder/links" >"$folder/lines" 2>"$folder/err"; then
+    if ! grep -qxE "links: ($absent)" "$folder/err"; then
+        fails "links fails: $(cat "$folder/err")"
+    fi
+    skips "no netlink: $(cat "$folder/err")"
+fi
 [ -d /sys/class/net ] || skips 'no /sys/class/net'
 compares 'this machine'
 reads_hex 'this machine'

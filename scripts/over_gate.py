@@ -1,4 +1,9 @@
-"""Proves and builds the static library of the current crate over the libraries that the gate left in out/."""
+"""Proves and builds the static library of the current crate over the libraries that the gate left in out/.
+
+No command does it: `rt ci` proves a static library and does not build it, and it leaves the libraries below without the
+stamp by which `rt lib` knows them, so that `rt lib` would prove all of them again, half an hour of processor time. This
+is the step of `rt lib` that comes after them.
+"""
 
 import os
 import sys

@@ -55,7 +55,7 @@ static enum state receive_all(int fd) {
             }
             is_interrupted |= head->nlmsg_flags & NLM_F_DUMP_INTR;
             if (head->nlmsg_type == NLMSG_ERROR || head->nlmsg_type == NLMSG_DONE) {
-                int error = 0; /* after the header stands 0 or minus an errno */
+                int error = -EBADMSG; /* after the header stands 0 or minus an errno */
                 if (head->nlmsg_len >= NLMSG_LENGTH(sizeof error)) {
                     memcpy(&error, NLMSG_DATA(head), sizeof error);
                 }

@@ -42,31 +42,31 @@ static int read_mtu(const uint8_t *message, size_t len, uint32_t *mtu) {
 /* Sends a request and reads what comes until it is answered: by a link, whose MTU is then in `mtu`, or by an error
  * number, of which 0 is the acknowledgement. Several messages can stand in one datagram. */
 static int answers(int fd, const struct request *request, uint32_t *mtu) {
-    if (send(fd, request, request->head.nlmsg_len, 0) < 0) {
-        return fails("setmtu: send");
-    }
-    for (;;) {
+    int status = 1, is_sent = 0;
+    while (status == 1) {
+        if (!is_sent && send(fd, request, request->head.nlmsg_len, 0) < 0) {
+            return fails("setmtu: send");
+        }
         ssize_t len = recv(fd, NULL, 0, MSG_PEEK | MSG_TRUNC); /* its length, so that nothing is cut off */
         struct nlmsghdr *datagram = len < 0 ? NULL : malloc((size_t)len + NLMSG_HDRLEN);
         len = datagram == NULL ? -1 : recv(fd, datagram, (size_t)len, 0);
-        int status = len < 0 && errno != EINTR ? fails("setmtu: recv") : 1; /* ENOBUFS: the answer is lost */
+        is_sent = len >= 0 || errno != ENOBUFS; /* else the kernel had to drop an answer, and is asked again */
+        status = len < 0 && errno != EINTR && is_sent ? fails("setmtu: recv") : 1;
         const struct nlmsghdr *it = datagram;
         for (; status == 1 && len > 0 && NLMSG_OK(it, (size_t)len); it = NLMSG_NEXT(it, len)) {
             if (it->nlmsg_seq != request->head.nlmsg_seq) {
                 continue;
             }
-            if (it->nlmsg_type == NLMSG_ERROR && it->nlmsg_len >= NLMSG_LENGTH(sizeof(int))) {
-                errno = -*(const int *)NLMSG_DATA(it);
+            if (it->nlmsg_type == NLMSG_ERROR) { /* after the header stands 0 or minus an errno */
+                errno = it->nlmsg_len >= NLMSG_LENGTH(sizeof(int)) ? -*(const int *)NLMSG_DATA(it) : EBADMSG;
                 status = errno == 0 ? 0 : fails("setmtu: the kernel");
             } else if (it->nlmsg_type == RTM_NEWLINK) {
                 status = read_mtu(NLMSG_DATA(it), it->nlmsg_len - NLMSG_HDRLEN, mtu);
             }
         }
         free(datagram);
-        if (status != 1) {
-            return status;
-        }
     }
+    return status;
 }
 
 static struct request request_of(uint16_t type, uint16_t flags, uint32_t sequence, unsigned index) {

@@ -125,11 +125,12 @@ static void learn(const uint8_t *message, size_t len, int is_gone) {
         at = &old->next;
     }
     if (is_gone || !find(new, IFLA_IFNAME, &name)) { /* without a name it tells of an event, as wireless devices do */
-        free(new);
-        if (is_gone && old != NULL) {
-            old->round = 0;
-            forget(1);
+        for (old = links; is_gone && old != NULL; old = old->next) { /* AF_UNSPEC: in every family */
+            int is_meant = new->info.ifi_family == AF_UNSPEC || new->info.ifi_family == old->info.ifi_family;
+            old->round = is_meant && new->info.ifi_index == old->info.ifi_index ? 0 : old->round;
         }
+        forget(is_gone ? 1 : 0);
+        free(new);
         return;
     }
     *at = new;
@@ -181,8 +182,8 @@ int main(void) {
             is_stale |= it->nlmsg_flags & NLM_F_MULTI && it->nlmsg_flags & NLM_F_DUMP_INTR;
             if (it->nlmsg_type == RTM_NEWLINK || it->nlmsg_type == RTM_DELLINK) {
                 learn(NLMSG_DATA(it), it->nlmsg_len - NLMSG_HDRLEN, it->nlmsg_type == RTM_DELLINK);
-            } else if (it->nlmsg_type == NLMSG_ERROR || it->nlmsg_type == NLMSG_DONE) {
-                error = -*(const int *)NLMSG_DATA(it); /* after the header stands 0 or minus an errno */
+            } else if (it->nlmsg_type == NLMSG_ERROR || it->nlmsg_type == NLMSG_DONE) { /* 0 or minus an errno */
+                error = it->nlmsg_len >= NLMSG_LENGTH(sizeof error) ? -*(const int *)NLMSG_DATA(it) : EBADMSG;
             }
             if (it->nlmsg_type == NLMSG_DONE && error == 0) {
                 dump = dump == LINKS ? PORTS : IDLE;

@@ -4,20 +4,36 @@
  *
  *     laws [MESSAGES [SEED]]      laws --seconds N [SEED]
  *
- * A failure prints the message's own seed, with which `laws 1 SEED` tries it alone, and the bytes.
+ * A failure prints the message's own seed, with which `laws 1 SEED` tries it alone, and the bytes. A signal, a
+ * sanitizer's report and a call that does not return are failures too.
  */
+#include <linux/devlink.h>
+#include <linux/if_link.h>
+#include <linux/wireless.h>
 #include <signal.h>
 #include <stdio.h>
 #include <stdlib.h>
 #include <string.h>
 #include <sys/mman.h>
+#include <sys/socket.h>
 #include <sys/wait.h>
 #include <time.h>
 #include <unistd.h>
 
 #include "linkwire.h"
 
-enum { PAGE = 4096, MOST = 1 << 17, ROOM = 1 << 21, TOUCHED = 2 };
+enum { PAGE = 4096, MOST = 1 << 17, ROOM = 1 << 21, TOUCHED = 2, SECONDS = 60 };
+
+/* What a sanitizer finds ends in a signal too, so that the seed is told. */
+const char *__asan_default_options(void);
+const char *__asan_default_options(void) {
+    return "abort_on_error=1";
+}
+
+const char *__ubsan_default_options(void);
+const char *__ubsan_default_options(void) {
+    return "abort_on_error=1";
+}
 
 /* The message that is tried. */
 static uint64_t seed;
@@ -45,11 +61,6 @@ static void refuse(int line, const char *law) {
 }
 
 #define LAW(law) ((law) ? (void)0 : refuse(__LINE__, #law))
-
-static void on_touch(int number) {
-    tell(number == SIGSEGV || number == SIGBUS ? "a page was touched that is not the call's" : "a signal");
-    _exit(TOUCHED);
-}
 
 /* Random numbers. */
 
@@ -98,47 +109,77 @@ struct line {
 #define EXACTLY(number, size) {number, EXACT, NO_PLACE, size}
 
 static const struct line message_lines[] = {
-    {1, BYTES, 0, 0}, {2, BYTES, 0, 0}, {3, TEXT, 0, 0}, EXACTLY(4, 4), EXACTLY(5, 4), {6, TEXT, 0, 0},
-    {7, FILLED, 0, 96}, EXACTLY(10, 4), {11, EVENT, 0, 0}, {12, BY_FAMILY, 0, 0}, EXACTLY(13, 4),
-    {14, AT_LEAST, 0, 32}, EXACTLY(16, 1), EXACTLY(17, 1), {18, LIST, INFO, 0}, EXACTLY(19, 4), {20, TEXT, 0, 0},
-    EXACTLY(21, 4), {22, LIST, FUNCTIONS, 0}, {22, LIST, FUNCTIONS, 0}, {23, FILLED, 0, 200}, {24, LIST, PORTS, 0},
-    {25, LIST, PORT, 0}, {26, BY_FAMILY, 0, 0}, {26, BY_FAMILY, 0, 0}, EXACTLY(27, 4), EXACTLY(28, 4),
-    EXACTLY(29, 4), EXACTLY(30, 4), EXACTLY(31, 4), EXACTLY(32, 4), EXACTLY(33, 1), {34, BYTES, 0, 0},
-    EXACTLY(35, 4), {36, BYTES, 0, 0}, EXACTLY(37, 4), {38, TEXT, 0, 0}, EXACTLY(39, 1), EXACTLY(40, 4),
-    EXACTLY(41, 4), {43, LIST, XDP, 0}, EXACTLY(44, 4), EXACTLY(45, 4), EXACTLY(46, 4), EXACTLY(47, 4),
-    EXACTLY(48, 4), EXACTLY(49, 4), EXACTLY(50, 4), EXACTLY(51, 4), {52, LIST, PROPS, 0}, {54, BYTES, 0, 0},
-    {55, LIST, REASONS, 0}, {56, TEXT, 0, 0}, {57, TEXT, 0, 0}, EXACTLY(58, 4), EXACTLY(59, 4), EXACTLY(60, 4),
-    EXACTLY(61, 4), {62, LIST, DEVLINK, 0}, EXACTLY(63, 4), EXACTLY(64, 4), {65, LIST, DPLL, 0}, EXACTLY(67, 1),
-    EXACTLY(68, 2), EXACTLY(69, 2),
+    {IFLA_ADDRESS, BYTES, 0, 0}, {IFLA_BROADCAST, BYTES, 0, 0}, {IFLA_IFNAME, TEXT, 0, 0}, EXACTLY(IFLA_MTU, 4),
+    EXACTLY(IFLA_LINK, 4), {IFLA_QDISC, TEXT, 0, 0}, {IFLA_STATS, FILLED, 0, 96}, EXACTLY(IFLA_MASTER, 4),
+    {IFLA_WIRELESS, EVENT, 0, 0}, {IFLA_PROTINFO, BY_FAMILY, 0, 0}, EXACTLY(IFLA_TXQLEN, 4),
+    {IFLA_MAP, AT_LEAST, 0, sizeof(struct rtnl_link_ifmap)}, EXACTLY(IFLA_OPERSTATE, 1), EXACTLY(IFLA_LINKMODE, 1),
+    {IFLA_LINKINFO, LIST, INFO, 0}, EXACTLY(IFLA_NET_NS_PID, 4), {IFLA_IFALIAS, TEXT, 0, 0}, EXACTLY(IFLA_NUM_VF, 4),
+    {IFLA_VFINFO_LIST, LIST, FUNCTIONS, 0}, {IFLA_VFINFO_LIST, LIST, FUNCTIONS, 0}, {IFLA_STATS64, FILLED, 0, 200},
+    {IFLA_VF_PORTS, LIST, PORTS, 0}, {IFLA_PORT_SELF, LIST, PORT, 0}, {IFLA_AF_SPEC, BY_FAMILY, 0, 0},
+    {IFLA_AF_SPEC, BY_FAMILY, 0, 0}, EXACTLY(IFLA_GROUP, 4), EXACTLY(IFLA_NET_NS_FD, 4), EXACTLY(IFLA_EXT_MASK, 4),
+    EXACTLY(IFLA_PROMISCUITY, 4), EXACTLY(IFLA_NUM_TX_QUEUES, 4), EXACTLY(IFLA_NUM_RX_QUEUES, 4),
+    EXACTLY(IFLA_CARRIER, 1), {IFLA_PHYS_PORT_ID, BYTES, 0, 0}, EXACTLY(IFLA_CARRIER_CHANGES, 4),
+    {IFLA_PHYS_SWITCH_ID, BYTES, 0, 0}, EXACTLY(IFLA_LINK_NETNSID, 4), {IFLA_PHYS_PORT_NAME, TEXT, 0, 0},
+    EXACTLY(IFLA_PROTO_DOWN, 1), EXACTLY(IFLA_GSO_MAX_SEGS, 4), EXACTLY(IFLA_GSO_MAX_SIZE, 4), {IFLA_XDP, LIST, XDP, 0},
+    EXACTLY(IFLA_EVENT, 4), EXACTLY(IFLA_NEW_NETNSID, 4), EXACTLY(IFLA_IF_NETNSID, 4),
+    EXACTLY(IFLA_CARRIER_UP_COUNT, 4), EXACTLY(IFLA_CARRIER_DOWN_COUNT, 4), EXACTLY(IFLA_NEW_IFINDEX, 4),
+    EXACTLY(IFLA_MIN_MTU, 4), EXACTLY(IFLA_MAX_MTU, 4), {IFLA_PROP_LIST, LIST, PROPS, 0},
+    {IFLA_PERM_ADDRESS, BYTES, 0, 0}, {IFLA_PROTO_DOWN_REASON, LIST, REASONS, 0}, {IFLA_PARENT_DEV_NAME, TEXT, 0, 0},
+    {IFLA_PARENT_DEV_BUS_NAME, TEXT, 0, 0}, EXACTLY(IFLA_GRO_MAX_SIZE, 4), EXACTLY(IFLA_TSO_MAX_SIZE, 4),
+    EXACTLY(IFLA_TSO_MAX_SEGS, 4), EXACTLY(IFLA_ALLMULTI, 4),
+    /* Headers of Linux 6.1 have no name of these. */
+    {62, LIST, DEVLINK, 0}, /* IFLA_DEVLINK_PORT */
+    EXACTLY(63, 4),         /* IFLA_GSO_IPV4_MAX_SIZE */
+    EXACTLY(64, 4),         /* IFLA_GRO_IPV4_MAX_SIZE */
+    {65, LIST, DPLL, 0},    /* IFLA_DPLL_PIN */
+    EXACTLY(67, 1),         /* IFLA_NETNS_IMMUTABLE */
+    EXACTLY(68, 2),         /* IFLA_HEADROOM */
+    EXACTLY(69, 2),         /* IFLA_TAILROOM */
 };
-static const struct line functions_lines[] = {{1, LIST, FUNCTION, 0}};
+static const struct line functions_lines[] = {{IFLA_VF_INFO, LIST, FUNCTION, 0}};
 static const struct line function_lines[] = {
-    {1, AT_LEAST, 0, 36}, {2, AT_LEAST, 0, 12}, {3, AT_LEAST, 0, 8}, {4, AT_LEAST, 0, 8}, {5, AT_LEAST, 0, 8},
-    {6, AT_LEAST, 0, 12}, {7, AT_LEAST, 0, 8}, {8, LIST, COUNTS, 0}, {9, AT_LEAST, 0, 8}, {10, AT_LEAST, 0, 16},
-    {11, AT_LEAST, 0, 16}, {12, LIST, VLANS, 0}, {13, AT_LEAST, 0, 32},
+    {IFLA_VF_MAC, AT_LEAST, 0, sizeof(struct ifla_vf_mac)}, {IFLA_VF_VLAN, AT_LEAST, 0, sizeof(struct ifla_vf_vlan)},
+    {IFLA_VF_TX_RATE, AT_LEAST, 0, sizeof(struct ifla_vf_tx_rate)},
+    {IFLA_VF_SPOOFCHK, AT_LEAST, 0, sizeof(struct ifla_vf_spoofchk)},
+    {IFLA_VF_LINK_STATE, AT_LEAST, 0, sizeof(struct ifla_vf_link_state)},
+    {IFLA_VF_RATE, AT_LEAST, 0, sizeof(struct ifla_vf_rate)},
+    {IFLA_VF_RSS_QUERY_EN, AT_LEAST, 0, sizeof(struct ifla_vf_rss_query_en)}, {IFLA_VF_STATS, LIST, COUNTS, 0},
+    {IFLA_VF_TRUST, AT_LEAST, 0, sizeof(struct ifla_vf_trust)},
+    {IFLA_VF_IB_NODE_GUID, AT_LEAST, 0, sizeof(struct ifla_vf_guid)},
+    {IFLA_VF_IB_PORT_GUID, AT_LEAST, 0, sizeof(struct ifla_vf_guid)}, {IFLA_VF_VLAN_LIST, LIST, VLANS, 0},
+    {IFLA_VF_BROADCAST, AT_LEAST, 0, sizeof(struct ifla_vf_broadcast)},
 };
 static const struct line counts_lines[] = {
-    EXACTLY(0, 8), EXACTLY(1, 8), EXACTLY(2, 8), EXACTLY(3, 8), EXACTLY(4, 8), EXACTLY(5, 8), EXACTLY(7, 8),
-    EXACTLY(8, 8),
+    EXACTLY(IFLA_VF_STATS_RX_PACKETS, 8), EXACTLY(IFLA_VF_STATS_TX_PACKETS, 8), EXACTLY(IFLA_VF_STATS_RX_BYTES, 8),
+    EXACTLY(IFLA_VF_STATS_TX_BYTES, 8), EXACTLY(IFLA_VF_STATS_BROADCAST, 8), EXACTLY(IFLA_VF_STATS_MULTICAST, 8),
+    EXACTLY(IFLA_VF_STATS_RX_DROPPED, 8), EXACTLY(IFLA_VF_STATS_TX_DROPPED, 8),
 };
-static const struct line vlans_lines[] = {{1, AT_LEAST, 0, 16}};
-static const struct line ports_lines[] = {{1, LIST, PORT, 0}};
-static const struct line props_lines[] = {{53, TEXT, 0, 0}};
-static const struct line devlink_lines[] = {{1, TEXT, 0, 0}, {2, TEXT, 0, 0}, EXACTLY(3, 4)};
-static const struct line dpll_lines[] = {EXACTLY(1, 4)};
-static const struct line reasons_lines[] = {EXACTLY(1, 4), EXACTLY(2, 4)};
+static const struct line vlans_lines[] = {{IFLA_VF_VLAN_INFO, AT_LEAST, 0, sizeof(struct ifla_vf_vlan_info)}};
+static const struct line ports_lines[] = {{IFLA_VF_PORT, LIST, PORT, 0}};
+static const struct line props_lines[] = {{IFLA_ALT_IFNAME, TEXT, 0, 0}};
+static const struct line devlink_lines[] = {
+    {DEVLINK_ATTR_BUS_NAME, TEXT, 0, 0}, {DEVLINK_ATTR_DEV_NAME, TEXT, 0, 0}, EXACTLY(DEVLINK_ATTR_PORT_INDEX, 4),
+};
+static const struct line dpll_lines[] = {EXACTLY(1, 4)}; /* DPLL_A_PIN_ID, which headers of Linux 6.1 lack */
+static const struct line reasons_lines[] = {
+    EXACTLY(IFLA_PROTO_DOWN_REASON_MASK, 4), EXACTLY(IFLA_PROTO_DOWN_REASON_VALUE, 4),
+};
 static const struct line xdp_lines[] = {
-    EXACTLY(1, 4), EXACTLY(2, 1), EXACTLY(3, 4), EXACTLY(4, 4), EXACTLY(5, 4), EXACTLY(6, 4), EXACTLY(7, 4),
-    EXACTLY(8, 4),
+    EXACTLY(IFLA_XDP_FD, 4), EXACTLY(IFLA_XDP_ATTACHED, 1), EXACTLY(IFLA_XDP_FLAGS, 4), EXACTLY(IFLA_XDP_PROG_ID, 4),
+    EXACTLY(IFLA_XDP_DRV_PROG_ID, 4), EXACTLY(IFLA_XDP_SKB_PROG_ID, 4), EXACTLY(IFLA_XDP_HW_PROG_ID, 4),
+    EXACTLY(IFLA_XDP_EXPECTED_FD, 4),
 };
-static const struct line info_lines[] = {{1, TEXT, 0, 0}};
-static const struct line specs_lines[] = {{2, LIST, INET, 0}, {10, LIST, INET6, 0}, {45, LIST, MCTP, 0}};
-static const struct line inet_lines[] = {{1, FILLED, 0, 136}};
+static const struct line info_lines[] = {{IFLA_INFO_KIND, TEXT, 0, 0}};
+static const struct line specs_lines[] = {
+    {AF_INET, LIST, INET, 0}, {AF_INET6, LIST, INET6, 0}, {AF_MCTP, LIST, MCTP, 0},
+};
+static const struct line inet_lines[] = {{IFLA_INET_CONF, FILLED, 0, 136}};
 static const struct line inet6_lines[] = {
-    EXACTLY(1, 4), {2, FILLED, 0, 240}, {3, FILLED, 0, 312}, {5, FILLED, 0, 16}, {6, FILLED, 0, 56}, EXACTLY(7, 16),
-    EXACTLY(8, 1), EXACTLY(9, 4),
+    EXACTLY(IFLA_INET6_FLAGS, 4), {IFLA_INET6_CONF, FILLED, 0, 240}, {IFLA_INET6_STATS, FILLED, 0, 312},
+    {IFLA_INET6_CACHEINFO, FILLED, 0, sizeof(struct ifla_cacheinfo)}, {IFLA_INET6_ICMP6STATS, FILLED, 0, 56},
+    EXACTLY(IFLA_INET6_TOKEN, 16), EXACTLY(IFLA_INET6_ADDR_GEN_MODE, 1), EXACTLY(IFLA_INET6_RA_MTU, 4),
 };
-static const struct line mctp_lines[] = {EXACTLY(1, 4), EXACTLY(2, 1)};
+static const struct line mctp_lines[] = {EXACTLY(IFLA_MCTP_NET, 4), EXACTLY(2, 1)}; /* IFLA_MCTP_PHYS_BINDING */
 static const struct line any_lines[] = {{1, BYTES, 0, 0}};
 
 #define LINES(lines) {lines, sizeof(lines) / sizeof *(lines)}
@@ -189,9 +230,9 @@ static void add_text(struct text *out) {
 static void add_list(struct text *out, enum place place, size_t most);
 
 static void add_by_family(struct text *out, uint16_t number) {
-    if (number == 26 && out->family == 0) {
+    if (number == IFLA_AF_SPEC && out->family == AF_UNSPEC) {
         add_list(out, SPECS, 4);
-    } else if (out->family == 7 || (number == 12 && out->family == 10)) {
+    } else if (out->family == AF_BRIDGE || (number == IFLA_PROTINFO && out->family == AF_INET6)) {
         add_list(out, ANY, 4);
     } else {
         add(out, below(30));
@@ -199,7 +240,7 @@ static void add_by_family(struct text *out, uint16_t number) {
 }
 
 static void add_payload(struct text *out, const struct line *line) {
-    static const uint16_t commands[] = {0x8c07, 0x8c08, 0x8c01};
+    static const uint16_t commands[] = {IWEVASSOCREQIE, IWEVASSOCRESPIE, IWEVQUAL};
     size_t start = out->len;
     switch (line->shape) {
     case TEXT: add_text(out); break;
@@ -216,8 +257,12 @@ static void add_payload(struct text *out, const struct line *line) {
     }
 }
 
+/* Where the frames of a message start, at each level. */
+static size_t starts[MOST], starts_len;
+
 static void close_frame(struct text *out, size_t start, uint16_t kind) {
     size_t len = out->len - start;
+    starts[starts_len++] = start;
     out->bytes[start] = (uint8_t)len;
     out->bytes[start + 1] = (uint8_t)(len >> 8);
     out->bytes[start + 2] = (uint8_t)kind;
@@ -258,13 +303,15 @@ static void add_many(struct text *out) {
     for (; count > 0; count--) {
         size_t name = out->len;
         out->len += 4;
-        close_frame(out, name, 53);
+        close_frame(out, name, IFLA_ALT_IFNAME);
     }
-    close_frame(out, start, 52);
+    close_frame(out, start, IFLA_PROP_LIST);
 }
 
 static size_t make(uint8_t *bytes) {
-    static const unsigned char families[] = {0, 0, 0, 7, 7, 10, 2, 28};
+    static const unsigned char families[] = {
+        AF_UNSPEC, AF_UNSPEC, AF_UNSPEC, AF_BRIDGE, AF_BRIDGE, AF_INET6, AF_INET, AF_MPLS,
+    };
     struct text out = {bytes, 0, families[below(sizeof families)]};
     add(&out, LINKWIRE_HEADER_SIZE);
     bytes[0] = out.family;
@@ -276,26 +323,44 @@ static size_t make(uint8_t *bytes) {
     return out.len;
 }
 
-/* One byte, a cut, a length, or the end of another message. */
+/* Where frames start after a splice: the first `of_front` as far as `at`, and there what the other message has from
+ * `from` on. */
+static void splice_starts(size_t of_front, size_t at, size_t from) {
+    size_t kept = 0;
+    for (size_t i = 0; i < starts_len; i++) {
+        if (i < of_front ? starts[i] < at : starts[i] >= from) {
+            starts[kept++] = i < of_front ? starts[i] : starts[i] - from + at;
+        }
+    }
+    starts_len = kept;
+}
+
+/* One byte, a cut, a frame's length, or the end of another message. The frames are the last that `starts` was told. */
 static size_t damage(uint8_t *bytes, size_t len) {
     static uint8_t end[MOST];
     switch (len == 0 ? 4 : below(5)) {
     case 0: bytes[below(len)] ^= (uint8_t)(1u << below(8)); return len;
     case 1: bytes[below(len)] = (uint8_t)draw(); return len;
     case 2: return below(len);
-    case 3:
-        if (len >= LINKWIRE_HEADER_SIZE + 4) {
-            size_t at = LINKWIRE_HEADER_SIZE + 4 * below((len - LINKWIRE_HEADER_SIZE) / 4);
-            size_t changed = one_in(3) ? below(8) : (size_t)bytes[at] + below(9) - 4;
+    case 3: {
+        size_t at = starts_len > 0 ? starts[below(starts_len)] : len;
+        if (at + 2 <= len) {
+            size_t near = linkwire_le(bytes + at, 2) + below(9) - 4;
+            size_t changed = one_in(3) ? below(8) : one_in(4) ? below(1 << 16) : near;
             bytes[at] = (uint8_t)changed;
+            bytes[at + 1] = (uint8_t)(changed >> 8);
         }
         return len;
+    }
     default: {
+        size_t of_front = starts_len;
         size_t end_len = make(end), from = below(end_len + 1), at = below(len + 1);
         if (at + end_len - from > MOST) {
+            starts_len = of_front;
             return len;
         }
         memcpy(bytes + at, end + from, end_len - from);
+        splice_starts(of_front, at, from);
         return at + end_len - from;
     }
     }
@@ -326,6 +391,7 @@ struct area {
 };
 
 static struct area area_of_message, area_of_other, area_of_text, area_of_out;
+static struct area *const areas[] = {&area_of_message, &area_of_other, &area_of_text, &area_of_out};
 static int is_low; /* what is placed starts right after a page that cannot be touched, else it ends before one */
 
 static void reserve(struct area *area) {
@@ -367,13 +433,50 @@ static uint8_t *place_out(size_t len) {
 }
 
 static int is_kept(const uint8_t *bytes, size_t len) {
-    static const uint8_t block[64] = {[0 ... 63] = 0x5a};
-    for (; len > sizeof block; len -= sizeof block, bytes += sizeof block) {
-        if (memcmp(bytes, block, sizeof block) != 0) {
-            return 0;
+    return len == 0 || (bytes[0] == 0x5a && memcmp(bytes, bytes + 1, len - 1) == 0);
+}
+
+/* Signals, each of which tells the seed. */
+
+static const struct {
+    int number;
+    const char *means;
+} signals[] = {
+    {SIGSEGV, "an address was touched where no memory is"}, {SIGBUS, "an address was touched where no memory is"},
+    {SIGILL, "an instruction that cannot run"}, {SIGFPE, "a division that has no result"}, {SIGTRAP, "a trap"},
+    {SIGABRT, "an abort, above which a sanitizer's report may stand"}, {SIGALRM, "a call does not return"},
+};
+
+static void on_signal(int number, siginfo_t *info, void *context) {
+    (void)context;
+    for (size_t i = 0; i < sizeof areas / sizeof *areas && (number == SIGSEGV || number == SIGBUS); i++) {
+        if ((uintptr_t)info->si_addr - (uintptr_t)(areas[i]->start - PAGE) < ROOM + 2 * PAGE) {
+            tell("a page was touched that is not the call's");
+            _exit(TOUCHED);
         }
     }
-    return memcmp(bytes, block, len) == 0;
+    for (size_t i = 0; i < sizeof signals / sizeof *signals; i++) {
+        if (signals[i].number == number) {
+            tell(signals[i].means);
+        }
+    }
+    _exit(1);
+}
+
+/* The handler has a stack of its own, so that it tells of one that ran over too. */
+static void handle_signals(void) {
+    static uint8_t stack[1 << 16];
+    const stack_t own = {.ss_sp = stack, .ss_size = sizeof stack};
+    struct sigaction action = {.sa_flags = SA_SIGINFO | SA_ONSTACK};
+    action.sa_sigaction = on_signal;
+    int fails = sigaltstack(&own, NULL);
+    for (size_t i = 0; i < sizeof signals / sizeof *signals; i++) {
+        fails |= sigaction(signals[i].number, &action, NULL);
+    }
+    if (fails) {
+        perror("laws: sigaction");
+        exit(1);
+    }
 }
 
 /* The laws, over a stub of a call that can be put in its place. */
@@ -467,11 +570,19 @@ static void tries_list(const uint8_t *message, size_t len) {
 
 static void tries(uint64_t number) {
     seed = state = number;
+    tried_len = other_len = 0;
+    alarm(SECONDS); /* for this message; one takes some milliseconds at most */
+    starts_len = 0;
     tried_len = make(tried);
     for (size_t times = one_in(2) ? below(4) : 0; times > 0; times--) {
         tried_len = damage(tried, tried_len);
     }
-    other_len = one_in(4) ? make(other) : respell(other, tried, tried_len);
+    if (one_in(4)) {
+        starts_len = 0;
+        other_len = make(other);
+    } else {
+        other_len = respell(other, tried, tried_len);
+    }
     if (one_in(4)) {
         other_len = damage(other, other_len);
     }
@@ -559,12 +670,10 @@ int main(int words, char **word) {
     if (words > 2 + is_timed) {
         first = strtoull(word[2 + is_timed], NULL, 10);
     }
-    signal(SIGSEGV, on_touch);
-    signal(SIGBUS, on_touch);
-    reserve(&area_of_message);
-    reserve(&area_of_other);
-    reserve(&area_of_text);
-    reserve(&area_of_out);
+    for (size_t i = 0; i < sizeof areas / sizeof *areas; i++) {
+        reserve(areas[i]);
+    }
+    handle_signals();
     sees("a read after the message", reads_after, linkwire_canonical);
     sees("a read before the message", reads_before, linkwire_canonical);
     sees("a write into the message", writes_message, linkwire_canonical);
@@ -574,5 +683,6 @@ int main(int words, char **word) {
         tries(first + done++);
     }
     tells_answers(done, done >= 200000);
+    signal(SIGABRT, SIG_DFL); /* what a sanitizer says of memory that leaked is of no one seed */
     return 0;
 }

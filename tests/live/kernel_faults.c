@@ -1,4 +1,5 @@
-/* Preloaded into an example: once, recv fails or gives what a kernel gives seldom. KERNEL_FAULT says which. */
+/* Preloaded into an example: once, recv fails or gives what a kernel gives seldom. KERNEL_FAULT says which. Each send
+ * is told on standard error. */
 #define _GNU_SOURCE
 #include <dlfcn.h>
 #include <errno.h>
@@ -7,6 +8,7 @@
 #include <stdlib.h>
 #include <string.h>
 #include <sys/socket.h>
+#include <unistd.h>
 
 static int is_over;
 
@@ -16,6 +18,9 @@ static void change(struct nlmsghdr *head, const char *fault) {
     } else if (strcmp(fault, "error") == 0) {
         head->nlmsg_type = NLMSG_ERROR;
         *(int *)NLMSG_DATA(head) = -EPERM;
+    } else if (strcmp(fault, "short error") == 0) {
+        head->nlmsg_type = NLMSG_ERROR;
+        head->nlmsg_len = NLMSG_HDRLEN;
     } else if (strcmp(fault, "length") == 0) {
         head->nlmsg_len = 0x7fffffff;
     } else if (strcmp(fault, "refused") == 0) {
@@ -23,8 +28,18 @@ static void change(struct nlmsghdr *head, const char *fault) {
     }
 }
 
+ssize_t send(int fd, const void *bytes, size_t len, int flags) {
+    ssize_t (*own)(int, const void *, size_t, int);
+    *(void **)&own = dlsym(RTLD_NEXT, "send");
+    if (write(STDERR_FILENO, "asked\n", 6) != 6) {
+        return -1;
+    }
+    return own(fd, bytes, len, flags);
+}
+
 ssize_t recv(int fd, void *buffer, size_t len, int flags) {
-    ssize_t (*own)(int, void *, size_t, int) = (ssize_t(*)(int, void *, size_t, int))dlsym(RTLD_NEXT, "recv");
+    ssize_t (*own)(int, void *, size_t, int);
+    *(void **)&own = dlsym(RTLD_NEXT, "recv");
     const char *fault = getenv("KERNEL_FAULT");
     if (fault == NULL || is_over) {
         return own(fd, buffer, len, flags);
@@ -35,9 +50,18 @@ ssize_t recv(int fd, void *buffer, size_t len, int flags) {
         return -1;
     }
     ssize_t found = own(fd, buffer, len, flags);
-    if (found > 0 && (flags & MSG_PEEK) == 0) {
-        is_over = 1;
+    if (found <= 0 || (flags & MSG_PEEK) != 0) {
+        return found;
+    }
+    if (strcmp(fault, "cut off") == 0) { /* news, and no part of a dump */
+        if ((((struct nlmsghdr *)buffer)->nlmsg_flags & NLM_F_MULTI) != 0) {
+            return found;
+        }
+        memset(buffer, 0, (size_t)found);
+        found = (ssize_t)len + 1;
+    } else {
         change(buffer, fault);
     }
+    is_over = 1;
     return found;
 }
