@@ -1,3 +1,4 @@
 pub mod Nesting
 pub mod Pages
+pub mod Values
 pub mod Causes

@@ -1,9 +1,13 @@
 //! An object that is written, member by member.
 
-ghost use Rattle.std.specs.Prelude.{◌≡◌, true, List, [], ◌∷◌, ◌++◌, decimal, OnOk, IfOk};
+ghost use Rattle.std.specs.Prelude.{◌≡◌, true, List, [], ◌∷◌, ◌++◌, map, decimal, OnOk, IfOk};
 ghost use Rattle.std.specs.Fmt.{signed_decimal};
+ghost use Rattle.std.specs.Net.Addr.{ipv6_segments};
+ghost use Rattle.std.specs.Net.Text.{ipv6_text};
+ghost use Rattle.hex.specs.Hex.{encode_lower};
 ghost use Rattle.json.specs.Token.{Token, begin_object, end_object, begin_array, end_array, key, string, number};
 ghost use Rattle.shown.specs.Nesting.{opening, closing};
+ghost use Rattle.shown.specs.Values.{hardware_address, name_or_number};
 ghost use Rattle.shown.specs.Pages.{IsHead, IsWholeText, AddsObject, AddsValue, named, with_comma};
 
 use crate::address::address_text;
@@ -181,25 +185,39 @@ impl Page {
     }
 
     /// Adds bytes as hexadecimal digits.
-    pub fn hex(&mut self, name: &str, bytes: &[u8]) -> Result<(), AllocError> {
+    pub fn hex(&mut self, name: &str, bytes: &[u8]) -> Result<(), AllocError>
+        ensures { OnOk result
+            (AddsValue name.now (string (encode_lower bytes.now)) self.old self.new) }
+    {
         let text = hex::encode(self.alloc, bytes)?;
         self.string(name, text.as_str())
     }
 
     /// Adds a hardware address.
-    pub fn address(&mut self, name: &str, bytes: &[u8]) -> Result<(), AllocError> {
+    pub fn address(&mut self, name: &str, bytes: &[u8]) -> Result<(), AllocError>
+        ensures { OnOk result
+            (AddsValue name.now (string (hardware_address bytes.now)) self.old self.new) }
+    {
         let text = address_text(self.alloc, bytes)?;
         self.string(name, text.as_str())
     }
 
     /// Adds an IPv6 address, as RFC 5952 writes it.
-    pub fn ipv6_address(&mut self, name: &str, address: &Ipv6Addr) -> Result<(), AllocError> {
+    pub fn ipv6_address(&mut self, name: &str, address: &Ipv6Addr) -> Result<(), AllocError>
+        ensures { OnOk result
+            (AddsValue name.now (string (ipv6_text (ipv6_segments address.now)))
+            self.old self.new) }
+    {
         let text = format!(in self.alloc; "{address}")?;
         self.string(name, text.as_str())
     }
 
     /// Adds the name that a number has in a table, or the number where it has none there.
-    pub fn choice(&mut self, name: &str, value: u64, names: &[&str]) -> Result<(), AllocError> {
+    pub fn choice(&mut self, name: &str, value: u64, names: &[&str]) -> Result<(), AllocError>
+        ensures { OnOk result
+            (AddsValue name.now (name_or_number (map (λ text. text.now) names.now) value)
+            self.old self.new) }
+    {
         if value < names.len() as u64 {
             let text = names[value as usize];
             if !text.is_empty() {
