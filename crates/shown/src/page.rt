@@ -7,7 +7,7 @@ ghost use Rattle.std.specs.Net.Text.{ipv6_text};
 ghost use Rattle.hex.specs.Hex.{encode_lower};
 ghost use Rattle.json.specs.Token.{Token, begin_object, end_object, begin_array, end_array, key, string, number};
 ghost use Rattle.shown.specs.Nesting.{opening, closing};
-ghost use Rattle.shown.specs.Values.{hardware_address, name_or_number};
+ghost use Rattle.shown.specs.Values.{hardware_address, name_or_number, flags_of};
 ghost use Rattle.shown.specs.Drafts.{named, empty_object, with_value, with_begun, Ends};
 ghost use Rattle.shown.specs.Pages.{IsHead, IsWholeText, AddsObject, with_comma};
 
@@ -236,20 +236,19 @@ impl Page {
     }
 
     /// Adds a list of the names of the bits that are set, and after them a number of those that have no name.
-    pub fn flags(
-        &mut self,
-        name: &str,
-        bits: u32,
-        names: &[(u32, &str)],
-    ) -> Result<(), AllocError> {
+    pub fn flags(&mut self, name: &str, bits: u32, names: &[(u32, &str)]) -> Result<(), AllocError>
+        ensures { OnOk result
+            (self.new ≡ with_value name.now
+            (flags_of (map (λ row. (row.0, row.1.now)) names.now) bits) self.old) }
+    {
         self.begin(name, Nest::List)?;
         let mut others = bits;
         for i in 0..names.len() {
             let (bit, text) = names[i];
-            if others & bit != 0 {
+            if bits & bit != 0 {
                 self.string("", text)?;
-                others &= !bit;
             }
+            others &= !bit;
         }
         if others != 0 {
             self.number("", others.into())?;

@@ -1,6 +1,6 @@
 use Rattle.std.proofs.Common.{[], ◌∷◌, ◌++◌, get_or, ap, ◌∙◌, lit<, string_bytes}
 use Rattle.shown.specs.Values.{octet_text}
-use Rattle.shown.proofs.Values.{octet_pushed, join_first, join_next}
+use Rattle.shown.proofs.Octets.{octet_pushed, join_first, join_next}
 use Rattle.shown.proofs.address.address_text.Goals as goal
 
 pub loop-i-preserved : goal.loop-i-preserved
