@@ -1,2 +1,5 @@
 pub mod Lines
+pub mod Drafts
 pub mod Pages
+pub mod Octets
+pub mod Flags

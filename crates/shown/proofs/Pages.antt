@@ -12,7 +12,8 @@ use Rattle.json.specs.Written.{Written}
 use Rattle.json.proofs.Printed.Tokens.{print_from-append}
 use Rattle.shown.specs.Nesting.{Spot, due, object, list, after_token, after_tokens, spot_of}
 use Rattle.shown.specs.Nesting.{opening, closing}
-use Rattle.shown.specs.Pages.{IsPlain, IsScalar, IsPage, IsWholeText, IsHead, IsObject, AddsObject, named}
+use Rattle.shown.specs.Pages.{IsPlain, IsScalar, IsPage, IsWholeText, IsHead, IsObject, AddsObject}
+use Rattle.shown.specs.Drafts.{named}
 use Rattle.shown.specs.Pages.{spots_of, with_comma}
 use Rattle.shown.specs.declared.page.Nest.{Nest}
 use Rattle.shown.specs.declared.page.Nest.TheVariants.{Object, List as Items}

@@ -1,3 +1,5 @@
 pub mod Nesting
+pub mod Drafts
 pub mod Pages
+pub mod Values
 pub mod Causes

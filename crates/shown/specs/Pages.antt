@@ -6,7 +6,6 @@ use Rattle.json.specs.Print.{print, ends}
 use Rattle.json.specs.Written.{Written}
 use Rattle.shown.specs.Nesting.{Spot, due, object, after_value, after_token, after_tokens, IsValue, spot_of}
 use Rattle.shown.specs.declared.page.Nest.{Nest}
-use Rattle.shown.specs.declared.page.Nest.TheVariants.{Object, List as Items}
 
 -- each byte is printed on the line
 abbrev pub IsOneLine : List ℕ → Type 0
@@ -26,15 +25,6 @@ pub record IsPage (ts : List Token) (inside : Nest) (outer : List Nest) : Type 0
   pub first : (members : List Token) × (ts ≡ begin_object ∷ members)
   pub nested : after_tokens (due ∷ []) ts ≡ Some (spot_of inside ∷ spots_of outer)
   pub plain : All IsPlain ts
-
--- the tokens with a name after them, where one is due
-abbrev pub named : Nest → List ℕ → List Token → List Token
-named Object name ts = ts ++ key name ∷ []
-named Items name ts = ts
-
--- a value was added, after its name where one was due
-abbrev pub AddsValue : List ℕ → Token → List Token → List Token → Type 0
-AddsValue name t old new = (inside : Nest) × (new ≡ named inside name old ++ t ∷ [])
 
 -- the text of an object
 pub record IsWholeText (text : List ℕ) : Type 0 where

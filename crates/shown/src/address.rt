@@ -1,5 +1,8 @@
 //! Hardware addresses.
 
+ghost use Rattle.std.specs.Prelude.{◌≡◌, IfOk, string_bytes};
+ghost use Rattle.shown.specs.Values.{hardware_address};
+
 use std::alloc::{AllocError, Global};
 
 const DIGITS: [char; 16] = [
@@ -7,7 +10,9 @@ const DIGITS: [char; 16] = [
 ];
 
 /// Two digits for each byte, with colons between them.
-pub(crate) fn address_text(alloc: Global, bytes: &[u8]) -> Result<String, AllocError> {
+pub(crate) fn address_text(alloc: Global, bytes: &[u8]) -> Result<String, AllocError>
+    ensures { IfOk result (λ text. string_bytes text ≡ hardware_address bytes.now) }
+{
     let mut text = String::new(alloc);
     for (i, byte) in bytes.iter().enumerate() {
         if i > 0 {

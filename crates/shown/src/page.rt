@@ -1,10 +1,15 @@
 //! An object that is written, member by member.
 
-ghost use Rattle.std.specs.Prelude.{◌≡◌, true, List, [], ◌∷◌, ◌++◌, decimal, OnOk, IfOk};
+ghost use Rattle.std.specs.Prelude.{◌≡◌, true, List, [], ◌∷◌, ◌++◌, map, decimal, OnOk, IfOk};
 ghost use Rattle.std.specs.Fmt.{signed_decimal};
+ghost use Rattle.std.specs.Net.Addr.{ipv6_segments};
+ghost use Rattle.std.specs.Net.Text.{ipv6_text};
+ghost use Rattle.hex.specs.Hex.{encode_lower};
 ghost use Rattle.json.specs.Token.{Token, begin_object, end_object, begin_array, end_array, key, string, number};
 ghost use Rattle.shown.specs.Nesting.{opening, closing};
-ghost use Rattle.shown.specs.Pages.{IsHead, IsWholeText, AddsObject, AddsValue, named, with_comma};
+ghost use Rattle.shown.specs.Values.{hardware_address, name_or_number, flags_of};
+ghost use Rattle.shown.specs.Drafts.{named, empty_object, with_value, with_begun, Ends};
+ghost use Rattle.shown.specs.Pages.{IsHead, IsWholeText, AddsObject, with_comma};
 
 use crate::address::address_text;
 use json::Writer;
@@ -34,14 +39,18 @@ pub struct Page {
 
 impl Model for Page {
     ghost use Rattle.std.specs.Prelude.{◌≡◌, true, List, []};
-    ghost use Rattle.json.specs.Token.{Token, tokens_code};
+    ghost use Rattle.shown.specs.Drafts.{Draft, draft_code};
     ghost use Rattle.shown.specs.Pages.{IsPage};
 
-    ghost Value = { List Token };
+    ghost Value = { Draft };
 
-    ghost coded = { tokens_code };
+    ghost coded = { draft_code };
 
-    ghost view = { λ page. page.writer.tokens };
+    ghost view = { λ page. record {
+      tokens = page.writer.tokens;
+      inside = page.inside;
+      outer = page.outer.items;
+    } };
 
     ghost invariant = { λ page. (page.writer.before ≡ [])
         × (page.whole ≡ true → IsPage page.writer.tokens page.inside page.outer.items) };
@@ -93,7 +102,7 @@ fn put_rest(out: &mut Vec<u8>, rest: &[u8]) -> Result<(), AllocError>
 impl Page {
     /// An object with no member.
     pub fn new(alloc: Global) -> Result<Page, AllocError>
-        ensures { IfOk result (λ page. page ≡ begin_object ∷ []) }
+        ensures { IfOk result (λ page. page ≡ empty_object) }
     {
         let mut writer = Writer::new(Vec::new(alloc));
         writer.begin_object()?;
@@ -108,7 +117,7 @@ impl Page {
 
     /// Adds a text.
     pub fn string(&mut self, name: &str, text: &str) -> Result<(), AllocError>
-        ensures { OnOk result (AddsValue name.now (string text.now) self.old self.new) }
+        ensures { OnOk result (self.new ≡ with_value name.now (string text.now ∷ []) self.old) }
     {
         if !self.whole {
             return Err(AllocError);
@@ -122,7 +131,8 @@ impl Page {
 
     /// Adds a number.
     pub fn number(&mut self, name: &str, value: u64) -> Result<(), AllocError>
-        ensures { OnOk result (AddsValue name.now (number (decimal value)) self.old self.new) }
+        ensures { OnOk result
+            (self.new ≡ with_value name.now (number (decimal value) ∷ []) self.old) }
     {
         if !self.whole {
             return Err(AllocError);
@@ -137,7 +147,7 @@ impl Page {
     /// Adds a number that may be below zero.
     pub fn signed(&mut self, name: &str, value: i64) -> Result<(), AllocError>
         ensures { OnOk result
-            (AddsValue name.now (number (signed_decimal value)) self.old self.new) }
+            (self.new ≡ with_value name.now (number (signed_decimal value) ∷ []) self.old) }
     {
         if !self.whole {
             return Err(AllocError);
@@ -151,7 +161,7 @@ impl Page {
 
     /// Begins an object or a list, to which what is added goes from then on.
     pub fn begin(&mut self, name: &str, nest: Nest) -> Result<(), AllocError>
-        ensures { OnOk result (AddsValue name.now (opening nest) self.old self.new) }
+        ensures { OnOk result (self.new ≡ with_begun name.now nest self.old) }
     {
         if !self.whole {
             return Err(AllocError);
@@ -166,7 +176,9 @@ impl Page {
     }
 
     /// Ends the innermost object or list that was begun; where none is open, nothing happens.
-    pub fn end(&mut self) -> Result<(), AllocError> {
+    pub fn end(&mut self) -> Result<(), AllocError>
+        ensures { OnOk result (Ends self.old self.new) }
+    {
         if !self.whole {
             return Err(AllocError);
         }
@@ -181,25 +193,39 @@ impl Page {
     }
 
     /// Adds bytes as hexadecimal digits.
-    pub fn hex(&mut self, name: &str, bytes: &[u8]) -> Result<(), AllocError> {
+    pub fn hex(&mut self, name: &str, bytes: &[u8]) -> Result<(), AllocError>
+        ensures { OnOk result
+            (self.new ≡ with_value name.now (string (encode_lower bytes.now) ∷ []) self.old) }
+    {
         let text = hex::encode(self.alloc, bytes)?;
         self.string(name, text.as_str())
     }
 
     /// Adds a hardware address.
-    pub fn address(&mut self, name: &str, bytes: &[u8]) -> Result<(), AllocError> {
+    pub fn address(&mut self, name: &str, bytes: &[u8]) -> Result<(), AllocError>
+        ensures { OnOk result
+            (self.new ≡ with_value name.now (string (hardware_address bytes.now) ∷ []) self.old) }
+    {
         let text = address_text(self.alloc, bytes)?;
         self.string(name, text.as_str())
     }
 
     /// Adds an IPv6 address, as RFC 5952 writes it.
-    pub fn ipv6_address(&mut self, name: &str, address: &Ipv6Addr) -> Result<(), AllocError> {
+    pub fn ipv6_address(&mut self, name: &str, address: &Ipv6Addr) -> Result<(), AllocError>
+        ensures { OnOk result
+            (self.new ≡ with_value name.now (string (ipv6_text (ipv6_segments address.now)) ∷ [])
+            self.old) }
+    {
         let text = format!(in self.alloc; "{address}")?;
         self.string(name, text.as_str())
     }
 
     /// Adds the name that a number has in a table, or the number where it has none there.
-    pub fn choice(&mut self, name: &str, value: u64, names: &[&str]) -> Result<(), AllocError> {
+    pub fn choice(&mut self, name: &str, value: u64, names: &[&str]) -> Result<(), AllocError>
+        ensures { OnOk result
+            (self.new ≡ with_value name.now
+            (name_or_number (map (λ text. text.now) names.now) value ∷ []) self.old) }
+    {
         if value < names.len() as u64 {
             let text = names[value as usize];
             if !text.is_empty() {
@@ -210,20 +236,19 @@ impl Page {
     }
 
     /// Adds a list of the names of the bits that are set, and after them a number of those that have no name.
-    pub fn flags(
-        &mut self,
-        name: &str,
-        bits: u32,
-        names: &[(u32, &str)],
-    ) -> Result<(), AllocError> {
+    pub fn flags(&mut self, name: &str, bits: u32, names: &[(u32, &str)]) -> Result<(), AllocError>
+        ensures { OnOk result
+            (self.new ≡ with_value name.now
+            (flags_of (map (λ row. (row.0, row.1.now)) names.now) bits) self.old) }
+    {
         self.begin(name, Nest::List)?;
         let mut others = bits;
         for i in 0..names.len() {
             let (bit, text) = names[i];
-            if others & bit != 0 {
+            if bits & bit != 0 {
                 self.string("", text)?;
-                others &= !bit;
             }
+            others &= !bit;
         }
         if others != 0 {
             self.number("", others.into())?;

@@ -1,0 +1,57 @@
+-- What values are written as.
+use Rattle.std.specs.Prelude.{ℕ, ◌/◌, ◌%◌, ◌==◌, ◌++◌, List, [], ◌∷◌, get_or, map, slice_index, codes, decimal}
+use Rattle.std.specs.Prelude.{cond, not, bit_and}
+use Rattle.std.specs.Int.{bit_not, w32}
+use Rattle.std.specs.List.{fold, filter, join_by}
+use Rattle.hex.specs.Hex.{encode_lower, lower_digits}
+use Rattle.json.specs.Token.{Token, string, number}
+use Rattle.shown.specs.Drafts.{Members, list_of}
+
+-- an octet's two digits
+abbrev pub octet_text : ℕ → List ℕ
+octet_text octet = slice_index lower_digits (octet / 16) ∷ slice_index lower_digits (octet % 16) ∷ []
+
+-- a hardware address, with a colon between each two octets
+abbrev pub hardware_address : List ℕ → List ℕ
+hardware_address octets = join_by octet_text (codes ":") octets
+
+-- a name where there is one, and else the number
+abbrev pub name_else_number : List ℕ → ℕ → Token
+name_else_number [] value = number (decimal value)
+name_else_number (x ∷ name) value = string (x ∷ name)
+
+-- the name at the number's place in a table, or the number where none is there
+abbrev pub name_or_number : List (List ℕ) → ℕ → Token
+name_or_number names value = name_else_number (get_or names value []) value
+
+-- a table of bits and their names
+abbrev pub BitNames : Type 0
+BitNames = List (ℕ × List ℕ)
+
+-- the names of the bits that are set, in the table's order
+abbrev pub names_set : BitNames → ℕ → List (List ℕ)
+names_set table bits = map (λ row. row.1) (filter (λ row. not (bit_and bits row.0 == 0)) table)
+
+-- the bits that have no name in the table
+abbrev pub bits_unnamed : BitNames → ℕ → ℕ
+bits_unnamed table bits = fold (λ left row. bit_and left (bit_not w32 row.0)) bits table
+
+-- a number where it is not 0
+abbrev pub unless_zero : ℕ → List Token
+unless_zero value = cond (value == 0) [] (number (decimal value) ∷ [])
+
+-- flags: a list of the names of the bits that are set, and a number of those without a name
+abbrev pub flags_of : BitNames → ℕ → List Token
+flags_of table bits = list_of (map string (names_set table bits) ++ unless_zero (bits_unnamed table bits))
+
+-- the names of the two flags of an attribute's frame
+abbrev pub frame_flags : BitNames
+frame_flags = (0x8000, codes "nested") ∷ (0x4000, codes "net-byteorder") ∷ []
+
+-- an attribute as it is: its number, its flags, and its payload in hexadecimal
+abbrev pub frame_members : ℕ → List ℕ → Members
+frame_members kind payload =
+    (codes "number", number (decimal (bit_and kind 0x3fff)) ∷ [])
+    ∷ (codes "flags", flags_of frame_flags (bit_and kind 0xc000))
+    ∷ (codes "payload", string (encode_lower payload) ∷ [])
+    ∷ []
