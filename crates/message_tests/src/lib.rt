@@ -4,10 +4,6 @@
 #[cfg(test)]
 mod attribute_values;
 #[cfg(test)]
-mod attributes_alone;
-#[cfg(test)]
-mod copies;
-#[cfg(test)]
 mod damaged_lists;
 #[cfg(test)]
 mod empty_ports;
@@ -23,8 +19,6 @@ mod longer_records;
 mod longest_messages;
 #[cfg(test)]
 mod messages;
-#[cfg(test)]
-mod names;
 #[cfg(test)]
 mod refused_messages;
 #[cfg(test)]
