@@ -1,5 +1,11 @@
 //! Records of numbers of one width, by the names of their fields.
 
+ghost use Rattle.std.specs.Prelude.{◌≡◌, ◌/◌, OnOk, length, map};
+ghost use Rattle.std.specs.Int.{w32, w64};
+ghost use Rattle.nla_wire.specs.Fields.{numbers_from, signed_from};
+ghost use Rattle.shown.specs.Drafts.{with_members};
+ghost use Rattle.linkshow.specs.Records.{numbers_of, signed_of};
+
 use crate::names::{CACHE_INFO, ICMP6_STATS, INET_CONF, INET6_CONF, INET6_STATS, STATS};
 use link_msg::{
     Icmp6Stats, Inet6CacheInfo, Inet6DevConf, Inet6Stats, InetDevConf, Map, Stats, Stats64,
@@ -11,48 +17,39 @@ use link_recs::inet6_icmp::ICMP6_STATS_SIZE;
 use link_recs::inet6_stats::INET6_STATS_SIZE;
 use link_recs::stats::STATS_SIZE;
 use link_recs::stats64::STATS64_SIZE;
+use nla_wire::fields::{i32_at, u32_at, u64_at};
 use shown::{Nest, Page};
 use std::alloc::AllocError;
 
 /// Adds numbers of four bytes, as far as there are names.
-fn show_u32s(page: &mut Page, names: &[&str], bytes: &[u8]) -> Result<(), AllocError> {
-    let mut rest = bytes;
-    for i in 0..names.len() {
-        let [a, b, c, d, more @ ..] = rest else {
-            return Ok(());
-        };
-        page.number(names[i], u32::from_le_bytes([*a, *b, *c, *d]).into())?;
-        rest = more;
+fn show_u32s(page: &mut Page, names: &[&str], bytes: &[u8]) -> Result<(), AllocError>
+    ensures { OnOk result (page.new ≡ with_members (numbers_of (map (λ name. name.now) names.now)
+        (numbers_from w32 bytes.now 0 (length bytes.now / 4))) page.old) }
+{
+    for i in 0..names.len().min(bytes.len() / 4) {
+        page.number(names[i], u32_at(&bytes[4 * i..], 0).into())?;
     }
     Ok(())
 }
 
 /// Adds numbers of four bytes that may be below zero, as far as there are names.
-fn show_i32s(page: &mut Page, names: &[&str], bytes: &[u8]) -> Result<(), AllocError> {
-    let mut rest = bytes;
-    for i in 0..names.len() {
-        let [a, b, c, d, more @ ..] = rest else {
-            return Ok(());
-        };
-        let number = i32::from_le_bytes([*a, *b, *c, *d]);
-        page.signed(names[i], number.into())?;
-        rest = more;
+fn show_i32s(page: &mut Page, names: &[&str], bytes: &[u8]) -> Result<(), AllocError>
+    ensures { OnOk result (page.new ≡ with_members (signed_of (map (λ name. name.now) names.now)
+        (signed_from w32 bytes.now 0 (length bytes.now / 4))) page.old) }
+{
+    for i in 0..names.len().min(bytes.len() / 4) {
+        page.signed(names[i], i32_at(&bytes[4 * i..], 0).into())?;
     }
     Ok(())
 }
 
 /// Adds numbers of eight bytes, as far as there are names.
-fn show_u64s(page: &mut Page, names: &[&str], bytes: &[u8]) -> Result<(), AllocError> {
-    let mut rest = bytes;
-    for i in 0..names.len() {
-        let [a, b, c, d, e, f, g, h, more @ ..] = rest else {
-            return Ok(());
-        };
-        page.number(
-            names[i],
-            u64::from_le_bytes([*a, *b, *c, *d, *e, *f, *g, *h]),
-        )?;
-        rest = more;
+fn show_u64s(page: &mut Page, names: &[&str], bytes: &[u8]) -> Result<(), AllocError>
+    ensures { OnOk result (page.new ≡ with_members (numbers_of (map (λ name. name.now) names.now)
+        (numbers_from w64 bytes.now 0 (length bytes.now / 8))) page.old) }
+{
+    for i in 0..names.len().min(bytes.len() / 8) {
+        page.number(names[i], u64_at(&bytes[8 * i..], 0))?;
     }
     Ok(())
 }
