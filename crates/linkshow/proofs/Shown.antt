@@ -1,6 +1,6 @@
 -- Members that are added one after another.
-use Rattle.std.proofs.Common.{◌≡◌, ℕ, zero, suc, ◌+◌, ◌*◌, ◌/◌, ◌<◌, ◌≤◌, min, List, [], ◌∷◌, length, take, drop, get_or}
-use Rattle.std.proofs.Common.{◌-◌, sym, ap, ◌∙◌, Bor, arith}
+use Rattle.std.proofs.Common.{◌≡◌, ℕ, zero, suc, ◌+◌, ◌*◌, ◌/◌, ◌<◌, ◌≤◌, min, List, [], ◌∷◌, length, take, drop}
+use Rattle.std.proofs.Common.{get_or, ◌-◌, sym, ap, ◌∙◌, Bor, arith}
 use Rattle.std.specs.Prelude.{ℤ, map}
 use Rattle.std.specs.Int.{Width, byte_len, cast_signed}
 use Rattle.std.specs.List.{zip}
