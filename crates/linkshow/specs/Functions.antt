@@ -8,6 +8,9 @@ use Rattle.link_vals.specs.declared.vlan_protocol.VlanProtocol.TheVariants.{Ieee
 use Rattle.link_vf.specs.declared.stats.VfStats.{VfStats}
 use Rattle.link_vf.specs.declared.stats.VfStats.TheVariants.{RxPackets, TxPackets, RxBytes, TxBytes, Broadcast}
 use Rattle.link_vf.specs.declared.stats.VfStats.TheVariants.{Multicast, RxDropped, TxDropped, Other}
+use Rattle.link_vf.specs.declared.vf_port.VfPort.{VfPort}
+use Rattle.link_vf.specs.declared.vf_vlan.VfVlan.{VfVlan}
+use Rattle.link_vf.specs.declared.vf_vlan.VfVlan.TheVariants as Vlans
 use Rattle.link_vfrec.specs.Truth.{on_number}
 use Rattle.link_vfrec.specs.declared.guid.VfInfoGuid.{VfInfoGuid}
 use Rattle.link_vfrec.specs.declared.link_state.VfInfoLinkState.{VfInfoLinkState}
@@ -16,7 +19,7 @@ use Rattle.link_vfrec.specs.declared.rate.VfInfoRate.{VfInfoRate}
 use Rattle.link_vfrec.specs.declared.vf_vlan.VfVlanInfo.{VfVlanInfo}
 use Rattle.link_vfrec.specs.declared.vlan.VfInfoVlan.{VfInfoVlan}
 use Rattle.shown.specs.Causes.{numbered}
-use Rattle.shown.specs.Drafts.{Members}
+use Rattle.shown.specs.Drafts.{Members, object_of}
 use Rattle.shown.specs.Values.{name_or_number}
 
 -- a function, and one number of it
@@ -79,3 +82,12 @@ vf_stats_shown (Multicast n) = numbered (codes "multicast") n ∷ []
 vf_stats_shown (RxDropped n) = numbered (codes "rx-dropped") n ∷ []
 vf_stats_shown (TxDropped n) = numbered (codes "tx-dropped") n ∷ []
 vf_stats_shown (Other _) = []
+
+-- a vlan of a list
+abbrev pub vf_vlan_shown : VfVlan → Members
+vf_vlan_shown (Vlans.Info info) = (codes "info", object_of (vlan_info_shown info)) ∷ []
+vf_vlan_shown (Vlans.Other _) = []
+
+-- of a port every attribute is kept as it is
+abbrev pub vf_port_shown : VfPort → Members
+vf_port_shown _ = []

@@ -4,6 +4,7 @@ ghost use Rattle.std.specs.Prelude.{◌≡◌, OnOk, codes};
 ghost use Rattle.shown.specs.Drafts.{with_members, with_value, object_of};
 ghost use Rattle.linkshow.specs.Functions.{word_shown, setting_shown, mac_shown, vlan_shown, link_state_shown};
 ghost use Rattle.linkshow.specs.Functions.{rate_shown, guid_shown, vlan_protocol_name, vlan_info_shown, vf_stats_shown};
+ghost use Rattle.linkshow.specs.Functions.{vf_vlan_shown, vf_port_shown};
 
 use crate::member::{Member, frame_of, show_listed, show_object};
 use crate::names::VF_LINK_STATES;
@@ -46,7 +47,9 @@ impl Member for VfPort {
         frame_of(nla)
     }
 
-    fn show(&self, _page: &mut Page) -> Result<(), AllocError> {
+    fn show(&self, _page: &mut Page) -> Result<(), AllocError>
+        ensures { OnOk result (_page.new ≡ with_members (vf_port_shown self.now) _page.old) }
+    {
         Ok(())
     }
 }
@@ -168,7 +171,9 @@ impl Member for VfVlan {
         }
     }
 
-    fn show(&self, page: &mut Page) -> Result<(), AllocError> {
+    fn show(&self, page: &mut Page) -> Result<(), AllocError>
+        ensures { OnOk result (page.new ≡ with_members (vf_vlan_shown self.now) page.old) }
+    {
         match self {
             VfVlan::Info(info) => show_vlan_info(page, info),
             VfVlan::Other(_) => Ok(()),
