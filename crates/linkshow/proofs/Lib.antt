@@ -1,3 +1,5 @@
 mod Added
 mod Faults
 mod Shown
+mod Counters
+mod Named

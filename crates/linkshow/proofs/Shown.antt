@@ -137,3 +137,13 @@ signed_done w bytes table n end i old page e l is =
       e,
       l,
     )) is
+
+pub numbers_then : (names : List (List ℕ)) (ns ms : List ℕ) (page so_far new : Draft)
+    → new ≡ with_members (numbers_of names ns) page → ns ≡ ms → page ≡ so_far
+    → new ≡ with_members (numbers_of names ms) so_far
+numbers_then names ns ms page so_far new is same was = is ∙ (λ k. with_members (numbers_of names (same k)) (was k))
+
+pub signed_then : (names : List (List ℕ)) (zs ys : List ℤ) (page so_far new : Draft)
+    → new ≡ with_members (signed_of names zs) page → zs ≡ ys → page ≡ so_far
+    → new ≡ with_members (signed_of names ys) so_far
+signed_then names zs ys page so_far new is same was = is ∙ (λ k. with_members (signed_of names (same k)) (was k))

@@ -1,4 +1,9 @@
 pub mod Lines
 pub mod Answered
 pub mod Records
+pub mod Counters
+pub mod Functions
+pub mod Nests
+pub mod Settings
+pub mod Attributes
 pub mod Laws

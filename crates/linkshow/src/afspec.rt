@@ -1,5 +1,11 @@
 //! Settings by family.
 
+ghost use Rattle.std.specs.Prelude.{◌≡◌, [], ◌∷◌, OnOk, codes};
+ghost use Rattle.link_vals.specs.MctpPhysBindingTable.{mctp_phys_binding_number};
+ghost use Rattle.shown.specs.Drafts.{with_members, with_value};
+ghost use Rattle.linkshow.specs.Nests.{af_spec_bridge_shown};
+ghost use Rattle.linkshow.specs.Settings.{inet_shown, inet6_shown, mctp_shown, binding_token};
+
 use crate::counts::{
     show_cache_info, show_icmp6_stats, show_inet_conf, show_inet6_conf, show_inet6_stats,
 };
@@ -33,7 +39,9 @@ impl Member for AfSpecBridge {
         frame_of(nla)
     }
 
-    fn show(&self, _page: &mut Page) -> Result<(), AllocError> {
+    fn show(&self, _page: &mut Page) -> Result<(), AllocError>
+        ensures { OnOk result (_page.new ≡ with_members (af_spec_bridge_shown self.now) _page.old) }
+    {
         Ok(())
     }
 }
@@ -46,7 +54,9 @@ impl Member for AfSpecInet {
         }
     }
 
-    fn show(&self, page: &mut Page) -> Result<(), AllocError> {
+    fn show(&self, page: &mut Page) -> Result<(), AllocError>
+        ensures { OnOk result (page.new ≡ with_members (inet_shown self.now) page.old) }
+    {
         match self {
             AfSpecInet::DevConf(conf) | AfSpecInet::DevConfRequest(conf) => {
                 show_inet_conf(page, "conf", conf)
@@ -64,7 +74,9 @@ impl Member for AfSpecInet6 {
         }
     }
 
-    fn show(&self, page: &mut Page) -> Result<(), AllocError> {
+    fn show(&self, page: &mut Page) -> Result<(), AllocError>
+        ensures { OnOk result (page.new ≡ with_members (inet6_shown self.now) page.old) }
+    {
         match self {
             AfSpecInet6::Flags(flags) => page.flags("flags", flags.bits(), &INET6_FLAGS),
             AfSpecInet6::CacheInfo(info) => show_cache_info(page, "cacheinfo", info),
@@ -89,7 +101,9 @@ impl Member for AfSpecMctp {
         }
     }
 
-    fn show(&self, page: &mut Page) -> Result<(), AllocError> {
+    fn show(&self, page: &mut Page) -> Result<(), AllocError>
+        ensures { OnOk result (page.new ≡ with_members (mctp_shown self.now) page.old) }
+    {
         match self {
             AfSpecMctp::Net(n) => page.number("net", (*n).into()),
             AfSpecMctp::PhysBinding(binding) => show_binding(page, binding),
@@ -98,7 +112,10 @@ impl Member for AfSpecMctp {
     }
 }
 
-fn show_binding(page: &mut Page, binding: &MctpPhysBinding) -> Result<(), AllocError> {
+fn show_binding(page: &mut Page, binding: &MctpPhysBinding) -> Result<(), AllocError>
+    ensures { OnOk result (page.new ≡ with_value (codes "phys-binding")
+        (binding_token (mctp_phys_binding_number binding.now) ∷ []) page.old) }
+{
     let name = "phys-binding";
     match u8::from(binding) {
         255 => page.string(name, "vendor"),

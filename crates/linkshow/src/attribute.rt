@@ -1,5 +1,13 @@
 //! The header, and the attributes of a link.
 
+ghost use Rattle.std.specs.Prelude.{◌≡◌, [], ◌∷◌, OnOk, min, take, option_map};
+ghost use Rattle.hex.specs.Hex.{encode_lower};
+ghost use Rattle.json.specs.Token.{string};
+ghost use Rattle.shown.specs.Drafts.{with_value};
+ghost use Rattle.shown.specs.Values.{flags_of};
+ghost use Rattle.linkshow.specs.Attributes.{word_in, number_in, signed_in, text_in};
+ghost use Rattle.linkshow.specs.Attributes.{address_in, ext_mask_names, bits_of};
+
 use crate::counts::{show_map, show_stats, show_stats64};
 use crate::member::{Member, frame_of, show_listed, show_object};
 use crate::names::{ATTRIBUTES, EVENTS, EXT_MASK, LINK_FLAGS, LINK_MODES, OPERSTATES};
@@ -57,7 +65,9 @@ fn name_of(attribute: &LinkAttribute) -> &'static str {
 }
 
 /// A number, of any size.
-fn number_of(attribute: &LinkAttribute) -> Option<u64> {
+fn number_of(attribute: &LinkAttribute) -> Option<u64>
+    ensures { result ≡ number_in attribute.now }
+{
     if let Some(number) = word_of(attribute) {
         return Some(number.into());
     }
@@ -70,7 +80,9 @@ fn number_of(attribute: &LinkAttribute) -> Option<u64> {
 }
 
 /// A number of four bytes.
-fn word_of(attribute: &LinkAttribute) -> Option<u32> {
+fn word_of(attribute: &LinkAttribute) -> Option<u32>
+    ensures { result ≡ word_in attribute.now }
+{
     match attribute {
         LinkAttribute::Mtu(n)
         | LinkAttribute::Link(n)
@@ -99,7 +111,9 @@ fn word_of(attribute: &LinkAttribute) -> Option<u32> {
     }
 }
 
-fn signed_of(attribute: &LinkAttribute) -> Option<i32> {
+fn signed_of(attribute: &LinkAttribute) -> Option<i32>
+    ensures { result ≡ signed_in attribute.now }
+{
     match attribute {
         LinkAttribute::NetNsFd(n)
         | LinkAttribute::LinkNetNsId(n)
@@ -110,7 +124,9 @@ fn signed_of(attribute: &LinkAttribute) -> Option<i32> {
     }
 }
 
-fn text_of(attribute: &LinkAttribute) -> Option<&str> {
+fn text_of(attribute: &LinkAttribute) -> Option<&str>
+    ensures { option_map (λ text. text.now) result ≡ text_in attribute.now }
+{
     match attribute {
         LinkAttribute::IfName(text)
         | LinkAttribute::Qdisc(text)
@@ -122,7 +138,9 @@ fn text_of(attribute: &LinkAttribute) -> Option<&str> {
     }
 }
 
-fn address_of(attribute: &LinkAttribute) -> Option<&[u8]> {
+fn address_of(attribute: &LinkAttribute) -> Option<&[u8]>
+    ensures { option_map (λ bytes. bytes.now) result ≡ address_in attribute.now }
+{
     match attribute {
         LinkAttribute::Address(bytes)
         | LinkAttribute::Broadcast(bytes)
@@ -168,7 +186,10 @@ fn show_list(page: &mut Page, name: &str, attribute: &LinkAttribute) -> Result<(
     }
 }
 
-fn show_mask(page: &mut Page, name: &str, masks: &[LinkExtentMask]) -> Result<(), AllocError> {
+fn show_mask(page: &mut Page, name: &str, masks: &[LinkExtentMask]) -> Result<(), AllocError>
+    ensures { OnOk result
+        (page.new ≡ with_value name.now (flags_of ext_mask_names (bits_of masks.now)) page.old) }
+{
     let mut bits = 0;
     for mask in masks {
         bits |= u32::from(*mask);
@@ -176,6 +197,9 @@ fn show_mask(page: &mut Page, name: &str, masks: &[LinkExtentMask]) -> Result<()
     page.flags(name, bits, &EXT_MASK)
 }
 
-fn show_id(page: &mut Page, name: &str, id: &LinkPhysId) -> Result<(), AllocError> {
+fn show_id(page: &mut Page, name: &str, id: &LinkPhysId) -> Result<(), AllocError>
+    ensures { OnOk result (page.new ≡ with_value name.now
+        (string (encode_lower (take (min id.now.len 32) id.now.id)) ∷ []) page.old) }
+{
     page.hex(name, &id.id[..id.len.min(32)])
 }

@@ -1,5 +1,11 @@
 //! Inner lists of attributes, and wireless events.
 
+ghost use Rattle.std.specs.Prelude.{◌≡◌, OnOk};
+ghost use Rattle.shown.specs.Drafts.{with_members, with_value, object_of};
+ghost use Rattle.linkshow.specs.Nests.{link_info_shown, prop_shown, devlink_port_shown, dpll_pin_shown};
+ghost use Rattle.linkshow.specs.Nests.{down_reason_shown, xdp_shown, bridge_shown, proto_inet6_shown};
+ghost use Rattle.linkshow.specs.Nests.{wireless_shown};
+
 use crate::member::{Member, frame_of};
 use crate::names::XDP_ATTACHED;
 use link_msg::{
@@ -17,7 +23,9 @@ impl Member for LinkInfo {
         }
     }
 
-    fn show(&self, page: &mut Page) -> Result<(), AllocError> {
+    fn show(&self, page: &mut Page) -> Result<(), AllocError>
+        ensures { OnOk result (page.new ≡ with_members (link_info_shown self.now) page.old) }
+    {
         match self {
             LinkInfo::Kind(text) => page.string("kind", text.as_str()),
             LinkInfo::Other(_) => Ok(()),
@@ -33,7 +41,9 @@ impl Member for Prop {
         }
     }
 
-    fn show(&self, page: &mut Page) -> Result<(), AllocError> {
+    fn show(&self, page: &mut Page) -> Result<(), AllocError>
+        ensures { OnOk result (page.new ≡ with_members (prop_shown self.now) page.old) }
+    {
         match self {
             Prop::AltIfName(text) => page.string("alt-ifname", text.as_str()),
             Prop::Other(_) => Ok(()),
@@ -49,7 +59,9 @@ impl Member for DevlinkPort {
         }
     }
 
-    fn show(&self, page: &mut Page) -> Result<(), AllocError> {
+    fn show(&self, page: &mut Page) -> Result<(), AllocError>
+        ensures { OnOk result (page.new ≡ with_members (devlink_port_shown self.now) page.old) }
+    {
         match self {
             DevlinkPort::BusName(text) => page.string("bus-name", text.as_str()),
             DevlinkPort::DevName(text) => page.string("dev-name", text.as_str()),
@@ -67,7 +79,9 @@ impl Member for DpllPin {
         }
     }
 
-    fn show(&self, page: &mut Page) -> Result<(), AllocError> {
+    fn show(&self, page: &mut Page) -> Result<(), AllocError>
+        ensures { OnOk result (page.new ≡ with_members (dpll_pin_shown self.now) page.old) }
+    {
         match self {
             DpllPin::PinId(n) => page.number("id", (*n).into()),
             DpllPin::Other(_) => Ok(()),
@@ -83,7 +97,9 @@ impl Member for LinkProtocolDownReason {
         }
     }
 
-    fn show(&self, page: &mut Page) -> Result<(), AllocError> {
+    fn show(&self, page: &mut Page) -> Result<(), AllocError>
+        ensures { OnOk result (page.new ≡ with_members (down_reason_shown self.now) page.old) }
+    {
         match self {
             LinkProtocolDownReason::Mask(n) => page.number("mask", (*n).into()),
             LinkProtocolDownReason::Value(n) => page.number("value", (*n).into()),
@@ -100,7 +116,9 @@ impl Member for LinkXdp {
         }
     }
 
-    fn show(&self, page: &mut Page) -> Result<(), AllocError> {
+    fn show(&self, page: &mut Page) -> Result<(), AllocError>
+        ensures { OnOk result (page.new ≡ with_members (xdp_shown self.now) page.old) }
+    {
         match self {
             LinkXdp::Fd(n) => page.signed("fd", (*n).into()),
             LinkXdp::Attached(mode) => {
@@ -123,7 +141,9 @@ impl Member for LinkProtoInfoBridge {
         frame_of(nla)
     }
 
-    fn show(&self, _page: &mut Page) -> Result<(), AllocError> {
+    fn show(&self, _page: &mut Page) -> Result<(), AllocError>
+        ensures { OnOk result (_page.new ≡ with_members (bridge_shown self.now) _page.old) }
+    {
         Ok(())
     }
 }
@@ -134,13 +154,18 @@ impl Member for LinkProtoInfoInet6 {
         frame_of(nla)
     }
 
-    fn show(&self, _page: &mut Page) -> Result<(), AllocError> {
+    fn show(&self, _page: &mut Page) -> Result<(), AllocError>
+        ensures { OnOk result (_page.new ≡ with_members (proto_inet6_shown self.now) _page.old) }
+    {
         Ok(())
     }
 }
 
 /// Adds a wireless event: the information elements of an association, or any other payload.
-pub fn show_wireless(page: &mut Page, name: &str, event: &WirelessEvent) -> Result<(), AllocError> {
+pub fn show_wireless(page: &mut Page, name: &str, event: &WirelessEvent) -> Result<(), AllocError>
+    ensures { OnOk result
+        (page.new ≡ with_value name.now (object_of (wireless_shown event.now)) page.old) }
+{
     page.begin(name, Nest::Object)?;
     match event {
         WirelessEvent::AssociateRequest(bytes) => page.hex("assocreqie", bytes.as_slice())?,

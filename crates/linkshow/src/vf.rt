@@ -1,5 +1,11 @@
 //! Virtual functions and ports.
 
+ghost use Rattle.std.specs.Prelude.{◌≡◌, OnOk, codes};
+ghost use Rattle.shown.specs.Drafts.{with_members, with_value, object_of};
+ghost use Rattle.linkshow.specs.Functions.{word_shown, setting_shown, mac_shown, vlan_shown, link_state_shown};
+ghost use Rattle.linkshow.specs.Functions.{rate_shown, guid_shown, vlan_protocol_name, vlan_info_shown, vf_stats_shown};
+ghost use Rattle.linkshow.specs.Functions.{vf_vlan_shown, vf_port_shown};
+
 use crate::member::{Member, frame_of, show_listed, show_object};
 use crate::names::VF_LINK_STATES;
 use link_msg::{
@@ -41,7 +47,9 @@ impl Member for VfPort {
         frame_of(nla)
     }
 
-    fn show(&self, _page: &mut Page) -> Result<(), AllocError> {
+    fn show(&self, _page: &mut Page) -> Result<(), AllocError>
+        ensures { OnOk result (_page.new ≡ with_members (vf_port_shown self.now) _page.old) }
+    {
         Ok(())
     }
 }
@@ -81,7 +89,10 @@ fn show_word(
     function: u32,
     field: &str,
     value: u32,
-) -> Result<(), AllocError> {
+) -> Result<(), AllocError>
+    ensures { OnOk result (page.new
+        ≡ with_value name.now (object_of (word_shown function field.now value)) page.old) }
+{
     page.begin(name, Nest::Object)?;
     page.number("vf", function.into())?;
     page.number(field, value.into())?;
@@ -93,18 +104,27 @@ fn show_setting(
     name: &str,
     function: u32,
     is_enabled: bool,
-) -> Result<(), AllocError> {
+) -> Result<(), AllocError>
+    ensures { OnOk result (page.new
+        ≡ with_value name.now (object_of (setting_shown function is_enabled)) page.old) }
+{
     show_word(page, name, function, "setting", is_enabled.into())
 }
 
-fn show_mac(page: &mut Page, mac: &VfInfoMac) -> Result<(), AllocError> {
+fn show_mac(page: &mut Page, mac: &VfInfoMac) -> Result<(), AllocError>
+    ensures { OnOk result
+        (page.new ≡ with_value (codes "mac") (object_of (mac_shown mac.now)) page.old) }
+{
     page.begin("mac", Nest::Object)?;
     page.number("vf", mac.vf_id.into())?;
     page.hex("mac", &mac.mac)?;
     page.end()
 }
 
-fn show_vlan(page: &mut Page, vlan: &VfInfoVlan) -> Result<(), AllocError> {
+fn show_vlan(page: &mut Page, vlan: &VfInfoVlan) -> Result<(), AllocError>
+    ensures { OnOk result
+        (page.new ≡ with_value (codes "vlan") (object_of (vlan_shown vlan.now)) page.old) }
+{
     page.begin("vlan", Nest::Object)?;
     page.number("vf", vlan.vf_id.into())?;
     page.number("vlan", vlan.vlan_id.into())?;
@@ -112,14 +132,20 @@ fn show_vlan(page: &mut Page, vlan: &VfInfoVlan) -> Result<(), AllocError> {
     page.end()
 }
 
-fn show_link_state(page: &mut Page, state: &VfInfoLinkState) -> Result<(), AllocError> {
+fn show_link_state(page: &mut Page, state: &VfInfoLinkState) -> Result<(), AllocError>
+    ensures { OnOk result (page.new
+        ≡ with_value (codes "link-state") (object_of (link_state_shown state.now)) page.old) }
+{
     page.begin("link-state", Nest::Object)?;
     page.number("vf", state.vf_id.into())?;
     page.choice("link-state", u32::from(state.state).into(), &VF_LINK_STATES)?;
     page.end()
 }
 
-fn show_rate(page: &mut Page, rate: &VfInfoRate) -> Result<(), AllocError> {
+fn show_rate(page: &mut Page, rate: &VfInfoRate) -> Result<(), AllocError>
+    ensures { OnOk result
+        (page.new ≡ with_value (codes "rate") (object_of (rate_shown rate.now)) page.old) }
+{
     page.begin("rate", Nest::Object)?;
     page.number("vf", rate.vf_id.into())?;
     page.number("min-tx-rate", rate.min_tx_rate.into())?;
@@ -127,7 +153,10 @@ fn show_rate(page: &mut Page, rate: &VfInfoRate) -> Result<(), AllocError> {
     page.end()
 }
 
-fn show_guid(page: &mut Page, name: &str, guid: &VfInfoGuid) -> Result<(), AllocError> {
+fn show_guid(page: &mut Page, name: &str, guid: &VfInfoGuid) -> Result<(), AllocError>
+    ensures { OnOk result
+        (page.new ≡ with_value name.now (object_of (guid_shown guid.now)) page.old) }
+{
     page.begin(name, Nest::Object)?;
     page.number("vf", guid.vf_id.into())?;
     page.number("guid", guid.guid)?;
@@ -142,7 +171,9 @@ impl Member for VfVlan {
         }
     }
 
-    fn show(&self, page: &mut Page) -> Result<(), AllocError> {
+    fn show(&self, page: &mut Page) -> Result<(), AllocError>
+        ensures { OnOk result (page.new ≡ with_members (vf_vlan_shown self.now) page.old) }
+    {
         match self {
             VfVlan::Info(info) => show_vlan_info(page, info),
             VfVlan::Other(_) => Ok(()),
@@ -150,16 +181,24 @@ impl Member for VfVlan {
     }
 }
 
-fn show_vlan_info(page: &mut Page, info: &VfVlanInfo) -> Result<(), AllocError> {
+fn protocol_name(protocol: VlanProtocol) -> &'static str
+    ensures { result.now ≡ vlan_protocol_name protocol }
+{
+    match protocol {
+        VlanProtocol::Ieee8021Q => "8021q",
+        VlanProtocol::Ieee8021Ad => "8021ad",
+    }
+}
+
+fn show_vlan_info(page: &mut Page, info: &VfVlanInfo) -> Result<(), AllocError>
+    ensures { OnOk result
+        (page.new ≡ with_value (codes "info") (object_of (vlan_info_shown info.now)) page.old) }
+{
     page.begin("info", Nest::Object)?;
     page.number("vf", info.vf_id.into())?;
     page.number("vlan", info.vlan_id.into())?;
     page.number("qos", info.qos.into())?;
-    let protocol = match info.protocol {
-        VlanProtocol::Ieee8021Q => "8021q",
-        VlanProtocol::Ieee8021Ad => "8021ad",
-    };
-    page.string("vlan-proto", protocol)?;
+    page.string("vlan-proto", protocol_name(info.protocol))?;
     page.end()
 }
 
@@ -171,7 +210,9 @@ impl Member for VfStats {
         }
     }
 
-    fn show(&self, page: &mut Page) -> Result<(), AllocError> {
+    fn show(&self, page: &mut Page) -> Result<(), AllocError>
+        ensures { OnOk result (page.new ≡ with_members (vf_stats_shown self.now) page.old) }
+    {
         match self {
             VfStats::RxPackets(n) => page.number("rx-packets", *n),
             VfStats::TxPackets(n) => page.number("tx-packets", *n),

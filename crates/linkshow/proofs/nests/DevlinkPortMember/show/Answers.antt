@@ -1,0 +1,4 @@
+use Rattle.linkshow.proofs.nests.DevlinkPortMember.show.Goals as goal
+
+pub returns-in-PortIndex : goal.returns-in-PortIndex
+returns-in-PortIndex c = rw c.in-PortIndex.is (rw c.into.ensures at c.number.ensures)

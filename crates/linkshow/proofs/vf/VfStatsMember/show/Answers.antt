@@ -1,0 +1,13 @@
+use Rattle.linkshow.proofs.vf.VfStatsMember.show.Goals as goal
+
+pub returns-in-RxPackets : goal.returns-in-RxPackets
+returns-in-RxPackets c = rw c.in-RxPackets.is c.number.ensures
+
+pub returns-in-Broadcast : goal.returns-in-Broadcast
+returns-in-Broadcast c = rw c.in-Broadcast.is c.number-in-Broadcast.ensures
+
+pub returns-in-RxDropped : goal.returns-in-RxDropped
+returns-in-RxDropped c = rw c.in-RxDropped.is c.number-in-RxDropped.ensures
+
+pub returns-in-TxDropped : goal.returns-in-TxDropped
+returns-in-TxDropped c = rw c.in-TxDropped.is c.number-in-TxDropped.ensures
