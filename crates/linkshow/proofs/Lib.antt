@@ -3,3 +3,4 @@ mod Faults
 mod Shown
 mod Counters
 mod Named
+mod Places

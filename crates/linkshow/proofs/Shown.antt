@@ -1,5 +1,5 @@
 -- Members that are added one after another.
-use Rattle.std.proofs.Common.{◌≡◌, ℕ, zero, suc, ◌+◌, ◌*◌, ◌/◌, ◌<◌, ◌≤◌, min, List, [], ◌∷◌, length, take, drop}
+use Rattle.std.proofs.Common.{◌≡◌, ℕ, zero, suc, ◌+◌, ◌*◌, ◌<◌, ◌≤◌, min, List, [], length, take, drop}
 use Rattle.std.proofs.Common.{get_or, ◌-◌, sym, ap, ◌∙◌, Bor, arith}
 use Rattle.std.specs.Prelude.{ℤ, map}
 use Rattle.std.specs.Int.{Width, byte_len, cast_signed}

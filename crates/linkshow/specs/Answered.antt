@@ -19,7 +19,7 @@ use Rattle.link_msg.specs.declared.message.LinkMessage.{LinkMessage}
 use Rattle.link_msg.proofs.Reading.{message_agrees}
 use Rattle.line_filter.specs.Lines.{AnswersEach}
 use Rattle.shown.proofs.Pages.{least}
-use Rattle.shown.specs.Causes.{cause_text}
+use Rattle.linkshow.specs.Causes.{cause_text}
 use Rattle.shown.proofs.Lines.{decimal_on_line}
 use Rattle.linkshow.specs.Lines.{IsAnswer, IsAnswerTo, IsAnswerToSpelled}
 

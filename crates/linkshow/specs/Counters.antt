@@ -2,7 +2,7 @@
 use Rattle.std.specs.Prelude.{ℕ, ℤ, List, [], ◌∷◌, codes}
 use Rattle.std.specs.Int.{w64, cast_unsigned}
 use Rattle.json.specs.Token.{Token}
-use Rattle.shown.specs.Causes.{numbered}
+use Rattle.shown.specs.Values.{numbered}
 use Rattle.shown.specs.Drafts.{Members}
 use Rattle.linkshow.specs.Records.{signed_tokens}
 use Rattle.link_recs.specs.declared.stats.Stats.{Stats}

@@ -1,3 +1,5 @@
+pub mod Causes
+pub mod Places
 pub mod Lines
 pub mod Answered
 pub mod Records
@@ -7,3 +9,4 @@ pub mod Nests
 pub mod Settings
 pub mod Attributes
 pub mod Laws
+pub mod Numbered

@@ -7,7 +7,7 @@ use Rattle.nla_wire.specs.declared.error.Cause.{Cause}
 use Rattle.link_vals.specs.AddressFamilyTable.{address_family_number}
 use Rattle.link_msg.specs.Messages.{Means, FirstFault}
 use Rattle.link_msg.specs.declared.message.LinkMessage.{LinkMessage}
-use Rattle.shown.specs.Causes.{cause_text}
+use Rattle.linkshow.specs.Causes.{cause_text}
 use Rattle.shown.specs.Pages.{IsObject}
 use Rattle.line_filter.specs.Lines as filter
 use Rattle.line_filter.specs.Lines.{with_lf}

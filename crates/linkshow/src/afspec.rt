@@ -2,9 +2,11 @@
 
 ghost use Rattle.std.specs.Prelude.{◌≡◌, [], ◌∷◌, OnOk, codes};
 ghost use Rattle.link_vals.specs.MctpPhysBindingTable.{mctp_phys_binding_number};
-ghost use Rattle.shown.specs.Drafts.{with_members, with_value};
-ghost use Rattle.linkshow.specs.Nests.{af_spec_bridge_shown};
-ghost use Rattle.linkshow.specs.Settings.{inet_shown, inet6_shown, mctp_shown, binding_token};
+ghost use Rattle.shown.specs.Drafts.{with_value};
+ghost use Rattle.linkshow.specs.Nests.{af_spec_bridge_item};
+ghost use Rattle.linkshow.specs.Settings.{unspec_item, inet_item, inet6_item, mctp_item, binding_token};
+ghost use Rattle.linkshow.specs.Numbered.{af_spec_bridge_numbered, inet_numbered, inet6_numbered, mctp_numbered};
+ghost use Rattle.linkshow.specs.Numbered.{unspec_numbered};
 
 use crate::counts::{
     show_cache_info, show_icmp6_stats, show_inet_conf, show_inet6_conf, show_inet6_stats,
@@ -16,6 +18,8 @@ use shown::Page;
 use std::alloc::AllocError;
 
 impl Member for AfSpecUnspec {
+    ghost item = { unspec_item };
+
     fn kept(&self) -> Option<(u16, &[u8])> {
         match self {
             AfSpecUnspec::Other(nla) => frame_of(nla),
@@ -31,22 +35,28 @@ impl Member for AfSpecUnspec {
             AfSpecUnspec::Other(_) => Ok(()),
         }
     }
+
+    ghost numbered = { unspec_numbered };
 }
 
 impl Member for AfSpecBridge {
+    ghost item = { af_spec_bridge_item };
+
     fn kept(&self) -> Option<(u16, &[u8])> {
         let AfSpecBridge::Other(nla) = self;
         frame_of(nla)
     }
 
-    fn show(&self, _page: &mut Page) -> Result<(), AllocError>
-        ensures { OnOk result (_page.new ≡ with_members (af_spec_bridge_shown self.now) _page.old) }
-    {
+    fn show(&self, _page: &mut Page) -> Result<(), AllocError> {
         Ok(())
     }
+
+    ghost numbered = { af_spec_bridge_numbered };
 }
 
 impl Member for AfSpecInet {
+    ghost item = { inet_item };
+
     fn kept(&self) -> Option<(u16, &[u8])> {
         match self {
             AfSpecInet::Other(nla) => frame_of(nla),
@@ -54,9 +64,7 @@ impl Member for AfSpecInet {
         }
     }
 
-    fn show(&self, page: &mut Page) -> Result<(), AllocError>
-        ensures { OnOk result (page.new ≡ with_members (inet_shown self.now) page.old) }
-    {
+    fn show(&self, page: &mut Page) -> Result<(), AllocError> {
         match self {
             AfSpecInet::DevConf(conf) | AfSpecInet::DevConfRequest(conf) => {
                 show_inet_conf(page, "conf", conf)
@@ -64,9 +72,13 @@ impl Member for AfSpecInet {
             AfSpecInet::Other(_) => Ok(()),
         }
     }
+
+    ghost numbered = { inet_numbered };
 }
 
 impl Member for AfSpecInet6 {
+    ghost item = { inet6_item };
+
     fn kept(&self) -> Option<(u16, &[u8])> {
         match self {
             AfSpecInet6::Other(nla) => frame_of(nla),
@@ -74,9 +86,7 @@ impl Member for AfSpecInet6 {
         }
     }
 
-    fn show(&self, page: &mut Page) -> Result<(), AllocError>
-        ensures { OnOk result (page.new ≡ with_members (inet6_shown self.now) page.old) }
-    {
+    fn show(&self, page: &mut Page) -> Result<(), AllocError> {
         match self {
             AfSpecInet6::Flags(flags) => page.flags("flags", flags.bits(), &INET6_FLAGS),
             AfSpecInet6::CacheInfo(info) => show_cache_info(page, "cacheinfo", info),
@@ -91,9 +101,13 @@ impl Member for AfSpecInet6 {
             AfSpecInet6::Other(_) => Ok(()),
         }
     }
+
+    ghost numbered = { inet6_numbered };
 }
 
 impl Member for AfSpecMctp {
+    ghost item = { mctp_item };
+
     fn kept(&self) -> Option<(u16, &[u8])> {
         match self {
             AfSpecMctp::Other(nla) => frame_of(nla),
@@ -101,15 +115,15 @@ impl Member for AfSpecMctp {
         }
     }
 
-    fn show(&self, page: &mut Page) -> Result<(), AllocError>
-        ensures { OnOk result (page.new ≡ with_members (mctp_shown self.now) page.old) }
-    {
+    fn show(&self, page: &mut Page) -> Result<(), AllocError> {
         match self {
             AfSpecMctp::Net(n) => page.number("net", (*n).into()),
             AfSpecMctp::PhysBinding(binding) => show_binding(page, binding),
             AfSpecMctp::Other(_) => Ok(()),
         }
     }
+
+    ghost numbered = { mctp_numbered };
 }
 
 fn show_binding(page: &mut Page, binding: &MctpPhysBinding) -> Result<(), AllocError>

@@ -1,18 +1,23 @@
 //! The answer to a line.
 
-ghost use Rattle.std.specs.Prelude.{◌≡◌, ◌/◌, OnOk, IfErr, ◌≢◌, length};
+ghost use Rattle.std.specs.Prelude.{◌≡◌, ℕ, List, Ok, ◌++◌, ◌/◌, OnOk, IfOk, IfErr, ◌≢◌, length};
+ghost use Rattle.hex.specs.Hex.{decode_of};
 ghost use Rattle.nla_wire.specs.declared.error.Cause.TheVariants.{OutOfMemory};
 ghost use Rattle.link_msg.specs.Messages.{Means, FirstFault};
 ghost use Rattle.linkshow.specs.Lines.{IsAnswer, AddsAnswer, AddsAnswerTo};
+ghost use Rattle.shown.specs.Drafts.{empty_object, with_members};
+ghost use Rattle.linkshow.specs.Attributes.{message_members, message_line, TellsMessage};
+ghost use Rattle.line_filter.specs.Lines.{with_lf};
 ghost use Rattle.linkshow.specs.Answered.{each_answered};
 
 use crate::attribute::show_header;
 use crate::fault::fault_page;
 use crate::member::show_members;
+use crate::wire::cause_name;
 use line_filter::answers::Answer;
 use line_filter::digits::{decode, values};
 use link_msg::{Cause, DecodeError, LinkMessage};
-use shown::{Page, cause_name};
+use shown::Page;
 use std::alloc::{AllocError, Global};
 
 /// Answers lines by what they say, with room for the bytes of one line.
@@ -46,7 +51,10 @@ impl Answer for Shown {
 }
 
 /// What a message says after its family.
-fn message_page(alloc: Global, bytes: &[u8], message: &LinkMessage) -> Result<Page, AllocError> {
+fn message_page(alloc: Global, bytes: &[u8], message: &LinkMessage) -> Result<Page, AllocError>
+    ensures { IfOk result
+        (λ page. page ≡ with_members (message_members bytes.now message.now) empty_object) }
+{
     let mut page = Page::new(alloc)?;
     show_header(&mut page, bytes)?;
     show_members(&mut page, message.attributes.as_slice())?;
@@ -61,7 +69,9 @@ fn push_message(
     message: &LinkMessage,
 ) -> Result<(), AllocError>
     requires { Means bytes.now message.now }
-    ensures { OnOk result (AddsAnswerTo bytes.now waiting.old.items waiting.new.items) }
+    ensures answer { OnOk result (AddsAnswerTo bytes.now waiting.old.items waiting.new.items) }
+    ensures told { OnOk result (waiting.new.items
+        ≡ waiting.old.items ++ with_lf (message_line bytes.now message.now)) }
 {
     let page = message_page(alloc, bytes, message)?;
     let family = u8::from(message.header.interface_family);
@@ -88,7 +98,8 @@ fn push_fault(
 
 /// Adds the answer to a line that spells these bytes.
 fn push_bytes(alloc: Global, waiting: &mut Vec<u8>, bytes: &[u8]) -> Result<(), AllocError>
-    ensures { OnOk result (AddsAnswerTo bytes.now waiting.old.items waiting.new.items) }
+    ensures answer { OnOk result (AddsAnswerTo bytes.now waiting.old.items waiting.new.items) }
+    ensures told { OnOk result (TellsMessage bytes.now waiting.old.items waiting.new.items) }
 {
     match LinkMessage::parse(alloc, bytes) {
         Ok(message) => push_message(alloc, waiting, bytes, &message),
@@ -109,7 +120,9 @@ fn push_spelled(
     room: &mut [u8],
 ) -> Result<(), AllocError>
     requires { length room.old ≡ length line.now / 2 }
-    ensures { OnOk result (AddsAnswer line.now waiting.old.items waiting.new.items) }
+    ensures answer { OnOk result (AddsAnswer line.now waiting.old.items waiting.new.items) }
+    ensures told { OnOk result ((bytes : List ℕ) → decode_of line.now ≡ Ok bytes
+        → TellsMessage bytes waiting.old.items waiting.new.items) }
 {
     if !decode(line, values(), room) {
         return waiting.extend_from_slice(b"{\"fault\":\"not-hex\"}\n");

@@ -1,12 +1,13 @@
 //! The header, and the attributes of a link.
 
-ghost use Rattle.std.specs.Prelude.{◌≡◌, [], ◌∷◌, OnOk, min, take, option_map};
-ghost use Rattle.hex.specs.Hex.{encode_lower};
-ghost use Rattle.json.specs.Token.{string};
-ghost use Rattle.shown.specs.Drafts.{with_value};
+ghost use Rattle.std.specs.Prelude.{◌≡◌, [], ◌∷◌, OnOk, map, get_or, option_map, codes};
+ghost use Rattle.std.specs.Int.{w32};
+ghost use Rattle.shown.specs.Drafts.{with_value, with_members};
 ghost use Rattle.shown.specs.Values.{flags_of};
-ghost use Rattle.linkshow.specs.Attributes.{word_in, number_in, signed_in, text_in};
-ghost use Rattle.linkshow.specs.Attributes.{address_in, ext_mask_names, bits_of};
+ghost use Rattle.linkshow.specs.Attributes.{word_in, number_in, signed_in, text_in, address_in, ext_mask_names};
+ghost use Rattle.linkshow.specs.Attributes.{bits_of, id_shown, attribute_item, attribute_name, attribute_shown};
+ghost use Rattle.linkshow.specs.Attributes.{value_shown, list_shown, link_flag_names, header_members};
+ghost use Rattle.linkshow.specs.Numbered.{attribute_numbered};
 
 use crate::counts::{show_map, show_stats, show_stats64};
 use crate::member::{Member, frame_of, show_listed, show_object};
@@ -19,15 +20,27 @@ use nla_wire::fields::{u16_at, u32_at};
 use shown::Page;
 use std::alloc::AllocError;
 
+/// Adds the flags of a link.
+fn show_link_flags(page: &mut Page, bits: u32) -> Result<(), AllocError>
+    ensures { OnOk result (page.new
+        ≡ with_value (codes "ifi-flags") (flags_of link_flag_names bits) page.old) }
+{
+    page.flags("ifi-flags", bits, &LINK_FLAGS)
+}
+
 /// Adds what the header says after its family.
-pub fn show_header(page: &mut Page, bytes: &[u8]) -> Result<(), AllocError> {
+pub fn show_header(page: &mut Page, bytes: &[u8]) -> Result<(), AllocError>
+    ensures { OnOk result (page.new ≡ with_members (header_members bytes.now) page.old) }
+{
     page.number("ifi-type", u16_at(bytes, 2).into())?;
     page.number("ifi-index", u32_at(bytes, 4).into())?;
-    page.flags("ifi-flags", u32_at(bytes, 8), &LINK_FLAGS)?;
+    show_link_flags(page, u32_at(bytes, 8))?;
     page.number("ifi-change", u32_at(bytes, 12).into())
 }
 
 impl Member for LinkAttribute {
+    ghost item = { attribute_item };
+
     fn kept(&self) -> Option<(u16, &[u8])> {
         match self {
             LinkAttribute::Other(nla) | LinkAttribute::ProtoInfoUnknown(nla) => frame_of(nla),
@@ -37,31 +50,51 @@ impl Member for LinkAttribute {
     }
 
     fn show(&self, page: &mut Page) -> Result<(), AllocError> {
-        let name = name_of(self);
-        if let Some(number) = number_of(self) {
-            return page.number(name, number);
+        if self.kept().is_some() {
+            return Ok(());
         }
-        if let Some(number) = signed_of(self) {
-            return page.signed(name, number.into());
-        }
-        if let Some(text) = text_of(self) {
-            return page.string(name, text);
-        }
-        if let Some(address) = address_of(self) {
-            return page.address(name, address);
-        }
-        show_value(page, name, self)
+        show_attribute(page, name_of(self), self)
+    }
+
+    ghost numbered = { attribute_numbered };
+}
+
+/// The name of a number, which is none for one behind the table.
+fn name_in<'a>(names: &[&'a str], number: usize) -> &'a str
+    ensures { result.now ≡ get_or (map (λ name. name.now) names.now) number [] }
+{
+    if number < names.len() {
+        names[number]
+    } else {
+        ""
     }
 }
 
 /// The name of an attribute, by its number.
-fn name_of(attribute: &LinkAttribute) -> &'static str {
-    let number = (attribute.kind() & NLA_TYPE_MASK) as usize;
-    if number < ATTRIBUTES.len() {
-        ATTRIBUTES[number]
-    } else {
-        ""
+fn name_of(attribute: &LinkAttribute) -> &'static str
+    ensures { result.now ≡ attribute_name attribute.now }
+{
+    name_in(&ATTRIBUTES, (attribute.kind() & NLA_TYPE_MASK) as usize)
+}
+
+/// Adds what an attribute says, under this name.
+fn show_attribute(page: &mut Page, name: &str, attribute: &LinkAttribute) -> Result<(), AllocError>
+    ensures { OnOk result
+        (page.new ≡ with_members (attribute_shown name.now attribute.now) page.old) }
+{
+    if let Some(number) = number_of(attribute) {
+        return page.number(name, number);
     }
+    if let Some(number) = signed_of(attribute) {
+        return page.signed(name, number.into());
+    }
+    if let Some(text) = text_of(attribute) {
+        return page.string(name, text);
+    }
+    if let Some(address) = address_of(attribute) {
+        return page.address(name, address);
+    }
+    show_value(page, name, attribute)
 }
 
 /// A number, of any size.
@@ -150,7 +183,10 @@ fn address_of(attribute: &LinkAttribute) -> Option<&[u8]>
 }
 
 /// Adds a record, a value of an enum, flags, an id, or a list.
-fn show_value(page: &mut Page, name: &str, attribute: &LinkAttribute) -> Result<(), AllocError> {
+fn show_value(page: &mut Page, name: &str, attribute: &LinkAttribute) -> Result<(), AllocError>
+    ensures { OnOk result
+        (page.new ≡ with_members (value_shown name.now attribute.now) page.old) }
+{
     match attribute {
         LinkAttribute::Stats(stats) => show_stats(page, name, stats),
         LinkAttribute::Stats64(stats) => show_stats64(page, name, stats),
@@ -167,7 +203,11 @@ fn show_value(page: &mut Page, name: &str, attribute: &LinkAttribute) -> Result<
     }
 }
 
-fn show_list(page: &mut Page, name: &str, attribute: &LinkAttribute) -> Result<(), AllocError> {
+/// Adds a list of attributes as an object.
+fn show_list(page: &mut Page, name: &str, attribute: &LinkAttribute) -> Result<(), AllocError>
+    ensures { OnOk result
+        (page.new ≡ with_members (list_shown name.now attribute.now) page.old) }
+{
     match attribute {
         LinkAttribute::ProtoInfoBridge(items) => show_object(page, name, items.as_slice()),
         LinkAttribute::ProtoInfoInet6(items) => show_object(page, name, items.as_slice()),
@@ -198,8 +238,7 @@ fn show_mask(page: &mut Page, name: &str, masks: &[LinkExtentMask]) -> Result<()
 }
 
 fn show_id(page: &mut Page, name: &str, id: &LinkPhysId) -> Result<(), AllocError>
-    ensures { OnOk result (page.new ≡ with_value name.now
-        (string (encode_lower (take (min id.now.len 32) id.now.id)) ∷ []) page.old) }
+    ensures { OnOk result (page.new ≡ with_value name.now (id_shown id.now) page.old) }
 {
     page.hex(name, &id.id[..id.len.min(32)])
 }

@@ -3,10 +3,11 @@
 ghost use Rattle.std.specs.Prelude.{◌≤◌, length};
 
 use crate::member::show_object;
+use crate::wire::show_cause;
 use link_msg::header::HEADER_SIZE;
 use link_msg::{Cause, DecodeError, LinkMessage, NlasIterator};
 use nla_wire::fields::u32_at;
-use shown::{Page, show_cause};
+use shown::Page;
 use std::alloc::{AllocError, Global};
 
 /// What is said after a cause's name.

@@ -12,6 +12,7 @@ mod names;
 mod nests;
 mod run;
 mod vf;
+mod wire;
 
 use run::run;
 use std::process::ExitCode;

@@ -1,10 +1,12 @@
 //! Inner lists of attributes, and wireless events.
 
 ghost use Rattle.std.specs.Prelude.{◌≡◌, OnOk};
-ghost use Rattle.shown.specs.Drafts.{with_members, with_value, object_of};
-ghost use Rattle.linkshow.specs.Nests.{link_info_shown, prop_shown, devlink_port_shown, dpll_pin_shown};
-ghost use Rattle.linkshow.specs.Nests.{down_reason_shown, xdp_shown, bridge_shown, proto_inet6_shown};
-ghost use Rattle.linkshow.specs.Nests.{wireless_shown};
+ghost use Rattle.shown.specs.Drafts.{with_value, object_of};
+ghost use Rattle.linkshow.specs.Nests.{link_info_item, prop_item, devlink_port_item, dpll_pin_item, down_reason_item};
+ghost use Rattle.linkshow.specs.Nests.{xdp_item, bridge_item, proto_inet6_item, wireless_shown};
+ghost use Rattle.linkshow.specs.Numbered.{link_info_numbered, prop_numbered, devlink_port_numbered};
+ghost use Rattle.linkshow.specs.Numbered.{dpll_pin_numbered, down_reason_numbered, xdp_numbered, bridge_numbered};
+ghost use Rattle.linkshow.specs.Numbered.{proto_inet6_numbered};
 
 use crate::member::{Member, frame_of};
 use crate::names::XDP_ATTACHED;
@@ -16,6 +18,8 @@ use shown::{Nest, Page};
 use std::alloc::AllocError;
 
 impl Member for LinkInfo {
+    ghost item = { link_info_item };
+
     fn kept(&self) -> Option<(u16, &[u8])> {
         match self {
             LinkInfo::Other(nla) => frame_of(nla),
@@ -23,17 +27,19 @@ impl Member for LinkInfo {
         }
     }
 
-    fn show(&self, page: &mut Page) -> Result<(), AllocError>
-        ensures { OnOk result (page.new ≡ with_members (link_info_shown self.now) page.old) }
-    {
+    fn show(&self, page: &mut Page) -> Result<(), AllocError> {
         match self {
             LinkInfo::Kind(text) => page.string("kind", text.as_str()),
             LinkInfo::Other(_) => Ok(()),
         }
     }
+
+    ghost numbered = { link_info_numbered };
 }
 
 impl Member for Prop {
+    ghost item = { prop_item };
+
     fn kept(&self) -> Option<(u16, &[u8])> {
         match self {
             Prop::Other(nla) => frame_of(nla),
@@ -41,17 +47,19 @@ impl Member for Prop {
         }
     }
 
-    fn show(&self, page: &mut Page) -> Result<(), AllocError>
-        ensures { OnOk result (page.new ≡ with_members (prop_shown self.now) page.old) }
-    {
+    fn show(&self, page: &mut Page) -> Result<(), AllocError> {
         match self {
             Prop::AltIfName(text) => page.string("alt-ifname", text.as_str()),
             Prop::Other(_) => Ok(()),
         }
     }
+
+    ghost numbered = { prop_numbered };
 }
 
 impl Member for DevlinkPort {
+    ghost item = { devlink_port_item };
+
     fn kept(&self) -> Option<(u16, &[u8])> {
         match self {
             DevlinkPort::Other(nla) => frame_of(nla),
@@ -59,9 +67,7 @@ impl Member for DevlinkPort {
         }
     }
 
-    fn show(&self, page: &mut Page) -> Result<(), AllocError>
-        ensures { OnOk result (page.new ≡ with_members (devlink_port_shown self.now) page.old) }
-    {
+    fn show(&self, page: &mut Page) -> Result<(), AllocError> {
         match self {
             DevlinkPort::BusName(text) => page.string("bus-name", text.as_str()),
             DevlinkPort::DevName(text) => page.string("dev-name", text.as_str()),
@@ -69,9 +75,13 @@ impl Member for DevlinkPort {
             DevlinkPort::Other(_) => Ok(()),
         }
     }
+
+    ghost numbered = { devlink_port_numbered };
 }
 
 impl Member for DpllPin {
+    ghost item = { dpll_pin_item };
+
     fn kept(&self) -> Option<(u16, &[u8])> {
         match self {
             DpllPin::Other(nla) => frame_of(nla),
@@ -79,17 +89,19 @@ impl Member for DpllPin {
         }
     }
 
-    fn show(&self, page: &mut Page) -> Result<(), AllocError>
-        ensures { OnOk result (page.new ≡ with_members (dpll_pin_shown self.now) page.old) }
-    {
+    fn show(&self, page: &mut Page) -> Result<(), AllocError> {
         match self {
             DpllPin::PinId(n) => page.number("id", (*n).into()),
             DpllPin::Other(_) => Ok(()),
         }
     }
+
+    ghost numbered = { dpll_pin_numbered };
 }
 
 impl Member for LinkProtocolDownReason {
+    ghost item = { down_reason_item };
+
     fn kept(&self) -> Option<(u16, &[u8])> {
         match self {
             LinkProtocolDownReason::Other(nla) => frame_of(nla),
@@ -97,18 +109,20 @@ impl Member for LinkProtocolDownReason {
         }
     }
 
-    fn show(&self, page: &mut Page) -> Result<(), AllocError>
-        ensures { OnOk result (page.new ≡ with_members (down_reason_shown self.now) page.old) }
-    {
+    fn show(&self, page: &mut Page) -> Result<(), AllocError> {
         match self {
             LinkProtocolDownReason::Mask(n) => page.number("mask", (*n).into()),
             LinkProtocolDownReason::Value(n) => page.number("value", (*n).into()),
             LinkProtocolDownReason::Other(_) => Ok(()),
         }
     }
+
+    ghost numbered = { down_reason_numbered };
 }
 
 impl Member for LinkXdp {
+    ghost item = { xdp_item };
+
     fn kept(&self) -> Option<(u16, &[u8])> {
         match self {
             LinkXdp::Other(nla) => frame_of(nla),
@@ -116,9 +130,7 @@ impl Member for LinkXdp {
         }
     }
 
-    fn show(&self, page: &mut Page) -> Result<(), AllocError>
-        ensures { OnOk result (page.new ≡ with_members (xdp_shown self.now) page.old) }
-    {
+    fn show(&self, page: &mut Page) -> Result<(), AllocError> {
         match self {
             LinkXdp::Fd(n) => page.signed("fd", (*n).into()),
             LinkXdp::Attached(mode) => {
@@ -133,32 +145,38 @@ impl Member for LinkXdp {
             LinkXdp::Other(_) => Ok(()),
         }
     }
+
+    ghost numbered = { xdp_numbered };
 }
 
 impl Member for LinkProtoInfoBridge {
+    ghost item = { bridge_item };
+
     fn kept(&self) -> Option<(u16, &[u8])> {
         let LinkProtoInfoBridge::Other(nla) = self;
         frame_of(nla)
     }
 
-    fn show(&self, _page: &mut Page) -> Result<(), AllocError>
-        ensures { OnOk result (_page.new ≡ with_members (bridge_shown self.now) _page.old) }
-    {
+    fn show(&self, _page: &mut Page) -> Result<(), AllocError> {
         Ok(())
     }
+
+    ghost numbered = { bridge_numbered };
 }
 
 impl Member for LinkProtoInfoInet6 {
+    ghost item = { proto_inet6_item };
+
     fn kept(&self) -> Option<(u16, &[u8])> {
         let LinkProtoInfoInet6::Other(nla) = self;
         frame_of(nla)
     }
 
-    fn show(&self, _page: &mut Page) -> Result<(), AllocError>
-        ensures { OnOk result (_page.new ≡ with_members (proto_inet6_shown self.now) _page.old) }
-    {
+    fn show(&self, _page: &mut Page) -> Result<(), AllocError> {
         Ok(())
     }
+
+    ghost numbered = { proto_inet6_numbered };
 }
 
 /// Adds a wireless event: the information elements of an association, or any other payload.

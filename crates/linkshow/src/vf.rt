@@ -1,10 +1,13 @@
 //! Virtual functions and ports.
 
-ghost use Rattle.std.specs.Prelude.{◌≡◌, OnOk, codes};
+ghost use Rattle.std.specs.Prelude.{◌≡◌, [], ◌∷◌, OnOk, map, codes};
 ghost use Rattle.shown.specs.Drafts.{with_members, with_value, object_of};
+ghost use Rattle.linkshow.specs.Places.{objects};
 ghost use Rattle.linkshow.specs.Functions.{word_shown, setting_shown, mac_shown, vlan_shown, link_state_shown};
-ghost use Rattle.linkshow.specs.Functions.{rate_shown, guid_shown, vlan_protocol_name, vlan_info_shown, vf_stats_shown};
-ghost use Rattle.linkshow.specs.Functions.{vf_vlan_shown, vf_port_shown};
+ghost use Rattle.linkshow.specs.Functions.{rate_shown, guid_shown, vlan_protocol_name, vlan_info_shown};
+ghost use Rattle.linkshow.specs.Functions.{vf_stats_item, vf_vlan_item, vf_port_item, vf_info_item, function_members};
+ghost use Rattle.linkshow.specs.Functions.{port_members, objects_under};
+ghost use Rattle.linkshow.specs.Numbered.{vf_info_numbered, vf_stats_numbered, vf_vlan_numbered, vf_port_numbered};
 
 use crate::member::{Member, frame_of, show_listed, show_object};
 use crate::names::VF_LINK_STATES;
@@ -15,46 +18,76 @@ use link_msg::{
 use shown::{Nest, Page};
 use std::alloc::AllocError;
 
-/// Adds the list of virtual functions.
-pub fn show_functions(
-    page: &mut Page,
-    name: &str,
-    entries: &[LinkVfInfo],
-) -> Result<(), AllocError> {
-    page.begin(name, Nest::Object)?;
-    page.begin("info", Nest::List)?;
+/// Adds virtual functions, as objects.
+fn show_function_entries(page: &mut Page, entries: &[LinkVfInfo]) -> Result<(), AllocError>
+    ensures { OnOk result
+        (page.new ≡ with_members (objects (map function_members entries.now)) page.old) }
+{
     for entry in entries {
         show_object(page, "", entry.0.as_slice())?;
     }
+    Ok(())
+}
+
+/// Adds the list of virtual functions.
+pub fn show_functions(page: &mut Page, name: &str, entries: &[LinkVfInfo]) -> Result<(), AllocError>
+    ensures { OnOk result (page.new ≡ with_members ((
+      name.now,
+      object_of
+          (objects_under (codes "info") (map function_members entries.now)),
+    ) ∷ []) page.old) }
+{
+    page.begin(name, Nest::Object)?;
+    page.begin("info", Nest::List)?;
+    show_function_entries(page, entries)?;
     page.end()?;
     page.end()
 }
 
-/// Adds the list of ports.
-pub fn show_ports(page: &mut Page, name: &str, entries: &[LinkVfPort]) -> Result<(), AllocError> {
-    page.begin(name, Nest::Object)?;
-    page.begin("port", Nest::List)?;
+/// Adds ports, as objects.
+fn show_port_entries(page: &mut Page, entries: &[LinkVfPort]) -> Result<(), AllocError>
+    ensures { OnOk result
+        (page.new ≡ with_members (objects (map port_members entries.now)) page.old) }
+{
     for entry in entries {
         show_object(page, "", entry.0.as_slice())?;
     }
+    Ok(())
+}
+
+/// Adds the list of ports.
+pub fn show_ports(page: &mut Page, name: &str, entries: &[LinkVfPort]) -> Result<(), AllocError>
+    ensures { OnOk result (page.new ≡ with_members ((
+      name.now,
+      object_of
+          (objects_under (codes "port") (map port_members entries.now)),
+    ) ∷ []) page.old) }
+{
+    page.begin(name, Nest::Object)?;
+    page.begin("port", Nest::List)?;
+    show_port_entries(page, entries)?;
     page.end()?;
     page.end()
 }
 
 impl Member for VfPort {
+    ghost item = { vf_port_item };
+
     fn kept(&self) -> Option<(u16, &[u8])> {
         let VfPort::Other(nla) = self;
         frame_of(nla)
     }
 
-    fn show(&self, _page: &mut Page) -> Result<(), AllocError>
-        ensures { OnOk result (_page.new ≡ with_members (vf_port_shown self.now) _page.old) }
-    {
+    fn show(&self, _page: &mut Page) -> Result<(), AllocError> {
         Ok(())
     }
+
+    ghost numbered = { vf_port_numbered };
 }
 
 impl Member for VfInfo {
+    ghost item = { vf_info_item };
+
     fn kept(&self) -> Option<(u16, &[u8])> {
         match self {
             VfInfo::Other(nla) => frame_of(nla),
@@ -80,6 +113,8 @@ impl Member for VfInfo {
             VfInfo::Other(_) => Ok(()),
         }
     }
+
+    ghost numbered = { vf_info_numbered };
 }
 
 /// Adds a record of a function and one number.
@@ -164,6 +199,8 @@ fn show_guid(page: &mut Page, name: &str, guid: &VfInfoGuid) -> Result<(), Alloc
 }
 
 impl Member for VfVlan {
+    ghost item = { vf_vlan_item };
+
     fn kept(&self) -> Option<(u16, &[u8])> {
         match self {
             VfVlan::Other(nla) => frame_of(nla),
@@ -171,14 +208,14 @@ impl Member for VfVlan {
         }
     }
 
-    fn show(&self, page: &mut Page) -> Result<(), AllocError>
-        ensures { OnOk result (page.new ≡ with_members (vf_vlan_shown self.now) page.old) }
-    {
+    fn show(&self, page: &mut Page) -> Result<(), AllocError> {
         match self {
             VfVlan::Info(info) => show_vlan_info(page, info),
             VfVlan::Other(_) => Ok(()),
         }
     }
+
+    ghost numbered = { vf_vlan_numbered };
 }
 
 fn protocol_name(protocol: VlanProtocol) -> &'static str
@@ -203,6 +240,8 @@ fn show_vlan_info(page: &mut Page, info: &VfVlanInfo) -> Result<(), AllocError>
 }
 
 impl Member for VfStats {
+    ghost item = { vf_stats_item };
+
     fn kept(&self) -> Option<(u16, &[u8])> {
         match self {
             VfStats::Other(nla) => frame_of(nla),
@@ -210,9 +249,7 @@ impl Member for VfStats {
         }
     }
 
-    fn show(&self, page: &mut Page) -> Result<(), AllocError>
-        ensures { OnOk result (page.new ≡ with_members (vf_stats_shown self.now) page.old) }
-    {
+    fn show(&self, page: &mut Page) -> Result<(), AllocError> {
         match self {
             VfStats::RxPackets(n) => page.number("rx-packets", *n),
             VfStats::TxPackets(n) => page.number("tx-packets", *n),
@@ -225,4 +262,6 @@ impl Member for VfStats {
             VfStats::Other(_) => Ok(()),
         }
     }
+
+    ghost numbered = { vf_stats_numbered };
 }

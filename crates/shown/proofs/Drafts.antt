@@ -5,8 +5,8 @@ use Rattle.std.specs.List.{flat_map}
 use Rattle.json.specs.Token.{Token, key}
 use Rattle.shown.specs.Nesting.{opening, closing}
 use Rattle.shown.specs.declared.page.Nest.{Nest}
-use Rattle.shown.specs.declared.page.Nest.TheVariants.{Object}
-use Rattle.shown.specs.Drafts.{Draft, Members, Ends, named, with_value, with_begun, with_members, object_of}
+use Rattle.shown.specs.declared.page.Nest.TheVariants.{Object, List as Items}
+use Rattle.shown.specs.Drafts.{Draft, Members, Ends, named, with_value, with_begun, with_members, object_of, list_of}
 
 no_push : {A : Type 0} (xs : List A) (x : A) → xs ++ x ∷ [] ≡ [] → ⊥
 no_push [] x h = absurd cc
@@ -48,7 +48,7 @@ pub nested : (name : List ℕ) (nest : Nest) (items : List Token) (old last new 
 nested name nest items old last new is ends =
     value_ended name nest items old new (subst (λ (d : Draft). Ends d new) is ends)
 
-members_added : (ms : Members) (ts : List Token) (outer : List Nest)
+pub members_added : (ms : Members) (ts : List Token) (outer : List Nest)
     → with_members ms (record { tokens = ts; inside = Object; outer = outer })
     ≡ record { tokens = ts ++ flat_map (λ m. key m.0 ∷ m.1) ms; inside = Object; outer = outer }
 members_added [] ts outer = λ k. record { tokens = sym (append-nil ts) k; inside = Object; outer = outer }
@@ -68,3 +68,19 @@ pub object_ended : (name : List ℕ) (ms : Members) (old last new : Draft)
 object_ended name ms old last new is ends =
     nested name Object (flat_map (λ m. key m.0 ∷ m.1) ms) old last new
     (is ∙ members_added ms (with_begun name Object old).tokens (with_begun name Object old).outer) ends
+
+members_listed : (ms : Members) (ts : List Token) (outer : List Nest)
+    → with_members ms (record { tokens = ts; inside = Items; outer = outer })
+    ≡ record { tokens = ts ++ flat_map (λ m. m.1) ms; inside = Items; outer = outer }
+members_listed [] ts outer = λ k. record { tokens = sym (append-nil ts) k; inside = Items; outer = outer }
+members_listed (m ∷ ms) ts outer =
+    members_listed ms (ts ++ m.1) outer
+    ∙ (λ k. record { tokens = append_assoc ts m.1 (flat_map (λ n. n.1) ms) k; inside = Items; outer = outer })
+
+-- a list that was begun, filled with the values of members and ended
+pub list_ended : (name : List ℕ) (ms : Members) (old last new : Draft)
+    → last ≡ with_members ms (with_begun name Items old) → Ends last new
+    → new ≡ with_value name (list_of (flat_map (λ m. m.1) ms)) old
+list_ended name ms old last new is ends =
+    nested name Items (flat_map (λ m. m.1) ms) old last new
+    (is ∙ members_listed ms (with_begun name Items old).tokens (with_begun name Items old).outer) ends

@@ -13,7 +13,7 @@ use Rattle.json.proofs.Printed.Tokens.{print_from-append}
 use Rattle.shown.specs.Nesting.{Spot, due, object, list, after_token, after_tokens, spot_of}
 use Rattle.shown.specs.Nesting.{opening, closing}
 use Rattle.shown.specs.Pages.{IsPlain, IsScalar, IsPage, IsWholeText, IsHead, IsObject, AddsObject}
-use Rattle.shown.specs.Drafts.{named}
+use Rattle.shown.specs.Drafts.{Draft, named}
 use Rattle.shown.specs.Pages.{spots_of, with_comma}
 use Rattle.shown.specs.declared.page.Nest.{Nest}
 use Rattle.shown.specs.declared.page.Nest.TheVariants.{Object, List as Items}
@@ -127,9 +127,9 @@ after_first : (members : List Token)
 unfolding after_tokens
 after_first members = refl
 
-pub page_text : (ts : List Token) (inside : Nest) → IsPage ts inside []
-    → IsWholeText (print (ts ++ closing inside ∷ []))
-page_text ts inside h =
+pub page_text : (page : Draft) (ts : List Token) (inside : Nest) → ts ≡ page.tokens → inside ≡ page.inside
+    → IsPage ts inside [] → IsWholeText page (print (ts ++ closing inside ∷ []))
+page_text page ts inside tokens nest h =
     let members : List Token = h.first.0 in
     let same : ts ++ closing inside ∷ [] ≡ begin_object ∷ (members ++ closing inside ∷ []) =
     ap (λ l. l ++ closing inside ∷ []) h.first.1 in
@@ -139,6 +139,7 @@ page_text ts inside h =
     same (All-push IsPlain ts (closing inside) h.plain (closing_plain inside)) in
     record {
       rest = members ++ closing inside ∷ [];
+      all = (λ k. sym tokens k ++ closing (sym nest k) ∷ []) ∙ same;
       printed = ap print same;
       nested = sym (after_first (members ++ closing inside ∷ [])) ∙ ap (after_tokens (due ∷ [])) (sym same) ∙ whole;
       plain = All-tail IsPlain begin_object (members ++ closing inside ∷ []) plain;
@@ -177,10 +178,11 @@ head_plain name t p =
     (All-cons IsPlain (key name) (t ∷ []) tt (All-cons IsPlain t [] p (All-nil IsPlain)))
 
 -- a head, a comma where members follow, and the rest of a text
-pub joined : (head : Written) (text : List ℕ) (x : ℕ) (rest old new : List ℕ) → IsHead head → IsWholeText text
+pub joined : (page : Draft) (head : Written) (text : List ℕ) (x : ℕ) (rest old new : List ℕ) → IsHead head
+    → IsWholeText page text
     → text ≡ x ∷ rest
-    → new ≡ (old ++ print head.tokens) ++ with_comma rest → AddsObject head.tokens old new
-joined head text x rest old new h w is e =
+    → new ≡ (old ++ print head.tokens) ++ with_comma rest → AddsObject page head.tokens old new
+joined page head text x rest old new h w is e =
     let tail : rest ≡ print_from false w.rest = let both : x ∷ rest ≡ 123 ∷ print_from false w.rest =
     sym is ∙ w.printed ∙ print_whole w.rest in cc in
     let after : print_from true w.rest ≡ with_comma rest = rw tail (print_after w.rest w.nested) in
@@ -199,6 +201,7 @@ joined head text x rest old new h w is e =
     } in (
       print (head.tokens ++ w.rest),
       object,
+      w.all,
       e ∙ append_assoc old (print head.tokens) (with_comma rest) ∙ ap (λ l. old ++ l) (sym whole),
     )
 

@@ -2,4 +2,3 @@ pub mod Nesting
 pub mod Drafts
 pub mod Pages
 pub mod Values
-pub mod Causes

@@ -4,7 +4,8 @@ use Rattle.std.specs.List.{fold, All}
 use Rattle.json.specs.Token.{Token, begin_object, key, number}
 use Rattle.json.specs.Print.{print, ends}
 use Rattle.json.specs.Written.{Written}
-use Rattle.shown.specs.Nesting.{Spot, due, object, after_value, after_token, after_tokens, IsValue, spot_of}
+use Rattle.shown.specs.Drafts.{Draft}
+use Rattle.shown.specs.Nesting.{Spot, closing, due, object, after_value, after_token, after_tokens, IsValue, spot_of}
 use Rattle.shown.specs.declared.page.Nest.{Nest}
 
 -- each byte is printed on the line
@@ -26,9 +27,14 @@ pub record IsPage (ts : List Token) (inside : Nest) (outer : List Nest) : Type 0
   pub nested : after_tokens (due ∷ []) ts ≡ Some (spot_of inside ∷ spots_of outer)
   pub plain : All IsPlain ts
 
--- the text of an object
-pub record IsWholeText (text : List ℕ) : Type 0 where
+-- what stands after the first bracket of a page that is ended
+abbrev pub IsRest : Draft → List Token → Type 0
+IsRest page rest = page.tokens ++ closing page.inside ∷ [] ≡ begin_object ∷ rest
+
+-- the text of an object: the page's tokens, and the last bracket
+pub record IsWholeText (page : Draft) (text : List ℕ) : Type 0 where
   pub rest : List Token
+  pub all : IsRest page rest
   pub printed : text ≡ print (begin_object ∷ rest)
   pub nested : after_tokens (object ∷ []) rest ≡ Some []
   pub plain : All IsPlain rest
@@ -54,9 +60,10 @@ pub record IsObject (head : List Token) (text : List ℕ) : Type 0 where
   pub value : IsValue (head ++ rest)
   pub line : IsOneLine text
 
--- the text of an object that begins so was added
-abbrev pub AddsObject : List Token → List ℕ → List ℕ → Type 0
-AddsObject head old new = (text : List ℕ) × IsObject head text × (new ≡ old ++ text)
+-- the text of an object that begins so was added, and after its beginning the page's members
+abbrev pub AddsObject : Draft → List Token → List ℕ → List ℕ → Type 0
+AddsObject page head old new =
+    (text : List ℕ) × (object : IsObject head text) × IsRest page object.rest × (new ≡ old ++ text)
 
 -- the rest of an object's text after its bracket, where it follows a member: a quote begins the next one
 abbrev pub with_comma : List ℕ → List ℕ

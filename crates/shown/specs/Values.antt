@@ -3,13 +3,17 @@ use Rattle.std.specs.Prelude.{ℕ, ◌/◌, ◌%◌, ◌==◌, ◌++◌, List, [
 use Rattle.std.specs.Prelude.{cond, not, bit_and}
 use Rattle.std.specs.Int.{bit_not, w32}
 use Rattle.std.specs.List.{fold, filter, join_by}
-use Rattle.hex.specs.Hex.{encode_lower, lower_digits}
+use Rattle.hex.specs.Hex.{lower_digits}
 use Rattle.json.specs.Token.{Token, string, number}
-use Rattle.shown.specs.Drafts.{Members, list_of}
+use Rattle.shown.specs.Drafts.{list_of}
 
 -- an octet's two digits
 abbrev pub octet_text : ℕ → List ℕ
 octet_text octet = slice_index lower_digits (octet / 16) ∷ slice_index lower_digits (octet % 16) ∷ []
+
+-- a number, with its name
+abbrev pub numbered : List ℕ → ℕ → List ℕ × List Token
+numbered name value = (name, number (decimal value) ∷ [])
 
 -- a hardware address, with a colon between each two octets
 abbrev pub hardware_address : List ℕ → List ℕ
@@ -43,15 +47,3 @@ unless_zero value = cond (value == 0) [] (number (decimal value) ∷ [])
 -- flags: a list of the names of the bits that are set, and a number of those without a name
 abbrev pub flags_of : BitNames → ℕ → List Token
 flags_of table bits = list_of (map string (names_set table bits) ++ unless_zero (bits_unnamed table bits))
-
--- the names of the two flags of an attribute's frame
-abbrev pub frame_flags : BitNames
-frame_flags = (0x8000, codes "nested") ∷ (0x4000, codes "net-byteorder") ∷ []
-
--- an attribute as it is: its number, its flags, and its payload in hexadecimal
-abbrev pub frame_members : ℕ → List ℕ → Members
-frame_members kind payload =
-    (codes "number", number (decimal (bit_and kind 0x3fff)) ∷ [])
-    ∷ (codes "flags", flags_of frame_flags (bit_and kind 0xc000))
-    ∷ (codes "payload", string (encode_lower payload) ∷ [])
-    ∷ []

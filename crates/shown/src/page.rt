@@ -258,7 +258,7 @@ impl Page {
 
     /// The text of the object, where all that was begun has been ended.
     fn text(self) -> Result<Vec<u8>, AllocError>
-        ensures { IfOk result (λ text. IsWholeText text.items) }
+        ensures { IfOk result (λ text. IsWholeText self text.items) }
     {
         let Page {
             mut writer,
@@ -277,7 +277,7 @@ impl Page {
     /// Adds to `out` the text of an object whose first member is that of `head`, and the others those of this one.
     fn add_after(self, head: Writer, out: &mut Vec<u8>) -> Result<(), AllocError>
         requires { IsHead head }
-        ensures { OnOk result (AddsObject head.tokens out.old.items out.new.items) }
+        ensures { OnOk result (AddsObject self head.tokens out.old.items out.new.items) }
     {
         let text = self.text()?;
         // A text begins with its bracket, so it is never empty.
@@ -291,7 +291,7 @@ impl Page {
 
     /// Adds to `out` the text of this object with a text as a member in front.
     pub fn add_after_text(self, name: &str, text: &str, out: &mut Vec<u8>) -> Result<(), AllocError>
-        ensures { OnOk result (AddsObject (begin_object ∷ key name.now ∷ string text.now ∷ [])
+        ensures { OnOk result (AddsObject self (begin_object ∷ key name.now ∷ string text.now ∷ [])
             out.old.items out.new.items) }
     {
         let mut head = Writer::new(Vec::new(self.alloc));
@@ -309,8 +309,8 @@ impl Page {
         out: &mut Vec<u8>,
     ) -> Result<(), AllocError>
         ensures { OnOk result
-            (AddsObject (begin_object ∷ key name.now ∷ number (decimal value) ∷ []) out.old.items
-            out.new.items) }
+            (AddsObject self (begin_object ∷ key name.now ∷ number (decimal value) ∷ [])
+            out.old.items out.new.items) }
     {
         let mut head = Writer::new(Vec::new(self.alloc));
         head.begin_object()?;

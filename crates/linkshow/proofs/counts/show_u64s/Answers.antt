@@ -1,4 +1,4 @@
-use Rattle.std.proofs.Common.{◌*◌, ◌/◌, ◌∙◌, length, arith}
+use Rattle.std.proofs.Common.{◌*◌, ◌/◌, length, arith}
 use Rattle.std.specs.Int.{w64}
 use Rattle.linkshow.proofs.Shown.{number_added, numbers_done}
 use Rattle.linkshow.proofs.counts.show_u64s.Goals as goal

@@ -1,5 +1,6 @@
-use Rattle.std.proofs.Common.{refl, decimal}
-use Rattle.json.specs.Token.{number}
+use Rattle.std.proofs.Common.{◌≡◌, refl, decimal, subst, List, [], ◌∷◌, OnOk}
+use Rattle.json.specs.Token.{Token, begin_object, key, number}
+use Rattle.shown.specs.Pages.{AddsObject}
 use Rattle.shown.proofs.Lines.{decimal_on_line}
 use Rattle.shown.proofs.page.Page.add_after_number.Goals as goal
 
@@ -20,3 +21,11 @@ add_after-requires c = record {
   ends = refl;
   plain = (decimal_on_line _ c.ranges.value.fits);
 }
+
+pub returns : goal.returns
+returns c =
+    let head : c.u64.new.self.tokens ≡ begin_object ∷ key c.args.name.now ∷ number (decimal c.args.value) ∷ [] =
+    rw (c.in_ok-u64.ensures.ok, c.in_ok-key.ensures.ok, c.in_ok-begin_object.ensures.ok, c.new-head.ensures.tokens)
+    refl in
+    subst (λ (tokens : List Token). OnOk c.add_after.result
+    (AddsObject c.args.self tokens c.args.out.now.items c.add_after.new.out.items)) head c.add_after.ensures

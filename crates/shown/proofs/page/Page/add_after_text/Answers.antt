@@ -1,5 +1,6 @@
-use Rattle.std.proofs.Common.{refl}
-use Rattle.json.specs.Token.{string}
+use Rattle.std.proofs.Common.{◌≡◌, refl, subst, List, [], ◌∷◌, OnOk}
+use Rattle.json.specs.Token.{Token, begin_object, key, string}
+use Rattle.shown.specs.Pages.{AddsObject}
 use Rattle.shown.proofs.page.Page.add_after_text.Goals as goal
 
 pub add_after-requires : goal.add_after-requires
@@ -20,3 +21,11 @@ add_after-requires c = record {
   ends = refl;
   plain = tt;
 }
+
+pub returns : goal.returns
+returns c =
+    let head : c.string.new.self.tokens ≡ begin_object ∷ key c.args.name.now ∷ string c.args.text.now ∷ [] =
+    rw (c.in_ok-string.ensures.ok, c.in_ok-key.ensures.ok, c.in_ok-begin_object.ensures.ok, c.new-head.ensures.tokens)
+    refl in
+    subst (λ (tokens : List Token). OnOk c.add_after.result
+    (AddsObject c.args.self tokens c.args.out.now.items c.add_after.new.out.items)) head c.add_after.ensures

@@ -1,5 +1,6 @@
-use Rattle.std.proofs.Common.{◌≡◌, [], arith}
+use Rattle.std.proofs.Common.{◌≡◌, [], ap, arith}
 use Rattle.std.proofs.lemmas.Bool.Decides.{nat_tests}
+use Rattle.shown.specs.Drafts.{Draft}
 use Rattle.shown.proofs.Pages.{page_text, no_items}
 use Rattle.shown.proofs.page.Page.text.Goals as goal
 
@@ -8,4 +9,5 @@ returns c =
     let none : c.self.inside.outer.items ≡ [] = no_items _ (grind (arith, nat_tests)) in
     let page = rw none at (c.self.invariant.1 c.if-not-whole.false) in
     rw (c.into_inner.ensures.items, c.in_ok-put_end.ensures.before, c.self.invariant.0, c.in_ok-put_end.ensures.ok)
-    (page_text _ _ page)
+    (page_text c.args.self _ _ (ap (λ (d : Draft). d.tokens) c.self.view_is)
+    (ap (λ (d : Draft). d.inside) c.self.view_is) page)

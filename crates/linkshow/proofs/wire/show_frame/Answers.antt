@@ -2,9 +2,9 @@ use Rattle.std.proofs.Common.{◌≡◌, []}
 use Rattle.std.proofs.lemmas.Result.{on_ok_weaker}
 use Rattle.shown.specs.Drafts.{with_begun, with_members}
 use Rattle.shown.specs.declared.page.Nest.TheVariants.{Object}
-use Rattle.shown.specs.Values.{frame_members}
+use Rattle.linkshow.specs.Causes.{frame_members}
 use Rattle.shown.proofs.Drafts.{object_ended}
-use Rattle.shown.proofs.wire.show_frame.Goals as goal
+use Rattle.linkshow.proofs.wire.show_frame.Goals as goal
 
 pub returns : goal.returns
 returns c =

@@ -1,10 +1,12 @@
--- The names of causes, and their numbers.
-use Rattle.std.specs.Prelude.{ℕ, List, [], ◌∷◌, codes, decimal}
-use Rattle.json.specs.Token.{Token, number}
+-- The names of causes and their numbers, and what an attribute's frame holds.
+use Rattle.std.specs.Prelude.{ℕ, List, [], ◌∷◌, bit_and, codes, decimal}
+use Rattle.hex.specs.Hex.{encode_lower}
+use Rattle.json.specs.Token.{number, string}
 use Rattle.nla_wire.specs.declared.error.Cause.{Cause}
 use Rattle.nla_wire.specs.declared.error.Cause.TheVariants.{TooShort, FrameShort, FrameOver, FrameUnder, EmptyList}
 use Rattle.nla_wire.specs.declared.error.Cause.TheVariants.{WrongLength, NotUtf8, InvalidState, OutOfMemory}
 use Rattle.shown.specs.Drafts.{Members}
+use Rattle.shown.specs.Values.{numbered, BitNames, flags_of}
 
 -- the name of a cause
 abbrev pub cause_text : Cause → List ℕ
@@ -18,10 +20,6 @@ cause_text NotUtf8 = codes "not-utf8"
 cause_text InvalidState = codes "invalid-state"
 cause_text OutOfMemory = codes "out-of-memory"
 
--- a number, with its name
-abbrev pub numbered : List ℕ → ℕ → List ℕ × List Token
-numbered name value = (name, number (decimal value) ∷ [])
-
 -- the numbers of a cause, with their names
 abbrev pub cause_members : Cause → Members
 cause_members (TooShort got need) = numbered (codes "got") got ∷ numbered (codes "need") need ∷ []
@@ -33,3 +31,15 @@ cause_members (WrongLength got want) = numbered (codes "got") got ∷ numbered (
 cause_members NotUtf8 = []
 cause_members InvalidState = []
 cause_members OutOfMemory = []
+
+-- the names of the two flags of an attribute's frame
+abbrev pub frame_flags : BitNames
+frame_flags = (0x8000, codes "nested") ∷ (0x4000, codes "net-byteorder") ∷ []
+
+-- an attribute as it is: its number, its flags, and its payload in hexadecimal
+abbrev pub frame_members : ℕ → List ℕ → Members
+frame_members kind payload =
+    (codes "number", number (decimal (bit_and kind 0x3fff)) ∷ [])
+    ∷ (codes "flags", flags_of frame_flags (bit_and kind 0xc000))
+    ∷ (codes "payload", string (encode_lower payload) ∷ [])
+    ∷ []

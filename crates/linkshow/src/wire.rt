@@ -1,12 +1,12 @@
 //! What the frames of attributes hold, and why bytes were refused, as values of a page.
 
 ghost use Rattle.std.specs.Prelude.{◌≡◌, [], ◌∷◌, OnOk};
-ghost use Rattle.shown.specs.Causes.{cause_text, numbered, cause_members};
+ghost use Rattle.linkshow.specs.Causes.{cause_text, cause_members, frame_members};
 ghost use Rattle.shown.specs.Drafts.{with_value, with_members, object_of};
-ghost use Rattle.shown.specs.Values.{frame_members};
+ghost use Rattle.shown.specs.Values.{numbered};
 
-use crate::page::{Nest, Page};
 use nla_wire::{Cause, NLA_F_NESTED, NLA_F_NET_BYTEORDER, NLA_TYPE_MASK};
+use shown::{Nest, Page};
 use std::alloc::AllocError;
 
 const FRAME_FLAGS: [(u32, &str); 2] = [
