@@ -16,6 +16,7 @@ use Rattle.shown.proofs.Drafts.{list_ended, object_ended}
 use Rattle.linkshow.specs.Places.{Item, shown_as, number_in, has_number, comes_in}
 use Rattle.linkshow.specs.Places.{last_ones, earlier_ones, named_ones, objects, TellsLast}
 use Rattle.linkshow.specs.Places.{are_any, list_under, values_of}
+use Rattle.linkshow.specs.Causes.{AddsMembers}
 use Rattle.linkshow.specs.Functions.{objects_under}
 
 -- where the last one of a number stands, of those from a place on, and the place so far
@@ -191,6 +192,14 @@ pub both_added : (ms ns : Members) (old page new : Draft) → page ≡ with_memb
     → new ≡ with_members (ms ++ ns) old
 both_added ms ns old page new is then =
     then ∙ ap (with_members ns) is ∙ sym (fold-append (λ (p : Draft) m. with_value m.0 m.1 p) old ms ns)
+
+pub then_more : (old page new : Draft) (ms : Members) → AddsMembers old page → new ≡ with_members ms page
+    → AddsMembers old new
+then_more old page new ms was is = (was.0 ++ ms, both_added was.0 ms old page new was.1 is)
+
+pub then_one : (old page new : Draft) (name : List ℕ) (value : List Token) → AddsMembers old page
+    → new ≡ with_value name value page → AddsMembers old new
+then_one old page new name value = then_more old page new ((name, value) ∷ [])
 
 -- ** where the last one of a number stands
 

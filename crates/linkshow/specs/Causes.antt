@@ -1,11 +1,12 @@
 -- The names of causes and their numbers, and what an attribute's frame holds.
-use Rattle.std.specs.Prelude.{ℕ, List, [], ◌∷◌, bit_and, codes, decimal}
+use Rattle.std.specs.Prelude.{◌≡◌, ℕ, List, [], ◌∷◌, bit_and, codes, decimal}
 use Rattle.hex.specs.Hex.{encode_lower}
 use Rattle.json.specs.Token.{number, string}
 use Rattle.nla_wire.specs.declared.error.Cause.{Cause}
 use Rattle.nla_wire.specs.declared.error.Cause.TheVariants.{TooShort, FrameShort, FrameOver, FrameUnder, EmptyList}
 use Rattle.nla_wire.specs.declared.error.Cause.TheVariants.{WrongLength, NotUtf8, InvalidState, OutOfMemory}
-use Rattle.shown.specs.Drafts.{Members}
+use Rattle.nla_wire.specs.declared.error.DecodeError.{DecodeError}
+use Rattle.shown.specs.Drafts.{Draft, Members, with_members, empty_object}
 use Rattle.shown.specs.Values.{numbered, BitNames, flags_of}
 
 -- the name of a cause
@@ -43,3 +44,12 @@ frame_members kind payload =
     ∷ (codes "flags", flags_of frame_flags (bit_and kind 0xc000))
     ∷ (codes "payload", string (encode_lower payload) ∷ [])
     ∷ []
+
+-- members were added
+abbrev pub AddsMembers : Draft → Draft → Type 0
+AddsMembers old new = (more : Members) × (new ≡ with_members more old)
+
+-- what is said of a fault after its cause's name: a place, the numbers of the cause, and more
+abbrev pub IsFaultPage : DecodeError → Draft → Type 0
+IsFaultPage e page = (place : List ℕ) × AddsMembers
+    (with_members ((codes "at", string place ∷ []) ∷ cause_members e.cause) empty_object) page

@@ -1,6 +1,7 @@
 //! What is said of bytes that are no message.
 
-ghost use Rattle.std.specs.Prelude.{◌≤◌, length};
+ghost use Rattle.std.specs.Prelude.{◌≤◌, length, OnOk, IfOk};
+ghost use Rattle.linkshow.specs.Causes.{IsFaultPage, AddsMembers};
 
 use crate::member::show_object;
 use crate::wire::show_cause;
@@ -11,7 +12,9 @@ use shown::Page;
 use std::alloc::{AllocError, Global};
 
 /// What is said after a cause's name.
-pub fn fault_page(alloc: Global, bytes: &[u8], error: &DecodeError) -> Result<Page, AllocError> {
+pub fn fault_page(alloc: Global, bytes: &[u8], error: &DecodeError) -> Result<Page, AllocError>
+    ensures { IfOk result (IsFaultPage error.now) }
+{
     let mut page = Page::new(alloc)?;
     page.string("at", error.place)?;
     show_cause(&mut page, &error.cause)?;
@@ -24,7 +27,9 @@ pub fn fault_page(alloc: Global, bytes: &[u8], error: &DecodeError) -> Result<Pa
 
 /// Adds what can be read of bytes with a fault at a place: family and index, and the attributes in front of the
 /// outermost one that has the fault.
-fn show_rest(alloc: Global, page: &mut Page, bytes: &[u8], at: usize) -> Result<(), AllocError> {
+fn show_rest(alloc: Global, page: &mut Page, bytes: &[u8], at: usize) -> Result<(), AllocError>
+    ensures { OnOk result (AddsMembers page.old page.new) }
+{
     if bytes.len() < HEADER_SIZE {
         return Ok(());
     }
