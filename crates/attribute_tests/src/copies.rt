@@ -251,6 +251,6 @@ fn message_written(rt: &impl Abort, message: &LinkMessage) -> [u8; MOST_OF_MESSA
 #[test]
 fn texts_of_messages(rt: HostRuntime) {
     let value = message(1, two_of_each(&rt, rt.alloc()));
-    let copy = value.clone(rt.alloc()).expect(&rt, "memory");
+    let copy = value.clone_in(rt.alloc()).expect(&rt, "memory");
     assert!(rt; equal(&message_written(&rt, &copy), &message_written(&rt, &value)));
 }

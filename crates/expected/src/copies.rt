@@ -15,7 +15,7 @@ pub fn list<T: Drop, const N: usize>(alloc: Global, values: [T; N]) -> Result<Li
 
 /// Whether a value is this one, and so is a copy of it.
 pub fn is_copied<N: Exact + CloneIn + Drop>(alloc: Global, value: &N, wanted: &N) -> bool {
-    match value.clone(alloc) {
+    match value.clone_in(alloc) {
         Ok(copy) => same(value, wanted) && same(&copy, wanted),
         Err(_) => false,
     }
@@ -62,7 +62,7 @@ pub fn are_told_apart<N: Exact + CloneIn + Drop>(
     others: &[N],
 ) -> bool {
     for (at, value) in values.iter().enumerate() {
-        let Ok(copy) = value.clone(alloc) else {
+        let Ok(copy) = value.clone_in(alloc) else {
             return false;
         };
         if !is_that_at(&copy, values, at) || !is_none_of(&copy, others) {
@@ -93,7 +93,7 @@ fn are_written_as_one<N: Nla>(one: &N, other: &N) -> bool {
 /// Whether a copy of each value is written as the value is.
 fn are_written_alike<N: Nla + CloneIn + Drop>(alloc: Global, values: &[N]) -> bool {
     for value in values {
-        let Ok(copy) = value.clone(alloc) else {
+        let Ok(copy) = value.clone_in(alloc) else {
             return false;
         };
         if !are_written_as_one(&copy, value) {

@@ -39,7 +39,7 @@ pub fn decode(digits: &[u8], values: &[u8; 256], bytes: &mut [u8]) -> bool
     if digits.len() % 2 != 0 {
         return false;
     }
-    'pairs: for i in 0..bytes.len() {
+    for i in 0..bytes.len() {
         let high = values[digits[2 * i] as usize];
         let low = values[digits[2 * i + 1] as usize];
         if high > 15 {

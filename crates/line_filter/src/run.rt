@@ -58,7 +58,7 @@ fn answer_all<A: Answer, R: Read, W: Write>(
 {
     let mut held = Vec::new(alloc);
     let mut answers = Answers::new(alloc, answer);
-    for reads in 0..u64::MAX {
+    for _reads in 0..u64::MAX {
         let Ok(n) = reader.read(chunk) else {
             return Err(RunError::Read);
         };

@@ -70,9 +70,9 @@ impl NlaRead for AfSpecBridge {
 }
 
 impl CloneIn for AfSpecBridge {
-    fn clone(&self, alloc: Global) -> Result<AfSpecBridge, DecodeError> {
+    fn clone_in(&self, alloc: Global) -> Result<AfSpecBridge, DecodeError> {
         let AfSpecBridge::Other(nla) = self;
-        nla.clone(alloc).map(AfSpecBridge::Other)
+        nla.clone_in(alloc).map(AfSpecBridge::Other)
     }
 }
 

@@ -114,11 +114,11 @@ impl NlaRead for AfSpecInet {
 }
 
 impl CloneIn for AfSpecInet {
-    fn clone(&self, alloc: Global) -> Result<AfSpecInet, DecodeError> {
+    fn clone_in(&self, alloc: Global) -> Result<AfSpecInet, DecodeError> {
         match self {
             AfSpecInet::DevConf(conf) => Ok(AfSpecInet::DevConf(*conf)),
             AfSpecInet::DevConfRequest(conf) => Ok(AfSpecInet::DevConfRequest(*conf)),
-            AfSpecInet::Other(nla) => Ok(AfSpecInet::Other(nla.clone(alloc)?)),
+            AfSpecInet::Other(nla) => Ok(AfSpecInet::Other(nla.clone_in(alloc)?)),
         }
     }
 }

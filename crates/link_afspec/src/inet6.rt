@@ -12,9 +12,9 @@ use link_recs::{Icmp6Stats, Inet6CacheInfo, Inet6DevConf, Inet6Stats};
 use link_vals::{In6AddrGenMode, Inet6IfaceFlags};
 use nla_wire::error::checked;
 use nla_wire::{
-    CloneIn, DecodeError, DefaultNla, Exact, Nla, NlaBuffer, NlaRead, PlainRecord, Record,
-    fill_bytes, measure_ipv6_addr, measure_u8, measure_u32, parse_ipv6_addr, parse_u8, parse_u32,
-    write_ipv6_addr_payload, write_u8_payload, write_u32_payload, write_value,
+    CloneIn, DecodeError, DefaultNla, Exact, MOST_VALUE_LEN, Nla, NlaBuffer, NlaRead, PlainRecord,
+    Record, fill_bytes, measure_ipv6_addr, measure_u8, measure_u32, parse_ipv6_addr, parse_u8,
+    parse_u32, write_ipv6_addr_payload, write_u8_payload, write_u32_payload, write_value,
 };
 use std::alloc::Global;
 use std::net::Ipv6Addr;
@@ -68,7 +68,8 @@ impl Nla for AfSpecInet6 {
 
     fn fits(&self) -> bool {
         match self {
-            AfSpecInet6::Token(token) => token.octets().len() <= 65531,
+            // for the proof: 16 octets are fewer
+            AfSpecInet6::Token(token) => token.octets().len() <= MOST_VALUE_LEN,
             AfSpecInet6::Other(nla) => nla.fits(),
             _ => true,
         }
@@ -208,7 +209,7 @@ impl NlaRead for AfSpecInet6 {
 }
 
 impl CloneIn for AfSpecInet6 {
-    fn clone(&self, alloc: Global) -> Result<AfSpecInet6, DecodeError> {
+    fn clone_in(&self, alloc: Global) -> Result<AfSpecInet6, DecodeError> {
         match self {
             AfSpecInet6::Flags(flags) => Ok(AfSpecInet6::Flags(*flags)),
             AfSpecInet6::CacheInfo(info) => Ok(AfSpecInet6::CacheInfo(*info)),
@@ -218,7 +219,7 @@ impl CloneIn for AfSpecInet6 {
             AfSpecInet6::Token(token) => Ok(AfSpecInet6::Token(*token)),
             AfSpecInet6::AddrGenMode(mode) => Ok(AfSpecInet6::AddrGenMode(*mode)),
             AfSpecInet6::RaMtu(mtu) => Ok(AfSpecInet6::RaMtu(*mtu)),
-            AfSpecInet6::Other(nla) => Ok(AfSpecInet6::Other(nla.clone(alloc)?)),
+            AfSpecInet6::Other(nla) => Ok(AfSpecInet6::Other(nla.clone_in(alloc)?)),
         }
     }
 }

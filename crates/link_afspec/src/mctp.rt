@@ -115,11 +115,11 @@ impl NlaRead for AfSpecMctp {
 }
 
 impl CloneIn for AfSpecMctp {
-    fn clone(&self, alloc: Global) -> Result<AfSpecMctp, DecodeError> {
+    fn clone_in(&self, alloc: Global) -> Result<AfSpecMctp, DecodeError> {
         match self {
             AfSpecMctp::Net(net) => Ok(AfSpecMctp::Net(*net)),
             AfSpecMctp::PhysBinding(binding) => Ok(AfSpecMctp::PhysBinding(*binding)),
-            AfSpecMctp::Other(nla) => nla.clone(alloc).map(AfSpecMctp::Other),
+            AfSpecMctp::Other(nla) => nla.clone_in(alloc).map(AfSpecMctp::Other),
         }
     }
 }

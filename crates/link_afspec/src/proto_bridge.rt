@@ -73,9 +73,9 @@ impl NlaRead for LinkProtoInfoBridge {
 }
 
 impl CloneIn for LinkProtoInfoBridge {
-    fn clone(&self, alloc: Global) -> Result<LinkProtoInfoBridge, DecodeError> {
+    fn clone_in(&self, alloc: Global) -> Result<LinkProtoInfoBridge, DecodeError> {
         let LinkProtoInfoBridge::Other(nla) = self;
-        nla.clone(alloc).map(LinkProtoInfoBridge::Other)
+        nla.clone_in(alloc).map(LinkProtoInfoBridge::Other)
     }
 }
 

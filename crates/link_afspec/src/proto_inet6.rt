@@ -73,9 +73,9 @@ impl NlaRead for LinkProtoInfoInet6 {
 }
 
 impl CloneIn for LinkProtoInfoInet6 {
-    fn clone(&self, alloc: Global) -> Result<LinkProtoInfoInet6, DecodeError> {
+    fn clone_in(&self, alloc: Global) -> Result<LinkProtoInfoInet6, DecodeError> {
         let LinkProtoInfoInet6::Other(nla) = self;
-        nla.clone(alloc).map(LinkProtoInfoInet6::Other)
+        nla.clone_in(alloc).map(LinkProtoInfoInet6::Other)
     }
 }
 

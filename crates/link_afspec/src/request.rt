@@ -6,7 +6,7 @@ ghost use Rattle.link_afspec.specs.Requests.{setting_frame, setting_text, reques
 
 use link_recs::InetDevConf;
 use link_recs::inet::INET_DEV_CONF_COUNT;
-use nla_wire::{NLA_HEADER_SIZE, fill_bytes};
+use nla_wire::{NLA_HEADER_SIZE, fill_bytes, to_u16};
 
 /// The bytes of a setting's attribute: its header and a number of four bytes.
 const SETTING_LEN: usize = NLA_HEADER_SIZE + 4;
@@ -21,8 +21,8 @@ fn setting_attribute(number: u16, value: i32) -> [u8; SETTING_LEN]
 }
 
 /// The length of a setting's text: none where it is zero.
-fn setting_len(number: u16, value: i32) -> usize
-    ensures text { result ≡ length (setting_text (record { number = number; value = value })) }
+fn setting_len(_number: u16, value: i32) -> usize
+    ensures text { result ≡ length (setting_text (record { number = _number; value = value })) }
     ensures short { result ≤ 8 }
 {
     if value == 0 { 0 } else { SETTING_LEN }
@@ -47,7 +47,7 @@ pub(crate) fn request_len(conf: &InetDevConf) -> usize
 {
     let mut len = 0;
     for number in 1..INET_DEV_CONF_COUNT + 1 {
-        len += setting_len(number as u16, conf.setting(number));
+        len += setting_len(to_u16(number), conf.setting(number));
     }
     len
 }
@@ -61,7 +61,7 @@ pub(crate) fn fill_request(conf: &InetDevConf, buffer: &mut [u8]) -> usize
     let mut start = buffer.len();
     let mut number = INET_DEV_CONF_COUNT;
     while number > 0 {
-        start = fill_setting(&mut buffer[..start], number as u16, conf.setting(number));
+        start = fill_setting(&mut buffer[..start], to_u16(number), conf.setting(number));
         number -= 1;
     }
     start

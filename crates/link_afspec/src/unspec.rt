@@ -161,12 +161,12 @@ impl NlaRead for AfSpecUnspec {
 }
 
 impl CloneIn for AfSpecUnspec {
-    fn clone(&self, alloc: Global) -> Result<AfSpecUnspec, DecodeError> {
+    fn clone_in(&self, alloc: Global) -> Result<AfSpecUnspec, DecodeError> {
         match self {
-            AfSpecUnspec::Inet(members) => members.clone(alloc).map(AfSpecUnspec::Inet),
-            AfSpecUnspec::Inet6(members) => members.clone(alloc).map(AfSpecUnspec::Inet6),
-            AfSpecUnspec::Mctp(members) => members.clone(alloc).map(AfSpecUnspec::Mctp),
-            AfSpecUnspec::Other(nla) => nla.clone(alloc).map(AfSpecUnspec::Other),
+            AfSpecUnspec::Inet(members) => members.clone_in(alloc).map(AfSpecUnspec::Inet),
+            AfSpecUnspec::Inet6(members) => members.clone_in(alloc).map(AfSpecUnspec::Inet6),
+            AfSpecUnspec::Mctp(members) => members.clone_in(alloc).map(AfSpecUnspec::Mctp),
+            AfSpecUnspec::Other(nla) => nla.clone_in(alloc).map(AfSpecUnspec::Other),
         }
     }
 }

@@ -2,13 +2,13 @@
 use Rattle.std.proofs.Common.{◌≡◌, ℕ, List, [], ◌∷◌, ◌++◌, length, drop, refl, sym, ap, ap₂, subst, ◌∙◌, arith, inl}
 use Rattle.std.proofs.Common.{inr, Some, None, Result, Ok, Err, append-nil, length-append}
 use Rattle.std.proofs.lemmas.List.{drop_all}
-use Rattle.std.specs.Int.{Width, w8, w16, w32, w64, byte_len, to_le_bytes, from_le_bytes}
+use Rattle.std.specs.Int.{Width, w8, w16, w32, byte_len, to_le_bytes, from_le_bytes}
 use Rattle.nla_wire.specs.Frames.{Frame, number, IsBytes, IsFrame}
 use Rattle.nla_wire.specs.Payloads.{IsTextOf}
 use Rattle.nla_wire.specs.Records.{WritesFilled}
 use Rattle.nla_wire.specs.Canon.{canon, Writes, Weighs, Rewrites}
 use Rattle.nla_wire.specs.declared.error.Cause.{Cause}
-use Rattle.nla_wire.proofs.Again.{WritesAgain, writes_again_1, writes_again_2, writes_again_4, writes_again_8}
+use Rattle.nla_wire.proofs.Again.{WritesAgain, writes_again_1, writes_again_2, writes_again_4}
 use Rattle.nla_wire.proofs.Codec.{kind_of}
 use Rattle.nla_wire.proofs.FieldLemmas.{zero_filled_whole}
 use Rattle.nla_wire.proofs.Shapes.{frame_with, ShapeFits, ShapeWeighs}
@@ -67,13 +67,6 @@ pub u32_copied : IsCopied Shapes.U32
 u32_copied = record {
   text_is = λ p x small is same.
       number_copied w32 writes_again_4 p x small ((base Shapes.U32).codec.lawful.agrees.found p x small is);
-  kind_is = λ n. refl;
-}
-
-pub u64_copied : IsCopied Shapes.U64
-u64_copied = record {
-  text_is = λ p x small is same.
-      number_copied w64 writes_again_8 p x small ((base Shapes.U64).codec.lawful.agrees.found p x small is);
   kind_is = λ n. refl;
 }
 

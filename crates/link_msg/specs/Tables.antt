@@ -201,7 +201,6 @@ base Shapes.Text = any codec.text
 base Shapes.U8 = any codec.u8
 base Shapes.U16 = any codec.u16
 base Shapes.U32 = any codec.u32
-base Shapes.U64 = any codec.u64
 base Shapes.Truth = any
     (codec.flat (as_a is_true (payload.number_of w8)) (λ v. to_le_bytes w8 (truth_number v)) most_payload truth_lawful)
 base Shapes.Id = any phys_ids
@@ -240,9 +239,6 @@ u16 = by_shape Shapes.U16
 
 abbrev pub u32 : Shaped base ℕ always
 u32 = by_shape Shapes.U32
-
-abbrev pub u64 : Shaped base ℕ always
-u64 = by_shape Shapes.U64
 
 abbrev pub i32 : Shaped base ℤ always
 i32 = standing base Shapes.U32 (cast_signed w32) codec.i32 (λ p. refl) (signed_same w32) (λ x. tt) (λ a. tt)

@@ -2,106 +2,19 @@
 
 ghost use Rattle.std.specs.Prelude.{◌≡◌, length};
 
-use crate::numbers::IFLA_ADDRESS;
-use crate::numbers::IFLA_AF_SPEC;
-use crate::numbers::IFLA_ALLMULTI;
-use crate::numbers::IFLA_BROADCAST;
-use crate::numbers::IFLA_CARRIER;
-use crate::numbers::IFLA_CARRIER_CHANGES;
-use crate::numbers::IFLA_CARRIER_DOWN_COUNT;
-use crate::numbers::IFLA_CARRIER_UP_COUNT;
-use crate::numbers::IFLA_DEVLINK_PORT;
-use crate::numbers::IFLA_DPLL_PIN;
-use crate::numbers::IFLA_EVENT;
-use crate::numbers::IFLA_EXT_MASK;
-use crate::numbers::IFLA_GRO_IPV4_MAX_SIZE;
-use crate::numbers::IFLA_GRO_MAX_SIZE;
-use crate::numbers::IFLA_GROUP;
-use crate::numbers::IFLA_GSO_IPV4_MAX_SIZE;
-use crate::numbers::IFLA_GSO_MAX_SEGS;
-use crate::numbers::IFLA_GSO_MAX_SIZE;
-use crate::numbers::IFLA_HEADROOM;
-use crate::numbers::IFLA_IF_NETNSID;
-use crate::numbers::IFLA_IFALIAS;
-use crate::numbers::IFLA_IFNAME;
-use crate::numbers::IFLA_LINK;
-use crate::numbers::IFLA_LINK_NETNSID;
-use crate::numbers::IFLA_LINKINFO;
-use crate::numbers::IFLA_LINKMODE;
-use crate::numbers::IFLA_MAP;
-use crate::numbers::IFLA_MASTER;
-use crate::numbers::IFLA_MAX_MTU;
-use crate::numbers::IFLA_MIN_MTU;
-use crate::numbers::IFLA_MTU;
-use crate::numbers::IFLA_NET_NS_FD;
-use crate::numbers::IFLA_NET_NS_PID;
-use crate::numbers::IFLA_NETNS_IMMUTABLE;
-use crate::numbers::IFLA_NEW_IFINDEX;
-use crate::numbers::IFLA_NEW_NETNSID;
-use crate::numbers::IFLA_NUM_RX_QUEUES;
-use crate::numbers::IFLA_NUM_TX_QUEUES;
-use crate::numbers::IFLA_NUM_VF;
-use crate::numbers::IFLA_OPERSTATE;
-use crate::numbers::IFLA_PARENT_DEV_BUS_NAME;
-use crate::numbers::IFLA_PARENT_DEV_NAME;
-use crate::numbers::IFLA_PERM_ADDRESS;
-use crate::numbers::IFLA_PHYS_PORT_ID;
-use crate::numbers::IFLA_PHYS_PORT_NAME;
-use crate::numbers::IFLA_PHYS_SWITCH_ID;
-use crate::numbers::IFLA_PORT_SELF;
-use crate::numbers::IFLA_PROMISCUITY;
-use crate::numbers::IFLA_PROP_LIST;
-use crate::numbers::IFLA_PROTINFO;
-use crate::numbers::IFLA_PROTO_DOWN;
-use crate::numbers::IFLA_PROTO_DOWN_REASON;
-use crate::numbers::IFLA_QDISC;
-use crate::numbers::IFLA_STATS;
-use crate::numbers::IFLA_STATS64;
-use crate::numbers::IFLA_TAILROOM;
-use crate::numbers::IFLA_TSO_MAX_SEGS;
-use crate::numbers::IFLA_TSO_MAX_SIZE;
-use crate::numbers::IFLA_TXQLEN;
-use crate::numbers::IFLA_VF_PORTS;
-use crate::numbers::IFLA_VFINFO_LIST;
-use crate::numbers::IFLA_WIRELESS;
-use crate::numbers::IFLA_XDP;
-use crate::payload::clone_mask;
-use crate::payload::truth_byte;
-use link_afspec::AfSpecBridge;
-use link_afspec::AfSpecUnspec;
-use link_afspec::LinkProtoInfoBridge;
-use link_afspec::LinkProtoInfoInet6;
-use link_nest::DevlinkPort;
-use link_nest::DpllPin;
-use link_nest::LinkInfo;
-use link_nest::LinkProtocolDownReason;
-use link_nest::LinkXdp;
-use link_nest::Prop;
-use link_nest::WirelessEvent;
-use link_recs::Map;
-use link_recs::Stats;
-use link_recs::Stats64;
-use link_vals::LinkEvent;
-use link_vals::LinkExtentMask;
-use link_vals::LinkMode;
-use link_vals::LinkPhysId;
-use link_vals::State;
-use link_vf::LinkVfInfo;
-use link_vf::LinkVfPort;
-use link_vf::VfPort;
-use nla_wire::Bytes;
-use nla_wire::CloneIn;
-use nla_wire::Content as Flat;
-use nla_wire::DecodeError;
-use nla_wire::DefaultNla;
-use nla_wire::Exact;
-use nla_wire::List;
-use nla_wire::NLA_F_NESTED;
-use nla_wire::Nla;
-use nla_wire::Text;
-use nla_wire::fill_bytes;
-use nla_wire::nlas_buffer_len;
-use nla_wire::nlas_fill;
+use crate::numbers::*;
+use crate::payload::{clone_mask, truth_byte};
+use link_afspec::{AfSpecBridge, AfSpecUnspec, LinkProtoInfoBridge, LinkProtoInfoInet6};
+use link_nest::{
+    DevlinkPort, DpllPin, LinkInfo, LinkProtocolDownReason, LinkXdp, Prop, WirelessEvent,
+};
+use link_recs::{Map, Stats, Stats64};
+use link_vals::{LinkEvent, LinkExtentMask, LinkMode, LinkPhysId, State};
+use link_vf::{LinkVfInfo, LinkVfPort, VfPort};
+use nla_wire::{
+    Bytes, CloneIn, Content as Flat, DecodeError, DefaultNla, Exact, List, NLA_F_NESTED, Nla, Text,
+    fill_bytes, nlas_buffer_len, nlas_fill,
+};
 use std::alloc::Global;
 
 /// An attribute of a link message (linux/if_link.h, IFLA_*). Numbers are in host order.
@@ -540,41 +453,45 @@ impl LinkAttribute {
 }
 
 impl CloneIn for LinkAttribute {
-    fn clone(&self, alloc: Global) -> Result<LinkAttribute, DecodeError> {
+    fn clone_in(&self, alloc: Global) -> Result<LinkAttribute, DecodeError> {
         Ok(match self {
-            LinkAttribute::Address(value) => LinkAttribute::Address(value.clone(alloc)?),
-            LinkAttribute::Broadcast(value) => LinkAttribute::Broadcast(value.clone(alloc)?),
-            LinkAttribute::IfName(value) => LinkAttribute::IfName(value.clone(alloc)?),
+            LinkAttribute::Address(value) => LinkAttribute::Address(value.clone_in(alloc)?),
+            LinkAttribute::Broadcast(value) => LinkAttribute::Broadcast(value.clone_in(alloc)?),
+            LinkAttribute::IfName(value) => LinkAttribute::IfName(value.clone_in(alloc)?),
             LinkAttribute::Mtu(value) => LinkAttribute::Mtu(*value),
             LinkAttribute::Link(value) => LinkAttribute::Link(*value),
-            LinkAttribute::Qdisc(value) => LinkAttribute::Qdisc(value.clone(alloc)?),
+            LinkAttribute::Qdisc(value) => LinkAttribute::Qdisc(value.clone_in(alloc)?),
             LinkAttribute::Stats(value) => LinkAttribute::Stats(*value),
             LinkAttribute::Controller(value) => LinkAttribute::Controller(*value),
-            LinkAttribute::Wireless(value) => LinkAttribute::Wireless(value.clone(alloc)?),
-            LinkAttribute::ProtoInfoBridge(value) => LinkAttribute::ProtoInfoBridge(value.clone(
+            LinkAttribute::Wireless(value) => LinkAttribute::Wireless(value.clone_in(alloc)?),
+            LinkAttribute::ProtoInfoBridge(value) => LinkAttribute::ProtoInfoBridge(value.clone_in(
                 alloc,
             )?),
-            LinkAttribute::ProtoInfoInet6(value) => LinkAttribute::ProtoInfoInet6(value.clone(
+            LinkAttribute::ProtoInfoInet6(value) => LinkAttribute::ProtoInfoInet6(value.clone_in(
                 alloc,
             )?),
-            LinkAttribute::ProtoInfoUnknown(value) => LinkAttribute::ProtoInfoUnknown(value.clone(
-                alloc,
-            )?),
+            LinkAttribute::ProtoInfoUnknown(value) => LinkAttribute::ProtoInfoUnknown(
+                value.clone_in(alloc)?,
+            ),
             LinkAttribute::TxQueueLen(value) => LinkAttribute::TxQueueLen(*value),
             LinkAttribute::Map(value) => LinkAttribute::Map(*value),
             LinkAttribute::OperState(value) => LinkAttribute::OperState(*value),
             LinkAttribute::Mode(value) => LinkAttribute::Mode(*value),
-            LinkAttribute::LinkInfo(value) => LinkAttribute::LinkInfo(value.clone(alloc)?),
+            LinkAttribute::LinkInfo(value) => LinkAttribute::LinkInfo(value.clone_in(alloc)?),
             LinkAttribute::NetNsPid(value) => LinkAttribute::NetNsPid(*value),
-            LinkAttribute::IfAlias(value) => LinkAttribute::IfAlias(value.clone(alloc)?),
+            LinkAttribute::IfAlias(value) => LinkAttribute::IfAlias(value.clone_in(alloc)?),
             LinkAttribute::NumVf(value) => LinkAttribute::NumVf(*value),
-            LinkAttribute::VfInfoList(value) => LinkAttribute::VfInfoList(value.clone(alloc)?),
+            LinkAttribute::VfInfoList(value) => LinkAttribute::VfInfoList(value.clone_in(alloc)?),
             LinkAttribute::Stats64(value) => LinkAttribute::Stats64(*value),
-            LinkAttribute::VfPorts(value) => LinkAttribute::VfPorts(value.clone(alloc)?),
-            LinkAttribute::PortSelf(value) => LinkAttribute::PortSelf(value.clone(alloc)?),
-            LinkAttribute::AfSpecBridge(value) => LinkAttribute::AfSpecBridge(value.clone(alloc)?),
-            LinkAttribute::AfSpecUnspec(value) => LinkAttribute::AfSpecUnspec(value.clone(alloc)?),
-            LinkAttribute::AfSpecUnknown(value) => LinkAttribute::AfSpecUnknown(value.clone(
+            LinkAttribute::VfPorts(value) => LinkAttribute::VfPorts(value.clone_in(alloc)?),
+            LinkAttribute::PortSelf(value) => LinkAttribute::PortSelf(value.clone_in(alloc)?),
+            LinkAttribute::AfSpecBridge(value) => LinkAttribute::AfSpecBridge(value.clone_in(
+                alloc,
+            )?),
+            LinkAttribute::AfSpecUnspec(value) => LinkAttribute::AfSpecUnspec(value.clone_in(
+                alloc,
+            )?),
+            LinkAttribute::AfSpecUnknown(value) => LinkAttribute::AfSpecUnknown(value.clone_in(
                 alloc,
             )?),
             LinkAttribute::Group(value) => LinkAttribute::Group(*value),
@@ -591,11 +508,13 @@ impl CloneIn for LinkAttribute {
             LinkAttribute::CarrierChanges(value) => LinkAttribute::CarrierChanges(*value),
             LinkAttribute::PhysSwitchId(value) => LinkAttribute::PhysSwitchId(*value),
             LinkAttribute::LinkNetNsId(value) => LinkAttribute::LinkNetNsId(*value),
-            LinkAttribute::PhysPortName(value) => LinkAttribute::PhysPortName(value.clone(alloc)?),
+            LinkAttribute::PhysPortName(value) => LinkAttribute::PhysPortName(value.clone_in(
+                alloc,
+            )?),
             LinkAttribute::ProtoDown(value) => LinkAttribute::ProtoDown(*value),
             LinkAttribute::GsoMaxSegs(value) => LinkAttribute::GsoMaxSegs(*value),
             LinkAttribute::GsoMaxSize(value) => LinkAttribute::GsoMaxSize(*value),
-            LinkAttribute::Xdp(value) => LinkAttribute::Xdp(value.clone(alloc)?),
+            LinkAttribute::Xdp(value) => LinkAttribute::Xdp(value.clone_in(alloc)?),
             LinkAttribute::Event(value) => LinkAttribute::Event(*value),
             LinkAttribute::NewNetnsId(value) => LinkAttribute::NewNetnsId(*value),
             LinkAttribute::IfNetnsId(value) => LinkAttribute::IfNetnsId(*value),
@@ -604,29 +523,29 @@ impl CloneIn for LinkAttribute {
             LinkAttribute::NewIfIndex(value) => LinkAttribute::NewIfIndex(*value),
             LinkAttribute::MinMtu(value) => LinkAttribute::MinMtu(*value),
             LinkAttribute::MaxMtu(value) => LinkAttribute::MaxMtu(*value),
-            LinkAttribute::PropList(value) => LinkAttribute::PropList(value.clone(alloc)?),
-            LinkAttribute::PermAddress(value) => LinkAttribute::PermAddress(value.clone(alloc)?),
-            LinkAttribute::ProtoDownReason(value) => LinkAttribute::ProtoDownReason(value.clone(
+            LinkAttribute::PropList(value) => LinkAttribute::PropList(value.clone_in(alloc)?),
+            LinkAttribute::PermAddress(value) => LinkAttribute::PermAddress(value.clone_in(alloc)?),
+            LinkAttribute::ProtoDownReason(value) => LinkAttribute::ProtoDownReason(value.clone_in(
                 alloc,
             )?),
-            LinkAttribute::ParentDevName(value) => LinkAttribute::ParentDevName(value.clone(
+            LinkAttribute::ParentDevName(value) => LinkAttribute::ParentDevName(value.clone_in(
                 alloc,
             )?),
-            LinkAttribute::ParentDevBusName(value) => LinkAttribute::ParentDevBusName(value.clone(
-                alloc,
-            )?),
+            LinkAttribute::ParentDevBusName(value) => LinkAttribute::ParentDevBusName(
+                value.clone_in(alloc)?,
+            ),
             LinkAttribute::GroMaxSize(value) => LinkAttribute::GroMaxSize(*value),
             LinkAttribute::TsoMaxSize(value) => LinkAttribute::TsoMaxSize(*value),
             LinkAttribute::TsoMaxSegs(value) => LinkAttribute::TsoMaxSegs(*value),
             LinkAttribute::AllMulticast(value) => LinkAttribute::AllMulticast(*value),
-            LinkAttribute::DevlinkPort(value) => LinkAttribute::DevlinkPort(value.clone(alloc)?),
+            LinkAttribute::DevlinkPort(value) => LinkAttribute::DevlinkPort(value.clone_in(alloc)?),
             LinkAttribute::GsoIpv4MaxSize(value) => LinkAttribute::GsoIpv4MaxSize(*value),
             LinkAttribute::GroIpv4MaxSize(value) => LinkAttribute::GroIpv4MaxSize(*value),
-            LinkAttribute::DpllPin(value) => LinkAttribute::DpllPin(value.clone(alloc)?),
+            LinkAttribute::DpllPin(value) => LinkAttribute::DpllPin(value.clone_in(alloc)?),
             LinkAttribute::NetnsImmutable(value) => LinkAttribute::NetnsImmutable(*value),
             LinkAttribute::Headroom(value) => LinkAttribute::Headroom(*value),
             LinkAttribute::Tailroom(value) => LinkAttribute::Tailroom(*value),
-            LinkAttribute::Other(value) => LinkAttribute::Other(value.clone(alloc)?),
+            LinkAttribute::Other(value) => LinkAttribute::Other(value.clone_in(alloc)?),
         })
     }
 }

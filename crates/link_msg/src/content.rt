@@ -12,15 +12,10 @@ use link_recs::map::MAP_SIZE;
 use link_recs::stats::STATS_SIZE;
 use link_recs::stats64::STATS64_SIZE;
 use link_vals::LinkExtentMask;
-use nla_wire::{NLA_HEADER_SIZE, Record, finish, list_measure, write_list, write_u32, write_value};
-
-/// A length that the value of an attribute may have, or `None`.
-#[inline(always)]
-fn at_most_value(len: usize) -> Option<usize>
-    ensures { Measures (len ≤ most_payload) len result }
-{
-    if len <= 65531 { Some(len) } else { None }
-}
+use nla_wire::{
+    NLA_HEADER_SIZE, Record, at_most_value, finish, list_measure, write_list, write_u32,
+    write_value,
+};
 
 /// Writes the attribute of this kind with the text of an event.
 fn write_event(kind: u16, event: &WirelessEvent, buffer: &mut [u8]) -> usize

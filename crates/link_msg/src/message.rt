@@ -182,10 +182,10 @@ impl LinkMessage {
 }
 
 impl CloneIn for LinkMessage {
-    fn clone(&self, alloc: Global) -> Result<LinkMessage, DecodeError> {
+    fn clone_in(&self, alloc: Global) -> Result<LinkMessage, DecodeError> {
         Ok(LinkMessage {
             header: self.header,
-            attributes: self.attributes.clone(alloc)?,
+            attributes: self.attributes.clone_in(alloc)?,
         })
     }
 }

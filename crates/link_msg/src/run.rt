@@ -5,7 +5,7 @@ ghost use Rattle.link_msg.specs.Runs.{IsPadded, IsCopiedRun};
 
 use crate::attribute::LinkAttribute;
 use link_vals::AddressFamily;
-use nla_wire::{NlasIterator, padded_len};
+use nla_wire::{NlasIterator, nla_align, padded_len};
 
 /// Whether at most three bytes are all zero.
 #[inline(always)]
@@ -27,7 +27,7 @@ fn is_padded(bytes: &[u8], front_len: u16) -> bool
     ensures { IsTrue result ↔ IsPadded bytes.now front_len }
 {
     let end = front_len as usize;
-    let padded = (end + 3) / 4 * 4;
+    let padded = nla_align(end);
     padded <= bytes.len() && is_clear(&bytes[end..padded])
 }
 

@@ -9,115 +9,23 @@ ghost use Rattle.link_msg.specs.Tables.{base, proto_info, af_spec, as_way, attri
 ghost use Rattle.link_msg.specs.Runs.{IsCopied};
 ghost use Rattle.link_msg.specs.declared.shape.Shape.TheVariants as Shapes;
 
-use crate::numbers::IFLA_ADDRESS;
-use crate::numbers::IFLA_AF_SPEC;
-use crate::numbers::IFLA_ALLMULTI;
-use crate::numbers::IFLA_BROADCAST;
-use crate::numbers::IFLA_CARRIER;
-use crate::numbers::IFLA_CARRIER_CHANGES;
-use crate::numbers::IFLA_CARRIER_DOWN_COUNT;
-use crate::numbers::IFLA_CARRIER_UP_COUNT;
-use crate::numbers::IFLA_DEVLINK_PORT;
-use crate::numbers::IFLA_DPLL_PIN;
-use crate::numbers::IFLA_EVENT;
-use crate::numbers::IFLA_EXT_MASK;
-use crate::numbers::IFLA_GRO_IPV4_MAX_SIZE;
-use crate::numbers::IFLA_GRO_MAX_SIZE;
-use crate::numbers::IFLA_GROUP;
-use crate::numbers::IFLA_GSO_IPV4_MAX_SIZE;
-use crate::numbers::IFLA_GSO_MAX_SEGS;
-use crate::numbers::IFLA_GSO_MAX_SIZE;
-use crate::numbers::IFLA_HEADROOM;
-use crate::numbers::IFLA_IF_NETNSID;
-use crate::numbers::IFLA_IFALIAS;
-use crate::numbers::IFLA_IFNAME;
-use crate::numbers::IFLA_LINK;
-use crate::numbers::IFLA_LINK_NETNSID;
-use crate::numbers::IFLA_LINKINFO;
-use crate::numbers::IFLA_LINKMODE;
-use crate::numbers::IFLA_MAP;
-use crate::numbers::IFLA_MASTER;
-use crate::numbers::IFLA_MAX_MTU;
-use crate::numbers::IFLA_MIN_MTU;
-use crate::numbers::IFLA_MTU;
-use crate::numbers::IFLA_NET_NS_FD;
-use crate::numbers::IFLA_NET_NS_PID;
-use crate::numbers::IFLA_NETNS_IMMUTABLE;
-use crate::numbers::IFLA_NEW_IFINDEX;
-use crate::numbers::IFLA_NEW_NETNSID;
-use crate::numbers::IFLA_NUM_RX_QUEUES;
-use crate::numbers::IFLA_NUM_TX_QUEUES;
-use crate::numbers::IFLA_NUM_VF;
-use crate::numbers::IFLA_OPERSTATE;
-use crate::numbers::IFLA_PARENT_DEV_BUS_NAME;
-use crate::numbers::IFLA_PARENT_DEV_NAME;
-use crate::numbers::IFLA_PERM_ADDRESS;
-use crate::numbers::IFLA_PHYS_PORT_ID;
-use crate::numbers::IFLA_PHYS_PORT_NAME;
-use crate::numbers::IFLA_PHYS_SWITCH_ID;
-use crate::numbers::IFLA_PORT_SELF;
-use crate::numbers::IFLA_PROMISCUITY;
-use crate::numbers::IFLA_PROP_LIST;
-use crate::numbers::IFLA_PROTINFO;
-use crate::numbers::IFLA_PROTO_DOWN;
-use crate::numbers::IFLA_PROTO_DOWN_REASON;
-use crate::numbers::IFLA_QDISC;
-use crate::numbers::IFLA_STATS;
-use crate::numbers::IFLA_STATS64;
-use crate::numbers::IFLA_TAILROOM;
-use crate::numbers::IFLA_TSO_MAX_SEGS;
-use crate::numbers::IFLA_TSO_MAX_SIZE;
-use crate::numbers::IFLA_TXQLEN;
-use crate::numbers::IFLA_VF_PORTS;
-use crate::numbers::IFLA_VFINFO_LIST;
-use crate::numbers::IFLA_WIRELESS;
-use crate::numbers::IFLA_XDP;
-use crate::payload::check_ports;
-use crate::payload::check_some;
-use crate::payload::measure_ports;
-use crate::payload::truth_byte;
-use crate::payload::write_event;
-use crate::payload::write_ports;
-use link_afspec::AfSpecBridge;
-use link_afspec::AfSpecUnspec;
-use link_afspec::LinkProtoInfoBridge;
-use link_afspec::LinkProtoInfoInet6;
-use link_nest::DevlinkPort;
-use link_nest::DpllPin;
-use link_nest::LinkInfo;
-use link_nest::LinkProtocolDownReason;
-use link_nest::LinkXdp;
-use link_nest::Prop;
-use link_nest::WirelessEvent;
-use link_recs::Map;
-use link_recs::Stats;
-use link_recs::Stats64;
+use crate::numbers::*;
+use crate::payload::{
+    check_ports, check_some, measure_ports, truth_byte, write_event, write_ports,
+};
+use link_afspec::{AfSpecBridge, AfSpecUnspec, LinkProtoInfoBridge, LinkProtoInfoInet6};
+use link_nest::{
+    DevlinkPort, DpllPin, LinkInfo, LinkProtocolDownReason, LinkXdp, Prop, WirelessEvent,
+};
+use link_recs::{Map, Stats, Stats64};
 use link_vals::AddressFamily;
-use link_vf::LinkVfInfo;
-use link_vf::LinkVfPort;
-use nla_wire::DecodeError;
-use nla_wire::NLA_F_NESTED;
-use nla_wire::NlaRead;
-use nla_wire::PlainRecord;
-use nla_wire::Record;
-use nla_wire::check_string;
+use link_vf::{LinkVfInfo, LinkVfPort};
 use nla_wire::error::checked;
-use nla_wire::measure_text;
-use nla_wire::measure_u8;
-use nla_wire::measure_u16;
-use nla_wire::measure_u32;
-use nla_wire::measure_u64;
-use nla_wire::parse_u8;
-use nla_wire::parse_u16;
-use nla_wire::parse_u32;
-use nla_wire::parse_u64;
-use nla_wire::write_text_payload;
-use nla_wire::write_u8;
-use nla_wire::write_u8_payload;
-use nla_wire::write_u16_payload;
-use nla_wire::write_u32_payload;
-use nla_wire::write_u64_payload;
-use nla_wire::write_value;
+use nla_wire::{
+    DecodeError, NLA_F_NESTED, NlaRead, PlainRecord, Record, check_string, measure_text,
+    measure_u8, measure_u16, measure_u32, parse_u8, parse_u16, parse_u32, write_text_payload,
+    write_u8, write_u8_payload, write_u16_payload, write_u32_payload, write_value,
+};
 
 /// The most bytes of an id that are written.
 const ID_SIZE: usize = 32;
@@ -135,8 +43,6 @@ pub(crate) enum Shape {
     U16,
     /// A number of four bytes, written as it is.
     U32,
-    /// A number of eight bytes, written as it is.
-    U64,
     /// A number of one byte, written 0 or 1.
     Truth,
     /// Any bytes, of which the first 32 are written.
@@ -285,7 +191,6 @@ impl Shape {
             Shape::U8 => checked(parse_u8(payload)),
             Shape::U16 => checked(parse_u16(payload)),
             Shape::U32 => checked(parse_u32(payload)),
-            Shape::U64 => checked(parse_u64(payload)),
             Shape::Truth => check_truth(payload),
             Shape::Id => Ok(()),
             Shape::Stats => Ok(()),
@@ -319,7 +224,6 @@ impl Shape {
             Shape::U8 => true,
             Shape::U16 => true,
             Shape::U32 => true,
-            Shape::U64 => true,
             Shape::Stats => true,
             Shape::Stats64 => true,
             _ => false,
@@ -340,7 +244,6 @@ impl Shape {
             Shape::U8 => measure_u8(payload),
             Shape::U16 => measure_u16(payload),
             Shape::U32 => measure_u32(payload),
-            Shape::U64 => measure_u64(payload),
             Shape::Truth => measure_u8(payload),
             Shape::Id => Some(payload.len().min(ID_SIZE)),
             Shape::Stats => Stats::measure_filled(payload),
@@ -380,7 +283,6 @@ impl Shape {
             Shape::U8 => write_u8_payload(number, payload, out),
             Shape::U16 => write_u16_payload(number, payload, out),
             Shape::U32 => write_u32_payload(number, payload, out),
-            Shape::U64 => write_u64_payload(number, payload, out),
             Shape::Truth => write_truth(number, payload, out),
             Shape::Id => write_value(number, &payload[..payload.len().min(ID_SIZE)], out),
             Shape::Stats => Stats::write_filled(number, payload, out),

@@ -113,12 +113,12 @@ impl NlaRead for DevlinkPort {
 }
 
 impl CloneIn for DevlinkPort {
-    fn clone(&self, alloc: Global) -> Result<DevlinkPort, DecodeError> {
+    fn clone_in(&self, alloc: Global) -> Result<DevlinkPort, DecodeError> {
         match self {
-            DevlinkPort::BusName(name) => name.clone(alloc).map(DevlinkPort::BusName),
-            DevlinkPort::DevName(name) => name.clone(alloc).map(DevlinkPort::DevName),
+            DevlinkPort::BusName(name) => name.clone_in(alloc).map(DevlinkPort::BusName),
+            DevlinkPort::DevName(name) => name.clone_in(alloc).map(DevlinkPort::DevName),
             DevlinkPort::PortIndex(index) => Ok(DevlinkPort::PortIndex(*index)),
-            DevlinkPort::Other(nla) => nla.clone(alloc).map(DevlinkPort::Other),
+            DevlinkPort::Other(nla) => nla.clone_in(alloc).map(DevlinkPort::Other),
         }
     }
 }

@@ -121,12 +121,12 @@ impl NlaRead for LinkProtocolDownReason {
 }
 
 impl CloneIn for LinkProtocolDownReason {
-    fn clone(&self, alloc: Global) -> Result<LinkProtocolDownReason, DecodeError> {
+    fn clone_in(&self, alloc: Global) -> Result<LinkProtocolDownReason, DecodeError> {
         match self {
             LinkProtocolDownReason::Mask(mask) => Ok(LinkProtocolDownReason::Mask(*mask)),
             LinkProtocolDownReason::Value(value) => Ok(LinkProtocolDownReason::Value(*value)),
             LinkProtocolDownReason::Other(nla) => nla
-                .clone(alloc)
+                .clone_in(alloc)
                 .map(LinkProtocolDownReason::Other),
         }
     }

@@ -92,10 +92,10 @@ impl NlaRead for DpllPin {
 }
 
 impl CloneIn for DpllPin {
-    fn clone(&self, alloc: Global) -> Result<DpllPin, DecodeError> {
+    fn clone_in(&self, alloc: Global) -> Result<DpllPin, DecodeError> {
         match self {
             DpllPin::PinId(id) => Ok(DpllPin::PinId(*id)),
-            DpllPin::Other(nla) => nla.clone(alloc).map(DpllPin::Other),
+            DpllPin::Other(nla) => nla.clone_in(alloc).map(DpllPin::Other),
         }
     }
 }

@@ -91,10 +91,10 @@ impl NlaRead for LinkInfo {
 }
 
 impl CloneIn for LinkInfo {
-    fn clone(&self, alloc: Global) -> Result<LinkInfo, DecodeError> {
+    fn clone_in(&self, alloc: Global) -> Result<LinkInfo, DecodeError> {
         match self {
-            LinkInfo::Kind(kind) => kind.clone(alloc).map(LinkInfo::Kind),
-            LinkInfo::Other(nla) => nla.clone(alloc).map(LinkInfo::Other),
+            LinkInfo::Kind(kind) => kind.clone_in(alloc).map(LinkInfo::Kind),
+            LinkInfo::Other(nla) => nla.clone_in(alloc).map(LinkInfo::Other),
         }
     }
 }

@@ -91,10 +91,10 @@ impl NlaRead for Prop {
 }
 
 impl CloneIn for Prop {
-    fn clone(&self, alloc: Global) -> Result<Prop, DecodeError> {
+    fn clone_in(&self, alloc: Global) -> Result<Prop, DecodeError> {
         match self {
-            Prop::AltIfName(name) => name.clone(alloc).map(Prop::AltIfName),
-            Prop::Other(nla) => nla.clone(alloc).map(Prop::Other),
+            Prop::AltIfName(name) => name.clone_in(alloc).map(Prop::AltIfName),
+            Prop::Other(nla) => nla.clone_in(alloc).map(Prop::Other),
         }
     }
 }

@@ -9,14 +9,13 @@ ghost use Rattle.link_nest.specs.Wireless.{wireless_event, wireless_text, Wirele
 
 use crate::numbers::{IWEVASSOCREQIE, IWEVASSOCRESPIE};
 use nla_wire::fields::{too_short, u16_at};
-use nla_wire::{Bytes, CloneIn, DecodeError, Exact, fill_bytes, write_bytes};
+use nla_wire::{
+    Bytes, CloneIn, DecodeError, Exact, MOST_VALUE_LEN, fill_bytes, to_u16, write_bytes,
+};
 use std::alloc::Global;
 
 /// The bytes of an event's header: its length and its command of two bytes each, and padding of four bytes.
 const HEADER_LEN: usize = 8;
-
-/// The most bytes that the value of an attribute may have.
-const MOST_TEXT_LEN: usize = 65531;
 
 /// The value of IFLA_WIRELESS: an event of the wireless extensions (`struct iw_event` of linux/wireless.h).
 ///
@@ -50,7 +49,7 @@ fn fill_event(buffer: &mut [u8], command: u16, bytes: &[u8]) -> usize
     ensures { Filled buffer.old buffer.new (event_text command bytes.now) result }
 {
     let start = fill_bytes(buffer, bytes);
-    let header = header_of((HEADER_LEN + bytes.len()) as u16, command);
+    let header = header_of(to_u16(HEADER_LEN + bytes.len()), command);
     fill_bytes(&mut buffer[..start], &header)
 }
 
@@ -61,7 +60,7 @@ fn write_event(out: &mut [u8], command: u16, bytes: &[u8]) -> usize
     ensures { Writes (event_text command bytes.now) out.old out.new result }
 {
     let end = HEADER_LEN + bytes.len();
-    out[..HEADER_LEN].copy_from_slice(&header_of(end as u16, command));
+    out[..HEADER_LEN].copy_from_slice(&header_of(to_u16(end), command));
     out[HEADER_LEN..end].copy_from_slice(bytes);
     end
 }
@@ -123,7 +122,7 @@ impl WirelessEvent {
     pub fn measure(payload: &[u8]) -> Option<usize>
         ensures { Weighs wireless_text WirelessFits (wireless_event.reads payload.now) result }
     {
-        if payload.len() < HEADER_LEN || payload.len() > MOST_TEXT_LEN {
+        if payload.len() < HEADER_LEN || payload.len() > MOST_VALUE_LEN {
             return None;
         }
         Some(payload.len())
@@ -166,9 +165,9 @@ impl WirelessEvent {
         ensures { IsTrue result ↔ WirelessFits self.now }
     {
         match self {
-            WirelessEvent::AssociateRequest(bytes) => bytes.len() <= MOST_TEXT_LEN - HEADER_LEN,
-            WirelessEvent::AssociateResponse(bytes) => bytes.len() <= MOST_TEXT_LEN - HEADER_LEN,
-            WirelessEvent::Other(bytes) => bytes.len() <= MOST_TEXT_LEN,
+            WirelessEvent::AssociateRequest(bytes) => bytes.len() <= MOST_VALUE_LEN - HEADER_LEN,
+            WirelessEvent::AssociateResponse(bytes) => bytes.len() <= MOST_VALUE_LEN - HEADER_LEN,
+            WirelessEvent::Other(bytes) => bytes.len() <= MOST_VALUE_LEN,
         }
     }
 
@@ -217,15 +216,15 @@ impl WirelessEvent {
 }
 
 impl CloneIn for WirelessEvent {
-    fn clone(&self, alloc: Global) -> Result<WirelessEvent, DecodeError> {
+    fn clone_in(&self, alloc: Global) -> Result<WirelessEvent, DecodeError> {
         match self {
             WirelessEvent::AssociateRequest(bytes) => {
-                bytes.clone(alloc).map(WirelessEvent::AssociateRequest)
+                bytes.clone_in(alloc).map(WirelessEvent::AssociateRequest)
             }
             WirelessEvent::AssociateResponse(bytes) => {
-                bytes.clone(alloc).map(WirelessEvent::AssociateResponse)
+                bytes.clone_in(alloc).map(WirelessEvent::AssociateResponse)
             }
-            WirelessEvent::Other(bytes) => bytes.clone(alloc).map(WirelessEvent::Other),
+            WirelessEvent::Other(bytes) => bytes.clone_in(alloc).map(WirelessEvent::Other),
         }
     }
 }

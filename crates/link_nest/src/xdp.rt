@@ -154,7 +154,7 @@ impl NlaRead for LinkXdp {
 }
 
 impl CloneIn for LinkXdp {
-    fn clone(&self, alloc: Global) -> Result<LinkXdp, DecodeError> {
+    fn clone_in(&self, alloc: Global) -> Result<LinkXdp, DecodeError> {
         match self {
             LinkXdp::Fd(fd) => Ok(LinkXdp::Fd(*fd)),
             LinkXdp::Attached(place) => Ok(LinkXdp::Attached(*place)),
@@ -164,7 +164,7 @@ impl CloneIn for LinkXdp {
             LinkXdp::SkbProgId(id) => Ok(LinkXdp::SkbProgId(*id)),
             LinkXdp::HwProgId(id) => Ok(LinkXdp::HwProgId(*id)),
             LinkXdp::ExpectedFd(fd) => Ok(LinkXdp::ExpectedFd(*fd)),
-            LinkXdp::Other(nla) => nla.clone(alloc).map(LinkXdp::Other),
+            LinkXdp::Other(nla) => nla.clone_in(alloc).map(LinkXdp::Other),
         }
     }
 }

@@ -108,9 +108,10 @@ impl InetDevConf {
         }
     }
 
+    /// The fields, in their order.
     #[inline(always)]
     #[tactic(auto, unfolding(crate::specs::InetDevConfFields::inet_dev_conf_fields))]
-    fn words(&self) -> [i32; INET_DEV_CONF_COUNT]
+    pub fn words(&self) -> [i32; INET_DEV_CONF_COUNT]
         ensures { result ≡ inet_dev_conf_fields self.now }
     {
         [

@@ -45,9 +45,10 @@ impl Inet6CacheInfo {
         }
     }
 
+    /// The fields, in their order.
     #[inline(always)]
     #[tactic(auto, unfolding(crate::specs::Inet6CacheInfoFields::inet6_cache_info_fields))]
-    fn words(&self) -> [i32; INET6_CACHE_INFO_COUNT]
+    pub fn words(&self) -> [i32; INET6_CACHE_INFO_COUNT]
         ensures { result ≡ inet6_cache_info_fields self.now }
     {
         [

@@ -160,9 +160,10 @@ impl Inet6DevConf {
         }
     }
 
+    /// The fields, in their order.
     #[inline(always)]
     #[tactic(auto, unfolding(crate::specs::Inet6DevConfFields::inet6_dev_conf_fields))]
-    fn words(&self) -> [i32; INET6_DEV_CONF_COUNT]
+    pub fn words(&self) -> [i32; INET6_DEV_CONF_COUNT]
         ensures { result ≡ inet6_dev_conf_fields self.now }
     {
         [

@@ -53,9 +53,10 @@ impl Icmp6Stats {
         }
     }
 
+    /// The fields, in their order.
     #[inline(always)]
     #[tactic(auto, unfolding(crate::specs::Icmp6StatsFields::icmp6_stats_fields))]
-    fn words(&self) -> [i64; ICMP6_STATS_COUNT]
+    pub fn words(&self) -> [i64; ICMP6_STATS_COUNT]
         ensures { result ≡ icmp6_stats_fields self.now }
     {
         [

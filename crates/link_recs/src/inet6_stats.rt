@@ -119,9 +119,10 @@ impl Inet6Stats {
         }
     }
 
+    /// The fields, in their order.
     #[inline(always)]
     #[tactic(auto, unfolding(crate::specs::Inet6StatsFields::inet6_stats_fields))]
-    fn words(&self) -> [i64; INET6_STATS_COUNT]
+    pub fn words(&self) -> [i64; INET6_STATS_COUNT]
         ensures { result ≡ inet6_stats_fields self.now }
     {
         [

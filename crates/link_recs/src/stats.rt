@@ -87,9 +87,10 @@ impl Stats {
         }
     }
 
+    /// The fields, in their order.
     #[inline(always)]
     #[tactic(auto, unfolding(crate::specs::StatsFields::stats_fields))]
-    fn words(&self) -> [u32; STATS_COUNT]
+    pub fn words(&self) -> [u32; STATS_COUNT]
         ensures { result ≡ stats_fields self.now }
     {
         [

@@ -89,9 +89,10 @@ impl Stats64 {
         }
     }
 
+    /// The fields, in their order.
     #[inline(always)]
     #[tactic(auto, unfolding(crate::specs::Stats64Fields::stats64_fields))]
-    fn words(&self) -> [u64; STATS64_COUNT]
+    pub fn words(&self) -> [u64; STATS64_COUNT]
         ensures { result ≡ stats64_fields self.now }
     {
         [

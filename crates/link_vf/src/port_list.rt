@@ -261,8 +261,8 @@ impl Place<LinkVfPort> for EntryPlace {
 }
 
 impl CloneIn for LinkVfPort {
-    fn clone(&self, alloc: Global) -> Result<LinkVfPort, DecodeError> {
-        self.0.clone(alloc).map(LinkVfPort)
+    fn clone_in(&self, alloc: Global) -> Result<LinkVfPort, DecodeError> {
+        self.0.clone_in(alloc).map(LinkVfPort)
     }
 }
 

@@ -184,7 +184,7 @@ impl NlaRead for VfStats {
 }
 
 impl CloneIn for VfStats {
-    fn clone(&self, alloc: Global) -> Result<VfStats, DecodeError> {
+    fn clone_in(&self, alloc: Global) -> Result<VfStats, DecodeError> {
         match self {
             VfStats::RxPackets(n) => Ok(VfStats::RxPackets(*n)),
             VfStats::TxPackets(n) => Ok(VfStats::TxPackets(*n)),
@@ -194,7 +194,7 @@ impl CloneIn for VfStats {
             VfStats::Multicast(n) => Ok(VfStats::Multicast(*n)),
             VfStats::RxDropped(n) => Ok(VfStats::RxDropped(*n)),
             VfStats::TxDropped(n) => Ok(VfStats::TxDropped(*n)),
-            VfStats::Other(nla) => nla.clone(alloc).map(VfStats::Other),
+            VfStats::Other(nla) => nla.clone_in(alloc).map(VfStats::Other),
         }
     }
 }

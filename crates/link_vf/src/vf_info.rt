@@ -23,8 +23,9 @@ use link_vfrec::{
 };
 use nla_wire::error::checked;
 use nla_wire::{
-    CloneIn, DecodeError, DefaultNla, Exact, List, Nla, NlaBuffer, NlaRead, Record, fill_bytes,
-    list_fits, list_measure, measure_by_size, nlas_buffer_len, nlas_fill, write_list, write_value,
+    CloneIn, DecodeError, DefaultNla, Exact, List, MOST_VALUE_LEN, Nla, NlaBuffer, NlaRead, Record,
+    at_most_value, fill_bytes, list_fits, list_measure, measure_by_size, nlas_buffer_len,
+    nlas_fill, write_list, write_value,
 };
 use std::alloc::Global;
 
@@ -108,7 +109,8 @@ impl Nla for VfInfo {
 
     fn fits(&self) -> bool {
         match self {
-            VfInfo::Mac(mac) => mac_len(mac) <= 65531,
+            // for the proof: 36 bytes are fewer
+            VfInfo::Mac(mac) => mac_len(mac) <= MOST_VALUE_LEN,
             VfInfo::Vlan(_) => true,
             VfInfo::TxRate(_) => true,
             VfInfo::SpoofCheck(_) => true,
@@ -120,7 +122,8 @@ impl Nla for VfInfo {
             VfInfo::IbNodeGuid(_) => true,
             VfInfo::IbPortGuid(_) => true,
             VfInfo::VlanList(members) => list_fits(members.as_slice()),
-            VfInfo::Broadcast(broadcast) => broadcast_len(broadcast) <= 65531,
+            // for the proof: 32 bytes are fewer
+            VfInfo::Broadcast(broadcast) => broadcast_len(broadcast) <= MOST_VALUE_LEN,
             VfInfo::Other(nla) => nla.fits(),
         }
     }
@@ -211,13 +214,6 @@ impl Nla for VfInfo {
             VfInfo::Other(nla) => nla.write(buffer),
         }
     }
-}
-
-/// A length that the value of an attribute may have, or `None`.
-fn at_most_value(len: usize) -> Option<usize>
-    ensures { Measures (len ≤ most_payload) len result }
-{
-    if len <= 65531 { Some(len) } else { None }
 }
 
 /// The record that an attribute is, if its number is one of a record: no memory is taken.
@@ -374,7 +370,7 @@ impl NlaRead for VfInfo {
 }
 
 impl CloneIn for VfInfo {
-    fn clone(&self, alloc: Global) -> Result<VfInfo, DecodeError> {
+    fn clone_in(&self, alloc: Global) -> Result<VfInfo, DecodeError> {
         match self {
             VfInfo::Mac(mac) => Ok(VfInfo::Mac(*mac)),
             VfInfo::Vlan(vlan) => Ok(VfInfo::Vlan(*vlan)),
@@ -383,13 +379,13 @@ impl CloneIn for VfInfo {
             VfInfo::LinkState(state) => Ok(VfInfo::LinkState(*state)),
             VfInfo::Rate(rate) => Ok(VfInfo::Rate(*rate)),
             VfInfo::RssQueryEn(query) => Ok(VfInfo::RssQueryEn(*query)),
-            VfInfo::Stats(members) => members.clone(alloc).map(VfInfo::Stats),
+            VfInfo::Stats(members) => members.clone_in(alloc).map(VfInfo::Stats),
             VfInfo::Trust(trust) => Ok(VfInfo::Trust(*trust)),
             VfInfo::IbNodeGuid(guid) => Ok(VfInfo::IbNodeGuid(*guid)),
             VfInfo::IbPortGuid(guid) => Ok(VfInfo::IbPortGuid(*guid)),
-            VfInfo::VlanList(members) => members.clone(alloc).map(VfInfo::VlanList),
+            VfInfo::VlanList(members) => members.clone_in(alloc).map(VfInfo::VlanList),
             VfInfo::Broadcast(address) => Ok(VfInfo::Broadcast(*address)),
-            VfInfo::Other(nla) => nla.clone(alloc).map(VfInfo::Other),
+            VfInfo::Other(nla) => nla.clone_in(alloc).map(VfInfo::Other),
         }
     }
 }

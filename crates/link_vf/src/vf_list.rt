@@ -261,8 +261,8 @@ impl Place<LinkVfInfo> for EntryPlace {
 }
 
 impl CloneIn for LinkVfInfo {
-    fn clone(&self, alloc: Global) -> Result<LinkVfInfo, DecodeError> {
-        self.0.clone(alloc).map(LinkVfInfo)
+    fn clone_in(&self, alloc: Global) -> Result<LinkVfInfo, DecodeError> {
+        self.0.clone_in(alloc).map(LinkVfInfo)
     }
 }
 

@@ -71,9 +71,9 @@ impl NlaRead for VfPort {
 }
 
 impl CloneIn for VfPort {
-    fn clone(&self, alloc: Global) -> Result<VfPort, DecodeError> {
+    fn clone_in(&self, alloc: Global) -> Result<VfPort, DecodeError> {
         match self {
-            VfPort::Other(nla) => nla.clone(alloc).map(VfPort::Other),
+            VfPort::Other(nla) => nla.clone_in(alloc).map(VfPort::Other),
         }
     }
 }

@@ -113,10 +113,10 @@ impl NlaRead for VfVlan {
 }
 
 impl CloneIn for VfVlan {
-    fn clone(&self, alloc: Global) -> Result<VfVlan, DecodeError> {
+    fn clone_in(&self, alloc: Global) -> Result<VfVlan, DecodeError> {
         match self {
             VfVlan::Info(vlan) => Ok(VfVlan::Info(*vlan)),
-            VfVlan::Other(nla) => nla.clone(alloc).map(VfVlan::Other),
+            VfVlan::Other(nla) => nla.clone_in(alloc).map(VfVlan::Other),
         }
     }
 }

@@ -1,6 +1,5 @@
 mod Added
 mod Faults
 mod Shown
-mod Counters
 mod Named
 mod Places

@@ -8,6 +8,7 @@ use crate::wire::show_cause;
 use link_msg::header::HEADER_SIZE;
 use link_msg::{Cause, DecodeError, LinkMessage, NlasIterator};
 use nla_wire::fields::u32_at;
+use nla_wire::nla_align;
 use shown::Page;
 use std::alloc::{AllocError, Global};
 
@@ -54,7 +55,7 @@ fn front_of(bytes: &[u8], at: usize) -> usize
         let Ok(frame) = item else {
             return start.min(bytes.len());
         };
-        let padded = (frame.length() as usize + 3) / 4 * 4;
+        let padded = nla_align(frame.length() as usize);
         let next = start.saturating_add(padded);
         if next > at {
             return start.min(bytes.len());

@@ -10,6 +10,7 @@ ghost use Rattle.nla_wire.specs.Same.{same_frame, same_frame-laws, same_frame-pa
 
 use crate::error::{Cause, DecodeError, PAYLOAD};
 use crate::exact::Exact;
+use crate::number::to_u16;
 use std::alloc::AllocError;
 use std::marker::Model;
 
@@ -106,7 +107,7 @@ impl<'a> NlaBuffer<'a> {
     pub fn length(&self) -> u16
         ensures { result ≡ 4 + length self.now.payload }
     {
-        (NLA_HEADER_SIZE + self.value.len()) as u16
+        to_u16(NLA_HEADER_SIZE + self.value.len())
     }
 
     /// The same frame: what is lent to a call that is rarely made is a copy, so that this one can stay in registers.
@@ -141,8 +142,8 @@ impl<'a> NlaBuffer<'a> {
 
 /// What holds of every slice of bytes: each is below 256. It does nothing; for the proof: a call of it states this.
 #[inline(always)]
-fn are_bytes(bytes: &[u8])
-    ensures { IsBytes bytes.now }
+fn are_bytes(_bytes: &[u8])
+    ensures { IsBytes _bytes.now }
 {}
 
 fn frame_fault(cause: Cause) -> DecodeError

@@ -12,7 +12,7 @@ use crate::exact::Exact;
 use crate::fill::fill_bytes;
 use crate::nla::Nla;
 use crate::values::CloneIn;
-use crate::write::write_value;
+use crate::write::{MOST_VALUE_LEN, write_value};
 use std::alloc::Global;
 use std::marker::Model;
 
@@ -69,7 +69,7 @@ impl Nla for DefaultNla {
     }
 
     fn fits(&self) -> bool {
-        self.value.len() <= 65531
+        self.value.len() <= MOST_VALUE_LEN
     }
 
     fn value_len(&self) -> usize {
@@ -87,7 +87,7 @@ impl Nla for DefaultNla {
 }
 
 impl CloneIn for DefaultNla {
-    fn clone(&self, alloc: Global) -> Result<DefaultNla, DecodeError> {
+    fn clone_in(&self, alloc: Global) -> Result<DefaultNla, DecodeError> {
         let value = Vec::from_slice(alloc, self.value.as_slice())?;
         Ok(DefaultNla {
             kind: self.kind,

@@ -6,6 +6,8 @@ ghost use Rattle.nla_wire.specs.Frames.{missing};
 ghost use Rattle.nla_wire.specs.Canon.{canon, Filled};
 
 use crate::fields::put_u16;
+use crate::number::to_u16;
+use crate::write::nla_align;
 
 /// Fills the last bytes of the buffer with these, and returns the place of the first.
 pub fn fill_bytes(buffer: &mut [u8], bytes: &[u8]) -> usize
@@ -51,10 +53,10 @@ pub fn close_frame(buffer: &mut [u8], start: usize, kind: u16) -> usize
         (canon (record { kind = kind; payload = drop start buffer.old })) result }
 {
     let len = buffer.len() - start;
-    let padding = (len + 3) / 4 * 4 - len;
+    let padding = nla_align(len) - len;
     let at = start - padding;
     pad(&mut buffer[at..], padding);
     put_u16(buffer, at - 2, kind);
-    put_u16(buffer, at - 4, (4 + len) as u16);
+    put_u16(buffer, at - 4, to_u16(4 + len));
     at - 4
 }

@@ -8,7 +8,10 @@ ghost use Rattle.nla_wire.specs.Contents.{content_text};
 
 use crate::fill::{fill_bytes, fill_text};
 use crate::nla::Nla;
-use crate::write::{write_i32, write_text, write_u8, write_u16, write_u32, write_u64, write_value};
+use crate::write::{
+    MOST_VALUE_LEN, at_most_value, write_i32, write_text, write_u8, write_u16, write_u32,
+    write_u64, write_value,
+};
 
 /// What the value of an attribute is written from. Numbers are written lowest byte first.
 #[derive(Clone, Copy)]
@@ -116,7 +119,7 @@ impl<T: Flat> Nla for T {
 
     #[inline]
     fn fits(&self) -> bool {
-        self.view().1.len() <= 65531
+        self.view().1.len() <= MOST_VALUE_LEN
     }
 
     #[inline]
@@ -131,8 +134,7 @@ impl<T: Flat> Nla for T {
 
     #[inline(always)]
     fn measure(&self) -> Option<usize> {
-        let len = self.view().1.len();
-        if len <= 65531 { Some(len) } else { None }
+        at_most_value(self.view().1.len())
     }
 
     #[inline(always)]

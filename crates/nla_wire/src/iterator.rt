@@ -8,6 +8,7 @@ ghost use Rattle.nla_wire.specs.Gives.{without_place};
 
 use crate::buffer::NlaBuffer;
 use crate::error::DecodeError;
+use crate::write::nla_align;
 use std::marker::Model;
 
 /// The frames of a byte string, one after the other. Where one is damaged its fault comes in its place, and nothing
@@ -43,14 +44,6 @@ impl<'a> NlasIterator<'a> {
     }
 }
 
-/// The bytes of a frame of this length, with its padding.
-#[inline(always)]
-fn with_padding(length: u16) -> usize
-    ensures { result ≡ length + missing length }
-{
-    (length as usize + 3) / 4 * 4
-}
-
 /// The first item, and the place from which the others are read.
 #[inline(always)]
 fn first(bytes: &[u8]) -> (Result<NlaBuffer<'_>, DecodeError>, usize)
@@ -59,7 +52,7 @@ fn first(bytes: &[u8]) -> (Result<NlaBuffer<'_>, DecodeError>, usize)
 {
     match NlaBuffer::at_front(bytes) {
         Ok(frame) => {
-            let given = with_padding(frame.length());
+            let given = nla_align(frame.length() as usize);
             (Ok(frame), given)
         }
         Err(error) => (Err(error), bytes.len()),

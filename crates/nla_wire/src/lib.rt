@@ -32,7 +32,7 @@ pub use nla::{
 };
 pub use number::{
     emit_i32, emit_u16, emit_u32, emit_u64, parse_i32, parse_ipv6_addr, parse_u8, parse_u16,
-    parse_u32, parse_u64,
+    parse_u32, parse_u64, to_u16,
 };
 pub use payload::{
     measure_i32, measure_ipv6_addr, measure_text, measure_u8, measure_u16, measure_u32,
@@ -49,6 +49,6 @@ pub use record::{PlainRecord, Record, RecordBuffer, measure_by_size};
 pub use text::{check_string, parse_string};
 pub use values::{Bytes, CloneIn, List, Text};
 pub use write::{
-    add_len, finish, padded_len, write_bytes, write_i32, write_text, write_u8, write_u16,
-    write_u32, write_u64, write_value,
+    MOST_VALUE_LEN, add_len, at_most_value, finish, nla_align, padded_len, write_bytes, write_i32,
+    write_text, write_u8, write_u16, write_u32, write_u64, write_value,
 };

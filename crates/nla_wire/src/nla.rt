@@ -7,7 +7,7 @@ ghost use Rattle.nla_wire.specs.Canon.{canon, canons, AllFit, Measures, Filled, 
 
 use crate::buffer::NLA_HEADER_SIZE;
 use crate::fill::close_frame;
-use crate::write::{add_len, finish, padded_len};
+use crate::write::{add_len, at_most_value, finish, padded_len};
 
 /// A value that is written as an attribute.
 ///
@@ -77,7 +77,7 @@ pub trait Nla {
         requires { fits self.now }
         ensures { result ≡ length (canon (frame self.now)) }
     {
-        4 + (self.value_len() + 3) / 4 * 4
+        padded_len(self.value_len())
     }
 
     /// Fills the last bytes of the buffer with the attribute's text, and returns the place of its first byte. Earlier
@@ -129,10 +129,7 @@ pub fn list_measure<N: Nla>(nlas: &[N]) -> Option<usize>
     let Some(len) = nlas_measure(nlas) else {
         return None;
     };
-    if len > 65531 {
-        return None;
-    }
-    Some(len)
+    at_most_value(len)
 }
 
 /// Whether each attribute fits, and the length of their text is a `usize`.

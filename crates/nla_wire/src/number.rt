@@ -1,6 +1,6 @@
 //! Numbers and addresses as whole payloads, and numbers written to the front of a buffer.
 
-ghost use Rattle.std.specs.Prelude.{◌≡◌, ◌≤◌, ◌++◌, length, drop, MatchResult};
+ghost use Rattle.std.specs.Prelude.{◌≡◌, ◌^◌, ◌<◌, ◌≤◌, ◌++◌, length, drop, MatchResult};
 ghost use Rattle.std.specs.Int.{w8, w16, w32, w64, to_le_bytes, cast_unsigned};
 ghost use Rattle.nla_wire.specs.Payloads.{number_of, signed_of, ipv6_address};
 ghost use Rattle.nla_wire.specs.Gives.{without_place};
@@ -8,6 +8,15 @@ ghost use Rattle.nla_wire.specs.declared.error.Cause.TheVariants.{WrongLength};
 
 use crate::error::{Cause, DecodeError, PAYLOAD};
 use std::net::Ipv6Addr;
+
+/// The number as two bytes: what the proof carries, that it fits, stands here alone.
+#[inline(always)]
+pub fn to_u16(number: usize) -> u16
+    requires { number < 2 ^ 16 }
+    ensures { result ≡ number }
+{
+    number as u16
+}
 
 fn wrong_length(bytes: &[u8], want: usize) -> DecodeError
     ensures { result.cause ≡ WrongLength (length bytes.now) want }

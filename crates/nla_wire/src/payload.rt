@@ -11,10 +11,7 @@ ghost use Rattle.nla_wire.specs.Canon.{canon, Writes, Weighs};
 
 use crate::buffer::NLA_HEADER_SIZE;
 use crate::text;
-use crate::write::{finish, write_bytes, write_text, write_value};
-
-/// The most bytes that a value may have: the length field of two bytes counts the header too.
-const MOST_VALUE_LEN: usize = 65531;
+use crate::write::{MOST_VALUE_LEN, finish, write_bytes, write_text, write_value};
 
 /// The length of the number of one byte that a payload is: `None` where it has another length.
 #[inline(always)]
@@ -86,10 +83,10 @@ pub fn measure_text(payload: &[u8]) -> Option<usize>
     if text.len() >= MOST_VALUE_LEN {
         return None;
     }
-    match text::utf8(text) {
-        Some(_) => Some(text.len() + 1),
-        None => None,
+    if text::is_utf8(text) {
+        return Some(text.len() + 1);
     }
+    None
 }
 
 /// Writes the attribute of this kind with the text of a payload, which ends in one NUL.

@@ -15,15 +15,12 @@ use crate::buffer::{NLA_HEADER_SIZE, NlaBuffer};
 use crate::error::{DecodeError, empty_list};
 use crate::iterator::NlasIterator;
 use crate::nla::Nla;
-use crate::write::{add_len, finish, padded_len};
+use crate::write::{add_len, at_most_value, finish, padded_len};
 use std::alloc::Global;
 
 /// The number of the members that are read where others are dropped: `IFLA_VF_INFO` and `IFLA_VF_PORT`
 /// (linux/if_link.h).
 const PICKED_KIND: u16 = 1;
-
-/// The most bytes that a value may have: the length field of two bytes counts the header too.
-const MOST_VALUE_LEN: usize = 65531;
 
 /// A place of the grammar: it says how an attribute there is read as a value of `V`.
 ///
@@ -212,10 +209,7 @@ pub fn measure_nested_members<V: Nla + Drop, P: Place<V>>(place: &P, bytes: &[u8
     let Some(len) = measure_members(place, bytes) else {
         return None;
     };
-    if len > MOST_VALUE_LEN {
-        return None;
-    }
-    Some(len)
+    at_most_value(len)
 }
 
 /// Writes the canonical text of a list's members, one after the other, to the front of the buffer, and returns its
@@ -364,10 +358,7 @@ pub fn measure_nested_picked_members<V: Nla + Drop, P: Place<V>>(
     let Some(len) = measure_picked_members(place, bytes) else {
         return None;
     };
-    if len > MOST_VALUE_LEN {
-        return None;
-    }
-    Some(len)
+    at_most_value(len)
 }
 
 /// Writes the canonical text of a list's members with the number `PICKED_KIND` as `write_members` does.

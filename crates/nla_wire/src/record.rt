@@ -82,20 +82,20 @@ pub trait Record<const SIZE: usize>: Sized {
 
     /// The length of the text of the record that a payload means as if zeros followed it: `SIZE`, whatever it holds.
     #[inline(always)]
-    final fn measure_filled(payload: &[u8]) -> Option<usize>
+    final fn measure_filled(_payload: &[u8]) -> Option<usize>
         requires { SIZE ≤ most_payload }
         ensures { Weighs bytes (λ r. length (bytes r) ≤ most_payload)
-            ((filled of).reads payload.now) result }
+            ((filled of).reads _payload.now) result }
     {
         Some(SIZE)
     }
 
     /// The bytes that a payload has to have, by which alone it is measured.
     #[inline(always)]
-    final fn size_for(payload: &[u8]) -> usize
+    final fn size_for(_payload: &[u8]) -> usize
         requires { SIZE ≤ most_payload }
         ensures { WeighsBySize bytes (λ r. length (bytes r) ≤ most_payload)
-            ((sized SIZE of).reads payload.now) (length payload.now) result }
+            ((sized SIZE of).reads _payload.now) (length _payload.now) result }
     {
         SIZE
     }

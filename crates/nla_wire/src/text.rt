@@ -113,14 +113,22 @@ fn is_decoded(bytes: &[u8]) -> bool
     str::from_utf8(bytes).is_ok()
 }
 
-/// The bytes as a text, where they are UTF-8, as ASCII is.
+/// Whether bytes are UTF-8, as ASCII is.
 #[inline(always)]
-pub(crate) fn utf8(bytes: &[u8]) -> Option<&str>
+pub(crate) fn is_utf8(bytes: &[u8]) -> bool
+    ensures { IsTrue result ↔ IsUtf8 bytes.now }
+{
+    is_ascii(bytes) || is_decoded(bytes)
+}
+
+/// The bytes as a text, where they are UTF-8.
+#[inline(always)]
+fn utf8(bytes: &[u8]) -> Option<&str>
     ensures { MatchOption result (IsUtf8 bytes.now → ⊥)
         (λ s. (s.now ≡ bytes.now) × IsUtf8 bytes.now) }
 {
-    if is_ascii(bytes) || is_decoded(bytes) {
-        // SAFETY: the bytes are ASCII, which is UTF-8, or were found to be UTF-8.
+    if is_utf8(bytes) {
+        // SAFETY: the bytes were found to be UTF-8.
         return Some(unsafe { str::from_utf8_unchecked(bytes) });
     }
     None
@@ -144,10 +152,10 @@ pub fn parse_string(alloc: Global, bytes: &[u8]) -> Result<Text, DecodeError>
 fn text_fault(bytes: &[u8]) -> Result<(), DecodeError>
     ensures { Checks result (text.reads bytes.now) }
 {
-    match utf8(without_nul(bytes)) {
-        Some(_) => Ok(()),
-        None => Err(not_utf8()),
+    if is_utf8(without_nul(bytes)) {
+        return Ok(());
     }
+    Err(not_utf8())
 }
 
 /// Whether a payload is a text, with no memory taken: `Ok` where `parse_string` reads it, else `NotUtf8`.

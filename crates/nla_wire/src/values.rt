@@ -22,7 +22,7 @@ use std::slice::Iter;
 /// A value that is copied with memory taken from the allocator that is passed.
 pub trait CloneIn: Sized {
     /// An equal value, or `OutOfMemory`.
-    fn clone(&self, alloc: Global) -> Result<Self, DecodeError>
+    fn clone_in(&self, alloc: Global) -> Result<Self, DecodeError>
         ensures copy { IfOk result (λ copy. copy ≡ self.now) }
         ensures memory { IfErr result (λ e. e.cause ≡ OutOfMemory) };
 }
@@ -84,7 +84,7 @@ impl Bytes {
 }
 
 impl CloneIn for Bytes {
-    fn clone(&self, alloc: Global) -> Result<Bytes, DecodeError> {
+    fn clone_in(&self, alloc: Global) -> Result<Bytes, DecodeError> {
         Bytes::from_slice(alloc, self.as_slice())
     }
 }
@@ -165,7 +165,7 @@ impl Text {
 }
 
 impl CloneIn for Text {
-    fn clone(&self, alloc: Global) -> Result<Text, DecodeError> {
+    fn clone_in(&self, alloc: Global) -> Result<Text, DecodeError> {
         Text::from_str(alloc, self.as_str())
     }
 }
@@ -264,10 +264,10 @@ impl<T> List<T> {
 }
 
 impl<T: CloneIn + Drop> CloneIn for List<T> {
-    fn clone(&self, alloc: Global) -> Result<List<T>, DecodeError> {
+    fn clone_in(&self, alloc: Global) -> Result<List<T>, DecodeError> {
         let mut vec = Vec::with_capacity(alloc, self.len())?;
         for value in self.as_slice() {
-            vec.push(value.clone(alloc)?)?;
+            vec.push(value.clone_in(alloc)?)?;
         }
         Ok(List { vec })
     }

@@ -5,9 +5,34 @@ ghost use Rattle.std.specs.Option.{SomeIff};
 ghost use Rattle.std.specs.Int.{w8, w16, w32, w64, to_le_bytes, cast_unsigned};
 ghost use Rattle.nla_wire.specs.Sizes.{most_payload};
 ghost use Rattle.nla_wire.specs.Frames.{missing};
-ghost use Rattle.nla_wire.specs.Canon.{canon, Writes};
+ghost use Rattle.nla_wire.specs.Canon.{canon, Measures, Writes};
 
 use crate::buffer::NLA_HEADER_SIZE;
+use crate::number::to_u16;
+
+/// The most bytes that the value of an attribute has: its length field of two bytes counts the header too.
+pub const MOST_VALUE_LEN: usize = 65531;
+
+/// A length that the value of an attribute may have, or `None`.
+#[inline(always)]
+pub fn at_most_value(len: usize) -> Option<usize>
+    ensures { Measures (len ≤ most_payload) len result }
+{
+    if len <= MOST_VALUE_LEN {
+        Some(len)
+    } else {
+        None
+    }
+}
+
+/// A length rounded up to a multiple of four, at which each frame starts (`NLA_ALIGN` of linux/netlink.h).
+#[inline(always)]
+pub fn nla_align(len: usize) -> usize
+    requires { len + 3 < 2 ^ 64 }
+    ensures { result ≡ len + missing len }
+{
+    (len + 3) / 4 * 4
+}
 
 /// The length of an attribute whose value has so many bytes: with its header and its padding.
 #[inline(always)]
@@ -15,7 +40,7 @@ pub fn padded_len(value_len: usize) -> usize
     requires { value_len ≤ most_payload }
     ensures { result ≡ 4 + value_len + missing value_len }
 {
-    NLA_HEADER_SIZE + (value_len + 3) / 4 * 4
+    NLA_HEADER_SIZE + nla_align(value_len)
 }
 
 /// The sum of two lengths, or `None` where it is no `usize`, which its carry tells.
@@ -68,8 +93,8 @@ pub fn finish(out: &mut [u8], len: usize, kind: u16) -> usize
         out.new result }
 {
     let end = NLA_HEADER_SIZE + len;
-    let padded = (end + 3) / 4 * 4;
-    write_header(out, end as u16, kind);
+    let padded = nla_align(end);
+    write_header(out, to_u16(end), kind);
     clear(&mut out[end..padded]);
     padded
 }

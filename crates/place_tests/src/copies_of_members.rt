@@ -96,7 +96,7 @@ fn wireless_events(rt: HostRuntime) {
     assert!(rt; are_told_apart(alloc, &ones, &others));
     assert!(rt; are_told_apart(alloc, &others, &ones));
     for event in &ones {
-        let copy = event.clone(alloc).expect(&rt, "memory");
+        let copy = event.clone_in(alloc).expect(&rt, "memory");
         let text = event_written(&rt, alloc, event);
         assert!(rt; equal(event_written(&rt, alloc, &copy).as_slice(), text.as_slice()));
     }

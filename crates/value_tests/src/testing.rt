@@ -9,7 +9,7 @@ use std::process::Abort;
 
 /// A copy of a value, which is equal to it.
 pub(crate) fn copied<N: Exact + CloneIn + Drop>(rt: &impl Abort, alloc: Global, value: &N) -> N {
-    let copy = value.clone(alloc).expect(rt, "memory");
+    let copy = value.clone_in(alloc).expect(rt, "memory");
     assert!(rt; same(&copy, value));
     copy
 }

@@ -5,28 +5,29 @@ use Rattle.line_filter.proofs.digits.decode.Goals as goal
 
 pub returns-then-high-gt15 : goal.returns-then-high-gt15
 returns-then-high-gt15 c =
-    let first = c.type_inv.digits (2 * c.pairs.i) in
-    let bad = pair_refuses_first c.args.values.now (slice_index c.args.digits.now (2 * c.pairs.i))
-    (slice_index c.args.digits.now (2 * c.pairs.i + 1)) (2 * c.pairs.i) c.requires.table (omega arith) (omega arith) in
-    spells_none _ c.pairs.bytes c.pairs.i _ c.if-digits-ne0.false (omega arith) bad c.pairs.invariant
+    let first = c.type_inv.digits (2 * c.loop-i.i) in
+    let bad = pair_refuses_first c.args.values.now (slice_index c.args.digits.now (2 * c.loop-i.i))
+    (slice_index c.args.digits.now (2 * c.loop-i.i + 1)) (2 * c.loop-i.i) c.requires.table (omega arith)
+    (omega arith) in
+    spells_none _ c.loop-i.bytes c.loop-i.i _ c.if-digits-ne0.false (omega arith) bad c.loop-i.invariant
 
 pub returns-then-low-gt15 : goal.returns-then-low-gt15
 returns-then-low-gt15 c =
-    let first = c.type_inv.digits (2 * c.pairs.i) in
-    let second = c.type_inv.digits (2 * c.pairs.i + 1) in
-    let bad = pair_refuses_second c.args.values.now (slice_index c.args.digits.now (2 * c.pairs.i))
-    (slice_index c.args.digits.now (2 * c.pairs.i + 1)) (2 * c.pairs.i) c.requires.table (omega arith) (omega arith)
+    let first = c.type_inv.digits (2 * c.loop-i.i) in
+    let second = c.type_inv.digits (2 * c.loop-i.i + 1) in
+    let bad = pair_refuses_second c.args.values.now (slice_index c.args.digits.now (2 * c.loop-i.i))
+    (slice_index c.args.digits.now (2 * c.loop-i.i + 1)) (2 * c.loop-i.i) c.requires.table (omega arith) (omega arith)
     (omega arith) (omega arith) in
-    spells_none _ c.pairs.bytes c.pairs.i _ c.if-digits-ne0.false (omega arith) bad c.pairs.invariant
+    spells_none _ c.loop-i.bytes c.loop-i.i _ c.if-digits-ne0.false (omega arith) bad c.loop-i.invariant
 
-pub pairs-preserved : goal.pairs-preserved
-pairs-preserved c =
-    let first = c.type_inv.digits (2 * c.pairs.i) in
-    let second = c.type_inv.digits (2 * c.pairs.i + 1) in
-    let good = pair_reads c.args.values.now (slice_index c.args.digits.now (2 * c.pairs.i))
-    (slice_index c.args.digits.now (2 * c.pairs.i + 1)) (2 * c.pairs.i) c.requires.table (omega arith) (omega arith)
+pub loop-i-preserved : goal.loop-i-preserved
+loop-i-preserved c =
+    let first = c.type_inv.digits (2 * c.loop-i.i) in
+    let second = c.type_inv.digits (2 * c.loop-i.i + 1) in
+    let good = pair_reads c.args.values.now (slice_index c.args.digits.now (2 * c.loop-i.i))
+    (slice_index c.args.digits.now (2 * c.loop-i.i + 1)) (2 * c.loop-i.i) c.requires.table (omega arith) (omega arith)
     (omega arith) (omega arith) in
-    decode_step _ c.pairs.bytes c.pairs.i _ (omega arith) (omega arith) good c.pairs.invariant
+    decode_step _ c.loop-i.bytes c.loop-i.i _ (omega arith) (omega arith) good c.loop-i.invariant
 
 pub returns : goal.returns
-returns c = spells_all _ c.pairs.bytes c.pairs.i c.if-digits-ne0.false (omega arith) (omega arith) c.pairs.invariant
+returns c = spells_all _ c.loop-i.bytes c.loop-i.i c.if-digits-ne0.false (omega arith) (omega arith) c.loop-i.invariant

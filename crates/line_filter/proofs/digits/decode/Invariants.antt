@@ -3,6 +3,6 @@ use Rattle.hex.specs.Hex.{decode_pairs}
 use Rattle.hex.proofs.Pairs.{prepend}
 use Rattle.line_filter.proofs.digits.decode.Given as goal
 
-abbrev pub invariant-pairs : goal.invariant-pairs
-invariant-pairs l =
+abbrev pub invariant-loop-i : goal.invariant-loop-i
+invariant-loop-i l =
     decode_pairs 0 l.digits ≡ prepend (take l.i l.bytes) (decode_pairs (2 * l.i) (drop (2 * l.i) l.digits))

@@ -34,6 +34,7 @@ fill_setting-start-requires c =
       ap length from,
       c.loop-number.invariant.filled.0,
       c.requires,
+      ap (λ n. length (setting_text (record { number = n; value = z }))) c.to_u16.ensures,
       request_after conf (c.loop-number.number - 1),
       length-take-le c.loop-number.start c.loop-number.buffer within,
       length-append (setting_text (record { number = c.loop-number.number; value = z }))
@@ -49,10 +50,11 @@ loop-number-preserved c =
     let is = to_z-of_z w32 c.setting.result fits ∙ c.setting.ensures in
     let from = request_from conf c.loop-number.number z c.loop-number-test.true c.loop-number.invariant.in_range is in
     let now : List ℕ = c.fill_setting-start.new.buffer ++ drop c.loop-number.start c.loop-number.buffer in
+    let filled = rw c.to_u16.ensures at c.fill_setting-start.ensures in
     let more = Filled-more old c.loop-number.buffer now c.fill_setting-start.new.buffer
     (settings_text (drop c.loop-number.number (settings_of conf)))
     (setting_text (record { number = c.loop-number.number; value = z })) c.fill_setting-start.result c.loop-number.start
-    c.loop-number.start c.loop-number.invariant.filled c.fill_setting-start.ensures refl refl in
+    c.loop-number.start c.loop-number.invariant.filled filled refl refl in
     record {
       in_range = omega (arith, c.loop-number.invariant.in_range);
       filled = subst (λ text. Filled old now text c.fill_setting-start.result) (sym from) more;

@@ -27,6 +27,7 @@ loop-number-preserved c =
       arith,
       c.loop-number.invariant,
       c.setting_len-len.ensures.text,
+      ap (λ n. length (setting_text (record { number = n; value = z }))) c.to_u16.ensures,
       ap length from,
       ap (λ i. length (settings_text (drop i (settings_of conf)))) next,
       length-append (setting_text (record { number = c.loop-number.number; value = z }))

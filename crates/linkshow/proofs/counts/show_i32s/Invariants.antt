@@ -1,10 +1,8 @@
-use Rattle.std.proofs.Common.{◌≡◌, ◌/◌, length, take, map}
-use Rattle.std.specs.Int.{w32}
-use Rattle.nla_wire.specs.Fields.{signed_from}
+use Rattle.std.proofs.Common.{◌≡◌, take, map}
 use Rattle.shown.specs.Drafts.{with_members}
 use Rattle.linkshow.specs.Records.{signed_of}
 use Rattle.linkshow.proofs.counts.show_i32s.Given as goal
 
 abbrev pub invariant-loop-i : goal.invariant-loop-i
 invariant-loop-i l = l.page ≡ with_members
-    (take l.i (signed_of (map (λ name. name.now) l.names) (signed_from w32 l.bytes 0 (length l.bytes / 4)))) l.fn.page
+    (take l.i (signed_of (map (λ name. name.now) l.names) l.numbers)) l.fn.page

@@ -1,10 +1,8 @@
-use Rattle.std.proofs.Common.{◌≡◌, ◌/◌, length, take, map}
-use Rattle.std.specs.Int.{w64}
-use Rattle.nla_wire.specs.Fields.{numbers_from}
+use Rattle.std.proofs.Common.{◌≡◌, take, map}
 use Rattle.shown.specs.Drafts.{with_members}
 use Rattle.linkshow.specs.Records.{numbers_of}
 use Rattle.linkshow.proofs.counts.show_u64s.Given as goal
 
 abbrev pub invariant-loop-i : goal.invariant-loop-i
 invariant-loop-i l = l.page ≡ with_members
-    (take l.i (numbers_of (map (λ name. name.now) l.names) (numbers_from w64 l.bytes 0 (length l.bytes / 8)))) l.fn.page
+    (take l.i (numbers_of (map (λ name. name.now) l.names) l.numbers)) l.fn.page

@@ -3,4 +3,4 @@ use Rattle.nla_wire.proofs.Front.{all_bytes}
 use Rattle.nla_wire.proofs.buffer.are_bytes.Goals as goal
 
 pub returns : goal.returns
-returns c = all_bytes c.args.bytes.now (λ i. omega (arith, c.type_inv.bytes i))
+returns c = all_bytes c.args._bytes.now (λ i. omega (arith, c.type_inv._bytes i))

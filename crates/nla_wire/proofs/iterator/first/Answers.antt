@@ -9,7 +9,7 @@ returns-in-Ok c =
     first_comes c.args.bytes.now c.in-Ok.frame (sym c.in-Ok.ensures)
     ∙ ap (λ r. Ok c.in-Ok.frame ∷ items r) (padded_after c.args.bytes.now c.length.result
     (length c.in-Ok.frame.payload) c.length.ensures
-    ∙ ap (λ k. drop k c.args.bytes.now) (sym c.with_padding-given.ensures))
+    ∙ ap (λ k. drop k c.args.bytes.now) (sym c.nla_align-given.ensures))
 
 pub returns-in-Err : goal.returns-in-Err
 returns-in-Err c =

@@ -1,3 +1,5 @@
+use Rattle.std.proofs.Common.{sym, ◌∙◌}
+use Rattle.std.proofs.lemmas.Bool.{false≢true}
 use Rattle.nla_wire.proofs.Texts.{text_weighs, text_unread, text_long}
 use Rattle.nla_wire.proofs.payload.measure_text.Goals as goal
 
@@ -5,11 +7,12 @@ pub returns-then-text-ge-MOST_VALUE_LEN : goal.returns-then-text-ge-MOST_VALUE_L
 returns-then-text-ge-MOST_VALUE_LEN c = text_long c.args.payload.now c.without_nul-text.result.now
     c.without_nul-text.ensures c.if-text-ge-MOST_VALUE_LEN.true
 
-pub returns-in-Some : goal.returns-in-Some
-returns-in-Some c =
-    text_weighs c.args.payload.now c.without_nul-text.result.now c.without_nul-text.ensures c.in-Some.ensures.1
-    c.if-text-ge-MOST_VALUE_LEN.false
+pub returns-then-is_utf8 : goal.returns-then-is_utf8
+returns-then-is_utf8 c =
+    text_weighs c.args.payload.now c.without_nul-text.result.now c.without_nul-text.ensures
+    (c.is_utf8.ensures.0 c.if-is_utf8.true) c.if-text-ge-MOST_VALUE_LEN.false
 
-pub returns-in-None : goal.returns-in-None
-returns-in-None c =
-    text_unread c.args.payload.now c.without_nul-text.result.now c.without_nul-text.ensures c.in-None.ensures
+pub returns : goal.returns
+returns c =
+    text_unread c.args.payload.now c.without_nul-text.result.now c.without_nul-text.ensures
+    (λ whole. false≢true (sym c.if-is_utf8.false ∙ c.is_utf8.ensures.1 whole))

@@ -1,5 +1,5 @@
 use Rattle.link_msg.specs.declared.shape.Shape.TheVariants as Shapes
-use Rattle.link_msg.proofs.Copied.{arm_copied, bytes_copied, text_copied, u8_copied, u16_copied, u32_copied, u64_copied}
+use Rattle.link_msg.proofs.Copied.{arm_copied, bytes_copied, text_copied, u8_copied, u16_copied, u32_copied}
 use Rattle.link_msg.proofs.Copied.{stats_copied, stats64_copied}
 use Rattle.link_msg.proofs.shape.Shape.is_copied.Goals as goal
 
@@ -17,9 +17,6 @@ returns-in-U16 c = λ told. arm_copied c.args.self Shapes.U16 c.in-U16.is u16_co
 
 pub returns-in-U32 : goal.returns-in-U32
 returns-in-U32 c = λ told. arm_copied c.args.self Shapes.U32 c.in-U32.is u32_copied
-
-pub returns-in-U64 : goal.returns-in-U64
-returns-in-U64 c = λ told. arm_copied c.args.self Shapes.U64 c.in-U64.is u64_copied
 
 pub returns-in-Stats : goal.returns-in-Stats
 returns-in-Stats c = λ told. arm_copied c.args.self Shapes.Stats c.in-Stats.is stats_copied

@@ -1,5 +1,5 @@
 use Rattle.std.proofs.Common.{ℕ, ◌≤◌, List, [], ◌∷◌, ◌++◌, length, refl, sym, ap, ◌∙◌, arith, length-take, Some}
-use Rattle.std.specs.Int.{w8, w16, w32, w64, to_le_bytes}
+use Rattle.std.specs.Int.{w8, w16, w32, to_le_bytes}
 use Rattle.std.proofs.Math.Nat.{min_comm}
 use Rattle.nla_wire.specs.Sizes.{most_payload}
 use Rattle.nla_wire.specs.Payloads.{read_number}
@@ -45,12 +45,6 @@ returns-in-U32 c =
     arm_weighs c.args.self Shapes.U32 c.args.payload.now c.measure_u32.result c.in-U32.is
     (weighs_inside (to_le_bytes w32) (λ x. length ((to_le_bytes w32) x) ≤ most_payload) always (λ x fits. tt)
     ((base Shapes.U32).codec.grammar.reads c.args.payload.now) c.measure_u32.result c.measure_u32.ensures)
-
-pub returns-in-U64 : goal.returns-in-U64
-returns-in-U64 c =
-    arm_weighs c.args.self Shapes.U64 c.args.payload.now c.measure_u64.result c.in-U64.is
-    (weighs_inside (to_le_bytes w64) (λ x. length ((to_le_bytes w64) x) ≤ most_payload) always (λ x fits. tt)
-    ((base Shapes.U64).codec.grammar.reads c.args.payload.now) c.measure_u64.result c.measure_u64.ensures)
 
 pub returns-in-Truth : goal.returns-in-Truth
 returns-in-Truth c =

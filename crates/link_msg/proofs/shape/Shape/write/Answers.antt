@@ -1,5 +1,5 @@
 use Rattle.std.proofs.Common.{ℕ, ◌≤◌, List, length, take, sym, ap, ◌∙◌, subst, ltb-false}
-use Rattle.std.specs.Int.{w8, w16, w32, w64}
+use Rattle.std.specs.Int.{w8, w16, w32}
 use Rattle.std.proofs.Math.Nat.{min_comm}
 use Rattle.std.proofs.lemmas.List.{take_min}
 use Rattle.nla_wire.specs.Canon.{canon, Writes}
@@ -106,27 +106,6 @@ returns-in-U32 c =
     (number_room w32 c.args.number c.args.payload.now (ShapeFits base Shapes.U32) (length c.args.out.now)
     (arm_room c.args.self Shapes.U32 c.args.number c.args.payload.now
     (length c.args.out.now) c.in-U32.is c.requires.room)).0 c.write_u32_payload.ensures)
-
-pub write_u64_payload-requires-clause-exact : goal.write_u64_payload-requires-clause-exact
-write_u64_payload-requires-clause-exact c =
-    (number_room w64 c.args.number c.args.payload.now (ShapeFits base Shapes.U64) (length c.args.out.now)
-    (arm_room c.args.self Shapes.U64 c.args.number c.args.payload.now
-    (length c.args.out.now) c.in-U64.is c.requires.room)).0
-
-pub write_u64_payload-requires-clause-room : goal.write_u64_payload-requires-clause-room
-write_u64_payload-requires-clause-room c =
-    (number_room w64 c.args.number c.args.payload.now (ShapeFits base Shapes.U64) (length c.args.out.now)
-    (arm_room c.args.self Shapes.U64 c.args.number c.args.payload.now
-    (length c.args.out.now) c.in-U64.is c.requires.room)).1
-
-pub returns-in-U64 : goal.returns-in-U64
-returns-in-U64 c =
-    arm_writes c.args.self Shapes.U64 c.args.number c.args.payload.now
-    c.args.out.now c.write_u64_payload.new.out c.write_u64_payload.result c.in-U64.is (number_writes w64
-    c.args.number c.args.payload.now c.args.out.now c.write_u64_payload.new.out c.write_u64_payload.result
-    (number_room w64 c.args.number c.args.payload.now (ShapeFits base Shapes.U64) (length c.args.out.now)
-    (arm_room c.args.self Shapes.U64 c.args.number c.args.payload.now
-    (length c.args.out.now) c.in-U64.is c.requires.room)).0 c.write_u64_payload.ensures)
 
 pub write_value-requires-in-Id-clause-room : goal.write_value-requires-in-Id-clause-room
 write_value-requires-in-Id-clause-room c =
