@@ -1,0 +1,4 @@
+pub mod Styles
+pub mod Meanings
+pub mod Tables
+pub mod Laws

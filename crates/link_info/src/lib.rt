@@ -1,0 +1,17 @@
+//! What the attributes of a kind of link say: tables of rows, one reader and one writer that go by any table.
+#![tactic(auto)]
+
+pub mod field;
+pub mod laws;
+pub mod number;
+pub mod place;
+pub mod read;
+pub mod style;
+pub mod tables;
+pub mod value;
+pub mod write;
+
+pub use field::{Field, Fields};
+pub use place::Place;
+pub use style::{Member, Names, Plain, Row, Size, Style};
+pub use value::Value;

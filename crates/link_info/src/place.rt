@@ -1,0 +1,185 @@
+//! The places of rows: each has a table.
+
+use crate::style::Row;
+use crate::tables::{
+    bond, bridge, can, family, geneve, gre, macsec, macvlan, others, tunnel, vlan, vxlan,
+};
+
+/// Where attributes stand. Each place has its table.
+#[derive(Clone, Copy, Debug, Drop)]
+pub enum Place {
+    /// The data of a vlan.
+    Vlan,
+    /// Mappings of priorities of a vlan.
+    VlanQos,
+    /// The data of a bond.
+    Bond,
+    /// The aggregator in use of a bond.
+    BondAdInfo,
+    /// The data of a port of a bond.
+    BondSlave,
+    /// The data of a bridge.
+    Bridge,
+    /// Who asks for multicast groups.
+    BridgeQuerier,
+    /// The data of a port of a bridge.
+    BridgePort,
+    /// The data of a vxlan.
+    Vxlan,
+    /// The data of a geneve tunnel.
+    Geneve,
+    /// The data of a GRE or ERSPAN tunnel over IPv4.
+    Gre,
+    /// The data of a GRE or ERSPAN tunnel over IPv6.
+    Gre6,
+    /// The data of an ipip or sit tunnel.
+    IpTunnel,
+    /// The data of an ip6tnl tunnel.
+    Ip6Tunnel,
+    /// The data of a vti tunnel.
+    Vti,
+    /// The data of a vti6 tunnel.
+    Vti6,
+    /// The data of an xfrm interface.
+    Xfrm,
+    /// The data of a macvlan or macvtap.
+    Macvlan,
+    /// Addresses that a macvlan takes packets from.
+    MacvlanAddresses,
+    /// The data of an ipvlan or ipvtap.
+    Ipvlan,
+    /// The data of a macsec interface.
+    Macsec,
+    /// The data of a CAN interface.
+    Can,
+    /// The compensation of delays of a CAN transceiver.
+    CanTdc,
+    /// Modes that a CAN controller knows.
+    CanCtrlmode,
+    /// The data of a vrf.
+    Vrf,
+    /// The data of a port of a vrf.
+    VrfPort,
+    /// The data of a tun device.
+    Tun,
+    /// The data of a netkit device.
+    Netkit,
+    /// The data of an hsr device.
+    Hsr,
+    /// The data of an rmnet device.
+    Rmnet,
+    /// The data of a GTP tunnel.
+    Gtp,
+    /// The data of a bareudp tunnel.
+    Bareudp,
+    /// The data of an AMT tunnel.
+    Amt,
+    /// The data of a wwan device.
+    Wwan,
+    /// The data of an ovpn device.
+    Ovpn,
+    /// `IFLA_AF_SPEC` under AF_BRIDGE. The members of `IFLA_PROTINFO` there are those of `BridgePort`.
+    BridgeSpec,
+    /// A vlan of a port that is a tunnel.
+    BridgeVlanTunnel,
+    /// Spanning trees of a port.
+    BridgeMst,
+    /// A spanning tree of a port.
+    BridgeMstEntry,
+    /// AF_INET6 in `IFLA_AF_SPEC`, and `IFLA_PROTINFO` under AF_INET6.
+    Inet6,
+    /// `IFLA_PORT_SELF`, and each port of `IFLA_VF_PORTS`.
+    Port,
+}
+
+impl Place {
+    /// The rows of this place.
+    pub fn rows(self) -> &'static [Row] {
+        match self {
+            Place::Vlan => vlan::VLAN,
+            Place::VlanQos => vlan::VLAN_QOS,
+            Place::Bond => bond::BOND,
+            Place::BondAdInfo => bond::BOND_AD_INFO,
+            Place::BondSlave => bond::BOND_SLAVE,
+            Place::Bridge => bridge::BRIDGE,
+            Place::BridgeQuerier => bridge::BRIDGE_QUERIER,
+            Place::BridgePort => bridge::BRIDGE_PORT,
+            Place::Vxlan => vxlan::VXLAN,
+            Place::Geneve => geneve::GENEVE,
+            Place::Gre => gre::GRE,
+            Place::Gre6 => gre::GRE6,
+            Place::IpTunnel => tunnel::IP_TUNNEL,
+            Place::Ip6Tunnel => tunnel::IP6_TUNNEL,
+            Place::Vti => tunnel::VTI,
+            Place::Vti6 => tunnel::VTI6,
+            Place::Xfrm => tunnel::XFRM,
+            Place::Macvlan => macvlan::MACVLAN,
+            Place::MacvlanAddresses => macvlan::MACVLAN_ADDRESSES,
+            Place::Ipvlan => macvlan::IPVLAN,
+            Place::Macsec => macsec::MACSEC,
+            Place::Can => can::CAN,
+            Place::CanTdc => can::CAN_TDC,
+            Place::CanCtrlmode => can::CAN_CTRLMODE,
+            Place::Vrf => others::VRF,
+            Place::VrfPort => others::VRF_PORT,
+            Place::Tun => others::TUN,
+            Place::Netkit => others::NETKIT,
+            Place::Hsr => others::HSR,
+            Place::Rmnet => others::RMNET,
+            Place::Gtp => others::GTP,
+            Place::Bareudp => others::BAREUDP,
+            Place::Amt => others::AMT,
+            Place::Wwan => others::WWAN,
+            Place::Ovpn => others::OVPN,
+            Place::BridgeSpec => family::BRIDGE_SPEC,
+            Place::BridgeVlanTunnel => family::BRIDGE_VLAN_TUNNEL,
+            Place::BridgeMst => family::BRIDGE_MST,
+            Place::BridgeMstEntry => family::BRIDGE_MST_ENTRY,
+            Place::Inet6 => family::INET6,
+            Place::Port => family::PORT,
+        }
+    }
+
+    /// The place of the members of `IFLA_INFO_DATA` of links of this kind, the text of `IFLA_INFO_KIND`.
+    pub fn of_kind(kind: &str) -> Option<Place> {
+        match kind {
+            "vlan" => Some(Place::Vlan),
+            "bond" => Some(Place::Bond),
+            "bridge" => Some(Place::Bridge),
+            "vxlan" => Some(Place::Vxlan),
+            "geneve" => Some(Place::Geneve),
+            "gre" | "gretap" | "erspan" => Some(Place::Gre),
+            "ip6gre" | "ip6gretap" | "ip6erspan" => Some(Place::Gre6),
+            "ipip" | "sit" => Some(Place::IpTunnel),
+            "ip6tnl" => Some(Place::Ip6Tunnel),
+            "vti" => Some(Place::Vti),
+            "vti6" => Some(Place::Vti6),
+            "xfrm" => Some(Place::Xfrm),
+            "macvlan" | "macvtap" => Some(Place::Macvlan),
+            "ipvlan" | "ipvtap" => Some(Place::Ipvlan),
+            "macsec" => Some(Place::Macsec),
+            "can" | "vcan" | "vxcan" => Some(Place::Can),
+            "vrf" => Some(Place::Vrf),
+            "tun" => Some(Place::Tun),
+            "netkit" => Some(Place::Netkit),
+            "hsr" => Some(Place::Hsr),
+            "rmnet" => Some(Place::Rmnet),
+            "gtp" => Some(Place::Gtp),
+            "bareudp" => Some(Place::Bareudp),
+            "amt" => Some(Place::Amt),
+            "wwan" => Some(Place::Wwan),
+            "ovpn" => Some(Place::Ovpn),
+            _ => None,
+        }
+    }
+
+    /// The place of the members of `IFLA_INFO_SLAVE_DATA` of ports of this kind, the text of `IFLA_INFO_SLAVE_KIND`.
+    pub fn of_slave_kind(kind: &str) -> Option<Place> {
+        match kind {
+            "bond" => Some(Place::BondSlave),
+            "bridge" => Some(Place::BridgePort),
+            "vrf" => Some(Place::VrfPort),
+            _ => None,
+        }
+    }
+}
