@@ -15,16 +15,16 @@
  *   Arguments that are only read may overlap.
  * - Nobody else writes the bytes that are read, or touches what is written, during the call. An encoding is measured
  *   first and then written: bytes that change in between, in memory that another thread or process shares, can make
- *   `linkwire_canonical` write past `out`. Copy such bytes first.
+ *   `linkwire_canonical` and `linkwire_state` write past `out`. Copy such bytes first.
  * - `*at` has a value before the call. `out`, `*attribute` and what the static functions write need not be initialised,
  *   nor the bytes of a list that `linkwire_put` writes to; a nest that is put as a payload was written whole.
  * Nothing is asked of the bytes themselves: every call returns, whatever the bytes are.
  *
  * Calls share nothing, so they can run side by side in several threads, and no call reads or sets errno but by the
- * allocator. `linkwire_same_message` takes memory from malloc and realloc, and gives all of it back with free before it
- * returns. The three are to be of one allocator, which aligns a block to each power of two up to 16 that divides its
- * size; it may set errno. That call is not to be made from a signal handler, nor in the forked child of a process with
- * threads. The other functions take no memory and can be called anywhere.
+ * allocator. `linkwire_same_message` and `linkwire_same_state` take memory from malloc and realloc, and give all of it
+ * back with free before they return. The three are to be of one allocator, which aligns a block to each power of two up
+ * to 16 that divides its size; it may set errno. These two calls are not to be made from a signal handler, nor in the
+ * forked child of a process with threads. The other functions take no memory and can be called anywhere.
  */
 #ifndef LINKWIRE_H
 #define LINKWIRE_H
@@ -43,6 +43,10 @@ extern "C" {
  * numbers are not to be compared, so a store keeps the number beside its keys. `linkwire_canonical_form` returns that
  * of the library. */
 #define LINKWIRE_CANONICAL_FORM 2
+
+/* The number of the state form: a change of what a state encoding has at zero raises it, and so does one of the
+ * canonical form. A store keeps it beside its keys. `linkwire_state_form` returns that of the library. */
+#define LINKWIRE_STATE_FORM 1
 
 /* The bytes of a message's header; its list of attributes starts after them. */
 #define LINKWIRE_HEADER_SIZE 16
@@ -65,7 +69,7 @@ enum linkwire_answer {
     LINKWIRE_UNFIT = -16,       /* the value of an attribute would have more than 65531 bytes */
     LINKWIRE_EMPTY_PORTS = -17, /* the message holds an empty list of ports */
     /* Neither says anything of the bytes. */
-    LINKWIRE_OUT_OF_MEMORY = -18, /* no memory was left; only linkwire_same_message returns it */
+    LINKWIRE_OUT_OF_MEMORY = -18, /* no memory was left; only the two calls that compare return it */
     LINKWIRE_NO_ROOM = -19        /* the buffer is too short */
 };
 
@@ -91,6 +95,38 @@ ptrdiff_t linkwire_canonical(const uint8_t *message, size_t len, uint8_t *out, s
  * that is refused. Takes memory. */
 int32_t linkwire_same_message(const uint8_t *a, size_t a_len, const uint8_t *b, size_t b_len);
 
+/* The state encoding: the canonical encoding, in which all that an idle kernel moves by itself is zero, so that it
+ * stands still while nobody changes the interface. It is as long (`linkwire_canonical_len`), it is the canonical
+ * encoding of a message, and the state encoding of itself. What it returns, writes and refuses is said as of
+ * `linkwire_canonical`. Takes no memory.
+ *
+ * Zero is, at the numbers of linux/if_link.h and linux/if_bridge.h:
+ * - in the header the change mask;
+ * - IFLA_STATS, IFLA_STATS64, IFLA_CARRIER_CHANGES, IFLA_CARRIER_UP_COUNT, IFLA_CARRIER_DOWN_COUNT, and the value of
+ *   IFLA_EVENT, which tells a notification from a dump by being there;
+ * - in each IFLA_VF_STATS of IFLA_VFINFO_LIST its counters, IFLA_VF_STATS_RX_PACKETS to IFLA_VF_STATS_TX_DROPPED;
+ * - IFLA_INET6_STATS, IFLA_INET6_ICMP6STATS, and `tstamp` and `reachable_time` of IFLA_INET6_CACHEINFO: under AF_INET6
+ *   of IFLA_AF_SPEC in a message of AF_UNSPEC, and in IFLA_PROTINFO in one of AF_INET6;
+ * - of IFLA_LINKINFO, which is kept undecoded but for its kind: IFLA_INFO_XSTATS, and
+ *   in the data of kind "bridge" IFLA_BR_HELLO_TIMER, IFLA_BR_TCN_TIMER, IFLA_BR_TOPOLOGY_CHANGE_TIMER,
+ *   IFLA_BR_GC_TIMER, IFLA_BR_FDB_N_LEARNED, and in its IFLA_BR_MCAST_QUERIER_STATE BRIDGE_QUERIER_IP_OTHER_TIMER and
+ *   BRIDGE_QUERIER_IPV6_OTHER_TIMER,
+ *   in the data of kind "hsr" IFLA_HSR_SEQ_NR, of kind "can" IFLA_CAN_BERR_COUNTER (linux/can/netlink.h),
+ *   in the slave data of slave kind "bond" IFLA_BOND_SLAVE_LINK_FAILURE_COUNT,
+ *   in the slave data of slave kind "bridge" IFLA_BRPORT_MESSAGE_AGE_TIMER, IFLA_BRPORT_FORWARD_DELAY_TIMER,
+ *   IFLA_BRPORT_HOLD_TIMER, IFLA_BRPORT_CONFIG_PENDING, IFLA_BRPORT_TOPOLOGY_CHANGE_ACK,
+ *   IFLA_BRPORT_MCAST_EHT_HOSTS_CNT and IFLA_BRPORT_MCAST_N_GROUPS, and the same in IFLA_PROTINFO in a message of
+ *   AF_BRIDGE.
+ * Kinds are texts with their NUL; of several in one list the first that is named here counts. A payload of another
+ * length than the kernel's is zero too. All lengths, padding and flag bits stay; in undecoded data so does all that
+ * follows a fault. IFLA_INET6_FLAGS stays: router solicitation moves its bits, some seconds after an interface came
+ * up. */
+ptrdiff_t linkwire_state(const uint8_t *message, size_t len, uint8_t *out, size_t cap);
+
+/* 1 where both have the same state encoding, 0 where they have two; or the refusal, -1 to -7, -16, -17 or -18, of the
+ * first that is refused. Takes memory. */
+int32_t linkwire_same_state(const uint8_t *a, size_t a_len, const uint8_t *b, size_t b_len);
+
 /* The attribute at `*at` of a list of attributes: 1, and `*at` moves to the next multiple of four after it, or to
  * `len` where that is less; 0 where `*at` is `len` or more; -2, -3 or -4 where no attribute stands there. After 0 and
  * a fault `*at` and `*attribute` are unchanged. Multiples of four are counted from `*at`, where the attribute starts.
@@ -111,6 +147,9 @@ int32_t linkwire_fault_at(const uint8_t *message, size_t len, size_t *at);
 
 /* The number of the canonical form that the library writes. */
 uint32_t linkwire_canonical_form(void);
+
+/* The number of the state form that the library writes. */
+uint32_t linkwire_state_form(void);
 
 /* The number of a kind: its low 14 bits. */
 static inline uint16_t linkwire_number(uint16_t kind) {

@@ -21,6 +21,19 @@ PLACES = {
     "LinkProtoInfoBridge": Place(None, "IFLA_BRPORT_"), "LinkProtoInfoInet6": Place(None, "IFLA_INET6_"),
 }
 
+# a list of the state encoding: how the constants of its numbers begin, and one that stands beside them
+Level = namedtuple("Level", "prefix beside")
+LEVELS = {
+    "Message": Level("IFLA_", "IFLA_ADDRESS"), "Families": Level("AF_", "AF_INET6"),
+    "Inet6": Level("IFLA_INET6_", "IFLA_INET6_FLAGS"), "Functions": Level("IFLA_VF_", "IFLA_VF_INFO"),
+    "Function": Level("IFLA_VF_", "IFLA_VF_MAC"), "FunctionStats": Level("IFLA_VF_STATS_", "IFLA_VF_STATS_RX_PACKETS"),
+    "Info": Level("IFLA_INFO_", "IFLA_INFO_KIND"), "Bridge": Level("IFLA_BR_", "IFLA_BR_FORWARD_DELAY"),
+    "Querier": Level("BRIDGE_QUERIER_", "BRIDGE_QUERIER_IP_ADDRESS"),
+    "BridgePort": Level("IFLA_BRPORT_", "IFLA_BRPORT_STATE"),
+    "BondPort": Level("IFLA_BOND_SLAVE_", "IFLA_BOND_SLAVE_STATE"), "Can": Level("IFLA_CAN_", "IFLA_CAN_STATE"),
+    "Hsr": Level("IFLA_HSR_", "IFLA_HSR_SLAVE1"),
+}
+
 # the type of a record: the structure of rt_link.yaml, and that of a header or how the numbers of its fields begin there
 Record = namedtuple("Record", "struct header")
 STRUCTURES = {
@@ -130,6 +143,12 @@ OWN = "a reserved field at the end is this project's own, and in no kernel"
 for where, sizes in OWN_FIELDS.items():
     kind, field = where.split(".")
     REASONS += [(where, "field", field, "none", OWN), (kind, "size", *sizes, OWN)]
+
+# what has a name as of something that counts, and stays in the state encoding
+REASONS += [("Bridge." + name, "row", "none", name.replace("_", "").lower(), "a setting") for name in [
+    "IFLA_BR_VLAN_STATS_ENABLED", "IFLA_BR_VLAN_STATS_PER_PORT", "IFLA_BR_MCAST_STATS_ENABLED",
+    "IFLA_BR_MCAST_LAST_MEMBER_CNT", "IFLA_BR_MCAST_STARTUP_QUERY_CNT",
+]]
 
 # names that the Rust crate netlink-packet-route gives, the last word of each, and those that the kernel gives
 RENAMED = {

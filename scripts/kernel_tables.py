@@ -18,14 +18,15 @@ import tempfile
 from collections import Counter, namedtuple
 
 sys.dont_write_bytecode = True
-from kernel_names import ALONE, LEFT_OUT, OWN_FIELDS, PLACES, REASONS, RECORDS, VALUES, VALUES_LEFT_OUT
+from kernel_names import ALONE, LEFT_OUT, LEVELS, OWN_FIELDS, PLACES, REASONS, RECORDS, VALUES, VALUES_LEFT_OUT
 
 PACKAGE = "/usr/src/linux-source-6.12.tar.xz"
 INCLUDE = "/usr/include"
 YAML_FILES = ["Documentation/netlink/specs/rt_link.yaml", "Documentation/netlink/specs/rt-link.yaml"]
 # the last three are not installed with the others
 HEADERS = ["include/uapi/linux/%s.h" % name for name in
-           "if_link if if_arp if_ether rtnetlink devlink dpll snmp ip ipv6 wireless netlink".split()]
+           "if_link if_bridge if if_arp if_ether rtnetlink devlink dpll snmp ip ipv6 wireless netlink".split()]
+HEADERS += ["include/uapi/linux/can/netlink.h"]
 HEADERS += ["include/net/if_inet6.h", "include/linux/socket.h", "include/linux/netdevice.h"]
 
 # ** reader of YAML: block and flow collections, plain, quoted and block scalars, anchors and aliases
@@ -256,7 +257,7 @@ class Kernel:
         if not any(map(os.path.isfile, files)):
             files = [name.replace("include/uapi", INCLUDE) for name in HEADERS]
             files += glob.glob(INCLUDE + "/bits/socket.h") + glob.glob(INCLUDE + "/*/bits/socket.h")
-        return {os.path.basename(name): read(name) for name in files if os.path.isfile(name)}
+        return {re.sub(r".*/(linux|net|bits)/", "", name): read(name) for name in files if os.path.isfile(name)}
 
     def define(self, it):
         if it["type"] == "struct":
@@ -366,10 +367,11 @@ class Repository:
     def __init__(self, top):
         self.crates = os.path.join(top, "crates")
         self.records, self.prefixes, self.values, self.flags = {}, {}, {}, set()
-        self.constants, self.sources, self.tables = {}, {}, {}
+        self.constants, self.sources, self.tables, self.levels = {}, {}, {}, {}
         self.read_records()
         self.read_values()
         self.read_tables()
+        self.read_levels()
 
     def files(self, *patterns):
         return [name for it in patterns for name in sorted(glob.glob(os.path.join(self.crates, it)))]
@@ -476,8 +478,7 @@ class Repository:
 
     def read_tables(self):
         for crate in CRATES:
-            for name, n in re.findall(r"pub const (\w+): u\d+ = (\w+);", self.code(crate + "/src/numbers.rt")):
-                self.constants[crate, name] = int(n, 0)
+            self.read_numbers(crate)
             for path in self.files(crate + "/specs/Tables.antt"):
                 self.sources[crate] = definitions(read(path))
         self.missing = [crate for crate in CRATES if crate not in self.sources]
@@ -490,6 +491,26 @@ class Repository:
                 elif kind.startswith("Place ") and source.equations[name][0][1].startswith("place_of "):
                     place = kind.split()[1]
                     self.tables[place] = (crate, [self.wrapped(atoms(source.equations[name][0][1]), crate, place)])
+
+    def read_numbers(self, crate):
+        for name, n in re.findall(r"pub const (\w+): u\d+ = (\w+);", self.code(crate + "/src/numbers.rt")):
+            self.constants[crate, name] = int(n, 0)
+
+    # * the table of the state encoding
+
+    def read_levels(self):
+        """The rows of each level as (constant, action); an action that goes by a family or a kind is its name."""
+        self.read_numbers("link_state")
+        source = next((definitions(read(path)) for path in self.files("link_state/specs/Table.antt")), None)
+        for parameters, body in source.equations["rows"] if source else []:
+            rows = []
+            for it in atoms(body.replace("∷", " ")):
+                row = re.fullmatch(r"\((\w+), (.*)\)", it)
+                if row:
+                    rows.append(row.groups())
+                elif it != "[]":
+                    raise Unread("link_state: a row in no form that is read: %s" % it)
+            self.levels[atoms(parameters.strip("()"))[0]] = rows
 
     def line(self, words, crate):
         if words[0] in ("keeps", "tt"):
@@ -752,6 +773,9 @@ def beside(ours, kernel, crate, name):
         names = [line.constant for line in lines]
         if home == crate and name in names and kind in PLACES:
             return kernel.headers.group(PLACES[kind].prefix, None, names).values()
+    for level, rows in ours.levels.items():
+        if crate == "link_state" and name in dict(rows) and level in LEVELS:
+            return kernel.headers.group(LEVELS[level].prefix, None, [LEVELS[level].beside]).values()
     return [1 << 16]
 
 
@@ -770,6 +794,33 @@ def compare_tables(ours, kernel, report):
         for n, attribute in kernel.sets.get(place.set, {}).items():
             if attribute["type"] != "pad" and n not in [line.number for line in lines if line.form != "emits"]:
                 report.compare("lines, yaml", kind, ("line", "none", attribute["name"]))
+
+
+# what a name of the kernel has where its value counts, or runs down
+COUNTS = re.compile(r"TIMER|STATS(?!_PAD|_MAX)|COUNT|_CNT|_N_|CHANGES|SEQ_NR|EVENT|CACHEINFO")
+
+
+def compare_levels(ours, kernel, report):
+    """The rows of the state encoding: each number is of the enum that its level has, a part of a record is told by the
+    offsets of its fields, and of what counts by its name there is a row, or a reason why there is none."""
+    report.same_names("level", ours.levels, LEVELS)
+    headers = kernel.headers
+    for level in filter(LEVELS.get, ours.levels):
+        prefix, beside_it = LEVELS[level]
+        theirs = [name for name in headers.block.get(beside_it, headers.group(prefix)) if name.startswith(prefix)]
+        rows = dict(ours.levels[level])
+        for constant, action in rows.items():
+            if headers.number(constant) is None:  # told of the constant, where it is not newer
+                continue
+            facts = [("row", constant, constant if constant in theirs else "none")]
+            part = re.fullmatch(r"ClearPart (\d+) (\d+)", action)
+            if part:
+                fields = {field.name: field.offset for field in headers.structs["ifla_cacheinfo"][0]}
+                facts.append(("part", " ".join(part.groups()), "%(tstamp)d %(retrans_time)d" % fields))
+            report.compare("states, headers", "%s.%s" % (level, constant), *facts)
+        for name in theirs:
+            if COUNTS.search(name) and name not in rows:
+                report.compare("states, headers", "%s.%s" % (level, name), ("row", "none", name))
 
 
 def names_of(constant, prefix, headers):
@@ -810,7 +861,8 @@ READ = {"written": "by family", "emits": "never"}
 
 
 def as_json(ours):
-    """The tables: lines with place, number, name, payload and what is inside; records; enums and flags."""
+    """The tables: lines with place, number, name, payload and what is inside; records; enums and flags; and what the
+    state encoding clears."""
     lines = []
     for kind, (crate, listed) in ours.tables.items():
         for it in listed:
@@ -820,7 +872,10 @@ def as_json(ours):
     records = [{"record": kind, "size": size, "fields": [field._asdict() for field in fields]}
                for kind, (fields, size) in ours.records.items()]
     values = [{"type": kind, "flags": kind in ours.flags, "values": numbers} for kind, numbers in ours.values.items()]
-    return json.dumps({"lines": lines, "records": records, "values": values}, indent=1)
+    numbers = {name: n for (_, name), n in ours.constants.items()}
+    states = [{"list": level, "number": numbers.get(name), "name": name, "action": action}
+              for level, rows in ours.levels.items() for name, action in rows]
+    return json.dumps({"lines": lines, "records": records, "values": values, "states": states}, indent=1)
 
 
 # ** what is printed
@@ -851,7 +906,7 @@ def shortened(places):
 
 def compare(ours, kernel):
     report = Report()
-    for step in (compare_constants, compare_names, compare_tables, compare_records, compare_values):
+    for step in (compare_constants, compare_names, compare_tables, compare_records, compare_values, compare_levels):
         step(ours, kernel, report)
     show(report, ours)
     for fault in report.faults:

@@ -140,4 +140,16 @@ slip 'a record of another attribute' 'VfInfo.Trust: payload struct ifla-vf-spoof
     's/(IFLA_VF_TRUST .*)vf_info_trust_laws/\1vf_info_spoof_check_laws/' link_vf/specs/Tables.antt
 slip 'the place inside' 'LinkAttribute.LinkInfo: payload nest xdp-attrs' \
     's/^(base Shapes.Infos = .*)link_info_place/\1xdp_place/' link_msg/specs/Tables.antt
+
+# the table of the state encoding
+slip "a timer's number" 'IFLA_BR_HELLO_TIMER: number 15' 's/(IFLA_BR_HELLO_TIMER: u16 = )16/\115/' \
+    link_state/src/numbers.rt
+slip 'a row of another list' 'BridgePort.IFLA_BR_GC_TIMER: row IFLA_BR_GC_TIMER' \
+    's/\(IFLA_BRPORT_HOLD_TIMER, Clear\)/(IFLA_BR_GC_TIMER, Clear)/' link_state/specs/Table.antt
+slip 'a row that is left out' 'Bridge.IFLA_BR_GC_TIMER: row none' '/\(IFLA_BR_GC_TIMER, Clear\)/d' \
+    link_state/specs/Table.antt
+slip 'a part of a record' 'Inet6.IFLA_INET6_CACHEINFO: part 4 16' 's/ClearPart 4 12/ClearPart 4 16/' \
+    link_state/specs/Table.antt
+slip 'a counter of virtual functions' 'FunctionStats.IFLA_VF_STATS_RX_BYTES: row none' \
+    '/\(IFLA_VF_STATS_RX_BYTES, Clear\)/d' link_state/specs/Table.antt
 echo 'test_kernel_tables: ok'

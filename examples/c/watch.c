@@ -1,5 +1,5 @@
-/* Watches the kernel's links, and prints what changes: of each attribute that differs its name, old and new. Counters
- * are left aside.   cc watch.c $(pkg-config --cflags --libs linkwire) -o watch && ./watch
+/* Watches the kernel's links, and prints what changes: of each attribute that differs its name, old and new. What moves
+ * by itself, as counters do, is left aside.   cc watch.c $(pkg-config --cflags --libs linkwire) -o watch && ./watch
  */
 #include <errno.h>
 #include <linux/if_link.h>
@@ -11,35 +11,17 @@
 #include <sys/socket.h>
 #include "linkwire.h"
 
-/* The canonical text of an interface in a family: AF_BRIDGE speaks of a port by the interface's own index. */
+/* The state encoding of an interface in a family: AF_BRIDGE speaks of a port by the interface's own index. */
 struct link {
     struct link *next;
     struct ifinfomsg info;
     unsigned round; /* of dumps, that told of it last */
     size_t len;
-    uint8_t text[]; /* with zeros for counters */
+    uint8_t text[];
 };
 static struct link *links;
 static unsigned round_now, is_started; /* the first round is over, and what comes now is news */
 static union { struct nlmsghdr head; uint8_t bytes[1 << 20]; } datagram;
-
-/* Where counters stand, by the numbers of the attributes that lead there. */
-static const uint16_t counters[][4] = {
-    {IFLA_STATS}, {IFLA_STATS64}, {IFLA_VFINFO_LIST, IFLA_VF_INFO, IFLA_VF_STATS},
-    {IFLA_AF_SPEC, AF_INET6, IFLA_INET6_STATS}, {IFLA_AF_SPEC, AF_INET6, IFLA_INET6_ICMP6STATS},
-    {IFLA_AF_SPEC, AF_INET6, IFLA_INET6_CACHEINFO},
-};
-
-static void clear(uint8_t *list, size_t len, const uint16_t *path) {
-    struct linkwire_attribute it;
-    for (size_t at = 0; linkwire_next(list, len, &at, &it) == 1;) {
-        if (linkwire_number(it.kind) == path[0] && path[1] != 0) {
-            clear(list + it.payload, it.payload_len, path + 1);
-        } else if (linkwire_number(it.kind) == path[0]) {
-            memset(list + it.payload, 0, it.payload_len);
-        }
-    }
-}
 
 /* The attribute of a number; the kernel sends each once. */
 static int find(const struct link *link, uint16_t number, struct linkwire_attribute *it) {
@@ -115,11 +97,8 @@ static void learn(const uint8_t *message, size_t len, int is_gone) {
         return;
     }
     new->round = round_now;
-    new->len = (size_t)linkwire_canonical(message, len, new->text, (size_t)text_len);
+    new->len = (size_t)linkwire_state(message, len, new->text, (size_t)text_len);
     memcpy(&new->info, new->text, sizeof new->info);
-    for (size_t i = 0; i < sizeof counters / sizeof *counters; i++) {
-        clear(new->text + LINKWIRE_HEADER_SIZE, new->len - LINKWIRE_HEADER_SIZE, counters[i]);
-    }
     while ((old = *at) != NULL &&
            (old->info.ifi_index != new->info.ifi_index || old->info.ifi_family != new->info.ifi_family)) {
         at = &old->next;

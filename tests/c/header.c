@@ -11,5 +11,6 @@ int main(void) {
     uint8_t byte = 0;
     size_t at = 0;
     int32_t found = linkwire_next(&byte, 0, &at, &attribute);
-    return found != 0 || linkwire_canonical_form() != LINKWIRE_CANONICAL_FORM || LINKWIRE_VERSION[0] == '\0';
+    return found != 0 || linkwire_canonical_form() != LINKWIRE_CANONICAL_FORM ||
+           linkwire_state_form() != LINKWIRE_STATE_FORM || LINKWIRE_VERSION[0] == '\0';
 }

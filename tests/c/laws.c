@@ -20,7 +20,7 @@
 #include <time.h>
 #include <unistd.h>
 
-#include "linkwire.h"
+#include "mask.h"
 
 enum { PAGE = 4096, MOST = 1 << 17, ROOM = 1 << 21, TOUCHED = 2, SECONDS = 60 };
 
@@ -64,10 +64,10 @@ static void refuse(int line, const char *law) {
 
 /* Random numbers. */
 
-static uint64_t state;
+static uint64_t drawn;
 
 static uint64_t draw(void) {
-    uint64_t mixed = state += 0x9e3779b97f4a7c15u;
+    uint64_t mixed = drawn += 0x9e3779b97f4a7c15u;
     mixed = (mixed ^ mixed >> 30) * 0xbf58476d1ce4e5b9u;
     mixed = (mixed ^ mixed >> 27) * 0x94d049bb133111ebu;
     return mixed ^ mixed >> 31;
@@ -85,7 +85,7 @@ static int one_in(size_t bound) {
 
 enum place {
     NO_PLACE, MESSAGE, FUNCTIONS, FUNCTION, COUNTS, VLANS, PORTS, PORT, PROPS, DEVLINK, DPLL, REASONS, XDP, INFO, SPECS,
-    INET, INET6, MCTP, ANY, PLACES
+    INET, INET6, MCTP, DATA, SLAVE_DATA, QUERIERS, ANY, PLACES
 };
 
 enum shape {
@@ -95,6 +95,7 @@ enum shape {
     AT_LEAST, /* so many bytes, or more */
     FILLED,   /* a record of so many bytes, cut or filled up */
     EVENT,    /* a wireless event */
+    KIND,     /* a kind of device, most often one that has data which is looked into */
     LIST,     /* attributes of another place */
     BY_FAMILY /* what the header's family says */
 };
@@ -169,7 +170,22 @@ static const struct line xdp_lines[] = {
     EXACTLY(IFLA_XDP_DRV_PROG_ID, 4), EXACTLY(IFLA_XDP_SKB_PROG_ID, 4), EXACTLY(IFLA_XDP_HW_PROG_ID, 4),
     EXACTLY(IFLA_XDP_EXPECTED_FD, 4),
 };
-static const struct line info_lines[] = {{IFLA_INFO_KIND, TEXT, 0, 0}};
+static const struct line info_lines[] = {
+    {IFLA_INFO_KIND, TEXT, 0, 0}, {IFLA_INFO_KIND, KIND, 0, 0}, {IFLA_INFO_DATA, LIST, DATA, 0},
+    {IFLA_INFO_XSTATS, BYTES, 0, 0}, {IFLA_INFO_SLAVE_KIND, KIND, 0, 0}, {IFLA_INFO_SLAVE_DATA, LIST, SLAVE_DATA, 0},
+};
+/* Of each kind of device that has something which moves by itself, its numbers, and some that stay. */
+static const struct line data_lines[] = {
+    {5, BYTES, 0, 0}, {8, BYTES, 0, 0}, {IFLA_BR_HELLO_TIMER, BYTES, 0, 0}, {IFLA_BR_TCN_TIMER, BYTES, 0, 0},
+    {IFLA_BR_TOPOLOGY_CHANGE_TIMER, BYTES, 0, 0}, {IFLA_BR_GC_TIMER, BYTES, 0, 0}, {47, LIST, QUERIERS, 0},
+    {48, BYTES, 0, 0}, {1, BYTES, 0, 0}, {20, BYTES, 0, 0},
+};
+static const struct line slave_data_lines[] = {
+    {3, BYTES, 0, 0}, {IFLA_BRPORT_TOPOLOGY_CHANGE_ACK, BYTES, 0, 0}, {IFLA_BRPORT_CONFIG_PENDING, BYTES, 0, 0},
+    {IFLA_BRPORT_MESSAGE_AGE_TIMER, BYTES, 0, 0}, {IFLA_BRPORT_FORWARD_DELAY_TIMER, BYTES, 0, 0},
+    {IFLA_BRPORT_HOLD_TIMER, BYTES, 0, 0}, {38, BYTES, 0, 0}, {41, BYTES, 0, 0}, {5, BYTES, 0, 0}, {6, BYTES, 0, 0},
+};
+static const struct line queriers_lines[] = {{3, BYTES, 0, 0}, {7, BYTES, 0, 0}, {1, BYTES, 0, 0}};
 static const struct line specs_lines[] = {
     {AF_INET, LIST, INET, 0}, {AF_INET6, LIST, INET6, 0}, {AF_MCTP, LIST, MCTP, 0},
 };
@@ -193,7 +209,8 @@ static const struct table {
     [PORT] = LINES(any_lines), [PROPS] = LINES(props_lines), [DEVLINK] = LINES(devlink_lines),
     [DPLL] = LINES(dpll_lines), [REASONS] = LINES(reasons_lines), [XDP] = LINES(xdp_lines),
     [INFO] = LINES(info_lines), [SPECS] = LINES(specs_lines), [INET] = LINES(inet_lines),
-    [INET6] = LINES(inet6_lines), [MCTP] = LINES(mctp_lines), [ANY] = LINES(any_lines),
+    [INET6] = LINES(inet6_lines), [MCTP] = LINES(mctp_lines), [DATA] = LINES(data_lines),
+    [SLAVE_DATA] = LINES(slave_data_lines), [QUERIERS] = LINES(queriers_lines), [ANY] = LINES(any_lines),
 };
 
 /* The generator. */
@@ -227,12 +244,24 @@ static void add_text(struct text *out) {
     }
 }
 
+static void add_kind(struct text *out) {
+    static const char *const kinds[] = {"bridge", "bridge", "bond", "can", "hsr", "bridge_slave", "bridg", "veth", ""};
+    const char *kind = kinds[below(sizeof kinds / sizeof *kinds)];
+    size_t len = strlen(kind) + !one_in(8);
+    memcpy(out->bytes + out->len, kind, len);
+    out->len += len;
+}
+
 static void add_list(struct text *out, enum place place, size_t most);
 
 static void add_by_family(struct text *out, uint16_t number) {
     if (number == IFLA_AF_SPEC && out->family == AF_UNSPEC) {
         add_list(out, SPECS, 4);
-    } else if (out->family == AF_BRIDGE || (number == IFLA_PROTINFO && out->family == AF_INET6)) {
+    } else if (number == IFLA_PROTINFO && out->family == AF_BRIDGE) {
+        add_list(out, one_in(8) ? ANY : SLAVE_DATA, 4);
+    } else if (number == IFLA_PROTINFO && out->family == AF_INET6) {
+        add_list(out, one_in(8) ? ANY : INET6, 4);
+    } else if (out->family == AF_BRIDGE) {
         add_list(out, ANY, 4);
     } else {
         add(out, below(30));
@@ -244,6 +273,7 @@ static void add_payload(struct text *out, const struct line *line) {
     size_t start = out->len;
     switch (line->shape) {
     case TEXT: add_text(out); break;
+    case KIND: add_kind(out); break;
     case EXACT: add(out, line->size); break;
     case AT_LEAST: add(out, line->size + (one_in(4) ? below(9) : 0)); break;
     case FILLED: add(out, one_in(3) ? below(line->size + 12u) : line->size); break;
@@ -482,6 +512,7 @@ static void handle_signals(void) {
 /* The laws, over a stub of a call that can be put in its place. */
 
 static ptrdiff_t (*canonical)(const uint8_t *, size_t, uint8_t *, size_t) = linkwire_canonical;
+static ptrdiff_t (*state_of)(const uint8_t *, size_t, uint8_t *, size_t) = linkwire_state;
 static int32_t (*check)(const uint8_t *, size_t) = linkwire_check;
 static unsigned long answers[20];
 
@@ -510,6 +541,37 @@ static void tries_buffers(const uint8_t *message, size_t len, ptrdiff_t length) 
     LAW(linkwire_same_message(again, size, message, len) == 1);
 }
 
+/* The state is the canonical encoding with zeros where mask.h has marks. It stands in a buffer as that does, it is
+ * canonical, and the state of itself, of the canonical encoding and of the message. */
+static void tries_state(const uint8_t *message, size_t len, ptrdiff_t length) {
+    static uint8_t text[ROOM], marks[ROOM];
+    size_t size = (size_t)length, more = 1 + below(80);
+    uint8_t *out = place_out(size);
+    LAW(canonical(message, len, out, size) == length);
+    memcpy(text, out, size);
+    mark(text, size, marks);
+    out = place_out(size - 1);
+    LAW(state_of(message, len, out, size - 1) == LINKWIRE_NO_ROOM);
+    LAW(is_kept(out, size - 1));
+    out = place_out(size + more);
+    LAW(state_of(message, len, out, size + more) == length);
+    LAW(is_kept(out + size, more));
+    for (size_t i = 0; i < size; i++) {
+        text[i] = marks[i] ? 0 : text[i];
+    }
+    LAW(memcmp(out, text, size) == 0);
+
+    const uint8_t *state = place_message(&area_of_text, text, size);
+    out = place_out(size);
+    LAW(canonical(state, size, out, size) == length);
+    LAW(memcmp(out, text, size) == 0);
+    out = place_out(size);
+    LAW(state_of(state, size, out, size) == length);
+    LAW(memcmp(out, text, size) == 0);
+    LAW(linkwire_same_state(message, len, state, size) == 1);
+    LAW(linkwire_same_state(state, size, message, len) == 1);
+}
+
 static void tries_one(const uint8_t *message, size_t len, ptrdiff_t length) {
     size_t at = SIZE_MAX;
     int32_t answer = check(message, len);
@@ -525,25 +587,52 @@ static void tries_one(const uint8_t *message, size_t len, ptrdiff_t length) {
     if (length < 0) {
         uint8_t *out = place_out(len);
         LAW(canonical(message, len, out, len) == length);
+        LAW(state_of(message, len, out, len) == length);
         LAW(is_kept(out, len));
     } else {
         LAW((size_t)length <= LINKWIRE_GROWTH * len);
         tries_buffers(message, len, length);
+        tries_state(message, len, length);
     }
 }
 
-/* Two messages are the same exactly where their texts are equal, else the first refusal is told. */
+/* Two messages are the same exactly where their texts are equal, and of one state where their states are; else the
+ * first refusal is told. */
 static void tries_two(const uint8_t *a, size_t a_len, ptrdiff_t length, const uint8_t *b, size_t b_len) {
     ptrdiff_t b_length = linkwire_canonical_len(b, b_len);
-    int32_t answer = linkwire_same_message(a, a_len, b, b_len);
+    int32_t answer = linkwire_same_message(a, a_len, b, b_len), of_states = linkwire_same_state(a, a_len, b, b_len);
     if (length < 0 || b_length < 0) {
         LAW(answer == (length < 0 ? length : b_length));
+        LAW(of_states == answer);
         return;
     }
     uint8_t *text = place(&area_of_out, (size_t)length), *b_text = place(&area_of_text, (size_t)b_length);
     LAW(canonical(a, a_len, text, (size_t)length) == length);
     LAW(canonical(b, b_len, b_text, (size_t)b_length) == b_length);
     LAW(answer == (length == b_length && memcmp(text, b_text, (size_t)length) == 0));
+    LAW(state_of(a, a_len, text, (size_t)length) == length);
+    LAW(state_of(b, b_len, b_text, (size_t)b_length) == b_length);
+    LAW(of_states == (length == b_length && memcmp(text, b_text, (size_t)length) == 0));
+}
+
+/* What moves by itself moves, and the state stays: the other message is the canonical text with other bytes where
+ * mask.h has marks. */
+static void tries_moved(const uint8_t *message, size_t len, ptrdiff_t length) {
+    static uint8_t text[ROOM], marks[ROOM];
+    size_t size = (size_t)length;
+    uint8_t *out = place_out(size);
+    LAW(canonical(message, len, out, size) == length);
+    mark(out, size, marks);
+    for (size_t i = 0; i < size; i++) {
+        text[i] = marks[i] ? (uint8_t)draw() : out[i];
+    }
+    const uint8_t *moved = place_message(&area_of_text, text, size);
+    LAW(linkwire_same_state(message, len, moved, size) == 1);
+    out = place_out(size);
+    LAW(state_of(message, len, out, size) == length);
+    for (size_t i = 0; i < size; i++) {
+        LAW(out[i] == (marks[i] ? 0 : text[i]));
+    }
 }
 
 /* The attributes of a message that is accepted are read to its end, and written again by linkwire_put they mean the
@@ -569,7 +658,7 @@ static void tries_list(const uint8_t *message, size_t len) {
 }
 
 static void tries(uint64_t number) {
-    seed = state = number;
+    seed = drawn = number;
     tried_len = other_len = 0;
     alarm(SECONDS); /* for this message; one takes some milliseconds at most */
     starts_len = 0;
@@ -594,6 +683,7 @@ static void tries(uint64_t number) {
         tries_two(message, tried_len, length, second, other_len);
         if (length >= 0) {
             tries_list(message, tried_len);
+            tries_moved(message, tried_len, length);
         }
         answers[length > 0 ? 0 : -length] += !is_low;
     }
@@ -625,14 +715,22 @@ static ptrdiff_t writes_before(const uint8_t *message, size_t len, uint8_t *out,
     return linkwire_canonical(message, len, out, cap);
 }
 
+static ptrdiff_t clears_after(const uint8_t *message, size_t len, uint8_t *out, size_t cap) {
+    ptrdiff_t length = linkwire_state(message, len, out, cap);
+    *(volatile uint8_t *)(out + (length < 0 ? (ptrdiff_t)cap : length)) = 0;
+    return length;
+}
+
 /* Tries one message with a stub in another process, which has to end at the page that it touches. */
 static void sees(const char *name, int32_t (*of_check)(const uint8_t *, size_t),
-                 ptrdiff_t (*of_canonical)(const uint8_t *, size_t, uint8_t *, size_t)) {
+                 ptrdiff_t (*of_canonical)(const uint8_t *, size_t, uint8_t *, size_t),
+                 ptrdiff_t (*of_state)(const uint8_t *, size_t, uint8_t *, size_t)) {
     int status = 0;
     pid_t child = fork();
     if (child == 0) {
         check = of_check;
         canonical = of_canonical;
+        state_of = of_state;
         if (freopen("/dev/null", "w", stderr) != NULL) {
             tries(2);
         }
@@ -674,11 +772,12 @@ int main(int words, char **word) {
         reserve(areas[i]);
     }
     handle_signals();
-    sees("a read after the message", reads_after, linkwire_canonical);
-    sees("a read before the message", reads_before, linkwire_canonical);
-    sees("a write into the message", writes_message, linkwire_canonical);
-    sees("a write after the text", linkwire_check, writes_after);
-    sees("a write before the buffer", linkwire_check, writes_before);
+    sees("a read after the message", reads_after, linkwire_canonical, linkwire_state);
+    sees("a read before the message", reads_before, linkwire_canonical, linkwire_state);
+    sees("a write into the message", writes_message, linkwire_canonical, linkwire_state);
+    sees("a write after the text", linkwire_check, writes_after, linkwire_state);
+    sees("a write before the buffer", linkwire_check, writes_before, linkwire_state);
+    sees("a zero after the state", linkwire_check, linkwire_canonical, clears_after);
     while (is_timed ? done % 256 != 0 || time(NULL) < until : done < count) {
         tries(first + done++);
     }

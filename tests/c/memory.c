@@ -1,5 +1,6 @@
-/* Refuses each call of linkwire_same_message for memory in turn: it returns LINKWIRE_OUT_OF_MEMORY, and nothing else,
- * until memory is ample, and all memory is given back. The other functions take none. */
+/* Refuses each call of linkwire_same_message and linkwire_same_state for memory in turn: they return
+ * LINKWIRE_OUT_OF_MEMORY, and nothing else, until memory is ample, and all memory is given back. The other functions
+ * take none. */
 #include <stdio.h>
 #include <string.h>
 
@@ -68,6 +69,10 @@ static long same(void) {
     return linkwire_same_message(message, sizeof message, message, sizeof message);
 }
 
+static long same_state(void) {
+    return linkwire_same_state(message, sizeof message, message, sizeof message);
+}
+
 /* Refuses the first call for memory, then the second, and so on, until no call is refused. */
 static int refuses_each(const char *what, long (*call)(void), long want) {
     for (long at = 0;; at++) {
@@ -100,12 +105,14 @@ static int takes_none(void) {
     long checked = linkwire_check(message, sizeof message);
     long measured = linkwire_canonical_len(message, sizeof message);
     long written = linkwire_canonical(message, sizeof message, out, sizeof out);
+    long cleared = linkwire_state(message, sizeof message, out, sizeof out);
     long found = linkwire_next(message, sizeof message, &at, &attribute);
     long put = linkwire_put(list, sizeof list, &end, 4, message, 4);
     long fault = linkwire_fault_at(message, 15, &at);
-    if (checked != 0 || measured <= 0 || written != measured || found != 1 || put != 1 || fault != -1 || taken != 0) {
-        fprintf(stderr, "memory.c: with no memory %ld %ld %ld %ld %ld %ld, and %ld calls for it\n", checked, measured,
-                written, found, put, fault, taken);
+    if (checked != 0 || measured <= 0 || written != measured || cleared != measured || found != 1 || put != 1 ||
+        fault != -1 || taken != 0) {
+        fprintf(stderr, "memory.c: with no memory %ld %ld %ld %ld %ld %ld %ld, and %ld calls for it\n", checked,
+                measured, written, cleared, found, put, fault, taken);
         return 1;
     }
     return 0;
@@ -113,5 +120,6 @@ static int takes_none(void) {
 
 int main(void) {
     setvbuf(stderr, NULL, _IONBF, 0);
-    return takes_none() || refuses_each("linkwire_same_message", same, 1);
+    return takes_none() || refuses_each("linkwire_same_message", same, 1) ||
+           refuses_each("linkwire_same_state", same_state, 1);
 }

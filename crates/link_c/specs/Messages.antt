@@ -7,6 +7,7 @@ use Rattle.link_msg.specs.Messages.{Means, FirstFault, MeansNothing, message_tex
 use Rattle.link_msg.specs.FaultAt.{FaultsAt}
 use Rattle.link_msg.specs.Canonical.{IsAccepted, IsUnfit, HasEmptyPorts, AreSame}
 use Rattle.link_msg.specs.declared.message.LinkMessage.{LinkMessage}
+use Rattle.link_state.specs.State.{state, HaveSameState}
 use Rattle.link_c.specs.declared.refusal.Refusal.{Refusal}
 use Rattle.link_c.specs.declared.refusal.Refusal.TheVariants.{Fault, Unfit, EmptyPorts, OutOfMemory, NoRoom}
 
@@ -65,6 +66,11 @@ IsText b old new (Err Unfit) = IsWhy b Unfit × (new ≡ old)
 IsText b old new (Err EmptyPorts) = IsWhy b EmptyPorts × (new ≡ old)
 IsText b old new (Err OutOfMemory) = ⊥
 
+-- the same of the state encoding, which is as long
+abbrev pub IsState : List ℕ → List ℕ → List ℕ → Result ℕ Refusal → Type 0
+IsState b old new (Ok n) = (m : LinkMessage) × IsAccepted b m × Writes (state (message_text m)) old new n
+IsState b old new (Err e) = IsText b old new (Err e)
+
 -- the first is refused so; or it can be written, and the second is refused so
 abbrev pub IsWhyOfTwo : List ℕ → List ℕ → Refusal → Type 0
 IsWhyOfTwo a b e = IsWhy a e ⊎ (((m : LinkMessage) × IsAccepted a m) × IsWhy b e)
@@ -78,3 +84,8 @@ IsComparison a b (Err (Fault c)) = IsWhyOfTwo a b (Fault c)
 IsComparison a b (Err Unfit) = IsWhyOfTwo a b Unfit
 IsComparison a b (Err EmptyPorts) = IsWhyOfTwo a b EmptyPorts
 IsComparison a b (Err NoRoom) = ⊥
+
+-- whether what a and b mean has one state encoding; or why one of them means nothing that can be written
+abbrev pub IsStateComparison : List ℕ → List ℕ → Result Bool Refusal → Type 0
+IsStateComparison a b (Ok answer) = HaveSameState a b answer
+IsStateComparison a b (Err e) = IsComparison a b (Err e)

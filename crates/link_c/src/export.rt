@@ -2,13 +2,17 @@
 
 ghost use Rattle.std.specs.Prelude.{◌≡◌};
 ghost use Rattle.link_c.specs.Answers.{Says, itself, as_bit, as_one, as_zero};
-ghost use Rattle.link_c.specs.Messages.{MeansOrFaults, IsLookAt, IsLength, IsText, IsComparison};
+ghost use Rattle.link_c.specs.Messages.{MeansOrFaults, IsLookAt, IsLength, IsText, IsComparison, IsState};
+ghost use Rattle.link_c.specs.Messages.{IsStateComparison};
 ghost use Rattle.link_c.specs.Lists.{IsNext, IsPut};
 
 use crate::list::{Attribute, next_attribute, put_attribute};
-use crate::message::{are_alike, check_message, look_for_fault, text_len, write_text};
+use crate::message::{
+    are_alike, check_message, have_same_state, look_for_fault, text_len, write_state, write_text,
+};
 use crate::refusal::{done_code, fault_code, length_code, whether_code};
 use link_msg::CANONICAL_FORM;
+use link_state::STATE_FORM;
 use std::alloc::Global;
 
 /// `linkwire_check` of linkwire.h.
@@ -73,4 +77,28 @@ pub extern "C" fn linkwire_canonical_form() -> u32
     ensures { result ≡ 2 }
 {
     CANONICAL_FORM
+}
+
+/// `linkwire_state` of linkwire.h.
+#[unsafe(no_mangle)]
+pub extern "C" fn linkwire_state(message: &[u8], out: &mut [u8]) -> isize
+    ensures { Says itself (IsState message.now out.old out.new) result }
+{
+    length_code(write_state(message, out))
+}
+
+/// `linkwire_same_state` of linkwire.h.
+#[unsafe(no_mangle)]
+pub extern "C" fn linkwire_same_state(alloc: Global, a: &[u8], b: &[u8]) -> i32
+    ensures { Says as_bit (IsStateComparison a.now b.now) result }
+{
+    whether_code(have_same_state(alloc, a, b))
+}
+
+/// `linkwire_state_form` of linkwire.h.
+#[unsafe(no_mangle)]
+pub extern "C" fn linkwire_state_form() -> u32
+    ensures { result ≡ 1 }
+{
+    STATE_FORM
 }

@@ -5,7 +5,7 @@ ghost use Rattle.nla_wire.specs.Frames.{missing};
 ghost use Rattle.link_c.specs.Lists.{IsNext, IsPut};
 
 use crate::refusal::Refusal;
-use nla_wire::{NLA_HEADER_SIZE, NlaBuffer, padded_len, write_value};
+use nla_wire::{MOST_VALUE_LEN, NLA_HEADER_SIZE, NlaBuffer, padded_len, write_value};
 
 /// An attribute of a list: `struct linkwire_attribute` of linkwire.h.
 #[repr(C)]
@@ -81,7 +81,7 @@ pub fn put_attribute(
 ) -> Result<(), Refusal>
     ensures { IsPut kind payload.now list.old list.new at.old at.new result }
 {
-    if payload.len() > 65531 {
+    if payload.len() > MOST_VALUE_LEN {
         return Err(Refusal::Unfit);
     }
     if *at > list.len() || list.len() - *at < padded_len(payload.len()) {

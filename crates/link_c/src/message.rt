@@ -1,10 +1,12 @@
 //! Messages: checked, measured, written and compared.
 
 ghost use Rattle.std.specs.Prelude.{◌≡◌, ◌<◌, ◌^◌, IfOk, MatchOption};
-ghost use Rattle.link_c.specs.Messages.{MeansOrFaults, IsLookAt, IsLength, IsText, IsComparison};
+ghost use Rattle.link_c.specs.Messages.{MeansOrFaults, IsLookAt, IsLength, IsText, IsComparison, IsState};
+ghost use Rattle.link_c.specs.Messages.{IsStateComparison};
 
 use crate::refusal::Refusal;
 use link_msg::{LinkMessage, canonical_len, canonical_within, same_message};
+use link_state::{same_state, state_within};
 use std::alloc::Global;
 
 /// Whether the bytes are a message, or the first fault.
@@ -65,5 +67,27 @@ pub fn are_alike(alloc: Global, first: &[u8], second: &[u8]) -> Result<bool, Ref
     ensures { IsComparison first.now second.now result }
 {
     let answer = same_message(alloc, first, second)?;
+    Ok(answer)
+}
+
+/// Writes the state encoding of what the bytes mean to the front of the buffer, and returns its length, which is that
+/// of the canonical text. The rest of the buffer is kept.
+///
+/// Refuses as `write_text` does. Then the buffer is unchanged.
+pub fn write_state(bytes: &[u8], out: &mut [u8]) -> Result<usize, Refusal>
+    ensures written { IsState bytes.now out.old out.new result }
+    ensures short { IfOk result (λ n. n < 2 ^ 63) }
+{
+    let len = state_within(bytes, out)?;
+    Ok(len)
+}
+
+/// Whether what both mean has one state encoding.
+///
+/// Refuses as `are_alike` does.
+pub fn have_same_state(alloc: Global, first: &[u8], second: &[u8]) -> Result<bool, Refusal>
+    ensures { IsStateComparison first.now second.now result }
+{
+    let answer = same_state(alloc, first, second)?;
     Ok(answer)
 }

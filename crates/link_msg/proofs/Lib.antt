@@ -14,3 +14,4 @@ pub mod Faults
 pub mod ReadAgain
 pub mod Opened
 pub mod Lengths
+pub mod Decided

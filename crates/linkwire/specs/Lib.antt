@@ -1,4 +1,3 @@
 pub mod Lines
 pub mod Laws
-pub mod Decided
 pub mod OneAnswer

@@ -13,7 +13,7 @@ use Rattle.link_msg.proofs.LawProofs.{one_message}
 use Rattle.line_filter.specs.Lines.{AnswersEach}
 use Rattle.linkwire.specs.Lines.{IsAnswerTo, IsAnswerToSpelled, IsAnswer}
 use Rattle.linkwire.specs.Laws.{HasOneAnswer, EachHasOneAnswer}
-use Rattle.linkwire.specs.Decided.{read_or_refused, fits_or_not, ports_or_not}
+use Rattle.link_msg.proofs.Decided.{read_or_refused, fits_or_not, ports_or_not}
 
 -- ** an answer to bytes
 

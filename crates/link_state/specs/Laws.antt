@@ -1,0 +1,58 @@
+-- Laws of the state encoding, for every family.
+use Rattle.std.specs.Prelude.{◌≡◌, ◌↔◌, ◌≤◌, ℕ, List, length}
+use Rattle.nla_wire.specs.Frames.{IsBytes}
+use Rattle.link_msg.specs.Header.{header_size}
+use Rattle.link_msg.specs.Messages.{message_text}
+use Rattle.link_msg.specs.Canonical.{IsAccepted}
+use Rattle.link_msg.specs.declared.message.LinkMessage.{LinkMessage}
+use Rattle.link_state.specs.Cleared.{cleared}
+use Rattle.link_state.specs.Masks.{mask, blank}
+use Rattle.link_state.specs.State.{state, state_mask}
+use Rattle.link_state.specs.declared.level.Level.{Level}
+
+-- t is the canonical text of this message, which it means, which fits and holds no empty list of ports
+pub record IsCanonical (t : List ℕ) (m : LinkMessage) : Type 0 where
+  pub accepted : IsAccepted t m
+  pub text : t ≡ message_text m
+
+-- bytes, at least a header
+abbrev pub HasHeader : List ℕ → Type 0
+HasHeader t = IsBytes t × (header_size ≤ length t)
+
+-- the state of canonical text is the canonical text of some message
+abbrev pub StateIsCanonical : Type 0
+StateIsCanonical = (t : List ℕ) (m : LinkMessage) → IsBytes t → IsCanonical t m
+    → (n : LinkMessage) × IsCanonical (state t) n
+
+abbrev pub StateIsAsLong : Type 0
+StateIsAsLong = (t : List ℕ) → header_size ≤ length t → length (state t) ≡ length t
+
+abbrev pub StateTwice : Type 0
+StateTwice = (t : List ℕ) → HasHeader t → state (state t) ≡ state t
+
+-- only the bytes of the mask are changed, and each of these becomes zero
+abbrev pub ZeroAtItsMask : Type 0
+ZeroAtItsMask = (t : List ℕ) → HasHeader t
+    → (length (state_mask t) ≡ length t) × (blank (state_mask t) t ≡ state t)
+
+-- the mask does not depend on what is cleared
+abbrev pub MaskStays : Type 0
+MaskStays = (t : List ℕ) → HasHeader t → state_mask (state t) ≡ state_mask t
+
+-- two have one state exactly where their masks are equal and they are equal outside of them
+abbrev pub OneState : Type 0
+OneState = (s t : List ℕ) → HasHeader s → HasHeader t
+    → (state s ≡ state t) ↔ ((state_mask s ≡ state_mask t) × (blank (state_mask s) s ≡ blank (state_mask s) t))
+
+-- the same of a list at any level
+abbrev pub ListTwice : Type 0
+ListTwice = (level : Level) (b : List ℕ) → IsBytes b → cleared level (cleared level b) ≡ cleared level b
+
+abbrev pub ListZeroAtItsMask : Type 0
+ListZeroAtItsMask = (level : Level) (b : List ℕ) → IsBytes b
+    → (length (mask level b) ≡ length b) × (blank (mask level b) b ≡ cleared level b)
+
+abbrev pub OneList : Type 0
+OneList = (level : Level) (a b : List ℕ) → IsBytes a → IsBytes b
+    → (cleared level a ≡ cleared level b)
+    ↔ ((mask level a ≡ mask level b) × (blank (mask level a) a ≡ blank (mask level a) b))

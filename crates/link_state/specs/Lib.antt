@@ -1,0 +1,6 @@
+pub mod Table
+pub mod Kinds
+pub mod Cleared
+pub mod Masks
+pub mod State
+pub mod Laws

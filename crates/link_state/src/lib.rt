@@ -1,0 +1,14 @@
+//! The state encoding of link messages: the canonical encoding with all that moves by itself at zero.
+#![tactic(auto)]
+
+mod kind;
+pub mod laws;
+mod level;
+pub mod numbers;
+mod state_text;
+mod walk;
+
+pub use kind::Kind;
+pub use level::{Action, Level};
+pub use state_text::{STATE_FORM, same_state, state, state_into, state_within};
+pub use walk::clear;

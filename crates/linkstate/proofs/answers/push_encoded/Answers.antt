@@ -1,0 +1,24 @@
+use Rattle.std.proofs.lemmas.Result.{on_ok_weaker}
+use Rattle.linkstate.proofs.Added.{on_ok_extended, adds_text, adds_refused, adds_unfit, adds_empty_ports}
+use Rattle.linkstate.proofs.answers.push_encoded.Goals as goal
+
+pub returns-in-Ok : goal.returns-in-Ok
+returns-in-Ok c = on_ok_weaker c.push_text.result
+    (λ e. adds_text _ _ _ _ _ c.in-Ok.ensures.ok c.as_slice.ensures.value e) c.push_text.ensures
+
+pub returns-in-Err-Decode : goal.returns-in-Err-Decode
+returns-in-Err-Decode c =
+    on_ok_extended c.extend_from_slice.result _ _ _ c.extend_from_slice.ensures.items
+    (λ e. adds_refused _ _ _ _ _ c.in-Err-Decode.field-0-is c.in-Err-Decode.ensures.err e)
+
+pub returns-in-Err-DoesNotFit : goal.returns-in-Err-DoesNotFit
+returns-in-Err-DoesNotFit c =
+    on_ok_extended c.extend_from_slice-in-Err-DoesNotFit.result _
+    _ _ c.extend_from_slice-in-Err-DoesNotFit.ensures.items
+    (λ e. adds_unfit _ _ _ _ c.in-Err-DoesNotFit.field-0-is c.in-Err-DoesNotFit.ensures.err e)
+
+pub returns-in-Err-EmptyVfPorts : goal.returns-in-Err-EmptyVfPorts
+returns-in-Err-EmptyVfPorts c =
+    on_ok_extended c.extend_from_slice-in-Err-EmptyVfPorts.result
+    _ _ _ c.extend_from_slice-in-Err-EmptyVfPorts.ensures.items
+    (λ e. adds_empty_ports _ _ _ _ c.in-Err-EmptyVfPorts.field-0-is c.in-Err-EmptyVfPorts.ensures.err e)

@@ -1,0 +1,88 @@
+ghost use Rattle.std.specs.Prelude.{◌≡◌, ◌++◌, ◌/◌, OnOk, codes, length};
+ghost use Rattle.hex.specs.Hex.{encode_lower};
+ghost use Rattle.line_filter.specs.Lines.{with_lf};
+ghost use Rattle.linkstate.specs.Lines.{IsAnswer, AddsAnswer, AddsAnswerTo};
+ghost use Rattle.linkstate.specs.Answered.{each_answered};
+
+use line_filter::answers::Answer;
+use line_filter::digits::{decode, values};
+use link_msg::CanonError;
+use link_state::state;
+use std::alloc::{AllocError, Global};
+
+/// Answers lines by state encodings, with room for the bytes of one line.
+#[derive(Drop)]
+pub struct Encoded {
+    message: Vec<u8>,
+}
+
+impl Encoded {
+    pub fn new(alloc: Global) -> Encoded {
+        Encoded {
+            message: Vec::new(alloc),
+        }
+    }
+}
+
+impl Answer for Encoded {
+    ghost is_answer = { IsAnswer };
+
+    fn push(
+        &mut self,
+        alloc: Global,
+        line: &[u8],
+        waiting: &mut Vec<u8>,
+    ) -> Result<(), AllocError> {
+        self.message.resize(line.len() / 2, 0)?;
+        push_spelled(alloc, waiting, line, self.message.as_mut_slice())
+    }
+
+    ghost has = { each_answered };
+}
+
+/// Adds `ok `, the text in lower-case hexadecimal and an LF.
+fn push_text(waiting: &mut Vec<u8>, text: &[u8]) -> Result<(), AllocError>
+    ensures { OnOk result
+        (waiting.new.items ≡ waiting.old.items ++ with_lf (codes "ok " ++ encode_lower text.now)) }
+{
+    waiting.extend_from_slice(b"ok ")?;
+    let start = waiting.len();
+    let end = start.checked_add(2 * text.len()).ok_or(AllocError)?;
+    waiting.resize(end, 0)?;
+    let written = hex::encode_to_slice(text, &mut waiting[start..]);
+    // for the proof: this never fails, since the room is just what the text needs
+    if written.is_err() {
+        return Err(AllocError);
+    }
+    waiting.push(b'\n')?;
+    Ok(())
+}
+
+/// Adds the answer to a line that spells these bytes.
+fn push_encoded(alloc: Global, waiting: &mut Vec<u8>, bytes: &[u8]) -> Result<(), AllocError>
+    ensures { OnOk result (AddsAnswerTo bytes.now waiting.old.items waiting.new.items) }
+{
+    match state(alloc, bytes) {
+        Ok(text) => push_text(waiting, text.as_slice()),
+        Err(CanonError::Decode(_)) => waiting.extend_from_slice(b"refused\n"),
+        Err(CanonError::DoesNotFit) => waiting.extend_from_slice(b"unfit\n"),
+        Err(CanonError::EmptyVfPorts) => waiting.extend_from_slice(b"empty-ports\n"),
+        Err(CanonError::OutOfMemory) => Err(AllocError),
+    }
+}
+
+/// Adds the answer to a line, with room for the bytes that it spells.
+fn push_spelled(
+    alloc: Global,
+    waiting: &mut Vec<u8>,
+    line: &[u8],
+    room: &mut [u8],
+) -> Result<(), AllocError>
+    requires { length room.old ≡ length line.now / 2 }
+    ensures { OnOk result (AddsAnswer line.now waiting.old.items waiting.new.items) }
+{
+    if !decode(line, values(), room) {
+        return waiting.extend_from_slice(b"nothex\n");
+    }
+    push_encoded(alloc, waiting, room)
+}

@@ -1,0 +1,65 @@
+//! Answers lines of hexadecimal link messages by their state encodings.
+#![tactic(auto)]
+
+mod answers;
+mod arguments;
+mod run;
+
+use arguments::{Request, asked_for};
+use run::run;
+use std::env;
+use std::process::ExitCode;
+
+/// What `--help` writes.
+const HELP: &str = "usage: linkstate [--help | --version]
+
+Reads lines of hexadecimal digits from standard input, each the bytes of a link message of route netlink, and writes
+for each line one answer: ok and the state encoding of the message, which is its canonical encoding with all that moves
+by itself at zero; nothex for a line that is no bytes; refused for bytes that are no message; unfit for a message that
+cannot be written; empty-ports for one with an empty list of ports.
+";
+
+/// What `--version` writes.
+const VERSION: &str = "linkstate 0.2.0\n";
+
+/// The exit status after a wrong argument.
+const USAGE: u8 = 2;
+
+fn main(rt: HostRuntime) -> ExitCode {
+    let Ok(mut words) = env::args(&rt) else {
+        let _ = eprintln!(rt; "linkstate: out of memory");
+        return ExitCode::FAILURE;
+    };
+    let _program = words.next();
+    let Some(word) = words.next() else {
+        return answer_lines(rt);
+    };
+    let text = match asked_for(word.as_str()) {
+        Request::Help => HELP,
+        Request::Version => VERSION,
+        Request::Unknown => {
+            let _ = eprintln!(rt; "linkstate: no such argument: {word}; see linkstate --help");
+            return ExitCode::from(USAGE);
+        }
+    };
+    match print!(rt; "{text}") {
+        Ok(()) => ExitCode::SUCCESS,
+        Err(_) => {
+            let _ = eprintln!(rt; "linkstate: write failed");
+            ExitCode::FAILURE
+        }
+    }
+}
+
+/// Answers the lines of standard input.
+fn answer_lines(rt: HostRuntime) -> ExitCode {
+    let mut reader = rt.stdin();
+    let mut writer = rt.stdout();
+    match run(rt.alloc(), &mut reader, &mut writer) {
+        Ok(()) => ExitCode::SUCCESS,
+        Err(error) => {
+            let _ = eprintln!(rt; "linkstate: {error}");
+            ExitCode::FAILURE
+        }
+    }
+}

@@ -1,0 +1,121 @@
+#!/usr/bin/env python3
+"""Holds linkstate to a model of its own, state_model.py, and to what kernels sent.
+
+    python3 scripts/state_tests.py LINKSTATE LINKWIRE [KERNELS]
+
+Of each line the answer has to be the model's state of what linkwire answers, or the same refusal: the lines are those
+of show_damaged.py and the messages of tests/state/pairs.txt, as they are and damaged. The two messages of each pair
+have one state, which is the state encoding of itself. KERNELS is a folder with one folder a kernel, of which each file
+NAME.hex has a dump's messages, a line of hexadecimal each, and NAME.hex2 those of a dump that came after; all their
+pairs are looked at too, and those with two states are told.
+"""
+
+import glob
+import os
+import random
+import sys
+
+sys.dont_write_bytecode = True
+import state_model
+from show_damaged import LONG, TOP, answers, damaged, stored_lines, tested_lines
+
+PAIRS = TOP + "/tests/state/pairs.txt"
+
+
+def fails(*words):
+    sys.exit("state_tests: " + " ".join(map(str, words)))
+
+
+def pairs():
+    """Returns (name, first, second) of each pair of PAIRS."""
+    found = []
+    with open(PAIRS, encoding="utf-8") as it:
+        for line in it.read().splitlines():
+            word, _, rest = line.partition(" ")
+            if word == "pair":
+                found.append((rest, bytearray(), []))
+            elif word == "at":
+                offset, changed = rest.split()
+                found[-1][2].append((int(offset), bytes.fromhex(changed)))
+            elif word != "#":
+                found[-1][1].extend(bytes.fromhex(line))
+    return [(name, bytes(first), changed_at(first, changes)) for name, first, changes in found]
+
+
+def changed_at(first, changes):
+    second = bytearray(first)
+    for offset, changed in changes:
+        second[offset:offset + len(changed)] = changed
+    return bytes(second)
+
+
+def of_answer(answer):
+    """Returns the bytes of an answer 'ok ..', or nothing."""
+    return bytes.fromhex(answer[3:].decode()) if answer.startswith(b"ok ") else None
+
+
+def compare(linkstate, linkwire, lines):
+    """Compares the answers with the model; returns how many lines have a state."""
+    states, canonical = answers(linkstate, lines), answers(linkwire, lines)
+    if len(states) != len(lines) or len(canonical) != len(lines):
+        fails("lines have more or fewer answers than one")
+    count = 0
+    for line, state, text in zip(lines, states, canonical):
+        of_text = of_answer(text)
+        wanted = text if of_text is None else b"ok " + state_model.state(of_text).hex().encode()
+        if state != wanted:
+            fails(f"{line[:3000]}\nis answered\n{state[:3000]}\nand not\n{wanted[:3000]}")
+        count += of_text is not None
+    return count
+
+
+def two_states(linkstate, found):
+    """Returns the names of the pairs that have two states, and those of which a message is refused."""
+    first = answers(linkstate, [a.hex() for _, a, _ in found])
+    second = answers(linkstate, [b.hex() for _, _, b in found])
+    states = [it for it in first if it.startswith(b"ok ")]
+    if answers(linkstate, [it[3:].decode() for it in states]) != states:
+        fails("the state of a state is another one")
+    refused = [name for (name, _, _), a, b in zip(found, first, second) if not a[:2] == b[:2] == b"ok"]
+    return [name for (name, _, _), a, b in zip(found, first, second) if a != b], refused
+
+
+def dump(path):
+    """Returns the messages of a dump by their indices."""
+    with open(path, encoding="utf-8") as it:
+        messages = [bytes.fromhex(line) for line in it.read().splitlines() if line[:1] not in ("", "#")]
+    return {int.from_bytes(message[4:8], "little"): message for message in messages}
+
+
+def pairs_of(folder):
+    """Returns the pairs of the links that are in both dumps, as (name, first, second)."""
+    found = []
+    for path in sorted(glob.glob(folder + "/**/*.hex", recursive=True)):
+        first, second = dump(path), dump(path + "2")
+        name = os.path.relpath(path, folder)
+        found += [(f"{name} {index}", first[index], second[index]) for index in first.keys() & second.keys()]
+    return found
+
+
+def main():
+    linkstate, linkwire, *kernels = sys.argv[1:]
+    chance = random.Random(2)
+    found = pairs()
+    messages = [it.hex() for _, first, second in found for it in (first, second)]
+    sources = list(dict.fromkeys(stored_lines() + tested_lines()))
+    lines = sources + LONG + messages + [damaged(chance, line) for line in sources for _ in range(20)]
+    lines += [damaged(chance, line) for line in messages for _ in range(200)]
+    count = compare(linkstate, linkwire, lines)
+    moved, refused = two_states(linkstate, found)
+    if moved or refused:
+        fails("two states, or a refusal:", ", ".join(moved + refused))
+    print(f"state_tests: {len(lines)} lines, {count} with a state, as the model's; {len(found)} pairs of one state")
+    for folder in kernels:
+        found = pairs_of(folder)
+        moved, refused = two_states(linkstate, found)
+        print(f"state_tests: {folder}: {len(found)} pairs, {len(refused)} refused, {len(moved)} of two states:",
+              ", ".join(moved) or "none")
+
+
+if __name__ == "__main__":
+    main()

@@ -1,0 +1,157 @@
+#!/usr/bin/env bash
+# Runs what docs/STORE.md has, in a network namespace: store_tests.sh LIBRARY [LINKSTATE]. A hundred polls of idle links
+# are one row an interface, and a change, a deleted interface and an index that is used again are one more each. LIBRARY
+# is the shared one; where the program LINKSTATE is not built the store in a folder is 'skipped', as is all that cannot
+# be had.
+set -euo pipefail
+top=$(cd "$(dirname "$0")/.." && pwd)
+
+skips() {
+    echo "store: skipped: $*"
+    exit 0
+}
+
+fails() {
+    echo "store: $*" >&2
+    exit 1
+}
+
+# block WORD: the block of that language in the page
+block() {
+    sed -n "/^\`\`\`$1\$/,/^\`\`\`\$/p" "$top/docs/STORE.md" | sed '1d;$d'
+}
+
+sqlite() {
+    LINKWIRE=$library python3 "$top/examples/store.py" "$folder/links.db" "$@" >"$folder/out" 2>&1 ||
+        fails "store.py: $(cat "$folder/out")"
+}
+
+# in_sqlite QUERY
+in_sqlite() {
+    python3 -c 'import sqlite3, sys; print(*sqlite3.connect(sys.argv[1]).execute(sys.argv[2]).fetchone())' \
+        "$folder/links.db" "$1"
+}
+
+# rows INDEX: of AF_UNSPEC
+rows() {
+    in_sqlite "SELECT count(*) FROM stretch WHERE family = 0 AND ifindex = $1"
+}
+
+# keys INDEX: how many its rows have
+keys() {
+    in_sqlite "SELECT count(DISTINCT key) FROM stretch WHERE family = 0 AND ifindex = $1"
+}
+
+# wants WHAT FOUND WANTED
+wants() {
+    [ "$2" = "$3" ] || fails "$1: $2 and not $3"
+    echo "store: $1: $2"
+}
+
+# stands: whether no state moves for five seconds
+stands() {
+    local rows
+    rm -f "$folder/links.db"
+    sqlite 50 0.1
+    rows=$(in_sqlite 'SELECT count(*) - sum(is_open) FROM stretch')
+    [ "$rows" = 0 ]
+}
+
+# a link that is the same each time that it is made
+makes_again() {
+    ip link add index 4242 name again0 address 02:00:00:00:00:07 type veth peer index 4243 name again1 \
+        address 02:00:00:00:00:08
+}
+
+polls_sqlite() {
+    local try links index
+    for try in $(seq 20); do
+        if stands; then
+            break
+        fi
+        [ "$try" != 20 ] || fails 'the states of the links do not come to stand'
+    done
+    rm -f "$folder/links.db"
+    sqlite 100 0.05
+    links=$(in_sqlite 'SELECT sum(is_open) FROM stretch')
+    wants 'rows of a hundred idle polls, one a link' "$(in_sqlite 'SELECT count(*) FROM stretch')" "$links"
+    index=$(cat /sys/class/net/veth0/ifindex)
+    ip link set veth0 mtu 1400
+    sqlite
+    wants 'rows of a link that was changed' "$(rows "$index")" 2
+    ip link set veth0 mtu 1500
+    sqlite
+    wants 'rows of a link that was changed back' "$(rows "$index")" 3
+    wants 'its encodings' "$(keys "$index")" 2
+    makes_again
+    sqlite
+    ip link del again0
+    sqlite
+    wants 'open rows of a link that was deleted' \
+        "$(in_sqlite 'SELECT sum(is_open) FROM stretch WHERE ifindex = 4242')" 0
+    makes_again
+    sqlite
+    wants 'rows of an index that is used again' "$(rows 4242)" 2
+    wants 'open ones' "$(in_sqlite 'SELECT sum(is_open) FROM stretch WHERE ifindex = 4242')" 1
+    wants 'its encodings' "$(keys 4242)" 1
+    ip link del again0
+}
+
+in_folder() {
+    PATH=$folder:$(dirname "$linkstate"):$PATH bash -euo pipefail "$folder/store.sh" "$folder/store" ||
+        fails 'the store in a folder'
+}
+
+polls_folder() {
+    local polls links line
+    block bash >"$folder/store.sh"
+    for ((polls = 0; polls < 100; polls++)); do
+        in_folder
+    done
+    links=$(find "$folder/store/links" -type f | wc -l)
+    wants 'lines of a hundred idle polls in a folder, one a link' "$(cat "$folder"/store/links/* | wc -l)" "$links"
+    ip link set veth0 mtu 1400
+    in_folder
+    wants 'lines after a change' "$(cat "$folder"/store/links/* | wc -l)" $((links + 1))
+    ip link del veth0
+    in_folder
+    in_folder
+    wants 'links that are gone, a veth and its peer' "$(cat "$folder"/store/links/* | grep -c ' gone$')" 2
+    for line in "$folder"/store/2-1/*; do
+        [ "$(basenc --base16 -d <<<"$(tr a-f A-F <"$line")" | sha256sum | cut -d ' ' -f 1)" = "${line##*/}" ] ||
+            fails 'a file is not named by its encoding'
+    done
+}
+
+if [ "$1" = --inside ]; then
+    folder=$2 library=$3 linkstate=$4
+    mount -t sysfs sysfs /sys || skips 'no right to mount a sysfs'
+    ip link set lo up
+    ip link add veth0 type veth peer name veth1 2>/dev/null || skips 'the kernel knows no veth'
+    ip link add bridge0 type bridge 2>/dev/null && ip link set veth1 master bridge0
+    for link in /sys/class/net/*; do
+        ip link set "${link##*/}" up
+    done
+    polls_sqlite
+    [ -x "$linkstate" ] || skips 'a store in a folder: linkstate is not built'
+    polls_folder
+    exit 0
+fi
+library=$(realpath "$1") linkstate=${2:-$top/crates/linkstate/out/linkstate}
+python3 - "$top" <<'END' || fails 'docs/STORE.md and examples/store.py have other tables'
+import sys
+page, program = (open(f"{sys.argv[1]}/{it}", encoding="utf-8").read() for it in ("docs/STORE.md", "examples/store.py"))
+sys.exit(page.split("```sql\n")[1].split("```")[0] not in program)
+END
+python3 -c 'import sqlite3' 2>/dev/null || skips 'no sqlite3 in python3'
+command -v ip >/dev/null || skips 'no command ip'
+folder=$(mktemp -d)
+trap 'rm -rf "$folder"' EXIT
+${CC:-cc} -std=c11 -D_GNU_SOURCE -O1 -I"$top/include" -o "$folder/links" "$top/examples/c/links.c" "${library%.so.0}.a"
+for flags in -mn -rmn; do
+    if unshare "$flags" true 2>/dev/null; then
+        unshare "$flags" "$0" --inside "$folder" "$library" "$(realpath -m "$linkstate")"
+        exit 0
+    fi
+done
+skips 'no right to make a namespace'
