@@ -1,7 +1,8 @@
-/* Times the calls of linkwire.h and of link_msg, libnl-route-3 and Debian's crate netlink-packet-route on the same
- * messages, and what a byte costs as a message grows: compare MESSAGES DUMP GROWING. In processor time, the best of
- * many rounds, in which the calls take turns. DUMP may be '-', for none. A number in brackets counts the messages that
- * a call takes, where it fails on others; those alone are timed. */
+/* Times the calls of linkwire.h and of link_msg, the crate in rust/, libnl-route-3 and Debian's crate
+ * netlink-packet-route on the same messages, and what a byte costs as a message grows: compare MESSAGES DUMP GROWING.
+ * In processor time, the best of many rounds, in which the calls take turns. DUMP may be '-', for none. A number in
+ * brackets counts the messages that a call takes, where it fails on others; those alone are timed. All is timed five
+ * times; how often as long the crate in rust/ takes as the proved build is the median of the five. */
 #include <time.h>
 
 #include "compare.h"
@@ -14,7 +15,7 @@
 #include <netlink/route/link.h>
 #endif
 
-enum { ROUNDS = 15, AGAIN = 200, FILES = 2 };
+enum { RUNS = 5, ROUNDS = 15, AGAIN = 200, FILES = 2 };
 
 static uint8_t *out;
 static size_t cap;
@@ -36,6 +37,10 @@ static ptrdiff_t canonical(const struct message *message) {
     return linkwire_canonical(message->bytes, message->len, out, cap);
 }
 
+static ptrdiff_t state(const struct message *message) {
+    return linkwire_state(message->bytes, message->len, out, cap);
+}
+
 static ptrdiff_t canonical_vec(const struct message *message) {
     return bench_canonical(message->bytes, message->len, out, cap);
 }
@@ -47,6 +52,34 @@ static ptrdiff_t parse(const struct message *message) {
 static ptrdiff_t emits(const struct message *message) {
     return bench_emits(message->bytes, message->len, out, cap, AGAIN);
 }
+
+#ifdef WITH_CARGO
+static ptrdiff_t by_cargo_check(const struct message *message) {
+    return cargo_check(message->bytes, message->len);
+}
+
+static ptrdiff_t by_cargo_canonical(const struct message *message) {
+    return cargo_canonical(message->bytes, message->len, out, cap);
+}
+
+static ptrdiff_t by_cargo_canonical_vec(const struct message *message) {
+    return cargo_canonical_vec(message->bytes, message->len, out, cap);
+}
+
+static ptrdiff_t by_cargo_parse(const struct message *message) {
+    return cargo_parse(message->bytes, message->len);
+}
+
+static ptrdiff_t by_cargo_emits(const struct message *message) {
+    return cargo_emits(message->bytes, message->len, out, cap, AGAIN);
+}
+#else
+#define by_cargo_check NULL
+#define by_cargo_canonical NULL
+#define by_cargo_canonical_vec NULL
+#define by_cargo_parse NULL
+#define by_cargo_emits NULL
+#endif
 
 #ifdef WITH_CRATE
 static ptrdiff_t crate_parse(const struct message *message) {
@@ -104,20 +137,30 @@ static struct row {
     call *run;
     size_t again; /* how often one call does what is timed */
     double best[FILES];
+    double runs[FILES][RUNS]; /* the best of each run */
     struct messages taken[FILES]; /* those that the call does not refuse */
 } rows[] = {
-    {"memcpy", copy, 1, {0}, {{0}}},
-    {"linkwire_check", check, 1, {0}, {{0}}},
-    {"linkwire_canonical", canonical, 1, {0}, {{0}}},
-    {"canonical, into memory taken", canonical_vec, 1, {0}, {{0}}},
-    {"LinkMessage::parse, drop", parse, 1, {0}, {{0}}},
-    {"fits, buffer_len, emit", emits, AGAIN, {0}, {{0}}},
-    {LIBNL ": parse, free", libnl_parse, 1, {0}, {{0}}},
-    {CRATE_VERSION ": parse, drop", crate_parse, 1, {0}, {{0}}},
-    {CRATE_VERSION ": buffer_len, emit", crate_emits, AGAIN, {0}, {{0}}},
+    {"memcpy", copy, 1, {0}, {{0}}, {{0}}},
+    {"linkwire_check", check, 1, {0}, {{0}}, {{0}}},
+    {"linkwire_canonical", canonical, 1, {0}, {{0}}, {{0}}},
+    {"canonical, into memory taken", canonical_vec, 1, {0}, {{0}}, {{0}}},
+    {"LinkMessage::parse, drop", parse, 1, {0}, {{0}}, {{0}}},
+    {"fits, buffer_len, emit", emits, AGAIN, {0}, {{0}}, {{0}}},
+    {"rust/: check", by_cargo_check, 1, {0}, {{0}}, {{0}}},
+    {"rust/: canonical_into", by_cargo_canonical, 1, {0}, {{0}}, {{0}}},
+    {"rust/: canonical", by_cargo_canonical_vec, 1, {0}, {{0}}, {{0}}},
+    {"rust/: LinkMessage::parse, drop", by_cargo_parse, 1, {0}, {{0}}, {{0}}},
+    {"rust/: fits, buffer_len, emit", by_cargo_emits, AGAIN, {0}, {{0}}, {{0}}},
+    {"linkwire_state", state, 1, {0}, {{0}}, {{0}}},
+    {LIBNL ": parse, free", libnl_parse, 1, {0}, {{0}}, {{0}}},
+    {CRATE_VERSION ": parse, drop", crate_parse, 1, {0}, {{0}}, {{0}}},
+    {CRATE_VERSION ": buffer_len, emit", crate_emits, AGAIN, {0}, {{0}}, {{0}}},
 };
 
 enum { ROWS = sizeof rows / sizeof *rows };
+
+/* Where the calls of the proved build stand, those of the crate in rust/ in the same order, and how many they are. */
+enum { PROVED = 1, CARGO = 6, PAIRS = 5 };
 
 static double seconds(void) {
     struct timespec now;
@@ -162,19 +205,26 @@ static void make_room(const struct messages *messages) {
     }
 }
 
+static void note(double *best, double took) {
+    *best = *best == 0 || took < *best ? took : *best;
+}
+
+/* Times each call on the messages of a file: the best round of all, and of each run. */
 static void time_file(size_t file, const struct messages *messages) {
     make_room(messages);
     make_packets(messages);
-    for (int round = 0; round < ROUNDS; round++) {
+    for (struct row *row = rows; row < rows + ROWS; row++) {
+        if (row->run != NULL) {
+            row->taken[file] = taken(row->run, messages);
+        }
+    }
+    for (int round = 0; round < RUNS * ROUNDS; round++) {
         for (struct row *row = rows; row < rows + ROWS; row++) {
-            if (round == 0 && row->run != NULL) {
-                row->taken[file] = taken(row->run, messages);
+            if (row->taken[file].count > 0) {
+                double took = once(row, &row->taken[file]);
+                note(&row->best[file], took);
+                note(&row->runs[file][round / ROUNDS], took);
             }
-            if (row->taken[file].count == 0) {
-                continue;
-            }
-            double took = once(row, &row->taken[file]);
-            row->best[file] = round == 0 || took < row->best[file] ? took : row->best[file];
         }
     }
 }
@@ -192,6 +242,20 @@ static void print_cell(const struct row *row, size_t file, const struct messages
     }
 }
 
+/* How much longer one call takes than another, where neither refuses a message. */
+static void print_ratio(const char *name, call *one, call *other) {
+    printf("%-46s", name);
+    for (size_t file = 0; file < FILES; file++) {
+        double took = 0, than = 0;
+        for (const struct row *row = rows; row < rows + ROWS; row++) {
+            took = row->run == one ? row->best[file] : took;
+            than = row->run == other ? row->best[file] : than;
+        }
+        than > 0 ? printf(" %14.2f", took / than) : printf(" %14s", "skipped");
+    }
+    printf("\n");
+}
+
 static void print_table(const struct messages *messages) {
     printf("%-46s %14s %14s\n", "ns a message", "made", "kernel's dump");
     printf("%-46s %14zu %14zu\n", "messages", messages[0].count, messages[1].count);
@@ -204,6 +268,40 @@ static void print_table(const struct messages *messages) {
         printf("%-46s", row->name);
         for (size_t file = 0; file < FILES; file++) {
             print_cell(row, file, &messages[file]);
+        }
+        printf("\n");
+    }
+    print_ratio("linkwire_state, times linkwire_canonical", state, canonical);
+}
+
+static int by_size(const void *one, const void *other) {
+    double a = *(const double *)one, b = *(const double *)other;
+    return (a > b) - (a < b);
+}
+
+/* How often as long a call of the crate in rust/ takes as that of the proved build, on the messages of a file. */
+static double ratio(size_t pair, size_t file) {
+    double found[RUNS];
+    for (size_t run = 0; run < RUNS; run++) {
+        found[run] = rows[CARGO + pair].runs[file][run] / rows[PROVED + pair].runs[file][run];
+    }
+    qsort(found, RUNS, sizeof *found, by_size);
+    return found[RUNS / 2];
+}
+
+static void print_ratios(const struct messages *messages) {
+    if (rows[CARGO].run == NULL) {
+        return;
+    }
+    printf("\n%-46s %14s %14s\n", "rust/ to the proved build, the median of 5", "made", "kernel's dump");
+    for (size_t pair = 0; pair < PAIRS; pair++) {
+        printf("%-46s", rows[CARGO + pair].name);
+        for (size_t file = 0; file < FILES; file++) {
+            if (messages[file].count == 0) {
+                printf(" %14s", "skipped");
+            } else {
+                printf(" %14.2f", ratio(pair, file));
+            }
         }
         printf("\n");
     }
@@ -261,6 +359,7 @@ int main(int argc, char **argv) {
         time_file(1, &messages[1]);
     }
     print_table(messages);
+    print_ratios(messages);
     struct messages growing = read_messages(argv[3]);
     print_growth(&growing);
     return 0;

@@ -1,4 +1,4 @@
-/* The messages of a file, and the functions of crates/link_speed and of bench/debian_crate.rs. */
+/* The messages of a file, and the functions of crates/link_speed, bench/rust_crate.rs and bench/debian_crate.rs. */
 #ifndef COMPARE_H
 #define COMPARE_H
 
@@ -12,6 +12,13 @@
 ptrdiff_t bench_parse(const uint8_t *bytes, size_t len);
 ptrdiff_t bench_emits(const uint8_t *bytes, size_t len, uint8_t *out, size_t cap, size_t times);
 ptrdiff_t bench_canonical(const uint8_t *bytes, size_t len, uint8_t *out, size_t cap);
+
+/* The same of the crate in rust/. */
+int32_t cargo_check(const uint8_t *bytes, size_t len);
+ptrdiff_t cargo_canonical(const uint8_t *bytes, size_t len, uint8_t *out, size_t cap);
+ptrdiff_t cargo_canonical_vec(const uint8_t *bytes, size_t len, uint8_t *out, size_t cap);
+ptrdiff_t cargo_parse(const uint8_t *bytes, size_t len);
+ptrdiff_t cargo_emits(const uint8_t *bytes, size_t len, uint8_t *out, size_t cap, size_t times);
 
 /* The same of the Debian crate. */
 ptrdiff_t debian_parse(const uint8_t *bytes, size_t len);

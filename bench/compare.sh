@@ -1,6 +1,7 @@
 #!/usr/bin/env bash
-# Times the calls of this library beside libnl-route-3 and Debian's crate netlink-packet-route, each where it is
-# installed, on made messages and on a fresh dump of the kernel's links. With two archives as arguments it builds none.
+# Times the calls of this library beside those of the crate in rust/, where cargo is installed, of libnl-route-3 and of
+# Debian's crate netlink-packet-route, each where it is installed, on made messages and on a fresh dump of the kernel's
+# links: compare.sh LIBRARY [SPEED_LIBRARY], of which the second is built if it is not given.
 set -euo pipefail
 here=$(cd "$(dirname "$0")" && pwd)
 top=$(dirname "$here")
@@ -17,7 +18,7 @@ only() {
     objcopy --wildcard --keep-global-symbol="$2*" "$folder/whole.o" "$folder/$2.o"
 }
 
-our_library=${1:-$("$top/scripts/c_library.sh")}
+our_library=$1
 speed_library=${2:-$("$here/speed_library.sh")}
 only "$our_library" linkwire_
 only "$speed_library" bench_
@@ -30,36 +31,47 @@ else
     echo 'bench: libnl-route-3-dev is not installed: skipped' >&2
 fi
 
+# package NAME LINES..: a static library NAME of bench/NAME.rs, whose package has these dependencies and what follows
+package() {
+    mkdir -p "$folder/$1/.cargo"
+    cp "$here/$1.rs" "$folder/$1/lib.rs"
+    {
+        printf '[package]\nname = "%s"\nversion = "0.0.0"\nedition = "2021"\n' "$1"
+        printf '[lib]\npath = "lib.rs"\ncrate-type = ["staticlib"]\n[dependencies]\n'
+        printf '%s\n' "${@:2}"
+    } >"$folder/$1/Cargo.toml"
+}
+
+objects=()
+if command -v cargo >/dev/null; then
+    package rust_crate "linkwire = { path = \"$top/rust\" }" '[profile.release]' 'lto = true' 'codegen-units = 1'
+    # for the processors that the proved build is for
+    (cd "$folder/rust_crate" && RUSTFLAGS='-C target-cpu=x86-64-v2' CARGO_TARGET_DIR=$folder/target \
+        cargo build --quiet --release --offline)
+    only "$folder/target/release/librust_crate.a" cargo_
+    flags+=(-DWITH_CARGO)
+    objects+=("$folder/cargo_.o")
+    versions+=("$(rustc --version)")
+else
+    echo 'bench: cargo is not installed: the crate in rust/ is skipped' >&2
+fi
+
 # Debian's crate, by cargo with Debian's folder of sources in place of the registry.
 debian=$(find "$registry" -maxdepth 1 -name 'netlink-packet-route-0.*' 2>/dev/null | sort | tail -1) || true
 if [ -n "$debian" ] && command -v cargo >/dev/null; then
     version=${debian##*-}
-    mkdir -p "$folder/crate/.cargo"
-    cp "$here/debian_crate.rs" "$folder/crate/lib.rs"
-    cat >"$folder/crate/Cargo.toml" <<END
-[package]
-name = "debian_crate"
-version = "0.0.0"
-edition = "2021"
-[lib]
-path = "lib.rs"
-crate-type = ["staticlib"]
-[dependencies]
-netlink-packet-route = "=$version"
-END
-    cat >"$folder/crate/.cargo/config.toml" <<END
+    package debian_crate "netlink-packet-route = \"=$version\""
+    cat >"$folder/debian_crate/.cargo/config.toml" <<END
 [source.crates-io]
 replace-with = "debian"
 [source.debian]
 directory = "$registry"
 END
-    (cd "$folder/crate" && cargo build --quiet --release --offline)
+    (cd "$folder/debian_crate" && cargo build --quiet --release --offline)
     flags+=(-DWITH_CRATE "-DCRATE_VERSION=\"netlink-packet-route $version\"")
-    objects=("$folder/crate/target/release/libdebian_crate.a")
-    versions+=("$(rustc --version)")
+    objects+=("$folder/debian_crate/target/release/libdebian_crate.a")
 else
     echo 'bench: librust-netlink-packet-route-dev or cargo is not installed: skipped' >&2
-    objects=()
 fi
 
 for program in compare peak; do

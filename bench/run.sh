@@ -3,8 +3,8 @@
 # made lines, and on those of a kernel's dump, again and again. It fails where linkshow is too slow, or holds too much.
 set -euo pipefail
 here=$(cd "$(dirname "$0")" && pwd)
-program=${1:-$here/../crates/linkwire/out/linkwire}
-show=${2:-$here/../crates/linkshow/out/linkshow}
+program=${1:-$here/../out/linkwire}
+show=${2:-$here/../out/linkshow}
 megabytes=${MEGABYTES:-50}
 folder=$(mktemp -d)
 trap 'rm -rf "$folder"' EXIT

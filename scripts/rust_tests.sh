@@ -1,17 +1,20 @@
 #!/usr/bin/env bash
-# Runs the tests of bindings/rust against the built library, and then the README's program in Rust, taken out of it,
-# whose output is compared: rust_tests.sh [LIBRARY]. Where cargo is not there it says 'skipped'. It needs no registry.
+# Tests the crate in rust/: its tests and those in its docs, with overflow checks, and the README's program in Rust,
+# taken out of it, whose output is compared. The example 'lines' has to answer the stored input of the program linkwire
+# as that does, and, where that is built, so many lines that are made and damaged, byte for byte; what the crate's calls
+# say of each of these lines has to agree: rust_tests.sh [LINES]. Where cargo is not there it says 'skipped'. It needs
+# no registry.
 set -euo pipefail
 top=$(cd "$(dirname "$0")/.." && pwd)
-library=$(realpath "${1:-$top/out/liblinkwire.a}")
+count=${1:-100000}
+linkwire=$top/crates/linkwire
 if ! command -v cargo >/dev/null; then
     echo 'rust: skipped: no cargo'
     exit 0
 fi
 folder=$(mktemp -d)
 trap 'rm -rf "$folder"' EXIT
-LINKWIRE_LIB_DIR=$(dirname "$library")
-export LINKWIRE_LIB_DIR CARGO_TARGET_DIR=$folder/target CARGO_NET_OFFLINE=true
+export CARGO_TARGET_DIR=$folder/target CARGO_NET_OFFLINE=true
 
 runs() {
     if ! "$@" >"$folder/log" 2>&1; then
@@ -20,18 +23,9 @@ runs() {
     fi
 }
 
-cd "$top/bindings/rust"
+cd "$top/rust"
 runs cargo test --locked
 awk '/^test result: ok/ { sum += $4 } END { print "rust: " sum " tests passed" }' "$folder/log"
-for tool in fmt clippy; do # where they are installed
-    if cargo "$tool" --version >/dev/null 2>&1; then
-        case $tool in
-        fmt) runs cargo fmt --check ;;
-        clippy) runs cargo clippy --locked --all-targets -- -D warnings ;;
-        esac
-        echo "rust: $tool: ok"
-    fi
-done
 
 # block LANGUAGE: the first of that language after README's line '<!-- runs: rust -->'
 block() {
@@ -49,10 +43,25 @@ version = "0.0.0"
 edition = "2021"
 
 [dependencies]
-linkwire = { path = "$top/bindings/rust" }
+linkwire = { path = "$top/rust" }
 END
-cd "$folder/sample"
-runs cargo build
+(cd "$folder/sample" && runs cargo build)
 "$CARGO_TARGET_DIR/debug/sample" >"$folder/found"
 diff "$folder/wanted" "$folder/found"
 echo "rust: the README's program: ok"
+
+runs cargo build --locked --release --example lines
+example=$CARGO_TARGET_DIR/release/examples/lines
+"$example" <"$linkwire/stdin" | cmp - "$linkwire/stdout"
+echo "rust: the program's stored input: the same bytes"
+if [ ! -x "$linkwire/out/linkwire" ]; then
+    echo 'rust: lines: skipped: crates/linkwire is not built'
+    exit 0
+fi
+python3 "$top/scripts/rust_lines.py" "$folder/lines" "$count"
+"$linkwire/out/linkwire" <"$folder/lines" >"$folder/wanted"
+"$example" <"$folder/lines" | cmp - "$folder/wanted"
+answers=$(cut -c 1-7 "$folder/wanted" | cut -d ' ' -f 1 | sort | uniq -c | awk '{ printf ", %s %s", $1, $2 }')
+echo "rust: $(wc -l <"$folder/lines") lines: the same bytes$answers"
+LINKWIRE_LINES=$folder/lines runs cargo test --locked --release --test stored lines -- --nocapture
+echo "rust: the calls agree on $(sed -n 's/^\([0-9]* messages\).*/\1/p' "$folder/log")"

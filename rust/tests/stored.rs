@@ -1,0 +1,177 @@
+//! Lines of hexadecimal messages: the stored input of the program `linkwire`, the rows of its tests, and those of the
+//! file that `LINKWIRE_LINES` names. What the calls of this crate say of one message has to agree, and what the stored
+//! lines and the rows are answered has to be what the program answers.
+
+use linkwire::{
+    Attribute, CanonError, DecodeError, Emitable, GROWTH, HEADER_SIZE, LinkAttribute, LinkMessage, RoomError, Writer,
+    attributes, canonical, canonical_into, canonical_len, canonical_within, check, fault_at, same_message,
+};
+use std::fs;
+
+/// The text of a file of the repository.
+fn stored(file: &str) -> String {
+    fs::read_to_string(format!("{}/../crates/linkwire/{file}", env!("CARGO_MANIFEST_DIR"))).unwrap()
+}
+
+fn bytes_of(line: &str) -> Option<Vec<u8>> {
+    let digits: Option<Vec<u8>> = line.chars().map(|it| it.to_digit(16).map(|digit| digit as u8)).collect();
+    let digits = digits.filter(|it| it.len() % 2 == 0)?;
+    Some(digits.chunks(2).map(|it| 16 * it[0] + it[1]).collect())
+}
+
+fn answer(line: &str) -> String {
+    let Some(message) = bytes_of(line) else {
+        return "nothex".into();
+    };
+    match canonical(&message) {
+        Ok(text) => format!("ok {}", text.iter().map(|it| format!("{it:02x}")).collect::<String>()),
+        Err(CanonError::Decode(_)) => "refused".into(),
+        Err(CanonError::DoesNotFit) => "unfit".into(),
+        Err(CanonError::EmptyVfPorts) => "empty-ports".into(),
+    }
+}
+
+/// What the calls say of one string of bytes agrees.
+fn agrees(bytes: &[u8]) {
+    let read = LinkMessage::parse(bytes);
+    let fault = read.as_ref().err().copied();
+    assert_eq!(check(bytes).err(), fault);
+    assert_eq!(LinkMessage::check(bytes).err(), fault);
+    assert_eq!(LinkMessage::try_from(bytes), read);
+    assert_eq!(fault_at(bytes).map(|(fault, _)| fault), fault);
+    assert_eq!(fault_at(bytes).map(|(_, at)| at), LinkMessage::fault_at(bytes));
+    assert!(fault_at(bytes).map_or(true, |(_, at)| at <= bytes.len()));
+    match read {
+        Ok(message) => agrees_with_value(bytes, &message),
+        Err(fault) => all_refuse(bytes, CanonError::Decode(fault)),
+    }
+}
+
+/// What the calls on bytes say agrees with what the calls of their value say.
+fn agrees_with_value(bytes: &[u8], message: &LinkMessage) {
+    let copy = message.clone();
+    assert_eq!(&copy, message);
+    let found = attributes(bytes).collect::<Result<Vec<Attribute>, DecodeError>>().unwrap();
+    assert_eq!(found.len(), message.attributes.len());
+    assert_eq!(message.fits(), !matches!(message.to_vec(), Err(CanonError::DoesNotFit)));
+    match message.to_vec() {
+        Ok(text) => {
+            is_written_as(bytes, message, &text);
+            assert_eq!(LinkMessage::parse(&text), Ok(copy));
+            rewrites(bytes, &found);
+        }
+        Err(refusal) => {
+            assert!(!message.fits() || message.has_empty_ports());
+            assert!(!message.reads_back());
+            all_refuse(bytes, refusal);
+        }
+    }
+}
+
+/// Every call that writes, writes the same.
+fn is_written_as(bytes: &[u8], message: &LinkMessage, text: &[u8]) {
+    assert!(message.fits() && !message.has_empty_ports() && message.reads_back());
+    assert_eq!(canonical(bytes).as_deref(), Ok(text));
+    assert_eq!(canonical(text).as_deref(), Ok(text));
+    assert_eq!(canonical_len(bytes), Ok(text.len()));
+    assert!(text.len() <= GROWTH * bytes.len());
+    assert_eq!(same_message(bytes, text), Ok(true));
+    assert_eq!(same_message(bytes, &[0; HEADER_SIZE]), Ok(*text == [0; HEADER_SIZE]));
+
+    let mut longer = vec![0x55; text.len() + 9];
+    for write in [canonical_into, canonical_within] {
+        longer.fill(0x55);
+        assert_eq!(write(bytes, &mut longer), Ok(text.len()));
+        assert_eq!(longer[..text.len()], *text);
+        let short = &mut longer[..text.len() - 1];
+        short.fill(0x55);
+        assert_eq!(write(bytes, short), Err(RoomError::NoRoom { wanted: text.len() }));
+        assert!(short.iter().all(|it| *it == 0x55));
+    }
+    longer.fill(0x55);
+    message.emit(&mut longer);
+    assert_eq!(message.buffer_len(), text.len());
+    assert_eq!(longer[..text.len()], *text);
+    assert_eq!(longer[text.len()..], [0x55; 9]);
+    let attributes: &[LinkAttribute] = &message.attributes;
+    assert_eq!(HEADER_SIZE + attributes.buffer_len(), text.len());
+}
+
+/// A refusal without the name of the place, which is for a log: calls on a list alone do not know what it is of.
+fn nameless(refusal: CanonError) -> CanonError {
+    match refusal {
+        CanonError::Decode(fault) => CanonError::Decode(DecodeError { place: "", ..fault }),
+        refusal => refusal,
+    }
+}
+
+/// Every call that wants an encoding refuses, and leaves the buffer as it was.
+fn all_refuse(bytes: &[u8], refusal: CanonError) {
+    let refusal = nameless(refusal);
+    assert_eq!(canonical(bytes).map_err(nameless), Err(refusal));
+    assert_eq!(canonical_len(bytes).map_err(nameless), Err(refusal));
+    assert_eq!(same_message(bytes, &[0; HEADER_SIZE]).map_err(nameless), Err(refusal));
+    assert_eq!(same_message(&[0; HEADER_SIZE], bytes).map_err(nameless), Err(refusal));
+    let mut out = [0x55; 64];
+    match canonical_into(bytes, &mut out) {
+        Err(RoomError::NoText(it)) => assert_eq!(nameless(it), refusal),
+        other => panic!("{other:?}, where {refusal:?} is refused"),
+    }
+    assert_eq!(out, [0x55; 64]);
+}
+
+/// The attributes of a message, written again, mean the same.
+fn rewrites(message: &[u8], attributes: &[Attribute]) {
+    let mut buffer = vec![0; message.len() + 3];
+    let mut writer = Writer::message(&mut buffer, message[..HEADER_SIZE].try_into().unwrap()).unwrap();
+    for attribute in attributes {
+        writer.put(attribute.kind(), attribute.payload()).unwrap();
+    }
+    assert_eq!(same_message(message, writer.finish()), Ok(true));
+}
+
+#[test]
+fn stored_input() {
+    let (lines, wanted) = (stored("stdin"), stored("stdout"));
+    assert_eq!(lines.lines().count(), wanted.lines().count());
+    for (line, wanted) in lines.lines().zip(wanted.lines()) {
+        assert_eq!(answer(line), wanted, "{line}");
+        bytes_of(line).iter().for_each(|it| agrees(it));
+    }
+}
+
+/// Code without its comments, each line that ends in a backslash joined with the next.
+fn joined(source: &str) -> String {
+    let mut code = String::new();
+    for line in source.lines().filter(|it| !it.trim_start().starts_with("//")) {
+        let goes_on = code.ends_with('\\');
+        code.truncate(code.len() - usize::from(goes_on));
+        code.push_str(if goes_on { line.trim_start() } else { line });
+    }
+    code
+}
+
+/// The rows are pairs of texts between quotes, in which only a CR is escaped.
+#[test]
+fn rows() {
+    let code = joined(&stored("src/tests/rows.rt")).replace("\\r", "\r");
+    let texts: Vec<&str> = code.split('"').skip(1).step_by(2).collect();
+    assert!(texts.len() > 100 && texts.len() % 2 == 0);
+    for row in texts.chunks(2) {
+        assert_eq!(answer(row[0]), row[1], "{}", row[0]);
+        bytes_of(row[0]).iter().for_each(|it| agrees(it));
+    }
+}
+
+/// The lines of the file that `LINKWIRE_LINES` names; none where it is not set.
+#[test]
+fn lines() {
+    let Some(file) = std::env::var_os("LINKWIRE_LINES") else {
+        return;
+    };
+    let text = fs::read(file).unwrap();
+    let lines = text.split(|it| *it == b'\n').filter_map(|it| std::str::from_utf8(it).ok());
+    let messages = lines.filter_map(bytes_of).map(|it| agrees(&it)).count();
+    assert!(messages > 0);
+    println!("{messages} messages");
+}

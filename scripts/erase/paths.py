@@ -1,0 +1,91 @@
+"""Crates become modules of one package, and parts of Rattle's std are ours."""
+import re
+
+from source import counts
+
+NAME = re.compile(r"\b(?:String|Vec)\b")
+PACKAGE = "linkwire"
+STD_OF_OURS = {"alloc", "str", "test"}              # modules of std of which a file of ours stands
+CRATES_OF_OURS = {"bitflags", "hex", "memchr", "json"}
+NAMES_OF_OURS = {"Vec", "String", "HostRuntime"}    # of Rattle's prelude, where they differ
+IN_CORE = {"fmt", "marker", "ops", "slice", "str"}
+MACROS_OF_OURS = {"vec", "format", "eprintln", "assert", "assert_eq", "assert_ne", "panic"}
+
+
+def paths(s, crate, crates, is_program, is_crate):
+    """`crate::`, the names of the other crates, and the parts of std that are ours."""
+    root = PACKAGE if is_program else "crate"
+    crates = set(crates) - {s.text[s.next(i)] for i in s.live("mod")}      # a module of its own has the name first
+    for i in s.sig:
+        if s.dead[i] or s.kind[i] != "id" or not s.is_path(i) or s.follows_path(i) or s.at(s.prev(i), "."):
+            continue
+        text = s.text[i]
+        if text == "crate":
+            own_path(s, i, crate, is_program)
+        elif text in crates:
+            counts["path of another crate"] += 1
+            s.new[i] = f"{root}::{text}"
+        elif text in CRATES_OF_OURS:
+            counts["path of a crate of the kit"] += 1
+            s.new[i] = f"{root}::rattle::{text}"
+        elif text == "std":
+            std_path(s, i, root, is_crate)
+
+
+def own_path(s, i, crate, is_program):
+    if s.at(s.prev(i), "in") and s.at(s.prev(i, 2), "("):
+        s.fail(i, "pub(in ..)")
+    if not is_program:
+        counts["path of this crate"] += 1
+        s.new[i] = f"crate::{crate}"
+
+
+def std_path(s, i, root, is_crate):
+    part = s.next(i, 3)
+    if s.text[part] == "{":
+        s.fail(i, "a group of parts of std: write one `use` for each")
+    is_method = s.text[part] == "str" and s.is_path(part)
+    if s.at(part, "process", ":", ":", "Abort") or (s.text[part] in STD_OF_OURS and not is_method):
+        counts["path of std that is ours"] += 1
+        s.new[i] = f"{root}::rattle"
+    elif is_crate and s.text[part] == "net":
+        counts["path of std that is ours"] += 1
+        s.new[i] = "crate::rattle"
+    elif is_crate:
+        if s.text[part] not in IN_CORE:
+            s.fail(i, "a part of std that core has not")
+        counts["path of std that is of core"] += 1
+        s.new[i] = "core"
+
+
+def prelude(s, names, is_program):
+    """Names of Rattle's prelude that Rust's prelude has otherwise, in the order of their letters."""
+    used = {"HostRuntime"} if any("HostRuntime" in new for new in s.after.values()) else set()
+    for i in s.sig:
+        if s.dead[i] or s.kind[i] != "id":
+            continue
+        if s.text[i] in names and not s.follows_path(i):
+            used.add(s.text[i])
+        elif s.text[i] in MACROS_OF_OURS and s.at(s.next(i), "!"):
+            used.add(s.text[i])
+    if not used:
+        return ""
+    counts["import of the prelude of ours"] += 1
+    root = PACKAGE if is_program else "crate"
+    return f"use {root}::rattle::prelude::{group(sorted(used))};\n"
+
+
+def of_alloc(s):
+    """The imports of `Vec` and `String`, where a file speaks of them, which Rust's core has not."""
+    used = {s.text[i] for i in s.sig if not s.dead[i] and s.kind[i] == "id"}
+    used |= {word for new in s.new.values() for word in NAME.findall(new)}
+    found = [text for name, text in (("String", "string::String"), ("Vec", "vec::Vec")) if name in used]
+    if any(new.startswith("vec!") for new in s.new.values()):
+        found.append("vec")
+    counts["import of alloc"] += len(found)
+    return "".join(f"use alloc::{one};\n" for one in found)
+
+
+def group(names):
+    """The names of an import, in braces where they are several."""
+    return names[0] if len(names) == 1 else "{" + ", ".join(names) + "}"

@@ -1,0 +1,6 @@
+//! What stands for the parts of Rattle's library that Rust has otherwise, under the same names.
+
+pub mod bitflags;
+pub mod net;
+pub mod number;
+pub mod str;

@@ -1,0 +1,15 @@
+//! What stands for the parts of Rattle's library that differ from Rust's, under the same names.
+
+pub mod alloc;
+pub mod bitflags;
+pub mod hex;
+pub mod macros;
+pub mod memchr;
+pub mod number;
+pub mod prelude;
+pub mod process;
+pub mod rt;
+pub mod str;
+pub mod string;
+pub mod test;
+pub mod vec;

@@ -1,0 +1,87 @@
+"""What of the crates a Rust user sees: the names that the top crates give again, and their calls."""
+from source import counts
+
+# Names that a top crate gives again and the crate has otherwise, or not: they serve the crates below.
+HIDDEN_NAMES = {
+    "Action", "Kind", "Level", "Nla", "NlaBuffer", "NlaRead", "NlasIterator", "canonical_into", "check_string",
+    "clear", "emit_i32", "emit_nlas", "emit_u16", "emit_u32", "emit_u64", "list_measure", "nlas_buffer_len",
+    "nlas_fill", "nlas_fit", "nlas_measure", "nlas_write", "same_refusal", "state_into", "write_list",
+}
+# Calls of types that serve the crates alone, or that the trait `Emitable` has, as in netlink-packet-route.
+HIDDEN_CALLS = {
+    "buffer_len", "canon", "canon_list", "canon_list_with_param", "canon_with_param", "check_list",
+    "check_list_with_param", "check_with_param", "emit", "fill", "list_from", "measure", "measure_entry",
+    "measure_list", "parse_list", "parse_list_with_param", "parse_with_param", "sum", "sum_fits", "write",
+    "write_entry", "write_list",
+}
+
+
+
+def given_again(s):
+    """The names that a top crate gives again."""
+    return {s.text[k] for i, end in s.imports() if s.at(s.prev(i), "pub") for k in s.names(i, end)} - HIDDEN_NAMES
+
+
+def hide_names(s):
+    for i, end in s.imports():
+        for k in s.names(i, end):
+            if s.at(s.prev(i), "pub") and s.text[k] in HIDDEN_NAMES and not s.dead[i]:
+                counts["name that is not given again"] += 1
+                s.drop_name(i, end, k)
+
+
+def hide_modules(s):
+    """`pub mod` of a top crate is `pub(crate) mod`: a user has its names without them."""
+    for i in s.live("mod"):
+        if s.at(s.prev(i), "pub"):
+            counts["module that is not public"] += 1
+            s.new[s.prev(i)] = "pub(crate)"
+
+
+def is_hidden(s, i):
+    """Whether the function that this `fn` begins, of an impl, is for the crates alone."""
+    name, open_ = s.next(i), s.skip_to(i, {"("})
+    takes_frame = any(s.text[k] == "NlaBuffer" for k in range(open_, s.match[open_]))
+    return s.text[name] in HIDDEN_CALLS or takes_frame
+
+
+def hide_calls(s):
+    """`pub fn` of those calls is `pub(crate) fn`."""
+    for i in s.live("fn"):
+        if s.at(s.prev(i), "pub") and owner(s, i) and is_hidden(s, i):
+            counts["call that is not public"] += 1
+            s.new[s.prev(i)] = "pub(crate)"
+
+
+def owner(s, i):
+    """The type of the inherent impl around this `fn`; None elsewhere."""
+    open_ = s.outer(i)
+    if open_ is None or s.text[open_] != "{":
+        return None
+    k = open_
+    while k is not None and s.text[k] not in (";", "}", "impl", "trait"):
+        k = s.prev(s.angle_start(k) if s.text[k] == ">" else k)
+    if k is None or s.text[k] != "impl" or s.implements(k, open_) is not None:
+        return None
+    k = s.next(k)
+    return s.text[s.next(s.angle(k)) if s.text[k] == "<" else k]
+
+
+def public_name(s, i, public):
+    """The name of the call that this `fn` begins, as a user writes it, where a user sees it; else None."""
+    name = s.text[s.next(i)]
+    if not s.at(s.prev(i), "pub"):
+        return None
+    type_ = owner(s, i)
+    if type_ is not None:
+        return f"{type_}::{name}" if type_ in public and not is_hidden(s, i) else None
+    return name if s.outer(i) is None and name in public else None
+
+
+def holder(s, fn):
+    """The type of the impl, or the trait, around this `fn`."""
+    k = s.outer(fn)
+    while s.text[k] not in ("impl", "trait"):
+        k = s.prev(s.angle_start(k) if s.text[k] == ">" else k)
+    k = s.next(k)
+    return s.text[s.next(s.angle(k)) if s.text[k] == "<" else k]

@@ -1,0 +1,115 @@
+#!/usr/bin/env python3
+"""Each form that the script refuses, fed to it: it has to say which, with file and line.
+
+    python3 scripts/erase/test_erase.py
+"""
+import sys
+
+import derives
+import erase
+import layout
+import owed
+from source import Source, Unknown, counts
+
+# a source, as one of link_msg, and what is said of it
+REFUSED = [
+    ("fn f(a: (u8] {}\n", "1: brackets do not match"),
+    ("impl T {\n    ghost frame = 1\n}\n", "2: a ghost item without an end"),
+    ("fn f()\n    requires x < 1;\n", "2: a clause without braces"),
+    ("impl Model for T {\n    fn f() {}\n}\n", "1: an impl of Model with more than ghosts"),
+    ("impl Exact for T {\n    fn f() {}\n}\n", "1: an impl of Exact with more than ghosts"),
+    ("impl Drop for T {\n    fn drop(self) {}\n}\n", "1: an impl of Drop: Rattle moves self into drop"),
+    ("fn f(x: Box<Drop>) {}\n", "1: Drop other than as a bound"),
+    ("impl PartialEq for T {\n    fn eq(&self, other: &T) -> bool {\n        true\n    }\n}\n",
+     "1: an impl of PartialEq that is written out"),
+    ("#[derive(Debug, Error)]\nenum E {\n    A,\n}\n", "3: no message of an error"),
+    ('#[derive(Debug, Error)]\nenum E {\n    #[error("a {}", 1)]\n    A,\n}\n',
+     "3: a message that is more than one text"),
+    ('#[derive(Debug, Error)]\n#[error("a")]\nstruct E<T>(T);\n', "3: a derived error with parameters"),
+    ("fn f(x: &T) {\n    let y = x.clone();\n}\n",
+     "2: a copy by Clone that is not asked at once whether it failed"),
+    ("impl Clone for T {\n    fn clone(&self) -> Result<T, AllocError> {\n        g()\n    }\n}\n",
+     "2: an impl of Clone that can fail"),
+    ("fn f<W: Write>(f: &mut fmt::Formatter<W>) {}\n", "1: a formatter under another bound than fmt::Write alone"),
+    ('fn f() {\n    x.expect("a");\n}\n', "2: expect without a runtime"),
+    ("fn f() {\n    unsafe { g() }\n}\n", "2: unsafe"),
+    ("use std::{fmt, str};\n", "1: a group of parts of std: write one `use` for each"),
+    ("use std::collections::HashMap;\n", "1: a part of std that core has not"),
+    ("pub(in crate::a) fn f() {}\n", "1: pub(in ..)"),
+    ("fn f(x: usize) -> u8 {\n    x as u8\n}\n", "2: a cast to u8, of which no checked form is known"),
+    ("fn f() -> u16 {\n    5 as u16\n}\n", "2: a cast of what is neither a name nor in parentheses"),
+    ("impl LinkMessage {\n    pub fn f(&self)\n        requires { IsNew self.now }\n    {\n    }\n}\n",
+     "3: a condition without words for a user: IsNew self.now"),
+    ("fn f() {\n    unreachable!()\n}\n", "2: `unreachable` without words for a user"),
+    ("fn f() {\n    x.unwrap();\n}\n", "2: `unwrap` without words for a user"),
+    ("fn f() -> Cause {\n    Cause::OutOfMemory\n}\n",
+     "2: a cause that only memory gives, other than as the pattern of an arm"),
+    ("fn f() {\n    OutOfMemory\n}\n", "2: a cause that only memory gives, other than a variant or an arm"),
+    ("fn f(c: Cause) {\n    match c {\n        Cause::OutOfMemory => {}\n        _ => {}\n    }\n}\n",
+     "3: an arm without a comma"),
+    ("fn f() -> Result<u8, AllocError> {\n    Err(g())\n}\n",
+     "2: a function that fails for memory alone gives an error of its own"),
+    ("fn f() {\n    let x = text(alloc);\n}\n",
+     "2: a call that fails for memory alone is not asked at once whether it failed"),
+    ("fn f() {\n    let x = Text::of(alloc, y)?;\n}\n", "2: a call of Text that is not known"),
+    ("fn f() {\n    let make = List::new;\n}\n", "2: List::new other than called or mapped"),
+    ("use nla_wire::{List as L, b};\n", "1: an import of List under another name"),
+    ("use nla_wire::{a::{List}, b};\n", "1: a name of an import that cannot be dropped"),
+    ("fn f<T: ops::Drop>(x: T) {}\n", "1: Drop other than as a bound"),
+    ("fn f(a: Global) {}\n", "1: `Global` in a form that is not known"),
+    ("fn f() {\n    g(alloc + 1);\n}\n", "2: `alloc` in a form that is not known"),
+    ("/// Or `OutOfMemory` it is.\nfn f() {}\n", "1: words of Rattle in docs: OutOfMemory"),
+]
+
+
+def refusals():
+    """What is said of each; None where nothing is refused."""
+    for text, wanted in REFUSED:
+        mode = erase.Mode(True)
+        mode.public, mode.memory_names = {"LinkMessage"}, {"text"}
+        try:
+            erase.erase("a.rt", text, "link_msg", mode)
+            said = None
+        except Unknown as error:
+            said = str(error)
+        yield text, f"a.rt:{wanted}", said
+
+
+# texts, and how they are laid out
+LAID = [
+    ("use b::{c};\nuse a::{z, y};\n", "use a::{y, z};\nuse b::c;\n"),
+    ("fn f(\n    a: u8,\n    b: u8,\n) -> u8 {\n    a\n}\n", "fn f(a: u8, b: u8) -> u8 {\n    a\n}\n"),
+    ("fn f() {\n    let x = X {\n        a,\n        b: 1,\n    };\n}\n", "fn f() {\n    let x = X { a, b: 1 };\n}\n"),
+    ("fn f() {\n    match x {\n        A => {\n            1\n        }\n    }\n}\n",
+     "fn f() {\n    match x {\n        A => 1,\n    }\n}\n"),
+    ("fn f() -> u8 {\n    if x {\n        1\n    } else {\n        2\n    }\n}\n",
+     "fn f() -> u8 {\n    if x { 1 } else { 2 }\n}\n"),
+]
+
+
+def main():
+    failed = 0
+    for text, wanted, said in refusals():
+        if said != wanted:
+            print(f"{text}wanted: {wanted}\nsaid: {said}\n")
+            failed += 1
+    for text, wanted in LAID:
+        if layout.laid_out(text) != wanted:
+            print(f"{text}laid out as:\n{layout.laid_out(text)}")
+            failed += 1
+    cast = Source("a.rt", "fn f(len: usize) -> u16 {\n    (4 + len) as u16\n}\n")
+    counts.clear()
+    owed.narrowing(cast)
+    if "narrow(4 + len)\n" not in cast.rust() or counts["narrowing cast, checked"] != 1:
+        print(cast.rust())
+        failed += 1
+    if derives.names_in('"{a} {{b}} {0:x}"') != ["a", "0"]:
+        failed += 1
+    if failed:
+        return 1
+    print(f"erase: {len(REFUSED)} forms are refused, {len(LAID)} are laid out")
+    return 0
+
+
+if __name__ == "__main__":
+    sys.exit(main())

@@ -1,0 +1,128 @@
+"""The words of the docs: what the crate has not, and what a Rust user looks for."""
+import re
+import textwrap
+
+from source import counts
+
+WIDTH = 120
+# Sentences about what only Rattle has, as the joined text of a paragraph has them, and what the crate says there.
+SAID = [(re.compile(pattern), text) for pattern, text in [
+    (r"(It takes no memory), and so never returns `OutOfMemory`\.", r"\1."),
+    (r"(It takes no memory), and never returns `OutOfMemory`\.", r"\1."),
+    (r"[,;] and never `OutOfMemory`", ""),
+    (r", and out of memory with `OutOfMemory`", ""),
+    (r"[,;]?,? (or|and)( with)? `OutOfMemory`(, which says nothing of the \w+)?", ""),
+    (r" The cause is never `OutOfMemory`\.", ""),
+    (r" It fails only for lack of memory\.", ""),
+    (r"^It fails only for lack of memory\.", ""),
+    (r", or out of memory\.", "."),
+    (r"; the error says that there was too little\.", "."),
+    (r" `memory` where none was left;", ""),
+    (r"(returns) with ample memory", r"\1"),
+    (r"1 to 9 in the order", "1 to 8 in the order"),
+    (r"1 to 4 in the order", "1 to 3 in the order"),
+    (r" No clause rests on it\.", ""),
+    (r"; for the proof: [^.]*\.", "."),
+    (r" It does nothing\.", ""),
+    (r"`growth_per_byte`", "79"),
+    (r"`small_enough`", "839"),
+]]
+LEFT = re.compile(r"OutOfMemory|for the proof|\bclause\b|growth_per_byte|small_enough")
+KINDS = ("doc", "innerdoc")
+
+
+def blocks(s):
+    """The docs that are kept: the places of the lines of each."""
+    block = []
+    for i, kind in enumerate(s.kind):
+        if kind in KINDS and not s.dead[i]:
+            block.append(i)
+        elif kind != "ws" or s.text[i].count("\n") > 1:
+            if block:
+                yield block
+            block = []
+    if block:
+        yield block
+
+
+def column(s, i):
+    """How far from the left a token stands."""
+    before = s.text[i - 1] if i else ""
+    return len(before) - before.rfind("\n") - 1 if s.kind[i - 1] == "ws" else 0
+
+
+def paragraphs(lines):
+    """Lines of docs as paragraphs, each a list of lines; what is fenced, or a list, is one for itself."""
+    found, fenced = [[]], False
+    for line in lines:
+        if line.strip() == "" and not fenced:
+            found.append([])
+            continue
+        fenced ^= line.strip().startswith("```")
+        found[-1].append(line)
+    return [one for one in found if one]
+
+
+def said(paragraph):
+    """A paragraph in the crate's words."""
+    text = " ".join(line.strip() for line in paragraph)
+    new = text
+    for pattern, instead in SAID:
+        new = pattern.sub(instead, new)
+    return paragraph if new == text else [new] if new.strip() else []
+
+
+def wrapped(paragraph, width):
+    if len(paragraph) > 1 or paragraph[0].startswith(("#", "```", "|", " ")):
+        return paragraph
+    return textwrap.wrap(paragraph[0], width, break_long_words=False, break_on_hyphens=False)
+
+
+def put(s, block, found):
+    """Writes the docs anew, in place of the first of their lines."""
+    mark = "//!" if s.kind[block[0]] == "innerdoc" else "///"
+    indent = " " * column(s, block[0])
+    lines = []
+    for paragraph in found:
+        lines += ([""] if lines else []) + wrapped(paragraph, WIDTH - len(indent) - 4)
+    s.drop(block[0], block[-1])
+    if lines:
+        s.dead[block[0]] = False
+        s.new[block[0]] = f"\n{indent}".join(f"{mark} {line}".rstrip() for line in lines)
+
+
+def docs(s, told):
+    """The docs in the crate's words. `told` are paragraphs for functions, by the place of their `fn`."""
+    of = {s.first_of(fn): paragraphs_of for fn, paragraphs_of in told.items()}
+    for block in blocks(s):
+        lines = [s.text[i][3:].removeprefix(" ") for i in block]
+        before = paragraphs(lines)
+        found = [one for one in map(said, before) if one]
+        item = next((k for k in range(block[-1] + 1, len(s.kind)) if k in s.rank and not s.dead[k]), None)
+        found = with_told(found, of.pop(item, []))
+        left = LEFT.search(" ".join(" ".join(one) for one in found))
+        if left:
+            s.fail(block[0], f"words of Rattle in docs: {left.group()}")
+        if found != before:
+            counts["docs in other words"] += 1
+            put(s, block, found)
+    for item, more in of.items():
+        s.before[item] = undocumented(s, item, more)
+
+
+def undocumented(s, item, more):
+    indent = " " * column(s, item)
+    lines = [line for n, one in enumerate(more) for line in ([""] if n else []) + one]
+    return "".join(f"/// {line}".rstrip() + f"\n{indent}" for line in lines)
+
+
+def with_told(found, told):
+    """The paragraph that says what is refused goes under its heading; what is told comes after all."""
+    if [] in told:                                      # the mark of a call that returns a Result
+        told = [one for one in told if one]
+        at = next((n for n, one in enumerate(found) if one[0].startswith("Refuses")), None)
+        if at is None:
+            told = [["# Errors"], ["The first fault: its cause, and where it is."]] + told
+        else:
+            found = found[:at] + [["# Errors"], found[at]] + found[at + 1:]
+    return found + told
