@@ -1,10 +1,11 @@
-/* Preloaded into an example: once, recv fails or gives what a kernel gives seldom. KERNEL_FAULT says which. Each send
- * is told on standard error. */
+/* Preloaded into an example or into linkdump: once, recv fails or gives what a kernel gives seldom, or each call of
+ * socket fails. KERNEL_FAULT says which. Each send is told on standard error. */
 #define _GNU_SOURCE
 #include <dlfcn.h>
 #include <errno.h>
 #include <linux/netlink.h>
 #include <linux/rtnetlink.h>
+#include <stdbool.h>
 #include <stdlib.h>
 #include <string.h>
 #include <sys/socket.h>
@@ -35,6 +36,18 @@ ssize_t send(int fd, const void *bytes, size_t len, int flags) {
         return -1;
     }
     return own(fd, bytes, len, flags);
+}
+
+int socket(int family, int type, int protocol) {
+    int (*own)(int, int, int);
+    *(void **)&own = dlsym(RTLD_NEXT, "socket");
+    const char *fault = getenv("KERNEL_FAULT");
+    bool is_absent = fault != NULL && strcmp(fault, "no netlink") == 0;
+    if (is_absent || (fault != NULL && strcmp(fault, "no right") == 0)) {
+        errno = is_absent ? EAFNOSUPPORT : EPERM;
+        return -1;
+    }
+    return own(family, type, protocol);
 }
 
 ssize_t recv(int fd, void *buffer, size_t len, int flags) {

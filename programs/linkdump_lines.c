@@ -1,0 +1,161 @@
+/* The lines that linkdump writes, and how it ends. */
+#include "linkdump.h"
+
+#include <errno.h>
+#include <linux/rtnetlink.h>
+#include <poll.h>
+#include <signal.h>
+#include <stdarg.h>
+#include <stdio.h>
+#include <stdlib.h>
+#include <string.h>
+#include <unistd.h>
+
+static struct {
+    bool is_plain;
+    const char *release;
+    char *text;
+    size_t len, room;
+} lines;
+
+/* A signal ends the program at once, or after the line that is being written; a second one at once. */
+static volatile sig_atomic_t is_writing, is_stopped;
+
+static void stop(int number) {
+    (void)number;
+    if (!is_writing || is_stopped) {
+        _exit(0);
+    }
+    is_stopped = 1;
+}
+
+const char *type_name(uint16_t type) {
+    switch (type) {
+    case RTM_NEWLINK: return "new";
+    case RTM_DELLINK: return "del";
+    case RTM_GETLINK: return "get";
+    case RTM_SETLINK: return "set";
+    default: return NULL;
+    }
+}
+
+void handle_signals(void) {
+    const struct sigaction stops = {.sa_handler = stop}, ignored = {.sa_handler = SIG_IGN};
+    sigaction(SIGINT, &stops, NULL);
+    sigaction(SIGTERM, &stops, NULL);
+    sigaction(SIGPIPE, &ignored, NULL);
+}
+
+void begin_lines(bool is_plain, const char *release) {
+    lines.is_plain = is_plain;
+    lines.release = release;
+}
+
+static void make_room(size_t more) {
+    if (lines.room - lines.len < more) {
+        size_t room = 2 * (lines.len + more);
+        char *grown = realloc(lines.text, room);
+        if (grown == NULL) {
+            fail("out of memory");
+        }
+        lines.text = grown;
+        lines.room = room;
+    }
+}
+
+__attribute__((format(printf, 1, 2))) static void put(const char *format, ...) {
+    va_list args;
+    va_start(args, format);
+    int len = vsnprintf(lines.text + lines.len, lines.room - lines.len, format, args);
+    va_end(args);
+    lines.len += len < 0 ? 0 : (size_t)len;
+}
+
+/* A time that RFC 3339 has no form for is left out: captures can hold any. */
+static void put_time(const struct timespec *time) {
+    const time_t year_10000 = 253402300800;
+    struct tm it;
+    if (time->tv_sec < 0 || time->tv_sec >= year_10000 || time->tv_nsec < 0 || time->tv_nsec > 999999999) {
+        return;
+    }
+    gmtime_r(&time->tv_sec, &it);
+    put("time=%04d-%02d-%02dT%02d:%02d:%02d.%09ldZ ", it.tm_year + 1900, it.tm_mon + 1, it.tm_mday, it.tm_hour,
+        it.tm_min, it.tm_sec, time->tv_nsec);
+}
+
+void put_line(const struct timespec *time, const void *head) {
+    static const char digits[] = "0123456789abcdef";
+    const uint8_t *bytes = head;
+    struct nlmsghdr it;
+    memcpy(&it, head, sizeof it);
+    make_room(2 * (size_t)it.nlmsg_len + 256 + (lines.release == NULL ? 0 : strlen(lines.release)));
+    if (!lines.is_plain) {
+        put_time(time);
+        put("type=%s ", type_name(it.nlmsg_type));
+        if (lines.release != NULL) {
+            put("kernel=%s ", lines.release);
+        }
+        put("seq=%u port=%u ", it.nlmsg_seq, it.nlmsg_pid);
+    }
+    for (size_t i = NLMSG_HDRLEN; i < it.nlmsg_len; i++) {
+        lines.text[lines.len++] = digits[bytes[i] >> 4];
+        lines.text[lines.len++] = digits[bytes[i] & 15];
+    }
+    lines.text[lines.len++] = '\n';
+}
+
+/* The end of the line of which a part is written, up to `at`. */
+static size_t line_end(size_t at) {
+    const char *end = at == 0 || lines.text[at - 1] == '\n' ? NULL : memchr(lines.text + at, '\n', lines.len - at);
+    return end == NULL ? at : (size_t)(end - lines.text) + 1;
+}
+
+void flush_lines(void) {
+    struct pollfd output = {STDOUT_FILENO, POLLOUT, 0};
+    size_t at = 0;
+    is_writing = 1;
+    while (at < lines.len) {
+        ssize_t found = write(STDOUT_FILENO, lines.text + at, lines.len - at);
+        if (found >= 0) {
+            at += (size_t)found;
+        } else if (errno == EPIPE) {
+            _exit(0);
+        } else if (errno == EAGAIN) {
+            poll(&output, 1, -1);
+        } else if (errno != EINTR) {
+            lines.len = 0;
+            fail("standard output: %s", strerror(errno));
+        }
+        if (is_stopped) {
+            lines.len = line_end(at);
+        }
+    }
+    lines.len = 0;
+    is_writing = 0;
+    if (is_stopped) {
+        _exit(0);
+    }
+}
+
+static void tell_all(const char *format, va_list args) {
+    char text[1024];
+    vsnprintf(text, sizeof text, format, args);
+    fprintf(stderr, "linkdump: %s\n", text);
+}
+
+void tell(const char *format, ...) {
+    va_list args;
+    flush_lines();
+    va_start(args, format);
+    tell_all(format, args);
+    va_end(args);
+}
+
+void fail(const char *format, ...) {
+    va_list args;
+    flush_lines();
+    va_start(args, format);
+    tell_all(format, args);
+    va_end(args);
+    exit(1);
+}

@@ -1,0 +1,399 @@
+#!/usr/bin/env bash
+# Runs linkdump on the running kernel, here and in network namespaces of its own: live.sh LINKDUMP. What needs netlink,
+# a command or a right that is not there is 'skipped'. The last line is 'live passed', or what is skipped.
+set -euo pipefail
+top=$(cd "$(dirname "$0")/../.." && pwd)
+tests=$top/tests/linkdump
+# a program with a sanitizer does not look whether that was loaded first: kernel_faults.so is
+export ASAN_OPTIONS=${ASAN_OPTIONS:-verify_asan_link_order=0}
+
+skips() {
+    echo "live: skipped: $*"
+    exit 0
+}
+
+fails() {
+    echo "live: linkdump: $*" >&2
+    head -c 2000 "$folder/out" "$folder/err" >&2 || true
+    exit 1
+}
+
+# wants STATUS OUTPUT ERRORS WORD..: what linkdump with these words has to leave
+wants() {
+    local status=0
+    timeout 20 "$linkdump" "${@:4}" >"$folder/out" 2>"$folder/err" || status=$?
+    if [ "$status" != "$1" ] || [ "$(cat "$folder/out")" != "$2" ] || [ "$(cat "$folder/err")" != "$3" ]; then
+        fails "${*:4}: status $status, and not: $1, '$2', '$3'"
+    fi
+}
+
+# waits COMMAND..: until it succeeds, ten seconds at most
+waits() {
+    local try
+    for try in $(seq 100); do
+        if "$@"; then
+            return
+        fi
+        sleep 0.1
+    done
+    return 1
+}
+
+# asked COUNT: whether linkdump has sent so many requests
+asked() {
+    [ "$(grep -c '^asked$' "$folder/err")" -ge "$1" ]
+}
+
+# with FAULT WORD..: linkdump where a kernel does what it seldom does
+with() {
+    LD_PRELOAD=$folder/kernel_faults.so KERNEL_FAULT=$1 timeout 20 "$linkdump" "${@:2}" 2>"$folder/err"
+}
+
+# tells FAULT MESSAGE: it writes nothing else, and fails
+tells() {
+    local status=0
+    with "$1" >"$folder/out" || status=$?
+    if [ "$status" != 1 ] || [ -s "$folder/out" ] || [ "$(grep -vx asked "$folder/err")" != "linkdump: $2" ]; then
+        fails "does not tell: $1"
+    fi
+}
+
+# starts WORD..: linkdump in the background, with its first dump over
+starts() {
+    "$linkdump" "$@" >"$folder/news" 2>"$folder/err" &
+    running=$!
+    trap 'kill -KILL "$running" 2>/dev/null || true' EXIT
+    waits test -s "$folder/news" || fails "$*: no dump"
+}
+
+# stops SIGNAL: it ends with status 0, and its last line is whole
+stops() {
+    local status=0
+    kill "-$1" "$running"
+    wait "$running" || status=$?
+    trap - EXIT
+    if [ "$status" != 0 ] || [ -n "$(tail -c 1 "$folder/news" | tr -d '\n')" ]; then
+        fails "$1: status $status"
+    fi
+}
+
+# the port of linkdump itself, with which the answers to it come
+own_port() {
+    sed -n '1s/.* \(port=[0-9]*\) .*/\1/p' "$folder/news"
+}
+
+# hears PATTERN: until such a line is written
+hears() {
+    if ! waits grep -qE "$1" "$folder/news"; then
+        cut -c1-200 "$folder/news" >&2
+        fails "does not write $1"
+    fi
+}
+
+# the bytes of a number, and of a header's first eight, as hexadecimal
+word() {
+    printf '%08x' "$1" | sed 's/\(..\)\(..\)\(..\)\(..\)/\4\3\2\1/'
+}
+index_of() {
+    word "$(cat "/sys/class/net/$1/ifindex")"
+}
+
+# an MTU in a message
+mtu() {
+    echo "08000400$(word "$1")"
+}
+
+wrong_use() {
+    wants 2 '' 'linkdump: --all: no such option; see linkdump --help' --all
+    wants 2 '' 'linkdump: -a: no such option; see linkdump --help' -ab
+    wants 2 '' 'linkdump: --netns: needs a value; see linkdump --help' --netns
+    wants 2 '' 'linkdump: --plain=1: takes no value; see linkdump --help' --plain=1
+    wants 2 '' "linkdump: 'lo': not expected; see linkdump --help" lo
+    wants 2 '' 'linkdump: --every: only with --monitor; see linkdump --help' --every 5
+    wants 2 '' 'linkdump: --mask: not with --read; see linkdump --help' --read x --mask 1
+    wants 2 '' 'linkdump: --every: not with --read; see linkdump --help' --monitor --every 1 --read -
+    local bad
+    for bad in 256 0x100 -1 ' 1' '' 1x 99999999999999999999; do
+        wants 2 '' "linkdump: --family: neither a name nor a number up to 255: '$bad'; see linkdump --help" \
+            --family "unspec,$bad"
+    done
+    wants 2 '' "linkdump: --mask: neither a name nor a number up to 4294967295: 'vfs'; see linkdump --help" \
+        --mask 1,vfs
+    for bad in 0 0.0001 -1 x 1e5 1.2.3 inf nan '' 1000000001; do
+        wants 2 '' "linkdump: --every: no number of seconds, from 0.001 to 1000000000: '$bad'; see linkdump --help" \
+            --monitor --every "$bad"
+    done
+    wants 2 '' 'linkdump: --family: more than 16; see linkdump --help' --family "$(seq -s, 17)"
+    wants 0 "linkdump $(sed -n 's/^#define LINKWIRE_VERSION "\(.*\)"$/\1/p' "$top/include/linkwire.h")" '' --version
+    "$linkdump" --help >"$folder/out"
+    [ "$(head -c 18 "$folder/out")" = 'linkdump [--family' ] || fails 'no help'
+}
+
+# what cannot be written: linkdump WORD..
+write_fails() {
+    local status=0
+    "$linkdump" "$@" >/dev/full 2>"$folder/err" || status=$?
+    [ "$status $(cat "$folder/err")" = '1 linkdump: standard output: No space left on device' ] || fails "$*: /dev/full"
+    status=0
+    "$linkdump" "$@" >&- 2>"$folder/err" || status=$?
+    [ "$status $(cat "$folder/err")" = '1 linkdump: standard output: Bad file descriptor' ] || fails "$*: no output"
+}
+
+# what ends it: nobody reads any more, and a signal while a pipe is full, of which the lines that were written are whole
+ends() {
+    local status=0
+    mkfifo "$folder/pipe"
+    # shellcheck disable=SC2094 # so that it opens without a reader
+    exec 5<>"$folder/pipe" 6>"$folder/pipe" 5<&-
+    "$linkdump" >&6 2>"$folder/err" || status=$?
+    [ "$status$(cat "$folder/err")" = 0 ] || fails 'a closed pipe'
+    "$linkdump" --monitor >&6 2>"$folder/err" || status=$?
+    [ "$status$(cat "$folder/err")" = 0 ] || fails '--monitor: a closed pipe'
+    "$linkdump" --help >&6 2>"$folder/err" || status=$?
+    [ "$status$(cat "$folder/err")" = 0 ] || fails '--help: a closed pipe'
+    exec 6>&-
+    (timeout 20 "$linkdump" --monitor 2>"$folder/err"; echo $? >"$folder/status") | head -n 1 >"$folder/out"
+    [ "$(cat "$folder/status" "$folder/err")" = 0 ] || fails '--monitor | head -n 1 does not end by itself'
+    exec 5<>"$folder/pipe"
+    head -c 65000 /dev/zero >"$folder/pipe"
+    "$linkdump" --monitor >"$folder/pipe" 2>"$folder/err" &
+    running=$!
+    waits grep -q '^SigCgt:.*[2367abef]$' "/proc/$running/status" || fails 'does not handle an interrupt'
+    sleep 0.3
+    kill -INT "$running"
+    sleep 0.2
+    kill -INT "$running" 2>/dev/null || true
+    wait "$running" || status=$?
+    exec 5<&-
+    [ "$status$(cat "$folder/err")" = 0 ] || fails 'a pipe that is full, and two interrupts'
+    rm "$folder/pipe"
+}
+
+# the links of two files, with what stands in front of their counters
+same_links() {
+    cmp -s <(cut -c1-90 "$1") <(cut -c1-90 "$2")
+}
+
+# same_lines COUNT: whether the last run wrote the links, after so many requests
+same_lines() {
+    same_links "$folder/out" "$folder/lines" && asked "$1"
+}
+
+# the faults of tests/live/kernel_faults.c, in a namespace, where nothing changes meanwhile
+meets_faults() {
+    ${CC:-cc} -O1 -Wall -Wextra -Wpedantic -Werror -shared -fPIC -o "$folder/kernel_faults.so" \
+        "$top/tests/live/kernel_faults.c" -ldl
+    "$linkdump" --plain >"$folder/lines"
+    local fault wanted said='linkdump: the queue ran over: messages are lost, and the links are asked for again'
+    with interrupted --plain >"$folder/out" || fails 'an interrupted dump'
+    same_lines 2 || fails 'does not ask again: interrupted'
+    with 'ran over' --plain >"$folder/out" || fails 'a queue that ran over'
+    same_lines 2 || fails 'does not ask again: ran over'
+    grep -qx "$said" "$folder/err" || fails 'does not tell: ran over'
+    with refused --plain >"$folder/out" || fails 'a message that is refused'
+    sed '1s/^\(.\{32\}\)..../\10300/' "$folder/lines" >"$folder/damaged"
+    same_links "$folder/damaged" "$folder/out" || fails 'does not write a message as it is'
+    tells error 'the kernel: Operation not permitted'
+    tells 'short error' 'the kernel: Bad message'
+    tells length 'the kernel: Bad message'
+    tells 'no netlink' 'netlink: Address family not supported by protocol'
+    tells 'no right' 'netlink: Operation not permitted'
+    for fault in interrupted 'ran over' 'cut off'; do # links and ports are asked for, and once more
+        LD_PRELOAD=$folder/kernel_faults.so KERNEL_FAULT=$fault "$linkdump" --monitor >"$folder/news" 2>"$folder/err" &
+        running=$!
+        trap 'kill -KILL "$running" 2>/dev/null || true' EXIT
+        waits asked 2 || fails "--monitor: no dump: $fault"
+        wanted=3
+        if [ "$fault" = 'cut off' ]; then
+            sleep 0.3
+            ip link set lo txqueuelen 900
+            waits grep -q 'a datagram was cut off' "$folder/err" || fails '--monitor: does not tell: cut off'
+            wanted=4
+        fi
+        waits asked "$wanted" || fails "--monitor does not ask again: $fault"
+        stops INT
+    done
+    echo 'live: an interrupted dump, a queue that ran over, errors, a datagram that was cut off, no netlink, no right'
+}
+
+# other namespaces, by name and by path
+enters() {
+    mount -t tmpfs tmpfs /run
+    if ! ip netns add blue 2>/dev/null; then
+        echo 'live: skipped: --netns: ip netns makes none'
+        return
+    fi
+    ip -n blue link add in-blue type "$kind" || true
+    python3 "$tests/beside.py" "$linkdump" --netns blue
+    "$linkdump" --plain --netns blue >"$folder/lines"
+    "$linkdump" --plain --netns /run/netns/blue >"$folder/out"
+    same_links "$folder/out" "$folder/lines" || fails '--netns: a path leads to other links than a name'
+    wants 1 '' 'linkdump: --netns green: No such file or directory' --netns green
+    touch /run/netns/red
+    wants 1 '' 'linkdump: --netns red: no network namespace' --netns red
+    wants 1 '' 'linkdump: --netns /proc/self/ns/uts: no network namespace' --netns /proc/self/ns/uts
+    if setpriv --bounding-set=-all --inh-caps=-all true 2>/dev/null; then
+        local status=0
+        setpriv --bounding-set=-all --inh-caps=-all "$linkdump" --netns blue >"$folder/out" 2>"$folder/err" || status=$?
+        [ "$status $(cat "$folder/err")" = '1 linkdump: --netns blue: Operation not permitted' ] || fails 'no right'
+    fi
+    umount -l /run
+}
+
+# families and masks
+chooses() {
+    local words
+    for words in '' '--family unspec' '--family 0 --mask 0' '--mask 0x0,0'; do
+        # shellcheck disable=SC2086 # words of an option
+        "$linkdump" --plain $words >"$folder/out"
+        same_links "$folder/out" "$folder/lines" || fails "$words: other links"
+    done
+    "$linkdump" --plain --mask skip-stats >"$folder/out"
+    if [ "$(wc -c <"$folder/out")" -ge "$(wc -c <"$folder/lines")" ]; then
+        fails '--mask skip-stats is not sent'
+    fi
+    "$linkdump" --plain --family bridge,inet6,unspec,7 >"$folder/out"
+    "$linkdump" --plain --family inet6 | grep -vq '^0a00' && fails '--family inet6: other families'
+    [ "$(cut -c1-2 "$folder/out" | uniq | xargs)" = '07 0a 00' ] || fails '--family: other families'
+    "$linkdump" --plain --mask brvlan --family bridge >"$folder/lines"
+    [ "$(wc -c <"$folder/out")" != "$(wc -c <"$folder/lines")" ] || fails '--mask brvlan is not sent'
+    echo 'live: families and masks'
+}
+
+# changes as they come, an interface deleted whose index is used again, and its ports'
+monitors() {
+    local index
+    starts --monitor
+    ip link set "$base" mtu 1290
+    hears "type=new kernel=$(uname -r) seq=[0-9]+ port=[0-9]+ 0.*$(mtu 1290)"
+    ip link set port0 nomaster
+    hears "type=del .* 0700.{4}$(index_of port0)"
+    ip link add again0 index 4711 type "$kind"
+    hears "type=new .* 0000.{4}$(word 4711)"
+    ip link del again0
+    hears "type=del .* 0000.{4}$(word 4711)"
+    ip link add other0 index 4711 type "$kind"
+    index=$(word 4711)
+    hears "type=new .* 0000.{4}$index.*$(printf other0 | od -An -tx1 | tr -d ' \n')"
+    [ "$(grep -E " 0000.{4}$index" "$folder/news" | grep -oE 'type=(new|del)' | uniq | xargs)" = \
+        'type=new type=del type=new' ] || fails 'the order of an index that is used again'
+    ip link set port0 master bridge0
+    stops INT
+    starts --monitor --plain --family inet6
+    ip link set "$base" mtu 1291
+    ip link set "$base" down
+    ip link set "$base" up
+    ip link del other0
+    hears "^0000.{4}$index"
+    stops TERM
+    grep -vE "^0a|^0000.{4}$index" "$folder/news" && fails '--monitor --family inet6: other families'
+    starts --monitor --every 0.3
+    waits grep -q ' seq=8 ' "$folder/news" || fails '--every does not ask again'
+    stops INT
+    [ "$(sed -n "s/.* \(seq=[0-9]*\) $(own_port) .*/\1/p" "$folder/news" | uniq | head -n 4 | xargs)" = \
+        'seq=1 seq=2 seq=3 seq=4' ] || fails '--every: other requests'
+    echo 'live: --monitor: changes, a port that left, an index that is used again, families, --every'
+}
+
+# whether the kernel had to drop messages for linkdump
+dropped() {
+    awk -v id="$running" '$2 == 0 && $3 == id && $9 > 0 { found = 1 } END { exit !found }' /proc/net/netlink
+}
+
+runs_over() {
+    local try
+    starts --monitor
+    kill -STOP "$running"
+    for try in $(seq 60); do
+        seq 1000 1400 | sed "s/.*/link set $base mtu &/" | ip -batch -
+        if dropped; then
+            break
+        fi
+    done
+    dropped || fails "a queue does not run over, after $try times"
+    ip link add gone0 type "$kind"
+    ip link set "$base" mtu 1234
+    kill -CONT "$running"
+    hears " $(own_port) .*$(mtu 1234)"
+    grep -qx 'linkdump: the queue ran over: messages are lost, and the links are asked for again' "$folder/err" ||
+        fails 'does not tell that a queue ran over'
+    stops INT
+    ip link del gone0
+    echo 'live: --monitor: a queue that ran over is told, and a dump follows'
+}
+
+# what linkshow makes of it, where it is built
+shows() {
+    local show=$top/out/linkshow
+    [ -x "$show" ] || show=$top/crates/linkshow/out/linkshow
+    if [ ! -x "$show" ] || ! command -v jq >/dev/null; then
+        echo 'live: skipped: linkdump --plain | linkshow: linkshow is not built, or no jq'
+        return
+    fi
+    "$linkdump" --plain | "$show" | jq -r '"\(.ifname) \(.mtu)"' >"$folder/out"
+    ip -j link | jq -r '.[] | "\(.ifname) \(.mtu)"' | cmp -s - "$folder/out" || fails 'linkshow shows other links'
+    echo 'live: linkdump --plain | linkshow: the names and MTUs of ip'
+}
+
+# in the namespace
+inside() {
+    mount -t sysfs sysfs /sys || skips 'no right to mount a sysfs'
+    ip link set lo up
+    for kind in dummy bridge; do
+        if ip link add one0 type "$kind" 2>/dev/null; then
+            break
+        fi
+    done
+    base=one0
+    [ -e "/sys/class/net/$base" ] || skips 'the kernel knows neither dummy nor bridge'
+    ip link set "$base" up
+    python3 "$tests/beside.py" "$linkdump"
+    meets_faults
+    enters
+    if ! ip link add veth0 type veth peer name port0 2>/dev/null || ! ip link add bridge0 type bridge 2>/dev/null ||
+        ! ip link set port0 master bridge0; then
+        skips 'families, --monitor: the kernel knows no veth, or no bridge'
+    fi
+    ip link add link "$base" name vlan0 type vlan id 5 2>/dev/null || echo 'live: skipped: a vlan: not of this kernel'
+    python3 "$tests/beside.py" "$linkdump"
+    shows
+    "$linkdump" --plain >"$folder/lines"
+    chooses
+    monitors
+    runs_over
+    echo 'live passed'
+}
+
+linkdump=$(readlink -f "$1")
+if [ "${2:-}" = --inside ]; then
+    folder=$3
+    inside
+    exit 0
+fi
+folder=$(mktemp -d)
+trap 'rm -rf "$folder"' EXIT
+# what linkdump says where there is no netlink, or no right to it
+absent='Address family not supported by protocol|Protocol not supported|Operation not supported|Connection refused'
+absent="$absent|Function not implemented|Operation not permitted|Permission denied"
+wrong_use
+if ! "$linkdump" >"$folder/out" 2>"$folder/err"; then
+    grep -qxE "linkdump: netlink: ($absent)" "$folder/err" || fails 'fails'
+    skips "no netlink: $(cat "$folder/err")"
+fi
+for words in '' '--version' '--help'; do
+    # shellcheck disable=SC2086 # none or one
+    write_fails $words
+done
+ends
+for command in ip python3; do
+    command -v "$command" >/dev/null || skips "no command $command"
+done
+[ -d /sys/class/net ] || skips 'no /sys/class/net'
+python3 "$tests/beside.py" "$linkdump"
+for flags in -mn -rmn; do
+    if unshare "$flags" true 2>/dev/null; then
+        unshare "$flags" "$0" "$linkdump" --inside "$folder"
+        exit 0
+    fi
+done
+skips 'a namespace: no right to make one'
