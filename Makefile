@@ -1,26 +1,39 @@
-PREFIX ?= /usr/local
-PROGRAM = crates/linkwire/out/linkwire
-SHOW = crates/linkshow/out/linkshow
+# The targets that build from dist/ or by the toolchain are in dist/Makefile: `make help` lists all.
 # How long `fuzz` tries messages.
 SECONDS ?= 60
-# With BUILT=1 `install` takes what is built already.
-BUILT ?=
+QUIET = test rust lint check edits tables dist dist-tests archive rust-tests show-tests linkdump-tests
+OF_c-tests = link_c
+OF_fuzz = link_c
+OF_c-bench = link_c
+OF_compare = link_c
 
-.PHONY: run show build lib check edits tables bench compare show-tests c-tests rust-tests fuzz c-bench
-.PHONY: install uninstall help
+include dist/Makefile
 
-run: ## answers the lines of standard input: echo 00000000000000000000000000000000060003006c6f | make -s run
-	@scripts/build.sh && $(PROGRAM)
+.PHONY: dist archive deb dist-tests test rust lint check edits tables bench compare show-tests c-tests linkdump-tests
+.PHONY: rust-tests fuzz c-bench
 
-show: ## shows the lines of standard input as JSON: echo 00000000000000000000000000000000060003006c6f | make -s show
-	@scripts/build.sh linkshow && $(SHOW)
+dist: ## proves, and makes dist/ and the archive of a release anew; its sums say what it was made of
+	@scripts/dist.sh
+	@scripts/archive.sh
 
-build: ## proves and builds the two programs
-	@scripts/build.sh
-	@scripts/build.sh linkshow
+archive: ## packs the archive of a release of what dist/ has
+	@scripts/archive.sh
 
-lib: ## proves and builds out/liblinkwire.a and out/liblinkwire.so.0, for programs in C, and prints where they are
-	@scripts/c_library.sh
+deb: all ## makes Debian's packages of what dist/ has
+	@scripts/deb.sh
+
+dist-tests: ## runs what is built of dist/ with the toolchain out of reach: here, under qemu, with musl, from packages
+	@scripts/dist_tests.sh
+	@scripts/test_dist.sh
+
+test: ## runs the tests by cargo, the contracts erased, within a minute; it proves nothing
+	@scripts/erased_tests.sh
+
+rust: ## makes the crate in rust/ anew, of the sources and scripts/erase
+	@python3 scripts/erase/erase.py crate rust
+
+lint: ## what rustfmt, clippy and rustdoc say of rust/, and the test of scripts/erase
+	@scripts/rust_lint.sh
 
 check: ## runs the gate and the scripts beside it; its last line is the gate's
 	@scripts/check.sh
@@ -33,33 +46,27 @@ tables: ## prints the tables as JSON, after they were compared with the kernel's
 	@scripts/kernel_tables.sh >&2
 	@scripts/kernel_tables.sh --json
 
-bench: build c-bench compare ## times the program and the library
-	@bench/run.sh $(PROGRAM) $(SHOW)
+bench: build c-bench compare ## times the programs and the library
+	@bench/run.sh out/linkwire out/linkshow
 
-compare: ## times the calls beside libnl-route-3 and Debian's netlink-packet-route, where they are installed
-	@bench/compare.sh
+compare: $(LIBRARIES) ## times the calls beside libnl-route-3 and Debian's netlink-packet-route, if installed
+	@bench/compare.sh $(CURDIR)/out/liblinkwire.a
 
 show-tests: ## compares what linkshow says of the running kernel's links with what the kernel's client ynl says
 	@python3 scripts/show_rows.py --check
 	@scripts/show_tests.sh
 
-c-tests: ## runs the tests of the library for C, and its examples on the running kernel
-	@scripts/c_tests.sh
+c-tests: $(LIBRARIES) ## runs the tests of the library for C, and its examples on the running kernel
+	@scripts/c_tests.sh $(CURDIR)/out/liblinkwire.a
 
-rust-tests: ## runs the tests of bindings/rust
-	@scripts/rust_tests.sh "$$(scripts/c_library.sh)"
+linkdump-tests: ## runs linkdump on the running kernel and on captures, with sanitizers too
+	@scripts/linkdump_tests.sh
 
-fuzz: ## tries the laws of the library on generated messages, for so long: make fuzz SECONDS=600
-	@scripts/laws.sh "$$(scripts/c_library.sh)" --seconds $(SECONDS)
+rust-tests: ## runs the tests of rust/, and compares it with the built program linkwire
+	@scripts/rust_tests.sh
 
-c-bench: ## times the library for C
-	@scripts/c_bench.sh
+fuzz: $(LIBRARIES) ## tries the laws of the library on generated messages, for so long: make fuzz SECONDS=600
+	@scripts/laws.sh $(CURDIR)/out/liblinkwire.a --seconds $(SECONDS)
 
-install: $(if $(BUILT),,build lib) ## installs programs, header, libraries and manual pages below $(DESTDIR)$(PREFIX)
-	@scripts/install.sh "$(DESTDIR)" "$(PREFIX)"
-
-uninstall: ## takes them away
-	@scripts/install.sh --remove "$(DESTDIR)" "$(PREFIX)"
-
-help: ## lists the targets
-	@sed -n 's/^\([a-z][a-z-]*\):.*## \(.*\)/\1: \2/p' Makefile
+c-bench: $(LIBRARIES) ## times the library for C
+	@scripts/c_bench.sh $(CURDIR)/out/liblinkwire.a

@@ -1,7 +1,9 @@
 #!/usr/bin/env bash
-# Proves and builds a program, linkwire where none is named, and shows on standard error how far it is: build.sh [CRATE]
+# Proves and builds a program as out/NAME, and shows on standard error how far it is: build.sh NAME
 set -euo pipefail
 top=$(cd "$(dirname "$0")/.." && pwd)
 log=$(mktemp)
 trap 'rm -f "$log"' EXIT
-"$top/scripts/progress.sh" "${1:-linkwire}" run "$log" >&2
+"$top/scripts/progress.sh" "$1" "$log" rt run >&2
+mkdir -p "$top/out"
+cp "$top/crates/$1/out/$1" "$top/out/$1"

@@ -1,8 +1,9 @@
 #!/bin/sh
-# Builds the library, and times its functions.
+# Times the functions of the library: c_bench.sh LIBRARY [MESSAGES..]
 set -eu
 top=$(cd "$(dirname "$0")/.." && pwd)
-library=$("$top/scripts/c_library.sh")
+library=$1
+shift
 for bench in link_bench dump_bench; do
     ${CC:-cc} -std=gnu11 -O2 -g -Wall -Wextra -Werror -I"$top/include" -o "$top/out/$bench" "$top/bench/$bench.c" \
         "$library"

@@ -1,10 +1,11 @@
 #!/usr/bin/env bash
-# Builds the libraries for programs in C, looks at their symbols, compiles the header in each language, and runs the
-# tests of tests/c, the laws, and the examples on the running kernel. Takes the flags of c_library.sh. The last line is
-# 'c tests passed'.
+# Looks at the symbols of the libraries for programs in C, compiles the header in each language, and runs the tests of
+# tests/c, the laws, the examples on the running kernel, and what holds of state encodings there: c_tests.sh ARCHIVE,
+# beside which the shared library is. With LONG=1 in the environment the kernel's links are polled for a minute. The
+# last line is 'c tests passed'.
 set -euo pipefail
 top=$(cd "$(dirname "$0")/.." && pwd)
-library=$("$top/scripts/c_library.sh" "$@")
+library=$(realpath "$1")
 shared=${library%.a}.so.0
 warnings=(-Wall -Wextra -Wpedantic -Wconversion -Wshadow -Werror -I"$top/include")
 
@@ -42,4 +43,6 @@ for test in "$top"/tests/c/*.c; do
 done
 "$top/scripts/laws.sh" "$library"
 "$top/scripts/live_tests.sh" "$library"
+"$top/scripts/state_live.sh" "$library"
+"$top/scripts/store_tests.sh" "$shared"
 echo 'c tests passed'

@@ -1,35 +1,49 @@
 #!/usr/bin/env bash
-# The gate, and then the scripts over what it left: the programs, and the libraries that the library for C stands on. So
-# nothing is proved twice. The scripts of the libraries run beside those of the programs and of the tables, and what
-# they print comes after. The last line is the gate's own, printed again.
+# That rust/ and dist/ fit the crates, the gate, and then the scripts over what it left: the programs, and the libraries
+# that the library for C and the texts of dist/ stand on. So little is proved twice. The scripts of the libraries run
+# beside those of the programs, of the crate in rust/ and of the tables, and what they print comes after. The last line
+# is the gate's own, printed again.
 set -euo pipefail
 cd "$(dirname "$0")/.."
 folder=$(mktemp -d)
 trap 'kill $(jobs -p) 2>/dev/null || true; rm -rf "$folder"' EXIT
+read -ra names <<<"$(sed -n 's/^PROGRAMS = //p' dist/Makefile)"
 
 libraries() {
-    scripts/c_tests.sh --over-gate
-    scripts/rust_tests.sh
+    scripts/dist.sh --compare link_c
+    scripts/c_library.sh --built
+    make -s -o out/library.o out/liblinkwire.a out/liblinkwire.so.0
+    scripts/c_tests.sh out/liblinkwire.a
+    scripts/linkdump_tests.sh
     python3 scripts/readme.py out/liblinkwire.a crates/linkwire/out crates/linkshow/out
-    scripts/test_install.sh
+    scripts/dist_tests.sh
 }
 
 programs() {
-    scripts/program.sh
-    scripts/program.sh linkshow
+    for name in "${names[@]}"; do
+        scripts/program.sh "$name"
+    done
+    python3 scripts/state_tests.py crates/linkstate/out/linkstate crates/linkwire/out/linkwire
     python3 scripts/show_rows.py --check
     python3 scripts/show_damaged.py crates/linkshow/out/linkshow crates/linkwire/out/linkwire
     scripts/show_tests.sh
+    scripts/rust_tests.sh
     scripts/parallel_test.sh
     scripts/test_progress.sh
     scripts/refused_memory.sh
     scripts/refused_parse.sh
     scripts/kernel_tables.sh
     scripts/test_kernel_tables.sh
+    scripts/dist.sh --compare "${names[@]}"
+    scripts/test_dist.sh
 }
 
 python3 scripts/lines.py
+scripts/sums.sh check
+python3 scripts/erase/test_erase.py
+python3 scripts/erase/erase.py check rust
 rt ci | tee "$folder/gate"
+make -s build
 libraries >"$folder/libraries" 2>&1 &
 beside=$!
 programs

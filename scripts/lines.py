@@ -3,8 +3,8 @@
 
     python3 scripts/lines.py
 
-All files that git tracks are read, but for the lines that EXCEPTIONS names. Each line that is too long is printed as
-'FILE:LINE: N characters', and the exit status is then 1.
+All files that git tracks are read, but for what GENERATED and the lines that EXCEPTIONS names. Each line that is too
+long is printed as 'FILE:LINE: N characters', and the exit status is then 1.
 """
 
 import fnmatch
@@ -15,6 +15,8 @@ import sys
 
 TOP = os.path.dirname(os.path.dirname(os.path.abspath(__file__)))
 LINE, CLAUSE = 120, 100
+# the texts of dist/, which the compiler wrote, and the sources of rust/, which scripts/erase makes
+GENERATED = re.compile(r"dist/(.*\.s|SUMS)|rust/src/.*")
 
 # files, how a line of theirs begins, and why it may be longer
 EXCEPTIONS = [(files, re.compile(begins), why) for files, begins, why in [
@@ -31,7 +33,7 @@ NO_BRACES = re.compile(r'"(?:[^"\\]|\\.)*"|//.*')
 
 def tracked():
     found = subprocess.run(["git", "ls-files", "-z"], cwd=TOP, check=True, capture_output=True, timeout=60).stdout
-    return [it for it in found.decode().split("\0") if os.path.isfile(f"{TOP}/{it}")]
+    return [it for it in found.decode().split("\0") if os.path.isfile(f"{TOP}/{it}") and not GENERATED.fullmatch(it)]
 
 
 def read(file):

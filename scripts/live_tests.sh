@@ -51,7 +51,7 @@ compares() {
 
 # hexadecimal lines, as many as there are links, and what the program says of them where it is built
 reads_hex() {
-    local try program=$top/crates/linkwire/out/linkwire
+    local try program=$top/out/linkwire
     for try in 1 2 3 4 5; do
         "$folder/links" >"$folder/lines"
         "$folder/links" --hex >"$folder/hex"

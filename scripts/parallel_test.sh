@@ -30,7 +30,7 @@ of_file() {
     parallel --pipepart -a "$folder/lines" --keep-order --block 8M "$program" >"$folder/of_file" 2>"$folder/err"
 }
 compared=0
-for name in linkwire linkshow; do
+for name in linkwire linkshow linkstate; do
     program=$top/crates/$name/out/$name
     if [ ! -x "$program" ]; then
         echo "parallel: $name is not built"

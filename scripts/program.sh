@@ -1,12 +1,12 @@
 #!/usr/bin/env bash
 # Runs a built program where a read, a write or an allocation fails, and looks at its status and its line:
-# program.sh [linkwire|linkshow]
+# program.sh [linkwire|linkshow|linkstate]
 set -euo pipefail
 top=$(cd "$(dirname "$0")/.." && pwd)
 name=${1:-linkwire}
 program=$top/crates/$name/out/$name
 case $name in
-linkwire) nothex=nothex refused=refused chosen=1 ;;
+linkwire | linkstate) nothex=nothex refused=refused chosen=1 ;;
 linkshow)
     nothex='{"fault":"not-hex"}'
     refused='{"fault":"too-short","at":"header","got":0,"need":16,"offset":0}'
@@ -60,6 +60,19 @@ wants "an allocation that fails" 1 "$nothex" "$name: out of memory"
 
 status=0; printf '0\n\n0' | "$program" >"$folder/out" 2>"$folder/err" || status=$?
 wants "a whole run" 0 "$(printf '%s\n' "$nothex" "$refused" "$nothex")" ""
+
+if [ "$name" = linkstate ]; then
+    for word in --help --version; do
+        status=0; "$program" "$word" </dev/null >"$folder/out" 2>"$folder/err" || status=$?
+        [ -s "$folder/out" ] || { echo "$name: $word says nothing" >&2; exit 1; }
+        wants "$word" 0 "$(cat "$folder/out")" ""
+    done
+    for word in --helpful -x ''; do
+        status=0; "$program" "$word" </dev/null >"$folder/out" 2>"$folder/err" || status=$?
+        [ "$(wc -l <"$folder/err")" = 1 ] || { echo "$name: '$word' is not told in one line" >&2; exit 1; }
+        wants "the argument '$word'" 2 "" "$(cat "$folder/err")"
+    done
+fi
 
 # each line is answered before the next is given
 coproc RUN { "$program"; }

@@ -1,9 +1,11 @@
 #!/usr/bin/env bash
-# Proves the crates below a crate, lowest first, and then does its last step: progress.sh CRATE run|lib LOG. Standard
-# error shows which crate is at work, '3 of 10 link_recs .. 41 s'; what rt says goes to the log.
+# Proves the crates below a crate, lowest first, and then runs a command in its own folder, as `rt run`:
+# progress.sh CRATE LOG COMMAND.. Standard error shows which crate is at work, '3 of 10 link_recs .. 41 s'; what they
+# say goes to the log.
 set -euo pipefail
 top=$(cd "$(dirname "$0")/.." && pwd)
-crate=$1 verb=$2 log=$(realpath "$3")
+crate=$1 log=$(realpath "$2")
+last=("${@:3}")
 : >"$log"
 
 # adds NAME and the repository's crates below it to `order`, each after those that it stands on
@@ -38,10 +40,10 @@ ticks() {
     done
 }
 
-# works NAME VERB: one step, and its line
+# works NAME COMMAND..: one step, and its line
 works() {
     local label="$((at + 1)) of ${#order[@]} $1" start=$SECONDS status=0
-    (cd "$top/crates/$1" && exec rt "$2") </dev/null >>"$log" 2>&1 &
+    (cd "$top/crates/$1" && exec "${@:2}") </dev/null >>"$log" 2>&1 &
     work=$!
     if [ -t 2 ]; then
         ticks "$label" &
@@ -78,9 +80,9 @@ is_new=no
 for at in "${!order[@]}"; do
     name=${order[at]}
     if [ "$name" = "$crate" ]; then
-        works "$name" "$verb"
+        works "$name" "${last[@]}"
     elif [ "$is_new" = yes ] || ! is_kept "$name"; then
         is_new=yes
-        works "$name" lib
+        works "$name" rt lib
     fi
 done

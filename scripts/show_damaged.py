@@ -113,4 +113,5 @@ def main():
     print(f"show_damaged: {len(lines)} lines, {counts['refused']} with a fault, {counts['nothex']} no hexadecimal")
 
 
-main()
+if __name__ == "__main__":
+    main()

@@ -4,7 +4,7 @@
 # archive of it; else Debian's linux-source-6.12. What cannot be had is 'skipped'; in the namespace ynl has to run.
 set -euo pipefail
 top=$(cd "$(dirname "$0")/.." && pwd)
-program=$top/crates/linkshow/out/linkshow
+program=$top/out/linkshow
 sources=${1:-/usr/src/linux-source-6.12.tar.xz}
 
 skips() {

@@ -1,12 +1,12 @@
 #!/usr/bin/env bash
-# Installs what is built into an empty folder, compiles tests/install.c there by pkg-config alone, runs it with each
+# Installs into an empty folder, compiles tests/install.c there by pkg-config alone, runs it with each
 # library, looks at the manual pages, and takes all away again. The last line is 'install passed'.
 set -euo pipefail
 top=$(cd "$(dirname "$0")/.." && pwd)
 folder=$(mktemp -d)
 trap 'rm -rf "$folder"' EXIT
 prefix=$folder/usr
-make -s -C "$top" install BUILT=1 DESTDIR= PREFIX="$prefix"
+make -s -C "$top" install DESTDIR= PREFIX="$prefix"
 
 export PKG_CONFIG_PATH=$prefix/lib/pkgconfig
 cd "$folder"
@@ -30,6 +30,12 @@ wanted='ok 00000000000000000000000000000000070003006c6f0000'
 expect "$prefix/bin/linkwire" <<< 00000000000000000000000000000000060003006c6f
 wanted='{"fault":"not-hex"}'
 expect "$prefix/bin/linkshow" <<< 0
+wanted=nothex
+expect "$prefix/bin/linkstate" <<< 0
+for name in linkdump linkstate; do
+    wanted="$name $(pkg-config --modversion linkwire)"
+    expect "$prefix/bin/$name" --version
+done
 
 for page in "$prefix"/share/man/man[13]/link*.[13]; do
     warnings=$(groff -ww -man -Tutf8 "$page" 2>&1 >/dev/null; man --warnings=w -l "$page" 2>&1 >/dev/null)
@@ -40,7 +46,7 @@ for page in "$prefix"/share/man/man[13]/link*.[13]; do
 done
 
 # With DESTDIR the paths inside are those without it, and nothing is left after the removal.
-make -s -C "$top" install BUILT=1 DESTDIR="$folder/stage" PREFIX=/usr
+make -s -C "$top" install DESTDIR="$folder/stage" PREFIX=/usr
 grep -qx 'prefix=/usr' "$folder/stage/usr/lib/pkgconfig/linkwire.pc"
 make -s -C "$top" uninstall DESTDIR="$folder/stage" PREFIX=/usr
 make -s -C "$top" uninstall DESTDIR= PREFIX="$prefix"

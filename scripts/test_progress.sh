@@ -36,7 +36,7 @@ wants() {
     echo "progress: $1: ok"
 }
 
-"$folder/scripts/progress.sh" top run "$folder/log" >"$folder/out" 2>"$folder/err"
+"$folder/scripts/progress.sh" top "$folder/log" rt run >"$folder/out" 2>"$folder/err"
 wants 'three crates' '1 of 3 low ..
 1 of 3 low .. N s
 2 of 3 mid ..
@@ -51,7 +51,7 @@ fi
 sleep 1.1
 touch "$folder/crates/mid/source"
 status=0
-TOP_STATUS=1 "$folder/scripts/progress.sh" top lib "$folder/log" 2>"$folder/err" || status=$?
+TOP_STATUS=1 "$folder/scripts/progress.sh" top "$folder/log" rt lib 2>"$folder/err" || status=$?
 head -n 3 "$folder/err" >"$folder/cut" && mv "$folder/cut" "$folder/err"
 wants 'one that changed' $'2 of 3 mid ..\n2 of 3 mid .. N s\n3 of 3 top ..'
 if [ "$status" != 1 ]; then
@@ -65,7 +65,7 @@ cat >"$folder/bin/rt" <<'END'
 echo "$$" >pid
 exec sleep 60
 END
-"$folder/scripts/progress.sh" top run "$folder/log" 2>"$folder/err" &
+"$folder/scripts/progress.sh" top "$folder/log" rt run 2>"$folder/err" &
 for ((try = 0; try < 100; try++)); do
     if [ -s "$folder/crates/low/pid" ]; then break; fi
     sleep 0.1
@@ -90,7 +90,7 @@ if ! command -v script >/dev/null; then
     exit 0
 fi
 touch "$folder/crates/mid/source"
-MID_SECONDS=7 script -qec "'$folder/scripts/progress.sh' top run '$folder/log'" /dev/null </dev/null >"$folder/err"
+MID_SECONDS=7 script -qec "'$folder/scripts/progress.sh' top '$folder/log' rt run" /dev/null </dev/null >"$folder/err"
 if [ "$(tr '\r' '\n' <"$folder/err" | grep -c '^2 of 3 mid \.\. [0-9]* s$')" -lt 3 ]; then
     echo 'progress: the seconds stand still on a terminal' >&2
     exit 1

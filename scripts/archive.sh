@@ -1,0 +1,27 @@
+#!/usr/bin/env bash
+# Packs the archive of a release, out/linkwire-VERSION.tar.gz, of what dist/ has, and prints where it is: the texts and
+# what builds and tests them, and no crates. It has the same bytes each time, and says the date of the newest version.
+set -euo pipefail
+cd "$(dirname "$0")/.."
+scripts/sums.sh check >/dev/null
+version=$(sed -n 's/^#define LINKWIRE_VERSION "\(.*\)"$/\1/p' include/linkwire.h)
+date=${SOURCE_DATE_EPOCH:-$(date -ud "$(sed -n 's/^## \[[0-9.]*\] - //p' CHANGELOG.md | head -n 1)" +%s)}
+folder=$(mktemp -d)
+trap 'rm -rf "$folder"' EXIT
+name=linkwire-$version
+to=$folder/$name
+mkdir -p "$to/tests" out
+cp dist/Makefile README.md LICENSE CHANGELOG.md "$to"
+cp -r dist include man programs "$to"
+rm "$to/dist/Makefile"
+cp -r tests/c tests/self_test.sh "$to/tests"
+read -ra programs <<<"$(sed -n 's/^PROGRAMS = //p' dist/Makefile)"
+for program in "${programs[@]}"; do
+    mkdir "$to/tests/$program"
+    for it in stdin stdout args status data; do
+        [ ! -e "crates/$program/$it" ] || cp -r "crates/$program/$it" "$to/tests/$program"
+    done
+done
+tar --format=ustar --sort=name --owner=0 --group=0 --numeric-owner --mode=u=rwX,go=rX --mtime="@$date" \
+    -C "$folder" -c "$name" | gzip -9n >"out/$name.tar.gz"
+echo "$PWD/out/$name.tar.gz"

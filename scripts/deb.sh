@@ -1,0 +1,128 @@
+#!/usr/bin/env bash
+# Makes Debian's packages of what is built in out/, by dpkg-deb: liblinkwire0, liblinkwire-dev, linkwire and linkdump,
+# in out/deb/. They have the same bytes each time, with the same tools, and the date of the newest version. DEBFULLNAME
+# and DEBEMAIL name a maintainer.
+set -euo pipefail
+cd "$(dirname "$0")/.."
+for tool in dpkg-deb dpkg-gensymbols dpkg-shlibdeps dpkg-architecture strip; do
+    if ! command -v "$tool" >/dev/null; then
+        echo "deb: there is no $tool: install dpkg-dev and binutils" >&2
+        exit 2
+    fi
+done
+read -ra programs <<<"$(sed -n 's/^PROGRAMS = //p' dist/Makefile)"
+upstream=$(sed -n 's/^#define LINKWIRE_VERSION "\(.*\)"$/\1/p' include/linkwire.h)
+version=$upstream-1
+arch=$(dpkg-architecture -qDEB_HOST_ARCH)
+lib=usr/lib/$(dpkg-architecture -qDEB_HOST_MULTIARCH)
+who="${DEBFULLNAME:-The Candrofily developers} <${DEBEMAIL:-linkwire@example.org}>"
+date=${SOURCE_DATE_EPOCH:-$(date -ud "$(sed -n 's/^## \[[0-9.]*\] - //p' CHANGELOG.md | head -n 1)" +%s)}
+short='link messages of route netlink, proved'
+about='linkwire reads, checks, writes and compares the messages in which Linux describes network interfaces. Each
+function of it is machine-proved: no bytes crash it, none are misread, and each byte string has one meaning or one exact
+fault.'
+shopt -s globstar nullglob
+folder=$(mktemp -d)
+trap 'rm -rf "$folder"' EXIT
+to=$PWD/out/deb
+rm -rf "$to"
+mkdir -p "$to"
+
+# begins PACKAGE: its folder, and what each package has
+begins() {
+    tree=$folder/$1
+    package=$1
+    doc=$tree/usr/share/doc/$1
+    install -d "$doc" "$tree/DEBIAN"
+    {
+        printf '%s\n' 'Format: https://www.debian.org/doc/packaging-manuals/copyright-format/1.0/' \
+            'Upstream-Name: linkwire' '' 'Files: *'
+        sed -n '/^Copyright/{s/^Copyright (c)/Copyright:/p;q}' LICENSE
+        printf 'License: Expat\n'
+        sed -n '/^Permission/,$p' LICENSE | sed 's/^$/./; s/^/ /'
+        printf 'Comment:\n'
+        sed 's/^$/./; s/^/ /' dist/NOTICE
+    } >"$doc/copyright"
+    printf 'linkwire (%s) unstable; urgency=medium\n\n  * Version %s.\n\n -- %s  %s\n' "$version" "$upstream" "$who" \
+        "$(LC_ALL=C date -Rud "@$date")" | gzip -9n >"$doc/changelog.Debian.gz"
+    gzip -9nc CHANGELOG.md >"$doc/changelog.gz"
+}
+
+# manuals SECTION PAGE..
+manuals() {
+    local page
+    install -d "$tree/usr/share/man/man$1"
+    for page in "${@:2}"; do
+        gzip -9nc "man/$page.$1" >"$tree/usr/share/man/man$1/$page.$1.gz"
+    done
+}
+
+# ends SECTION MULTIARCH DEPENDS SUMMARY LAST: the control file, and the package
+ends() {
+    {
+        printf '%s\n' "Package: $package" 'Source: linkwire' "Version: $version" "Architecture: $arch" \
+            "Maintainer: $who" "Installed-Size: $(du -k -s --apparent-size "$tree/usr" | cut -f 1)" \
+            ${3:+"Depends: $3"} "Section: $1" 'Priority: optional' "Multi-Arch: $2" \
+            "Description: $short - $4"
+        tr '\n' ' ' <<<"$about $5" | fold -sw 76 | sed 's/ *$//; s/^/ /'
+        echo
+    } >"$tree/DEBIAN/control"
+    (cd "$tree" && find usr -type f -print0 | sort -z | xargs -0 md5sum >DEBIAN/md5sums)
+    chmod -R u=rwX,go=rX "$tree"
+    find "$tree" -exec touch -hd "@$date" {} +
+    dpkg-deb --root-owner-group -Zxz --build "$tree" "$to/${package}_${version}_$arch.deb" >/dev/null
+    echo "$to/${package}_${version}_$arch.deb"
+}
+
+# needs FILE..: the libraries that they are linked with
+needs() {
+    (cd "$folder" && dpkg-shlibdeps -O --ignore-missing-info "$@" 2>/dev/null | sed -n 's/^shlibs:Depends=//p')
+}
+export SOURCE_DATE_EPOCH=$date
+mkdir "$folder/debian"
+printf 'Source: linkwire\n\nPackage: liblinkwire0\nArchitecture: any\n' >"$folder/debian/control"
+
+begins liblinkwire0
+install -d "$tree/$lib"
+install -m 644 out/liblinkwire.so.0 "$tree/$lib"
+strip --strip-unneeded --remove-section=.comment --remove-section=.note "$tree/$lib/liblinkwire.so.0"
+{
+    printf 'liblinkwire.so.0 liblinkwire0 #MINVER#\n* Build-Depends-Package: liblinkwire-dev\n'
+    nm -D --defined-only "$tree/$lib/liblinkwire.so.0" | awk '{ print $3 }' | LC_ALL=C sort |
+        sed "s/.*/ &@Base $upstream/"
+} >"$folder/debian/liblinkwire0.symbols"
+(cd "$folder" && dpkg-gensymbols -c4 -pliblinkwire0 "-v$version" "-P$tree" -Idebian/liblinkwire0.symbols \
+    "-O$tree/DEBIAN/symbols")
+echo "liblinkwire 0 liblinkwire0 (>= $upstream)" >"$tree/DEBIAN/shlibs"
+echo 'activate-noawait ldconfig' >"$tree/DEBIAN/triggers"
+ends libs same "$(needs "$tree/$lib/liblinkwire.so.0")" 'shared library' 'This package has the shared library.'
+
+begins liblinkwire-dev
+install -d "$tree/$lib/pkgconfig" "$tree/usr/include"
+install -m 644 include/linkwire.h "$tree/usr/include"
+install -m 644 out/liblinkwire.a "$tree/$lib"
+strip --strip-debug --remove-section=.comment --remove-section=.note --enable-deterministic-archives \
+    "$tree/$lib/liblinkwire.a"
+ln -s liblinkwire.so.0 "$tree/$lib/liblinkwire.so"
+sed "s|@PREFIX@|/usr|; s|@VERSION@|$upstream|; s|^libdir=.*|libdir=\${prefix}/${lib#usr/}|" dist/linkwire.pc.in \
+    >"$tree/$lib/pkgconfig/linkwire.pc"
+manuals 3 linkwire
+ends libdevel same "liblinkwire0 (= $version)" 'development files' \
+    'This package has the header, the static library and the manual page.'
+
+begins linkwire
+install -d "$tree/usr/bin"
+install -m 755 "${programs[@]/#/out/}" "$tree/usr/bin"
+strip --remove-section=.comment --remove-section=.note "$tree"/usr/bin/*
+manuals 1 "${programs[@]}"
+ends net foreign "$(needs "$tree"/usr/bin/*)" programs "This package has the programs ${programs[*]}."
+
+short='link messages of route netlink'
+about='linkdump writes the link messages of the running kernel, or of a capture of an nlmon device, as lines of
+hexadecimal, which linkwire and linkshow read.'
+begins linkdump
+install -d "$tree/usr/bin"
+install -m 755 out/linkdump "$tree/usr/bin"
+strip --remove-section=.comment --remove-section=.note "$tree/usr/bin/linkdump"
+manuals 1 linkdump
+ends net foreign "$(needs "$tree/usr/bin/linkdump")" 'from the kernel' 'It is in C, and not proved.'

@@ -1,0 +1,150 @@
+#!/usr/bin/env bash
+# Builds copies of the tree from dist/ alone, with the toolchain off the path and hidden by a mount where that is
+# allowed, and runs them: here, under qemu-aarch64, on an old processor by qemu-x86_64, statically with musl, from the
+# archive of a release and from Debian's packages. What is not installed is 'skipped'. The last line is 'dist passed'.
+set -euo pipefail
+top=$(cd "$(dirname "$0")/.." && pwd)
+folder=${1:-}
+if [ -z "$folder" ]; then
+    folder=$(mktemp -d)
+    trap 'rm -rf "$folder"' EXIT
+    mkdir "$folder/tree" "$folder/empty"
+    (cd "$top" && git ls-files -z --cached --others --exclude-standard | tar --null --ignore-failed-read -T - -c) \
+        2>/dev/null | tar -x -C "$folder/tree"
+    command=("$0" "$folder")
+    rt=$(command -v rt || true)
+    if [ -n "$rt" ]; then
+        PATH=$(tr ':' '\n' <<<"$PATH" | while read -r it; do [ -e "$it/rt" ] || echo "$it"; done | paste -sd :)
+        hidden="mount --bind '$folder/empty' '$(dirname "$(dirname "$(readlink -f "$rt")")")'"
+        if unshare -rm sh -c "$hidden" 2>/dev/null; then
+            command=(unshare -rm sh -c "$hidden && exec \"\$@\"" sh "${command[@]}")
+        else
+            echo 'dist: the toolchain hidden by a mount: skipped: it is not allowed here'
+        fi
+    fi
+    PATH=$PATH "${command[@]}"
+    exit
+fi
+if command -v rt >/dev/null; then
+    echo 'dist: rt is in reach' >&2
+    exit 1
+fi
+unset CC LD OBJCOPY AR CFLAGS LDFLAGS MAKEFLAGS MFLAGS MAKELEVEL PROVE
+cd "$folder/tree"
+read -ra programs <<<"$(sed -n 's/^PROGRAMS = //p' dist/Makefile)"
+
+# lacks COMMAND..: what of these is not installed
+lacks() {
+    local it
+    for it in "$@"; do
+        if ! command -v "$it" >/dev/null; then
+            echo "$it"
+            return
+        fi
+    done
+    return 1
+}
+
+# tests WHAT: the tests of what was built, of which one line is left
+tests() {
+    if ! sh tests/self_test.sh "${programs[@]}" >"$folder/log" 2>&1; then
+        cat "$folder/log" >&2
+        echo "dist: $1 fails" >&2
+        exit 1
+    fi
+    grep skipped "$folder/log" | sed "s/^/dist: $1: /" || true
+    echo "dist: $1: $(grep -c 'stored run' "$folder/log") stored runs, ${TESTS:-all tests of tests/c}: ok"
+}
+
+# another NAME: goes to a copy of the tree in which nothing is built
+another() {
+    mkdir "$folder/$1"
+    cp -r "$folder/tree/." "$folder/$1"
+    cd "$folder/$1"
+    rm -rf out
+}
+few='calls lists memory laws'
+
+answer=$(echo 00000000000000000000000000000000060003006c6f | make -s run)
+[ "$answer" = 'ok 00000000000000000000000000000000070003006c6f0000' ]
+make -s build lib >/dev/null
+tests here
+scripts/laws.sh out/liblinkwire.a 50000 | sed 's/^/dist: sanitizers: /'
+python3 scripts/readme.py out/liblinkwire.a out
+scripts/test_install.sh
+
+if it=$(lacks qemu-x86_64) || [ "$(uname -m)" != x86_64 ]; then
+    echo "dist: on an old processor: skipped: no ${it:-x86_64}"
+else
+    RUN='qemu-x86_64 -cpu Conroe' TESTS=$few tests 'on an old processor'
+fi
+if it=$(lacks musl-gcc); then
+    echo "dist: with musl, statically: skipped: no $it"
+else
+    another musl
+    make -s CC=musl-gcc LDFLAGS=-static "${programs[@]/#/out/}" out/liblinkwire.a
+    # the kernel's headers, after musl's own, which may lack its number of a family
+    kernel="-O1 -DAF_MCTP=45 -idirafter /usr/include -idirafter /usr/include/$(cc -dumpmachine)"
+    CC=musl-gcc CFLAGS=$kernel LDFLAGS=-static TESTS=$few tests 'with musl, statically'
+fi
+gnu=aarch64-linux-gnu
+if it=$(lacks qemu-aarch64 $gnu-gcc $gnu-ld $gnu-objcopy $gnu-ar); then
+    echo "dist: aarch64: skipped: no $it"
+else
+    another aarch64
+    make -s CC=$gnu-gcc LD=$gnu-ld OBJCOPY=$gnu-objcopy AR=$gnu-ar all
+    CC=$gnu-gcc RUN="qemu-aarch64 -L /usr/$gnu" TESTS=$few tests aarch64
+fi
+
+another archive
+file=$(scripts/archive.sh)
+cp "$file" "$folder/first"
+scripts/archive.sh >/dev/null
+cmp "$file" "$folder/first"
+tar -xf "$file" -C "$folder"
+cd "$folder/$(basename "$file" .tar.gz)"
+make -s install DESTDIR="$folder/stage"
+make -s uninstall DESTDIR="$folder/stage"
+[ -z "$(find "$folder/stage" ! -type d)" ]
+make -s check >"$folder/log"
+tail -n 1 "$folder/log" | grep -qx 'self-test passed'
+if make -s PROVE=1 >"$folder/log" 2>&1 || ! grep -q 'the crates, which are not in this archive' "$folder/log"; then
+    cat "$folder/log" >&2
+    exit 1
+fi
+echo 'dist: the archive: the same bytes twice, built, tested, installed: ok'
+
+if it=$(lacks dpkg-deb dpkg-gensymbols dpkg-shlibdeps dpkg-architecture strip pkg-config); then
+    echo "dist: packages: skipped: no $it"
+else
+    cd "$folder/tree"
+    make -s deb >"$folder/packages"
+    mkdir "$folder/deb"
+    cp out/deb/*.deb "$folder/deb"
+    make -s deb >/dev/null
+    while read -r file; do
+        cmp "$file" "$folder/deb/$(basename "$file")"
+        dpkg-deb -x "$file" "$folder/root"
+    done <"$folder/packages"
+    lib=$folder/root/usr/lib/$(dpkg-architecture -qDEB_HOST_MULTIARCH)
+    export PKG_CONFIG_SYSROOT_DIR=$folder/root PKG_CONFIG_LIBDIR=$lib/pkgconfig PKG_CONFIG_PATH=
+    read -ra flags <<<"$(pkg-config --cflags --libs linkwire)"
+    cc -o "$folder/uses" tests/install.c "${flags[@]}"
+    [ "$(LD_LIBRARY_PATH=$lib "$folder/uses")" = "lo 1500 $(pkg-config --modversion linkwire)" ]
+    for program in "${programs[@]}"; do
+        cp "$folder/root/usr/bin/$program" out/
+    done
+    TESTS=header tests 'the programs of the packages'
+    "$folder/root/usr/bin/linkdump" --version >/dev/null
+    echo 'dist: packages: the same bytes twice, unpacked and used by pkg-config: ok'
+    if it=$(lacks lintian); then
+        echo "dist: packages: lintian: skipped: no $it"
+    else
+        lintian --no-cfg "$folder"/deb/*.deb >"$folder/log" 2>&1 || true
+        if grep -v 'initial-upload-closes-no-bugs' "$folder/log" | grep '^[EW]:' >&2; then
+            exit 1
+        fi
+        echo 'dist: packages: lintian: ok'
+    fi
+fi
+echo 'dist passed'

@@ -1,0 +1,135 @@
+#!/usr/bin/env bash
+# Looks that what does not fit is told: a text with one instruction changed, with its sum and without, a sum that is
+# wrong, a source or a line of crates.txt that changed without `make dist`, a file, a compiler, a text that is missing.
+# A stand-in takes the place of rt. The texts in out/texts, of `dist.sh --compare`, are compared where there are any.
+# shellcheck disable=SC2016
+set -euo pipefail
+top=$(cd "$(dirname "$0")/.." && pwd)
+folder=$(mktemp -d)
+trap 'rm -rf "$folder"' EXIT
+unset CC LD OBJCOPY AR CFLAGS LDFLAGS MAKEFLAGS MFLAGS MAKELEVEL PROVE
+mkdir "$folder/tree" "$folder/bin" "$folder/rt"
+(cd "$top" && git ls-files -z --cached --others --exclude-standard | tar --null --ignore-failed-read -T - -c) \
+    2>/dev/null | tar -x -C "$folder/tree"
+cd "$folder/tree"
+with=$PATH
+PATH=$folder/bin:$(tr ':' '\n' <<<"$PATH" | while read -r it; do [ -e "$it/rt" ] || echo "$it"; done | paste -sd :)
+arch=$(cc -dumpmachine | sed 's/-.*//')
+text=dist/$arch/linkwire.s
+
+# tells TEXT COMMAND..: it ends with status 2, or 1 of a script, and its one line has the text
+tells() {
+    local status=0
+    "${@:2}" >"$folder/out" 2>&1 </dev/null || status=$?
+    if [ "$status" = 0 ] || ! grep -qF "$1" "$folder/out" || [ "$(grep -c . "$folder/out")" != 1 ]; then
+        echo "test_dist: status $status of '${*:2}', which was to tell '$1':" >&2
+        cat "$folder/out" >&2
+        exit 1
+    fi
+    if [ "$2" = make ] && [ "$status" != 2 ]; then
+        echo "test_dist: status $status of '${*:2}'" >&2
+        exit 1
+    fi
+    echo "test_dist: $1: ok"
+}
+
+# changes FILE WORD..: changes a file by sed, has the rest told, and puts it back
+changes() {
+    cp "$1" "$folder/was"
+    sed -i "$2" "$1"
+    if cmp -s "$1" "$folder/was"; then
+        echo "test_dist: $1 has nothing that '$2' changes" >&2
+        exit 1
+    fi
+    "${@:3}"
+    cp "$folder/was" "$1"
+}
+
+# an instruction becomes another of the same size
+instruction='0,/^\taddq\t/s//\tsubq\t/'
+[ "$arch" = x86_64 ] || instruction='0,/^\tadd\t/s//\tsub\t/'
+scripts/sums.sh check | grep -qx 'dist: the sums fit'
+told() {
+    tells "$1" scripts/sums.sh check
+    tells "$1" make -s run
+}
+changes "$text" "$instruction" told "$text is not the text of dist/SUMS"
+changes dist/SUMS "s/^....\(.*  dist\/$arch\/linkwire\.s\)/0000\1/" told "$text is not the text of dist/SUMS"
+changes crates/nla_wire/src/read.rt '$a// changed' told 'crates/nla_wire/src/read.rt changed since dist/ was made'
+changes crates.txt 's/^link_msg: /link_msg: memchr /' \
+    told 'the line of link_msg in crates.txt changed since dist/ was made'
+touch crates/link_msg/src/another.rt
+told 'crates/link_msg/src/another.rt changed since dist/ was made'
+rm crates/link_msg/src/another.rt
+mv crates/link_msg/src/lib.rt "$folder/lib.rt"
+told 'crates/link_msg/src/lib.rt changed since dist/ was made'
+mv "$folder/lib.rt" crates/link_msg/src/lib.rt
+
+# with its sum too, it is not the text that was made of the crates
+forged() {
+    local sum
+    sum=$(sha256sum "$text")
+    sed -i "s/.*  dist\/$arch\/linkwire\.s$/${sum%% *}  dist\/$arch\/linkwire.s/" dist/SUMS
+    scripts/sums.sh check >/dev/null
+    if scripts/dist.sh --against "$top/out/texts" linkwire >"$folder/out" 2>&1 ||
+        ! grep -q "$text is not what is made of the crates" "$folder/out"; then
+        cat "$folder/out" >&2
+        exit 1
+    fi
+    echo 'test_dist: an instruction changed, and its sum: ok'
+}
+if [ -e "$top/out/texts/$arch/linkwire.s" ]; then
+    cp dist/SUMS "$folder/sums"
+    changes "$text" "$instruction" forged
+    cp "$folder/sums" dist/SUMS
+else
+    echo 'test_dist: an instruction changed, and its sum: skipped: no texts were made'
+fi
+
+# what is no source of a text changes nothing: proofs, a crate above
+fits() {
+    [ "$(echo 0 | make -s run 2>&1)" = nothex ]
+    echo "test_dist: $1 changes no text: ok"
+}
+changes crates/nla_wire/specs/Frames.antt '$a-- changed' fits 'a specification'
+changes crates/linkshow/src/main.rt '$a// changed' fits 'a crate above'
+
+# with rt, what changed is proved
+cat >"$folder/rt/rt" <<'END_OF_RT'
+#!/bin/sh
+mkdir -p out/rlib
+[ "$1" != lib ] || touch out/rlib/stamp
+[ "$1" != run ] || { printf '#!/bin/sh\necho proved\n' >"out/$(basename "$PWD")"; chmod +x "out/$(basename "$PWD")"; }
+END_OF_RT
+chmod +x "$folder/rt/rt"
+proved() {
+    PATH=$folder/rt:$PATH make -s run >"$folder/out" 2>"$folder/err" </dev/null
+    grep -qx proved "$folder/out"
+    grep -qx 'crates/nla_wire/src/read.rt changed since dist/ was made: proving linkwire' "$folder/err"
+    echo 'test_dist: what changed is proved where rt is: ok'
+}
+changes crates/nla_wire/src/read.rt '$a// changed' proved
+[ "$(echo 0 | make -s run)" = nothex ]
+PATH=$folder/rt:$PATH make -s run PROVE=1 2>"$folder/err" </dev/null | grep -qx proved
+[ "$(echo 0 | make -s run)" = nothex ]
+echo 'test_dist: what was proved gives way to what dist/ has: ok'
+
+# bad input, and nothing is installed
+installs=(make -s install "DESTDIR=$folder/stage")
+printf '#!/bin/sh\necho riscv64-linux-gnu\n' >"$folder/bin/other-cc"
+chmod +x "$folder/bin/other-cc"
+tells 'there is no nocc: install a C compiler and binutils, or set CC' "${installs[@]}" CC=nocc
+tells 'there is no nold: install a C compiler and binutils, or set LD' "${installs[@]}" LD=nold
+tells 'dist/ has no text for riscv64, only for' "${installs[@]}" CC=other-cc
+tells 'PROVE=1 proves the crates by the command rt, which is not on the path: leave it out' "${installs[@]}" PROVE=1
+for file in "$text" dist/heap.c man/linkwire.1 include/linkwire.h dist/linkwire.pc.in; do
+    mv "$file" "$folder/away"
+    tells "$file is missing" "${installs[@]}"
+    mv "$folder/away" "$file"
+done
+if [ -e "$folder/stage" ]; then
+    echo 'test_dist: something is installed' >&2
+    exit 1
+fi
+export PATH=$with
+echo 'test_dist passed'
