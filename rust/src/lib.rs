@@ -1,0 +1,152 @@
+// Copied from scripts/erase/std/src/lib.rs: do not edit here.
+//! The messages in which Linux describes network interfaces, `RTM_NEWLINK` of `rtnetlink(7)`: read into typed values,
+//! checked, changed, written, and compared. A message is the header of 16 bytes (`struct ifinfomsg` of `linux/rtnetlink.h`)
+//! and the attributes after it (`linux/if_link.h`), as they stand after the netlink header; [`LinkMessage`] is its value.
+//! Bytes are read whole, or refused with the first fault. Each message that can be written has one **canonical encoding**,
+//! to which every other spelling of it is brought. Names and types are those of netlink-packet-route 0.34.0, module `link`:
+//! the page [`moving`] has what is here, otherwise or not here.
+//!
+//! The crate has no dependency and no `unsafe`; it is for 64-bit little-endian targets, and without the feature `std` it
+//! needs `alloc` alone. A script makes it of sources that are proved. It is itself tested equal to the proved programs, and
+//! not proved: rustc, the script and what stands for Rattle's std are outside of the proof.
+//!
+//! # Reading
+//!
+//! ```
+//! use linkwire::{LinkAttribute, LinkFlags, LinkMessage};
+//!
+//! // Interface 7, up: the name "lo" without its NUL, and an MTU.
+//! let bytes = b"\0\x09\x01\0\x07\0\0\0\x01\0\0\0\0\0\0\0\x06\0\x03\0lo\0\0\x08\0\x04\0\xdc\x05\0\0";
+//! let message = LinkMessage::parse(bytes)?;
+//! assert_eq!(message.header.index, 7);
+//! assert!(message.header.flags.contains(LinkFlags::Up));
+//! for attribute in &message.attributes {
+//!     match attribute {
+//!         LinkAttribute::IfName(name) => assert_eq!(name, "lo"),
+//!         LinkAttribute::Mtu(mtu) => assert_eq!(*mtu, 1500),
+//!         other => println!("{other:?}"),
+//!     }
+//! }
+//! # Ok::<(), linkwire::DecodeError>(())
+//! ```
+//!
+//! Numbers and texts can be had without values and without memory: [`attributes`].
+//!
+//! # Changing and writing
+//!
+//! ```
+//! use linkwire::{LinkAttribute, LinkMessage};
+//!
+//! # let bytes = b"\0\x09\x01\0\x07\0\0\0\x01\0\0\0\0\0\0\0\x06\0\x03\0lo\0\0\x08\0\x04\0\xdc\x05\0\0";
+//! let mut message = LinkMessage::parse(bytes)?;
+//! for attribute in &mut message.attributes {
+//!     if let LinkAttribute::Mtu(mtu) = attribute {
+//!         *mtu = 9000;
+//!     }
+//! }
+//! message.attributes.push(LinkAttribute::IfAlias("loopback".to_string()));
+//! let written = message.to_vec()?;
+//! assert_eq!(LinkMessage::parse(&written)?, message);
+//! # Ok::<(), Box<dyn std::error::Error>>(())
+//! ```
+//!
+//! [`to_vec`](LinkMessage::to_vec) refuses what the format can not hold, such as a name of 70,000 bytes. [`Writer`] writes
+//! attributes into a buffer, without memory.
+//!
+//! # A key to store
+//!
+//! Two messages are equal exactly where their canonical encodings are. Keep [`CANONICAL_FORM`] beside what is stored:
+//! encodings of two numbers are not to be compared.
+//!
+//! ```
+//! use linkwire::{canonical, same_message, CANONICAL_FORM};
+//! use std::collections::HashMap;
+//!
+//! // Two spellings of one message: the second byte of the header is unused, and the NUL of a name may be missing.
+//! let one = b"\0\x09\x01\0\x07\0\0\0\0\0\0\0\0\0\0\0\x06\0\x03\0lo\0\0";
+//! let other = b"\0\0\x01\0\x07\0\0\0\0\0\0\0\0\0\0\0\x07\0\x03\0lo\0\0";
+//! let mut seen = HashMap::new();
+//! seen.insert((CANONICAL_FORM, canonical(one)?), "first");
+//! assert!(seen.contains_key(&(CANONICAL_FORM, canonical(other)?)));
+//! assert!(same_message(one, other)?);
+//! # Ok::<(), linkwire::CanonError>(())
+//! ```
+//!
+//! # A fault, and where it is
+//!
+//! ```
+//! use linkwire::{fault_at, Cause, LinkMessage};
+//!
+//! // An MTU of three bytes, after a name.
+//! let bytes = b"\0\0\x01\0\x07\0\0\0\0\0\0\0\0\0\0\0\x07\0\x03\0lo\0\0\x07\0\x04\0\xdc\x05\0\0";
+//! let (fault, at) = fault_at(bytes).unwrap();
+//! assert_eq!(at, 24);
+//! assert_eq!(fault.cause, Cause::WrongLength { got: 3, want: 4 });
+//! assert_eq!(LinkMessage::parse(bytes), Err(fault));
+//! println!("{fault}, {at} bytes into the message");
+//! ```
+#![forbid(unsafe_code)]
+#![cfg_attr(not(feature = "std"), no_std)]
+#![allow(non_upper_case_globals)]
+// forms of the sources that this is made from
+#![allow(clippy::manual_map, clippy::match_like_matches_macro, clippy::needless_range_loop)]
+#![allow(clippy::manual_flatten, clippy::redundant_closure, clippy::unnecessary_map_on_constructor)]
+
+#[cfg(not(all(target_pointer_width = "64", target_endian = "little")))]
+compile_error!("linkwire is for 64-bit little-endian targets");
+
+extern crate alloc;
+
+mod attributes;
+mod calls;
+mod flags;
+mod packet;
+mod rattle;
+mod values;
+mod writer;
+
+#[allow(dead_code, unused_imports)]
+mod link_afspec;
+#[allow(dead_code, unused_imports)]
+mod link_msg;
+#[allow(dead_code, unused_imports)]
+mod link_nest;
+#[allow(dead_code, unused_imports)]
+mod link_recs;
+#[allow(dead_code, unused_imports)]
+mod link_state;
+#[allow(dead_code, unused_imports)]
+mod link_vals;
+#[allow(dead_code, unused_imports)]
+mod link_vf;
+#[allow(dead_code, unused_imports)]
+mod link_vfrec;
+#[allow(dead_code, unused_imports)]
+mod nla_wire;
+
+pub use link_msg::*;
+pub use link_state::*;
+
+pub use attributes::{Attribute, Attributes, attributes};
+pub use calls::{GROWTH, canonical_into, check, fault_at};
+pub use flags::{Iter, IterNames};
+pub use link_msg::header::HEADER_SIZE;
+pub use packet::{
+    Emitable, Nla, NlaBuffer, NlasIterator, Parseable, ParseableParametrized, emit_i32, emit_u16, emit_u32, emit_u64,
+};
+pub use writer::Writer;
+
+/// The names of netlink-packet-route's module `link`.
+pub mod link {
+    #[doc(no_inline)]
+    pub use crate::link_msg::*;
+}
+
+/// The kernel's numbers of a message's attributes: `IFLA_..` of linux/if_link.h.
+pub mod numbers {
+    pub use crate::link_msg::numbers::*;
+}
+
+#[cfg(doc)]
+#[doc = include_str!("../MOVING.md")]
+pub mod moving {}
