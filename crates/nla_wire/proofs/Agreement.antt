@@ -14,6 +14,7 @@ use Rattle.nla_wire.specs.Payloads.{read_number, number_of, bytes, read_exactly,
 use Rattle.nla_wire.specs.Payloads.{without_nul, read_text, text, filled, read_sized, sized}
 use Rattle.nla_wire.specs.declared.error.Cause.{Cause}
 use Rattle.nla_wire.specs.declared.error.Cause.TheVariants.{WrongLength, NotUtf8, TooShort, EmptyList}
+use Rattle.nla_wire.proofs.Loop.{ok_not_err}
 
 -- ** combinators
 
@@ -41,9 +42,6 @@ ok_is r x y e k = cc
 
 err_is : {A : Type 0} (r : Result A Cause) (c d : Cause) → r ≡ Err c → r ≡ Err d → d ≡ c
 err_is r c d e k = cc
-
-ok_not_err : {A : Type 0} (r : Result A Cause) (x : A) (c : Cause) → r ≡ Ok x → r ≡ Err c → ⊥
-ok_not_err r x c e k = absurd cc
 
 pub kept_agrees : {V : Type 0} (One : Frame → Type 0) (other : Frame → V) → Agrees One (undecoded other)
 kept_agrees One other = record {

@@ -1,4 +1,4 @@
--- Canonical text begins with its frame, and lists of values are read back from theirs.
+-- Canonical encoding begins with its frame, and lists of values are read back from theirs.
 use Rattle.std.proofs.Common.{◌≡◌, ℕ, ◌<◌, eq-eqb, List, [], ◌∷◌, ◌++◌, length, map, filter, replicate, Bool, cond}
 use Rattle.std.proofs.Common.{true, false, refl, sym, ap, subst, inl, le_of_eq, arith}
 use Rattle.std.proofs.lemmas.List.{length-replicate}

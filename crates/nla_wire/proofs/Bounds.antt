@@ -1,11 +1,11 @@
--- How long canonical text is, and how many values there are, against the bytes that were read.
+-- How long canonical encoding is, and how many values there are, against the bytes that were read.
 use Rattle.std.proofs.Common.{◌≡◌, ℕ, ◌+◌, ◌*◌, ◌/◌, ◌%◌, ◌≤◌, Bool, true, false, cond, ◌⊎◌, inl, inr, List, [], ◌∷◌}
 use Rattle.std.proofs.Common.{length, filter, replicate, refl, ap, ◌∙◌, le_trans, mul-le-mul_left, arith}
 use Rattle.std.proofs.Common.{length-append}
 use Rattle.std.proofs.lemmas.List.{length-replicate}
 use Rattle.std.specs.List.{AllByRecursion}
 use Rattle.nla_wire.specs.Frames.{Frame, missing, Begins, Frames}
-use Rattle.nla_wire.specs.Grammar.{Grammar, Every, list, is_one, picked}
+use Rattle.nla_wire.specs.Grammar.{Grammar, Every, list, is_one, picked, members}
 use Rattle.nla_wire.specs.Canon.{canon, canons, total}
 use Rattle.nla_wire.proofs.Steps.{length-begins}
 
@@ -127,3 +127,8 @@ module _ {V : Type 0} (place : Grammar Frame V) (frame : V → Frame) (k e : ℕ
         total_more (λ v. length (canon (frame v))) e vs,
         length-canons frame vs,
       )
+
+  pub members_length : (picks : Bool) (p : List ℕ) (vs : List V) → (members picks place).means p vs
+      → length (canons frame vs) + e * length vs ≤ k * (length p / 4)
+  members_length false p vs h = list_length p vs h
+  members_length true p vs h = picked_length p vs h

@@ -1,4 +1,4 @@
--- What a canonical text that has a meaning says of each member.
+-- What a canonical encoding that has a meaning says of each member.
 use Rattle.std.proofs.Common.{List, [], ◌∷◌, map, subst}
 use Rattle.std.specs.List.{AllByRecursion}
 use Rattle.nla_wire.specs.Frames.{Frame}

@@ -60,7 +60,7 @@ frames_split c d (f ∷ fs) (g ∷ hs) whole h k =
 
 -- ** lists of values
 
-zip_join : {A B : Type 0} (R : A → B → Type 0) (xs us : List A) (ys vs : List B) → AllZip R xs ys → AllZip R us vs
+pub zip_join : {A B : Type 0} (R : A → B → Type 0) (xs us : List A) (ys vs : List B) → AllZip R xs ys → AllZip R us vs
     → AllZip R (xs ++ us) (ys ++ vs)
 zip_join R [] us [] vs h k = k
 zip_join R [] us (y ∷ ys) vs h k = absurd h

@@ -1,7 +1,7 @@
 -- Everything that is proved of a payload, of a line of a table and of a place, each in one record, so that a place
--- costs one line a row. A value's text is `text a` or the text of its `frame`; `Fits` says that it has one, `Good` that
--- the text is not refused, and `count` is how many values it is. A text has at most k bytes for each whole four bytes
--- that were read, the header among them, and e bytes fewer than that. What was read from at most n bytes fits.
+-- costs one line a row. A value's encoding is `text a` or the text of its `frame`; `Fits` says that it has one, `Good`
+-- that the text is not refused, and `count` is how many values it is. A text has at most k bytes for each whole four
+-- bytes that were read, the header among them, and e bytes fewer than that. What was read from at most n bytes fits.
 use Rattle.std.proofs.Common.{◌≡◌, ℕ, ◌+◌, ◌*◌, ◌/◌, ◌^◌, ◌<◌, ◌≤◌, inl, inr, List, [], ◌∷◌, ◌++◌, length, filter}
 use Rattle.std.proofs.Common.{refl, sym, ap, subst, ◌∙◌, mul-le-mul_left, mul-le-mul_right, arith, lit≤}
 use Rattle.std.proofs.Common.{length-append}

@@ -23,7 +23,8 @@ pub mod Lawful
 pub mod Lists
 pub mod Loop
 pub mod Meaning
-pub mod Members
+pub mod Meant
+pub mod Prefixes
 pub mod Memory
 pub mod PlaceLaws
 pub mod Placing
@@ -32,3 +33,4 @@ pub mod Spellings
 pub mod Texts
 pub mod Written
 pub mod Opened
+pub mod Selected

@@ -1,11 +1,11 @@
 -- What contracts on readers say in the words of the relations, and the steps of a loop over items.
-use Rattle.std.proofs.Common.{◌≡◌, ◌≢◌, ℕ, inl, inr, List, [], ◌∷◌, ◌++◌, append_assoc, refl, ap, sym, ◌∙◌, Option}
-use Rattle.std.proofs.Common.{Some, None, Result, Ok, Err, IsOk, IfOk, IfErr, eq-eqb, ne_eqb}
-use Rattle.nla_wire.specs.Frames.{Frame, number}
+use Rattle.std.proofs.Common.{◌≡◌, ◌≢◌, ℕ, inl, inr, List, [], ◌∷◌, ◌++◌, append_assoc, refl, ap, sym, ◌∙◌}
+use Rattle.std.proofs.Common.{Result, Ok, Err, IsOk, IfOk, IfErr}
+use Rattle.nla_wire.specs.Frames.{Frame}
 use Rattle.nla_wire.specs.Reading.{list_of, with_front, ◌>>=◌}
 use Rattle.nla_wire.specs.Items.{Item, items, read_items}
 use Rattle.nla_wire.specs.Gives.{Fails, Gives, Checks}
-use Rattle.nla_wire.specs.Grammar.{Grammar, Agrees, some_if_picked, present_values, picked}
+use Rattle.nla_wire.specs.Grammar.{Grammar, Agrees}
 use Rattle.nla_wire.specs.declared.error.Cause.{Cause}
 use Rattle.nla_wire.specs.declared.error.Cause.TheVariants.{OutOfMemory}
 use Rattle.nla_wire.specs.declared.error.DecodeError.{DecodeError}
@@ -18,11 +18,11 @@ pub given : {A : Type 0} (r : Result A Cause) → IsOk r → (a : A) × (r ≡ O
 given (Ok a) ok = (a, refl)
 given (Err c) ok = absurd cc
 
-ok_not_err : {A : Type 0} (r : Result A Cause) (a : A) (c : Cause) → r ≡ Ok a → r ≡ Err c → ⊥
+pub ok_not_err : {A : Type 0} (r : Result A Cause) (a : A) (c : Cause) → r ≡ Ok a → r ≡ Err c → ⊥
 ok_not_err r a c e k = absurd cc
 
 module _ {S A : Type 0} {One : S → Type 0} (g : Grammar S A) (h : Agrees One g) (s : S) (one : One s) where
-  fails_as : (c : Cause) → Fails c (g.reads s) → c ≢ OutOfMemory → g.reads s ≡ Err c
+  pub fails_as : (c : Cause) → Fails c (g.reads s) → c ≢ OutOfMemory → g.reads s ≡ Err c
   fails_as c (inl memory) other = absurd (other memory)
   fails_as c (inr e) other = e
 
@@ -59,7 +59,7 @@ module _ {S A : Type 0} {One : S → Type 0} (g : Grammar S A) (h : Agrees One g
 
 -- ** a loop over items: the values in front, then what the items left are read as, are the whole reading
 
-front_none : {V : Type 0} (r : Result (List V) Cause) → with_front [] r ≡ r
+pub front_none : {V : Type 0} (r : Result (List V) Cause) → with_front [] r ≡ r
 front_none (Ok vs) = refl
 front_none (Err c) = refl
 
@@ -84,23 +84,3 @@ module _ {V : Type 0} (read : Frame → Result V Cause) (front : List V) (left :
 
   fault_of : (c : Cause) → read_items read left ≡ Err c → total ≡ Err c
   fault_of c e = sym so_far ∙ ap (λ (r : Result (List V) Cause). with_front front r) e
-
--- ** the same where members with other numbers than 1 are dropped
-
-module _ {V : Type 0} (place : Grammar Frame V) (f : Frame) where
-  pub picks_one : number f ≡ 1 → (some_if_picked place).reads f ≡ (place.reads f >>= λ v. Ok (Some v))
-  picks_one one = rw (eq-eqb (number f) 1 one)
-
-  pub picks_other : number f ≢ 1 → (some_if_picked place).reads f ≡ Ok None
-  picks_other other = rw (ne_eqb (number f) 1 other)
-
--- the values that these items are read as
-abbrev pub read_picked : {V : Type 0} → Grammar Frame V → List Item → Result (List V) Cause
-read_picked place xs = read_items (some_if_picked place).reads xs >>= λ os. Ok (present_values os)
-
-pub picked_start : {V : Type 0} (place : Grammar Frame V) (b : List ℕ)
-    → with_front [] (read_picked place (items b)) ≡ (picked place).reads b
-picked_start {V} place b =
-    front_none (read_picked place (items b))
-    ∙ ap (λ (r : Result (List (Option V)) Cause). r >>= λ os. Ok (present_values os))
-    (sym (list_items (some_if_picked place).reads b))

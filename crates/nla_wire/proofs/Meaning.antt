@@ -3,10 +3,10 @@ use Rattle.std.proofs.Common.{◌≡◌, Result, Ok, Err}
 use Rattle.nla_wire.specs.Grammar.{Grammar, Agrees}
 use Rattle.nla_wire.specs.declared.error.Cause.{Cause}
 
-ok_once : {A : Type 0} (r : Result A Cause) (a b : A) → r ≡ Ok a → r ≡ Ok b → a ≡ b
+pub ok_once : {A : Type 0} (r : Result A Cause) (a b : A) → r ≡ Ok a → r ≡ Ok b → a ≡ b
 ok_once r a b e k = cc
 
-not_both : {A : Type 0} (r : Result A Cause) (a : A) (c : Cause) → r ≡ Ok a → r ≡ Err c → ⊥
+pub not_both : {A : Type 0} (r : Result A Cause) (a : A) (c : Cause) → r ≡ Ok a → r ≡ Err c → ⊥
 not_both r a c e k = absurd cc
 
 module _ {S A : Type 0} (One : S → Type 0) (g : Grammar S A) (h : Agrees One g) where

@@ -6,15 +6,14 @@ use Rattle.std.proofs.Common.{length-drop}
 use Rattle.std.specs.List.{AllByRecursion}
 use borrow.Rule.Slice.PartMut.{put_mid}
 use Rattle.nla_wire.specs.Sizes.{most_payload, growth, growth_per_byte}
-use Rattle.nla_wire.specs.Frames.{Frame, number, missing, IsFrame}
+use Rattle.nla_wire.specs.Frames.{Frame, missing, IsFrame}
 use Rattle.nla_wire.specs.Payloads.{read_sized}
-use Rattle.nla_wire.specs.Reading.{list_of, with_front, ◌>>=◌}
-use Rattle.nla_wire.specs.Items.{Item, items, read_items}
-use Rattle.nla_wire.specs.Grammar.{Grammar, Agrees, unless_empty, some_if_picked, present_values}
-use Rattle.nla_wire.specs.Canon.{canon, canons, AllFit, Writes, Weighs, HasRoom, Rewrites, RoomWhereFit, Canonical}
+use Rattle.nla_wire.specs.Reading.{with_front, ◌>>=◌}
+use Rattle.nla_wire.specs.Items.{Item, read_items}
+use Rattle.nla_wire.specs.Grammar.{Grammar, Agrees, unless_empty}
+use Rattle.nla_wire.specs.Canon.{canon, Writes, Weighs, HasRoom, Rewrites, RoomWhereFit, Canonical}
 use Rattle.nla_wire.specs.declared.error.Cause.{Cause}
-use Rattle.nla_wire.proofs.Items.{list_items}
-use Rattle.nla_wire.proofs.Loop.{items_start, items_more, picks_one}
+use Rattle.nla_wire.proofs.Loop.{front_none, items_more}
 use Rattle.nla_wire.proofs.Bounds.{length-canon}
 use Rattle.nla_wire.proofs.Canonical.{write_on, lent_back, finished_value}
 
@@ -58,11 +57,11 @@ pub record Weighing {V : Type 0} (read : Frame → Result V Cause) (text_of : V 
   pub counted : len < 2 ^ 64
 
 pub weighing_starts : {V : Type 0} (read : Frame → Result V Cause) (text_of : V → List ℕ) (fits : V → Type 0)
-    (b : List ℕ) (left : List Item)
-    → left ≡ items b → Weighing read text_of fits (list_of read b) left 0
-weighing_starts read text_of fits b left left_is = record {
+    (whole : Result (List V) Cause) (left : List Item)
+    → read_items read left ≡ whole → Weighing read text_of fits whole left 0
+weighing_starts read text_of fits whole left is = record {
   front = [];
-  so_far = ap (λ (xs : List Item). with_front [] (read_items read xs)) left_is ∙ items_start read b;
+  so_far = front_none (read_items read left) ∙ is;
   fit = tt;
   len_is = refl;
   counted = omega arith;
@@ -109,13 +108,6 @@ module _ {V : Type 0} (read : Frame → Result V Cause) (text_of : V → List �
         counted = small;
       }
 
-  -- a member without a text, which fits
-  pub weighing_skip : (f : Frame) (rest : List Item) (v : V) → left ≡ Ok f ∷ rest → read f ≡ Ok v → text_of v ≡ []
-      → fits v → Weighing read text_of fits whole rest len
-  weighing_skip f rest v left_is reads nothing good =
-      weighing_on f rest 0 len left_is (subst (λ r. Weighs text_of fits r (Some 0)) (sym reads)
-      (good, sym (ap (λ (t : List ℕ). length t) nothing))) (omega arith) h.counted
-
   member_stops : (f : Frame) (rest : List Item) → left ≡ Ok f ∷ rest
       → ((v : V) (vs : List V) → read f ≡ Ok v → Counted text_of fits (h.front ++ v ∷ vs) → ⊥)
       → Weighs (flat_map text_of) (Counted text_of fits) whole None
@@ -161,12 +153,6 @@ module _ {V : Type 0} (read : Frame → Result V Cause) (text_of : V → List �
       subst (λ r. Weighs (flat_map text_of) (Counted text_of fits) r None)
       (ap (λ (xs : List Item). with_front h.front (read_items read xs)) (sym left_is) ∙ h.so_far) tt
 
-  pub weighing_ends : left ≡ [] → Weighs (flat_map text_of) (Counted text_of fits) whole (Some len)
-  weighing_ends left_is =
-      subst (λ r. Weighs (flat_map text_of) (Counted text_of fits) r (Some len))
-      (ap (λ (vs : List V). Ok vs) (sym (append-nil h.front)) ∙ ap (λ (xs : List Item). with_front h.front
-      (read_items read xs)) (sym left_is) ∙ h.so_far) ((h.fit, omega (arith, h.len_is, h.counted)), h.len_is)
-
 -- the attribute's length from its value's
 pub weighs_frame : {V : Type 0} (frame : V → Frame) (fits : V → Type 0) (r : Result V Cause) (n padded : ℕ)
     → Weighs (λ v. (frame v).payload) fits r (Some n)
@@ -200,15 +186,15 @@ roomy text fits (Ok v) room h = (v, refl, h.0, h.1)
 roomy text fits (Err c) room h = absurd h
 
 pub rewriting_starts : {V : Type 0} (read : Frame → Result V Cause) (text_of : V → List ℕ) (fits : V → Type 0)
-    (b : List ℕ) (left : List Item) (old : List ℕ)
-    → left ≡ items b → HasRoom (flat_map text_of) (Counted text_of fits) (list_of read b) (length old)
-    → Rewriting read text_of fits (list_of read b) left 0 old old
-rewriting_starts read text_of fits b left old left_is room =
-    let k = roomy (flat_map text_of) (Counted text_of fits) (list_of read b) (length old) room in record {
+    (whole : Result (List V) Cause) (left : List Item) (old : List ℕ)
+    → read_items read left ≡ whole → HasRoom (flat_map text_of) (Counted text_of fits) whole (length old)
+    → Rewriting read text_of fits whole left 0 old old
+rewriting_starts read text_of fits whole left old is room =
+    let k = roomy (flat_map text_of) (Counted text_of fits) whole (length old) room in record {
       front = [];
       todo = k.0;
       whole_is = k.1;
-      todo_is = ap (λ (xs : List Item). read_items read xs) left_is ∙ sym (list_items read b) ∙ k.1;
+      todo_is = is ∙ k.1;
       fit = k.2.0;
       written = record { length_is = refl; new_is = refl };
       room = omega (arith, k.3);
@@ -281,34 +267,6 @@ module _ {V : Type 0} (read : Frame → Result V Cause) (text_of : V → List �
       let one : Writes (text_of k.0) (take (length now - at) (drop at now)) part n =
       subst (λ r. Rewrites text_of r (take (length now - at) (drop at now)) part n) k.2 w in
       omega (arith, ahead k.0 k.1 k.4, one.length_is)
-
-  -- a member without a text
-  pub rewriting_skip : (f : Frame) (rest : List Item) (v : V) → left ≡ Ok f ∷ rest → read f ≡ Ok v → text_of v ≡ []
-      → Rewriting read text_of fits whole rest at old now
-  rewriting_skip f rest v left_is reads nothing =
-      let k = next f rest left_is in
-      let none : text_of k.0 ≡ [] = ap text_of (ok_once (read f) k.0 v k.2 reads) ∙ nothing in
-      let fit : AllByRecursion fits (k.0 ∷ k.1) = subst (λ (xs : List V). AllByRecursion fits xs) k.4 h.fit in
-      record {
-        front = h.front ++ k.0 ∷ [];
-        todo = k.1;
-        whole_is = h.whole_is ∙ ap (λ (vs : List V). Ok (h.front ++ vs)) k.4
-            ∙ ap (λ (vs : List V). Ok vs) (sym (append_assoc h.front (k.0 ∷ []) k.1));
-        todo_is = k.3;
-        fit = fit.1;
-        written = subst (λ t. Writes t old now at) (sym (flat_more text_of h.front k.0
-            ∙ ap (λ t. flat_map text_of h.front ++ t) none ∙ append-nil (flat_map text_of h.front))) h.written;
-        room = omega (arith, ahead k.0 k.1 k.4);
-        same = h.same;
-      }
-
-  pub rewriting_ends : left ≡ [] → Rewrites (flat_map text_of) whole old now at
-  rewriting_ends left_is =
-      let ended : [] ≡ h.todo = let both =
-      ap (λ (xs : List Item). read_items read xs) (sym left_is) ∙ h.todo_is in cc in
-      let all_is = h.whole_is ∙ ap (λ (vs : List V). Ok (h.front ++ vs)) (sym ended)
-      ∙ ap (λ (vs : List V). Ok vs) (append-nil h.front) in
-      subst (λ r. Rewrites (flat_map text_of) r old now at) (sym all_is) h.written
 
 -- ** measured, and then written
 
@@ -475,85 +433,3 @@ pub empty_canonical : {A : Type 0} (text : A → List ℕ) (fits : A → Type 0)
 unfolding unless_empty
 empty_canonical text fits [] r old none = refl
 empty_canonical text fits (x ∷ p) r old none = absurd (omega (arith, none))
-
--- ** lists of which the members with another number than 1 are dropped
-
--- the text of a member that is kept
-abbrev pub kept_text : {V : Type 0} → (V → Frame) → Option V → List ℕ
-kept_text frame None = []
-kept_text frame (Some v) = canon (frame v)
-
-abbrev pub KeptFits : {V : Type 0} → (V → Type 0) → Option V → Type 0
-KeptFits fits None = Unit {0}
-KeptFits fits (Some v) = fits v
-
-kept_texts : {V : Type 0} (frame : V → Frame) (os : List (Option V))
-    → flat_map (kept_text frame) os ≡ canons frame (present_values os)
-kept_texts frame [] = refl
-kept_texts frame (None ∷ os) = kept_texts frame os
-kept_texts frame ((Some v) ∷ os) = ap (λ t. canon (frame v) ++ t) (kept_texts frame os)
-
-kept_fit : {V : Type 0} (fits : V → Type 0) (os : List (Option V)) → AllByRecursion (KeptFits fits) os
-    → AllByRecursion fits (present_values os)
-kept_fit fits [] all = tt
-kept_fit fits (None ∷ os) all = kept_fit fits os all.1
-kept_fit fits ((Some v) ∷ os) all = (all.0, kept_fit fits os all.1)
-
-fit_kept : {V : Type 0} (fits : V → Type 0) (os : List (Option V)) → AllByRecursion fits (present_values os)
-    → AllByRecursion (KeptFits fits) os
-fit_kept fits [] all = tt
-fit_kept fits (None ∷ os) all = (tt, fit_kept fits os all)
-fit_kept fits ((Some v) ∷ os) all = (all.0, fit_kept fits os all.1)
-
-module _ {V : Type 0} (frame : V → Frame) (fits : V → Type 0) where
-  counted_kept : (os : List (Option V)) → AllFit fits frame (present_values os)
-      → Counted (kept_text frame) (KeptFits fits) os
-  counted_kept os all =
-      (fit_kept fits os all.0, omega (arith, all.1, ap (λ (t : List ℕ). length t) (kept_texts frame os)))
-
-  pub picked_weighs : (r : Result (List (Option V)) Cause) (a : Option ℕ)
-      → Weighs (flat_map (kept_text frame)) (Counted (kept_text frame) (KeptFits fits)) r a
-      → Weighs (canons frame) (AllFit fits frame) (r >>= λ os. Ok (present_values os)) a
-  picked_weighs (Ok os) (Some n) w =
-      let same = ap (λ (t : List ℕ). length t) (kept_texts frame os) in
-      ((kept_fit fits os w.0.0, omega (arith, w.0.1, same)), w.1 ∙ same)
-  picked_weighs (Ok os) None w = λ all. w (counted_kept os all)
-  picked_weighs (Err e) (Some n) w = w
-  picked_weighs (Err e) None w = tt
-
-  pub picked_room : (r : Result (List (Option V)) Cause) (room : ℕ)
-      → HasRoom (canons frame) (AllFit fits frame) (r >>= λ os. Ok (present_values os)) room
-      → HasRoom (flat_map (kept_text frame)) (Counted (kept_text frame) (KeptFits fits)) r room
-  picked_room (Ok os) room h =
-      (counted_kept os h.0, omega (arith, h.1, ap (λ (t : List ℕ). length t) (kept_texts frame os)))
-  picked_room (Err e) room h = h
-
-  pub picked_rewrites : (r : Result (List (Option V)) Cause) (old new : List ℕ) (n : ℕ)
-      → Rewrites (flat_map (kept_text frame)) r old new n
-      → Rewrites (canons frame) (r >>= λ os. Ok (present_values os)) old new n
-  picked_rewrites (Ok os) old new n w = subst (λ t. Writes t old new n) (kept_texts frame os) w
-  picked_rewrites (Err e) old new n w = tt
-
-module _ {V : Type 0} (place : Grammar Frame V) (f : Frame) (one : number f ≡ 1) (frame : V → Frame)
-    (fits : V → Type 0) where
-  weighs_some : (r : Result V Cause) (a : Option ℕ) → Weighs (λ v. canon (frame v)) fits r a
-      → Weighs (kept_text frame) (KeptFits fits) (r >>= λ v. Ok (Some v)) a
-  weighs_some (Ok v) (Some n) w = w
-  weighs_some (Ok v) None w = w
-  weighs_some (Err c) (Some n) w = w
-  weighs_some (Err c) None w = tt
-
-  rewrites_some : (r : Result V Cause) (old new : List ℕ) (n : ℕ) → Rewrites (λ v. canon (frame v)) r old new n
-      → Rewrites (kept_text frame) (r >>= λ v. Ok (Some v)) old new n
-  rewrites_some (Ok v) old new n w = w
-  rewrites_some (Err c) old new n w = tt
-
-  pub kept_weighs : (a : Option ℕ) → Weighs (λ v. canon (frame v)) fits (place.reads f) a
-      → Weighs (kept_text frame) (KeptFits fits) ((some_if_picked place).reads f) a
-  kept_weighs a w = subst (λ r. Weighs (kept_text frame) (KeptFits fits) r a) (sym (picks_one place f one))
-      (weighs_some (place.reads f) a w)
-
-  pub kept_rewrites : (old new : List ℕ) (n : ℕ) → Rewrites (λ v. canon (frame v)) (place.reads f) old new n
-      → Rewrites (kept_text frame) ((some_if_picked place).reads f) old new n
-  kept_rewrites old new n w = subst (λ r. Rewrites (kept_text frame) r old new n) (sym (picks_one place f one))
-      (rewrites_some (place.reads f) old new n w)

@@ -23,7 +23,8 @@ abbrev pub without_place : {A : Type 0} → Result A DecodeError → Result A Ca
 without_place (Ok x) = Ok x
 without_place (Err e) = Err e.cause
 
--- the value that is read was added at the end; or the cause is what the reading gives, or memory ran out
+-- the value that is read was added at the end; or the list is as it was, and the cause is what the reading gives, or
+-- memory ran out
 abbrev pub Adds : {A : Type 0} → Result Unit DecodeError → Result A Cause → List A → List A → Type 0
 Adds {A} (Ok x) read old new = (v : A) × (read ≡ Ok v) × (new ≡ old ++ v ∷ [])
-Adds (Err e) read old new = Fails e.cause read
+Adds (Err e) read old new = Fails e.cause read × (new ≡ old)

@@ -1,7 +1,7 @@
 -- The grammar of nested attributes: places as tables, built from a few combinators. Each combinator says side by side
 -- what bytes mean, why they mean nothing, and what a reader returns.
-use Rattle.std.specs.Prelude.{◌≡◌, ℕ, ◌<◌, ◌==◌, Bool, true, false, List, [], ◌∷◌, ◌⊎◌, length, filter, Option, None}
-use Rattle.std.specs.Prelude.{Some, Result, Ok, Err}
+use Rattle.std.specs.Prelude.{◌≡◌, ℕ, ◌<◌, ◌==◌, Bool, true, false, not, List, [], ◌∷◌, ◌⊎◌, length, filter}
+use Rattle.std.specs.Prelude.{Option, None, Some, Result, Ok, Err}
 use Rattle.std.specs.List.{AllZip}
 use Rattle.nla_wire.specs.Frames.{Frame, number, Begins, Frames, BadStart}
 use Rattle.nla_wire.specs.Reading.{list_of, ◌>>=◌}
@@ -107,3 +107,15 @@ picked {V} place = record {
   bad = First (some_if_picked place);
   reads = λ p. list_of (some_if_picked place).reads p >>= λ os. Ok (present_values os);
 }
+
+-- ** the list of a place, which may drop members
+
+-- whether a place of which members are picked drops those of this number
+abbrev pub drops : Bool → ℕ → Bool
+drops false n = false
+drops true n = not (n == 1)
+
+-- all members are read, or those with the number 1
+abbrev pub members : {V : Type 0} → Bool → Grammar Frame V → Grammar (List ℕ) (List V)
+members false place = list place
+members true place = picked place

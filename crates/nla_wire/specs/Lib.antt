@@ -8,7 +8,7 @@ pub mod Grammar
 pub mod Payloads
 pub mod Fields
 pub mod Canon
-pub mod Contents
+pub mod FlatViews
 pub mod Records
 pub mod PlaceLaws
 pub mod Gives

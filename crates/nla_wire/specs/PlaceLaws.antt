@@ -8,19 +8,19 @@ abbrev pub ReadsBack : {V : Type 0} → (Frame → V → Type 0) → (V → Fram
 ReadsBack {V} means frame Fits = (f : Frame) (v : V) → IsFrame f → means f v → Fits v
     → Begins (canon (frame v)) (frame v) [] × means (frame v) v
 
--- values that some payload means as a list, and that fit, are what their canonical texts, one after the other, mean
+-- values that some payload means as a list, and that fit, are what their canonical encodings, one after the other, mean
 abbrev pub ListReadsBack : {V : Type 0} → (List ℕ → List V → Type 0) → (V → Frame) → (V → Type 0) → Type 0
 ListReadsBack {V} means frame Fits = (p : List ℕ) (vs : List V) → IsBytes p → means p vs → AllFit Fits frame vs
     → means (canons frame vs) vs
 
--- how many values a list holds, members of members among them, and how long its canonical text is, against its payload:
--- at most `factor` bytes for each whole four, and so many fewer for each member
-pub record IsBounded (factor fewer_bytes : ℕ) (p : List ℕ) (members values : ℕ) (text : List ℕ) : Type 0 where
+-- how many values a list holds, members of members among them, and how long its canonical encoding is, against its
+-- payload: at most `factor` bytes for each whole four, and so many fewer for each member
+pub record IsBounded (factor fewer_bytes : ℕ) (p : List ℕ) (members values : ℕ) (encoding : List ℕ) : Type 0 where
   -- four bytes for each value
   pub counted : 4 * values ≤ length p
-  pub grown : length text + fewer_bytes * members ≤ factor * (length p / 4)
+  pub grown : length encoding + fewer_bytes * members ≤ factor * (length p / 4)
   -- so that many fewer where there is anything
-  pub fewer : 0 < length p → length text + fewer_bytes ≤ factor * (length p / 4)
+  pub fewer : 0 < length p → length encoding + fewer_bytes ≤ factor * (length p / 4)
 
 -- each list of this meaning is so bounded
 abbrev pub ListsBounded : {V : Type 0} → ℕ → ℕ → (List ℕ → List V → Type 0) → (V → ℕ) → (V → Frame) → Type 0

@@ -1,4 +1,4 @@
--- Records: what their calls return, and the laws of a record, over its reading `of` and its bytes `text`.
+-- Records: what their calls return, and the laws of a record, over its reading `of` and its bytes `encoding`.
 use Rattle.std.specs.Prelude.{◌≡◌, ℕ, ◌≤◌, List, ◌++◌, length, replicate, MatchResult, Result}
 use Rattle.nla_wire.specs.Frames.{IsBytes}
 use Rattle.nla_wire.specs.Fields.{zero_filled}
@@ -26,18 +26,18 @@ BytesAfter size of = (p more : List ℕ) → size ≤ length p → of (p ++ more
 
 -- what was read from bytes, written and read again, is the same
 abbrev pub ReadsAgain : {V : Type 0} → (List ℕ → V) → (V → List ℕ) → Type 0
-ReadsAgain of text = (p : List ℕ) → IsBytes p → of (text (of p)) ≡ of p
+ReadsAgain of encoding = (p : List ℕ) → IsBytes p → of (encoding (of p)) ≡ of p
 
 -- what was read is written in so many bytes
 abbrev pub HasSize : {V : Type 0} → ℕ → (List ℕ → V) → (V → List ℕ) → Type 0
-HasSize size of text = (p : List ℕ) → length (text (of p)) ≡ size
+HasSize size of encoding = (p : List ℕ) → length (encoding (of p)) ≡ size
 
 -- what was read is written as the payload, cut to the record's size or filled up with zeros
 abbrev pub WritesFilled : {V : Type 0} → ℕ → (List ℕ → V) → (V → List ℕ) → Type 0
-WritesFilled size of text = (p : List ℕ) → IsBytes p → text (of p) ≡ zero_filled size p
+WritesFilled size of encoding = (p : List ℕ) → IsBytes p → encoding (of p) ≡ zero_filled size p
 
-pub record RecordLaws {V : Type 0} (size : ℕ) (of : List ℕ → V) (text : V → List ℕ) : Type 0 where
+pub record RecordLaws {V : Type 0} (size : ℕ) (of : List ℕ → V) (encoding : V → List ℕ) : Type 0 where
   pub zeros : ZerosAfter of
   pub longer : BytesAfter size of
-  pub again : ReadsAgain of text
-  pub sized : HasSize size of text
+  pub again : ReadsAgain of encoding
+  pub sized : HasSize size of encoding

@@ -1,4 +1,4 @@
--- The numbers that bound canonical text. All but the first two follow from these.
+-- The numbers that bound canonical encoding. All but the first two follow from these.
 use Rattle.std.specs.Prelude.{ℕ, ◌+◌, ◌*◌, ◌/◌, ◌-◌}
 
 -- the most bytes that the value of an attribute may have: the length field counts four more
@@ -9,8 +9,8 @@ most_payload = 65531
 abbrev pub longest_filled : ℕ
 longest_filled = 312
 
--- the most bytes of canonical text for each whole four bytes that were read, where nothing is filled up: one byte of
--- payload takes eight
+-- the most bytes of canonical encoding for each whole four bytes that were read, where nothing is filled up: one byte
+-- of payload takes eight
 abbrev pub plain_growth : ℕ
 plain_growth = 8
 
@@ -26,7 +26,7 @@ slack = growth - plain_growth
 abbrev pub growth_per_byte : ℕ
 growth_per_byte = growth / 4
 
--- a list that was read from at most so many bytes has a text that fits into an attribute
+-- a list that was read from at most so many bytes has an encoding that fits into an attribute
 abbrev pub inner_small : ℕ
 inner_small = 4 * (most_payload / growth) + 3
 

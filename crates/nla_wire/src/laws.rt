@@ -2,14 +2,15 @@
 
 ghost use Rattle.std.specs.Prelude.{◌*◌, ◌+◌, length};
 ghost use Rattle.nla_wire.specs.Sizes.{growth_per_byte};
-ghost use Rattle.nla_wire.specs.Grammar.{list, picked, not_empty};
+ghost use Rattle.nla_wire.specs.Grammar.{list, members, not_empty};
 ghost use Rattle.nla_wire.specs.Canon.{canon, canons, AllFit, RoomWhereFit};
 ghost use Rattle.nla_wire.specs.FrameLaws.{SomeReading, OneListOfFrames, NeverBoth, OneFault, FramesAreSpellings};
 ghost use Rattle.nla_wire.specs.FrameLaws.{FaultIsAfter};
 
 use crate::buffer::NlaBuffer;
 use crate::nla::Nla;
-use crate::read::{NlaRead, OwnPlace, Place};
+use crate::place::Place;
+use crate::read::{NlaRead, OwnPlace};
 
 /// Every byte string has exactly one reading: its frames, or the frames in front of one fault.
 pub fn law_one_reading()
@@ -26,8 +27,8 @@ pub fn law_spellings()
     ensures fault { FaultIsAfter }
 {}
 
-/// `growth_per_byte` bytes of buffer for each byte of an attribute's header and payload are room for its canonical text
-/// at a place.
+/// `growth_per_byte` bytes of buffer for each byte of an attribute's header and payload are room for its canonical
+/// encoding at a place.
 pub fn law_place_room<V: Nla + Drop, P: Place<V>>(place: &P, buffer: &NlaBuffer<'_>)
     ensures { RoomWhereFit (λ v. canon (V.frame v)) V.fits ((P.grammar place.now).reads buffer.now)
         (growth_per_byte * (4 + length buffer.now.payload)) }
@@ -35,21 +36,15 @@ pub fn law_place_room<V: Nla + Drop, P: Place<V>>(place: &P, buffer: &NlaBuffer<
     buffer.is_frame();
 }
 
-/// `growth_per_byte` bytes of buffer for each byte of a list of members of a place are room for its canonical text.
+/// `growth_per_byte` bytes of buffer for each byte of a list of members of a place are room for its canonical encoding.
 pub fn law_members_room<V: Nla + Drop, P: Place<V>>(place: &P, bytes: &[u8])
     ensures { RoomWhereFit (canons V.frame) (AllFit V.fits V.frame)
-        ((list (P.grammar place.now)).reads bytes.now) (growth_per_byte * length bytes.now) }
-{}
-
-/// `growth_per_byte` bytes of buffer for each byte of a list whose members with another number than 1 are dropped are
-/// room for its canonical text.
-pub fn law_picked_room<V: Nla + Drop, P: Place<V>>(place: &P, bytes: &[u8])
-    ensures { RoomWhereFit (canons V.frame) (AllFit V.fits V.frame)
-        ((picked (P.grammar place.now)).reads bytes.now) (growth_per_byte * length bytes.now) }
+        ((members (P.picks place.now) (P.grammar place.now)).reads bytes.now)
+        (growth_per_byte * length bytes.now) }
 {}
 
 /// `growth_per_byte` bytes of buffer for each byte of an attribute's header and payload are room for its canonical
-/// text.
+/// encoding.
 pub fn law_room<N: NlaRead>(buffer: &NlaBuffer<'_>)
     ensures { RoomWhereFit (λ v. canon (N.frame v)) N.fits (N.grammar.reads buffer.now)
         (growth_per_byte * (4 + length buffer.now.payload)) }
@@ -57,7 +52,7 @@ pub fn law_room<N: NlaRead>(buffer: &NlaBuffer<'_>)
     law_place_room::<N, OwnPlace>(&OwnPlace, buffer);
 }
 
-/// `growth_per_byte` bytes of buffer for each byte of a list are room for its canonical text.
+/// `growth_per_byte` bytes of buffer for each byte of a list are room for its canonical encoding.
 pub fn law_list_room<N: NlaRead>(bytes: &[u8])
     ensures { RoomWhereFit (canons N.frame) (AllFit N.fits N.frame)
         ((list N.grammar).reads bytes.now) (growth_per_byte * length bytes.now) }

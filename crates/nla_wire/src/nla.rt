@@ -1,4 +1,4 @@
-//! What is written as an attribute: `Nla`, slices of attributes, and the attribute that is kept as it is.
+//! What is written as an attribute: `Nla`, and slices of attributes.
 
 ghost use Rattle.std.specs.Prelude.{◌≡◌, ◌+◌, ◌-◌, ◌<◌, ◌≤◌, ◌++◌, ◌↔◌, length, drop, IsTrue};
 ghost use Rattle.nla_wire.specs.Sizes.{most_payload};
@@ -11,8 +11,8 @@ use crate::write::{add_len, at_most_value, finish, padded_len};
 
 /// A value that is written as an attribute.
 ///
-/// The text of the value is the payload of its frame. The text of the attribute is the frame with its padding, which
-/// is zeros: length and kind of two bytes each, the value, and zeros up to a multiple of four (rtnetlink(7)).
+/// The encoding of the value is the payload of its frame. The encoding of the attribute is the frame with its padding,
+/// which is zeros: length and kind of two bytes each, the value, and zeros up to a multiple of four (rtnetlink(7)).
 pub trait Nla {
     ghost frame: { Self → Frame };
 
@@ -22,24 +22,24 @@ pub trait Nla {
     fn kind(&self) -> u16
         ensures { result ≡ (frame self.now).kind };
 
-    /// Whether the value's text has at most 65531 bytes, and all that is inside it fits.
+    /// Whether the value's encoding has at most 65531 bytes, and all that is inside it fits.
     fn fits(&self) -> bool
         ensures { IsTrue result ↔ fits self.now };
 
-    /// The length of the value's text, without header and padding.
+    /// The length of the value's encoding, without header and padding.
     fn value_len(&self) -> usize
         requires { fits self.now }
         ensures { result ≡ length (frame self.now).payload };
 
-    /// Fills the last bytes of the buffer with the value's text, and returns the place of its first byte. Earlier bytes
-    /// are kept.
+    /// Fills the last bytes of the buffer with the value's encoding, and returns the place of its first byte. Earlier
+    /// bytes are kept.
     fn fill_value(&self, buffer: &mut [u8]) -> usize
         requires fits { fits self.now }
         requires room { length (frame self.now).payload ≤ length buffer.old }
         ensures { Filled buffer.old buffer.new (frame self.now).payload result };
 
-    /// The length of the value's text, as `value_len` returns it; `None` where the value does not fit. A type overrides
-    /// it where one walk returns both.
+    /// The length of the value's encoding, as `value_len` returns it; `None` where the value does not fit. A type
+    /// overrides it where one walk returns both.
     fn measure(&self) -> Option<usize>
         ensures { Measures (fits self.now) (length (frame self.now).payload) result }
     {
@@ -49,8 +49,8 @@ pub trait Nla {
         Some(self.value_len())
     }
 
-    /// Writes the attribute's text to the front of the buffer, and returns its length. The rest of the buffer is kept.
-    /// A type overrides it where it writes front to back.
+    /// Writes the attribute's encoding to the front of the buffer, and returns its length. The rest of the buffer is
+    /// kept. A type overrides it where it writes front to back.
     fn write(&self, buffer: &mut [u8]) -> usize
         requires fits { fits self.now }
         requires room { length (canon (frame self.now)) ≤ length buffer.old }
@@ -63,7 +63,7 @@ pub trait Nla {
 
     ghost is_small: { (x : Self) → fits x → length (frame x).payload ≤ most_payload };
 
-    /// Writes the value's text into a buffer of exactly its length.
+    /// Writes the value's encoding into a buffer of exactly its length.
     final fn emit_value(&self, buffer: &mut [u8])
         requires fits { fits self.now }
         requires exact { length buffer.old ≡ length (frame self.now).payload }
@@ -72,7 +72,7 @@ pub trait Nla {
         let _start = self.fill_value(buffer);
     }
 
-    /// The length of the attribute's text, with header and padding.
+    /// The length of the attribute's encoding, with header and padding.
     final fn buffer_len(&self) -> usize
         requires { fits self.now }
         ensures { result ≡ length (canon (frame self.now)) }
@@ -80,8 +80,8 @@ pub trait Nla {
         padded_len(self.value_len())
     }
 
-    /// Fills the last bytes of the buffer with the attribute's text, and returns the place of its first byte. Earlier
-    /// bytes are kept.
+    /// Fills the last bytes of the buffer with the attribute's encoding, and returns the place of its first byte.
+    /// Earlier bytes are kept.
     final fn fill(&self, buffer: &mut [u8]) -> usize
         requires fits { fits self.now }
         requires room { length (canon (frame self.now)) ≤ length buffer.old }
@@ -91,7 +91,7 @@ pub trait Nla {
         close_frame(buffer, start, self.kind())
     }
 
-    /// Writes the attribute's text to the front of the buffer, and keeps the rest.
+    /// Writes the attribute's encoding to the front of the buffer, and keeps the rest.
     final fn emit(&self, buffer: &mut [u8])
         requires fits { fits self.now }
         requires room { length (canon (frame self.now)) ≤ length buffer.old }
@@ -102,8 +102,8 @@ pub trait Nla {
     }
 }
 
-/// The length of the text of the attributes, one after the other; `None` where one does not fit, or the length is no
-/// `usize`. It is a function of its own for each type, whose loop has the registers.
+/// The length of the encoding of the attributes, one after the other; `None` where one does not fit, or the length is
+/// no `usize`. It is a function of its own for each type, whose loop has the registers.
 #[inline(never)]
 pub fn nlas_measure<N: Nla>(nlas: &[N]) -> Option<usize>
     ensures { Measures (AllFit N.fits N.frame nlas.now) (length (canons N.frame nlas.now)) result }
@@ -121,7 +121,7 @@ pub fn nlas_measure<N: Nla>(nlas: &[N]) -> Option<usize>
     Some(len)
 }
 
-/// The same where the text is to be the value of an attribute: `None` too where it has more than 65531 bytes.
+/// The same where the encoding is to be the value of an attribute: `None` too where it has more than 65531 bytes.
 pub fn list_measure<N: Nla>(nlas: &[N]) -> Option<usize>
     ensures { Measures ((length (canons N.frame nlas.now) ≤ most_payload)
         × AllFit N.fits N.frame nlas.now) (length (canons N.frame nlas.now)) result }
@@ -132,14 +132,14 @@ pub fn list_measure<N: Nla>(nlas: &[N]) -> Option<usize>
     at_most_value(len)
 }
 
-/// Whether each attribute fits, and the length of their text is a `usize`.
+/// Whether each attribute fits, and the length of their encoding is a `usize`.
 pub fn nlas_fit<N: Nla>(nlas: &[N]) -> bool
     ensures { IsTrue result ↔ AllFit N.fits N.frame nlas.now }
 {
     nlas_measure(nlas).is_some()
 }
 
-/// The length of the text of the attributes, one after the other.
+/// The length of the encoding of the attributes, one after the other.
 pub fn nlas_buffer_len<N: Nla>(nlas: &[N]) -> usize
     requires { AllFit N.fits N.frame nlas.now }
     ensures { result ≡ length (canons N.frame nlas.now) }
@@ -151,7 +151,7 @@ pub fn nlas_buffer_len<N: Nla>(nlas: &[N]) -> usize
     len
 }
 
-/// Whether each attribute fits, and their text is one that the value of an attribute may have.
+/// Whether each attribute fits, and their encoding is one that the value of an attribute may have.
 pub fn list_fits<N: Nla>(nlas: &[N]) -> bool
     ensures { IsTrue result
         ↔ ((length (canons N.frame nlas.now) ≤ most_payload) × AllFit N.fits N.frame nlas.now) }
@@ -159,8 +159,8 @@ pub fn list_fits<N: Nla>(nlas: &[N]) -> bool
     list_measure(nlas).is_some()
 }
 
-/// Writes the texts of the attributes at the end of the buffer, the last attribute first, and returns where they start.
-/// The bytes before are kept.
+/// Writes the encodings of the attributes at the end of the buffer, the last attribute first, and returns where they
+/// start. The bytes before are kept.
 pub fn nlas_fill<N: Nla>(nlas: &[N], buffer: &mut [u8]) -> usize
     requires fit { AllFit N.fits N.frame nlas.now }
     requires room { length (canons N.frame nlas.now) ≤ length buffer.old }
@@ -175,8 +175,8 @@ pub fn nlas_fill<N: Nla>(nlas: &[N], buffer: &mut [u8]) -> usize
     start
 }
 
-/// Writes the texts of the attributes to the front of the buffer, one after the other, and returns their length. The
-/// rest of the buffer is kept.
+/// Writes the encodings of the attributes to the front of the buffer, one after the other, and returns their length.
+/// The rest of the buffer is kept.
 #[inline(never)]
 pub fn nlas_write<N: Nla>(nlas: &[N], buffer: &mut [u8]) -> usize
     requires fit { AllFit N.fits N.frame nlas.now }
@@ -190,8 +190,8 @@ pub fn nlas_write<N: Nla>(nlas: &[N], buffer: &mut [u8]) -> usize
     at
 }
 
-/// Writes the attribute of this kind whose value is the text of the attributes to the front of the buffer, and returns
-/// its length. The rest of the buffer is kept.
+/// Writes the attribute of this kind whose value is the encoding of the attributes to the front of the buffer, and
+/// returns its length. The rest of the buffer is kept.
 pub fn write_list<N: Nla>(kind: u16, nlas: &[N], buffer: &mut [u8]) -> usize
     requires small { length (canons N.frame nlas.now) ≤ most_payload }
     requires fit { AllFit N.fits N.frame nlas.now }
@@ -204,7 +204,7 @@ pub fn write_list<N: Nla>(kind: u16, nlas: &[N], buffer: &mut [u8]) -> usize
     finish(buffer, len, kind)
 }
 
-/// Writes the texts of the attributes to the front of the buffer, and keeps the rest.
+/// Writes the encodings of the attributes to the front of the buffer, and keeps the rest.
 pub fn emit_nlas<N: Nla>(nlas: &[N], buffer: &mut [u8])
     requires fit { AllFit N.fits N.frame nlas.now }
     requires room { length (canons N.frame nlas.now) ≤ length buffer.old }

@@ -80,7 +80,8 @@ pub trait Record<const SIZE: usize>: Sized {
         Ok(Self::read_front(payload))
     }
 
-    /// The length of the text of the record that a payload means as if zeros followed it: `SIZE`, whatever it holds.
+    /// The length of the encoding of the record that a payload means as if zeros followed it: `SIZE`, whatever it
+    /// holds.
     #[inline(always)]
     final fn measure_filled(_payload: &[u8]) -> Option<usize>
         requires { SIZE ≤ most_payload }
@@ -100,7 +101,7 @@ pub trait Record<const SIZE: usize>: Sized {
         SIZE
     }
 
-    /// The length of the text of the record that a payload means: `None` where it has fewer than `SIZE` bytes.
+    /// The length of the encoding of the record that a payload means: `None` where it has fewer than `SIZE` bytes.
     #[inline(always)]
     final fn measure_sized(payload: &[u8]) -> Option<usize>
         requires { SIZE ≤ most_payload }

@@ -134,8 +134,9 @@ fn utf8(bytes: &[u8]) -> Option<&str>
     None
 }
 
-/// Reads a text: one NUL at the end is dropped, and the rest has to be UTF-8, else `NotUtf8`. The empty payload is the
-/// empty text.
+/// Reads a text: one NUL at the end is dropped, and the rest has to be UTF-8. The empty payload is the empty text.
+///
+/// Refuses other bytes with `NotUtf8`; or with `OutOfMemory`, which says nothing of the bytes.
 #[inline(always)]
 pub fn parse_string(alloc: Global, bytes: &[u8]) -> Result<Text, DecodeError>
     ensures means { IfOk result (text.means bytes.now) }
@@ -148,8 +149,9 @@ pub fn parse_string(alloc: Global, bytes: &[u8]) -> Result<Text, DecodeError>
     }
 }
 
-/// `Ok` where the payload is a text, else the fault.
-fn text_fault(bytes: &[u8]) -> Result<(), DecodeError>
+/// `Ok` where the payload is a text, else the fault; for the proof: its clause cites the reader alone, and those of
+/// `check_string` follow.
+fn check_utf8(bytes: &[u8]) -> Result<(), DecodeError>
     ensures { Checks result (text.reads bytes.now) }
 {
     if is_utf8(without_nul(bytes)) {
@@ -166,5 +168,5 @@ pub fn check_string(bytes: &[u8]) -> Result<(), DecodeError>
     ensures memory { IfErr result (λ e. e.cause ≢ OutOfMemory) }
     ensures reads { Checks result (text.reads bytes.now) }
 {
-    text_fault(bytes)
+    check_utf8(bytes)
 }

@@ -1,4 +1,4 @@
-use Rattle.std.proofs.Common.{refl, arith, length, ◌-◌, ◌≡◌, ◌+◌, ◌/◌, ◌*◌, ℕ}
+use Rattle.std.proofs.Common.{refl, arith, length, ◌-◌, ◌≡◌, ℕ}
 use Rattle.nla_wire.specs.Frames.{missing}
 use Rattle.nla_wire.proofs.Placing.{frame_closed}
 use Rattle.nla_wire.proofs.fill.close_frame.Goals as goal

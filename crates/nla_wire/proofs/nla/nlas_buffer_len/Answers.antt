@@ -1,5 +1,5 @@
 use Rattle.std.proofs.Common.{arith}
-use Rattle.nla_wire.proofs.Members.{canons_up_to}
+use Rattle.nla_wire.proofs.Prefixes.{canons_up_to}
 use Rattle.nla_wire.proofs.nla.nlas_buffer_len.Goals as goal
 
 pub overflow_add-len : goal.overflow_add-len

@@ -1,6 +1,6 @@
 use Rattle.std.proofs.Common.{arith, length, ◌<◌, ◌≡◌, ◌-◌, ◌+◌, ◌≤◌}
 use Rattle.std.proofs.lemmas.List.{length-take-le}
-use Rattle.nla_wire.proofs.Members.{canons_from}
+use Rattle.nla_wire.proofs.Prefixes.{canons_from}
 use Rattle.nla_wire.proofs.nla.nlas_fill.Goals as goal
 
 pub fill-start-requires-clause-room : goal.fill-start-requires-clause-room

@@ -1,7 +1,7 @@
 use Rattle.std.proofs.Common.{ap, arith}
 use Rattle.nla_wire.specs.Frames.{missing}
 use Rattle.nla_wire.proofs.Bounds.{length-canon}
-use Rattle.nla_wire.proofs.Members.{canons_up_to}
+use Rattle.nla_wire.proofs.Prefixes.{canons_up_to}
 use Rattle.nla_wire.proofs.nla.nlas_measure.Goals as goal
 
 pub returns-in_default-add_len : goal.returns-in_default-add_len

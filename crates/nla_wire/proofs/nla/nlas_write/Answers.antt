@@ -1,5 +1,5 @@
 use Rattle.std.proofs.Common.{arith, length-take, length-drop}
-use Rattle.nla_wire.proofs.Members.{canons_up_to}
+use Rattle.nla_wire.proofs.Prefixes.{canons_up_to}
 use Rattle.nla_wire.proofs.nla.nlas_write.Goals as goal
 
 pub write-at-requires-clause-room : goal.write-at-requires-clause-room

@@ -9,16 +9,16 @@ use Rattle.nla_wire.proofs.text.check_string.Goals as goal
 
 pub returns-clause-found : goal.returns-clause-found
 returns-clause-found c = checks_found text text_agrees c.args.bytes.now
-    (all_bytes c.args.bytes.now (λ i. omega (arith, c.type_inv.bytes i))) c.text_fault.result c.text_fault.ensures
+    (all_bytes c.args.bytes.now (λ i. omega (arith, c.type_inv.bytes i))) c.check_utf8.result c.check_utf8.ensures
 
 pub returns-clause-fault : goal.returns-clause-fault
 returns-clause-fault c = checks_fault text text_agrees c.args.bytes.now
-    (all_bytes c.args.bytes.now (λ i. omega (arith, c.type_inv.bytes i))) c.text_fault.result c.text_fault.ensures
+    (all_bytes c.args.bytes.now (λ i. omega (arith, c.type_inv.bytes i))) c.check_utf8.result c.check_utf8.ensures
 
 pub returns-clause-refused : goal.returns-clause-refused
 returns-clause-refused c = checks_refused text text_agrees c.args.bytes.now
-    (all_bytes c.args.bytes.now (λ i. omega (arith, c.type_inv.bytes i))) c.text_fault.result c.text_fault.ensures
+    (all_bytes c.args.bytes.now (λ i. omega (arith, c.type_inv.bytes i))) c.check_utf8.result c.check_utf8.ensures
 
 pub returns-clause-memory : goal.returns-clause-memory
 returns-clause-memory c = checks_memory text text_agrees c.args.bytes.now (all_bytes c.args.bytes.now
-    (λ i. omega (arith, c.type_inv.bytes i))) memory_text c.text_fault.result c.text_fault.ensures
+    (λ i. omega (arith, c.type_inv.bytes i))) memory_text c.check_utf8.result c.check_utf8.ensures
