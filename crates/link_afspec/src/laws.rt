@@ -2,7 +2,7 @@
 //!
 //! Of each place: what was read from some frame there, if it fits, is read again from its canonical frame; so are the
 //! values of a list. A list's payload has at least four bytes for each value, those inside of others
-//! among them. Its canonical text has at most `plain_growth` bytes for each whole four bytes of the
+//! among them. Its canonical encoding has at most `plain_growth` bytes for each whole four bytes of the
 //! payload, where nothing is filled up; members of AF_INET and AF_INET6 may be records that are, and take `growth`; so
 //! does a list of such lists, with `slack` fewer for each member. A frame that no line of the table reads is kept: its
 //! kind, both flag bits and its payload come back.

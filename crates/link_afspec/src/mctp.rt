@@ -8,7 +8,7 @@ use crate::numbers::{IFLA_MCTP_NET, IFLA_MCTP_PHYS_BINDING};
 use link_vals::MctpPhysBinding;
 use nla_wire::error::checked;
 use nla_wire::{
-    CloneIn, Content, DecodeError, DefaultNla, Exact, Flat, Nla, NlaBuffer, NlaRead, measure_u8,
+    CloneIn, DecodeError, DefaultNla, Exact, Flat, FlatView, Nla, NlaBuffer, NlaRead, measure_u8,
     measure_u32, parse_u8, parse_u32, write_u8_payload, write_u32_payload, write_value,
 };
 use std::alloc::Global;
@@ -44,14 +44,14 @@ impl Flat for AfSpecMctp {
     ghost when_small = { af_spec_mctp_small };
 
     #[inline]
-    fn view(&self) -> (u16, Content<'_>) {
+    fn view(&self) -> (u16, FlatView<'_>) {
         match self {
-            AfSpecMctp::Net(net) => (IFLA_MCTP_NET, Content::U32(*net)),
+            AfSpecMctp::Net(net) => (IFLA_MCTP_NET, FlatView::U32(*net)),
             AfSpecMctp::PhysBinding(binding) => (
                 IFLA_MCTP_PHYS_BINDING,
-                Content::U8(u8::from(binding)),
+                FlatView::U8(u8::from(binding)),
             ),
-            AfSpecMctp::Other(nla) => (nla.kind(), Content::Bytes(nla.value())),
+            AfSpecMctp::Other(nla) => (nla.kind(), FlatView::Bytes(nla.value())),
         }
     }
 }

@@ -1,7 +1,7 @@
 //! Members of IFLA_PROTINFO of a bridge, which are kept undecoded.
 
 use nla_wire::{
-    CloneIn, Content, DecodeError, DefaultNla, Exact, Flat, Nla, NlaBuffer, NlaRead, write_value,
+    CloneIn, DecodeError, DefaultNla, Exact, Flat, FlatView, Nla, NlaBuffer, NlaRead, write_value,
 };
 use std::alloc::Global;
 
@@ -25,9 +25,9 @@ impl Flat for LinkProtoInfoBridge {
     ghost when_small = { link_proto_info_bridge_small };
 
     #[inline]
-    fn view(&self) -> (u16, Content<'_>) {
+    fn view(&self) -> (u16, FlatView<'_>) {
         let LinkProtoInfoBridge::Other(nla) = self;
-        (nla.kind(), Content::Bytes(nla.value()))
+        (nla.kind(), FlatView::Bytes(nla.value()))
     }
 }
 

@@ -3,7 +3,7 @@
 use crate::numbers::{DEVLINK_ATTR_BUS_NAME, DEVLINK_ATTR_DEV_NAME, DEVLINK_ATTR_PORT_INDEX};
 use nla_wire::error::checked;
 use nla_wire::{
-    CloneIn, Content, DecodeError, DefaultNla, Exact, Flat, Nla, NlaBuffer, NlaRead, Text,
+    CloneIn, DecodeError, DefaultNla, Exact, Flat, FlatView, Nla, NlaBuffer, NlaRead, Text,
     check_string, measure_text, measure_u32, parse_string, parse_u32, write_text_payload,
     write_u32_payload, write_value,
 };
@@ -35,12 +35,12 @@ impl Flat for DevlinkPort {
     ghost when_small = { devlink_port_small };
 
     #[inline]
-    fn view(&self) -> (u16, Content<'_>) {
+    fn view(&self) -> (u16, FlatView<'_>) {
         match self {
-            DevlinkPort::BusName(name) => (DEVLINK_ATTR_BUS_NAME, Content::Text(name.as_str())),
-            DevlinkPort::DevName(name) => (DEVLINK_ATTR_DEV_NAME, Content::Text(name.as_str())),
-            DevlinkPort::PortIndex(index) => (DEVLINK_ATTR_PORT_INDEX, Content::U32(*index)),
-            DevlinkPort::Other(nla) => (nla.kind(), Content::Bytes(nla.value())),
+            DevlinkPort::BusName(name) => (DEVLINK_ATTR_BUS_NAME, FlatView::Text(name.as_str())),
+            DevlinkPort::DevName(name) => (DEVLINK_ATTR_DEV_NAME, FlatView::Text(name.as_str())),
+            DevlinkPort::PortIndex(index) => (DEVLINK_ATTR_PORT_INDEX, FlatView::U32(*index)),
+            DevlinkPort::Other(nla) => (nla.kind(), FlatView::Bytes(nla.value())),
         }
     }
 }

@@ -3,7 +3,7 @@
 use crate::numbers::{IFLA_PROTO_DOWN_REASON_MASK, IFLA_PROTO_DOWN_REASON_VALUE};
 use nla_wire::error::checked;
 use nla_wire::{
-    CloneIn, Content, DecodeError, DefaultNla, Exact, Flat, Nla, NlaBuffer, NlaRead, measure_u32,
+    CloneIn, DecodeError, DefaultNla, Exact, Flat, FlatView, Nla, NlaBuffer, NlaRead, measure_u32,
     parse_u32, write_u32_payload, write_value,
 };
 use std::alloc::Global;
@@ -32,17 +32,17 @@ impl Flat for LinkProtocolDownReason {
     ghost when_small = { down_reason_small };
 
     #[inline]
-    fn view(&self) -> (u16, Content<'_>) {
+    fn view(&self) -> (u16, FlatView<'_>) {
         match self {
             LinkProtocolDownReason::Mask(mask) => (
                 IFLA_PROTO_DOWN_REASON_MASK,
-                Content::U32(*mask),
+                FlatView::U32(*mask),
             ),
             LinkProtocolDownReason::Value(value) => (
                 IFLA_PROTO_DOWN_REASON_VALUE,
-                Content::U32(*value),
+                FlatView::U32(*value),
             ),
-            LinkProtocolDownReason::Other(nla) => (nla.kind(), Content::Bytes(nla.value())),
+            LinkProtocolDownReason::Other(nla) => (nla.kind(), FlatView::Bytes(nla.value())),
         }
     }
 }

@@ -3,7 +3,7 @@
 use crate::numbers::DPLL_A_PIN_ID;
 use nla_wire::error::checked;
 use nla_wire::{
-    CloneIn, Content, DecodeError, DefaultNla, Exact, Flat, Nla, NlaBuffer, NlaRead, measure_u32,
+    CloneIn, DecodeError, DefaultNla, Exact, Flat, FlatView, Nla, NlaBuffer, NlaRead, measure_u32,
     parse_u32, write_u32_payload, write_value,
 };
 use std::alloc::Global;
@@ -30,10 +30,10 @@ impl Flat for DpllPin {
     ghost when_small = { dpll_pin_small };
 
     #[inline]
-    fn view(&self) -> (u16, Content<'_>) {
+    fn view(&self) -> (u16, FlatView<'_>) {
         match self {
-            DpllPin::PinId(id) => (DPLL_A_PIN_ID, Content::U32(*id)),
-            DpllPin::Other(nla) => (nla.kind(), Content::Bytes(nla.value())),
+            DpllPin::PinId(id) => (DPLL_A_PIN_ID, FlatView::U32(*id)),
+            DpllPin::Other(nla) => (nla.kind(), FlatView::Bytes(nla.value())),
         }
     }
 }

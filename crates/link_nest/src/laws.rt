@@ -1,7 +1,7 @@
 //! Laws of the inner lists, each the contract of a function that does nothing.
 //!
 //! Of each place: what was read from some frame there, if it fits, is read again from its canonical frame; so are the
-//! values of a list. A list's payload has at least four bytes for each value. Its canonical text has
+//! values of a list. A list's payload has at least four bytes for each value. Its canonical encoding has
 //! at most `plain_growth` bytes for each whole four bytes of the payload. A frame that no line of the
 //! table reads is kept: its kind, both flag bits and its payload come back.
 

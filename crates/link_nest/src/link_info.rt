@@ -2,7 +2,7 @@
 
 use crate::numbers::IFLA_INFO_KIND;
 use nla_wire::{
-    CloneIn, Content, DecodeError, DefaultNla, Exact, Flat, Nla, NlaBuffer, NlaRead, Text,
+    CloneIn, DecodeError, DefaultNla, Exact, Flat, FlatView, Nla, NlaBuffer, NlaRead, Text,
     check_string, measure_text, parse_string, write_text_payload, write_value,
 };
 use std::alloc::Global;
@@ -29,10 +29,10 @@ impl Flat for LinkInfo {
     ghost when_small = { link_info_small };
 
     #[inline]
-    fn view(&self) -> (u16, Content<'_>) {
+    fn view(&self) -> (u16, FlatView<'_>) {
         match self {
-            LinkInfo::Kind(kind) => (IFLA_INFO_KIND, Content::Text(kind.as_str())),
-            LinkInfo::Other(nla) => (nla.kind(), Content::Bytes(nla.value())),
+            LinkInfo::Kind(kind) => (IFLA_INFO_KIND, FlatView::Text(kind.as_str())),
+            LinkInfo::Other(nla) => (nla.kind(), FlatView::Bytes(nla.value())),
         }
     }
 }

@@ -2,7 +2,7 @@
 
 use crate::numbers::IFLA_ALT_IFNAME;
 use nla_wire::{
-    CloneIn, Content, DecodeError, DefaultNla, Exact, Flat, Nla, NlaBuffer, NlaRead, Text,
+    CloneIn, DecodeError, DefaultNla, Exact, Flat, FlatView, Nla, NlaBuffer, NlaRead, Text,
     check_string, measure_text, parse_string, write_text_payload, write_value,
 };
 use std::alloc::Global;
@@ -29,10 +29,10 @@ impl Flat for Prop {
     ghost when_small = { prop_small };
 
     #[inline]
-    fn view(&self) -> (u16, Content<'_>) {
+    fn view(&self) -> (u16, FlatView<'_>) {
         match self {
-            Prop::AltIfName(name) => (IFLA_ALT_IFNAME, Content::Text(name.as_str())),
-            Prop::Other(nla) => (nla.kind(), Content::Bytes(nla.value())),
+            Prop::AltIfName(name) => (IFLA_ALT_IFNAME, FlatView::Text(name.as_str())),
+            Prop::Other(nla) => (nla.kind(), FlatView::Bytes(nla.value())),
         }
     }
 }

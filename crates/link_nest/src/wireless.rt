@@ -2,7 +2,9 @@
 
 ghost use Rattle.std.specs.Prelude.{◌≡◌, ◌≢◌, ◌+◌, ◌≤◌, ◌↔◌, ◌⊎◌, length, IsTrue, IfOk, IfErr};
 ghost use Rattle.std.specs.Int.{to_le_bytes};
+ghost use Rattle.nla_wire.specs.Sizes.{most_payload};
 ghost use Rattle.nla_wire.specs.Canon.{Filled, Weighs, HasRoom, Rewrites, RoomWhereFit, Canonical, Writes};
+ghost use Rattle.nla_wire.specs.Canon.{MeansLength, MeansText, MeansWritten};
 ghost use Rattle.nla_wire.specs.Gives.{Gives, Checks};
 ghost use Rattle.nla_wire.specs.declared.error.Cause.TheVariants.{OutOfMemory};
 ghost use Rattle.link_nest.specs.Wireless.{wireless_event, wireless_text, WirelessFits, event_text, event_header};
@@ -44,7 +46,7 @@ fn header_of(len: u16, command: u16) -> [u8; 8]
 
 /// Fills the last bytes of the buffer with an event and its header, and returns the place of the first.
 fn fill_event(buffer: &mut [u8], command: u16, bytes: &[u8]) -> usize
-    requires small { 8 + length bytes.now ≤ 65531 }
+    requires small { 8 + length bytes.now ≤ most_payload }
     requires room { 8 + length bytes.now ≤ length buffer.old }
     ensures { Filled buffer.old buffer.new (event_text command bytes.now) result }
 {
@@ -55,7 +57,7 @@ fn fill_event(buffer: &mut [u8], command: u16, bytes: &[u8]) -> usize
 
 /// Writes an event with its header to the front of the buffer, and returns its length.
 fn write_event(out: &mut [u8], command: u16, bytes: &[u8]) -> usize
-    requires small { 8 + length bytes.now ≤ 65531 }
+    requires small { 8 + length bytes.now ≤ most_payload }
     requires room { 8 + length bytes.now ≤ length out.old }
     ensures { Writes (event_text command bytes.now) out.old out.new result }
 {
@@ -94,7 +96,7 @@ impl WirelessEvent {
     /// `Ok` where a payload is an event, else the fault; for the proof: its clause cites the reader alone, and those of
     /// `check` follow.
     #[tactic(auto, unfolding(nla_wire::specs::Payloads::read_sized))]
-    fn fault(payload: &[u8]) -> Result<(), DecodeError>
+    fn check_len(payload: &[u8]) -> Result<(), DecodeError>
         ensures { Checks result (wireless_event.reads payload.now) }
     {
         if payload.len() < HEADER_LEN {
@@ -113,14 +115,17 @@ impl WirelessEvent {
         ensures memory { IfErr result (λ e. e.cause ≢ OutOfMemory) }
         ensures reads { Checks result (wireless_event.reads payload.now) }
     {
-        WirelessEvent::fault(payload)
+        WirelessEvent::check_len(payload)
     }
 
     /// The length of the text of the event that a payload means, with no memory taken: `None` where it has more than
     /// 65531 bytes, or the payload is refused.
     #[tactic(auto, unfolding(nla_wire::specs::Payloads::read_sized))]
     pub fn measure(payload: &[u8]) -> Option<usize>
-        ensures { Weighs wireless_text WirelessFits (wireless_event.reads payload.now) result }
+        ensures means { MeansLength (wireless_event.means payload.now) wireless_text WirelessFits
+            result }
+        ensures reads { Weighs wireless_text WirelessFits (wireless_event.reads payload.now)
+            result }
     {
         if payload.len() < HEADER_LEN || payload.len() > MOST_VALUE_LEN {
             return None;
@@ -134,7 +139,10 @@ impl WirelessEvent {
     pub fn write(payload: &[u8], out: &mut [u8]) -> usize
         requires { HasRoom wireless_text WirelessFits (wireless_event.reads payload.now)
             (length out.old) }
-        ensures { Rewrites wireless_text (wireless_event.reads payload.now) out.old out.new result }
+        ensures means { MeansWritten (wireless_event.means payload.now) wireless_text
+            out.old out.new result }
+        ensures reads { Rewrites wireless_text (wireless_event.reads payload.now)
+            out.old out.new result }
     {
         match u16_at(payload, 2) {
             IWEVASSOCREQIE => write_event(out, IWEVASSOCREQIE, &payload[8..]),
@@ -146,12 +154,14 @@ impl WirelessEvent {
     /// Writes the text of the event that a payload means to the front of the buffer, with no memory taken, and returns
     /// its length. The rest of the buffer is kept.
     ///
-    /// There is room for that text: as many bytes as the payload has are enough. Returns `None` where the text has more
-    /// than 65531 bytes or the payload is refused, and changes nothing then.
+    /// There is room for that encoding: as many bytes as the payload has are enough. Returns `None` where the text has
+    /// more than 65531 bytes or the payload is refused, and changes nothing then.
     pub fn canon(payload: &[u8], out: &mut [u8]) -> Option<usize>
         requires room { RoomWhereFit wireless_text WirelessFits (wireless_event.reads payload.now)
             (length out.old) }
-        ensures { Canonical wireless_text WirelessFits
+        ensures means { MeansText (wireless_event.means payload.now) wireless_text WirelessFits
+            out.old out.new result }
+        ensures reads { Canonical wireless_text WirelessFits
             (wireless_event.reads payload.now) out.old out.new result }
     {
         let Some(_len) = WirelessEvent::measure(payload) else {

@@ -1,4 +1,4 @@
--- How long the records are that are filled up with zeros. The bound on canonical text is counted from the longest.
+-- How long the records are that are filled up with zeros. The bound on canonical encoding is counted from the longest.
 use Rattle.std.specs.Prelude.{◌≡◌, ◌≤◌, ℕ, List, [], ◌∷◌}
 use Rattle.std.specs.List.{AllByRecursion}
 use Rattle.nla_wire.specs.Sizes.{longest_filled}

@@ -6,6 +6,7 @@ pub mod Stats64Fields
 pub mod InetDevConfFields
 pub mod Inet6DevConfFields
 pub mod Inet6StatsFields
+pub mod Inet6StatsOrder
 pub mod Icmp6StatsFields
 pub mod Inet6CacheInfoFields
 pub mod MapFields

@@ -27,6 +27,7 @@ ghost use Rattle.link_recs.specs.Inet6DevConfFields.{inet6_dev_conf_bytes};
 ghost use Rattle.link_recs.specs.declared.inet6_stats.TheConstants.{INET6_STATS_COUNT};
 ghost use Rattle.link_recs.specs.Inet6StatsFields.{inet6_stats_size, inet6_stats_fields, inet6_stats_of};
 ghost use Rattle.link_recs.specs.Inet6StatsFields.{inet6_stats_bytes};
+ghost use Rattle.link_recs.specs.Inet6StatsOrder.{order_since_6_16, IsOrder};
 ghost use Rattle.link_recs.specs.declared.inet6_icmp.TheConstants.{ICMP6_STATS_COUNT};
 ghost use Rattle.link_recs.specs.Icmp6StatsFields.{icmp6_stats_size, icmp6_stats_fields, icmp6_stats_of};
 ghost use Rattle.link_recs.specs.Icmp6StatsFields.{icmp6_stats_bytes};
@@ -78,6 +79,11 @@ pub fn inet6_stats()
         inet6_stats_fields inet6_stats_of inet6_stats_bytes }
 {}
 
+/// The order of the counters since Linux 6.16 has each field of `Inet6Stats` once.
+pub fn inet6_stats_order()
+    ensures { IsOrder order_since_6_16 INET6_STATS_COUNT }
+{}
+
 /// `Icmp6Stats`.
 #[tactic(auto, using(crate::specs::Icmp6StatsFields::icmp6_stats_laws))]
 pub fn icmp6_stats()
@@ -93,7 +99,7 @@ pub fn inet6_cache_info()
 {}
 
 /// Of the records that are filled up with zeros none is longer than `longest_filled`, from which the bound on canonical
-/// text is counted, and `Inet6Stats` is just as long.
+/// encoding is counted, and `Inet6Stats` is just as long.
 #[tactic(auto, using(crate::proofs::FilledLemmas::none_is_longer, crate::proofs::FilledLemmas::one_is_as_long))]
 pub fn filled()
     ensures most { NoneIsLonger }

@@ -5,7 +5,7 @@ use mir.Val.{SFits}
 use Rattle.std.proofs.lemmas.Int.{to_z-of_z}
 use Rattle.std.proofs.lemmas.List.{length-take-le, take_all}
 use Rattle.nla_wire.specs.Canon.{Filled}
-use Rattle.nla_wire.proofs.Members.{Filled-more}
+use Rattle.nla_wire.proofs.Prefixes.{Filled-more}
 use Rattle.link_afspec.specs.Requests.{settings_of, setting_text, settings_text}
 use Rattle.link_afspec.proofs.Requests.{request_from, request_end, request_whole, request_after}
 use Rattle.link_afspec.proofs.request.fill_request.Goals as goal
