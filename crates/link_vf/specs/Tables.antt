@@ -37,6 +37,7 @@ use Rattle.link_vf.specs.declared.vf_port.VfPort.TheVariants as port
 use Rattle.link_vf.specs.contracts.vf_port.VfPort.{enum as ports}
 use Rattle.link_vf.specs.declared.vf_list.LinkVfInfo.{LinkVfInfo}
 use Rattle.link_vf.specs.declared.port_list.LinkVfPort.{LinkVfPort}
+use Rattle.link_vf.specs.Entries.{IsEntry, is_entry}
 
 -- members of IFLA_VF_STATS
 abbrev pub vf_stats_table : Table no_shapes statistics always
@@ -123,6 +124,12 @@ pub link_vf_info_ones : (v : LinkVfInfo) → number (link_vf_info_place.frame v)
 unfolding link_vf_info_place
 link_vf_info_ones v = refl
 
+pub link_vf_info_entries : IsEntry link_vf_info_of link_vf_info_members IFLA_VF_INFO vf_info_place link_vf_info_place
+    plain_growth 0
+unfolding link_vf_info_place vf_info_place
+link_vf_info_entries =
+    is_entry link_vf_info_of link_vf_info_members vf_info_place (λ vs. refl) IFLA_VF_INFO (lit< tt) refl tt tt
+
 -- IFLA_VFINFO_LIST, whose other entries are dropped unread
 abbrev pub vf_info_list : Codec (List LinkVfInfo)
 vf_info_list = picked_of link_vf_info_place link_vf_info_ones
@@ -146,6 +153,12 @@ link_vf_port_place =
 pub link_vf_port_ones : (v : LinkVfPort) → number (link_vf_port_place.frame v) ≡ 1
 unfolding link_vf_port_place
 link_vf_port_ones v = refl
+
+pub link_vf_port_entries : IsEntry link_vf_port_of link_vf_port_members IFLA_VF_PORT vf_port_place link_vf_port_place
+    plain_growth 0
+unfolding link_vf_port_place vf_port_place
+link_vf_port_entries =
+    is_entry link_vf_port_of link_vf_port_members vf_port_place (λ vs. refl) IFLA_VF_PORT (lit< tt) refl tt tt
 
 -- IFLA_VF_PORTS, whose other entries are dropped unread
 abbrev pub vf_port_list : Codec (List LinkVfPort)

@@ -2,25 +2,25 @@
 //!
 //! Of each place: what was read from some frame there, if it fits, is read again from its canonical frame; so are the
 //! values of a list. A list's payload has at least four bytes for each value, those inside of others
-//! among them. Its canonical text has at most `plain_growth` bytes for each whole four bytes of the
+//! among them. Its canonical encoding has at most `plain_growth` bytes for each whole four bytes of the
 //! payload. A frame that no line of the table reads is kept: its kind, both flag bits and its payload come back.
 //! The only frames that are not kept are those with other numbers in IFLA_VFINFO_LIST and in IFLA_VF_PORTS, which are
 //! dropped.
 
 ghost use Rattle.std.specs.Prelude.{◌≡◌, ◌*◌, [], ◌∷◌, length, true};
 ghost use Rattle.nla_wire.specs.Sizes.{plain_growth, growth_per_byte};
+ghost use Rattle.nla_wire.specs.Grammar.{picked};
 ghost use Rattle.nla_wire.specs.Canon.{canon, canons, AllFit, RoomWhereFit};
 ghost use Rattle.nla_wire.specs.PlaceLaws.{ReadsBack, ListReadsBack, ListsBounded};
 ghost use Rattle.nla_wire.proofs.Codec.{IsLawful};
 ghost use Rattle.link_vf.specs.Tables.{vf_stats_place, vf_vlan_place, vf_info_place, vf_port_place};
-ghost use Rattle.link_vf.specs.Tables.{link_vf_info_place, link_vf_port_place, vf_info_list, vf_port_list};
-ghost use Rattle.link_vf.specs.Tables.{link_vf_info, link_vf_port, link_vf_info_members, link_vf_port_members};
+ghost use Rattle.link_vf.specs.Entries.{entry};
 ghost use Rattle.link_vf.specs.Dropped.{OthersDropped};
 ghost use Rattle.link_vf.specs.declared.stats.VfStats.TheVariants as stats;
 ghost use Rattle.link_vf.specs.declared.vf_info.VfInfo.TheVariants as info;
 
-use crate::{LinkVfInfo, LinkVfPort, VfInfo, VfPort, port_list, vf_list};
-use nla_wire::laws::{law_picked_room, law_some_room};
+use crate::entry::{Entry, EntryPlace};
+use nla_wire::laws::{law_members_room, law_some_room};
 
 /// `VfStats`, members of IFLA_VF_STATS.
 pub fn law_vf_stats()
@@ -42,56 +42,29 @@ pub fn law_vf_port()
     ensures { IsLawful plain_growth 0 vf_port_place }
 {}
 
-/// `LinkVfInfo`, entries of IFLA_VFINFO_LIST, which have the number of IFLA_VF_INFO. Frames of other numbers are
-/// dropped: they can be anywhere in the list, and it means the same. All other places keep what no line reads.
-pub fn law_link_vf_info()
-    ensures member { ReadsBack link_vf_info_place.grammar.means link_vf_info_place.frame
-        link_vf_info_place.Fits }
-    ensures again { ListReadsBack vf_info_list.grammar.means link_vf_info_place.frame
-        link_vf_info_place.Fits }
-    ensures bounds { ListsBounded plain_growth 0 vf_info_list.grammar.means link_vf_info_place.count
-        link_vf_info_place.frame }
-    ensures dropped { OthersDropped vf_info_list.grammar }
+/// `LinkVfInfo`, entries of IFLA_VFINFO_LIST, and `LinkVfPort`, entries of IFLA_VF_PORTS, which have the number of
+/// IFLA_VF_INFO and of IFLA_VF_PORT. Frames of other numbers are dropped: they can be anywhere in the list, and it
+/// means the same. All other places keep what no line reads.
+pub fn law_entries<E: Entry>()
+    ensures member { ReadsBack E.Entry.grammar.means E.frame E.fits }
+    ensures again { ListReadsBack (picked E.Entry.grammar).means E.frame E.fits }
+    ensures bounds { ListsBounded plain_growth 0 (picked E.Entry.grammar).means E.Entry.count
+        E.frame }
+    ensures dropped { OthersDropped (picked E.Entry.grammar) }
 {}
 
 /// `growth_per_byte` bytes of buffer for each byte of an entry's payload, and of a list of entries, are room for the
-/// canonical text.
-pub fn law_link_vf_info_room(payload: &[u8])
-    ensures entry { RoomWhereFit link_vf_info.text
-        (λ v. AllFit vf_info_place.Fits vf_info_place.frame (link_vf_info_members v))
-        (link_vf_info.grammar.reads payload.now) (growth_per_byte * length payload.now) }
-    ensures entries { RoomWhereFit (canons link_vf_info_place.frame)
-        (AllFit link_vf_info_place.Fits link_vf_info_place.frame)
-        (vf_info_list.grammar.reads payload.now) (growth_per_byte * length payload.now) }
+/// canonical encoding.
+pub fn law_entries_room<E: Entry>(payload: &[u8])
+    ensures entry { RoomWhereFit (λ v. canons E.Member.frame (E.Entry.members v))
+        (λ v. AllFit E.Member.fits E.Member.frame (E.Entry.members v))
+        ((entry E.Entry.of E.Member.grammar).reads payload.now)
+        (growth_per_byte * length payload.now) }
+    ensures entries { RoomWhereFit (canons E.frame) (AllFit E.fits E.frame)
+        ((picked E.Entry.grammar).reads payload.now) (growth_per_byte * length payload.now) }
 {
-    law_some_room::<VfInfo>(payload);
-    law_picked_room::<LinkVfInfo, vf_list::EntryPlace>(&vf_list::EntryPlace, payload);
-}
-
-/// `LinkVfPort`, entries of IFLA_VF_PORTS, which have the number of IFLA_VF_PORT. Frames of other numbers are dropped:
-/// they can be anywhere in the list, and it means the same. All other places keep what no line reads.
-pub fn law_link_vf_port()
-    ensures member { ReadsBack link_vf_port_place.grammar.means link_vf_port_place.frame
-        link_vf_port_place.Fits }
-    ensures again { ListReadsBack vf_port_list.grammar.means link_vf_port_place.frame
-        link_vf_port_place.Fits }
-    ensures bounds { ListsBounded plain_growth 0 vf_port_list.grammar.means link_vf_port_place.count
-        link_vf_port_place.frame }
-    ensures dropped { OthersDropped vf_port_list.grammar }
-{}
-
-/// `growth_per_byte` bytes of buffer for each byte of an entry's payload, and of a list of entries, are room for the
-/// canonical text.
-pub fn law_link_vf_port_room(payload: &[u8])
-    ensures entry { RoomWhereFit link_vf_port.text
-        (λ v. AllFit vf_port_place.Fits vf_port_place.frame (link_vf_port_members v))
-        (link_vf_port.grammar.reads payload.now) (growth_per_byte * length payload.now) }
-    ensures entries { RoomWhereFit (canons link_vf_port_place.frame)
-        (AllFit link_vf_port_place.Fits link_vf_port_place.frame)
-        (vf_port_list.grammar.reads payload.now) (growth_per_byte * length payload.now) }
-{
-    law_some_room::<VfPort>(payload);
-    law_picked_room::<LinkVfPort, port_list::EntryPlace>(&port_list::EntryPlace, payload);
+    law_some_room::<E::Member>(payload);
+    law_members_room::<E, EntryPlace>(&EntryPlace, payload);
 }
 
 /// One packet received is written as the length 12, the number 0, and eight bytes, lowest first.

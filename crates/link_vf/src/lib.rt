@@ -1,6 +1,7 @@
 //! Virtual functions and ports of link messages: statistics, vlans, and the lists of functions and of ports.
 #![tactic(auto)]
 
+pub mod entry;
 pub mod laws;
 pub mod numbers;
 pub mod port_list;
@@ -10,6 +11,7 @@ pub mod vf_list;
 pub mod vf_port;
 pub mod vf_vlan;
 
+pub use entry::{Entry, EntryPlace};
 pub use port_list::LinkVfPort;
 pub use stats::VfStats;
 pub use vf_info::VfInfo;

@@ -7,7 +7,7 @@ use crate::numbers::{
 };
 use nla_wire::error::checked;
 use nla_wire::{
-    CloneIn, Content, DecodeError, DefaultNla, Exact, Flat, Nla, NlaBuffer, NlaRead, measure_u64,
+    CloneIn, DecodeError, DefaultNla, Exact, Flat, FlatView, Nla, NlaBuffer, NlaRead, measure_u64,
     parse_u64, write_u64_payload, write_value,
 };
 use std::alloc::Global;
@@ -48,17 +48,17 @@ impl Flat for VfStats {
     ghost when_small = { vf_stats_small };
 
     #[inline]
-    fn view(&self) -> (u16, Content<'_>) {
+    fn view(&self) -> (u16, FlatView<'_>) {
         match self {
-            VfStats::RxPackets(n) => (IFLA_VF_STATS_RX_PACKETS, Content::U64(*n)),
-            VfStats::TxPackets(n) => (IFLA_VF_STATS_TX_PACKETS, Content::U64(*n)),
-            VfStats::RxBytes(n) => (IFLA_VF_STATS_RX_BYTES, Content::U64(*n)),
-            VfStats::TxBytes(n) => (IFLA_VF_STATS_TX_BYTES, Content::U64(*n)),
-            VfStats::Broadcast(n) => (IFLA_VF_STATS_BROADCAST, Content::U64(*n)),
-            VfStats::Multicast(n) => (IFLA_VF_STATS_MULTICAST, Content::U64(*n)),
-            VfStats::RxDropped(n) => (IFLA_VF_STATS_RX_DROPPED, Content::U64(*n)),
-            VfStats::TxDropped(n) => (IFLA_VF_STATS_TX_DROPPED, Content::U64(*n)),
-            VfStats::Other(nla) => (nla.kind(), Content::Bytes(nla.value())),
+            VfStats::RxPackets(n) => (IFLA_VF_STATS_RX_PACKETS, FlatView::U64(*n)),
+            VfStats::TxPackets(n) => (IFLA_VF_STATS_TX_PACKETS, FlatView::U64(*n)),
+            VfStats::RxBytes(n) => (IFLA_VF_STATS_RX_BYTES, FlatView::U64(*n)),
+            VfStats::TxBytes(n) => (IFLA_VF_STATS_TX_BYTES, FlatView::U64(*n)),
+            VfStats::Broadcast(n) => (IFLA_VF_STATS_BROADCAST, FlatView::U64(*n)),
+            VfStats::Multicast(n) => (IFLA_VF_STATS_MULTICAST, FlatView::U64(*n)),
+            VfStats::RxDropped(n) => (IFLA_VF_STATS_RX_DROPPED, FlatView::U64(*n)),
+            VfStats::TxDropped(n) => (IFLA_VF_STATS_TX_DROPPED, FlatView::U64(*n)),
+            VfStats::Other(nla) => (nla.kind(), FlatView::Bytes(nla.value())),
         }
     }
 }

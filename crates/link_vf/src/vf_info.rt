@@ -62,7 +62,7 @@ pub enum VfInfo {
     Other(DefaultNla),
 }
 
-/// The number of bytes of a hardware address.
+/// The number of bytes of a hardware address: 36; for the proof: it is counted.
 #[tactic(auto, unfolding(link_vfrec::specs::Records::vf_info_mac_bytes))]
 fn mac_len(mac: &VfInfoMac) -> usize
     ensures { result ≡ length (vf_info_mac_bytes mac.now) }
@@ -71,7 +71,7 @@ fn mac_len(mac: &VfInfoMac) -> usize
     4 + address.len()
 }
 
-/// The number of bytes of a broadcast address.
+/// The number of bytes of a broadcast address: 32; for the proof: it is counted.
 #[tactic(auto, unfolding(link_vfrec::specs::Records::vf_info_broadcast_bytes))]
 fn broadcast_len(broadcast: &VfInfoBroadcast) -> usize
     ensures { result ≡ length (vf_info_broadcast_bytes broadcast.now) }
@@ -171,6 +171,7 @@ impl Nla for VfInfo {
 
     fn measure(&self) -> Option<usize> {
         match self {
+            // for the proof: 36 bytes are fewer
             VfInfo::Mac(mac) => at_most_value(mac_len(mac)),
             VfInfo::Vlan(vlan) => Some(vlan.buffer_len()),
             VfInfo::TxRate(rate) => Some(rate.buffer_len()),
@@ -183,6 +184,7 @@ impl Nla for VfInfo {
             VfInfo::IbPortGuid(guid) => Some(guid.buffer_len()),
             VfInfo::Stats(members) => list_measure(members.as_slice()),
             VfInfo::VlanList(members) => list_measure(members.as_slice()),
+            // for the proof: 32 bytes are fewer
             VfInfo::Broadcast(broadcast) => at_most_value(broadcast_len(broadcast)),
             VfInfo::Other(nla) => nla.measure(),
         }
@@ -219,7 +221,7 @@ impl Nla for VfInfo {
 /// The record that an attribute is, if its number is one of a record: no memory is taken.
 #[inline(always)]
 #[tactic(auto, unfolding(crate::proofs::Opened::vf_info), using(crate::proofs::Lengths::address_lengths))]
-fn read_record(buffer: &NlaBuffer<'_>) -> Option<Result<VfInfo, DecodeError>>
+fn parse_record(buffer: &NlaBuffer<'_>) -> Option<Result<VfInfo, DecodeError>>
     ensures reads { MatchOption result
         (number buffer.now ≢ IFLA_VF_STATS → number buffer.now ≢ IFLA_VF_VLAN_LIST
         → vf_info_place.grammar.reads buffer.now ≡ Ok (Other buffer.now))
@@ -304,7 +306,7 @@ impl NlaRead for VfInfo {
             IFLA_VF_VLAN_LIST => VfVlan::parse_list(alloc, buffer.value()).map(|v| VfInfo::VlanList(
                 List::new(v),
             )),
-            _ => match read_record(buffer) {
+            _ => match parse_record(buffer) {
                 Some(info) => info,
                 None => DefaultNla::parse(alloc, buffer).map(VfInfo::Other),
             },
@@ -316,7 +318,7 @@ impl NlaRead for VfInfo {
         match buffer.kind() {
             IFLA_VF_STATS => VfStats::check_list(buffer.value()),
             IFLA_VF_VLAN_LIST => VfVlan::check_list(buffer.value()),
-            _ => match read_record(buffer) {
+            _ => match parse_record(buffer) {
                 Some(read) => checked(read),
                 None => Ok(()),
             },

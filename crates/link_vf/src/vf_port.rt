@@ -1,7 +1,7 @@
 //! What is said of a port, members of IFLA_VF_PORT and of IFLA_PORT_SELF.
 
 use nla_wire::{
-    CloneIn, Content, DecodeError, DefaultNla, Exact, Flat, Nla, NlaBuffer, NlaRead, write_value,
+    CloneIn, DecodeError, DefaultNla, Exact, Flat, FlatView, Nla, NlaBuffer, NlaRead, write_value,
 };
 use std::alloc::Global;
 
@@ -25,9 +25,9 @@ impl Flat for VfPort {
     ghost when_small = { vf_port_small };
 
     #[inline]
-    fn view(&self) -> (u16, Content<'_>) {
+    fn view(&self) -> (u16, FlatView<'_>) {
         match self {
-            VfPort::Other(nla) => (nla.kind(), Content::Bytes(nla.value())),
+            VfPort::Other(nla) => (nla.kind(), FlatView::Bytes(nla.value())),
         }
     }
 }
