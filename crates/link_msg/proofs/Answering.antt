@@ -82,7 +82,7 @@ pub refused_for : (b : List ℕ) (e : DecodeError) → (e.cause ≢ OutOfMemory 
     → (e.cause ≢ OutOfMemory → MeansNothing b) → IsRefusal b (refusal_of e)
 refused_for b e fault none = refused_as b e e.cause refl fault none
 
--- the canonical text of an accepted message
+-- the canonical encoding of an accepted message
 pub accepted_text : (b t : List ℕ) (m : LinkMessage) → IsBytes b → IsAccepted b m → t ≡ message_text m → HasText b t
 accepted_text b t m bytes h is = record {
   message = m;

@@ -1,4 +1,4 @@
--- Attributes whose canonical text is the frame as it is spelled.
+-- Attributes whose canonical encoding is the frame as it is spelled.
 use Rattle.std.proofs.Common.{◌≡◌, ℕ, List, [], ◌∷◌, ◌++◌, length, drop, refl, sym, ap, ap₂, subst, ◌∙◌, arith, inl}
 use Rattle.std.proofs.Common.{inr, Some, None, Result, Ok, Err, append-nil, length-append}
 use Rattle.std.proofs.lemmas.List.{drop_all}
@@ -16,7 +16,7 @@ use Rattle.link_recs.specs.StatsFields.{stats_size, stats_of, stats_bytes, stats
 use Rattle.link_recs.specs.Stats64Fields.{stats64_size, stats64_of, stats64_bytes, stats64_laws}
 use Rattle.link_vals.specs.declared.address_family.AddressFamily.{AddressFamily}
 use Rattle.link_msg.specs.Tables.{base, attribute_place, attribute_way, as_way}
-use Rattle.link_msg.specs.Runs.{attribute_text, IsCopied}
+use Rattle.link_msg.specs.Prefixes.{attribute_text, IsCopied}
 use Rattle.link_msg.specs.declared.shape.Shape.{Shape}
 use Rattle.link_msg.specs.declared.shape.Shape.TheVariants as Shapes
 use Rattle.link_msg.specs.declared.attribute.LinkAttribute.{LinkAttribute}

@@ -1,5 +1,5 @@
--- What the walk that measures tells beside the length: empty lists of ports, by the length of their text. What stands
--- after the run in front is measured, and the run counts as long as it is.
+-- What the walk that measures tells beside the length: empty lists of ports, by the length of their encoding. What
+-- stands after the copied prefix is measured, and the prefix counts as long as it is.
 use Rattle.std.proofs.Common.{◌≡◌, ◌≢◌, ℕ, ◌+◌, ◌^◌, ◌<◌, List, [], ◌∷◌, ◌++◌, length, drop, refl, sym, ap, ◌∙◌, arith}
 use Rattle.std.proofs.Common.{Result, Ok, Err, Some, None, Bool, true, false, MatchBool, length-append, append-nil}
 use Rattle.std.proofs.Common.{flat_map, subst}
@@ -19,9 +19,9 @@ use Rattle.link_vf.specs.declared.port_list.LinkVfPort.{LinkVfPort}
 use Rattle.link_msg.specs.Tables.{attribute_frame, AttributeFits, attribute_view, attribute_entries, NotEmptyPorts}
 use Rattle.link_msg.specs.Tables.{attribute_place, attribute_lawful, attribute_number}
 use Rattle.link_msg.specs.declared.numbers.TheConstants.{IFLA_VF_PORTS}
-use Rattle.link_msg.specs.Runs.{IsOwnText, CanBeWritten, IsCopiedRun, attribute_text}
+use Rattle.link_msg.specs.Prefixes.{IsOwnText, CanBeWritten, IsCopiedPrefix, attribute_text}
 use Rattle.link_msg.specs.Canonical.{ListWeighs, ListMeasures}
-use Rattle.link_msg.proofs.Runs.{whole_from, run_sizes, all_after, all_both}
+use Rattle.link_msg.proofs.Prefixes.{whole_from, prefix_sizes, all_after, all_both}
 use Rattle.link_msg.specs.declared.attribute.LinkAttribute.{LinkAttribute}
 use Rattle.link_msg.specs.declared.attribute.LinkAttribute.TheVariants as Attributes
 
@@ -206,7 +206,7 @@ own_text family f one w same never =
     let number_is : number (attribute_frame k.0) ≡ number f = attribute_number family f k.0 means in
     (k.0, k.1, (k.2, some_ports k.0 (λ n. never (sym number_is ∙ n.0, k.3 ∙ n.1))), same k.0 k.1)
 
--- ** the run, and what stands after it
+-- ** the prefix, and what stands after it
 
 fits_all : (vs : List LinkAttribute) → AllByRecursion CanBeWritten vs → AllByRecursion AttributeFits vs
 fits_all [] all = tt
@@ -216,19 +216,19 @@ ports_all : (vs : List LinkAttribute) → AllByRecursion CanBeWritten vs → All
 ports_all [] all = tt
 ports_all (v ∷ vs) all = (all.0.1, ports_all vs all.1)
 
-module _ (family : AddressFamily) (b : List ℕ) (run : ℕ) (h : IsCopiedRun family b run) where
+module _ (family : AddressFamily) (b : List ℕ) (prefix : ℕ) (h : IsCopiedPrefix family b prefix) where
   abbrev reads_rest : Result (List LinkAttribute) Cause
-  reads_rest = list_of (attribute_place family).reads (drop run b)
+  reads_rest = list_of (attribute_place family).reads (drop prefix b)
 
   abbrev reads_all : Result (List LinkAttribute) Cause
   reads_all = list_of (attribute_place family).reads b
 
   whole : (r : Result (List LinkAttribute) Cause) → reads_rest ≡ r → reads_all ≡ with_front h.0.front r
-  whole = whole_from (attribute_place family).reads attribute_text b run h.0
+  whole = whole_from (attribute_place family).reads attribute_text b prefix h.0
 
   sizes : (others : List LinkAttribute) → length (canons attribute_frame (h.0.front ++ others))
-      ≡ run + length (canons attribute_frame others)
-  sizes = run_sizes (attribute_place family).reads attribute_text b run h.0
+      ≡ prefix + length (canons attribute_frame others)
+  sizes = prefix_sizes (attribute_place family).reads attribute_text b prefix h.0
 
   ports_both : (others : List LinkAttribute) (empty : Bool)
       → MatchBool empty (AllByRecursion NotEmptyPorts others → ⊥) (AllByRecursion NotEmptyPorts others)
@@ -238,11 +238,11 @@ module _ (family : AddressFamily) (b : List ℕ) (run : ℕ) (h : IsCopiedRun fa
   ports_both others false all = all_both NotEmptyPorts h.0.front others (ports_all h.0.front h.1) all
 
   some_by : (r : Result (List LinkAttribute) Cause) → reads_rest ≡ r → (after : ℕ) (empty : Bool)
-      → ListWeighs r (Some (after, empty)) → run + after < 2 ^ 64
-      → ListWeighs reads_all (Some (run + after, empty))
+      → ListWeighs r (Some (after, empty)) → prefix + after < 2 ^ 64
+      → ListWeighs reads_all (Some (prefix + after, empty))
   some_by (Ok others) e after empty w small =
       let size = sizes others in
-      subst (λ r. ListWeighs r (Some (run + after, empty))) (sym (whole (Ok others) e)) (
+      subst (λ r. ListWeighs r (Some (prefix + after, empty))) (sym (whole (Ok others) e)) (
         (
           all_both AttributeFits h.0.front others (fits_all h.0.front h.1) w.0.0,
           omega (arith, size, w.1, small),
@@ -259,31 +259,31 @@ module _ (family : AddressFamily) (b : List ℕ) (run : ℕ) (h : IsCopiedRun fa
   none_by (Err c) e unfit = subst (λ r. ListWeighs r None) (sym (whole (Err c) e)) tt
 
   long_by : (r : Result (List LinkAttribute) Cause) → reads_rest ≡ r → (after : ℕ) (empty : Bool)
-      → ListWeighs r (Some (after, empty)) → (run + after < 2 ^ 64 → ⊥) → ListWeighs reads_all None
+      → ListWeighs r (Some (after, empty)) → (prefix + after < 2 ^ 64 → ⊥) → ListWeighs reads_all None
   long_by (Ok others) e after empty w long =
       subst (λ r. ListWeighs r None) (sym (whole (Ok others) e))
       (λ fits. long (omega (arith, fits.1, sizes others, w.1)))
   long_by (Err c) e after empty w long = absurd w
 
-  module _ (rest : List ℕ) (rest_is : rest ≡ drop run b) where
+  module _ (rest : List ℕ) (rest_is : rest ≡ drop prefix b) where
     rest_reads : reads_rest ≡ list_of (attribute_place family).reads rest
     rest_reads = ap (list_of (attribute_place family).reads) (sym rest_is)
 
-    pub run_some : (after : ℕ) (empty : Bool)
+    pub prefix_some : (after : ℕ) (empty : Bool)
         → ListWeighs ((list (attribute_place family)).reads rest) (Some (after, empty)) → (total : ℕ)
-        → total ≡ run + after → total < 2 ^ 64 → ListMeasures family b (Some (total, empty, run))
-    run_some after empty w total total_is small = (
+        → total ≡ prefix + after → total < 2 ^ 64 → ListMeasures family b (Some (total, empty, prefix))
+    prefix_some after empty w total total_is small = (
       subst (λ n. ListWeighs reads_all (Some (n, empty))) (sym total_is)
           (some_by (list_of (attribute_place family).reads rest) rest_reads after empty w
           (omega (arith, total_is, small))),
       h.0,
     )
 
-    pub run_none : ListWeighs ((list (attribute_place family)).reads rest) None → ListMeasures family b None
-    run_none w = none_by (list_of (attribute_place family).reads rest) rest_reads w
+    pub prefix_none : ListWeighs ((list (attribute_place family)).reads rest) None → ListMeasures family b None
+    prefix_none w = none_by (list_of (attribute_place family).reads rest) rest_reads w
 
-    pub run_long : (after : ℕ) (empty : Bool)
+    pub prefix_long : (after : ℕ) (empty : Bool)
         → ListWeighs ((list (attribute_place family)).reads rest) (Some (after, empty))
-        → (run + after < 2 ^ 64 → ⊥) → ListMeasures family b None
-    run_long after empty w long =
+        → (prefix + after < 2 ^ 64 → ⊥) → ListMeasures family b None
+    prefix_long after empty w long =
         long_by (list_of (attribute_place family).reads rest) rest_reads after empty w long

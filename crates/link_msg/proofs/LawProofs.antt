@@ -1,7 +1,7 @@
 -- The laws of messages.
-use Rattle.std.proofs.Common.{arith, ◌≡◌, ℕ, ◌^◌, ◌<◌, List, [], ◌∷◌, ◌++◌, length, drop, sym, ap, ◌∙◌, subst}
+use Rattle.std.proofs.Common.{arith, ◌≡◌, ℕ, ◌^◌, ◌<◌, List, [], ◌∷◌, ◌++◌, length, drop, take, sym, ap, ◌∙◌, subst}
 use Rattle.std.specs.List.{AllByRecursion}
-use Rattle.std.proofs.Math.Seq.{drop-append_seam}
+use Rattle.std.proofs.Math.Seq.{drop-append_seam, take-append_seam}
 use Rattle.nla_wire.specs.Frames.{IsFrame, IsBytes}
 use Rattle.nla_wire.specs.Grammar.{list}
 use Rattle.nla_wire.specs.Canon.{IsWritable, canons}
@@ -50,10 +50,15 @@ joined family c d vs aligned means = (
 )
 
 -- what stands after parts of one length is the same
-after_same : (a b c d : List ℕ) → length a ≡ length b → a ++ c ≡ b ++ d → d ≡ c
+pub after_same : (a b c d : List ℕ) → length a ≡ length b → a ++ c ≡ b ++ d → d ≡ c
 after_same a b c d size whole =
     sym (drop-append_seam b d) ∙ ap (drop (length b)) (sym whole) ∙ ap (λ n. drop n (a ++ c)) (sym size)
     ∙ drop-append_seam a c
+
+-- and so is what stands in front
+pub front_same : (a b c d : List ℕ) → length a ≡ length b → a ++ c ≡ b ++ d → a ≡ b
+front_same a b c d size whole =
+    sym (take-append_seam a c) ∙ ap (take (length a)) whole ∙ ap (λ n. take n (b ++ d)) size ∙ take-append_seam b d
 
 -- ** records that are filled up, and records with bytes after them
 

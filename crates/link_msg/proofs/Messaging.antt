@@ -1,4 +1,4 @@
--- Lengths of canonical texts.
+-- Lengths of canonical encodings.
 use Rattle.std.proofs.Common.{◌≡◌, ◌+◌, ◌<◌, ◌^◌, length, refl, ap, ◌∙◌, length-append, arith}
 use Rattle.nla_wire.specs.Canon.{canons}
 use Rattle.link_msg.specs.Header.{header_size, header_bytes}

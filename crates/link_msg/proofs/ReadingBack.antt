@@ -1,4 +1,4 @@
--- What a message means is what its canonical text means.
+-- What a message means is what its canonical encoding means.
 use Rattle.std.proofs.Common.{◌≡◌, ℕ, List, [], ◌∷◌, ◌++◌, refl, sym, ap, ◌∙◌, subst}
 use Rattle.std.specs.Prelude.{slice_index}
 use Rattle.std.specs.Int.{w16, w32, to_le_bytes}

@@ -1,12 +1,15 @@
 -- The attribute of a frame by its shape: what is checked and written from its payload is what the place reads.
-use Rattle.std.proofs.Common.{◌≡◌, ℕ, List, [], ◌∷◌, ◌++◌, length, refl, sym, ap, ap₂, subst, ◌∙◌, Option}
-use Rattle.std.proofs.Common.{Result, Ok}
+use Rattle.std.proofs.Common.{◌≡◌, ℕ, List, length, sym, ap, ap₂, subst, ◌∙◌, Option}
+use Rattle.std.proofs.Common.{Result, Ok, Err}
 use Rattle.nla_wire.specs.Frames.{Frame, number, IsFrame}
-use Rattle.nla_wire.specs.Gives.{Checks, Gives, Adds}
+use Rattle.nla_wire.specs.Gives.{Checks, Adds}
 use Rattle.nla_wire.specs.Canon.{canon, Weighs, HasRoom, Rewrites}
 use Rattle.nla_wire.specs.declared.error.DecodeError.{DecodeError}
 use Rattle.nla_wire.proofs.Codec.{kind_of}
-use Rattle.nla_wire.proofs.Tables.{IsOther, other_reads}
+use Rattle.nla_wire.specs.Reading.{◌>>=◌}
+use Rattle.nla_wire.specs.declared.error.Cause.{Cause}
+use Rattle.nla_wire.proofs.Tables.{IsOther, other_reads, reads_in, ReadsBy, line_by}
+use Rattle.nla_wire.proofs.Tables.{Shape as Shaping}
 use Rattle.nla_wire.proofs.Shapes.{ShapeChecks, ShapeWeighs, ShapeRoom, ShapeWrites, WayChecks, WayWeighs, WayRoom}
 use Rattle.nla_wire.proofs.Shapes.{WayWrites, lined_checks, lined_weighs, lined_room, lined_writes}
 use Rattle.link_vals.specs.declared.address_family.AddressFamily.{AddressFamily}
@@ -59,6 +62,20 @@ module _ (family : AddressFamily) (f : Frame) where
   shape_writes shape old new n is one h =
       lined_writes base attribute_view NotEmptyPorts Attributes.Other other_kept (attribute_entries family) f
       (as_way shape) is one.bytes old new n h
+
+-- an attribute whose payload is refused is refused for the same cause
+pub shape_refuses : (family : AddressFamily) (f : Frame) (s : Shape) (c : Cause)
+    → attribute_way family (number f) (length f.payload) ≡ Shaping s → (base s).codec.grammar.reads f.payload ≡ Err c
+    → (attribute_place family).reads f ≡ Err c
+unfolding attribute_place
+shape_refuses family f s c is refused =
+    let read = reads_in base attribute_view NotEmptyPorts (number f) (length f.payload) (attribute_entries family)
+    (λ f. Ok (Attributes.Other f)) in
+    let by : ReadsBy base attribute_view NotEmptyPorts (number f) (Shaping s) read =
+    subst (λ w. ReadsBy base attribute_view NotEmptyPorts (number f) w read) is
+    (line_by base attribute_view NotEmptyPorts Attributes.Other other_kept (number f) (length f.payload)
+    (attribute_entries family)) in
+    by.reads f ∙ ap (λ r. r >>= λ x. Ok (by.make x)) refused
 
 -- an attribute of a number that no line has is kept
 pub adds_other : (family : AddressFamily) (f : Frame) (answer : Result Unit DecodeError) (old new : List LinkAttribute)

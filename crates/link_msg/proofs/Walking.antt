@@ -1,24 +1,25 @@
 -- The walk to the first fault of a list: what it has gone past, and what is left.
 use Rattle.std.proofs.Common.{◌≡◌, ℕ, ◌+◌, ◌%◌, ◌≤◌, ◌⊎◌, inl, inr, List, [], ◌∷◌, ◌++◌, length, refl, ap, sym, ◌∙◌}
-use Rattle.std.proofs.Common.{subst, append_assoc, append-nil, length-append, arith, Option, Some, None, Result, Ok}
+use Rattle.std.proofs.Common.{subst, append_assoc, append-nil, length-append, arith, Some, None, Result, Ok}
 use Rattle.std.proofs.Common.{Err}
-use Rattle.nla_wire.specs.Frames.{Frame, IsBytes, IsFrame, unpadded, missing, Begins, Frames, BadStart}
+use Rattle.nla_wire.specs.Frames.{Frame, number, IsBytes, IsFrame, unpadded, missing, Begins, Frames, BadStart}
 use Rattle.nla_wire.specs.Reading.{Step, step}
 use Rattle.nla_wire.specs.Reading.Step.{End, Bad, Next}
-use Rattle.nla_wire.specs.Grammar.{Grammar, Agrees, Every, list, FirstAfter, First}
+use Rattle.nla_wire.specs.Grammar.{Grammar, Agrees, drops}
 use Rattle.nla_wire.specs.Items.{Item, items}
-use Rattle.link_msg.specs.FaultAt.{FaultsAlone, IsFirstFault}
+use Rattle.std.specs.List.{AllByRecursion}
+use Rattle.link_msg.specs.Nested.{Accepts, Refuses}
+use Rattle.link_msg.specs.FaultAt.{IsFirstFault, AllAccepted}
 use Rattle.nla_wire.specs.declared.error.Cause.{Cause}
-use Rattle.nla_wire.specs.declared.error.Cause.TheVariants.{TooShort, FrameShort, FrameOver, FrameUnder, EmptyList}
-use Rattle.nla_wire.specs.declared.error.Cause.TheVariants.{WrongLength, NotUtf8, InvalidState, OutOfMemory}
-use Rattle.std.proofs.Common.{true, false}
+use Rattle.std.proofs.Common.{Bool, true, false}
 use Rattle.std.specs.Result.{is_err}
 use Rattle.nla_wire.specs.Gives.{Checks}
 use Rattle.nla_wire.specs.declared.error.DecodeError.{DecodeError}
 use Rattle.nla_wire.proofs.Loop.{given}
 use Rattle.nla_wire.proofs.Steps.{step_begins, step_bad, step_end, begins_framed, length-begins, IsBytes-begins}
 use Rattle.nla_wire.proofs.Items.{items_nil, items_next, items_bad}
-use Rattle.nla_wire.proofs.Joined.{begins_join, list_join}
+use Rattle.nla_wire.proofs.Joined.{frames_join}
+use Rattle.link_msg.proofs.FirstFaults.{bad_some}
 
 -- ** the item at the front
 
@@ -45,16 +46,10 @@ front_end b End e is = step_end b e
 front_end b (Bad d) e is = let clash = sym (items_bad b d e) ∙ is in absurd cc
 front_end b (Next g rest) e is = let clash = sym (items_next b g rest e) ∙ is in absurd cc
 
-bad_some : (b : List ℕ) (c : Cause) → BadStart b c → 1 ≤ length b
-bad_some b (FrameShort left) bad = omega (arith, bad.0)
-bad_some b (FrameOver len left) bad = omega (arith, bad.0)
-bad_some b (FrameUnder len) bad = omega (arith, bad.0)
-bad_some b (TooShort got need) bad = absurd bad
-bad_some b EmptyList bad = absurd bad
-bad_some b (WrongLength got want) bad = absurd bad
-bad_some b NotUtf8 bad = absurd bad
-bad_some b InvalidState bad = absurd bad
-bad_some b OutOfMemory bad = absurd bad
+all_join : {X : Type 0} (P : X → Type 0) (xs ys : List X) → AllByRecursion P xs → AllByRecursion P ys
+    → AllByRecursion P (xs ++ ys)
+all_join P [] ys h k = k
+all_join P (x ∷ xs) ys h k = (h.0, all_join P xs ys h.1 k)
 
 -- ** the walk
 
@@ -129,8 +124,8 @@ module _ (b : List ℕ) (left : List Item) (at : ℕ) (w : Reached b left at) wh
     frame_spot = at_spot b left at w (omega (arith, next_size))
 
     -- the frame stands inside of the bytes
-    pub frame_inside : at + (4 + length f.payload) ≤ length b
-    frame_inside = omega (arith, next_size, whole_size, frame_spot.0)
+    pub frame_fits : at + 4 + length f.payload ≤ length b
+    frame_fits = omega (arith, next_size, whole_size, frame_spot.0)
 
     abbrev past : List ℕ
     past = w.before ++ spelling w.later f next_frame.0 next_frame.1
@@ -165,14 +160,8 @@ module _ (b : List ℕ) (left : List Item) (at : ℕ) (w : Reached b left at) wh
       bytes = (IsBytes-begins w.later f next_frame.0 next_frame.1 w.bytes).1;
       items_left = next_frame.2;
       spot = past_spot p is_p next_frame.1.full;
-      bound = omega (arith, is_p, frame_inside);
+      bound = omega (arith, is_p, frame_fits);
     }
-
-  -- bytes that are no frame stand inside of the bytes
-  pub fault_inside : (c : Cause) (xs : List Item) → left ≡ Err c ∷ xs → at + 1 ≤ length b
-  fault_inside c xs is =
-      let some = bad_some w.later c (front_fault w.later (step w.later) c xs refl (sym w.items_left ∙ is)) in
-      omega (arith, some, (at_spot b left at w some).0, whole_size)
 
 -- ** what a check tells
 
@@ -185,50 +174,50 @@ module _ {V : Type 0} (read : Result V Cause) where
   told_ok (Ok x) e checks = given read checks
   told_ok (Err x) e checks = absurd cc
 
--- ** the walk over frames that have a value
+-- ** the walk over frames that are accepted
 
-pub record Walking {V : Type 0} (place : Grammar Frame V) (b : List ℕ) (left : List Item) (at : ℕ) : Type 0 where
+pub record Walking (accepts : Frame → Type 0) (b : List ℕ) (left : List Item) (at : ℕ) : Type 0 where
   pub reached : Reached b left at
-  pub accepted : (vs : List V) × (list place).means reached.before vs
+  pub accepted : AllAccepted accepts reached.before
 
-module _ {V : Type 0} (place : Grammar Frame V) (b : List ℕ) where
-  pub walk_starts : (left : List Item) → IsBytes b → left ≡ items b → Walking place b left 0
-  walk_starts left bytes is = record { reached = reached_start b left bytes is; accepted = ([], ([], refl, tt)) }
+module _ (accepts : Frame → Type 0) (refuses : Frame → Cause → Type 0) (b : List ℕ) where
+  pub walk_starts : (left : List Item) → IsBytes b → left ≡ items b → Walking accepts b left 0
+  walk_starts left bytes is = record { reached = reached_start b left bytes is; accepted = ([], refl, tt) }
 
-  module _ (left : List Item) (at : ℕ) (w : Walking place b left at) where
-    -- at the end all is read
-    pub walk_ends : left ≡ [] → (vs : List V) × (list place).means b vs
+  module _ (left : List Item) (at : ℕ) (w : Walking accepts b left at) where
+    -- at the end all is accepted
+    pub walk_ends : left ≡ [] → AllAccepted accepts b
     walk_ends is =
         let none = front_end w.reached.later (step w.reached.later) refl (sym w.reached.items_left ∙ is) in
         let whole : b ≡ w.reached.before = w.reached.parts ∙ ap (λ (x : List ℕ). w.reached.before ++ x) none
         ∙ append-nil w.reached.before in
-        (w.accepted.0, subst (λ x. (list place).means x w.accepted.0) (sym whole) w.accepted.1)
+        subst (λ x. AllAccepted accepts x) (sym whole) w.accepted
 
     -- bytes that are no frame
-    pub walk_faults : (c : Cause) (xs : List Item) → left ≡ Err c ∷ xs → IsFirstFault place b at None
+    pub walk_faults : (c : Cause) (xs : List Item) → left ≡ Err c ∷ xs → IsFirstFault accepts refuses b c at None
     walk_faults c xs is =
         let bad = front_fault w.reached.later (step w.reached.later) c xs refl (sym w.reached.items_left ∙ is) in
-        let some = bad_some w.reached.later c bad in
-        let spot = at_spot b left at w.reached some in
+        let spot = at_spot b left at w.reached (bad_some w.reached.later c bad) in
         record {
           before = w.reached.before;
           later = w.reached.later;
           parts = w.reached.parts;
           at_end = spot.0;
           aligned = spot.1;
-          accepted = w.accepted;
-          cause = c;
+          frames = w.accepted.0;
+          spelt = w.accepted.1;
+          accepted = w.accepted.2;
           alone = bad;
-          inside = omega (arith, some, spot.0, whole_size b left at w.reached);
         }
 
-    module _ (agrees : Agrees IsFrame place) (f : Frame) (xs : List Item) (is : left ≡ Ok f ∷ xs) where
-      is_frame : IsFrame f
-      is_frame = let next = next_frame b left at w.reached f xs is in
+    module _ (f : Frame) (xs : List Item) (is : left ≡ Ok f ∷ xs) where
+      pub walk_frame : IsFrame f
+      walk_frame =
+          let next = next_frame b left at w.reached f xs is in
           begins_framed w.reached.later f next.0 next.1 w.reached.bytes
 
       -- a frame that is refused
-      pub walk_refuses : (c : Cause) → place.reads f ≡ Err c → IsFirstFault place b at (Some f)
+      pub walk_refuses : (c : Cause) → refuses f c → IsFirstFault accepts refuses b c at (Some f)
       walk_refuses c refused =
           let next = next_frame b left at w.reached f xs is in
           let spot = frame_spot b left at w.reached f xs is in
@@ -238,65 +227,40 @@ module _ {V : Type 0} (place : Grammar Frame V) (b : List ℕ) where
             parts = w.reached.parts;
             at_end = spot.0;
             aligned = spot.1;
-            accepted = w.accepted;
-            cause = c;
-            alone = (next.0, next.1, agrees.fault f c is_frame refused);
-            inside = frame_inside b left at w.reached f xs is;
+            frames = w.accepted.0;
+            spelt = w.accepted.1;
+            accepted = w.accepted.2;
+            alone = (next.0, next.1, refused);
           }
 
-      -- a frame that has a value
-      pub walk_on : (v : V) → place.reads f ≡ Ok v → (p : ℕ) → p ≡ 4 + length f.payload + missing (length f.payload)
-          → Walking place b xs (at + p)
-      walk_on v read p is_p =
+      -- a frame that is accepted
+      pub walk_on : accepts f → (p : ℕ) → p ≡ 4 + length f.payload + missing (length f.payload)
+          → Walking accepts b xs (at + p)
+      walk_on fine p is_p =
           let next = next_frame b left at w.reached f xs is in
           let spot = frame_spot b left at w.reached f xs is in
-          let alone : (list place).means (spelling w.reached.later f next.0 next.1) (v ∷ []) = (
-            f ∷ [],
-            ([], spelling_begins w.reached.later f next.0 next.1, refl),
-            (agrees.found f v is_frame read, tt),
-          ) in
+          let alone : Frames (spelling w.reached.later f next.0 next.1) (f ∷ []) =
+          ([], spelling_begins w.reached.later f next.0 next.1, refl) in
           record {
             reached = reached_on b left at w.reached f xs is p is_p;
             accepted = (
-              w.accepted.0 ++ v ∷ [],
-              list_join place w.reached.before (spelling w.reached.later f next.0 next.1) w.accepted.0 (v ∷ [])
+              w.accepted.0 ++ f ∷ [],
+              frames_join w.reached.before (spelling w.reached.later f next.0 next.1) w.accepted.0 (f ∷ [])
                   (omega (arith, spot.0, spot.1)) w.accepted.1 alone,
+              all_join accepts w.accepted.0 (f ∷ []) w.accepted.2 (fine, tt),
             );
           }
 
--- ** the first fault is that of the list
+-- ** frames at a place
 
--- after a frame a length that is a multiple of four is left
-left_whole : (c : List ℕ) (f : Frame) (rest : List ℕ) (h : Begins c f rest) → length c % 4 ≡ 0
-    → (length h.padding ≡ missing (length f.payload)) ⊎ (rest ≡ []) → length rest % 4 ≡ 0
-left_whole c f rest h whole (inl full) = omega (arith, length-begins c f rest h, whole, full)
-left_whole c f rest h whole (inr ended) = omega (arith, ap (λ (x : List ℕ). length x) ended)
+pub drop_accepted : {V : Type 0} (place : Grammar Frame V) (picks : Bool) (f : Frame)
+    → drops picks (number f) ≡ true → Accepts picks place f
+drop_accepted place picks f dropped kept = let clash = sym dropped ∙ kept in absurd cc
 
-first_after : {V : Type 0} (place : Grammar Frame V) (c d : List ℕ) (fs : List Frame) (vs : List V) (cause : Cause)
-    → length c % 4 ≡ 0 → Frames c fs → Every place.means fs vs
-    → FirstAfter place d [] cause → FirstAfter place (c ++ d) fs cause
-first_after place c d [] vs cause whole frames every fault =
-    subst (λ x. FirstAfter place (x ++ d) [] cause) (sym frames) fault
-first_after place c d (f ∷ fs) [] cause whole frames every fault = absurd every
-first_after place c d (f ∷ fs) (v ∷ vs) cause whole frames every fault = (
-  frames.0 ++ d,
-  begins_join c d f frames.0 whole frames.1,
-  (v, every.0),
-  first_after place frames.0 d fs vs cause
-      (left_whole c f frames.0 frames.1 whole frames.1.full) frames.2 every.1 fault,
-)
+module _ {V : Type 0} (place : Grammar Frame V) (agrees : Agrees IsFrame place) (f : Frame) (one : IsFrame f)
+    (picks : Bool) where
+  pub read_accepted : (v : V) → place.reads f ≡ Ok v → Accepts picks place f
+  read_accepted v read kept = (v, agrees.found f v one read)
 
-alone_first : {V : Type 0} (place : Grammar Frame V) (d : List ℕ) (frame : Option Frame) (cause : Cause)
-    → FaultsAlone place d frame cause → FirstAfter place d [] cause
-alone_first place d None cause bad = inl bad
-alone_first place d (Some f) cause (rest, begins, bad) = inr (f, rest, begins, bad)
-
-pub found_first : {V : Type 0} (place : Grammar Frame V) (b : List ℕ) (at : ℕ) (frame : Option Frame)
-    (h : IsFirstFault place b at frame) → First place b h.cause
-found_first place b at frame h =
-    let whole : length h.before % 4 ≡ 0 = omega (arith, h.at_end, h.aligned) in
-    let fault = alone_first place h.later frame h.cause h.alone in (
-      h.accepted.1.0,
-      subst (λ x. FirstAfter place x h.accepted.1.0 h.cause) (sym h.parts) (first_after place h.before h.later
-          h.accepted.1.0 h.accepted.0 h.cause whole h.accepted.1.1 h.accepted.1.2 fault),
-    )
+  pub read_refused : (c : Cause) → drops picks (number f) ≡ false → place.reads f ≡ Err c → Refuses picks place f c
+  read_refused c kept read = (kept, agrees.fault f c one read)

@@ -1,4 +1,4 @@
--- Canonical text of a message: measured, and written after its header.
+-- Canonical encoding of a message: measured, and written after its header.
 use Rattle.std.proofs.Common.{◌≡◌, ◌≢◌, ℕ, ◌+◌, ◌-◌, ◌^◌, ◌<◌, ◌≤◌, List, [], ◌++◌, length, take, drop, refl, sym}
 use Rattle.std.proofs.Common.{ap, ◌∙◌, subst, arith, inr, append-nil, Result, Ok, Err, Some, None}
 use Rattle.std.proofs.Common.{Bool, false, true, MatchBool}
@@ -22,7 +22,7 @@ use Rattle.link_msg.specs.Messages.{Means, FirstFault, MeansNothing, message, me
 use Rattle.link_msg.specs.CanonErrors.{refusal_for, refusal_of}
 use Rattle.link_msg.specs.Canonical.{IsAccepted, HasText, IsRefusalAlone, IsUnfit, HasEmptyPorts, ListWeighs}
 use Rattle.link_msg.specs.Canonical.{IsMeasured}
-use Rattle.link_msg.specs.Runs.{IsRun, attribute_text}
+use Rattle.link_msg.specs.Prefixes.{IsPrefix, attribute_text}
 use Rattle.link_msg.specs.declared.attribute.LinkAttribute.{LinkAttribute}
 use Rattle.link_msg.specs.declared.header.LinkHeader.{LinkHeader}
 use Rattle.link_msg.specs.declared.message.LinkMessage.{LinkMessage}
@@ -30,7 +30,7 @@ use Rattle.link_msg.specs.declared.canonical_text.CanonError.TheVariants as Refu
 use Rattle.link_msg.proofs.Reading.{message_agrees, attributes_agree, parts, is_header}
 use Rattle.link_msg.proofs.Messaging.{header_length, text_length, attributes_counted}
 use Rattle.link_msg.proofs.Answering.{accepted_text}
-use Rattle.link_msg.proofs.Runs.{run_within}
+use Rattle.link_msg.proofs.Prefixes.{prefix_within}
 
 -- ** refusals
 
@@ -142,19 +142,19 @@ module _ (b : List ℕ) (v : LinkHeader) (d : List ℕ) (long : header_size ≤ 
 
 -- ** written
 
--- memory of so many bytes, which begins with the header and the run, and ends with zeros
-pub begun_length : (v : LinkHeader) (run_bytes text : List ℕ) (n : ℕ) → header_size + length run_bytes ≤ n
-    → text ≡ header_bytes v ++ run_bytes ++ replicate (n - (header_size + length run_bytes)) 0 → length text ≡ n
-begun_length v run_bytes text n enough is =
-    let count : ℕ = n - (header_size + length run_bytes) in
+-- memory of so many bytes, which begins with the header and the prefix, and ends with zeros
+pub begun_length : (v : LinkHeader) (prefix_bytes text : List ℕ) (n : ℕ) → header_size + length prefix_bytes ≤ n
+    → text ≡ header_bytes v ++ prefix_bytes ++ replicate (n - (header_size + length prefix_bytes)) 0 → length text ≡ n
+begun_length v prefix_bytes text n enough is =
+    let count : ℕ = n - (header_size + length prefix_bytes) in
     let zeros : List ℕ = replicate count 0 in
-    let size : length text ≡ length (header_bytes v ++ run_bytes ++ zeros) = ap (λ (t : List ℕ). length t) is in
+    let size : length text ≡ length (header_bytes v ++ prefix_bytes ++ zeros) = ap (λ (t : List ℕ). length t) is in
     let cleared : length zeros ≡ count = length-replicate count 0 in
     omega (
       arith,
       size,
-      length-append (header_bytes v ++ run_bytes) zeros,
-      length-append (header_bytes v) run_bytes,
+      length-append (header_bytes v ++ prefix_bytes) zeros,
+      length-append (header_bytes v) prefix_bytes,
       header_length v,
       cleared,
       enough,
@@ -188,16 +188,16 @@ module _ (b : List ℕ) (v : LinkHeader) (d : List ℕ) (n : ℕ) (h : IsMeasure
   measured_writes old new k w =
       subst (λ r. Rewrites (λ vs. header_bytes v ++ canons attribute_frame vs) r old new k) h.reads w
 
-  -- memory of just that length, which begins with the header and the run
-  pub measured_begun : (run : ℕ) (text : List ℕ) → IsRun v.interface_family d run
-      → text ≡ header_bytes v ++ take run d ++ replicate (header_size + n - (header_size + length (take run d))) 0
+  -- memory of just that length, which begins with the header and the prefix
+  pub measured_begun : (prefix : ℕ) (text : List ℕ) → IsPrefix v.interface_family d prefix
+      → text ≡ header_bytes v ++ take prefix d ++ replicate (header_size + n - (header_size + length (take prefix d))) 0
       → length text ≡ header_size + n
-  measured_begun run text r is =
-      begun_length v (take run d) text (header_size + n)
+  measured_begun prefix text r is =
+      begun_length v (take prefix d) text (header_size + n)
       (omega (
         arith,
-        length-take-le run d r.within,
-        run_within (attribute_place v.interface_family).reads attribute_text AttributeFits d run r n
+        length-take-le prefix d r.within,
+        prefix_within (attribute_place v.interface_family).reads attribute_text AttributeFits d prefix r n
             (measured_room n (omega arith)),
       )) is
 
@@ -211,44 +211,47 @@ module _ (b : List ℕ) (v : LinkHeader) (d : List ℕ) (n : ℕ) (h : IsMeasure
       accepted_text b new measured_message bytes measured_accepted (one.new_is
       ∙ ap (λ (t : List ℕ). message_text measured_message ++ t) rest ∙ append-nil (message_text measured_message))
 
--- the header, and after it the run, which is copied
-pub begun : (v : LinkHeader) (d : List ℕ) (run count : ℕ) (old emitted part : List ℕ) → run ≤ length d → count ≡ run
-    → emitted ≡ header_bytes v ++ drop header_size old → part ≡ take run d
-    → Writes (header_bytes v ++ take run d) old (put_mid header_size count emitted part) (header_size + run)
-begun v d run count old emitted part within counts is copied =
+-- the header, and after it the prefix, which is copied
+pub begun : (v : LinkHeader) (d : List ℕ) (prefix count : ℕ) (old emitted part : List ℕ) → prefix ≤ length d
+    → count ≡ prefix
+    → emitted ≡ header_bytes v ++ drop header_size old → part ≡ take prefix d
+    → Writes (header_bytes v ++ take prefix d) old (put_mid header_size count emitted part) (header_size + prefix)
+begun v d prefix count old emitted part within counts is copied =
     let front : take header_size emitted ≡ header_bytes v =
     ap (take header_size) is ∙ take_at (header_bytes v) (drop header_size old) header_size (header_length v) in
     let rest : drop header_size emitted ≡ drop header_size old =
     ap (drop header_size) is ∙ drop_at (header_bytes v) (drop header_size old) header_size (header_length v) in
-    let after : drop count (drop header_size emitted) ≡ drop (header_size + run) old =
+    let after : drop count (drop header_size emitted) ≡ drop (header_size + prefix) old =
     ap (drop count) rest ∙ drop-drop count header_size old ∙ ap (λ k. drop k old) (omega (arith, counts)) in
     record {
       length_is =
           omega (
             arith,
-            length-append (header_bytes v) (take run d),
+            length-append (header_bytes v) (take prefix d),
             header_length v,
-            length-take-le run d within,
+            length-take-le prefix d within,
           );
       new_is =
           ap (λ (t : List ℕ). t ++ (part ++ drop count (drop header_size emitted))) front
           ∙ ap (λ (t : List ℕ). header_bytes v ++ (t ++ drop count (drop header_size emitted))) copied
-          ∙ ap (λ (t : List ℕ). header_bytes v ++ (take run d ++ t)) after
-          ∙ sym (append_assoc (header_bytes v) (take run d) (drop (header_size + run) old));
+          ∙ ap (λ (t : List ℕ). header_bytes v ++ (take prefix d ++ t)) after
+          ∙ sym (append_assoc (header_bytes v) (take prefix d) (drop (header_size + prefix) old));
     }
 
--- memory that begins with the header and the run, and goes on
-pub began : (v : LinkHeader) (d run_bytes rest text : List ℕ) (run : ℕ) → run ≤ length d → run_bytes ≡ take run d
-    → text ≡ header_bytes v ++ run_bytes ++ rest → Writes (header_bytes v ++ take run d) text text (header_size + run)
-began v d run_bytes rest text run within same is =
-    let front = header_bytes v ++ take run d in
-    let size : length front ≡ header_size + run =
-    omega (arith, length-append (header_bytes v) (take run d), header_length v, length-take-le run d within) in
+-- memory that begins with the header and the prefix, and goes on
+pub began : (v : LinkHeader) (d prefix_bytes rest text : List ℕ) (prefix : ℕ) → prefix ≤ length d
+    → prefix_bytes ≡ take prefix d
+    → text ≡ header_bytes v ++ prefix_bytes ++ rest → Writes (header_bytes v ++ take prefix d) text text
+    (header_size + prefix)
+began v d prefix_bytes rest text prefix within same is =
+    let front = header_bytes v ++ take prefix d in
+    let size : length front ≡ header_size + prefix =
+    omega (arith, length-append (header_bytes v) (take prefix d), header_length v, length-take-le prefix d within) in
     let whole : text ≡ front ++ rest = is ∙ ap (λ (t : List ℕ). header_bytes v ++ t ++ rest) same in
     record {
       length_is = sym size;
       new_is =
           whole
           ∙ ap (λ (t : List ℕ). front ++ t)
-          (sym (ap (drop (header_size + run)) whole ∙ drop_at front rest (header_size + run) size));
+          (sym (ap (drop (header_size + prefix)) whole ∙ drop_at front rest (header_size + prefix) size));
     }

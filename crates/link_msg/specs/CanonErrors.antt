@@ -4,6 +4,8 @@ use Rattle.nla_wire.specs.declared.error.Cause.{Cause}
 use Rattle.nla_wire.specs.declared.error.Cause.TheVariants as Causes
 use Rattle.nla_wire.specs.declared.error.DecodeError.{DecodeError}
 use Rattle.link_msg.specs.declared.canonical_text.CanonError.{CanonError}
+use Rattle.link_msg.specs.declared.canonical_text.RoomError.{RoomError}
+use Rattle.link_msg.specs.declared.canonical_text.RoomError.TheVariants as Rooms
 use Rattle.link_msg.specs.declared.canonical_text.CanonError.TheVariants.{Decode, DoesNotFit, EmptyVfPorts, OutOfMemory}
 
 abbrev pub canon_error_number : CanonError → ℕ
@@ -24,3 +26,10 @@ refusal_of e = refusal_for e.cause e
 abbrev pub SameRefusal : CanonError → CanonError → Type 0
 SameRefusal (Decode e) (Decode f) = (e.place.now ≡ f.place.now) × (e.cause ≡ f.cause)
 SameRefusal a b = (canon_error_number a ≡ canon_error_number b)
+
+-- two refusals of a buffer are one: for want of a text, for the same refusal; or of room, for the same length
+abbrev pub SameRoomRefusal : RoomError → RoomError → Type 0
+SameRoomRefusal (Rooms.NoText e) (Rooms.NoText f) = SameRefusal e f
+SameRoomRefusal (Rooms.NoRoom n) (Rooms.NoRoom m) = n ≡ m
+SameRoomRefusal (Rooms.NoText e) (Rooms.NoRoom m) = ⊥
+SameRoomRefusal (Rooms.NoRoom n) (Rooms.NoText f) = ⊥

@@ -9,7 +9,7 @@ use Rattle.nla_wire.specs.declared.error.Cause.TheVariants.{OutOfMemory}
 use Rattle.std.specs.List.{AllByRecursion}
 use Rattle.link_msg.specs.Header.{header_size}
 use Rattle.link_msg.specs.Tables.{attribute_frame, AttributeFits, NotEmptyPorts, attribute_place}
-use Rattle.link_msg.specs.Runs.{IsRun}
+use Rattle.link_msg.specs.Prefixes.{IsPrefix}
 use Rattle.link_msg.specs.Messages.{Means, FirstFault, MeansNothing, message_text, MessageFits, NoEmptyPorts}
 use Rattle.link_vals.specs.declared.address_family.AddressFamily.{AddressFamily}
 use Rattle.link_msg.specs.declared.attribute.LinkAttribute.{LinkAttribute}
@@ -26,8 +26,8 @@ pub record IsAccepted (b : List ℕ) (m : LinkMessage) : Type 0 where
   pub fits : MessageFits m
   pub ports : NoEmptyPorts m
 
--- t is the canonical text of the message that b means, which it means too; its attributes are at most `growth_per_byte`
--- times as long
+-- t is the canonical encoding of the message that b means, which it means too; its attributes are at most
+-- `growth_per_byte` times as long
 pub record HasText (b t : List ℕ) : Type 0 where
   pub message : LinkMessage
   pub accepted : IsAccepted b message
@@ -43,7 +43,7 @@ IsUnfit b = (m : LinkMessage) × Means b m × (MessageFits m → ⊥)
 abbrev pub HasEmptyPorts : List ℕ → Type 0
 HasEmptyPorts b = (m : LinkMessage) × Means b m × MessageFits m × (NoEmptyPorts m → ⊥)
 
--- why there is no canonical text of b; that memory ran out says nothing of it
+-- why there is no canonical encoding of b; that memory ran out says nothing of it
 abbrev pub IsRefusal : List ℕ → CanonError → Type 0
 IsRefusal b (Refusals.Decode e) = FirstFault b e.cause × (e.cause ≢ OutOfMemory) × MeansNothing b
 IsRefusal b Refusals.DoesNotFit = IsUnfit b
@@ -68,16 +68,16 @@ IsRefusalOfTwo a b e = IsRefusal a e ⊎ (((m : LinkMessage) × IsAccepted a m) 
 abbrev pub IsRefusalAlone : List ℕ → CanonError → Type 0
 IsRefusalAlone b e = IsRefusal b e × (e ≢ Refusals.OutOfMemory)
 
--- the length of the canonical text of the message that b means, or why there is none
+-- the length of the canonical encoding of the message that b means, or why there is none
 abbrev pub HasLength : List ℕ → Result ℕ CanonError → Type 0
 HasLength b (Ok n) = (m : LinkMessage) × IsAccepted b m × (n ≡ length (message_text m))
 HasLength b (Err e) = IsRefusalAlone b e
 
--- where b has a canonical text, it has at most so many bytes
+-- where b has a canonical encoding, it has at most so many bytes
 abbrev pub HoldsText : List ℕ → ℕ → Type 0
 HoldsText b room = (m : LinkMessage) → IsAccepted b m → length (message_text m) ≤ room
 
--- what `canonical_into` did: the canonical text stands at the front and the rest is kept; or nothing was written
+-- what `canonical_into` did: the canonical encoding stands at the front and the rest is kept; or nothing was written
 abbrev pub IsWritten : List ℕ → List ℕ → List ℕ → Result ℕ CanonError → Type 0
 IsWritten b old new (Ok n) = (m : LinkMessage) × IsAccepted b m × Writes (message_text m) old new n
 IsWritten b old new (Err e) = IsRefusalAlone b e × (new ≡ old)
@@ -99,10 +99,10 @@ ListWeighs (Ok vs) None = AllFit AttributeFits attribute_frame vs → ⊥
 ListWeighs (Err c) (Some w) = ⊥
 ListWeighs (Err c) None = Unit {0}
 
--- that of the attributes that bytes are under a family, and how long the run in front of them is
+-- that of the attributes that bytes are under a family, and how long the copied prefix of them is
 abbrev pub ListMeasures : AddressFamily → List ℕ → Option (ℕ × Bool × ℕ) → Type 0
 ListMeasures family b (Some w) =
-    ListWeighs ((list (attribute_place family)).reads b) (Some (w.0, w.1)) × IsRun family b w.2
+    ListWeighs ((list (attribute_place family)).reads b) (Some (w.0, w.1)) × IsPrefix family b w.2
 ListMeasures family b None = ListWeighs ((list (attribute_place family)).reads b) None
 
 -- b is an accepted message with this header and these bytes of attributes, whose text has n bytes

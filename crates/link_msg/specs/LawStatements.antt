@@ -13,7 +13,7 @@ use Rattle.link_msg.specs.declared.message.LinkMessage.{LinkMessage}
 abbrev pub OneMeaning : Type 0
 OneMeaning = (b : List ℕ) (m n : LinkMessage) → Means b m → Means b n → m ≡ n
 
--- what bytes mean is what its canonical text means, where it fits and holds no empty list of ports
+-- what bytes mean is what its canonical encoding means, where it fits and holds no empty list of ports
 abbrev pub TextMeansTheSame : Type 0
 TextMeansTheSame = (b : List ℕ) (m : LinkMessage) → IsBytes b → Means b m → MessageFits m → NoEmptyPorts m
     → Means (message_text m) m
@@ -22,18 +22,18 @@ TextMeansTheSame = (b : List ℕ) (m : LinkMessage) → IsBytes b → Means b m 
 abbrev pub KindsInRange : LinkMessage → Type 0
 KindsInRange m = AllByRecursion (λ v. (attribute_frame v).kind < 2 ^ 16) m.attributes
 
--- a message that its canonical text means is meant by some bytes, and holds no empty list of ports
+-- a message that its canonical encoding means is meant by some bytes, and holds no empty list of ports
 abbrev pub OnlyWithPorts : Type 0
 OnlyWithPorts = (m : LinkMessage) → KindsInRange m → MessageFits m → Means (message_text m) m → Meant m × NoEmptyPorts m
 
--- two messages have one canonical text exactly where they are one message
+-- two messages have one canonical encoding exactly where they are one message
 abbrev pub SameTextSameMessage : Type 0
 SameTextSameMessage =
     (a b : List ℕ) (m n : LinkMessage) → IsBytes a → IsBytes b → Means a m → Means b n → MessageFits m → MessageFits n
     → NoEmptyPorts m → NoEmptyPorts n
     → (message_text m ≡ message_text n) ↔ (m ≡ n)
 
--- the canonical text of a canonical text is itself
+-- the canonical encoding of a canonical encoding is itself
 abbrev pub CanonicalTwice : Type 0
 CanonicalTwice =
     (b : List ℕ) (m n : LinkMessage) → IsBytes b → Means b m → MessageFits m → NoEmptyPorts m → Means (message_text m) n

@@ -1,4 +1,4 @@
--- What bytes mean a message, why they mean none, its canonical text, and what fits.
+-- What bytes mean a message, why they mean none, its canonical encoding, and what fits.
 use Rattle.std.specs.Prelude.{◌≡◌, ℕ, ◌+◌, ◌-◌, ◌*◌, ◌<◌, ◌≤◌, ◌^◌, nat_lt, if◌then◌else◌, List, ◌++◌, ◌⊎◌, length}
 use Rattle.std.specs.Prelude.{take, drop, Result, Ok, Err}
 use Rattle.std.specs.List.{AllByRecursion}
@@ -47,7 +47,7 @@ read_message b =
 abbrev pub message : Grammar (List ℕ) LinkMessage
 message = record { means = Means; bad = FirstFault; reads = read_message }
 
--- the canonical text: the header, and the canonical text of each attribute
+-- the canonical encoding: the header, and the canonical encoding of each attribute
 abbrev pub message_text : LinkMessage → List ℕ
 message_text m = header_bytes m.header ++ canons attribute_frame m.attributes
 

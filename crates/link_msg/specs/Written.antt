@@ -5,7 +5,7 @@ use Rattle.link_msg.specs.declared.message.LinkMessage.{LinkMessage}
 use Rattle.link_msg.specs.declared.canonical_text.CanonError.{CanonError}
 use Rattle.link_msg.specs.declared.canonical_text.CanonError.TheVariants.{Decode, DoesNotFit, EmptyVfPorts, OutOfMemory}
 
--- m fits and holds no empty ports, and t is its canonical text
+-- m fits and holds no empty ports, and t is its canonical encoding
 pub record IsWhole (m : LinkMessage) (t : List ℕ) : Type 0 where
   pub fits : MessageFits m
   pub ports : NoEmptyPorts m

@@ -1,4 +1,4 @@
-//! One canonical text for each message.
+//! One canonical encoding for each message.
 
 ghost use Rattle.std.specs.Prelude.{◌≡◌, ℕ, ◌+◌, ◌-◌, ◌^◌, ◌<◌, ◌≤◌, ◌++◌, ◌↔◌, List, length, take, replicate};
 ghost use Rattle.std.specs.Prelude.{IsTrue, IfOk, IfErr};
@@ -6,20 +6,20 @@ ghost use Rattle.nla_wire.specs.Grammar.{list};
 ghost use Rattle.nla_wire.specs.Canon.{canons, AllFit, HasRoom, Rewrites, Writes};
 ghost use Rattle.link_msg.specs.Header.{header_size, header_bytes};
 ghost use Rattle.link_msg.specs.Tables.{attribute_frame, AttributeFits, attribute_place};
-ghost use Rattle.link_msg.specs.CanonErrors.{SameRefusal};
-ghost use Rattle.link_msg.specs.Runs.{IsRun};
+ghost use Rattle.link_msg.specs.CanonErrors.{SameRefusal, SameRoomRefusal};
+ghost use Rattle.link_msg.specs.Prefixes.{IsPrefix};
 ghost use Rattle.link_msg.specs.Canonical.{IsAccepted, IsRefusal, IsRefusalAlone, IsMeasured, HasLength, HasText};
 ghost use Rattle.link_msg.specs.Canonical.{HoldsText, AreSame, IsRefusalOfTwo, IsWritten, IsWithin};
 
 use crate::attribute::LinkAttribute;
 use crate::header::{HEADER_SIZE, LinkHeader, LinkMessageBuffer};
-use crate::message::{LinkMessage, split_header};
-use crate::table::AttributePlace;
+use crate::message::{LinkMessage, check_attributes, split_header};
+use crate::place::AttributePlace;
 use nla_wire::{Cause, DecodeError, write_members};
 use std::alloc::{AllocError, Global};
 use thiserror::Error;
 
-/// Why there is no canonical text.
+/// Why there is no canonical encoding.
 #[derive(Clone, Copy, Debug, PartialEq, Eq, Error)]
 pub enum CanonError {
     /// Refusal 1: the bytes are no message. The cause is never `OutOfMemory`.
@@ -28,7 +28,7 @@ pub enum CanonError {
     /// Refusal 2: the message does not fit.
     #[error("the message does not fit")]
     DoesNotFit,
-    /// Refusal 3: the message fits, and holds an empty list of ports, which cannot be written.
+    /// Refusal 3: the message fits, and holds an empty list of ports, which has no canonical encoding.
     #[error("an empty list of ports")]
     EmptyVfPorts,
     /// Refusal 4: no memory was left. It says nothing of the bytes.
@@ -83,7 +83,7 @@ impl From<DecodeError> for CanonError {
 }
 
 /// The message that the bytes mean, if it fits and holds no empty list of ports.
-fn read_accepted(alloc: Global, input: &[u8]) -> Result<LinkMessage, CanonError>
+fn parse_accepted(alloc: Global, input: &[u8]) -> Result<LinkMessage, CanonError>
     ensures ok { IfOk result (IsAccepted input.now) }
     ensures err { IfErr result (IsRefusal input.now) }
 {
@@ -97,18 +97,18 @@ fn read_accepted(alloc: Global, input: &[u8]) -> Result<LinkMessage, CanonError>
     Ok(message)
 }
 
-/// The header of a message, the bytes after it, the length of their canonical text, and how many of them in front are
-/// canonical as they are spelled, without memory.
+/// The header of a message, the bytes after it, the length of their canonical encoding, and how many of them in front
+/// are canonical as they are spelled, without memory.
 fn measure(input: &[u8]) -> Result<(LinkHeader, &[u8], usize, usize), CanonError>
     ensures ok { IfOk result (λ w. IsMeasured input.now w.0 w.1.now w.2) }
     ensures room { IfOk result (λ w. header_size + w.2 < 2 ^ 64) }
-    ensures run { IfOk result (λ w. IsRun w.0.interface_family w.1.now w.3) }
+    ensures prefix { IfOk result (λ w. IsPrefix w.0.interface_family w.1.now w.3) }
     ensures err { IfErr result (IsRefusalAlone input.now) }
 {
     let (header, rest) = split_header(input)?;
     let family = header.interface_family;
-    let Some((len, empty, run)) = LinkAttribute::measure_list_with_param(rest, family) else {
-        LinkAttribute::check_list_with_param(rest, family)?;
+    let Some((len, empty, prefix)) = LinkAttribute::measure_list_with_param(rest, family) else {
+        check_attributes(rest, family)?;
         return Err(CanonError::DoesNotFit);
     };
     if len > usize::MAX - HEADER_SIZE {
@@ -117,34 +117,34 @@ fn measure(input: &[u8]) -> Result<(LinkHeader, &[u8], usize, usize), CanonError
     if empty {
         return Err(CanonError::EmptyVfPorts);
     }
-    Ok((header, rest, len, run))
+    Ok((header, rest, len, prefix))
 }
 
-/// Writes the canonical text of the attributes after the run in front, where the header and the run stand in the
-/// buffer, and returns the length of the message's text.
-fn write_after_run(header: &LinkHeader, rest: &[u8], run: usize, out: &mut [u8]) -> usize
-    requires begins { IsRun header.now.interface_family rest.now run }
+/// Writes the canonical encoding of the attributes after the copied prefix, where the header and the prefix stand in
+/// the buffer, and returns the length of the message's text.
+fn write_after_prefix(header: &LinkHeader, rest: &[u8], prefix: usize, out: &mut [u8]) -> usize
+    requires begins { IsPrefix header.now.interface_family rest.now prefix }
     requires measured { HasRoom (canons attribute_frame) (AllFit AttributeFits attribute_frame)
         ((list (attribute_place header.now.interface_family)).reads rest.now)
         (length out.old - header_size) }
     requires long { header_size ≤ length out.old }
-    ensures { (before : List ℕ) → Writes (header_bytes header.now ++ take run rest.now) before
-        out.old (header_size + run)
+    ensures { (before : List ℕ) → Writes (header_bytes header.now ++ take prefix rest.now) before
+        out.old (header_size + prefix)
         → Rewrites (λ vs. header_bytes header.now ++ canons attribute_frame vs)
         ((list (attribute_place header.now.interface_family)).reads rest.now) before
         out.new result }
 {
-    let start = HEADER_SIZE + run;
+    let start = HEADER_SIZE + prefix;
     let place = AttributePlace {
         family: header.interface_family,
     };
-    start + write_members(&place, &rest[run..], &mut out[start..])
+    start + write_members(&place, &rest[prefix..], &mut out[start..])
 }
 
-/// Writes the canonical text of a message that was measured to the front of the buffer, and returns its length. The run
-/// in front is copied at once.
-fn write_message(header: &LinkHeader, rest: &[u8], run: usize, out: &mut [u8]) -> usize
-    requires begins { IsRun header.now.interface_family rest.now run }
+/// Writes the canonical encoding of a message that was measured to the front of the buffer, and returns its length. The
+/// prefix in front is copied at once.
+fn write_message(header: &LinkHeader, rest: &[u8], prefix: usize, out: &mut [u8]) -> usize
+    requires begins { IsPrefix header.now.interface_family rest.now prefix }
     requires measured { HasRoom (canons attribute_frame) (AllFit AttributeFits attribute_frame)
         ((list (attribute_place header.now.interface_family)).reads rest.now)
         (length out.old - header_size) }
@@ -154,43 +154,43 @@ fn write_message(header: &LinkHeader, rest: &[u8], run: usize, out: &mut [u8]) -
         out.new result }
 {
     header.emit(out);
-    out[HEADER_SIZE..HEADER_SIZE + run].copy_from_slice(&rest[..run]);
-    write_after_run(header, rest, run, out)
+    out[HEADER_SIZE..HEADER_SIZE + prefix].copy_from_slice(&rest[..prefix]);
+    write_after_prefix(header, rest, prefix, out)
 }
 
-/// Memory for a text of this length, which begins with the header and the run in front, and ends with zeros.
+/// Memory for a text of this length, which begins with the header and the copied prefix, and ends with zeros.
 fn begin_text(
     alloc: Global,
     header: &LinkHeader,
-    run: &[u8],
+    prefix: &[u8],
     len: usize,
 ) -> Result<Vec<u8>, AllocError>
-    requires { header_size + length run.now ≤ len }
-    ensures { IfOk result (λ t. t.items ≡ header_bytes header.now ++ run.now
-        ++ replicate (len - (header_size + length run.now)) 0) }
+    requires { header_size + length prefix.now ≤ len }
+    ensures { IfOk result (λ t. t.items ≡ header_bytes header.now ++ prefix.now
+        ++ replicate (len - (header_size + length prefix.now)) 0) }
 {
     let mut text = Vec::with_capacity(alloc, len)?;
     text.extend_from_slice(LinkMessageBuffer::from(header).as_bytes())?;
-    text.extend_from_slice(run)?;
+    text.extend_from_slice(prefix)?;
     text.resize(len, 0)?;
     Ok(text)
 }
 
-/// The number of the canonical form: any change of any message's canonical text raises it. Texts of different numbers
-/// are not to be compared, so a store keeps the number beside its keys.
+/// The number of the canonical form: any change of any message's canonical encoding raises it. Texts of different
+/// numbers are not to be compared, so a store keeps the number beside its keys.
 pub const CANONICAL_FORM: u32 = 2;
 
-/// The length of the canonical text of what the bytes mean, without memory.
+/// The length of the canonical encoding of what the bytes mean, without memory.
 ///
 /// Refuses, in this order: `Decode` with the first fault, `DoesNotFit`, `EmptyVfPorts`; and never `OutOfMemory`.
 pub fn canonical_len(input: &[u8]) -> Result<usize, CanonError>
     ensures { HasLength input.now result }
 {
-    let (_header, _rest, len, _run) = measure(input)?;
+    let (_header, _rest, len, _prefix) = measure(input)?;
     Ok(HEADER_SIZE + len)
 }
 
-/// What the bytes mean, as canonical text of the form `CANONICAL_FORM`.
+/// What the bytes mean, in canonical encoding of the form `CANONICAL_FORM`.
 ///
 /// The text means the same message, and its attributes are at most `growth_per_byte` times as long as
 /// those read. Refuses as `canonical_len` does, or with `OutOfMemory`: the text is measured, memory for it is taken
@@ -199,13 +199,13 @@ pub fn canonical(alloc: Global, input: &[u8]) -> Result<Vec<u8>, CanonError>
     ensures ok { IfOk result (λ t. HasText input.now t.items) }
     ensures err { IfErr result (IsRefusal input.now) }
 {
-    let (header, rest, len, run) = measure(input)?;
-    let mut text = begin_text(alloc, &header, &rest[..run], HEADER_SIZE + len)?;
-    let _len = write_after_run(&header, rest, run, text.as_mut_slice());
+    let (header, rest, len, prefix) = measure(input)?;
+    let mut text = begin_text(alloc, &header, &rest[..prefix], HEADER_SIZE + len)?;
+    let _len = write_after_prefix(&header, rest, prefix, text.as_mut_slice());
     Ok(text)
 }
 
-/// Whether two byte strings mean the same message, which is so exactly where their canonical texts are equal.
+/// Whether two byte strings mean the same message, which is so exactly where their canonical encodings are equal.
 ///
 /// Both have to mean messages that fit and hold no empty list of ports. Refuses as `canonical` does, each refusal of
 /// the first before those of the second.
@@ -213,23 +213,30 @@ pub fn same_message(alloc: Global, first: &[u8], second: &[u8]) -> Result<bool, 
     ensures ok { IfOk result (AreSame first.now second.now) }
     ensures err { IfErr result (IsRefusalOfTwo first.now second.now) }
 {
-    let one = read_accepted(alloc, first)?;
-    let other = read_accepted(alloc, second)?;
+    let one = parse_accepted(alloc, first)?;
+    let other = parse_accepted(alloc, second)?;
     Ok(one == other)
 }
 
 /// Why nothing was written to a buffer.
 #[derive(Clone, Copy, Debug, PartialEq, Eq, Error)]
 pub enum RoomError {
-    /// There is no canonical text.
+    /// There is no canonical encoding.
     #[error("{0}")]
     NoText(CanonError),
-    /// The canonical text has more bytes than the buffer.
+    /// The canonical encoding has more bytes than the buffer.
     #[error("the text has {wanted} bytes")]
     NoRoom {
         /// The bytes of the text.
         wanted: usize,
     },
+}
+
+/// Whether two such refusals are equal.
+pub fn same_room_refusal(one: &RoomError, other: &RoomError) -> bool
+    ensures { IsTrue result ↔ SameRoomRefusal one.now other.now }
+{
+    *one == *other
 }
 
 impl From<CanonError> for RoomError {
@@ -242,25 +249,25 @@ impl From<CanonError> for RoomError {
     }
 }
 
-/// Writes what the bytes mean, as canonical text, to the front of a buffer of any size, without memory, and returns its
-/// length. The rest of the buffer is kept.
+/// Writes what the bytes mean, in canonical encoding, to the front of a buffer of any size, without memory, and returns
+/// its length. The rest of the buffer is kept.
 ///
 /// Refuses as `canonical_len` does, and `NoRoom` exactly where the text is longer than the buffer. After a refusal the
 /// buffer is unchanged. The message must not change during the call: the text is measured, and written then.
 pub fn canonical_within(input: &[u8], out: &mut [u8]) -> Result<usize, RoomError>
     ensures { IsWithin input.now out.old out.new result }
 {
-    let (header, rest, len, run) = measure(input)?;
+    let (header, rest, len, prefix) = measure(input)?;
     if out.len() < HEADER_SIZE + len {
         return Err(RoomError::NoRoom {
             wanted: HEADER_SIZE + len,
         });
     }
-    Ok(write_message(&header, rest, run, out))
+    Ok(write_message(&header, rest, prefix, out))
 }
 
-/// Writes what the bytes mean, as canonical text, to the front of the buffer, without memory, and returns its length.
-/// The rest of the buffer is kept.
+/// Writes what the bytes mean, in canonical encoding, to the front of the buffer, without memory, and returns its
+/// length. The rest of the buffer is kept.
 ///
 /// The buffer has room for the text: `growth_per_byte` times as many bytes as the input are enough, and so are those
 /// that `canonical_len` returns. Returns exactly what `canonical` returns with ample memory, and never `OutOfMemory`.

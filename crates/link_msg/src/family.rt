@@ -6,6 +6,7 @@ ghost use Rattle.link_msg.specs.Tables.{af_spec, proto_info};
 
 use crate::attribute::LinkAttribute;
 use crate::payload::{parse_any, parse_some};
+use crate::place::push;
 use link_vals::AddressFamily;
 use nla_wire::{Bytes, DecodeError, DefaultNla, NlaBuffer};
 use std::alloc::Global;
@@ -13,7 +14,7 @@ use std::alloc::Global;
 /// Reads IFLA_AF_SPEC into the room after the last value.
 #[inline(never)]
 #[tactic(auto, unfolding(crate::specs::Tables::af_spec))]
-pub(crate) fn read_af_spec_into(
+pub(crate) fn parse_af_spec_into(
     alloc: Global,
     buffer: &NlaBuffer<'_>,
     family: AddressFamily,
@@ -25,25 +26,25 @@ pub(crate) fn read_af_spec_into(
 {
     let payload = buffer.value();
     match family {
-        AddressFamily::Unspec => {
-            values.push_reserved(LinkAttribute::AfSpecUnspec(parse_any(alloc, payload)?));
-            Ok(())
-        }
-        AddressFamily::Bridge => {
-            values.push_reserved(LinkAttribute::AfSpecBridge(parse_some(alloc, payload)?));
-            Ok(())
-        }
-        _ => {
-            values.push_reserved(LinkAttribute::AfSpecUnknown(Bytes::from_slice(alloc, payload)?));
-            Ok(())
-        }
+        AddressFamily::Unspec => push!(
+            values,
+            LinkAttribute::AfSpecUnspec(parse_any(alloc, payload)?),
+        ),
+        AddressFamily::Bridge => push!(
+            values,
+            LinkAttribute::AfSpecBridge(parse_some(alloc, payload)?),
+        ),
+        _ => push!(
+            values,
+            LinkAttribute::AfSpecUnknown(Bytes::from_slice(alloc, payload)?),
+        ),
     }
 }
 
 /// Reads IFLA_PROTINFO into the room after the last value.
 #[inline(never)]
 #[tactic(auto, unfolding(crate::specs::Tables::proto_info))]
-pub(crate) fn read_proto_info_into(
+pub(crate) fn parse_proto_info_into(
     alloc: Global,
     buffer: &NlaBuffer<'_>,
     family: AddressFamily,
@@ -55,19 +56,17 @@ pub(crate) fn read_proto_info_into(
 {
     let payload = buffer.value();
     match family {
-        AddressFamily::Inet6 => {
-            values.push_reserved(LinkAttribute::ProtoInfoInet6(parse_some(alloc, payload)?));
-            Ok(())
-        }
-        AddressFamily::Bridge => {
-            values.push_reserved(LinkAttribute::ProtoInfoBridge(parse_some(alloc, payload)?));
-            Ok(())
-        }
-        _ => {
-            values.push_reserved(LinkAttribute::ProtoInfoUnknown(DefaultNla::parse(
-                alloc, buffer,
-            )?));
-            Ok(())
-        }
+        AddressFamily::Inet6 => push!(
+            values,
+            LinkAttribute::ProtoInfoInet6(parse_some(alloc, payload)?),
+        ),
+        AddressFamily::Bridge => push!(
+            values,
+            LinkAttribute::ProtoInfoBridge(parse_some(alloc, payload)?),
+        ),
+        _ => push!(
+            values,
+            LinkAttribute::ProtoInfoUnknown(DefaultNla::parse(alloc, buffer)?),
+        ),
     }
 }

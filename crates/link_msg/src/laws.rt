@@ -38,11 +38,13 @@ ghost use Rattle.nla_wire.specs.Grammar.{list};
 ghost use Rattle.link_msg.specs.declared.attribute.LinkAttribute.TheVariants as Attributes;
 ghost use Rattle.link_msg.specs.Tables.{attribute_place, attribute_frame, AttributeFits};
 ghost use Rattle.link_msg.specs.Header.{default_header};
+ghost use Rattle.link_msg.specs.OneAnswer.{EachHasOneAnswer, OneFault, FaultOrMeaning, OneFaultPath};
+ghost use Rattle.link_msg.specs.OneAnswer.{PathOfTheFault};
 ghost use Rattle.link_msg.specs.LawStatements.{OneMeaning, TextMeansTheSame, OnlyWithPorts, SameTextSameMessage};
 ghost use Rattle.link_msg.specs.LawStatements.{CanonicalTwice, Joined, ForeignKept};
 
 use crate::header::LinkHeader;
-use crate::table::AttributePlace;
+use crate::place::AttributePlace;
 use link_vals::AddressFamily;
 use nla_wire::NlaBuffer;
 use nla_wire::laws::{law_members_room, law_place_room};
@@ -52,9 +54,24 @@ pub fn law_one_meaning()
     ensures { OneMeaning }
 {}
 
-/// Where bytes mean a message that fits and holds no empty list of ports, its canonical text means it too; two such
-/// messages have one text exactly where they are one message; and the canonical text of such a text is that text. And a
-/// message that fits and that its canonical text means holds no empty list of ports.
+/// Each byte string has exactly one answer: the canonical encoding of one message, or one refusal. No bytes have two
+/// faults, nor a fault and a meaning.
+pub fn law_one_answer()
+    ensures answer { EachHasOneAnswer }
+    ensures fault { OneFault }
+    ensures meaning { FaultOrMeaning }
+{}
+
+/// A fault is in one place, and the numbers of one path lead there: that of which `fault_path` tells is the only one,
+/// and what is there is the fault of `check`.
+pub fn law_one_fault_path()
+    ensures path { OneFaultPath }
+    ensures fault { PathOfTheFault }
+{}
+
+/// Where bytes mean a message that fits and holds no empty list of ports, its canonical encoding means it too; two such
+/// messages have one encoding exactly where they are one message; and the canonical encoding of such an encoding is
+/// that encoding. And a message that fits and that its canonical encoding means holds no empty list of ports.
 pub fn law_canonical_twice()
     ensures means_the_same { TextMeansTheSame }
     ensures only_with_ports { OnlyWithPorts }
@@ -62,19 +79,19 @@ pub fn law_canonical_twice()
     ensures twice { CanonicalTwice }
 {}
 
-/// `growth_per_byte` bytes of buffer for each byte of a message are room for its canonical text.
+/// `growth_per_byte` bytes of buffer for each byte of a message are room for its canonical encoding.
 pub fn law_room(input: &[u8])
     ensures { HoldsText input.now (growth_per_byte * length input.now) }
 {}
 
-/// As many bytes of buffer as `canonical_len` returns of a message are room for its canonical text.
+/// As many bytes of buffer as `canonical_len` returns of a message are room for its canonical encoding.
 pub fn law_exact_room(input: &[u8], len: usize)
     requires { HasLength input.now (Ok len) }
     ensures { HoldsText input.now len }
 {}
 
 /// `growth_per_byte` bytes of buffer for each byte of an attribute's header and payload are room for its canonical
-/// text.
+/// encoding.
 pub fn law_attribute_room(buffer: &NlaBuffer<'_>, family: AddressFamily)
     ensures { RoomWhereFit (λ v. canon (attribute_frame v)) AttributeFits
         ((attribute_place family).reads buffer.now)
@@ -83,7 +100,7 @@ pub fn law_attribute_room(buffer: &NlaBuffer<'_>, family: AddressFamily)
     law_place_room(&AttributePlace { family }, buffer);
 }
 
-/// `growth_per_byte` bytes of buffer for each byte of a list of attributes are room for its canonical text.
+/// `growth_per_byte` bytes of buffer for each byte of a list of attributes are room for its canonical encoding.
 pub fn law_attributes_room(bytes: &[u8], family: AddressFamily)
     ensures { RoomWhereFit (canons attribute_frame) (AllFit AttributeFits attribute_frame)
         ((list (attribute_place family)).reads bytes.now) (growth_per_byte * length bytes.now) }

@@ -1,23 +1,25 @@
-//! Link messages of route netlink (rtnetlink(7)): read, written, and brought into one canonical text.
+//! Link messages of route netlink (rtnetlink(7)): read, written, and brought into one canonical encoding.
 //!
 //! It gives the public names of the crates below it again, so that a user names this crate alone.
 #![tactic(auto)]
 
 pub mod attribute;
+pub mod before_fault;
 pub mod canonical_text;
-mod content;
 mod family;
 pub mod fault_at;
+pub mod fault_path;
 pub mod header;
 mod kind_names;
 pub mod laws;
 pub mod message;
 pub mod numbers;
 mod payload;
-mod run;
+pub mod place;
+mod prefix;
 mod shape;
-pub mod table;
 pub mod to_vec;
+mod view;
 mod walk;
 
 pub use attribute::LinkAttribute;
@@ -30,6 +32,8 @@ pub use canonical_text::canonical_len;
 pub use canonical_text::canonical_within;
 pub use canonical_text::same_message;
 pub use canonical_text::same_refusal;
+pub use canonical_text::same_room_refusal;
+pub use fault_path::FaultPath;
 pub use header::LinkHeader;
 pub use header::LinkMessageBuffer;
 pub use link_afspec::AfSpecBridge;

@@ -6,10 +6,13 @@ ghost use Rattle.nla_wire.specs.Canon.{Filled, Measures};
 ghost use Rattle.link_msg.specs.Header.{header_size, header_of};
 ghost use Rattle.nla_wire.specs.Fields.{IsShort};
 ghost use Rattle.nla_wire.specs.Gives.{Gives, Checks};
+ghost use Rattle.nla_wire.specs.Grammar.{list};
+ghost use Rattle.link_msg.specs.Tables.{attribute_place, Values};
 ghost use Rattle.nla_wire.specs.declared.error.Cause.TheVariants.{OutOfMemory};
 
 use crate::attribute::LinkAttribute;
 use crate::header::{HEADER_SIZE, LinkHeader, LinkMessageBuffer, no_header};
+use link_vals::AddressFamily;
 use nla_wire::{
     CloneIn, DecodeError, Exact, List, fill_bytes, nlas_fill, nlas_measure, nlas_write,
 };
@@ -41,6 +44,21 @@ pub(crate) fn split_header(input: &[u8]) -> Result<(LinkHeader, &[u8]), DecodeEr
     Ok((LinkHeader::parse(front)?, rest))
 }
 
+/// Whether the bytes after a header are attributes under its family, and the first fault if not, whose place is the
+/// message where no attribute holds it.
+pub(crate) fn check_attributes(rest: &[u8], family: AddressFamily) -> Result<(), DecodeError>
+    ensures found { IfOk result
+        (λ _. (vs : Values) × (list (attribute_place family)).means rest.now vs) }
+    ensures fault { IfErr result (λ e. (list (attribute_place family)).bad rest.now e.cause) }
+    ensures memory { IfErr result (λ e. e.cause ≢ OutOfMemory) }
+    ensures reads { Checks result ((list (attribute_place family)).reads rest.now) }
+{
+    match LinkAttribute::check_list_with_param(rest, family) {
+        Ok(()) => Ok(()),
+        Err(error) => Err(error.within(OUTERMOST)),
+    }
+}
+
 impl LinkMessage {
     ghost use Rattle.link_msg.specs.Header.{default_header};
     ghost use Rattle.link_msg.specs.Messages.{Means, FirstFault, MeansNothing, IsBounded, read_message, message_text};
@@ -61,8 +79,8 @@ impl LinkMessage {
     ///
     /// Refuses `TooShort` below 16 bytes, else with the first fault of the attributes, front to back, each value before
     /// the next attribute; or `OutOfMemory`, which says nothing of the bytes. Four times the number of attributes, at
-    /// all levels, is at most the number of bytes after the header; their canonical text is at most `growth_per_byte`
-    /// times as long; and what was read from at most `small_enough` bytes after the header fits.
+    /// all levels, is at most the number of bytes after the header; their canonical encoding is at most
+    /// `growth_per_byte` times as long; and what was read from at most `small_enough` bytes after the header fits.
     pub fn parse(alloc: Global, input: &[u8]) -> Result<LinkMessage, DecodeError>
         ensures means { IfOk result (Means input.now) }
         ensures bounds { IfOk result (IsBounded input.now) }
@@ -70,12 +88,12 @@ impl LinkMessage {
         ensures refused { IfErr result (λ e. e.cause ≢ OutOfMemory → MeansNothing input.now) }
         ensures reads { Gives result (read_message input.now) }
     {
-        LinkMessage::read(alloc, input)
+        LinkMessage::parse_input(alloc, input)
     }
 
     /// What `parse` does; for the proof: its clause cites the reader alone, and those of `parse` follow.
     #[tactic(auto, unfolding(crate::specs::Messages::read_message))]
-    fn read(alloc: Global, input: &[u8]) -> Result<LinkMessage, DecodeError>
+    fn parse_input(alloc: Global, input: &[u8]) -> Result<LinkMessage, DecodeError>
         ensures { Gives result (read_message input.now) }
     {
         let (header, rest) = split_header(input)?;
@@ -97,23 +115,20 @@ impl LinkMessage {
         ensures memory { IfErr result (λ e. e.cause ≢ OutOfMemory) }
         ensures reads { Checks result (read_message input.now) }
     {
-        LinkMessage::look(input)
+        LinkMessage::check_input(input)
     }
 
     /// What `check` does; for the proof: its clause cites the reader alone, and those of `check` follow.
     #[tactic(auto, unfolding(crate::specs::Messages::read_message))]
-    fn look(input: &[u8]) -> Result<(), DecodeError>
+    fn check_input(input: &[u8]) -> Result<(), DecodeError>
         ensures { Checks result (read_message input.now) }
     {
         let (header, rest) = split_header(input)?;
-        match LinkAttribute::check_list_with_param(rest, header.interface_family) {
-            Ok(()) => Ok(()),
-            Err(error) => Err(error.within(OUTERMOST)),
-        }
+        check_attributes(rest, header.interface_family)
     }
 
-    /// The length of the canonical text, or `None` where the message does not fit. The walk over the values is a call
-    /// that only reads, so a caller of `fits` and then of `buffer_len` makes it once.
+    /// The length of the canonical encoding, or `None` where the message does not fit. The walk over the values is a
+    /// call that only reads, so a caller of `fits` and then of `buffer_len` makes it once.
     #[inline(always)]
     #[tactic(auto, using(crate::proofs::Messaging::text_length))]
     fn measured(&self) -> Option<usize>
@@ -132,7 +147,7 @@ impl LinkMessage {
         self.measured().is_some()
     }
 
-    /// The length of the canonical text.
+    /// The length of the canonical encoding.
     pub fn buffer_len(&self) -> usize
         requires { MessageFits self.now }
         ensures { result ≡ length (message_text self.now) }
@@ -143,7 +158,7 @@ impl LinkMessage {
         }
     }
 
-    /// Fills the last bytes of the buffer with the canonical text, and returns the place of its first byte. Earlier
+    /// Fills the last bytes of the buffer with the canonical encoding, and returns the place of its first byte. Earlier
     /// bytes are kept.
     #[tactic(auto, using(crate::proofs::Messaging::text_length))]
     pub fn fill(&self, buffer: &mut [u8]) -> usize
@@ -156,7 +171,7 @@ impl LinkMessage {
         fill_bytes(&mut buffer[..start], header.as_bytes())
     }
 
-    /// Writes the canonical text to the front of the buffer, and keeps the rest.
+    /// Writes the canonical encoding to the front of the buffer, and keeps the rest.
     #[tactic(auto, using(crate::proofs::Messaging::text_length))]
     pub fn emit(&self, buffer: &mut [u8])
         requires fits { MessageFits self.now }

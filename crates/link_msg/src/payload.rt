@@ -13,7 +13,7 @@ ghost use Rattle.link_msg.specs.declared.shape.Shape.TheVariants as Shapes;
 
 use link_nest::WirelessEvent;
 use link_vals::LinkExtentMask;
-use link_vf::{LinkVfInfo, LinkVfPort};
+use link_vf::{Entry, LinkVfInfo, LinkVfPort};
 use nla_wire::{DecodeError, List, NLA_HEADER_SIZE, NlaRead, empty_list, finish, parse_u32};
 use std::alloc::Global;
 

@@ -6,7 +6,7 @@ ghost use Rattle.nla_wire.specs.Sizes.{most_payload};
 ghost use Rattle.nla_wire.proofs.Codec.{kind_of};
 ghost use Rattle.nla_wire.proofs.Shapes.{ShapeChecks, ShapeWeighs, ShapeRoom, ShapeWrites};
 ghost use Rattle.link_msg.specs.Tables.{base, proto_info, af_spec, as_way, attribute_way};
-ghost use Rattle.link_msg.specs.Runs.{IsCopied};
+ghost use Rattle.link_msg.specs.Prefixes.{IsCopied};
 ghost use Rattle.link_msg.specs.declared.shape.Shape.TheVariants as Shapes;
 
 use crate::numbers::*;
@@ -19,7 +19,7 @@ use link_nest::{
 };
 use link_recs::{Map, Stats, Stats64};
 use link_vals::AddressFamily;
-use link_vf::{LinkVfInfo, LinkVfPort};
+use link_vf::{Entry, LinkVfInfo, LinkVfPort};
 use nla_wire::error::checked;
 use nla_wire::{
     DecodeError, NLA_F_NESTED, NlaRead, PlainRecord, Record, check_string, measure_text,
@@ -30,7 +30,7 @@ use nla_wire::{
 /// The most bytes of an id that are written.
 const ID_SIZE: usize = 32;
 
-/// What a payload has to be, and how its canonical text follows from it.
+/// What a payload has to be, and how its canonical encoding follows from it.
 #[derive(Clone, Copy)]
 pub(crate) enum Shape {
     /// Bytes, written as they are.
@@ -213,7 +213,7 @@ impl Shape {
         }
     }
 
-    /// Whether a payload of this shape that is as long as its canonical text is that text.
+    /// Whether a payload of this shape that is as long as its canonical encoding is that text.
     #[inline(always)]
     pub(crate) fn is_copied(self) -> bool
         ensures { IsTrue result → IsCopied self }

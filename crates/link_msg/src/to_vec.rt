@@ -10,23 +10,23 @@ use nla_wire::Cause;
 use std::alloc::{AllocError, Global};
 
 impl LinkMessage {
-    /// The canonical text of a message that fits, or out of memory.
-    fn text(&self, alloc: Global) -> Result<Vec<u8>, AllocError>
+    /// The canonical encoding of a message that fits, or out of memory.
+    fn encoding(&self, alloc: Global) -> Result<Vec<u8>, AllocError>
         requires { MessageFits self.now }
-        ensures { IfOk result (λ text. text.items ≡ message_text self.now) }
+        ensures { IfOk result (λ encoding. encoding.items ≡ message_text self.now) }
     {
         let len = self.buffer_len();
-        let mut text = Vec::with_capacity(alloc, len)?;
-        text.resize(len, 0)?;
-        self.emit(text.as_mut_slice());
-        Ok(text)
+        let mut encoding = Vec::with_capacity(alloc, len)?;
+        encoding.resize(len, 0)?;
+        self.emit(encoding.as_mut_slice());
+        Ok(encoding)
     }
 
-    /// The canonical text, in memory that is taken once.
+    /// The canonical encoding, in memory that is taken once.
     ///
     /// Refuses, in this order: `DoesNotFit`, `EmptyVfPorts`, and `OutOfMemory`, which says nothing of the message.
     pub fn to_vec(&self, alloc: Global) -> Result<Vec<u8>, CanonError>
-        ensures ok { IfOk result (λ text. IsWhole self.now text.items) }
+        ensures ok { IfOk result (λ encoding. IsWhole self.now encoding.items) }
         ensures err { IfErr result (IsUnwritten self.now) }
     {
         if !self.fits() {
@@ -35,15 +35,15 @@ impl LinkMessage {
         if self.has_empty_ports() {
             return Err(CanonError::EmptyVfPorts);
         }
-        Ok(self.text(alloc)?)
+        Ok(self.encoding(alloc)?)
     }
 
-    /// Whether the message fits and its canonical text means it, which is so of every message that was read, fits and
-    /// holds no empty list of ports.
+    /// Whether the message fits and its canonical encoding means it, which is so of every message that was read, fits
+    /// and holds no empty list of ports.
     ///
     /// Of a message that was built it can be otherwise: a list is empty that must not be, an attribute holds what is
-    /// read under another family, or `Other` holds a frame with the number of a listed attribute. The text is written
-    /// and read, in memory that is given back; the error says that there was too little.
+    /// read under another family, or `Other` holds a frame with the number of a listed attribute. The encoding is
+    /// written and read, in memory that is given back; the error says that there was too little.
     pub fn reads_back(&self, alloc: Global) -> Result<bool, AllocError>
         ensures { IfOk result (λ same.
             IsTrue same ↔ (MessageFits self.now × Means (message_text self.now) self.now)) }
@@ -51,8 +51,8 @@ impl LinkMessage {
         if !self.fits() {
             return Ok(false);
         }
-        let text = self.text(alloc)?;
-        match LinkMessage::parse(alloc, text.as_slice()) {
+        let encoding = self.encoding(alloc)?;
+        match LinkMessage::parse(alloc, encoding.as_slice()) {
             Ok(read) => Ok(read == *self),
             Err(error) => match error.cause {
                 Cause::OutOfMemory => Err(AllocError),

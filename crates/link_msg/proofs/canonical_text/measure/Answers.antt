@@ -5,21 +5,21 @@ use Rattle.link_msg.specs.declared.canonical_text.CanonError.TheVariants as Refu
 use Rattle.link_msg.proofs.Writing.{measured_refused, measured_none, measured_long, measured_empty, measured_whole}
 use Rattle.link_msg.proofs.canonical_text.measure.Goals as goal
 
-pub returns-in_err-check_list_with_param-clause-err : goal.returns-in_err-check_list_with_param-clause-err
-returns-in_err-check_list_with_param-clause-err c =
-    let p = err_from_is_err_and c.from_residual-in_err-check_list_with_param.result
-    c.from_residual-in_err-check_list_with_param.ensures.1 in
+pub returns-in_err-check_attributes-clause-err : goal.returns-in_err-check_attributes-clause-err
+returns-in_err-check_attributes-clause-err c =
+    let p = err_from_is_err_and c.from_residual-in_err-check_attributes.result
+    c.from_residual-in_err-check_attributes.ensures.1 in
     rw (p.1, p.2)
     (measured_refused c.args.input.now c.in_ok-header.header c.in_ok-header.rest.now
-    c.in_ok-header.ensures.0 c.in_ok-header.ensures.1 c.in_ok-header.ensures.2 c.in_err-check_list_with_param.field-0.0
-    c.in_err-check_list_with_param.ensures.fault c.in_err-check_list_with_param.ensures.memory)
+    c.in_ok-header.ensures.0 c.in_ok-header.ensures.1 c.in_ok-header.ensures.2 c.in_err-check_attributes.field-0.0
+    c.in_err-check_attributes.ensures.fault c.in_err-check_attributes.ensures.memory)
 
 unfit_alone : Refusals.DoesNotFit ≢ Refusals.OutOfMemory
 unfit_alone same = absurd cc
 
 pub returns-in_default-clause-err : goal.returns-in_default-clause-err
 returns-in_default-clause-err c =
-    let found = c.in_ok-check_list_with_param.ensures.found in (
+    let found = c.in_ok-check_attributes.ensures.found in (
       measured_none c.args.input.now c.in_ok-header.header c.in_ok-header.rest.now c.in_ok-header.ensures.0
           c.in_ok-header.ensures.1 c.in_ok-header.ensures.2 found.0 found.1 c.in_default.ensures,
       unfit_alone,

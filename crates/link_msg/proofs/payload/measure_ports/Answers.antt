@@ -15,4 +15,4 @@ returns c =
     some_weighs (canons link_vf_port_place.frame)
     (NestFits (canons link_vf_port_place.frame) (AllFit link_vf_port_place.Fits link_vf_port_place.frame))
     c.args.payload.now (vf_port_list.grammar.reads c.args.payload.now) c.measure_list.result
-    (not_none c.args.payload.now c.if-is_empty.ensures) c.measure_list.ensures
+    (not_none c.args.payload.now c.if-is_empty.ensures) c.measure_list.ensures.reads

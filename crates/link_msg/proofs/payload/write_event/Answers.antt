@@ -8,4 +8,4 @@ returns c =
     nested_written wireless_text c.args.kind (wireless_event.reads c.args.payload.now)
     c.args.out.now c.write-len.new.out c.write-len.result c.finish.new.out c.finish.result
     (nested_room wireless_text WirelessFits c.args.kind (wireless_event.reads c.args.payload.now)
-    (length c.args.out.now) c.requires).1 c.write-len.ensures c.finish.ensures
+    (length c.args.out.now) c.requires).1 c.write-len.ensures.reads c.finish.ensures

@@ -14,4 +14,4 @@ pub returns : goal.returns
 returns c =
     some_rewrites (λ vs. canon (nest (canons link_vf_port_place.frame) c.args.kind vs)) c.args.payload.now
     (vf_port_list.grammar.reads c.args.payload.now) c.args.out.now c.write_list.new.out c.write_list.result
-    c.write_list.ensures
+    c.write_list.ensures.reads

@@ -43,27 +43,27 @@ returns-in_default-add_len c =
     c.in-Some-measure_frame.value c.padded_len.result (rw c.in-Some-measure_frame.is at c.measure_frame.ensures)
     c.padded_len.ensures) c.in_default-add_len.ensures)
 
-pub loop-item-preserved-then-has_no_port : goal.loop-item-preserved-then-has_no_port
-loop-item-preserved-then-has_no_port c =
+pub loop-item-preserved-then-is_empty_ports : goal.loop-item-preserved-then-is_empty_ports
+loop-item-preserved-then-is_empty_ports c =
     let steps = rw c.in-Ok.is at c.in-Some.ensures.steps in
     telling_none c.args.family (list_of (attribute_place c.args.family).reads c.args.bytes.now)
     c.loop-item.item-iterator c.loop-item.len c.loop-item.empty c.loop-item.invariant c.in-Ok.frame c.next.new.self
-    steps c.has_no_port.ensures.frame c.in-Some-measure_frame.value
+    steps c.is_empty_ports.ensures.frame c.in-Some-measure_frame.value
     (rw c.in-Some-measure_frame.is at c.measure_frame.ensures) c.padded_len.result c.in-Some-add_len.more
     c.padded_len.ensures c.in-Some-add_len.ensures.1
     (omega (arith, c.in-Some-add_len.ensures.0, c.in-Some-add_len.ensures.1))
-    (c.if-has_no_port.ensures.told.0 refl)
+    (c.if-is_empty_ports.ensures.told.0 refl)
 
 pub loop-item-preserved : goal.loop-item-preserved
 loop-item-preserved c =
     let steps = rw c.in-Ok.is at c.in-Some.ensures.steps in
     telling_some c.args.family (list_of (attribute_place c.args.family).reads c.args.bytes.now)
     c.loop-item.item-iterator c.loop-item.len c.loop-item.empty c.loop-item.invariant c.in-Ok.frame c.next.new.self
-    steps c.has_no_port.ensures.frame c.in-Some-measure_frame.value
+    steps c.is_empty_ports.ensures.frame c.in-Some-measure_frame.value
     (rw c.in-Some-measure_frame.is at c.measure_frame.ensures) c.padded_len.result c.in-Some-add_len.more
     c.padded_len.ensures c.in-Some-add_len.ensures.1
     (omega (arith, c.in-Some-add_len.ensures.0, c.in-Some-add_len.ensures.1))
-    (λ none. let wrong : false ≡ true = c.if-has_no_port.ensures.told.1 none in absurd cc)
+    (λ none. let wrong : false ≡ true = c.if-is_empty_ports.ensures.told.1 none in absurd cc)
 
 pub returns : goal.returns
 returns c = telling_ends c.args.family (list_of (attribute_place c.args.family).reads c.args.bytes.now)

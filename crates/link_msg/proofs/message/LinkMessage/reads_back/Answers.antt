@@ -7,9 +7,9 @@ pub returns-in-Ok : goal.returns-in-Ok
 returns-in-Ok c =
     let decided = message_exact c.in-Ok.read c.args.self.now in
     read_again c.as_slice.result.now c.args.self.now c.in-Ok.read c.eq.result (c.fits.ensures.0 c.if-not-fits.false)
-    (c.as_slice.ensures.value ∙ c.in_ok-text.ensures) c.in-Ok.ensures.means
+    (c.as_slice.ensures.value ∙ c.in_ok-encoding.ensures) c.in-Ok.ensures.means
     (λ e. decided.0 (sym c.eq.ensures ∙ e), λ e. c.eq.ensures ∙ decided.1 e)
 
 pub returns : goal.returns
-returns c = not_read_again c.as_slice.result.now c.args.self.now (c.as_slice.ensures.value ∙ c.in_ok-text.ensures)
+returns c = not_read_again c.as_slice.result.now c.args.self.now (c.as_slice.ensures.value ∙ c.in_ok-encoding.ensures)
     (c.in-Err.ensures.refused c.in_default.not-OutOfMemory)

@@ -84,23 +84,23 @@ pub returns-in-Event : goal.returns-in-Event
 returns-in-Event c =
     arm_weighs c.args.self Shapes.Event c.args.payload.now c.measure.result c.in-Event.is
     (weighs_inside wireless_text WirelessFits WirelessFits (λ x fits. fits)
-    (wireless_event.reads c.args.payload.now) c.measure.result c.measure.ensures)
+    (wireless_event.reads c.args.payload.now) c.measure.result c.measure.ensures.reads)
 
 pub returns-in-Port : goal.returns-in-Port
 unfolding link_vf_port_place
 returns-in-Port c =
     arm_weighs c.args.self Shapes.Port c.args.payload.now c.measure_entry.result c.in-Port.is
-    (c.measure_entry.ensures)
+    (c.measure_entry.ensures.reads)
 
 pub returns-in-Infos : goal.returns-in-Infos
 returns-in-Infos c =
     arm_weighs c.args.self Shapes.Infos c.args.payload.now c.measure_some.result c.in-Infos.is
-    (c.measure_some.ensures)
+    (c.measure_some.ensures.reads)
 
 pub returns-in-Functions : goal.returns-in-Functions
 returns-in-Functions c =
     arm_weighs c.args.self Shapes.Functions c.args.payload.now c.measure_list.result c.in-Functions.is
-    (c.measure_list.ensures)
+    (c.measure_list.ensures.reads)
 
 pub returns-in-Ports : goal.returns-in-Ports
 returns-in-Ports c =
@@ -110,44 +110,44 @@ returns-in-Ports c =
 pub returns-in-Xdps : goal.returns-in-Xdps
 returns-in-Xdps c =
     arm_weighs c.args.self Shapes.Xdps c.args.payload.now c.measure_some-in-Xdps.result c.in-Xdps.is
-    (c.measure_some-in-Xdps.ensures)
+    (c.measure_some-in-Xdps.ensures.reads)
 
 pub returns-in-Props : goal.returns-in-Props
 returns-in-Props c =
     arm_weighs c.args.self Shapes.Props c.args.payload.now c.measure_nested.result c.in-Props.is
-    (c.measure_nested.ensures)
+    (c.measure_nested.ensures.reads)
 
 pub returns-in-Reasons : goal.returns-in-Reasons
 returns-in-Reasons c =
     arm_weighs c.args.self Shapes.Reasons c.args.payload.now c.measure_nested-in-Reasons.result c.in-Reasons.is
-    (c.measure_nested-in-Reasons.ensures)
+    (c.measure_nested-in-Reasons.ensures.reads)
 
 pub returns-in-DevlinkPorts : goal.returns-in-DevlinkPorts
 returns-in-DevlinkPorts c =
     arm_weighs c.args.self Shapes.DevlinkPorts c.args.payload.now c.measure_nested-in-DevlinkPorts.result
-    c.in-DevlinkPorts.is (c.measure_nested-in-DevlinkPorts.ensures)
+    c.in-DevlinkPorts.is (c.measure_nested-in-DevlinkPorts.ensures.reads)
 
 pub returns-in-DpllPins : goal.returns-in-DpllPins
 returns-in-DpllPins c =
     arm_weighs c.args.self Shapes.DpllPins c.args.payload.now c.measure_nested-in-DpllPins.result c.in-DpllPins.is
-    (c.measure_nested-in-DpllPins.ensures)
+    (c.measure_nested-in-DpllPins.ensures.reads)
 
 pub returns-in-BridgeInfos : goal.returns-in-BridgeInfos
 returns-in-BridgeInfos c =
     arm_weighs c.args.self Shapes.BridgeInfos c.args.payload.now c.measure_some-in-BridgeInfos.result
-    c.in-BridgeInfos.is (c.measure_some-in-BridgeInfos.ensures)
+    c.in-BridgeInfos.is (c.measure_some-in-BridgeInfos.ensures.reads)
 
 pub returns-in-Inet6Infos : goal.returns-in-Inet6Infos
 returns-in-Inet6Infos c =
     arm_weighs c.args.self Shapes.Inet6Infos c.args.payload.now c.measure_some-in-Inet6Infos.result c.in-Inet6Infos.is
-    (c.measure_some-in-Inet6Infos.ensures)
+    (c.measure_some-in-Inet6Infos.ensures.reads)
 
 pub returns-in-Bridges : goal.returns-in-Bridges
 returns-in-Bridges c =
     arm_weighs c.args.self Shapes.Bridges c.args.payload.now c.measure_some-in-Bridges.result c.in-Bridges.is
-    (c.measure_some-in-Bridges.ensures)
+    (c.measure_some-in-Bridges.ensures.reads)
 
 pub returns-in-Unspecs : goal.returns-in-Unspecs
 returns-in-Unspecs c =
     arm_weighs c.args.self Shapes.Unspecs c.args.payload.now c.measure_nested-in-Unspecs.result c.in-Unspecs.is
-    (c.measure_nested-in-Unspecs.ensures)
+    (c.measure_nested-in-Unspecs.ensures.reads)

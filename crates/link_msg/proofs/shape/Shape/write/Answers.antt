@@ -169,7 +169,7 @@ pub returns-in-Port : goal.returns-in-Port
 unfolding link_vf_port_place
 returns-in-Port c =
     arm_writes c.args.self Shapes.Port c.args.number c.args.payload.now c.args.out.now c.write_entry.new.out
-    c.write_entry.result c.in-Port.is (c.write_entry.ensures)
+    c.write_entry.result c.in-Port.is (c.write_entry.ensures.reads)
 
 pub write_some-requires : goal.write_some-requires
 write_some-requires c = arm_room c.args.self Shapes.Infos c.args.number c.args.payload.now
@@ -178,7 +178,7 @@ write_some-requires c = arm_room c.args.self Shapes.Infos c.args.number c.args.p
 pub returns-in-Infos : goal.returns-in-Infos
 returns-in-Infos c =
     arm_writes c.args.self Shapes.Infos c.args.number c.args.payload.now c.args.out.now c.write_some.new.out
-    c.write_some.result c.in-Infos.is (c.write_some.ensures)
+    c.write_some.result c.in-Infos.is (c.write_some.ensures.reads)
 
 pub write_list-requires : goal.write_list-requires
 write_list-requires c = arm_room c.args.self Shapes.Functions c.args.number c.args.payload.now
@@ -187,7 +187,7 @@ write_list-requires c = arm_room c.args.self Shapes.Functions c.args.number c.ar
 pub returns-in-Functions : goal.returns-in-Functions
 returns-in-Functions c =
     arm_writes c.args.self Shapes.Functions c.args.number c.args.payload.now c.args.out.now c.write_list.new.out
-    c.write_list.result c.in-Functions.is (c.write_list.ensures)
+    c.write_list.result c.in-Functions.is (c.write_list.ensures.reads)
 
 pub write_ports-requires : goal.write_ports-requires
 write_ports-requires c = arm_room c.args.self Shapes.Ports c.args.number c.args.payload.now
@@ -205,7 +205,7 @@ write_some-requires-in-Xdps c = arm_room c.args.self Shapes.Xdps c.args.number c
 pub returns-in-Xdps : goal.returns-in-Xdps
 returns-in-Xdps c =
     arm_writes c.args.self Shapes.Xdps c.args.number c.args.payload.now c.args.out.now c.write_some-in-Xdps.new.out
-    c.write_some-in-Xdps.result c.in-Xdps.is (c.write_some-in-Xdps.ensures)
+    c.write_some-in-Xdps.result c.in-Xdps.is (c.write_some-in-Xdps.ensures.reads)
 
 pub write_nested-requires : goal.write_nested-requires
 write_nested-requires c = arm_room c.args.self Shapes.Props c.args.number c.args.payload.now
@@ -214,7 +214,7 @@ write_nested-requires c = arm_room c.args.self Shapes.Props c.args.number c.args
 pub returns-in-Props : goal.returns-in-Props
 returns-in-Props c =
     arm_writes c.args.self Shapes.Props c.args.number c.args.payload.now c.args.out.now c.write_nested.new.out
-    c.write_nested.result c.in-Props.is (c.write_nested.ensures)
+    c.write_nested.result c.in-Props.is (c.write_nested.ensures.reads)
 
 pub write_nested-requires-in-Reasons : goal.write_nested-requires-in-Reasons
 write_nested-requires-in-Reasons c = arm_room c.args.self Shapes.Reasons c.args.number c.args.payload.now
@@ -224,7 +224,7 @@ pub returns-in-Reasons : goal.returns-in-Reasons
 returns-in-Reasons c =
     arm_writes c.args.self Shapes.Reasons c.args.number
     c.args.payload.now c.args.out.now c.write_nested-in-Reasons.new.out c.write_nested-in-Reasons.result c.in-Reasons.is
-    (c.write_nested-in-Reasons.ensures)
+    (c.write_nested-in-Reasons.ensures.reads)
 
 pub write_nested-requires-in-DevlinkPorts : goal.write_nested-requires-in-DevlinkPorts
 write_nested-requires-in-DevlinkPorts c = arm_room c.args.self Shapes.DevlinkPorts c.args.number c.args.payload.now
@@ -234,7 +234,7 @@ pub returns-in-DevlinkPorts : goal.returns-in-DevlinkPorts
 returns-in-DevlinkPorts c =
     arm_writes c.args.self Shapes.DevlinkPorts c.args.number c.args.payload.now
     c.args.out.now c.write_nested-in-DevlinkPorts.new.out c.write_nested-in-DevlinkPorts.result c.in-DevlinkPorts.is
-    (c.write_nested-in-DevlinkPorts.ensures)
+    (c.write_nested-in-DevlinkPorts.ensures.reads)
 
 pub write_nested-requires-in-DpllPins : goal.write_nested-requires-in-DpllPins
 write_nested-requires-in-DpllPins c = arm_room c.args.self Shapes.DpllPins c.args.number c.args.payload.now
@@ -244,7 +244,7 @@ pub returns-in-DpllPins : goal.returns-in-DpllPins
 returns-in-DpllPins c =
     arm_writes c.args.self Shapes.DpllPins c.args.number c.args.payload.now
     c.args.out.now c.write_nested-in-DpllPins.new.out c.write_nested-in-DpllPins.result c.in-DpllPins.is
-    (c.write_nested-in-DpllPins.ensures)
+    (c.write_nested-in-DpllPins.ensures.reads)
 
 pub write_some-requires-in-BridgeInfos : goal.write_some-requires-in-BridgeInfos
 write_some-requires-in-BridgeInfos c = arm_room c.args.self Shapes.BridgeInfos c.args.number c.args.payload.now
@@ -254,7 +254,7 @@ pub returns-in-BridgeInfos : goal.returns-in-BridgeInfos
 returns-in-BridgeInfos c =
     arm_writes c.args.self Shapes.BridgeInfos c.args.number c.args.payload.now
     c.args.out.now c.write_some-in-BridgeInfos.new.out c.write_some-in-BridgeInfos.result c.in-BridgeInfos.is
-    (c.write_some-in-BridgeInfos.ensures)
+    (c.write_some-in-BridgeInfos.ensures.reads)
 
 pub write_some-requires-in-Inet6Infos : goal.write_some-requires-in-Inet6Infos
 write_some-requires-in-Inet6Infos c = arm_room c.args.self Shapes.Inet6Infos c.args.number c.args.payload.now
@@ -264,7 +264,7 @@ pub returns-in-Inet6Infos : goal.returns-in-Inet6Infos
 returns-in-Inet6Infos c =
     arm_writes c.args.self Shapes.Inet6Infos c.args.number c.args.payload.now
     c.args.out.now c.write_some-in-Inet6Infos.new.out c.write_some-in-Inet6Infos.result c.in-Inet6Infos.is
-    (c.write_some-in-Inet6Infos.ensures)
+    (c.write_some-in-Inet6Infos.ensures.reads)
 
 pub write_some-requires-in-Bridges : goal.write_some-requires-in-Bridges
 write_some-requires-in-Bridges c = arm_room c.args.self Shapes.Bridges c.args.number c.args.payload.now
@@ -273,7 +273,8 @@ write_some-requires-in-Bridges c = arm_room c.args.self Shapes.Bridges c.args.nu
 pub returns-in-Bridges : goal.returns-in-Bridges
 returns-in-Bridges c =
     arm_writes c.args.self Shapes.Bridges c.args.number c.args.payload.now c.args.out.now
-    c.write_some-in-Bridges.new.out c.write_some-in-Bridges.result c.in-Bridges.is (c.write_some-in-Bridges.ensures)
+    c.write_some-in-Bridges.new.out c.write_some-in-Bridges.result c.in-Bridges.is
+    (c.write_some-in-Bridges.ensures.reads)
 
 pub write_nested-requires-in-Unspecs : goal.write_nested-requires-in-Unspecs
 write_nested-requires-in-Unspecs c = arm_room c.args.self Shapes.Unspecs c.args.number c.args.payload.now
@@ -283,4 +284,4 @@ pub returns-in-Unspecs : goal.returns-in-Unspecs
 returns-in-Unspecs c =
     arm_writes c.args.self Shapes.Unspecs c.args.number
     c.args.payload.now c.args.out.now c.write_nested-in-Unspecs.new.out c.write_nested-in-Unspecs.result c.in-Unspecs.is
-    (c.write_nested-in-Unspecs.ensures)
+    (c.write_nested-in-Unspecs.ensures.reads)
