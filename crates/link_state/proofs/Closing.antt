@@ -14,8 +14,8 @@ use Rattle.nla_wire.proofs.Back.{canon_begins}
 use Rattle.link_state.specs.Table.{action_of, find}
 use Rattle.link_state.specs.Cleared.{payload_by, cleared}
 use Rattle.link_state.specs.declared.level.Level.{Level}
-use Rattle.link_state.specs.declared.level.Action.{Action}
-use Rattle.link_state.specs.declared.level.Action.TheVariants.{Keep}
+use Rattle.link_state.specs.Table.{Action}
+use Rattle.link_state.specs.Table.Action.{Keep}
 use Rattle.link_state.proofs.Walking.{cleared_next, cleared_nil, length-payload_by}
 
 -- the first of what is to be shown, and the rest of it
@@ -46,7 +46,7 @@ acted_text : (action : Action) (f : Frame)
 acted_text action f = ap (λ n. to_le_bytes w16 (4 + n) ++ to_le_bytes w16 f.kind ++ payload_by cleared action f.payload
     ++ replicate (missing n) 0) (sym (length-payload_by action f.payload))
 
--- the first frame of canonical text
+-- the first frame of canonical encoding
 cleared_canon : (level : Level) (f : Frame) (rest : List ℕ) → IsWritable f
     → cleared level (canon f ++ rest) ≡ canon (cleared_frame level f) ++ cleared level rest
 cleared_canon level f rest writable =

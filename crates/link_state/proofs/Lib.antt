@@ -5,4 +5,5 @@ pub mod Payloads
 pub mod Places
 pub mod States
 pub mod Masks
+pub mod Outlines
 pub mod StateLaws

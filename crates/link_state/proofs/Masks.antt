@@ -26,8 +26,8 @@ use Rattle.link_state.specs.Table.{action_of}
 use Rattle.link_state.specs.Cleared.{info_level, part, payload_by, cleared_on, cleared}
 use Rattle.link_state.specs.Masks.{part_mask, payload_mask, mask_on, mask_within, mask, blank}
 use Rattle.link_state.specs.declared.level.Level.{Level}
-use Rattle.link_state.specs.declared.level.Action.{Action}
-use Rattle.link_state.specs.declared.level.Action.TheVariants.{Keep, Clear, ClearPart, Enter, EnterInfo}
+use Rattle.link_state.specs.Table.{Action}
+use Rattle.link_state.specs.Table.Action.{Keep, Clear, ClearPart, Enter, EnterInfo}
 use Rattle.link_state.proofs.Walking.{cleared_step, cleared_next, cleared_nil, length-payload_by}
 use Rattle.link_state.proofs.Walking.{length_part}
 use Rattle.link_state.proofs.Closing.{head_of, acted, cleared_frame}

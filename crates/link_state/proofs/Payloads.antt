@@ -21,8 +21,8 @@ use Rattle.nla_wire.proofs.Tables.{Seen, held, as_it_is, Entry, lines, line_in, 
 use Rattle.link_state.specs.Table.{action_of}
 use Rattle.link_state.specs.Cleared.{payload_by, cleared}
 use Rattle.link_state.specs.declared.level.Level.{Level}
-use Rattle.link_state.specs.declared.level.Action.{Action}
-use Rattle.link_state.specs.declared.level.Action.TheVariants.{Clear, ClearPart, Enter}
+use Rattle.link_state.specs.Table.{Action}
+use Rattle.link_state.specs.Table.Action.{Clear, ClearPart, Enter}
 use Rattle.link_state.proofs.Walking.{length-payload_by, length-cleared}
 use Rattle.link_state.proofs.Closing.{acted, cleared_frame, cleared_canons, IsOwn, ClosesAt, Closes}
 use Rattle.link_state.proofs.Closing.{each}

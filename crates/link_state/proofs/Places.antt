@@ -48,8 +48,8 @@ use Rattle.link_state.specs.declared.kind.Kind.{Kind}
 use Rattle.link_state.specs.declared.level.Level.{Level}
 use Rattle.link_state.specs.declared.level.Level.TheVariants.{Message, Families, Inet6, Functions, Function}
 use Rattle.link_state.specs.declared.level.Level.TheVariants.{FunctionStats, Info, BridgePort}
-use Rattle.link_state.specs.declared.level.Action.{Action}
-use Rattle.link_state.specs.declared.level.Action.TheVariants.{Keep, Clear, ClearPart, Enter, EnterInfo}
+use Rattle.link_state.specs.Table.{Action}
+use Rattle.link_state.specs.Table.Action.{Keep, Clear, ClearPart, Enter, EnterInfo}
 use Rattle.link_state.proofs.Closing.{Closes, ClosesAt, by_rows, keep_closes, ◌&◌}
 use Rattle.link_state.proofs.Payloads.{ClosesPayload, line_closes, kept_closes, place_of_closes, number_closes}
 use Rattle.link_state.proofs.Payloads.{enum_closes, filled_closes, sized_closes, clear_leaves, part_leaves}

@@ -1,4 +1,4 @@
--- The state encoding of canonical text is canonical.
+-- The state encoding of canonical encoding is canonical.
 use Rattle.std.proofs.Common.{◌≡◌, ℕ, ◌≤◌, List, ◌++◌, length, take, drop, refl, sym, ap, subst}
 use Rattle.std.proofs.Common.{◌∙◌, ap₂, arith, drop_at, replicate}
 use Rattle.std.specs.Prelude.{slice_index}

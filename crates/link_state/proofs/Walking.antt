@@ -1,6 +1,6 @@
 -- Clearing by one step, and in place.
 use Rattle.std.proofs.Common.{◌≡◌, ℕ, zero, suc, ◌+◌, ◌<◌, ◌≤◌, List, [], ◌∷◌, ◌++◌, length, take, drop, replicate}
-use Rattle.std.proofs.Common.{◌-◌, inl, inr, refl, sym, ap, ◌∙◌, arith, append_assoc}
+use Rattle.std.proofs.Common.{◌-◌, ◌%◌, inl, inr, refl, sym, ap, subst, ◌∙◌, arith, append_assoc}
 use Rattle.std.proofs.lemmas.List.{length-append, length-take, length-drop, length-replicate, drop-drop}
 use Rattle.std.proofs.lemmas.List.{take-append-drop}
 use Rattle.std.proofs.lemmas.List.{take_min, drop_min, take_at}
@@ -14,11 +14,12 @@ use Rattle.nla_wire.specs.Reading.{Step, step}
 use Rattle.nla_wire.specs.Reading.Step.{End, Bad, Next}
 use Rattle.nla_wire.proofs.Steps.{step_whole, step_shorter, step_size, bad_step}
 use Rattle.nla_wire.proofs.Front.{step_rest}
+use Rattle.nla_wire.proofs.Joined.{begins_join}
 use Rattle.link_state.specs.Table.{action_of}
 use Rattle.link_state.specs.Cleared.{info_level, part, payload_by, cleared_on, cleared_within, cleared}
 use Rattle.link_state.specs.declared.level.Level.{Level}
-use Rattle.link_state.specs.declared.level.Action.{Action}
-use Rattle.link_state.specs.declared.level.Action.TheVariants.{Keep, Clear, ClearPart, Enter, EnterInfo}
+use Rattle.link_state.specs.Table.{Action}
+use Rattle.link_state.specs.Table.Action.{Keep, Clear, ClearPart, Enter, EnterInfo}
 
 abbrev Lists : Type 0
 Lists = Level → List ℕ → List ℕ
@@ -223,7 +224,7 @@ looped level list new at next f rest q m begins within new_size new_is m_is q_is
     )
 
 -- where nothing is written
-pub kept_part : (list : List ℕ) (a m : ℕ) → list ≡ put_mid a m list (take m (drop a list))
+kept_part : (list : List ℕ) (a m : ℕ) → list ≡ put_mid a m list (take m (drop a list))
 kept_part list a m =
     sym (take-append-drop a list) ∙ ap (λ xs. take a list ++ xs) (sym (take-append-drop m (drop a list)))
 
@@ -238,25 +239,45 @@ ended level list at over =
     sym (take-append-drop at list)
     ∙ ap (λ xs. take at list ++ xs) (sym (cleared_nil level (drop at list) (omega (arith, length-drop at list))))
 
--- the step of the walk, from where it began
-pub walked : (level : Level) (start list new : List ℕ) (at next : ℕ) (f : Frame) (rest q : List ℕ) (m : ℕ)
-    (action : Action)
-    → Begins (drop at list) f rest → at ≤ length list → length list ≡ length start → length new ≡ length list
-    → take at list ++ cleared level (drop at list) ≡ cleared level start
+-- the step of the walk
+pub walked : (level : Level) (list new : List ℕ) (at next : ℕ) (f : Frame) (rest q : List ℕ) (m : ℕ)
+    → Begins (drop at list) f rest → at ≤ length list → length new ≡ length list
     → m ≡ length f.payload
     → next ≡ min (at + (4 + m + missing m)) (length new)
-    → action ≡ action_of level (number f)
     → new ≡ put_mid (at + 4) (at + 4 + m - (at + 4)) list q
-    → q ≡ payload_by cleared action (take (at + 4 + m - (at + 4)) (drop (at + 4) list))
-    → record {
-      within : next ≤ length new;
-      same_size : length new ≡ length start;
-      so_far : take next new ++ cleared level (drop next new) ≡ cleared level start;
-    }
-walked level start list new at next f rest q m action begins within same_size new_size so_far m_is next_is action_is
-    new_is q_is =
+    → q ≡ payload_by cleared (action_of level (number f)) (take (at + 4 + m - (at + 4)) (drop (at + 4) list))
+    → take next new ++ cleared level (drop next new) ≡ take at list ++ cleared level (drop at list)
+walked level list new at next f rest q m begins within new_size m_is next_is new_is q_is =
     let m_now : at + 4 + m - (at + 4) ≡ length f.payload = omega (arith, m_is) in
-    let h = looped level list new at next f rest q (at + 4 + m - (at + 4)) begins within new_size new_is m_now
-    (q_is ∙ ap (λ a. payload_by cleared a (take (at + 4 + m - (at + 4)) (drop (at + 4) list))) action_is)
-    (next_is ∙ ap (λ i. min (at + (4 + i + missing i)) (length new)) m_is) in
-    record { within = h.0; same_size = h.1 ∙ same_size; so_far = h.2 ∙ so_far }
+    (looped level list new at next f rest q (at + 4 + m - (at + 4)) begins within new_size new_is m_now q_is
+    (next_is ∙ ap (λ i. min (at + (4 + i + missing i)) (length new)) m_is)).2
+
+-- the same, where the attribute is kept
+pub kept_walked : (level : Level) (list : List ℕ) (at : ℕ) (f : Frame) (rest : List ℕ)
+    → Begins (drop at list) f rest → action_of level (number f) ≡ Keep
+    → 4 + length f.payload + missing (length f.payload) ≡ 8 → at + 8 ≤ length list
+    → take (at + 8) list ++ cleared level (drop (at + 8) list) ≡ take at list ++ cleared level (drop at list)
+kept_walked level list at f rest begins keep eight within =
+    let m = length f.payload in
+    let part = take m (drop (at + 4) list) in
+    (looped level list list at (at + 8) f rest part m begins (omega (arith, within)) refl (kept_part list (at + 4) m)
+    refl (ap (λ action. payload_by cleared action part) (sym keep)) (omega (arith, eight, within))).2
+
+eight : (n : ℕ) → 0 < n → 4 + n ≤ 8 → 4 + n + missing n ≡ 8
+eight n some most = Prim.grind (arith, some, most)
+
+-- a frame with a payload, of the first eight bytes
+pub begins_eight : (list : List ℕ) (at : ℕ) (f : Frame) (rest : List ℕ) → at + 8 ≤ length list
+    → Begins (take (at + 8 - at) (drop at list)) f rest → 0 < length f.payload
+    → Begins (drop at list) f (rest ++ drop 8 (drop at list)) × (4 + length f.payload + missing (length f.payload) ≡ 8)
+begins_eight list at f rest within begins some =
+    let front = take 8 (drop at list) in
+    let front_is : at + 8 - at ≡ 8 = omega arith in
+    let begins_front = subst (λ n. Begins (take n (drop at list)) f rest) front_is begins in
+    let size : length front ≡ 8 = omega (arith, length-take 8 (drop at list), length-drop at list, within) in
+    let most : 4 + length f.payload ≤ 8 =
+    omega (arith, step_size front f rest (step_whole front f rest begins_front), size) in (
+      subst (λ b. Begins b f (rest ++ drop 8 (drop at list))) (take-append-drop 8 (drop at list))
+          (begins_join front (drop 8 (drop at list)) f rest (ap (λ n. n % 4) size) begins_front),
+      eight (length f.payload) some most,
+    )

@@ -9,8 +9,8 @@ use Rattle.link_state.specs.Table.{action_of}
 use Rattle.link_state.specs.Kinds.{kind_at}
 use Rattle.link_state.specs.declared.level.Level.{Level}
 use Rattle.link_state.specs.declared.level.Level.TheVariants.{Info}
-use Rattle.link_state.specs.declared.level.Action.{Action}
-use Rattle.link_state.specs.declared.level.Action.TheVariants.{Keep, Clear, ClearPart, Enter, EnterInfo}
+use Rattle.link_state.specs.Table.{Action}
+use Rattle.link_state.specs.Table.Action.{Keep, Clear, ClearPart, Enter, EnterInfo}
 
 -- the level of members of IFLA_LINKINFO, by the kinds among them
 abbrev pub info_level : List ℕ → Level

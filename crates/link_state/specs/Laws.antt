@@ -1,16 +1,16 @@
 -- Laws of the state encoding, for every family.
-use Rattle.std.specs.Prelude.{◌≡◌, ◌↔◌, ◌≤◌, ℕ, List, length}
+use Rattle.std.specs.Prelude.{◌≡◌, ◌↔◌, ◌≤◌, ℕ, List, length, drop}
 use Rattle.nla_wire.specs.Frames.{IsBytes}
 use Rattle.link_msg.specs.Header.{header_size}
 use Rattle.link_msg.specs.Messages.{message_text}
 use Rattle.link_msg.specs.Canonical.{IsAccepted}
 use Rattle.link_msg.specs.declared.message.LinkMessage.{LinkMessage}
 use Rattle.link_state.specs.Cleared.{cleared}
-use Rattle.link_state.specs.Masks.{mask, blank}
-use Rattle.link_state.specs.State.{state, state_mask}
+use Rattle.link_state.specs.Masks.{mask, blank, SameFrames}
+use Rattle.link_state.specs.State.{level_of, state, state_mask}
 use Rattle.link_state.specs.declared.level.Level.{Level}
 
--- t is the canonical text of this message, which it means, which fits and holds no empty list of ports
+-- t is the canonical encoding of this message, which it means, which fits and holds no empty list of ports
 pub record IsCanonical (t : List ℕ) (m : LinkMessage) : Type 0 where
   pub accepted : IsAccepted t m
   pub text : t ≡ message_text m
@@ -19,7 +19,7 @@ pub record IsCanonical (t : List ℕ) (m : LinkMessage) : Type 0 where
 abbrev pub HasHeader : List ℕ → Type 0
 HasHeader t = IsBytes t × (header_size ≤ length t)
 
--- the state of canonical text is the canonical text of some message
+-- the state of canonical encoding is the canonical encoding of some message
 abbrev pub StateIsCanonical : Type 0
 StateIsCanonical = (t : List ℕ) (m : LinkMessage) → IsBytes t → IsCanonical t m
     → (n : LinkMessage) × IsCanonical (state t) n
@@ -39,6 +39,11 @@ ZeroAtItsMask = (t : List ℕ) → HasHeader t
 abbrev pub MaskStays : Type 0
 MaskStays = (t : List ℕ) → HasHeader t → state_mask (state t) ≡ state_mask t
 
+-- the mask depends on the header's family and the frames alone: their numbers and lengths, and the kinds that they name
+abbrev pub MaskByFrames : Type 0
+MaskByFrames = (s t : List ℕ) → level_of s ≡ level_of t
+    → SameFrames (level_of s) (drop header_size s) (drop header_size t) → state_mask s ≡ state_mask t
+
 -- two have one state exactly where their masks are equal and they are equal outside of them
 abbrev pub OneState : Type 0
 OneState = (s t : List ℕ) → HasHeader s → HasHeader t
@@ -51,6 +56,9 @@ ListTwice = (level : Level) (b : List ℕ) → IsBytes b → cleared level (clea
 abbrev pub ListZeroAtItsMask : Type 0
 ListZeroAtItsMask = (level : Level) (b : List ℕ) → IsBytes b
     → (length (mask level b) ≡ length b) × (blank (mask level b) b ≡ cleared level b)
+
+abbrev pub ListMaskByFrames : Type 0
+ListMaskByFrames = (level : Level) (b c : List ℕ) → SameFrames level b c → mask level b ≡ mask level c
 
 abbrev pub OneList : Type 0
 OneList = (level : Level) (a b : List ℕ) → IsBytes a → IsBytes b

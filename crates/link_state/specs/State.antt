@@ -1,4 +1,4 @@
--- The state encoding of canonical text, and what the calls return.
+-- The state encoding of canonical encoding, and what the calls return.
 use Rattle.std.specs.Prelude.{◌≡◌, ℕ, ◌<◌, ◌↔◌, Bool, IsTrue, false, true, Result, Ok, Err, List, ◌++◌, length}
 use Rattle.std.specs.Prelude.{take, drop, replicate, slice_index}
 use Rattle.nla_wire.specs.Canon.{Writes}
@@ -23,11 +23,11 @@ change_mask_at = 12
 abbrev pub level_of : List ℕ → Level
 level_of t = Message (address_family_of (slice_index t 0))
 
--- the state encoding of canonical text: no flags are changed, and what moves by itself is zero
+-- the state encoding of canonical encoding: no flags are changed, and what moves by itself is zero
 abbrev pub state : List ℕ → List ℕ
 state t = take change_mask_at t ++ replicate 4 0 ++ cleared (level_of t) (drop header_size t)
 
--- a truth value for each byte of canonical text: whether it is zero in the state encoding, whatever it was
+-- a truth value for each byte of canonical encoding: whether it is zero in the state encoding, whatever it was
 abbrev pub state_mask : List ℕ → List Bool
 state_mask t = replicate change_mask_at false ++ replicate 4 true ++ mask (level_of t) (drop header_size t)
 

@@ -34,8 +34,15 @@ use Rattle.link_state.specs.declared.level.Level.{Level}
 use Rattle.link_state.specs.declared.level.Level.TheVariants.{Message, Families, Inet6, Functions, Function}
 use Rattle.link_state.specs.declared.level.Level.TheVariants.{FunctionStats, Info, Bridge, Querier, BridgePort}
 use Rattle.link_state.specs.declared.level.Level.TheVariants.{BondPort, Can, Hsr}
-use Rattle.link_state.specs.declared.level.Action.{Action}
-use Rattle.link_state.specs.declared.level.Action.TheVariants.{Keep, Clear, ClearPart, Enter, EnterInfo}
+
+-- what becomes of an attribute: it is kept; its payload becomes zeros, or its bytes from one place to before the other;
+-- or its payload is a list, which is cleared in turn, that of IFLA_LINKINFO by the kinds that it names
+pub data Action : Type 0 where
+  Keep : Action
+  Clear : Action
+  ClearPart : ℕ → ℕ → Action
+  Enter : Level → Action
+  EnterInfo : Action
 
 -- of IFLA_PROTINFO, by the header's family
 abbrev pub proto_info_action : AddressFamily → Action

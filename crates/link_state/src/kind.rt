@@ -1,8 +1,11 @@
 //! Kinds of device.
 
 ghost use Rattle.std.specs.Prelude.{◌≡◌};
-ghost use Rattle.link_state.specs.Kinds.{device_kind_of, port_kind_of, kind_of, kind_at};
+ghost use Rattle.link_nest.specs.declared.numbers.TheConstants as link_nest;
+ghost use Rattle.link_state.specs.declared.numbers.TheConstants as numbers;
+ghost use Rattle.link_state.specs.Kinds.{device_kind_of, port_kind_of, kind_at};
 
+use crate::numbers::IFLA_INFO_SLAVE_KIND;
 use link_nest::numbers::IFLA_INFO_KIND;
 use nla_wire::NlasIterator;
 
@@ -49,31 +52,36 @@ fn port_kind(name: &[u8]) -> Kind
     }
 }
 
-/// The kind with this name, as an attribute of this number tells it: `IFLA_INFO_KIND` that of the device, and
-/// `IFLA_INFO_SLAVE_KIND` that of the device that it is a port of.
-fn kind_named(number: u16, name: &[u8]) -> Kind
-    ensures { result ≡ kind_of number name.now }
-{
-    if number == IFLA_INFO_KIND {
-        device_kind(name)
-    } else {
-        port_kind(name)
+impl Kind {
+    ghost use Rattle.link_state.specs.Kinds.{or_else};
+
+    /// This kind, or else the other.
+    fn or(self, other: Kind) -> Kind
+        ensures { result ≡ or_else self other }
+    {
+        match self {
+            Kind::Other => other,
+            kind => kind,
+        }
     }
 }
 
-/// The kind that an attribute of this number names: of several that of the first one whose kind is listed.
-pub(crate) fn kind_at(list: &[u8], number: u16) -> Kind
-    ensures { result ≡ kind_at number list.now }
+/// The kind of the device that attributes of these frames name, and that of the device that it is a port of: of several
+/// of one number the first one whose kind is listed.
+pub(crate) fn kinds(list: &[u8]) -> (Kind, Kind)
+    ensures device { result.0 ≡ kind_at link_nest.IFLA_INFO_KIND list.now }
+    ensures port { result.1 ≡ kind_at numbers.IFLA_INFO_SLAVE_KIND list.now }
 {
+    let mut kind = Kind::Other;
+    let mut slave_kind = Kind::Other;
     for item in NlasIterator::new(list) {
         if let Ok(frame) = item {
-            if frame.kind() == number {
-                match kind_named(number, frame.value()) {
-                    Kind::Other => {}
-                    kind => return kind,
-                }
+            match frame.kind() {
+                IFLA_INFO_KIND => kind = kind.or(device_kind(frame.value())),
+                IFLA_INFO_SLAVE_KIND => slave_kind = slave_kind.or(port_kind(frame.value())),
+                _ => {}
             }
         }
     }
-    Kind::Other
+    (kind, slave_kind)
 }

@@ -1,21 +1,22 @@
 //! Laws of the state encoding.
 
 ghost use Rattle.link_state.specs.Laws.{StateIsCanonical, StateIsAsLong, StateTwice, ZeroAtItsMask, MaskStays};
-ghost use Rattle.link_state.specs.Laws.{OneState};
-ghost use Rattle.link_state.specs.Laws.{ListTwice, ListZeroAtItsMask, OneList};
+ghost use Rattle.link_state.specs.Laws.{MaskByFrames, OneState};
+ghost use Rattle.link_state.specs.Laws.{ListTwice, ListZeroAtItsMask, ListMaskByFrames, OneList};
 
-/// The state encoding of canonical text is canonical, and as long; and the state of a state is itself.
+/// The state encoding of canonical encoding is canonical, and as long; and the state of a state is itself.
 pub fn law_state()
     ensures canonical { StateIsCanonical }
     ensures as_long { StateIsAsLong }
     ensures twice { StateTwice }
 {}
 
-/// The state encoding is the text with zeros at a mask, which what is cleared says nothing of. Two texts have one state
+/// The state encoding is the text with zeros at a mask, which depends on the frames alone. Two texts have one state
 /// encoding exactly where they have one mask, and are equal outside of it.
 pub fn law_mask()
     ensures zero { ZeroAtItsMask }
     ensures stays { MaskStays }
+    ensures frames { MaskByFrames }
     ensures one { OneState }
 {}
 
@@ -23,5 +24,6 @@ pub fn law_mask()
 pub fn law_lists()
     ensures twice { ListTwice }
     ensures zero { ListZeroAtItsMask }
+    ensures frames { ListMaskByFrames }
     ensures one { OneList }
 {}

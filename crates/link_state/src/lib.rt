@@ -9,6 +9,5 @@ mod state_text;
 mod walk;
 
 pub use kind::Kind;
-pub use level::{Action, Level};
+pub use level::{Level, clear};
 pub use state_text::{STATE_FORM, same_state, state, state_into, state_within};
-pub use walk::clear;

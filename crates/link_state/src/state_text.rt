@@ -5,8 +5,8 @@ ghost use Rattle.link_msg.specs.Header.{header_size};
 ghost use Rattle.link_msg.specs.Canonical.{HoldsText, IsRefusal, IsRefusalOfTwo};
 ghost use Rattle.link_state.specs.State.{state, HasState, HaveSameState, IsStateWithin, IsStateWritten};
 
-use crate::level::Level;
-use crate::walk::{clear, zero};
+use crate::level::{Level, clear};
+use crate::walk::zero;
 use link_msg::header::HEADER_SIZE;
 use link_msg::{CanonError, RoomError, canonical, canonical_within};
 use link_vals::AddressFamily;
@@ -20,7 +20,7 @@ pub const STATE_FORM: u32 = 1;
 /// The place of the header's mask of changed flags, its last four bytes.
 const CHANGE_MASK: usize = 12;
 
-/// Makes the state encoding of canonical text, in place.
+/// Makes the state encoding of canonical encoding, in place.
 fn clear_message(text: &mut [u8])
     requires { header_size ≤ length text.old }
     ensures { text.new ≡ state text.old }
@@ -31,7 +31,7 @@ fn clear_message(text: &mut [u8])
 }
 
 /// Writes the state encoding of what the bytes mean to the front of a buffer of any size, without memory, and returns
-/// its length, which is that of the canonical text. The rest of the buffer is kept.
+/// its length, which is that of the canonical encoding. The rest of the buffer is kept.
 ///
 /// Refuses as `canonical_within` does, and with its causes: a fault, `DoesNotFit` and `EmptyVfPorts`, and `NoRoom`
 /// exactly where the text is longer than the buffer. After a refusal the buffer is unchanged.
@@ -46,8 +46,8 @@ pub fn state_within(input: &[u8], out: &mut [u8]) -> Result<usize, RoomError>
 /// Writes the state encoding of what the bytes mean to the front of the buffer, without memory, and returns its length.
 /// The rest of the buffer is kept.
 ///
-/// The buffer has room for the canonical text, which is as long. Refuses as `canonical_into` does. After a refusal the
-/// buffer is unchanged.
+/// The buffer has room for the canonical encoding, which is as long. Refuses as `canonical_into` does. After a refusal
+/// the buffer is unchanged.
 pub fn state_into(input: &[u8], out: &mut [u8]) -> Result<usize, CanonError>
     requires { HoldsText input.now (length out.old) }
     ensures { IsStateWritten input.now out.old out.new result }
@@ -60,7 +60,7 @@ pub fn state_into(input: &[u8], out: &mut [u8]) -> Result<usize, CanonError>
     }
 }
 
-/// The state encoding of what the bytes mean, of the form `STATE_FORM`: the canonical text with all that moves by
+/// The state encoding of what the bytes mean, of the form `STATE_FORM`: the canonical encoding with all that moves by
 /// itself at zero.
 ///
 /// Refuses as `canonical` does.

@@ -1,8 +1,9 @@
 //! Answers lines of hexadecimal link messages by their state encodings.
 #![tactic(auto)]
 
-mod answers;
 mod arguments;
+mod encoding;
+mod laws;
 mod run;
 
 use arguments::{Request, asked_for};

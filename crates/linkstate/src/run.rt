@@ -1,9 +1,12 @@
+//! The run over all lines, each answered by its state encoding.
+
 ghost use Rattle.std.specs.Prelude.{IfErr, OnOk};
 ghost use Rattle.linkstate.specs.Lines.{RanToEnd, Stopped};
 
-use crate::answers::Encoded;
+use crate::encoding::State;
 use line_filter::error::RunError;
 use line_filter::run as filter;
+use message_lines::answers::Encoded;
 use std::alloc::Global;
 use std::io::{Read, Write};
 
@@ -20,5 +23,5 @@ pub fn run<R: Read, W: Write>(alloc: Global, reader: &mut R, writer: &mut W) -> 
     ensures err { IfErr result (λ e. Stopped e (R.remaining reader.old) (R.remaining reader.new)
         (W.contents writer.old) (W.contents writer.new)) }
 {
-    filter::run(alloc, Encoded::new(alloc), reader, writer)
+    filter::run(alloc, Encoded::new(alloc, State), reader, writer)
 }

@@ -1,12 +1,7 @@
 -- What holds of every line.
-use Rattle.std.specs.Prelude.{◌≡◌, ℕ, List}
-use Rattle.linkwire.specs.Lines.{IsAnswer}
+use Rattle.link_msg.specs.Canonical.{HasText}
+use Rattle.message_lines.specs.Answers as answers
 
--- the line has this answer and no other
-pub record HasOneAnswer (line : List ℕ) : Type 0 where
-  pub answer : List ℕ
-  pub is : IsAnswer line answer
-  pub only : (other : List ℕ) → IsAnswer line other → other ≡ answer
-
+-- each line has an answer, and no other one
 abbrev pub EachHasOneAnswer : Type 0
-EachHasOneAnswer = (line : List ℕ) → HasOneAnswer line
+EachHasOneAnswer = answers.EachHasOneAnswer HasText

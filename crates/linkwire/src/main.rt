@@ -1,7 +1,7 @@
-//! Answers lines of hexadecimal link messages by their canonical texts.
+//! Answers lines of hexadecimal link messages by their canonical encodings.
 #![tactic(auto)]
 
-mod answers;
+mod encoding;
 mod laws;
 mod run;
 #[cfg(test)]

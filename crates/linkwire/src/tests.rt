@@ -1,3 +1,5 @@
+//! Tests of the program: lines and their answers, readers and writers that fail.
+
 mod damaged;
 mod faults;
 mod lines;

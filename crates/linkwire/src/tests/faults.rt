@@ -1,11 +1,37 @@
-use super::lines::{ANSWERS, STORED, STORED_ANSWERS, TEXT};
-use super::pieces::{NEVER, answers_to, run_in_pieces};
+//! Runs whose reader or writer fails at each call in turn, or whose memory is refused; how such faults are compared.
+
+use super::lines::{ANSWERS, TEXT};
+use super::pieces::{NEVER, run_in_pieces};
 use line_filter::error::RunError;
-use memchr::memrchr;
 use nla_wire::exact::same;
 use std::alloc::Global;
 use std::process::Abort;
 use std::test::Fail;
+
+/// The number of LFs.
+fn count_ends(bytes: &[u8]) -> usize {
+    let mut count: usize = 0;
+    for byte in bytes {
+        if *byte == b'\n' {
+            count = count.saturating_add(1);
+        }
+    }
+    count
+}
+
+/// The first lines, so many of them.
+fn first_lines(text: &[u8], count: usize) -> &[u8] {
+    let mut left = count;
+    for i in 0..text.len() {
+        if left == 0 {
+            return &text[..i];
+        }
+        if text[i] == b'\n' {
+            left -= 1;
+        }
+    }
+    text
+}
 
 /// Fails each read in turn, until no read fails. The reads after it would succeed.
 fn fail_each_read(rt: &impl Abort, alloc: Global, text: &[u8], answers: &[u8]) -> Result<(), Fail> {
@@ -19,11 +45,9 @@ fn fail_each_read(rt: &impl Abort, alloc: Global, text: &[u8], answers: &[u8]) -
         }
         assert_eq!(rt; ran.result, Err(RunError::Read), "after {reads} reads");
         let read = &text[..text.len().min(reads * piece)];
-        let ended = memrchr(b'\n', read).map_or(0, |end| end + 1);
-        let want = answers_to(alloc, &text[..ended])?;
         assert_eq!(rt;
             ran.written.as_slice(),
-            want.as_slice(),
+            first_lines(answers, count_ends(read)),
             "after {reads} reads"
         );
     }
@@ -33,7 +57,6 @@ fn fail_each_read(rt: &impl Abort, alloc: Global, text: &[u8], answers: &[u8]) -
 
 #[test]
 fn each_read_may_fail(rt: HostRuntime) -> Result<(), Fail> {
-    fail_each_read(&rt, rt.alloc(), STORED, STORED_ANSWERS)?;
     fail_each_read(&rt, rt.alloc(), TEXT, ANSWERS)
 }
 
@@ -64,13 +87,12 @@ fn fail_each_write(
 
 #[test]
 fn each_write_may_fail(rt: HostRuntime) -> Result<(), Fail> {
-    fail_each_write(&rt, rt.alloc(), STORED, STORED_ANSWERS)?;
     fail_each_write(&rt, rt.alloc(), TEXT, ANSWERS)
 }
 
 #[test]
 fn a_write_that_takes_nothing_fails(rt: HostRuntime) -> Result<(), Fail> {
-    let ran = run_in_pieces(rt.alloc(), STORED, (NEVER, 0), (NEVER, NEVER));
+    let ran = run_in_pieces(rt.alloc(), TEXT, (NEVER, 0), (NEVER, NEVER));
     assert_eq!(rt; ran.result, Err(RunError::Write));
     assert!(rt; ran.written.is_empty());
     Ok(())

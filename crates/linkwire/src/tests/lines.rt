@@ -1,28 +1,22 @@
-use super::damaged;
+//! Each line of the tables, and each damaged list, has its answer.
+
+use super::damaged::{self, Damaged, Listed};
 use super::pieces::{NEVER, answers_to, run_in_pieces};
 use super::rows::{self, Row};
 use std::alloc::Global;
 use std::process::Abort;
 use std::test::Fail;
 
-/// The lines of the stored run, and their answers.
-pub const STORED: &[u8] =
-    b"00000000000000000000000000000000060003006c6f\n\n0\n000000000000000000000000000000000800180004000200\n\
-        0000000000000000000000000000000008000480DC050000\n";
-
-pub const STORED_ANSWERS: &[u8] =
-    b"ok 00000000000000000000000000000000070003006c6f0000\nrefused\nnothex\nempty-ports\n\
-        ok 0000000000000000000000000000000008000400dc050000\n";
-
 /// Some lines of each kind, the last of which no LF ends.
 pub const TEXT: &[u8] =
-    b"00000000000000000000000000000000060003006c6f\n\n0\n000000000000000000000000000000000800180004000200\n\
-        0000000000000000000000000000000008000480DC050000\r\n00000000000000000000000000000000";
+    b"00ff611e000000000000000000000000\n\n0g\n0000000000000000000000000000000004001200\n\
+        000000000000000000000000000000000900180005006300FF\n0000000000000000000000000000000008000400dc050000\r\n\
+        0000000000000000000000000000000006002AC0DEAD";
 
 /// Their answers.
 pub const ANSWERS: &[u8] =
-    b"ok 00000000000000000000000000000000070003006c6f0000\nrefused\nnothex\nempty-ports\nnothex\n\
-        ok 00000000000000000000000000000000\n";
+    b"ok 0000ffff000000000000000000000000\nrefused\nnothex\nrefused\nempty-ports\nnothex\n\
+        ok 0000000000000000000000000000000006002ac0dead0000\n";
 
 /// Each line of a table has its answer.
 fn answers(rt: &impl Abort, alloc: Global, rows: &[Row]) -> Result<(), Fail> {
@@ -81,11 +75,22 @@ fn whole_messages(rt: HostRuntime) -> Result<(), Fail> {
 }
 
 /// Each line is refused.
-fn are_refused(rt: &impl Abort, alloc: Global, lines: &[&str]) -> Result<(), Fail> {
-    for line in lines {
+fn are_refused(rt: &impl Abort, alloc: Global, rows: &[Damaged]) -> Result<(), Fail> {
+    for (label, line) in rows {
         let text = format!(in alloc; "{line}\n")?;
         let got = answers_to(alloc, text.as_bytes())?;
-        assert_eq!(rt; got.as_slice(), b"refused\n".as_slice(), "line {line}");
+        assert_eq!(rt; got.as_slice(), b"refused\n".as_slice(), "{label}: {line}");
+    }
+    Ok(())
+}
+
+/// Each line of a table of places has its answer.
+fn answers_in_places(rt: &impl Abort, alloc: Global, rows: &[Listed]) -> Result<(), Fail> {
+    for (label, line, answer) in rows {
+        let text = format!(in alloc; "{line}\n")?;
+        let want = format!(in alloc; "{answer}\n")?;
+        let got = answers_to(alloc, text.as_bytes())?;
+        assert_eq!(rt; got.as_slice(), want.as_bytes(), "{label}: {line}");
     }
     Ok(())
 }
@@ -99,12 +104,12 @@ fn damaged_lists(rt: HostRuntime) -> Result<(), Fail> {
 
 #[test]
 fn lists_without_members(rt: HostRuntime) -> Result<(), Fail> {
-    answers(&rt, rt.alloc(), &damaged::EMPTY_LISTS)
+    answers_in_places(&rt, rt.alloc(), &damaged::EMPTY_LISTS)
 }
 
 #[test]
 fn lists_of_foreign_members(rt: HostRuntime) -> Result<(), Fail> {
-    answers(&rt, rt.alloc(), &damaged::FOREIGN_MEMBERS)
+    answers_in_places(&rt, rt.alloc(), &damaged::FOREIGN_MEMBERS)
 }
 
 #[test]
@@ -141,26 +146,86 @@ fn pieces_change_nothing(rt: HostRuntime) -> Result<(), Fail> {
     Ok(())
 }
 
+/// A line with one alias of so many letters, without its NUL.
+fn alias(alloc: Global, header: &str, count: usize) -> Result<Vec<u8>, Fail> {
+    let mut text = Vec::new(alloc);
+    text.extend_from_slice(b"00000000000000000000000000000000")?;
+    text.extend_from_slice(header.as_bytes())?;
+    for _ in 0..count {
+        text.extend_from_slice(b"61")?;
+    }
+    Ok(text)
+}
+
+/// An alias without its NUL grows by it: 65530 bytes fit, and are written in an attribute of 65536 bytes.
 #[test]
-fn single_bytes_change_nothing_of_the_stored_run(rt: HostRuntime) -> Result<(), Fail> {
-    let ran = run_in_pieces(rt.alloc(), STORED, (1, 1), (NEVER, NEVER));
-    assert_eq!(rt; ran.result, Ok(()));
-    assert_eq!(rt; ran.written.as_slice(), STORED_ANSWERS);
+fn a_text_that_grows_to_its_most_fits(rt: HostRuntime) -> Result<(), Fail> {
+    let line = alias(rt.alloc(), "feff1400", 65530)?;
+    let mut want = Vec::from_slice(rt.alloc(), b"ok ")?;
+    want.extend_from_slice(alias(rt.alloc(), "ffff1400", 65530)?.as_slice())?;
+    want.extend_from_slice(b"0000\n")?;
+    let got = answers_to(rt.alloc(), line.as_slice())?;
+    assert!(rt; got.as_slice() == want.as_slice(), "65530 bytes");
+    assert_eq!(rt; got.len(), 131108);
     Ok(())
 }
 
-/// A name without its NUL grows by it: 65530 bytes fit, and 65531 do not.
+/// With a letter more it does not, which is looked at after the faults.
 #[test]
 fn a_text_that_grows_too_long_is_unfit(rt: HostRuntime) -> Result<(), Fail> {
-    for (header, count, want) in [("feff0300", 65530, "ok "), ("ffff0300", 65531, "unfit\n")] {
-        let mut text = Vec::new(rt.alloc());
-        text.extend_from_slice(b"00000000000000000000000000000000")?;
-        text.extend_from_slice(header.as_bytes())?;
-        for _ in 0..count {
-            text.extend_from_slice(b"61")?;
+    for (after, want) in [
+        ("", "unfit\n"),
+        ("00", "unfit\n"),
+        ("0000", "refused\n"),
+        ("0004001200", "refused\n"),
+    ] {
+        let mut line = alias(rt.alloc(), "ffff1400", 65531)?;
+        line.extend_from_slice(after.as_bytes())?;
+        let got = answers_to(rt.alloc(), line.as_slice())?;
+        assert_eq!(rt;
+            got.as_slice(),
+            want.as_bytes(),
+            "after 65531 letters: {after:?}"
+        );
+    }
+    Ok(())
+}
+
+/// Settings of IPv4 with the flag of a request and its one attribute, as a request is emitted, are read as settings.
+#[test]
+fn a_request_for_settings_is_read_as_settings(rt: HostRuntime) -> Result<(), Fail> {
+    let mut want = Vec::from_slice(rt.alloc(), b"ok 00000000000000000000000000000000")?;
+    want.extend_from_slice(b"94001a00900002008c0001000800010001000000")?;
+    want.extend_from_slice(&[b'0'; 256])?;
+    want.push(b'\n')?;
+    let line = b"0000000000000000000000000000000014001a00100002000c0001800800010001000000";
+    let got = answers_to(rt.alloc(), line)?;
+    assert_eq!(rt; got.as_slice(), want.as_slice());
+    Ok(())
+}
+
+/// 20,000 attributes that are kept, and a stray end or a short length after them.
+#[test]
+fn a_long_line_is_refused_for_its_end(rt: HostRuntime) -> Result<(), Fail> {
+    for (after, refused) in [
+        ("", false),
+        ("01", true),
+        ("0102", true),
+        ("010203", true),
+        ("03006300", true),
+    ] {
+        let mut line = Vec::from_slice(rt.alloc(), b"00000000000000000000000000000000")?;
+        for _ in 0..20000 {
+            line.extend_from_slice(b"08006300DEADBEEF")?;
         }
-        let got = answers_to(rt.alloc(), text.as_slice())?;
-        assert!(rt; got.starts_with(want.as_bytes()), "{count} bytes");
+        line.extend_from_slice(after.as_bytes())?;
+        let got = answers_to(rt.alloc(), line.as_slice())?;
+        let want = if refused { 8 } else { 320036 };
+        assert_eq!(rt; got.len(), want, "after 20000 attributes: {after:?}");
+        assert!(rt;
+            got.starts_with(b"refused\n") == refused,
+            "after 20000 attributes: {after:?}"
+        );
     }
     Ok(())
 }

@@ -1,3 +1,5 @@
+//! A reader and a writer that take few bytes at a time and fail at one call; what a run over them leaves.
+
 ghost use Rattle.std.specs.Prelude.{IfOk};
 ghost use Rattle.line_filter.specs.Lines.{lines_of};
 ghost use Rattle.linkwire.specs.Lines.{AreAnswers};

@@ -1,3 +1,4 @@
+use Rattle.link_state.proofs.Outlines.{list_mask_by_frames}
 use Rattle.link_state.proofs.Masks.{cleared_twice, masked, one_list}
 use Rattle.link_state.proofs.laws.law_lists.Goals as goal
 
@@ -5,5 +6,6 @@ pub returns : goal.returns
 returns c = record {
   twice = cleared_twice;
   zero = masked;
+  frames = list_mask_by_frames;
   one = one_list;
 }

@@ -1,0 +1,22 @@
+//! The canonical text, which lines are answered with.
+
+ghost use Rattle.link_msg.specs.Canonical.{HasText};
+ghost use Rattle.linkwire.specs.OneText.{one_text};
+
+use link_msg::{CanonError, canonical};
+use message_lines::encoding::Encoding;
+use std::alloc::Global;
+
+/// The canonical text.
+#[derive(Drop)]
+pub struct Canonical;
+
+impl Encoding for Canonical {
+    ghost encodes = { HasText };
+
+    fn encode(&self, alloc: Global, bytes: &[u8]) -> Result<Vec<u8>, CanonError> {
+        canonical(alloc, bytes)
+    }
+
+    ghost one = { one_text };
+}
