@@ -2,6 +2,8 @@
 #![tactic(auto)]
 
 pub mod field;
+pub mod holds;
+pub mod info;
 pub mod laws;
 pub mod number;
 pub mod place;

@@ -61,7 +61,7 @@ pub fn read_plain(plain: Plain, bytes: &[u8]) -> Value<'_>
 }
 
 /// Whether a record of these members has so many bytes.
-fn has_size(members: &[Member], len: usize) -> bool
+pub(crate) fn has_size(members: &[Member], len: usize) -> bool
     ensures { result ≡ (record_size members.now == len) }
 {
     let mut left = len;
@@ -76,14 +76,14 @@ fn has_size(members: &[Member], len: usize) -> bool
 }
 
 /// Whether so many bytes are a number of values of this size, which is not 0.
-fn is_whole_number(size: usize, len: usize) -> bool
+pub(crate) fn is_whole_number(size: usize, len: usize) -> bool
     ensures { result ≡ is_multiple size len }
 {
     size != 0 && len % size == 0
 }
 
 /// Whether the bytes are whole frames.
-fn are_whole(bytes: &[u8]) -> bool
+pub(crate) fn are_whole(bytes: &[u8]) -> bool
     ensures { result ≡ are_frames (items bytes.now) }
 {
     for item in NlasIterator::new(bytes) {
@@ -95,7 +95,7 @@ fn are_whole(bytes: &[u8]) -> bool
 }
 
 /// Whether the bytes are whole frames whose payloads have this size.
-fn are_elements(bytes: &[u8], size: usize) -> bool
+pub(crate) fn are_elements(bytes: &[u8], size: usize) -> bool
     ensures { result ≡ are_frames_of size (items bytes.now) }
 {
     for item in NlasIterator::new(bytes) {
