@@ -65,7 +65,7 @@ enum linkwire_answer {
     LINKWIRE_EMPTY_LIST = -5,   /* the payload of a list that must not be empty is empty */
     LINKWIRE_WRONG_LENGTH = -6, /* a number or an address has another length than its own */
     LINKWIRE_NOT_UTF8 = -7,     /* a text is not UTF-8 */
-    /* The bytes are a message that cannot be written. */
+    /* The bytes are a message that has no canonical encoding. */
     LINKWIRE_UNFIT = -16,       /* the value of an attribute would have more than 65531 bytes */
     LINKWIRE_EMPTY_PORTS = -17, /* the message holds an empty list of ports */
     /* Neither says anything of the bytes. */
@@ -78,6 +78,16 @@ struct linkwire_attribute {
     uint16_t kind;      /* its number, in the low 14 bits, and the two flag bits above it */
     size_t payload;     /* where its payload starts, counted from the start of the list */
     size_t payload_len; /* the bytes of its payload, at most 65531 */
+};
+
+/* The most attributes that lead to a fault: lists stand in one another so deep. */
+#define LINKWIRE_DEPTH 4
+
+/* Where a fault is, and the attributes that lead to it. */
+struct linkwire_path {
+    size_t at;                        /* the offset from the start of the message */
+    size_t depth;                     /* how many of the numbers count */
+    uint16_t numbers[LINKWIRE_DEPTH]; /* of the attributes at fault, the outermost first, and zeros after them */
 };
 
 /* 0 where the bytes are a message, else the first fault, -1 to -7. Takes no memory. */
@@ -144,6 +154,11 @@ int32_t linkwire_put(uint8_t *list, size_t cap, size_t *at, uint16_t kind, const
 /* What `linkwire_check` returns. After a fault `*at` is the offset, from the start of the message, of the innermost
  * attribute at fault, or of the bytes where one should start; else it is unchanged. Takes no memory. */
 int32_t linkwire_fault_at(const uint8_t *message, size_t len, size_t *at);
+
+/* The same, with the numbers of the attributes that lead there, without their flags: of the outermost attribute at
+ * fault, of the one in its list, and so on. Bytes where an attribute should start have none, and a short header has
+ * none. After a fault all of `*path` is written; else it is unchanged. Takes no memory. */
+int32_t linkwire_fault_path(const uint8_t *message, size_t len, struct linkwire_path *path);
 
 /* The number of the canonical form that the library writes. */
 uint32_t linkwire_canonical_form(void);

@@ -131,7 +131,7 @@ static void refuses_what_does_not_fit(void) {
     free(bytes);
 }
 
-/* The one entry has another number than 1 and is dropped, and the empty list of ports cannot be written. */
+/* The one entry has another number than 1 and is dropped, and the empty list of ports has no canonical encoding. */
 static void refuses_empty_ports(void) {
     static const uint8_t bytes[] = {HEADER, 8, 0, 24, 0, 4, 0, 2, 0};
     uint8_t out[LINKWIRE_GROWTH * sizeof bytes];
@@ -159,6 +159,38 @@ static void tells_where_a_fault_is(void) {
     }
 }
 
+/* A counter of a virtual function that is one byte long, after one that is read: functions, one of them, its counters,
+ * and the counter. */
+static const uint8_t deep[] = {HEADER, 29, 0, 22, 0, 25, 0, 1, 0, 21, 0, 8, 0, 12, 0,
+                               0,      0,  1, 2,  3, 4,  5, 6, 7, 8,  5, 0, 1, 0,  9};
+
+static int leads(const struct linkwire_path *path, size_t at, size_t depth, const uint16_t *numbers) {
+    static const uint16_t none[LINKWIRE_DEPTH];
+    return path->at == at && path->depth == depth && memcmp(path->numbers, numbers, depth * sizeof *numbers) == 0
+           && memcmp(path->numbers + depth, none, (LINKWIRE_DEPTH - depth) * sizeof *none) == 0;
+}
+
+static void tells_which_attributes_lead_to_a_fault(void) {
+    static const uint16_t all[] = {22, 1, 8, 1}, list[] = {52, 53};
+    struct linkwire_path path, kept;
+    memset(&path, 0x55, sizeof path);
+    kept = path;
+    EXPECT(linkwire_fault_path(message, sizeof message, &path), 0);
+    EXPECT(memcmp(&path, &kept, sizeof path), 0);
+    EXPECT(linkwire_fault_path(deep, sizeof deep, &path), LINKWIRE_WRONG_LENGTH);
+    EXPECT(leads(&path, 40, 4, all), 1);
+    EXPECT(linkwire_fault_path(deep, 15, &path), LINKWIRE_TOO_SHORT);
+    EXPECT(leads(&path, 0, 0, all), 1);
+    for (size_t i = 0; i < sizeof faults / sizeof *faults; i++) {
+        EXPECT(linkwire_fault_path(faults[i].bytes, faults[i].len, &path), faults[i].answer);
+        EXPECT(path.at, faults[i].at);
+    }
+    EXPECT(linkwire_fault_path(faults[10].bytes, faults[10].len, &path), LINKWIRE_NOT_UTF8);
+    EXPECT(leads(&path, 20, 2, list), 1);
+    EXPECT(linkwire_fault_path(faults[11].bytes, faults[11].len, &path), LINKWIRE_FRAME_SHORT);
+    EXPECT(leads(&path, 28, 1, list), 1);
+}
+
 int main(void) {
     EXPECT(linkwire_canonical_form(), LINKWIRE_CANONICAL_FORM);
     refuses();
@@ -167,5 +199,6 @@ int main(void) {
     refuses_what_does_not_fit();
     refuses_empty_ports();
     tells_where_a_fault_is();
+    tells_which_attributes_lead_to_a_fault();
     return failures != 0;
 }

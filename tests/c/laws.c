@@ -125,10 +125,14 @@ static const struct line message_lines[] = {
     EXACTLY(IFLA_EVENT, 4), EXACTLY(IFLA_NEW_NETNSID, 4), EXACTLY(IFLA_IF_NETNSID, 4),
     EXACTLY(IFLA_CARRIER_UP_COUNT, 4), EXACTLY(IFLA_CARRIER_DOWN_COUNT, 4), EXACTLY(IFLA_NEW_IFINDEX, 4),
     EXACTLY(IFLA_MIN_MTU, 4), EXACTLY(IFLA_MAX_MTU, 4), {IFLA_PROP_LIST, LIST, PROPS, 0},
-    {IFLA_PERM_ADDRESS, BYTES, 0, 0}, {IFLA_PROTO_DOWN_REASON, LIST, REASONS, 0}, {IFLA_PARENT_DEV_NAME, TEXT, 0, 0},
-    {IFLA_PARENT_DEV_BUS_NAME, TEXT, 0, 0}, EXACTLY(IFLA_GRO_MAX_SIZE, 4), EXACTLY(IFLA_TSO_MAX_SIZE, 4),
-    EXACTLY(IFLA_TSO_MAX_SEGS, 4), EXACTLY(IFLA_ALLMULTI, 4),
-    /* Headers of Linux 6.1 have no name of these. */
+    {IFLA_PERM_ADDRESS, BYTES, 0, 0}, {IFLA_PROTO_DOWN_REASON, LIST, REASONS, 0},
+    /* Headers of Linux 5.10 have no name of these. */
+    {56, TEXT, 0, 0},       /* IFLA_PARENT_DEV_NAME */
+    {57, TEXT, 0, 0},       /* IFLA_PARENT_DEV_BUS_NAME */
+    EXACTLY(58, 4),         /* IFLA_GRO_MAX_SIZE */
+    EXACTLY(59, 4),         /* IFLA_TSO_MAX_SIZE */
+    EXACTLY(60, 4),         /* IFLA_TSO_MAX_SEGS */
+    EXACTLY(61, 4),         /* IFLA_ALLMULTI */
     {62, LIST, DEVLINK, 0}, /* IFLA_DEVLINK_PORT */
     EXACTLY(63, 4),         /* IFLA_GSO_IPV4_MAX_SIZE */
     EXACTLY(64, 4),         /* IFLA_GRO_IPV4_MAX_SIZE */
@@ -187,15 +191,15 @@ static const struct line slave_data_lines[] = {
 };
 static const struct line queriers_lines[] = {{3, BYTES, 0, 0}, {7, BYTES, 0, 0}, {1, BYTES, 0, 0}};
 static const struct line specs_lines[] = {
-    {AF_INET, LIST, INET, 0}, {AF_INET6, LIST, INET6, 0}, {AF_MCTP, LIST, MCTP, 0},
+    {AF_INET, LIST, INET, 0}, {AF_INET6, LIST, INET6, 0}, {45, LIST, MCTP, 0}, /* AF_MCTP */
 };
 static const struct line inet_lines[] = {{IFLA_INET_CONF, FILLED, 0, 136}};
 static const struct line inet6_lines[] = {
     EXACTLY(IFLA_INET6_FLAGS, 4), {IFLA_INET6_CONF, FILLED, 0, 240}, {IFLA_INET6_STATS, FILLED, 0, 312},
     {IFLA_INET6_CACHEINFO, FILLED, 0, sizeof(struct ifla_cacheinfo)}, {IFLA_INET6_ICMP6STATS, FILLED, 0, 56},
-    EXACTLY(IFLA_INET6_TOKEN, 16), EXACTLY(IFLA_INET6_ADDR_GEN_MODE, 1), EXACTLY(IFLA_INET6_RA_MTU, 4),
+    EXACTLY(IFLA_INET6_TOKEN, 16), EXACTLY(IFLA_INET6_ADDR_GEN_MODE, 1), EXACTLY(9, 4), /* IFLA_INET6_RA_MTU */
 };
-static const struct line mctp_lines[] = {EXACTLY(IFLA_MCTP_NET, 4), EXACTLY(2, 1)}; /* IFLA_MCTP_PHYS_BINDING */
+static const struct line mctp_lines[] = {EXACTLY(1, 4), EXACTLY(2, 1)}; /* IFLA_MCTP_NET, IFLA_MCTP_PHYS_BINDING */
 static const struct line any_lines[] = {{1, BYTES, 0, 0}};
 
 #define LINES(lines) {lines, sizeof(lines) / sizeof *(lines)}
@@ -578,6 +582,9 @@ static void tries_one(const uint8_t *message, size_t len, ptrdiff_t length) {
     LAW(answer <= 0 && answer >= LINKWIRE_NOT_UTF8);
     LAW(linkwire_fault_at(message, len, &at) == answer);
     LAW(answer == 0 ? at == SIZE_MAX : at <= len);
+    struct linkwire_path path = {SIZE_MAX, 0, {0}};
+    LAW(linkwire_fault_path(message, len, &path) == answer);
+    LAW(path.at == at && path.depth <= LINKWIRE_DEPTH);
     LAW(length == linkwire_canonical_len(message, len));
     if (answer != 0) {
         LAW(length == answer);

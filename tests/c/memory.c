@@ -1,6 +1,6 @@
-/* Refuses each call of linkwire_same_message and linkwire_same_state for memory in turn: they return
- * LINKWIRE_OUT_OF_MEMORY, and nothing else, until memory is ample, and all memory is given back. The other functions
- * take none. */
+/* Refuses each call of linkwire_same_message and linkwire_same_state for memory in turn, with all that come after it
+ * and alone: they return LINKWIRE_OUT_OF_MEMORY, and nothing else, until memory is ample, and all memory is given back.
+ * The other functions take none. */
 #include <stdio.h>
 #include <string.h>
 
@@ -25,10 +25,13 @@ static const uint8_t message[] = {
 static _Alignas(16) unsigned char arena[1 << 20];
 static size_t used;
 static long taken, refused_from = -1, in_use;
+/* Whether the call for memory is refused alone, and those after it succeed. */
+static int alone;
 
 void *malloc(size_t size) {
     size_t need = (size + 31) / 16 * 16;
-    if ((refused_from >= 0 && taken >= refused_from) || need > sizeof arena - used) {
+    int refused = refused_from >= 0 && (alone ? taken == refused_from : taken >= refused_from);
+    if (refused || need > sizeof arena - used) {
         taken++;
         return NULL;
     }
@@ -74,7 +77,7 @@ static long same_state(void) {
 }
 
 /* Refuses the first call for memory, then the second, and so on, until no call is refused. */
-static int refuses_each(const char *what, long (*call)(void), long want) {
+static int refuses_from(const char *what, long (*call)(void), long want) {
     for (long at = 0;; at++) {
         used = 0;
         refused_from = at;
@@ -92,6 +95,15 @@ static int refuses_each(const char *what, long (*call)(void), long want) {
     }
 }
 
+static int refuses_each(const char *what, long (*call)(void), long want) {
+    for (alone = 0; alone <= 1; alone++) {
+        if (refuses_from(what, call, want)) {
+            return 1;
+        }
+    }
+    return 0;
+}
+
 /* Calls each function that takes no memory where all memory is refused. */
 static int takes_none(void) {
     static uint8_t out[LINKWIRE_GROWTH * sizeof message];
@@ -100,6 +112,7 @@ static int takes_none(void) {
     struct linkwire_attribute attribute;
     used = 0;
     in_use = 0;
+    alone = 0;
     refused_from = 0;
     taken = 0;
     long checked = linkwire_check(message, sizeof message);

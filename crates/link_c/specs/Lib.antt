@@ -1,3 +1,4 @@
 pub mod Answers
 pub mod Lists
 pub mod Messages
+pub mod Paths

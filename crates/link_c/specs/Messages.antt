@@ -43,11 +43,11 @@ IsWhy b EmptyPorts = HasEmptyPorts b
 IsWhy b OutOfMemory = ⊥
 IsWhy b NoRoom = ⊥
 
--- b means a message that can be written, and its canonical text has a number of bytes of which this holds
+-- b means a message that can be written, and its canonical encoding has a number of bytes of which this holds
 abbrev pub HasTextOf : List ℕ → (ℕ → Type 0) → Type 0
 HasTextOf b holds = (m : LinkMessage) × IsAccepted b m × holds (length (message_text m))
 
--- the length of the canonical text, which C can count; or why there is none. What has a longer text does not fit
+-- the length of the canonical encoding, which C can count; or why there is none. What has a longer text does not fit
 abbrev pub IsLength : List ℕ → Result ℕ Refusal → Type 0
 IsLength b (Ok n) = HasTextOf b (λ len. n ≡ len) × (n < 2 ^ 63)
 IsLength b (Err Unfit) = IsUnfit b ⊎ HasTextOf b (λ len. 2 ^ 63 ≤ len)
@@ -56,8 +56,8 @@ IsLength b (Err EmptyPorts) = IsWhy b EmptyPorts
 IsLength b (Err OutOfMemory) = ⊥
 IsLength b (Err NoRoom) = ⊥
 
--- the canonical text stands at the front, n bytes, and the rest is kept; or the buffer is as it was, since there is no
--- text, or since it has fewer bytes than the text
+-- the canonical encoding stands at the front, n bytes, and the rest is kept; or the buffer is as it was, since there is
+-- no text, or since it has fewer bytes than the text
 abbrev pub IsText : List ℕ → List ℕ → List ℕ → Result ℕ Refusal → Type 0
 IsText b old new (Ok n) = (m : LinkMessage) × IsAccepted b m × Writes (message_text m) old new n
 IsText b old new (Err NoRoom) = HasTextOf b (λ len. length old < len) × (new ≡ old)

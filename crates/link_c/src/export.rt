@@ -5,11 +5,13 @@ ghost use Rattle.link_c.specs.Answers.{Says, itself, as_bit, as_one, as_zero};
 ghost use Rattle.link_c.specs.Messages.{MeansOrFaults, IsLookAt, IsLength, IsText, IsComparison, IsState};
 ghost use Rattle.link_c.specs.Messages.{IsStateComparison};
 ghost use Rattle.link_c.specs.Lists.{IsNext, IsPut};
+ghost use Rattle.link_c.specs.Paths.{IsLookAlong};
 
 use crate::list::{Attribute, next_attribute, put_attribute};
 use crate::message::{
     are_alike, check_message, have_same_state, look_for_fault, text_len, write_state, write_text,
 };
+use crate::path::{Path, look_along};
 use crate::refusal::{done_code, fault_code, length_code, whether_code};
 use link_msg::CANONICAL_FORM;
 use link_state::STATE_FORM;
@@ -69,6 +71,14 @@ pub extern "C" fn linkwire_fault_at(message: &[u8], at: &mut usize) -> i32
     ensures { Says as_zero (IsLookAt message.now at.old at.new) result }
 {
     fault_code(look_for_fault(message, at))
+}
+
+/// `linkwire_fault_path` of linkwire.h.
+#[unsafe(no_mangle)]
+pub extern "C" fn linkwire_fault_path(message: &[u8], path: &mut Path) -> i32
+    ensures { Says as_zero (IsLookAlong message.now path.old path.new) result }
+{
+    fault_code(look_along(message, path))
 }
 
 /// `linkwire_canonical_form` of linkwire.h.

@@ -4,4 +4,5 @@
 pub mod export;
 pub mod list;
 pub mod message;
+pub mod path;
 pub mod refusal;

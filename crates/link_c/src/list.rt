@@ -1,11 +1,11 @@
 //! Lists of attributes: read one at a time, and written.
 
-ghost use Rattle.std.specs.Prelude.{◌≡◌, ◌+◌, ◌^◌, ◌<◌, ◌≤◌, length, min};
+ghost use Rattle.std.specs.Prelude.{◌≡◌, ◌↔◌, ◌+◌, ◌^◌, ◌<◌, ◌≤◌, length, min, IsTrue};
 ghost use Rattle.nla_wire.specs.Frames.{missing};
 ghost use Rattle.link_c.specs.Lists.{IsNext, IsPut};
 
 use crate::refusal::Refusal;
-use nla_wire::{MOST_VALUE_LEN, NLA_HEADER_SIZE, NlaBuffer, padded_len, write_value};
+use nla_wire::{MOST_VALUE_LEN, NLA_HEADER_SIZE, NlaBuffer, nla_align, padded_len, write_value};
 
 /// An attribute of a list: `struct linkwire_attribute` of linkwire.h.
 #[repr(C)]
@@ -19,13 +19,20 @@ pub struct Attribute {
     pub payload_len: usize,
 }
 
+/// Whether two attributes are equal: their kinds, and where their payloads stand.
+pub fn same_attribute(one: &Attribute, other: &Attribute) -> bool
+    ensures { IsTrue result ↔ (one.now ≡ other.now) }
+{
+    one == other
+}
+
 /// The next multiple of four after a frame with a payload of this length, counted from the place where it starts; or
 /// the end of the list, where that is less.
 fn after(size: usize, at: usize, payload_len: usize) -> usize
     requires { at + 4 + payload_len ≤ size }
     ensures { result ≡ min (at + 4 + payload_len + missing payload_len) size }
 {
-    let padding = (4 - payload_len % 4) % 4;
+    let padding = nla_align(payload_len) - payload_len;
     let end = at + NLA_HEADER_SIZE + payload_len;
     if padding < size - end {
         end + padding

@@ -34,7 +34,7 @@ fn move_to(at: &mut usize, place: Option<usize>)
     }
 }
 
-/// The length of the canonical text of what the bytes mean.
+/// The length of the canonical encoding of what the bytes mean.
 ///
 /// Refuses faults, `Unfit`, also where C has no number for the length, and `EmptyPorts`.
 pub fn text_len(bytes: &[u8]) -> Result<usize, Refusal>
@@ -47,8 +47,8 @@ pub fn text_len(bytes: &[u8]) -> Result<usize, Refusal>
     Ok(len)
 }
 
-/// Writes what the bytes mean, as canonical text, to the front of the buffer, and returns its length. The rest of the
-/// buffer is kept.
+/// Writes what the bytes mean, in canonical encoding, to the front of the buffer, and returns its length. The rest of
+/// the buffer is kept.
 ///
 /// Refuses faults, `Unfit`, `EmptyPorts`, and `NoRoom` where the text is longer than the buffer. Then the buffer is
 /// unchanged.
@@ -71,7 +71,7 @@ pub fn are_alike(alloc: Global, first: &[u8], second: &[u8]) -> Result<bool, Ref
 }
 
 /// Writes the state encoding of what the bytes mean to the front of the buffer, and returns its length, which is that
-/// of the canonical text. The rest of the buffer is kept.
+/// of the canonical encoding. The rest of the buffer is kept.
 ///
 /// Refuses as `write_text` does. Then the buffer is unchanged.
 pub fn write_state(bytes: &[u8], out: &mut [u8]) -> Result<usize, Refusal>

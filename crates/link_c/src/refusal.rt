@@ -16,7 +16,7 @@ pub enum Refusal {
     /// Refusal 16: the value of an attribute would be too long.
     #[error("an attribute that would be too long")]
     Unfit,
-    /// Refusal 17: the message holds an empty list of ports, which cannot be written.
+    /// Refusal 17: the message holds an empty list of ports, which has no canonical encoding.
     #[error("an empty list of ports")]
     EmptyPorts,
     /// Refusal 18: no memory was left. It says nothing of the bytes.
