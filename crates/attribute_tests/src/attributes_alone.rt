@@ -10,7 +10,7 @@ const LIST: [u8; 24] = [
     6, 0, 3, 0, 0x6c, 0x6f, 9, 9, 8, 0, 4, 0xc0, 0xdc, 5, 0, 0, 5, 0, 99, 0xc0, 7, 9, 9, 9,
 ];
 
-/// The canonical text of `LIST`.
+/// The canonical encoding of `LIST`.
 const TEXT: [u8; 24] = [
     7, 0, 3, 0, 0x6c, 0x6f, 0, 0, 8, 0, 4, 0, 0xdc, 5, 0, 0, 5, 0, 99, 0xc0, 7, 0, 0, 0,
 ];

@@ -1,7 +1,9 @@
 //! Copies of messages and of their attributes: each is equal to what it was made from and to nothing else, and is
 //! written as the same text.
 
-use expected::{are_copied_alike, are_told_apart, bytes_from, equal, kept_byte, list, text_from};
+use expected::{
+    are_copied_alike, are_told_apart, bytes_from, equal, kept, kept_byte, list, text_from,
+};
 use link_msg::*;
 use nla_wire::exact::same;
 use std::alloc::Global;
@@ -11,7 +13,7 @@ use std::process::Abort;
 const MOST_OF_MESSAGE: usize = 8000;
 
 /// The variants of `LinkAttribute`.
-const VARIANTS: usize = 68;
+pub(crate) const VARIANTS: usize = 68;
 
 /// Attributes that hold this number of four bytes.
 fn words(n: u32) -> [LinkAttribute; 23] {
@@ -65,10 +67,10 @@ fn numbers(n: u8) -> [LinkAttribute; 13] {
 
 /// Attributes that hold a record with this number, or an id with this byte.
 fn records(n: u8) -> [LinkAttribute; 5] {
-    let id = LinkPhysId {
-        id: [n; 32],
-        len: 2,
-    };
+    let mut id = [0; 32];
+    id[0] = n;
+    id[1] = n;
+    let id = LinkPhysId { id, len: 2 };
     let map = Map {
         port: n,
         ..Map::default()
@@ -116,17 +118,19 @@ fn bytes(rt: &impl Abort, alloc: Global, n: u8) -> [LinkAttribute; 7] {
         LinkAttribute::PermAddress(bytes_of(rt, alloc, n)),
         LinkAttribute::AfSpecUnknown(bytes_of(rt, alloc, n)),
         LinkAttribute::Wireless(event),
-        LinkAttribute::ProtoInfoUnknown(kept_byte(alloc, n).expect(rt, "memory")),
+        LinkAttribute::ProtoInfoUnknown(kept(alloc, link_msg::numbers::IFLA_PROTINFO, &[n]).expect(
+            rt, "memory",
+        )),
         LinkAttribute::Other(kept_byte(alloc, n).expect(rt, "memory")),
     ]
 }
 
-/// Attributes that hold a list of one number, the last but one of a mask.
+/// Attributes that hold a list of one number. Of the mask it is one above the listed flags.
 fn lists_of_numbers(rt: &impl Abort, alloc: Global, n: u8) -> [LinkAttribute; 5] {
     let number = u32::from(n);
     let reason = LinkProtocolDownReason::Mask(number);
     let port = DevlinkPort::PortIndex(number);
-    let flag = LinkExtentMask::Other(number);
+    let flag = LinkExtentMask::Other(256 * number);
     [
         LinkAttribute::Xdp(list(alloc, [LinkXdp::Flags(number)]).expect(rt, "memory")),
         LinkAttribute::ProtoDownReason(list(alloc, [reason]).expect(rt, "memory")),
@@ -186,7 +190,12 @@ fn add<const N: usize>(
 }
 
 /// An attribute of each variant, with this payload.
-fn every_variant(rt: &impl Abort, alloc: Global, n: u8, letters: &str) -> Vec<LinkAttribute> {
+pub(crate) fn every_variant(
+    rt: &impl Abort,
+    alloc: Global,
+    n: u8,
+    letters: &str,
+) -> Vec<LinkAttribute> {
     let mut all = Vec::new(alloc);
     add(rt, alloc, &mut all, words(u32::from(n)));
     add(rt, alloc, &mut all, numbers(n));

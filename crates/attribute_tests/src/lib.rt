@@ -7,3 +7,5 @@ mod attributes_alone;
 mod copies;
 #[cfg(test)]
 mod names;
+#[cfg(test)]
+mod variants;

@@ -1,4 +1,4 @@
-//! What is timed: reading into values, writing values, and canonical text in memory that is taken for it.
+//! What is timed: reading into values, writing values, and canonical encoding in memory that is taken for it.
 
 use link_msg::{LinkMessage, canonical};
 use std::alloc::Global;
@@ -49,7 +49,7 @@ pub extern "C" fn bench_emits(alloc: Global, bytes: &[u8], out: &mut [u8], times
     }
 }
 
-/// Makes the canonical text of a message in memory, and copies it: its length, or -1.
+/// Makes the canonical encoding of a message in memory, and copies it: its length, or -1.
 #[unsafe(no_mangle)]
 pub extern "C" fn bench_canonical(alloc: Global, bytes: &[u8], out: &mut [u8]) -> isize {
     match canonical(alloc, bytes) {

@@ -86,3 +86,39 @@ fn refusals_have_an_order(rt: HostRuntime) {
         is_refused_so(&rt, same_message(alloc, first, second), wanted);
     }
 }
+
+/// An attribute of a number that no place lists, with a length below 4.
+const SHORT: [u8; 4] = [0x03, 0x00, 0x63, 0x00];
+
+/// These bytes, and a frame that is no frame.
+fn with_fault(rt: &impl Abort, alloc: Global, front: &[u8]) -> Vec<u8> {
+    let mut bytes = vec_from(alloc, front).expect(rt, "memory");
+    bytes.extend_from_slice(&SHORT).expect(rt, "memory");
+    bytes
+}
+
+/// A fault comes before what stands in front of it: an alias that does not fit, and an empty list of ports.
+#[test]
+fn faults_come_first(rt: HostRuntime) {
+    let alloc = rt.alloc();
+    let mut unfit = with_alias(&rt, alloc, &[0; 16]);
+    // the padding of the alias
+    unfit.push(0).expect(&rt, "memory");
+    let cause = Cause::FrameUnder { length: 3 };
+    for front in [unfit.as_slice(), NO_PORTS.as_slice()] {
+        let faulty = with_fault(&rt, alloc, front);
+        let faulty = faulty.as_slice();
+        is_refused_row(&rt, alloc, faulty, cause);
+        is_refused_so(
+            &rt,
+            same_message(alloc, faulty, &[0; 16]),
+            no_message(cause),
+        );
+        is_refused_so(
+            &rt,
+            same_message(alloc, &[0; 16], faulty),
+            no_message(cause),
+        );
+        is_refused_so(&rt, same_message(alloc, faulty, faulty), no_message(cause));
+    }
+}

@@ -169,3 +169,49 @@ fn in_settings(rt: HostRuntime) {
         ],
     );
 }
+
+/// Of this family, these attributes are refused, and these numbers lead to the fault.
+type PathRow<'a> = (u8, &'a [u8], usize, &'a [u16]);
+
+/// A counter of one byte after one that is read: of a virtual function's counters.
+const COUNTER: [u8; 29] = [
+    29, 0, 22, 0, 25, 0, 1, 0, 21, 0, 8, 0, 12, 0, 0, 0, 1, 2, 3, 4, 5, 6, 7, 8, 5, 0, 1, 0, 9,
+];
+
+#[test]
+fn numbers_lead_there(rt: HostRuntime) {
+    let rows: [PathRow<'_>; 9] = [
+        (0, &[3, 0, 3, 0], 0, &[]),
+        (0, &[6, 0, 4, 0xc0, 0xdc, 5, 0, 0], 0, &[4]),
+        (0, &[9, 0, 52, 0, 5, 0, 53, 0, 0xff], 4, &[52, 53]),
+        (0, &[9, 0, 52, 0, 4, 0, 99, 0, 1], 8, &[52]),
+        (0, &COUNTER, 24, &[22, 1, 8, 1]),
+        (0, &[8, 0, 22, 0, 4, 0, 1, 0x80], 4, &[22, 1]),
+        (0, &[9, 0, 24, 0, 5, 0, 1, 0, 9], 8, &[24, 1]),
+        (7, &[9, 0, 26, 0, 4, 0, 1, 0, 9], 8, &[26]),
+        (
+            0,
+            &[13, 0, 26, 0, 9, 0, 45, 0, 5, 0, 1, 0, 9],
+            8,
+            &[26, 45, 1],
+        ),
+    ];
+    for (family, attributes, at, numbers) in rows {
+        let bytes = with_header(&rt, rt.alloc(), family, attributes);
+        match LinkMessage::fault_path(bytes.as_slice()) {
+            Some(path) => {
+                assert!(rt; at < 100);
+                assert_eq!(rt; path.offset, 16 + at);
+                assert!(rt; path.numbers() == numbers);
+            }
+            None => panic!(rt; "a fault of {numbers:?} is not found"),
+        }
+    }
+}
+
+#[test]
+fn no_number_leads_to_a_header(rt: HostRuntime) {
+    let path = LinkMessage::fault_path(&[0; 15]).expect(&rt, "the header is short");
+    assert!(rt; path.offset == 0 && path.numbers().is_empty());
+    assert!(rt; LinkMessage::fault_path(&[0; 16]).is_none());
+}

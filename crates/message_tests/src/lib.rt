@@ -4,6 +4,8 @@
 #[cfg(test)]
 mod attribute_values;
 #[cfg(test)]
+mod before_faults;
+#[cfg(test)]
 mod damaged_lists;
 #[cfg(test)]
 mod empty_ports;
@@ -19,6 +21,8 @@ mod longer_records;
 mod longest_messages;
 #[cfg(test)]
 mod messages;
+#[cfg(test)]
+mod refusal_places;
 #[cfg(test)]
 mod refused_messages;
 #[cfg(test)]

@@ -52,6 +52,29 @@ fn one_port(rt: HostRuntime) {
     is_attribute_row(&rt, alloc, 0, &text, port, &text);
 }
 
+/// A list of two ports, and an entry between them that is dropped.
+#[test]
+fn two_ports(rt: HostRuntime) {
+    let alloc = rt.alloc();
+    let first = VfPort::Other(kept(alloc, 1, &[0x05, 0, 0, 0]).expect(&rt, "memory"));
+    let second = VfPort::Other(kept(alloc, 2 | NLA_F_NESTED, &[0xff]).expect(&rt, "memory"));
+    let ports = [
+        LinkVfPort(list(alloc, [first]).expect(&rt, "memory")),
+        LinkVfPort(list(alloc, [second]).expect(&rt, "memory")),
+    ];
+    let ports = LinkAttribute::VfPorts(list(alloc, ports).expect(&rt, "memory"));
+    let bytes = [
+        0x21, 0x00, 0x18, 0x00, 0x0c, 0x00, 0x01, 0x00, 0x08, 0x00, 0x01, 0x00, 0x05, 0x00, 0x00,
+        0x00, 0x05, 0x00, 0x02, 0x00, 0xff, 0x00, 0x00, 0x00, 0x09, 0x00, 0x01, 0x80, 0x05, 0x00,
+        0x02, 0x80, 0xff,
+    ];
+    let text = [
+        0x1c, 0x00, 0x18, 0x00, 0x0c, 0x00, 0x01, 0x00, 0x08, 0x00, 0x01, 0x00, 0x05, 0x00, 0x00,
+        0x00, 0x0c, 0x00, 0x01, 0x00, 0x05, 0x00, 0x02, 0x80, 0xff, 0x00, 0x00, 0x00,
+    ];
+    is_attribute_row(&rt, alloc, 0, &bytes, ports, &text);
+}
+
 /// The list of one function with one member.
 fn function(rt: &impl Abort, alloc: Global, member: VfInfo) -> LinkAttribute {
     let function = LinkVfInfo(list(alloc, [member]).expect(rt, "memory"));

@@ -9,7 +9,7 @@ const NAME: [u8; 22] = [
     0, 0, 0, 0, 0, 0, 0, 0, 0, 0, 0, 0, 0, 0, 0, 0, 6, 0, 3, 0, 0x6c, 0x6f,
 ];
 
-/// The canonical text of `NAME`.
+/// The canonical encoding of `NAME`.
 const NAME_TEXT: [u8; 24] = [
     0, 0, 0, 0, 0, 0, 0, 0, 0, 0, 0, 0, 0, 0, 0, 0, 7, 0, 3, 0, 0x6c, 0x6f, 0, 0,
 ];

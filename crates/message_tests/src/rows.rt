@@ -119,7 +119,7 @@ fn is_rewritten_exactly(rt: &impl Abort, alloc: Global, bytes: &[u8], text: &[u8
             assert!(rt; canonical_into(bytes, out) == Ok(text.len()));
             assert!(rt; equal(out, text));
         },
-        Err(_) => panic!(rt; "the bytes have no canonical text"),
+        Err(_) => panic!(rt; "the bytes have no canonical encoding"),
     }
 }
 
@@ -149,7 +149,7 @@ fn is_too_long(rt: &impl Abort, alloc: Global, bytes: &[u8], text: &[u8]) {
     }
 }
 
-/// Bytes have this canonical text, made in memory and without.
+/// Bytes have this canonical encoding, made in memory and without.
 fn has_text(rt: &impl Abort, alloc: Global, bytes: &[u8], text: &[u8]) {
     assert!(rt; equal(text_made(rt, alloc, bytes).as_slice(), text));
     assert!(rt; canonical_len(bytes) == Ok(text.len()));
@@ -168,7 +168,7 @@ fn without_room(rt: &impl Abort, answer: Result<usize, RoomError>) -> Result<usi
     }
 }
 
-/// Bytes have no canonical text, for this reason, and no buffer is changed.
+/// Bytes have no canonical encoding, for this reason, and no buffer is changed.
 fn has_no_text(rt: &impl Abort, alloc: Global, bytes: &[u8], wanted: CanonError) {
     is_refused_so(rt, canonical(alloc, bytes), wanted);
     is_refused_so(rt, canonical_len(bytes), wanted);

@@ -1,4 +1,4 @@
-//! What the tests share: messages that are read, and their canonical texts.
+//! What the tests share: messages that are read, and their canonical encodings.
 
 use link_msg::{LinkMessage, canonical, same_message};
 use std::alloc::Global;
@@ -9,7 +9,7 @@ pub(crate) fn read_message(rt: &impl Abort, alloc: Global, bytes: &[u8]) -> Link
     LinkMessage::parse(alloc, bytes).expect(rt, "it is read")
 }
 
-/// The canonical text of a message.
+/// The canonical encoding of a message.
 pub(crate) fn text_made(rt: &impl Abort, alloc: Global, bytes: &[u8]) -> Vec<u8> {
     canonical(alloc, bytes).expect(rt, "it is written")
 }

@@ -1,3 +1,5 @@
+//! The flat inner lists and wireless events: what each member means, is refused for, and is written as.
+
 use expected::{
     bytes_from, cause_of, equal, is_copied, is_stored, kept, means, refuses, refuses_bad_frames,
     text_from,

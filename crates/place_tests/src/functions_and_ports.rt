@@ -1,3 +1,5 @@
+//! Virtual functions and ports, four levels deep: what they mean, are refused for, and are written as.
+
 use expected::{
     BAD_FRAMES, cause_of, equal, has_value, is_copied, is_stored, kept, means, refuses,
     refuses_bad_frames,

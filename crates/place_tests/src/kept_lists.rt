@@ -16,12 +16,6 @@ fn reads_lists(rt: HostRuntime) {
     let all = VfPort::parse_list(rt.alloc(), &TWO).expect(&rt, "it is read");
     assert!(rt; all.len() == 2);
     assert!(rt; all[0].kind() == 0x8002);
-    let ones = parse_picked_members::<VfPort, OwnPlace>(&OwnPlace, rt.alloc(), &TWO).expect(
-        &rt,
-        "it is read",
-    );
-    assert!(rt; ones.len() == 1);
-    assert!(rt; ones[0].kind() == 1);
 }
 
 #[test]
@@ -30,10 +24,6 @@ fn refuses_lists(rt: HostRuntime) {
     let over = Some(Cause::FrameOver { length: 5, left: 4 });
     assert_eq!(rt; cause_of(VfPort::parse_list(rt.alloc(), short)), over);
     assert_eq!(rt; cause_of(VfPort::check_list(short)), over);
-    assert_eq!(rt;
-        cause_of(check_picked_members::<VfPort, OwnPlace>(&OwnPlace, short)),
-        over
-    );
 }
 
 #[test]
@@ -90,34 +80,6 @@ fn writes_lists_of_some(rt: HostRuntime) {
     let len = VfPort::write_some(25, &TWO, &mut out);
     let text = [16, 0, 25, 0, 4, 0, 2, 0x80, 5, 0, 1, 0, 7, 0, 0, 0];
     assert!(rt; is_stored(len, &out, &text));
-}
-
-#[test]
-fn measures_picked_lists(rt: HostRuntime) {
-    for (bytes, wanted) in [
-        (TWO.as_slice(), Some(8)),
-        (&TWO[..4], Some(0)),
-        ([].as_slice(), Some(0)),
-        (&TWO[..8], None),
-    ] {
-        let all = measure_picked_members::<VfPort, OwnPlace>(&OwnPlace, bytes);
-        assert!(rt; all == wanted);
-        let nested = measure_nested_picked_members::<VfPort, OwnPlace>(&OwnPlace, bytes);
-        assert!(rt; nested == wanted);
-    }
-}
-
-#[test]
-fn writes_picked_lists(rt: HostRuntime) {
-    let mut out = [255; 13];
-    assert!(rt; check_picked_members::<VfPort, OwnPlace>(&OwnPlace, &TWO).is_ok());
-    assert!(rt; measure_picked_members::<VfPort, OwnPlace>(&OwnPlace, &TWO) == Some(8));
-    let len = write_picked_members::<VfPort, OwnPlace>(&OwnPlace, &TWO, &mut out);
-    assert!(rt; is_stored(len, &out, &SECOND));
-    let mut out = [255; 13];
-    assert!(rt; measure_nested_picked_members::<VfPort, OwnPlace>(&OwnPlace, &TWO) == Some(8));
-    let len = write_nested_picked_members::<VfPort, OwnPlace>(&OwnPlace, 22, &TWO, &mut out);
-    assert!(rt; is_stored(len, &out, &[12, 0, 22, 0, 5, 0, 1, 0, 7, 0, 0, 0]));
 }
 
 #[test]

@@ -1,3 +1,5 @@
+//! Settings by family: records of each length, requests, and members that are kept.
+
 use expected::{
     BAD_FRAMES, COUNTERS, SETTINGS, has_value, is_copied, kept, means, refuses, refuses_bad_frames,
     rewrites, vec_from, writes, zeros_after,
@@ -94,15 +96,11 @@ fn short_settings_of_ipv4(rt: HostRuntime) {
 /// A record that is longer than its table means its beginning.
 #[test]
 fn long_settings_of_ipv4(rt: HostRuntime) {
-    let mut bytes = [7; SETTINGS + 4];
+    let mut bytes = [0xff; SETTINGS + 4];
+    let text: [u8; SETTINGS] = zeros_after(&[0x8c, 0, 1, 0, 8, 0, 1, 0, 1, 0, 0, 0]);
+    bytes[..SETTINGS].copy_from_slice(&text);
     bytes[0] = 0x90;
-    bytes[1] = 0;
-    bytes[2] = 1;
-    bytes[3] = 0;
-    let long = AfSpecInet::parse_list(rt.alloc(), &bytes).expect(&rt, "it is read");
-    bytes[0] = 0x8c;
-    let exact = AfSpecInet::parse_list(rt.alloc(), &bytes[..SETTINGS]).expect(&rt, "it is read");
-    assert!(rt; long == exact);
+    assert!(rt; means(rt.alloc(), &bytes, &[two_settings()], &text));
 }
 
 /// The record of the kernel is shorter by the field of this project's own, which means zero.

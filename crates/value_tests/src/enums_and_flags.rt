@@ -1,3 +1,5 @@
+//! Enums by their numbers and texts, sets of flags and their operators, extent masks and physical ids.
+
 use crate::testing::{is_same, means, prints, refuses};
 use bitflags::Flags;
 use expected::equal;

@@ -1,3 +1,5 @@
+//! Records of virtual functions: each field at its offset, padding, short payloads, and how they are printed.
+
 use crate::testing::{is_read, is_same, prints_as, too_few};
 use expected::equal;
 use link_vals::{VfLinkState, VlanProtocol};

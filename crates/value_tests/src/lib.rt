@@ -3,6 +3,8 @@
 #![tactic(auto)]
 
 #[cfg(test)]
+mod counters_order;
+#[cfg(test)]
 mod enums_and_flags;
 #[cfg(test)]
 mod function_records;

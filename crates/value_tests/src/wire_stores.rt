@@ -60,23 +60,23 @@ fn stores_values(rt: HostRuntime) {
 #[test]
 fn stores_contents(rt: HostRuntime) {
     for (content, text) in [
-        (Content::Bytes(&[7]), [5, 0, 1, 0, 7, 0, 0, 0].as_slice()),
+        (FlatView::Bytes(&[7]), [5, 0, 1, 0, 7, 0, 0, 0].as_slice()),
         (
-            Content::Text("lo"),
+            FlatView::Text("lo"),
             [7, 0, 1, 0, 0x6c, 0x6f, 0, 0].as_slice(),
         ),
-        (Content::U8(7), [5, 0, 1, 0, 7, 0, 0, 0].as_slice()),
+        (FlatView::U8(7), [5, 0, 1, 0, 7, 0, 0, 0].as_slice()),
         (
-            Content::U16(0x1234),
+            FlatView::U16(0x1234),
             [6, 0, 1, 0, 0x34, 0x12, 0, 0].as_slice(),
         ),
-        (Content::U32(1500), [8, 0, 1, 0, 0xdc, 5, 0, 0].as_slice()),
+        (FlatView::U32(1500), [8, 0, 1, 0, 0xdc, 5, 0, 0].as_slice()),
         (
-            Content::U64(7),
+            FlatView::U64(7),
             [12, 0, 1, 0, 7, 0, 0, 0, 0, 0, 0, 0].as_slice(),
         ),
         (
-            Content::I32(-2),
+            FlatView::I32(-2),
             [8, 0, 1, 0, 254, 255, 255, 255].as_slice(),
         ),
     ] {

@@ -1,0 +1,32 @@
+//! The place that a refusal names: of a fault that no attribute holds it is the message, whichever call refuses.
+
+use link_msg::*;
+
+/// A header, and three bytes that are no frame.
+const STRAY: [u8; 19] = [0; 19];
+
+/// A header, and an MTU of two bytes.
+const SHORT_MTU: [u8; 24] = [
+    0, 0, 0, 0, 0, 0, 0, 0, 0, 0, 0, 0, 0, 0, 0, 0, 6, 0, 4, 0, 0xdc, 5, 0, 0,
+];
+
+#[test]
+fn of_bytes_that_are_no_frame(rt: HostRuntime) {
+    let fault = DecodeError::new("message", Cause::FrameShort { left: 3 });
+    assert!(rt; LinkMessage::check(&STRAY) == Err(fault));
+    assert!(rt; canonical_len(&STRAY) == Err(CanonError::Decode(fault)));
+    match canonical(rt.alloc(), &STRAY) {
+        Ok(_) => panic!(rt; "the bytes have no canonical encoding"),
+        Err(error) => assert!(rt; error == CanonError::Decode(fault)),
+    }
+    let mut out = [0; 19];
+    let written = canonical_within(&STRAY, &mut out);
+    assert!(rt; written == Err(RoomError::NoText(CanonError::Decode(fault))));
+}
+
+#[test]
+fn of_attributes(rt: HostRuntime) {
+    let fault = DecodeError::new("IFLA_MTU", Cause::WrongLength { got: 2, want: 4 });
+    assert!(rt; LinkMessage::check(&SHORT_MTU) == Err(fault));
+    assert!(rt; canonical_len(&SHORT_MTU) == Err(CanonError::Decode(fault)));
+}
