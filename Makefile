@@ -1,7 +1,7 @@
 # The targets that build from dist/ or by the toolchain are in dist/Makefile: `make help` lists all.
 # How long `fuzz` tries messages.
 SECONDS ?= 60
-QUIET = test rust lint check edits tables dist dist-tests archive rust-tests show-tests linkdump-tests
+QUIET = test rust files lint dev fmt check edits tables dist dist-tests archive rust-tests show-tests linkdump-tests
 OF_c-tests = link_c
 OF_fuzz = link_c
 OF_c-bench = link_c
@@ -9,8 +9,12 @@ OF_compare = link_c
 
 include dist/Makefile
 
-.PHONY: dist archive deb dist-tests test rust lint check edits tables bench compare show-tests c-tests linkdump-tests
-.PHONY: rust-tests fuzz c-bench
+NEEDS_RT := $(firstword $(filter check dist edits,$(MAKECMDGOALS)))
+$(if $(NEEDS_RT),$(if $(call is_here,rt),,$(error make $(NEEDS_RT) proves the crates by the command rt, which is not \
+    on the path: make self-test and make dist-tests need none)))
+
+.PHONY: dist archive deb dist-tests test rust files lint check edits tables bench compare show-tests c-tests
+.PHONY: linkdump-tests dev fmt rust-tests fuzz c-bench
 
 dist: ## proves, and makes dist/ and the archive of a release anew; its sums say what it was made of
 	@scripts/dist.sh
@@ -32,8 +36,18 @@ test: ## runs the tests by cargo, the contracts erased, within a minute; it prov
 rust: ## makes the crate in rust/ anew, of the sources and scripts/erase
 	@python3 scripts/erase/erase.py crate rust
 
-lint: ## what rustfmt, clippy and rustdoc say of rust/, and the test of scripts/erase
-	@scripts/rust_lint.sh
+files: ## makes docs/FILES.md anew, of the sentence that each source file begins with
+	@python3 scripts/files.py
+
+lint: ## long lines, pages that are stale, shellcheck, pyflakes, and of rust/ rustfmt, clippy and rustdoc
+	@scripts/lint.sh
+
+dev: ## checks one crate: make dev CRATE=link_vf
+	@$(if $(wildcard crates/$(CRATE)/src),,echo 'make dev CRATE=NAME: no crates/$(CRATE)' >&2; exit 2;) \
+	    cd 'crates/$(CRATE)' && rt check
+
+fmt: ## lays out each crate by rt
+	@for it in crates/*/; do (cd "$$it" && rt fmt) || exit; done
 
 check: ## runs the gate and the scripts beside it; its last line is the gate's
 	@scripts/check.sh

@@ -1,8 +1,12 @@
 /* Times the calls of linkwire.h and of link_msg, the crate in rust/, libnl-route-3 and Debian's crate
  * netlink-packet-route on the same messages, and what a byte costs as a message grows: compare MESSAGES DUMP GROWING.
  * In processor time, the best of many rounds, in which the calls take turns. DUMP may be '-', for none. A number in
- * brackets counts the messages that a call takes, where it fails on others; those alone are timed. All is timed five
- * times; how often as long the crate in rust/ takes as the proved build is the median of the five. */
+ * brackets counts the messages that a call takes, where it fails on others; those alone are timed.
+ *
+ * compare ratio MESSAGES DUMP prints how often as long each call of the crate in rust/ takes as that of the proved
+ * build, a line for each: the median over many slices of some two milliseconds, which the two take in turns. Before a
+ * slice the call reads all messages once, untimed, so that neither finds the processor as another call left it. Where
+ * code and memory lie differs from process to process, and what a call takes with it: compare.sh runs it five times. */
 #include <time.h>
 
 #include "compare.h"
@@ -15,7 +19,7 @@
 #include <netlink/route/link.h>
 #endif
 
-enum { RUNS = 5, ROUNDS = 15, AGAIN = 200, FILES = 2 };
+enum { ROUNDS = 30, AGAIN = 200, FILES = 2 };
 
 static uint8_t *out;
 static size_t cap;
@@ -137,24 +141,23 @@ static struct row {
     call *run;
     size_t again; /* how often one call does what is timed */
     double best[FILES];
-    double runs[FILES][RUNS]; /* the best of each run */
     struct messages taken[FILES]; /* those that the call does not refuse */
 } rows[] = {
-    {"memcpy", copy, 1, {0}, {{0}}, {{0}}},
-    {"linkwire_check", check, 1, {0}, {{0}}, {{0}}},
-    {"linkwire_canonical", canonical, 1, {0}, {{0}}, {{0}}},
-    {"canonical, into memory taken", canonical_vec, 1, {0}, {{0}}, {{0}}},
-    {"LinkMessage::parse, drop", parse, 1, {0}, {{0}}, {{0}}},
-    {"fits, buffer_len, emit", emits, AGAIN, {0}, {{0}}, {{0}}},
-    {"rust/: check", by_cargo_check, 1, {0}, {{0}}, {{0}}},
-    {"rust/: canonical_into", by_cargo_canonical, 1, {0}, {{0}}, {{0}}},
-    {"rust/: canonical", by_cargo_canonical_vec, 1, {0}, {{0}}, {{0}}},
-    {"rust/: LinkMessage::parse, drop", by_cargo_parse, 1, {0}, {{0}}, {{0}}},
-    {"rust/: fits, buffer_len, emit", by_cargo_emits, AGAIN, {0}, {{0}}, {{0}}},
-    {"linkwire_state", state, 1, {0}, {{0}}, {{0}}},
-    {LIBNL ": parse, free", libnl_parse, 1, {0}, {{0}}, {{0}}},
-    {CRATE_VERSION ": parse, drop", crate_parse, 1, {0}, {{0}}, {{0}}},
-    {CRATE_VERSION ": buffer_len, emit", crate_emits, AGAIN, {0}, {{0}}, {{0}}},
+    {"memcpy", copy, 1, {0}, {{0}}},
+    {"linkwire_check", check, 1, {0}, {{0}}},
+    {"linkwire_canonical", canonical, 1, {0}, {{0}}},
+    {"canonical, into memory taken", canonical_vec, 1, {0}, {{0}}},
+    {"LinkMessage::parse, drop", parse, 1, {0}, {{0}}},
+    {"fits, buffer_len, emit", emits, AGAIN, {0}, {{0}}},
+    {"rust/: check", by_cargo_check, 1, {0}, {{0}}},
+    {"rust/: canonical_into", by_cargo_canonical, 1, {0}, {{0}}},
+    {"rust/: canonical", by_cargo_canonical_vec, 1, {0}, {{0}}},
+    {"rust/: LinkMessage::parse, drop", by_cargo_parse, 1, {0}, {{0}}},
+    {"rust/: fits, buffer_len, emit", by_cargo_emits, AGAIN, {0}, {{0}}},
+    {"linkwire_state", state, 1, {0}, {{0}}},
+    {LIBNL ": parse, free", libnl_parse, 1, {0}, {{0}}},
+    {CRATE_VERSION ": parse, drop", crate_parse, 1, {0}, {{0}}},
+    {CRATE_VERSION ": buffer_len, emit", crate_emits, AGAIN, {0}, {{0}}},
 };
 
 enum { ROWS = sizeof rows / sizeof *rows };
@@ -168,16 +171,27 @@ static double seconds(void) {
     return now.tv_sec + now.tv_nsec * 1e-9;
 }
 
-/* Nanoseconds of one call on each message, of about as many messages as take a millisecond. */
-static double once(const struct row *row, const struct messages *messages) {
-    size_t turns = row->again > 1 ? 1 : 1000000 / (messages->bytes + messages->count * 100) + 1;
-    double start = seconds();
+/* One call on each message, so many times over. */
+static void call_on(const struct row *row, const struct messages *messages, size_t turns) {
     for (size_t turn = 0; turn < turns; turn++) {
         for (size_t i = 0; i < messages->count; i++) {
             row->run(&messages->all[i]);
         }
     }
-    return (seconds() - start) * 1e9 / turns / row->again / messages->count;
+}
+
+/* Its seconds, after one turn untimed, unless a call does many times over what is timed. */
+static double lasts(const struct row *row, const struct messages *messages, size_t turns) {
+    call_on(row, messages, row->again == 1);
+    double start = seconds();
+    call_on(row, messages, turns);
+    return seconds() - start;
+}
+
+/* Nanoseconds of one call on each message, of about as many messages as take a millisecond, in at least four turns. */
+static double once(const struct row *row, const struct messages *messages) {
+    size_t turns = row->again > 1 ? 1 : 1000000 / (messages->bytes + messages->count * 100) + 4;
+    return lasts(row, messages, turns) * 1e9 / turns / row->again / messages->count;
 }
 
 /* The messages that a call does not refuse. */
@@ -205,11 +219,7 @@ static void make_room(const struct messages *messages) {
     }
 }
 
-static void note(double *best, double took) {
-    *best = *best == 0 || took < *best ? took : *best;
-}
-
-/* Times each call on the messages of a file: the best round of all, and of each run. */
+/* Times each call on the messages of a file. */
 static void time_file(size_t file, const struct messages *messages) {
     make_room(messages);
     make_packets(messages);
@@ -218,12 +228,11 @@ static void time_file(size_t file, const struct messages *messages) {
             row->taken[file] = taken(row->run, messages);
         }
     }
-    for (int round = 0; round < RUNS * ROUNDS; round++) {
+    for (int round = 0; round < ROUNDS; round++) {
         for (struct row *row = rows; row < rows + ROWS; row++) {
             if (row->taken[file].count > 0) {
                 double took = once(row, &row->taken[file]);
-                note(&row->best[file], took);
-                note(&row->runs[file][round / ROUNDS], took);
+                row->best[file] = row->best[file] == 0 || took < row->best[file] ? took : row->best[file];
             }
         }
     }
@@ -279,29 +288,35 @@ static int by_size(const void *one, const void *other) {
     return (a > b) - (a < b);
 }
 
-/* How often as long a call of the crate in rust/ takes as that of the proved build, on the messages of a file. */
-static double ratio(size_t pair, size_t file) {
-    double found[RUNS];
-    for (size_t run = 0; run < RUNS; run++) {
-        found[run] = rows[CARGO + pair].runs[file][run] / rows[PROVED + pair].runs[file][run];
+enum { SLICES = 101, FEWER = 25 };
+
+/* How often as long one call takes as another: the median over slices, in each of which the other has the next turn. */
+static double ratio(const struct row *row, const struct row *other, const struct messages *messages) {
+    double found[SLICES];
+    size_t turns = (size_t)(0.002 / lasts(other, messages, 1)) + 1;
+    int slices = row->again == 1 ? SLICES : FEWER;
+    for (int slice = 0; slice < slices; slice++) {
+        double took = slice % 2 == 0 ? lasts(row, messages, turns) : 0;
+        double than = lasts(other, messages, turns);
+        took = slice % 2 == 0 ? took : lasts(row, messages, turns);
+        found[slice] = took / than;
     }
-    qsort(found, RUNS, sizeof *found, by_size);
-    return found[RUNS / 2];
+    qsort(found, slices, sizeof *found, by_size);
+    return found[slices / 2];
 }
 
-static void print_ratios(const struct messages *messages) {
-    if (rows[CARGO].run == NULL) {
-        return;
-    }
-    printf("\n%-46s %14s %14s\n", "rust/ to the proved build, the median of 5", "made", "kernel's dump");
-    for (size_t pair = 0; pair < PAIRS; pair++) {
-        printf("%-46s", rows[CARGO + pair].name);
+/* A line for each call of the crate in rust/: how often as long it takes on each file, between tabs. */
+static void print_ratios(char **paths) {
+    for (const struct row *row = rows + CARGO; row->run != NULL && row < rows + CARGO + PAIRS; row++) {
+        printf("%s", row->name);
         for (size_t file = 0; file < FILES; file++) {
-            if (messages[file].count == 0) {
-                printf(" %14s", "skipped");
-            } else {
-                printf(" %14.2f", ratio(pair, file));
+            if (strcmp(paths[file], "-") == 0) {
+                printf("\tskipped");
+                continue;
             }
+            struct messages messages = read_messages(paths[file]);
+            make_room(&messages);
+            printf("\t%.4f", ratio(row, row - CARGO + PROVED, &messages));
         }
         printf("\n");
     }
@@ -332,7 +347,7 @@ static void print_growth(const struct messages *messages) {
         stop("compare", "wants four messages that grow");
     }
     make_room(messages);
-    for (int turn = 0; turn < ROUNDS * LENGTHS; turn++) {
+    for (int turn = 0; turn < ROUNDS / 2 * LENGTHS; turn++) {
         time_length(&messages->all[turn % LENGTHS], best[turn % LENGTHS]);
     }
     printf("\n%-46s", "ns a byte, in a message of so many bytes");
@@ -350,7 +365,11 @@ static void print_growth(const struct messages *messages) {
 
 int main(int argc, char **argv) {
     if (argc != 4) {
-        stop("compare", "wants MESSAGES DUMP GROWING");
+        stop("compare", "wants MESSAGES DUMP GROWING, or ratio MESSAGES DUMP");
+    }
+    if (strcmp(argv[1], "ratio") == 0) {
+        print_ratios(argv + 2);
+        return 0;
     }
     struct messages messages[FILES] = {read_messages(argv[1]), {NULL, 0, 0, 0}};
     time_file(0, &messages[0]);
@@ -359,7 +378,6 @@ int main(int argc, char **argv) {
         time_file(1, &messages[1]);
     }
     print_table(messages);
-    print_ratios(messages);
     struct messages growing = read_messages(argv[3]);
     print_growth(&growing);
     return 0;

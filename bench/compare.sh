@@ -9,7 +9,7 @@ registry=${CARGO_REGISTRY:-/usr/share/cargo/registry}
 folder=$(mktemp -d)
 trap 'rm -rf "$folder"' EXIT
 flags=(-std=gnu11 -O2 -Wall -Wextra -Werror -I"$top/include")
-wrapped=(-Wl,--wrap=malloc -Wl,--wrap=realloc -Wl,--wrap=free)
+wrapped=('-Wl,--wrap=malloc' '-Wl,--wrap=realloc' '-Wl,--wrap=free')
 libraries=() versions=()
 
 # Makes one object of an archive, in which the names that begin with the second word alone are seen.
@@ -46,7 +46,8 @@ objects=()
 if command -v cargo >/dev/null; then
     package rust_crate "linkwire = { path = \"$top/rust\" }" '[profile.release]' 'lto = true' 'codegen-units = 1'
     # for the processors that the proved build is for
-    (cd "$folder/rust_crate" && RUSTFLAGS='-C target-cpu=x86-64-v2' CARGO_TARGET_DIR=$folder/target \
+    read -ra target <<<"$(python3 "$top/scripts/targets.py" "$(uname -m)")"
+    (cd "$folder/rust_crate" && RUSTFLAGS="-C target-cpu=${target[3]}" CARGO_TARGET_DIR=$folder/target \
         cargo build --quiet --release --offline)
     only "$folder/target/release/librust_crate.a" cargo_
     flags+=(-DWITH_CARGO)
@@ -96,4 +97,7 @@ pin=()
 ! command -v taskset >/dev/null || pin=(taskset -c "$(($(nproc) - 1))")
 "${pin[@]}" "$folder/compare" "$folder/made" "$dump" "$folder/growing"
 echo
+for _ in 1 2 3 4 5; do
+    "${pin[@]}" "$folder/compare" ratio "$folder/made" "$dump"
+done | python3 "$here/ratios.py"
 "$folder/peak" "$folder/growing"

@@ -9,6 +9,18 @@ folder=$(mktemp -d)
 trap 'kill $(jobs -p) 2>/dev/null || true; rm -rf "$folder"' EXIT
 read -ra names <<<"$(sed -n 's/^PROGRAMS = //p' dist/Makefile)"
 
+# stage NAME COMMAND..: the command between two lines, of which the second has its seconds
+stage() {
+    local start=$SECONDS
+    echo "check: $1 .."
+    "${@:2}"
+    echo "check: $1 .. $((SECONDS - start)) s" | tee -a "$folder/stages"
+}
+
+gate() {
+    rt ci | tee "$folder/gate"
+}
+
 libraries() {
     scripts/dist.sh --compare link_c
     scripts/c_library.sh --built
@@ -32,6 +44,7 @@ programs() {
     scripts/test_progress.sh
     scripts/refused_memory.sh
     scripts/refused_parse.sh
+    scripts/tested_edits.sh
     scripts/kernel_tables.sh
     scripts/test_kernel_tables.sh
     scripts/dist.sh --compare "${names[@]}"
@@ -39,16 +52,19 @@ programs() {
 }
 
 python3 scripts/lines.py
+python3 scripts/scripts_listed.py
+python3 scripts/files.py --check
 scripts/sums.sh check
 python3 scripts/erase/test_erase.py
 python3 scripts/erase/erase.py check rust
-rt ci | tee "$folder/gate"
-make -s build
-libraries >"$folder/libraries" 2>&1 &
+stage gate gate
+stage build make -s build
+stage libraries libraries >"$folder/libraries" 2>&1 &
 beside=$!
-programs
+stage programs programs
 status=0
 wait "$beside" || status=$?
 cat "$folder/libraries"
 [ "$status" = 0 ]
+cat "$folder/stages"
 tail -n 1 "$folder/gate"

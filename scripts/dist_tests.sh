@@ -83,8 +83,8 @@ if it=$(lacks musl-gcc); then
 else
     another musl
     make -s CC=musl-gcc LDFLAGS=-static "${programs[@]/#/out/}" out/liblinkwire.a
-    # the kernel's headers, after musl's own, which may lack its number of a family
-    kernel="-O1 -DAF_MCTP=45 -idirafter /usr/include -idirafter /usr/include/$(cc -dumpmachine)"
+    # the kernel's headers, after musl's own
+    kernel="-O1 -idirafter /usr/include -idirafter /usr/include/$(cc -dumpmachine)"
     CC=musl-gcc CFLAGS=$kernel LDFLAGS=-static TESTS=$few tests 'with musl, statically'
 fi
 gnu=aarch64-linux-gnu

@@ -13,7 +13,8 @@ in lines that begin with eight blanks, which are one blank in it. Each edit is w
 is its headline with _ between the words. With WORDS only those files stay in FOLDER whose name has these words, next
 to each other.
 
---fit says which edits of the lists (of all lists, where none is named) do not fit their crate's files any more.
+--fit says which edits of the lists (of all lists and of the gate's, in must-fail/, where none is named) do not fit
+their crate's files any more.
 --apply makes one edit in the files of a crate's folder.
 """
 
@@ -147,9 +148,26 @@ def apply(edit, crate):
     return 0
 
 
+def fit_of_gate(top):
+    """Returns how many of the edits in must-fail/ do not fit."""
+    failed = 0
+    for folder in sorted(glob.glob(f"{top}/crates/*/must-fail")):
+        crate, bad = os.path.dirname(folder), 0
+        files = sorted(glob.glob(f"{folder}/*.edit"))
+        for path in files:
+            with open(path, encoding="utf-8") as it:
+                why = edited(it.read().rstrip("\n").split("\n"), crate)[1]
+            if why:
+                print(f"{os.path.basename(crate)}: {os.path.basename(path)}: {why}")
+                bad += 1
+        print(f"{os.path.relpath(folder, top)}: {len(files)} edits, {bad} do not fit")
+        failed += bad
+    return failed
+
+
 def fit(paths):
     top = os.path.dirname(os.path.dirname(os.path.abspath(__file__)))
-    failed = 0
+    failed = 0 if paths else fit_of_gate(top)
     for path in paths or sorted(glob.glob(f"{top}/edits/*.txt") + glob.glob(f"{top}/tests/edits/*.txt")):
         crate = os.path.basename(path)[: -len(".txt")]
         edits = read(path)

@@ -759,7 +759,9 @@ def compare_constants(ours, kernel, report):
 def compare_names(ours, kernel, report):
     """The names that faults are told by: each is that of its constant, and each line of a table has one."""
     for crate in CRATES:
-        rows = re.findall(r'\b([A-Z]\w+) => "(\w+)",', ours.code(crate + "/src/*.rt"))
+        code = ours.code(crate + "/src/*.rt")
+        rows = re.findall(r'\b([A-Z]\w+) => "(\w+)",', code)
+        rows += re.findall(r'const NUMBER: u16 = (\w+);\s*const NAME: &\'static str = "(\w+)";', code)
         for constant, name in rows:
             report.compare("names of faults", constant, ("constant", constant, name))
         for kind, (home, lines) in ours.tables.items():

@@ -28,8 +28,9 @@ fi
 
 # The libraries of the repository that a crate stands on, some of them more than once.
 below() {
-    local name
-    for name in $(sed -nE "s/^$1( [^:]*)?://p" crates.txt); do
+    local name names
+    read -ra names <<<"$(sed -nE "s/^$1( [^:]*)?://p" crates.txt)"
+    for name in "${names[@]}"; do
         if [ -d "crates/$name" ]; then
             echo "$name"
             below "$name"

@@ -33,6 +33,15 @@ wants() {
 status=0; "$program" <"$folder" >"$folder/out" 2>"$folder/err" || status=$?
 wants "a read that fails" 1 "" "$name: read failed"
 
+if [ "$name" = linkwire ]; then
+    status=0; echo 0 | "$program" --help - '' >"$folder/out" 2>"$folder/err" || status=$?
+    wants "arguments, which are ignored" 0 "$nothex" ""
+    grep -v '^#' "$top/tests/captures.txt" >"$folder/captures"
+    status=0; sed -n '1~2p' "$folder/captures" | "$program" >"$folder/out" 2>"$folder/err" || status=$?
+    wants "captures of kernels" 0 "$(sed -n '2~2p' "$folder/captures")" ""
+fi
+
+: >"$folder/out"
 status=0; echo 0 | "$program" >/dev/full 2>"$folder/err" || status=$?
 wants "a write that fails" 1 "" "$name: write failed"
 
@@ -78,7 +87,7 @@ fi
 coproc RUN { "$program"; }
 for line in 0 00 zz; do
     echo "$line" >&"${RUN[1]}"
-    if ! read -r -t 10 answer <&"${RUN[0]}"; then
+    if ! read -r -t 10 _ <&"${RUN[0]}"; then
         echo "$name: no answer to $line before the next line" >&2
         exit 1
     fi

@@ -11,8 +11,9 @@ last=("${@:3}")
 # adds NAME and the repository's crates below it to `order`, each after those that it stands on
 order=()
 add() {
-    local name=$1 dep
-    for dep in $(sed -n "s/^$name\( staticlib\)\?://p" "$top/crates.txt"); do
+    local name=$1 dep deps
+    read -ra deps <<<"$(sed -n "s/^$name\( staticlib\)\?://p" "$top/crates.txt")"
+    for dep in "${deps[@]}"; do
         if grep -q "^${dep}[: ]" "$top/crates.txt"; then
             add "$dep"
         fi
@@ -70,7 +71,7 @@ works() {
 # Whatever ends this script ends what it started.
 work='' ticker=''
 ends() {
-    kill $work $ticker 2>/dev/null || true
+    kill ${work:+"$work"} ${ticker:+"$ticker"} 2>/dev/null || true
 }
 trap ends EXIT
 trap 'exit 130' INT

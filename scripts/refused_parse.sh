@@ -20,7 +20,7 @@ digits() {
     echo 0a000300706663703000000010001200090001007066637000000000
 }
 
-printf "$(digits | tr -d '\n' | sed 's/../\\x&/g')" >"$folder/message"
+printf '%b' "$(digits | tr -d '\n' | sed 's/../\\x&/g')" >"$folder/message"
 ${CC:-cc} -O2 -Wall -Wextra -Werror -shared -fPIC -o "$folder/refuse.so" "$top/tests/program/refuse_allocation.c"
 parsed="ok, 5 attributes, 124 bytes of text"
 written="canonical: 124 bytes"

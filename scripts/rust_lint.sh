@@ -3,28 +3,37 @@
 # these the test of the script that makes it. Any warning is an error. It needs no registry.
 set -euo pipefail
 cd "$(dirname "$0")/.."
-python3 scripts/erase/test_erase.py
-python3 scripts/erase/erase.py check rust
-if ! command -v cargo >/dev/null; then
-    echo 'lint: rust: skipped: no cargo'
-    exit 0
-fi
 folder=$(mktemp -d)
 trap 'rm -rf "$folder"' EXIT
 export CARGO_TARGET_DIR=$folder/target CARGO_NET_OFFLINE=true RUSTFLAGS='-D warnings' RUSTDOCFLAGS='-D warnings'
-cd rust
+status=0
 
 # says NAME COMMAND..: its output where it fails, else that it is well
 says() {
-    if ! "${@:2}" >"$folder/log" 2>&1; then
+    if "${@:2}" >"$folder/log" 2>&1; then
+        echo "lint: rust: $1: ok"
+    else
         cat "$folder/log" >&2
-        exit 1
+        echo "lint: rust: $1: failed" >&2
+        status=1
     fi
-    echo "lint: rust: $1: ok"
 }
 
-says 'no feature' cargo check --no-default-features
-! cargo fmt --version >/dev/null 2>&1 || says rustfmt cargo fmt --check
-! cargo clippy --version >/dev/null 2>&1 || says clippy cargo clippy --all-targets -- -D clippy::incompatible_msrv
-! command -v rustdoc >/dev/null || says rustdoc cargo doc --no-deps
-says package cargo package --offline --allow-dirty --no-verify
+# where NAME HAS COMMAND..: what `says` does, or that NAME is skipped where the command HAS is not there
+where() {
+    if $2 >/dev/null 2>&1; then
+        says "$1" "${@:3}"
+    else
+        echo "lint: rust: $1: skipped: not installed"
+    fi
+}
+
+says 'scripts/erase' python3 scripts/erase/test_erase.py
+says 'as it is made' python3 scripts/erase/erase.py check rust
+cd rust
+where 'no feature' 'cargo --version' cargo check --no-default-features
+where rustfmt 'cargo fmt --version' cargo fmt --check
+where clippy 'cargo clippy --version' cargo clippy --all-targets -- -D clippy::incompatible_msrv
+where rustdoc 'rustdoc --version' cargo doc --no-deps
+where package 'cargo --version' cargo package --offline --allow-dirty --no-verify
+exit "$status"

@@ -122,10 +122,13 @@ tells 'there is no nocc: install a C compiler and binutils, or set CC' "${instal
 tells 'there is no nold: install a C compiler and binutils, or set LD' "${installs[@]}" LD=nold
 tells 'dist/ has no text for riscv64, only for' "${installs[@]}" CC=other-cc
 tells 'PROVE=1 proves the crates by the command rt, which is not on the path: leave it out' "${installs[@]}" PROVE=1
-for file in "$text" dist/heap.c man/linkwire.1 include/linkwire.h dist/linkwire.pc.in; do
+for file in "$text" dist/heap.c man/linkwire.1 include/linkwire.h dist/linkwire.pc.in programs/linkdump.c; do
     mv "$file" "$folder/away"
     tells "$file is missing" "${installs[@]}"
     mv "$folder/away" "$file"
+done
+for goal in check dist edits; do
+    tells "make $goal proves the crates by the command rt, which is not on the path: make self-test" make -s "$goal"
 done
 if [ -e "$folder/stage" ]; then
     echo 'test_dist: something is installed' >&2

@@ -1,41 +1,55 @@
 #!/usr/bin/env bash
-# Tries the edits of the lists tests/edits/CRATE.txt, which the contracts let through, in a copy of the crates: the
-# tests of the crate, or of linkwire where it has none, have to refuse each. Words limit it to the edits whose headlines
+# Tries the edits of the lists tests/edits/CRATE.txt, which the contracts let through, in a copy of the crates with the
+# contracts erased: a test has to refuse each, by cargo, in some seconds. Words limit it to the edits whose headlines
 # have them:
 #     scripts/tested_edits.sh [WORDS]
 set -euo pipefail
 cd "$(dirname "$0")/.."
+if ! command -v cargo >/dev/null; then
+    echo 'tested_edits: skipped: no cargo'
+    exit 0
+fi
 folder=$(mktemp -d)
 trap 'rm -rf "$folder"' EXIT
-cp HANDLES crates.txt "$folder"
+cp crates.txt "$folder"
+cp -r scripts "$folder/scripts"
 mkdir "$folder/crates"
 for crate in crates/*; do
     mkdir "$folder/$crate"
-    for part in src specs proofs; do
-        if [ -d "$crate/$part" ]; then
-            cp -r "$crate/$part" "$folder/$crate/"
-        fi
-    done
+    cp -r "$crate/src" "$folder/$crate/"
 done
+export CARGO_TARGET_DIR=$folder/target CARGO_NET_OFFLINE=true
+
+# Erases the contracts of the copy, and runs its tests.
+tests() {
+    rm -rf "$folder/erased/src"
+    python3 "$folder/scripts/erase/erase.py" tests "$folder/erased" >/dev/null
+    cargo test --quiet --no-fail-fast --manifest-path "$folder/erased/Cargo.toml" 2>&1
+}
+
+if ! log=$(tests); then
+    echo 'tested_edits: the tests fail without an edit' >&2
+    tail -n 20 <<<"$log" | cut -c 1-200 >&2
+    exit 1
+fi
 failed=0
 for list in tests/edits/*.txt; do
     name=$(basename "$list" .txt)
-    tested=$name
-    [ -e "crates/$name/src/tests.rt" ] || tested=linkwire
     python3 scripts/edits.py "$list" "$folder/edits/$name" "${1:-}"
     for edit in "$folder/edits/$name"/*.edit; do
         [ -e "$edit" ] || continue
-        rm -rf "$folder/crates/$name/src"
-        cp -r "crates/$name/src" "$folder/crates/$name/"
         python3 scripts/edits.py --apply "$edit" "$folder/crates/$name"
-        log=$(cd "$folder/crates/$tested" && rt try --test 2>&1 || true)
-        if grep -q '^test .* \.\.\. FAILED' <<<"$log"; then
-            echo "$name/$(basename "$edit"): refused by its tests: $(grep -c '^test .* \.\.\. FAILED' <<<"$log") fail"
+        log=$(tests || true)
+        count=$(awk '/^test result: FAILED/ { sum += $6 } END { print sum + 0 }' <<<"$log")
+        if [ "$count" != 0 ]; then
+            echo "$name/$(basename "$edit"): refused by the tests: $count fail"
         else
             echo "$name/$(basename "$edit"): NOT REFUSED" >&2
             tail -n 20 <<<"$log" | cut -c 1-200 >&2
             failed=1
         fi
+        rm -rf "$folder/crates/$name/src"
+        cp -r "crates/$name/src" "$folder/crates/$name/"
     done
 done
 exit "$failed"

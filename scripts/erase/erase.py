@@ -118,6 +118,8 @@ def erase(path, text, crate, mode):
         casts += ["narrow"] * owed.narrowing(s) + ["room"] * owed.stores(s)
     if casts:
         imported = f"use {root}::rattle::number::{paths.group(casts)};\n"
+    if mode.is_crate and memory.reserved(s):
+        imported += "use crate::rattle::list::vacant;\n"
     before = s.references()
     if mode.is_crate:
         owed.never(s)

@@ -105,7 +105,7 @@ class Layout(Source):
             return None
         words = "".join(" " if self.kind[k] == "ws" else self.shown(k) for k in inner)
         words = " ".join(words.split()).removesuffix(",")
-        words = re.sub(r"(?<=[(\[]) | (?=[)\]])|,(?= ?[)\]])| (?=[.?])", "", words)
+        words = re.sub(r"(?<=[(\[]) | (?=[)\]])|,(?= ?[)\]])| (?=\.(?!\.)|\?)", "", words)
         words = re.sub(r", \}", " }", words)
         return f"{{ {words} }}" if self.text[i] == "{" else f"{self.text[i]}{words}{self.text[close]}"
 
@@ -158,9 +158,12 @@ def brackets(text):
 
 EMPTY = re.compile(r"\{\n *\}")
 ARM_BLOCK = re.compile(r"^( +)(.* =>) \{\n +([^\n{};/]+)\n\1\}$", re.M)
+ARM_BRACED = re.compile(r"^( +)(.* =>) \{ ([^\n{};]+) \}$", re.M)
 ARM_BROKEN = re.compile(r"^( +)(.* =>) ((?:\S[^\n]*)?[(\[])\n((?:\1 {4,}[^\n]*\n)+)\1([)\]]+\??),$", re.M)
 CHOICE = re.compile(r"^(( +)(?:let [^\n]*= )?if [^\n{}]*)\{\n +([^\n{};]+)\n\2\} else \{\n +([^\n{};]+)\n\2\}"
                     r"(;|(?=\n *\}$))", re.M)
+# rustfmt takes values of at most ten letters for short
+ROWS = re.compile(r"(?<=\[\n)( +)(?:[\w\[\]]{1,10}, )+[\w\[\]]{1,10},\n(?:\1(?:[\w\[\]]{1,10}, )*[\w\[\]]{1,10},\n)+")
 OPERATOR = re.compile(r"^([^\n]*[^\s,;{}])\n +((?:\|\||&&) [^\n]*?)(?: \{|\n +\{)?$", re.M)
 
 
@@ -195,7 +198,19 @@ def join_choice(found):
     return joined if len(joined) <= WIDTH and "//" not in head else found.group()
 
 
-JOINS = [(OPERATOR, join_operator), (ARM_BLOCK, join_arm), (ARM_BROKEN, break_arm), (CHOICE, join_choice)]
+def fill_rows(found):
+    """An array of short values in rows, of which rustfmt fills each row."""
+    indent = found.group(1)
+    rows = [indent]
+    for value in found.group().split():
+        if len(rows[-1]) + len(value) + (rows[-1] != indent) > WIDTH:
+            rows.append(indent)
+        rows[-1] += value if rows[-1] == indent else f" {value}"
+    return "\n".join(rows) + "\n"
+
+
+JOINS = [(OPERATOR, join_operator), (ARM_BLOCK, join_arm), (ARM_BRACED, join_arm), (ARM_BROKEN, break_arm),
+         (CHOICE, join_choice), (ROWS, fill_rows)]
 
 
 def laid_out(text):

@@ -144,9 +144,46 @@ def asked_calls(s, names):
             s.fail(i, "a call that fails for memory alone is not asked at once whether it failed")
         counts["call that fails for memory alone"] += 1
         s.drop(ask, ask)
+
+
+def reserved(s):
+    """`values.push_reserved(x)` is `vacant(values).push(x)`: the list is tested first, so that x is made in it. In a
+    macro `$values` is the list."""
+    needed = False
     for i in s.live("push_reserved"):
+        owner = s.prev(i, 2)
+        if s.at(s.prev(owner), "$"):
+            counts["push_reserved"] += 1
+            s.new[s.prev(owner)] = "$crate::rattle::list::vacant($"
+            s.after[owner] = ").push"
+            s.drop(s.prev(i), i)
+            continue
+        if not s.at(s.prev(i), ".") or s.kind[owner] != "id" or s.text[s.prev(owner)] not in ("{", "}", ";"):
+            s.fail(i, "push_reserved on what is no list with a name")
         counts["push_reserved"] += 1
-        s.new[i] = "push"
+        needed = True
+        call = f"vacant({s.text[owner]}).push"
+        if not made_before(s, owner, i, call):
+            s.new[owner] = call
+            s.drop(s.prev(i), i)
+    return needed
+
+
+def made_before(s, owner, i, call):
+    """`let value = x; values.push_reserved(value);` is `vacant(values).push(x);`. Whether it stands so."""
+    value, end = s.next(i, 2), s.prev(owner)
+    word = end
+    while s.prev(word) is not None and s.text[s.prev(word)] not in ("{", "}", ";"):
+        word = s.prev(word)
+    if not s.at(word, "let", s.text[value], "=") or not s.at(value, s.text[value], ")", ";") or s.text[end] != ";":
+        return False
+    counts["value made in the list"] += 1
+    first = s.next(word, 3)
+    s.drop(word, first - 1)
+    s.before[first] = call + "("
+    s.new[end] = ");"
+    s.drop(end + 1, s.next(value, 2))
+    return True
 
 
 def makers(s):

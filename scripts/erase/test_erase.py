@@ -8,6 +8,7 @@ import sys
 import derives
 import erase
 import layout
+import memory
 import owed
 from source import Source, Unknown, counts
 
@@ -51,6 +52,7 @@ REFUSED = [
      "2: a function that fails for memory alone gives an error of its own"),
     ("fn f() {\n    let x = text(alloc);\n}\n",
      "2: a call that fails for memory alone is not asked at once whether it failed"),
+    ("fn f() {\n    x.values.push_reserved(y);\n}\n", "2: push_reserved on what is no list with a name"),
     ("fn f() {\n    let x = Text::of(alloc, y)?;\n}\n", "2: a call of Text that is not known"),
     ("fn f() {\n    let make = List::new;\n}\n", "2: List::new other than called or mapped"),
     ("use nla_wire::{List as L, b};\n", "1: an import of List under another name"),
@@ -84,6 +86,21 @@ LAID = [
      "fn f() {\n    match x {\n        A => 1,\n    }\n}\n"),
     ("fn f() -> u8 {\n    if x {\n        1\n    } else {\n        2\n    }\n}\n",
      "fn f() -> u8 {\n    if x { 1 } else { 2 }\n}\n"),
+    ("fn f() {\n    match x {\n        A => { 1 }\n    }\n}\n",
+     "fn f() {\n    match x {\n        A => 1,\n    }\n}\n"),
+    ("fn f() {\n    X {\n        a,\n        ..self\n    }\n}\n", "fn f() {\n    X { a, ..self }\n}\n"),
+    ("fn f() {\n    g([\n" + 16 * "        words[10], words[11],\n" + "    ])\n}\n",
+     "fn f() {\n    g([\n" + 3 * ("       " + 5 * " words[10], words[11]," + "\n")
+     + "        words[10], words[11],\n    ])\n}\n"),
+]
+
+
+# pushes into a list with room, and what they are
+RESERVED = [
+    ("{\n    values.push_reserved(A(f(x)?));\n}\n", "{\n    vacant(values).push(A(f(x)?));\n}\n"),
+    ("{\n    let value = f(x)?;\n    values.push_reserved(value);\n}\n", "{\n    vacant(values).push(f(x)?);\n}\n"),
+    ("{\n    let one = f(x)?;\n    values.push_reserved(value);\n}\n",
+     "{\n    let one = f(x)?;\n    vacant(values).push(value);\n}\n"),
 ]
 
 
@@ -103,6 +120,11 @@ def main():
     if "narrow(4 + len)\n" not in cast.rust() or counts["narrowing cast, checked"] != 1:
         print(cast.rust())
         failed += 1
+    for text, wanted in RESERVED:
+        pushed = Source("a.rt", text)
+        if not memory.reserved(pushed) or wanted not in pushed.rust():
+            print(pushed.rust())
+            failed += 1
     if derives.names_in('"{a} {{b}} {0:x}"') != ["a", "0"]:
         failed += 1
     if failed:

@@ -1,0 +1,39 @@
+#!/usr/bin/env bash
+# What can be said of the sources without a proof: the length of lines, the pages that scripts make, shellcheck,
+# pyflakes, and of rust/ rustfmt, clippy and rustdoc, each where it is installed. All are run, and any that finds
+# something makes the status 1.
+set -euo pipefail
+cd "$(dirname "$0")/.."
+status=0
+
+# says NAME COMMAND..: its output where it finds something, else that it is well
+says() {
+    local found
+    if found=$("${@:2}" 2>&1); then
+        echo "lint: $1: ok"
+    else
+        printf '%s\n' "$found" >&2
+        echo "lint: $1: failed" >&2
+        status=1
+    fi
+}
+
+# where NAME HAS COMMAND..: what `says` does, or that NAME is skipped where the command HAS is not there
+where() {
+    if $2 >/dev/null 2>&1; then
+        says "$1" "${@:3}"
+    else
+        echo "lint: $1: skipped: not installed"
+    fi
+}
+
+mapfile -t shell < <(git ls-files '*.sh' .ci/run)
+mapfile -t python < <(git ls-files '*.py')
+says lines python3 scripts/lines.py
+says scripts/README.md python3 scripts/scripts_listed.py
+says docs/FILES.md python3 scripts/files.py --check
+where shellcheck 'shellcheck --version' shellcheck "${shell[@]}"
+pyflakes=$(command -v pyflakes3 || command -v pyflakes || true)
+where pyflakes "test -n $pyflakes" "$pyflakes" "${python[@]}"
+scripts/rust_lint.sh || status=1
+exit "$status"
