@@ -3,6 +3,7 @@
 
 use crate::link_msg::{AddressFamily, DecodeError, DefaultNla, LinkAttribute, LinkHeader, LinkMessage};
 use crate::link_msg::{LinkEvent, LinkPhysId, LinkVfInfo, LinkVfPort, WirelessEvent};
+use crate::link_vf::entry::Entry;
 use crate::nla_wire::{
     self, Cause, MOST_VALUE_LEN, NLA_F_NESTED, NLA_F_NET_BYTEORDER, NLA_HEADER_SIZE, NLA_TYPE_MASK, NlaRead,
 };
@@ -275,15 +276,27 @@ impl Parseable<[u8]> for LinkPhysId {
     }
 }
 
+impl Parseable<[u8]> for LinkVfInfo {
+    fn parse(buf: &[u8]) -> Result<LinkVfInfo, DecodeError> {
+        Entry::parse(buf)
+    }
+}
+
 impl<'a, T: AsRef<[u8]> + ?Sized> Parseable<NlaBuffer<&'a T>> for LinkVfInfo {
     fn parse(buf: &NlaBuffer<&'a T>) -> Result<LinkVfInfo, DecodeError> {
-        LinkVfInfo::parse(buf.frame()?.value())
+        Entry::parse(buf.frame()?.value())
+    }
+}
+
+impl Parseable<[u8]> for LinkVfPort {
+    fn parse(buf: &[u8]) -> Result<LinkVfPort, DecodeError> {
+        Entry::parse(buf)
     }
 }
 
 impl<'a, T: AsRef<[u8]> + ?Sized> Parseable<NlaBuffer<&'a T>> for LinkVfPort {
     fn parse(buf: &NlaBuffer<&'a T>) -> Result<LinkVfPort, DecodeError> {
-        LinkVfPort::parse(buf.frame()?.value())
+        Entry::parse(buf.frame()?.value())
     }
 }
 

@@ -40,6 +40,7 @@ fn agrees(bytes: &[u8]) {
     assert_eq!(LinkMessage::try_from(bytes), read);
     assert_eq!(fault_at(bytes).map(|(fault, _)| fault), fault);
     assert_eq!(fault_at(bytes).map(|(_, at)| at), LinkMessage::fault_at(bytes));
+    assert_eq!(LinkMessage::fault_path(bytes).map(|path| path.offset), LinkMessage::fault_at(bytes));
     assert!(fault_at(bytes).map_or(true, |(_, at)| at <= bytes.len()));
     match read {
         Ok(message) => agrees_with_value(bytes, &message),

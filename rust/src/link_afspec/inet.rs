@@ -11,11 +11,11 @@ use crate::nla_wire::{
 /// A member of AF_INET in IFLA_AF_SPEC (linux/if_link.h).
 #[derive(Clone, Debug, PartialEq, Eq, Hash)]
 pub enum AfSpecInet {
-    /// IFLA_INET_CONF: all settings, a record of INET_DEV_CONF_SIZE bytes, as the kernel tells them. A shorter one is
-    /// filled up with zeros.
+    /// IFLA_INET_CONF: all settings, a record of 136 bytes, as the kernel sends them. A shorter one is filled up with
+    /// zeros.
     DevConf(InetDevConf),
-    /// IFLA_INET_CONF and nested: an attribute of four bytes for each setting that is not zero, as the kernel is asked
-    /// to change them. It is written only: no bytes are read as it.
+    /// IFLA_INET_CONF, with the nested flag: an attribute of four bytes for each setting that is not zero, as the
+    /// kernel is asked to change them. It is written only: no bytes are read as it.
     DevConfRequest(InetDevConf),
     /// A number that is not listed here.
     Other(DefaultNla),

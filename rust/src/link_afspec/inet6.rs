@@ -20,15 +20,13 @@ use crate::rattle::net::Ipv6Addr;
 pub enum AfSpecInet6 {
     /// IFLA_INET6_FLAGS: flags of the interface, four bytes, of which every bit is kept.
     Flags(Inet6IfaceFlags),
-    /// IFLA_INET6_CACHEINFO: times of the neighbour cache, a record of INET6_CACHE_INFO_SIZE bytes. A shorter one is
-    /// refused.
+    /// IFLA_INET6_CACHEINFO: times of the neighbour cache, a record of 16 bytes. A shorter one is refused.
     CacheInfo(Inet6CacheInfo),
-    /// IFLA_INET6_CONF: all settings, a record of INET6_DEV_CONF_SIZE bytes. A shorter one is filled up with zeros.
+    /// IFLA_INET6_CONF: all settings, a record of 240 bytes. A shorter one is filled up with zeros.
     DevConf(Inet6DevConf),
-    /// IFLA_INET6_STATS: statistics, a record of INET6_STATS_SIZE bytes. A shorter one is filled up with zeros.
+    /// IFLA_INET6_STATS: statistics, a record of 312 bytes. A shorter one is filled up with zeros.
     Stats(Inet6Stats),
-    /// IFLA_INET6_ICMP6STATS: statistics of ICMPv6, a record of ICMP6_STATS_SIZE bytes. A shorter one is filled up with
-    /// zeros.
+    /// IFLA_INET6_ICMP6STATS: statistics of ICMPv6, a record of 56 bytes. A shorter one is filled up with zeros.
     Icmp6Stats(Icmp6Stats),
     /// IFLA_INET6_TOKEN: an address, its sixteen octets in order.
     Token(Ipv6Addr),

@@ -5,7 +5,7 @@ use crate::link_afspec::numbers::{IFLA_MCTP_NET, IFLA_MCTP_PHYS_BINDING};
 use crate::link_vals::MctpPhysBinding;
 use crate::nla_wire::error::checked;
 use crate::nla_wire::{
-    Content, DecodeError, DefaultNla, Flat, Nla, NlaBuffer, NlaRead, measure_u8, measure_u32, parse_u8, parse_u32,
+    DecodeError, DefaultNla, Flat, FlatView, Nla, NlaBuffer, NlaRead, measure_u8, measure_u32, parse_u8, parse_u32,
     write_u8_payload, write_u32_payload, write_value,
 };
 
@@ -27,11 +27,11 @@ fn parse_binding(payload: &[u8]) -> Result<MctpPhysBinding, DecodeError> {
 
 impl Flat for AfSpecMctp {
     #[inline]
-    fn view(&self) -> (u16, Content<'_>) {
+    fn view(&self) -> (u16, FlatView<'_>) {
         match self {
-            AfSpecMctp::Net(net) => (IFLA_MCTP_NET, Content::U32(*net)),
-            AfSpecMctp::PhysBinding(binding) => (IFLA_MCTP_PHYS_BINDING, Content::U8(u8::from(binding))),
-            AfSpecMctp::Other(nla) => (nla.kind(), Content::Bytes(nla.value())),
+            AfSpecMctp::Net(net) => (IFLA_MCTP_NET, FlatView::U32(*net)),
+            AfSpecMctp::PhysBinding(binding) => (IFLA_MCTP_PHYS_BINDING, FlatView::U8(u8::from(binding))),
+            AfSpecMctp::Other(nla) => (nla.kind(), FlatView::Bytes(nla.value())),
         }
     }
 }

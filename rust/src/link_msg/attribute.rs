@@ -8,7 +8,7 @@ use crate::link_nest::{DevlinkPort, DpllPin, LinkInfo, LinkProtocolDownReason, L
 use crate::link_recs::{Map, Stats, Stats64};
 use crate::link_vals::{LinkEvent, LinkExtentMask, LinkMode, LinkPhysId, State};
 use crate::link_vf::{LinkVfInfo, LinkVfPort, VfPort};
-use crate::nla_wire::{Content as Flat, DefaultNla, NLA_F_NESTED, Nla, fill_bytes, nlas_buffer_len, nlas_fill};
+use crate::nla_wire::{DefaultNla, FlatView, NLA_F_NESTED, Nla, fill_bytes, nlas_buffer_len, nlas_fill};
 use alloc::string::String;
 use alloc::vec::Vec;
 
@@ -60,7 +60,7 @@ pub enum LinkAttribute {
     /// IFLA_STATS64: counters of 64 bits, a record of 200 bytes. A shorter one is filled up with zeros.
     Stats64(Stats64),
     /// IFLA_VF_PORTS: ports of virtual functions, a non-empty payload. Entries with another number than IFLA_VF_PORT
-    /// are dropped, so that the list may be empty; it can not be written then.
+    /// are dropped, so that the list may be empty; it has no canonical encoding then.
     VfPorts(Vec<LinkVfPort>),
     /// IFLA_PORT_SELF: the port of the interface itself, a non-empty list.
     PortSelf(LinkVfPort),
@@ -171,26 +171,26 @@ impl Nla for LinkAttribute {
 
     fn fill_value(&self, buffer: &mut [u8]) -> usize {
         match self.view().1 {
-            Content::Flat(flat) => flat.fill(buffer),
-            Content::Id(id) => fill_bytes(buffer, &id.id[..id.len]),
-            Content::Stats(stats) => stats.fill(buffer),
-            Content::Stats64(stats) => stats.fill(buffer),
-            Content::Map(map) => map.fill(buffer),
-            Content::Mask(flags) => fill_bytes(buffer, &LinkExtentMask::sum(flags).to_le_bytes()),
-            Content::Event(event) => event.fill(buffer),
-            Content::Port(members) => nlas_fill(members, buffer),
-            Content::Infos(members) => nlas_fill(members, buffer),
-            Content::Functions(members) => nlas_fill(members, buffer),
-            Content::Ports(members) => nlas_fill(members, buffer),
-            Content::Xdps(members) => nlas_fill(members, buffer),
-            Content::Props(members) => nlas_fill(members, buffer),
-            Content::Reasons(members) => nlas_fill(members, buffer),
-            Content::DevlinkPorts(members) => nlas_fill(members, buffer),
-            Content::DpllPins(members) => nlas_fill(members, buffer),
-            Content::BridgeInfos(members) => nlas_fill(members, buffer),
-            Content::Inet6Infos(members) => nlas_fill(members, buffer),
-            Content::Bridges(members) => nlas_fill(members, buffer),
-            Content::Unspecs(members) => nlas_fill(members, buffer),
+            View::Flat(flat) => flat.fill(buffer),
+            View::Id(id) => fill_bytes(buffer, &id.id[..id.len]),
+            View::Stats(stats) => stats.fill(buffer),
+            View::Stats64(stats) => stats.fill(buffer),
+            View::Map(map) => map.fill(buffer),
+            View::Mask(flags) => fill_bytes(buffer, &LinkExtentMask::sum(flags).to_le_bytes()),
+            View::Event(event) => event.fill(buffer),
+            View::Port(members) => nlas_fill(members, buffer),
+            View::Infos(members) => nlas_fill(members, buffer),
+            View::Functions(members) => nlas_fill(members, buffer),
+            View::Ports(members) => nlas_fill(members, buffer),
+            View::Xdps(members) => nlas_fill(members, buffer),
+            View::Props(members) => nlas_fill(members, buffer),
+            View::Reasons(members) => nlas_fill(members, buffer),
+            View::DevlinkPorts(members) => nlas_fill(members, buffer),
+            View::DpllPins(members) => nlas_fill(members, buffer),
+            View::BridgeInfos(members) => nlas_fill(members, buffer),
+            View::Inet6Infos(members) => nlas_fill(members, buffer),
+            View::Bridges(members) => nlas_fill(members, buffer),
+            View::Unspecs(members) => nlas_fill(members, buffer),
         }
     }
 
@@ -201,15 +201,15 @@ impl Nla for LinkAttribute {
 
     #[inline(always)]
     fn write(&self, buffer: &mut [u8]) -> usize {
-        let (kind, content) = self.view();
-        content.write(kind, buffer)
+        let (kind, view) = self.view();
+        view.write(kind, buffer)
     }
 }
 
 /// What an attribute's value is written from.
 #[derive(Clone, Copy)]
-pub(crate) enum Content<'a> {
-    Flat(Flat<'a>),
+pub(crate) enum View<'a> {
+    Flat(FlatView<'a>),
     Id(&'a LinkPhysId),
     Stats(&'a Stats),
     Stats64(&'a Stats64),
@@ -234,84 +234,86 @@ pub(crate) enum Content<'a> {
 impl LinkAttribute {
     /// Its kind, with both flag bits, and what its value is written from.
     #[inline(always)]
-    fn view(&self) -> (u16, Content<'_>) {
+    fn view(&self) -> (u16, View<'_>) {
         match self {
-            LinkAttribute::Address(bytes) => (IFLA_ADDRESS, Content::Flat(Flat::Bytes(bytes.as_slice()))),
-            LinkAttribute::Broadcast(bytes) => (IFLA_BROADCAST, Content::Flat(Flat::Bytes(bytes.as_slice()))),
-            LinkAttribute::IfName(text) => (IFLA_IFNAME, Content::Flat(Flat::Text(text.as_str()))),
-            LinkAttribute::Mtu(n) => (IFLA_MTU, Content::Flat(Flat::U32(*n))),
-            LinkAttribute::Link(n) => (IFLA_LINK, Content::Flat(Flat::U32(*n))),
-            LinkAttribute::Qdisc(text) => (IFLA_QDISC, Content::Flat(Flat::Text(text.as_str()))),
-            LinkAttribute::Stats(stats) => (IFLA_STATS, Content::Stats(stats)),
-            LinkAttribute::Controller(n) => (IFLA_MASTER, Content::Flat(Flat::U32(*n))),
-            LinkAttribute::Wireless(event) => (IFLA_WIRELESS, Content::Event(event)),
+            LinkAttribute::Address(bytes) => (IFLA_ADDRESS, View::Flat(FlatView::Bytes(bytes.as_slice()))),
+            LinkAttribute::Broadcast(bytes) => (IFLA_BROADCAST, View::Flat(FlatView::Bytes(bytes.as_slice()))),
+            LinkAttribute::IfName(text) => (IFLA_IFNAME, View::Flat(FlatView::Text(text.as_str()))),
+            LinkAttribute::Mtu(n) => (IFLA_MTU, View::Flat(FlatView::U32(*n))),
+            LinkAttribute::Link(n) => (IFLA_LINK, View::Flat(FlatView::U32(*n))),
+            LinkAttribute::Qdisc(text) => (IFLA_QDISC, View::Flat(FlatView::Text(text.as_str()))),
+            LinkAttribute::Stats(stats) => (IFLA_STATS, View::Stats(stats)),
+            LinkAttribute::Controller(n) => (IFLA_MASTER, View::Flat(FlatView::U32(*n))),
+            LinkAttribute::Wireless(event) => (IFLA_WIRELESS, View::Event(event)),
             LinkAttribute::ProtoInfoBridge(members) => {
-                (IFLA_PROTINFO | NLA_F_NESTED, Content::BridgeInfos(members.as_slice()))
+                (IFLA_PROTINFO | NLA_F_NESTED, View::BridgeInfos(members.as_slice()))
             }
             LinkAttribute::ProtoInfoInet6(members) => {
-                (IFLA_PROTINFO | NLA_F_NESTED, Content::Inet6Infos(members.as_slice()))
+                (IFLA_PROTINFO | NLA_F_NESTED, View::Inet6Infos(members.as_slice()))
             }
-            LinkAttribute::ProtoInfoUnknown(nla) => (nla.kind(), Content::Flat(Flat::Bytes(nla.value()))),
-            LinkAttribute::TxQueueLen(n) => (IFLA_TXQLEN, Content::Flat(Flat::U32(*n))),
-            LinkAttribute::Map(map) => (IFLA_MAP, Content::Map(map)),
-            LinkAttribute::OperState(state) => (IFLA_OPERSTATE, Content::Flat(Flat::U8(u8::from(*state)))),
-            LinkAttribute::Mode(mode) => (IFLA_LINKMODE, Content::Flat(Flat::U8(u8::from(*mode)))),
-            LinkAttribute::LinkInfo(members) => (IFLA_LINKINFO, Content::Infos(members.as_slice())),
-            LinkAttribute::NetNsPid(n) => (IFLA_NET_NS_PID, Content::Flat(Flat::U32(*n))),
-            LinkAttribute::IfAlias(text) => (IFLA_IFALIAS, Content::Flat(Flat::Text(text.as_str()))),
-            LinkAttribute::NumVf(n) => (IFLA_NUM_VF, Content::Flat(Flat::U32(*n))),
-            LinkAttribute::VfInfoList(members) => (IFLA_VFINFO_LIST, Content::Functions(members.as_slice())),
-            LinkAttribute::Stats64(stats) => (IFLA_STATS64, Content::Stats64(stats)),
-            LinkAttribute::VfPorts(members) => (IFLA_VF_PORTS, Content::Ports(members.as_slice())),
-            LinkAttribute::PortSelf(port) => (IFLA_PORT_SELF, Content::Port(port.0.as_slice())),
-            LinkAttribute::AfSpecBridge(members) => (IFLA_AF_SPEC, Content::Bridges(members.as_slice())),
-            LinkAttribute::AfSpecUnspec(members) => (IFLA_AF_SPEC, Content::Unspecs(members.as_slice())),
-            LinkAttribute::AfSpecUnknown(bytes) => (IFLA_AF_SPEC, Content::Flat(Flat::Bytes(bytes.as_slice()))),
-            LinkAttribute::Group(n) => (IFLA_GROUP, Content::Flat(Flat::U32(*n))),
-            LinkAttribute::NetNsFd(n) => (IFLA_NET_NS_FD, Content::Flat(Flat::I32(*n))),
-            LinkAttribute::ExtMask(flags) => (IFLA_EXT_MASK, Content::Mask(flags.as_slice())),
-            LinkAttribute::Promiscuity(n) => (IFLA_PROMISCUITY, Content::Flat(Flat::U32(*n))),
-            LinkAttribute::NumTxQueues(n) => (IFLA_NUM_TX_QUEUES, Content::Flat(Flat::U32(*n))),
-            LinkAttribute::NumRxQueues(n) => (IFLA_NUM_RX_QUEUES, Content::Flat(Flat::U32(*n))),
-            LinkAttribute::Carrier(n) => (IFLA_CARRIER, Content::Flat(Flat::U8(*n))),
-            LinkAttribute::PhysPortId(id) => (IFLA_PHYS_PORT_ID, Content::Id(id)),
-            LinkAttribute::CarrierChanges(n) => (IFLA_CARRIER_CHANGES, Content::Flat(Flat::U32(*n))),
-            LinkAttribute::PhysSwitchId(id) => (IFLA_PHYS_SWITCH_ID, Content::Id(id)),
-            LinkAttribute::LinkNetNsId(n) => (IFLA_LINK_NETNSID, Content::Flat(Flat::I32(*n))),
-            LinkAttribute::PhysPortName(text) => (IFLA_PHYS_PORT_NAME, Content::Flat(Flat::Text(text.as_str()))),
-            LinkAttribute::ProtoDown(n) => (IFLA_PROTO_DOWN, Content::Flat(Flat::U8(*n))),
-            LinkAttribute::GsoMaxSegs(n) => (IFLA_GSO_MAX_SEGS, Content::Flat(Flat::U32(*n))),
-            LinkAttribute::GsoMaxSize(n) => (IFLA_GSO_MAX_SIZE, Content::Flat(Flat::U32(*n))),
-            LinkAttribute::Xdp(members) => (IFLA_XDP, Content::Xdps(members.as_slice())),
-            LinkAttribute::Event(event) => (IFLA_EVENT, Content::Flat(Flat::U32(u32::from(*event)))),
-            LinkAttribute::NewNetnsId(n) => (IFLA_NEW_NETNSID, Content::Flat(Flat::I32(*n))),
-            LinkAttribute::IfNetnsId(n) => (IFLA_IF_NETNSID, Content::Flat(Flat::I32(*n))),
-            LinkAttribute::CarrierUpCount(n) => (IFLA_CARRIER_UP_COUNT, Content::Flat(Flat::U32(*n))),
-            LinkAttribute::CarrierDownCount(n) => (IFLA_CARRIER_DOWN_COUNT, Content::Flat(Flat::U32(*n))),
-            LinkAttribute::NewIfIndex(n) => (IFLA_NEW_IFINDEX, Content::Flat(Flat::I32(*n))),
-            LinkAttribute::MinMtu(n) => (IFLA_MIN_MTU, Content::Flat(Flat::U32(*n))),
-            LinkAttribute::MaxMtu(n) => (IFLA_MAX_MTU, Content::Flat(Flat::U32(*n))),
-            LinkAttribute::PropList(members) => (IFLA_PROP_LIST | NLA_F_NESTED, Content::Props(members.as_slice())),
-            LinkAttribute::PermAddress(bytes) => (IFLA_PERM_ADDRESS, Content::Flat(Flat::Bytes(bytes.as_slice()))),
-            LinkAttribute::ProtoDownReason(members) => (IFLA_PROTO_DOWN_REASON, Content::Reasons(members.as_slice())),
-            LinkAttribute::ParentDevName(text) => (IFLA_PARENT_DEV_NAME, Content::Flat(Flat::Text(text.as_str()))),
+            LinkAttribute::ProtoInfoUnknown(nla) => (nla.kind(), View::Flat(FlatView::Bytes(nla.value()))),
+            LinkAttribute::TxQueueLen(n) => (IFLA_TXQLEN, View::Flat(FlatView::U32(*n))),
+            LinkAttribute::Map(map) => (IFLA_MAP, View::Map(map)),
+            LinkAttribute::OperState(state) => (IFLA_OPERSTATE, View::Flat(FlatView::U8(u8::from(*state)))),
+            LinkAttribute::Mode(mode) => (IFLA_LINKMODE, View::Flat(FlatView::U8(u8::from(*mode)))),
+            LinkAttribute::LinkInfo(members) => (IFLA_LINKINFO, View::Infos(members.as_slice())),
+            LinkAttribute::NetNsPid(n) => (IFLA_NET_NS_PID, View::Flat(FlatView::U32(*n))),
+            LinkAttribute::IfAlias(text) => (IFLA_IFALIAS, View::Flat(FlatView::Text(text.as_str()))),
+            LinkAttribute::NumVf(n) => (IFLA_NUM_VF, View::Flat(FlatView::U32(*n))),
+            LinkAttribute::VfInfoList(members) => (IFLA_VFINFO_LIST, View::Functions(members.as_slice())),
+            LinkAttribute::Stats64(stats) => (IFLA_STATS64, View::Stats64(stats)),
+            LinkAttribute::VfPorts(members) => (IFLA_VF_PORTS, View::Ports(members.as_slice())),
+            LinkAttribute::PortSelf(port) => (IFLA_PORT_SELF, View::Port(port.0.as_slice())),
+            LinkAttribute::AfSpecBridge(members) => (IFLA_AF_SPEC, View::Bridges(members.as_slice())),
+            LinkAttribute::AfSpecUnspec(members) => (IFLA_AF_SPEC, View::Unspecs(members.as_slice())),
+            LinkAttribute::AfSpecUnknown(bytes) => (IFLA_AF_SPEC, View::Flat(FlatView::Bytes(bytes.as_slice()))),
+            LinkAttribute::Group(n) => (IFLA_GROUP, View::Flat(FlatView::U32(*n))),
+            LinkAttribute::NetNsFd(n) => (IFLA_NET_NS_FD, View::Flat(FlatView::I32(*n))),
+            LinkAttribute::ExtMask(flags) => (IFLA_EXT_MASK, View::Mask(flags.as_slice())),
+            LinkAttribute::Promiscuity(n) => (IFLA_PROMISCUITY, View::Flat(FlatView::U32(*n))),
+            LinkAttribute::NumTxQueues(n) => (IFLA_NUM_TX_QUEUES, View::Flat(FlatView::U32(*n))),
+            LinkAttribute::NumRxQueues(n) => (IFLA_NUM_RX_QUEUES, View::Flat(FlatView::U32(*n))),
+            LinkAttribute::Carrier(n) => (IFLA_CARRIER, View::Flat(FlatView::U8(*n))),
+            LinkAttribute::PhysPortId(id) => (IFLA_PHYS_PORT_ID, View::Id(id)),
+            LinkAttribute::CarrierChanges(n) => (IFLA_CARRIER_CHANGES, View::Flat(FlatView::U32(*n))),
+            LinkAttribute::PhysSwitchId(id) => (IFLA_PHYS_SWITCH_ID, View::Id(id)),
+            LinkAttribute::LinkNetNsId(n) => (IFLA_LINK_NETNSID, View::Flat(FlatView::I32(*n))),
+            LinkAttribute::PhysPortName(text) => (IFLA_PHYS_PORT_NAME, View::Flat(FlatView::Text(text.as_str()))),
+            LinkAttribute::ProtoDown(n) => (IFLA_PROTO_DOWN, View::Flat(FlatView::U8(*n))),
+            LinkAttribute::GsoMaxSegs(n) => (IFLA_GSO_MAX_SEGS, View::Flat(FlatView::U32(*n))),
+            LinkAttribute::GsoMaxSize(n) => (IFLA_GSO_MAX_SIZE, View::Flat(FlatView::U32(*n))),
+            LinkAttribute::Xdp(members) => (IFLA_XDP, View::Xdps(members.as_slice())),
+            LinkAttribute::Event(event) => (IFLA_EVENT, View::Flat(FlatView::U32(u32::from(*event)))),
+            LinkAttribute::NewNetnsId(n) => (IFLA_NEW_NETNSID, View::Flat(FlatView::I32(*n))),
+            LinkAttribute::IfNetnsId(n) => (IFLA_IF_NETNSID, View::Flat(FlatView::I32(*n))),
+            LinkAttribute::CarrierUpCount(n) => (IFLA_CARRIER_UP_COUNT, View::Flat(FlatView::U32(*n))),
+            LinkAttribute::CarrierDownCount(n) => (IFLA_CARRIER_DOWN_COUNT, View::Flat(FlatView::U32(*n))),
+            LinkAttribute::NewIfIndex(n) => (IFLA_NEW_IFINDEX, View::Flat(FlatView::I32(*n))),
+            LinkAttribute::MinMtu(n) => (IFLA_MIN_MTU, View::Flat(FlatView::U32(*n))),
+            LinkAttribute::MaxMtu(n) => (IFLA_MAX_MTU, View::Flat(FlatView::U32(*n))),
+            LinkAttribute::PropList(members) => (IFLA_PROP_LIST | NLA_F_NESTED, View::Props(members.as_slice())),
+            LinkAttribute::PermAddress(bytes) => (IFLA_PERM_ADDRESS, View::Flat(FlatView::Bytes(bytes.as_slice()))),
+            LinkAttribute::ProtoDownReason(members) => (IFLA_PROTO_DOWN_REASON, View::Reasons(members.as_slice())),
+            LinkAttribute::ParentDevName(text) => (IFLA_PARENT_DEV_NAME, View::Flat(FlatView::Text(text.as_str()))),
             LinkAttribute::ParentDevBusName(text) => {
-                (IFLA_PARENT_DEV_BUS_NAME, Content::Flat(Flat::Text(text.as_str())))
+                (IFLA_PARENT_DEV_BUS_NAME, View::Flat(FlatView::Text(text.as_str())))
             }
-            LinkAttribute::GroMaxSize(n) => (IFLA_GRO_MAX_SIZE, Content::Flat(Flat::U32(*n))),
-            LinkAttribute::TsoMaxSize(n) => (IFLA_TSO_MAX_SIZE, Content::Flat(Flat::U32(*n))),
-            LinkAttribute::TsoMaxSegs(n) => (IFLA_TSO_MAX_SEGS, Content::Flat(Flat::U32(*n))),
-            LinkAttribute::AllMulticast(n) => (IFLA_ALLMULTI, Content::Flat(Flat::U32(*n))),
+            LinkAttribute::GroMaxSize(n) => (IFLA_GRO_MAX_SIZE, View::Flat(FlatView::U32(*n))),
+            LinkAttribute::TsoMaxSize(n) => (IFLA_TSO_MAX_SIZE, View::Flat(FlatView::U32(*n))),
+            LinkAttribute::TsoMaxSegs(n) => (IFLA_TSO_MAX_SEGS, View::Flat(FlatView::U32(*n))),
+            LinkAttribute::AllMulticast(n) => (IFLA_ALLMULTI, View::Flat(FlatView::U32(*n))),
             LinkAttribute::DevlinkPort(members) => {
-                (IFLA_DEVLINK_PORT | NLA_F_NESTED, Content::DevlinkPorts(members.as_slice()))
+                (IFLA_DEVLINK_PORT | NLA_F_NESTED, View::DevlinkPorts(members.as_slice()))
             }
-            LinkAttribute::GsoIpv4MaxSize(n) => (IFLA_GSO_IPV4_MAX_SIZE, Content::Flat(Flat::U32(*n))),
-            LinkAttribute::GroIpv4MaxSize(n) => (IFLA_GRO_IPV4_MAX_SIZE, Content::Flat(Flat::U32(*n))),
-            LinkAttribute::DpllPin(members) => (IFLA_DPLL_PIN | NLA_F_NESTED, Content::DpllPins(members.as_slice())),
-            LinkAttribute::NetnsImmutable(value) => (IFLA_NETNS_IMMUTABLE, Content::Flat(Flat::U8(truth_byte(*value)))),
-            LinkAttribute::Headroom(n) => (IFLA_HEADROOM, Content::Flat(Flat::U16(*n))),
-            LinkAttribute::Tailroom(n) => (IFLA_TAILROOM, Content::Flat(Flat::U16(*n))),
-            LinkAttribute::Other(nla) => (nla.kind(), Content::Flat(Flat::Bytes(nla.value()))),
+            LinkAttribute::GsoIpv4MaxSize(n) => (IFLA_GSO_IPV4_MAX_SIZE, View::Flat(FlatView::U32(*n))),
+            LinkAttribute::GroIpv4MaxSize(n) => (IFLA_GRO_IPV4_MAX_SIZE, View::Flat(FlatView::U32(*n))),
+            LinkAttribute::DpllPin(members) => (IFLA_DPLL_PIN | NLA_F_NESTED, View::DpllPins(members.as_slice())),
+            LinkAttribute::NetnsImmutable(value) => {
+                (IFLA_NETNS_IMMUTABLE, View::Flat(FlatView::U8(truth_byte(*value))))
+            }
+            LinkAttribute::Headroom(n) => (IFLA_HEADROOM, View::Flat(FlatView::U16(*n))),
+            LinkAttribute::Tailroom(n) => (IFLA_TAILROOM, View::Flat(FlatView::U16(*n))),
+            LinkAttribute::Other(nla) => (nla.kind(), View::Flat(FlatView::Bytes(nla.value()))),
         }
     }
 
@@ -326,26 +328,26 @@ impl LinkAttribute {
     /// The length of its value.
     fn len(&self) -> usize {
         match self.view().1 {
-            Content::Flat(flat) => flat.len(),
-            Content::Mask(_) => 4,
-            Content::Id(id) => id.id[..id.len].len(),
-            Content::Stats(stats) => stats.buffer_len(),
-            Content::Stats64(stats) => stats.buffer_len(),
-            Content::Map(map) => map.buffer_len(),
-            Content::Event(event) => event.buffer_len(),
-            Content::Port(members) => nlas_buffer_len(members),
-            Content::Infos(members) => nlas_buffer_len(members),
-            Content::Functions(members) => nlas_buffer_len(members),
-            Content::Ports(members) => nlas_buffer_len(members),
-            Content::Xdps(members) => nlas_buffer_len(members),
-            Content::Props(members) => nlas_buffer_len(members),
-            Content::Reasons(members) => nlas_buffer_len(members),
-            Content::DevlinkPorts(members) => nlas_buffer_len(members),
-            Content::DpllPins(members) => nlas_buffer_len(members),
-            Content::BridgeInfos(members) => nlas_buffer_len(members),
-            Content::Inet6Infos(members) => nlas_buffer_len(members),
-            Content::Bridges(members) => nlas_buffer_len(members),
-            Content::Unspecs(members) => nlas_buffer_len(members),
+            View::Flat(flat) => flat.len(),
+            View::Mask(_) => 4,
+            View::Id(id) => id.id[..id.len].len(),
+            View::Stats(stats) => stats.buffer_len(),
+            View::Stats64(stats) => stats.buffer_len(),
+            View::Map(map) => map.buffer_len(),
+            View::Event(event) => event.buffer_len(),
+            View::Port(members) => nlas_buffer_len(members),
+            View::Infos(members) => nlas_buffer_len(members),
+            View::Functions(members) => nlas_buffer_len(members),
+            View::Ports(members) => nlas_buffer_len(members),
+            View::Xdps(members) => nlas_buffer_len(members),
+            View::Props(members) => nlas_buffer_len(members),
+            View::Reasons(members) => nlas_buffer_len(members),
+            View::DevlinkPorts(members) => nlas_buffer_len(members),
+            View::DpllPins(members) => nlas_buffer_len(members),
+            View::BridgeInfos(members) => nlas_buffer_len(members),
+            View::Inet6Infos(members) => nlas_buffer_len(members),
+            View::Bridges(members) => nlas_buffer_len(members),
+            View::Unspecs(members) => nlas_buffer_len(members),
         }
     }
 }

@@ -3,54 +3,37 @@
 
 use crate::link_msg::attribute::LinkAttribute;
 use crate::link_msg::payload::{parse_any, parse_some};
+use crate::link_msg::place::push;
 use crate::link_vals::AddressFamily;
 use crate::nla_wire::{DecodeError, DefaultNla, NlaBuffer};
 use alloc::vec::Vec;
 
 /// Reads IFLA_AF_SPEC into the room after the last value.
 #[inline(never)]
-pub(crate) fn read_af_spec_into(
+pub(crate) fn parse_af_spec_into(
     buffer: &NlaBuffer<'_>,
     family: AddressFamily,
     values: &mut Vec<LinkAttribute>,
 ) -> Result<(), DecodeError> {
     let payload = buffer.value();
     match family {
-        AddressFamily::Unspec => {
-            values.push(LinkAttribute::AfSpecUnspec(parse_any(payload)?));
-            Ok(())
-        }
-        AddressFamily::Bridge => {
-            values.push(LinkAttribute::AfSpecBridge(parse_some(payload)?));
-            Ok(())
-        }
-        _ => {
-            values.push(LinkAttribute::AfSpecUnknown(Vec::from(payload)));
-            Ok(())
-        }
+        AddressFamily::Unspec => push!(values, LinkAttribute::AfSpecUnspec(parse_any(payload)?)),
+        AddressFamily::Bridge => push!(values, LinkAttribute::AfSpecBridge(parse_some(payload)?)),
+        _ => push!(values, LinkAttribute::AfSpecUnknown(Vec::from(payload))),
     }
 }
 
 /// Reads IFLA_PROTINFO into the room after the last value.
 #[inline(never)]
-pub(crate) fn read_proto_info_into(
+pub(crate) fn parse_proto_info_into(
     buffer: &NlaBuffer<'_>,
     family: AddressFamily,
     values: &mut Vec<LinkAttribute>,
 ) -> Result<(), DecodeError> {
     let payload = buffer.value();
     match family {
-        AddressFamily::Inet6 => {
-            values.push(LinkAttribute::ProtoInfoInet6(parse_some(payload)?));
-            Ok(())
-        }
-        AddressFamily::Bridge => {
-            values.push(LinkAttribute::ProtoInfoBridge(parse_some(payload)?));
-            Ok(())
-        }
-        _ => {
-            values.push(LinkAttribute::ProtoInfoUnknown(DefaultNla::parse(buffer)?));
-            Ok(())
-        }
+        AddressFamily::Inet6 => push!(values, LinkAttribute::ProtoInfoInet6(parse_some(payload)?)),
+        AddressFamily::Bridge => push!(values, LinkAttribute::ProtoInfoBridge(parse_some(payload)?)),
+        _ => push!(values, LinkAttribute::ProtoInfoUnknown(DefaultNla::parse(buffer)?)),
     }
 }

@@ -5,55 +5,89 @@ use crate::link_afspec::numbers::{AF_INET, AF_INET6, AF_MCTP};
 use crate::link_afspec::{
     AfSpecBridge, AfSpecInet, AfSpecInet6, AfSpecMctp, AfSpecUnspec, LinkProtoInfoBridge, LinkProtoInfoInet6,
 };
+use crate::link_msg::fault_path::FaultPath;
 use crate::link_msg::header::HEADER_SIZE;
 use crate::link_msg::message::{LinkMessage, split_header};
+use crate::link_msg::place::AttributePlace;
 use crate::link_msg::shape::Shape;
-use crate::link_msg::table::AttributePlace;
-use crate::link_msg::walk::{Entry, Found, first_entry, first_fault};
+use crate::link_msg::walk::{Found, first_fault};
 use crate::link_nest::{DevlinkPort, DpllPin, LinkInfo, LinkProtocolDownReason, LinkXdp, Prop};
 use crate::link_vals::AddressFamily;
 use crate::link_vf::numbers::{IFLA_VF_STATS, IFLA_VF_VLAN_LIST};
-use crate::link_vf::{VfInfo, VfPort, VfStats, VfVlan};
-use crate::nla_wire::{NLA_HEADER_SIZE, NlaBuffer, NlaRead, OwnPlace};
+use crate::link_vf::{EntryPlace, LinkVfInfo, LinkVfPort, VfInfo, VfPort, VfStats, VfVlan};
+use crate::nla_wire::{NlaBuffer, NlaRead, OwnPlace};
 
-impl LinkMessage {
-    /// Where the fault is that `check` finds, without memory: how many bytes stand before the innermost frame that is
-    /// refused, or before the bytes that are no frame; `None` exactly where `check` finds none.
-    ///
-    /// Bytes that are no frame are fewer than four at the end of a list, or begin with a length that is below four or
-    /// passes the end. Of a message that is shorter than its header it is 0. Where an outermost attribute is refused it
-    /// is where that starts, or a place in its payload: the frame of a list there that has the fault. All attributes
-    /// before it are read.
-    pub fn fault_at(input: &[u8]) -> Option<usize> {
-        let Ok((header, rest)) = split_header(input) else {
-            return Some(0);
-        };
-        let family = header.interface_family;
-        let Found { at, frame } = first_fault(&AttributePlace { family }, rest)?;
-        match frame {
-            Some(frame) => Some(deeper(HEADER_SIZE + at, in_attribute(&frame, family))),
-            None => Some(HEADER_SIZE + at),
-        }
+/// Where the fault of a list is, of which no member holds others.
+fn in_list<N: NlaRead>(bytes: &[u8]) -> Option<FaultPath> {
+    let Found { at, frame } = first_fault::<N, OwnPlace>(&OwnPlace, bytes)?;
+    match frame {
+        Some(frame) => Some(FaultPath::frame(at, frame.kind(), None)),
+        None => Some(FaultPath::stray(at)),
     }
 }
 
-/// Where a fault is whose frame starts at this place: inside of its payload, or there.
-fn deeper(at: usize, inside: Option<usize>) -> usize {
-    match inside {
-        Some(inner) => at + NLA_HEADER_SIZE + inner,
-        None => at,
+/// Where the fault is in the payload of a member of an entry.
+fn in_vf_info(frame: &NlaBuffer<'_>) -> Option<FaultPath> {
+    match frame.kind() {
+        IFLA_VF_STATS => in_list::<VfStats>(frame.value()),
+        IFLA_VF_VLAN_LIST => in_list::<VfVlan>(frame.value()),
+        _ => None,
     }
 }
 
-/// Where the fault is in the payload of an attribute that is refused; `None` where it is the payload's own.
-fn in_attribute(frame: &NlaBuffer<'_>, family: AddressFamily) -> Option<usize> {
-    let payload = frame.value();
-    let shape = Shape::of(frame.kind(), payload.len(), family)?;
+/// Where the fault of what is said of one virtual function is.
+fn in_function(bytes: &[u8]) -> Option<FaultPath> {
+    let Found { at, frame } = first_fault::<VfInfo, OwnPlace>(&OwnPlace, bytes)?;
+    match frame {
+        Some(frame) => Some(FaultPath::frame(at, frame.kind(), in_vf_info(&frame))),
+        None => Some(FaultPath::stray(at)),
+    }
+}
+
+/// Where the fault of a list of virtual functions is.
+fn in_functions(bytes: &[u8]) -> Option<FaultPath> {
+    let Found { at, frame } = first_fault::<LinkVfInfo, EntryPlace>(&EntryPlace, bytes)?;
+    match frame {
+        Some(frame) => Some(FaultPath::frame(at, frame.kind(), in_function(frame.value()))),
+        None => Some(FaultPath::stray(at)),
+    }
+}
+
+/// Where the fault of a list of ports is.
+fn in_ports(bytes: &[u8]) -> Option<FaultPath> {
+    let Found { at, frame } = first_fault::<LinkVfPort, EntryPlace>(&EntryPlace, bytes)?;
+    match frame {
+        Some(frame) => Some(FaultPath::frame(at, frame.kind(), in_list::<VfPort>(frame.value()))),
+        None => Some(FaultPath::stray(at)),
+    }
+}
+
+/// Where the fault is in the settings of one family.
+fn in_family(frame: &NlaBuffer<'_>) -> Option<FaultPath> {
+    match frame.kind() {
+        AF_INET => in_list::<AfSpecInet>(frame.value()),
+        AF_INET6 => in_list::<AfSpecInet6>(frame.value()),
+        AF_MCTP => in_list::<AfSpecMctp>(frame.value()),
+        _ => None,
+    }
+}
+
+/// Where the fault of a list of settings by family is.
+fn in_families(bytes: &[u8]) -> Option<FaultPath> {
+    let Found { at, frame } = first_fault::<AfSpecUnspec, OwnPlace>(&OwnPlace, bytes)?;
+    match frame {
+        Some(frame) => Some(FaultPath::frame(at, frame.kind(), in_family(&frame))),
+        None => Some(FaultPath::stray(at)),
+    }
+}
+
+/// Where the fault is in a payload of this shape.
+fn in_shape(shape: Shape, payload: &[u8]) -> Option<FaultPath> {
     match shape {
         Shape::Port => in_list::<VfPort>(payload),
         Shape::Infos => in_list::<LinkInfo>(payload),
-        Shape::Functions => in_entries(Entry::Function, payload),
-        Shape::Ports => in_entries(Entry::Port, payload),
+        Shape::Functions => in_functions(payload),
+        Shape::Ports => in_ports(payload),
         Shape::Xdps => in_list::<LinkXdp>(payload),
         Shape::Props => in_list::<Prop>(payload),
         Shape::Reasons => in_list::<LinkProtocolDownReason>(payload),
@@ -67,62 +101,48 @@ fn in_attribute(frame: &NlaBuffer<'_>, family: AddressFamily) -> Option<usize> {
     }
 }
 
-/// Where the fault of a list is, of which no member holds others.
-fn in_list<N: NlaRead>(bytes: &[u8]) -> Option<usize> {
-    let Found { at, frame: _frame } = first_fault::<N, OwnPlace>(&OwnPlace, bytes)?;
-    Some(at)
+/// Where the fault is in the payload of an attribute of a message whose header has this family.
+fn in_attribute(frame: &NlaBuffer<'_>, family: AddressFamily) -> Option<FaultPath> {
+    let payload = frame.value();
+    match Shape::of(frame.kind(), payload.len(), family) {
+        Some(shape) => in_shape(shape, payload),
+        None => None,
+    }
 }
 
-/// Where the fault of a list of virtual functions, or of ports, is.
-fn in_entries(entry: Entry, bytes: &[u8]) -> Option<usize> {
-    let Found { at, frame } = first_entry(entry, bytes)?;
+/// Where the fault of the attributes after a header of this family is.
+fn in_attributes(family: AddressFamily, rest: &[u8]) -> Option<FaultPath> {
+    let Found { at, frame } = first_fault(&AttributePlace { family }, rest)?;
     match frame {
-        Some(frame) => Some(deeper(at, in_entry(entry, frame.value()))),
-        None => Some(at),
+        Some(frame) => Some(FaultPath::frame(at, frame.kind(), in_attribute(&frame, family))),
+        None => Some(FaultPath::stray(at)),
     }
 }
 
-/// Where the fault of one entry is.
-fn in_entry(entry: Entry, payload: &[u8]) -> Option<usize> {
-    match entry {
-        Entry::Function => in_function(payload),
-        Entry::Port => in_list::<VfPort>(payload),
+impl LinkMessage {
+    /// Where the fault is that `check` finds, without memory: how many bytes stand before the innermost frame that is
+    /// refused, or before the bytes that are no frame; and the numbers of the attributes that lead there. `None`
+    /// exactly where `check` finds none.
+    ///
+    /// Bytes that are no frame are fewer than four at the end of a list, or begin with a length that is below four or
+    /// passes the end. Of a message that is shorter than its header the offset is 0. A frame is refused where its value
+    /// is, and it is the innermost where its payload is no list, or a list of which no member is refused, as an empty
+    /// one. All that stands before it in each list is read.
+    pub fn fault_path(input: &[u8]) -> Option<FaultPath> {
+        let Ok((header, rest)) = split_header(input) else {
+            return Some(FaultPath::stray(0));
+        };
+        match in_attributes(header.interface_family, rest) {
+            Some(path) => Some(path.after(HEADER_SIZE)),
+            None => None,
+        }
     }
-}
 
-/// Where the fault of what is said of one virtual function is.
-fn in_function(bytes: &[u8]) -> Option<usize> {
-    let Found { at, frame } = first_fault::<VfInfo, OwnPlace>(&OwnPlace, bytes)?;
-    match frame {
-        Some(frame) => Some(deeper(at, in_vf_info(&frame))),
-        None => Some(at),
-    }
-}
-
-/// Where the fault is in the payload of a member of an entry.
-fn in_vf_info(frame: &NlaBuffer<'_>) -> Option<usize> {
-    match frame.kind() {
-        IFLA_VF_STATS => in_list::<VfStats>(frame.value()),
-        IFLA_VF_VLAN_LIST => in_list::<VfVlan>(frame.value()),
-        _ => None,
-    }
-}
-
-/// Where the fault of a list of settings by family is.
-fn in_families(bytes: &[u8]) -> Option<usize> {
-    let Found { at, frame } = first_fault::<AfSpecUnspec, OwnPlace>(&OwnPlace, bytes)?;
-    match frame {
-        Some(frame) => Some(deeper(at, in_family(&frame))),
-        None => Some(at),
-    }
-}
-
-/// Where the fault is in the settings of one family.
-fn in_family(frame: &NlaBuffer<'_>) -> Option<usize> {
-    match frame.kind() {
-        AF_INET => in_list::<AfSpecInet>(frame.value()),
-        AF_INET6 => in_list::<AfSpecInet6>(frame.value()),
-        AF_MCTP => in_list::<AfSpecMctp>(frame.value()),
-        _ => None,
+    /// Where the fault is that `check` finds, without memory: the offset of `fault_path`.
+    pub fn fault_at(input: &[u8]) -> Option<usize> {
+        match LinkMessage::fault_path(input) {
+            Some(path) => Some(path.offset),
+            None => None,
+        }
     }
 }

@@ -3,6 +3,7 @@
 
 use crate::link_msg::attribute::LinkAttribute;
 use crate::link_msg::header::{HEADER_SIZE, LinkHeader, LinkMessageBuffer, no_header};
+use crate::link_vals::AddressFamily;
 use crate::nla_wire::{DecodeError, fill_bytes, nlas_fill, nlas_measure, nlas_write};
 use crate::rattle::number::room;
 use alloc::vec::Vec;
@@ -29,6 +30,15 @@ pub(crate) fn split_header(input: &[u8]) -> Result<(LinkHeader, &[u8]), DecodeEr
     Ok((LinkHeader::parse(front)?, rest))
 }
 
+/// Whether the bytes after a header are attributes under its family, and the first fault if not, whose place is the
+/// message where no attribute holds it.
+pub(crate) fn check_attributes(rest: &[u8], family: AddressFamily) -> Result<(), DecodeError> {
+    match LinkAttribute::check_list_with_param(rest, family) {
+        Ok(()) => Ok(()),
+        Err(error) => Err(error.within(OUTERMOST)),
+    }
+}
+
 impl LinkMessage {
     /// The message with the default header and no attributes. It takes no memory.
     pub fn new() -> LinkMessage {
@@ -41,14 +51,14 @@ impl LinkMessage {
     ///
     /// Refuses `TooShort` below 16 bytes, else with the first fault of the attributes, front to back, each value before
     /// the next attribute. Four times the number of attributes, at all levels, is at most the number of bytes after the
-    /// header; their canonical text is at most 79 times as long; and what was read from at most 839 bytes after the
+    /// header; their canonical encoding is at most 79 times as long; and what was read from at most 839 bytes after the
     /// header fits.
     pub fn parse(input: &[u8]) -> Result<LinkMessage, DecodeError> {
-        LinkMessage::read(input)
+        LinkMessage::parse_input(input)
     }
 
     /// What `parse` does.
-    fn read(input: &[u8]) -> Result<LinkMessage, DecodeError> {
+    fn parse_input(input: &[u8]) -> Result<LinkMessage, DecodeError> {
         let (header, rest) = split_header(input)?;
         match LinkAttribute::parse_list_with_param(rest, header.interface_family) {
             Ok(attributes) => Ok(LinkMessage { header, attributes }),
@@ -62,20 +72,17 @@ impl LinkMessage {
     ///
     /// The first fault: its cause, and where it is.
     pub fn check(input: &[u8]) -> Result<(), DecodeError> {
-        LinkMessage::look(input)
+        LinkMessage::check_input(input)
     }
 
     /// What `check` does.
-    fn look(input: &[u8]) -> Result<(), DecodeError> {
+    fn check_input(input: &[u8]) -> Result<(), DecodeError> {
         let (header, rest) = split_header(input)?;
-        match LinkAttribute::check_list_with_param(rest, header.interface_family) {
-            Ok(()) => Ok(()),
-            Err(error) => Err(error.within(OUTERMOST)),
-        }
+        check_attributes(rest, header.interface_family)
     }
 
-    /// The length of the canonical text, or `None` where the message does not fit. The walk over the values is a call
-    /// that only reads, so a caller of `fits` and then of `buffer_len` makes it once.
+    /// The length of the canonical encoding, or `None` where the message does not fit. The walk over the values is a
+    /// call that only reads, so a caller of `fits` and then of `buffer_len` makes it once.
     #[inline(always)]
     fn measured(&self) -> Option<usize> {
         match nlas_measure(self.attributes.as_slice()) {
@@ -89,7 +96,7 @@ impl LinkMessage {
         self.measured().is_some()
     }
 
-    /// The length of the canonical text.
+    /// The length of the canonical encoding.
     pub(crate) fn buffer_len(&self) -> usize {
         match self.measured() {
             Some(len) => len,
@@ -97,7 +104,7 @@ impl LinkMessage {
         }
     }
 
-    /// Fills the last bytes of the buffer with the canonical text, and returns the place of its first byte. Earlier
+    /// Fills the last bytes of the buffer with the canonical encoding, and returns the place of its first byte. Earlier
     /// bytes are kept.
     pub(crate) fn fill(&self, buffer: &mut [u8]) -> usize {
         let start = nlas_fill(self.attributes.as_slice(), buffer);
@@ -105,7 +112,7 @@ impl LinkMessage {
         fill_bytes(room(buffer, ..start), header.as_bytes())
     }
 
-    /// Writes the canonical text to the front of the buffer, and keeps the rest.
+    /// Writes the canonical encoding to the front of the buffer, and keeps the rest.
     pub(crate) fn emit(&self, buffer: &mut [u8]) {
         self.header.emit(buffer);
         let _len = nlas_write(self.attributes.as_slice(), room(buffer, HEADER_SIZE..));

@@ -3,7 +3,7 @@
 
 use crate::link_nest::WirelessEvent;
 use crate::link_vals::LinkExtentMask;
-use crate::link_vf::{LinkVfInfo, LinkVfPort};
+use crate::link_vf::{Entry, LinkVfInfo, LinkVfPort};
 use crate::nla_wire::{DecodeError, NLA_HEADER_SIZE, NlaRead, empty_list, finish, parse_u32};
 use crate::rattle::number::room;
 use alloc::vec::Vec;

@@ -8,7 +8,7 @@ use crate::link_msg::payload::{check_ports, check_some, measure_ports, truth_byt
 use crate::link_nest::{DevlinkPort, DpllPin, LinkInfo, LinkProtocolDownReason, LinkXdp, Prop, WirelessEvent};
 use crate::link_recs::{Map, Stats, Stats64};
 use crate::link_vals::AddressFamily;
-use crate::link_vf::{LinkVfInfo, LinkVfPort};
+use crate::link_vf::{Entry, LinkVfInfo, LinkVfPort};
 use crate::nla_wire::error::checked;
 use crate::nla_wire::{
     DecodeError, NLA_F_NESTED, NlaRead, PlainRecord, Record, check_string, measure_text, measure_u8, measure_u16,
@@ -19,7 +19,7 @@ use crate::nla_wire::{
 /// The most bytes of an id that are written.
 const ID_SIZE: usize = 32;
 
-/// What a payload has to be, and how its canonical text follows from it.
+/// What a payload has to be, and how its canonical encoding follows from it.
 #[derive(Clone, Copy)]
 pub(crate) enum Shape {
     /// Bytes, written as they are.
@@ -191,7 +191,7 @@ impl Shape {
         }
     }
 
-    /// Whether a payload of this shape that is as long as its canonical text is that text.
+    /// Whether a payload of this shape that is as long as its canonical encoding is that text.
     #[inline(always)]
     pub(crate) fn is_copied(self) -> bool {
         match self {

@@ -7,15 +7,15 @@ use alloc::vec;
 use alloc::vec::Vec;
 
 impl LinkMessage {
-    /// The canonical text of a message that fits.
-    fn text(&self) -> Vec<u8> {
+    /// The canonical encoding of a message that fits.
+    fn encoding(&self) -> Vec<u8> {
         let len = self.buffer_len();
-        let mut text = vec![0; len];
-        self.emit(text.as_mut_slice());
-        text
+        let mut encoding = vec![0; len];
+        self.emit(encoding.as_mut_slice());
+        encoding
     }
 
-    /// The canonical text, in memory that is taken once.
+    /// The canonical encoding, in memory that is taken once.
     ///
     /// # Errors
     ///
@@ -27,15 +27,15 @@ impl LinkMessage {
         if self.has_empty_ports() {
             return Err(CanonError::EmptyVfPorts);
         }
-        Ok(self.text())
+        Ok(self.encoding())
     }
 
-    /// Whether the message fits and its canonical text means it, which is so of every message that was read, fits and
-    /// holds no empty list of ports.
+    /// Whether the message fits and its canonical encoding means it, which is so of every message that was read, fits
+    /// and holds no empty list of ports.
     ///
     /// Of a message that was built it can be otherwise: a list is empty that must not be, an attribute holds what is
-    /// read under another family, or `Other` holds a frame with the number of a listed attribute. The text is written
-    /// and read, in memory that is given back.
+    /// read under another family, or `Other` holds a frame with the number of a listed attribute. The encoding is
+    /// written and read, in memory that is given back.
     ///
     /// # Errors
     ///
@@ -44,8 +44,8 @@ impl LinkMessage {
         if !self.fits() {
             return false;
         }
-        let text = self.text();
-        match LinkMessage::parse(text.as_slice()) {
+        let encoding = self.encoding();
+        match LinkMessage::parse(encoding.as_slice()) {
             Ok(read) => read == *self,
             Err(_) => false,
         }

@@ -4,7 +4,7 @@
 use crate::link_nest::numbers::{DEVLINK_ATTR_BUS_NAME, DEVLINK_ATTR_DEV_NAME, DEVLINK_ATTR_PORT_INDEX};
 use crate::nla_wire::error::checked;
 use crate::nla_wire::{
-    Content, DecodeError, DefaultNla, Flat, Nla, NlaBuffer, NlaRead, check_string, measure_text, measure_u32,
+    DecodeError, DefaultNla, Flat, FlatView, Nla, NlaBuffer, NlaRead, check_string, measure_text, measure_u32,
     parse_string, parse_u32, write_text_payload, write_u32_payload, write_value,
 };
 use alloc::string::String;
@@ -24,12 +24,12 @@ pub enum DevlinkPort {
 
 impl Flat for DevlinkPort {
     #[inline]
-    fn view(&self) -> (u16, Content<'_>) {
+    fn view(&self) -> (u16, FlatView<'_>) {
         match self {
-            DevlinkPort::BusName(name) => (DEVLINK_ATTR_BUS_NAME, Content::Text(name.as_str())),
-            DevlinkPort::DevName(name) => (DEVLINK_ATTR_DEV_NAME, Content::Text(name.as_str())),
-            DevlinkPort::PortIndex(index) => (DEVLINK_ATTR_PORT_INDEX, Content::U32(*index)),
-            DevlinkPort::Other(nla) => (nla.kind(), Content::Bytes(nla.value())),
+            DevlinkPort::BusName(name) => (DEVLINK_ATTR_BUS_NAME, FlatView::Text(name.as_str())),
+            DevlinkPort::DevName(name) => (DEVLINK_ATTR_DEV_NAME, FlatView::Text(name.as_str())),
+            DevlinkPort::PortIndex(index) => (DEVLINK_ATTR_PORT_INDEX, FlatView::U32(*index)),
+            DevlinkPort::Other(nla) => (nla.kind(), FlatView::Bytes(nla.value())),
         }
     }
 }

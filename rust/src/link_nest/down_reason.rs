@@ -4,7 +4,7 @@
 use crate::link_nest::numbers::{IFLA_PROTO_DOWN_REASON_MASK, IFLA_PROTO_DOWN_REASON_VALUE};
 use crate::nla_wire::error::checked;
 use crate::nla_wire::{
-    Content, DecodeError, DefaultNla, Flat, Nla, NlaBuffer, NlaRead, measure_u32, parse_u32, write_u32_payload,
+    DecodeError, DefaultNla, Flat, FlatView, Nla, NlaBuffer, NlaRead, measure_u32, parse_u32, write_u32_payload,
     write_value,
 };
 
@@ -21,11 +21,11 @@ pub enum LinkProtocolDownReason {
 
 impl Flat for LinkProtocolDownReason {
     #[inline]
-    fn view(&self) -> (u16, Content<'_>) {
+    fn view(&self) -> (u16, FlatView<'_>) {
         match self {
-            LinkProtocolDownReason::Mask(mask) => (IFLA_PROTO_DOWN_REASON_MASK, Content::U32(*mask)),
-            LinkProtocolDownReason::Value(value) => (IFLA_PROTO_DOWN_REASON_VALUE, Content::U32(*value)),
-            LinkProtocolDownReason::Other(nla) => (nla.kind(), Content::Bytes(nla.value())),
+            LinkProtocolDownReason::Mask(mask) => (IFLA_PROTO_DOWN_REASON_MASK, FlatView::U32(*mask)),
+            LinkProtocolDownReason::Value(value) => (IFLA_PROTO_DOWN_REASON_VALUE, FlatView::U32(*value)),
+            LinkProtocolDownReason::Other(nla) => (nla.kind(), FlatView::Bytes(nla.value())),
         }
     }
 }

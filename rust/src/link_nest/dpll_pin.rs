@@ -4,7 +4,7 @@
 use crate::link_nest::numbers::DPLL_A_PIN_ID;
 use crate::nla_wire::error::checked;
 use crate::nla_wire::{
-    Content, DecodeError, DefaultNla, Flat, Nla, NlaBuffer, NlaRead, measure_u32, parse_u32, write_u32_payload,
+    DecodeError, DefaultNla, Flat, FlatView, Nla, NlaBuffer, NlaRead, measure_u32, parse_u32, write_u32_payload,
     write_value,
 };
 
@@ -19,10 +19,10 @@ pub enum DpllPin {
 
 impl Flat for DpllPin {
     #[inline]
-    fn view(&self) -> (u16, Content<'_>) {
+    fn view(&self) -> (u16, FlatView<'_>) {
         match self {
-            DpllPin::PinId(id) => (DPLL_A_PIN_ID, Content::U32(*id)),
-            DpllPin::Other(nla) => (nla.kind(), Content::Bytes(nla.value())),
+            DpllPin::PinId(id) => (DPLL_A_PIN_ID, FlatView::U32(*id)),
+            DpllPin::Other(nla) => (nla.kind(), FlatView::Bytes(nla.value())),
         }
     }
 }

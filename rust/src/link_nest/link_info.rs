@@ -3,7 +3,7 @@
 
 use crate::link_nest::numbers::IFLA_INFO_KIND;
 use crate::nla_wire::{
-    Content, DecodeError, DefaultNla, Flat, Nla, NlaBuffer, NlaRead, check_string, measure_text, parse_string,
+    DecodeError, DefaultNla, Flat, FlatView, Nla, NlaBuffer, NlaRead, check_string, measure_text, parse_string,
     write_text_payload, write_value,
 };
 use alloc::string::String;
@@ -19,10 +19,10 @@ pub enum LinkInfo {
 
 impl Flat for LinkInfo {
     #[inline]
-    fn view(&self) -> (u16, Content<'_>) {
+    fn view(&self) -> (u16, FlatView<'_>) {
         match self {
-            LinkInfo::Kind(kind) => (IFLA_INFO_KIND, Content::Text(kind.as_str())),
-            LinkInfo::Other(nla) => (nla.kind(), Content::Bytes(nla.value())),
+            LinkInfo::Kind(kind) => (IFLA_INFO_KIND, FlatView::Text(kind.as_str())),
+            LinkInfo::Other(nla) => (nla.kind(), FlatView::Bytes(nla.value())),
         }
     }
 }

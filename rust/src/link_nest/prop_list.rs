@@ -3,7 +3,7 @@
 
 use crate::link_nest::numbers::IFLA_ALT_IFNAME;
 use crate::nla_wire::{
-    Content, DecodeError, DefaultNla, Flat, Nla, NlaBuffer, NlaRead, check_string, measure_text, parse_string,
+    DecodeError, DefaultNla, Flat, FlatView, Nla, NlaBuffer, NlaRead, check_string, measure_text, parse_string,
     write_text_payload, write_value,
 };
 use alloc::string::String;
@@ -19,10 +19,10 @@ pub enum Prop {
 
 impl Flat for Prop {
     #[inline]
-    fn view(&self) -> (u16, Content<'_>) {
+    fn view(&self) -> (u16, FlatView<'_>) {
         match self {
-            Prop::AltIfName(name) => (IFLA_ALT_IFNAME, Content::Text(name.as_str())),
-            Prop::Other(nla) => (nla.kind(), Content::Bytes(nla.value())),
+            Prop::AltIfName(name) => (IFLA_ALT_IFNAME, FlatView::Text(name.as_str())),
+            Prop::Other(nla) => (nla.kind(), FlatView::Bytes(nla.value())),
         }
     }
 }

@@ -67,7 +67,7 @@ impl WirelessEvent {
     }
 
     /// `Ok` where a payload is an event, else the fault.
-    fn fault(payload: &[u8]) -> Result<(), DecodeError> {
+    fn check_len(payload: &[u8]) -> Result<(), DecodeError> {
         if payload.len() < HEADER_LEN {
             return Err(too_short(payload.len(), HEADER_LEN));
         }
@@ -80,7 +80,7 @@ impl WirelessEvent {
     ///
     /// The first fault: its cause, and where it is.
     pub fn check(payload: &[u8]) -> Result<(), DecodeError> {
-        WirelessEvent::fault(payload)
+        WirelessEvent::check_len(payload)
     }
 
     /// The length of the text of the event that a payload means, with no memory taken: `None` where it has more than
@@ -105,8 +105,8 @@ impl WirelessEvent {
     /// Writes the text of the event that a payload means to the front of the buffer, with no memory taken, and returns
     /// its length. The rest of the buffer is kept.
     ///
-    /// There is room for that text: as many bytes as the payload has are enough. Returns `None` where the text has more
-    /// than 65531 bytes or the payload is refused, and changes nothing then.
+    /// There is room for that encoding: as many bytes as the payload has are enough. Returns `None` where the text has
+    /// more than 65531 bytes or the payload is refused, and changes nothing then.
     pub(crate) fn canon(payload: &[u8], out: &mut [u8]) -> Option<usize> {
         let _len = WirelessEvent::measure(payload)?;
         Some(WirelessEvent::write(payload, out))

@@ -9,7 +9,7 @@ use crate::link_nest::numbers::{
 use crate::link_vals::XdpAttached;
 use crate::nla_wire::error::checked;
 use crate::nla_wire::{
-    Content, DecodeError, DefaultNla, Flat, Nla, NlaBuffer, NlaRead, measure_i32, measure_u8, measure_u32, parse_i32,
+    DecodeError, DefaultNla, Flat, FlatView, Nla, NlaBuffer, NlaRead, measure_i32, measure_u8, measure_u32, parse_i32,
     parse_u32, write_i32_payload, write_u8_payload, write_u32_payload, write_value,
 };
 
@@ -38,17 +38,17 @@ pub enum LinkXdp {
 
 impl Flat for LinkXdp {
     #[inline]
-    fn view(&self) -> (u16, Content<'_>) {
+    fn view(&self) -> (u16, FlatView<'_>) {
         match self {
-            LinkXdp::Fd(fd) => (IFLA_XDP_FD, Content::I32(*fd)),
-            LinkXdp::Attached(place) => (IFLA_XDP_ATTACHED, Content::U8(u8::from(*place))),
-            LinkXdp::Flags(flags) => (IFLA_XDP_FLAGS, Content::U32(*flags)),
-            LinkXdp::ProgId(id) => (IFLA_XDP_PROG_ID, Content::U32(*id)),
-            LinkXdp::DrvProgId(id) => (IFLA_XDP_DRV_PROG_ID, Content::U32(*id)),
-            LinkXdp::SkbProgId(id) => (IFLA_XDP_SKB_PROG_ID, Content::U32(*id)),
-            LinkXdp::HwProgId(id) => (IFLA_XDP_HW_PROG_ID, Content::U32(*id)),
-            LinkXdp::ExpectedFd(fd) => (IFLA_XDP_EXPECTED_FD, Content::U32(*fd)),
-            LinkXdp::Other(nla) => (nla.kind(), Content::Bytes(nla.value())),
+            LinkXdp::Fd(fd) => (IFLA_XDP_FD, FlatView::I32(*fd)),
+            LinkXdp::Attached(place) => (IFLA_XDP_ATTACHED, FlatView::U8(u8::from(*place))),
+            LinkXdp::Flags(flags) => (IFLA_XDP_FLAGS, FlatView::U32(*flags)),
+            LinkXdp::ProgId(id) => (IFLA_XDP_PROG_ID, FlatView::U32(*id)),
+            LinkXdp::DrvProgId(id) => (IFLA_XDP_DRV_PROG_ID, FlatView::U32(*id)),
+            LinkXdp::SkbProgId(id) => (IFLA_XDP_SKB_PROG_ID, FlatView::U32(*id)),
+            LinkXdp::HwProgId(id) => (IFLA_XDP_HW_PROG_ID, FlatView::U32(*id)),
+            LinkXdp::ExpectedFd(fd) => (IFLA_XDP_EXPECTED_FD, FlatView::U32(*fd)),
+            LinkXdp::Other(nla) => (nla.kind(), FlatView::Bytes(nla.value())),
         }
     }
 }

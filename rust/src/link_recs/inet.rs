@@ -8,14 +8,18 @@ use crate::nla_wire::{DecodeError, PlainRecord, Record, RecordBuffer};
 /// The number of fields of a record.
 pub const INET_DEV_CONF_COUNT: usize = 34;
 
-/// The number of bytes of a record.
+/// The number of bytes of a record, 136.
 pub const INET_DEV_CONF_SIZE: usize = 4 * INET_DEV_CONF_COUNT;
 
 /// Settings of IPv4 on a link (IFLA_INET_CONF).
 ///
-/// `INET_DEV_CONF_COUNT` signed numbers of four bytes each, lowest byte first, in the order of the constants
-/// IPV4_DEVCONF_* of linux/ip.h, which count from 1: setting number `n` stands at offset `4 * (n -
-/// 1)`. The last field is no setting of the kernel's.
+/// 34 signed numbers of four bytes each, 136 bytes, lowest byte first, in the order of the constants IPV4_DEVCONF_* of
+/// linux/ip.h, which count from 1: setting number `n` stands at offset `4 * (n - 1)`. The last field is no setting of
+/// the kernel's.
+///
+/// `igmpv2_unsolicited_report_interval` and `igmpv3_unsolicited_report_interval` are in milliseconds. The others have
+/// no unit: `medium_id` and `tag` are numbers that an administrator gives, `force_igmp_version` is a version or 0, and
+/// the rest say what is on, or in which way, 0 where it is off (Documentation/networking/ip-sysctl.rst of the kernel).
 #[derive(Clone, Copy, Debug, Default, PartialEq, Eq, Hash)]
 pub struct InetDevConf {
     pub forwarding: i32,

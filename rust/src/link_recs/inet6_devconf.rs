@@ -8,13 +8,13 @@ use crate::nla_wire::{DecodeError, PlainRecord, Record, RecordBuffer};
 /// The number of fields of a record.
 pub const INET6_DEV_CONF_COUNT: usize = 60;
 
-/// The number of bytes of a record.
+/// The number of bytes of a record, 240.
 pub const INET6_DEV_CONF_SIZE: usize = 4 * INET6_DEV_CONF_COUNT;
 
 /// Settings of IPv6 on a link (IFLA_INET6_CONF).
 ///
-/// `INET6_DEV_CONF_COUNT` signed numbers of four bytes each, lowest byte first, in the order of the constants DEVCONF_*
-/// of linux/ipv6.h, which count from 0: setting number `n` stands at offset `4 * n`. Intervals and delays of
+/// 60 signed numbers of four bytes each, 240 bytes, lowest byte first, in the order of the constants DEVCONF_* of
+/// linux/ipv6.h, which count from 0: setting number `n` stands at offset `4 * n`. Intervals and delays of
 /// solicitations, of reports and of probes are in milliseconds, as net/ipv6/addrconf.c turns them for netlink; the
 /// lifetimes `temp_valid_lft` and `temp_prefered_lft`, and `max_desync_factor`, are in seconds.
 #[derive(Clone, Copy, Debug, Default, PartialEq, Eq, Hash)]

@@ -8,14 +8,14 @@ use crate::nla_wire::{DecodeError, PlainRecord, Record, RecordBuffer};
 /// The number of fields of a record.
 pub const ICMP6_STATS_COUNT: usize = 7;
 
-/// The number of bytes of a record.
+/// The number of bytes of a record, 56.
 pub const ICMP6_STATS_SIZE: usize = 8 * ICMP6_STATS_COUNT;
 
 /// Counters of ICMPv6 on a link (IFLA_INET6_ICMP6STATS).
 ///
-/// `ICMP6_STATS_COUNT` signed numbers of eight bytes each, lowest byte first, in the order of the constants
-/// ICMP6_MIB_* of linux/snmp.h, which count from 0: counter number `n` stands at offset `8 * n`.
-/// `num` is the number of counters that the kernel sent.
+/// Seven signed numbers of eight bytes each, 56 bytes, lowest byte first, in the order of the constants ICMP6_MIB_* of
+/// linux/snmp.h, which count from 0: counter number `n` stands at offset `8 * n`. `num` is the number of counters that
+/// the kernel sent.
 #[derive(Clone, Copy, Debug, Default, PartialEq, Eq, Hash)]
 pub struct Icmp6Stats {
     pub num: i64,

@@ -8,15 +8,18 @@ use crate::nla_wire::{DecodeError, PlainRecord, Record, RecordBuffer};
 /// The number of fields of a record.
 pub const INET6_STATS_COUNT: usize = 39;
 
-/// The number of bytes of a record.
+/// The number of bytes of a record, 312.
 pub const INET6_STATS_SIZE: usize = 8 * INET6_STATS_COUNT;
 
 /// Counters of IPv6 on a link (IFLA_INET6_STATS).
 ///
-/// `INET6_STATS_COUNT` signed numbers of eight bytes each, lowest byte first, in the order of the
-/// constants IPSTATS_MIB_* of linux/snmp.h in Linux 6.12, which count from 0: counter number `n` stands at
-/// offset `8 * n`. Other kernels may have another order. `num` is how many counters the kernel sent, itself
-/// among them. The last field is no counter of the kernel's.
+/// 39 signed numbers of eight bytes each, 312 bytes, lowest byte first, in the order of the constants IPSTATS_MIB_* of
+/// linux/snmp.h, which count from 0: counter number `n` stands at offset `8 * n`. `num` is how many counters the kernel
+/// sent, itself among them. The last field is no counter of the kernel's.
+///
+/// The names of the fields are those of Linux 6.12 and before it. Linux 6.16 has another order, with the same number
+/// of counters: `since_6_16` gives what its messages mean. The order of the releases between the two was not looked
+/// at, and a message does not say which order it has.
 #[derive(Clone, Copy, Debug, Default, PartialEq, Eq, Hash)]
 pub struct Inet6Stats {
     pub num: i64,
@@ -151,6 +154,23 @@ impl Inet6Stats {
             self.out_pkts,
             self.reserved_39,
         ]
+    }
+}
+
+impl Inet6Stats {
+    /// The counters of a record that was read from a message of Linux 6.16 or later, each in the field of its name.
+    ///
+    /// The order of that kernel's IPSTATS_MIB_* (linux/snmp.h): after `in_delivers` come the four counters of packets
+    /// by ECN, then `out_requests`, `out_pkts`, `out_octets` and `out_forw_datagrams`, and the others as they were.
+    pub fn since_6_16(&self) -> Inet6Stats {
+        let words = self.words();
+        Inet6Stats::from_words([
+            words[0], words[1], words[2], words[3], words[11], words[8], words[10], words[12], words[13], words[14],
+            words[15], words[16], words[17], words[18], words[19], words[20], words[21], words[22], words[23],
+            words[24], words[25], words[26], words[27], words[28], words[29], words[30], words[31], words[32],
+            words[33], words[34], words[35], words[36], words[4], words[5], words[6], words[7], words[37], words[9],
+            words[38],
+        ])
     }
 }
 

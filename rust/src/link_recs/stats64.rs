@@ -8,15 +8,14 @@ use crate::nla_wire::{DecodeError, PlainRecord, Record, RecordBuffer};
 /// The number of fields of a record.
 pub const STATS64_COUNT: usize = 25;
 
-/// The number of bytes of a record.
+/// The number of bytes of a record, 200.
 pub const STATS64_SIZE: usize = 8 * STATS64_COUNT;
 
 /// Counters of a link, 64 bits each (IFLA_STATS64).
 ///
-/// `STATS64_COUNT` numbers of eight bytes each, lowest byte first, in the order of `struct
-/// rtnl_link_stats64` in linux/if_link.h: field number `i`, counted from 0, stands at offset `8 *
-/// i`. Packets and errors are counted in packets, `rx_bytes` and `tx_bytes` in bytes,
-/// `rx_over_errors` in events and `collisions` in collisions.
+/// 25 numbers of eight bytes each, 200 bytes, lowest byte first, in the order of `struct rtnl_link_stats64` in
+/// linux/if_link.h: field number `i`, counted from 0, stands at offset `8 * i`. Packets and errors are counted in
+/// packets, `rx_bytes` and `tx_bytes` in bytes, `rx_over_errors` in events and `collisions` in collisions.
 #[derive(Clone, Copy, Debug, Default, PartialEq, Eq, Hash)]
 pub struct Stats64 {
     pub rx_packets: u64,

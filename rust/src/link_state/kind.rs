@@ -2,6 +2,7 @@
 //! Kinds of device.
 
 use crate::link_nest::numbers::IFLA_INFO_KIND;
+use crate::link_state::numbers::IFLA_INFO_SLAVE_KIND;
 use crate::nla_wire::NlasIterator;
 
 /// A kind of device of which something moves by itself.
@@ -43,23 +44,29 @@ fn port_kind(name: &[u8]) -> Kind {
     }
 }
 
-/// The kind with this name, as an attribute of this number tells it: `IFLA_INFO_KIND` that of the device, and
-/// `IFLA_INFO_SLAVE_KIND` that of the device that it is a port of.
-fn kind_named(number: u16, name: &[u8]) -> Kind {
-    if number == IFLA_INFO_KIND { device_kind(name) } else { port_kind(name) }
+impl Kind {
+    /// This kind, or else the other.
+    fn or(self, other: Kind) -> Kind {
+        match self {
+            Kind::Other => other,
+            kind => kind,
+        }
+    }
 }
 
-/// The kind that an attribute of this number names: of several that of the first one whose kind is listed.
-pub(crate) fn kind_at(list: &[u8], number: u16) -> Kind {
+/// The kind of the device that attributes of these frames name, and that of the device that it is a port of: of several
+/// of one number the first one whose kind is listed.
+pub(crate) fn kinds(list: &[u8]) -> (Kind, Kind) {
+    let mut kind = Kind::Other;
+    let mut slave_kind = Kind::Other;
     for item in NlasIterator::new(list) {
         if let Ok(frame) = item {
-            if frame.kind() == number {
-                match kind_named(number, frame.value()) {
-                    Kind::Other => {}
-                    kind => return kind,
-                }
+            match frame.kind() {
+                IFLA_INFO_KIND => kind = kind.or(device_kind(frame.value())),
+                IFLA_INFO_SLAVE_KIND => slave_kind = slave_kind.or(port_kind(frame.value())),
+                _ => {}
             }
         }
     }
-    Kind::Other
+    (kind, slave_kind)
 }

@@ -6,16 +6,16 @@ use crate::link_msg::numbers::{
     IFLA_AF_SPEC, IFLA_CARRIER_CHANGES, IFLA_CARRIER_DOWN_COUNT, IFLA_CARRIER_UP_COUNT, IFLA_EVENT, IFLA_LINKINFO,
     IFLA_PROTINFO, IFLA_STATS, IFLA_STATS64, IFLA_VFINFO_LIST,
 };
-use crate::link_nest::numbers::IFLA_INFO_KIND;
-use crate::link_state::kind::{Kind, kind_at};
+use crate::link_state::kind::{Kind, kinds};
 use crate::link_state::numbers::{
     BRIDGE_QUERIER_IP_OTHER_TIMER, BRIDGE_QUERIER_IPV6_OTHER_TIMER, IFLA_BOND_SLAVE_LINK_FAILURE_COUNT,
     IFLA_BR_FDB_N_LEARNED, IFLA_BR_GC_TIMER, IFLA_BR_HELLO_TIMER, IFLA_BR_MCAST_QUERIER_STATE, IFLA_BR_TCN_TIMER,
     IFLA_BR_TOPOLOGY_CHANGE_TIMER, IFLA_BRPORT_CONFIG_PENDING, IFLA_BRPORT_FORWARD_DELAY_TIMER, IFLA_BRPORT_HOLD_TIMER,
     IFLA_BRPORT_MCAST_EHT_HOSTS_CNT, IFLA_BRPORT_MCAST_N_GROUPS, IFLA_BRPORT_MESSAGE_AGE_TIMER,
     IFLA_BRPORT_TOPOLOGY_CHANGE_ACK, IFLA_CAN_BERR_COUNTER, IFLA_HSR_SEQ_NR, IFLA_INFO_DATA, IFLA_INFO_SLAVE_DATA,
-    IFLA_INFO_SLAVE_KIND, IFLA_INFO_XSTATS,
+    IFLA_INFO_XSTATS,
 };
+use crate::link_state::walk::{Listed, clear_list, zero, zero_part};
 use crate::link_vals::AddressFamily;
 use crate::link_vf::numbers::{
     IFLA_VF_INFO, IFLA_VF_STATS, IFLA_VF_STATS_BROADCAST, IFLA_VF_STATS_MULTICAST, IFLA_VF_STATS_RX_BYTES,
@@ -54,187 +54,290 @@ pub enum Level {
     Hsr,
 }
 
-/// What becomes of an attribute.
-#[derive(Clone, Copy, Debug, PartialEq, Eq, Hash)]
-pub enum Action {
-    /// It is kept.
-    Keep,
-    /// Its payload becomes zeros.
-    Clear,
-    /// The bytes of its payload from the first place to before the second become zeros.
-    ClearPart(usize, usize),
-    /// Its payload is a list, which is cleared in turn.
-    Enter(Level),
-    /// Its payload is the list of `IFLA_LINKINFO`, which is cleared by the kinds that it names.
-    EnterInfo,
+/// `Level::Message`.
+#[derive(Clone, Copy)]
+struct MessageList {
+    family: AddressFamily,
 }
 
-/// What becomes of `IFLA_PROTINFO` under a family.
-fn proto_info_action(family: AddressFamily) -> Action {
-    match family {
-        AddressFamily::Inet6 => Action::Enter(Level::Inet6),
-        AddressFamily::Bridge => Action::Enter(Level::BridgePort),
-        _ => Action::Keep,
-    }
-}
-
-/// What becomes of `IFLA_AF_SPEC` under a family.
-fn af_spec_action(family: AddressFamily) -> Action {
-    match family {
-        AddressFamily::Unspec => Action::Enter(Level::Families),
-        _ => Action::Keep,
-    }
-}
-
-/// What becomes of the settings of a device of this kind.
-fn data_action(kind: Kind) -> Action {
-    match kind {
-        Kind::Bridge => Action::Enter(Level::Bridge),
-        Kind::Can => Action::Enter(Level::Can),
-        Kind::Hsr => Action::Enter(Level::Hsr),
-        _ => Action::Keep,
-    }
-}
-
-/// What becomes of the settings of a port of a device of this kind.
-fn slave_data_action(kind: Kind) -> Action {
-    match kind {
-        Kind::Bridge => Action::Enter(Level::BridgePort),
-        Kind::Bond => Action::Enter(Level::BondPort),
-        _ => Action::Keep,
-    }
-}
-
-/// What becomes of the attributes of a message.
-#[inline(always)]
-fn message_action(family: AddressFamily, number: u16) -> Action {
-    match number {
-        IFLA_STATS => Action::Clear,
-        IFLA_PROTINFO => proto_info_action(family),
-        IFLA_LINKINFO => Action::EnterInfo,
-        IFLA_VFINFO_LIST => Action::Enter(Level::Functions),
-        IFLA_STATS64 => Action::Clear,
-        IFLA_AF_SPEC => af_spec_action(family),
-        IFLA_CARRIER_CHANGES => Action::Clear,
-        IFLA_EVENT => Action::Clear,
-        IFLA_CARRIER_UP_COUNT => Action::Clear,
-        IFLA_CARRIER_DOWN_COUNT => Action::Clear,
-        _ => Action::Keep,
-    }
-}
-
-/// What becomes of the settings of IPv6.
-#[inline(always)]
-fn inet6_action(number: u16) -> Action {
-    match number {
-        IFLA_INET6_STATS => Action::Clear,
-        IFLA_INET6_CACHEINFO => Action::ClearPart(4, 12),
-        IFLA_INET6_ICMP6STATS => Action::Clear,
-        _ => Action::Keep,
-    }
-}
-
-/// What becomes of the counters of a virtual function.
-#[inline(always)]
-fn function_stats_action(number: u16) -> Action {
-    match number {
-        IFLA_VF_STATS_RX_PACKETS => Action::Clear,
-        IFLA_VF_STATS_TX_PACKETS => Action::Clear,
-        IFLA_VF_STATS_RX_BYTES => Action::Clear,
-        IFLA_VF_STATS_TX_BYTES => Action::Clear,
-        IFLA_VF_STATS_BROADCAST => Action::Clear,
-        IFLA_VF_STATS_MULTICAST => Action::Clear,
-        IFLA_VF_STATS_RX_DROPPED => Action::Clear,
-        IFLA_VF_STATS_TX_DROPPED => Action::Clear,
-        _ => Action::Keep,
-    }
-}
-
-/// What becomes of the members of `IFLA_LINKINFO`.
-#[inline(always)]
-fn info_action(kind: Kind, slave_kind: Kind, number: u16) -> Action {
-    match number {
-        IFLA_INFO_DATA => data_action(kind),
-        IFLA_INFO_XSTATS => Action::Clear,
-        IFLA_INFO_SLAVE_DATA => slave_data_action(slave_kind),
-        _ => Action::Keep,
-    }
-}
-
-/// What becomes of the settings of a bridge.
-#[inline(always)]
-fn bridge_action(number: u16) -> Action {
-    match number {
-        IFLA_BR_HELLO_TIMER => Action::Clear,
-        IFLA_BR_TCN_TIMER => Action::Clear,
-        IFLA_BR_TOPOLOGY_CHANGE_TIMER => Action::Clear,
-        IFLA_BR_GC_TIMER => Action::Clear,
-        IFLA_BR_MCAST_QUERIER_STATE => Action::Enter(Level::Querier),
-        IFLA_BR_FDB_N_LEARNED => Action::Clear,
-        _ => Action::Keep,
-    }
-}
-
-/// What becomes of the settings of a bridge's port.
-#[inline(always)]
-fn bridge_port_action(number: u16) -> Action {
-    match number {
-        IFLA_BRPORT_TOPOLOGY_CHANGE_ACK => Action::Clear,
-        IFLA_BRPORT_CONFIG_PENDING => Action::Clear,
-        IFLA_BRPORT_MESSAGE_AGE_TIMER => Action::Clear,
-        IFLA_BRPORT_FORWARD_DELAY_TIMER => Action::Clear,
-        IFLA_BRPORT_HOLD_TIMER => Action::Clear,
-        IFLA_BRPORT_MCAST_EHT_HOSTS_CNT => Action::Clear,
-        IFLA_BRPORT_MCAST_N_GROUPS => Action::Clear,
-        _ => Action::Keep,
-    }
-}
-
-impl Level {
-    /// What becomes of the attributes of this number.
+impl Listed for MessageList {
     #[inline(always)]
-    pub(crate) fn action(self, number: u16) -> Action {
-        match self {
-            Level::Message(family) => message_action(family, number),
-            Level::Families => match number {
-                AF_INET6 => Action::Enter(Level::Inet6),
-                _ => Action::Keep,
-            },
-            Level::Inet6 => inet6_action(number),
-            Level::Functions => match number {
-                IFLA_VF_INFO => Action::Enter(Level::Function),
-                _ => Action::Keep,
-            },
-            Level::Function => match number {
-                IFLA_VF_STATS => Action::Enter(Level::FunctionStats),
-                _ => Action::Keep,
-            },
-            Level::FunctionStats => function_stats_action(number),
-            Level::Info(kind, slave_kind) => info_action(kind, slave_kind, number),
-            Level::Bridge => bridge_action(number),
-            Level::Querier => match number {
-                BRIDGE_QUERIER_IP_OTHER_TIMER => Action::Clear,
-                BRIDGE_QUERIER_IPV6_OTHER_TIMER => Action::Clear,
-                _ => Action::Keep,
-            },
-            Level::BridgePort => bridge_port_action(number),
-            Level::BondPort => match number {
-                IFLA_BOND_SLAVE_LINK_FAILURE_COUNT => Action::Clear,
-                _ => Action::Keep,
-            },
-            Level::Can => match number {
-                IFLA_CAN_BERR_COUNTER => Action::Clear,
-                _ => Action::Keep,
-            },
-            Level::Hsr => match number {
-                IFLA_HSR_SEQ_NR => Action::Clear,
-                _ => Action::Keep,
-            },
+    fn keeps(&self, number: u16) -> bool {
+        match number {
+            IFLA_STATS => false,
+            IFLA_PROTINFO => false,
+            IFLA_LINKINFO => false,
+            IFLA_VFINFO_LIST => false,
+            IFLA_STATS64 => false,
+            IFLA_AF_SPEC => false,
+            IFLA_CARRIER_CHANGES => false,
+            IFLA_EVENT => false,
+            IFLA_CARRIER_UP_COUNT => false,
+            IFLA_CARRIER_DOWN_COUNT => false,
+            _ => true,
+        }
+    }
+
+    #[inline(always)]
+    fn clear_payload(&self, number: u16, payload: &mut [u8]) {
+        match number {
+            IFLA_STATS => zero(payload),
+            IFLA_PROTINFO => clear_proto_info(self.family, payload),
+            IFLA_LINKINFO => clear_link_info(payload),
+            IFLA_VFINFO_LIST => clear_list(payload, &FunctionsList),
+            IFLA_STATS64 => zero(payload),
+            IFLA_AF_SPEC => clear_af_spec(self.family, payload),
+            IFLA_CARRIER_CHANGES => zero(payload),
+            IFLA_EVENT => zero(payload),
+            IFLA_CARRIER_UP_COUNT => zero(payload),
+            IFLA_CARRIER_DOWN_COUNT => zero(payload),
+            _ => {}
         }
     }
 }
 
-/// The level of these members of `IFLA_LINKINFO`.
-pub(crate) fn info_level(list: &[u8]) -> Level {
-    Level::Info(kind_at(list, IFLA_INFO_KIND), kind_at(list, IFLA_INFO_SLAVE_KIND))
+/// Clears `IFLA_PROTINFO` under a family.
+fn clear_proto_info(family: AddressFamily, payload: &mut [u8]) {
+    match family {
+        AddressFamily::Inet6 => clear_list(payload, &Inet6List),
+        AddressFamily::Bridge => clear_list(payload, &BridgePortList),
+        _ => {}
+    }
+}
+
+/// Clears `IFLA_AF_SPEC` under a family.
+fn clear_af_spec(family: AddressFamily, payload: &mut [u8]) {
+    match family {
+        AddressFamily::Unspec => clear_list(payload, &FamiliesList),
+        _ => {}
+    }
+}
+
+/// Clears `IFLA_LINKINFO`, by the kinds that it names.
+fn clear_link_info(payload: &mut [u8]) {
+    let (kind, slave_kind) = kinds(payload);
+    clear_list(payload, &InfoList { kind, slave_kind });
+}
+
+/// `Level::Info`.
+#[derive(Clone, Copy)]
+struct InfoList {
+    kind: Kind,
+    slave_kind: Kind,
+}
+
+impl Listed for InfoList {
+    #[inline(always)]
+    fn clear_payload(&self, number: u16, payload: &mut [u8]) {
+        match number {
+            IFLA_INFO_DATA => clear_data(self.kind, payload),
+            IFLA_INFO_XSTATS => zero(payload),
+            IFLA_INFO_SLAVE_DATA => clear_slave_data(self.slave_kind, payload),
+            _ => {}
+        }
+    }
+}
+
+/// Clears the settings of a device of this kind.
+fn clear_data(kind: Kind, payload: &mut [u8]) {
+    match kind {
+        Kind::Bridge => clear_list(payload, &BridgeList),
+        Kind::Can => clear_list(payload, &CanList),
+        Kind::Hsr => clear_list(payload, &HsrList),
+        _ => {}
+    }
+}
+
+/// Clears the settings of a port of a device of this kind.
+fn clear_slave_data(kind: Kind, payload: &mut [u8]) {
+    match kind {
+        Kind::Bridge => clear_list(payload, &BridgePortList),
+        Kind::Bond => clear_list(payload, &BondPortList),
+        _ => {}
+    }
+}
+
+/// `Level::Families`.
+struct FamiliesList;
+
+impl Listed for FamiliesList {
+    #[inline(always)]
+    fn clear_payload(&self, number: u16, payload: &mut [u8]) {
+        match number {
+            AF_INET6 => clear_list(payload, &Inet6List),
+            _ => {}
+        }
+    }
+}
+
+/// `Level::Inet6`.
+struct Inet6List;
+
+impl Listed for Inet6List {
+    #[inline(always)]
+    fn clear_payload(&self, number: u16, payload: &mut [u8]) {
+        match number {
+            IFLA_INET6_STATS => zero(payload),
+            IFLA_INET6_CACHEINFO => zero_part(payload, 4, 12),
+            IFLA_INET6_ICMP6STATS => zero(payload),
+            _ => {}
+        }
+    }
+}
+
+/// `Level::Functions`.
+struct FunctionsList;
+
+impl Listed for FunctionsList {
+    #[inline(always)]
+    fn clear_payload(&self, number: u16, payload: &mut [u8]) {
+        match number {
+            IFLA_VF_INFO => clear_list(payload, &FunctionList),
+            _ => {}
+        }
+    }
+}
+
+/// `Level::Function`.
+struct FunctionList;
+
+impl Listed for FunctionList {
+    #[inline(always)]
+    fn clear_payload(&self, number: u16, payload: &mut [u8]) {
+        match number {
+            IFLA_VF_STATS => clear_list(payload, &FunctionStatsList),
+            _ => {}
+        }
+    }
+}
+
+/// `Level::FunctionStats`.
+struct FunctionStatsList;
+
+impl Listed for FunctionStatsList {
+    #[inline(always)]
+    fn clear_payload(&self, number: u16, payload: &mut [u8]) {
+        match number {
+            IFLA_VF_STATS_RX_PACKETS => zero(payload),
+            IFLA_VF_STATS_TX_PACKETS => zero(payload),
+            IFLA_VF_STATS_RX_BYTES => zero(payload),
+            IFLA_VF_STATS_TX_BYTES => zero(payload),
+            IFLA_VF_STATS_BROADCAST => zero(payload),
+            IFLA_VF_STATS_MULTICAST => zero(payload),
+            IFLA_VF_STATS_RX_DROPPED => zero(payload),
+            IFLA_VF_STATS_TX_DROPPED => zero(payload),
+            _ => {}
+        }
+    }
+}
+
+/// `Level::Bridge`.
+struct BridgeList;
+
+impl Listed for BridgeList {
+    #[inline(always)]
+    fn clear_payload(&self, number: u16, payload: &mut [u8]) {
+        match number {
+            IFLA_BR_HELLO_TIMER => zero(payload),
+            IFLA_BR_TCN_TIMER => zero(payload),
+            IFLA_BR_TOPOLOGY_CHANGE_TIMER => zero(payload),
+            IFLA_BR_GC_TIMER => zero(payload),
+            IFLA_BR_MCAST_QUERIER_STATE => clear_list(payload, &QuerierList),
+            IFLA_BR_FDB_N_LEARNED => zero(payload),
+            _ => {}
+        }
+    }
+}
+
+/// `Level::Querier`.
+struct QuerierList;
+
+impl Listed for QuerierList {
+    #[inline(always)]
+    fn clear_payload(&self, number: u16, payload: &mut [u8]) {
+        match number {
+            BRIDGE_QUERIER_IP_OTHER_TIMER => zero(payload),
+            BRIDGE_QUERIER_IPV6_OTHER_TIMER => zero(payload),
+            _ => {}
+        }
+    }
+}
+
+/// `Level::BridgePort`.
+struct BridgePortList;
+
+impl Listed for BridgePortList {
+    #[inline(always)]
+    fn clear_payload(&self, number: u16, payload: &mut [u8]) {
+        match number {
+            IFLA_BRPORT_TOPOLOGY_CHANGE_ACK => zero(payload),
+            IFLA_BRPORT_CONFIG_PENDING => zero(payload),
+            IFLA_BRPORT_MESSAGE_AGE_TIMER => zero(payload),
+            IFLA_BRPORT_FORWARD_DELAY_TIMER => zero(payload),
+            IFLA_BRPORT_HOLD_TIMER => zero(payload),
+            IFLA_BRPORT_MCAST_EHT_HOSTS_CNT => zero(payload),
+            IFLA_BRPORT_MCAST_N_GROUPS => zero(payload),
+            _ => {}
+        }
+    }
+}
+
+/// `Level::BondPort`.
+struct BondPortList;
+
+impl Listed for BondPortList {
+    #[inline(always)]
+    fn clear_payload(&self, number: u16, payload: &mut [u8]) {
+        match number {
+            IFLA_BOND_SLAVE_LINK_FAILURE_COUNT => zero(payload),
+            _ => {}
+        }
+    }
+}
+
+/// `Level::Can`.
+struct CanList;
+
+impl Listed for CanList {
+    #[inline(always)]
+    fn clear_payload(&self, number: u16, payload: &mut [u8]) {
+        match number {
+            IFLA_CAN_BERR_COUNTER => zero(payload),
+            _ => {}
+        }
+    }
+}
+
+/// `Level::Hsr`.
+struct HsrList;
+
+impl Listed for HsrList {
+    #[inline(always)]
+    fn clear_payload(&self, number: u16, payload: &mut [u8]) {
+        match number {
+            IFLA_HSR_SEQ_NR => zero(payload),
+            _ => {}
+        }
+    }
+}
+
+/// Clears the attributes of a list, in which lists can stand that have a level of their own.
+///
+/// Lengths, kinds and padding are kept, and all that stands after a fault of the frames.
+pub fn clear(list: &mut [u8], level: Level) {
+    match level {
+        Level::Message(family) => clear_list(list, &MessageList { family }),
+        Level::Families => clear_list(list, &FamiliesList),
+        Level::Inet6 => clear_list(list, &Inet6List),
+        Level::Functions => clear_list(list, &FunctionsList),
+        Level::Function => clear_list(list, &FunctionList),
+        Level::FunctionStats => clear_list(list, &FunctionStatsList),
+        Level::Info(kind, slave_kind) => clear_list(list, &InfoList { kind, slave_kind }),
+        Level::Bridge => clear_list(list, &BridgeList),
+        Level::Querier => clear_list(list, &QuerierList),
+        Level::BridgePort => clear_list(list, &BridgePortList),
+        Level::BondPort => clear_list(list, &BondPortList),
+        Level::Can => clear_list(list, &CanList),
+        Level::Hsr => clear_list(list, &HsrList),
+    }
 }

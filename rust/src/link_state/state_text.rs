@@ -3,8 +3,8 @@
 
 use crate::link_msg::header::HEADER_SIZE;
 use crate::link_msg::{CanonError, RoomError, canonical, canonical_within};
-use crate::link_state::level::Level;
-use crate::link_state::walk::{clear, zero};
+use crate::link_state::level::{Level, clear};
+use crate::link_state::walk::zero;
 use crate::link_vals::AddressFamily;
 use crate::rattle::number::room;
 use alloc::vec::Vec;
@@ -17,7 +17,7 @@ pub const STATE_FORM: u32 = 1;
 /// The place of the header's mask of changed flags, its last four bytes.
 const CHANGE_MASK: usize = 12;
 
-/// Makes the state encoding of canonical text, in place.
+/// Makes the state encoding of canonical encoding, in place.
 fn clear_message(text: &mut [u8]) {
     let level = Level::Message(AddressFamily::from(text[0]));
     zero(room(text, CHANGE_MASK..HEADER_SIZE));
@@ -25,7 +25,7 @@ fn clear_message(text: &mut [u8]) {
 }
 
 /// Writes the state encoding of what the bytes mean to the front of a buffer of any size, without memory, and returns
-/// its length, which is that of the canonical text. The rest of the buffer is kept.
+/// its length, which is that of the canonical encoding. The rest of the buffer is kept.
 ///
 /// # Errors
 ///
@@ -40,8 +40,8 @@ pub fn state_within(input: &[u8], out: &mut [u8]) -> Result<usize, RoomError> {
 /// Writes the state encoding of what the bytes mean to the front of the buffer, without memory, and returns its length.
 /// The rest of the buffer is kept.
 ///
-/// The buffer has room for the canonical text, which is as long. Refuses as `canonical_into` does. After a refusal the
-/// buffer is unchanged.
+/// The buffer has room for the canonical encoding, which is as long. Refuses as `canonical_into` does. After a refusal
+/// the buffer is unchanged.
 pub fn state_into(input: &[u8], out: &mut [u8]) -> Result<usize, CanonError> {
     match state_within(input, out) {
         Ok(len) => Ok(len),
@@ -50,7 +50,7 @@ pub fn state_into(input: &[u8], out: &mut [u8]) -> Result<usize, CanonError> {
     }
 }
 
-/// The state encoding of what the bytes mean, of the form `STATE_FORM`: the canonical text with all that moves by
+/// The state encoding of what the bytes mean, of the form `STATE_FORM`: the canonical encoding with all that moves by
 /// itself at zero.
 ///
 /// # Errors

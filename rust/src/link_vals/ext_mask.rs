@@ -9,13 +9,21 @@ use alloc::vec::Vec;
 /// A number that is not one of the eight flags is kept in `Other`, of one bit or of many.
 #[derive(Clone, Copy, Debug, PartialEq, Eq, Hash)]
 pub enum LinkExtentMask {
+    /// RTEXT_FILTER_VF: virtual functions.
     Vf,
+    /// RTEXT_FILTER_BRVLAN: the vlans of bridges and their ports.
     Brvlan,
+    /// RTEXT_FILTER_BRVLAN_COMPRESSED: the same, as ranges.
     BrvlanCompressed,
+    /// RTEXT_FILTER_SKIP_STATS: no statistics.
     SkipStats,
+    /// RTEXT_FILTER_MRP: the media redundancy protocol of bridges.
     Mrp,
+    /// RTEXT_FILTER_CFM_CONFIG: how connectivity fault management is set.
     CfmConfig,
+    /// RTEXT_FILTER_CFM_STATUS: what it has seen.
     CfmStatus,
+    /// RTEXT_FILTER_MST: the states of multiple spanning trees.
     Mst,
     /// A number without a name.
     Other(u32),

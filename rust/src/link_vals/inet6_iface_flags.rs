@@ -12,14 +12,19 @@ use core::ops::{BitAnd, BitAndAssign, BitOr, BitOrAssign, BitXor, BitXorAssign, 
 pub struct Inet6IfaceFlags(u32);
 
 impl Inet6IfaceFlags {
+    /// IF_RA_OTHERCONF: a router says that settings other than addresses are to be had by DHCPv6.
     pub const Otherconf: Inet6IfaceFlags = Inet6IfaceFlags(0x80);
 
+    /// IF_RA_MANAGED: a router says that addresses are to be had by DHCPv6.
     pub const RaManaged: Inet6IfaceFlags = Inet6IfaceFlags(0x40);
 
+    /// IF_RA_RCVD: a router has advertised itself.
     pub const RaRcvd: Inet6IfaceFlags = Inet6IfaceFlags(0x20);
 
+    /// IF_RS_SENT: routers were asked.
     pub const RsSent: Inet6IfaceFlags = Inet6IfaceFlags(0x10);
 
+    /// IF_READY: the interface is up, and IPv6 is set up on it.
     pub const Ready: Inet6IfaceFlags = Inet6IfaceFlags(0x80000000);
 
     // each flag with its name, in declared order, and then all bits, without a name

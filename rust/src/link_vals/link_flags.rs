@@ -13,42 +13,61 @@ use core::ops::{BitAnd, BitAndAssign, BitOr, BitOrAssign, BitXor, BitXorAssign, 
 pub struct LinkFlags(u32);
 
 impl LinkFlags {
+    /// IFF_UP: the link was set up.
     pub const Up: LinkFlags = LinkFlags(1);
 
+    /// IFF_BROADCAST: its broadcast address is valid.
     pub const Broadcast: LinkFlags = LinkFlags(2);
 
+    /// IFF_DEBUG: its driver is asked for messages.
     pub const Debug: LinkFlags = LinkFlags(4);
 
+    /// IFF_LOOPBACK: what it sends comes back to the host.
     pub const Loopback: LinkFlags = LinkFlags(8);
 
+    /// IFF_POINTOPOINT: it has one other end.
     pub const Pointopoint: LinkFlags = LinkFlags(0x10);
 
+    /// IFF_NOTRAILERS: no trailers, which no protocol of today has.
     pub const Notrailers: LinkFlags = LinkFlags(0x20);
 
+    /// IFF_RUNNING: its operational state is up, or not known.
     pub const Running: LinkFlags = LinkFlags(0x40);
 
+    /// IFF_NOARP: no ARP, and no discovery of neighbours.
     pub const Noarp: LinkFlags = LinkFlags(0x80);
 
+    /// IFF_PROMISC: it takes all packets.
     pub const Promisc: LinkFlags = LinkFlags(0x100);
 
+    /// IFF_ALLMULTI: it takes all multicast packets.
     pub const Allmulti: LinkFlags = LinkFlags(0x200);
 
+    /// IFF_MASTER: others are its ports.
     pub const Controller: LinkFlags = LinkFlags(0x400);
 
+    /// IFF_SLAVE: it is a port of another.
     pub const Port: LinkFlags = LinkFlags(0x800);
 
+    /// IFF_MULTICAST: it can send multicast packets.
     pub const Multicast: LinkFlags = LinkFlags(0x1000);
 
+    /// IFF_PORTSEL: its medium can be set.
     pub const Portsel: LinkFlags = LinkFlags(0x2000);
 
+    /// IFF_AUTOMEDIA: it selects its medium by itself.
     pub const Automedia: LinkFlags = LinkFlags(0x4000);
 
+    /// IFF_DYNAMIC: its addresses are lost when it goes down.
     pub const Dynamic: LinkFlags = LinkFlags(0x8000);
 
+    /// IFF_LOWER_UP: its driver says that there is a carrier.
     pub const LowerUp: LinkFlags = LinkFlags(0x10000);
 
+    /// IFF_DORMANT: its driver says that it waits for an event.
     pub const Dormant: LinkFlags = LinkFlags(0x20000);
 
+    /// IFF_ECHO: packets that are sent come back to the sender.
     pub const Echo: LinkFlags = LinkFlags(0x40000);
 
     // each flag with its name, in declared order, and then all bits, without a name

@@ -2,106 +2,15 @@
 //! The list of ports, IFLA_VF_PORTS, and the port of the interface itself, IFLA_PORT_SELF.
 
 use crate::link_vf::VfPort;
+use crate::link_vf::entry::Entry;
 use crate::link_vf::numbers::IFLA_VF_PORT;
-use crate::nla_wire::{
-    DecodeError, Nla, NlaBuffer, NlaRead, Place, check_picked_members, empty_list, list_fits, list_measure,
-    measure_nested_picked_members, measure_picked_members, nlas_buffer_len, nlas_fill, parse_picked_members,
-    write_list, write_nested_picked_members, write_picked_members,
-};
+use crate::nla_wire::{Nla, list_fits, list_measure, nlas_buffer_len, nlas_fill, write_list};
 use alloc::vec::Vec;
 
 /// An entry of IFLA_VF_PORTS, with the number of IFLA_VF_PORT (linux/if_link.h): what is said of one port. Alone it is
 /// the value of IFLA_PORT_SELF.
 #[derive(Clone, Debug, Default, PartialEq, Eq, Hash)]
 pub struct LinkVfPort(pub Vec<VfPort>);
-
-impl LinkVfPort {
-    /// Reads the list that is the entry's payload, or that of IFLA_PORT_SELF.
-    ///
-    /// # Errors
-    ///
-    /// Refuses the empty payload with `EmptyList`, and else with the cause of the first fault, front to back.
-    pub fn parse(payload: &[u8]) -> Result<LinkVfPort, DecodeError> {
-        if payload.is_empty() {
-            return Err(empty_list());
-        }
-        let members = VfPort::parse_list(payload)?;
-        Ok(LinkVfPort(members))
-    }
-
-    /// Whether a payload is an entry, with no memory taken: `Ok` where `parse` reads it, else the cause of its first
-    /// fault.
-    ///
-    /// # Errors
-    ///
-    /// The first fault: its cause, and where it is.
-    pub fn check(payload: &[u8]) -> Result<(), DecodeError> {
-        if payload.is_empty() {
-            return Err(empty_list());
-        }
-        VfPort::check_list(payload)
-    }
-
-    /// Writes the canonical text of the entry's members to the front of the buffer, with no memory taken, and returns
-    /// its length. The rest of the buffer is kept.
-    ///
-    /// There is room for that text: 79 bytes for each byte of the payload are enough. Returns `None` where a member
-    /// does not fit or the payload is refused, and changes nothing then.
-    pub(crate) fn canon(payload: &[u8], out: &mut [u8]) -> Option<usize> {
-        if payload.is_empty() {
-            return None;
-        }
-        VfPort::canon_list(payload, out)
-    }
-
-    /// The length of the canonical text of the entry's members as the value of an attribute, with no memory taken;
-    /// `None` where it does not fit or the payload is refused.
-    pub(crate) fn measure_entry(payload: &[u8]) -> Option<usize> {
-        VfPort::measure_some(payload)
-    }
-
-    /// Writes the attribute of this kind whose value is the canonical text of the entry's members, which was measured,
-    /// to the front of the buffer, and returns its length. The rest of the buffer is kept.
-    pub(crate) fn write_entry(kind: u16, payload: &[u8], out: &mut [u8]) -> usize {
-        VfPort::write_some(kind, payload, out)
-    }
-
-    /// Reads IFLA_VF_PORTS: entries with another number than IFLA_VF_PORT are dropped unread. The empty
-    /// payload is the empty list.
-    ///
-    /// Refuses with the cause of the first fault, front to back.
-    pub(crate) fn parse_list(payload: &[u8]) -> Result<Vec<LinkVfPort>, DecodeError> {
-        parse_picked_members(&EntryPlace, payload)
-    }
-
-    /// Whether a payload is such a list, with no memory taken: `Ok` where `parse_list` reads it, else the cause of its
-    /// first fault.
-    pub(crate) fn check_list(payload: &[u8]) -> Result<(), DecodeError> {
-        check_picked_members(&EntryPlace, payload)
-    }
-
-    /// Writes the canonical text of such a list's entries to the front of the buffer, with no memory taken, and returns
-    /// its length. The rest of the buffer is kept.
-    ///
-    /// There is room for that text: 79 bytes for each byte of the payload are enough. Returns `None` where an entry
-    /// does not fit or the payload is refused, and changes nothing then.
-    pub(crate) fn canon_list(payload: &[u8], out: &mut [u8]) -> Option<usize> {
-        let _len = measure_picked_members(&EntryPlace, payload)?;
-        Some(write_picked_members(&EntryPlace, payload, out))
-    }
-
-    /// The length of the canonical text of such a list's entries as the value of an attribute, with no memory taken;
-    /// `None` where it does not fit or the payload is refused.
-    pub(crate) fn measure_list(payload: &[u8]) -> Option<usize> {
-        measure_nested_picked_members(&EntryPlace, payload)
-    }
-
-    /// Writes the attribute of this kind whose value is the canonical text of such a list's entries, which was
-    /// measured, to the front of the buffer, and returns its length. The rest of the buffer is kept.
-    pub(crate) fn write_list(kind: u16, payload: &[u8], out: &mut [u8]) -> usize {
-        write_nested_picked_members(&EntryPlace, kind, payload, out)
-    }
-}
 
 impl Nla for LinkVfPort {
     fn kind(&self) -> u16 {
@@ -129,33 +38,14 @@ impl Nla for LinkVfPort {
     }
 }
 
-/// The place of an entry of IFLA_VF_PORTS. Nobody else reads entries, since those with another number are dropped.
-#[derive(Clone, Copy, Debug)]
-pub(crate) struct EntryPlace;
+impl Entry for LinkVfPort {
+    type Member = VfPort;
 
-impl Place<LinkVfPort> for EntryPlace {
-    fn kind_name(&self, kind: u16) -> &'static str {
-        match kind {
-            IFLA_VF_PORT => "IFLA_VF_PORT",
-            _ => "",
-        }
-    }
+    const NUMBER: u16 = IFLA_VF_PORT;
 
-    fn parse_into(&self, buffer: &NlaBuffer<'_>, values: &mut Vec<LinkVfPort>) -> Result<(), DecodeError> {
-        let value = LinkVfPort::parse(buffer.value())?;
-        values.push(value);
-        Ok(())
-    }
+    const NAME: &'static str = "IFLA_VF_PORT";
 
-    fn check(&self, buffer: &NlaBuffer<'_>) -> Result<(), DecodeError> {
-        LinkVfPort::check(buffer.value())
-    }
-
-    fn measure(&self, buffer: &NlaBuffer<'_>) -> Option<usize> {
-        LinkVfPort::measure_entry(buffer.value())
-    }
-
-    fn write(&self, buffer: &NlaBuffer<'_>, out: &mut [u8]) -> usize {
-        LinkVfPort::write_entry(IFLA_VF_PORT, buffer.value(), out)
+    fn from_list(list: Vec<VfPort>) -> LinkVfPort {
+        LinkVfPort(list)
     }
 }

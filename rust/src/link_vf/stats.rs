@@ -7,7 +7,7 @@ use crate::link_vf::numbers::{
 };
 use crate::nla_wire::error::checked;
 use crate::nla_wire::{
-    Content, DecodeError, DefaultNla, Flat, Nla, NlaBuffer, NlaRead, measure_u64, parse_u64, write_u64_payload,
+    DecodeError, DefaultNla, Flat, FlatView, Nla, NlaBuffer, NlaRead, measure_u64, parse_u64, write_u64_payload,
     write_value,
 };
 
@@ -36,17 +36,17 @@ pub enum VfStats {
 
 impl Flat for VfStats {
     #[inline]
-    fn view(&self) -> (u16, Content<'_>) {
+    fn view(&self) -> (u16, FlatView<'_>) {
         match self {
-            VfStats::RxPackets(n) => (IFLA_VF_STATS_RX_PACKETS, Content::U64(*n)),
-            VfStats::TxPackets(n) => (IFLA_VF_STATS_TX_PACKETS, Content::U64(*n)),
-            VfStats::RxBytes(n) => (IFLA_VF_STATS_RX_BYTES, Content::U64(*n)),
-            VfStats::TxBytes(n) => (IFLA_VF_STATS_TX_BYTES, Content::U64(*n)),
-            VfStats::Broadcast(n) => (IFLA_VF_STATS_BROADCAST, Content::U64(*n)),
-            VfStats::Multicast(n) => (IFLA_VF_STATS_MULTICAST, Content::U64(*n)),
-            VfStats::RxDropped(n) => (IFLA_VF_STATS_RX_DROPPED, Content::U64(*n)),
-            VfStats::TxDropped(n) => (IFLA_VF_STATS_TX_DROPPED, Content::U64(*n)),
-            VfStats::Other(nla) => (nla.kind(), Content::Bytes(nla.value())),
+            VfStats::RxPackets(n) => (IFLA_VF_STATS_RX_PACKETS, FlatView::U64(*n)),
+            VfStats::TxPackets(n) => (IFLA_VF_STATS_TX_PACKETS, FlatView::U64(*n)),
+            VfStats::RxBytes(n) => (IFLA_VF_STATS_RX_BYTES, FlatView::U64(*n)),
+            VfStats::TxBytes(n) => (IFLA_VF_STATS_TX_BYTES, FlatView::U64(*n)),
+            VfStats::Broadcast(n) => (IFLA_VF_STATS_BROADCAST, FlatView::U64(*n)),
+            VfStats::Multicast(n) => (IFLA_VF_STATS_MULTICAST, FlatView::U64(*n)),
+            VfStats::RxDropped(n) => (IFLA_VF_STATS_RX_DROPPED, FlatView::U64(*n)),
+            VfStats::TxDropped(n) => (IFLA_VF_STATS_TX_DROPPED, FlatView::U64(*n)),
+            VfStats::Other(nla) => (nla.kind(), FlatView::Bytes(nla.value())),
         }
     }
 }

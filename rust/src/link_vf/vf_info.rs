@@ -51,13 +51,13 @@ pub enum VfInfo {
     Other(DefaultNla),
 }
 
-/// The number of bytes of a hardware address.
+/// The number of bytes of a hardware address: 36.
 fn mac_len(mac: &VfInfoMac) -> usize {
     let address: &[u8] = &mac.mac;
     4 + address.len()
 }
 
-/// The number of bytes of a broadcast address.
+/// The number of bytes of a broadcast address: 32.
 fn broadcast_len(broadcast: &VfInfoBroadcast) -> usize {
     let address: &[u8] = &broadcast.addr;
     address.len()
@@ -183,7 +183,7 @@ impl Nla for VfInfo {
 
 /// The record that an attribute is, if its number is one of a record: no memory is taken.
 #[inline(always)]
-fn read_record(buffer: &NlaBuffer<'_>) -> Option<Result<VfInfo, DecodeError>> {
+fn parse_record(buffer: &NlaBuffer<'_>) -> Option<Result<VfInfo, DecodeError>> {
     let payload = buffer.value();
     match buffer.kind() {
         IFLA_VF_MAC => Some(VfInfoMac::parse(payload).map(VfInfo::Mac)),
@@ -245,7 +245,7 @@ impl NlaRead for VfInfo {
         match buffer.kind() {
             IFLA_VF_STATS => VfStats::parse_list(buffer.value()).map(VfInfo::Stats),
             IFLA_VF_VLAN_LIST => VfVlan::parse_list(buffer.value()).map(VfInfo::VlanList),
-            _ => match read_record(buffer) {
+            _ => match parse_record(buffer) {
                 Some(info) => info,
                 None => DefaultNla::parse(buffer).map(VfInfo::Other),
             },
@@ -256,7 +256,7 @@ impl NlaRead for VfInfo {
         match buffer.kind() {
             IFLA_VF_STATS => VfStats::check_list(buffer.value()),
             IFLA_VF_VLAN_LIST => VfVlan::check_list(buffer.value()),
-            _ => match read_record(buffer) {
+            _ => match parse_record(buffer) {
                 Some(read) => checked(read),
                 None => Ok(()),
             },

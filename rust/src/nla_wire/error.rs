@@ -63,7 +63,8 @@ pub const PAYLOAD: &str = "payload";
 ///
 /// `place` names the innermost attribute whose payload was read: of the fault of a frame the attribute that holds its
 /// list, `message` for the outermost list; `header` for the bytes in front of that; of a number without a name the
-/// nearest attribute around it that has one; and `payload` where a payload was read by itself.
+/// nearest attribute around it that has one; and `payload` where a payload was read by itself. That the calls which
+/// read name it so is tested, and not proved.
 #[derive(Clone, Copy, Debug, PartialEq, Eq, Hash)]
 pub struct DecodeError {
     pub place: &'static str,

@@ -9,7 +9,7 @@ use crate::nla_wire::write::{
 
 /// What the value of an attribute is written from. Numbers are written lowest byte first.
 #[derive(Clone, Copy)]
-pub enum Content<'a> {
+pub enum FlatView<'a> {
     /// Bytes, written as they are.
     Bytes(&'a [u8]),
     /// A text, written with one NUL after it.
@@ -26,48 +26,48 @@ pub enum Content<'a> {
     I32(i32),
 }
 
-impl Content<'_> {
-    /// The length of the text: of a `Text` with its NUL.
+impl FlatView<'_> {
+    /// The length of the encoding: of a `Text` with its NUL.
     #[inline]
     pub fn len(&self) -> usize {
         match self {
-            Content::Bytes(bytes) => bytes.len(),
-            Content::Text(text) => text.len() + 1,
-            Content::U8(_) => 1,
-            Content::U16(_) => 2,
-            Content::U32(_) => 4,
-            Content::U64(_) => 8,
-            Content::I32(_) => 4,
+            FlatView::Bytes(bytes) => bytes.len(),
+            FlatView::Text(text) => text.len() + 1,
+            FlatView::U8(_) => 1,
+            FlatView::U16(_) => 2,
+            FlatView::U32(_) => 4,
+            FlatView::U64(_) => 8,
+            FlatView::I32(_) => 4,
         }
     }
 
-    /// Fills the last bytes of the buffer with the text, and returns the place of its first byte. Earlier bytes are
+    /// Fills the last bytes of the buffer with the encoding, and returns the place of its first byte. Earlier bytes are
     /// kept.
     #[inline]
     pub(crate) fn fill(&self, buffer: &mut [u8]) -> usize {
         match self {
-            Content::Bytes(bytes) => fill_bytes(buffer, bytes),
-            Content::Text(text) => fill_text(buffer, text),
-            Content::U8(n) => fill_bytes(buffer, &[*n]),
-            Content::U16(n) => fill_bytes(buffer, &n.to_le_bytes()),
-            Content::U32(n) => fill_bytes(buffer, &n.to_le_bytes()),
-            Content::U64(n) => fill_bytes(buffer, &n.to_le_bytes()),
-            Content::I32(n) => fill_bytes(buffer, &n.to_le_bytes()),
+            FlatView::Bytes(bytes) => fill_bytes(buffer, bytes),
+            FlatView::Text(text) => fill_text(buffer, text),
+            FlatView::U8(n) => fill_bytes(buffer, &[*n]),
+            FlatView::U16(n) => fill_bytes(buffer, &n.to_le_bytes()),
+            FlatView::U32(n) => fill_bytes(buffer, &n.to_le_bytes()),
+            FlatView::U64(n) => fill_bytes(buffer, &n.to_le_bytes()),
+            FlatView::I32(n) => fill_bytes(buffer, &n.to_le_bytes()),
         }
     }
 
-    /// Writes the attribute of this kind with the text as its value to the front of the buffer, and returns its length.
-    /// The rest of the buffer is kept.
+    /// Writes the attribute of this kind with the encoding as its value to the front of the buffer, and returns its
+    /// length. The rest of the buffer is kept.
     #[inline(always)]
     pub(crate) fn write(&self, kind: u16, buffer: &mut [u8]) -> usize {
         match self {
-            Content::Bytes(bytes) => write_value(kind, bytes, buffer),
-            Content::Text(text) => write_text(kind, text.as_bytes(), buffer),
-            Content::U8(n) => write_u8(kind, *n, buffer),
-            Content::U16(n) => write_u16(kind, *n, buffer),
-            Content::U32(n) => write_u32(kind, *n, buffer),
-            Content::U64(n) => write_u64(kind, *n, buffer),
-            Content::I32(n) => write_i32(kind, *n, buffer),
+            FlatView::Bytes(bytes) => write_value(kind, bytes, buffer),
+            FlatView::Text(text) => write_text(kind, text.as_bytes(), buffer),
+            FlatView::U8(n) => write_u8(kind, *n, buffer),
+            FlatView::U16(n) => write_u16(kind, *n, buffer),
+            FlatView::U32(n) => write_u32(kind, *n, buffer),
+            FlatView::U64(n) => write_u64(kind, *n, buffer),
+            FlatView::I32(n) => write_i32(kind, *n, buffer),
         }
     }
 }
@@ -75,7 +75,7 @@ impl Content<'_> {
 /// A value that is written as an attribute, and holds no others. Such a value is an `Nla`.
 pub trait Flat {
     /// The kind, which is the number and both flag bits, and what the value is written from.
-    fn view(&self) -> (u16, Content<'_>);
+    fn view(&self) -> (u16, FlatView<'_>);
 }
 
 impl<T: Flat> Nla for T {
@@ -106,7 +106,7 @@ impl<T: Flat> Nla for T {
 
     #[inline(always)]
     fn write(&self, buffer: &mut [u8]) -> usize {
-        let (kind, content) = self.view();
-        content.write(kind, buffer)
+        let (kind, view) = self.view();
+        view.write(kind, buffer)
     }
 }

@@ -8,9 +8,11 @@ pub mod fields;
 pub mod fill;
 pub mod flat;
 pub mod iterator;
+pub mod members;
 pub mod nla;
 pub mod number;
 pub mod payload;
+pub mod place;
 pub mod read;
 pub mod record;
 pub mod text;
@@ -20,8 +22,11 @@ pub use buffer::{NLA_F_NESTED, NLA_F_NET_BYTEORDER, NLA_HEADER_SIZE, NLA_TYPE_MA
 pub use default_nla::DefaultNla;
 pub use error::{Cause, DecodeError, PAYLOAD, empty_list, same_fault};
 pub use fill::{fill_bytes, fill_text};
-pub use flat::{Content, Flat};
+pub use flat::{Flat, FlatView};
 pub use iterator::NlasIterator;
+pub use members::{
+    check_members, measure_members, measure_nested_members, parse_members, write_members, write_nested_members,
+};
 pub use nla::{
     Nla, emit_nlas, list_fits, list_measure, nlas_buffer_len, nlas_fill, nlas_fit, nlas_measure, nlas_write, write_list,
 };
@@ -34,11 +39,8 @@ pub use payload::{
     write_filled_payload, write_i32_payload, write_ipv6_addr_payload, write_text_payload, write_u8_payload,
     write_u16_payload, write_u32_payload, write_u64_payload,
 };
-pub use read::{
-    NlaRead, OwnPlace, Place, check_members, check_one, check_picked_members, measure_members, measure_nested_members,
-    measure_nested_picked_members, measure_picked_members, parse_members, parse_one, parse_picked_members,
-    write_members, write_nested_members, write_nested_picked_members, write_picked_members,
-};
+pub use place::{Place, check_one, parse_one};
+pub use read::{NlaRead, OwnPlace};
 pub use record::{PlainRecord, Record, RecordBuffer, measure_by_size};
 pub use text::{check_string, parse_string};
 pub use write::{

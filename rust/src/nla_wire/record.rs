@@ -48,7 +48,8 @@ pub trait Record<const SIZE: usize>: Sized {
         Ok(Self::read_front(payload))
     }
 
-    /// The length of the text of the record that a payload means as if zeros followed it: `SIZE`, whatever it holds.
+    /// The length of the encoding of the record that a payload means as if zeros followed it: `SIZE`, whatever it
+    /// holds.
     #[inline(always)]
     fn measure_filled(_payload: &[u8]) -> Option<usize> {
         Some(SIZE)
@@ -60,7 +61,7 @@ pub trait Record<const SIZE: usize>: Sized {
         SIZE
     }
 
-    /// The length of the text of the record that a payload means: `None` where it has fewer than `SIZE` bytes.
+    /// The length of the encoding of the record that a payload means: `None` where it has fewer than `SIZE` bytes.
     #[inline(always)]
     fn measure_sized(payload: &[u8]) -> Option<usize> {
         measure_by_size(payload, Self::size_for(payload))

@@ -96,12 +96,11 @@ fn utf8(bytes: &[u8]) -> Option<&str> {
     None
 }
 
-/// Reads a text: one NUL at the end is dropped, and the rest has to be UTF-8, else `NotUtf8`. The empty payload is the
-/// empty text.
+/// Reads a text: one NUL at the end is dropped, and the rest has to be UTF-8. The empty payload is the empty text.
 ///
 /// # Errors
 ///
-/// The first fault: its cause, and where it is.
+/// Refuses other bytes with `NotUtf8`.
 #[inline(always)]
 pub fn parse_string(bytes: &[u8]) -> Result<String, DecodeError> {
     match utf8(without_nul(bytes)) {
@@ -111,7 +110,7 @@ pub fn parse_string(bytes: &[u8]) -> Result<String, DecodeError> {
 }
 
 /// `Ok` where the payload is a text, else the fault.
-fn text_fault(bytes: &[u8]) -> Result<(), DecodeError> {
+fn check_utf8(bytes: &[u8]) -> Result<(), DecodeError> {
     if is_utf8(without_nul(bytes)) {
         return Ok(());
     }
@@ -120,5 +119,5 @@ fn text_fault(bytes: &[u8]) -> Result<(), DecodeError> {
 
 /// Whether a payload is a text, with no memory taken: `Ok` where `parse_string` reads it, else `NotUtf8`.
 pub fn check_string(bytes: &[u8]) -> Result<(), DecodeError> {
-    text_fault(bytes)
+    check_utf8(bytes)
 }

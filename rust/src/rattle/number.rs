@@ -39,7 +39,7 @@ macro_rules! casts {
     )*};
 }
 
-casts!(i32 u32, i64 u64);
+casts!(i8 u8, i16 u16, i32 u32, i64 u64);
 
 /// A length as the two bytes of a frame's header have it.
 ///
