@@ -4,7 +4,7 @@
 #     sums.sh make            prints it, for the texts and the sources as they are
 #     sums.sh unfit ARCH NAME..   prints the names of those texts that do not fit the tree
 #     sums.sh why ARCH NAME   prints in a line what changed since the text was made, nothing where it fits
-#     sums.sh check           compares all, and the toolchain where it is on the path
+#     sums.sh check           compares all; where rt is on the path and is not the toolchain that made them, it says so
 set -euo pipefail
 export LC_ALL=C
 cd "$(dirname "$0")/.."
@@ -117,8 +117,7 @@ check() {
     done
     by=$(sed -n 's/^# toolchain //p' "$sums")
     if command -v rt >/dev/null && [ "$(rt version)" != "$by" ]; then
-        echo "dist: made by $by, and rt is $(rt version): make dist makes it anew" >&2
-        return 1
+        echo "dist: made by $by, and rt is $(rt version): make check makes the texts anew and compares them" >&2
     fi
     echo "dist: the sums fit"
 }

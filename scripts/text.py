@@ -2,10 +2,11 @@
 the assembly text that the compiler makes of it, as FOLDER/PROCESSOR/NAME.s: text.py FOLDER. What it built for x86-64
 stays as out/NAME.o, and of a library as out/libNAME.a.
 
-It begins with what was kept, here or in another checkout on this machine, as `rt check` does, and takes the libraries
-below as `rt lib` built them of the same files, if it finds all; else it stands over those that the gate left, and then
-proves the crate once more. No command of the toolchain does this. `rt ci` proves a static library and does not build
-it, and leaves the libraries below without the stamp by which `rt lib` knows them; and nothing writes the text.
+It begins with what was kept here, as `rt check` does, and where the toolchain shares kept work between checkouts with
+what was kept there; it takes the libraries below as `rt lib` built them of the same files, if it finds all. Else it
+stands over those that the gate left, and then proves the crate once more. No command of the toolchain does this.
+`rt ci` proves a static library and does not build it, and leaves the libraries below without the stamp by which `rt
+lib` knows them; and nothing writes the text.
 """
 
 import importlib.machinery
@@ -126,6 +127,11 @@ def write_text(command, crate, arch, to):
     return 0
 
 
+def shares(command):
+    """Whether this toolchain shares what was kept between the checkouts of a machine."""
+    return all(hasattr(command, it) for it in ("places_of", "take_rlib", "adopt", "offer"))
+
+
 def take_libraries(command, crate):
     """Takes what `rt lib` built of the libraries below, here or in another checkout, where all are to be had."""
     def is_kept(it):
@@ -146,13 +152,16 @@ def main(to):
     here = os.getcwd()
     crates = command.rtlib.crates_below(os.path.dirname(os.path.dirname(here)))
     (crate,) = [it for it in crates if it.folder == here]
-    take_libraries(command, crate)
+    if shares(command):
+        take_libraries(command, crate)
     crate.held = command.rtlib.lock([crate])
-    command.adopt(crate)
+    if shares(command):
+        command.adopt(crate)
     os.makedirs("out", exist_ok=True)
     stamp = crate.stamp()
     status = next(filter(None, (write_text(command, crate, arch, to) for arch in targets())), 0)
-    command.offer(crate, None if status else stamp)
+    if shares(command):
+        command.offer(crate, None if status else stamp)
     return status
 
 
