@@ -37,7 +37,7 @@ extern "C" {
 #endif
 
 /* The version of this header and of the library that it came with. */
-#define LINKWIRE_VERSION "0.2.0"
+#define LINKWIRE_VERSION "0.3.0"
 
 /* The number of the canonical form: a change of any message's canonical encoding raises it. Encodings of different
  * numbers are not to be compared, so a store keeps the number beside its keys. `linkwire_canonical_form` returns that

@@ -803,7 +803,7 @@ COUNTS = re.compile(r"TIMER|STATS(?!_PAD|_MAX)|COUNT|_CNT|_N_|CHANGES|SEQ_NR|EVE
 
 
 def compare_levels(ours, kernel, report):
-    """The rows of the state encoding: each number is of the enum that its level has, a part of a record is told by the
+    """The rows of the state encoding: each number is of the enum that its level has, a part of a record has the
     offsets of its fields, and of what counts by its name there is a row, or a reason why there is none."""
     report.same_names("level", ours.levels, LEVELS)
     headers = kernel.headers
@@ -812,7 +812,7 @@ def compare_levels(ours, kernel, report):
         theirs = [name for name in headers.block.get(beside_it, headers.group(prefix)) if name.startswith(prefix)]
         rows = dict(ours.levels[level])
         for constant, action in rows.items():
-            if headers.number(constant) is None:  # told of the constant, where it is not newer
+            if headers.number(constant) is None:  # said where the constant is compared, if it is not newer
                 continue
             facts = [("row", constant, constant if constant in theirs else "none")]
             part = re.fullmatch(r"ClearPart (\d+) (\d+)", action)

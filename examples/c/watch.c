@@ -15,7 +15,7 @@
 struct link {
     struct link *next;
     struct ifinfomsg info;
-    unsigned round; /* of dumps, that told of it last */
+    unsigned round; /* the last dump that had it */
     size_t len;
     uint8_t text[];
 };
@@ -75,7 +75,7 @@ static void print_changes(const struct link *old, const struct link *new, int is
     }
 }
 
-/* Forgets the links that only earlier rounds told of. */
+/* Forgets the links that only earlier rounds had. */
 static void forget(unsigned least) {
     for (struct link **at = &links, *old = links; old != NULL; old = *at) {
         if (old->round >= least) {

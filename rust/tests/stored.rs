@@ -1,6 +1,6 @@
 //! Lines of hexadecimal messages: the stored input of the program `linkwire`, the rows of its tests, and those of the
-//! file that `LINKWIRE_LINES` names. What the calls of this crate say of one message has to agree, and what the stored
-//! lines and the rows are answered has to be what the program answers.
+//! file that `LINKWIRE_LINES` names. What the calls of this crate say of one message has to agree, and their answers to
+//! the stored lines and the rows have to be those of the program.
 
 use linkwire::{
     Attribute, CanonError, DecodeError, Emitable, GROWTH, HEADER_SIZE, LinkAttribute, LinkMessage, RoomError, Writer,

@@ -102,7 +102,7 @@ class Tests:
         self.program, self.file = program, f"{folder}/capture"
 
     def run(self, capture, *options, file=None):
-        """Returns the status, the lines and what is told of a capture, which is read from a file."""
+        """Returns the status, the lines and the messages on standard error for a capture, which is read from a file."""
         if capture is not None:
             with open(self.file, "wb") as it:
                 it.write(capture)

@@ -13,8 +13,8 @@ pub const SETTINGS: usize = NLA_HEADER_SIZE + INET_DEV_CONF_SIZE;
 /// The bytes of an attribute of IPv6 counters, as it is written.
 pub const COUNTERS: usize = NLA_HEADER_SIZE + INET6_STATS_SIZE;
 
-/// The bytes of buffer for each byte that is read that are room for any text: a header alone may become one of the
-/// longest record.
+/// The bytes of buffer for each byte that is read that are room for any text: a header alone may be written as a frame
+/// of the longest record.
 pub const GROWTH: usize = COUNTERS / NLA_HEADER_SIZE;
 
 /// Bytes with zeros after them.

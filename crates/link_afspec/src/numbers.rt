@@ -1,4 +1,4 @@
-//! The numbers of the attributes that this crate reads, by their names in the kernel's headers. Each stands here and
+//! The numbers of the attributes that this crate reads, as the kernel's headers name them. Each stands here and
 //! nowhere else, but AF_INET, AF_INET6 and AF_MCTP, which are address families in `link_vals` too.
 
 /// Settings of IPv4, in AF_INET (linux/if_link.h).

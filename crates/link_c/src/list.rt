@@ -41,7 +41,7 @@ fn after(size: usize, at: usize, payload_len: usize) -> usize
     }
 }
 
-/// What is told of a frame that starts at this place.
+/// The attribute of a frame that starts at this place, for C.
 fn told(frame: &NlaBuffer<'_>, at: usize) -> Attribute
     requires { at + 4 < 2 ^ 64 }
     ensures { result ≡ record {

@@ -23,7 +23,7 @@ pub struct Path {
     pub numbers: [u16; MOST_DEPTH],
 }
 
-/// What is told of a place that was found.
+/// A path that was found, for C.
 fn told(found: &FaultPath) -> Path
     requires { length (numbers_to found.now) ≤ 4 }
     ensures { Tells result found.now }

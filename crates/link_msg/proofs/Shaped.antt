@@ -19,7 +19,7 @@ use Rattle.link_msg.specs.declared.shape.Shape.{Shape}
 use Rattle.link_msg.specs.declared.attribute.LinkAttribute.{LinkAttribute}
 use Rattle.link_msg.specs.declared.attribute.LinkAttribute.TheVariants as Attributes
 
--- the shape that code told of a kind's number is that of the frame
+-- the shape that code found for a kind's number is that of the frame
 pub shape_here : (family : AddressFamily) (f : Frame) (n : ℕ) (p : List ℕ) (told shape : Option Shape) → n ≡ number f
     → p ≡ f.payload → told ≡ shape
     → as_way told ≡ attribute_way family n (length p)

@@ -1,4 +1,4 @@
--- What bytes are answered: the canonical encoding of one message, or one refusal.
+-- The one answer to bytes: the canonical encoding of one message, or one refusal.
 use Rattle.std.specs.Prelude.{◌≡◌, ℕ, List}
 use Rattle.nla_wire.specs.Frames.{IsBytes}
 use Rattle.nla_wire.specs.declared.error.Cause.{Cause}

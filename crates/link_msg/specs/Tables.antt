@@ -3,8 +3,8 @@
 -- A line says three things of an attribute: its number, what its payload is, and the variant that the value becomes.
 -- The lines stand in the order in which the variants are declared, and `keeps` is for frames that no line reads. What
 -- the header's family decides stands below the table, in `proto_info` and `af_spec`: the variants of these two numbers
--- are only `written` in the table. A payload is told by its shape: a state, a mode and a plain number of one byte are
--- one shape.
+-- are only `written` in the table. Of a payload the table has the shape: a state, a mode and a plain number of one byte
+-- are one shape.
 use Rattle.std.specs.Prelude.{◌≡◌, ◌==◌, ℕ, ℤ, ◌+◌, ◌*◌, ◌/◌, ◌<◌, ◌≤◌, ◌^◌, not, Bool, true, false, List, [], ◌∷◌}
 use Rattle.std.specs.Prelude.{◌++◌, length, Option, None, Some, refl}
 use Rattle.std.specs.Int.{w8, w16, w32, to_le_bytes, cast_signed}

@@ -1,4 +1,4 @@
-//! The names of the attributes of a link, for what is told of a fault.
+//! The names of the attributes of a link, by which a fault says where it is.
 
 use crate::numbers::*;
 

@@ -1,5 +1,5 @@
-//! The numbers of the attributes of a link message, by their names in linux/if_link.h. Each stands here and nowhere
-//! else. What an attribute holds is said at its variant of `LinkAttribute`.
+//! The numbers of the attributes of a link message, as linux/if_link.h names them. Each stands here and nowhere else.
+//! What an attribute holds is said at its variant of `LinkAttribute`.
 
 /// The number of `IFLA_ADDRESS`.
 pub const IFLA_ADDRESS: u16 = 1;

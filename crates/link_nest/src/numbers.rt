@@ -1,5 +1,5 @@
-//! The numbers of the attributes and events that this crate reads, by their names in the kernel's headers. Each stands
-//! here and nowhere else.
+//! The numbers of the attributes and events that this crate reads, as the kernel's headers name them. Each stands here
+//! and nowhere else.
 
 /// An alternative name, in IFLA_PROP_LIST (linux/if_link.h).
 pub const IFLA_ALT_IFNAME: u16 = 53;

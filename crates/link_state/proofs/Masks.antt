@@ -396,7 +396,7 @@ mask_kept = by_frames (λ level b. mask level (cleared level b) ≡ mask level b
     (λ level b c e. ap (mask level) (cleared_step level b ∙ ap (cleared_on cleared level b) e))
     kept_frame
 
--- two texts become one exactly where they have one mask, and are equal outside of it
+-- two texts are cleared to the same one exactly where they have one mask, and are equal outside of it
 pub one_mask : (clear : List ℕ → List ℕ) (marks : List ℕ → List Bool) (a b : List ℕ)
     → blank (marks a) a ≡ clear a → blank (marks b) b ≡ clear b → marks (clear a) ≡ marks a → marks (clear b) ≡ marks b
     → (clear a ≡ clear b) ↔ ((marks a ≡ marks b) × (blank (marks a) a ≡ blank (marks a) b))

@@ -1,5 +1,5 @@
-//! The numbers of the attributes that are kept undecoded and hold what moves by itself, by their names in the kernel's
-//! headers. Each stands here and nowhere else. What is said of a kind of device is at its level in `Level`.
+//! The numbers of the attributes that are kept undecoded and hold what moves by itself, as the kernel's headers name
+//! them. Each stands here and nowhere else. What is said of a kind of device is at its level in `Level`.
 
 /// The settings of a device, in IFLA_LINKINFO (linux/if_link.h).
 pub const IFLA_INFO_DATA: u16 = 2;

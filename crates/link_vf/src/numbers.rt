@@ -1,4 +1,4 @@
-//! The numbers of the attributes that this crate reads, by their names in linux/if_link.h. Each stands here and nowhere
+//! The numbers of the attributes that this crate reads, as linux/if_link.h names them. Each stands here and nowhere
 //! else.
 
 /// An entry of IFLA_VFINFO_LIST: what is said of one virtual function.

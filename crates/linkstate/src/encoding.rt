@@ -1,4 +1,4 @@
-//! The state encoding, which lines are answered with.
+//! The state encoding, which is the answer to a line.
 
 ghost use Rattle.link_state.specs.State.{HasState};
 ghost use Rattle.linkstate.specs.OneText.{one_text};

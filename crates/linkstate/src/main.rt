@@ -21,7 +21,7 @@ cannot be written; empty-ports for one with an empty list of ports.
 ";
 
 /// What `--version` writes.
-const VERSION: &str = "linkstate 0.2.0\n";
+const VERSION: &str = "linkstate 0.3.0\n";
 
 /// The exit status after a wrong argument.
 const USAGE: u8 = 2;

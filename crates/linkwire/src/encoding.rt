@@ -1,4 +1,4 @@
-//! The canonical text, which lines are answered with.
+//! The canonical text, which is the answer to a line.
 
 ghost use Rattle.link_msg.specs.Canonical.{HasText};
 ghost use Rattle.linkwire.specs.OneText.{one_text};

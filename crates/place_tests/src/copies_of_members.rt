@@ -218,7 +218,7 @@ fn statistics_and_vlans(rt: HostRuntime) {
     assert!(rt; are_copied_alike(alloc, &vlans(&rt, alloc, 1), &vlans(&rt, alloc, 2)));
 }
 
-/// What is told of a function, with this number.
+/// Members of a function, with this number.
 fn functions_of(rt: &impl Abort, alloc: Global, n: u8) -> [VfInfo; 14] {
     let id = u32::from(n);
     [

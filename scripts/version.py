@@ -1,0 +1,54 @@
+#!/usr/bin/env python3
+"""Compares each place that has a version, or the number of a form, with include/linkwire.h, which says what they are.
+
+    python3 scripts/version.py
+
+A place that has another one, or none, is printed as 'FILE: CONSTANT is FOUND, not WANTED', and the exit status is then
+1. What is made of the header, as linkwire.pc and Debian's packages, has no number of its own, and is not looked at.
+"""
+
+import fnmatch
+import re
+import sys
+
+from lines import read, tracked
+
+HEADER = "include/linkwire.h"
+# each of these files has one: which constant of the header it is, and its form, whose group is the number
+PLACES = [(files, constant, re.compile(form, re.M)) for files, constant, form in [
+    ("man/*.[1-9]", "VERSION", r'^\.TH .* "linkwire ([^"]*)"'),
+    ("CHANGELOG.md", "VERSION", r"\A[\s\S]*?^## \[([\d.]+)\] - "),
+    ("rust/Cargo.toml", "VERSION", r'^version = "(.*)"'),
+    ("rust/Cargo.lock", "VERSION", r'^name = "linkwire"\nversion = "(.*)"'),
+    ("crates/link_msg/src/canonical_text.rt", "CANONICAL_FORM", r"^pub const CANONICAL_FORM: u32 = (\d+);"),
+    ("crates/link_state/src/state_text.rt", "STATE_FORM", r"^pub const STATE_FORM: u32 = (\d+);"),
+    ("man/linkwire.1", "CANONICAL_FORM", r"canonical encoding is of form (\d+)"),
+    ("man/linkstate.1", "CANONICAL_FORM", r"canonical encoding of form (\d+)"),
+    ("man/linkstate.1", "STATE_FORM", r"state encoding is of form (\d+)"),
+    ("docs/CRATES.md", "CANONICAL_FORM", r"^\| the canonical form \| (\d+),"),
+    ("docs/STORE.md", "CANONICAL_FORM", r"\bforms=(\d+)-"),
+    ("docs/STORE.md", "STATE_FORM", r"\bforms=\d+-(\d+)"),
+]]
+# a program that says its version, anywhere but in what tells of older ones
+ANYWHERE = re.compile(r"\blink(?:wire|show|state|dump|diff)[ -]v?(\d+\.\d+\.\d+)")
+OLDER = {"CHANGELOG.md", "docs/DECISIONS.md"}
+
+
+def main():
+    wanted = dict(re.findall(r'^#define LINKWIRE_(\w+) "?([\d.]+)"?$', "\n".join(read(HEADER)), re.M))
+    texts = {file: "\n".join(read(file)) for file in tracked()}
+    places = [(file, constant, form.findall(texts.get(file, "")) or ["none"])
+              for files, constant, form in PLACES for file in fnmatch.filter(texts, files) or [files]]
+    places += [(file, "VERSION", ANYWHERE.findall(text)) for file, text in texts.items() if file not in OLDER]
+    wrong = {f"{file}: {constant} is {it}, not {wanted[constant]}"
+             for file, constant, found in places for it in found if it != wanted[constant]}
+    for it in sorted(wrong):
+        print(it)
+    if wrong:
+        return 1
+    print(f"version: {sum(len(found) for *_, found in places)} places are as {HEADER} has it: {wanted['VERSION']}")
+    return 0
+
+
+if __name__ == "__main__":
+    sys.exit(main())
