@@ -4,12 +4,16 @@
 //! what is written reads back; zeros after a payload and bytes after a long one change nothing; a text has as many
 //! bytes as the record; and what was read is written as the payload, cut or filled up with zeros.
 //!
+//! The functions `.._buffer` read a named buffer: each is of its record, takes as many bytes as the record has, and
+//! refuses fewer.
+//!
 //! The functions `default_..` make the default records, each field of which is zero.
 
 ghost use Rattle.std.specs.Prelude.{◌≡◌, ◌^◌, ◌<◌, length, pos, replicate};
 ghost use Rattle.std.specs.Int.{w32, w64};
 ghost use Rattle.std.specs.Int.RustNames.{FitsSigned};
 ghost use Rattle.nla_wire.specs.Fields.{numbers_from, signed_from};
+ghost use Rattle.nla_wire.specs.Buffers.{TakesFront};
 ghost use Rattle.nla_wire.specs.Records.{RecordLaws};
 ghost use Rattle.link_recs.specs.Laws.{WordLaws};
 ghost use Rattle.link_recs.specs.declared.map.Map.{Map};
@@ -36,13 +40,15 @@ ghost use Rattle.link_recs.specs.Inet6CacheInfoFields.{inet6_cache_info_size, in
 ghost use Rattle.link_recs.specs.Inet6CacheInfoFields.{inet6_cache_info_of, inet6_cache_info_bytes};
 ghost use Rattle.link_recs.specs.Filled.{NoneIsLonger, OneIsAsLong};
 
-use crate::inet::InetDevConf;
-use crate::inet6_devconf::Inet6DevConf;
-use crate::inet6_icmp::Icmp6Stats;
-use crate::inet6_stats::Inet6Stats;
-use crate::map::Map;
-use crate::stats::Stats;
-use crate::stats64::Stats64;
+use crate::inet::{InetDevConf, InetDevConfBuffer};
+use crate::inet6_cache::Inet6CacheInfoBuffer;
+use crate::inet6_devconf::{Inet6DevConf, Inet6DevConfBuffer};
+use crate::inet6_icmp::{Icmp6Stats, Icmp6StatsBuffer};
+use crate::inet6_stats::{Inet6Stats, Inet6StatsBuffer};
+use crate::map::{Map, MapBuffer};
+use crate::stats::{Stats, StatsBuffer};
+use crate::stats64::{Stats64, Stats64Buffer};
+use nla_wire::DecodeError;
 
 /// `Stats`.
 #[tactic(auto, using(crate::specs::StatsFields::stats_laws))]
@@ -114,6 +120,62 @@ pub fn map()
     ensures laws { RecordLaws map_size map_of map_bytes }
     ensures size { (v : Map) → length (map_bytes v) ≡ map_size }
 {}
+
+/// `StatsBuffer`.
+pub fn stats_buffer(bytes: &[u8]) -> Result<(StatsBuffer, &[u8]), DecodeError>
+    ensures { TakesFront stats_size stats_of bytes.now result }
+{
+    StatsBuffer::read_from_prefix(bytes)
+}
+
+/// `Stats64Buffer`.
+pub fn stats64_buffer(bytes: &[u8]) -> Result<(Stats64Buffer, &[u8]), DecodeError>
+    ensures { TakesFront stats64_size stats64_of bytes.now result }
+{
+    Stats64Buffer::read_from_prefix(bytes)
+}
+
+/// `InetDevConfBuffer`.
+pub fn inet_dev_conf_buffer(bytes: &[u8]) -> Result<(InetDevConfBuffer, &[u8]), DecodeError>
+    ensures { TakesFront inet_dev_conf_size inet_dev_conf_of bytes.now result }
+{
+    InetDevConfBuffer::read_from_prefix(bytes)
+}
+
+/// `Inet6DevConfBuffer`.
+pub fn inet6_dev_conf_buffer(bytes: &[u8]) -> Result<(Inet6DevConfBuffer, &[u8]), DecodeError>
+    ensures { TakesFront inet6_dev_conf_size inet6_dev_conf_of bytes.now result }
+{
+    Inet6DevConfBuffer::read_from_prefix(bytes)
+}
+
+/// `Inet6StatsBuffer`.
+pub fn inet6_stats_buffer(bytes: &[u8]) -> Result<(Inet6StatsBuffer, &[u8]), DecodeError>
+    ensures { TakesFront inet6_stats_size inet6_stats_of bytes.now result }
+{
+    Inet6StatsBuffer::read_from_prefix(bytes)
+}
+
+/// `Icmp6StatsBuffer`.
+pub fn icmp6_stats_buffer(bytes: &[u8]) -> Result<(Icmp6StatsBuffer, &[u8]), DecodeError>
+    ensures { TakesFront icmp6_stats_size icmp6_stats_of bytes.now result }
+{
+    Icmp6StatsBuffer::read_from_prefix(bytes)
+}
+
+/// `Inet6CacheInfoBuffer`.
+pub fn inet6_cache_info_buffer(bytes: &[u8]) -> Result<(Inet6CacheInfoBuffer, &[u8]), DecodeError>
+    ensures { TakesFront inet6_cache_info_size inet6_cache_info_of bytes.now result }
+{
+    Inet6CacheInfoBuffer::read_from_prefix(bytes)
+}
+
+/// `MapBuffer`.
+pub fn map_buffer(bytes: &[u8]) -> Result<(MapBuffer, &[u8]), DecodeError>
+    ensures { TakesFront map_size map_of bytes.now result }
+{
+    MapBuffer::read_from_prefix(bytes)
+}
 
 /// Each field of the default `Stats` is zero.
 #[tactic(auto, unfolding(crate::specs::StatsFields::stats_fields))]

@@ -4,10 +4,14 @@
 //! bytes after a payload that is long enough change nothing; what was read is written in as many
 //! bytes as the record has.
 //!
+//! The functions `.._buffer` read a named buffer: each is of its record, takes as many bytes as the record has, and
+//! refuses fewer.
+//!
 //! The functions `default_..` make the default records: numbers and the bytes of addresses are zeros, a setting is off,
 //! a state is `Auto` and a protocol `Ieee8021Q`.
 
 ghost use Rattle.std.specs.Prelude.{◌≡◌, false, replicate};
+ghost use Rattle.nla_wire.specs.Buffers.{TakesFront};
 ghost use Rattle.nla_wire.specs.Records.{RecordLaws};
 ghost use Rattle.link_vfrec.specs.Records.{vf_info_mac_size, vf_info_mac_of, vf_info_mac_bytes};
 ghost use Rattle.link_vfrec.specs.Records.{vf_info_broadcast_size, vf_info_broadcast_of, vf_info_broadcast_bytes};
@@ -22,18 +26,19 @@ ghost use Rattle.link_vfrec.specs.Records.{vf_info_link_state_of, vf_info_link_s
 ghost use Rattle.link_vfrec.specs.Records.{vf_info_guid_of, vf_info_guid_bytes, vf_vlan_info_size, vf_vlan_info_of};
 ghost use Rattle.link_vfrec.specs.Records.{vf_vlan_info_bytes};
 
-use crate::broadcast::VfInfoBroadcast;
-use crate::guid::VfInfoGuid;
-use crate::link_state::VfInfoLinkState;
-use crate::mac::VfInfoMac;
-use crate::rate::VfInfoRate;
-use crate::rss_query::VfInfoRssQueryEn;
-use crate::spoofchk::VfInfoSpoofCheck;
-use crate::trust::VfInfoTrust;
-use crate::tx_rate::VfInfoTxRate;
+use crate::broadcast::{VfInfoBroadcast, VfInfoBroadcastBuffer};
+use crate::guid::{VfInfoGuid, VfInfoGuidBuffer};
+use crate::link_state::{VfInfoLinkState, VfInfoLinkStateBuffer};
+use crate::mac::{VfInfoMac, VfInfoMacBuffer};
+use crate::rate::{VfInfoRate, VfInfoRateBuffer};
+use crate::rss_query::{VfInfoRssQueryEn, VfInfoRssQueryEnBuffer};
+use crate::spoofchk::{VfInfoSpoofCheck, VfInfoSpoofCheckBuffer};
+use crate::trust::{VfInfoTrust, VfInfoTrustBuffer};
+use crate::tx_rate::{VfInfoTxRate, VfInfoTxRateBuffer};
 use crate::vf_vlan::VfVlanInfo;
-use crate::vlan::VfInfoVlan;
+use crate::vlan::{VfInfoVlan, VfInfoVlanBuffer};
 use link_vals::{VfLinkState, VlanProtocol};
+use nla_wire::DecodeError;
 
 /// `VfInfoMac`.
 #[tactic(auto, using(crate::specs::Laws::vf_info_mac_laws))]
@@ -101,6 +106,82 @@ pub fn vf_info_guid()
 pub fn vf_vlan_info()
     ensures { RecordLaws vf_vlan_info_size vf_vlan_info_of vf_vlan_info_bytes }
 {}
+
+/// `VfInfoMacBuffer`.
+pub fn vf_info_mac_buffer(bytes: &[u8]) -> Result<(VfInfoMacBuffer, &[u8]), DecodeError>
+    ensures { TakesFront vf_info_mac_size vf_info_mac_of bytes.now result }
+{
+    VfInfoMacBuffer::read_from_prefix(bytes)
+}
+
+/// `VfInfoBroadcastBuffer`.
+pub fn vf_info_broadcast_buffer(bytes: &[u8]) -> Result<(VfInfoBroadcastBuffer, &[u8]), DecodeError>
+    ensures { TakesFront vf_info_broadcast_size vf_info_broadcast_of bytes.now result }
+{
+    VfInfoBroadcastBuffer::read_from_prefix(bytes)
+}
+
+/// `VfInfoVlanBuffer`.
+pub fn vf_info_vlan_buffer(bytes: &[u8]) -> Result<(VfInfoVlanBuffer, &[u8]), DecodeError>
+    ensures { TakesFront vf_info_vlan_size vf_info_vlan_of bytes.now result }
+{
+    VfInfoVlanBuffer::read_from_prefix(bytes)
+}
+
+/// `VfInfoTxRateBuffer`.
+pub fn vf_info_tx_rate_buffer(bytes: &[u8]) -> Result<(VfInfoTxRateBuffer, &[u8]), DecodeError>
+    ensures { TakesFront vf_info_tx_rate_size vf_info_tx_rate_of bytes.now result }
+{
+    VfInfoTxRateBuffer::read_from_prefix(bytes)
+}
+
+/// `VfInfoRateBuffer`.
+pub fn vf_info_rate_buffer(bytes: &[u8]) -> Result<(VfInfoRateBuffer, &[u8]), DecodeError>
+    ensures { TakesFront vf_info_rate_size vf_info_rate_of bytes.now result }
+{
+    VfInfoRateBuffer::read_from_prefix(bytes)
+}
+
+/// `VfInfoSpoofCheckBuffer`.
+pub fn vf_info_spoof_check_buffer(
+    bytes: &[u8],
+) -> Result<(VfInfoSpoofCheckBuffer, &[u8]), DecodeError>
+    ensures { TakesFront vf_info_spoof_check_size vf_info_spoof_check_of bytes.now result }
+{
+    VfInfoSpoofCheckBuffer::read_from_prefix(bytes)
+}
+
+/// `VfInfoRssQueryEnBuffer`.
+pub fn vf_info_rss_query_en_buffer(
+    bytes: &[u8],
+) -> Result<(VfInfoRssQueryEnBuffer, &[u8]), DecodeError>
+    ensures { TakesFront vf_info_rss_query_en_size vf_info_rss_query_en_of bytes.now result }
+{
+    VfInfoRssQueryEnBuffer::read_from_prefix(bytes)
+}
+
+/// `VfInfoTrustBuffer`.
+pub fn vf_info_trust_buffer(bytes: &[u8]) -> Result<(VfInfoTrustBuffer, &[u8]), DecodeError>
+    ensures { TakesFront vf_info_trust_size vf_info_trust_of bytes.now result }
+{
+    VfInfoTrustBuffer::read_from_prefix(bytes)
+}
+
+/// `VfInfoLinkStateBuffer`.
+pub fn vf_info_link_state_buffer(
+    bytes: &[u8],
+) -> Result<(VfInfoLinkStateBuffer, &[u8]), DecodeError>
+    ensures { TakesFront vf_info_link_state_size vf_info_link_state_of bytes.now result }
+{
+    VfInfoLinkStateBuffer::read_from_prefix(bytes)
+}
+
+/// `VfInfoGuidBuffer`.
+pub fn vf_info_guid_buffer(bytes: &[u8]) -> Result<(VfInfoGuidBuffer, &[u8]), DecodeError>
+    ensures { TakesFront vf_info_guid_size vf_info_guid_of bytes.now result }
+{
+    VfInfoGuidBuffer::read_from_prefix(bytes)
+}
 
 /// The default `VfInfoMac` is of function 0, with an address of zeros.
 #[tactic(auto, using(crate::proofs::Zeros::address_zeros))]

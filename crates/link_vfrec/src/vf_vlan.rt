@@ -9,7 +9,7 @@ ghost use Rattle.link_vfrec.specs.Laws.{vf_vlan_info_laws};
 
 use link_vals::VlanProtocol;
 use nla_wire::fields::{be16_at, put_be16, put_bytes, put_u32, u32_at};
-use nla_wire::{DecodeError, Exact, Record};
+use nla_wire::{DecodeError, Exact, Record, RecordBuffer};
 
 /// The number of bytes of a record.
 pub const VF_VLAN_INFO_SIZE: usize = 16;
@@ -86,14 +86,18 @@ impl VfVlanInfo {
     }
 
     /// Writes the record to a buffer of exactly `VF_VLAN_INFO_SIZE` bytes.
+    #[tactic(auto, unfolding(crate::specs::Records::vf_vlan_info_bytes))]
     pub fn emit(&self, buffer: &mut [u8])
         requires { length buffer.old ≡ vf_vlan_info_size }
         ensures { buffer.new ≡ vf_vlan_info_bytes self.now }
     {
-        self.write(buffer);
+        buffer.copy_from_slice(VfVlanInfoBuffer::from(self).as_bytes());
     }
 }
 
 impl Exact for VfVlanInfo {
     ghost decides = { Prim.search rules };
 }
+
+/// The bytes of a record, `VfVlanInfo`.
+type VfVlanInfoBuffer = RecordBuffer<VfVlanInfo, VF_VLAN_INFO_SIZE>;

@@ -10,6 +10,7 @@ pub mod Fields
 pub mod Canon
 pub mod FlatViews
 pub mod Records
+pub mod Buffers
 pub mod PlaceLaws
 pub mod Gives
 pub mod Items
