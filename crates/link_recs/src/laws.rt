@@ -4,8 +4,8 @@
 //! what is written reads back; zeros after a payload and bytes after a long one change nothing; a text has as many
 //! bytes as the record; and what was read is written as the payload, cut or filled up with zeros.
 //!
-//! The functions `.._buffer` read a named buffer: each is of its record, takes as many bytes as the record has, and
-//! refuses fewer.
+//! The functions `.._buffer` read a named buffer: it is of its record, takes as many bytes as the record has, and gives
+//! the rest of the slice.
 //!
 //! The functions `default_..` make the default records, each field of which is zero.
 
@@ -13,7 +13,7 @@ ghost use Rattle.std.specs.Prelude.{◌≡◌, ◌^◌, ◌<◌, length, pos, re
 ghost use Rattle.std.specs.Int.{w32, w64};
 ghost use Rattle.std.specs.Int.RustNames.{FitsSigned};
 ghost use Rattle.nla_wire.specs.Fields.{numbers_from, signed_from};
-ghost use Rattle.nla_wire.specs.Buffers.{TakesFront};
+ghost use Rattle.nla_wire.specs.Buffers.{TakesRecord};
 ghost use Rattle.nla_wire.specs.Records.{RecordLaws};
 ghost use Rattle.link_recs.specs.Laws.{WordLaws};
 ghost use Rattle.link_recs.specs.declared.map.Map.{Map};
@@ -123,56 +123,56 @@ pub fn map()
 
 /// `StatsBuffer`.
 pub fn stats_buffer(bytes: &[u8]) -> Result<(StatsBuffer, &[u8]), DecodeError>
-    ensures { TakesFront stats_size stats_of bytes.now result }
+    ensures { TakesRecord stats_size stats_of bytes.entry result }
 {
     StatsBuffer::read_from_prefix(bytes)
 }
 
 /// `Stats64Buffer`.
 pub fn stats64_buffer(bytes: &[u8]) -> Result<(Stats64Buffer, &[u8]), DecodeError>
-    ensures { TakesFront stats64_size stats64_of bytes.now result }
+    ensures { TakesRecord stats64_size stats64_of bytes.entry result }
 {
     Stats64Buffer::read_from_prefix(bytes)
 }
 
 /// `InetDevConfBuffer`.
 pub fn inet_dev_conf_buffer(bytes: &[u8]) -> Result<(InetDevConfBuffer, &[u8]), DecodeError>
-    ensures { TakesFront inet_dev_conf_size inet_dev_conf_of bytes.now result }
+    ensures { TakesRecord inet_dev_conf_size inet_dev_conf_of bytes.entry result }
 {
     InetDevConfBuffer::read_from_prefix(bytes)
 }
 
 /// `Inet6DevConfBuffer`.
 pub fn inet6_dev_conf_buffer(bytes: &[u8]) -> Result<(Inet6DevConfBuffer, &[u8]), DecodeError>
-    ensures { TakesFront inet6_dev_conf_size inet6_dev_conf_of bytes.now result }
+    ensures { TakesRecord inet6_dev_conf_size inet6_dev_conf_of bytes.entry result }
 {
     Inet6DevConfBuffer::read_from_prefix(bytes)
 }
 
 /// `Inet6StatsBuffer`.
 pub fn inet6_stats_buffer(bytes: &[u8]) -> Result<(Inet6StatsBuffer, &[u8]), DecodeError>
-    ensures { TakesFront inet6_stats_size inet6_stats_of bytes.now result }
+    ensures { TakesRecord inet6_stats_size inet6_stats_of bytes.entry result }
 {
     Inet6StatsBuffer::read_from_prefix(bytes)
 }
 
 /// `Icmp6StatsBuffer`.
 pub fn icmp6_stats_buffer(bytes: &[u8]) -> Result<(Icmp6StatsBuffer, &[u8]), DecodeError>
-    ensures { TakesFront icmp6_stats_size icmp6_stats_of bytes.now result }
+    ensures { TakesRecord icmp6_stats_size icmp6_stats_of bytes.entry result }
 {
     Icmp6StatsBuffer::read_from_prefix(bytes)
 }
 
 /// `Inet6CacheInfoBuffer`.
 pub fn inet6_cache_info_buffer(bytes: &[u8]) -> Result<(Inet6CacheInfoBuffer, &[u8]), DecodeError>
-    ensures { TakesFront inet6_cache_info_size inet6_cache_info_of bytes.now result }
+    ensures { TakesRecord inet6_cache_info_size inet6_cache_info_of bytes.entry result }
 {
     Inet6CacheInfoBuffer::read_from_prefix(bytes)
 }
 
 /// `MapBuffer`.
 pub fn map_buffer(bytes: &[u8]) -> Result<(MapBuffer, &[u8]), DecodeError>
-    ensures { TakesFront map_size map_of bytes.now result }
+    ensures { TakesRecord map_size map_of bytes.entry result }
 {
     MapBuffer::read_from_prefix(bytes)
 }

@@ -4,14 +4,14 @@
 //! bytes after a payload that is long enough change nothing; what was read is written in as many
 //! bytes as the record has.
 //!
-//! The functions `.._buffer` read a named buffer: each is of its record, takes as many bytes as the record has, and
-//! refuses fewer.
+//! The functions `.._buffer` read a named buffer: it is of its record, takes as many bytes as the record has, and gives
+//! the rest of the slice.
 //!
 //! The functions `default_..` make the default records: numbers and the bytes of addresses are zeros, a setting is off,
 //! a state is `Auto` and a protocol `Ieee8021Q`.
 
 ghost use Rattle.std.specs.Prelude.{◌≡◌, false, replicate};
-ghost use Rattle.nla_wire.specs.Buffers.{TakesFront};
+ghost use Rattle.nla_wire.specs.Buffers.{TakesRecord};
 ghost use Rattle.nla_wire.specs.Records.{RecordLaws};
 ghost use Rattle.link_vfrec.specs.Records.{vf_info_mac_size, vf_info_mac_of, vf_info_mac_bytes};
 ghost use Rattle.link_vfrec.specs.Records.{vf_info_broadcast_size, vf_info_broadcast_of, vf_info_broadcast_bytes};
@@ -109,35 +109,35 @@ pub fn vf_vlan_info()
 
 /// `VfInfoMacBuffer`.
 pub fn vf_info_mac_buffer(bytes: &[u8]) -> Result<(VfInfoMacBuffer, &[u8]), DecodeError>
-    ensures { TakesFront vf_info_mac_size vf_info_mac_of bytes.now result }
+    ensures { TakesRecord vf_info_mac_size vf_info_mac_of bytes.entry result }
 {
     VfInfoMacBuffer::read_from_prefix(bytes)
 }
 
 /// `VfInfoBroadcastBuffer`.
 pub fn vf_info_broadcast_buffer(bytes: &[u8]) -> Result<(VfInfoBroadcastBuffer, &[u8]), DecodeError>
-    ensures { TakesFront vf_info_broadcast_size vf_info_broadcast_of bytes.now result }
+    ensures { TakesRecord vf_info_broadcast_size vf_info_broadcast_of bytes.entry result }
 {
     VfInfoBroadcastBuffer::read_from_prefix(bytes)
 }
 
 /// `VfInfoVlanBuffer`.
 pub fn vf_info_vlan_buffer(bytes: &[u8]) -> Result<(VfInfoVlanBuffer, &[u8]), DecodeError>
-    ensures { TakesFront vf_info_vlan_size vf_info_vlan_of bytes.now result }
+    ensures { TakesRecord vf_info_vlan_size vf_info_vlan_of bytes.entry result }
 {
     VfInfoVlanBuffer::read_from_prefix(bytes)
 }
 
 /// `VfInfoTxRateBuffer`.
 pub fn vf_info_tx_rate_buffer(bytes: &[u8]) -> Result<(VfInfoTxRateBuffer, &[u8]), DecodeError>
-    ensures { TakesFront vf_info_tx_rate_size vf_info_tx_rate_of bytes.now result }
+    ensures { TakesRecord vf_info_tx_rate_size vf_info_tx_rate_of bytes.entry result }
 {
     VfInfoTxRateBuffer::read_from_prefix(bytes)
 }
 
 /// `VfInfoRateBuffer`.
 pub fn vf_info_rate_buffer(bytes: &[u8]) -> Result<(VfInfoRateBuffer, &[u8]), DecodeError>
-    ensures { TakesFront vf_info_rate_size vf_info_rate_of bytes.now result }
+    ensures { TakesRecord vf_info_rate_size vf_info_rate_of bytes.entry result }
 {
     VfInfoRateBuffer::read_from_prefix(bytes)
 }
@@ -146,7 +146,7 @@ pub fn vf_info_rate_buffer(bytes: &[u8]) -> Result<(VfInfoRateBuffer, &[u8]), De
 pub fn vf_info_spoof_check_buffer(
     bytes: &[u8],
 ) -> Result<(VfInfoSpoofCheckBuffer, &[u8]), DecodeError>
-    ensures { TakesFront vf_info_spoof_check_size vf_info_spoof_check_of bytes.now result }
+    ensures { TakesRecord vf_info_spoof_check_size vf_info_spoof_check_of bytes.entry result }
 {
     VfInfoSpoofCheckBuffer::read_from_prefix(bytes)
 }
@@ -155,14 +155,14 @@ pub fn vf_info_spoof_check_buffer(
 pub fn vf_info_rss_query_en_buffer(
     bytes: &[u8],
 ) -> Result<(VfInfoRssQueryEnBuffer, &[u8]), DecodeError>
-    ensures { TakesFront vf_info_rss_query_en_size vf_info_rss_query_en_of bytes.now result }
+    ensures { TakesRecord vf_info_rss_query_en_size vf_info_rss_query_en_of bytes.entry result }
 {
     VfInfoRssQueryEnBuffer::read_from_prefix(bytes)
 }
 
 /// `VfInfoTrustBuffer`.
 pub fn vf_info_trust_buffer(bytes: &[u8]) -> Result<(VfInfoTrustBuffer, &[u8]), DecodeError>
-    ensures { TakesFront vf_info_trust_size vf_info_trust_of bytes.now result }
+    ensures { TakesRecord vf_info_trust_size vf_info_trust_of bytes.entry result }
 {
     VfInfoTrustBuffer::read_from_prefix(bytes)
 }
@@ -171,14 +171,14 @@ pub fn vf_info_trust_buffer(bytes: &[u8]) -> Result<(VfInfoTrustBuffer, &[u8]), 
 pub fn vf_info_link_state_buffer(
     bytes: &[u8],
 ) -> Result<(VfInfoLinkStateBuffer, &[u8]), DecodeError>
-    ensures { TakesFront vf_info_link_state_size vf_info_link_state_of bytes.now result }
+    ensures { TakesRecord vf_info_link_state_size vf_info_link_state_of bytes.entry result }
 {
     VfInfoLinkStateBuffer::read_from_prefix(bytes)
 }
 
 /// `VfInfoGuidBuffer`.
 pub fn vf_info_guid_buffer(bytes: &[u8]) -> Result<(VfInfoGuidBuffer, &[u8]), DecodeError>
-    ensures { TakesFront vf_info_guid_size vf_info_guid_of bytes.now result }
+    ensures { TakesRecord vf_info_guid_size vf_info_guid_of bytes.entry result }
 {
     VfInfoGuidBuffer::read_from_prefix(bytes)
 }

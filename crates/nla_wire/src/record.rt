@@ -1,13 +1,13 @@
 //! Fixed records, which stand at the front of a payload: the calls that all have, and their bytes.
 
 ghost use Rattle.std.proofs.Common.{rules};
-ghost use Rattle.std.specs.Prelude.{◌≡◌, ℕ, ◌+◌, ◌<◌, ◌≤◌, List, length, take, drop, MatchResult, MatchOption};
+ghost use Rattle.std.specs.Prelude.{◌≡◌, ℕ, ◌+◌, ◌<◌, ◌≤◌, List, length, MatchOption};
 ghost use Rattle.nla_wire.specs.Sizes.{most_payload};
 ghost use Rattle.nla_wire.specs.Frames.{missing};
-ghost use Rattle.nla_wire.specs.Fields.{IsShort};
 ghost use Rattle.nla_wire.specs.Payloads.{sized, filled};
 ghost use Rattle.nla_wire.specs.Canon.{canon, Filled, Writes, Weighs, WeighsBySize};
 ghost use Rattle.nla_wire.specs.Records.{Parses, RecordLaws, WritesFilled, buffer_bytes};
+ghost use Rattle.nla_wire.specs.Buffers.{TakesFront};
 
 use crate::buffer::NLA_HEADER_SIZE;
 use crate::error::DecodeError;
@@ -202,26 +202,22 @@ impl<R, const SIZE: usize> RecordBuffer<R, SIZE> {
         &self.bytes
     }
 
-    /// The first `SIZE` bytes as they are, padding too, and the rest. Fewer bytes are refused with `TooShort`.
+    /// The first `SIZE` bytes as they are, padding too, and the rest, which is the part of `bytes` that begins after them.
+    /// Fewer bytes are refused with `TooShort`.
     pub fn read_from_prefix(bytes: &[u8]) -> Result<(RecordBuffer<R, SIZE>, &[u8]), DecodeError>
-        ensures { MatchResult result
-            (λ v. (SIZE ≤ length bytes.now)
-            × (buffer_bytes v.0 ≡ take SIZE bytes.now)
-            × (v.1.now ≡ drop SIZE bytes.now))
-            (IsShort bytes.now SIZE) }
+        ensures { TakesFront SIZE bytes.entry result }
     {
         if bytes.len() < SIZE {
             return Err(too_short(bytes.len(), SIZE));
         }
-        let (front, rest) = bytes.split_at(SIZE);
-        let mut bytes = [0; SIZE];
-        bytes.copy_from_slice(front);
+        let mut front = [0; SIZE];
+        front.copy_from_slice(&bytes[..SIZE]);
         Ok((
             RecordBuffer {
-                bytes,
+                bytes: front,
                 marker: PhantomData,
             },
-            rest,
+            &bytes[SIZE..],
         ))
     }
 }
