@@ -1,7 +1,9 @@
 //! What a user of Rust expects of values: traits of all types, the calls of flag sets, numbers and names, defaults.
 
 use linkwire::link::*;
-use linkwire::{AddressFamily, CanonError, Cause, DecodeError, DefaultNla, Nla, NlaBuffer, Parseable, RoomError};
+use linkwire::{
+    AddressFamily, CanonError, Cause, DecodeError, DefaultNla, Nla, NlaBuffer, NlasIterator, Parseable, RoomError,
+};
 use std::collections::{HashMap, HashSet};
 use std::convert::TryFrom;
 use std::error::Error;
@@ -125,4 +127,16 @@ fn own_types() {
             other => panic!("{other:?}"),
         }
     }
+}
+
+/// A payload is a part of the bytes that the frame was made over, and the rest after a record one of its argument.
+#[test]
+fn parts_lie_in_the_argument() {
+    let bytes = [6, 0, 1, 0, 7, 7, 0, 0, 4, 0, 2, 0];
+    let frame = NlaBuffer::new_checked(&bytes[..]).unwrap();
+    assert_eq!(frame.value().as_ptr_range(), bytes[4..6].as_ptr_range());
+    let frames: Vec<_> = NlasIterator::new(&bytes[..]).map(|it| it.unwrap().value().as_ptr_range()).collect();
+    assert_eq!(frames, [bytes[4..6].as_ptr_range(), bytes[12..].as_ptr_range()]);
+    let (_, rest) = VfInfoTrustBuffer::read_from_prefix(&bytes).unwrap();
+    assert_eq!(rest.as_ptr_range(), bytes[8..].as_ptr_range());
 }
