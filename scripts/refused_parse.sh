@@ -1,29 +1,167 @@
 #!/usr/bin/env bash
-# Refuses each allocation of `LinkMessage::parse` in turn on a message of four levels, by the program that the gate
-# left, then the one of `canonical`, until none is refused: out of memory each time, and at last the message and its
-# text. It wants ten of the first at least, and exactly one of the second.
+# Refuses each allocation of the calls that take memory in turn, by the program that the gate left: those that read,
+# copy, write and compare a message, and `list_from`. The messages have each kind of attribute that takes memory, at
+# each depth, and one has several. Where an allocation is refused its call alone says so, and all others return what
+# they return in the last run, where none is. What that has to be stands here, worked out by hand.
 set -euo pipefail
 top=$(cd "$(dirname "$0")/.." && pwd)
 program=$top/crates/parse_once/out/parse_once
 folder=$(mktemp -d)
 trap 'rm -rf "$folder"' EXIT
+${CC:-cc} -O2 -Wall -Wextra -Werror -shared -fPIC -o "$folder/refuse.so" "$top/tests/program/refuse_allocation.c"
+calls=(parse clone_in to_vec reads_back canonical same_message parse_before_fault list_from)
 
-digits() {
-    # a header and two alternative names
-    echo 00000100020000004310010000000000
-    echo 200034800e003500776c70307332306633000000090035007769666900000000
-    # a vlan of a virtual function
-    echo 200016001c00010018000c001400010001000000640000000000000088a81234
-    # a wireless event
-    echo 0d000b00ffff078c01020304aa000000
-    # a name and the kind of the link
-    echo 0a000300706663703000000010001200090001007066637000000000
+fails() {
+    echo "refused_parse: $1" >&2
+    exit 1
 }
 
-printf '%b' "$(digits | tr -d '\n' | sed 's/../\\x&/g')" >"$folder/message"
-${CC:-cc} -O2 -Wall -Wextra -Werror -shared -fPIC -o "$folder/refuse.so" "$top/tests/program/refuse_allocation.c"
-parsed="ok, 5 attributes, 124 bytes of text"
-written="canonical: 124 bytes"
+# A name, the family of the header and the attribute, how it is written, and what it means: a list as [..], bytes as
+# <..>, a text as "..", and an attribute that is kept as kept(KIND, BYTE).
+rows() {
+    cat <<'ROWS'
+IFLA_ADDRESS
+00 07000100c800c8 07000100c800c800
+Address(<200, 0, 200>)
+IFLA_BROADCAST
+00 07000200c800c8 07000200c800c800
+Broadcast(<200, 0, 200>)
+IFLA_IFNAME
+00 060003006c6f 070003006c6f0000
+IfName("lo")
+IFLA_QDISC
+00 060006006c6f 070006006c6f0000
+Qdisc("lo")
+IFLA_WIRELESS, a request to associate
+00 0f000b00ffff078c01020304c800c8 0f000b000b00078c00000000c800c800
+Wireless(AssociateRequest(<200, 0, 200>))
+IFLA_WIRELESS, its response
+00 0f000b00ffff088c01020304c800c8 0f000b000b00088c00000000c800c800
+Wireless(AssociateResponse(<200, 0, 200>))
+IFLA_WIRELESS, another event
+00 0c000b000800018b01020304 0c000b000800018b01020304
+Wireless(Other(<8, 0, 1, 139, 1, 2, 3, 4>))
+IFLA_PROTINFO of AF_INET
+02 05000c00c8 05000c00c8000000
+ProtoInfoUnknown(kept(12, 200))
+IFLA_PROTINFO of AF_BRIDGE
+07 09000c0005006380c8 0c000c8005006380c8000000
+ProtoInfoBridge([Other(kept(32867, 200))])
+IFLA_PROTINFO of AF_INET6
+0a 09000c0005006380c8 0c000c8005006380c8000000
+ProtoInfoInet6([Other(kept(32867, 200))])
+IFLA_LINKINFO with a kind
+00 0a001200060001006c6f 0c001200070001006c6f0000
+LinkInfo([Kind("lo")])
+IFLA_LINKINFO
+00 0900120005006380c8 0c00120005006380c8000000
+LinkInfo([Other(kept(32867, 200))])
+IFLA_IFALIAS
+00 060014006c6f 070014006c6f0000
+IfAlias("lo")
+IFLA_VF_STATS
+00 110016000d0001000900080005006380c8 14001600100001000c00080005006380c8000000
+VfInfoList([LinkVfInfo([Stats([Other(kept(32867, 200))])])])
+IFLA_VF_VLAN_LIST
+00 110016000d00010009000c0005006380c8 14001600100001000c000c0005006380c8000000
+VfInfoList([LinkVfInfo([VlanList([Other(kept(32867, 200))])])])
+IFLA_VF_INFO
+00 0d0016000900010005006380c8 100016000c00010005006380c8000000
+VfInfoList([LinkVfInfo([Other(kept(32867, 200))])])
+IFLA_VF_PORTS
+00 0d0018000900010005006380c8 100018000c00010005006380c8000000
+VfPorts([LinkVfPort([Other(kept(32867, 200))])])
+IFLA_PORT_SELF
+00 0900190005006380c8 0c00190005006380c8000000
+PortSelf(LinkVfPort([Other(kept(32867, 200))]))
+IFLA_AF_SPEC
+00 09001a0005006380c8 0c001a0005006380c8000000
+AfSpecUnspec([Other(kept(32867, 200))])
+IFLA_AF_SPEC with AF_INET
+00 0d001a000900020005006380c8 10001a000c00020005006380c8000000
+AfSpecUnspec([Inet([Other(kept(32867, 200))])])
+IFLA_AF_SPEC with AF_INET6
+00 0d001a0009000a0005006380c8 10001a000c000a0005006380c8000000
+AfSpecUnspec([Inet6([Other(kept(32867, 200))])])
+IFLA_AF_SPEC with AF_MCTP
+00 0d001a0009002d0005006380c8 10001a000c002d0005006380c8000000
+AfSpecUnspec([Mctp([Other(kept(32867, 200))])])
+IFLA_AF_SPEC of AF_BRIDGE
+07 09001a0005006380c8 0c001a0005006380c8000000
+AfSpecBridge([Other(kept(32867, 200))])
+IFLA_AF_SPEC of AF_INET
+02 07001a00c800c8 07001a00c800c800
+AfSpecUnknown(<200, 0, 200>)
+IFLA_EXT_MASK
+00 08001d0009010000 08001d0009010000
+ExtMask([Vf, SkipStats, Other(256)])
+IFLA_PHYS_PORT_NAME
+00 060026006c6f 070026006c6f0000
+PhysPortName("lo")
+IFLA_XDP
+00 09002b0005006380c8 0c002b0005006380c8000000
+Xdp([Other(kept(32867, 200))])
+IFLA_PROP_LIST with a name
+00 0a003400060035006c6f 0c003480070035006c6f0000
+PropList([AltIfName("lo")])
+IFLA_PROP_LIST
+00 0900340005006380c8 0c00348005006380c8000000
+PropList([Other(kept(32867, 200))])
+IFLA_PERM_ADDRESS
+00 07003600c800c8 07003600c800c800
+PermAddress(<200, 0, 200>)
+IFLA_PROTO_DOWN_REASON
+00 0900370005006380c8 0c00370005006380c8000000
+ProtoDownReason([Other(kept(32867, 200))])
+IFLA_PARENT_DEV_NAME
+00 060038006c6f 070038006c6f0000
+ParentDevName("lo")
+IFLA_PARENT_DEV_BUS_NAME
+00 060039006c6f 070039006c6f0000
+ParentDevBusName("lo")
+IFLA_DEVLINK_PORT with a bus
+00 0a003e00060001006c6f 0c003e80070001006c6f0000
+DevlinkPort([BusName("lo")])
+IFLA_DEVLINK_PORT with a device
+00 0a003e00060002006c6f 0c003e80070002006c6f0000
+DevlinkPort([DevName("lo")])
+IFLA_DEVLINK_PORT
+00 09003e0005006380c8 0c003e8005006380c8000000
+DevlinkPort([Other(kept(32867, 200))])
+IFLA_DPLL_PIN
+00 0900410005006380c8 0c00418005006380c8000000
+DpllPin([Other(kept(32867, 200))])
+a number that is not listed
+00 05006380c8 05006380c8000000
+Other(kept(32867, 200))
+ROWS
+}
+
+# Two alternative names, a vlan of a function, a wireless event, a name, and the kind of the link.
+several=200034800e003500776c70307332306633000000090035007769666900000000
+several+=200016001c00010018000c001400010001000000640000000000000088a81234
+several+=0d000b00ffff078c01020304aa0000000a00030070666370300000001000120009000100706663700000000
+several_written=${several/88a81234/88a80000}
+several_written=${several_written/ffff078c01020304/0900078c00000000}
+several_means='PropList([AltIfName("wlp0s20f3"), AltIfName("wifi")]), VfInfoList([LinkVfInfo([VlanList('
+several_means+='[Info(VfVlanInfo { vf_id: 1, vlan_id: 100, qos: 0, protocol: Ieee8021Ad })])])]), '
+several_means+='Wireless(AssociateRequest(<170>)), IfName("pfcp0"), LinkInfo([Kind("pfcp")])'
+
+# What a message of this family and of these attributes means, as it is printed.
+message() {
+    local -A families=([00]=Unspec [02]=Inet [07]=Bridge [0a]=Inet6)
+    printf 'LinkMessage { header: LinkHeader { interface_family: %s, index: 0, ' "${families[$1]}"
+    printf 'link_layer_type: Netrom, flags: LinkFlags(0), change_mask: LinkFlags(0) }, attributes: '
+    sed -e 's/\[/List { vec: [/g' -e 's/\]/] }/g' -e 's/</Bytes { vec: [/g' -e 's/>/] }/g' \
+        -e 's/"[^"]*"/Text { string: & }/g' \
+        -e 's/kept(\([0-9]*\), \([0-9]*\))/DefaultNla { kind: \1, value: [\2] }/g' <<<"[$2] }"
+}
+
+# How many lists, texts and bytes a message has, each of which takes memory.
+places_of() {
+    grep -oE 'vec: \[|string: "|value: \[' <<<"$1" | wc -l
+}
+
 # What the program prints where this allocation is refused.
 answers() {
     rm -f "$folder/refused"
@@ -31,23 +169,42 @@ answers() {
         echo "status $?"
 }
 
-call=1
-while [ "$(answers "$call")" = "out of memory"$'\n'"$written" ]; do
-    call=$((call + 1))
-done
-if ((call <= 10)); then
-    echo "refused_parse: only $((call - 1)) allocations" >&2
-    exit 1
-fi
-want="$parsed"$'\n'"canonical: out of memory"
-answer=$(answers "$call")
-if [ "$answer" != "$want" ]; then
-    echo "refused_parse: allocation $call: $answer, not $want" >&2
-    exit 1
-fi
-answer=$(answers $((call + 1)))
-if [ -e "$folder/refused" ] || [ "$answer" != "$parsed"$'\n'"$written" ]; then
-    echo "refused_parse: canonical allocates more than once: $answer" >&2
-    exit 1
-fi
-echo "refused_parse: $((call - 1)) allocations of parse and the one of canonical refused in turn: ok"
+# refuses NAME FAMILY ATTRIBUTES TEXT MEANING: each allocation on this message is refused, those of one call after those
+# of the other; then none is.
+refuses() {
+    local zeros=000000000000000000000000000000 means want refused call allocation=1 count places
+    means=$(message "$2" "$5")
+    places=$(places_of "$means")
+    want=$(printf '%s\n' "parse: $means" "clone_in: $means" "to_vec: $2$zeros$4" "reads_back: true" \
+        "canonical: $2$zeros$4" "same_message: true" "parse_before_fault: ($means, None)" \
+        "list_from: [Vf, SkipStats, Other(256)]")
+    printf '%b' "$(printf '%s' "$2$zeros$3" | sed 's/../\\x&/g')" >"$folder/message"
+    for call in "${calls[@]}"; do
+        refused=$(printf '%s\n' "$want" | sed "s/^$call: .*/$call: out of memory/")
+        count=0
+        while [ "$(answers "$allocation")" = "$refused" ]; do
+            allocation=$((allocation + 1))
+            count=$((count + 1))
+        done
+        case $call in
+        parse | clone_in | parse_before_fault) ((count >= places)) ;;
+        reads_back) ((count > places)) ;;
+        same_message) ((count >= 2 * places)) ;;
+        to_vec | canonical) ((count == 1)) ;;
+        *) ((count > 0)) ;;
+        esac || fails "$1: of $call $count allocations are refused, of $places places: $(answers "$allocation")"
+        total=$((total + count))
+    done
+    answer=$(answers "$allocation")
+    [ "$answer" = "$want" ] || fails "$1: $answer, not $want"
+    [ ! -e "$folder/refused" ] || fails "$1: allocation $allocation is refused, and no call says so"
+}
+
+total=0
+messages=1
+while read -r name && read -r family attribute text && read -r means; do
+    refuses "$name" "$family" "$attribute" "$text" "$means"
+    messages=$((messages + 1))
+done < <(rows)
+refuses 'several attributes' 00 "$several" "$several_written" "$several_means"
+echo "refused_parse: $total allocations on $messages messages refused in turn: ok"

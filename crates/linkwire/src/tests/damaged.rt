@@ -1,10 +1,9 @@
 //! Damaged lists in each of the twenty places of a message, as lines.
 
+use super::rows::Row;
+
 /// The place of the list, and a line.
 pub type Damaged = (&'static str, &'static str);
-
-/// The place of the list, a line, and its answer.
-pub type Listed = (&'static str, &'static str, &'static str);
 
 /// A member without a value, and one byte after it.
 pub const STRAY_ENDS: [Damaged; 20] = [
@@ -259,7 +258,7 @@ pub const SHORT_LENGTHS: [Damaged; 20] = [
 ];
 
 /// No member: some lists may be empty.
-pub const EMPTY_LISTS: [Listed; 20] = [
+pub const EMPTY_LISTS: [Row; 20] = [
     (
         "IFLA_PROP_LIST",
         "0000000000000000000000000000000004003400",
@@ -363,7 +362,7 @@ pub const EMPTY_LISTS: [Listed; 20] = [
 ];
 
 /// A member of a number that no place lists: it is kept, but for entries of functions and of ports, which are dropped.
-pub const FOREIGN_MEMBERS: [Listed; 20] = [
+pub const FOREIGN_MEMBERS: [Row; 20] = [
     (
         "IFLA_PROP_LIST",
         "00000000000000000000000000000000090034000500630001",

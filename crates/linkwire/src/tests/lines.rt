@@ -1,6 +1,6 @@
 //! Each line of the tables, and each damaged list, has its answer.
 
-use super::damaged::{self, Damaged, Listed};
+use super::damaged::{self, Damaged};
 use super::pieces::{NEVER, answers_to, run_in_pieces};
 use super::rows::{self, Row};
 use std::alloc::Global;
@@ -20,11 +20,11 @@ pub const ANSWERS: &[u8] =
 
 /// Each line of a table has its answer.
 fn answers(rt: &impl Abort, alloc: Global, rows: &[Row]) -> Result<(), Fail> {
-    for (line, answer) in rows {
+    for (label, line, answer) in rows {
         let text = format!(in alloc; "{line}\n")?;
         let want = format!(in alloc; "{answer}\n")?;
         let got = answers_to(alloc, text.as_bytes())?;
-        assert_eq!(rt; got.as_slice(), want.as_bytes(), "line {line}");
+        assert_eq!(rt; got.as_slice(), want.as_bytes(), "{label}: {line}");
     }
     Ok(())
 }
@@ -84,17 +84,6 @@ fn are_refused(rt: &impl Abort, alloc: Global, rows: &[Damaged]) -> Result<(), F
     Ok(())
 }
 
-/// Each line of a table of places has its answer.
-fn answers_in_places(rt: &impl Abort, alloc: Global, rows: &[Listed]) -> Result<(), Fail> {
-    for (label, line, answer) in rows {
-        let text = format!(in alloc; "{line}\n")?;
-        let want = format!(in alloc; "{answer}\n")?;
-        let got = answers_to(alloc, text.as_bytes())?;
-        assert_eq!(rt; got.as_slice(), want.as_bytes(), "{label}: {line}");
-    }
-    Ok(())
-}
-
 #[test]
 fn damaged_lists(rt: HostRuntime) -> Result<(), Fail> {
     are_refused(&rt, rt.alloc(), &damaged::STRAY_ENDS)?;
@@ -104,12 +93,12 @@ fn damaged_lists(rt: HostRuntime) -> Result<(), Fail> {
 
 #[test]
 fn lists_without_members(rt: HostRuntime) -> Result<(), Fail> {
-    answers_in_places(&rt, rt.alloc(), &damaged::EMPTY_LISTS)
+    answers(&rt, rt.alloc(), &damaged::EMPTY_LISTS)
 }
 
 #[test]
 fn lists_of_foreign_members(rt: HostRuntime) -> Result<(), Fail> {
-    answers_in_places(&rt, rt.alloc(), &damaged::FOREIGN_MEMBERS)
+    answers(&rt, rt.alloc(), &damaged::FOREIGN_MEMBERS)
 }
 
 #[test]
@@ -146,61 +135,136 @@ fn pieces_change_nothing(rt: HostRuntime) -> Result<(), Fail> {
     Ok(())
 }
 
-/// A line with one alias of so many letters, without its NUL.
-fn alias(alloc: Global, header: &str, count: usize) -> Result<Vec<u8>, Fail> {
+/// A header of zeros, these headers of attributes, and so many letters.
+fn letters(alloc: Global, headers: &str, count: usize) -> Result<Vec<u8>, Fail> {
     let mut text = Vec::new(alloc);
     text.extend_from_slice(b"00000000000000000000000000000000")?;
-    text.extend_from_slice(header.as_bytes())?;
+    text.extend_from_slice(headers.as_bytes())?;
     for _ in 0..count {
         text.extend_from_slice(b"61")?;
     }
     Ok(text)
 }
 
-/// An alias without its NUL grows by it: 65530 bytes fit, and are written in an attribute of 65536 bytes.
-#[test]
-fn a_text_that_grows_to_its_most_fits(rt: HostRuntime) -> Result<(), Fail> {
-    let line = alias(rt.alloc(), "feff1400", 65530)?;
-    let mut want = Vec::from_slice(rt.alloc(), b"ok ")?;
-    want.extend_from_slice(alias(rt.alloc(), "ffff1400", 65530)?.as_slice())?;
-    want.extend_from_slice(b"0000\n")?;
-    let got = answers_to(rt.alloc(), line.as_slice())?;
-    assert!(rt; got.as_slice() == want.as_slice(), "65530 bytes");
-    assert_eq!(rt; got.len(), 131108);
-    Ok(())
-}
+/// What the letters belong to, the headers in front of them, how many there are, the headers as they are written, and
+/// the NUL and padding after them.
+type Longest = (
+    &'static str,
+    &'static str,
+    usize,
+    &'static str,
+    &'static str,
+);
 
-/// With a letter more it does not, which is looked at after the faults.
+const LONGEST: [Longest; 5] = [
+    ("an alias", "feff1400", 65530, "ffff1400", "0000"),
+    ("a name", "feff0300", 65530, "ffff0300", "0000"),
+    (
+        "a number that is not listed",
+        "ffff2a00",
+        65531,
+        "ffff2a00",
+        "00",
+    ),
+    (
+        "an alternative name",
+        "fbff3400f7ff3500",
+        65523,
+        "fcff3480f8ff3500",
+        "00",
+    ),
+    (
+        "a request to associate",
+        "ffff0b00fbff078c00000000",
+        65523,
+        "ffff0b00fbff078c00000000",
+        "00",
+    ),
+];
+
+/// A text grows by its NUL: 65530 bytes of it fit, and are written in an attribute of 65536 bytes.
 #[test]
-fn a_text_that_grows_too_long_is_unfit(rt: HostRuntime) -> Result<(), Fail> {
-    for (after, want) in [
-        ("", "unfit\n"),
-        ("00", "unfit\n"),
-        ("0000", "refused\n"),
-        ("0004001200", "refused\n"),
-    ] {
-        let mut line = alias(rt.alloc(), "ffff1400", 65531)?;
-        line.extend_from_slice(after.as_bytes())?;
+fn the_longest_attributes_fit(rt: HostRuntime) -> Result<(), Fail> {
+    for (label, headers, count, written, after) in LONGEST {
+        let line = letters(rt.alloc(), headers, count)?;
+        let mut want = Vec::from_slice(rt.alloc(), b"ok ")?;
+        want.extend_from_slice(letters(rt.alloc(), written, count)?.as_slice())?;
+        want.extend_from_slice(after.as_bytes())?;
+        want.push(b'\n')?;
         let got = answers_to(rt.alloc(), line.as_slice())?;
-        assert_eq!(rt;
-            got.as_slice(),
-            want.as_bytes(),
-            "after 65531 letters: {after:?}"
-        );
+        assert!(rt; got.as_slice() == want.as_slice(), "{label}");
     }
     Ok(())
 }
 
-/// Settings of IPv4 with the flag of a request and its one attribute, as a request is emitted, are read as settings.
+/// With a letter more they do not, which is looked at after the faults.
 #[test]
-fn a_request_for_settings_is_read_as_settings(rt: HostRuntime) -> Result<(), Fail> {
-    let mut want = Vec::from_slice(rt.alloc(), b"ok 00000000000000000000000000000000")?;
-    want.extend_from_slice(b"94001a00900002008c0001000800010001000000")?;
-    want.extend_from_slice(&[b'0'; 256])?;
-    want.push(b'\n')?;
-    let line = b"0000000000000000000000000000000014001a00100002000c0001800800010001000000";
-    let got = answers_to(rt.alloc(), line)?;
-    assert_eq!(rt; got.as_slice(), want.as_slice());
+fn what_grows_too_long_is_unfit(rt: HostRuntime) -> Result<(), Fail> {
+    for (label, headers, count, after, want) in [
+        ("an alias", "ffff1400", 65531, "", "unfit\n"),
+        ("its padding", "ffff1400", 65531, "00", "unfit\n"),
+        ("a byte more", "ffff1400", 65531, "0000", "refused\n"),
+        (
+            "an empty IFLA_LINKINFO after it",
+            "ffff1400",
+            65531,
+            "0004001200",
+            "refused\n",
+        ),
+        ("a name", "ffff0300", 65531, "", "unfit\n"),
+        (
+            "an alternative name",
+            "fcff3400f8ff3500",
+            65524,
+            "",
+            "unfit\n",
+        ),
+    ] {
+        let mut line = letters(rt.alloc(), headers, count)?;
+        line.extend_from_slice(after.as_bytes())?;
+        let got = answers_to(rt.alloc(), line.as_slice())?;
+        assert_eq!(rt; got.as_slice(), want.as_bytes(), "{label}");
+    }
+    Ok(())
+}
+
+/// What is asked for, the request as it is emitted, its lists' lengths too, and the record that it is read as, which is
+/// filled up with zeros.
+type Request = (&'static str, &'static str, &'static str);
+
+const REQUESTS: [Request; 4] = [
+    ("nothing", "0c001a000800020004000180", ""),
+    (
+        "forwarding",
+        "14001a00100002000c0001800800010001000000",
+        "0800010001000000",
+    ),
+    (
+        "rp_filter",
+        "14001a00100002000c0001800800080002000000",
+        "0800080002000000",
+    ),
+    (
+        "the last setting",
+        "14001a00100002000c0001800800220005000000",
+        "0800220005000000",
+    ),
+];
+
+/// Settings of IPv4 with the flag of a request and its attributes, as a request is emitted, are read as settings.
+#[test]
+fn requests_for_settings_are_read_as_settings(rt: HostRuntime) -> Result<(), Fail> {
+    for (label, request, record) in REQUESTS {
+        let line = letters(rt.alloc(), request, 0)?;
+        let mut want = Vec::from_slice(rt.alloc(), b"ok 00000000000000000000000000000000")?;
+        want.extend_from_slice(b"94001a00900002008c000100")?;
+        want.extend_from_slice(record.as_bytes())?;
+        let zeros = vec![in rt.alloc(); b'0'; (2 * 136usize).saturating_sub(record.len())]?;
+        want.extend_from_slice(zeros.as_slice())?;
+        want.push(b'\n')?;
+        let got = answers_to(rt.alloc(), line.as_slice())?;
+        assert_eq!(rt; got.as_slice(), want.as_slice(), "{label}");
+    }
     Ok(())
 }
 
