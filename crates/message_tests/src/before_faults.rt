@@ -1,43 +1,64 @@
 //! What is read of a message in front of the first fault of its attributes.
 
-use crate::rows::with_header;
-use crate::testing::read_message;
+use crate::rows::{message_of, with_header};
+use expected::text_from;
 use link_msg::*;
 use std::alloc::Global;
 use std::process::Abort;
 
 /// An MTU, and a name.
-const READ: [u8; 16] = [8, 0, 4, 0, 0xdc, 5, 0, 0, 6, 0, 3, 0, 0x6c, 0x6f, 0, 0];
+const READ: [u8; 16] = [
+    0x08, 0x00, 0x04, 0x00, 0xdc, 0x05, 0x00, 0x00, 0x06, 0x00, 0x03, 0x00, 0x6c, 0x6f, 0x00, 0x00,
+];
 
 /// A name that is no UTF-8, and an MTU after it.
-const NOT_UTF8: [u8; 16] = [5, 0, 3, 0, 0xff, 0, 0, 0, 8, 0, 4, 0, 0xdc, 5, 0, 0];
+const NOT_UTF8: [u8; 16] = [
+    0x05, 0x00, 0x03, 0x00, 0xff, 0x00, 0x00, 0x00, 0x08, 0x00, 0x04, 0x00, 0xdc, 0x05, 0x00, 0x00,
+];
 
-/// What is read of these attributes is what these in front mean, and the fault is that of `check`.
-fn is_read_before(rt: &impl Abort, alloc: Global, attributes: &[u8], front: &[u8]) {
+/// What is read of these attributes is this message, and the fault after it is this one.
+fn is_read_before(
+    rt: &impl Abort,
+    alloc: Global,
+    attributes: &[u8],
+    wanted: &LinkMessage,
+    fault: Option<DecodeError>,
+) {
     let bytes = with_header(rt, alloc, 0, attributes);
-    let wanted = with_header(rt, alloc, 0, front);
-    let (message, fault) = LinkMessage::parse_before_fault(alloc, bytes.as_slice()).expect(
+    let (message, found) = LinkMessage::parse_before_fault(alloc, bytes.as_slice()).expect(
         rt,
         "it is read",
     );
-    assert!(rt; message == read_message(rt, alloc, wanted.as_slice()));
-    assert!(rt; fault == LinkMessage::check(bytes.as_slice()).err());
+    assert!(rt; message == *wanted);
+    assert!(rt; found == fault);
+}
+
+/// The message of `READ`.
+fn two_attributes(rt: &impl Abort, alloc: Global) -> LinkMessage {
+    let name = LinkAttribute::IfName(text_from(alloc, "lo").expect(rt, "memory"));
+    message_of(rt, alloc, [LinkAttribute::Mtu(1500), name])
 }
 
 #[test]
 fn of_messages(rt: HostRuntime) {
-    is_read_before(&rt, rt.alloc(), &[], &[]);
-    is_read_before(&rt, rt.alloc(), &READ, &READ);
+    let alloc = rt.alloc();
+    is_read_before(&rt, alloc, &[], &message_of(&rt, alloc, []), None);
+    is_read_before(&rt, alloc, &READ, &two_attributes(&rt, alloc), None);
 }
 
 #[test]
 fn of_attributes_that_are_refused(rt: HostRuntime) {
+    let alloc = rt.alloc();
     let mut bytes = [0; 32];
     bytes[..16].copy_from_slice(&READ);
     bytes[16..].copy_from_slice(&NOT_UTF8);
-    is_read_before(&rt, rt.alloc(), &NOT_UTF8, &[]);
-    is_read_before(&rt, rt.alloc(), &bytes, &READ);
-    is_read_before(&rt, rt.alloc(), &bytes[..18], &READ);
+    let none = message_of(&rt, alloc, []);
+    let two = two_attributes(&rt, alloc);
+    let fault = Some(DecodeError::new("IFLA_IFNAME", Cause::NotUtf8));
+    is_read_before(&rt, alloc, &NOT_UTF8, &none, fault);
+    is_read_before(&rt, alloc, &bytes, &two, fault);
+    let stray = Some(DecodeError::new("message", Cause::FrameShort { left: 2 }));
+    is_read_before(&rt, alloc, &bytes[..18], &two, stray);
 }
 
 #[test]

@@ -1,17 +1,9 @@
 //! The kernel's records: each field at its offset, payloads that are shorter or longer, and how they are printed.
 
-use crate::testing::{is_read, is_same, prints_as, too_few, wrote};
-use expected::equal;
-use link_recs::inet::{INET_DEV_CONF_COUNT, INET_DEV_CONF_SIZE};
-use link_recs::inet6_cache::INET6_CACHE_INFO_SIZE;
-use link_recs::inet6_devconf::INET6_DEV_CONF_SIZE;
-use link_recs::inet6_icmp::ICMP6_STATS_SIZE;
-use link_recs::inet6_stats::INET6_STATS_SIZE;
-use link_recs::map::MAP_SIZE;
-use link_recs::stats::STATS_SIZE;
-use link_recs::stats64::STATS64_SIZE;
+use crate::testing::{is_read, is_same, prints_as, too_few};
+use expected::{equal, is_stored, zeros_after};
 use link_recs::*;
-use nla_wire::{NLA_HEADER_SIZE, PlainRecord, Record};
+use nla_wire::{PlainRecord, Record};
 
 fn put(buffer: &mut [u8], bytes: &[(usize, u8)]) {
     for (place, byte) in bytes {
@@ -24,7 +16,7 @@ fn put(buffer: &mut [u8], bytes: &[(usize, u8)]) {
 /// Offsets of the kernel's `struct rtnl_link_stats`, linux/if_link.h.
 #[test]
 fn statistics_stand_at_their_offsets(rt: HostRuntime) {
-    let mut bytes = [0; STATS_SIZE];
+    let mut bytes = [0; 96];
     put(&mut bytes, &[(0, 1), (32, 2), (60, 3), (92, 4)]);
     let stats = Stats {
         rx_packets: 1,
@@ -40,7 +32,7 @@ fn statistics_stand_at_their_offsets(rt: HostRuntime) {
 /// Offsets of the kernel's `struct rtnl_link_stats64`, linux/if_link.h.
 #[test]
 fn long_statistics_stand_at_their_offsets(rt: HostRuntime) {
-    let mut bytes = [0; STATS64_SIZE];
+    let mut bytes = [0; 200];
     put(
         &mut bytes,
         &[(0, 1), (64, 2), (120, 3), (192, 4), (199, 255)],
@@ -71,7 +63,7 @@ fn settings_of_ipv4() -> InetDevConf {
 /// Numbers of the constants IPV4_DEVCONF_* of linux/ip.h, from 1, times four; after them this project's own field.
 #[test]
 fn settings_of_ipv4_stand_at_their_offsets(rt: HostRuntime) {
-    let mut bytes = [0; INET_DEV_CONF_SIZE];
+    let mut bytes = [0; 136];
     put(&mut bytes, &[(0, 1), (44, 2), (100, 3), (128, 4), (132, 5)]);
     let conf = settings_of_ipv4();
     is_same(&rt, &InetDevConf::read_padded(&bytes), &conf);
@@ -87,7 +79,7 @@ fn settings_of_ipv4_have_numbers(rt: HostRuntime) {
         conf.setting(12),
         conf.setting(26),
         conf.setting(33),
-        conf.setting(INET_DEV_CONF_COUNT),
+        conf.setting(34),
     ];
     is_same(&rt, &found, &[1, 0, 2, 3, 4, 5]);
 }
@@ -95,7 +87,7 @@ fn settings_of_ipv4_have_numbers(rt: HostRuntime) {
 /// Numbers of the constants DEVCONF_* of linux/ipv6.h, from 0, times four.
 #[test]
 fn settings_of_ipv6_stand_at_their_offsets(rt: HostRuntime) {
-    let mut bytes = [0; INET6_DEV_CONF_SIZE];
+    let mut bytes = [0; 240];
     put(
         &mut bytes,
         &[(0, 1), (104, 2), (176, 3), (232, 4), (236, 5)],
@@ -117,7 +109,7 @@ fn settings_of_ipv6_stand_at_their_offsets(rt: HostRuntime) {
 /// Numbers of the constants IPSTATS_MIB_* of linux/snmp.h, times eight; after them this project's own field.
 #[test]
 fn counters_of_ipv6_stand_at_their_offsets(rt: HostRuntime) {
-    let mut bytes = [0; INET6_STATS_SIZE];
+    let mut bytes = [0; 312];
     put(
         &mut bytes,
         &[(0, 1), (56, 2), (160, 3), (288, 4), (296, 5), (304, 6)],
@@ -138,7 +130,7 @@ fn counters_of_ipv6_stand_at_their_offsets(rt: HostRuntime) {
 /// Numbers of the constants ICMP6_MIB_* of linux/snmp.h, times eight.
 #[test]
 fn counters_of_icmpv6_stand_at_their_offsets(rt: HostRuntime) {
-    let mut bytes = [0; ICMP6_STATS_SIZE];
+    let mut bytes = [0; 56];
     put(&mut bytes, &[(0, 1), (16, 2), (32, 3), (48, 4), (55, 128)]);
     let stats = Icmp6Stats {
         num: 1,
@@ -154,7 +146,7 @@ fn counters_of_icmpv6_stand_at_their_offsets(rt: HostRuntime) {
 /// Offsets of `struct rtnl_link_ifmap`, linux/if_link.h.
 #[test]
 fn maps_stand_at_their_offsets(rt: HostRuntime) {
-    let mut bytes = [0; MAP_SIZE];
+    let mut bytes = [0; 32];
     put(&mut bytes, &[(0, 1), (16, 2), (25, 3), (26, 5), (27, 4)]);
     let map = Map {
         memory_start: 1,
@@ -190,7 +182,7 @@ fn short_statistics_are_filled_up(rt: HostRuntime) {
     };
     is_read(&rt, Stats::parse(&[1, 2, 3]), &stats);
     is_read(&rt, Stats::parse(&[]), &Stats::default());
-    is_read(&rt, Stats::parse(&[0; STATS_SIZE - 1]), &Stats::default());
+    is_read(&rt, Stats::parse(&[0; 95]), &Stats::default());
     let stats = Stats64 {
         rx_packets: 5,
         ..Stats64::default()
@@ -216,7 +208,7 @@ fn records_of_the_kernel_are_filled_up(rt: HostRuntime) {
         arp_evict_nocarrier: -1,
         ..InetDevConf::default()
     };
-    let mut bytes = [0; INET_DEV_CONF_SIZE - 4];
+    let mut bytes = [0; 132];
     put(
         &mut bytes,
         &[(128, 255), (129, 255), (130, 255), (131, 255)],
@@ -226,93 +218,67 @@ fn records_of_the_kernel_are_filled_up(rt: HostRuntime) {
         out_pkts: 7,
         ..Inet6Stats::default()
     };
-    let mut bytes = [0; INET6_STATS_SIZE - 8];
+    let mut bytes = [0; 304];
     put(&mut bytes, &[(296, 7)]);
     is_same(&rt, &Inet6Stats::read_padded(&bytes), &stats);
 }
 
 #[test]
 fn payloads_are_cut_or_filled_up(rt: HostRuntime) {
-    let mut out = [255; NLA_HEADER_SIZE + INET6_STATS_SIZE + 1];
-    assert!(rt; Stats::measure_filled(&[1]) == Some(STATS_SIZE));
-    wrote(
-        &rt,
-        Stats::write_filled(7, &[1], &mut out),
-        NLA_HEADER_SIZE + STATS_SIZE,
-        &out,
-        &[100, 0, 7, 0, 1, 0],
-    );
-    assert!(rt; Stats64::measure_filled(&[2]) == Some(STATS64_SIZE));
-    wrote(
-        &rt,
-        Stats64::write_filled(23, &[2], &mut out),
-        NLA_HEADER_SIZE + STATS64_SIZE,
-        &out,
-        &[204, 0, 23, 0, 2, 0],
-    );
-    assert!(rt; InetDevConf::measure_filled(&[3]) == Some(INET_DEV_CONF_SIZE));
-    wrote(
-        &rt,
-        InetDevConf::write_filled(1, &[3], &mut out),
-        NLA_HEADER_SIZE + INET_DEV_CONF_SIZE,
-        &out,
-        &[140, 0, 1, 0, 3, 0],
-    );
+    let mut out = [255; 101];
+    let text: [u8; 100] = zeros_after(&[0x64, 0x00, 0x07, 0x00, 0x01]);
+    assert!(rt; Stats::measure_filled(&[1]) == Some(96));
+    let len = Stats::write_filled(7, &[1], &mut out);
+    assert!(rt; is_stored(len, &out, &text));
+    let mut out = [255; 205];
+    let text: [u8; 204] = zeros_after(&[0xcc, 0x00, 0x17, 0x00, 0x02]);
+    assert!(rt; Stats64::measure_filled(&[2]) == Some(200));
+    let len = Stats64::write_filled(23, &[2], &mut out);
+    assert!(rt; is_stored(len, &out, &text));
+    let mut out = [255; 141];
+    let text: [u8; 140] = zeros_after(&[0x8c, 0x00, 0x01, 0x00, 0x03]);
+    assert!(rt; InetDevConf::measure_filled(&[3]) == Some(136));
+    let len = InetDevConf::write_filled(1, &[3], &mut out);
+    assert!(rt; is_stored(len, &out, &text));
 }
 
 #[test]
 fn payloads_of_ipv6_are_cut_or_filled_up(rt: HostRuntime) {
-    let mut out = [255; NLA_HEADER_SIZE + INET6_STATS_SIZE + 1];
-    assert!(rt; Inet6DevConf::measure_filled(&[4]) == Some(INET6_DEV_CONF_SIZE));
-    wrote(
-        &rt,
-        Inet6DevConf::write_filled(2, &[4], &mut out),
-        NLA_HEADER_SIZE + INET6_DEV_CONF_SIZE,
-        &out,
-        &[244, 0, 2, 0, 4, 0],
-    );
-    assert!(rt; Inet6Stats::measure_filled(&[5]) == Some(INET6_STATS_SIZE));
-    wrote(
-        &rt,
-        Inet6Stats::write_filled(3, &[5], &mut out),
-        NLA_HEADER_SIZE + INET6_STATS_SIZE,
-        &out,
-        &[60, 1, 3, 0, 5, 0],
-    );
-    assert!(rt; Icmp6Stats::measure_filled(&[6]) == Some(ICMP6_STATS_SIZE));
-    wrote(
-        &rt,
-        Icmp6Stats::write_filled(6, &[6], &mut out),
-        NLA_HEADER_SIZE + ICMP6_STATS_SIZE,
-        &out,
-        &[60, 0, 6, 0, 6, 0],
-    );
+    let mut out = [255; 245];
+    let text: [u8; 244] = zeros_after(&[0xf4, 0x00, 0x02, 0x00, 0x04]);
+    assert!(rt; Inet6DevConf::measure_filled(&[4]) == Some(240));
+    let len = Inet6DevConf::write_filled(2, &[4], &mut out);
+    assert!(rt; is_stored(len, &out, &text));
+    let mut out = [255; 317];
+    let text: [u8; 316] = zeros_after(&[0x3c, 0x01, 0x03, 0x00, 0x05]);
+    assert!(rt; Inet6Stats::measure_filled(&[5]) == Some(312));
+    let len = Inet6Stats::write_filled(3, &[5], &mut out);
+    assert!(rt; is_stored(len, &out, &text));
+    let mut out = [255; 61];
+    let text: [u8; 60] = zeros_after(&[0x3c, 0x00, 0x06, 0x00, 0x06]);
+    assert!(rt; Icmp6Stats::measure_filled(&[6]) == Some(56));
+    let len = Icmp6Stats::write_filled(6, &[6], &mut out);
+    assert!(rt; is_stored(len, &out, &text));
 }
 
 #[test]
 #[tactic(auto, unfolding(nla_wire::specs::Payloads::read_sized))]
 fn payloads_are_written_as_records(rt: HostRuntime) {
-    let mut out = [255; NLA_HEADER_SIZE + MAP_SIZE + 1];
-    let info = [7; INET6_CACHE_INFO_SIZE + 1];
-    assert!(rt; Inet6CacheInfo::measure_sized(&info) == Some(INET6_CACHE_INFO_SIZE));
-    wrote(
-        &rt,
-        Inet6CacheInfo::write_sized(5, &info, &mut out),
-        NLA_HEADER_SIZE + INET6_CACHE_INFO_SIZE,
-        &out,
-        &[20, 0, 5, 0, 7],
-    );
-    assert!(rt; out[19] == 7 && out[20] == 255);
-    let map = [8; MAP_SIZE];
-    assert!(rt; Map::measure_sized(&map) == Some(MAP_SIZE));
-    wrote(
-        &rt,
-        Map::write_sized(14, &map, &mut out),
-        NLA_HEADER_SIZE + MAP_SIZE,
-        &out,
-        &[36, 0, 14, 0, 8],
-    );
-    assert!(rt; out[31] == 8 && out[32] == 0 && out[35] == 0 && out[36] == 255);
+    let mut out = [255; 21];
+    let info = [7; 17];
+    let mut text = [7; 20];
+    text[..4].copy_from_slice(&[0x14, 0x00, 0x05, 0x00]);
+    assert!(rt; Inet6CacheInfo::measure_sized(&info) == Some(16));
+    let len = Inet6CacheInfo::write_sized(5, &info, &mut out);
+    assert!(rt; is_stored(len, &out, &text));
+    let mut out = [255; 37];
+    let map = [8; 32];
+    let mut text = [8; 36];
+    text[..4].copy_from_slice(&[0x24, 0x00, 0x0e, 0x00]);
+    text[32..].copy_from_slice(&[0; 4]);
+    assert!(rt; Map::measure_sized(&map) == Some(32));
+    let len = Map::write_sized(14, &map, &mut out);
+    assert!(rt; is_stored(len, &out, &text));
 }
 
 #[test]
@@ -339,17 +305,17 @@ fn long_payloads_mean_their_front(rt: HostRuntime) {
         dma: 255,
         port: 255,
     };
-    is_read(&rt, Map::parse(&[255; MAP_SIZE + 1]), &map);
-    let mut text = [255; MAP_SIZE];
+    is_read(&rt, Map::parse(&[255; 33]), &map);
+    let mut text = [255; 32];
     put(&mut text, &[(28, 0), (29, 0), (30, 0), (31, 0)]);
     assert!(rt; equal(MapBuffer::from(&map).as_bytes(), &text));
-    is_read(&rt, Stats::parse(&[0; STATS_SIZE + 1]), &Stats::default());
+    is_read(&rt, Stats::parse(&[0; 97]), &Stats::default());
 }
 
 #[test]
 fn buffers_keep_padding(rt: HostRuntime) {
-    let (buffer, rest) = MapBuffer::read_from_prefix(&[255; MAP_SIZE + 1]).expect(&rt, "memory");
-    assert!(rt; equal(buffer.as_bytes(), &[255; MAP_SIZE]));
+    let (buffer, rest) = MapBuffer::read_from_prefix(&[255; 33]).expect(&rt, "memory");
+    assert!(rt; equal(buffer.as_bytes(), &[255; 32]));
     assert!(rt; equal(rest, &[255]));
 }
 
@@ -359,10 +325,10 @@ fn texts_stand_at_the_end_of_a_longer_buffer(rt: HostRuntime) {
         num: 7,
         ..Icmp6Stats::default()
     };
-    let mut buffer = [9; ICMP6_STATS_SIZE + 2];
-    assert!(rt; stats.buffer_len() == ICMP6_STATS_SIZE);
+    let mut buffer = [9; 58];
+    assert!(rt; stats.buffer_len() == 56);
     assert!(rt; stats.fill(&mut buffer) == 2);
-    let mut text = [0; ICMP6_STATS_SIZE + 2];
+    let mut text = [0; 58];
     put(&mut text, &[(0, 9), (1, 9), (2, 7)]);
     assert!(rt; equal(&buffer, &text));
 }
@@ -373,9 +339,9 @@ fn maps_stand_at_the_end_of_a_longer_buffer(rt: HostRuntime) {
         port: 3,
         ..Map::default()
     };
-    let mut buffer = [9; MAP_SIZE + 1];
+    let mut buffer = [9; 33];
     assert!(rt; map.fill(&mut buffer) == 1);
-    let mut text = [0; MAP_SIZE + 1];
+    let mut text = [0; 33];
     put(&mut text, &[(0, 9), (28, 3)]);
     assert!(rt; equal(&buffer, &text));
 }

@@ -5,7 +5,9 @@
 #[cfg(test)]
 mod counters_order;
 #[cfg(test)]
-mod enums_and_flags;
+mod enums;
+#[cfg(test)]
+mod flag_sets;
 #[cfg(test)]
 mod function_records;
 #[cfg(test)]

@@ -44,32 +44,26 @@ pub(crate) fn is_read<T: PartialEq + Debug + Drop>(
 }
 
 /// A number means this value, which is written as the other.
-pub(crate) fn means<N: Copy + PartialEq + From<T>, T: Copy + PartialEq + From<N>>(
+pub(crate) fn means<N: Copy + Display + PartialEq + From<T>, T: Copy + PartialEq + From<N>>(
     rt: &impl Abort,
     number: N,
     value: T,
     written: N,
 ) {
-    assert!(rt; T::from(number) == value);
-    assert!(rt; N::from(value) == written);
+    assert!(rt; T::from(number) == value, "read from {number}");
+    assert!(rt; N::from(value) == written, "written from that of {number}");
 }
 
 /// A value is printed as this text.
 pub(crate) fn prints<T: Display>(rt: &impl Abort, alloc: Global, value: &T, wanted: &str) {
     let text = format!(in alloc; "{value}").expect(rt, "memory");
-    assert!(rt; text.as_str() == wanted);
+    assert!(rt; text.as_str() == wanted, "{value}, not {wanted}");
 }
 
 /// A value is printed for a programmer as this text.
 pub(crate) fn prints_as<T: Debug>(rt: &impl Abort, alloc: Global, value: &T, wanted: &str) {
     let text = format!(in alloc; "{value:?}").expect(rt, "memory");
-    assert!(rt; text.as_str() == wanted);
-}
-
-/// So many bytes were written, which begin with these.
-pub(crate) fn wrote(rt: &impl Abort, len: usize, wanted: usize, out: &[u8], front: &[u8]) {
-    assert_eq!(rt; len, wanted);
-    assert!(rt; out.starts_with(front));
+    assert!(rt; text.as_str() == wanted, "{value:?}, not {wanted}");
 }
 
 /// A payload of so many bytes was measured, where only one of the wanted length has a text.

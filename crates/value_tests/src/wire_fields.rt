@@ -28,7 +28,11 @@ fn reads_long_fields(rt: HostRuntime) {
 
 #[test]
 fn fills_up_with_zeros(rt: HostRuntime) {
-    assert!(rt; zero_filled_32(&[7, 8]).starts_with(&[7, 8, 0, 0]));
+    let mut filled = [0; 32];
+    filled[..2].copy_from_slice(&[7, 8]);
+    assert!(rt; equal(&zero_filled_32(&[7, 8]), &filled));
+    assert!(rt; equal(&zero_filled_32(&[]), &[0; 32]));
+    assert!(rt; equal(&zero_filled_32(&[9; 40]), &[9; 32]));
     assert!(rt; too_short(15, 16).number() == 1);
 }
 

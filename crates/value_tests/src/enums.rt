@@ -1,8 +1,7 @@
-//! Enums by their numbers and texts, sets of flags and their operators, extent masks and physical ids.
+//! Enums by their numbers and texts, extent masks and physical ids.
 
 use crate::testing::{is_same, means, prints, refuses};
-use bitflags::Flags;
-use expected::equal;
+use expected::{equal, zeros_after};
 use link_vals::*;
 use nla_wire::Cause;
 use nla_wire::exact::same;
@@ -272,8 +271,8 @@ fn is_numbered<'a, T: Copy + PartialEq + From<u8>>(rt: &impl Abort, number: u8, 
 where
     u8: From<&'a T>,
 {
-    assert!(rt; T::from(number) == *value);
-    assert!(rt; u8::from(value) == number);
+    assert!(rt; T::from(number) == *value, "read from {number}");
+    assert!(rt; u8::from(value) == number, "written from that of {number}");
 }
 
 #[test]
@@ -340,7 +339,7 @@ fn extent_lists(rt: HostRuntime) {
         (0x81, &[Vf, Mst]),
     ] {
         let list = LinkExtentMask::list_from(rt.alloc(), mask).expect(&rt, "memory");
-        assert!(rt; list.as_slice() == wanted);
+        assert!(rt; list.as_slice() == wanted, "{mask:#x}");
     }
 }
 
@@ -352,268 +351,6 @@ fn extent_sums(rt: HostRuntime) {
     let twice = [Vf, Vf];
     assert!(rt; LinkExtentMask::sum_fits(&twice));
     assert!(rt; LinkExtentMask::sum(&twice) == 2);
-}
-
-#[test]
-fn link_flag_texts(rt: HostRuntime) {
-    for (bits, text) in [
-        (0, ""),
-        (0x11043, "Up | Broadcast | Running | Multicast | LowerUp"),
-        (0x8000_0001, "Up | 0x80000000"),
-        (0x80000, "0x80000"),
-        (
-            0x7ffff,
-            "Up | Broadcast | Debug | Loopback | Pointopoint | Notrailers | Running | Noarp | Promisc | Allmulti | \
-                Controller | Port | Multicast | Portsel | Automedia | Dynamic | LowerUp | Dormant | Echo",
-        ),
-        (
-            0xffff_ffff,
-            "Up | Broadcast | Debug | Loopback | Pointopoint | Notrailers | Running | Noarp | Promisc | Allmulti | \
-                Controller | Port | Multicast | Portsel | Automedia | Dynamic | LowerUp | Dormant | Echo | 0xfff80000",
-        ),
-    ] {
-        let flags = LinkFlags::from_bits_retain(bits);
-        assert!(rt; flags.bits() == bits);
-        prints(&rt, rt.alloc(), &flags, text);
-    }
-}
-
-/// `IFF_UP` to `IFF_ECHO` of linux/if.h, where `Controller` is `IFF_MASTER` and `Port` is `IFF_SLAVE`.
-const LINK_FLAGS: &[(LinkFlags, &str, u32)] = &[
-    (LinkFlags::Up, "Up", 1),
-    (LinkFlags::Broadcast, "Broadcast", 2),
-    (LinkFlags::Debug, "Debug", 4),
-    (LinkFlags::Loopback, "Loopback", 8),
-    (LinkFlags::Pointopoint, "Pointopoint", 0x10),
-    (LinkFlags::Notrailers, "Notrailers", 0x20),
-    (LinkFlags::Running, "Running", 0x40),
-    (LinkFlags::Noarp, "Noarp", 0x80),
-    (LinkFlags::Promisc, "Promisc", 0x100),
-    (LinkFlags::Allmulti, "Allmulti", 0x200),
-    (LinkFlags::Controller, "Controller", 0x400),
-    (LinkFlags::Port, "Port", 0x800),
-    (LinkFlags::Multicast, "Multicast", 0x1000),
-    (LinkFlags::Portsel, "Portsel", 0x2000),
-    (LinkFlags::Automedia, "Automedia", 0x4000),
-    (LinkFlags::Dynamic, "Dynamic", 0x8000),
-    (LinkFlags::LowerUp, "LowerUp", 0x1_0000),
-    (LinkFlags::Dormant, "Dormant", 0x2_0000),
-    (LinkFlags::Echo, "Echo", 0x4_0000),
-];
-
-#[test]
-fn link_flag_numbers(rt: HostRuntime) {
-    for (flag, name, bits) in LINK_FLAGS {
-        assert!(rt; flag.bits() == *bits);
-        is_same(&rt, &LinkFlags::from_bits_retain(*bits), flag);
-        is_same(&rt, &LinkFlags::from_name(name), &Some(*flag));
-        prints(&rt, rt.alloc(), flag, name);
-    }
-}
-
-#[test]
-fn names_of_no_link_flags(rt: HostRuntime) {
-    for name in [
-        "", "up", "UP", "uP", "Up ", "echo", "ECHO", "lowerUp", "Lowerup", "LOWERUP", "IFF_UP",
-    ] {
-        is_same(&rt, &LinkFlags::from_name(name), &None);
-    }
-}
-
-#[test]
-fn link_flag_sets(rt: HostRuntime) {
-    assert!(rt; (LinkFlags::Up | LinkFlags::Running).bits() == 65);
-    is_same(&rt, &LinkFlags::default(), &LinkFlags::empty());
-    is_same(&rt, &<LinkFlags as Flags>::all(), &LinkFlags::all());
-    let echo = LinkFlags::from_bits_truncate(0x40000);
-    assert!(rt; same(&LinkFlags::Echo, &echo));
-}
-
-#[test]
-fn link_flag_operators(rt: HostRuntime) {
-    let two = LinkFlags::Up | LinkFlags::Debug;
-    let other = LinkFlags::Debug | LinkFlags::Loopback;
-    let found = [
-        (two & other).bits(),
-        (two ^ other).bits(),
-        (two - other).bits(),
-        (!two).bits(),
-        two.union(other).bits(),
-        two.intersection(other).bits(),
-        two.symmetric_difference(other).bits(),
-        two.difference(other).bits(),
-        two.complement().bits(),
-        LinkFlags::all().bits(),
-        LinkFlags::from_bits_retain(3).bits(),
-        LinkFlags::from_bits_truncate(3).bits(),
-    ];
-    let wanted = [
-        4,
-        9,
-        1,
-        0xffff_fffa,
-        13,
-        4,
-        9,
-        1,
-        0xffff_fffa,
-        0xffff_ffff,
-        3,
-        3,
-    ];
-    is_same(&rt, &found, &wanted);
-}
-
-#[test]
-fn link_flag_tests(rt: HostRuntime) {
-    let two = LinkFlags::Up | LinkFlags::Debug;
-    let other = LinkFlags::Debug | LinkFlags::Loopback;
-    let answers = [
-        two.contains(LinkFlags::Up),
-        two.contains(other),
-        two.intersects(other),
-        two.intersects(LinkFlags::Loopback),
-        LinkFlags::empty().is_empty(),
-        two.is_empty(),
-        LinkFlags::all().is_all(),
-        two.is_all(),
-    ];
-    let wanted = [true, false, true, false, true, false, true, false];
-    is_same(&rt, &answers, &wanted);
-    let retained = LinkFlags::from_bits_retain(3);
-    is_same(&rt, &LinkFlags::from_bits(3), &Some(retained));
-}
-
-#[test]
-fn link_flag_changes(rt: HostRuntime) {
-    let two = LinkFlags::Up | LinkFlags::Debug;
-    let mut flags = LinkFlags::Loopback;
-    flags.insert(two);
-    flags.remove(LinkFlags::Up);
-    flags.toggle(two);
-    flags.set(LinkFlags::Loopback, false);
-    assert_eq!(rt; flags, LinkFlags::Up);
-}
-
-#[test]
-fn link_flag_assignments(rt: HostRuntime) {
-    let two = LinkFlags::Up | LinkFlags::Debug;
-    let mut flags = LinkFlags::Loopback;
-    flags |= two;
-    flags &= two;
-    flags ^= LinkFlags::Loopback;
-    flags -= LinkFlags::Debug;
-    assert_eq!(rt; flags, LinkFlags::Up | LinkFlags::Loopback);
-}
-
-/// `IF_RA_OTHERCONF` to `IF_READY` of net/if_inet6.h in the kernel.
-#[test]
-fn interface_flag_names(rt: HostRuntime) {
-    for (flag, name, bits) in [
-        (Inet6IfaceFlags::Otherconf, "Otherconf", 0x80),
-        (Inet6IfaceFlags::RaManaged, "RaManaged", 0x40),
-        (Inet6IfaceFlags::RaRcvd, "RaRcvd", 0x20),
-        (Inet6IfaceFlags::RsSent, "RsSent", 0x10),
-        (Inet6IfaceFlags::Ready, "Ready", 0x8000_0000),
-    ] {
-        assert!(rt; flag.bits() == bits);
-        is_same(&rt, &Inet6IfaceFlags::from_bits_retain(bits), &flag);
-        is_same(&rt, &Inet6IfaceFlags::from_name(name), &Some(flag));
-    }
-}
-
-#[test]
-fn names_of_no_interface_flags(rt: HostRuntime) {
-    for name in [
-        "",
-        "ready",
-        "READY",
-        "Ready ",
-        "OtherConf",
-        "OTHERCONF",
-        "raManaged",
-        "RARCVD",
-        "Rssent",
-    ] {
-        is_same(&rt, &Inet6IfaceFlags::from_name(name), &None);
-    }
-}
-
-#[test]
-fn interface_flag_operators(rt: HostRuntime) {
-    let two = Inet6IfaceFlags::Otherconf | Inet6IfaceFlags::Ready;
-    let other = Inet6IfaceFlags::Ready | Inet6IfaceFlags::RsSent;
-    let found = [
-        (two & other).bits(),
-        (two ^ other).bits(),
-        (two - other).bits(),
-        (!two).bits(),
-        two.union(other).bits(),
-        two.intersection(other).bits(),
-        two.symmetric_difference(other).bits(),
-        two.difference(other).bits(),
-        two.complement().bits(),
-        Inet6IfaceFlags::all().bits(),
-        Inet6IfaceFlags::from_bits_retain(3).bits(),
-        Inet6IfaceFlags::from_bits_truncate(3).bits(),
-    ];
-    let wanted = [
-        0x8000_0000,
-        0x90,
-        0x80,
-        0x7fff_ff7f,
-        0x8000_0090,
-        0x8000_0000,
-        0x90,
-        0x80,
-        0x7fff_ff7f,
-        0xffff_ffff,
-        3,
-        3,
-    ];
-    is_same(&rt, &found, &wanted);
-}
-
-#[test]
-fn interface_flag_tests(rt: HostRuntime) {
-    let two = Inet6IfaceFlags::Otherconf | Inet6IfaceFlags::Ready;
-    let other = Inet6IfaceFlags::Ready | Inet6IfaceFlags::RsSent;
-    let answers = [
-        two.contains(Inet6IfaceFlags::Otherconf),
-        two.contains(other),
-        two.intersects(other),
-        two.intersects(Inet6IfaceFlags::RsSent),
-        Inet6IfaceFlags::empty().is_empty(),
-        two.is_empty(),
-        Inet6IfaceFlags::all().is_all(),
-        two.is_all(),
-    ];
-    let wanted = [true, false, true, false, true, false, true, false];
-    is_same(&rt, &answers, &wanted);
-    let retained = Inet6IfaceFlags::from_bits_retain(3);
-    is_same(&rt, &Inet6IfaceFlags::from_bits(3), &Some(retained));
-}
-
-#[test]
-fn interface_flag_changes(rt: HostRuntime) {
-    let two = Inet6IfaceFlags::Otherconf | Inet6IfaceFlags::Ready;
-    let mut flags = Inet6IfaceFlags::RsSent;
-    flags.insert(two);
-    flags.remove(Inet6IfaceFlags::Otherconf);
-    flags.toggle(two);
-    flags.set(Inet6IfaceFlags::RsSent, false);
-    assert_eq!(rt; flags, Inet6IfaceFlags::Otherconf);
-}
-
-#[test]
-fn interface_flag_assignments(rt: HostRuntime) {
-    let two = Inet6IfaceFlags::Otherconf | Inet6IfaceFlags::Ready;
-    let mut flags = Inet6IfaceFlags::RsSent;
-    flags |= two;
-    flags &= two;
-    flags ^= Inet6IfaceFlags::RsSent;
-    flags -= Inet6IfaceFlags::Ready;
-    assert_eq!(rt; flags, Inet6IfaceFlags::Otherconf | Inet6IfaceFlags::RsSent);
 }
 
 #[test]
@@ -636,7 +373,8 @@ fn short_physical_ids(rt: HostRuntime) {
     let short = LinkPhysId::parse(&[1, 2]).expect(&rt, "it is read");
     assert!(rt; short.len == 2);
     assert!(rt; short.buffer_len() == 2);
-    assert!(rt; equal(&short.id[..4], &[1, 2, 0, 0]));
+    let id: [u8; 32] = zeros_after(&[1, 2]);
+    assert!(rt; equal(&short.id, &id));
     let mut buffer = [255; 4];
     short.emit(&mut buffer);
     assert!(rt; equal(&buffer, &[1, 2, 255, 255]));
