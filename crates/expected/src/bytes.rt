@@ -2,20 +2,18 @@
 
 ghost use Rattle.std.specs.Prelude.{◌≡◌, length, IfOk};
 
-use link_recs::inet::INET_DEV_CONF_SIZE;
-use link_recs::inet6_stats::INET6_STATS_SIZE;
-use nla_wire::{Bytes, Cause, DecodeError, DefaultNla, NLA_F_NESTED, NLA_HEADER_SIZE, Text};
+use nla_wire::{Bytes, Cause, DecodeError, DefaultNla, NLA_F_NESTED, Text};
 use std::alloc::{AllocError, Global};
 
-/// The bytes of an attribute of IPv4 settings, as it is written.
-pub const SETTINGS: usize = NLA_HEADER_SIZE + INET_DEV_CONF_SIZE;
+/// The bytes of an attribute of IPv4 settings, as it is written: 34 numbers of four bytes after the header.
+pub const SETTINGS: usize = 140;
 
-/// The bytes of an attribute of IPv6 counters, as it is written.
-pub const COUNTERS: usize = NLA_HEADER_SIZE + INET6_STATS_SIZE;
+/// The bytes of an attribute of IPv6 counters, as it is written: 39 numbers of eight bytes after the header.
+pub const COUNTERS: usize = 316;
 
 /// The bytes of buffer for each byte that is read that are room for any text: a header alone may be written as a frame
 /// of the longest record.
-pub const GROWTH: usize = COUNTERS / NLA_HEADER_SIZE;
+pub const GROWTH: usize = 79;
 
 /// Bytes with zeros after them.
 pub fn zeros_after<const N: usize>(bytes: &[u8]) -> [u8; N] {

@@ -1,18 +1,8 @@
 //! Which bytes mean the same message.
 
-use crate::rows::{is_refused_so, no_message, with_header};
+use crate::rows::{NAME, NAME_TEXT, is_refused_so, no_message, with_header};
 use crate::testing::are_same;
 use link_msg::*;
-
-/// A header of zeros and a name without its NUL and padding.
-const NAME: [u8; 22] = [
-    0, 0, 0, 0, 0, 0, 0, 0, 0, 0, 0, 0, 0, 0, 0, 0, 6, 0, 3, 0, 0x6c, 0x6f,
-];
-
-/// The canonical encoding of `NAME`.
-const NAME_TEXT: [u8; 24] = [
-    0, 0, 0, 0, 0, 0, 0, 0, 0, 0, 0, 0, 0, 0, 0, 0, 7, 0, 3, 0, 0x6c, 0x6f, 0, 0,
-];
 
 #[test]
 fn spellings_mean_the_same(rt: HostRuntime) {

@@ -7,16 +7,6 @@ use link_msg::*;
 use std::alloc::Global;
 use std::process::Abort;
 
-/// A header of zeros and a name without its NUL and padding.
-const NAME: [u8; 22] = [
-    0, 0, 0, 0, 0, 0, 0, 0, 0, 0, 0, 0, 0, 0, 0, 0, 6, 0, 3, 0, 0x6c, 0x6f,
-];
-
-/// The canonical encoding of `NAME`.
-const NAME_TEXT: [u8; 24] = [
-    0, 0, 0, 0, 0, 0, 0, 0, 0, 0, 0, 0, 0, 0, 0, 0, 7, 0, 3, 0, 0x6c, 0x6f, 0, 0,
-];
-
 #[test]
 fn headers(rt: HostRuntime) {
     let alloc = rt.alloc();

@@ -20,25 +20,35 @@ fn refused_statistics(rt: HostRuntime) {
     let alloc = rt.alloc();
     assert!(rt; refuses_bad_frames::<VfStats>(alloc));
     let short = Cause::WrongLength { got: 7, want: 8 };
-    assert!(rt; refuses::<VfStats>(alloc, &[11, 0, 0, 0, 0, 0, 0, 0, 0, 0, 0], short));
+    assert!(rt;
+        refuses::<VfStats>(
+            alloc,
+            &[
+                0x0b, 0x00, 0x00, 0x00, 0x00, 0x00, 0x00, 0x00, 0x00, 0x00, 0x00
+            ],
+            short
+        )
+    );
     let none = Cause::WrongLength { got: 0, want: 8 };
-    assert!(rt; refuses::<VfStats>(alloc, &[4, 0, 8, 0], none));
+    assert!(rt; refuses::<VfStats>(alloc, &[0x04, 0x00, 0x08, 0x00], none));
 }
 
 #[test]
 fn statistics(rt: HostRuntime) {
-    for (number, value) in [
-        (0, VfStats::RxPackets(7)),
-        (1, VfStats::TxPackets(7)),
-        (2, VfStats::RxBytes(7)),
-        (3, VfStats::TxBytes(7)),
-        (4, VfStats::Broadcast(7)),
-        (5, VfStats::Multicast(7)),
-        (7, VfStats::RxDropped(7)),
-        (8, VfStats::TxDropped(7)),
+    for (label, number, value) in [
+        ("IFLA_VF_STATS_RX_PACKETS", 0, VfStats::RxPackets(7)),
+        ("IFLA_VF_STATS_TX_PACKETS", 1, VfStats::TxPackets(7)),
+        ("IFLA_VF_STATS_RX_BYTES", 2, VfStats::RxBytes(7)),
+        ("IFLA_VF_STATS_TX_BYTES", 3, VfStats::TxBytes(7)),
+        ("IFLA_VF_STATS_BROADCAST", 4, VfStats::Broadcast(7)),
+        ("IFLA_VF_STATS_MULTICAST", 5, VfStats::Multicast(7)),
+        ("IFLA_VF_STATS_RX_DROPPED", 7, VfStats::RxDropped(7)),
+        ("IFLA_VF_STATS_TX_DROPPED", 8, VfStats::TxDropped(7)),
     ] {
-        let bytes = [12, 0, number, 0, 7, 0, 0, 0, 0, 0, 0, 0];
-        assert!(rt; means(rt.alloc(), &bytes, &[value], &bytes));
+        let bytes = [
+            0x0c, 0x00, number, 0x00, 0x07, 0x00, 0x00, 0x00, 0x00, 0x00, 0x00, 0x00,
+        ];
+        assert!(rt; means(rt.alloc(), &bytes, &[value], &bytes), "{label}");
     }
 }
 
@@ -46,8 +56,8 @@ fn statistics(rt: HostRuntime) {
 fn padding_among_statistics(rt: HostRuntime) {
     let alloc = rt.alloc();
     let padding = VfStats::Other(kept(alloc, 6 | 0x8000, &[1]).expect(&rt, "memory"));
-    let text = [5, 0, 6, 0x80, 1, 0, 0, 0];
-    assert!(rt; means(alloc, &[5, 0, 6, 0x80, 1], &[padding], &text));
+    let text = [0x05, 0x00, 0x06, 0x80, 0x01, 0x00, 0x00, 0x00];
+    assert!(rt; means(alloc, &[0x05, 0x00, 0x06, 0x80, 0x01], &[padding], &text));
 }
 
 #[test]
@@ -55,20 +65,21 @@ fn vlans(rt: HostRuntime) {
     let alloc = rt.alloc();
     assert!(rt; refuses_bad_frames::<VfVlan>(alloc));
     let short = Cause::TooShort { got: 0, need: 16 };
-    assert!(rt; refuses::<VfVlan>(alloc, &[4, 0, 1, 0], short));
+    assert!(rt; refuses::<VfVlan>(alloc, &[0x04, 0x00, 0x01, 0x00], short));
     assert!(rt;
         means(
             alloc,
             &[
-                20, 0, 1, 0, 1, 0, 0, 0, 100, 0, 0, 0, 0, 0, 0, 0, 0x88, 0xa8, 0x12, 0x34, 4, 0, 2,
-                0,
+                0x14, 0x00, 0x01, 0x00, 0x01, 0x00, 0x00, 0x00, 0x64, 0x00, 0x00, 0x00, 0x00, 0x00,
+                0x00, 0x00, 0x88, 0xa8, 0x12, 0x34, 0x04, 0x00, 0x02, 0x00
             ],
             &[
                 VfVlan::Info(VfVlanInfo::new(1, 100, 0, VlanProtocol::Ieee8021Ad)),
                 VfVlan::Other(kept(alloc, 2, &[]).expect(&rt, "memory")),
             ],
             &[
-                20, 0, 1, 0, 1, 0, 0, 0, 100, 0, 0, 0, 0, 0, 0, 0, 0x88, 0xa8, 0, 0, 4, 0, 2, 0,
+                0x14, 0x00, 0x01, 0x00, 0x01, 0x00, 0x00, 0x00, 0x64, 0x00, 0x00, 0x00, 0x00, 0x00,
+                0x00, 0x00, 0x88, 0xa8, 0x00, 0x00, 0x04, 0x00, 0x02, 0x00
             ]
         )
     );
@@ -78,23 +89,31 @@ fn vlans(rt: HostRuntime) {
 fn short_records_of_functions(rt: HostRuntime) {
     let alloc = rt.alloc();
     assert!(rt; refuses_bad_frames::<VfInfo>(alloc));
-    for (number, need) in [
-        (1, 36),
-        (2, 12),
-        (3, 8),
-        (4, 8),
-        (5, 8),
-        (6, 12),
-        (7, 8),
-        (9, 8),
-        (10, 16),
-        (11, 16),
-        (13, 32),
+    for (label, number, need) in [
+        ("IFLA_VF_MAC", 1, 36),
+        ("IFLA_VF_VLAN", 2, 12),
+        ("IFLA_VF_TX_RATE", 3, 8),
+        ("IFLA_VF_SPOOFCHK", 4, 8),
+        ("IFLA_VF_LINK_STATE", 5, 8),
+        ("IFLA_VF_RATE", 6, 12),
+        ("IFLA_VF_RSS_QUERY_EN", 7, 8),
+        ("IFLA_VF_TRUST", 9, 8),
+        ("IFLA_VF_IB_NODE_GUID", 10, 16),
+        ("IFLA_VF_IB_PORT_GUID", 11, 16),
+        ("IFLA_VF_BROADCAST", 13, 32),
     ] {
-        let empty = [4, 0, number, 0];
-        assert!(rt; refuses::<VfInfo>(alloc, &empty, Cause::TooShort { got: 0, need }));
-        let four = [8, 0, number, 0, 1, 2, 3, 4];
-        assert!(rt; refuses::<VfInfo>(alloc, &four, Cause::TooShort { got: 4, need }));
+        let empty = [0x04, 0x00, number, 0x00];
+        let none = Cause::TooShort { got: 0, need };
+        assert!(rt;
+            refuses::<VfInfo>(alloc, &empty, none),
+            "{label} of no bytes"
+        );
+        let four = [0x08, 0x00, number, 0x00, 0x01, 0x02, 0x03, 0x04];
+        let some = Cause::TooShort { got: 4, need };
+        assert!(rt;
+            refuses::<VfInfo>(alloc, &four, some),
+            "{label} of four bytes"
+        );
     }
 }
 
@@ -105,8 +124,8 @@ fn functions(rt: HostRuntime) {
         means(
             alloc,
             &[
-                12, 0, 9, 0, 1, 0, 0, 0, 2, 0, 0, 0, 12, 0, 9, 0, 1, 0, 0, 0, 255, 255, 255, 255,
-                4, 0, 14, 0x40,
+                0x0c, 0x00, 0x09, 0x00, 0x01, 0x00, 0x00, 0x00, 0x02, 0x00, 0x00, 0x00, 0x0c, 0x00,
+                0x09, 0x00, 0x01, 0x00, 0x00, 0x00, 0xff, 0xff, 0xff, 0xff, 0x04, 0x00, 0x0e, 0x40
             ],
             &[
                 VfInfo::Trust(VfInfoTrust::new(1, true)),
@@ -114,8 +133,8 @@ fn functions(rt: HostRuntime) {
                 VfInfo::Other(kept(alloc, 14 | 0x4000, &[]).expect(&rt, "memory")),
             ],
             &[
-                12, 0, 9, 0, 1, 0, 0, 0, 1, 0, 0, 0, 12, 0, 9, 0, 1, 0, 0, 0, 0, 0, 0, 0, 4, 0, 14,
-                0x40,
+                0x0c, 0x00, 0x09, 0x00, 0x01, 0x00, 0x00, 0x00, 0x01, 0x00, 0x00, 0x00, 0x0c, 0x00,
+                0x09, 0x00, 0x01, 0x00, 0x00, 0x00, 0x00, 0x00, 0x00, 0x00, 0x04, 0x00, 0x0e, 0x40
             ]
         )
     );
@@ -127,16 +146,18 @@ fn guids_of_functions(rt: HostRuntime) {
         means(
             rt.alloc(),
             &[
-                20, 0, 10, 0, 2, 0, 0, 0, 255, 255, 255, 255, 1, 0, 0, 0, 0, 0, 0, 0, 20, 0, 11, 0,
-                3, 0, 0, 0, 0, 0, 0, 0, 1, 0, 0, 0, 0, 0, 0, 2,
+                0x14, 0x00, 0x0a, 0x00, 0x02, 0x00, 0x00, 0x00, 0xff, 0xff, 0xff, 0xff, 0x01, 0x00,
+                0x00, 0x00, 0x00, 0x00, 0x00, 0x00, 0x14, 0x00, 0x0b, 0x00, 0x03, 0x00, 0x00, 0x00,
+                0x00, 0x00, 0x00, 0x00, 0x01, 0x00, 0x00, 0x00, 0x00, 0x00, 0x00, 0x02
             ],
             &[
                 VfInfo::IbNodeGuid(VfInfoGuid::new(2, 1)),
                 VfInfo::IbPortGuid(VfInfoGuid::new(3, 0x0200000000000001)),
             ],
             &[
-                20, 0, 10, 0, 2, 0, 0, 0, 0, 0, 0, 0, 1, 0, 0, 0, 0, 0, 0, 0, 20, 0, 11, 0, 3, 0,
-                0, 0, 0, 0, 0, 0, 1, 0, 0, 0, 0, 0, 0, 2,
+                0x14, 0x00, 0x0a, 0x00, 0x02, 0x00, 0x00, 0x00, 0x00, 0x00, 0x00, 0x00, 0x01, 0x00,
+                0x00, 0x00, 0x00, 0x00, 0x00, 0x00, 0x14, 0x00, 0x0b, 0x00, 0x03, 0x00, 0x00, 0x00,
+                0x00, 0x00, 0x00, 0x00, 0x01, 0x00, 0x00, 0x00, 0x00, 0x00, 0x00, 0x02
             ]
         )
     );
@@ -165,25 +186,42 @@ fn broadcasts_of_functions(rt: HostRuntime) {
 
 #[test]
 fn records_of_functions(rt: HostRuntime) {
-    for (value, number) in [
-        (VfInfo::TxRate(VfInfoTxRate::new(3, 1)), 3),
-        (VfInfo::SpoofCheck(VfInfoSpoofCheck::new(3, true)), 4),
+    let on = VfLinkState::Enable;
+    for (label, number, value) in [
         (
-            VfInfo::LinkState(VfInfoLinkState::new(3, VfLinkState::Enable)),
-            5,
+            "IFLA_VF_TX_RATE",
+            3,
+            VfInfo::TxRate(VfInfoTxRate::new(3, 1)),
         ),
-        (VfInfo::RssQueryEn(VfInfoRssQueryEn::new(3, true)), 7),
+        (
+            "IFLA_VF_SPOOFCHK",
+            4,
+            VfInfo::SpoofCheck(VfInfoSpoofCheck::new(3, true)),
+        ),
+        (
+            "IFLA_VF_LINK_STATE",
+            5,
+            VfInfo::LinkState(VfInfoLinkState::new(3, on)),
+        ),
+        (
+            "IFLA_VF_RSS_QUERY_EN",
+            7,
+            VfInfo::RssQueryEn(VfInfoRssQueryEn::new(3, true)),
+        ),
     ] {
-        let bytes = [12, 0, number, 0, 3, 0, 0, 0, 1, 0, 0, 0];
-        assert!(rt; means(rt.alloc(), &bytes, &[value], &bytes));
+        let bytes = [
+            0x0c, 0x00, number, 0x00, 0x03, 0x00, 0x00, 0x00, 0x01, 0x00, 0x00, 0x00,
+        ];
+        assert!(rt; means(rt.alloc(), &bytes, &[value], &bytes), "{label}");
     }
 }
 
 #[test]
 fn vlans_and_rates_of_functions(rt: HostRuntime) {
     let bytes = [
-        16, 0, 2, 0, 3, 0, 0, 0, 1, 0, 0, 0, 2, 0, 0, 0, 16, 0, 6, 0, 3, 0, 0, 0, 1, 0, 0, 0, 2, 0,
-        0, 0,
+        0x10, 0x00, 0x02, 0x00, 0x03, 0x00, 0x00, 0x00, 0x01, 0x00, 0x00, 0x00, 0x02, 0x00, 0x00,
+        0x00, 0x10, 0x00, 0x06, 0x00, 0x03, 0x00, 0x00, 0x00, 0x01, 0x00, 0x00, 0x00, 0x02, 0x00,
+        0x00, 0x00,
     ];
     let vlan = VfInfo::Vlan(VfInfoVlan::new(3, 1, 2));
     let rate = VfInfo::Rate(VfInfoRate::new(3, 1, 2));
@@ -192,22 +230,32 @@ fn vlans_and_rates_of_functions(rt: HostRuntime) {
 
 #[test]
 fn refused_lists_of_functions(rt: HostRuntime) {
-    for (bytes, cause) in [
+    for (label, bytes, cause) in [
         (
-            [8, 0, 8, 0, 3, 0, 1, 0].as_slice(),
+            "a length of 3 in IFLA_VF_STATS",
+            [0x08, 0x00, 0x08, 0x00, 0x03, 0x00, 0x01, 0x00].as_slice(),
             Cause::FrameUnder { length: 3 },
         ),
-        ([5, 0, 12, 0, 1].as_slice(), Cause::FrameShort { left: 1 }),
         (
-            [8, 0, 12, 0, 9, 0, 1, 0].as_slice(),
+            "a stray byte in IFLA_VF_VLAN_LIST",
+            [0x05, 0x00, 0x0c, 0x00, 0x01].as_slice(),
+            Cause::FrameShort { left: 1 },
+        ),
+        (
+            "a length that passes IFLA_VF_VLAN_LIST",
+            [0x08, 0x00, 0x0c, 0x00, 0x09, 0x00, 0x01, 0x00].as_slice(),
             Cause::FrameOver { length: 9, left: 4 },
         ),
         (
-            [12, 0, 12, 0, 4, 0, 1, 0, 3, 0, 1, 0].as_slice(),
+            "a vlan of no bytes, and a length of 3",
+            [
+                0x0c, 0x00, 0x0c, 0x00, 0x04, 0x00, 0x01, 0x00, 0x03, 0x00, 0x01, 0x00,
+            ]
+            .as_slice(),
             Cause::TooShort { got: 0, need: 16 },
         ),
     ] {
-        assert!(rt; refuses::<VfInfo>(rt.alloc(), bytes, cause));
+        assert!(rt; refuses::<VfInfo>(rt.alloc(), bytes, cause), "{label}");
     }
 }
 
@@ -219,7 +267,8 @@ fn lists_of_functions(rt: HostRuntime) {
         means(
             alloc,
             &[
-                16, 0, 8, 0, 12, 0, 0, 0, 7, 0, 0, 0, 0, 0, 0, 0, 4, 0, 8, 0, 4, 0, 12, 0x80,
+                0x10, 0x00, 0x08, 0x00, 0x0c, 0x00, 0x00, 0x00, 0x07, 0x00, 0x00, 0x00, 0x00, 0x00,
+                0x00, 0x00, 0x04, 0x00, 0x08, 0x00, 0x04, 0x00, 0x0c, 0x80
             ],
             &[
                 VfInfo::Stats(List::new(stats)),
@@ -227,79 +276,144 @@ fn lists_of_functions(rt: HostRuntime) {
                 VfInfo::VlanList(List::new(Vec::new(alloc))),
             ],
             &[
-                16, 0, 8, 0, 12, 0, 0, 0, 7, 0, 0, 0, 0, 0, 0, 0, 4, 0, 8, 0, 4, 0, 12, 0,
+                0x10, 0x00, 0x08, 0x00, 0x0c, 0x00, 0x00, 0x00, 0x07, 0x00, 0x00, 0x00, 0x00, 0x00,
+                0x00, 0x00, 0x04, 0x00, 0x08, 0x00, 0x04, 0x00, 0x0c, 0x00
             ]
         )
     );
 }
 
 /// What an entry's payload is refused for, or nothing. It has a text where it is not refused.
-fn entry_faults(rt: &impl Abort, alloc: Global, payload: &[u8], cause: Option<Cause>) {
-    assert_eq!(rt; cause_of(LinkVfInfo::parse(alloc, payload)), cause);
-    assert_eq!(rt; cause_of(LinkVfInfo::check(payload)), cause);
-    assert!(rt; LinkVfInfo::measure_entry(payload).is_none() == cause.is_some());
+fn entry_faults<E: Entry>(
+    rt: &impl Abort,
+    alloc: Global,
+    label: &str,
+    payload: &[u8],
+    cause: Option<Cause>,
+) {
+    assert_eq!(rt; cause_of(E::parse(alloc, payload)), cause, "{label}");
+    assert_eq!(rt; cause_of(E::check(payload)), cause, "{label}");
+    assert!(rt;
+        E::measure_entry(payload).is_none() == cause.is_some(),
+        "{label}"
+    );
 }
 
-/// What a list of functions is refused for, or nothing. It has a text where it is not refused.
-fn list_faults(rt: &impl Abort, alloc: Global, payload: &[u8], cause: Option<Cause>) {
-    assert_eq!(rt; cause_of(LinkVfInfo::parse_list(alloc, payload)), cause);
-    assert_eq!(rt; cause_of(LinkVfInfo::check_list(payload)), cause);
-    assert!(rt; LinkVfInfo::measure_list(payload).is_none() == cause.is_some());
+/// What a list of entries is refused for, or nothing. It has a text where it is not refused.
+fn list_faults<E: Entry>(
+    rt: &impl Abort,
+    alloc: Global,
+    label: &str,
+    payload: &[u8],
+    cause: Option<Cause>,
+) {
+    assert_eq!(rt; cause_of(E::parse_list(alloc, payload)), cause, "{label}");
+    assert_eq!(rt; cause_of(E::check_list(payload)), cause, "{label}");
+    assert!(rt;
+        E::measure_list(payload).is_none() == cause.is_some(),
+        "{label}"
+    );
+}
+
+/// What is no frame is refused, in an entry and as one, and so is an entry of no bytes. A list of none is read, and so
+/// is one whose one entry has another number.
+fn refuses_bad_entries<E: Entry>(rt: &impl Abort, alloc: Global) {
+    for (bytes, cause) in BAD_FRAMES {
+        entry_faults::<E>(rt, alloc, "in an entry", bytes, Some(cause));
+        list_faults::<E>(rt, alloc, "as an entry", bytes, Some(cause));
+    }
+    entry_faults::<E>(
+        rt,
+        alloc,
+        "an entry of no bytes",
+        &[],
+        Some(Cause::EmptyList),
+    );
+    list_faults::<E>(rt, alloc, "a list of no bytes", &[], None);
+    for (label, payload, cause) in [
+        (
+            "an empty entry",
+            [0x04, 0x00, 0x01, 0x00],
+            Some(Cause::EmptyList),
+        ),
+        (
+            "an empty entry with a flag",
+            [0x04, 0x00, 0x01, 0x80],
+            Some(Cause::EmptyList),
+        ),
+        (
+            "an entry with another number",
+            [0x04, 0x00, 0x02, 0x00],
+            None,
+        ),
+    ] {
+        list_faults::<E>(rt, alloc, label, &payload, cause);
+    }
 }
 
 #[test]
 fn entries_of_functions(rt: HostRuntime) {
     let alloc = rt.alloc();
-    for (bytes, cause) in BAD_FRAMES {
-        entry_faults(&rt, alloc, bytes, Some(cause));
-        list_faults(&rt, alloc, bytes, Some(cause));
-    }
-    entry_faults(&rt, alloc, &[], Some(Cause::EmptyList));
+    refuses_bad_entries::<LinkVfInfo>(&rt, alloc);
     let first = Some(Cause::TooShort { got: 0, need: 8 });
-    entry_faults(&rt, alloc, &[4, 0, 9, 0, 3, 0, 9, 0], first);
+    let payload = [0x04, 0x00, 0x09, 0x00, 0x03, 0x00, 0x09, 0x00];
+    entry_faults::<LinkVfInfo>(&rt, alloc, "a short record first", &payload, first);
 }
+
+/// An entry of functions that is dropped, whose payload is no list.
+const DROPPED: [u8; 8] = [0x08, 0x00, 0x05, 0x00, 0xff, 0xff, 0xff, 0xff];
 
 #[test]
 fn entries_in_lists_of_functions(rt: HostRuntime) {
     let alloc = rt.alloc();
-    for (payload, cause) in [
-        ([].as_slice(), None),
-        ([8, 0, 5, 0, 255, 255, 255, 255].as_slice(), None),
-        ([8, 0, 1, 0, 4, 0, 8, 0].as_slice(), None),
-        ([4, 0, 1, 0x80].as_slice(), Some(Cause::EmptyList)),
+    for (label, payload, cause) in [
+        ("an entry that is dropped", DROPPED.as_slice(), None),
         (
-            [8, 0, 1, 0, 4, 0, 9, 0, 3, 0, 1, 0].as_slice(),
+            "a function without counters",
+            [0x08, 0x00, 0x01, 0x00, 0x04, 0x00, 0x08, 0x00].as_slice(),
+            None,
+        ),
+        (
+            "a short record before a length of 3",
+            [
+                0x08, 0x00, 0x01, 0x00, 0x04, 0x00, 0x09, 0x00, 0x03, 0x00, 0x01, 0x00,
+            ]
+            .as_slice(),
             Some(Cause::TooShort { got: 0, need: 8 }),
         ),
         (
-            [255, 255, 7, 0].as_slice(),
+            "a length that passes the list",
+            [0xff, 0xff, 0x07, 0x00].as_slice(),
             Some(Cause::FrameOver {
                 length: 65535,
                 left: 4,
             }),
         ),
         (
+            "a counter of seven bytes",
             [
-                20, 0, 1, 0, 16, 0, 8, 0, 11, 0, 0, 0, 0, 0, 0, 0, 0, 0, 0, 0,
+                0x14, 0x00, 0x01, 0x00, 0x10, 0x00, 0x08, 0x00, 0x0b, 0x00, 0x00, 0x00, 0x00, 0x00,
+                0x00, 0x00, 0x00, 0x00, 0x00, 0x00,
             ]
             .as_slice(),
             Some(Cause::WrongLength { got: 7, want: 8 }),
         ),
     ] {
-        list_faults(&rt, alloc, payload, cause);
+        list_faults::<LinkVfInfo>(&rt, alloc, label, payload, cause);
     }
-    let dropped = LinkVfInfo::parse_list(alloc, &[8, 0, 5, 0, 255, 255, 255, 255]);
+    let dropped = LinkVfInfo::parse_list(alloc, &DROPPED);
     assert!(rt; dropped.expect(&rt, "memory").len() == 0);
 }
 
 /// Two entries of a list of functions, the first of which is foreign; then the text of the other.
 const VLAN_ENTRIES: [u8; 32] = [
-    4, 0, 2, 0, 28, 0, 1, 0x40, 24, 0, 12, 0, 20, 0, 1, 0, 1, 0, 0, 0, 100, 0, 0, 0, 0, 0, 0, 0,
-    0x88, 0xa8, 0x12, 0x34,
+    0x04, 0x00, 0x02, 0x00, 0x1c, 0x00, 0x01, 0x40, 0x18, 0x00, 0x0c, 0x00, 0x14, 0x00, 0x01, 0x00,
+    0x01, 0x00, 0x00, 0x00, 0x64, 0x00, 0x00, 0x00, 0x00, 0x00, 0x00, 0x00, 0x88, 0xa8, 0x12, 0x34,
 ];
 
 const VLAN_TEXT: [u8; 28] = [
-    28, 0, 1, 0, 24, 0, 12, 0, 20, 0, 1, 0, 1, 0, 0, 0, 100, 0, 0, 0, 0, 0, 0, 0, 0x88, 0xa8, 0, 0,
+    0x1c, 0x00, 0x01, 0x00, 0x18, 0x00, 0x0c, 0x00, 0x14, 0x00, 0x01, 0x00, 0x01, 0x00, 0x00, 0x00,
+    0x64, 0x00, 0x00, 0x00, 0x00, 0x00, 0x00, 0x00, 0x88, 0xa8, 0x00, 0x00,
 ];
 
 /// A function with a list of one vlan.
@@ -330,7 +444,7 @@ fn four_levels_written(rt: HostRuntime) {
     let mut out = [255; 33];
     let len = LinkVfInfo::write_list(22, &VLAN_ENTRIES, &mut out);
     assert!(rt; len == 32);
-    assert!(rt; out.starts_with(&[32, 0, 22, 0]));
+    assert!(rt; out.starts_with(&[0x20, 0x00, 0x16, 0x00]));
     assert!(rt; is_stored(28, &out[4..], &VLAN_TEXT));
 }
 
@@ -347,31 +461,53 @@ fn four_levels_written_alone(rt: HostRuntime) {
     assert!(rt; is_stored(len, &out, &VLAN_TEXT));
 }
 
-/// What is refused changes no byte.
-#[test]
-fn refused_functions_written(rt: HostRuntime) {
+/// What is refused as an entry is not written, and changes no byte.
+fn writes_no_entry<E: Entry>(rt: &impl Abort, label: &str, payload: &[u8]) {
     let mut out = [255; 8];
-    for payload in [[].as_slice(), &[4, 0, 9, 0], &[5, 0, 9, 0]] {
-        assert!(rt; LinkVfInfo::measure_entry(payload).is_none());
-        let Err(_error) = LinkVfInfo::check(payload) else {
-            panic!(rt; "there is an entry");
-        };
-        assert!(rt; LinkVfInfo::canon(payload, &mut out).is_none());
-        assert!(rt; equal(&out, &[255; 8]));
-    }
+    assert!(rt; E::measure_entry(payload).is_none(), "{label}");
+    let Err(_error) = E::check(payload) else {
+        panic!(rt; "there is an entry: {label}");
+    };
+    assert!(rt; E::canon(payload, &mut out).is_none(), "{label}");
+    assert!(rt; equal(&out, &[255; 8]), "{label}");
+}
+
+/// What is refused as a list of entries is not written, and changes no byte.
+fn writes_no_list<E: Entry>(rt: &impl Abort, label: &str, payload: &[u8]) {
+    let mut out = [255; 8];
+    assert!(rt; E::measure_list(payload).is_none(), "{label}");
+    let Err(_error) = E::check_list(payload) else {
+        panic!(rt; "there is a list: {label}");
+    };
+    assert!(rt; E::canon_list(payload, &mut out).is_none(), "{label}");
+    assert!(rt; equal(&out, &[255; 8]), "{label}");
+}
+
+/// No bytes, and what passes them.
+fn writes_no_bad_entries<E: Entry>(rt: &impl Abort) {
+    writes_no_entry::<E>(rt, "no bytes", &[]);
+    writes_no_entry::<E>(
+        rt,
+        "a length that passes the entry",
+        &[0x05, 0x00, 0x09, 0x00],
+    );
+    writes_no_list::<E>(rt, "an empty entry", &[0x04, 0x00, 0x01, 0x00]);
+    writes_no_list::<E>(
+        rt,
+        "a length that passes the list",
+        &[0x05, 0x00, 0x01, 0x00],
+    );
 }
 
 #[test]
-fn refused_lists_of_functions_written(rt: HostRuntime) {
-    let mut out = [255; 8];
-    for payload in [[4, 0, 1, 0].as_slice(), &[5, 0, 1, 0]] {
-        assert!(rt; LinkVfInfo::measure_list(payload).is_none());
-        let Err(_error) = LinkVfInfo::check_list(payload) else {
-            panic!(rt; "there is a list");
-        };
-        assert!(rt; LinkVfInfo::canon_list(payload, &mut out).is_none());
-        assert!(rt; equal(&out, &[255; 8]));
-    }
+fn refused_functions_written(rt: HostRuntime) {
+    writes_no_bad_entries::<LinkVfInfo>(&rt);
+    writes_no_entry::<LinkVfInfo>(&rt, "a short record", &[0x04, 0x00, 0x09, 0x00]);
+}
+
+#[test]
+fn refused_ports_written(rt: HostRuntime) {
+    writes_no_bad_entries::<LinkVfPort>(&rt);
 }
 
 /// An attribute of this kind fits, and is written as this text, at the end of a longer buffer too.
@@ -392,104 +528,66 @@ fn four_levels_filled(rt: HostRuntime) {
     is_filled(&rt, &vlan_function(&rt, rt.alloc()), 1, &VLAN_TEXT);
 }
 
-/// What a port's payload is refused for, or nothing. It has a text where it is not refused.
-fn port_faults(rt: &impl Abort, alloc: Global, payload: &[u8], cause: Option<Cause>) {
-    assert_eq!(rt; cause_of(LinkVfPort::parse(alloc, payload)), cause);
-    assert_eq!(rt; cause_of(LinkVfPort::check(payload)), cause);
-    assert!(rt; LinkVfPort::measure_entry(payload).is_none() == cause.is_some());
-}
-
-/// What a list of ports is refused for, or nothing. It has a text where it is not refused.
-fn ports_faults(rt: &impl Abort, alloc: Global, payload: &[u8], cause: Option<Cause>) {
-    assert_eq!(rt; cause_of(LinkVfPort::parse_list(alloc, payload)), cause);
-    assert_eq!(rt; cause_of(LinkVfPort::check_list(payload)), cause);
-    assert!(rt; LinkVfPort::measure_list(payload).is_none() == cause.is_some());
-}
-
 #[test]
 fn refused_ports(rt: HostRuntime) {
     let alloc = rt.alloc();
     assert!(rt; refuses_bad_frames::<VfPort>(alloc));
-    for (bytes, cause) in BAD_FRAMES {
-        port_faults(&rt, alloc, bytes, Some(cause));
-        ports_faults(&rt, alloc, bytes, Some(cause));
-    }
-    port_faults(&rt, alloc, &[], Some(Cause::EmptyList));
-    ports_faults(&rt, alloc, &[], None);
-    ports_faults(&rt, alloc, &[4, 0, 1, 0], Some(Cause::EmptyList));
-    ports_faults(&rt, alloc, &[4, 0, 2, 0], None);
+    refuses_bad_entries::<LinkVfPort>(&rt, alloc);
 }
 
 #[test]
 fn ports(rt: HostRuntime) {
     let alloc = rt.alloc();
     let kind_one = VfPort::Other(kept(alloc, 1 | 0x8000, &[7]).expect(&rt, "memory"));
-    let text = [5, 0, 1, 0x80, 7, 0, 0, 0];
-    assert!(rt; means(alloc, &[5, 0, 1, 0x80, 7], &[kind_one], &text));
+    let text = [0x05, 0x00, 0x01, 0x80, 0x07, 0x00, 0x00, 0x00];
+    assert!(rt; means(alloc, &[0x05, 0x00, 0x01, 0x80, 0x07], &[kind_one], &text));
 }
+
+/// An entry of one member, as `port_of_one`.
+const ENTRY: [u8; 8] = [0x08, 0x00, 0x01, 0x00, 0x05, 0x00, 0x00, 0x00];
 
 /// A port with one member.
 fn port_of_one(rt: &impl Abort, alloc: Global) -> LinkVfPort {
-    let member = VfPort::Other(kept(alloc, 1, &[5, 0, 0, 0]).expect(rt, "memory"));
+    let member = VfPort::Other(kept(alloc, 1, &[0x05, 0x00, 0x00, 0x00]).expect(rt, "memory"));
     LinkVfPort(List::new(Vec::from_array(alloc, [member]).expect(rt, "memory")))
 }
 
 #[test]
 fn one_port(rt: HostRuntime) {
-    let entry = [8, 0, 1, 0, 5, 0, 0, 0];
     let port = port_of_one(&rt, rt.alloc());
-    let read = LinkVfPort::parse(rt.alloc(), &entry).expect(&rt, "it is read");
+    let read = LinkVfPort::parse(rt.alloc(), &ENTRY).expect(&rt, "it is read");
     assert!(rt; is_copied(rt.alloc(), &read, &port));
-    assert!(rt; has_value(&port, 1, &entry));
+    assert!(rt; has_value(&port, 1, &ENTRY));
 }
 
 #[test]
 fn ports_written(rt: HostRuntime) {
-    let entry = [8, 0, 1, 0, 5, 0, 0, 0];
-    assert!(rt; LinkVfPort::check(&entry).is_ok());
-    assert!(rt; LinkVfPort::measure_entry(&entry) == Some(8));
+    assert!(rt; LinkVfPort::check(&ENTRY).is_ok());
+    assert!(rt; LinkVfPort::measure_entry(&ENTRY) == Some(8));
     let mut out = [255; 13];
-    assert!(rt; LinkVfPort::canon(&entry, &mut out) == Some(8));
-    assert!(rt; is_stored(8, &out, &entry));
-    let len = LinkVfPort::write_entry(25, &entry, &mut out);
-    assert!(rt; is_stored(len, &out, &[12, 0, 25, 0, 8, 0, 1, 0, 5, 0, 0, 0]));
+    assert!(rt; LinkVfPort::canon(&ENTRY, &mut out) == Some(8));
+    assert!(rt; is_stored(8, &out, &ENTRY));
+    let len = LinkVfPort::write_entry(25, &ENTRY, &mut out);
+    let text = [
+        0x0c, 0x00, 0x19, 0x00, 0x08, 0x00, 0x01, 0x00, 0x05, 0x00, 0x00, 0x00,
+    ];
+    assert!(rt; is_stored(len, &out, &text));
 }
 
 #[test]
 fn lists_of_ports_written(rt: HostRuntime) {
-    let list = [5, 0, 3, 0, 1, 0, 0, 0, 8, 0, 1, 0, 4, 0, 9, 0];
+    let list = [
+        0x05, 0x00, 0x03, 0x00, 0x01, 0x00, 0x00, 0x00, 0x08, 0x00, 0x01, 0x00, 0x04, 0x00, 0x09,
+        0x00,
+    ];
     assert!(rt; LinkVfPort::check_list(&list).is_ok());
     assert!(rt; LinkVfPort::measure_list(&list) == Some(8));
     let mut out = [255; 13];
     assert!(rt; LinkVfPort::canon_list(&list, &mut out) == Some(8));
     assert!(rt; is_stored(8, &out, &list[8..]));
     let len = LinkVfPort::write_list(24, &list, &mut out);
-    assert!(rt; is_stored(len, &out, &[12, 0, 24, 0, 8, 0, 1, 0, 4, 0, 9, 0]));
-}
-
-/// What is refused changes no byte.
-#[test]
-fn refused_ports_written(rt: HostRuntime) {
-    let mut out = [255; 8];
-    for payload in [[].as_slice(), &[5, 0, 9, 0]] {
-        assert!(rt; LinkVfPort::measure_entry(payload).is_none());
-        let Err(_error) = LinkVfPort::check(payload) else {
-            panic!(rt; "there is a port");
-        };
-        assert!(rt; LinkVfPort::canon(payload, &mut out).is_none());
-        assert!(rt; equal(&out, &[255; 8]));
-    }
-}
-
-#[test]
-fn refused_lists_of_ports_written(rt: HostRuntime) {
-    let mut out = [255; 8];
-    for payload in [[4, 0, 1, 0].as_slice(), &[5, 0, 1, 0]] {
-        assert!(rt; LinkVfPort::measure_list(payload).is_none());
-        let Err(_error) = LinkVfPort::check_list(payload) else {
-            panic!(rt; "there is a list");
-        };
-        assert!(rt; LinkVfPort::canon_list(payload, &mut out).is_none());
-        assert!(rt; equal(&out, &[255; 8]));
-    }
+    let text = [
+        0x0c, 0x00, 0x18, 0x00, 0x08, 0x00, 0x01, 0x00, 0x04, 0x00, 0x09, 0x00,
+    ];
+    assert!(rt; is_stored(len, &out, &text));
 }

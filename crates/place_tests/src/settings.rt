@@ -5,22 +5,20 @@ use expected::{
     rewrites, vec_from, writes, zeros_after,
 };
 use link_afspec::*;
-use link_recs::inet6_devconf::INET6_DEV_CONF_SIZE;
-use link_recs::inet6_icmp::ICMP6_STATS_SIZE;
 use link_recs::{Icmp6Stats, Inet6CacheInfo, Inet6DevConf, Inet6Stats, InetDevConf};
 use link_vals::{In6AddrGenMode, Inet6IfaceFlags, MctpPhysBinding};
-use nla_wire::{Cause, CloneIn, Exact, List, NLA_HEADER_SIZE, Nla, NlaRead};
+use nla_wire::{Cause, CloneIn, Exact, List, Nla, NlaRead};
 use std::alloc::Global;
 use std::net::Ipv6Addr;
 use std::process::Abort;
 
-/// The list of a family with these alone.
-const INET: usize = NLA_HEADER_SIZE + SETTINGS;
+/// The list of a family with settings of IPv4 alone.
+const INET: usize = 144;
 
 /// The attribute of IPv6 settings, and of ICMPv6 counters.
-const INET6_SETTINGS: usize = NLA_HEADER_SIZE + INET6_DEV_CONF_SIZE;
+const INET6_SETTINGS: usize = 244;
 
-const ICMP6_COUNTERS: usize = NLA_HEADER_SIZE + ICMP6_STATS_SIZE;
+const ICMP6_COUNTERS: usize = 60;
 
 #[test]
 fn settings_of_mctp(rt: HostRuntime) {
