@@ -3,3 +3,4 @@ mod Known
 mod Joined
 mod Walk
 mod Spelling
+mod Front

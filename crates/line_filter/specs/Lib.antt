@@ -1,3 +1,5 @@
 pub mod Lines
 pub mod Digits
 pub mod Steps
+pub mod Words
+pub mod OneWorded

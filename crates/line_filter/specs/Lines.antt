@@ -29,6 +29,15 @@ Relation = List ℕ → List ℕ → Type 0
 abbrev pub AnswersEach : Relation → Type 0
 AnswersEach is = (line : List ℕ) → (answer : List ℕ) × is line answer
 
+-- the line has this answer and no other
+pub record HasOneAnswer (is : Relation) (line : List ℕ) : Type 0 where
+  pub answer : List ℕ
+  pub holds : is line answer
+  pub only : (other : List ℕ) → is line other → other ≡ answer
+
+abbrev pub EachHasOneAnswer : Relation → Type 0
+EachHasOneAnswer is = (line : List ℕ) → HasOneAnswer is line
+
 -- the line and its LF
 abbrev pub with_lf : List ℕ → List ℕ
 with_lf line = line ++ 10 ∷ []

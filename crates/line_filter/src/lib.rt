@@ -6,4 +6,6 @@ pub mod digits;
 pub mod error;
 mod lines;
 pub mod run;
+pub mod worded;
+pub mod words;
 mod write;

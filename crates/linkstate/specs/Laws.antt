@@ -1,7 +1,7 @@
 -- What holds of every line.
-use Rattle.link_state.specs.State.{HasState}
-use Rattle.message_lines.specs.Answers as answers
+use Rattle.line_filter.specs.Lines as filter
+use Rattle.linkstate.specs.Lines.{IsAnswer}
 
 -- each line has an answer, and no other one
 abbrev pub EachHasOneAnswer : Type 0
-EachHasOneAnswer = answers.EachHasOneAnswer HasState
+EachHasOneAnswer = filter.EachHasOneAnswer IsAnswer

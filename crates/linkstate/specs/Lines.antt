@@ -3,11 +3,13 @@ use Rattle.std.specs.Prelude.{ℕ, List, Option}
 use Rattle.link_state.specs.State.{HasState}
 use Rattle.message_lines.specs.Answers as answers
 use Rattle.line_filter.specs.Lines as filter
+use Rattle.line_filter.specs.Words.{WithWords}
 use Rattle.line_filter.specs.declared.error.RunError.{RunError}
 
--- what a line is answered: `nothex`, `refused`, `unfit`, `empty-ports`, or `ok ` and the state encoding in hexadecimal
+-- what a line is answered: the words in front of it as they stand, and then, for its rest, `nothex`, `refused`,
+-- `unfit`, `empty-ports`, or `ok ` and the state encoding in hexadecimal
 abbrev pub IsAnswer : List ℕ → List ℕ → Type 0
-IsAnswer = answers.IsAnswer HasState
+IsAnswer = WithWords (answers.IsAnswer HasState)
 
 -- an answer to each of the lines, in order, each ended by an LF
 abbrev pub AreAnswers : List (List ℕ) → List ℕ → Type 0

@@ -6,6 +6,7 @@ use Rattle.nla_wire.specs.Frames.{IsBytes}
 use Rattle.link_msg.specs.Messages.{MeansNothing}
 use Rattle.link_msg.specs.Canonical.{IsAccepted, IsUnfit, HasEmptyPorts}
 use Rattle.link_msg.specs.declared.message.LinkMessage.{LinkMessage}
+use Rattle.line_filter.specs.Lines as filter
 use Rattle.line_filter.specs.Lines.{with_lf}
 use Rattle.line_filter.specs.Steps as steps
 
@@ -43,11 +44,6 @@ AddsAnswerTo Text bytes old new = (answer : List ℕ) × IsAnswerTo Text bytes a
 abbrev pub AddsAnswer : Encodes → List ℕ → List ℕ → List ℕ → Type 0
 AddsAnswer Text = steps.AddsAnswer (IsAnswer Text)
 
--- the line has this answer and no other
-pub record HasOneAnswer (Text : Encodes) (line : List ℕ) : Type 0 where
-  pub answer : List ℕ
-  pub is : IsAnswer Text line answer
-  pub only : (other : List ℕ) → IsAnswer Text line other → other ≡ answer
-
+-- each line has an answer, and no other one
 abbrev pub EachHasOneAnswer : Encodes → Type 0
-EachHasOneAnswer Text = (line : List ℕ) → HasOneAnswer Text line
+EachHasOneAnswer Text = filter.EachHasOneAnswer (IsAnswer Text)

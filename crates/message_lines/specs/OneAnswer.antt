@@ -11,9 +11,9 @@ use Rattle.link_msg.specs.Canonical.{IsAccepted}
 use Rattle.link_msg.specs.declared.message.LinkMessage.{LinkMessage}
 use Rattle.link_msg.proofs.LawProofs.{one_message}
 use Rattle.link_msg.proofs.Decided.{read_or_refused, fits_or_not, ports_or_not}
-use Rattle.line_filter.specs.Lines.{AnswersEach}
+use Rattle.line_filter.specs.Lines.{AnswersEach, HasOneAnswer}
 use Rattle.message_lines.specs.Answers.{Encodes, IsEncoding, IsAnswerTo, IsAnswerToSpelled, IsAnswer}
-use Rattle.message_lines.specs.Answers.{HasOneAnswer, EachHasOneAnswer}
+use Rattle.message_lines.specs.Answers.{EachHasOneAnswer}
 
 module _ (Text : Encodes) (laws : IsEncoding Text) where
   -- ** an answer to bytes
@@ -79,19 +79,20 @@ module _ (Text : Encodes) (laws : IsEncoding Text) where
   spelled_bytes [] h = tt
   spelled_bytes (x ∷ b) h = (h 0, spelled_bytes b (λ i. h (suc i)))
 
-  one_spelled : (line : List ℕ) (r : Result (List ℕ) FromHexError) → decode_of line ≡ r → HasOneAnswer Text line
+  one_spelled : (line : List ℕ) (r : Result (List ℕ) FromHexError) → decode_of line ≡ r
+      → HasOneAnswer (IsAnswer Text) line
   one_spelled line (Ok b) is =
       let bytes = spelled_bytes b (decode_of-ok line b is).3 in
       let some = has_answer b bytes in
       record {
         answer = some.0;
-        is = subst (λ (t : Result (List ℕ) FromHexError). IsAnswerToSpelled Text t some.0) (sym is) some.1;
+        holds = subst (λ (t : Result (List ℕ) FromHexError). IsAnswerToSpelled Text t some.0) (sym is) some.1;
         only = λ other h. only_answer b some.0 other some.1
             (subst (λ (t : Result (List ℕ) FromHexError). IsAnswerToSpelled Text t other) is h);
       }
   one_spelled line (Err e) is = record {
     answer = codes "nothex";
-    is = subst (λ (t : Result (List ℕ) FromHexError). IsAnswerToSpelled Text t (codes "nothex")) (sym is) refl;
+    holds = subst (λ (t : Result (List ℕ) FromHexError). IsAnswerToSpelled Text t (codes "nothex")) (sym is) refl;
     only = λ other h. subst (λ (t : Result (List ℕ) FromHexError). IsAnswerToSpelled Text t other) is h;
   }
 
@@ -99,4 +100,4 @@ module _ (Text : Encodes) (laws : IsEncoding Text) where
   one_answer line = one_spelled line (decode_of line) refl
 
   pub each_answered : AnswersEach (IsAnswer Text)
-  each_answered line = let one = one_answer line in (one.answer, one.is)
+  each_answered line = let one = one_answer line in (one.answer, one.holds)

@@ -1,0 +1,38 @@
+//! A filter of lines that may have words in front.
+
+ghost use Rattle.line_filter.specs.Words.{WithWords};
+ghost use Rattle.line_filter.specs.OneWorded.{each_worded};
+
+use crate::answers::Answer;
+use crate::words::split;
+use std::alloc::{AllocError, Global};
+
+/// Answers a line by the words in front of it, as they stand, and then as another filter answers the rest.
+#[derive(Drop)]
+pub struct Worded<A: Answer> {
+    rest: A,
+}
+
+impl<A: Answer> Worded<A> {
+    /// Answers the rest of a line by this filter.
+    pub fn new(rest: A) -> Worded<A> {
+        Worded { rest }
+    }
+}
+
+impl<A: Answer> Answer for Worded<A> {
+    ghost is_answer = { WithWords A.is_answer };
+
+    fn push(
+        &mut self,
+        alloc: Global,
+        line: &[u8],
+        waiting: &mut Vec<u8>,
+    ) -> Result<(), AllocError> {
+        let (front, rest) = split(line);
+        waiting.extend_from_slice(front)?;
+        self.rest.push(alloc, rest, waiting)
+    }
+
+    ghost has = { each_worded A.is_answer A.has };
+}
