@@ -8,7 +8,7 @@ use Rattle.link_msg.specs.Messages.{FirstFault, MeansNothing}
 use Rattle.link_msg.specs.declared.message.LinkMessage.{LinkMessage}
 use Rattle.link_msg.proofs.Reading.{message_agrees}
 use Rattle.shown.specs.Pages.{IsObject}
-use Rattle.linkshow.specs.Lines.{IsAnswerTo, fault_head, message_head}
+use Rattle.message_shown.specs.Lines.{IsAnswerTo, fault_head, message_head}
 use Rattle.linkshow.specs.Laws.{FaultsAreRefusals}
 
 no_message : (b : List ℕ) (c : Cause) → FirstFault b c → MeansNothing b

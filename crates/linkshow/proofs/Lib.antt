@@ -1,5 +1,1 @@
-mod Added
 mod Faults
-mod Shown
-mod Named
-mod Places

@@ -3,7 +3,7 @@ use Rattle.std.specs.Prelude.{List, ℕ}
 use Rattle.nla_wire.specs.declared.error.Cause.{Cause}
 use Rattle.link_msg.specs.Messages.{FirstFault, MeansNothing}
 use Rattle.shown.specs.Pages.{IsObject}
-use Rattle.linkshow.specs.Lines.{IsAnswerTo, fault_head}
+use Rattle.message_shown.specs.Lines.{IsAnswerTo, fault_head}
 
 -- the answer to bytes that mean no message begins with the cause of their fault, and no other answer begins with one
 pub record FaultsAreRefusals : Type 0 where

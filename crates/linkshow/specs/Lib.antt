@@ -1,12 +1,2 @@
-pub mod Causes
-pub mod Places
 pub mod Lines
-pub mod Answered
-pub mod Records
-pub mod Counters
-pub mod Functions
-pub mod Nests
-pub mod Settings
-pub mod Attributes
 pub mod Laws
-pub mod Numbered

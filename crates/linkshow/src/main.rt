@@ -1,18 +1,8 @@
 //! Shows lines of hexadecimal link messages as lines of JSON.
 #![tactic(auto)]
 
-mod afspec;
-mod answers;
-mod attribute;
-mod counts;
-mod fault;
 mod laws;
-mod member;
-mod names;
-mod nests;
 mod run;
-mod vf;
-mod wire;
 
 use run::run;
 use std::process::ExitCode;

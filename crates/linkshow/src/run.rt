@@ -3,7 +3,7 @@
 ghost use Rattle.std.specs.Prelude.{IfErr, OnOk};
 ghost use Rattle.linkshow.specs.Lines.{RanToEnd, Stopped};
 
-use crate::answers::Shown;
+use message_shown::Shown;
 use line_filter::error::RunError;
 use line_filter::run as filter;
 use std::alloc::Global;

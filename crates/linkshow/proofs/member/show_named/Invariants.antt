@@ -1,9 +1,0 @@
-use Rattle.std.proofs.Common.{◌≡◌, drop, map}
-use Rattle.std.specs.List.{flat_map}
-use Rattle.shown.specs.Drafts.{with_members}
-use Rattle.linkshow.specs.Places.{shown_as}
-use Rattle.linkshow.proofs.member.show_named.Given as goal
-
-abbrev pub invariant-loop-item : goal.invariant-loop-item
-invariant-loop-item g l = with_members (flat_map shown_as (map g.T.Member.item (drop l.item-index l.items))) l.page
-    ≡ with_members (flat_map shown_as (map g.T.Member.item l.items)) l.fn.page

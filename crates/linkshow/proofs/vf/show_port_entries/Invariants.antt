@@ -1,9 +1,0 @@
-use Rattle.std.proofs.Common.{◌≡◌, drop, map}
-use Rattle.shown.specs.Drafts.{with_members}
-use Rattle.linkshow.specs.Places.{objects}
-use Rattle.linkshow.specs.Functions.{port_members}
-use Rattle.linkshow.proofs.vf.show_port_entries.Given as goal
-
-abbrev pub invariant-loop-entry : goal.invariant-loop-entry
-invariant-loop-entry l = with_members (objects (map port_members (drop l.entry-index l.entries))) l.page
-    ≡ with_members (objects (map port_members l.entries)) l.fn.page

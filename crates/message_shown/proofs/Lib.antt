@@ -1,0 +1,4 @@
+mod Added
+mod Filled
+mod Named
+mod Places

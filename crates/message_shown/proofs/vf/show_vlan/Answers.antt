@@ -1,0 +1,25 @@
+use Rattle.std.proofs.Common.{◌≡◌}
+use Rattle.std.specs.Prelude.{codes}
+use Rattle.std.proofs.lemmas.Result.{on_ok_weaker}
+use Rattle.shown.specs.Drafts.{with_begun, with_members}
+use Rattle.shown.specs.declared.page.Nest.TheVariants.{Object}
+use Rattle.shown.proofs.Drafts.{object_ended}
+use Rattle.message_shown.specs.Functions.{vlan_shown}
+use Rattle.message_shown.proofs.vf.show_vlan.Goals as goal
+
+pub returns : goal.returns
+returns c =
+    let members = vlan_shown c.args.vlan.now in
+    let begun : c.begin.new.self ≡ with_begun (codes "vlan") Object c.args.page.now = c.in_ok-begin.ensures in
+    let filled : c.number-3.new.self ≡ with_members members (with_begun (codes "vlan") Object c.args.page.now) =
+    cc (
+      begun,
+      c.in_ok-number.ensures,
+      c.in_ok-number-2.ensures,
+      c.in_ok-number-3.ensures,
+      c.into.ensures,
+      c.into-2.ensures,
+      c.into-3.ensures,
+    ) in
+    on_ok_weaker c.end.result (λ ends. object_ended (codes "vlan") members c.args.page.now _ _ filled ends)
+    c.end.ensures

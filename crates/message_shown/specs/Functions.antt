@@ -1,0 +1,147 @@
+-- Records of virtual functions: the members that each is shown as.
+use Rattle.std.specs.Prelude.{ℕ, List, [], ◌∷◌, Bool, map, codes}
+use Rattle.std.specs.List.{flat_map}
+use Rattle.hex.specs.Hex.{encode_lower}
+use Rattle.json.specs.Token.{string}
+use Rattle.link_vals.specs.VfLinkStateTable.{vf_link_state_number}
+use Rattle.link_vals.specs.declared.vlan_protocol.VlanProtocol.{VlanProtocol}
+use Rattle.link_vals.specs.declared.vlan_protocol.VlanProtocol.TheVariants.{Ieee8021Q, Ieee8021Ad}
+use Rattle.link_vf.specs.declared.stats.VfStats.{VfStats}
+use Rattle.link_vf.specs.declared.stats.VfStats.TheVariants.{RxPackets, TxPackets, RxBytes, TxBytes, Broadcast}
+use Rattle.link_vf.specs.declared.stats.VfStats.TheVariants.{Multicast, RxDropped, TxDropped, Other}
+use Rattle.link_vf.specs.declared.vf_info.VfInfo.{VfInfo}
+use Rattle.link_vf.specs.declared.vf_info.VfInfo.TheVariants as Infos
+use Rattle.link_vf.specs.declared.vf_list.LinkVfInfo.{LinkVfInfo}
+use Rattle.link_vf.specs.declared.port_list.LinkVfPort.{LinkVfPort}
+use Rattle.link_vf.specs.declared.vf_port.VfPort.{VfPort}
+use Rattle.link_vf.specs.declared.vf_port.VfPort.TheVariants as Ports
+use Rattle.link_vf.specs.declared.numbers.TheConstants.{IFLA_VF_MAC, IFLA_VF_VLAN, IFLA_VF_TX_RATE, IFLA_VF_SPOOFCHK}
+use Rattle.link_vf.specs.declared.numbers.TheConstants.{IFLA_VF_LINK_STATE, IFLA_VF_RATE, IFLA_VF_RSS_QUERY_EN}
+use Rattle.link_vf.specs.declared.numbers.TheConstants.{IFLA_VF_STATS, IFLA_VF_TRUST, IFLA_VF_IB_NODE_GUID}
+use Rattle.link_vf.specs.declared.numbers.TheConstants.{IFLA_VF_IB_PORT_GUID, IFLA_VF_VLAN_LIST, IFLA_VF_BROADCAST}
+use Rattle.link_vf.specs.declared.numbers.TheConstants.{IFLA_VF_STATS_RX_PACKETS, IFLA_VF_STATS_TX_PACKETS}
+use Rattle.link_vf.specs.declared.numbers.TheConstants.{IFLA_VF_STATS_RX_BYTES, IFLA_VF_STATS_TX_BYTES}
+use Rattle.link_vf.specs.declared.numbers.TheConstants.{IFLA_VF_STATS_BROADCAST, IFLA_VF_STATS_MULTICAST}
+use Rattle.link_vf.specs.declared.numbers.TheConstants.{IFLA_VF_STATS_RX_DROPPED, IFLA_VF_STATS_TX_DROPPED}
+use Rattle.link_vf.specs.declared.numbers.TheConstants.{IFLA_VF_VLAN_INFO}
+use Rattle.link_vf.specs.declared.vf_vlan.VfVlan.{VfVlan}
+use Rattle.link_vf.specs.declared.vf_vlan.VfVlan.TheVariants as Vlans
+use Rattle.link_vfrec.specs.Truth.{on_number}
+use Rattle.link_vfrec.specs.declared.guid.VfInfoGuid.{VfInfoGuid}
+use Rattle.link_vfrec.specs.declared.link_state.VfInfoLinkState.{VfInfoLinkState}
+use Rattle.link_vfrec.specs.declared.mac.VfInfoMac.{VfInfoMac}
+use Rattle.link_vfrec.specs.declared.rate.VfInfoRate.{VfInfoRate}
+use Rattle.link_vfrec.specs.declared.vf_vlan.VfVlanInfo.{VfVlanInfo}
+use Rattle.link_vfrec.specs.declared.vlan.VfInfoVlan.{VfInfoVlan}
+use Rattle.shown.specs.Drafts.{Members, object_of, list_of}
+use Rattle.shown.specs.Values.{name_or_number, numbered}
+use Rattle.message_shown.specs.Places.{Item, kept_item, members_of, listed_under}
+
+-- a function, and one number of it
+abbrev pub word_shown : ℕ → List ℕ → ℕ → Members
+word_shown function field value = numbered (codes "vf") function ∷ numbered field value ∷ []
+
+-- a function, and whether a setting of it is on
+abbrev pub setting_shown : ℕ → Bool → Members
+setting_shown function is_on = word_shown function (codes "setting") (on_number is_on)
+
+-- all the octets of the address
+abbrev pub mac_shown : VfInfoMac → Members
+mac_shown v = numbered (codes "vf") v.vf_id ∷ (codes "mac", string (encode_lower v.mac) ∷ []) ∷ []
+
+abbrev pub vlan_shown : VfInfoVlan → Members
+vlan_shown v =
+    numbered (codes "vf") v.vf_id ∷ numbered (codes "vlan") v.vlan_id ∷ numbered (codes "qos") v.qos ∷ []
+
+-- the states of a function's link that have a name, by their numbers
+abbrev pub link_state_names : List (List ℕ)
+link_state_names = codes "auto" ∷ codes "enable" ∷ codes "disable" ∷ []
+
+abbrev pub link_state_shown : VfInfoLinkState → Members
+link_state_shown v =
+    numbered (codes "vf") v.vf_id
+    ∷ (codes "link-state", name_or_number link_state_names (vf_link_state_number v.state) ∷ [])
+    ∷ []
+
+abbrev pub rate_shown : VfInfoRate → Members
+rate_shown v =
+    numbered (codes "vf") v.vf_id
+    ∷ numbered (codes "min-tx-rate") v.min_tx_rate
+    ∷ numbered (codes "max-tx-rate") v.max_tx_rate
+    ∷ []
+
+abbrev pub guid_shown : VfInfoGuid → Members
+guid_shown v = numbered (codes "vf") v.vf_id ∷ numbered (codes "guid") v.guid ∷ []
+
+-- the name of a protocol
+abbrev pub vlan_protocol_name : VlanProtocol → List ℕ
+vlan_protocol_name Ieee8021Q = codes "8021q"
+vlan_protocol_name Ieee8021Ad = codes "8021ad"
+
+abbrev pub vlan_info_shown : VfVlanInfo → Members
+vlan_info_shown v =
+    numbered (codes "vf") v.vf_id
+    ∷ numbered (codes "vlan") v.vlan_id
+    ∷ numbered (codes "qos") v.qos
+    ∷ (codes "vlan-proto", string (vlan_protocol_name v.protocol) ∷ [])
+    ∷ []
+
+-- a counter of a function
+abbrev pub vf_stats_item : VfStats → Item
+vf_stats_item (RxPackets n) = Item.named IFLA_VF_STATS_RX_PACKETS (numbered (codes "rx-packets") n ∷ [])
+vf_stats_item (TxPackets n) = Item.named IFLA_VF_STATS_TX_PACKETS (numbered (codes "tx-packets") n ∷ [])
+vf_stats_item (RxBytes n) = Item.named IFLA_VF_STATS_RX_BYTES (numbered (codes "rx-bytes") n ∷ [])
+vf_stats_item (TxBytes n) = Item.named IFLA_VF_STATS_TX_BYTES (numbered (codes "tx-bytes") n ∷ [])
+vf_stats_item (Broadcast n) = Item.named IFLA_VF_STATS_BROADCAST (numbered (codes "broadcast") n ∷ [])
+vf_stats_item (Multicast n) = Item.named IFLA_VF_STATS_MULTICAST (numbered (codes "multicast") n ∷ [])
+vf_stats_item (RxDropped n) = Item.named IFLA_VF_STATS_RX_DROPPED (numbered (codes "rx-dropped") n ∷ [])
+vf_stats_item (TxDropped n) = Item.named IFLA_VF_STATS_TX_DROPPED (numbered (codes "tx-dropped") n ∷ [])
+vf_stats_item (Other nla) = kept_item nla
+
+-- a vlan of a list
+abbrev pub vf_vlan_item : VfVlan → Item
+vf_vlan_item (Vlans.Info info) =
+    Item.named IFLA_VF_VLAN_INFO ((codes "info", object_of (vlan_info_shown info)) ∷ [])
+vf_vlan_item (Vlans.Other nla) = kept_item nla
+
+-- of a port every attribute is kept
+abbrev pub vf_port_item : VfPort → Item
+vf_port_item (Ports.Other nla) = kept_item nla
+
+abbrev pub vf_info_item : VfInfo → Item
+vf_info_item (Infos.Mac v) = Item.named IFLA_VF_MAC ((codes "mac", object_of (mac_shown v)) ∷ [])
+vf_info_item (Infos.Vlan v) = Item.named IFLA_VF_VLAN ((codes "vlan", object_of (vlan_shown v)) ∷ [])
+vf_info_item (Infos.TxRate v) =
+    Item.named IFLA_VF_TX_RATE ((codes "tx-rate", object_of (word_shown v.vf_id (codes "rate") v.rate)) ∷ [])
+vf_info_item (Infos.SpoofCheck v) =
+    Item.named IFLA_VF_SPOOFCHK ((codes "spoofchk", object_of (setting_shown v.vf_id v.enabled)) ∷ [])
+vf_info_item (Infos.LinkState v) =
+    Item.named IFLA_VF_LINK_STATE ((codes "link-state", object_of (link_state_shown v)) ∷ [])
+vf_info_item (Infos.Rate v) = Item.named IFLA_VF_RATE ((codes "rate", object_of (rate_shown v)) ∷ [])
+vf_info_item (Infos.RssQueryEn v) =
+    Item.named IFLA_VF_RSS_QUERY_EN ((codes "rss-query-en", object_of (setting_shown v.vf_id v.enabled)) ∷ [])
+vf_info_item (Infos.Stats items) =
+    Item.named IFLA_VF_STATS ((codes "stats", object_of (members_of (map vf_stats_item items))) ∷ [])
+vf_info_item (Infos.Trust v) =
+    Item.named IFLA_VF_TRUST ((codes "trust", object_of (setting_shown v.vf_id v.enabled)) ∷ [])
+vf_info_item (Infos.IbNodeGuid v) =
+    Item.named IFLA_VF_IB_NODE_GUID ((codes "ib-node-guid", object_of (guid_shown v)) ∷ [])
+vf_info_item (Infos.IbPortGuid v) =
+    Item.named IFLA_VF_IB_PORT_GUID ((codes "ib-port-guid", object_of (guid_shown v)) ∷ [])
+vf_info_item (Infos.VlanList items) =
+    Item.named IFLA_VF_VLAN_LIST
+    ((codes "vlan-list", object_of (listed_under (codes "info") (map vf_vlan_item items))) ∷ [])
+vf_info_item (Infos.Broadcast v) =
+    Item.named IFLA_VF_BROADCAST ((codes "broadcast", string (encode_lower v.addr) ∷ []) ∷ [])
+vf_info_item (Infos.Other nla) = kept_item nla
+
+-- all that a function holds, and all that a port holds
+abbrev pub function_members : LinkVfInfo → Members
+function_members entry = members_of (map vf_info_item entry.0)
+
+abbrev pub port_members : LinkVfPort → Members
+port_members entry = members_of (map vf_port_item entry.0)
+
+-- a list of objects, under a name
+abbrev pub objects_under : List ℕ → List Members → Members
+objects_under name os = (name, list_of (flat_map object_of os)) ∷ []

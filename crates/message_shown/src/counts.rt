@@ -1,0 +1,146 @@
+//! Records of numbers of one width, by the names of their fields.
+
+ghost use Rattle.std.specs.Prelude.{◌≡◌, OnOk, map};
+ghost use Rattle.std.specs.Int.{w64, cast_unsigned};
+ghost use Rattle.shown.specs.Drafts.{with_members, with_value, object_of};
+ghost use Rattle.message_shown.specs.Records.{numbers_of, signed_of};
+ghost use Rattle.message_shown.specs.Counters.{stats_shown, stats64_shown, inet_conf_shown, inet6_conf_shown};
+ghost use Rattle.message_shown.specs.Counters.{inet6_stats_shown, icmp6_stats_shown, cache_info_shown, map_shown};
+
+use crate::names::{CACHE_INFO, ICMP6_STATS, INET_CONF, INET6_CONF, INET6_STATS, STATS};
+use link_msg::{
+    Icmp6Stats, Inet6CacheInfo, Inet6DevConf, Inet6Stats, InetDevConf, Map, Stats, Stats64,
+};
+use shown::{Nest, Page};
+use std::alloc::AllocError;
+
+/// Adds numbers of four bytes, as far as there are names.
+fn show_u32s(page: &mut Page, names: &[&str], numbers: &[u32]) -> Result<(), AllocError>
+    ensures { OnOk result (page.new ≡ with_members
+        (numbers_of (map (λ name. name.now) names.now) numbers.now) page.old) }
+{
+    for i in 0..names.len().min(numbers.len()) {
+        page.number(names[i], numbers[i].into())?;
+    }
+    Ok(())
+}
+
+/// Adds numbers of four bytes that may be below zero, as far as there are names.
+fn show_i32s(page: &mut Page, names: &[&str], numbers: &[i32]) -> Result<(), AllocError>
+    ensures { OnOk result (page.new ≡ with_members
+        (signed_of (map (λ name. name.now) names.now) numbers.now) page.old) }
+{
+    for i in 0..names.len().min(numbers.len()) {
+        page.signed(names[i], numbers[i].into())?;
+    }
+    Ok(())
+}
+
+/// Adds numbers of eight bytes, as far as there are names.
+fn show_u64s(page: &mut Page, names: &[&str], numbers: &[u64]) -> Result<(), AllocError>
+    ensures { OnOk result (page.new ≡ with_members
+        (numbers_of (map (λ name. name.now) names.now) numbers.now) page.old) }
+{
+    for i in 0..names.len().min(numbers.len()) {
+        page.number(names[i], numbers[i])?;
+    }
+    Ok(())
+}
+
+/// Adds counters of eight bytes, which are kept as numbers that may be below zero and are none, as far as there are
+/// names.
+fn show_i64s(page: &mut Page, names: &[&str], numbers: &[i64]) -> Result<(), AllocError>
+    ensures { OnOk result (page.new ≡ with_members
+        (numbers_of (map (λ name. name.now) names.now) (map (cast_unsigned w64) numbers.now))
+        page.old) }
+{
+    for i in 0..names.len().min(numbers.len()) {
+        page.number(names[i], numbers[i].cast_unsigned())?;
+    }
+    Ok(())
+}
+
+/// Adds the counters of four bytes.
+pub fn show_stats(page: &mut Page, name: &str, stats: &Stats) -> Result<(), AllocError>
+    ensures { OnOk result
+        (page.new ≡ with_value name.now (object_of (stats_shown stats.now)) page.old) }
+{
+    page.begin(name, Nest::Object)?;
+    show_u32s(page, &STATS, &stats.words())?;
+    page.end()
+}
+
+/// Adds the counters of eight bytes.
+pub fn show_stats64(page: &mut Page, name: &str, stats: &Stats64) -> Result<(), AllocError>
+    ensures { OnOk result
+        (page.new ≡ with_value name.now (object_of (stats64_shown stats.now)) page.old) }
+{
+    page.begin(name, Nest::Object)?;
+    show_u64s(page, &STATS, &stats.words())?;
+    page.end()
+}
+
+/// Adds the settings of IPv4.
+pub fn show_inet_conf(page: &mut Page, name: &str, conf: &InetDevConf) -> Result<(), AllocError>
+    ensures { OnOk result
+        (page.new ≡ with_value name.now (object_of (inet_conf_shown conf.now)) page.old) }
+{
+    page.begin(name, Nest::Object)?;
+    show_i32s(page, &INET_CONF, &conf.words())?;
+    page.end()
+}
+
+/// Adds the settings of IPv6.
+pub fn show_inet6_conf(page: &mut Page, name: &str, conf: &Inet6DevConf) -> Result<(), AllocError>
+    ensures { OnOk result
+        (page.new ≡ with_value name.now (object_of (inet6_conf_shown conf.now)) page.old) }
+{
+    page.begin(name, Nest::Object)?;
+    show_i32s(page, &INET6_CONF, &conf.words())?;
+    page.end()
+}
+
+/// Adds the counters of IPv6.
+pub fn show_inet6_stats(page: &mut Page, name: &str, stats: &Inet6Stats) -> Result<(), AllocError>
+    ensures { OnOk result
+        (page.new ≡ with_value name.now (object_of (inet6_stats_shown stats.now)) page.old) }
+{
+    page.begin(name, Nest::Object)?;
+    show_i64s(page, &INET6_STATS, &stats.words())?;
+    page.end()
+}
+
+/// Adds the counters of ICMPv6.
+pub fn show_icmp6_stats(page: &mut Page, name: &str, stats: &Icmp6Stats) -> Result<(), AllocError>
+    ensures { OnOk result
+        (page.new ≡ with_value name.now (object_of (icmp6_stats_shown stats.now)) page.old) }
+{
+    page.begin(name, Nest::Object)?;
+    show_i64s(page, &ICMP6_STATS, &stats.words())?;
+    page.end()
+}
+
+/// Adds the times of the neighbour cache.
+pub fn show_cache_info(page: &mut Page, name: &str, info: &Inet6CacheInfo) -> Result<(), AllocError>
+    ensures { OnOk result
+        (page.new ≡ with_value name.now (object_of (cache_info_shown info.now)) page.old) }
+{
+    page.begin(name, Nest::Object)?;
+    show_i32s(page, &CACHE_INFO, &info.words())?;
+    page.end()
+}
+
+/// Adds the addresses of a device.
+pub fn show_map(page: &mut Page, name: &str, map: &Map) -> Result<(), AllocError>
+    ensures { OnOk result
+        (page.new ≡ with_value name.now (object_of (map_shown map.now)) page.old) }
+{
+    page.begin(name, Nest::Object)?;
+    page.number("mem-start", map.memory_start)?;
+    page.number("mem-end", map.memory_end)?;
+    page.number("base-addr", map.base_address)?;
+    page.number("irq", map.irq.into())?;
+    page.number("dma", map.dma.into())?;
+    page.number("port", map.port.into())?;
+    page.end()
+}

@@ -1,0 +1,268 @@
+//! Virtual functions and ports.
+
+ghost use Rattle.std.specs.Prelude.{◌≡◌, [], ◌∷◌, OnOk, map, codes};
+ghost use Rattle.shown.specs.Drafts.{with_members, with_value, object_of};
+ghost use Rattle.message_shown.specs.Places.{objects};
+ghost use Rattle.message_shown.specs.Functions.{word_shown, setting_shown, mac_shown, vlan_shown, link_state_shown};
+ghost use Rattle.message_shown.specs.Functions.{rate_shown, guid_shown, vlan_protocol_name, vlan_info_shown};
+ghost use Rattle.message_shown.specs.Functions.{vf_stats_item, vf_vlan_item, vf_port_item, vf_info_item};
+ghost use Rattle.message_shown.specs.Functions.{function_members};
+ghost use Rattle.message_shown.specs.Functions.{port_members, objects_under};
+ghost use Rattle.message_shown.specs.Numbered.{vf_info_numbered, vf_stats_numbered, vf_vlan_numbered, vf_port_numbered};
+
+use crate::member::{Member, frame_of, show_listed, show_object};
+use crate::names::VF_LINK_STATES;
+use link_msg::{
+    LinkVfInfo, LinkVfPort, VfInfo, VfInfoGuid, VfInfoLinkState, VfInfoMac, VfInfoRate, VfInfoVlan,
+    VfPort, VfStats, VfVlan, VfVlanInfo, VlanProtocol,
+};
+use shown::{Nest, Page};
+use std::alloc::AllocError;
+
+/// Adds virtual functions, as objects.
+fn show_function_entries(page: &mut Page, entries: &[LinkVfInfo]) -> Result<(), AllocError>
+    ensures { OnOk result
+        (page.new ≡ with_members (objects (map function_members entries.now)) page.old) }
+{
+    for entry in entries {
+        show_object(page, "", entry.0.as_slice())?;
+    }
+    Ok(())
+}
+
+/// Adds the list of virtual functions.
+pub fn show_functions(page: &mut Page, name: &str, entries: &[LinkVfInfo]) -> Result<(), AllocError>
+    ensures { OnOk result (page.new ≡ with_members ((
+      name.now,
+      object_of
+          (objects_under (codes "info") (map function_members entries.now)),
+    ) ∷ []) page.old) }
+{
+    page.begin(name, Nest::Object)?;
+    page.begin("info", Nest::List)?;
+    show_function_entries(page, entries)?;
+    page.end()?;
+    page.end()
+}
+
+/// Adds ports, as objects.
+fn show_port_entries(page: &mut Page, entries: &[LinkVfPort]) -> Result<(), AllocError>
+    ensures { OnOk result
+        (page.new ≡ with_members (objects (map port_members entries.now)) page.old) }
+{
+    for entry in entries {
+        show_object(page, "", entry.0.as_slice())?;
+    }
+    Ok(())
+}
+
+/// Adds the list of ports.
+pub fn show_ports(page: &mut Page, name: &str, entries: &[LinkVfPort]) -> Result<(), AllocError>
+    ensures { OnOk result (page.new ≡ with_members ((
+      name.now,
+      object_of
+          (objects_under (codes "port") (map port_members entries.now)),
+    ) ∷ []) page.old) }
+{
+    page.begin(name, Nest::Object)?;
+    page.begin("port", Nest::List)?;
+    show_port_entries(page, entries)?;
+    page.end()?;
+    page.end()
+}
+
+impl Member for VfPort {
+    ghost item = { vf_port_item };
+
+    fn kept(&self) -> Option<(u16, &[u8])> {
+        let VfPort::Other(nla) = self;
+        frame_of(nla)
+    }
+
+    fn show(&self, _page: &mut Page) -> Result<(), AllocError> {
+        Ok(())
+    }
+
+    ghost numbered = { vf_port_numbered };
+}
+
+impl Member for VfInfo {
+    ghost item = { vf_info_item };
+
+    fn kept(&self) -> Option<(u16, &[u8])> {
+        match self {
+            VfInfo::Other(nla) => frame_of(nla),
+            _ => None,
+        }
+    }
+
+    fn show(&self, page: &mut Page) -> Result<(), AllocError> {
+        match self {
+            VfInfo::Mac(mac) => show_mac(page, mac),
+            VfInfo::Vlan(vlan) => show_vlan(page, vlan),
+            VfInfo::TxRate(tx) => show_word(page, "tx-rate", tx.vf_id, "rate", tx.rate),
+            VfInfo::SpoofCheck(it) => show_setting(page, "spoofchk", it.vf_id, it.enabled),
+            VfInfo::LinkState(state) => show_link_state(page, state),
+            VfInfo::Rate(rate) => show_rate(page, rate),
+            VfInfo::RssQueryEn(it) => show_setting(page, "rss-query-en", it.vf_id, it.enabled),
+            VfInfo::Stats(items) => show_object(page, "stats", items.as_slice()),
+            VfInfo::Trust(it) => show_setting(page, "trust", it.vf_id, it.enabled),
+            VfInfo::IbNodeGuid(guid) => show_guid(page, "ib-node-guid", guid),
+            VfInfo::IbPortGuid(guid) => show_guid(page, "ib-port-guid", guid),
+            VfInfo::VlanList(items) => show_listed(page, "vlan-list", "info", items.as_slice()),
+            VfInfo::Broadcast(it) => page.hex("broadcast", &it.addr),
+            VfInfo::Other(_) => Ok(()),
+        }
+    }
+
+    ghost numbered = { vf_info_numbered };
+}
+
+/// Adds a record of a function and one number.
+fn show_word(
+    page: &mut Page,
+    name: &str,
+    function: u32,
+    field: &str,
+    value: u32,
+) -> Result<(), AllocError>
+    ensures { OnOk result (page.new
+        ≡ with_value name.now (object_of (word_shown function field.now value)) page.old) }
+{
+    page.begin(name, Nest::Object)?;
+    page.number("vf", function.into())?;
+    page.number(field, value.into())?;
+    page.end()
+}
+
+fn show_setting(
+    page: &mut Page,
+    name: &str,
+    function: u32,
+    is_enabled: bool,
+) -> Result<(), AllocError>
+    ensures { OnOk result (page.new
+        ≡ with_value name.now (object_of (setting_shown function is_enabled)) page.old) }
+{
+    show_word(page, name, function, "setting", is_enabled.into())
+}
+
+fn show_mac(page: &mut Page, mac: &VfInfoMac) -> Result<(), AllocError>
+    ensures { OnOk result
+        (page.new ≡ with_value (codes "mac") (object_of (mac_shown mac.now)) page.old) }
+{
+    page.begin("mac", Nest::Object)?;
+    page.number("vf", mac.vf_id.into())?;
+    page.hex("mac", &mac.mac)?;
+    page.end()
+}
+
+fn show_vlan(page: &mut Page, vlan: &VfInfoVlan) -> Result<(), AllocError>
+    ensures { OnOk result
+        (page.new ≡ with_value (codes "vlan") (object_of (vlan_shown vlan.now)) page.old) }
+{
+    page.begin("vlan", Nest::Object)?;
+    page.number("vf", vlan.vf_id.into())?;
+    page.number("vlan", vlan.vlan_id.into())?;
+    page.number("qos", vlan.qos.into())?;
+    page.end()
+}
+
+fn show_link_state(page: &mut Page, state: &VfInfoLinkState) -> Result<(), AllocError>
+    ensures { OnOk result (page.new
+        ≡ with_value (codes "link-state") (object_of (link_state_shown state.now)) page.old) }
+{
+    page.begin("link-state", Nest::Object)?;
+    page.number("vf", state.vf_id.into())?;
+    page.choice("link-state", u32::from(state.state).into(), &VF_LINK_STATES)?;
+    page.end()
+}
+
+fn show_rate(page: &mut Page, rate: &VfInfoRate) -> Result<(), AllocError>
+    ensures { OnOk result
+        (page.new ≡ with_value (codes "rate") (object_of (rate_shown rate.now)) page.old) }
+{
+    page.begin("rate", Nest::Object)?;
+    page.number("vf", rate.vf_id.into())?;
+    page.number("min-tx-rate", rate.min_tx_rate.into())?;
+    page.number("max-tx-rate", rate.max_tx_rate.into())?;
+    page.end()
+}
+
+fn show_guid(page: &mut Page, name: &str, guid: &VfInfoGuid) -> Result<(), AllocError>
+    ensures { OnOk result
+        (page.new ≡ with_value name.now (object_of (guid_shown guid.now)) page.old) }
+{
+    page.begin(name, Nest::Object)?;
+    page.number("vf", guid.vf_id.into())?;
+    page.number("guid", guid.guid)?;
+    page.end()
+}
+
+impl Member for VfVlan {
+    ghost item = { vf_vlan_item };
+
+    fn kept(&self) -> Option<(u16, &[u8])> {
+        match self {
+            VfVlan::Other(nla) => frame_of(nla),
+            _ => None,
+        }
+    }
+
+    fn show(&self, page: &mut Page) -> Result<(), AllocError> {
+        match self {
+            VfVlan::Info(info) => show_vlan_info(page, info),
+            VfVlan::Other(_) => Ok(()),
+        }
+    }
+
+    ghost numbered = { vf_vlan_numbered };
+}
+
+fn protocol_name(protocol: VlanProtocol) -> &'static str
+    ensures { result.now ≡ vlan_protocol_name protocol }
+{
+    match protocol {
+        VlanProtocol::Ieee8021Q => "8021q",
+        VlanProtocol::Ieee8021Ad => "8021ad",
+    }
+}
+
+fn show_vlan_info(page: &mut Page, info: &VfVlanInfo) -> Result<(), AllocError>
+    ensures { OnOk result
+        (page.new ≡ with_value (codes "info") (object_of (vlan_info_shown info.now)) page.old) }
+{
+    page.begin("info", Nest::Object)?;
+    page.number("vf", info.vf_id.into())?;
+    page.number("vlan", info.vlan_id.into())?;
+    page.number("qos", info.qos.into())?;
+    page.string("vlan-proto", protocol_name(info.protocol))?;
+    page.end()
+}
+
+impl Member for VfStats {
+    ghost item = { vf_stats_item };
+
+    fn kept(&self) -> Option<(u16, &[u8])> {
+        match self {
+            VfStats::Other(nla) => frame_of(nla),
+            _ => None,
+        }
+    }
+
+    fn show(&self, page: &mut Page) -> Result<(), AllocError> {
+        match self {
+            VfStats::RxPackets(n) => page.number("rx-packets", *n),
+            VfStats::TxPackets(n) => page.number("tx-packets", *n),
+            VfStats::RxBytes(n) => page.number("rx-bytes", *n),
+            VfStats::TxBytes(n) => page.number("tx-bytes", *n),
+            VfStats::Broadcast(n) => page.number("broadcast", *n),
+            VfStats::Multicast(n) => page.number("multicast", *n),
+            VfStats::RxDropped(n) => page.number("rx-dropped", *n),
+            VfStats::TxDropped(n) => page.number("tx-dropped", *n),
+            VfStats::Other(_) => Ok(()),
+        }
+    }
+
+    ghost numbered = { vf_stats_numbered };
+}
