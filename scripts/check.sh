@@ -27,7 +27,7 @@ libraries() {
     make -s -o out/library.o out/liblinkwire.a out/liblinkwire.so.0
     scripts/c_tests.sh out/liblinkwire.a
     scripts/linkdump_tests.sh
-    python3 scripts/readme.py out/liblinkwire.a crates/linkwire/out crates/linkshow/out
+    python3 scripts/readme.py out/liblinkwire.a crates/linkwire/out crates/linkshow/out crates/linkstate/out
     scripts/dist_tests.sh
 }
 
@@ -52,6 +52,8 @@ programs() {
 }
 
 python3 scripts/lines.py
+python3 scripts/words.py
+python3 scripts/version.py
 python3 scripts/scripts_listed.py
 python3 scripts/files.py --check
 scripts/sums.sh check

@@ -14,9 +14,9 @@ use std::io::{Read, Write};
 /// Answers each line that the reader gives, up to its end.
 ///
 /// A line ends with an LF; bytes after the last LF are one too. Its answer is the words `key=value` in front of it, as
-/// they stand, with the blanks after each, and then what the rest of it is answered: `nothex`, `refused`, `unfit`,
-/// `empty-ports`, or `ok ` and the state encoding in lower-case hexadecimal; and an LF. Every answer to what was read is
-/// written before the next read. A reader or writer that fails is not asked again, and the run is over: `Read` where
+/// they stand, with the blanks after each, and then the answer to the rest of it: `nothex`, `refused`, `unfit`,
+/// `empty-ports`, or `ok ` and the state encoding in lower-case hexadecimal; and an LF. Every answer to what was read
+/// is written before the next read. A reader or writer that fails is not asked again, and the run is over: `Read` where
 /// the reader fails or has not ended after 2^64 - 1 reads, `Write` where the writer fails or takes no byte, and
 /// `OutOfMemory` where an allocation is refused.
 pub fn run<R: Read, W: Write>(alloc: Global, reader: &mut R, writer: &mut W) -> Result<(), RunError>

@@ -58,7 +58,7 @@ pub at_here : {X Y : Type 0} (F : List X → Y) (xs : List X) (i : ℕ) (x : X) 
     → F (drop i xs) ≡ F (x ∷ drop (i + 1) xs)
 at_here F xs i x l here = at_drop_more F xs i x l ∙ ap (λ y. F (y ∷ drop (i + 1) xs)) (sym here)
 
--- what one attribute adds, where the rest is told by what is left
+-- what one attribute adds, where the rest follows from what is left
 pub on_one : {X : Type 0} (F : List X → Members) (xs : List X) (i : ℕ) (x : X) (ms : Members)
     (page new all : Draft) → i < length xs → x ≡ get_or xs i x → F (x ∷ drop (i + 1) xs) ≡ ms ++ F (drop (i + 1) xs)
     → with_members (F (drop i xs)) page ≡ all → new ≡ with_members ms page

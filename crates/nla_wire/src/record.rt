@@ -202,8 +202,8 @@ impl<R, const SIZE: usize> RecordBuffer<R, SIZE> {
         &self.bytes
     }
 
-    /// The first `SIZE` bytes as they are, padding too, and the rest, which is the part of `bytes` that begins after them.
-    /// Fewer bytes are refused with `TooShort`.
+    /// The first `SIZE` bytes as they are, padding too, and the rest, which is the part of `bytes` that begins after
+    /// them. Fewer bytes are refused with `TooShort`.
     pub fn read_from_prefix(bytes: &[u8]) -> Result<(RecordBuffer<R, SIZE>, &[u8]), DecodeError>
         ensures { TakesFront SIZE bytes.entry result }
     {
