@@ -38,6 +38,8 @@ programs() {
     python3 scripts/state_tests.py crates/linkstate/out/linkstate crates/linkwire/out/linkwire
     python3 scripts/show_rows.py --check
     python3 scripts/show_damaged.py crates/linkshow/out/linkshow crates/linkwire/out/linkwire
+    python3 scripts/kernel_messages.py
+    python3 scripts/kernel_truth.py crates/linkshow/out/linkshow
     scripts/show_tests.sh
     scripts/rust_tests.sh
     scripts/parallel_test.sh

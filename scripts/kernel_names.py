@@ -94,6 +94,119 @@ VALUES_LEFT_OUT = {
 # fields that no kernel has, after all others; and the sizes of the records, here and the kernel's
 OWN_FIELDS = {"Inet6Stats.reserved_39": ("312", "304"), "InetDevConf.reserved_34": ("136", "132")}
 
+# ** the rows of link_info
+
+# a place of rows: the attribute set of rt_link.yaml, how the constants of its numbers begin, one of them, the files of
+# the kernel that write and read its attributes, and whether it has all of the enum
+RowPlace = namedtuple("RowPlace", "set prefix beside files whole", defaults=(True,))
+BOND, BRIDGE, CAN = "drivers/net/bonding/bond_netlink.c", "net/bridge/br_netlink.c", "drivers/net/can/dev/netlink.c"
+ROW_PLACES = {
+    "Vlan": RowPlace("linkinfo-vlan-attrs", "IFLA_VLAN_", "IFLA_VLAN_ID", "net/8021q/vlan_netlink.c"),
+    "VlanQos": RowPlace("ifla-vlan-qos", "IFLA_VLAN_QOS_", "IFLA_VLAN_QOS_MAPPING", "net/8021q/vlan_netlink.c"),
+    "Bond": RowPlace("linkinfo-bond-attrs", "IFLA_BOND_", "IFLA_BOND_MODE", BOND),
+    "BondAdInfo": RowPlace("bond-ad-info-attrs", "IFLA_BOND_AD_INFO_", "IFLA_BOND_AD_INFO_AGGREGATOR", BOND),
+    "BondSlave": RowPlace("bond-slave-attrs", "IFLA_BOND_SLAVE_", "IFLA_BOND_SLAVE_STATE", BOND),
+    "Bridge": RowPlace("linkinfo-bridge-attrs", "IFLA_BR_", "IFLA_BR_FORWARD_DELAY", BRIDGE),
+    "BridgeQuerier": RowPlace(None, "BRIDGE_QUERIER_", "BRIDGE_QUERIER_IP_ADDRESS", "net/bridge/br_multicast.c"),
+    "BridgePort": RowPlace("linkinfo-brport-attrs", "IFLA_BRPORT_", "IFLA_BRPORT_STATE", BRIDGE),
+    "Vxlan": RowPlace(None, "IFLA_VXLAN_", "IFLA_VXLAN_ID", "drivers/net/vxlan/vxlan_core.c"),
+    "Geneve": RowPlace("linkinfo-geneve-attrs", "IFLA_GENEVE_", "IFLA_GENEVE_ID", "drivers/net/geneve.c"),
+    "Gre": RowPlace("linkinfo-gre-attrs", "IFLA_GRE_", "IFLA_GRE_LINK", "net/ipv4/ip_gre.c"),
+    "Gre6": RowPlace(None, "IFLA_GRE_", "IFLA_GRE_LINK", "net/ipv6/ip6_gre.c"),
+    "IpTunnel": RowPlace("linkinfo-iptun-attrs", "IFLA_IPTUN_", "IFLA_IPTUN_LINK", "net/ipv4/ipip.c net/ipv6/sit.c"),
+    "Ip6Tunnel": RowPlace(None, "IFLA_IPTUN_", "IFLA_IPTUN_LINK", "net/ipv6/ip6_tunnel.c"),
+    "Vti": RowPlace(None, "IFLA_VTI_", "IFLA_VTI_LINK", "net/ipv4/ip_vti.c"),
+    "Vti6": RowPlace(None, "IFLA_VTI_", "IFLA_VTI_LINK", "net/ipv6/ip6_vti.c"),
+    "Xfrm": RowPlace(None, "IFLA_XFRM_", "IFLA_XFRM_LINK", "net/xfrm/xfrm_interface_core.c"),
+    "Macvlan": RowPlace(None, "IFLA_MACVLAN_", "IFLA_MACVLAN_MODE", "drivers/net/macvlan.c"),
+    "MacvlanAddresses": RowPlace(None, "IFLA_MACVLAN_", "IFLA_MACVLAN_MODE", "drivers/net/macvlan.c", False),
+    "Ipvlan": RowPlace(None, "IFLA_IPVLAN_", "IFLA_IPVLAN_MODE", "drivers/net/ipvlan/ipvlan_main.c"),
+    "Macsec": RowPlace(None, "IFLA_MACSEC_", "IFLA_MACSEC_SCI", "drivers/net/macsec.c"),
+    "Can": RowPlace(None, "IFLA_CAN_", "IFLA_CAN_BITTIMING", CAN),
+    "CanTdc": RowPlace(None, "IFLA_CAN_TDC_", "IFLA_CAN_TDC_TDCV_MIN", CAN),
+    "CanCtrlmode": RowPlace(None, "IFLA_CAN_CTRLMODE_", "IFLA_CAN_CTRLMODE_SUPPORTED", CAN),
+    "Vrf": RowPlace("linkinfo-vrf-attrs", "IFLA_VRF_", "IFLA_VRF_TABLE", "drivers/net/vrf.c"),
+    "VrfPort": RowPlace(None, "IFLA_VRF_PORT_", "IFLA_VRF_PORT_TABLE", "drivers/net/vrf.c"),
+    "Tun": RowPlace("linkinfo-tun-attrs", "IFLA_TUN_", "IFLA_TUN_OWNER", "drivers/net/tun.c"),
+    "Netkit": RowPlace("linkinfo-netkit-attrs", "IFLA_NETKIT_", "IFLA_NETKIT_PRIMARY", "drivers/net/netkit.c"),
+    "Hsr": RowPlace(None, "IFLA_HSR_", "IFLA_HSR_SLAVE1", "net/hsr/hsr_netlink.c"),
+    "Rmnet": RowPlace(None, "IFLA_RMNET_", "IFLA_RMNET_MUX_ID",
+                      "drivers/net/ethernet/qualcomm/rmnet/rmnet_config.c"),
+    "Gtp": RowPlace(None, "IFLA_GTP_", "IFLA_GTP_FD0", "drivers/net/gtp.c"),
+    "Bareudp": RowPlace(None, "IFLA_BAREUDP_", "IFLA_BAREUDP_PORT", "drivers/net/bareudp.c"),
+    "Amt": RowPlace(None, "IFLA_AMT_", "IFLA_AMT_MODE", "drivers/net/amt.c"),
+    "Wwan": RowPlace(None, "IFLA_WWAN_", "IFLA_WWAN_LINK_ID", "drivers/net/wwan/wwan_core.c"),
+    "Ovpn": RowPlace(None, "IFLA_OVPN_", "IFLA_OVPN_MODE", "drivers/net/ovpn/main.c"),
+    "BridgeSpec": RowPlace(None, "IFLA_BRIDGE_", "IFLA_BRIDGE_FLAGS",
+                           BRIDGE + " net/bridge/br_netlink_tunnel.c net/core/rtnetlink.c"),
+    "BridgeVlanTunnel": RowPlace(None, "IFLA_BRIDGE_VLAN_TUNNEL_", "IFLA_BRIDGE_VLAN_TUNNEL_ID",
+                                 "net/bridge/br_netlink_tunnel.c"),
+    "BridgeMst": RowPlace(None, "IFLA_BRIDGE_MST_", "IFLA_BRIDGE_MST_ENTRY", "net/bridge/br_mst.c"),
+    "BridgeMstEntry": RowPlace(None, "IFLA_BRIDGE_MST_ENTRY_", "IFLA_BRIDGE_MST_ENTRY_MSTI", "net/bridge/br_mst.c"),
+    "Inet6": RowPlace("ifla6-attrs", "IFLA_INET6_", "IFLA_INET6_FLAGS", "net/ipv6/addrconf.c"),
+    "Port": RowPlace("port-self-attrs", "IFLA_PORT_", "IFLA_PORT_VF",
+                     "net/core/rtnetlink.c drivers/net/ethernet/cisco/enic/enic_main.c"),
+}
+
+# a record of rows: its structure
+ROW_RECORDS = {
+    "vlan.FLAGS": "ifla_vlan_flags", "vlan.MAPPING": "ifla_vlan_qos_mapping", "bridge.BRIDGE_ID": "ifla_bridge_id",
+    "bridge.BOOLOPTS": "br_boolopt_multi", "vxlan.PORT_RANGE": "ifla_vxlan_port_range",
+    "geneve.PORT_RANGE": "ifla_vxlan_port_range", "can.BITTIMING": "can_bittiming",
+    "can.BITTIMING_CONST": "can_bittiming_const", "can.CLOCK": "can_clock", "can.CTRLMODE": "can_ctrlmode",
+    "can.BERR_COUNTER": "can_berr_counter", "can.CAN_STATS": "can_device_stats", "family.VLAN_INFO": "bridge_vlan_info",
+    "family.CACHEINFO": "ifla_cacheinfo", "others.RMNET_FLAGS": "ifla_rmnet_flags",
+}
+
+# names of values or flags: the header, how constants begin there and one of their enum, or a file of code and its
+# table; the list of rt_link.yaml, whether all of them are here, and whether the constants are the numbers of bits
+RowValues = namedtuple("RowValues", "header prefix beside list all bits", defaults=(None, None, True, False))
+OPTIONS = "drivers/net/bonding/bond_options.c"
+ROW_VALUES = {
+    "vlan.PROTOCOLS": RowValues("if_ether.h", "ETH_P_", None, "vlan-protocols", False),
+    "bridge.PROTOCOLS": RowValues("if_ether.h", "ETH_P_", None, "vlan-protocols", False),
+    "vlan.VLAN_FLAGS": RowValues("if_vlan.h", "VLAN_FLAG_", None, "vlan-flags"),
+    "bond.MODES": RowValues(OPTIONS, "bond_mode_tbl"), "bond.ARP_VALIDATE": RowValues(OPTIONS, "bond_arp_validate_tbl"),
+    "bond.ARP_ALL_TARGETS": RowValues(OPTIONS, "bond_arp_all_targets_tbl"),
+    "bond.PRIMARY_RESELECT": RowValues(OPTIONS, "bond_primary_reselect_tbl"),
+    "bond.FAIL_OVER_MAC": RowValues(OPTIONS, "bond_fail_over_mac_tbl"),
+    "bond.XMIT_HASH_POLICIES": RowValues(OPTIONS, "bond_xmit_hashtype_tbl"),
+    "bond.LACP_RATES": RowValues(OPTIONS, "bond_lacp_rate_tbl"),
+    "bond.AD_SELECT": RowValues(OPTIONS, "bond_ad_select_tbl"),
+    "bond.STATES": RowValues("if_bonding.h", "BOND_STATE_"), "bond.MII_STATES": RowValues("if_bonding.h", "BOND_LINK_"),
+    "bond.CHURN_STATES": RowValues("bond_3ad.h", "AD_", "AD_CHURN_MONITOR"),
+    "bridge.BOOLOPT_BITS": RowValues("if_bridge.h", "BR_BOOLOPT_", bits=True),
+    "bridge.STATES": RowValues("if_bridge.h", "BR_STATE_"), "family.STATES": RowValues("if_bridge.h", "BR_STATE_"),
+    "can.STATES": RowValues("can/netlink.h", "CAN_STATE_"), "can.MODES": RowValues("can/netlink.h", "CAN_CTRLMODE_"),
+    "family.BRIDGE_FLAGS": RowValues("if_bridge.h", "BRIDGE_FLAGS_"),
+    "family.BRIDGE_MODES": RowValues("if_bridge.h", "BRIDGE_MODE_"),
+    "family.VLAN_FLAGS": RowValues("if_bridge.h", "BRIDGE_VLAN_INFO_"),
+    "family.ADDR_GEN_MODES": RowValues("if_link.h", "IN6_ADDR_GEN_MODE_"),
+    "family.INET6_FLAGS": RowValues("if_inet6.h", "IF_"), "family.REQUESTS": RowValues("if_link.h", "PORT_REQUEST_"),
+    "vxlan.DF": RowValues("if_link.h", "VXLAN_DF_"), "vxlan.LABEL_POLICIES": RowValues("if_link.h", "VXLAN_LABEL_"),
+    "geneve.DF": RowValues("if_link.h", "GENEVE_DF_"),
+    "gre.ENCAPS": RowValues("if_tunnel.h", "TUNNEL_ENCAP_", "TUNNEL_ENCAP_NONE"),
+    "gre.ENCAP_FLAGS": RowValues("if_tunnel.h", "TUNNEL_ENCAP_FLAG_"),
+    "gre.GRE_FLAGS": RowValues("if_tunnel.h", "GRE_", all=False),
+    "tunnel.ENCAPS": RowValues("if_tunnel.h", "TUNNEL_ENCAP_", "TUNNEL_ENCAP_NONE"),
+    "tunnel.ENCAP_FLAGS": RowValues("if_tunnel.h", "TUNNEL_ENCAP_FLAG_"),
+    "tunnel.SIT_FLAGS": RowValues("if_tunnel.h", "SIT_"),
+    "macsec.VALIDATIONS": RowValues("if_link.h", "MACSEC_VALIDATE_"),
+    "macsec.OFFLOADS": RowValues("if_link.h", "MACSEC_OFFLOAD_"),
+    "macvlan.MODES": RowValues("if_link.h", "MACVLAN_MODE_"), "macvlan.FLAGS": RowValues("if_link.h", "MACVLAN_FLAG_"),
+    "macvlan.MACADDR_MODES": RowValues("if_link.h", "MACVLAN_MACADDR_"),
+    "macvlan.IPVLAN_MODES": RowValues("if_link.h", "IPVLAN_MODE_"),
+    "macvlan.IPVLAN_FLAGS": RowValues("if_link.h", "IPVLAN_F_"),
+    "others.TUN_TYPES": RowValues("if_tun.h", "IFF_", all=False),
+    "others.POLICIES": RowValues("if_link.h", None, None, "netkit-policy"),
+    "others.NETKIT_MODES": RowValues("if_link.h", "NETKIT_", "NETKIT_L2", "netkit-mode"),
+    "others.SCRUBS": RowValues("if_link.h", "NETKIT_SCRUB_"),
+    "others.RMNET_BITS": RowValues("if_link.h", "RMNET_FLAGS_"),
+    "others.HSR_PROTOCOLS": RowValues("if_link.h", "HSR_PROTOCOL_"),
+    "others.GTP_ROLES": RowValues("if_link.h", "GTP_ROLE_"), "others.AMT_MODES": RowValues("amt.h", "AMT_MODE_"),
+    "others.OVPN_MODES": RowValues("if_link.h", "OVPN_MODE_"),
+}
+
 # ** reasons
 
 # where (* is anything), what, here, in the kernel's files (in small letters, without - and _), and why both are right.
@@ -136,6 +249,34 @@ REASONS = [
     ("LinkFlags.Pointopoint", "name", "Pointopoint", "pointtopoint", "IFF_POINTOPOINT of linux/if.h"),
     ("LinkFlags.VOLATILE", "value", "none", "*", "a mask of flags, and none itself"),
     ("MctpPhysBinding", "list", "MCTP_PHYS_BINDING_", "none", "newer than the headers of Linux 6.12"),
+]
+
+# rows of link_info
+ORDER = "in network order, as the code puts it; rt_link.yaml leaves the order out"
+REASONS += [(where, "form", here, here.replace("be", "u"), ORDER) for here, names in {
+    "be16": "Bridge.vlan-protocol Geneve.port Gre.iflags Gre.oflags Gre.encap-sport Gre.encap-dport "
+            "IpTunnel.encap-sport IpTunnel.encap-dport",
+    "be32": "Geneve.label Gre.ikey Gre.okey Gre.flowinfo IpTunnel.flowinfo",
+}.items() for where in names.split()]
+REASONS += [
+    ("Vlan.flag", "name", "flag", "flags", "so named in rt_link.yaml"),
+    ("BondSlave.prio", "form", "s32", "u32", "nla_put_s32 in the code"),
+    ("Gre.encap-limit", "form", "u8", "u32", "one byte in net/ipv6/ip6_gre.c, and not put by net/ipv4/ip_gre.c"),
+    ("Bridge.fdb-flush", "form", "flag", "binary", "net/bridge/br_netlink.c looks only whether it is there"),
+    ("Bridge.mcast-querier-state", "form", "nest", "binary", "net/bridge/br_multicast.c nests BRIDGE_QUERIER_*"),
+    ("IpTunnel.flags", "put", "u16", "be16", "SIT_ISATAP stands there in host order"),
+    ("Netkit.peer-info", "taken", "binary", "struct ifinfomsg", "a message: the structure and attributes after it"),
+    ("BridgeSpec.IFLA_BRIDGE_MRP", "row", "none", "4", "kept as it is"),
+    ("BridgeSpec.IFLA_BRIDGE_CFM", "row", "none", "5", "kept as it is"),
+    ("Inet6.conf", "form", "array s32", "struct", "as many as the kernel has"),
+    ("Inet6.stats", "form", "array u64", "struct", "as many as the kernel has"),
+    ("Inet6.icmp6-stats", "form", "array u64", "struct", "as many as the kernel has"),
+    ("Inet6.token", "form", "ipv6", "binary", "nla_put of struct in6_addr in net/ipv6/addrconf.c"),
+    ("Port.vsi-type", "taken", "binary", "struct iflaportvsi", "no driver puts it"),
+    ("Port.host-uuid", "taken", "binary", "string", "sixteen bytes of any value"),
+    ("bond.CHURN_STATES.monitor", "name", "monitor", "churnmonitor", "as the bond's /proc file says them"),
+    ("bond.CHURN_STATES.none", "name", "none", "nochurn", "as the bond's /proc file says them"),
+    ("family.BRIDGE_MODES.UNDEF", "value", "none", "65535", "what a driver begins with, and no mode"),
 ]
 
 # and those of OWN_FIELDS

@@ -18,16 +18,22 @@ import tempfile
 from collections import Counter, namedtuple
 
 sys.dont_write_bytecode = True
-from kernel_names import ALONE, LEFT_OUT, LEVELS, OWN_FIELDS, PLACES, REASONS, RECORDS, VALUES, VALUES_LEFT_OUT
+import kernel_rows
+from kernel_names import (ALONE, LEFT_OUT, LEVELS, OWN_FIELDS, PLACES, REASONS, RECORDS, ROW_PLACES, ROW_VALUES, VALUES,
+                          VALUES_LEFT_OUT)
 
 PACKAGE = "/usr/src/linux-source-6.12.tar.xz"
 INCLUDE = "/usr/include"
 YAML_FILES = ["Documentation/netlink/specs/rt_link.yaml", "Documentation/netlink/specs/rt-link.yaml"]
-# the last three are not installed with the others
+# the last five are not installed with the others
 HEADERS = ["include/uapi/linux/%s.h" % name for name in
-           "if_link if_bridge if if_arp if_ether rtnetlink devlink dpll snmp ip ipv6 wireless netlink".split()]
-HEADERS += ["include/uapi/linux/can/netlink.h"]
-HEADERS += ["include/net/if_inet6.h", "include/linux/socket.h", "include/linux/netdevice.h"]
+           "if_link if_bridge if if_arp if_ether rtnetlink devlink dpll snmp ip ipv6 wireless netlink "
+           "if_bonding if_tunnel if_tun if_vlan amt wwan can/netlink".split()]
+HEADERS += ["include/net/%s.h" % name for name in "if_inet6 bonding bond_3ad".split()]
+HEADERS += ["include/linux/socket.h", "include/linux/netdevice.h"]
+# code that writes and reads what rows have
+CODE = {name for place in ROW_PLACES.values() for name in place.files.split()}
+CODE |= {known.header for known in ROW_VALUES.values() if known.header.endswith(".c")}
 
 # ** reader of YAML: block and flow collections, plain, quoted and block scalars, anchors and aliases
 
@@ -124,8 +130,9 @@ def scalar(text):
 
 # ** reader of headers
 
-TYPES = {"__u8": "u8", "__u16": "u16", "__u32": "u32", "__u64": "u64", "__s8": "s8", "__s16": "s16", "__s32": "s32",
-         "__s64": "s64", "__be16": "be16", "__be32": "be32", "unsigned char": "u8", "unsigned short": "u16",
+TYPES = {"char": "u8", "__u8": "u8", "__u16": "u16", "__u32": "u32", "__u64": "u64",
+         "__s8": "s8", "__s16": "s16", "__s32": "s32", "__s64": "s64", "__be16": "be16", "__be32": "be32",
+         "unsigned char": "u8", "unsigned short": "u16",
          "unsigned": "u32", "unsigned int": "u32", "int": "s32"}
 
 
@@ -200,7 +207,8 @@ class Headers:
 
     def evaluate(self, expression):
         """The value of an expression of numbers, constants and operators on bits, or None."""
-        text = re.sub(r"\b(0[xX][0-9a-fA-F]+|\d+)[uUlL]+\b", r"\1", expression.strip())
+        text = re.sub(r"\b__cpu_to_be\d+\b", "", expression.strip())
+        text = re.sub(r"\b(0[xX][0-9a-fA-F]+|\d+)[uUlL]+\b", r"\1", text)
         text = re.sub(r"\b[A-Za-z_]\w*", lambda m: str(self.number(m.group())), text)
         try:
             return eval(text) if re.fullmatch(r"[\dxXa-fA-F\s()|&<>~+*-]+", text) else None
@@ -223,7 +231,8 @@ class Headers:
 def unpack(archive, folder):
     """Unpacks what is read of a packed tree. What it does not have is not there."""
     options = ["--strip-components=1", "--wildcards", "--no-wildcards-match-slash"]
-    subprocess.run(["tar", "-xf", archive, "-C", folder] + options + ["*/" + name for name in YAML_FILES + HEADERS],
+    files = YAML_FILES + HEADERS + sorted(CODE)
+    subprocess.run(["tar", "-xf", archive, "-C", folder] + options + ["*/" + name for name in files],
                    stderr=subprocess.DEVNULL)
 
 
@@ -239,6 +248,8 @@ class Kernel:
             self.yaml = next(filter(os.path.isfile, files), None)
             spec = Yaml(read(self.yaml)).value if self.yaml else {}
             self.headers = Headers(self.header_texts(path))
+            self.code = {name: read(os.path.join(path, name)) for name in sorted(CODE)
+                         if os.path.isfile(os.path.join(path, name))}
         self.lists, self.structs, self.sets = {}, {}, {}
         for it in spec.get("definitions", []):
             self.define(it)
@@ -258,6 +269,10 @@ class Kernel:
             files = [name.replace("include/uapi", INCLUDE) for name in HEADERS]
             files += glob.glob(INCLUDE + "/bits/socket.h") + glob.glob(INCLUDE + "/*/bits/socket.h")
         return {re.sub(r".*/(linux|net|bits)/", "", name): read(name) for name in files if os.path.isfile(name)}
+
+    def texts(self, names):
+        """The files of code that are there."""
+        return [self.code[name] for name in names if name in self.code]
 
     def define(self, it):
         if it["type"] == "struct":
@@ -910,7 +925,10 @@ def compare(ours, kernel):
     report = Report()
     for step in (compare_constants, compare_names, compare_tables, compare_records, compare_values, compare_levels):
         step(ours, kernel, report)
+    left = kernel_rows.compare_rows(ours.crates, kernel, report, sys.modules[__name__])
     show(report, ours)
+    for what, where in left.items():
+        print("rows: %s that are compared with none of the files: %s" % (what, ", ".join(where) or "none"))
     for fault in report.faults:
         print("kernel_tables: " + fault, file=sys.stderr)
     faults = len(report.faults)
@@ -930,7 +948,7 @@ def main():
         return unpack(given.kernel, given.unpack)
     try:
         ours = Repository(given.tree)
-    except Unread as fault:
+    except (Unread, kernel_rows.Unread) as fault:
         sys.exit("kernel_tables: %s" % fault)
     if given.json:
         return print(as_json(ours))

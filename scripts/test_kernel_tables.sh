@@ -152,4 +152,42 @@ slip 'a part of a record' 'Inet6.IFLA_INET6_CACHEINFO: part 4 16' 's/ClearPart 4
     link_state/specs/Table.antt
 slip 'a counter of virtual functions' 'FunctionStats.IFLA_VF_STATS_RX_BYTES: row none' \
     '/\(IFLA_VF_STATS_RX_BYTES, Clear\)/d' link_state/specs/Table.antt
+# rows of link_info
+rows=link_info/src/tables
+slip "a row's number" 'Vlan.protocol: name protocol' \
+    's/Row\(4, "ingress-qos"/Row(5, "ingress-qos"/; s/^        5,$/        4,/' $rows/vlan.rt
+slip "a number of no row's" 'Geneve.id: name id' 's/Row\(1, "id", U32\)/Row(2, "id", U32)/' $rows/geneve.rt
+slip "a row's name" 'Bridge.hello-tick: name hello-tick' 's/"hello-timer"/"hello-tick"/' $rows/bridge.rt
+slip 'a row that is left out' 'Macvlan.IFLA_MACVLAN_BC_CUTOFF: row none' '/"bc-cutoff"/d' $rows/macvlan.rt
+slip "a row's width, where rt_link.yaml has it" 'Bond.min-links: form u16' 's/("?min-links"?, )U32/\1U16/' $rows/bond.rt
+slip "a row's width, where the code alone has it" 'Macsec.window: put u16' 's/("window", )U32/\1U16/' $rows/macsec.rt
+slip "a named value's width" 'Amt.mode: put u16' 's/Named\(Size::Four, AMT_MODES/Named(Size::Two, AMT_MODES/' \
+    $rows/others.rt
+slip 'an order of bytes' 'Vxlan.port: put u16' 's/("port", )BE16/\1U16/' $rows/vxlan.rt
+slip 'an order of bytes that rt_link.yaml leaves out' 'Gre.ikey: put u32' 's/("ikey", )BE32/\1U32/' $rows/gre.rt
+slip 'a sign' 'Macvlan.bc-cutoff: put u32' 's/("bc-cutoff", )I32/\1U32/' $rows/macvlan.rt
+slip 'an address of another family' 'Vti6.local: put ipv4' \
+    '/const VTI6/,/^\]/ { s/("local", )IPV6/\1IPV4/ }' $rows/tunnel.rt
+slip 'a number for an address' 'BondAdInfo.partner-mac: form u32' 's/("partner-mac", )MAC/\1U32/' $rows/bond.rt
+slip 'a number for a flag' 'Xfrm.collect-metadata: taken 1' \
+    '/const XFRM/,/^\]/ { s/("collect-metadata", )Style::Flag/\1U8/ }' $rows/tunnel.rt
+slip 'bytes for a nest' 'Can.tdc: put binary' 's/("tdc", )Style::Nest\(Place::CanTdc\)/\1Style::Bytes/' $rows/can.rt
+slip 'a list of another form' 'Bond.ns-ip6-target: form list ipv4' \
+    's/("ns-ip6-target", )Style::List\(Plain::Ipv6\)/\1Style::List(Plain::Ipv4)/' $rows/bond.rt
+slip "a record's member of another width" 'can.BERR_COUNTER: size 6' \
+    's/(Member\("rxerr", Plain::Unsigned\(Size::)Two/\1Four/' $rows/can.rt
+slip 'two members of a record exchanged' 'vlan.MAPPING.to: name to' \
+    's/Member\("from"/Member("it"/; s/Member\("to"/Member("from"/; s/Member\("it"/Member("to"/' $rows/vlan.rt
+slip 'the record of another attribute' 'Vlan.flag: taken struct ifla_vlan_qos_mapping' \
+    's/("flag", )Style::Record\(FLAGS\)/\1Style::Record(MAPPING)/' $rows/vlan.rt
+slip "a value's number" 'can.STATES.stopped: number 5' \
+    's/\(4, "stopped"\)/(5, "stopped")/; s/\(5, "sleeping"\)/(4, "sleeping")/' $rows/can.rt
+slip "a value's name, as the code has it" 'bond.MODES.balance-tbl: name balance-tbl' 's/"balance-tlb"/"balance-tbl"/' \
+    $rows/bond.rt
+slip "a flag's bit in rows" 'bridge.BOOLOPT_BITS.mst-enable: number 8' 's/\(4, "mst-enable"\)/(8, "mst-enable")/' \
+    $rows/bridge.rt
+slip 'a flag that is left out' 'vlan.VLAN_FLAGS.BRIDGE_BINDING: value none' '/"bridge-binding"/d' $rows/vlan.rt
+slip 'a value of a list in rt_link.yaml' 'others.POLICIES.forward: number 1' 's/\(0, "forward"\)/(1, "forward")/' \
+    $rows/others.rt
+slip 'the rows of another place' 'Gre6.local: put ipv4' 's/(Place::Gre6 => gre::)GRE6/\1GRE/' link_info/src/place.rt
 echo 'test_kernel_tables: ok'

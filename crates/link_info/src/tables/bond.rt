@@ -2,7 +2,7 @@
 
 use crate::place::Place;
 use crate::style::{Names, Plain, Row, Size, Style};
-use crate::tables::{MAC, U8, U16, U32};
+use crate::tables::{I32, MAC, U8, U16, U32};
 
 /// How a bond uses its ports (`BOND_MODE_*`, linux/if_bonding.h).
 const MODES: Names = &[
@@ -147,7 +147,7 @@ pub const BOND_SLAVE: &[Row] = &[
     Row(6, "ad-aggregator-id", U16),
     Row(7, "ad-actor-oper-port-state", U8),
     Row(8, "ad-partner-oper-port-state", U16),
-    Row(9, "prio", U32),
+    Row(9, "prio", I32),
     Row(10, "actor-port-prio", U16),
     Row(
         11,

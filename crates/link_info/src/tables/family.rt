@@ -57,7 +57,7 @@ const INET6_FLAGS: Names = &[
     (16, "rs-sent"),
     (32, "ra-rcvd"),
     (64, "ra-managed"),
-    (128, "ra-othercon"),
+    (128, "ra-otherconf"),
     (2147483648, "ready"),
 ];
 

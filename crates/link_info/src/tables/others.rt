@@ -29,8 +29,18 @@ const OVPN_MODES: Names = &[(0, "p2p"), (1, "mp")];
 
 /// Flags, and which of them are meant (`struct ifla_rmnet_flags`).
 const RMNET_FLAGS: &[Member] = &[
-    Member("flags", Plain::Unsigned(Size::Four)),
-    Member("mask", Plain::Unsigned(Size::Four)),
+    Member("flags", Plain::Flags(Size::Four, RMNET_BITS)),
+    Member("mask", Plain::Flags(Size::Four, RMNET_BITS)),
+];
+
+/// Flags of an rmnet device (`RMNET_FLAGS_*`, linux/if_link.h).
+const RMNET_BITS: Names = &[
+    (1, "ingress-deaggregation"),
+    (2, "ingress-map-commands"),
+    (4, "ingress-map-cksumv4"),
+    (8, "egress-map-cksumv4"),
+    (16, "ingress-map-cksumv5"),
+    (32, "egress-map-cksumv5"),
 ];
 
 /// The data of a vrf, and of its ports (`IFLA_VRF_TABLE`, linux/if_link.h).

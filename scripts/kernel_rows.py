@@ -1,0 +1,354 @@
+"""The rows of link_info beside the kernel's files, for kernel_tables.py.
+
+Number and name of each row stand beside the headers, its form beside rt_link.yaml where that has it, and beside what
+the kernel's own code puts into messages or takes from them; the members of records beside structures; names of values
+and flags beside enums and tables of the code.
+"""
+
+import glob
+import os
+import re
+from collections import namedtuple
+
+from kernel_names import ROW_PLACES, ROW_RECORDS, ROW_VALUES
+
+# a form: a word as u32, be16, ipv4, struct, nest; names of values or flags, the members of a record, the place inside
+Form = namedtuple("Form", "word names record place", defaults=(None, None, None))
+Row = namedtuple("Row", "number name form")
+Call = namedtuple("Call", "name args")
+SIZES = {"Size::One": 8, "Size::Two": 16, "Size::Four": 32, "Size::Eight": 64}
+LETTERS = {"Unsigned": "u", "BigEndian": "be", "Signed": "s", "Named": "u", "BigEndianNamed": "be", "Flags": "u",
+           "BigEndianFlags": "be"}
+BYTES = {"mac": 6, "ipv4": 4, "ipv6": 16}
+
+
+class Unread(Exception):
+    """A row that is not in the form that is read here."""
+
+
+# ** reader of the rows
+
+
+class Source:
+    """The constants of a file of rows: calls, lists, texts and numbers; names stand for constants."""
+
+    def __init__(self, path, common=None):
+        self.file = os.path.basename(path)[:-len(".rt")]
+        self.common = common
+        self.constants, self.numbers = {}, {}
+        with open(path, encoding="utf-8") as file:
+            text = re.sub(r"//[^\n]*", "", file.read())
+        for name, kind, body in re.findall(r"\bconst (\w+): ([^=;]+?)\s*= ([^;]*);", text):
+            self.tokens = re.findall(r'"[^"]*"|\w+(?:::\w+)*|[\[\](),]', body)
+            self.at = 0
+            self.constants[name] = (kind, self.expression())
+            if self.at != len(self.tokens):
+                raise Unread("%s: %s is not read" % (self.file, name))
+
+    def expression(self):
+        token = self.tokens[self.at]
+        self.at += 1
+        if token in "[(":
+            return self.listed("]" if token == "[" else ")")
+        if token.startswith('"'):
+            return token[1:-1]
+        if token[0].isdigit():
+            return int(token, 0)
+        if self.tokens[self.at:self.at + 1] == ["("]:
+            self.at += 1
+            return Call(token, self.listed(")"))
+        return Call(token, [])
+
+    def listed(self, end):
+        items = []
+        while self.tokens[self.at] != end:
+            items.append(self.expression())
+            self.at += self.tokens[self.at] == ","
+        self.at += 1
+        return items
+
+    def value(self, call):
+        """What a name stands for, here or in the common file."""
+        if call.name in self.constants:
+            return self.constants[call.name][1]
+        if self.common and call.name in self.common.constants:
+            return self.common.constants[call.name][1]
+        raise Unread("%s: no constant %s" % (self.file, call.name))
+
+    def style(self, call):
+        """The form of a row."""
+        kind = call.name.rpartition("::")[2]
+        if not call.name.startswith("Style::"):
+            return self.style(self.value(call))
+        if kind in ("Bytes", "Flag", "Text"):
+            return Form({"Bytes": "binary", "Flag": "flag", "Text": "string"}[kind])
+        if kind == "Record":
+            return Form("struct", record="%s.%s" % (self.file, call.args[0].name))
+        if kind == "Nest":
+            return Form("nest", place=call.args[0].name.rpartition("::")[2])
+        form = self.plain(call.args[0])
+        return form if kind == "Plain" else form._replace(word="%s %s" % (kind.lower(), form.word))
+
+    def plain(self, call):
+        kind = call.name.rpartition("::")[2]
+        if not call.name.startswith("Plain::"):
+            return self.plain(self.value(call))
+        if kind in ("Mac", "Ipv4", "Ipv6"):
+            return Form(kind.lower())
+        if kind == "Octets":
+            return Form("%d bytes" % call.args[0])
+        names = "%s.%s" % (self.file, call.args[1].name) if len(call.args) > 1 else None
+        return Form("%s%d" % (LETTERS[kind], SIZES[call.args[0].name]), names)
+
+
+class Rows:
+    """The rows of each place, the members of records, and the names of values."""
+
+    def __init__(self, crates):
+        folder = os.path.join(crates, "link_info", "src")
+        common = Source(os.path.join(folder, "tables", "mod.rt"))
+        self.places, self.records, self.names, tables = {}, {}, {}, {}
+        for path in sorted(glob.glob(os.path.join(folder, "tables", "*.rt"))):
+            source = Source(path, common)
+            for name, (kind, value) in source.constants.items():
+                key = "%s.%s" % (source.file, name)
+                if "Row]" in kind:
+                    tables["%s::%s" % (source.file, name)] = [
+                        Row(row.args[0], row.args[1], source.style(row.args[2])) for row in value]
+                elif "Member]" in kind:
+                    self.records[key] = [(it.args[0], source.plain(it.args[1])) for it in value]
+                elif kind == "Names":
+                    self.names[key] = {name: number for number, name in value}
+                    if len(self.names[key]) != len(value):
+                        raise Unread("%s: a name comes twice" % key)
+        with open(os.path.join(folder, "place.rt"), encoding="utf-8") as file:
+            text = file.read()
+        for place, table in re.findall(r"Place::(\w+) => (\w+::\w+),", text):
+            self.places[place] = tables[table]
+        self.kinds = {}
+        for call, body in re.findall(r"fn (of_kind|of_slave_kind)\b.*?\{(.*?)\n    \}", text, flags=re.S):
+            for kinds, place in re.findall(r'((?:"\w+"(?: \| )?)+) => Some\(Place::(\w+)\)', body):
+                self.kinds.update({(call, it): place for it in re.findall(r'"(\w+)"', kinds)})
+
+    def size(self, form):
+        """How many bytes a form has, or its word."""
+        if form.word == "struct":
+            return sum(self.size(it) for _, it in self.records[form.record])
+        number = re.fullmatch(r"(?:u|be|s)(\d+)|(\d+) bytes", form.word)
+        if number:
+            return int(number.group(1)) // 8 if number.group(1) else int(number.group(2))
+        return BYTES.get(form.word, form.word)
+
+
+# ** reader of the kernel's code
+
+PUTS = {"u64_64bit": "u64", "in_addr": "ipv4", "in6_addr": "ipv6", "sci": "be64"}
+LENGTHS = {"ETH_ALEN": 6, "structin6_addr": 16, "structin_addr": 4, "u8": 1, "u16": 2, "u32": 4, "__be16": 2,
+           "__be32": 4, "__u32": 4, "sci_t": 8, "u64": 8, "__be64": 8}
+POLICY = re.compile(r"\[([A-Z]\w+)\]\s*=\s*(\{[^{}]*\}|NLA_POLICY_\w+\((?:[^()]|\([^()]*\))*\))")
+
+
+class Code:
+    """What a file of the kernel puts into attributes, and what its policies take."""
+
+    def __init__(self, texts):
+        text = re.sub(r"/\*.*?\*/", " ", "\n".join(texts), flags=re.S)
+        self.puts, self.policies = {}, {}
+        for form, name, size in re.findall(r"\bnla_put(?:_(\w+))?\(\s*\w+,\s*([A-Z]\w+),(?=\s*([^,;]*))", text):
+            word = PUTS.get(form, form) or self.length(size)
+            if word:
+                self.puts.setdefault(name, set()).add(word)
+        for name in re.findall(r"\bnla_nest_start(?:_noflag)?\(\s*\w+,\s*([A-Z]\w+)\)", text):
+            self.puts.setdefault(name, set()).add("nest")
+        for name, policy in POLICY.findall(text):
+            taken = self.policy(policy)
+            if taken:
+                self.policies.setdefault(name, taken)
+
+    @staticmethod
+    def length(text):
+        """The size of a type as a number, or a structure by its name."""
+        text = re.sub(r"\s", "", text)
+        inside = re.fullmatch(r"sizeof\((.*)\)", text)
+        field = re.fullmatch(r"sizeof_field\(structiphdr,[sd]addr\)", text)
+        name = inside.group(1) if inside else text
+        if field:
+            return 4
+        if name in LENGTHS:
+            return LENGTHS[name]
+        return "struct " + name[len("struct"):] if inside and name.startswith("struct") else None
+
+    def policy(self, text):
+        kind = re.search(r"\bNLA_(U8|U16|U32|U64|S8|S32|S64|BE16|BE32|FLAG|STRING|NUL_STRING|NESTED)\b", text)
+        size = re.search(r"\b(?:len\s*=\s*|EXACT_LEN\(|MIN_LEN\()(.*?)\)?[,\s]*[})]$", text, flags=re.S)
+        if "ETH_ADDR" in text:
+            return 6
+        if "NLA_POLICY_NESTED" in text:
+            return "nest"
+        if kind:
+            word = kind.group(1)
+            return int(re.sub(r"\D", "", word)) // 8 if word[-1].isdigit() else {"NESTED": "nest"}.get(
+                word, word.replace("NUL_", "").lower())
+        text = size.group(1) if size else ""
+        return self.length(text + ")" * (text.count("(") - text.count(")"))) if size else None
+
+
+# ** comparison
+
+
+def kernel_plain(name):
+    """A name of the kernel without dashes and capitals."""
+    return re.sub(r"[-_]", "", name).lower()
+
+
+class Compared:
+    """Rows beside the kernel's files: what is found in none of them is kept as not compared."""
+
+    def __init__(self, rows, kernel, report, tools):
+        self.rows, self.kernel, self.report, self.tools = rows, kernel, report, tools
+        self.left = {"forms": [], "records": [], "names": []}
+
+    def places(self):
+        report = self.report
+        report.same_names("place of rows", self.rows.places, ROW_PLACES)
+        for place in filter(ROW_PLACES.get, self.rows.places):
+            known, rows = ROW_PLACES[place], self.rows.places[place]
+            group = self.group(known)
+            code = Code(self.kernel.texts(known.files.split()))
+            for row in rows:
+                self.number("%s.%s" % (place, row.name), row, group, known, report)
+                self.form(place, row, group, known, code)
+            for name, n in group.items():
+                if known.whole and n not in [row.number for row in rows]:
+                    report.compare("rows, headers", "%s.%s" % (place, name), ("row", "none", n))
+
+    def group(self, known):
+        """The constants of the enum, but for its last, its first and its padding."""
+        headers, ends = self.kernel.headers, [known.prefix + it for it in ("MAX", "UNSPEC", "PAD")]
+        return {name: headers.number(name) for name in headers.block.get(known.beside, [])
+                if name.startswith(known.prefix) and name not in ends}
+
+    @staticmethod
+    def number(where, row, group, known, report):
+        """The number and the name beside the constants of the headers."""
+        named = [it[len(known.prefix):] for it, n in group.items() if n == row.number]
+        if named:
+            names = [it for it in named if kernel_plain(it) == kernel_plain(row.name)] or named
+            report.compare("rows, headers", where, ("name", row.name, names[0]))
+        elif row.number > max(group.values(), default=-1):
+            report.is_newer("rows, headers", "%s = %d" % (where, row.number))
+        else:
+            report.compare("rows, headers", where, ("number", row.number, "none"))
+
+    def form(self, place, row, group, known, code):
+        """The form beside rt_link.yaml, and beside the code."""
+        where = "%s.%s" % (place, row.name)
+        attribute = self.kernel.sets.get(known.set, {}).get(row.number) if known.set else None
+        if attribute:
+            self.report.compare("rows, yaml", where, ("name", row.name, attribute["name"]),
+                                ("form", self.in_words(row.form), self.described(attribute)))
+            if row.form.word == "struct" and attribute.get("struct") in self.kernel.structs:
+                self.in_yaml(where, row.form, self.kernel.structs[attribute["struct"]])
+        names = [it for it, n in group.items() if n == row.number]
+        puts = set().union(*(code.puts.get(it, set()) for it in names))
+        taken = next((code.policies[it] for it in names if it in code.policies), None)
+        if puts:
+            here = self.put(row.form)
+            there = here if here in puts else "/".join(sorted(map(str, puts)))
+            self.report.compare("rows, code", where, ("put", here, there))
+        elif taken is not None:
+            self.report.compare("rows, code", where, ("taken", self.taken(row.form, taken), taken))
+        if not (attribute or puts or taken is not None):
+            self.left["forms"].append(where)
+
+    def in_words(self, form):
+        """A form as rt_link.yaml describes one."""
+        if form.word == "struct":
+            return "struct"
+        return form.word
+
+    @staticmethod
+    def described(attribute):
+        kind, hint = attribute["type"], attribute.get("display-hint")
+        if kind == "indexed-array":
+            return "list " + (hint or attribute["sub-type"])
+        if hint in BYTES:
+            return hint
+        if "struct" in attribute:
+            return "struct"
+        big = attribute.get("byte-order") == "big-endian"
+        return kind.replace("u", "be") if big else kind
+
+    def in_yaml(self, where, form, fields):
+        """The members of a record beside those of rt_link.yaml."""
+        members = self.rows.records.get(form.record, [])
+        for (name, plain), there in zip(members, fields):
+            self.report.compare("row records, yaml", "%s.%s" % (where, name), ("name", name, there.name),
+                                ("size", self.rows.size(plain), self.tools.width(there.type)))
+        self.report.compare("row records, yaml", where, ("members", len(members), len(fields)))
+
+    def put(self, form):
+        """A form as the code puts one."""
+        if form.word == "struct":
+            known = ROW_RECORDS.get(form.record)
+            return "struct " + known if known else self.rows.size(form)
+        return 6 if form.word == "mac" else "nest" if form.word.startswith("list ") else form.word
+
+    def taken(self, form, there):
+        if form.word == "struct" and isinstance(there, str) and there.startswith("struct "):
+            return "struct %s" % ROW_RECORDS.get(form.record)
+        if there == "nest" and form.word.startswith("list "):
+            return "nest"
+        return self.rows.size(form)
+
+    def records(self):
+        """The members of records beside structures of the headers."""
+        self.report.same_names("record of rows", self.rows.records, ROW_RECORDS)
+        for key, members in self.rows.records.items():
+            structure = self.kernel.headers.structs.get(ROW_RECORDS.get(key))
+            if not structure:
+                self.left["records"].append(key)
+                continue
+            offset, theirs = 0, [field for field in structure[0] if "pad" not in field.name]
+            for (name, plain), there in zip(members, theirs):
+                where, size = "%s.%s" % (key, name), self.rows.size(plain)
+                self.report.compare("row records, headers", where, ("name", name, there.name),
+                                    ("size", size, self.tools.width(there.type)), ("offset", offset, there.offset))
+                offset += size
+            self.report.compare("row records, headers", key, ("members", len(members), len(theirs)),
+                                ("size", offset, structure[1]))
+
+    def values(self):
+        """The names of values and flags beside an enum, or beside a table of the code."""
+        self.report.same_names("names of rows", self.rows.names, ROW_VALUES)
+        for key, named in self.rows.names.items():
+            known = ROW_VALUES.get(key)
+            theirs, listed = known and self.named(known), known and self.kernel.lists.get(known.list)
+            category = "row names, code" if known and known.header.endswith(".c") else "row names, headers"
+            for words, there in ((category, theirs), ("row names, yaml", listed)):
+                if there:
+                    self.tools.compare_numbers(words, key, named, there, self.report, known.all)
+            if not (theirs or listed):
+                self.left["names"].append(key)
+
+    def named(self, known):
+        headers = self.kernel.headers
+        if known.header.endswith(".c"):
+            text = "\n".join(self.kernel.texts([known.header]))
+            table = re.search(r"\b%s\[\]\s*=\s*\{(.*?)\n\};" % known.prefix, text, flags=re.S)
+            pairs = re.findall(r'\{\s*"([^"]+)",\s*(\w+)', table.group(1)) if table else []
+            return {name: headers.evaluate(number) for name, number in pairs if name not in ("default", "maxval")}
+        if not known.prefix:
+            return None
+        group = headers.group(known.prefix, known.header, [known.beside] if known.beside else ())
+        values = {name[len(known.prefix):]: n for name, n in group.items()}
+        return {name: 1 << n for name, n in values.items()} if known.bits else values
+
+
+def compare_rows(crates, kernel, report, tools):
+    """Compares all rows; what is compared with nothing is returned."""
+    compared = Compared(Rows(crates), kernel, report, tools)
+    compared.places()
+    compared.records()
+    compared.values()
+    return compared.left
