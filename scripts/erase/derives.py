@@ -7,6 +7,8 @@ ORDER = ["Clone", "Copy", "Debug", "Default", "PartialEq", "Eq", "PartialOrd", "
 EMPTY = {"LinkVfInfo", "LinkVfPort"}
 # Equality of these is written out, for their models, and is that of their fields.
 STRUCTURAL = {"DefaultNla", "NlaBuffer"}
+# These are not compared in the sources, and a Rust user compares them.
+COMPARED = {"Field", "Info", "KindRow", "Member", "Place", "Plain", "Row", "Size", "Style", "Value"}
 
 
 def derived(s):
@@ -53,7 +55,7 @@ def wanted(s, name, had, kept):
     kept = set(kept)
     if not has_impl(s, "Clone", s.text[name]):
         kept.add("Clone")
-    if s.text[name] in STRUCTURAL:
+    if s.text[name] in STRUCTURAL | COMPARED:
         kept |= {"PartialEq", "Eq"}
     if "Eq" in kept:
         kept.add("Hash")

@@ -27,7 +27,8 @@ from source import Source, Unknown, counts
 HERE = os.path.dirname(os.path.abspath(__file__))
 CRATES = os.path.join(HERE, "..", "..", "crates")
 PROGRAMS = ["linkwire"]                     # their own tests are run
-TOPS = ["link_msg", "link_state"]            # they give again what a user sees
+ROOTS = ["link_msg", "link_state"]          # what they give again stands at the root
+TOPS = ROOTS + ["link_info"]                # they give again what a user sees
 LAWS = {"laws"}                             # modules whose functions do nothing: they state laws
 STANDS_FOR = {"exact", "values"}            # modules of nla_wire that are Rust's own in the crate
 COMMON = ["number.rs", "str.rs"]
@@ -115,7 +116,7 @@ def erase(path, text, crate, mode):
     root = paths.PACKAGE if is_program else "crate"
     casts = runtime.newer(s)
     if mode.is_crate:
-        casts += ["narrow"] * owed.narrowing(s) + ["room"] * owed.stores(s)
+        casts += owed.narrowing(s) + ["room"] * owed.stores(s)
     if casts:
         imported = f"use {root}::rattle::number::{paths.group(casts)};\n"
     if mode.is_crate and memory.reserved(s):
@@ -203,7 +204,7 @@ def modules(mode):
         heads = {name: "#[cfg(test)]\n" if name in mode.tests else "pub " for name in mode.libraries}
         return "".join(f"{head}mod {name};\n" for name, head in heads.items())
     mods = "".join(f"#[allow(dead_code, unused_imports)]\nmod {name};\n" for name in mode.libraries)
-    return mods + "\n" + "".join(f"pub use {name}::*;\n" for name in TOPS if name in mode.libraries)
+    return mods + "\n" + "".join(f"pub use {name}::*;\n" for name in ROOTS if name in mode.libraries)
 
 
 def copy_std(mode, out):

@@ -164,6 +164,8 @@ CHOICE = re.compile(r"^(( +)(?:let [^\n]*= )?if [^\n{}]*)\{\n +([^\n{};]+)\n\2\}
                     r"(;|(?=\n *\}$))", re.M)
 # rustfmt takes values of at most ten letters for short
 ROWS = re.compile(r"(?<=\[\n)( +)(?:[\w\[\]]{1,10}, )+[\w\[\]]{1,10},\n(?:\1(?:[\w\[\]]{1,10}, )*[\w\[\]]{1,10},\n)+")
+CONSTANT = re.compile(r"^((?:pub(?:\(crate\))? )?const [^\n=]+ =) &\[\n((?: {4}[^\n]*\n)+)\];$", re.M)
+CHAIN = re.compile(r"^( +)([^\n]*[^\s,;{}(\[])((?:\n\1 {4}\.[^\n]*[^\n{(\[])+)(?!\n\1 {4}\.)$", re.M)
 OPERATOR = re.compile(r"^([^\n]*[^\s,;{}])\n +((?:\|\||&&) [^\n]*?)(?: \{|\n +\{)?$", re.M)
 
 
@@ -198,6 +200,20 @@ def join_choice(found):
     return joined if len(joined) <= WIDTH and "//" not in head else found.group()
 
 
+def join_constant(found):
+    """A constant list that fits on the line after its name and type."""
+    head, inner = found.groups()
+    line = "    &[" + " ".join(inner.split()).removesuffix(",") + "];"
+    return f"{head}\n{line}" if len(line) <= WIDTH and "//" not in inner else found.group()
+
+
+def join_chain(found):
+    """Calls, each on a line, on one line."""
+    indent, first, rest = found.groups()
+    line = indent + first + "".join(one.strip() for one in rest.split("\n"))
+    return line if len(line) <= WIDTH and "//" not in line else found.group()
+
+
 def fill_rows(found):
     """An array of short values in rows, of which rustfmt fills each row."""
     indent = found.group(1)
@@ -210,7 +226,7 @@ def fill_rows(found):
 
 
 JOINS = [(OPERATOR, join_operator), (ARM_BLOCK, join_arm), (ARM_BRACED, join_arm), (ARM_BROKEN, break_arm),
-         (CHOICE, join_choice), (ROWS, fill_rows)]
+         (CHOICE, join_choice), (ROWS, fill_rows), (CONSTANT, join_constant), (CHAIN, join_chain)]
 
 
 def laid_out(text):

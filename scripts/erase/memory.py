@@ -110,8 +110,11 @@ def unwrap_functions(s):
     """Those functions return their values, `Ok(value)` is the value."""
     for _, result, end in memory_functions(s):
         counts["function that fails for memory alone"] += 1
-        s.drop(result, s.next(result))
-        s.drop(s.prev(end, 2), end)
+        if s.at(s.next(result, 2), "(", ")", ","):
+            s.drop(s.prev(result, 3) + 1, end)              # it returns nothing
+        else:
+            s.drop(result, s.next(result))
+            s.drop(s.prev(end, 2), end)
         body = s.skip_to(s.next(end), {"{", ";"})
         for k in range(body + 1, s.match[body]):
             if k in s.rank and not s.dead[k] and s.text[k] in ("Ok", "Err") and s.at(s.next(k), "("):
@@ -126,6 +129,9 @@ def unwrap_value(s, k):
     if s.text[k] == "Err":
         s.fail(k, "a function that fails for memory alone gives an error of its own")
     counts["Ok(value) of such a function"] += 1
+    if s.at(s.next(k), "(", "(", ")", ")", "}") and s.text[s.prev(k)] in (";", "}"):
+        s.drop(s.prev(k) + 1, close)
+        return
     s.drop(k, s.next(k))
     s.drop(close, close)
 
@@ -139,8 +145,8 @@ def asked_calls(s, names):
         if s.text[i] in GROWS and not s.at(s.prev(i), "."):
             continue
         if s.text[ask] != "?":
-            if s.text[i] in GROWS:
-                continue
+            if s.text[i] in GROWS or (s.text[ask] in (",", "}") and s.text[s.outer(i)] == "{"):
+                continue                                # the value of a function that fails for memory alone
             s.fail(i, "a call that fails for memory alone is not asked at once whether it failed")
         counts["call that fails for memory alone"] += 1
         s.drop(ask, ask)
@@ -162,11 +168,21 @@ def reserved(s):
             s.fail(i, "push_reserved on what is no list with a name")
         counts["push_reserved"] += 1
         needed = True
-        call = f"vacant({s.text[owner]}).push"
+        call = f"vacant({'&mut ' * is_local(s, owner)}{s.text[owner]}).push"
         if not made_before(s, owner, i, call):
             s.new[owner] = call
             s.drop(s.prev(i), i)
     return needed
+
+
+def is_local(s, owner):
+    """Whether a list is a variable of the function's own, and no parameter."""
+    k = owner
+    while k is not None and s.text[k] != "fn":
+        if s.at(k, "let", "mut", s.text[owner]):
+            return True
+        k = s.prev(k)
+    return False
 
 
 def made_before(s, owner, i, call):

@@ -7,6 +7,8 @@ from source import counts
 
 BUFFER = (":", "&", "mut", "[", "u8", "]")
 NARROW = {"u8", "u16", "u32", "i8", "i16", "i32"}
+# What checks a cast, by the type that it is to.
+CHECKED = {"u16": "narrow", "i8": "narrow_signed", "i16": "narrow_signed", "i32": "narrow_signed"}
 # A `requires` of a call that a user sees: its text; where a call does not meet it, in a user's words; and the check of
 # it at the start of the call. `buffer_len` and `emit` are seen by the trait `Emitable` alone, which checks for itself.
 OWED = [(re.compile(pattern), where, check) for pattern, where, check in [
@@ -25,28 +27,35 @@ NEVER = {
     "write": (("&", "id", ".", "id", "[", ".", ".", "id", ".", "len", "]"), 11, "id.bytes()"),
 }
 
+NEVER["state_into"] = NEVER["canonical_into"]
+
+
 def narrowing(s):
-    """`len as u16`, of which a proof has shown that nothing is lost, is checked."""
-    needed = False
+    """`len as u16`, of which a proof has shown that nothing is lost, is checked. The names of what checks."""
+    needed = set()
     for i in s.live("as"):
         to = s.next(i)
         if s.in_use(i) or s.text[to] not in NARROW:
             continue
-        if s.text[to] != "u16":
+        if s.text[to] not in CHECKED:
             s.fail(i, f"a cast to {s.text[to]}, of which no checked form is known")
         counts["narrowing cast, checked"] += 1
-        needed = True
+        name = CHECKED[s.text[to]]
+        needed.add(name)
+        call = name if name == "narrow" else f"{name}::<{s.text[to]}>"
         last = s.prev(i)
         if s.text[last] == ")":
-            s.before[s.match[last]] = "narrow"
+            s.before[s.match[last]] = call
+            s.drop(last + 1, to)
+        elif s.at(s.prev(i, 2), "(") and s.at(s.next(to), ")", "."):
+            s.before[s.prev(i, 2)] = call               # `(z as i8).abs()`
             s.drop(last + 1, to)
         else:
-            s.before[operand(s, last)] = "narrow("
+            s.before[operand(s, last)] = call + "("
             s.drop(last + 1, to)
             s.dead[to] = False
             s.new[to] = ")"
-    return needed
-NEVER["state_into"] = NEVER["canonical_into"]
+    return sorted(needed)
 
 
 def operand(s, i):

@@ -64,8 +64,8 @@ def formatters(s):
 
 def newer(s):
     """Parts of std that came after Rust 1.65, as older ones say them; the traits of ours that the casts need."""
-    for i in s.live("Ipv6Addr"):
-        if s.at(i, "Ipv6Addr", ":", ":", "from_octets", "("):
+    for i in s.live("Ipv4Addr", "Ipv6Addr"):
+        if s.at(s.next(i), ":", ":", "from_octets", "("):
             counts["part of std after 1.65"] += 1
             s.new[s.next(i, 3)] = "from"
     needed = set()

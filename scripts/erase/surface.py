@@ -16,6 +16,8 @@ HIDDEN_CALLS = {
     "write_entry", "write_list",
 }
 
+# Calls for which the crate has one by hand, which calls them: the names that they have then.
+BY_HAND = {("Info", "set"): "set_value"}
 
 
 def given_again(s):
@@ -43,7 +45,7 @@ def is_hidden(s, i):
     """Whether the function that this `fn` begins, of an impl, is for the crates alone."""
     name, open_ = s.next(i), s.skip_to(i, {"("})
     takes_frame = any(s.text[k] == "NlaBuffer" for k in range(open_, s.match[open_]))
-    return s.text[name] in HIDDEN_CALLS or takes_frame
+    return s.text[name] in HIDDEN_CALLS or takes_frame or by_hand(s, i) is not None
 
 
 def hide_calls(s):
@@ -52,6 +54,13 @@ def hide_calls(s):
         if s.at(s.prev(i), "pub") and owner(s, i) and is_hidden(s, i):
             counts["call that is not public"] += 1
             s.new[s.prev(i)] = "pub(crate)"
+            if by_hand(s, i):
+                s.new[s.next(i)] = by_hand(s, i)
+
+
+def by_hand(s, i):
+    """Another name of the function that this `fn` begins, where the crate has one of its name by hand."""
+    return BY_HAND.get((owner(s, i), s.text[s.next(i)]))
 
 
 def owner(s, i):

@@ -92,6 +92,9 @@ LAID = [
     ("fn f() {\n    g([\n" + 16 * "        words[10], words[11],\n" + "    ])\n}\n",
      "fn f() {\n    g([\n" + 3 * ("       " + 5 * " words[10], words[11]," + "\n")
      + "        words[10], words[11],\n    ])\n}\n"),
+    ("const A: B = &[\n" + 14 * "    (1, 2),\n" + "];\n", "const A: B =\n    &[" + 13 * "(1, 2), " + "(1, 2)];\n"),
+    ("fn f() {\n    match x {\n        A => g(x)\n            .h()\n            .into(),\n    }\n}\n",
+     "fn f() {\n    match x {\n        A => g(x).h().into(),\n    }\n}\n"),
 ]
 
 
@@ -99,6 +102,8 @@ LAID = [
 RESERVED = [
     ("{\n    values.push_reserved(A(f(x)?));\n}\n", "{\n    vacant(values).push(A(f(x)?));\n}\n"),
     ("{\n    let value = f(x)?;\n    values.push_reserved(value);\n}\n", "{\n    vacant(values).push(f(x)?);\n}\n"),
+    ("fn f() {\n    let mut values = g();\n    values.push_reserved(value);\n}\n",
+     "fn f() {\n    let mut values = g();\n    vacant(&mut values).push(value);\n}\n"),
     ("{\n    let one = f(x)?;\n    values.push_reserved(value);\n}\n",
      "{\n    let one = f(x)?;\n    vacant(values).push(value);\n}\n"),
 ]

@@ -16,6 +16,7 @@ SAID = [(re.compile(pattern), text) for pattern, text in [
     (r" It fails only for lack of memory\.", ""),
     (r"^It fails only for lack of memory\.", ""),
     (r", or out of memory\.", "."),
+    (r"[;,] or there is no memory", ""),
     (r"; the error says that there was too little\.", "."),
     (r" `memory` where none was left;", ""),
     (r"(returns) with ample memory", r"\1"),

@@ -19,10 +19,13 @@ use Rattle.link_info.specs.Styles.{Form, Host, Network, Twos, SixOctets, FourOct
 use Rattle.link_info.specs.Styles.{plain_size, record_size, is_multiple, are_frames, are_frames_of}
 use Rattle.link_info.specs.Meanings.{Meaning, Raw, Present, Number, Signed, Words, Hardware, Four, Six}
 use Rattle.link_info.specs.Meanings.{read_as, payload_as}
+use Rattle.link_info.specs.Places.{place_of_kind}
+use Rattle.link_info.specs.declared.place.Place.{Place}
 
--- the text of a kind, the rows of its data, and the frames that were set
+-- the text of a kind, the place of its data and the rows there, and the frames that were set
 pub record Built : Type 0 where
   pub kind : List ℕ
+  pub place : Place
   pub rows : List Row
   pub frames : List Frame
 
@@ -80,7 +83,7 @@ frame_of_row row m = record { kind = row.0; payload = payload_as row.2 m }
 -- a row of this name was set to this value
 abbrev pub IsSet : List ℕ → Meaning → Built → Built → Type 0
 IsSet name m old new = (row : Row) × (row_named old.rows name ≡ Some row) × Holds row.2 m
-    × (new ≡ record { kind = old.kind; rows = old.rows; frames = placed old.frames (frame_of_row row m) })
+    × (new ≡ record old { frames = placed old.frames (frame_of_row row m) })
 
 -- what the row of this name was set to
 abbrev pub value_by : Option Row → List Frame → Option Meaning
@@ -112,3 +115,8 @@ abbrev pub data_in : List LinkInfo → List ℕ
 data_in [] = []
 data_in ((infos.Kind kind) ∷ xs) = data_in xs
 data_in ((infos.Other f) ∷ xs) = if has_number IFLA_INFO_DATA f then f.payload else data_in xs
+
+-- the place of a kind that was found
+abbrev pub place_by : Option (List ℕ) → Option Place
+place_by None = None
+place_by (Some kind) = place_of_kind kind

@@ -6,7 +6,8 @@ ghost use Rattle.nla_wire.specs.Frames.{number};
 ghost use Rattle.nla_wire.specs.Canon.{canons, AllFit, IsSmall};
 ghost use Rattle.link_info.specs.Meanings.{meaning, payload_as};
 ghost use Rattle.link_info.specs.Built.{Built, row_named, placed, has_number, Holds, IsSet, value_of, IsRefused};
-ghost use Rattle.link_info.specs.Built.{AreWhole, DataFit, list_of, kind_in, data_in};
+ghost use Rattle.link_info.specs.Built.{AreWhole, DataFit, list_of, kind_in, data_in, place_by};
+ghost use Rattle.link_info.specs.Places.{place_of_kind};
 ghost use Rattle.link_info.specs.Styles.{are_frames};
 ghost use Rattle.nla_wire.specs.Items.{items};
 ghost use Rattle.link_info.specs.declared.info.InfoError.TheVariants as why;
@@ -63,6 +64,7 @@ impl From<AllocError> for InfoError {
 #[derive(Debug, Drop)]
 pub struct Info {
     kind: Text,
+    place: Place,
     rows: &'static [Row],
     frames: Vec<DefaultNla>,
 }
@@ -70,7 +72,7 @@ pub struct Info {
 impl Model for Info {
     ghost Value = { Built };
 
-    ghost view = { λ s. record { kind = s.kind; rows = s.rows.now; frames = s.frames.items } };
+    ghost view = { λ s. record { kind = s.kind; place = s.place; rows = s.rows.now; frames = s.frames.items } };
 }
 
 /// The first row of this name.
@@ -102,7 +104,7 @@ fn position_of(frames: &[DefaultNla], wanted: u16) -> Option<usize>
 }
 
 /// Puts a frame in the place of the first one of its number, or at the end.
-fn place(frames: &mut Vec<DefaultNla>, frame: DefaultNla) -> Result<(), AllocError>
+fn put(frames: &mut Vec<DefaultNla>, frame: DefaultNla) -> Result<(), AllocError>
     ensures set { IfOk result (λ _. frames.new.items ≡ placed frames.old.items frame) }
     ensures kept { IfErr result (λ _. frames.new.items ≡ frames.old.items) }
 {
@@ -134,17 +136,16 @@ fn payload_of(alloc: Global, row: &Row, value: Value<'_>) -> Result<Vec<u8>, All
 fn kept(alloc: Global, bytes: &[u8]) -> Result<Vec<DefaultNla>, InfoError>
     ensures whole { IfOk result (λ frames. AreWhole bytes.now frames.items) }
     ensures damaged { IfErr result (λ e. e ≡ why.Damaged → are_frames (items bytes.now) ≡ false) }
+    ensures causes { IfErr result (λ e. (e ≡ why.Damaged) ⊎ (e ≡ why.OutOfMemory)) }
 {
     let mut frames = Vec::new(alloc);
     for item in NlasIterator::new(bytes) {
         let Ok(frame) = item else {
             return Err(InfoError::Damaged);
         };
-        let Ok(frame) = DefaultNla::parse(alloc, &frame) else {
-            return Err(InfoError::OutOfMemory);
-        };
+        let payload = Vec::from_slice(alloc, frame.value())?;
         frames.reserve(1)?;
-        frames.push_reserved(frame);
+        frames.push_reserved(DefaultNla::new(frame.kind_with_flags(), payload));
     }
     Ok(frames)
 }
@@ -193,16 +194,18 @@ impl Info {
     /// Refuses another kind with `UnknownKind`, or with `OutOfMemory`.
     pub fn new(alloc: Global, kind: &str) -> Result<Info, InfoError>
         ensures made { IfOk result (λ info. (info.kind ≡ kind.now) × (info.frames ≡ [])) }
-        ensures refused { IfErr result (λ e. (e ≡ why.UnknownKind) ⊎ (e ≡ why.OutOfMemory)) }
+        ensures place { IfOk result (λ info. place_of_kind kind.now ≡ Some info.place) }
+        ensures unknown { IfErr result (λ e. (e ≡ why.UnknownKind)
+            ↔ (place_of_kind kind.now ≡ None)) }
+        ensures causes { IfErr result (λ e. (e ≡ why.UnknownKind) ⊎ (e ≡ why.OutOfMemory)) }
     {
         let Some(place) = Place::of_kind(kind) else {
             return Err(InfoError::UnknownKind);
         };
-        let Ok(kind) = Text::from_str(alloc, kind) else {
-            return Err(InfoError::OutOfMemory);
-        };
+        let kind = String::from_str(alloc, kind)?;
         Ok(Info {
-            kind,
+            kind: Text::new(kind),
+            place,
             rows: place.rows(),
             frames: Vec::new(alloc),
         })
@@ -213,6 +216,13 @@ impl Info {
         ensures { result.now ≡ self.now.kind }
     {
         self.kind.as_str()
+    }
+
+    /// The place of the data, by whose rows it is set and read.
+    pub fn place(&self) -> Place
+        ensures { result ≡ self.now.place }
+    {
+        self.place
     }
 
     /// Sets the attribute of this name to this value, in place of one that it was set to before. What holds other
@@ -227,6 +237,8 @@ impl Info {
             ↔ (row_named self.old.rows name.now ≡ None)) }
         ensures held { IfErr result (λ e. (e ≡ why.NotHeld)
             ↔ IsRefused (row_named self.old.rows name.now) (meaning value.entry)) }
+        ensures causes { IfErr result
+            (λ e. (e ≡ why.UnknownName) ⊎ ((e ≡ why.NotHeld) ⊎ (e ≡ why.OutOfMemory))) }
     {
         let Some(row) = row_named(self.rows, name) else {
             return Err(InfoError::UnknownName);
@@ -235,7 +247,7 @@ impl Info {
             return Err(InfoError::NotHeld);
         }
         let payload = payload_of(alloc, row, value)?;
-        place(&mut self.frames, DefaultNla::new(row.0, payload))?;
+        put(&mut self.frames, DefaultNla::new(row.0, payload))?;
         Ok(())
     }
 
@@ -254,16 +266,16 @@ impl Info {
     pub fn list(&self, alloc: Global) -> Result<Vec<LinkInfo>, InfoError>
         ensures made { IfOk result (λ list. list.items ≡ list_of self.now) }
         ensures long { IfErr result (λ e. e ≡ why.TooLong → DataFit self.now → ⊥) }
+        ensures fit { IfOk result (λ _. DataFit self.now) }
+        ensures causes { IfErr result (λ e. (e ≡ why.TooLong) ⊎ (e ≡ why.OutOfMemory)) }
     {
         if !list_fits(self.frames.as_slice()) {
             return Err(InfoError::TooLong);
         }
         let data = encoding(alloc, self.frames.as_slice())?;
-        let Ok(kind) = Text::from_str(alloc, self.kind.as_str()) else {
-            return Err(InfoError::OutOfMemory);
-        };
+        let kind = String::from_str(alloc, self.kind.as_str())?;
         let mut list = Vec::with_capacity(alloc, 2)?;
-        list.push_reserved(LinkInfo::Kind(kind));
+        list.push_reserved(LinkInfo::Kind(Text::new(kind)));
         list.push_reserved(LinkInfo::Other(DefaultNla::new(IFLA_INFO_DATA, data)));
         Ok(list)
     }
@@ -275,8 +287,13 @@ impl Info {
     pub fn of(alloc: Global, list: &[LinkInfo]) -> Result<Info, InfoError>
         ensures kind { IfOk result (λ info. kind_in list.now ≡ Some info.kind) }
         ensures data { IfOk result (λ info. AreWhole (data_in list.now) info.frames) }
+        ensures place { IfOk result (λ info. place_of_kind info.kind ≡ Some info.place) }
+        ensures unknown { IfErr result (λ e. (e ≡ why.UnknownKind)
+            ↔ (place_by (kind_in list.now) ≡ None)) }
         ensures damaged { IfErr result
             (λ e. e ≡ why.Damaged → are_frames (items (data_in list.now)) ≡ false) }
+        ensures causes { IfErr result
+            (λ e. (e ≡ why.UnknownKind) ⊎ ((e ≡ why.Damaged) ⊎ (e ≡ why.OutOfMemory))) }
     {
         let Some(kind) = kind_in(list) else {
             return Err(InfoError::UnknownKind);

@@ -14,6 +14,7 @@ pub mod value;
 pub mod write;
 
 pub use field::{Field, Fields};
-pub use place::Place;
+pub use info::{Info, InfoError};
+pub use place::{KINDS, KindRow, Place, SLAVE_KINDS};
 pub use style::{Member, Names, Plain, Row, Size, Style};
 pub use value::Value;

@@ -1,5 +1,8 @@
 //! The places of rows: each has a table.
 
+ghost use Rattle.std.specs.Prelude.{◌≡◌};
+ghost use Rattle.link_info.specs.Places.{place_among, place_of_kind, place_of_slave_kind};
+
 use crate::style::Row;
 use crate::tables::{
     bond, bridge, can, family, geneve, gre, macsec, macvlan, others, tunnel, vlan, vxlan,
@@ -92,6 +95,69 @@ pub enum Place {
     Port,
 }
 
+/// A kind of interface or of port, and the place of its data.
+#[derive(Clone, Copy, Debug, Drop)]
+pub struct KindRow(pub &'static str, pub Place);
+
+/// The kinds of interfaces that have a table: texts of `IFLA_INFO_KIND`, and the places of their `IFLA_INFO_DATA`.
+pub const KINDS: &[KindRow] = &[
+    KindRow("vlan", Place::Vlan),
+    KindRow("bond", Place::Bond),
+    KindRow("bridge", Place::Bridge),
+    KindRow("vxlan", Place::Vxlan),
+    KindRow("geneve", Place::Geneve),
+    KindRow("gre", Place::Gre),
+    KindRow("gretap", Place::Gre),
+    KindRow("erspan", Place::Gre),
+    KindRow("ip6gre", Place::Gre6),
+    KindRow("ip6gretap", Place::Gre6),
+    KindRow("ip6erspan", Place::Gre6),
+    KindRow("ipip", Place::IpTunnel),
+    KindRow("sit", Place::IpTunnel),
+    KindRow("ip6tnl", Place::Ip6Tunnel),
+    KindRow("vti", Place::Vti),
+    KindRow("vti6", Place::Vti6),
+    KindRow("xfrm", Place::Xfrm),
+    KindRow("macvlan", Place::Macvlan),
+    KindRow("macvtap", Place::Macvlan),
+    KindRow("ipvlan", Place::Ipvlan),
+    KindRow("ipvtap", Place::Ipvlan),
+    KindRow("macsec", Place::Macsec),
+    KindRow("can", Place::Can),
+    KindRow("vcan", Place::Can),
+    KindRow("vxcan", Place::Can),
+    KindRow("vrf", Place::Vrf),
+    KindRow("tun", Place::Tun),
+    KindRow("netkit", Place::Netkit),
+    KindRow("hsr", Place::Hsr),
+    KindRow("rmnet", Place::Rmnet),
+    KindRow("gtp", Place::Gtp),
+    KindRow("bareudp", Place::Bareudp),
+    KindRow("amt", Place::Amt),
+    KindRow("wwan", Place::Wwan),
+    KindRow("ovpn", Place::Ovpn),
+];
+
+/// The kinds of ports that have a table: texts of `IFLA_INFO_SLAVE_KIND`, and the places of their
+/// `IFLA_INFO_SLAVE_DATA`.
+pub const SLAVE_KINDS: &[KindRow] = &[
+    KindRow("bond", Place::BondSlave),
+    KindRow("bridge", Place::BridgePort),
+    KindRow("vrf", Place::VrfPort),
+];
+
+/// The place beside the first of these kinds that has this text.
+fn place_among(kinds: &'static [KindRow], kind: &str) -> Option<Place>
+    ensures { result ≡ place_among kinds.now kind.now }
+{
+    for row in kinds {
+        if row.0 == kind {
+            return Some(row.1);
+        }
+    }
+    None
+}
+
 impl Place {
     /// The rows of this place.
     pub fn rows(self) -> &'static [Row] {
@@ -141,45 +207,16 @@ impl Place {
     }
 
     /// The place of the members of `IFLA_INFO_DATA` of links of this kind, the text of `IFLA_INFO_KIND`.
-    pub fn of_kind(kind: &str) -> Option<Place> {
-        match kind {
-            "vlan" => Some(Place::Vlan),
-            "bond" => Some(Place::Bond),
-            "bridge" => Some(Place::Bridge),
-            "vxlan" => Some(Place::Vxlan),
-            "geneve" => Some(Place::Geneve),
-            "gre" | "gretap" | "erspan" => Some(Place::Gre),
-            "ip6gre" | "ip6gretap" | "ip6erspan" => Some(Place::Gre6),
-            "ipip" | "sit" => Some(Place::IpTunnel),
-            "ip6tnl" => Some(Place::Ip6Tunnel),
-            "vti" => Some(Place::Vti),
-            "vti6" => Some(Place::Vti6),
-            "xfrm" => Some(Place::Xfrm),
-            "macvlan" | "macvtap" => Some(Place::Macvlan),
-            "ipvlan" | "ipvtap" => Some(Place::Ipvlan),
-            "macsec" => Some(Place::Macsec),
-            "can" | "vcan" | "vxcan" => Some(Place::Can),
-            "vrf" => Some(Place::Vrf),
-            "tun" => Some(Place::Tun),
-            "netkit" => Some(Place::Netkit),
-            "hsr" => Some(Place::Hsr),
-            "rmnet" => Some(Place::Rmnet),
-            "gtp" => Some(Place::Gtp),
-            "bareudp" => Some(Place::Bareudp),
-            "amt" => Some(Place::Amt),
-            "wwan" => Some(Place::Wwan),
-            "ovpn" => Some(Place::Ovpn),
-            _ => None,
-        }
+    pub fn of_kind(kind: &str) -> Option<Place>
+        ensures { result ≡ place_of_kind kind.now }
+    {
+        place_among(KINDS, kind)
     }
 
     /// The place of the members of `IFLA_INFO_SLAVE_DATA` of ports of this kind, the text of `IFLA_INFO_SLAVE_KIND`.
-    pub fn of_slave_kind(kind: &str) -> Option<Place> {
-        match kind {
-            "bond" => Some(Place::BondSlave),
-            "bridge" => Some(Place::BridgePort),
-            "vrf" => Some(Place::VrfPort),
-            _ => None,
-        }
+    pub fn of_slave_kind(kind: &str) -> Option<Place>
+        ensures { result ≡ place_of_slave_kind kind.now }
+    {
+        place_among(SLAVE_KINDS, kind)
     }
 }

@@ -14,6 +14,7 @@ extern crate alloc;
 mod attributes;
 mod calls;
 mod flags;
+pub mod info;
 mod packet;
 mod rattle;
 mod values;
