@@ -3,3 +3,13 @@
 
 #[cfg(test)]
 mod built;
+#[cfg(test)]
+mod fields;
+#[cfg(test)]
+mod kinds;
+#[cfg(test)]
+mod memory;
+#[cfg(test)]
+mod styles;
+#[cfg(test)]
+mod values;

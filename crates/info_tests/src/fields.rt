@@ -1,0 +1,71 @@
+//! Fields of lists of attributes.
+
+use crate::values::are_same;
+use link_info::{Field, Fields, Place, Value};
+use nla_wire::{Cause, NlaBuffer};
+
+/// Data of a vlan: its id with a flag bit of its kind, its protocol, an id of three bytes, and a number without a row.
+const DATA: [u8; 32] = [
+    6, 0, 1, 0x80, 100, 0, 0, 0, 6, 0, 5, 0, 0x88, 0xa8, 0, 0, 7, 0, 1, 0, 1, 2, 3, 0, 5, 0, 99, 0,
+    7, 0, 0, 0,
+];
+
+/// The row's name, the kind and the value of each field.
+const FIELDS: [(&str, u16, Value<'static>); 4] = [
+    ("id", 0x8001, Value::Unsigned(100)),
+    ("protocol", 5, Value::Unsigned(0x88a8)),
+    ("id", 1, Value::Bytes(&[1, 2, 3])),
+    ("", 99, Value::Bytes(&[7])),
+];
+
+/// The name of the field's row; of one without a row, none.
+fn name(field: &Field<'_>) -> &'static str {
+    match field.row() {
+        Some(row) => row.1,
+        None => "",
+    }
+}
+
+#[test]
+fn each_frame_has_a_field(rt: HostRuntime) {
+    let mut fields = Fields::new(Place::Vlan.rows(), &DATA);
+    for (wanted, kind, value) in FIELDS {
+        let field = match fields.next() {
+            Some(Ok(field)) => field,
+            _ => panic!(rt; "there are four"),
+        };
+        assert_eq!(rt; name(&field), wanted);
+        assert_eq!(rt; field.kind(), kind, "{wanted}");
+        assert!(rt; are_same(field.value(), value), "{wanted}");
+    }
+    assert!(rt; fields.next().is_none());
+}
+
+#[test]
+fn a_damaged_list_ends_in_its_fault(rt: HostRuntime) {
+    let mut fields = Fields::new(Place::Vlan.rows(), &DATA[..15]);
+    assert!(rt; matches!(fields.next(), Some(Ok(_))));
+    assert!(rt; matches!(fields.next(), Some(Ok(_))));
+    assert!(rt; fields.next().is_none(), "padding may lack");
+    let mut fields = Fields::new(Place::Vlan.rows(), &DATA[..13]);
+    assert!(rt; matches!(fields.next(), Some(Ok(_))));
+    match fields.next() {
+        Some(Err(error)) => {
+            assert!(rt; error.cause == Cause::FrameOver { length: 6, left: 5 });
+        }
+        _ => panic!(rt; "six bytes are said, and five are there"),
+    }
+    assert!(rt; fields.next().is_none());
+    assert!(rt; Fields::new(&[], &[]).next().is_none());
+}
+
+#[test]
+fn a_field_is_made_of_a_frame(rt: HostRuntime) {
+    let frame = NlaBuffer::new_checked(&DATA[8..16]).expect(&rt, "it is whole");
+    let field = Field::new(Place::Vlan.rows(), &frame);
+    assert_eq!(rt; name(&field), "protocol");
+    assert!(rt; are_same(field.value(), Value::Unsigned(0x88a8)));
+    let field = Field::new(Place::Vrf.rows(), &frame);
+    assert_eq!(rt; name(&field), "");
+    assert!(rt; are_same(field.value(), Value::Bytes(&[0x88, 0xa8])));
+}

@@ -1,0 +1,22 @@
+//! How values are compared.
+
+use link_info::Value;
+
+/// Whether two values say the same: of those that hold others, the same bytes.
+pub fn are_same(one: Value<'_>, other: Value<'_>) -> bool {
+    match (one, other) {
+        (Value::Bytes(one), Value::Bytes(other)) => one == other,
+        (Value::Flag, Value::Flag) => true,
+        (Value::Unsigned(one), Value::Unsigned(other)) => one == other,
+        (Value::Signed(one), Value::Signed(other)) => one == other,
+        (Value::Text(one), Value::Text(other)) => one == other,
+        (Value::Mac(one), Value::Mac(other)) => one == other,
+        (Value::Ipv4(one), Value::Ipv4(other)) => one == other,
+        (Value::Ipv6(one), Value::Ipv6(other)) => one == other,
+        (Value::Record(_, one), Value::Record(_, other)) => one == other,
+        (Value::Array(_, one), Value::Array(_, other)) => one == other,
+        (Value::List(_, one), Value::List(_, other)) => one == other,
+        (Value::Nest(_, one), Value::Nest(_, other)) => one == other,
+        _ => false,
+    }
+}
