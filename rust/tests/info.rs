@@ -1,6 +1,6 @@
 //! Link data by names: what the calls that are written by hand for this crate return.
 
-use linkwire::info::{Fields, Info, InfoError, Place, Plain, Size, Style, Value, KINDS, SLAVE_KINDS};
+use linkwire::info::{Fields, Info, InfoError, KINDS, Place, Plain, SLAVE_KINDS, Size, Style, Value};
 use linkwire::{LinkAttribute, LinkInfo, LinkMessage};
 use std::net::{Ipv4Addr, Ipv6Addr};
 
@@ -135,9 +135,10 @@ fn lists_of_messages() {
     let damaged = [list[0].clone(), LinkInfo::Other(linkwire::DefaultNla::new(2, vec![6, 0, 1, 0, 5]))];
     assert_eq!(Info::of(&damaged), Err(InfoError::Damaged));
     let mut netkit = Info::new("netkit").unwrap();
-    netkit.set("peer-info", &vec![0; 65532]).unwrap();
+    // a header of four bytes, the payload, and padding up to a multiple of four: 65532 bytes, and 65528
+    netkit.set("peer-info", &vec![0; 65525]).unwrap();
     assert_eq!(netkit.list(), Err(InfoError::TooLong));
-    netkit.set("peer-info", &vec![0; 65527]).unwrap();
+    netkit.set("peer-info", &vec![0; 65524]).unwrap();
     assert!(netkit.list().is_ok());
     netkit.set("primary", 1).unwrap();
     assert_eq!(netkit.list(), Err(InfoError::TooLong));
