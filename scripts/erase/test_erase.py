@@ -10,6 +10,7 @@ import erase
 import layout
 import memory
 import owed
+import surface
 from source import Source, Unknown, counts
 
 # a source, as one of link_msg, and what is said of it
@@ -124,6 +125,20 @@ def main():
     owed.narrowing(cast)
     if "narrow(4 + len)\n" not in cast.rust() or counts["narrowing cast, checked"] != 1:
         print(cast.rust())
+        failed += 1
+    signed = Source("a.rt", "fn f(z: i64) {\n    g((z as i8).to_le_bytes());\n}\n")
+    if owed.narrowing(signed) != ["narrow_signed"] or "g(narrow_signed::<i8>(z).to_le_bytes())" not in signed.rust():
+        print(signed.rust())
+        failed += 1
+    hidden = Source("a.rt", "impl Info {\n    pub fn set(&mut self) {}\n\n    pub fn kind(&self) {}\n}\n")
+    surface.hide_calls(hidden)
+    if hidden.rust() != "impl Info {\n    pub(crate) fn set_value(&mut self) {}\n\n    pub fn kind(&self) {}\n}\n":
+        print(hidden.rust())
+        failed += 1
+    nothing = Source("a.rt", "fn f() -> Result<(), AllocError> {\n    g();\n    Ok(())\n}\n")
+    memory.unwrap_functions(nothing)
+    if nothing.rust() != "fn f() {\n    g();\n}\n":
+        print(nothing.rust())
         failed += 1
     for text, wanted in RESERVED:
         pushed = Source("a.rt", text)

@@ -2,10 +2,11 @@
 
 use link_info::info::{Info, InfoError};
 use link_info::{KINDS, Place, Row, SLAVE_KINDS, Value};
+use std::alloc::Global;
 
 /// The kinds of interfaces whose data has a table, each with the name of the attribute that the kernel's headers number
 /// lowest (linux/if_link.h, if_tunnel.h, can/netlink.h).
-const FIRSTS: [(&str, &str); 35] = [
+const FIRSTS: &[(&str, &str)] = &[
     ("amt", "mode"),
     ("bareudp", "port"),
     ("bond", "mode"),
@@ -44,7 +45,7 @@ const FIRSTS: [(&str, &str); 35] = [
 ];
 
 /// Those of ports.
-const SLAVE_FIRSTS: [(&str, &str); 3] = [("bond", "state"), ("bridge", "state"), ("vrf", "table")];
+const SLAVE_FIRSTS: &[(&str, &str)] = &[("bond", "state"), ("bridge", "state"), ("vrf", "table")];
 
 /// Whether the first row of a place, if there is one, has this name.
 fn begins_with(place: Option<Place>, name: &str) -> bool {
@@ -57,20 +58,31 @@ fn begins_with(place: Option<Place>, name: &str) -> bool {
     }
 }
 
+/// Whether an interface of this kind is made, with rows of which the first has this name.
+fn is_made(alloc: Global, kind: &str, name: &str) -> bool {
+    match Info::new(alloc, kind) {
+        Ok(info) => info.kind() == kind && begins_with(Some(info.place()), name),
+        Err(_) => false,
+    }
+}
+
 #[test]
 fn each_kind_is_known(rt: HostRuntime) {
     assert_eq!(rt; KINDS.len(), FIRSTS.len());
     for (kind, name) in FIRSTS {
         assert!(rt; begins_with(Place::of_kind(kind), name), "{kind}");
-        let info = Info::new(rt.alloc(), kind).expect(&rt, "it has a table");
-        assert!(rt; info.kind() == kind, "{kind}");
-        assert!(rt; begins_with(Some(info.place()), name), "{kind}");
+        assert!(rt; is_made(rt.alloc(), kind, name), "{kind}");
     }
     assert_eq!(rt; SLAVE_KINDS.len(), SLAVE_FIRSTS.len());
     for (kind, name) in SLAVE_FIRSTS {
         assert!(rt; begins_with(Place::of_slave_kind(kind), name), "{kind}");
     }
-    for kind in ["", "vlan\0", "VLAN", "vlan1", "dummy", "veth"] {
+}
+
+#[test]
+fn other_kinds_are_not(rt: HostRuntime) {
+    let others: &[&str] = &["", "vlan\0", "VLAN", "vlan1", "dummy", "veth"];
+    for kind in others {
         assert!(rt; Place::of_kind(kind).is_none(), "{kind}");
         assert!(rt; Place::of_slave_kind(kind).is_none(), "{kind}");
     }
