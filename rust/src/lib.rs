@@ -53,6 +53,22 @@
 //! [`to_vec`](LinkMessage::to_vec) refuses what the format can not hold, such as a name of 70,000 bytes. [`Writer`] writes
 //! attributes into a buffer, without memory.
 //!
+//! # The data of a kind of interface
+//!
+//! ```
+//! use linkwire::info::Info;
+//! use linkwire::{LinkAttribute, LinkMessage};
+//!
+//! let mut vlan = Info::new("vlan")?;
+//! vlan.set("id", 100)?;
+//! let mut request = LinkMessage::default();
+//! request.attributes.push(LinkAttribute::LinkInfo(vlan.list()?));
+//! assert_eq!(vlan.u16("id"), Some(100));
+//! # Ok::<(), linkwire::info::InfoError>(())
+//! ```
+//!
+//! [`info`] has the kinds of which it knows the data, and an example of a vlan, a bridge, a bond and a vxlan each.
+//!
 //! # A key to store
 //!
 //! Two messages are equal exactly where their canonical encodings are. Keep [`CANONICAL_FORM`] beside what is stored:
@@ -101,6 +117,7 @@ extern crate alloc;
 mod attributes;
 mod calls;
 mod flags;
+pub mod info;
 mod packet;
 mod rattle;
 mod values;
@@ -108,6 +125,8 @@ mod writer;
 
 #[allow(dead_code, unused_imports)]
 mod link_afspec;
+#[allow(dead_code, unused_imports)]
+mod link_info;
 #[allow(dead_code, unused_imports)]
 mod link_msg;
 #[allow(dead_code, unused_imports)]

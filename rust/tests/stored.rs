@@ -152,15 +152,15 @@ fn joined(source: &str) -> String {
     code
 }
 
-/// The rows are pairs of texts between quotes, in which only a CR is escaped.
+/// The rows are a label, a line and its answer, texts between quotes, in which only a CR is escaped.
 #[test]
 fn rows() {
     let code = joined(&stored("src/tests/rows.rt")).replace("\\r", "\r");
     let texts: Vec<&str> = code.split('"').skip(1).step_by(2).collect();
-    assert!(texts.len() > 100 && texts.len() % 2 == 0);
-    for row in texts.chunks(2) {
-        assert_eq!(answer(row[0]), row[1], "{}", row[0]);
-        bytes_of(row[0]).iter().for_each(|it| agrees(it));
+    assert!(texts.len() > 150 && texts.len() % 3 == 0);
+    for row in texts.chunks(3) {
+        assert_eq!(answer(row[1]), row[2], "{}", row[0]);
+        bytes_of(row[1]).iter().for_each(|it| agrees(it));
     }
 }
 

@@ -3,7 +3,7 @@
 
 use crate::link_vals::VlanProtocol;
 use crate::nla_wire::fields::{be16_at, put_be16, put_bytes, put_u32, u32_at};
-use crate::nla_wire::{DecodeError, Record};
+use crate::nla_wire::{DecodeError, Record, RecordBuffer};
 
 /// The number of bytes of a record.
 pub const VF_VLAN_INFO_SIZE: usize = 16;
@@ -65,6 +65,9 @@ impl VfVlanInfo {
 
     /// Writes the record to a buffer of exactly `VF_VLAN_INFO_SIZE` bytes.
     pub(crate) fn emit(&self, buffer: &mut [u8]) {
-        self.write(buffer);
+        buffer.copy_from_slice(VfVlanInfoBuffer::from(self).as_bytes());
     }
 }
+
+/// The bytes of a record, `VfVlanInfo`.
+type VfVlanInfoBuffer = RecordBuffer<VfVlanInfo, VF_VLAN_INFO_SIZE>;

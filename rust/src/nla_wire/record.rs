@@ -124,14 +124,14 @@ impl<R, const SIZE: usize> RecordBuffer<R, SIZE> {
         &self.bytes
     }
 
-    /// The first `SIZE` bytes as they are, padding too, and the rest. Fewer bytes are refused with `TooShort`.
+    /// The first `SIZE` bytes as they are, padding too, and the rest, which is the part of `bytes` that begins after
+    /// them. Fewer bytes are refused with `TooShort`.
     pub fn read_from_prefix(bytes: &[u8]) -> Result<(RecordBuffer<R, SIZE>, &[u8]), DecodeError> {
         if bytes.len() < SIZE {
             return Err(too_short(bytes.len(), SIZE));
         }
-        let (front, rest) = bytes.split_at(SIZE);
-        let mut bytes = [0; SIZE];
-        bytes.copy_from_slice(front);
-        Ok((RecordBuffer { bytes, marker: PhantomData }, rest))
+        let mut front = [0; SIZE];
+        front.copy_from_slice(&bytes[..SIZE]);
+        Ok((RecordBuffer { bytes: front, marker: PhantomData }, &bytes[SIZE..]))
     }
 }

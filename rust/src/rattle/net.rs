@@ -2,6 +2,6 @@
 //! Addresses of the internet, which Rust's core has from 1.77 on.
 
 #[cfg(not(feature = "std"))]
-pub use core::net::Ipv6Addr;
+pub use core::net::{Ipv4Addr, Ipv6Addr};
 #[cfg(feature = "std")]
-pub use std::net::Ipv6Addr;
+pub use std::net::{Ipv4Addr, Ipv6Addr};

@@ -59,6 +59,19 @@ fn too_long(len: usize) -> ! {
     panic!("the value does not fit: a frame of {len} bytes, where an attribute holds 65531 and its header")
 }
 
+/// A signed number in fewer bytes.
+///
+/// # Panics
+///
+/// Where these cannot hold it.
+#[inline(always)]
+pub(crate) fn narrow_signed<T: TryFrom<i64>>(number: i64) -> T {
+    match T::try_from(number) {
+        Ok(number) => number,
+        Err(_) => panic!("the value does not fit: the number {number} in fewer than eight bytes"),
+    }
+}
+
 /// A part of a buffer, to be written.
 ///
 /// # Panics
