@@ -16,4 +16,6 @@ handed (Err e') e place same known =
 pub returns-in_err-info-clause-unknown : goal.returns-in_err-info-clause-unknown
 returns-in_err-info-clause-unknown c =
     let e : kind_in c.args.list.now ≡ Some c.in-Some.kind.now = cc in
-    rw e (handed c.from_residual.result c.in_err-info.field-0.0 _ c.from_residual.ensures.1 c.in_err-info.ensures.unknown)
+    rw e
+    (handed c.from_residual.result c.in_err-info.field-0.0 _ c.from_residual.ensures.1
+    c.in_err-info.ensures.unknown)
