@@ -4,8 +4,9 @@
     python3 scripts/state_tests.py LINKSTATE LINKWIRE [KERNELS]
 
 Of each line the answer has to be the model's state of what linkwire answers, or the same refusal: the lines are those
-of show_damaged.py and the messages of tests/state/pairs.txt, as they are and damaged. The two messages of each pair
-have one state, which is the state encoding of itself. KERNELS is a folder with one folder a kernel, of which each file
+of show_damaged.py and the messages of tests/state/pairs.txt, as they are and damaged. With words in front, which may be
+damaged too, each line has to have them in front of its answer. The two messages of each pair have one state, which is
+the state encoding of itself. KERNELS is a folder with one folder a kernel, of which each file
 NAME.hex has a dump's messages, a line of hexadecimal each, and NAME.hex2 those of a dump that came after; all their
 pairs are looked at too, and those with two states are told.
 """
@@ -13,6 +14,8 @@ pairs are looked at too, and those with two states are told.
 import glob
 import os
 import random
+import re
+import subprocess
 import sys
 
 sys.dont_write_bytecode = True
@@ -20,6 +23,11 @@ import state_model
 from show_damaged import LONG, TOP, answers, damaged, stored_lines, tested_lines
 
 PAIRS = TOP + "/tests/state/pairs.txt"
+# words in front of a line: a key with neither = nor blank, a value without a blank, and blanks after each
+FRONT = re.compile(rb"(?:[^ \t=]+=[^ \t]*[ \t]+)*")
+PARTS = [b"host=a", b"kernel=6.12.0-rc1+", b"time=2026-11-25T12:00:00.5Z", b"a=", b"a=b=c", b"=", b"=a", b"a", b"",
+         b"\xff\xfe=\x80", b"a=\0\r", b"00", b"ok=", b"x" * 300 + b"=" + b"y" * 300]
+BLANKS = [b" ", b" ", b" ", b"\t", b"  ", b" \t ", b""]
 
 
 def fails(*words):
@@ -69,6 +77,31 @@ def compare(linkstate, linkwire, lines):
     return count
 
 
+def worded(chance, digits):
+    """Returns a line with some words in front, now and then with what is no word among them."""
+    parts = PARTS[:5] if chance.randrange(2) else PARTS
+    words = [chance.choice(parts) + chance.choice(BLANKS if parts is PARTS else BLANKS[:-1])
+             for _ in range(chance.randrange(5))]
+    return b"".join(words) + digits.encode()
+
+
+def compare_worded(linkstate, lines):
+    """Compares what lines are answered with what their words and their rests are; returns how many have words."""
+    def all_answers(lines):
+        ran = subprocess.run([linkstate], input=b"".join(it + b"\n" for it in lines), capture_output=True, check=True)
+        return ran.stdout.split(b"\n")[:-1]
+
+    fronts = [FRONT.match(line)[0] for line in lines]
+    found = all_answers(lines)
+    rests = all_answers([line[len(front):] for line, front in zip(lines, fronts)])
+    for line, answer, front, rest in zip(lines, found, fronts, rests):
+        if answer != front + rest:
+            fails(f"{line[:3000]}\nis answered\n{answer[:3000]}\nand not\n{(front + rest)[:3000]}")
+    if len(found) != len(lines):
+        fails("lines with words have more or fewer answers than one")
+    return sum(front != b"" for front in fronts)
+
+
 def two_states(linkstate, found):
     """Returns the names of the pairs that have two states, and those of which a message is refused."""
     first = answers(linkstate, [a.hex() for _, a, _ in found])
@@ -106,10 +139,12 @@ def main():
     lines = sources + LONG + messages + [damaged(chance, line) for line in sources for _ in range(20)]
     lines += [damaged(chance, line) for line in messages for _ in range(200)]
     count = compare(linkstate, linkwire, lines)
+    with_words = compare_worded(linkstate, [worded(chance, line) for line in sources + messages for _ in range(20)])
     moved, refused = two_states(linkstate, found)
     if moved or refused:
         fails("two states, or a refusal:", ", ".join(moved + refused))
-    print(f"state_tests: {len(lines)} lines, {count} with a state, as the model's; {len(found)} pairs of one state")
+    print(f"state_tests: {len(lines)} lines, {count} with a state, as the model's; {with_words} with words; "
+          f"{len(found)} pairs of one state")
     for folder in kernels:
         found = pairs_of(folder)
         moved, refused = two_states(linkstate, found)
