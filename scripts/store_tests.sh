@@ -123,6 +123,46 @@ polls_folder() {
     done
 }
 
+# in_news PATTERN: until a line of the store of news of the index 4242 has it
+in_news() {
+    local try
+    for try in $(seq 100); do
+        if tail -n 1 "$folder/news/0092100000" 2>/dev/null | grep -q "$1"; then
+            return
+        fi
+        sleep 0.1
+    done
+    fails "news: $1 is not the last: $(cut -c1-60 "$folder"/news/0092100000 2>&1)"
+}
+
+keeps_news() {
+    local news try
+    block sh >"$folder/news.sh"
+    PATH=$folder:$(dirname "$linkstate"):$PATH setsid bash -uo pipefail "$folder/news.sh" "$folder/news" &
+    news=$!
+    trap 'kill -- "-$news" 2>/dev/null || true' EXIT
+    for try in $(seq 100); do
+        if [ -e "$folder/news/0001000000" ]; then
+            break
+        fi
+        sleep 0.1
+    done
+    makes_again
+    in_news ' type=new '
+    ip link set again0 mtu 1400
+    in_news ' type=new .*0800040078050000'
+    ip link del again0
+    in_news ' type=del '
+    makes_again
+    in_news ' type=new '
+    ip link del again0
+    in_news ' type=del '
+    kill -- "-$news" 2>/dev/null
+    trap - EXIT
+    wants 'lines of an index that was used twice, that tell that it went' \
+        "$(grep -c ' type=del ' "$folder/news/0092100000")" 2
+}
+
 if [ "$1" = --inside ]; then
     folder=$2 library=$3 linkstate=$4
     mount -t sysfs sysfs /sys || skips 'no right to mount a sysfs'
@@ -135,6 +175,11 @@ if [ "$1" = --inside ]; then
     polls_sqlite
     [ -x "$linkstate" ] || skips 'a store in a folder: linkstate is not built'
     polls_folder
+    # a linkstate of before answers no line with words
+    if [ "$(echo 'a=b 0' | "$linkstate")" != 'a=b nothex' ]; then
+        skips 'a store of news: linkstate takes no words'
+    fi
+    keeps_news
     exit 0
 fi
 library=$(realpath "$1") linkstate=${2:-$top/crates/linkstate/out/linkstate}
@@ -147,7 +192,7 @@ python3 -c 'import sqlite3' 2>/dev/null || skips 'no sqlite3 in python3'
 command -v ip >/dev/null || skips 'no command ip'
 folder=$(mktemp -d)
 trap 'rm -rf "$folder"' EXIT
-${CC:-cc} -std=c11 -D_GNU_SOURCE -O1 -I"$top/include" -o "$folder/links" "$top/examples/c/links.c" "${library%.so.0}.a"
+${CC:-cc} -std=gnu11 -D_GNU_SOURCE -O1 -I"$top/include" -o "$folder/linkdump" "$top"/programs/linkdump*.c
 for flags in -mn -rmn; do
     if unshare "$flags" true 2>/dev/null; then
         unshare "$flags" "$0" --inside "$folder" "$library" "$(realpath -m "$linkstate")"
