@@ -2,14 +2,17 @@
 """Compares what linkshow says of kernels' links with what the same machines said of themselves, by kernel_fields.txt.
 
     KERNELS=FOLDER python3 scripts/kernel_truth.py [PROGRAM]
+    python3 scripts/kernel_truth.py --live [PROGRAM [LINKDUMP]]
 
 FOLDER has a folder RELEASE/out, or an archive RELEASE.tar.xz of out/, for each kernel: truth-LABEL.hex and .hex2, two
 dumps as lines of hexadecimal; truth-LABEL.json, what `ip -s -s -j -d link show` said in between; and around these
-sysfs-LABEL-a.txt and -b.txt, proc-LABEL-a.txt and -b.txt. Without it this is 'skipped'.
+sysfs-LABEL-a.txt and -b.txt, proc-LABEL-a.txt and -b.txt. Without it this is 'skipped'. With --live the kernel at hand
+is asked, in a network namespace with a link of each kind that it can make; what its ip does not name is let be.
 
 What moves has to lie between the two dumps. Each field of ip has a row in the table, and each list has as many members
 as ours; a flag that ip only names where it is set is not set elsewhere. Fields that are not covered are counted and
-named, each below its reason. The last line is 'kernel_truth: ok'.
+named, each below its reason. What is stored in tests/kernels for linkshow is compared with FOLDER too, where ip spoke
+of the same link at the same step, but for what counts or runs down. The last line is 'kernel_truth: ok'.
 """
 
 import glob
@@ -17,6 +20,8 @@ import ipaddress
 import json
 import os
 import re
+import shlex
+import shutil
 import subprocess
 import sys
 import tempfile
@@ -547,6 +552,7 @@ def compare_label(rows, program, release, out, name, report):
     for link in said:
         report.values["links", "all"] += 1
         compare_link(rows, link, links, "%s %s %s" % (release, name, link["ifname"]), report)
+    compare_stored(rows, release, name, said, links, report)
     for source, reader in (("sysfs", sysfs), ("proc", proc)):
         files = [it % (source, end) for end in ("-a.txt", "-b.txt")]
         if all(map(os.path.exists, files)):
@@ -554,9 +560,159 @@ def compare_label(rows, program, release, out, name, report):
                           program.left_out(release), report)
 
 
+# ** stored answers
+
+# what counts or runs down
+MOVES = re.compile(r"ip (stats64\.|xstats<|.*(_timer|fdb_n_learned|failure_count)$)")
+
+
+def stored():
+    """The answers of linkshow in tests/kernels, with the kernel and the step of each that is of a dump."""
+    folder = os.path.join(TOP, "tests", "kernels")
+    if not os.path.exists(os.path.join(folder, "linkshow.txt")):
+        return
+    with open(os.path.join(folder, "messages.txt"), encoding="utf-8") as file:
+        lines = file.read().splitlines()
+    with open(os.path.join(folder, "linkshow.txt"), encoding="utf-8") as file:
+        answers = file.read().split("\n")[:-1]
+    for head, answer in zip(lines[::2], answers):
+        found = re.match(r"# ([^:]+): dump (\w+) family=0 ", head)
+        if found:
+            yield found.group(1), found.group(2), json.loads(answer)
+
+
+def compare_stored(rows, release, step, said, links, report):
+    """Each stored answer of this step beside what ip said of the link. A message can leave parts out."""
+    for kernel, name, answer in stored():
+        link = next((it for it in said if it["ifindex"] == answer.get("ifi-index")), None)
+        if (kernel, name) != (release, step) or link is None or "fault" in answer:
+            continue
+        beside, one = Report(False), Links([answer], [answer])
+        one.names, one.decodes = links.names, links.decodes
+        compare_link(rows, link, one, "%s %s %s" % (release, step, link["ifname"]), beside)
+        report.values["stored", "right"] += beside.values["ip", "right"]
+        report.covered["stored"] |= beside.covered["ip"]
+        report.kinds["stored"] |= beside.covered["ip"]
+        for where, found in beside.wrong.items():
+            for it in found if not MOVES.match(where) else ():
+                if MISSING not in it[2:] and not (str(it[1]).endswith(" members") and it[2] == 0):
+                    report.is_wrong("stored", where[len("ip "):], *it)
+
+
+# ** the kernel at hand
+
+# links of each kind, and what is done with them; which kinds the kernel at hand does not make is said
+COMMANDS = """
+link set lo up
+link add dummy0 numtxqueues 2 type dummy
+link set dummy0 up mtu 1400 alias "some words" group 7 promisc on
+link property add dev dummy0 altname another-name altname a-third
+link add veth0 type veth peer name veth1
+link set veth0 up
+link set veth1 up
+link add br0 type bridge vlan_filtering 1 mcast_querier 1 stp_state 1 group_fwd_mask 8 vlan_protocol 802.1ad
+link set br0 up
+link set veth1 master br0
+link set veth1 type bridge_slave guard on hairpin on fastleave on flood off isolated on cost 7 priority 3
+link add link veth0 name veth0.5 type vlan id 5 gvrp on loose_binding on ingress-qos-map 1:2 3:4 egress-qos-map 1:2 2:3
+link add link veth0 name veth0.6 type vlan proto 802.1ad id 6 reorder_hdr off mvrp on
+link add link veth0 name mv0 type macvlan mode bridge
+link add link veth0 name mv1 type macvlan mode source
+link set mv1 type macvlan macaddr set 02:00:00:00:00:01 02:00:00:00:00:02
+link add link veth0 name mt0 type macvtap mode bridge
+link add low1 type veth
+link add link low1 name iv0 type ipvlan mode l3s private
+link add low2 type veth
+link add link low2 name it0 type ipvtap mode l3
+link add low3 type veth
+link add link low3 name ms0 type macsec port 11 encrypt on cipher gcm-aes-256 window 12 replay on validate check
+link add bond0 type bond mode 802.3ad lacp_rate fast ad_actor_system 00:00:00:00:00:AA xmit_hash_policy layer3+4
+link add bond1 type bond mode active-backup miimon 100 fail_over_mac active
+link add low4 type veth
+link add low5 type veth
+link set low4 master bond0
+link set low5 master bond1
+link set bond0 up
+link set bond1 up
+link add team0 type team
+link add vrf0 type vrf table 100
+link add low6 type veth
+link set low6 master vrf0
+link add gre1 type gre local 10.1.1.1 remote 10.1.1.2 key 7 ttl 64 tos inherit csum
+link add gretap1 type gretap local 10.1.1.1 remote 10.1.1.2
+link add gretap2 type gretap external
+link add erspan1 type erspan local 10.1.1.1 remote 10.1.1.2 seq key 100 erspan 123
+link add g6 type ip6gre local fd00::1 remote fd00::2 key 5 encaplimit 3 tclass inherit flowlabel 0x12345
+link add g6t type ip6gretap local fd00::1 remote fd00::2
+link add e6 type ip6erspan local fd00::1 remote fd00::2 seq key 102 erspan_ver 1 erspan 9
+link add ipip1 type ipip local 10.1.1.1 remote 10.1.1.2 encap fou encap-sport auto encap-dport 5555
+link add sit1 type sit local 10.1.1.1 isatap
+link add t6 type ip6tnl mode any local fd00::1 remote fd00::2 hoplimit 4
+link add vti1 type vti local 10.1.1.1 remote 10.1.1.2 key 9
+link add v6 type vti6 local fd00::1 remote fd00::2 key 10
+link add xf0 type xfrm dev veth0 if_id 5
+link add vx0 type vxlan id 42 dev veth0 group 239.1.1.1 dstport 4789 ttl 5 ageing 100 maxaddress 5
+link add vx1 type vxlan id 43 remote fd00::2 local fd00::1 dstport 4790 udp6zerocsumrx gbp
+link add vx2 type vxlan external dstport 4791 vnifilter
+link add gnv0 type geneve id 5 remote 10.1.1.2 ttl 7 df unset
+link add gnv1 type geneve id 6 remote fd00::2 dstport 6082
+link add wg0 type wireguard
+link add bu0 type bareudp dstport 6635 ethertype mpls_uc srcportmin 1000
+link add gtp0 type gtp role sgsn
+link add amt0 type amt mode gateway local 10.1.1.1 discovery 10.1.1.2 dev veth0
+link add nk0 type netkit
+link add low7 type veth
+link add low8 type veth
+link add hsr0 type hsr slave1 low7 slave2 low8 supervision 45 version 1
+link add low9 type veth
+link add rm0 link low9 type rmnet mux_id 4
+link add vcan0 type vcan
+link add vxcan0 type vxcan
+link add ifb0 type ifb
+link add nlmon0 type nlmon
+link add bat0 type batadv
+tuntap add name tun0 mode tun
+tuntap add name tap0 mode tap multi_queue vnet_hdr
+""".strip().split("\n")
+
+
+def ran(*words):
+    return subprocess.run(words, stdin=subprocess.DEVNULL, capture_output=True, check=False)
+
+
+def live(program, linkdump, rows):
+    """The kernel at hand, in a namespace of its own, in which this runs once more."""
+    if "--inside" not in sys.argv:
+        if not shutil.which("ip") or not shutil.which("unshare") or ran("unshare", "-rn", "true").returncode:
+            return print("kernel_truth: skipped: live: no network namespace, or no ip")
+        again = [sys.executable, os.path.abspath(__file__), "--live", "--inside", program.path, linkdump]
+        return subprocess.run(["unshare", "-rn"] + again, check=False).returncode
+    refused = [it for it in COMMANDS if ran("ip", *shlex.split(it)).returncode]
+    kinds = sorted({found.group(1) for it in refused for found in [re.search(r" (?:type|mode) (\w+)", it)] if found})
+    print("kernel_truth: skipped: live: this kernel or its ip makes none of: %s" % (" ".join(kinds) or "none"))
+    release, report, dumps, said = os.uname().release, Report(False), [], None
+    for _ in range(2):
+        lines = ran(linkdump, "--plain").stdout.decode().split()
+        dumps.append(program.shown(lines, release))
+        if said is None:
+            said = json.loads(ran("ip", "-s", "-s", "-j", "-d", "link", "show").stdout.decode(), strict=False)
+    links = Links(*dumps)
+    for link in said:
+        compare_link(rows, link, links, link["ifname"], report)
+    if not said or len(said) != len(links.first):
+        report.is_wrong("ip", "links", "a namespace", len(said), len(links.first))
+    found = sorted({it["linkinfo"]["kind"] for it in links.first.values() if "kind" in it.get("linkinfo", {})})
+    print("kernel_truth: live: %d links, of the kinds: %s" % (len(said), " ".join(found)))
+    show("live", report)
+    return finish([report], False)
+
+
+# ** what is printed
+
+
 def show(release, report):
     """Counts, and what is not covered by its reason."""
-    for source in ("ip", "sysfs", "proc"):
+    for source in ("ip", "stored", "sysfs", "proc"):
         right, wrong, left = (report.values[source, it] for it in ("right", "wrong", "left"))
         if right + wrong + left:
             print("%s: %s: %d values of %d right (%.2f %%), %d wrong; %d kinds of fields of %d"
@@ -619,8 +775,11 @@ def of_folder(folder, program, rows):
 
 
 def main():
-    program = Program(sys.argv[1] if len(sys.argv) > 1 else os.path.join(TOP, "out", "linkshow"))
+    arguments = [it for it in sys.argv[1:] if not it.startswith("--")]
+    program = Program(arguments[0] if arguments else os.path.join(TOP, "out", "linkshow"))
     rows = read_table(TABLE)
+    if "--live" in sys.argv:
+        return live(program, arguments[1] if len(arguments) > 1 else os.path.join(TOP, "out", "linkdump"), rows)
     if not os.environ.get("KERNELS"):
         return print("kernel_truth: skipped: KERNELS names no folder of kernels")
     return of_folder(os.environ["KERNELS"], program, rows)
