@@ -86,7 +86,7 @@ def worded(chance, digits):
 
 
 def compare_worded(linkstate, lines):
-    """Compares what lines are answered with what their words and their rests are; returns how many have words."""
+    """Compares the answers to lines with their words and the answers to their rests; returns how many have words."""
     def all_answers(lines):
         ran = subprocess.run([linkstate], input=b"".join(it + b"\n" for it in lines), capture_output=True, check=True)
         return ran.stdout.split(b"\n")[:-1]

@@ -1,5 +1,5 @@
-/* Prints links, a line each: index, name, flags, MTU, hardware address, and whether the message is already canonical; of
- * a message that is refused, the cause. Messages are read as linkdump(1) writes them, a line of hexadecimal each:
+/* Prints links, a line each: index, name, flags, MTU, hardware address, and whether the message is already canonical;
+ * of a message that is refused, the cause. Messages are read as linkdump(1) writes them, a line of hexadecimal each:
  *     cc links.c $(pkg-config --cflags --libs linkwire) -o links && linkdump --plain | ./links
  */
 #include <linux/if.h>
