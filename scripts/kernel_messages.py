@@ -146,8 +146,8 @@ def read(path, kernel):
 
 
 def candidates(folder):
-    """All messages, the newest kernel first."""
-    kernels = sorted(glob.glob(os.path.join(folder, "*", "out")), reverse=True,
+    """All messages, the oldest kernel first."""
+    kernels = sorted(glob.glob(os.path.join(folder, "*", "out")),
                      key=lambda it: [int(n) for n in re.findall(r"\d+", it.split(os.sep)[-2])])
     for out in kernels:
         for name in ("requests", "events", "msgs"):

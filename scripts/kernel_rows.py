@@ -126,9 +126,12 @@ class Rows:
         for place, table in re.findall(r"Place::(\w+) => (\w+::\w+),", text):
             self.places[place] = tables[table]
         self.kinds = {}
-        for call, body in re.findall(r"fn (of_kind|of_slave_kind)\b.*?\{(.*?)\n    \}", text, flags=re.S):
-            for kinds, place in re.findall(r'((?:"\w+"(?: \| )?)+) => Some\(Place::(\w+)\)', body):
-                self.kinds.update({(call, it): place for it in re.findall(r'"(\w+)"', kinds)})
+        for call, table in (("of_kind", "KINDS"), ("of_slave_kind", "SLAVE_KINDS")):
+            body = re.search(r"\bconst %s: [^=]*= &\[(.*?)\];" % table, text, flags=re.S)
+            found = re.findall(r'KindRow\("(\w+)", Place::(\w+)\)', body.group(1)) if body else []
+            if not found:
+                raise Unread("place: %s has no row that is read" % table)
+            self.kinds.update({(call, kind): place for kind, place in found})
 
     def size(self, form):
         """How many bytes a form has, or its word."""
@@ -261,6 +264,14 @@ class Compared:
         if not (attribute or puts or taken is not None):
             self.left["forms"].append(where)
 
+    def kinds(self):
+        """The place of each kind beside rt_link.yaml, which has the attribute set of some."""
+        for call, message in (("of_kind", "linkinfo-data-msg"), ("of_slave_kind", "linkinfo-member-data-msg")):
+            for kind, there in self.kernel.messages.get(message, {}).items():
+                place = self.rows.kinds.get((call, kind))
+                here = ROW_PLACES[place].set if place in ROW_PLACES else "none"
+                self.report.compare("row kinds, yaml", "%s.%s" % (call, kind), ("set", here, there))
+
     def in_words(self, form):
         """A form as rt_link.yaml describes one."""
         if form.word == "struct":
@@ -349,6 +360,7 @@ def compare_rows(crates, kernel, report, tools):
     """Compares all rows; what is compared with nothing is returned."""
     compared = Compared(Rows(crates), kernel, report, tools)
     compared.places()
+    compared.kinds()
     compared.records()
     compared.values()
     return compared.left

@@ -255,6 +255,8 @@ class Kernel:
             self.define(it)
         for it in spec.get("attribute-sets", []):
             self.attributes(it)
+        self.messages = {it["name"]: {form["value"]: form["attribute-set"] for form in it["formats"]}
+                         for it in spec.get("sub-messages", [])}
         for name, attributes in LEFT_OUT.items():
             for n, text in attributes.items():
                 word, kind, *nested = text.split()

@@ -588,14 +588,15 @@ def compare_stored(rows, release, step, said, links, report):
         if (kernel, name) != (release, step) or link is None or "fault" in answer:
             continue
         beside, one = Report(False), Links([answer], [answer])
-        one.names, one.decodes = links.names, links.decodes
+        one.names, info = links.names, answer.get("linkinfo", {})
+        one.decodes = "slave-kind" in info or isinstance(info.get("data"), dict)
         compare_link(rows, link, one, "%s %s %s" % (release, step, link["ifname"]), beside)
         report.values["stored", "right"] += beside.values["ip", "right"]
         report.covered["stored"] |= beside.covered["ip"]
         report.kinds["stored"] |= beside.covered["ip"]
         for where, found in beside.wrong.items():
             for it in found if not MOVES.match(where) else ():
-                if MISSING not in it[2:] and not (str(it[1]).endswith(" members") and it[2] == 0):
+                if it[2:] and MISSING not in it[2:] and not (str(it[1]).endswith(" members") and it[2] == 0):
                     report.is_wrong("stored", where[len("ip "):], *it)
 
 

@@ -189,5 +189,7 @@ slip "a flag's bit in rows" 'bridge.BOOLOPT_BITS.mst-enable: number 8' 's/\(4, "
 slip 'a flag that is left out' 'vlan.VLAN_FLAGS.BRIDGE_BINDING: value none' '/"bridge-binding"/d' $rows/vlan.rt
 slip 'a value of a list in rt_link.yaml' 'others.POLICIES.forward: number 1' 's/\(0, "forward"\)/(1, "forward")/' \
     $rows/others.rt
+slip 'the place of another kind' 'of_kind.gretap: set linkinfo-iptun-attrs' \
+    's/(KindRow\("gretap", Place::)Gre\)/\1IpTunnel)/' link_info/src/place.rt
 slip 'the rows of another place' 'Gre6.local: put ipv4' 's/(Place::Gre6 => gre::)GRE6/\1GRE/' link_info/src/place.rt
 echo 'test_kernel_tables: ok'
