@@ -40,6 +40,7 @@ programs() {
     python3 scripts/show_damaged.py crates/linkshow/out/linkshow crates/linkwire/out/linkwire
     python3 scripts/kernel_messages.py
     python3 scripts/kernel_truth.py crates/linkshow/out/linkshow
+    python3 scripts/kernel_truth.py --live crates/linkshow/out/linkshow out/linkdump
     scripts/show_tests.sh
     scripts/rust_tests.sh
     scripts/parallel_test.sh
