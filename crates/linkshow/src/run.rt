@@ -3,9 +3,9 @@
 ghost use Rattle.std.specs.Prelude.{IfErr, OnOk};
 ghost use Rattle.linkshow.specs.Lines.{RanToEnd, Stopped};
 
-use message_shown::Shown;
 use line_filter::error::RunError;
 use line_filter::run as filter;
+use message_shown::Shown;
 use std::alloc::Global;
 use std::io::{Read, Write};
 
