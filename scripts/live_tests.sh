@@ -85,7 +85,7 @@ waits() {
 
 # asked COUNT: whether the example that ran last, or runs, has sent so many requests
 asked() {
-    [ "$(grep -c '^asked$' "$folder/err")" -ge "$1" ]
+    [ "$(grep -sc '^asked$' "$folder/err")" -ge "$1" ] 2>/dev/null
 }
 
 # with FAULT EXAMPLE ..: what it prints where a kernel does what it seldom does
@@ -121,11 +121,13 @@ meets_faults() {
     tells error 'the kernel: Operation not permitted' setmtu lo "$mtu"
     tells 'short error' 'the kernel: Bad message' setmtu lo "$mtu"
     for fault in interrupted 'ran over' 'cut off'; do # links and ports are asked for once more
+        rm -f "$folder/news" "$folder/err" # what an earlier one wrote is not waited for
         LD_PRELOAD=$folder/kernel_faults.so KERNEL_FAULT=$fault "$folder/watch" >"$folder/news" 2>"$folder/err" &
         watch=$!
         trap 'kill -KILL "$watch" 2>/dev/null || true' EXIT
         if [ "$fault" = 'cut off' ]; then
             waits asked 2 || fails 'watch does not ask for ports'
+            sleep 0.3
             ip link set lo txqueuelen 900
             waits_for ' lo: IFLA_TXQLEN [0-9]+ -> 900$'
         fi

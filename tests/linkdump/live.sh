@@ -41,7 +41,7 @@ waits() {
 
 # asked COUNT: whether linkdump has sent so many requests
 asked() {
-    [ "$(grep -c '^asked$' "$folder/err")" -ge "$1" ]
+    [ "$(grep -sc '^asked$' "$folder/err")" -ge "$1" ] 2>/dev/null
 }
 
 # with FAULT WORD..: linkdump where a kernel does what it seldom does
@@ -60,6 +60,7 @@ tells() {
 
 # starts WORD..: linkdump in the background, with its first dump over
 starts() {
+    rm -f "$folder/news" "$folder/err" # what an earlier one wrote is not waited for
     "$linkdump" "$@" >"$folder/news" 2>"$folder/err" &
     running=$!
     trap 'kill -KILL "$running" 2>/dev/null || true' EXIT
@@ -199,6 +200,7 @@ meets_faults() {
     tells 'no netlink' 'netlink: Address family not supported by protocol'
     tells 'no right' 'netlink: Operation not permitted'
     for fault in interrupted 'ran over' 'cut off'; do # links and ports are asked for, and once more
+        rm -f "$folder/news" "$folder/err"
         LD_PRELOAD=$folder/kernel_faults.so KERNEL_FAULT=$fault "$linkdump" --monitor >"$folder/news" 2>"$folder/err" &
         running=$!
         trap 'kill -KILL "$running" 2>/dev/null || true' EXIT
