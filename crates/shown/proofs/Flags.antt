@@ -2,7 +2,7 @@
 use Rattle.std.proofs.Common.{◌≡◌, ℕ, ◌+◌, ◌<◌, Bool, true, false, cond, List, [], ◌∷◌, ◌++◌, length, take, get_or}
 use Rattle.std.proofs.Common.{refl, sym, ap, ◌∙◌, append_assoc, append-nil, Bor, arith}
 use Rattle.std.specs.Prelude.{map, not, ◌==◌, ◌≢◌, bit_and}
-use Rattle.std.specs.Int.{bit_not, w32}
+use Rattle.std.specs.Int.{bit_not, w64}
 use Rattle.std.specs.List.{filter}
 use Rattle.std.proofs.lemmas.Bool.Decides.{nat_tests}
 use Rattle.std.proofs.lemmas.List.{map-append}
@@ -42,10 +42,10 @@ rows table = map (λ row. (row.0, row.1.now)) table
 
 pub bits_more : (table : BitNames) (bits i left : ℕ) (d row : ℕ × List ℕ) → i < length table → get_or table i d ≡ row
     → left ≡ bits_unnamed (take i table) bits
-    → bit_and left (bit_not w32 row.0) ≡ bits_unnamed (take (i + 1) table) bits
+    → bit_and left (bit_not w64 row.0) ≡ bits_unnamed (take (i + 1) table) bits
 bits_more table bits i left d row lt at is =
-    (λ k. bit_and (is k) (bit_not w32 (sym at k).0))
-    ∙ sym (fold_more (λ n r. bit_and n (bit_not w32 r.0)) bits table i d lt)
+    (λ k. bit_and (is k) (bit_not w64 (sym at k).0))
+    ∙ sym (fold_more (λ n r. bit_and n (bit_not w64 r.0)) bits table i d lt)
 
 pub flag_added : (name : List ℕ) (table : BitNames) (bits i : ℕ) (d row : ℕ × List ℕ) (old draft new : Draft)
     → i < length table → get_or table i d ≡ row → bit_and bits row.0 ≢ 0

@@ -1,23 +1,20 @@
--- What tokens do to a page, and how its text joins a head.
-use Rattle.std.proofs.Common.{◌≡◌, ℕ, true, false, List, [], ◌∷◌, ◌++◌, length}
+-- What tokens do to a page, and what its text is.
+use Rattle.std.proofs.Common.{◌≡◌, ℕ, false, List, [], ◌∷◌, ◌++◌, length}
 use Rattle.std.proofs.Common.{refl, sym, ap, subst, ◌∙◌, append_assoc, arith}
 use Rattle.std.specs.Prelude.{Option, Some, None, option_and_then}
-use Rattle.std.specs.List.{All, fold}
-use Rattle.std.proofs.lemmas.List.Elements.{All-nil, All-cons, All-tail, All-append, All-push}
+use Rattle.std.specs.List.{All}
+use Rattle.std.proofs.lemmas.List.Elements.{All-nil, All-cons, All-push}
 use Rattle.std.proofs.lemmas.List.Sums.{fold-append}
-use Rattle.json.specs.Token.{Token, begin_object, end_object, begin_array, end_array, key, string, number, boolean}
-use Rattle.json.specs.Token.{null, bad}
-use Rattle.json.specs.Print.{print, print_from, ends}
-use Rattle.json.specs.Written.{Written}
-use Rattle.json.proofs.Printed.Tokens.{print_from-append}
+use Rattle.json.specs.Token.{Token, begin_object, end_object, key}
+use Rattle.json.specs.Print.{print}
 use Rattle.shown.specs.Nesting.{Spot, due, object, list, after_token, after_tokens, spot_of}
-use Rattle.shown.specs.Nesting.{opening, closing}
-use Rattle.shown.specs.Pages.{IsPlain, IsScalar, IsPage, IsWholeText, IsHead, IsObject, AddsObject}
-use Rattle.shown.specs.Drafts.{Draft, named}
-use Rattle.shown.specs.Pages.{spots_of, with_comma}
+use Rattle.shown.specs.Nesting.{opening, closing, IsValue}
+use Rattle.shown.specs.Pages.{IsOneLine, IsPlain, IsScalar, IsPage, IsWholeText, IsObject, ended, spots_of}
+use Rattle.shown.specs.Drafts.{Draft, Members, named, empty_object, with_members, object_of}
 use Rattle.shown.specs.declared.page.Nest.{Nest}
 use Rattle.shown.specs.declared.page.Nest.TheVariants.{Object, List as Items}
 use Rattle.shown.proofs.Lines.{print_on_line}
+use Rattle.shown.proofs.Drafts.{members_added}
 
 -- ** more tokens
 and_then-step : (f g : List Spot → Option (List Spot)) (mid : List Spot) (r : Option (List Spot))
@@ -122,51 +119,38 @@ unfolding after_tokens
 page_new = record { first = ([], refl); nested = refl; plain = All-cons IsPlain begin_object [] tt (All-nil IsPlain) }
 
 -- ** whole texts
-after_first : (members : List Token)
-    → after_tokens (due ∷ []) (begin_object ∷ members) ≡ after_tokens (object ∷ []) members
-unfolding after_tokens
-after_first members = refl
-
 pub page_text : (page : Draft) (ts : List Token) (inside : Nest) → ts ≡ page.tokens → inside ≡ page.inside
     → IsPage ts inside [] → IsWholeText page (print (ts ++ closing inside ∷ []))
 page_text page ts inside tokens nest h =
-    let members : List Token = h.first.0 in
-    let same : ts ++ closing inside ∷ [] ≡ begin_object ∷ (members ++ closing inside ∷ []) =
-    ap (λ l. l ++ closing inside ∷ []) h.first.1 in
-    let whole : after_tokens (due ∷ []) (ts ++ closing inside ∷ []) ≡ Some [] =
-    after-push _ _ [] ts (closing inside) h.nested (closed [] inside) in
-    let plain : All IsPlain (begin_object ∷ members ++ closing inside ∷ []) = subst (λ (l : List Token). All IsPlain l)
-    same (All-push IsPlain ts (closing inside) h.plain (closing_plain inside)) in
+    let same : ts ++ closing inside ∷ [] ≡ ended page = λ k. tokens k ++ closing (nest k) ∷ [] in
     record {
-      rest = members ++ closing inside ∷ [];
-      all = (λ k. sym tokens k ++ closing (sym nest k) ∷ []) ∙ same;
+      first = (h.first.0 ++ closing inside ∷ [], sym same ∙ ap (λ l. l ++ closing inside ∷ []) h.first.1);
       printed = ap print same;
-      nested = sym (after_first (members ++ closing inside ∷ [])) ∙ ap (after_tokens (due ∷ [])) (sym same) ∙ whole;
-      plain = All-tail IsPlain begin_object (members ++ closing inside ∷ []) plain;
+      value = subst IsValue same (after-push _ _ [] ts (closing inside) h.nested (closed [] inside));
+      plain = subst (λ (l : List Token). All IsPlain l) same
+          (All-push IsPlain ts (closing inside) h.plain (closing_plain inside));
     }
 
-pub print_whole : (rest : List Token) → print (begin_object ∷ rest) ≡ 123 ∷ print_from false rest
-unfolding print_from
-print_whole rest = refl
+-- the text of a page that begins with these tokens is an object that begins so
+pub object_found : (page : Draft) (head : List Token) (more : List Token) (text : List ℕ) → page.tokens ≡ head ++ more
+    → IsWholeText page text → IsObject head text
+object_found page head more text begins whole =
+    let same : ended page ≡ head ++ (more ++ closing page.inside ∷ []) =
+    ap (λ l. l ++ closing page.inside ∷ []) begins ∙ append_assoc head more (closing page.inside ∷ []) in
+    record {
+      rest = more ++ closing page.inside ∷ [];
+      printed = whole.printed ∙ ap print same;
+      value = subst IsValue same whole.value;
+      line = subst IsOneLine (sym whole.printed) (print_on_line false (ended page) whole.plain);
+    }
 
-pub print_after : (rest : List Token) → after_tokens (object ∷ []) rest ≡ Some []
-    → print_from true rest ≡ with_comma (print_from false rest)
-unfolding print_from after_tokens
-print_after [] h = absurd cc
-print_after (begin_object ∷ ts) h = absurd cc
-print_after (end_object ∷ ts) h = refl
-print_after (begin_array ∷ ts) h = absurd cc
-print_after (end_array ∷ ts) h = absurd cc
-print_after (key s ∷ ts) h = refl
-print_after (string s ∷ ts) h = absurd cc
-print_after (number s ∷ ts) h = absurd cc
-print_after (boolean b ∷ ts) h = absurd cc
-print_after (null ∷ ts) h = absurd cc
-print_after (bad ∷ ts) h = absurd cc
+-- the text of a page of these members
+pub whole_text : (ms : Members) (page : Draft) (text : List ℕ) → page ≡ with_members ms empty_object
+    → IsWholeText page text → text ≡ print (object_of ms)
+whole_text ms page text is whole =
+    whole.printed ∙ ap (λ (d : Draft). print (ended d)) (is ∙ members_added ms (begin_object ∷ []) [])
 
-head_ends : (head : Written) → IsHead head → fold (λ _ t. ends t) false head.tokens ≡ true
-head_ends head h = ap (λ ts. fold (λ _ t. ends t) false ts) h.is ∙ h.ends
-
+-- ** the object of one member
 head_nested : (name : List ℕ) (t : Token) → IsScalar t
     → after_tokens (due ∷ []) (begin_object ∷ key name ∷ t ∷ []) ≡ Some (object ∷ [])
 unfolding after_tokens
@@ -176,34 +160,6 @@ head_plain : (name : List ℕ) (t : Token) → IsPlain t → All IsPlain (begin_
 head_plain name t p =
     All-cons IsPlain begin_object (key name ∷ t ∷ []) tt
     (All-cons IsPlain (key name) (t ∷ []) tt (All-cons IsPlain t [] p (All-nil IsPlain)))
-
--- a head, a comma where members follow, and the rest of a text
-pub joined : (page : Draft) (head : Written) (text : List ℕ) (x : ℕ) (rest old new : List ℕ) → IsHead head
-    → IsWholeText page text
-    → text ≡ x ∷ rest
-    → new ≡ (old ++ print head.tokens) ++ with_comma rest → AddsObject page head.tokens old new
-joined page head text x rest old new h w is e =
-    let tail : rest ≡ print_from false w.rest = let both : x ∷ rest ≡ 123 ∷ print_from false w.rest =
-    sym is ∙ w.printed ∙ print_whole w.rest in cc in
-    let after : print_from true w.rest ≡ with_comma rest = rw tail (print_after w.rest w.nested) in
-    let whole : print (head.tokens ++ w.rest) ≡ print head.tokens ++ with_comma rest =
-    print_from-append false head.tokens w.rest ∙ ap (λ b. print head.tokens ++ print_from b w.rest) (head_ends head h)
-    ∙ ap (λ l. print head.tokens ++ l) after in
-    let nested : after_tokens (due ∷ []) head.tokens ≡ Some (object ∷ []) =
-    ap (after_tokens (due ∷ [])) h.is ∙ head_nested h.name h.value h.scalar in
-    let plain : All IsPlain head.tokens =
-    subst (λ (l : List Token). All IsPlain l) (sym h.is) (head_plain h.name h.value h.plain) in
-    let object : IsObject head.tokens (print (head.tokens ++ w.rest)) = record {
-      rest = w.rest;
-      printed = refl;
-      value = after-append _ _ head.tokens w.rest nested ∙ w.nested;
-      line = print_on_line false (head.tokens ++ w.rest) (All-append IsPlain head.tokens w.rest plain w.plain);
-    } in (
-      print (head.tokens ++ w.rest),
-      object,
-      w.all,
-      e ∙ append_assoc old (print head.tokens) (with_comma rest) ∙ ap (λ l. old ++ l) (sym whole),
-    )
 
 -- the object with no further member
 pub least : (name : List ℕ) (t : Token) → IsScalar t → IsPlain t

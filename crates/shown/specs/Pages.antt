@@ -1,11 +1,10 @@
 -- What a page is, and what it becomes.
-use Rattle.std.specs.Prelude.{◌≡◌, ℕ, ◌≤◌, List, [], ◌∷◌, ◌++◌, true, Some, cond, ◌==◌}
+use Rattle.std.specs.Prelude.{◌≡◌, ℕ, ◌≤◌, List, [], ◌∷◌, ◌++◌, Some}
 use Rattle.std.specs.List.{fold, All}
-use Rattle.json.specs.Token.{Token, begin_object, key, number}
-use Rattle.json.specs.Print.{print, ends}
-use Rattle.json.specs.Written.{Written}
+use Rattle.json.specs.Token.{Token, begin_object, number}
+use Rattle.json.specs.Print.{print}
 use Rattle.shown.specs.Drafts.{Draft}
-use Rattle.shown.specs.Nesting.{Spot, closing, due, object, after_value, after_token, after_tokens, IsValue, spot_of}
+use Rattle.shown.specs.Nesting.{Spot, closing, due, after_value, after_token, after_tokens, IsValue, spot_of}
 use Rattle.shown.specs.declared.page.Nest.{Nest}
 
 -- each byte is printed on the line
@@ -27,31 +26,24 @@ pub record IsPage (ts : List Token) (inside : Nest) (outer : List Nest) : Type 0
   pub nested : after_tokens (due ∷ []) ts ≡ Some (spot_of inside ∷ spots_of outer)
   pub plain : All IsPlain ts
 
--- what stands after the first bracket of a page that is ended
-abbrev pub IsRest : Draft → List Token → Type 0
-IsRest page rest = page.tokens ++ closing page.inside ∷ [] ≡ begin_object ∷ rest
+-- the tokens of a page that is ended
+abbrev pub ended : Draft → List Token
+ended page = page.tokens ++ closing page.inside ∷ []
 
 -- the text of an object: the page's tokens, and the last bracket
 pub record IsWholeText (page : Draft) (text : List ℕ) : Type 0 where
-  pub rest : List Token
-  pub all : IsRest page rest
-  pub printed : text ≡ print (begin_object ∷ rest)
-  pub nested : after_tokens (object ∷ []) rest ≡ Some []
-  pub plain : All IsPlain rest
+  pub first : (members : List Token) × (ended page ≡ begin_object ∷ members)
+  pub printed : text ≡ print (ended page)
+  pub value : IsValue (ended page)
+  pub plain : All IsPlain (ended page)
+
+-- the text of the object was added
+abbrev pub AddsText : Draft → List ℕ → List ℕ → Type 0
+AddsText page old new = (text : List ℕ) × IsWholeText page text × (new ≡ old ++ text)
 
 -- a token that is a value alone
 abbrev pub IsScalar : Token → Type 0
 IsScalar t = (spots : List Spot) → after_token spots t ≡ after_value spots
-
--- the beginning of an object, and its first member
-pub record IsHead (head : Written) : Type 0 where
-  pub before : head.before ≡ []
-  pub name : List ℕ
-  pub value : Token
-  pub is : head.tokens ≡ begin_object ∷ key name ∷ value ∷ []
-  pub scalar : IsScalar value
-  pub ends : ends value ≡ true
-  pub plain : IsPlain value
 
 -- the text is an object that begins so, on one line
 pub record IsObject (head : List Token) (text : List ℕ) : Type 0 where
@@ -59,13 +51,3 @@ pub record IsObject (head : List Token) (text : List ℕ) : Type 0 where
   pub printed : text ≡ print (head ++ rest)
   pub value : IsValue (head ++ rest)
   pub line : IsOneLine text
-
--- the text of an object that begins so was added, and after its beginning the page's members
-abbrev pub AddsObject : Draft → List Token → List ℕ → List ℕ → Type 0
-AddsObject page head old new =
-    (text : List ℕ) × (object : IsObject head text) × IsRest page object.rest × (new ≡ old ++ text)
-
--- the rest of an object's text after its bracket, where it follows a member: a quote begins the next one
-abbrev pub with_comma : List ℕ → List ℕ
-with_comma [] = []
-with_comma (x ∷ xs) = cond (x == 34) (44 ∷ x ∷ xs) (x ∷ xs)

@@ -1,8 +1,8 @@
 -- What values are written as.
 use Rattle.std.specs.Prelude.{ℕ, ◌/◌, ◌%◌, ◌==◌, ◌++◌, List, [], ◌∷◌, get_or, map, slice_index, codes, decimal}
-use Rattle.std.specs.Prelude.{cond, not, bit_and}
-use Rattle.std.specs.Int.{bit_not, w32}
-use Rattle.std.specs.List.{fold, filter, join_by}
+use Rattle.std.specs.Prelude.{cond, not, bit_and, Option, Some, None}
+use Rattle.std.specs.Int.{bit_not, w64}
+use Rattle.std.specs.List.{find, fold, filter, join_by}
 use Rattle.hex.specs.Hex.{lower_digits}
 use Rattle.json.specs.Token.{Token, string, number}
 use Rattle.shown.specs.Drafts.{list_of}
@@ -28,9 +28,18 @@ name_else_number (x ∷ name) value = string (x ∷ name)
 abbrev pub name_or_number : List (List ℕ) → ℕ → Token
 name_or_number names value = name_else_number (get_or names value []) value
 
--- a table of bits and their names
+-- a table of numbers or bits and their names
 abbrev pub BitNames : Type 0
 BitNames = List (ℕ × List ℕ)
+
+-- the name of a row, or the number where there is no row
+abbrev pub name_in_row : Option (ℕ × List ℕ) → ℕ → Token
+name_in_row None value = number (decimal value)
+name_in_row (Some row) value = string row.1
+
+-- the name of the first row that has the number, or the number where none has
+abbrev pub named_number : BitNames → ℕ → Token
+named_number table value = name_in_row (find (λ row. row.0 == value) table) value
 
 -- the names of the bits that are set, in the table's order
 abbrev pub names_set : BitNames → ℕ → List (List ℕ)
@@ -38,7 +47,7 @@ names_set table bits = map (λ row. row.1) (filter (λ row. not (bit_and bits ro
 
 -- the bits that have no name in the table
 abbrev pub bits_unnamed : BitNames → ℕ → ℕ
-bits_unnamed table bits = fold (λ left row. bit_and left (bit_not w32 row.0)) bits table
+bits_unnamed table bits = fold (λ left row. bit_and left (bit_not w64 row.0)) bits table
 
 -- a number where it is not 0
 abbrev pub unless_zero : ℕ → List Token

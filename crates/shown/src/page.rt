@@ -1,21 +1,23 @@
 //! An object that is written, member by member.
 
-ghost use Rattle.std.specs.Prelude.{◌≡◌, true, List, [], ◌∷◌, ◌++◌, map, decimal, OnOk, IfOk};
+ghost use Rattle.std.specs.Prelude.{◌≡◌, ◌==◌, true, List, [], ◌∷◌, ◌++◌, map, decimal, option_map};
+ghost use Rattle.std.specs.Prelude.{OnOk, IfOk};
+ghost use Rattle.std.specs.List.{find};
 ghost use Rattle.std.specs.Fmt.{signed_decimal};
-ghost use Rattle.std.specs.Net.Addr.{ipv6_segments};
-ghost use Rattle.std.specs.Net.Text.{ipv6_text};
+ghost use Rattle.std.specs.Net.Addr.{ipv4_octets, ipv6_segments};
+ghost use Rattle.std.specs.Net.Text.{ipv4_text, ipv6_text};
 ghost use Rattle.hex.specs.Hex.{encode_lower};
-ghost use Rattle.json.specs.Token.{Token, begin_object, end_object, begin_array, end_array, key, string, number};
+ghost use Rattle.json.specs.Token.{string, number, boolean};
 ghost use Rattle.shown.specs.Nesting.{opening, closing};
-ghost use Rattle.shown.specs.Values.{hardware_address, name_or_number, flags_of};
+ghost use Rattle.shown.specs.Values.{hardware_address, name_or_number, named_number, flags_of};
 ghost use Rattle.shown.specs.Drafts.{named, empty_object, with_value, with_begun, Ends};
-ghost use Rattle.shown.specs.Pages.{IsHead, IsWholeText, AddsObject, with_comma};
+ghost use Rattle.shown.specs.Pages.{IsWholeText, AddsText};
 
 use crate::address::address_text;
 use json::Writer;
 use std::alloc::{AllocError, Global};
 use std::marker::Model;
-use std::net::Ipv6Addr;
+use std::net::{Ipv4Addr, Ipv6Addr};
 
 /// What is open in a text.
 #[derive(Clone, Copy, Drop)]
@@ -89,14 +91,11 @@ fn put_end(writer: &mut Writer, nest: Nest) -> Result<(), AllocError>
     }
 }
 
-/// Adds what follows the bracket of an object's text, after a comma if it has members.
-fn put_rest(out: &mut Vec<u8>, rest: &[u8]) -> Result<(), AllocError>
-    ensures { OnOk result (out.new.items ≡ out.old.items ++ with_comma rest.now) }
+/// The first row that has a number.
+fn row_of<'a>(names: &'a [(u64, &'a str)], value: u64) -> Option<&'a (u64, &'a str)>
+    ensures { option_map (λ row. row.now) result ≡ find (λ row. row.0 == value) names.now }
 {
-    if let [b'"', ..] = rest {
-        out.push(b',')?;
-    }
-    out.extend_from_slice(rest)
+    names.iter().find(|row| row.0 == value)
 }
 
 impl Page {
@@ -159,6 +158,20 @@ impl Page {
         Ok(())
     }
 
+    /// Adds `true` or `false`.
+    pub fn truth(&mut self, name: &str, value: bool) -> Result<(), AllocError>
+        ensures { OnOk result (self.new ≡ with_value name.now (boolean value ∷ []) self.old) }
+    {
+        if !self.whole {
+            return Err(AllocError);
+        }
+        self.whole = false;
+        put_name(&mut self.writer, self.inside, name)?;
+        self.writer.boolean(value)?;
+        self.whole = true;
+        Ok(())
+    }
+
     /// Begins an object or a list, to which what is added goes from then on.
     pub fn begin(&mut self, name: &str, nest: Nest) -> Result<(), AllocError>
         ensures { OnOk result (self.new ≡ with_begun name.now nest self.old) }
@@ -210,6 +223,16 @@ impl Page {
         self.string(name, text.as_str())
     }
 
+    /// Adds an IPv4 address, as four decimal numbers with dots between them.
+    pub fn ipv4_address(&mut self, name: &str, address: &Ipv4Addr) -> Result<(), AllocError>
+        ensures { OnOk result
+            (self.new ≡ with_value name.now (string (ipv4_text (ipv4_octets address.now)) ∷ [])
+            self.old) }
+    {
+        let dotted = format!(in self.alloc; "{address}")?;
+        self.string(name, dotted.as_str())
+    }
+
     /// Adds an IPv6 address, as RFC 5952 writes it.
     pub fn ipv6_address(&mut self, name: &str, address: &Ipv6Addr) -> Result<(), AllocError>
         ensures { OnOk result
@@ -235,8 +258,21 @@ impl Page {
         self.number(name, value)
     }
 
+    /// Adds the name that a number has in a table of numbers and names, of the first row that has it, or the number
+    /// where none has.
+    pub fn named(&mut self, name: &str, value: u64, names: &[(u64, &str)]) -> Result<(), AllocError>
+        ensures { OnOk result
+            (self.new ≡ with_value name.now
+            (named_number (map (λ row. (row.0, row.1.now)) names.now) value ∷ []) self.old) }
+    {
+        match row_of(names, value) {
+            Some(row) => self.string(name, row.1),
+            None => self.number(name, value),
+        }
+    }
+
     /// Adds a list of the names of the bits that are set, and after them a number of those that have no name.
-    pub fn flags(&mut self, name: &str, bits: u32, names: &[(u32, &str)]) -> Result<(), AllocError>
+    pub fn flags(&mut self, name: &str, bits: u64, names: &[(u64, &str)]) -> Result<(), AllocError>
         ensures { OnOk result
             (self.new ≡ with_value name.now
             (flags_of (map (λ row. (row.0, row.1.now)) names.now) bits) self.old) }
@@ -251,7 +287,7 @@ impl Page {
             others &= !bit;
         }
         if others != 0 {
-            self.number("", others.into())?;
+            self.number("", others)?;
         }
         self.end()
     }
@@ -274,48 +310,12 @@ impl Page {
         Ok(writer.into_inner())
     }
 
-    /// Adds to `out` the text of an object whose first member is that of `head`, and the others those of this one.
-    fn add_after(self, head: Writer, out: &mut Vec<u8>) -> Result<(), AllocError>
-        requires { IsHead head }
-        ensures { OnOk result (AddsObject self head.tokens out.old.items out.new.items) }
+    /// Adds the text of the object to `out`. Where something that was begun has not been ended, it fails as where there
+    /// is no memory.
+    pub fn finish(self, out: &mut Vec<u8>) -> Result<(), AllocError>
+        ensures { OnOk result (AddsText self out.old.items out.new.items) }
     {
         let text = self.text()?;
-        // A text begins with its bracket, so it is never empty.
-        let Some((_, rest)) = text.as_slice().split_first() else {
-            return Err(AllocError);
-        };
-        let front = head.into_inner();
-        out.extend_from_slice(front.as_slice())?;
-        put_rest(out, rest)
-    }
-
-    /// Adds to `out` the text of this object with a text as a member in front.
-    pub fn add_after_text(self, name: &str, text: &str, out: &mut Vec<u8>) -> Result<(), AllocError>
-        ensures { OnOk result (AddsObject self (begin_object ∷ key name.now ∷ string text.now ∷ [])
-            out.old.items out.new.items) }
-    {
-        let mut head = Writer::new(Vec::new(self.alloc));
-        head.begin_object()?;
-        head.key(name)?;
-        head.string(text)?;
-        self.add_after(head, out)
-    }
-
-    /// Adds to `out` the text of this object with a number as a member in front.
-    pub fn add_after_number(
-        self,
-        name: &str,
-        value: u64,
-        out: &mut Vec<u8>,
-    ) -> Result<(), AllocError>
-        ensures { OnOk result
-            (AddsObject self (begin_object ∷ key name.now ∷ number (decimal value) ∷ [])
-            out.old.items out.new.items) }
-    {
-        let mut head = Writer::new(Vec::new(self.alloc));
-        head.begin_object()?;
-        head.key(name)?;
-        head.u64(value)?;
-        self.add_after(head, out)
+        out.extend_from_slice(text.as_slice())
     }
 }
