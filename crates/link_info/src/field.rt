@@ -71,7 +71,7 @@ impl<'a> Field<'a> {
 }
 
 /// The first row of this number.
-fn row_of(rows: &'static [Row], number: u16) -> Option<&'static Row>
+pub fn row_of(rows: &'static [Row], number: u16) -> Option<&'static Row>
     ensures { option_map (λ row. row.now) result ≡ find (is_of number) rows.now }
 {
     rows.iter().find(|row| row.0 == number)

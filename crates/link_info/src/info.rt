@@ -151,7 +151,7 @@ fn kept(alloc: Global, bytes: &[u8]) -> Result<Vec<DefaultNla>, InfoError>
 }
 
 /// The first kind.
-fn kind_in(list: &[LinkInfo]) -> Option<&str>
+pub fn kind_of(list: &[LinkInfo]) -> Option<&str>
     ensures { option_map (λ kind. kind.now) result ≡ kind_in list.now }
 {
     for info in list {
@@ -295,7 +295,7 @@ impl Info {
         ensures causes { IfErr result
             (λ e. (e ≡ why.UnknownKind) ⊎ ((e ≡ why.Damaged) ⊎ (e ≡ why.OutOfMemory))) }
     {
-        let Some(kind) = kind_in(list) else {
+        let Some(kind) = kind_of(list) else {
             return Err(InfoError::UnknownKind);
         };
         let mut info = Info::new(alloc, kind)?;

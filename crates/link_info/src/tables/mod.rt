@@ -4,7 +4,7 @@ use crate::style::{Plain, Size, Style};
 
 pub(crate) mod bond;
 pub(crate) mod bridge;
-pub(crate) mod can;
+pub mod can;
 pub(crate) mod family;
 pub(crate) mod geneve;
 pub(crate) mod gre;
