@@ -1,16 +1,111 @@
 //! Shows lines of hexadecimal link messages as lines of JSON.
 #![tactic(auto)]
 
+mod arguments;
 mod laws;
 mod run;
 
+use arguments::{Request, asked_for};
+use message_shown::context::Order;
+use message_shown::worded::order_of;
 use run::run;
+use std::io::Read;
 use std::process::ExitCode;
+use std::{env, fs};
+
+/// What `--help` writes.
+const HELP: &str = "usage: linkshow [--kernel RELEASE | --help | --version]
+
+Reads lines of hexadecimal digits from standard input, each the bytes of a link message of route netlink, and writes
+for each line one line of JSON: what the message says, or why the bytes are none. Words key=value in front of the
+digits, with a blank after each, are the first members of the answer.
+
+  --kernel RELEASE  the kernel that the messages are of, as 6.12.0-47, or running for the one at hand: it decides the
+                    order of the counters of IPv6, which changed between 6.12 and 6.16. Without it, and for releases
+                    between the two, the counters are a list of numbers. A word kernel=RELEASE counts for its line.
+  --help            this text
+  --version         the version
+";
+
+/// What `--version` writes.
+const VERSION: &str = "linkshow 0.3.0\n";
+
+/// The exit status after wrong arguments.
+const USAGE: u8 = 2;
+
+/// Where the kernel at hand says its release.
+const OSRELEASE: &str = "/proc/sys/kernel/osrelease";
 
 fn main(rt: HostRuntime) -> ExitCode {
+    let Ok(mut words) = env::args(&rt) else {
+        let _ = eprintln!(rt; "linkshow: out of memory");
+        return ExitCode::FAILURE;
+    };
+    let _program = words.next();
+    let Some(word) = words.next() else {
+        return answer_lines(rt, Order::Unknown);
+    };
+    let asked = asked_for(word.as_str());
+    let release = match asked {
+        Request::Kernel => words.next(),
+        _ => None,
+    };
+    if let Some(word) = words.next() {
+        return refuse(rt, word.as_str());
+    }
+    match (asked, release) {
+        (Request::Help, _) => write_text(rt, HELP),
+        (Request::Version, _) => write_text(rt, VERSION),
+        (Request::Kernel, Some(release)) => answer_kernel(rt, release.as_str()),
+        _ => refuse(rt, word.as_str()),
+    }
+}
+
+/// Says that an argument is wrong.
+fn refuse(rt: HostRuntime, word: &str) -> ExitCode {
+    let _ = eprintln!(rt; "linkshow: not understood: {word}; see linkshow --help");
+    ExitCode::from(USAGE)
+}
+
+/// Writes a text.
+fn write_text(rt: HostRuntime, text: &str) -> ExitCode {
+    match print!(rt; "{text}") {
+        Ok(()) => ExitCode::SUCCESS,
+        Err(_) => {
+            let _ = eprintln!(rt; "linkshow: write failed");
+            ExitCode::FAILURE
+        }
+    }
+}
+
+/// The order of the counters in the kernel at hand.
+fn running_order(rt: &HostRuntime) -> Option<Order> {
+    let mut file = fs::open(rt, OSRELEASE).ok()?;
+    let mut room = [0; 64];
+    let len = file.read(&mut room).ok()?;
+    order_of(&room[..len])
+}
+
+/// Answers lines of messages of a kernel.
+fn answer_kernel(rt: HostRuntime, release: &str) -> ExitCode {
+    let order = match release {
+        "running" => running_order(&rt),
+        release => order_of(release.as_bytes()),
+    };
+    match order {
+        Some(order) => answer_lines(rt, order),
+        None => {
+            let _ = eprintln!(rt; "linkshow: no release of a kernel: {release}");
+            ExitCode::from(USAGE)
+        }
+    }
+}
+
+/// Answers the lines of standard input.
+fn answer_lines(rt: HostRuntime, order: Order) -> ExitCode {
     let mut reader = rt.stdin();
     let mut writer = rt.stdout();
-    match run(rt.alloc(), &mut reader, &mut writer) {
+    match run(rt.alloc(), order, &mut reader, &mut writer) {
         Ok(()) => ExitCode::SUCCESS,
         Err(error) => {
             let _ = eprintln!(rt; "linkshow: {error}");

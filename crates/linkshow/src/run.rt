@@ -6,20 +6,27 @@ ghost use Rattle.linkshow.specs.Lines.{RanToEnd, Stopped};
 use line_filter::error::RunError;
 use line_filter::run as filter;
 use message_shown::Shown;
+use message_shown::context::Order;
 use std::alloc::Global;
 use std::io::{Read, Write};
 
 /// Answers each line that the reader gives, up to its end, by what it says as JSON, on one line.
 ///
-/// A line ends with an LF; bytes after the last LF are one too. Every answer to what was read is written before the
-/// next read. A reader or writer that fails is not asked again, and the run is over: `Read` where the reader fails or
-/// has not ended after 2^64 - 1 reads, `Write` where the writer fails or takes no byte, and `OutOfMemory` where a
+/// The counters of IPv6 have this order, where a line does not say another one by a word `kernel` in front of it. A
+/// line ends with an LF; bytes after the last LF are one too. Every answer to what was read is written before the next
+/// read. A reader or writer that fails is not asked again, and the run is over: `Read` where the reader fails or has
+/// not ended after 2^64 - 1 reads, `Write` where the writer fails or takes no byte, and `OutOfMemory` where a
 /// allocation is refused.
-pub fn run<R: Read, W: Write>(alloc: Global, reader: &mut R, writer: &mut W) -> Result<(), RunError>
+pub fn run<R: Read, W: Write>(
+    alloc: Global,
+    order: Order,
+    reader: &mut R,
+    writer: &mut W,
+) -> Result<(), RunError>
     ensures ok { OnOk result (RanToEnd (R.remaining reader.old) (R.remaining reader.new)
         (W.contents writer.old) (W.contents writer.new)) }
     ensures err { IfErr result (λ e. Stopped e (R.remaining reader.old) (R.remaining reader.new)
         (W.contents writer.old) (W.contents writer.new)) }
 {
-    filter::run(alloc, Shown::new(alloc), reader, writer)
+    filter::run(alloc, Shown::new(alloc, order), reader, writer)
 }

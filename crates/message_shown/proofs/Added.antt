@@ -1,24 +1,31 @@
 -- How the answer to a line is added.
 use Rattle.std.proofs.Common.{◌≡◌, ℕ, List, [], ◌∷◌, ◌++◌, refl, sym, ap, subst, ◌∙◌, append_assoc}
-use Rattle.std.specs.Prelude.{Result, Ok, Err, OnOk, is_ok, codes, decimal, if◌then◌else◌}
+use Rattle.std.specs.Prelude.{Result, Ok, Err, OnOk, is_ok, codes, if◌then◌else◌}
 use Rattle.std.specs.List.{flat_map}
 use Rattle.std.specs.declared.alloc.AllocError.{AllocError}
+use Rattle.std.proofs.lemmas.List.Concat.{flat_map-append}
+use Rattle.std.proofs.lemmas.List.Sums.{fold-append}
 use Rattle.hex.specs.Hex.{decode_of}
 use Rattle.hex.specs.declared.error.FromHexError.{FromHexError}
 use Rattle.nla_wire.specs.declared.error.Cause.{Cause}
+use Rattle.nla_wire.specs.declared.error.DecodeError.{DecodeError}
 use Rattle.link_msg.specs.Messages.{Means, FirstFault}
 use Rattle.link_msg.specs.declared.message.LinkMessage.{LinkMessage}
 use Rattle.line_filter.specs.Lines.{with_lf}
-use Rattle.json.specs.Token.{Token, begin_object, end_object, key, number}
+use Rattle.line_filter.specs.Words.{front_of, rest_of}
+use Rattle.json.specs.Token.{Token, begin_object, key, string}
 use Rattle.json.specs.Print.{print}
-use Rattle.link_vals.specs.AddressFamilyTable.{address_family_number}
-use Rattle.shown.specs.Nesting.{closing}
-use Rattle.shown.specs.Drafts.{Draft, Members, empty_object, with_members, object_of}
-use Rattle.shown.specs.Pages.{AddsObject, IsRest}
+use Rattle.shown.specs.Drafts.{Draft, Members, empty_object, with_value, with_members, object_of}
+use Rattle.shown.specs.Pages.{AddsText}
 use Rattle.shown.proofs.Drafts.{members_added}
+use Rattle.shown.proofs.Pages.{object_found, whole_text}
 use Rattle.link_msg.proofs.Reading.{message_agrees}
-use Rattle.message_shown.specs.Attributes.{message_members, message_line, TellsMessage}
-use Rattle.message_shown.specs.Lines.{IsAnswerTo, IsAnswerToSpelled, AddsAnswer, AddsAnswerTo, fault_head, message_head}
+use Rattle.message_shown.specs.Attributes.{message_line, TellsMessage}
+use Rattle.message_shown.specs.Causes.{cause_text, cause_members, AddsFault}
+use Rattle.message_shown.specs.Lines.{IsAnswerTo, IsAnswerToSpelled, AddsAnswer, AddsAnswerTo, AddsSpelled, head}
+use Rattle.message_shown.specs.Lines.{fault_member, fault_head, family_member}
+use Rattle.message_shown.specs.Worded.{words_shown}
+use Rattle.message_shown.specs.declared.context.Context.{Context}
 
 -- what an extended list holds where the call succeeds
 pub on_ok_extended : {P : Type 0} (r : Result (Unit {0}) AllocError) (new longer same : List ℕ)
@@ -30,49 +37,82 @@ on_ok_extended (Err _) new longer same h k = tt
 lf_after : (old text mid new : List ℕ) → mid ≡ old ++ text → new ≡ mid ++ 10 ∷ [] → new ≡ old ++ with_lf text
 lf_after old text mid new h k = k ∙ ap (λ l. l ++ 10 ∷ []) h ∙ append_assoc old text (10 ∷ [])
 
-pub adds_fault : (page : Draft) (bytes old mid new : List ℕ) (c : Cause) → FirstFault bytes c
-    → AddsObject page (fault_head c) old mid → new ≡ mid ++ 10 ∷ [] → AddsAnswerTo bytes old new
-adds_fault page bytes old mid new c h s k = (s.0, IsAnswerTo.fault c h s.1, lf_after old s.0 mid new s.3 k)
+-- a page of members begins with the first of them
+begins : (words more : Members) (member : List ℕ × List Token) (page : Draft)
+    → page ≡ with_members (words ++ member ∷ more) empty_object
+    → page.tokens ≡ head words member ++ flat_map (λ m. key m.0 ∷ m.1) more
+begins words more member page is =
+    let tokens = λ (ms : Members). flat_map (λ (m : List ℕ × List Token). key m.0 ∷ m.1) ms in
+    ap (λ (d : Draft). d.tokens) (is ∙ members_added (words ++ member ∷ more) (begin_object ∷ []) [])
+    ∙ ap (λ (l : List Token). begin_object ∷ l) (ap tokens (sym (append_assoc words (member ∷ []) more))
+    ∙ flat_map-append (λ m. key m.0 ∷ m.1) (words ++ member ∷ []) more)
 
-pub adds_message : (page : Draft) (bytes old mid new : List ℕ) (m : LinkMessage) → Means bytes m
-    → AddsObject page (message_head m) old mid → new ≡ mid ++ 10 ∷ [] → AddsAnswerTo bytes old new
-adds_message page bytes old mid new m h s k = (s.0, IsAnswerTo.message m h s.1, lf_after old s.0 mid new s.3 k)
+pub adds_message : (words more : Members) (page : Draft) (bytes old mid new : List ℕ) (m : LinkMessage) → Means bytes m
+    → page ≡ with_members (words ++ family_member m ∷ more) empty_object
+    → AddsText page old mid → new ≡ mid ++ 10 ∷ [] → AddsAnswerTo words bytes old new
+adds_message words more page bytes old mid new m means is s k = (
+  s.0,
+  IsAnswerTo.message m means (object_found page (head words (family_member m)) _ s.0
+      (begins words more (family_member m) page is) s.1),
+  lf_after old s.0 mid new s.2 k,
+)
 
--- what follows a page's bracket are its members
-rest_is : (page : Draft) (ms : Members) (rest : List Token) → page ≡ with_members ms empty_object → IsRest page rest
-    → rest ≡ flat_map (λ m. key m.0 ∷ m.1) ms ++ end_object ∷ []
-rest_is page ms rest is all =
-    let whole : begin_object ∷ (flat_map (λ m. key m.0 ∷ m.1) ms ++ end_object ∷ []) ≡ begin_object ∷ rest =
-    sym (ap (λ (d : Draft). d.tokens ++ closing d.inside ∷ []) (is ∙ members_added ms (begin_object ∷ []) [])) ∙ all in
-    cc
+pub message_told : (ms : Members) (page : Draft) (old mid new : List ℕ) → page ≡ with_members ms empty_object
+    → AddsText page old mid → new ≡ mid ++ 10 ∷ [] → new ≡ old ++ with_lf (print (object_of ms))
+message_told ms page old mid new is s k =
+    lf_after old (print (object_of ms)) mid new (s.2 ∙ ap (λ text. old ++ text) (whole_text ms page s.0 is s.1)) k
 
--- the object that begins with a member, and of which the others are a page's
-object_told : (page : Draft) (name : List ℕ) (value : Token) (ms : Members) (old new : List ℕ)
-    → page ≡ with_members ms empty_object → AddsObject page (begin_object ∷ key name ∷ value ∷ []) old new
-    → new ≡ old ++ print (object_of ((name, value ∷ []) ∷ ms))
-object_told page name value ms old new is s =
-    s.3 ∙ ap (λ text. old ++ text) (s.1.printed
-    ∙ ap (λ rest. print (begin_object ∷ key name ∷ value ∷ rest)) (rest_is page ms s.1.rest is s.2))
+-- ** members one after the other
+pub members_then : (words ms more : Members) (member : List ℕ × List Token) (first worded named page : Draft)
+    → first ≡ empty_object → worded ≡ with_members words first → named ≡ with_value member.0 member.1 worded
+    → page ≡ with_members more (with_members ms named)
+    → page ≡ with_members (words ++ member ∷ (ms ++ more)) empty_object
+members_then words ms more member first worded named page e w n is =
+    is ∙ ap (λ (d : Draft). with_members more (with_members ms d))
+    (n ∙ ap (λ (d : Draft). with_value member.0 member.1 d) (w ∙ ap (with_members words) e))
+    ∙ sym (fold-append (λ (p : Draft) m. with_value m.0 m.1 p)
+    (with_value member.0 member.1 (with_members words empty_object)) ms more)
+    ∙ sym (fold-append (λ (p : Draft) m. with_value m.0 m.1 p) empty_object words (member ∷ (ms ++ more)))
 
-pub message_told : (page : Draft) (bytes old mid new : List ℕ) (m : LinkMessage)
-    → page ≡ with_members (message_members bytes m) empty_object → AddsObject page (message_head m) old mid
-    → new ≡ mid ++ 10 ∷ [] → new ≡ old ++ with_lf (message_line bytes m)
-message_told page bytes old mid new m is s k =
-    lf_after old (message_line bytes m) mid new
-    (object_told page (codes "ifi-family") (number (decimal (address_family_number m.header.interface_family)))
-    (message_members bytes m) old mid is s) k
+-- ** of a fault
+pub adds_fault : (words : Members) (text : List ℕ) (e : DecodeError) (first worded named page : Draft)
+    (bytes old mid new : List ℕ) → FirstFault bytes e.cause → text ≡ cause_text e.cause → first ≡ empty_object
+    → worded ≡ with_members words first → named ≡ with_value (codes "fault") (string text ∷ []) worded
+    → AddsFault e named page → AddsText page old mid → new ≡ mid ++ 10 ∷ [] → AddsAnswerTo words bytes old new
+adds_fault words text e first worded named page bytes old mid new fault same empty w n adds s k =
+    let ms = (codes "at", string adds.0 ∷ []) ∷ cause_members e.cause in
+    let told : named ≡ with_value (codes "fault") (string (cause_text e.cause) ∷ []) worded =
+    n ∙ ap (λ t. with_value (codes "fault") (string t ∷ []) worded) same in
+    let all = members_then words ms adds.1.0 (fault_member e.cause) first worded named page empty w told adds.1.1 in (
+      s.0,
+      IsAnswerTo.fault e.cause fault (object_found page (fault_head words e.cause) _ s.0
+          (begins words (ms ++ adds.1.0) (fault_member e.cause) page all) s.1),
+      lf_after old s.0 mid new s.2 k,
+    )
 
-pub adds_spelled : (line room old new : List ℕ) → decode_of line ≡ Ok room → AddsAnswerTo room old new
-    → AddsAnswer line old new
-adds_spelled line room old new h s =
-    (s.0, subst (λ (t : Result (List ℕ) FromHexError). IsAnswerToSpelled t s.0) (sym h) s.1, s.2)
+-- ** of digits
+pub adds_spelled : (words : Members) (digits room old new : List ℕ) → decode_of digits ≡ Ok room
+    → AddsAnswerTo words room old new → AddsSpelled words digits old new
+adds_spelled words digits room old new h s =
+    (s.0, subst (λ (t : Result (List ℕ) FromHexError). IsAnswerToSpelled words t s.0) (sym h) s.1, s.2)
 
-pub adds_nothex : (line old new : List ℕ) (e : FromHexError) → decode_of line ≡ Err e
-    → new ≡ old ++ codes "{\"fault\":\"not-hex\"}\n" → AddsAnswer line old new
-adds_nothex line old new e h s = (
+pub adds_nothex : (words : Members) (digits old new : List ℕ) (e : FromHexError) → decode_of digits ≡ Err e
+    → new ≡ old ++ codes "{\"fault\":\"not-hex\"}\n" → AddsSpelled words digits old new
+adds_nothex words digits old new e h s = (
   codes "{\"fault\":\"not-hex\"}",
-  subst (λ (t : Result (List ℕ) FromHexError). IsAnswerToSpelled t (codes "{\"fault\":\"not-hex\"}")) (sym h) refl,
+  subst (λ (t : Result (List ℕ) FromHexError). IsAnswerToSpelled words t (codes "{\"fault\":\"not-hex\"}")) (sym h)
+      refl,
   s,
+)
+
+-- the words are those in front of the line, and the digits stand behind them
+pub adds_line : (line front digits old new : List ℕ) → front ≡ front_of line → digits ≡ rest_of line
+    → AddsSpelled (words_shown front) digits old new → AddsAnswer line old new
+adds_line line front digits old new f is s = (
+  s.0,
+  subst (λ w. IsAnswerToSpelled (words_shown w) (decode_of (rest_of line)) s.0) f
+      (subst (λ d. IsAnswerToSpelled (words_shown front) (decode_of d) s.0) is s.1),
+  s.2,
 )
 
 same_message : (b : List ℕ) (m n : LinkMessage) → Means b m → Means b n → m ≡ n
@@ -80,20 +120,22 @@ same_message b m n h k =
     let same : Ok m ≡ Ok n = sym (message_agrees.only b m h) ∙ message_agrees.only b n k in cc
 
 -- bytes mean one message
-pub tells_meant : (b old new : List ℕ) (m : LinkMessage) → Means b m → new ≡ old ++ with_lf (message_line b m)
-    → TellsMessage b old new
-tells_meant b old new m means is n k = is ∙ ap (λ x. old ++ with_lf (message_line b x)) (same_message b m n means k)
+pub tells_meant : (words : Members) (cx : Context) (b old new : List ℕ) (m : LinkMessage) → Means b m
+    → new ≡ old ++ with_lf (message_line words cx b m) → TellsMessage words cx b old new
+tells_meant words cx b old new m means is n k =
+    is ∙ ap (λ x. old ++ with_lf (message_line words cx b x)) (same_message b m n means k)
 
-pub tells_fault : (b old new : List ℕ) (c : Cause) → FirstFault b c → TellsMessage b old new
-tells_fault b old new c fault m means =
+pub tells_fault : (words : Members) (cx : Context) (b old new : List ℕ) (c : Cause) → FirstFault b c
+    → TellsMessage words cx b old new
+tells_fault words cx b old new c fault m means =
     let clash : Err c ≡ Ok m = sym (message_agrees.refused b c fault) ∙ message_agrees.only b m means in absurd cc
 
-pub tells_spelled : (line room old new : List ℕ) → decode_of line ≡ Ok room → TellsMessage room old new
-    → (b : List ℕ) → decode_of line ≡ Ok b → TellsMessage b old new
-tells_spelled line room old new h tells b is =
+pub tells_spelled : (words : Members) (cx : Context) (digits room old new : List ℕ) → decode_of digits ≡ Ok room
+    → TellsMessage words cx room old new → (b : List ℕ) → decode_of digits ≡ Ok b → TellsMessage words cx b old new
+tells_spelled words cx digits room old new h tells b is =
     let same : room ≡ b = let both : Ok room ≡ Ok b = sym h ∙ is in cc in
-    subst (λ x. TellsMessage x old new) same tells
+    subst (λ x. TellsMessage words cx x old new) same tells
 
-pub tells_nothex : (line old new : List ℕ) (e : FromHexError) → decode_of line ≡ Err e
-    → (b : List ℕ) → decode_of line ≡ Ok b → TellsMessage b old new
-tells_nothex line old new e h b is = let clash : Err e ≡ Ok b = sym h ∙ is in absurd cc
+pub tells_nothex : (words : Members) (cx : Context) (digits old new : List ℕ) (e : FromHexError)
+    → decode_of digits ≡ Err e → (b : List ℕ) → decode_of digits ≡ Ok b → TellsMessage words cx b old new
+tells_nothex words cx digits old new e h b is = let clash : Err e ≡ Ok b = sym h ∙ is in absurd cc

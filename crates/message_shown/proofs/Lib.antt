@@ -2,3 +2,4 @@ mod Added
 mod Filled
 mod Named
 mod Places
+mod Elements

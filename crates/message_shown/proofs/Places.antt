@@ -76,7 +76,7 @@ pub told_here : {X : Type 0} (f : X → Item) (xs : List X) (table : List ℕ) (
     → (slice_index table n == i) ≡ not (comes_in n (map f (drop (i + 1) xs)))
 told_here f xs table i n x tells small l here is =
     let within : i < length (map f xs) = omega (arith, length-map xs f, l) in
-    tells i n within small (ap number_in (get_or-map f xs i x (Item.as_is 0 []) l ∙ ap f (sym here)) ∙ is)
+    tells i n within small (ap number_in (get_or-map f xs i x (Item.as_is [] 0 []) l ∙ ap f (sym here)) ∙ is)
     ∙ ap (λ items. not (comes_in n items)) (drop-map f (i + 1) xs)
 
 pub is_last : {X : Type 0} (f : X → Item) (xs : List X) (table : List ℕ) (i n : ℕ) (x : X)
@@ -98,36 +98,36 @@ pub last_shown : (x : Item) (n : ℕ) (rest : List Item) → number_in x ≡ Som
 last_shown (Item.named m ms) n rest is none =
     let same : m ≡ n = cc in
     ap (λ b. cond b [] ms ++ last_ones rest) (ap (λ k. comes_in k rest) same ∙ none)
-last_shown (Item.as_is kind payload) n rest is none = absurd cc
+last_shown (Item.as_is name kind payload) n rest is none = absurd cc
 
 pub last_passed : (x : Item) (n : ℕ) (rest : List Item) → number_in x ≡ Some n → comes_in n rest ≡ true
     → last_ones (x ∷ rest) ≡ last_ones rest
 last_passed (Item.named m ms) n rest is some =
     let same : m ≡ n = cc in
     ap (λ b. cond b [] ms ++ last_ones rest) (ap (λ k. comes_in k rest) same ∙ some)
-last_passed (Item.as_is kind payload) n rest is some = absurd cc
+last_passed (Item.as_is name kind payload) n rest is some = absurd cc
 
 pub last_kept : (x : Item) (rest : List Item) → number_in x ≡ None → last_ones (x ∷ rest) ≡ last_ones rest
 last_kept (Item.named m ms) rest is = absurd cc
-last_kept (Item.as_is kind payload) rest is = refl
+last_kept (Item.as_is name kind payload) rest is = refl
 
 pub earlier_shown : (x : Item) (n : ℕ) (rest : List Item) → number_in x ≡ Some n → comes_in n rest ≡ true
     → earlier_ones (x ∷ rest) ≡ shown_as x ∷ earlier_ones rest
 earlier_shown (Item.named m ms) n rest is some =
     let same : m ≡ n = cc in
     ap (λ b. cond b (ms ∷ []) [] ++ earlier_ones rest) (ap (λ k. comes_in k rest) same ∙ some)
-earlier_shown (Item.as_is kind payload) n rest is some = absurd cc
+earlier_shown (Item.as_is name kind payload) n rest is some = absurd cc
 
 pub earlier_passed : (x : Item) (n : ℕ) (rest : List Item) → number_in x ≡ Some n → comes_in n rest ≡ false
     → earlier_ones (x ∷ rest) ≡ earlier_ones rest
 earlier_passed (Item.named m ms) n rest is none =
     let same : m ≡ n = cc in
     ap (λ b. cond b (ms ∷ []) [] ++ earlier_ones rest) (ap (λ k. comes_in k rest) same ∙ none)
-earlier_passed (Item.as_is kind payload) n rest is none = absurd cc
+earlier_passed (Item.as_is name kind payload) n rest is none = absurd cc
 
 pub earlier_kept : (x : Item) (rest : List Item) → number_in x ≡ None → earlier_ones (x ∷ rest) ≡ earlier_ones rest
 earlier_kept (Item.named m ms) rest is = absurd cc
-earlier_kept (Item.as_is kind payload) rest is = refl
+earlier_kept (Item.as_is name kind payload) rest is = refl
 
 -- ** lists of them
 
@@ -140,11 +140,11 @@ objects_values [] = refl
 objects_values (o ∷ os) = ap (λ l. object_of o ++ l) (objects_values os)
 
 named_values : (items : List Item)
-    → flat_map (λ m. m.1) (flat_map shown_as items) ≡ flat_map (λ v. v) (map values_of (named_ones items))
+    → flat_map (λ m. m.1) (flat_map shown_as items) ≡ flat_map values_of (named_ones items)
 named_values [] = refl
 named_values (Item.named n ms ∷ items) =
     flat_map-append (λ m. m.1) ms (flat_map shown_as items) ∙ ap (λ l. values_of ms ++ l) (named_values items)
-named_values (Item.as_is kind payload ∷ items) = named_values items
+named_values (Item.as_is name kind payload ∷ items) = named_values items
 
 under : (name : List ℕ) (vs : List (List Token)) → are_any vs ≡ true
     → list_under name vs ≡ (name, list_of (flat_map (λ v. v) vs)) ∷ []
@@ -167,12 +167,12 @@ objects_shown name os old last new any is ends =
     list_shown name (map object_of os) (objects os) old last new (any_mapped object_of os ∙ any) (objects_values os) is
     ends
 
-pub named_shown : (name : List ℕ) (items : List Item) (old last new : Draft) → are_any (named_ones items) ≡ true
+pub named_shown : (name : List ℕ) (items : List Item) (old last new : Draft)
     → last ≡ with_members (flat_map shown_as items) (with_begun name Items old) → Ends last new
-    → new ≡ with_members (list_under name (map values_of (named_ones items))) old
-named_shown name items old last new any is ends =
-    list_shown name (map values_of (named_ones items)) (flat_map shown_as items) old last new
-    (any_mapped values_of (named_ones items) ∙ any) (named_values items) is ends
+    → new ≡ with_value name (list_of (flat_map values_of (named_ones items))) old
+named_shown name items old last new is ends =
+    list_ended name (flat_map shown_as items) old last new is ends
+    ∙ ap (λ v. with_value name (list_of v) old) (named_values items)
 
 objects_flat : (os : List Members) → flat_map (λ m. m.1) (objects os) ≡ flat_map object_of os
 objects_flat [] = refl
@@ -214,15 +214,15 @@ stored (Item.named k ms) m n i table l is =
       | inr both ↦ get_or-set_other table m n i 0 (λ h. both.1 (same ∙ sym h))
           ∙ ap (λ b. cond b i (slice_index table n)) (sym both.0)
     ]
-stored (Item.as_is kind payload) m n i table l is = absurd cc
+stored (Item.as_is name kind payload) m n i table l is = absurd cc
 
 pub no_number : (x : Item) (n : ℕ) → number_in x ≡ None → has_number n x ≡ false
 no_number (Item.named k ms) n is = absurd cc
-no_number (Item.as_is kind payload) n is = refl
+no_number (Item.as_is name kind payload) n is = refl
 
 its_number : (x : Item) (n : ℕ) → number_in x ≡ Some n → has_number n x ≡ true
 its_number (Item.named k ms) n is = eq-eqb k n cc
-its_number (Item.as_is kind payload) n is = absurd cc
+its_number (Item.as_is name kind payload) n is = absurd cc
 
 none_later : (n found i : ℕ) (items : List Item) → comes_in n items ≡ false → last_at n found i items ≡ found
 none_later n found i [] none = refl

@@ -1,11 +1,15 @@
 -- Each line has an answer.
-use Rattle.std.proofs.Common.{◌≡◌, ℕ, List, [], ◌∷◌, suc, refl, sym, ap, subst, ◌^◌, ◌<◌, arith, decimal, slice_index}
+use Rattle.std.proofs.Common.{◌≡◌, ℕ, List, [], ◌∷◌, ◌++◌, suc, refl, sym, ap, subst, ◌∙◌, ◌^◌, ◌<◌, arith, decimal}
+use Rattle.std.proofs.Common.{append_assoc, append-nil, slice_index}
 use Rattle.std.specs.Prelude.{Result, Ok, Err, codes}
 use Rattle.hex.specs.Hex.{decode_of}
 use Rattle.hex.specs.Hex as hex
 use Rattle.hex.specs.declared.error.FromHexError.{FromHexError}
 use Rattle.hex.proofs.HexLemmas.{decode_of-ok}
-use Rattle.json.specs.Token.{string, number}
+use Rattle.std.specs.List.{flat_map}
+use Rattle.std.proofs.lemmas.List.Concat.{flat_map-append}
+use Rattle.json.specs.Token.{Token, begin_object, end_object, key, string, number}
+use Rattle.json.specs.Print.{print}
 use Rattle.nla_wire.specs.Frames.{IsBytes}
 use Rattle.nla_wire.specs.declared.error.Cause.{Cause}
 use Rattle.nla_wire.proofs.Steps.{bytes_left}
@@ -18,10 +22,15 @@ use Rattle.link_msg.specs.Messages.{Means, read_message}
 use Rattle.link_msg.specs.declared.message.LinkMessage.{LinkMessage}
 use Rattle.link_msg.proofs.Reading.{message_agrees}
 use Rattle.line_filter.specs.Lines.{AnswersEach}
-use Rattle.shown.proofs.Pages.{least}
+use Rattle.shown.specs.Drafts.{Draft}
+use Rattle.shown.specs.Pages.{IsPage, IsScalar, IsPlain, IsObject}
+use Rattle.shown.specs.declared.page.Nest.TheVariants.{Object}
+use Rattle.shown.proofs.Pages.{page_new, page_value, page_text, object_found}
 use Rattle.message_shown.specs.Causes.{cause_text}
 use Rattle.shown.proofs.Lines.{decimal_on_line}
-use Rattle.message_shown.specs.Lines.{IsAnswer, IsAnswerTo, IsAnswerToSpelled}
+use Rattle.line_filter.specs.Words.{front_of, rest_of, words_of}
+use Rattle.message_shown.specs.Lines.{IsAnswer, IsAnswerTo, IsAnswerToSpelled, head}
+use Rattle.message_shown.specs.Worded.{word_text, strings}
 
 first_small : (h : List ℕ) → IsBytes h → slice_index h 0 < 2 ^ 64
 first_small [] bytes = omega arith
@@ -40,18 +49,49 @@ family_small : (b : List ℕ) (m : LinkMessage) → IsBytes b → Means b m
     → address_family_number m.header.interface_family < 2 ^ 64
 family_small b m bytes k = header_small k.0 m.header (bytes_left k.0 k.1 (subst IsBytes k.2 bytes)) k.3
 
-by_reading : (b : List ℕ) → IsBytes b → (r : Result LinkMessage Cause) → read_message b ≡ r
-    → (answer : List ℕ) × IsAnswerTo b answer
-by_reading b bytes (Ok m) is = (
+-- ** the least answer with words in front
+words_page : (words : List (List ℕ × List ℕ)) (ts : List Token) → IsPage ts Object []
+    → IsPage (ts ++ flat_map (λ m. key m.0 ∷ m.1) (strings words)) Object []
+words_page [] ts h = subst (λ (l : List Token). IsPage l Object []) (sym (append-nil ts)) h
+words_page (w ∷ words) ts h =
+    let name = word_text w.0 in
+    let value = string (word_text w.1) in
+    let others = flat_map (λ m. key m.0 ∷ m.1) (strings words) in
+    subst (λ (l : List Token). IsPage l Object [])
+    (append_assoc (ts ++ key name ∷ []) (value ∷ []) others ∙ append_assoc ts (key name ∷ []) (value ∷ others))
+    (words_page words ((ts ++ key name ∷ []) ++ value ∷ []) (page_value ts Object [] name value h (λ _. refl) tt))
+
+head_page : (words : List (List ℕ × List ℕ)) (name : List ℕ) (t : Token) → IsScalar t → IsPlain t
+    → IsPage (head (strings words) (name, t ∷ [])) Object []
+head_page words name t s p =
+    let before = flat_map (λ m. key m.0 ∷ m.1) (strings words) in
+    subst (λ (l : List Token). IsPage l Object [])
+    (append_assoc (begin_object ∷ before) (key name ∷ []) (t ∷ [])
+    ∙ ap (λ (l : List Token). begin_object ∷ l)
+    (sym (flat_map-append (λ m. key m.0 ∷ m.1) (strings words) ((name, t ∷ []) ∷ []))))
+    (page_value (begin_object ∷ before) Object [] name t (words_page words (begin_object ∷ []) page_new) s p)
+
+-- the object with no further member
+least : (words : List (List ℕ × List ℕ)) (name : List ℕ) (t : Token) → IsScalar t → IsPlain t
+    → IsObject (head (strings words) (name, t ∷ [])) (print (head (strings words) (name, t ∷ []) ++ end_object ∷ []))
+least words name t s p =
+    let tokens = head (strings words) (name, t ∷ []) in
+    let page : Draft = record { tokens = tokens; inside = Object; outer = [] } in
+    object_found page tokens [] _ (sym (append-nil tokens))
+    (page_text page tokens Object refl refl (head_page words name t s p))
+
+by_reading : (words : List (List ℕ × List ℕ)) (b : List ℕ) → IsBytes b → (r : Result LinkMessage Cause)
+    → read_message b ≡ r → (answer : List ℕ) × IsAnswerTo (strings words) b answer
+by_reading words b bytes (Ok m) is = (
   _,
   IsAnswerTo.message m (message_agrees.found b m bytes is)
-      (least (codes "ifi-family") (number (decimal (address_family_number m.header.interface_family))) (λ _. refl)
-      (decimal_on_line _ (family_small b m bytes (message_agrees.found b m bytes is)))),
+      (least words (codes "ifi-family") (number (decimal (address_family_number m.header.interface_family)))
+      (λ _. refl) (decimal_on_line _ (family_small b m bytes (message_agrees.found b m bytes is)))),
 )
-by_reading b bytes (Err c) is = (
+by_reading words b bytes (Err c) is = (
   _,
   IsAnswerTo.fault c (message_agrees.fault b c bytes is)
-      (least (codes "fault") (string (cause_text c)) (λ _. refl) tt),
+      (least words (codes "fault") (string (cause_text c)) (λ _. refl) tt),
 )
 
 -- the bytes that digits spell are bytes
@@ -59,15 +99,18 @@ spelled_bytes : (b : List ℕ) → hex.IsBytes b → IsBytes b
 spelled_bytes [] h = tt
 spelled_bytes (x ∷ b) h = (h 0, spelled_bytes b (λ i. h (suc i)))
 
-by_spelling : (line : List ℕ) (r : Result (List ℕ) FromHexError) → decode_of line ≡ r
-    → (answer : List ℕ) × IsAnswerToSpelled (decode_of line) answer
-by_spelling line (Ok b) is =
-    let some = by_reading b (spelled_bytes b (decode_of-ok line b is).3) (read_message b) refl in
-    (some.0, subst (λ (t : Result (List ℕ) FromHexError). IsAnswerToSpelled t some.0) (sym is) some.1)
-by_spelling line (Err e) is = (
+by_spelling : (words : List (List ℕ × List ℕ)) (digits : List ℕ) (r : Result (List ℕ) FromHexError)
+    → decode_of digits ≡ r → (answer : List ℕ) × IsAnswerToSpelled (strings words) (decode_of digits) answer
+by_spelling words digits (Ok b) is =
+    let some = by_reading words b (spelled_bytes b (decode_of-ok digits b is).3) (read_message b) refl in (
+      some.0,
+      subst (λ (t : Result (List ℕ) FromHexError). IsAnswerToSpelled (strings words) t some.0) (sym is) some.1,
+    )
+by_spelling words digits (Err e) is = (
   codes "{\"fault\":\"not-hex\"}",
-  subst (λ (t : Result (List ℕ) FromHexError). IsAnswerToSpelled t (codes "{\"fault\":\"not-hex\"}")) (sym is) refl,
+  subst (λ (t : Result (List ℕ) FromHexError). IsAnswerToSpelled (strings words) t (codes "{\"fault\":\"not-hex\"}"))
+      (sym is) refl,
 )
 
 pub each_answered : AnswersEach IsAnswer
-each_answered line = by_spelling line (decode_of line) refl
+each_answered line = by_spelling (words_of (front_of line)) (rest_of line) (decode_of (rest_of line)) refl

@@ -9,7 +9,7 @@ use Rattle.hex.specs.Hex.{encode_lower}
 use Rattle.json.specs.Token.{Token, string}
 use Rattle.json.specs.Print.{print}
 use Rattle.link_vals.specs.AddressFamilyTable.{address_family_number}
-use Rattle.nla_wire.specs.Fields.{number_at}
+use Rattle.nla_wire.specs.Fields.{number_at, signed_at}
 use Rattle.link_msg.specs.Tables.{attribute_frame}
 use Rattle.link_msg.specs.Messages.{Means}
 use Rattle.link_msg.specs.declared.message.LinkMessage.{LinkMessage}
@@ -24,7 +24,10 @@ use Rattle.link_vals.specs.declared.ext_mask.LinkExtentMask.{LinkExtentMask}
 use Rattle.line_filter.specs.Lines.{with_lf}
 use Rattle.shown.specs.Drafts.{Members, object_of}
 use Rattle.shown.specs.Values.{BitNames, numbered, hardware_address, name_or_number, flags_of}
+use Rattle.link_nest.specs.declared.link_info.LinkInfo.{LinkInfo}
+use Rattle.message_shown.specs.Contexts.{with_kinds, with_address}
 use Rattle.message_shown.specs.Places.{Item, members_of, listed_under}
+use Rattle.message_shown.specs.declared.context.Context.{Context}
 use Rattle.message_shown.specs.Counters.{signed, stats_shown, stats64_shown, map_shown}
 use Rattle.message_shown.specs.Functions.{function_members, port_members, objects_under}
 use Rattle.message_shown.specs.Settings.{unspec_item}
@@ -122,60 +125,66 @@ event_names =
     codes "none" ∷ codes "reboot" ∷ codes "features" ∷ codes "bonding-failover" ∷ codes "notify-peers"
     ∷ codes "igmp-resend" ∷ codes "bonding-options" ∷ []
 
+-- the kinds of a link and their data
+abbrev pub info_shown : Context → List ℕ → List LinkInfo → Members
+info_shown cx name infos = (name, object_of (members_of (map (link_info_item (with_kinds cx infos)) infos))) ∷ []
+
 -- a list of attributes, as an object
-abbrev pub list_shown : List ℕ → LinkAttribute → Members
-list_shown name (Attributes.ProtoInfoBridge items) = (name, object_of (members_of (map bridge_item items))) ∷ []
-list_shown name (Attributes.ProtoInfoInet6 items) = (name, object_of (members_of (map proto_inet6_item items))) ∷ []
-list_shown name (Attributes.LinkInfo items) = (name, object_of (members_of (map link_info_item items))) ∷ []
-list_shown name (Attributes.VfInfoList entries) =
-    (name, object_of (objects_under (codes "info") (map function_members entries))) ∷ []
-list_shown name (Attributes.VfPorts entries) =
-    (name, object_of (objects_under (codes "port") (map port_members entries))) ∷ []
-list_shown name (Attributes.PortSelf port) = (name, object_of (port_members port)) ∷ []
-list_shown name (Attributes.AfSpecBridge items) = (name, object_of (members_of (map af_spec_bridge_item items))) ∷ []
-list_shown name (Attributes.AfSpecUnspec items) = (name, object_of (members_of (map unspec_item items))) ∷ []
-list_shown name (Attributes.Xdp items) = (name, object_of (members_of (map xdp_item items))) ∷ []
-list_shown name (Attributes.PropList items) =
+abbrev pub list_shown : Context → List ℕ → LinkAttribute → Members
+list_shown cx name (Attributes.ProtoInfoBridge items) = (name, object_of (members_of (map (bridge_item cx) items))) ∷ []
+list_shown cx name (Attributes.ProtoInfoInet6 items) =
+    (name, object_of (members_of (map (proto_inet6_item cx) items))) ∷ []
+list_shown cx name (Attributes.LinkInfo items) = info_shown cx name items
+list_shown cx name (Attributes.VfInfoList entries) =
+    (name, object_of (objects_under (codes "info") (map (function_members cx) entries))) ∷ []
+list_shown cx name (Attributes.VfPorts entries) =
+    (name, object_of (objects_under (codes "port") (map (port_members cx) entries))) ∷ []
+list_shown cx name (Attributes.PortSelf port) = (name, object_of (port_members cx port)) ∷ []
+list_shown cx name (Attributes.AfSpecBridge items) =
+    (name, object_of (members_of (map (af_spec_bridge_item cx) items))) ∷ []
+list_shown cx name (Attributes.AfSpecUnspec items) = (name, object_of (members_of (map (unspec_item cx) items))) ∷ []
+list_shown cx name (Attributes.Xdp items) = (name, object_of (members_of (map xdp_item items))) ∷ []
+list_shown cx name (Attributes.PropList items) =
     (name, object_of (listed_under (codes "alt-ifname") (map prop_item items))) ∷ []
-list_shown name (Attributes.ProtoDownReason items) = (name, object_of (members_of (map down_reason_item items))) ∷ []
-list_shown name (Attributes.DevlinkPort items) = (name, object_of (members_of (map devlink_port_item items))) ∷ []
-list_shown name (Attributes.DpllPin items) = (name, object_of (members_of (map dpll_pin_item items))) ∷ []
-list_shown name _ = []
+list_shown cx name (Attributes.ProtoDownReason items) = (name, object_of (members_of (map down_reason_item items))) ∷ []
+list_shown cx name (Attributes.DevlinkPort items) = (name, object_of (members_of (map devlink_port_item items))) ∷ []
+list_shown cx name (Attributes.DpllPin items) = (name, object_of (members_of (map dpll_pin_item items))) ∷ []
+list_shown cx name _ = []
 
 -- a record, a value of an enum, flags, an id, or a list
-abbrev pub value_shown : List ℕ → LinkAttribute → Members
-value_shown name (Attributes.Stats stats) = (name, object_of (stats_shown stats)) ∷ []
-value_shown name (Attributes.Stats64 stats) = (name, object_of (stats64_shown stats)) ∷ []
-value_shown name (Attributes.Map v) = (name, object_of (map_shown v)) ∷ []
-value_shown name (Attributes.OperState v) = (name, name_or_number operstate_names (state_number v) ∷ []) ∷ []
-value_shown name (Attributes.Mode v) = (name, name_or_number link_mode_names (link_mode_number v) ∷ []) ∷ []
-value_shown name (Attributes.Event v) = (name, name_or_number event_names (link_event_number v) ∷ []) ∷ []
-value_shown name (Attributes.ExtMask masks) = (name, flags_of ext_mask_names (bits_of masks)) ∷ []
-value_shown name (Attributes.PhysPortId id) = (name, id_shown id) ∷ []
-value_shown name (Attributes.PhysSwitchId id) = (name, id_shown id) ∷ []
-value_shown name (Attributes.Wireless event) = (name, object_of (wireless_shown event)) ∷ []
-value_shown name v = list_shown name v
+abbrev pub value_shown : Context → List ℕ → LinkAttribute → Members
+value_shown cx name (Attributes.Stats stats) = (name, object_of (stats_shown stats)) ∷ []
+value_shown cx name (Attributes.Stats64 stats) = (name, object_of (stats64_shown stats)) ∷ []
+value_shown cx name (Attributes.Map v) = (name, object_of (map_shown v)) ∷ []
+value_shown cx name (Attributes.OperState v) = (name, name_or_number operstate_names (state_number v) ∷ []) ∷ []
+value_shown cx name (Attributes.Mode v) = (name, name_or_number link_mode_names (link_mode_number v) ∷ []) ∷ []
+value_shown cx name (Attributes.Event v) = (name, name_or_number event_names (link_event_number v) ∷ []) ∷ []
+value_shown cx name (Attributes.ExtMask masks) = (name, flags_of ext_mask_names (bits_of masks)) ∷ []
+value_shown cx name (Attributes.PhysPortId id) = (name, id_shown id) ∷ []
+value_shown cx name (Attributes.PhysSwitchId id) = (name, id_shown id) ∷ []
+value_shown cx name (Attributes.Wireless event) = (name, object_of (wireless_shown event)) ∷ []
+value_shown cx name v = list_shown cx name v
 
 -- by what it is first found to be
-abbrev pub unless_address : Option (List ℕ) → List ℕ → LinkAttribute → Members
-unless_address (Some bytes) name v = (name, string (hardware_address bytes) ∷ []) ∷ []
-unless_address None name v = value_shown name v
+abbrev pub unless_address : Context → Option (List ℕ) → List ℕ → LinkAttribute → Members
+unless_address cx (Some bytes) name v = (name, string (hardware_address bytes) ∷ []) ∷ []
+unless_address cx None name v = value_shown cx name v
 
-abbrev pub unless_text : Option (List ℕ) → List ℕ → LinkAttribute → Members
-unless_text (Some text) name v = (name, string text ∷ []) ∷ []
-unless_text None name v = unless_address (address_in v) name v
+abbrev pub unless_text : Context → Option (List ℕ) → List ℕ → LinkAttribute → Members
+unless_text cx (Some text) name v = (name, string text ∷ []) ∷ []
+unless_text cx None name v = unless_address cx (address_in v) name v
 
-abbrev pub unless_signed : Option ℤ → List ℕ → LinkAttribute → Members
-unless_signed (Some n) name v = signed name n ∷ []
-unless_signed None name v = unless_text (text_in v) name v
+abbrev pub unless_signed : Context → Option ℤ → List ℕ → LinkAttribute → Members
+unless_signed cx (Some n) name v = signed name n ∷ []
+unless_signed cx None name v = unless_text cx (text_in v) name v
 
-abbrev pub unless_number : Option ℕ → List ℕ → LinkAttribute → Members
-unless_number (Some n) name v = numbered name n ∷ []
-unless_number None name v = unless_signed (signed_in v) name v
+abbrev pub unless_number : Context → Option ℕ → List ℕ → LinkAttribute → Members
+unless_number cx (Some n) name v = numbered name n ∷ []
+unless_number cx None name v = unless_signed cx (signed_in v) name v
 
 -- a number, signed or not, a text, a hardware address, or another value
-abbrev pub attribute_shown : List ℕ → LinkAttribute → Members
-attribute_shown name v = unless_number (number_in v) name v
+abbrev pub attribute_shown : Context → List ℕ → LinkAttribute → Members
+attribute_shown cx name v = unless_number cx (number_in v) name v
 
 -- ** their names
 
@@ -195,7 +204,8 @@ attribute_names =
     ∷ codes "alt-ifname" ∷ codes "perm-address" ∷ codes "proto-down-reason" ∷ codes "parent-dev-name"
     ∷ codes "parent-dev-bus-name" ∷ codes "gro-max-size" ∷ codes "tso-max-size" ∷ codes "tso-max-segs"
     ∷ codes "allmulti" ∷ codes "devlink-port" ∷ codes "gso-ipv4-max-size" ∷ codes "gro-ipv4-max-size"
-    ∷ codes "dpll-pin" ∷ [] ∷ codes "netns-immutable" ∷ codes "headroom" ∷ codes "tailroom" ∷ []
+    ∷ codes "dpll-pin" ∷ codes "max-pacing-offload-horizon" ∷ codes "netns-immutable" ∷ codes "headroom"
+    ∷ codes "tailroom" ∷ []
 
 -- the number of an attribute, without its two flags
 abbrev pub attribute_number : LinkAttribute → ℕ
@@ -205,18 +215,18 @@ abbrev pub attribute_name : LinkAttribute → List ℕ
 attribute_name v = get_or attribute_names (attribute_number v) []
 
 -- kind and payload of one that is kept
-abbrev pub kept_in : LinkAttribute → Option (ℕ × List ℕ)
-kept_in (Attributes.Other nla) = Some (nla.kind, nla.payload)
-kept_in (Attributes.ProtoInfoUnknown nla) = Some (nla.kind, nla.payload)
-kept_in (Attributes.AfSpecUnknown bytes) = Some (IFLA_AF_SPEC, bytes)
-kept_in _ = None
+abbrev pub frame_in : LinkAttribute → Option (ℕ × List ℕ)
+frame_in (Attributes.Other nla) = Some (nla.kind, nla.payload)
+frame_in (Attributes.ProtoInfoUnknown nla) = Some (nla.kind, nla.payload)
+frame_in (Attributes.AfSpecUnknown bytes) = Some (IFLA_AF_SPEC, bytes)
+frame_in _ = None
 
-abbrev pub unless_kept : Option (ℕ × List ℕ) → LinkAttribute → Item
-unless_kept (Some frame) v = Item.as_is frame.0 frame.1
-unless_kept None v = Item.named (attribute_number v) (attribute_shown (attribute_name v) v)
+abbrev pub unless_kept : Context → Option (ℕ × List ℕ) → LinkAttribute → Item
+unless_kept cx (Some frame) v = Item.as_is (attribute_name v) frame.0 frame.1
+unless_kept cx None v = Item.named (attribute_number v) (attribute_shown cx (attribute_name v) v)
 
-abbrev pub attribute_item : LinkAttribute → Item
-attribute_item v = unless_kept (kept_in v) v
+abbrev pub attribute_item : Context → LinkAttribute → Item
+attribute_item cx v = unless_kept cx (frame_in v) v
 
 -- ** the header
 
@@ -233,20 +243,26 @@ link_flag_names =
 abbrev pub header_members : List ℕ → Members
 header_members bytes =
     numbered (codes "ifi-type") (number_at w16 bytes 2)
-    ∷ numbered (codes "ifi-index") (number_at w32 bytes 4)
+    ∷ signed (codes "ifi-index") (signed_at w32 bytes 4)
     ∷ (codes "ifi-flags", flags_of link_flag_names (number_at w32 bytes 8))
     ∷ numbered (codes "ifi-change") (number_at w32 bytes 12)
     ∷ []
 
--- what all the attributes of a message say, and its header after the family
-abbrev pub message_members : List ℕ → LinkMessage → Members
-message_members bytes m = header_members bytes ++ members_of (map attribute_item m.attributes)
+-- what is known of a message beside its attributes
+abbrev pub around : Context → LinkMessage → Context
+around cx m = with_address cx m.attributes
 
--- the answer to bytes that mean a message
-abbrev pub message_line : List ℕ → LinkMessage → List ℕ
-message_line bytes m = print (object_of
-    (numbered (codes "ifi-family") (address_family_number m.header.interface_family) ∷ message_members bytes m))
+-- what a message says: its header, and all its attributes
+abbrev pub message_members : Context → List ℕ → LinkMessage → Members
+message_members cx bytes m =
+    numbered (codes "ifi-family") (address_family_number m.header.interface_family)
+    ∷ header_members bytes ++ members_of (map (attribute_item (around cx m)) m.attributes)
+
+-- the answer to bytes that mean a message, with the words in front of them
+unfoldable pub message_line : Members → Context → List ℕ → LinkMessage → List ℕ
+message_line words cx bytes m = print (object_of (words ++ message_members cx bytes m))
 
 -- where the bytes mean a message, its answer was added
-abbrev pub TellsMessage : List ℕ → List ℕ → List ℕ → Type 0
-TellsMessage bytes old new = (m : LinkMessage) → Means bytes m → new ≡ old ++ with_lf (message_line bytes m)
+abbrev pub TellsMessage : Members → Context → List ℕ → List ℕ → List ℕ → Type 0
+TellsMessage words cx bytes old new =
+    (m : LinkMessage) → Means bytes m → new ≡ old ++ with_lf (message_line words cx bytes m)

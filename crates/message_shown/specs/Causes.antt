@@ -1,12 +1,12 @@
 -- The names of causes and their numbers, and what an attribute's frame holds.
-use Rattle.std.specs.Prelude.{◌≡◌, ℕ, List, [], ◌∷◌, bit_and, codes, decimal}
+use Rattle.std.specs.Prelude.{◌≡◌, ℕ, List, [], ◌∷◌, ◌++◌, bit_and, codes, decimal}
 use Rattle.hex.specs.Hex.{encode_lower}
 use Rattle.json.specs.Token.{number, string}
 use Rattle.nla_wire.specs.declared.error.Cause.{Cause}
 use Rattle.nla_wire.specs.declared.error.Cause.TheVariants.{TooShort, FrameShort, FrameOver, FrameUnder, EmptyList}
 use Rattle.nla_wire.specs.declared.error.Cause.TheVariants.{WrongLength, NotUtf8, InvalidState, OutOfMemory}
 use Rattle.nla_wire.specs.declared.error.DecodeError.{DecodeError}
-use Rattle.shown.specs.Drafts.{Draft, Members, with_members, empty_object}
+use Rattle.shown.specs.Drafts.{Draft, Members, with_members}
 use Rattle.shown.specs.Values.{numbered, BitNames, flags_of}
 
 -- the name of a cause
@@ -37,11 +37,17 @@ cause_members OutOfMemory = []
 abbrev pub frame_flags : BitNames
 frame_flags = (0x8000, codes "nested") ∷ (0x4000, codes "net-byteorder") ∷ []
 
--- an attribute as it is: its number, its flags, and its payload in hexadecimal
-abbrev pub frame_members : ℕ → List ℕ → Members
-frame_members kind payload =
+-- a text under a name, where it is not empty
+abbrev pub text_unless_empty : List ℕ → List ℕ → Members
+text_unless_empty name [] = []
+text_unless_empty name (x ∷ text) = (name, string (x ∷ text) ∷ []) ∷ []
+
+-- an attribute as it is: its number, the name that the number has, if any, its flags, and its payload in hexadecimal
+abbrev pub frame_members : List ℕ → ℕ → List ℕ → Members
+frame_members name kind payload =
     (codes "number", number (decimal (bit_and kind 0x3fff)) ∷ [])
-    ∷ (codes "flags", flags_of frame_flags (bit_and kind 0xc000))
+    ∷ text_unless_empty (codes "name") name
+    ++ (codes "flags", flags_of frame_flags (bit_and kind 0xc000))
     ∷ (codes "payload", string (encode_lower payload) ∷ [])
     ∷ []
 
@@ -50,6 +56,6 @@ abbrev pub AddsMembers : Draft → Draft → Type 0
 AddsMembers old new = (more : Members) × (new ≡ with_members more old)
 
 -- what is said of a fault after its cause's name: a place, the numbers of the cause, and more
-abbrev pub IsFaultPage : DecodeError → Draft → Type 0
-IsFaultPage e page = (place : List ℕ) × AddsMembers
-    (with_members ((codes "at", string place ∷ []) ∷ cause_members e.cause) empty_object) page
+abbrev pub AddsFault : DecodeError → Draft → Draft → Type 0
+AddsFault e old new = (place : List ℕ) × AddsMembers
+    (with_members ((codes "at", string place ∷ []) ∷ cause_members e.cause) old) new

@@ -1,15 +1,18 @@
 -- Records of numbers: each field by its name.
-use Rattle.std.specs.Prelude.{ℕ, ℤ, List, [], ◌∷◌, codes}
+use Rattle.std.specs.Prelude.{ℕ, zero, suc, ◌==◌, ℤ, pos, negsuc, List, [], ◌∷◌, ◌++◌, codes, cond, get_or, map}
+use Rattle.std.specs.List.{flat_map}
 use Rattle.std.specs.Int.{w64, cast_unsigned}
 use Rattle.json.specs.Token.{Token}
 use Rattle.shown.specs.Values.{numbered}
-use Rattle.shown.specs.Drafts.{Members}
-use Rattle.message_shown.specs.Records.{signed_tokens}
+use Rattle.shown.specs.Drafts.{Members, object_of, list_of}
+use Rattle.message_shown.specs.Records.{number_tokens, numbers_of, signed_tokens}
+use Rattle.message_shown.specs.declared.context.Order.{Order}
+use Rattle.message_shown.specs.declared.context.Order.TheVariants as Orders
+use Rattle.link_recs.specs.Inet6StatsOrder.{in_order, order_since_6_16}
 use Rattle.link_recs.specs.declared.stats.Stats.{Stats}
 use Rattle.link_recs.specs.declared.stats64.Stats64.{Stats64}
 use Rattle.link_recs.specs.declared.inet.InetDevConf.{InetDevConf}
 use Rattle.link_recs.specs.declared.inet6_devconf.Inet6DevConf.{Inet6DevConf}
-use Rattle.link_recs.specs.declared.inet6_stats.Inet6Stats.{Inet6Stats}
 use Rattle.link_recs.specs.declared.inet6_icmp.Icmp6Stats.{Icmp6Stats}
 use Rattle.link_recs.specs.declared.inet6_cache.Inet6CacheInfo.{Inet6CacheInfo}
 use Rattle.link_recs.specs.declared.map.Map.{Map}
@@ -21,6 +24,15 @@ signed name value = (name, signed_tokens value)
 -- a number of eight bytes that is kept as one that may be below zero, and shown as one that is not
 abbrev pub unsigned : List ℕ → ℤ → List ℕ × List Token
 unsigned name value = numbered name (cast_unsigned w64 value)
+
+-- fields that no kernel sends, where they are not zero
+abbrev pub unless_zero : List ℕ → ℕ → Members
+unless_zero name value = cond (value == 0) [] (numbered name value ∷ [])
+
+abbrev pub signed_unless_zero : List ℕ → ℤ → Members
+signed_unless_zero name (pos zero) = []
+signed_unless_zero name (pos (suc n)) = signed name (pos (suc n)) ∷ []
+signed_unless_zero name (negsuc n) = signed name (negsuc n) ∷ []
 
 -- the counters of four bytes of a link
 abbrev pub stats_shown : Stats → Members
@@ -117,8 +129,7 @@ inet_conf_shown v =
     signed (codes "drop-gratuitous-arp") v.drop_gratuitous_arp ∷
     signed (codes "bc-forwarding") v.bc_forwarding ∷
     signed (codes "arp-evict-nocarrier") v.arp_evict_nocarrier ∷
-    signed (codes "reserved-34") v.reserved_34 ∷
-    []
+    signed_unless_zero (codes "reserved-34") v.reserved_34
 
 -- the settings of IPv6
 abbrev pub inet6_conf_shown : Inet6DevConf → Members
@@ -185,49 +196,41 @@ inet6_conf_shown v =
     signed (codes "force-forwarding") v.force_forwarding ∷
     []
 
--- the counters of IPv6, after how many there are
-abbrev pub inet6_stats_shown : Inet6Stats → Members
-inet6_stats_shown v =
-    unsigned (codes "num") v.num ∷
-    unsigned (codes "inpkts") v.in_pkts ∷
-    unsigned (codes "inoctets") v.in_octets ∷
-    unsigned (codes "indelivers") v.in_delivers ∷
-    unsigned (codes "outforwdatagrams") v.out_forw_datagrams ∷
-    unsigned (codes "outpkts") v.out_requests ∷
-    unsigned (codes "outoctets") v.out_octets ∷
-    unsigned (codes "inhdrerrors") v.in_hdr_errors ∷
-    unsigned (codes "intoobigerrors") v.in_too_big_errors ∷
-    unsigned (codes "innoroutes") v.in_no_routes ∷
-    unsigned (codes "inaddrerrors") v.in_addr_errors ∷
-    unsigned (codes "inunknownprotos") v.in_unknown_protos ∷
-    unsigned (codes "intruncatedpkts") v.in_truncated_pkts ∷
-    unsigned (codes "indiscards") v.in_discards ∷
-    unsigned (codes "outdiscards") v.out_discards ∷
-    unsigned (codes "outnoroutes") v.out_no_routes ∷
-    unsigned (codes "reasmtimeout") v.reasm_timeout ∷
-    unsigned (codes "reasmreqds") v.reasm_reqds ∷
-    unsigned (codes "reasmoks") v.reasm_oks ∷
-    unsigned (codes "reasmfails") v.reasm_fails ∷
-    unsigned (codes "fragoks") v.frag_oks ∷
-    unsigned (codes "fragfails") v.frag_fails ∷
-    unsigned (codes "fragcreates") v.frag_creates ∷
-    unsigned (codes "inmcastpkts") v.in_mcast_pkts ∷
-    unsigned (codes "outmcastpkts") v.out_mcast_pkts ∷
-    unsigned (codes "inbcastpkts") v.in_bcast_pkts ∷
-    unsigned (codes "outbcastpkts") v.out_bcast_pkts ∷
-    unsigned (codes "inmcastoctets") v.in_mcast_octets ∷
-    unsigned (codes "outmcastoctets") v.out_mcast_octets ∷
-    unsigned (codes "inbcastoctets") v.in_bcast_octets ∷
-    unsigned (codes "outbcastoctets") v.out_bcast_octets ∷
-    unsigned (codes "csumerrors") v.in_csum_errors ∷
-    unsigned (codes "noectpkts") v.in_no_ect_pkts ∷
-    unsigned (codes "ect1-pkts") v.in_ect1_pkts ∷
-    unsigned (codes "ect0-pkts") v.in_ect0_pkts ∷
-    unsigned (codes "cepkts") v.in_ce_pkts ∷
-    unsigned (codes "reasm-overlaps") v.reasm_overlaps ∷
-    unsigned (codes "outtransmits") v.out_pkts ∷
-    unsigned (codes "reserved-39") v.reserved_39 ∷
-    []
+-- the names of the counters of IPv6, after that of how many there are
+unfoldable pub inet6_names : List (List ℕ)
+inet6_names =
+    codes "num" ∷ codes "inpkts" ∷ codes "inoctets" ∷ codes "indelivers" ∷ codes "outforwdatagrams" ∷ codes
+    "outpkts" ∷ codes "outoctets" ∷ codes "inhdrerrors" ∷ codes "intoobigerrors" ∷ codes "innoroutes" ∷ codes
+    "inaddrerrors" ∷ codes "inunknownprotos" ∷ codes "intruncatedpkts" ∷ codes "indiscards" ∷ codes "outdiscards" ∷
+    codes "outnoroutes" ∷ codes "reasmtimeout" ∷ codes "reasmreqds" ∷ codes "reasmoks" ∷ codes "reasmfails" ∷ codes
+    "fragoks" ∷ codes "fragfails" ∷ codes "fragcreates" ∷ codes "inmcastpkts" ∷ codes "outmcastpkts" ∷ codes
+    "inbcastpkts" ∷ codes "outbcastpkts" ∷ codes "inmcastoctets" ∷ codes "outmcastoctets" ∷ codes "inbcastoctets" ∷
+    codes "outbcastoctets" ∷ codes "csumerrors" ∷ codes "noectpkts" ∷ codes "ect1-pkts" ∷ codes "ect0-pkts" ∷ codes
+    "cepkts" ∷ codes "reasm-overlaps" ∷ codes "outtransmits" ∷ []
+
+-- numbers without names, as members of a list
+abbrev pub bare : List ℕ → Members
+bare ns = map (λ n. ([], number_tokens n)) ns
+
+-- counters of eight bytes that are kept as numbers that may be below zero
+abbrev pub counters : List ℤ → List ℕ
+counters zs = map (cast_unsigned w64) zs
+
+-- the counters of IPv6 with names
+abbrev pub inet6_named : List ℤ → List Token
+inet6_named zs =
+    object_of
+    (numbers_of inet6_names (counters zs) ++ unless_zero (codes "reserved-39") (get_or (counters zs) 38 0))
+
+-- and as a list
+abbrev pub inet6_bare : List ℤ → List Token
+inet6_bare zs = list_of (flat_map (λ m. m.1) (bare (counters zs)))
+
+-- the counters of IPv6: with names where their order is known
+abbrev pub inet6_stats_shown : Order → List ℤ → List Token
+inet6_stats_shown Orders.Unknown zs = inet6_bare zs
+inet6_stats_shown Orders.Before zs = inet6_named zs
+inet6_stats_shown Orders.Since zs = inet6_named (in_order order_since_6_16 zs)
 
 -- the counters of ICMPv6, after how many there are
 abbrev pub icmp6_stats_shown : Icmp6Stats → Members

@@ -1,8 +1,9 @@
 -- Records of virtual functions: the members that each is shown as.
-use Rattle.std.specs.Prelude.{ℕ, List, [], ◌∷◌, Bool, map, codes}
+use Rattle.std.specs.Prelude.{ℕ, ◌&&◌, List, [], ◌∷◌, Bool, cond, map, nat_lt, take, codes}
 use Rattle.std.specs.List.{flat_map}
 use Rattle.hex.specs.Hex.{encode_lower}
-use Rattle.json.specs.Token.{string}
+use Rattle.json.specs.Token.{Token, string}
+use Rattle.link_info.specs.declared.place.Place.TheVariants as Places
 use Rattle.link_vals.specs.VfLinkStateTable.{vf_link_state_number}
 use Rattle.link_vals.specs.declared.vlan_protocol.VlanProtocol.{VlanProtocol}
 use Rattle.link_vals.specs.declared.vlan_protocol.VlanProtocol.TheVariants.{Ieee8021Q, Ieee8021Ad}
@@ -34,8 +35,10 @@ use Rattle.link_vfrec.specs.declared.rate.VfInfoRate.{VfInfoRate}
 use Rattle.link_vfrec.specs.declared.vf_vlan.VfVlanInfo.{VfVlanInfo}
 use Rattle.link_vfrec.specs.declared.vlan.VfInfoVlan.{VfInfoVlan}
 use Rattle.shown.specs.Drafts.{Members, object_of, list_of}
-use Rattle.shown.specs.Values.{name_or_number, numbered}
+use Rattle.shown.specs.Values.{hardware_address, name_or_number, numbered}
 use Rattle.message_shown.specs.Places.{Item, kept_item, members_of, listed_under}
+use Rattle.message_shown.specs.Rows.{placed_item, whole}
+use Rattle.message_shown.specs.declared.context.Context.{Context}
 
 -- a function, and one number of it
 abbrev pub word_shown : ℕ → List ℕ → ℕ → Members
@@ -45,9 +48,14 @@ word_shown function field value = numbered (codes "vf") function ∷ numbered fi
 abbrev pub setting_shown : ℕ → Bool → Members
 setting_shown function is_on = word_shown function (codes "setting") (on_number is_on)
 
--- all the octets of the address
-abbrev pub mac_shown : VfInfoMac → Members
-mac_shown v = numbered (codes "vf") v.vf_id ∷ (codes "mac", string (encode_lower v.mac) ∷ []) ∷ []
+-- an address of a function: as many bytes as the link's own address has, or all of them
+abbrev pub function_address : Context → List ℕ → List Token
+function_address cx bytes =
+    cond (nat_lt 0 cx.address_len && nat_lt cx.address_len 33)
+    (string (hardware_address (take cx.address_len bytes)) ∷ []) (string (encode_lower bytes) ∷ [])
+
+abbrev pub mac_shown : Context → VfInfoMac → Members
+mac_shown cx v = numbered (codes "vf") v.vf_id ∷ (codes "mac", function_address cx v.mac) ∷ []
 
 abbrev pub vlan_shown : VfInfoVlan → Members
 vlan_shown v =
@@ -104,43 +112,43 @@ vf_vlan_item (Vlans.Info info) =
     Item.named IFLA_VF_VLAN_INFO ((codes "info", object_of (vlan_info_shown info)) ∷ [])
 vf_vlan_item (Vlans.Other nla) = kept_item nla
 
--- of a port every attribute is kept
-abbrev pub vf_port_item : VfPort → Item
-vf_port_item (Ports.Other nla) = kept_item nla
+-- of a port every attribute is shown by the rows of its place
+abbrev pub vf_port_item : Context → VfPort → Item
+vf_port_item cx (Ports.Other nla) = placed_item (whole cx) cx Places.Port nla
 
-abbrev pub vf_info_item : VfInfo → Item
-vf_info_item (Infos.Mac v) = Item.named IFLA_VF_MAC ((codes "mac", object_of (mac_shown v)) ∷ [])
-vf_info_item (Infos.Vlan v) = Item.named IFLA_VF_VLAN ((codes "vlan", object_of (vlan_shown v)) ∷ [])
-vf_info_item (Infos.TxRate v) =
+abbrev pub vf_info_item : Context → VfInfo → Item
+vf_info_item cx (Infos.Mac v) = Item.named IFLA_VF_MAC ((codes "mac", object_of (mac_shown cx v)) ∷ [])
+vf_info_item cx (Infos.Vlan v) = Item.named IFLA_VF_VLAN ((codes "vlan", object_of (vlan_shown v)) ∷ [])
+vf_info_item cx (Infos.TxRate v) =
     Item.named IFLA_VF_TX_RATE ((codes "tx-rate", object_of (word_shown v.vf_id (codes "rate") v.rate)) ∷ [])
-vf_info_item (Infos.SpoofCheck v) =
+vf_info_item cx (Infos.SpoofCheck v) =
     Item.named IFLA_VF_SPOOFCHK ((codes "spoofchk", object_of (setting_shown v.vf_id v.enabled)) ∷ [])
-vf_info_item (Infos.LinkState v) =
+vf_info_item cx (Infos.LinkState v) =
     Item.named IFLA_VF_LINK_STATE ((codes "link-state", object_of (link_state_shown v)) ∷ [])
-vf_info_item (Infos.Rate v) = Item.named IFLA_VF_RATE ((codes "rate", object_of (rate_shown v)) ∷ [])
-vf_info_item (Infos.RssQueryEn v) =
+vf_info_item cx (Infos.Rate v) = Item.named IFLA_VF_RATE ((codes "rate", object_of (rate_shown v)) ∷ [])
+vf_info_item cx (Infos.RssQueryEn v) =
     Item.named IFLA_VF_RSS_QUERY_EN ((codes "rss-query-en", object_of (setting_shown v.vf_id v.enabled)) ∷ [])
-vf_info_item (Infos.Stats items) =
+vf_info_item cx (Infos.Stats items) =
     Item.named IFLA_VF_STATS ((codes "stats", object_of (members_of (map vf_stats_item items))) ∷ [])
-vf_info_item (Infos.Trust v) =
+vf_info_item cx (Infos.Trust v) =
     Item.named IFLA_VF_TRUST ((codes "trust", object_of (setting_shown v.vf_id v.enabled)) ∷ [])
-vf_info_item (Infos.IbNodeGuid v) =
+vf_info_item cx (Infos.IbNodeGuid v) =
     Item.named IFLA_VF_IB_NODE_GUID ((codes "ib-node-guid", object_of (guid_shown v)) ∷ [])
-vf_info_item (Infos.IbPortGuid v) =
+vf_info_item cx (Infos.IbPortGuid v) =
     Item.named IFLA_VF_IB_PORT_GUID ((codes "ib-port-guid", object_of (guid_shown v)) ∷ [])
-vf_info_item (Infos.VlanList items) =
+vf_info_item cx (Infos.VlanList items) =
     Item.named IFLA_VF_VLAN_LIST
     ((codes "vlan-list", object_of (listed_under (codes "info") (map vf_vlan_item items))) ∷ [])
-vf_info_item (Infos.Broadcast v) =
-    Item.named IFLA_VF_BROADCAST ((codes "broadcast", string (encode_lower v.addr) ∷ []) ∷ [])
-vf_info_item (Infos.Other nla) = kept_item nla
+vf_info_item cx (Infos.Broadcast v) =
+    Item.named IFLA_VF_BROADCAST ((codes "broadcast", function_address cx v.addr) ∷ [])
+vf_info_item cx (Infos.Other nla) = kept_item nla
 
 -- all that a function holds, and all that a port holds
-abbrev pub function_members : LinkVfInfo → Members
-function_members entry = members_of (map vf_info_item entry.0)
+abbrev pub function_members : Context → LinkVfInfo → Members
+function_members cx entry = members_of (map (vf_info_item cx) entry.0)
 
-abbrev pub port_members : LinkVfPort → Members
-port_members entry = members_of (map vf_port_item entry.0)
+abbrev pub port_members : Context → LinkVfPort → Members
+port_members cx entry = members_of (map (vf_port_item cx) entry.0)
 
 -- a list of objects, under a name
 abbrev pub objects_under : List ℕ → List Members → Members

@@ -1,5 +1,8 @@
 pub mod Causes
 pub mod Places
+pub mod Contexts
+pub mod Worded
+pub mod Rows
 pub mod Lines
 pub mod Answered
 pub mod Records

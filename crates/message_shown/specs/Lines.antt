@@ -1,5 +1,6 @@
 -- What each line is answered.
 use Rattle.std.specs.Prelude.{◌≡◌, ℕ, List, [], ◌∷◌, ◌++◌, codes, decimal, Result, Ok, Err}
+use Rattle.std.specs.List.{flat_map}
 use Rattle.hex.specs.Hex.{decode_of}
 use Rattle.hex.specs.declared.error.FromHexError.{FromHexError}
 use Rattle.json.specs.Token.{Token, begin_object, key, string, number}
@@ -8,36 +9,54 @@ use Rattle.link_vals.specs.AddressFamilyTable.{address_family_number}
 use Rattle.link_msg.specs.Messages.{Means, FirstFault}
 use Rattle.link_msg.specs.declared.message.LinkMessage.{LinkMessage}
 use Rattle.message_shown.specs.Causes.{cause_text}
+use Rattle.shown.specs.Drafts.{Members}
 use Rattle.shown.specs.Pages.{IsObject}
+use Rattle.shown.specs.Values.{numbered}
 use Rattle.line_filter.specs.Lines.{with_lf}
 use Rattle.line_filter.specs.Steps as steps
+use Rattle.line_filter.specs.Words.{front_of, rest_of}
+use Rattle.message_shown.specs.Worded.{words_shown}
+
+-- how an answer begins: the words in front of the line, and a member
+abbrev pub head : Members → List ℕ × List Token → List Token
+head words member = begin_object ∷ flat_map (λ m. key m.0 ∷ m.1) (words ++ member ∷ [])
 
 -- how the answer begins to bytes that are refused for a cause
-abbrev pub fault_head : Cause → List Token
-fault_head c = begin_object ∷ key (codes "fault") ∷ string (cause_text c) ∷ []
+abbrev pub fault_member : Cause → List ℕ × List Token
+fault_member c = (codes "fault", string (cause_text c) ∷ [])
+
+abbrev pub fault_head : Members → Cause → List Token
+fault_head words c = head words (fault_member c)
 
 -- how the answer begins to bytes that mean a message
-abbrev pub message_head : LinkMessage → List Token
-message_head m =
-    begin_object ∷ key (codes "ifi-family") ∷ number (decimal (address_family_number m.header.interface_family)) ∷ []
+abbrev pub family_member : LinkMessage → List ℕ × List Token
+family_member m = numbered (codes "ifi-family") (address_family_number m.header.interface_family)
 
--- what a line is answered that spells these bytes
-pub data IsAnswerTo (bytes answer : List ℕ) : Type 0 where
-  fault : (c : Cause) → FirstFault bytes c → IsObject (fault_head c) answer → IsAnswerTo bytes answer
-  message : (m : LinkMessage) → Means bytes m → IsObject (message_head m) answer → IsAnswerTo bytes answer
+abbrev pub message_head : Members → LinkMessage → List Token
+message_head words m = head words (family_member m)
+
+-- what a line is answered that spells these bytes, with these words in front of them
+pub data IsAnswerTo (words : Members) (bytes answer : List ℕ) : Type 0 where
+  fault : (c : Cause) → FirstFault bytes c → IsObject (fault_head words c) answer → IsAnswerTo words bytes answer
+  message : (m : LinkMessage) → Means bytes m → IsObject (message_head words m) answer → IsAnswerTo words bytes answer
 
 -- a line that is no even number of hexadecimal digits spells no bytes
-abbrev pub IsAnswerToSpelled : Result (List ℕ) FromHexError → List ℕ → Type 0
-IsAnswerToSpelled (Ok bytes) answer = IsAnswerTo bytes answer
-IsAnswerToSpelled (Err _) answer = answer ≡ codes "{\"fault\":\"not-hex\"}"
+abbrev pub IsAnswerToSpelled : Members → Result (List ℕ) FromHexError → List ℕ → Type 0
+IsAnswerToSpelled words (Ok bytes) answer = IsAnswerTo words bytes answer
+IsAnswerToSpelled words (Err _) answer = answer ≡ codes "{\"fault\":\"not-hex\"}"
 
 -- what a line is answered
 abbrev pub IsAnswer : List ℕ → List ℕ → Type 0
-IsAnswer line answer = IsAnswerToSpelled (decode_of line) answer
+IsAnswer line answer = IsAnswerToSpelled (words_shown (front_of line)) (decode_of (rest_of line)) answer
 
 -- the answer to a line that spells these bytes was added
-abbrev pub AddsAnswerTo : List ℕ → List ℕ → List ℕ → Type 0
-AddsAnswerTo bytes old new = (answer : List ℕ) × IsAnswerTo bytes answer × (new ≡ old ++ with_lf answer)
+abbrev pub AddsAnswerTo : Members → List ℕ → List ℕ → List ℕ → Type 0
+AddsAnswerTo words bytes old new = (answer : List ℕ) × IsAnswerTo words bytes answer × (new ≡ old ++ with_lf answer)
+
+-- and to digits
+abbrev pub AddsSpelled : Members → List ℕ → List ℕ → List ℕ → Type 0
+AddsSpelled words digits old new =
+    (answer : List ℕ) × IsAnswerToSpelled words (decode_of digits) answer × (new ≡ old ++ with_lf answer)
 
 -- the answer to the line was added
 abbrev pub AddsAnswer : List ℕ → List ℕ → List ℕ → Type 0

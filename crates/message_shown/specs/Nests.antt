@@ -1,5 +1,9 @@
 -- Members of the flat inner lists, and wireless events: what each is shown as.
-use Rattle.std.specs.Prelude.{ℕ, List, [], ◌∷◌, codes}
+use Rattle.std.specs.Prelude.{ℕ, ◌+◌, ◌==◌, List, [], ◌∷◌, codes, cond, drop, length}
+use Rattle.std.specs.Int.{w16}
+use Rattle.nla_wire.specs.Fields.{number_at}
+use Rattle.nla_wire.specs.Frames.{number}
+use Rattle.link_info.specs.declared.place.Place.TheVariants as Places
 use Rattle.hex.specs.Hex.{encode_lower}
 use Rattle.json.specs.Token.{Token, string}
 use Rattle.link_afspec.specs.declared.bridge.AfSpecBridge.{AfSpecBridge}
@@ -26,7 +30,10 @@ use Rattle.link_vals.specs.XdpAttachedTable.{xdp_attached_number}
 use Rattle.shown.specs.Drafts.{Members}
 use Rattle.shown.specs.Values.{name_or_number, numbered}
 use Rattle.message_shown.specs.Counters.{signed}
+use Rattle.message_shown.specs.Contexts.{info_row}
 use Rattle.message_shown.specs.Places.{Item, kept_item}
+use Rattle.message_shown.specs.Rows.{row_item, placed_item, whole}
+use Rattle.message_shown.specs.declared.context.Context.{Context}
 use Rattle.link_nest.specs.declared.numbers.TheConstants.{IFLA_ALT_IFNAME, DEVLINK_ATTR_BUS_NAME}
 use Rattle.link_nest.specs.declared.numbers.TheConstants.{DEVLINK_ATTR_DEV_NAME, DEVLINK_ATTR_PORT_INDEX}
 use Rattle.link_nest.specs.declared.numbers.TheConstants.{DPLL_A_PIN_ID, IFLA_PROTO_DOWN_REASON_MASK}
@@ -43,9 +50,10 @@ named_text name value = (name, string value ∷ [])
 abbrev pub named_hex : List ℕ → List ℕ → List ℕ × List Token
 named_hex name bytes = (name, string (encode_lower bytes) ∷ [])
 
-abbrev pub link_info_item : LinkInfo → Item
-link_info_item (Infos.Kind text) = Item.named IFLA_INFO_KIND (named_text (codes "kind") text ∷ [])
-link_info_item (Infos.Other nla) = kept_item nla
+-- the kinds of a link, and their data
+abbrev pub link_info_item : Context → LinkInfo → Item
+link_info_item cx (Infos.Kind text) = Item.named IFLA_INFO_KIND (named_text (codes "kind") text ∷ [])
+link_info_item cx (Infos.Other nla) = row_item (whole cx) (info_row cx (number nla)) nla
 
 abbrev pub prop_item : Prop → Item
 prop_item (Props.AltIfName text) = Item.named IFLA_ALT_IFNAME (named_text (codes "alt-ifname") text ∷ [])
@@ -82,18 +90,22 @@ xdp_item (Xdps.HwProgId n) = Item.named IFLA_XDP_HW_PROG_ID (numbered (codes "hw
 xdp_item (Xdps.ExpectedFd n) = Item.named IFLA_XDP_EXPECTED_FD (numbered (codes "expected-fd") n ∷ [])
 xdp_item (Xdps.Other nla) = kept_item nla
 
--- of these every one is kept
-abbrev pub bridge_item : LinkProtoInfoBridge → Item
-bridge_item (BridgeInfos.Other nla) = kept_item nla
+-- of these every one is shown by the rows of its place
+abbrev pub bridge_item : Context → LinkProtoInfoBridge → Item
+bridge_item cx (BridgeInfos.Other nla) = placed_item (whole cx) cx Places.BridgePort nla
 
-abbrev pub proto_inet6_item : LinkProtoInfoInet6 → Item
-proto_inet6_item (Inet6Infos.Other nla) = kept_item nla
+abbrev pub proto_inet6_item : Context → LinkProtoInfoInet6 → Item
+proto_inet6_item cx (Inet6Infos.Other nla) = placed_item (whole cx) cx Places.Inet6 nla
 
-abbrev pub af_spec_bridge_item : AfSpecBridge → Item
-af_spec_bridge_item (Bridges.Other nla) = kept_item nla
+abbrev pub af_spec_bridge_item : Context → AfSpecBridge → Item
+af_spec_bridge_item cx (Bridges.Other nla) = placed_item (whole cx) cx Places.BridgeSpec nla
+
+-- the information elements, without the eight bytes in front of them that begin with the length of what follows
+abbrev pub elements_in : List ℕ → List ℕ
+elements_in bytes = cond (number_at w16 bytes 0 + 8 == length bytes) (drop 8 bytes) bytes
 
 -- the information elements of an association, or any other payload
 abbrev pub wireless_shown : WirelessEvent → Members
-wireless_shown (Events.AssociateRequest bytes) = named_hex (codes "assocreqie") bytes ∷ []
-wireless_shown (Events.AssociateResponse bytes) = named_hex (codes "assocrespie") bytes ∷ []
+wireless_shown (Events.AssociateRequest bytes) = named_hex (codes "assocreqie") (elements_in bytes) ∷ []
+wireless_shown (Events.AssociateResponse bytes) = named_hex (codes "assocrespie") (elements_in bytes) ∷ []
 wireless_shown (Events.Other bytes) = named_hex (codes "payload") bytes ∷ []

@@ -1,6 +1,7 @@
 -- The number of each attribute that has a name is that of its kind, and below 128.
-use Rattle.std.specs.Prelude.{◌≡◌, ℕ, ◌<◌, List, Option, None, Some, refl}
-use Rattle.std.proofs.Common.{lit<}
+use Rattle.std.specs.Prelude.{◌≡◌, ℕ, ◌<◌, List, Option, None, Some, Bool, true, false, bit_and, cond, nat_lt, refl}
+use Rattle.std.proofs.Common.{lit<, arith}
+use Rattle.std.proofs.lemmas.Bool.Decides.{nat_tests}
 use Rattle.link_nest.specs.Tables.{link_info_place, prop_place, devlink_port_place, dpll_pin_place, down_reason_place}
 use Rattle.link_nest.specs.Tables.{xdp_place}
 use Rattle.link_vf.specs.Tables.{vf_stats_place, vf_vlan_place, vf_port_place, vf_info_place}
@@ -43,17 +44,43 @@ use Rattle.link_vf.specs.declared.vf_info.VfInfo.{VfInfo}
 use Rattle.link_vf.specs.declared.vf_info.VfInfo.TheVariants as VfInfos
 use Rattle.link_msg.specs.declared.attribute.LinkAttribute.{LinkAttribute}
 use Rattle.link_msg.specs.declared.attribute.LinkAttribute.TheVariants as Attributes
-use Rattle.message_shown.specs.Places.{IsNumbered}
+use Rattle.shown.specs.Drafts.{Members}
+use Rattle.message_shown.specs.Places.{Item, IsNumbered, kept_item}
 use Rattle.message_shown.specs.Nests.{link_info_item, prop_item, devlink_port_item, dpll_pin_item, down_reason_item}
 use Rattle.message_shown.specs.Nests.{xdp_item, bridge_item, proto_inet6_item, af_spec_bridge_item}
 use Rattle.message_shown.specs.Settings.{inet_item, inet6_item, mctp_item, unspec_item}
 use Rattle.message_shown.specs.Functions.{vf_stats_item, vf_vlan_item, vf_port_item, vf_info_item}
-use Rattle.message_shown.specs.Attributes.{attribute_item, attribute_number, kept_in, unless_kept}
+use Rattle.nla_wire.specs.Frames.{Frame, number}
+use Rattle.link_info.specs.Places.{rows_of}
+use Rattle.link_info.specs.Tables.{row_at}
+use Rattle.link_info.specs.declared.place.Place.{Place}
+use Rattle.link_info.specs.declared.place.Place.TheVariants as Places
+use Rattle.message_shown.specs.Attributes.{attribute_item, attribute_number, frame_in, unless_kept}
+use Rattle.message_shown.specs.Contexts.{Known, info_row, of_row}
+use Rattle.message_shown.specs.Rows.{Nesting, row_item, placed_item, whole}
+use Rattle.message_shown.specs.declared.context.Context.{Context}
 
-pub link_info_numbered : (v : LinkInfo) → IsNumbered (link_info_place.frame v).kind (link_info_item v)
+-- ** by rows
+
+named_numbered : (n : ℕ) (small : Bool) → nat_lt n 128 ≡ small → (ms : Members) (f : Frame)
+    → n ≡ bit_and f.kind 0x3fff → IsNumbered f.kind (cond small (Item.named n ms) (kept_item f))
+named_numbered n true is ms f e = (e, grind (arith, nat_tests))
+named_numbered n false is ms f e = tt
+
+pub row_numbered : (nest : Nesting) (known : Option Known) (f : Frame) → IsNumbered f.kind (row_item nest known f)
+row_numbered nest None f = tt
+row_numbered nest (Some known) f =
+    named_numbered (bit_and f.kind 0x3fff) (nat_lt (bit_and f.kind 0x3fff) 128) refl _ f refl
+
+pub placed_numbered : (cx : Context) (place : Place) (f : Frame) → IsNumbered f.kind (placed_item (whole cx) cx place f)
+placed_numbered cx place f = row_numbered (whole cx) (of_row (row_at (rows_of cx.tables.now place) (number f))) f
+
+-- ** one after the other
+
+pub link_info_numbered : (cx : Context) (v : LinkInfo) → IsNumbered (link_info_place.frame v).kind (link_info_item cx v)
 unfolding link_info_place
-link_info_numbered (LinkInfos.Kind _) = (refl, lit< tt)
-link_info_numbered (LinkInfos.Other _) = tt
+link_info_numbered cx (LinkInfos.Kind _) = (refl, lit< tt)
+link_info_numbered cx (LinkInfos.Other nla) = row_numbered (whole cx) (info_row cx (number nla)) nla
 
 pub prop_numbered : (v : Prop) → IsNumbered (prop_place.frame v).kind (prop_item v)
 unfolding prop_place
@@ -91,19 +118,20 @@ xdp_numbered (LinkXdps.HwProgId _) = (refl, lit< tt)
 xdp_numbered (LinkXdps.ExpectedFd _) = (refl, lit< tt)
 xdp_numbered (LinkXdps.Other _) = tt
 
-pub bridge_numbered : (v : LinkProtoInfoBridge) → IsNumbered (link_proto_info_bridge_place.frame v).kind (bridge_item v)
+pub bridge_numbered : (cx : Context) (v : LinkProtoInfoBridge)
+    → IsNumbered (link_proto_info_bridge_place.frame v).kind (bridge_item cx v)
 unfolding link_proto_info_bridge_place
-bridge_numbered (LinkProtoInfoBridges.Other _) = tt
+bridge_numbered cx (LinkProtoInfoBridges.Other nla) = placed_numbered cx Places.BridgePort nla
 
-pub proto_inet6_numbered : (v : LinkProtoInfoInet6)
-    → IsNumbered (link_proto_info_inet6_place.frame v).kind (proto_inet6_item v)
+pub proto_inet6_numbered : (cx : Context) (v : LinkProtoInfoInet6)
+    → IsNumbered (link_proto_info_inet6_place.frame v).kind (proto_inet6_item cx v)
 unfolding link_proto_info_inet6_place
-proto_inet6_numbered (LinkProtoInfoInet6s.Other _) = tt
+proto_inet6_numbered cx (LinkProtoInfoInet6s.Other nla) = placed_numbered cx Places.Inet6 nla
 
-pub af_spec_bridge_numbered : (v : AfSpecBridge)
-    → IsNumbered (af_spec_bridge_place.frame v).kind (af_spec_bridge_item v)
+pub af_spec_bridge_numbered : (cx : Context) (v : AfSpecBridge)
+    → IsNumbered (af_spec_bridge_place.frame v).kind (af_spec_bridge_item cx v)
 unfolding af_spec_bridge_place
-af_spec_bridge_numbered (AfSpecBridges.Other _) = tt
+af_spec_bridge_numbered cx (AfSpecBridges.Other nla) = placed_numbered cx Places.BridgeSpec nla
 
 pub inet_numbered : (v : AfSpecInet) → IsNumbered (af_spec_inet_place.frame v).kind (inet_item v)
 unfolding af_spec_inet_place
@@ -111,17 +139,17 @@ inet_numbered (AfSpecInets.DevConf _) = (refl, lit< tt)
 inet_numbered (AfSpecInets.DevConfRequest _) = (refl, lit< tt)
 inet_numbered (AfSpecInets.Other _) = tt
 
-pub inet6_numbered : (v : AfSpecInet6) → IsNumbered (af_spec_inet6_place.frame v).kind (inet6_item v)
+pub inet6_numbered : (cx : Context) (v : AfSpecInet6) → IsNumbered (af_spec_inet6_place.frame v).kind (inet6_item cx v)
 unfolding af_spec_inet6_place
-inet6_numbered (AfSpecInet6s.Flags _) = (refl, lit< tt)
-inet6_numbered (AfSpecInet6s.CacheInfo _) = (refl, lit< tt)
-inet6_numbered (AfSpecInet6s.DevConf _) = (refl, lit< tt)
-inet6_numbered (AfSpecInet6s.Stats _) = (refl, lit< tt)
-inet6_numbered (AfSpecInet6s.Icmp6Stats _) = (refl, lit< tt)
-inet6_numbered (AfSpecInet6s.Token _) = (refl, lit< tt)
-inet6_numbered (AfSpecInet6s.AddrGenMode _) = (refl, lit< tt)
-inet6_numbered (AfSpecInet6s.RaMtu _) = (refl, lit< tt)
-inet6_numbered (AfSpecInet6s.Other _) = tt
+inet6_numbered cx (AfSpecInet6s.Flags _) = (refl, lit< tt)
+inet6_numbered cx (AfSpecInet6s.CacheInfo _) = (refl, lit< tt)
+inet6_numbered cx (AfSpecInet6s.DevConf _) = (refl, lit< tt)
+inet6_numbered cx (AfSpecInet6s.Stats _) = (refl, lit< tt)
+inet6_numbered cx (AfSpecInet6s.Icmp6Stats _) = (refl, lit< tt)
+inet6_numbered cx (AfSpecInet6s.Token _) = (refl, lit< tt)
+inet6_numbered cx (AfSpecInet6s.AddrGenMode _) = (refl, lit< tt)
+inet6_numbered cx (AfSpecInet6s.RaMtu _) = (refl, lit< tt)
+inet6_numbered cx (AfSpecInet6s.Other _) = tt
 
 pub mctp_numbered : (v : AfSpecMctp) → IsNumbered (af_spec_mctp_place.frame v).kind (mctp_item v)
 unfolding af_spec_mctp_place
@@ -129,12 +157,13 @@ mctp_numbered (AfSpecMctps.Net _) = (refl, lit< tt)
 mctp_numbered (AfSpecMctps.PhysBinding _) = (refl, lit< tt)
 mctp_numbered (AfSpecMctps.Other _) = tt
 
-pub unspec_numbered : (v : AfSpecUnspec) → IsNumbered (af_spec_unspec_place.frame v).kind (unspec_item v)
+pub unspec_numbered : (cx : Context) (v : AfSpecUnspec)
+    → IsNumbered (af_spec_unspec_place.frame v).kind (unspec_item cx v)
 unfolding af_spec_unspec_place
-unspec_numbered (AfSpecUnspecs.Inet _) = (refl, lit< tt)
-unspec_numbered (AfSpecUnspecs.Inet6 _) = (refl, lit< tt)
-unspec_numbered (AfSpecUnspecs.Mctp _) = (refl, lit< tt)
-unspec_numbered (AfSpecUnspecs.Other _) = tt
+unspec_numbered cx (AfSpecUnspecs.Inet _) = (refl, lit< tt)
+unspec_numbered cx (AfSpecUnspecs.Inet6 _) = (refl, lit< tt)
+unspec_numbered cx (AfSpecUnspecs.Mctp _) = (refl, lit< tt)
+unspec_numbered cx (AfSpecUnspecs.Other _) = tt
 
 pub vf_stats_numbered : (v : VfStats) → IsNumbered (vf_stats_place.frame v).kind (vf_stats_item v)
 unfolding vf_stats_place
@@ -153,28 +182,28 @@ unfolding vf_vlan_place
 vf_vlan_numbered (VfVlans.Info _) = (refl, lit< tt)
 vf_vlan_numbered (VfVlans.Other _) = tt
 
-pub vf_port_numbered : (v : VfPort) → IsNumbered (vf_port_place.frame v).kind (vf_port_item v)
+pub vf_port_numbered : (cx : Context) (v : VfPort) → IsNumbered (vf_port_place.frame v).kind (vf_port_item cx v)
 unfolding vf_port_place
-vf_port_numbered (VfPorts.Other _) = tt
+vf_port_numbered cx (VfPorts.Other nla) = placed_numbered cx Places.Port nla
 
-pub vf_info_numbered : (v : VfInfo) → IsNumbered (vf_info_place.frame v).kind (vf_info_item v)
+pub vf_info_numbered : (cx : Context) (v : VfInfo) → IsNumbered (vf_info_place.frame v).kind (vf_info_item cx v)
 unfolding vf_info_place
-vf_info_numbered (VfInfos.Mac _) = (refl, lit< tt)
-vf_info_numbered (VfInfos.Vlan _) = (refl, lit< tt)
-vf_info_numbered (VfInfos.TxRate _) = (refl, lit< tt)
-vf_info_numbered (VfInfos.SpoofCheck _) = (refl, lit< tt)
-vf_info_numbered (VfInfos.LinkState _) = (refl, lit< tt)
-vf_info_numbered (VfInfos.Rate _) = (refl, lit< tt)
-vf_info_numbered (VfInfos.RssQueryEn _) = (refl, lit< tt)
-vf_info_numbered (VfInfos.Stats _) = (refl, lit< tt)
-vf_info_numbered (VfInfos.Trust _) = (refl, lit< tt)
-vf_info_numbered (VfInfos.IbNodeGuid _) = (refl, lit< tt)
-vf_info_numbered (VfInfos.IbPortGuid _) = (refl, lit< tt)
-vf_info_numbered (VfInfos.VlanList _) = (refl, lit< tt)
-vf_info_numbered (VfInfos.Broadcast _) = (refl, lit< tt)
-vf_info_numbered (VfInfos.Other _) = tt
+vf_info_numbered cx (VfInfos.Mac _) = (refl, lit< tt)
+vf_info_numbered cx (VfInfos.Vlan _) = (refl, lit< tt)
+vf_info_numbered cx (VfInfos.TxRate _) = (refl, lit< tt)
+vf_info_numbered cx (VfInfos.SpoofCheck _) = (refl, lit< tt)
+vf_info_numbered cx (VfInfos.LinkState _) = (refl, lit< tt)
+vf_info_numbered cx (VfInfos.Rate _) = (refl, lit< tt)
+vf_info_numbered cx (VfInfos.RssQueryEn _) = (refl, lit< tt)
+vf_info_numbered cx (VfInfos.Stats _) = (refl, lit< tt)
+vf_info_numbered cx (VfInfos.Trust _) = (refl, lit< tt)
+vf_info_numbered cx (VfInfos.IbNodeGuid _) = (refl, lit< tt)
+vf_info_numbered cx (VfInfos.IbPortGuid _) = (refl, lit< tt)
+vf_info_numbered cx (VfInfos.VlanList _) = (refl, lit< tt)
+vf_info_numbered cx (VfInfos.Broadcast _) = (refl, lit< tt)
+vf_info_numbered cx (VfInfos.Other _) = tt
 
-attribute_small : (v : LinkAttribute) → kept_in v ≡ None → attribute_number v < 128
+attribute_small : (v : LinkAttribute) → frame_in v ≡ None → attribute_number v < 128
 unfolding attribute_view
 attribute_small (Attributes.Address _) none = lit< tt
 attribute_small (Attributes.Broadcast _) none = lit< tt
@@ -245,10 +274,10 @@ attribute_small (Attributes.Headroom _) none = lit< tt
 attribute_small (Attributes.Tailroom _) none = lit< tt
 attribute_small (Attributes.Other _) none = absurd cc
 
-unless_kept_numbered : (v : LinkAttribute) (kept : Option (ℕ × List ℕ)) → kept_in v ≡ kept
-    → IsNumbered (attribute_frame v).kind (unless_kept kept v)
-unless_kept_numbered v (Some frame) is = tt
-unless_kept_numbered v None is = (refl, attribute_small v is)
+unless_kept_numbered : (cx : Context) (v : LinkAttribute) (kept : Option (ℕ × List ℕ)) → frame_in v ≡ kept
+    → IsNumbered (attribute_frame v).kind (unless_kept cx kept v)
+unless_kept_numbered cx v (Some frame) is = tt
+unless_kept_numbered cx v None is = (refl, attribute_small v is)
 
-pub attribute_numbered : (v : LinkAttribute) → IsNumbered (attribute_frame v).kind (attribute_item v)
-attribute_numbered v = unless_kept_numbered v (kept_in v) refl
+pub attribute_numbered : (cx : Context) (v : LinkAttribute) → IsNumbered (attribute_frame v).kind (attribute_item cx v)
+attribute_numbered cx v = unless_kept_numbered cx v (frame_in v) refl

@@ -7,34 +7,38 @@ use Rattle.nla_wire.specs.Frames.{Frame}
 use Rattle.shown.specs.Drafts.{Members, object_of, list_of}
 use Rattle.message_shown.specs.Causes.{frame_members}
 
--- an attribute: its number, and what it is under its name; or one that is kept as it is, its kind and its payload
+-- an attribute: its number, and what it is under its name; or one that is kept as it is: the name that its number has
+-- all the same, if any, its kind and its payload
 pub data Item : Type 0 where
   named : ℕ → Members → Item
-  as_is : ℕ → List ℕ → Item
+  as_is : List ℕ → ℕ → List ℕ → Item
 
 -- one that is kept
 abbrev pub kept_item : Frame → Item
-kept_item nla = Item.as_is nla.kind nla.payload
+kept_item nla = Item.as_is [] nla.kind nla.payload
 
 -- what an attribute is under its name
 abbrev pub shown_as : Item → Members
 shown_as (Item.named n ms) = ms
-shown_as (Item.as_is kind payload) = []
+shown_as (Item.as_is name kind payload) = []
 
--- kind and payload of one that is kept
-abbrev pub frame_in : Item → Option (ℕ × List ℕ)
-frame_in (Item.named n ms) = None
-frame_in (Item.as_is kind payload) = Some (kind, payload)
+-- name, kind and payload of one that is kept
+abbrev pub Kept : Type 0
+Kept = List ℕ × (ℕ × List ℕ)
+
+abbrev pub kept_in : Item → Option Kept
+kept_in (Item.named n ms) = None
+kept_in (Item.as_is name kind payload) = Some (name, (kind, payload))
 
 -- the number of one that has a name
 abbrev pub number_in : Item → Option ℕ
 number_in (Item.named n ms) = Some n
-number_in (Item.as_is kind payload) = None
+number_in (Item.as_is name kind payload) = None
 
 -- whether it has a name, and this number
 abbrev pub has_number : ℕ → Item → Bool
 has_number n (Item.named m ms) = m == n
-has_number n (Item.as_is kind payload) = false
+has_number n (Item.as_is name kind payload) = false
 
 -- whether one of them has a name, and this number
 abbrev pub comes_in : ℕ → List Item → Bool
@@ -44,25 +48,25 @@ comes_in n items = list_any (has_number n) items
 abbrev pub last_ones : List Item → Members
 last_ones [] = []
 last_ones (Item.named n ms ∷ items) = cond (comes_in n items) [] ms ++ last_ones items
-last_ones (Item.as_is kind payload ∷ items) = last_ones items
+last_ones (Item.as_is name kind payload ∷ items) = last_ones items
 
 -- those after which another of their name stands
 abbrev pub earlier_ones : List Item → List Members
 earlier_ones [] = []
 earlier_ones (Item.named n ms ∷ items) = cond (comes_in n items) (ms ∷ []) [] ++ earlier_ones items
-earlier_ones (Item.as_is kind payload ∷ items) = earlier_ones items
+earlier_ones (Item.as_is name kind payload ∷ items) = earlier_ones items
 
 -- those that have a name
 abbrev pub named_ones : List Item → List Members
 named_ones [] = []
 named_ones (Item.named n ms ∷ items) = ms ∷ named_ones items
-named_ones (Item.as_is kind payload ∷ items) = named_ones items
+named_ones (Item.as_is name kind payload ∷ items) = named_ones items
 
 -- those that are kept
 abbrev pub kept_ones : List Item → List Members
 kept_ones [] = []
 kept_ones (Item.named n ms ∷ items) = kept_ones items
-kept_ones (Item.as_is kind payload ∷ items) = frame_members kind payload ∷ kept_ones items
+kept_ones (Item.as_is name kind payload ∷ items) = frame_members name kind payload ∷ kept_ones items
 
 -- whether there are any
 abbrev pub are_any : {A : Type 0} → List A → Bool
@@ -85,13 +89,13 @@ values_of members = flat_map (λ m. m.1) members
 
 -- all attributes of a place in which those that have a name stand in one list
 abbrev pub listed_under : List ℕ → List Item → Members
-listed_under name items = list_under name (map values_of (named_ones items))
-    ++ list_under (codes "other") (map object_of (kept_ones items))
+listed_under name items = (name, list_of (flat_map values_of (named_ones items)))
+    ∷ list_under (codes "other") (map object_of (kept_ones items))
 
 -- a named attribute's number is that of its kind, and small
 abbrev pub IsNumbered : ℕ → Item → Type 0
 IsNumbered kind (Item.named n ms) = (n ≡ bit_and kind 0x3fff) × (n < 128)
-IsNumbered kind (Item.as_is _ _) = Unit
+IsNumbered kind (Item.as_is _ _ _) = Unit
 
 -- ** for the calls that go over a place's attributes
 
@@ -102,5 +106,5 @@ objects os = map (λ o. ([], object_of o)) os
 -- the table tells, of each attribute that has a name, whether it is the last one of its name
 abbrev pub TellsLast : List Item → List ℕ → Type 0
 TellsLast items table = (i n : ℕ) → i < length items → n < 128
-    → number_in (get_or items i (Item.as_is 0 [])) ≡ Some n
+    → number_in (get_or items i (Item.as_is [] 0 [])) ≡ Some n
     → (slice_index table n == i) ≡ not (comes_in n (drop (i + 1) items))

@@ -16,7 +16,9 @@ use Rattle.shown.specs.Drafts.{object_of}
 use Rattle.shown.specs.Values.{BitNames, name_or_number, numbered, flags_of}
 use Rattle.message_shown.specs.Counters.{inet_conf_shown, inet6_conf_shown, inet6_stats_shown, icmp6_stats_shown}
 use Rattle.message_shown.specs.Counters.{cache_info_shown}
+use Rattle.link_recs.specs.Inet6StatsFields.{inet6_stats_fields}
 use Rattle.message_shown.specs.Places.{Item, kept_item, members_of}
+use Rattle.message_shown.specs.declared.context.Context.{Context}
 use Rattle.link_afspec.specs.declared.numbers.TheConstants.{IFLA_INET_CONF, IFLA_INET6_FLAGS, IFLA_INET6_CONF}
 use Rattle.link_afspec.specs.declared.numbers.TheConstants.{IFLA_INET6_STATS, IFLA_INET6_CACHEINFO}
 use Rattle.link_afspec.specs.declared.numbers.TheConstants.{IFLA_INET6_ICMP6STATS, IFLA_INET6_TOKEN}
@@ -46,24 +48,25 @@ inet6_flags =
 abbrev pub gen_mode_names : List (List ℕ)
 gen_mode_names = codes "eui64" ∷ codes "none" ∷ codes "stable-privacy" ∷ codes "random" ∷ []
 
-abbrev pub inet6_item : AfSpecInet6 → Item
-inet6_item (Inet6s.Flags flags) =
+abbrev pub inet6_item : Context → AfSpecInet6 → Item
+inet6_item cx (Inet6s.Flags flags) =
     Item.named IFLA_INET6_FLAGS ((codes "flags", flags_of inet6_flags (inet6_iface_flags_bits flags)) ∷ [])
-inet6_item (Inet6s.CacheInfo info) =
+inet6_item cx (Inet6s.CacheInfo info) =
     Item.named IFLA_INET6_CACHEINFO ((codes "cacheinfo", object_of (cache_info_shown info)) ∷ [])
-inet6_item (Inet6s.DevConf conf) =
+inet6_item cx (Inet6s.DevConf conf) =
     Item.named IFLA_INET6_CONF ((codes "conf", object_of (inet6_conf_shown conf)) ∷ [])
-inet6_item (Inet6s.Stats stats) =
-    Item.named IFLA_INET6_STATS ((codes "stats", object_of (inet6_stats_shown stats)) ∷ [])
-inet6_item (Inet6s.Icmp6Stats stats) =
+inet6_item cx (Inet6s.Stats stats) =
+    Item.named IFLA_INET6_STATS
+    ((codes "stats", inet6_stats_shown cx.order (inet6_stats_fields stats)) ∷ [])
+inet6_item cx (Inet6s.Icmp6Stats stats) =
     Item.named IFLA_INET6_ICMP6STATS ((codes "icmp6-stats", object_of (icmp6_stats_shown stats)) ∷ [])
-inet6_item (Inet6s.Token address) =
+inet6_item cx (Inet6s.Token address) =
     Item.named IFLA_INET6_TOKEN ((codes "token", string (ipv6_text (ipv6_segments address)) ∷ []) ∷ [])
-inet6_item (Inet6s.AddrGenMode mode) =
+inet6_item cx (Inet6s.AddrGenMode mode) =
     Item.named IFLA_INET6_ADDR_GEN_MODE
     ((codes "addr-gen-mode", name_or_number gen_mode_names (in6_addr_gen_mode_number mode) ∷ []) ∷ [])
-inet6_item (Inet6s.RaMtu n) = Item.named IFLA_INET6_RA_MTU (numbered (codes "ra-mtu") n ∷ [])
-inet6_item (Inet6s.Other nla) = kept_item nla
+inet6_item cx (Inet6s.RaMtu n) = Item.named IFLA_INET6_RA_MTU (numbered (codes "ra-mtu") n ∷ [])
+inet6_item cx (Inet6s.Other nla) = kept_item nla
 
 -- the physical bindings of MCTP by their numbers; 0 has no name
 abbrev pub binding_names : List (List ℕ)
@@ -82,11 +85,11 @@ mctp_item (Mctps.PhysBinding binding) =
     ((codes "phys-binding", binding_token (mctp_phys_binding_number binding) ∷ []) ∷ [])
 mctp_item (Mctps.Other nla) = kept_item nla
 
-abbrev pub unspec_item : AfSpecUnspec → Item
-unspec_item (Families.Inet items) =
+abbrev pub unspec_item : Context → AfSpecUnspec → Item
+unspec_item cx (Families.Inet items) =
     Item.named AF_INET ((codes "inet", object_of (members_of (map inet_item items))) ∷ [])
-unspec_item (Families.Inet6 items) =
-    Item.named AF_INET6 ((codes "inet6", object_of (members_of (map inet6_item items))) ∷ [])
-unspec_item (Families.Mctp items) =
+unspec_item cx (Families.Inet6 items) =
+    Item.named AF_INET6 ((codes "inet6", object_of (members_of (map (inet6_item cx) items))) ∷ [])
+unspec_item cx (Families.Mctp items) =
     Item.named AF_MCTP ((codes "mctp", object_of (members_of (map mctp_item items))) ∷ [])
-unspec_item (Families.Other nla) = kept_item nla
+unspec_item cx (Families.Other nla) = kept_item nla

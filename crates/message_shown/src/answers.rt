@@ -1,21 +1,26 @@
 //! The answer to a line.
 
-ghost use Rattle.std.specs.Prelude.{◌≡◌, ℕ, List, Ok, ◌++◌, ◌/◌, OnOk, IfOk, IfErr, ◌≢◌, length};
+ghost use Rattle.std.specs.Prelude.{◌≡◌, ℕ, List, [], Ok, ◌++◌, ◌/◌, OnOk, IfOk, IfErr, ◌≢◌, length};
 ghost use Rattle.hex.specs.Hex.{decode_of};
 ghost use Rattle.nla_wire.specs.declared.error.Cause.TheVariants.{OutOfMemory};
 ghost use Rattle.link_msg.specs.Messages.{Means, FirstFault};
-ghost use Rattle.message_shown.specs.Lines.{IsAnswer, AddsAnswer, AddsAnswerTo};
+ghost use Rattle.message_shown.specs.Lines.{IsAnswer, AddsAnswerTo, AddsSpelled};
 ghost use Rattle.shown.specs.Drafts.{empty_object, with_members};
 ghost use Rattle.message_shown.specs.Attributes.{message_members, message_line, TellsMessage};
+ghost use Rattle.message_shown.specs.Worded.{words_shown};
 ghost use Rattle.line_filter.specs.Lines.{with_lf};
 ghost use Rattle.message_shown.specs.Answered.{each_answered};
 
 use crate::attribute::show_header;
-use crate::fault::fault_page;
+use crate::context::{Context, Order};
+use crate::fault::show_fault;
 use crate::member::show_members;
 use crate::wire::cause_name;
+use crate::worded::{order_for, show_words};
 use line_filter::answers::Answer;
 use line_filter::digits::{decode, values};
+use line_filter::words::split;
+use link_info::{Tables, all_rows};
 use link_msg::{Cause, DecodeError, LinkMessage};
 use shown::Page;
 use std::alloc::{AllocError, Global};
@@ -24,12 +29,17 @@ use std::alloc::{AllocError, Global};
 #[derive(Drop)]
 pub struct Shown {
     message: Vec<u8>,
+    tables: Tables,
+    order: Order,
 }
 
 impl Shown {
-    pub fn new(alloc: Global) -> Shown {
+    /// Counters of IPv6 have this order, where a line does not say another one.
+    pub fn new(alloc: Global, order: Order) -> Shown {
         Shown {
             message: Vec::new(alloc),
+            tables: all_rows(),
+            order,
         }
     }
 }
@@ -43,89 +53,129 @@ impl Answer for Shown {
         line: &[u8],
         waiting: &mut Vec<u8>,
     ) -> Result<(), AllocError> {
-        self.message.resize(line.len() / 2, 0)?;
-        push_spelled(alloc, waiting, line, self.message.as_mut_slice())
+        let (front, digits) = split(line);
+        self.message.resize(digits.len() / 2, 0)?;
+        let tables = self.tables;
+        let cx = Context::new(alloc, &tables, order_for(front, self.order));
+        push_digits(&cx, waiting, front, digits, self.message.as_mut_slice())
     }
 
     ghost has = { each_answered };
 }
 
-/// What a message says after its family.
-fn message_page(alloc: Global, bytes: &[u8], message: &LinkMessage) -> Result<Page, AllocError>
-    ensures { IfOk result
-        (λ page. page ≡ with_members (message_members bytes.now message.now) empty_object) }
+/// What a message says, after the words in front of a line.
+fn message_page(
+    cx: &Context<'_>,
+    front: &[u8],
+    bytes: &[u8],
+    message: &LinkMessage,
+) -> Result<Page, AllocError>
+    ensures { IfOk result (λ page. page ≡ with_members
+        (words_shown front.now ++ message_members cx.now bytes.now message.now) empty_object) }
 {
-    let mut page = Page::new(alloc)?;
+    let mut page = Page::new(cx.alloc)?;
+    show_words(cx.alloc, &mut page, front)?;
+    let family = u8::from(message.header.interface_family);
+    page.number("ifi-family", family.into())?;
     show_header(&mut page, bytes)?;
-    show_members(&mut page, message.attributes.as_slice())?;
+    let attributes = message.attributes.as_slice();
+    show_members(&cx.with_address(attributes), &mut page, attributes)?;
     Ok(page)
 }
 
 /// Adds the answer to a line that spells this message.
 fn push_message(
-    alloc: Global,
+    cx: &Context<'_>,
     waiting: &mut Vec<u8>,
+    front: &[u8],
     bytes: &[u8],
     message: &LinkMessage,
 ) -> Result<(), AllocError>
     requires { Means bytes.now message.now }
-    ensures answer { OnOk result (AddsAnswerTo bytes.now waiting.old.items waiting.new.items) }
-    ensures told { OnOk result (waiting.new.items
-        ≡ waiting.old.items ++ with_lf (message_line bytes.now message.now)) }
+    ensures answer { OnOk result
+        (AddsAnswerTo (words_shown front.now) bytes.now waiting.old.items waiting.new.items) }
+    ensures told { OnOk result (waiting.new.items ≡ waiting.old.items
+        ++ with_lf (message_line (words_shown front.now) cx.now bytes.now message.now)) }
 {
-    let page = message_page(alloc, bytes, message)?;
-    let family = u8::from(message.header.interface_family);
-    page.add_after_number("ifi-family", family.into(), waiting)?;
+    let page = message_page(cx, front, bytes, message)?;
+    page.finish(waiting)?;
     waiting.push(b'\n')?;
     Ok(())
 }
 
 /// Adds the answer to a line whose bytes are refused for this cause.
 fn push_fault(
-    alloc: Global,
+    cx: &Context<'_>,
     waiting: &mut Vec<u8>,
+    front: &[u8],
     bytes: &[u8],
     error: &DecodeError,
 ) -> Result<(), AllocError>
     requires { FirstFault bytes.now error.now.cause }
-    ensures { OnOk result (AddsAnswerTo bytes.now waiting.old.items waiting.new.items) }
+    ensures { OnOk result
+        (AddsAnswerTo (words_shown front.now) bytes.now waiting.old.items waiting.new.items) }
 {
-    let page = fault_page(alloc, bytes, error)?;
-    page.add_after_text("fault", cause_name(&error.cause), waiting)?;
+    let mut page = Page::new(cx.alloc)?;
+    show_words(cx.alloc, &mut page, front)?;
+    page.string("fault", cause_name(&error.cause))?;
+    show_fault(cx, &mut page, bytes, error)?;
+    page.finish(waiting)?;
     waiting.push(b'\n')?;
     Ok(())
 }
 
 /// Adds the answer to a line that spells these bytes.
-fn push_bytes(alloc: Global, waiting: &mut Vec<u8>, bytes: &[u8]) -> Result<(), AllocError>
-    ensures answer { OnOk result (AddsAnswerTo bytes.now waiting.old.items waiting.new.items) }
-    ensures told { OnOk result (TellsMessage bytes.now waiting.old.items waiting.new.items) }
+pub fn push_bytes(
+    cx: &Context<'_>,
+    waiting: &mut Vec<u8>,
+    front: &[u8],
+    bytes: &[u8],
+) -> Result<(), AllocError>
+    ensures answer { OnOk result
+        (AddsAnswerTo (words_shown front.now) bytes.now waiting.old.items waiting.new.items) }
+    ensures told { OnOk result (TellsMessage (words_shown front.now) cx.now bytes.now
+        waiting.old.items waiting.new.items) }
 {
-    match LinkMessage::parse(alloc, bytes) {
-        Ok(message) => push_message(alloc, waiting, bytes, &message),
+    match LinkMessage::parse(cx.alloc, bytes) {
+        Ok(message) => push_message(cx, waiting, front, bytes, &message),
         Err(error) => {
             if let Cause::OutOfMemory = error.cause {
                 return Err(AllocError);
             }
-            push_fault(alloc, waiting, bytes, &error)
+            push_fault(cx, waiting, front, bytes, &error)
         }
     }
 }
 
-/// Adds the answer to a line, with room for the bytes that it spells.
-fn push_spelled(
-    alloc: Global,
+/// Adds the answer to a line with these digits after its words, with room for the bytes that they spell.
+fn push_digits(
+    cx: &Context<'_>,
     waiting: &mut Vec<u8>,
-    line: &[u8],
+    front: &[u8],
+    digits: &[u8],
     room: &mut [u8],
 ) -> Result<(), AllocError>
-    requires { length room.old ≡ length line.now / 2 }
-    ensures answer { OnOk result (AddsAnswer line.now waiting.old.items waiting.new.items) }
-    ensures told { OnOk result ((bytes : List ℕ) → decode_of line.now ≡ Ok bytes
-        → TellsMessage bytes waiting.old.items waiting.new.items) }
+    requires { length room.old ≡ length digits.now / 2 }
+    ensures answer { OnOk result
+        (AddsSpelled (words_shown front.now) digits.now waiting.old.items waiting.new.items) }
+    ensures told { OnOk result ((bytes : List ℕ) → decode_of digits.now ≡ Ok bytes
+        → TellsMessage (words_shown front.now) cx.now bytes waiting.old.items waiting.new.items) }
 {
-    if !decode(line, values(), room) {
+    if !decode(digits, values(), room) {
         return waiting.extend_from_slice(b"{\"fault\":\"not-hex\"}\n");
     }
-    push_bytes(alloc, waiting, room)
+    push_bytes(cx, waiting, front, room)
+}
+
+/// Adds the answer to these bytes alone: what they say, or why they are no message.
+pub fn push_answer(
+    alloc: Global,
+    order: Order,
+    waiting: &mut Vec<u8>,
+    bytes: &[u8],
+) -> Result<(), AllocError>
+    ensures { OnOk result (AddsAnswerTo [] bytes.now waiting.old.items waiting.new.items) }
+{
+    let tables = all_rows();
+    push_bytes(&Context::new(alloc, &tables, order), waiting, &[], bytes)
 }

@@ -3,29 +3,40 @@
 ghost use Rattle.std.specs.Prelude.{◌≡◌, [], ◌∷◌, OnOk, map, get_or, option_map, codes};
 ghost use Rattle.std.specs.Int.{w32};
 ghost use Rattle.shown.specs.Drafts.{with_value, with_members};
+ghost use Rattle.nla_wire.specs.Fields.{signed_at};
 ghost use Rattle.shown.specs.Values.{flags_of};
+ghost use Rattle.message_shown.specs.Records.{signed_tokens};
 ghost use Rattle.message_shown.specs.Attributes.{word_in, number_in, signed_in, text_in, address_in, ext_mask_names};
 ghost use Rattle.message_shown.specs.Attributes.{bits_of, id_shown, attribute_item, attribute_name, attribute_shown};
-ghost use Rattle.message_shown.specs.Attributes.{value_shown, list_shown, link_flag_names, header_members};
+ghost use Rattle.message_shown.specs.Attributes.{value_shown, list_shown, info_shown, link_flag_names, header_members};
 ghost use Rattle.message_shown.specs.Numbered.{attribute_numbered};
 
+use crate::context::Context;
 use crate::counts::{show_map, show_stats, show_stats64};
-use crate::member::{Member, frame_of, show_listed, show_object};
+use crate::member::{Attribute, KeptFrame, show_listed, show_object};
 use crate::names::{ATTRIBUTES, EVENTS, EXT_MASK, LINK_FLAGS, LINK_MODES, OPERSTATES};
 use crate::nests::show_wireless;
 use crate::vf::{show_functions, show_ports};
 use link_msg::numbers::IFLA_AF_SPEC;
-use link_msg::{LinkAttribute, LinkExtentMask, LinkPhysId, NLA_TYPE_MASK, Nla};
-use nla_wire::fields::{u16_at, u32_at};
+use link_msg::{LinkAttribute, LinkExtentMask, LinkInfo, LinkPhysId, NLA_TYPE_MASK, Nla};
+use nla_wire::fields::{i32_at, u16_at, u32_at};
 use shown::Page;
 use std::alloc::AllocError;
 
 /// Adds the flags of a link.
-fn show_link_flags(page: &mut Page, bits: u32) -> Result<(), AllocError>
+fn show_link_flags(page: &mut Page, bits: u64) -> Result<(), AllocError>
     ensures { OnOk result (page.new
         ≡ with_value (codes "ifi-flags") (flags_of link_flag_names bits) page.old) }
 {
     page.flags("ifi-flags", bits, &LINK_FLAGS)
+}
+
+/// Adds the index of a link.
+pub fn show_index(page: &mut Page, bytes: &[u8]) -> Result<(), AllocError>
+    ensures { OnOk result (page.new ≡ with_value (codes "ifi-index")
+        (signed_tokens (signed_at w32 bytes.now 4)) page.old) }
+{
+    page.signed("ifi-index", i32_at(bytes, 4).into())
 }
 
 /// Adds what the header says after its family.
@@ -33,27 +44,31 @@ pub fn show_header(page: &mut Page, bytes: &[u8]) -> Result<(), AllocError>
     ensures { OnOk result (page.new ≡ with_members (header_members bytes.now) page.old) }
 {
     page.number("ifi-type", u16_at(bytes, 2).into())?;
-    page.number("ifi-index", u32_at(bytes, 4).into())?;
-    show_link_flags(page, u32_at(bytes, 8))?;
+    show_index(page, bytes)?;
+    show_link_flags(page, u32_at(bytes, 8).into())?;
     page.number("ifi-change", u32_at(bytes, 12).into())
 }
 
-impl Member for LinkAttribute {
+impl Attribute for LinkAttribute {
     ghost item = { attribute_item };
 
-    fn kept(&self) -> Option<(u16, &[u8])> {
+    fn kept_frame(&self, _cx: &Context<'_>) -> Option<KeptFrame<'_>> {
         match self {
-            LinkAttribute::Other(nla) | LinkAttribute::ProtoInfoUnknown(nla) => frame_of(nla),
-            LinkAttribute::AfSpecUnknown(bytes) => Some((IFLA_AF_SPEC, bytes.as_slice())),
+            LinkAttribute::Other(nla) | LinkAttribute::ProtoInfoUnknown(nla) => {
+                Some((name_of(self), (nla.kind(), nla.value())))
+            }
+            LinkAttribute::AfSpecUnknown(bytes) => {
+                Some((name_of(self), (IFLA_AF_SPEC, bytes.as_slice())))
+            }
             _ => None,
         }
     }
 
-    fn show(&self, page: &mut Page) -> Result<(), AllocError> {
-        if self.kept().is_some() {
+    fn add(&self, cx: &Context<'_>, page: &mut Page) -> Result<(), AllocError> {
+        if self.kept_frame(cx).is_some() {
             return Ok(());
         }
-        show_attribute(page, name_of(self), self)
+        show_attribute(cx, page, name_of(self), self)
     }
 
     ghost numbered = { attribute_numbered };
@@ -78,9 +93,14 @@ fn name_of(attribute: &LinkAttribute) -> &'static str
 }
 
 /// Adds what an attribute says, under this name.
-fn show_attribute(page: &mut Page, name: &str, attribute: &LinkAttribute) -> Result<(), AllocError>
+fn show_attribute(
+    cx: &Context<'_>,
+    page: &mut Page,
+    name: &str,
+    attribute: &LinkAttribute,
+) -> Result<(), AllocError>
     ensures { OnOk result
-        (page.new ≡ with_members (attribute_shown name.now attribute.now) page.old) }
+        (page.new ≡ with_members (attribute_shown cx.now name.now attribute.now) page.old) }
 {
     if let Some(number) = number_of(attribute) {
         return page.number(name, number);
@@ -94,7 +114,7 @@ fn show_attribute(page: &mut Page, name: &str, attribute: &LinkAttribute) -> Res
     if let Some(address) = address_of(attribute) {
         return page.address(name, address);
     }
-    show_value(page, name, attribute)
+    show_value(cx, page, name, attribute)
 }
 
 /// A number, of any size.
@@ -183,9 +203,14 @@ fn address_of(attribute: &LinkAttribute) -> Option<&[u8]>
 }
 
 /// Adds a record, a value of an enum, flags, an id, or a list.
-fn show_value(page: &mut Page, name: &str, attribute: &LinkAttribute) -> Result<(), AllocError>
+fn show_value(
+    cx: &Context<'_>,
+    page: &mut Page,
+    name: &str,
+    attribute: &LinkAttribute,
+) -> Result<(), AllocError>
     ensures { OnOk result
-        (page.new ≡ with_members (value_shown name.now attribute.now) page.old) }
+        (page.new ≡ with_members (value_shown cx.now name.now attribute.now) page.old) }
 {
     match attribute {
         LinkAttribute::Stats(stats) => show_stats(page, name, stats),
@@ -199,31 +224,55 @@ fn show_value(page: &mut Page, name: &str, attribute: &LinkAttribute) -> Result<
         LinkAttribute::ExtMask(masks) => show_mask(page, name, masks.as_slice()),
         LinkAttribute::PhysPortId(id) | LinkAttribute::PhysSwitchId(id) => show_id(page, name, id),
         LinkAttribute::Wireless(event) => show_wireless(page, name, event),
-        _ => show_list(page, name, attribute),
+        _ => show_list(cx, page, name, attribute),
     }
 }
 
 /// Adds a list of attributes as an object.
-fn show_list(page: &mut Page, name: &str, attribute: &LinkAttribute) -> Result<(), AllocError>
+fn show_list(
+    cx: &Context<'_>,
+    page: &mut Page,
+    name: &str,
+    attribute: &LinkAttribute,
+) -> Result<(), AllocError>
     ensures { OnOk result
-        (page.new ≡ with_members (list_shown name.now attribute.now) page.old) }
+        (page.new ≡ with_members (list_shown cx.now name.now attribute.now) page.old) }
 {
     match attribute {
-        LinkAttribute::ProtoInfoBridge(items) => show_object(page, name, items.as_slice()),
-        LinkAttribute::ProtoInfoInet6(items) => show_object(page, name, items.as_slice()),
-        LinkAttribute::LinkInfo(items) => show_object(page, name, items.as_slice()),
-        LinkAttribute::VfInfoList(entries) => show_functions(page, name, entries.as_slice()),
-        LinkAttribute::VfPorts(entries) => show_ports(page, name, entries.as_slice()),
-        LinkAttribute::PortSelf(port) => show_object(page, name, port.0.as_slice()),
-        LinkAttribute::AfSpecBridge(items) => show_object(page, name, items.as_slice()),
-        LinkAttribute::AfSpecUnspec(items) => show_object(page, name, items.as_slice()),
-        LinkAttribute::Xdp(items) => show_object(page, name, items.as_slice()),
-        LinkAttribute::PropList(items) => show_listed(page, name, "alt-ifname", items.as_slice()),
-        LinkAttribute::ProtoDownReason(items) => show_object(page, name, items.as_slice()),
-        LinkAttribute::DevlinkPort(items) => show_object(page, name, items.as_slice()),
-        LinkAttribute::DpllPin(items) => show_object(page, name, items.as_slice()),
+        LinkAttribute::ProtoInfoBridge(items) => show_object(cx, page, name, items.as_slice()),
+        LinkAttribute::ProtoInfoInet6(items) => show_object(cx, page, name, items.as_slice()),
+        LinkAttribute::LinkInfo(items) => show_info(cx, page, name, items.as_slice()),
+        LinkAttribute::VfInfoList(entries) => show_functions(cx, page, name, entries.as_slice()),
+        LinkAttribute::VfPorts(entries) => show_ports(cx, page, name, entries.as_slice()),
+        LinkAttribute::PortSelf(port) => show_object(cx, page, name, port.0.as_slice()),
+        LinkAttribute::AfSpecBridge(items) => show_object(cx, page, name, items.as_slice()),
+        LinkAttribute::AfSpecUnspec(items) => show_object(cx, page, name, items.as_slice()),
+        LinkAttribute::Xdp(items) => show_object(cx, page, name, items.as_slice()),
+        LinkAttribute::PropList(items) => show_listed(
+            cx,
+            page,
+            name,
+            "alt-ifname",
+            items.as_slice(),
+        ),
+        LinkAttribute::ProtoDownReason(items) => show_object(cx, page, name, items.as_slice()),
+        LinkAttribute::DevlinkPort(items) => show_object(cx, page, name, items.as_slice()),
+        LinkAttribute::DpllPin(items) => show_object(cx, page, name, items.as_slice()),
         _ => Ok(()),
     }
+}
+
+/// Adds the kinds of a link and their data.
+fn show_info(
+    cx: &Context<'_>,
+    page: &mut Page,
+    name: &str,
+    items: &[LinkInfo],
+) -> Result<(), AllocError>
+    ensures { OnOk result
+        (page.new ≡ with_members (info_shown cx.now name.now items.now) page.old) }
+{
+    show_object(&cx.with_kinds(items), page, name, items)
 }
 
 fn show_mask(page: &mut Page, name: &str, masks: &[LinkExtentMask]) -> Result<(), AllocError>
@@ -234,7 +283,7 @@ fn show_mask(page: &mut Page, name: &str, masks: &[LinkExtentMask]) -> Result<()
     for mask in masks {
         bits |= u32::from(*mask);
     }
-    page.flags(name, bits, &EXT_MASK)
+    page.flags(name, bits.into(), &EXT_MASK)
 }
 
 fn show_id(page: &mut Page, name: &str, id: &LinkPhysId) -> Result<(), AllocError>

@@ -1,16 +1,20 @@
 //! Records of numbers of one width, by the names of their fields.
 
-ghost use Rattle.std.specs.Prelude.{◌≡◌, OnOk, map};
+ghost use Rattle.std.specs.Prelude.{◌≡◌, ◌<◌, OnOk, get_or, length, map};
 ghost use Rattle.std.specs.Int.{w64, cast_unsigned};
 ghost use Rattle.shown.specs.Drafts.{with_members, with_value, object_of};
 ghost use Rattle.message_shown.specs.Records.{numbers_of, signed_of};
 ghost use Rattle.message_shown.specs.Counters.{stats_shown, stats64_shown, inet_conf_shown, inet6_conf_shown};
 ghost use Rattle.message_shown.specs.Counters.{inet6_stats_shown, icmp6_stats_shown, cache_info_shown, map_shown};
+ghost use Rattle.message_shown.specs.Counters.{bare, inet6_bare, inet6_named, unless_zero, signed_unless_zero};
+ghost use Rattle.link_recs.specs.Inet6StatsFields.{inet6_stats_fields};
 
+use crate::context::Order;
 use crate::names::{CACHE_INFO, ICMP6_STATS, INET_CONF, INET6_CONF, INET6_STATS, STATS};
 use link_msg::{
     Icmp6Stats, Inet6CacheInfo, Inet6DevConf, Inet6Stats, InetDevConf, Map, Stats, Stats64,
 };
+use link_recs::inet6_stats::INET6_STATS_COUNT;
 use shown::{Nest, Page};
 use std::alloc::AllocError;
 
@@ -47,6 +51,14 @@ fn show_u64s(page: &mut Page, names: &[&str], numbers: &[u64]) -> Result<(), All
     Ok(())
 }
 
+/// A counter of eight bytes, which is kept as a number that may be below zero and is none.
+fn counter_at(numbers: &[i64], at: usize) -> u64
+    requires { at < length numbers.now }
+    ensures { result ≡ get_or (map (cast_unsigned w64) numbers.now) at 0 }
+{
+    numbers[at].cast_unsigned()
+}
+
 /// Adds counters of eight bytes, which are kept as numbers that may be below zero and are none, as far as there are
 /// names.
 fn show_i64s(page: &mut Page, names: &[&str], numbers: &[i64]) -> Result<(), AllocError>
@@ -55,7 +67,7 @@ fn show_i64s(page: &mut Page, names: &[&str], numbers: &[i64]) -> Result<(), All
         page.old) }
 {
     for i in 0..names.len().min(numbers.len()) {
-        page.number(names[i], numbers[i].cast_unsigned())?;
+        page.number(names[i], counter_at(numbers, i))?;
     }
     Ok(())
 }
@@ -87,6 +99,7 @@ pub fn show_inet_conf(page: &mut Page, name: &str, conf: &InetDevConf) -> Result
 {
     page.begin(name, Nest::Object)?;
     show_i32s(page, &INET_CONF, &conf.words())?;
+    show_reserved_signed(page, "reserved-34", conf.reserved_34)?;
     page.end()
 }
 
@@ -100,14 +113,75 @@ pub fn show_inet6_conf(page: &mut Page, name: &str, conf: &Inet6DevConf) -> Resu
     page.end()
 }
 
-/// Adds the counters of IPv6.
-pub fn show_inet6_stats(page: &mut Page, name: &str, stats: &Inet6Stats) -> Result<(), AllocError>
-    ensures { OnOk result
-        (page.new ≡ with_value name.now (object_of (inet6_stats_shown stats.now)) page.old) }
+/// Adds counters of eight bytes as a list.
+fn show_bare(page: &mut Page, numbers: &[i64]) -> Result<(), AllocError>
+    ensures { OnOk result (page.new ≡ with_members (bare (map (cast_unsigned w64) numbers.now))
+        page.old) }
+{
+    for number in numbers {
+        page.number("", number.cast_unsigned())?;
+    }
+    Ok(())
+}
+
+/// Adds a field that no kernel sends, where it is not zero.
+fn show_reserved(page: &mut Page, name: &str, value: u64) -> Result<(), AllocError>
+    ensures { OnOk result (page.new ≡ with_members (unless_zero name.now value) page.old) }
+{
+    if value == 0 {
+        return Ok(());
+    }
+    page.number(name, value)
+}
+
+/// And one that may be below zero.
+fn show_reserved_signed(page: &mut Page, name: &str, value: i32) -> Result<(), AllocError>
+    ensures { OnOk result (page.new ≡ with_members (signed_unless_zero name.now value) page.old) }
+{
+    if value == 0 {
+        return Ok(());
+    }
+    page.signed(name, value.into())
+}
+
+/// Adds the counters of IPv6 with names.
+fn show_inet6_named(
+    page: &mut Page,
+    name: &str,
+    words: &[i64; INET6_STATS_COUNT],
+) -> Result<(), AllocError>
+    ensures { OnOk result (page.new ≡ with_value name.now (inet6_named words.now) page.old) }
 {
     page.begin(name, Nest::Object)?;
-    show_i64s(page, &INET6_STATS, &stats.words())?;
+    show_i64s(page, &INET6_STATS, words)?;
+    show_reserved(page, "reserved-39", counter_at(words, INET6_STATS.len()))?;
     page.end()
+}
+
+/// Adds the counters of IPv6 as a list.
+fn show_inet6_bare(page: &mut Page, name: &str, words: &[i64]) -> Result<(), AllocError>
+    ensures { OnOk result (page.new ≡ with_value name.now (inet6_bare words.now) page.old) }
+{
+    page.begin(name, Nest::List)?;
+    show_bare(page, words)?;
+    page.end()
+}
+
+/// Adds the counters of IPv6: with names where their order is known.
+pub fn show_inet6_stats(
+    page: &mut Page,
+    name: &str,
+    order: Order,
+    stats: &Inet6Stats,
+) -> Result<(), AllocError>
+    ensures { OnOk result (page.new ≡ with_value name.now
+        (inet6_stats_shown order (inet6_stats_fields stats.now)) page.old) }
+{
+    match order {
+        Order::Unknown => show_inet6_bare(page, name, &stats.words()),
+        Order::Before => show_inet6_named(page, name, &stats.words()),
+        Order::Since => show_inet6_named(page, name, &stats.since_6_16().words()),
+    }
 }
 
 /// Adds the counters of ICMPv6.

@@ -4,12 +4,15 @@
 mod afspec;
 pub mod answers;
 mod attribute;
+pub mod context;
 mod counts;
 mod fault;
 mod member;
 mod names;
 mod nests;
+mod rows;
 mod vf;
 mod wire;
+pub mod worded;
 
 pub use answers::Shown;

@@ -2,38 +2,83 @@
 
 ghost use Rattle.std.specs.Prelude.{◌≡◌, ℕ, List, ◌<◌, [], ◌∷◌, OnOk, IfSome, Some, map, option_map, codes};
 ghost use Rattle.std.specs.List.{flat_map};
-ghost use Rattle.shown.specs.Drafts.{with_members, with_value, object_of};
-ghost use Rattle.message_shown.specs.Places.{Item, IsNumbered, shown_as, frame_in, number_in, are_any};
+ghost use Rattle.shown.specs.Drafts.{with_members, with_value, object_of, list_of};
+ghost use Rattle.message_shown.specs.Places.{Item, Kept, IsNumbered, shown_as, kept_in, number_in, are_any};
 ghost use Rattle.message_shown.specs.Places.{last_ones, earlier_ones, named_ones, kept_ones};
 ghost use Rattle.message_shown.specs.Places.{list_under, values_of, members_of, listed_under, objects, TellsLast};
+ghost use Rattle.message_shown.specs.declared.context.Context.{Context as Around};
 
+use crate::context::Context;
 use crate::wire::show_frame;
 use link_msg::{DefaultNla, NLA_TYPE_MASK, Nla};
 use shown::{Nest, Page};
 use std::alloc::AllocError;
 
-/// An attribute that is shown under its name, or as it is.
-pub trait Member: Nla {
-    ghost item: { Self → Item };
+/// An attribute that is kept as it is: the name that its number has all the same, if any, its kind and its payload.
+pub type KeptFrame<'a> = (&'a str, (u16, &'a [u8]));
 
-    /// Kind and payload of an attribute that is kept as it is.
-    fn kept(&self) -> Option<(u16, &[u8])>
-        ensures { option_map {U = ℕ × List ℕ} (λ f. (f.0, f.1.now)) result
-            ≡ frame_in (item self.now) };
+/// What a place's attributes are shown by.
+pub trait Member {
+    ghost item: { Around → Self → Item };
+
+    /// Its number, where it is shown under its name.
+    fn number(&self, cx: &Context<'_>) -> Option<usize>
+        ensures number { result ≡ number_in (item cx.now self.now) }
+        ensures small { IfSome result (λ n. n < 128) };
+
+    /// What it is, where it is kept as it is.
+    fn kept(&self, cx: &Context<'_>) -> Option<KeptFrame<'_>>
+        ensures { option_map {U = Kept} (λ f. (f.0.now, (f.1.0, f.1.1.now))) result
+            ≡ kept_in (item cx.now self.now) };
 
     /// Adds what it says. One that is kept says nothing here.
-    fn show(&self, page: &mut Page) -> Result<(), AllocError>
-        ensures { OnOk result (page.new ≡ with_members (shown_as (item self.now)) page.old) };
-
-    ghost numbered: { (x : Self) → IsNumbered (Self.frame x).kind (item x) };
+    fn show(&self, cx: &Context<'_>, page: &mut Page) -> Result<(), AllocError>
+        ensures { OnOk result
+            (page.new ≡ with_members (shown_as (item cx.now self.now)) page.old) };
 }
 
-/// Kind and payload of an attribute that is kept.
-pub fn frame_of(nla: &DefaultNla) -> Option<(u16, &[u8])>
-    ensures { option_map {U = ℕ × List ℕ} (λ f. (f.0, f.1.now)) result
-        ≡ Some (nla.now.kind, nla.now.payload) }
+/// An attribute of a message.
+pub trait Attribute: Nla {
+    ghost item: { Around → Self → Item };
+
+    /// What it is, where it is kept as it is.
+    fn kept_frame(&self, cx: &Context<'_>) -> Option<KeptFrame<'_>>
+        ensures { option_map {U = Kept} (λ f. (f.0.now, (f.1.0, f.1.1.now))) result
+            ≡ kept_in (item cx.now self.now) };
+
+    /// Adds what it says. One that is kept says nothing here.
+    fn add(&self, cx: &Context<'_>, page: &mut Page) -> Result<(), AllocError>
+        ensures { OnOk result
+            (page.new ≡ with_members (shown_as (item cx.now self.now)) page.old) };
+
+    ghost numbered: { (cx : Around) (x : Self) → IsNumbered (Self.frame x).kind (item cx x) };
+}
+
+impl<T: Attribute> Member for T {
+    ghost item = { T.item };
+
+    fn number(&self, cx: &Context<'_>) -> Option<usize> {
+        if self.kept_frame(cx).is_some() {
+            return None;
+        }
+        Some((self.kind() & NLA_TYPE_MASK) as usize)
+    }
+
+    fn kept(&self, cx: &Context<'_>) -> Option<KeptFrame<'_>> {
+        self.kept_frame(cx)
+    }
+
+    fn show(&self, cx: &Context<'_>, page: &mut Page) -> Result<(), AllocError> {
+        self.add(cx, page)
+    }
+}
+
+/// An attribute that is kept, and whose number has no name.
+pub fn frame_of(nla: &DefaultNla) -> Option<KeptFrame<'_>>
+    ensures { option_map {U = Kept} (λ f. (f.0.now, (f.1.0, f.1.1.now))) result
+        ≡ Some ([], (nla.now.kind, nla.now.payload)) }
 {
-    Some((nla.kind(), nla.value()))
+    Some(("", (nla.kind(), nla.value())))
 }
 
 /// More than the greatest number that has a name.
@@ -42,24 +87,13 @@ const NUMBERS: usize = 128;
 /// No place.
 const NONE: usize = usize::MAX;
 
-/// The number of an attribute that has a name.
-fn number_of<T: Member>(item: &T) -> Option<usize>
-    ensures number { result ≡ number_in (T.item item.now) }
-    ensures small { IfSome result (λ n. n < 128) }
-{
-    if item.kept().is_some() {
-        return None;
-    }
-    Some((item.kind() & NLA_TYPE_MASK) as usize)
-}
-
 /// Where the last attribute of each number stands, of those that have a name.
-fn last_places<T: Member>(items: &[T]) -> [usize; NUMBERS]
-    ensures { TellsLast (map T.item items.now) result }
+fn last_places<T: Member>(cx: &Context<'_>, items: &[T]) -> [usize; NUMBERS]
+    ensures { TellsLast (map (T.item cx.now) items.now) result }
 {
     let mut last = [NONE; NUMBERS];
     for (i, item) in items.iter().enumerate() {
-        if let Some(number) = number_of(item) {
+        if let Some(number) = item.number(cx) {
             last[number] = i;
         }
     }
@@ -68,18 +102,19 @@ fn last_places<T: Member>(items: &[T]) -> [usize; NUMBERS]
 
 /// Adds the last attribute of each name.
 fn show_last<T: Member>(
+    cx: &Context<'_>,
     page: &mut Page,
     items: &[T],
     last: &[usize; NUMBERS],
 ) -> Result<(), AllocError>
-    requires { TellsLast (map T.item items.now) last.now }
+    requires { TellsLast (map (T.item cx.now) items.now) last.now }
     ensures { OnOk result
-        (page.new ≡ with_members (last_ones (map T.item items.now)) page.old) }
+        (page.new ≡ with_members (last_ones (map (T.item cx.now) items.now)) page.old) }
 {
     for (i, item) in items.iter().enumerate() {
-        if let Some(number) = number_of(item) {
+        if let Some(number) = item.number(cx) {
             if last[number] == i {
-                item.show(page)?;
+                item.show(cx, page)?;
             }
         }
     }
@@ -87,12 +122,12 @@ fn show_last<T: Member>(
 }
 
 /// Whether another attribute of its name stands after one of them.
-fn is_repeated<T: Member>(items: &[T], last: &[usize; NUMBERS]) -> bool
-    requires { TellsLast (map T.item items.now) last.now }
-    ensures { result ≡ are_any (earlier_ones (map T.item items.now)) }
+fn is_repeated<T: Member>(cx: &Context<'_>, items: &[T], last: &[usize; NUMBERS]) -> bool
+    requires { TellsLast (map (T.item cx.now) items.now) last.now }
+    ensures { result ≡ are_any (earlier_ones (map (T.item cx.now) items.now)) }
 {
     for (i, item) in items.iter().enumerate() {
-        if let Some(number) = number_of(item) {
+        if let Some(number) = item.number(cx) {
             if last[number] != i {
                 return true;
             }
@@ -103,19 +138,21 @@ fn is_repeated<T: Member>(items: &[T], last: &[usize; NUMBERS]) -> bool
 
 /// Adds the attributes after which another of their name stands, as objects of one member.
 fn show_earlier<T: Member>(
+    cx: &Context<'_>,
     page: &mut Page,
     items: &[T],
     last: &[usize; NUMBERS],
 ) -> Result<(), AllocError>
-    requires { TellsLast (map T.item items.now) last.now }
+    requires { TellsLast (map (T.item cx.now) items.now) last.now }
     ensures { OnOk result
-        (page.new ≡ with_members (objects (earlier_ones (map T.item items.now))) page.old) }
+        (page.new ≡ with_members (objects (earlier_ones (map (T.item cx.now) items.now)))
+        page.old) }
 {
     for (i, item) in items.iter().enumerate() {
-        if let Some(number) = number_of(item) {
+        if let Some(number) = item.number(cx) {
             if last[number] != i {
                 page.begin("", Nest::Object)?;
-                item.show(page)?;
+                item.show(cx, page)?;
                 page.end()?;
             }
         }
@@ -125,28 +162,29 @@ fn show_earlier<T: Member>(
 
 /// Adds the list of the attributes after which another of their name stands, if there are any.
 fn show_repeated<T: Member>(
+    cx: &Context<'_>,
     page: &mut Page,
     items: &[T],
     last: &[usize; NUMBERS],
 ) -> Result<(), AllocError>
-    requires { TellsLast (map T.item items.now) last.now }
+    requires { TellsLast (map (T.item cx.now) items.now) last.now }
     ensures { OnOk result (page.new ≡ with_members (list_under (codes "repeated")
-        (map object_of (earlier_ones (map T.item items.now)))) page.old) }
+        (map object_of (earlier_ones (map (T.item cx.now) items.now)))) page.old) }
 {
-    if !is_repeated(items, last) {
+    if !is_repeated(cx, items, last) {
         return Ok(());
     }
     page.begin("repeated", Nest::List)?;
-    show_earlier(page, items, last)?;
+    show_earlier(cx, page, items, last)?;
     page.end()
 }
 
 /// Whether one of the attributes is kept as it is.
-fn is_any_kept<T: Member>(items: &[T]) -> bool
-    ensures { result ≡ are_any (kept_ones (map T.item items.now)) }
+fn is_any_kept<T: Member>(cx: &Context<'_>, items: &[T]) -> bool
+    ensures { result ≡ are_any (kept_ones (map (T.item cx.now) items.now)) }
 {
     for item in items {
-        if item.kept().is_some() {
+        if item.kept(cx).is_some() {
             return true;
         }
     }
@@ -154,93 +192,93 @@ fn is_any_kept<T: Member>(items: &[T]) -> bool
 }
 
 /// Adds the attributes that are kept as they are.
-fn show_frames<T: Member>(page: &mut Page, items: &[T]) -> Result<(), AllocError>
+fn show_frames<T: Member>(cx: &Context<'_>, page: &mut Page, items: &[T]) -> Result<(), AllocError>
     ensures { OnOk result
-        (page.new ≡ with_members (objects (kept_ones (map T.item items.now))) page.old) }
+        (page.new ≡ with_members (objects (kept_ones (map (T.item cx.now) items.now))) page.old) }
 {
     for item in items {
-        if let Some((kind, payload)) = item.kept() {
-            show_frame(page, kind, payload)?;
+        if let Some((name, (kind, payload))) = item.kept(cx) {
+            show_frame(page, name, kind, payload)?;
         }
     }
     Ok(())
 }
 
 /// Adds the list of the attributes that are kept, if there are any.
-fn show_kept<T: Member>(page: &mut Page, items: &[T]) -> Result<(), AllocError>
+fn show_kept<T: Member>(cx: &Context<'_>, page: &mut Page, items: &[T]) -> Result<(), AllocError>
     ensures { OnOk result (page.new ≡ with_members (list_under (codes "other")
-        (map object_of (kept_ones (map T.item items.now)))) page.old) }
+        (map object_of (kept_ones (map (T.item cx.now) items.now)))) page.old) }
 {
-    if !is_any_kept(items) {
+    if !is_any_kept(cx, items) {
         return Ok(());
     }
     page.begin("other", Nest::List)?;
-    show_frames(page, items)?;
+    show_frames(cx, page, items)?;
     page.end()
 }
 
 /// Adds the attributes of a place: the last one of each name, and after them those that came before it, and those that
 /// are kept.
-pub fn show_members<T: Member>(page: &mut Page, items: &[T]) -> Result<(), AllocError>
+pub fn show_members<T: Member>(
+    cx: &Context<'_>,
+    page: &mut Page,
+    items: &[T],
+) -> Result<(), AllocError>
     ensures { OnOk result
-        (page.new ≡ with_members (members_of (map T.item items.now)) page.old) }
+        (page.new ≡ with_members (members_of (map (T.item cx.now) items.now)) page.old) }
 {
-    let last = last_places(items);
-    show_last(page, items, &last)?;
-    show_repeated(page, items, &last)?;
-    show_kept(page, items)
+    let last = last_places(cx, items);
+    show_last(cx, page, items, &last)?;
+    show_repeated(cx, page, items, &last)?;
+    show_kept(cx, page, items)
 }
 
 /// Adds the attributes of a place as an object.
-pub fn show_object<T: Member>(page: &mut Page, name: &str, items: &[T]) -> Result<(), AllocError>
+pub fn show_object<T: Member>(
+    cx: &Context<'_>,
+    page: &mut Page,
+    name: &str,
+    items: &[T],
+) -> Result<(), AllocError>
     ensures { OnOk result (page.new ≡ with_members ((
       name.now,
-      object_of (members_of (map T.item items.now)),
+      object_of (members_of (map (T.item cx.now) items.now)),
     ) ∷ []) page.old) }
 {
     page.begin(name, Nest::Object)?;
-    show_members(page, items)?;
+    show_members(cx, page, items)?;
     page.end()
 }
 
-/// Whether one of the attributes has a name.
-fn is_any_named<T: Member>(items: &[T]) -> bool
-    ensures { result ≡ are_any (named_ones (map T.item items.now)) }
-{
-    for item in items {
-        if item.kept().is_none() {
-            return true;
-        }
-    }
-    false
-}
-
 /// Adds the attributes that have a name.
-fn show_named<T: Member>(page: &mut Page, items: &[T]) -> Result<(), AllocError>
+fn show_named<T: Member>(cx: &Context<'_>, page: &mut Page, items: &[T]) -> Result<(), AllocError>
     ensures { OnOk result
-        (page.new ≡ with_members (flat_map shown_as (map T.item items.now)) page.old) }
+        (page.new ≡ with_members (flat_map shown_as (map (T.item cx.now) items.now)) page.old) }
 {
     for item in items {
-        item.show(page)?;
+        item.show(cx, page)?;
     }
     Ok(())
 }
 
-/// Adds the attributes that have a name as one list, if there are any.
-fn show_list<T: Member>(page: &mut Page, listed: &str, items: &[T]) -> Result<(), AllocError>
-    ensures { OnOk result (page.new ≡ with_members (list_under listed.now
-        (map values_of (named_ones (map T.item items.now)))) page.old) }
+/// Adds the attributes that have a name as one list.
+fn show_list<T: Member>(
+    cx: &Context<'_>,
+    page: &mut Page,
+    listed: &str,
+    items: &[T],
+) -> Result<(), AllocError>
+    ensures { OnOk result (page.new ≡ with_value listed.now
+        (list_of (flat_map values_of (named_ones (map (T.item cx.now) items.now)))) page.old) }
 {
-    if !is_any_named(items) {
-        return Ok(());
-    }
     page.begin(listed, Nest::List)?;
-    show_named(page, items)?;
+    show_named(cx, page, items)?;
     page.end()
 }
 
 /// Adds the attributes of a place as an object, in which all that have a name stand in one list.
 pub fn show_listed<T: Member>(
+    cx: &Context<'_>,
     page: &mut Page,
     name: &str,
     listed: &str,
@@ -248,11 +286,11 @@ pub fn show_listed<T: Member>(
 ) -> Result<(), AllocError>
     ensures { OnOk result (page.new ≡ with_members ((
       name.now,
-      object_of (listed_under listed.now (map T.item items.now)),
+      object_of (listed_under listed.now (map (T.item cx.now) items.now)),
     ) ∷ []) page.old) }
 {
     page.begin(name, Nest::Object)?;
-    show_list(page, listed, items)?;
-    show_kept(page, items)?;
+    show_list(cx, page, listed, items)?;
+    show_kept(cx, page, items)?;
     page.end()
 }

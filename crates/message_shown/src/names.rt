@@ -69,14 +69,14 @@ pub const ATTRIBUTES: [&str; 70] = [
     "gso-ipv4-max-size",
     "gro-ipv4-max-size",
     "dpll-pin",
-    "",
+    "max-pacing-offload-horizon",
     "netns-immutable",
     "headroom",
     "tailroom",
 ];
 
 /// The flags of a link.
-pub const LINK_FLAGS: [(u32, &str); 19] = [
+pub const LINK_FLAGS: [(u64, &str); 19] = [
     (1, "up"),
     (2, "broadcast"),
     (4, "debug"),
@@ -99,7 +99,7 @@ pub const LINK_FLAGS: [(u32, &str); 19] = [
 ];
 
 /// What more is asked for.
-pub const EXT_MASK: [(u32, &str); 8] = [
+pub const EXT_MASK: [(u64, &str); 8] = [
     (1, "vf"),
     (2, "brvlan"),
     (4, "brvlan-compressed"),
@@ -111,7 +111,7 @@ pub const EXT_MASK: [(u32, &str); 8] = [
 ];
 
 /// The flags of an interface of IPv6.
-pub const INET6_FLAGS: [(u32, &str); 5] = [
+pub const INET6_FLAGS: [(u64, &str); 5] = [
     (0x80, "ra-otherconf"),
     (0x40, "ra-managed"),
     (0x20, "ra-rcvd"),
@@ -188,7 +188,7 @@ pub const STATS: [&str; 25] = [
 ];
 
 /// The settings of IPv4.
-pub const INET_CONF: [&str; 34] = [
+pub const INET_CONF: [&str; 33] = [
     "forwarding",
     "mc-forwarding",
     "proxy-arp",
@@ -222,7 +222,6 @@ pub const INET_CONF: [&str; 34] = [
     "drop-gratuitous-arp",
     "bc-forwarding",
     "arp-evict-nocarrier",
-    "reserved-34",
 ];
 
 /// The settings of IPv6.
@@ -290,7 +289,7 @@ pub const INET6_CONF: [&str; 60] = [
 ];
 
 /// The counters of IPv6, after how many there are.
-pub const INET6_STATS: [&str; 39] = [
+pub const INET6_STATS: [&str; 38] = [
     "num",
     "inpkts",
     "inoctets",
@@ -329,7 +328,6 @@ pub const INET6_STATS: [&str; 39] = [
     "cepkts",
     "reasm-overlaps",
     "outtransmits",
-    "reserved-39",
 ];
 
 /// The counters of ICMPv6, after how many there are.

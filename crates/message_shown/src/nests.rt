@@ -5,70 +5,80 @@ ghost use Rattle.shown.specs.Drafts.{with_value, object_of};
 ghost use Rattle.message_shown.specs.Nests.{link_info_item, prop_item, devlink_port_item, dpll_pin_item};
 ghost use Rattle.message_shown.specs.Nests.{down_reason_item};
 ghost use Rattle.message_shown.specs.Nests.{xdp_item, bridge_item, proto_inet6_item, wireless_shown};
+ghost use Rattle.message_shown.specs.Nests.{elements_in};
 ghost use Rattle.message_shown.specs.Numbered.{link_info_numbered, prop_numbered, devlink_port_numbered};
 ghost use Rattle.message_shown.specs.Numbered.{dpll_pin_numbered, down_reason_numbered, xdp_numbered, bridge_numbered};
 ghost use Rattle.message_shown.specs.Numbered.{proto_inet6_numbered};
 
-use crate::member::{Member, frame_of};
+use crate::context::Context;
+use crate::member::{Attribute, KeptFrame, frame_of};
 use crate::names::XDP_ATTACHED;
+use crate::rows::{Whole, add_at, add_by, kept_at, kept_by};
+use link_info::Place;
 use link_msg::{
     DevlinkPort, DpllPin, LinkInfo, LinkProtoInfoBridge, LinkProtoInfoInet6,
     LinkProtocolDownReason, LinkXdp, Prop, WirelessEvent,
 };
+use nla_wire::fields::u16_at;
+use nla_wire::{NLA_TYPE_MASK, Nla};
 use shown::{Nest, Page};
 use std::alloc::AllocError;
 
-impl Member for LinkInfo {
+impl Attribute for LinkInfo {
     ghost item = { link_info_item };
 
-    fn kept(&self) -> Option<(u16, &[u8])> {
+    fn kept_frame(&self, cx: &Context<'_>) -> Option<KeptFrame<'_>> {
         match self {
-            LinkInfo::Other(nla) => frame_of(nla),
-            _ => None,
+            LinkInfo::Other(nla) => {
+                kept_by::<Whole>(cx, cx.known_info(nla.kind() & NLA_TYPE_MASK), nla)
+            }
+            LinkInfo::Kind(_) => None,
         }
     }
 
-    fn show(&self, page: &mut Page) -> Result<(), AllocError> {
+    fn add(&self, cx: &Context<'_>, page: &mut Page) -> Result<(), AllocError> {
         match self {
             LinkInfo::Kind(text) => page.string("kind", text.as_str()),
-            LinkInfo::Other(_) => Ok(()),
+            LinkInfo::Other(nla) => {
+                add_by::<Whole>(cx, page, cx.known_info(nla.kind() & NLA_TYPE_MASK), nla)
+            }
         }
     }
 
     ghost numbered = { link_info_numbered };
 }
 
-impl Member for Prop {
-    ghost item = { prop_item };
+impl Attribute for Prop {
+    ghost item = { λ cx v. prop_item v };
 
-    fn kept(&self) -> Option<(u16, &[u8])> {
+    fn kept_frame(&self, _cx: &Context<'_>) -> Option<KeptFrame<'_>> {
         match self {
             Prop::Other(nla) => frame_of(nla),
             _ => None,
         }
     }
 
-    fn show(&self, page: &mut Page) -> Result<(), AllocError> {
+    fn add(&self, _cx: &Context<'_>, page: &mut Page) -> Result<(), AllocError> {
         match self {
             Prop::AltIfName(text) => page.string("alt-ifname", text.as_str()),
             Prop::Other(_) => Ok(()),
         }
     }
 
-    ghost numbered = { prop_numbered };
+    ghost numbered = { λ cx. prop_numbered };
 }
 
-impl Member for DevlinkPort {
-    ghost item = { devlink_port_item };
+impl Attribute for DevlinkPort {
+    ghost item = { λ cx v. devlink_port_item v };
 
-    fn kept(&self) -> Option<(u16, &[u8])> {
+    fn kept_frame(&self, _cx: &Context<'_>) -> Option<KeptFrame<'_>> {
         match self {
             DevlinkPort::Other(nla) => frame_of(nla),
             _ => None,
         }
     }
 
-    fn show(&self, page: &mut Page) -> Result<(), AllocError> {
+    fn add(&self, _cx: &Context<'_>, page: &mut Page) -> Result<(), AllocError> {
         match self {
             DevlinkPort::BusName(text) => page.string("bus-name", text.as_str()),
             DevlinkPort::DevName(text) => page.string("dev-name", text.as_str()),
@@ -77,40 +87,40 @@ impl Member for DevlinkPort {
         }
     }
 
-    ghost numbered = { devlink_port_numbered };
+    ghost numbered = { λ cx. devlink_port_numbered };
 }
 
-impl Member for DpllPin {
-    ghost item = { dpll_pin_item };
+impl Attribute for DpllPin {
+    ghost item = { λ cx v. dpll_pin_item v };
 
-    fn kept(&self) -> Option<(u16, &[u8])> {
+    fn kept_frame(&self, _cx: &Context<'_>) -> Option<KeptFrame<'_>> {
         match self {
             DpllPin::Other(nla) => frame_of(nla),
             _ => None,
         }
     }
 
-    fn show(&self, page: &mut Page) -> Result<(), AllocError> {
+    fn add(&self, _cx: &Context<'_>, page: &mut Page) -> Result<(), AllocError> {
         match self {
             DpllPin::PinId(n) => page.number("id", (*n).into()),
             DpllPin::Other(_) => Ok(()),
         }
     }
 
-    ghost numbered = { dpll_pin_numbered };
+    ghost numbered = { λ cx. dpll_pin_numbered };
 }
 
-impl Member for LinkProtocolDownReason {
-    ghost item = { down_reason_item };
+impl Attribute for LinkProtocolDownReason {
+    ghost item = { λ cx v. down_reason_item v };
 
-    fn kept(&self) -> Option<(u16, &[u8])> {
+    fn kept_frame(&self, _cx: &Context<'_>) -> Option<KeptFrame<'_>> {
         match self {
             LinkProtocolDownReason::Other(nla) => frame_of(nla),
             _ => None,
         }
     }
 
-    fn show(&self, page: &mut Page) -> Result<(), AllocError> {
+    fn add(&self, _cx: &Context<'_>, page: &mut Page) -> Result<(), AllocError> {
         match self {
             LinkProtocolDownReason::Mask(n) => page.number("mask", (*n).into()),
             LinkProtocolDownReason::Value(n) => page.number("value", (*n).into()),
@@ -118,20 +128,20 @@ impl Member for LinkProtocolDownReason {
         }
     }
 
-    ghost numbered = { down_reason_numbered };
+    ghost numbered = { λ cx. down_reason_numbered };
 }
 
-impl Member for LinkXdp {
-    ghost item = { xdp_item };
+impl Attribute for LinkXdp {
+    ghost item = { λ cx v. xdp_item v };
 
-    fn kept(&self) -> Option<(u16, &[u8])> {
+    fn kept_frame(&self, _cx: &Context<'_>) -> Option<KeptFrame<'_>> {
         match self {
             LinkXdp::Other(nla) => frame_of(nla),
             _ => None,
         }
     }
 
-    fn show(&self, page: &mut Page) -> Result<(), AllocError> {
+    fn add(&self, _cx: &Context<'_>, page: &mut Page) -> Result<(), AllocError> {
         match self {
             LinkXdp::Fd(n) => page.signed("fd", (*n).into()),
             LinkXdp::Attached(mode) => {
@@ -147,37 +157,54 @@ impl Member for LinkXdp {
         }
     }
 
-    ghost numbered = { xdp_numbered };
+    ghost numbered = { λ cx. xdp_numbered };
 }
 
-impl Member for LinkProtoInfoBridge {
+impl Attribute for LinkProtoInfoBridge {
     ghost item = { bridge_item };
 
-    fn kept(&self) -> Option<(u16, &[u8])> {
+    fn kept_frame(&self, cx: &Context<'_>) -> Option<KeptFrame<'_>> {
         let LinkProtoInfoBridge::Other(nla) = self;
-        frame_of(nla)
+        kept_at::<Whole>(cx, Place::BridgePort, nla)
     }
 
-    fn show(&self, _page: &mut Page) -> Result<(), AllocError> {
-        Ok(())
+    fn add(&self, cx: &Context<'_>, page: &mut Page) -> Result<(), AllocError> {
+        let LinkProtoInfoBridge::Other(nla) = self;
+        add_at::<Whole>(cx, page, Place::BridgePort, nla)
     }
 
     ghost numbered = { bridge_numbered };
 }
 
-impl Member for LinkProtoInfoInet6 {
+impl Attribute for LinkProtoInfoInet6 {
     ghost item = { proto_inet6_item };
 
-    fn kept(&self) -> Option<(u16, &[u8])> {
+    fn kept_frame(&self, cx: &Context<'_>) -> Option<KeptFrame<'_>> {
         let LinkProtoInfoInet6::Other(nla) = self;
-        frame_of(nla)
+        kept_at::<Whole>(cx, Place::Inet6, nla)
     }
 
-    fn show(&self, _page: &mut Page) -> Result<(), AllocError> {
-        Ok(())
+    fn add(&self, cx: &Context<'_>, page: &mut Page) -> Result<(), AllocError> {
+        let LinkProtoInfoInet6::Other(nla) = self;
+        add_at::<Whole>(cx, page, Place::Inet6, nla)
     }
 
     ghost numbered = { proto_inet6_numbered };
+}
+
+/// The size of `struct iw_point` in an event, which has the length of what follows it in its first two bytes
+/// (linux/wireless.h).
+const POINT_SIZE: usize = 8;
+
+/// The information elements, without the `struct iw_point` that kernels put in front of them.
+fn elements_in(bytes: &[u8]) -> &[u8]
+    ensures { result.now ≡ elements_in bytes.now }
+{
+    if u16_at(bytes, 0) as usize + POINT_SIZE == bytes.len() {
+        &bytes[POINT_SIZE..]
+    } else {
+        bytes
+    }
 }
 
 /// Adds a wireless event: the information elements of an association, or any other payload.
@@ -187,8 +214,12 @@ pub fn show_wireless(page: &mut Page, name: &str, event: &WirelessEvent) -> Resu
 {
     page.begin(name, Nest::Object)?;
     match event {
-        WirelessEvent::AssociateRequest(bytes) => page.hex("assocreqie", bytes.as_slice())?,
-        WirelessEvent::AssociateResponse(bytes) => page.hex("assocrespie", bytes.as_slice())?,
+        WirelessEvent::AssociateRequest(bytes) => {
+            page.hex("assocreqie", elements_in(bytes.as_slice()))?
+        }
+        WirelessEvent::AssociateResponse(bytes) => {
+            page.hex("assocrespie", elements_in(bytes.as_slice()))?
+        }
         WirelessEvent::Other(bytes) => page.hex("payload", bytes.as_slice())?,
     }
     page.end()

@@ -6,12 +6,15 @@ ghost use Rattle.message_shown.specs.Places.{objects};
 ghost use Rattle.message_shown.specs.Functions.{word_shown, setting_shown, mac_shown, vlan_shown, link_state_shown};
 ghost use Rattle.message_shown.specs.Functions.{rate_shown, guid_shown, vlan_protocol_name, vlan_info_shown};
 ghost use Rattle.message_shown.specs.Functions.{vf_stats_item, vf_vlan_item, vf_port_item, vf_info_item};
-ghost use Rattle.message_shown.specs.Functions.{function_members};
+ghost use Rattle.message_shown.specs.Functions.{function_members, function_address};
 ghost use Rattle.message_shown.specs.Functions.{port_members, objects_under};
 ghost use Rattle.message_shown.specs.Numbered.{vf_info_numbered, vf_stats_numbered, vf_vlan_numbered, vf_port_numbered};
 
-use crate::member::{Member, frame_of, show_listed, show_object};
+use crate::context::Context;
+use crate::member::{Attribute, KeptFrame, frame_of, show_listed, show_object};
 use crate::names::VF_LINK_STATES;
+use crate::rows::{Whole, add_at, kept_at};
+use link_info::Place;
 use link_msg::{
     LinkVfInfo, LinkVfPort, VfInfo, VfInfoGuid, VfInfoLinkState, VfInfoMac, VfInfoRate, VfInfoVlan,
     VfPort, VfStats, VfVlan, VfVlanInfo, VlanProtocol,
@@ -20,97 +23,116 @@ use shown::{Nest, Page};
 use std::alloc::AllocError;
 
 /// Adds virtual functions, as objects.
-fn show_function_entries(page: &mut Page, entries: &[LinkVfInfo]) -> Result<(), AllocError>
+fn show_function_entries(
+    cx: &Context<'_>,
+    page: &mut Page,
+    entries: &[LinkVfInfo],
+) -> Result<(), AllocError>
     ensures { OnOk result
-        (page.new ≡ with_members (objects (map function_members entries.now)) page.old) }
+        (page.new ≡ with_members (objects (map (function_members cx.now) entries.now)) page.old) }
 {
     for entry in entries {
-        show_object(page, "", entry.0.as_slice())?;
+        show_object(cx, page, "", entry.0.as_slice())?;
     }
     Ok(())
 }
 
 /// Adds the list of virtual functions.
-pub fn show_functions(page: &mut Page, name: &str, entries: &[LinkVfInfo]) -> Result<(), AllocError>
+pub fn show_functions(
+    cx: &Context<'_>,
+    page: &mut Page,
+    name: &str,
+    entries: &[LinkVfInfo],
+) -> Result<(), AllocError>
     ensures { OnOk result (page.new ≡ with_members ((
       name.now,
       object_of
-          (objects_under (codes "info") (map function_members entries.now)),
+          (objects_under (codes "info") (map (function_members cx.now) entries.now)),
     ) ∷ []) page.old) }
 {
     page.begin(name, Nest::Object)?;
     page.begin("info", Nest::List)?;
-    show_function_entries(page, entries)?;
+    show_function_entries(cx, page, entries)?;
     page.end()?;
     page.end()
 }
 
 /// Adds ports, as objects.
-fn show_port_entries(page: &mut Page, entries: &[LinkVfPort]) -> Result<(), AllocError>
+fn show_port_entries(
+    cx: &Context<'_>,
+    page: &mut Page,
+    entries: &[LinkVfPort],
+) -> Result<(), AllocError>
     ensures { OnOk result
-        (page.new ≡ with_members (objects (map port_members entries.now)) page.old) }
+        (page.new ≡ with_members (objects (map (port_members cx.now) entries.now)) page.old) }
 {
     for entry in entries {
-        show_object(page, "", entry.0.as_slice())?;
+        show_object(cx, page, "", entry.0.as_slice())?;
     }
     Ok(())
 }
 
 /// Adds the list of ports.
-pub fn show_ports(page: &mut Page, name: &str, entries: &[LinkVfPort]) -> Result<(), AllocError>
+pub fn show_ports(
+    cx: &Context<'_>,
+    page: &mut Page,
+    name: &str,
+    entries: &[LinkVfPort],
+) -> Result<(), AllocError>
     ensures { OnOk result (page.new ≡ with_members ((
       name.now,
       object_of
-          (objects_under (codes "port") (map port_members entries.now)),
+          (objects_under (codes "port") (map (port_members cx.now) entries.now)),
     ) ∷ []) page.old) }
 {
     page.begin(name, Nest::Object)?;
     page.begin("port", Nest::List)?;
-    show_port_entries(page, entries)?;
+    show_port_entries(cx, page, entries)?;
     page.end()?;
     page.end()
 }
 
-impl Member for VfPort {
+impl Attribute for VfPort {
     ghost item = { vf_port_item };
 
-    fn kept(&self) -> Option<(u16, &[u8])> {
+    fn kept_frame(&self, cx: &Context<'_>) -> Option<KeptFrame<'_>> {
         let VfPort::Other(nla) = self;
-        frame_of(nla)
+        kept_at::<Whole>(cx, Place::Port, nla)
     }
 
-    fn show(&self, _page: &mut Page) -> Result<(), AllocError> {
-        Ok(())
+    fn add(&self, cx: &Context<'_>, page: &mut Page) -> Result<(), AllocError> {
+        let VfPort::Other(nla) = self;
+        add_at::<Whole>(cx, page, Place::Port, nla)
     }
 
     ghost numbered = { vf_port_numbered };
 }
 
-impl Member for VfInfo {
+impl Attribute for VfInfo {
     ghost item = { vf_info_item };
 
-    fn kept(&self) -> Option<(u16, &[u8])> {
+    fn kept_frame(&self, _cx: &Context<'_>) -> Option<KeptFrame<'_>> {
         match self {
             VfInfo::Other(nla) => frame_of(nla),
             _ => None,
         }
     }
 
-    fn show(&self, page: &mut Page) -> Result<(), AllocError> {
+    fn add(&self, cx: &Context<'_>, page: &mut Page) -> Result<(), AllocError> {
         match self {
-            VfInfo::Mac(mac) => show_mac(page, mac),
+            VfInfo::Mac(mac) => show_mac(cx, page, mac),
             VfInfo::Vlan(vlan) => show_vlan(page, vlan),
             VfInfo::TxRate(tx) => show_word(page, "tx-rate", tx.vf_id, "rate", tx.rate),
             VfInfo::SpoofCheck(it) => show_setting(page, "spoofchk", it.vf_id, it.enabled),
             VfInfo::LinkState(state) => show_link_state(page, state),
             VfInfo::Rate(rate) => show_rate(page, rate),
             VfInfo::RssQueryEn(it) => show_setting(page, "rss-query-en", it.vf_id, it.enabled),
-            VfInfo::Stats(items) => show_object(page, "stats", items.as_slice()),
+            VfInfo::Stats(items) => show_object(cx, page, "stats", items.as_slice()),
             VfInfo::Trust(it) => show_setting(page, "trust", it.vf_id, it.enabled),
             VfInfo::IbNodeGuid(guid) => show_guid(page, "ib-node-guid", guid),
             VfInfo::IbPortGuid(guid) => show_guid(page, "ib-port-guid", guid),
-            VfInfo::VlanList(items) => show_listed(page, "vlan-list", "info", items.as_slice()),
-            VfInfo::Broadcast(it) => page.hex("broadcast", &it.addr),
+            VfInfo::VlanList(items) => show_listed(cx, page, "vlan-list", "info", items.as_slice()),
+            VfInfo::Broadcast(it) => show_address(cx, page, "broadcast", &it.addr),
             VfInfo::Other(_) => Ok(()),
         }
     }
@@ -147,13 +169,31 @@ fn show_setting(
     show_word(page, name, function, "setting", is_enabled.into())
 }
 
-fn show_mac(page: &mut Page, mac: &VfInfoMac) -> Result<(), AllocError>
+/// Adds an address of a function: as many of its bytes as the link's own address has, or all of them.
+fn show_address(
+    cx: &Context<'_>,
+    page: &mut Page,
+    name: &str,
+    bytes: &[u8; 32],
+) -> Result<(), AllocError>
     ensures { OnOk result
-        (page.new ≡ with_value (codes "mac") (object_of (mac_shown mac.now)) page.old) }
+        (page.new ≡ with_value name.now (function_address cx.now bytes.now) page.old) }
+{
+    let len = cx.address_len;
+    if 0 < len && len <= bytes.len() {
+        page.address(name, &bytes[..len])
+    } else {
+        page.hex(name, bytes)
+    }
+}
+
+fn show_mac(cx: &Context<'_>, page: &mut Page, mac: &VfInfoMac) -> Result<(), AllocError>
+    ensures { OnOk result
+        (page.new ≡ with_value (codes "mac") (object_of (mac_shown cx.now mac.now)) page.old) }
 {
     page.begin("mac", Nest::Object)?;
     page.number("vf", mac.vf_id.into())?;
-    page.hex("mac", &mac.mac)?;
+    show_address(cx, page, "mac", &mac.mac)?;
     page.end()
 }
 
@@ -199,24 +239,24 @@ fn show_guid(page: &mut Page, name: &str, guid: &VfInfoGuid) -> Result<(), Alloc
     page.end()
 }
 
-impl Member for VfVlan {
-    ghost item = { vf_vlan_item };
+impl Attribute for VfVlan {
+    ghost item = { λ cx v. vf_vlan_item v };
 
-    fn kept(&self) -> Option<(u16, &[u8])> {
+    fn kept_frame(&self, _cx: &Context<'_>) -> Option<KeptFrame<'_>> {
         match self {
             VfVlan::Other(nla) => frame_of(nla),
             _ => None,
         }
     }
 
-    fn show(&self, page: &mut Page) -> Result<(), AllocError> {
+    fn add(&self, _cx: &Context<'_>, page: &mut Page) -> Result<(), AllocError> {
         match self {
             VfVlan::Info(info) => show_vlan_info(page, info),
             VfVlan::Other(_) => Ok(()),
         }
     }
 
-    ghost numbered = { vf_vlan_numbered };
+    ghost numbered = { λ cx. vf_vlan_numbered };
 }
 
 fn protocol_name(protocol: VlanProtocol) -> &'static str
@@ -240,17 +280,17 @@ fn show_vlan_info(page: &mut Page, info: &VfVlanInfo) -> Result<(), AllocError>
     page.end()
 }
 
-impl Member for VfStats {
-    ghost item = { vf_stats_item };
+impl Attribute for VfStats {
+    ghost item = { λ cx v. vf_stats_item v };
 
-    fn kept(&self) -> Option<(u16, &[u8])> {
+    fn kept_frame(&self, _cx: &Context<'_>) -> Option<KeptFrame<'_>> {
         match self {
             VfStats::Other(nla) => frame_of(nla),
             _ => None,
         }
     }
 
-    fn show(&self, page: &mut Page) -> Result<(), AllocError> {
+    fn add(&self, _cx: &Context<'_>, page: &mut Page) -> Result<(), AllocError> {
         match self {
             VfStats::RxPackets(n) => page.number("rx-packets", *n),
             VfStats::TxPackets(n) => page.number("tx-packets", *n),
@@ -264,5 +304,5 @@ impl Member for VfStats {
         }
     }
 
-    ghost numbered = { vf_stats_numbered };
+    ghost numbered = { λ cx. vf_stats_numbered };
 }

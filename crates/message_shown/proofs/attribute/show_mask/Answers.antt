@@ -10,5 +10,6 @@ returns c =
     let all : c.loop-mask.bits ≡ bits_of c.args.masks.now = c.loop-mask.invariant
     ∙ ap bits_of (take_all c.loop-mask.mask-index c.args.masks.now c.loop-mask-test.false) in
     on_ok_weaker c.flags.result
-    (λ is. is ∙ ap (λ bits. with_value c.args.name.now (flags_of ext_mask_names bits) c.args.page.now) all)
+    (λ is. is ∙ ap (λ bits. with_value c.args.name.now (flags_of ext_mask_names bits) c.args.page.now)
+    (c.into.ensures ∙ all))
     c.flags.ensures

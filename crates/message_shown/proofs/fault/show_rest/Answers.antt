@@ -10,12 +10,16 @@ use Rattle.message_shown.proofs.fault.show_rest.Goals as goal
 pub returns-in-Ok : goal.returns-in-Ok
 returns-in-Ok c =
     let family = then_one c.args.page.now _ c.number.new.self _ _ ([], refl) c.in_ok-number.ensures in
-    let index = then_one c.args.page.now _ c.number-2.new.self _ _ family c.in_ok-number-2.ensures in
-    let before = (codes "before", object_of (members_of (map attribute_item c.as_slice.result.now))) ∷ [] in
+    let index = then_one c.args.page.now _ c.show_index.new.page _ _ family c.in_ok-show_index.ensures in
+    let before = (
+      codes "before",
+      object_of (members_of (map (attribute_item c.with_address.result)
+          c.as_slice-attributes.result.now)),
+    ) ∷ [] in
     on_ok_weaker c.show_object.result
-    (λ is. then_more c.args.page.now c.number-2.new.self c.show_object.new.page before index is) c.show_object.ensures
+    (λ is. then_more c.args.page.now c.show_index.new.page c.show_object.new.page before index is) c.show_object.ensures
 
 pub returns-in_default : goal.returns-in_default
 returns-in_default c =
     let family = then_one c.args.page.now _ c.number.new.self _ _ ([], refl) c.in_ok-number.ensures in
-    then_one c.args.page.now _ c.number-2.new.self _ _ family c.in_ok-number-2.ensures
+    then_one c.args.page.now _ c.show_index.new.page _ _ family c.in_ok-show_index.ensures

@@ -4,5 +4,6 @@ use Rattle.message_shown.specs.Places.{objects, kept_ones}
 use Rattle.message_shown.proofs.member.show_frames.Given as goal
 
 abbrev pub invariant-loop-item : goal.invariant-loop-item
-invariant-loop-item g l = with_members (objects (kept_ones (map g.T.Member.item (drop l.item-index l.items)))) l.page
-    ≡ with_members (objects (kept_ones (map g.T.Member.item l.items))) l.fn.page
+invariant-loop-item g l =
+    with_members (objects (kept_ones (map (g.T.Member.item l.cx) (drop l.item-index l.items)))) l.page
+    ≡ with_members (objects (kept_ones (map (g.T.Member.item l.cx) l.items))) l.fn.page

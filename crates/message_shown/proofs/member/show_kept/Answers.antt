@@ -8,7 +8,7 @@ use Rattle.message_shown.proofs.member.show_kept.Goals as goal
 
 pub returns : goal.returns
 returns g c =
-    let items = map g.T.Member.item c.args.items.now in
+    let items = map (g.T.Member.item c.args.cx.now) c.args.items.now in
     let any : are_any (kept_ones items) ≡ true = cc (c.is_any_kept.ensures, c.if-not-is_any_kept.false) in
     on_ok_weaker c.end.result (λ ends. objects_shown (codes "other") (kept_ones items) c.args.page.now _ _ any
     (c.in_ok-show_frames.ensures ∙ ap (with_members (objects (kept_ones items))) c.in_ok-begin.ensures) ends)

@@ -8,28 +8,28 @@ use Rattle.message_shown.proofs.member.show_last.Goals.{in-Some+else-last-number
 
 pub loop-i-preserved : goal.loop-i-preserved
 loop-i-preserved g c =
-    let f = g.T.Member.item in
+    let f = g.T.Member.item c.args.cx.now in
     let xs = c.args.items.now in
     let i = c.loop-i.i in
     let x = c.index-items-i.result in
     let rest = map f (drop (i + 1) xs) in
     let on = on_one (λ ys. last_ones (map f ys)) xs i x in
-    elim c.match-number_of.branch [
+    elim c.match-number.branch [
       | in-Some+then-last-number+in_ok-show w ↦
           let number : number_in (f x) ≡ Some w.in-Some.number =
-          sym c.number_of.ensures.number ∙ w.in-Some.is in
+          sym c.number.ensures.number ∙ w.in-Some.is in
           on (shown_as (f x)) c.loop-i.page _ _ c.loop-i-test.true c.index-items-i.is
           (last_shown (f x) _ rest number (is_last f xs c.args.last.now i _ x c.requires
           w.in-Some.ensures.small c.loop-i-test.true c.index-items-i.is number w.if-last-number.true))
           c.loop-i.invariant (w.page-is ∙ w.in_ok-show.ensures)
       | in-Some+else-last-number w ↦
           let number : number_in (f x) ≡ Some w.in-Some.number =
-          sym c.number_of.ensures.number ∙ w.in-Some.is in
+          sym c.number.ensures.number ∙ w.in-Some.is in
           on [] c.loop-i.page _ _ c.loop-i-test.true c.index-items-i.is
           (last_passed (f x) _ rest number (is_earlier f xs c.args.last.now i _ x c.requires
           w.in-Some.ensures.small c.loop-i-test.true c.index-items-i.is number w.if-last-number.false))
           c.loop-i.invariant w.page-is
       | in_default w ↦
           on [] c.loop-i.page _ _ c.loop-i-test.true c.index-items-i.is
-          (last_kept (f x) rest (sym c.number_of.ensures.number ∙ w.in_default.is)) c.loop-i.invariant w.page-is
+          (last_kept (f x) rest (sym c.number.ensures.number ∙ w.in_default.is)) c.loop-i.invariant w.page-is
     ]

@@ -8,7 +8,7 @@ use Rattle.message_shown.proofs.member.show_members.Goals as goal
 
 pub returns : goal.returns
 returns g c =
-    let items = map g.T.Member.item c.args.items.now in
+    let items = map (g.T.Member.item c.args.cx.now) c.args.items.now in
     let repeated = list_under (codes "repeated") (map object_of (earlier_ones items)) in
     let others = list_under (codes "other") (map object_of (kept_ones items)) in
     on_ok_weaker c.show_kept.result (λ is. both_added (last_ones items ++ repeated) others c.args.page.now _ _

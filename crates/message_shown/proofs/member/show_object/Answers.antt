@@ -7,6 +7,6 @@ use Rattle.message_shown.proofs.member.show_object.Goals as goal
 
 pub returns : goal.returns
 returns g c =
-    let members = members_of (map g.T.Member.item c.args.items.now) in
+    let members = members_of (map (g.T.Member.item c.args.cx.now) c.args.items.now) in
     on_ok_weaker c.end.result (λ ends. object_ended c.args.name.now members c.args.page.now _ _
     (c.in_ok-show_members.ensures ∙ ap (with_members members) c.in_ok-begin.ensures) ends) c.end.ensures

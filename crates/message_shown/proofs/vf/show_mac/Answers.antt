@@ -9,8 +9,8 @@ use Rattle.message_shown.proofs.vf.show_mac.Goals as goal
 
 pub returns : goal.returns
 returns c =
-    let members = mac_shown c.args.mac.now in
+    let members = mac_shown c.args.cx.now c.args.mac.now in
     let begun : c.begin.new.self ≡ with_begun (codes "mac") Object c.args.page.now = c.in_ok-begin.ensures in
-    let filled : c.hex.new.self ≡ with_members members (with_begun (codes "mac") Object c.args.page.now) =
-    cc (begun, c.in_ok-number.ensures, c.in_ok-hex.ensures, c.into.ensures) in
+    let filled : c.show_address.new.page ≡ with_members members (with_begun (codes "mac") Object c.args.page.now) =
+    cc (begun, c.in_ok-number.ensures, c.in_ok-show_address.ensures, c.into.ensures) in
     on_ok_weaker c.end.result (λ ends. object_ended (codes "mac") members c.args.page.now _ _ filled ends) c.end.ensures

@@ -1,0 +1,32 @@
+//! The arguments of the program.
+
+ghost use Rattle.std.specs.Prelude.{◌≡◌};
+ghost use Rattle.linkshow.specs.Arguments.{request_of};
+
+/// What an argument asks for.
+#[derive(Clone, Copy, Debug, PartialEq, Eq)]
+pub enum Request {
+    /// `--help`: what the program does.
+    Help,
+    /// `--version`: which one it is.
+    Version,
+    /// `--kernel`: of which kernel the messages are.
+    Kernel,
+    /// No argument that there is.
+    Unknown,
+}
+
+/// What this argument asks for.
+pub fn asked_for(word: &str) -> Request
+    ensures { result ≡ request_of word.now }
+{
+    if word == "--help" {
+        Request::Help
+    } else if word == "--version" {
+        Request::Version
+    } else if word == "--kernel" {
+        Request::Kernel
+    } else {
+        Request::Unknown
+    }
+}
