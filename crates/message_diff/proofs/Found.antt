@@ -1,0 +1,25 @@
+-- Members at their places.
+use Rattle.std.proofs.Common.{◌≡◌, ◌≢◌, ◌<◌, ◌≤◌, ◌+◌, ℕ, List, length, slice_index_or, take, refl, sym, subst}
+use Rattle.std.proofs.lemmas.List.{take_all}
+use Rattle.std.proofs.lemmas.List.Elements.{All-more}
+use Rattle.std.specs.List.{All}
+use Rattle.message_diff.specs.Members.{Has, Lacks}
+use Rattle.message_diff.specs.declared.rows.Row.{Row}
+
+-- a member with the path at some place
+pub has_read : (rows : List Row) (k : ℕ) (r : Row) (path : List ℕ) → k < length rows → r ≡ slice_index_or rows k r
+    → r.path.items ≡ path → Has rows path r.value.now
+has_read rows k r path within is same = (k, r, within, sym is, (same, refl))
+
+-- what holds of the elements so far, and of the next one
+pub all_more : {X : Type 0} (P : X → Type 0) (xs : List X) (i : ℕ) (x : X) → i < length xs
+    → x ≡ slice_index_or xs i x → All P (take i xs) → P x → All P (take (i + 1) xs)
+all_more P xs i x within is before here = All-more P xs i x within before (subst P is here)
+
+-- what holds of as many elements as there are
+pub all_done : {X : Type 0} (P : X → Type 0) (xs : List X) (i : ℕ) → length xs ≤ i → All P (take i xs) → All P xs
+all_done P xs i over all = subst (All P) (take_all i xs over) all
+
+-- the same by equal paths and values
+pub has_same : (rows : List Row) (p q v w : List ℕ) → Has rows p v → p ≡ q → v ≡ w → Has rows q w
+has_same rows p q v w has path value = subst (λ x. Has rows q x) value (subst (λ x. Has rows x v) path has)

@@ -1,0 +1,114 @@
+//! A message as it is compared.
+
+ghost use Rattle.std.specs.Prelude.{◌≡◌, IfOk, IfErr, OnOk};
+ghost use Rattle.link_msg.specs.Canonical.{IsRefusal};
+ghost use Rattle.message_diff.specs.Compared.{HasTextBy};
+
+use link_msg::{CanonError, canonical};
+use link_state::state;
+use message_shown::answers::push_answer;
+use message_shown::context::Order;
+use std::alloc::{AllocError, Global};
+use std::marker::Model;
+
+/// What is compared of two messages.
+#[derive(Clone, Copy, Debug, PartialEq, Eq)]
+pub enum Compared {
+    /// Their state encodings: what moves by itself does not count.
+    State,
+    /// Their canonical encodings: all counts.
+    Message,
+}
+
+/// A message, and the encoding of it that is compared. A clause sees the encoding.
+#[derive(Drop)]
+pub struct Snapshot {
+    by: Compared,
+    order: Order,
+    text: Vec<u8>,
+    message: Vec<u8>,
+    line: Vec<u8>,
+}
+
+impl Model for Snapshot {
+    ghost use Rattle.std.specs.Prelude.{ℕ, List};
+
+    ghost Value = { List ℕ };
+
+    ghost view = { λ snapshot. snapshot.text.items };
+}
+
+/// The encoding of a message that is compared.
+fn text_by(alloc: Global, by: Compared, bytes: &[u8]) -> Result<Vec<u8>, CanonError>
+    ensures ok { IfOk result (λ text. HasTextBy by bytes.now text.items) }
+    ensures err { IfErr result (IsRefusal bytes.now) }
+{
+    match by {
+        Compared::State => state(alloc, bytes),
+        Compared::Message => canonical(alloc, bytes),
+    }
+}
+
+impl Snapshot {
+    /// The message that the bytes are, whose counters of IPv6 have this order.
+    ///
+    /// Refuses as `canonical` does.
+    pub fn new(
+        alloc: Global,
+        by: Compared,
+        order: Order,
+        bytes: &[u8],
+    ) -> Result<Snapshot, CanonError>
+        ensures ok { IfOk result (HasTextBy by bytes.now) }
+        ensures err { IfErr result (IsRefusal bytes.now) }
+    {
+        let text = text_by(alloc, by, bytes)?;
+        let Ok(message) = bytes.to_vec(alloc) else {
+            return Err(CanonError::OutOfMemory);
+        };
+        Ok(Snapshot {
+            by,
+            order,
+            text,
+            message,
+            line: Vec::new(alloc),
+        })
+    }
+
+    /// What is compared.
+    pub fn by(&self) -> Compared {
+        self.by
+    }
+
+    /// The order of its counters of IPv6.
+    pub fn order(&self) -> Order {
+        self.order
+    }
+
+    /// The encoding that is compared.
+    pub fn text(&self) -> &[u8]
+        ensures { result.now ≡ self.now }
+    {
+        self.text.as_slice()
+    }
+
+    /// The bytes that the message was made of.
+    pub fn message(&self) -> &[u8] {
+        self.message.as_slice()
+    }
+
+    /// Makes the line that `Shown` writes for the encoding, if it is not made yet.
+    pub fn show(&mut self, alloc: Global) -> Result<(), AllocError>
+        ensures { self.new ≡ self.old }
+    {
+        if !self.line.is_empty() {
+            return Ok(());
+        }
+        push_answer(alloc, self.order, &mut self.line, self.text.as_slice())
+    }
+
+    /// The line that was made.
+    pub fn line(&self) -> &[u8] {
+        self.line.as_slice()
+    }
+}

@@ -1,0 +1,196 @@
+//! A line for an interface that came, went or changed.
+
+ghost use Rattle.std.specs.Prelude.{◌≡◌, ◌<◌, ◌≤◌, ◌↔◌, IsTrue, IfOk, IfErr, OnOk, false, length};
+ghost use Rattle.link_msg.specs.Canonical.{IsRefusalOfTwo};
+ghost use Rattle.message_diff.specs.Compared.{TellsIfDiffers};
+
+use crate::common::Common;
+use crate::counters::without_counters;
+use crate::differences::{Change, differences};
+use crate::line::{push_changes, push_head, push_texts};
+use crate::rows::{Row, rows};
+use crate::snapshot::{Compared, Snapshot};
+use link_msg::CanonError;
+use message_shown::context::Order;
+use std::alloc::{AllocError, Global};
+
+/// Adds a line that tells that the interface came: `words`, which are members with a comma after each, `change`, which
+/// is `new`, and its family, index and name.
+pub fn push_new(
+    alloc: Global,
+    words: &[u8],
+    new: &mut Snapshot,
+    out: &mut Vec<u8>,
+) -> Result<(), AllocError>
+    ensures said { OnOk result (length out.old.items < length out.new.items) }
+    ensures kept { new.new ≡ new.old }
+{
+    push_alone(alloc, words, "new", new, out)
+}
+
+/// Adds a line that tells that the interface went: the same, where `change` is `gone`.
+pub fn push_gone(
+    alloc: Global,
+    words: &[u8],
+    old: &mut Snapshot,
+    out: &mut Vec<u8>,
+) -> Result<(), AllocError>
+    ensures said { OnOk result (length out.old.items < length out.new.items) }
+    ensures kept { old.new ≡ old.old }
+{
+    push_alone(alloc, words, "gone", old, out)
+}
+
+/// Adds a line that has no changes.
+fn push_alone(
+    alloc: Global,
+    words: &[u8],
+    change: &str,
+    snapshot: &mut Snapshot,
+    out: &mut Vec<u8>,
+) -> Result<(), AllocError>
+    ensures said { OnOk result (length out.old.items < length out.new.items) }
+    ensures kept { snapshot.new ≡ snapshot.old }
+{
+    snapshot.show(alloc)?;
+    let line = snapshot.line();
+    let all = rows(alloc, line, Common::whole(line))?;
+    push_head(out, words, change, all.as_slice())?;
+    out.extend_from_slice(b"}\n")
+}
+
+/// Whether one of the changes may be of a counter: of two encodings with the same paths and the same kinds of device
+/// the same numbers are zero.
+fn may_be_counters(changes: &[Change<'_>]) -> bool {
+    changes.iter().any(|change| match change {
+        Change::Came(_, _) | Change::Went(_, _) => true,
+        Change::Turned(path, _, _) => path.starts_with(b"linkinfo."),
+    })
+}
+
+/// Ends a line by what differs between the rows, or else by the encodings.
+fn push_differences(
+    alloc: Global,
+    old: &Snapshot,
+    new: &Snapshot,
+    old_rows: &[Row<'_>],
+    new_rows: &[Row<'_>],
+    out: &mut Vec<u8>,
+) -> Result<(), AllocError>
+    ensures { OnOk result (length out.old.items ≤ length out.new.items) }
+{
+    let changes = differences(alloc, old_rows, new_rows)?;
+    if changes.is_empty() {
+        return push_texts(alloc, out, old.text(), new.text());
+    }
+    push_changes(out, changes.as_slice())
+}
+
+/// Ends a line by what differs between the rows without counters.
+fn push_kept(
+    alloc: Global,
+    old: &Snapshot,
+    new: &Snapshot,
+    old_rows: &[Row<'_>],
+    new_rows: &[Row<'_>],
+    out: &mut Vec<u8>,
+) -> Result<(), AllocError>
+    ensures { OnOk result (length out.old.items ≤ length out.new.items) }
+{
+    let old_kept = without_counters(alloc, old.order(), old.message(), old_rows)?;
+    let new_kept = without_counters(alloc, new.order(), new.message(), new_rows)?;
+    push_differences(
+        alloc,
+        old,
+        new,
+        old_kept.as_slice(),
+        new_kept.as_slice(),
+        out,
+    )
+}
+
+/// Adds a line for an interface whose encoding is another.
+fn push_difference(
+    alloc: Global,
+    words: &[u8],
+    old: &Snapshot,
+    new: &Snapshot,
+    out: &mut Vec<u8>,
+) -> Result<(), AllocError>
+    ensures { OnOk result (length out.old.items < length out.new.items) }
+{
+    let common = Common::new(old.line(), new.line());
+    let old_rows = rows(alloc, old.line(), common)?;
+    let new_rows = rows(alloc, new.line(), common)?;
+    push_head(out, words, "changed", new_rows.as_slice())?;
+    let changes = differences(alloc, old_rows.as_slice(), new_rows.as_slice())?;
+    if new.by() == Compared::State && may_be_counters(changes.as_slice()) {
+        return push_kept(
+            alloc,
+            old,
+            new,
+            old_rows.as_slice(),
+            new_rows.as_slice(),
+            out,
+        );
+    }
+    if changes.is_empty() {
+        return push_texts(alloc, out, old.text(), new.text());
+    }
+    push_changes(out, changes.as_slice())
+}
+
+/// Adds a line that tells what changed of the interface, if its encoding is another, and returns whether it is.
+///
+/// The line has `words`, which are members with a comma after each, `change`, which is `changed`, family, index and
+/// name of the new message, and `changes`: of each path whose value differs `path`, `old` and `new`, of which one is
+/// left out where the path came or went. Of state encodings, paths that have a counter's zero are left out. Where the
+/// encodings differ and no path does, the one path `state` has both of them in hexadecimal.
+pub fn push_changed(
+    alloc: Global,
+    words: &[u8],
+    old: &mut Snapshot,
+    new: &mut Snapshot,
+    out: &mut Vec<u8>,
+) -> Result<bool, AllocError>
+    ensures told { IfOk result (λ told. (told ≡ false) ↔ (old.old ≡ new.old)) }
+    ensures silent { IfOk result (λ told. told ≡ false → out.new ≡ out.old) }
+    ensures said { IfOk result
+        (λ told. IsTrue told → length out.old.items < length out.new.items) }
+    ensures old_kept { old.new ≡ old.old }
+    ensures new_kept { new.new ≡ new.old }
+{
+    if old.text() == new.text() {
+        return Ok(false);
+    }
+    old.show(alloc)?;
+    new.show(alloc)?;
+    push_difference(alloc, words, old, new, out)?;
+    Ok(true)
+}
+
+/// Adds a line that tells what differs between the messages that the bytes are, if their encodings do, and returns
+/// whether they do.
+///
+/// Refuses as `same_message` does, each refusal of the old one before those of the new one; then nothing was added.
+pub fn push_compared(
+    alloc: Global,
+    by: Compared,
+    order: Order,
+    old: &[u8],
+    new: &[u8],
+    out: &mut Vec<u8>,
+) -> Result<bool, CanonError>
+    ensures told { IfOk result (TellsIfDiffers by old.now new.now) }
+    ensures silent { IfOk result (λ told. told ≡ false → out.new ≡ out.old) }
+    ensures said { IfOk result
+        (λ told. IsTrue told → length out.old.items < length out.new.items) }
+    ensures err { IfErr result (IsRefusalOfTwo old.now new.now) }
+{
+    let mut was = Snapshot::new(alloc, by, order, old)?;
+    let mut is = Snapshot::new(alloc, by, order, new)?;
+    match push_changed(alloc, b"", &mut was, &mut is, out) {
+        Ok(told) => Ok(told),
+        Err(AllocError) => Err(CanonError::OutOfMemory),
+    }
+}
