@@ -1,5 +1,5 @@
 /* Preloaded into an example or into linkdump: once, recv fails or gives what a kernel gives seldom, or each call of
- * socket fails. KERNEL_FAULT says which. Each send is told on standard error. */
+ * socket fails. KERNEL_FAULT says which. Each send is reported on standard error. */
 #define _GNU_SOURCE
 #include <dlfcn.h>
 #include <errno.h>

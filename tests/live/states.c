@@ -2,8 +2,8 @@
  *
  *     states            a line each: family, index, name, and the encoding as hexadecimal
  *     states SECONDS    polls for so long, and tells how many links there are, how often they were polled, and of how
- *                       many the canonical encoding moved; a state that moves, and a link that comes or goes, is told
- *                       on standard error, and the exit status is 1
+ *                       many the canonical encoding moved; a state that moves, and a link that comes or goes, is
+ *                       reported on standard error, and the exit status is 1
  */
 #include <errno.h>
 #include <linux/if_link.h>

@@ -210,14 +210,20 @@ fn records_of_functions(_rt: HostRuntime) {
 #[test]
 fn readers_and_writers(rt: HostRuntime) {
     let mut out = [0; 8];
-    emit_u16(&mut out, parse_u16(&[1, 2]).expect(&rt, "it is read"));
-    emit_u32(&mut out, parse_u32(&[1, 2, 3, 4]).expect(&rt, "it is read"));
-    emit_i32(&mut out, parse_i32(&[1, 2, 3, 4]).expect(&rt, "it is read"));
+    emit_u16(&mut out, parse_u16(&[0x01, 0x02]).expect(&rt, "it is read"));
+    emit_u32(
+        &mut out,
+        parse_u32(&[0x01, 0x02, 0x03, 0x04]).expect(&rt, "it is read"),
+    );
+    emit_i32(
+        &mut out,
+        parse_i32(&[0x01, 0x02, 0x03, 0x04]).expect(&rt, "it is read"),
+    );
     emit_u64(
         &mut out,
-        parse_u64(&[1, 2, 3, 4, 5, 6, 7, 8]).expect(&rt, "it is read"),
+        parse_u64(&[0x01, 0x02, 0x03, 0x04, 0x05, 0x06, 0x07, 0x08]).expect(&rt, "it is read"),
     );
-    assert!(rt; equal(&out, &[1, 2, 3, 4, 5, 6, 7, 8]));
+    assert!(rt; equal(&out, &[0x01, 0x02, 0x03, 0x04, 0x05, 0x06, 0x07, 0x08]));
     assert!(rt; parse_u8(&[9]).expect(&rt, "it is read") == 9);
 }
 

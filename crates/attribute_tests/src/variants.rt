@@ -369,9 +369,13 @@ const ROWS: [Row<'_>; VARIANTS] = [
 fn are_read(rt: &impl Abort, alloc: Global, rows: &[Row<'_>], wanted: &[LinkAttribute]) {
     assert!(rt; rows.len() == wanted.len());
     for ((label, family, bytes), wanted) in rows.iter().zip(wanted) {
-        let buffer = NlaBuffer::new_checked(bytes).expect(rt, "it is a frame");
+        let Ok(buffer) = NlaBuffer::new_checked(bytes) else {
+            panic!(rt; "{label} is no frame");
+        };
         let family = AddressFamily::from(*family);
-        let read = LinkAttribute::parse_with_param(alloc, &buffer, family).expect(rt, "it is read");
+        let Ok(read) = LinkAttribute::parse_with_param(alloc, &buffer, family) else {
+            panic!(rt; "{label} is not read");
+        };
         assert!(rt; is_copied(alloc, &read, wanted), "{label}");
     }
 }

@@ -8,8 +8,8 @@ use nla_wire::NlaRead;
 /// `IFLA_INFO_KIND` vlan, and `IFLA_INFO_DATA` with the id 100 and the protocol 802.1ad, as `ip link add link .. type
 /// vlan proto 802.1ad id 100` has them.
 const VLAN: [u8; 32] = [
-    9, 0, 1, 0, 0x76, 0x6c, 0x61, 0x6e, 0, 0, 0, 0, 20, 0, 2, 0, 6, 0, 1, 0, 100, 0, 0, 0, 6, 0, 5,
-    0, 0x88, 0xa8, 0, 0,
+    0x09, 0x00, 0x01, 0x00, 0x76, 0x6c, 0x61, 0x6e, 0x00, 0x00, 0x00, 0x00, 0x14, 0x00, 0x02, 0x00,
+    0x06, 0x00, 0x01, 0x00, 0x64, 0x00, 0x00, 0x00, 0x06, 0x00, 0x05, 0x00, 0x88, 0xa8, 0x00, 0x00,
 ];
 
 /// Whether this is a number.
@@ -59,10 +59,14 @@ fn what_does_not_fit_is_refused(rt: HostRuntime) {
     assert!(rt; long == Err(InfoError::NotHeld));
     let text = vlan.set(alloc, "id", Value::Text("100"));
     assert!(rt; text == Err(InfoError::NotHeld));
-    let short = vlan.set(alloc, "flag", Value::Bytes(&[1, 0, 0, 0]));
+    let short = vlan.set(alloc, "flag", Value::Bytes(&[0x01, 0x00, 0x00, 0x00]));
     assert!(rt; short == Err(InfoError::NotHeld));
-    vlan.set(alloc, "flag", Value::Bytes(&[1, 0, 0, 0, 1, 0, 0, 0]))
-        .expect(&rt, "flags and mask");
+    vlan.set(
+        alloc,
+        "flag",
+        Value::Bytes(&[0x01, 0x00, 0x00, 0x00, 0x01, 0x00, 0x00, 0x00]),
+    )
+    .expect(&rt, "flags and mask");
 }
 
 #[test]

@@ -6,15 +6,15 @@ use nla_wire::{Cause, NlaBuffer};
 
 /// Data of a vlan: its id with a flag bit of its kind, its protocol, an id of three bytes, and a number without a row.
 const DATA: [u8; 32] = [
-    6, 0, 1, 0x80, 100, 0, 0, 0, 6, 0, 5, 0, 0x88, 0xa8, 0, 0, 7, 0, 1, 0, 1, 2, 3, 0, 5, 0, 99, 0,
-    7, 0, 0, 0,
+    0x06, 0x00, 0x01, 0x80, 0x64, 0x00, 0x00, 0x00, 0x06, 0x00, 0x05, 0x00, 0x88, 0xa8, 0x00, 0x00,
+    0x07, 0x00, 0x01, 0x00, 0x01, 0x02, 0x03, 0x00, 0x05, 0x00, 0x63, 0x00, 0x07, 0x00, 0x00, 0x00,
 ];
 
 /// The row's name, the kind and the value of each field.
 const FIELDS: [(&str, u16, Value<'static>); 4] = [
     ("id", 0x8001, Value::Unsigned(100)),
     ("protocol", 5, Value::Unsigned(0x88a8)),
-    ("id", 1, Value::Bytes(&[1, 2, 3])),
+    ("id", 1, Value::Bytes(&[0x01, 0x02, 0x03])),
     ("", 99, Value::Bytes(&[7])),
 ];
 

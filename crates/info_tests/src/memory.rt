@@ -9,8 +9,9 @@ use std::process::Abort;
 
 /// `IFLA_INFO_KIND` vxlan, and `IFLA_INFO_DATA` with the id 42, the port 4789 and collect-metadata 1.
 const VXLAN: [u8; 40] = [
-    10, 0, 1, 0, 0x76, 0x78, 0x6c, 0x61, 0x6e, 0, 0, 0, 28, 0, 2, 0, 8, 0, 1, 0, 42, 0, 0, 0, 6, 0,
-    15, 0, 0x12, 0xb5, 0, 0, 5, 0, 25, 0, 1, 0, 0, 0,
+    0x0a, 0x00, 0x01, 0x00, 0x76, 0x78, 0x6c, 0x61, 0x6e, 0x00, 0x00, 0x00, 0x1c, 0x00, 0x02, 0x00,
+    0x08, 0x00, 0x01, 0x00, 0x2a, 0x00, 0x00, 0x00, 0x06, 0x00, 0x0f, 0x00, 0x12, 0xb5, 0x00, 0x00,
+    0x05, 0x00, 0x19, 0x00, 0x01, 0x00, 0x00, 0x00,
 ];
 
 /// What is set: names and numbers, the id twice.
@@ -29,25 +30,39 @@ fn number(info: &Info, name: &str) -> Option<u64> {
     }
 }
 
+/// The numbers of all names that are set here.
+fn numbers(info: &Info) -> [Option<u64>; 3] {
+    [
+        number(info, "id"),
+        number(info, "port"),
+        number(info, "collect-metadata"),
+    ]
+}
+
+/// The call that was refused memory, if one was: it is refused once.
+type Refused = Option<&'static str>;
+
 /// A vxlan, nothing of which is set.
-fn new(rt: &impl Abort, alloc: Global) -> Info {
+fn new(rt: &impl Abort, alloc: Global, refused: &mut Refused) -> Info {
     match Info::new(alloc, "vxlan") {
         Ok(info) => info,
         Err(error) => {
             assert_eq!(rt; error, InfoError::OutOfMemory);
+            *refused = Some("Info::new");
             Info::new(alloc, "vxlan").expect(rt, "memory is refused once")
         }
     }
 }
 
 /// Sets a number.
-fn set(rt: &impl Abort, alloc: Global, info: &mut Info, name: &str, n: u64) {
-    let before = number(info, name);
+fn set(rt: &impl Abort, alloc: Global, info: &mut Info, name: &str, n: u64, refused: &mut Refused) {
+    let before = numbers(info);
     match info.set(alloc, name, Value::Unsigned(n)) {
         Ok(()) => (),
         Err(error) => {
             assert_eq!(rt; error, InfoError::OutOfMemory);
-            assert!(rt; number(info, name) == before, "{name} is as it was");
+            assert!(rt; numbers(info) == before, "{name}: all is as it was");
+            *refused = Some("Info::set");
             info.set(alloc, name, Value::Unsigned(n))
                 .expect(rt, "memory is refused once");
         }
@@ -56,51 +71,59 @@ fn set(rt: &impl Abort, alloc: Global, info: &mut Info, name: &str, n: u64) {
 }
 
 /// What `IFLA_LINKINFO` holds.
-fn list(rt: &impl Abort, alloc: Global, info: &Info) -> Vec<LinkInfo> {
+fn list(rt: &impl Abort, alloc: Global, info: &Info, refused: &mut Refused) -> Vec<LinkInfo> {
     match info.list(alloc) {
         Ok(list) => list,
         Err(error) => {
             assert_eq!(rt; error, InfoError::OutOfMemory);
+            *refused = Some("Info::list");
             info.list(alloc).expect(rt, "memory is refused once")
         }
     }
 }
 
 /// The kind and data that these members have.
-fn of(rt: &impl Abort, alloc: Global, list: &[LinkInfo]) -> Info {
+fn of(rt: &impl Abort, alloc: Global, list: &[LinkInfo], refused: &mut Refused) -> Info {
     match Info::of(alloc, list) {
         Ok(info) => info,
         Err(error) => {
             assert_eq!(rt; error, InfoError::OutOfMemory);
+            *refused = Some("Info::of");
             Info::of(alloc, list).expect(rt, "memory is refused once")
         }
     }
 }
 
 /// The members of these bytes.
-fn members(rt: &impl Abort, alloc: Global, bytes: &[u8]) -> Vec<LinkInfo> {
+fn members(rt: &impl Abort, alloc: Global, bytes: &[u8], refused: &mut Refused) -> Vec<LinkInfo> {
     match LinkInfo::parse_list(alloc, bytes) {
         Ok(list) => list,
         Err(error) => {
             assert!(rt; error.cause == Cause::OutOfMemory);
+            *refused = Some("LinkInfo::parse_list");
             LinkInfo::parse_list(alloc, bytes).expect(rt, "memory is refused once")
         }
     }
 }
 
+/// Where memory is refused, the test says of which call; `scripts/refused_info.sh` refuses each allocation in turn.
 #[test]
 fn refused_memory_changes_nothing(rt: HostRuntime) {
     let alloc = rt.alloc();
-    let mut vxlan = new(&rt, alloc);
+    let mut refused = None;
+    let mut vxlan = new(&rt, alloc, &mut refused);
     for (name, n) in SET {
-        set(&rt, alloc, &mut vxlan, name, n);
+        set(&rt, alloc, &mut vxlan, name, n, &mut refused);
     }
-    let wanted = members(&rt, alloc, &VXLAN);
-    let made = list(&rt, alloc, &vxlan);
+    let wanted = members(&rt, alloc, &VXLAN, &mut refused);
+    let made = list(&rt, alloc, &vxlan, &mut refused);
     assert!(rt; made.as_slice() == wanted.as_slice());
-    let read = of(&rt, alloc, wanted.as_slice());
+    let read = of(&rt, alloc, wanted.as_slice(), &mut refused);
     assert!(rt; read.kind() == "vxlan");
-    for (name, n) in [("id", 42), ("port", 4789), ("collect-metadata", 1)] {
-        assert!(rt; number(&read, name) == Some(n), "{name}");
+    assert!(rt; numbers(&read) == [Some(42), Some(4789), Some(1)]);
+    let again = list(&rt, alloc, &read, &mut refused);
+    assert!(rt; again.as_slice() == wanted.as_slice());
+    if let Some(call) = refused {
+        let _ = eprintln!(rt; "refused: {call}");
     }
 }

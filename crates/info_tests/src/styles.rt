@@ -21,13 +21,17 @@ const MEMBERS: &[Member] = &[
 ];
 
 /// A frame of number 1 with a payload of four bytes, and one of number 2 with none.
-const FRAMES: &[u8] = &[8, 0, 1, 0, 10, 0, 0, 1, 4, 0, 2, 0];
+const FRAMES: &[u8] = &[
+    0x08, 0x00, 0x01, 0x00, 0x0a, 0x00, 0x00, 0x01, 0x04, 0x00, 0x02, 0x00,
+];
 
 /// The first of them.
-const FRAME: &[u8] = &[8, 0, 1, 0, 10, 0, 0, 1];
+const FRAME: &[u8] = &[0x08, 0x00, 0x01, 0x00, 0x0a, 0x00, 0x00, 0x01];
 
 /// An address, and its bytes.
-const ADDRESS: [u8; 16] = [0xfd, 0, 0, 0, 0, 0, 0, 0, 0, 0, 0, 0, 0, 0, 0, 1];
+const ADDRESS: [u8; 16] = [
+    0xfd, 0x00, 0x00, 0x00, 0x00, 0x00, 0x00, 0x00, 0x00, 0x00, 0x00, 0x00, 0x00, 0x00, 0x00, 0x01,
+];
 
 /// A style, a payload, and the value that it is read as.
 fn of_plains(number: usize) -> Option<(Plain, &'static [u8], Value<'static>)> {
@@ -35,17 +39,17 @@ fn of_plains(number: usize) -> Option<(Plain, &'static [u8], Value<'static>)> {
         0 => (Plain::Unsigned(Size::One), &[200][..], Value::Unsigned(200)),
         1 => (
             Plain::Unsigned(Size::Two),
-            &[1, 2][..],
+            &[0x01, 0x02][..],
             Value::Unsigned(0x201),
         ),
         2 => (
             Plain::Unsigned(Size::Four),
-            &[1, 2, 3, 4][..],
+            &[0x01, 0x02, 0x03, 0x04][..],
             Value::Unsigned(0x4030201),
         ),
         3 => (
             Plain::Unsigned(Size::Eight),
-            &[1, 2, 3, 4, 5, 6, 7, 8][..],
+            &[0x01, 0x02, 0x03, 0x04, 0x05, 0x06, 0x07, 0x08][..],
             Value::Unsigned(0x807060504030201),
         ),
         4 => (
@@ -55,63 +59,63 @@ fn of_plains(number: usize) -> Option<(Plain, &'static [u8], Value<'static>)> {
         ),
         5 => (
             Plain::BigEndian(Size::Two),
-            &[1, 2][..],
+            &[0x01, 0x02][..],
             Value::Unsigned(0x102),
         ),
         6 => (
             Plain::BigEndian(Size::Four),
-            &[1, 2, 3, 4][..],
+            &[0x01, 0x02, 0x03, 0x04][..],
             Value::Unsigned(0x1020304),
         ),
         7 => (
             Plain::BigEndian(Size::Eight),
-            &[1, 2, 3, 4, 5, 6, 7, 8][..],
+            &[0x01, 0x02, 0x03, 0x04, 0x05, 0x06, 0x07, 0x08][..],
             Value::Unsigned(0x102030405060708),
         ),
         8 => (Plain::Signed(Size::One), &[255][..], Value::Signed(-1)),
         9 => (
             Plain::Signed(Size::Two),
-            &[0, 128][..],
+            &[0x00, 0x80][..],
             Value::Signed(-32768),
         ),
         10 => (
             Plain::Signed(Size::Four),
-            &[254, 255, 255, 255][..],
+            &[0xfe, 0xff, 0xff, 0xff][..],
             Value::Signed(-2),
         ),
         11 => (
             Plain::Signed(Size::Eight),
-            &[255, 255, 255, 255, 255, 255, 255, 127][..],
+            &[0xff, 0xff, 0xff, 0xff, 0xff, 0xff, 0xff, 0x7f][..],
             Value::Signed(i64::MAX),
         ),
         12 => (
             Plain::Named(Size::Two, NAMES),
-            &[2, 0][..],
+            &[0x02, 0x00][..],
             Value::Unsigned(2),
         ),
         13 => (
             Plain::BigEndianNamed(Size::Two, NAMES),
-            &[0, 2][..],
+            &[0x00, 0x02][..],
             Value::Unsigned(2),
         ),
         14 => (
             Plain::Flags(Size::Four, NAMES),
-            &[3, 0, 0, 128][..],
+            &[0x03, 0x00, 0x00, 0x80][..],
             Value::Unsigned(0x80000003),
         ),
         15 => (
             Plain::BigEndianFlags(Size::Two, NAMES),
-            &[128, 3][..],
+            &[0x80, 0x03][..],
             Value::Unsigned(0x8003),
         ),
         16 => (
             Plain::Mac,
-            &[2, 0, 0, 0, 0, 7][..],
-            Value::Mac([2, 0, 0, 0, 0, 7]),
+            &[0x02, 0x00, 0x00, 0x00, 0x00, 0x07][..],
+            Value::Mac([0x02, 0x00, 0x00, 0x00, 0x00, 0x07]),
         ),
         17 => (
             Plain::Ipv4,
-            &[10, 0, 0, 1][..],
+            &[0x0a, 0x00, 0x00, 0x01][..],
             Value::Ipv4(Ipv4Addr::new(10, 0, 0, 1)),
         ),
         18 => (
@@ -119,7 +123,11 @@ fn of_plains(number: usize) -> Option<(Plain, &'static [u8], Value<'static>)> {
             &ADDRESS[..],
             Value::Ipv6(Ipv6Addr::new(0xfd00, 0, 0, 0, 0, 0, 0, 1)),
         ),
-        19 => (Plain::Octets(3), &[7, 8, 9][..], Value::Bytes(&[7, 8, 9])),
+        19 => (
+            Plain::Octets(3),
+            &[0x07, 0x08, 0x09][..],
+            Value::Bytes(&[0x07, 0x08, 0x09]),
+        ),
         _ => return None,
     };
     Some(row)
@@ -128,18 +136,18 @@ fn of_plains(number: usize) -> Option<(Plain, &'static [u8], Value<'static>)> {
 /// The same of styles that are no values of a fixed size.
 fn of_styles(number: usize) -> Option<(Style, &'static [u8], Value<'static>)> {
     let row = match number {
-        0 => (Style::Bytes, &[1, 2][..], Value::Bytes(&[1, 2])),
+        0 => (Style::Bytes, &[0x01, 0x02][..], Value::Bytes(&[0x01, 0x02])),
         1 => (Style::Flag, &[][..], Value::Flag),
-        2 => (Style::Text, &[97, 98, 0][..], Value::Text("ab")),
+        2 => (Style::Text, &[0x61, 0x62, 0x00][..], Value::Text("ab")),
         3 => (
             Style::Record(MEMBERS),
-            &[9, 2, 0, 0, 0, 0, 7][..],
-            Value::Record(MEMBERS, &[9, 2, 0, 0, 0, 0, 7]),
+            &[0x09, 0x02, 0x00, 0x00, 0x00, 0x00, 0x07][..],
+            Value::Record(MEMBERS, &[0x09, 0x02, 0x00, 0x00, 0x00, 0x00, 0x07]),
         ),
         4 => (
             Style::Array(Plain::Unsigned(Size::Two)),
-            &[1, 0, 2, 0][..],
-            Value::Array(Plain::Unsigned(Size::Two), &[1, 0, 2, 0]),
+            &[0x01, 0x00, 0x02, 0x00][..],
+            Value::Array(Plain::Unsigned(Size::Two), &[0x01, 0x00, 0x02, 0x00]),
         ),
         5 => (
             Style::List(Plain::Ipv4),
@@ -214,15 +222,27 @@ fn each_style_is_read(rt: HostRuntime) {
 fn of_others(number: usize) -> Option<(Style, &'static [u8])> {
     let row = match number {
         0 => (Style::Flag, &[0][..]),
-        1 => (Style::Text, &[0xff, 0][..]),
-        2 => (Style::Text, &[97, 0xc3][..]),
-        3 => (Style::Record(MEMBERS), &[9, 2, 0, 0, 0, 0][..]),
-        4 => (Style::Record(MEMBERS), &[9, 2, 0, 0, 0, 0, 7, 1][..]),
-        5 => (Style::Array(Plain::Unsigned(Size::Two)), &[1, 0, 2][..]),
-        6 => (Style::Array(Plain::Octets(0)), &[1, 0][..]),
+        1 => (Style::Text, &[0xff, 0x00][..]),
+        2 => (Style::Text, &[0x61, 0xc3][..]),
+        3 => (
+            Style::Record(MEMBERS),
+            &[0x09, 0x02, 0x00, 0x00, 0x00, 0x00][..],
+        ),
+        4 => (
+            Style::Record(MEMBERS),
+            &[0x09, 0x02, 0x00, 0x00, 0x00, 0x00, 0x07, 0x01][..],
+        ),
+        5 => (
+            Style::Array(Plain::Unsigned(Size::Two)),
+            &[0x01, 0x00, 0x02][..],
+        ),
+        6 => (Style::Array(Plain::Octets(0)), &[0x01, 0x00][..]),
         7 => (Style::List(Plain::Ipv4), FRAMES),
-        8 => (Style::List(Plain::Ipv4), &[3, 0, 0, 0][..]),
-        9 => (Style::Nest(Place::Vlan), &[9, 0, 1, 0, 10, 0, 0, 1][..]),
+        8 => (Style::List(Plain::Ipv4), &[0x03, 0x00, 0x00, 0x00][..]),
+        9 => (
+            Style::Nest(Place::Vlan),
+            &[0x09, 0x00, 0x01, 0x00, 0x0a, 0x00, 0x00, 0x01][..],
+        ),
         _ => return None,
     };
     Some(row)
@@ -300,8 +320,8 @@ const BOUNDS: [(Plain, Value<'static>, Value<'static>); 12] = [
     ),
     (
         Plain::Octets(3),
-        Value::Bytes(&[1, 2, 3]),
-        Value::Bytes(&[1, 2]),
+        Value::Bytes(&[0x01, 0x02, 0x03]),
+        Value::Bytes(&[0x01, 0x02]),
     ),
 ];
 

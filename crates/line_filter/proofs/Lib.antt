@@ -1,6 +1,6 @@
-mod Text
+pub mod Text
 mod Known
 mod Joined
 mod Walk
 mod Spelling
-mod Front
+pub mod Front

@@ -4,23 +4,23 @@ use crate::rows::*;
 use expected::{bytes_from, kept, list, text_from, zeros_after};
 use link_msg::*;
 
-/// An attribute as it is read, what it means, and its text.
-type Row<'a> = (&'a [u8], LinkAttribute, &'a [u8]);
+/// What it is, an attribute as it is read, what it means, and its text.
+type Row<'a> = (&'a str, &'a [u8], LinkAttribute, &'a [u8]);
 
-/// An attribute that is written as it was read, and what it means.
-type Kept<'a> = (&'a [u8], LinkAttribute);
+/// What it is, an attribute that is written as it was read, and what it means.
+type Kept<'a> = (&'a str, &'a [u8], LinkAttribute);
 
 #[test]
 fn names(rt: HostRuntime) {
     let alloc = rt.alloc();
-    let text = [7, 0, 3, 0, 0x6c, 0x6f, 0, 0].as_slice();
-    for bytes in [
-        [6, 0, 3, 0, 0x6c, 0x6f].as_slice(),
-        &[7, 0, 3, 0, 0x6c, 0x6f, 0],
-        text,
+    let text = [0x07, 0x00, 0x03, 0x00, 0x6c, 0x6f, 0x00, 0x00].as_slice();
+    for (label, bytes) in [
+        ("no NUL", [0x06, 0x00, 0x03, 0x00, 0x6c, 0x6f].as_slice()),
+        ("no padding", &[0x07, 0x00, 0x03, 0x00, 0x6c, 0x6f, 0x00]),
+        ("the text", text),
     ] {
         let name = LinkAttribute::IfName(text_from(alloc, "lo").expect(&rt, "memory"));
-        is_attribute_row(&rt, alloc, 0, bytes, name, text);
+        is_attribute_row(&rt, alloc, label, 0, bytes, name, text);
     }
 }
 
@@ -29,23 +29,26 @@ fn names(rt: HostRuntime) {
 fn numbers_in_their_own_spelling(rt: HostRuntime) {
     let rows: [Row<'_>; 3] = [
         (
-            &[8, 0, 4, 0x80, 0xdc, 5, 0, 0],
+            "IFLA_MTU with a flag",
+            &[0x08, 0x00, 0x04, 0x80, 0xdc, 0x05, 0x00, 0x00],
             LinkAttribute::Mtu(1500),
-            &[8, 0, 4, 0, 0xdc, 5, 0, 0],
+            &[0x08, 0x00, 0x04, 0x00, 0xdc, 0x05, 0x00, 0x00],
         ),
         (
-            &[5, 0, 0x43, 0, 7, 0, 0, 0],
+            "IFLA_NETNS_IMMUTABLE of 7",
+            &[0x05, 0x00, 0x43, 0x00, 0x07, 0x00, 0x00, 0x00],
             LinkAttribute::NetnsImmutable(true),
-            &[5, 0, 0x43, 0, 1, 0, 0, 0],
+            &[0x05, 0x00, 0x43, 0x00, 0x01, 0x00, 0x00, 0x00],
         ),
         (
-            &[6, 0, 0x45, 0xc0, 16, 0, 0, 0],
+            "IFLA_TAILROOM with both flags",
+            &[0x06, 0x00, 0x45, 0xc0, 0x10, 0x00, 0x00, 0x00],
             LinkAttribute::Tailroom(16),
-            &[6, 0, 0x45, 0, 16, 0, 0, 0],
+            &[0x06, 0x00, 0x45, 0x00, 0x10, 0x00, 0x00, 0x00],
         ),
     ];
-    for (attribute, wanted, text) in rows {
-        is_attribute_row(&rt, rt.alloc(), 0, attribute, wanted, text);
+    for (label, attribute, wanted, text) in rows {
+        is_attribute_row(&rt, rt.alloc(), label, 0, attribute, wanted, text);
     }
 }
 
@@ -55,27 +58,35 @@ fn numbers(rt: HostRuntime) {
     let (vf, skip) = (LinkExtentMask::Vf, LinkExtentMask::SkipStats);
     let rows: [Kept<'_>; 5] = [
         (
-            &[8, 0, 44, 0, 5, 0, 0, 0],
+            "IFLA_EVENT",
+            &[0x08, 0x00, 0x2c, 0x00, 0x05, 0x00, 0x00, 0x00],
             LinkAttribute::Event(LinkEvent::IgmpResend),
         ),
         (
-            &[5, 0, 16, 0, 7, 0, 0, 0],
+            "IFLA_OPERSTATE of 7",
+            &[0x05, 0x00, 0x10, 0x00, 0x07, 0x00, 0x00, 0x00],
             LinkAttribute::OperState(State::Other(7)),
         ),
         (
-            &[8, 0, 29, 0, 9, 1, 0, 0],
+            "IFLA_EXT_MASK with a flag that is not listed",
+            &[0x08, 0x00, 0x1d, 0x00, 0x09, 0x01, 0x00, 0x00],
             LinkAttribute::ExtMask(list(alloc, [vf, skip, LinkExtentMask::Other(256)]).expect(
                 &rt, "memory",
             )),
         ),
         (
-            &[8, 0, 29, 0, 0, 0, 0, 0],
+            "IFLA_EXT_MASK of 0",
+            &[0x08, 0x00, 0x1d, 0x00, 0x00, 0x00, 0x00, 0x00],
             LinkAttribute::ExtMask(list(alloc, []).expect(&rt, "memory")),
         ),
-        (&[6, 0, 68, 0, 0x20, 0, 0, 0], LinkAttribute::Headroom(32)),
+        (
+            "IFLA_HEADROOM",
+            &[0x06, 0x00, 0x44, 0x00, 0x20, 0x00, 0x00, 0x00],
+            LinkAttribute::Headroom(32),
+        ),
     ];
-    for (text, wanted) in rows {
-        is_attribute_row(&rt, alloc, 0, text, wanted, text);
+    for (label, text, wanted) in rows {
+        is_attribute_row(&rt, alloc, label, 0, text, wanted, text);
     }
 }
 
@@ -84,20 +95,25 @@ fn kept_attributes(rt: HostRuntime) {
     let alloc = rt.alloc();
     let rows: [Kept<'_>; 3] = [
         (
-            &[6, 0, 0x2a, 0xc0, 0xde, 0xad, 0, 0],
+            "a number that is not listed",
+            &[0x06, 0x00, 0x2a, 0xc0, 0xde, 0xad, 0x00, 0x00],
             LinkAttribute::Other(kept(alloc, 0xc02a, &[0xde, 0xad]).expect(&rt, "memory")),
         ),
         (
-            &[8, 0, 68, 0x80, 0x20, 0, 0, 0],
-            LinkAttribute::Other(kept(alloc, 0x8044, &[0x20, 0, 0, 0]).expect(&rt, "memory")),
+            "IFLA_HEADROOM of 4 bytes",
+            &[0x08, 0x00, 0x44, 0x80, 0x20, 0x00, 0x00, 0x00],
+            LinkAttribute::Other(kept(alloc, 0x8044, &[0x20, 0x00, 0x00, 0x00]).expect(
+                &rt, "memory",
+            )),
         ),
         (
-            &[4, 0, 68, 0],
+            "IFLA_HEADROOM of no bytes",
+            &[0x04, 0x00, 0x44, 0x00],
             LinkAttribute::Other(kept(alloc, 68, &[]).expect(&rt, "memory")),
         ),
     ];
-    for (text, wanted) in rows {
-        is_attribute_row(&rt, alloc, 0, text, wanted, text);
+    for (label, text, wanted) in rows {
+        is_attribute_row(&rt, alloc, label, 0, text, wanted, text);
     }
 }
 
@@ -105,34 +121,51 @@ fn kept_attributes(rt: HostRuntime) {
 #[test]
 fn a_kept_headroom(rt: HostRuntime) {
     let alloc = rt.alloc();
-    let nla = kept(alloc, 68, &[0x20, 0]).expect(&rt, "memory");
+    let nla = kept(alloc, 68, &[0x20, 0x00]).expect(&rt, "memory");
     let made = message_of(&rt, alloc, [LinkAttribute::Other(nla)]);
-    let text = with_header(&rt, alloc, 0, &[6, 0, 68, 0, 0x20, 0, 0, 0]);
-    is_written(&rt, alloc, &made, text.as_slice());
+    let text = with_header(
+        &rt,
+        alloc,
+        0,
+        &[0x06, 0x00, 0x44, 0x00, 0x20, 0x00, 0x00, 0x00],
+    );
+    is_written(&rt, alloc, "made by hand", &made, text.as_slice());
     let read = message_of(&rt, alloc, [LinkAttribute::Headroom(32)]);
-    is_read(&rt, alloc, text.as_slice(), &read);
+    is_read(&rt, alloc, "its text", text.as_slice(), &read);
 }
 
 #[test]
 fn wireless_events(rt: HostRuntime) {
     let alloc = rt.alloc();
     let request = WirelessEvent::AssociateRequest(bytes_from(alloc, &[0xaa]).expect(&rt, "memory"));
-    let other = [8, 0, 1, 0x8b, 0, 0, 0, 0];
+    let other = [0x08, 0x00, 0x01, 0x8b, 0x00, 0x00, 0x00, 0x00];
     let other = WirelessEvent::Other(bytes_from(alloc, &other).expect(&rt, "memory"));
     let rows: [Row<'_>; 2] = [
         (
-            &[13, 0, 11, 0, 0xff, 0xff, 7, 0x8c, 1, 2, 3, 4, 0xaa, 0, 0, 0],
+            "a request to associate",
+            &[
+                0x0d, 0x00, 0x0b, 0x00, 0xff, 0xff, 0x07, 0x8c, 0x01, 0x02, 0x03, 0x04, 0xaa, 0x00,
+                0x00, 0x00,
+            ],
             LinkAttribute::Wireless(request),
-            &[13, 0, 11, 0, 9, 0, 7, 0x8c, 0, 0, 0, 0, 0xaa, 0, 0, 0],
+            &[
+                0x0d, 0x00, 0x0b, 0x00, 0x09, 0x00, 0x07, 0x8c, 0x00, 0x00, 0x00, 0x00, 0xaa, 0x00,
+                0x00, 0x00,
+            ],
         ),
         (
-            &[12, 0, 11, 0, 8, 0, 1, 0x8b, 0, 0, 0, 0],
+            "another event",
+            &[
+                0x0c, 0x00, 0x0b, 0x00, 0x08, 0x00, 0x01, 0x8b, 0x00, 0x00, 0x00, 0x00,
+            ],
             LinkAttribute::Wireless(other),
-            &[12, 0, 11, 0, 8, 0, 1, 0x8b, 0, 0, 0, 0],
+            &[
+                0x0c, 0x00, 0x0b, 0x00, 0x08, 0x00, 0x01, 0x8b, 0x00, 0x00, 0x00, 0x00,
+            ],
         ),
     ];
-    for (attribute, wanted, text) in rows {
-        is_attribute_row(&rt, alloc, 0, attribute, wanted, text);
+    for (label, attribute, wanted, text) in rows {
+        is_attribute_row(&rt, alloc, label, 0, attribute, wanted, text);
     }
 }
 
@@ -147,24 +180,33 @@ fn short_records(rt: HostRuntime) {
         rx_packets: 5,
         ..Stats64::default()
     };
-    let none: [u8; 100] = zeros_after(&[100, 0, 7, 0]);
-    let some: [u8; 100] = zeros_after(&[100, 0, 7, 0, 1, 2, 3]);
-    let long: [u8; 204] = zeros_after(&[204, 0, 23, 0, 5]);
+    let none: [u8; 100] = zeros_after(&[0x64, 0x00, 0x07, 0x00]);
+    let some: [u8; 100] = zeros_after(&[0x64, 0x00, 0x07, 0x00, 0x01, 0x02, 0x03]);
+    let long: [u8; 204] = zeros_after(&[0xcc, 0x00, 0x17, 0x00, 0x05]);
     let rows: [Row<'_>; 3] = [
-        (&[4, 0, 7, 0], LinkAttribute::Stats(Stats::default()), &none),
         (
-            &[7, 0, 7, 0, 1, 2, 3, 0],
+            "IFLA_STATS of no bytes",
+            &[0x04, 0x00, 0x07, 0x00],
+            LinkAttribute::Stats(Stats::default()),
+            &none,
+        ),
+        (
+            "IFLA_STATS of 3 bytes",
+            &[0x07, 0x00, 0x07, 0x00, 0x01, 0x02, 0x03, 0x00],
             LinkAttribute::Stats(stats),
             &some,
         ),
         (
-            &[12, 0, 23, 0, 5, 0, 0, 0, 0, 0, 0, 0],
+            "IFLA_STATS64 of 8 bytes",
+            &[
+                0x0c, 0x00, 0x17, 0x00, 0x05, 0x00, 0x00, 0x00, 0x00, 0x00, 0x00, 0x00,
+            ],
             LinkAttribute::Stats64(stats64),
             &long,
         ),
     ];
-    for (attribute, wanted, text) in rows {
-        is_attribute_row(&rt, rt.alloc(), 0, attribute, wanted, text);
+    for (label, attribute, wanted, text) in rows {
+        is_attribute_row(&rt, rt.alloc(), label, 0, attribute, wanted, text);
     }
 }
 
@@ -180,14 +222,20 @@ fn a_long_map(rt: HostRuntime) {
         port: 0xff,
     };
     let mut bytes = [0xff; 40];
-    bytes[0] = 37;
-    bytes[1] = 0;
-    bytes[2] = 14;
-    bytes[3] = 0;
+    bytes[..4].copy_from_slice(&[0x25, 0x00, 0x0e, 0x00]);
     let mut text = [0xff; 36];
-    text[..4].copy_from_slice(&[36, 0, 14, 0]);
+    text[..4].copy_from_slice(&[0x24, 0x00, 0x0e, 0x00]);
     text[32..].copy_from_slice(&[0; 4]);
-    is_attribute_row(&rt, rt.alloc(), 0, &bytes, LinkAttribute::Map(map), &text);
+    let map = LinkAttribute::Map(map);
+    is_attribute_row(
+        &rt,
+        rt.alloc(),
+        "IFLA_MAP of 33 bytes",
+        0,
+        &bytes,
+        map,
+        &text,
+    );
 }
 
 #[test]
@@ -197,12 +245,20 @@ fn a_long_id(rt: HostRuntime) {
         len: 32,
     };
     let mut bytes = [7; 40];
-    bytes[..4].copy_from_slice(&[37, 0, 34, 0]);
-    bytes[36..].copy_from_slice(&[9, 1, 2, 3]);
+    bytes[..4].copy_from_slice(&[0x25, 0x00, 0x22, 0x00]);
+    bytes[36..].copy_from_slice(&[0x09, 0x01, 0x02, 0x03]);
     let mut text = [7; 36];
-    text[..4].copy_from_slice(&[36, 0, 34, 0]);
+    text[..4].copy_from_slice(&[0x24, 0x00, 0x22, 0x00]);
     let id = LinkAttribute::PhysPortId(id);
-    is_attribute_row(&rt, rt.alloc(), 0, &bytes, id, &text);
+    is_attribute_row(
+        &rt,
+        rt.alloc(),
+        "IFLA_PHYS_PORT_ID of 33 bytes",
+        0,
+        &bytes,
+        id,
+        &text,
+    );
 }
 
 /// A sum of four bytes and one more, and an id of 33 bytes, both made by hand.
@@ -214,19 +270,25 @@ fn what_does_not_fit(rt: HostRuntime) {
         id: [7; 32],
         len: 33,
     };
-    for attribute in [
-        LinkAttribute::ExtMask(list(alloc, flags).expect(&rt, "memory")),
-        LinkAttribute::PhysPortId(id),
+    let mask = LinkAttribute::ExtMask(list(alloc, flags).expect(&rt, "memory"));
+    for (label, attribute) in [
+        ("IFLA_EXT_MASK", mask),
+        ("IFLA_PHYS_PORT_ID", LinkAttribute::PhysPortId(id)),
     ] {
-        assert!(rt; !attribute.fits());
-        assert!(rt; !message_of(&rt, alloc, [attribute]).fits());
+        assert!(rt; !attribute.fits(), "{label}");
+        assert!(rt; !message_of(&rt, alloc, [attribute]).fits(), "{label}");
     }
 }
 
 #[test]
 fn an_unlisted_state_is_printed_as_its_number(rt: HostRuntime) {
     let alloc = rt.alloc();
-    let bytes = with_header(&rt, alloc, 0, &[5, 0, 16, 0, 7, 0, 0, 0]);
+    let bytes = with_header(
+        &rt,
+        alloc,
+        0,
+        &[0x05, 0x00, 0x10, 0x00, 0x07, 0x00, 0x00, 0x00],
+    );
     let read = LinkMessage::parse(alloc, bytes.as_slice()).expect(&rt, "it is read");
     let [LinkAttribute::OperState(state)] = read.attributes.as_slice() else {
         panic!(rt; "another attribute");

@@ -20,6 +20,7 @@ const NOT_UTF8: [u8; 16] = [
 fn is_read_before(
     rt: &impl Abort,
     alloc: Global,
+    label: &str,
     attributes: &[u8],
     wanted: &LinkMessage,
     fault: Option<DecodeError>,
@@ -29,8 +30,8 @@ fn is_read_before(
         rt,
         "it is read",
     );
-    assert!(rt; message == *wanted);
-    assert!(rt; found == fault);
+    assert!(rt; message == *wanted, "{label}");
+    assert!(rt; found == fault, "{label}");
 }
 
 /// The message of `READ`.
@@ -42,8 +43,22 @@ fn two_attributes(rt: &impl Abort, alloc: Global) -> LinkMessage {
 #[test]
 fn of_messages(rt: HostRuntime) {
     let alloc = rt.alloc();
-    is_read_before(&rt, alloc, &[], &message_of(&rt, alloc, []), None);
-    is_read_before(&rt, alloc, &READ, &two_attributes(&rt, alloc), None);
+    is_read_before(
+        &rt,
+        alloc,
+        "no attribute",
+        &[],
+        &message_of(&rt, alloc, []),
+        None,
+    );
+    is_read_before(
+        &rt,
+        alloc,
+        "two attributes",
+        &READ,
+        &two_attributes(&rt, alloc),
+        None,
+    );
 }
 
 #[test]
@@ -55,10 +70,10 @@ fn of_attributes_that_are_refused(rt: HostRuntime) {
     let none = message_of(&rt, alloc, []);
     let two = two_attributes(&rt, alloc);
     let fault = Some(DecodeError::new("IFLA_IFNAME", Cause::NotUtf8));
-    is_read_before(&rt, alloc, &NOT_UTF8, &none, fault);
-    is_read_before(&rt, alloc, &bytes, &two, fault);
+    is_read_before(&rt, alloc, "a name first", &NOT_UTF8, &none, fault);
+    is_read_before(&rt, alloc, "a name after two", &bytes, &two, fault);
     let stray = Some(DecodeError::new("message", Cause::FrameShort { left: 2 }));
-    is_read_before(&rt, alloc, &bytes[..18], &two, stray);
+    is_read_before(&rt, alloc, "two stray bytes", &bytes[..18], &two, stray);
 }
 
 #[test]
@@ -67,7 +82,7 @@ fn of_short_headers(rt: HostRuntime) {
         assert!(rt; got <= 16);
         match LinkMessage::parse_before_fault(rt.alloc(), &[0; 16][..got]) {
             Ok(_) => panic!(rt; "a header of {got} bytes is read"),
-            Err(error) => assert!(rt; error.cause == Cause::TooShort { got, need: 16 }),
+            Err(error) => assert_eq!(rt; error.cause, Cause::TooShort { got, need: 16 }),
         }
     }
 }

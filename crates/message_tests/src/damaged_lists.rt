@@ -9,14 +9,17 @@ use std::process::Abort;
 /// A message of a header of this family, and the payload in attributes of these numbers, the innermost last and each
 /// without padding.
 fn message(rt: &impl Abort, alloc: Global, family: u8, path: &[u8], payload: &[u8]) -> Vec<u8> {
-    let header = [family, 0, 0, 0, 0, 0, 0, 0, 0, 0, 0, 0, 0, 0, 0, 0];
+    let header = [
+        family, 0x00, 0x00, 0x00, 0x00, 0x00, 0x00, 0x00, 0x00, 0x00, 0x00, 0x00, 0x00, 0x00, 0x00,
+        0x00,
+    ];
     let mut bytes = vec_from(alloc, &header).expect(rt, "memory");
     assert!(rt; path.len() < 10);
     assert!(rt; payload.len() < 100);
     let mut len = (4 * path.len() + payload.len()) as u8;
     for number in path {
         bytes
-            .extend_from_slice(&[len, 0, *number, 0])
+            .extend_from_slice(&[len, 0x00, *number, 0x00])
             .expect(rt, "memory");
         len = len.saturating_sub(4);
     }
@@ -28,6 +31,7 @@ fn message(rt: &impl Abort, alloc: Global, family: u8, path: &[u8], payload: &[u
 fn fails_in(
     rt: &impl Abort,
     alloc: Global,
+    label: &str,
     family: u8,
     path: &[u8],
     payload: &[u8],
@@ -36,107 +40,152 @@ fn fails_in(
     let bytes = message(rt, alloc, family, path, payload);
     let bytes = bytes.as_slice();
     match wanted {
-        Some(cause) => is_refused_row(rt, alloc, bytes, cause),
+        Some(cause) => is_refused_row(rt, alloc, label, bytes, cause),
         None => {
-            assert_eq!(rt; cause_of(LinkMessage::check(bytes)), None);
-            assert_eq!(rt; cause_of(LinkMessage::parse(alloc, bytes)), None);
+            assert_eq!(rt; cause_of(LinkMessage::check(bytes)), None, "{label}");
+            assert_eq!(rt; cause_of(LinkMessage::parse(alloc, bytes)), None, "{label}");
         },
     }
 }
 
-/// A place is refused where a frame in it is damaged, and takes a foreign number. It takes no bytes, or refuses them.
-fn is_a_place(rt: &impl Abort, alloc: Global, family: u8, path: &[u8], empty: Option<Cause>) {
-    for (payload, cause) in [
-        (
-            [4, 0, 99, 0, 1].as_slice(),
-            Some(Cause::FrameShort { left: 1 }),
-        ),
-        (
-            [9, 0, 99, 0, 1, 2, 3, 4].as_slice(),
-            Some(Cause::FrameOver { length: 9, left: 8 }),
-        ),
-        (
-            [3, 0, 99, 0].as_slice(),
-            Some(Cause::FrameUnder { length: 3 }),
-        ),
-        ([5, 0, 99, 0, 1].as_slice(), None),
-        ([].as_slice(), empty),
-    ] {
-        fails_in(rt, alloc, family, path, payload, cause);
+/// The place of a list, the family, and the numbers that lead there.
+type Place<'a> = (&'a str, u8, &'a [u8]);
+
+/// Each place is refused where a frame in it is damaged, and takes a foreign number. It takes no bytes, or refuses
+/// them.
+fn are_places(rt: &impl Abort, alloc: Global, places: &[Place<'_>], empty: Option<Cause>) {
+    for (place, family, path) in places {
+        for (what, payload, cause) in [
+            (
+                "a stray byte",
+                [0x04, 0x00, 0x63, 0x00, 0x01].as_slice(),
+                Some(Cause::FrameShort { left: 1 }),
+            ),
+            (
+                "a length that passes the list",
+                &[0x09, 0x00, 0x63, 0x00, 0x01, 0x02, 0x03, 0x04],
+                Some(Cause::FrameOver { length: 9, left: 8 }),
+            ),
+            (
+                "a length of 3",
+                &[0x03, 0x00, 0x63, 0x00],
+                Some(Cause::FrameUnder { length: 3 }),
+            ),
+            ("a foreign number", &[0x05, 0x00, 0x63, 0x00, 0x01], None),
+            ("no bytes", &[], empty),
+        ] {
+            let label = format!(in alloc; "{what} in {place}").expect(rt, "memory");
+            fails_in(rt, alloc, label.as_str(), *family, path, payload, cause);
+        }
     }
 }
 
 #[test]
 fn lists_that_may_be_empty(rt: HostRuntime) {
-    for path in [
-        [52].as_slice(),
-        &[62],
-        &[65],
-        &[55],
-        &[26],
-        &[22],
-        &[22, 1, 8],
-        &[22, 1, 12],
-    ] {
-        is_a_place(&rt, rt.alloc(), 0, path, None);
-    }
+    are_places(
+        &rt,
+        rt.alloc(),
+        &[
+            ("IFLA_PROP_LIST", 0, &[0x34]),
+            ("IFLA_DEVLINK_PORT", 0, &[0x3e]),
+            ("IFLA_DPLL_PIN", 0, &[0x41]),
+            ("IFLA_PROTO_DOWN_REASON", 0, &[0x37]),
+            ("IFLA_AF_SPEC", 0, &[0x1a]),
+            ("IFLA_VFINFO_LIST", 0, &[0x16]),
+            ("IFLA_VF_STATS", 0, &[0x16, 0x01, 0x08]),
+            ("IFLA_VF_VLAN_LIST", 0, &[0x16, 0x01, 0x0c]),
+        ],
+        None,
+    );
 }
 
 #[test]
 fn lists_that_are_not_empty(rt: HostRuntime) {
-    for path in [
-        [18].as_slice(),
-        &[43],
-        &[24],
-        &[25],
-        &[22, 1],
-        &[24, 1],
-        &[26, 2],
-        &[26, 10],
-        &[26, 45],
-    ] {
-        is_a_place(&rt, rt.alloc(), 0, path, Some(Cause::EmptyList));
-    }
-}
-
-#[test]
-fn lists_of_families(rt: HostRuntime) {
-    for (family, number) in [(7, 26), (7, 12), (10, 12)] {
-        is_a_place(&rt, rt.alloc(), family, &[number], Some(Cause::EmptyList));
-    }
+    are_places(
+        &rt,
+        rt.alloc(),
+        &[
+            ("IFLA_LINKINFO", 0, &[0x12]),
+            ("IFLA_XDP", 0, &[0x2b]),
+            ("IFLA_VF_PORTS", 0, &[0x18]),
+            ("IFLA_PORT_SELF", 0, &[0x19]),
+            ("IFLA_VF_INFO", 0, &[0x16, 0x01]),
+            ("IFLA_VF_PORT", 0, &[0x18, 0x01]),
+            ("AF_INET", 0, &[0x1a, 0x02]),
+            ("AF_INET6", 0, &[0x1a, 0x0a]),
+            ("AF_MCTP", 0, &[0x1a, 0x2d]),
+            ("IFLA_AF_SPEC of AF_BRIDGE", 7, &[0x1a]),
+            ("IFLA_PROTINFO of AF_BRIDGE", 7, &[0x0c]),
+            ("IFLA_PROTINFO of AF_INET6", 10, &[0x0c]),
+        ],
+        Some(Cause::EmptyList),
+    );
 }
 
 #[test]
 fn bytes_of_other_families(rt: HostRuntime) {
-    for (family, number) in [(2, 26), (10, 26), (2, 12), (0, 12)] {
-        fails_in(&rt, rt.alloc(), family, &[number], &[255], None);
+    for (label, family, number) in [
+        ("IFLA_AF_SPEC of AF_INET", 2, 0x1a),
+        ("IFLA_AF_SPEC of AF_INET6", 10, 0x1a),
+        ("IFLA_PROTINFO of AF_INET", 2, 0x0c),
+        ("IFLA_PROTINFO of AF_UNSPEC", 0, 0x0c),
+    ] {
+        fails_in(&rt, rt.alloc(), label, family, &[number], &[0xff], None);
     }
 }
 
 /// Entries with another number than IFLA_VF_INFO or IFLA_VF_PORT are dropped unread, but their frames are whole.
 #[test]
 fn entries_are_dropped(rt: HostRuntime) {
-    for number in [22, 24] {
-        let dropped = [8, 0, 5, 0, 255, 255, 255, 255];
-        fails_in(&rt, rt.alloc(), 0, &[number], &dropped, None);
+    for (label, number) in [("IFLA_VFINFO_LIST", 0x16), ("IFLA_VF_PORTS", 0x18)] {
+        let dropped = [0x08, 0x00, 0x05, 0x00, 0xff, 0xff, 0xff, 0xff];
+        fails_in(&rt, rt.alloc(), label, 0, &[number], &dropped, None);
         let over = Cause::FrameOver {
             length: 65535,
             left: 4,
         };
-        let broken = [255, 255, 7, 0];
-        fails_in(&rt, rt.alloc(), 0, &[number], &broken, Some(over));
+        let broken = [0xff, 0xff, 0x07, 0x00];
+        fails_in(&rt, rt.alloc(), label, 0, &[number], &broken, Some(over));
     }
 }
 
 #[test]
 fn exact_causes(rt: HostRuntime) {
-    for (path, len, cause) in [
-        ([14].as_slice(), 31, Cause::TooShort { got: 31, need: 32 }),
-        (&[11], 7, Cause::TooShort { got: 7, need: 8 }),
-        (&[22, 1, 8, 0], 7, Cause::WrongLength { got: 7, want: 8 }),
-        (&[22, 1, 9], 7, Cause::TooShort { got: 7, need: 8 }),
+    for (label, path, len, cause) in [
+        (
+            "IFLA_MAP",
+            [0x0e].as_slice(),
+            31,
+            Cause::TooShort { got: 31, need: 32 },
+        ),
+        (
+            "IFLA_WIRELESS",
+            &[0x0b],
+            7,
+            Cause::TooShort { got: 7, need: 8 },
+        ),
+        (
+            "IFLA_VF_STATS_RX_PACKETS",
+            &[0x16, 0x01, 0x08, 0x00],
+            7,
+            Cause::WrongLength { got: 7, want: 8 },
+        ),
+        (
+            "IFLA_VF_TRUST",
+            &[0x16, 0x01, 0x09],
+            7,
+            Cause::TooShort { got: 7, need: 8 },
+        ),
     ] {
         assert!(rt; len <= 31);
-        fails_in(&rt, rt.alloc(), 0, path, &[0; 31][..len], Some(cause));
+        fails_in(
+            &rt,
+            rt.alloc(),
+            label,
+            0,
+            path,
+            &[0; 31][..len],
+            Some(cause),
+        );
     }
 }

@@ -9,21 +9,29 @@ use std::process::Abort;
 
 /// A header of zeros and a list of ports whose one entry is foreign.
 const NO_PORTS: [u8; 24] = [
-    0, 0, 0, 0, 0, 0, 0, 0, 0, 0, 0, 0, 0, 0, 0, 0, 8, 0, 24, 0, 4, 0, 2, 0,
+    0x00, 0x00, 0x00, 0x00, 0x00, 0x00, 0x00, 0x00, 0x00, 0x00, 0x00, 0x00, 0x00, 0x00, 0x00, 0x00,
+    0x08, 0x00, 0x18, 0x00, 0x04, 0x00, 0x02, 0x00,
 ];
 
 /// What such a list is written as is refused.
 #[test]
 fn no_ports(rt: HostRuntime) {
     let alloc = rt.alloc();
-    let text = with_header(&rt, alloc, 0, &[4, 0, 24, 0]);
+    let text = with_header(&rt, alloc, 0, &[0x04, 0x00, 0x18, 0x00]);
     let made = message_of(
         &rt,
         alloc,
         [LinkAttribute::VfPorts(list(alloc, []).expect(&rt, "memory"))],
     );
-    is_portless_row(&rt, alloc, &NO_PORTS, &made, text.as_slice());
-    is_refused_row(&rt, alloc, text.as_slice(), Cause::EmptyList);
+    is_portless_row(
+        &rt,
+        alloc,
+        "a foreign entry",
+        &NO_PORTS,
+        &made,
+        text.as_slice(),
+    );
+    is_refused_row(&rt, alloc, "its text", text.as_slice(), Cause::EmptyList);
 }
 
 #[test]
@@ -32,15 +40,15 @@ fn in_a_long_buffer(rt: HostRuntime) {
     assert!(rt; 24 * GROWTH <= 2000);
     law_room(&NO_PORTS);
     let answer = canonical_into(&NO_PORTS, &mut out);
-    is_refused_so(&rt, answer, CanonError::EmptyVfPorts);
-    are_all(&rt, &out, 255);
+    is_refused_so(&rt, "a foreign entry", answer, CanonError::EmptyVfPorts);
+    assert!(rt; are_all(&out, 255));
 }
 
 /// These bytes, and an alias that gets no room for its NUL.
 fn with_alias(rt: &impl Abort, alloc: Global, front: &[u8]) -> Vec<u8> {
     let mut bytes = vec_from(alloc, front).expect(rt, "memory");
     bytes
-        .extend_from_slice(&[0xff, 0xff, 20, 0])
+        .extend_from_slice(&[0xff, 0xff, 0x14, 0x00])
         .expect(rt, "memory");
     bytes.extend_from_slice(&[0x61; 65531]).expect(rt, "memory");
     bytes
@@ -58,7 +66,13 @@ fn what_does_not_fit_comes_first(rt: HostRuntime) {
     .expect(&rt, "memory");
     let ports = LinkAttribute::VfPorts(list(alloc, []).expect(&rt, "memory"));
     let wanted = message_of(&rt, alloc, [ports, LinkAttribute::IfAlias(alias)]);
-    is_unfit_row(&rt, alloc, unfit.as_slice(), &wanted);
+    is_unfit_row(
+        &rt,
+        alloc,
+        "no ports and an alias",
+        unfit.as_slice(),
+        &wanted,
+    );
 }
 
 /// Of two messages the first is judged first.
@@ -66,24 +80,27 @@ fn what_does_not_fit_comes_first(rt: HostRuntime) {
 fn refusals_have_an_order(rt: HostRuntime) {
     let alloc = rt.alloc();
     let unfit = with_alias(&rt, alloc, &[0; 16]);
-    for (first, second, wanted) in [
+    for (label, first, second, wanted) in [
         (
+            "no ports, and no header",
             NO_PORTS.as_slice(),
             [0; 15].as_slice(),
             CanonError::EmptyVfPorts,
         ),
         (
+            "no ports, and an alias",
             NO_PORTS.as_slice(),
             unfit.as_slice(),
             CanonError::EmptyVfPorts,
         ),
         (
+            "an alias, and no ports",
             unfit.as_slice(),
             NO_PORTS.as_slice(),
             CanonError::DoesNotFit,
         ),
     ] {
-        is_refused_so(&rt, same_message(alloc, first, second), wanted);
+        is_refused_so(&rt, label, same_message(alloc, first, second), wanted);
     }
 }
 
@@ -105,20 +122,25 @@ fn faults_come_first(rt: HostRuntime) {
     // the padding of the alias
     unfit.push(0).expect(&rt, "memory");
     let cause = Cause::FrameUnder { length: 3 };
-    for front in [unfit.as_slice(), NO_PORTS.as_slice()] {
+    let zeros = [0; 16];
+    for (label, front) in [
+        ("an alias", unfit.as_slice()),
+        ("no ports", NO_PORTS.as_slice()),
+    ] {
         let faulty = with_fault(&rt, alloc, front);
         let faulty = faulty.as_slice();
-        is_refused_row(&rt, alloc, faulty, cause);
-        is_refused_so(
-            &rt,
-            same_message(alloc, faulty, &[0; 16]),
-            no_message(cause),
-        );
-        is_refused_so(
-            &rt,
-            same_message(alloc, &[0; 16], faulty),
-            no_message(cause),
-        );
-        is_refused_so(&rt, same_message(alloc, faulty, faulty), no_message(cause));
+        is_refused_row(&rt, alloc, label, faulty, cause);
+        for (one, other) in [
+            (faulty, zeros.as_slice()),
+            (&zeros, faulty),
+            (faulty, faulty),
+        ] {
+            is_refused_so(
+                &rt,
+                label,
+                same_message(alloc, one, other),
+                no_message(cause),
+            );
+        }
     }
 }

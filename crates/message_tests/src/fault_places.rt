@@ -6,13 +6,17 @@ use link_msg::*;
 use std::alloc::Global;
 use std::process::Abort;
 
-/// Each of these attributes is refused under its family, and its fault is so many bytes after the header.
-fn are_at(rt: &impl Abort, alloc: Global, rows: &[(u8, &[u8], usize)]) {
-    for (family, attributes, at) in rows {
+/// What is wrong, the family, the attributes, and how many bytes after the header the fault is.
+type Row<'a> = (&'a str, u8, &'a [u8], usize);
+
+/// Each of these attributes is refused under its family, and its fault is where the row says.
+fn are_at(rt: &impl Abort, alloc: Global, rows: &[Row<'_>]) {
+    for (label, family, attributes, at) in rows {
         let bytes = with_header(rt, alloc, *family, attributes);
-        assert!(rt; LinkMessage::check(bytes.as_slice()).is_err());
-        assert!(rt; *at < 100);
-        assert_eq!(rt; LinkMessage::fault_at(bytes.as_slice()), Some(16 + *at));
+        assert!(rt; LinkMessage::check(bytes.as_slice()).is_err(), "{label}");
+        assert!(rt; *at < 100, "{label}");
+        let found = LinkMessage::fault_at(bytes.as_slice());
+        assert_eq!(rt; found, Some(16 + *at), "{label}");
     }
 }
 
@@ -24,17 +28,39 @@ fn of_short_messages(rt: HostRuntime) {
 
 #[test]
 fn of_what_is_read(rt: HostRuntime) {
-    let rows: [(u8, &[u8]); 5] = [
-        (0, &[]),
-        (0, &[8, 0, 4, 0, 0xdc, 5, 0, 0, 6, 0, 3, 0, 0x6c, 0x6f]),
-        (2, &[5, 0, 26, 0, 9]),
-        (0, &[8, 0, 22, 0, 4, 0, 7, 0]),
-        (0, &[8, 0, 24, 0, 4, 0, 2, 0]),
+    let rows: [(&str, u8, &[u8]); 5] = [
+        ("no attribute", 0, &[]),
+        (
+            "IFLA_MTU and IFLA_IFNAME",
+            0,
+            &[
+                0x08, 0x00, 0x04, 0x00, 0xdc, 0x05, 0x00, 0x00, 0x06, 0x00, 0x03, 0x00, 0x6c, 0x6f,
+            ],
+        ),
+        (
+            "IFLA_AF_SPEC of AF_INET",
+            2,
+            &[0x05, 0x00, 0x1a, 0x00, 0x09],
+        ),
+        (
+            "a foreign entry of functions",
+            0,
+            &[0x08, 0x00, 0x16, 0x00, 0x04, 0x00, 0x07, 0x00],
+        ),
+        (
+            "a foreign entry of ports",
+            0,
+            &[0x08, 0x00, 0x18, 0x00, 0x04, 0x00, 0x02, 0x00],
+        ),
     ];
-    for (family, attributes) in rows {
+    for (label, family, attributes) in rows {
         let bytes = with_header(&rt, rt.alloc(), family, attributes);
-        assert_eq!(rt; cause_of(LinkMessage::check(bytes.as_slice())), None);
-        assert!(rt; LinkMessage::fault_at(bytes.as_slice()).is_none());
+        let found = cause_of(LinkMessage::check(bytes.as_slice()));
+        assert_eq!(rt; found, None, "{label}");
+        assert!(rt;
+            LinkMessage::fault_at(bytes.as_slice()).is_none(),
+            "{label}"
+        );
     }
 }
 
@@ -44,10 +70,29 @@ fn of_outermost_frames(rt: HostRuntime) {
         &rt,
         rt.alloc(),
         &[
-            (0, &[3, 0, 3, 0], 0),
-            (0, &[8, 0, 4, 0, 0xdc, 5, 0, 0, 0], 8),
-            (0, &[8, 0, 4, 0, 0xdc, 5, 0, 0, 0xff, 0xff, 3, 0], 8),
-            (0, &[7, 0, 3, 0, 0x6c, 0x6f, 0, 9, 3, 0, 3, 0], 8),
+            ("a length of 3", 0, &[0x03, 0x00, 0x03, 0x00], 0),
+            (
+                "a stray byte",
+                0,
+                &[0x08, 0x00, 0x04, 0x00, 0xdc, 0x05, 0x00, 0x00, 0x00],
+                8,
+            ),
+            (
+                "a length that passes the message",
+                0,
+                &[
+                    0x08, 0x00, 0x04, 0x00, 0xdc, 0x05, 0x00, 0x00, 0xff, 0xff, 0x03, 0x00,
+                ],
+                8,
+            ),
+            (
+                "a length of 3 after a name",
+                0,
+                &[
+                    0x07, 0x00, 0x03, 0x00, 0x6c, 0x6f, 0x00, 0x09, 0x03, 0x00, 0x03, 0x00,
+                ],
+                8,
+            ),
         ],
     );
 }
@@ -59,19 +104,50 @@ fn of_outermost_payloads(rt: HostRuntime) {
         &rt,
         rt.alloc(),
         &[
-            (0, &[6, 0, 4, 0, 0xdc, 5, 0, 0, 3, 0, 3, 0], 0),
             (
+                "IFLA_MTU of 2 bytes, and a length of 3",
                 0,
                 &[
-                    7, 0, 3, 0, 0x6c, 0x6f, 0, 9, 8, 0, 4, 0, 0xdc, 5, 0, 0, 5, 0, 3, 0, 0xff,
+                    0x06, 0x00, 0x04, 0x00, 0xdc, 0x05, 0x00, 0x00, 0x03, 0x00, 0x03, 0x00,
+                ],
+                0,
+            ),
+            (
+                "IFLA_IFNAME that is no UTF-8, after two attributes",
+                0,
+                &[
+                    0x07, 0x00, 0x03, 0x00, 0x6c, 0x6f, 0x00, 0x09, 0x08, 0x00, 0x04, 0x00, 0xdc,
+                    0x05, 0x00, 0x00, 0x05, 0x00, 0x03, 0x00, 0xff,
                 ],
                 16,
             ),
-            (0, &[11, 0, 11, 0, 0, 0, 0, 0, 0, 0, 0, 0], 0),
-            (0, &[4, 0, 99, 0, 4, 0, 18, 0], 4),
-            (0, &[4, 0, 24, 0], 0),
-            (7, &[4, 0, 26, 0], 0),
-            (10, &[4, 0, 12, 0], 0),
+            (
+                "IFLA_WIRELESS of 7 bytes",
+                0,
+                &[
+                    0x0b, 0x00, 0x0b, 0x00, 0x00, 0x00, 0x00, 0x00, 0x00, 0x00, 0x00, 0x00,
+                ],
+                0,
+            ),
+            (
+                "IFLA_LINKINFO of no bytes",
+                0,
+                &[0x04, 0x00, 0x63, 0x00, 0x04, 0x00, 0x12, 0x00],
+                4,
+            ),
+            ("IFLA_VF_PORTS of no bytes", 0, &[0x04, 0x00, 0x18, 0x00], 0),
+            (
+                "IFLA_AF_SPEC of AF_BRIDGE and no bytes",
+                7,
+                &[0x04, 0x00, 0x1a, 0x00],
+                0,
+            ),
+            (
+                "IFLA_PROTINFO of AF_INET6 and no bytes",
+                10,
+                &[0x04, 0x00, 0x0c, 0x00],
+                0,
+            ),
         ],
     );
 }
@@ -83,19 +159,68 @@ fn in_flat_lists(rt: HostRuntime) {
         rt.alloc(),
         &[
             (
+                "IFLA_INFO_KIND that is no UTF-8",
                 0,
                 &[
-                    17, 0, 18, 0, 8, 0, 2, 0, 1, 2, 3, 4, 5, 0, 1, 0, 0xff, 0, 0, 0,
+                    0x11, 0x00, 0x12, 0x00, 0x08, 0x00, 0x02, 0x00, 0x01, 0x02, 0x03, 0x04, 0x05,
+                    0x00, 0x01, 0x00, 0xff, 0x00, 0x00, 0x00,
                 ],
                 12,
             ),
-            (0, &[5, 0, 25, 0, 9, 0, 0, 0], 4),
-            (0, &[10, 0, 43, 0, 6, 0, 1, 0, 1, 2, 0, 0], 4),
-            (0, &[9, 0, 52, 0, 5, 0, 53, 0, 0xff, 0, 0, 0], 4),
-            (0, &[9, 0, 52, 0, 4, 0, 99, 0, 1, 0, 0, 0], 8),
-            (0, &[9, 0, 55, 0, 5, 0, 1, 0, 1, 0, 0, 0], 4),
-            (0, &[9, 0, 62, 0, 5, 0, 1, 0, 0xff, 0, 0, 0], 4),
-            (0, &[9, 0, 65, 0, 5, 0, 1, 0, 1, 0, 0, 0], 4),
+            (
+                "a stray byte in IFLA_PORT_SELF",
+                0,
+                &[0x05, 0x00, 0x19, 0x00, 0x09, 0x00, 0x00, 0x00],
+                4,
+            ),
+            (
+                "IFLA_XDP_FD of 2 bytes",
+                0,
+                &[
+                    0x0a, 0x00, 0x2b, 0x00, 0x06, 0x00, 0x01, 0x00, 0x01, 0x02, 0x00, 0x00,
+                ],
+                4,
+            ),
+            (
+                "IFLA_ALT_IFNAME that is no UTF-8",
+                0,
+                &[
+                    0x09, 0x00, 0x34, 0x00, 0x05, 0x00, 0x35, 0x00, 0xff, 0x00, 0x00, 0x00,
+                ],
+                4,
+            ),
+            (
+                "a stray byte in IFLA_PROP_LIST",
+                0,
+                &[
+                    0x09, 0x00, 0x34, 0x00, 0x04, 0x00, 0x63, 0x00, 0x01, 0x00, 0x00, 0x00,
+                ],
+                8,
+            ),
+            (
+                "IFLA_PROTO_DOWN_REASON_MASK of a byte",
+                0,
+                &[
+                    0x09, 0x00, 0x37, 0x00, 0x05, 0x00, 0x01, 0x00, 0x01, 0x00, 0x00, 0x00,
+                ],
+                4,
+            ),
+            (
+                "DEVLINK_ATTR_BUS_NAME that is no UTF-8",
+                0,
+                &[
+                    0x09, 0x00, 0x3e, 0x00, 0x05, 0x00, 0x01, 0x00, 0xff, 0x00, 0x00, 0x00,
+                ],
+                4,
+            ),
+            (
+                "DPLL_A_PIN_ID of a byte",
+                0,
+                &[
+                    0x09, 0x00, 0x41, 0x00, 0x05, 0x00, 0x01, 0x00, 0x01, 0x00, 0x00, 0x00,
+                ],
+                4,
+            ),
         ],
     );
 }
@@ -106,32 +231,59 @@ fn in_functions(rt: HostRuntime) {
         &rt,
         rt.alloc(),
         &[
-            (0, &[5, 0, 22, 0, 9, 0, 0, 0], 4),
-            (0, &[8, 0, 22, 0, 4, 0, 1, 0x80], 4),
             (
+                "a stray byte in IFLA_VFINFO_LIST",
                 0,
-                &[16, 0, 22, 0, 5, 0, 7, 0, 0xff, 0, 0, 0, 4, 0, 1, 0],
-                12,
+                &[0x05, 0x00, 0x16, 0x00, 0x09, 0x00, 0x00, 0x00],
+                4,
             ),
-            (0, &[9, 0, 22, 0, 5, 0, 1, 0, 9, 0, 0, 0], 8),
             (
+                "IFLA_VF_INFO of no bytes",
+                0,
+                &[0x08, 0x00, 0x16, 0x00, 0x04, 0x00, 0x01, 0x80],
+                4,
+            ),
+            (
+                "IFLA_VF_INFO of no bytes after a foreign entry",
                 0,
                 &[
-                    20, 0, 22, 0, 16, 0, 1, 0, 4, 0, 99, 0, 8, 0, 2, 0, 1, 2, 3, 4,
+                    0x10, 0x00, 0x16, 0x00, 0x05, 0x00, 0x07, 0x00, 0xff, 0x00, 0x00, 0x00, 0x04,
+                    0x00, 0x01, 0x00,
                 ],
                 12,
             ),
             (
+                "a stray byte in IFLA_VF_INFO",
                 0,
                 &[
-                    24, 0, 22, 0, 20, 0, 1, 0, 16, 0, 8, 0, 11, 0, 0, 0, 0, 0, 0, 0, 0, 0, 0, 0,
+                    0x09, 0x00, 0x16, 0x00, 0x05, 0x00, 0x01, 0x00, 0x09, 0x00, 0x00, 0x00,
+                ],
+                8,
+            ),
+            (
+                "IFLA_VF_VLAN of 4 bytes",
+                0,
+                &[
+                    0x14, 0x00, 0x16, 0x00, 0x10, 0x00, 0x01, 0x00, 0x04, 0x00, 0x63, 0x00, 0x08,
+                    0x00, 0x02, 0x00, 0x01, 0x02, 0x03, 0x04,
                 ],
                 12,
             ),
             (
+                "a counter of 7 bytes",
                 0,
                 &[
-                    20, 0, 22, 0, 16, 0, 1, 0, 12, 0, 12, 0, 8, 0, 1, 0, 1, 2, 3, 4,
+                    0x18, 0x00, 0x16, 0x00, 0x14, 0x00, 0x01, 0x00, 0x10, 0x00, 0x08, 0x00, 0x0b,
+                    0x00, 0x00, 0x00, 0x00, 0x00, 0x00, 0x00, 0x00, 0x00, 0x00, 0x00,
+                ],
+                12,
+            ),
+            (
+                "IFLA_VF_VLAN_INFO of 4 bytes",
+                0,
+                &[
+                    0x14, 0x00, 0x16, 0x00, 0x10, 0x00, 0x01, 0x00, 0x0c, 0x00, 0x0c, 0x00, 0x08,
+                    0x00, 0x01, 0x00, 0x01, 0x02, 0x03, 0x04,
                 ],
                 12,
             ),
@@ -145,9 +297,28 @@ fn in_ports(rt: HostRuntime) {
         &rt,
         rt.alloc(),
         &[
-            (0, &[8, 0, 24, 0, 4, 0, 1, 0], 4),
-            (0, &[12, 0, 24, 0, 4, 0, 9, 0, 3, 0, 1, 0], 8),
-            (0, &[9, 0, 24, 0, 5, 0, 1, 0, 9, 0, 0, 0], 8),
+            (
+                "IFLA_VF_PORT of no bytes",
+                0,
+                &[0x08, 0x00, 0x18, 0x00, 0x04, 0x00, 0x01, 0x00],
+                4,
+            ),
+            (
+                "a length of 3 after a foreign entry",
+                0,
+                &[
+                    0x0c, 0x00, 0x18, 0x00, 0x04, 0x00, 0x09, 0x00, 0x03, 0x00, 0x01, 0x00,
+                ],
+                8,
+            ),
+            (
+                "a stray byte in IFLA_VF_PORT",
+                0,
+                &[
+                    0x09, 0x00, 0x18, 0x00, 0x05, 0x00, 0x01, 0x00, 0x09, 0x00, 0x00, 0x00,
+                ],
+                8,
+            ),
         ],
     );
 }
@@ -158,53 +329,151 @@ fn in_settings(rt: HostRuntime) {
         &rt,
         rt.alloc(),
         &[
-            (7, &[5, 0, 12, 0, 9, 0, 0, 0], 4),
-            (10, &[5, 0, 12, 0, 9, 0, 0, 0], 4),
-            (7, &[9, 0, 26, 0, 4, 0, 1, 0, 9, 0, 0, 0], 8),
-            (0, &[8, 0, 26, 0, 4, 0, 2, 0], 4),
-            (0, &[9, 0, 26, 0, 4, 0, 99, 0, 9, 0, 0, 0], 8),
-            (0, &[9, 0, 26, 0, 5, 0, 2, 0, 9, 0, 0, 0], 8),
-            (0, &[13, 0, 26, 0, 9, 0, 10, 0, 5, 0, 1, 0, 9, 0, 0, 0], 8),
-            (0, &[13, 0, 26, 0, 9, 0, 45, 0, 5, 0, 1, 0, 9, 0, 0, 0], 8),
+            (
+                "a stray byte in IFLA_PROTINFO of AF_BRIDGE",
+                7,
+                &[0x05, 0x00, 0x0c, 0x00, 0x09, 0x00, 0x00, 0x00],
+                4,
+            ),
+            (
+                "a stray byte in IFLA_PROTINFO of AF_INET6",
+                10,
+                &[0x05, 0x00, 0x0c, 0x00, 0x09, 0x00, 0x00, 0x00],
+                4,
+            ),
+            (
+                "a stray byte in IFLA_AF_SPEC of AF_BRIDGE",
+                7,
+                &[
+                    0x09, 0x00, 0x1a, 0x00, 0x04, 0x00, 0x01, 0x00, 0x09, 0x00, 0x00, 0x00,
+                ],
+                8,
+            ),
+            (
+                "AF_INET of no bytes",
+                0,
+                &[0x08, 0x00, 0x1a, 0x00, 0x04, 0x00, 0x02, 0x00],
+                4,
+            ),
+            (
+                "a stray byte in IFLA_AF_SPEC",
+                0,
+                &[
+                    0x09, 0x00, 0x1a, 0x00, 0x04, 0x00, 0x63, 0x00, 0x09, 0x00, 0x00, 0x00,
+                ],
+                8,
+            ),
+            (
+                "a stray byte in AF_INET",
+                0,
+                &[
+                    0x09, 0x00, 0x1a, 0x00, 0x05, 0x00, 0x02, 0x00, 0x09, 0x00, 0x00, 0x00,
+                ],
+                8,
+            ),
+            (
+                "IFLA_INET6_FLAGS of a byte",
+                0,
+                &[
+                    0x0d, 0x00, 0x1a, 0x00, 0x09, 0x00, 0x0a, 0x00, 0x05, 0x00, 0x01, 0x00, 0x09,
+                    0x00, 0x00, 0x00,
+                ],
+                8,
+            ),
+            (
+                "IFLA_MCTP_NET of a byte",
+                0,
+                &[
+                    0x0d, 0x00, 0x1a, 0x00, 0x09, 0x00, 0x2d, 0x00, 0x05, 0x00, 0x01, 0x00, 0x09,
+                    0x00, 0x00, 0x00,
+                ],
+                8,
+            ),
         ],
     );
 }
 
-/// Of this family, these attributes are refused, and these numbers lead to the fault.
-type PathRow<'a> = (u8, &'a [u8], usize, &'a [u16]);
+/// The same, and the numbers that lead to the fault.
+type PathRow<'a> = (&'a str, u8, &'a [u8], usize, &'a [u16]);
 
 /// A counter of one byte after one that is read: of a virtual function's counters.
 const COUNTER: [u8; 29] = [
-    29, 0, 22, 0, 25, 0, 1, 0, 21, 0, 8, 0, 12, 0, 0, 0, 1, 2, 3, 4, 5, 6, 7, 8, 5, 0, 1, 0, 9,
+    0x1d, 0x00, 0x16, 0x00, 0x19, 0x00, 0x01, 0x00, 0x15, 0x00, 0x08, 0x00, 0x0c, 0x00, 0x00, 0x00,
+    0x01, 0x02, 0x03, 0x04, 0x05, 0x06, 0x07, 0x08, 0x05, 0x00, 0x01, 0x00, 0x09,
 ];
 
 #[test]
 fn numbers_lead_there(rt: HostRuntime) {
     let rows: [PathRow<'_>; 9] = [
-        (0, &[3, 0, 3, 0], 0, &[]),
-        (0, &[6, 0, 4, 0xc0, 0xdc, 5, 0, 0], 0, &[4]),
-        (0, &[9, 0, 52, 0, 5, 0, 53, 0, 0xff], 4, &[52, 53]),
-        (0, &[9, 0, 52, 0, 4, 0, 99, 0, 1], 8, &[52]),
-        (0, &COUNTER, 24, &[22, 1, 8, 1]),
-        (0, &[8, 0, 22, 0, 4, 0, 1, 0x80], 4, &[22, 1]),
-        (0, &[9, 0, 24, 0, 5, 0, 1, 0, 9], 8, &[24, 1]),
-        (7, &[9, 0, 26, 0, 4, 0, 1, 0, 9], 8, &[26]),
+        ("a length of 3", 0, &[0x03, 0x00, 0x03, 0x00], 0, &[]),
         (
+            "IFLA_MTU of 2 bytes",
             0,
-            &[13, 0, 26, 0, 9, 0, 45, 0, 5, 0, 1, 0, 9],
+            &[0x06, 0x00, 0x04, 0xc0, 0xdc, 0x05, 0x00, 0x00],
+            0,
+            &[4],
+        ),
+        (
+            "IFLA_ALT_IFNAME that is no UTF-8",
+            0,
+            &[0x09, 0x00, 0x34, 0x00, 0x05, 0x00, 0x35, 0x00, 0xff],
+            4,
+            &[0x34, 0x35],
+        ),
+        (
+            "a stray byte in IFLA_PROP_LIST",
+            0,
+            &[0x09, 0x00, 0x34, 0x00, 0x04, 0x00, 0x63, 0x00, 0x01],
             8,
-            &[26, 45, 1],
+            &[52],
+        ),
+        (
+            "a counter of a byte",
+            0,
+            &COUNTER,
+            24,
+            &[0x16, 0x01, 0x08, 0x01],
+        ),
+        (
+            "IFLA_VF_INFO of no bytes",
+            0,
+            &[0x08, 0x00, 0x16, 0x00, 0x04, 0x00, 0x01, 0x80],
+            4,
+            &[0x16, 0x01],
+        ),
+        (
+            "a stray byte in IFLA_VF_PORT",
+            0,
+            &[0x09, 0x00, 0x18, 0x00, 0x05, 0x00, 0x01, 0x00, 0x09],
+            8,
+            &[0x18, 0x01],
+        ),
+        (
+            "a stray byte in IFLA_AF_SPEC of AF_BRIDGE",
+            7,
+            &[0x09, 0x00, 0x1a, 0x00, 0x04, 0x00, 0x01, 0x00, 0x09],
+            8,
+            &[26],
+        ),
+        (
+            "IFLA_MCTP_NET of a byte",
+            0,
+            &[
+                0x0d, 0x00, 0x1a, 0x00, 0x09, 0x00, 0x2d, 0x00, 0x05, 0x00, 0x01, 0x00, 0x09,
+            ],
+            8,
+            &[0x1a, 0x2d, 0x01],
         ),
     ];
-    for (family, attributes, at, numbers) in rows {
+    for (label, family, attributes, at, numbers) in rows {
         let bytes = with_header(&rt, rt.alloc(), family, attributes);
         match LinkMessage::fault_path(bytes.as_slice()) {
             Some(path) => {
-                assert!(rt; at < 100);
-                assert_eq!(rt; path.offset, 16 + at);
-                assert!(rt; path.numbers() == numbers);
+                assert!(rt; at < 100, "{label}");
+                assert_eq!(rt; path.offset, 16 + at, "{label}");
+                assert!(rt; path.numbers() == numbers, "{label}");
             }
-            None => panic!(rt; "a fault of {numbers:?} is not found"),
+            None => panic!(rt; "{label}: the fault is not found"),
         }
     }
 }

@@ -6,57 +6,65 @@ use link_msg::*;
 use std::alloc::Global;
 use std::process::Abort;
 
-/// A family, an attribute as it is read, what it means, and its text.
-type Row<'a> = (u8, &'a [u8], LinkAttribute, &'a [u8]);
+/// What it is, a family, an attribute as it is read, what it means, and its text.
+type Row<'a> = (&'a str, u8, &'a [u8], LinkAttribute, &'a [u8]);
 
 #[test]
 fn empty_lists(rt: HostRuntime) {
     let alloc = rt.alloc();
     let rows: [Row<'_>; 4] = [
         (
+            "IFLA_VFINFO_LIST of no bytes",
             0,
-            &[4, 0, 22, 0],
+            &[0x04, 0x00, 0x16, 0x00],
             LinkAttribute::VfInfoList(list(alloc, []).expect(&rt, "memory")),
-            &[4, 0, 22, 0],
+            &[0x04, 0x00, 0x16, 0x00],
         ),
         (
+            "IFLA_VFINFO_LIST of a foreign entry",
             0,
-            &[12, 0, 22, 0, 8, 0, 5, 0, 0xff, 0xff, 0xff, 0xff],
+            &[
+                0x0c, 0x00, 0x16, 0x00, 0x08, 0x00, 0x05, 0x00, 0xff, 0xff, 0xff, 0xff,
+            ],
             LinkAttribute::VfInfoList(list(alloc, []).expect(&rt, "memory")),
-            &[4, 0, 22, 0],
+            &[0x04, 0x00, 0x16, 0x00],
         ),
         (
+            "IFLA_AF_SPEC of no bytes",
             0,
-            &[4, 0, 26, 0],
+            &[0x04, 0x00, 0x1a, 0x00],
             LinkAttribute::AfSpecUnspec(list(alloc, []).expect(&rt, "memory")),
-            &[4, 0, 26, 0],
+            &[0x04, 0x00, 0x1a, 0x00],
         ),
         (
+            "IFLA_PROP_LIST of no bytes",
             0,
-            &[4, 0, 52, 0],
+            &[0x04, 0x00, 0x34, 0x00],
             LinkAttribute::PropList(list(alloc, []).expect(&rt, "memory")),
-            &[4, 0, 52, 0x80],
+            &[0x04, 0x00, 0x34, 0x80],
         ),
     ];
-    for (family, attribute, wanted, text) in rows {
-        is_attribute_row(&rt, alloc, family, attribute, wanted, text);
+    for (label, family, attribute, wanted, text) in rows {
+        is_attribute_row(&rt, alloc, label, family, attribute, wanted, text);
     }
 }
 
 #[test]
 fn one_port(rt: HostRuntime) {
     let alloc = rt.alloc();
-    let member = VfPort::Other(kept(alloc, 1, &[5, 0, 0, 0]).expect(&rt, "memory"));
+    let member = VfPort::Other(kept(alloc, 1, &[0x05, 0x00, 0x00, 0x00]).expect(&rt, "memory"));
     let port = LinkAttribute::PortSelf(LinkVfPort(list(alloc, [member]).expect(&rt, "memory")));
-    let text = [12, 0, 25, 0, 8, 0, 1, 0, 5, 0, 0, 0];
-    is_attribute_row(&rt, alloc, 0, &text, port, &text);
+    let text = [
+        0x0c, 0x00, 0x19, 0x00, 0x08, 0x00, 0x01, 0x00, 0x05, 0x00, 0x00, 0x00,
+    ];
+    is_attribute_row(&rt, alloc, "IFLA_PORT_SELF", 0, &text, port, &text);
 }
 
 /// A list of two ports, and an entry between them that is dropped.
 #[test]
 fn two_ports(rt: HostRuntime) {
     let alloc = rt.alloc();
-    let first = VfPort::Other(kept(alloc, 1, &[0x05, 0, 0, 0]).expect(&rt, "memory"));
+    let first = VfPort::Other(kept(alloc, 1, &[0x05, 0x00, 0x00, 0x00]).expect(&rt, "memory"));
     let second = VfPort::Other(kept(alloc, 2 | NLA_F_NESTED, &[0xff]).expect(&rt, "memory"));
     let ports = [
         LinkVfPort(list(alloc, [first]).expect(&rt, "memory")),
@@ -72,7 +80,7 @@ fn two_ports(rt: HostRuntime) {
         0x1c, 0x00, 0x18, 0x00, 0x0c, 0x00, 0x01, 0x00, 0x08, 0x00, 0x01, 0x00, 0x05, 0x00, 0x00,
         0x00, 0x0c, 0x00, 0x01, 0x00, 0x05, 0x00, 0x02, 0x80, 0xff, 0x00, 0x00, 0x00,
     ];
-    is_attribute_row(&rt, alloc, 0, &bytes, ports, &text);
+    is_attribute_row(&rt, alloc, "IFLA_VF_PORTS", 0, &bytes, ports, &text);
 }
 
 /// The list of one function with one member.
@@ -85,7 +93,8 @@ fn function(rt: &impl Abort, alloc: Global, member: VfInfo) -> LinkAttribute {
 fn functions_with_one_record(rt: HostRuntime) {
     let alloc = rt.alloc();
     let off = [
-        20, 0, 22, 0, 16, 0, 1, 0, 12, 0, 9, 0, 1, 0, 0, 0, 0, 0, 0, 0,
+        0x14, 0x00, 0x16, 0x00, 0x10, 0x00, 0x01, 0x00, 0x0c, 0x00, 0x09, 0x00, 0x01, 0x00, 0x00,
+        0x00, 0x00, 0x00, 0x00, 0x00,
     ];
     let mut off_read = off;
     off_read[16..].copy_from_slice(&[0xff; 4]);
@@ -94,7 +103,8 @@ fn functions_with_one_record(rt: HostRuntime) {
     let mut on_read = off;
     on_read[16] = 2;
     let guid = [
-        28, 0, 22, 0, 24, 0, 1, 0, 20, 0, 10, 0, 2, 0, 0, 0, 0, 0, 0, 0, 1, 0, 0, 0, 0, 0, 0, 0,
+        0x1c, 0x00, 0x16, 0x00, 0x18, 0x00, 0x01, 0x00, 0x14, 0x00, 0x0a, 0x00, 0x02, 0x00, 0x00,
+        0x00, 0x00, 0x00, 0x00, 0x00, 0x01, 0x00, 0x00, 0x00, 0x00, 0x00, 0x00, 0x00,
     ];
     let mut guid_read = guid;
     guid_read[16..20].copy_from_slice(&[0xff; 4]);
@@ -102,12 +112,30 @@ fn functions_with_one_record(rt: HostRuntime) {
     let untrusted = VfInfo::Trust(VfInfoTrust::new(1, false));
     let named = VfInfo::IbNodeGuid(VfInfoGuid::new(2, 1));
     let rows: [Row<'_>; 3] = [
-        (0, &on_read, function(&rt, alloc, trusted), &on),
-        (0, &off_read, function(&rt, alloc, untrusted), &off),
-        (0, &guid_read, function(&rt, alloc, named), &guid),
+        (
+            "IFLA_VF_TRUST on",
+            0,
+            &on_read,
+            function(&rt, alloc, trusted),
+            &on,
+        ),
+        (
+            "IFLA_VF_TRUST off",
+            0,
+            &off_read,
+            function(&rt, alloc, untrusted),
+            &off,
+        ),
+        (
+            "IFLA_VF_IB_NODE_GUID",
+            0,
+            &guid_read,
+            function(&rt, alloc, named),
+            &guid,
+        ),
     ];
-    for (family, attribute, wanted, text) in rows {
-        is_attribute_row(&rt, alloc, family, attribute, wanted, text);
+    for (label, family, attribute, wanted, text) in rows {
+        is_attribute_row(&rt, alloc, label, family, attribute, wanted, text);
     }
 }
 
@@ -115,12 +143,16 @@ fn functions_with_one_record(rt: HostRuntime) {
 fn functions_with_lists(rt: HostRuntime) {
     let alloc = rt.alloc();
     let counted = [
-        24, 0, 22, 0, 20, 0, 1, 0, 16, 0, 8, 0, 12, 0, 0, 0, 7, 0, 0, 0, 0, 0, 0, 0,
+        0x18, 0x00, 0x16, 0x00, 0x14, 0x00, 0x01, 0x00, 0x10, 0x00, 0x08, 0x00, 0x0c, 0x00, 0x00,
+        0x00, 0x07, 0x00, 0x00, 0x00, 0x00, 0x00, 0x00, 0x00,
     ];
-    let uncounted = [12, 0, 22, 0, 8, 0, 1, 0, 4, 0, 8, 0];
+    let uncounted = [
+        0x0c, 0x00, 0x16, 0x00, 0x08, 0x00, 0x01, 0x00, 0x04, 0x00, 0x08, 0x00,
+    ];
     let tagged = [
-        32, 0, 22, 0, 28, 0, 1, 0, 24, 0, 12, 0, 20, 0, 1, 0, 1, 0, 0, 0, 100, 0, 0, 0, 0, 0, 0, 0,
-        0x88, 0xa8, 0, 0,
+        0x20, 0x00, 0x16, 0x00, 0x1c, 0x00, 0x01, 0x00, 0x18, 0x00, 0x0c, 0x00, 0x14, 0x00, 0x01,
+        0x00, 0x01, 0x00, 0x00, 0x00, 0x64, 0x00, 0x00, 0x00, 0x00, 0x00, 0x00, 0x00, 0x88, 0xa8,
+        0x00, 0x00,
     ];
     let mut tagged_read = tagged;
     tagged_read[30] = 0x12;
@@ -130,12 +162,30 @@ fn functions_with_lists(rt: HostRuntime) {
     let vlan = VfVlan::Info(VfVlanInfo::new(1, 100, 0, VlanProtocol::Ieee8021Ad));
     let vlans = VfInfo::VlanList(list(alloc, [vlan]).expect(&rt, "memory"));
     let rows: [Row<'_>; 3] = [
-        (0, &counted, function(&rt, alloc, one), &counted),
-        (0, &uncounted, function(&rt, alloc, none), &uncounted),
-        (0, &tagged_read, function(&rt, alloc, vlans), &tagged),
+        (
+            "IFLA_VF_STATS of one counter",
+            0,
+            &counted,
+            function(&rt, alloc, one),
+            &counted,
+        ),
+        (
+            "IFLA_VF_STATS of none",
+            0,
+            &uncounted,
+            function(&rt, alloc, none),
+            &uncounted,
+        ),
+        (
+            "IFLA_VF_VLAN_LIST",
+            0,
+            &tagged_read,
+            function(&rt, alloc, vlans),
+            &tagged,
+        ),
     ];
-    for (family, attribute, wanted, text) in rows {
-        is_attribute_row(&rt, alloc, family, attribute, wanted, text);
+    for (label, family, attribute, wanted, text) in rows {
+        is_attribute_row(&rt, alloc, label, family, attribute, wanted, text);
     }
 }
 
@@ -147,36 +197,49 @@ fn flat_lists(rt: HostRuntime) {
     let attached = LinkXdp::Attached(XdpAttached::SocketBuffer);
     let binding = AfSpecMctp::PhysBinding(MctpPhysBinding::Vendor);
     let mctp = AfSpecUnspec::Mctp(list(alloc, [binding]).expect(&rt, "memory"));
-    let path = [12, 0, 43, 0, 5, 0, 2, 0, 2, 0, 0, 0];
-    let families = [16, 0, 26, 0, 12, 0, 45, 0, 5, 0, 2, 0, 0xff, 0, 0, 0];
+    let path = [
+        0x0c, 0x00, 0x2b, 0x00, 0x05, 0x00, 0x02, 0x00, 0x02, 0x00, 0x00, 0x00,
+    ];
+    let families = [
+        0x10, 0x00, 0x1a, 0x00, 0x0c, 0x00, 0x2d, 0x00, 0x05, 0x00, 0x02, 0x00, 0xff, 0x00, 0x00,
+        0x00,
+    ];
     let rows: [Row<'_>; 4] = [
         (
+            "IFLA_ALT_IFNAME of no letters",
             0,
-            &[8, 0, 52, 0, 4, 0, 53, 0],
+            &[0x08, 0x00, 0x34, 0x00, 0x04, 0x00, 0x35, 0x00],
             LinkAttribute::PropList(list(alloc, [name]).expect(&rt, "memory")),
-            &[12, 0, 52, 0x80, 5, 0, 53, 0, 0, 0, 0, 0],
+            &[
+                0x0c, 0x00, 0x34, 0x80, 0x05, 0x00, 0x35, 0x00, 0x00, 0x00, 0x00, 0x00,
+            ],
         ),
         (
+            "IFLA_ALT_IFNAME of a letter",
             0,
-            &[9, 0, 52, 0, 5, 0, 53, 0, 0x61],
+            &[0x09, 0x00, 0x34, 0x00, 0x05, 0x00, 0x35, 0x00, 0x61],
             LinkAttribute::PropList(list(alloc, [letter]).expect(&rt, "memory")),
-            &[12, 0, 52, 0x80, 6, 0, 53, 0, 0x61, 0, 0, 0],
+            &[
+                0x0c, 0x00, 0x34, 0x80, 0x06, 0x00, 0x35, 0x00, 0x61, 0x00, 0x00, 0x00,
+            ],
         ),
         (
+            "IFLA_XDP_ATTACHED",
             0,
             &path,
             LinkAttribute::Xdp(list(alloc, [attached]).expect(&rt, "memory")),
             &path,
         ),
         (
+            "AF_MCTP",
             0,
             &families,
             LinkAttribute::AfSpecUnspec(list(alloc, [mctp]).expect(&rt, "memory")),
             &families,
         ),
     ];
-    for (family, attribute, wanted, text) in rows {
-        is_attribute_row(&rt, alloc, family, attribute, wanted, text);
+    for (label, family, attribute, wanted, text) in rows {
+        is_attribute_row(&rt, alloc, label, family, attribute, wanted, text);
     }
 }
 
@@ -189,26 +252,29 @@ fn lists_by_family(rt: HostRuntime) {
     let settings = AfSpecBridge::Other(kept(alloc, 2, &[]).expect(&rt, "memory"));
     let rows: [Row<'_>; 3] = [
         (
+            "IFLA_PROTINFO of AF_INET6",
             10,
-            &[8, 0, 12, 0, 4, 0, 5, 0],
+            &[0x08, 0x00, 0x0c, 0x00, 0x04, 0x00, 0x05, 0x00],
             LinkAttribute::ProtoInfoInet6(list(alloc, [inet6]).expect(&rt, "memory")),
-            &[8, 0, 12, 0x80, 4, 0, 5, 0],
+            &[0x08, 0x00, 0x0c, 0x80, 0x04, 0x00, 0x05, 0x00],
         ),
         (
+            "IFLA_PROTINFO of AF_BRIDGE",
             7,
-            &[8, 0, 12, 0, 4, 0, 1, 0],
+            &[0x08, 0x00, 0x0c, 0x00, 0x04, 0x00, 0x01, 0x00],
             LinkAttribute::ProtoInfoBridge(list(alloc, [bridge]).expect(&rt, "memory")),
-            &[8, 0, 12, 0x80, 4, 0, 1, 0],
+            &[0x08, 0x00, 0x0c, 0x80, 0x04, 0x00, 0x01, 0x00],
         ),
         (
+            "IFLA_AF_SPEC of AF_BRIDGE",
             7,
-            &[8, 0, 26, 0, 4, 0, 2, 0],
+            &[0x08, 0x00, 0x1a, 0x00, 0x04, 0x00, 0x02, 0x00],
             LinkAttribute::AfSpecBridge(list(alloc, [settings]).expect(&rt, "memory")),
-            &[8, 0, 26, 0, 4, 0, 2, 0],
+            &[0x08, 0x00, 0x1a, 0x00, 0x04, 0x00, 0x02, 0x00],
         ),
     ];
-    for (family, attribute, wanted, text) in rows {
-        is_attribute_row(&rt, alloc, family, attribute, wanted, text);
+    for (label, family, attribute, wanted, text) in rows {
+        is_attribute_row(&rt, alloc, label, family, attribute, wanted, text);
     }
 }
 
@@ -216,24 +282,26 @@ fn lists_by_family(rt: HostRuntime) {
 #[test]
 fn bytes_by_family(rt: HostRuntime) {
     let alloc = rt.alloc();
-    let info = kept(alloc, 12, &[4, 0, 5, 0]).expect(&rt, "memory");
+    let info = kept(alloc, 12, &[0x04, 0x00, 0x05, 0x00]).expect(&rt, "memory");
     let settings = bytes_from(alloc, &[0xff]).expect(&rt, "memory");
     let rows: [Row<'_>; 2] = [
         (
+            "IFLA_PROTINFO of AF_INET",
             2,
-            &[8, 0, 12, 0, 4, 0, 5, 0],
+            &[0x08, 0x00, 0x0c, 0x00, 0x04, 0x00, 0x05, 0x00],
             LinkAttribute::ProtoInfoUnknown(info),
-            &[8, 0, 12, 0, 4, 0, 5, 0],
+            &[0x08, 0x00, 0x0c, 0x00, 0x04, 0x00, 0x05, 0x00],
         ),
         (
+            "IFLA_AF_SPEC of AF_INET",
             2,
-            &[5, 0, 26, 0, 0xff, 0, 0, 0],
+            &[0x05, 0x00, 0x1a, 0x00, 0xff, 0x00, 0x00, 0x00],
             LinkAttribute::AfSpecUnknown(settings),
-            &[5, 0, 26, 0, 0xff, 0, 0, 0],
+            &[0x05, 0x00, 0x1a, 0x00, 0xff, 0x00, 0x00, 0x00],
         ),
     ];
-    for (family, attribute, wanted, text) in rows {
-        is_attribute_row(&rt, alloc, family, attribute, wanted, text);
+    for (label, family, attribute, wanted, text) in rows {
+        is_attribute_row(&rt, alloc, label, family, attribute, wanted, text);
     }
 }
 
@@ -249,6 +317,6 @@ fn settings_of_ipv4(rt: HostRuntime) {
     assert!(rt; conf.value_len() == 136);
     let mut value = [255; 136];
     conf.emit_value(&mut value);
-    assert!(rt; equal(&value[..4], &[1, 0, 0, 0]));
-    are_all(&rt, &value[4..], 0);
+    assert!(rt; equal(&value[..4], &[0x01, 0x00, 0x00, 0x00]));
+    assert!(rt; are_all(&value[4..], 0));
 }

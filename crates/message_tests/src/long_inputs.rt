@@ -2,7 +2,7 @@
 
 use crate::rows::are_all;
 use crate::testing::{are_same, read_message, text_made};
-use expected::{GROWTH, cause_of, equal, filled};
+use expected::{GROWTH, cause_of, equal, filled, is_stored};
 use link_msg::laws::law_room;
 use link_msg::*;
 use std::alloc::Global;
@@ -16,8 +16,9 @@ const SHORTER: usize = 250_000;
 
 /// Two attributes in their canonical spelling, one that is kept and a name.
 const TWO: [u8; 48] = [
-    40, 0, 99, 0xc0, 1, 2, 3, 4, 5, 6, 7, 8, 9, 10, 11, 12, 13, 14, 15, 16, 17, 18, 19, 20, 21, 22,
-    23, 24, 25, 26, 27, 28, 29, 30, 31, 32, 33, 34, 35, 36, 7, 0, 3, 0, 0x6c, 0x6f, 0, 0,
+    0x28, 0x00, 0x63, 0xc0, 0x01, 0x02, 0x03, 0x04, 0x05, 0x06, 0x07, 0x08, 0x09, 0x0a, 0x0b, 0x0c,
+    0x0d, 0x0e, 0x0f, 0x10, 0x11, 0x12, 0x13, 0x14, 0x15, 0x16, 0x17, 0x18, 0x19, 0x1a, 0x1b, 0x1c,
+    0x1d, 0x1e, 0x1f, 0x20, 0x21, 0x22, 0x23, 0x24, 0x07, 0x00, 0x03, 0x00, 0x6c, 0x6f, 0x00, 0x00,
 ];
 
 /// A header of zeros and those attributes, one after the other, in so many bytes.
@@ -84,9 +85,24 @@ fn gets_its_padding(rt: HostRuntime) {
 fn is_compared(rt: HostRuntime) {
     let one = message(&rt, rt.alloc(), LENGTH);
     let mut other = message(&rt, rt.alloc(), LENGTH);
-    are_same(&rt, rt.alloc(), one.as_slice(), other.as_slice(), true);
+    let alloc = rt.alloc();
+    are_same(
+        &rt,
+        alloc,
+        "the same",
+        one.as_slice(),
+        other.as_slice(),
+        true,
+    );
     other_name(&rt, &mut other);
-    are_same(&rt, rt.alloc(), one.as_slice(), other.as_slice(), false);
+    are_same(
+        &rt,
+        alloc,
+        "another last name",
+        one.as_slice(),
+        other.as_slice(),
+        false,
+    );
 }
 
 #[test]
@@ -100,8 +116,7 @@ fn is_rewritten(rt: HostRuntime) {
     law_room(bytes.as_slice());
     let len = canonical_into(bytes.as_slice(), out);
     assert!(rt; len == Ok(SHORTER));
-    assert!(rt; out.starts_with(bytes.as_slice()));
-    assert!(rt; out[SHORTER] == 255);
+    assert!(rt; is_stored(SHORTER, out, bytes.as_slice()));
 }
 
 /// Into a buffer of its text's length, and into none that is shorter.
@@ -114,7 +129,7 @@ fn is_rewritten_within(rt: HostRuntime) {
     assert!(rt; out.len() == LENGTH);
     let short = canonical_within(bytes.as_slice(), &mut out[1..]);
     assert_eq!(rt; short, Err(RoomError::NoRoom { wanted: LENGTH }));
-    are_all(&rt, out, 255);
+    assert!(rt; are_all(out, 255));
     assert!(rt; canonical_within(bytes.as_slice(), out) == Ok(LENGTH));
     assert!(rt; equal(out, bytes.as_slice()));
 }

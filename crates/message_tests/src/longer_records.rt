@@ -61,8 +61,8 @@ fn short_counters(rt: &impl Abort, alloc: Global, count: usize) -> Vec<u8> {
     assert!(rt; count < 1000);
     let [outer_low, outer_high] = (8 + 4 * count as u16).to_le_bytes();
     let [low, high] = (4 + 4 * count as u16).to_le_bytes();
-    let headers = [outer_low, outer_high, 26, 0, low, high, 10, 0];
-    message(rt, alloc, &headers, count, &[4, 0, 3, 0], &[])
+    let headers = [outer_low, outer_high, 0x1a, 0x00, low, high, 0x0a, 0x00];
+    message(rt, alloc, &headers, count, &[0x04, 0x00, 0x03, 0x00], &[])
 }
 
 /// A message of two settings, and its text.
@@ -72,8 +72,10 @@ fn two_settings(rt: &impl Abort, alloc: Global) -> (LinkMessage, Vec<u8>) {
         mc_forwarding: 1,
         ..InetDevConf::default()
     });
-    let member: [u8; SETTINGS] = zeros_after(&[0x8c, 0, 1, 0, 8, 0, 1, 0, 1]);
-    let headers = [0x94, 0, 26, 0, 0x90, 0, 2, 0];
+    let member: [u8; SETTINGS] = zeros_after(&[
+        0x8c, 0x00, 0x01, 0x00, 0x08, 0x00, 0x01, 0x00, 0x01,
+    ]);
+    let headers = [0x94, 0x00, 0x1a, 0x00, 0x90, 0x00, 0x02, 0x00];
     let text = message(rt, alloc, &headers, 1, &member, &[]);
     (of_settings(rt, alloc, conf), text)
 }
@@ -82,20 +84,51 @@ fn two_settings(rt: &impl Abort, alloc: Global) -> (LinkMessage, Vec<u8>) {
 fn settings_become_longer(rt: HostRuntime) {
     let alloc = rt.alloc();
     let (wanted, text) = two_settings(&rt, alloc);
-    let numbers = [12, 0, 1, 0, 8, 0, 1, 0, 1, 0, 0, 0];
-    let short = message(&rt, alloc, &[20, 0, 26, 0, 16, 0, 2, 0], 1, &numbers, &[]);
-    is_row(&rt, alloc, short.as_slice(), &wanted, text.as_slice());
-    let member: [u8; KERNEL_SETTINGS] = zeros_after(&[0x88, 0, 1, 0, 8, 0, 1, 0, 1]);
-    let headers = [0x90, 0, 26, 0, 0x8c, 0, 2, 0];
+    let numbers = [
+        0x0c, 0x00, 0x01, 0x00, 0x08, 0x00, 0x01, 0x00, 0x01, 0x00, 0x00, 0x00,
+    ];
+    let short = message(
+        &rt,
+        alloc,
+        &[0x14, 0x00, 0x1a, 0x00, 0x10, 0x00, 0x02, 0x00],
+        1,
+        &numbers,
+        &[],
+    );
+    is_row(
+        &rt,
+        alloc,
+        "two numbers",
+        short.as_slice(),
+        &wanted,
+        text.as_slice(),
+    );
+    let member: [u8; KERNEL_SETTINGS] = zeros_after(&[
+        0x88, 0x00, 0x01, 0x00, 0x08, 0x00, 0x01, 0x00, 0x01,
+    ]);
+    let headers = [0x90, 0x00, 0x1a, 0x00, 0x8c, 0x00, 0x02, 0x00];
     let sent = message(&rt, alloc, &headers, 1, &member, &[]);
-    is_row(&rt, alloc, sent.as_slice(), &wanted, text.as_slice());
+    is_row(
+        &rt,
+        alloc,
+        "as a kernel sends",
+        sent.as_slice(),
+        &wanted,
+        text.as_slice(),
+    );
 }
 
 /// A message of a request for these settings, made by hand, is written as these attributes.
-fn asks(rt: &impl Abort, alloc: Global, settings: InetDevConf, attributes: &[u8]) -> Vec<u8> {
+fn asks(
+    rt: &impl Abort,
+    alloc: Global,
+    label: &str,
+    settings: InetDevConf,
+    attributes: &[u8],
+) -> Vec<u8> {
     let made = of_settings(rt, alloc, AfSpecInet::DevConfRequest(settings));
     let text = with_header(rt, alloc, 0, attributes);
-    is_written(rt, alloc, &made, text.as_slice());
+    is_written(rt, alloc, label, &made, text.as_slice());
     text
 }
 
@@ -104,7 +137,15 @@ fn asks(rt: &impl Abort, alloc: Global, settings: InetDevConf, attributes: &[u8]
 fn requests_become_settings(rt: HostRuntime) {
     let alloc = rt.alloc();
     let none = InetDevConf::default();
-    asks(&rt, alloc, none, &[12, 0, 26, 0, 8, 0, 2, 0, 4, 0, 1, 0x80]);
+    asks(
+        &rt,
+        alloc,
+        "nothing",
+        none,
+        &[
+            0x0c, 0x00, 0x1a, 0x00, 0x08, 0x00, 0x02, 0x00, 0x04, 0x00, 0x01, 0x80,
+        ],
+    );
     let one = InetDevConf {
         forwarding: 1,
         ..none
@@ -112,13 +153,22 @@ fn requests_become_settings(rt: HostRuntime) {
     let asked = asks(
         &rt,
         alloc,
+        "forwarding",
         one,
         &[
-            20, 0, 26, 0, 16, 0, 2, 0, 12, 0, 1, 0x80, 8, 0, 1, 0, 1, 0, 0, 0,
+            0x14, 0x00, 0x1a, 0x00, 0x10, 0x00, 0x02, 0x00, 0x0c, 0x00, 0x01, 0x80, 0x08, 0x00,
+            0x01, 0x00, 0x01, 0x00, 0x00, 0x00,
         ],
     );
     let (wanted, text) = two_settings(&rt, alloc);
-    is_row(&rt, alloc, asked.as_slice(), &wanted, text.as_slice());
+    is_row(
+        &rt,
+        alloc,
+        "forwarding",
+        asked.as_slice(),
+        &wanted,
+        text.as_slice(),
+    );
 }
 
 /// The attributes at all levels of a message whose lists are those of families.
@@ -153,14 +203,26 @@ fn the_most_counters(rt: HostRuntime) {
     let count = attributes_in(&wanted);
     assert!(rt; count == 209);
     assert!(rt; 4 * count == 836);
-    let headers = [0x8c, 0xff, 0x1a, 0x00, 0x88, 0xff, 0x0a, 0x00];
-    let text = zero_counters(&rt, alloc, &headers, 207);
+    let text = most_counters(&rt, alloc);
     assert!(rt; text.len() == 16 + 65420);
-    is_row(&rt, alloc, short.as_slice(), &wanted, text.as_slice());
-    let member: [u8; KERNEL_COUNTERS] = zeros_after(&[52, 1, 3, 0]);
-    let headers = [0x14, 0xf9, 26, 0, 0x10, 0xf9, 10, 0];
-    let sent = message(&rt, alloc, &headers, 207, &member, &[]);
-    is_row(&rt, alloc, sent.as_slice(), &wanted, text.as_slice());
+    is_row(
+        &rt,
+        alloc,
+        "headers alone",
+        short.as_slice(),
+        &wanted,
+        text.as_slice(),
+    );
+    let headers = [0x14, 0xf9, 0x1a, 0x00, 0x10, 0xf9, 0x0a, 0x00];
+    let sent = message(&rt, alloc, &headers, 207, &sent_counters(), &[]);
+    is_row(
+        &rt,
+        alloc,
+        "as a kernel sends",
+        sent.as_slice(),
+        &wanted,
+        text.as_slice(),
+    );
 }
 
 /// With 839 bytes of attributes a message fits, whatever they are.
@@ -169,41 +231,66 @@ fn counters_and_a_name(rt: HostRuntime) {
     let alloc = rt.alloc();
     let mut short = short_counters(&rt, alloc, 206);
     short
-        .extend_from_slice(&[7, 0, 3, 0, 0x6c, 0x6f, 0])
+        .extend_from_slice(&[0x07, 0x00, 0x03, 0x00, 0x6c, 0x6f, 0x00])
         .expect(&rt, "memory");
     assert!(rt; short.len() == 16 + 839);
     let name = LinkAttribute::IfName(text_from(alloc, "lo").expect(&rt, "memory"));
     let wanted = message_of(&rt, alloc, [counters(&rt, alloc, 206), name]);
-    let member: [u8; COUNTERS] = zeros_after(&[60, 1, 3, 0]);
-    let headers = [0x50, 0xfe, 26, 0, 0x4c, 0xfe, 10, 0];
-    let name = [7, 0, 3, 0, 0x6c, 0x6f, 0, 0];
-    let text = message(&rt, alloc, &headers, 206, &member, &name);
+    let headers = [0x50, 0xfe, 0x1a, 0x00, 0x4c, 0xfe, 0x0a, 0x00];
+    let name = [0x07, 0x00, 0x03, 0x00, 0x6c, 0x6f, 0x00, 0x00];
+    let text = message(&rt, alloc, &headers, 206, &zero_counters(), &name);
     assert!(rt; text.len() == 16 + 65112);
-    is_row(&rt, alloc, short.as_slice(), &wanted, text.as_slice());
+    is_row(
+        &rt,
+        alloc,
+        "839 bytes",
+        short.as_slice(),
+        &wanted,
+        text.as_slice(),
+    );
 }
 
 /// One more does not fit, nor do 212 that kernels send, which are 65304 bytes and become more.
 #[test]
 fn too_many_counters(rt: HostRuntime) {
     let alloc = rt.alloc();
-    for (count, len) in [(208, 840), (212, 856), (213, 860)] {
+    for (label, count, len) in [
+        ("208 of them", 208, 840),
+        ("212 of them", 212, 856),
+        ("213 of them", 213, 860),
+    ] {
         let short = short_counters(&rt, alloc, count);
-        assert!(rt; short.len() == 16 + len);
+        assert!(rt; short.len() == 16 + len, "{label}");
         let wanted = of_counters(&rt, alloc, count);
-        is_unfit_row(&rt, alloc, short.as_slice(), &wanted);
+        is_unfit_row(&rt, alloc, label, short.as_slice(), &wanted);
     }
-    let member: [u8; KERNEL_COUNTERS] = zeros_after(&[52, 1, 3, 0]);
-    let headers = [0x18, 0xff, 26, 0, 0x14, 0xff, 10, 0];
-    let sent = message(&rt, alloc, &headers, 212, &member, &[]);
+    let headers = [0x18, 0xff, 0x1a, 0x00, 0x14, 0xff, 0x0a, 0x00];
+    let sent = message(&rt, alloc, &headers, 212, &sent_counters(), &[]);
     assert!(rt; sent.len() == 16 + 65304);
     let wanted = of_counters(&rt, alloc, 212);
-    is_unfit_row(&rt, alloc, sent.as_slice(), &wanted);
+    is_unfit_row(
+        &rt,
+        alloc,
+        "212 as a kernel sends",
+        sent.as_slice(),
+        &wanted,
+    );
 }
 
-/// The text of so many counters that are all zero, whose lists have these headers.
-fn zero_counters(rt: &impl Abort, alloc: Global, headers: &[u8; 8], count: usize) -> Vec<u8> {
-    let member: [u8; COUNTERS] = zeros_after(&[0x3c, 0x01, 0x03, 0x00]);
-    message(rt, alloc, headers, count, &member, &[])
+/// Counters that are all zero, as they are written.
+fn zero_counters() -> [u8; COUNTERS] {
+    zeros_after(&[0x3c, 0x01, 0x03, 0x00])
+}
+
+/// The same, as kernels send them.
+fn sent_counters() -> [u8; KERNEL_COUNTERS] {
+    zeros_after(&[0x34, 0x01, 0x03, 0x00])
+}
+
+/// The text of the most counters that fit, which are all zero.
+fn most_counters(rt: &impl Abort, alloc: Global) -> Vec<u8> {
+    let headers = [0x8c, 0xff, 0x1a, 0x00, 0x88, 0xff, 0x0a, 0x00];
+    message(rt, alloc, &headers, 207, &zero_counters(), &[])
 }
 
 /// A buffer of 100000 bytes is enough for the most counters that fit, and for one more.
@@ -216,8 +303,7 @@ fn counters_in_a_long_buffer(rt: HostRuntime) {
     assert!(rt; fit.len() == 852);
     law_room(fit.as_slice());
     assert!(rt; canonical_into(fit.as_slice(), &mut out) == Ok(65436));
-    let headers = [0x8c, 0xff, 0x1a, 0x00, 0x88, 0xff, 0x0a, 0x00];
-    let text = zero_counters(&rt, alloc, &headers, 207);
+    let text = most_counters(&rt, alloc);
     assert!(rt; is_stored(65436, &out, text.as_slice()));
 }
 
@@ -230,6 +316,6 @@ fn too_many_counters_in_a_long_buffer(rt: HostRuntime) {
     assert!(rt; unfit.len() == 856);
     law_room(unfit.as_slice());
     let answer = canonical_into(unfit.as_slice(), &mut out);
-    is_refused_so(&rt, answer, CanonError::DoesNotFit);
-    are_all(&rt, &out, 255);
+    is_refused_so(&rt, "208 of them", answer, CanonError::DoesNotFit);
+    assert!(rt; are_all(&out, 255));
 }

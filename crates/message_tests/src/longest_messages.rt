@@ -51,15 +51,15 @@ fn named(rt: &impl Abort, alloc: Global, is_alias: bool, count: usize) -> LinkMe
 #[test]
 fn names_and_aliases(rt: HostRuntime) {
     let alloc = rt.alloc();
-    for (kind, is_alias) in [(3, false), (20, true)] {
+    for (label, kind, is_alias) in [("IFLA_IFNAME", 0x03, false), ("IFLA_IFALIAS", 0x14, true)] {
         let fit = named(&rt, alloc, is_alias, 65530);
-        let bytes = bytes_of(&rt, alloc, &[0xfe, 0xff, kind, 0], 65530, &[]);
-        let text = bytes_of(&rt, alloc, &[0xff, 0xff, kind, 0], 65530, &[0, 0]);
-        assert!(rt; text.len() == 16 + 65536);
-        is_row(&rt, alloc, bytes.as_slice(), &fit, text.as_slice());
+        let bytes = bytes_of(&rt, alloc, &[0xfe, 0xff, kind, 0x00], 65530, &[]);
+        let text = bytes_of(&rt, alloc, &[0xff, 0xff, kind, 0x00], 65530, &[0x00, 0x00]);
+        assert!(rt; text.len() == 16 + 65536, "{label}");
+        is_row(&rt, alloc, label, bytes.as_slice(), &fit, text.as_slice());
         let unfit = named(&rt, alloc, is_alias, 65531);
-        let bytes = bytes_of(&rt, alloc, &[0xff, 0xff, kind, 0], 65531, &[]);
-        is_unfit_row(&rt, alloc, bytes.as_slice(), &unfit);
+        let bytes = bytes_of(&rt, alloc, &[0xff, 0xff, kind, 0x00], 65531, &[]);
+        is_unfit_row(&rt, alloc, label, bytes.as_slice(), &unfit);
     }
 }
 
@@ -76,26 +76,41 @@ fn renamed(rt: &impl Abort, alloc: Global, count: usize) -> LinkMessage {
 #[test]
 fn names_in_a_list(rt: HostRuntime) {
     let alloc = rt.alloc();
-    let headers = [0xfb, 0xff, 52, 0, 0xf7, 0xff, 53, 0];
+    let headers = [0xfb, 0xff, 0x34, 0x00, 0xf7, 0xff, 0x35, 0x00];
     let bytes = bytes_of(&rt, alloc, &headers, 65523, &[]);
-    let headers = [0xfc, 0xff, 52, 0x80, 0xf8, 0xff, 53, 0];
+    let headers = [0xfc, 0xff, 0x34, 0x80, 0xf8, 0xff, 0x35, 0x00];
     let text = bytes_of(&rt, alloc, &headers, 65523, &[0]);
     let fit = renamed(&rt, alloc, 65523);
-    is_row(&rt, alloc, bytes.as_slice(), &fit, text.as_slice());
-    let headers = [0xfc, 0xff, 52, 0, 0xf8, 0xff, 53, 0];
+    is_row(
+        &rt,
+        alloc,
+        "a name of 65523 letters",
+        bytes.as_slice(),
+        &fit,
+        text.as_slice(),
+    );
+    let headers = [0xfc, 0xff, 0x34, 0x00, 0xf8, 0xff, 0x35, 0x00];
     let bytes = bytes_of(&rt, alloc, &headers, 65524, &[]);
-    is_unfit_row(&rt, alloc, bytes.as_slice(), &renamed(&rt, alloc, 65524));
+    let unfit = renamed(&rt, alloc, 65524);
+    is_unfit_row(&rt, alloc, "a letter more", bytes.as_slice(), &unfit);
 }
 
 #[test]
 fn bytes_that_are_kept(rt: HostRuntime) {
     let alloc = rt.alloc();
     let nla = LinkAttribute::Other(kept(alloc, 42, &LETTERS).expect(&rt, "memory"));
-    let bytes = bytes_of(&rt, alloc, &[0xff, 0xff, 42, 0], 65531, &[]);
-    let text = bytes_of(&rt, alloc, &[0xff, 0xff, 42, 0], 65531, &[0]);
+    let bytes = bytes_of(&rt, alloc, &[0xff, 0xff, 0x2a, 0x00], 65531, &[]);
+    let text = bytes_of(&rt, alloc, &[0xff, 0xff, 0x2a, 0x00], 65531, &[0]);
     assert!(rt; text.len() == 16 + 65536);
     let message = message_of(&rt, alloc, [nla]);
-    is_row(&rt, alloc, bytes.as_slice(), &message, text.as_slice());
+    is_row(
+        &rt,
+        alloc,
+        "65531 bytes",
+        bytes.as_slice(),
+        &message,
+        text.as_slice(),
+    );
 }
 
 /// A message of a request to associate, with so many letters.
@@ -109,10 +124,19 @@ fn asked(rt: &impl Abort, alloc: Global, count: usize) -> LinkMessage {
 #[test]
 fn wireless_events(rt: HostRuntime) {
     let alloc = rt.alloc();
-    let headers = [0xff, 0xff, 11, 0, 0xfb, 0xff, 7, 0x8c, 0, 0, 0, 0];
+    let headers = [
+        0xff, 0xff, 0x0b, 0x00, 0xfb, 0xff, 0x07, 0x8c, 0x00, 0x00, 0x00, 0x00,
+    ];
     let bytes = bytes_of(&rt, alloc, &headers, 65523, &[]);
     let text = bytes_of(&rt, alloc, &headers, 65523, &[0]);
     let fit = asked(&rt, alloc, 65523);
-    is_row(&rt, alloc, bytes.as_slice(), &fit, text.as_slice());
+    is_row(
+        &rt,
+        alloc,
+        "a request of 65523 bytes",
+        bytes.as_slice(),
+        &fit,
+        text.as_slice(),
+    );
     assert!(rt; !asked(&rt, alloc, 65524).fits());
 }

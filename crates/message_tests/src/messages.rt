@@ -6,38 +6,56 @@ use link_msg::*;
 
 #[test]
 fn spellings_mean_the_same(rt: HostRuntime) {
-    are_same(&rt, rt.alloc(), &NAME, &NAME_TEXT, true);
-    for (index, byte, same) in [(1, 9, true), (19, 0x80, true), (21, 0x70, false)] {
+    let alloc = rt.alloc();
+    are_same(&rt, alloc, "a name and its text", &NAME, &NAME_TEXT, true);
+    for (label, index, byte, same) in [
+        ("another reserved byte", 1, 0x09, true),
+        ("a flag on the name", 19, 0x80, true),
+        ("another letter", 21, 0x70, false),
+    ] {
         let mut other = NAME;
         assert!(rt; index < 22);
         other[index] = byte;
-        are_same(&rt, rt.alloc(), &NAME, &other, same);
+        are_same(&rt, alloc, label, &NAME, &other, same);
     }
 }
 
 /// After the NUL of a name stands one byte of padding, which may be any, or missing at the end.
 #[test]
 fn padding_means_nothing(rt: HostRuntime) {
+    let alloc = rt.alloc();
     let mut other = NAME_TEXT;
-    other[23] = 9;
-    are_same(&rt, rt.alloc(), &NAME_TEXT, &other, true);
-    are_same(&rt, rt.alloc(), &NAME_TEXT, &NAME_TEXT[..23], true);
+    other[23] = 0x09;
+    are_same(&rt, alloc, "padding of 9", &NAME_TEXT, &other, true);
+    are_same(&rt, alloc, "no padding", &NAME_TEXT, &NAME_TEXT[..23], true);
 }
 
 #[test]
 fn other_messages_differ(rt: HostRuntime) {
-    for (one, other) in [
+    for (label, one, other) in [
         (
-            [4, 0, 1, 0, 4, 0, 52, 0].as_slice(),
-            [4, 0, 52, 0, 4, 0, 1, 0].as_slice(),
+            "another order",
+            [0x04, 0x00, 0x01, 0x00, 0x04, 0x00, 0x34, 0x00].as_slice(),
+            [0x04, 0x00, 0x34, 0x00, 0x04, 0x00, 0x01, 0x00].as_slice(),
         ),
-        ([4, 0, 99, 0].as_slice(), [4, 0, 99, 0x80].as_slice()),
-        ([4, 0, 52, 0].as_slice(), [].as_slice()),
-        ([].as_slice(), [4, 0, 22, 0].as_slice()),
+        (
+            "a flag on a number that is not listed",
+            &[0x04, 0x00, 0x63, 0x00],
+            &[0x04, 0x00, 0x63, 0x80],
+        ),
+        ("an empty IFLA_PROP_LIST", &[0x04, 0x00, 0x34, 0x00], &[]),
+        ("an empty IFLA_VFINFO_LIST", &[], &[0x04, 0x00, 0x16, 0x00]),
     ] {
         let first = with_header(&rt, rt.alloc(), 0, one);
         let second = with_header(&rt, rt.alloc(), 0, other);
-        are_same(&rt, rt.alloc(), first.as_slice(), second.as_slice(), false);
+        are_same(
+            &rt,
+            rt.alloc(),
+            label,
+            first.as_slice(),
+            second.as_slice(),
+            false,
+        );
     }
 }
 
@@ -45,11 +63,15 @@ fn other_messages_differ(rt: HostRuntime) {
 fn what_is_no_message_is_not_compared(rt: HostRuntime) {
     let alloc = rt.alloc();
     let short = no_message(Cause::TooShort { got: 15, need: 16 });
-    is_refused_so(&rt, same_message(alloc, &NAME[..15], &NAME), short);
-    is_refused_so(&rt, same_message(alloc, &NAME, &[0; 15]), short);
-    is_refused_so(&rt, same_message(alloc, &[0; 16], &[0; 15]), short);
     let over = no_message(Cause::FrameOver { length: 6, left: 5 });
-    is_refused_so(&rt, same_message(alloc, &NAME, &NAME[..21]), over);
+    for (label, one, other, wanted) in [
+        ("the first is short", &NAME[..15], NAME.as_slice(), short),
+        ("the second is short", &NAME, &[0; 15], short),
+        ("the second is short by a byte", &[0; 16], &[0; 15], short),
+        ("the name of the second is cut", &NAME, &NAME[..21], over),
+    ] {
+        is_refused_so(&rt, label, same_message(alloc, one, other), wanted);
+    }
 }
 
 #[test]
@@ -74,6 +96,6 @@ fn refusals_for_want_of_room_are_printed(rt: HostRuntime) {
         ),
     ] {
         let text = format!(in rt.alloc(); "{refusal}").expect(&rt, "memory");
-        assert_eq!(rt; text.as_str(), wanted);
+        assert_eq!(rt; text.as_str(), wanted, "{wanted}");
     }
 }

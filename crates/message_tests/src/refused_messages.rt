@@ -13,20 +13,23 @@ fn over(left: usize) -> Cause {
     }
 }
 
+/// What is wrong, the family, the attributes and the cause.
+type Row<'a> = (&'a str, u8, &'a [u8], Cause);
+
 /// Each of these attributes is refused under its family, for its cause.
-fn are_refused(rt: &impl Abort, alloc: Global, rows: &[(u8, &[u8], Cause)]) {
-    for (family, attributes, cause) in rows {
+fn are_refused(rt: &impl Abort, alloc: Global, rows: &[Row<'_>]) {
+    for (label, family, attributes, cause) in rows {
         let bytes = with_header(rt, alloc, *family, attributes);
-        is_refused_row(rt, alloc, bytes.as_slice(), *cause);
+        is_refused_row(rt, alloc, label, bytes.as_slice(), *cause);
     }
 }
 
 #[test]
 fn short_headers(rt: HostRuntime) {
-    for got in [0, 15] {
+    for (label, got) in [("no bytes", 0), ("15 bytes", 15)] {
         assert!(rt; got <= 16);
         let cause = Cause::TooShort { got, need: 16 };
-        is_refused_row(&rt, rt.alloc(), &[0; 16][..got], cause);
+        is_refused_row(&rt, rt.alloc(), label, &[0; 16][..got], cause);
     }
 }
 
@@ -37,13 +40,29 @@ fn outermost_frames(rt: HostRuntime) {
         rt.alloc(),
         &[
             (
+                "a stray byte",
                 0,
-                &[8, 0, 4, 0, 0xdc, 5, 0, 0, 0],
+                &[0x08, 0x00, 0x04, 0x00, 0xdc, 0x05, 0x00, 0x00, 0x00],
                 Cause::FrameShort { left: 1 },
             ),
-            (0, &[0xff, 0xff, 3, 0], over(4)),
-            (0, &[3, 0, 3, 0], Cause::FrameUnder { length: 3 }),
-            (0, &[0, 0, 0, 0], Cause::FrameUnder { length: 0 }),
+            (
+                "a length that passes the message",
+                0,
+                &[0xff, 0xff, 0x03, 0x00],
+                over(4),
+            ),
+            (
+                "a length of 3",
+                0,
+                &[0x03, 0x00, 0x03, 0x00],
+                Cause::FrameUnder { length: 3 },
+            ),
+            (
+                "a length of 0",
+                0,
+                &[0x00, 0x00, 0x00, 0x00],
+                Cause::FrameUnder { length: 0 },
+            ),
         ],
     );
 }
@@ -58,15 +77,29 @@ fn flat_values(rt: HostRuntime) {
         rt.alloc(),
         &[
             (
+                "IFLA_MTU of 2 bytes",
                 0,
-                &[6, 0, 4, 0, 0xdc, 5, 0, 0],
+                &[0x06, 0x00, 0x04, 0x00, 0xdc, 0x05, 0x00, 0x00],
                 Cause::WrongLength { got: 2, want: 4 },
             ),
-            (0, &[5, 0, 3, 0, 0xff, 0, 0, 0], Cause::NotUtf8),
-            (0, &map, Cause::TooShort { got: 31, need: 32 }),
             (
+                "IFLA_IFNAME that is no UTF-8",
                 0,
-                &[11, 0, 11, 0, 0, 0, 0, 0, 0, 0, 0, 0],
+                &[0x05, 0x00, 0x03, 0x00, 0xff, 0x00, 0x00, 0x00],
+                Cause::NotUtf8,
+            ),
+            (
+                "IFLA_MAP of 31 bytes",
+                0,
+                &map,
+                Cause::TooShort { got: 31, need: 32 },
+            ),
+            (
+                "IFLA_WIRELESS of 7 bytes",
+                0,
+                &[
+                    0x0b, 0x00, 0x0b, 0x00, 0x00, 0x00, 0x00, 0x00, 0x00, 0x00, 0x00, 0x00,
+                ],
                 Cause::TooShort { got: 7, need: 8 },
             ),
         ],
@@ -81,19 +114,27 @@ fn several_faults(rt: HostRuntime) {
         rt.alloc(),
         &[
             (
+                "IFLA_MTU of 2 bytes, and a length of 3",
                 0,
-                &[6, 0, 4, 0, 0xdc, 5, 0, 0, 3, 0, 3, 0],
+                &[
+                    0x06, 0x00, 0x04, 0x00, 0xdc, 0x05, 0x00, 0x00, 0x03, 0x00, 0x03, 0x00,
+                ],
                 Cause::WrongLength { got: 2, want: 4 },
             ),
             (
+                "a length of 3, and IFLA_MTU of 2 bytes",
                 0,
-                &[3, 0, 3, 0, 6, 0, 4, 0, 0xdc, 5, 0, 0],
+                &[
+                    0x03, 0x00, 0x03, 0x00, 0x06, 0x00, 0x04, 0x00, 0xdc, 0x05, 0x00, 0x00,
+                ],
                 Cause::FrameUnder { length: 3 },
             ),
             (
+                "IFLA_IFNAME that is no UTF-8, and two faults more",
                 0,
                 &[
-                    5, 0, 3, 0, 0xff, 0, 0, 0, 6, 0, 4, 0, 0xdc, 5, 0, 0, 3, 0, 3, 0,
+                    0x05, 0x00, 0x03, 0x00, 0xff, 0x00, 0x00, 0x00, 0x06, 0x00, 0x04, 0x00, 0xdc,
+                    0x05, 0x00, 0x00, 0x03, 0x00, 0x03, 0x00,
                 ],
                 Cause::NotUtf8,
             ),
@@ -107,49 +148,121 @@ fn empty_lists(rt: HostRuntime) {
         &rt,
         rt.alloc(),
         &[
-            (0, &[4, 0, 18, 0], Cause::EmptyList),
-            (0, &[4, 0, 24, 0], Cause::EmptyList),
-            (0, &[4, 0, 25, 0], Cause::EmptyList),
-            (0, &[4, 0, 43, 0], Cause::EmptyList),
-            (7, &[4, 0, 26, 0], Cause::EmptyList),
-            (7, &[4, 0, 12, 0], Cause::EmptyList),
-            (10, &[4, 0, 12, 0], Cause::EmptyList),
-            (0, &[8, 0, 26, 0, 4, 0, 2, 0], Cause::EmptyList),
-            (0, &[8, 0, 22, 0, 4, 0, 1, 0x80], Cause::EmptyList),
-            (0, &[8, 0, 24, 0, 4, 0, 1, 0], Cause::EmptyList),
+            (
+                "IFLA_LINKINFO",
+                0,
+                &[0x04, 0x00, 0x12, 0x00],
+                Cause::EmptyList,
+            ),
+            (
+                "IFLA_VF_PORTS",
+                0,
+                &[0x04, 0x00, 0x18, 0x00],
+                Cause::EmptyList,
+            ),
+            (
+                "IFLA_PORT_SELF",
+                0,
+                &[0x04, 0x00, 0x19, 0x00],
+                Cause::EmptyList,
+            ),
+            ("IFLA_XDP", 0, &[0x04, 0x00, 0x2b, 0x00], Cause::EmptyList),
+            (
+                "IFLA_AF_SPEC of AF_BRIDGE",
+                7,
+                &[0x04, 0x00, 0x1a, 0x00],
+                Cause::EmptyList,
+            ),
+            (
+                "IFLA_PROTINFO of AF_BRIDGE",
+                7,
+                &[0x04, 0x00, 0x0c, 0x00],
+                Cause::EmptyList,
+            ),
+            (
+                "IFLA_PROTINFO of AF_INET6",
+                10,
+                &[0x04, 0x00, 0x0c, 0x00],
+                Cause::EmptyList,
+            ),
+            (
+                "AF_INET",
+                0,
+                &[0x08, 0x00, 0x1a, 0x00, 0x04, 0x00, 0x02, 0x00],
+                Cause::EmptyList,
+            ),
+            (
+                "IFLA_VF_INFO with a flag",
+                0,
+                &[0x08, 0x00, 0x16, 0x00, 0x04, 0x00, 0x01, 0x80],
+                Cause::EmptyList,
+            ),
+            (
+                "IFLA_VF_PORT",
+                0,
+                &[0x08, 0x00, 0x18, 0x00, 0x04, 0x00, 0x01, 0x00],
+                Cause::EmptyList,
+            ),
         ],
     );
 }
 
-/// Entries of functions and of ports are frames, whatever their numbers are.
+/// Entries of the list of this number are frames, whatever their numbers are.
+fn are_frames(rt: &impl Abort, alloc: Global, kind: u8) {
+    are_refused(
+        rt,
+        alloc,
+        &[
+            (
+                "a stray byte",
+                0,
+                &[0x05, 0x00, kind, 0x00, 0x01],
+                Cause::FrameShort { left: 1 },
+            ),
+            (
+                "three stray bytes",
+                0,
+                &[
+                    0x0b, 0x00, kind, 0x00, 0x04, 0x00, 0x07, 0x00, 0x04, 0x00, 0x01, 0x00,
+                ],
+                Cause::FrameShort { left: 3 },
+            ),
+            (
+                "a foreign entry that passes the list",
+                0,
+                &[0x08, 0x00, kind, 0x00, 0xff, 0xff, 0x07, 0x00],
+                over(4),
+            ),
+            (
+                "an entry that passes the list",
+                0,
+                &[0x08, 0x00, kind, 0x00, 0xff, 0xff, 0x01, 0x00],
+                over(4),
+            ),
+            (
+                "a foreign entry of length 3",
+                0,
+                &[0x08, 0x00, kind, 0x00, 0x03, 0x00, 0x07, 0x00],
+                Cause::FrameUnder { length: 3 },
+            ),
+            (
+                "an entry of length 3",
+                0,
+                &[0x08, 0x00, kind, 0x00, 0x03, 0x00, 0x01, 0x00],
+                Cause::FrameUnder { length: 3 },
+            ),
+        ],
+    );
+}
+
 #[test]
-fn frames_of_entries(rt: HostRuntime) {
-    for kind in [22, 24] {
-        are_refused(
-            &rt,
-            rt.alloc(),
-            &[
-                (0, &[5, 0, kind, 0, 1], Cause::FrameShort { left: 1 }),
-                (
-                    0,
-                    &[11, 0, kind, 0, 4, 0, 7, 0, 4, 0, 1, 0],
-                    Cause::FrameShort { left: 3 },
-                ),
-                (0, &[8, 0, kind, 0, 0xff, 0xff, 7, 0], over(4)),
-                (0, &[8, 0, kind, 0, 0xff, 0xff, 1, 0], over(4)),
-                (
-                    0,
-                    &[8, 0, kind, 0, 3, 0, 7, 0],
-                    Cause::FrameUnder { length: 3 },
-                ),
-                (
-                    0,
-                    &[8, 0, kind, 0, 3, 0, 1, 0],
-                    Cause::FrameUnder { length: 3 },
-                ),
-            ],
-        );
-    }
+fn entries_of_functions(rt: HostRuntime) {
+    are_frames(&rt, rt.alloc(), 0x16);
+}
+
+#[test]
+fn entries_of_ports(rt: HostRuntime) {
+    are_frames(&rt, rt.alloc(), 0x18);
 }
 
 #[test]
@@ -159,25 +272,39 @@ fn frames_inside_lists(rt: HostRuntime) {
         rt.alloc(),
         &[
             (
+                "a stray byte in IFLA_AF_SPEC",
                 0,
-                &[5, 0, 26, 0, 0xff, 0, 0, 0],
+                &[0x05, 0x00, 0x1a, 0x00, 0xff, 0x00, 0x00, 0x00],
                 Cause::FrameShort { left: 1 },
             ),
             (
+                "two stray bytes in IFLA_PROP_LIST",
                 0,
-                &[10, 0, 52, 0, 4, 0, 99, 0, 1, 0, 0, 0],
+                &[
+                    0x0a, 0x00, 0x34, 0x00, 0x04, 0x00, 0x63, 0x00, 0x01, 0x00, 0x00, 0x00,
+                ],
                 Cause::FrameShort { left: 2 },
             ),
-            (0, &[12, 0, 43, 0, 0xff, 0xff, 2, 0, 2, 0, 0, 0], over(8)),
             (
+                "a length that passes IFLA_XDP",
                 0,
-                &[8, 0, 52, 0, 3, 0, 53, 0],
+                &[
+                    0x0c, 0x00, 0x2b, 0x00, 0xff, 0xff, 0x02, 0x00, 0x02, 0x00, 0x00, 0x00,
+                ],
+                over(8),
+            ),
+            (
+                "a length of 3 in IFLA_PROP_LIST",
+                0,
+                &[0x08, 0x00, 0x34, 0x00, 0x03, 0x00, 0x35, 0x00],
                 Cause::FrameUnder { length: 3 },
             ),
             (
+                "a counter of 7 bytes",
                 0,
                 &[
-                    24, 0, 22, 0, 20, 0, 1, 0, 16, 0, 8, 0, 11, 0, 0, 0, 0, 0, 0, 0, 0, 0, 0, 0,
+                    0x18, 0x00, 0x16, 0x00, 0x14, 0x00, 0x01, 0x00, 0x10, 0x00, 0x08, 0x00, 0x0b,
+                    0x00, 0x00, 0x00, 0x00, 0x00, 0x00, 0x00, 0x00, 0x00, 0x00, 0x00,
                 ],
                 Cause::WrongLength { got: 7, want: 8 },
             ),

@@ -43,59 +43,74 @@ pub(crate) fn with_header(
     family: u8,
     attributes: &[u8],
 ) -> Vec<u8> {
-    let header = [family, 0, 0, 0, 0, 0, 0, 0, 0, 0, 0, 0, 0, 0, 0, 0];
+    let header = [
+        family, 0x00, 0x00, 0x00, 0x00, 0x00, 0x00, 0x00, 0x00, 0x00, 0x00, 0x00, 0x00, 0x00, 0x00,
+        0x00,
+    ];
     let mut bytes = vec_from(alloc, &header).expect(rt, "memory");
     bytes.extend_from_slice(attributes).expect(rt, "memory");
     bytes
 }
 
-/// Each of these bytes is this one.
-pub(crate) fn are_all(rt: &impl Abort, bytes: &[u8], wanted: u8) {
-    for byte in bytes {
-        assert!(rt; *byte == wanted);
-    }
+/// Whether each of these bytes is this one.
+pub(crate) fn are_all(bytes: &[u8], wanted: u8) -> bool {
+    bytes.iter().all(|byte| *byte == wanted)
 }
 
 /// Bytes mean this message, when they are checked and when they are read.
-pub(crate) fn is_read(rt: &impl Abort, alloc: Global, bytes: &[u8], wanted: &LinkMessage) {
-    assert_eq!(rt; cause_of(LinkMessage::check(bytes)), None);
-    assert!(rt; is_copied(alloc, &read_message(rt, alloc, bytes), wanted));
+pub(crate) fn is_read(
+    rt: &impl Abort,
+    alloc: Global,
+    label: &str,
+    bytes: &[u8],
+    wanted: &LinkMessage,
+) {
+    assert_eq!(rt; cause_of(LinkMessage::check(bytes)), None, "{label}");
+    let read = read_message(rt, alloc, bytes);
+    assert!(rt; is_copied(alloc, &read, wanted), "{label}");
 }
 
 /// A message is written as this text, to the front and to the end of longer buffers, which keep their other bytes.
-pub(crate) fn is_written(rt: &impl Abort, alloc: Global, message: &LinkMessage, text: &[u8]) {
-    assert!(rt; text.len() < MOST);
-    assert!(rt; message.fits());
-    assert!(rt; message.buffer_len() == text.len());
+pub(crate) fn is_written(
+    rt: &impl Abort,
+    alloc: Global,
+    label: &str,
+    message: &LinkMessage,
+    text: &[u8],
+) {
+    assert!(rt; text.len() < MOST, "{label}");
+    assert!(rt; message.fits(), "{label}");
+    assert!(rt; message.buffer_len() == text.len(), "{label}");
     for byte in [0, 255] {
         let room = text.len() + 3;
         let mut out = filled(alloc, byte, room).expect(rt, "memory");
         let out = out.as_mut_slice();
-        assert!(rt; out.len() == room);
+        assert!(rt; out.len() == room, "{label}");
         message.emit(out);
-        assert!(rt; equal(&out[..text.len()], text));
-        are_all(rt, &out[text.len()..], byte);
+        assert!(rt; equal(&out[..text.len()], text), "{label}");
+        assert!(rt; are_all(&out[text.len()..], byte), "{label}");
         let mut out = filled(alloc, byte, room).expect(rt, "memory");
         let out = out.as_mut_slice();
-        assert!(rt; out.len() == room);
-        assert!(rt; message.fill(out) == 3);
-        are_all(rt, &out[..3], byte);
-        assert!(rt; equal(&out[3..], text));
+        assert!(rt; out.len() == room, "{label}");
+        assert!(rt; message.fill(out) == 3, "{label}");
+        assert!(rt; are_all(&out[..3], byte), "{label}");
+        assert!(rt; equal(&out[3..], text), "{label}");
     }
 }
 
 /// A call that makes a text is refused so. The name of the place is unspecified.
 pub(crate) fn is_refused_so<T: Drop>(
     rt: &impl Abort,
+    label: &str,
     answer: Result<T, CanonError>,
     wanted: CanonError,
 ) {
     match (answer, wanted) {
         (Err(CanonError::Decode(found)), CanonError::Decode(wanted)) => {
-            assert_eq!(rt; found.cause, wanted.cause);
+            assert_eq!(rt; found.cause, wanted.cause, "{label}");
         },
-        (Err(found), wanted) => assert_eq!(rt; found, wanted),
-        (Ok(_), _) => panic!(rt; "the call gave a text"),
+        (Err(found), wanted) => assert_eq!(rt; found, wanted, "{label}"),
+        (Ok(_), _) => panic!(rt; "{label}: the call gave a text"),
     }
 }
 
@@ -112,113 +127,125 @@ fn room_of(rt: &impl Abort, alloc: Global, count: usize) -> Vec<u8>
 }
 
 /// Bytes are written again as this text, into a buffer with `GROWTH` bytes for each of theirs, which is room enough.
-fn is_rewritten(rt: &impl Abort, alloc: Global, bytes: &[u8], text: &[u8]) {
-    assert!(rt; bytes.len() < MOST);
+fn is_rewritten(rt: &impl Abort, alloc: Global, label: &str, bytes: &[u8], text: &[u8]) {
+    assert!(rt; bytes.len() < MOST, "{label}");
     law_room(bytes);
     let mut out = room_of(rt, alloc, GROWTH * bytes.len());
     let out = out.as_mut_slice();
-    assert!(rt; canonical_into(bytes, out) == Ok(text.len()));
-    assert!(rt; is_stored(text.len(), out, text));
+    assert!(rt; canonical_into(bytes, out) == Ok(text.len()), "{label}");
+    assert!(rt; is_stored(text.len(), out, text), "{label}");
 }
 
 /// Bytes are written again as this text into a buffer of just its length.
-fn is_rewritten_exactly(rt: &impl Abort, alloc: Global, bytes: &[u8], text: &[u8]) {
+fn is_rewritten_exactly(rt: &impl Abort, alloc: Global, label: &str, bytes: &[u8], text: &[u8]) {
     match canonical_len(bytes) {
         Ok(len) => {
             law_exact_room(bytes, len);
             let mut out = room_of(rt, alloc, len);
             let out = out.as_mut_slice();
-            assert!(rt; canonical_into(bytes, out) == Ok(text.len()));
-            assert!(rt; equal(out, text));
+            assert!(rt; canonical_into(bytes, out) == Ok(text.len()), "{label}");
+            assert!(rt; equal(out, text), "{label}");
         },
-        Err(_) => panic!(rt; "the bytes have no canonical encoding"),
+        Err(_) => panic!(rt; "{label}: the bytes have no canonical encoding"),
     }
 }
 
 /// Bytes are written again as this text where there is room for it, be it no byte more.
-fn is_rewritten_within(rt: &impl Abort, alloc: Global, bytes: &[u8], text: &[u8]) {
-    assert!(rt; text.len() < MOST);
+fn is_rewritten_within(rt: &impl Abort, alloc: Global, label: &str, bytes: &[u8], text: &[u8]) {
+    assert!(rt; text.len() < MOST, "{label}");
     for more in [0, 1, 5] {
         let mut out = room_of(rt, alloc, text.len() + more);
         let out = out.as_mut_slice();
-        assert!(rt; canonical_within(bytes, out) == Ok(text.len()));
-        assert!(rt; is_stored(text.len(), out, text));
+        assert!(rt;
+            canonical_within(bytes, out) == Ok(text.len()),
+            "{label}: {more} more"
+        );
+        assert!(rt; is_stored(text.len(), out, text), "{label}: {more} more");
     }
 }
 
 /// With one byte less than the text has, or with none, the bytes are not written, and the buffer is left as it is.
-fn is_too_long(rt: &impl Abort, alloc: Global, bytes: &[u8], text: &[u8]) {
+fn is_too_long(rt: &impl Abort, alloc: Global, label: &str, bytes: &[u8], text: &[u8]) {
     let wanted = text.len();
-    assert!(rt; 0 < wanted);
+    assert!(rt; 0 < wanted, "{label}");
     for room in [0, 1, wanted - 1] {
         let mut out = room_of(rt, alloc, room);
         let out = out.as_mut_slice();
         assert_eq!(rt;
             canonical_within(bytes, out),
-            Err(RoomError::NoRoom { wanted })
+            Err(RoomError::NoRoom { wanted }),
+            "{label}: room of {room}"
         );
-        are_all(rt, out, 255);
+        assert!(rt; are_all(out, 255), "{label}: room of {room}");
     }
 }
 
 /// Bytes have this canonical encoding, made in memory and without.
-fn has_text(rt: &impl Abort, alloc: Global, bytes: &[u8], text: &[u8]) {
-    assert!(rt; equal(text_made(rt, alloc, bytes).as_slice(), text));
-    assert!(rt; canonical_len(bytes) == Ok(text.len()));
-    is_rewritten(rt, alloc, bytes, text);
-    is_rewritten_exactly(rt, alloc, bytes, text);
-    is_rewritten_within(rt, alloc, bytes, text);
-    is_too_long(rt, alloc, bytes, text);
+fn has_text(rt: &impl Abort, alloc: Global, label: &str, bytes: &[u8], text: &[u8]) {
+    let made = text_made(rt, alloc, bytes);
+    assert!(rt; equal(made.as_slice(), text), "{label}");
+    assert!(rt; canonical_len(bytes) == Ok(text.len()), "{label}");
+    is_rewritten(rt, alloc, label, bytes, text);
+    is_rewritten_exactly(rt, alloc, label, bytes, text);
+    is_rewritten_within(rt, alloc, label, bytes, text);
+    is_too_long(rt, alloc, label, bytes, text);
 }
 
 /// What a call that writes into any buffer was refused for, other than want of room.
-fn without_room(rt: &impl Abort, answer: Result<usize, RoomError>) -> Result<usize, CanonError> {
+fn without_room(
+    rt: &impl Abort,
+    label: &str,
+    answer: Result<usize, RoomError>,
+) -> Result<usize, CanonError> {
     match answer {
         Ok(len) => Ok(len),
         Err(RoomError::NoText(error)) => Err(error),
-        Err(RoomError::NoRoom { wanted }) => panic!(rt; "the call wants {wanted} bytes"),
+        Err(RoomError::NoRoom { wanted }) => panic!(rt; "{label}: the call wants {wanted} bytes"),
     }
 }
 
 /// Bytes have no canonical encoding, for this reason, and no buffer is changed.
-fn has_no_text(rt: &impl Abort, alloc: Global, bytes: &[u8], wanted: CanonError) {
-    is_refused_so(rt, canonical(alloc, bytes), wanted);
-    is_refused_so(rt, canonical_len(bytes), wanted);
-    assert!(rt; bytes.len() < MOST);
+fn has_no_text(rt: &impl Abort, alloc: Global, label: &str, bytes: &[u8], wanted: CanonError) {
+    is_refused_so(rt, label, canonical(alloc, bytes), wanted);
+    is_refused_so(rt, label, canonical_len(bytes), wanted);
+    assert!(rt; bytes.len() < MOST, "{label}");
     law_room(bytes);
     let mut out = room_of(rt, alloc, GROWTH * bytes.len());
     let out = out.as_mut_slice();
-    is_refused_so(rt, canonical_into(bytes, out), wanted);
-    are_all(rt, out, 255);
+    is_refused_so(rt, label, canonical_into(bytes, out), wanted);
+    assert!(rt; are_all(out, 255), "{label}");
     for room in [0, 15, 100] {
         let mut out = room_of(rt, alloc, room);
         let out = out.as_mut_slice();
-        is_refused_so(rt, without_room(rt, canonical_within(bytes, out)), wanted);
-        are_all(rt, out, 255);
+        let answer = without_room(rt, label, canonical_within(bytes, out));
+        is_refused_so(rt, label, answer, wanted);
+        assert!(rt; are_all(out, 255), "{label}: room of {room}");
     }
 }
 
-/// Bytes mean this message, whose text is this one, and the text means it too.
+/// The bytes that the label names mean this message, whose text is this one, and the text means it too.
 pub(crate) fn is_row(
     rt: &impl Abort,
     alloc: Global,
+    label: &str,
     bytes: &[u8],
     wanted: &LinkMessage,
     text: &[u8],
 ) {
-    is_read(rt, alloc, bytes, wanted);
-    assert!(rt; !wanted.has_empty_ports());
-    is_written(rt, alloc, wanted, text);
-    is_written(rt, alloc, &read_message(rt, alloc, bytes), text);
-    has_text(rt, alloc, bytes, text);
-    is_read(rt, alloc, text, wanted);
-    are_same(rt, alloc, bytes, text, true);
+    is_read(rt, alloc, label, bytes, wanted);
+    assert!(rt; !wanted.has_empty_ports(), "{label}");
+    is_written(rt, alloc, label, wanted, text);
+    is_written(rt, alloc, label, &read_message(rt, alloc, bytes), text);
+    has_text(rt, alloc, label, bytes, text);
+    is_read(rt, alloc, label, text, wanted);
+    are_same(rt, alloc, label, bytes, text, true);
 }
 
 /// A message of this family and one attribute, as in `is_row`.
 pub(crate) fn is_attribute_row(
     rt: &impl Abort,
     alloc: Global,
+    label: &str,
     family: u8,
     attribute: &[u8],
     wanted: LinkAttribute,
@@ -233,34 +260,52 @@ pub(crate) fn is_attribute_row(
     };
     let bytes = with_header(rt, alloc, family, attribute);
     let text = with_header(rt, alloc, family, text);
-    is_row(rt, alloc, bytes.as_slice(), &wanted, text.as_slice());
+    is_row(rt, alloc, label, bytes.as_slice(), &wanted, text.as_slice());
 }
 
-/// Bytes are no message, for this cause.
-pub(crate) fn is_refused_row(rt: &impl Abort, alloc: Global, bytes: &[u8], cause: Cause) {
-    assert_eq!(rt; cause_of(LinkMessage::check(bytes)), Some(cause));
-    assert_eq!(rt; cause_of(LinkMessage::parse(alloc, bytes)), Some(cause));
-    has_no_text(rt, alloc, bytes, no_message(cause));
+/// The bytes that the label names are no message, for this cause.
+pub(crate) fn is_refused_row(
+    rt: &impl Abort,
+    alloc: Global,
+    label: &str,
+    bytes: &[u8],
+    cause: Cause,
+) {
+    assert_eq!(rt; cause_of(LinkMessage::check(bytes)), Some(cause), "{label}");
+    assert_eq!(rt;
+        cause_of(LinkMessage::parse(alloc, bytes)),
+        Some(cause),
+        "{label}"
+    );
+    has_no_text(rt, alloc, label, bytes, no_message(cause));
 }
 
-/// Bytes mean this message, which does not fit.
-pub(crate) fn is_unfit_row(rt: &impl Abort, alloc: Global, bytes: &[u8], wanted: &LinkMessage) {
-    is_read(rt, alloc, bytes, wanted);
-    assert!(rt; !wanted.fits());
-    has_no_text(rt, alloc, bytes, CanonError::DoesNotFit);
+/// The bytes that the label names mean this message, which does not fit.
+pub(crate) fn is_unfit_row(
+    rt: &impl Abort,
+    alloc: Global,
+    label: &str,
+    bytes: &[u8],
+    wanted: &LinkMessage,
+) {
+    is_read(rt, alloc, label, bytes, wanted);
+    assert!(rt; !wanted.fits(), "{label}");
+    has_no_text(rt, alloc, label, bytes, CanonError::DoesNotFit);
 }
 
-/// Bytes mean this message, which fits and holds an empty list of ports. It is written as this text.
+/// The bytes that the label names mean this message, which fits and holds an empty list of ports. It is written as
+/// this text.
 pub(crate) fn is_portless_row(
     rt: &impl Abort,
     alloc: Global,
+    label: &str,
     bytes: &[u8],
     wanted: &LinkMessage,
     text: &[u8],
 ) {
-    is_read(rt, alloc, bytes, wanted);
-    assert!(rt; wanted.has_empty_ports());
-    is_written(rt, alloc, wanted, text);
-    is_written(rt, alloc, &read_message(rt, alloc, bytes), text);
-    has_no_text(rt, alloc, bytes, CanonError::EmptyVfPorts);
+    is_read(rt, alloc, label, bytes, wanted);
+    assert!(rt; wanted.has_empty_ports(), "{label}");
+    is_written(rt, alloc, label, wanted, text);
+    is_written(rt, alloc, label, &read_message(rt, alloc, bytes), text);
+    has_no_text(rt, alloc, label, bytes, CanonError::EmptyVfPorts);
 }

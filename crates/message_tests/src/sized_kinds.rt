@@ -28,7 +28,7 @@ const FLAGS: [u16; 4] = [
 const FAMILIES: [u8; 6] = [0, 2, 7, 10, 45, 99];
 
 /// The payloads are the beginnings of these bytes.
-const PAYLOAD: [u8; 9] = [0x20, 1, 2, 3, 4, 5, 6, 7, 8];
+const PAYLOAD: [u8; 9] = [0x20, 0x01, 0x02, 0x03, 0x04, 0x05, 0x06, 0x07, 0x08];
 
 /// A frame of this kind and payload, with its padding.
 fn frame(rt: &impl Abort, alloc: Global, kind: u16, payload: &[u8]) -> Vec<u8> {
@@ -82,13 +82,16 @@ fn outcome(
 fn is_as_told(rt: &impl Abort, alloc: Global, family: u8, kind: u16, payload: &[u8]) {
     let attribute = frame(rt, alloc, kind, payload);
     let attribute = attribute.as_slice();
+    let label = format!(in alloc; "family {family}, kind {kind}, {} bytes", payload.len());
+    let label = label.expect(rt, "memory");
+    let label = label.as_str();
     match outcome(rt, alloc, kind, payload) {
         Ok((wanted, text)) => {
-            is_attribute_row(rt, alloc, family, attribute, wanted, text.as_slice());
+            is_attribute_row(rt, alloc, label, family, attribute, wanted, text.as_slice());
         },
         Err(cause) => {
             let bytes = with_header(rt, alloc, family, attribute);
-            is_refused_row(rt, alloc, bytes.as_slice(), cause);
+            is_refused_row(rt, alloc, label, bytes.as_slice(), cause);
         },
     }
 }
@@ -107,24 +110,28 @@ fn at_the_outermost_place(rt: HostRuntime) {
     }
 }
 
-/// A member of this kind and payload is kept as it is.
-fn is_kept<N: NlaRead + Drop>(rt: &impl Abort, alloc: Global, kind: u16, payload: &[u8]) {
+/// Whether a member of this kind and payload is kept as it is.
+fn is_kept<N: NlaRead + Drop>(rt: &impl Abort, alloc: Global, kind: u16, payload: &[u8]) -> bool {
     let bytes = frame(rt, alloc, kind, payload);
     let values = N::parse_list(alloc, bytes.as_slice()).expect(rt, "it is read");
-    assert!(rt; values.len() == 1);
-    assert!(rt; values[0].kind() == kind);
-    assert!(rt; values[0].fits());
-    assert!(rt; values[0].value_len() == payload.len());
-    assert!(rt; writes(values.as_slice(), bytes.as_slice()));
-    assert!(rt; rewrites::<N>(bytes.as_slice(), bytes.as_slice()));
+    let [value] = values.as_slice() else {
+        return false;
+    };
+    value.kind() == kind
+        && value.fits()
+        && value.value_len() == payload.len()
+        && writes(values.as_slice(), bytes.as_slice())
+        && rewrites::<N>(bytes.as_slice(), bytes.as_slice())
 }
 
-/// At this place none of the numbers is read.
-fn keeps_all<N: NlaRead + Drop>(rt: &impl Abort, alloc: Global) {
+/// At the place that the label names none of the numbers is read.
+fn keeps_all<N: NlaRead + Drop>(rt: &impl Abort, alloc: Global, label: &str) {
     for number in NUMBERS {
         for flags in FLAGS {
             for len in 0..10 {
-                is_kept::<N>(rt, alloc, number | flags, &PAYLOAD[..len]);
+                let kind = number | flags;
+                let is_kept = is_kept::<N>(rt, alloc, kind, &PAYLOAD[..len]);
+                assert!(rt; is_kept, "{label}: kind {kind}, {len} bytes");
             }
         }
     }
@@ -133,31 +140,31 @@ fn keeps_all<N: NlaRead + Drop>(rt: &impl Abort, alloc: Global) {
 #[test]
 fn at_the_flat_lists(rt: HostRuntime) {
     let alloc = rt.alloc();
-    keeps_all::<Prop>(&rt, alloc);
-    keeps_all::<DevlinkPort>(&rt, alloc);
-    keeps_all::<DpllPin>(&rt, alloc);
-    keeps_all::<LinkProtocolDownReason>(&rt, alloc);
-    keeps_all::<LinkXdp>(&rt, alloc);
-    keeps_all::<LinkInfo>(&rt, alloc);
+    keeps_all::<Prop>(&rt, alloc, "IFLA_PROP_LIST");
+    keeps_all::<DevlinkPort>(&rt, alloc, "IFLA_DEVLINK_PORT");
+    keeps_all::<DpllPin>(&rt, alloc, "IFLA_DPLL_PIN");
+    keeps_all::<LinkProtocolDownReason>(&rt, alloc, "IFLA_PROTO_DOWN_REASON");
+    keeps_all::<LinkXdp>(&rt, alloc, "IFLA_XDP");
+    keeps_all::<LinkInfo>(&rt, alloc, "IFLA_LINKINFO");
 }
 
 #[test]
 fn in_functions_and_ports(rt: HostRuntime) {
     let alloc = rt.alloc();
-    keeps_all::<VfInfo>(&rt, alloc);
-    keeps_all::<VfStats>(&rt, alloc);
-    keeps_all::<VfVlan>(&rt, alloc);
-    keeps_all::<VfPort>(&rt, alloc);
+    keeps_all::<VfInfo>(&rt, alloc, "IFLA_VF_INFO");
+    keeps_all::<VfStats>(&rt, alloc, "IFLA_VF_STATS");
+    keeps_all::<VfVlan>(&rt, alloc, "IFLA_VF_VLAN_LIST");
+    keeps_all::<VfPort>(&rt, alloc, "IFLA_VF_PORT");
 }
 
 #[test]
 fn in_settings(rt: HostRuntime) {
     let alloc = rt.alloc();
-    keeps_all::<AfSpecUnspec>(&rt, alloc);
-    keeps_all::<AfSpecInet>(&rt, alloc);
-    keeps_all::<AfSpecInet6>(&rt, alloc);
-    keeps_all::<AfSpecMctp>(&rt, alloc);
-    keeps_all::<AfSpecBridge>(&rt, alloc);
-    keeps_all::<LinkProtoInfoBridge>(&rt, alloc);
-    keeps_all::<LinkProtoInfoInet6>(&rt, alloc);
+    keeps_all::<AfSpecUnspec>(&rt, alloc, "IFLA_AF_SPEC");
+    keeps_all::<AfSpecInet>(&rt, alloc, "AF_INET");
+    keeps_all::<AfSpecInet6>(&rt, alloc, "AF_INET6");
+    keeps_all::<AfSpecMctp>(&rt, alloc, "AF_MCTP");
+    keeps_all::<AfSpecBridge>(&rt, alloc, "IFLA_AF_SPEC of AF_BRIDGE");
+    keeps_all::<LinkProtoInfoBridge>(&rt, alloc, "IFLA_PROTINFO of AF_BRIDGE");
+    keeps_all::<LinkProtoInfoInet6>(&rt, alloc, "IFLA_PROTINFO of AF_INET6");
 }

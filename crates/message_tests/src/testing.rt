@@ -14,8 +14,15 @@ pub(crate) fn text_made(rt: &impl Abort, alloc: Global, bytes: &[u8]) -> Vec<u8>
     canonical(alloc, bytes).expect(rt, "it is written")
 }
 
-/// Whether two messages mean the same.
-pub(crate) fn are_same(rt: &impl Abort, alloc: Global, one: &[u8], other: &[u8], wanted: bool) {
+/// Whether two messages, which the label names, mean the same.
+pub(crate) fn are_same(
+    rt: &impl Abort,
+    alloc: Global,
+    label: &str,
+    one: &[u8],
+    other: &[u8],
+    wanted: bool,
+) {
     let same = same_message(alloc, one, other).expect(rt, "they are compared");
-    assert_eq!(rt; same, wanted);
+    assert_eq!(rt; same, wanted, "{label}");
 }

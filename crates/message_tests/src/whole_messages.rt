@@ -1,7 +1,7 @@
 //! Messages whose header says something, or with several attributes, and the calls that take a longer buffer.
 
 use crate::rows::*;
-use expected::{GROWTH, equal, kept, list, text_from};
+use expected::{GROWTH, equal, is_stored, kept, list, text_from};
 use link_msg::laws::law_room;
 use link_msg::*;
 use std::alloc::Global;
@@ -10,13 +10,34 @@ use std::process::Abort;
 #[test]
 fn headers(rt: HostRuntime) {
     let alloc = rt.alloc();
-    is_row(&rt, alloc, &[0; 16], &LinkMessage::new(alloc), &[0; 16]);
-    is_row(&rt, alloc, &[0; 16], &message_of(&rt, alloc, []), &[0; 16]);
+    let zeros = [0; 16];
+    is_row(
+        &rt,
+        alloc,
+        "zeros",
+        &zeros,
+        &LinkMessage::new(alloc),
+        &zeros,
+    );
+    is_row(
+        &rt,
+        alloc,
+        "no attributes",
+        &zeros,
+        &message_of(&rt, alloc, []),
+        &zeros,
+    );
     let mut void = LinkMessage::new(alloc);
     void.header.link_layer_type = LinkLayerType::Void;
-    let bytes = [0, 0xff, 0x61, 0x1e, 0, 0, 0, 0, 0, 0, 0, 0, 0, 0, 0, 0];
-    let text = [0, 0, 0xff, 0xff, 0, 0, 0, 0, 0, 0, 0, 0, 0, 0, 0, 0];
-    is_row(&rt, alloc, &bytes, &void, &text);
+    let bytes = [
+        0x00, 0xff, 0x61, 0x1e, 0x00, 0x00, 0x00, 0x00, 0x00, 0x00, 0x00, 0x00, 0x00, 0x00, 0x00,
+        0x00,
+    ];
+    let text = [
+        0x00, 0x00, 0xff, 0xff, 0x00, 0x00, 0x00, 0x00, 0x00, 0x00, 0x00, 0x00, 0x00, 0x00, 0x00,
+        0x00,
+    ];
+    is_row(&rt, alloc, "an unknown layer type", &bytes, &void, &text);
 }
 
 #[test]
@@ -26,10 +47,13 @@ fn a_mask_and_a_name(rt: HostRuntime) {
     let mask = LinkAttribute::ExtMask(mask);
     let name = LinkAttribute::IfName(text_from(alloc, "lo").expect(&rt, "memory"));
     let message = message_of(&rt, alloc, [mask, name]);
-    let attributes = [8, 0, 29, 0, 9, 0, 0, 0, 7, 0, 3, 0, 0x6c, 0x6f, 0, 0];
+    let attributes = [
+        0x08, 0x00, 0x1d, 0x00, 0x09, 0x00, 0x00, 0x00, 0x07, 0x00, 0x03, 0x00, 0x6c, 0x6f, 0x00,
+        0x00,
+    ];
     let bytes = with_header(&rt, alloc, 0, &attributes);
     let bytes = bytes.as_slice();
-    is_row(&rt, alloc, bytes, &message, bytes);
+    is_row(&rt, alloc, "a mask and a name", bytes, &message, bytes);
 }
 
 /// A wireless card with two more names.
@@ -37,9 +61,10 @@ fn a_mask_and_a_name(rt: HostRuntime) {
 fn names_of_a_card(rt: HostRuntime) {
     let alloc = rt.alloc();
     let bytes = [
-        0, 0, 1, 0, 2, 0, 0, 0, 0x43, 0x10, 1, 0, 0, 0, 0, 0, 0x20, 0, 0x34, 0x80, 0x0e, 0, 0x35,
-        0, 0x77, 0x6c, 0x70, 0x30, 0x73, 0x32, 0x30, 0x66, 0x33, 0, 0, 0, 9, 0, 0x35, 0, 0x77,
-        0x69, 0x66, 0x69, 0, 0, 0, 0,
+        0x00, 0x00, 0x01, 0x00, 0x02, 0x00, 0x00, 0x00, 0x43, 0x10, 0x01, 0x00, 0x00, 0x00, 0x00,
+        0x00, 0x20, 0x00, 0x34, 0x80, 0x0e, 0x00, 0x35, 0x00, 0x77, 0x6c, 0x70, 0x30, 0x73, 0x32,
+        0x30, 0x66, 0x33, 0x00, 0x00, 0x00, 0x09, 0x00, 0x35, 0x00, 0x77, 0x69, 0x66, 0x69, 0x00,
+        0x00, 0x00, 0x00,
     ];
     let first = Prop::AltIfName(text_from(alloc, "wlp0s20f3").expect(&rt, "memory"));
     let second = Prop::AltIfName(text_from(alloc, "wifi").expect(&rt, "memory"));
@@ -54,7 +79,7 @@ fn names_of_a_card(rt: HostRuntime) {
         },
         attributes: list(alloc, [names]).expect(&rt, "memory"),
     };
-    is_row(&rt, alloc, &bytes, &message, &bytes);
+    is_row(&rt, alloc, "names of a card", &bytes, &message, &bytes);
     let flags = LinkMessage::parse(alloc, &bytes)
         .expect(&rt, "it is read")
         .header
@@ -77,8 +102,9 @@ fn layerless(index: u32, flags: u32) -> LinkHeader {
 fn a_tunnel_of_sessions(rt: HostRuntime) {
     let alloc = rt.alloc();
     let bytes = [
-        0, 0, 0xfe, 0xff, 16, 0, 0, 0, 0x90, 0x10, 0, 0, 0, 0, 0, 0, 10, 0, 3, 0, 0x70, 0x66, 0x63,
-        0x70, 0x30, 0, 0, 0, 16, 0, 18, 0, 9, 0, 1, 0, 0x70, 0x66, 0x63, 0x70, 0, 0, 0, 0,
+        0x00, 0x00, 0xfe, 0xff, 0x10, 0x00, 0x00, 0x00, 0x90, 0x10, 0x00, 0x00, 0x00, 0x00, 0x00,
+        0x00, 0x0a, 0x00, 0x03, 0x00, 0x70, 0x66, 0x63, 0x70, 0x30, 0x00, 0x00, 0x00, 0x10, 0x00,
+        0x12, 0x00, 0x09, 0x00, 0x01, 0x00, 0x70, 0x66, 0x63, 0x70, 0x00, 0x00, 0x00, 0x00,
     ];
     let kind = LinkInfo::Kind(text_from(alloc, "pfcp").expect(&rt, "memory"));
     let message = LinkMessage {
@@ -92,15 +118,17 @@ fn a_tunnel_of_sessions(rt: HostRuntime) {
         )
         .expect(&rt, "memory"),
     };
-    is_row(&rt, alloc, &bytes, &message, &bytes);
+    is_row(&rt, alloc, "a tunnel of sessions", &bytes, &message, &bytes);
 }
 
 #[test]
 fn a_tunnel_of_packets(rt: HostRuntime) {
     let alloc = rt.alloc();
     let bytes = [
-        0, 0, 0xfe, 0xff, 40, 0, 0, 0, 0xc1, 0, 1, 0, 0, 0, 0, 0, 36, 0, 18, 0, 9, 0, 1, 0, 0x78,
-        0x66, 0x72, 0x6d, 0, 0, 0, 0, 20, 0, 2, 0, 8, 0, 1, 0, 2, 0, 0, 0, 8, 0, 2, 0, 10, 0, 0, 0,
+        0x00, 0x00, 0xfe, 0xff, 0x28, 0x00, 0x00, 0x00, 0xc1, 0x00, 0x01, 0x00, 0x00, 0x00, 0x00,
+        0x00, 0x24, 0x00, 0x12, 0x00, 0x09, 0x00, 0x01, 0x00, 0x78, 0x66, 0x72, 0x6d, 0x00, 0x00,
+        0x00, 0x00, 0x14, 0x00, 0x02, 0x00, 0x08, 0x00, 0x01, 0x00, 0x02, 0x00, 0x00, 0x00, 0x08,
+        0x00, 0x02, 0x00, 0x0a, 0x00, 0x00, 0x00,
     ];
     let kind = LinkInfo::Kind(text_from(alloc, "xfrm").expect(&rt, "memory"));
     let data = LinkInfo::Other(kept(alloc, 2, &bytes[36..]).expect(&rt, "memory"));
@@ -112,7 +140,7 @@ fn a_tunnel_of_packets(rt: HostRuntime) {
         )
         .expect(&rt, "memory"),
     };
-    is_row(&rt, alloc, &bytes, &message, &bytes);
+    is_row(&rt, alloc, "a tunnel of packets", &bytes, &message, &bytes);
 }
 
 /// The message of a name.
@@ -128,16 +156,16 @@ fn named(rt: &impl Abort, alloc: Global) -> LinkMessage {
 #[test]
 fn a_name_at_the_end(rt: HostRuntime) {
     let read = LinkMessage::parse(rt.alloc(), &NAME).expect(&rt, "it is read");
-    for message in [read, named(&rt, rt.alloc())] {
-        assert!(rt; message.fits());
-        assert!(rt; message.buffer_len() == 24);
+    for (label, message) in [("read", read), ("made", named(&rt, rt.alloc()))] {
+        assert!(rt; message.fits(), "{label}");
+        assert!(rt; message.buffer_len() == 24, "{label}");
         let mut buffer = [255; 40];
-        assert!(rt; message.fill(&mut buffer) == 16);
-        are_all(&rt, &buffer[..16], 255);
-        assert!(rt; equal(&buffer[16..], &NAME_TEXT));
+        assert!(rt; message.fill(&mut buffer) == 16, "{label}");
+        assert!(rt; are_all(&buffer[..16], 255), "{label}");
+        assert!(rt; equal(&buffer[16..], &NAME_TEXT), "{label}");
         let mut buffer = [255; 24];
-        assert!(rt; message.fill(&mut buffer) == 0);
-        assert!(rt; equal(&buffer, &NAME_TEXT));
+        assert!(rt; message.fill(&mut buffer) == 0, "{label}");
+        assert!(rt; equal(&buffer, &NAME_TEXT), "{label}");
     }
 }
 
@@ -146,8 +174,9 @@ fn a_name_at_the_end(rt: HostRuntime) {
 fn a_vlan_at_the_end(rt: HostRuntime) {
     let alloc = rt.alloc();
     let attributes = [
-        32, 0, 22, 0, 28, 0, 1, 0, 24, 0, 12, 0, 20, 0, 1, 0, 1, 0, 0, 0, 100, 0, 0, 0, 0, 0, 0, 0,
-        0x88, 0xa8, 0x12, 0x34,
+        0x20, 0x00, 0x16, 0x00, 0x1c, 0x00, 0x01, 0x00, 0x18, 0x00, 0x0c, 0x00, 0x14, 0x00, 0x01,
+        0x00, 0x01, 0x00, 0x00, 0x00, 0x64, 0x00, 0x00, 0x00, 0x00, 0x00, 0x00, 0x00, 0x88, 0xa8,
+        0x12, 0x34,
     ];
     let bytes = with_header(&rt, alloc, 0, &attributes);
     let message = LinkMessage::parse(alloc, bytes.as_slice()).expect(&rt, "it is read");
@@ -155,10 +184,10 @@ fn a_vlan_at_the_end(rt: HostRuntime) {
     assert!(rt; message.buffer_len() == 48);
     let mut buffer = [255; 50];
     assert!(rt; message.fill(&mut buffer) == 2);
-    are_all(&rt, &buffer[..2], 255);
-    are_all(&rt, &buffer[2..18], 0);
+    assert!(rt; are_all(&buffer[..2], 255));
+    assert!(rt; are_all(&buffer[2..18], 0));
     assert!(rt; equal(&buffer[18..46], &attributes[..28]));
-    assert!(rt; equal(&buffer[46..], &[0x88, 0xa8, 0, 0]));
+    assert!(rt; equal(&buffer[46..], &[0x88, 0xa8, 0x00, 0x00]));
 }
 
 #[test]
@@ -168,7 +197,7 @@ fn nothing_at_the_end(rt: HostRuntime) {
     assert!(rt; nlas_fit(&none));
     assert!(rt; nlas_buffer_len(&none) == 0);
     assert!(rt; nlas_fill(&none, &mut buffer) == 3);
-    are_all(&rt, &buffer, 7);
+    assert!(rt; are_all(&buffer, 7));
 }
 
 #[test]
@@ -177,10 +206,9 @@ fn texts_in_a_long_buffer(rt: HostRuntime) {
     assert!(rt; 22 * GROWTH <= 2000);
     let short = no_message(Cause::TooShort { got: 15, need: 16 });
     law_room(&[0; 15]);
-    is_refused_so(&rt, canonical_into(&[0; 15], &mut out), short);
-    are_all(&rt, &out, 255);
+    is_refused_so(&rt, "15 bytes", canonical_into(&[0; 15], &mut out), short);
+    assert!(rt; are_all(&out, 255));
     law_room(&NAME);
     assert!(rt; canonical_into(&NAME, &mut out) == Ok(24));
-    assert!(rt; out.starts_with(&NAME_TEXT));
-    are_all(&rt, &out[24..], 255);
+    assert!(rt; is_stored(24, &out, &NAME_TEXT));
 }

@@ -98,7 +98,8 @@ fn wireless_events(rt: HostRuntime) {
     for event in &ones {
         let copy = event.clone_in(alloc).expect(&rt, "memory");
         let text = event_written(&rt, alloc, event);
-        assert!(rt; equal(event_written(&rt, alloc, &copy).as_slice(), text.as_slice()));
+        let of_copy = event_written(&rt, alloc, &copy);
+        assert!(rt; equal(of_copy.as_slice(), text.as_slice()), "{event:?}");
     }
 }
 

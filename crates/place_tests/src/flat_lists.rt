@@ -15,11 +15,16 @@ use std::process::Abort;
 fn alternative_names(rt: HostRuntime) {
     let alloc = rt.alloc();
     assert!(rt; refuses_bad_frames::<Prop>(alloc));
-    for bytes in [
-        [5, 0, 53, 0, 0xff].as_slice(),
-        [5, 0, 53, 0, 0xff, 0, 0, 0, 3, 0, 53, 0].as_slice(),
+    for (label, bytes) in [
+        ("no UTF-8", [0x05, 0x00, 0x35, 0x00, 0xff].as_slice()),
+        (
+            "no UTF-8, and a length of 3",
+            &[
+                0x05, 0x00, 0x35, 0x00, 0xff, 0x00, 0x00, 0x00, 0x03, 0x00, 0x35, 0x00,
+            ],
+        ),
     ] {
-        assert!(rt; refuses::<Prop>(alloc, bytes, Cause::NotUtf8));
+        assert!(rt; refuses::<Prop>(alloc, bytes, Cause::NotUtf8), "{label}");
     }
     let values = [
         Prop::AltIfName(text_from(alloc, "").expect(&rt, "memory")),
@@ -30,11 +35,13 @@ fn alternative_names(rt: HostRuntime) {
         means(
             alloc,
             &[
-                4, 0, 53, 0, 5, 0, 99, 0xc0, 7, 0, 0, 0, 6, 0, 53, 0x80, 0x6c, 0x6f,
+                0x04, 0x00, 0x35, 0x00, 0x05, 0x00, 0x63, 0xc0, 0x07, 0x00, 0x00, 0x00, 0x06, 0x00,
+                0x35, 0x80, 0x6c, 0x6f
             ],
             &values,
             &[
-                5, 0, 53, 0, 0, 0, 0, 0, 5, 0, 99, 0xc0, 7, 0, 0, 0, 7, 0, 53, 0, 0x6c, 0x6f, 0, 0,
+                0x05, 0x00, 0x35, 0x00, 0x00, 0x00, 0x00, 0x00, 0x05, 0x00, 0x63, 0xc0, 0x07, 0x00,
+                0x00, 0x00, 0x07, 0x00, 0x35, 0x00, 0x6c, 0x6f, 0x00, 0x00
             ]
         )
     );
@@ -46,13 +53,14 @@ fn devlink_ports(rt: HostRuntime) {
     let alloc = rt.alloc();
     assert!(rt; refuses_bad_frames::<DevlinkPort>(alloc));
     let short = Cause::WrongLength { got: 0, want: 4 };
-    assert!(rt; refuses::<DevlinkPort>(alloc, &[4, 0, 3, 0], short));
-    assert!(rt; refuses::<DevlinkPort>(alloc, &[5, 0, 2, 0, 0xc3], Cause::NotUtf8));
+    assert!(rt; refuses::<DevlinkPort>(alloc, &[0x04, 0x00, 0x03, 0x00], short));
+    assert!(rt; refuses::<DevlinkPort>(alloc, &[0x05, 0x00, 0x02, 0x00, 0xc3], Cause::NotUtf8));
     assert!(rt;
         means(
             alloc,
             &[
-                8, 0, 3, 0, 2, 1, 0, 0, 4, 0, 4, 0x40, 5, 0, 2, 0, 0, 0, 0, 0, 5, 0, 1, 0, 0x70,
+                0x08, 0x00, 0x03, 0x00, 0x02, 0x01, 0x00, 0x00, 0x04, 0x00, 0x04, 0x40, 0x05, 0x00,
+                0x02, 0x00, 0x00, 0x00, 0x00, 0x00, 0x05, 0x00, 0x01, 0x00, 0x70
             ],
             &[
                 DevlinkPort::PortIndex(258),
@@ -61,8 +69,8 @@ fn devlink_ports(rt: HostRuntime) {
                 DevlinkPort::BusName(text_from(alloc, "p").expect(&rt, "memory")),
             ],
             &[
-                8, 0, 3, 0, 2, 1, 0, 0, 4, 0, 4, 0x40, 5, 0, 2, 0, 0, 0, 0, 0, 6, 0, 1, 0, 0x70, 0,
-                0, 0,
+                0x08, 0x00, 0x03, 0x00, 0x02, 0x01, 0x00, 0x00, 0x04, 0x00, 0x04, 0x40, 0x05, 0x00,
+                0x02, 0x00, 0x00, 0x00, 0x00, 0x00, 0x06, 0x00, 0x01, 0x00, 0x70, 0x00, 0x00, 0x00
             ]
         )
     );
@@ -73,15 +81,18 @@ fn clock_pins(rt: HostRuntime) {
     let alloc = rt.alloc();
     assert!(rt; refuses_bad_frames::<DpllPin>(alloc));
     let short = Cause::WrongLength { got: 2, want: 4 };
-    assert!(rt; refuses::<DpllPin>(alloc, &[6, 0, 1, 0, 1, 2], short));
+    assert!(rt; refuses::<DpllPin>(alloc, &[0x06, 0x00, 0x01, 0x00, 0x01, 0x02], short));
     let other = DpllPin::Other(kept(alloc, 0x63, &[0xde, 0xad]).expect(&rt, "memory"));
-    let bytes = [8, 0, 1, 0, 0x2a, 0, 0, 0, 6, 0, 0x63, 0, 0xde, 0xad, 0, 0];
+    let bytes = [
+        0x08, 0x00, 0x01, 0x00, 0x2a, 0x00, 0x00, 0x00, 0x06, 0x00, 0x63, 0x00, 0xde, 0xad, 0x00,
+        0x00,
+    ];
     assert!(rt; means(alloc, &bytes, &[DpllPin::PinId(42), other], &bytes));
 }
 
 #[test]
 fn one_clock_pin(rt: HostRuntime) {
-    let bytes = [8, 0, 1, 0, 0x2a, 0, 0, 0];
+    let bytes = [0x08, 0x00, 0x01, 0x00, 0x2a, 0x00, 0x00, 0x00];
     let frame = NlaBuffer::new_checked(&bytes).expect(&rt, "it is read");
     let pin = DpllPin::parse(rt.alloc(), &frame).expect(&rt, "it is read");
     assert!(rt; same(&pin, &DpllPin::PinId(42)));
@@ -95,7 +106,12 @@ fn one_clock_pin_written(rt: HostRuntime) {
     assert!(rt; pin.buffer_len() == 8);
     let mut text = [255; 9];
     pin.emit(&mut text);
-    assert!(rt; equal(&text, &[8, 0, 1, 0, 0x2a, 0, 0, 0, 255]));
+    assert!(rt;
+        equal(
+            &text,
+            &[0x08, 0x00, 0x01, 0x00, 0x2a, 0x00, 0x00, 0x00, 0xff]
+        )
+    );
 }
 
 #[test]
@@ -103,9 +119,18 @@ fn down_reasons(rt: HostRuntime) {
     let alloc = rt.alloc();
     assert!(rt; refuses_bad_frames::<LinkProtocolDownReason>(alloc));
     let long = Cause::WrongLength { got: 5, want: 4 };
-    assert!(rt; refuses::<LinkProtocolDownReason>(alloc, &[9, 0, 2, 0, 1, 2, 3, 4, 5], long));
+    assert!(rt;
+        refuses::<LinkProtocolDownReason>(
+            alloc,
+            &[0x09, 0x00, 0x02, 0x00, 0x01, 0x02, 0x03, 0x04, 0x05],
+            long
+        )
+    );
     let other = LinkProtocolDownReason::Other(kept(alloc, 3, &[]).expect(&rt, "memory"));
-    let bytes = [8, 0, 1, 0, 1, 0, 0, 0, 8, 0, 2, 0, 2, 0, 0, 0, 4, 0, 3, 0];
+    let bytes = [
+        0x08, 0x00, 0x01, 0x00, 0x01, 0x00, 0x00, 0x00, 0x08, 0x00, 0x02, 0x00, 0x02, 0x00, 0x00,
+        0x00, 0x04, 0x00, 0x03, 0x00,
+    ];
     assert!(rt;
         means(
             alloc,
@@ -124,34 +149,73 @@ fn down_reasons(rt: HostRuntime) {
 fn refused_express_data_paths(rt: HostRuntime) {
     let alloc = rt.alloc();
     assert!(rt; refuses_bad_frames::<LinkXdp>(alloc));
-    for (bytes, got, want) in [
-        ([4, 0, 2, 0].as_slice(), 0, 1),
-        ([6, 0, 2, 0, 1, 2].as_slice(), 2, 1),
-        ([5, 0, 1, 0, 1].as_slice(), 1, 4),
-        ([4, 0, 8, 0].as_slice(), 0, 4),
+    for (label, bytes, got, want) in [
+        (
+            "IFLA_XDP_ATTACHED of no bytes",
+            [0x04, 0x00, 0x02, 0x00].as_slice(),
+            0,
+            1,
+        ),
+        (
+            "IFLA_XDP_ATTACHED of 2 bytes",
+            &[0x06, 0x00, 0x02, 0x00, 0x01, 0x02],
+            2,
+            1,
+        ),
+        (
+            "IFLA_XDP_FD of a byte",
+            &[0x05, 0x00, 0x01, 0x00, 0x01],
+            1,
+            4,
+        ),
+        (
+            "IFLA_XDP_EXPECTED_FD of no bytes",
+            &[0x04, 0x00, 0x08, 0x00],
+            0,
+            4,
+        ),
     ] {
-        assert!(rt; refuses::<LinkXdp>(alloc, bytes, Cause::WrongLength { got, want }));
+        let cause = Cause::WrongLength { got, want };
+        assert!(rt; refuses::<LinkXdp>(alloc, bytes, cause), "{label}");
     }
     let over = Cause::FrameOver {
         length: 65535,
         left: 8,
     };
-    assert!(rt; refuses::<LinkXdp>(alloc, &[255, 255, 2, 0, 2, 0, 0, 0], over));
+    assert!(rt;
+        refuses::<LinkXdp>(
+            alloc,
+            &[0xff, 0xff, 0x02, 0x00, 0x02, 0x00, 0x00, 0x00],
+            over
+        )
+    );
 }
 
 #[test]
 fn express_data_paths(rt: HostRuntime) {
-    for (number, value) in [
-        (1, LinkXdp::Fd(-2)),
-        (3, LinkXdp::Flags(4294967294)),
-        (4, LinkXdp::ProgId(4294967294)),
-        (5, LinkXdp::DrvProgId(4294967294)),
-        (6, LinkXdp::SkbProgId(4294967294)),
-        (7, LinkXdp::HwProgId(4294967294)),
-        (8, LinkXdp::ExpectedFd(4294967294)),
+    for (label, number, value) in [
+        ("IFLA_XDP_FD", 0x01, LinkXdp::Fd(-2)),
+        ("IFLA_XDP_FLAGS", 0x03, LinkXdp::Flags(0xffff_fffe)),
+        ("IFLA_XDP_PROG_ID", 0x04, LinkXdp::ProgId(0xffff_fffe)),
+        (
+            "IFLA_XDP_DRV_PROG_ID",
+            0x05,
+            LinkXdp::DrvProgId(0xffff_fffe),
+        ),
+        (
+            "IFLA_XDP_SKB_PROG_ID",
+            0x06,
+            LinkXdp::SkbProgId(0xffff_fffe),
+        ),
+        ("IFLA_XDP_HW_PROG_ID", 0x07, LinkXdp::HwProgId(0xffff_fffe)),
+        (
+            "IFLA_XDP_EXPECTED_FD",
+            0x08,
+            LinkXdp::ExpectedFd(0xffff_fffe),
+        ),
     ] {
-        let bytes = [8, 0, number, 0, 254, 255, 255, 255];
-        assert!(rt; means(rt.alloc(), &bytes, &[value], &bytes));
+        let bytes = [0x08, 0x00, number, 0x00, 0xfe, 0xff, 0xff, 0xff];
+        assert!(rt; means(rt.alloc(), &bytes, &[value], &bytes), "{label}");
     }
 }
 
@@ -161,12 +225,16 @@ fn attached_express_data_paths(rt: HostRuntime) {
     assert!(rt;
         means(
             alloc,
-            &[5, 0, 2, 0x80, 2, 9, 9, 9, 4, 0, 9, 0],
+            &[
+                0x05, 0x00, 0x02, 0x80, 0x02, 0x09, 0x09, 0x09, 0x04, 0x00, 0x09, 0x00
+            ],
             &[
                 LinkXdp::Attached(XdpAttached::SocketBuffer),
                 LinkXdp::Other(kept(alloc, 9, &[]).expect(&rt, "memory")),
             ],
-            &[5, 0, 2, 0, 2, 0, 0, 0, 4, 0, 9, 0]
+            &[
+                0x05, 0x00, 0x02, 0x00, 0x02, 0x00, 0x00, 0x00, 0x04, 0x00, 0x09, 0x00
+            ]
         )
     );
 }
@@ -175,16 +243,21 @@ fn attached_express_data_paths(rt: HostRuntime) {
 fn link_infos(rt: HostRuntime) {
     let alloc = rt.alloc();
     assert!(rt; refuses_bad_frames::<LinkInfo>(alloc));
-    assert!(rt; refuses::<LinkInfo>(alloc, &[5, 0, 1, 0, 0xff], Cause::NotUtf8));
+    assert!(rt; refuses::<LinkInfo>(alloc, &[0x05, 0x00, 0x01, 0x00, 0xff], Cause::NotUtf8));
     assert!(rt;
         means(
             alloc,
-            &[4, 0, 2, 0, 9, 0, 1, 0, 0x70, 0x66, 0x63, 0x70, 0],
+            &[
+                0x04, 0x00, 0x02, 0x00, 0x09, 0x00, 0x01, 0x00, 0x70, 0x66, 0x63, 0x70, 0x00
+            ],
             &[
                 LinkInfo::Other(kept(alloc, 2, &[]).expect(&rt, "memory")),
                 LinkInfo::Kind(text_from(alloc, "pfcp").expect(&rt, "memory")),
             ],
-            &[4, 0, 2, 0, 9, 0, 1, 0, 0x70, 0x66, 0x63, 0x70, 0, 0, 0, 0]
+            &[
+                0x04, 0x00, 0x02, 0x00, 0x09, 0x00, 0x01, 0x00, 0x70, 0x66, 0x63, 0x70, 0x00, 0x00,
+                0x00, 0x00
+            ]
         )
     );
 }
@@ -192,23 +265,27 @@ fn link_infos(rt: HostRuntime) {
 #[test]
 fn long_names(rt: HostRuntime) {
     let letters = [97; 65531];
-    for (from, fits) in [(0, false), (1, true)] {
+    for (label, from, fits) in [("65531 letters", 0, false), ("65530 letters", 1, true)] {
         let letters = std::str::from_utf8(&letters[from..]).expect(&rt, "memory");
         let name = Prop::AltIfName(text_from(rt.alloc(), letters).expect(&rt, "memory"));
-        assert!(rt; name.fits() == fits);
+        assert!(rt; name.fits() == fits, "{label}");
     }
 }
 
 #[test]
 fn refused_wireless_events(rt: HostRuntime) {
-    for (payload, got) in [([0; 7].as_slice(), 7), ([].as_slice(), 0)] {
+    for (label, payload, got) in [("7 bytes", [0; 7].as_slice(), 7), ("no bytes", &[], 0)] {
         let short = Some(Cause::TooShort { got, need: 8 });
-        assert_eq!(rt; cause_of(WirelessEvent::parse(rt.alloc(), payload)), short);
-        assert_eq!(rt; cause_of(WirelessEvent::check(payload)), short);
+        let read = WirelessEvent::parse(rt.alloc(), payload);
+        assert_eq!(rt; cause_of(read), short, "{label}");
+        assert_eq!(rt; cause_of(WirelessEvent::check(payload)), short, "{label}");
         let mut out = [255; 8];
-        assert!(rt; WirelessEvent::measure(payload).is_none());
-        assert!(rt; WirelessEvent::canon(payload, &mut out).is_none());
-        assert!(rt; equal(&out, &[255; 8]));
+        assert!(rt; WirelessEvent::measure(payload).is_none(), "{label}");
+        assert!(rt;
+            WirelessEvent::canon(payload, &mut out).is_none(),
+            "{label}"
+        );
+        assert!(rt; equal(&out, &[255; 8]), "{label}");
     }
 }
 
@@ -221,7 +298,7 @@ fn long_wireless_payloads(rt: HostRuntime) {
     keeps_event(&rt, &payload[1..]);
     let mut out = [255; 65532];
     assert!(rt; WirelessEvent::canon(&payload, &mut out).is_none());
-    assert!(rt; out[0] == 255 && out[65531] == 255);
+    assert!(rt; out.iter().all(|byte| *byte == 255));
 }
 
 /// An event of no known command is written as it is.
@@ -262,7 +339,7 @@ fn event_writes(rt: &impl Abort, event: &WirelessEvent, text: &[u8; 9]) {
     assert!(rt; equal(&exact, text));
     let mut longer = [255; 12];
     assert!(rt; event.fill(&mut longer) == 3);
-    assert!(rt; longer.starts_with(&[255, 255, 255]));
+    assert!(rt; longer.starts_with(&[0xff, 0xff, 0xff]));
     assert!(rt; equal(&longer[3..], text));
 }
 
@@ -270,8 +347,8 @@ fn event_writes(rt: &impl Abort, event: &WirelessEvent, text: &[u8; 9]) {
 fn wireless_events(rt: HostRuntime) {
     let alloc = rt.alloc();
     let event = WirelessEvent::AssociateRequest(bytes_from(alloc, &[0xaa]).expect(&rt, "memory"));
-    let text = [9, 0, 7, 0x8c, 0, 0, 0, 0, 0xaa];
-    let payload = [255, 255, 7, 0x8c, 1, 2, 3, 4, 0xaa];
+    let text = [0x09, 0x00, 0x07, 0x8c, 0x00, 0x00, 0x00, 0x00, 0xaa];
+    let payload = [0xff, 0xff, 0x07, 0x8c, 0x01, 0x02, 0x03, 0x04, 0xaa];
     event_means(&rt, alloc, &payload, &event, &text);
     event_writes(&rt, &event, &text);
 }
@@ -280,11 +357,11 @@ fn wireless_events(rt: HostRuntime) {
 fn more_wireless_events(rt: HostRuntime) {
     let alloc = rt.alloc();
     let event = WirelessEvent::AssociateResponse(bytes_from(alloc, &[0xbb]).expect(&rt, "memory"));
-    let text = [9, 0, 8, 0x8c, 0, 0, 0, 0, 0xbb];
+    let text = [0x09, 0x00, 0x08, 0x8c, 0x00, 0x00, 0x00, 0x00, 0xbb];
     event_means(
         &rt,
         alloc,
-        &[0, 0, 8, 0x8c, 0, 0, 0, 0, 0xbb],
+        &[0x00, 0x00, 0x08, 0x8c, 0x00, 0x00, 0x00, 0x00, 0xbb],
         &event,
         &text,
     );
@@ -294,7 +371,7 @@ fn more_wireless_events(rt: HostRuntime) {
 #[test]
 fn other_wireless_events(rt: HostRuntime) {
     let alloc = rt.alloc();
-    let text = [9, 0, 1, 0x8b, 1, 2, 3, 4, 5];
+    let text = [0x09, 0x00, 0x01, 0x8b, 0x01, 0x02, 0x03, 0x04, 0x05];
     let event = WirelessEvent::Other(bytes_from(alloc, &text).expect(&rt, "memory"));
     event_means(&rt, alloc, &text, &event, &text);
     event_writes(&rt, &event, &text);
@@ -320,5 +397,11 @@ fn the_longest_wireless_event(rt: HostRuntime) {
     assert!(rt; event.buffer_len() == 65531);
     let mut text = [255; 65531];
     assert!(rt; event.fill(&mut text) == 0);
-    assert!(rt; text.starts_with(&[0xfb, 0xff, 7, 0x8c, 0, 0, 0, 0, 7]));
+    assert!(rt;
+        equal(
+            &text[..8],
+            &[0xfb, 0xff, 0x07, 0x8c, 0x00, 0x00, 0x00, 0x00]
+        )
+    );
+    assert!(rt; equal(&text[8..], &bytes));
 }

@@ -516,11 +516,13 @@ fn is_filled<N: Nla>(rt: &impl Abort, nla: &N, kind: u16, text: &[u8; 28]) {
     assert!(rt; nla.fits());
     assert!(rt; nla.measure() == Some(24));
     assert!(rt; nla.buffer_len() == 28);
-    let mut buffer = [255; 30];
-    nla.emit(&mut buffer);
-    assert!(rt; buffer.starts_with(text));
-    assert!(rt; nla.fill(&mut buffer) == 2);
-    assert!(rt; equal(&buffer[2..], text));
+    let mut front = [255; 30];
+    nla.emit(&mut front);
+    assert!(rt; is_stored(28, &front, text));
+    let mut end = [255; 30];
+    assert!(rt; nla.fill(&mut end) == 2);
+    assert!(rt; equal(&end[..2], &[0xff, 0xff]));
+    assert!(rt; equal(&end[2..], text));
 }
 
 #[test]

@@ -6,10 +6,10 @@ use nla_wire::laws::{law_list_room, law_room};
 use nla_wire::*;
 
 /// Two attributes, of kinds 2 nested and 1. The last lacks its padding.
-const TWO: [u8; 9] = [4, 0, 2, 0x80, 5, 0, 1, 0, 7];
+const TWO: [u8; 9] = [0x04, 0x00, 0x02, 0x80, 0x05, 0x00, 0x01, 0x00, 0x07];
 
 /// The second of them with its padding.
-const SECOND: [u8; 8] = [5, 0, 1, 0, 7, 0, 0, 0];
+const SECOND: [u8; 8] = [0x05, 0x00, 0x01, 0x00, 0x07, 0x00, 0x00, 0x00];
 
 #[test]
 fn reads_lists(rt: HostRuntime) {
@@ -28,16 +28,18 @@ fn refuses_lists(rt: HostRuntime) {
 
 #[test]
 fn measures_lists(rt: HostRuntime) {
-    for (bytes, wanted) in [
-        (TWO.as_slice(), Some(12)),
-        (SECOND.as_slice(), Some(8)),
-        ([].as_slice(), Some(0)),
-        (&TWO[..8], None),
+    for (label, bytes, wanted) in [
+        ("two attributes", TWO.as_slice(), Some(12)),
+        ("the second of them", &SECOND, Some(8)),
+        ("no bytes", &[], Some(0)),
+        ("the second is cut", &TWO[..8], None),
     ] {
-        assert!(rt; VfPort::measure_list(bytes) == wanted);
-        assert!(rt; VfPort::measure_nested(bytes) == wanted);
-        assert!(rt; measure_members::<VfPort, OwnPlace>(&OwnPlace, bytes) == wanted);
-        assert!(rt; measure_nested_members::<VfPort, OwnPlace>(&OwnPlace, bytes) == wanted);
+        assert!(rt; VfPort::measure_list(bytes) == wanted, "{label}");
+        assert!(rt; VfPort::measure_nested(bytes) == wanted, "{label}");
+        let members = measure_members::<VfPort, OwnPlace>(&OwnPlace, bytes);
+        assert!(rt; members == wanted, "{label}");
+        let nested = measure_nested_members::<VfPort, OwnPlace>(&OwnPlace, bytes);
+        assert!(rt; nested == wanted, "{label}");
     }
 }
 
@@ -47,11 +49,22 @@ fn writes_lists(rt: HostRuntime) {
     assert!(rt; VfPort::check_list(&TWO).is_ok());
     assert!(rt; VfPort::measure_list(&TWO) == Some(12));
     assert!(rt; VfPort::canon_list(&TWO, &mut out) == Some(12));
-    assert!(rt; is_stored(12, &out, &[4, 0, 2, 0x80, 5, 0, 1, 0, 7, 0, 0, 0]));
+    assert!(rt;
+        is_stored(
+            12,
+            &out,
+            &[
+                0x04, 0x00, 0x02, 0x80, 0x05, 0x00, 0x01, 0x00, 0x07, 0x00, 0x00, 0x00
+            ]
+        )
+    );
     let mut out = [255; 17];
     assert!(rt; VfPort::measure_nested(&TWO) == Some(12));
     let len = VfPort::write_nested(52 | NLA_F_NESTED, &TWO, &mut out);
-    let text = [16, 0, 52, 0x80, 4, 0, 2, 0x80, 5, 0, 1, 0, 7, 0, 0, 0];
+    let text = [
+        0x10, 0x00, 0x34, 0x80, 0x04, 0x00, 0x02, 0x80, 0x05, 0x00, 0x01, 0x00, 0x07, 0x00, 0x00,
+        0x00,
+    ];
     assert!(rt; is_stored(len, &out, &text));
 }
 
@@ -62,11 +75,21 @@ fn adds_lists(rt: HostRuntime) {
     assert!(rt; measure_members::<VfPort, OwnPlace>(&OwnPlace, &TWO) == Some(12));
     let len = write_members::<VfPort, OwnPlace>(&OwnPlace, &TWO, &mut out[1..]);
     assert!(rt; len == 12);
-    assert!(rt; equal(&out, &[255, 4, 0, 2, 0x80, 5, 0, 1, 0, 7, 0, 0, 0, 255]));
+    assert!(rt;
+        equal(
+            &out,
+            &[
+                0xff, 0x04, 0x00, 0x02, 0x80, 0x05, 0x00, 0x01, 0x00, 0x07, 0x00, 0x00, 0x00, 0xff
+            ]
+        )
+    );
     let mut out = [255; 17];
     assert!(rt; measure_nested_members::<VfPort, OwnPlace>(&OwnPlace, &TWO) == Some(12));
     let len = write_nested_members::<VfPort, OwnPlace>(&OwnPlace, 52, &TWO, &mut out);
-    let text = [16, 0, 52, 0, 4, 0, 2, 0x80, 5, 0, 1, 0, 7, 0, 0, 0];
+    let text = [
+        0x10, 0x00, 0x34, 0x00, 0x04, 0x00, 0x02, 0x80, 0x05, 0x00, 0x01, 0x00, 0x07, 0x00, 0x00,
+        0x00,
+    ];
     assert!(rt; is_stored(len, &out, &text));
 }
 
@@ -78,7 +101,10 @@ fn writes_lists_of_some(rt: HostRuntime) {
     assert!(rt; VfPort::measure_some(&TWO) == Some(12));
     let mut out = [255; 17];
     let len = VfPort::write_some(25, &TWO, &mut out);
-    let text = [16, 0, 25, 0, 4, 0, 2, 0x80, 5, 0, 1, 0, 7, 0, 0, 0];
+    let text = [
+        0x10, 0x00, 0x19, 0x00, 0x04, 0x00, 0x02, 0x80, 0x05, 0x00, 0x01, 0x00, 0x07, 0x00, 0x00,
+        0x00,
+    ];
     assert!(rt; is_stored(len, &out, &text));
 }
 
@@ -100,7 +126,15 @@ fn writes_into_long_buffers(rt: HostRuntime) {
     let mut out = [255; 9 * GROWTH];
     law_list_room::<VfPort>(&TWO);
     assert!(rt; VfPort::canon_list(&TWO, &mut out) == Some(12));
-    assert!(rt; is_stored(12, &out, &[4, 0, 2, 0x80, 5, 0, 1, 0, 7, 0, 0, 0]));
+    assert!(rt;
+        is_stored(
+            12,
+            &out,
+            &[
+                0x04, 0x00, 0x02, 0x80, 0x05, 0x00, 0x01, 0x00, 0x07, 0x00, 0x00, 0x00
+            ]
+        )
+    );
     let frame = NlaBuffer::new_checked(&TWO[4..]).expect(&rt, "it is read");
     let mut out = [255; 5 * GROWTH];
     assert!(rt; frame.value().len() == 1);
@@ -112,10 +146,10 @@ fn writes_into_long_buffers(rt: HostRuntime) {
 /// A counter of seven bytes is refused, and nothing is written.
 #[test]
 fn writes_no_refused_members(rt: HostRuntime) {
-    let frame = NlaBuffer::new_checked(&[11, 0, 0, 0, 1, 2, 3, 4, 5, 6, 7]).expect(
-        &rt,
-        "it is read",
-    );
+    let frame = NlaBuffer::new_checked(&[
+        0x0b, 0x00, 0x00, 0x00, 0x01, 0x02, 0x03, 0x04, 0x05, 0x06, 0x07,
+    ])
+    .expect(&rt, "it is read");
     let mut out = [255; 12];
     assert!(rt; VfStats::measure_frame(&frame).is_none());
     assert!(rt; VfStats::canon(&frame, &mut out).is_none());

@@ -24,19 +24,36 @@ const ICMP6_COUNTERS: usize = 60;
 fn settings_of_mctp(rt: HostRuntime) {
     let alloc = rt.alloc();
     assert!(rt; refuses_bad_frames::<AfSpecMctp>(alloc));
-    for (bytes, got, want) in [
-        ([7, 0, 1, 0, 1, 2, 3].as_slice(), 3, 4),
-        ([4, 0, 2, 0].as_slice(), 0, 1),
-        ([6, 0, 2, 0, 1, 2].as_slice(), 2, 1),
+    for (label, bytes, got, want) in [
+        (
+            "IFLA_MCTP_NET of 3 bytes",
+            [0x07, 0x00, 0x01, 0x00, 0x01, 0x02, 0x03].as_slice(),
+            3,
+            4,
+        ),
+        (
+            "IFLA_MCTP_PHYS_BINDING of no bytes",
+            [0x04, 0x00, 0x02, 0x00].as_slice(),
+            0,
+            1,
+        ),
+        (
+            "IFLA_MCTP_PHYS_BINDING of 2 bytes",
+            [0x06, 0x00, 0x02, 0x00, 0x01, 0x02].as_slice(),
+            2,
+            1,
+        ),
     ] {
-        assert!(rt; refuses::<AfSpecMctp>(alloc, bytes, Cause::WrongLength { got, want }));
+        let cause = Cause::WrongLength { got, want };
+        assert!(rt; refuses::<AfSpecMctp>(alloc, bytes, cause), "{label}");
     }
     assert!(rt;
         means(
             alloc,
             &[
-                8, 0, 1, 0, 5, 1, 0, 0, 5, 0, 2, 0, 1, 0, 0, 0, 5, 0, 2, 0, 255, 0, 0, 0, 5, 0, 2,
-                0, 77, 0, 0, 0, 5, 0, 3, 0xc0, 9,
+                0x08, 0x00, 0x01, 0x00, 0x05, 0x01, 0x00, 0x00, 0x05, 0x00, 0x02, 0x00, 0x01, 0x00,
+                0x00, 0x00, 0x05, 0x00, 0x02, 0x00, 0xff, 0x00, 0x00, 0x00, 0x05, 0x00, 0x02, 0x00,
+                0x4d, 0x00, 0x00, 0x00, 0x05, 0x00, 0x03, 0xc0, 0x09
             ],
             &[
                 AfSpecMctp::Net(261),
@@ -46,20 +63,40 @@ fn settings_of_mctp(rt: HostRuntime) {
                 AfSpecMctp::Other(kept(alloc, 3 | 0xc000, &[9]).expect(&rt, "memory")),
             ],
             &[
-                8, 0, 1, 0, 5, 1, 0, 0, 5, 0, 2, 0, 1, 0, 0, 0, 5, 0, 2, 0, 255, 0, 0, 0, 5, 0, 2,
-                0, 77, 0, 0, 0, 5, 0, 3, 0xc0, 9, 0, 0, 0,
+                0x08, 0x00, 0x01, 0x00, 0x05, 0x01, 0x00, 0x00, 0x05, 0x00, 0x02, 0x00, 0x01, 0x00,
+                0x00, 0x00, 0x05, 0x00, 0x02, 0x00, 0xff, 0x00, 0x00, 0x00, 0x05, 0x00, 0x02, 0x00,
+                0x4d, 0x00, 0x00, 0x00, 0x05, 0x00, 0x03, 0xc0, 0x09, 0x00, 0x00, 0x00
             ]
         )
     );
 }
 
-/// Settings with two numbers.
+/// Two settings, without the rest of their record: the attribute as it is sent.
+const SHORT: [u8; 12] = [
+    0x0c, 0x00, 0x01, 0x00, 0x08, 0x00, 0x01, 0x00, 0x01, 0x00, 0x00, 0x00,
+];
+
+/// Settings with two numbers, the value of `SHORT`.
 fn two_settings() -> AfSpecInet {
     AfSpecInet::DevConf(InetDevConf {
         forwarding: 65544,
         mc_forwarding: 1,
         ..InetDevConf::default()
     })
+}
+
+/// How they are written.
+fn two_settings_text() -> [u8; SETTINGS] {
+    zeros_after(&[
+        0x8c, 0x00, 0x01, 0x00, 0x08, 0x00, 0x01, 0x00, 0x01, 0x00, 0x00, 0x00,
+    ])
+}
+
+/// How the list of a family with them is written.
+fn family_text() -> [u8; INET] {
+    zeros_after(&[
+        0x90, 0x00, 0x02, 0x00, 0x8c, 0x00, 0x01, 0x00, 0x08, 0x00, 0x01, 0x00, 0x01,
+    ])
 }
 
 #[test]
@@ -74,10 +111,16 @@ fn settings_of_ipv4(rt: HostRuntime) {
 #[test]
 fn flags_of_settings_of_ipv4(rt: HostRuntime) {
     let values = [two_settings()];
-    let text: [u8; SETTINGS] = zeros_after(&[0x8c, 0, 1, 0, 8, 0, 1, 0, 1, 0, 0, 0]);
-    for kind in [0, 0x80, 0x40, 0xc0] {
-        let bytes = [12, 0, 1, kind, 8, 0, 1, 0, 1, 0, 0, 0];
-        assert!(rt; means(rt.alloc(), &bytes, &values, &text));
+    let text = two_settings_text();
+    for (label, flags) in [
+        ("no flag", 0x00),
+        ("nested", 0x80),
+        ("network byte order", 0x40),
+        ("both flags", 0xc0),
+    ] {
+        let mut bytes = SHORT;
+        bytes[3] = flags;
+        assert!(rt; means(rt.alloc(), &bytes, &values, &text), "{label}");
     }
 }
 
@@ -85,17 +128,24 @@ fn flags_of_settings_of_ipv4(rt: HostRuntime) {
 fn short_settings_of_ipv4(rt: HostRuntime) {
     let alloc = rt.alloc();
     let none = AfSpecInet::DevConf(InetDevConf::default());
-    let text: [u8; SETTINGS] = zeros_after(&[0x8c, 0, 1, 0]);
-    assert!(rt; means(alloc, &[4, 0, 1, 0], &[none], &text));
+    let text: [u8; SETTINGS] = zeros_after(&[0x8c, 0x00, 0x01, 0x00]);
+    assert!(rt; means(alloc, &[0x04, 0x00, 0x01, 0x00], &[none], &text));
     let other = AfSpecInet::Other(kept(alloc, 2, &[]).expect(&rt, "memory"));
-    assert!(rt; means(alloc, &[4, 0, 2, 0], &[other], &[4, 0, 2, 0]));
+    assert!(rt;
+        means(
+            alloc,
+            &[0x04, 0x00, 0x02, 0x00],
+            &[other],
+            &[0x04, 0x00, 0x02, 0x00]
+        )
+    );
 }
 
 /// A record that is longer than its table means its beginning.
 #[test]
 fn long_settings_of_ipv4(rt: HostRuntime) {
     let mut bytes = [0xff; SETTINGS + 4];
-    let text: [u8; SETTINGS] = zeros_after(&[0x8c, 0, 1, 0, 8, 0, 1, 0, 1, 0, 0, 0]);
+    let text = two_settings_text();
     bytes[..SETTINGS].copy_from_slice(&text);
     bytes[0] = 0x90;
     assert!(rt; means(rt.alloc(), &bytes, &[two_settings()], &text));
@@ -117,9 +167,12 @@ fn settings_of_the_kernel(rt: HostRuntime) {
     assert!(rt; is_copied(rt.alloc(), &read[0], &conf));
 }
 
-/// A request is written as this value.
-fn asks(rt: &impl Abort, conf: InetDevConf, value: &[u8; 8]) {
-    assert!(rt; has_value(&AfSpecInet::DevConfRequest(conf), 0x8001, value));
+/// A request for what the label names is written as this value.
+fn asks(rt: &impl Abort, label: &str, conf: InetDevConf, value: &[u8; 8]) {
+    assert!(rt;
+        has_value(&AfSpecInet::DevConfRequest(conf), 0x8001, value),
+        "{label}"
+    );
 }
 
 #[test]
@@ -128,28 +181,53 @@ fn requests(rt: HostRuntime) {
         forwarding: 1,
         ..InetDevConf::default()
     };
-    asks(&rt, forwarding, &[8, 0, 1, 0, 1, 0, 0, 0]);
+    asks(
+        &rt,
+        "forwarding",
+        forwarding,
+        &[0x08, 0x00, 0x01, 0x00, 0x01, 0x00, 0x00, 0x00],
+    );
     let rp_filter = InetDevConf {
         rp_filter: 2,
         ..InetDevConf::default()
     };
-    asks(&rt, rp_filter, &[8, 0, 8, 0, 2, 0, 0, 0]);
+    asks(
+        &rt,
+        "rp_filter",
+        rp_filter,
+        &[0x08, 0x00, 0x08, 0x00, 0x02, 0x00, 0x00, 0x00],
+    );
     let arp_evict_nocarrier = InetDevConf {
         arp_evict_nocarrier: -1,
         ..InetDevConf::default()
     };
-    asks(&rt, arp_evict_nocarrier, &[8, 0, 33, 0, 255, 255, 255, 255]);
+    asks(
+        &rt,
+        "arp_evict_nocarrier",
+        arp_evict_nocarrier,
+        &[0x08, 0x00, 0x21, 0x00, 0xff, 0xff, 0xff, 0xff],
+    );
     let reserved = InetDevConf {
         reserved_34: 5,
         ..InetDevConf::default()
     };
-    asks(&rt, reserved, &[8, 0, 34, 0, 5, 0, 0, 0]);
+    asks(
+        &rt,
+        "reserved_34",
+        reserved,
+        &[0x08, 0x00, 0x22, 0x00, 0x05, 0x00, 0x00, 0x00],
+    );
 }
 
 #[test]
 fn written_requests(rt: HostRuntime) {
     let none = InetDevConf::default();
-    assert!(rt; writes(&[AfSpecInet::DevConfRequest(none)], &[4, 0, 1, 0x80]));
+    assert!(rt;
+        writes(
+            &[AfSpecInet::DevConfRequest(none)],
+            &[0x04, 0x00, 0x01, 0x80]
+        )
+    );
     let two = InetDevConf {
         forwarding: 1,
         rp_filter: 2,
@@ -159,33 +237,83 @@ fn written_requests(rt: HostRuntime) {
         writes(
             &[AfSpecInet::DevConfRequest(two)],
             &[
-                20, 0, 1, 0x80, 8, 0, 1, 0, 1, 0, 0, 0, 8, 0, 8, 0, 2, 0, 0, 0,
+                0x14, 0x00, 0x01, 0x80, 0x08, 0x00, 0x01, 0x00, 0x01, 0x00, 0x00, 0x00, 0x08, 0x00,
+                0x08, 0x00, 0x02, 0x00, 0x00, 0x00
             ]
         )
     );
 }
 
+/// What an attribute is, its number and length, and what it is refused for. Its payload is zeros.
+const REFUSED_SETTINGS: [(&str, u8, u8, Cause); 8] = [
+    (
+        "IFLA_INET6_FLAGS of 3 bytes",
+        0x01,
+        0x07,
+        Cause::WrongLength { got: 3, want: 4 },
+    ),
+    (
+        "IFLA_INET6_CACHEINFO of 15 bytes",
+        0x05,
+        0x13,
+        Cause::TooShort { got: 15, need: 16 },
+    ),
+    (
+        "IFLA_INET6_CACHEINFO of no bytes",
+        0x05,
+        0x04,
+        Cause::TooShort { got: 0, need: 16 },
+    ),
+    (
+        "IFLA_INET6_TOKEN of 15 bytes",
+        0x07,
+        0x13,
+        Cause::WrongLength { got: 15, want: 16 },
+    ),
+    (
+        "IFLA_INET6_TOKEN of 17 bytes",
+        0x07,
+        0x15,
+        Cause::WrongLength { got: 17, want: 16 },
+    ),
+    (
+        "IFLA_INET6_ADDR_GEN_MODE of no bytes",
+        0x08,
+        0x04,
+        Cause::WrongLength { got: 0, want: 1 },
+    ),
+    (
+        "IFLA_INET6_ADDR_GEN_MODE of 2 bytes",
+        0x08,
+        0x06,
+        Cause::WrongLength { got: 2, want: 1 },
+    ),
+    (
+        "IFLA_INET6_RA_MTU of 5 bytes",
+        0x09,
+        0x09,
+        Cause::WrongLength { got: 5, want: 4 },
+    ),
+];
+
 #[test]
 fn refused_settings_of_ipv6(rt: HostRuntime) {
     let alloc = rt.alloc();
     assert!(rt; refuses_bad_frames::<AfSpecInet6>(alloc));
-    for (number, len, cause) in [
-        (1, 7, Cause::WrongLength { got: 3, want: 4 }),
-        (5, 19, Cause::TooShort { got: 15, need: 16 }),
-        (5, 4, Cause::TooShort { got: 0, need: 16 }),
-        (7, 19, Cause::WrongLength { got: 15, want: 16 }),
-        (7, 21, Cause::WrongLength { got: 17, want: 16 }),
-        (8, 4, Cause::WrongLength { got: 0, want: 1 }),
-        (8, 6, Cause::WrongLength { got: 2, want: 1 }),
-        (9, 9, Cause::WrongLength { got: 5, want: 4 }),
-    ] {
+    for (label, number, len, cause) in REFUSED_SETTINGS {
         let mut bytes = [0; 24];
         bytes[0] = len;
         bytes[2] = number;
         assert!(rt; len < 24);
-        assert!(rt; refuses::<AfSpecInet6>(alloc, &bytes[..len as usize], cause));
+        assert!(rt;
+            refuses::<AfSpecInet6>(alloc, &bytes[..len as usize], cause),
+            "{label}"
+        );
         // a length below 4 after it is not come to
-        assert!(rt; refuses::<AfSpecInet6>(alloc, &bytes, cause));
+        assert!(rt;
+            refuses::<AfSpecInet6>(alloc, &bytes, cause),
+            "{label}, and a fault after it"
+        );
     }
 }
 
@@ -196,8 +324,9 @@ fn settings_of_ipv6(rt: HostRuntime) {
         means(
             alloc,
             &[
-                8, 0, 1, 0, 1, 0, 0, 0x80, 5, 0, 8, 0, 2, 0, 0, 0, 8, 0, 9, 0, 0xdc, 5, 0, 0, 5, 0,
-                4, 0, 1,
+                0x08, 0x00, 0x01, 0x00, 0x01, 0x00, 0x00, 0x80, 0x05, 0x00, 0x08, 0x00, 0x02, 0x00,
+                0x00, 0x00, 0x08, 0x00, 0x09, 0x00, 0xdc, 0x05, 0x00, 0x00, 0x05, 0x00, 0x04, 0x00,
+                0x01
             ],
             &[
                 AfSpecInet6::Flags(Inet6IfaceFlags::from_bits_retain(0x8000_0001)),
@@ -206,8 +335,9 @@ fn settings_of_ipv6(rt: HostRuntime) {
                 AfSpecInet6::Other(kept(alloc, 4, &[1]).expect(&rt, "memory")),
             ],
             &[
-                8, 0, 1, 0, 1, 0, 0, 0x80, 5, 0, 8, 0, 2, 0, 0, 0, 8, 0, 9, 0, 0xdc, 5, 0, 0, 5, 0,
-                4, 0, 1, 0, 0, 0,
+                0x08, 0x00, 0x01, 0x00, 0x01, 0x00, 0x00, 0x80, 0x05, 0x00, 0x08, 0x00, 0x02, 0x00,
+                0x00, 0x00, 0x08, 0x00, 0x09, 0x00, 0xdc, 0x05, 0x00, 0x00, 0x05, 0x00, 0x04, 0x00,
+                0x01, 0x00, 0x00, 0x00
             ]
         )
     );
@@ -217,7 +347,8 @@ fn settings_of_ipv6(rt: HostRuntime) {
 fn token_of_ipv6(rt: HostRuntime) {
     let token = AfSpecInet6::Token(Ipv6Addr::new(0x2001, 0xdb8, 0, 0, 0, 0, 0, 0x102));
     let bytes = [
-        20, 0, 7, 0, 0x20, 1, 0xd, 0xb8, 0, 0, 0, 0, 0, 0, 0, 0, 0, 0, 1, 2,
+        0x14, 0x00, 0x07, 0x00, 0x20, 0x01, 0x0d, 0xb8, 0x00, 0x00, 0x00, 0x00, 0x00, 0x00, 0x00,
+        0x00, 0x00, 0x00, 0x01, 0x02,
     ];
     assert!(rt; means(rt.alloc(), &bytes, &[token], &bytes));
 }
@@ -231,7 +362,8 @@ fn cache_info_of_ipv6(rt: HostRuntime) {
         retrans_time: -1,
     });
     let bytes = [
-        20, 0, 5, 0, 1, 0, 0, 0, 2, 0, 0, 0, 3, 0, 0, 0, 255, 255, 255, 255,
+        0x14, 0x00, 0x05, 0x00, 0x01, 0x00, 0x00, 0x00, 0x02, 0x00, 0x00, 0x00, 0x03, 0x00, 0x00,
+        0x00, 0xff, 0xff, 0xff, 0xff,
     ];
     assert!(rt; means(rt.alloc(), &bytes, &[info], &bytes));
 }
@@ -239,15 +371,15 @@ fn cache_info_of_ipv6(rt: HostRuntime) {
 #[test]
 fn records_of_ipv6(rt: HostRuntime) {
     let alloc = rt.alloc();
-    let text: [u8; INET6_SETTINGS] = zeros_after(&[244, 0, 2, 0]);
+    let text: [u8; INET6_SETTINGS] = zeros_after(&[0xf4, 0x00, 0x02, 0x00]);
     let conf = AfSpecInet6::DevConf(Inet6DevConf::default());
-    assert!(rt; means(alloc, &[4, 0, 2, 0], &[conf], &text));
-    let text: [u8; COUNTERS] = zeros_after(&[60, 1, 3, 0]);
+    assert!(rt; means(alloc, &[0x04, 0x00, 0x02, 0x00], &[conf], &text));
+    let text: [u8; COUNTERS] = zeros_after(&[0x3c, 0x01, 0x03, 0x00]);
     let stats = AfSpecInet6::Stats(Inet6Stats::default());
-    assert!(rt; means(alloc, &[4, 0, 3, 0], &[stats], &text));
-    let text: [u8; ICMP6_COUNTERS] = zeros_after(&[60, 0, 6, 0]);
+    assert!(rt; means(alloc, &[0x04, 0x00, 0x03, 0x00], &[stats], &text));
+    let text: [u8; ICMP6_COUNTERS] = zeros_after(&[0x3c, 0x00, 0x06, 0x00]);
     let stats = AfSpecInet6::Icmp6Stats(Icmp6Stats::default());
-    assert!(rt; means(alloc, &[4, 0, 6, 0], &[stats], &text));
+    assert!(rt; means(alloc, &[0x04, 0x00, 0x06, 0x00], &[stats], &text));
 }
 
 #[test]
@@ -256,18 +388,26 @@ fn half_a_record_of_ipv6(rt: HostRuntime) {
         num: 0x0201,
         ..Inet6Stats::default()
     });
-    let text: [u8; COUNTERS] = zeros_after(&[60, 1, 3, 0, 1, 2]);
-    assert!(rt; means(rt.alloc(), &[6, 0, 3, 0x80, 1, 2], &[stats], &text));
+    let text: [u8; COUNTERS] = zeros_after(&[0x3c, 0x01, 0x03, 0x00, 0x01, 0x02]);
+    assert!(rt;
+        means(
+            rt.alloc(),
+            &[0x06, 0x00, 0x03, 0x80, 0x01, 0x02],
+            &[stats],
+            &text
+        )
+    );
 }
 
 /// The list of a family is refused for each damaged frame in it.
-fn refuses_bad_members(rt: &impl Abort, alloc: Global, family: u8) {
+fn refuses_bad_members(rt: &impl Abort, alloc: Global, label: &str, family: u8) {
     for (members, cause) in BAD_FRAMES {
         assert!(rt; members.len() <= 12);
         let len = 4 + members.len() as u8;
-        let mut bytes = vec_from(alloc, &[len, 0, family, 0]).expect(rt, "memory");
+        let mut bytes = vec_from(alloc, &[len, 0x00, family, 0x00]).expect(rt, "memory");
         bytes.extend_from_slice(members).expect(rt, "memory");
-        assert!(rt; refuses::<AfSpecUnspec>(alloc, bytes.as_slice(), cause));
+        let is_refused = refuses::<AfSpecUnspec>(alloc, bytes.as_slice(), cause);
+        assert!(rt; is_refused, "{label}: {cause:?}");
     }
 }
 
@@ -275,15 +415,26 @@ fn refuses_bad_members(rt: &impl Abort, alloc: Global, family: u8) {
 fn refused_families(rt: HostRuntime) {
     let alloc = rt.alloc();
     assert!(rt; refuses_bad_frames::<AfSpecUnspec>(alloc));
-    for family in [2, 10, 45] {
-        assert!(rt; refuses::<AfSpecUnspec>(alloc, &[4, 0, family, 0], Cause::EmptyList));
-        assert!(rt; refuses::<AfSpecUnspec>(alloc, &[4, 0, family, 0x80], Cause::EmptyList));
-        let followed = [4, 0, family, 0, 3, 0, 2, 0];
-        assert!(rt; refuses::<AfSpecUnspec>(alloc, &followed, Cause::EmptyList));
-        refuses_bad_members(&rt, alloc, family);
+    let empty = Cause::EmptyList;
+    for (label, family) in [("AF_INET", 0x02), ("AF_INET6", 0x0a), ("AF_MCTP", 0x2d)] {
+        for flag in [0x00, 0x80] {
+            let bytes = [0x04, 0x00, family, flag];
+            assert!(rt;
+                refuses::<AfSpecUnspec>(alloc, &bytes, empty),
+                "{label}, flag {flag}"
+            );
+        }
+        let followed = [0x04, 0x00, family, 0x00, 0x03, 0x00, 0x02, 0x00];
+        assert!(rt;
+            refuses::<AfSpecUnspec>(alloc, &followed, empty),
+            "{label} and a fault"
+        );
+        refuses_bad_members(&rt, alloc, label, family);
     }
     let short = Cause::WrongLength { got: 0, want: 1 };
-    let second = [8, 0, 45, 0, 4, 0, 2, 0, 4, 0, 2, 0];
+    let second = [
+        0x08, 0x00, 0x2d, 0x00, 0x04, 0x00, 0x02, 0x00, 0x04, 0x00, 0x02, 0x00,
+    ];
     assert!(rt; refuses::<AfSpecUnspec>(alloc, &second, short));
 }
 
@@ -296,8 +447,9 @@ fn families(rt: HostRuntime) {
     let foreign = AfSpecMctp::Other(kept(alloc, 99, &[]).expect(&rt, "memory"));
     let others = Vec::from_array(alloc, [foreign]).expect(&rt, "memory");
     let bytes = [
-        12, 0, 10, 0, 8, 0, 9, 0, 0xdc, 5, 0, 0, 12, 0, 45, 0, 5, 0, 2, 0, 255, 0, 0, 0, 8, 0, 45,
-        0, 4, 0, 99, 0, 4, 0, 3, 0,
+        0x0c, 0x00, 0x0a, 0x00, 0x08, 0x00, 0x09, 0x00, 0xdc, 0x05, 0x00, 0x00, 0x0c, 0x00, 0x2d,
+        0x00, 0x05, 0x00, 0x02, 0x00, 0xff, 0x00, 0x00, 0x00, 0x08, 0x00, 0x2d, 0x00, 0x04, 0x00,
+        0x63, 0x00, 0x04, 0x00, 0x03, 0x00,
     ];
     assert!(rt;
         means(
@@ -319,9 +471,11 @@ fn family_of_ipv4(rt: HostRuntime) {
     let alloc = rt.alloc();
     let conf = Vec::from_array(alloc, [two_settings()]).expect(&rt, "memory");
     let inet = AfSpecUnspec::Inet(List::new(conf));
-    let bytes = [16, 0, 2, 0, 12, 0, 1, 0, 8, 0, 1, 0, 1, 0, 0, 0];
-    let text: [u8; INET] = zeros_after(&[0x90, 0, 2, 0, 0x8c, 0, 1, 0, 8, 0, 1, 0, 1, 0, 0, 0]);
-    assert!(rt; means(alloc, &bytes, &[inet], &text));
+    let bytes = [
+        0x10, 0x00, 0x02, 0x00, 0x0c, 0x00, 0x01, 0x00, 0x08, 0x00, 0x01, 0x00, 0x01, 0x00, 0x00,
+        0x00,
+    ];
+    assert!(rt; means(alloc, &bytes, &[inet], &family_text()));
 }
 
 /// A member of one request.
@@ -337,27 +491,44 @@ fn one_request(rt: &impl Abort, alloc: Global) -> AfSpecUnspec {
 #[test]
 fn requests_of_a_family(rt: HostRuntime) {
     let member = one_request(&rt, rt.alloc());
-    let bytes = [16, 0, 2, 0, 12, 0, 1, 0x80, 8, 0, 1, 0, 1, 0, 0, 0];
+    let bytes = [
+        0x10, 0x00, 0x02, 0x00, 0x0c, 0x00, 0x01, 0x80, 0x08, 0x00, 0x01, 0x00, 0x01, 0x00, 0x00,
+        0x00,
+    ];
     assert!(rt; writes(&[member], &bytes));
-    let text: [u8; INET] = zeros_after(&[0x90, 0, 2, 0, 0x8c, 0, 1, 0, 8, 0, 1, 0, 1, 0, 0, 0]);
-    assert!(rt; rewrites::<AfSpecUnspec>(&bytes, &text));
+    assert!(rt; rewrites::<AfSpecUnspec>(&bytes, &family_text()));
 }
 
 /// A list takes these values, one of kind 2 with both flags, and is refused where it is damaged.
-fn keeps<N: NlaRead + Exact + CloneIn>(rt: &impl Abort, alloc: Global, values: &[N]) {
-    assert!(rt; refuses_bad_frames::<N>(alloc));
-    let bytes = [5, 0, 2, 0xc0, 7];
-    let text = [5, 0, 2, 0xc0, 7, 0, 0, 0];
-    assert!(rt; means(alloc, &bytes, values, &text));
+fn keeps<N: NlaRead + Exact + CloneIn>(rt: &impl Abort, alloc: Global, label: &str, values: &[N]) {
+    assert!(rt; refuses_bad_frames::<N>(alloc), "{label}");
+    let bytes = [0x05, 0x00, 0x02, 0xc0, 0x07];
+    let text = [0x05, 0x00, 0x02, 0xc0, 0x07, 0x00, 0x00, 0x00];
+    assert!(rt; means(alloc, &bytes, values, &text), "{label}");
 }
 
 #[test]
 fn kept_members(rt: HostRuntime) {
     let alloc = rt.alloc();
     let member = kept(alloc, 2 | 0xc000, &[7]).expect(&rt, "memory");
-    keeps(&rt, alloc, &[AfSpecBridge::Other(member)]);
+    keeps(
+        &rt,
+        alloc,
+        "IFLA_AF_SPEC of AF_BRIDGE",
+        &[AfSpecBridge::Other(member)],
+    );
     let member = kept(alloc, 2 | 0xc000, &[7]).expect(&rt, "memory");
-    keeps(&rt, alloc, &[LinkProtoInfoBridge::Other(member)]);
+    keeps(
+        &rt,
+        alloc,
+        "IFLA_PROTINFO of AF_BRIDGE",
+        &[LinkProtoInfoBridge::Other(member)],
+    );
     let member = kept(alloc, 2 | 0xc000, &[7]).expect(&rt, "memory");
-    keeps(&rt, alloc, &[LinkProtoInfoInet6::Other(member)]);
+    keeps(
+        &rt,
+        alloc,
+        "IFLA_PROTINFO of AF_INET6",
+        &[LinkProtoInfoInet6::Other(member)],
+    );
 }

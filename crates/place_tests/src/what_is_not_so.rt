@@ -8,19 +8,23 @@ use link_vf::{VfPort, VfStats};
 use nla_wire::Cause;
 
 /// An attribute that is kept, with its padding.
-const TEXT: [u8; 8] = [5, 0, 99, 0x80, 1, 0, 0, 0];
+const TEXT: [u8; 8] = [0x05, 0x00, 0x63, 0x80, 0x01, 0x00, 0x00, 0x00];
 
 /// The same with another payload.
-const OTHER: [u8; 8] = [5, 0, 99, 0x80, 2, 0, 0, 0];
+const OTHER: [u8; 8] = [0x05, 0x00, 0x63, 0x80, 0x02, 0x00, 0x00, 0x00];
 
 #[test]
 fn bytes(rt: HostRuntime) {
     assert!(rt; equal(&TEXT, &TEXT));
     assert!(rt; !equal(&TEXT, &OTHER));
     assert!(rt; !equal(&TEXT, &TEXT[..5]));
-    assert!(rt; is_stored(1, &[1, 255], &[1]));
-    for (len, out) in [(2, [1, 255]), (1, [2, 255]), (1, [1, 0])] {
-        assert!(rt; !is_stored(len, &out, &[1]));
+    assert!(rt; is_stored(1, &[0x01, 0xff], &[1]));
+    for (label, len, out) in [
+        ("another length", 2, [0x01, 0xff]),
+        ("another byte", 1, [0x02, 0xff]),
+        ("another byte after it", 1, [0x01, 0x00]),
+    ] {
+        assert!(rt; !is_stored(len, &out, &[0x01]), "{label}");
     }
 }
 
@@ -28,8 +32,8 @@ fn bytes(rt: HostRuntime) {
 fn refusals(rt: HostRuntime) {
     let alloc = rt.alloc();
     let cause = Cause::FrameUnder { length: 3 };
-    assert!(rt; refuses::<VfPort>(alloc, &[3, 0, 1, 0], cause));
-    assert!(rt; !refuses::<VfPort>(alloc, &[2, 0, 1, 0], cause));
+    assert!(rt; refuses::<VfPort>(alloc, &[0x03, 0x00, 0x01, 0x00], cause));
+    assert!(rt; !refuses::<VfPort>(alloc, &[0x02, 0x00, 0x01, 0x00], cause));
     assert!(rt; !refuses::<VfPort>(alloc, &TEXT, cause));
 }
 
@@ -57,7 +61,25 @@ fn values(rt: HostRuntime) {
     assert!(rt; !are_told_apart(alloc, &[one, twin], &[]));
     assert!(rt; are_told_apart(alloc, &[other], &[]));
     let counter = VfStats::RxBytes(1);
-    assert!(rt; has_value(&counter, 2, &[1, 0, 0, 0, 0, 0, 0, 0]));
-    assert!(rt; !has_value(&counter, 1, &[1, 0, 0, 0, 0, 0, 0, 0]));
-    assert!(rt; !has_value(&counter, 2, &[0, 0, 0, 0, 0, 0, 0, 1]));
+    assert!(rt;
+        has_value(
+            &counter,
+            2,
+            &[0x01, 0x00, 0x00, 0x00, 0x00, 0x00, 0x00, 0x00]
+        )
+    );
+    assert!(rt;
+        !has_value(
+            &counter,
+            1,
+            &[0x01, 0x00, 0x00, 0x00, 0x00, 0x00, 0x00, 0x00]
+        )
+    );
+    assert!(rt;
+        !has_value(
+            &counter,
+            2,
+            &[0x00, 0x00, 0x00, 0x00, 0x00, 0x00, 0x00, 0x01]
+        )
+    );
 }

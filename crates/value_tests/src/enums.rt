@@ -1,7 +1,7 @@
 //! Enums by their numbers and texts, extent masks and physical ids.
 
 use crate::testing::{is_same, means, prints, refuses};
-use expected::{equal, zeros_after};
+use expected::{cause_of, equal, zeros_after};
 use link_vals::*;
 use nla_wire::Cause;
 use nla_wire::exact::same;
@@ -34,12 +34,12 @@ fn numbers_of_attachments(rt: HostRuntime) {
         (4, XdpAttached::Multiple),
         (5, XdpAttached::Other(5)),
     ] {
-        is_same(
-            &rt,
-            &XdpAttached::try_from(number).expect(&rt, "memory"),
-            &attached,
+        let read = XdpAttached::try_from(number).expect(&rt, "it is read");
+        assert!(rt; read == attached, "read from {number}");
+        assert!(rt;
+            u8::from(attached) == number,
+            "written from that of {number}"
         );
-        assert!(rt; u8::from(attached) == number);
     }
 }
 
@@ -87,14 +87,14 @@ fn numbers_of_events(rt: HostRuntime) {
 
 #[test]
 fn payloads_of_events(rt: HostRuntime) {
-    let event = LinkEvent::parse(&[5, 0, 0, 0]).expect(&rt, "it is read");
+    let event = LinkEvent::parse(&[0x05, 0x00, 0x00, 0x00]).expect(&rt, "it is read");
     assert!(rt; event == LinkEvent::IgmpResend);
     assert!(rt; event.buffer_len() == 4);
     let mut buffer = [255; 6];
     event.emit(&mut buffer);
-    assert!(rt; equal(&buffer, &[5, 0, 0, 0, 255, 255]));
+    assert!(rt; equal(&buffer, &[0x05, 0x00, 0x00, 0x00, 0xff, 0xff]));
     let short = Cause::WrongLength { got: 2, want: 4 };
-    refuses(&rt, LinkEvent::parse(&[5, 0]), short);
+    refuses(&rt, LinkEvent::parse(&[0x05, 0x00]), short);
 }
 
 /// Numbers, the layer types that they mean, and their texts: `ARPHRD_..` of linux/if_arp.h.
@@ -254,7 +254,8 @@ fn names_of_states(rt: HostRuntime) {
         ("dormant", State::Dormant),
         ("uP", State::Up),
     ] {
-        is_same(&rt, &State::from_str(text).expect(&rt, "memory"), &state);
+        let read = State::from_str(text).expect(&rt, "it is a name");
+        assert!(rt; read == state, "{text}");
     }
 }
 
@@ -262,7 +263,8 @@ fn names_of_states(rt: HostRuntime) {
 #[test]
 fn names_of_no_states(rt: HostRuntime) {
     for text in ["7", "", "UP ", "lower", "UN\u{212a}NOWN", "TE\u{17f}TING"] {
-        refuses(&rt, State::from_str(text), Cause::InvalidState);
+        let cause = cause_of(State::from_str(text));
+        assert_eq!(rt; cause, Some(Cause::InvalidState), "{text:?}");
     }
 }
 
@@ -370,12 +372,12 @@ fn physical_ids(rt: HostRuntime) {
 
 #[test]
 fn short_physical_ids(rt: HostRuntime) {
-    let short = LinkPhysId::parse(&[1, 2]).expect(&rt, "it is read");
+    let short = LinkPhysId::parse(&[0x01, 0x02]).expect(&rt, "it is read");
     assert!(rt; short.len == 2);
     assert!(rt; short.buffer_len() == 2);
-    let id: [u8; 32] = zeros_after(&[1, 2]);
+    let id: [u8; 32] = zeros_after(&[0x01, 0x02]);
     assert!(rt; equal(&short.id, &id));
     let mut buffer = [255; 4];
     short.emit(&mut buffer);
-    assert!(rt; equal(&buffer, &[1, 2, 255, 255]));
+    assert!(rt; equal(&buffer, &[0x01, 0x02, 0xff, 0xff]));
 }

@@ -81,7 +81,18 @@ macro_rules! made {
 fn operators(rt: HostRuntime) {
     let one = LinkFlags::Up | LinkFlags::Debug;
     let other = LinkFlags::Debug | LinkFlags::Loopback;
-    let wanted = [4, 9, 1, 13, 0xffff_fffa, 4, 9, 1, 13, 0xffff_fffa];
+    let wanted = [
+        0x4,
+        0x9,
+        0x1,
+        0xd,
+        0xffff_fffa,
+        0x4,
+        0x9,
+        0x1,
+        0xd,
+        0xffff_fffa,
+    ];
     is_same(&rt, &combined!(one, other), &wanted);
     let one = Inet6IfaceFlags::Otherconf | Inet6IfaceFlags::Ready;
     let other = Inet6IfaceFlags::Ready | Inet6IfaceFlags::RsSent;
@@ -164,7 +175,7 @@ fn link_flag_texts(rt: HostRuntime) {
         ),
     ] {
         let flags = LinkFlags::from_bits_retain(bits);
-        assert!(rt; flags.bits() == bits);
+        assert!(rt; flags.bits() == bits, "{text}");
         prints(&rt, rt.alloc(), &flags, text);
     }
 }
@@ -195,9 +206,9 @@ const LINK_FLAGS: &[(LinkFlags, &str, u32)] = &[
 #[test]
 fn link_flag_numbers(rt: HostRuntime) {
     for (flag, name, bits) in LINK_FLAGS {
-        assert!(rt; flag.bits() == *bits);
-        is_same(&rt, &LinkFlags::from_bits_retain(*bits), flag);
-        is_same(&rt, &LinkFlags::from_name(name), &Some(*flag));
+        assert!(rt; flag.bits() == *bits, "{name}");
+        assert!(rt; LinkFlags::from_bits_retain(*bits) == *flag, "{name}");
+        assert!(rt; LinkFlags::from_name(name) == Some(*flag), "{name}");
         prints(&rt, rt.alloc(), flag, name);
     }
 }
@@ -207,7 +218,7 @@ fn names_of_no_link_flags(rt: HostRuntime) {
     for name in [
         "", "up", "UP", "uP", "Up ", "echo", "ECHO", "lowerUp", "Lowerup", "LOWERUP", "IFF_UP",
     ] {
-        is_same(&rt, &LinkFlags::from_name(name), &None);
+        assert!(rt; LinkFlags::from_name(name).is_none(), "{name:?}");
     }
 }
 
@@ -230,9 +241,9 @@ fn interface_flag_names(rt: HostRuntime) {
         (Inet6IfaceFlags::RsSent, "RsSent", 0x10),
         (Inet6IfaceFlags::Ready, "Ready", 0x8000_0000),
     ] {
-        assert!(rt; flag.bits() == bits);
-        is_same(&rt, &Inet6IfaceFlags::from_bits_retain(bits), &flag);
-        is_same(&rt, &Inet6IfaceFlags::from_name(name), &Some(flag));
+        assert!(rt; flag.bits() == bits, "{name}");
+        assert!(rt; Inet6IfaceFlags::from_bits_retain(bits) == flag, "{name}");
+        assert!(rt; Inet6IfaceFlags::from_name(name) == Some(flag), "{name}");
     }
 }
 
@@ -249,6 +260,6 @@ fn names_of_no_interface_flags(rt: HostRuntime) {
         "RARCVD",
         "Rssent",
     ] {
-        is_same(&rt, &Inet6IfaceFlags::from_name(name), &None);
+        assert!(rt; Inet6IfaceFlags::from_name(name).is_none(), "{name:?}");
     }
 }

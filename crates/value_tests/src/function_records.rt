@@ -6,7 +6,9 @@ use link_vals::{VfLinkState, VlanProtocol};
 use link_vfrec::*;
 
 /// Three numbers.
-const NUMBERS: [u8; 12] = [1, 0, 0, 0, 0xff, 0x0f, 0, 0, 7, 0, 0, 128];
+const NUMBERS: [u8; 12] = [
+    0x01, 0x00, 0x00, 0x00, 0xff, 0x0f, 0x00, 0x00, 0x07, 0x00, 0x00, 0x80,
+];
 
 /// Offsets of `struct ifla_vf_vlan`, linux/if_link.h.
 #[test]
@@ -30,8 +32,14 @@ fn rates_stand_at_their_offsets(rt: HostRuntime) {
 /// Offsets of `struct ifla_vf_guid`, linux/if_link.h.
 #[test]
 fn guids_stand_at_their_offsets(rt: HostRuntime) {
-    let bytes = [2, 0, 0, 0, 255, 255, 255, 255, 1, 0, 0, 0, 0, 0, 0, 0];
-    let text = [2, 0, 0, 0, 0, 0, 0, 0, 1, 0, 0, 0, 0, 0, 0, 0];
+    let bytes = [
+        0x02, 0x00, 0x00, 0x00, 0xff, 0xff, 0xff, 0xff, 0x01, 0x00, 0x00, 0x00, 0x00, 0x00, 0x00,
+        0x00,
+    ];
+    let text = [
+        0x02, 0x00, 0x00, 0x00, 0x00, 0x00, 0x00, 0x00, 0x01, 0x00, 0x00, 0x00, 0x00, 0x00, 0x00,
+        0x00,
+    ];
     let guid = VfInfoGuid::new(2, 1);
     is_read(&rt, VfInfoGuid::parse(&bytes), &guid);
     assert!(rt; equal(VfInfoGuidBuffer::from(&guid).as_bytes(), &text));
@@ -41,8 +49,8 @@ fn guids_stand_at_their_offsets(rt: HostRuntime) {
 #[test]
 fn addresses_are_filled(rt: HostRuntime) {
     let mut text = [0; 36];
-    text[..10].copy_from_slice(&[3, 0, 0, 0, 2, 0, 0, 0, 0, 9]);
-    let mac = VfInfoMac::new(3, &[2, 0, 0, 0, 0, 9]);
+    text[..10].copy_from_slice(&[0x03, 0x00, 0x00, 0x00, 0x02, 0x00, 0x00, 0x00, 0x00, 0x09]);
+    let mac = VfInfoMac::new(3, &[0x02, 0x00, 0x00, 0x00, 0x00, 0x09]);
     assert!(rt; equal(&mac.mac, &text[4..]));
     let mut bytes = [0; 36];
     mac.emit(&mut bytes);
@@ -64,21 +72,30 @@ fn addresses_are_cut(rt: HostRuntime) {
 /// bits are off.
 #[test]
 fn settings_are_on_or_off(rt: HostRuntime) {
-    for (bytes, enabled) in [
-        ([1, 0, 0, 0, 0, 0, 0, 0], false),
-        ([1, 0, 0, 0, 1, 0, 0, 0], true),
-        ([1, 0, 0, 0, 2, 0, 0, 0], true),
-        ([1, 0, 0, 0, 254, 255, 255, 255], true),
-        ([1, 0, 0, 0, 255, 255, 255, 255], false),
+    for (label, bytes, enabled) in [
+        ("0", [0x01, 0x00, 0x00, 0x00, 0x00, 0x00, 0x00, 0x00], false),
+        ("1", [0x01, 0x00, 0x00, 0x00, 0x01, 0x00, 0x00, 0x00], true),
+        ("2", [0x01, 0x00, 0x00, 0x00, 0x02, 0x00, 0x00, 0x00], true),
+        ("-2", [0x01, 0x00, 0x00, 0x00, 0xfe, 0xff, 0xff, 0xff], true),
+        (
+            "-1",
+            [0x01, 0x00, 0x00, 0x00, 0xff, 0xff, 0xff, 0xff],
+            false,
+        ),
     ] {
         let trust = VfInfoTrust::new(1, enabled);
-        is_read(&rt, VfInfoTrust::parse(&bytes), &trust);
+        let read = VfInfoTrust::parse(&bytes).expect(&rt, "it is read");
+        assert!(rt; read == trust, "{label}");
         let check = VfInfoSpoofCheck::new(1, enabled);
-        is_read(&rt, VfInfoSpoofCheck::parse(&bytes), &check);
+        let read = VfInfoSpoofCheck::parse(&bytes).expect(&rt, "it is read");
+        assert!(rt; read == check, "{label}");
         let query = VfInfoRssQueryEn::new(1, enabled);
-        is_read(&rt, VfInfoRssQueryEn::parse(&bytes), &query);
-        let text = [1, 0, 0, 0, u8::from(enabled), 0, 0, 0];
-        assert!(rt; equal(VfInfoTrustBuffer::from(&trust).as_bytes(), &text));
+        let read = VfInfoRssQueryEn::parse(&bytes).expect(&rt, "it is read");
+        assert!(rt; read == query, "{label}");
+        let mut text = [0x01, 0x00, 0x00, 0x00, 0x00, 0x00, 0x00, 0x00];
+        text[4] = u8::from(enabled);
+        let buffer = VfInfoTrustBuffer::from(&trust);
+        assert!(rt; equal(buffer.as_bytes(), &text), "{label}");
     }
 }
 
@@ -90,10 +107,12 @@ fn states_go_through_their_table(rt: HostRuntime) {
         (2, VfLinkState::Disable),
         (7, VfLinkState::Other(7)),
     ] {
-        let bytes = [4, 0, 0, 0, number, 0, 0, 0];
+        let bytes = [0x04, 0x00, 0x00, 0x00, number, 0x00, 0x00, 0x00];
         let link = VfInfoLinkState::new(4, state);
-        is_read(&rt, VfInfoLinkState::parse(&bytes), &link);
-        assert!(rt; equal(VfInfoLinkStateBuffer::from(&link).as_bytes(), &bytes));
+        let read = VfInfoLinkState::parse(&bytes).expect(&rt, "it is read");
+        assert!(rt; read == link, "{number}");
+        let buffer = VfInfoLinkStateBuffer::from(&link);
+        assert!(rt; equal(buffer.as_bytes(), &bytes), "{number}");
     }
     let auto = VfInfoLinkState::new(0, VfLinkState::Auto);
     is_same(&rt, &VfInfoLinkState::default(), &auto);
@@ -102,20 +121,42 @@ fn states_go_through_their_table(rt: HostRuntime) {
 /// `struct ifla_vf_vlan_info`, linux/if_link.h: the protocol has its highest byte first.
 #[test]
 fn protocols_are_in_network_order(rt: HostRuntime) {
-    for (number, protocol, written) in [
-        ([0x88, 0xa8], VlanProtocol::Ieee8021Ad, [0x88, 0xa8]),
-        ([0x81, 0x00], VlanProtocol::Ieee8021Q, [0x81, 0x00]),
-        ([0xa8, 0x88], VlanProtocol::Ieee8021Q, [0x81, 0x00]),
+    for (label, number, protocol, written) in [
+        (
+            "802.1ad",
+            [0x88, 0xa8],
+            VlanProtocol::Ieee8021Ad,
+            [0x88, 0xa8],
+        ),
+        (
+            "802.1Q",
+            [0x81, 0x00],
+            VlanProtocol::Ieee8021Q,
+            [0x81, 0x00],
+        ),
+        (
+            "another",
+            [0xa8, 0x88],
+            VlanProtocol::Ieee8021Q,
+            [0x81, 0x00],
+        ),
     ] {
         let [high, low] = number;
-        let bytes = [1, 0, 0, 0, 100, 0, 0, 0, 5, 0, 0, 0, high, low, 0x12, 0x34];
+        let bytes = [
+            0x01, 0x00, 0x00, 0x00, 0x64, 0x00, 0x00, 0x00, 0x05, 0x00, 0x00, 0x00, high, low,
+            0x12, 0x34,
+        ];
         let info = VfVlanInfo::new(1, 100, 5, protocol);
-        is_read(&rt, VfVlanInfo::parse(&bytes), &info);
+        let read = VfVlanInfo::parse(&bytes).expect(&rt, "it is read");
+        assert!(rt; read == info, "{label}");
         let [high, low] = written;
         let mut buffer = [9; 16];
         info.emit(&mut buffer);
-        let text = [1, 0, 0, 0, 100, 0, 0, 0, 5, 0, 0, 0, high, low, 0, 0];
-        assert!(rt; equal(&buffer, &text));
+        let text = [
+            0x01, 0x00, 0x00, 0x00, 0x64, 0x00, 0x00, 0x00, 0x05, 0x00, 0x00, 0x00, high, low,
+            0x00, 0x00,
+        ];
+        assert!(rt; equal(&buffer, &text), "{label}");
     }
     let zeros = VfVlanInfo::new(0, 0, 0, VlanProtocol::Ieee8021Q);
     is_same(&rt, &VfVlanInfo::default(), &zeros);
@@ -124,16 +165,19 @@ fn protocols_are_in_network_order(rt: HostRuntime) {
 /// The two bytes after the protocol are not read, and written as zeros.
 #[test]
 fn padding_of_a_vlan_is_not_read(rt: HostRuntime) {
-    let text = [7, 0, 0, 0, 1, 2, 0, 0, 3, 0, 0, 0, 0x88, 0xa8, 0, 0];
+    let text = [
+        0x07, 0x00, 0x00, 0x00, 0x01, 0x02, 0x00, 0x00, 0x03, 0x00, 0x00, 0x00, 0x88, 0xa8, 0x00,
+        0x00,
+    ];
     let info = VfVlanInfo::new(7, 513, 3, VlanProtocol::Ieee8021Ad);
     for (first, second) in [(0, 0), (1, 0), (0, 1), (255, 255)] {
         let mut bytes = text;
         bytes[14] = first;
         bytes[15] = second;
         let read = VfVlanInfo::parse(&bytes).expect(&rt, "it is read");
-        is_same(&rt, &read, &info);
+        assert!(rt; read == info, "{first} and {second}");
         read.emit(&mut bytes);
-        assert!(rt; equal(&bytes, &text));
+        assert!(rt; equal(&bytes, &text), "{first} and {second}");
     }
 }
 

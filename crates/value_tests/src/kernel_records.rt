@@ -163,7 +163,10 @@ fn maps_stand_at_their_offsets(rt: HostRuntime) {
 /// Offsets of `struct ifla_cacheinfo`, linux/if_link.h.
 #[test]
 fn times_stand_at_their_offsets(rt: HostRuntime) {
-    let bytes = [1, 0, 0, 0, 2, 0, 0, 0, 3, 0, 0, 0, 4, 0, 0, 0];
+    let bytes = [
+        0x01, 0x00, 0x00, 0x00, 0x02, 0x00, 0x00, 0x00, 0x03, 0x00, 0x00, 0x00, 0x04, 0x00, 0x00,
+        0x00,
+    ];
     let times = Inet6CacheInfo {
         max_reasm_len: 1,
         tstamp: 2,
@@ -180,14 +183,18 @@ fn short_statistics_are_filled_up(rt: HostRuntime) {
         rx_packets: 197121,
         ..Stats::default()
     };
-    is_read(&rt, Stats::parse(&[1, 2, 3]), &stats);
+    is_read(&rt, Stats::parse(&[0x01, 0x02, 0x03]), &stats);
     is_read(&rt, Stats::parse(&[]), &Stats::default());
     is_read(&rt, Stats::parse(&[0; 95]), &Stats::default());
     let stats = Stats64 {
         rx_packets: 5,
         ..Stats64::default()
     };
-    is_read(&rt, Stats64::parse(&[5, 0, 0, 0, 0, 0, 0, 0]), &stats);
+    is_read(
+        &rt,
+        Stats64::parse(&[0x05, 0x00, 0x00, 0x00, 0x00, 0x00, 0x00, 0x00]),
+        &stats,
+    );
 }
 
 #[test]
@@ -197,7 +204,7 @@ fn short_settings_are_filled_up(rt: HostRuntime) {
         mc_forwarding: 1,
         ..InetDevConf::default()
     };
-    let read = InetDevConf::read_padded(&[8, 0, 1, 0, 1, 0, 0, 0]);
+    let read = InetDevConf::read_padded(&[0x08, 0x00, 0x01, 0x00, 0x01, 0x00, 0x00, 0x00]);
     is_same(&rt, &read, &conf);
 }
 

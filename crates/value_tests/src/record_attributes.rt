@@ -39,12 +39,27 @@ fn filled_records_are_measured(rt: HostRuntime) {
     let zeros = [0; 320];
     for len in [0, 1, 55, 56, 95, 96, 135, 136, 199, 200, 240, 311, 312, 320] {
         let payload = &zeros[..len];
-        assert!(rt; Stats::measure_filled(payload) == Some(96));
-        assert!(rt; Stats64::measure_filled(payload) == Some(200));
-        assert!(rt; InetDevConf::measure_filled(payload) == Some(136));
-        assert!(rt; Inet6DevConf::measure_filled(payload) == Some(240));
-        assert!(rt; Inet6Stats::measure_filled(payload) == Some(312));
-        assert!(rt; Icmp6Stats::measure_filled(payload) == Some(56));
+        assert!(rt; Stats::measure_filled(payload) == Some(96), "{len} bytes");
+        assert!(rt;
+            Stats64::measure_filled(payload) == Some(200),
+            "{len} bytes"
+        );
+        assert!(rt;
+            InetDevConf::measure_filled(payload) == Some(136),
+            "{len} bytes"
+        );
+        assert!(rt;
+            Inet6DevConf::measure_filled(payload) == Some(240),
+            "{len} bytes"
+        );
+        assert!(rt;
+            Inet6Stats::measure_filled(payload) == Some(312),
+            "{len} bytes"
+        );
+        assert!(rt;
+            Icmp6Stats::measure_filled(payload) == Some(56),
+            "{len} bytes"
+        );
     }
 }
 
@@ -52,10 +67,21 @@ fn filled_records_are_measured(rt: HostRuntime) {
 fn records_are_written_as_attributes(rt: HostRuntime) {
     let mut out = [255; 13];
     let len = VfInfoTrust::new(1, true).write_attribute(9, &mut out);
-    assert!(rt; is_stored(len, &out, &[12, 0, 9, 0, 1, 0, 0, 0, 1, 0, 0, 0]));
+    assert!(rt;
+        is_stored(
+            len,
+            &out,
+            &[
+                0x0c, 0x00, 0x09, 0x00, 0x01, 0x00, 0x00, 0x00, 0x01, 0x00, 0x00, 0x00
+            ]
+        )
+    );
     let mut out = [255; 21];
     let len = VfInfoGuid::new(2, 0x0200_0000_0000_0001).write_attribute(10, &mut out);
-    let text = [20, 0, 10, 0, 2, 0, 0, 0, 0, 0, 0, 0, 1, 0, 0, 0, 0, 0, 0, 2];
+    let text = [
+        0x14, 0x00, 0x0a, 0x00, 0x02, 0x00, 0x00, 0x00, 0x00, 0x00, 0x00, 0x00, 0x01, 0x00, 0x00,
+        0x00, 0x00, 0x00, 0x00, 0x02,
+    ];
     assert!(rt; is_stored(len, &out, &text));
     let times = Inet6CacheInfo {
         max_reasm_len: 65535,
@@ -66,7 +92,8 @@ fn records_are_written_as_attributes(rt: HostRuntime) {
     let mut out = [255; 21];
     let len = times.write_attribute(0x4005, &mut out);
     let text = [
-        20, 0, 5, 0x40, 255, 255, 0, 0, 1, 0, 0, 0, 254, 255, 255, 255, 0xe8, 3, 0, 0,
+        0x14, 0x00, 0x05, 0x40, 0xff, 0xff, 0x00, 0x00, 0x01, 0x00, 0x00, 0x00, 0xfe, 0xff, 0xff,
+        0xff, 0xe8, 0x03, 0x00, 0x00,
     ];
     assert!(rt; is_stored(len, &out, &text));
 }
@@ -76,7 +103,7 @@ fn records_are_written_as_attributes(rt: HostRuntime) {
 fn addresses_and_maps_are_written_as_attributes(rt: HostRuntime) {
     let mut out = [255; 41];
     let mut text = [0; 40];
-    text[..9].copy_from_slice(&[40, 0, 1, 0, 3, 0, 0, 0, 0x52]);
+    text[..9].copy_from_slice(&[0x28, 0x00, 0x01, 0x00, 0x03, 0x00, 0x00, 0x00, 0x52]);
     let len = VfInfoMac::new(3, &[0x52]).write_attribute(1, &mut out);
     assert!(rt; is_stored(len, &out, &text));
     let map = Map {
@@ -86,7 +113,7 @@ fn addresses_and_maps_are_written_as_attributes(rt: HostRuntime) {
     };
     let mut out = [255; 37];
     let mut text = [0; 36];
-    text[..6].copy_from_slice(&[36, 0, 14, 0, 2, 1]);
+    text[..6].copy_from_slice(&[0x24, 0x00, 0x0e, 0x00, 0x02, 0x01]);
     text[31] = 3;
     let len = map.write_attribute(14, &mut out);
     assert!(rt; is_stored(len, &out, &text));
@@ -97,24 +124,40 @@ fn addresses_and_maps_are_written_as_attributes(rt: HostRuntime) {
 #[tactic(auto, unfolding(nla_wire::specs::Payloads::read_sized))]
 fn payloads_are_written_as_what_they_mean(rt: HostRuntime) {
     let mut out = [255; 13];
-    let trust = [1, 0, 0, 0, 2, 0, 0, 0, 7];
+    let trust = [0x01, 0x00, 0x00, 0x00, 0x02, 0x00, 0x00, 0x00, 0x07];
     assert!(rt; VfInfoTrust::measure_sized(&trust) == Some(8));
     let len = VfInfoTrust::write_sized(9, &trust, &mut out);
-    assert!(rt; is_stored(len, &out, &[12, 0, 9, 0, 1, 0, 0, 0, 1, 0, 0, 0]));
+    assert!(rt;
+        is_stored(
+            len,
+            &out,
+            &[
+                0x0c, 0x00, 0x09, 0x00, 0x01, 0x00, 0x00, 0x00, 0x01, 0x00, 0x00, 0x00
+            ]
+        )
+    );
     let mut out = [255; 21];
-    let guid = [2, 0, 0, 0, 255, 255, 255, 255, 1, 0, 0, 0, 0, 0, 0, 0];
+    let guid = [
+        0x02, 0x00, 0x00, 0x00, 0xff, 0xff, 0xff, 0xff, 0x01, 0x00, 0x00, 0x00, 0x00, 0x00, 0x00,
+        0x00,
+    ];
     assert!(rt; VfInfoGuid::measure_sized(&guid) == Some(16));
     let len = VfInfoGuid::write_sized(10, &guid, &mut out);
-    let text = [20, 0, 10, 0, 2, 0, 0, 0, 0, 0, 0, 0, 1, 0, 0, 0, 0, 0, 0, 0];
+    let text = [
+        0x14, 0x00, 0x0a, 0x00, 0x02, 0x00, 0x00, 0x00, 0x00, 0x00, 0x00, 0x00, 0x01, 0x00, 0x00,
+        0x00, 0x00, 0x00, 0x00, 0x00,
+    ];
     assert!(rt; is_stored(len, &out, &text));
     let mut out = [255; 21];
     let vlan = [
-        1, 0, 0, 0, 100, 0, 0, 0, 0, 0, 0, 0, 0x88, 0xa8, 0x12, 0x34, 9,
+        0x01, 0x00, 0x00, 0x00, 0x64, 0x00, 0x00, 0x00, 0x00, 0x00, 0x00, 0x00, 0x88, 0xa8, 0x12,
+        0x34, 0x09,
     ];
     assert!(rt; VfVlanInfo::measure_sized(&vlan) == Some(16));
     let len = VfVlanInfo::write_sized(1, &vlan, &mut out);
     let text = [
-        20, 0, 1, 0, 1, 0, 0, 0, 100, 0, 0, 0, 0, 0, 0, 0, 0x88, 0xa8, 0, 0,
+        0x14, 0x00, 0x01, 0x00, 0x01, 0x00, 0x00, 0x00, 0x64, 0x00, 0x00, 0x00, 0x00, 0x00, 0x00,
+        0x00, 0x88, 0xa8, 0x00, 0x00,
     ];
     assert!(rt; is_stored(len, &out, &text));
 }
@@ -122,15 +165,19 @@ fn payloads_are_written_as_what_they_mean(rt: HostRuntime) {
 /// A payload of the counters of ICMPv6 is cut to them, or filled up with zeros.
 #[test]
 fn counters_are_cut_or_filled_up(rt: HostRuntime) {
-    for bytes in [[7; 60].as_slice(), [7; 56].as_slice(), [7; 5].as_slice()] {
+    for (label, bytes) in [
+        ("60 bytes", [7; 60].as_slice()),
+        ("56 bytes", &[7; 56]),
+        ("5 bytes", &[7; 5]),
+    ] {
         let mut text = [0; 60];
-        text[..4].copy_from_slice(&[60, 0, 6, 0]);
+        text[..4].copy_from_slice(&[0x3c, 0x00, 0x06, 0x00]);
         for (place, byte) in text.iter_mut().skip(4).zip(bytes) {
             *place = *byte;
         }
-        assert!(rt; Icmp6Stats::measure_filled(bytes) == Some(56));
+        assert!(rt; Icmp6Stats::measure_filled(bytes) == Some(56), "{label}");
         let mut out = [255; 61];
         let len = Icmp6Stats::write_filled(6, bytes, &mut out);
-        assert!(rt; is_stored(len, &out, &text));
+        assert!(rt; is_stored(len, &out, &text), "{label}");
     }
 }

@@ -9,7 +9,10 @@ use std::process::Abort;
 
 #[test]
 fn keeps_attributes(rt: HostRuntime) {
-    let frame = NlaBuffer::new_checked(&[6, 0, 0x2a, 0xc0, 0xde, 0xad]).expect(&rt, "it is read");
+    let frame = NlaBuffer::new_checked(&[0x06, 0x00, 0x2a, 0xc0, 0xde, 0xad]).expect(
+        &rt,
+        "it is read",
+    );
     let parsed = DefaultNla::parse(rt.alloc(), &frame).expect(&rt, "it is read");
     assert!(rt; parsed.kind() == 0xc02a);
     assert!(rt; equal(parsed.value(), &[0xde, 0xad]));
@@ -24,10 +27,20 @@ fn writes_attributes(rt: HostRuntime) {
     assert!(rt; made.buffer_len() == 8);
     let mut out = [255; 9];
     made.emit(&mut out);
-    assert!(rt; equal(&out, &[6, 0, 0x2a, 0xc0, 0xde, 0xad, 0, 0, 255]));
+    assert!(rt;
+        equal(
+            &out,
+            &[0x06, 0x00, 0x2a, 0xc0, 0xde, 0xad, 0x00, 0x00, 0xff]
+        )
+    );
     let mut out = [255; 9];
     assert!(rt; made.fill(&mut out) == 1);
-    assert!(rt; equal(&out, &[255, 6, 0, 0x2a, 0xc0, 0xde, 0xad, 0, 0]));
+    assert!(rt;
+        equal(
+            &out,
+            &[0xff, 0x06, 0x00, 0x2a, 0xc0, 0xde, 0xad, 0x00, 0x00]
+        )
+    );
 }
 
 #[test]
@@ -37,7 +50,7 @@ fn writes_values_alone(rt: HostRuntime) {
     assert!(rt; made.value_len() == 2);
     let mut out = [255; 3];
     assert!(rt; made.fill_value(&mut out) == 1);
-    assert!(rt; equal(&out, &[255, 0x6c, 0x6f]));
+    assert!(rt; equal(&out, &[0xff, 0x6c, 0x6f]));
     let mut exact = [255; 2];
     made.emit_value(&mut exact);
     assert!(rt; equal(&exact, &[0x6c, 0x6f]));
@@ -58,7 +71,14 @@ fn writes_slices(rt: HostRuntime) {
     assert!(rt; nlas_buffer_len(&nlas) == 12);
     let mut out = [255; 13];
     emit_nlas(&nlas, &mut out);
-    assert!(rt; equal(&out, &[5, 0, 1, 0, 7, 0, 0, 0, 4, 0, 2, 0x80, 255]));
+    assert!(rt;
+        equal(
+            &out,
+            &[
+                0x05, 0x00, 0x01, 0x00, 0x07, 0x00, 0x00, 0x00, 0x04, 0x00, 0x02, 0x80, 0xff
+            ]
+        )
+    );
 }
 
 #[test]
@@ -68,7 +88,14 @@ fn fills_slices(rt: HostRuntime) {
     assert!(rt; nlas_buffer_len(&nlas) == 12);
     let mut out = [255; 13];
     assert!(rt; nlas_fill(&nlas, &mut out) == 1);
-    assert!(rt; equal(&out, &[255, 5, 0, 1, 0, 7, 0, 0, 0, 4, 0, 2, 0x80]));
+    assert!(rt;
+        equal(
+            &out,
+            &[
+                0xff, 0x05, 0x00, 0x01, 0x00, 0x07, 0x00, 0x00, 0x00, 0x04, 0x00, 0x02, 0x80
+            ]
+        )
+    );
 }
 
 #[test]
@@ -77,24 +104,34 @@ fn writes_no_attributes(rt: HostRuntime) {
     assert!(rt; nlas_fit(none));
     let mut out = [255; 3];
     assert!(rt; nlas_fill(none, &mut out) == 3);
-    assert!(rt; equal(&out, &[255, 255, 255]));
+    assert!(rt; equal(&out, &[0xff, 0xff, 0xff]));
 }
 
 #[test]
 fn closes_frames(rt: HostRuntime) {
     let mut out = [255; 9];
     assert!(rt; finish(&mut out, 2, 0x8003) == 8);
-    assert!(rt; equal(&out, &[6, 0, 3, 0x80, 255, 255, 0, 0, 255]));
+    assert!(rt;
+        equal(
+            &out,
+            &[0x06, 0x00, 0x03, 0x80, 0xff, 0xff, 0x00, 0x00, 0xff]
+        )
+    );
     let mut end = [255; 9];
     assert!(rt; close_frame(&mut end, 7, 0x8003) == 1);
-    assert!(rt; equal(&end, &[255, 6, 0, 3, 0x80, 255, 255, 0, 0]));
+    assert!(rt;
+        equal(
+            &end,
+            &[0xff, 0x06, 0x00, 0x03, 0x80, 0xff, 0xff, 0x00, 0x00]
+        )
+    );
 }
 
 #[test]
 fn fills_from_the_end(rt: HostRuntime) {
     let mut end = [255; 5];
-    assert!(rt; fill_bytes(&mut end, &[1, 2]) == 3);
-    assert!(rt; equal(&end, &[255, 255, 255, 1, 2]));
+    assert!(rt; fill_bytes(&mut end, &[0x01, 0x02]) == 3);
+    assert!(rt; equal(&end, &[0xff, 0xff, 0xff, 0x01, 0x02]));
     assert!(rt; fill_text(&mut end, "lo") == 2);
-    assert!(rt; equal(&end, &[255, 255, 0x6c, 0x6f, 0]));
+    assert!(rt; equal(&end, &[0xff, 0xff, 0x6c, 0x6f, 0x00]));
 }

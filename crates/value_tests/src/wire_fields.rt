@@ -6,9 +6,9 @@ use nla_wire::fields::*;
 
 #[test]
 fn reads_short_fields(rt: HostRuntime) {
-    let bytes = [1, 2, 3, 0xfc];
+    let bytes = [0x01, 0x02, 0x03, 0xfc];
     let found = [u8_at(&bytes, 3), u8_at(&bytes, 4)];
-    is_same(&rt, &found, &[0xfc, 0]);
+    is_same(&rt, &found, &[0xfc, 0x00]);
     let found = [u16_at(&bytes, 0), u16_at(&bytes, 3)];
     is_same(&rt, &found, &[0x0201, 0xfc]);
     let found = [be16_at(&bytes, 0), be16_at(&bytes, 3)];
@@ -17,7 +17,7 @@ fn reads_short_fields(rt: HostRuntime) {
 
 #[test]
 fn reads_long_fields(rt: HostRuntime) {
-    let bytes = [1, 2, 3, 4, 5, 6, 7, 0x88, 0xfc];
+    let bytes = [0x01, 0x02, 0x03, 0x04, 0x05, 0x06, 0x07, 0x88, 0xfc];
     let found = [u32_at(&bytes, 0), u32_at(&bytes, 8)];
     is_same(&rt, &found, &[0x0403_0201, 0xfc]);
     is_same(&rt, &i32_at(&bytes, 5), &-0x0377_f8fa);
@@ -29,8 +29,8 @@ fn reads_long_fields(rt: HostRuntime) {
 #[test]
 fn fills_up_with_zeros(rt: HostRuntime) {
     let mut filled = [0; 32];
-    filled[..2].copy_from_slice(&[7, 8]);
-    assert!(rt; equal(&zero_filled_32(&[7, 8]), &filled));
+    filled[..2].copy_from_slice(&[0x07, 0x08]);
+    assert!(rt; equal(&zero_filled_32(&[0x07, 0x08]), &filled));
     assert!(rt; equal(&zero_filled_32(&[]), &[0; 32]));
     assert!(rt; equal(&zero_filled_32(&[9; 40]), &[9; 32]));
     assert!(rt; too_short(15, 16).number() == 1);
@@ -39,28 +39,28 @@ fn fills_up_with_zeros(rt: HostRuntime) {
 #[test]
 fn puts_fields(rt: HostRuntime) {
     let mut out = [255; 8];
-    put_bytes(&mut out, 1, &[1, 2]);
+    put_bytes(&mut out, 1, &[0x01, 0x02]);
     put_u16(&mut out, 3, 0x1234);
     put_be16(&mut out, 5, 0x1234);
-    assert!(rt; equal(&out, &[255, 1, 2, 0x34, 0x12, 0x12, 0x34, 255]));
+    assert!(rt; equal(&out, &[0xff, 0x01, 0x02, 0x34, 0x12, 0x12, 0x34, 0xff]));
     put_u32(&mut out, 0, 1500);
     put_i32(&mut out, 4, -2);
-    assert!(rt; equal(&out, &[0xdc, 5, 0, 0, 0xfe, 255, 255, 255]));
+    assert!(rt; equal(&out, &[0xdc, 0x05, 0x00, 0x00, 0xfe, 0xff, 0xff, 0xff]));
     put_u64(&mut out, 0, 0x0123_4567_89ab_cdef);
-    assert!(rt; equal(&out, &[0xef, 0xcd, 0xab, 0x89, 0x67, 0x45, 0x23, 1]));
+    assert!(rt; equal(&out, &[0xef, 0xcd, 0xab, 0x89, 0x67, 0x45, 0x23, 0x01]));
     put_i64(&mut out, 0, -2);
-    assert!(rt; equal(&out, &[0xfe, 255, 255, 255, 255, 255, 255, 255]));
+    assert!(rt; equal(&out, &[0xfe, 0xff, 0xff, 0xff, 0xff, 0xff, 0xff, 0xff]));
 }
 
 #[test]
 fn puts_rows_of_numbers(rt: HostRuntime) {
     let mut out = [255; 8];
     put_u32s(&mut out, &[1500, 7]);
-    assert!(rt; equal(&out, &[0xdc, 5, 0, 0, 7, 0, 0, 0]));
+    assert!(rt; equal(&out, &[0xdc, 0x05, 0x00, 0x00, 0x07, 0x00, 0x00, 0x00]));
     put_i32s(&mut out, &[-1, -2]);
-    assert!(rt; equal(&out, &[255, 255, 255, 255, 254, 255, 255, 255]));
+    assert!(rt; equal(&out, &[0xff, 0xff, 0xff, 0xff, 0xfe, 0xff, 0xff, 0xff]));
     put_u64s(&mut out, &[1500]);
-    assert!(rt; equal(&out, &[0xdc, 5, 0, 0, 0, 0, 0, 0]));
+    assert!(rt; equal(&out, &[0xdc, 0x05, 0x00, 0x00, 0x00, 0x00, 0x00, 0x00]));
     put_i64s(&mut out, &[-2]);
-    assert!(rt; equal(&out, &[254, 255, 255, 255, 255, 255, 255, 255]));
+    assert!(rt; equal(&out, &[0xfe, 0xff, 0xff, 0xff, 0xff, 0xff, 0xff, 0xff]));
 }

@@ -14,20 +14,24 @@ fn refuses_fronts(rt: HostRuntime) {
     );
     refuses(
         &rt,
-        NlaBuffer::new_checked(&[4, 0]),
+        NlaBuffer::new_checked(&[0x04, 0x00]),
         Cause::FrameShort { left: 2 },
     );
-    refuses(&rt, NlaBuffer::new_checked(&[8, 0, 1, 0, 7, 7, 7]), over);
     refuses(
         &rt,
-        NlaBuffer::new_checked(&[3, 0, 1, 0]),
+        NlaBuffer::new_checked(&[0x08, 0x00, 0x01, 0x00, 0x07, 0x07, 0x07]),
+        over,
+    );
+    refuses(
+        &rt,
+        NlaBuffer::new_checked(&[0x03, 0x00, 0x01, 0x00]),
         Cause::FrameUnder { length: 3 },
     );
 }
 
 #[test]
 fn reads_frames(rt: HostRuntime) {
-    let frame = NlaBuffer::new_checked(&[6, 0, 0x2a, 0xc0, 0xde, 0xad, 9, 9]).expect(
+    let frame = NlaBuffer::new_checked(&[0x06, 0x00, 0x2a, 0xc0, 0xde, 0xad, 0x09, 0x09]).expect(
         &rt,
         "it is read",
     );
@@ -49,7 +53,10 @@ fn next_kind(frames: &mut NlasIterator<'_>) -> Option<Result<u16, u8>> {
 
 #[test]
 fn goes_over_frames(rt: HostRuntime) {
-    let bytes = [5, 0, 3, 0, 0x6c, 9, 9, 9, 4, 0, 0x2a, 0xc0, 3, 0, 1, 0];
+    let bytes = [
+        0x05, 0x00, 0x03, 0x00, 0x6c, 0x09, 0x09, 0x09, 0x04, 0x00, 0x2a, 0xc0, 0x03, 0x00, 0x01,
+        0x00,
+    ];
     let mut frames = NlasIterator::new(&bytes);
     assert!(rt; next_kind(&mut frames) == Some(Ok(3)));
     assert!(rt; next_kind(&mut frames) == Some(Ok(0xc02a)));
@@ -59,7 +66,7 @@ fn goes_over_frames(rt: HostRuntime) {
 
 #[test]
 fn ends_without_padding(rt: HostRuntime) {
-    let mut frames = NlasIterator::new(&[5, 0, 3, 0, 0x6c]);
+    let mut frames = NlasIterator::new(&[0x05, 0x00, 0x03, 0x00, 0x6c]);
     assert!(rt; next_kind(&mut frames) == Some(Ok(3)));
     assert!(rt; next_kind(&mut frames).is_none());
 }

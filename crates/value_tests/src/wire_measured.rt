@@ -51,7 +51,7 @@ fn measures_what_fits(rt: HostRuntime) {
     assert!(rt; small.measure() == Some(2));
     let mut out = [255; 9];
     let len = small.write(&mut out);
-    assert!(rt; is_stored(len, &out, &[6, 0, 9, 0, 0xe7, 3, 0, 0]));
+    assert!(rt; is_stored(len, &out, &[0x06, 0x00, 0x09, 0x00, 0xe7, 0x03, 0x00, 0x00]));
     let both = [small, Small { number: 1000 }];
     assert!(rt; nlas_measure(&both).is_none());
     assert!(rt; nlas_measure(&both[..1]) == Some(8));
@@ -68,7 +68,7 @@ fn measures_values(rt: HostRuntime) {
     ] {
         let nla = letters(&rt, rt.alloc(), 20, count);
         assert_eq!(rt; nla.measure(), wanted, "at {count}");
-        assert!(rt; nla.fits() == wanted.is_some());
+        assert!(rt; nla.fits() == wanted.is_some(), "at {count}");
     }
 }
 
@@ -80,12 +80,12 @@ fn writes_values(rt: HostRuntime) {
     assert!(rt; kept.buffer_len() == 8);
     let mut out = [255; 9];
     let len = kept.write(&mut out);
-    assert!(rt; is_stored(len, &out, &[5, 0, 1, 0, 7, 0, 0, 0]));
+    assert!(rt; is_stored(len, &out, &[0x05, 0x00, 0x01, 0x00, 0x07, 0x00, 0x00, 0x00]));
     let none = letters(&rt, rt.alloc(), 0xc02a, 0);
     assert!(rt; none.measure() == Some(0));
     let mut out = [255; 9];
     let len = none.write(&mut out);
-    assert!(rt; is_stored(len, &out, &[4, 0, 42, 0xc0]));
+    assert!(rt; is_stored(len, &out, &[0x04, 0x00, 0x2a, 0xc0]));
 }
 
 #[test]
@@ -96,10 +96,9 @@ fn writes_the_longest_value(rt: HostRuntime) {
     assert!(rt; out.len() == 65537);
     assert!(rt; longest.measure() == Some(65531));
     assert!(rt; longest.write(out) == 65536);
-    assert!(rt; out.starts_with(&[255, 255, 20, 0, 97]));
-    assert!(rt; out[65534] == 97);
-    assert!(rt; out[65535] == 0);
-    assert!(rt; out[65536] == 255);
+    assert!(rt; equal(&out[..4], &[0xff, 0xff, 0x14, 0x00]));
+    assert!(rt; equal(&out[4..65535], &[0x61; 65531]));
+    assert!(rt; equal(&out[65535..], &[0x00, 0xff]));
 }
 
 /// An attribute of one letter and one of none.
@@ -113,7 +112,15 @@ fn writes_lists(rt: HostRuntime) {
     assert!(rt; nlas_measure(&nlas) == Some(12));
     let mut out = [255; 13];
     let len = nlas_write(&nlas, &mut out);
-    assert!(rt; is_stored(len, &out, &[5, 0, 1, 0, 97, 0, 0, 0, 4, 0, 2, 0x80]));
+    assert!(rt;
+        is_stored(
+            len,
+            &out,
+            &[
+                0x05, 0x00, 0x01, 0x00, 0x61, 0x00, 0x00, 0x00, 0x04, 0x00, 0x02, 0x80
+            ]
+        )
+    );
     assert!(rt; list_measure(&nlas) == Some(12));
     let mut out = [255; 17];
     let len = write_list(52, &nlas, &mut out);
@@ -121,7 +128,10 @@ fn writes_lists(rt: HostRuntime) {
         is_stored(
             len,
             &out,
-            &[16, 0, 52, 0, 5, 0, 1, 0, 97, 0, 0, 0, 4, 0, 2, 0x80]
+            &[
+                0x10, 0x00, 0x34, 0x00, 0x05, 0x00, 0x01, 0x00, 0x61, 0x00, 0x00, 0x00, 0x04, 0x00,
+                0x02, 0x80
+            ]
         )
     );
 }
@@ -135,7 +145,7 @@ fn writes_empty_lists(rt: HostRuntime) {
     assert!(rt; is_stored(len, &out, &[]));
     assert!(rt; list_measure(none) == Some(0));
     let len = write_list(0x8034, none, &mut out);
-    assert!(rt; is_stored(len, &out, &[4, 0, 52, 0x80]));
+    assert!(rt; is_stored(len, &out, &[0x04, 0x00, 0x34, 0x80]));
 }
 
 /// A list that is the value of an attribute has at most 65531 bytes of text, and so at most 65528. One that is not may
@@ -169,8 +179,10 @@ fn measures_long_lists(rt: HostRuntime) {
             nested,
             "at {first} and {second:?}"
         );
-        assert!(rt; nlas_fit(nlas.as_slice()) == all.is_some());
-        assert!(rt; list_fits(nlas.as_slice()) == nested.is_some());
+        let fit = nlas_fit(nlas.as_slice());
+        assert!(rt; fit == all.is_some(), "at {first} and {second:?}");
+        let fits = list_fits(nlas.as_slice());
+        assert!(rt; fits == nested.is_some(), "at {first} and {second:?}");
     }
 }
 
@@ -180,6 +192,7 @@ fn writes_the_longest_list(rt: HostRuntime) {
     let mut out = [255; 65533];
     assert!(rt; list_measure(&nlas) == Some(65528));
     assert!(rt; write_list(52, &nlas, &mut out) == 65532);
-    assert!(rt; out.starts_with(&[252, 255, 52, 0, 248, 255, 1, 0, 97]));
-    assert!(rt; equal(&out[65531..], &[97, 255]));
+    assert!(rt; equal(&out[..8], &[0xfc, 0xff, 0x34, 0x00, 0xf8, 0xff, 0x01, 0x00]));
+    assert!(rt; equal(&out[8..65532], &[0x61; 65524]));
+    assert!(rt; equal(&out[65531..], &[0x61, 0xff]));
 }

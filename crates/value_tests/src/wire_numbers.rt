@@ -12,15 +12,18 @@ use std::process::Abort;
 fn reads_numbers(rt: HostRuntime) {
     is_read(&rt, parse_u8(&[255]), &255);
     is_read(&rt, parse_u16(&[0x34, 0x12]), &0x1234);
-    is_read(&rt, parse_u32(&[0xdc, 5, 0, 0]), &1500);
-    is_read(&rt, parse_i32(&[0xfe, 255, 255, 255]), &-2);
-    let long = parse_u64(&[0xef, 0xcd, 0xab, 0x89, 0x67, 0x45, 0x23, 1]);
+    is_read(&rt, parse_u32(&[0xdc, 0x05, 0x00, 0x00]), &1500);
+    is_read(&rt, parse_i32(&[0xfe, 0xff, 0xff, 0xff]), &-2);
+    let long = parse_u64(&[0xef, 0xcd, 0xab, 0x89, 0x67, 0x45, 0x23, 0x01]);
     is_read(&rt, long, &0x0123_4567_89ab_cdef);
 }
 
 #[test]
 fn reads_addresses(rt: HostRuntime) {
-    let octets = [0x20, 1, 0x0d, 0xb8, 0, 0, 0, 0, 0, 0, 0, 0, 0, 0, 0, 1];
+    let octets = [
+        0x20, 0x01, 0x0d, 0xb8, 0x00, 0x00, 0x00, 0x00, 0x00, 0x00, 0x00, 0x00, 0x00, 0x00, 0x00,
+        0x01,
+    ];
     let address = Ipv6Addr::new(0x2001, 0xdb8, 0, 0, 0, 0, 0, 1);
     is_read(&rt, parse_ipv6_addr(&octets), &address);
 }
@@ -38,13 +41,33 @@ fn refuses_payloads(rt: HostRuntime) {
 fn writes_numbers(rt: HostRuntime) {
     let mut out = [255; 9];
     emit_u16(&mut out, 0x1234);
-    assert!(rt; equal(&out, &[0x34, 0x12, 255, 255, 255, 255, 255, 255, 255]));
+    assert!(rt;
+        equal(
+            &out,
+            &[0x34, 0x12, 0xff, 0xff, 0xff, 0xff, 0xff, 0xff, 0xff]
+        )
+    );
     emit_u32(&mut out, 1500);
-    assert!(rt; equal(&out, &[0xdc, 5, 0, 0, 255, 255, 255, 255, 255]));
+    assert!(rt;
+        equal(
+            &out,
+            &[0xdc, 0x05, 0x00, 0x00, 0xff, 0xff, 0xff, 0xff, 0xff]
+        )
+    );
     emit_u64(&mut out, 0x0123_4567_89ab_cdef);
-    assert!(rt; equal(&out, &[0xef, 0xcd, 0xab, 0x89, 0x67, 0x45, 0x23, 1, 255]));
+    assert!(rt;
+        equal(
+            &out,
+            &[0xef, 0xcd, 0xab, 0x89, 0x67, 0x45, 0x23, 0x01, 0xff]
+        )
+    );
     emit_i32(&mut out, -2);
-    assert!(rt; equal(&out, &[0xfe, 255, 255, 255, 0x67, 0x45, 0x23, 1, 255]));
+    assert!(rt;
+        equal(
+            &out,
+            &[0xfe, 0xff, 0xff, 0xff, 0x67, 0x45, 0x23, 0x01, 0xff]
+        )
+    );
 }
 
 /// The bytes are read as this text.
@@ -58,7 +81,7 @@ fn reads(rt: &impl Abort, alloc: Global, bytes: &[u8], text: &str) {
 fn reads_texts(rt: HostRuntime) {
     reads(&rt, rt.alloc(), &[], "");
     reads(&rt, rt.alloc(), &[0], "");
-    reads(&rt, rt.alloc(), &[0, 0], "\0");
+    reads(&rt, rt.alloc(), &[0x00, 0x00], "\0");
     reads(&rt, rt.alloc(), b"lo", "lo");
-    reads(&rt, rt.alloc(), &[0xc3, 0xa4, 0], "ä");
+    reads(&rt, rt.alloc(), &[0xc3, 0xa4, 0x00], "ä");
 }

@@ -10,25 +10,40 @@ use std::process::Abort;
 fn writes_short_payloads(rt: HostRuntime) {
     let mut out = [255; 9];
     let len = write_text_payload(3, b"lo\0", &mut out);
-    assert!(rt; is_stored(len, &out, &[7, 0, 3, 0, 0x6c, 0x6f, 0, 0]));
+    assert!(rt; is_stored(len, &out, &[0x07, 0x00, 0x03, 0x00, 0x6c, 0x6f, 0x00, 0x00]));
     let len = write_u8_payload(1, &[7], &mut out);
-    assert!(rt; is_stored(len, &out, &[5, 0, 1, 0, 7, 0, 0, 0]));
-    let len = write_u16_payload(68, &[1, 2], &mut out);
-    assert!(rt; is_stored(len, &out, &[6, 0, 68, 0, 1, 2, 0, 0]));
-    let len = write_u32_payload(4, &[0xdc, 5, 0, 0], &mut out);
-    assert!(rt; is_stored(len, &out, &[8, 0, 4, 0, 0xdc, 5, 0, 0]));
+    assert!(rt; is_stored(len, &out, &[0x05, 0x00, 0x01, 0x00, 0x07, 0x00, 0x00, 0x00]));
+    let len = write_u16_payload(68, &[0x01, 0x02], &mut out);
+    assert!(rt; is_stored(len, &out, &[0x06, 0x00, 0x44, 0x00, 0x01, 0x02, 0x00, 0x00]));
+    let len = write_u32_payload(4, &[0xdc, 0x05, 0x00, 0x00], &mut out);
+    assert!(rt; is_stored(len, &out, &[0x08, 0x00, 0x04, 0x00, 0xdc, 0x05, 0x00, 0x00]));
     let len = write_i32_payload(28, &[255; 4], &mut out);
-    assert!(rt; is_stored(len, &out, &[8, 0, 28, 0, 255, 255, 255, 255]));
+    assert!(rt; is_stored(len, &out, &[0x08, 0x00, 0x1c, 0x00, 0xff, 0xff, 0xff, 0xff]));
 }
 
 #[test]
 fn writes_long_payloads(rt: HostRuntime) {
     let mut out = [255; 13];
-    let len = write_u64_payload(0, &[1, 0, 0, 0, 0, 0, 0, 2], &mut out);
-    assert!(rt; is_stored(len, &out, &[12, 0, 0, 0, 1, 0, 0, 0, 0, 0, 0, 2]));
+    let len = write_u64_payload(
+        0,
+        &[0x01, 0x00, 0x00, 0x00, 0x00, 0x00, 0x00, 0x02],
+        &mut out,
+    );
+    assert!(rt;
+        is_stored(
+            len,
+            &out,
+            &[
+                0x0c, 0x00, 0x00, 0x00, 0x01, 0x00, 0x00, 0x00, 0x00, 0x00, 0x00, 0x02
+            ]
+        )
+    );
     let mut out = [255; 21];
     let len = write_ipv6_addr_payload(7, &[1; 16], &mut out);
-    let text = [20, 0, 7, 0, 1, 1, 1, 1, 1, 1, 1, 1, 1, 1, 1, 1, 1, 1, 1, 1];
+    let text = [
+        0x14, 0x00, 0x07, 0x00, 0x01, 0x01, 0x01, 0x01, 0x01, 0x01, 0x01, 0x01, 0x01, 0x01, 0x01,
+        0x01, 0x01, 0x01, 0x01, 0x01,
+    ];
     assert!(rt; is_stored(len, &out, &text));
 }
 
@@ -36,30 +51,38 @@ fn writes_long_payloads(rt: HostRuntime) {
 #[tactic(auto, unfolding(nla_wire::specs::Fields::zero_filled))]
 fn cuts_and_fills_payloads(rt: HostRuntime) {
     let mut out = [255; 16];
-    let len = write_filled_payload(7, 4, &[1, 2], &mut out);
-    assert!(rt; is_stored(len, &out, &[8, 0, 7, 0, 1, 2, 0, 0]));
-    let len = write_filled_payload(7, 4, &[1, 2, 3, 4, 5], &mut out);
-    assert!(rt; is_stored(len, &out, &[8, 0, 7, 0, 1, 2, 3, 4]));
+    let len = write_filled_payload(7, 4, &[0x01, 0x02], &mut out);
+    assert!(rt; is_stored(len, &out, &[0x08, 0x00, 0x07, 0x00, 0x01, 0x02, 0x00, 0x00]));
+    let len = write_filled_payload(7, 4, &[0x01, 0x02, 0x03, 0x04, 0x05], &mut out);
+    assert!(rt; is_stored(len, &out, &[0x08, 0x00, 0x07, 0x00, 0x01, 0x02, 0x03, 0x04]));
     let len = write_filled_payload(7, 4, &[], &mut out);
-    assert!(rt; is_stored(len, &out, &[8, 0, 7, 0, 0, 0, 0, 0]));
-    let len = write_filled_payload(7, 5, &[1, 2], &mut out);
-    assert!(rt; is_stored(len, &out, &[9, 0, 7, 0, 1, 2, 0, 0, 0, 0, 0, 0]));
+    assert!(rt; is_stored(len, &out, &[0x08, 0x00, 0x07, 0x00, 0x00, 0x00, 0x00, 0x00]));
+    let len = write_filled_payload(7, 5, &[0x01, 0x02], &mut out);
+    assert!(rt;
+        is_stored(
+            len,
+            &out,
+            &[
+                0x09, 0x00, 0x07, 0x00, 0x01, 0x02, 0x00, 0x00, 0x00, 0x00, 0x00, 0x00
+            ]
+        )
+    );
 }
 
 /// A text of the payload's bytes is written with one NUL, whether the payload ends in one or not.
 #[test]
 fn writes_texts_of_payloads(rt: HostRuntime) {
-    for payload in [b"wan0\0".as_slice(), b"wan0".as_slice()] {
+    let text = [
+        0x09, 0x00, 0x35, 0x00, 0x77, 0x61, 0x6e, 0x30, 0x00, 0x00, 0x00, 0x00,
+    ];
+    for (label, payload) in [
+        ("a NUL", b"wan0\0".as_slice()),
+        ("no NUL", b"wan0".as_slice()),
+    ] {
         let mut out = [255; 13];
-        assert!(rt; measure_text(payload) == Some(5));
+        assert!(rt; measure_text(payload) == Some(5), "{label}");
         let len = write_text_payload(53, payload, &mut out);
-        assert!(rt;
-            is_stored(
-                len,
-                &out,
-                &[9, 0, 53, 0, 0x77, 0x61, 0x6e, 0x30, 0, 0, 0, 0]
-            )
-        );
+        assert!(rt; is_stored(len, &out, &text), "{label}");
     }
 }
 
@@ -86,9 +109,9 @@ fn measures_texts(rt: HostRuntime) {
         (b"\0\0".as_slice(), Some(2)),
         (b"lo".as_slice(), Some(3)),
         (b"lo\0".as_slice(), Some(3)),
-        ([0xc3, 0xa4, 0].as_slice(), Some(3)),
+        ([0xc3, 0xa4, 0x00].as_slice(), Some(3)),
         ([0xc3, 0x28].as_slice(), None),
-        ([0xc3, 0].as_slice(), None),
+        ([0xc3, 0x00].as_slice(), None),
         ([0x6c, 0xff, 0x6f].as_slice(), None),
     ] {
         assert_eq!(rt; measure_text(payload), wanted, "at {payload:?}");
@@ -125,12 +148,14 @@ fn measures_the_longest_texts(rt: HostRuntime) {
 #[test]
 #[tactic(auto, unfolding(nla_wire::specs::Payloads::read_text))]
 fn writes_the_longest_text(rt: HostRuntime) {
-    for nuls in [0, 1] {
+    for (label, nuls) in [("no NUL", 0), ("a NUL", 1)] {
         let payload = letters(&rt, rt.alloc(), 65530, nuls);
         let mut out = [255; 65537];
-        assert!(rt; measure_text(payload.as_slice()) == Some(65531));
-        assert!(rt; write_text_payload(20, payload.as_slice(), &mut out) == 65536);
-        assert!(rt; out.starts_with(&[255, 255, 20, 0, 97]));
-        assert!(rt; equal(&out[65533..], &[97, 0, 0, 255]));
+        assert!(rt; measure_text(payload.as_slice()) == Some(65531), "{label}");
+        let len = write_text_payload(20, payload.as_slice(), &mut out);
+        assert!(rt; len == 65536, "{label}");
+        assert!(rt; equal(&out[..4], &[0xff, 0xff, 0x14, 0x00]), "{label}");
+        assert!(rt; equal(&out[4..65534], &[0x61; 65530]), "{label}");
+        assert!(rt; equal(&out[65534..], &[0x00, 0x00, 0xff]), "{label}");
     }
 }

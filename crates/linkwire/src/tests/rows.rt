@@ -306,11 +306,16 @@ pub const LISTS: [Row; 10] = [
 ];
 
 /// Virtual functions and ports.
-pub const FUNCTIONS: [Row; 11] = [
+pub const FUNCTIONS: [Row; 12] = [
     (
         "a list of ports whose one entry is dropped",
         "000000000000000000000000000000000800180004000200",
         "empty-ports",
+    ),
+    (
+        "the same, and a length of 3 after it",
+        "00000000000000000000000000000000080018000400020003006300",
+        "refused",
     ),
     (
         "IFLA_PORT_SELF",
