@@ -9,9 +9,9 @@ OF_compare = link_c
 
 include dist/Makefile
 
-NEEDS_RT := $(firstword $(filter check dist edits,$(MAKECMDGOALS)))
+NEEDS_RT := $(firstword $(filter check dist edits compare bench dev fmt,$(MAKECMDGOALS)))
 $(if $(NEEDS_RT),$(if $(call is_here,rt),,$(error make $(NEEDS_RT) proves the crates by the command rt, which is not \
-    on the path: make self-test and make dist-tests need none)))
+    on the path: make self-test, make test and make dist-tests need none)))
 
 .PHONY: dist archive deb dist-tests test rust files lint check edits tables bench compare show-tests c-tests
 .PHONY: linkdump-tests dev fmt rust-tests fuzz c-bench

@@ -27,7 +27,8 @@ libraries() {
     make -s -o out/library.o out/liblinkwire.a out/liblinkwire.so.0
     scripts/c_tests.sh out/liblinkwire.a
     scripts/linkdump_tests.sh
-    python3 scripts/readme.py out/liblinkwire.a crates/linkwire/out crates/linkshow/out crates/linkstate/out
+    python3 scripts/readme.py out/liblinkwire.a crates/linkwire/out crates/linkshow/out crates/linkstate/out \
+        crates/linkdiff/out out
     scripts/dist_tests.sh
 }
 
@@ -36,6 +37,8 @@ programs() {
         scripts/program.sh "$name"
     done
     python3 scripts/state_tests.py crates/linkstate/out/linkstate crates/linkwire/out/linkwire
+    python3 scripts/diff_tests.py crates/linkdiff/out/linkdiff crates/linkshow/out/linkshow \
+        crates/linkstate/out/linkstate crates/linkwire/out/linkwire
     python3 scripts/show_rows.py --check
     python3 scripts/show_damaged.py crates/linkshow/out/linkshow crates/linkwire/out/linkwire
     python3 scripts/kernel_messages.py
@@ -44,9 +47,11 @@ programs() {
     scripts/show_tests.sh
     scripts/rust_tests.sh
     scripts/parallel_test.sh
+    scripts/parallel_hosts.sh
     scripts/test_progress.sh
     scripts/refused_memory.sh
     scripts/refused_parse.sh
+    scripts/refused_info.sh
     scripts/tested_edits.sh
     scripts/kernel_tables.sh
     scripts/test_kernel_tables.sh

@@ -26,6 +26,7 @@ EXCEPTIONS = [(files, re.compile(begins), why) for files, begins, why in [
     ("tests/captures.txt", "", "a message is one line of hexadecimal"),
     ("edits/plants.md", "plants ", "a line of counts as `rt plant` prints it"),
     ("tests/kernels/*.txt", "", "a message is one line of hexadecimal, and an answer one line"),
+    ("crates.txt", r"\w+: ", "a crate is one line, with all that it stands on"),
     ("crates/*/stdin", "", "what a program is run on: a message is one line of hexadecimal"),
     ("crates/*/stdout", "", "what a program prints: a message is one line"),
 ]]

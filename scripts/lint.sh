@@ -38,6 +38,6 @@ where shellcheck 'shellcheck --version' shellcheck "${shell[@]}"
 pyflakes=$(command -v pyflakes3 || command -v pyflakes || true)
 where pyflakes "test -n $pyflakes" "$pyflakes" "${python[@]}"
 where groff 'groff --version' bash -c '! groff -man -ww -Tutf8 -z man/* 2>&1 | grep .'
-where mandoc 'command -v mandoc' mandoc -T lint -W warning man/*
+where mandoc 'command -v mandoc' mandoc -T lint man/*
 scripts/rust_lint.sh || status=1
 exit "$status"

@@ -1,19 +1,24 @@
 #!/usr/bin/env bash
 # Runs a built program where a read, a write or an allocation fails, and looks at its status and its line:
-# program.sh [linkwire|linkshow|linkstate]
+# program.sh [linkwire|linkshow|linkstate|linkdiff]
 set -euo pipefail
 top=$(cd "$(dirname "$0")/.." && pwd)
 name=${1:-linkwire}
 program=$top/crates/$name/out/$name
 case $name in
 linkwire | linkstate) nothex=nothex refused=refused chosen=1 ;;
+linkdiff)
+    nothex='{"fault":"not-hex"}'
+    refused='{"fault":"too-short","at":"header","got":0,"need":16,"offset":0}'
+    ;;
 linkshow)
     nothex='{"fault":"not-hex"}'
     refused='{"fault":"too-short","at":"header","got":0,"need":16,"offset":0}'
     # every ninth line, and the first few that show a hardware address, a wireless event, counters of eight bytes, a
     # name that comes again, and what stands before a fault
     chosen='NR % 9 == 0 || few("address", /"(address|broadcast)":"..:/) || few("wireless", /"wireless":/) ||
-        few("stats64", /"stats64":/) || few("repeated", /"repeated":/) || few("before", /"before":[{]"/)'
+        few("stats64", /"stats64":/) || few("data", /"data":[{]/) || few("words", /^[{]"(time|host|kernel)"/) ||
+        few("repeated", /"repeated":/) || few("before", /"before":[{]"/)'
     ;;
 esac
 folder=$(mktemp -d)
@@ -70,7 +75,7 @@ wants "an allocation that fails" 1 "$nothex" "$name: out of memory"
 status=0; printf '0\n\n0' | "$program" >"$folder/out" 2>"$folder/err" || status=$?
 wants "a whole run" 0 "$(printf '%s\n' "$nothex" "$refused" "$nothex")" ""
 
-if [ "$name" = linkstate ]; then
+if [ "$name" != linkwire ]; then
     for word in --help --version; do
         status=0; "$program" "$word" </dev/null >"$folder/out" 2>"$folder/err" || status=$?
         [ -s "$folder/out" ] || { echo "$name: $word says nothing" >&2; exit 1; }
@@ -81,6 +86,23 @@ if [ "$name" = linkstate ]; then
         [ "$(wc -l <"$folder/err")" = 1 ] || { echo "$name: '$word' is not told in one line" >&2; exit 1; }
         wants "the argument '$word'" 2 "" "$(cat "$folder/err")"
     done
+fi
+
+if [ "$name" = linkdiff ]; then
+    status=0; "$program" "$folder/none" /dev/null >"$folder/out" 2>"$folder/err" || status=$?
+    wants "a file that is not there" 1 "" "$name: cannot open $folder/none"
+    status=0; "$program" /dev/null "$folder" >"$folder/out" 2>"$folder/err" || status=$?
+    wants "a file that cannot be read" 1 "" "$name: read failed"
+    status=0; "$program" /dev/null "$top/crates/$name/stdin" >"$folder/out" 2>"$folder/err" || status=$?
+    [ "$(grep -c '"change":"new"' "$folder/out")" -gt 1 ] || { echo "$name: nothing came" >&2; exit 1; }
+    wants "a file beside an empty one" 0 "$(cat "$folder/out")" ""
+    status=0; "$program" "$top/crates/$name/stdin" /dev/null >"$folder/gone" 2>"$folder/err" || status=$?
+    if [ "$(sed -n 's/"change":"gone"/"change":"new"/p' "$folder/gone")" != "$(grep change "$folder/out")" ]; then
+        echo "$name: what came one way did not go the other" >&2
+        exit 1
+    fi
+    status=0; "$program" "$top/crates/$name/stdin" "$top/crates/$name/stdin" >"$folder/out" 2>"$folder/err" || status=$?
+    wants "a file beside itself" 0 "$(grep fault "$folder/out")" ""
 fi
 
 # each line is answered before the next is given
@@ -99,9 +121,14 @@ echo "$name: answers before the next line: ok"
 ${CC:-cc} -O2 -Wall -Wextra -Werror -shared -fPIC -o "$folder/refuse.so" "$top/tests/program/refuse_allocation.c"
 stored=$folder/stored
 mkdir "$stored"
-paste "$top/crates/$name/stdin" "$top/crates/$name/stdout" | awk -F '\t' -v stored="$stored" '
+if [ "$name" = linkdiff ]; then
+    # an answer hangs on the lines before
+    cp "$top/crates/$name/stdin" "$top/crates/$name/stdout" "$stored"
+else
+    paste "$top/crates/$name/stdin" "$top/crates/$name/stdout" | awk -F '\t' -v stored="$stored" '
     function few(what, is_one) { return is_one && ++count[what] <= 3 }
     '"$chosen"' { print $1 >(stored "/stdin"); print $2 >(stored "/stdout") }'
+fi
 for ((call = 1; ; call++)); do
     rm -f "$folder/refused"
     status=0

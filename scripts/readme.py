@@ -1,8 +1,24 @@
-"""Holds README.md and docs/USING.md to what they show: each program after '<!-- runs: c -->' is compiled and run, each
-command after '<!-- runs: shell -->' too, and what they print is compared with what stands there; what follows
-'<!-- stands in: FILE -->' has to stand in that file. Takes the library, and the folders of the programs; the last line
-is 'readme passed'."""
+"""Holds the pages that users meet first to what they show. Of README.md, docs/USING.md, docs/CONTRIBUTING.md and the
+manual pages each block with commands has a mark in front:
 
+    runs: shell        each command is run, and prints what stands below it
+    runs: namespace    the same in a network namespace with a bridge and a pair of veth; each line that stands there
+                       is one of those that are printed
+    runs: c            the program is compiled and run as the block below it says, and prints what stands there
+    runs: rust         scripts/rust_tests.sh does so
+    stands in: FILE    the block is a part of that file
+    not run: WHY
+
+In Markdown a mark is a comment, in a manual page a line that begins with '.\\"'. Commands in the text of a page are run
+in one of its blocks, or listed after '<!-- named, not run:', and each 'make' names a target that there is. The manual
+pages of programs have the same sections, in one order.
+
+    python3 scripts/readme.py [LIBRARY FOLDER..]
+
+LIBRARY is the static one, and the folders are those of the programs; without them it is what 'make build lib' left in
+out/. The last line is 'readme: ok'."""
+
+import glob
 import os
 import re
 import subprocess
@@ -10,57 +26,176 @@ import sys
 import tempfile
 
 TOP = os.path.dirname(os.path.dirname(os.path.abspath(__file__)))
-WARNINGS = ["-std=c11", "-Wall", "-Wextra", "-Wpedantic", "-Wconversion", "-Wshadow", "-Werror"]
-MARK = re.compile(r"^<!-- (?:runs: (?:c|shell)|stands in: .*) -->$", re.M)
-IN_C = re.compile(r"^<!-- runs: c -->\n```c\n(.*?)^```\n\n```\n\$ .*?\n(.*?)^```$", re.M | re.S)
-IN_SHELL = re.compile(r"^<!-- runs: shell -->\n```console\n(.*?)^```$", re.M | re.S)
-COMMAND = re.compile(r"^\$ (.*)\n((?:(?!\$ ).*\n)*)", re.M)
-PART = re.compile(r"^<!-- stands in: (.*?) -->\n```\w+\n(.*?)^```$", re.M | re.S)
-PAGES = "README.md", "docs/USING.md"
+PAGES = "README.md", "docs/USING.md", "docs/CONTRIBUTING.md"
+WARNINGS = "-std=c11 -Wall -Wextra -Wpedantic -Wconversion -Wshadow -Werror -fsyntax-only".split()
+# what a command in the text of a page begins with; one word alone is a name
+PROGRAM = re.compile(r"(?:apt-get|cargo|cut|link(?:diff|dump|show|state|wire)|make|parallel|python3|rt|scripts/\S+) ")
+SECTIONS = "NAME", "SYNOPSIS", "DESCRIPTION", "OPTIONS", "EXIT STATUS", "EXAMPLES", "SEE ALSO"
+LINKS = "ip link set lo up && ip link add br0 type bridge && ip link add veth0 mtu 9000 type veth peer name veth1"
+
+BLOCK = re.compile(r"^(?:<!-- ([^\n]*) -->\n)?```(\w*)\n([\s\S]*?)^```$", re.M)
+MAN_BLOCK = re.compile(r'^(?:\.\\" ([^\n]*)\n)?\.nf\n([\s\S]*?)^\.fi$', re.M)
+COMMAND = re.compile(r"^[$#] (.*)\n((?:(?![$#] ).*\n)*)", re.M)
+NAMED = re.compile(r"<!-- named, not run: (.*?) -->", re.S)
+WRITES = re.compile(r" >>?\w")
+SPAN = re.compile(r"`([^`]+)`")
 
 
-def output(command, **kwargs):
-    return subprocess.run(command, check=True, capture_output=True, text=True, timeout=60, **kwargs).stdout
+class Page:
+    """What a page shows, the path of the programs, and how much of it was run."""
 
+    def __init__(self, name, library, path):
+        self.name, self.library, self.path = name, library, path
+        self.counts = dict.fromkeys(("run", "compiled", "parts", "not run"), 0)
+        self.commands = []
+        with open(f"{TOP}/{name}", encoding="utf-8") as it:
+            self.text = it.read()
 
-def compiled(source, library):
-    """What a program in C prints."""
-    with tempfile.TemporaryDirectory() as folder:
-        with open(f"{folder}/program.c", "w", encoding="utf-8") as it:
-            it.write(source)
-        compiler = os.environ.get("CC", "cc")
-        build = [compiler, *WARNINGS, f"-I{TOP}/include", "-o", f"{folder}/program", f"{folder}/program.c", library]
-        subprocess.run(build, check=True)
-        return output([f"{folder}/program"])
+    def fails(self, what):
+        sys.exit(f"readme: {self.name}: {what}")
 
+    def output(self, command, folder=TOP, prefix=()):
+        done = subprocess.run([*prefix, "sh", "-c", command], capture_output=True, text=True, timeout=60, check=False,
+                              cwd=folder, env=self.path, stdin=subprocess.DEVNULL)
+        if done.returncode != 0:
+            self.fails(f"{command}\nends with status {done.returncode}: {done.stderr}")
+        return done.stdout
 
-def compare(found, wanted):
-    if found != wanted:
-        sys.exit(f"readme: a program prints\n{found}and not\n{wanted}")
+    def compares(self, command, found, wanted):
+        if found != wanted:
+            self.fails(f"{command}\nprints\n{found}and not\n{wanted}")
 
+    def shell(self, shown):
+        """Commands in turn: in a folder of their own where one of them writes a file."""
+        commands = COMMAND.findall(shown)
+        with tempfile.TemporaryDirectory() as folder:
+            where = folder if any(WRITES.search(command) for command, _ in commands) else TOP
+            for command, wanted in commands:
+                self.compares(command, self.output(command, where), wanted)
+                self.counts["run"] += 1
 
-def hold(page, library, path):
-    """Runs what a page shows, and compares."""
-    with open(f"{TOP}/{page}", encoding="utf-8") as it:
-        text = it.read()
-    in_c, in_shell, parts = (form.findall(text) for form in (IN_C, IN_SHELL, PART))
-    if not (in_c and in_shell and parts) or len(in_c + in_shell + parts) != len(MARK.findall(text)):
-        sys.exit(f"readme: {page}: a program or its output is missing")
-    for source, wanted in in_c:
-        compare(compiled(source, library), wanted)
-    for command, wanted in (it for shown in in_shell for it in COMMAND.findall(shown)):
-        compare(output(["sh", "-c", command], env=path), wanted)
-    for file, part in parts:
+    def namespace(self, shown):
+        unshare = namespace()
+        if unshare is None:
+            print(f"readme: {self.name}: skipped: no right to make a namespace with links, or no jq")
+            return
+        for command, wanted in COMMAND.findall(shown):
+            found = self.output(f"{LINKS} && {command}", prefix=unshare).splitlines()
+            for line in wanted.splitlines():
+                if line not in map(str.rstrip, found):
+                    self.fails(f"{command}\ndoes not print\n{line}\nbut\n{found}")
+            self.counts["run"] += 1
+
+    def compiled(self, source, shown):
+        """A program in C, by a pkg-config that names the library as it was built."""
+        (command, wanted), = COMMAND.findall(shown)
+        with tempfile.TemporaryDirectory() as folder:
+            write(f"{folder}/{re.search(r'[a-z]+[.]c', command)[0]}", source)
+            write(f"{folder}/pkg-config", f"#!/bin/sh\necho -I{TOP}/include {self.library}\n")
+            os.chmod(f"{folder}/pkg-config", 0o755)
+            self.output(f"cc {' '.join(WARNINGS)} -I{TOP}/include *.c", folder)
+            self.compares(command, self.output(f"PATH=.:$PATH; {command}", folder), wanted)
+        self.counts["compiled"] += 1
+
+    def stands(self, file, part):
         with open(f"{TOP}/{file}", encoding="utf-8") as it:
             if part not in it.read():
-                sys.exit(f"readme: {file} has not what stands in {page}")
+                self.fails(f"{file} has not what stands here")
+        self.counts["parts"] += 1
+
+    def block(self, mark, shown, following):
+        """Does what the mark of a block says; returns whether the block after it is its output."""
+        kind, _, rest = (mark or "").partition(": ")
+        if mark == "runs: shell":
+            self.shell(shown)
+        elif mark == "runs: namespace":
+            self.namespace(shown)
+        elif mark == "runs: c":
+            self.compiled(shown, following)
+        elif kind == "stands in":
+            self.stands(rest, shown)
+        elif kind == "not run":
+            self.counts["not run"] += len(COMMAND.findall(shown))
+        elif mark != "runs: rust" and (mark or COMMAND.search(shown)):
+            self.fails(f"a block has the mark {mark}:\n{shown}")
+        self.commands += [command for command, _ in COMMAND.findall(shown)]
+        return mark in ("runs: c", "runs: rust")
+
+    def hold(self):
+        """Runs what a page shows, and compares."""
+        in_man = self.name.startswith("man/")
+        blocks = [(mark, plain(shown)) for mark, shown in MAN_BLOCK.findall(self.text)] if in_man else \
+            [(mark, shown) for mark, _, shown in BLOCK.findall(self.text)]
+        is_output = False
+        for at, (mark, shown) in enumerate(blocks):
+            if not is_output:
+                is_output = self.block(mark, shown, blocks[at + 1][1] if at + 1 < len(blocks) else "")
+            else:
+                is_output = False
+        if not in_man:
+            self.named()
+        elif self.name.endswith(".1") and tuple(re.findall(r"^\.SH (.*)$", self.text, re.M)) != SECTIONS:
+            self.fails(f"the sections are not {', '.join(SECTIONS)}")
+
+    def named(self):
+        """Looks at the commands that stand in the text."""
+        listed = [" ".join(it.split()) for found in NAMED.findall(self.text) for it in found.split(";")]
+        text = NAMED.sub("", BLOCK.sub("", self.text))
+        if re.search(r"^ {4,}[$#]? ?(?:make|rt|echo|cd) ", text, re.M):
+            self.fails("a command stands in no block")
+        spans = {" ".join(it.split()) for it in SPAN.findall(text)}
+        found = {it for it in spans if " " in it and " = " not in it and PROGRAM.match(it)}
+        for command in sorted(found - set(listed)):
+            if not any(command in it for it in self.commands):
+                self.fails(f"'{command}' is neither run nor listed as not run")
+        for command in sorted(set(listed) - found):
+            self.fails(f"'{command}' is listed as not run, and stands nowhere")
+        for command in found:
+            target = re.match(r"make ([a-z-]+)", command)
+            if target and target[1] not in targets():
+                self.fails(f"'{command}' names no target of make")
+        self.counts["not run"] += len(listed)
 
 
-def main(library, *programs):
-    path = {**os.environ, "PATH": os.pathsep.join([*map(os.path.abspath, programs), os.environ["PATH"]])}
-    for page in PAGES:
-        hold(page, library, path)
-    print("readme passed")
+def write(file, text):
+    with open(file, "w", encoding="utf-8") as it:
+        it.write(text)
+
+
+def plain(shown):
+    """The text of a block of a manual page."""
+    return shown.replace("\\-", "-").replace("\\(dq", '"').replace("\\(aq", "'").replace("\\e", "\\")
+
+
+def targets():
+    found = subprocess.run(["make", "-s", "help"], cwd=TOP, check=True, capture_output=True, text=True, timeout=60)
+    return set(re.findall(r"^([a-z-]+):", found.stdout, re.M))
+
+
+def namespace():
+    """How to run a command in a network namespace with links, or None."""
+    for flag in "-n", "-rn":
+        tried = subprocess.run(["unshare", flag, "sh", "-c", f"{LINKS} && jq --version"], capture_output=True,
+                               timeout=60, check=False)
+        if tried.returncode == 0:
+            return ["unshare", flag]
+    return None
+
+
+def main(library="out/liblinkwire.a", *programs):
+    if not os.path.exists(library):
+        sys.exit(f"readme: there is no {library}: run 'make build lib' first")
+    folders = map(os.path.abspath, programs or ["out"])
+    path = {name: value for name, value in os.environ.items() if not name.startswith(("MAKE", "MFLAGS"))}
+    path["PATH"] = os.pathsep.join([*folders, os.environ["PATH"]])
+    names = *PAGES, *sorted(glob.glob("man/*.[1-9]", root_dir=TOP))
+    pages = [Page(name, os.path.abspath(library), path) for name in names]
+    for page in pages:
+        page.hold()
+    sums = {kind: sum(page.counts[kind] for page in pages) for kind in pages[0].counts}
+    print(f"readme: {len(pages)} pages: {sums['run']} commands are run, {sums['compiled']} programs in C compiled and"
+          f" run, {sums['parts']} parts stand in their files; {sums['not run']} commands are marked as not run")
+    print("readme: ok")
 
 
 main(*sys.argv[1:])

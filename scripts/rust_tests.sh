@@ -64,4 +64,4 @@ python3 "$top/scripts/rust_lines.py" "$folder/lines" "$count"
 answers=$(cut -c 1-7 "$folder/wanted" | cut -d ' ' -f 1 | sort | uniq -c | awk '{ printf ", %s %s", $1, $2 }')
 echo "rust: $(wc -l <"$folder/lines") lines: the same bytes$answers"
 LINKWIRE_LINES=$folder/lines runs cargo test --locked --release --test stored lines -- --nocapture
-echo "rust: the calls agree on $(sed -n 's/^\([0-9]* messages\).*/\1/p' "$folder/log")"
+echo "rust: the calls agree on $(sed -nE 's/^(test .* [.]{3} )?([0-9]+ messages).*/\2/p' "$folder/log")"

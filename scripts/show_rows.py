@@ -24,7 +24,7 @@ INET = (
     "accept-source-route bootp-relay log-martians tag arpfilter medium-id noxfrm nopolicy force-igmp-version "
     "arp-announce arp-ignore promote-secondaries arp-accept arp-notify accept-local src-vmark proxy-arp-pvlan "
     "route-localnet igmpv2-unsolicited-report-interval igmpv3-unsolicited-report-interval ignore-routes-with-linkdown "
-    "drop-unicast-in-l2-multicast drop-gratuitous-arp bc-forwarding arp-evict-nocarrier reserved-34"
+    "drop-unicast-in-l2-multicast drop-gratuitous-arp bc-forwarding arp-evict-nocarrier"
 ).split()
 INET6 = (
     "forwarding hoplimit mtu6 accept-ra accept-redirects autoconf dad-transmits rtr-solicits rtr-solicit-interval "
@@ -43,9 +43,22 @@ INET6_STATS = (
     "inaddrerrors inunknownprotos intruncatedpkts indiscards outdiscards outnoroutes reasmtimeout reasmreqds reasmoks "
     "reasmfails fragoks fragfails fragcreates inmcastpkts outmcastpkts inbcastpkts outbcastpkts inmcastoctets "
     "outmcastoctets inbcastoctets outbcastoctets csumerrors noectpkts ect1-pkts ect0-pkts cepkts reasm-overlaps "
-    "outtransmits reserved-39"
+    "outtransmits"
 ).split()
 ICMP6_STATS = "num inmsgs inerrors outmsgs outerrors csumerrors ratelimithost".split()
+# the same counters in the order of Linux 6.16 and later (linux/snmp.h)
+INET6_STATS_6_16 = (
+    "num inpkts inoctets indelivers noectpkts ect1-pkts ect0-pkts cepkts outpkts outtransmits outoctets "
+    "outforwdatagrams inhdrerrors intoobigerrors innoroutes inaddrerrors inunknownprotos intruncatedpkts indiscards "
+    "outdiscards outnoroutes reasmtimeout reasmreqds reasmoks reasmfails fragoks fragfails fragcreates inmcastpkts "
+    "outmcastpkts inbcastpkts outbcastpkts inmcastoctets outmcastoctets inbcastoctets outbcastoctets csumerrors "
+    "reasm-overlaps"
+).split()
+# the names of numbers whose attributes are kept at the outermost place
+KEPT = {
+    8: "cost", 9: "priority", 12: "protinfo", 15: "weight", 26: "af-spec", 42: "pad", 53: "alt-ifname",
+    66: "max-pacing-offload-horizon", 68: "headroom",
+}
 FLAGS = (
     "up broadcast debug loopback point-to-point no-trailers running no-arp promisc all-multi master slave multicast "
     "portsel auto-media dynamic lower-up dormant echo"
@@ -104,7 +117,7 @@ def u64(*numbers):
 
 
 def header(family, kind=0, index=0, flags=0, change=0):
-    return struct.pack("=BBHIII", family, 0, kind, index, flags, change)
+    return struct.pack("=BBHiII", family, 0, kind, index, flags, change)
 
 
 def said(family, members, kind=0, index=0, flags=(), change=0):
@@ -129,6 +142,12 @@ def fault(attributes, name, at, offset, before, **numbers):
 
 def kept(number, payload="", flags=()):
     return {"number": number, "flags": list(flags), "payload": payload}
+
+
+def unread(number, payload="", flags=()):
+    """One that is kept at the outermost place, with the name that its number has."""
+    named = {"name": KEPT[number]} if number in KEPT else {}
+    return {"number": number, **named, "flags": list(flags), "payload": payload}
 
 
 def counted(names, start=1):
@@ -189,17 +208,17 @@ def records():
     message(attr(23, u64(*range(1, 27))), {"stats64": counted(STATS)})
     message(attr(26, attr(2, attr(1, u32(1)))), {"af-spec": {"inet": {"conf": short(INET, 1)}}})
     inner = attr(2, u32(-1)) + attr(3, u64(2)) + attr(6, b"\3")
-    members = {"conf": short(INET6, -1), "stats": short(INET6_STATS, 2), "icmp6-stats": short(ICMP6_STATS, 3)}
+    members = {"conf": short(INET6, -1), "stats": [2] + [0] * 38, "icmp6-stats": short(ICMP6_STATS, 3)}
     message(attr(26, attr(10, inner)), {"af-spec": {"inet6": members}})
 
 
 def lists():
     message(attr(18, attr(1, b"vlan\0")), {"linkinfo": {"kind": "vlan"}})
     data = attr(18, attr(2 | 0x8000, attr(1, b"\5\0")), attr(1, b"vlan\0"))
-    message(data, {"linkinfo": {"kind": "vlan", "other": [kept(2, "0600010005000000", ["nested"])]}})
+    message(data, {"linkinfo": {"data": {"id": 5}, "kind": "vlan"}})
     message(attr(52 | 0x8000, attr(53, b"a\0"), attr(53, b"b\0")), {"prop-list": {"alt-ifname": ["a", "b"]}})
     message(attr(52, attr(9), attr(53, b"a\0")), {"prop-list": {"alt-ifname": ["a"], "other": [kept(9)]}})
-    message(attr(52), {"prop-list": {}})
+    message(attr(52), {"prop-list": {"alt-ifname": []}})
     port = attr(1, b"pci\0") + attr(2, b"0\0") + attr(3, u32(7)) + attr(4, b"\1")
     names = {"bus-name": "pci", "dev-name": "0", "port-index": 7, "other": [kept(4, "01")]}
     message(attr(62 | 0x8000, port), {"devlink-port": names})
@@ -215,8 +234,8 @@ def lists():
     for command, name in ((0x8C07, "assocreqie"), (0x8C08, "assocrespie")):
         message(attr(11, struct.pack("=HHHH", 10, command, 2, 0), b"\xab\xcd"), {"wireless": {name: "abcd"}})
     message(attr(11, struct.pack("=HHHH", 8, 0x8B15, 0, 0)), {"wireless": {"payload": "0800158b00000000"}})
-    message(attr(24, attr(1, attr(5, b"\1"))), {"vf-ports": {"port": [{"other": [kept(5, "01")]}]}})
-    message(attr(25, attr(5, b"\1")), {"port-self": {"other": [kept(5, "01")]}})
+    message(attr(24, attr(1, attr(5, b"\1"))), {"vf-ports": {"port": [{"host-uuid": "01"}]}})
+    message(attr(25, attr(5, b"\1")), {"port-self": {"host-uuid": "01"}})
 
 
 def functions():
@@ -251,13 +270,14 @@ def functions():
 
 
 def families():
-    message(attr(26, attr(2, attr(1, u32(*range(1, 35))))), {"af-spec": {"inet": {"conf": counted(INET)}}})
+    conf = counted(INET) | {"reserved-34": 34}
+    message(attr(26, attr(2, attr(1, u32(*range(1, 35))))), {"af-spec": {"inet": {"conf": conf}}})
     message(attr(26, attr(2, attr(2))), {"af-spec": {"inet": {"other": [kept(2)]}}})
     times = {"max-reasm-len": 1, "tstamp": 2, "reachable-time": 3, "retrans-time": -4}
     settings = [
         (attr(1, u32(0x800000F1)), {"flags": ["ra-otherconf", "ra-managed", "ra-rcvd", "rs-sent", "ready", 1]}),
         (attr(2, u32(*range(-60, 0))), {"conf": counted(INET6, -60)}),
-        (attr(3, u64(*range(1, 40))), {"stats": counted(INET6_STATS)}),
+        (attr(3, u64(*range(1, 40))), {"stats": list(range(1, 40))}),
         (attr(4), {"other": [kept(4)]}),
         (attr(5, u32(1, 2, 3, -4)), {"cacheinfo": times}),
         (attr(6, u64(*range(1, 8))), {"icmp6-stats": counted(ICMP6_STATS)}),
@@ -276,37 +296,37 @@ def families():
         message(attr(26, attr(45, attr(2, bytes([number])))), {"af-spec": {"mctp": {"phys-binding": binding}}})
     message(attr(26, attr(7)), {"af-spec": {"other": [kept(7)]}})
     message(attr(26), {"af-spec": {}})
-    message(attr(26, attr(1, b"\1")), {"af-spec": {"other": [kept(1, "01")]}}, family=7)
-    message(attr(26, b"\1"), {"other": [kept(26, "01")]}, family=2)
+    message(attr(26, attr(1, b"\1")), {"af-spec": {"mode": "01"}}, family=7)
+    message(attr(26, b"\1"), {"other": [unread(26, "01")]}, family=2)
     # A message keeps no flags of this one.
-    message(attr(26 | 0x8000, b"\1"), {"other": [kept(26, "01")]}, family=2)
-    message(attr(12, attr(1, b"\1")), {"protinfo": {"other": [kept(1, "01")]}}, family=7)
-    message(attr(12, attr(5)), {"protinfo": {"other": [kept(5)]}}, family=10)
-    message(attr(12 | 0x8000, b"\1"), {"other": [kept(12, "01", ["nested"])]}, family=2)
+    message(attr(26 | 0x8000, b"\1"), {"other": [unread(26, "01")]}, family=2)
+    message(attr(12, attr(1, b"\1")), {"protinfo": {"state": "listening"}}, family=7)
+    message(attr(12, attr(5)), {"protinfo": {"cacheinfo": ""}}, family=10)
+    message(attr(12 | 0x8000, b"\1"), {"other": [unread(12, "01", ["nested"])]}, family=2)
 
 
 def others():
     for kind in (0, 8, 9, 15, 42, 53, 66, 70, 127, 128, 131, 1000, 0x3FFF):
-        message(attr(kind, b"\0"), {"other": [kept(kind, "00")]})
-    message(attr(68, u32(1)), {"other": [kept(68, "01000000")]})
-    message(attr(66 | 0xC000), {"other": [kept(66, "", ["nested", "net-byteorder"])]})
+        message(attr(kind, b"\0"), {"other": [unread(kind, "00")]})
+    message(attr(68, u32(1)), {"other": [unread(68, "01000000")]})
+    message(attr(66 | 0xC000), {"other": [unread(66, "", ["nested", "net-byteorder"])]})
     message(attr(3 | 0xC000, b"lo"), {"ifname": "lo"})
     twice = attr(4, u32(1)) + attr(3, b"a\0") + attr(4, u32(2)) + attr(66) + attr(4, u32(3)) + attr(66)
-    message(twice, {"ifname": "a", "mtu": 3, "repeated": [{"mtu": 1}, {"mtu": 2}], "other": [kept(66), kept(66)]})
+    message(twice, {"ifname": "a", "mtu": 3, "repeated": [{"mtu": 1}, {"mtu": 2}], "other": [unread(66), unread(66)]})
     inner = attr(18, attr(1, b"a\0"), attr(1, b"b\0"))
     message(inner, {"linkinfo": {"kind": "b", "repeated": [{"kind": "a"}]}})
     names = {"prop-list": {"alt-ifname": ["a"]}}
     message(attr(52, attr(53, b"a\0")) * 2, {**names, "repeated": [names]})
     down = attr(16, b"\6") + attr(13, u32(1000)) + attr(4, u32(1500)) + attr(66) + attr(3, b"lo\0")
-    message(down, {"operstate": "up", "txqlen": 1000, "mtu": 1500, "ifname": "lo", "other": [kept(66)]})
+    message(down, {"operstate": "up", "txqlen": 1000, "mtu": 1500, "ifname": "lo", "other": [unread(66)]})
     message(attr(43, attr(8, u32(1)), attr(2, b"\0")), {"xdp": {"expected-fd": 1, "attached": "none"}})
     message(attr(24, attr(2)), {"vf-ports": {"port": []}})
     front = attr(13, u32(5)) + attr(66, b"\1") + attr(4, u32(1)) + attr(4, u32(2)) + attr(1, bytes(4))
-    before = {"txqlen": 5, "mtu": 2, "address": "00:00:00:00", "repeated": [{"mtu": 1}], "other": [kept(66, "01")]}
+    before = {"txqlen": 5, "mtu": 2, "address": "00:00:00:00", "repeated": [{"mtu": 1}], "other": [unread(66, "01")]}
     fault(front + attr(5, b"\1"), "wrong-length", "IFLA_LINK", 16 + len(front), before, got=1, want=4)
     far = attr(131, b"\1") + attr(3, b"lo\0")
     message(far, {"ifname": "lo", "other": [kept(131, "01")]})
-    message(attr(68, b"\0\1") + attr(68, u32(1)), {"headroom": 256, "other": [kept(68, "01000000")]})
+    message(attr(68, b"\0\1") + attr(68, u32(1)), {"headroom": 256, "other": [unread(68, "01000000")]})
 
 
 def inside(kinds, payload):
@@ -352,8 +372,8 @@ def repeats():
 
 def headers():
     row(header(0), said(0, {}))
-    row(header(255, 65535, 2**32 - 1, 2**32 - 1, 2**32 - 1),
-        said(255, {}, 65535, 2**32 - 1, [*FLAGS, 2**32 - 2**19], 2**32 - 1))
+    row(header(255, 65535, -1, 2**32 - 1, 2**32 - 1),
+        said(255, {}, 65535, -1, [*FLAGS, 2**32 - 2**19], 2**32 - 1))
     for i, name in enumerate(FLAGS):
         row(header(0, flags=1 << i), said(0, {}, flags=[name]))
     row(b"\7\x09" + header(0)[2:], said(7, {}))
@@ -377,8 +397,8 @@ def faults():
     fault(front + nested, "frame-under", "IFLA_VF_STATS", 16 + len(front) + 12, before, length=1)
     where = {"ifi-family": 7, "ifi-index": 3, "before": {}}
     row(header(7, index=3) + attr(12), {"fault": "empty-list", "at": "IFLA_PROTINFO", "offset": 16, **where})
-    where = {"ifi-family": 10, "ifi-index": 2**32 - 1, "before": {"protinfo": {"other": [kept(5)]}}}
-    broken = header(10, index=2**32 - 1) + attr(12, attr(5)) + attr(4)
+    where = {"ifi-family": 10, "ifi-index": -1, "before": {"protinfo": {"cacheinfo": ""}}}
+    broken = header(10, index=-1) + attr(12, attr(5)) + attr(4)
     row(broken, {"fault": "wrong-length", "at": "IFLA_MTU", "got": 0, "want": 4, "offset": 24, **where})
 
 
@@ -448,7 +468,7 @@ def family_faults(two, frame):
     fault(attr(26, attr(10, attr(5, two))), "too-short", "IFLA_INET6_CACHEINFO", 24, {}, got=2, need=16)
     fault(attr(26, attr(45, attr(1, two))), "wrong-length", "IFLA_MCTP_NET", 24, {}, got=2, want=4)
     fault(attr(26, attr(45, attr(2, two))), "wrong-length", "IFLA_MCTP_PHYS_BINDING", 24, {}, got=2, want=1)
-    # Under the family AF_BRIDGE the members have no name here, and none can be refused but as frames.
+    # Under the family AF_BRIDGE the members are read by the program alone, and none can be refused but as frames.
     for kind, name in ((12, "IFLA_PROTINFO"), (26, "IFLA_AF_SPEC")):
         answer = {"fault": "frame-under", "at": name, "length": 1, "offset": 20, "ifi-family": 7, "ifi-index": 0,
                   "before": {}}
@@ -487,13 +507,131 @@ def empty_lists():
     """Adds each list that may be empty without a member, where no other row has it."""
     stats, vlans = (inside((22, 1), attr(kind)) for kind in (8, 12))
     message(stats, {"vfinfo-list": {"info": [{"stats": {}}]}})
-    message(vlans, {"vfinfo-list": {"info": [{"vlan-list": {}}]}})
+    message(vlans, {"vfinfo-list": {"info": [{"vlan-list": {"info": []}}]}})
     for kind, name in ((55, "proto-down-reason"), (62, "devlink-port"), (65, "dpll-pin")):
         message(attr(kind), {name: {}})
 
 
+def u16(*numbers):
+    return struct.pack(f"={len(numbers)}H", *numbers)
+
+
+def link_data():
+    """Adds data by kind: each form of a row, and what has no row or no kind."""
+    def info(*parts, **members):
+        message(attr(18, *parts), {"linkinfo": members})
+
+    vlan, bond = attr(1, b"vlan\0"), attr(1, b"bond\0")
+    flags = {"flags": ["reorder-hdr", "gvrp"], "mask": ["reorder-hdr", 256]}
+    qos = {"mapping": {"from": 3, "to": 4}, "repeated": [{"mapping": {"from": 1, "to": 2}}]}
+    data = attr(1, u16(100)) + attr(2, u32(3, 0x101)) + attr(4, attr(1, u32(1, 2)), attr(1, u32(3, 4)))
+    members = {"id": 100, "flag": flags, "ingress-qos": qos, "protocol": "8021q"}
+    info(vlan, attr(2, data, attr(5, b"\x81\0")), kind="vlan", data=members)
+    # a number without a name, one without a row, and a value of another width
+    members = {"protocol": 0x1234, "id": "07000000", "other": [kept(9, "0102")]}
+    info(vlan, attr(2, attr(5, b"\x12\x34"), attr(9, b"\1\2"), attr(1, u32(7))), kind="vlan", data=members)
+    # a kind that has no data, data that have no kind, data that are no attributes, and none
+    unknown = [kept(2, attr(1, u16(1)).hex())]
+    info(attr(1, b"dummy\0"), attr(2, attr(1, u16(1))), kind="dummy", other=unknown)
+    info(attr(2, attr(1, u16(1))), other=unknown)
+    info(vlan, attr(2, b"\1\2\3"), kind="vlan", data="010203")
+    info(vlan, attr(2), kind="vlan", data={})
+    # of two kinds the first one counts; data may stand in front of it
+    info(vlan, bond, attr(2, attr(1, u16(1))), kind="bond", data={"id": 1}, repeated=[{"kind": "vlan"}])
+    port = {"state": "backup", "link-failure-count": 2, "perm-hwaddr": "02:00:00:00:00:01"}
+    payload = attr(1, b"\1") + attr(3, u32(2)) + attr(4, bytes.fromhex("020000000001"))
+    ROWS.append(((header(0) + attr(18, attr(5, payload), attr(4, b"bond\0"))).hex(),
+                 said(0, {"linkinfo": {"slave-data": port, "slave-kind": "bond"}})))
+    targets = attr(8, attr(0, b"\xc0\0\2\1"), attr(1, b"\xc0\0\2\2"))
+    members = {"arp-ip-target": ["192.0.2.1", "192.0.2.2"], "mode": "active-backup"}
+    info(bond, attr(2, targets, attr(1, b"\1")), kind="bond", data=members)
+    can = struct.pack("=2H", 128, 5)
+    info(attr(1, b"can\0"), attr(2, attr(8, can)), attr(3, u32(1, 2, 3, 4, 5, 6)), kind="can",
+         data={"berr-counter": {"txerr": 128, "rxerr": 5}},
+         xstats=counted("bus-error error-warning error-passive bus-off arbitration-lost restarts".split()))
+    querier = attr(1, b"\xc0\0\2\1") + attr(2, u32(7))
+    members = {"mcast-querier-state": {"ip-address": "192.0.2.1", "ip-port": 7}}
+    info(attr(1, b"bridge\0"), attr(2, attr(47, querier)), kind="bridge", data=members)
+    message(attr(12, attr(1, b"\3")), {"protinfo": {"state": "forwarding"}}, family=7)
+    vlans = attr(26, attr(2, u16(2, 1)), attr(2, u16(6, 10)))
+    first = {"vlan-info": {"flags": ["pvid"], "vid": 1}}
+    members = {"vlan-info": {"flags": ["pvid", "untagged"], "vid": 10}, "repeated": [first]}
+    message(vlans, {"af-spec": members}, family=7)
+    trees = attr(26, attr(6, attr(1, attr(1, u16(3)), attr(2, b"\3"))))
+    message(trees, {"af-spec": {"mst": {"entry": {"msti": 3, "state": "forwarding"}}}}, family=7)
+
+
+def own_addresses():
+    """Adds addresses of functions: as long as the link's own, where that has one."""
+    function = attr(22, attr(1, attr(1, u32(0), bytes.fromhex("020000000001"), bytes(26))))
+    for own, shown in (("0a0000000001", "02:00:00:00:00:01"), ("0a", "02"), ("", None), ("00" * 33, None)):
+        mac = {"vf": 0, "mac": shown or "020000000001" + "00" * 26}
+        text = ":".join(own[i:i + 2] for i in range(0, len(own), 2))
+        message(attr(1, bytes.fromhex(own)) + function, {"address": text, "vfinfo-list": {"info": [{"mac": mac}]}})
+
+
+def elements():
+    """Adds an association whose elements stand behind a struct iw_point, and some where they do not."""
+    for payload, shown in (("0300000000000000010203", "010203"), ("0400000000000000010203", "0400000000000000010203"),
+                           ("0000000000000000", ""), ("08", "08"), ("", "")):
+        payload = bytes.fromhex(payload)
+        event = struct.pack("=HHI", 8 + len(payload), 0x8C07, 0) + payload
+        message(attr(11, event), {"wireless": {"assocreqie": shown}})
+
+
+def worded(words, bytes_, members):
+    ROWS.append((words + bytes_.hex(), members))
+
+
+def front_words():
+    """Adds words in front of the digits, and the counters of IPv6 by the kernel that a word names."""
+    mtu = header(0) + attr(4, u32(1500))
+    mtu_said = said(0, {"mtu": 1500})
+    times = {"time": "2026-11-26T02:00:00Z", "type": "new", "host": "a"}
+    worded("time=2026-11-26T02:00:00Z type=new host=a ", mtu, {**times, **mtu_said})
+    worded("a=b=c  d= ", mtu, {"a": "b=c", "d": "", **mtu_said})
+    worded('q="é\\ ', mtu, {"q": '"é\\', **mtu_said})
+    short_frame = {"fault": "frame-short", "at": "message", "left": 2, "offset": 16, "ifi-family": 0, "ifi-index": 0,
+                   "before": {}}
+    worded("host=a ", mtu[:18], {"host": "a", **short_frame})
+    worded("host=a ", b"", {"host": "a", "fault": "too-short", "at": "header", "got": 0, "need": 16, "offset": 0})
+    for line in ("host=a 0x", "host=a", "=a 00", "host 00"):
+        ROWS.append((line, {"fault": "not-hex"}))
+    counters = header(0) + attr(26, attr(10, attr(3, u64(*range(38), 0))))
+    bare = list(range(38)) + [0]
+    old = {name: INET6_STATS.index(name) for name in INET6_STATS}
+    new = {name: INET6_STATS_6_16.index(name) for name in INET6_STATS}
+    releases = [(old, "6.1.0-47-amd64 6.12 5.99 4.19.0"), (new, "6.16.0 7.0-rc1 6.100 6.16rc1"),
+                (bare, "6.13 6.15.9 6 x 6. .6 -6.12")]
+    for shown, names in releases:
+        for name in names.split():
+            worded(f"kernel={name} ", counters, {"kernel": name, **said(0, {"af-spec": {"inet6": {"stats": shown}}})})
+    # the first of two words counts
+    both = {"kernel": "6.16"} | said(0, {"af-spec": {"inet6": {"stats": old}}})
+    line = "kernel=6.12 kernel=6.16 " + counters.hex()
+    ROWS.append((line, Twice("kernel", "6.12", both)))
+    full = header(0) + attr(26, attr(10, attr(3, u64(*range(38), 9))))
+    members = said(0, {"af-spec": {"inet6": {"stats": {**old, "reserved-39": 9}}}})
+    worded("kernel=6.12 ", full, {"kernel": "6.12", **members})
+    row(header(0, index=-2), said(0, {}, index=-2))
+
+
+class Twice:
+    """An answer whose first member has the name of its second one."""
+
+    def __init__(self, name, value, others):
+        self.name, self.value, self.others = name, value, others
+
+
+def written(answer):
+    if isinstance(answer, Twice):
+        return '{"%s":"%s",' % (answer.name, answer.value) + written(answer.others)[1:]
+    return json.dumps(answer, separators=(",", ":"), ensure_ascii=False)
+
+
 def main():
-    shown = headers, flat, records, lists, functions, families, others, repeats, empty_lists
+    shown = (headers, flat, records, lists, functions, families, others, repeats, empty_lists, link_data, own_addresses,
+             elements, front_words)
     for group in (*shown, faults, places, damaged_lists):
         group()
     loopback = header(0, 772, 1, 0x10049) + attr(3, b"lo\0") + attr(4, u32(65536))
@@ -503,7 +641,7 @@ def main():
     ROWS.append((upper.hex().upper(), said(0, {"address": "ab:cd:ef:00:00:fe"}, 1, 0xABCDEF, flags[:3])))
     files = {
         "stdin": "".join(line + "\n" for line, _ in ROWS)[:-1],
-        "stdout": "".join(json.dumps(it, separators=(",", ":"), ensure_ascii=False) + "\n" for _, it in ROWS),
+        "stdout": "".join(written(it) + "\n" for _, it in ROWS),
     }
     for name, text in files.items():
         path = f"{TOP}/crates/linkshow/{name}"

@@ -31,7 +31,8 @@ NAMES = {
     "attached": "none drv skb hw multi".split(),
     "event": "none reboot features bonding-failover notify-peers igmp-resend bonding-options".split(),
 }
-UNDECODED = "data slave-kind slave-data xstats".split()
+# what ynl has in other forms: link data, which kernel_truth.py compares with ip
+ELSEWHERE = set("data slave-kind slave-data xstats".split())
 BYTES_IN_FILE = "devlink-port proto-down-reason wireless protinfo".split()
 FLAGS = {"ra-otherconf": 0x80, "ra-managed": 0x40, "ra-rcvd": 0x20, "rs-sent": 0x10, "ready": 0x80000000}
 AFTER_WRONG_WIDTH = (
@@ -60,7 +61,7 @@ def kernel_messages():
 def shown(program):
     messages = kernel_messages()
     lines = "".join(message.hex() + "\n" for message in messages)
-    ran = subprocess.run([program], input=lines, capture_output=True, text=True, check=True)
+    ran = subprocess.run([program, "--kernel", "6.12"], input=lines, capture_output=True, text=True, check=True)
     found = [json.loads(line) for line in ran.stdout.split("\n")[:-1]]
     if len(found) != len(messages) or not all("ifname" in it for it in found):
         sys.exit("show: linkshow does not show each link of the kernel")
@@ -115,9 +116,9 @@ class Comparison:
             if path[-2:] in (["inet6", "stats"], ["inet6", "icmp6-stats"]):
                 ours = shifted(ours)
             for key in before:
-                if key not in ours and key not in UNDECODED and not key.startswith("UnknownAttr"):
+                if key not in ours and key not in ELSEWHERE and not key.startswith("UnknownAttr"):
                     self.faults.append(f"{'.'.join(path + [key])}: only ynl has it")
-            for key in ours:
+            for key in ours.keys() - ELSEWHERE:
                 is_wrong = path[-2:] == ["inet6", "conf"] and key in AFTER_WRONG_WIDTH
                 if key in before and key in after and not is_wrong:
                     self.values(path + [key], ours[key], before[key], after[key])

@@ -30,9 +30,10 @@ wanted='ok 00000000000000000000000000000000070003006c6f0000'
 expect "$prefix/bin/linkwire" <<< 00000000000000000000000000000000060003006c6f
 wanted='{"fault":"not-hex"}'
 expect "$prefix/bin/linkshow" <<< 0
+expect "$prefix/bin/linkdiff" <<< 0
 wanted=nothex
 expect "$prefix/bin/linkstate" <<< 0
-for name in linkdump linkstate; do
+for name in linkdump linkstate linkshow linkdiff; do
     wanted="$name $(pkg-config --modversion linkwire)"
     expect "$prefix/bin/$name" --version
 done

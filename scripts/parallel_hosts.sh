@@ -1,0 +1,134 @@
+#!/usr/bin/env bash
+# Spreads a million lines by `parallel --sshloginfile` over three hosts, each a network namespace with an sshd of its
+# own, kills all that runs on one of them while a job there is in the middle of its answers, and compares what comes,
+# byte for byte, with what one process answers: parallel_hosts.sh [FOLDER], where the programs are. What cannot be had
+# is 'skipped'.
+set -euo pipefail
+shopt -s inherit_errexit
+top=$(cd "$(dirname "$0")/.." && pwd)
+
+skips() {
+    echo "parallel hosts: skipped: $*"
+    exit 0
+}
+
+fails() {
+    echo "parallel hosts: $*" >&2
+    tail -n 5 "$folder"/sshd.* "$folder/err" >&2 2>/dev/null || true
+    exit 1
+}
+
+# A hundred thousand lines, ten times: interfaces with a name and an MTU, one in ten of them cut off.
+lines() {
+    python3 - <<'END'
+import struct, sys
+def line(index):
+    name = b"eth%d\0" % index
+    attributes = struct.pack("<HH", 4 + len(name), 3) + name + bytes(-len(name) % 4) + struct.pack("<HHI", 8, 4, index)
+    message = struct.pack("<BBHiII", 0, index & 255, 1, index, 1, 0) + attributes
+    return (message[:-1] if index % 10 == 0 else message).hex()
+sys.stdout.write("".join(f"{line(index)}\n" for index in range(100000)) * 10)
+END
+}
+
+# host NUMBER: a namespace at the end of a cable, and what its sshd goes by
+host() {
+    ip netns add "host$1"
+    ip link add "cable$1" type veth peer name eth0 netns "host$1" || skips 'the kernel knows no veth'
+    ip address add "10.77.$1.1/24" dev "cable$1"
+    ip link set "cable$1" up
+    ip -n "host$1" address add "10.77.$1.2/24" dev eth0
+    ip -n "host$1" link set eth0 up
+    ssh-keygen -q -t ed25519 -N '' -f "$folder/key.$1"
+    printf '%s\n' "ListenAddress 10.77.$1.2" "Port $((2200 + $1))" "HostKey $folder/key.$1" "PidFile $folder/pid.$1" \
+        "AuthorizedKeysFile $folder/user.pub" 'StrictModes no' 'UsePAM no' 'MaxStartups 100' \
+        'PermitRootLogin prohibit-password' >"$folder/config.$1"
+    printf 'Host host%s\n  HostName 10.77.%s.2\n  Port %s\n' "$1" "$1" $((2200 + $1)) >>"$folder/ssh_config"
+    printf '[10.77.%s.2]:%s %s\n' "$1" $((2200 + $1)) "$(cut -d ' ' -f 1,2 "$folder/key.$1.pub")" >>"$folder/known"
+    echo "2/host$1" >>"$folder/hosts"
+}
+
+# serves NUMBER: starts the host's sshd
+serves() {
+    ip netns exec "host$1" "$sshd" -f "$folder/config.$1" -E "$folder/sshd.$1"
+    ssh -F "$folder/ssh_config" "host$1" true 2>"$folder/err" || skips "no ssh to a host: $(cat "$folder/err")"
+}
+
+# Waits until the third host has ended a job and is in the middle of another, and kills all that runs there.
+dies() {
+    local try
+    for ((try = 0; try < 600; try++)); do
+        if [ -e "$folder/halfway" ] && grep -q host3 "$folder/jobs"; then
+            ip netns pids host3 | xargs kill -9 2>/dev/null || true
+            return
+        fi
+        sleep 0.1
+    done
+    return 1
+}
+
+# spread PROGRAM: over the hosts. On the third the first job ends, and those after it stop halfway.
+spread() {
+    local killer
+    rm -rf "$folder/halfway" "$folder/first" "$folder/jobs"
+    cat >"$folder/answer" <<END
+#!/bin/sh
+case \$SSH_CONNECTION in
+*' 10.77.3.2 '*)
+    mkdir $folder/first 2>/dev/null && exec $1
+    $1 | head -c 1000000
+    touch $folder/halfway
+    sleep 600
+    ;;
+*) exec $1 ;;
+esac
+END
+    chmod +x "$folder/answer"
+    dies &
+    killer=$!
+    PARALLEL_SSH="ssh -F $folder/ssh_config" PARALLEL_HOME=$folder timeout 300 parallel --will-cite --pipe \
+        --keep-order --block 4M --retries 3 --sshloginfile "$folder/hosts" --joblog "$folder/jobs" "$folder/answer" \
+        <"$folder/lines" >"$folder/spread" 2>"$folder/err" || fails "parallel ends with status $?"
+    wait "$killer" || fails 'the third host has no job in the middle of its answers'
+}
+
+if [ "${1:-}" = --inside ]; then
+    folder=$2 sshd=$3
+    mount -t tmpfs tmpfs /run 2>/dev/null || skips 'no right to mount'
+    mkdir /run/sshd /run/netns
+    trap 'for it in 1 2 3; do ip netns pids "host$it" 2>/dev/null; done | xargs -r kill -9 2>/dev/null || true' EXIT
+    ssh-keygen -q -t ed25519 -N '' -f "$folder/user"
+    printf '%s\n' 'BatchMode yes' "IdentityFile $folder/user" 'IdentitiesOnly yes' \
+        "UserKnownHostsFile $folder/known" 'LogLevel ERROR' >"$folder/ssh_config"
+    for it in 1 2 3; do
+        host "$it"
+    done
+    serves 1
+    serves 2
+    lines >"$folder/lines"
+    for program in "${@:4}"; do
+        serves 3
+        spread "$program"
+        "$program" <"$folder/lines" >"$folder/one"
+        cmp "$folder/one" "$folder/spread" || fails "${program##*/}: other bytes"
+        blocks=$(grep -c host "$folder/jobs")
+        echo "parallel hosts: ${program##*/}: the same $(wc -l <"$folder/spread") lines in $blocks blocks, $(grep -c \
+            host3 "$folder/jobs") of them from the host that is killed"
+    done
+    exit 0
+fi
+for it in parallel ip unshare ssh ssh-keygen timeout; do
+    command -v "$it" >/dev/null || skips "no $it"
+done
+parallel --version 2>/dev/null | grep -q '^GNU parallel' || skips 'parallel is not GNU parallel'
+sshd=$(PATH=$PATH:/usr/sbin:/usr/local/sbin command -v sshd) || skips 'no sshd'
+programs=()
+for name in linkwire linkshow linkstate; do
+    it=${1:-$top/crates/$name/out}/$name
+    [ ! -x "$it" ] || programs+=("$(realpath "$it")")
+done
+[ "${#programs[@]}" != 0 ] || skips 'no program is built'
+unshare -mn true 2>/dev/null || skips 'no right to make a namespace'
+folder=$(mktemp -d)
+trap 'rm -rf "$folder"' EXIT
+unshare -mn "$0" --inside "$folder" "$sshd" "${programs[@]}"
