@@ -2,7 +2,7 @@
 # How long `fuzz` tries messages.
 SECONDS ?= 60
 QUIET = test rust files lint dev fmt check edits tables dist dist-tests archive rust-tests show-tests linkdump-tests
-OF_c-tests = link_c
+OF_c-tests = link_c linkdiff
 OF_fuzz = link_c
 OF_c-bench = link_c
 OF_compare = link_c
@@ -70,7 +70,7 @@ show-tests: ## compares what linkshow says of the running kernel's links with wh
 	@python3 scripts/show_rows.py --check
 	@scripts/show_tests.sh
 
-c-tests: $(LIBRARIES) ## runs the tests of the library for C, and its examples on the running kernel
+c-tests: $(LIBRARIES) out/linkdiff out/linkdump ## runs the tests of the library for C, and examples on the kernel
 	@scripts/c_tests.sh $(CURDIR)/out/liblinkwire.a
 
 linkdump-tests: ## runs linkdump on the running kernel and on captures, with sanitizers too

@@ -1,8 +1,9 @@
 #!/usr/bin/env bash
 # Looks at the symbols of the libraries for programs in C, compiles the header in each language, and runs the tests of
-# tests/c, the laws, the examples on the running kernel, and what holds of state encodings there: c_tests.sh ARCHIVE,
-# beside which the shared library is. With LONG=1 in the environment the kernel's links are polled for a minute. The
-# last line is 'c tests passed'.
+# tests/c, the laws, the examples on the running kernel, and what holds of state encodings there: c_tests.sh ARCHIVE
+# [FOLDER..]. The shared library is beside the archive; the folders have the programs linkdump and linkdiff, without
+# them it is that of the archive. With LONG=1 in the environment the kernel's links are polled for a minute. The last
+# line is 'c tests passed'.
 set -euo pipefail
 top=$(cd "$(dirname "$0")/.." && pwd)
 library=$(realpath "$1")
@@ -43,6 +44,6 @@ for test in "$top"/tests/c/*.c; do
 done
 "$top/scripts/laws.sh" "$library"
 "$top/scripts/live_tests.sh" "$library"
-"$top/scripts/state_live.sh" "$library"
+"$top/scripts/state_live.sh" "$library" "${@:2}"
 "$top/scripts/store_tests.sh" "$shared"
 echo 'c tests passed'

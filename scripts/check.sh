@@ -25,7 +25,7 @@ libraries() {
     scripts/dist.sh --compare link_c
     scripts/c_library.sh --built
     make -s -o out/library.o out/liblinkwire.a out/liblinkwire.so.0
-    scripts/c_tests.sh out/liblinkwire.a
+    scripts/c_tests.sh out/liblinkwire.a crates/linkdiff/out out
     scripts/linkdump_tests.sh
     python3 scripts/readme.py out/liblinkwire.a crates/linkwire/out crates/linkshow/out crates/linkstate/out \
         crates/linkdiff/out out

@@ -302,9 +302,9 @@ dropped() {
     awk -v id="$running" '$2 == 0 && $3 == id && $9 > 0 { found = 1 } END { exit !found }' /proc/net/netlink
 }
 
-runs_over() {
+# stops linkdump, and has the kernel announce more than its socket holds
+overfills() {
     local try
-    starts --monitor
     kill -STOP "$running"
     for try in $(seq 60); do
         seq 1000 1400 | sed "s/.*/link set $base mtu &/" | ip -batch -
@@ -313,6 +313,11 @@ runs_over() {
         fi
     done
     dropped || fails "a queue does not run over, after $try times"
+}
+
+runs_over() {
+    starts --monitor
+    overfills
     ip link add gone0 type "$kind"
     ip link set "$base" mtu 1234
     kill -CONT "$running"
@@ -335,6 +340,78 @@ shows() {
     "$linkdump" --plain | "$show" | jq -r '"\(.ifname) \(.mtu)"' >"$folder/out"
     ip -j link | jq -r '.[] | "\(.ifname) \(.mtu)"' | cmp -s - "$folder/out" || fails 'linkshow shows other links'
     echo 'live: linkdump --plain | linkshow: the names and MTUs of ip'
+}
+
+# starts_diff [FAULT]: linkdump --monitor | linkdiff in the background, with its dumps over
+starts_diff() {
+    rm -f "$folder/pipe" "$folder/changes" "$folder/err"
+    mkfifo "$folder/pipe"
+    "$diff" <"$folder/pipe" >"$folder/changes" &
+    reading=$!
+    LD_PRELOAD=${1:+$folder/kernel_faults.so} KERNEL_FAULT=${1:-} "$linkdump" --monitor \
+        >"$folder/pipe" 2>"$folder/err" &
+    running=$!
+    trap 'kill -KILL "$running" "$reading" 2>/dev/null || true' EXIT
+    says '"change":"new","ifi-family":7,.*"ifname":"port0"'
+}
+
+# says PATTERN: until linkdiff has written such a line
+says() {
+    if ! waits grep -qE "$1" "$folder/changes"; then
+        cut -c1-200 "$folder/changes" >&2
+        fails "linkdiff does not write $1"
+    fi
+}
+
+# stops_diff: both end with status 0
+stops_diff() {
+    local status=0
+    kill -INT "$running"
+    wait "$running" || status=$?
+    wait "$reading" || status=$?
+    trap - EXIT
+    rm "$folder/pipe"
+    [ "$status" = 0 ] || fails "linkdump --monitor | linkdiff: status $status"
+}
+
+# what linkdiff makes of it, where it is built: changes without counters, what changed while messages were lost, a port
+# that left, a bridge that went
+differs() {
+    local host diff=$top/out/linkdiff lo='"change":"changed","ifi-family":0,"ifi-index":1,"ifname":"lo"'
+    [ -x "$diff" ] || diff=$top/crates/linkdiff/out/linkdiff
+    if [ ! -x "$diff" ]; then
+        echo 'live: skipped: linkdump --monitor | linkdiff: linkdiff is not built'
+        return
+    fi
+    starts_diff 'cut off'
+    ip link set lo txqueuelen 901
+    says "$lo,\"changes\":\[\{\"path\":\"txqlen\",\"old\":[0-9]+,\"new\":901\}\]"
+    grep -q 'a datagram was cut off' "$folder/err" || fails 'linkdiff: no datagram was cut off'
+    stops_diff
+    starts_diff
+    for host in 127.0.0.1 ::1; do # counters of lo count it
+        (echo >"/dev/udp/$host/9") 2>/dev/null || true
+    done
+    ip link set lo txqueuelen 902
+    says "$lo,\"changes\":\[\{\"path\":\"txqlen\",\"old\":901,\"new\":902\}\]"
+    [ "$(grep -c "$lo" "$folder/changes")" = 1 ] || fails "linkdiff: lo changed twice: $(grep "$lo" "$folder/changes")"
+    ip link set port0 nomaster
+    says '"change":"gone","ifi-family":7,.*"ifname":"port0"'
+    says '"change":"changed","ifi-family":0,.*"ifname":"port0",.*\{"path":"master","old":[0-9]+\}'
+    ip link del bridge0
+    says '"change":"gone","ifi-family":0,.*"ifname":"bridge0"'
+    overfills
+    ip link add gone0 type "$kind"
+    ip link set "$base" mtu 1235
+    kill -CONT "$running"
+    says "\"change\":\"changed\",.*\"ifname\":\"$base\",.*\"path\":\"mtu\",\"old\":[0-9]+,\"new\":1235\}"
+    says '"change":"new","ifi-family":0,.*"ifname":"gone0"'
+    stops_diff
+    if grep -E '"path":"stats' "$folder/changes" >&2; then
+        fails 'linkdiff writes counters'
+    fi
+    echo 'live: --monitor | linkdiff: changes without counters, a datagram that was cut off, a queue that ran over,' \
+        'a port that left, a bridge that went'
 }
 
 # in the namespace
@@ -363,6 +440,7 @@ inside() {
     chooses
     monitors
     runs_over
+    differs
     echo 'live passed'
 }
 
