@@ -1,7 +1,7 @@
 #!/usr/bin/env bash
 # Runs the examples against the running kernel: live_tests.sh LIBRARY. Links are compared with /sys/class/net, here and
-# in a network namespace of their own, where an MTU is set and changes are watched; linkdump writes their messages. What
-# needs netlink, a command or a right that is not there is 'skipped'.
+# in a network namespace of their own, where an MTU is set; linkdump writes their messages. What needs netlink, a
+# command or a right that is not there is 'skipped'.
 set -euo pipefail
 top=$(cd "$(dirname "$0")/.." && pwd)
 
@@ -39,8 +39,7 @@ canonical() {
 
 # compares WHERE: what the kernel says in messages and in files, again where something changed in between
 compares() {
-    local try
-    for try in 1 2 3 4 5; do
+    for _ in 1 2 3 4 5; do
         of_sysfs >"$folder/files"
         prints_links
         awk '{ print $1, $2, $4, $5 }' "$folder/lines" | sort >"$folder/messages"
@@ -71,19 +70,7 @@ reads_hex() {
     fi
 }
 
-# waits COMMAND..: until it succeeds, ten seconds at most
-waits() {
-    local try
-    for try in $(seq 100); do
-        if "$@"; then
-            return
-        fi
-        sleep 0.1
-    done
-    return 1
-}
-
-# asked COUNT: whether the example that ran last, or runs, has sent so many requests
+# asked COUNT: whether the example that ran last has sent so many requests
 asked() {
     [ "$(grep -sc '^asked$' "$folder/err")" -ge "$1" ] 2>/dev/null
 }
@@ -106,7 +93,7 @@ meets_faults() {
     ${CC:-cc} -O1 -Wall -Wextra -Wpedantic -Werror -shared -fPIC -o "$folder/kernel_faults.so" \
         "$top/tests/live/kernel_faults.c" -ldl
     prints_links
-    local fault mtu
+    local mtu
     sed '1s/^\(.\{32\}\)..../\10300/' "$folder/hex" | "$folder/links" >"$folder/out"
     if ! (echo 'refused: an attribute shorter than its header, at byte 16' && sed 1d "$folder/lines") |
         cmp -s - "$folder/out"; then
@@ -116,26 +103,9 @@ meets_faults() {
     if [ "$(with 'ran over' setmtu lo "$mtu")" != "lo $mtu" ] || ! asked 3; then
         fails 'setmtu does not ask again: ran over'
     fi
-    tells error 'Operation not permitted' watch
-    tells 'short error' 'Bad message' watch
     tells error 'the kernel: Operation not permitted' setmtu lo "$mtu"
     tells 'short error' 'the kernel: Bad message' setmtu lo "$mtu"
-    for fault in interrupted 'ran over' 'cut off'; do # links and ports are asked for once more
-        rm -f "$folder/news" "$folder/err" # what an earlier one wrote is not waited for
-        LD_PRELOAD=$folder/kernel_faults.so KERNEL_FAULT=$fault "$folder/watch" >"$folder/news" 2>"$folder/err" &
-        watch=$!
-        trap 'kill -KILL "$watch" 2>/dev/null || true' EXIT
-        if [ "$fault" = 'cut off' ]; then
-            waits asked 2 || fails 'watch does not ask for ports'
-            sleep 0.3
-            ip link set lo txqueuelen 900
-            waits_for ' lo: IFLA_TXQLEN [0-9]+ -> 900$'
-        fi
-        waits asked 4 || fails "watch does not ask again: $fault"
-        stops_watch
-    done
-    echo 'live: setmtu, watch: an interrupted dump, queues that ran over, errors, a datagram that is cut off;' \
-        'links: a message that is refused'
+    echo 'live: setmtu: a queue that ran over, errors; links: a message that is refused'
 }
 
 # makes NAME COMMAND..: an interface, if the kernel knows its kind
@@ -148,85 +118,6 @@ makes() {
     else
         unknown="$unknown $kind"
     fi
-}
-
-# waits_for PATTERN: until the watch has printed such a line
-waits_for() {
-    if ! waits grep -qE "$1" "$folder/news"; then
-        cat "$folder/news" >&2
-        fails "watch does not print $1"
-    fi
-}
-
-stops_watch() {
-    kill "$watch"
-    wait "$watch" || true
-    trap - EXIT
-}
-
-# whether the kernel had to drop messages for the watch
-dropped() {
-    awk -v id="$watch" '$2 == 0 && $3 == id && $9 > 0 { found = 1 } END { exit !found }' /proc/net/netlink
-}
-
-# runs over: more messages than the socket of the watch, which is stopped, holds
-runs_over() {
-    local try
-    for try in $(seq 20); do
-        seq 1000 1400 | sed "s/.*/link set $base mtu &/" | ip -batch -
-        if dropped; then
-            return
-        fi
-    done
-    fails 'the queue of watch does not run over'
-}
-
-watches() {
-    local try host
-    "$folder/watch" >"$folder/news" &
-    watch=$!
-    trap 'kill -KILL "$watch" 2>/dev/null || true' EXIT
-    for try in $(seq 100); do # until its first dump is over
-        ip link set "$base" mtu $((1300 + try))
-        if [ -s "$folder/news" ]; then
-            break
-        fi
-        sleep 0.1
-    done
-    ip link set "$base" mtu 1290
-    waits_for "$base: IFLA_MTU [0-9]+ -> 1290$"
-    for host in 127.0.0.1 ::1; do # counters of lo count it
-        (echo >"/dev/udp/$host/9") 2>/dev/null || true
-    done
-    ip link set lo txqueuelen 77
-    waits_for ' lo: IFLA_TXQLEN [0-9]+ -> 77$'
-    if [ "$(grep -c ' lo: ' "$folder/news")" != 1 ]; then
-        grep ' lo: ' "$folder/news" >&2
-        fails 'watch prints more than what changed'
-    fi
-    if [[ $known == *port* ]]; then
-        ip link set port0 nomaster
-        waits_for ' port0 in its bridge: gone$'
-        waits_for ' port0: IFLA_MASTER [0-9]+ -> none$'
-    fi
-    if [[ $known == *bridge* ]]; then
-        ip link del bridge0
-        waits_for ' bridge0: gone$'
-        waits_for ' bridge0 in its bridge: gone$'
-    fi
-    kill -STOP "$watch"
-    runs_over
-    if ip link add gone0 type bridge 2>/dev/null; then
-        ip link del gone0
-    fi
-    ip link set "$base" mtu 1234
-    kill -CONT "$watch"
-    waits_for "$base: IFLA_MTU [0-9]+ -> 1234$"
-    stops_watch
-    if grep -E ' IFLA_STATS(64)? ' "$folder/news" >&2; then
-        fails 'watch prints counters'
-    fi
-    echo 'live: watch: changes without counters, a port that left, a bridge that went, and a queue that ran over'
 }
 
 # in the namespace
@@ -254,7 +145,7 @@ inside() {
     reads_hex 'a namespace'
     meets_faults
     if [ "$base" = none ]; then
-        skips 'setmtu and watch: the kernel knows neither dummy nor veth'
+        skips 'setmtu: the kernel knows neither dummy nor veth'
     fi
     ip link set "$base" up
     if [ "$("$folder/setmtu" "$base" 1400)" != "$base 1400" ] || [ "$(cat "/sys/class/net/$base/mtu")" != 1400 ]; then
@@ -264,7 +155,6 @@ inside() {
         fails 'setmtu does not tell that the kernel refuses'
     fi
     compares 'after setmtu'
-    watches
 }
 
 if [ "$1" = --inside ]; then
@@ -275,7 +165,7 @@ fi
 library=$1
 folder=$(mktemp -d)
 trap 'rm -rf "$folder"' EXIT
-for example in links setmtu watch; do
+for example in links setmtu; do
     ${CC:-cc} -std=c11 -D_GNU_SOURCE -O1 -Wall -Wextra -Wpedantic -Werror -I"$top/include" -o "$folder/$example" \
         "$top/examples/c/$example.c" "$library"
 done
