@@ -1,10 +1,10 @@
 -- What the exported functions return: numbers of at least 0, and refusals as minus their numbers.
 use Rattle.std.specs.Prelude.{◌≡◌, ℕ, ℤ, pos, negsuc, suc, Bool, Result, Ok, Err, if◌then◌else◌}
 use Rattle.nla_wire.specs.Causes.{cause_number}
-use Rattle.link_msg.specs.declared.canonical_text.CanonError.{CanonError}
-use Rattle.link_msg.specs.declared.canonical_text.CanonError.TheVariants as Canons
-use Rattle.link_msg.specs.declared.canonical_text.RoomError.{RoomError}
-use Rattle.link_msg.specs.declared.canonical_text.RoomError.TheVariants as Rooms
+use Rattle.link_msg.specs.declared.encoding.CanonError.{CanonError}
+use Rattle.link_msg.specs.declared.encoding.CanonError.TheVariants as Canons
+use Rattle.link_msg.specs.declared.encoding.RoomError.{RoomError}
+use Rattle.link_msg.specs.declared.encoding.RoomError.TheVariants as Rooms
 use Rattle.link_c.specs.declared.refusal.Refusal.{Refusal}
 use Rattle.link_c.specs.declared.refusal.Refusal.TheVariants.{Fault, Unfit, EmptyPorts, OutOfMemory, NoRoom}
 

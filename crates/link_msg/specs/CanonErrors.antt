@@ -3,10 +3,10 @@ use Rattle.std.specs.Prelude.{◌≡◌, ℕ}
 use Rattle.nla_wire.specs.declared.error.Cause.{Cause}
 use Rattle.nla_wire.specs.declared.error.Cause.TheVariants as Causes
 use Rattle.nla_wire.specs.declared.error.DecodeError.{DecodeError}
-use Rattle.link_msg.specs.declared.canonical_text.CanonError.{CanonError}
-use Rattle.link_msg.specs.declared.canonical_text.RoomError.{RoomError}
-use Rattle.link_msg.specs.declared.canonical_text.RoomError.TheVariants as Rooms
-use Rattle.link_msg.specs.declared.canonical_text.CanonError.TheVariants.{Decode, DoesNotFit, EmptyVfPorts, OutOfMemory}
+use Rattle.link_msg.specs.declared.encoding.CanonError.{CanonError}
+use Rattle.link_msg.specs.declared.encoding.RoomError.{RoomError}
+use Rattle.link_msg.specs.declared.encoding.RoomError.TheVariants as Rooms
+use Rattle.link_msg.specs.declared.encoding.CanonError.TheVariants.{Decode, DoesNotFit, EmptyVfPorts, OutOfMemory}
 
 abbrev pub canon_error_number : CanonError → ℕ
 canon_error_number (Decode e) = 1

@@ -15,10 +15,10 @@ use Rattle.link_vals.specs.declared.address_family.AddressFamily.{AddressFamily}
 use Rattle.link_msg.specs.declared.attribute.LinkAttribute.{LinkAttribute}
 use Rattle.link_msg.specs.declared.header.LinkHeader.{LinkHeader}
 use Rattle.link_msg.specs.declared.message.LinkMessage.{LinkMessage}
-use Rattle.link_msg.specs.declared.canonical_text.RoomError.{RoomError}
-use Rattle.link_msg.specs.declared.canonical_text.RoomError.TheVariants as Rooms
-use Rattle.link_msg.specs.declared.canonical_text.CanonError.{CanonError}
-use Rattle.link_msg.specs.declared.canonical_text.CanonError.TheVariants as Refusals
+use Rattle.link_msg.specs.declared.encoding.RoomError.{RoomError}
+use Rattle.link_msg.specs.declared.encoding.RoomError.TheVariants as Rooms
+use Rattle.link_msg.specs.declared.encoding.CanonError.{CanonError}
+use Rattle.link_msg.specs.declared.encoding.CanonError.TheVariants as Refusals
 
 -- b means m, which fits and holds no empty ports
 pub record IsAccepted (b : List ℕ) (m : LinkMessage) : Type 0 where

@@ -5,7 +5,7 @@
 
 pub mod attribute;
 pub mod before_fault;
-pub mod canonical_text;
+pub mod encoding;
 mod family;
 pub mod fault_at;
 pub mod fault_path;
@@ -23,16 +23,16 @@ mod view;
 mod walk;
 
 pub use attribute::LinkAttribute;
-pub use canonical_text::CANONICAL_FORM;
-pub use canonical_text::CanonError;
-pub use canonical_text::RoomError;
-pub use canonical_text::canonical;
-pub use canonical_text::canonical_into;
-pub use canonical_text::canonical_len;
-pub use canonical_text::canonical_within;
-pub use canonical_text::same_message;
-pub use canonical_text::same_refusal;
-pub use canonical_text::same_room_refusal;
+pub use encoding::CANONICAL_FORM;
+pub use encoding::CanonError;
+pub use encoding::RoomError;
+pub use encoding::canonical;
+pub use encoding::canonical_into;
+pub use encoding::canonical_len;
+pub use encoding::canonical_within;
+pub use encoding::same_message;
+pub use encoding::same_refusal;
+pub use encoding::same_room_refusal;
 pub use fault_path::FaultPath;
 pub use header::LinkHeader;
 pub use header::LinkMessageBuffer;

@@ -5,7 +5,7 @@ ghost use Rattle.std.specs.Prelude.{IfOk, IfErr, MatchResult};
 ghost use Rattle.nla_wire.specs.Frames.{IsFrame, number};
 ghost use Rattle.nla_wire.specs.Grammar.{list};
 ghost use Rattle.nla_wire.specs.Canon.{canon, canons, AllFit, Weighs, HasRoom, Rewrites, RoomWhereFit, Canonical};
-ghost use Rattle.nla_wire.specs.Canon.{MeansText};
+ghost use Rattle.nla_wire.specs.Canon.{MeansEncoding};
 ghost use Rattle.link_msg.specs.Prefixes.{IsOwnText};
 ghost use Rattle.link_msg.specs.declared.attribute.LinkAttribute.TheVariants.{Other};
 ghost use Rattle.link_msg.specs.declared.numbers.TheConstants.{IFLA_VF_PORTS};
@@ -313,7 +313,7 @@ impl LinkAttribute {
     ) -> Option<usize>
         requires room { RoomWhereFit (λ v. canon (attribute_frame v)) AttributeFits
             ((attribute_place family).reads buffer.now) (length out.old) }
-        ensures means { MeansText ((attribute_place family).means buffer.now)
+        ensures means { MeansEncoding ((attribute_place family).means buffer.now)
             (λ v. canon (attribute_frame v)) AttributeFits out.old out.new result }
         ensures reads { Canonical (λ v. canon (attribute_frame v)) AttributeFits
             ((attribute_place family).reads buffer.now) out.old out.new result }
@@ -372,7 +372,7 @@ impl LinkAttribute {
     ) -> Option<usize>
         requires room { RoomWhereFit (canons attribute_frame) (AllFit AttributeFits attribute_frame)
             ((list (attribute_place family)).reads bytes.now) (length out.old) }
-        ensures means { MeansText ((list (attribute_place family)).means bytes.now)
+        ensures means { MeansEncoding ((list (attribute_place family)).means bytes.now)
             (canons attribute_frame) (AllFit AttributeFits attribute_frame)
             out.old out.new result }
         ensures reads { Canonical (canons attribute_frame) (AllFit AttributeFits attribute_frame)

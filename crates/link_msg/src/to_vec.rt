@@ -4,7 +4,7 @@ ghost use Rattle.std.specs.Prelude.{◌≡◌, ◌↔◌, IsTrue, IfOk, IfErr};
 ghost use Rattle.link_msg.specs.Messages.{Means, message_text, MessageFits, NoEmptyPorts};
 ghost use Rattle.link_msg.specs.Written.{IsUnwritten, IsWhole};
 
-use crate::canonical_text::CanonError;
+use crate::encoding::CanonError;
 use crate::message::LinkMessage;
 use nla_wire::Cause;
 use std::alloc::{AllocError, Global};

@@ -4,7 +4,7 @@ ghost use Rattle.std.specs.Prelude.{◌≡◌, ◌≢◌, ◌+◌, ◌≤◌, �
 ghost use Rattle.std.specs.Int.{to_le_bytes};
 ghost use Rattle.nla_wire.specs.Sizes.{most_payload};
 ghost use Rattle.nla_wire.specs.Canon.{Filled, Weighs, HasRoom, Rewrites, RoomWhereFit, Canonical, Writes};
-ghost use Rattle.nla_wire.specs.Canon.{MeansLength, MeansText, MeansWritten};
+ghost use Rattle.nla_wire.specs.Canon.{MeansLength, MeansEncoding, MeansWritten};
 ghost use Rattle.nla_wire.specs.Gives.{Gives, Checks};
 ghost use Rattle.nla_wire.specs.declared.error.Cause.TheVariants.{OutOfMemory};
 ghost use Rattle.link_nest.specs.Wireless.{wireless_event, wireless_text, WirelessFits, event_text, event_header};
@@ -159,7 +159,7 @@ impl WirelessEvent {
     pub fn canon(payload: &[u8], out: &mut [u8]) -> Option<usize>
         requires room { RoomWhereFit wireless_text WirelessFits (wireless_event.reads payload.now)
             (length out.old) }
-        ensures means { MeansText (wireless_event.means payload.now) wireless_text WirelessFits
+        ensures means { MeansEncoding (wireless_event.means payload.now) wireless_text WirelessFits
             out.old out.new result }
         ensures reads { Canonical wireless_text WirelessFits
             (wireless_event.reads payload.now) out.old out.new result }

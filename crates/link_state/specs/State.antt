@@ -6,9 +6,9 @@ use Rattle.link_vals.specs.AddressFamilyTable.{address_family_of}
 use Rattle.link_msg.specs.Header.{header_size}
 use Rattle.link_msg.specs.Messages.{message_text}
 use Rattle.link_msg.specs.Canonical.{IsAccepted, IsRefusalAlone}
-use Rattle.link_msg.specs.declared.canonical_text.CanonError.{CanonError}
-use Rattle.link_msg.specs.declared.canonical_text.RoomError.{RoomError}
-use Rattle.link_msg.specs.declared.canonical_text.RoomError.TheVariants as Rooms
+use Rattle.link_msg.specs.declared.encoding.CanonError.{CanonError}
+use Rattle.link_msg.specs.declared.encoding.RoomError.{RoomError}
+use Rattle.link_msg.specs.declared.encoding.RoomError.TheVariants as Rooms
 use Rattle.link_msg.specs.declared.message.LinkMessage.{LinkMessage}
 use Rattle.link_state.specs.Cleared.{cleared}
 use Rattle.link_state.specs.Masks.{mask}

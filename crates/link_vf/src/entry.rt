@@ -5,7 +5,7 @@ ghost use Rattle.nla_wire.specs.Sizes.{most_payload, plain_growth};
 ghost use Rattle.nla_wire.specs.Frames.{Frame};
 ghost use Rattle.nla_wire.specs.Grammar.{Grammar, picked};
 ghost use Rattle.nla_wire.specs.Canon.{canon, canons, AllFit, Weighs, HasRoom, Rewrites, RoomWhereFit, Canonical};
-ghost use Rattle.nla_wire.specs.Canon.{MeansLength, MeansText, MeansWritten};
+ghost use Rattle.nla_wire.specs.Canon.{MeansLength, MeansEncoding, MeansWritten};
 ghost use Rattle.nla_wire.specs.Gives.{Fails, Gives, Checks};
 ghost use Rattle.nla_wire.specs.declared.error.Cause.TheVariants.{OutOfMemory};
 ghost use Rattle.link_vf.specs.Entries.{entry, EntryLaws};
@@ -95,7 +95,7 @@ pub trait Entry: Nla + Drop + Sized {
         requires room { RoomWhereFit (λ v. canons Self.Member.frame (members v))
             (λ v. AllFit Self.Member.fits Self.Member.frame (members v))
             ((entry of Self.Member.grammar).reads payload.now) (length out.old) }
-        ensures means { MeansText ((entry of Self.Member.grammar).means payload.now)
+        ensures means { MeansEncoding ((entry of Self.Member.grammar).means payload.now)
             (λ v. canons Self.Member.frame (members v))
             (λ v. AllFit Self.Member.fits Self.Member.frame (members v)) out.old out.new result }
         ensures reads { Canonical (λ v. canons Self.Member.frame (members v))
@@ -174,7 +174,7 @@ pub trait Entry: Nla + Drop + Sized {
     final fn canon_list(payload: &[u8], out: &mut [u8]) -> Option<usize>
         requires room { RoomWhereFit (canons Self.frame) (AllFit Self.fits Self.frame)
             ((picked grammar).reads payload.now) (length out.old) }
-        ensures means { MeansText ((picked grammar).means payload.now) (canons Self.frame)
+        ensures means { MeansEncoding ((picked grammar).means payload.now) (canons Self.frame)
             (AllFit Self.fits Self.frame) out.old out.new result }
         ensures reads { Canonical (canons Self.frame) (AllFit Self.fits Self.frame)
             ((picked grammar).reads payload.now) out.old out.new result }

@@ -4,8 +4,8 @@ use Rattle.std.specs.Prelude.{Result, Ok, Err, OnOk, is_ok, codes, if◌then◌e
 use Rattle.std.specs.declared.alloc.AllocError.{AllocError}
 use Rattle.hex.specs.Hex.{decode_of, encode_lower}
 use Rattle.hex.specs.declared.error.FromHexError.{FromHexError}
-use Rattle.link_msg.specs.declared.canonical_text.CanonError.{CanonError}
-use Rattle.link_msg.specs.declared.canonical_text.CanonError.TheVariants.{Decode, DoesNotFit, EmptyVfPorts}
+use Rattle.link_msg.specs.declared.encoding.CanonError.{CanonError}
+use Rattle.link_msg.specs.declared.encoding.CanonError.TheVariants.{Decode, DoesNotFit, EmptyVfPorts}
 use Rattle.link_msg.specs.Messages.{MeansNothing}
 use Rattle.link_msg.specs.Canonical.{IsRefusal}
 use Rattle.nla_wire.specs.declared.error.DecodeError.{DecodeError}

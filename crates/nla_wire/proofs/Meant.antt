@@ -1,7 +1,7 @@
 -- What is written and measured, in the words of the relations.
 use Rattle.std.proofs.Common.{◌≡◌, ℕ, List, Option, Some, None, Result, Ok, Err, refl, subst}
 use Rattle.nla_wire.specs.Grammar.{Grammar, Agrees}
-use Rattle.nla_wire.specs.Canon.{Weighs, Rewrites, Canonical, Writes, MeansLength, MeansText, MeansWritten}
+use Rattle.nla_wire.specs.Canon.{Weighs, Rewrites, Canonical, Writes, MeansLength, MeansEncoding, MeansWritten}
 use Rattle.nla_wire.specs.declared.error.Cause.{Cause}
 use Rattle.nla_wire.proofs.Meaning.{ok_once, not_both}
 
@@ -18,7 +18,7 @@ module _ {S V : Type 0} {One : S → Type 0} (g : Grammar S V) (h : Agrees One g
   length_of fits (Err c) e None w = λ a m fit. not_both (g.reads s) a c (h.only s a m) e
 
   text_of : (fits : V → Type 0) (read : Result V Cause) → g.reads s ≡ read → (old new : List ℕ) (r : Option ℕ)
-      → Canonical text fits read old new r → MeansText (g.means s) text fits old new r
+      → Canonical text fits read old new r → MeansEncoding (g.means s) text fits old new r
   text_of fits (Ok v) e old new (Some n) (fit, is) = (v, h.found s v one e, fit, is)
   text_of fits (Ok v) e old new None (not, same) = (none_fits fits v e not, same)
   text_of fits (Err c) e old new (Some n) w = absurd w
@@ -30,7 +30,7 @@ module _ {S V : Type 0} {One : S → Type 0} (g : Grammar S V) (h : Agrees One g
   means_length fits r weighs = length_of fits (g.reads s) refl r weighs
 
   pub means_text : (fits : V → Type 0) (old new : List ℕ) (r : Option ℕ) → Canonical text fits (g.reads s) old new r
-      → MeansText (g.means s) text fits old new r
+      → MeansEncoding (g.means s) text fits old new r
   means_text fits old new r canonical = text_of fits (g.reads s) refl old new r canonical
 
   pub means_written : (old new : List ℕ) (n : ℕ) → Rewrites text (g.reads s) old new n

@@ -101,9 +101,10 @@ MeansLength {V} Means encoding fits (Some n) = (v : V) × Means v × fits v × (
 MeansLength {V} Means encoding fits None = (v : V) → Means v → fits v → ⊥
 
 -- they mean a value that fits, whose encoding stands at the front; or they mean none that fits, and nothing changed
-abbrev pub MeansText : {V : Type 0} → (V → Type 0) → (V → List ℕ) → (V → Type 0) → List ℕ → List ℕ → Option ℕ → Type 0
-MeansText {V} Means encoding fits old new (Some n) = (v : V) × Means v × fits v × Writes (encoding v) old new n
-MeansText {V} Means encoding fits old new None = ((v : V) → Means v → fits v → ⊥) × (new ≡ old)
+abbrev pub MeansEncoding : {V : Type 0} → (V → Type 0) → (V → List ℕ) → (V → Type 0) → List ℕ → List ℕ → Option ℕ
+    → Type 0
+MeansEncoding {V} Means encoding fits old new (Some n) = (v : V) × Means v × fits v × Writes (encoding v) old new n
+MeansEncoding {V} Means encoding fits old new None = ((v : V) → Means v → fits v → ⊥) × (new ≡ old)
 
 -- the encoding of what they mean stands at the front
 abbrev pub MeansWritten : {V : Type 0} → (V → Type 0) → (V → List ℕ) → List ℕ → List ℕ → ℕ → Type 0

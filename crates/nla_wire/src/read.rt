@@ -5,7 +5,7 @@ ghost use Rattle.nla_wire.specs.Sizes.{most_payload, growth};
 ghost use Rattle.nla_wire.specs.Frames.{Frame, IsFrame};
 ghost use Rattle.nla_wire.specs.Grammar.{Grammar, Agrees, list, not_empty};
 ghost use Rattle.nla_wire.specs.Canon.{canon, canons, AllFit, Weighs, HasRoom, Rewrites};
-ghost use Rattle.nla_wire.specs.Canon.{RoomWhereFit, Canonical, MeansLength, MeansText, MeansWritten};
+ghost use Rattle.nla_wire.specs.Canon.{RoomWhereFit, Canonical, MeansLength, MeansEncoding, MeansWritten};
 ghost use Rattle.nla_wire.specs.Gives.{Fails, Gives, Checks};
 ghost use Rattle.nla_wire.specs.declared.error.Cause.TheVariants.{OutOfMemory};
 
@@ -135,8 +135,8 @@ pub trait NlaRead: Nla + Drop {
         Self: Sized,
         requires room { RoomWhereFit (λ v. canon (Self.frame v)) Self.fits
             (grammar.reads buffer.now) (length out.old) }
-        ensures means { MeansText (grammar.means buffer.now) (λ v. canon (Self.frame v)) Self.fits
-            out.old out.new result }
+        ensures means { MeansEncoding (grammar.means buffer.now) (λ v. canon (Self.frame v))
+            Self.fits out.old out.new result }
         ensures reads { Canonical (λ v. canon (Self.frame v)) Self.fits
             (grammar.reads buffer.now) out.old out.new result }
     {
@@ -236,7 +236,7 @@ pub trait NlaRead: Nla + Drop {
         Self: Sized,
         requires room { RoomWhereFit (canons Self.frame) (AllFit Self.fits Self.frame)
             ((list grammar).reads bytes.now) (length out.old) }
-        ensures means { MeansText ((list grammar).means bytes.now) (canons Self.frame)
+        ensures means { MeansEncoding ((list grammar).means bytes.now) (canons Self.frame)
             (AllFit Self.fits Self.frame) out.old out.new result }
         ensures reads { Canonical (canons Self.frame) (AllFit Self.fits Self.frame)
             ((list grammar).reads bytes.now) out.old out.new result }

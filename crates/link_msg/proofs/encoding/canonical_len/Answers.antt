@@ -1,5 +1,5 @@
 use Rattle.link_msg.proofs.Writing.{measured_message, measured_accepted, measured_length}
-use Rattle.link_msg.proofs.canonical_text.canonical_len.Goals as goal
+use Rattle.link_msg.proofs.encoding.canonical_len.Goals as goal
 
 pub returns : goal.returns
 returns c = (

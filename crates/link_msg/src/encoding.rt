@@ -60,7 +60,7 @@ pub fn same_refusal(one: &CanonError, other: &CanonError) -> bool
 }
 
 impl From<AllocError> for CanonError {
-    ghost use Rattle.link_msg.specs.declared.canonical_text.CanonError.TheVariants.{OutOfMemory};
+    ghost use Rattle.link_msg.specs.declared.encoding.CanonError.TheVariants.{OutOfMemory};
 
     ghost from_gives = { λ _ e. e ≡ OutOfMemory };
 
@@ -240,7 +240,7 @@ pub fn same_room_refusal(one: &RoomError, other: &RoomError) -> bool
 }
 
 impl From<CanonError> for RoomError {
-    ghost use Rattle.link_msg.specs.declared.canonical_text.RoomError.TheVariants.{NoText};
+    ghost use Rattle.link_msg.specs.declared.encoding.RoomError.TheVariants.{NoText};
 
     ghost from_gives = { λ e r. r ≡ NoText e };
 

@@ -1,6 +1,6 @@
 use Rattle.std.proofs.lemmas.Result.{err_from_is_err_and}
 use Rattle.link_msg.proofs.Answering.{refused_for}
-use Rattle.link_msg.proofs.canonical_text.parse_accepted.Goals as goal
+use Rattle.link_msg.proofs.encoding.parse_accepted.Goals as goal
 
 pub returns-in_err-message-clause-err : goal.returns-in_err-message-clause-err
 returns-in_err-message-clause-err c =

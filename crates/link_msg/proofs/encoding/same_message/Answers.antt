@@ -2,7 +2,7 @@ use Rattle.std.proofs.Common.{arith, sym, ◌∙◌}
 use Rattle.nla_wire.proofs.Front.{all_bytes}
 use Rattle.link_msg.proofs.Answering.{compared}
 use Rattle.link_msg.specs.contracts.message.LinkMessageExact.TheImpl.Laws.{decides-law as message_exact}
-use Rattle.link_msg.proofs.canonical_text.same_message.Goals as goal
+use Rattle.link_msg.proofs.encoding.same_message.Goals as goal
 
 pub returns-clause-ok : goal.returns-clause-ok
 returns-clause-ok c =

@@ -4,7 +4,7 @@ use Rattle.link_msg.specs.Header.{header_size, header_bytes}
 use Rattle.link_msg.specs.Tables.{attribute_place, AttributeFits}
 use Rattle.link_msg.specs.Prefixes.{attribute_text}
 use Rattle.link_msg.proofs.Prefixes.{prefix_room, prefix_writes}
-use Rattle.link_msg.proofs.canonical_text.write_after_prefix.Goals as goal
+use Rattle.link_msg.proofs.encoding.write_after_prefix.Goals as goal
 
 pub write_members-requires : goal.write_members-requires
 write_members-requires c =

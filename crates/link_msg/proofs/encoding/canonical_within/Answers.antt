@@ -1,6 +1,6 @@
 use Rattle.std.proofs.Common.{refl}
 use Rattle.link_msg.proofs.Writing.{measured_message, measured_accepted, measured_length}
-use Rattle.link_msg.proofs.canonical_text.canonical_within.Goals as goal
+use Rattle.link_msg.proofs.encoding.canonical_within.Goals as goal
 
 pub returns-then-out-len : goal.returns-then-out-len
 returns-then-out-len c = (

@@ -1,9 +1,9 @@
 use Rattle.std.proofs.Common.{◌≢◌, arith}
 use Rattle.std.proofs.lemmas.Result.{err_from_is_err_and}
 use Rattle.nla_wire.proofs.Front.{all_bytes}
-use Rattle.link_msg.specs.declared.canonical_text.CanonError.TheVariants as Refusals
+use Rattle.link_msg.specs.declared.encoding.CanonError.TheVariants as Refusals
 use Rattle.link_msg.proofs.Writing.{measured_refused, measured_none, measured_long, measured_empty, measured_whole}
-use Rattle.link_msg.proofs.canonical_text.measure.Goals as goal
+use Rattle.link_msg.proofs.encoding.measure.Goals as goal
 
 pub returns-in_err-check_attributes-clause-err : goal.returns-in_err-check_attributes-clause-err
 returns-in_err-check_attributes-clause-err c =

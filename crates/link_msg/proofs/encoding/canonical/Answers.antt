@@ -4,7 +4,7 @@ use Rattle.nla_wire.proofs.Front.{all_bytes}
 use Rattle.link_msg.specs.Header.{header_size}
 use Rattle.link_msg.specs.Canonical.{HasText}
 use Rattle.link_msg.proofs.Writing.{measured_room, measured_begun, measured_text, began}
-use Rattle.link_msg.proofs.canonical_text.canonical.Goals as goal
+use Rattle.link_msg.proofs.encoding.canonical.Goals as goal
 
 pub write_after_prefix-len-requires-clause-measured : goal.write_after_prefix-len-requires-clause-measured
 write_after_prefix-len-requires-clause-measured c =

@@ -1,6 +1,6 @@
 use Rattle.std.proofs.Common.{◌+◌, ◌-◌, arith}
 use Rattle.link_msg.proofs.Writing.{begun}
-use Rattle.link_msg.proofs.canonical_text.write_message.Goals as goal
+use Rattle.link_msg.proofs.encoding.write_message.Goals as goal
 
 pub returns : goal.returns
 returns c =
