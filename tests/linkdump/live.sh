@@ -400,6 +400,7 @@ differs() {
     says '"change":"changed","ifi-family":0,.*"ifname":"port0",.*\{"path":"master","old":[0-9]+\}'
     ip link del bridge0
     says '"change":"gone","ifi-family":0,.*"ifname":"bridge0"'
+    says '"change":"gone","ifi-family":7,.*"ifname":"bridge0"'
     overfills
     ip link add gone0 type "$kind"
     ip link set "$base" mtu 1235

@@ -4,6 +4,12 @@ use link_msg::header::HEADER_SIZE;
 use nla_wire::fields::u32_at;
 use std::alloc::{AllocError, Global};
 
+/// The family of messages that speak of an interface alone.
+const AF_UNSPEC: u8 = 0;
+
+/// The family of messages that speak of an interface as a bridge or the port of one.
+const AF_BRIDGE: u8 = 7;
+
 /// An interface.
 #[derive(PartialEq, Eq, PartialOrd, Ord, Drop)]
 pub struct Key {
@@ -28,5 +34,18 @@ impl Key {
             family: message[0],
             index: u32_at(message, 4),
         })
+    }
+
+    /// The same interface as a bridge or the port of one, if this is the interface alone.
+    pub fn in_bridge(&self, alloc: Global) -> Result<Option<Key>, AllocError> {
+        if self.family != AF_UNSPEC {
+            return Ok(None);
+        }
+        let host = self.host.as_slice().to_vec(alloc)?;
+        Ok(Some(Key {
+            host,
+            family: AF_BRIDGE,
+            index: self.index,
+        }))
     }
 }

@@ -2,6 +2,7 @@
 
 ghost use Rattle.std.specs.Prelude.{◌≡◌, ◌↔◌, OnOk};
 
+use crate::key::Key;
 use crate::reading::{LineReader, Said};
 use crate::store::{Entry, Store};
 use message_diff::{Compared, Snapshot, push_changed, push_gone, push_new};
@@ -47,17 +48,36 @@ impl Watch {
             last: BTreeMap::new(alloc),
         }
     }
+
+    /// Adds a line for an interface that went, and one for it in its bridge: of a bridge the kernel announces only the
+    /// first.
+    fn end(
+        &mut self,
+        alloc: Global,
+        key: &Key,
+        snapshot: Snapshot,
+        out: &mut Vec<u8>,
+    ) -> Result<(), AllocError> {
+        let words = self.reader.words.as_slice();
+        let mut old = snapshot;
+        let _last = self.last.remove(key);
+        push_gone(alloc, words, &mut old, out)?;
+        let Some(in_bridge) = key.in_bridge(alloc)? else {
+            return Ok(());
+        };
+        let Some(entry) = self.last.remove(&in_bridge) else {
+            return Ok(());
+        };
+        let mut last = entry;
+        push_gone(alloc, words, &mut last.snapshot, out)
+    }
 }
 
 impl Take for Watch {
     fn take(&mut self, alloc: Global, line: &[u8], out: &mut Vec<u8>) -> Result<(), AllocError> {
         match self.reader.read(alloc, line, out)? {
             Said::Nothing => Ok(()),
-            Said::Went(key, snapshot) => {
-                let mut old = snapshot;
-                let _last = self.last.remove(&key);
-                push_gone(alloc, self.reader.words.as_slice(), &mut old, out)
-            }
+            Said::Went(key, snapshot) => self.end(alloc, &key, snapshot, out),
             Said::Is(key, snapshot) => {
                 let words = self.reader.words.as_slice();
                 match self.last.get_mut(&key) {
@@ -105,6 +125,9 @@ impl Take for Loader {
             Said::Nothing => Ok(()),
             Said::Went(key, _snapshot) => {
                 let _last = self.last.remove(&key);
+                if let Some(in_bridge) = key.in_bridge(alloc)? {
+                    let _port = self.last.remove(&in_bridge);
+                }
                 Ok(())
             }
             Said::Is(key, snapshot) => {
