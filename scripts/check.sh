@@ -22,14 +22,14 @@ gate() {
 }
 
 libraries() {
-    scripts/dist.sh --compare link_c
+    stage 'the text of link_c' scripts/dist.sh --compare link_c
     scripts/c_library.sh --built
     make -s -o out/library.o out/liblinkwire.a out/liblinkwire.so.0
     scripts/c_tests.sh out/liblinkwire.a crates/linkdiff/out out
     scripts/linkdump_tests.sh
     python3 scripts/readme.py out/liblinkwire.a crates/linkwire/out crates/linkshow/out crates/linkstate/out \
         crates/linkdiff/out out
-    scripts/dist_tests.sh
+    stage 'builds of dist/' scripts/dist_tests.sh
 }
 
 programs() {
@@ -55,8 +55,8 @@ programs() {
     scripts/tested_edits.sh
     scripts/kernel_tables.sh
     scripts/test_kernel_tables.sh
-    scripts/dist.sh --compare "${names[@]}"
-    scripts/test_dist.sh
+    stage 'the texts of the programs' scripts/dist.sh --compare "${names[@]}"
+    stage 'slips in dist/' scripts/test_dist.sh
 }
 
 python3 scripts/lines.py
