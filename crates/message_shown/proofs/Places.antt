@@ -1,20 +1,22 @@
 -- The attributes of a place, one after another.
 use Rattle.std.proofs.Common.{◌≡◌, ℕ, zero, suc, ◌≤◌, ◌||◌, inl, inr, set, ◌+◌, ◌<◌, ◌==◌, List, [], ◌∷◌, ◌++◌}
 use Rattle.std.proofs.Common.{length, get_or, drop, refl, sym, ap, ◌∙◌, arith}
-use Rattle.std.specs.Prelude.{Bool, true, false, None, Some, cond, not, map, slice_index}
-use Rattle.std.specs.List.{flat_map}
+use Rattle.std.specs.Prelude.{Bool, true, false, None, Some, codes, cond, not, map, replicate, slice_index}
+use Rattle.std.specs.List.{flat_map, list_any}
 use Rattle.std.proofs.lemmas.List.{at_drop_more, drop-map, get_or-map, length-map, get_or-set_other}
+use Rattle.std.proofs.lemmas.List.{append-nil, get_or_default}
+use Rattle.std.proofs.Math.Bool.{or-false}
 use Rattle.std.proofs.lemmas.Grind.{get_or-set_at}
 use Rattle.std.proofs.lemmas.List.Concat.{flat_map-append}
 use Rattle.std.proofs.lemmas.Bool.Decides.{eqb_tells}
-use Rattle.std.proofs.lemmas.Bool.{eq-eqb, ne_eqb}
+use Rattle.std.proofs.lemmas.Bool.{eq-eqb, ne_eqb, or_from, or_parts}
 use Rattle.std.proofs.lemmas.List.Sums.{fold-append}
 use Rattle.json.specs.Token.{Token}
 use Rattle.shown.specs.Drafts.{Draft, Members, Ends, with_value, with_begun, with_members, object_of, list_of}
 use Rattle.shown.specs.declared.page.Nest.TheVariants.{Object, List as Items}
 use Rattle.shown.proofs.Drafts.{list_ended, object_ended}
 use Rattle.message_shown.specs.Places.{Item, shown_as, number_in, has_number, comes_in}
-use Rattle.message_shown.specs.Places.{last_ones, earlier_ones, named_ones, objects, TellsLast}
+use Rattle.message_shown.specs.Places.{last_ones, earlier_ones, named_ones, kept_ones, objects, TellsLast}
 use Rattle.message_shown.specs.Places.{are_any, list_under, values_of}
 use Rattle.message_shown.specs.Causes.{AddsMembers}
 use Rattle.message_shown.specs.Functions.{objects_under}
@@ -160,6 +162,13 @@ list_shown name vs ms old last new any same is ends =
     ∙ (λ k. with_value name (list_of (same k)) old)
     ∙ ap (λ members. with_members members old) (sym (under name vs any))
 
+pub objects_ended : (name : List ℕ) (os : List Members) (old last new : Draft)
+    → last ≡ with_members (objects os) (with_begun name Items old) → Ends last new
+    → new ≡ with_value name (list_of (flat_map (λ v. v) (map object_of os))) old
+objects_ended name os old last new is ends =
+    list_ended name (objects os) old last new is ends
+    ∙ ap (λ v. with_value name (list_of v) old) (objects_values os)
+
 pub objects_shown : (name : List ℕ) (os : List Members) (old last new : Draft) → are_any os ≡ true
     → last ≡ with_members (objects os) (with_begun name Items old) → Ends last new
     → new ≡ with_members (list_under name (map object_of os)) old
@@ -279,3 +288,139 @@ tells_last n found items i d l is = by_rest (comes_in n (drop (suc i) items)) re
   by_rest true is =
       ne_eqb _ i (λ h. omega (arith, place, h, some_later n i (i + 1) (drop (suc i) items) is))
       ∙ ap not (sym (ap (comes_in n) (sym next) ∙ is))
+
+-- ** whether one comes again
+
+-- no place
+abbrev no_place : ℕ
+no_place = 18446744073709551615
+
+-- whether the table has a place for its number
+abbrev pub is_told : List ℕ → Item → Bool
+is_told table (Item.named n ms) = not (get_or table n no_place == no_place)
+is_told table (Item.as_is name kind payload) = false
+
+-- whether one of them comes again: after those that the table tells, or after another of them
+abbrev pub repeats : List ℕ → List Item → Bool
+repeats table items = list_any (is_told table) items || are_any (earlier_ones items)
+
+none_told : (k n : ℕ) → get_or (replicate k no_place) n no_place ≡ no_place
+none_told zero n = refl
+none_told (suc k) zero = refl
+none_told (suc k) (suc n) = none_told k n
+
+none_told_yet : (x : Item) → is_told (replicate 128 no_place) x ≡ false
+none_told_yet (Item.named n ms) = ap not (eq-eqb _ no_place (none_told 128 n))
+none_told_yet (Item.as_is name kind payload) = refl
+
+pub none_repeats : (items : List Item)
+    → (repeats (replicate 128 no_place) items || false) ≡ are_any (earlier_ones items)
+none_repeats items = or-false _ ∙ ap (λ b. b || are_any (earlier_ones items)) (none items) where
+  none : (items : List Item) → list_any (is_told (replicate 128 no_place)) items ≡ false
+  none [] = refl
+  none (x ∷ items) = or_from _ _ (none_told_yet x) (none items)
+
+-- one that is kept leaves it so
+pub kept_repeats : (x : Item) (table : List ℕ) (rest : List Item) → number_in x ≡ None
+    → repeats table rest ≡ repeats table (x ∷ rest)
+kept_repeats (Item.named n ms) table rest is = absurd cc
+kept_repeats (Item.as_is name kind payload) table rest is = refl
+
+-- whether one is told when the place of another was stored
+told_then : (y : Item) (m i : ℕ) (table : List ℕ) → m < length table → (i ≡ no_place → ⊥)
+    → is_told (set table m i) y ≡ (has_number m y || is_told table y)
+told_then (Item.named n ms) m i table l some = elim (eqb_tells n m) [
+  | inl both ↦ ap (λ k. not (k == no_place)) (get_or-set_at table m n i no_place both.1 l)
+      ∙ ap not (ne_eqb _ _ some)
+      ∙ ap (λ b. b || is_told table (Item.named n ms)) (sym both.0)
+  | inr both ↦ ap (λ k. not (k == no_place)) (get_or-set_other table m n i no_place both.1)
+      ∙ ap (λ b. b || is_told table (Item.named n ms)) (sym both.0)
+]
+told_then (Item.as_is name kind payload) m i table l some = refl
+
+crossed : (a b c d : Bool) → ((a || b) || (c || d)) ≡ ((a || c) || (b || d))
+crossed true b c d = refl
+crossed false true true d = refl
+crossed false true false d = refl
+crossed false false c d = refl
+
+any_told_then : (m i : ℕ) (table : List ℕ) (rest : List Item) → m < length table → (i ≡ no_place → ⊥)
+    → list_any (is_told (set table m i)) rest ≡ (comes_in m rest || list_any (is_told table) rest)
+any_told_then m i table [] l some = refl
+any_told_then m i table (y ∷ rest) l some =
+    ap (λ b. b || list_any (is_told (set table m i)) rest) (told_then y m i table l some)
+    ∙ ap (λ b. (has_number m y || is_told table y) || b) (any_told_then m i table rest l some)
+    ∙ crossed (has_number m y) (is_told table y) (comes_in m rest) (list_any (is_told table) rest)
+
+any_earlier : (m : ℕ) (ms : Members) (rest : List Item)
+    → are_any (earlier_ones (Item.named m ms ∷ rest)) ≡ (comes_in m rest || are_any (earlier_ones rest))
+any_earlier m ms rest = by_cases (comes_in m rest) where
+  by_cases : (b : Bool) → are_any (cond b (ms ∷ []) [] ++ earlier_ones rest) ≡ (b || are_any (earlier_ones rest))
+  by_cases true = refl
+  by_cases false = refl
+
+shuffled : (told comes some earlier before : Bool)
+    → (((comes || some) || earlier) || (before || told)) ≡ (((told || some) || (comes || earlier)) || before)
+shuffled true true some earlier before = refl
+shuffled true false true earlier before = refl
+shuffled true false false true before = refl
+shuffled true false false false true = refl
+shuffled true false false false false = refl
+shuffled false true true earlier before = refl
+shuffled false true false earlier before = refl
+shuffled false false true earlier before = refl
+shuffled false false false true before = refl
+shuffled false false false false true = refl
+shuffled false false false false false = refl
+
+-- one that has a name is told from then on
+pub named_repeats : (x : Item) (m i : ℕ) (table : List ℕ) (rest : List Item) (before : Bool) → m < length table
+    → (i ≡ no_place → ⊥) → number_in x ≡ Some m
+    → (repeats (set table m i) rest || (before || not (slice_index table m == no_place)))
+    ≡ (repeats table (x ∷ rest) || before)
+named_repeats (Item.named n ms) m i table rest before l some is =
+    let same : n ≡ m = cc in
+    ap (λ b. (b || are_any (earlier_ones rest)) || (before || not (slice_index table m == no_place)))
+    (any_told_then m i table rest l some)
+    ∙ ap (λ k. ((comes_in m rest || list_any (is_told table) rest) || are_any (earlier_ones rest))
+    || (before || not (k == no_place))) (get_or_default table m 0 no_place l)
+    ∙ shuffled (is_told table (Item.named m ms)) (comes_in m rest) (list_any (is_told table) rest)
+    (are_any (earlier_ones rest)) before
+    ∙ ap (λ b. ((is_told table (Item.named m ms) || list_any (is_told table) rest) || b) || before)
+    (sym (any_earlier m ms rest))
+    ∙ ap (λ k. repeats table (Item.named k ms ∷ rest) || before) (sym same)
+named_repeats (Item.as_is name kind payload) m i table rest before l some is = absurd cc
+
+-- where none comes again, all that have a name are the last ones
+all_last : (items : List Item) → are_any (earlier_ones items) ≡ false → last_ones items ≡ flat_map shown_as items
+all_last [] none = refl
+all_last (Item.named n ms ∷ items) none =
+    let both = or_parts (comes_in n items) (are_any (earlier_ones items)) (sym (any_earlier n ms items) ∙ none) in
+    ap (λ b. cond b [] ms ++ last_ones items) both.0 ∙ ap (λ l. ms ++ l) (all_last items both.1)
+all_last (Item.as_is name kind payload ∷ items) none = all_last items none
+
+-- a list of none is not told
+pub none_under : (name : List ℕ) (os : List Members) → are_any os ≡ false → list_under name (map object_of os) ≡ []
+none_under name [] none = refl
+none_under name (o ∷ os) none = absurd cc
+
+pub all_shown : (items : List Item) → are_any (earlier_ones items) ≡ false
+    → flat_map shown_as items
+    ≡ last_ones items ++ list_under (codes "repeated") (map object_of (earlier_ones items))
+all_shown items none =
+    sym (all_last items none)
+    ∙ sym (append-nil (last_ones items))
+    ∙ ap (λ l. last_ones items ++ l) (sym (none_under (codes "repeated") (earlier_ones items) none))
+
+pub some_under : (name : List ℕ) (os : List Members) → are_any os ≡ true
+    → list_under name (map object_of os) ≡ (name, list_of (flat_map (λ v. v) (map object_of os))) ∷ []
+some_under name os any = under name (map object_of os) (any_mapped object_of os ∙ any)
+
+pub kept_any : (x : Item) (rest : List Item) → number_in x ≡ None → are_any (kept_ones (x ∷ rest)) ≡ true
+kept_any (Item.named n ms) rest is = absurd cc
+kept_any (Item.as_is name kind payload) rest is = refl
+
+pub named_any : (x : Item) (n : ℕ) (rest : List Item) → number_in x ≡ Some n
+    → are_any (kept_ones (x ∷ rest)) ≡ are_any (kept_ones rest)
+named_any (Item.named m ms) n rest is = refl
+named_any (Item.as_is name kind payload) n rest is = absurd cc

@@ -52,6 +52,7 @@ pub fn show_header(page: &mut Page, bytes: &[u8]) -> Result<(), AllocError>
 impl Attribute for LinkAttribute {
     ghost item = { attribute_item };
 
+    #[inline]
     fn kept_frame(&self, _cx: &Context<'_>) -> Option<KeptFrame<'_>> {
         match self {
             LinkAttribute::Other(nla) | LinkAttribute::ProtoInfoUnknown(nla) => {
@@ -65,10 +66,12 @@ impl Attribute for LinkAttribute {
     }
 
     fn add(&self, cx: &Context<'_>, page: &mut Page) -> Result<(), AllocError> {
-        if self.kept_frame(cx).is_some() {
-            return Ok(());
+        match self {
+            LinkAttribute::Other(_)
+            | LinkAttribute::ProtoInfoUnknown(_)
+            | LinkAttribute::AfSpecUnknown(_) => Ok(()),
+            _ => show_attribute(cx, page, name_of(self), self),
         }
-        show_attribute(cx, page, name_of(self), self)
     }
 
     ghost numbered = { attribute_numbered };

@@ -1,6 +1,6 @@
 //! Attributes of one place, as the members of an object.
 
-ghost use Rattle.std.specs.Prelude.{◌≡◌, ℕ, List, ◌<◌, [], ◌∷◌, OnOk, IfSome, Some, map, option_map, codes};
+ghost use Rattle.std.specs.Prelude.{◌≡◌, ℕ, List, ◌<◌, [], ◌∷◌, ◌++◌, OnOk, IfSome, Some, map, option_map, codes};
 ghost use Rattle.std.specs.List.{flat_map};
 ghost use Rattle.shown.specs.Drafts.{with_members, with_value, object_of, list_of};
 ghost use Rattle.message_shown.specs.Places.{Item, Kept, IsNumbered, shown_as, kept_in, number_in, are_any};
@@ -87,17 +87,40 @@ const NUMBERS: usize = 128;
 /// No place.
 const NONE: usize = usize::MAX;
 
-/// Where the last attribute of each number stands, of those that have a name.
-fn last_places<T: Member>(cx: &Context<'_>, items: &[T]) -> [usize; NUMBERS]
-    ensures { TellsLast (map (T.item cx.now) items.now) result }
+/// What the attributes of a place are together.
+#[derive(Drop)]
+struct Survey {
+    /// Where the last attribute of each number stands, of those that have a name.
+    last: [usize; NUMBERS],
+    /// Whether another attribute of its name stands after one of them.
+    is_any_repeated: bool,
+    /// Whether one of them is kept as it is.
+    is_any_kept: bool,
+}
+
+/// Goes over the attributes of a place once.
+fn look_over<T: Member>(cx: &Context<'_>, items: &[T]) -> Survey
+    ensures last { TellsLast (map (T.item cx.now) items.now) result.last }
+    ensures repeated { result.is_any_repeated
+        ≡ are_any (earlier_ones (map (T.item cx.now) items.now)) }
+    ensures kept { result.is_any_kept ≡ are_any (kept_ones (map (T.item cx.now) items.now)) }
 {
     let mut last = [NONE; NUMBERS];
+    let mut is_any_repeated = false;
+    let mut is_any_kept = false;
     for (i, item) in items.iter().enumerate() {
         if let Some(number) = item.number(cx) {
+            is_any_repeated |= last[number] != NONE;
             last[number] = i;
+        } else {
+            is_any_kept = true;
         }
     }
-    last
+    Survey {
+        last,
+        is_any_repeated,
+        is_any_kept,
+    }
 }
 
 /// Adds the last attribute of each name.
@@ -119,21 +142,6 @@ fn show_last<T: Member>(
         }
     }
     Ok(())
-}
-
-/// Whether another attribute of its name stands after one of them.
-fn is_repeated<T: Member>(cx: &Context<'_>, items: &[T], last: &[usize; NUMBERS]) -> bool
-    requires { TellsLast (map (T.item cx.now) items.now) last.now }
-    ensures { result ≡ are_any (earlier_ones (map (T.item cx.now) items.now)) }
-{
-    for (i, item) in items.iter().enumerate() {
-        if let Some(number) = item.number(cx) {
-            if last[number] != i {
-                return true;
-            }
-        }
-    }
-    false
 }
 
 /// Adds the attributes after which another of their name stands, as objects of one member.
@@ -160,7 +168,7 @@ fn show_earlier<T: Member>(
     Ok(())
 }
 
-/// Adds the list of the attributes after which another of their name stands, if there are any.
+/// Adds the list of the attributes after which another of their name stands.
 fn show_repeated<T: Member>(
     cx: &Context<'_>,
     page: &mut Page,
@@ -168,12 +176,9 @@ fn show_repeated<T: Member>(
     last: &[usize; NUMBERS],
 ) -> Result<(), AllocError>
     requires { TellsLast (map (T.item cx.now) items.now) last.now }
-    ensures { OnOk result (page.new ≡ with_members (list_under (codes "repeated")
-        (map object_of (earlier_ones (map (T.item cx.now) items.now)))) page.old) }
+    ensures { OnOk result (page.new ≡ with_value (codes "repeated") (list_of (flat_map (λ v. v)
+        (map object_of (earlier_ones (map (T.item cx.now) items.now))))) page.old) }
 {
-    if !is_repeated(cx, items, last) {
-        return Ok(());
-    }
     page.begin("repeated", Nest::List)?;
     show_earlier(cx, page, items, last)?;
     page.end()
@@ -217,6 +222,27 @@ fn show_kept<T: Member>(cx: &Context<'_>, page: &mut Page, items: &[T]) -> Resul
     page.end()
 }
 
+/// Adds the attributes that have a name: the last one of each name, and after them those that came before it.
+fn show_all<T: Member>(
+    cx: &Context<'_>,
+    page: &mut Page,
+    items: &[T],
+    survey: &Survey,
+) -> Result<(), AllocError>
+    requires last { TellsLast (map (T.item cx.now) items.now) survey.now.last }
+    requires repeated { survey.now.is_any_repeated
+        ≡ are_any (earlier_ones (map (T.item cx.now) items.now)) }
+    ensures { OnOk result (page.new ≡ with_members (last_ones (map (T.item cx.now) items.now)
+        ++ list_under (codes "repeated")
+        (map object_of (earlier_ones (map (T.item cx.now) items.now)))) page.old) }
+{
+    if !survey.is_any_repeated {
+        return show_named(cx, page, items);
+    }
+    show_last(cx, page, items, &survey.last)?;
+    show_repeated(cx, page, items, &survey.last)
+}
+
 /// Adds the attributes of a place: the last one of each name, and after them those that came before it, and those that
 /// are kept.
 pub fn show_members<T: Member>(
@@ -227,9 +253,11 @@ pub fn show_members<T: Member>(
     ensures { OnOk result
         (page.new ≡ with_members (members_of (map (T.item cx.now) items.now)) page.old) }
 {
-    let last = last_places(cx, items);
-    show_last(cx, page, items, &last)?;
-    show_repeated(cx, page, items, &last)?;
+    let survey = look_over(cx, items);
+    show_all(cx, page, items, &survey)?;
+    if !survey.is_any_kept {
+        return Ok(());
+    }
     show_kept(cx, page, items)
 }
 

@@ -13,7 +13,7 @@ const DIGITS: [char; 16] = [
 pub(crate) fn address_text(alloc: Global, bytes: &[u8]) -> Result<String, AllocError>
     ensures { IfOk result (λ text. string_bytes text ≡ hardware_address bytes.now) }
 {
-    let mut text = String::new(alloc);
+    let mut text = String::with_capacity(alloc, bytes.len().saturating_mul(3))?;
     for (i, byte) in bytes.iter().enumerate() {
         if i > 0 {
             text.push(':')?;

@@ -19,6 +19,9 @@ use std::alloc::{AllocError, Global};
 use std::marker::Model;
 use std::net::{Ipv4Addr, Ipv6Addr};
 
+/// How many bytes a page has room for at first: those of most messages.
+const ROOM: usize = 8192;
+
 /// What is open in a text.
 #[derive(Clone, Copy, Drop)]
 pub enum Nest {
@@ -69,6 +72,32 @@ fn put_name(writer: &mut Writer, inside: Nest, name: &str) -> Result<(), AllocEr
     }
 }
 
+/// Writes a number. Most of a link's are zero, and need no division.
+fn put_number(writer: &mut Writer, value: u64) -> Result<(), AllocError>
+    ensures ok { OnOk result
+        (writer.new.tokens ≡ writer.old.tokens ++ number (decimal value) ∷ []) }
+    ensures before { writer.new.before ≡ writer.old.before }
+{
+    if value == 0 {
+        writer.number("0")
+    } else {
+        writer.u64(value)
+    }
+}
+
+/// Writes a number that may be below zero.
+fn put_signed(writer: &mut Writer, value: i64) -> Result<(), AllocError>
+    ensures ok { OnOk result
+        (writer.new.tokens ≡ writer.old.tokens ++ number (signed_decimal value) ∷ []) }
+    ensures before { writer.new.before ≡ writer.old.before }
+{
+    if value == 0 {
+        writer.number("0")
+    } else {
+        writer.i64(value)
+    }
+}
+
 /// Writes the beginning of an object or a list.
 fn put_begin(writer: &mut Writer, nest: Nest) -> Result<(), AllocError>
     ensures ok { OnOk result (writer.new.tokens ≡ writer.old.tokens ++ opening nest ∷ []) }
@@ -103,7 +132,7 @@ impl Page {
     pub fn new(alloc: Global) -> Result<Page, AllocError>
         ensures { IfOk result (λ page. page ≡ empty_object) }
     {
-        let mut writer = Writer::new(Vec::new(alloc));
+        let mut writer = Writer::new(Vec::with_capacity(alloc, ROOM)?);
         writer.begin_object()?;
         Ok(Page {
             alloc,
@@ -138,7 +167,7 @@ impl Page {
         }
         self.whole = false;
         put_name(&mut self.writer, self.inside, name)?;
-        self.writer.u64(value)?;
+        put_number(&mut self.writer, value)?;
         self.whole = true;
         Ok(())
     }
@@ -153,7 +182,7 @@ impl Page {
         }
         self.whole = false;
         put_name(&mut self.writer, self.inside, name)?;
-        self.writer.i64(value)?;
+        put_signed(&mut self.writer, value)?;
         self.whole = true;
         Ok(())
     }

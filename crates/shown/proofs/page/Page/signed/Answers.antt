@@ -6,7 +6,7 @@ use Rattle.shown.proofs.page.Page.signed.Goals as goal
 
 pub invariant_of-self-2 : goal.invariant_of-self-2
 invariant_of-self-2 c = (
-  cc (c.in_ok-i64.ensures.room.0, c.in_ok-put_name.ensures.before, c.self.invariant.0),
-  λ _. rw (c.in_ok-i64.ensures.ok, c.in_ok-put_name.ensures.ok)
+  cc (c.in_ok-put_signed.ensures.before, c.in_ok-put_name.ensures.before, c.self.invariant.0),
+  λ _. rw (c.in_ok-put_signed.ensures.ok, c.in_ok-put_name.ensures.ok)
       (page_value _ _ _ _ _ (c.self.invariant.1 c.if-not-self.false) (λ _. refl) (signed_on_line _ (search rules))),
 )
