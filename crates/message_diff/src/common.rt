@@ -1,30 +1,59 @@
 //! What two texts have in common.
 
-ghost use Rattle.std.specs.Prelude.{◌≤◌, length};
+use crate::members::last_member;
 
-/// How many bytes two texts have in common at their fronts and at their ends.
+/// How many bytes are compared at once.
+const BLOCK: usize = 64;
+
+/// What the texts of two objects have in common.
 #[derive(Clone, Copy, Debug)]
 pub struct Common {
-    pub front: usize,
+    /// Where the first member begins that does not stand whole in the bytes at their fronts.
+    pub start: usize,
+    /// How many bytes behind these they have in common at their ends.
     pub back: usize,
+}
+
+/// How many bytes the blocks have that two texts have in common at their fronts.
+fn front_blocks(one: &[u8], other: &[u8]) -> usize {
+    let mut len = 0usize;
+    for (a, b) in one.chunks(BLOCK).zip(other.chunks(BLOCK)) {
+        if a != b {
+            return len;
+        }
+        len = len.saturating_add(a.len());
+    }
+    len
 }
 
 /// How many bytes two texts have in common at their fronts.
 fn front_len(one: &[u8], other: &[u8]) -> usize {
-    let mut len = 0usize;
-    for (a, b) in one.iter().zip(other.iter()) {
+    let mut len = front_blocks(one, other);
+    for (a, b) in one.iter().zip(other.iter()).skip(len) {
         if a != b {
             return len;
         }
         len = len.saturating_add(1);
+    }
+    len
+}
+
+/// How many bytes the blocks have that two texts have in common at their ends.
+fn back_blocks(one: &[u8], other: &[u8]) -> usize {
+    let mut len = 0usize;
+    for (a, b) in one.rchunks(BLOCK).zip(other.rchunks(BLOCK)) {
+        if a != b {
+            return len;
+        }
+        len = len.saturating_add(a.len());
     }
     len
 }
 
 /// How many bytes two texts have in common at their ends.
 fn back_len(one: &[u8], other: &[u8]) -> usize {
-    let mut len = 0usize;
-    for (a, b) in one.iter().rev().zip(other.iter().rev()) {
+    let mut len = back_blocks(one, other);
+    for (a, b) in one.iter().rev().zip(other.iter().rev()).skip(len) {
         if a != b {
             return len;
         }
@@ -33,25 +62,23 @@ fn back_len(one: &[u8], other: &[u8]) -> usize {
     len
 }
 
+/// What stands behind so many bytes.
+fn behind(text: &[u8], len: usize) -> &[u8] {
+    &text[len.min(text.len())..]
+}
+
 impl Common {
-    /// What these two texts have in common. Where one is part of the other, front and end may overlap.
+    /// What these two texts have in common.
     pub fn new(one: &[u8], other: &[u8]) -> Common {
+        let front = front_len(one, other);
         Common {
-            front: front_len(one, other),
-            back: back_len(one, other),
+            start: last_member(one, front),
+            back: back_len(behind(one, front), behind(other, front)),
         }
     }
 
     /// Nothing.
     pub fn none() -> Common {
-        Common { front: 0, back: 0 }
-    }
-
-    /// The whole of a text.
-    pub fn whole(text: &[u8]) -> Common {
-        Common {
-            front: text.len(),
-            back: 0,
-        }
+        Common { start: 0, back: 0 }
     }
 }

@@ -1,4 +1,4 @@
-//! The members that the state encoding has at zero.
+//! The rows of a message without those that the state encoding has at zero.
 
 ghost use Rattle.std.specs.Prelude.{◌≡◌, ◌≤◌, length, IfOk};
 ghost use Rattle.std.specs.List.{All};
@@ -6,7 +6,10 @@ ghost use Rattle.message_diff.specs.Members.{Has};
 
 use crate::common::Common;
 use crate::differences::value_of;
+use crate::members::members;
 use crate::rows::{Row, rows};
+use crate::snapshot::Snapshot;
+use crate::standing::{Standing, is_moving, standing_of};
 use link_msg::canonical;
 use link_msg::header::HEADER_SIZE;
 use link_state::{Level, clear};
@@ -87,28 +90,55 @@ fn marked(alloc: Global, message: &[u8]) -> Result<Vec<u8>, AllocError> {
     Ok(text)
 }
 
-/// Those of the rows of a message's state encoding whose values nothing sets to zero there: they say the same of the
-/// message with other numbers in place of what the state encoding clears.
-pub fn without_counters<'a>(
-    alloc: Global,
-    order: Order,
-    message: &[u8],
-    all: &[Row<'a>],
-) -> Result<Vec<Row<'a>>, AllocError> {
-    let text = marked(alloc, message)?;
+/// The line of a message in which no word is zero that the state encoding clears.
+fn marked_line(alloc: Global, snapshot: &Snapshot) -> Result<Vec<u8>, AllocError> {
+    let text = marked(alloc, snapshot.message())?;
     let mut line = Vec::new(alloc);
-    push_answer(alloc, order, &mut line, text.as_slice())?;
-    let others = rows(alloc, line.as_slice(), Common::none())?;
+    push_answer(alloc, snapshot.order(), &mut line, text.as_slice())?;
+    Ok(line)
+}
+
+/// Those of the rows whose values nothing sets to zero in a message's state encoding, where `marked` has the rows of
+/// the message with other numbers in place of what is cleared there.
+fn kept<'a>(
+    alloc: Global,
+    all: Vec<Row<'a>>,
+    is_moving: bool,
+    marked: &[Row<'_>],
+) -> Result<Vec<Row<'a>>, AllocError> {
     let mut kept = Vec::new(alloc);
     let mut likely = 0;
     for row in all {
-        let path = row.path.as_slice();
-        if value_of(others.as_slice(), path, &mut likely) == Some(row.value) {
-            kept.push(Row {
-                path: path.to_vec(alloc)?,
-                value: row.value,
-            })?;
+        let is_kept = match standing_of(&row, is_moving) {
+            Standing::Kept => true,
+            Standing::Counter => false,
+            Standing::Unknown => {
+                value_of(marked, row.path.as_slice(), &mut likely) == Some(row.value)
+            }
+        };
+        if is_kept {
+            kept.push(row)?;
         }
     }
     Ok(kept)
+}
+
+/// Those of the rows of a message's state encoding whose values nothing sets to zero there: what is not known of a row
+/// by itself, the message says with other numbers in place of what the state encoding clears.
+pub fn without_counters<'a>(
+    alloc: Global,
+    snapshot: &Snapshot,
+    all: Vec<Row<'a>>,
+) -> Result<Vec<Row<'a>>, AllocError> {
+    let moving = is_moving(all.as_slice());
+    let is_unknown = all
+        .iter()
+        .any(|row| standing_of(row, moving) == Standing::Unknown);
+    if !is_unknown {
+        return kept(alloc, all, moving, &[]);
+    }
+    let line = marked_line(alloc, snapshot)?;
+    let marked = members(alloc, line.as_slice(), Common::none())?;
+    let others = rows(alloc, marked.as_slice(), &[])?;
+    kept(alloc, all, moving, others.as_slice())
 }

@@ -5,8 +5,10 @@ mod common;
 mod counters;
 mod differences;
 mod line;
+mod members;
 mod rows;
 mod snapshot;
+mod standing;
 mod told;
 
 pub use snapshot::{Compared, Snapshot};

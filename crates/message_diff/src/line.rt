@@ -2,8 +2,8 @@
 
 ghost use Rattle.std.specs.Prelude.{◌≤◌, ◌<◌, OnOk, length};
 
-use crate::differences::{Change, value_of};
-use crate::rows::Row;
+use crate::differences::Change;
+use crate::members::value_in;
 use std::alloc::{AllocError, Global};
 
 /// The members that tell which interface it is.
@@ -19,12 +19,12 @@ fn push_member(out: &mut Vec<u8>, name: &str, value: &[u8]) -> Result<(), AllocE
     out.extend_from_slice(value)
 }
 
-/// Begins a line: the words, what became of the interface, and which it is.
+/// Begins a line: the words, what became of the interface, and which it is, by the line that `Shown` writes of it.
 pub fn push_head(
     out: &mut Vec<u8>,
     words: &[u8],
     change: &str,
-    rows: &[Row<'_>],
+    line: &[u8],
 ) -> Result<(), AllocError>
     ensures { OnOk result (length out.old.items < length out.new.items) }
 {
@@ -33,9 +33,8 @@ pub fn push_head(
     out.extend_from_slice(b"\"change\":\"")?;
     out.extend_from_slice(change.as_bytes())?;
     out.push(b'"')?;
-    let mut likely = 0;
     for name in &NAMES {
-        if let Some(value) = value_of(rows, name.as_bytes(), &mut likely) {
+        if let Some(value) = value_in(line, name) {
             push_member(out, name, value)?;
         }
     }

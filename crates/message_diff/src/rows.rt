@@ -1,8 +1,8 @@
-//! The members of a message's text, one below the other.
+//! The members that two texts do not have in common, one below the other.
 
-ghost use Rattle.std.specs.Prelude.{◌<◌, ◌≤◌, IfOk, length};
+ghost use Rattle.std.specs.Prelude.{◌<◌, length};
 
-use crate::common::Common;
+use crate::members::Member;
 use std::alloc::{AllocError, Global};
 
 /// A member that holds no other: its path and its value, as they stand in the text.
@@ -16,204 +16,148 @@ pub struct Row<'a> {
     pub value: &'a [u8],
 }
 
-/// What is open around a place in the text.
+/// The member that is never left out: which of its rows are counters is said by others of them.
+const WHOLE: &[u8] = b"linkinfo";
+
+/// The members of another text beside those of an object or list that is open: where the first one stands, and where
+/// they end.
 #[derive(Clone, Copy)]
-enum Open {
-    /// An object: how long its path is.
-    Object(usize),
-    /// A list of objects: how long its path is, and how many of its objects are passed.
-    List(usize, u64),
+struct Beside {
+    path_len: usize,
+    first: usize,
+    end: usize,
+    /// Where the next one is likely.
+    likely: usize,
 }
 
-/// A walk over a text, from value to value.
+impl Beside {
+    /// The member with this one's name, and the place behind it: it is looked for first where it is likely.
+    fn find<'b>(
+        &self,
+        others: &'b [Member<'b>],
+        member: &Member<'_>,
+    ) -> Option<(usize, &'b Member<'b>)> {
+        if self.likely < self.end && self.likely < others.len() {
+            let other = &others[self.likely];
+            if other.is_named_as(member) {
+                return Some((self.likely.saturating_add(1), other));
+            }
+        }
+        let mut at = self.first;
+        for _members in self.first..self.end {
+            if at >= self.end || at >= others.len() {
+                return None;
+            }
+            let other = &others[at];
+            if other.is_named_as(member) {
+                return Some((at.saturating_add(1), other));
+            }
+            at = other.end;
+        }
+        None
+    }
+}
+
+/// A walk over the members of a text, beside those of another one.
 #[derive(Drop)]
 struct Walk<'a> {
     alloc: Global,
-    len: usize,
-    common: Common,
-    /// Whether all that follows stands at the end that the texts have in common.
-    is_after: bool,
     path: Vec<u8>,
-    open: Vec<Open>,
+    open: Vec<Beside>,
     rows: Vec<Row<'a>>,
-}
-
-/// How many bytes a value takes up, at the front of a text.
-fn value_len(text: &[u8]) -> usize
-    ensures { result ≤ length text.now }
-{
-    let mut is_text = false;
-    let mut is_escaped = false;
-    let mut depth = 0usize;
-    for (i, byte) in text.iter().enumerate() {
-        match *byte {
-            _ if is_escaped => is_escaped = false,
-            b'\\' => is_escaped = true,
-            b'"' => is_text = !is_text,
-            _ if is_text => {}
-            b'[' | b'{' => depth = depth.saturating_add(1),
-            b']' | b'}' if depth > 0 => depth -= 1,
-            b',' | b'}' | b']' if depth == 0 => return i,
-            _ => {}
-        }
-    }
-    text.len()
-}
-
-/// How many bytes a name with its colon takes up, at the front of a text.
-fn name_len(text: &[u8]) -> usize
-    ensures { result ≤ length text.now }
-{
-    let mut is_escaped = false;
-    for (i, byte) in text.iter().enumerate().skip(1) {
-        match *byte {
-            _ if is_escaped => is_escaped = false,
-            b'\\' => is_escaped = true,
-            b'"' => return (i + 2).min(text.len()),
-            _ => {}
-        }
-    }
-    text.len()
 }
 
 impl<'a> Walk<'a> {
     /// Makes the path that of a member of what is open.
-    fn name(&mut self, len: usize, name: &[u8]) -> Result<(), AllocError> {
+    fn name(&mut self, len: usize, member: &Member<'_>) -> Result<(), AllocError> {
         self.path.truncate(len);
         if len > 0 {
             self.path.push(b'.')?;
         }
-        self.path.extend_from_slice(name)
-    }
-
-    /// Makes the path that of an object in a list.
-    fn number(&mut self, len: usize, passed: u64) -> Result<(), AllocError> {
-        let name = format!(in self.alloc; "{passed}")?;
-        self.name(len, name.as_str().as_bytes())
-    }
-
-    /// Begins the value at the front of the text, and returns how many bytes were passed.
-    fn value(&mut self, text: &'a [u8]) -> Result<usize, AllocError>
-        ensures { IfOk result (λ n. n ≤ length text.now) }
-    {
-        let is_outer = self.open.len() == 1;
-        if is_outer && text.starts_with(b"{") && !text.starts_with(b"{}") {
-            let len = value_len(text);
-            if self.is_common(text.len(), len) {
-                return Ok(len);
-            }
+        if !member.name.is_empty() {
+            return self.path.extend_from_slice(member.name);
         }
-        let len = match text {
-            [b'{', b'}', ..] => 2,
-            [b'{', ..] => {
-                self.open.push(Open::Object(self.path.len()))?;
-                return Ok(1);
-            }
-            [b'[', b'{', ..] => {
-                let len = self.path.len();
-                self.open.push(Open::List(len, 0))?;
-                self.number(len, 0)?;
-                return Ok(1);
-            }
-            _ => value_len(text),
+        let place = member.place;
+        let name = format!(in self.alloc; "{place}")?;
+        self.path.extend_from_slice(name.as_str().as_bytes())
+    }
+
+    /// Adds a row, or begins the members in the value, beside those of the other text from one place to before another.
+    fn begin(
+        &mut self,
+        member: &Member<'a>,
+        is_open: bool,
+        inside: (usize, usize),
+    ) -> Result<(), AllocError> {
+        if is_open {
+            self.open.push(Beside {
+                path_len: self.path.len(),
+                first: inside.0,
+                end: inside.1,
+                likely: inside.0,
+            })?;
+            return Ok(());
+        }
+        let path = self.path.as_slice().to_vec(self.alloc)?;
+        let value = member.value;
+        self.rows.push(Row { path, value })?;
+        Ok(())
+    }
+
+    /// Passes the member at this place, and returns the place of the next one that is to be passed: where the other
+    /// text has the same value, all that is in it is left out.
+    fn pass(
+        &mut self,
+        at: usize,
+        member: &Member<'a>,
+        others: &[Member<'_>],
+    ) -> Result<usize, AllocError> {
+        let next = at.saturating_add(1);
+        self.open.truncate(member.depth.saturating_add(1));
+        let Some(beside) = self.open.last_mut() else {
+            return Ok(next);
         };
-        if is_outer || !self.is_common(text.len(), len) {
-            let path = self.path.as_slice().to_vec(self.alloc)?;
-            let value = &text[..len];
-            self.rows.push(Row { path, value })?;
+        let len = beside.path_len;
+        let mut inside = (0, 0);
+        if let Some((first, other)) = beside.find(others, member) {
+            beside.likely = other.end;
+            if member.depth > 0 || member.name != WHOLE {
+                if other.value == member.value {
+                    return Ok(member.end);
+                }
+                inside = (first, other.end);
+            }
         }
-        Ok(len)
-    }
-
-    /// Whether a value of this length, in front of which so many bytes are left, stands in both texts at one path.
-    fn is_common(&self, left: usize, len: usize) -> bool {
-        let end = self.len.saturating_sub(left).saturating_add(len);
-        self.is_after || end < self.common.front
-    }
-
-    /// Passes what stands at the front of the text in an object with a path of this length, and returns how many bytes
-    /// that was.
-    fn member(&mut self, text: &'a [u8], len: usize) -> Result<usize, AllocError>
-        requires { 0 < length text.now }
-        ensures { IfOk result (λ n. n ≤ length text.now) }
-    {
-        if text[0] != b'"' {
-            return Ok(1);
-        }
-        if self.open.len() == 1 && text.len() <= self.common.back {
-            self.is_after = true;
-        }
-        let name = name_len(text);
-        let end = name.saturating_sub(2).max(1);
-        self.name(len, &text[1..end])?;
-        let value = self.value(&text[name..])?;
-        Ok(name + value)
-    }
-
-    /// Passes what stands at the front of the text in a list with a path of this length, and returns how many bytes
-    /// that was.
-    fn item(&mut self, text: &'a [u8], len: usize, passed: u64) -> Result<usize, AllocError>
-        requires { 0 < length text.now }
-        ensures { IfOk result (λ n. n ≤ length text.now) }
-    {
-        if text[0] != b',' {
-            return self.value(text);
-        }
-        let next = passed.saturating_add(1);
-        let _list = self.open.pop();
-        self.open.push(Open::List(len, next))?;
-        self.number(len, next)?;
-        Ok(1)
-    }
-
-    /// Ends what is open.
-    fn close(&mut self) {
-        match self.open.pop() {
-            Some(Open::Object(len)) | Some(Open::List(len, _)) => self.path.truncate(len),
-            None => {}
-        }
-    }
-
-    /// Passes what stands at the front of the text, and returns how many bytes that was.
-    fn step(&mut self, text: &'a [u8]) -> Result<usize, AllocError>
-        requires { 0 < length text.now }
-        ensures { IfOk result (λ n. n ≤ length text.now) }
-    {
-        if text[0] == b'}' || text[0] == b']' {
-            self.close();
-            return Ok(1);
-        }
-        match self.open.last().copied() {
-            None if text[0] == b'{' => self.value(text),
-            None => Ok(1),
-            Some(Open::Object(len)) => self.member(text, len),
-            Some(Open::List(len, passed)) => self.item(text, len, passed),
-        }
+        self.name(len, member)?;
+        self.begin(member, next < member.end, inside)?;
+        Ok(next)
     }
 }
 
-/// The members that hold no other, of a text of one object as `Shown` writes it: on one line, with no blank between its
-/// parts. Of those below the outermost object, the ones are left out that stand in what the text has in common with
-/// another one.
-///
-/// Of another text it is not said which members these are.
-pub fn rows(alloc: Global, text: &[u8], common: Common) -> Result<Vec<Row<'_>>, AllocError> {
+/// The rows of these members that the other ones do not have, and all of `linkinfo`: whether one of them is a counter's
+/// is said by others.
+pub fn rows<'a>(
+    alloc: Global,
+    members: &[Member<'a>],
+    others: &[Member<'_>],
+) -> Result<Vec<Row<'a>>, AllocError> {
     let mut walk = Walk {
         alloc,
-        len: text.len(),
-        common,
-        is_after: false,
         path: Vec::new(alloc),
         open: Vec::new(alloc),
         rows: Vec::new(alloc),
     };
-    let mut rest = text;
-    for _steps in 0..text.len() {
-        if rest.is_empty() {
-            break;
+    walk.open.push(Beside {
+        path_len: 0,
+        first: 0,
+        end: others.len(),
+        likely: 0,
+    })?;
+    let mut next = 0;
+    for (i, member) in members.iter().enumerate() {
+        if i >= next {
+            next = walk.pass(i, member, others)?;
         }
-        let passed = walk.step(rest)?;
-        rest = &rest[passed..];
     }
     Ok(walk.rows)
 }

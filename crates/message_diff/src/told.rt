@@ -8,8 +8,10 @@ use crate::common::Common;
 use crate::counters::without_counters;
 use crate::differences::{Change, differences};
 use crate::line::{push_changes, push_head, push_texts};
+use crate::members::members;
 use crate::rows::{Row, rows};
 use crate::snapshot::{Compared, Snapshot};
+use crate::standing::may_have_counters;
 use link_msg::CanonError;
 use message_shown::context::Order;
 use std::alloc::{AllocError, Global};
@@ -53,59 +55,26 @@ fn push_alone(
     ensures kept { snapshot.new ≡ snapshot.old }
 {
     snapshot.show(alloc)?;
-    let line = snapshot.line();
-    let all = rows(alloc, line, Common::whole(line))?;
-    push_head(out, words, change, all.as_slice())?;
+    push_head(out, words, change, snapshot.line())?;
     out.extend_from_slice(b"}\n")
 }
 
 /// Whether one of the changes may be of a counter: of two encodings with the same paths and the same kinds of device
 /// the same numbers are zero.
-fn may_be_counters(changes: &[Change<'_>]) -> bool {
-    changes.iter().any(|change| match change {
-        Change::Came(_, _) | Change::Went(_, _) => true,
-        Change::Turned(path, _, _) => path.starts_with(b"linkinfo."),
-    })
-}
-
-/// Ends a line by what differs between the rows, or else by the encodings.
-fn push_differences(
+fn may_be_counters(
     alloc: Global,
-    old: &Snapshot,
-    new: &Snapshot,
     old_rows: &[Row<'_>],
     new_rows: &[Row<'_>],
-    out: &mut Vec<u8>,
-) -> Result<(), AllocError>
-    ensures { OnOk result (length out.old.items ≤ length out.new.items) }
-{
-    let changes = differences(alloc, old_rows, new_rows)?;
-    if changes.is_empty() {
-        return push_texts(alloc, out, old.text(), new.text());
+) -> Result<bool, AllocError> {
+    if !may_have_counters(old_rows) && !may_have_counters(new_rows) {
+        return Ok(false);
     }
-    push_changes(out, changes.as_slice())
-}
-
-/// Ends a line by what differs between the rows without counters.
-fn push_kept(
-    alloc: Global,
-    old: &Snapshot,
-    new: &Snapshot,
-    old_rows: &[Row<'_>],
-    new_rows: &[Row<'_>],
-    out: &mut Vec<u8>,
-) -> Result<(), AllocError>
-    ensures { OnOk result (length out.old.items ≤ length out.new.items) }
-{
-    let old_kept = without_counters(alloc, old.order(), old.message(), old_rows)?;
-    let new_kept = without_counters(alloc, new.order(), new.message(), new_rows)?;
-    push_differences(
-        alloc,
-        old,
-        new,
-        old_kept.as_slice(),
-        new_kept.as_slice(),
-        out,
+    let changes = differences(alloc, old_rows, new_rows)?;
+    Ok(
+        changes.iter().any(|change| match change {
+            Change::Came(_, _) | Change::Went(_, _) => true,
+            Change::Turned(path, _, _) => path.starts_with(b"linkinfo."),
+        }),
     )
 }
 
@@ -120,20 +89,18 @@ fn push_difference(
     ensures { OnOk result (length out.old.items < length out.new.items) }
 {
     let common = Common::new(old.line(), new.line());
-    let old_rows = rows(alloc, old.line(), common)?;
-    let new_rows = rows(alloc, new.line(), common)?;
-    push_head(out, words, "changed", new_rows.as_slice())?;
-    let changes = differences(alloc, old_rows.as_slice(), new_rows.as_slice())?;
-    if new.by() == Compared::State && may_be_counters(changes.as_slice()) {
-        return push_kept(
-            alloc,
-            old,
-            new,
-            old_rows.as_slice(),
-            new_rows.as_slice(),
-            out,
-        );
+    let was = members(alloc, old.line(), common)?;
+    let is = members(alloc, new.line(), common)?;
+    let mut old_rows = rows(alloc, was.as_slice(), is.as_slice())?;
+    let mut new_rows = rows(alloc, is.as_slice(), was.as_slice())?;
+    if new.by() == Compared::State
+        && may_be_counters(alloc, old_rows.as_slice(), new_rows.as_slice())?
+    {
+        old_rows = without_counters(alloc, old, old_rows)?;
+        new_rows = without_counters(alloc, new, new_rows)?;
     }
+    let changes = differences(alloc, old_rows.as_slice(), new_rows.as_slice())?;
+    push_head(out, words, "changed", new.line())?;
     if changes.is_empty() {
         return push_texts(alloc, out, old.text(), new.text());
     }
