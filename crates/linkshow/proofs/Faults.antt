@@ -64,6 +64,7 @@ last_apart words member rest =
 
 not_both : (words : Members) (c : Cause) (m : LinkMessage) (answer : List ℕ) → IsObject (fault_head words c) answer
     → IsObject (message_head words m) answer → ⊥
+unfolding print_from members
 not_both words c m answer h k = differ_behind (begin_object ∷ members words) false _ _
     (names_differ c m h.rest k.rest)
     (ap (λ t. print_from false (begin_object ∷ t)) (sym (last_apart words (fault_member c) h.rest))

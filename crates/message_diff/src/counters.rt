@@ -9,7 +9,6 @@ use crate::differences::value_of;
 use crate::members::members;
 use crate::rows::{Row, rows};
 use crate::snapshot::Snapshot;
-use crate::standing::{Standing, is_moving, standing_of};
 use link_msg::canonical;
 use link_msg::header::HEADER_SIZE;
 use link_state::{Level, clear};
@@ -25,6 +24,16 @@ fn is_zero(bytes: &[u8]) -> bool {
     bytes.iter().all(|byte| *byte == 0)
 }
 
+/// Whether a value may stand for zeros: no digit from 1 to 9 stands in it.
+pub fn may_be_zero(value: &[u8]) -> bool {
+    !value.iter().any(|byte| matches!(*byte, b'1'..=b'9'))
+}
+
+/// Whether a word is four letters of a text.
+fn is_text(word: &[u8]) -> bool {
+    word.iter().all(|byte| byte.is_ascii_lowercase())
+}
+
 /// Puts a 1 in front of these bytes.
 fn mark(bytes: &mut [u8])
     ensures { length bytes.new ≡ length bytes.old }
@@ -34,17 +43,19 @@ fn mark(bytes: &mut [u8])
     }
 }
 
-/// Marks each word of attributes that is zero.
+/// Marks each word of attributes that is zero, but for one behind four letters: there the name of a kind may end.
 ///
 /// No such word is the header of a frame, whose length is not zero; and a mark makes none of it, since a frame has more
 /// than one byte.
 fn mark_zeros(attributes: &mut [u8])
     ensures { length attributes.new ≡ length attributes.old }
 {
+    let mut is_behind_text = false;
     for word in attributes.chunks_mut(WORD) {
-        if is_zero(word) {
+        if is_zero(word) && !is_behind_text {
             mark(word);
         }
+        is_behind_text = is_text(word);
     }
 }
 
@@ -98,47 +109,28 @@ fn marked_line(alloc: Global, snapshot: &Snapshot) -> Result<Vec<u8>, AllocError
     Ok(line)
 }
 
-/// Those of the rows whose values nothing sets to zero in a message's state encoding, where `marked` has the rows of
-/// the message with other numbers in place of what is cleared there.
-fn kept<'a>(
-    alloc: Global,
-    all: Vec<Row<'a>>,
-    is_moving: bool,
-    marked: &[Row<'_>],
-) -> Result<Vec<Row<'a>>, AllocError> {
-    let mut kept = Vec::new(alloc);
-    let mut likely = 0;
-    for row in all {
-        let is_kept = match standing_of(&row, is_moving) {
-            Standing::Kept => true,
-            Standing::Counter => false,
-            Standing::Unknown => {
-                value_of(marked, row.path.as_slice(), &mut likely) == Some(row.value)
-            }
-        };
-        if is_kept {
-            kept.push(row)?;
-        }
-    }
-    Ok(kept)
-}
-
-/// Those of the rows of a message's state encoding whose values nothing sets to zero there: what is not known of a row
-/// by itself, the message says with other numbers in place of what the state encoding clears.
+/// Those of the rows of a message's state encoding whose values nothing sets to zero there: where a value may be zero,
+/// the message says the same with other numbers in place of what the state encoding clears.
 pub fn without_counters<'a>(
     alloc: Global,
     snapshot: &Snapshot,
-    all: Vec<Row<'a>>,
+    all: &[Row<'a>],
 ) -> Result<Vec<Row<'a>>, AllocError> {
-    let moving = is_moving(all.as_slice());
-    let is_unknown = all
-        .iter()
-        .any(|row| standing_of(row, moving) == Standing::Unknown);
-    if !is_unknown {
-        return kept(alloc, all, moving, &[]);
-    }
     let line = marked_line(alloc, snapshot)?;
     let marked = members(alloc, line.as_slice(), Common::none())?;
     let others = rows(alloc, marked.as_slice(), &[])?;
-    kept(alloc, all, moving, others.as_slice())
+    let mut kept = Vec::new(alloc);
+    let mut likely = 0;
+    for row in all {
+        let path = row.path.as_slice();
+        if !may_be_zero(row.value)
+            || value_of(others.as_slice(), path, &mut likely) == Some(row.value)
+        {
+            kept.push(Row {
+                path: path.to_vec(alloc)?,
+                value: row.value,
+            })?;
+        }
+    }
+    Ok(kept)
 }

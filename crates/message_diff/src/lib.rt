@@ -8,7 +8,6 @@ mod line;
 mod members;
 mod rows;
 mod snapshot;
-mod standing;
 mod told;
 
 pub use snapshot::{Compared, Snapshot};

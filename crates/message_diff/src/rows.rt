@@ -16,9 +16,6 @@ pub struct Row<'a> {
     pub value: &'a [u8],
 }
 
-/// The member that is never left out: which of its rows are counters is said by others of them.
-const WHOLE: &[u8] = b"linkinfo";
-
 /// The members of another text beside those of an object or list that is open: where the first one stands, and where
 /// they end.
 #[derive(Clone, Copy)]
@@ -121,12 +118,10 @@ impl<'a> Walk<'a> {
         let mut inside = (0, 0);
         if let Some((first, other)) = beside.find(others, member) {
             beside.likely = other.end;
-            if member.depth > 0 || member.name != WHOLE {
-                if other.value == member.value {
-                    return Ok(member.end);
-                }
-                inside = (first, other.end);
+            if other.value == member.value {
+                return Ok(member.end);
             }
+            inside = (first, other.end);
         }
         self.name(len, member)?;
         self.begin(member, next < member.end, inside)?;
@@ -134,8 +129,7 @@ impl<'a> Walk<'a> {
     }
 }
 
-/// The rows of these members that the other ones do not have, and all of `linkinfo`: whether one of them is a counter's
-/// is said by others.
+/// The rows of these members that the other ones do not have.
 pub fn rows<'a>(
     alloc: Global,
     members: &[Member<'a>],

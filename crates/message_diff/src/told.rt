@@ -5,13 +5,12 @@ ghost use Rattle.link_msg.specs.Canonical.{IsRefusalOfTwo};
 ghost use Rattle.message_diff.specs.Compared.{TellsIfDiffers};
 
 use crate::common::Common;
-use crate::counters::without_counters;
+use crate::counters::{may_be_zero, without_counters};
 use crate::differences::{Change, differences};
 use crate::line::{push_changes, push_head, push_texts};
 use crate::members::members;
 use crate::rows::{Row, rows};
 use crate::snapshot::{Compared, Snapshot};
-use crate::standing::may_have_counters;
 use link_msg::CanonError;
 use message_shown::context::Order;
 use std::alloc::{AllocError, Global};
@@ -61,21 +60,29 @@ fn push_alone(
 
 /// Whether one of the changes may be of a counter: of two encodings with the same paths and the same kinds of device
 /// the same numbers are zero.
-fn may_be_counters(
+fn may_be_counters(changes: &[Change<'_>]) -> bool {
+    changes.iter().any(|change| match change {
+        Change::Came(_, value) | Change::Went(_, value) => may_be_zero(value),
+        Change::Turned(path, was, is) => {
+            path.starts_with(b"linkinfo.") && (may_be_zero(was) || may_be_zero(is))
+        }
+    })
+}
+
+/// Ends a line by what differs between the rows, or else by the encodings.
+fn push_differences(
     alloc: Global,
-    old_rows: &[Row<'_>],
-    new_rows: &[Row<'_>],
-) -> Result<bool, AllocError> {
-    if !may_have_counters(old_rows) && !may_have_counters(new_rows) {
-        return Ok(false);
+    old: &Snapshot,
+    new: &Snapshot,
+    changes: &[Change<'_>],
+    out: &mut Vec<u8>,
+) -> Result<(), AllocError>
+    ensures { OnOk result (length out.old.items ≤ length out.new.items) }
+{
+    if changes.is_empty() {
+        return push_texts(alloc, out, old.text(), new.text());
     }
-    let changes = differences(alloc, old_rows, new_rows)?;
-    Ok(
-        changes.iter().any(|change| match change {
-            Change::Came(_, _) | Change::Went(_, _) => true,
-            Change::Turned(path, _, _) => path.starts_with(b"linkinfo."),
-        }),
-    )
+    push_changes(out, changes)
 }
 
 /// Adds a line for an interface whose encoding is another.
@@ -91,20 +98,17 @@ fn push_difference(
     let common = Common::new(old.line(), new.line());
     let was = members(alloc, old.line(), common)?;
     let is = members(alloc, new.line(), common)?;
-    let mut old_rows = rows(alloc, was.as_slice(), is.as_slice())?;
-    let mut new_rows = rows(alloc, is.as_slice(), was.as_slice())?;
-    if new.by() == Compared::State
-        && may_be_counters(alloc, old_rows.as_slice(), new_rows.as_slice())?
-    {
-        old_rows = without_counters(alloc, old, old_rows)?;
-        new_rows = without_counters(alloc, new, new_rows)?;
-    }
-    let changes = differences(alloc, old_rows.as_slice(), new_rows.as_slice())?;
+    let old_rows = rows(alloc, was.as_slice(), is.as_slice())?;
+    let new_rows = rows(alloc, is.as_slice(), was.as_slice())?;
     push_head(out, words, "changed", new.line())?;
-    if changes.is_empty() {
-        return push_texts(alloc, out, old.text(), new.text());
+    let changes = differences(alloc, old_rows.as_slice(), new_rows.as_slice())?;
+    if new.by() == Compared::Message || !may_be_counters(changes.as_slice()) {
+        return push_differences(alloc, old, new, changes.as_slice(), out);
     }
-    push_changes(out, changes.as_slice())
+    let old_kept = without_counters(alloc, old, old_rows.as_slice())?;
+    let new_kept = without_counters(alloc, new, new_rows.as_slice())?;
+    let kept = differences(alloc, old_kept.as_slice(), new_kept.as_slice())?;
+    push_differences(alloc, old, new, kept.as_slice(), out)
 }
 
 /// Adds a line that tells what changed of the interface, if its encoding is another, and returns whether it is.
