@@ -76,9 +76,4 @@ impl Common {
             back: back_len(behind(one, front), behind(other, front)),
         }
     }
-
-    /// Nothing.
-    pub fn none() -> Common {
-        Common { start: 0, back: 0 }
-    }
 }

@@ -43,7 +43,17 @@ fn mark(bytes: &mut [u8])
     }
 }
 
-/// Marks each word of attributes that is zero, but for one behind four letters: there the name of a kind may end.
+/// Puts a 1 at the end of these bytes.
+fn mark_end(bytes: &mut [u8])
+    ensures { length bytes.new ≡ length bytes.old }
+{
+    if let Some(last) = bytes.last_mut() {
+        *last = 1;
+    }
+}
+
+/// Marks each word of attributes that is zero, one behind four letters at its end: there a text may have its NUL, which
+/// is the name of a kind.
 ///
 /// No such word is the header of a frame, whose length is not zero; and a mark makes none of it, since a frame has more
 /// than one byte.
@@ -52,10 +62,15 @@ fn mark_zeros(attributes: &mut [u8])
 {
     let mut is_behind_text = false;
     for word in attributes.chunks_mut(WORD) {
-        if is_zero(word) && !is_behind_text {
-            mark(word);
+        let is_name = is_text(word);
+        if is_zero(word) {
+            if is_behind_text {
+                mark_end(word);
+            } else {
+                mark(word);
+            }
         }
-        is_behind_text = is_text(word);
+        is_behind_text = is_name;
     }
 }
 
@@ -109,23 +124,23 @@ fn marked_line(alloc: Global, snapshot: &Snapshot) -> Result<Vec<u8>, AllocError
     Ok(line)
 }
 
-/// Those of the rows of a message's state encoding whose values nothing sets to zero there: where a value may be zero,
-/// the message says the same with other numbers in place of what the state encoding clears.
+/// Those of the rows of a message's state encoding whose values nothing sets to zero there: the message says the same
+/// with other numbers in place of what the state encoding clears.
 pub fn without_counters<'a>(
     alloc: Global,
     snapshot: &Snapshot,
     all: &[Row<'a>],
 ) -> Result<Vec<Row<'a>>, AllocError> {
-    let line = marked_line(alloc, snapshot)?;
-    let marked = members(alloc, line.as_slice(), Common::none())?;
-    let others = rows(alloc, marked.as_slice(), &[])?;
+    let marked = marked_line(alloc, snapshot)?;
+    let common = Common::new(snapshot.line(), marked.as_slice());
+    let own = members(alloc, snapshot.line(), common)?;
+    let others = members(alloc, marked.as_slice(), common)?;
+    let cleared = rows(alloc, own.as_slice(), others.as_slice())?;
     let mut kept = Vec::new(alloc);
     let mut likely = 0;
     for row in all {
         let path = row.path.as_slice();
-        if !may_be_zero(row.value)
-            || value_of(others.as_slice(), path, &mut likely) == Some(row.value)
-        {
+        if value_of(cleared.as_slice(), path, &mut likely).is_none() {
             kept.push(Row {
                 path: path.to_vec(alloc)?,
                 value: row.value,
