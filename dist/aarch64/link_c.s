@@ -7742,10 +7742,10 @@ link_msg.message.LinkMessage.fault_path:
 .LCPI51_2:
 	.xword	16
 	.xword	0
-	.section	.text.link_msg.canonical_text.measure,"ax",@progbits
+	.section	.text.link_msg.encoding.measure,"ax",@progbits
 	.p2align	2
-	.type	link_msg.canonical_text.measure,@function
-link_msg.canonical_text.measure:
+	.type	link_msg.encoding.measure,@function
+link_msg.encoding.measure:
 	sub	sp, sp, #192
 	movi	v0.2d, #0000000000000000
 	stp	x20, x19, [sp, #176]
@@ -8347,8 +8347,8 @@ link_msg.canonical_text.measure:
 	strb	w10, [x19, #27]
 	b	.LBB51_133
 .Lfunc_end51:
-	.size	link_msg.canonical_text.measure, .Lfunc_end51-link_msg.canonical_text.measure
-	.section	.rodata.link_msg.canonical_text.measure,"a",@progbits
+	.size	link_msg.encoding.measure, .Lfunc_end51-link_msg.encoding.measure
+	.section	.rodata.link_msg.encoding.measure,"a",@progbits
 .LJTI51_0:
 	.byte	(.LBB51_43-.LBB51_14)>>2
 	.byte	(.LBB51_14-.LBB51_14)>>2
@@ -8563,10 +8563,10 @@ link_msg.canonical_text.measure:
 .LCPI52_0:
 	.xword	1
 	.xword	2
-	.section	.text.link_msg.canonical_text.parse_accepted,"ax",@progbits
+	.section	.text.link_msg.encoding.parse_accepted,"ax",@progbits
 	.p2align	2
-	.type	link_msg.canonical_text.parse_accepted,@function
-link_msg.canonical_text.parse_accepted:
+	.type	link_msg.encoding.parse_accepted,@function
+link_msg.encoding.parse_accepted:
 	sub	sp, sp, #464
 	stp	x24, x23, [sp, #416]
 	subs	x23, x2, #16
@@ -9707,8 +9707,8 @@ link_msg.canonical_text.parse_accepted:
 	mov	w26, #32
 	b	.LBB52_187
 .Lfunc_end52:
-	.size	link_msg.canonical_text.parse_accepted, .Lfunc_end52-link_msg.canonical_text.parse_accepted
-	.section	.rodata.link_msg.canonical_text.parse_accepted,"a",@progbits
+	.size	link_msg.encoding.parse_accepted, .Lfunc_end52-link_msg.encoding.parse_accepted
+	.section	.rodata.link_msg.encoding.parse_accepted,"a",@progbits
 .LJTI52_0:
 	.byte	(.LBB52_43-.LBB52_17)>>2
 	.byte	(.LBB52_17-.LBB52_17)>>2
@@ -30399,7 +30399,7 @@ link_state.state_text.state:
 	stp	x22, x21, [sp, #176]
 	stp	q0, q0, [sp]
 	stp	q0, q0, [sp, #32]
-	bl	link_msg.canonical_text.measure
+	bl	link_msg.encoding.measure
 	ldrb	w8, [sp]
 	ldr	x20, [sp, #8]
 	cbz	w8, .LBB135_2
@@ -30472,8 +30472,8 @@ link_state.state_text.state:
 .LBB135_18:
 	lsr	x9, x20, #8
 .LBB135_19:
-	adrp	x10, .Lswitch.table.link_msg.canonical_text.canonical_within
-	add	x10, x10, :lo12:.Lswitch.table.link_msg.canonical_text.canonical_within
+	adrp	x10, .Lswitch.table.link_msg.encoding.canonical_within
+	add	x10, x10, :lo12:.Lswitch.table.link_msg.encoding.canonical_within
 	and	w9, w9, #0xff
 	ldrh	w10, [x10, x26, lsl #1]
 	cmn	x24, #16
@@ -39989,10 +39989,10 @@ link_state.walk.clear_last.e00ccc477d967857:
 .LCPI181_0:
 	.xword	1
 	.xword	0
-	.section	.text.link_msg.canonical_text.canonical_within,"ax",@progbits
+	.section	.text.link_msg.encoding.canonical_within,"ax",@progbits
 	.p2align	2
-	.type	link_msg.canonical_text.canonical_within,@function
-link_msg.canonical_text.canonical_within:
+	.type	link_msg.encoding.canonical_within,@function
+link_msg.encoding.canonical_within:
 	sub	sp, sp, #144
 	movi	v0.2d, #0000000000000000
 	stp	x20, x19, [sp, #128]
@@ -40007,7 +40007,7 @@ link_msg.canonical_text.canonical_within:
 	mov	x21, x3
 	stp	q0, q0, [sp]
 	stp	q0, q0, [sp, #32]
-	bl	link_msg.canonical_text.measure
+	bl	link_msg.encoding.measure
 	ldp	x25, x8, [sp, #40]
 	ldrb	w9, [sp]
 	ldr	x23, [sp, #8]
@@ -40075,8 +40075,8 @@ link_msg.canonical_text.canonical_within:
 	lsr	x10, x23, #8
 .LBB181_14:
 	and	w10, w10, #0xff
-	adrp	x11, .Lswitch.table.link_msg.canonical_text.canonical_within
-	add	x11, x11, :lo12:.Lswitch.table.link_msg.canonical_text.canonical_within
+	adrp	x11, .Lswitch.table.link_msg.encoding.canonical_within
+	add	x11, x11, :lo12:.Lswitch.table.link_msg.encoding.canonical_within
 	strh	w10, [x21]
 	add	x10, x21, #16
 	ldrh	w8, [x11, x8, lsl #1]
@@ -40168,7 +40168,7 @@ link_msg.canonical_text.canonical_within:
 	b.eq	.LBB181_21
 	b	.LBB181_18
 .Lfunc_end181:
-	.size	link_msg.canonical_text.canonical_within, .Lfunc_end181-link_msg.canonical_text.canonical_within
+	.size	link_msg.encoding.canonical_within, .Lfunc_end181-link_msg.encoding.canonical_within
 
 	.section	.text.linkwire_canonical_form,"ax",@progbits
 	.globl	linkwire_canonical_form
@@ -40558,7 +40558,7 @@ linkwire_canonical_len:
 	add	x29, sp, #64
 	stp	q0, q0, [sp]
 	stp	q0, q0, [sp, #32]
-	bl	link_msg.canonical_text.measure
+	bl	link_msg.encoding.measure
 	ldrb	w8, [sp]
 	cbz	w8, .LBB187_3
 	ldr	x8, [sp, #8]
@@ -40806,7 +40806,7 @@ linkwire_same_message:
 	str	q0, [sp, #96]
 	str	q0, [sp, #32]
 	str	xzr, [sp, #48]
-	bl	link_msg.canonical_text.parse_accepted
+	bl	link_msg.encoding.parse_accepted
 	ldrb	w8, [sp, #64]
 	ldr	x23, [sp, #72]
 	cbz	w8, .LBB190_3
@@ -40829,7 +40829,7 @@ linkwire_same_message:
 	mov	x0, sp
 	add	x1, x22, x8
 	mov	x2, x20
-	bl	link_msg.canonical_text.parse_accepted
+	bl	link_msg.encoding.parse_accepted
 	ldrb	w8, [sp]
 	ldr	x25, [sp, #8]
 	ldr	x20, [sp, #32]
@@ -41111,7 +41111,7 @@ linkwire_state:
 	add	x29, sp, #64
 	stp	q0, q0, [sp]
 	stp	q0, q0, [sp, #32]
-	bl	link_msg.canonical_text.canonical_within
+	bl	link_msg.encoding.canonical_within
 	ldrb	w8, [sp]
 	ldr	x20, [sp, #8]
 	cbz	w8, .LBB192_3
@@ -41175,7 +41175,7 @@ linkwire_canonical:
 	add	x29, sp, #64
 	stp	q0, q0, [sp]
 	stp	q0, q0, [sp, #32]
-	bl	link_msg.canonical_text.canonical_within
+	bl	link_msg.encoding.canonical_within
 	ldrb	w8, [sp]
 	ldr	x0, [sp, #8]
 	cbz	w8, .LBB193_7
@@ -42231,10 +42231,10 @@ linkwire_canonical:
 	.byte	8
 	.size	.Lswitch.table.link_msg.payload.parse_any.86594eeea71804e4, 11
 
-	.type	.Lswitch.table.link_msg.canonical_text.canonical_within,@object
-	.section	.rodata..Lswitch.table.link_msg.canonical_text.canonical_within,"a",@progbits
+	.type	.Lswitch.table.link_msg.encoding.canonical_within,@object
+	.section	.rodata..Lswitch.table.link_msg.encoding.canonical_within,"a",@progbits
 	.p2align	2, 0x0
-.Lswitch.table.link_msg.canonical_text.canonical_within:
+.Lswitch.table.link_msg.encoding.canonical_within:
 	.hword	0
 	.hword	1
 	.hword	2
@@ -42302,7 +42302,7 @@ linkwire_canonical:
 	.hword	826
 	.hword	65534
 	.hword	65535
-	.size	.Lswitch.table.link_msg.canonical_text.canonical_within, 134
+	.size	.Lswitch.table.link_msg.encoding.canonical_within, 134
 
 	.ident	"rattle logic=dac8208d650f15bf3e2dc313a14fa4c783a3acf887bdfab66e1714b038d9e11b"
 	.section	".note.GNU-stack","",@progbits

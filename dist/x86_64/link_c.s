@@ -8737,10 +8737,10 @@ link_msg.message.LinkMessage.fault_path:
 	.long	.LBB50_68-.LJTI50_3
 	.long	.LBB50_68-.LJTI50_3
 
-	.section	.text.link_msg.canonical_text.measure,"ax",@progbits
+	.section	.text.link_msg.encoding.measure,"ax",@progbits
 	.p2align	4
-	.type	link_msg.canonical_text.measure,@function
-link_msg.canonical_text.measure:
+	.type	link_msg.encoding.measure,@function
+link_msg.encoding.measure:
 	.cfi_startproc
 	pushq	%rbp
 	.cfi_def_cfa_offset 16
@@ -9431,9 +9431,9 @@ link_msg.canonical_text.measure:
 	movb	$3, %cl
 	jmp	.LBB51_145
 .Lfunc_end51:
-	.size	link_msg.canonical_text.measure, .Lfunc_end51-link_msg.canonical_text.measure
+	.size	link_msg.encoding.measure, .Lfunc_end51-link_msg.encoding.measure
 	.cfi_endproc
-	.section	.rodata.link_msg.canonical_text.measure,"a",@progbits
+	.section	.rodata.link_msg.encoding.measure,"a",@progbits
 	.p2align	2, 0x0
 .LJTI51_0:
 	.long	.LBB51_9-.LJTI51_0
@@ -9698,10 +9698,10 @@ link_msg.canonical_text.measure:
 	.long	.LBB51_84-.LJTI51_5
 	.long	.LBB51_84-.LJTI51_5
 
-	.section	.text.link_msg.canonical_text.parse_accepted,"ax",@progbits
+	.section	.text.link_msg.encoding.parse_accepted,"ax",@progbits
 	.p2align	4
-	.type	link_msg.canonical_text.parse_accepted,@function
-link_msg.canonical_text.parse_accepted:
+	.type	link_msg.encoding.parse_accepted,@function
+link_msg.encoding.parse_accepted:
 	.cfi_startproc
 	pushq	%rbp
 	.cfi_def_cfa_offset 16
@@ -10977,9 +10977,9 @@ link_msg.canonical_text.parse_accepted:
 	movq	$0, 24(%rsp)
 	jmp	.LBB52_87
 .Lfunc_end52:
-	.size	link_msg.canonical_text.parse_accepted, .Lfunc_end52-link_msg.canonical_text.parse_accepted
+	.size	link_msg.encoding.parse_accepted, .Lfunc_end52-link_msg.encoding.parse_accepted
 	.cfi_endproc
-	.section	.rodata.link_msg.canonical_text.parse_accepted,"a",@progbits
+	.section	.rodata.link_msg.encoding.parse_accepted,"a",@progbits
 	.p2align	2, 0x0
 .LJTI52_0:
 	.long	.LBB52_8-.LJTI52_0
@@ -35452,7 +35452,7 @@ link_state.state_text.state:
 	movaps	%xmm0, 96(%rsp)
 	movaps	%xmm0, 80(%rsp)
 	leaq	80(%rsp), %rdi
-	callq	link_msg.canonical_text.measure
+	callq	link_msg.encoding.measure
 	movq	88(%rsp), %rbx
 	cmpb	$0, 80(%rsp)
 	je	.LBB134_2
@@ -35518,7 +35518,7 @@ link_state.state_text.state:
 .LBB134_13:
 	movzbl	%bh, %ecx
 .LBB134_14:
-	leaq	.Lswitch.table.link_msg.canonical_text.canonical_within(%rip), %rsi
+	leaq	.Lswitch.table.link_msg.encoding.canonical_within(%rip), %rsi
 	movzwl	(%rsi,%rdi,2), %esi
 	movw	%cx, 64(%rsp)
 	movw	%si, 66(%rsp)
@@ -47792,10 +47792,10 @@ link_state.walk.clear_last.e00ccc477d967857:
 	.size	link_state.walk.clear_last.e00ccc477d967857, .Lfunc_end179-link_state.walk.clear_last.e00ccc477d967857
 	.cfi_endproc
 
-	.section	.text.link_msg.canonical_text.canonical_within,"ax",@progbits
+	.section	.text.link_msg.encoding.canonical_within,"ax",@progbits
 	.p2align	4
-	.type	link_msg.canonical_text.canonical_within,@function
-link_msg.canonical_text.canonical_within:
+	.type	link_msg.encoding.canonical_within,@function
+link_msg.encoding.canonical_within:
 	.cfi_startproc
 	pushq	%rbp
 	.cfi_def_cfa_offset 16
@@ -47826,7 +47826,7 @@ link_msg.canonical_text.canonical_within:
 	movaps	%xmm0, 32(%rsp)
 	movaps	%xmm0, 16(%rsp)
 	leaq	16(%rsp), %rdi
-	callq	link_msg.canonical_text.measure
+	callq	link_msg.encoding.measure
 	movq	24(%rsp), %rdx
 	movq	56(%rsp), %r15
 	cmpb	$0, 16(%rsp)
@@ -47895,7 +47895,7 @@ link_msg.canonical_text.canonical_within:
 	movzbl	%dh, %edx
 .LBB180_11:
 	movw	%dx, (%r12)
-	leaq	.Lswitch.table.link_msg.canonical_text.canonical_within(%rip), %rdx
+	leaq	.Lswitch.table.link_msg.encoding.canonical_within(%rip), %rdx
 	movzwl	(%rdx,%rax,2), %eax
 	movw	%ax, 2(%r12)
 	movl	%ecx, 4(%r12)
@@ -48025,9 +48025,9 @@ link_msg.canonical_text.canonical_within:
 	je	.LBB180_31
 	jmp	.LBB180_26
 .Lfunc_end180:
-	.size	link_msg.canonical_text.canonical_within, .Lfunc_end180-link_msg.canonical_text.canonical_within
+	.size	link_msg.encoding.canonical_within, .Lfunc_end180-link_msg.encoding.canonical_within
 	.cfi_endproc
-	.section	.rodata.link_msg.canonical_text.canonical_within,"a",@progbits
+	.section	.rodata.link_msg.encoding.canonical_within,"a",@progbits
 	.p2align	2, 0x0
 .LJTI180_0:
 	.long	.LBB180_5-.LJTI180_0
@@ -48455,7 +48455,7 @@ linkwire_canonical_len:
 	movaps	%xmm0, 16(%rsp)
 	movaps	%xmm0, (%rsp)
 	movq	%rsp, %rdi
-	callq	link_msg.canonical_text.measure
+	callq	link_msg.encoding.measure
 	cmpb	$0, (%rsp)
 	je	.LBB186_1
 	movq	8(%rsp), %rax
@@ -48722,7 +48722,7 @@ linkwire_same_message:
 	movapd	%xmm0, 128(%rsp)
 	movq	$0, 144(%rsp)
 	leaq	32(%rsp), %rdi
-	callq	link_msg.canonical_text.parse_accepted
+	callq	link_msg.encoding.parse_accepted
 	movq	40(%rsp), %r13
 	cmpb	$0, 32(%rsp)
 	je	.LBB189_1
@@ -48749,7 +48749,7 @@ linkwire_same_message:
 	movq	%rax, 8(%rsp)
 	leaq	96(%rsp), %rdi
 	movq	%r14, %rdx
-	callq	link_msg.canonical_text.parse_accepted
+	callq	link_msg.encoding.parse_accepted
 	movq	104(%rsp), %rbp
 	cmpb	$0, 96(%rsp)
 	movq	128(%rsp), %r14
@@ -49091,7 +49091,7 @@ linkwire_state:
 	movaps	%xmm0, (%rsp)
 	movq	%rsp, %rdi
 	movq	%r14, %rcx
-	callq	link_msg.canonical_text.canonical_within
+	callq	link_msg.encoding.canonical_within
 	movq	8(%rsp), %rbx
 	cmpb	$0, (%rsp)
 	je	.LBB191_1
@@ -49156,7 +49156,7 @@ linkwire_canonical:
 	movaps	%xmm0, 16(%rsp)
 	movaps	%xmm0, (%rsp)
 	movq	%rsp, %rdi
-	callq	link_msg.canonical_text.canonical_within
+	callq	link_msg.encoding.canonical_within
 	movq	8(%rsp), %rax
 	cmpb	$0, (%rsp)
 	je	.LBB192_7
@@ -50098,10 +50098,10 @@ linkwire_canonical:
 	.byte	8
 	.size	.Lswitch.table.link_msg.payload.parse_any.86594eeea71804e4, 11
 
-	.type	.Lswitch.table.link_msg.canonical_text.canonical_within,@object
-	.section	.rodata..Lswitch.table.link_msg.canonical_text.canonical_within,"a",@progbits
+	.type	.Lswitch.table.link_msg.encoding.canonical_within,@object
+	.section	.rodata..Lswitch.table.link_msg.encoding.canonical_within,"a",@progbits
 	.p2align	1, 0x0
-.Lswitch.table.link_msg.canonical_text.canonical_within:
+.Lswitch.table.link_msg.encoding.canonical_within:
 	.short	0
 	.short	1
 	.short	2
@@ -50169,7 +50169,7 @@ linkwire_canonical:
 	.short	826
 	.short	65534
 	.short	65535
-	.size	.Lswitch.table.link_msg.canonical_text.canonical_within, 134
+	.size	.Lswitch.table.link_msg.encoding.canonical_within, 134
 
 	.ident	"rattle logic=dac8208d650f15bf3e2dc313a14fa4c783a3acf887bdfab66e1714b038d9e11b"
 	.section	".note.GNU-stack","",@progbits

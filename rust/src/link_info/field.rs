@@ -39,7 +39,7 @@ impl<'a> Field<'a> {
 }
 
 /// The first row of this number.
-fn row_of(rows: &'static [Row], number: u16) -> Option<&'static Row> {
+pub fn row_of(rows: &'static [Row], number: u16) -> Option<&'static Row> {
     rows.iter().find(|row| row.0 == number)
 }
 

@@ -111,7 +111,7 @@ fn kept(bytes: &[u8]) -> Result<Vec<DefaultNla>, InfoError> {
 }
 
 /// The first kind.
-fn kind_in(list: &[LinkInfo]) -> Option<&str> {
+pub fn kind_of(list: &[LinkInfo]) -> Option<&str> {
     for info in list {
         if let LinkInfo::Kind(kind) = info {
             return Some(kind.as_str());
@@ -212,7 +212,7 @@ impl Info {
     /// Refuses a list without a kind, or with one that has no table, with `UnknownKind`, and data that are no whole
     /// attributes with `Damaged`.
     pub fn of(list: &[LinkInfo]) -> Result<Info, InfoError> {
-        let Some(kind) = kind_in(list) else {
+        let Some(kind) = kind_of(list) else {
             return Err(InfoError::UnknownKind);
         };
         let mut info = Info::new(kind)?;

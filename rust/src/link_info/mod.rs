@@ -14,6 +14,6 @@ pub(crate) mod write;
 
 pub use field::{Field, Fields};
 pub use info::{Info, InfoError};
-pub use place::{KINDS, KindRow, Place, SLAVE_KINDS};
+pub use place::{KINDS, KindRow, PLACES, Place, SLAVE_KINDS, Tables, all_rows};
 pub use style::{Member, Names, Plain, Row, Size, Style};
 pub use value::Value;

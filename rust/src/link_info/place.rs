@@ -91,6 +91,12 @@ pub enum Place {
     Port,
 }
 
+/// The number of places.
+pub const PLACES: usize = 41;
+
+/// The rows of all places, in their order.
+pub type Tables = [&'static [Row]; PLACES];
+
 /// A kind of interface or of port, and the place of its data.
 #[derive(Clone, Copy, Debug, PartialEq, Eq, Hash)]
 pub struct KindRow(pub &'static str, pub Place);
@@ -150,7 +156,60 @@ fn place_among(kinds: &'static [KindRow], kind: &str) -> Option<Place> {
 }
 
 impl Place {
-    /// The rows of this place.
+    /// Where its rows stand in a table of all places.
+    pub fn number(self) -> usize {
+        match self {
+            Place::Vlan => 0,
+            Place::VlanQos => 1,
+            Place::Bond => 2,
+            Place::BondAdInfo => 3,
+            Place::BondSlave => 4,
+            Place::Bridge => 5,
+            Place::BridgeQuerier => 6,
+            Place::BridgePort => 7,
+            Place::Vxlan => 8,
+            Place::Geneve => 9,
+            Place::Gre => 10,
+            Place::Gre6 => 11,
+            Place::IpTunnel => 12,
+            Place::Ip6Tunnel => 13,
+            Place::Vti => 14,
+            Place::Vti6 => 15,
+            Place::Xfrm => 16,
+            Place::Macvlan => 17,
+            Place::MacvlanAddresses => 18,
+            Place::Ipvlan => 19,
+            Place::Macsec => 20,
+            Place::Can => 21,
+            Place::CanTdc => 22,
+            Place::CanCtrlmode => 23,
+            Place::Vrf => 24,
+            Place::VrfPort => 25,
+            Place::Tun => 26,
+            Place::Netkit => 27,
+            Place::Hsr => 28,
+            Place::Rmnet => 29,
+            Place::Gtp => 30,
+            Place::Bareudp => 31,
+            Place::Amt => 32,
+            Place::Wwan => 33,
+            Place::Ovpn => 34,
+            Place::BridgeSpec => 35,
+            Place::BridgeVlanTunnel => 36,
+            Place::BridgeMst => 37,
+            Place::BridgeMstEntry => 38,
+            Place::Inet6 => 39,
+            Place::Port => 40,
+        }
+    }
+
+    /// Its rows in a table of all places; none where the table is shorter.
+    pub fn rows_in(self, tables: &[&'static [Row]]) -> &'static [Row] {
+        let number = self.number();
+        if number < tables.len() { tables[number] } else { &[] }
+    }
+
+    /// Its rows.
     pub fn rows(self) -> &'static [Row] {
         match self {
             Place::Vlan => vlan::VLAN,
@@ -206,4 +265,51 @@ impl Place {
     pub fn of_slave_kind(kind: &str) -> Option<Place> {
         place_among(SLAVE_KINDS, kind)
     }
+}
+
+/// The rows of all places, in their order.
+pub fn all_rows() -> Tables {
+    [
+        Place::Vlan.rows(),
+        Place::VlanQos.rows(),
+        Place::Bond.rows(),
+        Place::BondAdInfo.rows(),
+        Place::BondSlave.rows(),
+        Place::Bridge.rows(),
+        Place::BridgeQuerier.rows(),
+        Place::BridgePort.rows(),
+        Place::Vxlan.rows(),
+        Place::Geneve.rows(),
+        Place::Gre.rows(),
+        Place::Gre6.rows(),
+        Place::IpTunnel.rows(),
+        Place::Ip6Tunnel.rows(),
+        Place::Vti.rows(),
+        Place::Vti6.rows(),
+        Place::Xfrm.rows(),
+        Place::Macvlan.rows(),
+        Place::MacvlanAddresses.rows(),
+        Place::Ipvlan.rows(),
+        Place::Macsec.rows(),
+        Place::Can.rows(),
+        Place::CanTdc.rows(),
+        Place::CanCtrlmode.rows(),
+        Place::Vrf.rows(),
+        Place::VrfPort.rows(),
+        Place::Tun.rows(),
+        Place::Netkit.rows(),
+        Place::Hsr.rows(),
+        Place::Rmnet.rows(),
+        Place::Gtp.rows(),
+        Place::Bareudp.rows(),
+        Place::Amt.rows(),
+        Place::Wwan.rows(),
+        Place::Ovpn.rows(),
+        Place::BridgeSpec.rows(),
+        Place::BridgeVlanTunnel.rows(),
+        Place::BridgeMst.rows(),
+        Place::BridgeMstEntry.rows(),
+        Place::Inet6.rows(),
+        Place::Port.rows(),
+    ]
 }
