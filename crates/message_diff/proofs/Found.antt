@@ -1,9 +1,9 @@
 -- Members at their places.
-use Rattle.std.proofs.Common.{◌≡◌, ◌≢◌, ◌<◌, ◌≤◌, ◌+◌, ℕ, List, length, slice_index_or, take, refl, sym, subst}
+use Rattle.std.proofs.Common.{◌≡◌, ◌<◌, ◌≤◌, ◌+◌, ℕ, List, length, slice_index_or, take, refl, sym, subst}
 use Rattle.std.proofs.lemmas.List.{take_all}
 use Rattle.std.proofs.lemmas.List.Elements.{All-more}
 use Rattle.std.specs.List.{All}
-use Rattle.message_diff.specs.Members.{Has, Lacks}
+use Rattle.message_diff.specs.Members.{Has}
 use Rattle.message_diff.specs.declared.rows.Row.{Row}
 
 -- a member with the path at some place

@@ -1,10 +1,10 @@
 -- The steps of finding what differs.
-use Rattle.std.proofs.Common.{◌≡◌, ◌≢◌, ◌⊎◌, inl, inr, ◌<◌, ◌≤◌, ◌+◌}
-use Rattle.std.proofs.Common.{◌++◌, ◌∷◌, [], ℕ, List, length, slice_index_or, take}
+use Rattle.std.proofs.Common.{◌≡◌, inl, inr, ◌<◌}
+use Rattle.std.proofs.Common.{◌++◌, ◌∷◌, [], ℕ, List, length, slice_index_or}
 use Rattle.std.proofs.Common.{refl, sym, subst, arith, length-append, ◌∙◌, Bor}
 use Rattle.std.proofs.lemmas.List.{get_or_append_left}
 use Rattle.std.proofs.lemmas.List.Quantifiers.{Any-push}
-use Rattle.std.specs.List.{All, Any}
+use Rattle.std.specs.List.{All}
 use Rattle.message_diff.specs.Members.{Has, Lacks, IsReal, IsTold, IsOldTold, IsNewTold, IsChangeOf, path_of, HasPath}
 use Rattle.message_diff.specs.declared.rows.Row.{Row}
 use Rattle.message_diff.specs.declared.differences.Change.{Change}

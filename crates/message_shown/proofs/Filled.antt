@@ -1,17 +1,14 @@
 -- Members that are added one after another.
-use Rattle.std.proofs.Common.{◌≡◌, ℕ, zero, suc, ◌+◌, ◌*◌, ◌<◌, ◌≤◌, min, List, [], length, take, drop}
-use Rattle.std.proofs.Common.{get_or, ◌-◌, sym, ap, ◌∙◌, Bor, arith}
+use Rattle.std.proofs.Common.{◌≡◌, ℕ, ◌+◌, ◌<◌, ◌≤◌, min, List, [], length, take}
+use Rattle.std.proofs.Common.{get_or, sym, ap, ◌∙◌, Bor, arith}
 use Rattle.std.specs.Prelude.{ℤ, map}
-use Rattle.std.specs.Int.{Width, byte_len, cast_signed}
 use Rattle.std.specs.List.{zip}
-use Rattle.std.proofs.lemmas.List.{get_or-drop, get_or-map, length-drop, length-map, take_all}
+use Rattle.std.proofs.lemmas.List.{get_or-map, length-map, take_all}
 use Rattle.std.proofs.lemmas.List.Sums.{fold_more}
 use Rattle.std.proofs.lemmas.Slice.Zip.{length-zip, get_or-zip}
 use Rattle.json.specs.Token.{Token}
-use Rattle.nla_wire.specs.Fields.{number_at, numbers_from, signed_at, signed_from}
-use Rattle.nla_wire.proofs.FieldLemmas.{number_at_same, length-numbers_from, length-signed_from, signed_from_is}
 use Rattle.shown.specs.Drafts.{Draft, with_value, with_members}
-use Rattle.message_shown.specs.Records.{number_tokens, signed_tokens, numbers_of, signed_of}
+use Rattle.message_shown.specs.Records.{numbers_of, signed_of}
 
 pub member_added : (names : List (List ℕ)) (texts : List (List Token)) (i : ℕ) (name : List ℕ) (text : List Token)
     (old page new : Draft) → i < length names → i < length texts → get_or names i [] ≡ name → get_or texts i [] ≡ text

@@ -1,9 +1,9 @@
 -- What each line is answered.
-use Rattle.std.specs.Prelude.{◌≡◌, ℕ, List, [], ◌∷◌, ◌++◌, codes, decimal, Result, Ok, Err}
+use Rattle.std.specs.Prelude.{◌≡◌, ℕ, List, [], ◌∷◌, ◌++◌, codes, Result, Ok, Err}
 use Rattle.std.specs.List.{flat_map}
 use Rattle.hex.specs.Hex.{decode_of}
 use Rattle.hex.specs.declared.error.FromHexError.{FromHexError}
-use Rattle.json.specs.Token.{Token, begin_object, key, string, number}
+use Rattle.json.specs.Token.{Token, begin_object, key, string}
 use Rattle.nla_wire.specs.declared.error.Cause.{Cause}
 use Rattle.link_vals.specs.AddressFamilyTable.{address_family_number}
 use Rattle.link_msg.specs.Messages.{Means, FirstFault}

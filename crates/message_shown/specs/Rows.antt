@@ -14,7 +14,6 @@ use Rattle.link_info.specs.declared.place.Place.{Place}
 use Rattle.link_info.specs.declared.style.Member.{Member}
 use Rattle.link_info.specs.declared.style.Plain.{Plain}
 use Rattle.link_info.specs.declared.style.Plain.TheVariants as P
-use Rattle.link_info.specs.declared.style.Row.{Row}
 use Rattle.link_info.specs.declared.style.Style.{Style}
 use Rattle.link_info.specs.declared.style.Style.TheVariants as S
 use Rattle.link_info.specs.Meanings.{Meaning, Raw, Present, Number, Signed, Words, Hardware, Four, Six}

@@ -1,5 +1,5 @@
 -- The words in front of a line: what they are shown as, and the kernel that they name.
-use Rattle.std.specs.Prelude.{ℕ, ◌+◌, ◌*◌, ◌-◌, ◌==◌, ◌&&◌, ◌||◌, not, List, [], ◌∷◌, Option, None, Some, Bool}
+use Rattle.std.specs.Prelude.{ℕ, ◌+◌, ◌*◌, ◌-◌, ◌==◌, ◌&&◌, ◌||◌, List, [], ◌∷◌, Option, None, Some, Bool}
 use Rattle.std.specs.Prelude.{cond, codes, drop, map, min, nat_le, nat_lt, take}
 use Rattle.std.specs.List.{fold, prefix_len}
 use Rattle.hex.specs.Hex.{encode_lower}

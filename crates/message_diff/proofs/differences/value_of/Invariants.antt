@@ -1,5 +1,4 @@
-use Rattle.std.proofs.Common.{◌≢◌, take}
-use Rattle.std.specs.List.{All}
+use Rattle.std.proofs.Common.{take}
 use Rattle.message_diff.specs.Members.{Lacks}
 use Rattle.message_diff.proofs.differences.value_of.Given as goal
 
