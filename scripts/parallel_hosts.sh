@@ -31,7 +31,8 @@ sys.stdout.write("".join(f"{line(index)}\n" for index in range(100000)) * 10)
 END
 }
 
-# host NUMBER: a namespace at the end of a cable, and what its sshd goes by
+# host NUMBER: a namespace at the end of a cable, and what its sshd goes by. A shell there reads no file of the user's:
+# one that is killed may hold a lock of theirs.
 host() {
     ip netns add "host$1"
     ip link add "cable$1" type veth peer name eth0 netns "host$1" || skips 'the kernel knows no veth'
@@ -42,7 +43,7 @@ host() {
     ssh-keygen -q -t ed25519 -N '' -f "$folder/key.$1"
     printf '%s\n' "ListenAddress 10.77.$1.2" "Port $((2200 + $1))" "HostKey $folder/key.$1" "PidFile $folder/pid.$1" \
         "AuthorizedKeysFile $folder/user.pub" 'StrictModes no' 'UsePAM no' 'MaxStartups 100' \
-        'PermitRootLogin prohibit-password' >"$folder/config.$1"
+        'PermitRootLogin prohibit-password' "SetEnv HOME=$folder" >"$folder/config.$1"
     printf 'Host host%s\n  HostName 10.77.%s.2\n  Port %s\n' "$1" "$1" $((2200 + $1)) >>"$folder/ssh_config"
     printf '[10.77.%s.2]:%s %s\n' "$1" $((2200 + $1)) "$(cut -d ' ' -f 1,2 "$folder/key.$1.pub")" >>"$folder/known"
     echo "2/host$1" >>"$folder/hosts"
