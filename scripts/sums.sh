@@ -6,6 +6,7 @@
 #     sums.sh why ARCH NAME   prints in a line what changed since the text was made, nothing where it fits
 #     sums.sh check           compares all; where rt is on the path and is not the toolchain that made them, it says so
 set -euo pipefail
+shopt -s inherit_errexit
 export LC_ALL=C
 cd "$(dirname "$0")/.."
 sums=dist/SUMS
@@ -16,18 +17,10 @@ archs() {
     awk '!/^#/ { print $1 }' scripts/targets.txt
 }
 
-# The lines of crates.txt, as they are and as dist/SUMS has them.
-lines_now() {
-    grep '^[a-z]' crates.txt
-}
-lines_then() {
-    sed -n 's/^# crates.txt //p' "$sums"
-}
-
-# crates LINES NAME: the crates that the text of NAME is made of, one a line
+# crates NAME: the crates that the text of NAME is made of, one a line
 crates() {
-    awk -v wanted="$2" '
-        { name = $1; sub(/:.*/, "", name); sub(/^[^:]*:/, ""); below[name] = $0 }
+    awk -v wanted="$1" '
+        /^[a-z]/ { name = $1; sub(/:.*/, "", name); sub(/^[^:]*:/, ""); below[name] = $0 }
         function add(name, words, count, at) {
             if (!(name in below) || name in seen) return
             seen[name] = 1
@@ -35,31 +28,28 @@ crates() {
             count = split(below[name], words, " ")
             for (at = 1; at <= count; at++) add(words[at])
         }
-        END { add(wanted) }' <<<"$1"
+        END { add(wanted) }' crates.txt
 }
 
 # sources CRATE..: their sums
 sources() {
-    local folders=("${@/#/crates/}")
-    find "${folders[@]/%//src}" -name '*.rt' -type f -exec sha256sum {} + 2>/dev/null || true
-}
-
-# of LINES CRATE: the crate's line
-of() {
-    grep "^$2[: ]" <<<"$1" || true
+    local it folders=()
+    for it in "$@"; do
+        [ ! -d "crates/$it/src" ] || folders+=("crates/$it/src")
+    done
+    [ "${#folders[@]}" = 0 ] || find "${folders[@]}" -name '*.rt' -type f -exec sha256sum {} +
 }
 
 make_sums() {
-    local lines all=() name arch crate
-    lines=$(lines_now)
+    local all=() name arch crate
     for name in $(names); do
-        mapfile -t -O "${#all[@]}" all < <(crates "$lines" "$name")
+        mapfile -t -O "${#all[@]}" all < <(crates "$name")
     done
     mapfile -t all < <(printf '%s\n' "${all[@]}" | sort -u)
     echo "# What the texts in dist/ are made of: sha256sum -c dist/SUMS compares the files, scripts/sums.sh all."
     echo "# toolchain $(rt version)"
     for crate in "${all[@]}"; do
-        of "$lines" "$crate" | sed 's/^/# crates.txt /'
+        grep "^${crate}[: ]" crates.txt | sed 's/^/# crates.txt /'
     done
     sources "${all[@]}" | sort -k 2
     for arch in $(archs); do
@@ -69,51 +59,74 @@ make_sums() {
     done
 }
 
-# differs ARCH NAME: what changed, in a line
-differs() {
-    local text=dist/$1/$2.s crate file now old made_of
-    for file in "$sums" "$text"; do
-        if [ ! -e "$file" ]; then
-            echo "$file is missing"
+# unfit ARCH NAME..: of each text that does not fit a line, its name and what changed. Each file is read once.
+unfit() {
+    local it all sums_now texts=()
+    for it in "$sums" crates.txt; do
+        if [ ! -e "$it" ]; then
+            printf '%s %s is missing\n' "$2" "$it"
+            [ "$#" = 2 ] || unfit "$1" "${@:3}"
             return
         fi
     done
-    now=$(lines_now) old=$(lines_then)
-    mapfile -t made_of < <(crates "$old" "$2")
-    if [ "${#made_of[@]}" = 0 ]; then
-        echo "$sums has no line of $2"
-        return
-    fi
-    for crate in "${made_of[@]}"; do
-        if [ "$(of "$now" "$crate")" != "$(of "$old" "$crate")" ]; then
-            echo "the line of $crate in crates.txt changed since dist/ was made"
-            return
-        fi
+    for it in "${@:2}"; do
+        [ ! -e "dist/$1/$it.s" ] || texts+=("dist/$1/$it.s")
     done
-    # a line that is only among the sources as they are, or only among those of dist/SUMS, names a file that changed
-    file=$({
-        sources "${made_of[@]}"
-        for crate in "${made_of[@]}"; do
-            grep "  crates/$crate/src/" "$sums" || true
-        done
-    } | sort | uniq -u | head -n 1)
-    if [ -n "$file" ]; then
-        echo "${file#*  } changed since dist/ was made"
-    elif ! grep -qxF "$(sha256sum "$text")" "$sums"; then
-        echo "$text is not the text of $sums"
-    fi
+    mapfile -t all < <(sed -n 's/^# crates.txt \([a-z0-9_]*\).*/\1/p' "$sums")
+    sums_now=$(
+        sources "${all[@]}"
+        [ "${#texts[@]}" = 0 ] || sha256sum "${texts[@]}"
+    )
+    awk -v arch="$1" -v names="${*:2}" -v sums="$sums" '
+        function add(name, words, count, at) {
+            if (!(name in below) || name in is_part) return
+            is_part[name] = 1
+            parts[++parts_count] = name
+            count = split(below[name], words, " ")
+            for (at = 1; at <= count; at++) add(words[at])
+        }
+        function differs(name, text, at, folder) {
+            if (!(text in now)) return text " is missing"
+            if (!(name in below)) return sums " has no line of " name
+            split("", is_part)
+            parts_count = 0
+            add(name)
+            for (at = 1; at <= parts_count; at++)
+                if (line_now[parts[at]] != line_then[parts[at]])
+                    return "the line of " parts[at] " in crates.txt changed since dist/ was made"
+            for (at = 1; at <= files; at++) {
+                split(file[at], folder, "/")
+                if (folder[1] == "crates" && folder[2] in is_part && now[file[at]] != then[file[at]])
+                    return file[at] " changed since dist/ was made"
+            }
+            return now[text] == then[text] ? "" : text " is not the text of " sums
+        }
+        { is_comment = sub(/^# crates\.txt /, ""); name = $1; sub(/:.*/, "", name) }
+        of == "crates" { if (/^[a-z]/) line_now[name] = line_now[name] $0 "\n"; next }
+        is_comment { line_then[name] = line_then[name] $0 "\n"; sub(/^[^:]*:/, ""); below[name] = $0; next }
+        /^#/ || NF == 0 { next }
+        { sub(/^\\/, ""); sum = $1; sub(/^[^ ]*  /, "") }
+        !($0 in then) && !($0 in now) { file[++files] = $0 }
+        of == "then" { then[$0] = sum }
+        of == "now" { now[$0] = sum }
+        END {
+            count = split(names, wanted, " ")
+            for (at = 1; at <= count; at++) {
+                why = differs(wanted[at], "dist/" arch "/" wanted[at] ".s")
+                if (why != "") print wanted[at], why
+            }
+        }' of=crates crates.txt of=then "$sums" of=now - <<<"$sums_now"
 }
 
 check() {
-    local name arch what by
+    local arch what by all
+    read -ra all <<<"$(names)"
     for arch in $(archs); do
-        for name in $(names); do
-            what=$(differs "$arch" "$name")
-            if [ -n "$what" ]; then
-                echo "dist: $what: make dist makes it anew" >&2
-                return 1
-            fi
-        done
+        what=$(unfit "$arch" "${all[@]}" | sed -n '1s/^[^ ]* //p')
+        if [ -n "$what" ]; then
+            echo "dist: $what: make dist makes it anew" >&2
+            return 1
+        fi
     done
     by=$(sed -n 's/^# toolchain //p' "$sums")
     if command -v rt >/dev/null && [ "$(rt version)" != "$by" ]; then
@@ -124,11 +137,7 @@ check() {
 
 case $1 in
 make) make_sums ;;
-unfit)
-    for name in "${@:3}"; do
-        [ -z "$(differs "$2" "$name")" ] || echo "$name"
-    done
-    ;;
-why) differs "$2" "$3" ;;
+unfit) unfit "${@:2}" | cut -d ' ' -f 1 ;;
+why) unfit "$2" "$3" | cut -d ' ' -f 2- ;;
 check) check ;;
 esac
