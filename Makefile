@@ -2,7 +2,7 @@
 # How long `fuzz` tries messages.
 SECONDS ?= 60
 QUIET = test rust files lint dev fmt check edits tables dist dist-tests archive rust-tests show-tests linkdump-tests
-OF_c-tests = link_c linkdiff
+OF_c-tests = link_c linkdiff linkdump
 OF_fuzz = link_c
 OF_c-bench = link_c
 OF_compare = link_c

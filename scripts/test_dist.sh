@@ -1,7 +1,8 @@
 #!/usr/bin/env bash
 # Looks that what does not fit is told: a text with one instruction changed, with its sum and without, a sum that is
-# wrong, a source or a line of crates.txt that changed without `make dist`, a file, a compiler, a text that is missing.
-# A stand-in takes the place of rt. The texts in out/texts, of `dist.sh --compare`, are compared where there are any.
+# wrong, a source or a line of crates.txt that changed without `make dist`, and a file, a compiler, a text or a command
+# that is missing. A stand-in takes the place of rt. The texts in out/texts, of `dist.sh --compare`, are compared where
+# there are any.
 # shellcheck disable=SC2016
 set -euo pipefail
 top=$(cd "$(dirname "$0")/.." && pwd)
@@ -64,6 +65,32 @@ rm crates/link_msg/src/another.rt
 mv crates/link_msg/src/lib.rt "$folder/lib.rt"
 told 'crates/link_msg/src/lib.rt changed since dist/ was made'
 mv "$folder/lib.rt" crates/link_msg/src/lib.rt
+mv crates.txt "$folder/crates.txt"
+told 'crates.txt is missing'
+mv "$folder/crates.txt" crates.txt
+
+# where nobody can tell whether they fit, nothing is built: without a command, or without the script; its mode is no
+# matter
+read_rt=crates/nla_wire/src/read.rt
+nobody_tells="scripts/sums.sh, which needs bash and sha256sum, does not say whether dist/ fits the crates: "
+untold() {
+    mkdir "$folder/few"
+    tr ':' '\n' <<<"$PATH" | while read -r it; do
+        find "$it/" -maxdepth 1 ! -type d ! -name "$1" -exec ln -sf -t "$folder/few" {} + 2>/dev/null || true
+    done
+    PATH=$folder/few tells "$nobody_tells" make -s run
+    rm -r "$folder/few"
+}
+for it in bash sha256sum; do
+    untold "$it"
+    changes "$read_rt" '$a// changed' untold "$it"
+done
+mv scripts/sums.sh "$folder/sums.sh"
+untold none
+mv "$folder/sums.sh" scripts/sums.sh
+chmod -x scripts/sums.sh
+changes "$read_rt" '$a// changed' tells "$read_rt changed since dist/ was made" make -s run
+chmod +x scripts/sums.sh
 
 # with its sum too, it is not the text that was made of the crates
 forged() {
@@ -98,10 +125,18 @@ changes crates/linkshow/src/main.rt '$a// changed' fits 'a crate above'
 cat >"$folder/rt/rt" <<'END_OF_RT'
 #!/bin/sh
 mkdir -p out/rlib
-[ "$1" != lib ] || touch out/rlib/stamp
-[ "$1" != run ] || { printf '#!/bin/sh\necho proved\n' >"out/$(basename "$PWD")"; chmod +x "out/$(basename "$PWD")"; }
+name=$(basename "$PWD")
+case $1 in
+lib)
+    touch out/rlib/stamp
+    echo 'int linkwire_proved(void) { return 1; }' | cc -c -x c -o out/proved.o - && ar rc "out/lib$name.a" out/proved.o
+    ;;
+run) printf '#!/bin/sh\necho proved\n' >"out/$name" && chmod +x "out/$name" ;;
+esac
 END_OF_RT
 chmod +x "$folder/rt/rt"
+mkdir "$folder/c"
+ar rc "$folder/c/liblibc_c.a"
 proved() {
     PATH=$folder/rt:$PATH make -s run >"$folder/out" 2>"$folder/err" </dev/null
     grep -qx proved "$folder/out"
@@ -112,6 +147,21 @@ changes crates/nla_wire/src/read.rt '$a// changed' proved
 [ "$(echo 0 | make -s run)" = nothex ]
 PATH=$folder/rt:$PATH make -s run PROVE=1 2>"$folder/err" </dev/null | grep -qx proved
 [ "$(echo 0 | make -s run)" = nothex ]
+# has_proved COUNT: in how many of the libraries stands what the stand-in made
+has_proved() {
+    local count
+    count=$({ nm out/liblinkwire.a; nm -D out/liblinkwire.so.0; } | grep -c ' T linkwire_proved$' || true)
+    if [ "$count" != "$1" ]; then
+        echo "test_dist: $count libraries have what was proved, and not $1" >&2
+        exit 1
+    fi
+}
+make -s lib >/dev/null
+has_proved 0
+PATH=$folder/rt:$PATH make -s lib PROVE=1 >"$folder/out" 2>"$folder/err" </dev/null
+has_proved 2
+make -s lib >/dev/null
+has_proved 0
 echo 'test_dist: what was proved gives way to what dist/ has: ok'
 
 # bad input, and nothing is installed
@@ -122,9 +172,17 @@ tells 'there is no nocc: install a C compiler and binutils, or set CC' "${instal
 tells 'there is no nold: install a C compiler and binutils, or set LD' "${installs[@]}" LD=nold
 tells 'dist/ has no text for riscv64, only for' "${installs[@]}" CC=other-cc
 tells 'PROVE=1 proves the crates by the command rt, which is not on the path: leave it out' "${installs[@]}" PROVE=1
-for file in "$text" dist/heap.c man/linkwire.1 include/linkwire.h dist/linkwire.pc.in programs/linkdump.c; do
+for goal in dump out/linkdump; do
+    tells 'there is no nocc: install a C compiler and binutils, or set CC' make -s "$goal" CC=nocc
+done
+for file in "$text" dist/heap.c man/linkwire.1 include/linkwire.h dist/linkwire.pc.in programs/*; do
     mv "$file" "$folder/away"
     tells "$file is missing" "${installs[@]}"
+    mv "$folder/away" "$file"
+done
+for file in include/linkwire.h programs/linkdump.h programs/linkdump_capture.c; do
+    mv "$file" "$folder/away"
+    tells "$file is missing" make -s dump
     mv "$folder/away" "$file"
 done
 for goal in check dist edits; do
