@@ -17,10 +17,8 @@ arch=$(dpkg-architecture -qDEB_HOST_ARCH)
 lib=usr/lib/$(dpkg-architecture -qDEB_HOST_MULTIARCH)
 who="${DEBFULLNAME:-The Candrofily developers} <${DEBEMAIL:-linkwire@example.org}>"
 date=${SOURCE_DATE_EPOCH:-$(date -ud "$(sed -n 's/^## \[[0-9.]*\] - //p' CHANGELOG.md | head -n 1)" +%s)}
-short='link messages of route netlink, proved'
-about='linkwire reads, checks, writes and compares the messages in which Linux describes network interfaces. Each
-function of it is machine-proved: no bytes crash it, none are misread, and each byte string has one meaning or one exact
-fault.'
+short='link messages of route netlink'
+about='linkwire reads, checks, writes and compares the messages in which Linux describes network interfaces.'
 shopt -s globstar nullglob
 folder=$(mktemp -d)
 trap 'rm -rf "$folder"' EXIT
@@ -95,7 +93,9 @@ strip --strip-unneeded --remove-section=.comment --remove-section=.note "$tree/$
     "-O$tree/DEBIAN/symbols")
 echo "liblinkwire 0 liblinkwire0 (>= $upstream)" >"$tree/DEBIAN/shlibs"
 echo 'activate-noawait ldconfig' >"$tree/DEBIAN/triggers"
-ends libs same "$(needs "$tree/$lib/liblinkwire.so.0")" 'shared library' 'This package has the shared library.'
+ends libs same "$(needs "$tree/$lib/liblinkwire.so.0")" 'shared library' 'This package has the shared
+library. It is machine-proved: no bytes crash it, none are misread, and each byte string has either one meaning or one
+exact fault.'
 
 begins liblinkwire-dev
 install -d "$tree/$lib/pkgconfig" "$tree/usr/include"
@@ -108,16 +108,18 @@ sed "s|@PREFIX@|/usr|; s|@VERSION@|$upstream|; s|^libdir=.*|libdir=\${prefix}/${
     >"$tree/$lib/pkgconfig/linkwire.pc"
 manuals 3 linkwire
 ends libdevel same "liblinkwire0 (= $version)" 'development files' \
-    'This package has the header, the static library and the manual page.'
+    'This package has the header, the static library and the manual page. The library is machine-proved; the inline
+functions of the header are tested, and not proved.'
 
 begins linkwire
 install -d "$tree/usr/bin"
 install -m 755 "${programs[@]/#/out/}" "$tree/usr/bin"
 strip --remove-section=.comment --remove-section=.note "$tree"/usr/bin/*
 manuals 1 "${programs[@]}"
-ends net foreign "$(needs "$tree"/usr/bin/*)" programs "This package has the programs ${programs[*]}."
+ends net foreign "$(needs "$tree"/usr/bin/*)" programs "This package has the programs ${programs[*]}. It is
+machine-proved that no bytes crash them and that they misread none. The names that linkshow has for numbers, the
+arguments of linkdiff and what stands in its lines are tested, and not proved."
 
-short='link messages of route netlink'
 about='linkdump writes the link messages of the running kernel, or of a capture of an nlmon device, as lines of
 hexadecimal, which linkwire and linkshow read.'
 begins linkdump
