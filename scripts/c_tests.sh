@@ -21,7 +21,12 @@ for found in "$(names "$library")" "$(names -D "$shared")"; do
         exit 1
     fi
 done
-readelf -d "$shared" | grep -q 'SONAME.*\[liblinkwire\.so\.0\]'
+readelf -d "$shared" >"$top/out/dynamic"
+grep -q 'SONAME.*\[liblinkwire\.so\.0\]' "$top/out/dynamic"
+if ! grep -q BIND_NOW "$top/out/dynamic" || ! readelf -l "$shared" | grep GNU_RELRO >/dev/null; then
+    echo 'c tests: the shared library is not bound at its start, and read-only after it' >&2
+    exit 1
+fi
 
 # Compiles the header's own program as a language, by each compiler of it that is there, and runs it.
 header() {
@@ -44,6 +49,8 @@ for test in "$top"/tests/c/*.c; do
 done
 "$top/scripts/laws.sh" "$library"
 "$top/scripts/live_tests.sh" "$library"
+start=$SECONDS
 "$top/scripts/state_live.sh" "$library" "${@:2}"
+echo "c tests: state_live.sh: $((SECONDS - start)) s"
 "$top/scripts/store_tests.sh" "$shared"
 echo 'c tests passed'
