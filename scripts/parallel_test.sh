@@ -32,6 +32,7 @@ of_file() {
 compared=0
 for name in linkwire linkshow linkstate; do
     program=$top/crates/$name/out/$name
+    [ -x "$program" ] || program=$top/out/$name
     if [ ! -x "$program" ]; then
         echo "parallel: $name is not built"
         continue

@@ -5,6 +5,7 @@ set -euo pipefail
 top=$(cd "$(dirname "$0")/.." && pwd)
 name=${1:-linkwire}
 program=$top/crates/$name/out/$name
+[ -x "$program" ] || program=$top/out/$name
 case $name in
 linkwire | linkstate) nothex=nothex refused=refused chosen=1 ;;
 linkdiff)

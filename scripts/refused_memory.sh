@@ -2,6 +2,10 @@
 # Refuses one allocation after the other in the tests of the program: where one is refused, a run must end with
 # `OutOfMemory` and a beginning of the answers, or go on and write them all.
 set -euo pipefail
+if ! command -v rt >/dev/null; then
+    echo 'refused_memory: skipped: no rt, which alone runs these tests so'
+    exit 0
+fi
 cd "$(dirname "$0")/../crates/linkwire"
 test=tests::faults::refused_memory_changes_no_answer
 for count in ${REFUSED:-1 4 11}; do

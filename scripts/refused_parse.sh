@@ -6,6 +6,11 @@
 set -euo pipefail
 top=$(cd "$(dirname "$0")/.." && pwd)
 program=$top/crates/parse_once/out/parse_once
+if ! command -v rt >/dev/null; then
+    echo "refused_parse: skipped: no rt, which alone makes ${program#"$top"/}"
+    exit 0
+fi
+[ -x "$program" ] || { echo "refused_parse: there is no ${program#"$top"/}, which the gate makes" >&2; exit 1; }
 folder=$(mktemp -d)
 trap 'rm -rf "$folder"' EXIT
 ${CC:-cc} -O2 -Wall -Wextra -Werror -shared -fPIC -o "$folder/refuse.so" "$top/tests/program/refuse_allocation.c"

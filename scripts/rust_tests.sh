@@ -54,12 +54,14 @@ runs cargo build --locked --release --example lines
 example=$CARGO_TARGET_DIR/release/examples/lines
 "$example" <"$linkwire/stdin" | cmp - "$linkwire/stdout"
 echo "rust: the program's stored input: the same bytes"
-if [ ! -x "$linkwire/out/linkwire" ]; then
-    echo 'rust: lines: skipped: crates/linkwire is not built'
+program=$linkwire/out/linkwire
+[ -x "$program" ] || program=$top/out/linkwire
+if [ ! -x "$program" ]; then
+    echo 'rust: lines: skipped: the program linkwire is not built'
     exit 0
 fi
 python3 "$top/scripts/rust_lines.py" "$folder/lines" "$count"
-"$linkwire/out/linkwire" <"$folder/lines" >"$folder/wanted"
+"$program" <"$folder/lines" >"$folder/wanted"
 "$example" <"$folder/lines" | cmp - "$folder/wanted"
 answers=$(cut -c 1-7 "$folder/wanted" | cut -d ' ' -f 1 | sort | uniq -c | awk '{ printf ", %s %s", $1, $2 }')
 echo "rust: $(wc -l <"$folder/lines") lines: the same bytes$answers"
