@@ -2,7 +2,7 @@
 # Spreads a million lines by `parallel --sshloginfile` over three hosts, each a network namespace with an sshd of its
 # own, kills all that runs on one of them while a job there is in the middle of its answers, and compares what comes,
 # byte for byte, with what one process answers: parallel_hosts.sh [FOLDER], where the programs are. It fails where the
-# bytes differ; what cannot be had here, or not in time, is 'skipped'.
+# bytes differ or parallel fails; what cannot be had here, or not in time, is 'skipped'.
 set -euo pipefail
 shopt -s inherit_errexit
 top=$(cd "$(dirname "$0")/.." && pwd)
@@ -73,7 +73,7 @@ dies() {
 # wait for that, so the third has its two jobs however fast they all are. Each job reads its whole block first, since
 # parallel feeds one after the other and looks at nothing else meanwhile.
 spread() {
-    local killer
+    local killer status=0
     rm -rf "$folder/halfway" "$folder/first" "$folder/ended" "$folder/jobs" "$folder"/block.*
     cat >"$folder/answer" <<END
 #!/bin/sh
@@ -101,7 +101,12 @@ END
     killer=$!
     PARALLEL_SSH="ssh -F $folder/ssh_config" PARALLEL_HOME=$folder timeout 150 parallel --will-cite --pipe \
         --keep-order --block 4M --retries 3 --sshloginfile "$folder/hosts" --joblog "$folder/jobs" "$folder/answer" \
-        <"$folder/lines" >"$folder/spread" 2>"$folder/err" || skips "parallel ends with status $?: $(cat "$folder/err")"
+        <"$folder/lines" >"$folder/spread" 2>"$folder/err" || status=$?
+    if [ "$status" != 0 ]; then
+        kill "$killer" 2>/dev/null || true
+        [ "$status" != 124 ] || skips "parallel does not end in time: $(cat "$folder/err")"
+        fails "${1##*/}: parallel ends with status $status"
+    fi
     wait "$killer" || skips 'the third host had no job in the middle of its answers'
 }
 
@@ -138,6 +143,7 @@ sshd=$(PATH=$PATH:/usr/sbin:/usr/local/sbin command -v sshd) || skips 'no sshd'
 programs=()
 for name in linkwire linkshow linkstate; do
     it=${1:-$top/crates/$name/out}/$name
+    [ -n "${1:-}" ] || [ -x "$it" ] || it=$top/out/$name
     [ ! -x "$it" ] || programs+=("$(realpath "$it")")
 done
 [ "${#programs[@]}" != 0 ] || skips 'no program is built'
