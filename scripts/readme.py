@@ -6,12 +6,14 @@ manual pages each block with commands has a mark in front:
                        is one of those that are printed
     runs: c            the program is compiled and run as the block below it says, and prints what stands there
     runs: rust         scripts/rust_tests.sh does so
+    compiles: c        the block is compiled, as what a function does that is given `message` and `len`
     stands in: FILE    the block is a part of that file
     not run: WHY
 
 In Markdown a mark is a comment, in a manual page a line that begins with '.\\"'. Commands in the text of a page are run
-in one of its blocks, or listed after '<!-- named, not run:', and each 'make' names a target that there is. The manual
-pages of programs have the same sections, in one order.
+in one of its blocks, or listed after '<!-- named, not run:', and each 'make' names a target that there is; those of a
+manual page, but for its synopsis, may stand in a block or a list of any page. The manual pages of programs have the
+same sections, in one order.
 
     python3 scripts/readme.py [LIBRARY FOLDER..]
 
@@ -39,6 +41,16 @@ COMMAND = re.compile(r"^[$#] (.*)\n((?:(?![$#] ).*\n)*)", re.M)
 NAMED = re.compile(r"<!-- named, not run: (.*?) -->", re.S)
 WRITES = re.compile(r" >>?\w")
 SPAN = re.compile(r"`([^`]+)`")
+MAN_SPAN = re.compile(r'(?:^\.B (?=[^"])|^\.BR? "|\\fB)(.+?)(?:"|\\f|$)', re.M)
+SYNOPSIS = re.compile(r"^\.SH SYNOPSIS\n[\s\S]*?(?=^\.SH )", re.M)
+PART = """#include <linkwire.h>
+#include <linux/if_link.h>
+#include <stdio.h>
+void part(const uint8_t *message, size_t len);
+void part(const uint8_t *message, size_t len)
+{
+%s}
+"""
 
 
 class Page:
@@ -46,10 +58,12 @@ class Page:
 
     def __init__(self, name, library, path):
         self.name, self.library, self.path = name, library, path
-        self.counts = dict.fromkeys(("run", "compiled", "parts", "not run"), 0)
+        self.counts = dict.fromkeys(("run", "compiled", "only compiled", "parts", "not run"), 0)
         self.commands = []
         with open(f"{TOP}/{name}", encoding="utf-8") as it:
             self.text = it.read()
+        self.in_man = name.startswith("man/")
+        self.listed = [" ".join(it.split()) for found in NAMED.findall(self.text) for it in found.split(";")]
 
     def fails(self, what):
         sys.exit(f"readme: {self.name}: {what}")
@@ -97,6 +111,12 @@ class Page:
             self.compares(command, self.output(f"PATH=.:$PATH; {command}", folder), wanted)
         self.counts["compiled"] += 1
 
+    def compiles(self, part):
+        with tempfile.TemporaryDirectory() as folder:
+            write(f"{folder}/part.c", PART % part)
+            self.output(f"cc {' '.join(WARNINGS)} -I{TOP}/include part.c", folder)
+        self.counts["only compiled"] += 1
+
     def stands(self, file, part):
         with open(f"{TOP}/{file}", encoding="utf-8") as it:
             if part not in it.read():
@@ -112,6 +132,8 @@ class Page:
             self.namespace(shown)
         elif mark == "runs: c":
             self.compiled(shown, following)
+        elif mark == "compiles: c":
+            self.compiles(shown)
         elif kind == "stands in":
             self.stands(rest, shown)
         elif kind == "not run":
@@ -123,8 +145,7 @@ class Page:
 
     def hold(self):
         """Runs what a page shows, and compares."""
-        in_man = self.name.startswith("man/")
-        blocks = [(mark, plain(shown)) for mark, shown in MAN_BLOCK.findall(self.text)] if in_man else \
+        blocks = [(mark, plain(shown)) for mark, shown in MAN_BLOCK.findall(self.text)] if self.in_man else \
             [(mark, shown) for mark, _, shown in BLOCK.findall(self.text)]
         is_output = False
         for at, (mark, shown) in enumerate(blocks):
@@ -132,29 +153,30 @@ class Page:
                 is_output = self.block(mark, shown, blocks[at + 1][1] if at + 1 < len(blocks) else "")
             else:
                 is_output = False
-        if not in_man:
-            self.named()
-        elif self.name.endswith(".1") and tuple(re.findall(r"^\.SH (.*)$", self.text, re.M)) != SECTIONS:
+        if self.name.endswith(".1") and tuple(re.findall(r"^\.SH (.*)$", self.text, re.M)) != SECTIONS:
             self.fails(f"the sections are not {', '.join(SECTIONS)}")
 
-    def named(self):
-        """Looks at the commands that stand in the text."""
-        listed = [" ".join(it.split()) for found in NAMED.findall(self.text) for it in found.split(";")]
-        text = NAMED.sub("", BLOCK.sub("", self.text))
-        if re.search(r"^ {4,}[$#]? ?(?:make|rt|echo|cd) ", text, re.M):
-            self.fails("a command stands in no block")
-        spans = {" ".join(it.split()) for it in SPAN.findall(text)}
+    def named(self, pages):
+        """Looks at the commands that stand in the text, by the blocks and lists of these pages."""
+        if self.in_man:
+            texts = MAN_SPAN.findall(SYNOPSIS.sub("", MAN_BLOCK.sub("", self.text)))
+        else:
+            text = NAMED.sub("", BLOCK.sub("", self.text))
+            if re.search(r"^ {4,}[$#]? ?(?:make|rt|echo|cd) ", text, re.M):
+                self.fails("a command stands in no block")
+            texts = SPAN.findall(text)
+        spans = {" ".join((plain(it) if self.in_man else it).split()) for it in texts}
         found = {it for it in spans if " " in it and " = " not in it and PROGRAM.match(it)}
-        for command in sorted(found - set(listed)):
-            if not any(command in it for it in self.commands):
+        for command in sorted(found.difference(*(it.listed for it in pages))):
+            if not any(command in it for page in pages for it in page.commands):
                 self.fails(f"'{command}' is neither run nor listed as not run")
-        for command in sorted(set(listed) - found):
+        for command in sorted(set(self.listed) - found):
             self.fails(f"'{command}' is listed as not run, and stands nowhere")
         for command in found:
             target = re.match(r"make ([a-z-]+)", command)
             if target and target[1] not in targets():
                 self.fails(f"'{command}' names no target of make")
-        self.counts["not run"] += len(listed)
+        self.counts["not run"] += len(self.listed)
 
 
 def write(file, text):
@@ -192,9 +214,12 @@ def main(library="out/liblinkwire.a", *programs):
     pages = [Page(name, os.path.abspath(library), path) for name in names]
     for page in pages:
         page.hold()
+    for page in pages:
+        page.named(pages if page.in_man else [page])
     sums = {kind: sum(page.counts[kind] for page in pages) for kind in pages[0].counts}
     print(f"readme: {len(pages)} pages: {sums['run']} commands are run, {sums['compiled']} programs in C compiled and"
-          f" run, {sums['parts']} parts stand in their files; {sums['not run']} commands are marked as not run")
+          f" run, {sums['only compiled']} only compiled, {sums['parts']} parts stand in their files;"
+          f" {sums['not run']} commands are marked as not run")
     print("readme: ok")
 
 
