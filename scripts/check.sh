@@ -25,8 +25,8 @@ libraries() {
     stage 'the text of link_c' scripts/dist.sh --compare link_c
     scripts/c_library.sh --built
     make -s -o out/library.o out/liblinkwire.a out/liblinkwire.so.0
-    scripts/c_tests.sh out/liblinkwire.a crates/linkdiff/out out
-    scripts/linkdump_tests.sh
+    stage 'c_tests.sh, with state_live.sh' scripts/c_tests.sh out/liblinkwire.a crates/linkdiff/out out
+    stage linkdump_tests.sh scripts/linkdump_tests.sh
     python3 scripts/readme.py out/liblinkwire.a crates/linkwire/out crates/linkshow/out crates/linkstate/out \
         crates/linkdiff/out out
     stage 'builds of dist/' scripts/dist_tests.sh
@@ -34,10 +34,10 @@ libraries() {
 
 programs() {
     for name in "${names[@]}"; do
-        scripts/program.sh "$name"
+        stage "program.sh $name" scripts/program.sh "$name"
     done
-    python3 scripts/state_tests.py crates/linkstate/out/linkstate crates/linkwire/out/linkwire
-    python3 scripts/diff_tests.py crates/linkdiff/out/linkdiff crates/linkshow/out/linkshow \
+    python3 scripts/state_tests.py crates/linkstate/out/linkstate crates/linkwire/out/linkwire ${KERNELS:+"$KERNELS"}
+    stage diff_tests.py python3 scripts/diff_tests.py crates/linkdiff/out/linkdiff crates/linkshow/out/linkshow \
         crates/linkstate/out/linkstate crates/linkwire/out/linkwire
     python3 scripts/show_rows.py --check
     python3 scripts/show_damaged.py crates/linkshow/out/linkshow crates/linkwire/out/linkwire
