@@ -52,5 +52,7 @@ done
 start=$SECONDS
 "$top/scripts/state_live.sh" "$library" "${@:2}"
 echo "c tests: state_live.sh: $((SECONDS - start)) s"
-"$top/scripts/store_tests.sh" "$shared"
+linkstate=$top/crates/linkstate/out/linkstate
+[ -x "$linkstate" ] || linkstate=$top/out/linkstate
+"$top/scripts/store_tests.sh" "$shared" "$linkstate"
 echo 'c tests passed'
