@@ -14,7 +14,8 @@ is its headline with _ between the words. With WORDS only those files stay in FO
 to each other.
 
 --fit says which edits of the lists (of all lists and of the gate's, in must-fail/, where none is named) do not fit
-their crate's files any more.
+their crate's files any more; where none is named, also which edits of must-fail/ and of tests/edits/ have no row in
+docs/PROOFS.md, and which rows there have no edit or name another function than that in which the edit's text stands.
 --apply makes one edit in the files of a crate's folder.
 """
 
@@ -23,6 +24,8 @@ import os
 import re
 import sys
 
+PAGE = "docs/PROOFS.md"
+TABLE = "| edit | stands in | goal that stays open | tried in |"
 LINE = re.compile(r"(file): (?:src|specs|proofs)/\S+|(old): .*\S.*|(new):(?: .*)?")
 GOES_ON = " " * 8
 
@@ -148,6 +151,68 @@ def apply(edit, crate):
     return 0
 
 
+def owner(text, at):
+    """Returns the function, or the named type, in which this place of a file stands, as `Type::name` or `name`."""
+    end = text.find("\n", at)
+    head = text[: end if end >= 0 else len(text)]
+    items = re.findall(r"^( *)(?:pub(?:\(crate\))? )?(?:const )?(?:final )?(?:fn|type) (\w+)", head, re.M)
+    if not items:
+        return ""
+    indent, name = items[-1]
+    blocks = re.findall(r"^(?:pub )?(?:impl|trait)\b(?:<.*?>)? (?:[\w<>':, ]+ for )?(\w+)", head, re.M)
+    return f"{blocks[-1]}::{name}" if indent and blocks else name
+
+
+def places(lines, crate):
+    """Returns the functions in which the old texts of an edit stand."""
+    found, path = set(), ""
+    for line in lines:
+        key, _, text = line.partition(": ")
+        if key == "file":
+            path = text
+        elif key == "old" and os.path.isfile(f"{crate}/{path}"):
+            with open(f"{crate}/{path}", encoding="utf-8") as it:
+                source = it.read()
+            found.add(owner(source, source.find(text)))
+    return found
+
+
+def edits_of_gate(top):
+    """Returns the edits that the gate and `make check` try: where, name, and the functions that hold their texts."""
+    found = {}
+    for path in sorted(glob.glob(f"{top}/crates/*/must-fail/*.edit")):
+        crate = os.path.dirname(os.path.dirname(path))
+        with open(path, encoding="utf-8") as it:
+            lines = it.read().rstrip("\n").split("\n")
+        found[os.path.basename(crate), f"`{os.path.basename(path)[: -len('.edit')]}`"] = places(lines, crate)
+    for path in sorted(glob.glob(f"{top}/tests/edits/*.txt")):
+        crate = f"{top}/crates/{os.path.basename(path)[: -len('.txt')]}"
+        for headline, lines in read(path):
+            found["tests/edits", headline] = places(lines, crate)
+    return found
+
+
+def rows_of_page(top):
+    """Returns the rows of the table of edits: where, the edit's name and the function that the row names."""
+    with open(f"{top}/{PAGE}", encoding="utf-8") as it:
+        table = it.read().partition(TABLE + "\n")[2].partition("\n\n")[0]
+    for row in table.split("\n")[1:]:
+        edit, function, _, where = (it.strip() for it in row.strip("|").split(" | "))
+        yield where.strip("`"), edit, function.strip("`")
+
+
+def unlisted(top):
+    """Returns what the table of edits and the edits say otherwise than each other, a line each."""
+    edits, said = edits_of_gate(top), []
+    for where, edit, function in rows_of_page(top):
+        stands = edits.pop((where, edit), None)
+        if stands is None:
+            said.append(f"{PAGE}: {where}: {edit}: there is no such edit, or it has two rows")
+        elif function not in stands and function not in {it.rpartition("::")[2] for it in stands}:
+            said.append(f"{PAGE}: {where}: {edit}: it stands in {' and '.join(sorted(stands))}, not in {function}")
+    return said + [f"{PAGE}: {where}: {edit}: no row" for where, edit in edits]
+
+
 def fit_of_gate(top):
     """Returns how many of the edits in must-fail/ do not fit."""
     failed = 0
@@ -167,7 +232,10 @@ def fit_of_gate(top):
 
 def fit(paths):
     top = os.path.dirname(os.path.dirname(os.path.abspath(__file__)))
-    failed = 0 if paths else fit_of_gate(top)
+    missing = [] if paths else unlisted(top)
+    for line in missing:
+        print(line)
+    failed = len(missing) + (0 if paths else fit_of_gate(top))
     for path in paths or sorted(glob.glob(f"{top}/edits/*.txt") + glob.glob(f"{top}/tests/edits/*.txt")):
         crate = os.path.basename(path)[: -len(".txt")]
         edits = read(path)
