@@ -1,9 +1,9 @@
 #!/usr/bin/env bash
 # Tests the crate in rust/: its tests and those in its docs, with overflow checks, and the README's program in Rust,
 # taken out of it, whose output is compared. The example 'lines' has to answer the stored input of the program linkwire
-# as that does, and, where that is built, so many lines that are made and damaged, byte for byte; what the crate's calls
-# say of each of these lines has to agree: rust_tests.sh [LINES]. Where cargo is not there it says 'skipped'. It needs
-# no registry.
+# as that does, and, where that is built, so many lines that are made and damaged, byte for byte, and these as linkstate
+# does by the state encoding; what the crate's calls say of each of these lines has to agree: rust_tests.sh [LINES].
+# Where cargo is not there it says 'skipped'. It needs no registry.
 set -euo pipefail
 top=$(cd "$(dirname "$0")/.." && pwd)
 count=${1:-100000}
@@ -65,5 +65,13 @@ python3 "$top/scripts/rust_lines.py" "$folder/lines" "$count"
 "$example" <"$folder/lines" | cmp - "$folder/wanted"
 answers=$(cut -c 1-7 "$folder/wanted" | cut -d ' ' -f 1 | sort | uniq -c | awk '{ printf ", %s %s", $1, $2 }')
 echo "rust: $(wc -l <"$folder/lines") lines: the same bytes$answers"
+linkstate=$top/crates/linkstate/out/linkstate
+if [ -x "$linkstate" ]; then
+    "$linkstate" <"$folder/lines" >"$folder/wanted"
+    "$example" state <"$folder/lines" | cmp - "$folder/wanted"
+    echo "rust: by the state encoding: the same bytes, $(grep -c '^ok ' "$folder/wanted") states"
+else
+    echo 'rust: by the state encoding: skipped: crates/linkstate is not built'
+fi
 LINKWIRE_LINES=$folder/lines runs cargo test --locked --release --test stored lines -- --nocapture
 echo "rust: the calls agree on $(sed -nE 's/^(test .* [.]{3} )?([0-9]+ messages).*/\2/p' "$folder/log")"

@@ -3,8 +3,9 @@
 //! the stored lines and the rows have to be those of the program.
 
 use linkwire::{
-    Attribute, CanonError, DecodeError, Emitable, GROWTH, HEADER_SIZE, LinkAttribute, LinkMessage, RoomError, Writer,
-    attributes, canonical, canonical_into, canonical_len, canonical_within, check, fault_at, same_message,
+    Attribute, Attributes, CANONICAL_FORM, CanonError, DecodeError, Emitable, GROWTH, HEADER_SIZE, LinkAttribute,
+    LinkMessage, RoomError, STATE_FORM, Writer, attributes, canonical, canonical_into, canonical_len, canonical_within,
+    check, fault_at, same_message, same_state, state, state_within,
 };
 use std::fs;
 
@@ -42,10 +43,51 @@ fn agrees(bytes: &[u8]) {
     assert_eq!(fault_at(bytes).map(|(_, at)| at), LinkMessage::fault_at(bytes));
     assert_eq!(LinkMessage::fault_path(bytes).map(|path| path.offset), LinkMessage::fault_at(bytes));
     assert!(fault_at(bytes).map_or(true, |(_, at)| at <= bytes.len()));
+    let before = LinkMessage::parse_before_fault(bytes);
     match read {
-        Ok(message) => agrees_with_value(bytes, &message),
-        Err(fault) => all_refuse(bytes, CanonError::Decode(fault)),
+        Ok(message) => {
+            assert_eq!(before.as_ref(), Ok(&(message.clone(), None)));
+            agrees_with_value(bytes, &message);
+        }
+        Err(fault) if bytes.len() < HEADER_SIZE => {
+            assert_eq!(before, Err(fault));
+            all_refuse(bytes, CanonError::Decode(fault));
+        }
+        Err(fault) => {
+            let front = LinkMessage::parse(&bytes[..outermost_at_fault(bytes)]).unwrap();
+            assert_eq!(before, Ok((front, Some(fault))));
+            all_refuse(bytes, CanonError::Decode(fault));
+        }
     }
+}
+
+/// Which attribute of a list holds the byte at this place, if one does, and where it begins.
+fn around(list: &[u8], place: usize) -> Option<(Attribute<'_>, usize)> {
+    let mut at = 0;
+    for attribute in Attributes::of_list(list).map_while(Result::ok) {
+        let end = at + 4 + attribute.payload().len();
+        if (at..end).contains(&place) {
+            return Some((attribute, at));
+        }
+        at = (end + 3) / 4 * 4;
+    }
+    None
+}
+
+/// The numbers of the fault's path lead to its offset. Returns where the outermost attribute at fault begins, or the
+/// bytes that are none.
+fn outermost_at_fault(bytes: &[u8]) -> usize {
+    let path = LinkMessage::fault_path(bytes).unwrap();
+    let (mut list, mut start, mut begins) = (&bytes[HEADER_SIZE..], HEADER_SIZE, Vec::new());
+    for number in path.numbers() {
+        let (attribute, at) = around(list, path.offset - start).unwrap();
+        assert_eq!(attribute.number(), *number);
+        begins.push(start + at);
+        (list, start) = (attribute.payload(), start + at + 4);
+    }
+    // the innermost begins there, or in it no attribute does
+    assert!(begins.last() == Some(&path.offset) || around(list, path.offset - start).is_none());
+    begins.first().copied().unwrap_or(path.offset)
 }
 
 /// What the calls on bytes say agrees with what the calls of their value say.
@@ -78,24 +120,44 @@ fn is_written_as(bytes: &[u8], message: &LinkMessage, text: &[u8]) {
     assert!(text.len() <= GROWTH * bytes.len());
     assert_eq!(same_message(bytes, text), Ok(true));
     assert_eq!(same_message(bytes, &[0; HEADER_SIZE]), Ok(*text == [0; HEADER_SIZE]));
+    writes(canonical_into, bytes, text);
+    writes(canonical_within, bytes, text);
+    has_state(bytes, text);
 
     let mut longer = vec![0x55; text.len() + 9];
-    for write in [canonical_into, canonical_within] {
-        longer.fill(0x55);
-        assert_eq!(write(bytes, &mut longer), Ok(text.len()));
-        assert_eq!(longer[..text.len()], *text);
-        let short = &mut longer[..text.len() - 1];
-        short.fill(0x55);
-        assert_eq!(write(bytes, short), Err(RoomError::NoRoom { wanted: text.len() }));
-        assert!(short.iter().all(|it| *it == 0x55));
-    }
-    longer.fill(0x55);
     message.emit(&mut longer);
     assert_eq!(message.buffer_len(), text.len());
     assert_eq!(longer[..text.len()], *text);
     assert_eq!(longer[text.len()..], [0x55; 9]);
     let attributes: &[LinkAttribute] = &message.attributes;
     assert_eq!(HEADER_SIZE + attributes.buffer_len(), text.len());
+}
+
+/// A call writes this text to the front of a longer buffer, and nothing to a shorter one.
+fn writes(write: fn(&[u8], &mut [u8]) -> Result<usize, RoomError>, bytes: &[u8], text: &[u8]) {
+    let mut longer = vec![0x55; text.len() + 9];
+    assert_eq!(write(bytes, &mut longer), Ok(text.len()));
+    assert_eq!(longer[..text.len()], *text);
+    assert_eq!(longer[text.len()..], [0x55; 9]);
+    let short = &mut longer[..text.len() - 1];
+    short.fill(0x55);
+    assert_eq!(write(bytes, short), Err(RoomError::NoRoom { wanted: text.len() }));
+    assert!(short.iter().all(|it| *it == 0x55));
+}
+
+/// The state is canonical, as long as the canonical encoding, and that but for zeros; each call writes it, and its own
+/// state is itself.
+fn has_state(bytes: &[u8], text: &[u8]) {
+    let found = state(bytes).unwrap();
+    assert_eq!(found.len(), text.len());
+    assert!(found.iter().zip(text).all(|(state, canonical)| *state == 0 || state == canonical));
+    assert_eq!(canonical(&found).as_ref(), Ok(&found));
+    assert_eq!(state(text).as_ref(), Ok(&found));
+    assert_eq!(state(&found).as_ref(), Ok(&found));
+    assert_eq!(same_state(bytes, text), Ok(true));
+    assert_eq!(same_state(bytes, &found), Ok(true));
+    assert_eq!(same_state(&[0; HEADER_SIZE], bytes), Ok(found == [0; HEADER_SIZE]));
+    writes(state_within, bytes, &found);
 }
 
 /// A refusal without the name of the place, which is for a log: calls on a list alone do not know what it is of.
@@ -113,12 +175,17 @@ fn all_refuse(bytes: &[u8], refusal: CanonError) {
     assert_eq!(canonical_len(bytes).map_err(nameless), Err(refusal));
     assert_eq!(same_message(bytes, &[0; HEADER_SIZE]).map_err(nameless), Err(refusal));
     assert_eq!(same_message(&[0; HEADER_SIZE], bytes).map_err(nameless), Err(refusal));
-    let mut out = [0x55; 64];
-    match canonical_into(bytes, &mut out) {
-        Err(RoomError::NoText(it)) => assert_eq!(nameless(it), refusal),
-        other => panic!("{other:?}, where {refusal:?} is refused"),
+    assert_eq!(state(bytes).map_err(nameless), Err(refusal));
+    assert_eq!(same_state(bytes, &[0; HEADER_SIZE]).map_err(nameless), Err(refusal));
+    assert_eq!(same_state(&[0; HEADER_SIZE], bytes).map_err(nameless), Err(refusal));
+    for write in [canonical_into, canonical_within, state_within] {
+        let mut out = [0x55; 64];
+        match write(bytes, &mut out) {
+            Err(RoomError::NoText(it)) => assert_eq!(nameless(it), refusal),
+            other => panic!("{other:?}, where {refusal:?} is refused"),
+        }
+        assert_eq!(out, [0x55; 64]);
     }
-    assert_eq!(out, [0x55; 64]);
 }
 
 /// The attributes of a message, written again, mean the same.
@@ -129,6 +196,15 @@ fn rewrites(message: &[u8], attributes: &[Attribute]) {
         writer.put(attribute.kind(), attribute.payload()).unwrap();
     }
     assert_eq!(same_message(message, writer.finish()), Ok(true));
+}
+
+/// The forms are those of the header for C.
+#[test]
+fn forms() {
+    let header = stored("../../include/linkwire.h");
+    for (name, form) in [("CANONICAL", CANONICAL_FORM), ("STATE", STATE_FORM)] {
+        assert!(header.contains(&format!("#define LINKWIRE_{name}_FORM {form}\n")), "{name}");
+    }
 }
 
 #[test]
