@@ -1,8 +1,9 @@
 //! Each call once with ample memory, on a message whose state is known.
 
-use expected::{equal, is_stored};
+use expected::{GROWTH, equal, is_stored};
+use link_msg::laws::law_room;
 use link_msg::{CanonError, RoomError};
-use link_state::{same_state, state, state_within};
+use link_state::{Level, clear, same_state, state, state_into, state_within};
 
 /// All flags are changed, and the carrier has changed three times.
 const POLLED: [u8; 24] = [
@@ -42,6 +43,23 @@ fn written(rt: HostRuntime) {
     let mut short = [255; 20];
     let refused = state_within(&POLLED, &mut short) == Err(RoomError::NoRoom { wanted: 24 });
     assert!(rt; refused);
+}
+
+#[test]
+fn written_where_there_is_room(rt: HostRuntime) {
+    let mut out = [255; 2000];
+    assert!(rt; 24 * GROWTH <= 2000);
+    law_room(&POLLED);
+    assert!(rt; state_into(&POLLED, &mut out) == Ok(24));
+    assert!(rt; is_stored(24, &out, &STATE));
+}
+
+#[test]
+fn cleared(rt: HostRuntime) {
+    // a bridge's hello timer and its state
+    let mut list = [8, 0, 16, 0, 1, 2, 3, 4, 8, 0, 5, 0, 1, 0, 0, 0];
+    clear(&mut list, Level::Bridge);
+    assert!(rt; equal(&list, &[8, 0, 16, 0, 0, 0, 0, 0, 8, 0, 5, 0, 1, 0, 0, 0]));
 }
 
 #[test]
