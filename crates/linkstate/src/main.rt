@@ -24,7 +24,7 @@ after each, are written in front of the answer as they stand.
 /// What `--version` writes.
 const VERSION: &str = "linkstate 0.3.0\n";
 
-/// The exit status after a wrong argument.
+/// The exit status after wrong arguments.
 const USAGE: u8 = 2;
 
 fn main(rt: HostRuntime) -> ExitCode {
@@ -36,14 +36,25 @@ fn main(rt: HostRuntime) -> ExitCode {
     let Some(word) = words.next() else {
         return answer_lines(rt);
     };
-    let text = match asked_for(word.as_str()) {
-        Request::Help => HELP,
-        Request::Version => VERSION,
-        Request::Unknown => {
-            let _ = eprintln!(rt; "linkstate: no such argument: {word}; see linkstate --help");
-            return ExitCode::from(USAGE);
-        }
-    };
+    let asked = asked_for(word.as_str());
+    if let Some(word) = words.next() {
+        return refuse(rt, word.as_str());
+    }
+    match asked {
+        Request::Help => write_text(rt, HELP),
+        Request::Version => write_text(rt, VERSION),
+        Request::Unknown => refuse(rt, word.as_str()),
+    }
+}
+
+/// Says that an argument is wrong.
+fn refuse(rt: HostRuntime, word: &str) -> ExitCode {
+    let _ = eprintln!(rt; "linkstate: not understood: {word}; see linkstate --help");
+    ExitCode::from(USAGE)
+}
+
+/// Writes a text.
+fn write_text(rt: HostRuntime, text: &str) -> ExitCode {
     match print!(rt; "{text}") {
         Ok(()) => ExitCode::SUCCESS,
         Err(_) => {
