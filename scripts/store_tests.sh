@@ -1,8 +1,8 @@
 #!/usr/bin/env bash
 # Runs what docs/STORE.md has, in a network namespace: store_tests.sh LIBRARY [LINKSTATE]. A hundred polls of idle links
-# are one row an interface, and a change, a deleted interface and an index that is used again are one more each. LIBRARY
-# is the shared one; where the program LINKSTATE is not built the store in a folder is 'skipped', as is all that cannot
-# be had.
+# are one row an interface, and a change, a deleted interface and an index that is used again are one more each; in the
+# folder a refused message and a linkdump that fails are none. LIBRARY is the shared one; where the program LINKSTATE is
+# not built the store in a folder is 'skipped', as is all that cannot be had.
 set -euo pipefail
 top=$(cd "$(dirname "$0")/.." && pwd)
 
@@ -97,25 +97,57 @@ polls_sqlite() {
     ip link del again0
 }
 
+# in_folder [FOLDER]: one poll; a program in FOLDER stands for another of its name
 in_folder() {
-    PATH=$folder:$(dirname "$linkstate"):$PATH bash -euo pipefail "$folder/store.sh" "$folder/store" ||
-        fails 'the store in a folder'
+    PATH=${1:+$1:}$folder:$(dirname "$linkstate"):$PATH bash "$folder/store.sh" "$folder/store" 2>"$folder/err"
+}
+
+# polls [FOLDER]: the same, which does not fail
+polls() {
+    in_folder "$@" || fails "the store in a folder: $(cat "$folder/err")"
+}
+
+# stub LINE..: a linkdump of these lines
+stub() {
+    mkdir -p "$folder/stub"
+    printf '%s\n' '#!/bin/sh' "$@" >"$folder/stub/linkdump"
+    chmod +x "$folder/stub/linkdump"
+}
+
+# folder_lines: how many the files of the interfaces have
+folder_lines() {
+    cat "$folder"/store/links/* | wc -l
 }
 
 polls_folder() {
-    local polls links line
+    local count links line index
     block bash >"$folder/store.sh"
-    for ((polls = 0; polls < 100; polls++)); do
-        in_folder
+    for ((count = 0; count < 100; count++)); do
+        polls
     done
     links=$(find "$folder/store/links" -type f | wc -l)
-    wants 'lines of a hundred idle polls in a folder, one a link' "$(cat "$folder"/store/links/* | wc -l)" "$links"
+    wants 'lines of a hundred idle polls in a folder, one a link' "$(folder_lines)" "$links"
+    # a message with a stray byte at its end
+    index=$(printf %08x "$(cat /sys/class/net/veth0/ifindex)" | sed 's/\(..\)\(..\)\(..\)\(..\)/\4\3\2\1/')
+    stub "'$folder/linkdump' \"\$@\" | sed '/^00......$index/s/\$/00/'"
+    for count in 1 2; do
+        polls "$folder/stub"
+        wants 'links that are refused and told' "$(grep -c "^refused 00......$index.*00\$" "$folder/err")" 1
+        polls
+    done
+    wants 'lines after a link was refused, and was not, twice' "$(folder_lines)" "$links"
+    stub "'$folder/linkdump' \"\$@\" | head -n 1" 'exit 1'
+    if in_folder "$folder/stub"; then
+        fails 'the store in a folder does not tell that linkdump failed'
+    fi
+    polls
+    wants 'lines after a linkdump that failed' "$(folder_lines)" "$links"
     ip link set veth0 mtu 1400
-    in_folder
-    wants 'lines after a change' "$(cat "$folder"/store/links/* | wc -l)" $((links + 1))
+    polls
+    wants 'lines after a change' "$(folder_lines)" $((links + 1))
     ip link del veth0
-    in_folder
-    in_folder
+    polls
+    polls
     wants 'links that are gone, a veth and its peer' "$(cat "$folder"/store/links/* | grep -c ' gone$')" 2
     for line in "$folder"/store/2-1/*; do
         [ "$(basenc --base16 -d <<<"$(tr a-f A-F <"$line")" | sha256sum | cut -d ' ' -f 1)" = "${line##*/}" ] ||
