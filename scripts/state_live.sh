@@ -39,8 +39,14 @@ kinds=(
     'veth link add port9 type veth peer name port10'
     'hsr link add hsr0 type hsr slave1 port7 slave2 port9'
     'hsr link add hsr1 type hsr slave1 port8 slave2 port10'
+    'veth link add port11 type veth peer name port12'
+    'veth link add port13 type veth peer name port14'
+    'prp link add prp0 type hsr slave1 port11 slave2 port13 proto 1'
+    'prp link add prp1 type hsr slave1 port12 slave2 port14 proto 1'
     'team link add team0 type team'
+    'team-port link add port15 master team0 type veth peer name port16'
     'vrf link add vrf0 type vrf table 100'
+    'vrf-port link add port17 master vrf0 type veth peer name port18'
     'ifb link add ifb2 type ifb'
     'nlmon link add nlmon0 type nlmon'
     'vcan link add vcan0 type vcan'
@@ -60,6 +66,7 @@ kinds=(
     'erspan link add erspan1 type erspan local 10.9.9.1 remote 10.9.9.2 seq key 100 erspan 123'
     'ip6gre link add ip6gre1 type ip6gre local fd00::1 remote fd00::2'
     'ip6gretap link add ip6gretap1 type ip6gretap local fd00::1 remote fd00::2'
+    'ip6erspan link add ip6erspan1 type ip6erspan local fd00::1 remote fd00::2 seq key 102 erspan_ver 1 erspan 9'
     'ipip link add ipip1 type ipip local 10.9.9.1 remote 10.9.9.2'
     'sit link add sit1 type sit local 10.9.9.1 remote 10.9.9.2'
     'ip6tnl link add ip6tnl1 type ip6tnl local fd00::1 remote fd00::2'
@@ -68,6 +75,14 @@ kinds=(
     'wireguard link add wireguard0 type wireguard'
     'xfrm link add xfrm0 type xfrm dev veth0 if_id 5'
     'bareudp link add bareudp0 type bareudp dstport 6635 ethertype mpls_uc'
+    'amt link add amt0 type amt mode gateway local 10.9.9.1 discovery 10.9.9.2 dev veth0'
+    'gtp link add gtp0 type gtp role sgsn'
+    'pfcp link add pfcp0 type pfcp'
+    'ovpn link add ovpn0 type ovpn'
+    'veth link add port19 type veth peer name port20'
+    'rmnet link add rmnet0 link port19 type rmnet mux_id 4'
+    'virt-wifi link add link port20 name wlan0 type virt_wifi'
+    'vsockmon link add vsockmon0 type vsockmon'
     'batadv link add batadv0 type batadv'
     'tun tuntap add tun0 mode tun'
     'tap tuntap add tap0 mode tap'
@@ -182,7 +197,7 @@ makes_kinds() {
         ip link set "${link##*/}" up 2>/dev/null || true
     done
     echo "state: kinds that the kernel knows:$(echo "$known" | xargs -n1 | sort -u | sed 's/^/ /' | tr -d '\n');" \
-        "and not:$(echo "$unknown" | xargs -n1 | sort -u | sed 's/^/ /' | tr -d '\n')"
+        "skipped:$(echo "$unknown" | xargs -n1 | sort -u | sed 's/^/ /' | tr -d '\n')"
 }
 
 # waits SECONDS COMMAND..: until it succeeds, so long at most
@@ -401,6 +416,8 @@ if [ "$1" = --inside ]; then
     mount -t sysfs sysfs /sys || skips 'no right to mount a sysfs'
     seconds=10
     [ -z "${LONG:-}" ] || seconds=60
+    { echo 0 >/proc/sys/net/ipv6/conf/all/disable_ipv6 && echo 0 >/proc/sys/net/ipv6/conf/default/disable_ipv6; } \
+        2>/dev/null || echo 'state: skipped: IPv6: the kernel has none, or leaves it off'
     ip link set lo up
     makes_kinds
     stays
