@@ -5,8 +5,9 @@
  * encoding, and two byte strings mean the same message exactly where their canonical encodings are equal.
  *
  * An attribute is a length of two bytes, a kind of two bytes, and a payload; the length counts the four bytes before
- * the payload, and not the padding after it. Attributes start at multiples of four, counted from the start of their
- * list. Numbers are in host order, which is lowest byte first: the library is for 64-bit Linux on such machines.
+ * the payload, and not the padding after it. The next attribute starts at the next multiple of four, counted from the
+ * start of this one. Numbers are in host order, which is lowest byte first: the library is for 64-bit Linux on such
+ * machines.
  *
  * What each function asks of its caller, and does not test:
  * - A pointer is not null, is aligned for what it points to, and has at least as many bytes after it as its length
@@ -22,9 +23,9 @@
  *
  * Calls share nothing, so they can run side by side in several threads, and no call reads or sets errno but by the
  * allocator. `linkwire_same_message` and `linkwire_same_state` take memory from malloc and realloc, and give all of it
- * back with free before they return. The three are to be of one allocator, which aligns a block to each power of two up
- * to 16 that divides its size; it may set errno. These two calls are not to be made from a signal handler, nor in the
- * forked child of a process with threads. The other functions take no memory and can be called anywhere.
+ * back with free before they return. The three belong to one allocator, which aligns a block of N bytes to the largest
+ * power of two, up to 16, that divides N; it may set errno. These two calls are not to be made from a signal handler,
+ * nor in the forked child of a process with threads. The other functions take no memory and can be called anywhere.
  */
 #ifndef LINKWIRE_H
 #define LINKWIRE_H
@@ -67,7 +68,7 @@ enum linkwire_answer {
     LINKWIRE_NOT_UTF8 = -7,     /* a text is not UTF-8 */
     /* The bytes are a message that has no canonical encoding. */
     LINKWIRE_UNFIT = -16,       /* the value of an attribute would have more than 65531 bytes */
-    LINKWIRE_EMPTY_PORTS = -17, /* the message holds an empty list of ports */
+    LINKWIRE_EMPTY_PORTS = -17, /* IFLA_VF_PORTS has entries, none of them an IFLA_VF_PORT */
     /* Neither says anything of the bytes. */
     LINKWIRE_OUT_OF_MEMORY = -18, /* no memory was left; only the two calls that compare return it */
     LINKWIRE_NO_ROOM = -19        /* the buffer is too short */
@@ -80,7 +81,7 @@ struct linkwire_attribute {
     size_t payload_len; /* the bytes of its payload, at most 65531 */
 };
 
-/* The most attributes that lead to a fault: lists stand in one another so deep. */
+/* The most attributes that lead to a fault, which is how deep lists nest. */
 #define LINKWIRE_DEPTH 4
 
 /* Where a fault is, and the attributes that lead to it. */
@@ -101,14 +102,14 @@ ptrdiff_t linkwire_canonical_len(const uint8_t *message, size_t len);
  * is longer than `cap`. After every refusal `out` is unchanged. The message is measured once. Takes no memory. */
 ptrdiff_t linkwire_canonical(const uint8_t *message, size_t len, uint8_t *out, size_t cap);
 
-/* 1 where both mean the same message, 0 where they mean two; or the refusal, -1 to -7, -16, -17 or -18, of the first
- * that is refused. Takes memory. */
+/* 1 where both mean the same message, 0 where they mean different ones; or the refusal, -1 to -7, -16, -17 or -18, of
+ * the first that is refused. Takes memory. */
 int32_t linkwire_same_message(const uint8_t *a, size_t a_len, const uint8_t *b, size_t b_len);
 
 /* The state encoding: the canonical encoding, in which all that an idle kernel moves by itself is zero, so that it
- * stands still while nobody changes the interface. It is as long (`linkwire_canonical_len`), it is the canonical
- * encoding of a message, and the state encoding of itself. What it returns, writes and refuses is said as of
- * `linkwire_canonical`. Takes no memory.
+ * stays the same while the interface's settings and state do. It is as long (`linkwire_canonical_len`), it is the
+ * canonical encoding of a message, and the state encoding of itself. It returns, writes and refuses as
+ * `linkwire_canonical` does. Takes no memory.
  *
  * Zero is, at the numbers of linux/if_link.h and linux/if_bridge.h:
  * - in the header the change mask;
@@ -133,13 +134,13 @@ int32_t linkwire_same_message(const uint8_t *a, size_t a_len, const uint8_t *b, 
  * up. */
 ptrdiff_t linkwire_state(const uint8_t *message, size_t len, uint8_t *out, size_t cap);
 
-/* 1 where both have the same state encoding, 0 where they have two; or the refusal, -1 to -7, -16, -17 or -18, of the
- * first that is refused. Takes memory. */
+/* 1 where both have the same state encoding, 0 where they have different ones; or the refusal, -1 to -7, -16, -17 or
+ * -18, of the first that is refused. Takes memory. */
 int32_t linkwire_same_state(const uint8_t *a, size_t a_len, const uint8_t *b, size_t b_len);
 
 /* The attribute at `*at` of a list of attributes: 1, and `*at` moves to the next multiple of four after it, or to
  * `len` where that is less; 0 where `*at` is `len` or more; -2, -3 or -4 where no attribute stands there. After 0 and
- * a fault `*at` and `*attribute` are unchanged. Multiples of four are counted from `*at`, where the attribute starts.
+ * a fault `*at` and `*attribute` are unchanged. Multiples of four are counted from the start of the attribute.
  *
  * A message's list starts at LINKWIRE_HEADER_SIZE. A nested list is the payload of an attribute: call this with the
  * address of the payload, its length, and an offset of 0. Takes no memory. */
