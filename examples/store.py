@@ -3,8 +3,8 @@
 
     store.py FILE [POLLS [SECONDS]]
 
-Polls so often (1), so many seconds apart (1). The library is liblinkwire.so.0, or what LINKWIRE in the environment
-names. docs/STORE.md says why it is done so.
+It polls POLLS times (1), SECONDS apart (1). The library is liblinkwire.so.0, or what LINKWIRE in the environment names.
+docs/STORE.md says why it is done so.
 """
 
 import ctypes
