@@ -342,17 +342,17 @@ shows() {
     echo 'live: linkdump --plain | linkshow: the names and MTUs of ip'
 }
 
-# starts_diff [FAULT]: linkdump --monitor | linkdiff in the background, with its dumps over
+# starts_diff [FAULT [WORD..]]: linkdump --monitor WORD.. | linkdiff in the background, with its dumps over
 starts_diff() {
     rm -f "$folder/pipe" "$folder/changes" "$folder/err"
     mkfifo "$folder/pipe"
     "$diff" <"$folder/pipe" >"$folder/changes" &
     reading=$!
-    LD_PRELOAD=${1:+$folder/kernel_faults.so} KERNEL_FAULT=${1:-} "$linkdump" --monitor \
+    LD_PRELOAD=${1:+$folder/kernel_faults.so} KERNEL_FAULT=${1:-} "$linkdump" --monitor "${@:2}" \
         >"$folder/pipe" 2>"$folder/err" &
     running=$!
     trap 'kill -KILL "$running" "$reading" 2>/dev/null || true' EXIT
-    says '"change":"new","ifi-family":7,.*"ifname":"port0"'
+    says '"change":"new","ifi-family":(7|10),.*"ifname":"port0"'
 }
 
 # says PATTERN: until linkdiff has written such a line
@@ -413,6 +413,18 @@ differs() {
     fi
     echo 'live: --monitor | linkdiff: changes without counters, a datagram that was cut off, a queue that ran over,' \
         'a port that left, a bridge that went'
+    if ! "$linkdump" --plain --family inet6 | grep -q '^0a'; then
+        echo 'live: skipped: --monitor --family inet6 | linkdiff: the kernel has no IPv6'
+        return
+    fi
+    ip link add six0 type "$kind"
+    starts_diff '' --family inet6
+    says '"change":"new","ifi-family":10,.*"ifname":"six0"'
+    ip link del six0
+    says '"change":"gone","ifi-family":0,.*"ifname":"six0"'
+    says '"change":"gone","ifi-family":10,.*"ifname":"six0"'
+    stops_diff
+    echo 'live: --monitor --family inet6 | linkdiff: an interface that went'
 }
 
 # in the namespace

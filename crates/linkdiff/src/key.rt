@@ -7,8 +7,8 @@ use std::alloc::{AllocError, Global};
 /// The family of messages that speak of an interface alone.
 const AF_UNSPEC: u8 = 0;
 
-/// The family of messages that speak of an interface as a bridge or the port of one.
-const AF_BRIDGE: u8 = 7;
+/// The families of messages that say more of an interface: AF_BRIDGE, of a bridge or the port of one, and AF_INET6.
+pub const MORE: [u8; 2] = [7, 10];
 
 /// An interface.
 #[derive(PartialEq, Eq, PartialOrd, Ord, Drop)]
@@ -36,16 +36,18 @@ impl Key {
         })
     }
 
-    /// The same interface as a bridge or the port of one, if this is the interface alone.
-    pub fn in_bridge(&self, alloc: Global) -> Result<Option<Key>, AllocError> {
-        if self.family != AF_UNSPEC {
-            return Ok(None);
-        }
+    /// Whether this is the interface alone.
+    pub fn is_alone(&self) -> bool {
+        self.family == AF_UNSPEC
+    }
+
+    /// The same interface in this family.
+    pub fn in_family(&self, alloc: Global, family: u8) -> Result<Key, AllocError> {
         let host = self.host.as_slice().to_vec(alloc)?;
-        Ok(Some(Key {
+        Ok(Key {
             host,
-            family: AF_BRIDGE,
+            family,
             index: self.index,
-        }))
+        })
     }
 }

@@ -2,7 +2,7 @@
 
 ghost use Rattle.std.specs.Prelude.{◌≡◌, ◌↔◌, OnOk};
 
-use crate::key::Key;
+use crate::key::{Key, MORE};
 use crate::reading::{LineReader, Said};
 use crate::store::{Entry, Store};
 use message_diff::{Compared, Snapshot, push_changed, push_gone, push_new};
@@ -49,8 +49,8 @@ impl Watch {
         }
     }
 
-    /// Adds a line for an interface that went, and one for it in its bridge: of a bridge the kernel announces only the
-    /// first.
+    /// Adds a line for an interface that went, and one for each family in which more was said of it: of a bridge, and
+    /// in AF_INET6, the kernel announces only the first.
     fn end(
         &mut self,
         alloc: Global,
@@ -62,14 +62,17 @@ impl Watch {
         let mut old = snapshot;
         let _last = self.last.remove(key);
         push_gone(alloc, words, &mut old, out)?;
-        let Some(in_bridge) = key.in_bridge(alloc)? else {
+        if !key.is_alone() {
             return Ok(());
-        };
-        let Some(entry) = self.last.remove(&in_bridge) else {
-            return Ok(());
-        };
-        let mut last = entry;
-        push_gone(alloc, words, &mut last.snapshot, out)
+        }
+        for family in &MORE {
+            let part = key.in_family(alloc, *family)?;
+            if let Some(entry) = self.last.remove(&part) {
+                let mut last = entry;
+                push_gone(alloc, words, &mut last.snapshot, out)?;
+            }
+        }
+        Ok(())
     }
 }
 
@@ -125,8 +128,11 @@ impl Take for Loader {
             Said::Nothing => Ok(()),
             Said::Went(key, _snapshot) => {
                 let _last = self.last.remove(&key);
-                if let Some(in_bridge) = key.in_bridge(alloc)? {
-                    let _port = self.last.remove(&in_bridge);
+                if key.is_alone() {
+                    for family in &MORE {
+                        let part = key.in_family(alloc, *family)?;
+                        let _part = self.last.remove(&part);
+                    }
                 }
                 Ok(())
             }
