@@ -7,7 +7,7 @@ The model reads the JSON of the two state encodings, or with --counters of the t
 and values; it knows the counters by linkstate alone: what it answers where each word of zeros is tried with a 1 by
 itself. The lines are made: messages of tests/state/pairs.txt, beside themselves, beside the other one of their pair,
 which has the same state, and with attributes that are changed, renamed, moved, dropped and added. COUNT says how many
-are made.
+are made. Words in front of a line are told as linkshow tells them.
 """
 import json
 import random
@@ -59,6 +59,22 @@ def paths(value, path=()):
     for name, part in parts:
         found.update(paths(part, (*path, str(name))))
     return found
+
+
+def compare_words(linkdiff, linkshow, rng):
+    """Tells as linkshow does the words of lines that are no messages: texts, what JSON escapes, and no UTF-8."""
+    pieces = [b"a", b"9", b"=", b'"', b"\\", b"/", b"\0", b"\1", b"\b", b"\f", b"\r", b"\x1f", b"\x7f", b"\xc3",
+              b"\xff", "\u00e9".encode(), "\u2028".encode(), "\U0001f517".encode()]
+    lines = [b"".join(key + b"=" + b"".join(rng.choices(pieces, k=rng.randrange(5))) + b" "
+                      for key in (b"type", b"time", b"host")) + b"00\n" for _ in range(1000)]
+    told, shown = [subprocess.run([it], input=b"".join(lines), stdout=subprocess.PIPE, check=True).stdout.split(b"\n")
+                   for it in (linkdiff, linkshow)]
+    for line, one, other in zip(lines, told, shown):
+        if one != other:
+            fails("words of", line, "told", one, "and not", other)
+    if len(told) != len(lines) + 1 or len(shown) != len(told):
+        fails(len(told) - 1, "answers to", len(lines), "lines with words")
+    print(f"diff_tests: the words of {len(lines)} lines as linkshow tells them")
 
 
 class Programs:
@@ -167,6 +183,7 @@ def main():
     count = int(sys.argv[5]) if len(sys.argv) > 5 else 300
     programs = Programs(*others)
     rng = random.Random(7)
+    compare_words(linkdiff, programs.linkshow, random.Random(8))
     stored = pairs()
     for name, one, other in stored:
         if compare(linkdiff, programs, one, other, False) or compare(linkdiff, programs, one, one, True):

@@ -1,6 +1,7 @@
 //! The words in front of a line, as members of the answer.
 
 use line_filter::words::value_of;
+use message_shown::context::text_of;
 use std::alloc::{AllocError, Global};
 
 /// The words that are told.
@@ -14,6 +15,9 @@ fn push_byte(out: &mut Vec<u8>, byte: u8) -> Result<(), AllocError> {
     match byte {
         b'"' => out.extend_from_slice(b"\\\""),
         b'\\' => out.extend_from_slice(b"\\\\"),
+        8 => out.extend_from_slice(b"\\b"),
+        12 => out.extend_from_slice(b"\\f"),
+        b'\r' => out.extend_from_slice(b"\\r"),
         0..=31 => {
             out.extend_from_slice(b"\\u00")?;
             out.push(DIGITS[(byte / 16) as usize])?;
@@ -27,14 +31,21 @@ fn push_byte(out: &mut Vec<u8>, byte: u8) -> Result<(), AllocError> {
     }
 }
 
-/// Adds a member and a comma. What is no UTF-8 stands as U+FFFD.
+/// Adds a member and a comma. A value that is no UTF-8 stands as its digits, as linkshow has it.
 fn push_word(alloc: Global, out: &mut Vec<u8>, key: &str, value: &[u8]) -> Result<(), AllocError> {
-    let text = String::from_utf8_lossy(alloc, value)?;
     out.push(b'"')?;
     out.extend_from_slice(key.as_bytes())?;
     out.extend_from_slice(b"\":\"")?;
-    for byte in text.as_str().as_bytes() {
-        push_byte(out, *byte)?;
+    match text_of(value) {
+        Some(text) => {
+            for byte in text.as_bytes() {
+                push_byte(out, *byte)?;
+            }
+        }
+        None => {
+            let digits = hex::encode(alloc, value)?;
+            out.extend_from_slice(digits.as_str().as_bytes())?;
+        }
     }
     out.extend_from_slice(b"\",")
 }
