@@ -15,7 +15,7 @@ pub enum Request {
     Stream(Compared),
     /// One file beside another.
     Files(Compared, String, String),
-    /// An argument that there is not.
+    /// An argument that there is not, or one beside `--help` or `--version`.
     Wrong(String),
     /// One file, or more than two.
     Count,
@@ -25,14 +25,23 @@ pub enum Request {
 pub fn requested(alloc: Global, words: Args) -> Result<Request, AllocError> {
     let mut by = Compared::State;
     let mut names = Vec::new(alloc);
+    let mut alone = None;
+    let mut is_first = true;
     for word in words.skip(1) {
+        if alone.is_some() {
+            return Ok(Request::Wrong(word));
+        }
         match word.as_str() {
-            "--help" => return Ok(Request::Help),
-            "--version" => return Ok(Request::Version),
+            "--help" if is_first => alone = Some(Request::Help),
+            "--version" if is_first => alone = Some(Request::Version),
             "--counters" => by = Compared::Message,
             other if other.starts_with("-") => return Ok(Request::Wrong(word)),
             _ => names.push(word)?,
         }
+        is_first = false;
+    }
+    if let Some(request) = alone {
+        return Ok(request);
     }
     if names.is_empty() {
         return Ok(Request::Stream(by));

@@ -51,7 +51,7 @@ fn main(rt: HostRuntime) -> ExitCode {
         Ok(Request::Stream(by)) => run_stream(rt, by),
         Ok(Request::Files(by, old, new)) => run_files(rt, by, old.as_str(), new.as_str()),
         Ok(Request::Wrong(word)) => {
-            let _ = eprintln!(rt; "linkdiff: no such argument: {word}; see linkdiff --help");
+            let _ = eprintln!(rt; "linkdiff: not understood: {word}; see linkdiff --help");
             ExitCode::from(USAGE)
         }
         Ok(Request::Count) => {
