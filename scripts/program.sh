@@ -45,6 +45,8 @@ if [ "$name" = linkwire ]; then
     grep -v '^#' "$top/tests/captures.txt" >"$folder/captures"
     status=0; sed -n '1~2p' "$folder/captures" | "$program" >"$folder/out" 2>"$folder/err" || status=$?
     wants "captures of kernels" 0 "$(sed -n '2~2p' "$folder/captures")" ""
+    status=0; echo 'host=a 00000000000000000000000000000000' | "$program" >"$folder/out" 2>"$folder/err" || status=$?
+    wants "words in front of a line, which are no digits" 0 "$nothex" ""
 fi
 
 : >"$folder/out"
@@ -87,6 +89,44 @@ if [ "$name" != linkwire ]; then
         [ "$(wc -l <"$folder/err")" = 1 ] || { echo "$name: '$word' is not told in one line" >&2; exit 1; }
         wants "the argument '$word'" 2 "" "$(cat "$folder/err")"
     done
+    for words in '--help x' '--version --help'; do
+        status=0; "$program" "${words% *}" "${words#* }" </dev/null >"$folder/out" 2>"$folder/err" || status=$?
+        [ "$(wc -l <"$folder/err")" = 1 ] || { echo "$name: '$words' is not told in one line" >&2; exit 1; }
+        wants "the arguments '$words'" 2 "" "$(cat "$folder/err")"
+    done
+fi
+
+# link FAMILY INDEX ATTRIBUTES: a message of e0, the first two a byte in hexadecimal each
+link() {
+    printf '%s000100%s00000043100000000000000700030065300000%s\n' "$1" "$2" "${3:-}"
+}
+# mtus FAMILY INDEX: two messages, with two MTUs
+mtus() {
+    link "$1" "$2" 08000400dc050000
+    link "$1" "$2" 0800040028230000
+}
+
+# holds WHAT ANSWERS: the lines of $folder/lines have so many answers, and want no more memory than a few of them
+holds() {
+    status=0; (ulimit -v 16000; exec "$program" <"$folder/lines" >"$folder/out" 2>"$folder/err") || status=$?
+    if [ "$status$(cat "$folder/err")" != 0 ] || [ "$(wc -l <"$folder/out")" != "$2" ]; then
+        echo "$name: $1: status $status, $(wc -l <"$folder/out") answers: $(cat "$folder/err")" >&2
+        exit 1
+    fi
+    echo "$name: $1, in 16 MB: ok"
+}
+yes "$(mtus 00 02; mtus 07 02; mtus 00 03)" | head -n 100000 >"$folder/lines" || true # yes ends by SIGPIPE
+holds '100,000 lines of three interfaces' 100000
+if [ "$name" = linkdiff ]; then
+    awk -v alone="$(link 00 @)" -v more="$(link 0a @)" 'BEGIN {
+        for (i = 1; i <= 30000; i++) {
+            at = sprintf("%02x%02x", i % 256, int(i / 256))
+            it = alone; sub(/@00/, at, it); print it
+            six = more; sub(/@00/, at, six); print six
+            print "type=del " it
+        }
+    }' >"$folder/lines"
+    holds '30,000 interfaces that come, and go in the family 0 alone' 120000
 fi
 
 if [ "$name" = linkdiff ]; then
@@ -104,6 +144,53 @@ if [ "$name" = linkdiff ]; then
     fi
     status=0; "$program" "$top/crates/$name/stdin" "$top/crates/$name/stdin" >"$folder/out" 2>"$folder/err" || status=$?
     wants "a file beside itself" 0 "$(grep fault "$folder/out")" ""
+
+    # of each file the last line of an interface; first what came and changed, by host, family and index, and then what
+    # went; the words are NEW's, or OLD's of what went; where an interface went, it went in all families
+    mtu='"ifname":"e0","changes":[{"path":"mtu","old":1500,"new":9000}]}'
+    old=08000400dc050000 new=0800040028230000
+    {
+        for interface in 'host=b 00 02' 'host=a 07 02' 'host=a 00 03' 'host=c 00 02' 'host=d 07 09' 'host=d 0a 09' \
+            'host=d 00 09'; do
+            read -r host family index <<<"$interface"
+            echo "time=1 $host $(link "$family" "$index" "$old")"
+        done
+        link 00 09 "$old"
+    } >"$folder/old"
+    {
+        echo "host=b $(link 00 02 "$old")"
+        echo "time=2 host=b $(link 00 02 "$new")"
+        echo "host=a time=3 $(link 07 02 "$new")"
+        echo "type=new host=a $(link 00 03 "$new")"
+        echo "host=a $(link 00 02 "$new")"
+        sed -n 's/^time=1 host=d /host=d /p' "$folder/old"
+        echo "host=d type=del $(link 00 09 "$old")"
+        link 00 01 "$new"
+    } >"$folder/new"
+    status=0; "$program" "$folder/old" "$folder/new" >"$folder/out" 2>"$folder/err" || status=$?
+    wants "hosts in two files, and their order" 0 '{"change":"new","ifi-family":0,"ifi-index":1,"ifname":"e0"}
+{"host":"a","change":"new","ifi-family":0,"ifi-index":2,"ifname":"e0"}
+{"type":"new","host":"a","change":"changed","ifi-family":0,"ifi-index":3,'"$mtu"'
+{"time":"3","host":"a","change":"changed","ifi-family":7,"ifi-index":2,'"$mtu"'
+{"time":"2","host":"b","change":"changed","ifi-family":0,"ifi-index":2,'"$mtu"'
+{"change":"gone","ifi-family":0,"ifi-index":9,"ifname":"e0"}
+{"time":"1","host":"c","change":"gone","ifi-family":0,"ifi-index":2,"ifname":"e0"}
+{"time":"1","host":"d","change":"gone","ifi-family":0,"ifi-index":9,"ifname":"e0"}
+{"time":"1","host":"d","change":"gone","ifi-family":7,"ifi-index":9,"ifname":"e0"}
+{"time":"1","host":"d","change":"gone","ifi-family":10,"ifi-index":9,"ifname":"e0"}' ""
+
+    # the fifth counter of IPv6: its name is that of a word kernel=
+    for kernel in 6.1.0:outforwdatagrams 6.16.0:noectpkts; do
+        for count in 07 08; do
+            echo "kernel=${kernel%:*} $(link 00 02 "34001a0030000a002c000300$(printf '%064d' 0)${count}00000000000000")"
+        done >"$folder/lines"
+        status=0; "$program" --counters <"$folder/lines" >"$folder/out" 2>"$folder/err" || status=$?
+        wants "a word $kernel with --counters" 0 '{"change":"new","ifi-family":0,"ifi-index":2,"ifname":"e0"}
+{"change":"changed","ifi-family":0,"ifi-index":2,"ifname":"e0","changes":'"\
+[{\"path\":\"af-spec.inet6.stats.${kernel#*:}\",\"old\":7,\"new\":8}]}" ""
+    done
+    status=0; "$program" <"$folder/lines" >"$folder/out" 2>"$folder/err" || status=$?
+    wants "counters without it" 0 '{"change":"new","ifi-family":0,"ifi-index":2,"ifname":"e0"}' ""
 fi
 
 # each line is answered before the next is given
