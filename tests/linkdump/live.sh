@@ -218,6 +218,41 @@ meets_faults() {
     echo 'live: an interrupted dump, a queue that ran over, errors, a datagram that was cut off, no netlink, no right'
 }
 
+# the request for each name of a family and of a mask
+requests() {
+    local word family mask len attribute wanted
+    while read -r word family mask; do # the option, the number of the family, and the mask, if one is sent
+        len=32 attribute=''
+        if [ -n "$mask" ]; then
+            len=40 attribute=08001d00$(word "$mask")
+        fi
+        wanted=$(word "$len")12000103$(word 1)$(word 0)$(printf '%02x%030d' "$family" 0)$attribute
+        # shellcheck disable=SC2086 # an option and its value
+        with none --plain ${word/=/ } >"$folder/out" || fails "$word"
+        [ "$(sed -n 2p "$folder/err")" = "$wanted" ] || fails "$word: another request, and not $wanted"
+    done <<'END'
+--family=unspec 0
+--family=inet 2
+--family=bridge 7 4
+--family=inet6 10
+--family=packet 17
+--family=mpls 28
+--family=mctp 45
+--family=255 255
+--mask=vf 0 1
+--mask=brvlan 0 2
+--mask=brvlan-compressed 0 4
+--mask=skip-stats 0 8
+--mask=mrp 0 16
+--mask=cfm-config 0 32
+--mask=cfm-status 0 64
+--mask=mst 0 128
+--mask=name-only 0 256
+--mask=vf,0x80000000,mst 0 0x80000081
+END
+    echo 'live: the request for each family and mask'
+}
+
 # other namespaces, by name and by path
 enters() {
     mount -t tmpfs tmpfs /run
@@ -441,6 +476,7 @@ inside() {
     ip link set "$base" up
     python3 "$tests/beside.py" "$linkdump"
     meets_faults
+    requests
     enters
     if ! ip link add veth0 type veth peer name port0 2>/dev/null || ! ip link add bridge0 type bridge 2>/dev/null ||
         ! ip link set port0 master bridge0; then

@@ -1,11 +1,13 @@
 /* Preloaded into an example or into linkdump: once, recv fails or gives what a kernel gives seldom, or each call of
- * socket fails. KERNEL_FAULT says which. Each send is reported on standard error. */
+ * socket fails. KERNEL_FAULT says which. Each send is reported on standard error, and where that is 'none', what it
+ * sends, in hexadecimal. */
 #define _GNU_SOURCE
 #include <dlfcn.h>
 #include <errno.h>
 #include <linux/netlink.h>
 #include <linux/rtnetlink.h>
 #include <stdbool.h>
+#include <stdio.h>
 #include <stdlib.h>
 #include <string.h>
 #include <sys/socket.h>
@@ -32,8 +34,15 @@ static void change(struct nlmsghdr *head, const char *fault) {
 ssize_t send(int fd, const void *bytes, size_t len, int flags) {
     ssize_t (*own)(int, const void *, size_t, int);
     *(void **)&own = dlsym(RTLD_NEXT, "send");
+    const char *fault = getenv("KERNEL_FAULT");
     if (write(STDERR_FILENO, "asked\n", 6) != 6) {
         return -1;
+    }
+    if (fault != NULL && strcmp(fault, "none") == 0) {
+        for (size_t i = 0; i < len; i++) {
+            dprintf(STDERR_FILENO, "%02x", ((const unsigned char *)bytes)[i]);
+        }
+        dprintf(STDERR_FILENO, "\n");
     }
     return own(fd, bytes, len, flags);
 }
