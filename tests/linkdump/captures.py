@@ -4,9 +4,12 @@
     python3 tests/linkdump/captures.py LINKDUMP [LINES..]
 
 LINES are files of lines as linkdump writes them, words and hexadecimal, or hexadecimal alone; else the messages are
-those that the programs linkshow and linkwire are run on. The last line of what is printed says how many there were.
+those that the programs linkshow and linkwire are run on, those of tests/kernels, and where KERNELS in the environment
+names a folder of archives, as scripts/kernel_truth.py reads one, each twentieth message of these. The last line of
+what is printed says how many there were.
 """
 
+import glob
 import os
 import re
 import signal
@@ -17,7 +20,8 @@ import tempfile
 import time
 
 TOP = os.path.dirname(os.path.dirname(os.path.dirname(os.path.abspath(__file__))))
-STORED = [f"{TOP}/crates/{name}/stdin" for name in ("linkshow", "linkwire")]
+STORED = [f"{TOP}/{it}" for it in ("crates/linkshow/stdin", "crates/linkwire/stdin", "tests/kernels/messages.txt")]
+ARCHIVED = [f"out/{name}.txt" for name in ("requests", "events", "msgs")]
 TYPES = {"new": 16, "del": 17, "get": 18, "set": 19}
 NETLINK, ETHERNET = 253, 1  # link types
 ROUTE, GENERIC = 0, 16  # families of netlink
@@ -89,11 +93,15 @@ class Told:
         return ("" if is_plain else words) + self.payload.hex()
 
 
-def read_lines(files):
+def read_lines(files, folder=None):
     found = []
     for file in files:
         with open(file, encoding="utf-8", newline="") as it:
             found += [line for line in it.read().split("\n") if LINE.match(line)]
+    for archive in sorted(glob.glob(f"{folder}/*.tar.xz")) if folder else []:
+        ran = subprocess.run(["tar", "-xJOf", archive, *ARCHIVED], capture_output=True, check=True, timeout=60)
+        digits = [line.rpartition(" ")[2] for line in ran.stdout.decode().split("\n") if not line.startswith("#")]
+        found += [it for it in digits if it and LINE.match(it)][::20]
     return [Told(number, line) for number, line in enumerate(found)]
 
 
@@ -234,7 +242,7 @@ class Tests:
 
 
 def main():
-    all_ = read_lines(sys.argv[2:] or STORED)
+    all_ = read_lines(sys.argv[2:]) if sys.argv[2:] else read_lines(STORED, os.environ.get("KERNELS"))
     with tempfile.TemporaryDirectory() as folder:
         tests = Tests(os.path.abspath(sys.argv[1]), folder)
         for test in (tests.whole, tests.left_out, tests.refused, tests.times, tests.at_once, tests.closed):
