@@ -1,6 +1,6 @@
 #!/usr/bin/env bash
-# Runs the examples against the running kernel: live_tests.sh LIBRARY. Links are compared with /sys/class/net, here and
-# in a network namespace of their own, where an MTU is set; linkdump writes their messages. What needs netlink, a
+# Runs examples/c/setmtu.c against the running kernel: live_tests.sh LIBRARY. What linkdump and linkshow say of links is
+# compared with /sys/class/net, here and in a network namespace of their own, where an MTU is set. What needs netlink, a
 # command or a right that is not there is 'skipped'.
 set -euo pipefail
 top=$(cd "$(dirname "$0")/.." && pwd)
@@ -26,48 +26,28 @@ of_sysfs() {
     done | sort
 }
 
-# the lines of linkdump in $folder/hex, and what links prints of them
-prints_links() {
-    "$folder/linkdump" --plain >"$folder/hex"
-    "$folder/links" <"$folder/hex" >"$folder/lines"
-}
-
-# of how many links it was said
-canonical() {
-    awk '$6 == "canonical"' "$folder/lines" | wc -l
+# of_messages: the same of each message of the kernel
+of_messages() {
+    "$folder/linkdump" --plain | "$show" | jq -r '"\(."ifi-index") \(.ifname) \(.mtu) \(.address // "-")"' | sort
 }
 
 # compares WHERE: what the kernel says in messages and in files, again where something changed in between
 compares() {
+    if [ ! -x "$show" ] || ! command -v jq >/dev/null; then
+        echo "live: skipped: $1: linkdump --plain | linkshow: linkshow is not built, or no jq"
+        return
+    fi
     for _ in 1 2 3 4 5; do
         of_sysfs >"$folder/files"
-        prints_links
-        awk '{ print $1, $2, $4, $5 }' "$folder/lines" | sort >"$folder/messages"
+        of_messages >"$folder/messages"
         if cmp -s "$folder/files" "$folder/messages"; then
-            echo "live: $1: $(wc -l <"$folder/lines") links as in /sys/class/net," \
-                "$(canonical) of them canonical"
+            echo "live: $1: $(wc -l <"$folder/files") links of linkdump --plain | linkshow as in /sys/class/net"
             return
         fi
         sleep 0.3
     done
     diff "$folder/files" "$folder/messages" >&2 || true
     fails "$1: the kernel's messages and files differ"
-}
-
-# what the program says of the same lines, where it is built
-reads_hex() {
-    local program=$top/out/linkwire
-    prints_links
-    if [ "$(wc -l <"$folder/hex")" != "$(wc -l <"$folder/lines")" ]; then
-        fails "$1: links prints another number of links"
-    fi
-    if [ -x "$program" ]; then
-        "$program" <"$folder/hex" >"$folder/answers"
-        if grep -qv '^ok ' "$folder/answers" ||
-            [ "$(paste -d ' ' "$folder/answers" "$folder/hex" | awk '$2 == $3' | wc -l)" != "$(canonical)" ]; then
-            fails "$1: the program refuses a link, or calls others canonical"
-        fi
-    fi
 }
 
 # asked COUNT: whether the example that ran last has sent so many requests
@@ -92,20 +72,14 @@ tells() {
 meets_faults() {
     ${CC:-cc} -O1 -Wall -Wextra -Wpedantic -Werror -shared -fPIC -o "$folder/kernel_faults.so" \
         "$top/tests/live/kernel_faults.c" -ldl
-    prints_links
     local mtu
-    sed '1s/^\(.\{32\}\)..../\10300/' "$folder/hex" | "$folder/links" >"$folder/out"
-    if ! (echo 'refused: an attribute shorter than its header, at byte 16' && sed 1d "$folder/lines") |
-        cmp -s - "$folder/out"; then
-        fails 'links does not go on after a message that is refused'
-    fi
     mtu=$(cat /sys/class/net/lo/mtu)
     if [ "$(with 'ran over' setmtu lo "$mtu")" != "lo $mtu" ] || ! asked 3; then
         fails 'setmtu does not ask again: ran over'
     fi
     tells error 'the kernel: Operation not permitted' setmtu lo "$mtu"
     tells 'short error' 'the kernel: Bad message' setmtu lo "$mtu"
-    echo 'live: setmtu: a queue that ran over, errors; links: a message that is refused'
+    echo 'live: setmtu: a queue that ran over, errors'
 }
 
 # makes NAME COMMAND..: an interface, if the kernel knows its kind
@@ -142,7 +116,6 @@ inside() {
     makes macvlan link "$base" name macvlan0 type macvlan
     echo "live: kinds that the kernel knows:${known:- none}; and not:${unknown:- none}"
     compares 'a namespace'
-    reads_hex 'a namespace'
     meets_faults
     if [ "$base" = none ]; then
         skips 'setmtu: the kernel knows neither dummy nor veth'
@@ -157,6 +130,8 @@ inside() {
     compares 'after setmtu'
 }
 
+show=$top/out/linkshow
+[ -x "$show" ] || show=$top/crates/linkshow/out/linkshow
 if [ "$1" = --inside ]; then
     folder=$2
     inside
@@ -165,10 +140,8 @@ fi
 library=$1
 folder=$(mktemp -d)
 trap 'rm -rf "$folder"' EXIT
-for example in links setmtu; do
-    ${CC:-cc} -std=c11 -D_GNU_SOURCE -O1 -Wall -Wextra -Wpedantic -Werror -I"$top/include" -o "$folder/$example" \
-        "$top/examples/c/$example.c" "$library"
-done
+${CC:-cc} -std=c11 -D_GNU_SOURCE -O1 -Wall -Wextra -Wpedantic -Werror -I"$top/include" -o "$folder/setmtu" \
+    "$top/examples/c/setmtu.c" "$library"
 ${CC:-cc} -std=gnu11 -D_GNU_SOURCE -O1 -I"$top/include" -o "$folder/linkdump" "$top"/programs/linkdump*.c
 # what linkdump says where there is no netlink, or no right to it
 absent='Address family not supported by protocol|Protocol not supported|Operation not supported|Connection refused'
@@ -181,7 +154,6 @@ if ! "$folder/linkdump" >"$folder/lines" 2>"$folder/err"; then
 fi
 [ -d /sys/class/net ] || skips 'no /sys/class/net'
 compares 'this machine'
-reads_hex 'this machine'
 command -v ip >/dev/null || skips 'a namespace: no command ip'
 for flags in -mn -rmn; do
     if unshare "$flags" true 2>/dev/null; then
