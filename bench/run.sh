@@ -1,6 +1,7 @@
 #!/usr/bin/env bash
 # Times linkwire beside `xxd -r -p | xxd -p`, and linkshow, on 50 MB of lines, and prints the memory that each held: on
 # made lines, and on those of a kernel's dump, again and again. It fails where linkshow is too slow, or holds too much.
+# Before that all programs beside linkwire are timed, by programs.py.
 set -euo pipefail
 here=$(cd "$(dirname "$0")" && pwd)
 program=${1:-$here/../out/linkwire}
@@ -20,6 +21,7 @@ measures() {
     python3 "$here/measure.py" "$program" "$folder/lines" "${ROUNDS:-3}" "$show"
 }
 
+python3 "$here/programs.py" "$(dirname "$program")"
 failed=0
 python3 "$here/make_lines.py" "$folder/lines" "$megabytes"
 measures "made lines:" || failed=1
