@@ -1,13 +1,11 @@
-//! The rows of a message without those that the state encoding has at zero.
+//! What the state encoding of a message has at zero.
 
-ghost use Rattle.std.specs.Prelude.{◌≡◌, ◌≤◌, length, IfOk};
-ghost use Rattle.std.specs.List.{All};
-ghost use Rattle.message_diff.specs.Members.{Has};
+ghost use Rattle.std.specs.Prelude.{◌≡◌, length};
 
 use crate::common::Common;
-use crate::differences::value_of;
+use crate::differences::Change;
 use crate::members::members;
-use crate::rows::{Row, rows};
+use crate::rows::rows;
 use crate::snapshot::Snapshot;
 use link_msg::canonical;
 use link_msg::header::HEADER_SIZE;
@@ -25,8 +23,51 @@ fn is_zero(bytes: &[u8]) -> bool {
 }
 
 /// Whether a value may stand for zeros: no digit from 1 to 9 stands in it.
-pub fn may_be_zero(value: &[u8]) -> bool {
+fn may_be_zero(value: &[u8]) -> bool {
     !value.iter().any(|byte| matches!(*byte, b'1'..=b'9'))
+}
+
+/// Whether a value is a number.
+fn is_number(value: &[u8]) -> bool {
+    matches!(value, [b'0'..=b'9' | b'-', ..])
+}
+
+/// Whether what a path leads to depends on the kind of device.
+fn is_of_kind(path: &[u8]) -> bool {
+    path.starts_with(b"linkinfo.")
+}
+
+/// Whether the two messages may be of two kinds of device, which clear other numbers: a kind is a text.
+fn kinds_may_differ(changes: &[Change<'_>]) -> bool {
+    changes.iter().any(|change| match change {
+        Change::Came(path, _) | Change::Went(path, _) => is_of_kind(path),
+        Change::Turned(path, was, is) => is_of_kind(path) && !(is_number(was) && is_number(is)),
+    })
+}
+
+/// Whether one of two values at a path may be cleared: both are where the kind is the same and both are numbers, and
+/// then they are equal.
+fn may_be_cleared(path: &[u8], was: &[u8], is: &[u8], may_differ: bool) -> bool {
+    let is_sure = is_number(was) && is_number(is) || !was.contains(&b'0') && !is.contains(&b'0');
+    (!is_sure || may_differ && is_of_kind(path)) && (may_be_zero(was) || may_be_zero(is))
+}
+
+/// Whether a change may be of what the old message clears.
+fn may_be_of_old(change: &Change<'_>, may_differ: bool) -> bool {
+    match change {
+        Change::Came(..) => false,
+        Change::Went(_, value) => may_be_zero(value),
+        Change::Turned(path, was, is) => may_be_cleared(path, was, is, may_differ),
+    }
+}
+
+/// Whether a change may be of what the new message clears.
+fn may_be_of_new(change: &Change<'_>, may_differ: bool) -> bool {
+    match change {
+        Change::Came(_, value) => may_be_zero(value),
+        Change::Went(..) => false,
+        Change::Turned(path, was, is) => may_be_cleared(path, was, is, may_differ),
+    }
 }
 
 /// Whether a word is four letters of a text.
@@ -116,36 +157,110 @@ fn marked(alloc: Global, message: &[u8]) -> Result<Vec<u8>, AllocError> {
     Ok(text)
 }
 
-/// The line of a message in which no word is zero that the state encoding clears.
-fn marked_line(alloc: Global, snapshot: &Snapshot) -> Result<Vec<u8>, AllocError> {
-    let text = marked(alloc, snapshot.message())?;
-    let mut line = Vec::new(alloc);
-    push_answer(alloc, snapshot.order(), &mut line, text.as_slice())?;
-    Ok(line)
+/// The paths of a message whose values its state encoding has at zero.
+#[derive(Drop)]
+pub struct Cleared {
+    /// Whether they were looked for.
+    is_known: bool,
+    paths: Vec<Vec<u8>>,
 }
 
-/// Those of the rows of a message's state encoding whose values nothing sets to zero there: the message says the same
-/// with other numbers in place of what the state encoding clears.
-pub fn without_counters<'a>(
-    alloc: Global,
-    snapshot: &Snapshot,
-    all: &[Row<'a>],
-) -> Result<Vec<Row<'a>>, AllocError> {
-    let marked = marked_line(alloc, snapshot)?;
-    let common = Common::new(snapshot.line(), marked.as_slice());
-    let own = members(alloc, snapshot.line(), common)?;
-    let others = members(alloc, marked.as_slice(), common)?;
-    let cleared = rows(alloc, own.as_slice(), others.as_slice())?;
-    let mut kept = Vec::new(alloc);
-    let mut likely = 0;
-    for row in all {
-        let path = row.path.as_slice();
-        if value_of(cleared.as_slice(), path, &mut likely).is_none() {
-            kept.push(Row {
-                path: path.to_vec(alloc)?,
-                value: row.value,
-            })?;
+impl Cleared {
+    /// None, of a message where they were not looked for.
+    pub fn new(alloc: Global) -> Cleared {
+        Cleared {
+            is_known: false,
+            paths: Vec::new(alloc),
         }
     }
-    Ok(kept)
+
+    /// Looks for them, if that was not done: the message says the same with other numbers in their place.
+    fn find(&mut self, alloc: Global, snapshot: &Snapshot) -> Result<(), AllocError> {
+        if self.is_known {
+            return Ok(());
+        }
+        let text = marked(alloc, snapshot.message())?;
+        if text.as_slice() != snapshot.text() {
+            let mut line = Vec::new(alloc);
+            push_answer(alloc, snapshot.order(), &mut line, text.as_slice())?;
+            self.add(alloc, snapshot.line(), line.as_slice())?;
+        }
+        self.is_known = true;
+        Ok(())
+    }
+
+    /// Adds the paths of a line whose values differ in the other one.
+    fn add(&mut self, alloc: Global, line: &[u8], marked: &[u8]) -> Result<(), AllocError> {
+        let common = Common::new(line, marked);
+        let own = members(alloc, line, common)?;
+        let others = members(alloc, marked, common)?;
+        for row in rows(alloc, own.as_slice(), others.as_slice())? {
+            self.paths.push(row.path)?;
+        }
+        Ok(())
+    }
+
+    /// Whether the path is one of them.
+    fn has(&self, path: &[u8]) -> bool {
+        self.paths.iter().any(|it| it.as_slice() == path)
+    }
+}
+
+/// What is left of a change without what the two messages clear.
+fn left_of<'a>(change: Change<'a>, old: &Cleared, new: &Cleared) -> Option<Change<'a>> {
+    match change {
+        Change::Came(path, _) if new.has(path) => None,
+        Change::Went(path, _) if old.has(path) => None,
+        Change::Turned(path, was, is) => match (old.has(path), new.has(path)) {
+            (false, false) => Some(change),
+            (true, false) => Some(Change::Came(path, is)),
+            (false, true) => Some(Change::Went(path, was)),
+            (true, true) => None,
+        },
+        _ => Some(change),
+    }
+}
+
+/// What two messages clear, an old one and a new one.
+#[derive(Drop)]
+pub struct Counters {
+    pub old: Cleared,
+    pub new: Cleared,
+}
+
+impl Counters {
+    /// Looks for what the messages clear where one of the changes may be of it, and returns whether one may be.
+    pub fn find(
+        &mut self,
+        alloc: Global,
+        old: &Snapshot,
+        new: &Snapshot,
+        changes: &[Change<'_>],
+    ) -> Result<bool, AllocError> {
+        let may_differ = kinds_may_differ(changes);
+        let of_old = changes.iter().any(|it| may_be_of_old(it, may_differ));
+        let of_new = changes.iter().any(|it| may_be_of_new(it, may_differ));
+        if of_old {
+            self.old.find(alloc, old)?;
+        }
+        if of_new {
+            self.new.find(alloc, new)?;
+        }
+        Ok(of_old || of_new)
+    }
+
+    /// The changes without what the messages clear.
+    pub fn leave_out<'a>(
+        &self,
+        alloc: Global,
+        changes: &[Change<'a>],
+    ) -> Result<Vec<Change<'a>>, AllocError> {
+        let mut left = Vec::new(alloc);
+        for change in changes {
+            if let Some(it) = left_of(*change, &self.old, &self.new) {
+                left.push(it)?;
+            }
+        }
+        Ok(left)
+    }
 }

@@ -4,12 +4,14 @@ ghost use Rattle.std.specs.Prelude.{◌≡◌, IfOk, IfErr, OnOk};
 ghost use Rattle.link_msg.specs.Canonical.{IsRefusal};
 ghost use Rattle.message_diff.specs.Compared.{HasTextBy};
 
+use crate::counters::Cleared;
 use link_msg::{CanonError, canonical};
 use link_state::state;
 use message_shown::answers::push_answer;
 use message_shown::context::Order;
 use std::alloc::{AllocError, Global};
 use std::marker::Model;
+use std::mem;
 
 /// What is compared of two messages.
 #[derive(Clone, Copy, Debug, PartialEq, Eq)]
@@ -28,6 +30,7 @@ pub struct Snapshot {
     text: Vec<u8>,
     message: Vec<u8>,
     line: Vec<u8>,
+    cleared: Cleared,
 }
 
 impl Model for Snapshot {
@@ -72,6 +75,7 @@ impl Snapshot {
             text,
             message,
             line: Vec::new(alloc),
+            cleared: Cleared::new(alloc),
         })
     }
 
@@ -110,5 +114,19 @@ impl Snapshot {
     /// The line that was made.
     pub fn line(&self) -> &[u8] {
         self.line.as_slice()
+    }
+
+    /// What the state encoding clears of it, as far as that was looked for, which is forgotten here.
+    pub fn take_cleared(&mut self, alloc: Global) -> Cleared
+        ensures { self.new ≡ self.old }
+    {
+        mem::replace(&mut self.cleared, Cleared::new(alloc))
+    }
+
+    /// Keeps what the state encoding clears of it.
+    pub fn keep_cleared(&mut self, cleared: Cleared)
+        ensures { self.new ≡ self.old }
+    {
+        self.cleared = cleared;
     }
 }

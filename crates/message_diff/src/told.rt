@@ -5,11 +5,11 @@ ghost use Rattle.link_msg.specs.Canonical.{IsRefusalOfTwo};
 ghost use Rattle.message_diff.specs.Compared.{TellsIfDiffers};
 
 use crate::common::Common;
-use crate::counters::{may_be_zero, without_counters};
+use crate::counters::Counters;
 use crate::differences::{Change, differences};
 use crate::line::{push_changes, push_head, push_texts};
 use crate::members::members;
-use crate::rows::{Row, rows};
+use crate::rows::rows;
 use crate::snapshot::{Compared, Snapshot};
 use link_msg::CanonError;
 use message_shown::context::Order;
@@ -58,17 +58,6 @@ fn push_alone(
     out.extend_from_slice(b"}\n")
 }
 
-/// Whether one of the changes may be of a counter: of two encodings with the same paths and the same kinds of device
-/// the same numbers are zero.
-fn may_be_counters(changes: &[Change<'_>]) -> bool {
-    changes.iter().any(|change| match change {
-        Change::Came(_, value) | Change::Went(_, value) => may_be_zero(value),
-        Change::Turned(path, was, is) => {
-            path.starts_with(b"linkinfo.") && (may_be_zero(was) || may_be_zero(is))
-        }
-    })
-}
-
 /// Ends a line by what differs between the rows, or else by the encodings.
 fn push_differences(
     alloc: Global,
@@ -91,6 +80,7 @@ fn push_difference(
     words: &[u8],
     old: &Snapshot,
     new: &Snapshot,
+    counters: &mut Counters,
     out: &mut Vec<u8>,
 ) -> Result<(), AllocError>
     ensures { OnOk result (length out.old.items < length out.new.items) }
@@ -102,13 +92,38 @@ fn push_difference(
     let new_rows = rows(alloc, is.as_slice(), was.as_slice())?;
     push_head(out, words, "changed", new.line())?;
     let changes = differences(alloc, old_rows.as_slice(), new_rows.as_slice())?;
-    if new.by() == Compared::Message || !may_be_counters(changes.as_slice()) {
-        return push_differences(alloc, old, new, changes.as_slice(), out);
+    let changes = changes.as_slice();
+    if new.by() == Compared::State && counters.find(alloc, old, new, changes)? {
+        let left = counters.leave_out(alloc, changes)?;
+        return push_differences(alloc, old, new, left.as_slice(), out);
     }
-    let old_kept = without_counters(alloc, old, old_rows.as_slice())?;
-    let new_kept = without_counters(alloc, new, new_rows.as_slice())?;
-    let kept = differences(alloc, old_kept.as_slice(), new_kept.as_slice())?;
-    push_differences(alloc, old, new, kept.as_slice(), out)
+    push_differences(alloc, old, new, changes, out)
+}
+
+/// The same, where what was found of what the messages clear stays with them.
+fn push_known(
+    alloc: Global,
+    words: &[u8],
+    old: &mut Snapshot,
+    new: &mut Snapshot,
+    out: &mut Vec<u8>,
+) -> Result<(), AllocError>
+    ensures said { OnOk result (length out.old.items < length out.new.items) }
+    ensures old_kept { old.new ≡ old.old }
+    ensures new_kept { new.new ≡ new.old }
+{
+    let mut counters = Counters {
+        old: old.take_cleared(alloc),
+        new: new.take_cleared(alloc),
+    };
+    push_difference(alloc, words, old, new, &mut counters, out)?;
+    let Counters {
+        old: of_old,
+        new: of_new,
+    } = counters;
+    old.keep_cleared(of_old);
+    new.keep_cleared(of_new);
+    Ok(())
 }
 
 /// Adds a line that tells what changed of the interface, if its encoding is another, and returns whether it is.
@@ -136,7 +151,7 @@ pub fn push_changed(
     }
     old.show(alloc)?;
     new.show(alloc)?;
-    push_difference(alloc, words, old, new, out)?;
+    push_known(alloc, words, old, new, out)?;
     Ok(true)
 }
 
