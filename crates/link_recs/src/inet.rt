@@ -193,22 +193,21 @@ impl InetDevConf {
         InetDevConf::read(payload)
     }
 
-    /// Reads a record from the front of the payload. A payload of fewer than `INET_DEV_CONF_SIZE` bytes is refused with
-    /// `TooShort`.
+    /// Reads a record from the front of the payload. A payload of fewer than 136 bytes is refused with `TooShort`.
     pub fn parse(payload: &[u8]) -> Result<InetDevConf, DecodeError>
         ensures { Parses (sized inet_dev_conf_size inet_dev_conf_of) payload.now result }
     {
         InetDevConf::parse_sized(payload)
     }
 
-    /// The number of bytes that `emit` writes, `INET_DEV_CONF_SIZE`.
+    /// The number of bytes that `emit` writes, 136.
     pub fn buffer_len(&self) -> usize
         ensures { result ≡ inet_dev_conf_size }
     {
         INET_DEV_CONF_SIZE
     }
 
-    /// Writes the record to a buffer of exactly `INET_DEV_CONF_SIZE` bytes.
+    /// Writes the record to a buffer of exactly 136 bytes.
     pub fn emit(&self, buffer: &mut [u8])
         requires { length buffer.old ≡ inet_dev_conf_size }
         ensures { buffer.new ≡ inet_dev_conf_bytes self.now }
@@ -216,8 +215,8 @@ impl InetDevConf {
         self.write(buffer);
     }
 
-    /// Writes the record to the end of a buffer of at least `INET_DEV_CONF_SIZE` bytes, keeps the bytes before it, and
-    /// returns where it starts.
+    /// Writes the record to the end of a buffer of at least 136 bytes, keeps the bytes before it, and returns where it
+    /// starts.
     pub fn fill(&self, buffer: &mut [u8]) -> usize
         requires { inet_dev_conf_size ≤ length buffer.old }
         ensures { Filled buffer.old buffer.new (inet_dev_conf_bytes self.now) result }

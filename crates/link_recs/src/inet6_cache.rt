@@ -86,22 +86,21 @@ impl PlainRecord<INET6_CACHE_INFO_SIZE> for Inet6CacheInfo {
 }
 
 impl Inet6CacheInfo {
-    /// Reads a record from the front of the payload. A payload of fewer than `INET6_CACHE_INFO_SIZE` bytes is refused
-    /// with `TooShort`.
+    /// Reads a record from the front of the payload. A payload of fewer than 16 bytes is refused with `TooShort`.
     pub fn parse(payload: &[u8]) -> Result<Inet6CacheInfo, DecodeError>
         ensures { Parses (sized inet6_cache_info_size inet6_cache_info_of) payload.now result }
     {
         Inet6CacheInfo::parse_sized(payload)
     }
 
-    /// The number of bytes that `emit` writes, `INET6_CACHE_INFO_SIZE`.
+    /// The number of bytes that `emit` writes, 16.
     pub fn buffer_len(&self) -> usize
         ensures { result ≡ inet6_cache_info_size }
     {
         INET6_CACHE_INFO_SIZE
     }
 
-    /// Writes the record to a buffer of exactly `INET6_CACHE_INFO_SIZE` bytes.
+    /// Writes the record to a buffer of exactly 16 bytes.
     pub fn emit(&self, buffer: &mut [u8])
         requires { length buffer.old ≡ inet6_cache_info_size }
         ensures { buffer.new ≡ inet6_cache_info_bytes self.now }
@@ -109,8 +108,8 @@ impl Inet6CacheInfo {
         self.write(buffer);
     }
 
-    /// Writes the record to the end of a buffer of at least `INET6_CACHE_INFO_SIZE` bytes, keeps the bytes before it,
-    /// and returns where it starts.
+    /// Writes the record to the end of a buffer of at least 16 bytes, keeps the bytes before it, and returns where it
+    /// starts.
     pub fn fill(&self, buffer: &mut [u8]) -> usize
         requires { inet6_cache_info_size ≤ length buffer.old }
         ensures { Filled buffer.old buffer.new (inet6_cache_info_bytes self.now) result }

@@ -267,22 +267,21 @@ impl Inet6DevConf {
         Inet6DevConf::read(payload)
     }
 
-    /// Reads a record from the front of the payload. A payload of fewer than `INET6_DEV_CONF_SIZE` bytes is refused
-    /// with `TooShort`.
+    /// Reads a record from the front of the payload. A payload of fewer than 240 bytes is refused with `TooShort`.
     pub fn parse(payload: &[u8]) -> Result<Inet6DevConf, DecodeError>
         ensures { Parses (sized inet6_dev_conf_size inet6_dev_conf_of) payload.now result }
     {
         Inet6DevConf::parse_sized(payload)
     }
 
-    /// The number of bytes that `emit` writes, `INET6_DEV_CONF_SIZE`.
+    /// The number of bytes that `emit` writes, 240.
     pub fn buffer_len(&self) -> usize
         ensures { result ≡ inet6_dev_conf_size }
     {
         INET6_DEV_CONF_SIZE
     }
 
-    /// Writes the record to a buffer of exactly `INET6_DEV_CONF_SIZE` bytes.
+    /// Writes the record to a buffer of exactly 240 bytes.
     pub fn emit(&self, buffer: &mut [u8])
         requires { length buffer.old ≡ inet6_dev_conf_size }
         ensures { buffer.new ≡ inet6_dev_conf_bytes self.now }
@@ -290,8 +289,8 @@ impl Inet6DevConf {
         self.write(buffer);
     }
 
-    /// Writes the record to the end of a buffer of at least `INET6_DEV_CONF_SIZE` bytes, keeps the bytes before it, and
-    /// returns where it starts.
+    /// Writes the record to the end of a buffer of at least 240 bytes, keeps the bytes before it, and returns where it
+    /// starts.
     pub fn fill(&self, buffer: &mut [u8]) -> usize
         requires { inet6_dev_conf_size ≤ length buffer.old }
         ensures { Filled buffer.old buffer.new (inet6_dev_conf_bytes self.now) result }

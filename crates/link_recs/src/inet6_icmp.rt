@@ -107,22 +107,21 @@ impl Icmp6Stats {
         Icmp6Stats::read(payload)
     }
 
-    /// Reads a record from the front of the payload. A payload of fewer than `ICMP6_STATS_SIZE` bytes is refused with
-    /// `TooShort`.
+    /// Reads a record from the front of the payload. A payload of fewer than 56 bytes is refused with `TooShort`.
     pub fn parse(payload: &[u8]) -> Result<Icmp6Stats, DecodeError>
         ensures { Parses (sized icmp6_stats_size icmp6_stats_of) payload.now result }
     {
         Icmp6Stats::parse_sized(payload)
     }
 
-    /// The number of bytes that `emit` writes, `ICMP6_STATS_SIZE`.
+    /// The number of bytes that `emit` writes, 56.
     pub fn buffer_len(&self) -> usize
         ensures { result ≡ icmp6_stats_size }
     {
         ICMP6_STATS_SIZE
     }
 
-    /// Writes the record to a buffer of exactly `ICMP6_STATS_SIZE` bytes.
+    /// Writes the record to a buffer of exactly 56 bytes.
     pub fn emit(&self, buffer: &mut [u8])
         requires { length buffer.old ≡ icmp6_stats_size }
         ensures { buffer.new ≡ icmp6_stats_bytes self.now }
@@ -130,8 +129,8 @@ impl Icmp6Stats {
         self.write(buffer);
     }
 
-    /// Writes the record to the end of a buffer of at least `ICMP6_STATS_SIZE` bytes, keeps the bytes before it, and
-    /// returns where it starts.
+    /// Writes the record to the end of a buffer of at least 56 bytes, keeps the bytes before it, and returns where it
+    /// starts.
     pub fn fill(&self, buffer: &mut [u8]) -> usize
         requires { icmp6_stats_size ≤ length buffer.old }
         ensures { Filled buffer.old buffer.new (icmp6_stats_bytes self.now) result }

@@ -230,22 +230,21 @@ impl Inet6Stats {
         Inet6Stats::read(payload)
     }
 
-    /// Reads a record from the front of the payload. A payload of fewer than `INET6_STATS_SIZE` bytes is refused with
-    /// `TooShort`.
+    /// Reads a record from the front of the payload. A payload of fewer than 312 bytes is refused with `TooShort`.
     pub fn parse(payload: &[u8]) -> Result<Inet6Stats, DecodeError>
         ensures { Parses (sized inet6_stats_size inet6_stats_of) payload.now result }
     {
         Inet6Stats::parse_sized(payload)
     }
 
-    /// The number of bytes that `emit` writes, `INET6_STATS_SIZE`.
+    /// The number of bytes that `emit` writes, 312.
     pub fn buffer_len(&self) -> usize
         ensures { result ≡ inet6_stats_size }
     {
         INET6_STATS_SIZE
     }
 
-    /// Writes the record to a buffer of exactly `INET6_STATS_SIZE` bytes.
+    /// Writes the record to a buffer of exactly 312 bytes.
     pub fn emit(&self, buffer: &mut [u8])
         requires { length buffer.old ≡ inet6_stats_size }
         ensures { buffer.new ≡ inet6_stats_bytes self.now }
@@ -253,8 +252,8 @@ impl Inet6Stats {
         self.write(buffer);
     }
 
-    /// Writes the record to the end of a buffer of at least `INET6_STATS_SIZE` bytes, keeps the bytes before it, and
-    /// returns where it starts.
+    /// Writes the record to the end of a buffer of at least 312 bytes, keeps the bytes before it, and returns where it
+    /// starts.
     pub fn fill(&self, buffer: &mut [u8]) -> usize
         requires { inet6_stats_size ≤ length buffer.old }
         ensures { Filled buffer.old buffer.new (inet6_stats_bytes self.now) result }

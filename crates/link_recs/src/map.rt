@@ -15,10 +15,9 @@ pub const MAP_SIZE: usize = 32;
 
 /// The places in the machine of a link's device (IFLA_MAP).
 ///
-/// `struct rtnl_link_ifmap` of linux/if_link.h, numbers with the lowest byte first: `memory_start`
-/// at 0, `memory_end` at 8 and `base_address` at 16, of eight bytes; `irq` at 24, of two; `dma` at
-/// 26 and `port` at 27, of one; then four bytes of padding, which are not read and written as
-/// zeros.
+/// `struct rtnl_link_ifmap` of linux/if_link.h, 32 bytes, numbers with the lowest byte first: `memory_start` at 0,
+/// `memory_end` at 8 and `base_address` at 16, of eight bytes; `irq` at 24, of two; `dma` at 26 and `port` at 27, of
+/// one; then four bytes of padding, which are not read and written as zeros.
 #[derive(Clone, Copy, Debug, Default, PartialEq, Eq)]
 pub struct Map {
     pub memory_start: u64,
@@ -60,22 +59,21 @@ impl Record<MAP_SIZE> for Map {
 }
 
 impl Map {
-    /// Reads a record from the front of the payload. A payload of fewer than `MAP_SIZE` bytes is refused with
-    /// `TooShort`.
+    /// Reads a record from the front of the payload. A payload of fewer than 32 bytes is refused with `TooShort`.
     pub fn parse(payload: &[u8]) -> Result<Map, DecodeError>
         ensures { Parses (sized map_size map_of) payload.now result }
     {
         Map::parse_sized(payload)
     }
 
-    /// The number of bytes that `emit` writes, `MAP_SIZE`.
+    /// The number of bytes that `emit` writes, 32.
     pub fn buffer_len(&self) -> usize
         ensures { result ≡ map_size }
     {
         MAP_SIZE
     }
 
-    /// Writes the record to a buffer of exactly `MAP_SIZE` bytes.
+    /// Writes the record to a buffer of exactly 32 bytes.
     pub fn emit(&self, buffer: &mut [u8])
         requires { length buffer.old ≡ map_size }
         ensures { buffer.new ≡ map_bytes self.now }
@@ -83,8 +81,8 @@ impl Map {
         self.write(buffer);
     }
 
-    /// Writes the record to the end of a buffer of at least `MAP_SIZE` bytes, keeps the bytes before it, and returns
-    /// where it starts.
+    /// Writes the record to the end of a buffer of at least 32 bytes, keeps the bytes before it, and returns where it
+    /// starts.
     pub fn fill(&self, buffer: &mut [u8]) -> usize
         requires { map_size ≤ length buffer.old }
         ensures { Filled buffer.old buffer.new (map_bytes self.now) result }

@@ -163,14 +163,14 @@ impl Stats {
         Stats::parse_filled(payload)
     }
 
-    /// The number of bytes that `emit` writes, `STATS_SIZE`.
+    /// The number of bytes that `emit` writes, 96.
     pub fn buffer_len(&self) -> usize
         ensures { result ≡ stats_size }
     {
         STATS_SIZE
     }
 
-    /// Writes the record to a buffer of exactly `STATS_SIZE` bytes.
+    /// Writes the record to a buffer of exactly 96 bytes.
     pub fn emit(&self, buffer: &mut [u8])
         requires { length buffer.old ≡ stats_size }
         ensures { buffer.new ≡ stats_bytes self.now }
@@ -178,8 +178,8 @@ impl Stats {
         self.write(buffer);
     }
 
-    /// Writes the record to the end of a buffer of at least `STATS_SIZE` bytes, keeps the bytes before it, and returns
-    /// where it starts.
+    /// Writes the record to the end of a buffer of at least 96 bytes, keeps the bytes before it, and returns where it
+    /// starts.
     pub fn fill(&self, buffer: &mut [u8]) -> usize
         requires { stats_size ≤ length buffer.old }
         ensures { Filled buffer.old buffer.new (stats_bytes self.now) result }

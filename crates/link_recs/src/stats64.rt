@@ -166,14 +166,14 @@ impl Stats64 {
         Stats64::parse_filled(payload)
     }
 
-    /// The number of bytes that `emit` writes, `STATS64_SIZE`.
+    /// The number of bytes that `emit` writes, 200.
     pub fn buffer_len(&self) -> usize
         ensures { result ≡ stats64_size }
     {
         STATS64_SIZE
     }
 
-    /// Writes the record to a buffer of exactly `STATS64_SIZE` bytes.
+    /// Writes the record to a buffer of exactly 200 bytes.
     pub fn emit(&self, buffer: &mut [u8])
         requires { length buffer.old ≡ stats64_size }
         ensures { buffer.new ≡ stats64_bytes self.now }
@@ -181,8 +181,8 @@ impl Stats64 {
         self.write(buffer);
     }
 
-    /// Writes the record to the end of a buffer of at least `STATS64_SIZE` bytes, keeps the bytes before it, and
-    /// returns where it starts.
+    /// Writes the record to the end of a buffer of at least 200 bytes, keeps the bytes before it, and returns where it
+    /// starts.
     pub fn fill(&self, buffer: &mut [u8]) -> usize
         requires { stats64_size ≤ length buffer.old }
         ensures { Filled buffer.old buffer.new (stats64_bytes self.now) result }

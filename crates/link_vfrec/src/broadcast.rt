@@ -16,8 +16,7 @@ pub const VF_INFO_BROADCAST_SIZE: usize = 32;
 
 /// The broadcast address of a virtual function (IFLA_VF_BROADCAST).
 ///
-/// `struct ifla_vf_broadcast` of linux/if_link.h: the address at 0, of 32 bytes, with zeros after
-/// a shorter one.
+/// `struct ifla_vf_broadcast` of linux/if_link.h, 32 bytes: the address at 0, with zeros after a shorter one.
 #[derive(Clone, Copy, Debug, Default, PartialEq, Eq)]
 pub struct VfInfoBroadcast {
     pub addr: [u8; 32],
@@ -54,22 +53,21 @@ impl VfInfoBroadcast {
         }
     }
 
-    /// Reads a record from the front of the payload. A payload of fewer than `VF_INFO_BROADCAST_SIZE` bytes is refused
-    /// with `TooShort`.
+    /// Reads a record from the front of the payload. A payload of fewer than 32 bytes is refused with `TooShort`.
     pub fn parse(payload: &[u8]) -> Result<VfInfoBroadcast, DecodeError>
         ensures { Parses (sized vf_info_broadcast_size vf_info_broadcast_of) payload.now result }
     {
         VfInfoBroadcast::parse_sized(payload)
     }
 
-    /// The number of bytes that `emit` writes, `VF_INFO_BROADCAST_SIZE`.
+    /// The number of bytes that `emit` writes, 32.
     pub fn buffer_len(&self) -> usize
         ensures { result ≡ vf_info_broadcast_size }
     {
         VF_INFO_BROADCAST_SIZE
     }
 
-    /// Writes the record to a buffer of exactly `VF_INFO_BROADCAST_SIZE` bytes.
+    /// Writes the record to a buffer of exactly 32 bytes.
     pub fn emit(&self, buffer: &mut [u8])
         requires { length buffer.old ≡ vf_info_broadcast_size }
         ensures { buffer.new ≡ vf_info_broadcast_bytes self.now }

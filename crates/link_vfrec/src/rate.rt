@@ -15,8 +15,8 @@ pub const VF_INFO_RATE_SIZE: usize = 12;
 
 /// The bounds of the rate of transmission of a virtual function (IFLA_VF_RATE).
 ///
-/// `struct ifla_vf_rate` of linux/if_link.h, numbers of four bytes, lowest byte first: `vf_id` at
-/// 0; `min_tx_rate` at 4 and `max_tx_rate` at 8, in megabits a second.
+/// `struct ifla_vf_rate` of linux/if_link.h, 12 bytes, numbers of four bytes, lowest byte first: `vf_id` at 0;
+/// `min_tx_rate` at 4 and `max_tx_rate` at 8, in megabits a second.
 #[derive(Clone, Copy, Debug, Default, PartialEq, Eq)]
 pub struct VfInfoRate {
     pub vf_id: u32,
@@ -62,22 +62,21 @@ impl VfInfoRate {
         }
     }
 
-    /// Reads a record from the front of the payload. A payload of fewer than `VF_INFO_RATE_SIZE` bytes is refused with
-    /// `TooShort`.
+    /// Reads a record from the front of the payload. A payload of fewer than 12 bytes is refused with `TooShort`.
     pub fn parse(payload: &[u8]) -> Result<VfInfoRate, DecodeError>
         ensures { Parses (sized vf_info_rate_size vf_info_rate_of) payload.now result }
     {
         VfInfoRate::parse_sized(payload)
     }
 
-    /// The number of bytes that `emit` writes, `VF_INFO_RATE_SIZE`.
+    /// The number of bytes that `emit` writes, 12.
     pub fn buffer_len(&self) -> usize
         ensures { result ≡ vf_info_rate_size }
     {
         VF_INFO_RATE_SIZE
     }
 
-    /// Writes the record to a buffer of exactly `VF_INFO_RATE_SIZE` bytes.
+    /// Writes the record to a buffer of exactly 12 bytes.
     pub fn emit(&self, buffer: &mut [u8])
         requires { length buffer.old ≡ vf_info_rate_size }
         ensures { buffer.new ≡ vf_info_rate_bytes self.now }

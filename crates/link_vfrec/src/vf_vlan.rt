@@ -16,10 +16,9 @@ pub const VF_VLAN_INFO_SIZE: usize = 16;
 
 /// One vlan of a virtual function (IFLA_VF_VLAN_INFO).
 ///
-/// `struct ifla_vf_vlan_info` of linux/if_link.h: `vf_id` at 0, `vlan_id` at 4, 0 to 4095, where 0
-/// turns the filter off, and `qos` at 8, of four bytes, lowest byte first; the number of `protocol`
-/// at 12, of two bytes, highest byte first; two bytes of padding, which are not read and written as
-/// zeros.
+/// `struct ifla_vf_vlan_info` of linux/if_link.h, 16 bytes: `vf_id` at 0, `vlan_id` at 4, 0 to 4095, where 0 turns the
+/// filter off, and `qos` at 8, of four bytes, lowest byte first; the number of `protocol` at 12, of two bytes, highest
+/// byte first; two bytes of padding, which are not read and written as zeros.
 #[derive(Clone, Copy, Debug, Default, PartialEq, Eq)]
 pub struct VfVlanInfo {
     pub vf_id: u32,
@@ -70,22 +69,21 @@ impl VfVlanInfo {
         }
     }
 
-    /// Reads a record from the front of the payload. A payload of fewer than `VF_VLAN_INFO_SIZE` bytes is refused with
-    /// `TooShort`.
+    /// Reads a record from the front of the payload. A payload of fewer than 16 bytes is refused with `TooShort`.
     pub fn parse(payload: &[u8]) -> Result<VfVlanInfo, DecodeError>
         ensures { Parses (sized vf_vlan_info_size vf_vlan_info_of) payload.now result }
     {
         VfVlanInfo::parse_sized(payload)
     }
 
-    /// The number of bytes that `emit` writes, `VF_VLAN_INFO_SIZE`.
+    /// The number of bytes that `emit` writes, 16.
     pub fn buffer_len(&self) -> usize
         ensures { result ≡ vf_vlan_info_size }
     {
         VF_VLAN_INFO_SIZE
     }
 
-    /// Writes the record to a buffer of exactly `VF_VLAN_INFO_SIZE` bytes.
+    /// Writes the record to a buffer of exactly 16 bytes.
     #[tactic(auto, unfolding(crate::specs::Records::vf_vlan_info_bytes))]
     pub fn emit(&self, buffer: &mut [u8])
         requires { length buffer.old ≡ vf_vlan_info_size }
