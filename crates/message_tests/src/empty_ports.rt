@@ -1,4 +1,4 @@
-//! Empty lists of ports, which are read and not written.
+//! Empty lists of ports, which are read, and have no canonical encoding.
 
 use crate::rows::*;
 use expected::{GROWTH, list, text_from, vec_from};
