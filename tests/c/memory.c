@@ -108,8 +108,13 @@ static int refuses_each(const char *what, long (*call)(void), long want) {
 static int takes_none(void) {
     static uint8_t out[LINKWIRE_GROWTH * sizeof message];
     static uint8_t list[8];
+    static uint8_t damaged[sizeof message];
     size_t at = LINKWIRE_HEADER_SIZE, end = 0;
     struct linkwire_attribute attribute;
+    struct linkwire_path path;
+    /* the length of the vlan is below that of its header */
+    memcpy(damaged, message, sizeof message);
+    damaged[60] = 3;
     used = 0;
     in_use = 0;
     alone = 0;
@@ -122,10 +127,13 @@ static int takes_none(void) {
     long found = linkwire_next(message, sizeof message, &at, &attribute);
     long put = linkwire_put(list, sizeof list, &end, 4, message, 4);
     long fault = linkwire_fault_at(message, 15, &at);
+    long deep = linkwire_fault_path(damaged, sizeof damaged, &path);
+    long forms = linkwire_canonical_form() == LINKWIRE_CANONICAL_FORM && linkwire_state_form() == LINKWIRE_STATE_FORM;
     if (checked != 0 || measured <= 0 || written != measured || cleared != measured || found != 1 || put != 1 ||
-        fault != -1 || taken != 0) {
-        fprintf(stderr, "memory.c: with no memory %ld %ld %ld %ld %ld %ld %ld, and %ld calls for it\n", checked,
-                measured, written, cleared, found, put, fault, taken);
+        fault != LINKWIRE_TOO_SHORT || deep != LINKWIRE_FRAME_UNDER || path.at != 60 || path.depth != 3 || !forms ||
+        taken != 0) {
+        fprintf(stderr, "memory.c: with no memory %ld %ld %ld %ld %ld %ld %ld %ld %ld, and %ld calls for it\n", checked,
+                measured, written, cleared, found, put, fault, deep, forms, taken);
         return 1;
     }
     return 0;
