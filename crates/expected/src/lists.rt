@@ -13,21 +13,35 @@ const MOST: usize = 401;
 
 /// A stray end, a length that passes the bytes, a length below 4, and their causes.
 pub const BAD_FRAMES: [(&[u8], Cause); 6] = [
-    (&[4, 0, 99, 0, 1], Cause::FrameShort { left: 1 }),
-    (&[4, 0, 99, 0, 1, 0, 0], Cause::FrameShort { left: 3 }),
+    // one stray byte
     (
-        &[255, 255, 1, 0, 0, 0],
+        &[0x04, 0x00, 0x63, 0x00, 0x01],
+        Cause::FrameShort { left: 1 },
+    ),
+    // three stray bytes
+    (
+        &[0x04, 0x00, 0x63, 0x00, 0x01, 0x00, 0x00],
+        Cause::FrameShort { left: 3 },
+    ),
+    // a length of 65535 with six bytes left
+    (
+        &[0xff, 0xff, 0x01, 0x00, 0x00, 0x00],
         Cause::FrameOver {
             length: 65535,
             left: 6,
         },
     ),
+    // a length of 9 with eight bytes left, after a frame
     (
-        &[4, 0, 99, 0, 9, 0, 1, 0, 1, 2, 3, 4],
+        &[
+            0x04, 0x00, 0x63, 0x00, 0x09, 0x00, 0x01, 0x00, 0x01, 0x02, 0x03, 0x04,
+        ],
         Cause::FrameOver { length: 9, left: 8 },
     ),
-    (&[3, 0, 1, 0], Cause::FrameUnder { length: 3 }),
-    (&[0, 0, 0, 0], Cause::FrameUnder { length: 0 }),
+    // a length of 3
+    (&[0x03, 0x00, 0x01, 0x00], Cause::FrameUnder { length: 3 }),
+    // a length of 0
+    (&[0x00, 0x00, 0x00, 0x00], Cause::FrameUnder { length: 0 }),
 ];
 
 /// Whether a list is refused with this cause, when it is read and when it is checked, and is not written again.

@@ -6,30 +6,47 @@ use link_vfrec::*;
 use nla_wire::{PlainRecord, Record};
 use std::process::Abort;
 
-/// A payload of so many bytes was measured, where only one that has the record whole has a text.
-fn holds(rt: &impl Abort, found: Option<usize>, len: usize, size: usize) {
-    let answer = if len >= size { Some(size) } else { None };
-    assert_eq!(rt; found, answer, "at {len}");
-}
-
+/// Only a payload that has the record whole has a text, and that is as long as the record.
 #[test]
 fn whole_records_are_measured(rt: HostRuntime) {
     let zeros = [0; 40];
     for len in 0..40 {
         let payload = &zeros[..len];
-        holds(&rt, Map::measure_sized(payload), len, 32);
-        holds(&rt, Inet6CacheInfo::measure_sized(payload), len, 16);
-        holds(&rt, VfInfoMac::measure_sized(payload), len, 36);
-        holds(&rt, VfInfoVlan::measure_sized(payload), len, 12);
-        holds(&rt, VfInfoTxRate::measure_sized(payload), len, 8);
-        holds(&rt, VfInfoSpoofCheck::measure_sized(payload), len, 8);
-        holds(&rt, VfInfoLinkState::measure_sized(payload), len, 8);
-        holds(&rt, VfInfoRate::measure_sized(payload), len, 12);
-        holds(&rt, VfInfoRssQueryEn::measure_sized(payload), len, 8);
-        holds(&rt, VfInfoTrust::measure_sized(payload), len, 8);
-        holds(&rt, VfInfoGuid::measure_sized(payload), len, 16);
-        holds(&rt, VfInfoBroadcast::measure_sized(payload), len, 32);
-        holds(&rt, VfVlanInfo::measure_sized(payload), len, 16);
+        let rows = [
+            ("Map", Map::measure_sized(payload), 32),
+            ("Inet6CacheInfo", Inet6CacheInfo::measure_sized(payload), 16),
+            ("VfInfoMac", VfInfoMac::measure_sized(payload), 36),
+            ("VfInfoVlan", VfInfoVlan::measure_sized(payload), 12),
+            ("VfInfoTxRate", VfInfoTxRate::measure_sized(payload), 8),
+            (
+                "VfInfoSpoofCheck",
+                VfInfoSpoofCheck::measure_sized(payload),
+                8,
+            ),
+            (
+                "VfInfoLinkState",
+                VfInfoLinkState::measure_sized(payload),
+                8,
+            ),
+            ("VfInfoRate", VfInfoRate::measure_sized(payload), 12),
+            (
+                "VfInfoRssQueryEn",
+                VfInfoRssQueryEn::measure_sized(payload),
+                8,
+            ),
+            ("VfInfoTrust", VfInfoTrust::measure_sized(payload), 8),
+            ("VfInfoGuid", VfInfoGuid::measure_sized(payload), 16),
+            (
+                "VfInfoBroadcast",
+                VfInfoBroadcast::measure_sized(payload),
+                32,
+            ),
+            ("VfVlanInfo", VfVlanInfo::measure_sized(payload), 16),
+        ];
+        for (record, found, size) in rows {
+            let answer = if len >= size { Some(size) } else { None };
+            assert_eq!(rt; found, answer, "{record} at {len}");
+        }
     }
 }
 
