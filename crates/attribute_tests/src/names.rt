@@ -13,6 +13,7 @@ use link_msg::DecodeError;
 use link_msg::DefaultNla;
 use link_msg::DevlinkPort;
 use link_msg::DpllPin;
+use link_msg::Entry;
 use link_msg::Icmp6Stats;
 use link_msg::Icmp6StatsBuffer;
 use link_msg::In6AddrGenMode;
@@ -105,6 +106,8 @@ use link_msg::parse_u64;
 
 fn named<T>() {}
 
+fn named_entry<E: Entry>() {}
+
 #[test]
 fn messages_and_attributes(_rt: HostRuntime) {
     named::<LinkMessage>();
@@ -135,8 +138,8 @@ fn inner_lists(_rt: HostRuntime) {
     named::<LinkXdp>();
     named::<Prop>();
     named::<WirelessEvent>();
-    named::<LinkVfInfo>();
-    named::<LinkVfPort>();
+    named_entry::<LinkVfInfo>();
+    named_entry::<LinkVfPort>();
     named::<VfInfo>();
     named::<VfPort>();
     named::<VfStats>();

@@ -80,6 +80,7 @@ pub use link_vals::State;
 pub use link_vals::VfLinkState;
 pub use link_vals::VlanProtocol;
 pub use link_vals::XdpAttached;
+pub use link_vf::Entry;
 pub use link_vf::LinkVfInfo;
 pub use link_vf::LinkVfPort;
 pub use link_vf::VfInfo;
