@@ -8,7 +8,7 @@ ghost use Rattle.link_state.specs.Table.{action_of};
 ghost use Rattle.link_state.specs.declared.level.Level.{Level};
 ghost use Rattle.link_state.specs.Table.Action.{Keep};
 
-use nla_wire::{NLA_HEADER_SIZE, NlaBuffer};
+use nla_wire::{NLA_HEADER_SIZE, NlaBuffer, nla_align};
 
 /// What a list is of: it says which of its attributes are cleared.
 pub(crate) trait Listed {
@@ -35,7 +35,7 @@ fn after(size: usize, at: usize, payload_len: usize) -> usize
     requires { at + 4 + payload_len ≤ size }
     ensures { result ≡ min (at + (4 + payload_len + missing payload_len)) size }
 {
-    let padding = (4 - payload_len % 4) % 4;
+    let padding = nla_align(payload_len) - payload_len;
     let end = at + NLA_HEADER_SIZE + payload_len;
     if padding < size - end {
         end + padding
