@@ -125,6 +125,7 @@ impl From<&LinkHeader> for LinkMessageBuffer {
 }
 
 impl LinkMessageBuffer {
+    ghost use Rattle.nla_wire.specs.Buffers.{after};
     ghost use Rattle.link_msg.specs.HeaderBuffer.{link_message_buffer_bytes};
 
     /// The bytes.
@@ -134,19 +135,19 @@ impl LinkMessageBuffer {
         &self.bytes
     }
 
-    /// The first 16 bytes as they are, and the rest of the slice, or `TooShort`.
+    /// The first 16 bytes as they are, and the rest, which is the part of `bytes` that begins after them; or
+    /// `TooShort`.
     pub fn read_from_prefix(bytes: &[u8]) -> Result<(LinkMessageBuffer, &[u8]), DecodeError>
         ensures { MatchResult result
             (λ v. (link_message_buffer_bytes v.0 ≡ take header_size bytes.now)
-            × (header_size ≤ length bytes.now) × (v.1.now ≡ drop header_size bytes.now))
+            × (header_size ≤ length bytes.now) × (v.1 ≡ after header_size bytes.entry))
             (IsShort bytes.now header_size) }
     {
         if bytes.len() < HEADER_SIZE {
             return Err(no_header(bytes));
         }
-        let (front, rest) = bytes.split_at(HEADER_SIZE);
-        let mut found = [0; 16];
-        found.copy_from_slice(front);
-        Ok((LinkMessageBuffer { bytes: found }, rest))
+        let mut front = [0; 16];
+        front.copy_from_slice(&bytes[..HEADER_SIZE]);
+        Ok((LinkMessageBuffer { bytes: front }, &bytes[HEADER_SIZE..]))
     }
 }
