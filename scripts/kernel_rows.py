@@ -157,6 +157,8 @@ class Code:
     def __init__(self, texts):
         text = re.sub(r"/\*.*?\*/", " ", "\n".join(texts), flags=re.S)
         self.puts, self.policies = {}, {}
+        named = dict(re.findall(r'^#define (\w+)\s+"(\w+)"', text, flags=re.M))
+        self.kinds = {named.get(word, word).strip('"') for word in re.findall(r'\.kind\s*=\s*("\w+"|\w+),', text)}
         for form, name, size in re.findall(r"\bnla_put(?:_(\w+))?\(\s*\w+,\s*([A-Z]\w+),(?=\s*([^,;]*))", text):
             word = PUTS.get(form, form) or self.length(size)
             if word:
@@ -209,7 +211,7 @@ class Compared:
 
     def __init__(self, rows, kernel, report, tools):
         self.rows, self.kernel, self.report, self.tools = rows, kernel, report, tools
-        self.left = {"forms": [], "records": [], "names": []}
+        self.left = {"kinds": [], "forms": [], "records": [], "names": []}
 
     def places(self):
         report = self.report
@@ -265,12 +267,23 @@ class Compared:
             self.left["forms"].append(where)
 
     def kinds(self):
-        """The place of each kind beside rt_link.yaml, which has the attribute set of some."""
+        """The place of each kind beside rt_link.yaml, which has the attribute set of some, and the code that has it."""
         for call, message in (("of_kind", "linkinfo-data-msg"), ("of_slave_kind", "linkinfo-member-data-msg")):
             for kind, there in self.kernel.messages.get(message, {}).items():
                 place = self.rows.kinds.get((call, kind))
                 here = ROW_PLACES[place].set if place in ROW_PLACES else "none"
                 self.report.compare("row kinds, yaml", "%s.%s" % (call, kind), ("set", here, there))
+        theirs = {}
+        for place, known in ROW_PLACES.items():
+            for kind in Code(self.kernel.texts(known.files.split())).kinds:
+                theirs.setdefault(kind, []).append(place)
+        for (call, kind), place in self.rows.kinds.items():
+            there = theirs.get(kind, [])
+            if there:
+                here = place if place not in there else there[0]
+                self.report.compare("row kinds, code", "%s.%s" % (call, kind), ("place", here, there[0]))
+            else:
+                self.left["kinds"].append("%s.%s" % (call, kind))
 
     def in_words(self, form):
         """A form as rt_link.yaml describes one."""

@@ -28,7 +28,7 @@ YAML_FILES = ["Documentation/netlink/specs/rt_link.yaml", "Documentation/netlink
 # the last five are not installed with the others
 HEADERS = ["include/uapi/linux/%s.h" % name for name in
            "if_link if_bridge if if_arp if_ether rtnetlink devlink dpll snmp ip ipv6 wireless netlink "
-           "if_bonding if_tunnel if_tun if_vlan amt wwan can/netlink".split()]
+           "if_bonding if_tunnel if_tun if_vlan amt wwan veth can/netlink can/vxcan".split()]
 HEADERS += ["include/net/%s.h" % name for name in "if_inet6 bonding bond_3ad".split()]
 HEADERS += ["include/linux/socket.h", "include/linux/netdevice.h"]
 # code that writes and reads what rows have

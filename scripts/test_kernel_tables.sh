@@ -191,5 +191,8 @@ slip 'a value of a list in rt_link.yaml' 'others.POLICIES.forward: number 1' 's/
     $rows/others.rt
 slip 'the place of another kind' 'of_kind.gretap: set linkinfo-iptun-attrs' \
     's/(KindRow\("gretap", Place::)Gre\)/\1IpTunnel)/' link_info/src/place.rt
+slip 'the place of another kind, where the code alone has it' 'of_kind.vxcan: place Can' \
+    's/(KindRow\("vxcan", Place::)Vxcan\)/\1Can)/' link_info/src/place.rt
+slip 'the number of a peer' 'Veth.VETH_INFO_PEER: row none' 's/(VETH: .*Row\()1,/\12,/' $rows/others.rt
 slip 'the rows of another place' 'Gre6.local: put ipv4' 's/(Place::Gre6 => gre::)GRE6/\1GRE/' link_info/src/place.rt
 echo 'test_kernel_tables: ok'

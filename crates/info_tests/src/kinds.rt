@@ -5,7 +5,7 @@ use link_info::{KINDS, Place, Row, SLAVE_KINDS, Value};
 use std::alloc::Global;
 
 /// The kinds of interfaces whose data has a table, each with the name of the attribute that the kernel's headers number
-/// lowest (linux/if_link.h, if_tunnel.h, can/netlink.h).
+/// lowest (linux/if_link.h, if_tunnel.h, can/netlink.h, veth.h, can/vxcan.h).
 const FIRSTS: &[(&str, &str)] = &[
     ("amt", "mode"),
     ("bareudp", "port"),
@@ -30,15 +30,17 @@ const FIRSTS: &[(&str, &str)] = &[
     ("macvtap", "mode"),
     ("netkit", "peer-info"),
     ("ovpn", "mode"),
+    ("ppp", "dev-fd"),
     ("rmnet", "mux-id"),
     ("sit", "link"),
     ("tun", "owner"),
     ("vcan", "bittiming"),
+    ("veth", "peer"),
     ("vlan", "id"),
     ("vrf", "table"),
     ("vti", "link"),
     ("vti6", "link"),
-    ("vxcan", "bittiming"),
+    ("vxcan", "peer"),
     ("vxlan", "id"),
     ("wwan", "link-id"),
     ("xfrm", "link"),
@@ -81,7 +83,7 @@ fn each_kind_is_known(rt: HostRuntime) {
 
 #[test]
 fn other_kinds_are_not(rt: HostRuntime) {
-    let others: &[&str] = &["", "vlan\0", "VLAN", "vlan1", "dummy", "veth"];
+    let others: &[&str] = &["", "vlan\0", "VLAN", "vlan1", "dummy", "veth1"];
     for kind in others {
         assert!(rt; Place::of_kind(kind).is_none(), "{kind}");
         assert!(rt; Place::of_slave_kind(kind).is_none(), "{kind}");

@@ -48,7 +48,6 @@ kinds =
     (codes "macsec", P.Macsec) ∷
     (codes "can", P.Can) ∷
     (codes "vcan", P.Can) ∷
-    (codes "vxcan", P.Can) ∷
     (codes "vrf", P.Vrf) ∷
     (codes "tun", P.Tun) ∷
     (codes "netkit", P.Netkit) ∷
@@ -58,7 +57,10 @@ kinds =
     (codes "bareudp", P.Bareudp) ∷
     (codes "amt", P.Amt) ∷
     (codes "wwan", P.Wwan) ∷
-    (codes "ovpn", P.Ovpn) ∷ []
+    (codes "ovpn", P.Ovpn) ∷
+    (codes "veth", P.Veth) ∷
+    (codes "vxcan", P.Vxcan) ∷
+    (codes "ppp", P.Ppp) ∷ []
 
 -- the kinds of ports whose data has a table
 abbrev pub slave_kinds : List Kind
@@ -112,12 +114,15 @@ place_number P.Bareudp = 31
 place_number P.Amt = 32
 place_number P.Wwan = 33
 place_number P.Ovpn = 34
-place_number P.BridgeSpec = 35
-place_number P.BridgeVlanTunnel = 36
-place_number P.BridgeMst = 37
-place_number P.BridgeMstEntry = 38
-place_number P.Inet6 = 39
-place_number P.Port = 40
+place_number P.Veth = 35
+place_number P.Vxcan = 36
+place_number P.Ppp = 37
+place_number P.BridgeSpec = 38
+place_number P.BridgeVlanTunnel = 39
+place_number P.BridgeMst = 40
+place_number P.BridgeMstEntry = 41
+place_number P.Inet6 = 42
+place_number P.Port = 43
 
 -- the rows of a place in a table of all
 abbrev pub rows_of : List (Bor (List Row)) → Place → List Row
