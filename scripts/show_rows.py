@@ -561,6 +561,58 @@ def link_data():
     message(trees, {"af-spec": {"mst": {"entry": {"msti": 3, "state": "forwarding"}}}}, family=7)
 
 
+def rows_of_data():
+    """Adds the rows of link data that no message of tests/kernels has, one a line, and data of pairs and of ppp."""
+    def shown(kind, number, payload, name, value):
+        data = attr(18, attr(1, kind.encode() + b"\0"), attr(2, attr(number, payload)))
+        message(data, {"linkinfo": {"kind": kind, "data": {name: value}}})
+
+    numbers = [
+        ("gre", 11, "B", "encap-limit"), ("gre", 12, ">I", "flowinfo"), ("gre", 13, "=I", "flags"),
+        ("ip6gre", 9, "B", "tos"), ("ip6gre", 10, "B", "pmtudisc"), ("ip6gre", 19, "B", "ignore-df"),
+        ("ip6gre", 23, "B", "erspan-dir"), ("ip6gre", 24, "=H", "erspan-hwid"), ("sit", 6, "B", "encap-limit"),
+        ("sit", 7, ">I", "flowinfo"), ("ip6tnl", 5, "B", "tos"), ("ip6tnl", 10, "B", "pmtudisc"),
+        ("ip6tnl", 13, "=H", "6rd-prefixlen"), ("ip6tnl", 14, "=H", "6rd-relay-prefixlen"),
+        ("macvlan", 9, "=i", "bc-cutoff"), ("can", 7, "=I", "restart"), ("can", 11, "=H", "termination"),
+        ("hsr", 8, "=I", "interlink"), ("gtp", 1, "=I", "fd0"), ("gtp", 2, "=I", "fd1"), ("ppp", 1, "=i", "dev-fd"),
+    ]
+    most = {"B": 255, "=H": 0xFF00, "=I": 0xFFFE0000, ">I": 0xABCDE, "=i": -2}
+    for kind, number, form, name in numbers:
+        shown(kind, number, struct.pack(form, most[form] - number), name, most[form] - number)
+    for kind, number, name in (("bridge", 21, "fdb-flush"), ("vxlan", 24, "remcsum-nopartial"),
+                               ("ip6gre", 18, "collect-metadata"), ("bareudp", 4, "multiproto-mode")):
+        shown(kind, number, b"", name, True)
+        shown(kind, number, b"\1", name, "01")
+    six = ("20010db8" + "0" * 23 + "1", "2001:db8::1")
+    for kind, number, name, (bytes_, text) in (
+            ("vxlan", 4, "local", ("c0000201", "192.0.2.1")), ("gtp", 7, "local", ("c0000202", "192.0.2.2")),
+            ("amt", 6, "remote-ip", ("c0000203", "192.0.2.3")), ("ip6tnl", 11, "6rd-prefix", six),
+            ("ip6tnl", 12, "6rd-relay-prefix", ("c0000204", "192.0.2.4")), ("gtp", 8, "local6", six),
+            ("macvlan", 4, "macaddr", ("020000000001", "02:00:00:00:00:01"))):
+        shown(kind, number, bytes.fromhex(bytes_), name, text)
+    targets = attr(0, bytes.fromhex(six[0])), attr(1, bytes(16))
+    shown("bond", 31, b"".join(targets), "ns-ip6-target", [six[1], "::"])
+    timing = "bitrate sample-point tq prop-seg phase-seg1 phase-seg2 sjw brp".split()
+    for number, name in ((1, "bittiming"), (9, "data-bittiming")):
+        shown("can", number, u32(*range(1, 9)), name, counted(timing))
+    limits = "tseg1-min tseg1-max tseg2-min tseg2-max sjw-max brp-min brp-max brp-inc".split()
+    shown("can", 10, b"m_can".ljust(16, b"\0") + u32(*range(1, 9)), "data-bittiming-const",
+          {"name": "6d5f63616e" + "00" * 11, **counted(limits)})
+    shown("can", 12, u16(0, 120), "termination-const", [0, 120])
+    shown("can", 14, u32(500000, 2**32 - 1), "data-bitrate-const", [500000, 2**32 - 1])
+    for number, name in enumerate("tdcv-min tdcv-max tdco-min tdco-max tdcf-min tdcf-max tdcv tdco tdcf".split(), 1):
+        shown("can", 16, attr(number, u32(2**32 - number)), "tdc", {name: 2**32 - number})
+    message(attr(12, attr(24)), {"protinfo": {"flush": True}}, family=7)
+    message(attr(12, attr(44, u32(9))), {"protinfo": {"backup-nhid": 9}}, family=7)
+    message(attr(12, attr(4, b"\1\2")), {"protinfo": {"mcast": "0102"}}, family=10)
+    message(attr(12, attr(9, u32(1280))), {"protinfo": {"ra-mtu": 1280}}, family=10)
+    message(attr(25, attr(3, bytes(range(8)))), {"port-self": {"vsi-type": "0001020304050607"}})
+    peer = header(0) + attr(3, b"b\0")
+    for kind in ("veth", "vxcan"):
+        shown(kind, 1, peer, "peer", peer.hex())
+    message(attr(18, attr(1, b"ppp\0"), attr(2)), {"linkinfo": {"kind": "ppp", "data": {}}})
+
+
 def own_addresses():
     """Adds addresses of functions: as long as the link's own, where that has one."""
     function = attr(22, attr(1, attr(1, u32(0), bytes.fromhex("020000000001"), bytes(26))))
@@ -630,8 +682,8 @@ def written(answer):
 
 
 def main():
-    shown = (headers, flat, records, lists, functions, families, others, repeats, empty_lists, link_data, own_addresses,
-             elements, front_words)
+    shown = (headers, flat, records, lists, functions, families, others, repeats, empty_lists, link_data, rows_of_data,
+             own_addresses, elements, front_words)
     for group in (*shown, faults, places, damaged_lists):
         group()
     loopback = header(0, 772, 1, 0x10049) + attr(3, b"lo\0") + attr(4, u32(65536))
