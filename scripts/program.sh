@@ -129,6 +129,18 @@ if [ "$name" = linkdiff ]; then
     holds '30,000 interfaces that come, and go in the family 0 alone' 120000
 fi
 
+if [ "$name" = linkshow ]; then
+    for release in x '' 6 $'6\n' $'\xff'; do
+        status=0; "$program" --kernel "$release" </dev/null >"$folder/out" 2>"$folder/err" || status=$?
+        [ "$(wc -l <"$folder/err")" = 1 ] || { echo "$name: a release is not told in one line" >&2; exit 1; }
+        wants "the release ${release@Q}" 2 "" "$(cat "$folder/err")"
+    done
+    status=0; "$program" --kernel </dev/null >"$folder/out" 2>"$folder/err" || status=$?
+    wants "no release" 2 "" "$name: not understood: --kernel; see $name --help"
+    status=0; "$program" --kernel running </dev/null >"$folder/out" 2>"$folder/err" || status=$?
+    wants "the kernel at hand" 0 "" ""
+fi
+
 if [ "$name" = linkdiff ]; then
     status=0; "$program" "$folder/none" /dev/null >"$folder/out" 2>"$folder/err" || status=$?
     wants "a file that is not there" 1 "" "$name: cannot open $folder/none"

@@ -9,7 +9,7 @@ use arguments::{Request, asked_for};
 use message_shown::context::Order;
 use message_shown::worded::order_of;
 use run::run;
-use std::io::Read;
+use std::io::{ErrorKind, Read};
 use std::process::ExitCode;
 use std::{env, fs};
 
@@ -37,9 +37,9 @@ const USAGE: u8 = 2;
 const OSRELEASE: &str = "/proc/sys/kernel/osrelease";
 
 fn main(rt: HostRuntime) -> ExitCode {
-    let Ok(mut words) = env::args(&rt) else {
-        let _ = eprintln!(rt; "linkshow: out of memory");
-        return ExitCode::FAILURE;
+    let mut words = match env::args(&rt) {
+        Ok(words) => words,
+        Err(error) => return refuse_all(rt, error.kind()),
     };
     let _program = words.next();
     let Some(word) = words.next() else {
@@ -63,8 +63,23 @@ fn main(rt: HostRuntime) -> ExitCode {
 
 /// Says that an argument is wrong.
 fn refuse(rt: HostRuntime, word: &str) -> ExitCode {
+    let word = word.escape_debug();
     let _ = eprintln!(rt; "linkshow: not understood: {word}; see linkshow --help");
     ExitCode::from(USAGE)
+}
+
+/// Says why there are no arguments to look at.
+fn refuse_all(rt: HostRuntime, kind: ErrorKind) -> ExitCode {
+    match kind {
+        ErrorKind::InvalidData => {
+            let _ = eprintln!(rt; "linkshow: an argument is no UTF-8; see linkshow --help");
+            ExitCode::from(USAGE)
+        }
+        _ => {
+            let _ = eprintln!(rt; "linkshow: out of memory");
+            ExitCode::FAILURE
+        }
+    }
 }
 
 /// Writes a text.
@@ -95,6 +110,7 @@ fn answer_kernel(rt: HostRuntime, release: &str) -> ExitCode {
     match order {
         Some(order) => answer_lines(rt, order),
         None => {
+            let release = release.escape_debug();
             let _ = eprintln!(rt; "linkshow: no release of a kernel: {release}");
             ExitCode::from(USAGE)
         }
