@@ -210,6 +210,13 @@ def records():
     inner = attr(2, u32(-1)) + attr(3, u64(2)) + attr(6, b"\3")
     members = {"conf": short(INET6, -1), "stats": [2] + [0] * 38, "icmp6-stats": short(ICMP6_STATS, 3)}
     message(attr(26, attr(10, inner)), {"af-spec": {"inet6": members}})
+    # In notifications of IPv6 the same records stand in IFLA_PROTINFO.
+    message(attr(12 | 0x8000, inner), {"protinfo": members}, family=10)
+    members = {"conf": counted(INET6, -60), "stats": list(range(1, 40)), "icmp6-stats": counted(ICMP6_STATS)}
+    whole = attr(2, u32(*range(-60, 1))) + attr(3, u64(*range(1, 41))) + attr(6 | 0x8000, u64(*range(1, 9)))
+    message(attr(12, whole), {"protinfo": members}, family=10)
+    twice = {"stats": [2] + [0] * 38, "repeated": [{"stats": [1] + [0] * 38}]}
+    message(attr(12, attr(3, u64(1)) + attr(3, u64(2))), {"protinfo": twice}, family=10)
 
 
 def lists():
@@ -649,7 +656,8 @@ def front_words():
     worded("host=a ", b"", {"host": "a", "fault": "too-short", "at": "header", "got": 0, "need": 16, "offset": 0})
     for line in ("host=a 0x", "host=a", "=a 00", "host 00"):
         ROWS.append((line, {"fault": "not-hex"}))
-    counters = header(0) + attr(26, attr(10, attr(3, u64(*range(38), 0))))
+    counters = attr(3, u64(*range(38), 0))
+    settings, event = header(0) + attr(26, attr(10, counters)), header(10) + attr(12, counters)
     bare = list(range(38)) + [0]
     old = {name: INET6_STATS.index(name) for name in INET6_STATS}
     new = {name: INET6_STATS_6_16.index(name) for name in INET6_STATS}
@@ -657,10 +665,11 @@ def front_words():
                 (bare, "6.13 6.15.9 6 x 6. .6 -6.12")]
     for shown, names in releases:
         for name in names.split():
-            worded(f"kernel={name} ", counters, {"kernel": name, **said(0, {"af-spec": {"inet6": {"stats": shown}}})})
+            worded(f"kernel={name} ", settings, {"kernel": name, **said(0, {"af-spec": {"inet6": {"stats": shown}}})})
+            worded(f"kernel={name} ", event, {"kernel": name, **said(10, {"protinfo": {"stats": shown}})})
     # the first of two words counts
     both = {"kernel": "6.16"} | said(0, {"af-spec": {"inet6": {"stats": old}}})
-    line = "kernel=6.12 kernel=6.16 " + counters.hex()
+    line = "kernel=6.12 kernel=6.16 " + settings.hex()
     ROWS.append((line, Twice("kernel", "6.12", both)))
     full = header(0) + attr(26, attr(10, attr(3, u64(*range(38), 9))))
     members = said(0, {"af-spec": {"inet6": {"stats": {**old, "reserved-39": 9}}}})

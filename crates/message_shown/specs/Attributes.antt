@@ -30,8 +30,8 @@ use Rattle.message_shown.specs.Places.{Item, members_of, listed_under}
 use Rattle.message_shown.specs.declared.context.Context.{Context}
 use Rattle.message_shown.specs.Counters.{signed, stats_shown, stats64_shown, map_shown}
 use Rattle.message_shown.specs.Functions.{function_members, port_members, objects_under}
-use Rattle.message_shown.specs.Settings.{unspec_item}
-use Rattle.message_shown.specs.Nests.{bridge_item, proto_inet6_item, link_info_item, af_spec_bridge_item, xdp_item}
+use Rattle.message_shown.specs.Settings.{proto_inet6_item, unspec_item}
+use Rattle.message_shown.specs.Nests.{bridge_item, link_info_item, af_spec_bridge_item, xdp_item}
 use Rattle.message_shown.specs.Nests.{prop_item, down_reason_item, devlink_port_item, dpll_pin_item, wireless_shown}
 
 -- a number of four bytes

@@ -10,8 +10,6 @@ use Rattle.link_afspec.specs.declared.bridge.AfSpecBridge.{AfSpecBridge}
 use Rattle.link_afspec.specs.declared.bridge.AfSpecBridge.TheVariants as Bridges
 use Rattle.link_afspec.specs.declared.proto_bridge.LinkProtoInfoBridge.{LinkProtoInfoBridge}
 use Rattle.link_afspec.specs.declared.proto_bridge.LinkProtoInfoBridge.TheVariants as BridgeInfos
-use Rattle.link_afspec.specs.declared.proto_inet6.LinkProtoInfoInet6.{LinkProtoInfoInet6}
-use Rattle.link_afspec.specs.declared.proto_inet6.LinkProtoInfoInet6.TheVariants as Inet6Infos
 use Rattle.link_nest.specs.declared.devlink_port.DevlinkPort.{DevlinkPort}
 use Rattle.link_nest.specs.declared.devlink_port.DevlinkPort.TheVariants as Ports
 use Rattle.link_nest.specs.declared.down_reason.LinkProtocolDownReason.{LinkProtocolDownReason}
@@ -93,9 +91,6 @@ xdp_item (Xdps.Other nla) = kept_item nla
 -- of these every one is shown by the rows of its place
 abbrev pub bridge_item : Context → LinkProtoInfoBridge → Item
 bridge_item cx (BridgeInfos.Other nla) = placed_item (whole cx) cx Places.BridgePort nla
-
-abbrev pub proto_inet6_item : Context → LinkProtoInfoInet6 → Item
-proto_inet6_item cx (Inet6Infos.Other nla) = placed_item (whole cx) cx Places.Inet6 nla
 
 abbrev pub af_spec_bridge_item : Context → AfSpecBridge → Item
 af_spec_bridge_item cx (Bridges.Other nla) = placed_item (whole cx) cx Places.BridgeSpec nla

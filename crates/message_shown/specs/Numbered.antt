@@ -1,5 +1,6 @@
 -- The number of each attribute that has a name is that of its kind, and below 128.
-use Rattle.std.specs.Prelude.{◌≡◌, ℕ, ◌<◌, List, Option, None, Some, Bool, true, false, bit_and, cond, nat_lt, refl}
+use Rattle.std.specs.Prelude.{◌≡◌, ◌==◌, ℕ, ◌<◌, List, Option, None, Some, Bool, true, false, bit_and, cond, nat_lt}
+use Rattle.std.specs.Prelude.{refl}
 use Rattle.std.proofs.Common.{lit<, arith}
 use Rattle.std.proofs.lemmas.Bool.Decides.{nat_tests}
 use Rattle.link_nest.specs.Tables.{link_info_place, prop_place, devlink_port_place, dpll_pin_place, down_reason_place}
@@ -34,6 +35,7 @@ use Rattle.link_afspec.specs.declared.mctp.AfSpecMctp.{AfSpecMctp}
 use Rattle.link_afspec.specs.declared.mctp.AfSpecMctp.TheVariants as AfSpecMctps
 use Rattle.link_afspec.specs.declared.unspec.AfSpecUnspec.{AfSpecUnspec}
 use Rattle.link_afspec.specs.declared.unspec.AfSpecUnspec.TheVariants as AfSpecUnspecs
+use Rattle.link_afspec.specs.declared.numbers.TheConstants.{IFLA_INET6_CONF, IFLA_INET6_STATS, IFLA_INET6_ICMP6STATS}
 use Rattle.link_vf.specs.declared.stats.VfStats.{VfStats}
 use Rattle.link_vf.specs.declared.stats.VfStats.TheVariants as VfStatss
 use Rattle.link_vf.specs.declared.vf_vlan.VfVlan.{VfVlan}
@@ -47,8 +49,8 @@ use Rattle.link_msg.specs.declared.attribute.LinkAttribute.TheVariants as Attrib
 use Rattle.shown.specs.Drafts.{Members}
 use Rattle.message_shown.specs.Places.{Item, IsNumbered, kept_item}
 use Rattle.message_shown.specs.Nests.{link_info_item, prop_item, devlink_port_item, dpll_pin_item, down_reason_item}
-use Rattle.message_shown.specs.Nests.{xdp_item, bridge_item, proto_inet6_item, af_spec_bridge_item}
-use Rattle.message_shown.specs.Settings.{inet_item, inet6_item, mctp_item, unspec_item}
+use Rattle.message_shown.specs.Nests.{xdp_item, bridge_item, af_spec_bridge_item}
+use Rattle.message_shown.specs.Settings.{inet_item, inet6_item, mctp_item, proto_inet6_item, unspec_item}
 use Rattle.message_shown.specs.Functions.{vf_stats_item, vf_vlan_item, vf_port_item, vf_info_item}
 use Rattle.nla_wire.specs.Frames.{Frame, number}
 use Rattle.link_info.specs.Places.{rows_of}
@@ -74,6 +76,12 @@ row_numbered nest (Some known) f =
 
 pub placed_numbered : (cx : Context) (place : Place) (f : Frame) → IsNumbered f.kind (placed_item (whole cx) cx place f)
 placed_numbered cx place f = row_numbered (whole cx) (of_row (row_at (rows_of cx.tables.now place) (number f))) f
+
+-- a record among them
+record_numbered : (n kind : ℕ) (is : Bool) → (bit_and kind 0x3fff == n) ≡ is → n < 128 → (ms : Members) (other : Item)
+    → IsNumbered kind other → IsNumbered kind (cond is (Item.named n ms) other)
+record_numbered n kind true is small ms other e = (grind (arith, nat_tests), small)
+record_numbered n kind false is small ms other e = e
 
 -- ** one after the other
 
@@ -126,7 +134,10 @@ bridge_numbered cx (LinkProtoInfoBridges.Other nla) = placed_numbered cx Places.
 pub proto_inet6_numbered : (cx : Context) (v : LinkProtoInfoInet6)
     → IsNumbered (link_proto_info_inet6_place.frame v).kind (proto_inet6_item cx v)
 unfolding link_proto_info_inet6_place
-proto_inet6_numbered cx (LinkProtoInfoInet6s.Other nla) = placed_numbered cx Places.Inet6 nla
+proto_inet6_numbered cx (LinkProtoInfoInet6s.Other nla) =
+    record_numbered IFLA_INET6_CONF nla.kind _ refl (lit< tt) _ _
+    (record_numbered IFLA_INET6_STATS nla.kind _ refl (lit< tt) _ _
+    (record_numbered IFLA_INET6_ICMP6STATS nla.kind _ refl (lit< tt) _ _ (placed_numbered cx Places.Inet6 nla)))
 
 pub af_spec_bridge_numbered : (cx : Context) (v : AfSpecBridge)
     → IsNumbered (af_spec_bridge_place.frame v).kind (af_spec_bridge_item cx v)

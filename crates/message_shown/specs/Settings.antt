@@ -1,5 +1,5 @@
 -- Settings by family: what each is shown as. One that is kept as it is stands elsewhere.
-use Rattle.std.specs.Prelude.{ℕ, ◌==◌, List, [], ◌∷◌, map, codes, if◌then◌else◌}
+use Rattle.std.specs.Prelude.{ℕ, ◌==◌, List, [], ◌∷◌, map, bit_and, codes, cond, if◌then◌else◌}
 use Rattle.std.specs.Net.Addr.{ipv6_segments}
 use Rattle.std.specs.Net.Text.{ipv6_text}
 use Rattle.json.specs.Token.{Token, string}
@@ -9,6 +9,9 @@ use Rattle.link_afspec.specs.declared.inet6.AfSpecInet6.{AfSpecInet6}
 use Rattle.link_afspec.specs.declared.inet6.AfSpecInet6.TheVariants as Inet6s
 use Rattle.link_afspec.specs.declared.mctp.AfSpecMctp.{AfSpecMctp}
 use Rattle.link_afspec.specs.declared.mctp.AfSpecMctp.TheVariants as Mctps
+use Rattle.link_afspec.specs.declared.proto_inet6.LinkProtoInfoInet6.{LinkProtoInfoInet6}
+use Rattle.link_afspec.specs.declared.proto_inet6.LinkProtoInfoInet6.TheVariants as Inet6Infos
+use Rattle.link_info.specs.declared.place.Place.TheVariants as Places
 use Rattle.link_vals.specs.In6AddrGenModeTable.{in6_addr_gen_mode_number}
 use Rattle.link_vals.specs.Inet6IfaceFlagsTable.{inet6_iface_flags_bits}
 use Rattle.link_vals.specs.MctpPhysBindingTable.{mctp_phys_binding_number}
@@ -16,8 +19,11 @@ use Rattle.shown.specs.Drafts.{object_of}
 use Rattle.shown.specs.Values.{BitNames, name_or_number, numbered, flags_of}
 use Rattle.message_shown.specs.Counters.{inet_conf_shown, inet6_conf_shown, inet6_stats_shown, icmp6_stats_shown}
 use Rattle.message_shown.specs.Counters.{cache_info_shown}
-use Rattle.link_recs.specs.Inet6StatsFields.{inet6_stats_fields}
+use Rattle.link_recs.specs.Icmp6StatsFields.{icmp6_stats_of}
+use Rattle.link_recs.specs.Inet6DevConfFields.{inet6_dev_conf_of}
+use Rattle.link_recs.specs.Inet6StatsFields.{inet6_stats_fields, inet6_stats_of}
 use Rattle.message_shown.specs.Places.{Item, kept_item, members_of}
+use Rattle.message_shown.specs.Rows.{placed_item, whole}
 use Rattle.message_shown.specs.declared.context.Context.{Context}
 use Rattle.link_afspec.specs.declared.numbers.TheConstants.{IFLA_INET_CONF, IFLA_INET6_FLAGS, IFLA_INET6_CONF}
 use Rattle.link_afspec.specs.declared.numbers.TheConstants.{IFLA_INET6_STATS, IFLA_INET6_CACHEINFO}
@@ -84,6 +90,15 @@ mctp_item (Mctps.PhysBinding binding) =
     Item.named IFLA_MCTP_PHYS_BINDING
     ((codes "phys-binding", binding_token (mctp_phys_binding_number binding) ∷ []) ∷ [])
 mctp_item (Mctps.Other nla) = kept_item nla
+
+-- a member of IFLA_PROTINFO of IPv6: a record of numbers as the same one in the settings above, and another one by the
+-- rows of its place
+abbrev pub proto_inet6_item : Context → LinkProtoInfoInet6 → Item
+proto_inet6_item cx (Inet6Infos.Other nla) =
+    cond (bit_and nla.kind 0x3fff == IFLA_INET6_CONF) (inet6_item cx (Inet6s.DevConf (inet6_dev_conf_of nla.payload)))
+    (cond (bit_and nla.kind 0x3fff == IFLA_INET6_STATS) (inet6_item cx (Inet6s.Stats (inet6_stats_of nla.payload)))
+    (cond (bit_and nla.kind 0x3fff == IFLA_INET6_ICMP6STATS)
+    (inet6_item cx (Inet6s.Icmp6Stats (icmp6_stats_of nla.payload))) (placed_item (whole cx) cx Places.Inet6 nla)))
 
 abbrev pub unspec_item : Context → AfSpecUnspec → Item
 unspec_item cx (Families.Inet items) =

@@ -4,8 +4,9 @@ ghost use Rattle.std.specs.Prelude.{◌≡◌, OnOk};
 ghost use Rattle.shown.specs.Drafts.{with_value, object_of};
 ghost use Rattle.message_shown.specs.Nests.{link_info_item, prop_item, devlink_port_item, dpll_pin_item};
 ghost use Rattle.message_shown.specs.Nests.{down_reason_item};
-ghost use Rattle.message_shown.specs.Nests.{xdp_item, bridge_item, proto_inet6_item, wireless_shown};
+ghost use Rattle.message_shown.specs.Nests.{xdp_item, bridge_item, wireless_shown};
 ghost use Rattle.message_shown.specs.Nests.{elements_in};
+ghost use Rattle.message_shown.specs.Settings.{proto_inet6_item};
 ghost use Rattle.message_shown.specs.Numbered.{link_info_numbered, prop_numbered, devlink_port_numbered};
 ghost use Rattle.message_shown.specs.Numbered.{dpll_pin_numbered, down_reason_numbered, xdp_numbered, bridge_numbered};
 ghost use Rattle.message_shown.specs.Numbered.{proto_inet6_numbered};
@@ -14,10 +15,11 @@ use crate::context::Context;
 use crate::member::{Attribute, KeptFrame, frame_of};
 use crate::names::XDP_ATTACHED;
 use crate::rows::{Whole, add_at, add_by, kept_at, kept_by};
+use link_afspec::numbers::{IFLA_INET6_CONF, IFLA_INET6_ICMP6STATS, IFLA_INET6_STATS};
 use link_info::Place;
 use link_msg::{
-    DevlinkPort, DpllPin, LinkInfo, LinkProtoInfoBridge, LinkProtoInfoInet6,
-    LinkProtocolDownReason, LinkXdp, Prop, WirelessEvent,
+    AfSpecInet6, DevlinkPort, DpllPin, Icmp6Stats, Inet6DevConf, Inet6Stats, LinkInfo,
+    LinkProtoInfoBridge, LinkProtoInfoInet6, LinkProtocolDownReason, LinkXdp, Prop, WirelessEvent,
 };
 use nla_wire::fields::u16_at;
 use nla_wire::{NLA_TYPE_MASK, Nla};
@@ -181,12 +183,25 @@ impl Attribute for LinkProtoInfoInet6 {
 
     fn kept_frame(&self, cx: &Context<'_>) -> Option<KeptFrame<'_>> {
         let LinkProtoInfoInet6::Other(nla) = self;
-        kept_at::<Whole>(cx, Place::Inet6, nla)
+        match nla.kind() & NLA_TYPE_MASK {
+            IFLA_INET6_CONF | IFLA_INET6_STATS | IFLA_INET6_ICMP6STATS => None,
+            _ => kept_at::<Whole>(cx, Place::Inet6, nla),
+        }
     }
 
     fn add(&self, cx: &Context<'_>, page: &mut Page) -> Result<(), AllocError> {
         let LinkProtoInfoInet6::Other(nla) = self;
-        add_at::<Whole>(cx, page, Place::Inet6, nla)
+        let payload = nla.value();
+        match nla.kind() & NLA_TYPE_MASK {
+            IFLA_INET6_CONF => {
+                AfSpecInet6::DevConf(Inet6DevConf::read_padded(payload)).add(cx, page)
+            }
+            IFLA_INET6_STATS => AfSpecInet6::Stats(Inet6Stats::read_padded(payload)).add(cx, page),
+            IFLA_INET6_ICMP6STATS => {
+                AfSpecInet6::Icmp6Stats(Icmp6Stats::read_padded(payload)).add(cx, page)
+            }
+            _ => add_at::<Whole>(cx, page, Place::Inet6, nla),
+        }
     }
 
     ghost numbered = { proto_inet6_numbered };
