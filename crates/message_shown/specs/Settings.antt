@@ -15,7 +15,7 @@ use Rattle.link_info.specs.declared.place.Place.TheVariants as Places
 use Rattle.link_vals.specs.In6AddrGenModeTable.{in6_addr_gen_mode_number}
 use Rattle.link_vals.specs.Inet6IfaceFlagsTable.{inet6_iface_flags_bits}
 use Rattle.link_vals.specs.MctpPhysBindingTable.{mctp_phys_binding_number}
-use Rattle.shown.specs.Drafts.{object_of}
+use Rattle.shown.specs.Drafts.{Members, object_of}
 use Rattle.shown.specs.Values.{BitNames, name_or_number, numbered, flags_of}
 use Rattle.message_shown.specs.Counters.{inet_conf_shown, inet6_conf_shown, inet6_stats_shown, icmp6_stats_shown}
 use Rattle.message_shown.specs.Counters.{cache_info_shown}
@@ -91,11 +91,15 @@ mctp_item (Mctps.PhysBinding binding) =
     ((codes "phys-binding", binding_token (mctp_phys_binding_number binding) ∷ []) ∷ [])
 mctp_item (Mctps.Other nla) = kept_item nla
 
+-- settings of IPv6, from a payload
+abbrev pub conf_members : List ℕ → Members
+conf_members payload = (codes "conf", object_of (inet6_conf_shown (inet6_dev_conf_of payload))) ∷ []
+
 -- a member of IFLA_PROTINFO of IPv6: a record of numbers as the same one in the settings above, and another one by the
 -- rows of its place
 abbrev pub proto_inet6_item : Context → LinkProtoInfoInet6 → Item
 proto_inet6_item cx (Inet6Infos.Other nla) =
-    cond (bit_and nla.kind 0x3fff == IFLA_INET6_CONF) (inet6_item cx (Inet6s.DevConf (inet6_dev_conf_of nla.payload)))
+    cond (bit_and nla.kind 0x3fff == IFLA_INET6_CONF) (Item.named IFLA_INET6_CONF (conf_members nla.payload))
     (cond (bit_and nla.kind 0x3fff == IFLA_INET6_STATS) (inet6_item cx (Inet6s.Stats (inet6_stats_of nla.payload)))
     (cond (bit_and nla.kind 0x3fff == IFLA_INET6_ICMP6STATS)
     (inet6_item cx (Inet6s.Icmp6Stats (icmp6_stats_of nla.payload))) (placed_item (whole cx) cx Places.Inet6 nla)))

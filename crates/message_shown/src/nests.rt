@@ -1,17 +1,18 @@
 //! Inner lists of attributes, and wireless events.
 
 ghost use Rattle.std.specs.Prelude.{◌≡◌, OnOk};
-ghost use Rattle.shown.specs.Drafts.{with_value, object_of};
+ghost use Rattle.shown.specs.Drafts.{with_members, with_value, object_of};
 ghost use Rattle.message_shown.specs.Nests.{link_info_item, prop_item, devlink_port_item, dpll_pin_item};
 ghost use Rattle.message_shown.specs.Nests.{down_reason_item};
 ghost use Rattle.message_shown.specs.Nests.{xdp_item, bridge_item, wireless_shown};
 ghost use Rattle.message_shown.specs.Nests.{elements_in};
-ghost use Rattle.message_shown.specs.Settings.{proto_inet6_item};
+ghost use Rattle.message_shown.specs.Settings.{conf_members, proto_inet6_item};
 ghost use Rattle.message_shown.specs.Numbered.{link_info_numbered, prop_numbered, devlink_port_numbered};
 ghost use Rattle.message_shown.specs.Numbered.{dpll_pin_numbered, down_reason_numbered, xdp_numbered, bridge_numbered};
 ghost use Rattle.message_shown.specs.Numbered.{proto_inet6_numbered};
 
 use crate::context::Context;
+use crate::counts::show_inet6_conf;
 use crate::member::{Attribute, KeptFrame, frame_of};
 use crate::names::XDP_ATTACHED;
 use crate::rows::{Whole, add_at, add_by, kept_at, kept_by};
@@ -178,6 +179,13 @@ impl Attribute for LinkProtoInfoBridge {
     ghost numbered = { bridge_numbered };
 }
 
+/// Adds the settings of IPv6 that a payload has.
+fn add_conf(page: &mut Page, payload: &[u8]) -> Result<(), AllocError>
+    ensures { OnOk result (page.new ≡ with_members (conf_members payload.now) page.old) }
+{
+    show_inet6_conf(page, "conf", &Inet6DevConf::read_padded(payload))
+}
+
 impl Attribute for LinkProtoInfoInet6 {
     ghost item = { proto_inet6_item };
 
@@ -193,9 +201,7 @@ impl Attribute for LinkProtoInfoInet6 {
         let LinkProtoInfoInet6::Other(nla) = self;
         let payload = nla.value();
         match nla.kind() & NLA_TYPE_MASK {
-            IFLA_INET6_CONF => {
-                AfSpecInet6::DevConf(Inet6DevConf::read_padded(payload)).add(cx, page)
-            }
+            IFLA_INET6_CONF => add_conf(page, payload),
             IFLA_INET6_STATS => AfSpecInet6::Stats(Inet6Stats::read_padded(payload)).add(cx, page),
             IFLA_INET6_ICMP6STATS => {
                 AfSpecInet6::Icmp6Stats(Icmp6Stats::read_padded(payload)).add(cx, page)
