@@ -207,6 +207,8 @@ static inline int linkwire_u32(const uint8_t *list, const struct linkwire_attrib
     return 1;
 }
 
+/* Also each counter of IFLA_INET6_STATS, whose payload is a row of them in the order of IPSTATS_MIB_* in linux/snmp.h:
+ * Linux 6.16 has another order there than 6.12, with as many counters, and a message does not say which one it has. */
 static inline int linkwire_u64(const uint8_t *list, const struct linkwire_attribute *attribute, uint64_t *value) {
     if (attribute->payload_len != 8) {
         return 0;
