@@ -94,6 +94,8 @@ if [ "$name" != linkwire ]; then
         [ "$(wc -l <"$folder/err")" = 1 ] || { echo "$name: '$words' is not told in one line" >&2; exit 1; }
         wants "the arguments '$words'" 2 "" "$(cat "$folder/err")"
     done
+    status=0; "$program" $'\xff' </dev/null >"$folder/out" 2>"$folder/err" || status=$?
+    wants "an argument that is no UTF-8" 2 "" "$name: an argument is no UTF-8; see $name --help"
 fi
 
 # link FAMILY INDEX ATTRIBUTES: a message of e0, the first two a byte in hexadecimal each

@@ -17,6 +17,7 @@ use lines::read_lines;
 use message_diff::Compared;
 use std::env;
 use std::fs::File;
+use std::io::ErrorKind;
 use std::process::ExitCode;
 use watch::Watch;
 
@@ -41,9 +42,9 @@ const VERSION: &str = "linkdiff 0.3.0\n";
 const USAGE: u8 = 2;
 
 fn main(rt: HostRuntime) -> ExitCode {
-    let Ok(words) = env::args(&rt) else {
-        let _ = eprintln!(rt; "linkdiff: out of memory");
-        return ExitCode::FAILURE;
+    let words = match env::args(&rt) {
+        Ok(words) => words,
+        Err(error) => return refuse_all(rt, error.kind()),
     };
     match requested(rt.alloc(), words) {
         Ok(Request::Help) => write_text(rt, HELP),
@@ -59,6 +60,20 @@ fn main(rt: HostRuntime) -> ExitCode {
             ExitCode::from(USAGE)
         }
         Err(_) => {
+            let _ = eprintln!(rt; "linkdiff: out of memory");
+            ExitCode::FAILURE
+        }
+    }
+}
+
+/// Says why there are no arguments to look at.
+fn refuse_all(rt: HostRuntime, kind: ErrorKind) -> ExitCode {
+    match kind {
+        ErrorKind::InvalidData => {
+            let _ = eprintln!(rt; "linkdiff: an argument is no UTF-8; see linkdiff --help");
+            ExitCode::from(USAGE)
+        }
+        _ => {
             let _ = eprintln!(rt; "linkdiff: out of memory");
             ExitCode::FAILURE
         }

@@ -9,6 +9,7 @@ mod run;
 use arguments::{Request, asked_for};
 use run::run;
 use std::env;
+use std::io::ErrorKind;
 use std::process::ExitCode;
 
 /// What `--help` writes.
@@ -28,9 +29,9 @@ const VERSION: &str = "linkstate 0.3.0\n";
 const USAGE: u8 = 2;
 
 fn main(rt: HostRuntime) -> ExitCode {
-    let Ok(mut words) = env::args(&rt) else {
-        let _ = eprintln!(rt; "linkstate: out of memory");
-        return ExitCode::FAILURE;
+    let mut words = match env::args(&rt) {
+        Ok(words) => words,
+        Err(error) => return refuse_all(rt, error.kind()),
     };
     let _program = words.next();
     let Some(word) = words.next() else {
@@ -51,6 +52,20 @@ fn main(rt: HostRuntime) -> ExitCode {
 fn refuse(rt: HostRuntime, word: &str) -> ExitCode {
     let _ = eprintln!(rt; "linkstate: not understood: {word}; see linkstate --help");
     ExitCode::from(USAGE)
+}
+
+/// Says why there are no arguments to look at.
+fn refuse_all(rt: HostRuntime, kind: ErrorKind) -> ExitCode {
+    match kind {
+        ErrorKind::InvalidData => {
+            let _ = eprintln!(rt; "linkstate: an argument is no UTF-8; see linkstate --help");
+            ExitCode::from(USAGE)
+        }
+        _ => {
+            let _ = eprintln!(rt; "linkstate: out of memory");
+            ExitCode::FAILURE
+        }
+    }
 }
 
 /// Writes a text.
