@@ -1,7 +1,7 @@
 #!/usr/bin/env bash
 # Proves the crates below a crate, lowest first, and then runs a command in its own folder, as `rt run`:
-# progress.sh CRATE LOG COMMAND.. Standard error shows which crate is at work, '3 of 10 link_recs .. 41 s'; what they
-# say goes to the log.
+# progress.sh CRATE LOG COMMAND.. Standard error shows which crate is at work, 'linkwire: 3 of 11 link_recs .. 41 s',
+# and at the end the verdict; what they say goes to the log.
 set -euo pipefail
 top=$(cd "$(dirname "$0")/.." && pwd)
 crate=$1 log=$(realpath "$2")
@@ -43,7 +43,7 @@ ticks() {
 
 # works NAME COMMAND..: one step, and its line
 works() {
-    local label="$((at + 1)) of ${#order[@]} $1" start=$SECONDS status=0
+    local label="$crate: $((at + 1)) of ${#order[@]} $1" start=$SECONDS status=0
     (cd "$top/crates/$1" && exec "${@:2}") </dev/null >>"$log" 2>&1 &
     work=$!
     if [ -t 2 ]; then
@@ -87,3 +87,4 @@ for at in "${!order[@]}"; do
         works "$name" rt lib
     fi
 done
+grep '^logic=proved' "$log" | tail -n 1 | sed "s/^/$crate: /" >&2 || true

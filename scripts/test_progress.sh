@@ -37,12 +37,12 @@ wants() {
 }
 
 "$folder/scripts/progress.sh" top "$folder/log" rt run >"$folder/out" 2>"$folder/err"
-wants 'three crates' '1 of 3 low ..
-1 of 3 low .. N s
-2 of 3 mid ..
-2 of 3 mid .. N s
-3 of 3 top ..
-3 of 3 top .. N s'
+wants 'three crates' 'top: 1 of 3 low ..
+top: 1 of 3 low .. N s
+top: 2 of 3 mid ..
+top: 2 of 3 mid .. N s
+top: 3 of 3 top ..
+top: 3 of 3 top .. N s'
 if [ -s "$folder/out" ] || [ "$(grep -c '^said by' "$folder/log")" != 3 ]; then
     echo 'progress: something is on standard output, or the log lacks a line' >&2
     exit 1
@@ -53,7 +53,7 @@ touch "$folder/crates/mid/source"
 status=0
 TOP_STATUS=1 "$folder/scripts/progress.sh" top "$folder/log" rt lib 2>"$folder/err" || status=$?
 head -n 3 "$folder/err" >"$folder/cut" && mv "$folder/cut" "$folder/err"
-wants 'one that changed' $'2 of 3 mid ..\n2 of 3 mid .. N s\n3 of 3 top ..'
+wants 'one that changed' $'top: 2 of 3 mid ..\ntop: 2 of 3 mid .. N s\ntop: 3 of 3 top ..'
 if [ "$status" != 1 ]; then
     echo 'progress: a failure is not told' >&2
     exit 1
@@ -91,7 +91,7 @@ if ! command -v script >/dev/null; then
 fi
 touch "$folder/crates/mid/source"
 MID_SECONDS=7 script -qec "'$folder/scripts/progress.sh' top '$folder/log' rt run" /dev/null </dev/null >"$folder/err"
-if [ "$(tr '\r' '\n' <"$folder/err" | grep -c '^2 of 3 mid \.\. [0-9]* s$')" -lt 3 ]; then
+if [ "$(tr '\r' '\n' <"$folder/err" | grep -c '^top: 2 of 3 mid \.\. [0-9]* s$')" -lt 3 ]; then
     echo 'progress: the seconds stand still on a terminal' >&2
     exit 1
 fi
