@@ -1,8 +1,8 @@
 #!/usr/bin/env bash
 # That rust/ and dist/ fit the crates, the gate, and then the scripts over what it left: the programs, and the libraries
-# that the library for C and the texts of dist/ stand on. So little is proved twice. The scripts of the libraries run
-# beside those of the programs, of the crate in rust/ and of the tables, and what they print comes after. The last line
-# is the gate's own, printed again.
+# that the library for C and the texts of dist/ stand on. So little is proved twice. The scripts of the libraries and the
+# texts of the programs come beside the scripts of the programs, of the crate in rust/ and of the tables, and what they
+# print comes after. The last line is the gate's own, printed again.
 set -euo pipefail
 cd "$(dirname "$0")/.."
 folder=$(mktemp -d)
@@ -32,6 +32,11 @@ libraries() {
     stage 'builds of dist/' scripts/dist_tests.sh
 }
 
+texts() {
+    stage 'the texts of the programs' scripts/dist.sh --compare "${names[@]}"
+    stage 'slips in dist/' scripts/test_dist.sh
+}
+
 programs() {
     for name in "${names[@]}"; do
         stage "program.sh $name" scripts/program.sh "$name"
@@ -55,8 +60,6 @@ programs() {
     scripts/tested_edits.sh
     scripts/kernel_tables.sh
     scripts/test_kernel_tables.sh
-    stage 'the texts of the programs' scripts/dist.sh --compare "${names[@]}"
-    stage 'slips in dist/' scripts/test_dist.sh
 }
 
 python3 scripts/lines.py
@@ -71,10 +74,13 @@ stage gate gate
 stage build make -s build
 stage libraries libraries >"$folder/libraries" 2>&1 &
 beside=$!
+stage texts texts >"$folder/texts" 2>&1 &
+besides=$!
 stage programs programs
 status=0
 wait "$beside" || status=$?
-cat "$folder/libraries"
+wait "$besides" || status=$?
+cat "$folder/libraries" "$folder/texts"
 [ "$status" = 0 ]
 cat "$folder/stages"
 tail -n 1 "$folder/gate"
