@@ -1,8 +1,8 @@
 #!/usr/bin/env bash
 # That rust/ and dist/ fit the crates, the gate, and then the scripts over what it left: the programs, and the libraries
-# that the library for C and the texts of dist/ stand on. So little is proved twice. The scripts of the libraries and the
-# texts of the programs come beside the scripts of the programs, of the crate in rust/ and of the tables, and what they
-# print comes after. The last line is the gate's own, printed again.
+# that the library for C and the texts of dist/ stand on. So little is proved twice. The scripts of the libraries and
+# the texts of the programs come beside the scripts of the programs, of the crate in rust/ and of the tables, and what
+# they print comes after. The last line is the gate's own, printed again.
 set -euo pipefail
 cd "$(dirname "$0")/.."
 folder=$(mktemp -d)

@@ -10,4 +10,4 @@ pub use bytes::{
     text_from, vec_from, zeros_after,
 };
 pub use copies::{are_copied_alike, are_told_apart, is_copied, list};
-pub use lists::{BAD_FRAMES, has_value, means, refuses, refuses_bad_frames, rewrites, writes};
+pub use lists::{BAD_FRAMES, has_value, means, refuses, rewrites, writes, wrong_bad_frame};

@@ -54,16 +54,17 @@ pub fn refuses<N: NlaRead>(alloc: Global, bytes: &[u8], cause: Cause) -> bool {
         && equal(&out, &[255; 4])
 }
 
-/// Whether lists are refused for what is refused at every place, and the empty one is read.
-pub fn refuses_bad_frames<N: NlaRead>(alloc: Global) -> bool {
-    for (bytes, cause) in BAD_FRAMES {
+/// The place in `BAD_FRAMES` of the first list that is not refused for its cause, or their number where the empty list
+/// is not read; none where all is as at every place.
+pub fn wrong_bad_frame<N: NlaRead>(alloc: Global) -> Option<usize> {
+    for (i, (bytes, cause)) in BAD_FRAMES.into_iter().enumerate() {
         if !refuses::<N>(alloc, bytes, cause) {
-            return false;
+            return Some(i);
         }
     }
     match N::parse_list(alloc, &[]) {
-        Ok(values) => values.len() == 0 && N::check_list(&[]).is_ok(),
-        Err(_) => false,
+        Ok(values) if values.is_empty() && N::check_list(&[]).is_ok() => None,
+        _ => Some(BAD_FRAMES.len()),
     }
 }
 

@@ -1,8 +1,8 @@
 //! The flat inner lists and wireless events: what each member means, is refused for, and is written as.
 
 use expected::{
-    bytes_from, cause_of, equal, is_copied, is_stored, kept, means, refuses, refuses_bad_frames,
-    text_from,
+    bytes_from, cause_of, equal, is_copied, is_stored, kept, means, refuses, text_from,
+    wrong_bad_frame,
 };
 use link_nest::*;
 use link_vals::XdpAttached;
@@ -14,7 +14,7 @@ use std::process::Abort;
 #[test]
 fn alternative_names(rt: HostRuntime) {
     let alloc = rt.alloc();
-    assert!(rt; refuses_bad_frames::<Prop>(alloc));
+    assert_eq!(rt; wrong_bad_frame::<Prop>(alloc), None);
     for (label, bytes) in [
         ("no UTF-8", [0x05, 0x00, 0x35, 0x00, 0xff].as_slice()),
         (
@@ -51,7 +51,7 @@ fn alternative_names(rt: HostRuntime) {
 #[test]
 fn devlink_ports(rt: HostRuntime) {
     let alloc = rt.alloc();
-    assert!(rt; refuses_bad_frames::<DevlinkPort>(alloc));
+    assert_eq!(rt; wrong_bad_frame::<DevlinkPort>(alloc), None);
     let short = Cause::WrongLength { got: 0, want: 4 };
     assert!(rt; refuses::<DevlinkPort>(alloc, &[0x04, 0x00, 0x03, 0x00], short));
     assert!(rt; refuses::<DevlinkPort>(alloc, &[0x05, 0x00, 0x02, 0x00, 0xc3], Cause::NotUtf8));
@@ -79,7 +79,7 @@ fn devlink_ports(rt: HostRuntime) {
 #[test]
 fn clock_pins(rt: HostRuntime) {
     let alloc = rt.alloc();
-    assert!(rt; refuses_bad_frames::<DpllPin>(alloc));
+    assert_eq!(rt; wrong_bad_frame::<DpllPin>(alloc), None);
     let short = Cause::WrongLength { got: 2, want: 4 };
     assert!(rt; refuses::<DpllPin>(alloc, &[0x06, 0x00, 0x01, 0x00, 0x01, 0x02], short));
     let other = DpllPin::Other(kept(alloc, 0x63, &[0xde, 0xad]).expect(&rt, "memory"));
@@ -117,7 +117,7 @@ fn one_clock_pin_written(rt: HostRuntime) {
 #[test]
 fn down_reasons(rt: HostRuntime) {
     let alloc = rt.alloc();
-    assert!(rt; refuses_bad_frames::<LinkProtocolDownReason>(alloc));
+    assert_eq!(rt; wrong_bad_frame::<LinkProtocolDownReason>(alloc), None);
     let long = Cause::WrongLength { got: 5, want: 4 };
     assert!(rt;
         refuses::<LinkProtocolDownReason>(
@@ -148,7 +148,7 @@ fn down_reasons(rt: HostRuntime) {
 #[test]
 fn refused_express_data_paths(rt: HostRuntime) {
     let alloc = rt.alloc();
-    assert!(rt; refuses_bad_frames::<LinkXdp>(alloc));
+    assert_eq!(rt; wrong_bad_frame::<LinkXdp>(alloc), None);
     for (label, bytes, got, want) in [
         (
             "IFLA_XDP_ATTACHED of no bytes",
@@ -242,7 +242,7 @@ fn attached_express_data_paths(rt: HostRuntime) {
 #[test]
 fn link_infos(rt: HostRuntime) {
     let alloc = rt.alloc();
-    assert!(rt; refuses_bad_frames::<LinkInfo>(alloc));
+    assert_eq!(rt; wrong_bad_frame::<LinkInfo>(alloc), None);
     assert!(rt; refuses::<LinkInfo>(alloc, &[0x05, 0x00, 0x01, 0x00, 0xff], Cause::NotUtf8));
     assert!(rt;
         means(

@@ -2,7 +2,7 @@
 
 use expected::{
     BAD_FRAMES, cause_of, equal, has_value, is_copied, is_stored, kept, means, refuses,
-    refuses_bad_frames,
+    wrong_bad_frame,
 };
 use link_vals::{VfLinkState, VlanProtocol};
 use link_vf::*;
@@ -18,7 +18,7 @@ use std::process::Abort;
 #[test]
 fn refused_statistics(rt: HostRuntime) {
     let alloc = rt.alloc();
-    assert!(rt; refuses_bad_frames::<VfStats>(alloc));
+    assert_eq!(rt; wrong_bad_frame::<VfStats>(alloc), None);
     let short = Cause::WrongLength { got: 7, want: 8 };
     assert!(rt;
         refuses::<VfStats>(
@@ -63,7 +63,7 @@ fn padding_among_statistics(rt: HostRuntime) {
 #[test]
 fn vlans(rt: HostRuntime) {
     let alloc = rt.alloc();
-    assert!(rt; refuses_bad_frames::<VfVlan>(alloc));
+    assert_eq!(rt; wrong_bad_frame::<VfVlan>(alloc), None);
     let short = Cause::TooShort { got: 0, need: 16 };
     assert!(rt; refuses::<VfVlan>(alloc, &[0x04, 0x00, 0x01, 0x00], short));
     assert!(rt;
@@ -88,7 +88,7 @@ fn vlans(rt: HostRuntime) {
 #[test]
 fn short_records_of_functions(rt: HostRuntime) {
     let alloc = rt.alloc();
-    assert!(rt; refuses_bad_frames::<VfInfo>(alloc));
+    assert_eq!(rt; wrong_bad_frame::<VfInfo>(alloc), None);
     for (label, number, need) in [
         ("IFLA_VF_MAC", 1, 36),
         ("IFLA_VF_VLAN", 2, 12),
@@ -533,7 +533,7 @@ fn four_levels_filled(rt: HostRuntime) {
 #[test]
 fn refused_ports(rt: HostRuntime) {
     let alloc = rt.alloc();
-    assert!(rt; refuses_bad_frames::<VfPort>(alloc));
+    assert_eq!(rt; wrong_bad_frame::<VfPort>(alloc), None);
     refuses_bad_entries::<LinkVfPort>(&rt, alloc);
 }
 

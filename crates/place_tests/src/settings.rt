@@ -1,8 +1,8 @@
 //! Settings by family: records of each length, requests, and members that are kept.
 
 use expected::{
-    BAD_FRAMES, COUNTERS, SETTINGS, has_value, is_copied, kept, means, refuses, refuses_bad_frames,
-    rewrites, vec_from, writes, zeros_after,
+    BAD_FRAMES, COUNTERS, SETTINGS, has_value, is_copied, kept, means, refuses, rewrites, vec_from,
+    writes, wrong_bad_frame, zeros_after,
 };
 use link_afspec::*;
 use link_recs::{Icmp6Stats, Inet6CacheInfo, Inet6DevConf, Inet6Stats, InetDevConf};
@@ -23,7 +23,7 @@ const ICMP6_COUNTERS: usize = 60;
 #[test]
 fn settings_of_mctp(rt: HostRuntime) {
     let alloc = rt.alloc();
-    assert!(rt; refuses_bad_frames::<AfSpecMctp>(alloc));
+    assert_eq!(rt; wrong_bad_frame::<AfSpecMctp>(alloc), None);
     for (label, bytes, got, want) in [
         (
             "IFLA_MCTP_NET of 3 bytes",
@@ -101,7 +101,7 @@ fn family_text() -> [u8; INET] {
 
 #[test]
 fn settings_of_ipv4(rt: HostRuntime) {
-    assert!(rt; refuses_bad_frames::<AfSpecInet>(rt.alloc()));
+    assert_eq!(rt; wrong_bad_frame::<AfSpecInet>(rt.alloc()), None);
     let conf = two_settings();
     assert!(rt; conf.fits());
     assert!(rt; conf.kind() == 1);
@@ -299,7 +299,7 @@ const REFUSED_SETTINGS: [(&str, u8, u8, Cause); 8] = [
 #[test]
 fn refused_settings_of_ipv6(rt: HostRuntime) {
     let alloc = rt.alloc();
-    assert!(rt; refuses_bad_frames::<AfSpecInet6>(alloc));
+    assert_eq!(rt; wrong_bad_frame::<AfSpecInet6>(alloc), None);
     for (label, number, len, cause) in REFUSED_SETTINGS {
         let mut bytes = [0; 24];
         bytes[0] = len;
@@ -414,7 +414,7 @@ fn refuses_bad_members(rt: &impl Abort, alloc: Global, label: &str, family: u8) 
 #[test]
 fn refused_families(rt: HostRuntime) {
     let alloc = rt.alloc();
-    assert!(rt; refuses_bad_frames::<AfSpecUnspec>(alloc));
+    assert_eq!(rt; wrong_bad_frame::<AfSpecUnspec>(alloc), None);
     let empty = Cause::EmptyList;
     for (label, family) in [("AF_INET", 0x02), ("AF_INET6", 0x0a), ("AF_MCTP", 0x2d)] {
         for flag in [0x00, 0x80] {
@@ -501,7 +501,7 @@ fn requests_of_a_family(rt: HostRuntime) {
 
 /// A list takes these values, one of kind 2 with both flags, and is refused where it is damaged.
 fn keeps<N: NlaRead + Exact + CloneIn>(rt: &impl Abort, alloc: Global, label: &str, values: &[N]) {
-    assert!(rt; refuses_bad_frames::<N>(alloc), "{label}");
+    assert_eq!(rt; wrong_bad_frame::<N>(alloc), None, "{label}");
     let bytes = [0x05, 0x00, 0x02, 0xc0, 0x07];
     let text = [0x05, 0x00, 0x02, 0xc0, 0x07, 0x00, 0x00, 0x00];
     assert!(rt; means(alloc, &bytes, values, &text), "{label}");
