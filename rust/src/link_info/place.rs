@@ -77,6 +77,12 @@ pub enum Place {
     Wwan,
     /// The data of an ovpn device.
     Ovpn,
+    /// The data of an end of a veth pair.
+    Veth,
+    /// The data of an end of a vxcan pair.
+    Vxcan,
+    /// The data of a ppp interface.
+    Ppp,
     /// `IFLA_AF_SPEC` under AF_BRIDGE. The members of `IFLA_PROTINFO` there are those of `BridgePort`.
     BridgeSpec,
     /// A vlan of a port that is a tunnel.
@@ -92,7 +98,7 @@ pub enum Place {
 }
 
 /// The number of places.
-pub const PLACES: usize = 41;
+pub const PLACES: usize = 44;
 
 /// The rows of all places, in their order.
 pub type Tables = [&'static [Row]; PLACES];
@@ -127,7 +133,6 @@ pub const KINDS: &[KindRow] = &[
     KindRow("macsec", Place::Macsec),
     KindRow("can", Place::Can),
     KindRow("vcan", Place::Can),
-    KindRow("vxcan", Place::Can),
     KindRow("vrf", Place::Vrf),
     KindRow("tun", Place::Tun),
     KindRow("netkit", Place::Netkit),
@@ -138,6 +143,9 @@ pub const KINDS: &[KindRow] = &[
     KindRow("amt", Place::Amt),
     KindRow("wwan", Place::Wwan),
     KindRow("ovpn", Place::Ovpn),
+    KindRow("veth", Place::Veth),
+    KindRow("vxcan", Place::Vxcan),
+    KindRow("ppp", Place::Ppp),
 ];
 
 /// The kinds of ports that have a table: texts of `IFLA_INFO_SLAVE_KIND`, and the places of their
@@ -194,12 +202,15 @@ impl Place {
             Place::Amt => 32,
             Place::Wwan => 33,
             Place::Ovpn => 34,
-            Place::BridgeSpec => 35,
-            Place::BridgeVlanTunnel => 36,
-            Place::BridgeMst => 37,
-            Place::BridgeMstEntry => 38,
-            Place::Inet6 => 39,
-            Place::Port => 40,
+            Place::Veth => 35,
+            Place::Vxcan => 36,
+            Place::Ppp => 37,
+            Place::BridgeSpec => 38,
+            Place::BridgeVlanTunnel => 39,
+            Place::BridgeMst => 40,
+            Place::BridgeMstEntry => 41,
+            Place::Inet6 => 42,
+            Place::Port => 43,
         }
     }
 
@@ -247,6 +258,9 @@ impl Place {
             Place::Amt => others::AMT,
             Place::Wwan => others::WWAN,
             Place::Ovpn => others::OVPN,
+            Place::Veth => others::VETH,
+            Place::Vxcan => others::VXCAN,
+            Place::Ppp => others::PPP,
             Place::BridgeSpec => family::BRIDGE_SPEC,
             Place::BridgeVlanTunnel => family::BRIDGE_VLAN_TUNNEL,
             Place::BridgeMst => family::BRIDGE_MST,
@@ -305,6 +319,9 @@ pub fn all_rows() -> Tables {
         Place::Amt.rows(),
         Place::Wwan.rows(),
         Place::Ovpn.rows(),
+        Place::Veth.rows(),
+        Place::Vxcan.rows(),
+        Place::Ppp.rows(),
         Place::BridgeSpec.rows(),
         Place::BridgeVlanTunnel.rows(),
         Place::BridgeMst.rows(),

@@ -90,7 +90,8 @@ impl LinkMessageBuffer {
         &self.bytes
     }
 
-    /// The first 16 bytes as they are, and the rest of the slice, or `TooShort`.
+    /// The first 16 bytes as they are, and the rest, which is the part of `bytes` that begins after them; or
+    /// `TooShort`.
     ///
     /// # Errors
     ///
@@ -99,9 +100,8 @@ impl LinkMessageBuffer {
         if bytes.len() < HEADER_SIZE {
             return Err(no_header(bytes));
         }
-        let (front, rest) = bytes.split_at(HEADER_SIZE);
-        let mut found = [0; 16];
-        found.copy_from_slice(front);
-        Ok((LinkMessageBuffer { bytes: found }, rest))
+        let mut front = [0; 16];
+        front.copy_from_slice(&bytes[..HEADER_SIZE]);
+        Ok((LinkMessageBuffer { bytes: front }, &bytes[HEADER_SIZE..]))
     }
 }

@@ -118,7 +118,8 @@ impl LinkMessage {
         let _len = nlas_write(self.attributes.as_slice(), room(buffer, HEADER_SIZE..));
     }
 
-    /// Whether some attribute is an empty list of ports, which can be read and not written.
+    /// Whether some attribute is an empty list of ports. It is read, it fits, and `emit` writes it; but it has no
+    /// canonical encoding, so that `canonical` and `to_vec` refuse its message.
     pub fn has_empty_ports(&self) -> bool {
         for attribute in self.attributes.as_slice() {
             if attribute.is_empty_ports() {

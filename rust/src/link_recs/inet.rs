@@ -163,8 +163,7 @@ impl InetDevConf {
         InetDevConf::read(payload)
     }
 
-    /// Reads a record from the front of the payload. A payload of fewer than `INET_DEV_CONF_SIZE` bytes is refused with
-    /// `TooShort`.
+    /// Reads a record from the front of the payload. A payload of fewer than 136 bytes is refused with `TooShort`.
     ///
     /// # Errors
     ///
@@ -173,18 +172,18 @@ impl InetDevConf {
         InetDevConf::parse_sized(payload)
     }
 
-    /// The number of bytes that `emit` writes, `INET_DEV_CONF_SIZE`.
+    /// The number of bytes that `emit` writes, 136.
     pub(crate) fn buffer_len(&self) -> usize {
         INET_DEV_CONF_SIZE
     }
 
-    /// Writes the record to a buffer of exactly `INET_DEV_CONF_SIZE` bytes.
+    /// Writes the record to a buffer of exactly 136 bytes.
     pub(crate) fn emit(&self, buffer: &mut [u8]) {
         self.write(buffer);
     }
 
-    /// Writes the record to the end of a buffer of at least `INET_DEV_CONF_SIZE` bytes, keeps the bytes before it, and
-    /// returns where it starts.
+    /// Writes the record to the end of a buffer of at least 136 bytes, keeps the bytes before it, and returns where it
+    /// starts.
     pub(crate) fn fill(&self, buffer: &mut [u8]) -> usize {
         self.fill_back(buffer)
     }

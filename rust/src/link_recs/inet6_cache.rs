@@ -53,8 +53,7 @@ impl Record<INET6_CACHE_INFO_SIZE> for Inet6CacheInfo {
 impl PlainRecord<INET6_CACHE_INFO_SIZE> for Inet6CacheInfo {}
 
 impl Inet6CacheInfo {
-    /// Reads a record from the front of the payload. A payload of fewer than `INET6_CACHE_INFO_SIZE` bytes is refused
-    /// with `TooShort`.
+    /// Reads a record from the front of the payload. A payload of fewer than 16 bytes is refused with `TooShort`.
     ///
     /// # Errors
     ///
@@ -63,18 +62,18 @@ impl Inet6CacheInfo {
         Inet6CacheInfo::parse_sized(payload)
     }
 
-    /// The number of bytes that `emit` writes, `INET6_CACHE_INFO_SIZE`.
+    /// The number of bytes that `emit` writes, 16.
     pub(crate) fn buffer_len(&self) -> usize {
         INET6_CACHE_INFO_SIZE
     }
 
-    /// Writes the record to a buffer of exactly `INET6_CACHE_INFO_SIZE` bytes.
+    /// Writes the record to a buffer of exactly 16 bytes.
     pub(crate) fn emit(&self, buffer: &mut [u8]) {
         self.write(buffer);
     }
 
-    /// Writes the record to the end of a buffer of at least `INET6_CACHE_INFO_SIZE` bytes, keeps the bytes before it,
-    /// and returns where it starts.
+    /// Writes the record to the end of a buffer of at least 16 bytes, keeps the bytes before it, and returns where it
+    /// starts.
     pub(crate) fn fill(&self, buffer: &mut [u8]) -> usize {
         self.fill_back(buffer)
     }

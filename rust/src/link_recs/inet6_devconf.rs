@@ -237,8 +237,7 @@ impl Inet6DevConf {
         Inet6DevConf::read(payload)
     }
 
-    /// Reads a record from the front of the payload. A payload of fewer than `INET6_DEV_CONF_SIZE` bytes is refused
-    /// with `TooShort`.
+    /// Reads a record from the front of the payload. A payload of fewer than 240 bytes is refused with `TooShort`.
     ///
     /// # Errors
     ///
@@ -247,18 +246,18 @@ impl Inet6DevConf {
         Inet6DevConf::parse_sized(payload)
     }
 
-    /// The number of bytes that `emit` writes, `INET6_DEV_CONF_SIZE`.
+    /// The number of bytes that `emit` writes, 240.
     pub(crate) fn buffer_len(&self) -> usize {
         INET6_DEV_CONF_SIZE
     }
 
-    /// Writes the record to a buffer of exactly `INET6_DEV_CONF_SIZE` bytes.
+    /// Writes the record to a buffer of exactly 240 bytes.
     pub(crate) fn emit(&self, buffer: &mut [u8]) {
         self.write(buffer);
     }
 
-    /// Writes the record to the end of a buffer of at least `INET6_DEV_CONF_SIZE` bytes, keeps the bytes before it, and
-    /// returns where it starts.
+    /// Writes the record to the end of a buffer of at least 240 bytes, keeps the bytes before it, and returns where it
+    /// starts.
     pub(crate) fn fill(&self, buffer: &mut [u8]) -> usize {
         self.fill_back(buffer)
     }

@@ -69,8 +69,7 @@ impl Icmp6Stats {
         Icmp6Stats::read(payload)
     }
 
-    /// Reads a record from the front of the payload. A payload of fewer than `ICMP6_STATS_SIZE` bytes is refused with
-    /// `TooShort`.
+    /// Reads a record from the front of the payload. A payload of fewer than 56 bytes is refused with `TooShort`.
     ///
     /// # Errors
     ///
@@ -79,18 +78,18 @@ impl Icmp6Stats {
         Icmp6Stats::parse_sized(payload)
     }
 
-    /// The number of bytes that `emit` writes, `ICMP6_STATS_SIZE`.
+    /// The number of bytes that `emit` writes, 56.
     pub(crate) fn buffer_len(&self) -> usize {
         ICMP6_STATS_SIZE
     }
 
-    /// Writes the record to a buffer of exactly `ICMP6_STATS_SIZE` bytes.
+    /// Writes the record to a buffer of exactly 56 bytes.
     pub(crate) fn emit(&self, buffer: &mut [u8]) {
         self.write(buffer);
     }
 
-    /// Writes the record to the end of a buffer of at least `ICMP6_STATS_SIZE` bytes, keeps the bytes before it, and
-    /// returns where it starts.
+    /// Writes the record to the end of a buffer of at least 56 bytes, keeps the bytes before it, and returns where it
+    /// starts.
     pub(crate) fn fill(&self, buffer: &mut [u8]) -> usize {
         self.fill_back(buffer)
     }

@@ -195,8 +195,7 @@ impl Inet6Stats {
         Inet6Stats::read(payload)
     }
 
-    /// Reads a record from the front of the payload. A payload of fewer than `INET6_STATS_SIZE` bytes is refused with
-    /// `TooShort`.
+    /// Reads a record from the front of the payload. A payload of fewer than 312 bytes is refused with `TooShort`.
     ///
     /// # Errors
     ///
@@ -205,18 +204,18 @@ impl Inet6Stats {
         Inet6Stats::parse_sized(payload)
     }
 
-    /// The number of bytes that `emit` writes, `INET6_STATS_SIZE`.
+    /// The number of bytes that `emit` writes, 312.
     pub(crate) fn buffer_len(&self) -> usize {
         INET6_STATS_SIZE
     }
 
-    /// Writes the record to a buffer of exactly `INET6_STATS_SIZE` bytes.
+    /// Writes the record to a buffer of exactly 312 bytes.
     pub(crate) fn emit(&self, buffer: &mut [u8]) {
         self.write(buffer);
     }
 
-    /// Writes the record to the end of a buffer of at least `INET6_STATS_SIZE` bytes, keeps the bytes before it, and
-    /// returns where it starts.
+    /// Writes the record to the end of a buffer of at least 312 bytes, keeps the bytes before it, and returns where it
+    /// starts.
     pub(crate) fn fill(&self, buffer: &mut [u8]) -> usize {
         self.fill_back(buffer)
     }

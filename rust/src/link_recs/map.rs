@@ -9,10 +9,9 @@ pub const MAP_SIZE: usize = 32;
 
 /// The places in the machine of a link's device (IFLA_MAP).
 ///
-/// `struct rtnl_link_ifmap` of linux/if_link.h, numbers with the lowest byte first: `memory_start`
-/// at 0, `memory_end` at 8 and `base_address` at 16, of eight bytes; `irq` at 24, of two; `dma` at
-/// 26 and `port` at 27, of one; then four bytes of padding, which are not read and written as
-/// zeros.
+/// `struct rtnl_link_ifmap` of linux/if_link.h, 32 bytes, numbers with the lowest byte first: `memory_start` at 0,
+/// `memory_end` at 8 and `base_address` at 16, of eight bytes; `irq` at 24, of two; `dma` at 26 and `port` at 27, of
+/// one; then four bytes of padding, which are not read and written as zeros.
 #[derive(Clone, Copy, Debug, Default, PartialEq, Eq, Hash)]
 pub struct Map {
     pub memory_start: u64,
@@ -46,8 +45,7 @@ impl Record<MAP_SIZE> for Map {
 }
 
 impl Map {
-    /// Reads a record from the front of the payload. A payload of fewer than `MAP_SIZE` bytes is refused with
-    /// `TooShort`.
+    /// Reads a record from the front of the payload. A payload of fewer than 32 bytes is refused with `TooShort`.
     ///
     /// # Errors
     ///
@@ -56,18 +54,18 @@ impl Map {
         Map::parse_sized(payload)
     }
 
-    /// The number of bytes that `emit` writes, `MAP_SIZE`.
+    /// The number of bytes that `emit` writes, 32.
     pub(crate) fn buffer_len(&self) -> usize {
         MAP_SIZE
     }
 
-    /// Writes the record to a buffer of exactly `MAP_SIZE` bytes.
+    /// Writes the record to a buffer of exactly 32 bytes.
     pub(crate) fn emit(&self, buffer: &mut [u8]) {
         self.write(buffer);
     }
 
-    /// Writes the record to the end of a buffer of at least `MAP_SIZE` bytes, keeps the bytes before it, and returns
-    /// where it starts.
+    /// Writes the record to the end of a buffer of at least 32 bytes, keeps the bytes before it, and returns where it
+    /// starts.
     pub(crate) fn fill(&self, buffer: &mut [u8]) -> usize {
         self.fill_back(buffer)
     }

@@ -137,18 +137,18 @@ impl Stats {
         Stats::parse_filled(payload)
     }
 
-    /// The number of bytes that `emit` writes, `STATS_SIZE`.
+    /// The number of bytes that `emit` writes, 96.
     pub(crate) fn buffer_len(&self) -> usize {
         STATS_SIZE
     }
 
-    /// Writes the record to a buffer of exactly `STATS_SIZE` bytes.
+    /// Writes the record to a buffer of exactly 96 bytes.
     pub(crate) fn emit(&self, buffer: &mut [u8]) {
         self.write(buffer);
     }
 
-    /// Writes the record to the end of a buffer of at least `STATS_SIZE` bytes, keeps the bytes before it, and returns
-    /// where it starts.
+    /// Writes the record to the end of a buffer of at least 96 bytes, keeps the bytes before it, and returns where it
+    /// starts.
     pub(crate) fn fill(&self, buffer: &mut [u8]) -> usize {
         self.fill_back(buffer)
     }

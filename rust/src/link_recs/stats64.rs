@@ -140,18 +140,18 @@ impl Stats64 {
         Stats64::parse_filled(payload)
     }
 
-    /// The number of bytes that `emit` writes, `STATS64_SIZE`.
+    /// The number of bytes that `emit` writes, 200.
     pub(crate) fn buffer_len(&self) -> usize {
         STATS64_SIZE
     }
 
-    /// Writes the record to a buffer of exactly `STATS64_SIZE` bytes.
+    /// Writes the record to a buffer of exactly 200 bytes.
     pub(crate) fn emit(&self, buffer: &mut [u8]) {
         self.write(buffer);
     }
 
-    /// Writes the record to the end of a buffer of at least `STATS64_SIZE` bytes, keeps the bytes before it, and
-    /// returns where it starts.
+    /// Writes the record to the end of a buffer of at least 200 bytes, keeps the bytes before it, and returns where it
+    /// starts.
     pub(crate) fn fill(&self, buffer: &mut [u8]) -> usize {
         self.fill_back(buffer)
     }

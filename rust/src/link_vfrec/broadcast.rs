@@ -9,8 +9,7 @@ pub const VF_INFO_BROADCAST_SIZE: usize = 32;
 
 /// The broadcast address of a virtual function (IFLA_VF_BROADCAST).
 ///
-/// `struct ifla_vf_broadcast` of linux/if_link.h: the address at 0, of 32 bytes, with zeros after
-/// a shorter one.
+/// `struct ifla_vf_broadcast` of linux/if_link.h, 32 bytes: the address at 0, with zeros after a shorter one.
 #[derive(Clone, Copy, Debug, Default, PartialEq, Eq, Hash)]
 pub struct VfInfoBroadcast {
     pub addr: [u8; 32],
@@ -33,8 +32,7 @@ impl VfInfoBroadcast {
         VfInfoBroadcast { addr: zero_filled_32(addr) }
     }
 
-    /// Reads a record from the front of the payload. A payload of fewer than `VF_INFO_BROADCAST_SIZE` bytes is refused
-    /// with `TooShort`.
+    /// Reads a record from the front of the payload. A payload of fewer than 32 bytes is refused with `TooShort`.
     ///
     /// # Errors
     ///
@@ -43,12 +41,12 @@ impl VfInfoBroadcast {
         VfInfoBroadcast::parse_sized(payload)
     }
 
-    /// The number of bytes that `emit` writes, `VF_INFO_BROADCAST_SIZE`.
+    /// The number of bytes that `emit` writes, 32.
     pub(crate) fn buffer_len(&self) -> usize {
         VF_INFO_BROADCAST_SIZE
     }
 
-    /// Writes the record to a buffer of exactly `VF_INFO_BROADCAST_SIZE` bytes.
+    /// Writes the record to a buffer of exactly 32 bytes.
     pub(crate) fn emit(&self, buffer: &mut [u8]) {
         self.write(buffer);
     }

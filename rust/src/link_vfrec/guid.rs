@@ -9,9 +9,8 @@ pub const VF_INFO_GUID_SIZE: usize = 16;
 
 /// A global identifier of a virtual function (IFLA_VF_IB_NODE_GUID, IFLA_VF_IB_PORT_GUID).
 ///
-/// `struct ifla_vf_guid` of linux/if_link.h, numbers with the lowest byte first: `vf_id` at 0, of
-/// four bytes; four bytes of padding, which are not read and written as zeros; `guid` at 8, of
-/// eight bytes.
+/// `struct ifla_vf_guid` of linux/if_link.h, 16 bytes, numbers with the lowest byte first: `vf_id` at 0, of four bytes;
+/// four bytes of padding, which are not read and written as zeros; `guid` at 8, of eight bytes.
 #[derive(Clone, Copy, Debug, Default, PartialEq, Eq, Hash)]
 pub struct VfInfoGuid {
     pub vf_id: u32,
@@ -37,8 +36,7 @@ impl VfInfoGuid {
         VfInfoGuid { vf_id, guid }
     }
 
-    /// Reads a record from the front of the payload. A payload of fewer than `VF_INFO_GUID_SIZE` bytes is refused with
-    /// `TooShort`.
+    /// Reads a record from the front of the payload. A payload of fewer than 16 bytes is refused with `TooShort`.
     ///
     /// # Errors
     ///
@@ -47,12 +45,12 @@ impl VfInfoGuid {
         VfInfoGuid::parse_sized(payload)
     }
 
-    /// The number of bytes that `emit` writes, `VF_INFO_GUID_SIZE`.
+    /// The number of bytes that `emit` writes, 16.
     pub(crate) fn buffer_len(&self) -> usize {
         VF_INFO_GUID_SIZE
     }
 
-    /// Writes the record to a buffer of exactly `VF_INFO_GUID_SIZE` bytes.
+    /// Writes the record to a buffer of exactly 16 bytes.
     pub(crate) fn emit(&self, buffer: &mut [u8]) {
         self.write(buffer);
     }

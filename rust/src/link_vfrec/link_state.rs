@@ -10,8 +10,8 @@ pub const VF_INFO_LINK_STATE_SIZE: usize = 8;
 
 /// How the link of a virtual function follows that of its device (IFLA_VF_LINK_STATE).
 ///
-/// `struct ifla_vf_link_state` of linux/if_link.h, numbers of four bytes, lowest byte first:
-/// `vf_id` at 0; the number of `state` at 4.
+/// `struct ifla_vf_link_state` of linux/if_link.h, 8 bytes, numbers of four bytes, lowest byte first: `vf_id` at 0; the
+/// number of `state` at 4.
 #[derive(Clone, Copy, Debug, Default, PartialEq, Eq, Hash)]
 pub struct VfInfoLinkState {
     pub vf_id: u32,
@@ -36,8 +36,7 @@ impl VfInfoLinkState {
         VfInfoLinkState { vf_id, state }
     }
 
-    /// Reads a record from the front of the payload. A payload of fewer than `VF_INFO_LINK_STATE_SIZE` bytes is refused
-    /// with `TooShort`.
+    /// Reads a record from the front of the payload. A payload of fewer than 8 bytes is refused with `TooShort`.
     ///
     /// # Errors
     ///
@@ -46,12 +45,12 @@ impl VfInfoLinkState {
         VfInfoLinkState::parse_sized(payload)
     }
 
-    /// The number of bytes that `emit` writes, `VF_INFO_LINK_STATE_SIZE`.
+    /// The number of bytes that `emit` writes, 8.
     pub(crate) fn buffer_len(&self) -> usize {
         VF_INFO_LINK_STATE_SIZE
     }
 
-    /// Writes the record to a buffer of exactly `VF_INFO_LINK_STATE_SIZE` bytes.
+    /// Writes the record to a buffer of exactly 8 bytes.
     pub(crate) fn emit(&self, buffer: &mut [u8]) {
         self.write(buffer);
     }

@@ -9,8 +9,8 @@ pub const VF_INFO_MAC_SIZE: usize = 36;
 
 /// The hardware address of a virtual function (IFLA_VF_MAC).
 ///
-/// `struct ifla_vf_mac` of linux/if_link.h: `vf_id` at 0, of four bytes, lowest byte first; the
-/// address at 4, of 32 bytes, with zeros after a shorter one.
+/// `struct ifla_vf_mac` of linux/if_link.h, 36 bytes: `vf_id` at 0, of four bytes, lowest byte first; the address at 4,
+/// of 32 bytes, with zeros after a shorter one.
 #[derive(Clone, Copy, Debug, Default, PartialEq, Eq, Hash)]
 pub struct VfInfoMac {
     pub vf_id: u32,
@@ -35,8 +35,7 @@ impl VfInfoMac {
         VfInfoMac { vf_id, mac: zero_filled_32(mac) }
     }
 
-    /// Reads a record from the front of the payload. A payload of fewer than `VF_INFO_MAC_SIZE` bytes is refused with
-    /// `TooShort`.
+    /// Reads a record from the front of the payload. A payload of fewer than 36 bytes is refused with `TooShort`.
     ///
     /// # Errors
     ///
@@ -45,12 +44,12 @@ impl VfInfoMac {
         VfInfoMac::parse_sized(payload)
     }
 
-    /// The number of bytes that `emit` writes, `VF_INFO_MAC_SIZE`.
+    /// The number of bytes that `emit` writes, 36.
     pub(crate) fn buffer_len(&self) -> usize {
         VF_INFO_MAC_SIZE
     }
 
-    /// Writes the record to a buffer of exactly `VF_INFO_MAC_SIZE` bytes.
+    /// Writes the record to a buffer of exactly 36 bytes.
     pub(crate) fn emit(&self, buffer: &mut [u8]) {
         self.write(buffer);
     }

@@ -9,8 +9,8 @@ pub const VF_INFO_RATE_SIZE: usize = 12;
 
 /// The bounds of the rate of transmission of a virtual function (IFLA_VF_RATE).
 ///
-/// `struct ifla_vf_rate` of linux/if_link.h, numbers of four bytes, lowest byte first: `vf_id` at
-/// 0; `min_tx_rate` at 4 and `max_tx_rate` at 8, in megabits a second.
+/// `struct ifla_vf_rate` of linux/if_link.h, 12 bytes, numbers of four bytes, lowest byte first: `vf_id` at 0;
+/// `min_tx_rate` at 4 and `max_tx_rate` at 8, in megabits a second.
 #[derive(Clone, Copy, Debug, Default, PartialEq, Eq, Hash)]
 pub struct VfInfoRate {
     pub vf_id: u32,
@@ -37,8 +37,7 @@ impl VfInfoRate {
         VfInfoRate { vf_id, min_tx_rate, max_tx_rate }
     }
 
-    /// Reads a record from the front of the payload. A payload of fewer than `VF_INFO_RATE_SIZE` bytes is refused with
-    /// `TooShort`.
+    /// Reads a record from the front of the payload. A payload of fewer than 12 bytes is refused with `TooShort`.
     ///
     /// # Errors
     ///
@@ -47,12 +46,12 @@ impl VfInfoRate {
         VfInfoRate::parse_sized(payload)
     }
 
-    /// The number of bytes that `emit` writes, `VF_INFO_RATE_SIZE`.
+    /// The number of bytes that `emit` writes, 12.
     pub(crate) fn buffer_len(&self) -> usize {
         VF_INFO_RATE_SIZE
     }
 
-    /// Writes the record to a buffer of exactly `VF_INFO_RATE_SIZE` bytes.
+    /// Writes the record to a buffer of exactly 12 bytes.
     pub(crate) fn emit(&self, buffer: &mut [u8]) {
         self.write(buffer);
     }

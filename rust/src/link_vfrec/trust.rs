@@ -10,8 +10,8 @@ pub const VF_INFO_TRUST_SIZE: usize = 8;
 
 /// Whether a virtual function is trusted (IFLA_VF_TRUST).
 ///
-/// `struct ifla_vf_trust` of linux/if_link.h, numbers of four bytes, lowest byte first: `vf_id` at
-/// 0; at 4 the setting, where 0 and 4294967295 are off and all else is on. It is written as 0 or 1.
+/// `struct ifla_vf_trust` of linux/if_link.h, 8 bytes, numbers of four bytes, lowest byte first: `vf_id` at 0; at 4 the
+/// setting, where 0 and 4294967295 are off and all else is on. It is written as 0 or 1.
 #[derive(Clone, Copy, Debug, Default, PartialEq, Eq, Hash)]
 pub struct VfInfoTrust {
     pub vf_id: u32,
@@ -36,8 +36,7 @@ impl VfInfoTrust {
         VfInfoTrust { vf_id, enabled }
     }
 
-    /// Reads a record from the front of the payload. A payload of fewer than `VF_INFO_TRUST_SIZE` bytes is refused with
-    /// `TooShort`.
+    /// Reads a record from the front of the payload. A payload of fewer than 8 bytes is refused with `TooShort`.
     ///
     /// # Errors
     ///
@@ -46,12 +45,12 @@ impl VfInfoTrust {
         VfInfoTrust::parse_sized(payload)
     }
 
-    /// The number of bytes that `emit` writes, `VF_INFO_TRUST_SIZE`.
+    /// The number of bytes that `emit` writes, 8.
     pub(crate) fn buffer_len(&self) -> usize {
         VF_INFO_TRUST_SIZE
     }
 
-    /// Writes the record to a buffer of exactly `VF_INFO_TRUST_SIZE` bytes.
+    /// Writes the record to a buffer of exactly 8 bytes.
     pub(crate) fn emit(&self, buffer: &mut [u8]) {
         self.write(buffer);
     }

@@ -9,8 +9,8 @@ pub const VF_INFO_TX_RATE_SIZE: usize = 8;
 
 /// The greatest rate of transmission of a virtual function (IFLA_VF_TX_RATE).
 ///
-/// `struct ifla_vf_tx_rate` of linux/if_link.h, numbers of four bytes, lowest byte first: `vf_id`
-/// at 0; `rate` at 4, in megabits a second, where 0 is no bound.
+/// `struct ifla_vf_tx_rate` of linux/if_link.h, 8 bytes, numbers of four bytes, lowest byte first: `vf_id` at 0; `rate`
+/// at 4, in megabits a second, where 0 is no bound.
 #[derive(Clone, Copy, Debug, Default, PartialEq, Eq, Hash)]
 pub struct VfInfoTxRate {
     pub vf_id: u32,
@@ -35,8 +35,7 @@ impl VfInfoTxRate {
         VfInfoTxRate { vf_id, rate }
     }
 
-    /// Reads a record from the front of the payload. A payload of fewer than `VF_INFO_TX_RATE_SIZE` bytes is refused
-    /// with `TooShort`.
+    /// Reads a record from the front of the payload. A payload of fewer than 8 bytes is refused with `TooShort`.
     ///
     /// # Errors
     ///
@@ -45,12 +44,12 @@ impl VfInfoTxRate {
         VfInfoTxRate::parse_sized(payload)
     }
 
-    /// The number of bytes that `emit` writes, `VF_INFO_TX_RATE_SIZE`.
+    /// The number of bytes that `emit` writes, 8.
     pub(crate) fn buffer_len(&self) -> usize {
         VF_INFO_TX_RATE_SIZE
     }
 
-    /// Writes the record to a buffer of exactly `VF_INFO_TX_RATE_SIZE` bytes.
+    /// Writes the record to a buffer of exactly 8 bytes.
     pub(crate) fn emit(&self, buffer: &mut [u8]) {
         self.write(buffer);
     }

@@ -10,10 +10,9 @@ pub const VF_VLAN_INFO_SIZE: usize = 16;
 
 /// One vlan of a virtual function (IFLA_VF_VLAN_INFO).
 ///
-/// `struct ifla_vf_vlan_info` of linux/if_link.h: `vf_id` at 0, `vlan_id` at 4, 0 to 4095, where 0
-/// turns the filter off, and `qos` at 8, of four bytes, lowest byte first; the number of `protocol`
-/// at 12, of two bytes, highest byte first; two bytes of padding, which are not read and written as
-/// zeros.
+/// `struct ifla_vf_vlan_info` of linux/if_link.h, 16 bytes: `vf_id` at 0, `vlan_id` at 4, 0 to 4095, where 0 turns the
+/// filter off, and `qos` at 8, of four bytes, lowest byte first; the number of `protocol` at 12, of two bytes, highest
+/// byte first; two bytes of padding, which are not read and written as zeros.
 #[derive(Clone, Copy, Debug, Default, PartialEq, Eq, Hash)]
 pub struct VfVlanInfo {
     pub vf_id: u32,
@@ -48,8 +47,7 @@ impl VfVlanInfo {
         VfVlanInfo { vf_id, vlan_id, qos, protocol }
     }
 
-    /// Reads a record from the front of the payload. A payload of fewer than `VF_VLAN_INFO_SIZE` bytes is refused with
-    /// `TooShort`.
+    /// Reads a record from the front of the payload. A payload of fewer than 16 bytes is refused with `TooShort`.
     ///
     /// # Errors
     ///
@@ -58,12 +56,12 @@ impl VfVlanInfo {
         VfVlanInfo::parse_sized(payload)
     }
 
-    /// The number of bytes that `emit` writes, `VF_VLAN_INFO_SIZE`.
+    /// The number of bytes that `emit` writes, 16.
     pub(crate) fn buffer_len(&self) -> usize {
         VF_VLAN_INFO_SIZE
     }
 
-    /// Writes the record to a buffer of exactly `VF_VLAN_INFO_SIZE` bytes.
+    /// Writes the record to a buffer of exactly 16 bytes.
     pub(crate) fn emit(&self, buffer: &mut [u8]) {
         buffer.copy_from_slice(VfVlanInfoBuffer::from(self).as_bytes());
     }

@@ -9,8 +9,8 @@ pub const VF_INFO_VLAN_SIZE: usize = 12;
 
 /// The vlan of a virtual function (IFLA_VF_VLAN).
 ///
-/// `struct ifla_vf_vlan` of linux/if_link.h, numbers of four bytes, lowest byte first: `vf_id` at
-/// 0; `vlan_id` at 4, 0 to 4095, where 0 turns the filter off; `qos` at 8.
+/// `struct ifla_vf_vlan` of linux/if_link.h, 12 bytes, numbers of four bytes, lowest byte first: `vf_id` at 0;
+/// `vlan_id` at 4, 0 to 4095, where 0 turns the filter off; `qos` at 8.
 #[derive(Clone, Copy, Debug, Default, PartialEq, Eq, Hash)]
 pub struct VfInfoVlan {
     pub vf_id: u32,
@@ -37,8 +37,7 @@ impl VfInfoVlan {
         VfInfoVlan { vf_id, vlan_id, qos }
     }
 
-    /// Reads a record from the front of the payload. A payload of fewer than `VF_INFO_VLAN_SIZE` bytes is refused with
-    /// `TooShort`.
+    /// Reads a record from the front of the payload. A payload of fewer than 12 bytes is refused with `TooShort`.
     ///
     /// # Errors
     ///
@@ -47,12 +46,12 @@ impl VfInfoVlan {
         VfInfoVlan::parse_sized(payload)
     }
 
-    /// The number of bytes that `emit` writes, `VF_INFO_VLAN_SIZE`.
+    /// The number of bytes that `emit` writes, 12.
     pub(crate) fn buffer_len(&self) -> usize {
         VF_INFO_VLAN_SIZE
     }
 
-    /// Writes the record to a buffer of exactly `VF_INFO_VLAN_SIZE` bytes.
+    /// Writes the record to a buffer of exactly 12 bytes.
     pub(crate) fn emit(&self, buffer: &mut [u8]) {
         self.write(buffer);
     }

@@ -2,7 +2,7 @@
 //! The data of kinds that have few attributes.
 
 use crate::link_info::style::{Member, Names, Plain, Row, Size, Style};
-use crate::link_info::tables::{BE16, IPV4, IPV6, MAC, U8, U16, U32};
+use crate::link_info::tables::{BE16, I32, IPV4, IPV6, MAC, U8, U16, U32};
 
 /// What a tun device carries (`IFF_TUN`, `IFF_TAP`, linux/if_tun.h).
 const TUN_TYPES: Names = &[(1, "tun"), (2, "tap")];
@@ -126,3 +126,12 @@ pub const WWAN: &[Row] = &[Row(1, "link-id", U32)];
 
 /// The data of an ovpn device (`IFLA_OVPN_*`, linux/if_link.h).
 pub const OVPN: &[Row] = &[Row(1, "mode", Style::Plain(Plain::Named(Size::One, OVPN_MODES)))];
+
+/// The data of an end of a veth pair (`VETH_INFO_*`, linux/veth.h): the message of the other end.
+pub const VETH: &[Row] = &[Row(1, "peer", Style::Bytes)];
+
+/// The data of an end of a vxcan pair (`VXCAN_INFO_*`, linux/can/vxcan.h): the message of the other end.
+pub const VXCAN: &[Row] = &[Row(1, "peer", Style::Bytes)];
+
+/// The data of a ppp interface (`IFLA_PPP_*`, linux/if_link.h). Kernels send none of it.
+pub const PPP: &[Row] = &[Row(1, "dev-fd", I32)];
