@@ -41,7 +41,7 @@ programs() {
     for name in "${names[@]}"; do
         stage "program.sh $name" scripts/program.sh "$name"
     done
-    python3 scripts/state_tests.py crates/linkstate/out/linkstate crates/linkwire/out/linkwire ${KERNELS:+"$KERNELS"}
+    python3 scripts/state_tests.py crates/linkstate/out/linkstate crates/linkwire/out/linkwire
     stage diff_tests.py python3 scripts/diff_tests.py crates/linkdiff/out/linkdiff crates/linkshow/out/linkshow \
         crates/linkstate/out/linkstate crates/linkwire/out/linkwire
     python3 scripts/show_rows.py --check

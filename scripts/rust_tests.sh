@@ -66,12 +66,13 @@ python3 "$top/scripts/rust_lines.py" "$folder/lines" "$count"
 answers=$(cut -c 1-7 "$folder/wanted" | cut -d ' ' -f 1 | sort | uniq -c | awk '{ printf ", %s %s", $1, $2 }')
 echo "rust: $(wc -l <"$folder/lines") lines: the same bytes$answers"
 linkstate=$top/crates/linkstate/out/linkstate
+[ -x "$linkstate" ] || linkstate=$top/out/linkstate
 if [ -x "$linkstate" ]; then
     "$linkstate" <"$folder/lines" >"$folder/wanted"
     "$example" state <"$folder/lines" | cmp - "$folder/wanted"
     echo "rust: by the state encoding: the same bytes, $(grep -c '^ok ' "$folder/wanted") states"
 else
-    echo 'rust: by the state encoding: skipped: crates/linkstate is not built'
+    echo 'rust: by the state encoding: skipped: the program linkstate is not built'
 fi
 LINKWIRE_LINES=$folder/lines runs cargo test --locked --release --test stored lines -- --nocapture
 echo "rust: the calls agree on $(sed -nE 's/^(test .* [.]{3} )?([0-9]+ messages).*/\2/p' "$folder/log")"
