@@ -49,10 +49,15 @@ host() {
     echo "2/host$1" >>"$folder/hosts"
 }
 
-# serves NUMBER: starts the host's sshd
+# serves NUMBER: starts the host's sshd, which listens a moment after it went into the background
 serves() {
+    local try
     ip netns exec "host$1" "$sshd" -f "$folder/config.$1" -E "$folder/sshd.$1"
-    ssh -F "$folder/ssh_config" "host$1" true 2>"$folder/err" || skips "no ssh to a host: $(cat "$folder/err")"
+    for ((try = 0; try < 50; try++)); do
+        if ssh -F "$folder/ssh_config" "host$1" true 2>"$folder/err"; then return; fi
+        sleep 0.2
+    done
+    skips "no ssh to a host: $(cat "$folder/err")"
 }
 
 # Waits until the third host has ended a job and is in the middle of another, and kills all that runs there.
