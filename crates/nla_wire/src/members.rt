@@ -3,7 +3,7 @@
 ghost use Rattle.std.specs.Prelude.{◌≡◌, ◌≢◌, ◌*◌, ◌≤◌, List, length, IfOk, IfErr, MatchResult};
 ghost use Rattle.nla_wire.specs.Sizes.{most_payload};
 ghost use Rattle.nla_wire.specs.Grammar.{members};
-ghost use Rattle.nla_wire.specs.Canon.{canon, canons, AllFit, Weighs, HasRoom, Rewrites};
+ghost use Rattle.nla_wire.specs.Canon.{canon, canons, AllFit, Weighs, HasRoom, Rewrites, MeansLength, MeansWritten};
 ghost use Rattle.nla_wire.specs.Items.{items, frame_count};
 ghost use Rattle.nla_wire.specs.Gives.{Fails, Checks};
 ghost use Rattle.nla_wire.specs.declared.error.Cause.TheVariants.{OutOfMemory};
@@ -111,10 +111,10 @@ pub fn check_members<V: Nla + Drop, P: Place<V>>(place: &P, bytes: &[u8]) -> Res
     check_each(place, bytes)
 }
 
-/// The length of the canonical encoding of a list's members, with no memory taken; `None` where a member does not fit,
-/// or the list is refused. It is a function of its own for each place, whose loop has the registers.
+/// The length that `measure_members` returns; for the proof: its clause cites the reader alone, and those of
+/// `measure_members` follow. It is a function of its own for each place, whose loop has the registers.
 #[inline(never)]
-pub fn measure_members<V: Nla + Drop, P: Place<V>>(place: &P, bytes: &[u8]) -> Option<usize>
+fn measure_each<V: Nla + Drop, P: Place<V>>(place: &P, bytes: &[u8]) -> Option<usize>
     ensures { Weighs (canons V.frame) (AllFit V.fits V.frame)
         ((members (P.picks place.now) (P.grammar place.now)).reads bytes.now) result }
 {
@@ -136,9 +136,26 @@ pub fn measure_members<V: Nla + Drop, P: Place<V>>(place: &P, bytes: &[u8]) -> O
     Some(len)
 }
 
+/// The length of the canonical encoding of a list's members, with no memory taken; `None` where a member does not fit,
+/// or the list is refused.
+#[inline(always)]
+pub fn measure_members<V: Nla + Drop, P: Place<V>>(place: &P, bytes: &[u8]) -> Option<usize>
+    ensures means { MeansLength
+        ((members (P.picks place.now) (P.grammar place.now)).means bytes.now)
+        (canons V.frame) (AllFit V.fits V.frame) result }
+    ensures reads { Weighs (canons V.frame) (AllFit V.fits V.frame)
+        ((members (P.picks place.now) (P.grammar place.now)).reads bytes.now) result }
+{
+    measure_each(place, bytes)
+}
+
 /// The same where the encoding is to be the value of an attribute: `None` too where it has more than 65531 bytes.
 pub fn measure_nested_members<V: Nla + Drop, P: Place<V>>(place: &P, bytes: &[u8]) -> Option<usize>
-    ensures { Weighs (canons V.frame) (λ vs. (length (canons V.frame vs) ≤ most_payload)
+    ensures means { MeansLength
+        ((members (P.picks place.now) (P.grammar place.now)).means bytes.now)
+        (canons V.frame) (λ vs. (length (canons V.frame vs) ≤ most_payload)
+        × AllFit V.fits V.frame vs) result }
+    ensures reads { Weighs (canons V.frame) (λ vs. (length (canons V.frame vs) ≤ most_payload)
         × AllFit V.fits V.frame vs)
         ((members (P.picks place.now) (P.grammar place.now)).reads bytes.now) result }
 {
@@ -148,12 +165,10 @@ pub fn measure_nested_members<V: Nla + Drop, P: Place<V>>(place: &P, bytes: &[u8
     at_most_value(len)
 }
 
-/// Writes the canonical encoding of a list's members, one after the other, to the front of the buffer, and returns its
-/// length. The rest of the buffer is kept.
-///
-/// The list was measured, and there is room for its encoding.
+/// Writes what `write_members` writes; for the proof: its clause cites the reader alone, and those of `write_members`
+/// follow. It is a function of its own for each place, whose loop has the registers.
 #[inline(never)]
-pub fn write_members<V: Nla + Drop, P: Place<V>>(place: &P, bytes: &[u8], out: &mut [u8]) -> usize
+fn write_each<V: Nla + Drop, P: Place<V>>(place: &P, bytes: &[u8], out: &mut [u8]) -> usize
     requires { HasRoom (canons V.frame) (AllFit V.fits V.frame)
         ((members (P.picks place.now) (P.grammar place.now)).reads bytes.now) (length out.old) }
     ensures { Rewrites (canons V.frame)
@@ -172,6 +187,24 @@ pub fn write_members<V: Nla + Drop, P: Place<V>>(place: &P, bytes: &[u8], out: &
     at
 }
 
+/// Writes the canonical encoding of a list's members, one after the other, to the front of the buffer, and returns its
+/// length. The rest of the buffer is kept.
+///
+/// The list was measured, and there is room for its encoding.
+#[inline(always)]
+pub fn write_members<V: Nla + Drop, P: Place<V>>(place: &P, bytes: &[u8], out: &mut [u8]) -> usize
+    requires { HasRoom (canons V.frame) (AllFit V.fits V.frame)
+        ((members (P.picks place.now) (P.grammar place.now)).reads bytes.now) (length out.old) }
+    ensures means { MeansWritten
+        ((members (P.picks place.now) (P.grammar place.now)).means bytes.now)
+        (canons V.frame) out.old out.new result }
+    ensures reads { Rewrites (canons V.frame)
+        ((members (P.picks place.now) (P.grammar place.now)).reads bytes.now)
+        out.old out.new result }
+{
+    write_each(place, bytes, out)
+}
+
 /// Writes the attribute of this kind whose value is the canonical encoding of a list's members, as `write_members`
 /// does.
 pub fn write_nested_members<V: Nla + Drop, P: Place<V>>(
@@ -183,7 +216,11 @@ pub fn write_nested_members<V: Nla + Drop, P: Place<V>>(
     requires { HasRoom (λ vs. canon (record { kind = kind; payload = canons V.frame vs }))
         (λ vs. (length (canons V.frame vs) ≤ most_payload) × AllFit V.fits V.frame vs)
         ((members (P.picks place.now) (P.grammar place.now)).reads bytes.now) (length out.old) }
-    ensures { Rewrites (λ vs. canon (record { kind = kind; payload = canons V.frame vs }))
+    ensures means { MeansWritten
+        ((members (P.picks place.now) (P.grammar place.now)).means bytes.now)
+        (λ vs. canon (record { kind = kind; payload = canons V.frame vs }))
+        out.old out.new result }
+    ensures reads { Rewrites (λ vs. canon (record { kind = kind; payload = canons V.frame vs }))
         ((members (P.picks place.now) (P.grammar place.now)).reads bytes.now)
         out.old out.new result }
 {

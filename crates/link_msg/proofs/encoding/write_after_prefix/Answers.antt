@@ -24,4 +24,4 @@ returns c =
     AttributeFits
     d prefix c.requires.begins (length c.args.out.now - header_size) c.requires.measured
     (take (length d - prefix) (drop prefix d)) (take_rest d prefix) (header_bytes c.args.header.now) before
-    c.args.out.now c.write_members.new.out (16 + prefix) c.write_members.result begun c.write_members.ensures
+    c.args.out.now c.write_members.new.out (16 + prefix) c.write_members.result begun c.write_members.ensures.reads

@@ -1,46 +1,15 @@
-use Rattle.std.proofs.Common.{rules, ◌≡◌, arith, false}
-use Rattle.nla_wire.specs.Frames.{number}
-use Rattle.nla_wire.specs.Items.{items}
-use Rattle.nla_wire.specs.Grammar.{drops, members}
-use Rattle.nla_wire.specs.Canon.{canon}
-use Rattle.nla_wire.proofs.Written.{rewriting_starts, rewriting_on, rewriting_sum}
-use Rattle.nla_wire.proofs.Selected.{selected, selects, read_selected}
+use Rattle.std.proofs.Common.{arith}
+use Rattle.nla_wire.specs.Grammar.{members}
+use Rattle.nla_wire.specs.Canon.{canons}
+use Rattle.nla_wire.proofs.Front.{all_bytes}
+use Rattle.nla_wire.proofs.Meant.{means_written}
+use Rattle.nla_wire.proofs.Selected.{members_agree}
 use Rattle.nla_wire.proofs.members.write_members.Goals as goal
 
-pub loop-item-init : goal.loop-item-init
-loop-item-init g c =
-    let left : c.into_iter-item-iterator.result ≡ items c.args.bytes.now = cc in
+pub returns-clause-means : goal.returns-clause-means
+returns-clause-means g c =
+    let picks = g.P.Place.picks c.args.place.now in
     let place = g.P.Place.grammar c.args.place.now in
-    let picks = g.P.Place.picks c.args.place.now in
-    rewriting_starts place.reads (λ v. canon (g.V.Nla.frame v)) g.V.Nla.fits
-    ((members picks place).reads c.args.bytes.now) (selected picks c.into_iter-item-iterator.result) c.args.out.now
-    (rw left (read_selected place picks c.args.bytes.now)) c.requires
-
-pub overflow_add-at : goal.overflow_add-at
-overflow_add-at g c =
-    let picks = g.P.Place.picks c.args.place.now in
-    let kept : drops picks (number c.in-Ok.frame) ≡ false =
-    search (rules, c.if-not-drops.true, c.drops.ensures, c.kind.ensures) in
-    let steps = selects picks c.in-Ok.frame c.loop-item.item-iterator c.next.new.self
-    (rw c.in-Ok.is at c.in-Some.ensures.steps) kept in
-    omega (
-      arith,
-      rewriting_sum (g.P.Place.grammar c.args.place.now).reads (λ v. canon (g.V.Nla.frame v)) g.V.Nla.fits
-          ((members picks (g.P.Place.grammar c.args.place.now)).reads c.args.bytes.now)
-          (selected picks c.loop-item.item-iterator) c.loop-item.at c.args.out.now c.loop-item.out
-          c.loop-item.invariant c.in-Ok.frame (selected picks c.next.new.self) c.write-at.new.out
-          c.write-at.result steps c.write-at.ensures,
-    )
-
-pub loop-item-preserved-then-not-drops : goal.loop-item-preserved-then-not-drops
-loop-item-preserved-then-not-drops g c =
-    let picks = g.P.Place.picks c.args.place.now in
-    let kept : drops picks (number c.in-Ok.frame) ≡ false =
-    search (rules, c.if-not-drops.true, c.drops.ensures, c.kind.ensures) in
-    let steps = selects picks c.in-Ok.frame c.loop-item.item-iterator c.next.new.self
-    (rw c.in-Ok.is at c.in-Some.ensures.steps) kept in
-    rewriting_on (g.P.Place.grammar c.args.place.now).reads (λ v. canon (g.V.Nla.frame v)) g.V.Nla.fits
-    ((members picks (g.P.Place.grammar c.args.place.now)).reads c.args.bytes.now)
-    (selected picks c.loop-item.item-iterator) c.loop-item.at c.args.out.now c.loop-item.out
-    c.loop-item.invariant c.in-Ok.frame (selected picks c.next.new.self) c.write-at.new.out
-    c.write-at.result steps c.write-at.auto.out c.write-at.ensures
+    means_written (members picks place) (members_agree place picks (g.met.P.Place.agrees c.args.place.now))
+    c.args.bytes.now (all_bytes c.args.bytes.now (λ i. omega (arith, c.type_inv.bytes i))) (canons g.V.Nla.frame)
+    c.args.out.now c.write_each.new.out c.write_each.result c.write_each.ensures

@@ -2,7 +2,7 @@ use Rattle.nla_wire.specs.Canon.{canon}
 use Rattle.nla_wire.specs.Grammar.{members}
 use Rattle.nla_wire.proofs.Written.{Weighing}
 use Rattle.nla_wire.proofs.Selected.{selected}
-use Rattle.nla_wire.proofs.members.measure_members.Given as goal
+use Rattle.nla_wire.proofs.members.measure_each.Given as goal
 
 abbrev pub invariant-loop-item : goal.invariant-loop-item
 invariant-loop-item g l =
