@@ -778,6 +778,8 @@ def compare_names(ours, kernel, report):
     for crate in CRATES:
         code = ours.code(crate + "/src/*.rt")
         rows = re.findall(r'\b([A-Z]\w+) => "(\w+)",', code)
+        lists = re.findall(r'\bkind_names!\(\w+;([\w\s,]*)\)', code)
+        rows += [(name, name) for names in lists for name in re.findall(r'\w+', names)]
         rows += re.findall(r'const NUMBER: u16 = (\w+);\s*const NAME: &\'static str = "(\w+)";', code)
         for constant, name in rows:
             report.compare("names of faults", constant, ("constant", constant, name))

@@ -56,7 +56,7 @@ told() {
 }
 changes "$text" "$instruction" told "$text is not the text of dist/SUMS"
 changes dist/SUMS "s/^....\(.*  dist\/$arch\/linkwire\.s\)/0000\1/" told "$text is not the text of dist/SUMS"
-changes crates/nla_wire/src/read.rt '$a// changed' told 'crates/nla_wire/src/read.rt changed since dist/ was made'
+changes crates/nla_wire/src/nla_read.rt '$a// changed' told 'crates/nla_wire/src/nla_read.rt changed since dist/ was made'
 changes crates.txt 's/^link_msg: /link_msg: memchr /' \
     told 'the line of link_msg in crates.txt changed since dist/ was made'
 touch crates/link_msg/src/another.rt
@@ -71,7 +71,7 @@ mv "$folder/crates.txt" crates.txt
 
 # where nobody can tell whether they fit, nothing is built: without a command, or without the script; its mode is no
 # matter
-read_rt=crates/nla_wire/src/read.rt
+read_rt=crates/nla_wire/src/nla_read.rt
 nobody_tells="scripts/sums.sh, which needs bash and sha256sum, does not say whether dist/ fits the crates: "
 untold() {
     mkdir "$folder/few"
@@ -140,10 +140,10 @@ ar rc "$folder/c/liblibc_c.a"
 proved() {
     PATH=$folder/rt:$PATH make -s run >"$folder/out" 2>"$folder/err" </dev/null
     grep -qx proved "$folder/out"
-    grep -qx 'crates/nla_wire/src/read.rt changed since dist/ was made: proving linkwire' "$folder/err"
+    grep -qx 'crates/nla_wire/src/nla_read.rt changed since dist/ was made: proving linkwire' "$folder/err"
     echo 'test_dist: what changed is proved where rt is: ok'
 }
-changes crates/nla_wire/src/read.rt '$a// changed' proved
+changes crates/nla_wire/src/nla_read.rt '$a// changed' proved
 [ "$(echo 0 | make -s run)" = nothex ]
 PATH=$folder/rt:$PATH make -s run PROVE=1 2>"$folder/err" </dev/null | grep -qx proved
 [ "$(echo 0 | make -s run)" = nothex ]

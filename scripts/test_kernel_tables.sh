@@ -61,10 +61,9 @@ slip() {
 }
 
 # names of faults
-slip 'a fault told by another name' 'IFLA_MTU: constant IFLA_MTU' 's/(IFLA_MTU => )"IFLA_MTU"/\1"IFLA_LINK"/' \
-    link_msg/src/kind_names.rt
-slip 'a line without a name for faults' 'IFLA_VF_TRUST has no name' 's/IFLA_VF_TRUST => "IFLA_VF_TRUST",//' \
-    link_vf/src/vf_info.rt
+slip 'a fault told by another name' 'IFLA_VF_INFO: constant IFLA_VF_INFO' 's/"IFLA_VF_INFO"/"IFLA_VF_PORT"/' \
+    link_vf/src/vf_list.rt
+slip 'a line without a name for faults' 'IFLA_VF_TRUST has no name' 's/^ +IFLA_VF_TRUST,$//' link_vf/src/vf_info.rt
 
 # records
 slip "a record's size" 'Map: size 28' 's/(MAP_SIZE: usize = )32/\128/' link_recs/src/map.rt

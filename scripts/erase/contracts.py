@@ -108,6 +108,18 @@ def drop_tests(s):
             s.drop(i, s.match.get(end, end))
 
 
+def export_macros(s):
+    """`#[macro_export]`: crates become modules of one package, where a macro has a path by an import of its own."""
+    for i in s.live("#"):
+        if s.at(i, "#", "[", "macro_export", "]"):
+            j = s.next(i, 4)
+            if s.text[j] != "macro_rules":
+                s.fail(i, "macro_export of no macro")
+            counts["macro_export"] += 1
+            s.drop(i, j - 1)
+            s.after[s.match[s.next(j, 3)]] = f"\n\npub(crate) use {s.text[s.next(j, 2)]};"
+
+
 def drop_modules(s, names):
     """`mod NAME;` of modules that state laws, or for which a file of Rust stands."""
     for i in s.live("mod"):

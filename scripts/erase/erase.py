@@ -78,6 +78,7 @@ def states(s, mode, crate):
     """What states and proves goes."""
     contracts.drop_ghosts(s)
     contracts.drop_attributes(s)
+    contracts.export_macros(s)
     contracts.drop_clauses(s)
     if mode.is_crate:
         contracts.drop_tests(s)

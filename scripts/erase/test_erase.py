@@ -21,6 +21,7 @@ REFUSED = [
     ("impl Model for T {\n    fn f() {}\n}\n", "1: an impl of Model with more than ghosts"),
     ("impl Exact for T {\n    fn f() {}\n}\n", "1: an impl of Exact with more than ghosts"),
     ("impl Drop for T {\n    fn drop(self) {}\n}\n", "1: an impl of Drop: Rattle moves self into drop"),
+    ("#[macro_export]\nfn f() {}\n", "1: macro_export of no macro"),
     ("fn f(x: Box<Drop>) {}\n", "1: Drop other than as a bound"),
     ("impl PartialEq for T {\n    fn eq(&self, other: &T) -> bool {\n        true\n    }\n}\n",
      "1: an impl of PartialEq that is written out"),

@@ -7,7 +7,7 @@ use crate::request::{fill_request, request_len};
 use link_recs::InetDevConf;
 use nla_wire::{
     CloneIn, DecodeError, DefaultNla, Exact, NLA_F_NESTED, Nla, NlaBuffer, NlaRead, PlainRecord,
-    Record, write_value,
+    Record, kind_names, write_value,
 };
 use std::alloc::Global;
 
@@ -70,10 +70,7 @@ impl NlaRead for AfSpecInet {
     ghost grammar = { af_spec_inet_place.grammar };
 
     fn kind_name(kind: u16) -> &'static str {
-        match kind {
-            IFLA_INET_CONF => "IFLA_INET_CONF",
-            _ => "",
-        }
+        kind_names!(kind; IFLA_INET_CONF)
     }
 
     #[tactic(auto, unfolding(crate::specs::Tables::af_spec_inet_place))]

@@ -13,8 +13,8 @@ use link_vals::{In6AddrGenMode, Inet6IfaceFlags};
 use nla_wire::error::checked;
 use nla_wire::{
     CloneIn, DecodeError, DefaultNla, Exact, MOST_VALUE_LEN, Nla, NlaBuffer, NlaRead, PlainRecord,
-    Record, fill_bytes, measure_ipv6_addr, measure_u8, measure_u32, parse_ipv6_addr, parse_u8,
-    parse_u32, write_ipv6_addr_payload, write_u8_payload, write_u32_payload, write_value,
+    Record, fill_bytes, kind_names, measure_ipv6_addr, measure_u8, measure_u32, parse_ipv6_addr,
+    parse_u8, parse_u32, write_ipv6_addr_payload, write_u8_payload, write_u32_payload, write_value,
 };
 use std::alloc::Global;
 use std::net::Ipv6Addr;
@@ -121,17 +121,16 @@ impl NlaRead for AfSpecInet6 {
     ghost grammar = { af_spec_inet6_place.grammar };
 
     fn kind_name(kind: u16) -> &'static str {
-        match kind {
-            IFLA_INET6_FLAGS => "IFLA_INET6_FLAGS",
-            IFLA_INET6_CONF => "IFLA_INET6_CONF",
-            IFLA_INET6_STATS => "IFLA_INET6_STATS",
-            IFLA_INET6_CACHEINFO => "IFLA_INET6_CACHEINFO",
-            IFLA_INET6_ICMP6STATS => "IFLA_INET6_ICMP6STATS",
-            IFLA_INET6_TOKEN => "IFLA_INET6_TOKEN",
-            IFLA_INET6_ADDR_GEN_MODE => "IFLA_INET6_ADDR_GEN_MODE",
-            IFLA_INET6_RA_MTU => "IFLA_INET6_RA_MTU",
-            _ => "",
-        }
+        kind_names!(kind;
+            IFLA_INET6_FLAGS,
+            IFLA_INET6_CONF,
+            IFLA_INET6_STATS,
+            IFLA_INET6_CACHEINFO,
+            IFLA_INET6_ICMP6STATS,
+            IFLA_INET6_TOKEN,
+            IFLA_INET6_ADDR_GEN_MODE,
+            IFLA_INET6_RA_MTU,
+        )
     }
 
     #[tactic(auto, unfolding(crate::specs::Tables::af_spec_inet6_place))]

@@ -8,8 +8,8 @@ use crate::numbers::{IFLA_MCTP_NET, IFLA_MCTP_PHYS_BINDING};
 use link_vals::MctpPhysBinding;
 use nla_wire::error::checked;
 use nla_wire::{
-    CloneIn, DecodeError, DefaultNla, Exact, Flat, FlatView, Nla, NlaBuffer, NlaRead, measure_u8,
-    measure_u32, parse_u8, parse_u32, write_u8_payload, write_u32_payload, write_value,
+    CloneIn, DecodeError, DefaultNla, Exact, Flat, FlatView, Nla, NlaBuffer, NlaRead, kind_names,
+    measure_u8, measure_u32, parse_u8, parse_u32, write_u8_payload, write_u32_payload, write_value,
 };
 use std::alloc::Global;
 
@@ -63,11 +63,7 @@ impl NlaRead for AfSpecMctp {
     ghost grammar = { af_spec_mctp_place.grammar };
 
     fn kind_name(kind: u16) -> &'static str {
-        match kind {
-            IFLA_MCTP_NET => "IFLA_MCTP_NET",
-            IFLA_MCTP_PHYS_BINDING => "IFLA_MCTP_PHYS_BINDING",
-            _ => "",
-        }
+        kind_names!(kind; IFLA_MCTP_NET, IFLA_MCTP_PHYS_BINDING)
     }
 
     #[tactic(auto, unfolding(crate::specs::Tables::af_spec_mctp_place))]

@@ -3,8 +3,8 @@
 use crate::numbers::{AF_INET, AF_INET6, AF_MCTP};
 use crate::{AfSpecInet, AfSpecInet6, AfSpecMctp};
 use nla_wire::{
-    CloneIn, DecodeError, DefaultNla, Exact, List, Nla, NlaBuffer, NlaRead, empty_list, list_fits,
-    list_measure, nlas_buffer_len, nlas_fill, write_list, write_value,
+    CloneIn, DecodeError, DefaultNla, Exact, List, Nla, NlaBuffer, NlaRead, empty_list, kind_names,
+    list_fits, list_measure, nlas_buffer_len, nlas_fill, write_list, write_value,
 };
 use std::alloc::Global;
 
@@ -94,12 +94,7 @@ impl NlaRead for AfSpecUnspec {
     ghost grammar = { af_spec_unspec_place.grammar };
 
     fn kind_name(kind: u16) -> &'static str {
-        match kind {
-            AF_INET => "AF_INET",
-            AF_INET6 => "AF_INET6",
-            AF_MCTP => "AF_MCTP",
-            _ => "",
-        }
+        kind_names!(kind; AF_INET, AF_INET6, AF_MCTP)
     }
 
     #[tactic(auto, unfolding(crate::specs::Tables::af_spec_unspec_place, nla_wire::specs::Grammar::unless_empty))]

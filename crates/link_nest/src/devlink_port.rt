@@ -4,8 +4,8 @@ use crate::numbers::{DEVLINK_ATTR_BUS_NAME, DEVLINK_ATTR_DEV_NAME, DEVLINK_ATTR_
 use nla_wire::error::checked;
 use nla_wire::{
     CloneIn, DecodeError, DefaultNla, Exact, Flat, FlatView, Nla, NlaBuffer, NlaRead, Text,
-    check_string, measure_text, measure_u32, parse_string, parse_u32, write_text_payload,
-    write_u32_payload, write_value,
+    check_string, kind_names, measure_text, measure_u32, parse_string, parse_u32,
+    write_text_payload, write_u32_payload, write_value,
 };
 use std::alloc::Global;
 
@@ -52,12 +52,7 @@ impl NlaRead for DevlinkPort {
     ghost grammar = { devlink_port_place.grammar };
 
     fn kind_name(kind: u16) -> &'static str {
-        match kind {
-            DEVLINK_ATTR_BUS_NAME => "DEVLINK_ATTR_BUS_NAME",
-            DEVLINK_ATTR_DEV_NAME => "DEVLINK_ATTR_DEV_NAME",
-            DEVLINK_ATTR_PORT_INDEX => "DEVLINK_ATTR_PORT_INDEX",
-            _ => "",
-        }
+        kind_names!(kind; DEVLINK_ATTR_BUS_NAME, DEVLINK_ATTR_DEV_NAME, DEVLINK_ATTR_PORT_INDEX)
     }
 
     #[tactic(auto, unfolding(crate::specs::Tables::devlink_port_place))]

@@ -3,8 +3,8 @@
 use crate::numbers::{IFLA_PROTO_DOWN_REASON_MASK, IFLA_PROTO_DOWN_REASON_VALUE};
 use nla_wire::error::checked;
 use nla_wire::{
-    CloneIn, DecodeError, DefaultNla, Exact, Flat, FlatView, Nla, NlaBuffer, NlaRead, measure_u32,
-    parse_u32, write_u32_payload, write_value,
+    CloneIn, DecodeError, DefaultNla, Exact, Flat, FlatView, Nla, NlaBuffer, NlaRead, kind_names,
+    measure_u32, parse_u32, write_u32_payload, write_value,
 };
 use std::alloc::Global;
 
@@ -54,11 +54,7 @@ impl NlaRead for LinkProtocolDownReason {
     ghost grammar = { down_reason_place.grammar };
 
     fn kind_name(kind: u16) -> &'static str {
-        match kind {
-            IFLA_PROTO_DOWN_REASON_MASK => "IFLA_PROTO_DOWN_REASON_MASK",
-            IFLA_PROTO_DOWN_REASON_VALUE => "IFLA_PROTO_DOWN_REASON_VALUE",
-            _ => "",
-        }
+        kind_names!(kind; IFLA_PROTO_DOWN_REASON_MASK, IFLA_PROTO_DOWN_REASON_VALUE)
     }
 
     #[tactic(auto, unfolding(crate::specs::Tables::down_reason_place))]

@@ -3,8 +3,8 @@
 use crate::numbers::DPLL_A_PIN_ID;
 use nla_wire::error::checked;
 use nla_wire::{
-    CloneIn, DecodeError, DefaultNla, Exact, Flat, FlatView, Nla, NlaBuffer, NlaRead, measure_u32,
-    parse_u32, write_u32_payload, write_value,
+    CloneIn, DecodeError, DefaultNla, Exact, Flat, FlatView, Nla, NlaBuffer, NlaRead, kind_names,
+    measure_u32, parse_u32, write_u32_payload, write_value,
 };
 use std::alloc::Global;
 
@@ -45,10 +45,7 @@ impl NlaRead for DpllPin {
     ghost grammar = { dpll_pin_place.grammar };
 
     fn kind_name(kind: u16) -> &'static str {
-        match kind {
-            DPLL_A_PIN_ID => "DPLL_A_PIN_ID",
-            _ => "",
-        }
+        kind_names!(kind; DPLL_A_PIN_ID)
     }
 
     #[tactic(auto, unfolding(crate::specs::Tables::dpll_pin_place))]

@@ -3,7 +3,7 @@
 use crate::numbers::IFLA_INFO_KIND;
 use nla_wire::{
     CloneIn, DecodeError, DefaultNla, Exact, Flat, FlatView, Nla, NlaBuffer, NlaRead, Text,
-    check_string, measure_text, parse_string, write_text_payload, write_value,
+    check_string, kind_names, measure_text, parse_string, write_text_payload, write_value,
 };
 use std::alloc::Global;
 
@@ -44,10 +44,7 @@ impl NlaRead for LinkInfo {
     ghost grammar = { link_info_place.grammar };
 
     fn kind_name(kind: u16) -> &'static str {
-        match kind {
-            IFLA_INFO_KIND => "IFLA_INFO_KIND",
-            _ => "",
-        }
+        kind_names!(kind; IFLA_INFO_KIND)
     }
 
     #[tactic(auto, unfolding(crate::specs::Tables::link_info_place))]

@@ -3,7 +3,7 @@
 use crate::numbers::IFLA_ALT_IFNAME;
 use nla_wire::{
     CloneIn, DecodeError, DefaultNla, Exact, Flat, FlatView, Nla, NlaBuffer, NlaRead, Text,
-    check_string, measure_text, parse_string, write_text_payload, write_value,
+    check_string, kind_names, measure_text, parse_string, write_text_payload, write_value,
 };
 use std::alloc::Global;
 
@@ -44,10 +44,7 @@ impl NlaRead for Prop {
     ghost grammar = { prop_place.grammar };
 
     fn kind_name(kind: u16) -> &'static str {
-        match kind {
-            IFLA_ALT_IFNAME => "IFLA_ALT_IFNAME",
-            _ => "",
-        }
+        kind_names!(kind; IFLA_ALT_IFNAME)
     }
 
     #[tactic(auto, unfolding(crate::specs::Tables::prop_place))]

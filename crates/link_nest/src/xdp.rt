@@ -8,9 +8,9 @@ use crate::numbers::{
 use link_vals::XdpAttached;
 use nla_wire::error::checked;
 use nla_wire::{
-    CloneIn, DecodeError, DefaultNla, Exact, Flat, FlatView, Nla, NlaBuffer, NlaRead, measure_i32,
-    measure_u8, measure_u32, parse_i32, parse_u32, write_i32_payload, write_u8_payload,
-    write_u32_payload, write_value,
+    CloneIn, DecodeError, DefaultNla, Exact, Flat, FlatView, Nla, NlaBuffer, NlaRead, kind_names,
+    measure_i32, measure_u8, measure_u32, parse_i32, parse_u32, write_i32_payload,
+    write_u8_payload, write_u32_payload, write_value,
 };
 use std::alloc::Global;
 
@@ -72,17 +72,16 @@ impl NlaRead for LinkXdp {
     ghost grammar = { xdp_place.grammar };
 
     fn kind_name(kind: u16) -> &'static str {
-        match kind {
-            IFLA_XDP_FD => "IFLA_XDP_FD",
-            IFLA_XDP_ATTACHED => "IFLA_XDP_ATTACHED",
-            IFLA_XDP_FLAGS => "IFLA_XDP_FLAGS",
-            IFLA_XDP_PROG_ID => "IFLA_XDP_PROG_ID",
-            IFLA_XDP_DRV_PROG_ID => "IFLA_XDP_DRV_PROG_ID",
-            IFLA_XDP_SKB_PROG_ID => "IFLA_XDP_SKB_PROG_ID",
-            IFLA_XDP_HW_PROG_ID => "IFLA_XDP_HW_PROG_ID",
-            IFLA_XDP_EXPECTED_FD => "IFLA_XDP_EXPECTED_FD",
-            _ => "",
-        }
+        kind_names!(kind;
+            IFLA_XDP_FD,
+            IFLA_XDP_ATTACHED,
+            IFLA_XDP_FLAGS,
+            IFLA_XDP_PROG_ID,
+            IFLA_XDP_DRV_PROG_ID,
+            IFLA_XDP_SKB_PROG_ID,
+            IFLA_XDP_HW_PROG_ID,
+            IFLA_XDP_EXPECTED_FD,
+        )
     }
 
     #[tactic(auto, unfolding(crate::specs::Tables::xdp_place))]

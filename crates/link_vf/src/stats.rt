@@ -7,8 +7,8 @@ use crate::numbers::{
 };
 use nla_wire::error::checked;
 use nla_wire::{
-    CloneIn, DecodeError, DefaultNla, Exact, Flat, FlatView, Nla, NlaBuffer, NlaRead, measure_u64,
-    parse_u64, write_u64_payload, write_value,
+    CloneIn, DecodeError, DefaultNla, Exact, Flat, FlatView, Nla, NlaBuffer, NlaRead, kind_names,
+    measure_u64, parse_u64, write_u64_payload, write_value,
 };
 use std::alloc::Global;
 
@@ -70,17 +70,16 @@ impl NlaRead for VfStats {
     ghost grammar = { vf_stats_place.grammar };
 
     fn kind_name(kind: u16) -> &'static str {
-        match kind {
-            IFLA_VF_STATS_RX_PACKETS => "IFLA_VF_STATS_RX_PACKETS",
-            IFLA_VF_STATS_TX_PACKETS => "IFLA_VF_STATS_TX_PACKETS",
-            IFLA_VF_STATS_RX_BYTES => "IFLA_VF_STATS_RX_BYTES",
-            IFLA_VF_STATS_TX_BYTES => "IFLA_VF_STATS_TX_BYTES",
-            IFLA_VF_STATS_BROADCAST => "IFLA_VF_STATS_BROADCAST",
-            IFLA_VF_STATS_MULTICAST => "IFLA_VF_STATS_MULTICAST",
-            IFLA_VF_STATS_RX_DROPPED => "IFLA_VF_STATS_RX_DROPPED",
-            IFLA_VF_STATS_TX_DROPPED => "IFLA_VF_STATS_TX_DROPPED",
-            _ => "",
-        }
+        kind_names!(kind;
+            IFLA_VF_STATS_RX_PACKETS,
+            IFLA_VF_STATS_TX_PACKETS,
+            IFLA_VF_STATS_RX_BYTES,
+            IFLA_VF_STATS_TX_BYTES,
+            IFLA_VF_STATS_BROADCAST,
+            IFLA_VF_STATS_MULTICAST,
+            IFLA_VF_STATS_RX_DROPPED,
+            IFLA_VF_STATS_TX_DROPPED,
+        )
     }
 
     #[tactic(auto, unfolding(crate::specs::Tables::vf_stats_place))]

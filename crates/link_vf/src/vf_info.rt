@@ -24,8 +24,8 @@ use link_vfrec::{
 use nla_wire::error::checked;
 use nla_wire::{
     CloneIn, DecodeError, DefaultNla, Exact, List, MOST_VALUE_LEN, Nla, NlaBuffer, NlaRead, Record,
-    at_most_value, fill_bytes, list_fits, list_measure, measure_by_size, nlas_buffer_len,
-    nlas_fill, write_list, write_value,
+    at_most_value, fill_bytes, kind_names, list_fits, list_measure, measure_by_size,
+    nlas_buffer_len, nlas_fill, write_list, write_value,
 };
 use std::alloc::Global;
 
@@ -279,22 +279,21 @@ impl NlaRead for VfInfo {
     ghost grammar = { vf_info_place.grammar };
 
     fn kind_name(kind: u16) -> &'static str {
-        match kind {
-            IFLA_VF_MAC => "IFLA_VF_MAC",
-            IFLA_VF_VLAN => "IFLA_VF_VLAN",
-            IFLA_VF_TX_RATE => "IFLA_VF_TX_RATE",
-            IFLA_VF_SPOOFCHK => "IFLA_VF_SPOOFCHK",
-            IFLA_VF_LINK_STATE => "IFLA_VF_LINK_STATE",
-            IFLA_VF_RATE => "IFLA_VF_RATE",
-            IFLA_VF_RSS_QUERY_EN => "IFLA_VF_RSS_QUERY_EN",
-            IFLA_VF_STATS => "IFLA_VF_STATS",
-            IFLA_VF_TRUST => "IFLA_VF_TRUST",
-            IFLA_VF_IB_NODE_GUID => "IFLA_VF_IB_NODE_GUID",
-            IFLA_VF_IB_PORT_GUID => "IFLA_VF_IB_PORT_GUID",
-            IFLA_VF_VLAN_LIST => "IFLA_VF_VLAN_LIST",
-            IFLA_VF_BROADCAST => "IFLA_VF_BROADCAST",
-            _ => "",
-        }
+        kind_names!(kind;
+            IFLA_VF_MAC,
+            IFLA_VF_VLAN,
+            IFLA_VF_TX_RATE,
+            IFLA_VF_SPOOFCHK,
+            IFLA_VF_LINK_STATE,
+            IFLA_VF_RATE,
+            IFLA_VF_RSS_QUERY_EN,
+            IFLA_VF_STATS,
+            IFLA_VF_TRUST,
+            IFLA_VF_IB_NODE_GUID,
+            IFLA_VF_IB_PORT_GUID,
+            IFLA_VF_VLAN_LIST,
+            IFLA_VF_BROADCAST,
+        )
     }
 
     #[tactic(auto, unfolding(crate::specs::Tables::vf_info_place))]

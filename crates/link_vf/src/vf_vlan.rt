@@ -4,7 +4,8 @@ use crate::numbers::IFLA_VF_VLAN_INFO;
 use link_vfrec::VfVlanInfo;
 use nla_wire::error::checked;
 use nla_wire::{
-    CloneIn, DecodeError, DefaultNla, Exact, Nla, NlaBuffer, NlaRead, Record, write_value,
+    CloneIn, DecodeError, DefaultNla, Exact, Nla, NlaBuffer, NlaRead, Record, kind_names,
+    write_value,
 };
 use std::alloc::Global;
 
@@ -66,10 +67,7 @@ impl NlaRead for VfVlan {
     ghost grammar = { vf_vlan_place.grammar };
 
     fn kind_name(kind: u16) -> &'static str {
-        match kind {
-            IFLA_VF_VLAN_INFO => "IFLA_VF_VLAN_INFO",
-            _ => "",
-        }
+        kind_names!(kind; IFLA_VF_VLAN_INFO)
     }
 
     #[tactic(auto, unfolding(crate::specs::Tables::vf_vlan_place))]

@@ -1,4 +1,4 @@
--- Canonical encoding at the front of a buffer: a frame around a value, and texts one after the other.
+-- Canonical encoding at the front of a buffer: a frame around a value, and encodings one after the other.
 use Rattle.std.proofs.Common.{◌≡◌, ℕ, suc, ◌+◌, ◌-◌, ◌*◌, ◌/◌, ◌%◌, ◌<◌, ◌≤◌, List, [], ◌∷◌, ◌++◌}
 use Rattle.std.proofs.Common.{append_assoc, append-nil, get_or, slice_set, length, take, drop, replicate}
 use Rattle.std.proofs.Common.{length-append, length-drop, length-take, refl, ap, sym, ◌∙◌, subst, arith}
@@ -14,7 +14,7 @@ use Rattle.nla_wire.specs.Canon.{canon, Filled, Writes}
 use Rattle.nla_wire.proofs.Bounds.{length-canon}
 use Rattle.nla_wire.proofs.FieldLemmas.{length-zero_filled}
 
--- ** one text after another
+-- ** one encoding after another
 
 -- the end of a buffer from `at` on, lent and given back
 pub lent_back : (at : ℕ) (now part : List ℕ) → put_mid at (length now - at) now part ≡ take at now ++ part
@@ -24,10 +24,10 @@ lent_back at now part =
     ap (λ (rest : List ℕ). take at now ++ (part ++ rest)) none
     ∙ ap (λ (xs : List ℕ). take at now ++ xs) (append-nil part)
 
-pub write_on : (done text old now part : List ℕ) (at n : ℕ) → Writes done old now at
-    → Writes text (take (length now - at) (drop at now)) part n
-    → Writes (done ++ text) old (put_mid at (length now - at) now part) (at + n)
-write_on done text old now part at n before w =
+pub write_on : (done encoding old now part : List ℕ) (at n : ℕ) → Writes done old now at
+    → Writes encoding (take (length now - at) (drop at now)) part n
+    → Writes (done ++ encoding) old (put_mid at (length now - at) now part) (at + n)
+write_on done encoding old now part at n before w =
     let front : take at now ≡ done =
     ap (take at) before.new_is ∙ take_at done (drop at old) at (sym before.length_is) in
     let rest : drop at now ≡ drop at old =
@@ -35,12 +35,12 @@ write_on done text old now part at n before w =
     let after : drop n (take (length now - at) (drop at now)) ≡ drop (at + n) old =
     ap (drop n) (take_rest now at ∙ rest) ∙ drop-drop n at old ∙ ap (λ k. drop k old) (omega arith) in
     record {
-      length_is = omega (arith, before.length_is, w.length_is, length-append done text);
+      length_is = omega (arith, before.length_is, w.length_is, length-append done encoding);
       new_is =
           lent_back at now part
           ∙ ap (λ (xs : List ℕ). xs ++ part) front
-          ∙ ap (λ (xs : List ℕ). done ++ xs) (w.new_is ∙ ap (λ (xs : List ℕ). text ++ xs) after)
-          ∙ sym (append_assoc done text (drop (at + n) old));
+          ∙ ap (λ (xs : List ℕ). done ++ xs) (w.new_is ∙ ap (λ (xs : List ℕ). encoding ++ xs) after)
+          ∙ sym (append_assoc done encoding (drop (at + n) old));
     }
 
 -- one NUL after the text

@@ -9,8 +9,8 @@ ghost use Rattle.nla_wire.specs.FrameLaws.{FaultIsAfter};
 
 use crate::buffer::NlaBuffer;
 use crate::nla::Nla;
+use crate::nla_read::{NlaRead, OwnPlace};
 use crate::place::Place;
-use crate::read::{NlaRead, OwnPlace};
 
 /// Every byte string has exactly one reading: its frames, or the frames in front of one fault.
 pub fn law_one_reading()

@@ -1,7 +1,7 @@
 use Rattle.std.proofs.Common.{arith, length, sym, eqb-true}
 use Rattle.nla_wire.specs.Canon.{canons, AllFit}
 use Rattle.nla_wire.proofs.Front.{all_bytes}
-use Rattle.nla_wire.proofs.Meant.{means_text}
+use Rattle.nla_wire.proofs.Meant.{means_encoding}
 use Rattle.nla_wire.proofs.Written.{not_none}
 use Rattle.link_vf.specs.Entries.{entry}
 use Rattle.link_vf.proofs.Entries.{entry_agrees, entry_room, entry_canonical, entry_none}
@@ -29,7 +29,7 @@ returns-clause-reads g c =
 
 pub returns-clause-means : goal.returns-clause-means
 returns-clause-means g c =
-    means_text (entry g.Self.Entry.of g.Self.Member.NlaRead.grammar)
+    means_encoding (entry g.Self.Entry.of g.Self.Member.NlaRead.grammar)
     (entry_agrees g.Self.Entry.of g.Self.Member.NlaRead.grammar g.met.Self.Member.NlaRead.agrees) c.args.payload.now
     (all_bytes c.args.payload.now (λ i. omega (arith, c.type_inv.payload i)))
     (λ v. canons g.Self.Member.Nla.frame (g.Self.Entry.members v))

@@ -1,6 +1,6 @@
 use Rattle.nla_wire.proofs.Loop.{checks_found, checks_fault, checks_refused}
 use Rattle.nla_wire.proofs.Checked.{checks_memory}
-use Rattle.nla_wire.proofs.read.NlaRead.check.Goals as goal
+use Rattle.nla_wire.proofs.nla_read.NlaRead.check.Goals as goal
 
 pub returns-clause-found : goal.returns-clause-found
 returns-clause-found g c = checks_found g.Self.NlaRead.grammar g.met.Self.NlaRead.agrees c.args.buffer.now

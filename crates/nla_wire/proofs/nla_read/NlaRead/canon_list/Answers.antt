@@ -1,4 +1,4 @@
-use Rattle.nla_wire.proofs.read.NlaRead.canon_list.Goals as goal
+use Rattle.nla_wire.proofs.nla_read.NlaRead.canon_list.Goals as goal
 
 pub returns-clause-means : goal.returns-clause-means
 returns-clause-means g c =

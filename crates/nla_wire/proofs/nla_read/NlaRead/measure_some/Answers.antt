@@ -6,7 +6,7 @@ use Rattle.nla_wire.proofs.Front.{all_bytes}
 use Rattle.nla_wire.proofs.Lists.{list_agrees}
 use Rattle.nla_wire.proofs.Meant.{means_length}
 use Rattle.nla_wire.proofs.Written.{NestFits, not_none, empty_weighs, some_weighs}
-use Rattle.nla_wire.proofs.read.NlaRead.measure_some.Goals as goal
+use Rattle.nla_wire.proofs.nla_read.NlaRead.measure_some.Goals as goal
 
 pub returns-then-is_empty-clause-reads : goal.returns-then-is_empty-clause-reads
 returns-then-is_empty-clause-reads g c =

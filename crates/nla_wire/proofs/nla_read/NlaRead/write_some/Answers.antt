@@ -6,7 +6,7 @@ use Rattle.nla_wire.proofs.Front.{all_bytes}
 use Rattle.nla_wire.proofs.Lists.{list_agrees}
 use Rattle.nla_wire.proofs.Meant.{means_written}
 use Rattle.nla_wire.proofs.Written.{NestFits, nest, some_room, some_rewrites}
-use Rattle.nla_wire.proofs.read.NlaRead.write_some.Goals as goal
+use Rattle.nla_wire.proofs.nla_read.NlaRead.write_some.Goals as goal
 
 pub write_nested-requires : goal.write_nested-requires
 write_nested-requires g c =

@@ -1,4 +1,4 @@
-//! Types whose values are read from attributes, at the one place that each has.
+//! Types whose values are read from attributes and written to them, at the one place that each has.
 
 ghost use Rattle.std.specs.Prelude.{◌≡◌, ◌≢◌, ◌+◌, ◌*◌, ◌/◌, ◌≤◌, false, List, length, IfOk, IfErr, MatchResult};
 ghost use Rattle.nla_wire.specs.Sizes.{most_payload, growth};

@@ -1,5 +1,5 @@
 use Rattle.nla_wire.proofs.Loop.{gives_found, gives_fault, gives_refused}
-use Rattle.nla_wire.proofs.read.NlaRead.parse.Goals as goal
+use Rattle.nla_wire.proofs.nla_read.NlaRead.parse.Goals as goal
 
 pub returns-clause-found : goal.returns-clause-found
 returns-clause-found g c = gives_found g.Self.NlaRead.grammar g.met.Self.NlaRead.agrees c.args.buffer.now
