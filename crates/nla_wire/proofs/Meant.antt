@@ -1,7 +1,7 @@
 -- What is written and measured, in the words of the relations.
 use Rattle.std.proofs.Common.{◌≡◌, ℕ, List, Option, Some, None, Result, Ok, Err, refl, subst}
 use Rattle.nla_wire.specs.Grammar.{Grammar, Agrees}
-use Rattle.nla_wire.specs.Canon.{Weighs, Rewrites, Canonical, Writes, MeansLength, MeansEncoding, MeansWritten}
+use Rattle.nla_wire.specs.Canon.{Weighs, Rewrites, Canonical, MeansLength, MeansEncoding, MeansWritten}
 use Rattle.nla_wire.specs.declared.error.Cause.{Cause}
 use Rattle.nla_wire.proofs.Meaning.{ok_once, not_both}
 
