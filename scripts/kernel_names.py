@@ -73,8 +73,8 @@ ALONE = [
     ("nla_wire/src/buffer.rt", r"const NLA_F_NESTED: u16 = (\w+);", "NLA_F_NESTED"),
     ("nla_wire/src/buffer.rt", r"const NLA_F_NET_BYTEORDER: u16 = (\w+);", "NLA_F_NET_BYTEORDER"),
     ("nla_wire/src/buffer.rt", r"const NLA_TYPE_MASK: u16 = (\w+);", "NLA_TYPE_MASK"),
-    ("link_nest/specs/Wireless.antt", r"\(AssociateRequest x\) = event_text (\w+) x", "IWEVASSOCREQIE"),
-    ("link_nest/specs/Wireless.antt", r"\(AssociateResponse x\) = event_text (\w+) x", "IWEVASSOCRESPIE"),
+    ("link_nest/specs/Wireless.antt", r"\(AssociateRequest x\) = event_encoding (\w+) x", "IWEVASSOCREQIE"),
+    ("link_nest/specs/Wireless.antt", r"\(AssociateResponse x\) = event_encoding (\w+) x", "IWEVASSOCRESPIE"),
     ("link_afspec/specs/Requests.antt", r"\nsettings_of conf = numbered (\w+) ", "IPV4_DEVCONF_FORWARDING"),
     ("link_vals/specs/LinkPhysIdBytes.antt", r"id = zero_filled (\w+) ", "MAX_PHYS_ITEM_ID_LEN"),
 ]

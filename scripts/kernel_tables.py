@@ -541,7 +541,7 @@ class Repository:
 
     def wrapped(self, words, crate, place):
         """The line of a place of one number, whose payload a newtype holds."""
-        number = next(word for word in words if re.fullmatch("[A-Z][A-Z0-9_]+", word))
+        number = next(word for word in words if re.fullmatch(r"(?:kernel\.)?[A-Z][A-Z0-9_]+", word))
         payload = next(filter(None, (self.resolve(word, crate) for word in words[1:])), None)
         return self.numbered(number, crate, place, payload or self.payload(" ".join(words), crate), "line")
 

@@ -125,10 +125,10 @@ slip 'the constants of two events exchanged' 'IWEVASSOCREQIE: constant IWEVASSOC
 slip 'two variants exchanged' 'LinkAttribute.GsoMaxSegs: name GsoMaxSegs' \
     's/Attributes.GsoMaxSegs$/it/; s/Attributes.GsoMaxSize$/Attributes.GsoMaxSegs/; s/\bit$/Attributes.GsoMaxSize/' \
     link_msg/specs/Tables.antt
-slip 'a number of another place' 'DpllPin.PinId: name PinId' 's/line DPLL_A_PIN_ID/line IFLA_INFO_KIND/' \
+slip 'a number of another place' 'DpllPin.PinId: name PinId' 's/DPLL_A_PIN_ID/IFLA_INFO_KIND/' \
     link_nest/specs/Tables.antt
-slip 'a line that is left out' 'LinkXdp: line none' '/line IFLA_XDP_EXPECTED_FD/d' link_nest/specs/Tables.antt
-slip 'a payload' 'LinkXdp.Fd: payload u32' 's/line IFLA_XDP_FD i32/line IFLA_XDP_FD u32/' link_nest/specs/Tables.antt
+slip 'a line that is left out' 'LinkXdp: line none' '/line .*IFLA_XDP_EXPECTED_FD/d' link_nest/specs/Tables.antt
+slip 'a payload' 'LinkXdp.Fd: payload u32' 's/IFLA_XDP_FD i32/IFLA_XDP_FD u32/' link_nest/specs/Tables.antt
 slip 'the width of a payload that has a name' 'LinkXdp.Attached: payload u32' \
     's/^xdp_attached = enum w8/xdp_attached = enum w32/' link_nest/specs/Tables.antt
 slip 'the shape of a payload' 'LinkAttribute.Carrier: payload u32' \

@@ -27,13 +27,13 @@ abbrev pub setting_frame : Setting → Frame
 setting_frame s = record { kind = s.number; payload = to_le_bytes w32 (cast_unsigned w32 s.value) }
 
 -- a setting of zero is not asked for
-abbrev pub setting_text : Setting → List ℕ
-setting_text s = if int_eq s.value (pos 0) then [] else canon (setting_frame s)
+abbrev pub setting_encoding : Setting → List ℕ
+setting_encoding s = if int_eq s.value (pos 0) then [] else canon (setting_frame s)
 
--- the texts of settings, one after the other
-abbrev pub settings_text : List Setting → List ℕ
-settings_text settings = flat_map setting_text settings
+-- the encodings of settings, one after the other
+abbrev pub settings_encoding : List Setting → List ℕ
+settings_encoding settings = flat_map setting_encoding settings
 
 -- the value of a request
-unfoldable pub request_text : InetDevConf → List ℕ
-request_text conf = settings_text (settings_of conf)
+unfoldable pub request_encoding : InetDevConf → List ℕ
+request_encoding conf = settings_encoding (settings_of conf)

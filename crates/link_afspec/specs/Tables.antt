@@ -28,13 +28,8 @@ use Rattle.link_recs.specs.declared.inet6_icmp.Icmp6Stats.{Icmp6Stats}
 use Rattle.link_recs.specs.Icmp6StatsFields.{icmp6_stats_laws}
 use Rattle.link_recs.specs.declared.inet6_cache.Inet6CacheInfo.{Inet6CacheInfo}
 use Rattle.link_recs.specs.Inet6CacheInfoFields.{inet6_cache_info_laws}
-use Rattle.link_afspec.specs.Requests.{request_text}
-use Rattle.link_afspec.specs.declared.numbers.TheConstants.{IFLA_INET_CONF, IFLA_INET6_FLAGS, IFLA_INET6_CONF}
-use Rattle.link_afspec.specs.declared.numbers.TheConstants.{IFLA_INET6_STATS, IFLA_INET6_CACHEINFO}
-use Rattle.link_afspec.specs.declared.numbers.TheConstants.{IFLA_INET6_ICMP6STATS, IFLA_INET6_TOKEN}
-use Rattle.link_afspec.specs.declared.numbers.TheConstants.{IFLA_INET6_ADDR_GEN_MODE, IFLA_INET6_RA_MTU}
-use Rattle.link_afspec.specs.declared.numbers.TheConstants.{IFLA_MCTP_NET, IFLA_MCTP_PHYS_BINDING, AF_INET, AF_INET6}
-use Rattle.link_afspec.specs.declared.numbers.TheConstants.{AF_MCTP}
+use Rattle.link_afspec.specs.Requests.{request_encoding}
+use Rattle.link_afspec.specs.declared.numbers.TheConstants as kernel
 use Rattle.link_afspec.specs.declared.mctp.AfSpecMctp.{AfSpecMctp}
 use Rattle.link_afspec.specs.declared.mctp.AfSpecMctp.TheVariants as mctp
 use Rattle.link_afspec.specs.contracts.mctp.AfSpecMctp.{enum as mctps}
@@ -65,8 +60,8 @@ phys_binding = enum w8 mctp_phys_binding_of mctp_phys_binding_number mctp_phys_b
 
 abbrev pub af_spec_mctp_table : Table no_shapes mctps always
 af_spec_mctp_table =
-    line IFLA_MCTP_NET u32 mctp.Net
-    & line IFLA_MCTP_PHYS_BINDING phys_binding mctp.PhysBinding
+    line kernel.IFLA_MCTP_NET u32 mctp.Net
+    & line kernel.IFLA_MCTP_PHYS_BINDING phys_binding mctp.PhysBinding
     & keeps mctp.Other
     & tt
 
@@ -86,8 +81,8 @@ inet_dev_conf = filled_record inet_dev_conf_laws.laws (lit≤ tt)
 
 abbrev pub af_spec_inet_table : Table no_shapes inets always
 af_spec_inet_table =
-    line IFLA_INET_CONF inet_dev_conf inet.DevConf
-    & emits (kind_of true IFLA_INET_CONF) request_text inet.DevConfRequest
+    line kernel.IFLA_INET_CONF inet_dev_conf inet.DevConf
+    & emits (kind_of true kernel.IFLA_INET_CONF) request_encoding inet.DevConfRequest
     & keeps inet.Other
     & tt
 
@@ -120,14 +115,14 @@ addr_gen_mode = enum w8 in6_addr_gen_mode_of in6_addr_gen_mode_number in6_addr_g
 
 abbrev pub af_spec_inet6_table : Table no_shapes inet6s always
 af_spec_inet6_table =
-    line IFLA_INET6_FLAGS iface_flags inet6.Flags
-    & line IFLA_INET6_CACHEINFO inet6_cache_info inet6.CacheInfo
-    & line IFLA_INET6_CONF inet6_dev_conf inet6.DevConf
-    & line IFLA_INET6_STATS inet6_stats inet6.Stats
-    & line IFLA_INET6_ICMP6STATS icmp6_stats inet6.Icmp6Stats
-    & line IFLA_INET6_TOKEN address inet6.Token
-    & line IFLA_INET6_ADDR_GEN_MODE addr_gen_mode inet6.AddrGenMode
-    & line IFLA_INET6_RA_MTU u32 inet6.RaMtu
+    line kernel.IFLA_INET6_FLAGS iface_flags inet6.Flags
+    & line kernel.IFLA_INET6_CACHEINFO inet6_cache_info inet6.CacheInfo
+    & line kernel.IFLA_INET6_CONF inet6_dev_conf inet6.DevConf
+    & line kernel.IFLA_INET6_STATS inet6_stats inet6.Stats
+    & line kernel.IFLA_INET6_ICMP6STATS icmp6_stats inet6.Icmp6Stats
+    & line kernel.IFLA_INET6_TOKEN address inet6.Token
+    & line kernel.IFLA_INET6_ADDR_GEN_MODE addr_gen_mode inet6.AddrGenMode
+    & line kernel.IFLA_INET6_RA_MTU u32 inet6.RaMtu
     & keeps inet6.Other
     & tt
 
@@ -138,9 +133,9 @@ af_spec_inet6_place = place no_shapes inet6s growth 0 inner_small af_spec_inet6_
 
 abbrev pub af_spec_unspec_table : Table no_shapes unspecs always
 af_spec_unspec_table =
-    line AF_INET (some_of af_spec_inet_place) unspec.Inet
-    & line AF_INET6 (some_of af_spec_inet6_place) unspec.Inet6
-    & line AF_MCTP (some_of af_spec_mctp_place) unspec.Mctp
+    line kernel.AF_INET (some_of af_spec_inet_place) unspec.Inet
+    & line kernel.AF_INET6 (some_of af_spec_inet6_place) unspec.Inet6
+    & line kernel.AF_MCTP (some_of af_spec_mctp_place) unspec.Mctp
     & keeps unspec.Other
     & tt
 

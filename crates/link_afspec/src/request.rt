@@ -2,7 +2,7 @@
 
 ghost use Rattle.std.specs.Prelude.{◌≡◌, ◌+◌, ◌-◌, ◌≤◌, length};
 ghost use Rattle.nla_wire.specs.Canon.{canon, Filled};
-ghost use Rattle.link_afspec.specs.Requests.{setting_frame, setting_text, request_text};
+ghost use Rattle.link_afspec.specs.Requests.{setting_frame, setting_encoding, request_encoding};
 
 use link_recs::InetDevConf;
 use link_recs::inet::INET_DEV_CONF_COUNT;
@@ -20,9 +20,9 @@ fn setting_attribute(number: u16, value: i32) -> [u8; SETTING_LEN]
     [8, 0, kind_low, kind_high, a, b, c, d]
 }
 
-/// The length of a setting's text: none where it is zero.
+/// The length of a setting's encoding: none where it is zero.
 fn setting_len(_number: u16, value: i32) -> usize
-    ensures text { result ≡ length (setting_text (record { number = _number; value = value })) }
+    ensures text { result ≡ length (setting_encoding (record { number = _number; value = value })) }
     ensures short { result ≤ 8 }
 {
     if value == 0 { 0 } else { SETTING_LEN }
@@ -30,10 +30,10 @@ fn setting_len(_number: u16, value: i32) -> usize
 
 /// Writes a setting at the end of the buffer, if it is not zero, and returns where it starts.
 fn fill_setting(buffer: &mut [u8], number: u16, value: i32) -> usize
-    requires { length (setting_text (record { number = number; value = value }))
+    requires { length (setting_encoding (record { number = number; value = value }))
         ≤ length buffer.old }
     ensures { Filled buffer.old buffer.new
-        (setting_text (record { number = number; value = value })) result }
+        (setting_encoding (record { number = number; value = value })) result }
 {
     if value == 0 {
         return buffer.len();
@@ -41,9 +41,9 @@ fn fill_setting(buffer: &mut [u8], number: u16, value: i32) -> usize
     fill_bytes(buffer, &setting_attribute(number, value))
 }
 
-/// The length of the text of a request for these settings.
+/// The length of the encoding of a request for these settings.
 pub(crate) fn request_len(conf: &InetDevConf) -> usize
-    ensures { result ≡ length (request_text conf.now) }
+    ensures { result ≡ length (request_encoding conf.now) }
 {
     let mut len = 0;
     for number in 1..INET_DEV_CONF_COUNT + 1 {
@@ -55,8 +55,8 @@ pub(crate) fn request_len(conf: &InetDevConf) -> usize
 /// Writes a request for these settings at the end of the buffer, the last setting first, and returns where it starts.
 /// The bytes before are kept.
 pub(crate) fn fill_request(conf: &InetDevConf, buffer: &mut [u8]) -> usize
-    requires { length (request_text conf.now) ≤ length buffer.old }
-    ensures { Filled buffer.old buffer.new (request_text conf.now) result }
+    requires { length (request_encoding conf.now) ≤ length buffer.old }
+    ensures { Filled buffer.old buffer.new (request_encoding conf.now) result }
 {
     let mut start = buffer.len();
     let mut number = INET_DEV_CONF_COUNT;

@@ -47,7 +47,7 @@ use Rattle.link_recs.specs.Stats64Fields.{stats64_laws}
 use Rattle.link_recs.specs.MapFields.{map_laws}
 use Rattle.link_nest.specs.Tables.{prop_place, devlink_port_place, dpll_pin_place, down_reason_place, xdp_place}
 use Rattle.link_nest.specs.Tables.{link_info_place}
-use Rattle.link_nest.specs.Wireless.{wireless_event, wireless_text, WirelessFits}
+use Rattle.link_nest.specs.Wireless.{wireless_event, wireless_encoding, WirelessFits}
 use Rattle.link_nest.specs.WirelessLaws.{wireless_lawful}
 use Rattle.link_nest.specs.declared.wireless.WirelessEvent.{WirelessEvent}
 use Rattle.link_vf.specs.Tables.{vf_info_place, vf_port_place, link_vf_info_place, vf_info_list, link_vf_port}
@@ -156,7 +156,8 @@ ext_masks = record {
   sure = None;
 }
 
-pub wireless_fitting : LawfulPayload wireless_event wireless_text WirelessFits always none plain_growth 0 most_payload
+pub wireless_fitting
+    : LawfulPayload wireless_event wireless_encoding WirelessFits always none plain_growth 0 most_payload
 wireless_fitting =
     let h = wireless_lawful most_payload (lit≤ tt) in
     record {
@@ -171,7 +172,7 @@ wireless_fitting =
 abbrev pub wireless_events : Codec WirelessEvent
 wireless_events = record {
   grammar = wireless_event;
-  text = wireless_text;
+  text = wireless_encoding;
   Inside = WirelessFits;
   count = none;
   factor = plain_growth;

@@ -10,7 +10,7 @@ use Rattle.link_recs.specs.Stats64Fields.{stats64_bytes}
 use Rattle.link_recs.specs.MapFields.{map_bytes}
 use Rattle.link_nest.specs.Tables.{prop_place, devlink_port_place, dpll_pin_place, down_reason_place, xdp_place}
 use Rattle.link_nest.specs.Tables.{link_info_place}
-use Rattle.link_nest.specs.Wireless.{wireless_text, WirelessFits}
+use Rattle.link_nest.specs.Wireless.{wireless_encoding, WirelessFits}
 use Rattle.link_vf.specs.Tables.{vf_port_place, link_vf_info_place, link_vf_port_place}
 use Rattle.link_afspec.specs.Tables.{af_spec_unspec_place, af_spec_bridge_place, link_proto_info_bridge_place}
 use Rattle.link_afspec.specs.Tables.{link_proto_info_inet6_place}
@@ -24,7 +24,7 @@ view_bytes (Views.Stats stats) = stats_bytes stats.now
 view_bytes (Views.Stats64 stats) = stats64_bytes stats.now
 view_bytes (Views.Map map) = map_bytes map.now
 view_bytes (Views.Mask flags) = to_le_bytes w32 (ext_sum flags.now)
-view_bytes (Views.Event event) = wireless_text event.now
+view_bytes (Views.Event event) = wireless_encoding event.now
 view_bytes (Views.Port vs) = canons vf_port_place.frame vs.now
 view_bytes (Views.Infos vs) = canons link_info_place.frame vs.now
 view_bytes (Views.Functions vs) = canons link_vf_info_place.frame vs.now

@@ -3,7 +3,7 @@
 ghost use Rattle.std.specs.Prelude.{◌+◌, ◌≤◌, length};
 ghost use Rattle.nla_wire.specs.Sizes.{most_payload};
 ghost use Rattle.nla_wire.specs.Canon.{canon, Measures, Writes};
-ghost use Rattle.link_nest.specs.Wireless.{wireless_text, WirelessFits};
+ghost use Rattle.link_nest.specs.Wireless.{wireless_encoding, WirelessFits};
 ghost use Rattle.link_msg.specs.View.{view_bytes, ViewFits};
 
 use crate::attribute::View;
@@ -20,9 +20,9 @@ use nla_wire::{
 /// Writes the attribute of this kind with the text of an event.
 fn write_event(kind: u16, event: &WirelessEvent, buffer: &mut [u8]) -> usize
     requires fits { WirelessFits event.now }
-    requires room { length (canon (record { kind = kind; payload = wireless_text event.now }))
+    requires room { length (canon (record { kind = kind; payload = wireless_encoding event.now }))
         ≤ length buffer.old }
-    ensures { Writes (canon (record { kind = kind; payload = wireless_text event.now })) buffer.old
+    ensures { Writes (canon (record { kind = kind; payload = wireless_encoding event.now })) buffer.old
         buffer.new result }
 {
     let len = event.buffer_len();

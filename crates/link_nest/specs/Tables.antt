@@ -13,13 +13,7 @@ use Rattle.nla_wire.proofs.Variants.{Table, place, no_shapes, line, keeps, â—Œ&â
 use Rattle.link_vals.specs.XdpAttachedTable.{xdp_attached_of, xdp_attached_number}
 use Rattle.link_vals.proofs.Numbers.{xdp_attached_again}
 use Rattle.link_vals.specs.declared.xdp_attached.XdpAttached.{XdpAttached}
-use Rattle.link_nest.specs.declared.numbers.TheConstants.{IFLA_ALT_IFNAME, DEVLINK_ATTR_BUS_NAME}
-use Rattle.link_nest.specs.declared.numbers.TheConstants.{DEVLINK_ATTR_DEV_NAME, DEVLINK_ATTR_PORT_INDEX}
-use Rattle.link_nest.specs.declared.numbers.TheConstants.{DPLL_A_PIN_ID, IFLA_PROTO_DOWN_REASON_MASK}
-use Rattle.link_nest.specs.declared.numbers.TheConstants.{IFLA_PROTO_DOWN_REASON_VALUE, IFLA_XDP_FD}
-use Rattle.link_nest.specs.declared.numbers.TheConstants.{IFLA_XDP_ATTACHED, IFLA_XDP_FLAGS, IFLA_XDP_PROG_ID}
-use Rattle.link_nest.specs.declared.numbers.TheConstants.{IFLA_XDP_DRV_PROG_ID, IFLA_XDP_SKB_PROG_ID}
-use Rattle.link_nest.specs.declared.numbers.TheConstants.{IFLA_XDP_HW_PROG_ID, IFLA_XDP_EXPECTED_FD, IFLA_INFO_KIND}
+use Rattle.link_nest.specs.declared.numbers.TheConstants as kernel
 use Rattle.link_nest.specs.declared.prop_list.Prop.{Prop}
 use Rattle.link_nest.specs.declared.prop_list.Prop.TheVariants as prop
 use Rattle.link_nest.specs.contracts.prop_list.Prop.{enum as props}
@@ -42,7 +36,7 @@ use Rattle.link_nest.specs.contracts.link_info.LinkInfo.{enum as infos}
 -- members of IFLA_PROP_LIST
 abbrev pub prop_table : Table no_shapes props always
 prop_table =
-    line IFLA_ALT_IFNAME text prop.AltIfName
+    line kernel.IFLA_ALT_IFNAME text prop.AltIfName
     & keeps prop.Other
     & tt
 
@@ -56,9 +50,9 @@ prop_small = prop_place.when_small tt
 -- members of IFLA_DEVLINK_PORT
 abbrev pub devlink_port_table : Table no_shapes ports always
 devlink_port_table =
-    line DEVLINK_ATTR_BUS_NAME text port.BusName
-    & line DEVLINK_ATTR_DEV_NAME text port.DevName
-    & line DEVLINK_ATTR_PORT_INDEX u32 port.PortIndex
+    line kernel.DEVLINK_ATTR_BUS_NAME text port.BusName
+    & line kernel.DEVLINK_ATTR_DEV_NAME text port.DevName
+    & line kernel.DEVLINK_ATTR_PORT_INDEX u32 port.PortIndex
     & keeps port.Other
     & tt
 
@@ -73,7 +67,7 @@ devlink_port_small = devlink_port_place.when_small tt
 -- members of IFLA_DPLL_PIN
 abbrev pub dpll_pin_table : Table no_shapes pins always
 dpll_pin_table =
-    line DPLL_A_PIN_ID u32 pin.PinId
+    line kernel.DPLL_A_PIN_ID u32 pin.PinId
     & keeps pin.Other
     & tt
 
@@ -87,8 +81,8 @@ dpll_pin_small = dpll_pin_place.when_small tt
 -- members of IFLA_PROTO_DOWN_REASON
 abbrev pub down_reason_table : Table no_shapes reasons always
 down_reason_table =
-    line IFLA_PROTO_DOWN_REASON_MASK u32 reason.Mask
-    & line IFLA_PROTO_DOWN_REASON_VALUE u32 reason.Value
+    line kernel.IFLA_PROTO_DOWN_REASON_MASK u32 reason.Mask
+    & line kernel.IFLA_PROTO_DOWN_REASON_VALUE u32 reason.Value
     & keeps reason.Other
     & tt
 
@@ -108,14 +102,14 @@ xdp_attached = enum w8 xdp_attached_of xdp_attached_number xdp_attached_again
 -- members of IFLA_XDP
 abbrev pub xdp_table : Table no_shapes xdps always
 xdp_table =
-    line IFLA_XDP_FD i32 xdp.Fd
-    & line IFLA_XDP_ATTACHED xdp_attached xdp.Attached
-    & line IFLA_XDP_FLAGS u32 xdp.Flags
-    & line IFLA_XDP_PROG_ID u32 xdp.ProgId
-    & line IFLA_XDP_DRV_PROG_ID u32 xdp.DrvProgId
-    & line IFLA_XDP_SKB_PROG_ID u32 xdp.SkbProgId
-    & line IFLA_XDP_HW_PROG_ID u32 xdp.HwProgId
-    & line IFLA_XDP_EXPECTED_FD u32 xdp.ExpectedFd
+    line kernel.IFLA_XDP_FD i32 xdp.Fd
+    & line kernel.IFLA_XDP_ATTACHED xdp_attached xdp.Attached
+    & line kernel.IFLA_XDP_FLAGS u32 xdp.Flags
+    & line kernel.IFLA_XDP_PROG_ID u32 xdp.ProgId
+    & line kernel.IFLA_XDP_DRV_PROG_ID u32 xdp.DrvProgId
+    & line kernel.IFLA_XDP_SKB_PROG_ID u32 xdp.SkbProgId
+    & line kernel.IFLA_XDP_HW_PROG_ID u32 xdp.HwProgId
+    & line kernel.IFLA_XDP_EXPECTED_FD u32 xdp.ExpectedFd
     & keeps xdp.Other
     & tt
 
@@ -129,7 +123,7 @@ xdp_small = xdp_place.when_small tt
 -- members of IFLA_LINKINFO, with the data kept as they are
 abbrev pub link_info_table : Table no_shapes infos always
 link_info_table =
-    line IFLA_INFO_KIND text info.Kind
+    line kernel.IFLA_INFO_KIND text info.Kind
     & keeps info.Other
     & tt
 

@@ -1,4 +1,4 @@
--- Wireless events: what a payload means, and the text of an event (linux/wireless.h).
+-- Wireless events: what a payload means, and the encoding of an event (linux/wireless.h).
 use Rattle.std.specs.Prelude.{◌≡◌, ℕ, ◌+◌, ◌≤◌, ◌==◌, if◌then◌else◌, List, [], ◌∷◌, ◌++◌, length, drop}
 use Rattle.std.specs.Int.{w16, to_le_bytes}
 use Rattle.nla_wire.specs.Sizes.{most_payload}
@@ -29,26 +29,26 @@ wireless_event = sized 8 wireless_of
 abbrev pub event_header : ℕ → ℕ → List ℕ
 event_header len command = to_le_bytes w16 len ++ to_le_bytes w16 command ++ 0 ∷ 0 ∷ 0 ∷ 0 ∷ []
 
-abbrev pub event_text : ℕ → List ℕ → List ℕ
-event_text command x = event_header (8 + length x) command ++ x
+abbrev pub event_encoding : ℕ → List ℕ → List ℕ
+event_encoding command x = event_header (8 + length x) command ++ x
 
--- the text of an event
-abbrev pub wireless_text : WirelessEvent → List ℕ
-wireless_text (AssociateRequest x) = event_text IWEVASSOCREQIE x
-wireless_text (AssociateResponse x) = event_text IWEVASSOCRESPIE x
-wireless_text (Other p) = p
+-- the encoding of an event
+abbrev pub wireless_encoding : WirelessEvent → List ℕ
+wireless_encoding (AssociateRequest x) = event_encoding IWEVASSOCREQIE x
+wireless_encoding (AssociateResponse x) = event_encoding IWEVASSOCRESPIE x
+wireless_encoding (Other p) = p
 
--- the text has at most as many bytes as the value of an attribute may have
+-- the encoding has at most as many bytes as the value of an attribute may have
 abbrev pub WirelessFits : WirelessEvent → Type 0
-WirelessFits v = length (wireless_text v) ≤ most_payload
+WirelessFits v = length (wireless_encoding v) ≤ most_payload
 
 -- ** laws
 
--- an event that some payload means is what its text means
+-- an event that some payload means is what its encoding means
 abbrev pub EventsReadBack : Type 0
 EventsReadBack = (p : List ℕ) (v : WirelessEvent) → IsBytes p → wireless_event.means p v
-    → wireless_event.means (wireless_text v) v
+    → wireless_event.means (wireless_encoding v) v
 
--- and its text is as long as the payload
+-- and its encoding is as long as the payload
 abbrev pub EventsKeepLength : Type 0
-EventsKeepLength = (p : List ℕ) (v : WirelessEvent) → wireless_event.means p v → length (wireless_text v) ≡ length p
+EventsKeepLength = (p : List ℕ) (v : WirelessEvent) → wireless_event.means p v → length (wireless_encoding v) ≡ length p

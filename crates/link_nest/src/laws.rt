@@ -11,7 +11,7 @@ ghost use Rattle.nla_wire.specs.Canon.{canon, RoomWhereFit};
 ghost use Rattle.nla_wire.proofs.Codec.{IsLawful};
 ghost use Rattle.link_nest.specs.Tables.{prop_place, devlink_port_place, dpll_pin_place, down_reason_place};
 ghost use Rattle.link_nest.specs.Tables.{xdp_place, link_info_place};
-ghost use Rattle.link_nest.specs.Wireless.{EventsReadBack, EventsKeepLength, wireless_event, wireless_text};
+ghost use Rattle.link_nest.specs.Wireless.{EventsReadBack, EventsKeepLength, wireless_event, wireless_encoding};
 ghost use Rattle.link_nest.specs.Wireless.{WirelessFits};
 ghost use Rattle.link_nest.specs.declared.prop_list.Prop.TheVariants as prop;
 ghost use Rattle.link_nest.specs.declared.xdp.LinkXdp.TheVariants as xdp;
@@ -68,8 +68,8 @@ pub fn law_wireless_event()
     ensures length { EventsKeepLength }
 {}
 
-/// As many bytes of buffer as the payload has are room for the text of a wireless event.
+/// As many bytes of buffer as the payload has are room for the encoding of a wireless event.
 pub fn law_wireless_room(payload: &[u8])
-    ensures { RoomWhereFit wireless_text WirelessFits (wireless_event.reads payload.now)
+    ensures { RoomWhereFit wireless_encoding WirelessFits (wireless_event.reads payload.now)
         (length payload.now) }
 {}

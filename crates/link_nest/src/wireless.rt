@@ -7,7 +7,8 @@ ghost use Rattle.nla_wire.specs.Canon.{Filled, Weighs, HasRoom, Rewrites, RoomWh
 ghost use Rattle.nla_wire.specs.Canon.{MeansLength, MeansEncoding, MeansWritten};
 ghost use Rattle.nla_wire.specs.Gives.{Gives, Checks};
 ghost use Rattle.nla_wire.specs.declared.error.Cause.TheVariants.{OutOfMemory};
-ghost use Rattle.link_nest.specs.Wireless.{wireless_event, wireless_text, WirelessFits, event_text, event_header};
+ghost use Rattle.link_nest.specs.Wireless.{wireless_event, wireless_encoding, WirelessFits};
+ghost use Rattle.link_nest.specs.Wireless.{event_encoding, event_header};
 
 use crate::numbers::{IWEVASSOCREQIE, IWEVASSOCRESPIE};
 use nla_wire::fields::{too_short, u16_at};
@@ -48,7 +49,7 @@ fn header_of(len: u16, command: u16) -> [u8; 8]
 fn fill_event(buffer: &mut [u8], command: u16, bytes: &[u8]) -> usize
     requires small { 8 + length bytes.now ≤ most_payload }
     requires room { 8 + length bytes.now ≤ length buffer.old }
-    ensures { Filled buffer.old buffer.new (event_text command bytes.now) result }
+    ensures { Filled buffer.old buffer.new (event_encoding command bytes.now) result }
 {
     let start = fill_bytes(buffer, bytes);
     let header = header_of(to_u16(HEADER_LEN + bytes.len()), command);
@@ -59,7 +60,7 @@ fn fill_event(buffer: &mut [u8], command: u16, bytes: &[u8]) -> usize
 fn write_event(out: &mut [u8], command: u16, bytes: &[u8]) -> usize
     requires small { 8 + length bytes.now ≤ most_payload }
     requires room { 8 + length bytes.now ≤ length out.old }
-    ensures { Writes (event_text command bytes.now) out.old out.new result }
+    ensures { Writes (event_encoding command bytes.now) out.old out.new result }
 {
     let end = HEADER_LEN + bytes.len();
     out[..HEADER_LEN].copy_from_slice(&header_of(to_u16(end), command));
@@ -118,13 +119,13 @@ impl WirelessEvent {
         WirelessEvent::check_len(payload)
     }
 
-    /// The length of the text of the event that a payload means, with no memory taken: `None` where it has more than
-    /// 65531 bytes, or the payload is refused.
+    /// The length of the encoding of the event that a payload means, with no memory taken: `None` where it has more
+    /// than 65531 bytes, or the payload is refused.
     #[tactic(auto, unfolding(nla_wire::specs::Payloads::read_sized))]
     pub fn measure(payload: &[u8]) -> Option<usize>
-        ensures means { MeansLength (wireless_event.means payload.now) wireless_text WirelessFits
+        ensures means { MeansLength (wireless_event.means payload.now) wireless_encoding WirelessFits
             result }
-        ensures reads { Weighs wireless_text WirelessFits (wireless_event.reads payload.now)
+        ensures reads { Weighs wireless_encoding WirelessFits (wireless_event.reads payload.now)
             result }
     {
         if payload.len() < HEADER_LEN || payload.len() > MOST_VALUE_LEN {
@@ -133,15 +134,15 @@ impl WirelessEvent {
         Some(payload.len())
     }
 
-    /// Writes the text of the event that a payload means, which was measured, to the front of the buffer, and returns
-    /// its length. The rest of the buffer is kept.
+    /// Writes the encoding of the event that a payload means, which was measured, to the front of the buffer, and
+    /// returns its length. The rest of the buffer is kept.
     #[tactic(auto, unfolding(nla_wire::specs::Payloads::read_sized))]
     pub fn write(payload: &[u8], out: &mut [u8]) -> usize
-        requires { HasRoom wireless_text WirelessFits (wireless_event.reads payload.now)
+        requires { HasRoom wireless_encoding WirelessFits (wireless_event.reads payload.now)
             (length out.old) }
-        ensures means { MeansWritten (wireless_event.means payload.now) wireless_text
+        ensures means { MeansWritten (wireless_event.means payload.now) wireless_encoding
             out.old out.new result }
-        ensures reads { Rewrites wireless_text (wireless_event.reads payload.now)
+        ensures reads { Rewrites wireless_encoding (wireless_event.reads payload.now)
             out.old out.new result }
     {
         match u16_at(payload, 2) {
@@ -151,17 +152,17 @@ impl WirelessEvent {
         }
     }
 
-    /// Writes the text of the event that a payload means to the front of the buffer, with no memory taken, and returns
-    /// its length. The rest of the buffer is kept.
+    /// Writes the encoding of the event that a payload means to the front of the buffer, with no memory taken, and
+    /// returns its length. The rest of the buffer is kept.
     ///
-    /// There is room for that encoding: as many bytes as the payload has are enough. Returns `None` where the text has
-    /// more than 65531 bytes or the payload is refused, and changes nothing then.
+    /// There is room for that encoding: as many bytes as the payload has are enough. Returns `None` where the encoding
+    /// has more than 65531 bytes or the payload is refused, and changes nothing then.
     pub fn canon(payload: &[u8], out: &mut [u8]) -> Option<usize>
-        requires room { RoomWhereFit wireless_text WirelessFits (wireless_event.reads payload.now)
+        requires room { RoomWhereFit wireless_encoding WirelessFits (wireless_event.reads payload.now)
             (length out.old) }
-        ensures means { MeansEncoding (wireless_event.means payload.now) wireless_text WirelessFits
+        ensures means { MeansEncoding (wireless_event.means payload.now) wireless_encoding WirelessFits
             out.old out.new result }
-        ensures reads { Canonical wireless_text WirelessFits
+        ensures reads { Canonical wireless_encoding WirelessFits
             (wireless_event.reads payload.now) out.old out.new result }
     {
         let Some(_len) = WirelessEvent::measure(payload) else {
@@ -170,7 +171,7 @@ impl WirelessEvent {
         Some(WirelessEvent::write(payload, out))
     }
 
-    /// Whether the text has at most 65531 bytes.
+    /// Whether the encoding has at most 65531 bytes.
     pub fn fits(&self) -> bool
         ensures { IsTrue result ↔ WirelessFits self.now }
     {
@@ -181,10 +182,10 @@ impl WirelessEvent {
         }
     }
 
-    /// The length of the text in bytes.
+    /// The length of the encoding in bytes.
     pub fn buffer_len(&self) -> usize
         requires { WirelessFits self.now }
-        ensures { result ≡ length (wireless_text self.now) }
+        ensures { result ≡ length (wireless_encoding self.now) }
     {
         match self {
             WirelessEvent::AssociateRequest(bytes) => HEADER_LEN + bytes.len(),
@@ -193,12 +194,12 @@ impl WirelessEvent {
         }
     }
 
-    /// Fills the last bytes of the buffer with the text, and returns the place of its first byte. Earlier bytes are
+    /// Fills the last bytes of the buffer with the encoding, and returns the place of its first byte. Earlier bytes are
     /// kept.
     pub fn fill(&self, buffer: &mut [u8]) -> usize
         requires fits { WirelessFits self.now }
-        requires room { length (wireless_text self.now) ≤ length buffer.old }
-        ensures { Filled buffer.old buffer.new (wireless_text self.now) result }
+        requires room { length (wireless_encoding self.now) ≤ length buffer.old }
+        ensures { Filled buffer.old buffer.new (wireless_encoding self.now) result }
     {
         match self {
             WirelessEvent::AssociateRequest(bytes) => fill_event(
@@ -215,11 +216,11 @@ impl WirelessEvent {
         }
     }
 
-    /// Writes the text into a buffer of exactly its length.
+    /// Writes the encoding into a buffer of exactly its length.
     pub fn emit(&self, buffer: &mut [u8])
         requires fits { WirelessFits self.now }
-        requires exact { length buffer.old ≡ length (wireless_text self.now) }
-        ensures { buffer.new ≡ wireless_text self.now }
+        requires exact { length buffer.old ≡ length (wireless_encoding self.now) }
+        ensures { buffer.new ≡ wireless_encoding self.now }
     {
         let _start = self.fill(buffer);
     }

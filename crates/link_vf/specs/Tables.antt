@@ -14,15 +14,7 @@ use Rattle.nla_wire.proofs.Variants.{Table, place, no_shapes, line, keeps, ◌&�
 use Rattle.link_vfrec.specs.Laws.{vf_info_mac_laws, vf_info_broadcast_laws, vf_info_vlan_laws, vf_info_tx_rate_laws}
 use Rattle.link_vfrec.specs.Laws.{vf_info_rate_laws, vf_info_spoof_check_laws, vf_info_rss_query_en_laws}
 use Rattle.link_vfrec.specs.Laws.{vf_info_trust_laws, vf_info_link_state_laws, vf_info_guid_laws, vf_vlan_info_laws}
-use Rattle.link_vf.specs.declared.numbers.TheConstants.{IFLA_VF_INFO, IFLA_VF_MAC, IFLA_VF_VLAN, IFLA_VF_TX_RATE}
-use Rattle.link_vf.specs.declared.numbers.TheConstants.{IFLA_VF_SPOOFCHK, IFLA_VF_LINK_STATE, IFLA_VF_RATE}
-use Rattle.link_vf.specs.declared.numbers.TheConstants.{IFLA_VF_RSS_QUERY_EN, IFLA_VF_STATS, IFLA_VF_TRUST}
-use Rattle.link_vf.specs.declared.numbers.TheConstants.{IFLA_VF_IB_NODE_GUID, IFLA_VF_IB_PORT_GUID, IFLA_VF_VLAN_LIST}
-use Rattle.link_vf.specs.declared.numbers.TheConstants.{IFLA_VF_BROADCAST, IFLA_VF_STATS_RX_PACKETS}
-use Rattle.link_vf.specs.declared.numbers.TheConstants.{IFLA_VF_STATS_TX_PACKETS, IFLA_VF_STATS_RX_BYTES}
-use Rattle.link_vf.specs.declared.numbers.TheConstants.{IFLA_VF_STATS_TX_BYTES, IFLA_VF_STATS_BROADCAST}
-use Rattle.link_vf.specs.declared.numbers.TheConstants.{IFLA_VF_STATS_MULTICAST, IFLA_VF_STATS_RX_DROPPED}
-use Rattle.link_vf.specs.declared.numbers.TheConstants.{IFLA_VF_STATS_TX_DROPPED, IFLA_VF_VLAN_INFO, IFLA_VF_PORT}
+use Rattle.link_vf.specs.declared.numbers.TheConstants as kernel
 use Rattle.link_vf.specs.declared.stats.VfStats.{VfStats}
 use Rattle.link_vf.specs.declared.stats.VfStats.TheVariants as stats
 use Rattle.link_vf.specs.contracts.stats.VfStats.{enum as statistics}
@@ -42,14 +34,14 @@ use Rattle.link_vf.specs.Entries.{IsEntry, is_entry}
 -- members of IFLA_VF_STATS
 abbrev pub vf_stats_table : Table no_shapes statistics always
 vf_stats_table =
-    line IFLA_VF_STATS_RX_PACKETS u64 stats.RxPackets
-    & line IFLA_VF_STATS_TX_PACKETS u64 stats.TxPackets
-    & line IFLA_VF_STATS_RX_BYTES u64 stats.RxBytes
-    & line IFLA_VF_STATS_TX_BYTES u64 stats.TxBytes
-    & line IFLA_VF_STATS_BROADCAST u64 stats.Broadcast
-    & line IFLA_VF_STATS_MULTICAST u64 stats.Multicast
-    & line IFLA_VF_STATS_RX_DROPPED u64 stats.RxDropped
-    & line IFLA_VF_STATS_TX_DROPPED u64 stats.TxDropped
+    line kernel.IFLA_VF_STATS_RX_PACKETS u64 stats.RxPackets
+    & line kernel.IFLA_VF_STATS_TX_PACKETS u64 stats.TxPackets
+    & line kernel.IFLA_VF_STATS_RX_BYTES u64 stats.RxBytes
+    & line kernel.IFLA_VF_STATS_TX_BYTES u64 stats.TxBytes
+    & line kernel.IFLA_VF_STATS_BROADCAST u64 stats.Broadcast
+    & line kernel.IFLA_VF_STATS_MULTICAST u64 stats.Multicast
+    & line kernel.IFLA_VF_STATS_RX_DROPPED u64 stats.RxDropped
+    & line kernel.IFLA_VF_STATS_TX_DROPPED u64 stats.TxDropped
     & keeps stats.Other
     & tt
 
@@ -63,7 +55,7 @@ vf_stats_small = vf_stats_place.when_small tt
 -- members of IFLA_VF_VLAN_LIST
 abbrev pub vf_vlan_table : Table no_shapes vlans always
 vf_vlan_table =
-    line IFLA_VF_VLAN_INFO (sized_record vf_vlan_info_laws (lit≤ tt)) vlan.Info
+    line kernel.IFLA_VF_VLAN_INFO (sized_record vf_vlan_info_laws (lit≤ tt)) vlan.Info
     & keeps vlan.Other
     & tt
 
@@ -73,19 +65,19 @@ vf_vlan_place = place no_shapes vlans plain_growth 0 inner_small vf_vlan_table v
 -- members of IFLA_VF_INFO
 abbrev pub vf_info_table : Table no_shapes infos always
 vf_info_table =
-    line IFLA_VF_MAC (sized_record vf_info_mac_laws (lit≤ tt)) info.Mac
-    & line IFLA_VF_VLAN (sized_record vf_info_vlan_laws (lit≤ tt)) info.Vlan
-    & line IFLA_VF_TX_RATE (sized_record vf_info_tx_rate_laws (lit≤ tt)) info.TxRate
-    & line IFLA_VF_SPOOFCHK (sized_record vf_info_spoof_check_laws (lit≤ tt)) info.SpoofCheck
-    & line IFLA_VF_LINK_STATE (sized_record vf_info_link_state_laws (lit≤ tt)) info.LinkState
-    & line IFLA_VF_RATE (sized_record vf_info_rate_laws (lit≤ tt)) info.Rate
-    & line IFLA_VF_RSS_QUERY_EN (sized_record vf_info_rss_query_en_laws (lit≤ tt)) info.RssQueryEn
-    & line IFLA_VF_STATS (list_of vf_stats_place) info.Stats
-    & line IFLA_VF_TRUST (sized_record vf_info_trust_laws (lit≤ tt)) info.Trust
-    & line IFLA_VF_IB_NODE_GUID (sized_record vf_info_guid_laws (lit≤ tt)) info.IbNodeGuid
-    & line IFLA_VF_IB_PORT_GUID (sized_record vf_info_guid_laws (lit≤ tt)) info.IbPortGuid
-    & line IFLA_VF_VLAN_LIST (list_of vf_vlan_place) info.VlanList
-    & line IFLA_VF_BROADCAST (sized_record vf_info_broadcast_laws (lit≤ tt)) info.Broadcast
+    line kernel.IFLA_VF_MAC (sized_record vf_info_mac_laws (lit≤ tt)) info.Mac
+    & line kernel.IFLA_VF_VLAN (sized_record vf_info_vlan_laws (lit≤ tt)) info.Vlan
+    & line kernel.IFLA_VF_TX_RATE (sized_record vf_info_tx_rate_laws (lit≤ tt)) info.TxRate
+    & line kernel.IFLA_VF_SPOOFCHK (sized_record vf_info_spoof_check_laws (lit≤ tt)) info.SpoofCheck
+    & line kernel.IFLA_VF_LINK_STATE (sized_record vf_info_link_state_laws (lit≤ tt)) info.LinkState
+    & line kernel.IFLA_VF_RATE (sized_record vf_info_rate_laws (lit≤ tt)) info.Rate
+    & line kernel.IFLA_VF_RSS_QUERY_EN (sized_record vf_info_rss_query_en_laws (lit≤ tt)) info.RssQueryEn
+    & line kernel.IFLA_VF_STATS (list_of vf_stats_place) info.Stats
+    & line kernel.IFLA_VF_TRUST (sized_record vf_info_trust_laws (lit≤ tt)) info.Trust
+    & line kernel.IFLA_VF_IB_NODE_GUID (sized_record vf_info_guid_laws (lit≤ tt)) info.IbNodeGuid
+    & line kernel.IFLA_VF_IB_PORT_GUID (sized_record vf_info_guid_laws (lit≤ tt)) info.IbPortGuid
+    & line kernel.IFLA_VF_VLAN_LIST (list_of vf_vlan_place) info.VlanList
+    & line kernel.IFLA_VF_BROADCAST (sized_record vf_info_broadcast_laws (lit≤ tt)) info.Broadcast
     & keeps info.Other
     & tt
 
@@ -118,17 +110,19 @@ link_vf_info = as_codec link_vf_info_of link_vf_info_members (some_of vf_info_pl
 unfoldable pub link_vf_info_place : Place LinkVfInfo
 unfolding vf_info_place
 link_vf_info_place =
-    place_of link_vf_info_of link_vf_info_members (some_of vf_info_place) (λ vs. refl) IFLA_VF_INFO (lit< tt) tt tt
+    place_of link_vf_info_of link_vf_info_members (some_of vf_info_place) (λ vs. refl) kernel.IFLA_VF_INFO
+    (lit< tt) tt tt
 
 pub link_vf_info_ones : (v : LinkVfInfo) → number (link_vf_info_place.frame v) ≡ 1
 unfolding link_vf_info_place
 link_vf_info_ones v = refl
 
-pub link_vf_info_entries : IsEntry link_vf_info_of link_vf_info_members IFLA_VF_INFO vf_info_place link_vf_info_place
+pub link_vf_info_entries
+    : IsEntry link_vf_info_of link_vf_info_members kernel.IFLA_VF_INFO vf_info_place link_vf_info_place
     plain_growth 0
 unfolding link_vf_info_place vf_info_place
 link_vf_info_entries =
-    is_entry link_vf_info_of link_vf_info_members vf_info_place (λ vs. refl) IFLA_VF_INFO (lit< tt) refl tt tt
+    is_entry link_vf_info_of link_vf_info_members vf_info_place (λ vs. refl) kernel.IFLA_VF_INFO (lit< tt) refl tt tt
 
 -- IFLA_VFINFO_LIST, whose other entries are dropped unread
 abbrev pub vf_info_list : Codec (List LinkVfInfo)
@@ -148,17 +142,19 @@ link_vf_port = as_codec link_vf_port_of link_vf_port_members (some_of vf_port_pl
 unfoldable pub link_vf_port_place : Place LinkVfPort
 unfolding vf_port_place
 link_vf_port_place =
-    place_of link_vf_port_of link_vf_port_members (some_of vf_port_place) (λ vs. refl) IFLA_VF_PORT (lit< tt) tt tt
+    place_of link_vf_port_of link_vf_port_members (some_of vf_port_place) (λ vs. refl) kernel.IFLA_VF_PORT
+    (lit< tt) tt tt
 
 pub link_vf_port_ones : (v : LinkVfPort) → number (link_vf_port_place.frame v) ≡ 1
 unfolding link_vf_port_place
 link_vf_port_ones v = refl
 
-pub link_vf_port_entries : IsEntry link_vf_port_of link_vf_port_members IFLA_VF_PORT vf_port_place link_vf_port_place
+pub link_vf_port_entries
+    : IsEntry link_vf_port_of link_vf_port_members kernel.IFLA_VF_PORT vf_port_place link_vf_port_place
     plain_growth 0
 unfolding link_vf_port_place vf_port_place
 link_vf_port_entries =
-    is_entry link_vf_port_of link_vf_port_members vf_port_place (λ vs. refl) IFLA_VF_PORT (lit< tt) refl tt tt
+    is_entry link_vf_port_of link_vf_port_members vf_port_place (λ vs. refl) kernel.IFLA_VF_PORT (lit< tt) refl tt tt
 
 -- IFLA_VF_PORTS, whose other entries are dropped unread
 abbrev pub vf_port_list : Codec (List LinkVfPort)

@@ -6,7 +6,7 @@ use Rattle.std.proofs.lemmas.Int.{to_z-of_z}
 use Rattle.std.proofs.lemmas.List.{length-take-le, take_all}
 use Rattle.nla_wire.specs.Canon.{Filled}
 use Rattle.nla_wire.proofs.Prefixes.{Filled-more}
-use Rattle.link_afspec.specs.Requests.{settings_of, setting_text, settings_text}
+use Rattle.link_afspec.specs.Requests.{settings_of, setting_encoding, settings_encoding}
 use Rattle.link_afspec.proofs.Requests.{request_from, request_end, request_whole, request_after}
 use Rattle.link_afspec.proofs.request.fill_request.Goals as goal
 
@@ -34,11 +34,11 @@ fill_setting-start-requires c =
       ap length from,
       c.loop-number.invariant.filled.0,
       c.requires,
-      ap (λ n. length (setting_text (record { number = n; value = z }))) c.to_u16.ensures,
+      ap (λ n. length (setting_encoding (record { number = n; value = z }))) c.to_u16.ensures,
       request_after conf (c.loop-number.number - 1),
       length-take-le c.loop-number.start c.loop-number.buffer within,
-      length-append (setting_text (record { number = c.loop-number.number; value = z }))
-          (settings_text (drop c.loop-number.number (settings_of conf))),
+      length-append (setting_encoding (record { number = c.loop-number.number; value = z }))
+          (settings_encoding (drop c.loop-number.number (settings_of conf))),
     )
 
 pub loop-number-preserved : goal.loop-number-preserved
@@ -52,9 +52,9 @@ loop-number-preserved c =
     let now : List ℕ = c.fill_setting-start.new.buffer ++ drop c.loop-number.start c.loop-number.buffer in
     let filled = rw c.to_u16.ensures at c.fill_setting-start.ensures in
     let more = Filled-more old c.loop-number.buffer now c.fill_setting-start.new.buffer
-    (settings_text (drop c.loop-number.number (settings_of conf)))
-    (setting_text (record { number = c.loop-number.number; value = z })) c.fill_setting-start.result c.loop-number.start
-    c.loop-number.start c.loop-number.invariant.filled filled refl refl in
+    (settings_encoding (drop c.loop-number.number (settings_of conf)))
+    (setting_encoding (record { number = c.loop-number.number; value = z })) c.fill_setting-start.result
+    c.loop-number.start c.loop-number.start c.loop-number.invariant.filled filled refl refl in
     record {
       in_range = omega (arith, c.loop-number.invariant.in_range);
       filled = subst (λ text. Filled old now text c.fill_setting-start.result) (sym from) more;

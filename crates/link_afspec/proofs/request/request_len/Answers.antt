@@ -3,7 +3,7 @@ use Rattle.std.specs.Prelude.{ℤ}
 use mir.Val.{SFits}
 use Rattle.std.proofs.lemmas.Int.{to_z-of_z}
 use Rattle.link_recs.specs.declared.inet.TheConstants.{INET_DEV_CONF_COUNT}
-use Rattle.link_afspec.specs.Requests.{settings_of, setting_text, settings_text}
+use Rattle.link_afspec.specs.Requests.{settings_of, setting_encoding, settings_encoding}
 use Rattle.link_afspec.proofs.Requests.{request_from, request_end, request_whole, request_bound}
 use Rattle.link_afspec.proofs.request.request_len.Goals as goal
 
@@ -27,11 +27,11 @@ loop-number-preserved c =
       arith,
       c.loop-number.invariant,
       c.setting_len-len.ensures.text,
-      ap (λ n. length (setting_text (record { number = n; value = z }))) c.to_u16.ensures,
+      ap (λ n. length (setting_encoding (record { number = n; value = z }))) c.to_u16.ensures,
       ap length from,
-      ap (λ i. length (settings_text (drop i (settings_of conf)))) next,
-      length-append (setting_text (record { number = c.loop-number.number; value = z }))
-          (settings_text (drop c.loop-number.number (settings_of conf))),
+      ap (λ i. length (settings_encoding (drop i (settings_of conf)))) next,
+      length-append (setting_encoding (record { number = c.loop-number.number; value = z }))
+          (settings_encoding (drop c.loop-number.number (settings_of conf))),
     )
 
 pub returns : goal.returns
@@ -41,6 +41,6 @@ returns c =
     omega (
       arith,
       c.loop-number.invariant,
-      ap (λ i. length (settings_text (drop i (settings_of c.args.conf.now)))) last,
+      ap (λ i. length (settings_encoding (drop i (settings_of c.args.conf.now)))) last,
       ap length (request_end c.args.conf.now),
     )

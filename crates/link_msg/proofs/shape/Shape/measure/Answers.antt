@@ -8,7 +8,7 @@ use Rattle.link_vals.proofs.PhysIds.{phys_id_bytes_is, phys_id_len_le}
 use Rattle.link_recs.specs.StatsFields.{stats_bytes}
 use Rattle.link_recs.specs.Stats64Fields.{stats64_bytes}
 use Rattle.link_recs.specs.MapFields.{map_bytes}
-use Rattle.link_nest.specs.Wireless.{wireless_event, wireless_text, WirelessFits}
+use Rattle.link_nest.specs.Wireless.{wireless_event, wireless_encoding, WirelessFits}
 use Rattle.link_vf.specs.Tables.{link_vf_port_place}
 use Rattle.link_msg.specs.Tables.{base, is_true, truth_number}
 use Rattle.link_msg.specs.declared.shape.Shape.TheVariants as Shapes
@@ -83,7 +83,7 @@ returns-in-Map c =
 pub returns-in-Event : goal.returns-in-Event
 returns-in-Event c =
     arm_weighs c.args.self Shapes.Event c.args.payload.now c.measure.result c.in-Event.is
-    (weighs_inside wireless_text WirelessFits WirelessFits (λ x fits. fits)
+    (weighs_inside wireless_encoding WirelessFits WirelessFits (λ x fits. fits)
     (wireless_event.reads c.args.payload.now) c.measure.result c.measure.ensures.reads)
 
 pub returns-in-Port : goal.returns-in-Port
