@@ -56,7 +56,7 @@ told() {
 }
 changes "$text" "$instruction" told "$text is not the text of dist/SUMS"
 changes dist/SUMS "s/^....\(.*  dist\/$arch\/linkwire\.s\)/0000\1/" told "$text is not the text of dist/SUMS"
-changes crates/nla_wire/src/nla_read.rt '$a// changed' told 'crates/nla_wire/src/nla_read.rt changed since dist/ was made'
+changes crates/nla_wire/src/buffer.rt '$a// changed' told 'crates/nla_wire/src/buffer.rt changed since dist/ was made'
 changes crates.txt 's/^link_msg: /link_msg: memchr /' \
     told 'the line of link_msg in crates.txt changed since dist/ was made'
 touch crates/link_msg/src/another.rt

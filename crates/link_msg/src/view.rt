@@ -17,13 +17,13 @@ use nla_wire::{
     write_value,
 };
 
-/// Writes the attribute of this kind with the text of an event.
+/// Writes the attribute of this kind with the encoding of an event.
 fn write_event(kind: u16, event: &WirelessEvent, buffer: &mut [u8]) -> usize
     requires fits { WirelessFits event.now }
     requires room { length (canon (record { kind = kind; payload = wireless_encoding event.now }))
         ≤ length buffer.old }
-    ensures { Writes (canon (record { kind = kind; payload = wireless_encoding event.now })) buffer.old
-        buffer.new result }
+    ensures { Writes (canon (record { kind = kind; payload = wireless_encoding event.now }))
+        buffer.old buffer.new result }
 {
     let len = event.buffer_len();
     event.emit(&mut buffer[NLA_HEADER_SIZE..NLA_HEADER_SIZE + len]);

@@ -123,8 +123,8 @@ impl WirelessEvent {
     /// than 65531 bytes, or the payload is refused.
     #[tactic(auto, unfolding(nla_wire::specs::Payloads::read_sized))]
     pub fn measure(payload: &[u8]) -> Option<usize>
-        ensures means { MeansLength (wireless_event.means payload.now) wireless_encoding WirelessFits
-            result }
+        ensures means { MeansLength (wireless_event.means payload.now) wireless_encoding
+            WirelessFits result }
         ensures reads { Weighs wireless_encoding WirelessFits (wireless_event.reads payload.now)
             result }
     {
@@ -158,10 +158,10 @@ impl WirelessEvent {
     /// There is room for that encoding: as many bytes as the payload has are enough. Returns `None` where the encoding
     /// has more than 65531 bytes or the payload is refused, and changes nothing then.
     pub fn canon(payload: &[u8], out: &mut [u8]) -> Option<usize>
-        requires room { RoomWhereFit wireless_encoding WirelessFits (wireless_event.reads payload.now)
-            (length out.old) }
-        ensures means { MeansEncoding (wireless_event.means payload.now) wireless_encoding WirelessFits
-            out.old out.new result }
+        requires room { RoomWhereFit wireless_encoding WirelessFits
+            (wireless_event.reads payload.now) (length out.old) }
+        ensures means { MeansEncoding (wireless_event.means payload.now) wireless_encoding
+            WirelessFits out.old out.new result }
         ensures reads { Canonical wireless_encoding WirelessFits
             (wireless_event.reads payload.now) out.old out.new result }
     {
