@@ -107,14 +107,14 @@ shape_same : (shape : Shape) (f : Frame) (value : ℕ) → IsCopied shape → Is
     → value ≡ length f.payload
     → (r : Result (base shape).A Cause) → (base shape).codec.grammar.reads f.payload ≡ r
     → ShapeWeighs base shape f.payload (Some value)
-    → Rewrites (λ x. canon (frame_with (kind_of (base shape).flags (number f)) ((base shape).codec.text x)))
+    → Rewrites (λ x. canon (frame_with (kind_of (base shape).flags (number f)) ((base shape).codec.encoding x)))
     r [] (canon f) (length (canon f))
 shape_same shape f value copied small bare same (Err c) is w = tt
 shape_same shape f value copied small bare same (Ok x) is w =
-    let weighed : Weighs (base shape).codec.text (ShapeFits base shape) (Ok x) (Some value) =
-    subst (λ z. Weighs (base shape).codec.text (ShapeFits base shape) z (Some value)) is w in
-    let size : value ≡ length ((base shape).codec.text x) = weighed.1 in
-    let text : (base shape).codec.text x ≡ f.payload = copied.text_is f.payload x small is (sym size ∙ same) in
+    let weighed : Weighs (base shape).codec.encoding (ShapeFits base shape) (Ok x) (Some value) =
+    subst (λ z. Weighs (base shape).codec.encoding (ShapeFits base shape) z (Some value)) is w in
+    let size : value ≡ length ((base shape).codec.encoding x) = weighed.1 in
+    let text : (base shape).codec.encoding x ≡ f.payload = copied.text_is f.payload x small is (sym size ∙ same) in
     let kind : kind_of (base shape).flags (number f) ≡ f.kind = copied.kind_is (number f) ∙ sym bare in
     subst (λ g. Writes (canon g) [] (canon f) (length (canon f))) (sym (ap₂ frame_with kind text)) (itself f)
 

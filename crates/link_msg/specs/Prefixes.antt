@@ -33,7 +33,7 @@ IsPrefix family b prefix = TextPrefix (attribute_place family).reads attribute_t
 -- a payload of this shape that is as long as its text is that text, and its number is written without flags
 pub record IsCopied (s : Shape) : Type 0 where
   pub text_is : (p : List ℕ) (x : (base s).A) → IsBytes p → (base s).codec.grammar.reads p ≡ Ok x
-      → length ((base s).codec.text x) ≡ length p → (base s).codec.text x ≡ p
+      → length ((base s).codec.encoding x) ≡ length p → (base s).codec.encoding x ≡ p
   pub kind_is : (n : ℕ) → kind_of (base s).flags n ≡ n
 
 -- it fits, and is no empty list of ports

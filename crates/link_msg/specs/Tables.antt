@@ -16,7 +16,7 @@ use Rattle.nla_wire.specs.Grammar.{Grammar, as_a, undecoded}
 use Rattle.nla_wire.specs.Payloads as payload
 use Rattle.nla_wire.specs.Canon.{canon}
 use Rattle.nla_wire.proofs.Lawful.{LawfulPayload, LawfulPlace, always, none, through_lawful, filled_lawful}
-use Rattle.nla_wire.proofs.Lawful.{text_bounded}
+use Rattle.nla_wire.proofs.Lawful.{encoding_bounded}
 use Rattle.nla_wire.proofs.FieldLemmas.{from_le_bytes_below, length-to_le_bytes}
 use Rattle.nla_wire.proofs.PlaceLaws.{all_always}
 use Rattle.nla_wire.proofs.Codec as codec
@@ -127,7 +127,7 @@ phys_id_lawful = filled_lawful phys_id_of phys_id_bytes (λ id. id.len ≤ 32) 3
 abbrev pub phys_ids : Codec LinkPhysId
 phys_ids = record {
   grammar = payload.filled phys_id_of;
-  text = phys_id_bytes;
+  encoding = phys_id_bytes;
   Inside = λ id. id.len ≤ 32;
   count = none;
   factor = 36;
@@ -146,7 +146,7 @@ ext_mask_lawful = through_lawful w32 ext_list ext_sum (λ flags. ext_sum flags <
 abbrev pub ext_masks : Codec (List LinkExtentMask)
 ext_masks = record {
   grammar = as_a ext_list (payload.number_of w32);
-  text = λ flags. to_le_bytes w32 (ext_sum flags);
+  encoding = λ flags. to_le_bytes w32 (ext_sum flags);
   Inside = λ flags. ext_sum flags < 2 ^ 32;
   count = none;
   factor = plain_growth;
@@ -172,7 +172,7 @@ wireless_fitting =
 abbrev pub wireless_events : Codec WirelessEvent
 wireless_events = record {
   grammar = wireless_event;
-  text = wireless_encoding;
+  encoding = wireless_encoding;
   Inside = WirelessFits;
   count = none;
   factor = plain_growth;
@@ -288,7 +288,7 @@ ext_mask = record {
   codec = ext_masks;
   wrap = ext_list;
   reads = λ p. refl;
-  text_is = mask_same;
+  encoding_is = mask_same;
   inside = λ p x small means fits. tt;
   outside = λ p x small means fits. mask_fits p x small means;
 }
@@ -503,7 +503,7 @@ attribute_number family f v means =
 
 pub attribute_bounded : (family : AddressFamily) (f : Frame) (v : LinkAttribute) → (attribute_place family).means f v
     → length (canon (attribute_frame v)) ≤ growth * (1 + length f.payload / 4)
-attribute_bounded family = text_bounded (attribute_lawful family)
+attribute_bounded family = encoding_bounded (attribute_lawful family)
 
 -- what no line reads is kept
 pub foreign_kept : (family : AddressFamily) (f : Frame) (v : LinkAttribute) → IsUnlisted family f

@@ -7,7 +7,7 @@ use Rattle.std.specs.List.{AllByRecursion}
 use Rattle.nla_wire.specs.Frames.{IsBytes}
 use Rattle.nla_wire.specs.Fields.{numbers_from, signed_from, le_all, le_all_signed, zero_filled}
 use Rattle.nla_wire.specs.Records.{RecordLaws}
-use Rattle.nla_wire.proofs.Again.{WritesAgain, numbers_text, bytes_filled, filled_after, filled_front}
+use Rattle.nla_wire.proofs.Again.{WritesAgain, numbers_encoding, bytes_filled, filled_after, filled_front}
 use Rattle.nla_wire.proofs.FieldLemmas.{length-zero_filled, length-numbers_from, length-signed_from}
 use Rattle.nla_wire.proofs.FieldLemmas.{numbers_from_same, numbers_from_below, numbers_again, length-le_all}
 use Rattle.nla_wire.proofs.FieldLemmas.{le_all_signed_is, signed_number_again, signed_from_is, signed_from_fits}
@@ -37,7 +37,7 @@ unsigned_words w same = record {
   };
   again = numbers_again w;
   size = length-le_all w;
-  whole = numbers_text w same;
+  whole = numbers_encoding w same;
 }
 
 numbers_below_again : (w : Width) (ns : List ℕ) → AllByRecursion (λ x. x < 2 ^ bits w) ns
@@ -63,7 +63,7 @@ signed_words w same = record {
       le_all_signed_is w (signed_from w q 0 n)
       ∙ ap (λ zs. le_all w (map (cast_unsigned w) zs)) (signed_from_is w q 0 n)
       ∙ ap (le_all w) (numbers_below_again w (numbers_from w q 0 n) (numbers_from_below w q 0 n small))
-      ∙ numbers_text w same q n small is;
+      ∙ numbers_encoding w same q n small is;
 }
 
 -- what is read is what the payload means when it is cut or filled up with zeros

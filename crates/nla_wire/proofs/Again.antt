@@ -41,11 +41,11 @@ number_written w again kind p old new n exact small h =
 
 -- numbers that were read one after the other, with nothing after them, are written as the bytes that they were read
 -- from
-pub numbers_text : (w : Width) → WritesAgain w → (q : List ℕ) (n : ℕ) → IsBytes q → length q ≡ n * byte_len w
+pub numbers_encoding : (w : Width) → WritesAgain w → (q : List ℕ) (n : ℕ) → IsBytes q → length q ≡ n * byte_len w
     → le_all w (numbers_from w q 0 n) ≡ q
-numbers_text w again [] zero small is = refl
-numbers_text w again (x ∷ q) zero small is = absurd (omega (arith, is))
-numbers_text w again q (suc n) small is =
+numbers_encoding w again [] zero small is = refl
+numbers_encoding w again (x ∷ q) zero small is = absurd (omega (arith, is))
+numbers_encoding w again q (suc n) small is =
     let k : ℕ = byte_len w in
     let cut : take k q ++ drop k q ≡ q = take-append-drop k q in
     let parts : IsBytes (take k q ++ drop k q) = subst IsBytes (sym cut) small in
@@ -59,7 +59,7 @@ numbers_text w again q (suc n) small is =
     (omega (arith, first)) ∙ numbers_from_after w (take k q) (drop k q) 0 n in
     ap₂ (λ (x y : List ℕ). x ++ y)
     (ap (to_le_bytes w) head ∙ again (take k q) first (bytes_left (take k q) (drop k q) parts))
-    (ap (le_all w) tail ∙ numbers_text w again (drop k q) n (bytes_right (take k q) (drop k q) parts) rest)
+    (ap (le_all w) tail ∙ numbers_encoding w again (drop k q) n (bytes_right (take k q) (drop k q) parts) rest)
     ∙ cut
 
 -- ** payloads that are cut, or filled up with zeros

@@ -8,7 +8,7 @@ use Rattle.nla_wire.specs.Grammar.{Grammar, Every, list, is_one, picked}
 use Rattle.nla_wire.specs.Canon.{canon, canons, IsWritable}
 use Rattle.nla_wire.proofs.Steps.{IsBytes-begins, begins_framed}
 
--- ** text of frames
+-- ** encodings of frames
 
 pub canon_begins : (f : Frame) (rest : List ℕ) → IsWritable f → Begins (canon f ++ rest) f rest
 canon_begins f rest h = record {
@@ -96,7 +96,7 @@ module _ {V : Type 0} (place : Grammar Frame V) (frame : V → Frame) (Fits Good
             (every_back (filter is_one h.0) vs framed h.2 fits good),
       )
 
--- ** texts that aren't empty
+-- ** encodings that aren't empty
 
 pub canons_some : {V : Type 0} (frame : V → Frame) (vs : List V) → 0 < length vs → 0 < length (canons frame vs)
 canons_some frame [] some = absurd (omega arith)

@@ -9,7 +9,7 @@ use Rattle.nla_wire.specs.Grammar.{Grammar, Every, list, is_one, picked, members
 use Rattle.nla_wire.specs.Canon.{canon, canons, total}
 use Rattle.nla_wire.proofs.Steps.{length-begins}
 
--- ** lengths of text
+-- ** lengths of encodings
 
 pub length-canon : (f : Frame) → length (canon f) ≡ 4 + length f.payload + missing (length f.payload)
 length-canon f = omega (
@@ -26,7 +26,7 @@ canons_whole frame [] = refl
 canons_whole frame (v ∷ vs) =
     rw (length-append (canon (frame v)) (canons frame vs)) (omega (arith, canon_whole (frame v), canons_whole frame vs))
 
--- the text of a list is as long as its members' texts together
+-- the encoding of a list is as long as those of its members together
 pub length-canons : {V : Type 0} (frame : V → Frame) (vs : List V)
     → length (canons frame vs) ≡ total (λ v. length (canon (frame v))) vs
 length-canons frame [] = refl

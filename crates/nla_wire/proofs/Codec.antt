@@ -21,26 +21,26 @@ use Rattle.nla_wire.proofs.Agreement.{as_agrees, exactly_agrees}
 use Rattle.nla_wire.proofs.Memory.{memory_exactly}
 use Rattle.nla_wire.proofs.Canonical.{octets_again}
 use Rattle.nla_wire.proofs.Lawful.{LawfulPayload, LawfulPlace, always, none, as_lawful, wrapped_lawful, list_lawful}
-use Rattle.nla_wire.proofs.Lawful.{some_lawful, picked_lawful, some_picked_lawful, text_bounded, bytes_lawful}
+use Rattle.nla_wire.proofs.Lawful.{some_lawful, picked_lawful, some_picked_lawful, encoding_bounded, bytes_lawful}
 use Rattle.nla_wire.proofs.Lawful.{text_lawful, number_lawful, signed_lawful, enum_lawful, sized_record_lawful}
 use Rattle.nla_wire.proofs.Lawful.{filled_record_lawful}
 use Rattle.nla_wire.proofs.FieldLemmas.{signed_number_again, from_le_bytes_below}
 use Rattle.nla_wire.proofs.PlaceLaws.{all_always, place_reads_back, list_reads_back, lists_bounded}
 
--- values of which only those with `Good` are read back from their text
+-- values of which only those with `Good` are read back from their encoding
 pub record CodecWhere (A : Type 0) (Good : A → Type 0) : Type 1 where
   pub grammar : Grammar (List ℕ) A
-  pub text : A → List ℕ
+  pub encoding : A → List ℕ
   -- what is inside fits
   pub Inside : A → Type 0
   -- how many values are inside
   pub count : A → ℕ
-  -- the text has at most so many bytes for each whole four that were read, the header among them, and so many fewer
+  -- the encoding has at most so many bytes for each whole four that were read, the header among them, and so many fewer
   pub factor : ℕ
   pub fewer : ℕ
   -- what was read from so few bytes fits
   pub enough : ℕ
-  pub lawful : LawfulPayload grammar text Inside Good count factor fewer enough
+  pub lawful : LawfulPayload grammar encoding Inside Good count factor fewer enough
   -- where nothing is inside that might not fit
   pub sure : Option ((a : A) → Inside a)
 
@@ -95,11 +95,11 @@ pub record Place (V : Type 0) : Type 1 where
 
 -- ** payloads with nothing inside
 
-abbrev pub flat : {A : Type 0} (g : Grammar (List ℕ) A) (text : A → List ℕ) (enough : ℕ)
-    → LawfulPayload g text always always none plain_growth 0 enough → Codec A
-flat g text enough h = record {
+abbrev pub flat : {A : Type 0} (g : Grammar (List ℕ) A) (encoding : A → List ℕ) (enough : ℕ)
+    → LawfulPayload g encoding always always none plain_growth 0 enough → Codec A
+flat g encoding enough h = record {
   grammar = g;
-  text = text;
+  encoding = encoding;
   Inside = always;
   count = none;
   factor = plain_growth;
@@ -148,41 +148,43 @@ enum w of num again = flat (as_a of (payload.number_of w)) (λ a. to_le_bytes w 
     (enum_lawful w of num most_payload again)
 
 -- a record that is refused where the payload is short
-abbrev pub sized : {A : Type 0} (size : ℕ) (of : List ℕ → A) (text_of : A → List ℕ)
-    → ((p : List ℕ) → length (text_of (of p)) ≡ size)
-    → ((p : List ℕ) → IsBytes p → of (text_of (of p)) ≡ of p)
+abbrev pub sized : {A : Type 0} (size : ℕ) (of : List ℕ → A) (encoding : A → List ℕ)
+    → ((p : List ℕ) → length (encoding (of p)) ≡ size)
+    → ((p : List ℕ) → IsBytes p → of (encoding (of p)) ≡ of p)
     → size ≤ most_payload
     → Codec A
-sized size of text_of sized_as again short =
-    flat (payload.sized size of) text_of most_payload
-    (sized_record_lawful size most_payload of text_of sized_as again short)
+sized size of encoding sized_as again short =
+    flat (payload.sized size of) encoding most_payload
+    (sized_record_lawful size most_payload of encoding sized_as again short)
 
 -- a record that is filled up with zeros where the payload is short
-abbrev pub filled : {A : Type 0} (size : ℕ) (of : List ℕ → A) (text_of : A → List ℕ)
-    → ((p : List ℕ) → length (text_of (of p)) ≡ size)
-    → ((p : List ℕ) → IsBytes p → of (text_of (of p)) ≡ of p)
+abbrev pub filled : {A : Type 0} (size : ℕ) (of : List ℕ → A) (encoding : A → List ℕ)
+    → ((p : List ℕ) → length (encoding (of p)) ≡ size)
+    → ((p : List ℕ) → IsBytes p → of (encoding (of p)) ≡ of p)
     → size ≤ most_payload
     → Codec A
-filled size of text_of sized_as again short = record {
+filled size of encoding sized_as again short = record {
   grammar = payload.filled of;
-  text = text_of;
+  encoding = encoding;
   Inside = always;
   count = none;
   factor = 4 + size + missing size;
   fewer = 0;
   enough = most_payload;
-  lawful = filled_record_lawful size most_payload of text_of sized_as again short;
+  lawful = filled_record_lawful size most_payload of encoding sized_as again short;
   sure = Some (λ a. tt);
 }
 
 -- the same of a record with its laws
-abbrev pub sized_record : {A : Type 0} {size : ℕ} {of : List ℕ → A} {text_of : A → List ℕ} → RecordLaws size of text_of
+abbrev pub sized_record : {A : Type 0} {size : ℕ} {of : List ℕ → A} {encoding : A → List ℕ}
+    → RecordLaws size of encoding
     → size ≤ most_payload → Codec A
-sized_record {A} {size} {of} {text_of} laws short = sized size of text_of laws.sized laws.again short
+sized_record {A} {size} {of} {encoding} laws short = sized size of encoding laws.sized laws.again short
 
-abbrev pub filled_record : {A : Type 0} {size : ℕ} {of : List ℕ → A} {text_of : A → List ℕ} → RecordLaws size of text_of
+abbrev pub filled_record : {A : Type 0} {size : ℕ} {of : List ℕ → A} {encoding : A → List ℕ}
+    → RecordLaws size of encoding
     → size ≤ most_payload → Codec A
-filled_record {A} {size} {of} {text_of} laws short = filled size of text_of laws.sized laws.again short
+filled_record {A} {size} {of} {encoding} laws short = filled size of encoding laws.sized laws.again short
 
 -- no more octets than were read
 octets_short : (p : List ℕ) → length (octets_of (segments_of p)) ≤ length p
@@ -240,9 +242,10 @@ enough_below factor fewer enough =
     )
 
 -- where nothing is asked of members, nothing is asked of the list
-unasked : {V : Type 0} {g : Grammar (List ℕ) (List V)} {text : List V → List ℕ} {Fits : List V → Type 0}
+unasked : {V : Type 0} {g : Grammar (List ℕ) (List V)} {encoding : List V → List ℕ} {Fits : List V → Type 0}
     {count : List V → ℕ} {k e n : ℕ}
-    → LawfulPayload g text Fits (AllByRecursion always) count k e n → LawfulPayload g text Fits always count k e n
+    → LawfulPayload g encoding Fits (AllByRecursion always) count k e n
+    → LawfulPayload g encoding Fits always count k e n
 unasked h = record {
   agrees = h.agrees;
   no_memory = h.no_memory;
@@ -257,7 +260,7 @@ abbrev pub listed : {V : Type 0} {Good : List V → Type 0} (p : Place V) (g : G
     (list_enough p.factor p.fewer p.enough) → CodecWhere (List V) Good
 listed p g h = record {
   grammar = g;
-  text = canons p.frame;
+  encoding = canons p.frame;
   Inside = AllFit p.Fits p.frame;
   count = total p.count;
   factor = p.factor;
@@ -312,7 +315,7 @@ some_of p = listed p (not_empty (list p.grammar)) (some_of_lawful p)
 abbrev pub picked_of : {V : Type 0} (p : Place V) → ((v : V) → number (p.frame v) ≡ 1) → Codec (List V)
 picked_of p ones = listed p (picked p.grammar) (picked_of_lawful p ones)
 
--- the same, where the empty payload is refused: a text of no members would be
+-- the same, where the empty payload is refused: an encoding of no members would be
 abbrev pub some_picked_of : {V : Type 0} (p : Place V) → ((v : V) → number (p.frame v) ≡ 1)
     → CodecWhere (List V) (λ vs. (0 < length vs) × AllByRecursion always vs)
 some_picked_of p ones = listed p (not_empty (picked p.grammar)) (some_picked_of_lawful p ones)
@@ -320,32 +323,33 @@ some_picked_of p ones = listed p (not_empty (picked p.grammar)) (some_picked_of_
 -- ** a newtype around a value
 
 module _ {A B : Type 0} (wrap : A → B) (inner : B → A) (c : Codec A) (same : (a : A) → inner (wrap a) ≡ a) where
-  pub as_codec_lawful : LawfulPayload (as_a wrap c.grammar) (λ b. c.text (inner b)) (λ b. c.Inside (inner b)) always
+  pub as_codec_lawful : LawfulPayload (as_a wrap c.grammar) (λ b. c.encoding (inner b)) (λ b. c.Inside (inner b)) always
       (λ b. c.count (inner b)) c.factor c.fewer c.enough
-  as_codec_lawful = as_lawful wrap c.grammar c.text c.Inside always c.count c.factor c.fewer c.enough c.lawful
-      (λ b. c.text (inner b)) (λ b. c.Inside (inner b)) always (λ b. c.count (inner b))
-      (λ a. ap c.text (same a)) (λ a. ap c.count (same a))
+  as_codec_lawful = as_lawful wrap c.grammar c.encoding c.Inside always c.count c.factor c.fewer c.enough c.lawful
+      (λ b. c.encoding (inner b)) (λ b. c.Inside (inner b)) always (λ b. c.count (inner b))
+      (λ a. ap c.encoding (same a)) (λ a. ap c.count (same a))
       (λ a inside. subst c.Inside (same a) inside) (λ a inside. subst c.Inside (sym (same a)) inside) (λ a good. tt)
 
   pub place_of_lawful : (kind : ℕ) → kind < 2 ^ 16
-      → LawfulPlace (by_payload (as_a wrap c.grammar)) (λ b. record { kind = kind; payload = c.text (inner b) })
-      (λ b. (length (c.text (inner b)) ≤ most_payload) × c.Inside (inner b)) always
+      → LawfulPlace (by_payload (as_a wrap c.grammar)) (λ b. record { kind = kind; payload = c.encoding (inner b) })
+      (λ b. (length (c.encoding (inner b)) ≤ most_payload) × c.Inside (inner b)) always
       (λ b. 1 + c.count (inner b)) c.factor c.fewer c.enough
   place_of_lawful kind small =
-      wrapped_lawful wrap c.grammar c.text c.Inside always c.count c.factor c.fewer c.enough c.lawful
-      kind (λ b. record { kind = kind; payload = c.text (inner b) })
-      (λ b. (length (c.text (inner b)) ≤ most_payload) × c.Inside (inner b)) always (λ b. 1 + c.count (inner b)) small
-      (λ a. ap (λ x. record { kind = kind; payload = c.text x }) (same a)) (λ a. ap (λ x. 1 + c.count x) (same a))
-      (λ a fits. (subst (λ x. length (c.text x) ≤ most_payload) (same a) fits.0, subst c.Inside (same a) fits.1))
+      wrapped_lawful wrap c.grammar c.encoding c.Inside always c.count c.factor c.fewer c.enough c.lawful
+      kind (λ b. record { kind = kind; payload = c.encoding (inner b) })
+      (λ b. (length (c.encoding (inner b)) ≤ most_payload) × c.Inside (inner b)) always (λ b. 1 + c.count (inner b))
+      small
+      (λ a. ap (λ x. record { kind = kind; payload = c.encoding x }) (same a)) (λ a. ap (λ x. 1 + c.count x) (same a))
+      (λ a fits. (subst (λ x. length (c.encoding x) ≤ most_payload) (same a) fits.0, subst c.Inside (same a) fits.1))
       (λ a short inside. (
-        subst (λ x. length (c.text x) ≤ most_payload) (sym (same a)) short,
+        subst (λ x. length (c.encoding x) ≤ most_payload) (sym (same a)) short,
         subst c.Inside (sym (same a)) inside,
       )) (λ a good. tt)
 
   abbrev pub as_codec : Codec B
   as_codec = record {
     grammar = as_a wrap c.grammar;
-    text = λ b. c.text (inner b);
+    encoding = λ b. c.encoding (inner b);
     Inside = λ b. c.Inside (inner b);
     count = λ b. c.count (inner b);
     factor = c.factor;
@@ -360,8 +364,8 @@ module _ {A B : Type 0} (wrap : A → B) (inner : B → A) (c : Codec A) (same :
       → T (nat_le c.factor growth) → Place B
   place_of kind small spare within = record {
     grammar = by_payload (as_a wrap c.grammar);
-    frame = λ b. record { kind = kind; payload = c.text (inner b) };
-    Fits = λ b. (length (c.text (inner b)) ≤ most_payload) × c.Inside (inner b);
+    frame = λ b. record { kind = kind; payload = c.encoding (inner b) };
+    Fits = λ b. (length (c.encoding (inner b)) ≤ most_payload) × c.Inside (inner b);
     count = λ b. 1 + c.count (inner b);
     factor = c.factor;
     fewer = c.fewer;
@@ -401,4 +405,4 @@ is_lawful p = (
 pub place_bounded : {V : Type 0} (p : Place V) (f : Frame) (v : V) → p.grammar.means f v
     → length (canon (p.frame v)) ≤ growth * (1 + length f.payload / 4)
 place_bounded p f v means =
-    omega (arith, text_bounded p.lawful f v means, mul-le-mul_right (1 + length f.payload / 4) p.within)
+    omega (arith, encoding_bounded p.lawful f v means, mul-le-mul_right (1 + length f.payload / 4) p.within)

@@ -1,7 +1,8 @@
 -- Everything that is proved of a payload, of a line of a table and of a place, each in one record, so that a place
--- costs one line a row. A value's encoding is `text a` or the text of its `frame`; `Fits` says that it has one, `Good`
--- that the text is not refused, and `count` is how many values it is. A text has at most k bytes for each whole four
--- bytes that were read, the header among them, and e bytes fewer than that. What was read from at most n bytes fits.
+-- costs one line a row. A value's encoding is `encoding a` or that of its `frame`; `Fits` says that it has one, `Good`
+-- that the encoding is not refused, and `count` is how many values it is. An encoding has at most k bytes for each
+-- whole four bytes that were read, the header among them, and e bytes fewer than that. What was read from at most n
+-- bytes fits.
 use Rattle.std.proofs.Common.{◌≡◌, ℕ, ◌+◌, ◌*◌, ◌/◌, ◌^◌, ◌<◌, ◌≤◌, inl, inr, List, [], ◌∷◌, ◌++◌, length, filter}
 use Rattle.std.proofs.Common.{refl, sym, ap, subst, ◌∙◌, mul-le-mul_left, mul-le-mul_right, arith, lit≤}
 use Rattle.std.proofs.Common.{length-append}
@@ -28,15 +29,16 @@ use mir.Val.{bits}
 
 -- ** the records
 
-pub record LawfulPayload {A : Type 0} (g : Grammar (List ℕ) A) (text : A → List ℕ) (Fits Good : A → Type 0)
+pub record LawfulPayload {A : Type 0} (g : Grammar (List ℕ) A) (encoding : A → List ℕ) (Fits Good : A → Type 0)
     (count : A → ℕ) (k e n : ℕ) : Type 0 where
   pub agrees : Agrees IsBytes g
   pub no_memory : (p : List ℕ) → g.bad p OutOfMemory → ⊥
-  pub back : (p : List ℕ) (a : A) → IsBytes p → g.means p a → Fits a → Good a → g.means (text a) a
+  pub back : (p : List ℕ) (a : A) → IsBytes p → g.means p a → Fits a → Good a → g.means (encoding a) a
   pub counted : (p : List ℕ) (a : A) → g.means p a → count a ≤ length p / 4
   pub bounded : (p : List ℕ) (a : A) → g.means p a
-      → 4 + length (text a) + missing (length (text a)) + e ≤ k * (1 + length p / 4)
-  pub small : (p : List ℕ) (a : A) → length p ≤ n → IsBytes p → g.means p a → (length (text a) ≤ most_payload) × Fits a
+      → 4 + length (encoding a) + missing (length (encoding a)) + e ≤ k * (1 + length p / 4)
+  pub small : (p : List ℕ) (a : A) → length p ≤ n → IsBytes p → g.means p a
+      → (length (encoding a) ≤ most_payload) × Fits a
 
 pub record LawfulPlace {V : Type 0} (g : Grammar Frame V) (frame : V → Frame) (Fits Good : V → Type 0) (count : V → ℕ)
     (k e n : ℕ) : Type 0 where
@@ -70,19 +72,19 @@ always a = Unit {0}
 
 -- ** a payload's value wrapped as a variant
 
-module _ {A B : Type 0} (wrap : A → B) (g : Grammar (List ℕ) A) (text : A → List ℕ) (FitsA GoodA : A → Type 0)
+module _ {A B : Type 0} (wrap : A → B) (g : Grammar (List ℕ) A) (encoding : A → List ℕ) (FitsA GoodA : A → Type 0)
     (countA : A → ℕ) (k e n : ℕ)
-    (h : LawfulPayload g text FitsA GoodA countA k e n) where
+    (h : LawfulPayload g encoding FitsA GoodA countA k e n) where
   -- as a payload: a newtype around the value
-  pub as_lawful : (text_of : B → List ℕ) (Fits Good : B → Type 0) (count : B → ℕ)
-      → ((a : A) → text_of (wrap a) ≡ text a)
+  pub as_lawful : (encoding_of : B → List ℕ) (Fits Good : B → Type 0) (count : B → ℕ)
+      → ((a : A) → encoding_of (wrap a) ≡ encoding a)
       → ((a : A) → count (wrap a) ≡ countA a)
       → ((a : A) → Fits (wrap a) → FitsA a)
       → ((a : A) → FitsA a → Fits (wrap a))
       → ((a : A) → Good (wrap a) → GoodA a)
-      → LawfulPayload (as_a wrap g) text_of Fits Good count k e n
-  as_lawful text_of Fits Good count text_is count_is fits_inside fits_outside good_inside =
-      let written = λ (p : List ℕ) (b : B) (m : (as_a wrap g).means p b). ap text_of m.2 ∙ text_is m.0 in
+      → LawfulPayload (as_a wrap g) encoding_of Fits Good count k e n
+  as_lawful encoding_of Fits Good count encoding_is count_is fits_inside fits_outside good_inside =
+      let written = λ (p : List ℕ) (b : B) (m : (as_a wrap g).means p b). ap encoding_of m.2 ∙ encoding_is m.0 in
       record {
         agrees = as_agrees IsBytes wrap g h.agrees;
         no_memory = h.no_memory;
@@ -105,10 +107,10 @@ module _ {A B : Type 0} (wrap : A → B) (g : Grammar (List ℕ) A) (text : A �
   -- as a place: each frame is read by its payload, and written with one kind
   pub wrapped_lawful : (kind : ℕ) (frame : B → Frame) (Fits Good : B → Type 0) (count : B → ℕ)
       → kind < 2 ^ 16
-      → ((a : A) → frame (wrap a) ≡ record { kind = kind; payload = text a })
+      → ((a : A) → frame (wrap a) ≡ record { kind = kind; payload = encoding a })
       → ((a : A) → count (wrap a) ≡ 1 + countA a)
-      → ((a : A) → Fits (wrap a) → (length (text a) ≤ most_payload) × FitsA a)
-      → ((a : A) → length (text a) ≤ most_payload → FitsA a → Fits (wrap a))
+      → ((a : A) → Fits (wrap a) → (length (encoding a) ≤ most_payload) × FitsA a)
+      → ((a : A) → length (encoding a) ≤ most_payload → FitsA a → Fits (wrap a))
       → ((a : A) → Good (wrap a) → GoodA a)
       → LawfulPlace (by_payload (as_a wrap g)) frame Fits Good count k e n
   wrapped_lawful kind frame Fits Good count kind_small frame_is count_is fits_inside fits_outside good_inside =
@@ -129,25 +131,25 @@ module _ {A B : Type 0} (wrap : A → B) (g : Grammar (List ℕ) A) (text : A �
         counted = λ f b m. omega (arith, ap count m.2, count_is m.0, h.counted f.payload m.0 m.1);
         bounded = λ f b m.
             subst (λ (x : Frame). length (canon x) + e ≤ k * (1 + length f.payload / 4)) (sym (written f b m))
-            (omega (arith, length-canon (record { kind = kind; payload = text m.0 }), h.bounded f.payload m.0 m.1));
+            (omega (arith, length-canon (record { kind = kind; payload = encoding m.0 }), h.bounded f.payload m.0 m.1));
         small = λ f b short one m.
             let s = h.small f.payload m.0 short one.bytes m.1 in
             subst Fits (sym m.2) (fits_outside m.0 s.0 s.1);
       }
 
--- a text has at most k bytes for each whole four bytes that were read
-pub text_bounded : {V : Type 0} {g : Grammar Frame V} {frame : V → Frame} {Fits Good : V → Type 0}
+-- an encoding has at most k bytes for each whole four bytes that were read
+pub encoding_bounded : {V : Type 0} {g : Grammar Frame V} {frame : V → Frame} {Fits Good : V → Type 0}
     {count : V → ℕ} {k e n : ℕ}
     → LawfulPlace g frame Fits Good count k e n
     → (f : Frame) (v : V) → g.means f v → length (canon (frame v)) ≤ k * (1 + length f.payload / 4)
-text_bounded {V} {g} {frame} {Fits} {Good} {count} {k} {e} {n} h f v means = omega (arith, h.bounded f v means)
+encoding_bounded {V} {g} {frame} {Fits} {Good} {count} {k} {e} {n} h f v means = omega (arith, h.bounded f v means)
 
 -- ** wider bounds: a greater factor, less slack, and a smaller bound under which all fits
 
-pub wider : {A : Type 0} (g : Grammar (List ℕ) A) (text : A → List ℕ) (Fits Good : A → Type 0) (count : A → ℕ)
+pub wider : {A : Type 0} (g : Grammar (List ℕ) A) (encoding : A → List ℕ) (Fits Good : A → Type 0) (count : A → ℕ)
     (k e n j u m : ℕ) → k ≤ j → u + k ≤ e + j → m ≤ n
-    → LawfulPayload g text Fits Good count k e n → LawfulPayload g text Fits Good count j u m
-wider g text Fits Good count k e n j u m greater slacker smaller h = record {
+    → LawfulPayload g encoding Fits Good count k e n → LawfulPayload g encoding Fits Good count j u m
+wider g encoding Fits Good count k e n j u m greater slacker smaller h = record {
   agrees = h.agrees;
   no_memory = h.no_memory;
   back = h.back;
@@ -224,11 +226,11 @@ every_small g Fits n small (f ∷ fs) (v ∷ vs) one short h =
 
 -- where k bytes for each whole four of n pass the most that a value may have by e at most, each member's slack makes up
 -- for it
-text_small : {V : Type 0} (frame : V → Frame) (k e n : ℕ) (p : List ℕ) (vs : List V) → k * (n / 4) ≤ most_payload + e
-    → length p ≤ n
+encodings_small : {V : Type 0} (frame : V → Frame) (k e n : ℕ) (p : List ℕ) (vs : List V)
+    → k * (n / 4) ≤ most_payload + e → length p ≤ n
     → length (canons frame vs) + e * length vs ≤ k * (length p / 4) → length (canons frame vs) ≤ most_payload
-text_small frame k e n p [] enough short long = omega arith
-text_small frame k e n p (v ∷ vs) enough short long =
+encodings_small frame k e n p [] enough short long = omega arith
+encodings_small frame k e n p (v ∷ vs) enough short long =
     let fewer : k * (length p / 4) ≤ k * (n / 4) = mul-le-mul_left k (omega arith) in
     omega arith
 
@@ -243,8 +245,8 @@ module _ {V : Type 0} (g : Grammar Frame V) (frame : V → Frame) (Fits Good : V
       → length (canons frame vs) + e * length vs ≤ k * (length p / 4)
   place_length = list_length g frame k e h.bounded
 
-  pub place_text : (p : List ℕ) (vs : List V) → (list g).means p vs → length (canons frame vs) ≤ k * (length p / 4)
-  place_text p vs m = omega (arith, place_length p vs m)
+  pub place_encodings : (p : List ℕ) (vs : List V) → (list g).means p vs → length (canons frame vs) ≤ k * (length p / 4)
+  place_encodings p vs m = omega (arith, place_length p vs m)
 
   pub place_small : (p : List ℕ) (vs : List V) → length p ≤ n + 4 → IsBytes p → (list g).means p vs
       → AllByRecursion Fits vs
@@ -267,7 +269,7 @@ module _ {V : Type 0} (g : Grammar Frame V) (frame : V → Frame) (Fits Good : V
         → AllByRecursion Fits vs
         → (length (canons frame vs) ≤ most_payload) × AllFit Fits frame vs
     all_fit p vs short long fits =
-        let few : length (canons frame vs) ≤ most_payload = text_small frame k e m p vs enough short long in
+        let few : length (canons frame vs) ≤ most_payload = encodings_small frame k e m p vs enough short long in
         (few, (fits, omega arith))
 
     pub list_lawful : LawfulPayload (list g) (canons frame) (AllFit Fits frame) (AllByRecursion Good)
@@ -312,7 +314,7 @@ module _ {V : Type 0} (g : Grammar Frame V) (frame : V → Frame) (Fits Good : V
             (λ f. length f.payload ≤ n) is_one means.0 (frames_shorter p means.0 n means.1 (omega arith))) means.2);
       }
 
-      -- the empty payload refused: a text of no members would be
+      -- the empty payload refused: an encoding of no members would be
       pub some_picked_lawful : LawfulPayload (not_empty (picked g)) (canons frame) (AllFit Fits frame)
           (λ vs. (0 < length vs) × AllByRecursion Good vs) (total count) k u m
       some_picked_lawful = record {
@@ -325,13 +327,13 @@ module _ {V : Type 0} (g : Grammar Frame V) (frame : V → Frame) (Fits Good : V
         small = λ p vs short small means. picked_lawful.small p vs short small means.1;
       }
 
--- the text of what was read is at most so many times as long
+-- the encoding of what was read is at most so many times as long
 pub place_growth : {V : Type 0} (g : Grammar Frame V) (frame : V → Frame) (Fits Good : V → Type 0)
     (count : V → ℕ) (e n : ℕ)
     → LawfulPlace g frame Fits Good count growth e n
     → (p : List ℕ) (vs : List V) → (list g).means p vs → length (canons frame vs) ≤ growth_per_byte * length p
 place_growth g frame Fits Good count e n h p vs m =
-    omega (arith, place_text g frame Fits Good count growth e n h p vs m)
+    omega (arith, place_encodings g frame Fits Good count growth e n h p vs m)
 
 -- a list that was read from few bytes fits whole
 pub place_all_fit : {V : Type 0} (g : Grammar Frame V) (frame : V → Frame) (Fits Good : V → Type 0)
@@ -342,7 +344,7 @@ pub place_all_fit : {V : Type 0} (g : Grammar Frame V) (frame : V → Frame) (Fi
 place_all_fit g frame Fits Good count k e n h enough p vs short small m =
     let fewer : k * (length p / 4) ≤ k * ((n + 4) / 4) = mul-le-mul_left k (omega arith) in (
       place_small g frame Fits Good count k e n h p vs short small m,
-      omega (arith, place_text g frame Fits Good count k e n h p vs m),
+      omega (arith, place_encodings g frame Fits Good count k e n h p vs m),
     )
 
 -- ** leaf payloads
@@ -389,7 +391,7 @@ pub through_lawful : {A : Type 0} (w : Width) (of : ℕ → A) (num : A → ℕ)
     → ((x : ℕ) → x < 2 ^ bits w → (num (of x) < 2 ^ bits w) × (of (num (of x)) ≡ of x) × Fits (of x))
     → LawfulPayload (as_a of (number_of w)) (λ a. to_le_bytes w (num a)) Fits always none plain_growth 0 n
 through_lawful {A} w of num Fits n again =
-    let text_size = λ (a : A). length-to_le_bytes w (num a) in
+    let encoding_size = λ (a : A). length-to_le_bytes w (num a) in
     record {
       agrees = as_agrees IsBytes of (number_of w) (number_agrees w);
       no_memory = memory_number w;
@@ -400,15 +402,15 @@ through_lawful {A} w of num Fits n again =
           let read : from_le_bytes w (to_le_bytes w (num (of x))) ≡ num (of x) =
           from_le_bytes-to_le_bytes w (num (of x)) (again x below).0 in (
             num (of x),
-            (text_size a, sym (ap (λ y. from_le_bytes w (to_le_bytes w y)) same ∙ read)),
+            (encoding_size a, sym (ap (λ y. from_le_bytes w (to_le_bytes w y)) same ∙ read)),
             means.2 ∙ sym (again x below).1,
           );
       counted = λ p a means. omega arith;
-      bounded = λ p a means. omega (arith, text_size a, means.1.0);
+      bounded = λ p a means. omega (arith, encoding_size a, means.1.0);
       small = λ p a short small means.
           let x : ℕ = means.0 in
           let below : x < 2 ^ bits w = subst (λ y. y < 2 ^ bits w) (sym means.1.1) (from_le_bytes_below w p small) in
-          (omega (arith, text_size a, byte_len_small w), subst Fits (sym means.2) (again x below).2);
+          (omega (arith, encoding_size a, byte_len_small w), subst Fits (sym means.2) (again x below).2);
     }
 
 pub number_lawful : (w : Width) (n : ℕ)
@@ -437,73 +439,73 @@ pub enum_lawful : {A : Type 0} (w : Width) (of : ℕ → A) (num : A → ℕ) (n
 enum_lawful w of num n again = through_lawful w of num always n (λ x below.
     (subst (λ y. y < 2 ^ bits w) (sym (again x)) below, ap of (again x), tt))
 
--- a record that is refused where the payload is shorter, whose text has at most `most` bytes
-pub sized_lawful : {A : Type 0} (size : ℕ) (fields : List ℕ → A) (text_of : A → List ℕ) (Fits : A → Type 0)
+-- a record that is refused where the payload is shorter, whose encoding has at most `most` bytes
+pub sized_lawful : {A : Type 0} (size : ℕ) (fields : List ℕ → A) (encoding_of : A → List ℕ) (Fits : A → Type 0)
     (most k e n : ℕ)
     → most ≤ most_payload
     → 4 + most + missing most + e ≤ k * (1 + size / 4)
-    → ((p : List ℕ) → length (text_of (fields p)) ≤ most)
-    → ((p : List ℕ) → size ≤ length p → size ≤ length (text_of (fields p)))
-    → ((p : List ℕ) → IsBytes p → size ≤ length p → fields (text_of (fields p)) ≡ fields p)
+    → ((p : List ℕ) → length (encoding_of (fields p)) ≤ most)
+    → ((p : List ℕ) → size ≤ length p → size ≤ length (encoding_of (fields p)))
+    → ((p : List ℕ) → IsBytes p → size ≤ length p → fields (encoding_of (fields p)) ≡ fields p)
     → ((p : List ℕ) → IsBytes p → size ≤ length p → Fits (fields p))
-    → LawfulPayload (sized size fields) text_of Fits always none k e n
-sized_lawful {A} size fields text_of Fits most k e n enough wide length_most length_least again fits =
+    → LawfulPayload (sized size fields) encoding_of Fits always none k e n
+sized_lawful {A} size fields encoding_of Fits most k e n enough wide length_most length_least again fits =
     record {
       agrees = sized_agrees size fields;
       no_memory = memory_sized size fields;
       back = λ p a small means fine good.
-          let same : text_of a ≡ text_of (fields p) = ap text_of means.1 in (
+          let same : encoding_of a ≡ encoding_of (fields p) = ap encoding_of means.1 in (
             subst (λ (x : List ℕ). size ≤ length x) (sym same) (length_least p means.0),
             means.1 ∙ sym (again p small means.0) ∙ ap fields (sym same),
           );
       counted = λ p a means. omega arith;
       bounded = λ p a means.
           let more : k * (1 + size / 4) ≤ k * (1 + length p / 4) = mul-le-mul_left k (omega (arith, means.0)) in
-          omega (arith, ap (λ x. length (text_of x)) means.1, length_most p);
+          omega (arith, ap (λ x. length (encoding_of x)) means.1, length_most p);
       small = λ p a short small means. (
-        omega (arith, ap (λ x. length (text_of x)) means.1, length_most p),
+        omega (arith, ap (λ x. length (encoding_of x)) means.1, length_most p),
         subst Fits (sym means.1) (fits p small means.0),
       );
     }
 
 -- a record that is filled up with zeros
-pub filled_lawful : {A : Type 0} (fields : List ℕ → A) (text_of : A → List ℕ) (Fits : A → Type 0) (most k e n : ℕ)
+pub filled_lawful : {A : Type 0} (fields : List ℕ → A) (encoding_of : A → List ℕ) (Fits : A → Type 0) (most k e n : ℕ)
     → most ≤ most_payload
     → 4 + most + missing most + e ≤ k
-    → ((p : List ℕ) → length (text_of (fields p)) ≤ most)
-    → ((p : List ℕ) → IsBytes p → fields (text_of (fields p)) ≡ fields p)
+    → ((p : List ℕ) → length (encoding_of (fields p)) ≤ most)
+    → ((p : List ℕ) → IsBytes p → fields (encoding_of (fields p)) ≡ fields p)
     → ((p : List ℕ) → IsBytes p → Fits (fields p))
-    → LawfulPayload (filled fields) text_of Fits always none k e n
-filled_lawful {A} fields text_of Fits most k e n enough wide length_most again fits =
+    → LawfulPayload (filled fields) encoding_of Fits always none k e n
+filled_lawful {A} fields encoding_of Fits most k e n enough wide length_most again fits =
     record {
       agrees = filled_agrees fields;
       no_memory = memory_filled fields;
-      back = λ p a small means fine good. means ∙ sym (again p small) ∙ ap (λ x. fields (text_of x)) (sym means);
+      back = λ p a small means fine good. means ∙ sym (again p small) ∙ ap (λ x. fields (encoding_of x)) (sym means);
       counted = λ p a means. omega arith;
-      bounded = λ p a means. omega (arith, ap (λ x. length (text_of x)) means, length_most p);
+      bounded = λ p a means. omega (arith, ap (λ x. length (encoding_of x)) means, length_most p);
       small = λ p a short small means.
-          (omega (arith, ap (λ x. length (text_of x)) means, length_most p), subst Fits (sym means) (fits p small));
+          (omega (arith, ap (λ x. length (encoding_of x)) means, length_most p), subst Fits (sym means) (fits p small));
     }
 
--- ** records, whose text always has `size` bytes
+-- ** records, whose encoding always has `size` bytes
 
 -- one that is refused where the payload is shorter
-pub sized_record_lawful : {A : Type 0} (size n : ℕ) (of : List ℕ → A) (text_of : A → List ℕ)
-    → ((p : List ℕ) → length (text_of (of p)) ≡ size)
-    → ((p : List ℕ) → IsBytes p → of (text_of (of p)) ≡ of p)
+pub sized_record_lawful : {A : Type 0} (size n : ℕ) (of : List ℕ → A) (encoding_of : A → List ℕ)
+    → ((p : List ℕ) → length (encoding_of (of p)) ≡ size)
+    → ((p : List ℕ) → IsBytes p → of (encoding_of (of p)) ≡ of p)
     → size ≤ most_payload
-    → LawfulPayload (sized size of) text_of always always none plain_growth 0 n
-sized_record_lawful size n of text_of sized_as again enough =
-    sized_lawful size of text_of always size plain_growth 0 n enough (omega arith)
+    → LawfulPayload (sized size of) encoding_of always always none plain_growth 0 n
+sized_record_lawful size n of encoding_of sized_as again enough =
+    sized_lawful size of encoding_of always size plain_growth 0 n enough (omega arith)
     (λ p. omega (arith, sized_as p)) (λ p long. omega (arith, sized_as p)) (λ p small long. again p small)
     (λ p small long. tt)
 
 -- one that is filled up with zeros
-pub filled_record_lawful : {A : Type 0} (size n : ℕ) (of : List ℕ → A) (text_of : A → List ℕ)
-    → ((p : List ℕ) → length (text_of (of p)) ≡ size)
-    → ((p : List ℕ) → IsBytes p → of (text_of (of p)) ≡ of p)
+pub filled_record_lawful : {A : Type 0} (size n : ℕ) (of : List ℕ → A) (encoding_of : A → List ℕ)
+    → ((p : List ℕ) → length (encoding_of (of p)) ≡ size)
+    → ((p : List ℕ) → IsBytes p → of (encoding_of (of p)) ≡ of p)
     → size ≤ most_payload
-    → LawfulPayload (filled of) text_of always always none (4 + size + missing size) 0 n
-filled_record_lawful size n of text_of sized_as again enough =
-    filled_lawful of text_of always size (4 + size + missing size) 0 n enough (omega arith)
+    → LawfulPayload (filled of) encoding_of always always none (4 + size + missing size) 0 n
+filled_record_lawful size n of encoding_of sized_as again enough =
+    filled_lawful of encoding_of always size (4 + size + missing size) 0 n enough (omega arith)
     (λ p. omega (arith, sized_as p)) again (λ p small. tt)

@@ -20,7 +20,7 @@ frames_long : (p : List ℕ) (fs : List Frame) → Frames p fs → 0 < length p 
 frames_long p [] frames some = absurd (omega (arith, ap length frames))
 frames_long p (f ∷ fs) frames some = omega (arith, ap length frames.1.parts)
 
--- a text with e bytes fewer for each member has e fewer where there is anything, also where no member is kept
+-- an encoding with e bytes fewer for each member has e fewer where there is anything, also where no member is kept
 e_fewer : {V : Type 0} (frame : V → Frame) (k e : ℕ) (p : List ℕ) (fs : List Frame) (vs : List V) → e ≤ k → Frames p fs
     → length (canons frame vs) + e * length vs ≤ k * (length p / 4)
     → 0 < length p → length (canons frame vs) + e ≤ k * (length p / 4)

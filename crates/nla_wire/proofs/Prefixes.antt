@@ -27,7 +27,7 @@ module _ {A : Type 0} (P : A → Type 0) where
       (all_join (take i xs) (get_or xs i d ∷ []) all (one, tt))
 
 module _ {A : Type 0} (frame : A → Frame) where
-  -- one more text in front of those that were written
+  -- one more encoding in front of those that were written
   pub canons_front : (xs : List A) (i n : ℕ) (d : A) → i < length xs → n ≡ i + 1
       → canons frame (drop i xs) ≡ canon (frame (get_or xs i d)) ++ canons frame (drop n xs)
   canons_front xs i n d h e =
@@ -37,7 +37,7 @@ module _ {A : Type 0} (frame : A → Frame) where
       → length (canons frame (take i xs)) + length (canon (frame (get_or xs i d))) ≤ length (canons frame xs)
   canons_within xs i d h = length-flat_map-take (λ x. canon (frame x)) xs i d h
 
-  -- one text, and those after it, are within the texts of them all
+  -- one encoding, and those after it, are within the encodings of them all
   pub canons_after : (xs : List A) (i n : ℕ) (d : A) → i < length xs → n ≡ i + 1
       → length (canon (frame (get_or xs i d))) + length (canons frame (drop n xs)) ≤ length (canons frame xs)
   canons_after xs i n d h e =
@@ -52,27 +52,27 @@ module _ {A : Type 0} (frame : A → Frame) where
       ∙ length-append (canon (frame (get_or xs i d))) (canons frame (drop n xs)) in
       omega (arith, size, front)
 
--- a text written in front of what stands at the end
-pub Filled-more : (old mid new part text more : List ℕ) (at start n : ℕ)
-    → Filled old mid text start
+-- an encoding written in front of what stands at the end
+pub Filled-more : (old mid new part encoding more : List ℕ) (at start n : ℕ)
+    → Filled old mid encoding start
     → Filled (take start mid) part more at
     → n ≡ start
     → new ≡ part ++ drop n mid
-    → Filled old new (more ++ text) at
-Filled-more old mid new part text more at start n h k n_is new_is =
+    → Filled old new (more ++ encoding) at
+Filled-more old mid new part encoding more at start n h k n_is new_is =
     let fits : start ≤ length old = omega (arith, h.0) in
     let size : length (take start old) ≡ start = length-take-le start old fits in
-    let front : take start mid ≡ take start old = ap (take start) h.1 ∙ take_front start old text fits in
-    let after : drop start mid ≡ text = ap (drop start) h.1 ∙ drop_front start old text fits in
+    let front : take start mid ≡ take start old = ap (take start) h.1 ∙ take_front start old encoding fits in
+    let after : drop start mid ≡ encoding = ap (drop start) h.1 ∙ drop_front start old encoding fits in
     let le : at ≤ start = omega (arith, k.0, ap (λ (t : List ℕ). length t) front, size) in
     let kept : take at (take start mid) ≡ take at old = ap (take at) front ∙ take-take at start old le in
     let begun : part ≡ take at old ++ more = k.1 ∙ ap (λ (t : List ℕ). t ++ more) kept in (
-      omega (arith, h.0, k.0, ap (λ (t : List ℕ). length t) front, size, length-append more text),
+      omega (arith, h.0, k.0, ap (λ (t : List ℕ). length t) front, size, length-append more encoding),
       new_is ∙ ap (λ i. part ++ drop i mid) n_is ∙ ap (λ (t : List ℕ). part ++ t) after
-          ∙ ap (λ (t : List ℕ). t ++ text) begun ∙ append_assoc (take at old) more text,
+          ∙ ap (λ (t : List ℕ). t ++ encoding) begun ∙ append_assoc (take at old) more encoding,
     )
 
--- the texts up to a member, and that member's, are within the texts of them all
+-- the encodings up to a member, and that member's, are within the encodings of them all
 pub canons_up_to : {A : Type 0} (frame : A → Frame) (xs : List A) (i : ℕ) (x : A) → i < length xs → x ≡ get_or xs i x
     → length (canons frame (take i xs)) + length (canon (frame x)) ≤ length (canons frame xs)
 canons_up_to frame xs i x h is =
@@ -80,7 +80,7 @@ canons_up_to frame xs i x h is =
     ap (λ y. length (canon (frame y))) is in
     omega (arith, canons_within frame xs i x h, at_place)
 
--- a member's text, and those after it, are within the texts of them all
+-- a member's encoding, and those after it, are within the encodings of them all
 pub canons_from : {A : Type 0} (frame : A → Frame) (xs : List A) (i n : ℕ) (x : A) → i < length xs → n ≡ i + 1
     → x ≡ get_or xs i x
     → length (canon (frame x)) + length (canons frame (drop n xs)) ≤ length (canons frame xs)

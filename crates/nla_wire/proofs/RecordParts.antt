@@ -13,20 +13,20 @@ use Rattle.nla_wire.proofs.FieldLemmas.{be_number_at_below, be_number_at_front, 
 use Rattle.nla_wire.proofs.FieldLemmas.{length-to_le_bytes, get_or_zeros, length-zero_filled, zero_filled_again}
 
 -- a field of so many bytes: how it is read at a place of a payload that zeros follow, and how it is written
-pub record Part {A : Type 0} (size : ℕ) (read : List ℕ → ℕ → A) (text : A → List ℕ) : Type 0 where
+pub record Part {A : Type 0} (size : ℕ) (read : List ℕ → ℕ → A) (encoding : A → List ℕ) : Type 0 where
   -- it is read from its own bytes alone
   pub same : (a b : List ℕ) (x y : ℕ) → ((i : ℕ) → i < size → get_or a (x + i) 0 ≡ get_or b (y + i) 0)
       → read a x ≡ read b y
-  pub again : (p : List ℕ) (x : ℕ) → IsBytes p → read (text (read p x)) 0 ≡ read p x
-  pub sized : (p : List ℕ) (x : ℕ) → length (text (read p x)) ≡ size
+  pub again : (p : List ℕ) (x : ℕ) → IsBytes p → read (encoding (read p x)) 0 ≡ read p x
+  pub sized : (p : List ℕ) (x : ℕ) → length (encoding (read p x)) ≡ size
 
 -- one field after the other
 infixr 4 ◌&◌
-pub ◌&◌ : {A B : Type 0} {m n : ℕ} {read : List ℕ → ℕ → A} {text : A → List ℕ} {read' : List ℕ → ℕ → B}
-    {text' : B → List ℕ}
-    → Part m read text → Part n read' text'
-    → Part (m + n) (λ p x. (read p x, read' p (x + m))) (λ (v : A × B). text v.0 ++ text' v.1)
-◌&◌ {m} {n} {read} {text} {read'} {text'} f g = record {
+pub ◌&◌ : {A B : Type 0} {m n : ℕ} {read : List ℕ → ℕ → A} {encoding : A → List ℕ} {read' : List ℕ → ℕ → B}
+    {encoding' : B → List ℕ}
+    → Part m read encoding → Part n read' encoding'
+    → Part (m + n) (λ p x. (read p x, read' p (x + m))) (λ (v : A × B). encoding v.0 ++ encoding' v.1)
+◌&◌ {m} {n} {read} {encoding} {read'} {encoding'} f g = record {
   same = λ a b x y h.
       let here : read a x ≡ read b y = f.same a b x y (λ i l. h i (omega (arith, l))) in
       let after : read' a (x + m) ≡ read' b (y + m) = g.same a b (x + m) (y + m) (λ i l.
@@ -34,8 +34,8 @@ pub ◌&◌ : {A B : Type 0} {m n : ℕ} {read : List ℕ → ℕ → A} {text :
       ∙ ap (λ k. get_or b k 0) (sym (add_assoc y m i))) in
       (λ j. (here j, after j));
   again = λ p x h.
-      let t : List ℕ = text (read p x) in
-      let u : List ℕ = text' (read' p (x + m)) in
+      let t : List ℕ = encoding (read p x) in
+      let u : List ℕ = encoding' (read' p (x + m)) in
       let here : read (t ++ u) 0 ≡ read p x =
       f.same (t ++ u) t 0 0 (λ i l. get_or_append_left t u 0 (0 + i) (omega (arith, l, f.sized p x))) ∙ f.again p x h in
       let after : read' (t ++ u) (0 + m) ≡ read' p (x + m) =
@@ -44,12 +44,13 @@ pub ◌&◌ : {A B : Type 0} {m n : ℕ} {read : List ℕ → ℕ → A} {text :
       ∙ g.again p (x + m) h in
       (λ j. (here j, after j));
   sized = λ p x.
-      length-append (text (read p x)) (text' (read' p (x + m))) ∙ ap₂ (λ a b. a + b) (f.sized p x) (g.sized p (x + m));
+      length-append (encoding (read p x)) (encoding' (read' p (x + m)))
+      ∙ ap₂ (λ a b. a + b) (f.sized p x) (g.sized p (x + m));
 }
 
-pub laws_of : {A V : Type 0} {size : ℕ} {read : List ℕ → ℕ → A} {text : A → List ℕ} → Part size read text
+pub laws_of : {A V : Type 0} {size : ℕ} {read : List ℕ → ℕ → A} {encoding : A → List ℕ} → Part size read encoding
     → (make : A → V) (of : List ℕ → V) (bytes : V → List ℕ)
-    → ((p : List ℕ) → of p ≡ make (read p 0)) → ((p : List ℕ) → bytes (of p) ≡ text (read p 0))
+    → ((p : List ℕ) → of p ≡ make (read p 0)) → ((p : List ℕ) → bytes (of p) ≡ encoding (read p 0))
     → RecordLaws size of bytes
 laws_of {read} part make of bytes reads writes = record {
   zeros = λ p m.

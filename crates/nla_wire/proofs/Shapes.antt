@@ -22,21 +22,21 @@ ShapeChecks base s p answer = Checks answer ((base s).codec.grammar.reads p)
 
 -- a value of this shape fits
 abbrev pub ShapeFits : {S : Type 0} (base : S → Any) (s : S) → (base s).A → Type 0
-ShapeFits base s x = (length ((base s).codec.text x) ≤ most_payload) × (base s).codec.Inside x
+ShapeFits base s x = (length ((base s).codec.encoding x) ≤ most_payload) × (base s).codec.Inside x
 
--- how long the text of the value is that a payload of this shape means
+-- how long the encoding of the value is that a payload of this shape means
 abbrev pub ShapeWeighs : {S : Type 0} (base : S → Any) (s : S) → List ℕ → Option ℕ → Type 0
-ShapeWeighs base s p answer = Weighs (base s).codec.text (ShapeFits base s) ((base s).codec.grammar.reads p) answer
+ShapeWeighs base s p answer = Weighs (base s).codec.encoding (ShapeFits base s) ((base s).codec.grammar.reads p) answer
 
 -- there is room for the attribute of this kind that a payload of this shape means
 abbrev pub ShapeRoom : {S : Type 0} (base : S → Any) (s : S) (kind : ℕ) → List ℕ → ℕ → Type 0
-ShapeRoom base s kind p room = HasRoom (λ x. canon (frame_with kind ((base s).codec.text x))) (ShapeFits base s)
+ShapeRoom base s kind p room = HasRoom (λ x. canon (frame_with kind ((base s).codec.encoding x))) (ShapeFits base s)
     ((base s).codec.grammar.reads p) room
 
 -- that attribute stands at the front of a buffer
 abbrev pub ShapeWrites : {S : Type 0} (base : S → Any) (s : S) (kind : ℕ) → List ℕ → List ℕ → List ℕ → ℕ → Type 0
 ShapeWrites base s kind p old new n =
-    Rewrites (λ x. canon (frame_with kind ((base s).codec.text x))) ((base s).codec.grammar.reads p) old new n
+    Rewrites (λ x. canon (frame_with kind ((base s).codec.encoding x))) ((base s).codec.grammar.reads p) old new n
 
 checks_wrapped : {A V : Type 0} (make : A → V) (r : Result A Cause) (answer : Result Unit DecodeError) → Checks answer r
     → Checks answer (r >>= λ x. Ok (make x))
@@ -59,7 +59,7 @@ module _ {S : Type 0} (base : S → Any) {V : Type 0} (view : V → Seen) (Good 
     means x is = (base s).codec.lawful.agrees.found p x small is
 
     frame_is : (x : (base s).A) → (base s).codec.grammar.reads p ≡ Ok x
-        → (view (by.make x)).frame ≡ frame_with kind ((base s).codec.text x)
+        → (view (by.make x)).frame ≡ frame_with kind ((base s).codec.encoding x)
     frame_is x is = by.frame_is p x small (means x is)
 
     fits_there : (x : (base s).A) → (base s).codec.grammar.reads p ≡ Ok x → FitsAs base view Good (by.make x)
@@ -77,7 +77,7 @@ module _ {S : Type 0} (base : S → Any) {V : Type 0} (view : V → Seen) (Good 
     )
 
     weighs_read : (r : Result (base s).A Cause) → (base s).codec.grammar.reads p ≡ r → (a : Option ℕ)
-        → Weighs (base s).codec.text (ShapeFits base s) r a
+        → Weighs (base s).codec.encoding (ShapeFits base s) r a
         → Weighs (λ v. (view v).frame.payload) (FitsAs base view Good) (r >>= λ x. Ok (by.make x)) a
     weighs_read (Ok x) is (Some n) w =
         (fits_here x is w.0, w.1 ∙ sym (ap (λ (g : Frame). length g.payload) (frame_is x is)))
@@ -87,13 +87,13 @@ module _ {S : Type 0} (base : S → Any) {V : Type 0} (view : V → Seen) (Good 
 
     room_read : (r : Result (base s).A Cause) → (base s).codec.grammar.reads p ≡ r → (room : ℕ)
         → HasRoom (λ v. canon (view v).frame) (FitsAs base view Good) (r >>= λ x. Ok (by.make x)) room
-        → HasRoom (λ x. canon (frame_with kind ((base s).codec.text x))) (ShapeFits base s) r room
+        → HasRoom (λ x. canon (frame_with kind ((base s).codec.encoding x))) (ShapeFits base s) r room
     room_read (Ok x) is room h =
         (fits_there x is h.0, subst (λ (g : Frame). length (canon g) ≤ room) (frame_is x is) h.1)
     room_read (Err c) is room h = h
 
     writes_read : (r : Result (base s).A Cause) → (base s).codec.grammar.reads p ≡ r → (old new : List ℕ) (n : ℕ)
-        → Rewrites (λ x. canon (frame_with kind ((base s).codec.text x))) r old new n
+        → Rewrites (λ x. canon (frame_with kind ((base s).codec.encoding x))) r old new n
         → Rewrites (λ v. canon (view v).frame) (r >>= λ x. Ok (by.make x)) old new n
     writes_read (Ok x) is old new n w = subst (λ (g : Frame). Writes (canon g) old new n) (sym (frame_is x is)) w
     writes_read (Err c) is old new n w = tt

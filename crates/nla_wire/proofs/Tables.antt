@@ -24,7 +24,7 @@ pub record Seen : Type 1 where
 -- a value that is written with this kind by this codec
 abbrev pub held : {A : Type 0} {Good : A → Type 0} → ℕ → CodecWhere A Good → A → Seen
 held kind c a =
-    record { frame = record { kind = kind; payload = c.text a }; Inside = c.Inside a; count = 1 + c.count a }
+    record { frame = record { kind = kind; payload = c.encoding a }; Inside = c.Inside a; count = 1 + c.count a }
 
 -- a frame that is kept
 abbrev pub as_it_is : Frame → Seen
@@ -43,8 +43,8 @@ pub record Shaped {S : Type 0} (base : S → Any) (A : Type 0) (Good : A → Typ
   pub codec : CodecWhere A Good
   pub wrap : (base shape).A → A
   pub reads : (p : List ℕ) → codec.grammar.reads p ≡ ((base shape).codec.grammar.reads p >>= λ x. Ok (wrap x))
-  pub text_is : (p : List ℕ) (x : (base shape).A) → IsBytes p → (base shape).codec.grammar.means p x
-      → codec.text (wrap x) ≡ (base shape).codec.text x
+  pub encoding_is : (p : List ℕ) (x : (base shape).A) → IsBytes p → (base shape).codec.grammar.means p x
+      → codec.encoding (wrap x) ≡ (base shape).codec.encoding x
   pub inside : (p : List ℕ) (x : (base shape).A) → IsBytes p → (base shape).codec.grammar.means p x
       → codec.Inside (wrap x) → (base shape).codec.Inside x
   pub outside : (p : List ℕ) (x : (base shape).A) → IsBytes p → (base shape).codec.grammar.means p x
@@ -66,7 +66,7 @@ plain base s = record {
   codec = (base s).codec;
   wrap = λ x. x;
   reads = λ p. same_answer ((base s).codec.grammar.reads p);
-  text_is = λ p x small means. refl;
+  encoding_is = λ p x small means. refl;
   inside = λ p x small means fits. fits;
   outside = λ p x small means fits. fits;
 }
@@ -75,7 +75,7 @@ plain base s = record {
 abbrev pub standing : {S : Type 0} (base : S → Any) (s : S) {A : Type 0} (of : (base s).A → A) (c : CodecWhere A always)
     → ((p : List ℕ) → c.grammar.reads p ≡ ((base s).codec.grammar.reads p >>= λ x. Ok (of x)))
     → ((p : List ℕ) (x : (base s).A) → IsBytes p → (base s).codec.grammar.means p x
-    → c.text (of x) ≡ (base s).codec.text x)
+    → c.encoding (of x) ≡ (base s).codec.encoding x)
     → ((x : (base s).A) → (base s).codec.Inside x)
     → ((a : A) → c.Inside a)
     → Shaped base A always
@@ -84,7 +84,7 @@ standing base s of c reads same whole all = record {
   codec = c;
   wrap = of;
   reads = reads;
-  text_is = same;
+  encoding_is = same;
   inside = λ p x small means fits. whole x;
   outside = λ p x small means fits. all (of x);
 }
@@ -126,7 +126,7 @@ module _ {S : Type 0} (base : S → Any) {V : Type 0} (view : V → Seen) (Good 
     pub make : (base s).A → V
     pub reads : (f : Frame) → read f ≡ ((base s).codec.grammar.reads f.payload >>= λ x. Ok (make x))
     pub frame_is : (p : List ℕ) (x : (base s).A) → IsBytes p → (base s).codec.grammar.means p x
-        → (view (make x)).frame ≡ record { kind = kind; payload = (base s).codec.text x }
+        → (view (make x)).frame ≡ record { kind = kind; payload = (base s).codec.encoding x }
     pub inside : (p : List ℕ) (x : (base s).A) → IsBytes p → (base s).codec.grammar.means p x → (view (make x)).Inside
         → (base s).codec.Inside x
     pub outside : (p : List ℕ) (x : (base s).A) → IsBytes p → (base s).codec.grammar.means p x → (base s).codec.Inside x
@@ -216,10 +216,10 @@ module _ {S : Type 0} (base : S → Any) {V : Type 0} (view : V → Seen) (Good 
       let third = both (nat_le c.factor factor) _ second.1 in
       let fourth = both (nat_le (fewer + c.factor) (c.fewer + factor)) _ third.1 in
       let number_is : kind % 2 ^ 14 ≡ n = eqb-true (kind % 2 ^ 14) n (truth _ first.0) in
-      let inner = wider c.grammar c.text c.Inside GoodA c.count c.factor c.fewer c.enough factor fewer enough
+      let inner = wider c.grammar c.encoding c.Inside GoodA c.count c.factor c.fewer c.enough factor fewer enough
       (computed_le third.0) (computed_le fourth.0) (computed_le fourth.1) c.lawful in
       numbered frame_of FitsAs Good count_of factor fewer enough n (by_payload (as_a variant c.grammar))
-      (wrapped_lawful variant c.grammar c.text c.Inside GoodA c.count factor fewer enough inner kind frame_of FitsAs
+      (wrapped_lawful variant c.grammar c.encoding c.Inside GoodA c.count factor fewer enough inner kind frame_of FitsAs
       Good count_of (ltb-true kind (2 ^ 16) (truth _ second.0))
       (λ a. ap (λ (s : Seen). s.frame) (same a)) (λ a. ap (λ (s : Seen). s.count) (same a))
       (λ a fits.
@@ -244,7 +244,8 @@ module _ {S : Type 0} (base : S → Any) {V : Type 0} (view : V → Seen) (Good 
       reads = λ f. ap (λ r. r >>= λ a. Ok (variant a)) (s.reads f.payload)
           ∙ two_steps ((base s.shape).codec.grammar.reads f.payload) s.wrap variant;
       frame_is = λ p x small means. ap (λ (w : Seen). w.frame) (same (s.wrap x))
-          ∙ ap (λ t. record { kind = kind_of (base s.shape).flags number; payload = t }) (s.text_is p x small means);
+          ∙ ap (λ t. record { kind = kind_of (base s.shape).flags number; payload = t })
+          (s.encoding_is p x small means);
       inside = λ p x small means fits. s.inside p x small means (subst (λ (w : Seen). w.Inside) (same (s.wrap x)) fits);
       outside = λ p x small means fits.
           subst (λ (w : Seen). w.Inside) (sym (same (s.wrap x))) (s.outside p x small means fits);

@@ -117,7 +117,7 @@ module _ {S : Type 0} {base : S → Any} {V : Type 0} {Good : V → Type 0} wher
 
   -- this number where the payload has so many bytes: at any other size it is kept
   abbrev pub line_of_size : {A : Type 0} (number size : ℕ) (s : Shaped base A always) (variant : A → V)
-      → ((a : A) → length (s.codec.text a) ≡ size) → Line base Good A variant
+      → ((a : A) → length (s.codec.encoding a) ≡ size) → Line base Good A variant
   line_of_size number size s variant sized = record {
     seen = held (kind_of (base s.shape).flags number) s.codec;
     sure = s.codec.sure;
@@ -133,9 +133,9 @@ module _ {S : Type 0} {base : S → Any} {V : Type 0} {Good : V → Type 0} wher
   written kind c variant = record { seen = held kind c; sure = c.sure; entries = λ view same. [] }
 
   -- written so, and never read
-  abbrev pub emits : {A : Type 0} (kind : ℕ) (text : A → List ℕ) (variant : A → V) → Line base Good A variant
-  emits kind text variant = record {
-    seen = λ a. record { frame = record { kind = kind; payload = text a }; Inside = Unit {0}; count = 1 };
+  abbrev pub emits : {A : Type 0} (kind : ℕ) (encoding : A → List ℕ) (variant : A → V) → Line base Good A variant
+  emits kind encoding variant = record {
+    seen = λ a. record { frame = record { kind = kind; payload = encoding a }; Inside = Unit {0}; count = 1 };
     sure = Some (λ a. tt);
     entries = λ view same. [];
   }
