@@ -287,31 +287,31 @@ module _ {V : Type 0} (p : Place V) (level : Level) (closes : Closes p.grammar p
 -- ** a place of one kind
 
 module _ {A B : Type 0} (wrap : A → B) (inner : B → A) (c : CodecWhere A always) (same : (a : A) → inner (wrap a) ≡ a)
-    (kind : ℕ) (action : Action) (closes : ClosesPayload c.grammar c.text c.Inside always action) where
+    (kind : ℕ) (action : Action) (closes : ClosesPayload c.grammar c.encoding c.Inside always action) where
   pub place_of_closes : (n : ℕ) → ClosesAt (by_payload (as_a wrap c.grammar))
-      (λ b. record { kind = kind; payload = c.text (inner b) })
-      (λ b. (length (c.text (inner b)) ≤ most_payload) × c.Inside (inner b)) always n action
+      (λ b. record { kind = kind; payload = c.encoding (inner b) })
+      (λ b. (length (c.encoding (inner b)) ≤ most_payload) × c.Inside (inner b)) always n action
   place_of_closes n v own is =
       let a = own.means.0 in
       let e : inner v ≡ a = ap inner own.means.2 ∙ same a in
       let to = closes a (record {
-        bytes = subst (λ x. IsBytes (c.text x)) e own.framed.bytes;
-        means = subst (λ x. c.grammar.means (c.text x) a) e own.means.1;
+        bytes = subst (λ x. IsBytes (c.encoding x)) e own.framed.bytes;
+        means = subst (λ x. c.grammar.means (c.encoding x) a) e own.means.1;
         inside = subst c.Inside e own.fits.1;
         good = tt;
       }) in
       let b = to.value in
-      let text_is : c.text (inner (wrap b)) ≡ payload_by cleared action (c.text (inner v)) =
-      ap c.text (same b) ∙ to.text_is ∙ ap (λ x. payload_by cleared action (c.text x)) (sym e) in
+      let text_is : c.encoding (inner (wrap b)) ≡ payload_by cleared action (c.encoding (inner v)) =
+      ap c.encoding (same b) ∙ to.text_is ∙ ap (λ x. payload_by cleared action (c.encoding x)) (sym e) in
       record {
         value = wrap b;
-        means = (b, subst (λ x. c.grammar.means (c.text x) b) (sym (same b)) to.means, refl);
+        means = (b, subst (λ x. c.grammar.means (c.encoding x) b) (sym (same b)) to.means, refl);
         fits = (
           omega (
             arith,
             own.framed.size,
             ap (λ (t : List ℕ). length t) text_is,
-            length-payload_by action (c.text (inner v)),
+            length-payload_by action (c.encoding (inner v)),
           ),
           subst c.Inside (sym (same b)) to.inside,
         );
@@ -335,7 +335,7 @@ module _ {S : Type 0} (base : S → Any) {V : Type 0} (view : V → Seen) (Good 
       → ((a : A) → Good (variant a) → GoodA a)
       → ((a : A) → GoodA a → Good (variant a))
       → kind % 2 ^ 14 ≡ n
-      → ClosesPayload c.grammar c.text c.Inside GoodA action
+      → ClosesPayload c.grammar c.encoding c.Inside GoodA action
       → LineClosesAt n action
   line_closes n kind action c variant reads same good_in good_out number_is closes v own is =
       let f = (view v).frame in
@@ -344,7 +344,7 @@ module _ {S : Type 0} (base : S → Any) {V : Type 0} (view : V → Seen) (Good 
       (subst (λ m. (line_in base view Good m (length f.payload) es (undecoded other)).means f v) is own.means) in
       let a = read.0 in
       let seen : view v ≡ held kind c a = ap view read.2 ∙ same a in
-      let frame_is : f ≡ record { kind = kind; payload = c.text a } = ap (λ (s : Seen). s.frame) seen in
+      let frame_is : f ≡ record { kind = kind; payload = c.encoding a } = ap (λ (s : Seen). s.frame) seen in
       let to = closes a (record {
         bytes = subst (λ (x : Frame). IsBytes x.payload) frame_is own.framed.bytes;
         means = subst (λ (x : Frame). c.grammar.means x.payload a) frame_is read.1;
@@ -352,7 +352,7 @@ module _ {S : Type 0} (base : S → Any) {V : Type 0} (view : V → Seen) (Good 
         good = good_in a (subst Good read.2 own.good);
       }) in
       let w = variant to.value in
-      let new_is : (view w).frame ≡ record { kind = kind; payload = payload_by cleared action (c.text a) } =
+      let new_is : (view w).frame ≡ record { kind = kind; payload = payload_by cleared action (c.encoding a) } =
       ap (λ (s : Seen). s.frame) (same to.value) ∙ ap (λ t. record { kind = kind; payload = t }) to.text_is in
       let new_number : number (view w).frame ≡ n = ap number new_is ∙ number_is in
       let new_read : (by_payload (as_a variant c.grammar)).means (view w).frame w = (
@@ -375,7 +375,7 @@ module _ {S : Type 0} (base : S → Any) {V : Type 0} (view : V → Seen) (Good 
             own.framed.size,
             ap (λ (x : Frame). length x.payload) frame_is,
             ap (λ (x : Frame). length x.payload) new_is,
-            length-payload_by action (c.text a),
+            length-payload_by action (c.encoding a),
           ),
           subst (λ (s : Seen). s.Inside) (sym (same to.value)) to.inside,
         );

@@ -110,7 +110,7 @@ info_closes kind slave_kind =
     )
 
 -- by the kinds that are named
-by_kind : ClosesPayload (some_of link_info_place).grammar (some_of link_info_place).text
+by_kind : ClosesPayload (some_of link_info_place).grammar (some_of link_info_place).encoding
     (some_of link_info_place).Inside always EnterInfo
 by_kind vs own =
     some_of_closes link_info_place (info_level (canons link_info_place.frame vs)) (info_closes _ _) vs own
