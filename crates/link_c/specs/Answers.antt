@@ -24,7 +24,7 @@ of_canon Canons.OutOfMemory = OutOfMemory
 
 -- a refusal of `canonical_within`
 abbrev pub of_room : RoomError → Refusal
-of_room (Rooms.NoText e) = of_canon e
+of_room (Rooms.NoEncoding e) = of_canon e
 of_room (Rooms.NoRoom wanted) = NoRoom
 
 -- what was found holds of the number that a call returned, or of a refusal whose number it returned negated

@@ -9,7 +9,7 @@ ghost use Rattle.link_c.specs.Paths.{IsLookAlong};
 
 use crate::list::{Attribute, next_attribute, put_attribute};
 use crate::message::{
-    are_alike, check_message, have_same_state, look_for_fault, text_len, write_state, write_text,
+    are_alike, check_message, have_same_state, look_for_fault, encoding_len, write_state, write_encoding,
 };
 use crate::path::{Path, look_along};
 use crate::refusal::{done_code, fault_code, length_code, whether_code};
@@ -30,7 +30,7 @@ pub extern "C" fn linkwire_check(message: &[u8]) -> i32
 pub extern "C" fn linkwire_canonical_len(message: &[u8]) -> isize
     ensures { Says itself (IsLength message.now) result }
 {
-    length_code(text_len(message))
+    length_code(encoding_len(message))
 }
 
 /// `linkwire_canonical` of linkwire.h.
@@ -38,7 +38,7 @@ pub extern "C" fn linkwire_canonical_len(message: &[u8]) -> isize
 pub extern "C" fn linkwire_canonical(message: &[u8], out: &mut [u8]) -> isize
     ensures { Says itself (IsText message.now out.old out.new) result }
 {
-    length_code(write_text(message, out))
+    length_code(write_encoding(message, out))
 }
 
 /// `linkwire_same_message` of linkwire.h.

@@ -37,7 +37,7 @@ fn move_to(at: &mut usize, place: Option<usize>)
 /// The length of the canonical encoding of what the bytes mean.
 ///
 /// Refuses faults, `Unfit`, also where C has no number for the length, and `EmptyPorts`.
-pub fn text_len(bytes: &[u8]) -> Result<usize, Refusal>
+pub fn encoding_len(bytes: &[u8]) -> Result<usize, Refusal>
     ensures { IsLength bytes.now result }
 {
     let len = canonical_len(bytes)?;
@@ -50,9 +50,9 @@ pub fn text_len(bytes: &[u8]) -> Result<usize, Refusal>
 /// Writes what the bytes mean, in canonical encoding, to the front of the buffer, and returns its length. The rest of
 /// the buffer is kept.
 ///
-/// Refuses faults, `Unfit`, `EmptyPorts`, and `NoRoom` where the text is longer than the buffer. Then the buffer is
+/// Refuses faults, `Unfit`, `EmptyPorts`, and `NoRoom` where the encoding is longer than the buffer. Then the buffer is
 /// unchanged.
-pub fn write_text(bytes: &[u8], out: &mut [u8]) -> Result<usize, Refusal>
+pub fn write_encoding(bytes: &[u8], out: &mut [u8]) -> Result<usize, Refusal>
     ensures written { IsText bytes.now out.old out.new result }
     ensures short { IfOk result (λ n. n < 2 ^ 63) }
 {
@@ -62,7 +62,7 @@ pub fn write_text(bytes: &[u8], out: &mut [u8]) -> Result<usize, Refusal>
 
 /// Whether both mean the same message.
 ///
-/// Refuses as `write_text` does, but for `NoRoom`, and `OutOfMemory`.
+/// Refuses as `write_encoding` does, but for `NoRoom`, and `OutOfMemory`.
 pub fn are_alike(alloc: Global, first: &[u8], second: &[u8]) -> Result<bool, Refusal>
     ensures { IsComparison first.now second.now result }
 {
@@ -73,7 +73,7 @@ pub fn are_alike(alloc: Global, first: &[u8], second: &[u8]) -> Result<bool, Ref
 /// Writes the state encoding of what the bytes mean to the front of the buffer, and returns its length, which is that
 /// of the canonical encoding. The rest of the buffer is kept.
 ///
-/// Refuses as `write_text` does. Then the buffer is unchanged.
+/// Refuses as `write_encoding` does. Then the buffer is unchanged.
 pub fn write_state(bytes: &[u8], out: &mut [u8]) -> Result<usize, Refusal>
     ensures written { IsState bytes.now out.old out.new result }
     ensures short { IfOk result (λ n. n < 2 ^ 63) }

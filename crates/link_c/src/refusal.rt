@@ -81,7 +81,7 @@ impl From<RoomError> for Refusal {
 
     fn from(error: RoomError) -> Refusal {
         match error {
-            RoomError::NoText(error) => Refusal::from(error),
+            RoomError::NoEncoding(error) => Refusal::from(error),
             RoomError::NoRoom { .. } => Refusal::NoRoom,
         }
     }

@@ -29,7 +29,7 @@ SameRefusal a b = (canon_error_number a ≡ canon_error_number b)
 
 -- two refusals of a buffer are one: for want of a text, for the same refusal; or of room, for the same length
 abbrev pub SameRoomRefusal : RoomError → RoomError → Type 0
-SameRoomRefusal (Rooms.NoText e) (Rooms.NoText f) = SameRefusal e f
+SameRoomRefusal (Rooms.NoEncoding e) (Rooms.NoEncoding f) = SameRefusal e f
 SameRoomRefusal (Rooms.NoRoom n) (Rooms.NoRoom m) = n ≡ m
-SameRoomRefusal (Rooms.NoText e) (Rooms.NoRoom m) = ⊥
-SameRoomRefusal (Rooms.NoRoom n) (Rooms.NoText f) = ⊥
+SameRoomRefusal (Rooms.NoEncoding e) (Rooms.NoRoom m) = ⊥
+SameRoomRefusal (Rooms.NoRoom n) (Rooms.NoEncoding f) = ⊥

@@ -85,7 +85,7 @@ IsWritten b old new (Err e) = IsRefusalAlone b e × (new ≡ old)
 -- what `canonical_within` did: the same, and nothing was written either where the text has more bytes than the buffer
 abbrev pub IsWithin : List ℕ → List ℕ → List ℕ → Result ℕ RoomError → Type 0
 IsWithin b old new (Ok n) = (m : LinkMessage) × IsAccepted b m × Writes (message_text m) old new n
-IsWithin b old new (Err (Rooms.NoText e)) = IsRefusalAlone b e × (new ≡ old)
+IsWithin b old new (Err (Rooms.NoEncoding e)) = IsRefusalAlone b e × (new ≡ old)
 IsWithin b old new (Err (Rooms.NoRoom wanted)) =
     (m : LinkMessage) × IsAccepted b m × (wanted ≡ length (message_text m)) × (length old < wanted) × (new ≡ old)
 

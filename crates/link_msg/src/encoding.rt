@@ -121,7 +121,7 @@ fn measure(input: &[u8]) -> Result<(LinkHeader, &[u8], usize, usize), CanonError
 }
 
 /// Writes the canonical encoding of the attributes after the copied prefix, where the header and the prefix stand in
-/// the buffer, and returns the length of the message's text.
+/// the buffer, and returns the length of the message's encoding.
 fn write_after_prefix(header: &LinkHeader, rest: &[u8], prefix: usize, out: &mut [u8]) -> usize
     requires begins { IsPrefix header.now.interface_family rest.now prefix }
     requires measured { HasRoom (canons attribute_frame) (AllFit AttributeFits attribute_frame)
@@ -158,8 +158,8 @@ fn write_message(header: &LinkHeader, rest: &[u8], prefix: usize, out: &mut [u8]
     write_after_prefix(header, rest, prefix, out)
 }
 
-/// Memory for a text of this length, which begins with the header and the copied prefix, and ends with zeros.
-fn begin_text(
+/// Memory for an encoding of this length, which begins with the header and the copied prefix, and ends with zeros.
+fn begin_encoding(
     alloc: Global,
     header: &LinkHeader,
     prefix: &[u8],
@@ -169,14 +169,14 @@ fn begin_text(
     ensures { IfOk result (λ t. t.items ≡ header_bytes header.now ++ prefix.now
         ++ replicate (len - (header_size + length prefix.now)) 0) }
 {
-    let mut text = Vec::with_capacity(alloc, len)?;
-    text.extend_from_slice(LinkMessageBuffer::from(header).as_bytes())?;
-    text.extend_from_slice(prefix)?;
-    text.resize(len, 0)?;
-    Ok(text)
+    let mut encoding = Vec::with_capacity(alloc, len)?;
+    encoding.extend_from_slice(LinkMessageBuffer::from(header).as_bytes())?;
+    encoding.extend_from_slice(prefix)?;
+    encoding.resize(len, 0)?;
+    Ok(encoding)
 }
 
-/// The number of the canonical form: any change of any message's canonical encoding raises it. Texts of different
+/// The number of the canonical form: any change of any message's canonical encoding raises it. Encodings of different
 /// numbers are not to be compared, so a store keeps the number beside its keys.
 pub const CANONICAL_FORM: u32 = 2;
 
@@ -192,17 +192,17 @@ pub fn canonical_len(input: &[u8]) -> Result<usize, CanonError>
 
 /// What the bytes mean, in canonical encoding of the form `CANONICAL_FORM`.
 ///
-/// The text means the same message, and its attributes are at most `growth_per_byte` times as long as
-/// those read. Refuses as `canonical_len` does, or with `OutOfMemory`: the text is measured, memory for it is taken
+/// The encoding means the same message, and its attributes are at most `growth_per_byte` times as long as
+/// those read. Refuses as `canonical_len` does, or with `OutOfMemory`: the message is measured, memory for it is taken
 /// once, and it is written.
 pub fn canonical(alloc: Global, input: &[u8]) -> Result<Vec<u8>, CanonError>
     ensures ok { IfOk result (λ t. HasText input.now t.items) }
     ensures err { IfErr result (IsRefusal input.now) }
 {
     let (header, rest, len, prefix) = measure(input)?;
-    let mut text = begin_text(alloc, &header, &rest[..prefix], HEADER_SIZE + len)?;
-    let _len = write_after_prefix(&header, rest, prefix, text.as_mut_slice());
-    Ok(text)
+    let mut encoding = begin_encoding(alloc, &header, &rest[..prefix], HEADER_SIZE + len)?;
+    let _len = write_after_prefix(&header, rest, prefix, encoding.as_mut_slice());
+    Ok(encoding)
 }
 
 /// Whether two byte strings mean the same message, which is so exactly where their canonical encodings are equal.
@@ -223,11 +223,11 @@ pub fn same_message(alloc: Global, first: &[u8], second: &[u8]) -> Result<bool, 
 pub enum RoomError {
     /// There is no canonical encoding.
     #[error("{0}")]
-    NoText(CanonError),
+    NoEncoding(CanonError),
     /// The canonical encoding has more bytes than the buffer.
-    #[error("the text has {wanted} bytes")]
+    #[error("the canonical encoding has {wanted} bytes")]
     NoRoom {
-        /// The bytes of the text.
+        /// The bytes of the encoding.
         wanted: usize,
     },
 }
@@ -240,20 +240,20 @@ pub fn same_room_refusal(one: &RoomError, other: &RoomError) -> bool
 }
 
 impl From<CanonError> for RoomError {
-    ghost use Rattle.link_msg.specs.declared.encoding.RoomError.TheVariants.{NoText};
+    ghost use Rattle.link_msg.specs.declared.encoding.RoomError.TheVariants.{NoEncoding};
 
-    ghost from_gives = { λ e r. r ≡ NoText e };
+    ghost from_gives = { λ e r. r ≡ NoEncoding e };
 
     fn from(error: CanonError) -> RoomError {
-        RoomError::NoText(error)
+        RoomError::NoEncoding(error)
     }
 }
 
 /// Writes what the bytes mean, in canonical encoding, to the front of a buffer of any size, without memory, and returns
 /// its length. The rest of the buffer is kept.
 ///
-/// Refuses as `canonical_len` does, and `NoRoom` exactly where the text is longer than the buffer. After a refusal the
-/// buffer is unchanged. The message must not change during the call: the text is measured, and written then.
+/// Refuses as `canonical_len` does, and `NoRoom` exactly where the encoding is longer than the buffer. After a refusal
+/// the buffer is unchanged. The message must not change during the call: it is measured, and written then.
 pub fn canonical_within(input: &[u8], out: &mut [u8]) -> Result<usize, RoomError>
     ensures { IsWithin input.now out.old out.new result }
 {
@@ -269,7 +269,7 @@ pub fn canonical_within(input: &[u8], out: &mut [u8]) -> Result<usize, RoomError
 /// Writes what the bytes mean, in canonical encoding, to the front of the buffer, without memory, and returns its
 /// length. The rest of the buffer is kept.
 ///
-/// The buffer has room for the text: `growth_per_byte` times as many bytes as the input are enough, and so are those
+/// The buffer has room for the encoding: `growth_per_byte` times as many bytes as the input are enough, and so are those
 /// that `canonical_len` returns. Returns exactly what `canonical` returns with ample memory, and never `OutOfMemory`.
 /// After a refusal the buffer is unchanged. The message must not change during the call.
 pub fn canonical_into(input: &[u8], out: &mut [u8]) -> Result<usize, CanonError>
@@ -278,7 +278,7 @@ pub fn canonical_into(input: &[u8], out: &mut [u8]) -> Result<usize, CanonError>
 {
     match canonical_within(input, out) {
         Ok(len) => Ok(len),
-        Err(RoomError::NoText(error)) => Err(error),
+        Err(RoomError::NoEncoding(error)) => Err(error),
         // for the proof: never taken, since there is room
         Err(RoomError::NoRoom { wanted }) => Ok(wanted),
     }

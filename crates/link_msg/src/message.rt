@@ -140,7 +140,7 @@ impl LinkMessage {
         }
     }
 
-    /// Whether each attribute fits, and the length of the text is a `usize`.
+    /// Whether each attribute fits, and the length of the encoding is a `usize`.
     pub fn fits(&self) -> bool
         ensures { IsTrue result ↔ MessageFits self.now }
     {

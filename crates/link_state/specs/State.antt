@@ -51,6 +51,6 @@ IsStateWritten b old new (Err e) = IsRefusalAlone b e × (new ≡ old)
 -- what `state_within` did: the same, and nothing was written either where the text has more bytes than the buffer
 abbrev pub IsStateWithin : List ℕ → List ℕ → List ℕ → Result ℕ RoomError → Type 0
 IsStateWithin b old new (Ok n) = (m : LinkMessage) × IsAccepted b m × Writes (state (message_text m)) old new n
-IsStateWithin b old new (Err (Rooms.NoText e)) = IsRefusalAlone b e × (new ≡ old)
+IsStateWithin b old new (Err (Rooms.NoEncoding e)) = IsRefusalAlone b e × (new ≡ old)
 IsStateWithin b old new (Err (Rooms.NoRoom wanted)) =
     (m : LinkMessage) × IsAccepted b m × (wanted ≡ length (message_text m)) × (length old < wanted) × (new ≡ old)

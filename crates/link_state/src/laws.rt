@@ -11,8 +11,8 @@ pub fn law_state()
     ensures twice { StateTwice }
 {}
 
-/// The state encoding is the text with zeros at a mask, which depends on the frames alone. Two texts have one state
-/// encoding exactly where they have one mask, and are equal outside of it.
+/// The state encoding is the canonical encoding with zeros at a mask, which depends on the frames alone. Two canonical
+/// encodings have one state encoding exactly where they have one mask, and are equal outside of it.
 pub fn law_mask()
     ensures zero { ZeroAtItsMask }
     ensures stays { MaskStays }

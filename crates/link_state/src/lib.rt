@@ -5,9 +5,9 @@ mod kind;
 pub mod laws;
 mod level;
 pub mod numbers;
-mod state_text;
+mod state_encoding;
 mod walk;
 
 pub use kind::Kind;
 pub use level::{Level, clear};
-pub use state_text::{STATE_FORM, same_state, state, state_into, state_within};
+pub use state_encoding::{STATE_FORM, same_state, state, state_into, state_within};

@@ -22,7 +22,7 @@ fn of_bytes_that_are_no_frame(rt: HostRuntime) {
     }
     let mut out = [0; 19];
     let written = canonical_within(&STRAY, &mut out);
-    assert!(rt; written == Err(RoomError::NoText(CanonError::Decode(fault))));
+    assert!(rt; written == Err(RoomError::NoEncoding(CanonError::Decode(fault))));
 }
 
 #[test]

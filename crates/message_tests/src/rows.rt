@@ -199,7 +199,7 @@ fn without_room(
 ) -> Result<usize, CanonError> {
     match answer {
         Ok(len) => Ok(len),
-        Err(RoomError::NoText(error)) => Err(error),
+        Err(RoomError::NoEncoding(error)) => Err(error),
         Err(RoomError::NoRoom { wanted }) => panic!(rt; "{label}: the call wants {wanted} bytes"),
     }
 }

@@ -2,7 +2,7 @@ use Rattle.std.proofs.Common.{◌≡◌, ◌≤◌, ◌∙◌, List, ℕ, length
 use Rattle.link_msg.specs.Header.{header_size}
 use Rattle.link_msg.specs.Messages.{message_text}
 use Rattle.link_state.proofs.States.{has_header}
-use Rattle.link_state.proofs.state_text.state_within.Goals as goal
+use Rattle.link_state.proofs.state_encoding.state_within.Goals as goal
 
 pub clear_message-requires : goal.clear_message-requires
 clear_message-requires c =

@@ -20,21 +20,21 @@ pub const STATE_FORM: u32 = 1;
 /// The place of the header's mask of changed flags, its last four bytes.
 const CHANGE_MASK: usize = 12;
 
-/// Makes the state encoding of canonical encoding, in place.
-fn clear_message(text: &mut [u8])
-    requires { header_size ≤ length text.old }
-    ensures { text.new ≡ state text.old }
+/// Makes the state encoding of a canonical encoding, in place.
+fn clear_message(encoding: &mut [u8])
+    requires { header_size ≤ length encoding.old }
+    ensures { encoding.new ≡ state encoding.old }
 {
-    let level = Level::Message(AddressFamily::from(text[0]));
-    zero(&mut text[CHANGE_MASK..HEADER_SIZE]);
-    clear(&mut text[HEADER_SIZE..], level);
+    let level = Level::Message(AddressFamily::from(encoding[0]));
+    zero(&mut encoding[CHANGE_MASK..HEADER_SIZE]);
+    clear(&mut encoding[HEADER_SIZE..], level);
 }
 
 /// Writes the state encoding of what the bytes mean to the front of a buffer of any size, without memory, and returns
 /// its length, which is that of the canonical encoding. The rest of the buffer is kept.
 ///
 /// Refuses as `canonical_within` does, and with its causes: a fault, `DoesNotFit` and `EmptyVfPorts`, and `NoRoom`
-/// exactly where the text is longer than the buffer. After a refusal the buffer is unchanged.
+/// exactly where the encoding is longer than the buffer. After a refusal the buffer is unchanged.
 pub fn state_within(input: &[u8], out: &mut [u8]) -> Result<usize, RoomError>
     ensures { IsStateWithin input.now out.old out.new result }
 {
@@ -54,7 +54,7 @@ pub fn state_into(input: &[u8], out: &mut [u8]) -> Result<usize, CanonError>
 {
     match state_within(input, out) {
         Ok(len) => Ok(len),
-        Err(RoomError::NoText(error)) => Err(error),
+        Err(RoomError::NoEncoding(error)) => Err(error),
         // for the proof: never taken, since there is room
         Err(RoomError::NoRoom { wanted }) => Ok(wanted),
     }
@@ -68,9 +68,9 @@ pub fn state(alloc: Global, input: &[u8]) -> Result<Vec<u8>, CanonError>
     ensures ok { IfOk result (λ s. HasState input.now s.items) }
     ensures err { IfErr result (IsRefusal input.now) }
 {
-    let mut text = canonical(alloc, input)?;
-    clear_message(text.as_mut_slice());
-    Ok(text)
+    let mut encoding = canonical(alloc, input)?;
+    clear_message(encoding.as_mut_slice());
+    Ok(encoding)
 }
 
 /// Whether what two byte strings mean has one state encoding.
