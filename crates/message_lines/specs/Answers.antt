@@ -18,7 +18,7 @@ Encodes = List ℕ → List ℕ → Type 0
 pub record IsEncoding (Text : Encodes) : Type 0 where
   pub has : (b : List ℕ) (m : LinkMessage) → IsBytes b → IsAccepted b m → (t : List ℕ) × Text b t
   pub accepts : (b t : List ℕ) → Text b t → (m : LinkMessage) × IsAccepted b m
-  pub once : (b s t : List ℕ) → Text b s → Text b t → s ≡ t
+  pub once : (b s t : List ℕ) → IsBytes b → Text b s → Text b t → s ≡ t
 
 -- what a line is answered that spells these bytes
 pub data IsAnswerTo (Text : Encodes) (bytes answer : List ℕ) : Type 0 where

@@ -7,6 +7,7 @@ use Rattle.hex.specs.declared.error.FromHexError.{FromHexError}
 use Rattle.hex.proofs.HexLemmas.{decode_of-ok}
 use Rattle.nla_wire.specs.Frames.{IsBytes}
 use Rattle.link_msg.specs.Messages.{MeansNothing, message_text}
+use Rattle.link_msg.specs.Canonical.{HasText}
 use Rattle.link_msg.specs.OneAnswer.{Answer, HasOneAnswer}
 use Rattle.link_msg.specs.OneAnswer.{IsAnswer as IsOne}
 use Rattle.link_msg.proofs.OneAnswer.{one_answer as one_of_bytes}
@@ -14,6 +15,13 @@ use Rattle.link_msg.proofs.Answering.{accepted_text}
 use Rattle.line_filter.specs.Lines as filter
 use Rattle.message_lines.specs.Answers.{Encodes, IsEncoding, IsAnswerTo, IsAnswerToSpelled, IsAnswer}
 use Rattle.message_lines.specs.Answers.{EachHasOneAnswer}
+
+-- bytes have one canonical encoding, by the one answer that they have
+pub text_once : (b s t : List ℕ) → IsBytes b → HasText b s → HasText b t → s ≡ t
+text_once b s t bytes h k =
+    let one = one_of_bytes b bytes in
+    let same : Answer.Text s ≡ Answer.Text t = one.only (Answer.Text s) h ∙ sym (one.only (Answer.Text t) k) in
+    cc
 
 module _ (Text : Encodes) (laws : IsEncoding Text) where
   -- ** an answer to bytes
@@ -59,20 +67,20 @@ module _ (Text : Encodes) (laws : IsEncoding Text) where
       (one.only (Answer.Text (message_text some.0))
       (accepted_text b (message_text some.0) some.0 bytes some.1 refl)) (text, h, is)
 
-  told_once : (b : List ℕ) (a : Answer) (answer other : List ℕ) → IsTold b a answer → IsTold b a other
-      → other ≡ answer
+  told_once : (b : List ℕ) → IsBytes b → (a : Answer) (answer other : List ℕ) → IsTold b a answer
+      → IsTold b a other → other ≡ answer
   unfolding IsTold
-  told_once b (Answer.Text _) answer other h k =
-      k.2 ∙ ap (λ t. codes "ok " ++ encode_lower t) (laws.once b k.0 h.0 k.1 h.1) ∙ sym h.2
-  told_once b (Answer.Fault _) answer other h k = k ∙ sym h
-  told_once b Answer.Unfit answer other h k = k ∙ sym h
-  told_once b Answer.EmptyPorts answer other h k = k ∙ sym h
+  told_once b bytes (Answer.Text _) answer other h k =
+      k.2 ∙ ap (λ t. codes "ok " ++ encode_lower t) (laws.once b k.0 h.0 bytes k.1 h.1) ∙ sym h.2
+  told_once b bytes (Answer.Fault _) answer other h k = k ∙ sym h
+  told_once b bytes Answer.Unfit answer other h k = k ∙ sym h
+  told_once b bytes Answer.EmptyPorts answer other h k = k ∙ sym h
 
   only_answer : (b : List ℕ) → IsBytes b → (answer other : List ℕ) → IsAnswerTo Text b answer
       → IsAnswerTo Text b other → other ≡ answer
   only_answer b bytes answer other h k =
       let one = one_of_bytes b bytes in
-      told_once b one.answer answer other (told b bytes one answer h) (told b bytes one other k)
+      told_once b bytes one.answer answer other (told b bytes one answer h) (told b bytes one other k)
 
   -- ** an answer to a line
 
