@@ -152,13 +152,15 @@ def apply(edit, crate):
 
 
 def owner(text, at):
-    """Returns the function, or the named type, in which this place of a file stands, as `Type::name` or `name`."""
+    """Returns the function, the named type or the macro of a file in which a place of it stands, as `Type::name` or
+    `name`."""
     end = text.find("\n", at)
     head = text[: end if end >= 0 else len(text)]
-    items = re.findall(r"^( *)(?:pub(?:\(crate\))? )?(?:const )?(?:final )?(?:fn|type) (\w+)", head, re.M)
+    items = re.findall(r"^( *)(?:pub(?:\(crate\))? )?(?:const )?(?:final )?(?:fn|type) (\w+)|^()macro_rules! (\w+)",
+                       head, re.M)
     if not items:
         return ""
-    indent, name = items[-1]
+    indent, name = items[-1][0], items[-1][1] or items[-1][3]
     blocks = re.findall(r"^(?:pub )?(?:impl|trait)\b(?:<.*?>)? (?:[\w<>':, ]+ for )?(\w+)", head, re.M)
     return f"{blocks[-1]}::{name}" if indent and blocks else name
 

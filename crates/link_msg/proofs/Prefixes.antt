@@ -1,8 +1,8 @@
 -- The copied prefix of a list: a walk over the list's items tells it, and it is copied.
 use Rattle.std.proofs.Common.{◌≡◌, ℕ, ◌+◌, ◌-◌, ◌≤◌, inl, inr, List, [], ◌∷◌, ◌++◌, append_assoc}
 use Rattle.std.proofs.Common.{length, take, drop, replicate, flat_map, refl, ap, sym, ◌∙◌, subst, arith}
-use Rattle.std.proofs.Common.{Result, Ok, Err, length-append, length-drop}
-use Rattle.std.proofs.lemmas.List.{take-append-drop, length-take-le, take_at, drop_at, take_rest}
+use Rattle.std.proofs.Common.{Result, Ok, Err, length-append}
+use Rattle.std.proofs.lemmas.List.{take-append-drop, length-take-le, take_at, drop_at}
 use Rattle.std.specs.List.{AllByRecursion}
 use borrow.Rule.Slice.PartMut.{put_mid}
 use Rattle.nla_wire.specs.Frames.{Frame, IsBytes, missing, unpadded, Begins}

@@ -1,7 +1,7 @@
 -- The copied prefix: the attributes in front of a list whose canonical encoding is the bytes that they were read from.
 use Rattle.std.specs.Prelude.{◌≡◌, ℕ, ◌+◌, ◌≤◌, List, length, take, drop, replicate, Result, Ok}
 use Rattle.std.specs.List.{flat_map, AllByRecursion}
-use Rattle.nla_wire.specs.Frames.{Frame, number, IsBytes, missing}
+use Rattle.nla_wire.specs.Frames.{Frame, IsBytes, missing}
 use Rattle.nla_wire.specs.Reading.{list_of, with_front}
 use Rattle.nla_wire.specs.Canon.{canon}
 use Rattle.nla_wire.specs.declared.error.Cause.{Cause}

@@ -69,26 +69,7 @@ use Rattle.link_afspec.specs.declared.unspec.AfSpecUnspec.{AfSpecUnspec}
 use Rattle.link_afspec.specs.declared.bridge.AfSpecBridge.{AfSpecBridge}
 use Rattle.link_afspec.specs.declared.proto_bridge.LinkProtoInfoBridge.{LinkProtoInfoBridge}
 use Rattle.link_afspec.specs.declared.proto_inet6.LinkProtoInfoInet6.{LinkProtoInfoInet6}
-use Rattle.link_msg.specs.declared.numbers.TheConstants.{IFLA_ADDRESS, IFLA_BROADCAST, IFLA_IFNAME, IFLA_MTU}
-use Rattle.link_msg.specs.declared.numbers.TheConstants.{IFLA_LINK, IFLA_QDISC, IFLA_STATS, IFLA_MASTER}
-use Rattle.link_msg.specs.declared.numbers.TheConstants.{IFLA_WIRELESS, IFLA_PROTINFO, IFLA_TXQLEN, IFLA_MAP}
-use Rattle.link_msg.specs.declared.numbers.TheConstants.{IFLA_OPERSTATE, IFLA_LINKMODE, IFLA_LINKINFO}
-use Rattle.link_msg.specs.declared.numbers.TheConstants.{IFLA_NET_NS_PID, IFLA_IFALIAS, IFLA_NUM_VF, IFLA_VFINFO_LIST}
-use Rattle.link_msg.specs.declared.numbers.TheConstants.{IFLA_STATS64, IFLA_VF_PORTS, IFLA_PORT_SELF, IFLA_AF_SPEC}
-use Rattle.link_msg.specs.declared.numbers.TheConstants.{IFLA_GROUP, IFLA_NET_NS_FD, IFLA_EXT_MASK, IFLA_PROMISCUITY}
-use Rattle.link_msg.specs.declared.numbers.TheConstants.{IFLA_NUM_TX_QUEUES, IFLA_NUM_RX_QUEUES, IFLA_CARRIER}
-use Rattle.link_msg.specs.declared.numbers.TheConstants.{IFLA_PHYS_PORT_ID, IFLA_CARRIER_CHANGES, IFLA_PHYS_SWITCH_ID}
-use Rattle.link_msg.specs.declared.numbers.TheConstants.{IFLA_LINK_NETNSID, IFLA_PHYS_PORT_NAME, IFLA_PROTO_DOWN}
-use Rattle.link_msg.specs.declared.numbers.TheConstants.{IFLA_GSO_MAX_SEGS, IFLA_GSO_MAX_SIZE, IFLA_XDP, IFLA_EVENT}
-use Rattle.link_msg.specs.declared.numbers.TheConstants.{IFLA_NEW_NETNSID, IFLA_IF_NETNSID, IFLA_CARRIER_UP_COUNT}
-use Rattle.link_msg.specs.declared.numbers.TheConstants.{IFLA_CARRIER_DOWN_COUNT, IFLA_NEW_IFINDEX, IFLA_MIN_MTU}
-use Rattle.link_msg.specs.declared.numbers.TheConstants.{IFLA_MAX_MTU, IFLA_PROP_LIST, IFLA_PERM_ADDRESS}
-use Rattle.link_msg.specs.declared.numbers.TheConstants.{IFLA_PROTO_DOWN_REASON, IFLA_PARENT_DEV_NAME}
-use Rattle.link_msg.specs.declared.numbers.TheConstants.{IFLA_PARENT_DEV_BUS_NAME, IFLA_GRO_MAX_SIZE}
-use Rattle.link_msg.specs.declared.numbers.TheConstants.{IFLA_TSO_MAX_SIZE, IFLA_TSO_MAX_SEGS, IFLA_ALLMULTI}
-use Rattle.link_msg.specs.declared.numbers.TheConstants.{IFLA_DEVLINK_PORT, IFLA_GSO_IPV4_MAX_SIZE}
-use Rattle.link_msg.specs.declared.numbers.TheConstants.{IFLA_GRO_IPV4_MAX_SIZE, IFLA_DPLL_PIN, IFLA_NETNS_IMMUTABLE}
-use Rattle.link_msg.specs.declared.numbers.TheConstants.{IFLA_HEADROOM, IFLA_TAILROOM}
+use Rattle.link_msg.specs.declared.numbers.TheConstants as kernel
 use Rattle.link_msg.specs.declared.shape.Shape.{Shape}
 use Rattle.link_msg.specs.declared.shape.Shape.TheVariants as Shapes
 use Rattle.link_msg.specs.declared.attribute.LinkAttribute.{LinkAttribute}
@@ -332,73 +313,73 @@ NotEmptyPorts _ = Unit {0}
 
 abbrev pub attribute_table : Table base attributes NotEmptyPorts
 attribute_table =
-    line IFLA_ADDRESS bytes Attributes.Address
-    & line IFLA_BROADCAST bytes Attributes.Broadcast
-    & line IFLA_IFNAME text Attributes.IfName
-    & line IFLA_MTU u32 Attributes.Mtu
-    & line IFLA_LINK u32 Attributes.Link
-    & line IFLA_QDISC text Attributes.Qdisc
-    & line IFLA_STATS stats Attributes.Stats
-    & line IFLA_MASTER u32 Attributes.Controller
-    & line IFLA_WIRELESS wireless Attributes.Wireless
-    & written (kind_of true IFLA_PROTINFO) bridge_infos Attributes.ProtoInfoBridge
-    & written (kind_of true IFLA_PROTINFO) inet6_infos Attributes.ProtoInfoInet6
+    line kernel.IFLA_ADDRESS bytes Attributes.Address
+    & line kernel.IFLA_BROADCAST bytes Attributes.Broadcast
+    & line kernel.IFLA_IFNAME text Attributes.IfName
+    & line kernel.IFLA_MTU u32 Attributes.Mtu
+    & line kernel.IFLA_LINK u32 Attributes.Link
+    & line kernel.IFLA_QDISC text Attributes.Qdisc
+    & line kernel.IFLA_STATS stats Attributes.Stats
+    & line kernel.IFLA_MASTER u32 Attributes.Controller
+    & line kernel.IFLA_WIRELESS wireless Attributes.Wireless
+    & written (kind_of true kernel.IFLA_PROTINFO) bridge_infos Attributes.ProtoInfoBridge
+    & written (kind_of true kernel.IFLA_PROTINFO) inet6_infos Attributes.ProtoInfoInet6
     & keeps Attributes.ProtoInfoUnknown
-    & line IFLA_TXQLEN u32 Attributes.TxQueueLen
-    & line IFLA_MAP map Attributes.Map
-    & line IFLA_OPERSTATE oper_state Attributes.OperState
-    & line IFLA_LINKMODE mode Attributes.Mode
-    & line IFLA_LINKINFO infos Attributes.LinkInfo
-    & line IFLA_NET_NS_PID u32 Attributes.NetNsPid
-    & line IFLA_IFALIAS text Attributes.IfAlias
-    & line IFLA_NUM_VF u32 Attributes.NumVf
-    & line IFLA_VFINFO_LIST functions Attributes.VfInfoList
-    & line IFLA_STATS64 stats64 Attributes.Stats64
-    & line_where IFLA_VF_PORTS ports Attributes.VfPorts (λ a good. (good, all_always a))
-    & line IFLA_PORT_SELF port Attributes.PortSelf
-    & written IFLA_AF_SPEC bridges Attributes.AfSpecBridge
-    & written IFLA_AF_SPEC unspecs Attributes.AfSpecUnspec
-    & written IFLA_AF_SPEC codec.bytes Attributes.AfSpecUnknown
-    & line IFLA_GROUP u32 Attributes.Group
-    & line IFLA_NET_NS_FD i32 Attributes.NetNsFd
-    & line IFLA_EXT_MASK ext_mask Attributes.ExtMask
-    & line IFLA_PROMISCUITY u32 Attributes.Promiscuity
-    & line IFLA_NUM_TX_QUEUES u32 Attributes.NumTxQueues
-    & line IFLA_NUM_RX_QUEUES u32 Attributes.NumRxQueues
-    & line IFLA_CARRIER u8 Attributes.Carrier
-    & line IFLA_PHYS_PORT_ID phys_id Attributes.PhysPortId
-    & line IFLA_CARRIER_CHANGES u32 Attributes.CarrierChanges
-    & line IFLA_PHYS_SWITCH_ID phys_id Attributes.PhysSwitchId
-    & line IFLA_LINK_NETNSID i32 Attributes.LinkNetNsId
-    & line IFLA_PHYS_PORT_NAME text Attributes.PhysPortName
-    & line IFLA_PROTO_DOWN u8 Attributes.ProtoDown
-    & line IFLA_GSO_MAX_SEGS u32 Attributes.GsoMaxSegs
-    & line IFLA_GSO_MAX_SIZE u32 Attributes.GsoMaxSize
-    & line IFLA_XDP xdps Attributes.Xdp
-    & line IFLA_EVENT link_event Attributes.Event
-    & line IFLA_NEW_NETNSID i32 Attributes.NewNetnsId
-    & line IFLA_IF_NETNSID i32 Attributes.IfNetnsId
-    & line IFLA_CARRIER_UP_COUNT u32 Attributes.CarrierUpCount
-    & line IFLA_CARRIER_DOWN_COUNT u32 Attributes.CarrierDownCount
-    & line IFLA_NEW_IFINDEX i32 Attributes.NewIfIndex
-    & line IFLA_MIN_MTU u32 Attributes.MinMtu
-    & line IFLA_MAX_MTU u32 Attributes.MaxMtu
-    & line IFLA_PROP_LIST props Attributes.PropList
-    & line IFLA_PERM_ADDRESS bytes Attributes.PermAddress
-    & line IFLA_PROTO_DOWN_REASON reasons Attributes.ProtoDownReason
-    & line IFLA_PARENT_DEV_NAME text Attributes.ParentDevName
-    & line IFLA_PARENT_DEV_BUS_NAME text Attributes.ParentDevBusName
-    & line IFLA_GRO_MAX_SIZE u32 Attributes.GroMaxSize
-    & line IFLA_TSO_MAX_SIZE u32 Attributes.TsoMaxSize
-    & line IFLA_TSO_MAX_SEGS u32 Attributes.TsoMaxSegs
-    & line IFLA_ALLMULTI u32 Attributes.AllMulticast
-    & line IFLA_DEVLINK_PORT devlink_ports Attributes.DevlinkPort
-    & line IFLA_GSO_IPV4_MAX_SIZE u32 Attributes.GsoIpv4MaxSize
-    & line IFLA_GRO_IPV4_MAX_SIZE u32 Attributes.GroIpv4MaxSize
-    & line IFLA_DPLL_PIN dpll_pins Attributes.DpllPin
-    & line IFLA_NETNS_IMMUTABLE truth Attributes.NetnsImmutable
-    & line_of_size IFLA_HEADROOM 2 u16 Attributes.Headroom (length-to_le_bytes w16)
-    & line_of_size IFLA_TAILROOM 2 u16 Attributes.Tailroom (length-to_le_bytes w16)
+    & line kernel.IFLA_TXQLEN u32 Attributes.TxQueueLen
+    & line kernel.IFLA_MAP map Attributes.Map
+    & line kernel.IFLA_OPERSTATE oper_state Attributes.OperState
+    & line kernel.IFLA_LINKMODE mode Attributes.Mode
+    & line kernel.IFLA_LINKINFO infos Attributes.LinkInfo
+    & line kernel.IFLA_NET_NS_PID u32 Attributes.NetNsPid
+    & line kernel.IFLA_IFALIAS text Attributes.IfAlias
+    & line kernel.IFLA_NUM_VF u32 Attributes.NumVf
+    & line kernel.IFLA_VFINFO_LIST functions Attributes.VfInfoList
+    & line kernel.IFLA_STATS64 stats64 Attributes.Stats64
+    & line_where kernel.IFLA_VF_PORTS ports Attributes.VfPorts (λ a good. (good, all_always a))
+    & line kernel.IFLA_PORT_SELF port Attributes.PortSelf
+    & written kernel.IFLA_AF_SPEC bridges Attributes.AfSpecBridge
+    & written kernel.IFLA_AF_SPEC unspecs Attributes.AfSpecUnspec
+    & written kernel.IFLA_AF_SPEC codec.bytes Attributes.AfSpecUnknown
+    & line kernel.IFLA_GROUP u32 Attributes.Group
+    & line kernel.IFLA_NET_NS_FD i32 Attributes.NetNsFd
+    & line kernel.IFLA_EXT_MASK ext_mask Attributes.ExtMask
+    & line kernel.IFLA_PROMISCUITY u32 Attributes.Promiscuity
+    & line kernel.IFLA_NUM_TX_QUEUES u32 Attributes.NumTxQueues
+    & line kernel.IFLA_NUM_RX_QUEUES u32 Attributes.NumRxQueues
+    & line kernel.IFLA_CARRIER u8 Attributes.Carrier
+    & line kernel.IFLA_PHYS_PORT_ID phys_id Attributes.PhysPortId
+    & line kernel.IFLA_CARRIER_CHANGES u32 Attributes.CarrierChanges
+    & line kernel.IFLA_PHYS_SWITCH_ID phys_id Attributes.PhysSwitchId
+    & line kernel.IFLA_LINK_NETNSID i32 Attributes.LinkNetNsId
+    & line kernel.IFLA_PHYS_PORT_NAME text Attributes.PhysPortName
+    & line kernel.IFLA_PROTO_DOWN u8 Attributes.ProtoDown
+    & line kernel.IFLA_GSO_MAX_SEGS u32 Attributes.GsoMaxSegs
+    & line kernel.IFLA_GSO_MAX_SIZE u32 Attributes.GsoMaxSize
+    & line kernel.IFLA_XDP xdps Attributes.Xdp
+    & line kernel.IFLA_EVENT link_event Attributes.Event
+    & line kernel.IFLA_NEW_NETNSID i32 Attributes.NewNetnsId
+    & line kernel.IFLA_IF_NETNSID i32 Attributes.IfNetnsId
+    & line kernel.IFLA_CARRIER_UP_COUNT u32 Attributes.CarrierUpCount
+    & line kernel.IFLA_CARRIER_DOWN_COUNT u32 Attributes.CarrierDownCount
+    & line kernel.IFLA_NEW_IFINDEX i32 Attributes.NewIfIndex
+    & line kernel.IFLA_MIN_MTU u32 Attributes.MinMtu
+    & line kernel.IFLA_MAX_MTU u32 Attributes.MaxMtu
+    & line kernel.IFLA_PROP_LIST props Attributes.PropList
+    & line kernel.IFLA_PERM_ADDRESS bytes Attributes.PermAddress
+    & line kernel.IFLA_PROTO_DOWN_REASON reasons Attributes.ProtoDownReason
+    & line kernel.IFLA_PARENT_DEV_NAME text Attributes.ParentDevName
+    & line kernel.IFLA_PARENT_DEV_BUS_NAME text Attributes.ParentDevBusName
+    & line kernel.IFLA_GRO_MAX_SIZE u32 Attributes.GroMaxSize
+    & line kernel.IFLA_TSO_MAX_SIZE u32 Attributes.TsoMaxSize
+    & line kernel.IFLA_TSO_MAX_SEGS u32 Attributes.TsoMaxSegs
+    & line kernel.IFLA_ALLMULTI u32 Attributes.AllMulticast
+    & line kernel.IFLA_DEVLINK_PORT devlink_ports Attributes.DevlinkPort
+    & line kernel.IFLA_GSO_IPV4_MAX_SIZE u32 Attributes.GsoIpv4MaxSize
+    & line kernel.IFLA_GRO_IPV4_MAX_SIZE u32 Attributes.GroIpv4MaxSize
+    & line kernel.IFLA_DPLL_PIN dpll_pins Attributes.DpllPin
+    & line kernel.IFLA_NETNS_IMMUTABLE truth Attributes.NetnsImmutable
+    & line_of_size kernel.IFLA_HEADROOM 2 u16 Attributes.Headroom (length-to_le_bytes w16)
+    & line_of_size kernel.IFLA_TAILROOM 2 u16 Attributes.Tailroom (length-to_le_bytes w16)
     & keeps Attributes.Other
     & tt
 
@@ -428,23 +409,23 @@ Values = List LinkAttribute
 -- ** what the header's family decides
 
 -- IFLA_PROTINFO
-unfoldable pub proto_info : AddressFamily → Reading base attribute_view NotEmptyPorts IFLA_PROTINFO
+unfoldable pub proto_info : AddressFamily → Reading base attribute_view NotEmptyPorts kernel.IFLA_PROTINFO
 unfolding attribute_view
-proto_info Families.Inet6 = shaping base attribute_view NotEmptyPorts IFLA_PROTINFO
+proto_info Families.Inet6 = shaping base attribute_view NotEmptyPorts kernel.IFLA_PROTINFO
     (by_shape Shapes.Inet6Infos) Attributes.ProtoInfoInet6 (λ a. refl) (λ a good. tt)
-proto_info Families.Bridge = shaping base attribute_view NotEmptyPorts IFLA_PROTINFO
+proto_info Families.Bridge = shaping base attribute_view NotEmptyPorts kernel.IFLA_PROTINFO
     (by_shape Shapes.BridgeInfos) Attributes.ProtoInfoBridge (λ a. refl) (λ a good. tt)
-proto_info _ = keeping base attribute_view NotEmptyPorts IFLA_PROTINFO Attributes.ProtoInfoUnknown (λ f. refl)
+proto_info _ = keeping base attribute_view NotEmptyPorts kernel.IFLA_PROTINFO Attributes.ProtoInfoUnknown (λ f. refl)
 
 -- IFLA_AF_SPEC
-unfoldable pub af_spec : AddressFamily → Reading base attribute_view NotEmptyPorts IFLA_AF_SPEC
+unfoldable pub af_spec : AddressFamily → Reading base attribute_view NotEmptyPorts kernel.IFLA_AF_SPEC
 unfolding attribute_view
-af_spec Families.Unspec = shaping base attribute_view NotEmptyPorts IFLA_AF_SPEC
+af_spec Families.Unspec = shaping base attribute_view NotEmptyPorts kernel.IFLA_AF_SPEC
     (by_shape Shapes.Unspecs) Attributes.AfSpecUnspec (λ a. refl) (λ a good. tt)
-af_spec Families.Bridge = shaping base attribute_view NotEmptyPorts IFLA_AF_SPEC
+af_spec Families.Bridge = shaping base attribute_view NotEmptyPorts kernel.IFLA_AF_SPEC
     (by_shape Shapes.Bridges) Attributes.AfSpecBridge (λ a. refl) (λ a good. tt)
 af_spec _ =
-    shaping base attribute_view NotEmptyPorts IFLA_AF_SPEC bytes Attributes.AfSpecUnknown (λ a. refl) (λ a good. tt)
+    shaping base attribute_view NotEmptyPorts kernel.IFLA_AF_SPEC bytes Attributes.AfSpecUnknown (λ a. refl) (λ a good. tt)
 
 -- ** the place
 
@@ -452,8 +433,8 @@ unfoldable pub attribute_entries : AddressFamily → List {1} (Entry base attrib
 unfolding attribute_view
 attribute_entries family =
     entries_of base attributes NotEmptyPorts attribute_table
-    ++ record { number = IFLA_PROTINFO; size = None; reading = proto_info family; keeps_size = tt }
-    ∷ record { number = IFLA_AF_SPEC; size = None; reading = af_spec family; keeps_size = tt }
+    ++ record { number = kernel.IFLA_PROTINFO; size = None; reading = proto_info family; keeps_size = tt }
+    ∷ record { number = kernel.IFLA_AF_SPEC; size = None; reading = af_spec family; keeps_size = tt }
     ∷ []
 
 unfoldable pub attribute_place : AddressFamily → Grammar Frame LinkAttribute

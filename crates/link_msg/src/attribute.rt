@@ -245,6 +245,84 @@ pub(crate) enum View<'a> {
     Unspecs(&'a [AfSpecUnspec]),
 }
 
+/// A row for each variant, in their order, for `view` and `CloneIn`: how it is copied, its name, what it holds, its kind
+/// with both flag bits, and what its value is written from. `plain` is copied as it is, `held` with memory, and `mask`
+/// is a list of flags.
+macro_rules! variants {
+    ($then:ident) => {
+        $then! {
+            held Address(bytes => IFLA_ADDRESS, View::Flat(FlatView::Bytes(bytes.as_slice())))
+            held Broadcast(bytes => IFLA_BROADCAST, View::Flat(FlatView::Bytes(bytes.as_slice())))
+            held IfName(text => IFLA_IFNAME, View::Flat(FlatView::Text(text.as_str())))
+            plain Mtu(n => IFLA_MTU, View::Flat(FlatView::U32(*n)))
+            plain Link(n => IFLA_LINK, View::Flat(FlatView::U32(*n)))
+            held Qdisc(text => IFLA_QDISC, View::Flat(FlatView::Text(text.as_str())))
+            plain Stats(stats => IFLA_STATS, View::Stats(stats))
+            plain Controller(n => IFLA_MASTER, View::Flat(FlatView::U32(*n)))
+            held Wireless(event => IFLA_WIRELESS, View::Event(event))
+            held ProtoInfoBridge(members => IFLA_PROTINFO | NLA_F_NESTED, View::BridgeInfos(members.as_slice()))
+            held ProtoInfoInet6(members => IFLA_PROTINFO | NLA_F_NESTED, View::Inet6Infos(members.as_slice()))
+            held ProtoInfoUnknown(nla => nla.kind(), View::Flat(FlatView::Bytes(nla.value())))
+            plain TxQueueLen(n => IFLA_TXQLEN, View::Flat(FlatView::U32(*n)))
+            plain Map(map => IFLA_MAP, View::Map(map))
+            plain OperState(state => IFLA_OPERSTATE, View::Flat(FlatView::U8(u8::from(*state))))
+            plain Mode(mode => IFLA_LINKMODE, View::Flat(FlatView::U8(u8::from(*mode))))
+            held LinkInfo(members => IFLA_LINKINFO, View::Infos(members.as_slice()))
+            plain NetNsPid(n => IFLA_NET_NS_PID, View::Flat(FlatView::U32(*n)))
+            held IfAlias(text => IFLA_IFALIAS, View::Flat(FlatView::Text(text.as_str())))
+            plain NumVf(n => IFLA_NUM_VF, View::Flat(FlatView::U32(*n)))
+            held VfInfoList(members => IFLA_VFINFO_LIST, View::Functions(members.as_slice()))
+            plain Stats64(stats => IFLA_STATS64, View::Stats64(stats))
+            held VfPorts(members => IFLA_VF_PORTS, View::Ports(members.as_slice()))
+            held PortSelf(port => IFLA_PORT_SELF, View::Port(port.0.as_slice()))
+            held AfSpecBridge(members => IFLA_AF_SPEC, View::Bridges(members.as_slice()))
+            held AfSpecUnspec(members => IFLA_AF_SPEC, View::Unspecs(members.as_slice()))
+            held AfSpecUnknown(bytes => IFLA_AF_SPEC, View::Flat(FlatView::Bytes(bytes.as_slice())))
+            plain Group(n => IFLA_GROUP, View::Flat(FlatView::U32(*n)))
+            plain NetNsFd(n => IFLA_NET_NS_FD, View::Flat(FlatView::I32(*n)))
+            mask ExtMask(flags => IFLA_EXT_MASK, View::Mask(flags.as_slice()))
+            plain Promiscuity(n => IFLA_PROMISCUITY, View::Flat(FlatView::U32(*n)))
+            plain NumTxQueues(n => IFLA_NUM_TX_QUEUES, View::Flat(FlatView::U32(*n)))
+            plain NumRxQueues(n => IFLA_NUM_RX_QUEUES, View::Flat(FlatView::U32(*n)))
+            plain Carrier(n => IFLA_CARRIER, View::Flat(FlatView::U8(*n)))
+            plain PhysPortId(id => IFLA_PHYS_PORT_ID, View::Id(id))
+            plain CarrierChanges(n => IFLA_CARRIER_CHANGES, View::Flat(FlatView::U32(*n)))
+            plain PhysSwitchId(id => IFLA_PHYS_SWITCH_ID, View::Id(id))
+            plain LinkNetNsId(n => IFLA_LINK_NETNSID, View::Flat(FlatView::I32(*n)))
+            held PhysPortName(text => IFLA_PHYS_PORT_NAME, View::Flat(FlatView::Text(text.as_str())))
+            plain ProtoDown(n => IFLA_PROTO_DOWN, View::Flat(FlatView::U8(*n)))
+            plain GsoMaxSegs(n => IFLA_GSO_MAX_SEGS, View::Flat(FlatView::U32(*n)))
+            plain GsoMaxSize(n => IFLA_GSO_MAX_SIZE, View::Flat(FlatView::U32(*n)))
+            held Xdp(members => IFLA_XDP, View::Xdps(members.as_slice()))
+            plain Event(event => IFLA_EVENT, View::Flat(FlatView::U32(u32::from(*event))))
+            plain NewNetnsId(n => IFLA_NEW_NETNSID, View::Flat(FlatView::I32(*n)))
+            plain IfNetnsId(n => IFLA_IF_NETNSID, View::Flat(FlatView::I32(*n)))
+            plain CarrierUpCount(n => IFLA_CARRIER_UP_COUNT, View::Flat(FlatView::U32(*n)))
+            plain CarrierDownCount(n => IFLA_CARRIER_DOWN_COUNT, View::Flat(FlatView::U32(*n)))
+            plain NewIfIndex(n => IFLA_NEW_IFINDEX, View::Flat(FlatView::I32(*n)))
+            plain MinMtu(n => IFLA_MIN_MTU, View::Flat(FlatView::U32(*n)))
+            plain MaxMtu(n => IFLA_MAX_MTU, View::Flat(FlatView::U32(*n)))
+            held PropList(members => IFLA_PROP_LIST | NLA_F_NESTED, View::Props(members.as_slice()))
+            held PermAddress(bytes => IFLA_PERM_ADDRESS, View::Flat(FlatView::Bytes(bytes.as_slice())))
+            held ProtoDownReason(members => IFLA_PROTO_DOWN_REASON, View::Reasons(members.as_slice()))
+            held ParentDevName(text => IFLA_PARENT_DEV_NAME, View::Flat(FlatView::Text(text.as_str())))
+            held ParentDevBusName(text => IFLA_PARENT_DEV_BUS_NAME, View::Flat(FlatView::Text(text.as_str())))
+            plain GroMaxSize(n => IFLA_GRO_MAX_SIZE, View::Flat(FlatView::U32(*n)))
+            plain TsoMaxSize(n => IFLA_TSO_MAX_SIZE, View::Flat(FlatView::U32(*n)))
+            plain TsoMaxSegs(n => IFLA_TSO_MAX_SEGS, View::Flat(FlatView::U32(*n)))
+            plain AllMulticast(n => IFLA_ALLMULTI, View::Flat(FlatView::U32(*n)))
+            held DevlinkPort(members => IFLA_DEVLINK_PORT | NLA_F_NESTED, View::DevlinkPorts(members.as_slice()))
+            plain GsoIpv4MaxSize(n => IFLA_GSO_IPV4_MAX_SIZE, View::Flat(FlatView::U32(*n)))
+            plain GroIpv4MaxSize(n => IFLA_GRO_IPV4_MAX_SIZE, View::Flat(FlatView::U32(*n)))
+            held DpllPin(members => IFLA_DPLL_PIN | NLA_F_NESTED, View::DpllPins(members.as_slice()))
+            plain NetnsImmutable(value => IFLA_NETNS_IMMUTABLE, View::Flat(FlatView::U8(truth_byte(*value))))
+            plain Headroom(n => IFLA_HEADROOM, View::Flat(FlatView::U16(*n)))
+            plain Tailroom(n => IFLA_TAILROOM, View::Flat(FlatView::U16(*n)))
+            held Other(nla => nla.kind(), View::Flat(FlatView::Bytes(nla.value())))
+        }
+    };
+}
+
 impl LinkAttribute {
     ghost use Rattle.std.specs.Prelude.{◌↔◌, IsTrue, MatchBool};
     ghost use Rattle.link_msg.specs.Tables.{attribute_frame, InsideFits, AttributeFits, NotEmptyPorts};
@@ -258,157 +336,17 @@ impl LinkAttribute {
         ensures payload { view_bytes result.1 ≡ (attribute_frame self.now).payload }
         ensures inside { ViewFits result.1 ↔ InsideFits self.now }
     {
-        match self {
-            LinkAttribute::Address(bytes) => (
-                IFLA_ADDRESS,
-                View::Flat(FlatView::Bytes(bytes.as_slice())),
-            ),
-            LinkAttribute::Broadcast(bytes) => (
-                IFLA_BROADCAST,
-                View::Flat(FlatView::Bytes(bytes.as_slice())),
-            ),
-            LinkAttribute::IfName(text) => (IFLA_IFNAME, View::Flat(FlatView::Text(text.as_str()))),
-            LinkAttribute::Mtu(n) => (IFLA_MTU, View::Flat(FlatView::U32(*n))),
-            LinkAttribute::Link(n) => (IFLA_LINK, View::Flat(FlatView::U32(*n))),
-            LinkAttribute::Qdisc(text) => (IFLA_QDISC, View::Flat(FlatView::Text(text.as_str()))),
-            LinkAttribute::Stats(stats) => (IFLA_STATS, View::Stats(stats)),
-            LinkAttribute::Controller(n) => (IFLA_MASTER, View::Flat(FlatView::U32(*n))),
-            LinkAttribute::Wireless(event) => (IFLA_WIRELESS, View::Event(event)),
-            LinkAttribute::ProtoInfoBridge(members) => (
-                IFLA_PROTINFO | NLA_F_NESTED,
-                View::BridgeInfos(members.as_slice()),
-            ),
-            LinkAttribute::ProtoInfoInet6(members) => (
-                IFLA_PROTINFO | NLA_F_NESTED,
-                View::Inet6Infos(members.as_slice()),
-            ),
-            LinkAttribute::ProtoInfoUnknown(nla) => (
-                nla.kind(),
-                View::Flat(FlatView::Bytes(nla.value())),
-            ),
-            LinkAttribute::TxQueueLen(n) => (IFLA_TXQLEN, View::Flat(FlatView::U32(*n))),
-            LinkAttribute::Map(map) => (IFLA_MAP, View::Map(map)),
-            LinkAttribute::OperState(state) => (
-                IFLA_OPERSTATE,
-                View::Flat(FlatView::U8(u8::from(*state))),
-            ),
-            LinkAttribute::Mode(mode) => (IFLA_LINKMODE, View::Flat(FlatView::U8(u8::from(*mode)))),
-            LinkAttribute::LinkInfo(members) => (IFLA_LINKINFO, View::Infos(members.as_slice())),
-            LinkAttribute::NetNsPid(n) => (IFLA_NET_NS_PID, View::Flat(FlatView::U32(*n))),
-            LinkAttribute::IfAlias(text) => (
-                IFLA_IFALIAS,
-                View::Flat(FlatView::Text(text.as_str())),
-            ),
-            LinkAttribute::NumVf(n) => (IFLA_NUM_VF, View::Flat(FlatView::U32(*n))),
-            LinkAttribute::VfInfoList(members) => (
-                IFLA_VFINFO_LIST,
-                View::Functions(members.as_slice()),
-            ),
-            LinkAttribute::Stats64(stats) => (IFLA_STATS64, View::Stats64(stats)),
-            LinkAttribute::VfPorts(members) => (IFLA_VF_PORTS, View::Ports(members.as_slice())),
-            LinkAttribute::PortSelf(port) => (IFLA_PORT_SELF, View::Port(port.0.as_slice())),
-            LinkAttribute::AfSpecBridge(members) => (
-                IFLA_AF_SPEC,
-                View::Bridges(members.as_slice()),
-            ),
-            LinkAttribute::AfSpecUnspec(members) => (
-                IFLA_AF_SPEC,
-                View::Unspecs(members.as_slice()),
-            ),
-            LinkAttribute::AfSpecUnknown(bytes) => (
-                IFLA_AF_SPEC,
-                View::Flat(FlatView::Bytes(bytes.as_slice())),
-            ),
-            LinkAttribute::Group(n) => (IFLA_GROUP, View::Flat(FlatView::U32(*n))),
-            LinkAttribute::NetNsFd(n) => (IFLA_NET_NS_FD, View::Flat(FlatView::I32(*n))),
-            LinkAttribute::ExtMask(flags) => (IFLA_EXT_MASK, View::Mask(flags.as_slice())),
-            LinkAttribute::Promiscuity(n) => (IFLA_PROMISCUITY, View::Flat(FlatView::U32(*n))),
-            LinkAttribute::NumTxQueues(n) => (IFLA_NUM_TX_QUEUES, View::Flat(FlatView::U32(*n))),
-            LinkAttribute::NumRxQueues(n) => (IFLA_NUM_RX_QUEUES, View::Flat(FlatView::U32(*n))),
-            LinkAttribute::Carrier(n) => (IFLA_CARRIER, View::Flat(FlatView::U8(*n))),
-            LinkAttribute::PhysPortId(id) => (IFLA_PHYS_PORT_ID, View::Id(id)),
-            LinkAttribute::CarrierChanges(n) => (
-                IFLA_CARRIER_CHANGES,
-                View::Flat(FlatView::U32(*n)),
-            ),
-            LinkAttribute::PhysSwitchId(id) => (IFLA_PHYS_SWITCH_ID, View::Id(id)),
-            LinkAttribute::LinkNetNsId(n) => (IFLA_LINK_NETNSID, View::Flat(FlatView::I32(*n))),
-            LinkAttribute::PhysPortName(text) => (
-                IFLA_PHYS_PORT_NAME,
-                View::Flat(FlatView::Text(text.as_str())),
-            ),
-            LinkAttribute::ProtoDown(n) => (IFLA_PROTO_DOWN, View::Flat(FlatView::U8(*n))),
-            LinkAttribute::GsoMaxSegs(n) => (IFLA_GSO_MAX_SEGS, View::Flat(FlatView::U32(*n))),
-            LinkAttribute::GsoMaxSize(n) => (IFLA_GSO_MAX_SIZE, View::Flat(FlatView::U32(*n))),
-            LinkAttribute::Xdp(members) => (IFLA_XDP, View::Xdps(members.as_slice())),
-            LinkAttribute::Event(event) => (
-                IFLA_EVENT,
-                View::Flat(FlatView::U32(u32::from(*event))),
-            ),
-            LinkAttribute::NewNetnsId(n) => (IFLA_NEW_NETNSID, View::Flat(FlatView::I32(*n))),
-            LinkAttribute::IfNetnsId(n) => (IFLA_IF_NETNSID, View::Flat(FlatView::I32(*n))),
-            LinkAttribute::CarrierUpCount(n) => (
-                IFLA_CARRIER_UP_COUNT,
-                View::Flat(FlatView::U32(*n)),
-            ),
-            LinkAttribute::CarrierDownCount(n) => (
-                IFLA_CARRIER_DOWN_COUNT,
-                View::Flat(FlatView::U32(*n)),
-            ),
-            LinkAttribute::NewIfIndex(n) => (IFLA_NEW_IFINDEX, View::Flat(FlatView::I32(*n))),
-            LinkAttribute::MinMtu(n) => (IFLA_MIN_MTU, View::Flat(FlatView::U32(*n))),
-            LinkAttribute::MaxMtu(n) => (IFLA_MAX_MTU, View::Flat(FlatView::U32(*n))),
-            LinkAttribute::PropList(members) => (
-                IFLA_PROP_LIST | NLA_F_NESTED,
-                View::Props(members.as_slice()),
-            ),
-            LinkAttribute::PermAddress(bytes) => (
-                IFLA_PERM_ADDRESS,
-                View::Flat(FlatView::Bytes(bytes.as_slice())),
-            ),
-            LinkAttribute::ProtoDownReason(members) => (
-                IFLA_PROTO_DOWN_REASON,
-                View::Reasons(members.as_slice()),
-            ),
-            LinkAttribute::ParentDevName(text) => (
-                IFLA_PARENT_DEV_NAME,
-                View::Flat(FlatView::Text(text.as_str())),
-            ),
-            LinkAttribute::ParentDevBusName(text) => (
-                IFLA_PARENT_DEV_BUS_NAME,
-                View::Flat(FlatView::Text(text.as_str())),
-            ),
-            LinkAttribute::GroMaxSize(n) => (IFLA_GRO_MAX_SIZE, View::Flat(FlatView::U32(*n))),
-            LinkAttribute::TsoMaxSize(n) => (IFLA_TSO_MAX_SIZE, View::Flat(FlatView::U32(*n))),
-            LinkAttribute::TsoMaxSegs(n) => (IFLA_TSO_MAX_SEGS, View::Flat(FlatView::U32(*n))),
-            LinkAttribute::AllMulticast(n) => (IFLA_ALLMULTI, View::Flat(FlatView::U32(*n))),
-            LinkAttribute::DevlinkPort(members) => (
-                IFLA_DEVLINK_PORT | NLA_F_NESTED,
-                View::DevlinkPorts(members.as_slice()),
-            ),
-            LinkAttribute::GsoIpv4MaxSize(n) => (
-                IFLA_GSO_IPV4_MAX_SIZE,
-                View::Flat(FlatView::U32(*n)),
-            ),
-            LinkAttribute::GroIpv4MaxSize(n) => (
-                IFLA_GRO_IPV4_MAX_SIZE,
-                View::Flat(FlatView::U32(*n)),
-            ),
-            LinkAttribute::DpllPin(members) => (
-                IFLA_DPLL_PIN | NLA_F_NESTED,
-                View::DpllPins(members.as_slice()),
-            ),
-            LinkAttribute::NetnsImmutable(value) => (
-                IFLA_NETNS_IMMUTABLE,
-                View::Flat(FlatView::U8(truth_byte(*value))),
-            ),
-            LinkAttribute::Headroom(n) => (IFLA_HEADROOM, View::Flat(FlatView::U16(*n))),
-            LinkAttribute::Tailroom(n) => (IFLA_TAILROOM, View::Flat(FlatView::U16(*n))),
-            LinkAttribute::Other(nla) => (nla.kind(), View::Flat(FlatView::Bytes(nla.value()))),
+        macro_rules! viewed {
+            ($($how:ident $variant:ident($value:ident => $kind:expr, $view:expr))+) => {
+                match self {
+                    $(LinkAttribute::$variant($value) => ($kind, $view),)+
+                }
+            };
         }
+        variants!(viewed)
     }
 
-    /// Whether it is an empty list of ports, whose text would be refused.
+    /// Whether it is an empty list of ports, whose encoding would be refused.
     pub(crate) fn is_empty_ports(&self) -> bool
         ensures { MatchBool result (NotEmptyPorts self.now → ⊥) (NotEmptyPorts self.now) }
     {
@@ -452,105 +390,26 @@ impl LinkAttribute {
 
 impl CloneIn for LinkAttribute {
     fn clone_in(&self, alloc: Global) -> Result<LinkAttribute, DecodeError> {
-        Ok(match self {
-            LinkAttribute::Address(value) => LinkAttribute::Address(value.clone_in(alloc)?),
-            LinkAttribute::Broadcast(value) => LinkAttribute::Broadcast(value.clone_in(alloc)?),
-            LinkAttribute::IfName(value) => LinkAttribute::IfName(value.clone_in(alloc)?),
-            LinkAttribute::Mtu(value) => LinkAttribute::Mtu(*value),
-            LinkAttribute::Link(value) => LinkAttribute::Link(*value),
-            LinkAttribute::Qdisc(value) => LinkAttribute::Qdisc(value.clone_in(alloc)?),
-            LinkAttribute::Stats(value) => LinkAttribute::Stats(*value),
-            LinkAttribute::Controller(value) => LinkAttribute::Controller(*value),
-            LinkAttribute::Wireless(value) => LinkAttribute::Wireless(value.clone_in(alloc)?),
-            LinkAttribute::ProtoInfoBridge(value) => LinkAttribute::ProtoInfoBridge(value.clone_in(
-                alloc,
-            )?),
-            LinkAttribute::ProtoInfoInet6(value) => LinkAttribute::ProtoInfoInet6(value.clone_in(
-                alloc,
-            )?),
-            LinkAttribute::ProtoInfoUnknown(value) => LinkAttribute::ProtoInfoUnknown(
-                value.clone_in(alloc)?,
-            ),
-            LinkAttribute::TxQueueLen(value) => LinkAttribute::TxQueueLen(*value),
-            LinkAttribute::Map(value) => LinkAttribute::Map(*value),
-            LinkAttribute::OperState(value) => LinkAttribute::OperState(*value),
-            LinkAttribute::Mode(value) => LinkAttribute::Mode(*value),
-            LinkAttribute::LinkInfo(value) => LinkAttribute::LinkInfo(value.clone_in(alloc)?),
-            LinkAttribute::NetNsPid(value) => LinkAttribute::NetNsPid(*value),
-            LinkAttribute::IfAlias(value) => LinkAttribute::IfAlias(value.clone_in(alloc)?),
-            LinkAttribute::NumVf(value) => LinkAttribute::NumVf(*value),
-            LinkAttribute::VfInfoList(value) => LinkAttribute::VfInfoList(value.clone_in(alloc)?),
-            LinkAttribute::Stats64(value) => LinkAttribute::Stats64(*value),
-            LinkAttribute::VfPorts(value) => LinkAttribute::VfPorts(value.clone_in(alloc)?),
-            LinkAttribute::PortSelf(value) => LinkAttribute::PortSelf(value.clone_in(alloc)?),
-            LinkAttribute::AfSpecBridge(value) => LinkAttribute::AfSpecBridge(value.clone_in(
-                alloc,
-            )?),
-            LinkAttribute::AfSpecUnspec(value) => LinkAttribute::AfSpecUnspec(value.clone_in(
-                alloc,
-            )?),
-            LinkAttribute::AfSpecUnknown(value) => LinkAttribute::AfSpecUnknown(value.clone_in(
-                alloc,
-            )?),
-            LinkAttribute::Group(value) => LinkAttribute::Group(*value),
-            LinkAttribute::NetNsFd(value) => LinkAttribute::NetNsFd(*value),
-            LinkAttribute::ExtMask(value) => LinkAttribute::ExtMask(clone_mask(
-                alloc,
-                value.as_slice(),
-            )?),
-            LinkAttribute::Promiscuity(value) => LinkAttribute::Promiscuity(*value),
-            LinkAttribute::NumTxQueues(value) => LinkAttribute::NumTxQueues(*value),
-            LinkAttribute::NumRxQueues(value) => LinkAttribute::NumRxQueues(*value),
-            LinkAttribute::Carrier(value) => LinkAttribute::Carrier(*value),
-            LinkAttribute::PhysPortId(value) => LinkAttribute::PhysPortId(*value),
-            LinkAttribute::CarrierChanges(value) => LinkAttribute::CarrierChanges(*value),
-            LinkAttribute::PhysSwitchId(value) => LinkAttribute::PhysSwitchId(*value),
-            LinkAttribute::LinkNetNsId(value) => LinkAttribute::LinkNetNsId(*value),
-            LinkAttribute::PhysPortName(value) => LinkAttribute::PhysPortName(value.clone_in(
-                alloc,
-            )?),
-            LinkAttribute::ProtoDown(value) => LinkAttribute::ProtoDown(*value),
-            LinkAttribute::GsoMaxSegs(value) => LinkAttribute::GsoMaxSegs(*value),
-            LinkAttribute::GsoMaxSize(value) => LinkAttribute::GsoMaxSize(*value),
-            LinkAttribute::Xdp(value) => LinkAttribute::Xdp(value.clone_in(alloc)?),
-            LinkAttribute::Event(value) => LinkAttribute::Event(*value),
-            LinkAttribute::NewNetnsId(value) => LinkAttribute::NewNetnsId(*value),
-            LinkAttribute::IfNetnsId(value) => LinkAttribute::IfNetnsId(*value),
-            LinkAttribute::CarrierUpCount(value) => LinkAttribute::CarrierUpCount(*value),
-            LinkAttribute::CarrierDownCount(value) => LinkAttribute::CarrierDownCount(*value),
-            LinkAttribute::NewIfIndex(value) => LinkAttribute::NewIfIndex(*value),
-            LinkAttribute::MinMtu(value) => LinkAttribute::MinMtu(*value),
-            LinkAttribute::MaxMtu(value) => LinkAttribute::MaxMtu(*value),
-            LinkAttribute::PropList(value) => LinkAttribute::PropList(value.clone_in(alloc)?),
-            LinkAttribute::PermAddress(value) => LinkAttribute::PermAddress(value.clone_in(alloc)?),
-            LinkAttribute::ProtoDownReason(value) => LinkAttribute::ProtoDownReason(value.clone_in(
-                alloc,
-            )?),
-            LinkAttribute::ParentDevName(value) => LinkAttribute::ParentDevName(value.clone_in(
-                alloc,
-            )?),
-            LinkAttribute::ParentDevBusName(value) => LinkAttribute::ParentDevBusName(
-                value.clone_in(alloc)?,
-            ),
-            LinkAttribute::GroMaxSize(value) => LinkAttribute::GroMaxSize(*value),
-            LinkAttribute::TsoMaxSize(value) => LinkAttribute::TsoMaxSize(*value),
-            LinkAttribute::TsoMaxSegs(value) => LinkAttribute::TsoMaxSegs(*value),
-            LinkAttribute::AllMulticast(value) => LinkAttribute::AllMulticast(*value),
-            LinkAttribute::DevlinkPort(value) => LinkAttribute::DevlinkPort(value.clone_in(alloc)?),
-            LinkAttribute::GsoIpv4MaxSize(value) => LinkAttribute::GsoIpv4MaxSize(*value),
-            LinkAttribute::GroIpv4MaxSize(value) => LinkAttribute::GroIpv4MaxSize(*value),
-            LinkAttribute::DpllPin(value) => LinkAttribute::DpllPin(value.clone_in(alloc)?),
-            LinkAttribute::NetnsImmutable(value) => LinkAttribute::NetnsImmutable(*value),
-            LinkAttribute::Headroom(value) => LinkAttribute::Headroom(*value),
-            LinkAttribute::Tailroom(value) => LinkAttribute::Tailroom(*value),
-            LinkAttribute::Other(value) => LinkAttribute::Other(value.clone_in(alloc)?),
-        })
+        macro_rules! copy {
+            (plain $value:ident) => { *$value };
+            (held $value:ident) => { $value.clone_in(alloc)? };
+            (mask $value:ident) => { clone_mask(alloc, $value.as_slice())? };
+        }
+        macro_rules! copied {
+            ($($how:ident $variant:ident $row:tt)+) => {
+                match self {
+                    $(LinkAttribute::$variant(value) => {
+                        LinkAttribute::$variant(copy!($how value))
+                    })+
+                }
+            };
+        }
+        Ok(variants!(copied))
     }
 }
 
 impl Exact for LinkAttribute {
-    ghost use Rattle.std.proofs.Common.{rules};
-    ghost use Rattle.nla_wire.specs.Decided.{◌&◌, by_exact, number_exact, signed_exact, bool_exact, bytes_exact};
+    ghost use Rattle.nla_wire.specs.Decided.{by_exact, one_field, number_exact, signed_exact, bool_exact, bytes_exact};
     ghost use Rattle.nla_wire.specs.Decided.{list_exact};
     ghost use Rattle.nla_wire.specs.Same.{same_frame-Decides};
     ghost use Rattle.link_recs.specs.StatsFields.{stats_decides};
@@ -586,74 +445,33 @@ impl Exact for LinkAttribute {
     };
     ghost use Rattle.link_msg.specs.contracts.attribute.LinkAttribute.{enum};
 
-    ghost decides = { by_exact enum _ (
-        bytes_exact
-        & bytes_exact
-        & bytes_exact
-        & number_exact
-        & number_exact
-        & bytes_exact
-        & stats_decides
-        & number_exact
-        & wireless_exact
-        & list_exact proto_bridge_exact
-        & list_exact proto_inet6_exact
-        & same_frame-Decides
-        & number_exact
-        & map_exact
-        & state_exact
-        & mode_exact
-        & list_exact info_exact
-        & number_exact
-        & bytes_exact
-        & number_exact
-        & list_exact functions_exact
-        & stats64_decides
-        & list_exact port_exact
-        & port_exact
-        & list_exact af_bridge_exact
-        & list_exact af_unspec_exact
-        & bytes_exact
-        & number_exact
-        & signed_exact
-        & list_exact ext_mask_exact
-        & number_exact
-        & number_exact
-        & number_exact
-        & number_exact
-        & phys_id_exact
-        & number_exact
-        & phys_id_exact
-        & signed_exact
-        & bytes_exact
-        & number_exact
-        & number_exact
-        & number_exact
-        & list_exact xdp_exact
-        & event_exact
-        & signed_exact
-        & signed_exact
-        & number_exact
-        & number_exact
-        & signed_exact
-        & number_exact
-        & number_exact
-        & list_exact props_exact
-        & bytes_exact
-        & list_exact reasons_exact
-        & bytes_exact
-        & bytes_exact
-        & number_exact
-        & number_exact
-        & number_exact
-        & number_exact
-        & list_exact devlink_exact
-        & number_exact
-        & number_exact
-        & list_exact dpll_exact
-        & bool_exact
-        & number_exact
-        & number_exact
-        & same_frame-Decides
-        & tt) };
+    ghost decides = { by_exact enum _ (Prim.assumption (
+      one_field bytes_exact,
+      one_field number_exact,
+      one_field stats_decides,
+      one_field wireless_exact,
+      one_field (list_exact proto_bridge_exact),
+      one_field (list_exact proto_inet6_exact),
+      one_field same_frame-Decides,
+      one_field map_exact,
+      one_field state_exact,
+      one_field mode_exact,
+      one_field (list_exact info_exact),
+      one_field (list_exact functions_exact),
+      one_field stats64_decides,
+      one_field (list_exact port_exact),
+      one_field port_exact,
+      one_field (list_exact af_bridge_exact),
+      one_field (list_exact af_unspec_exact),
+      one_field signed_exact,
+      one_field (list_exact ext_mask_exact),
+      one_field phys_id_exact,
+      one_field (list_exact xdp_exact),
+      one_field event_exact,
+      one_field (list_exact props_exact),
+      one_field (list_exact reasons_exact),
+      one_field (list_exact devlink_exact),
+      one_field (list_exact dpll_exact),
+      one_field bool_exact,
+    )) };
 }

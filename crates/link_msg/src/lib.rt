@@ -10,7 +10,6 @@ mod family;
 pub mod fault_at;
 pub mod fault_path;
 pub mod header;
-mod kind_names;
 pub mod laws;
 pub mod message;
 pub mod numbers;

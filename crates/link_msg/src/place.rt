@@ -14,7 +14,6 @@ ghost use Rattle.nla_wire.specs.declared.error.Cause.TheVariants.{OutOfMemory};
 
 use crate::attribute::LinkAttribute;
 use crate::family::{parse_af_spec_into, parse_proto_info_into};
-use crate::kind_names::kind_name;
 use crate::numbers::*;
 use crate::payload::{parse_any, parse_functions, parse_mask, parse_ports, parse_some};
 use crate::prefix::copied_prefix;
@@ -258,7 +257,7 @@ impl LinkAttribute {
         }
     }
 
-    /// The length of the text of a frame's value under the header's family, without header and padding and with no
+    /// The length of the encoding of a frame's value under the header's family, without header and padding and with no
     /// memory; `None` where the value does not fit, or the frame is refused.
     #[inline(always)]
     fn measure_frame(buffer: &NlaBuffer<'_>, family: AddressFamily) -> Option<usize>
@@ -401,7 +400,7 @@ impl LinkAttribute {
     /// The length of the canonical encoding of a list of attributes under the header's family, and whether an empty
     /// list of ports is among them, with no memory; `None` where one does not fit, or the list is refused.
     ///
-    /// A list of ports has a text of no bytes exactly where it is empty, so that the same walk tells it.
+    /// A list of ports has an encoding of no bytes exactly where it is empty, so that the same walk tells it.
     fn measure_with_ports(bytes: &[u8], family: AddressFamily) -> Option<(usize, bool)>
         ensures { ListWeighs ((list (attribute_place family)).reads bytes.now) result }
     {
@@ -467,7 +466,7 @@ fn has_no_flags(buffer: &NlaBuffer<'_>) -> bool
     buffer.kind_with_flags() == buffer.kind()
 }
 
-/// Whether a frame whose value has a text of so many bytes is an empty list of ports.
+/// Whether a frame whose value has an encoding of so many bytes is an empty list of ports.
 #[inline(always)]
 fn is_empty_ports(buffer: &NlaBuffer<'_>, value_len: usize) -> bool
     ensures told { IsTrue result ↔ ((number buffer.now ≡ IFLA_VF_PORTS) × (value_len ≡ 0)) }

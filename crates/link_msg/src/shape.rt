@@ -213,7 +213,7 @@ impl Shape {
         }
     }
 
-    /// Whether a payload of this shape that is as long as its canonical encoding is that text.
+    /// Whether a payload of this shape that is as long as its canonical encoding is that encoding.
     #[inline(always)]
     pub(crate) fn is_copied(self) -> bool
         ensures { IsTrue result → IsCopied self }
@@ -230,7 +230,7 @@ impl Shape {
         }
     }
 
-    /// The length of the text of the value that a payload of this shape means, with no memory; `None` where the value
+    /// The length of the encoding of the value that a payload of this shape means, with no memory; `None` where the value
     /// does not fit, or the payload is refused.
     #[tactic(auto, unfolding(nla_wire::specs::Payloads::read_text, nla_wire::specs::Payloads::read_number))]
     #[inline(always)]
