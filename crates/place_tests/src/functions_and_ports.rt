@@ -291,11 +291,15 @@ fn entry_faults<E: Entry>(
     payload: &[u8],
     cause: Option<Cause>,
 ) {
-    assert_eq!(rt; cause_of(E::parse(alloc, payload)), cause, "{label}");
-    assert_eq!(rt; cause_of(E::check(payload)), cause, "{label}");
+    assert_eq!(rt;
+        cause_of(E::parse(alloc, payload)),
+        cause,
+        "{label}: {payload:?}"
+    );
+    assert_eq!(rt; cause_of(E::check(payload)), cause, "{label}: {payload:?}");
     assert!(rt;
         E::measure_entry(payload).is_none() == cause.is_some(),
-        "{label}"
+        "{label}: {payload:?}"
     );
 }
 
@@ -307,11 +311,19 @@ fn list_faults<E: Entry>(
     payload: &[u8],
     cause: Option<Cause>,
 ) {
-    assert_eq!(rt; cause_of(E::parse_list(alloc, payload)), cause, "{label}");
-    assert_eq!(rt; cause_of(E::check_list(payload)), cause, "{label}");
+    assert_eq!(rt;
+        cause_of(E::parse_list(alloc, payload)),
+        cause,
+        "{label}: {payload:?}"
+    );
+    assert_eq!(rt;
+        cause_of(E::check_list(payload)),
+        cause,
+        "{label}: {payload:?}"
+    );
     assert!(rt;
         E::measure_list(payload).is_none() == cause.is_some(),
-        "{label}"
+        "{label}: {payload:?}"
     );
 }
 
