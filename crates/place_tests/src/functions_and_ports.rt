@@ -2,7 +2,7 @@
 
 use expected::{
     BAD_FRAMES, cause_of, equal, has_value, is_copied, is_stored, kept, means, refuses,
-    wrong_bad_frame,
+    wrong_bad_frame, zeros_after,
 };
 use link_vals::{VfLinkState, VlanProtocol};
 use link_vf::*;
@@ -165,21 +165,14 @@ fn guids_of_functions(rt: HostRuntime) {
 
 #[test]
 fn addresses_of_functions(rt: HostRuntime) {
-    let mut bytes = [0; 40];
-    bytes[0] = 40;
-    bytes[2] = 1;
-    bytes[4] = 3;
-    bytes[8] = 0x52;
+    let bytes: [u8; 40] = zeros_after(&[0x28, 0x00, 0x01, 0x00, 0x03, 0x00, 0x00, 0x00, 0x52]);
     let address = VfInfo::Mac(VfInfoMac::new(3, &[0x52]));
     assert!(rt; means(rt.alloc(), &bytes, &[address], &bytes));
 }
 
 #[test]
 fn broadcasts_of_functions(rt: HostRuntime) {
-    let mut bytes = [0; 36];
-    bytes[0] = 36;
-    bytes[2] = 13;
-    bytes[4] = 0xff;
+    let bytes: [u8; 36] = zeros_after(&[0x24, 0x00, 0x0d, 0x00, 0xff]);
     let broadcast = VfInfo::Broadcast(VfInfoBroadcast::new(&[0xff]));
     assert!(rt; means(rt.alloc(), &bytes, &[broadcast], &bytes));
 }
