@@ -55,7 +55,8 @@ is_built() {
 case ${1:-} in
 --compare)
     for name in "${@:2}"; do
-        (cd "crates/$name" && python3 "$top/scripts/text.py" "$top/out/texts") >"$folder/log" 2>&1 ||
+        # in one process: the gate's other scripts run beside it
+        (cd "crates/$name" && python3 "$top/scripts/text.py" "$top/out/texts" 1) >"$folder/log" 2>&1 ||
             { tail -n 40 "$folder/log" >&2; exit 1; }
         verdicts "$name"
         compares out/texts "$name"

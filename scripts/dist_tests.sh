@@ -56,6 +56,15 @@ tests() {
     echo "dist: $1: $(grep -c 'stored run' "$folder/log") stored runs, ${TESTS:-all tests of tests/c}: ok"
 }
 
+# dumps WHAT COMMAND..: linkdump runs, and without libpcap it reads no captures
+dumps() {
+    "${@:2}" --version | grep -qx "linkdump $(sed -n 's/^#define LINKWIRE_VERSION "\(.*\)"$/\1/p' include/linkwire.h)"
+    local status=0
+    "${@:2}" --read x 2>"$folder/log" || status=$?
+    [ "$status $(cat "$folder/log")" = '1 linkdump: x: this linkdump is built without libpcap, and reads no captures' ]
+    echo "dist: $1: linkdump: ok"
+}
+
 # another NAME: goes to a copy of the tree in which nothing is built
 another() {
     mkdir "$folder/$1"
@@ -82,18 +91,20 @@ if it=$(lacks musl-gcc); then
     echo "dist: with musl, statically: skipped: no $it"
 else
     another musl
-    make -s CC=musl-gcc LDFLAGS=-static "${programs[@]/#/out/}" out/liblinkwire.a
     # the kernel's headers, after musl's own
     kernel="-O1 -idirafter /usr/include -idirafter /usr/include/$(cc -dumpmachine)"
+    make -s CC=musl-gcc CFLAGS="$kernel" LDFLAGS=-static PCAP= all
     CC=musl-gcc CFLAGS=$kernel LDFLAGS=-static TESTS=$few tests 'with musl, statically'
+    dumps 'with musl, statically' out/linkdump
 fi
 gnu=aarch64-linux-gnu
 if it=$(lacks qemu-aarch64 $gnu-gcc $gnu-ld $gnu-objcopy $gnu-ar); then
     echo "dist: aarch64: skipped: no $it"
 else
     another aarch64
-    make -s CC=$gnu-gcc LD=$gnu-ld OBJCOPY=$gnu-objcopy AR=$gnu-ar all
+    make -s CC=$gnu-gcc LD=$gnu-ld OBJCOPY=$gnu-objcopy AR=$gnu-ar PCAP= all
     CC=$gnu-gcc RUN="qemu-aarch64 -L /usr/$gnu" TESTS=$few tests aarch64
+    dumps aarch64 qemu-aarch64 -L /usr/$gnu out/linkdump
 fi
 
 another archive

@@ -171,6 +171,16 @@ chmod +x "$folder/bin/other-cc"
 tells 'there is no nocc: install a C compiler and binutils, or set CC' "${installs[@]}" CC=nocc
 tells 'there is no nold: install a C compiler and binutils, or set LD' "${installs[@]}" LD=nold
 tells 'dist/ has no text for riscv64, only for' "${installs[@]}" CC=other-cc
+printf '#!/bin/sh\necho arm64-apple-darwin23.1.0\n' >"$folder/bin/mac-cc"
+chmod +x "$folder/bin/mac-cc"
+tells 'the texts in dist/ are for Linux, and mac-cc compiles for arm64-apple-darwin23.1.0: set CC to a compiler for Linux' \
+    "${installs[@]}" CC=mac-cc
+# the headers that a compiler finds: none, and those of the C library alone
+mkdir "$folder/headers"
+tells 'cc -nostdinc finds no errno.h: install the headers of the C library' "${installs[@]}" CC='cc -nostdinc'
+touch "$folder/headers/errno.h" "$folder/headers/stdio.h"
+tells 'finds no linux/rtnetlink.h: install the headers of the kernel, or name their folder in CFLAGS' "${installs[@]}" \
+    CC="cc -nostdinc -isystem $folder/headers"
 tells 'PROVE=1 proves the crates by the command rt, which is not on the path: leave it out' "${installs[@]}" PROVE=1
 for goal in dump out/linkdump; do
     tells 'there is no nocc: install a C compiler and binutils, or set CC' make -s "$goal" CC=nocc

@@ -1,6 +1,7 @@
 """Proves and builds the program or static library in the current folder for each processor of targets.txt, and writes
-the assembly text that the compiler makes of it, as FOLDER/PROCESSOR/NAME.s: text.py FOLDER. What it built for x86-64
-stays as out/NAME.o, and of a library as out/libNAME.a.
+the assembly text that the compiler makes of it, as FOLDER/PROCESSOR/NAME.s: text.py FOLDER [JOBS]. What it built for
+x86-64 stays as out/NAME.o, and of a library as out/libNAME.a. JOBS is in how many processes it proves, which the
+toolchain else chooses: one takes the least of the processors, and where these have other work the least time too.
 
 It begins with what was kept here, as `rt check` does, and where the toolchain shares kept work between checkouts with
 what was kept there; it takes the libraries below as `rt lib` built them of the same files, if it finds all. Else it
@@ -109,13 +110,13 @@ def command_of(kit):
     return command
 
 
-def write_text(command, crate, arch, to):
+def write_text(command, crate, arch, to, jobs):
     """Builds the crate for a processor, and writes its text."""
     built = "libNAME.a" if crate.is_static else "NAME.o"
     with tempfile.TemporaryDirectory() as folder:
         file = stand_in(f"{command.KIT}/toolchain", folder, arch)
         object_file = "out/" + built.replace("NAME", crate.name) if arch == "x86_64" else f"{folder}/built"
-        words = [*crate.words(targets()[arch]), "--toolchain", folder, "--backend", "llvm", *command.rtlib.KEPT]
+        words = [*crate.words(targets()[arch] + jobs), "--toolchain", folder, "--backend", "llvm", *command.rtlib.KEPT]
         status = crate.call(command.rtlib.RATTLE, "build", *words, "-o", object_file)
         if status:
             return status
@@ -147,7 +148,7 @@ def take_libraries(command, crate):
         os.close(it)
 
 
-def main(to):
+def main(to, *jobs):
     command = command_of(os.path.dirname(os.path.dirname(os.path.realpath(shutil.which("rt")))))
     here = os.getcwd()
     crates = command.rtlib.crates_below(os.path.dirname(os.path.dirname(here)))
@@ -159,7 +160,8 @@ def main(to):
         command.adopt(crate)
     os.makedirs("out", exist_ok=True)
     stamp = crate.stamp()
-    status = next(filter(None, (write_text(command, crate, arch, to) for arch in targets())), 0)
+    jobs = [word for it in jobs for word in ("--jobs", it)]
+    status = next(filter(None, (write_text(command, crate, arch, to, jobs) for arch in targets())), 0)
     if shares(command):
         command.offer(crate, None if status else stamp)
     return status
