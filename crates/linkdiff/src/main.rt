@@ -2,24 +2,14 @@
 #![tactic(auto)]
 
 mod arguments;
-mod compared;
-mod key;
-mod lines;
-mod reading;
-mod store;
-mod watch;
-mod words;
 
 use arguments::{Request, requested};
-use compared::compare_readers;
 use line_filter::error::RunError;
-use lines::read_lines;
-use message_diff::Compared;
+use message_diff::{Compared, compare_lines, compare_readers};
 use std::env;
 use std::fs::File;
 use std::io::ErrorKind;
 use std::process::ExitCode;
-use watch::Watch;
 
 /// What `--help` writes.
 const HELP: &str = "usage: linkdiff [--counters] [OLD NEW]
@@ -105,8 +95,7 @@ fn ended(rt: HostRuntime, outcome: Result<(), RunError>) -> ExitCode {
 fn run_stream(rt: HostRuntime, by: Compared) -> ExitCode {
     let mut reader = rt.stdin();
     let mut writer = rt.stdout();
-    let mut watch = Watch::new(rt.alloc(), by);
-    let outcome = read_lines(rt.alloc(), &mut reader, &mut watch, &mut writer);
+    let outcome = compare_lines(rt.alloc(), by, &mut reader, &mut writer);
     ended(rt, outcome)
 }
 

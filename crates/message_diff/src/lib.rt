@@ -1,14 +1,24 @@
-//! What differs between two link messages, by the members that linkshow shows of them.
+//! What differs between two link messages, by the members that linkshow shows of them, and what lines of messages tell of
+//! interfaces.
 #![tactic(auto)]
 
 mod common;
 mod counters;
 mod differences;
+mod files;
+mod key;
 mod line;
+mod lines;
 mod members;
+mod reading;
 mod rows;
 mod snapshot;
+mod store;
 mod told;
+mod watch;
+mod words;
 
+pub use files::compare_readers;
 pub use snapshot::{Compared, Snapshot};
 pub use told::{push_changed, push_compared, push_gone, push_new};
+pub use watch::compare_lines;

@@ -3,7 +3,7 @@
 ghost use Rattle.std.specs.Prelude.{◌≡◌, [], OnOk};
 ghost use Rattle.std.specs.Io.KnownBytes.{Appends};
 
-use crate::watch::Take;
+use crate::watch::Watch;
 use line_filter::error::RunError;
 use memchr::memchr;
 use std::alloc::Global;
@@ -29,35 +29,35 @@ pub fn write_out<W: Write>(writer: &mut W, out: &mut Vec<u8>) -> Result<(), RunE
 }
 
 /// Takes the line that `held` begins and `part` ends, and empties `held`.
-fn end_line<T: Take>(
+fn end_line(
     alloc: Global,
     held: &mut Vec<u8>,
     part: &[u8],
-    taker: &mut T,
+    watch: &mut Watch,
     out: &mut Vec<u8>,
 ) -> Result<(), RunError> {
     if held.is_empty() {
-        taker.take(alloc, part, out)?;
+        watch.take(alloc, part, out)?;
         return Ok(());
     }
     held.extend_from_slice(part)?;
-    taker.take(alloc, held.as_slice(), out)?;
+    watch.take(alloc, held.as_slice(), out)?;
     held.clear();
     Ok(())
 }
 
 /// Takes each line that ends in `piece`, holds what comes after the last of them, and writes what they gave.
-fn take_piece<T: Take, W: Write>(
+fn take_piece<W: Write>(
     alloc: Global,
     held: &mut Vec<u8>,
     piece: &[u8],
-    taker: &mut T,
+    watch: &mut Watch,
     out: &mut Vec<u8>,
     writer: &mut W,
 ) -> Result<(), RunError> {
     let mut rest = piece;
     while let Some(end) = memchr(b'\n', rest) {
-        end_line(alloc, held, &rest[..end], taker, out)?;
+        end_line(alloc, held, &rest[..end], watch, out)?;
         if out.len() >= ENOUGH {
             write_out(writer, out)?;
         }
@@ -69,10 +69,10 @@ fn take_piece<T: Take, W: Write>(
 }
 
 /// Takes each line that the reader gives, up to its end, and writes what they gave before the next read.
-pub fn read_lines<T: Take, R: Read, W: Write>(
+pub fn read_lines<R: Read, W: Write>(
     alloc: Global,
     reader: &mut R,
-    taker: &mut T,
+    watch: &mut Watch,
     writer: &mut W,
 ) -> Result<(), RunError> {
     let mut chunk = vec![in alloc; 0u8; CHUNK]?;
@@ -84,11 +84,11 @@ pub fn read_lines<T: Take, R: Read, W: Write>(
         };
         if n == 0 {
             if !held.is_empty() {
-                end_line(alloc, &mut held, b"", taker, &mut out)?;
+                end_line(alloc, &mut held, b"", watch, &mut out)?;
             }
             return write_out(writer, &mut out);
         }
-        take_piece(alloc, &mut held, &chunk[..n], taker, &mut out, writer)?;
+        take_piece(alloc, &mut held, &chunk[..n], watch, &mut out, writer)?;
     }
     Err(RunError::Read)
 }

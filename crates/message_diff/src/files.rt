@@ -1,10 +1,11 @@
 //! One file beside another.
 
 use crate::lines::{read_lines, write_out};
+use crate::snapshot::Compared;
 use crate::store::Store;
-use crate::watch::Loader;
+use crate::told::{push_changed, push_gone, push_new};
+use crate::watch::Watch;
 use line_filter::error::RunError;
-use message_diff::{Compared, push_changed, push_gone, push_new};
 use std::alloc::{AllocError, Global};
 use std::io::{Read, Write};
 
@@ -31,7 +32,20 @@ fn push_stores(
     Ok(())
 }
 
-/// Compares the last messages of each interface that two readers give. What has a fault is told first.
+/// The last message of each interface that a reader gives. What has a fault is told.
+fn stored<R: Read, W: Write>(
+    alloc: Global,
+    by: Compared,
+    reader: &mut R,
+    writer: &mut W,
+) -> Result<Store, RunError> {
+    let mut watch = Watch::new(alloc, by, false);
+    read_lines(alloc, reader, &mut watch, writer)?;
+    Ok(watch.into_store())
+}
+
+/// Compares the last messages of each interface that two readers give, and writes what came, went or changed. What has a
+/// fault is told first.
 pub fn compare_readers<R: Read, W: Write>(
     alloc: Global,
     by: Compared,
@@ -39,16 +53,9 @@ pub fn compare_readers<R: Read, W: Write>(
     new: &mut R,
     writer: &mut W,
 ) -> Result<(), RunError> {
-    let mut first = Loader::new(alloc, by);
-    read_lines(alloc, old, &mut first, writer)?;
-    let mut second = Loader::new(alloc, by);
-    read_lines(alloc, new, &mut second, writer)?;
+    let mut first = stored(alloc, by, old, writer)?;
+    let mut second = stored(alloc, by, new, writer)?;
     let mut out = Vec::new(alloc);
-    push_stores(
-        alloc,
-        &mut first.into_store(),
-        &mut second.into_store(),
-        &mut out,
-    )?;
+    push_stores(alloc, &mut first, &mut second, &mut out)?;
     write_out(writer, &mut out)
 }

@@ -1,7 +1,7 @@
 //! The last message of each interface.
 
 use crate::key::Key;
-use message_diff::Snapshot;
+use crate::snapshot::Snapshot;
 use std::collections::BTreeMap;
 
 /// A message, and the words in front of it as members.

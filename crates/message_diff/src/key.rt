@@ -8,7 +8,7 @@ use std::alloc::{AllocError, Global};
 const AF_UNSPEC: u8 = 0;
 
 /// The families of messages that say more of an interface: AF_BRIDGE, of a bridge or the port of one, and AF_INET6.
-pub const MORE: [u8; 2] = [7, 10];
+pub const FAMILIES_OF_PARTS: [u8; 2] = [7, 10];
 
 /// An interface.
 #[derive(PartialEq, Eq, PartialOrd, Ord, Drop)]
@@ -25,7 +25,7 @@ impl Key {
         if message.len() < HEADER_SIZE {
             return Ok(Key {
                 host,
-                family: 0,
+                family: AF_UNSPEC,
                 index: 0,
             });
         }

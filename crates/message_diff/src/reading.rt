@@ -1,11 +1,11 @@
 //! What a line says.
 
 use crate::key::Key;
-use crate::words::push_words;
+use crate::snapshot::{Compared, Snapshot};
+use crate::words::words_of;
 use line_filter::digits::{decode, values};
 use line_filter::words::{split, value_of};
 use link_msg::CanonError;
-use message_diff::{Compared, Snapshot};
 use message_shown::answers::push_answer;
 use message_shown::context::Order;
 use message_shown::worded::order_for;
@@ -72,8 +72,7 @@ impl LineReader {
         out: &mut Vec<u8>,
     ) -> Result<Said, AllocError> {
         let (front, digits) = split(line);
-        self.words.clear();
-        push_words(alloc, front, &mut self.words)?;
+        self.words = words_of(alloc, front)?;
         self.message.resize(digits.len() / 2, 0)?;
         let words = self.words.as_slice();
         if !decode(digits, values(), self.message.as_mut_slice()) {
