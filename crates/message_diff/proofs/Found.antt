@@ -8,7 +8,7 @@ use Rattle.message_diff.specs.declared.rows.Row.{Row}
 
 -- a member with the path at some place
 pub has_read : (rows : List Row) (k : ℕ) (r : Row) (path : List ℕ) → k < length rows → r ≡ slice_index_or rows k r
-    → r.path.items ≡ path → Has rows path r.value.now
+    → r.path.now ≡ path → Has rows path r.value.now
 has_read rows k r path within is same = (k, r, within, sym is, (same, refl))
 
 -- what holds of the elements so far, and of the next one

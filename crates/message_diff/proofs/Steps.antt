@@ -25,12 +25,12 @@ told_kept changes c path told = (
 old_kept : (new : List Row) (changes : List Change) (c : Change) (r : Row) → IsOldTold new changes r
     → IsOldTold new (changes ++ c ∷ []) r
 old_kept new changes c r (inl has) = inl has
-old_kept new changes c r (inr told) = inr (told_kept changes c r.path.items told)
+old_kept new changes c r (inr told) = inr (told_kept changes c r.path.now told)
 
 new_kept : (old : List Row) (changes : List Change) (c : Change) (r : Row) → IsNewTold old changes r
     → IsNewTold old (changes ++ c ∷ []) r
 new_kept old changes c r (inl has) = inl has
-new_kept old changes c r (inr told) = inr (told_kept changes c r.path.items told)
+new_kept old changes c r (inr told) = inr (told_kept changes c r.path.now told)
 
 pub all_old_kept : (new : List Row) (changes : List Change) (c : Change) (rows : List Row)
     → All (IsOldTold new changes) rows → All (IsOldTold new (changes ++ c ∷ [])) rows
@@ -56,7 +56,7 @@ real_of old new k row within is (Turned path was now) h = (
   h.3,
 )
 
-path_same : (row : Row) (new : List Row) (c : Change) → IsChangeOf row new c → path_of c ≡ row.path.items
+path_same : (row : Row) (new : List Row) (c : Change) → IsChangeOf row new c → path_of c ≡ row.path.now
 path_same row new (Came path value) h = absurd h
 path_same row new (Went path value) h = h.0
 path_same row new (Turned path was now) h = h.0
@@ -64,18 +64,18 @@ path_same row new (Turned path was now) h = h.0
 pub old_told : (new : List Row) (changes : List Change) (row : Row) (c : Change) → IsChangeOf row new c
     → IsOldTold new (changes ++ c ∷ []) row
 old_told new changes row c h =
-    inr (Any-push (λ d. path_of d ≡ row.path.items) changes c (path_same row new c h))
+    inr (Any-push (λ d. path_of d ≡ row.path.now) changes c (path_same row new c h))
 
 -- a path that came
 pub has_path : (rows : List Row) (path value : List ℕ) → Has rows path value → HasPath rows path
 has_path rows path value h = (h.0, h.1, h.2, h.3, h.4.0)
 
 pub came : (old new : List Row) (k : ℕ) (row : Row) (path : Bor (List ℕ)) → k < length new
-    → row ≡ slice_index_or new k row → path.now ≡ row.path.items → Lacks old row.path.items
+    → row ≡ slice_index_or new k row → path.now ≡ row.path.now → Lacks old row.path.now
     → IsReal old new (Came path row.value)
 came old new k row path within is same lacks =
     (subst (λ (p : List ℕ). Lacks old p) (sym same) lacks, has_read new k row path.now within is (sym same))
 
-pub came_told : (old : List Row) (changes : List Change) (row : Row) (c : Change) → path_of c ≡ row.path.items
+pub came_told : (old : List Row) (changes : List Change) (row : Row) (c : Change) → path_of c ≡ row.path.now
     → IsNewTold old (changes ++ c ∷ []) row
-came_told old changes row c same = inr (Any-push (λ d. path_of d ≡ row.path.items) changes c same)
+came_told old changes row c same = inr (Any-push (λ d. path_of d ≡ row.path.now) changes c same)

@@ -7,11 +7,11 @@ use Rattle.message_diff.specs.declared.differences.Change.TheVariants.{Came, Wen
 
 -- some member has this path and this value
 abbrev pub Has : List Row → List ℕ → List ℕ → Type 0
-Has rows path value = Any (λ r. (r.path.items ≡ path) × (r.value.now ≡ value)) rows
+Has rows path value = Any (λ r. (r.path.now ≡ path) × (r.value.now ≡ value)) rows
 
 -- no member has this path
 abbrev pub Lacks : List Row → List ℕ → Type 0
-Lacks rows path = All (λ r. r.path.items ≢ path) rows
+Lacks rows path = All (λ r. r.path.now ≢ path) rows
 
 -- the path that a change tells of
 abbrev pub path_of : Change → List ℕ
@@ -32,15 +32,15 @@ IsTold changes path = Any (λ c. path_of c ≡ path) changes
 
 -- some member has this path
 abbrev pub HasPath : List Row → List ℕ → Type 0
-HasPath rows path = Any (λ r. r.path.items ≡ path) rows
+HasPath rows path = Any (λ r. r.path.now ≡ path) rows
 
 -- the old member stands among the new ones, or a change tells of it
 abbrev pub IsOldTold : List Row → List Change → Row → Type 0
-IsOldTold new changes r = Has new r.path.items r.value.now ⊎ IsTold changes r.path.items
+IsOldTold new changes r = Has new r.path.now r.value.now ⊎ IsTold changes r.path.now
 
 -- the new member's path stands among the old ones, or a change tells of it
 abbrev pub IsNewTold : List Row → List Change → Row → Type 0
-IsNewTold old changes r = HasPath old r.path.items ⊎ IsTold changes r.path.items
+IsNewTold old changes r = HasPath old r.path.now ⊎ IsTold changes r.path.now
 
 -- the changes are all real, and tell of each old member that the new ones have no equal of, and of each new one whose
 -- path the old ones lack
@@ -53,6 +53,6 @@ pub record AreDifferences (old new : List Row) (changes : List Change) : Type 0 
 abbrev pub IsChangeOf : Row → List Row → Change → Type 0
 IsChangeOf row new (Came path value) = ⊥
 IsChangeOf row new (Went path value) =
-    (path.now ≡ row.path.items) × (value.now ≡ row.value.now) × Lacks new path.now
+    (path.now ≡ row.path.now) × (value.now ≡ row.value.now) × Lacks new path.now
 IsChangeOf row new (Turned path was is) =
-    (path.now ≡ row.path.items) × (was.now ≡ row.value.now) × Has new path.now is.now × (was.now ≢ is.now)
+    (path.now ≡ row.path.now) × (was.now ≡ row.value.now) × Has new path.now is.now × (was.now ≢ is.now)

@@ -25,13 +25,13 @@ pub fn value_of<'a>(rows: &[Row<'a>], path: &[u8], likely: &mut usize) -> Option
 {
     if *likely < rows.len() {
         let row = &rows[*likely];
-        if row.path.as_slice() == path {
+        if row.path == path {
             *likely += 1;
             return Some(row.value);
         }
     }
     for (i, row) in rows.iter().enumerate() {
-        if row.path.as_slice() == path {
+        if row.path == path {
             *likely = i + 1;
             return Some(row.value);
         }
@@ -41,14 +41,13 @@ pub fn value_of<'a>(rows: &[Row<'a>], path: &[u8], likely: &mut usize) -> Option
 
 /// What an old row says that the new rows do not.
 fn change_of<'a>(row: &'a Row<'a>, new: &'a [Row<'a>], likely: &mut usize) -> Option<Change<'a>>
-    ensures { MatchOption result (Has new.now row.now.path.items row.now.value.now)
+    ensures { MatchOption result (Has new.now row.now.path.now row.now.value.now)
         (IsChangeOf row.now new.now) }
 {
-    let path = row.path.as_slice();
-    match value_of(new, path, likely) {
-        None => Some(Change::Went(path, row.value)),
+    match value_of(new, row.path, likely) {
+        None => Some(Change::Went(row.path, row.value)),
         Some(value) if value == row.value => None,
-        Some(value) => Some(Change::Turned(path, row.value, value)),
+        Some(value) => Some(Change::Turned(row.path, row.value, value)),
     }
 }
 
@@ -83,9 +82,9 @@ pub fn differences<'a>(
     let mut changes = old_changes(alloc, old, new)?;
     let mut likely = 0;
     for row in new {
-        match value_of(old, row.path.as_slice(), &mut likely) {
+        match value_of(old, row.path, &mut likely) {
             Some(_value) => {}
-            None => changes.push(Change::Came(row.path.as_slice(), row.value))?,
+            None => changes.push(Change::Came(row.path, row.value))?,
         }
     }
     Ok(changes)

@@ -2,14 +2,16 @@
 //! interfaces.
 #![tactic(auto)]
 
-mod common;
 mod counters;
 mod differences;
 mod files;
+mod frames;
 mod key;
 mod line;
 mod lines;
+mod marks;
 mod members;
+mod outer;
 mod reading;
 mod rows;
 mod snapshot;

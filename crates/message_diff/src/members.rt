@@ -2,7 +2,6 @@
 
 ghost use Rattle.std.specs.Prelude.{◌<◌, ◌≤◌, IfOk, length};
 
-use crate::common::Common;
 use std::alloc::{AllocError, Global};
 
 /// A member of an object, or an object in a list.
@@ -38,7 +37,7 @@ struct Open {
 
 /// A walk over a text, from value to value.
 #[derive(Drop)]
-struct Walk<'a> {
+pub struct Walk<'a> {
     members: Vec<Member<'a>>,
     open: Vec<Open>,
 }
@@ -115,11 +114,15 @@ fn value_len(text: &[u8]) -> usize
     }
 }
 
-/// How many bytes a name with its colon takes up, at the front of a text.
-fn name_len(text: &[u8]) -> usize
+/// How many bytes a name with its quotes and its colon takes up, at the front of a text: nothing is escaped in it.
+pub fn name_len(text: &[u8]) -> usize
     ensures { result ≤ length text.now }
 {
-    text_len(text).saturating_add(1).min(text.len())
+    let inner = &text[text.len().min(1)..];
+    match inner.iter().position(|byte| *byte == b'"') {
+        Some(len) => len.saturating_add(3).min(text.len()),
+        None => text.len(),
+    }
 }
 
 /// The name at the front of a text, which takes up so many bytes with its colon.
@@ -130,32 +133,30 @@ fn name_of(text: &[u8], len: usize) -> &[u8]
     &text[end.min(1)..end]
 }
 
-/// How many bytes a member takes up with the comma or the brace in front of it, at the front of a text.
-fn member_len(text: &[u8]) -> usize
-    ensures { result ≤ length text.now }
-{
-    let name = &text[text.len().min(1)..];
-    let value = &name[name_len(name)..];
-    text.len() - value.len() + value_len(value)
-}
-
-/// Where the last member of the outermost object begins that the front of a text ends in: its comma, or the brace that
-/// opens the object.
-pub fn last_member(text: &[u8], front: usize) -> usize
-    ensures { result ≤ length text.now }
-{
-    let mut at = 0;
-    for _members in 0..front {
-        let len = member_len(&text[at..]);
-        if len == 0 || at + len >= front {
-            return at;
-        }
-        at += len;
-    }
-    at
-}
-
 impl<'a> Walk<'a> {
+    pub fn new(alloc: Global) -> Walk<'a> {
+        Walk {
+            members: Vec::new(alloc),
+            open: Vec::new(alloc),
+        }
+    }
+
+    /// The members that were passed.
+    pub fn members(&self) -> &[Member<'a>] {
+        self.members.as_slice()
+    }
+
+    /// The members that were passed.
+    pub fn into_members(self) -> Vec<Member<'a>> {
+        let Walk { members, .. } = self;
+        members
+    }
+
+    /// Forgets all but so many of them.
+    pub fn forget(&mut self, len: usize) {
+        self.members.truncate(len);
+    }
+
     /// Begins a member whose value is at the front of the text, and returns how many bytes were passed.
     fn value(&mut self, name: &'a [u8], place: u64, text: &'a [u8]) -> Result<usize, AllocError>
         ensures { IfOk result (λ n. n ≤ length text.now) }
@@ -194,7 +195,7 @@ impl<'a> Walk<'a> {
         }
         let name = name_len(text);
         let len = name + self.value(name_of(text, name), 0, &text[name..])?;
-        if text[len..].starts_with(b",") {
+        if !self.open.is_empty() && text[len..].starts_with(b",") {
             return Ok(len + 1);
         }
         Ok(len)
@@ -240,27 +241,26 @@ impl<'a> Walk<'a> {
             _ => self.member(text),
         }
     }
-}
 
-/// The members of a text of one object as `Shown` writes it: on one line, with no blank between its parts. Those of the
-/// outermost object are left out that stand whole in what the text has in common with another one, with all that is in
-/// them.
-///
-/// Of another text it is not said which members these are.
-pub fn members(alloc: Global, text: &[u8], common: Common) -> Result<Vec<Member<'_>>, AllocError> {
-    let mut walk = Walk {
-        members: Vec::new(alloc),
-        open: Vec::new(alloc),
-    };
-    let mut rest = &text[common.start.min(text.len())..];
-    for _steps in 0..text.len() {
-        if rest.is_empty() || walk.open.is_empty() && rest.len() <= common.back {
-            break;
+    /// Passes a member of the outermost object at the front of a text, with all that is in it, and the comma or the brace
+    /// in front of it, and returns how many bytes that was. The text is as `Shown` writes it, on one line, with no blank
+    /// between its parts.
+    pub fn outer(&mut self, text: &'a [u8]) -> Result<usize, AllocError>
+        ensures { IfOk result (λ n. n ≤ length text.now) }
+    {
+        let mut rest = &text[text.len().min(1)..];
+        for _steps in 0..text.len() {
+            if rest.is_empty() {
+                break;
+            }
+            let passed = self.step(rest)?;
+            rest = &rest[passed..];
+            if self.open.is_empty() {
+                break;
+            }
         }
-        let passed = walk.step(rest)?;
-        rest = &rest[passed..];
+        Ok(text.len() - rest.len())
     }
-    Ok(walk.members)
 }
 
 /// The value of the member with this name, of the object that a text begins with.

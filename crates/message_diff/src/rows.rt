@@ -10,10 +10,81 @@ use std::alloc::{AllocError, Global};
 /// The path has the names of the members around it and its own, and for an object in a list the number of its place
 /// there, from 0, with a point between each two. The value is a text with its quotes, a number, a truth value, a list
 /// of these, or an object or a list that is empty.
-#[derive(Drop)]
+#[derive(Clone, Copy)]
 pub struct Row<'a> {
-    pub path: Vec<u8>,
+    pub path: &'a [u8],
     pub value: &'a [u8],
+}
+
+/// Paths, one behind the other.
+#[derive(Drop)]
+pub struct Paths {
+    text: Vec<u8>,
+    ends: Vec<usize>,
+}
+
+impl Paths {
+    pub fn new(alloc: Global) -> Paths {
+        Paths {
+            text: Vec::new(alloc),
+            ends: Vec::new(alloc),
+        }
+    }
+
+    /// Adds a path.
+    fn push(&mut self, path: &[u8]) -> Result<(), AllocError> {
+        self.text.extend_from_slice(path)?;
+        self.ends.push(self.text.len())?;
+        Ok(())
+    }
+
+    /// Whether there is none.
+    pub fn is_empty(&self) -> bool {
+        self.ends.is_empty()
+    }
+
+    /// Whether this is one of them.
+    pub fn contains(&self, path: &[u8]) -> bool {
+        let text = self.text.as_slice();
+        let mut start = 0;
+        for end in &self.ends {
+            if text.get(start..*end) == Some(path) {
+                return true;
+            }
+            start = *end;
+        }
+        false
+    }
+}
+
+/// The paths and the values of rows.
+#[derive(Drop)]
+pub struct Rows<'a> {
+    paths: Paths,
+    values: Vec<&'a [u8]>,
+}
+
+impl<'a> Rows<'a> {
+    /// The rows.
+    pub fn list(&self, alloc: Global) -> Result<Vec<Row<'_>>, AllocError> {
+        let text = self.paths.text.as_slice();
+        let mut rows = Vec::with_capacity(alloc, self.values.len())?;
+        let mut start = 0;
+        for (end, value) in self.paths.ends.iter().zip(self.values.iter()) {
+            rows.push(Row {
+                path: text.get(start..*end).unwrap_or(b""),
+                value,
+            })?;
+            start = *end;
+        }
+        Ok(rows)
+    }
+
+    /// The paths alone.
+    pub fn into_paths(self) -> Paths {
+        let Rows { paths, .. } = self;
+        paths
+    }
 }
 
 /// The members of another text beside those of an object or list that is open: where the first one stands, and where
@@ -61,7 +132,7 @@ struct Walk<'a> {
     alloc: Global,
     path: Vec<u8>,
     open: Vec<Beside>,
-    rows: Vec<Row<'a>>,
+    rows: Rows<'a>,
 }
 
 impl<'a> Walk<'a> {
@@ -95,9 +166,8 @@ impl<'a> Walk<'a> {
             })?;
             return Ok(());
         }
-        let path = self.path.as_slice().to_vec(self.alloc)?;
-        let value = member.value;
-        self.rows.push(Row { path, value })?;
+        self.rows.paths.push(self.path.as_slice())?;
+        self.rows.values.push(member.value)?;
         Ok(())
     }
 
@@ -134,12 +204,15 @@ pub fn rows<'a>(
     alloc: Global,
     members: &[Member<'a>],
     others: &[Member<'_>],
-) -> Result<Vec<Row<'a>>, AllocError> {
+) -> Result<Rows<'a>, AllocError> {
     let mut walk = Walk {
         alloc,
         path: Vec::new(alloc),
         open: Vec::new(alloc),
-        rows: Vec::new(alloc),
+        rows: Rows {
+            paths: Paths::new(alloc),
+            values: Vec::new(alloc),
+        },
     };
     walk.open.push(Beside {
         path_len: 0,

@@ -4,14 +4,13 @@ ghost use Rattle.std.specs.Prelude.{◌≡◌, IfOk, IfErr, OnOk};
 ghost use Rattle.link_msg.specs.Canonical.{IsRefusal};
 ghost use Rattle.message_diff.specs.Compared.{HasTextBy};
 
-use crate::counters::Cleared;
+use crate::outer::ends_of;
 use link_msg::{CanonError, canonical};
 use link_state::state;
 use message_shown::answers::push_answer;
 use message_shown::context::Order;
 use std::alloc::{AllocError, Global};
 use std::marker::Model;
-use std::mem;
 
 /// What is compared of two messages.
 #[derive(Clone, Copy, Debug, PartialEq, Eq)]
@@ -30,7 +29,7 @@ pub struct Snapshot {
     text: Vec<u8>,
     message: Vec<u8>,
     line: Vec<u8>,
-    cleared: Cleared,
+    ends: Vec<usize>,
 }
 
 impl Model for Snapshot {
@@ -75,7 +74,7 @@ impl Snapshot {
             text,
             message,
             line: Vec::new(alloc),
-            cleared: Cleared::new(alloc),
+            ends: Vec::new(alloc),
         })
     }
 
@@ -116,17 +115,25 @@ impl Snapshot {
         self.line.as_slice()
     }
 
-    /// What the state encoding clears of it, as far as that was looked for, which is forgotten here.
-    pub fn take_cleared(&mut self, alloc: Global) -> Cleared
+    /// Looks for where the members of its line end, if that was not done.
+    pub fn find_ends(&mut self, alloc: Global) -> Result<(), AllocError>
         ensures { self.new ≡ self.old }
     {
-        mem::replace(&mut self.cleared, Cleared::new(alloc))
+        if self.ends.is_empty() {
+            self.ends = ends_of(alloc, self.line.as_slice())?;
+        }
+        Ok(())
     }
 
-    /// Keeps what the state encoding clears of it.
-    pub fn keep_cleared(&mut self, cleared: Cleared)
+    /// Where the members of its line end, as far as that was looked for.
+    pub fn ends(&self) -> &[usize] {
+        self.ends.as_slice()
+    }
+
+    /// Keeps where the members of its line end.
+    pub fn keep_ends(&mut self, ends: Vec<usize>)
         ensures { self.new ≡ self.old }
     {
-        self.cleared = cleared;
+        self.ends = ends;
     }
 }

@@ -4,11 +4,10 @@ ghost use Rattle.std.specs.Prelude.{◌≡◌, ◌<◌, ◌≤◌, ◌↔◌, Is
 ghost use Rattle.link_msg.specs.Canonical.{IsRefusalOfTwo};
 ghost use Rattle.message_diff.specs.Compared.{TellsIfDiffers};
 
-use crate::common::Common;
-use crate::counters::Counters;
+use crate::counters::without_cleared;
 use crate::differences::{Change, differences};
 use crate::line::{push_changes, push_head, push_texts};
-use crate::members::members;
+use crate::outer::{Outer, apart, members_at};
 use crate::rows::rows;
 use crate::snapshot::{Compared, Snapshot};
 use link_msg::CanonError;
@@ -74,56 +73,34 @@ fn push_differences(
     push_changes(out, changes)
 }
 
-/// Adds a line for an interface whose encoding is another.
+/// Adds a line for an interface whose encoding is another, and returns where the members of the new line end.
 fn push_difference(
     alloc: Global,
     words: &[u8],
     old: &Snapshot,
     new: &Snapshot,
-    counters: &mut Counters,
     out: &mut Vec<u8>,
-) -> Result<(), AllocError>
+) -> Result<Vec<usize>, AllocError>
     ensures { OnOk result (length out.old.items < length out.new.items) }
 {
-    let common = Common::new(old.line(), new.line());
-    let was = members(alloc, old.line(), common)?;
-    let is = members(alloc, new.line(), common)?;
-    let old_rows = rows(alloc, was.as_slice(), is.as_slice())?;
-    let new_rows = rows(alloc, is.as_slice(), was.as_slice())?;
-    push_head(out, words, "changed", new.line())?;
-    let changes = differences(alloc, old_rows.as_slice(), new_rows.as_slice())?;
-    let changes = changes.as_slice();
-    if new.by() == Compared::State && counters.find(alloc, old, new, changes)? {
-        let left = counters.leave_out(alloc, changes)?;
-        return push_differences(alloc, old, new, left.as_slice(), out);
-    }
-    push_differences(alloc, old, new, changes, out)
-}
-
-/// The same, where what was found of what the messages clear stays with them.
-fn push_known(
-    alloc: Global,
-    words: &[u8],
-    old: &mut Snapshot,
-    new: &mut Snapshot,
-    out: &mut Vec<u8>,
-) -> Result<(), AllocError>
-    ensures said { OnOk result (length out.old.items < length out.new.items) }
-    ensures old_kept { old.new ≡ old.old }
-    ensures new_kept { new.new ≡ new.old }
-{
-    let mut counters = Counters {
-        old: old.take_cleared(alloc),
-        new: new.take_cleared(alloc),
+    let outer = Outer {
+        text: old.line(),
+        ends: old.ends(),
     };
-    push_difference(alloc, words, old, new, &mut counters, out)?;
-    let Counters {
-        old: of_old,
-        new: of_new,
-    } = counters;
-    old.keep_cleared(of_old);
-    new.keep_cleared(of_new);
-    Ok(())
+    let apart = apart(alloc, outer, new.line())?;
+    let was = members_at(alloc, outer, apart.old.as_slice(), false)?;
+    let is = apart.members();
+    let old_rows = rows(alloc, was.as_slice(), is)?;
+    let new_rows = rows(alloc, is, was.as_slice())?;
+    let old_list = old_rows.list(alloc)?;
+    let new_list = new_rows.list(alloc)?;
+    let mut changes = differences(alloc, old_list.as_slice(), new_list.as_slice())?;
+    if new.by() == Compared::State {
+        changes = without_cleared(alloc, old, new, apart.ends.as_slice(), changes)?;
+    }
+    push_head(out, words, "changed", new.line())?;
+    push_differences(alloc, old, new, changes.as_slice(), out)?;
+    Ok(apart.into_ends())
 }
 
 /// Adds a line that tells what changed of the interface, if its encoding is another, and returns whether it is.
@@ -150,8 +127,10 @@ pub fn push_changed(
         return Ok(false);
     }
     old.show(alloc)?;
+    old.find_ends(alloc)?;
     new.show(alloc)?;
-    push_known(alloc, words, old, new, out)?;
+    let ends = push_difference(alloc, words, old, new, out)?;
+    new.keep_ends(ends);
     Ok(true)
 }
 

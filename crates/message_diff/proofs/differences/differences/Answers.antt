@@ -18,15 +18,15 @@ loop-row-preserved c =
     let changes = c.loop-row.changes.items in
     elim c.match-value_of.branch [
       | in-None+in_ok-push-in-None w ↦
-          let change = Came w.as_slice-in-None.result row.value in
-          let path : w.as_slice-in-None.result.now ≡ row.path.items = search rules in
-          let lacks : Lacks old row.path.items = subst (λ (p : List ℕ). Lacks old p) (search rules) w.in-None.ensures in
+          let change = Came row.path row.value in
+          let path : row.path.now ≡ row.path.now = search rules in
+          let lacks : Lacks old row.path.now = subst (λ (p : List ℕ). Lacks old p) (search rules) w.in-None.ensures in
           let made : c.match-value_of.changes.items ≡ changes ++ change ∷ [] =
           ap (λ v. v.items) w.changes-is ∙ w.in_ok-push-in-None.ensures.items in
           record {
             real = subst (λ (cs : List Change). All (IsReal old new) cs) (sym made)
                 (All-push (IsReal old new) changes change c.loop-row.invariant.real
-                (came old new i row w.as_slice-in-None.result c.loop-row-test.true c.row-item.is path lacks));
+                (came old new i row row.path c.loop-row-test.true c.row-item.is path lacks));
             old_told = subst (λ (cs : List Change). All (IsOldTold new cs) old) (sym made)
                 (all_old_kept new changes change old c.loop-row.invariant.old_told);
             new_told = subst (λ (cs : List Change). All (IsNewTold old cs) (take (i + 1) new)) (sym made)
@@ -36,7 +36,7 @@ loop-row-preserved c =
           }
       | in-Some w ↦
           let made : c.match-value_of.changes.items ≡ changes = ap (λ v. v.items) w.changes-is in
-          let found : HasPath old row.path.items =
+          let found : HasPath old row.path.now =
           subst (λ (p : List ℕ). HasPath old p) (search rules) (has_path old _ _ w.in-Some.ensures) in
           record {
             real = subst (λ (cs : List Change). All (IsReal old new) cs) (sym made) c.loop-row.invariant.real;

@@ -14,9 +14,9 @@ returns-then-eq-2 c =
 
 pub loop-i-preserved : goal.loop-i-preserved
 loop-i-preserved c =
-    all_more (λ r. r.path.items ≢ c.args.path.now) c.args.rows.now c.loop-i.i c.index-rows-i.result c.loop-i-test.true
+    all_more (λ r. r.path.now ≢ c.args.path.now) c.args.rows.now c.loop-i.i c.index-rows-i.result c.loop-i-test.true
     c.index-rows-i.is c.loop-i.invariant (search rules)
 
 pub returns : goal.returns
 returns c =
-    all_done (λ r. r.path.items ≢ c.args.path.now) c.args.rows.now c.loop-i.i (search rules) c.loop-i.invariant
+    all_done (λ r. r.path.now ≢ c.args.path.now) c.args.rows.now c.loop-i.i (search rules) c.loop-i.invariant

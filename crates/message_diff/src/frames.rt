@@ -1,0 +1,205 @@
+//! The attributes of a message beside the members that are shown of them.
+
+ghost use Rattle.std.specs.Prelude.{◌≤◌, length};
+
+use crate::members::Walk;
+use crate::outer::Outer;
+use link_msg::header::HEADER_SIZE;
+use link_msg::numbers::IFLA_ADDRESS;
+use link_msg::{NLA_HEADER_SIZE, NLA_TYPE_MASK};
+use nla_wire::fields::u16_at;
+use std::alloc::{AllocError, Global};
+
+/// The names of the list of attributes that are shown as they are, and of that of earlier ones of one name.
+const OTHER: &[u8] = b"\"other\":";
+const REPEATED: &[u8] = b"\"repeated\":";
+
+/// What the names of the members begin with that are shown of a header.
+const HEADER: &[u8] = b"\"ifi-";
+
+/// How many bytes the frame takes up that a list begins with, with its padding.
+fn frame_len(list: &[u8]) -> usize
+    ensures { result ≤ length list.now }
+{
+    if list.len() < NLA_HEADER_SIZE {
+        return list.len();
+    }
+    let len = u16_at(list, 0) as usize;
+    ((len + 3) / 4 * 4).max(NLA_HEADER_SIZE).min(list.len())
+}
+
+/// The number of a frame.
+fn number_of(frame: &[u8]) -> u16 {
+    u16_at(frame, 2) & NLA_TYPE_MASK
+}
+
+/// The number that digits spell, as far as it is below 65536.
+fn number_in(digits: &[u8]) -> u16 {
+    let mut number = 0;
+    for digit in digits {
+        number = (number * 10 + (*digit).saturating_sub(b'0') as u32).min(65535);
+    }
+    number as u16
+}
+
+/// The numbers of the attributes that are shown as they are.
+fn kept_numbers(alloc: Global, line: Outer<'_>) -> Result<Vec<u16>, AllocError> {
+    let mut walk = Walk::new(alloc);
+    if let Some(place) = line.place_of(OTHER, 0) {
+        let _len = walk.outer(line.member(place))?;
+    }
+    let mut numbers = Vec::new(alloc);
+    for member in walk.members() {
+        if member.depth == 2 && member.name == b"number" {
+            numbers.push(number_in(member.value))?;
+        }
+    }
+    Ok(numbers)
+}
+
+/// Which members are shown of which attributes: those after the header's, in order, of one attribute each, but for those
+/// that are shown as they are.
+#[derive(Drop)]
+struct Layout {
+    kept: Vec<u16>,
+    /// The place of the first attribute's member.
+    first: usize,
+}
+
+impl Layout {
+    /// That of a line, if these are all of its members.
+    fn new(
+        alloc: Global,
+        attributes: &[u8],
+        line: Outer<'_>,
+    ) -> Result<Option<Layout>, AllocError> {
+        let kept = kept_numbers(alloc, line)?;
+        let named = count_named(attributes, kept.as_slice());
+        let lists = if kept.is_empty() { 0 } else { 1 };
+        let first = line.ends.len().saturating_sub(named).saturating_sub(lists);
+        let is_header = line.place_of(HEADER, first.saturating_sub(1)) == first.checked_sub(1);
+        if !is_header || line.place_of(HEADER, first).is_some() || line.place_of(REPEATED, 0).is_some() {
+            return Ok(None);
+        }
+        Ok(Some(Layout { kept, first }))
+    }
+}
+
+/// How many of the attributes have none of these numbers.
+fn count_named(attributes: &[u8], kept: &[u16]) -> usize {
+    let mut count = 0usize;
+    let mut rest = attributes;
+    for _frames in 0..attributes.len() {
+        if rest.is_empty() {
+            break;
+        }
+        let len = frame_len(rest);
+        if !kept.contains(&number_of(rest)) {
+            count = count.saturating_add(1);
+        }
+        rest = &rest[len..];
+    }
+    count
+}
+
+/// Whether one of the paths leads into this member.
+fn is_any_in(paths: &[&[u8]], member: &[u8]) -> bool {
+    paths.iter().any(|path| is_in(path, member))
+}
+
+/// Whether a path leads into this member.
+fn is_in(path: &[u8], member: &[u8]) -> bool {
+    let [_, b'"', rest @ ..] = member else {
+        return false;
+    };
+    let len = path.iter().position(|byte| *byte == b'.').unwrap_or(path.len());
+    rest.len() > len && rest[len] == b'"' && rest.starts_with(&path[..len])
+}
+
+/// A message that says less.
+#[derive(Drop)]
+pub struct Part {
+    pub message: Vec<u8>,
+    /// Whether attributes were left out.
+    pub is_part: bool,
+}
+
+/// The message with only those attributes that are not as in the other one, which has them at the same places, and in
+/// whose member one of the paths leads; nothing where there are none. `line` is what the other one is shown as.
+///
+/// An attribute is shown as it is alone, but for the length of the link's address: this stays, and where a path leads
+/// among those that are shown as they are, all of them. Where it does not show which attribute is which member, the
+/// message is whole.
+pub fn part_of(
+    alloc: Global,
+    message: &[u8],
+    other: &[u8],
+    line: Outer<'_>,
+    paths: &[&[u8]],
+) -> Result<Option<Part>, AllocError> {
+    if message == other {
+        return Ok(None);
+    }
+    let start = HEADER_SIZE.min(message.len());
+    let attributes = &message[start..];
+    let Some(layout) = Layout::new(alloc, attributes, line)? else {
+        let message = message.to_vec(alloc)?;
+        return Ok(Some(Part {
+            message,
+            is_part: false,
+        }));
+    };
+    let mut part = message[..start].to_vec(alloc)?;
+    let beside = other.get(start..).unwrap_or(b"");
+    if layout.add(attributes, beside, line, paths, &mut part)? {
+        return Ok(Some(Part {
+            message: part,
+            is_part: true,
+        }));
+    }
+    Ok(None)
+}
+
+impl Layout {
+    /// Adds the attributes that stay, and returns whether one is not as in the other message.
+    fn add(
+        &self,
+        attributes: &[u8],
+        others: &[u8],
+        line: Outer<'_>,
+        paths: &[&[u8]],
+        part: &mut Vec<u8>,
+    ) -> Result<bool, AllocError> {
+        let last = line.member(line.ends.len().saturating_sub(1));
+        let is_other = !self.kept.is_empty() && is_any_in(paths, last);
+        let mut place = self.first;
+        let mut rest = attributes;
+        let mut beside = others;
+        let mut is_any = false;
+        for _frames in 0..attributes.len() {
+            if rest.is_empty() {
+                break;
+            }
+            let len = frame_len(rest);
+            let frame = &rest[..len];
+            let differs = !beside.starts_with(frame);
+            let number = number_of(frame);
+            let is_kept = self.kept.contains(&number);
+            let is_wanted = if is_kept {
+                is_other
+            } else {
+                differs && is_any_in(paths, line.member(place))
+            };
+            if is_wanted || number == IFLA_ADDRESS {
+                part.extend_from_slice(frame)?;
+                is_any |= differs;
+            }
+            if !is_kept {
+                place = place.saturating_add(1);
+            }
+            rest = &rest[len..];
+            beside = beside.get(len..).unwrap_or(b"");
+        }
+        Ok(is_any)
+    }
+}

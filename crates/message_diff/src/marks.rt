@@ -1,0 +1,103 @@
+//! The words of a message that its state encoding has at zero, where they are marked.
+
+ghost use Rattle.std.specs.Prelude.{◌≡◌, length};
+
+use link_msg::canonical;
+use link_msg::header::HEADER_SIZE;
+use link_state::{Level, clear};
+use link_vals::AddressFamily;
+use std::alloc::{AllocError, Global};
+
+/// How many bytes have one mark.
+const WORD: usize = 4;
+
+fn is_zero(bytes: &[u8]) -> bool {
+    bytes.iter().all(|byte| *byte == 0)
+}
+
+/// Whether a word is four letters of a text.
+fn is_text(word: &[u8]) -> bool {
+    word.iter().all(|byte| byte.is_ascii_lowercase())
+}
+
+/// Puts a 1 in front of these bytes.
+fn mark(bytes: &mut [u8])
+    ensures { length bytes.new ≡ length bytes.old }
+{
+    if let Some(first) = bytes.first_mut() {
+        *first = 1;
+    }
+}
+
+/// Puts a 1 at the end of these bytes.
+fn mark_end(bytes: &mut [u8])
+    ensures { length bytes.new ≡ length bytes.old }
+{
+    if let Some(last) = bytes.last_mut() {
+        *last = 1;
+    }
+}
+
+/// Marks each word of attributes that is zero, one behind four letters at its end: there a text may have its NUL, which
+/// is the name of a kind.
+///
+/// No such word is the header of a frame, whose length is not zero; and a mark makes none of it, since a frame has more
+/// than one byte.
+fn mark_zeros(attributes: &mut [u8])
+    ensures { length attributes.new ≡ length attributes.old }
+{
+    let mut is_behind_text = false;
+    for word in attributes.chunks_mut(WORD) {
+        let is_name = is_text(word);
+        if is_zero(word) {
+            if is_behind_text {
+                mark_end(word);
+            } else {
+                mark(word);
+            }
+        }
+        is_behind_text = is_name;
+    }
+}
+
+/// Marks each word of attributes that is zero here and there.
+fn mark_common_zeros(attributes: &mut [u8], cleared: &[u8])
+    ensures { length attributes.new ≡ length attributes.old }
+{
+    for (word, other) in attributes.chunks_mut(WORD).zip(cleared.chunks(WORD)) {
+        if is_zero(word) && is_zero(other) {
+            mark(word);
+        }
+    }
+}
+
+/// Puts zeros in place of the change mask of a header, as the state encoding has them.
+fn clear_change_mask(text: &mut [u8])
+    ensures { length text.new ≡ length text.old }
+{
+    if text.len() >= HEADER_SIZE {
+        text[12] = 0;
+        text[13] = 0;
+        text[14] = 0;
+        text[15] = 0;
+    }
+}
+
+/// The canonical encoding of the message that the bytes are, in which no word is zero that the state encoding clears,
+/// but for the change mask.
+pub fn marked(alloc: Global, message: &[u8]) -> Result<Vec<u8>, AllocError> {
+    let Ok(mut text) = canonical(alloc, message) else {
+        return Err(AllocError);
+    };
+    clear_change_mask(text.as_mut_slice());
+    let start = HEADER_SIZE.min(text.len());
+    let mut cleared = text[start..].to_vec(alloc)?;
+    mark_zeros(cleared.as_mut_slice());
+    let family = message.first().copied().unwrap_or(0);
+    clear(
+        cleared.as_mut_slice(),
+        Level::Message(AddressFamily::from(family)),
+    );
+    mark_common_zeros(&mut text[start..], cleared.as_slice());
+    Ok(text)
+}
