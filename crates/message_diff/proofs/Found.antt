@@ -1,10 +1,20 @@
 -- Members at their places.
-use Rattle.std.proofs.Common.{◌≡◌, ◌<◌, ◌≤◌, ◌+◌, ℕ, List, length, slice_index_or, take, refl, sym, subst}
-use Rattle.std.proofs.lemmas.List.{take_all}
+use Rattle.std.proofs.Common.{◌≡◌, ◌<◌, ◌≤◌, ◌+◌, ℕ, List, [], length, slice_index_or, take, refl, sym, subst}
+use Rattle.std.proofs.lemmas.List.{take_all, get_or_default}
 use Rattle.std.proofs.lemmas.List.Elements.{All-more}
 use Rattle.std.specs.List.{All}
 use Rattle.message_diff.specs.Members.{Has}
 use Rattle.message_diff.specs.declared.rows.Row.{Row}
+
+-- the member at a place
+abbrev pub row_at : List Row → ℕ → Row
+row_at rows k = slice_index_or rows k (record {
+  path = record { ref_ptr = (0, 0); now = [] };
+  value = record { ref_ptr = (0, 0); now = [] };
+})
+
+pub row_is : (rows : List Row) (k : ℕ) → k < length rows → row_at rows k ≡ slice_index_or rows k (row_at rows k)
+row_is rows k within = get_or_default rows k _ (row_at rows k) within
 
 -- a member with the path at some place
 pub has_read : (rows : List Row) (k : ℕ) (r : Row) (path : List ℕ) → k < length rows → r ≡ slice_index_or rows k r

@@ -14,6 +14,9 @@ use std::alloc::{AllocError, Global};
 const OTHER: &[u8] = b"\"other\":";
 const REPEATED: &[u8] = b"\"repeated\":";
 
+/// The name of the number of an attribute that is shown as it is.
+const NUMBER: &[u8] = b"number";
+
 /// What the names of the members begin with that are shown of a header.
 const HEADER: &[u8] = b"\"ifi-";
 
@@ -35,11 +38,12 @@ fn number_of(frame: &[u8]) -> u16 {
 
 /// The number that digits spell, as far as it is below 65536.
 fn number_in(digits: &[u8]) -> u16 {
-    let mut number = 0;
+    let mut number = 0u16;
     for digit in digits {
-        number = (number * 10 + (*digit).saturating_sub(b'0') as u32).min(65535);
+        let units = (*digit).saturating_sub(b'0') as u16;
+        number = number.saturating_mul(10).saturating_add(units);
     }
-    number as u16
+    number
 }
 
 /// The numbers of the attributes that are shown as they are.
@@ -50,7 +54,7 @@ fn kept_numbers(alloc: Global, line: Outer<'_>) -> Result<Vec<u16>, AllocError> 
     }
     let mut numbers = Vec::new(alloc);
     for member in walk.members() {
-        if member.depth == 2 && member.name == b"number" {
+        if member.depth == 2 && member.name == NUMBER {
             numbers.push(number_in(member.value))?;
         }
     }

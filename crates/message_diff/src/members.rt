@@ -259,7 +259,7 @@ impl<'a> Walk<'a> {
                 break;
             }
         }
-        Ok(text.len() - rest.len())
+        Ok(text.len().saturating_sub(rest.len()))
     }
 }
 

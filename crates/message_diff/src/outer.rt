@@ -71,7 +71,7 @@ fn name_of(text: &[u8]) -> &[u8] {
 
 /// What is not the same in two texts.
 #[derive(Drop)]
-pub struct Apart<'a> {
+pub struct Unlike<'a> {
     /// The places of the members of the old text that do not stand in the new one, and whether one of their name does.
     pub old: Vec<(usize, bool)>,
     /// Those of the new text that do not stand in the old one.
@@ -80,7 +80,7 @@ pub struct Apart<'a> {
     pub ends: Vec<usize>,
 }
 
-impl<'a> Apart<'a> {
+impl<'a> Unlike<'a> {
     /// The members of the new text that do not stand in the old one, with all that is in them.
     pub fn members(&self) -> &[Member<'a>] {
         self.new.members()
@@ -88,7 +88,7 @@ impl<'a> Apart<'a> {
 
     /// Where the members of the new text end.
     pub fn into_ends(self) -> Vec<usize> {
-        let Apart { ends, .. } = self;
+        let Unlike { ends, .. } = self;
         ends
     }
 
@@ -147,8 +147,8 @@ pub fn apart<'a>(
     alloc: Global,
     old: Outer<'_>,
     new: &'a [u8],
-) -> Result<Apart<'a>, AllocError> {
-    let mut apart = Apart {
+) -> Result<Unlike<'a>, AllocError> {
+    let mut apart = Unlike {
         old: Vec::new(alloc),
         new: Walk::new(alloc),
         ends: Vec::new(alloc),

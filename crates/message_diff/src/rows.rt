@@ -59,12 +59,12 @@ impl Paths {
 
 /// The paths and the values of rows.
 #[derive(Drop)]
-pub struct Rows<'a> {
+pub struct RowList<'a> {
     paths: Paths,
     values: Vec<&'a [u8]>,
 }
 
-impl<'a> Rows<'a> {
+impl<'a> RowList<'a> {
     /// The rows.
     pub fn list(&self, alloc: Global) -> Result<Vec<Row<'_>>, AllocError> {
         let text = self.paths.text.as_slice();
@@ -82,7 +82,7 @@ impl<'a> Rows<'a> {
 
     /// The paths alone.
     pub fn into_paths(self) -> Paths {
-        let Rows { paths, .. } = self;
+        let RowList { paths, .. } = self;
         paths
     }
 }
@@ -132,7 +132,7 @@ struct Walk<'a> {
     alloc: Global,
     path: Vec<u8>,
     open: Vec<Beside>,
-    rows: Rows<'a>,
+    rows: RowList<'a>,
 }
 
 impl<'a> Walk<'a> {
@@ -204,12 +204,12 @@ pub fn rows<'a>(
     alloc: Global,
     members: &[Member<'a>],
     others: &[Member<'_>],
-) -> Result<Rows<'a>, AllocError> {
+) -> Result<RowList<'a>, AllocError> {
     let mut walk = Walk {
         alloc,
         path: Vec::new(alloc),
         open: Vec::new(alloc),
-        rows: Rows {
+        rows: RowList {
             paths: Paths::new(alloc),
             values: Vec::new(alloc),
         },

@@ -4,7 +4,7 @@ use Rattle.std.specs.List.{All}
 use Rattle.message_diff.specs.Members.{IsReal, IsOldTold, IsNewTold, HasPath, Lacks}
 use Rattle.message_diff.specs.declared.differences.Change.{Change}
 use Rattle.message_diff.specs.declared.differences.Change.TheVariants.{Came}
-use Rattle.message_diff.proofs.Found.{all_more, all_done}
+use Rattle.message_diff.proofs.Found.{all_more, all_done, row_at, row_is}
 use Rattle.message_diff.proofs.Steps.{has_path, came, came_told, all_old_kept, all_new_kept}
 use Rattle.message_diff.proofs.differences.differences.Goals as goal
 use Rattle.message_diff.proofs.differences.differences.Goals.{in-Some, in-None+in_ok-push-in-None}
@@ -14,7 +14,7 @@ loop-row-preserved c =
     let old = c.args.old.now in
     let new = c.args.new.now in
     let i = c.loop-row.row-index in
-    let row = c.row-item.result in
+    let row = row_at new i in
     let changes = c.loop-row.changes.items in
     elim c.match-value_of.branch [
       | in-None+in_ok-push-in-None w ↦
@@ -26,11 +26,11 @@ loop-row-preserved c =
           record {
             real = subst (λ (cs : List Change). All (IsReal old new) cs) (sym made)
                 (All-push (IsReal old new) changes change c.loop-row.invariant.real
-                (came old new i row row.path c.loop-row-test.true c.row-item.is path lacks));
+                (came old new i row row.path c.loop-row-test.true (row_is new i c.loop-row-test.true) path lacks));
             old_told = subst (λ (cs : List Change). All (IsOldTold new cs) old) (sym made)
                 (all_old_kept new changes change old c.loop-row.invariant.old_told);
             new_told = subst (λ (cs : List Change). All (IsNewTold old cs) (take (i + 1) new)) (sym made)
-                (all_more (IsNewTold old (changes ++ change ∷ [])) new i row c.loop-row-test.true c.row-item.is
+                (all_more (IsNewTold old (changes ++ change ∷ [])) new i row c.loop-row-test.true (row_is new i c.loop-row-test.true)
                 (all_new_kept old changes change (take i new) c.loop-row.invariant.new_told)
                 (came_told old changes row change path));
           }
@@ -43,7 +43,7 @@ loop-row-preserved c =
             old_told = subst (λ (cs : List Change). All (IsOldTold new cs) old) (sym made)
                 c.loop-row.invariant.old_told;
             new_told = subst (λ (cs : List Change). All (IsNewTold old cs) (take (i + 1) new)) (sym made)
-                (all_more (IsNewTold old changes) new i row c.loop-row-test.true c.row-item.is
+                (all_more (IsNewTold old changes) new i row c.loop-row-test.true (row_is new i c.loop-row-test.true)
                 c.loop-row.invariant.new_told (inl found));
           }
     ]
