@@ -1,14 +1,13 @@
 -- Members that are added one after another.
 use Rattle.std.proofs.Common.{◌≡◌, ℕ, ◌+◌, ◌<◌, ◌≤◌, min, List, [], length, take}
 use Rattle.std.proofs.Common.{get_or, sym, ap, ◌∙◌, Bor, arith}
-use Rattle.std.specs.Prelude.{ℤ, map}
+use Rattle.std.specs.Prelude.{map}
 use Rattle.std.specs.List.{zip}
 use Rattle.std.proofs.lemmas.List.{get_or-map, length-map, take_all}
 use Rattle.std.proofs.lemmas.List.Sums.{fold_more}
 use Rattle.std.proofs.lemmas.Slice.Zip.{length-zip, get_or-zip}
 use Rattle.json.specs.Token.{Token}
 use Rattle.shown.specs.Drafts.{Draft, with_value, with_members}
-use Rattle.message_shown.specs.Records.{numbers_of, signed_of}
 
 pub member_added : (names : List (List ℕ)) (texts : List (List Token)) (i : ℕ) (name : List ℕ) (text : List Token)
     (old page new : Draft) → i < length names → i < length texts → get_or names i [] ≡ name → get_or texts i [] ≡ text
@@ -37,19 +36,19 @@ name_there : (table : List (Bor (List ℕ))) (i : ℕ) → i < length table
 name_there table i l = get_or-map (λ name. name.now) table i (record { ref_ptr = (0, 0); now = [] }) [] l
 
 -- the next value, with its name
-pub value_added : {A : Type 0} (tokens : A → List Token) (none : A) (table : List (Bor (List ℕ))) (values : List A)
+pub value_added : {A : Type 0} (tokens : A → List Token) (table : List (Bor (List ℕ))) (values : List A)
     (end i : ℕ) (value : A) (old page new : Draft) → end ≡ min (length table) (length values) → i < end
-    → value ≡ get_or values i none
+    → value ≡ get_or values i value
     → page ≡ with_members (take i (zip (texts table) (map tokens values))) old
     → new ≡ with_value (get_or table i (record { ref_ptr = (0, 0); now = [] })).now (tokens value) page
     → new ≡ with_members (take (i + 1) (zip (texts table) (map tokens values))) old
-value_added tokens none table values end i value old page new e l v was is =
+value_added tokens table values end i value old page new e l v was is =
     let named : i < length (texts table) = omega (arith, length-map table (λ name. name.now), e, l) in
     let valued : i < length (map tokens values) = omega (arith, length-map values tokens, e, l) in
     let below : i < length values = omega (arith, e, l) in
     member_added (texts table) (map tokens values) i _ (tokens value) old page new named valued
     (name_there table i (omega (arith, e, l)))
-    (get_or-map tokens values i none [] below ∙ ap tokens (sym v)) was is
+    (get_or-map tokens values i value [] below ∙ ap tokens (sym v)) was is
 
 -- the end of the shorter of both
 pub values_done : {A : Type 0} (tokens : A → List Token) (table : List (Bor (List ℕ))) (values : List A)
@@ -59,13 +58,3 @@ pub values_done : {A : Type 0} (tokens : A → List Token) (table : List (Bor (L
 values_done tokens table values end i old page e l is =
     all_added (texts table) (map tokens values) i old page
     (omega (arith, length-map table (λ name. name.now), length-map values tokens, e, l)) is
-
-pub numbers_then : (names : List (List ℕ)) (ns ms : List ℕ) (page so_far new : Draft)
-    → new ≡ with_members (numbers_of names ns) page → ns ≡ ms → page ≡ so_far
-    → new ≡ with_members (numbers_of names ms) so_far
-numbers_then names ns ms page so_far new is same was = is ∙ (λ k. with_members (numbers_of names (same k)) (was k))
-
-pub signed_then : (names : List (List ℕ)) (zs ys : List ℤ) (page so_far new : Draft)
-    → new ≡ with_members (signed_of names zs) page → zs ≡ ys → page ≡ so_far
-    → new ≡ with_members (signed_of names ys) so_far
-signed_then names zs ys page so_far new is same was = is ∙ (λ k. with_members (signed_of names (same k)) (was k))

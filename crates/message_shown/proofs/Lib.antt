@@ -3,3 +3,5 @@ mod Filled
 mod Named
 mod Places
 mod Elements
+mod Forms
+mod Kept

@@ -1,21 +1,22 @@
 -- The attributes of a place, one after another.
 use Rattle.std.proofs.Common.{◌≡◌, ℕ, zero, suc, ◌≤◌, ◌||◌, inl, inr, set, ◌+◌, ◌<◌, ◌==◌, List, [], ◌∷◌, ◌++◌}
 use Rattle.std.proofs.Common.{length, get_or, drop, refl, sym, ap, ◌∙◌, arith}
-use Rattle.std.specs.Prelude.{Bool, true, false, None, Some, codes, cond, not, map, replicate, slice_index}
+use Rattle.std.specs.Prelude.{Bool, true, false, None, Some, bit_and, codes, cond, nat_lt, not, map, replicate}
+use Rattle.std.specs.Prelude.{slice_index}
 use Rattle.std.specs.List.{flat_map, list_any}
 use Rattle.std.proofs.lemmas.List.{at_drop_more, drop-map, get_or-map, length-map, get_or-set_other}
-use Rattle.std.proofs.lemmas.List.{append-nil, get_or_default}
+use Rattle.std.proofs.lemmas.List.{append-nil, get_or_default, get_or_past, length-set}
 use Rattle.std.proofs.Math.Bool.{or-false}
 use Rattle.std.proofs.lemmas.Grind.{get_or-set_at}
 use Rattle.std.proofs.lemmas.List.Concat.{flat_map-append}
-use Rattle.std.proofs.lemmas.Bool.Decides.{eqb_tells}
+use Rattle.std.proofs.lemmas.Bool.Decides.{eqb_tells, nat_tests}
 use Rattle.std.proofs.lemmas.Bool.{eq-eqb, ne_eqb, or_from, or_parts}
 use Rattle.std.proofs.lemmas.List.Sums.{fold-append}
 use Rattle.json.specs.Token.{Token}
 use Rattle.shown.specs.Drafts.{Draft, Members, Ends, with_value, with_begun, with_members, object_of, list_of}
 use Rattle.shown.specs.declared.page.Nest.TheVariants.{Object, List as Items}
 use Rattle.shown.proofs.Drafts.{list_ended, object_ended}
-use Rattle.message_shown.specs.Places.{Item, shown_as, number_in, has_number, comes_in}
+use Rattle.message_shown.specs.Places.{Item, Said, Kept, item_of, kept_of, shown_of, kept_in, shown_as, number_in, has_number, comes_in}
 use Rattle.message_shown.specs.Places.{last_ones, earlier_ones, named_ones, kept_ones, objects, TellsLast}
 use Rattle.message_shown.specs.Places.{are_any, list_under, values_of}
 use Rattle.message_shown.specs.Causes.{AddsMembers}
@@ -81,19 +82,31 @@ told_here f xs table i n x tells small l here is =
     tells i n within small (ap number_in (get_or-map f xs i x (Item.as_is [] 0 []) l ∙ ap f (sym here)) ∙ is)
     ∙ ap (λ items. not (comes_in n items)) (drop-map f (i + 1) xs)
 
-pub is_last : {X : Type 0} (f : X → Item) (xs : List X) (table : List ℕ) (i n : ℕ) (x : X)
-    → TellsLast (map f xs) table → n < 128 → i < length xs → x ≡ get_or xs i x → number_in (f x) ≡ Some n
-    → slice_index table n ≡ i → comes_in n (map f (drop (i + 1) xs)) ≡ false
-is_last f xs table i n x tells small l here is same =
-    let told = told_here f xs table i n x tells small l here is in
-    not_true _ (sym told ∙ eq-eqb _ _ same)
+-- what a test of the table, or of those behind it, tells of the attribute at a place
+told_last : {X : Type 0} (f : X → Item) (xs : List X) (table : List ℕ) (i n : ℕ) (x : X)
+    → TellsLast (map f xs) table → i < length xs → x ≡ get_or xs i x → number_in (f x) ≡ Some n
+    → cond (nat_lt n 128) (slice_index table n == i) (not (comes_in n (map f (drop (i + 1) xs))))
+    ≡ not (comes_in n (map f (drop (i + 1) xs)))
+told_last f xs table i n x tells l here is = by_size (nat_lt n 128) refl where
+  by_size : (small : Bool) → nat_lt n 128 ≡ small
+      → cond small (slice_index table n == i) (not (comes_in n (map f (drop (i + 1) xs))))
+      ≡ not (comes_in n (map f (drop (i + 1) xs)))
+  by_size true small = told_here f xs table i n x tells (grind (arith, nat_tests)) l here is
+  by_size false small = refl
 
-pub is_earlier : {X : Type 0} (f : X → Item) (xs : List X) (table : List ℕ) (i n : ℕ) (x : X)
-    → TellsLast (map f xs) table → n < 128 → i < length xs → x ≡ get_or xs i x → number_in (f x) ≡ Some n
-    → (slice_index table n ≡ i → ⊥) → comes_in n (map f (drop (i + 1) xs)) ≡ true
-is_earlier f xs table i n x tells small l here is differ =
-    let told = told_here f xs table i n x tells small l here is in
-    not_false _ (sym told ∙ ne_eqb _ _ differ)
+pub is_last : {X : Type 0} (f : X → Item) (xs : List X) (table : List ℕ) (i n : ℕ) (x : X) (b : Bool)
+    → TellsLast (map f xs) table → i < length xs → x ≡ get_or xs i x → number_in (f x) ≡ Some n
+    → b ≡ cond (nat_lt n 128) (slice_index table n == i) (not (comes_in n (map f (drop (i + 1) xs)))) → b ≡ true
+    → comes_in n (map f (drop (i + 1) xs)) ≡ false
+is_last f xs table i n x b tells l here is e same =
+    not_true _ (sym (e ∙ told_last f xs table i n x tells l here is) ∙ same)
+
+pub is_earlier : {X : Type 0} (f : X → Item) (xs : List X) (table : List ℕ) (i n : ℕ) (x : X) (b : Bool)
+    → TellsLast (map f xs) table → i < length xs → x ≡ get_or xs i x → number_in (f x) ≡ Some n
+    → b ≡ cond (nat_lt n 128) (slice_index table n == i) (not (comes_in n (map f (drop (i + 1) xs)))) → b ≡ false
+    → comes_in n (map f (drop (i + 1) xs)) ≡ true
+is_earlier f xs table i n x b tells l here is e differ =
+    not_false _ (sym (e ∙ told_last f xs table i n x tells l here is) ∙ differ)
 
 pub last_shown : (x : Item) (n : ℕ) (rest : List Item) → number_in x ≡ Some n → comes_in n rest ≡ false
     → last_ones (x ∷ rest) ≡ shown_as x ++ last_ones rest
@@ -390,6 +403,86 @@ named_repeats (Item.named n ms) m i table rest before l some is =
     (sym (any_earlier m ms rest))
     ∙ ap (λ k. repeats table (Item.named k ms ∷ rest) || before) (sym same)
 named_repeats (Item.as_is name kind payload) m i table rest before l some is = absurd cc
+
+-- ** what is noted of one whose number may have no place in the table
+
+other_number : (x : Item) (m n : ℕ) → number_in x ≡ Some m → (m ≡ n → ⊥) → has_number n x ≡ false
+other_number (Item.named k ms) m n is differ =
+    let same : k ≡ m = cc in
+    ne_eqb k n (λ h. differ (sym same ∙ h))
+other_number (Item.as_is name kind payload) m n is differ = refl
+
+pub length_noted : (m i : ℕ) (table : List ℕ) → length (cond (nat_lt m 128) (set table m i) table) ≡ length table
+length_noted m i table = by_size (nat_lt m 128) where
+  by_size : (small : Bool) → length (cond small (set table m i) table) ≡ length table
+  by_size true = length-set table m i
+  by_size false = refl
+
+pub stored_noted : (x : Item) (m n i : ℕ) (table : List ℕ) → length table ≡ 128 → n < 128 → number_in x ≡ Some m
+    → slice_index (cond (nat_lt m 128) (set table m i) table) n ≡ cond (has_number n x) i (slice_index table n)
+stored_noted x m n i table size l is = by_size (nat_lt m 128) refl where
+  by_size : (small : Bool) → nat_lt m 128 ≡ small
+      → slice_index (cond small (set table m i) table) n ≡ cond (has_number n x) i (slice_index table n)
+  by_size true small = stored x m n i table (grind (arith, nat_tests)) is
+  by_size false small =
+      sym (ap (λ b. cond b i (slice_index table n)) (other_number x m n is (λ h. absurd (grind (arith, nat_tests)))))
+
+mixed : (told earlier before comes : Bool)
+    → ((told || earlier) || (before || comes)) ≡ ((told || (comes || earlier)) || before)
+mixed true earlier before comes = refl
+mixed false true before true = refl
+mixed false true before false = refl
+mixed false false true true = refl
+mixed false false true false = refl
+mixed false false false true = refl
+mixed false false false false = refl
+
+large_repeats : (x : Item) (m : ℕ) (table : List ℕ) (rest : List Item) (before : Bool) → length table ≤ m
+    → number_in x ≡ Some m
+    → (repeats table rest || (before || comes_in m rest)) ≡ (repeats table (x ∷ rest) || before)
+large_repeats (Item.named n ms) m table rest before large is =
+    let same : n ≡ m = cc in
+    let told : is_told table (Item.named n ms) ≡ false =
+    ap not (eq-eqb _ no_place (get_or_past table n no_place (omega (arith, large, same)))) in
+    mixed (list_any (is_told table) rest) (are_any (earlier_ones rest)) before (comes_in m rest)
+    ∙ ap (λ b. ((list_any (is_told table) rest) || (b || are_any (earlier_ones rest))) || before)
+    (sym (ap (λ k. comes_in k rest) same))
+    ∙ ap (λ b. (list_any (is_told table) rest || b) || before) (sym (any_earlier n ms rest))
+    ∙ ap (λ b. ((b || list_any (is_told table) rest) || are_any (earlier_ones (Item.named n ms ∷ rest))) || before)
+    (sym told)
+large_repeats (Item.as_is name kind payload) m table rest before large is = absurd cc
+
+pub repeats_noted : (x : Item) (m i : ℕ) (table : List ℕ) (rest : List Item) (before : Bool) → length table ≡ 128
+    → (i ≡ no_place → ⊥) → number_in x ≡ Some m
+    → (repeats (cond (nat_lt m 128) (set table m i) table) rest
+    || (before || cond (nat_lt m 128) (not (slice_index table m == no_place)) (comes_in m rest)))
+    ≡ (repeats table (x ∷ rest) || before)
+repeats_noted x m i table rest before size some is = by_size (nat_lt m 128) refl where
+  by_size : (small : Bool) → nat_lt m 128 ≡ small
+      → (repeats (cond small (set table m i) table) rest
+      || (before || cond small (not (slice_index table m == no_place)) (comes_in m rest)))
+      ≡ (repeats table (x ∷ rest) || before)
+  by_size true small = named_repeats x m i table rest before (grind (arith, nat_tests)) some is
+  by_size false small = large_repeats x m table rest before (grind (arith, nat_tests)) is
+
+-- ** what an attribute is with its number
+
+pub shown_same : (kind : ℕ) (s : Said) → shown_as (item_of kind s) ≡ shown_of s
+shown_same kind (Said.named ms) = refl
+shown_same kind (Said.as_is name k payload) = refl
+
+pub kept_same : (kind : ℕ) (s : Said) → kept_in (item_of kind s) ≡ kept_of s
+kept_same kind (Said.named ms) = refl
+kept_same kind (Said.as_is name k payload) = refl
+
+pub number_of_named : (kind : ℕ) (s : Said) → kept_of s ≡ None
+    → number_in (item_of kind s) ≡ Some (bit_and kind 0x3fff)
+number_of_named kind (Said.named ms) none = refl
+number_of_named kind (Said.as_is name k payload) none = absurd cc
+
+pub number_of_kept : (kind : ℕ) (s : Said) (kept : Kept) → kept_of s ≡ Some kept → number_in (item_of kind s) ≡ None
+number_of_kept kind (Said.named ms) kept is = absurd cc
+number_of_kept kind (Said.as_is name k payload) kept is = refl
 
 -- where none comes again, all that have a name are the last ones
 all_last : (items : List Item) → are_any (earlier_ones items) ≡ false → last_ones items ≡ flat_map shown_as items

@@ -1,11 +1,12 @@
 -- The names of causes and their numbers, and what an attribute's frame holds.
-use Rattle.std.specs.Prelude.{◌≡◌, ℕ, List, [], ◌∷◌, ◌++◌, bit_and, codes, decimal}
+use Rattle.std.specs.Prelude.{◌≡◌, ℕ, List, [], ◌∷◌, ◌++◌, bit_and, codes, decimal, map}
 use Rattle.hex.specs.Hex.{encode_lower}
 use Rattle.json.specs.Token.{number, string}
 use Rattle.nla_wire.specs.declared.error.Cause.{Cause}
 use Rattle.nla_wire.specs.declared.error.Cause.TheVariants.{TooShort, FrameShort, FrameOver, FrameUnder, EmptyList}
 use Rattle.nla_wire.specs.declared.error.Cause.TheVariants.{WrongLength, NotUtf8, InvalidState, OutOfMemory}
 use Rattle.nla_wire.specs.declared.error.DecodeError.{DecodeError}
+use Rattle.message_shown.specs.declared.wire.TheConstants.{FRAME_FLAGS}
 use Rattle.shown.specs.Drafts.{Draft, Members, with_members}
 use Rattle.shown.specs.Values.{numbered, BitNames, flags_of}
 
@@ -35,7 +36,7 @@ cause_members OutOfMemory = []
 
 -- the names of the two flags of an attribute's frame
 abbrev pub frame_flags : BitNames
-frame_flags = (0x8000, codes "nested") ∷ (0x4000, codes "net-byteorder") ∷ []
+frame_flags = map (λ row. (row.0, row.1.now)) FRAME_FLAGS
 
 -- a text under a name, where it is not empty
 abbrev pub text_unless_empty : List ℕ → List ℕ → Members

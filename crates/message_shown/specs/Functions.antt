@@ -7,24 +7,15 @@ use Rattle.link_info.specs.declared.place.Place.TheVariants as Places
 use Rattle.link_vals.specs.VfLinkStateTable.{vf_link_state_number}
 use Rattle.link_vals.specs.declared.vlan_protocol.VlanProtocol.{VlanProtocol}
 use Rattle.link_vals.specs.declared.vlan_protocol.VlanProtocol.TheVariants.{Ieee8021Q, Ieee8021Ad}
+use Rattle.link_vf.specs.Tables.{vf_stats_place, vf_vlan_place, vf_port_place, vf_info_place}
 use Rattle.link_vf.specs.declared.stats.VfStats.{VfStats}
-use Rattle.link_vf.specs.declared.stats.VfStats.TheVariants.{RxPackets, TxPackets, RxBytes, TxBytes, Broadcast}
-use Rattle.link_vf.specs.declared.stats.VfStats.TheVariants.{Multicast, RxDropped, TxDropped, Other}
+use Rattle.link_vf.specs.declared.stats.VfStats.TheVariants as Stats
 use Rattle.link_vf.specs.declared.vf_info.VfInfo.{VfInfo}
 use Rattle.link_vf.specs.declared.vf_info.VfInfo.TheVariants as Infos
 use Rattle.link_vf.specs.declared.vf_list.LinkVfInfo.{LinkVfInfo}
 use Rattle.link_vf.specs.declared.port_list.LinkVfPort.{LinkVfPort}
 use Rattle.link_vf.specs.declared.vf_port.VfPort.{VfPort}
 use Rattle.link_vf.specs.declared.vf_port.VfPort.TheVariants as Ports
-use Rattle.link_vf.specs.declared.numbers.TheConstants.{IFLA_VF_MAC, IFLA_VF_VLAN, IFLA_VF_TX_RATE, IFLA_VF_SPOOFCHK}
-use Rattle.link_vf.specs.declared.numbers.TheConstants.{IFLA_VF_LINK_STATE, IFLA_VF_RATE, IFLA_VF_RSS_QUERY_EN}
-use Rattle.link_vf.specs.declared.numbers.TheConstants.{IFLA_VF_STATS, IFLA_VF_TRUST, IFLA_VF_IB_NODE_GUID}
-use Rattle.link_vf.specs.declared.numbers.TheConstants.{IFLA_VF_IB_PORT_GUID, IFLA_VF_VLAN_LIST, IFLA_VF_BROADCAST}
-use Rattle.link_vf.specs.declared.numbers.TheConstants.{IFLA_VF_STATS_RX_PACKETS, IFLA_VF_STATS_TX_PACKETS}
-use Rattle.link_vf.specs.declared.numbers.TheConstants.{IFLA_VF_STATS_RX_BYTES, IFLA_VF_STATS_TX_BYTES}
-use Rattle.link_vf.specs.declared.numbers.TheConstants.{IFLA_VF_STATS_BROADCAST, IFLA_VF_STATS_MULTICAST}
-use Rattle.link_vf.specs.declared.numbers.TheConstants.{IFLA_VF_STATS_RX_DROPPED, IFLA_VF_STATS_TX_DROPPED}
-use Rattle.link_vf.specs.declared.numbers.TheConstants.{IFLA_VF_VLAN_INFO}
 use Rattle.link_vf.specs.declared.vf_vlan.VfVlan.{VfVlan}
 use Rattle.link_vf.specs.declared.vf_vlan.VfVlan.TheVariants as Vlans
 use Rattle.link_vfrec.specs.Truth.{on_number}
@@ -36,8 +27,10 @@ use Rattle.link_vfrec.specs.declared.vf_vlan.VfVlanInfo.{VfVlanInfo}
 use Rattle.link_vfrec.specs.declared.vlan.VfInfoVlan.{VfInfoVlan}
 use Rattle.shown.specs.Drafts.{Members, object_of, list_of}
 use Rattle.shown.specs.Values.{hardware_address, name_or_number, numbered}
-use Rattle.message_shown.specs.Places.{Item, kept_item, members_of, listed_under}
-use Rattle.message_shown.specs.Rows.{placed_item, whole}
+use Rattle.message_shown.specs.Places.{Said, items_of, kept_said, members_of, listed_under}
+use Rattle.message_shown.specs.declared.names.TheConstants.{VF_LINK_STATES, VF_STATS}
+use Rattle.message_shown.specs.Forms.{flat_said}
+use Rattle.message_shown.specs.Rows.{placed_said, whole}
 use Rattle.message_shown.specs.declared.context.Context.{Context}
 
 -- a function, and one number of it
@@ -63,7 +56,7 @@ vlan_shown v =
 
 -- the states of a function's link that have a name, by their numbers
 abbrev pub link_state_names : List (List ℕ)
-link_state_names = codes "auto" ∷ codes "enable" ∷ codes "disable" ∷ []
+link_state_names = map (λ name. name.now) VF_LINK_STATES
 
 abbrev pub link_state_shown : VfInfoLinkState → Members
 link_state_shown v =
@@ -95,60 +88,52 @@ vlan_info_shown v =
     ∷ []
 
 -- a counter of a function
-abbrev pub vf_stats_item : VfStats → Item
-vf_stats_item (RxPackets n) = Item.named IFLA_VF_STATS_RX_PACKETS (numbered (codes "rx-packets") n ∷ [])
-vf_stats_item (TxPackets n) = Item.named IFLA_VF_STATS_TX_PACKETS (numbered (codes "tx-packets") n ∷ [])
-vf_stats_item (RxBytes n) = Item.named IFLA_VF_STATS_RX_BYTES (numbered (codes "rx-bytes") n ∷ [])
-vf_stats_item (TxBytes n) = Item.named IFLA_VF_STATS_TX_BYTES (numbered (codes "tx-bytes") n ∷ [])
-vf_stats_item (Broadcast n) = Item.named IFLA_VF_STATS_BROADCAST (numbered (codes "broadcast") n ∷ [])
-vf_stats_item (Multicast n) = Item.named IFLA_VF_STATS_MULTICAST (numbered (codes "multicast") n ∷ [])
-vf_stats_item (RxDropped n) = Item.named IFLA_VF_STATS_RX_DROPPED (numbered (codes "rx-dropped") n ∷ [])
-vf_stats_item (TxDropped n) = Item.named IFLA_VF_STATS_TX_DROPPED (numbered (codes "tx-dropped") n ∷ [])
-vf_stats_item (Other nla) = kept_item nla
+abbrev pub vf_stats_said : VfStats → Said
+vf_stats_said (Stats.Other nla) = kept_said nla
+vf_stats_said v = flat_said (map (λ row. (row.0, (row.1.now, row.2))) VF_STATS) (vf_stats_place.frame v)
 
 -- a vlan of a list
-abbrev pub vf_vlan_item : VfVlan → Item
-vf_vlan_item (Vlans.Info info) =
-    Item.named IFLA_VF_VLAN_INFO ((codes "info", object_of (vlan_info_shown info)) ∷ [])
-vf_vlan_item (Vlans.Other nla) = kept_item nla
+abbrev pub vf_vlan_said : VfVlan → Said
+vf_vlan_said (Vlans.Info info) =
+    Said.named ((codes "info", object_of (vlan_info_shown info)) ∷ [])
+vf_vlan_said (Vlans.Other nla) = kept_said nla
 
 -- of a port every attribute is shown by the rows of its place
-abbrev pub vf_port_item : Context → VfPort → Item
-vf_port_item cx (Ports.Other nla) = placed_item (whole cx) cx Places.Port nla
+abbrev pub vf_port_said : Context → VfPort → Said
+vf_port_said cx (Ports.Other nla) = placed_said (whole cx) cx Places.Port nla
 
-abbrev pub vf_info_item : Context → VfInfo → Item
-vf_info_item cx (Infos.Mac v) = Item.named IFLA_VF_MAC ((codes "mac", object_of (mac_shown cx v)) ∷ [])
-vf_info_item cx (Infos.Vlan v) = Item.named IFLA_VF_VLAN ((codes "vlan", object_of (vlan_shown v)) ∷ [])
-vf_info_item cx (Infos.TxRate v) =
-    Item.named IFLA_VF_TX_RATE ((codes "tx-rate", object_of (word_shown v.vf_id (codes "rate") v.rate)) ∷ [])
-vf_info_item cx (Infos.SpoofCheck v) =
-    Item.named IFLA_VF_SPOOFCHK ((codes "spoofchk", object_of (setting_shown v.vf_id v.enabled)) ∷ [])
-vf_info_item cx (Infos.LinkState v) =
-    Item.named IFLA_VF_LINK_STATE ((codes "link-state", object_of (link_state_shown v)) ∷ [])
-vf_info_item cx (Infos.Rate v) = Item.named IFLA_VF_RATE ((codes "rate", object_of (rate_shown v)) ∷ [])
-vf_info_item cx (Infos.RssQueryEn v) =
-    Item.named IFLA_VF_RSS_QUERY_EN ((codes "rss-query-en", object_of (setting_shown v.vf_id v.enabled)) ∷ [])
-vf_info_item cx (Infos.Stats items) =
-    Item.named IFLA_VF_STATS ((codes "stats", object_of (members_of (map vf_stats_item items))) ∷ [])
-vf_info_item cx (Infos.Trust v) =
-    Item.named IFLA_VF_TRUST ((codes "trust", object_of (setting_shown v.vf_id v.enabled)) ∷ [])
-vf_info_item cx (Infos.IbNodeGuid v) =
-    Item.named IFLA_VF_IB_NODE_GUID ((codes "ib-node-guid", object_of (guid_shown v)) ∷ [])
-vf_info_item cx (Infos.IbPortGuid v) =
-    Item.named IFLA_VF_IB_PORT_GUID ((codes "ib-port-guid", object_of (guid_shown v)) ∷ [])
-vf_info_item cx (Infos.VlanList items) =
-    Item.named IFLA_VF_VLAN_LIST
-    ((codes "vlan-list", object_of (listed_under (codes "info") (map vf_vlan_item items))) ∷ [])
-vf_info_item cx (Infos.Broadcast v) =
-    Item.named IFLA_VF_BROADCAST ((codes "broadcast", function_address cx v.addr) ∷ [])
-vf_info_item cx (Infos.Other nla) = kept_item nla
+abbrev pub vf_info_said : Context → VfInfo → Said
+vf_info_said cx (Infos.Mac v) = Said.named ((codes "mac", object_of (mac_shown cx v)) ∷ [])
+vf_info_said cx (Infos.Vlan v) = Said.named ((codes "vlan", object_of (vlan_shown v)) ∷ [])
+vf_info_said cx (Infos.TxRate v) =
+    Said.named ((codes "tx-rate", object_of (word_shown v.vf_id (codes "rate") v.rate)) ∷ [])
+vf_info_said cx (Infos.SpoofCheck v) =
+    Said.named ((codes "spoofchk", object_of (setting_shown v.vf_id v.enabled)) ∷ [])
+vf_info_said cx (Infos.LinkState v) =
+    Said.named ((codes "link-state", object_of (link_state_shown v)) ∷ [])
+vf_info_said cx (Infos.Rate v) = Said.named ((codes "rate", object_of (rate_shown v)) ∷ [])
+vf_info_said cx (Infos.RssQueryEn v) =
+    Said.named ((codes "rss-query-en", object_of (setting_shown v.vf_id v.enabled)) ∷ [])
+vf_info_said cx (Infos.Stats items) =
+    Said.named ((codes "stats", object_of (members_of (items_of vf_stats_place.frame vf_stats_said items))) ∷ [])
+vf_info_said cx (Infos.Trust v) =
+    Said.named ((codes "trust", object_of (setting_shown v.vf_id v.enabled)) ∷ [])
+vf_info_said cx (Infos.IbNodeGuid v) =
+    Said.named ((codes "ib-node-guid", object_of (guid_shown v)) ∷ [])
+vf_info_said cx (Infos.IbPortGuid v) =
+    Said.named ((codes "ib-port-guid", object_of (guid_shown v)) ∷ [])
+vf_info_said cx (Infos.VlanList items) =
+    Said.named ((codes "vlan-list", object_of (listed_under (codes "info") (items_of vf_vlan_place.frame vf_vlan_said items))) ∷ [])
+vf_info_said cx (Infos.Broadcast v) =
+    Said.named ((codes "broadcast", function_address cx v.addr) ∷ [])
+vf_info_said cx (Infos.Other nla) = kept_said nla
 
 -- all that a function holds, and all that a port holds
 abbrev pub function_members : Context → LinkVfInfo → Members
-function_members cx entry = members_of (map (vf_info_item cx) entry.0)
+function_members cx entry = members_of (items_of vf_info_place.frame (vf_info_said cx) entry.0)
 
 abbrev pub port_members : Context → LinkVfPort → Members
-port_members cx entry = members_of (map (vf_port_item cx) entry.0)
+port_members cx entry = members_of (items_of vf_port_place.frame (vf_port_said cx) entry.0)
 
 -- a list of objects, under a name
 abbrev pub objects_under : List ℕ → List Members → Members

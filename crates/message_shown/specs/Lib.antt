@@ -11,4 +11,4 @@ pub mod Functions
 pub mod Nests
 pub mod Settings
 pub mod Attributes
-pub mod Numbered
+pub mod Forms

@@ -1,5 +1,5 @@
 -- Members of the flat inner lists, and wireless events: what each is shown as.
-use Rattle.std.specs.Prelude.{ℕ, ◌+◌, ◌==◌, List, [], ◌∷◌, codes, cond, drop, length}
+use Rattle.std.specs.Prelude.{ℕ, ◌+◌, ◌==◌, List, [], ◌∷◌, codes, cond, drop, length, map}
 use Rattle.std.specs.Int.{w16}
 use Rattle.nla_wire.specs.Fields.{number_at}
 use Rattle.nla_wire.specs.Frames.{number}
@@ -24,21 +24,14 @@ use Rattle.link_nest.specs.declared.wireless.WirelessEvent.{WirelessEvent}
 use Rattle.link_nest.specs.declared.wireless.WirelessEvent.TheVariants as Events
 use Rattle.link_nest.specs.declared.xdp.LinkXdp.{LinkXdp}
 use Rattle.link_nest.specs.declared.xdp.LinkXdp.TheVariants as Xdps
-use Rattle.link_vals.specs.XdpAttachedTable.{xdp_attached_number}
+use Rattle.link_nest.specs.Tables.{prop_place, devlink_port_place, dpll_pin_place, down_reason_place, xdp_place}
 use Rattle.shown.specs.Drafts.{Members}
-use Rattle.shown.specs.Values.{name_or_number, numbered}
-use Rattle.message_shown.specs.Counters.{signed}
 use Rattle.message_shown.specs.Contexts.{info_row}
-use Rattle.message_shown.specs.Places.{Item, kept_item}
-use Rattle.message_shown.specs.Rows.{row_item, placed_item, whole}
+use Rattle.message_shown.specs.Places.{Said, kept_said}
+use Rattle.message_shown.specs.declared.names.TheConstants.{DEVLINK_PORT, DOWN_REASON, DPLL_PIN, PROPS, XDP}
+use Rattle.message_shown.specs.Forms.{flat_said}
+use Rattle.message_shown.specs.Rows.{row_said, placed_said, whole}
 use Rattle.message_shown.specs.declared.context.Context.{Context}
-use Rattle.link_nest.specs.declared.numbers.TheConstants.{IFLA_ALT_IFNAME, DEVLINK_ATTR_BUS_NAME}
-use Rattle.link_nest.specs.declared.numbers.TheConstants.{DEVLINK_ATTR_DEV_NAME, DEVLINK_ATTR_PORT_INDEX}
-use Rattle.link_nest.specs.declared.numbers.TheConstants.{DPLL_A_PIN_ID, IFLA_PROTO_DOWN_REASON_MASK}
-use Rattle.link_nest.specs.declared.numbers.TheConstants.{IFLA_PROTO_DOWN_REASON_VALUE, IFLA_XDP_FD}
-use Rattle.link_nest.specs.declared.numbers.TheConstants.{IFLA_XDP_ATTACHED, IFLA_XDP_FLAGS, IFLA_XDP_PROG_ID}
-use Rattle.link_nest.specs.declared.numbers.TheConstants.{IFLA_XDP_DRV_PROG_ID, IFLA_XDP_SKB_PROG_ID}
-use Rattle.link_nest.specs.declared.numbers.TheConstants.{IFLA_XDP_HW_PROG_ID, IFLA_XDP_EXPECTED_FD, IFLA_INFO_KIND}
 
 -- a text, with its name
 abbrev pub named_text : List ℕ → List ℕ → List ℕ × List Token
@@ -49,51 +42,41 @@ abbrev pub named_hex : List ℕ → List ℕ → List ℕ × List Token
 named_hex name bytes = (name, string (encode_lower bytes) ∷ [])
 
 -- the kinds of a link, and their data
-abbrev pub link_info_item : Context → LinkInfo → Item
-link_info_item cx (Infos.Kind text) = Item.named IFLA_INFO_KIND (named_text (codes "kind") text ∷ [])
-link_info_item cx (Infos.Other nla) = row_item (whole cx) (info_row cx (number nla)) nla
+abbrev pub link_info_said : Context → LinkInfo → Said
+link_info_said cx (Infos.Kind text) = Said.named (named_text (codes "kind") text ∷ [])
+link_info_said cx (Infos.Other nla) = row_said (whole cx) (info_row cx (number nla)) nla
 
-abbrev pub prop_item : Prop → Item
-prop_item (Props.AltIfName text) = Item.named IFLA_ALT_IFNAME (named_text (codes "alt-ifname") text ∷ [])
-prop_item (Props.Other nla) = kept_item nla
+-- ** the flat ones, by the rows of their place
 
-abbrev pub devlink_port_item : DevlinkPort → Item
-devlink_port_item (Ports.BusName text) = Item.named DEVLINK_ATTR_BUS_NAME (named_text (codes "bus-name") text ∷ [])
-devlink_port_item (Ports.DevName text) = Item.named DEVLINK_ATTR_DEV_NAME (named_text (codes "dev-name") text ∷ [])
-devlink_port_item (Ports.PortIndex n) = Item.named DEVLINK_ATTR_PORT_INDEX (numbered (codes "port-index") n ∷ [])
-devlink_port_item (Ports.Other nla) = kept_item nla
+abbrev pub prop_said : Prop → Said
+prop_said (Props.Other nla) = kept_said nla
+prop_said v = flat_said (map (λ row. (row.0, (row.1.now, row.2))) PROPS) (prop_place.frame v)
 
-abbrev pub dpll_pin_item : DpllPin → Item
-dpll_pin_item (Pins.PinId n) = Item.named DPLL_A_PIN_ID (numbered (codes "id") n ∷ [])
-dpll_pin_item (Pins.Other nla) = kept_item nla
+abbrev pub devlink_port_said : DevlinkPort → Said
+devlink_port_said (Ports.Other nla) = kept_said nla
+devlink_port_said v =
+    flat_said (map (λ row. (row.0, (row.1.now, row.2))) DEVLINK_PORT) (devlink_port_place.frame v)
 
-abbrev pub down_reason_item : LinkProtocolDownReason → Item
-down_reason_item (Reasons.Mask n) = Item.named IFLA_PROTO_DOWN_REASON_MASK (numbered (codes "mask") n ∷ [])
-down_reason_item (Reasons.Value n) = Item.named IFLA_PROTO_DOWN_REASON_VALUE (numbered (codes "value") n ∷ [])
-down_reason_item (Reasons.Other nla) = kept_item nla
+abbrev pub dpll_pin_said : DpllPin → Said
+dpll_pin_said (Pins.Other nla) = kept_said nla
+dpll_pin_said v = flat_said (map (λ row. (row.0, (row.1.now, row.2))) DPLL_PIN) (dpll_pin_place.frame v)
 
--- where a program is attached, by the numbers
-abbrev pub attached_names : List (List ℕ)
-attached_names = codes "none" ∷ codes "drv" ∷ codes "skb" ∷ codes "hw" ∷ codes "multi" ∷ []
+abbrev pub down_reason_said : LinkProtocolDownReason → Said
+down_reason_said (Reasons.Other nla) = kept_said nla
+down_reason_said v =
+    flat_said (map (λ row. (row.0, (row.1.now, row.2))) DOWN_REASON) (down_reason_place.frame v)
 
-abbrev pub xdp_item : LinkXdp → Item
-xdp_item (Xdps.Fd n) = Item.named IFLA_XDP_FD (signed (codes "fd") n ∷ [])
-xdp_item (Xdps.Attached v) =
-    Item.named IFLA_XDP_ATTACHED ((codes "attached", name_or_number attached_names (xdp_attached_number v) ∷ []) ∷ [])
-xdp_item (Xdps.Flags n) = Item.named IFLA_XDP_FLAGS (numbered (codes "flags") n ∷ [])
-xdp_item (Xdps.ProgId n) = Item.named IFLA_XDP_PROG_ID (numbered (codes "prog-id") n ∷ [])
-xdp_item (Xdps.DrvProgId n) = Item.named IFLA_XDP_DRV_PROG_ID (numbered (codes "drv-prog-id") n ∷ [])
-xdp_item (Xdps.SkbProgId n) = Item.named IFLA_XDP_SKB_PROG_ID (numbered (codes "skb-prog-id") n ∷ [])
-xdp_item (Xdps.HwProgId n) = Item.named IFLA_XDP_HW_PROG_ID (numbered (codes "hw-prog-id") n ∷ [])
-xdp_item (Xdps.ExpectedFd n) = Item.named IFLA_XDP_EXPECTED_FD (numbered (codes "expected-fd") n ∷ [])
-xdp_item (Xdps.Other nla) = kept_item nla
+abbrev pub xdp_said : LinkXdp → Said
+xdp_said (Xdps.Other nla) = kept_said nla
+xdp_said v = flat_said (map (λ row. (row.0, (row.1.now, row.2))) XDP) (xdp_place.frame v)
 
--- of these every one is shown by the rows of its place
-abbrev pub bridge_item : Context → LinkProtoInfoBridge → Item
-bridge_item cx (BridgeInfos.Other nla) = placed_item (whole cx) cx Places.BridgePort nla
+-- ** of these every one is shown by the rows of its place
 
-abbrev pub af_spec_bridge_item : Context → AfSpecBridge → Item
-af_spec_bridge_item cx (Bridges.Other nla) = placed_item (whole cx) cx Places.BridgeSpec nla
+abbrev pub bridge_said : Context → LinkProtoInfoBridge → Said
+bridge_said cx (BridgeInfos.Other nla) = placed_said (whole cx) cx Places.BridgePort nla
+
+abbrev pub af_spec_bridge_said : Context → AfSpecBridge → Said
+af_spec_bridge_said cx (Bridges.Other nla) = placed_said (whole cx) cx Places.BridgeSpec nla
 
 -- the information elements, without the eight bytes in front of them that begin with the length of what follows
 abbrev pub elements_in : List ℕ → List ℕ

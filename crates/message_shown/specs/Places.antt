@@ -13,9 +13,28 @@ pub data Item : Type 0 where
   named : ℕ → Members → Item
   as_is : List ℕ → ℕ → List ℕ → Item
 
+-- what an attribute is, without its number
+pub data Said : Type 0 where
+  named : Members → Said
+  as_is : List ℕ → ℕ → List ℕ → Said
+
 -- one that is kept
-abbrev pub kept_item : Frame → Item
-kept_item nla = Item.as_is [] nla.kind nla.payload
+abbrev pub kept_said : Frame → Said
+kept_said nla = Said.as_is [] nla.kind nla.payload
+
+-- what it is under its name
+abbrev pub shown_of : Said → Members
+shown_of (Said.named ms) = ms
+shown_of (Said.as_is name kind payload) = []
+
+-- the number of one that has a name is that of its kind
+abbrev pub item_of : ℕ → Said → Item
+item_of kind (Said.named ms) = Item.named (bit_and kind 0x3fff) ms
+item_of kind (Said.as_is name k payload) = Item.as_is name k payload
+
+-- attributes that are written as these frames
+abbrev pub items_of : {A : Type 0} → (A → Frame) → (A → Said) → List A → List Item
+items_of frame said vs = map (λ v. item_of (frame v).kind (said v)) vs
 
 -- what an attribute is under its name
 abbrev pub shown_as : Item → Members
@@ -25,6 +44,10 @@ shown_as (Item.as_is name kind payload) = []
 -- name, kind and payload of one that is kept
 abbrev pub Kept : Type 0
 Kept = List ℕ × (ℕ × List ℕ)
+
+abbrev pub kept_of : Said → Option Kept
+kept_of (Said.named ms) = None
+kept_of (Said.as_is name kind payload) = Some (name, (kind, payload))
 
 abbrev pub kept_in : Item → Option Kept
 kept_in (Item.named n ms) = None
@@ -91,11 +114,6 @@ values_of members = flat_map (λ m. m.1) members
 abbrev pub listed_under : List ℕ → List Item → Members
 listed_under name items = (name, list_of (flat_map values_of (named_ones items)))
     ∷ list_under (codes "other") (map object_of (kept_ones items))
-
--- a named attribute's number is that of its kind, and small
-abbrev pub IsNumbered : ℕ → Item → Type 0
-IsNumbered kind (Item.named n ms) = (n ≡ bit_and kind 0x3fff) × (n < 128)
-IsNumbered kind (Item.as_is _ _ _) = Unit
 
 -- ** for the calls that go over a place's attributes
 

@@ -25,7 +25,7 @@ use Rattle.link_info.specs.Places.{rows_of}
 use Rattle.link_info.specs.Tables.{row_at}
 use Rattle.message_shown.specs.declared.context.Context.{Context}
 use Rattle.message_shown.specs.Contexts.{Known, of_row}
-use Rattle.message_shown.specs.Places.{Item, kept_item, members_of}
+use Rattle.message_shown.specs.Places.{Item, Said, item_of, kept_said, members_of}
 
 -- what the attributes of a place are shown as
 abbrev pub Nesting : Type 0
@@ -135,20 +135,17 @@ style_shown nest style p = meaning_shown nest style (read_as style p)
 abbrev pub known_in : Option (Bor (List ℕ) × Style) → Option Known
 known_in known = option_map (λ known. (known.0.now, known.1)) known
 
--- a small number that is known is named
-abbrev pub known_item : Nesting → Known → Frame → Item
-known_item nest known f =
-    cond (nat_lt (bit_and f.kind 0x3fff) 128)
-    (Item.named (bit_and f.kind 0x3fff) ((known.0, style_shown nest known.1 f.payload) ∷ [])) (kept_item f)
-
--- and another is kept
-abbrev pub row_item : Nesting → Option Known → Frame → Item
-row_item nest None f = kept_item f
-row_item nest (Some known) f = known_item nest known f
+-- one that something is known of is named, and another is kept
+abbrev pub row_said : Nesting → Option Known → Frame → Said
+row_said nest None f = kept_said f
+row_said nest (Some known) f = Said.named ((known.0, style_shown nest known.1 f.payload) ∷ [])
 
 -- an attribute of a place
+abbrev pub placed_said : Nesting → Context → Place → Frame → Said
+placed_said nest cx place f = row_said nest (of_row (row_at (rows_of cx.tables.now place) (number_of f))) f
+
 abbrev pub placed_item : Nesting → Context → Place → Frame → Item
-placed_item nest cx place f = row_item nest (of_row (row_at (rows_of cx.tables.now place) (number_of f))) f
+placed_item nest cx place f = item_of f.kind (placed_said nest cx place f)
 
 pub record PlacedFrame : Type 0 where
   pub place : Place

@@ -1,27 +1,25 @@
 //! Settings by family.
 
 ghost use Rattle.std.specs.Prelude.{◌≡◌, [], ◌∷◌, OnOk, codes};
-ghost use Rattle.link_vals.specs.MctpPhysBindingTable.{mctp_phys_binding_number};
 ghost use Rattle.shown.specs.Drafts.{with_value};
-ghost use Rattle.message_shown.specs.Nests.{af_spec_bridge_item};
-ghost use Rattle.message_shown.specs.Settings.{unspec_item, inet_item, inet6_item, mctp_item, binding_token};
-ghost use Rattle.message_shown.specs.Numbered.{af_spec_bridge_numbered, inet_numbered, inet6_numbered, mctp_numbered};
-ghost use Rattle.message_shown.specs.Numbered.{unspec_numbered};
+ghost use Rattle.message_shown.specs.Nests.{af_spec_bridge_said};
+ghost use Rattle.message_shown.specs.Settings.{unspec_said, inet_said, inet6_said, mctp_said};
 
 use crate::context::Context;
 use crate::counts::{
     show_cache_info, show_icmp6_stats, show_inet_conf, show_inet6_conf, show_inet6_stats,
 };
+use crate::form::add_flat;
 use crate::member::{Attribute, KeptFrame, frame_of, show_object};
-use crate::names::{ADDR_GEN_MODES, INET6_FLAGS, MCTP_BINDINGS};
+use crate::names::{ADDR_GEN_MODES, INET6_FLAGS, MCTP};
 use crate::rows::{Whole, add_at, kept_at};
 use link_info::Place;
-use link_msg::{AfSpecBridge, AfSpecInet, AfSpecInet6, AfSpecMctp, AfSpecUnspec, MctpPhysBinding};
+use link_msg::{AfSpecBridge, AfSpecInet, AfSpecInet6, AfSpecMctp, AfSpecUnspec};
 use shown::Page;
 use std::alloc::AllocError;
 
 impl Attribute for AfSpecUnspec {
-    ghost item = { unspec_item };
+    ghost said = { unspec_said };
 
     fn kept_frame(&self, _cx: &Context<'_>) -> Option<KeptFrame<'_>> {
         match self {
@@ -38,12 +36,10 @@ impl Attribute for AfSpecUnspec {
             AfSpecUnspec::Other(_) => Ok(()),
         }
     }
-
-    ghost numbered = { unspec_numbered };
 }
 
 impl Attribute for AfSpecBridge {
-    ghost item = { af_spec_bridge_item };
+    ghost said = { af_spec_bridge_said };
 
     fn kept_frame(&self, cx: &Context<'_>) -> Option<KeptFrame<'_>> {
         let AfSpecBridge::Other(nla) = self;
@@ -54,12 +50,10 @@ impl Attribute for AfSpecBridge {
         let AfSpecBridge::Other(nla) = self;
         add_at::<Whole>(cx, page, Place::BridgeSpec, nla)
     }
-
-    ghost numbered = { af_spec_bridge_numbered };
 }
 
 impl Attribute for AfSpecInet {
-    ghost item = { λ cx v. inet_item v };
+    ghost said = { λ cx v. inet_said v };
 
     fn kept_frame(&self, _cx: &Context<'_>) -> Option<KeptFrame<'_>> {
         match self {
@@ -76,12 +70,10 @@ impl Attribute for AfSpecInet {
             AfSpecInet::Other(_) => Ok(()),
         }
     }
-
-    ghost numbered = { λ cx. inet_numbered };
 }
 
 impl Attribute for AfSpecInet6 {
-    ghost item = { inet6_item };
+    ghost said = { inet6_said };
 
     fn kept_frame(&self, _cx: &Context<'_>) -> Option<KeptFrame<'_>> {
         match self {
@@ -105,12 +97,10 @@ impl Attribute for AfSpecInet6 {
             AfSpecInet6::Other(_) => Ok(()),
         }
     }
-
-    ghost numbered = { inet6_numbered };
 }
 
 impl Attribute for AfSpecMctp {
-    ghost item = { λ cx v. mctp_item v };
+    ghost said = { λ cx v. mctp_said v };
 
     fn kept_frame(&self, _cx: &Context<'_>) -> Option<KeptFrame<'_>> {
         match self {
@@ -119,24 +109,10 @@ impl Attribute for AfSpecMctp {
         }
     }
 
-    fn add(&self, _cx: &Context<'_>, page: &mut Page) -> Result<(), AllocError> {
+    fn add(&self, cx: &Context<'_>, page: &mut Page) -> Result<(), AllocError> {
         match self {
-            AfSpecMctp::Net(n) => page.number("net", (*n).into()),
-            AfSpecMctp::PhysBinding(binding) => show_binding(page, binding),
             AfSpecMctp::Other(_) => Ok(()),
+            _ => add_flat(cx.alloc, page, &MCTP, self),
         }
-    }
-
-    ghost numbered = { λ cx. mctp_numbered };
-}
-
-fn show_binding(page: &mut Page, binding: &MctpPhysBinding) -> Result<(), AllocError>
-    ensures { OnOk result (page.new ≡ with_value (codes "phys-binding")
-        (binding_token (mctp_phys_binding_number binding.now) ∷ []) page.old) }
-{
-    let name = "phys-binding";
-    match u8::from(binding) {
-        255 => page.string(name, "vendor"),
-        number => page.choice(name, number.into(), &MCTP_BINDINGS),
     }
 }

@@ -1,24 +1,26 @@
 //! The header, and the attributes of a link.
 
-ghost use Rattle.std.specs.Prelude.{◌≡◌, [], ◌∷◌, OnOk, map, get_or, option_map, codes};
+ghost use Rattle.std.specs.Prelude.{◌≡◌, [], ◌∷◌, OnOk, codes, get_or, is_some, map};
 ghost use Rattle.std.specs.Int.{w32};
 ghost use Rattle.shown.specs.Drafts.{with_value, with_members};
 ghost use Rattle.nla_wire.specs.Fields.{signed_at};
 ghost use Rattle.shown.specs.Values.{flags_of};
 ghost use Rattle.message_shown.specs.Records.{signed_tokens};
-ghost use Rattle.message_shown.specs.Attributes.{word_in, number_in, signed_in, text_in, address_in, ext_mask_names};
-ghost use Rattle.message_shown.specs.Attributes.{bits_of, id_shown, attribute_item, attribute_name, attribute_shown};
+ghost use Rattle.link_msg.specs.Tables.{attribute_frame, truth_number};
+ghost use Rattle.message_shown.specs.Attributes.{ext_mask_names, bits_of, id_shown, attribute_name, attribute_form};
+ghost use Rattle.message_shown.specs.Attributes.{attribute_said, attribute_shown, frame_in, IsFlat};
 ghost use Rattle.message_shown.specs.Attributes.{value_shown, list_shown, info_shown, link_flag_names, header_members};
-ghost use Rattle.message_shown.specs.Numbered.{attribute_numbered};
 
 use crate::context::Context;
 use crate::counts::{show_map, show_stats, show_stats64};
+use crate::form::{Form, show_flat};
 use crate::member::{Attribute, KeptFrame, show_listed, show_object};
-use crate::names::{ATTRIBUTES, EVENTS, EXT_MASK, LINK_FLAGS, LINK_MODES, OPERSTATES};
+use crate::names::{ATTRIBUTES, EXT_MASK, LINK_FLAGS};
 use crate::nests::show_wireless;
 use crate::vf::{show_functions, show_ports};
 use link_msg::numbers::IFLA_AF_SPEC;
 use link_msg::{LinkAttribute, LinkExtentMask, LinkInfo, LinkPhysId, NLA_TYPE_MASK, Nla};
+use nla_wire::FlatView;
 use nla_wire::fields::{i32_at, u16_at, u32_at};
 use shown::Page;
 use std::alloc::AllocError;
@@ -50,96 +52,118 @@ pub fn show_header(page: &mut Page, bytes: &[u8]) -> Result<(), AllocError>
 }
 
 impl Attribute for LinkAttribute {
-    ghost item = { attribute_item };
+    ghost said = { attribute_said };
 
     #[inline]
     fn kept_frame(&self, _cx: &Context<'_>) -> Option<KeptFrame<'_>> {
         match self {
             LinkAttribute::Other(nla) | LinkAttribute::ProtoInfoUnknown(nla) => {
-                Some((name_of(self), (nla.kind(), nla.value())))
+                Some((row_of(self).0, (nla.kind(), nla.value())))
             }
             LinkAttribute::AfSpecUnknown(bytes) => {
-                Some((name_of(self), (IFLA_AF_SPEC, bytes.as_slice())))
+                Some((row_of(self).0, (IFLA_AF_SPEC, bytes.as_slice())))
             }
             _ => None,
         }
     }
 
+    #[tactic(auto, using(crate::proofs::Kept::kept_shown, crate::proofs::Kept::named_shown))]
     fn add(&self, cx: &Context<'_>, page: &mut Page) -> Result<(), AllocError> {
-        match self {
-            LinkAttribute::Other(_)
-            | LinkAttribute::ProtoInfoUnknown(_)
-            | LinkAttribute::AfSpecUnknown(_) => Ok(()),
-            _ => show_attribute(cx, page, name_of(self), self),
+        if is_kept(self) {
+            return Ok(());
         }
+        let (name, form) = row_of(self);
+        show_attribute(cx, page, name, form, self)
     }
-
-    ghost numbered = { attribute_numbered };
 }
 
-/// The name of a number, which is none for one behind the table.
-fn name_in<'a>(names: &[&'a str], number: usize) -> &'a str
-    ensures { result.now ≡ get_or (map (λ name. name.now) names.now) number [] }
+/// Whether an attribute is kept as it is.
+fn is_kept(attribute: &LinkAttribute) -> bool
+    ensures { result ≡ is_some (frame_in attribute.now) }
 {
-    if number < names.len() {
-        names[number]
+    match attribute {
+        LinkAttribute::Other(_)
+        | LinkAttribute::ProtoInfoUnknown(_)
+        | LinkAttribute::AfSpecUnknown(_) => true,
+        _ => false,
+    }
+}
+
+/// The name and the form of a number, by its place in the table. One behind the table has none.
+fn row_at(rows: &[(&'static str, Form)], number: usize) -> (&'static str, Form)
+    ensures name { result.0.now ≡ get_or (map (λ row. row.0.now) rows.now) number [] }
+    ensures form { result.1 ≡ get_or (map (λ row. row.1) rows.now) number Form.Own }
+{
+    if number < rows.len() {
+        rows[number]
     } else {
-        ""
+        ("", Form::Own)
     }
 }
 
-/// The name of an attribute, by its number.
-fn name_of(attribute: &LinkAttribute) -> &'static str
-    ensures { result.now ≡ attribute_name attribute.now }
+/// The name and the form of an attribute, by its number.
+fn row_of(attribute: &LinkAttribute) -> (&'static str, Form)
+    ensures name { result.0.now ≡ attribute_name attribute.now }
+    ensures form { result.1 ≡ attribute_form attribute.now }
 {
-    name_in(&ATTRIBUTES, (attribute.kind() & NLA_TYPE_MASK) as usize)
+    row_at(&ATTRIBUTES, (attribute.kind() & NLA_TYPE_MASK) as usize)
 }
 
-/// Adds what an attribute says, under this name.
+/// Adds what an attribute says, under this name: what its payload spells in this form, or what there is code for.
 fn show_attribute(
     cx: &Context<'_>,
     page: &mut Page,
     name: &str,
+    form: Form,
     attribute: &LinkAttribute,
 ) -> Result<(), AllocError>
+    requires { form ≡ attribute_form attribute.now }
     ensures { OnOk result
         (page.new ≡ with_members (attribute_shown cx.now name.now attribute.now) page.old) }
 {
-    if let Some(number) = number_of(attribute) {
-        return page.number(name, number);
+    if form.is_own() {
+        return show_value(cx, page, name, attribute);
     }
-    if let Some(number) = signed_of(attribute) {
-        return page.signed(name, number.into());
-    }
-    if let Some(text) = text_of(attribute) {
-        return page.string(name, text);
-    }
-    if let Some(address) = address_of(attribute) {
-        return page.address(name, address);
-    }
-    show_value(cx, page, name, attribute)
-}
-
-/// A number, of any size.
-fn number_of(attribute: &LinkAttribute) -> Option<u64>
-    ensures { result ≡ number_in attribute.now }
-{
-    if let Some(number) = word_of(attribute) {
-        return Some(number.into());
-    }
-    match attribute {
-        LinkAttribute::Carrier(n) | LinkAttribute::ProtoDown(n) => Some((*n).into()),
-        LinkAttribute::Headroom(n) | LinkAttribute::Tailroom(n) => Some((*n).into()),
-        LinkAttribute::NetnsImmutable(is) => Some((*is).into()),
-        _ => None,
+    match flat_of(attribute) {
+        Some(value) => show_flat(cx.alloc, page, name, form, value),
+        None => Ok(()),
     }
 }
 
-/// A number of four bytes.
-fn word_of(attribute: &LinkAttribute) -> Option<u32>
-    ensures { result ≡ word_in attribute.now }
+fn truth_byte(is: bool) -> u8
+    ensures { result ≡ truth_number is }
+{
+    if is { 1 } else { 0 }
+}
+
+/// What an attribute is written from that is one number, text or bytes.
+#[tactic(auto, unfolding(link_msg::specs::Tables::attribute_view))]
+fn flat_of(attribute: &LinkAttribute) -> Option<FlatView<'_>>
+    ensures { IsFlat result (attribute_form attribute.now)
+        (attribute_frame attribute.now).payload }
 {
     match attribute {
+        LinkAttribute::Address(bytes)
+        | LinkAttribute::Broadcast(bytes)
+        | LinkAttribute::PermAddress(bytes)
+        | LinkAttribute::AfSpecUnknown(bytes) => Some(FlatView::Bytes(bytes.as_slice())),
+        LinkAttribute::IfName(text)
+        | LinkAttribute::Qdisc(text)
+        | LinkAttribute::IfAlias(text)
+        | LinkAttribute::PhysPortName(text)
+        | LinkAttribute::ParentDevName(text)
+        | LinkAttribute::ParentDevBusName(text) => Some(FlatView::Text(text.as_str())),
+        LinkAttribute::OperState(state) => Some(FlatView::U8(u8::from(*state))),
+        LinkAttribute::Mode(mode) => Some(FlatView::U8(u8::from(*mode))),
+        LinkAttribute::Event(event) => Some(FlatView::U32(u32::from(*event))),
+        LinkAttribute::NetnsImmutable(is) => Some(FlatView::U8(truth_byte(*is))),
+        LinkAttribute::Carrier(n) | LinkAttribute::ProtoDown(n) => Some(FlatView::U8(*n)),
+        LinkAttribute::Headroom(n) | LinkAttribute::Tailroom(n) => Some(FlatView::U16(*n)),
+        LinkAttribute::NetNsFd(n)
+        | LinkAttribute::LinkNetNsId(n)
+        | LinkAttribute::NewNetnsId(n)
+        | LinkAttribute::IfNetnsId(n)
+        | LinkAttribute::NewIfIndex(n) => Some(FlatView::I32(*n)),
         LinkAttribute::Mtu(n)
         | LinkAttribute::Link(n)
         | LinkAttribute::Controller(n)
@@ -162,50 +186,34 @@ fn word_of(attribute: &LinkAttribute) -> Option<u32>
         | LinkAttribute::TsoMaxSegs(n)
         | LinkAttribute::AllMulticast(n)
         | LinkAttribute::GsoIpv4MaxSize(n)
-        | LinkAttribute::GroIpv4MaxSize(n) => Some(*n),
-        _ => None,
+        | LinkAttribute::GroIpv4MaxSize(n) => Some(FlatView::U32(*n)),
+        LinkAttribute::Other(nla) | LinkAttribute::ProtoInfoUnknown(nla) => {
+            Some(FlatView::Bytes(nla.value()))
+        }
+        LinkAttribute::Stats(_)
+        | LinkAttribute::Wireless(_)
+        | LinkAttribute::ProtoInfoBridge(_)
+        | LinkAttribute::ProtoInfoInet6(_)
+        | LinkAttribute::Map(_)
+        | LinkAttribute::LinkInfo(_)
+        | LinkAttribute::VfInfoList(_)
+        | LinkAttribute::Stats64(_)
+        | LinkAttribute::VfPorts(_)
+        | LinkAttribute::PortSelf(_)
+        | LinkAttribute::AfSpecBridge(_)
+        | LinkAttribute::AfSpecUnspec(_)
+        | LinkAttribute::ExtMask(_)
+        | LinkAttribute::PhysPortId(_)
+        | LinkAttribute::PhysSwitchId(_)
+        | LinkAttribute::Xdp(_)
+        | LinkAttribute::PropList(_)
+        | LinkAttribute::ProtoDownReason(_)
+        | LinkAttribute::DevlinkPort(_)
+        | LinkAttribute::DpllPin(_) => None,
     }
 }
 
-fn signed_of(attribute: &LinkAttribute) -> Option<i32>
-    ensures { result ≡ signed_in attribute.now }
-{
-    match attribute {
-        LinkAttribute::NetNsFd(n)
-        | LinkAttribute::LinkNetNsId(n)
-        | LinkAttribute::NewNetnsId(n)
-        | LinkAttribute::IfNetnsId(n)
-        | LinkAttribute::NewIfIndex(n) => Some(*n),
-        _ => None,
-    }
-}
-
-fn text_of(attribute: &LinkAttribute) -> Option<&str>
-    ensures { option_map (λ text. text.now) result ≡ text_in attribute.now }
-{
-    match attribute {
-        LinkAttribute::IfName(text)
-        | LinkAttribute::Qdisc(text)
-        | LinkAttribute::IfAlias(text)
-        | LinkAttribute::PhysPortName(text)
-        | LinkAttribute::ParentDevName(text)
-        | LinkAttribute::ParentDevBusName(text) => Some(text.as_str()),
-        _ => None,
-    }
-}
-
-fn address_of(attribute: &LinkAttribute) -> Option<&[u8]>
-    ensures { option_map (λ bytes. bytes.now) result ≡ address_in attribute.now }
-{
-    match attribute {
-        LinkAttribute::Address(bytes)
-        | LinkAttribute::Broadcast(bytes)
-        | LinkAttribute::PermAddress(bytes) => Some(bytes.as_slice()),
-        _ => None,
-    }
-}
-
-/// Adds a record, a value of an enum, flags, an id, or a list.
+/// Adds a record, flags, an id, or a list.
 fn show_value(
     cx: &Context<'_>,
     page: &mut Page,
@@ -219,11 +227,6 @@ fn show_value(
         LinkAttribute::Stats(stats) => show_stats(page, name, stats),
         LinkAttribute::Stats64(stats) => show_stats64(page, name, stats),
         LinkAttribute::Map(map) => show_map(page, name, map),
-        LinkAttribute::OperState(state) => {
-            page.choice(name, u8::from(*state).into(), &OPERSTATES)
-        }
-        LinkAttribute::Mode(mode) => page.choice(name, u8::from(*mode).into(), &LINK_MODES),
-        LinkAttribute::Event(event) => page.choice(name, u32::from(*event).into(), &EVENTS),
         LinkAttribute::ExtMask(masks) => show_mask(page, name, masks.as_slice()),
         LinkAttribute::PhysPortId(id) | LinkAttribute::PhysSwitchId(id) => show_id(page, name, id),
         LinkAttribute::Wireless(event) => show_wireless(page, name, event),

@@ -1,9 +1,10 @@
 //! Records of numbers of one width, by the names of their fields.
 
-ghost use Rattle.std.specs.Prelude.{◌≡◌, ◌<◌, OnOk, get_or, length, map};
-ghost use Rattle.std.specs.Int.{w64, cast_unsigned};
+ghost use Rattle.std.specs.Prelude.{◌≡◌, List, OnOk, map};
+ghost use Rattle.std.specs.List.{zip};
+ghost use Rattle.json.specs.Token.{Token};
 ghost use Rattle.shown.specs.Drafts.{with_members, with_value, object_of};
-ghost use Rattle.message_shown.specs.Records.{numbers_of, signed_of};
+ghost use Rattle.message_shown.specs.Records.{number_tokens, signed_tokens, counter_tokens};
 ghost use Rattle.message_shown.specs.Counters.{stats_shown, stats64_shown, inet_conf_shown, inet6_conf_shown};
 ghost use Rattle.message_shown.specs.Counters.{inet6_stats_shown, icmp6_stats_shown, cache_info_shown, map_shown};
 ghost use Rattle.message_shown.specs.Counters.{bare, inet6_bare, inet6_named, unless_zero, signed_unless_zero};
@@ -18,58 +19,72 @@ use link_recs::inet6_stats::INET6_STATS_COUNT;
 use shown::{Nest, Page};
 use std::alloc::AllocError;
 
-/// Adds numbers of four bytes, as far as there are names.
-fn show_u32s(page: &mut Page, names: &[&str], numbers: &[u32]) -> Result<(), AllocError>
+/// A field of a record, as a number.
+pub trait Field {
+    ghost tokens: { Self → List Token };
+
+    /// Adds it under its name.
+    fn put(&self, page: &mut Page, name: &str) -> Result<(), AllocError>
+        ensures { OnOk result (page.new ≡ with_value name.now (tokens self.now) page.old) };
+}
+
+impl Field for u32 {
+    ghost tokens = { number_tokens };
+
+    fn put(&self, page: &mut Page, name: &str) -> Result<(), AllocError> {
+        page.number(name, (*self).into())
+    }
+}
+
+impl Field for u64 {
+    ghost tokens = { number_tokens };
+
+    fn put(&self, page: &mut Page, name: &str) -> Result<(), AllocError> {
+        page.number(name, *self)
+    }
+}
+
+impl Field for i32 {
+    ghost tokens = { signed_tokens };
+
+    fn put(&self, page: &mut Page, name: &str) -> Result<(), AllocError> {
+        page.signed(name, (*self).into())
+    }
+}
+
+/// A counter, which is kept as a number that may be below zero and is none.
+impl Field for i64 {
+    ghost tokens = { counter_tokens };
+
+    fn put(&self, page: &mut Page, name: &str) -> Result<(), AllocError> {
+        page.number(name, self.cast_unsigned())
+    }
+}
+
+/// Adds fields under their names, as far as there are both.
+fn show_fields<T: Field>(page: &mut Page, names: &[&str], values: &[T]) -> Result<(), AllocError>
     ensures { OnOk result (page.new ≡ with_members
-        (numbers_of (map (λ name. name.now) names.now) numbers.now) page.old) }
+        (zip (map (λ name. name.now) names.now) (map T.tokens values.now)) page.old) }
 {
-    for i in 0..names.len().min(numbers.len()) {
-        page.number(names[i], numbers[i].into())?;
+    for i in 0..names.len().min(values.len()) {
+        values[i].put(page, names[i])?;
     }
     Ok(())
 }
 
-/// Adds numbers of four bytes that may be below zero, as far as there are names.
-fn show_i32s(page: &mut Page, names: &[&str], numbers: &[i32]) -> Result<(), AllocError>
-    ensures { OnOk result (page.new ≡ with_members
-        (signed_of (map (λ name. name.now) names.now) numbers.now) page.old) }
+/// Adds a record of such fields.
+fn show_record<T: Field>(
+    page: &mut Page,
+    name: &str,
+    names: &[&str],
+    values: &[T],
+) -> Result<(), AllocError>
+    ensures { OnOk result (page.new ≡ with_value name.now
+        (object_of (zip (map (λ name. name.now) names.now) (map T.tokens values.now))) page.old) }
 {
-    for i in 0..names.len().min(numbers.len()) {
-        page.signed(names[i], numbers[i].into())?;
-    }
-    Ok(())
-}
-
-/// Adds numbers of eight bytes, as far as there are names.
-fn show_u64s(page: &mut Page, names: &[&str], numbers: &[u64]) -> Result<(), AllocError>
-    ensures { OnOk result (page.new ≡ with_members
-        (numbers_of (map (λ name. name.now) names.now) numbers.now) page.old) }
-{
-    for i in 0..names.len().min(numbers.len()) {
-        page.number(names[i], numbers[i])?;
-    }
-    Ok(())
-}
-
-/// A counter of eight bytes, which is kept as a number that may be below zero and is none.
-fn counter_at(numbers: &[i64], at: usize) -> u64
-    requires { at < length numbers.now }
-    ensures { result ≡ get_or (map (cast_unsigned w64) numbers.now) at 0 }
-{
-    numbers[at].cast_unsigned()
-}
-
-/// Adds counters of eight bytes, which are kept as numbers that may be below zero and are none, as far as there are
-/// names.
-fn show_i64s(page: &mut Page, names: &[&str], numbers: &[i64]) -> Result<(), AllocError>
-    ensures { OnOk result (page.new ≡ with_members
-        (numbers_of (map (λ name. name.now) names.now) (map (cast_unsigned w64) numbers.now))
-        page.old) }
-{
-    for i in 0..names.len().min(numbers.len()) {
-        page.number(names[i], counter_at(numbers, i))?;
-    }
-    Ok(())
+    page.begin(name, Nest::Object)?;
+    show_fields(page, names, values)?;
+    page.end()
 }
 
 /// Adds the counters of four bytes.
@@ -77,9 +92,7 @@ pub fn show_stats(page: &mut Page, name: &str, stats: &Stats) -> Result<(), Allo
     ensures { OnOk result
         (page.new ≡ with_value name.now (object_of (stats_shown stats.now)) page.old) }
 {
-    page.begin(name, Nest::Object)?;
-    show_u32s(page, &STATS, &stats.words())?;
-    page.end()
+    show_record(page, name, &STATS, &stats.words())
 }
 
 /// Adds the counters of eight bytes.
@@ -87,9 +100,7 @@ pub fn show_stats64(page: &mut Page, name: &str, stats: &Stats64) -> Result<(), 
     ensures { OnOk result
         (page.new ≡ with_value name.now (object_of (stats64_shown stats.now)) page.old) }
 {
-    page.begin(name, Nest::Object)?;
-    show_u64s(page, &STATS, &stats.words())?;
-    page.end()
+    show_record(page, name, &STATS, &stats.words())
 }
 
 /// Adds the settings of IPv4.
@@ -98,7 +109,7 @@ pub fn show_inet_conf(page: &mut Page, name: &str, conf: &InetDevConf) -> Result
         (page.new ≡ with_value name.now (object_of (inet_conf_shown conf.now)) page.old) }
 {
     page.begin(name, Nest::Object)?;
-    show_i32s(page, &INET_CONF, &conf.words())?;
+    show_fields(page, &INET_CONF, &conf.words())?;
     show_reserved_signed(page, "reserved-34", conf.reserved_34)?;
     page.end()
 }
@@ -108,15 +119,12 @@ pub fn show_inet6_conf(page: &mut Page, name: &str, conf: &Inet6DevConf) -> Resu
     ensures { OnOk result
         (page.new ≡ with_value name.now (object_of (inet6_conf_shown conf.now)) page.old) }
 {
-    page.begin(name, Nest::Object)?;
-    show_i32s(page, &INET6_CONF, &conf.words())?;
-    page.end()
+    show_record(page, name, &INET6_CONF, &conf.words())
 }
 
 /// Adds counters of eight bytes as a list.
 fn show_bare(page: &mut Page, numbers: &[i64]) -> Result<(), AllocError>
-    ensures { OnOk result (page.new ≡ with_members (bare (map (cast_unsigned w64) numbers.now))
-        page.old) }
+    ensures { OnOk result (page.new ≡ with_members (bare numbers.now) page.old) }
 {
     for number in numbers {
         page.number("", number.cast_unsigned())?;
@@ -153,8 +161,12 @@ fn show_inet6_named(
     ensures { OnOk result (page.new ≡ with_value name.now (inet6_named words.now) page.old) }
 {
     page.begin(name, Nest::Object)?;
-    show_i64s(page, &INET6_STATS, words)?;
-    show_reserved(page, "reserved-39", counter_at(words, INET6_STATS.len()))?;
+    show_fields(page, &INET6_STATS, words)?;
+    show_reserved(
+        page,
+        "reserved-39",
+        words[INET6_STATS.len()].cast_unsigned(),
+    )?;
     page.end()
 }
 
@@ -189,9 +201,7 @@ pub fn show_icmp6_stats(page: &mut Page, name: &str, stats: &Icmp6Stats) -> Resu
     ensures { OnOk result
         (page.new ≡ with_value name.now (object_of (icmp6_stats_shown stats.now)) page.old) }
 {
-    page.begin(name, Nest::Object)?;
-    show_i64s(page, &ICMP6_STATS, &stats.words())?;
-    page.end()
+    show_record(page, name, &ICMP6_STATS, &stats.words())
 }
 
 /// Adds the times of the neighbour cache.
@@ -199,9 +209,7 @@ pub fn show_cache_info(page: &mut Page, name: &str, info: &Inet6CacheInfo) -> Re
     ensures { OnOk result
         (page.new ≡ with_value name.now (object_of (cache_info_shown info.now)) page.old) }
 {
-    page.begin(name, Nest::Object)?;
-    show_i32s(page, &CACHE_INFO, &info.words())?;
-    page.end()
+    show_record(page, name, &CACHE_INFO, &info.words())
 }
 
 /// Adds the addresses of a device.

@@ -7,6 +7,7 @@ mod attribute;
 pub mod context;
 mod counts;
 mod fault;
+mod form;
 mod member;
 mod names;
 mod nests;

@@ -1,9 +1,12 @@
 //! Attributes of one place, as the members of an object.
 
-ghost use Rattle.std.specs.Prelude.{◌≡◌, ℕ, List, ◌<◌, [], ◌∷◌, ◌++◌, OnOk, IfSome, Some, map, option_map, codes};
+ghost use Rattle.std.specs.Prelude.{◌≡◌, ◌==◌, ◌+◌, ◌-◌, ◌<◌, ◌^◌, [], ◌∷◌, ◌++◌, OnOk, Some, map, option_map, codes};
+ghost use Rattle.std.specs.Prelude.{cond, drop, length, nat_lt, not, set, slice_index};
 ghost use Rattle.std.specs.List.{flat_map};
 ghost use Rattle.shown.specs.Drafts.{with_members, with_value, object_of, list_of};
-ghost use Rattle.message_shown.specs.Places.{Item, Kept, IsNumbered, shown_as, kept_in, number_in, are_any};
+ghost use Rattle.message_shown.specs.Places.{Item, Said, Kept, item_of, shown_of, kept_of, shown_as, kept_in, number_in};
+ghost use Rattle.message_shown.specs.Places.{are_any};
+ghost use Rattle.message_shown.specs.Places.{comes_in, has_number};
 ghost use Rattle.message_shown.specs.Places.{last_ones, earlier_ones, named_ones, kept_ones};
 ghost use Rattle.message_shown.specs.Places.{list_under, values_of, members_of, listed_under, objects, TellsLast};
 ghost use Rattle.message_shown.specs.declared.context.Context.{Context as Around};
@@ -23,8 +26,7 @@ pub trait Member {
 
     /// Its number, where it is shown under its name.
     fn number(&self, cx: &Context<'_>) -> Option<usize>
-        ensures number { result ≡ number_in (item cx.now self.now) }
-        ensures small { IfSome result (λ n. n < 128) };
+        ensures { result ≡ number_in (item cx.now self.now) };
 
     /// What it is, where it is kept as it is.
     fn kept(&self, cx: &Context<'_>) -> Option<KeptFrame<'_>>
@@ -39,35 +41,36 @@ pub trait Member {
 
 /// An attribute of a message.
 pub trait Attribute: Nla {
-    ghost item: { Around → Self → Item };
+    ghost said: { Around → Self → Said };
 
     /// What it is, where it is kept as it is.
     fn kept_frame(&self, cx: &Context<'_>) -> Option<KeptFrame<'_>>
         ensures { option_map {U = Kept} (λ f. (f.0.now, (f.1.0, f.1.1.now))) result
-            ≡ kept_in (item cx.now self.now) };
+            ≡ kept_of (said cx.now self.now) };
 
     /// Adds what it says. One that is kept says nothing here.
     fn add(&self, cx: &Context<'_>, page: &mut Page) -> Result<(), AllocError>
         ensures { OnOk result
-            (page.new ≡ with_members (shown_as (item cx.now self.now)) page.old) };
-
-    ghost numbered: { (cx : Around) (x : Self) → IsNumbered (Self.frame x).kind (item cx x) };
+            (page.new ≡ with_members (shown_of (said cx.now self.now)) page.old) };
 }
 
 impl<T: Attribute> Member for T {
-    ghost item = { T.item };
+    ghost item = { λ cx x. item_of (T.frame x).kind (T.said cx x) };
 
+    #[tactic(auto, using(crate::proofs::Places::number_of_named, crate::proofs::Places::number_of_kept))]
     fn number(&self, cx: &Context<'_>) -> Option<usize> {
-        if self.kept_frame(cx).is_some() {
-            return None;
+        match self.kept_frame(cx) {
+            Some(_) => None,
+            None => Some((self.kind() & NLA_TYPE_MASK) as usize),
         }
-        Some((self.kind() & NLA_TYPE_MASK) as usize)
     }
 
+    #[tactic(auto, using(crate::proofs::Places::kept_same))]
     fn kept(&self, cx: &Context<'_>) -> Option<KeptFrame<'_>> {
         self.kept_frame(cx)
     }
 
+    #[tactic(auto, using(crate::proofs::Places::shown_same))]
     fn show(&self, cx: &Context<'_>, page: &mut Page) -> Result<(), AllocError> {
         self.add(cx, page)
     }
@@ -81,7 +84,7 @@ pub fn frame_of(nla: &DefaultNla) -> Option<KeptFrame<'_>>
     Some(("", (nla.kind(), nla.value())))
 }
 
-/// More than the greatest number that has a name.
+/// How many numbers have a place in the table of the last attribute of each: all that have a name today.
 const NUMBERS: usize = 128;
 
 /// No place.
@@ -98,6 +101,69 @@ struct Survey {
     is_any_kept: bool,
 }
 
+/// Whether an attribute is shown under its name and has this number.
+fn has_number<T: Member>(cx: &Context<'_>, item: &T, number: usize) -> bool
+    ensures { result ≡ has_number number (T.item cx.now item.now) }
+{
+    match item.number(cx) {
+        Some(other) => other == number,
+        None => false,
+    }
+}
+
+/// Whether one of them has this number.
+fn comes_in<T: Member>(cx: &Context<'_>, items: &[T], number: usize) -> bool
+    ensures { result ≡ comes_in number (map (T.item cx.now) items.now) }
+{
+    for item in items {
+        if has_number(cx, item, number) {
+            return true;
+        }
+    }
+    false
+}
+
+/// Notes where an attribute of this number stands; whether another one of its number is found. One whose number has no
+/// place in the table is looked for behind it.
+fn note<T: Member>(
+    cx: &Context<'_>,
+    items: &[T],
+    last: &mut [usize; NUMBERS],
+    i: usize,
+    number: usize,
+) -> bool
+    requires { i < length items.now }
+    ensures table { last.new ≡ cond (nat_lt number 128) (set last.old number i) last.old }
+    ensures found { result ≡ cond (nat_lt number 128)
+        (not (slice_index last.old number == 2 ^ 64 - 1))
+        (comes_in number (map (T.item cx.now) (drop (i + 1) items.now))) }
+{
+    if number >= NUMBERS {
+        return comes_in(cx, &items[i + 1..], number);
+    }
+    let is_found = last[number] != NONE;
+    last[number] = i;
+    is_found
+}
+
+/// Whether no attribute of this number stands behind one.
+fn is_last<T: Member>(
+    cx: &Context<'_>,
+    items: &[T],
+    last: &[usize; NUMBERS],
+    i: usize,
+    number: usize,
+) -> bool
+    requires { i < length items.now }
+    ensures { result ≡ cond (nat_lt number 128) (slice_index last.now number == i)
+        (not (comes_in number (map (T.item cx.now) (drop (i + 1) items.now)))) }
+{
+    if number >= NUMBERS {
+        return !comes_in(cx, &items[i + 1..], number);
+    }
+    last[number] == i
+}
+
 /// Goes over the attributes of a place once.
 fn look_over<T: Member>(cx: &Context<'_>, items: &[T]) -> Survey
     ensures last { TellsLast (map (T.item cx.now) items.now) result.last }
@@ -110,8 +176,7 @@ fn look_over<T: Member>(cx: &Context<'_>, items: &[T]) -> Survey
     let mut is_any_kept = false;
     for (i, item) in items.iter().enumerate() {
         if let Some(number) = item.number(cx) {
-            is_any_repeated |= last[number] != NONE;
-            last[number] = i;
+            is_any_repeated |= note(cx, items, &mut last, i, number);
         } else {
             is_any_kept = true;
         }
@@ -136,7 +201,7 @@ fn show_last<T: Member>(
 {
     for (i, item) in items.iter().enumerate() {
         if let Some(number) = item.number(cx) {
-            if last[number] == i {
+            if is_last(cx, items, last, i, number) {
                 item.show(cx, page)?;
             }
         }
@@ -158,7 +223,7 @@ fn show_earlier<T: Member>(
 {
     for (i, item) in items.iter().enumerate() {
         if let Some(number) = item.number(cx) {
-            if last[number] != i {
+            if !is_last(cx, items, last, i, number) {
                 page.begin("", Nest::Object)?;
                 item.show(cx, page)?;
                 page.end()?;

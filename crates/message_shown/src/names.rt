@@ -1,78 +1,132 @@
 //! The names of attributes, fields, values and flags, as rt_link.yaml of Linux 6.12 has them; where it has none, those
 //! of the kernel's headers in its style, and for what no kernel has those of this project.
 
+use crate::form::{Form, Row};
+use link_afspec::numbers::{IFLA_MCTP_NET, IFLA_MCTP_PHYS_BINDING};
+use link_nest::numbers::*;
+use link_vf::numbers::*;
+
 /// The attributes of a link, by their numbers.
-pub const ATTRIBUTES: [&str; 70] = [
-    "",
-    "address",
-    "broadcast",
-    "ifname",
-    "mtu",
-    "link",
-    "qdisc",
-    "stats",
-    "cost",
-    "priority",
-    "master",
-    "wireless",
-    "protinfo",
-    "txqlen",
-    "map",
-    "weight",
-    "operstate",
-    "linkmode",
-    "linkinfo",
-    "net-ns-pid",
-    "ifalias",
-    "num-vf",
-    "vfinfo-list",
-    "stats64",
-    "vf-ports",
-    "port-self",
-    "af-spec",
-    "group",
-    "net-ns-fd",
-    "ext-mask",
-    "promiscuity",
-    "num-tx-queues",
-    "num-rx-queues",
-    "carrier",
-    "phys-port-id",
-    "carrier-changes",
-    "phys-switch-id",
-    "link-netnsid",
-    "phys-port-name",
-    "proto-down",
-    "gso-max-segs",
-    "gso-max-size",
-    "pad",
-    "xdp",
-    "event",
-    "new-netnsid",
-    "target-netnsid",
-    "carrier-up-count",
-    "carrier-down-count",
-    "new-ifindex",
-    "min-mtu",
-    "max-mtu",
-    "prop-list",
-    "alt-ifname",
-    "perm-address",
-    "proto-down-reason",
-    "parent-dev-name",
-    "parent-dev-bus-name",
-    "gro-max-size",
-    "tso-max-size",
-    "tso-max-segs",
-    "allmulti",
-    "devlink-port",
-    "gso-ipv4-max-size",
-    "gro-ipv4-max-size",
-    "dpll-pin",
-    "max-pacing-offload-horizon",
-    "netns-immutable",
-    "headroom",
-    "tailroom",
+pub const ATTRIBUTES: [(&str, Form); 70] = [
+    ("", Form::Own),
+    ("address", Form::Address),
+    ("broadcast", Form::Address),
+    ("ifname", Form::Text),
+    ("mtu", Form::U32),
+    ("link", Form::U32),
+    ("qdisc", Form::Text),
+    ("stats", Form::Own),
+    ("cost", Form::Own),
+    ("priority", Form::Own),
+    ("master", Form::U32),
+    ("wireless", Form::Own),
+    ("protinfo", Form::Own),
+    ("txqlen", Form::U32),
+    ("map", Form::Own),
+    ("weight", Form::Own),
+    ("operstate", Form::OperState),
+    ("linkmode", Form::LinkMode),
+    ("linkinfo", Form::Own),
+    ("net-ns-pid", Form::U32),
+    ("ifalias", Form::Text),
+    ("num-vf", Form::U32),
+    ("vfinfo-list", Form::Own),
+    ("stats64", Form::Own),
+    ("vf-ports", Form::Own),
+    ("port-self", Form::Own),
+    ("af-spec", Form::Own),
+    ("group", Form::U32),
+    ("net-ns-fd", Form::I32),
+    ("ext-mask", Form::Own),
+    ("promiscuity", Form::U32),
+    ("num-tx-queues", Form::U32),
+    ("num-rx-queues", Form::U32),
+    ("carrier", Form::U8),
+    ("phys-port-id", Form::Own),
+    ("carrier-changes", Form::U32),
+    ("phys-switch-id", Form::Own),
+    ("link-netnsid", Form::I32),
+    ("phys-port-name", Form::Text),
+    ("proto-down", Form::U8),
+    ("gso-max-segs", Form::U32),
+    ("gso-max-size", Form::U32),
+    ("pad", Form::Own),
+    ("xdp", Form::Own),
+    ("event", Form::Event),
+    ("new-netnsid", Form::I32),
+    ("target-netnsid", Form::I32),
+    ("carrier-up-count", Form::U32),
+    ("carrier-down-count", Form::U32),
+    ("new-ifindex", Form::I32),
+    ("min-mtu", Form::U32),
+    ("max-mtu", Form::U32),
+    ("prop-list", Form::Own),
+    ("alt-ifname", Form::Own),
+    ("perm-address", Form::Address),
+    ("proto-down-reason", Form::Own),
+    ("parent-dev-name", Form::Text),
+    ("parent-dev-bus-name", Form::Text),
+    ("gro-max-size", Form::U32),
+    ("tso-max-size", Form::U32),
+    ("tso-max-segs", Form::U32),
+    ("allmulti", Form::U32),
+    ("devlink-port", Form::Own),
+    ("gso-ipv4-max-size", Form::U32),
+    ("gro-ipv4-max-size", Form::U32),
+    ("dpll-pin", Form::Own),
+    ("max-pacing-offload-horizon", Form::Own),
+    ("netns-immutable", Form::U8),
+    ("headroom", Form::U16),
+    ("tailroom", Form::U16),
+];
+
+/// The members of IFLA_PROP_LIST.
+pub const PROPS: [Row; 1] = [(IFLA_ALT_IFNAME, "alt-ifname", Form::Text)];
+
+/// The members of IFLA_DEVLINK_PORT.
+pub const DEVLINK_PORT: [Row; 3] = [
+    (DEVLINK_ATTR_BUS_NAME, "bus-name", Form::Text),
+    (DEVLINK_ATTR_DEV_NAME, "dev-name", Form::Text),
+    (DEVLINK_ATTR_PORT_INDEX, "port-index", Form::U32),
+];
+
+/// The members of IFLA_DPLL_PIN.
+pub const DPLL_PIN: [Row; 1] = [(DPLL_A_PIN_ID, "id", Form::U32)];
+
+/// The members of IFLA_PROTO_DOWN_REASON.
+pub const DOWN_REASON: [Row; 2] = [
+    (IFLA_PROTO_DOWN_REASON_MASK, "mask", Form::U32),
+    (IFLA_PROTO_DOWN_REASON_VALUE, "value", Form::U32),
+];
+
+/// The members of IFLA_XDP.
+pub const XDP: [Row; 8] = [
+    (IFLA_XDP_FD, "fd", Form::I32),
+    (IFLA_XDP_ATTACHED, "attached", Form::Attached),
+    (IFLA_XDP_FLAGS, "flags", Form::U32),
+    (IFLA_XDP_PROG_ID, "prog-id", Form::U32),
+    (IFLA_XDP_DRV_PROG_ID, "drv-prog-id", Form::U32),
+    (IFLA_XDP_SKB_PROG_ID, "skb-prog-id", Form::U32),
+    (IFLA_XDP_HW_PROG_ID, "hw-prog-id", Form::U32),
+    (IFLA_XDP_EXPECTED_FD, "expected-fd", Form::U32),
+];
+
+/// The members of IFLA_VF_STATS.
+pub const VF_STATS: [Row; 8] = [
+    (IFLA_VF_STATS_RX_PACKETS, "rx-packets", Form::U64),
+    (IFLA_VF_STATS_TX_PACKETS, "tx-packets", Form::U64),
+    (IFLA_VF_STATS_RX_BYTES, "rx-bytes", Form::U64),
+    (IFLA_VF_STATS_TX_BYTES, "tx-bytes", Form::U64),
+    (IFLA_VF_STATS_BROADCAST, "broadcast", Form::U64),
+    (IFLA_VF_STATS_MULTICAST, "multicast", Form::U64),
+    (IFLA_VF_STATS_RX_DROPPED, "rx-dropped", Form::U64),
+    (IFLA_VF_STATS_TX_DROPPED, "tx-dropped", Form::U64),
+];
+
+/// The settings of MCTP.
+pub const MCTP: [Row; 2] = [
+    (IFLA_MCTP_NET, "net", Form::U32),
+    (IFLA_MCTP_PHYS_BINDING, "phys-binding", Form::Binding),
 ];
 
 /// The flags of a link.

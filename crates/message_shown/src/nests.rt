@@ -2,19 +2,17 @@
 
 ghost use Rattle.std.specs.Prelude.{◌≡◌, OnOk};
 ghost use Rattle.shown.specs.Drafts.{with_members, with_value, object_of};
-ghost use Rattle.message_shown.specs.Nests.{link_info_item, prop_item, devlink_port_item, dpll_pin_item};
-ghost use Rattle.message_shown.specs.Nests.{down_reason_item};
-ghost use Rattle.message_shown.specs.Nests.{xdp_item, bridge_item, wireless_shown};
+ghost use Rattle.message_shown.specs.Nests.{link_info_said, prop_said, devlink_port_said, dpll_pin_said};
+ghost use Rattle.message_shown.specs.Nests.{down_reason_said};
+ghost use Rattle.message_shown.specs.Nests.{xdp_said, bridge_said, wireless_shown};
 ghost use Rattle.message_shown.specs.Nests.{elements_in};
-ghost use Rattle.message_shown.specs.Settings.{conf_members, proto_inet6_item};
-ghost use Rattle.message_shown.specs.Numbered.{link_info_numbered, prop_numbered, devlink_port_numbered};
-ghost use Rattle.message_shown.specs.Numbered.{dpll_pin_numbered, down_reason_numbered, xdp_numbered, bridge_numbered};
-ghost use Rattle.message_shown.specs.Numbered.{proto_inet6_numbered};
+ghost use Rattle.message_shown.specs.Settings.{conf_members, proto_inet6_said};
 
 use crate::context::Context;
 use crate::counts::show_inet6_conf;
+use crate::form::add_flat;
 use crate::member::{Attribute, KeptFrame, frame_of};
-use crate::names::XDP_ATTACHED;
+use crate::names::{DEVLINK_PORT, DOWN_REASON, DPLL_PIN, PROPS, XDP};
 use crate::rows::{Whole, add_at, add_by, kept_at, kept_by};
 use link_afspec::numbers::{IFLA_INET6_CONF, IFLA_INET6_ICMP6STATS, IFLA_INET6_STATS};
 use link_info::Place;
@@ -28,7 +26,7 @@ use shown::{Nest, Page};
 use std::alloc::AllocError;
 
 impl Attribute for LinkInfo {
-    ghost item = { link_info_item };
+    ghost said = { link_info_said };
 
     fn kept_frame(&self, cx: &Context<'_>) -> Option<KeptFrame<'_>> {
         match self {
@@ -47,12 +45,10 @@ impl Attribute for LinkInfo {
             }
         }
     }
-
-    ghost numbered = { link_info_numbered };
 }
 
 impl Attribute for Prop {
-    ghost item = { λ cx v. prop_item v };
+    ghost said = { λ cx v. prop_said v };
 
     fn kept_frame(&self, _cx: &Context<'_>) -> Option<KeptFrame<'_>> {
         match self {
@@ -61,18 +57,16 @@ impl Attribute for Prop {
         }
     }
 
-    fn add(&self, _cx: &Context<'_>, page: &mut Page) -> Result<(), AllocError> {
+    fn add(&self, cx: &Context<'_>, page: &mut Page) -> Result<(), AllocError> {
         match self {
-            Prop::AltIfName(text) => page.string("alt-ifname", text.as_str()),
             Prop::Other(_) => Ok(()),
+            _ => add_flat(cx.alloc, page, &PROPS, self),
         }
     }
-
-    ghost numbered = { λ cx. prop_numbered };
 }
 
 impl Attribute for DevlinkPort {
-    ghost item = { λ cx v. devlink_port_item v };
+    ghost said = { λ cx v. devlink_port_said v };
 
     fn kept_frame(&self, _cx: &Context<'_>) -> Option<KeptFrame<'_>> {
         match self {
@@ -81,20 +75,16 @@ impl Attribute for DevlinkPort {
         }
     }
 
-    fn add(&self, _cx: &Context<'_>, page: &mut Page) -> Result<(), AllocError> {
+    fn add(&self, cx: &Context<'_>, page: &mut Page) -> Result<(), AllocError> {
         match self {
-            DevlinkPort::BusName(text) => page.string("bus-name", text.as_str()),
-            DevlinkPort::DevName(text) => page.string("dev-name", text.as_str()),
-            DevlinkPort::PortIndex(n) => page.number("port-index", (*n).into()),
             DevlinkPort::Other(_) => Ok(()),
+            _ => add_flat(cx.alloc, page, &DEVLINK_PORT, self),
         }
     }
-
-    ghost numbered = { λ cx. devlink_port_numbered };
 }
 
 impl Attribute for DpllPin {
-    ghost item = { λ cx v. dpll_pin_item v };
+    ghost said = { λ cx v. dpll_pin_said v };
 
     fn kept_frame(&self, _cx: &Context<'_>) -> Option<KeptFrame<'_>> {
         match self {
@@ -103,18 +93,16 @@ impl Attribute for DpllPin {
         }
     }
 
-    fn add(&self, _cx: &Context<'_>, page: &mut Page) -> Result<(), AllocError> {
+    fn add(&self, cx: &Context<'_>, page: &mut Page) -> Result<(), AllocError> {
         match self {
-            DpllPin::PinId(n) => page.number("id", (*n).into()),
             DpllPin::Other(_) => Ok(()),
+            _ => add_flat(cx.alloc, page, &DPLL_PIN, self),
         }
     }
-
-    ghost numbered = { λ cx. dpll_pin_numbered };
 }
 
 impl Attribute for LinkProtocolDownReason {
-    ghost item = { λ cx v. down_reason_item v };
+    ghost said = { λ cx v. down_reason_said v };
 
     fn kept_frame(&self, _cx: &Context<'_>) -> Option<KeptFrame<'_>> {
         match self {
@@ -123,19 +111,16 @@ impl Attribute for LinkProtocolDownReason {
         }
     }
 
-    fn add(&self, _cx: &Context<'_>, page: &mut Page) -> Result<(), AllocError> {
+    fn add(&self, cx: &Context<'_>, page: &mut Page) -> Result<(), AllocError> {
         match self {
-            LinkProtocolDownReason::Mask(n) => page.number("mask", (*n).into()),
-            LinkProtocolDownReason::Value(n) => page.number("value", (*n).into()),
             LinkProtocolDownReason::Other(_) => Ok(()),
+            _ => add_flat(cx.alloc, page, &DOWN_REASON, self),
         }
     }
-
-    ghost numbered = { λ cx. down_reason_numbered };
 }
 
 impl Attribute for LinkXdp {
-    ghost item = { λ cx v. xdp_item v };
+    ghost said = { λ cx v. xdp_said v };
 
     fn kept_frame(&self, _cx: &Context<'_>) -> Option<KeptFrame<'_>> {
         match self {
@@ -144,27 +129,16 @@ impl Attribute for LinkXdp {
         }
     }
 
-    fn add(&self, _cx: &Context<'_>, page: &mut Page) -> Result<(), AllocError> {
+    fn add(&self, cx: &Context<'_>, page: &mut Page) -> Result<(), AllocError> {
         match self {
-            LinkXdp::Fd(n) => page.signed("fd", (*n).into()),
-            LinkXdp::Attached(mode) => {
-                page.choice("attached", u8::from(*mode).into(), &XDP_ATTACHED)
-            }
-            LinkXdp::Flags(n) => page.number("flags", (*n).into()),
-            LinkXdp::ProgId(n) => page.number("prog-id", (*n).into()),
-            LinkXdp::DrvProgId(n) => page.number("drv-prog-id", (*n).into()),
-            LinkXdp::SkbProgId(n) => page.number("skb-prog-id", (*n).into()),
-            LinkXdp::HwProgId(n) => page.number("hw-prog-id", (*n).into()),
-            LinkXdp::ExpectedFd(n) => page.number("expected-fd", (*n).into()),
             LinkXdp::Other(_) => Ok(()),
+            _ => add_flat(cx.alloc, page, &XDP, self),
         }
     }
-
-    ghost numbered = { λ cx. xdp_numbered };
 }
 
 impl Attribute for LinkProtoInfoBridge {
-    ghost item = { bridge_item };
+    ghost said = { bridge_said };
 
     fn kept_frame(&self, cx: &Context<'_>) -> Option<KeptFrame<'_>> {
         let LinkProtoInfoBridge::Other(nla) = self;
@@ -175,8 +149,6 @@ impl Attribute for LinkProtoInfoBridge {
         let LinkProtoInfoBridge::Other(nla) = self;
         add_at::<Whole>(cx, page, Place::BridgePort, nla)
     }
-
-    ghost numbered = { bridge_numbered };
 }
 
 /// Adds the settings of IPv6 that a payload has.
@@ -187,7 +159,7 @@ fn add_conf(page: &mut Page, payload: &[u8]) -> Result<(), AllocError>
 }
 
 impl Attribute for LinkProtoInfoInet6 {
-    ghost item = { proto_inet6_item };
+    ghost said = { proto_inet6_said };
 
     fn kept_frame(&self, cx: &Context<'_>) -> Option<KeptFrame<'_>> {
         let LinkProtoInfoInet6::Other(nla) = self;
@@ -209,8 +181,6 @@ impl Attribute for LinkProtoInfoInet6 {
             _ => add_at::<Whole>(cx, page, Place::Inet6, nla),
         }
     }
-
-    ghost numbered = { proto_inet6_numbered };
 }
 
 /// The size of `struct iw_point` in an event, which has the length of what follows it in its first two bytes

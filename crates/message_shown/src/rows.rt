@@ -1,6 +1,6 @@
 //! Attributes that are shown by rows of tables.
 
-ghost use Rattle.std.specs.Prelude.{◌≡◌, [], ◌∷◌, OnOk, IfOk, IfSome, ◌<◌, Some, length, map, option_map};
+ghost use Rattle.std.specs.Prelude.{◌≡◌, [], ◌∷◌, OnOk, IfOk, Some, length, map, option_map};
 ghost use Rattle.json.specs.Token.{string};
 ghost use Rattle.hex.specs.Hex.{encode_lower};
 ghost use Rattle.nla_wire.specs.Items.{items};
@@ -11,11 +11,11 @@ ghost use Rattle.link_info.specs.Styles.{plain_size};
 ghost use Rattle.link_info.specs.Tables.{row_at};
 ghost use Rattle.shown.specs.Drafts.{with_members, with_value, object_of};
 ghost use Rattle.message_shown.specs.Contexts.{of_row};
-ghost use Rattle.message_shown.specs.Places.{Kept, kept_in, number_in, shown_as};
+ghost use Rattle.message_shown.specs.Places.{Kept, item_of, kept_of, number_in, shown_of};
 ghost use Rattle.message_shown.specs.Rows.{Nesting, number_shown, plain_shown, plain_in, spelled, hexadecimal, listed};
 ghost use Rattle.message_shown.specs.Rows.{record_shown, elements_shown, payloads_shown, count_of, meaning_shown};
-ghost use Rattle.message_shown.specs.Rows.{PlacedFrame, known_in, row_item, placed_in, nest_shown, style_shown};
-ghost use Rattle.message_shown.specs.Rows.{placed_item};
+ghost use Rattle.message_shown.specs.Rows.{PlacedFrame, known_in, row_said, placed_in, nest_shown, style_shown};
+ghost use Rattle.message_shown.specs.Rows.{placed_item, placed_said};
 ghost use Rattle.message_shown.specs.declared.context.Context.{Context as Around};
 
 use crate::context::{Context, Known};
@@ -126,14 +126,12 @@ pub fn row_number<D: Depth>(
     kind: u16,
     payload: &[u8],
 ) -> Option<usize>
-    ensures number { result ≡ number_in (row_item (D.nest cx.now) (known_in known.entry)
-        (record { kind = kind; payload = payload.now })) }
-    ensures small { IfSome result (λ n. n < 128) }
+    ensures { result ≡ number_in (item_of kind (row_said (D.nest cx.now) (known_in known.entry)
+        (record { kind = kind; payload = payload.now }))) }
 {
-    let number = (kind & NLA_TYPE_MASK) as usize;
     match known {
-        Some(_) if number < 128 => Some(number),
-        _ => None,
+        Some(_) => Some((kind & NLA_TYPE_MASK) as usize),
+        None => None,
     }
 }
 
@@ -145,10 +143,10 @@ pub fn row_kept<'a, D: Depth>(
     payload: &'a [u8],
 ) -> Option<KeptFrame<'a>>
     ensures { option_map {U = Kept} (λ f. (f.0.now, (f.1.0, f.1.1.now))) result
-        ≡ kept_in (row_item (D.nest cx.now) (known_in known.entry)
+        ≡ kept_of (row_said (D.nest cx.now) (known_in known.entry)
         (record { kind = kind; payload = payload.now })) }
 {
-    match row_number::<D>(cx, known, kind, payload) {
+    match known {
         Some(_) => None,
         None => Some(("", (kind, payload))),
     }
@@ -162,14 +160,12 @@ pub fn show_row<D: Depth>(
     kind: u16,
     payload: &[u8],
 ) -> Result<(), AllocError>
-    ensures { OnOk result (page.new ≡ with_members (shown_as (row_item (D.nest cx.now)
+    ensures { OnOk result (page.new ≡ with_members (shown_of (row_said (D.nest cx.now)
         (known_in known.entry) (record { kind = kind; payload = payload.now }))) page.old) }
 {
     match known {
-        Some((name, style)) if kind & NLA_TYPE_MASK < 128 => {
-            show_style::<D>(cx, page, name, style, payload)
-        }
-        _ => Ok(()),
+        Some((name, style)) => show_style::<D>(cx, page, name, style, payload),
+        None => Ok(()),
     }
 }
 
@@ -186,10 +182,12 @@ impl<D: Depth> Member for Placed<D> {
         )
     }
 
+    #[tactic(auto, using(crate::proofs::Places::kept_same))]
     fn kept(&self, cx: &Context<'_>) -> Option<KeptFrame<'_>> {
         kept_at::<D>(cx, self.place, &self.frame)
     }
 
+    #[tactic(auto, using(crate::proofs::Places::shown_same))]
     fn show(&self, cx: &Context<'_>, page: &mut Page) -> Result<(), AllocError> {
         add_at::<D>(cx, page, self.place, &self.frame)
     }
@@ -355,7 +353,7 @@ pub fn kept_by<'a, D: Depth>(
     nla: &'a DefaultNla,
 ) -> Option<KeptFrame<'a>>
     ensures { option_map {U = Kept} (λ f. (f.0.now, (f.1.0, f.1.1.now))) result
-        ≡ kept_in (row_item (D.nest cx.now) (known_in known.entry) nla.now) }
+        ≡ kept_of (row_said (D.nest cx.now) (known_in known.entry) nla.now) }
 {
     row_kept::<D>(cx, known, nla.kind(), nla.value())
 }
@@ -367,7 +365,7 @@ pub fn add_by<D: Depth>(
     known: Option<Known>,
     nla: &DefaultNla,
 ) -> Result<(), AllocError>
-    ensures { OnOk result (page.new ≡ with_members (shown_as (row_item (D.nest cx.now)
+    ensures { OnOk result (page.new ≡ with_members (shown_of (row_said (D.nest cx.now)
         (known_in known.entry) nla.now)) page.old) }
 {
     show_row::<D>(cx, page, known, nla.kind(), nla.value())
@@ -380,7 +378,7 @@ pub fn kept_at<'a, D: Depth>(
     nla: &'a DefaultNla,
 ) -> Option<KeptFrame<'a>>
     ensures { option_map {U = Kept} (λ f. (f.0.now, (f.1.0, f.1.1.now))) result
-        ≡ kept_in (placed_item (D.nest cx.now) cx.now place nla.now) }
+        ≡ kept_of (placed_said (D.nest cx.now) cx.now place nla.now) }
 {
     kept_by::<D>(cx, cx.known(place, nla.kind() & NLA_TYPE_MASK), nla)
 }
@@ -393,7 +391,7 @@ pub fn add_at<D: Depth>(
     nla: &DefaultNla,
 ) -> Result<(), AllocError>
     ensures { OnOk result (page.new
-        ≡ with_members (shown_as (placed_item (D.nest cx.now) cx.now place nla.now)) page.old) }
+        ≡ with_members (shown_of (placed_said (D.nest cx.now) cx.now place nla.now)) page.old) }
 {
     add_by::<D>(cx, page, cx.known(place, nla.kind() & NLA_TYPE_MASK), nla)
 }

@@ -5,14 +5,14 @@ ghost use Rattle.shown.specs.Drafts.{with_members, with_value, object_of};
 ghost use Rattle.message_shown.specs.Places.{objects};
 ghost use Rattle.message_shown.specs.Functions.{word_shown, setting_shown, mac_shown, vlan_shown, link_state_shown};
 ghost use Rattle.message_shown.specs.Functions.{rate_shown, guid_shown, vlan_protocol_name, vlan_info_shown};
-ghost use Rattle.message_shown.specs.Functions.{vf_stats_item, vf_vlan_item, vf_port_item, vf_info_item};
+ghost use Rattle.message_shown.specs.Functions.{vf_stats_said, vf_vlan_said, vf_port_said, vf_info_said};
 ghost use Rattle.message_shown.specs.Functions.{function_members, function_address};
 ghost use Rattle.message_shown.specs.Functions.{port_members, objects_under};
-ghost use Rattle.message_shown.specs.Numbered.{vf_info_numbered, vf_stats_numbered, vf_vlan_numbered, vf_port_numbered};
 
 use crate::context::Context;
+use crate::form::add_flat;
 use crate::member::{Attribute, KeptFrame, frame_of, show_listed, show_object};
-use crate::names::VF_LINK_STATES;
+use crate::names::{VF_LINK_STATES, VF_STATS};
 use crate::rows::{Whole, add_at, kept_at};
 use link_info::Place;
 use link_msg::{
@@ -93,7 +93,7 @@ pub fn show_ports(
 }
 
 impl Attribute for VfPort {
-    ghost item = { vf_port_item };
+    ghost said = { vf_port_said };
 
     fn kept_frame(&self, cx: &Context<'_>) -> Option<KeptFrame<'_>> {
         let VfPort::Other(nla) = self;
@@ -104,12 +104,10 @@ impl Attribute for VfPort {
         let VfPort::Other(nla) = self;
         add_at::<Whole>(cx, page, Place::Port, nla)
     }
-
-    ghost numbered = { vf_port_numbered };
 }
 
 impl Attribute for VfInfo {
-    ghost item = { vf_info_item };
+    ghost said = { vf_info_said };
 
     fn kept_frame(&self, _cx: &Context<'_>) -> Option<KeptFrame<'_>> {
         match self {
@@ -136,8 +134,6 @@ impl Attribute for VfInfo {
             VfInfo::Other(_) => Ok(()),
         }
     }
-
-    ghost numbered = { vf_info_numbered };
 }
 
 /// Adds a record of a function and one number.
@@ -240,7 +236,7 @@ fn show_guid(page: &mut Page, name: &str, guid: &VfInfoGuid) -> Result<(), Alloc
 }
 
 impl Attribute for VfVlan {
-    ghost item = { λ cx v. vf_vlan_item v };
+    ghost said = { λ cx v. vf_vlan_said v };
 
     fn kept_frame(&self, _cx: &Context<'_>) -> Option<KeptFrame<'_>> {
         match self {
@@ -255,8 +251,6 @@ impl Attribute for VfVlan {
             VfVlan::Other(_) => Ok(()),
         }
     }
-
-    ghost numbered = { λ cx. vf_vlan_numbered };
 }
 
 fn protocol_name(protocol: VlanProtocol) -> &'static str
@@ -281,7 +275,7 @@ fn show_vlan_info(page: &mut Page, info: &VfVlanInfo) -> Result<(), AllocError>
 }
 
 impl Attribute for VfStats {
-    ghost item = { λ cx v. vf_stats_item v };
+    ghost said = { λ cx v. vf_stats_said v };
 
     fn kept_frame(&self, _cx: &Context<'_>) -> Option<KeptFrame<'_>> {
         match self {
@@ -290,19 +284,10 @@ impl Attribute for VfStats {
         }
     }
 
-    fn add(&self, _cx: &Context<'_>, page: &mut Page) -> Result<(), AllocError> {
+    fn add(&self, cx: &Context<'_>, page: &mut Page) -> Result<(), AllocError> {
         match self {
-            VfStats::RxPackets(n) => page.number("rx-packets", *n),
-            VfStats::TxPackets(n) => page.number("tx-packets", *n),
-            VfStats::RxBytes(n) => page.number("rx-bytes", *n),
-            VfStats::TxBytes(n) => page.number("tx-bytes", *n),
-            VfStats::Broadcast(n) => page.number("broadcast", *n),
-            VfStats::Multicast(n) => page.number("multicast", *n),
-            VfStats::RxDropped(n) => page.number("rx-dropped", *n),
-            VfStats::TxDropped(n) => page.number("tx-dropped", *n),
             VfStats::Other(_) => Ok(()),
+            _ => add_flat(cx.alloc, page, &VF_STATS, self),
         }
     }
-
-    ghost numbered = { λ cx. vf_stats_numbered };
 }

@@ -1,11 +1,12 @@
-use Rattle.std.proofs.Common.{◌≡◌, [], ◌∷◌, map, ap, ◌∙◌}
+use Rattle.std.proofs.Common.{◌≡◌, [], ◌∷◌, ap, ◌∙◌}
 use Rattle.std.specs.Prelude.{codes, decimal}
 use Rattle.json.specs.Token.{number}
 use Rattle.link_vals.specs.AddressFamilyTable.{address_family_number}
+use Rattle.link_msg.specs.Tables.{attribute_frame}
 use Rattle.shown.specs.Drafts.{with_members, with_value}
-use Rattle.message_shown.specs.Attributes.{around, attribute_item, header_members}
+use Rattle.message_shown.specs.Attributes.{around, attribute_said, header_members}
 use Rattle.message_shown.specs.Lines.{family_member}
-use Rattle.message_shown.specs.Places.{members_of}
+use Rattle.message_shown.specs.Places.{items_of, members_of}
 use Rattle.message_shown.specs.Worded.{words_shown}
 use Rattle.message_shown.proofs.Added.{members_then}
 use Rattle.message_shown.proofs.answers.message_page.Goals as goal
@@ -13,7 +14,7 @@ use Rattle.message_shown.proofs.answers.message_page.Goals as goal
 pub returns : goal.returns
 returns c =
     let m = c.args.message.now in
-    let members = members_of (map (attribute_item (around c.args.cx.now m)) m.attributes) in
+    let members = members_of (items_of attribute_frame (attribute_said (around c.args.cx.now m)) m.attributes) in
     let family : c.into.result ≡ address_family_number m.header.interface_family =
     c.into.ensures ∙ c.from-family.ensures in
     let shown : c.show_members.new.page ≡ with_members members c.show_header.new.page =

@@ -2,11 +2,11 @@ use Rattle.std.proofs.Common.{ap, ◌∙◌}
 use Rattle.std.proofs.lemmas.Result.{on_ok_weaker}
 use Rattle.shown.specs.Drafts.{with_members}
 use Rattle.shown.proofs.Drafts.{list_ended}
-use Rattle.message_shown.specs.Counters.{bare, counters}
+use Rattle.message_shown.specs.Counters.{bare}
 use Rattle.message_shown.proofs.counts.show_inet6_bare.Goals as goal
 
 pub returns : goal.returns
 returns c =
-    let members = bare (counters c.args.words.now) in
+    let members = bare c.args.words.now in
     on_ok_weaker c.end.result (λ ends. list_ended c.args.name.now members c.args.page.now _ _
     (c.in_ok-show_bare.ensures ∙ ap (with_members members) c.in_ok-begin.ensures) ends) c.end.ensures

@@ -1,9 +1,10 @@
-use Rattle.std.proofs.Common.{[], ◌∷◌, map, refl}
+use Rattle.std.proofs.Common.{[], ◌∷◌, refl}
 use Rattle.std.specs.Prelude.{codes}
 use Rattle.std.proofs.lemmas.Result.{on_ok_weaker}
+use Rattle.link_msg.specs.Tables.{attribute_frame}
 use Rattle.shown.specs.Drafts.{object_of}
-use Rattle.message_shown.specs.Places.{members_of}
-use Rattle.message_shown.specs.Attributes.{attribute_item}
+use Rattle.message_shown.specs.Places.{items_of, members_of}
+use Rattle.message_shown.specs.Attributes.{attribute_said}
 use Rattle.message_shown.proofs.Places.{then_one, then_more}
 use Rattle.message_shown.proofs.fault.show_rest.Goals as goal
 
@@ -13,7 +14,7 @@ returns-in-Ok c =
     let index = then_one c.args.page.now _ c.show_index.new.page _ _ family c.in_ok-show_index.ensures in
     let before = (
       codes "before",
-      object_of (members_of (map (attribute_item c.with_address.result)
+      object_of (members_of (items_of attribute_frame (attribute_said c.with_address.result)
           c.as_slice-attributes.result.now)),
     ) ∷ [] in
     on_ok_weaker c.show_object.result

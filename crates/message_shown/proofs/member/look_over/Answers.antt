@@ -1,11 +1,11 @@
-use Rattle.std.proofs.Common.{◌≡◌, ◌==◌, ℕ, ◌+◌, ◌<◌, refl, subst, drop, map, ap, sym, ◌∙◌, length, set, slice_index}
+use Rattle.std.proofs.Common.{◌≡◌, ◌==◌, ℕ, ◌+◌, ◌<◌, refl, drop, map, ap, sym, ◌∙◌, length, set, slice_index}
 use Rattle.std.proofs.Common.{cond, rules}
-use Rattle.std.proofs.lemmas.List.{drop_all, length-set, get_or-replicate}
+use Rattle.std.proofs.lemmas.List.{drop_all, get_or-replicate}
 use Rattle.std.proofs.Math.Bool.{or-false, or-true}
-use Rattle.std.specs.Prelude.{◌||◌, ◌∷◌, Some}
+use Rattle.std.specs.Prelude.{◌||◌, ◌∷◌, Some, nat_lt}
 use Rattle.message_shown.specs.Places.{has_number, number_in, are_any, kept_ones}
-use Rattle.message_shown.proofs.Places.{last_at, at_here, stored, no_number, tells_last, repeats, none_repeats}
-use Rattle.message_shown.proofs.Places.{kept_repeats, named_repeats, kept_any, named_any}
+use Rattle.message_shown.proofs.Places.{last_at, at_here, no_number, tells_last, repeats, none_repeats}
+use Rattle.message_shown.proofs.Places.{kept_repeats, kept_any, length_noted, named_any, repeats_noted, stored_noted}
 use Rattle.message_shown.proofs.member.look_over.Goals as goal
 use Rattle.message_shown.proofs.member.look_over.Goals.{in-Some, in_default}
 
@@ -26,7 +26,7 @@ loop-i-preserved g c =
     let x = c.index-items-i.result in
     let rest = map f (drop (i + 1) xs) in
     let told : (length c.match-number.last ≡ 128)
-    × (((n : ℕ) → slice_index c.match-number.last n
+    × (((n : ℕ) → n < 128 → slice_index c.match-number.last n
     ≡ cond (has_number n (f x)) i (slice_index c.loop-i.last n))
     × (((repeats c.match-number.last rest || c.match-number.is_any_repeated)
     ≡ (repeats c.loop-i.last (f x ∷ rest) || c.loop-i.is_any_repeated))
@@ -35,17 +35,19 @@ loop-i-preserved g c =
     elim c.match-number.branch [
       | in-Some w ↦
           let number : number_in (f x) ≡ Some w.in-Some.number =
-          sym c.number.ensures.number ∙ w.in-Some.is in
-          let within : w.in-Some.number < length c.loop-i.last =
-          subst (λ m. w.in-Some.number < m) (sym c.loop-i.invariant.size) w.in-Some.ensures.small in (
-            ap length w.last-is ∙ length-set c.loop-i.last w.in-Some.number i ∙ c.loop-i.invariant.size,
+          sym c.number.ensures ∙ w.in-Some.is in
+          let m = w.in-Some.number in
+          let table : c.match-number.last ≡ cond (nat_lt m 128) (set c.loop-i.last m i) c.loop-i.last =
+          w.last-is ∙ w.note-is_any_repeated.ensures.table in
+          let size = c.loop-i.invariant.size in (
+            ap length table ∙ length_noted m i c.loop-i.last ∙ size,
             (
-              λ n. ap (λ table. slice_index table n) w.last-is
-                  ∙ stored (f x) w.in-Some.number n i c.loop-i.last within number,
+              λ n l. ap (λ table. slice_index table n) table ∙ stored_noted (f x) m n i c.loop-i.last size l number,
               (
-                ap (λ table. repeats table rest || c.match-number.is_any_repeated) w.last-is
-                    ∙ ap (λ b. repeats (set c.loop-i.last w.in-Some.number i) rest || b) w.is_any_repeated-is
-                    ∙ named_repeats (f x) w.in-Some.number i c.loop-i.last rest c.loop-i.is_any_repeated within
+                ap (λ table. repeats table rest || c.match-number.is_any_repeated) table
+                    ∙ ap (λ b. repeats (cond (nat_lt m 128) (set c.loop-i.last m i) c.loop-i.last) rest || b)
+                    (w.is_any_repeated-is ∙ ap (λ b. c.loop-i.is_any_repeated || b) w.note-is_any_repeated.ensures.found)
+                    ∙ repeats_noted (f x) m i c.loop-i.last rest c.loop-i.is_any_repeated size
                     (λ e. search rules) number,
                 ap (λ b. are_any (kept_ones rest) || b) w.is_any_kept-is
                     ∙ ap (λ b. b || c.loop-i.is_any_kept) (sym (named_any (f x) w.in-Some.number rest number)),
@@ -53,10 +55,10 @@ loop-i-preserved g c =
             ),
           )
       | in_default w ↦
-          let none = sym c.number.ensures.number ∙ w.in_default.is in (
+          let none = sym c.number.ensures ∙ w.in_default.is in (
             ap length w.last-is ∙ c.loop-i.invariant.size,
             (
-              λ n. ap (λ table. slice_index table n) w.last-is
+              λ n l. ap (λ table. slice_index table n) w.last-is
                   ∙ sym (ap (λ b. cond b i (slice_index c.loop-i.last n)) (no_number (f x) n none)),
               (
                 ap (λ table. repeats table rest || c.match-number.is_any_repeated) w.last-is
@@ -71,7 +73,7 @@ loop-i-preserved g c =
     ] in
     record {
       size = told.0;
-      found = λ n l. ap (λ found. last_at n found (i + 1) rest) (told.1.0 n)
+      found = λ n l. ap (λ found. last_at n found (i + 1) rest) (told.1.0 n l)
           ∙ sym (at_here (λ ys. last_at n (slice_index c.loop-i.last n) i (map f ys)) xs i x c.loop-i-test.true
           c.index-items-i.is)
           ∙ c.loop-i.invariant.found n l;

@@ -3,8 +3,8 @@ use Rattle.std.specs.Prelude.{Some}
 use Rattle.message_shown.specs.Places.{number_in, shown_as, last_ones}
 use Rattle.message_shown.proofs.Places.{on_one, is_last, is_earlier, last_shown, last_passed, last_kept}
 use Rattle.message_shown.proofs.member.show_last.Goals as goal
-use Rattle.message_shown.proofs.member.show_last.Goals.{in-Some+then-last-number+in_ok-show}
-use Rattle.message_shown.proofs.member.show_last.Goals.{in-Some+else-last-number, in_default}
+use Rattle.message_shown.proofs.member.show_last.Goals.{in-Some+then-is_last+in_ok-show}
+use Rattle.message_shown.proofs.member.show_last.Goals.{in-Some+else-is_last, in_default}
 
 pub loop-i-preserved : goal.loop-i-preserved
 loop-i-preserved g c =
@@ -15,21 +15,21 @@ loop-i-preserved g c =
     let rest = map f (drop (i + 1) xs) in
     let on = on_one (λ ys. last_ones (map f ys)) xs i x in
     elim c.match-number.branch [
-      | in-Some+then-last-number+in_ok-show w ↦
+      | in-Some+then-is_last+in_ok-show w ↦
           let number : number_in (f x) ≡ Some w.in-Some.number =
-          sym c.number.ensures.number ∙ w.in-Some.is in
+          sym c.number.ensures ∙ w.in-Some.is in
           on (shown_as (f x)) c.loop-i.page _ _ c.loop-i-test.true c.index-items-i.is
-          (last_shown (f x) _ rest number (is_last f xs c.args.last.now i _ x c.requires
-          w.in-Some.ensures.small c.loop-i-test.true c.index-items-i.is number w.if-last-number.true))
+          (last_shown (f x) _ rest number (is_last f xs c.args.last.now i _ x _ c.requires
+          c.loop-i-test.true c.index-items-i.is number w.is_last.ensures w.if-is_last.true))
           c.loop-i.invariant (w.page-is ∙ w.in_ok-show.ensures)
-      | in-Some+else-last-number w ↦
+      | in-Some+else-is_last w ↦
           let number : number_in (f x) ≡ Some w.in-Some.number =
-          sym c.number.ensures.number ∙ w.in-Some.is in
+          sym c.number.ensures ∙ w.in-Some.is in
           on [] c.loop-i.page _ _ c.loop-i-test.true c.index-items-i.is
-          (last_passed (f x) _ rest number (is_earlier f xs c.args.last.now i _ x c.requires
-          w.in-Some.ensures.small c.loop-i-test.true c.index-items-i.is number w.if-last-number.false))
+          (last_passed (f x) _ rest number (is_earlier f xs c.args.last.now i _ x _ c.requires
+          c.loop-i-test.true c.index-items-i.is number w.is_last.ensures w.if-is_last.false))
           c.loop-i.invariant w.page-is
       | in_default w ↦
           on [] c.loop-i.page _ _ c.loop-i-test.true c.index-items-i.is
-          (last_kept (f x) rest (sym c.number.ensures.number ∙ w.in_default.is)) c.loop-i.invariant w.page-is
+          (last_kept (f x) rest (sym c.number.ensures ∙ w.in_default.is)) c.loop-i.invariant w.page-is
     ]

@@ -1,0 +1,21 @@
+-- What an attribute says under its name, where it is kept and where it is not.
+use Rattle.std.proofs.Common.{◌≡◌, ℕ, List, []}
+use Rattle.std.specs.Prelude.{Option, None, Some, true, false, is_some, refl}
+use Rattle.link_msg.specs.declared.attribute.LinkAttribute.{LinkAttribute}
+use Rattle.message_shown.specs.Attributes.{attribute_name, attribute_said, attribute_shown, frame_in, unless_kept}
+use Rattle.message_shown.specs.Places.{shown_of}
+use Rattle.message_shown.specs.declared.context.Context.{Context}
+
+pub kept_shown : (cx : Context) (v : LinkAttribute) → is_some (frame_in v) ≡ true → shown_of (attribute_said cx v) ≡ []
+kept_shown cx v is = by_frame (frame_in v) is where
+  by_frame : (frame : Option (ℕ × List ℕ)) → is_some frame ≡ true → shown_of (unless_kept cx frame v) ≡ []
+  by_frame (Some frame) is = refl
+  by_frame None is = absurd cc
+
+pub named_shown : (cx : Context) (v : LinkAttribute) → is_some (frame_in v) ≡ false
+    → shown_of (attribute_said cx v) ≡ attribute_shown cx (attribute_name v) v
+named_shown cx v is = by_frame (frame_in v) is where
+  by_frame : (frame : Option (ℕ × List ℕ)) → is_some frame ≡ false
+      → shown_of (unless_kept cx frame v) ≡ attribute_shown cx (attribute_name v) v
+  by_frame (Some frame) is = absurd cc
+  by_frame None is = refl
