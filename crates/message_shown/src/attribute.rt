@@ -78,6 +78,7 @@ impl Attribute for LinkAttribute {
 }
 
 /// Whether an attribute is kept as it is.
+#[inline(always)]
 fn is_kept(attribute: &LinkAttribute) -> bool
     ensures { result ≡ is_some (frame_in attribute.now) }
 {
@@ -102,6 +103,7 @@ fn row_at(rows: &[(&'static str, Form)], number: usize) -> (&'static str, Form)
 }
 
 /// The name and the form of an attribute, by its number.
+#[inline(always)]
 fn row_of(attribute: &LinkAttribute) -> (&'static str, Form)
     ensures name { result.0.now ≡ attribute_name attribute.now }
     ensures form { result.1 ≡ attribute_form attribute.now }
@@ -137,6 +139,7 @@ fn truth_byte(is: bool) -> u8
 }
 
 /// What an attribute is written from that is one number, text or bytes.
+#[inline(always)]
 #[tactic(auto, unfolding(link_msg::specs::Tables::attribute_view))]
 fn flat_of(attribute: &LinkAttribute) -> Option<FlatView<'_>>
     ensures { IsFlat result (attribute_form attribute.now)

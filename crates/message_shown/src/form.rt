@@ -1,6 +1,7 @@
 //! Values that are one number, text or address, by how they are spelled.
 
 ghost use Rattle.std.specs.Prelude.{◌≡◌, [], ◌∷◌, ◌++◌, OnOk, map};
+ghost use Rattle.std.specs.Int.{w32, to_le_bytes};
 ghost use Rattle.nla_wire.specs.FlatViews.{flat_bytes};
 ghost use Rattle.shown.specs.Drafts.{with_members, with_value};
 ghost use Rattle.message_shown.specs.Places.{shown_of};
@@ -135,7 +136,21 @@ fn show_words(
     show_payload(page, name, form, payload.as_slice())
 }
 
+/// Adds what four bytes spell: mostly their number.
+#[inline(always)]
+#[tactic(auto, using(crate::proofs::Forms::number_shown))]
+fn show_u32(page: &mut Page, name: &str, form: Form, number: u32) -> Result<(), AllocError>
+    ensures { OnOk result (page.new
+        ≡ with_value name.now (form_shown form (to_le_bytes w32 number)) page.old) }
+{
+    if let Form::U32 = form {
+        return page.number(name, number.into());
+    }
+    show_payload(page, name, form, &number.to_le_bytes())
+}
+
 /// Adds what the encoding of a value spells.
+#[inline(always)]
 pub fn show_flat(
     alloc: Global,
     page: &mut Page,
@@ -151,7 +166,7 @@ pub fn show_flat(
         FlatView::Text(text) => show_words(alloc, page, name, form, text),
         FlatView::U8(n) => show_payload(page, name, form, &n.to_le_bytes()),
         FlatView::U16(n) => show_payload(page, name, form, &n.to_le_bytes()),
-        FlatView::U32(n) => show_payload(page, name, form, &n.to_le_bytes()),
+        FlatView::U32(n) => show_u32(page, name, form, n),
         FlatView::U64(n) => show_payload(page, name, form, &n.to_le_bytes()),
         FlatView::I32(n) => show_payload(page, name, form, &n.to_le_bytes()),
     }

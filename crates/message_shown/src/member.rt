@@ -125,6 +125,7 @@ fn comes_in<T: Member>(cx: &Context<'_>, items: &[T], number: usize) -> bool
 
 /// Notes where an attribute of this number stands; whether another one of its number is found. One whose number has no
 /// place in the table is looked for behind it.
+#[inline(always)]
 fn note<T: Member>(
     cx: &Context<'_>,
     items: &[T],
