@@ -173,7 +173,7 @@ tells 'there is no nold: install a C compiler and binutils, or set LD' "${instal
 tells 'dist/ has no text for riscv64, only for' "${installs[@]}" CC=other-cc
 printf '#!/bin/sh\necho arm64-apple-darwin23.1.0\n' >"$folder/bin/mac-cc"
 chmod +x "$folder/bin/mac-cc"
-tells 'the texts in dist/ are for Linux, and mac-cc compiles for arm64-apple-darwin23.1.0: set CC to a compiler for Linux' \
+tells 'the texts in dist/ are for Linux, and mac-cc compiles for arm64-apple-darwin23.1.0: set CC to a compiler' \
     "${installs[@]}" CC=mac-cc
 # the headers that a compiler finds: none, and those of the C library alone
 mkdir "$folder/headers"

@@ -1,5 +1,6 @@
 #!/usr/bin/env python3
-"""Compares each place that has a version, or the number of a form, with include/linkwire.h, which says what they are.
+"""Compares each place that has a version, or the number of a form, with include/linkwire.h, which says what they are,
+and each that names the toolchain with dist/SUMS.
 
     python3 scripts/version.py
 
@@ -13,8 +14,8 @@ import sys
 
 from lines import read, tracked
 
-HEADER = "include/linkwire.h"
-# each of these files has one: which constant of the header it is, and its form, whose group is the number
+HEADER, SUMS = "include/linkwire.h", "dist/SUMS"
+# each of these files has one: which constant of the header it is, or TOOLCHAIN, and its form, whose group is the value
 PLACES = [(files, constant, re.compile(form, re.M)) for files, constant, form in [
     ("man/*.[1-9]", "VERSION", r'^\.TH .* "linkwire ([^"]*)"'),
     ("CHANGELOG.md", "VERSION", r"\A[\s\S]*?^## \[([\d.]+)\] - "),
@@ -28,6 +29,8 @@ PLACES = [(files, constant, re.compile(form, re.M)) for files, constant, form in
     ("docs/CRATES.md", "CANONICAL_FORM", r"^\| the canonical form \| (\d+),"),
     ("docs/STORE.md", "CANONICAL_FORM", r"\bforms=(\d+)-"),
     ("docs/STORE.md", "STATE_FORM", r"\bforms=\d+-(\d+)"),
+    ("README.md", "TOOLCHAIN", r"toolchain\s+\(`([^`]*)`\)"),
+    ("docs/PROOFS.md", "TOOLCHAIN", r"toolchain\s+\(`([^`]*)`\)"),
 ]]
 # a program that says its version, anywhere but in what tells of older ones
 ANYWHERE = re.compile(r"\blink(?:wire|show|state|dump|diff)[ -]v?(\d+\.\d+\.\d+)")
@@ -36,6 +39,7 @@ OLDER = {"CHANGELOG.md", "docs/DECISIONS.md"}
 
 def main():
     wanted = dict(re.findall(r'^#define LINKWIRE_(\w+) "?([\d.]+)"?$', "\n".join(read(HEADER)), re.M))
+    wanted["TOOLCHAIN"] = re.search(r"^# toolchain (.*)$", "\n".join(read(SUMS)), re.M)[1]
     texts = {file: "\n".join(read(file)) for file in tracked()}
     places = [(file, constant, form.findall(texts.get(file, "")) or ["none"])
               for files, constant, form in PLACES for file in fnmatch.filter(texts, files) or [files]]
@@ -46,7 +50,8 @@ def main():
         print(it)
     if wrong:
         return 1
-    print(f"version: {sum(len(found) for *_, found in places)} places are as {HEADER} has it: {wanted['VERSION']}")
+    count = sum(len(found) for *_, found in places)
+    print(f"version: {count} places are as {HEADER} and {SUMS} have it: {wanted['VERSION']}")
     return 0
 
 
