@@ -1,7 +1,7 @@
 //! What of the changes is of what the state encodings of the messages have at zero.
 
 use crate::differences::Change;
-use crate::frames::part_of;
+use crate::frames::{is_in, part_of, place_in};
 use crate::marks::marked;
 use crate::outer::{Outer, apart, members_at};
 use crate::rows::{Paths, rows};
@@ -56,22 +56,6 @@ fn doubtful<'a>(side: Side, change: &Change<'a>, may_differ: bool) -> Option<&'a
     }
 }
 
-/// The paths of the changes that may be of what the message of this side clears.
-fn all_doubtful<'a>(
-    alloc: Global,
-    side: Side,
-    changes: &[Change<'a>],
-) -> Result<Vec<&'a [u8]>, AllocError> {
-    let may_differ = kinds_may_differ(changes);
-    let mut paths = Vec::new(alloc);
-    for change in changes {
-        if let Some(path) = doubtful(side, change, may_differ) {
-            paths.push(path)?;
-        }
-    }
-    Ok(paths)
-}
-
 /// The paths of a line whose values differ in the other one, of which `is_part` says whether it has only some of the
 /// members.
 fn paths_apart(
@@ -86,66 +70,150 @@ fn paths_apart(
     Ok(rows.into_paths())
 }
 
-/// The paths of a message whose values its state encoding has at zero, those that are doubtful and others beside them:
-/// the message says the same with other numbers in their place. It is passed where the members of its line end.
-fn cleared(
-    alloc: Global,
-    snapshot: &Snapshot,
-    ends: &[usize],
-    doubtful: &[&[u8]],
-) -> Result<Paths, AllocError> {
-    if doubtful.is_empty() {
-        return Ok(Paths::new(alloc));
-    }
-    let line = Outer {
-        text: snapshot.line(),
-        ends,
-    };
-    let text = marked(alloc, snapshot.message())?;
-    let Some(part) = part_of(alloc, text.as_slice(), snapshot.text(), line, doubtful)? else {
-        return Ok(Paths::new(alloc));
-    };
-    let mut shown = Vec::new(alloc);
-    push_answer(alloc, snapshot.order(), &mut shown, part.message.as_slice())?;
-    paths_apart(alloc, line, shown.as_slice(), part.is_part)
+/// The paths of a message whose values its state encoding has at zero, as far as they were looked for.
+#[derive(Drop)]
+pub struct Cleared {
+    /// The message with other numbers in their place; nothing where it is not made yet.
+    marked: Vec<u8>,
+    /// The places of the members of the message's line in which they were looked for.
+    known: Vec<usize>,
+    paths: Vec<Paths>,
 }
 
-/// What is left of a change without what the two messages clear.
-fn left_of<'a>(change: Change<'a>, old: &Paths, new: &Paths) -> Option<Change<'a>> {
-    match change {
-        Change::Came(path, _) if new.contains(path) => None,
-        Change::Went(path, _) if old.contains(path) => None,
-        Change::Turned(path, was, is) => match (old.contains(path), new.contains(path)) {
-            (false, false) => Some(change),
-            (true, false) => Some(Change::Came(path, is)),
-            (false, true) => Some(Change::Went(path, was)),
-            (true, true) => None,
-        },
-        _ => Some(change),
-    }
-}
-
-/// The changes from an old message to a new one without what these clear. It is passed where the members of the new
-/// message's line end.
-pub fn without_cleared<'a>(
-    alloc: Global,
-    old: &Snapshot,
-    new: &Snapshot,
-    new_ends: &[usize],
-    changes: Vec<Change<'a>>,
-) -> Result<Vec<Change<'a>>, AllocError> {
-    let of_old = all_doubtful(alloc, Side::Old, changes.as_slice())?;
-    let of_new = all_doubtful(alloc, Side::New, changes.as_slice())?;
-    let old_cleared = cleared(alloc, old, old.ends(), of_old.as_slice())?;
-    let new_cleared = cleared(alloc, new, new_ends, of_new.as_slice())?;
-    if old_cleared.is_empty() && new_cleared.is_empty() {
-        return Ok(changes);
-    }
-    let mut left = Vec::new(alloc);
-    for change in &changes {
-        if let Some(it) = left_of(*change, &old_cleared, &new_cleared) {
-            left.push(it)?;
+impl Cleared {
+    /// None, of a message where they were not looked for.
+    pub fn new(alloc: Global) -> Cleared {
+        Cleared {
+            marked: Vec::new(alloc),
+            known: Vec::new(alloc),
+            paths: Vec::new(alloc),
         }
     }
-    Ok(left)
+
+    /// Adds the member in which a path leads to those that are known.
+    fn add_place(&mut self, line: Outer<'_>, path: &[u8]) -> Result<(), AllocError> {
+        if let Some(last) = self.known.last() {
+            if is_in(path, line.member(*last)) {
+                return Ok(());
+            }
+        }
+        if let Some(place) = place_in(line, path) {
+            if !self.known.contains(&place) {
+                self.known.push(place)?;
+            }
+        }
+        Ok(())
+    }
+
+    /// Looks for them in the members in which the doubtful paths of the changes lead, if that was not done.
+    fn find(
+        &mut self,
+        alloc: Global,
+        side: Side,
+        snapshot: &Snapshot,
+        ends: &[usize],
+        changes: &[Change<'_>],
+    ) -> Result<(), AllocError> {
+        let may_differ = kinds_may_differ(changes);
+        let line = Outer {
+            text: snapshot.line(),
+            ends,
+        };
+        let before = self.known.len();
+        for change in changes {
+            if let Some(path) = doubtful(side, change, may_differ) {
+                self.add_place(line, path)?;
+            }
+        }
+        if self.known.len() == before {
+            return Ok(());
+        }
+        self.look(alloc, snapshot, line, before)
+    }
+
+    /// Looks for them in the members that are known from this one on: the message says the same with other numbers in
+    /// their place.
+    fn look(
+        &mut self,
+        alloc: Global,
+        snapshot: &Snapshot,
+        line: Outer<'_>,
+        before: usize,
+    ) -> Result<(), AllocError> {
+        if self.marked.is_empty() {
+            self.marked = marked(alloc, snapshot.message())?;
+        }
+        let places = self.known.as_slice().get(before..).unwrap_or(&[]);
+        let text = self.marked.as_slice();
+        if let Some(part) = part_of(alloc, text, snapshot.text(), line, places)? {
+            let mut shown = Vec::new(alloc);
+            push_answer(alloc, snapshot.order(), &mut shown, part.message.as_slice())?;
+            let paths = paths_apart(alloc, line, shown.as_slice(), part.is_part)?;
+            self.paths.push(paths)?;
+        }
+        Ok(())
+    }
+
+    /// Whether the path is one of them.
+    fn contains(&self, path: &[u8]) -> bool {
+        self.paths.iter().any(|paths| paths.contains(path))
+    }
+}
+
+/// Whether a path of a change is one that the message of this side clears.
+fn is_cleared(side: Side, change: &Change<'_>, may_differ: bool, cleared: &Cleared) -> bool {
+    if cleared.paths.is_empty() {
+        return false;
+    }
+    match doubtful(side, change, may_differ) {
+        Some(path) => cleared.contains(path),
+        None => false,
+    }
+}
+
+/// What is left of a change without what the old message clears, and the new one.
+fn left_of<'a>(change: &Change<'a>, by_old: bool, by_new: bool) -> Option<Change<'a>> {
+    match (*change, by_old, by_new) {
+        (it, false, false) => Some(it),
+        (Change::Turned(path, _, is), true, false) => Some(Change::Came(path, is)),
+        (Change::Turned(path, was, _), false, true) => Some(Change::Went(path, was)),
+        _ => None,
+    }
+}
+
+/// What two messages clear, an old one and a new one.
+#[derive(Drop)]
+pub struct Counters {
+    pub old: Cleared,
+    pub new: Cleared,
+}
+
+impl Counters {
+    /// The changes from an old message to a new one without what these clear. It is passed where the members of the new
+    /// message's line end.
+    pub fn leave_out<'a>(
+        &mut self,
+        alloc: Global,
+        old: &Snapshot,
+        new: &Snapshot,
+        new_ends: &[usize],
+        changes: Vec<Change<'a>>,
+    ) -> Result<Vec<Change<'a>>, AllocError> {
+        let all = changes.as_slice();
+        let may_differ = kinds_may_differ(all);
+        self.old.find(alloc, Side::Old, old, old.ends(), all)?;
+        self.new.find(alloc, Side::New, new, new_ends, all)?;
+        if self.old.paths.is_empty() && self.new.paths.is_empty() {
+            return Ok(changes);
+        }
+        let mut left = Vec::new(alloc);
+        for change in all {
+            let by_old = is_cleared(Side::Old, change, may_differ, &self.old);
+            let by_new = is_cleared(Side::New, change, may_differ, &self.new);
+            if let Some(it) = left_of(change, by_old, by_new) {
+                left.push(it)?;
+            }
+        }
+        Ok(left)
+    }
 }

@@ -48,11 +48,12 @@ fn number_in(digits: &[u8]) -> u16 {
 
 /// The numbers of the attributes that are shown as they are.
 fn kept_numbers(alloc: Global, line: Outer<'_>) -> Result<Vec<u16>, AllocError> {
-    let mut walk = Walk::new(alloc);
-    if let Some(place) = line.place_of(OTHER, 0) {
-        let _len = walk.outer(line.member(place))?;
-    }
     let mut numbers = Vec::new(alloc);
+    let Some(place) = line.place_of(OTHER, 0) else {
+        return Ok(numbers);
+    };
+    let mut walk = Walk::new(alloc)?;
+    let _len = walk.outer(line.member(place))?;
     for member in walk.members() {
         if member.depth == 2 && member.name == NUMBER {
             numbers.push(number_in(member.value))?;
@@ -106,18 +107,23 @@ fn count_named(attributes: &[u8], kept: &[u16]) -> usize {
     count
 }
 
-/// Whether one of the paths leads into this member.
-fn is_any_in(paths: &[&[u8]], member: &[u8]) -> bool {
-    paths.iter().any(|path| is_in(path, member))
-}
-
 /// Whether a path leads into this member.
-fn is_in(path: &[u8], member: &[u8]) -> bool {
+pub fn is_in(path: &[u8], member: &[u8]) -> bool {
     let [_, b'"', rest @ ..] = member else {
         return false;
     };
     let len = path.iter().position(|byte| *byte == b'.').unwrap_or(path.len());
     rest.len() > len && rest[len] == b'"' && rest.starts_with(&path[..len])
+}
+
+/// The place of the member into which a path leads.
+pub fn place_in(line: Outer<'_>, path: &[u8]) -> Option<usize> {
+    for place in 0..line.ends.len() {
+        if is_in(path, line.member(place)) {
+            return Some(place);
+        }
+    }
+    None
 }
 
 /// A message that says less.
@@ -128,18 +134,18 @@ pub struct Part {
     pub is_part: bool,
 }
 
-/// The message with only those attributes that are not as in the other one, which has them at the same places, and in
-/// whose member one of the paths leads; nothing where there are none. `line` is what the other one is shown as.
+/// The message with only those attributes that are not as in the other one, which has them at the same places, and whose
+/// members stand at these places of the other one's line; nothing where there are none.
 ///
-/// An attribute is shown as it is alone, but for the length of the link's address: this stays, and where a path leads
-/// among those that are shown as they are, all of them. Where it does not show which attribute is which member, the
-/// message is whole.
+/// An attribute is shown as it is alone, but for the length of the link's address: this stays, and where the list of
+/// those that are shown as they are stands at one of the places, all of them. Where it does not show which attribute is
+/// which member, the message is whole.
 pub fn part_of(
     alloc: Global,
     message: &[u8],
     other: &[u8],
     line: Outer<'_>,
-    paths: &[&[u8]],
+    places: &[usize],
 ) -> Result<Option<Part>, AllocError> {
     if message == other {
         return Ok(None);
@@ -155,7 +161,7 @@ pub fn part_of(
     };
     let mut part = message[..start].to_vec(alloc)?;
     let beside = other.get(start..).unwrap_or(b"");
-    if layout.add(attributes, beside, line, paths, &mut part)? {
+    if layout.add(attributes, beside, line.ends.len().saturating_sub(1), places, &mut part)? {
         return Ok(Some(Part {
             message: part,
             is_part: true,
@@ -165,17 +171,17 @@ pub fn part_of(
 }
 
 impl Layout {
-    /// Adds the attributes that stay, and returns whether one is not as in the other message.
+    /// Adds the attributes that stay, and returns whether one is not as in the other message. It is passed the place of
+    /// the last member.
     fn add(
         &self,
         attributes: &[u8],
         others: &[u8],
-        line: Outer<'_>,
-        paths: &[&[u8]],
+        last: usize,
+        places: &[usize],
         part: &mut Vec<u8>,
     ) -> Result<bool, AllocError> {
-        let last = line.member(line.ends.len().saturating_sub(1));
-        let is_other = !self.kept.is_empty() && is_any_in(paths, last);
+        let is_other = places.contains(&last);
         let mut place = self.first;
         let mut rest = attributes;
         let mut beside = others;
@@ -192,7 +198,7 @@ impl Layout {
             let is_wanted = if is_kept {
                 is_other
             } else {
-                differs && is_any_in(paths, line.member(place))
+                differs && places.contains(&place)
             };
             if is_wanted || number == IFLA_ADDRESS {
                 part.extend_from_slice(frame)?;

@@ -26,6 +26,9 @@ impl Member<'_> {
     }
 }
 
+/// How many members there is room for at first.
+const ROOM: usize = 64;
+
 /// A member whose value is open.
 #[derive(Clone, Copy)]
 struct Open {
@@ -134,11 +137,11 @@ fn name_of(text: &[u8], len: usize) -> &[u8]
 }
 
 impl<'a> Walk<'a> {
-    pub fn new(alloc: Global) -> Walk<'a> {
-        Walk {
-            members: Vec::new(alloc),
+    pub fn new(alloc: Global) -> Result<Walk<'a>, AllocError> {
+        Ok(Walk {
+            members: Vec::with_capacity(alloc, ROOM)?,
             open: Vec::new(alloc),
-        }
+        })
     }
 
     /// The members that were passed.

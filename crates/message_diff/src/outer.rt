@@ -150,7 +150,7 @@ pub fn apart<'a>(
 ) -> Result<Unlike<'a>, AllocError> {
     let mut apart = Unlike {
         old: Vec::new(alloc),
-        new: Walk::new(alloc),
+        new: Walk::new(alloc)?,
         ends: Vec::new(alloc),
     };
     let mut next = 0;
@@ -185,7 +185,7 @@ pub fn members_at<'a>(
     places: &[(usize, bool)],
     is_part: bool,
 ) -> Result<Vec<Member<'a>>, AllocError> {
-    let mut walk = Walk::new(alloc);
+    let mut walk = Walk::new(alloc)?;
     for (place, is_named) in places {
         if *is_named || !is_part {
             let _len = walk.outer(outer.member(*place))?;

@@ -5,6 +5,12 @@ ghost use Rattle.std.specs.Prelude.{◌<◌, length};
 use crate::members::Member;
 use std::alloc::{AllocError, Global};
 
+/// How many rows there is room for at first.
+const ROOM: usize = 32;
+
+/// How many bytes of its path there is room for in each of these.
+const PATH_ROOM: usize = 32;
+
 /// A member that holds no other: its path and its value, as they stand in the text.
 ///
 /// The path has the names of the members around it and its own, and for an object in a list the number of its place
@@ -24,13 +30,6 @@ pub struct Paths {
 }
 
 impl Paths {
-    pub fn new(alloc: Global) -> Paths {
-        Paths {
-            text: Vec::new(alloc),
-            ends: Vec::new(alloc),
-        }
-    }
-
     /// Adds a path.
     fn push(&mut self, path: &[u8]) -> Result<(), AllocError> {
         self.text.extend_from_slice(path)?;
@@ -38,17 +37,13 @@ impl Paths {
         Ok(())
     }
 
-    /// Whether there is none.
-    pub fn is_empty(&self) -> bool {
-        self.ends.is_empty()
-    }
-
     /// Whether this is one of them.
     pub fn contains(&self, path: &[u8]) -> bool {
         let text = self.text.as_slice();
         let mut start = 0;
         for end in &self.ends {
-            if text.get(start..*end) == Some(path) {
+            let is_as_long = end.saturating_sub(start) == path.len();
+            if is_as_long && text.get(start..*end) == Some(path) {
                 return true;
             }
             start = *end;
@@ -65,6 +60,17 @@ pub struct RowList<'a> {
 }
 
 impl<'a> RowList<'a> {
+    /// No row, with room for some.
+    fn new(alloc: Global) -> Result<RowList<'a>, AllocError> {
+        Ok(RowList {
+            paths: Paths {
+                text: Vec::with_capacity(alloc, ROOM * PATH_ROOM)?,
+                ends: Vec::with_capacity(alloc, ROOM)?,
+            },
+            values: Vec::with_capacity(alloc, ROOM)?,
+        })
+    }
+
     /// The rows.
     pub fn list(&self, alloc: Global) -> Result<Vec<Row<'_>>, AllocError> {
         let text = self.paths.text.as_slice();
@@ -209,10 +215,7 @@ pub fn rows<'a>(
         alloc,
         path: Vec::new(alloc),
         open: Vec::new(alloc),
-        rows: RowList {
-            paths: Paths::new(alloc),
-            values: Vec::new(alloc),
-        },
+        rows: RowList::new(alloc)?,
     };
     walk.open.push(Beside {
         path_len: 0,

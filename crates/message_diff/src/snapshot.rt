@@ -4,6 +4,7 @@ ghost use Rattle.std.specs.Prelude.{◌≡◌, IfOk, IfErr, OnOk};
 ghost use Rattle.link_msg.specs.Canonical.{IsRefusal};
 ghost use Rattle.message_diff.specs.Compared.{HasTextBy};
 
+use crate::counters::Cleared;
 use crate::outer::ends_of;
 use link_msg::{CanonError, canonical};
 use link_state::state;
@@ -11,6 +12,7 @@ use message_shown::answers::push_answer;
 use message_shown::context::Order;
 use std::alloc::{AllocError, Global};
 use std::marker::Model;
+use std::mem;
 
 /// What is compared of two messages.
 #[derive(Clone, Copy, Debug, PartialEq, Eq)]
@@ -30,6 +32,7 @@ pub struct Snapshot {
     message: Vec<u8>,
     line: Vec<u8>,
     ends: Vec<usize>,
+    cleared: Cleared,
 }
 
 impl Model for Snapshot {
@@ -75,6 +78,7 @@ impl Snapshot {
             message,
             line: Vec::new(alloc),
             ends: Vec::new(alloc),
+            cleared: Cleared::new(alloc),
         })
     }
 
@@ -135,5 +139,19 @@ impl Snapshot {
         ensures { self.new ≡ self.old }
     {
         self.ends = ends;
+    }
+
+    /// What the state encoding clears of it, as far as that was looked for, which is forgotten here.
+    pub fn take_cleared(&mut self, alloc: Global) -> Cleared
+        ensures { self.new ≡ self.old }
+    {
+        mem::replace(&mut self.cleared, Cleared::new(alloc))
+    }
+
+    /// Keeps what the state encoding clears of it.
+    pub fn keep_cleared(&mut self, cleared: Cleared)
+        ensures { self.new ≡ self.old }
+    {
+        self.cleared = cleared;
     }
 }

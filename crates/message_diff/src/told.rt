@@ -4,7 +4,7 @@ ghost use Rattle.std.specs.Prelude.{◌≡◌, ◌<◌, ◌≤◌, ◌↔◌, Is
 ghost use Rattle.link_msg.specs.Canonical.{IsRefusalOfTwo};
 ghost use Rattle.message_diff.specs.Compared.{TellsIfDiffers};
 
-use crate::counters::without_cleared;
+use crate::counters::Counters;
 use crate::differences::{Change, differences};
 use crate::line::{push_changes, push_head, push_texts};
 use crate::outer::{Outer, apart, members_at};
@@ -79,6 +79,7 @@ fn push_difference(
     words: &[u8],
     old: &Snapshot,
     new: &Snapshot,
+    counters: &mut Counters,
     out: &mut Vec<u8>,
 ) -> Result<Vec<usize>, AllocError>
     ensures { OnOk result (length out.old.items < length out.new.items) }
@@ -96,11 +97,38 @@ fn push_difference(
     let new_list = new_rows.list(alloc)?;
     let mut changes = differences(alloc, old_list.as_slice(), new_list.as_slice())?;
     if new.by() == Compared::State {
-        changes = without_cleared(alloc, old, new, apart.ends.as_slice(), changes)?;
+        changes = counters.leave_out(alloc, old, new, apart.ends.as_slice(), changes)?;
     }
     push_head(out, words, "changed", new.line())?;
     push_differences(alloc, old, new, changes.as_slice(), out)?;
     Ok(apart.into_ends())
+}
+
+/// The same, where what was found of the messages stays with them.
+fn push_known(
+    alloc: Global,
+    words: &[u8],
+    old: &mut Snapshot,
+    new: &mut Snapshot,
+    out: &mut Vec<u8>,
+) -> Result<(), AllocError>
+    ensures said { OnOk result (length out.old.items < length out.new.items) }
+    ensures old_kept { old.new ≡ old.old }
+    ensures new_kept { new.new ≡ new.old }
+{
+    let mut counters = Counters {
+        old: old.take_cleared(alloc),
+        new: new.take_cleared(alloc),
+    };
+    let ends = push_difference(alloc, words, old, new, &mut counters, out)?;
+    let Counters {
+        old: of_old,
+        new: of_new,
+    } = counters;
+    old.keep_cleared(of_old);
+    new.keep_cleared(of_new);
+    new.keep_ends(ends);
+    Ok(())
 }
 
 /// Adds a line that tells what changed of the interface, if its encoding is another, and returns whether it is.
@@ -129,8 +157,7 @@ pub fn push_changed(
     old.show(alloc)?;
     old.find_ends(alloc)?;
     new.show(alloc)?;
-    let ends = push_difference(alloc, words, old, new, out)?;
-    new.keep_ends(ends);
+    push_known(alloc, words, old, new, out)?;
     Ok(true)
 }
 
