@@ -51,7 +51,9 @@ fn doubtful<'a>(side: Side, change: &Change<'a>, may_differ: bool) -> Option<&'a
     match (side, *change) {
         (Side::New, Change::Came(path, value)) if may_be_zero(value) => Some(path),
         (Side::Old, Change::Went(path, value)) if may_be_zero(value) => Some(path),
-        (_, Change::Turned(path, was, is)) if may_be_cleared(path, was, is, may_differ) => Some(path),
+        (_, Change::Turned(path, was, is)) if may_be_cleared(path, was, is, may_differ) => Some(
+            path,
+        ),
         _ => None,
     }
 }

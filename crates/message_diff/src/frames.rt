@@ -12,6 +12,7 @@ use std::alloc::{AllocError, Global};
 
 /// The names of the list of attributes that are shown as they are, and of that of earlier ones of one name.
 const OTHER: &[u8] = b"\"other\":";
+
 const REPEATED: &[u8] = b"\"repeated\":";
 
 /// The name of the number of an attribute that is shown as it is.
@@ -83,7 +84,10 @@ impl Layout {
         let lists = if kept.is_empty() { 0 } else { 1 };
         let first = line.ends.len().saturating_sub(named).saturating_sub(lists);
         let is_header = line.place_of(HEADER, first.saturating_sub(1)) == first.checked_sub(1);
-        if !is_header || line.place_of(HEADER, first).is_some() || line.place_of(REPEATED, 0).is_some() {
+        if !is_header
+            || line.place_of(HEADER, first).is_some()
+            || line.place_of(REPEATED, 0).is_some()
+        {
             return Ok(None);
         }
         Ok(Some(Layout { kept, first }))
@@ -112,7 +116,10 @@ pub fn is_in(path: &[u8], member: &[u8]) -> bool {
     let [_, b'"', rest @ ..] = member else {
         return false;
     };
-    let len = path.iter().position(|byte| *byte == b'.').unwrap_or(path.len());
+    let len = path
+        .iter()
+        .position(|byte| *byte == b'.')
+        .unwrap_or(path.len());
     rest.len() > len && rest[len] == b'"' && rest.starts_with(&path[..len])
 }
 
@@ -161,7 +168,13 @@ pub fn part_of(
     };
     let mut part = message[..start].to_vec(alloc)?;
     let beside = other.get(start..).unwrap_or(b"");
-    if layout.add(attributes, beside, line.ends.len().saturating_sub(1), places, &mut part)? {
+    if layout.add(
+        attributes,
+        beside,
+        line.ends.len().saturating_sub(1),
+        places,
+        &mut part,
+    )? {
         return Ok(Some(Part {
             message: part,
             is_part: true,

@@ -143,11 +143,7 @@ impl<'a> Unlike<'a> {
 }
 
 /// What is not the same in an old text and in a new one.
-pub fn apart<'a>(
-    alloc: Global,
-    old: Outer<'_>,
-    new: &'a [u8],
-) -> Result<Unlike<'a>, AllocError> {
+pub fn apart<'a>(alloc: Global, old: Outer<'_>, new: &'a [u8]) -> Result<Unlike<'a>, AllocError> {
     let mut apart = Unlike {
         old: Vec::new(alloc),
         new: Walk::new(alloc)?,
