@@ -1,7 +1,5 @@
 //! Settings by family.
 
-ghost use Rattle.std.specs.Prelude.{◌≡◌, [], ◌∷◌, OnOk, codes};
-ghost use Rattle.shown.specs.Drafts.{with_value};
 ghost use Rattle.message_shown.specs.Nests.{af_spec_bridge_said};
 ghost use Rattle.message_shown.specs.Settings.{unspec_said, inet_said, inet6_said, mctp_said};
 

@@ -1,6 +1,6 @@
 //! The header, and the attributes of a link.
 
-ghost use Rattle.std.specs.Prelude.{◌≡◌, [], ◌∷◌, OnOk, codes, get_or, is_some, map};
+ghost use Rattle.std.specs.Prelude.{◌≡◌, [], OnOk, codes, get_or, is_some, map};
 ghost use Rattle.std.specs.Int.{w32};
 ghost use Rattle.shown.specs.Drafts.{with_value, with_members};
 ghost use Rattle.nla_wire.specs.Fields.{signed_at};
@@ -54,7 +54,7 @@ pub fn show_header(page: &mut Page, bytes: &[u8]) -> Result<(), AllocError>
 impl Attribute for LinkAttribute {
     ghost said = { attribute_said };
 
-    #[inline]
+    #[inline(always)]
     fn kept_frame(&self, _cx: &Context<'_>) -> Option<KeptFrame<'_>> {
         match self {
             LinkAttribute::Other(nla) | LinkAttribute::ProtoInfoUnknown(nla) => {

@@ -112,6 +112,8 @@ fn has_number<T: Member>(cx: &Context<'_>, item: &T, number: usize) -> bool
 }
 
 /// Whether one of them has this number.
+#[cold]
+#[inline(never)]
 fn comes_in<T: Member>(cx: &Context<'_>, items: &[T], number: usize) -> bool
     ensures { result ≡ comes_in number (map (T.item cx.now) items.now) }
 {
