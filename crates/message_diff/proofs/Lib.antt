@@ -1,3 +1,3 @@
 pub mod Found
 pub mod Steps
-pub mod Told
+pub mod Silent

@@ -14,7 +14,7 @@ use std::collections::BTreeMap;
 use std::io::{Read, Write};
 
 /// Puts the new message of an interface in place of the last one, and adds a line of what changed.
-#[tactic(auto, using(crate::proofs::Told::silent))]
+#[tactic(auto, using(crate::proofs::Silent::silent))]
 fn replace(
     alloc: Global,
     words: &[u8],
