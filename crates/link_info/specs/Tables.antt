@@ -1,8 +1,9 @@
 -- Tables of rows, and the fields of frames by them.
-use Rattle.std.specs.Prelude.{ℕ, ◌==◌, Bool, List, map, Option, None, Some, Result, Ok, Err}
-use Rattle.std.specs.List.{find}
+use Rattle.std.specs.Prelude.{ℕ, ◌==◌, Bool, List, [], ◌∷◌, map, Option, None, Some, Result, Ok, Err}
+use Rattle.std.specs.List.{find, AllByRecursion}
 use Rattle.nla_wire.specs.Frames.{Frame, number}
 use Rattle.nla_wire.specs.Items.{Item}
+use Rattle.nla_wire.specs.Canon.{IsSmall}
 use Rattle.nla_wire.specs.declared.error.Cause.{Cause}
 use Rattle.link_info.specs.declared.style.Row.{Row}
 use Rattle.link_info.specs.declared.style.Style.{Style}
@@ -57,3 +58,13 @@ frame_of k = record { kind = k.kind; payload = payload_as (style_of k.row) k.val
 -- a frame that was read and is written
 abbrev pub rewritten : List Row → Frame → Frame
 rewritten rows f = frame_of (field_of rows f)
+
+-- the frames of items, up to a fault
+abbrev pub frames_in : List Item → List Frame
+frames_in [] = []
+frames_in ((Ok f) ∷ xs) = f ∷ frames_in xs
+frames_in ((Err c) ∷ xs) = []
+
+-- each of them fits when it is written
+abbrev pub AllRewritten : List Row → List Frame → Type 0
+AllRewritten rows fs = AllByRecursion (λ f. IsSmall (rewritten rows f)) fs

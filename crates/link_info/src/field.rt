@@ -7,7 +7,7 @@ ghost use Rattle.std.specs.Iterator.{YieldsFirstBy, item_count};
 ghost use Rattle.nla_wire.specs.Items.{Item, items};
 ghost use Rattle.nla_wire.specs.Gives.{without_place};
 ghost use Rattle.nla_wire.specs.Frames.{number};
-ghost use Rattle.link_info.specs.Meanings.{meaning};
+ghost use Rattle.link_info.specs.Meanings.{meaning, plain_of, ValueFits};
 ghost use Rattle.link_info.specs.Tables.{Known, FieldItem, field_of, fields_of, is_of, style_of};
 
 use crate::read::read;
@@ -32,6 +32,9 @@ impl<'a> Model for Field<'a> {
       kind = s.kind;
       value = meaning s.value;
     } };
+
+    ghost invariant = { λ s.
+        ValueFits (plain_of (style_of (option_map (λ row. row.now) s.row))) (meaning s.value) };
 }
 
 impl<'a> Field<'a> {
@@ -62,9 +65,10 @@ impl<'a> Field<'a> {
         self.kind
     }
 
-    /// Its value.
+    /// Its value, of which the style of its row has bytes.
     pub fn value(&self) -> Value<'a>
-        ensures { meaning result ≡ self.now.value }
+        ensures value { meaning result ≡ self.now.value }
+        ensures fits { ValueFits (plain_of (style_of self.now.row)) (meaning result) }
     {
         self.value
     }
@@ -78,7 +82,7 @@ pub fn row_of(rows: &'static [Row], number: u16) -> Option<&'static Row>
 }
 
 /// The style of a row; bytes where there is none.
-fn style(row: Option<&'static Row>) -> Style
+pub(crate) fn style(row: Option<&'static Row>) -> Style
     ensures { result ≡ style_of (option_map (λ row. row.now) row.entry) }
 {
     match row {

@@ -1,6 +1,6 @@
 //! Numbers of any size.
 
-ghost use Rattle.std.specs.Prelude.{◌≡◌, ◌<◌, ◌^◌, ◌*◌, length};
+ghost use Rattle.std.specs.Prelude.{◌≡◌, ◌<◌, ◌^◌, ◌*◌, length, FitsSigned};
 ghost use Rattle.std.specs.Int.{byte_len, from_le_bytes, from_be_bytes, cast_signed};
 ghost use Rattle.link_info.specs.Styles.{width};
 
@@ -39,7 +39,8 @@ pub(crate) fn network_number(size: Size, bytes: &[u8]) -> u64
 /// The signed number that the bytes are in host order, in two's complement.
 pub(crate) fn signed_number(size: Size, bytes: &[u8]) -> i64
     requires { length bytes.now ≡ byte_len (width size) }
-    ensures { result ≡ cast_signed (width size) (from_le_bytes (width size) bytes.now) }
+    ensures number { result ≡ cast_signed (width size) (from_le_bytes (width size) bytes.now) }
+    ensures fits { FitsSigned (width size) result }
 {
     match size {
         Size::One => bytes[0].cast_signed().into(),

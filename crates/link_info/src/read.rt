@@ -3,8 +3,8 @@
 ghost use Rattle.std.specs.Prelude.{◌≡◌, ◌<◌, ◌==◌, length};
 ghost use Rattle.nla_wire.specs.Payloads.{address_of_octets, IsTextOf};
 ghost use Rattle.nla_wire.specs.Items.{items};
-ghost use Rattle.link_info.specs.Styles.{plain_size, record_size, is_multiple, are_frames, are_frames_of};
-ghost use Rattle.link_info.specs.Meanings.{meaning, plain_meaning, text_meaning, read_as};
+ghost use Rattle.link_info.specs.Styles.{form, plain_size, record_size, is_multiple, are_frames, are_frames_of};
+ghost use Rattle.link_info.specs.Meanings.{meaning, plain_meaning, plain_of, text_meaning, read_as, ValueFits};
 
 use crate::number::{host_number, network_number, signed_number};
 use crate::style::{Member, Plain, Style};
@@ -42,7 +42,8 @@ fn ipv6(bytes: &[u8]) -> Ipv6Addr
 /// Reads a value of a fixed size, which the bytes have.
 pub fn read_plain(plain: Plain, bytes: &[u8]) -> Value<'_>
     requires { length bytes.now ≡ plain_size plain }
-    ensures { meaning result ≡ plain_meaning plain bytes.now }
+    ensures meaning { meaning result ≡ plain_meaning plain bytes.now }
+    ensures fits { ValueFits (form plain) (meaning result) }
 {
     match plain {
         Plain::Unsigned(size) | Plain::Named(size, _) | Plain::Flags(size, _) => {
@@ -131,7 +132,8 @@ fn read_text(bytes: &[u8]) -> Value<'_>
 
 /// Reads a payload as its style says, and keeps the bytes of one that is not of this form.
 pub fn read<'a>(style: Style, payload: &'a [u8]) -> Value<'a>
-    ensures { meaning result ≡ read_as style payload.now }
+    ensures meaning { meaning result ≡ read_as style payload.now }
+    ensures fits { ValueFits (plain_of style) (meaning result) }
 {
     match style {
         Style::Flag if payload.is_empty() => Value::Flag,
