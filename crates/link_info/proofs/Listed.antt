@@ -1,14 +1,16 @@
 -- Lists of attributes that are read by a table, and written.
 use Rattle.std.proofs.Common.{◌≡◌, ℕ, List, [], ◌∷◌, ◌++◌, map, None, Ok, refl, ap, ◌∙◌}
 use Rattle.std.specs.List.{AllByRecursion}
+use Rattle.std.proofs.lemmas.List.{map-id}
 use Rattle.nla_wire.specs.Frames.{Frame, Frames, IsBytes, number}
-use Rattle.nla_wire.specs.Items.{items, items_of}
+use Rattle.nla_wire.specs.Items.{Item, items, items_of}
 use Rattle.nla_wire.specs.Canon.{canon, canons}
 use Rattle.nla_wire.proofs.Cuts.{cut_frames}
 use Rattle.nla_wire.proofs.Back.{canons_frames}
 use Rattle.link_info.specs.declared.style.Row.{Row}
-use Rattle.link_info.specs.Tables.{FieldItem, row_at, style_of, field_of, fields_of, read_field, rewritten}
-use Rattle.link_info.specs.Laws.{IsCanonicalFrame, OneFieldEach, ListAsItWas, ListReadAgain}
+use Rattle.link_info.specs.Tables.{FieldItem, row_at, style_of, field_of, fields_of, read_field, frames_in}
+use Rattle.link_info.specs.Tables.{rewritten}
+use Rattle.link_info.specs.Laws.{IsCanonicalFrame, OneFieldEach, ListAsItWas, ListReadAgain, RewrittenAsItWas}
 use Rattle.link_info.proofs.Styles.{written_as_it_was, read_again}
 
 items_frames : (b : List ℕ) (fs : List Frame) → Frames b fs → items b ≡ items_of fs None
@@ -53,3 +55,14 @@ pub list_read_again : ListReadAgain
 list_read_again rows fs small fit =
     one_field_each rows (canons (rewritten rows) fs) (map (rewritten rows) fs) (canons_frames (rewritten rows) fs fit)
     ∙ fields_again rows fs small
+
+frames_again : (fs : List Frame) → frames_in (items_of fs None) ≡ fs
+frames_again [] = refl
+frames_again (f ∷ fs) = ap (λ (gs : List Frame). f ∷ gs) (frames_again fs)
+
+pub rewritten_as_it_was : RewrittenAsItWas
+rewritten_as_it_was rows fs fit canonical =
+    let read = items_frames (canons (λ f. f) fs) (map (λ f. f) fs) (canons_frames (λ f. f) fs fit) in
+    ap (λ (xs : List Item). canons (rewritten rows) (frames_in xs)) read
+    ∙ ap (λ (gs : List Frame). canons (rewritten rows) (frames_in (items_of gs None))) (map-id fs)
+    ∙ ap (canons (rewritten rows)) (frames_again fs) ∙ list_as_it_was rows fs canonical

@@ -8,7 +8,7 @@ use Rattle.nla_wire.specs.Payloads.{EndsInNul}
 use Rattle.link_info.specs.declared.style.Style.{Style}
 use Rattle.link_info.specs.declared.style.Style.TheVariants as S
 use Rattle.link_info.specs.declared.style.Row.{Row}
-use Rattle.link_info.specs.Tables.{row_at, style_of, fields_of, read_field, rewritten}
+use Rattle.link_info.specs.Tables.{row_at, style_of, fields_of, read_field, frames_in, rewritten}
 use Rattle.link_info.specs.Meanings.{read_as, payload_as}
 
 -- there is one way to write what it means: a text has a NUL at its end
@@ -53,3 +53,9 @@ abbrev pub ListReadAgain : Type 0
 ListReadAgain = (rows : List Row) (fs : List Frame) → AllByRecursion (λ f. IsBytes f.payload) fs
     → AllByRecursion (λ f. IsWritable (rewritten rows f)) fs
     → fields_of rows (items (canons (rewritten rows) fs)) ≡ map (read_field rows) fs
+
+-- canonical encoding of frames that it can be had of is rewritten as it was
+abbrev pub RewrittenAsItWas : Type 0
+RewrittenAsItWas = (rows : List Row) (fs : List Frame) → AllByRecursion (λ f. IsWritable f) fs
+    → AllByRecursion (IsCanonicalFrame rows) fs
+    → canons (rewritten rows) (frames_in (items (canons (λ f. f) fs))) ≡ canons (λ f. f) fs

@@ -1,6 +1,7 @@
 //! Laws of reading and writing: functions that do nothing, whose contracts are laws over the definitions alone.
 
 ghost use Rattle.link_info.specs.Laws.{WrittenAsItWas, ReadAgain, OneFieldEach, ListAsItWas, ListReadAgain};
+ghost use Rattle.link_info.specs.Laws.{RewrittenAsItWas};
 
 /// What was read and is written is the payload that it was, where a text ended in a NUL. It holds of each style.
 pub fn law_written()
@@ -25,4 +26,9 @@ pub fn law_list_written()
 /// A list that was read and is written, where each value fits, is read as the same fields.
 pub fn law_list_read_again()
     ensures { ListReadAgain }
+{}
+
+/// `rewrite` returns bytes in canonical encoding as they were, where each payload is canonical: a text ends in a NUL.
+pub fn law_rewritten()
+    ensures { RewrittenAsItWas }
 {}

@@ -1,9 +1,10 @@
 //! Fields written as attributes: what was read by a table goes back to bytes.
 
-ghost use Rattle.std.specs.Prelude.{◌≡◌, ◌++◌, ◌⊎◌, true, false, IfOk, IfErr};
+ghost use Rattle.std.specs.Prelude.{◌≡◌, ◌++◌, ◌⊎◌, false, IfOk, IfErr};
 ghost use Rattle.nla_wire.specs.Items.{items};
 ghost use Rattle.nla_wire.specs.Canon.{canon, canons, IsSmall};
 ghost use Rattle.link_info.specs.Styles.{are_frames};
+ghost use Rattle.link_info.specs.Built.{AreWhole};
 ghost use Rattle.link_info.specs.Tables.{frame_of, frames_in, rewritten, AllRewritten};
 ghost use Rattle.link_info.specs.declared.info.InfoError.TheVariants as why;
 
@@ -57,13 +58,14 @@ pub fn push_field(alloc: Global, out: &mut Vec<u8>, field: &Field<'_>) -> Result
 }
 
 /// The attributes of these bytes, read by the rows of their place and written one after the other, in canonical
-/// encoding. Bytes in canonical encoding whose texts end in a NUL come back as they were (`law_list_written`), and
-/// what is returned is read as the same fields (`law_list_read_again`).
+/// encoding. Bytes in canonical encoding whose texts end in a NUL come back as they were (`law_rewritten`), and what is
+/// returned is read as the same fields (`law_list_read_again`).
 ///
 /// Refuses bytes that are no whole attributes with `Damaged`, and a payload that would have more than 65531 bytes, as a
 /// text so long without a NUL, with `TooLong`; or there is no memory.
+#[tactic(auto, using(crate::proofs::Kept::whole_frames))]
 pub fn rewrite(alloc: Global, rows: &'static [Row], bytes: &[u8]) -> Result<Vec<u8>, InfoError>
-    ensures whole { IfOk result (λ _. are_frames (items bytes.now) ≡ true) }
+    ensures whole { IfOk result (λ _. AreWhole bytes.now (frames_in (items bytes.now))) }
     ensures written { IfOk result
         (λ out. out.items ≡ canons (rewritten rows.now) (frames_in (items bytes.now))) }
     ensures fit { IfOk result (λ _. AllRewritten rows.now (frames_in (items bytes.now))) }
