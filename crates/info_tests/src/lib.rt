@@ -13,3 +13,5 @@ mod memory;
 mod styles;
 #[cfg(test)]
 mod values;
+#[cfg(test)]
+mod written;

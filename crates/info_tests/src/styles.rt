@@ -3,7 +3,8 @@
 use crate::values::are_same;
 use link_info::holds::holds;
 use link_info::laws::{
-    law_list_read_again, law_list_written, law_one_field_each, law_read_again, law_written,
+    law_list_read_again, law_list_written, law_one_field_each, law_read_again, law_rewritten,
+    law_written,
 };
 use link_info::read::{read, read_plain};
 use link_info::write::push_payload;
@@ -340,4 +341,5 @@ fn laws_are_called(_rt: HostRuntime) {
     law_one_field_each();
     law_list_written();
     law_list_read_again();
+    law_rewritten();
 }
