@@ -100,7 +100,7 @@ fn what_is_not_canonical_becomes_so(rt: HostRuntime) {
 #[test]
 fn damaged_bytes_are_not_rewritten(rt: HostRuntime) {
     let alloc = rt.alloc();
-    for len in [1, 3, 6, 9, 13] {
+    for len in [1, 3, 5, 9, 13] {
         assert!(rt; matches!(rewrite(alloc, ROWS, &LOOSE[..len]), Err(InfoError::Damaged)));
     }
 }
