@@ -9,7 +9,8 @@ ghost use Rattle.link_c.specs.Paths.{IsLookAlong};
 
 use crate::list::{Attribute, next_attribute, put_attribute};
 use crate::message::{
-    are_alike, check_message, have_same_state, look_for_fault, encoding_len, write_state, write_encoding,
+    are_alike, check_message, encoding_len, have_same_state, look_for_fault, write_encoding,
+    write_state,
 };
 use crate::path::{Path, look_along};
 use crate::refusal::{done_code, fault_code, length_code, whether_code};

@@ -424,8 +424,8 @@ af_spec Families.Unspec = shaping base attribute_view NotEmptyPorts kernel.IFLA_
     (by_shape Shapes.Unspecs) Attributes.AfSpecUnspec (λ a. refl) (λ a good. tt)
 af_spec Families.Bridge = shaping base attribute_view NotEmptyPorts kernel.IFLA_AF_SPEC
     (by_shape Shapes.Bridges) Attributes.AfSpecBridge (λ a. refl) (λ a good. tt)
-af_spec _ =
-    shaping base attribute_view NotEmptyPorts kernel.IFLA_AF_SPEC bytes Attributes.AfSpecUnknown (λ a. refl) (λ a good. tt)
+af_spec _ = shaping base attribute_view NotEmptyPorts kernel.IFLA_AF_SPEC
+    bytes Attributes.AfSpecUnknown (λ a. refl) (λ a good. tt)
 
 -- ** the place
 

@@ -245,9 +245,9 @@ pub(crate) enum View<'a> {
     Unspecs(&'a [AfSpecUnspec]),
 }
 
-/// A row for each variant, in their order, for `view` and `CloneIn`: how it is copied, its name, what it holds, its kind
-/// with both flag bits, and what its value is written from. `plain` is copied as it is, `held` with memory, and `mask`
-/// is a list of flags.
+/// A row for each variant, in their order, for `view` and `CloneIn`: how it is copied, its name, what it holds, its
+/// kind with both flag bits, and what its value is written from. `plain` is copied as it is, `held` with memory, and
+/// `mask` is a list of flags.
 macro_rules! variants {
     ($then:ident) => {
         $then! {

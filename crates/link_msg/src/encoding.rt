@@ -269,9 +269,9 @@ pub fn canonical_within(input: &[u8], out: &mut [u8]) -> Result<usize, RoomError
 /// Writes what the bytes mean, in canonical encoding, to the front of the buffer, without memory, and returns its
 /// length. The rest of the buffer is kept.
 ///
-/// The buffer has room for the encoding: `growth_per_byte` times as many bytes as the input are enough, and so are those
-/// that `canonical_len` returns. Returns exactly what `canonical` returns with ample memory, and never `OutOfMemory`.
-/// After a refusal the buffer is unchanged. The message must not change during the call.
+/// The buffer has room for the encoding: `growth_per_byte` times as many bytes as the input are enough, and so are
+/// those that `canonical_len` returns. Returns exactly what `canonical` returns with ample memory, and never
+/// `OutOfMemory`. After a refusal the buffer is unchanged. The message must not change during the call.
 pub fn canonical_into(input: &[u8], out: &mut [u8]) -> Result<usize, CanonError>
     requires { HoldsText input.now (length out.old) }
     ensures { IsWritten input.now out.old out.new result }

@@ -230,8 +230,8 @@ impl Shape {
         }
     }
 
-    /// The length of the encoding of the value that a payload of this shape means, with no memory; `None` where the value
-    /// does not fit, or the payload is refused.
+    /// The length of the encoding of the value that a payload of this shape means, with no memory; `None` where the
+    /// value does not fit, or the payload is refused.
     #[tactic(auto, unfolding(nla_wire::specs::Payloads::read_text, nla_wire::specs::Payloads::read_number))]
     #[inline(always)]
     pub(crate) fn measure(self, payload: &[u8]) -> Option<usize>

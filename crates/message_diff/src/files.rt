@@ -44,8 +44,8 @@ fn stored<R: Read, W: Write>(
     Ok(watch.into_store())
 }
 
-/// Compares the last messages of each interface that two readers give, and writes what came, went or changed. What has a
-/// fault is told first.
+/// Compares the last messages of each interface that two readers give, and writes what came, went or changed. What has
+/// a fault is told first.
 pub fn compare_readers<R: Read, W: Write>(
     alloc: Global,
     by: Compared,

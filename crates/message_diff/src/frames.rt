@@ -63,8 +63,8 @@ fn kept_numbers(alloc: Global, line: Outer<'_>) -> Result<Vec<u16>, AllocError> 
     Ok(numbers)
 }
 
-/// Which members are shown of which attributes: those after the header's, in order, of one attribute each, but for those
-/// that are shown as they are.
+/// Which members are shown of which attributes: those after the header's, in order, of one attribute each, but for
+/// those that are shown as they are.
 #[derive(Drop)]
 struct Layout {
     kept: Vec<u16>,
@@ -141,8 +141,8 @@ pub struct Part {
     pub is_part: bool,
 }
 
-/// The message with only those attributes that are not as in the other one, which has them at the same places, and whose
-/// members stand at these places of the other one's line; nothing where there are none.
+/// The message with only those attributes that are not as in the other one, which has them at the same places, and
+/// whose members stand at these places of the other one's line; nothing where there are none.
 ///
 /// An attribute is shown as it is alone, but for the length of the link's address: this stays, and where the list of
 /// those that are shown as they are stands at one of the places, all of them. Where it does not show which attribute is

@@ -1,5 +1,5 @@
-//! What differs between two link messages, by the members that linkshow shows of them, and what lines of messages tell of
-//! interfaces.
+//! What differs between two link messages, by the members that linkshow shows of them, and what lines of messages tell
+//! of interfaces.
 #![tactic(auto)]
 
 mod counters;

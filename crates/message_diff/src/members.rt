@@ -245,9 +245,9 @@ impl<'a> Walk<'a> {
         }
     }
 
-    /// Passes a member of the outermost object at the front of a text, with all that is in it, and the comma or the brace
-    /// in front of it, and returns how many bytes that was. The text is as `Shown` writes it, on one line, with no blank
-    /// between its parts.
+    /// Passes a member of the outermost object at the front of a text, with all that is in it, and the comma or the
+    /// brace in front of it, and returns how many bytes that was. The text is as `Shown` writes it, on one line, with
+    /// no blank between its parts.
     pub fn outer(&mut self, text: &'a [u8]) -> Result<usize, AllocError>
         ensures { IfOk result (λ n. n ≤ length text.now) }
     {

@@ -32,7 +32,7 @@ fn replace(
     Ok(())
 }
 
-/// The last message of each interface, and what is told of the next one.
+/// The last message of each interface, and what the next one changes.
 #[derive(Drop)]
 pub struct Watch {
     reader: LineReader,
@@ -56,7 +56,7 @@ impl Watch {
         last
     }
 
-    /// Forgets an interface, and adds a line, if it was known or is told of by this message.
+    /// Forgets an interface, and adds a line, if it was known or this message has it.
     fn forget(
         &mut self,
         alloc: Global,

@@ -16,7 +16,8 @@ use Rattle.json.specs.Token.{Token}
 use Rattle.shown.specs.Drafts.{Draft, Members, Ends, with_value, with_begun, with_members, object_of, list_of}
 use Rattle.shown.specs.declared.page.Nest.TheVariants.{Object, List as Items}
 use Rattle.shown.proofs.Drafts.{list_ended, object_ended}
-use Rattle.message_shown.specs.Places.{Item, Said, Kept, item_of, kept_of, shown_of, kept_in, shown_as, number_in, has_number, comes_in}
+use Rattle.message_shown.specs.Places.{Item, Said, Kept, item_of, kept_of, shown_of, kept_in, shown_as, number_in}
+use Rattle.message_shown.specs.Places.{has_number, comes_in}
 use Rattle.message_shown.specs.Places.{last_ones, earlier_ones, named_ones, kept_ones, objects, TellsLast}
 use Rattle.message_shown.specs.Places.{are_any, list_under, values_of}
 use Rattle.message_shown.specs.Causes.{AddsMembers}

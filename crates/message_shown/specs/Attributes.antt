@@ -56,11 +56,13 @@ bits_of masks = fold (λ bits mask. bit_or bits (link_extent_mask_number mask)) 
 
 -- the kinds of a link and their data
 abbrev pub info_shown : Context → List ℕ → List LinkInfo → Members
-info_shown cx name infos = (name, object_of (members_of (items_of link_info_place.frame (link_info_said (with_kinds cx infos)) infos))) ∷ []
+info_shown cx name infos =
+    (name, object_of (members_of (items_of link_info_place.frame (link_info_said (with_kinds cx infos)) infos))) ∷ []
 
 -- a list of attributes, as an object
 abbrev pub list_shown : Context → List ℕ → LinkAttribute → Members
-list_shown cx name (Attributes.ProtoInfoBridge items) = (name, object_of (members_of (items_of link_proto_info_bridge_place.frame (bridge_said cx) items))) ∷ []
+list_shown cx name (Attributes.ProtoInfoBridge items) =
+    (name, object_of (members_of (items_of link_proto_info_bridge_place.frame (bridge_said cx) items))) ∷ []
 list_shown cx name (Attributes.ProtoInfoInet6 items) =
     (name, object_of (members_of (items_of link_proto_info_inet6_place.frame (proto_inet6_said cx) items))) ∷ []
 list_shown cx name (Attributes.LinkInfo items) = info_shown cx name items
@@ -71,13 +73,18 @@ list_shown cx name (Attributes.VfPorts entries) =
 list_shown cx name (Attributes.PortSelf port) = (name, object_of (port_members cx port)) ∷ []
 list_shown cx name (Attributes.AfSpecBridge items) =
     (name, object_of (members_of (items_of af_spec_bridge_place.frame (af_spec_bridge_said cx) items))) ∷ []
-list_shown cx name (Attributes.AfSpecUnspec items) = (name, object_of (members_of (items_of af_spec_unspec_place.frame (unspec_said cx) items))) ∷ []
-list_shown cx name (Attributes.Xdp items) = (name, object_of (members_of (items_of xdp_place.frame xdp_said items))) ∷ []
+list_shown cx name (Attributes.AfSpecUnspec items) =
+    (name, object_of (members_of (items_of af_spec_unspec_place.frame (unspec_said cx) items))) ∷ []
+list_shown cx name (Attributes.Xdp items) =
+    (name, object_of (members_of (items_of xdp_place.frame xdp_said items))) ∷ []
 list_shown cx name (Attributes.PropList items) =
     (name, object_of (listed_under (codes "alt-ifname") (items_of prop_place.frame prop_said items))) ∷ []
-list_shown cx name (Attributes.ProtoDownReason items) = (name, object_of (members_of (items_of down_reason_place.frame down_reason_said items))) ∷ []
-list_shown cx name (Attributes.DevlinkPort items) = (name, object_of (members_of (items_of devlink_port_place.frame devlink_port_said items))) ∷ []
-list_shown cx name (Attributes.DpllPin items) = (name, object_of (members_of (items_of dpll_pin_place.frame dpll_pin_said items))) ∷ []
+list_shown cx name (Attributes.ProtoDownReason items) =
+    (name, object_of (members_of (items_of down_reason_place.frame down_reason_said items))) ∷ []
+list_shown cx name (Attributes.DevlinkPort items) =
+    (name, object_of (members_of (items_of devlink_port_place.frame devlink_port_said items))) ∷ []
+list_shown cx name (Attributes.DpllPin items) =
+    (name, object_of (members_of (items_of dpll_pin_place.frame dpll_pin_said items))) ∷ []
 list_shown cx name _ = []
 
 -- a record, flags, an id, or a list

@@ -123,7 +123,10 @@ vf_info_said cx (Infos.IbNodeGuid v) =
 vf_info_said cx (Infos.IbPortGuid v) =
     Said.named ((codes "ib-port-guid", object_of (guid_shown v)) ∷ [])
 vf_info_said cx (Infos.VlanList items) =
-    Said.named ((codes "vlan-list", object_of (listed_under (codes "info") (items_of vf_vlan_place.frame vf_vlan_said items))) ∷ [])
+    Said.named ((
+      codes "vlan-list",
+      object_of (listed_under (codes "info") (items_of vf_vlan_place.frame vf_vlan_said items)),
+    ) ∷ [])
 vf_info_said cx (Infos.Broadcast v) =
     Said.named ((codes "broadcast", function_address cx v.addr) ∷ [])
 vf_info_said cx (Infos.Other nla) = kept_said nla

@@ -4,7 +4,8 @@ ghost use Rattle.std.specs.Prelude.{◌≡◌, ◌==◌, ◌+◌, ◌-◌, ◌<�
 ghost use Rattle.std.specs.Prelude.{cond, drop, length, nat_lt, not, set, slice_index};
 ghost use Rattle.std.specs.List.{flat_map};
 ghost use Rattle.shown.specs.Drafts.{with_members, with_value, object_of, list_of};
-ghost use Rattle.message_shown.specs.Places.{Item, Said, Kept, item_of, shown_of, kept_of, shown_as, kept_in, number_in};
+ghost use Rattle.message_shown.specs.Places.{Item, Said, Kept, item_of, shown_of, kept_of, shown_as, kept_in};
+ghost use Rattle.message_shown.specs.Places.{number_in};
 ghost use Rattle.message_shown.specs.Places.{are_any};
 ghost use Rattle.message_shown.specs.Places.{comes_in, has_number};
 ghost use Rattle.message_shown.specs.Places.{last_ones, earlier_ones, named_ones, kept_ones};

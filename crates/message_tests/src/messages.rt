@@ -85,7 +85,10 @@ fn refusals_have_numbers(rt: HostRuntime) {
 #[test]
 fn refusals_for_want_of_room_are_printed(rt: HostRuntime) {
     for (refusal, wanted) in [
-        (RoomError::NoRoom { wanted: 24 }, "the canonical encoding has 24 bytes"),
+        (
+            RoomError::NoRoom { wanted: 24 },
+            "the canonical encoding has 24 bytes",
+        ),
         (
             RoomError::from(CanonError::DoesNotFit),
             "the message does not fit",

@@ -30,7 +30,8 @@ loop-row-preserved c =
             old_told = subst (λ (cs : List Change). All (IsOldTold new cs) old) (sym made)
                 (all_old_kept new changes change old c.loop-row.invariant.old_told);
             new_told = subst (λ (cs : List Change). All (IsNewTold old cs) (take (i + 1) new)) (sym made)
-                (all_more (IsNewTold old (changes ++ change ∷ [])) new i row c.loop-row-test.true (row_is new i c.loop-row-test.true)
+                (all_more (IsNewTold old (changes ++ change ∷ [])) new i row c.loop-row-test.true
+                (row_is new i c.loop-row-test.true)
                 (all_new_kept old changes change (take i new) c.loop-row.invariant.new_told)
                 (came_told old changes row change path));
           }

@@ -23,9 +23,11 @@ loop-row-preserved c =
           record {
             real = subst (λ (cs : List Change). All (IsReal old new) cs) (sym made)
                 (All-push (IsReal old new) changes change c.loop-row.invariant.real
-                (real_of old new i row c.loop-row-test.true (row_is old i c.loop-row-test.true) change w.in-Some.ensures));
+                (real_of old new i row c.loop-row-test.true
+                (row_is old i c.loop-row-test.true) change w.in-Some.ensures));
             told = subst (λ (cs : List Change). All (IsOldTold new cs) (take (i + 1) old)) (sym made)
-                (all_more (IsOldTold new (changes ++ change ∷ [])) old i row c.loop-row-test.true (row_is old i c.loop-row-test.true)
+                (all_more (IsOldTold new (changes ++ change ∷ [])) old i row c.loop-row-test.true
+                (row_is old i c.loop-row-test.true)
                 (all_old_kept new changes change (take i old) c.loop-row.invariant.told)
                 (old_told new changes row change w.in-Some.ensures));
           }

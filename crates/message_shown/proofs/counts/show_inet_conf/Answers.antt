@@ -23,7 +23,8 @@ returns c =
     let begun = with_begun c.args.name.now Object c.args.page.now in
     let filled : c.show_fields.new.page ≡ with_members first begun =
     c.in_ok-show_fields.ensures
-    ∙ (λ k. with_members (signed_of (map (λ name. name.now) INET_CONF) (c.words.ensures k)) (c.in_ok-begin.ensures k)) in
+    ∙ (λ k. with_members (signed_of (map (λ name. name.now) INET_CONF) (c.words.ensures k))
+    (c.in_ok-begin.ensures k)) in
     on_ok_weaker c.end.result (λ ends. object_ended c.args.name.now (first ++ reserved) c.args.page.now _ _
     (both_added first reserved begun _ _ filled
     (c.in_ok-show_reserved_signed.ensures

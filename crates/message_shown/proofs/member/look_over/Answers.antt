@@ -46,7 +46,8 @@ loop-i-preserved g c =
               (
                 ap (λ table. repeats table rest || c.match-number.is_any_repeated) table
                     ∙ ap (λ b. repeats (cond (nat_lt m 128) (set c.loop-i.last m i) c.loop-i.last) rest || b)
-                    (w.is_any_repeated-is ∙ ap (λ b. c.loop-i.is_any_repeated || b) w.note-is_any_repeated.ensures.found)
+                    (w.is_any_repeated-is
+                    ∙ ap (λ b. c.loop-i.is_any_repeated || b) w.note-is_any_repeated.ensures.found)
                     ∙ repeats_noted (f x) m i c.loop-i.last rest c.loop-i.is_any_repeated size
                     (λ e. search rules) number,
                 ap (λ b. are_any (kept_ones rest) || b) w.is_any_kept-is
