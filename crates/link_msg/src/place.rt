@@ -30,7 +30,7 @@ use nla_wire::{
 use std::alloc::Global;
 
 /// Adds a value in the room after the last one, or what was read as this variant. A call of a function would cost 4
-/// percent, since its result is looked at again. For the proof: with a `?` in each arm it takes half as long again.
+/// percent, since its result is looked at again; for the proof: with a `?` in each arm it takes half as long again.
 macro_rules! push {
     ($values:ident, $value:expr $(,)?) => {{
         $values.push_reserved($value);

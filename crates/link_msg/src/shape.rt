@@ -314,8 +314,7 @@ impl Shape {
     }
 }
 
-/// Whether a payload is a truth value, and the fault if not. It is a function of its own for the proof: as an arm of
-/// `check` it is not proved.
+/// Whether a payload is a truth value, and the fault if not; for the proof: as an arm of `check` it is not proved.
 fn check_truth(payload: &[u8]) -> Result<(), DecodeError>
     ensures { ShapeChecks base Shapes.Truth payload.now result }
 {
