@@ -59,6 +59,21 @@ KEPT = {
     8: "cost", 9: "priority", 12: "protinfo", 15: "weight", 26: "af-spec", 42: "pad", 53: "alt-ifname",
     66: "max-pacing-offload-horizon", 68: "headroom",
 }
+# those of numbers whose attributes are kept at inner places: of devlink's port, and of dpll's pin
+PORT = dict(enumerate(
+    "port-type port-desired-type port-netdev-ifindex port-netdev-name port-ibdev-name port-split-count "
+    "port-split-group".split(), 4,
+)) | {
+    77: "port-flavour", 78: "port-number", 79: "port-split-subport-number", 127: "port-pci-pf-number",
+    128: "port-pci-vf-number", 145: "port-function", 147: "port-lanes", 148: "port-splittable", 149: "port-external",
+    150: "port-controller-number", 164: "port-pci-sf-number",
+}
+PIN = dict(enumerate(
+    "parent-id module-name pad clock-id board-label panel-label package-label type direction frequency "
+    "frequency-supported frequency-min frequency-max prio state capabilities parent-device parent-pin "
+    "phase-adjust-min phase-adjust-max phase-adjust phase-offset fractional-frequency-offset esync-frequency "
+    "esync-frequency-supported esync-pulse reference-sync".split(), 2,
+))
 FLAGS = (
     "up broadcast debug loopback point-to-point no-trailers running no-arp promisc all-multi master slave multicast "
     "portsel auto-media dynamic lower-up dormant echo"
@@ -140,14 +155,15 @@ def fault(attributes, name, at, offset, before, **numbers):
     row(header(0) + attributes, answer)
 
 
-def kept(number, payload="", flags=()):
-    return {"number": number, "flags": list(flags), "payload": payload}
+def kept(number, payload="", flags=(), name=None):
+    """An attribute that is kept, with the name of its number, if it has one."""
+    named = {"name": name} if name else {}
+    return {"number": number, **named, "flags": list(flags), "payload": payload}
 
 
 def unread(number, payload="", flags=()):
-    """One that is kept at the outermost place, with the name that its number has."""
-    named = {"name": KEPT[number]} if number in KEPT else {}
-    return {"number": number, **named, "flags": list(flags), "payload": payload}
+    """One that is kept at the outermost place."""
+    return kept(number, payload, flags, KEPT.get(number))
 
 
 def counted(names, start=1):
@@ -227,9 +243,9 @@ def lists():
     message(attr(52, attr(9), attr(53, b"a\0")), {"prop-list": {"alt-ifname": ["a"], "other": [kept(9)]}})
     message(attr(52), {"prop-list": {"alt-ifname": []}})
     port = attr(1, b"pci\0") + attr(2, b"0\0") + attr(3, u32(7)) + attr(4, b"\1")
-    names = {"bus-name": "pci", "dev-name": "0", "port-index": 7, "other": [kept(4, "01")]}
+    names = {"bus-name": "pci", "dev-name": "0", "port-index": 7, "other": [kept(4, "01", name="port-type")]}
     message(attr(62 | 0x8000, port), {"devlink-port": names})
-    message(attr(65 | 0x8000, attr(1, u32(9)), attr(2)), {"dpll-pin": {"id": 9, "other": [kept(2)]}})
+    message(attr(65 | 0x8000, attr(1, u32(9)), attr(2)), {"dpll-pin": {"id": 9, "other": [kept(2, name="parent-id")]}})
     reasons = attr(1, u32(3)) + attr(2, u32(1)) + attr(3)
     message(attr(55, reasons), {"proto-down-reason": {"mask": 3, "value": 1, "other": [kept(3)]}})
     for number, name in enumerate("none drv skb hw multi".split()):
@@ -263,7 +279,7 @@ def functions():
         records.append((5, u32(1, number), {"link-state": {"vf": 1, "link-state": state}}))
     counts = "rx-packets tx-packets rx-bytes tx-bytes broadcast multicast".split()
     stats = b"".join(attr(i, u64(1 + i)) for i in range(6)) + attr(7, u64(7)) + attr(8, u64(8)) + attr(6)
-    known = {**counted(counts), "rx-dropped": 7, "tx-dropped": 8, "other": [kept(6)]}
+    known = {**counted(counts), "rx-dropped": 7, "tx-dropped": 8, "other": [kept(6, name="pad")]}
     records.append((8, stats, {"stats": known}))
     tags = [(0x8100, "8021q"), (0x88A8, "8021ad")]
     vlans = b"".join(attr(1, u32(1, 2, 3), struct.pack(">HH", number, 0)) for number, _ in tags) + attr(2)
@@ -285,7 +301,7 @@ def families():
         (attr(1, u32(0x800000F1)), {"flags": ["ra-otherconf", "ra-managed", "ra-rcvd", "rs-sent", "ready", 1]}),
         (attr(2, u32(*range(-60, 0))), {"conf": counted(INET6, -60)}),
         (attr(3, u64(*range(1, 40))), {"stats": list(range(1, 40))}),
-        (attr(4), {"other": [kept(4)]}),
+        (attr(4), {"other": [kept(4, name="mcast")]}),
         (attr(5, u32(1, 2, 3, -4)), {"cacheinfo": times}),
         (attr(6, u64(*range(1, 8))), {"icmp6-stats": counted(ICMP6_STATS)}),
         (attr(7, bytes(15) + b"\1"), {"token": "::1"}),
@@ -538,7 +554,7 @@ def link_data():
     members = {"protocol": 0x1234, "id": "07000000", "other": [kept(9, "0102")]}
     info(vlan, attr(2, attr(5, b"\x12\x34"), attr(9, b"\1\2"), attr(1, u32(7))), kind="vlan", data=members)
     # a kind that has no data, data that have no kind, data that are no attributes, and none
-    unknown = [kept(2, attr(1, u16(1)).hex())]
+    unknown = [kept(2, attr(1, u16(1)).hex(), name="data")]
     info(attr(1, b"dummy\0"), attr(2, attr(1, u16(1))), kind="dummy", other=unknown)
     info(attr(2, attr(1, u16(1))), other=unknown)
     info(vlan, attr(2, b"\1\2\3"), kind="vlan", data="010203")
@@ -566,6 +582,27 @@ def link_data():
     message(vlans, {"af-spec": members}, family=7)
     trees = attr(26, attr(6, attr(1, attr(1, u16(3)), attr(2, b"\3"))))
     message(trees, {"af-spec": {"mst": {"entry": {"msti": 3, "state": "forwarding"}}}}, family=7)
+
+
+def names_of_kept():
+    """Adds attributes that are kept at inner places, and whose numbers have names there, and their neighbours."""
+    for place, name, names, read in ((62, "devlink-port", PORT, (1, 2, 3)), (65, "dpll-pin", PIN, (1,))):
+        near = {it for number in names for it in (number - 1, number, number + 1)} - set(read)
+        for number in sorted(near):
+            message(attr(place, attr(number, b"\1")), {name: {"other": [kept(number, "01", name=names.get(number))]}})
+    for number, flags in ((2 | 0x8000, ["nested"]), (2 | 0x4000, ["net-byteorder"])):
+        message(attr(65, attr(number)), {"dpll-pin": {"other": [kept(2, "", flags, "parent-id")]}})
+    for kind in ("dummy", "bridge_slave"):
+        for number, name in ((2, "data"), (3, "xstats"), (5, "slave-data"), (6, None)):
+            members = {"kind": kind, "other": [kept(number, "0102", name=name)]}
+            message(attr(18, attr(1, kind.encode() + b"\0"), attr(number, b"\1\2")), {"linkinfo": members})
+    # a kind that has data has no counters, but can
+    members = {"kind": "vlan", "other": [kept(3, "", name="xstats"), kept(5, "", ["nested"], "slave-data")]}
+    message(attr(18, attr(1, b"vlan\0"), attr(3), attr(5 | 0x8000)), {"linkinfo": members})
+    members = {"other": [kept(4, "01", ["nested"], "mcast"), kept(10)]}
+    message(attr(26, attr(10, attr(4 | 0x8000, b"\1"), attr(10))), {"af-spec": {"inet6": members}})
+    members = {"other": [kept(6, "01", name="pad"), kept(9)]}
+    message(inside((22, 1, 8), attr(6, b"\1") + attr(9)), {"vfinfo-list": {"info": [{"stats": members}]}})
 
 
 def rows_of_data():
@@ -691,8 +728,8 @@ def written(answer):
 
 
 def main():
-    shown = (headers, flat, records, lists, functions, families, others, repeats, empty_lists, link_data, rows_of_data,
-             own_addresses, elements, front_words)
+    shown = (headers, flat, records, lists, functions, families, others, repeats, empty_lists, link_data, names_of_kept,
+             rows_of_data, own_addresses, elements, front_words)
     for group in (*shown, faults, places, damaged_lists):
         group()
     loopback = header(0, 772, 1, 0x10049) + attr(3, b"lo\0") + attr(4, u32(65536))

@@ -61,6 +61,10 @@ row_or (Some row) = row.1
 abbrev pub row_in : List RowNow → ℕ → List ℕ × Form
 row_in rows n = row_or (find (λ row. row.0 == n) rows)
 
+-- one that is kept, with the name that a row has for its number
+abbrev pub kept_named : List RowNow → Frame → Said
+kept_named rows nla = Said.as_is (row_in rows (bit_and nla.kind 0x3fff)).0 nla.kind nla.payload
+
 -- an attribute by the rows of its place: what its payload spells, under its name
 abbrev pub flat_said : List RowNow → Frame → Said
 flat_said rows f =

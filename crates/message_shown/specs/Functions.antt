@@ -29,7 +29,7 @@ use Rattle.shown.specs.Drafts.{Members, object_of, list_of}
 use Rattle.shown.specs.Values.{hardware_address, name_or_number, numbered}
 use Rattle.message_shown.specs.Places.{Said, items_of, kept_said, members_of, listed_under}
 use Rattle.message_shown.specs.declared.names.TheConstants.{VF_LINK_STATES, VF_STATS}
-use Rattle.message_shown.specs.Forms.{flat_said}
+use Rattle.message_shown.specs.Forms.{flat_said, kept_named}
 use Rattle.message_shown.specs.Rows.{placed_said, whole}
 use Rattle.message_shown.specs.declared.context.Context.{Context}
 
@@ -89,7 +89,7 @@ vlan_info_shown v =
 
 -- a counter of a function
 abbrev pub vf_stats_said : VfStats → Said
-vf_stats_said (Stats.Other nla) = kept_said nla
+vf_stats_said (Stats.Other nla) = kept_named (map (λ row. (row.0, (row.1.now, row.2))) VF_STATS) nla
 vf_stats_said v = flat_said (map (λ row. (row.0, (row.1.now, row.2))) VF_STATS) (vf_stats_place.frame v)
 
 -- a vlan of a list

@@ -1,8 +1,8 @@
 -- Members of the flat inner lists, and wireless events: what each is shown as.
-use Rattle.std.specs.Prelude.{ℕ, ◌+◌, ◌==◌, List, [], ◌∷◌, codes, cond, drop, length, map}
+use Rattle.std.specs.Prelude.{ℕ, ◌+◌, ◌==◌, List, [], ◌∷◌, Option, None, Some, codes, cond, drop, length, map}
 use Rattle.std.specs.Int.{w16}
 use Rattle.nla_wire.specs.Fields.{number_at}
-use Rattle.nla_wire.specs.Frames.{number}
+use Rattle.nla_wire.specs.Frames.{Frame, number}
 use Rattle.link_info.specs.declared.place.Place.TheVariants as Places
 use Rattle.hex.specs.Hex.{encode_lower}
 use Rattle.json.specs.Token.{Token, string}
@@ -26,10 +26,10 @@ use Rattle.link_nest.specs.declared.xdp.LinkXdp.{LinkXdp}
 use Rattle.link_nest.specs.declared.xdp.LinkXdp.TheVariants as Xdps
 use Rattle.link_nest.specs.Tables.{prop_place, devlink_port_place, dpll_pin_place, down_reason_place, xdp_place}
 use Rattle.shown.specs.Drafts.{Members}
-use Rattle.message_shown.specs.Contexts.{info_row}
+use Rattle.message_shown.specs.Contexts.{Known, info_row}
 use Rattle.message_shown.specs.Places.{Said, kept_said}
-use Rattle.message_shown.specs.declared.names.TheConstants.{DEVLINK_PORT, DOWN_REASON, DPLL_PIN, PROPS, XDP}
-use Rattle.message_shown.specs.Forms.{flat_said}
+use Rattle.message_shown.specs.declared.names.TheConstants.{DEVLINK_PORT, DOWN_REASON, DPLL_PIN, INFO, PROPS, XDP}
+use Rattle.message_shown.specs.Forms.{flat_said, kept_named}
 use Rattle.message_shown.specs.Rows.{row_said, placed_said, whole}
 use Rattle.message_shown.specs.declared.context.Context.{Context}
 
@@ -41,10 +41,15 @@ named_text name value = (name, string value ∷ [])
 abbrev pub named_hex : List ℕ → List ℕ → List ℕ × List Token
 named_hex name bytes = (name, string (encode_lower bytes) ∷ [])
 
+-- a member of a link's kinds: by what is known of it, or kept
+abbrev pub info_said : Context → Option Known → Frame → Said
+info_said cx None nla = kept_named (map (λ row. (row.0, (row.1.now, row.2))) INFO) nla
+info_said cx (Some known) nla = row_said (whole cx) (Some known) nla
+
 -- the kinds of a link, and their data
 abbrev pub link_info_said : Context → LinkInfo → Said
 link_info_said cx (Infos.Kind text) = Said.named (named_text (codes "kind") text ∷ [])
-link_info_said cx (Infos.Other nla) = row_said (whole cx) (info_row cx (number nla)) nla
+link_info_said cx (Infos.Other nla) = info_said cx (info_row cx (number nla)) nla
 
 -- ** the flat ones, by the rows of their place
 
@@ -53,12 +58,12 @@ prop_said (Props.Other nla) = kept_said nla
 prop_said v = flat_said (map (λ row. (row.0, (row.1.now, row.2))) PROPS) (prop_place.frame v)
 
 abbrev pub devlink_port_said : DevlinkPort → Said
-devlink_port_said (Ports.Other nla) = kept_said nla
+devlink_port_said (Ports.Other nla) = kept_named (map (λ row. (row.0, (row.1.now, row.2))) DEVLINK_PORT) nla
 devlink_port_said v =
     flat_said (map (λ row. (row.0, (row.1.now, row.2))) DEVLINK_PORT) (devlink_port_place.frame v)
 
 abbrev pub dpll_pin_said : DpllPin → Said
-dpll_pin_said (Pins.Other nla) = kept_said nla
+dpll_pin_said (Pins.Other nla) = kept_named (map (λ row. (row.0, (row.1.now, row.2))) DPLL_PIN) nla
 dpll_pin_said v = flat_said (map (λ row. (row.0, (row.1.now, row.2))) DPLL_PIN) (dpll_pin_place.frame v)
 
 abbrev pub down_reason_said : LinkProtocolDownReason → Said

@@ -22,8 +22,8 @@ use Rattle.link_recs.specs.Icmp6StatsFields.{icmp6_stats_of}
 use Rattle.link_recs.specs.Inet6DevConfFields.{inet6_dev_conf_of}
 use Rattle.link_recs.specs.Inet6StatsFields.{inet6_stats_fields, inet6_stats_of}
 use Rattle.message_shown.specs.Places.{Said, items_of, kept_said, members_of}
-use Rattle.message_shown.specs.declared.names.TheConstants.{ADDR_GEN_MODES, INET6_FLAGS, MCTP}
-use Rattle.message_shown.specs.Forms.{flat_said}
+use Rattle.message_shown.specs.declared.names.TheConstants.{ADDR_GEN_MODES, INET6_FLAGS, INET6_KEPT, MCTP}
+use Rattle.message_shown.specs.Forms.{flat_said, kept_named}
 use Rattle.message_shown.specs.Rows.{placed_said, whole}
 use Rattle.message_shown.specs.declared.context.Context.{Context}
 use Rattle.link_afspec.specs.declared.numbers.TheConstants.{IFLA_INET6_CONF, IFLA_INET6_STATS}
@@ -62,7 +62,7 @@ inet6_said cx (Inet6s.Token address) =
 inet6_said cx (Inet6s.AddrGenMode mode) =
     Said.named ((codes "addr-gen-mode", name_or_number gen_mode_names (in6_addr_gen_mode_number mode) ∷ []) ∷ [])
 inet6_said cx (Inet6s.RaMtu n) = Said.named (numbered (codes "ra-mtu") n ∷ [])
-inet6_said cx (Inet6s.Other nla) = kept_said nla
+inet6_said cx (Inet6s.Other nla) = kept_named (map (λ row. (row.0, (row.1.now, row.2))) INET6_KEPT) nla
 
 abbrev pub mctp_said : AfSpecMctp → Said
 mctp_said (Mctps.Other nla) = kept_said nla

@@ -7,9 +7,9 @@ use crate::context::Context;
 use crate::counts::{
     show_cache_info, show_icmp6_stats, show_inet_conf, show_inet6_conf, show_inet6_stats,
 };
-use crate::form::add_flat;
+use crate::form::{add_flat, named_frame};
 use crate::member::{Attribute, KeptFrame, frame_of, show_object};
-use crate::names::{ADDR_GEN_MODES, INET6_FLAGS, MCTP};
+use crate::names::{ADDR_GEN_MODES, INET6_FLAGS, INET6_KEPT, MCTP};
 use crate::rows::{Whole, add_at, kept_at};
 use link_info::Place;
 use link_msg::{AfSpecBridge, AfSpecInet, AfSpecInet6, AfSpecMctp, AfSpecUnspec};
@@ -75,7 +75,7 @@ impl Attribute for AfSpecInet6 {
 
     fn kept_frame(&self, _cx: &Context<'_>) -> Option<KeptFrame<'_>> {
         match self {
-            AfSpecInet6::Other(nla) => frame_of(nla),
+            AfSpecInet6::Other(nla) => named_frame(&INET6_KEPT, nla),
             _ => None,
         }
     }

@@ -15,16 +15,16 @@ use link_msg::{LinkAttribute, LinkInfo, NLA_TYPE_MASK, Nla};
 use std::alloc::Global;
 
 /// The number of the attribute of data by kind (linux/if_link.h).
-const IFLA_INFO_DATA: u16 = 2;
+pub const IFLA_INFO_DATA: u16 = 2;
 
 /// The number of the attribute of counters by kind (linux/if_link.h).
-const IFLA_INFO_XSTATS: u16 = 3;
+pub const IFLA_INFO_XSTATS: u16 = 3;
 
 /// The number of the attribute with the kind of a port (linux/if_link.h).
 const IFLA_INFO_SLAVE_KIND: u16 = 4;
 
 /// The number of the attribute of data by the kind of a port (linux/if_link.h).
-const IFLA_INFO_SLAVE_DATA: u16 = 5;
+pub const IFLA_INFO_SLAVE_DATA: u16 = 5;
 
 /// Which order the counters of IPv6 have. It changed between Linux 6.12 and 6.16, and no message says which one it has.
 #[derive(Clone, Copy, Debug, PartialEq, Eq)]

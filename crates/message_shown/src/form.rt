@@ -1,17 +1,19 @@
 //! Values that are one number, text or address, by how they are spelled.
 
-ghost use Rattle.std.specs.Prelude.{◌≡◌, [], ◌∷◌, ◌++◌, OnOk, map};
+ghost use Rattle.std.specs.Prelude.{◌≡◌, [], ◌∷◌, ◌++◌, OnOk, map, option_map};
 ghost use Rattle.std.specs.Int.{w32, to_le_bytes};
 ghost use Rattle.nla_wire.specs.FlatViews.{flat_bytes};
 ghost use Rattle.shown.specs.Drafts.{with_members, with_value};
-ghost use Rattle.message_shown.specs.Places.{shown_of};
+ghost use Rattle.message_shown.specs.Places.{Kept, kept_of, shown_of};
 ghost use Rattle.message_shown.specs.declared.form.Form.TheVariants as Forms;
-ghost use Rattle.message_shown.specs.Forms.{binding_token, flat_said, form_shown, is_own, row_in};
+ghost use Rattle.message_shown.specs.Forms.{binding_token, flat_said, form_shown, is_own, kept_named};
+ghost use Rattle.message_shown.specs.Forms.{row_in};
 
 use crate::context::text_of;
+use crate::member::KeptFrame;
 use crate::names::{EVENTS, LINK_MODES, MCTP_BINDINGS, OPERSTATES, XDP_ATTACHED};
 use nla_wire::fields::{i32_at, u8_at, u16_at, u32_at, u64_at};
-use nla_wire::{Flat, FlatView, NLA_TYPE_MASK};
+use nla_wire::{DefaultNla, Flat, FlatView, NLA_TYPE_MASK, Nla};
 use shown::Page;
 use std::alloc::{AllocError, Global};
 
@@ -170,6 +172,15 @@ pub fn show_flat(
         FlatView::U64(n) => show_payload(page, name, form, &n.to_le_bytes()),
         FlatView::I32(n) => show_payload(page, name, form, &n.to_le_bytes()),
     }
+}
+
+/// An attribute that is kept, with the name that a row has for its number, if any.
+pub fn named_frame<'a>(rows: &[Row], nla: &'a DefaultNla) -> Option<KeptFrame<'a>>
+    ensures { option_map {U = Kept} (λ f. (f.0.now, (f.1.0, f.1.1.now))) result
+        ≡ kept_of (kept_named (map (λ row. (row.0, (row.1.now, row.2))) rows.now) nla.now) }
+{
+    let (name, _) = row_of(rows, nla.kind() & NLA_TYPE_MASK);
+    Some((name, (nla.kind(), nla.value())))
 }
 
 /// Adds an attribute of a place by its row.

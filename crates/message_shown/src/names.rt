@@ -1,6 +1,7 @@
 //! The names of attributes, fields, values and flags, as rt_link.yaml of Linux 6.12 has them; where it has none, those
 //! of the kernel's headers in its style, and for what no kernel has those of this project.
 
+use crate::context::{IFLA_INFO_DATA, IFLA_INFO_SLAVE_DATA, IFLA_INFO_XSTATS};
 use crate::form::{Form, Row};
 use link_afspec::numbers::{IFLA_MCTP_NET, IFLA_MCTP_PHYS_BINDING};
 use link_nest::numbers::*;
@@ -83,15 +84,69 @@ pub const ATTRIBUTES: [(&str, Form); 70] = [
 /// The members of IFLA_PROP_LIST.
 pub const PROPS: [Row; 1] = [(IFLA_ALT_IFNAME, "alt-ifname", Form::Text)];
 
-/// The members of IFLA_DEVLINK_PORT.
-pub const DEVLINK_PORT: [Row; 3] = [
+/// The members of IFLA_LINKINFO that are kept where the kind has no table.
+pub const INFO: [Row; 3] = [
+    (IFLA_INFO_DATA, "data", Form::Own),
+    (IFLA_INFO_XSTATS, "xstats", Form::Own),
+    (IFLA_INFO_SLAVE_DATA, "slave-data", Form::Own),
+];
+
+/// The members of IFLA_DEVLINK_PORT, and behind them what else linux/devlink.h has of a port, all of which is kept.
+pub const DEVLINK_PORT: [Row; 21] = [
     (DEVLINK_ATTR_BUS_NAME, "bus-name", Form::Text),
     (DEVLINK_ATTR_DEV_NAME, "dev-name", Form::Text),
     (DEVLINK_ATTR_PORT_INDEX, "port-index", Form::U32),
+    (4, "port-type", Form::Own),
+    (5, "port-desired-type", Form::Own),
+    (6, "port-netdev-ifindex", Form::Own),
+    (7, "port-netdev-name", Form::Own),
+    (8, "port-ibdev-name", Form::Own),
+    (9, "port-split-count", Form::Own),
+    (10, "port-split-group", Form::Own),
+    (77, "port-flavour", Form::Own),
+    (78, "port-number", Form::Own),
+    (79, "port-split-subport-number", Form::Own),
+    (127, "port-pci-pf-number", Form::Own),
+    (128, "port-pci-vf-number", Form::Own),
+    (145, "port-function", Form::Own),
+    (147, "port-lanes", Form::Own),
+    (148, "port-splittable", Form::Own),
+    (149, "port-external", Form::Own),
+    (150, "port-controller-number", Form::Own),
+    (164, "port-pci-sf-number", Form::Own),
 ];
 
-/// The members of IFLA_DPLL_PIN.
-pub const DPLL_PIN: [Row; 1] = [(DPLL_A_PIN_ID, "id", Form::U32)];
+/// The members of IFLA_DPLL_PIN, and behind the first one what else linux/dpll.h has of a pin, all of which is kept.
+pub const DPLL_PIN: [Row; 28] = [
+    (DPLL_A_PIN_ID, "id", Form::U32),
+    (2, "parent-id", Form::Own),
+    (3, "module-name", Form::Own),
+    (4, "pad", Form::Own),
+    (5, "clock-id", Form::Own),
+    (6, "board-label", Form::Own),
+    (7, "panel-label", Form::Own),
+    (8, "package-label", Form::Own),
+    (9, "type", Form::Own),
+    (10, "direction", Form::Own),
+    (11, "frequency", Form::Own),
+    (12, "frequency-supported", Form::Own),
+    (13, "frequency-min", Form::Own),
+    (14, "frequency-max", Form::Own),
+    (15, "prio", Form::Own),
+    (16, "state", Form::Own),
+    (17, "capabilities", Form::Own),
+    (18, "parent-device", Form::Own),
+    (19, "parent-pin", Form::Own),
+    (20, "phase-adjust-min", Form::Own),
+    (21, "phase-adjust-max", Form::Own),
+    (22, "phase-adjust", Form::Own),
+    (23, "phase-offset", Form::Own),
+    (24, "fractional-frequency-offset", Form::Own),
+    (25, "esync-frequency", Form::Own),
+    (26, "esync-frequency-supported", Form::Own),
+    (27, "esync-pulse", Form::Own),
+    (28, "reference-sync", Form::Own),
+];
 
 /// The members of IFLA_PROTO_DOWN_REASON.
 pub const DOWN_REASON: [Row; 2] = [
@@ -111,17 +166,21 @@ pub const XDP: [Row; 8] = [
     (IFLA_XDP_EXPECTED_FD, "expected-fd", Form::U32),
 ];
 
-/// The members of IFLA_VF_STATS.
-pub const VF_STATS: [Row; 8] = [
+/// The members of IFLA_VF_STATS. Its padding is kept.
+pub const VF_STATS: [Row; 9] = [
     (IFLA_VF_STATS_RX_PACKETS, "rx-packets", Form::U64),
     (IFLA_VF_STATS_TX_PACKETS, "tx-packets", Form::U64),
     (IFLA_VF_STATS_RX_BYTES, "rx-bytes", Form::U64),
     (IFLA_VF_STATS_TX_BYTES, "tx-bytes", Form::U64),
     (IFLA_VF_STATS_BROADCAST, "broadcast", Form::U64),
     (IFLA_VF_STATS_MULTICAST, "multicast", Form::U64),
+    (6, "pad", Form::Own),
     (IFLA_VF_STATS_RX_DROPPED, "rx-dropped", Form::U64),
     (IFLA_VF_STATS_TX_DROPPED, "tx-dropped", Form::U64),
 ];
+
+/// The settings of IPv6 that are kept.
+pub const INET6_KEPT: [Row; 1] = [(4, "mcast", Form::Own)];
 
 /// The settings of MCTP.
 pub const MCTP: [Row; 2] = [

@@ -1,19 +1,21 @@
 //! Inner lists of attributes, and wireless events.
 
-ghost use Rattle.std.specs.Prelude.{◌≡◌, OnOk};
+ghost use Rattle.std.specs.Prelude.{◌≡◌, OnOk, option_map};
 ghost use Rattle.shown.specs.Drafts.{with_members, with_value, object_of};
-ghost use Rattle.message_shown.specs.Nests.{link_info_said, prop_said, devlink_port_said, dpll_pin_said};
+ghost use Rattle.message_shown.specs.Nests.{info_said, link_info_said, prop_said, devlink_port_said, dpll_pin_said};
 ghost use Rattle.message_shown.specs.Nests.{down_reason_said};
 ghost use Rattle.message_shown.specs.Nests.{xdp_said, bridge_said, wireless_shown};
 ghost use Rattle.message_shown.specs.Nests.{elements_in};
+ghost use Rattle.message_shown.specs.Places.{Kept, kept_of};
+ghost use Rattle.message_shown.specs.Rows.{known_in};
 ghost use Rattle.message_shown.specs.Settings.{conf_members, proto_inet6_said};
 
-use crate::context::Context;
+use crate::context::{Context, Known};
 use crate::counts::show_inet6_conf;
-use crate::form::add_flat;
+use crate::form::{add_flat, named_frame};
 use crate::member::{Attribute, KeptFrame, frame_of};
-use crate::names::{DEVLINK_PORT, DOWN_REASON, DPLL_PIN, PROPS, XDP};
-use crate::rows::{Whole, add_at, add_by, kept_at, kept_by};
+use crate::names::{DEVLINK_PORT, DOWN_REASON, DPLL_PIN, INFO, PROPS, XDP};
+use crate::rows::{Whole, add_at, add_by, kept_at};
 use link_afspec::numbers::{IFLA_INET6_CONF, IFLA_INET6_ICMP6STATS, IFLA_INET6_STATS};
 use link_info::Place;
 use link_msg::{
@@ -21,22 +23,36 @@ use link_msg::{
     LinkProtoInfoBridge, LinkProtoInfoInet6, LinkProtocolDownReason, LinkXdp, Prop, WirelessEvent,
 };
 use nla_wire::fields::u16_at;
-use nla_wire::{NLA_TYPE_MASK, Nla};
+use nla_wire::{DefaultNla, NLA_TYPE_MASK, Nla};
 use shown::{Nest, Page};
 use std::alloc::AllocError;
+
+/// What a member of a link's kinds is where nothing is known of its number.
+fn info_kept<'a>(
+    cx: &Context<'_>,
+    known: Option<Known>,
+    nla: &'a DefaultNla,
+) -> Option<KeptFrame<'a>>
+    ensures { option_map {U = Kept} (λ f. (f.0.now, (f.1.0, f.1.1.now))) result
+        ≡ kept_of (info_said cx.now (known_in known.entry) nla.now) }
+{
+    match known {
+        Some(_) => None,
+        None => named_frame(&INFO, nla),
+    }
+}
 
 impl Attribute for LinkInfo {
     ghost said = { link_info_said };
 
     fn kept_frame(&self, cx: &Context<'_>) -> Option<KeptFrame<'_>> {
         match self {
-            LinkInfo::Other(nla) => {
-                kept_by::<Whole>(cx, cx.known_info(nla.kind() & NLA_TYPE_MASK), nla)
-            }
+            LinkInfo::Other(nla) => info_kept(cx, cx.known_info(nla.kind() & NLA_TYPE_MASK), nla),
             LinkInfo::Kind(_) => None,
         }
     }
 
+    #[tactic(auto, using(crate::proofs::Kept::info_shown))]
     fn add(&self, cx: &Context<'_>, page: &mut Page) -> Result<(), AllocError> {
         match self {
             LinkInfo::Kind(text) => page.string("kind", text.as_str()),
@@ -70,7 +86,7 @@ impl Attribute for DevlinkPort {
 
     fn kept_frame(&self, _cx: &Context<'_>) -> Option<KeptFrame<'_>> {
         match self {
-            DevlinkPort::Other(nla) => frame_of(nla),
+            DevlinkPort::Other(nla) => named_frame(&DEVLINK_PORT, nla),
             _ => None,
         }
     }
@@ -88,7 +104,7 @@ impl Attribute for DpllPin {
 
     fn kept_frame(&self, _cx: &Context<'_>) -> Option<KeptFrame<'_>> {
         match self {
-            DpllPin::Other(nla) => frame_of(nla),
+            DpllPin::Other(nla) => named_frame(&DPLL_PIN, nla),
             _ => None,
         }
     }

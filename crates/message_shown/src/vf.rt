@@ -10,7 +10,7 @@ ghost use Rattle.message_shown.specs.Functions.{function_members, function_addre
 ghost use Rattle.message_shown.specs.Functions.{port_members, objects_under};
 
 use crate::context::Context;
-use crate::form::add_flat;
+use crate::form::{add_flat, named_frame};
 use crate::member::{Attribute, KeptFrame, frame_of, show_listed, show_object};
 use crate::names::{VF_LINK_STATES, VF_STATS};
 use crate::rows::{Whole, add_at, kept_at};
@@ -279,7 +279,7 @@ impl Attribute for VfStats {
 
     fn kept_frame(&self, _cx: &Context<'_>) -> Option<KeptFrame<'_>> {
         match self {
-            VfStats::Other(nla) => frame_of(nla),
+            VfStats::Other(nla) => named_frame(&VF_STATS, nla),
             _ => None,
         }
     }
