@@ -40,7 +40,7 @@ pub fn fault_at(message: &[u8]) -> Option<(DecodeError, usize)> {
 ///
 /// # Errors
 ///
-/// [`RoomError::NoText`] where [`canonical`](crate::canonical) refuses, [`RoomError::NoRoom`] exactly where the
+/// [`RoomError::NoEncoding`] where [`canonical`](crate::canonical) refuses, [`RoomError::NoRoom`] exactly where the
 /// encoding is longer than `out`. After a refusal `out` is unchanged.
 ///
 /// ```

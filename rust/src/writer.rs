@@ -99,7 +99,7 @@ impl<'a> Writer<'a> {
 
 /// The length field of an attribute with so many bytes of payload.
 fn length_field(payload: usize) -> Result<u16, RoomError> {
-    u16::try_from(NLA_HEADER_SIZE + payload).map_err(|_| RoomError::NoText(CanonError::DoesNotFit))
+    u16::try_from(NLA_HEADER_SIZE + payload).map_err(|_| RoomError::NoEncoding(CanonError::DoesNotFit))
 }
 
 /// How many bytes follow so many of an attribute, up to a multiple of four.

@@ -181,7 +181,7 @@ fn all_refuse(bytes: &[u8], refusal: CanonError) {
     for write in [canonical_into, canonical_within, state_within] {
         let mut out = [0x55; 64];
         match write(bytes, &mut out) {
-            Err(RoomError::NoText(it)) => assert_eq!(nameless(it), refusal),
+            Err(RoomError::NoEncoding(it)) => assert_eq!(nameless(it), refusal),
             other => panic!("{other:?}, where {refusal:?} is refused"),
         }
         assert_eq!(out, [0x55; 64]);

@@ -100,7 +100,7 @@ fn refusals() {
     let fault = DecodeError { place: "IFLA_MTU", cause: Cause::EmptyList };
     let refusals = [CanonError::Decode(fault), CanonError::DoesNotFit, CanonError::EmptyVfPorts];
     assert_eq!(refusals.map(|it| it.number()), [1, 2, 3]);
-    assert_eq!(RoomError::from(refusals[1]), RoomError::NoText(CanonError::DoesNotFit));
+    assert_eq!(RoomError::from(refusals[1]), RoomError::NoEncoding(CanonError::DoesNotFit));
     assert_eq!(CanonError::from(fault), refusals[0]);
     let mut texts: Vec<String> = refusals.iter().map(ToString::to_string).collect();
     texts.extend(causes.iter().map(ToString::to_string));

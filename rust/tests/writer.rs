@@ -33,7 +33,7 @@ fn no_room() {
 
 #[test]
 fn does_not_fit() {
-    let unfit = Err(RoomError::NoText(CanonError::DoesNotFit));
+    let unfit = Err(RoomError::NoEncoding(CanonError::DoesNotFit));
     let mut buffer = vec![0; 70_000];
     let mut writer = Writer::new(&mut buffer);
     assert_eq!(writer.nest(1, |list| list.put(1, &[0; 65_524])), Ok(()));

@@ -5,7 +5,7 @@ use crate::link_afspec::numbers::IFLA_INET_CONF;
 use crate::link_afspec::request::{fill_request, request_len};
 use crate::link_recs::InetDevConf;
 use crate::nla_wire::{
-    DecodeError, DefaultNla, NLA_F_NESTED, Nla, NlaBuffer, NlaRead, PlainRecord, Record, write_value,
+    DecodeError, DefaultNla, NLA_F_NESTED, Nla, NlaBuffer, NlaRead, PlainRecord, Record, kind_names, write_value,
 };
 
 /// A member of AF_INET in IFLA_AF_SPEC (linux/if_link.h).
@@ -56,10 +56,7 @@ impl Nla for AfSpecInet {
 
 impl NlaRead for AfSpecInet {
     fn kind_name(kind: u16) -> &'static str {
-        match kind {
-            IFLA_INET_CONF => "IFLA_INET_CONF",
-            _ => "",
-        }
+        kind_names!(kind; IFLA_INET_CONF)
     }
 
     fn parse_frame(buffer: &NlaBuffer<'_>) -> Result<AfSpecInet, DecodeError> {

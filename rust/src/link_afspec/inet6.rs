@@ -9,7 +9,7 @@ use crate::link_recs::{Icmp6Stats, Inet6CacheInfo, Inet6DevConf, Inet6Stats};
 use crate::link_vals::{In6AddrGenMode, Inet6IfaceFlags};
 use crate::nla_wire::error::checked;
 use crate::nla_wire::{
-    DecodeError, DefaultNla, MOST_VALUE_LEN, Nla, NlaBuffer, NlaRead, PlainRecord, Record, fill_bytes,
+    DecodeError, DefaultNla, MOST_VALUE_LEN, Nla, NlaBuffer, NlaRead, PlainRecord, Record, fill_bytes, kind_names,
     measure_ipv6_addr, measure_u8, measure_u32, parse_ipv6_addr, parse_u8, parse_u32, write_ipv6_addr_payload,
     write_u8_payload, write_u32_payload, write_value,
 };
@@ -101,17 +101,16 @@ fn parse_mode(payload: &[u8]) -> Result<In6AddrGenMode, DecodeError> {
 
 impl NlaRead for AfSpecInet6 {
     fn kind_name(kind: u16) -> &'static str {
-        match kind {
-            IFLA_INET6_FLAGS => "IFLA_INET6_FLAGS",
-            IFLA_INET6_CONF => "IFLA_INET6_CONF",
-            IFLA_INET6_STATS => "IFLA_INET6_STATS",
-            IFLA_INET6_CACHEINFO => "IFLA_INET6_CACHEINFO",
-            IFLA_INET6_ICMP6STATS => "IFLA_INET6_ICMP6STATS",
-            IFLA_INET6_TOKEN => "IFLA_INET6_TOKEN",
-            IFLA_INET6_ADDR_GEN_MODE => "IFLA_INET6_ADDR_GEN_MODE",
-            IFLA_INET6_RA_MTU => "IFLA_INET6_RA_MTU",
-            _ => "",
-        }
+        kind_names!(kind;
+            IFLA_INET6_FLAGS,
+            IFLA_INET6_CONF,
+            IFLA_INET6_STATS,
+            IFLA_INET6_CACHEINFO,
+            IFLA_INET6_ICMP6STATS,
+            IFLA_INET6_TOKEN,
+            IFLA_INET6_ADDR_GEN_MODE,
+            IFLA_INET6_RA_MTU,
+        )
     }
 
     fn parse_frame(buffer: &NlaBuffer<'_>) -> Result<AfSpecInet6, DecodeError> {

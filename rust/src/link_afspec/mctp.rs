@@ -5,8 +5,8 @@ use crate::link_afspec::numbers::{IFLA_MCTP_NET, IFLA_MCTP_PHYS_BINDING};
 use crate::link_vals::MctpPhysBinding;
 use crate::nla_wire::error::checked;
 use crate::nla_wire::{
-    DecodeError, DefaultNla, Flat, FlatView, Nla, NlaBuffer, NlaRead, measure_u8, measure_u32, parse_u8, parse_u32,
-    write_u8_payload, write_u32_payload, write_value,
+    DecodeError, DefaultNla, Flat, FlatView, Nla, NlaBuffer, NlaRead, kind_names, measure_u8, measure_u32, parse_u8,
+    parse_u32, write_u8_payload, write_u32_payload, write_value,
 };
 
 /// A member of AF_MCTP in IFLA_AF_SPEC (linux/if_link.h).
@@ -38,11 +38,7 @@ impl Flat for AfSpecMctp {
 
 impl NlaRead for AfSpecMctp {
     fn kind_name(kind: u16) -> &'static str {
-        match kind {
-            IFLA_MCTP_NET => "IFLA_MCTP_NET",
-            IFLA_MCTP_PHYS_BINDING => "IFLA_MCTP_PHYS_BINDING",
-            _ => "",
-        }
+        kind_names!(kind; IFLA_MCTP_NET, IFLA_MCTP_PHYS_BINDING)
     }
 
     fn parse_frame(buffer: &NlaBuffer<'_>) -> Result<AfSpecMctp, DecodeError> {

@@ -16,7 +16,7 @@ fn setting_attribute(number: u16, value: i32) -> [u8; SETTING_LEN] {
     [8, 0, kind_low, kind_high, a, b, c, d]
 }
 
-/// The length of a setting's text: none where it is zero.
+/// The length of a setting's encoding: none where it is zero.
 fn setting_len(_number: u16, value: i32) -> usize {
     if value == 0 { 0 } else { SETTING_LEN }
 }
@@ -29,7 +29,7 @@ fn fill_setting(buffer: &mut [u8], number: u16, value: i32) -> usize {
     fill_bytes(buffer, &setting_attribute(number, value))
 }
 
-/// The length of the text of a request for these settings.
+/// The length of the encoding of a request for these settings.
 pub(crate) fn request_len(conf: &InetDevConf) -> usize {
     let mut len = 0;
     for number in 1..INET_DEV_CONF_COUNT + 1 {

@@ -4,8 +4,8 @@
 use crate::link_afspec::numbers::{AF_INET, AF_INET6, AF_MCTP};
 use crate::link_afspec::{AfSpecInet, AfSpecInet6, AfSpecMctp};
 use crate::nla_wire::{
-    DecodeError, DefaultNla, Nla, NlaBuffer, NlaRead, empty_list, list_fits, list_measure, nlas_buffer_len, nlas_fill,
-    write_list, write_value,
+    DecodeError, DefaultNla, Nla, NlaBuffer, NlaRead, empty_list, kind_names, list_fits, list_measure, nlas_buffer_len,
+    nlas_fill, write_list, write_value,
 };
 use alloc::vec::Vec;
 
@@ -81,12 +81,7 @@ impl Nla for AfSpecUnspec {
 
 impl NlaRead for AfSpecUnspec {
     fn kind_name(kind: u16) -> &'static str {
-        match kind {
-            AF_INET => "AF_INET",
-            AF_INET6 => "AF_INET6",
-            AF_MCTP => "AF_MCTP",
-            _ => "",
-        }
+        kind_names!(kind; AF_INET, AF_INET6, AF_MCTP)
     }
 
     fn parse_frame(buffer: &NlaBuffer<'_>) -> Result<AfSpecUnspec, DecodeError> {

@@ -32,7 +32,7 @@ impl<'a> Field<'a> {
         self.kind
     }
 
-    /// Its value.
+    /// Its value, of which the style of its row has bytes.
     pub fn value(&self) -> Value<'a> {
         self.value
     }
@@ -44,7 +44,7 @@ pub fn row_of(rows: &'static [Row], number: u16) -> Option<&'static Row> {
 }
 
 /// The style of a row; bytes where there is none.
-fn style(row: Option<&'static Row>) -> Style {
+pub(crate) fn style(row: Option<&'static Row>) -> Style {
     match row {
         Some(row) => row.2,
         None => Style::Bytes,

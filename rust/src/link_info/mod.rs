@@ -11,9 +11,11 @@ pub(crate) mod style;
 pub(crate) mod tables;
 pub(crate) mod value;
 pub(crate) mod write;
+pub(crate) mod written;
 
 pub use field::{Field, Fields};
 pub use info::{Info, InfoError};
 pub use place::{KINDS, KindRow, PLACES, Place, SLAVE_KINDS, Tables, all_rows};
 pub use style::{Member, Names, Plain, Row, Size, Style};
 pub use value::Value;
+pub use written::{push_field, rewrite};

@@ -231,93 +231,99 @@ pub(crate) enum View<'a> {
     Unspecs(&'a [AfSpecUnspec]),
 }
 
+/// A row for each variant, in their order, for `view` and `CloneIn`: how it is copied, its name, what it holds, its
+/// kind with both flag bits, and what its value is written from. `plain` is copied as it is, `held` with memory, and
+/// `mask` is a list of flags.
+macro_rules! variants {
+    ($then:ident) => {
+        $then! {
+            held Address(bytes => IFLA_ADDRESS, View::Flat(FlatView::Bytes(bytes.as_slice())))
+            held Broadcast(bytes => IFLA_BROADCAST, View::Flat(FlatView::Bytes(bytes.as_slice())))
+            held IfName(text => IFLA_IFNAME, View::Flat(FlatView::Text(text.as_str())))
+            plain Mtu(n => IFLA_MTU, View::Flat(FlatView::U32(*n)))
+            plain Link(n => IFLA_LINK, View::Flat(FlatView::U32(*n)))
+            held Qdisc(text => IFLA_QDISC, View::Flat(FlatView::Text(text.as_str())))
+            plain Stats(stats => IFLA_STATS, View::Stats(stats))
+            plain Controller(n => IFLA_MASTER, View::Flat(FlatView::U32(*n)))
+            held Wireless(event => IFLA_WIRELESS, View::Event(event))
+            held ProtoInfoBridge(members => IFLA_PROTINFO | NLA_F_NESTED, View::BridgeInfos(members.as_slice()))
+            held ProtoInfoInet6(members => IFLA_PROTINFO | NLA_F_NESTED, View::Inet6Infos(members.as_slice()))
+            held ProtoInfoUnknown(nla => nla.kind(), View::Flat(FlatView::Bytes(nla.value())))
+            plain TxQueueLen(n => IFLA_TXQLEN, View::Flat(FlatView::U32(*n)))
+            plain Map(map => IFLA_MAP, View::Map(map))
+            plain OperState(state => IFLA_OPERSTATE, View::Flat(FlatView::U8(u8::from(*state))))
+            plain Mode(mode => IFLA_LINKMODE, View::Flat(FlatView::U8(u8::from(*mode))))
+            held LinkInfo(members => IFLA_LINKINFO, View::Infos(members.as_slice()))
+            plain NetNsPid(n => IFLA_NET_NS_PID, View::Flat(FlatView::U32(*n)))
+            held IfAlias(text => IFLA_IFALIAS, View::Flat(FlatView::Text(text.as_str())))
+            plain NumVf(n => IFLA_NUM_VF, View::Flat(FlatView::U32(*n)))
+            held VfInfoList(members => IFLA_VFINFO_LIST, View::Functions(members.as_slice()))
+            plain Stats64(stats => IFLA_STATS64, View::Stats64(stats))
+            held VfPorts(members => IFLA_VF_PORTS, View::Ports(members.as_slice()))
+            held PortSelf(port => IFLA_PORT_SELF, View::Port(port.0.as_slice()))
+            held AfSpecBridge(members => IFLA_AF_SPEC, View::Bridges(members.as_slice()))
+            held AfSpecUnspec(members => IFLA_AF_SPEC, View::Unspecs(members.as_slice()))
+            held AfSpecUnknown(bytes => IFLA_AF_SPEC, View::Flat(FlatView::Bytes(bytes.as_slice())))
+            plain Group(n => IFLA_GROUP, View::Flat(FlatView::U32(*n)))
+            plain NetNsFd(n => IFLA_NET_NS_FD, View::Flat(FlatView::I32(*n)))
+            mask ExtMask(flags => IFLA_EXT_MASK, View::Mask(flags.as_slice()))
+            plain Promiscuity(n => IFLA_PROMISCUITY, View::Flat(FlatView::U32(*n)))
+            plain NumTxQueues(n => IFLA_NUM_TX_QUEUES, View::Flat(FlatView::U32(*n)))
+            plain NumRxQueues(n => IFLA_NUM_RX_QUEUES, View::Flat(FlatView::U32(*n)))
+            plain Carrier(n => IFLA_CARRIER, View::Flat(FlatView::U8(*n)))
+            plain PhysPortId(id => IFLA_PHYS_PORT_ID, View::Id(id))
+            plain CarrierChanges(n => IFLA_CARRIER_CHANGES, View::Flat(FlatView::U32(*n)))
+            plain PhysSwitchId(id => IFLA_PHYS_SWITCH_ID, View::Id(id))
+            plain LinkNetNsId(n => IFLA_LINK_NETNSID, View::Flat(FlatView::I32(*n)))
+            held PhysPortName(text => IFLA_PHYS_PORT_NAME, View::Flat(FlatView::Text(text.as_str())))
+            plain ProtoDown(n => IFLA_PROTO_DOWN, View::Flat(FlatView::U8(*n)))
+            plain GsoMaxSegs(n => IFLA_GSO_MAX_SEGS, View::Flat(FlatView::U32(*n)))
+            plain GsoMaxSize(n => IFLA_GSO_MAX_SIZE, View::Flat(FlatView::U32(*n)))
+            held Xdp(members => IFLA_XDP, View::Xdps(members.as_slice()))
+            plain Event(event => IFLA_EVENT, View::Flat(FlatView::U32(u32::from(*event))))
+            plain NewNetnsId(n => IFLA_NEW_NETNSID, View::Flat(FlatView::I32(*n)))
+            plain IfNetnsId(n => IFLA_IF_NETNSID, View::Flat(FlatView::I32(*n)))
+            plain CarrierUpCount(n => IFLA_CARRIER_UP_COUNT, View::Flat(FlatView::U32(*n)))
+            plain CarrierDownCount(n => IFLA_CARRIER_DOWN_COUNT, View::Flat(FlatView::U32(*n)))
+            plain NewIfIndex(n => IFLA_NEW_IFINDEX, View::Flat(FlatView::I32(*n)))
+            plain MinMtu(n => IFLA_MIN_MTU, View::Flat(FlatView::U32(*n)))
+            plain MaxMtu(n => IFLA_MAX_MTU, View::Flat(FlatView::U32(*n)))
+            held PropList(members => IFLA_PROP_LIST | NLA_F_NESTED, View::Props(members.as_slice()))
+            held PermAddress(bytes => IFLA_PERM_ADDRESS, View::Flat(FlatView::Bytes(bytes.as_slice())))
+            held ProtoDownReason(members => IFLA_PROTO_DOWN_REASON, View::Reasons(members.as_slice()))
+            held ParentDevName(text => IFLA_PARENT_DEV_NAME, View::Flat(FlatView::Text(text.as_str())))
+            held ParentDevBusName(text => IFLA_PARENT_DEV_BUS_NAME, View::Flat(FlatView::Text(text.as_str())))
+            plain GroMaxSize(n => IFLA_GRO_MAX_SIZE, View::Flat(FlatView::U32(*n)))
+            plain TsoMaxSize(n => IFLA_TSO_MAX_SIZE, View::Flat(FlatView::U32(*n)))
+            plain TsoMaxSegs(n => IFLA_TSO_MAX_SEGS, View::Flat(FlatView::U32(*n)))
+            plain AllMulticast(n => IFLA_ALLMULTI, View::Flat(FlatView::U32(*n)))
+            held DevlinkPort(members => IFLA_DEVLINK_PORT | NLA_F_NESTED, View::DevlinkPorts(members.as_slice()))
+            plain GsoIpv4MaxSize(n => IFLA_GSO_IPV4_MAX_SIZE, View::Flat(FlatView::U32(*n)))
+            plain GroIpv4MaxSize(n => IFLA_GRO_IPV4_MAX_SIZE, View::Flat(FlatView::U32(*n)))
+            held DpllPin(members => IFLA_DPLL_PIN | NLA_F_NESTED, View::DpllPins(members.as_slice()))
+            plain NetnsImmutable(value => IFLA_NETNS_IMMUTABLE, View::Flat(FlatView::U8(truth_byte(*value))))
+            plain Headroom(n => IFLA_HEADROOM, View::Flat(FlatView::U16(*n)))
+            plain Tailroom(n => IFLA_TAILROOM, View::Flat(FlatView::U16(*n)))
+            held Other(nla => nla.kind(), View::Flat(FlatView::Bytes(nla.value())))
+        }
+    };
+}
+
 impl LinkAttribute {
     /// Its kind, with both flag bits, and what its value is written from.
     #[inline(always)]
     fn view(&self) -> (u16, View<'_>) {
-        match self {
-            LinkAttribute::Address(bytes) => (IFLA_ADDRESS, View::Flat(FlatView::Bytes(bytes.as_slice()))),
-            LinkAttribute::Broadcast(bytes) => (IFLA_BROADCAST, View::Flat(FlatView::Bytes(bytes.as_slice()))),
-            LinkAttribute::IfName(text) => (IFLA_IFNAME, View::Flat(FlatView::Text(text.as_str()))),
-            LinkAttribute::Mtu(n) => (IFLA_MTU, View::Flat(FlatView::U32(*n))),
-            LinkAttribute::Link(n) => (IFLA_LINK, View::Flat(FlatView::U32(*n))),
-            LinkAttribute::Qdisc(text) => (IFLA_QDISC, View::Flat(FlatView::Text(text.as_str()))),
-            LinkAttribute::Stats(stats) => (IFLA_STATS, View::Stats(stats)),
-            LinkAttribute::Controller(n) => (IFLA_MASTER, View::Flat(FlatView::U32(*n))),
-            LinkAttribute::Wireless(event) => (IFLA_WIRELESS, View::Event(event)),
-            LinkAttribute::ProtoInfoBridge(members) => {
-                (IFLA_PROTINFO | NLA_F_NESTED, View::BridgeInfos(members.as_slice()))
-            }
-            LinkAttribute::ProtoInfoInet6(members) => {
-                (IFLA_PROTINFO | NLA_F_NESTED, View::Inet6Infos(members.as_slice()))
-            }
-            LinkAttribute::ProtoInfoUnknown(nla) => (nla.kind(), View::Flat(FlatView::Bytes(nla.value()))),
-            LinkAttribute::TxQueueLen(n) => (IFLA_TXQLEN, View::Flat(FlatView::U32(*n))),
-            LinkAttribute::Map(map) => (IFLA_MAP, View::Map(map)),
-            LinkAttribute::OperState(state) => (IFLA_OPERSTATE, View::Flat(FlatView::U8(u8::from(*state)))),
-            LinkAttribute::Mode(mode) => (IFLA_LINKMODE, View::Flat(FlatView::U8(u8::from(*mode)))),
-            LinkAttribute::LinkInfo(members) => (IFLA_LINKINFO, View::Infos(members.as_slice())),
-            LinkAttribute::NetNsPid(n) => (IFLA_NET_NS_PID, View::Flat(FlatView::U32(*n))),
-            LinkAttribute::IfAlias(text) => (IFLA_IFALIAS, View::Flat(FlatView::Text(text.as_str()))),
-            LinkAttribute::NumVf(n) => (IFLA_NUM_VF, View::Flat(FlatView::U32(*n))),
-            LinkAttribute::VfInfoList(members) => (IFLA_VFINFO_LIST, View::Functions(members.as_slice())),
-            LinkAttribute::Stats64(stats) => (IFLA_STATS64, View::Stats64(stats)),
-            LinkAttribute::VfPorts(members) => (IFLA_VF_PORTS, View::Ports(members.as_slice())),
-            LinkAttribute::PortSelf(port) => (IFLA_PORT_SELF, View::Port(port.0.as_slice())),
-            LinkAttribute::AfSpecBridge(members) => (IFLA_AF_SPEC, View::Bridges(members.as_slice())),
-            LinkAttribute::AfSpecUnspec(members) => (IFLA_AF_SPEC, View::Unspecs(members.as_slice())),
-            LinkAttribute::AfSpecUnknown(bytes) => (IFLA_AF_SPEC, View::Flat(FlatView::Bytes(bytes.as_slice()))),
-            LinkAttribute::Group(n) => (IFLA_GROUP, View::Flat(FlatView::U32(*n))),
-            LinkAttribute::NetNsFd(n) => (IFLA_NET_NS_FD, View::Flat(FlatView::I32(*n))),
-            LinkAttribute::ExtMask(flags) => (IFLA_EXT_MASK, View::Mask(flags.as_slice())),
-            LinkAttribute::Promiscuity(n) => (IFLA_PROMISCUITY, View::Flat(FlatView::U32(*n))),
-            LinkAttribute::NumTxQueues(n) => (IFLA_NUM_TX_QUEUES, View::Flat(FlatView::U32(*n))),
-            LinkAttribute::NumRxQueues(n) => (IFLA_NUM_RX_QUEUES, View::Flat(FlatView::U32(*n))),
-            LinkAttribute::Carrier(n) => (IFLA_CARRIER, View::Flat(FlatView::U8(*n))),
-            LinkAttribute::PhysPortId(id) => (IFLA_PHYS_PORT_ID, View::Id(id)),
-            LinkAttribute::CarrierChanges(n) => (IFLA_CARRIER_CHANGES, View::Flat(FlatView::U32(*n))),
-            LinkAttribute::PhysSwitchId(id) => (IFLA_PHYS_SWITCH_ID, View::Id(id)),
-            LinkAttribute::LinkNetNsId(n) => (IFLA_LINK_NETNSID, View::Flat(FlatView::I32(*n))),
-            LinkAttribute::PhysPortName(text) => (IFLA_PHYS_PORT_NAME, View::Flat(FlatView::Text(text.as_str()))),
-            LinkAttribute::ProtoDown(n) => (IFLA_PROTO_DOWN, View::Flat(FlatView::U8(*n))),
-            LinkAttribute::GsoMaxSegs(n) => (IFLA_GSO_MAX_SEGS, View::Flat(FlatView::U32(*n))),
-            LinkAttribute::GsoMaxSize(n) => (IFLA_GSO_MAX_SIZE, View::Flat(FlatView::U32(*n))),
-            LinkAttribute::Xdp(members) => (IFLA_XDP, View::Xdps(members.as_slice())),
-            LinkAttribute::Event(event) => (IFLA_EVENT, View::Flat(FlatView::U32(u32::from(*event)))),
-            LinkAttribute::NewNetnsId(n) => (IFLA_NEW_NETNSID, View::Flat(FlatView::I32(*n))),
-            LinkAttribute::IfNetnsId(n) => (IFLA_IF_NETNSID, View::Flat(FlatView::I32(*n))),
-            LinkAttribute::CarrierUpCount(n) => (IFLA_CARRIER_UP_COUNT, View::Flat(FlatView::U32(*n))),
-            LinkAttribute::CarrierDownCount(n) => (IFLA_CARRIER_DOWN_COUNT, View::Flat(FlatView::U32(*n))),
-            LinkAttribute::NewIfIndex(n) => (IFLA_NEW_IFINDEX, View::Flat(FlatView::I32(*n))),
-            LinkAttribute::MinMtu(n) => (IFLA_MIN_MTU, View::Flat(FlatView::U32(*n))),
-            LinkAttribute::MaxMtu(n) => (IFLA_MAX_MTU, View::Flat(FlatView::U32(*n))),
-            LinkAttribute::PropList(members) => (IFLA_PROP_LIST | NLA_F_NESTED, View::Props(members.as_slice())),
-            LinkAttribute::PermAddress(bytes) => (IFLA_PERM_ADDRESS, View::Flat(FlatView::Bytes(bytes.as_slice()))),
-            LinkAttribute::ProtoDownReason(members) => (IFLA_PROTO_DOWN_REASON, View::Reasons(members.as_slice())),
-            LinkAttribute::ParentDevName(text) => (IFLA_PARENT_DEV_NAME, View::Flat(FlatView::Text(text.as_str()))),
-            LinkAttribute::ParentDevBusName(text) => {
-                (IFLA_PARENT_DEV_BUS_NAME, View::Flat(FlatView::Text(text.as_str())))
-            }
-            LinkAttribute::GroMaxSize(n) => (IFLA_GRO_MAX_SIZE, View::Flat(FlatView::U32(*n))),
-            LinkAttribute::TsoMaxSize(n) => (IFLA_TSO_MAX_SIZE, View::Flat(FlatView::U32(*n))),
-            LinkAttribute::TsoMaxSegs(n) => (IFLA_TSO_MAX_SEGS, View::Flat(FlatView::U32(*n))),
-            LinkAttribute::AllMulticast(n) => (IFLA_ALLMULTI, View::Flat(FlatView::U32(*n))),
-            LinkAttribute::DevlinkPort(members) => {
-                (IFLA_DEVLINK_PORT | NLA_F_NESTED, View::DevlinkPorts(members.as_slice()))
-            }
-            LinkAttribute::GsoIpv4MaxSize(n) => (IFLA_GSO_IPV4_MAX_SIZE, View::Flat(FlatView::U32(*n))),
-            LinkAttribute::GroIpv4MaxSize(n) => (IFLA_GRO_IPV4_MAX_SIZE, View::Flat(FlatView::U32(*n))),
-            LinkAttribute::DpllPin(members) => (IFLA_DPLL_PIN | NLA_F_NESTED, View::DpllPins(members.as_slice())),
-            LinkAttribute::NetnsImmutable(value) => {
-                (IFLA_NETNS_IMMUTABLE, View::Flat(FlatView::U8(truth_byte(*value))))
-            }
-            LinkAttribute::Headroom(n) => (IFLA_HEADROOM, View::Flat(FlatView::U16(*n))),
-            LinkAttribute::Tailroom(n) => (IFLA_TAILROOM, View::Flat(FlatView::U16(*n))),
-            LinkAttribute::Other(nla) => (nla.kind(), View::Flat(FlatView::Bytes(nla.value()))),
+        macro_rules! viewed {
+            ($($how:ident $variant:ident($value:ident => $kind:expr, $view:expr))+) => {
+                match self {
+                    $(LinkAttribute::$variant($value) => ($kind, $view),)+
+                }
+            };
         }
+        variants!(viewed)
     }
 
-    /// Whether it is an empty list of ports, whose text would be refused.
+    /// Whether it is an empty list of ports, whose encoding would be refused.
     pub(crate) fn is_empty_ports(&self) -> bool {
         match self {
             LinkAttribute::VfPorts(ports) => ports.is_empty(),

@@ -86,7 +86,7 @@ fn measure(input: &[u8]) -> Result<(LinkHeader, &[u8], usize, usize), CanonError
 }
 
 /// Writes the canonical encoding of the attributes after the copied prefix, where the header and the prefix stand in
-/// the buffer, and returns the length of the message's text.
+/// the buffer, and returns the length of the message's encoding.
 fn write_after_prefix(header: &LinkHeader, rest: &[u8], prefix: usize, out: &mut [u8]) -> usize {
     let start = HEADER_SIZE + prefix;
     let place = AttributePlace { family: header.interface_family };
@@ -101,16 +101,16 @@ fn write_message(header: &LinkHeader, rest: &[u8], prefix: usize, out: &mut [u8]
     write_after_prefix(header, rest, prefix, out)
 }
 
-/// Memory for a text of this length, which begins with the header and the copied prefix, and ends with zeros.
-fn begin_text(header: &LinkHeader, prefix: &[u8], len: usize) -> Vec<u8> {
-    let mut text = Vec::with_capacity(len);
-    text.extend_from_slice(LinkMessageBuffer::from(header).as_bytes());
-    text.extend_from_slice(prefix);
-    text.resize(len, 0);
-    text
+/// Memory for an encoding of this length, which begins with the header and the copied prefix, and ends with zeros.
+fn begin_encoding(header: &LinkHeader, prefix: &[u8], len: usize) -> Vec<u8> {
+    let mut encoding = Vec::with_capacity(len);
+    encoding.extend_from_slice(LinkMessageBuffer::from(header).as_bytes());
+    encoding.extend_from_slice(prefix);
+    encoding.resize(len, 0);
+    encoding
 }
 
-/// The number of the canonical form: any change of any message's canonical encoding raises it. Texts of different
+/// The number of the canonical form: any change of any message's canonical encoding raises it. Encodings of different
 /// numbers are not to be compared, so a store keeps the number beside its keys.
 pub const CANONICAL_FORM: u32 = 2;
 
@@ -126,17 +126,17 @@ pub fn canonical_len(input: &[u8]) -> Result<usize, CanonError> {
 
 /// What the bytes mean, in canonical encoding of the form `CANONICAL_FORM`.
 ///
-/// The text means the same message, and its attributes are at most 79 times as long as those read. Refuses as
-/// `canonical_len` does: the text is measured, memory for it is taken once, and it is written.
+/// The encoding means the same message, and its attributes are at most 79 times as long as those read. Refuses as
+/// `canonical_len` does: the message is measured, memory for it is taken once, and it is written.
 ///
 /// # Errors
 ///
 /// The first fault: its cause, and where it is.
 pub fn canonical(input: &[u8]) -> Result<Vec<u8>, CanonError> {
     let (header, rest, len, prefix) = measure(input)?;
-    let mut text = begin_text(&header, &rest[..prefix], HEADER_SIZE + len);
-    let _len = write_after_prefix(&header, rest, prefix, text.as_mut_slice());
-    Ok(text)
+    let mut encoding = begin_encoding(&header, &rest[..prefix], HEADER_SIZE + len);
+    let _len = write_after_prefix(&header, rest, prefix, encoding.as_mut_slice());
+    Ok(encoding)
 }
 
 /// Whether two byte strings mean the same message, which is so exactly where their canonical encodings are equal.
@@ -157,10 +157,10 @@ pub fn same_message(first: &[u8], second: &[u8]) -> Result<bool, CanonError> {
 #[derive(Clone, Copy, Debug, PartialEq, Eq, Hash)]
 pub enum RoomError {
     /// There is no canonical encoding.
-    NoText(CanonError),
+    NoEncoding(CanonError),
     /// The canonical encoding has more bytes than the buffer.
     NoRoom {
-        /// The bytes of the text.
+        /// The bytes of the encoding.
         wanted: usize,
     },
 }
@@ -168,8 +168,8 @@ pub enum RoomError {
 impl core::fmt::Display for RoomError {
     fn fmt(&self, f: &mut core::fmt::Formatter<'_>) -> core::fmt::Result {
         match self {
-            RoomError::NoText(field0) => write!(f, "{field0}"),
-            RoomError::NoRoom { wanted } => write!(f, "the text has {wanted} bytes"),
+            RoomError::NoEncoding(field0) => write!(f, "{field0}"),
+            RoomError::NoRoom { wanted } => write!(f, "the canonical encoding has {wanted} bytes"),
         }
     }
 }
@@ -184,7 +184,7 @@ pub fn same_room_refusal(one: &RoomError, other: &RoomError) -> bool {
 
 impl From<CanonError> for RoomError {
     fn from(error: CanonError) -> RoomError {
-        RoomError::NoText(error)
+        RoomError::NoEncoding(error)
     }
 }
 
@@ -193,8 +193,8 @@ impl From<CanonError> for RoomError {
 ///
 /// # Errors
 ///
-/// Refuses as `canonical_len` does, and `NoRoom` exactly where the text is longer than the buffer. After a refusal the
-/// buffer is unchanged. The message must not change during the call: the text is measured, and written then.
+/// Refuses as `canonical_len` does, and `NoRoom` exactly where the encoding is longer than the buffer. After a refusal
+/// the buffer is unchanged. The message must not change during the call: it is measured, and written then.
 pub fn canonical_within(input: &[u8], out: &mut [u8]) -> Result<usize, RoomError> {
     let (header, rest, len, prefix) = measure(input)?;
     if out.len() < HEADER_SIZE + len {
@@ -206,13 +206,13 @@ pub fn canonical_within(input: &[u8], out: &mut [u8]) -> Result<usize, RoomError
 /// Writes what the bytes mean, in canonical encoding, to the front of the buffer, without memory, and returns its
 /// length. The rest of the buffer is kept.
 ///
-/// The buffer has room for the text: 79 times as many bytes as the input are enough, and so are those that
+/// The buffer has room for the encoding: 79 times as many bytes as the input are enough, and so are those that
 /// `canonical_len` returns. Returns exactly what `canonical` returns. After a refusal the buffer is unchanged. The
 /// message must not change during the call.
 pub fn canonical_into(input: &[u8], out: &mut [u8]) -> Result<usize, CanonError> {
     match canonical_within(input, out) {
         Ok(len) => Ok(len),
-        Err(RoomError::NoText(error)) => Err(error),
+        Err(RoomError::NoEncoding(error)) => Err(error),
         Err(RoomError::NoRoom { wanted }) => panic!("the text has {wanted} bytes, and the buffer has fewer"),
     }
 }

@@ -91,7 +91,7 @@ impl LinkMessage {
         }
     }
 
-    /// Whether each attribute fits, and the length of the text is a `usize`.
+    /// Whether each attribute fits, and the length of the encoding is a `usize`.
     pub fn fits(&self) -> bool {
         self.measured().is_some()
     }

@@ -10,7 +10,6 @@ mod family;
 pub(crate) mod fault_at;
 pub(crate) mod fault_path;
 pub(crate) mod header;
-mod kind_names;
 pub(crate) mod message;
 pub(crate) mod numbers;
 mod payload;

@@ -2,6 +2,8 @@
 //! The numbers of the attributes of a link message, as linux/if_link.h names them. Each stands here and nowhere else.
 //! What an attribute holds is said at its variant of `LinkAttribute`.
 
+use crate::nla_wire::kind_names;
+
 /// The number of `IFLA_ADDRESS`.
 pub const IFLA_ADDRESS: u16 = 1;
 /// The number of `IFLA_BROADCAST`.
@@ -128,3 +130,22 @@ pub const IFLA_NETNS_IMMUTABLE: u16 = 67;
 pub const IFLA_HEADROOM: u16 = 68;
 /// The number of `IFLA_TAILROOM`.
 pub const IFLA_TAILROOM: u16 = 69;
+
+/// The name of an attribute, by which a fault says where it is; empty where the number is not listed.
+pub(crate) fn kind_name(kind: u16) -> &'static str {
+    kind_names!(kind;
+        IFLA_ADDRESS, IFLA_BROADCAST, IFLA_IFNAME, IFLA_MTU, IFLA_LINK, IFLA_QDISC, IFLA_STATS,
+        IFLA_MASTER, IFLA_WIRELESS, IFLA_PROTINFO, IFLA_TXQLEN, IFLA_MAP, IFLA_OPERSTATE,
+        IFLA_LINKMODE, IFLA_LINKINFO, IFLA_NET_NS_PID, IFLA_IFALIAS, IFLA_NUM_VF, IFLA_VFINFO_LIST,
+        IFLA_STATS64, IFLA_VF_PORTS, IFLA_PORT_SELF, IFLA_AF_SPEC, IFLA_GROUP, IFLA_NET_NS_FD,
+        IFLA_EXT_MASK, IFLA_PROMISCUITY, IFLA_NUM_TX_QUEUES, IFLA_NUM_RX_QUEUES, IFLA_CARRIER,
+        IFLA_PHYS_PORT_ID, IFLA_CARRIER_CHANGES, IFLA_PHYS_SWITCH_ID, IFLA_LINK_NETNSID,
+        IFLA_PHYS_PORT_NAME, IFLA_PROTO_DOWN, IFLA_GSO_MAX_SEGS, IFLA_GSO_MAX_SIZE, IFLA_XDP,
+        IFLA_EVENT, IFLA_NEW_NETNSID, IFLA_IF_NETNSID, IFLA_CARRIER_UP_COUNT,
+        IFLA_CARRIER_DOWN_COUNT, IFLA_NEW_IFINDEX, IFLA_MIN_MTU, IFLA_MAX_MTU, IFLA_PROP_LIST,
+        IFLA_PERM_ADDRESS, IFLA_PROTO_DOWN_REASON, IFLA_PARENT_DEV_NAME, IFLA_PARENT_DEV_BUS_NAME,
+        IFLA_GRO_MAX_SIZE, IFLA_TSO_MAX_SIZE, IFLA_TSO_MAX_SEGS, IFLA_ALLMULTI, IFLA_DEVLINK_PORT,
+        IFLA_GSO_IPV4_MAX_SIZE, IFLA_GRO_IPV4_MAX_SIZE, IFLA_DPLL_PIN, IFLA_NETNS_IMMUTABLE,
+        IFLA_HEADROOM, IFLA_TAILROOM,
+    )
+}

@@ -55,7 +55,7 @@ pub(crate) fn check_ports(payload: &[u8]) -> Result<(), DecodeError> {
     LinkVfPort::check_list(payload)
 }
 
-/// The length of the text of ports of virtual functions: `None` where it does not fit or the payload is refused.
+/// The length of the encoding of ports of virtual functions: `None` where it does not fit or the payload is refused.
 pub(crate) fn measure_ports(payload: &[u8]) -> Option<usize> {
     if payload.is_empty() {
         return None;

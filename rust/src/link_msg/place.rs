@@ -3,7 +3,6 @@
 
 use crate::link_msg::attribute::LinkAttribute;
 use crate::link_msg::family::{parse_af_spec_into, parse_proto_info_into};
-use crate::link_msg::kind_names::kind_name;
 use crate::link_msg::numbers::*;
 use crate::link_msg::payload::{parse_any, parse_functions, parse_mask, parse_ports, parse_some};
 use crate::link_msg::prefix::copied_prefix;
@@ -20,13 +19,25 @@ use crate::nla_wire::{
 use crate::rattle::list::vacant;
 use alloc::vec::Vec;
 
-/// Adds a value in the room after the last one. A call of a function would cost 4 percent, since its result is looked
-/// at again.
+/// Adds a value in the room after the last one, or what was read as this variant. A call of a function would cost 4
+/// percent, since its result is looked at again.
 macro_rules! push {
     ($values:ident, $value:expr $(,)?) => {{
         $crate::rattle::list::vacant($values).push($value);
         Ok(())
     }};
+    ($values:ident, $variant:path, $read:expr $(,)?) => {
+        push!($values, it => $variant(it), $read)
+    };
+    ($values:ident, $it:ident => $value:expr, $read:expr $(,)?) => {
+        match $read {
+            Ok($it) => {
+                $crate::rattle::list::vacant($values).push($value);
+                Ok(())
+            }
+            Err(error) => Err(error),
+        }
+    };
 }
 
 pub(crate) use push;
@@ -53,45 +64,47 @@ impl LinkAttribute {
     ) -> Result<(), DecodeError> {
         let payload = buffer.value();
         match buffer.kind() {
-            IFLA_MTU => push!(values, Self::Mtu(parse_u32(payload)?)),
-            IFLA_LINK => push!(values, Self::Link(parse_u32(payload)?)),
+            IFLA_MTU => push!(values, Self::Mtu, parse_u32(payload)),
+            IFLA_LINK => push!(values, Self::Link, parse_u32(payload)),
             IFLA_STATS => push!(values, Self::Stats(Stats::read_padded(payload))),
-            IFLA_MASTER => push!(values, Self::Controller(parse_u32(payload)?)),
-            IFLA_TXQLEN => push!(values, Self::TxQueueLen(parse_u32(payload)?)),
-            IFLA_MAP => push!(values, Self::Map(Map::parse(payload)?)),
-            IFLA_OPERSTATE => push!(values, Self::OperState(State::from(parse_u8(payload)?))),
-            IFLA_LINKMODE => push!(values, Self::Mode(LinkMode::from(parse_u8(payload)?))),
-            IFLA_NET_NS_PID => push!(values, Self::NetNsPid(parse_u32(payload)?)),
-            IFLA_NUM_VF => push!(values, Self::NumVf(parse_u32(payload)?)),
+            IFLA_MASTER => push!(values, Self::Controller, parse_u32(payload)),
+            IFLA_TXQLEN => push!(values, Self::TxQueueLen, parse_u32(payload)),
+            IFLA_MAP => push!(values, Self::Map, Map::parse(payload)),
+            IFLA_OPERSTATE =>
+                push!(values, n => Self::OperState(State::from(n)), parse_u8(payload)),
+            IFLA_LINKMODE => push!(values, n => Self::Mode(LinkMode::from(n)), parse_u8(payload)),
+            IFLA_NET_NS_PID => push!(values, Self::NetNsPid, parse_u32(payload)),
+            IFLA_NUM_VF => push!(values, Self::NumVf, parse_u32(payload)),
             IFLA_STATS64 => push!(values, Self::Stats64(Stats64::read_padded(payload))),
-            IFLA_GROUP => push!(values, Self::Group(parse_u32(payload)?)),
-            IFLA_NET_NS_FD => push!(values, Self::NetNsFd(parse_i32(payload)?)),
-            IFLA_PROMISCUITY => push!(values, Self::Promiscuity(parse_u32(payload)?)),
-            IFLA_NUM_TX_QUEUES => push!(values, Self::NumTxQueues(parse_u32(payload)?)),
-            IFLA_NUM_RX_QUEUES => push!(values, Self::NumRxQueues(parse_u32(payload)?)),
-            IFLA_CARRIER => push!(values, Self::Carrier(parse_u8(payload)?)),
-            IFLA_PHYS_PORT_ID => push!(values, Self::PhysPortId(LinkPhysId::parse(payload)?)),
-            IFLA_CARRIER_CHANGES => push!(values, Self::CarrierChanges(parse_u32(payload)?)),
-            IFLA_PHYS_SWITCH_ID => push!(values, Self::PhysSwitchId(LinkPhysId::parse(payload)?)),
-            IFLA_LINK_NETNSID => push!(values, Self::LinkNetNsId(parse_i32(payload)?)),
-            IFLA_PROTO_DOWN => push!(values, Self::ProtoDown(parse_u8(payload)?)),
-            IFLA_GSO_MAX_SEGS => push!(values, Self::GsoMaxSegs(parse_u32(payload)?)),
-            IFLA_GSO_MAX_SIZE => push!(values, Self::GsoMaxSize(parse_u32(payload)?)),
-            IFLA_EVENT => push!(values, Self::Event(LinkEvent::parse(payload)?)),
-            IFLA_NEW_NETNSID => push!(values, Self::NewNetnsId(parse_i32(payload)?)),
-            IFLA_IF_NETNSID => push!(values, Self::IfNetnsId(parse_i32(payload)?)),
-            IFLA_CARRIER_UP_COUNT => push!(values, Self::CarrierUpCount(parse_u32(payload)?)),
-            IFLA_CARRIER_DOWN_COUNT => push!(values, Self::CarrierDownCount(parse_u32(payload)?)),
-            IFLA_NEW_IFINDEX => push!(values, Self::NewIfIndex(parse_i32(payload)?)),
-            IFLA_MIN_MTU => push!(values, Self::MinMtu(parse_u32(payload)?)),
-            IFLA_MAX_MTU => push!(values, Self::MaxMtu(parse_u32(payload)?)),
-            IFLA_GRO_MAX_SIZE => push!(values, Self::GroMaxSize(parse_u32(payload)?)),
-            IFLA_TSO_MAX_SIZE => push!(values, Self::TsoMaxSize(parse_u32(payload)?)),
-            IFLA_TSO_MAX_SEGS => push!(values, Self::TsoMaxSegs(parse_u32(payload)?)),
-            IFLA_ALLMULTI => push!(values, Self::AllMulticast(parse_u32(payload)?)),
-            IFLA_GSO_IPV4_MAX_SIZE => push!(values, Self::GsoIpv4MaxSize(parse_u32(payload)?)),
-            IFLA_GRO_IPV4_MAX_SIZE => push!(values, Self::GroIpv4MaxSize(parse_u32(payload)?)),
-            IFLA_NETNS_IMMUTABLE => push!(values, Self::NetnsImmutable(parse_u8(payload)? != 0)),
+            IFLA_GROUP => push!(values, Self::Group, parse_u32(payload)),
+            IFLA_NET_NS_FD => push!(values, Self::NetNsFd, parse_i32(payload)),
+            IFLA_PROMISCUITY => push!(values, Self::Promiscuity, parse_u32(payload)),
+            IFLA_NUM_TX_QUEUES => push!(values, Self::NumTxQueues, parse_u32(payload)),
+            IFLA_NUM_RX_QUEUES => push!(values, Self::NumRxQueues, parse_u32(payload)),
+            IFLA_CARRIER => push!(values, Self::Carrier, parse_u8(payload)),
+            IFLA_PHYS_PORT_ID => push!(values, Self::PhysPortId, LinkPhysId::parse(payload)),
+            IFLA_CARRIER_CHANGES => push!(values, Self::CarrierChanges, parse_u32(payload)),
+            IFLA_PHYS_SWITCH_ID => push!(values, Self::PhysSwitchId, LinkPhysId::parse(payload)),
+            IFLA_LINK_NETNSID => push!(values, Self::LinkNetNsId, parse_i32(payload)),
+            IFLA_PROTO_DOWN => push!(values, Self::ProtoDown, parse_u8(payload)),
+            IFLA_GSO_MAX_SEGS => push!(values, Self::GsoMaxSegs, parse_u32(payload)),
+            IFLA_GSO_MAX_SIZE => push!(values, Self::GsoMaxSize, parse_u32(payload)),
+            IFLA_EVENT => push!(values, Self::Event, LinkEvent::parse(payload)),
+            IFLA_NEW_NETNSID => push!(values, Self::NewNetnsId, parse_i32(payload)),
+            IFLA_IF_NETNSID => push!(values, Self::IfNetnsId, parse_i32(payload)),
+            IFLA_CARRIER_UP_COUNT => push!(values, Self::CarrierUpCount, parse_u32(payload)),
+            IFLA_CARRIER_DOWN_COUNT => push!(values, Self::CarrierDownCount, parse_u32(payload)),
+            IFLA_NEW_IFINDEX => push!(values, Self::NewIfIndex, parse_i32(payload)),
+            IFLA_MIN_MTU => push!(values, Self::MinMtu, parse_u32(payload)),
+            IFLA_MAX_MTU => push!(values, Self::MaxMtu, parse_u32(payload)),
+            IFLA_GRO_MAX_SIZE => push!(values, Self::GroMaxSize, parse_u32(payload)),
+            IFLA_TSO_MAX_SIZE => push!(values, Self::TsoMaxSize, parse_u32(payload)),
+            IFLA_TSO_MAX_SEGS => push!(values, Self::TsoMaxSegs, parse_u32(payload)),
+            IFLA_ALLMULTI => push!(values, Self::AllMulticast, parse_u32(payload)),
+            IFLA_GSO_IPV4_MAX_SIZE => push!(values, Self::GsoIpv4MaxSize, parse_u32(payload)),
+            IFLA_GRO_IPV4_MAX_SIZE => push!(values, Self::GroIpv4MaxSize, parse_u32(payload)),
+            IFLA_NETNS_IMMUTABLE =>
+                push!(values, n => Self::NetnsImmutable(n != 0), parse_u8(payload)),
             _ => Self::parse_other_into(buffer, family, values),
         }
     }
@@ -108,13 +121,13 @@ impl LinkAttribute {
         match buffer.kind() {
             IFLA_ADDRESS => push!(values, Self::Address(Vec::from(payload))),
             IFLA_BROADCAST => push!(values, Self::Broadcast(Vec::from(payload))),
-            IFLA_IFNAME => push!(values, Self::IfName(parse_string(payload)?)),
-            IFLA_QDISC => push!(values, Self::Qdisc(parse_string(payload)?)),
-            IFLA_IFALIAS => push!(values, Self::IfAlias(parse_string(payload)?)),
-            IFLA_PHYS_PORT_NAME => push!(values, Self::PhysPortName(parse_string(payload)?)),
+            IFLA_IFNAME => push!(values, Self::IfName, parse_string(payload)),
+            IFLA_QDISC => push!(values, Self::Qdisc, parse_string(payload)),
+            IFLA_IFALIAS => push!(values, Self::IfAlias, parse_string(payload)),
+            IFLA_PHYS_PORT_NAME => push!(values, Self::PhysPortName, parse_string(payload)),
             IFLA_PERM_ADDRESS => push!(values, Self::PermAddress(Vec::from(payload))),
-            IFLA_PARENT_DEV_NAME => push!(values, Self::ParentDevName(parse_string(payload)?)),
-            IFLA_PARENT_DEV_BUS_NAME => push!(values, Self::ParentDevBusName(parse_string(payload)?)),
+            IFLA_PARENT_DEV_NAME => push!(values, Self::ParentDevName, parse_string(payload)),
+            IFLA_PARENT_DEV_BUS_NAME => push!(values, Self::ParentDevBusName, parse_string(payload)),
             _ => Self::parse_nested_into(buffer, family, values),
         }
     }
@@ -129,23 +142,23 @@ impl LinkAttribute {
     ) -> Result<(), DecodeError> {
         let payload = buffer.value();
         match buffer.kind() {
-            IFLA_WIRELESS => push!(values, Self::Wireless(WirelessEvent::parse(payload)?)),
-            IFLA_LINKINFO => push!(values, Self::LinkInfo(parse_some(payload)?)),
-            IFLA_VFINFO_LIST => push!(values, Self::VfInfoList(parse_functions(payload)?)),
-            IFLA_VF_PORTS => push!(values, Self::VfPorts(parse_ports(payload)?)),
-            IFLA_PORT_SELF => push!(values, Self::PortSelf(LinkVfPort::parse(payload)?)),
-            IFLA_EXT_MASK => push!(values, Self::ExtMask(parse_mask(payload)?)),
-            IFLA_XDP => push!(values, Self::Xdp(parse_some(payload)?)),
-            IFLA_PROP_LIST => push!(values, Self::PropList(parse_any(payload)?)),
-            IFLA_PROTO_DOWN_REASON => push!(values, Self::ProtoDownReason(parse_any(payload)?)),
-            IFLA_DEVLINK_PORT => push!(values, Self::DevlinkPort(parse_any(payload)?)),
-            IFLA_DPLL_PIN => push!(values, Self::DpllPin(parse_any(payload)?)),
+            IFLA_WIRELESS => push!(values, Self::Wireless, WirelessEvent::parse(payload)),
+            IFLA_LINKINFO => push!(values, Self::LinkInfo, parse_some(payload)),
+            IFLA_VFINFO_LIST => push!(values, Self::VfInfoList, parse_functions(payload)),
+            IFLA_VF_PORTS => push!(values, Self::VfPorts, parse_ports(payload)),
+            IFLA_PORT_SELF => push!(values, Self::PortSelf, LinkVfPort::parse(payload)),
+            IFLA_EXT_MASK => push!(values, Self::ExtMask, parse_mask(payload)),
+            IFLA_XDP => push!(values, Self::Xdp, parse_some(payload)),
+            IFLA_PROP_LIST => push!(values, Self::PropList, parse_any(payload)),
+            IFLA_PROTO_DOWN_REASON => push!(values, Self::ProtoDownReason, parse_any(payload)),
+            IFLA_DEVLINK_PORT => push!(values, Self::DevlinkPort, parse_any(payload)),
+            IFLA_DPLL_PIN => push!(values, Self::DpllPin, parse_any(payload)),
             IFLA_HEADROOM => match payload.len() {
-                2 => push!(values, Self::Headroom(parse_u16(payload)?)),
+                2 => push!(values, Self::Headroom, parse_u16(payload)),
                 _ => keep_into(buffer, values),
             },
             IFLA_TAILROOM => match payload.len() {
-                2 => push!(values, Self::Tailroom(parse_u16(payload)?)),
+                2 => push!(values, Self::Tailroom, parse_u16(payload)),
                 _ => keep_into(buffer, values),
             },
             IFLA_PROTINFO => parse_proto_info_into(buffer, family, values),
@@ -171,7 +184,7 @@ impl LinkAttribute {
         }
     }
 
-    /// The length of the text of a frame's value under the header's family, without header and padding and with no
+    /// The length of the encoding of a frame's value under the header's family, without header and padding and with no
     /// memory; `None` where the value does not fit, or the frame is refused.
     #[inline(always)]
     fn measure_frame(buffer: &NlaBuffer<'_>, family: AddressFamily) -> Option<usize> {
@@ -258,7 +271,7 @@ impl LinkAttribute {
     /// The length of the canonical encoding of a list of attributes under the header's family, and whether an empty
     /// list of ports is among them, with no memory; `None` where one does not fit, or the list is refused.
     ///
-    /// A list of ports has a text of no bytes exactly where it is empty, so that the same walk tells it.
+    /// A list of ports has an encoding of no bytes exactly where it is empty, so that the same walk tells it.
     fn measure_with_ports(bytes: &[u8], family: AddressFamily) -> Option<(usize, bool)> {
         let mut len: usize = 0;
         let mut empty = false;
@@ -299,7 +312,7 @@ fn has_no_flags(buffer: &NlaBuffer<'_>) -> bool {
     buffer.kind_with_flags() == buffer.kind()
 }
 
-/// Whether a frame whose value has a text of so many bytes is an empty list of ports.
+/// Whether a frame whose value has an encoding of so many bytes is an empty list of ports.
 #[inline(always)]
 fn is_empty_ports(buffer: &NlaBuffer<'_>, value_len: usize) -> bool {
     buffer.is_frame();

@@ -191,7 +191,7 @@ impl Shape {
         }
     }
 
-    /// Whether a payload of this shape that is as long as its canonical encoding is that text.
+    /// Whether a payload of this shape that is as long as its canonical encoding is that encoding.
     #[inline(always)]
     pub(crate) fn is_copied(self) -> bool {
         match self {
@@ -206,8 +206,8 @@ impl Shape {
         }
     }
 
-    /// The length of the text of the value that a payload of this shape means, with no memory; `None` where the value
-    /// does not fit, or the payload is refused.
+    /// The length of the encoding of the value that a payload of this shape means, with no memory; `None` where the
+    /// value does not fit, or the payload is refused.
     #[inline(always)]
     pub(crate) fn measure(self, payload: &[u8]) -> Option<usize> {
         match self {

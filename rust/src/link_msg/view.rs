@@ -12,7 +12,7 @@ use crate::nla_wire::{
 };
 use crate::rattle::number::room;
 
-/// Writes the attribute of this kind with the text of an event.
+/// Writes the attribute of this kind with the encoding of an event.
 fn write_event(kind: u16, event: &WirelessEvent, buffer: &mut [u8]) -> usize {
     let len = event.buffer_len();
     event.emit(room(buffer, NLA_HEADER_SIZE..NLA_HEADER_SIZE + len));

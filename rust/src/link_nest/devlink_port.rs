@@ -4,8 +4,8 @@
 use crate::link_nest::numbers::{DEVLINK_ATTR_BUS_NAME, DEVLINK_ATTR_DEV_NAME, DEVLINK_ATTR_PORT_INDEX};
 use crate::nla_wire::error::checked;
 use crate::nla_wire::{
-    DecodeError, DefaultNla, Flat, FlatView, Nla, NlaBuffer, NlaRead, check_string, measure_text, measure_u32,
-    parse_string, parse_u32, write_text_payload, write_u32_payload, write_value,
+    DecodeError, DefaultNla, Flat, FlatView, Nla, NlaBuffer, NlaRead, check_string, kind_names, measure_text,
+    measure_u32, parse_string, parse_u32, write_text_payload, write_u32_payload, write_value,
 };
 use alloc::string::String;
 
@@ -36,12 +36,7 @@ impl Flat for DevlinkPort {
 
 impl NlaRead for DevlinkPort {
     fn kind_name(kind: u16) -> &'static str {
-        match kind {
-            DEVLINK_ATTR_BUS_NAME => "DEVLINK_ATTR_BUS_NAME",
-            DEVLINK_ATTR_DEV_NAME => "DEVLINK_ATTR_DEV_NAME",
-            DEVLINK_ATTR_PORT_INDEX => "DEVLINK_ATTR_PORT_INDEX",
-            _ => "",
-        }
+        kind_names!(kind; DEVLINK_ATTR_BUS_NAME, DEVLINK_ATTR_DEV_NAME, DEVLINK_ATTR_PORT_INDEX)
     }
 
     fn parse_frame(buffer: &NlaBuffer<'_>) -> Result<DevlinkPort, DecodeError> {

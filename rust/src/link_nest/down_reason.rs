@@ -4,8 +4,8 @@
 use crate::link_nest::numbers::{IFLA_PROTO_DOWN_REASON_MASK, IFLA_PROTO_DOWN_REASON_VALUE};
 use crate::nla_wire::error::checked;
 use crate::nla_wire::{
-    DecodeError, DefaultNla, Flat, FlatView, Nla, NlaBuffer, NlaRead, measure_u32, parse_u32, write_u32_payload,
-    write_value,
+    DecodeError, DefaultNla, Flat, FlatView, Nla, NlaBuffer, NlaRead, kind_names, measure_u32, parse_u32,
+    write_u32_payload, write_value,
 };
 
 /// A member of IFLA_PROTO_DOWN_REASON (linux/if_link.h).
@@ -32,11 +32,7 @@ impl Flat for LinkProtocolDownReason {
 
 impl NlaRead for LinkProtocolDownReason {
     fn kind_name(kind: u16) -> &'static str {
-        match kind {
-            IFLA_PROTO_DOWN_REASON_MASK => "IFLA_PROTO_DOWN_REASON_MASK",
-            IFLA_PROTO_DOWN_REASON_VALUE => "IFLA_PROTO_DOWN_REASON_VALUE",
-            _ => "",
-        }
+        kind_names!(kind; IFLA_PROTO_DOWN_REASON_MASK, IFLA_PROTO_DOWN_REASON_VALUE)
     }
 
     fn parse_frame(buffer: &NlaBuffer<'_>) -> Result<LinkProtocolDownReason, DecodeError> {

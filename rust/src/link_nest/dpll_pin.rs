@@ -4,8 +4,8 @@
 use crate::link_nest::numbers::DPLL_A_PIN_ID;
 use crate::nla_wire::error::checked;
 use crate::nla_wire::{
-    DecodeError, DefaultNla, Flat, FlatView, Nla, NlaBuffer, NlaRead, measure_u32, parse_u32, write_u32_payload,
-    write_value,
+    DecodeError, DefaultNla, Flat, FlatView, Nla, NlaBuffer, NlaRead, kind_names, measure_u32, parse_u32,
+    write_u32_payload, write_value,
 };
 
 /// A member of IFLA_DPLL_PIN (linux/dpll.h).
@@ -29,10 +29,7 @@ impl Flat for DpllPin {
 
 impl NlaRead for DpllPin {
     fn kind_name(kind: u16) -> &'static str {
-        match kind {
-            DPLL_A_PIN_ID => "DPLL_A_PIN_ID",
-            _ => "",
-        }
+        kind_names!(kind; DPLL_A_PIN_ID)
     }
 
     fn parse_frame(buffer: &NlaBuffer<'_>) -> Result<DpllPin, DecodeError> {

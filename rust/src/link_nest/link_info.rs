@@ -3,8 +3,8 @@
 
 use crate::link_nest::numbers::IFLA_INFO_KIND;
 use crate::nla_wire::{
-    DecodeError, DefaultNla, Flat, FlatView, Nla, NlaBuffer, NlaRead, check_string, measure_text, parse_string,
-    write_text_payload, write_value,
+    DecodeError, DefaultNla, Flat, FlatView, Nla, NlaBuffer, NlaRead, check_string, kind_names, measure_text,
+    parse_string, write_text_payload, write_value,
 };
 use alloc::string::String;
 
@@ -29,10 +29,7 @@ impl Flat for LinkInfo {
 
 impl NlaRead for LinkInfo {
     fn kind_name(kind: u16) -> &'static str {
-        match kind {
-            IFLA_INFO_KIND => "IFLA_INFO_KIND",
-            _ => "",
-        }
+        kind_names!(kind; IFLA_INFO_KIND)
     }
 
     fn parse_frame(buffer: &NlaBuffer<'_>) -> Result<LinkInfo, DecodeError> {

@@ -3,8 +3,8 @@
 
 use crate::link_nest::numbers::IFLA_ALT_IFNAME;
 use crate::nla_wire::{
-    DecodeError, DefaultNla, Flat, FlatView, Nla, NlaBuffer, NlaRead, check_string, measure_text, parse_string,
-    write_text_payload, write_value,
+    DecodeError, DefaultNla, Flat, FlatView, Nla, NlaBuffer, NlaRead, check_string, kind_names, measure_text,
+    parse_string, write_text_payload, write_value,
 };
 use alloc::string::String;
 
@@ -29,10 +29,7 @@ impl Flat for Prop {
 
 impl NlaRead for Prop {
     fn kind_name(kind: u16) -> &'static str {
-        match kind {
-            IFLA_ALT_IFNAME => "IFLA_ALT_IFNAME",
-            _ => "",
-        }
+        kind_names!(kind; IFLA_ALT_IFNAME)
     }
 
     fn parse_frame(buffer: &NlaBuffer<'_>) -> Result<Prop, DecodeError> {

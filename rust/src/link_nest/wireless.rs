@@ -83,8 +83,8 @@ impl WirelessEvent {
         WirelessEvent::check_len(payload)
     }
 
-    /// The length of the text of the event that a payload means, with no memory taken: `None` where it has more than
-    /// 65531 bytes, or the payload is refused.
+    /// The length of the encoding of the event that a payload means, with no memory taken: `None` where it has more
+    /// than 65531 bytes, or the payload is refused.
     pub(crate) fn measure(payload: &[u8]) -> Option<usize> {
         if payload.len() < HEADER_LEN || payload.len() > MOST_VALUE_LEN {
             return None;
@@ -92,8 +92,8 @@ impl WirelessEvent {
         Some(payload.len())
     }
 
-    /// Writes the text of the event that a payload means, which was measured, to the front of the buffer, and returns
-    /// its length. The rest of the buffer is kept.
+    /// Writes the encoding of the event that a payload means, which was measured, to the front of the buffer, and
+    /// returns its length. The rest of the buffer is kept.
     pub(crate) fn write(payload: &[u8], out: &mut [u8]) -> usize {
         match u16_at(payload, 2) {
             IWEVASSOCREQIE => write_event(out, IWEVASSOCREQIE, &payload[8..]),
@@ -102,17 +102,17 @@ impl WirelessEvent {
         }
     }
 
-    /// Writes the text of the event that a payload means to the front of the buffer, with no memory taken, and returns
-    /// its length. The rest of the buffer is kept.
+    /// Writes the encoding of the event that a payload means to the front of the buffer, with no memory taken, and
+    /// returns its length. The rest of the buffer is kept.
     ///
-    /// There is room for that encoding: as many bytes as the payload has are enough. Returns `None` where the text has
-    /// more than 65531 bytes or the payload is refused, and changes nothing then.
+    /// There is room for that encoding: as many bytes as the payload has are enough. Returns `None` where the encoding
+    /// has more than 65531 bytes or the payload is refused, and changes nothing then.
     pub(crate) fn canon(payload: &[u8], out: &mut [u8]) -> Option<usize> {
         let _len = WirelessEvent::measure(payload)?;
         Some(WirelessEvent::write(payload, out))
     }
 
-    /// Whether the text has at most 65531 bytes.
+    /// Whether the encoding has at most 65531 bytes.
     pub fn fits(&self) -> bool {
         match self {
             WirelessEvent::AssociateRequest(bytes) => bytes.len() <= MOST_VALUE_LEN - HEADER_LEN,
@@ -121,7 +121,7 @@ impl WirelessEvent {
         }
     }
 
-    /// The length of the text in bytes.
+    /// The length of the encoding in bytes.
     pub(crate) fn buffer_len(&self) -> usize {
         match self {
             WirelessEvent::AssociateRequest(bytes) => HEADER_LEN + bytes.len(),
@@ -130,7 +130,7 @@ impl WirelessEvent {
         }
     }
 
-    /// Fills the last bytes of the buffer with the text, and returns the place of its first byte. Earlier bytes are
+    /// Fills the last bytes of the buffer with the encoding, and returns the place of its first byte. Earlier bytes are
     /// kept.
     pub(crate) fn fill(&self, buffer: &mut [u8]) -> usize {
         match self {
@@ -140,7 +140,7 @@ impl WirelessEvent {
         }
     }
 
-    /// Writes the text into a buffer of exactly its length.
+    /// Writes the encoding into a buffer of exactly its length.
     pub(crate) fn emit(&self, buffer: &mut [u8]) {
         let _start = self.fill(buffer);
     }

@@ -9,8 +9,8 @@ use crate::link_nest::numbers::{
 use crate::link_vals::XdpAttached;
 use crate::nla_wire::error::checked;
 use crate::nla_wire::{
-    DecodeError, DefaultNla, Flat, FlatView, Nla, NlaBuffer, NlaRead, measure_i32, measure_u8, measure_u32, parse_i32,
-    parse_u32, write_i32_payload, write_u8_payload, write_u32_payload, write_value,
+    DecodeError, DefaultNla, Flat, FlatView, Nla, NlaBuffer, NlaRead, kind_names, measure_i32, measure_u8, measure_u32,
+    parse_i32, parse_u32, write_i32_payload, write_u8_payload, write_u32_payload, write_value,
 };
 
 /// A member of IFLA_XDP (linux/if_link.h).
@@ -55,17 +55,16 @@ impl Flat for LinkXdp {
 
 impl NlaRead for LinkXdp {
     fn kind_name(kind: u16) -> &'static str {
-        match kind {
-            IFLA_XDP_FD => "IFLA_XDP_FD",
-            IFLA_XDP_ATTACHED => "IFLA_XDP_ATTACHED",
-            IFLA_XDP_FLAGS => "IFLA_XDP_FLAGS",
-            IFLA_XDP_PROG_ID => "IFLA_XDP_PROG_ID",
-            IFLA_XDP_DRV_PROG_ID => "IFLA_XDP_DRV_PROG_ID",
-            IFLA_XDP_SKB_PROG_ID => "IFLA_XDP_SKB_PROG_ID",
-            IFLA_XDP_HW_PROG_ID => "IFLA_XDP_HW_PROG_ID",
-            IFLA_XDP_EXPECTED_FD => "IFLA_XDP_EXPECTED_FD",
-            _ => "",
-        }
+        kind_names!(kind;
+            IFLA_XDP_FD,
+            IFLA_XDP_ATTACHED,
+            IFLA_XDP_FLAGS,
+            IFLA_XDP_PROG_ID,
+            IFLA_XDP_DRV_PROG_ID,
+            IFLA_XDP_SKB_PROG_ID,
+            IFLA_XDP_HW_PROG_ID,
+            IFLA_XDP_EXPECTED_FD,
+        )
     }
 
     fn parse_frame(buffer: &NlaBuffer<'_>) -> Result<LinkXdp, DecodeError> {

@@ -4,7 +4,7 @@
 mod kind;
 mod level;
 pub(crate) mod numbers;
-mod state_text;
+mod state_encoding;
 mod walk;
 
-pub use state_text::{STATE_FORM, same_state, state, state_within};
+pub use state_encoding::{STATE_FORM, same_state, state, state_within};

@@ -7,8 +7,8 @@ use crate::link_vf::numbers::{
 };
 use crate::nla_wire::error::checked;
 use crate::nla_wire::{
-    DecodeError, DefaultNla, Flat, FlatView, Nla, NlaBuffer, NlaRead, measure_u64, parse_u64, write_u64_payload,
-    write_value,
+    DecodeError, DefaultNla, Flat, FlatView, Nla, NlaBuffer, NlaRead, kind_names, measure_u64, parse_u64,
+    write_u64_payload, write_value,
 };
 
 /// A member of IFLA_VF_STATS (linux/if_link.h): a number of eight bytes.
@@ -53,17 +53,16 @@ impl Flat for VfStats {
 
 impl NlaRead for VfStats {
     fn kind_name(kind: u16) -> &'static str {
-        match kind {
-            IFLA_VF_STATS_RX_PACKETS => "IFLA_VF_STATS_RX_PACKETS",
-            IFLA_VF_STATS_TX_PACKETS => "IFLA_VF_STATS_TX_PACKETS",
-            IFLA_VF_STATS_RX_BYTES => "IFLA_VF_STATS_RX_BYTES",
-            IFLA_VF_STATS_TX_BYTES => "IFLA_VF_STATS_TX_BYTES",
-            IFLA_VF_STATS_BROADCAST => "IFLA_VF_STATS_BROADCAST",
-            IFLA_VF_STATS_MULTICAST => "IFLA_VF_STATS_MULTICAST",
-            IFLA_VF_STATS_RX_DROPPED => "IFLA_VF_STATS_RX_DROPPED",
-            IFLA_VF_STATS_TX_DROPPED => "IFLA_VF_STATS_TX_DROPPED",
-            _ => "",
-        }
+        kind_names!(kind;
+            IFLA_VF_STATS_RX_PACKETS,
+            IFLA_VF_STATS_TX_PACKETS,
+            IFLA_VF_STATS_RX_BYTES,
+            IFLA_VF_STATS_TX_BYTES,
+            IFLA_VF_STATS_BROADCAST,
+            IFLA_VF_STATS_MULTICAST,
+            IFLA_VF_STATS_RX_DROPPED,
+            IFLA_VF_STATS_TX_DROPPED,
+        )
     }
 
     fn parse_frame(buffer: &NlaBuffer<'_>) -> Result<VfStats, DecodeError> {

@@ -13,8 +13,8 @@ use crate::link_vfrec::{
 };
 use crate::nla_wire::error::checked;
 use crate::nla_wire::{
-    DecodeError, DefaultNla, MOST_VALUE_LEN, Nla, NlaBuffer, NlaRead, Record, at_most_value, fill_bytes, list_fits,
-    list_measure, measure_by_size, nlas_buffer_len, nlas_fill, write_list, write_value,
+    DecodeError, DefaultNla, MOST_VALUE_LEN, Nla, NlaBuffer, NlaRead, Record, at_most_value, fill_bytes, kind_names,
+    list_fits, list_measure, measure_by_size, nlas_buffer_len, nlas_fill, write_list, write_value,
 };
 use alloc::vec::Vec;
 
@@ -223,22 +223,21 @@ fn record_size(buffer: &NlaBuffer<'_>) -> Option<usize> {
 
 impl NlaRead for VfInfo {
     fn kind_name(kind: u16) -> &'static str {
-        match kind {
-            IFLA_VF_MAC => "IFLA_VF_MAC",
-            IFLA_VF_VLAN => "IFLA_VF_VLAN",
-            IFLA_VF_TX_RATE => "IFLA_VF_TX_RATE",
-            IFLA_VF_SPOOFCHK => "IFLA_VF_SPOOFCHK",
-            IFLA_VF_LINK_STATE => "IFLA_VF_LINK_STATE",
-            IFLA_VF_RATE => "IFLA_VF_RATE",
-            IFLA_VF_RSS_QUERY_EN => "IFLA_VF_RSS_QUERY_EN",
-            IFLA_VF_STATS => "IFLA_VF_STATS",
-            IFLA_VF_TRUST => "IFLA_VF_TRUST",
-            IFLA_VF_IB_NODE_GUID => "IFLA_VF_IB_NODE_GUID",
-            IFLA_VF_IB_PORT_GUID => "IFLA_VF_IB_PORT_GUID",
-            IFLA_VF_VLAN_LIST => "IFLA_VF_VLAN_LIST",
-            IFLA_VF_BROADCAST => "IFLA_VF_BROADCAST",
-            _ => "",
-        }
+        kind_names!(kind;
+            IFLA_VF_MAC,
+            IFLA_VF_VLAN,
+            IFLA_VF_TX_RATE,
+            IFLA_VF_SPOOFCHK,
+            IFLA_VF_LINK_STATE,
+            IFLA_VF_RATE,
+            IFLA_VF_RSS_QUERY_EN,
+            IFLA_VF_STATS,
+            IFLA_VF_TRUST,
+            IFLA_VF_IB_NODE_GUID,
+            IFLA_VF_IB_PORT_GUID,
+            IFLA_VF_VLAN_LIST,
+            IFLA_VF_BROADCAST,
+        )
     }
 
     fn parse_frame(buffer: &NlaBuffer<'_>) -> Result<VfInfo, DecodeError> {

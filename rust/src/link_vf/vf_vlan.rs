@@ -4,7 +4,7 @@
 use crate::link_vf::numbers::IFLA_VF_VLAN_INFO;
 use crate::link_vfrec::VfVlanInfo;
 use crate::nla_wire::error::checked;
-use crate::nla_wire::{DecodeError, DefaultNla, Nla, NlaBuffer, NlaRead, Record, write_value};
+use crate::nla_wire::{DecodeError, DefaultNla, Nla, NlaBuffer, NlaRead, Record, kind_names, write_value};
 
 /// A member of IFLA_VF_VLAN_LIST (linux/if_link.h).
 #[derive(Clone, Debug, PartialEq, Eq, Hash)]
@@ -47,10 +47,7 @@ impl Nla for VfVlan {
 
 impl NlaRead for VfVlan {
     fn kind_name(kind: u16) -> &'static str {
-        match kind {
-            IFLA_VF_VLAN_INFO => "IFLA_VF_VLAN_INFO",
-            _ => "",
-        }
+        kind_names!(kind; IFLA_VF_VLAN_INFO)
     }
 
     fn parse_frame(buffer: &NlaBuffer<'_>) -> Result<VfVlan, DecodeError> {

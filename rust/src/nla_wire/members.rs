@@ -62,10 +62,9 @@ pub fn check_members<V: Nla, P: Place<V>>(place: &P, bytes: &[u8]) -> Result<(),
     check_each(place, bytes)
 }
 
-/// The length of the canonical encoding of a list's members, with no memory taken; `None` where a member does not fit,
-/// or the list is refused. It is a function of its own for each place, whose loop has the registers.
+/// The length that `measure_members` returns. It is a function of its own for each place, whose loop has the registers.
 #[inline(never)]
-pub fn measure_members<V: Nla, P: Place<V>>(place: &P, bytes: &[u8]) -> Option<usize> {
+fn measure_each<V: Nla, P: Place<V>>(place: &P, bytes: &[u8]) -> Option<usize> {
     let mut len: usize = 0;
     for item in NlasIterator::new(bytes) {
         let Ok(frame) = item else {
@@ -80,18 +79,22 @@ pub fn measure_members<V: Nla, P: Place<V>>(place: &P, bytes: &[u8]) -> Option<u
     Some(len)
 }
 
+/// The length of the canonical encoding of a list's members, with no memory taken; `None` where a member does not fit,
+/// or the list is refused.
+#[inline(always)]
+pub fn measure_members<V: Nla, P: Place<V>>(place: &P, bytes: &[u8]) -> Option<usize> {
+    measure_each(place, bytes)
+}
+
 /// The same where the encoding is to be the value of an attribute: `None` too where it has more than 65531 bytes.
 pub fn measure_nested_members<V: Nla, P: Place<V>>(place: &P, bytes: &[u8]) -> Option<usize> {
     let len = measure_members(place, bytes)?;
     at_most_value(len)
 }
 
-/// Writes the canonical encoding of a list's members, one after the other, to the front of the buffer, and returns its
-/// length. The rest of the buffer is kept.
-///
-/// The list was measured, and there is room for its encoding.
+/// Writes what `write_members` writes. It is a function of its own for each place, whose loop has the registers.
 #[inline(never)]
-pub fn write_members<V: Nla, P: Place<V>>(place: &P, bytes: &[u8], out: &mut [u8]) -> usize {
+fn write_each<V: Nla, P: Place<V>>(place: &P, bytes: &[u8], out: &mut [u8]) -> usize {
     let mut at = 0;
     for item in NlasIterator::new(bytes) {
         let Ok(frame) = item else {
@@ -102,6 +105,15 @@ pub fn write_members<V: Nla, P: Place<V>>(place: &P, bytes: &[u8], out: &mut [u8
         }
     }
     at
+}
+
+/// Writes the canonical encoding of a list's members, one after the other, to the front of the buffer, and returns its
+/// length. The rest of the buffer is kept.
+///
+/// The list was measured, and there is room for its encoding.
+#[inline(always)]
+pub fn write_members<V: Nla, P: Place<V>>(place: &P, bytes: &[u8], out: &mut [u8]) -> usize {
+    write_each(place, bytes, out)
 }
 
 /// Writes the attribute of this kind whose value is the canonical encoding of a list's members, as `write_members`

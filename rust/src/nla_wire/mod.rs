@@ -10,13 +10,26 @@ pub mod flat;
 pub mod iterator;
 pub mod members;
 pub mod nla;
+pub mod nla_read;
 pub mod number;
 pub mod payload;
 pub mod place;
-pub mod read;
 pub mod record;
 pub mod text;
 pub mod write;
+
+/// The name of the constant that has this number, among those that are listed; empty where none has it. For `kind_name`
+/// of a place: each name is typed once, and is that of its number.
+macro_rules! kind_names {
+    ($kind:expr; $($name:ident),+ $(,)?) => {
+        match $kind {
+            $($name => stringify!($name),)+
+            _ => "",
+        }
+    };
+}
+
+pub(crate) use kind_names;
 
 pub use buffer::{NLA_F_NESTED, NLA_F_NET_BYTEORDER, NLA_HEADER_SIZE, NLA_TYPE_MASK, NlaBuffer};
 pub use default_nla::DefaultNla;
@@ -30,6 +43,7 @@ pub use members::{
 pub use nla::{
     Nla, emit_nlas, list_fits, list_measure, nlas_buffer_len, nlas_fill, nlas_fit, nlas_measure, nlas_write, write_list,
 };
+pub use nla_read::{NlaRead, OwnPlace};
 pub use number::{
     emit_i32, emit_u16, emit_u32, emit_u64, parse_i32, parse_ipv6_addr, parse_u8, parse_u16, parse_u32, parse_u64,
     to_u16,
@@ -40,7 +54,6 @@ pub use payload::{
     write_u16_payload, write_u32_payload, write_u64_payload,
 };
 pub use place::{Place, check_one, parse_one};
-pub use read::{NlaRead, OwnPlace};
 pub use record::{PlainRecord, Record, RecordBuffer, measure_by_size};
 pub use text::{check_string, parse_string};
 pub use write::{
