@@ -4,8 +4,8 @@ x86-64 stays as out/NAME.o, and of a library as out/libNAME.a. JOBS is in how ma
 toolchain else chooses: one takes the least of the processors, and where these have other work the least time too.
 
 It begins with what was kept here, as `rt check` does, and where the toolchain shares kept work between checkouts with
-what was kept there; it takes the libraries below as `rt lib` built them of the same files, if it finds all. Else it
-stands over those that the gate left, and then proves the crate once more. No command of the toolchain does this.
+what was kept there. It stands over the libraries that the gate left; where one lacks it takes them as `rt lib` built
+them of the same files, if it finds all. No command of the toolchain does this.
 `rt ci` proves a static library and does not build it, and leaves the libraries below without the stamp by which `rt
 lib` knows them; and nothing writes the text.
 """
@@ -133,6 +133,11 @@ def shares(command):
     return all(hasattr(command, it) for it in ("places_of", "take_rlib", "adopt", "offer"))
 
 
+def lacks_library(crate):
+    """Whether a library below stands not in its out/: one that is taken from elsewhere does not go with the others."""
+    return not all(os.path.exists(f"{it.folder}/out/rlib/{it.name}.rlib/format") for it in crate.below())
+
+
 def take_libraries(command, crate):
     """Takes what `rt lib` built of the libraries below, here or in another checkout, where all are to be had."""
     def is_kept(it):
@@ -153,7 +158,7 @@ def main(to, *jobs):
     here = os.getcwd()
     crates = command.rtlib.crates_below(os.path.dirname(os.path.dirname(here)))
     (crate,) = [it for it in crates if it.folder == here]
-    if shares(command):
+    if shares(command) and lacks_library(crate):
         take_libraries(command, crate)
     crate.held = command.rtlib.lock([crate])
     if shares(command):
