@@ -134,7 +134,7 @@ def shares(command):
 
 
 def lacks_library(crate):
-    """Whether a library below stands not in its out/: one that is taken from elsewhere does not go with the others."""
+    """Whether some library below is not in its out/. One that is taken from elsewhere does not go with those."""
     return not all(os.path.exists(f"{it.folder}/out/rlib/{it.name}.rlib/format") for it in crate.below())
 
 
