@@ -160,6 +160,8 @@ EMPTY = re.compile(r"\{\n *\}")
 ARM_BLOCK = re.compile(r"^( +)(.* =>) \{\n +([^\n{};/]+)\n\1\}$", re.M)
 ARM_BRACED = re.compile(r"^( +)(.* =>) \{ ([^\n{};]+) \}$", re.M)
 ARM_BROKEN = re.compile(r"^( +)(.* =>) ((?:\S[^\n]*)?[(\[])\n((?:\1 {4,}[^\n]*\n)+)\1([)\]]+\??),$", re.M)
+# what a macro takes that is no expression is not broken
+ARM_OF_MACRO = re.compile(r"^( +)(.* =>)\n\1 {4}(\w+!\([^\n]* => [^\n]*\),)$", re.M)
 CHOICE = re.compile(r"^(( +)(?:let [^\n]*= )?if [^\n{}]*)\{\n +([^\n{};]+)\n\2\} else \{\n +([^\n{};]+)\n\2\}"
                     r"(;|(?=\n *\}$))", re.M)
 # rustfmt takes values of at most ten letters for short
@@ -226,6 +228,7 @@ def fill_rows(found):
 
 
 JOINS = [(OPERATOR, join_operator), (ARM_BLOCK, join_arm), (ARM_BRACED, join_arm), (ARM_BROKEN, break_arm),
+         (ARM_OF_MACRO, r"\1\2 \3"),
          (CHOICE, join_choice), (ROWS, fill_rows), (CONSTANT, join_constant), (CHAIN, join_chain)]
 
 

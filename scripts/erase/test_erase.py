@@ -90,6 +90,8 @@ LAID = [
      "fn f() -> u8 {\n    if x { 1 } else { 2 }\n}\n"),
     ("fn f() {\n    match x {\n        A => { 1 }\n    }\n}\n",
      "fn f() {\n    match x {\n        A => 1,\n    }\n}\n"),
+    ("fn f() {\n    match x {\n        A =>\n            push!(y, n => g(n), h()),\n    }\n}\n",
+     "fn f() {\n    match x {\n        A => push!(y, n => g(n), h()),\n    }\n}\n"),
     ("fn f() {\n    X {\n        a,\n        ..self\n    }\n}\n", "fn f() {\n    X { a, ..self }\n}\n"),
     ("fn f() {\n    g([\n" + 16 * "        words[10], words[11],\n" + "    ])\n}\n",
      "fn f() {\n    g([\n" + 3 * ("       " + 5 * " words[10], words[11]," + "\n")

@@ -70,8 +70,7 @@ impl LinkAttribute {
             IFLA_MASTER => push!(values, Self::Controller, parse_u32(payload)),
             IFLA_TXQLEN => push!(values, Self::TxQueueLen, parse_u32(payload)),
             IFLA_MAP => push!(values, Self::Map, Map::parse(payload)),
-            IFLA_OPERSTATE =>
-                push!(values, n => Self::OperState(State::from(n)), parse_u8(payload)),
+            IFLA_OPERSTATE => push!(values, n => Self::OperState(State::from(n)), parse_u8(payload)),
             IFLA_LINKMODE => push!(values, n => Self::Mode(LinkMode::from(n)), parse_u8(payload)),
             IFLA_NET_NS_PID => push!(values, Self::NetNsPid, parse_u32(payload)),
             IFLA_NUM_VF => push!(values, Self::NumVf, parse_u32(payload)),
@@ -103,8 +102,7 @@ impl LinkAttribute {
             IFLA_ALLMULTI => push!(values, Self::AllMulticast, parse_u32(payload)),
             IFLA_GSO_IPV4_MAX_SIZE => push!(values, Self::GsoIpv4MaxSize, parse_u32(payload)),
             IFLA_GRO_IPV4_MAX_SIZE => push!(values, Self::GroIpv4MaxSize, parse_u32(payload)),
-            IFLA_NETNS_IMMUTABLE =>
-                push!(values, n => Self::NetnsImmutable(n != 0), parse_u8(payload)),
+            IFLA_NETNS_IMMUTABLE => push!(values, n => Self::NetnsImmutable(n != 0), parse_u8(payload)),
             _ => Self::parse_other_into(buffer, family, values),
         }
     }
