@@ -20,7 +20,7 @@ fn setting_attribute(number: u16, value: i32) -> [u8; SETTING_LEN]
     [8, 0, kind_low, kind_high, a, b, c, d]
 }
 
-/// The length of a setting's encoding: none where it is zero.
+/// The length of a setting's encoding: none where it is zero; for the proof: the clause names the number.
 fn setting_len(_number: u16, value: i32) -> usize
     ensures text { result ≡ length (setting_encoding (record { number = _number; value = value })) }
     ensures short { result ≤ 8 }

@@ -81,7 +81,7 @@ pub trait Record<const SIZE: usize>: Sized {
     }
 
     /// The length of the encoding of the record that a payload means as if zeros followed it: `SIZE`, whatever it
-    /// holds.
+    /// holds; for the proof: the clause names the payload.
     #[inline(always)]
     final fn measure_filled(_payload: &[u8]) -> Option<usize>
         requires { SIZE ≤ most_payload }
@@ -91,7 +91,8 @@ pub trait Record<const SIZE: usize>: Sized {
         Some(SIZE)
     }
 
-    /// The bytes that a payload has to have, by which alone it is measured.
+    /// The bytes that a payload has to have, by which alone it is measured; for the proof: the clause names the
+    /// payload.
     #[inline(always)]
     final fn size_for(_payload: &[u8]) -> usize
         requires { SIZE ≤ most_payload }

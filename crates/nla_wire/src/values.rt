@@ -64,18 +64,21 @@ impl Bytes {
         vec
     }
 
+    /// The bytes in order, which are borrowed.
     pub fn as_slice(&self) -> &[u8]
         ensures { result.now ≡ self.now }
     {
         self.vec.as_slice()
     }
 
+    /// The number of bytes.
     pub fn len(&self) -> usize
         ensures { result ≡ length self.now }
     {
         self.vec.len()
     }
 
+    /// Whether there are no bytes.
     pub fn is_empty(&self) -> bool
         ensures { result ≡ (length self.now == 0) }
     {
@@ -144,6 +147,7 @@ impl Text {
         string
     }
 
+    /// The text, which is borrowed.
     pub fn as_str(&self) -> &str
         ensures { result.now ≡ self.now }
     {
@@ -157,6 +161,7 @@ impl Text {
         self.as_str().len()
     }
 
+    /// Whether the text has no bytes.
     pub fn is_empty(&self) -> bool
         ensures { result ≡ (length self.now == 0) }
     {
@@ -218,6 +223,7 @@ impl<T> List<T> {
         vec
     }
 
+    /// The values in order, which are borrowed.
     pub fn as_slice(&self) -> &[T]
         ensures { result.now ≡ self.now }
     {
@@ -250,12 +256,14 @@ impl<T> List<T> {
         self.vec.push(value)
     }
 
+    /// The number of values.
     pub fn len(&self) -> usize
         ensures { result ≡ length self.now }
     {
         self.as_slice().len()
     }
 
+    /// Whether there are no values.
     pub fn is_empty(&self) -> bool
         ensures { result ≡ (length self.now == 0) }
     {
