@@ -19,7 +19,7 @@ use Rattle.link_msg.specs.Messages.{Means, FirstFault, MeansNothing, IsBounded, 
 use Rattle.link_msg.specs.declared.message.LinkMessage.{LinkMessage}
 use Rattle.link_msg.proofs.Reading.{message_agrees}
 use Rattle.link_msg.specs.CanonErrors.{refusal_for, refusal_of}
-use Rattle.link_msg.specs.Canonical.{IsAccepted, HasText, IsRefusal, AreSame}
+use Rattle.link_msg.specs.Canonical.{IsAccepted, HasText, IsRefusal, AreSameMessages}
 use Rattle.link_msg.proofs.Messaging.{text_length}
 use Rattle.link_msg.proofs.ReadingBack.{message_back}
 use Rattle.link_msg.proofs.LawProofs.{same_text}
@@ -94,16 +94,13 @@ accepted_text b t m bytes h is = record {
 
 -- two accepted messages, compared
 pub compared : (a b : List ℕ) (m n : LinkMessage) (answer : Bool) → IsBytes a → IsBytes b → IsAccepted a m
-    → IsAccepted b n → (IsTrue answer ↔ (m ≡ n)) → AreSame a b answer
+    → IsAccepted b n → (IsTrue answer ↔ (m ≡ n)) → AreSameMessages a b m n answer
 compared a b m n answer bytes_a bytes_b first second same =
     let texts =
-    same_text a b m n bytes_a bytes_b first.means second.means first.fits second.fits first.ports second.ports in (
-      m,
-      n,
-      record {
-        first = first;
-        second = second;
-        messages = same;
-        texts = (λ e. texts.1 (same.0 e), λ e. same.1 (texts.0 e));
-      },
-    )
+    same_text a b m n bytes_a bytes_b first.means second.means first.fits second.fits first.ports second.ports in
+    record {
+      first = first;
+      second = second;
+      messages = same;
+      texts = (λ e. texts.1 (same.0 e), λ e. same.1 (texts.0 e));
+    }

@@ -2,6 +2,7 @@
 
 ghost use Rattle.std.specs.Prelude.{◌≡◌, ℕ, ◌+◌, ◌-◌, ◌^◌, ◌<◌, ◌≤◌, ◌++◌, ◌↔◌, List, length, take, replicate};
 ghost use Rattle.std.specs.Prelude.{IsTrue, IfOk, IfErr};
+ghost use Rattle.nla_wire.specs.Frames.{IsBytes};
 ghost use Rattle.nla_wire.specs.Grammar.{list};
 ghost use Rattle.nla_wire.specs.Canon.{canons, AllFit, HasRoom, Rewrites, Writes};
 ghost use Rattle.link_msg.specs.Header.{header_size, header_bytes};
@@ -9,12 +10,13 @@ ghost use Rattle.link_msg.specs.Tables.{attribute_frame, AttributeFits, attribut
 ghost use Rattle.link_msg.specs.CanonErrors.{SameRefusal, SameRoomRefusal};
 ghost use Rattle.link_msg.specs.Prefixes.{IsPrefix};
 ghost use Rattle.link_msg.specs.Canonical.{IsAccepted, IsRefusal, IsRefusalAlone, IsMeasured, HasLength, HasText};
-ghost use Rattle.link_msg.specs.Canonical.{HoldsText, AreSame, IsRefusalOfTwo, IsWritten, IsWithin};
+ghost use Rattle.link_msg.specs.Canonical.{HoldsText, AreSame, AreSameMessages, IsRefusalOfTwo, IsWritten, IsWithin};
 
 use crate::attribute::LinkAttribute;
 use crate::header::{HEADER_SIZE, LinkHeader, LinkMessageBuffer};
 use crate::message::{LinkMessage, check_attributes, split_header};
 use crate::place::AttributePlace;
+use nla_wire::exact::same;
 use nla_wire::{Cause, DecodeError, write_members};
 use std::alloc::{AllocError, Global};
 use thiserror::Error;
@@ -83,8 +85,10 @@ impl From<DecodeError> for CanonError {
 }
 
 /// The message that the bytes mean, if it fits and holds no empty list of ports.
+#[tactic(auto, using(nla_wire::proofs::Front::all_bytes))]
 fn parse_accepted(alloc: Global, input: &[u8]) -> Result<LinkMessage, CanonError>
     ensures ok { IfOk result (IsAccepted input.now) }
+    ensures bytes { IfOk result (λ _. IsBytes input.now) }
     ensures err { IfErr result (IsRefusal input.now) }
 {
     let message = LinkMessage::parse(alloc, input)?;
@@ -205,6 +209,15 @@ pub fn canonical(alloc: Global, input: &[u8]) -> Result<Vec<u8>, CanonError>
     Ok(encoding)
 }
 
+/// Whether two messages that were read are equal; for the proof: a call of its own, whose clause gives `same_message`
+/// its answer whole.
+fn same_accepted(one: &LinkMessage, other: &LinkMessage) -> bool
+    ensures { (a : List ℕ) → (b : List ℕ) → IsBytes a → IsBytes b → IsAccepted a one.now
+        → IsAccepted b other.now → AreSameMessages a b one.now other.now result }
+{
+    same(one, other)
+}
+
 /// Whether two byte strings mean the same message, which is so exactly where their canonical encodings are equal.
 ///
 /// Both have to mean messages that fit and hold no empty list of ports. Refuses as `canonical` does, each refusal of
@@ -215,7 +228,7 @@ pub fn same_message(alloc: Global, first: &[u8], second: &[u8]) -> Result<bool, 
 {
     let one = parse_accepted(alloc, first)?;
     let other = parse_accepted(alloc, second)?;
-    Ok(one == other)
+    Ok(same_accepted(&one, &other))
 }
 
 /// Why nothing was written to a buffer.
