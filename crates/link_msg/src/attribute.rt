@@ -4,6 +4,7 @@ ghost use Rattle.std.specs.Prelude.{◌≡◌, length};
 
 use crate::numbers::*;
 use crate::payload::{clone_mask, truth_byte};
+use crate::view::View;
 use link_afspec::{AfSpecBridge, AfSpecUnspec, LinkProtoInfoBridge, LinkProtoInfoInet6};
 use link_nest::{
     DevlinkPort, DpllPin, LinkInfo, LinkProtocolDownReason, LinkXdp, Prop, WirelessEvent,
@@ -220,31 +221,6 @@ impl Nla for LinkAttribute {
     }
 }
 
-/// What an attribute's value is written from.
-#[derive(Clone, Copy)]
-pub(crate) enum View<'a> {
-    Flat(FlatView<'a>),
-    Id(&'a LinkPhysId),
-    Stats(&'a Stats),
-    Stats64(&'a Stats64),
-    Map(&'a Map),
-    Mask(&'a [LinkExtentMask]),
-    Event(&'a WirelessEvent),
-    Port(&'a [VfPort]),
-    Infos(&'a [LinkInfo]),
-    Functions(&'a [LinkVfInfo]),
-    Ports(&'a [LinkVfPort]),
-    Xdps(&'a [LinkXdp]),
-    Props(&'a [Prop]),
-    Reasons(&'a [LinkProtocolDownReason]),
-    DevlinkPorts(&'a [DevlinkPort]),
-    DpllPins(&'a [DpllPin]),
-    BridgeInfos(&'a [LinkProtoInfoBridge]),
-    Inet6Infos(&'a [LinkProtoInfoInet6]),
-    Bridges(&'a [AfSpecBridge]),
-    Unspecs(&'a [AfSpecUnspec]),
-}
-
 /// A row for each variant, in their order, for `view` and `CloneIn`: how it is copied, its name, what it holds, its
 /// kind with both flag bits, and what its value is written from. `plain` is copied as it is, `held` with memory, and
 /// `mask` is a list of flags.
@@ -326,13 +302,14 @@ macro_rules! variants {
 impl LinkAttribute {
     ghost use Rattle.std.specs.Prelude.{◌↔◌, IsTrue, MatchBool};
     ghost use Rattle.link_msg.specs.Tables.{attribute_frame, InsideFits, AttributeFits, NotEmptyPorts};
-    ghost use Rattle.link_msg.specs.View.{view_bytes, ViewFits};
+    ghost use Rattle.link_msg.specs.View.{view_bytes, view_now, viewed, ViewFits};
 
     /// Its kind, with both flag bits, and what its value is written from.
     #[tactic(auto, unfolding(crate::specs::Tables::attribute_view))]
     #[inline(always)]
-    fn view(&self) -> (u16, View<'_>)
+    pub fn view(&self) -> (u16, View<'_>)
         ensures kind { result.0 ≡ (attribute_frame self.now).kind }
+        ensures value { view_now result.1 ≡ viewed self.now }
         ensures payload { view_bytes result.1 ≡ (attribute_frame self.now).payload }
         ensures inside { ViewFits result.1 ↔ InsideFits self.now }
     {

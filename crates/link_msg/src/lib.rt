@@ -18,7 +18,7 @@ pub mod place;
 mod prefix;
 mod shape;
 pub mod to_vec;
-mod view;
+pub mod view;
 mod walk;
 
 pub use attribute::LinkAttribute;
@@ -144,3 +144,4 @@ pub use nla_wire::parse_u16;
 pub use nla_wire::parse_u32;
 pub use nla_wire::parse_u64;
 pub use nla_wire::write_list;
+pub use view::View;

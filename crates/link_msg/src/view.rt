@@ -6,16 +6,65 @@ ghost use Rattle.nla_wire.specs.Canon.{canon, Measures, Writes};
 ghost use Rattle.link_nest.specs.Wireless.{wireless_encoding, WirelessFits};
 ghost use Rattle.link_msg.specs.View.{view_bytes, ViewFits};
 
-use crate::attribute::View;
-use link_nest::WirelessEvent;
+use link_afspec::{AfSpecBridge, AfSpecUnspec, LinkProtoInfoBridge, LinkProtoInfoInet6};
+use link_nest::{
+    DevlinkPort, DpllPin, LinkInfo, LinkProtocolDownReason, LinkXdp, Prop, WirelessEvent,
+};
 use link_recs::map::MAP_SIZE;
 use link_recs::stats::STATS_SIZE;
 use link_recs::stats64::STATS64_SIZE;
-use link_vals::LinkExtentMask;
+use link_recs::{Map, Stats, Stats64};
+use link_vals::{LinkExtentMask, LinkPhysId};
+use link_vf::{LinkVfInfo, LinkVfPort, VfPort};
 use nla_wire::{
-    NLA_HEADER_SIZE, Record, at_most_value, finish, list_measure, write_list, write_u32,
+    FlatView, NLA_HEADER_SIZE, Record, at_most_value, finish, list_measure, write_list, write_u32,
     write_value,
 };
+
+/// What an attribute's value is written from.
+#[derive(Clone, Copy)]
+pub enum View<'a> {
+    /// One number, text or bytes.
+    Flat(FlatView<'a>),
+    /// IFLA_PHYS_PORT_ID, IFLA_PHYS_SWITCH_ID: the bytes of an id.
+    Id(&'a LinkPhysId),
+    /// IFLA_STATS: a record.
+    Stats(&'a Stats),
+    /// IFLA_STATS64: a record.
+    Stats64(&'a Stats64),
+    /// IFLA_MAP: a record.
+    Map(&'a Map),
+    /// IFLA_EXT_MASK: flags, written as the sum of their numbers.
+    Mask(&'a [LinkExtentMask]),
+    /// IFLA_WIRELESS: an event.
+    Event(&'a WirelessEvent),
+    /// IFLA_PORT_SELF: the members of the port.
+    Port(&'a [VfPort]),
+    /// IFLA_LINKINFO: its members.
+    Infos(&'a [LinkInfo]),
+    /// IFLA_VFINFO_LIST: its virtual functions.
+    Functions(&'a [LinkVfInfo]),
+    /// IFLA_VF_PORTS: its ports.
+    Ports(&'a [LinkVfPort]),
+    /// IFLA_XDP: its members.
+    Xdps(&'a [LinkXdp]),
+    /// IFLA_PROP_LIST: its members.
+    Props(&'a [Prop]),
+    /// IFLA_PROTO_DOWN_REASON: its members.
+    Reasons(&'a [LinkProtocolDownReason]),
+    /// IFLA_DEVLINK_PORT: its members.
+    DevlinkPorts(&'a [DevlinkPort]),
+    /// IFLA_DPLL_PIN: its members.
+    DpllPins(&'a [DpllPin]),
+    /// IFLA_PROTINFO, of the family AF_BRIDGE: its members.
+    BridgeInfos(&'a [LinkProtoInfoBridge]),
+    /// IFLA_PROTINFO, of the family AF_INET6: its members.
+    Inet6Infos(&'a [LinkProtoInfoInet6]),
+    /// IFLA_AF_SPEC, of the family AF_BRIDGE: its members.
+    Bridges(&'a [AfSpecBridge]),
+    /// IFLA_AF_SPEC, of the family AF_UNSPEC: its members.
+    Unspecs(&'a [AfSpecUnspec]),
+}
 
 /// Writes the attribute of this kind with the encoding of an event.
 fn write_event(kind: u16, event: &WirelessEvent, buffer: &mut [u8]) -> usize

@@ -5,7 +5,7 @@ use Rattle.link_recs.proofs.StatsLemmas.{length_stats_bytes}
 use Rattle.link_recs.proofs.Stats64Lemmas.{length_stats64_bytes}
 use Rattle.link_recs.proofs.MapLemmas.{length_map_bytes}
 use Rattle.link_msg.specs.View.{view_bytes}
-use Rattle.link_msg.proofs.attribute.View.write.Goals as goal
+use Rattle.link_msg.proofs.view.View.write.Goals as goal
 
 pub write_attribute-requires-clause-room : goal.write_attribute-requires-clause-room
 write_attribute-requires-clause-room c =
