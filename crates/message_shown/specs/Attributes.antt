@@ -1,6 +1,6 @@
 -- The attributes of a link, and what each is shown as.
-use Rattle.std.specs.Prelude.{◌≡◌, ℕ, true, List, [], ◌∷◌, ◌++◌, Option, None, Some, bit_and, bit_or}
-use Rattle.std.specs.Prelude.{codes, cond, map, min, take, get_or}
+use Rattle.std.specs.Prelude.{◌≡◌, ℕ, List, [], ◌∷◌, ◌++◌, Option, None, Some, bit_and, bit_or}
+use Rattle.std.specs.Prelude.{codes, map, min, take, get_or}
 use Rattle.std.specs.Int.{w16, w32}
 use Rattle.std.specs.List.{fold}
 use Rattle.link_msg.specs.declared.attribute.LinkAttribute.{LinkAttribute}
@@ -27,15 +27,15 @@ use Rattle.message_shown.specs.declared.context.Context.{Context}
 use Rattle.message_shown.specs.declared.names.TheConstants.{ATTRIBUTES, EXT_MASK, LINK_FLAGS}
 use Rattle.message_shown.specs.declared.form.Form.{Form}
 use Rattle.message_shown.specs.declared.form.Form.TheVariants as Forms
-use Rattle.message_shown.specs.Forms.{form_shown, is_own}
-use Rattle.nla_wire.specs.FlatViews.{flat_bytes}
-use Rattle.nla_wire.specs.declared.flat.FlatView.{FlatView}
+use Rattle.message_shown.specs.Forms.{form_shown}
+use Rattle.link_msg.specs.View.{Viewed, viewed}
 use Rattle.link_nest.specs.Tables.{link_info_place, prop_place, devlink_port_place, dpll_pin_place, down_reason_place}
 use Rattle.link_nest.specs.Tables.{xdp_place}
+use Rattle.link_vf.specs.Tables.{vf_port_place}
 use Rattle.link_afspec.specs.Tables.{link_proto_info_bridge_place, link_proto_info_inet6_place, af_spec_bridge_place}
 use Rattle.link_afspec.specs.Tables.{af_spec_unspec_place}
 use Rattle.message_shown.specs.Counters.{signed, stats_shown, stats64_shown, map_shown}
-use Rattle.message_shown.specs.Functions.{function_members, port_members, objects_under}
+use Rattle.message_shown.specs.Functions.{function_members, port_members, objects_under, vf_port_said}
 use Rattle.message_shown.specs.Settings.{proto_inet6_said, unspec_said}
 use Rattle.message_shown.specs.Nests.{bridge_said, link_info_said, af_spec_bridge_said, xdp_said}
 use Rattle.message_shown.specs.Nests.{prop_said, down_reason_said, devlink_port_said, dpll_pin_said, wireless_shown}
@@ -59,62 +59,57 @@ abbrev pub info_shown : Context → List ℕ → List LinkInfo → Members
 info_shown cx name infos =
     (name, object_of (members_of (items_of link_info_place.frame (link_info_said (with_kinds cx infos)) infos))) ∷ []
 
--- a list of attributes, as an object
-abbrev pub list_shown : Context → List ℕ → LinkAttribute → Members
-list_shown cx name (Attributes.ProtoInfoBridge items) =
-    (name, object_of (members_of (items_of link_proto_info_bridge_place.frame (bridge_said cx) items))) ∷ []
-list_shown cx name (Attributes.ProtoInfoInet6 items) =
-    (name, object_of (members_of (items_of link_proto_info_inet6_place.frame (proto_inet6_said cx) items))) ∷ []
-list_shown cx name (Attributes.LinkInfo items) = info_shown cx name items
-list_shown cx name (Attributes.VfInfoList entries) =
-    (name, object_of (objects_under (codes "info") (map (function_members cx) entries))) ∷ []
-list_shown cx name (Attributes.VfPorts entries) =
-    (name, object_of (objects_under (codes "port") (map (port_members cx) entries))) ∷ []
-list_shown cx name (Attributes.PortSelf port) = (name, object_of (port_members cx port)) ∷ []
-list_shown cx name (Attributes.AfSpecBridge items) =
-    (name, object_of (members_of (items_of af_spec_bridge_place.frame (af_spec_bridge_said cx) items))) ∷ []
-list_shown cx name (Attributes.AfSpecUnspec items) =
-    (name, object_of (members_of (items_of af_spec_unspec_place.frame (unspec_said cx) items))) ∷ []
-list_shown cx name (Attributes.Xdp items) =
-    (name, object_of (members_of (items_of xdp_place.frame xdp_said items))) ∷ []
-list_shown cx name (Attributes.PropList items) =
-    (name, object_of (listed_under (codes "alt-ifname") (items_of prop_place.frame prop_said items))) ∷ []
-list_shown cx name (Attributes.ProtoDownReason items) =
-    (name, object_of (members_of (items_of down_reason_place.frame down_reason_said items))) ∷ []
-list_shown cx name (Attributes.DevlinkPort items) =
-    (name, object_of (members_of (items_of devlink_port_place.frame devlink_port_said items))) ∷ []
-list_shown cx name (Attributes.DpllPin items) =
-    (name, object_of (members_of (items_of dpll_pin_place.frame dpll_pin_said items))) ∷ []
-list_shown cx name _ = []
-
--- a record, flags, an id, or a list
-abbrev pub value_shown : Context → List ℕ → LinkAttribute → Members
-value_shown cx name (Attributes.Stats stats) = (name, object_of (stats_shown stats)) ∷ []
-value_shown cx name (Attributes.Stats64 stats) = (name, object_of (stats64_shown stats)) ∷ []
-value_shown cx name (Attributes.Map v) = (name, object_of (map_shown v)) ∷ []
-value_shown cx name (Attributes.ExtMask masks) = (name, flags_of ext_mask_names (bits_of masks)) ∷ []
-value_shown cx name (Attributes.PhysPortId id) = (name, id_shown id) ∷ []
-value_shown cx name (Attributes.PhysSwitchId id) = (name, id_shown id) ∷ []
-value_shown cx name (Attributes.Wireless event) = (name, object_of (wireless_shown event)) ∷ []
-value_shown cx name v = list_shown cx name v
+-- the value of an attribute: what its payload spells in this form, or a record, flags, an id or a list, for which there is
+-- code, whatever the form
+abbrev pub viewed_shown : Context → List ℕ → Form → Viewed → Members
+viewed_shown cx name form (Viewed.flat p) = (name, form_shown form p) ∷ []
+viewed_shown cx name form (Viewed.id v) = (name, id_shown v) ∷ []
+viewed_shown cx name form (Viewed.stats v) = (name, object_of (stats_shown v)) ∷ []
+viewed_shown cx name form (Viewed.stats64 v) = (name, object_of (stats64_shown v)) ∷ []
+viewed_shown cx name form (Viewed.map v) = (name, object_of (map_shown v)) ∷ []
+viewed_shown cx name form (Viewed.mask v) = (name, flags_of ext_mask_names (bits_of v)) ∷ []
+viewed_shown cx name form (Viewed.event v) = (name, object_of (wireless_shown v)) ∷ []
+viewed_shown cx name form (Viewed.port vs) =
+    (name, object_of (members_of (items_of vf_port_place.frame (vf_port_said cx) vs))) ∷ []
+viewed_shown cx name form (Viewed.infos vs) = info_shown cx name vs
+viewed_shown cx name form (Viewed.functions vs) =
+    (name, object_of (objects_under (codes "info") (map (function_members cx) vs))) ∷ []
+viewed_shown cx name form (Viewed.ports vs) =
+    (name, object_of (objects_under (codes "port") (map (port_members cx) vs))) ∷ []
+viewed_shown cx name form (Viewed.xdps vs) =
+    (name, object_of (members_of (items_of xdp_place.frame xdp_said vs))) ∷ []
+viewed_shown cx name form (Viewed.props vs) =
+    (name, object_of (listed_under (codes "alt-ifname") (items_of prop_place.frame prop_said vs))) ∷ []
+viewed_shown cx name form (Viewed.reasons vs) =
+    (name, object_of (members_of (items_of down_reason_place.frame down_reason_said vs))) ∷ []
+viewed_shown cx name form (Viewed.devlink_ports vs) =
+    (name, object_of (members_of (items_of devlink_port_place.frame devlink_port_said vs))) ∷ []
+viewed_shown cx name form (Viewed.dpll_pins vs) =
+    (name, object_of (members_of (items_of dpll_pin_place.frame dpll_pin_said vs))) ∷ []
+viewed_shown cx name form (Viewed.bridge_infos vs) =
+    (name, object_of (members_of (items_of link_proto_info_bridge_place.frame (bridge_said cx) vs))) ∷ []
+viewed_shown cx name form (Viewed.inet6_infos vs) =
+    (name, object_of (members_of (items_of link_proto_info_inet6_place.frame (proto_inet6_said cx) vs))) ∷ []
+viewed_shown cx name form (Viewed.bridges vs) =
+    (name, object_of (members_of (items_of af_spec_bridge_place.frame (af_spec_bridge_said cx) vs))) ∷ []
+viewed_shown cx name form (Viewed.unspecs vs) =
+    (name, object_of (members_of (items_of af_spec_unspec_place.frame (unspec_said cx) vs))) ∷ []
 
 -- ** by their rows
 
--- the number of an attribute, without its two flags
-abbrev pub attribute_number : LinkAttribute → ℕ
-attribute_number v = bit_and (attribute_frame v).kind 0x3fff
+-- the name and the form of a kind, by its number, which is without its two flags
+abbrev pub name_of : ℕ → List ℕ
+name_of kind = get_or (map (λ row. row.0.now) ATTRIBUTES) (bit_and kind 0x3fff) []
 
--- its name and its form, by its number
+abbrev pub form_of : ℕ → Form
+form_of kind = get_or (map (λ row. row.1) ATTRIBUTES) (bit_and kind 0x3fff) Forms.Own
+
 abbrev pub attribute_name : LinkAttribute → List ℕ
-attribute_name v = get_or (map (λ row. row.0.now) ATTRIBUTES) (attribute_number v) []
+attribute_name v = name_of (attribute_frame v).kind
 
-abbrev pub attribute_form : LinkAttribute → Form
-attribute_form v = get_or (map (λ row. row.1) ATTRIBUTES) (attribute_number v) Forms.Own
-
--- a value that there is code for, or what its payload spells
+-- what an attribute is shown as, under this name
 abbrev pub attribute_shown : Context → List ℕ → LinkAttribute → Members
-attribute_shown cx name v = cond (is_own (attribute_form v)) (value_shown cx name v)
-    ((name, form_shown (attribute_form v) (attribute_frame v).payload) ∷ [])
+attribute_shown cx name v = viewed_shown cx name (form_of (attribute_frame v).kind) (viewed v)
 
 -- kind and payload of one that is kept
 abbrev pub frame_in : LinkAttribute → Option (ℕ × List ℕ)
@@ -129,11 +124,6 @@ unless_kept cx None v = Said.named (attribute_shown cx (attribute_name v) v)
 
 abbrev pub attribute_said : Context → LinkAttribute → Said
 attribute_said cx v = unless_kept cx (frame_in v) v
-
--- what a value of this form and payload is written from; nothing is said of one that there is code for
-abbrev pub IsFlat : Option FlatView → Form → List ℕ → Type 0
-IsFlat None form p = is_own form ≡ true
-IsFlat (Some flat) form p = flat_bytes flat ≡ p
 
 -- ** the header
 

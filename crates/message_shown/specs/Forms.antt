@@ -1,5 +1,5 @@
 -- Values that are one number, text or address, by how they are spelled.
-use Rattle.std.specs.Prelude.{ℕ, ◌==◌, List, [], ◌∷◌, Bool, true, false, Option, None, Some, if◌then◌else◌}
+use Rattle.std.specs.Prelude.{ℕ, ◌==◌, List, [], ◌∷◌, Option, None, Some, if◌then◌else◌}
 use Rattle.std.specs.Prelude.{bit_and, codes, map, slice_index}
 use Rattle.std.specs.Int.{w16, w32, w64}
 use Rattle.std.specs.List.{find}
@@ -16,11 +16,6 @@ use Rattle.message_shown.specs.declared.form.Form.{Form}
 use Rattle.message_shown.specs.declared.form.Form.TheVariants as Forms
 use Rattle.message_shown.specs.declared.names.TheConstants.{EVENTS, LINK_MODES, MCTP_BINDINGS, OPERSTATES}
 use Rattle.message_shown.specs.declared.names.TheConstants.{XDP_ATTACHED}
-
--- whether there is code for it
-abbrev pub is_own : Form → Bool
-is_own Forms.Own = true
-is_own _ = false
 
 -- a name where there is one, and else the number
 abbrev pub choice_shown : List (List ℕ) → ℕ → List Token

@@ -6,10 +6,9 @@ ghost use Rattle.shown.specs.Drafts.{with_value, with_members};
 ghost use Rattle.nla_wire.specs.Fields.{signed_at};
 ghost use Rattle.shown.specs.Values.{flags_of};
 ghost use Rattle.message_shown.specs.Records.{signed_tokens};
-ghost use Rattle.link_msg.specs.Tables.{attribute_frame, truth_number};
-ghost use Rattle.message_shown.specs.Attributes.{ext_mask_names, bits_of, id_shown, attribute_name, attribute_form};
-ghost use Rattle.message_shown.specs.Attributes.{attribute_said, attribute_shown, frame_in, IsFlat};
-ghost use Rattle.message_shown.specs.Attributes.{value_shown, list_shown, info_shown, link_flag_names, header_members};
+ghost use Rattle.link_msg.specs.View.{view_now};
+ghost use Rattle.message_shown.specs.Attributes.{ext_mask_names, bits_of, id_shown, name_of, form_of, attribute_said};
+ghost use Rattle.message_shown.specs.Attributes.{frame_in, viewed_shown, info_shown, link_flag_names, header_members};
 
 use crate::context::Context;
 use crate::counts::{show_map, show_stats, show_stats64};
@@ -19,8 +18,7 @@ use crate::names::{ATTRIBUTES, EXT_MASK, LINK_FLAGS};
 use crate::nests::show_wireless;
 use crate::vf::{show_functions, show_ports};
 use link_msg::numbers::IFLA_AF_SPEC;
-use link_msg::{LinkAttribute, LinkExtentMask, LinkInfo, LinkPhysId, NLA_TYPE_MASK, Nla};
-use nla_wire::FlatView;
+use link_msg::{LinkAttribute, LinkExtentMask, LinkInfo, LinkPhysId, NLA_TYPE_MASK, Nla, View};
 use nla_wire::fields::{i32_at, u16_at, u32_at};
 use shown::Page;
 use std::alloc::AllocError;
@@ -58,10 +56,10 @@ impl Attribute for LinkAttribute {
     fn kept_frame(&self, _cx: &Context<'_>) -> Option<KeptFrame<'_>> {
         match self {
             LinkAttribute::Other(nla) | LinkAttribute::ProtoInfoUnknown(nla) => {
-                Some((row_of(self).0, (nla.kind(), nla.value())))
+                Some((row_of(self.kind()).0, (nla.kind(), nla.value())))
             }
             LinkAttribute::AfSpecUnknown(bytes) => {
-                Some((row_of(self).0, (IFLA_AF_SPEC, bytes.as_slice())))
+                Some((row_of(self.kind()).0, (IFLA_AF_SPEC, bytes.as_slice())))
             }
             _ => None,
         }
@@ -72,8 +70,9 @@ impl Attribute for LinkAttribute {
         if is_kept(self) {
             return Ok(());
         }
-        let (name, form) = row_of(self);
-        show_attribute(cx, page, name, form, self)
+        let (kind, view) = self.view();
+        let (name, form) = row_of(kind);
+        show_view(cx, page, name, form, view)
     }
 }
 
@@ -102,172 +101,47 @@ fn row_at(rows: &[(&'static str, Form)], number: usize) -> (&'static str, Form)
     }
 }
 
-/// The name and the form of an attribute, by its number.
+/// The name and the form of an attribute of this kind.
 #[inline(always)]
-fn row_of(attribute: &LinkAttribute) -> (&'static str, Form)
-    ensures name { result.0.now ≡ attribute_name attribute.now }
-    ensures form { result.1 ≡ attribute_form attribute.now }
+fn row_of(kind: u16) -> (&'static str, Form)
+    ensures name { result.0.now ≡ name_of kind }
+    ensures form { result.1 ≡ form_of kind }
 {
-    row_at(&ATTRIBUTES, (attribute.kind() & NLA_TYPE_MASK) as usize)
+    row_at(&ATTRIBUTES, (kind & NLA_TYPE_MASK) as usize)
 }
 
-/// Adds what an attribute says, under this name: what its payload spells in this form, or what there is code for.
-fn show_attribute(
+/// Adds what an attribute's value is, under this name: what it spells in this form, or what there is code for.
+fn show_view(
     cx: &Context<'_>,
     page: &mut Page,
     name: &str,
     form: Form,
-    attribute: &LinkAttribute,
+    view: View<'_>,
 ) -> Result<(), AllocError>
-    requires { form ≡ attribute_form attribute.now }
-    ensures { OnOk result
-        (page.new ≡ with_members (attribute_shown cx.now name.now attribute.now) page.old) }
+    ensures { OnOk result (page.new
+        ≡ with_members (viewed_shown cx.now name.now form (view_now view.entry)) page.old) }
 {
-    if form.is_own() {
-        return show_value(cx, page, name, attribute);
-    }
-    match flat_of(attribute) {
-        Some(value) => show_flat(cx.alloc, page, name, form, value),
-        None => Ok(()),
-    }
-}
-
-fn truth_byte(is: bool) -> u8
-    ensures { result ≡ truth_number is }
-{
-    if is { 1 } else { 0 }
-}
-
-/// What an attribute is written from that is one number, text or bytes.
-#[inline(always)]
-#[tactic(auto, unfolding(link_msg::specs::Tables::attribute_view))]
-fn flat_of(attribute: &LinkAttribute) -> Option<FlatView<'_>>
-    ensures { IsFlat result (attribute_form attribute.now)
-        (attribute_frame attribute.now).payload }
-{
-    match attribute {
-        LinkAttribute::Address(bytes)
-        | LinkAttribute::Broadcast(bytes)
-        | LinkAttribute::PermAddress(bytes)
-        | LinkAttribute::AfSpecUnknown(bytes) => Some(FlatView::Bytes(bytes.as_slice())),
-        LinkAttribute::IfName(text)
-        | LinkAttribute::Qdisc(text)
-        | LinkAttribute::IfAlias(text)
-        | LinkAttribute::PhysPortName(text)
-        | LinkAttribute::ParentDevName(text)
-        | LinkAttribute::ParentDevBusName(text) => Some(FlatView::Text(text.as_str())),
-        LinkAttribute::OperState(state) => Some(FlatView::U8(u8::from(*state))),
-        LinkAttribute::Mode(mode) => Some(FlatView::U8(u8::from(*mode))),
-        LinkAttribute::Event(event) => Some(FlatView::U32(u32::from(*event))),
-        LinkAttribute::NetnsImmutable(is) => Some(FlatView::U8(truth_byte(*is))),
-        LinkAttribute::Carrier(n) | LinkAttribute::ProtoDown(n) => Some(FlatView::U8(*n)),
-        LinkAttribute::Headroom(n) | LinkAttribute::Tailroom(n) => Some(FlatView::U16(*n)),
-        LinkAttribute::NetNsFd(n)
-        | LinkAttribute::LinkNetNsId(n)
-        | LinkAttribute::NewNetnsId(n)
-        | LinkAttribute::IfNetnsId(n)
-        | LinkAttribute::NewIfIndex(n) => Some(FlatView::I32(*n)),
-        LinkAttribute::Mtu(n)
-        | LinkAttribute::Link(n)
-        | LinkAttribute::Controller(n)
-        | LinkAttribute::TxQueueLen(n)
-        | LinkAttribute::NetNsPid(n)
-        | LinkAttribute::NumVf(n)
-        | LinkAttribute::Group(n)
-        | LinkAttribute::Promiscuity(n)
-        | LinkAttribute::NumTxQueues(n)
-        | LinkAttribute::NumRxQueues(n)
-        | LinkAttribute::CarrierChanges(n)
-        | LinkAttribute::GsoMaxSegs(n)
-        | LinkAttribute::GsoMaxSize(n)
-        | LinkAttribute::CarrierUpCount(n)
-        | LinkAttribute::CarrierDownCount(n)
-        | LinkAttribute::MinMtu(n)
-        | LinkAttribute::MaxMtu(n)
-        | LinkAttribute::GroMaxSize(n)
-        | LinkAttribute::TsoMaxSize(n)
-        | LinkAttribute::TsoMaxSegs(n)
-        | LinkAttribute::AllMulticast(n)
-        | LinkAttribute::GsoIpv4MaxSize(n)
-        | LinkAttribute::GroIpv4MaxSize(n) => Some(FlatView::U32(*n)),
-        LinkAttribute::Other(nla) | LinkAttribute::ProtoInfoUnknown(nla) => {
-            Some(FlatView::Bytes(nla.value()))
-        }
-        LinkAttribute::Stats(_)
-        | LinkAttribute::Wireless(_)
-        | LinkAttribute::ProtoInfoBridge(_)
-        | LinkAttribute::ProtoInfoInet6(_)
-        | LinkAttribute::Map(_)
-        | LinkAttribute::LinkInfo(_)
-        | LinkAttribute::VfInfoList(_)
-        | LinkAttribute::Stats64(_)
-        | LinkAttribute::VfPorts(_)
-        | LinkAttribute::PortSelf(_)
-        | LinkAttribute::AfSpecBridge(_)
-        | LinkAttribute::AfSpecUnspec(_)
-        | LinkAttribute::ExtMask(_)
-        | LinkAttribute::PhysPortId(_)
-        | LinkAttribute::PhysSwitchId(_)
-        | LinkAttribute::Xdp(_)
-        | LinkAttribute::PropList(_)
-        | LinkAttribute::ProtoDownReason(_)
-        | LinkAttribute::DevlinkPort(_)
-        | LinkAttribute::DpllPin(_) => None,
-    }
-}
-
-/// Adds a record, flags, an id, or a list.
-fn show_value(
-    cx: &Context<'_>,
-    page: &mut Page,
-    name: &str,
-    attribute: &LinkAttribute,
-) -> Result<(), AllocError>
-    ensures { OnOk result
-        (page.new ≡ with_members (value_shown cx.now name.now attribute.now) page.old) }
-{
-    match attribute {
-        LinkAttribute::Stats(stats) => show_stats(page, name, stats),
-        LinkAttribute::Stats64(stats) => show_stats64(page, name, stats),
-        LinkAttribute::Map(map) => show_map(page, name, map),
-        LinkAttribute::ExtMask(masks) => show_mask(page, name, masks.as_slice()),
-        LinkAttribute::PhysPortId(id) | LinkAttribute::PhysSwitchId(id) => show_id(page, name, id),
-        LinkAttribute::Wireless(event) => show_wireless(page, name, event),
-        _ => show_list(cx, page, name, attribute),
-    }
-}
-
-/// Adds a list of attributes as an object.
-fn show_list(
-    cx: &Context<'_>,
-    page: &mut Page,
-    name: &str,
-    attribute: &LinkAttribute,
-) -> Result<(), AllocError>
-    ensures { OnOk result
-        (page.new ≡ with_members (list_shown cx.now name.now attribute.now) page.old) }
-{
-    match attribute {
-        LinkAttribute::ProtoInfoBridge(items) => show_object(cx, page, name, items.as_slice()),
-        LinkAttribute::ProtoInfoInet6(items) => show_object(cx, page, name, items.as_slice()),
-        LinkAttribute::LinkInfo(items) => show_info(cx, page, name, items.as_slice()),
-        LinkAttribute::VfInfoList(entries) => show_functions(cx, page, name, entries.as_slice()),
-        LinkAttribute::VfPorts(entries) => show_ports(cx, page, name, entries.as_slice()),
-        LinkAttribute::PortSelf(port) => show_object(cx, page, name, port.0.as_slice()),
-        LinkAttribute::AfSpecBridge(items) => show_object(cx, page, name, items.as_slice()),
-        LinkAttribute::AfSpecUnspec(items) => show_object(cx, page, name, items.as_slice()),
-        LinkAttribute::Xdp(items) => show_object(cx, page, name, items.as_slice()),
-        LinkAttribute::PropList(items) => show_listed(
-            cx,
-            page,
-            name,
-            "alt-ifname",
-            items.as_slice(),
-        ),
-        LinkAttribute::ProtoDownReason(items) => show_object(cx, page, name, items.as_slice()),
-        LinkAttribute::DevlinkPort(items) => show_object(cx, page, name, items.as_slice()),
-        LinkAttribute::DpllPin(items) => show_object(cx, page, name, items.as_slice()),
-        _ => Ok(()),
+    match view {
+        View::Flat(flat) => show_flat(cx.alloc, page, name, form, flat),
+        View::Id(id) => show_id(page, name, id),
+        View::Stats(stats) => show_stats(page, name, stats),
+        View::Stats64(stats) => show_stats64(page, name, stats),
+        View::Map(map) => show_map(page, name, map),
+        View::Mask(masks) => show_mask(page, name, masks),
+        View::Event(event) => show_wireless(page, name, event),
+        View::Port(items) => show_object(cx, page, name, items),
+        View::Infos(items) => show_info(cx, page, name, items),
+        View::Functions(entries) => show_functions(cx, page, name, entries),
+        View::Ports(entries) => show_ports(cx, page, name, entries),
+        View::Xdps(items) => show_object(cx, page, name, items),
+        View::Props(items) => show_listed(cx, page, name, "alt-ifname", items),
+        View::Reasons(items) => show_object(cx, page, name, items),
+        View::DevlinkPorts(items) => show_object(cx, page, name, items),
+        View::DpllPins(items) => show_object(cx, page, name, items),
+        View::BridgeInfos(items) => show_object(cx, page, name, items),
+        View::Inet6Infos(items) => show_object(cx, page, name, items),
+        View::Bridges(items) => show_object(cx, page, name, items),
+        View::Unspecs(items) => show_object(cx, page, name, items),
     }
 }
 

@@ -6,7 +6,7 @@ ghost use Rattle.nla_wire.specs.FlatViews.{flat_bytes};
 ghost use Rattle.shown.specs.Drafts.{with_members, with_value};
 ghost use Rattle.message_shown.specs.Places.{Kept, kept_of, shown_of};
 ghost use Rattle.message_shown.specs.declared.form.Form.TheVariants as Forms;
-ghost use Rattle.message_shown.specs.Forms.{binding_token, flat_said, form_shown, is_own, kept_named};
+ghost use Rattle.message_shown.specs.Forms.{binding_token, flat_said, form_shown, kept_named};
 ghost use Rattle.message_shown.specs.Forms.{row_in};
 
 use crate::context::text_of;
@@ -46,18 +46,6 @@ pub enum Form {
     Binding,
     /// None of these: a record, a list, flags or an id, for which there is code.
     Own,
-}
-
-impl Form {
-    /// Whether there is code for it.
-    pub fn is_own(self) -> bool
-        ensures { result ≡ is_own self }
-    {
-        match self {
-            Form::Own => true,
-            _ => false,
-        }
-    }
 }
 
 /// An attribute of a place: its number, its name and how its payload is spelled.
