@@ -1,6 +1,5 @@
 -- What a text spells.
 use Rattle.std.proofs.Common.{◌≡◌, ℕ, ◌<◌, ◌^◌, List, [], ◌∷◌, ◌++◌, inl, refl, ap, ◌∙◌}
-use Rattle.std.specs.Prelude.{Some}
 use Rattle.std.specs.Int.{w32, to_le_bytes}
 use Rattle.std.specs.Str.{IsUtf8}
 use Rattle.json.specs.Token.{string}

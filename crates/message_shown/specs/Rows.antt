@@ -1,6 +1,6 @@
 -- Attributes that are shown by rows of tables.
-use Rattle.std.specs.Prelude.{ℕ, zero, suc, ◌/◌, List, [], ◌∷◌, Option, None, Some, Ok, Err, true, cond, nat_lt, map}
-use Rattle.std.specs.Prelude.{take, drop, length, decimal, bit_and, option_map}
+use Rattle.std.specs.Prelude.{ℕ, zero, suc, ◌/◌, List, [], ◌∷◌, Option, None, Some, Ok, Err, true, map}
+use Rattle.std.specs.Prelude.{take, drop, length, decimal, option_map}
 use Rattle.std.specs.List.{flat_map}
 use Rattle.std.specs.Borrow.{Bor}
 use Rattle.std.specs.Fmt.{signed_decimal}

@@ -1,8 +1,8 @@
 -- Settings by family: what each is shown as. One that is kept as it is stands elsewhere.
-use Rattle.std.specs.Prelude.{ℕ, ◌==◌, List, [], ◌∷◌, map, bit_and, codes, cond, if◌then◌else◌}
+use Rattle.std.specs.Prelude.{ℕ, ◌==◌, List, [], ◌∷◌, map, bit_and, codes, cond}
 use Rattle.std.specs.Net.Addr.{ipv6_segments}
 use Rattle.std.specs.Net.Text.{ipv6_text}
-use Rattle.json.specs.Token.{Token, string}
+use Rattle.json.specs.Token.{string}
 use Rattle.link_afspec.specs.declared.inet.AfSpecInet.{AfSpecInet}
 use Rattle.link_afspec.specs.declared.inet.AfSpecInet.TheVariants as Inets
 use Rattle.link_afspec.specs.declared.inet6.AfSpecInet6.{AfSpecInet6}
