@@ -1,6 +1,6 @@
 //! Attributes, and lists of them, under the family of a header, with no message round them.
 
-use expected::{equal, is_stored};
+use expected::{equal, is_stored, list};
 use link_msg::*;
 use nla_wire::{nlas_measure, nlas_write};
 
@@ -82,4 +82,16 @@ fn lists_that_are_refused(rt: HostRuntime) {
     let mut out = [255; 12];
     assert!(rt; LinkAttribute::canon_list_with_param(&BRIDGE, none, &mut out).is_none());
     assert!(rt; equal(&out, &[255; 12]));
+}
+
+/// A number, a record and a list under a kind with a flag, each with what its value is written from.
+#[test]
+fn values_are_lent(rt: HostRuntime) {
+    let index = LinkAttribute::NewIfIndex(-2);
+    assert!(rt; matches!(index.view(), (49, View::Flat(FlatView::I32(-2)))));
+    let map = LinkAttribute::Map(Map::default());
+    assert!(rt; matches!(map.view(), (14, View::Map(_))));
+    let pin = DpllPin::PinId(9);
+    let pins = LinkAttribute::DpllPin(list(rt.alloc(), [pin]).expect(&rt, "memory"));
+    assert!(rt; matches!(pins.view(), (0x8041, View::DpllPins([DpllPin::PinId(9)]))));
 }

@@ -114,6 +114,7 @@ pub use nla_wire::CloneIn;
 pub use nla_wire::DecodeError;
 pub use nla_wire::DefaultNla;
 pub use nla_wire::Exact;
+pub use nla_wire::FlatView;
 pub use nla_wire::List;
 pub use nla_wire::NLA_F_NESTED;
 pub use nla_wire::NLA_F_NET_BYTEORDER;

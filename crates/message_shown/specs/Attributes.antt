@@ -59,8 +59,8 @@ abbrev pub info_shown : Context → List ℕ → List LinkInfo → Members
 info_shown cx name infos =
     (name, object_of (members_of (items_of link_info_place.frame (link_info_said (with_kinds cx infos)) infos))) ∷ []
 
--- the value of an attribute: what its payload spells in this form, or a record, flags, an id or a list, for which there is
--- code, whatever the form
+-- the value of an attribute: what its payload spells in this form; or a record, flags, an id or a list, for each of
+-- which there is code, whatever the form
 abbrev pub viewed_shown : Context → List ℕ → Form → Viewed → Members
 viewed_shown cx name form (Viewed.flat p) = (name, form_shown form p) ∷ []
 viewed_shown cx name form (Viewed.id v) = (name, id_shown v) ∷ []
