@@ -1,7 +1,7 @@
 //! What of the changes is of what the state encodings of the messages have at zero.
 
 use crate::differences::Change;
-use crate::frames::{is_in, part_of, place_in};
+use crate::frames::{part_of, place_in};
 use crate::marks::marked;
 use crate::outer::{Outer, apart, members_at};
 use crate::rows::{Paths, rows};
@@ -79,7 +79,7 @@ pub struct Cleared {
     marked: Vec<u8>,
     /// The places of the members of the message's line in which they were looked for.
     known: Vec<usize>,
-    paths: Vec<Paths>,
+    paths: Paths,
 }
 
 impl Cleared {
@@ -88,22 +88,20 @@ impl Cleared {
         Cleared {
             marked: Vec::new(alloc),
             known: Vec::new(alloc),
-            paths: Vec::new(alloc),
+            paths: Paths::new(alloc),
         }
     }
 
-    /// Adds the member in which a path leads to those that are known.
+    /// Adds the member into which a path leads to those that are known.
     fn add_place(&mut self, line: Outer<'_>, path: &[u8]) -> Result<(), AllocError> {
-        if let Some(last) = self.known.last() {
-            if is_in(path, line.member(*last)) {
-                return Ok(());
-            }
+        let last = self.known.last().copied();
+        let Some(place) = place_in(line, path, last.unwrap_or(0)) else {
+            return Ok(());
+        };
+        if last == Some(place) || self.known.contains(&place) {
+            return Ok(());
         }
-        if let Some(place) = place_in(line, path) {
-            if !self.known.contains(&place) {
-                self.known.push(place)?;
-            }
-        }
+        self.known.push(place)?;
         Ok(())
     }
 
@@ -151,24 +149,25 @@ impl Cleared {
             let mut shown = Vec::new(alloc);
             push_answer(alloc, snapshot.order(), &mut shown, part.message.as_slice())?;
             let paths = paths_apart(alloc, line, shown.as_slice(), part.is_part)?;
-            self.paths.push(paths)?;
+            self.paths.append(&paths)?;
         }
         Ok(())
     }
-
-    /// Whether the path is one of them.
-    fn contains(&self, path: &[u8]) -> bool {
-        self.paths.iter().any(|paths| paths.contains(path))
-    }
 }
 
-/// Whether a path of a change is one that the message of this side clears.
-fn is_cleared(side: Side, change: &Change<'_>, may_differ: bool, cleared: &Cleared) -> bool {
+/// Whether a path of a change is one that the message of this side clears. It is looked for first where it is likely.
+fn is_cleared(
+    side: Side,
+    change: &Change<'_>,
+    may_differ: bool,
+    cleared: &Cleared,
+    likely: &mut usize,
+) -> bool {
     if cleared.paths.is_empty() {
         return false;
     }
     match doubtful(side, change, may_differ) {
-        Some(path) => cleared.contains(path),
+        Some(path) => cleared.paths.contains(path, likely),
         None => false,
     }
 }
@@ -209,9 +208,11 @@ impl Counters {
             return Ok(changes);
         }
         let mut left = Vec::new(alloc);
+        let mut in_old = 0;
+        let mut in_new = 0;
         for change in all {
-            let by_old = is_cleared(Side::Old, change, may_differ, &self.old);
-            let by_new = is_cleared(Side::New, change, may_differ, &self.new);
+            let by_old = is_cleared(Side::Old, change, may_differ, &self.old, &mut in_old);
+            let by_new = is_cleared(Side::New, change, may_differ, &self.new, &mut in_new);
             if let Some(it) = left_of(change, by_old, by_new) {
                 left.push(it)?;
             }

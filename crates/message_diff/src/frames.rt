@@ -7,6 +7,7 @@ use crate::outer::Outer;
 use link_msg::header::HEADER_SIZE;
 use link_msg::numbers::IFLA_ADDRESS;
 use link_msg::{NLA_HEADER_SIZE, NLA_TYPE_MASK};
+use memchr::memchr;
 use nla_wire::fields::u16_at;
 use std::alloc::{AllocError, Global};
 
@@ -111,26 +112,39 @@ fn count_named(attributes: &[u8], kept: &[u16]) -> usize {
     count
 }
 
-/// Whether a path leads into this member.
-pub fn is_in(path: &[u8], member: &[u8]) -> bool {
+/// The name of the outermost member into which a path leads.
+fn outermost(path: &[u8]) -> &[u8] {
+    match memchr(b'.', path) {
+        Some(len) => path.get(..len).unwrap_or(path),
+        None => path,
+    }
+}
+
+/// Whether a member has this name.
+fn is_named(member: &[u8], name: &[u8]) -> bool {
     let [_, b'"', rest @ ..] = member else {
         return false;
     };
-    let len = path
-        .iter()
-        .position(|byte| *byte == b'.')
-        .unwrap_or(path.len());
-    rest.len() > len && rest[len] == b'"' && rest.starts_with(&path[..len])
+    rest.starts_with(name) && rest.get(name.len()) == Some(&b'"')
 }
 
-/// The place of the member into which a path leads.
-pub fn place_in(line: Outer<'_>, path: &[u8]) -> Option<usize> {
-    for place in 0..line.ends.len() {
-        if is_in(path, line.member(place)) {
+/// The place of the member with this name, from one place to before another.
+fn place_between(line: Outer<'_>, name: &[u8], from: usize, to: usize) -> Option<usize> {
+    for place in from..to {
+        if is_named(line.member(place), name) {
             return Some(place);
         }
     }
     None
+}
+
+/// The place of the member into which a path leads. It is looked for first from where it is likely.
+pub fn place_in(line: Outer<'_>, path: &[u8], likely: usize) -> Option<usize> {
+    let name = outermost(path);
+    match place_between(line, name, likely, line.ends.len()) {
+        Some(place) => Some(place),
+        None => place_between(line, name, 0, likely),
+    }
 }
 
 /// A message that says less.

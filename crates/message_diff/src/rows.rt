@@ -30,6 +30,18 @@ pub struct Paths {
 }
 
 impl Paths {
+    /// None.
+    pub fn new(alloc: Global) -> Paths {
+        Paths {
+            text: Vec::new(alloc),
+            ends: Vec::new(alloc),
+        }
+    }
+
+    pub fn is_empty(&self) -> bool {
+        self.ends.is_empty()
+    }
+
     /// Adds a path.
     fn push(&mut self, path: &[u8]) -> Result<(), AllocError> {
         self.text.extend_from_slice(path)?;
@@ -37,13 +49,38 @@ impl Paths {
         Ok(())
     }
 
-    /// Whether this is one of them.
-    pub fn contains(&self, path: &[u8]) -> bool {
+    /// Adds paths.
+    pub fn append(&mut self, others: &Paths) -> Result<(), AllocError> {
+        for place in 0..others.ends.len() {
+            self.push(others.at(place))?;
+        }
+        Ok(())
+    }
+
+    /// The path at this place; nothing where there is none.
+    fn at(&self, place: usize) -> &[u8] {
+        let start = match place {
+            0 => 0,
+            _ => self.ends.get(place - 1).copied().unwrap_or(0),
+        };
+        match self.ends.get(place) {
+            Some(end) => self.text.get(start..*end).unwrap_or(b""),
+            None => b"",
+        }
+    }
+
+    /// Whether this is one of them. It is looked for first where it is likely; the next one is likely after it.
+    pub fn contains(&self, path: &[u8], likely: &mut usize) -> bool {
+        if self.at(*likely) == path {
+            *likely = (*likely).saturating_add(1);
+            return true;
+        }
         let text = self.text.as_slice();
         let mut start = 0;
-        for end in &self.ends {
+        for (place, end) in self.ends.iter().enumerate() {
             let is_as_long = end.saturating_sub(start) == path.len();
             if is_as_long && text.get(start..*end) == Some(path) {
+                *likely = place.saturating_add(1);
                 return true;
             }
             start = *end;
