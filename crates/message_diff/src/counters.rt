@@ -46,16 +46,49 @@ enum Side {
     New,
 }
 
-/// The path of a change that may be of what the message of this side clears.
-fn doubtful<'a>(side: Side, change: &Change<'a>, may_differ: bool) -> Option<&'a [u8]> {
-    match (side, *change) {
-        (Side::New, Change::Came(path, value)) if may_be_zero(value) => Some(path),
-        (Side::Old, Change::Went(path, value)) if may_be_zero(value) => Some(path),
-        (_, Change::Turned(path, was, is)) if may_be_cleared(path, was, is, may_differ) => Some(
-            path,
-        ),
-        _ => None,
+/// What may be cleared of a change: its path, and in which of the messages.
+#[derive(Clone, Copy)]
+struct Doubt<'a> {
+    path: &'a [u8],
+    in_old: bool,
+    in_new: bool,
+}
+
+impl Doubt<'_> {
+    /// Whether it is one of the message of this side.
+    fn is_of(&self, side: Side) -> bool {
+        match side {
+            Side::Old => self.in_old,
+            Side::New => self.in_new,
+        }
     }
+}
+
+/// What may be cleared of a change.
+fn doubt_of<'a>(change: &Change<'a>, may_differ: bool) -> Doubt<'a> {
+    let (path, in_old, in_new) = match *change {
+        Change::Came(path, value) => (path, false, may_be_zero(value)),
+        Change::Went(path, value) => (path, may_be_zero(value), false),
+        Change::Turned(path, was, is) => {
+            let may_be = may_be_cleared(path, was, is, may_differ);
+            (path, may_be, may_be)
+        }
+    };
+    Doubt {
+        path,
+        in_old,
+        in_new,
+    }
+}
+
+/// What may be cleared of each change.
+fn doubts<'a>(alloc: Global, changes: &[Change<'a>]) -> Result<Vec<Doubt<'a>>, AllocError> {
+    let may_differ = kinds_may_differ(changes);
+    let mut doubts = Vec::with_capacity(alloc, changes.len())?;
+    for change in changes {
+        doubts.push(doubt_of(change, may_differ))?;
+    }
+    Ok(doubts)
 }
 
 /// The paths of a line whose values differ in the other one, of which `is_part` says whether it has only some of the
@@ -105,24 +138,23 @@ impl Cleared {
         Ok(())
     }
 
-    /// Looks for them in the members in which the doubtful paths of the changes lead, if that was not done.
+    /// Looks for them in the members into which the doubtful paths lead, if that was not done.
     fn find(
         &mut self,
         alloc: Global,
         side: Side,
         snapshot: &Snapshot,
         ends: &[usize],
-        changes: &[Change<'_>],
+        doubts: &[Doubt<'_>],
     ) -> Result<(), AllocError> {
-        let may_differ = kinds_may_differ(changes);
         let line = Outer {
             text: snapshot.line(),
             ends,
         };
         let before = self.known.len();
-        for change in changes {
-            if let Some(path) = doubtful(side, change, may_differ) {
-                self.add_place(line, path)?;
+        for doubt in doubts {
+            if doubt.is_of(side) {
+                self.add_place(line, doubt.path)?;
             }
         }
         if self.known.len() == before {
@@ -146,29 +178,12 @@ impl Cleared {
         let places = self.known.as_slice().get(before..).unwrap_or(&[]);
         let text = self.marked.as_slice();
         if let Some(part) = part_of(alloc, text, snapshot.text(), line, places)? {
-            let mut shown = Vec::new(alloc);
+            let mut shown = Vec::with_capacity(alloc, line.text.len())?;
             push_answer(alloc, snapshot.order(), &mut shown, part.message.as_slice())?;
             let paths = paths_apart(alloc, line, shown.as_slice(), part.is_part)?;
             self.paths.append(&paths)?;
         }
         Ok(())
-    }
-}
-
-/// Whether a path of a change is one that the message of this side clears. It is looked for first where it is likely.
-fn is_cleared(
-    side: Side,
-    change: &Change<'_>,
-    may_differ: bool,
-    cleared: &Cleared,
-    likely: &mut usize,
-) -> bool {
-    if cleared.paths.is_empty() {
-        return false;
-    }
-    match doubtful(side, change, may_differ) {
-        Some(path) => cleared.paths.contains(path, likely),
-        None => false,
     }
 }
 
@@ -200,19 +215,20 @@ impl Counters {
         new_ends: &[usize],
         changes: Vec<Change<'a>>,
     ) -> Result<Vec<Change<'a>>, AllocError> {
-        let all = changes.as_slice();
-        let may_differ = kinds_may_differ(all);
-        self.old.find(alloc, Side::Old, old, old.ends(), all)?;
-        self.new.find(alloc, Side::New, new, new_ends, all)?;
+        let doubts = doubts(alloc, changes.as_slice())?;
+        self.old
+            .find(alloc, Side::Old, old, old.ends(), doubts.as_slice())?;
+        self.new
+            .find(alloc, Side::New, new, new_ends, doubts.as_slice())?;
         if self.old.paths.is_empty() && self.new.paths.is_empty() {
             return Ok(changes);
         }
-        let mut left = Vec::new(alloc);
+        let mut left = Vec::with_capacity(alloc, changes.len())?;
         let mut in_old = 0;
         let mut in_new = 0;
-        for change in all {
-            let by_old = is_cleared(Side::Old, change, may_differ, &self.old, &mut in_old);
-            let by_new = is_cleared(Side::New, change, may_differ, &self.new, &mut in_new);
+        for (change, doubt) in changes.iter().zip(doubts.iter()) {
+            let by_old = doubt.in_old && self.old.paths.contains(doubt.path, &mut in_old);
+            let by_new = doubt.in_new && self.new.paths.contains(doubt.path, &mut in_new);
             if let Some(it) = left_of(change, by_old, by_new) {
                 left.push(it)?;
             }

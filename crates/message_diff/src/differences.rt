@@ -8,7 +8,7 @@ use crate::rows::Row;
 use std::alloc::{AllocError, Global};
 
 /// A path whose value is not the same in both.
-#[derive(Clone, Copy, Debug)]
+#[derive(Clone, Copy)]
 pub enum Change<'a> {
     /// A path that came, and its value.
     Came(&'a [u8], &'a [u8]),

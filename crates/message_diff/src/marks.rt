@@ -6,18 +6,17 @@ use link_msg::canonical;
 use link_msg::header::HEADER_SIZE;
 use link_state::{Level, clear};
 use link_vals::AddressFamily;
+use nla_wire::fields::u32_at;
 use std::alloc::{AllocError, Global};
 
 /// How many bytes have one mark.
 const WORD: usize = 4;
 
-fn is_zero(bytes: &[u8]) -> bool {
-    bytes.iter().all(|byte| *byte == 0)
-}
-
 /// Whether a word is four letters of a text.
-fn is_text(word: &[u8]) -> bool {
-    word.iter().all(|byte| byte.is_ascii_lowercase())
+fn is_text(word: u32) -> bool {
+    word.to_le_bytes()
+        .iter()
+        .all(|byte| byte.is_ascii_lowercase())
 }
 
 /// Puts a 1 in front of these bytes.
@@ -46,17 +45,15 @@ fn mark_end(bytes: &mut [u8])
 fn mark_zeros(attributes: &mut [u8])
     ensures { length attributes.new ≡ length attributes.old }
 {
-    let mut is_behind_text = false;
+    let mut before = 0;
     for word in attributes.chunks_mut(WORD) {
-        let is_name = is_text(word);
-        if is_zero(word) {
-            if is_behind_text {
-                mark_end(word);
-            } else {
-                mark(word);
-            }
+        let number = u32_at(word, 0);
+        if number == 0 && is_text(before) {
+            mark_end(word);
+        } else if number == 0 {
+            mark(word);
         }
-        is_behind_text = is_name;
+        before = number;
     }
 }
 
@@ -65,7 +62,7 @@ fn mark_common_zeros(attributes: &mut [u8], cleared: &[u8])
     ensures { length attributes.new ≡ length attributes.old }
 {
     for (word, other) in attributes.chunks_mut(WORD).zip(cleared.chunks(WORD)) {
-        if is_zero(word) && is_zero(other) {
+        if u32_at(word, 0) == 0 && u32_at(other, 0) == 0 {
             mark(word);
         }
     }

@@ -2,6 +2,7 @@
 
 ghost use Rattle.std.specs.Prelude.{◌<◌, ◌≤◌, IfOk, length};
 
+use memchr::memchr2;
 use std::alloc::{AllocError, Global};
 
 /// A member of an object, or an object in a list.
@@ -66,11 +67,8 @@ fn text_len(text: &[u8]) -> usize
     ensures { result ≤ length text.now }
 {
     let inner = &text[text.len().min(1)..];
-    match inner
-        .iter()
-        .position(|byte| *byte == b'"' || *byte == b'\\')
-    {
-        Some(i) if inner[i] == b'"' => i.saturating_add(2).min(text.len()),
+    match memchr2(b'"', b'\\', inner) {
+        Some(i) if inner.get(i) == Some(&b'"') => i.saturating_add(2).min(text.len()),
         _ => escaped_len(text),
     }
 }

@@ -5,6 +5,9 @@ ghost use Rattle.std.specs.Prelude.{◌≤◌, IfOk, IsTrue, length};
 use crate::members::{Member, Walk, name_len};
 use std::alloc::{AllocError, Global};
 
+/// How many members there is room for at first.
+const ROOM: usize = 64;
+
 /// A text of one object as `Shown` writes it, and where the members of the outermost object end.
 ///
 /// A member goes from the comma or the brace in front of it to the end of its value.
@@ -147,7 +150,7 @@ pub fn apart<'a>(alloc: Global, old: Outer<'_>, new: &'a [u8]) -> Result<Unlike<
     let mut apart = Unlike {
         old: Vec::new(alloc),
         new: Walk::new(alloc)?,
-        ends: Vec::new(alloc),
+        ends: Vec::with_capacity(alloc, ROOM)?,
     };
     let mut next = 0;
     let mut rest = new;

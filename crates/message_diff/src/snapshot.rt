@@ -14,6 +14,9 @@ use std::alloc::{AllocError, Global};
 use std::marker::Model;
 use std::mem;
 
+/// How many bytes of a line there is room for at first for each byte of an encoding.
+const ROOM_FOR_A_BYTE: usize = 4;
+
 /// What is compared of two messages.
 #[derive(Clone, Copy, Debug, PartialEq, Eq)]
 pub enum Compared {
@@ -111,6 +114,7 @@ impl Snapshot {
         if !self.line.is_empty() {
             return Ok(());
         }
+        self.line = Vec::with_capacity(alloc, self.text.len().saturating_mul(ROOM_FOR_A_BYTE))?;
         push_answer(alloc, self.order, &mut self.line, self.text.as_slice())
     }
 
