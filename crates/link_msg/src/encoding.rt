@@ -16,7 +16,6 @@ use crate::attribute::LinkAttribute;
 use crate::header::{HEADER_SIZE, LinkHeader, LinkMessageBuffer};
 use crate::message::{LinkMessage, check_attributes, split_header};
 use crate::place::AttributePlace;
-use nla_wire::exact::same;
 use nla_wire::{Cause, DecodeError, write_members};
 use std::alloc::{AllocError, Global};
 use thiserror::Error;
@@ -215,7 +214,7 @@ fn same_accepted(one: &LinkMessage, other: &LinkMessage) -> bool
     ensures { (a : List ℕ) → (b : List ℕ) → IsBytes a → IsBytes b → IsAccepted a one.now
         → IsAccepted b other.now → AreSameMessages a b one.now other.now result }
 {
-    same(one, other)
+    one == other
 }
 
 /// Whether two byte strings mean the same message, which is so exactly where their canonical encodings are equal.
