@@ -16,6 +16,9 @@ HIDDEN_CALLS = {
     "write_entry", "write_list",
 }
 
+# Calls of one type that serve the crates alone, by the type and the name.
+HIDDEN_OF = {("FlatView", "len")}
+
 # Calls for which the crate has one by hand, which calls them: the names that they have then.
 BY_HAND = {("Info", "set"): "set_value"}
 
@@ -45,7 +48,8 @@ def is_hidden(s, i):
     """Whether the function that this `fn` begins, of an impl, is for the crates alone."""
     name, open_ = s.next(i), s.skip_to(i, {"("})
     takes_frame = any(s.text[k] == "NlaBuffer" for k in range(open_, s.match[open_]))
-    return s.text[name] in HIDDEN_CALLS or takes_frame or by_hand(s, i) is not None
+    is_for_crates = s.text[name] in HIDDEN_CALLS or (owner(s, i), s.text[name]) in HIDDEN_OF
+    return is_for_crates or takes_frame or by_hand(s, i) is not None
 
 
 def hide_calls(s):
