@@ -1,5 +1,6 @@
 //! Data set by name, and read again.
 
+use crate::values::set;
 use link_info::Value;
 use link_info::info::{Info, InfoError};
 use link_nest::LinkInfo;
@@ -24,12 +25,9 @@ fn is_number(value: Option<Value<'_>>, wanted: u64) -> bool {
 fn a_vlan_is_made(rt: HostRuntime) {
     let alloc = rt.alloc();
     let mut vlan = Info::new(alloc, "vlan").expect(&rt, "it has a table");
-    vlan.set(alloc, "id", Value::Unsigned(7))
-        .expect(&rt, "it is a number of two bytes");
-    vlan.set(alloc, "protocol", Value::Unsigned(0x88a8))
-        .expect(&rt, "it is one too");
-    vlan.set(alloc, "id", Value::Unsigned(100))
-        .expect(&rt, "it is set again");
+    set(&mut vlan, alloc, "id", Value::Unsigned(7)).expect(&rt, "it is a number of two bytes");
+    set(&mut vlan, alloc, "protocol", Value::Unsigned(0x88a8)).expect(&rt, "it is one too");
+    set(&mut vlan, alloc, "id", Value::Unsigned(100)).expect(&rt, "it is set again");
     assert!(rt; is_number(vlan.value("id"), 100));
     assert!(rt; is_number(vlan.value("protocol"), 0x88a8));
     assert!(rt; vlan.value("flag").is_none());
@@ -53,15 +51,21 @@ fn what_does_not_fit_is_refused(rt: HostRuntime) {
     let alloc = rt.alloc();
     assert!(rt; matches!(Info::new(alloc, "vlam"), Err(InfoError::UnknownKind)));
     let mut vlan = Info::new(alloc, "vlan").expect(&rt, "it has a table");
-    let unknown = vlan.set(alloc, "ident", Value::Unsigned(1));
+    let unknown = set(&mut vlan, alloc, "ident", Value::Unsigned(1));
     assert!(rt; unknown == Err(InfoError::UnknownName));
-    let long = vlan.set(alloc, "id", Value::Unsigned(65536));
+    let long = set(&mut vlan, alloc, "id", Value::Unsigned(65536));
     assert!(rt; long == Err(InfoError::NotHeld));
-    let text = vlan.set(alloc, "id", Value::Text("100"));
+    let text = set(&mut vlan, alloc, "id", Value::Text("100"));
     assert!(rt; text == Err(InfoError::NotHeld));
-    let short = vlan.set(alloc, "flag", Value::Bytes(&[0x01, 0x00, 0x00, 0x00]));
+    let short = set(
+        &mut vlan,
+        alloc,
+        "flag",
+        Value::Bytes(&[0x01, 0x00, 0x00, 0x00]),
+    );
     assert!(rt; short == Err(InfoError::NotHeld));
-    vlan.set(
+    set(
+        &mut vlan,
         alloc,
         "flag",
         Value::Bytes(&[0x01, 0x00, 0x00, 0x00, 0x01, 0x00, 0x00, 0x00]),

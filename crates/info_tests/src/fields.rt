@@ -1,7 +1,7 @@
 //! Fields of lists of attributes.
 
-use crate::values::are_same;
-use link_info::{Field, Fields, Place, Value};
+use crate::values::{are_same, next_field};
+use link_info::{Field, Fields, Place, Row, Value};
 use nla_wire::{Cause, NlaBuffer};
 
 /// Data of a vlan: its id with a flag bit of its kind, its protocol, an id of three bytes, and a number without a row.
@@ -11,7 +11,7 @@ const DATA: [u8; 32] = [
 ];
 
 /// The row's name, the kind and the value of each field.
-const FIELDS: [(&str, u16, Value<'static>); 4] = [
+const FIELDS: &[(&str, u16, Value<'static>)] = &[
     ("id", 0x8001, Value::Unsigned(100)),
     ("protocol", 5, Value::Unsigned(0x88a8)),
     ("id", 1, Value::Bytes(&[0x01, 0x02, 0x03])),
@@ -21,7 +21,7 @@ const FIELDS: [(&str, u16, Value<'static>); 4] = [
 /// The name of the field's row; of one without a row, none.
 fn name(field: &Field<'_>) -> &'static str {
     match field.row() {
-        Some(row) => row.1,
+        Some(Row(_, name, _)) => name,
         None => "",
     }
 }
@@ -30,33 +30,33 @@ fn name(field: &Field<'_>) -> &'static str {
 fn each_frame_has_a_field(rt: HostRuntime) {
     let mut fields = Fields::new(Place::Vlan.rows(), &DATA);
     for (wanted, kind, value) in FIELDS {
-        let field = match fields.next() {
+        let field = match next_field(&mut fields) {
             Some(Ok(field)) => field,
             _ => panic!(rt; "there are four"),
         };
-        assert_eq!(rt; name(&field), wanted);
-        assert_eq!(rt; field.kind(), kind, "{wanted}");
-        assert!(rt; are_same(field.value(), value), "{wanted}");
+        assert_eq!(rt; name(&field), *wanted);
+        assert_eq!(rt; field.kind(), *kind, "{wanted}");
+        assert!(rt; are_same(field.value(), *value), "{wanted}");
     }
-    assert!(rt; fields.next().is_none());
+    assert!(rt; next_field(&mut fields).is_none());
 }
 
 #[test]
 fn a_damaged_list_ends_in_its_fault(rt: HostRuntime) {
     let mut fields = Fields::new(Place::Vlan.rows(), &DATA[..15]);
-    assert!(rt; matches!(fields.next(), Some(Ok(_))));
-    assert!(rt; matches!(fields.next(), Some(Ok(_))));
-    assert!(rt; fields.next().is_none(), "padding may lack");
+    assert!(rt; matches!(next_field(&mut fields), Some(Ok(_))));
+    assert!(rt; matches!(next_field(&mut fields), Some(Ok(_))));
+    assert!(rt; next_field(&mut fields).is_none(), "padding may lack");
     let mut fields = Fields::new(Place::Vlan.rows(), &DATA[..13]);
-    assert!(rt; matches!(fields.next(), Some(Ok(_))));
-    match fields.next() {
+    assert!(rt; matches!(next_field(&mut fields), Some(Ok(_))));
+    match next_field(&mut fields) {
         Some(Err(error)) => {
             assert!(rt; error.cause == Cause::FrameOver { length: 6, left: 5 });
         }
         _ => panic!(rt; "six bytes are said, and five are there"),
     }
-    assert!(rt; fields.next().is_none());
-    assert!(rt; Fields::new(&[], &[]).next().is_none());
+    assert!(rt; next_field(&mut fields).is_none());
+    assert!(rt; next_field(&mut Fields::new(&[], &[])).is_none());
 }
 
 #[test]

@@ -1,5 +1,6 @@
 //! Kinds and their tables.
 
+use crate::values::set;
 use link_info::info::{Info, InfoError};
 use link_info::{KINDS, Place, Row, SLAVE_KINDS, Value};
 use std::alloc::Global;
@@ -60,10 +61,15 @@ fn begins_with(place: Option<Place>, name: &str) -> bool {
     }
 }
 
+/// Whether an interface is of this kind, with rows of which the first has this name.
+fn is_of(info: &Info, kind: &str, name: &str) -> bool {
+    info.kind() == kind && begins_with(Some(info.place()), name)
+}
+
 /// Whether an interface of this kind is made, with rows of which the first has this name.
 fn is_made(alloc: Global, kind: &str, name: &str) -> bool {
     match Info::new(alloc, kind) {
-        Ok(info) => info.kind() == kind && begins_with(Some(info.place()), name),
+        Ok(info) => is_of(&info, kind, name),
         Err(_) => false,
     }
 }
@@ -92,12 +98,9 @@ fn other_kinds_are_not(rt: HostRuntime) {
 
 /// Whether the numbers of rows ascend, and no two have one name.
 fn are_in_order(rows: &[Row]) -> bool {
-    for at in 1..rows.len() {
-        if rows[at].0 <= rows[at - 1].0 {
-            return false;
-        }
-        for before in 0..at {
-            if rows[before].1 == rows[at].1 {
+    for (at, Row(number, name, _)) in rows.iter().enumerate() {
+        for Row(lower, other, _) in rows.iter().take(at) {
+            if number <= lower || name == other {
                 return false;
             }
         }
@@ -113,7 +116,7 @@ fn an_interface_has_the_rows_of_its_place(rt: HostRuntime) {
         let mut info = Info::new(rt.alloc(), row.0).expect(&rt, "it has a table");
         for Row(_, name, _) in rows {
             // it is found, and no data of a kind holds a text
-            let set = info.set(rt.alloc(), name, Value::Text("x"));
+            let set = set(&mut info, rt.alloc(), name, Value::Text("x"));
             assert_eq!(rt; set, Err(InfoError::NotHeld), "{} of {}", *name, row.0);
         }
     }

@@ -1,5 +1,6 @@
 //! Calls whose memory is refused: they say so and change nothing, and succeed when they are called again.
 
+use crate::values;
 use link_info::Value;
 use link_info::info::{Info, InfoError};
 use link_nest::LinkInfo;
@@ -57,14 +58,13 @@ fn new(rt: &impl Abort, alloc: Global, refused: &mut Refused) -> Info {
 /// Sets a number.
 fn set(rt: &impl Abort, alloc: Global, info: &mut Info, name: &str, n: u64, refused: &mut Refused) {
     let before = numbers(info);
-    match info.set(alloc, name, Value::Unsigned(n)) {
+    match values::set(info, alloc, name, Value::Unsigned(n)) {
         Ok(()) => (),
         Err(error) => {
             assert_eq!(rt; error, InfoError::OutOfMemory);
             assert!(rt; numbers(info) == before, "{name}: all is as it was");
             *refused = Some("Info::set");
-            info.set(alloc, name, Value::Unsigned(n))
-                .expect(rt, "memory is refused once");
+            values::set(info, alloc, name, Value::Unsigned(n)).expect(rt, "memory is refused once");
         }
     }
     assert!(rt; number(info, name) == Some(n), "{name}");

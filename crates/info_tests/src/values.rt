@@ -1,6 +1,9 @@
-//! How values are compared.
+//! How values are compared, and calls of which no more is known than their answers.
 
-use link_info::Value;
+use link_info::info::{Info, InfoError};
+use link_info::{Field, Fields, Value};
+use nla_wire::DecodeError;
+use std::alloc::Global;
 
 /// Whether two values say the same: of those that hold others, the same bytes.
 pub fn are_same(one: Value<'_>, other: Value<'_>) -> bool {
@@ -19,4 +22,14 @@ pub fn are_same(one: Value<'_>, other: Value<'_>) -> bool {
         (Value::Nest(_, one), Value::Nest(_, other)) => one == other,
         _ => false,
     }
+}
+
+/// Sets a value; for the proof: what the call promises stays here.
+pub fn set(info: &mut Info, alloc: Global, name: &str, value: Value<'_>) -> Result<(), InfoError> {
+    info.set(alloc, name, value)
+}
+
+/// The next field; for the proof: what the call promises stays here.
+pub fn next_field<'a>(fields: &mut Fields<'a>) -> Option<Result<Field<'a>, DecodeError>> {
+    fields.next()
 }

@@ -1,5 +1,6 @@
 //! Fields that are written as attributes.
 
+use crate::values::next_field;
 use link_info::{
     Field, Fields, InfoError, Member, Place, Plain, Row, Size, Style, push_field, rewrite,
 };
@@ -70,7 +71,7 @@ fn longest(rt: &impl Abort, alloc: Global, last: u8) -> Vec<u8> {
 
 /// The first field.
 fn first<'a>(rt: &impl Abort, bytes: &'a [u8]) -> Field<'a> {
-    match Fields::new(ROWS, bytes).next() {
+    match next_field(&mut Fields::new(ROWS, bytes)) {
         Some(Ok(field)) => field,
         _ => panic!(rt; "it is whole"),
     }
