@@ -1,14 +1,22 @@
 //! Messages of one attribute that is no list: the value that is read, and its text.
 
 use crate::rows::*;
+use crate::testing::read_message;
 use expected::{bytes_from, kept, list, text_from, zeros_after};
 use link_msg::*;
+use std::alloc::Global;
+use std::process::Abort;
 
-/// What it is, an attribute as it is read, what it means, and its text.
-type Row<'a> = (&'a str, &'a [u8], LinkAttribute, &'a [u8]);
-
-/// What it is, an attribute that is written as it was read, and what it means.
-type Kept<'a> = (&'a str, &'a [u8], LinkAttribute);
+/// An attribute that is written as it was read, as in `is_row`.
+fn is_kept_row(
+    rt: &impl Abort,
+    alloc: Global,
+    label: &str,
+    attribute: &[u8],
+    wanted: LinkAttribute,
+) {
+    is_attribute_row(rt, alloc, label, 0, attribute, wanted, attribute);
+}
 
 #[test]
 fn names(rt: HostRuntime) {
@@ -27,94 +35,102 @@ fn names(rt: HostRuntime) {
 /// What is written in other bytes than it was read from.
 #[test]
 fn numbers_in_their_own_spelling(rt: HostRuntime) {
-    let rows: [Row<'_>; 3] = [
-        (
-            "IFLA_MTU with a flag",
-            &[0x08, 0x00, 0x04, 0x80, 0xdc, 0x05, 0x00, 0x00],
-            LinkAttribute::Mtu(1500),
-            &[0x08, 0x00, 0x04, 0x00, 0xdc, 0x05, 0x00, 0x00],
-        ),
-        (
-            "IFLA_NETNS_IMMUTABLE of 7",
-            &[0x05, 0x00, 0x43, 0x00, 0x07, 0x00, 0x00, 0x00],
-            LinkAttribute::NetnsImmutable(true),
-            &[0x05, 0x00, 0x43, 0x00, 0x01, 0x00, 0x00, 0x00],
-        ),
-        (
-            "IFLA_TAILROOM with both flags",
-            &[0x06, 0x00, 0x45, 0xc0, 0x10, 0x00, 0x00, 0x00],
-            LinkAttribute::Tailroom(16),
-            &[0x06, 0x00, 0x45, 0x00, 0x10, 0x00, 0x00, 0x00],
-        ),
-    ];
-    for (label, attribute, wanted, text) in rows {
-        is_attribute_row(&rt, rt.alloc(), label, 0, attribute, wanted, text);
-    }
+    is_attribute_row(
+        &rt,
+        rt.alloc(),
+        "IFLA_MTU with a flag",
+        0,
+        &[0x08, 0x00, 0x04, 0x80, 0xdc, 0x05, 0x00, 0x00],
+        LinkAttribute::Mtu(1500),
+        &[0x08, 0x00, 0x04, 0x00, 0xdc, 0x05, 0x00, 0x00],
+    );
+    is_attribute_row(
+        &rt,
+        rt.alloc(),
+        "IFLA_NETNS_IMMUTABLE of 7",
+        0,
+        &[0x05, 0x00, 0x43, 0x00, 0x07, 0x00, 0x00, 0x00],
+        LinkAttribute::NetnsImmutable(true),
+        &[0x05, 0x00, 0x43, 0x00, 0x01, 0x00, 0x00, 0x00],
+    );
+    is_attribute_row(
+        &rt,
+        rt.alloc(),
+        "IFLA_TAILROOM with both flags",
+        0,
+        &[0x06, 0x00, 0x45, 0xc0, 0x10, 0x00, 0x00, 0x00],
+        LinkAttribute::Tailroom(16),
+        &[0x06, 0x00, 0x45, 0x00, 0x10, 0x00, 0x00, 0x00],
+    );
 }
 
 #[test]
 fn numbers(rt: HostRuntime) {
     let alloc = rt.alloc();
     let (vf, skip) = (LinkExtentMask::Vf, LinkExtentMask::SkipStats);
-    let rows: [Kept<'_>; 5] = [
-        (
-            "IFLA_EVENT",
-            &[0x08, 0x00, 0x2c, 0x00, 0x05, 0x00, 0x00, 0x00],
-            LinkAttribute::Event(LinkEvent::IgmpResend),
-        ),
-        (
-            "IFLA_OPERSTATE of 7",
-            &[0x05, 0x00, 0x10, 0x00, 0x07, 0x00, 0x00, 0x00],
-            LinkAttribute::OperState(State::Other(7)),
-        ),
-        (
-            "IFLA_EXT_MASK with a flag that is not listed",
-            &[0x08, 0x00, 0x1d, 0x00, 0x09, 0x01, 0x00, 0x00],
-            LinkAttribute::ExtMask(list(alloc, [vf, skip, LinkExtentMask::Other(256)]).expect(
-                &rt, "memory",
-            )),
-        ),
-        (
-            "IFLA_EXT_MASK of 0",
-            &[0x08, 0x00, 0x1d, 0x00, 0x00, 0x00, 0x00, 0x00],
-            LinkAttribute::ExtMask(list(alloc, []).expect(&rt, "memory")),
-        ),
-        (
-            "IFLA_HEADROOM",
-            &[0x06, 0x00, 0x44, 0x00, 0x20, 0x00, 0x00, 0x00],
-            LinkAttribute::Headroom(32),
-        ),
-    ];
-    for (label, text, wanted) in rows {
-        is_attribute_row(&rt, alloc, label, 0, text, wanted, text);
-    }
+    is_kept_row(
+        &rt,
+        alloc,
+        "IFLA_EVENT",
+        &[0x08, 0x00, 0x2c, 0x00, 0x05, 0x00, 0x00, 0x00],
+        LinkAttribute::Event(LinkEvent::IgmpResend),
+    );
+    is_kept_row(
+        &rt,
+        alloc,
+        "IFLA_OPERSTATE of 7",
+        &[0x05, 0x00, 0x10, 0x00, 0x07, 0x00, 0x00, 0x00],
+        LinkAttribute::OperState(State::Other(7)),
+    );
+    is_kept_row(
+        &rt,
+        alloc,
+        "IFLA_EXT_MASK with a flag that is not listed",
+        &[0x08, 0x00, 0x1d, 0x00, 0x09, 0x01, 0x00, 0x00],
+        LinkAttribute::ExtMask(list(alloc, [vf, skip, LinkExtentMask::Other(256)]).expect(
+            &rt, "memory",
+        )),
+    );
+    is_kept_row(
+        &rt,
+        alloc,
+        "IFLA_EXT_MASK of 0",
+        &[0x08, 0x00, 0x1d, 0x00, 0x00, 0x00, 0x00, 0x00],
+        LinkAttribute::ExtMask(list(alloc, []).expect(&rt, "memory")),
+    );
+    is_kept_row(
+        &rt,
+        alloc,
+        "IFLA_HEADROOM",
+        &[0x06, 0x00, 0x44, 0x00, 0x20, 0x00, 0x00, 0x00],
+        LinkAttribute::Headroom(32),
+    );
 }
 
 #[test]
 fn kept_attributes(rt: HostRuntime) {
     let alloc = rt.alloc();
-    let rows: [Kept<'_>; 3] = [
-        (
-            "a number that is not listed",
-            &[0x06, 0x00, 0x2a, 0xc0, 0xde, 0xad, 0x00, 0x00],
-            LinkAttribute::Other(kept(alloc, 0xc02a, &[0xde, 0xad]).expect(&rt, "memory")),
-        ),
-        (
-            "IFLA_HEADROOM of 4 bytes",
-            &[0x08, 0x00, 0x44, 0x80, 0x20, 0x00, 0x00, 0x00],
-            LinkAttribute::Other(kept(alloc, 0x8044, &[0x20, 0x00, 0x00, 0x00]).expect(
-                &rt, "memory",
-            )),
-        ),
-        (
-            "IFLA_HEADROOM of no bytes",
-            &[0x04, 0x00, 0x44, 0x00],
-            LinkAttribute::Other(kept(alloc, 68, &[]).expect(&rt, "memory")),
-        ),
-    ];
-    for (label, text, wanted) in rows {
-        is_attribute_row(&rt, alloc, label, 0, text, wanted, text);
-    }
+    is_kept_row(
+        &rt,
+        alloc,
+        "a number that is not listed",
+        &[0x06, 0x00, 0x2a, 0xc0, 0xde, 0xad, 0x00, 0x00],
+        LinkAttribute::Other(kept(alloc, 0xc02a, &[0xde, 0xad]).expect(&rt, "memory")),
+    );
+    is_kept_row(
+        &rt,
+        alloc,
+        "IFLA_HEADROOM of 4 bytes",
+        &[0x08, 0x00, 0x44, 0x80, 0x20, 0x00, 0x00, 0x00],
+        LinkAttribute::Other(kept(alloc, 0x8044, &[0x20, 0x00, 0x00, 0x00]).expect(&rt, "memory")),
+    );
+    is_kept_row(
+        &rt,
+        alloc,
+        "IFLA_HEADROOM of no bytes",
+        &[0x04, 0x00, 0x44, 0x00],
+        LinkAttribute::Other(kept(alloc, 68, &[]).expect(&rt, "memory")),
+    );
 }
 
 /// A headroom that was made by hand as an attribute that is kept.
@@ -140,33 +156,30 @@ fn wireless_events(rt: HostRuntime) {
     let request = WirelessEvent::AssociateRequest(bytes_from(alloc, &[0xaa]).expect(&rt, "memory"));
     let other = [0x08, 0x00, 0x01, 0x8b, 0x00, 0x00, 0x00, 0x00];
     let other = WirelessEvent::Other(bytes_from(alloc, &other).expect(&rt, "memory"));
-    let rows: [Row<'_>; 2] = [
-        (
-            "a request to associate",
-            &[
-                0x0d, 0x00, 0x0b, 0x00, 0xff, 0xff, 0x07, 0x8c, 0x01, 0x02, 0x03, 0x04, 0xaa, 0x00,
-                0x00, 0x00,
-            ],
-            LinkAttribute::Wireless(request),
-            &[
-                0x0d, 0x00, 0x0b, 0x00, 0x09, 0x00, 0x07, 0x8c, 0x00, 0x00, 0x00, 0x00, 0xaa, 0x00,
-                0x00, 0x00,
-            ],
-        ),
-        (
-            "another event",
-            &[
-                0x0c, 0x00, 0x0b, 0x00, 0x08, 0x00, 0x01, 0x8b, 0x00, 0x00, 0x00, 0x00,
-            ],
-            LinkAttribute::Wireless(other),
-            &[
-                0x0c, 0x00, 0x0b, 0x00, 0x08, 0x00, 0x01, 0x8b, 0x00, 0x00, 0x00, 0x00,
-            ],
-        ),
-    ];
-    for (label, attribute, wanted, text) in rows {
-        is_attribute_row(&rt, alloc, label, 0, attribute, wanted, text);
-    }
+    is_attribute_row(
+        &rt,
+        alloc,
+        "a request to associate",
+        0,
+        &[
+            0x0d, 0x00, 0x0b, 0x00, 0xff, 0xff, 0x07, 0x8c, 0x01, 0x02, 0x03, 0x04, 0xaa, 0x00,
+            0x00, 0x00,
+        ],
+        LinkAttribute::Wireless(request),
+        &[
+            0x0d, 0x00, 0x0b, 0x00, 0x09, 0x00, 0x07, 0x8c, 0x00, 0x00, 0x00, 0x00, 0xaa, 0x00,
+            0x00, 0x00,
+        ],
+    );
+    is_kept_row(
+        &rt,
+        alloc,
+        "another event",
+        &[
+            0x0c, 0x00, 0x0b, 0x00, 0x08, 0x00, 0x01, 0x8b, 0x00, 0x00, 0x00, 0x00,
+        ],
+        LinkAttribute::Wireless(other),
+    );
 }
 
 /// A record is written whole, and what it was read from was shorter.
@@ -183,31 +196,35 @@ fn short_records(rt: HostRuntime) {
     let none: [u8; 100] = zeros_after(&[0x64, 0x00, 0x07, 0x00]);
     let some: [u8; 100] = zeros_after(&[0x64, 0x00, 0x07, 0x00, 0x01, 0x02, 0x03]);
     let long: [u8; 204] = zeros_after(&[0xcc, 0x00, 0x17, 0x00, 0x05]);
-    let rows: [Row<'_>; 3] = [
-        (
-            "IFLA_STATS of no bytes",
-            &[0x04, 0x00, 0x07, 0x00],
-            LinkAttribute::Stats(Stats::default()),
-            &none,
-        ),
-        (
-            "IFLA_STATS of 3 bytes",
-            &[0x07, 0x00, 0x07, 0x00, 0x01, 0x02, 0x03, 0x00],
-            LinkAttribute::Stats(stats),
-            &some,
-        ),
-        (
-            "IFLA_STATS64 of 8 bytes",
-            &[
-                0x0c, 0x00, 0x17, 0x00, 0x05, 0x00, 0x00, 0x00, 0x00, 0x00, 0x00, 0x00,
-            ],
-            LinkAttribute::Stats64(stats64),
-            &long,
-        ),
-    ];
-    for (label, attribute, wanted, text) in rows {
-        is_attribute_row(&rt, rt.alloc(), label, 0, attribute, wanted, text);
-    }
+    is_attribute_row(
+        &rt,
+        rt.alloc(),
+        "IFLA_STATS of no bytes",
+        0,
+        &[0x04, 0x00, 0x07, 0x00],
+        LinkAttribute::Stats(Stats::default()),
+        &none,
+    );
+    is_attribute_row(
+        &rt,
+        rt.alloc(),
+        "IFLA_STATS of 3 bytes",
+        0,
+        &[0x07, 0x00, 0x07, 0x00, 0x01, 0x02, 0x03, 0x00],
+        LinkAttribute::Stats(stats),
+        &some,
+    );
+    is_attribute_row(
+        &rt,
+        rt.alloc(),
+        "IFLA_STATS64 of 8 bytes",
+        0,
+        &[
+            0x0c, 0x00, 0x17, 0x00, 0x05, 0x00, 0x00, 0x00, 0x00, 0x00, 0x00, 0x00,
+        ],
+        LinkAttribute::Stats64(stats64),
+        &long,
+    );
 }
 
 /// A map has 32 bytes, the last four of which are not read; after them stand 33 and padding.
@@ -280,6 +297,14 @@ fn what_does_not_fit(rt: HostRuntime) {
     }
 }
 
+/// The state that a message of this attribute alone says.
+fn state_of(message: &LinkMessage) -> Option<State> {
+    match message.attributes.as_slice() {
+        [LinkAttribute::OperState(state)] => Some(*state),
+        _ => None,
+    }
+}
+
 #[test]
 fn an_unlisted_state_is_printed_as_its_number(rt: HostRuntime) {
     let alloc = rt.alloc();
@@ -289,10 +314,8 @@ fn an_unlisted_state_is_printed_as_its_number(rt: HostRuntime) {
         0,
         &[0x05, 0x00, 0x10, 0x00, 0x07, 0x00, 0x00, 0x00],
     );
-    let read = LinkMessage::parse(alloc, bytes.as_slice()).expect(&rt, "it is read");
-    let [LinkAttribute::OperState(state)] = read.attributes.as_slice() else {
-        panic!(rt; "another attribute");
-    };
+    let read = read_message(&rt, alloc, bytes.as_slice());
+    let state = state_of(&read).expect(&rt, "it is the attribute");
     let text = format!(in alloc; "{state}").expect(&rt, "memory");
     assert!(rt; text.as_str() == "7");
 }

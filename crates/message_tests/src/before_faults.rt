@@ -1,7 +1,7 @@
 //! What is read of a message in front of the first fault of its attributes.
 
 use crate::rows::{message_of, with_header};
-use expected::text_from;
+use expected::{cause_of, text_from};
 use link_msg::*;
 use std::alloc::Global;
 use std::process::Abort;
@@ -16,6 +16,26 @@ const NOT_UTF8: [u8; 16] = [
     0x05, 0x00, 0x03, 0x00, 0xff, 0x00, 0x00, 0x00, 0x08, 0x00, 0x04, 0x00, 0xdc, 0x05, 0x00, 0x00,
 ];
 
+/// The attributes of `READ`, and those of `NOT_UTF8`.
+const BOTH: [u8; 32] = [
+    0x08, 0x00, 0x04, 0x00, 0xdc, 0x05, 0x00, 0x00, 0x06, 0x00, 0x03, 0x00, 0x6c, 0x6f, 0x00, 0x00,
+    0x05, 0x00, 0x03, 0x00, 0xff, 0x00, 0x00, 0x00, 0x08, 0x00, 0x04, 0x00, 0xdc, 0x05, 0x00, 0x00,
+];
+
+/// The first 18 bytes of `BOTH`.
+const STRAY: [u8; 18] = [
+    0x08, 0x00, 0x04, 0x00, 0xdc, 0x05, 0x00, 0x00, 0x06, 0x00, 0x03, 0x00, 0x6c, 0x6f, 0x00, 0x00,
+    0x05, 0x00,
+];
+
+/// A message, and the fault after it.
+type BeforeFault = (LinkMessage, Option<DecodeError>);
+
+/// What is read before a fault; for the proof: what the call promises stays here.
+fn read_before_fault(alloc: Global, bytes: &[u8]) -> Result<BeforeFault, DecodeError> {
+    LinkMessage::parse_before_fault(alloc, bytes)
+}
+
 /// What is read of these attributes is this message, and the fault after it is this one.
 fn is_read_before(
     rt: &impl Abort,
@@ -26,10 +46,7 @@ fn is_read_before(
     fault: Option<DecodeError>,
 ) {
     let bytes = with_header(rt, alloc, 0, attributes);
-    let (message, found) = LinkMessage::parse_before_fault(alloc, bytes.as_slice()).expect(
-        rt,
-        "it is read",
-    );
+    let (message, found) = read_before_fault(alloc, bytes.as_slice()).expect(rt, "it is read");
     assert!(rt; message == *wanted, "{label}");
     assert!(rt; found == fault, "{label}");
 }
@@ -64,25 +81,22 @@ fn of_messages(rt: HostRuntime) {
 #[test]
 fn of_attributes_that_are_refused(rt: HostRuntime) {
     let alloc = rt.alloc();
-    let mut bytes = [0; 32];
-    bytes[..16].copy_from_slice(&READ);
-    bytes[16..].copy_from_slice(&NOT_UTF8);
     let none = message_of(&rt, alloc, []);
     let two = two_attributes(&rt, alloc);
     let fault = Some(DecodeError::new("IFLA_IFNAME", Cause::NotUtf8));
     is_read_before(&rt, alloc, "a name first", &NOT_UTF8, &none, fault);
-    is_read_before(&rt, alloc, "a name after two", &bytes, &two, fault);
+    is_read_before(&rt, alloc, "a name after two", &BOTH, &two, fault);
     let stray = Some(DecodeError::new("message", Cause::FrameShort { left: 2 }));
-    is_read_before(&rt, alloc, "two stray bytes", &bytes[..18], &two, stray);
+    is_read_before(&rt, alloc, "two stray bytes", &STRAY, &two, stray);
 }
 
 #[test]
 fn of_short_headers(rt: HostRuntime) {
-    for got in [0, 15] {
-        assert!(rt; got <= 16);
-        match LinkMessage::parse_before_fault(rt.alloc(), &[0; 16][..got]) {
-            Ok(_) => panic!(rt; "a header of {got} bytes is read"),
-            Err(error) => assert_eq!(rt; error.cause, Cause::TooShort { got, need: 16 }),
-        }
+    let headers: [&[u8]; 2] = [&[], &[0; 15]];
+    for bytes in headers {
+        let found = cause_of(read_before_fault(rt.alloc(), bytes));
+        let got = bytes.len();
+        let wanted = Cause::TooShort { got, need: 16 };
+        assert_eq!(rt; found, Some(wanted), "a header of {got} bytes");
     }
 }

@@ -1,8 +1,9 @@
 //! Damaged lists in each place, and the refusals of whole messages.
 
 use crate::rows::is_refused_row;
-use expected::{cause_of, vec_from};
-use link_msg::*;
+use crate::testing::{cause_checked, cause_read};
+use expected::vec_from;
+use link_msg::Cause;
 use std::alloc::Global;
 use std::process::Abort;
 
@@ -42,8 +43,8 @@ fn fails_in(
     match wanted {
         Some(cause) => is_refused_row(rt, alloc, label, bytes, cause),
         None => {
-            assert_eq!(rt; cause_of(LinkMessage::check(bytes)), None, "{label}");
-            assert_eq!(rt; cause_of(LinkMessage::parse(alloc, bytes)), None, "{label}");
+            assert_eq!(rt; cause_checked(bytes), None, "{label}");
+            assert_eq!(rt; cause_read(alloc, bytes), None, "{label}");
         },
     }
 }

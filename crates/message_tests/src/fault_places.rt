@@ -1,7 +1,7 @@
 //! Where faults are: the innermost frame that is refused, or the stray bytes, at each place where attributes stand.
 
 use crate::rows::with_header;
-use expected::cause_of;
+use crate::testing::cause_checked;
 use link_msg::*;
 use std::alloc::Global;
 use std::process::Abort;
@@ -9,21 +9,25 @@ use std::process::Abort;
 /// What is wrong, the family, the attributes, and how many bytes after the header the fault is.
 type Row<'a> = (&'a str, u8, &'a [u8], usize);
 
+/// How many bytes stand before the fault of a message; for the proof: what the call promises stays here.
+fn fault_at(bytes: &[u8]) -> Option<usize> {
+    LinkMessage::fault_at(bytes)
+}
+
 /// Each of these attributes is refused under its family, and its fault is where the row says.
 fn are_at(rt: &impl Abort, alloc: Global, rows: &[Row<'_>]) {
     for (label, family, attributes, at) in rows {
         let bytes = with_header(rt, alloc, *family, attributes);
-        assert!(rt; LinkMessage::check(bytes.as_slice()).is_err(), "{label}");
+        assert!(rt; cause_checked(bytes.as_slice()).is_some(), "{label}");
         assert!(rt; *at < 100, "{label}");
-        let found = LinkMessage::fault_at(bytes.as_slice());
-        assert_eq!(rt; found, Some(16 + *at), "{label}");
+        assert_eq!(rt; fault_at(bytes.as_slice()), Some(16 + *at), "{label}");
     }
 }
 
 #[test]
 fn of_short_messages(rt: HostRuntime) {
-    assert!(rt; LinkMessage::fault_at(&[]) == Some(0));
-    assert!(rt; LinkMessage::fault_at(&[0; 15]) == Some(0));
+    assert!(rt; fault_at(&[]) == Some(0));
+    assert!(rt; fault_at(&[0; 15]) == Some(0));
 }
 
 #[test]
@@ -55,12 +59,8 @@ fn of_what_is_read(rt: HostRuntime) {
     ];
     for (label, family, attributes) in rows {
         let bytes = with_header(&rt, rt.alloc(), family, attributes);
-        let found = cause_of(LinkMessage::check(bytes.as_slice()));
-        assert_eq!(rt; found, None, "{label}");
-        assert!(rt;
-            LinkMessage::fault_at(bytes.as_slice()).is_none(),
-            "{label}"
-        );
+        assert_eq!(rt; cause_checked(bytes.as_slice()), None, "{label}");
+        assert_eq!(rt; fault_at(bytes.as_slice()), None, "{label}");
     }
 }
 
@@ -402,85 +402,96 @@ const COUNTER: [u8; 29] = [
     0x01, 0x02, 0x03, 0x04, 0x05, 0x06, 0x07, 0x08, 0x05, 0x00, 0x01, 0x00, 0x09,
 ];
 
-#[test]
-fn numbers_lead_there(rt: HostRuntime) {
-    let rows: [PathRow<'_>; 9] = [
-        ("a length of 3", 0, &[0x03, 0x00, 0x03, 0x00], 0, &[]),
-        (
-            "IFLA_MTU of 2 bytes",
-            0,
-            &[0x06, 0x00, 0x04, 0xc0, 0xdc, 0x05, 0x00, 0x00],
-            0,
-            &[4],
-        ),
-        (
-            "IFLA_ALT_IFNAME that is no UTF-8",
-            0,
-            &[0x09, 0x00, 0x34, 0x00, 0x05, 0x00, 0x35, 0x00, 0xff],
-            4,
-            &[0x34, 0x35],
-        ),
-        (
-            "a stray byte in IFLA_PROP_LIST",
-            0,
-            &[0x09, 0x00, 0x34, 0x00, 0x04, 0x00, 0x63, 0x00, 0x01],
-            8,
-            &[52],
-        ),
-        (
-            "a counter of a byte",
-            0,
-            &COUNTER,
-            24,
-            &[0x16, 0x01, 0x08, 0x01],
-        ),
-        (
-            "IFLA_VF_INFO of no bytes",
-            0,
-            &[0x08, 0x00, 0x16, 0x00, 0x04, 0x00, 0x01, 0x80],
-            4,
-            &[0x16, 0x01],
-        ),
-        (
-            "a stray byte in IFLA_VF_PORT",
-            0,
-            &[0x09, 0x00, 0x18, 0x00, 0x05, 0x00, 0x01, 0x00, 0x09],
-            8,
-            &[0x18, 0x01],
-        ),
-        (
-            "a stray byte in IFLA_AF_SPEC of AF_BRIDGE",
-            7,
-            &[0x09, 0x00, 0x1a, 0x00, 0x04, 0x00, 0x01, 0x00, 0x09],
-            8,
-            &[26],
-        ),
-        (
-            "IFLA_MCTP_NET of a byte",
-            0,
-            &[
-                0x0d, 0x00, 0x1a, 0x00, 0x09, 0x00, 0x2d, 0x00, 0x05, 0x00, 0x01, 0x00, 0x09,
-            ],
-            8,
-            &[0x1a, 0x2d, 0x01],
-        ),
-    ];
+/// The path to the fault of a message; for the proof: what the call promises stays here.
+fn fault_path(bytes: &[u8]) -> Option<FaultPath> {
+    LinkMessage::fault_path(bytes)
+}
+
+/// These numbers lead to the fault of each of these attributes.
+fn are_led_to(rt: &impl Abort, alloc: Global, rows: &[PathRow<'_>]) {
     for (label, family, attributes, at, numbers) in rows {
-        let bytes = with_header(&rt, rt.alloc(), family, attributes);
-        match LinkMessage::fault_path(bytes.as_slice()) {
-            Some(path) => {
-                assert!(rt; at < 100, "{label}");
-                assert_eq!(rt; path.offset, 16 + at, "{label}");
-                assert!(rt; path.numbers() == numbers, "{label}");
-            }
-            None => panic!(rt; "{label}: the fault is not found"),
-        }
+        let bytes = with_header(rt, alloc, *family, attributes);
+        let Some(path) = fault_path(bytes.as_slice()) else {
+            panic!(rt; "{label}: the fault is not found");
+        };
+        assert!(rt; *at < 100, "{label}");
+        assert_eq!(rt; path.offset, 16 + *at, "{label}");
+        assert!(rt; path.numbers() == *numbers, "{label}");
     }
 }
 
 #[test]
+fn numbers_lead_there(rt: HostRuntime) {
+    are_led_to(
+        &rt,
+        rt.alloc(),
+        &[
+            ("a length of 3", 0, &[0x03, 0x00, 0x03, 0x00], 0, &[]),
+            (
+                "IFLA_MTU of 2 bytes",
+                0,
+                &[0x06, 0x00, 0x04, 0xc0, 0xdc, 0x05, 0x00, 0x00],
+                0,
+                &[4],
+            ),
+            (
+                "IFLA_ALT_IFNAME that is no UTF-8",
+                0,
+                &[0x09, 0x00, 0x34, 0x00, 0x05, 0x00, 0x35, 0x00, 0xff],
+                4,
+                &[0x34, 0x35],
+            ),
+            (
+                "a stray byte in IFLA_PROP_LIST",
+                0,
+                &[0x09, 0x00, 0x34, 0x00, 0x04, 0x00, 0x63, 0x00, 0x01],
+                8,
+                &[52],
+            ),
+            (
+                "a counter of a byte",
+                0,
+                &COUNTER,
+                24,
+                &[0x16, 0x01, 0x08, 0x01],
+            ),
+            (
+                "IFLA_VF_INFO of no bytes",
+                0,
+                &[0x08, 0x00, 0x16, 0x00, 0x04, 0x00, 0x01, 0x80],
+                4,
+                &[0x16, 0x01],
+            ),
+            (
+                "a stray byte in IFLA_VF_PORT",
+                0,
+                &[0x09, 0x00, 0x18, 0x00, 0x05, 0x00, 0x01, 0x00, 0x09],
+                8,
+                &[0x18, 0x01],
+            ),
+            (
+                "a stray byte in IFLA_AF_SPEC of AF_BRIDGE",
+                7,
+                &[0x09, 0x00, 0x1a, 0x00, 0x04, 0x00, 0x01, 0x00, 0x09],
+                8,
+                &[26],
+            ),
+            (
+                "IFLA_MCTP_NET of a byte",
+                0,
+                &[
+                    0x0d, 0x00, 0x1a, 0x00, 0x09, 0x00, 0x2d, 0x00, 0x05, 0x00, 0x01, 0x00, 0x09,
+                ],
+                8,
+                &[0x1a, 0x2d, 0x01],
+            ),
+        ],
+    );
+}
+
+#[test]
 fn no_number_leads_to_a_header(rt: HostRuntime) {
-    let path = LinkMessage::fault_path(&[0; 15]).expect(&rt, "the header is short");
+    let path = fault_path(&[0; 15]).expect(&rt, "the header is short");
     assert!(rt; path.offset == 0 && path.numbers().is_empty());
-    assert!(rt; LinkMessage::fault_path(&[0; 16]).is_none());
+    assert!(rt; fault_path(&[0; 16]).is_none());
 }

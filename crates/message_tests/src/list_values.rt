@@ -1,52 +1,52 @@
 //! Messages of one attribute that is a list: the value that is read, and its text.
 
 use crate::rows::*;
-use expected::{bytes_from, equal, kept, list, text_from};
+use expected::{bytes_from, equal, kept, list, text_from, zeros_after};
 use link_msg::*;
 use std::alloc::Global;
 use std::process::Abort;
 
-/// What it is, a family, an attribute as it is read, what it means, and its text.
-type Row<'a> = (&'a str, u8, &'a [u8], LinkAttribute, &'a [u8]);
-
 #[test]
 fn empty_lists(rt: HostRuntime) {
     let alloc = rt.alloc();
-    let rows: [Row<'_>; 4] = [
-        (
-            "IFLA_VFINFO_LIST of no bytes",
-            0,
-            &[0x04, 0x00, 0x16, 0x00],
-            LinkAttribute::VfInfoList(list(alloc, []).expect(&rt, "memory")),
-            &[0x04, 0x00, 0x16, 0x00],
-        ),
-        (
-            "IFLA_VFINFO_LIST of a foreign entry",
-            0,
-            &[
-                0x0c, 0x00, 0x16, 0x00, 0x08, 0x00, 0x05, 0x00, 0xff, 0xff, 0xff, 0xff,
-            ],
-            LinkAttribute::VfInfoList(list(alloc, []).expect(&rt, "memory")),
-            &[0x04, 0x00, 0x16, 0x00],
-        ),
-        (
-            "IFLA_AF_SPEC of no bytes",
-            0,
-            &[0x04, 0x00, 0x1a, 0x00],
-            LinkAttribute::AfSpecUnspec(list(alloc, []).expect(&rt, "memory")),
-            &[0x04, 0x00, 0x1a, 0x00],
-        ),
-        (
-            "IFLA_PROP_LIST of no bytes",
-            0,
-            &[0x04, 0x00, 0x34, 0x00],
-            LinkAttribute::PropList(list(alloc, []).expect(&rt, "memory")),
-            &[0x04, 0x00, 0x34, 0x80],
-        ),
-    ];
-    for (label, family, attribute, wanted, text) in rows {
-        is_attribute_row(&rt, alloc, label, family, attribute, wanted, text);
-    }
+    is_attribute_row(
+        &rt,
+        alloc,
+        "IFLA_VFINFO_LIST of no bytes",
+        0,
+        &[0x04, 0x00, 0x16, 0x00],
+        LinkAttribute::VfInfoList(list(alloc, []).expect(&rt, "memory")),
+        &[0x04, 0x00, 0x16, 0x00],
+    );
+    is_attribute_row(
+        &rt,
+        alloc,
+        "IFLA_VFINFO_LIST of a foreign entry",
+        0,
+        &[
+            0x0c, 0x00, 0x16, 0x00, 0x08, 0x00, 0x05, 0x00, 0xff, 0xff, 0xff, 0xff,
+        ],
+        LinkAttribute::VfInfoList(list(alloc, []).expect(&rt, "memory")),
+        &[0x04, 0x00, 0x16, 0x00],
+    );
+    is_attribute_row(
+        &rt,
+        alloc,
+        "IFLA_AF_SPEC of no bytes",
+        0,
+        &[0x04, 0x00, 0x1a, 0x00],
+        LinkAttribute::AfSpecUnspec(list(alloc, []).expect(&rt, "memory")),
+        &[0x04, 0x00, 0x1a, 0x00],
+    );
+    is_attribute_row(
+        &rt,
+        alloc,
+        "IFLA_PROP_LIST of no bytes",
+        0,
+        &[0x04, 0x00, 0x34, 0x00],
+        LinkAttribute::PropList(list(alloc, []).expect(&rt, "memory")),
+        &[0x04, 0x00, 0x34, 0x80],
+    );
 }
 
 #[test]
@@ -111,32 +111,33 @@ fn functions_with_one_record(rt: HostRuntime) {
     let trusted = VfInfo::Trust(VfInfoTrust::new(1, true));
     let untrusted = VfInfo::Trust(VfInfoTrust::new(1, false));
     let named = VfInfo::IbNodeGuid(VfInfoGuid::new(2, 1));
-    let rows: [Row<'_>; 3] = [
-        (
-            "IFLA_VF_TRUST on",
-            0,
-            &on_read,
-            function(&rt, alloc, trusted),
-            &on,
-        ),
-        (
-            "IFLA_VF_TRUST off",
-            0,
-            &off_read,
-            function(&rt, alloc, untrusted),
-            &off,
-        ),
-        (
-            "IFLA_VF_IB_NODE_GUID",
-            0,
-            &guid_read,
-            function(&rt, alloc, named),
-            &guid,
-        ),
-    ];
-    for (label, family, attribute, wanted, text) in rows {
-        is_attribute_row(&rt, alloc, label, family, attribute, wanted, text);
-    }
+    is_attribute_row(
+        &rt,
+        alloc,
+        "IFLA_VF_TRUST on",
+        0,
+        &on_read,
+        function(&rt, alloc, trusted),
+        &on,
+    );
+    is_attribute_row(
+        &rt,
+        alloc,
+        "IFLA_VF_TRUST off",
+        0,
+        &off_read,
+        function(&rt, alloc, untrusted),
+        &off,
+    );
+    is_attribute_row(
+        &rt,
+        alloc,
+        "IFLA_VF_IB_NODE_GUID",
+        0,
+        &guid_read,
+        function(&rt, alloc, named),
+        &guid,
+    );
 }
 
 #[test]
@@ -161,32 +162,33 @@ fn functions_with_lists(rt: HostRuntime) {
     let none = VfInfo::Stats(list(alloc, []).expect(&rt, "memory"));
     let vlan = VfVlan::Info(VfVlanInfo::new(1, 100, 0, VlanProtocol::Ieee8021Ad));
     let vlans = VfInfo::VlanList(list(alloc, [vlan]).expect(&rt, "memory"));
-    let rows: [Row<'_>; 3] = [
-        (
-            "IFLA_VF_STATS of one counter",
-            0,
-            &counted,
-            function(&rt, alloc, one),
-            &counted,
-        ),
-        (
-            "IFLA_VF_STATS of none",
-            0,
-            &uncounted,
-            function(&rt, alloc, none),
-            &uncounted,
-        ),
-        (
-            "IFLA_VF_VLAN_LIST",
-            0,
-            &tagged_read,
-            function(&rt, alloc, vlans),
-            &tagged,
-        ),
-    ];
-    for (label, family, attribute, wanted, text) in rows {
-        is_attribute_row(&rt, alloc, label, family, attribute, wanted, text);
-    }
+    is_attribute_row(
+        &rt,
+        alloc,
+        "IFLA_VF_STATS of one counter",
+        0,
+        &counted,
+        function(&rt, alloc, one),
+        &counted,
+    );
+    is_attribute_row(
+        &rt,
+        alloc,
+        "IFLA_VF_STATS of none",
+        0,
+        &uncounted,
+        function(&rt, alloc, none),
+        &uncounted,
+    );
+    is_attribute_row(
+        &rt,
+        alloc,
+        "IFLA_VF_VLAN_LIST",
+        0,
+        &tagged_read,
+        function(&rt, alloc, vlans),
+        &tagged,
+    );
 }
 
 #[test]
@@ -204,43 +206,46 @@ fn flat_lists(rt: HostRuntime) {
         0x10, 0x00, 0x1a, 0x00, 0x0c, 0x00, 0x2d, 0x00, 0x05, 0x00, 0x02, 0x00, 0xff, 0x00, 0x00,
         0x00,
     ];
-    let rows: [Row<'_>; 4] = [
-        (
-            "IFLA_ALT_IFNAME of no letters",
-            0,
-            &[0x08, 0x00, 0x34, 0x00, 0x04, 0x00, 0x35, 0x00],
-            LinkAttribute::PropList(list(alloc, [name]).expect(&rt, "memory")),
-            &[
-                0x0c, 0x00, 0x34, 0x80, 0x05, 0x00, 0x35, 0x00, 0x00, 0x00, 0x00, 0x00,
-            ],
-        ),
-        (
-            "IFLA_ALT_IFNAME of a letter",
-            0,
-            &[0x09, 0x00, 0x34, 0x00, 0x05, 0x00, 0x35, 0x00, 0x61],
-            LinkAttribute::PropList(list(alloc, [letter]).expect(&rt, "memory")),
-            &[
-                0x0c, 0x00, 0x34, 0x80, 0x06, 0x00, 0x35, 0x00, 0x61, 0x00, 0x00, 0x00,
-            ],
-        ),
-        (
-            "IFLA_XDP_ATTACHED",
-            0,
-            &path,
-            LinkAttribute::Xdp(list(alloc, [attached]).expect(&rt, "memory")),
-            &path,
-        ),
-        (
-            "AF_MCTP",
-            0,
-            &families,
-            LinkAttribute::AfSpecUnspec(list(alloc, [mctp]).expect(&rt, "memory")),
-            &families,
-        ),
-    ];
-    for (label, family, attribute, wanted, text) in rows {
-        is_attribute_row(&rt, alloc, label, family, attribute, wanted, text);
-    }
+    is_attribute_row(
+        &rt,
+        alloc,
+        "IFLA_ALT_IFNAME of no letters",
+        0,
+        &[0x08, 0x00, 0x34, 0x00, 0x04, 0x00, 0x35, 0x00],
+        LinkAttribute::PropList(list(alloc, [name]).expect(&rt, "memory")),
+        &[
+            0x0c, 0x00, 0x34, 0x80, 0x05, 0x00, 0x35, 0x00, 0x00, 0x00, 0x00, 0x00,
+        ],
+    );
+    is_attribute_row(
+        &rt,
+        alloc,
+        "IFLA_ALT_IFNAME of a letter",
+        0,
+        &[0x09, 0x00, 0x34, 0x00, 0x05, 0x00, 0x35, 0x00, 0x61],
+        LinkAttribute::PropList(list(alloc, [letter]).expect(&rt, "memory")),
+        &[
+            0x0c, 0x00, 0x34, 0x80, 0x06, 0x00, 0x35, 0x00, 0x61, 0x00, 0x00, 0x00,
+        ],
+    );
+    is_attribute_row(
+        &rt,
+        alloc,
+        "IFLA_XDP_ATTACHED",
+        0,
+        &path,
+        LinkAttribute::Xdp(list(alloc, [attached]).expect(&rt, "memory")),
+        &path,
+    );
+    is_attribute_row(
+        &rt,
+        alloc,
+        "AF_MCTP",
+        0,
+        &families,
+        LinkAttribute::AfSpecUnspec(list(alloc, [mctp]).expect(&rt, "memory")),
+        &families,
+    );
 }
 
 /// What IFLA_PROTINFO and IFLA_AF_SPEC mean under the families that read them as lists.
@@ -250,32 +255,33 @@ fn lists_by_family(rt: HostRuntime) {
     let inet6 = LinkProtoInfoInet6::Other(kept(alloc, 5, &[]).expect(&rt, "memory"));
     let bridge = LinkProtoInfoBridge::Other(kept(alloc, 1, &[]).expect(&rt, "memory"));
     let settings = AfSpecBridge::Other(kept(alloc, 2, &[]).expect(&rt, "memory"));
-    let rows: [Row<'_>; 3] = [
-        (
-            "IFLA_PROTINFO of AF_INET6",
-            10,
-            &[0x08, 0x00, 0x0c, 0x00, 0x04, 0x00, 0x05, 0x00],
-            LinkAttribute::ProtoInfoInet6(list(alloc, [inet6]).expect(&rt, "memory")),
-            &[0x08, 0x00, 0x0c, 0x80, 0x04, 0x00, 0x05, 0x00],
-        ),
-        (
-            "IFLA_PROTINFO of AF_BRIDGE",
-            7,
-            &[0x08, 0x00, 0x0c, 0x00, 0x04, 0x00, 0x01, 0x00],
-            LinkAttribute::ProtoInfoBridge(list(alloc, [bridge]).expect(&rt, "memory")),
-            &[0x08, 0x00, 0x0c, 0x80, 0x04, 0x00, 0x01, 0x00],
-        ),
-        (
-            "IFLA_AF_SPEC of AF_BRIDGE",
-            7,
-            &[0x08, 0x00, 0x1a, 0x00, 0x04, 0x00, 0x02, 0x00],
-            LinkAttribute::AfSpecBridge(list(alloc, [settings]).expect(&rt, "memory")),
-            &[0x08, 0x00, 0x1a, 0x00, 0x04, 0x00, 0x02, 0x00],
-        ),
-    ];
-    for (label, family, attribute, wanted, text) in rows {
-        is_attribute_row(&rt, alloc, label, family, attribute, wanted, text);
-    }
+    is_attribute_row(
+        &rt,
+        alloc,
+        "IFLA_PROTINFO of AF_INET6",
+        10,
+        &[0x08, 0x00, 0x0c, 0x00, 0x04, 0x00, 0x05, 0x00],
+        LinkAttribute::ProtoInfoInet6(list(alloc, [inet6]).expect(&rt, "memory")),
+        &[0x08, 0x00, 0x0c, 0x80, 0x04, 0x00, 0x05, 0x00],
+    );
+    is_attribute_row(
+        &rt,
+        alloc,
+        "IFLA_PROTINFO of AF_BRIDGE",
+        7,
+        &[0x08, 0x00, 0x0c, 0x00, 0x04, 0x00, 0x01, 0x00],
+        LinkAttribute::ProtoInfoBridge(list(alloc, [bridge]).expect(&rt, "memory")),
+        &[0x08, 0x00, 0x0c, 0x80, 0x04, 0x00, 0x01, 0x00],
+    );
+    is_attribute_row(
+        &rt,
+        alloc,
+        "IFLA_AF_SPEC of AF_BRIDGE",
+        7,
+        &[0x08, 0x00, 0x1a, 0x00, 0x04, 0x00, 0x02, 0x00],
+        LinkAttribute::AfSpecBridge(list(alloc, [settings]).expect(&rt, "memory")),
+        &[0x08, 0x00, 0x1a, 0x00, 0x04, 0x00, 0x02, 0x00],
+    );
 }
 
 /// What they mean under other families.
@@ -284,25 +290,24 @@ fn bytes_by_family(rt: HostRuntime) {
     let alloc = rt.alloc();
     let info = kept(alloc, 12, &[0x04, 0x00, 0x05, 0x00]).expect(&rt, "memory");
     let settings = bytes_from(alloc, &[0xff]).expect(&rt, "memory");
-    let rows: [Row<'_>; 2] = [
-        (
-            "IFLA_PROTINFO of AF_INET",
-            2,
-            &[0x08, 0x00, 0x0c, 0x00, 0x04, 0x00, 0x05, 0x00],
-            LinkAttribute::ProtoInfoUnknown(info),
-            &[0x08, 0x00, 0x0c, 0x00, 0x04, 0x00, 0x05, 0x00],
-        ),
-        (
-            "IFLA_AF_SPEC of AF_INET",
-            2,
-            &[0x05, 0x00, 0x1a, 0x00, 0xff, 0x00, 0x00, 0x00],
-            LinkAttribute::AfSpecUnknown(settings),
-            &[0x05, 0x00, 0x1a, 0x00, 0xff, 0x00, 0x00, 0x00],
-        ),
-    ];
-    for (label, family, attribute, wanted, text) in rows {
-        is_attribute_row(&rt, alloc, label, family, attribute, wanted, text);
-    }
+    is_attribute_row(
+        &rt,
+        alloc,
+        "IFLA_PROTINFO of AF_INET",
+        2,
+        &[0x08, 0x00, 0x0c, 0x00, 0x04, 0x00, 0x05, 0x00],
+        LinkAttribute::ProtoInfoUnknown(info),
+        &[0x08, 0x00, 0x0c, 0x00, 0x04, 0x00, 0x05, 0x00],
+    );
+    is_attribute_row(
+        &rt,
+        alloc,
+        "IFLA_AF_SPEC of AF_INET",
+        2,
+        &[0x05, 0x00, 0x1a, 0x00, 0xff, 0x00, 0x00, 0x00],
+        LinkAttribute::AfSpecUnknown(settings),
+        &[0x05, 0x00, 0x1a, 0x00, 0xff, 0x00, 0x00, 0x00],
+    );
 }
 
 /// A setting is written as its whole record.
@@ -317,6 +322,6 @@ fn settings_of_ipv4(rt: HostRuntime) {
     assert!(rt; conf.value_len() == 136);
     let mut value = [255; 136];
     conf.emit_value(&mut value);
-    assert!(rt; equal(&value[..4], &[0x01, 0x00, 0x00, 0x00]));
-    assert!(rt; are_all(&value[4..], 0));
+    let wanted: [u8; 136] = zeros_after(&[0x01]);
+    assert!(rt; equal(&value, &wanted));
 }

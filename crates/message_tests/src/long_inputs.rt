@@ -1,8 +1,10 @@
 //! Messages of a million bytes, and of a quarter of a million.
 
 use crate::rows::are_all;
-use crate::testing::{are_same, read_message, text_made};
-use expected::{GROWTH, cause_of, equal, filled, is_stored};
+use crate::testing::{
+    are_same, cause_checked, cause_read, read_message, text_made, written_within,
+};
+use expected::{GROWTH, equal, filled, is_stored};
 use link_msg::laws::law_room;
 use link_msg::*;
 use std::alloc::Global;
@@ -53,14 +55,11 @@ fn is_read(rt: HostRuntime) {
 #[test]
 fn is_checked(rt: HostRuntime) {
     let mut bytes = message(&rt, rt.alloc(), LENGTH);
-    assert_eq!(rt; cause_of(LinkMessage::check(bytes.as_slice())), None);
+    assert_eq!(rt; cause_checked(bytes.as_slice()), None);
     bytes.push(0).expect(&rt, "memory");
     let short = Some(Cause::FrameShort { left: 1 });
-    assert_eq!(rt; cause_of(LinkMessage::check(bytes.as_slice())), short);
-    assert_eq!(rt;
-        cause_of(LinkMessage::parse(rt.alloc(), bytes.as_slice())),
-        short
-    );
+    assert_eq!(rt; cause_checked(bytes.as_slice()), short);
+    assert_eq!(rt; cause_read(rt.alloc(), bytes.as_slice()), short);
 }
 
 #[test]
@@ -127,9 +126,9 @@ fn is_rewritten_within(rt: HostRuntime) {
     let mut out = filled(rt.alloc(), 255, LENGTH).expect(&rt, "memory");
     let out = out.as_mut_slice();
     assert!(rt; out.len() == LENGTH);
-    let short = canonical_within(bytes.as_slice(), &mut out[1..]);
+    let short = written_within(bytes.as_slice(), &mut out[1..]);
     assert_eq!(rt; short, Err(RoomError::NoRoom { wanted: LENGTH }));
     assert!(rt; are_all(out, 255));
-    assert!(rt; canonical_within(bytes.as_slice(), out) == Ok(LENGTH));
+    assert!(rt; written_within(bytes.as_slice(), out) == Ok(LENGTH));
     assert!(rt; equal(out, bytes.as_slice()));
 }

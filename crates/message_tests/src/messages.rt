@@ -3,6 +3,8 @@
 use crate::rows::{NAME, NAME_TEXT, is_refused_so, no_message, with_header};
 use crate::testing::are_same;
 use link_msg::*;
+use std::alloc::Global;
+use std::process::Abort;
 
 #[test]
 fn spellings_mean_the_same(rt: HostRuntime) {
@@ -82,23 +84,19 @@ fn refusals_have_numbers(rt: HostRuntime) {
     assert!(rt; CanonError::OutOfMemory.number() == 4);
 }
 
+/// A refusal is printed as this text.
+fn is_printed(rt: &impl Abort, alloc: Global, refusal: RoomError, wanted: &str) {
+    let text = format!(in alloc; "{refusal}").expect(rt, "memory");
+    assert_eq!(rt; text.as_str(), wanted);
+}
+
 #[test]
 fn refusals_for_want_of_room_are_printed(rt: HostRuntime) {
-    for (refusal, wanted) in [
-        (
-            RoomError::NoRoom { wanted: 24 },
-            "the canonical encoding has 24 bytes",
-        ),
-        (
-            RoomError::from(CanonError::DoesNotFit),
-            "the message does not fit",
-        ),
-        (
-            RoomError::NoEncoding(CanonError::EmptyVfPorts),
-            "an empty list of ports",
-        ),
-    ] {
-        let text = format!(in rt.alloc(); "{refusal}").expect(&rt, "memory");
-        assert_eq!(rt; text.as_str(), wanted, "{wanted}");
-    }
+    let room = RoomError::NoRoom { wanted: 24 };
+    let wanted = "the canonical encoding has 24 bytes";
+    is_printed(&rt, rt.alloc(), room, wanted);
+    let unfit = RoomError::from(CanonError::DoesNotFit);
+    is_printed(&rt, rt.alloc(), unfit, "the message does not fit");
+    let ports = RoomError::NoEncoding(CanonError::EmptyVfPorts);
+    is_printed(&rt, rt.alloc(), ports, "an empty list of ports");
 }

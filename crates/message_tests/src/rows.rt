@@ -2,8 +2,10 @@
 
 ghost use Rattle.std.specs.Prelude.{◌≡◌, length};
 
-use crate::testing::{are_same, read_message, text_made};
-use expected::{GROWTH, cause_of, equal, filled, is_copied, is_stored, list, vec_from};
+use crate::testing::{
+    are_same, cause_checked, cause_read, read_message, text_made, written_within,
+};
+use expected::{GROWTH, equal, filled, is_copied, is_stored, list, vec_from};
 use link_msg::laws::{law_exact_room, law_room};
 use link_msg::*;
 use std::alloc::Global;
@@ -65,9 +67,60 @@ pub(crate) fn is_read(
     bytes: &[u8],
     wanted: &LinkMessage,
 ) {
-    assert_eq!(rt; cause_of(LinkMessage::check(bytes)), None, "{label}");
+    assert_eq!(rt; cause_checked(bytes), None, "{label}");
     let read = read_message(rt, alloc, bytes);
     assert!(rt; is_copied(alloc, &read, wanted), "{label}");
+}
+
+/// A buffer of this byte, so many bytes long.
+fn room_of(rt: &impl Abort, alloc: Global, byte: u8, count: usize) -> Vec<u8>
+    ensures { length result.items ≡ count }
+{
+    filled(alloc, byte, count).expect(rt, "memory")
+}
+
+/// A buffer holds this text at its front, and after it this byte alone.
+fn is_at_front(out: &[u8], text: &[u8], byte: u8) -> bool {
+    out.starts_with(text) && out.iter().skip(text.len()).all(|other| *other == byte)
+}
+
+/// A buffer of three bytes more than the text holds it at its end, and before it this byte alone.
+fn is_at_end(out: &[u8], text: &[u8], byte: u8) -> bool {
+    out.ends_with(text) && out.starts_with(&[byte; 3])
+}
+
+/// A message is written as this text to the front of a longer buffer of this byte, which keeps its other bytes.
+fn is_emitted(
+    rt: &impl Abort,
+    alloc: Global,
+    label: &str,
+    message: &LinkMessage,
+    text: &[u8],
+    byte: u8,
+) {
+    assert!(rt; text.len() < MOST, "{label}");
+    assert!(rt; message.fits(), "{label}");
+    assert!(rt; message.buffer_len() == text.len(), "{label}");
+    let mut out = room_of(rt, alloc, byte, text.len() + 3);
+    message.emit(out.as_mut_slice());
+    assert!(rt; is_at_front(out.as_slice(), text, byte), "{label}");
+}
+
+/// The same, at the end of the buffer.
+fn is_filled(
+    rt: &impl Abort,
+    alloc: Global,
+    label: &str,
+    message: &LinkMessage,
+    text: &[u8],
+    byte: u8,
+) {
+    assert!(rt; text.len() < MOST, "{label}");
+    assert!(rt; message.fits(), "{label}");
+    assert!(rt; message.buffer_len() == text.len(), "{label}");
+    let mut out = room_of(rt, alloc, byte, text.len() + 3);
+    assert!(rt; message.fill(out.as_mut_slice()) == 3, "{label}");
+    assert!(rt; is_at_end(out.as_slice(), text, byte), "{label}");
 }
 
 /// A message is written as this text, to the front and to the end of longer buffers, which keep their other bytes.
@@ -78,23 +131,17 @@ pub(crate) fn is_written(
     message: &LinkMessage,
     text: &[u8],
 ) {
-    assert!(rt; text.len() < MOST, "{label}");
-    assert!(rt; message.fits(), "{label}");
-    assert!(rt; message.buffer_len() == text.len(), "{label}");
     for byte in [0, 255] {
-        let room = text.len() + 3;
-        let mut out = filled(alloc, byte, room).expect(rt, "memory");
-        let out = out.as_mut_slice();
-        assert!(rt; out.len() == room, "{label}");
-        message.emit(out);
-        assert!(rt; equal(&out[..text.len()], text), "{label}");
-        assert!(rt; are_all(&out[text.len()..], byte), "{label}");
-        let mut out = filled(alloc, byte, room).expect(rt, "memory");
-        let out = out.as_mut_slice();
-        assert!(rt; out.len() == room, "{label}");
-        assert!(rt; message.fill(out) == 3, "{label}");
-        assert!(rt; are_all(&out[..3], byte), "{label}");
-        assert!(rt; equal(&out[3..], text), "{label}");
+        is_emitted(rt, alloc, label, message, text, byte);
+        is_filled(rt, alloc, label, message, text, byte);
+    }
+}
+
+/// A refusal without the name of the place, which is unspecified.
+fn without_place(error: CanonError) -> CanonError {
+    match error {
+        CanonError::Decode(fault) => no_message(fault.cause),
+        _ => error,
     }
 }
 
@@ -105,13 +152,8 @@ pub(crate) fn is_refused_so<T: Drop>(
     answer: Result<T, CanonError>,
     wanted: CanonError,
 ) {
-    match (answer, wanted) {
-        (Err(CanonError::Decode(found)), CanonError::Decode(wanted)) => {
-            assert_eq!(rt; found.cause, wanted.cause, "{label}");
-        },
-        (Err(found), wanted) => assert_eq!(rt; found, wanted, "{label}"),
-        (Ok(_), _) => panic!(rt; "{label}: the call gave a text"),
-    }
+    let found = answer.err().map(|error| without_place(error));
+    assert_eq!(rt; found, Some(without_place(wanted)), "{label}");
 }
 
 /// The refusal of bytes that are no message, for this cause.
@@ -119,18 +161,11 @@ pub(crate) fn no_message(cause: Cause) -> CanonError {
     CanonError::Decode(DecodeError::new("bytes", cause))
 }
 
-/// A buffer of 255, so many bytes long.
-fn room_of(rt: &impl Abort, alloc: Global, count: usize) -> Vec<u8>
-    ensures { length result.items ≡ count }
-{
-    filled(alloc, 255, count).expect(rt, "memory")
-}
-
 /// Bytes are written again as this text, into a buffer with `GROWTH` bytes for each of theirs, which is room enough.
 fn is_rewritten(rt: &impl Abort, alloc: Global, label: &str, bytes: &[u8], text: &[u8]) {
     assert!(rt; bytes.len() < MOST, "{label}");
     law_room(bytes);
-    let mut out = room_of(rt, alloc, GROWTH * bytes.len());
+    let mut out = room_of(rt, alloc, 255, GROWTH * bytes.len());
     let out = out.as_mut_slice();
     assert!(rt; canonical_into(bytes, out) == Ok(text.len()), "{label}");
     assert!(rt; is_stored(text.len(), out, text), "{label}");
@@ -141,7 +176,7 @@ fn is_rewritten_exactly(rt: &impl Abort, alloc: Global, label: &str, bytes: &[u8
     match canonical_len(bytes) {
         Ok(len) => {
             law_exact_room(bytes, len);
-            let mut out = room_of(rt, alloc, len);
+            let mut out = room_of(rt, alloc, 255, len);
             let out = out.as_mut_slice();
             assert!(rt; canonical_into(bytes, out) == Ok(text.len()), "{label}");
             assert!(rt; equal(out, text), "{label}");
@@ -154,30 +189,42 @@ fn is_rewritten_exactly(rt: &impl Abort, alloc: Global, label: &str, bytes: &[u8
 fn is_rewritten_within(rt: &impl Abort, alloc: Global, label: &str, bytes: &[u8], text: &[u8]) {
     assert!(rt; text.len() < MOST, "{label}");
     for more in [0, 1, 5] {
-        let mut out = room_of(rt, alloc, text.len() + more);
-        let out = out.as_mut_slice();
+        let mut out = room_of(rt, alloc, 255, text.len() + more);
+        let len = written_within(bytes, out.as_mut_slice());
+        assert!(rt; len == Ok(text.len()), "{label}: {more} more");
         assert!(rt;
-            canonical_within(bytes, out) == Ok(text.len()),
+            is_stored(text.len(), out.as_slice(), text),
             "{label}: {more} more"
         );
-        assert!(rt; is_stored(text.len(), out, text), "{label}: {more} more");
     }
+}
+
+/// In this room, which is too short, the bytes are not written, and the buffer is left as it is.
+fn is_too_long_for(
+    rt: &impl Abort,
+    alloc: Global,
+    label: &str,
+    bytes: &[u8],
+    wanted: usize,
+    room: usize,
+) {
+    let mut out = room_of(rt, alloc, 255, room);
+    let found = written_within(bytes, out.as_mut_slice());
+    assert_eq!(rt;
+        found,
+        Err(RoomError::NoRoom { wanted }),
+        "{label}: room of {room}"
+    );
+    assert!(rt; are_all(out.as_slice(), 255), "{label}: room of {room}");
 }
 
 /// With one byte less than the text has, or with none, the bytes are not written, and the buffer is left as it is.
 fn is_too_long(rt: &impl Abort, alloc: Global, label: &str, bytes: &[u8], text: &[u8]) {
     let wanted = text.len();
     assert!(rt; 0 < wanted, "{label}");
-    for room in [0, 1, wanted - 1] {
-        let mut out = room_of(rt, alloc, room);
-        let out = out.as_mut_slice();
-        assert_eq!(rt;
-            canonical_within(bytes, out),
-            Err(RoomError::NoRoom { wanted }),
-            "{label}: room of {room}"
-        );
-        assert!(rt; are_all(out, 255), "{label}: room of {room}");
-    }
+    is_too_long_for(rt, alloc, label, bytes, wanted, 0);
+    is_too_long_for(rt, alloc, label, bytes, wanted, 1);
+    is_too_long_for(rt, alloc, label, bytes, wanted, wanted - 1);
 }
 
 /// Bytes have this canonical encoding, made in memory and without.
@@ -204,22 +251,34 @@ fn without_room(
     }
 }
 
+/// Bytes have no canonical encoding, for this reason, which a buffer of this room is not changed by.
+fn has_no_text_within(
+    rt: &impl Abort,
+    alloc: Global,
+    label: &str,
+    bytes: &[u8],
+    wanted: CanonError,
+    room: usize,
+) {
+    let mut out = room_of(rt, alloc, 255, room);
+    let answer = written_within(bytes, out.as_mut_slice());
+    let answer = without_room(rt, label, answer);
+    is_refused_so(rt, label, answer, wanted);
+    assert!(rt; are_all(out.as_slice(), 255), "{label}: room of {room}");
+}
+
 /// Bytes have no canonical encoding, for this reason, and no buffer is changed.
 fn has_no_text(rt: &impl Abort, alloc: Global, label: &str, bytes: &[u8], wanted: CanonError) {
     is_refused_so(rt, label, canonical(alloc, bytes), wanted);
     is_refused_so(rt, label, canonical_len(bytes), wanted);
     assert!(rt; bytes.len() < MOST, "{label}");
     law_room(bytes);
-    let mut out = room_of(rt, alloc, GROWTH * bytes.len());
-    let out = out.as_mut_slice();
-    is_refused_so(rt, label, canonical_into(bytes, out), wanted);
-    assert!(rt; are_all(out, 255), "{label}");
+    let mut out = room_of(rt, alloc, 255, GROWTH * bytes.len());
+    let answer = canonical_into(bytes, out.as_mut_slice());
+    is_refused_so(rt, label, answer, wanted);
+    assert!(rt; are_all(out.as_slice(), 255), "{label}");
     for room in [0, 15, 100] {
-        let mut out = room_of(rt, alloc, room);
-        let out = out.as_mut_slice();
-        let answer = without_room(rt, label, canonical_within(bytes, out));
-        is_refused_so(rt, label, answer, wanted);
-        assert!(rt; are_all(out, 255), "{label}: room of {room}");
+        has_no_text_within(rt, alloc, label, bytes, wanted, room);
     }
 }
 
@@ -271,12 +330,8 @@ pub(crate) fn is_refused_row(
     bytes: &[u8],
     cause: Cause,
 ) {
-    assert_eq!(rt; cause_of(LinkMessage::check(bytes)), Some(cause), "{label}");
-    assert_eq!(rt;
-        cause_of(LinkMessage::parse(alloc, bytes)),
-        Some(cause),
-        "{label}"
-    );
+    assert_eq!(rt; cause_checked(bytes), Some(cause), "{label}");
+    assert_eq!(rt; cause_read(alloc, bytes), Some(cause), "{label}");
     has_no_text(rt, alloc, label, bytes, no_message(cause));
 }
 

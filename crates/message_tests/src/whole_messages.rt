@@ -1,6 +1,7 @@
 //! Messages whose header says something, or with several attributes, and the calls that take a longer buffer.
 
 use crate::rows::*;
+use crate::testing::read_message;
 use expected::{GROWTH, equal, is_stored, kept, list, text_from};
 use link_msg::laws::law_room;
 use link_msg::*;
@@ -80,10 +81,7 @@ fn names_of_a_card(rt: HostRuntime) {
         attributes: list(alloc, [names]).expect(&rt, "memory"),
     };
     is_row(&rt, alloc, "names of a card", &bytes, &message, &bytes);
-    let flags = LinkMessage::parse(alloc, &bytes)
-        .expect(&rt, "it is read")
-        .header
-        .flags;
+    let flags = read_message(&rt, alloc, &bytes).header.flags;
     let text = format!(in alloc; "{flags}").expect(&rt, "memory");
     assert!(rt; text.as_str() == "Up | Broadcast | Running | Multicast | LowerUp");
 }
@@ -152,42 +150,49 @@ fn named(rt: &impl Abort, alloc: Global) -> LinkMessage {
     )
 }
 
-/// A message of 24 bytes is written at the end of a buffer of 40 and of 24.
+/// The message of `NAME` is written at the end of a buffer of 40 bytes and of 24.
+fn is_at_the_end(rt: &impl Abort, label: &str, message: &LinkMessage) {
+    assert!(rt; message.fits(), "{label}");
+    assert!(rt; message.buffer_len() == 24, "{label}");
+    let mut buffer = [255; 40];
+    assert!(rt; message.fill(&mut buffer) == 16, "{label}");
+    assert!(rt; buffer.starts_with(&[255; 16]), "{label}");
+    assert!(rt; buffer.ends_with(&NAME_TEXT), "{label}");
+    let mut buffer = [255; 24];
+    assert!(rt; message.fill(&mut buffer) == 0, "{label}");
+    assert!(rt; equal(&buffer, &NAME_TEXT), "{label}");
+}
+
 #[test]
 fn a_name_at_the_end(rt: HostRuntime) {
-    let read = LinkMessage::parse(rt.alloc(), &NAME).expect(&rt, "it is read");
-    for (label, message) in [("read", read), ("made", named(&rt, rt.alloc()))] {
-        assert!(rt; message.fits(), "{label}");
-        assert!(rt; message.buffer_len() == 24, "{label}");
-        let mut buffer = [255; 40];
-        assert!(rt; message.fill(&mut buffer) == 16, "{label}");
-        assert!(rt; are_all(&buffer[..16], 255), "{label}");
-        assert!(rt; equal(&buffer[16..], &NAME_TEXT), "{label}");
-        let mut buffer = [255; 24];
-        assert!(rt; message.fill(&mut buffer) == 0, "{label}");
-        assert!(rt; equal(&buffer, &NAME_TEXT), "{label}");
-    }
+    is_at_the_end(&rt, "read", &read_message(&rt, rt.alloc(), &NAME));
+    is_at_the_end(&rt, "made", &named(&rt, rt.alloc()));
 }
+
+/// A header of zeros, and a vlan that is four levels deep.
+const VLAN: [u8; 48] = [
+    0x00, 0x00, 0x00, 0x00, 0x00, 0x00, 0x00, 0x00, 0x00, 0x00, 0x00, 0x00, 0x00, 0x00, 0x00, 0x00,
+    0x20, 0x00, 0x16, 0x00, 0x1c, 0x00, 0x01, 0x00, 0x18, 0x00, 0x0c, 0x00, 0x14, 0x00, 0x01, 0x00,
+    0x01, 0x00, 0x00, 0x00, 0x64, 0x00, 0x00, 0x00, 0x00, 0x00, 0x00, 0x00, 0x88, 0xa8, 0x12, 0x34,
+];
+
+/// Two bytes of a buffer that are kept, and the text of `VLAN`.
+const VLAN_AT_THE_END: [u8; 50] = [
+    0xff, 0xff, 0x00, 0x00, 0x00, 0x00, 0x00, 0x00, 0x00, 0x00, 0x00, 0x00, 0x00, 0x00, 0x00, 0x00,
+    0x00, 0x00, 0x20, 0x00, 0x16, 0x00, 0x1c, 0x00, 0x01, 0x00, 0x18, 0x00, 0x0c, 0x00, 0x14, 0x00,
+    0x01, 0x00, 0x01, 0x00, 0x00, 0x00, 0x64, 0x00, 0x00, 0x00, 0x00, 0x00, 0x00, 0x00, 0x88, 0xa8,
+    0x00, 0x00,
+];
 
 /// A message of four levels at the end of a buffer of 50 bytes.
 #[test]
 fn a_vlan_at_the_end(rt: HostRuntime) {
-    let alloc = rt.alloc();
-    let attributes = [
-        0x20, 0x00, 0x16, 0x00, 0x1c, 0x00, 0x01, 0x00, 0x18, 0x00, 0x0c, 0x00, 0x14, 0x00, 0x01,
-        0x00, 0x01, 0x00, 0x00, 0x00, 0x64, 0x00, 0x00, 0x00, 0x00, 0x00, 0x00, 0x00, 0x88, 0xa8,
-        0x12, 0x34,
-    ];
-    let bytes = with_header(&rt, alloc, 0, &attributes);
-    let message = LinkMessage::parse(alloc, bytes.as_slice()).expect(&rt, "it is read");
+    let message = read_message(&rt, rt.alloc(), &VLAN);
     assert!(rt; message.fits());
     assert!(rt; message.buffer_len() == 48);
     let mut buffer = [255; 50];
     assert!(rt; message.fill(&mut buffer) == 2);
-    assert!(rt; are_all(&buffer[..2], 255));
-    assert!(rt; are_all(&buffer[2..18], 0));
-    assert!(rt; equal(&buffer[18..46], &attributes[..28]));
-    assert!(rt; equal(&buffer[46..], &[0x88, 0xa8, 0x00, 0x00]));
+    assert!(rt; equal(&buffer, &VLAN_AT_THE_END));
 }
 
 #[test]
