@@ -145,37 +145,43 @@ fn down_reasons(rt: HostRuntime) {
     );
 }
 
+/// What an attribute is, its bytes, the length of its payload, and the one that is wanted.
+const REFUSED_PATHS: &[(&str, &[u8], usize, usize)] = &[
+    (
+        "IFLA_XDP_ATTACHED of no bytes",
+        &[0x04, 0x00, 0x02, 0x00],
+        0,
+        1,
+    ),
+    (
+        "IFLA_XDP_ATTACHED of 2 bytes",
+        &[0x06, 0x00, 0x02, 0x00, 0x01, 0x02],
+        2,
+        1,
+    ),
+    (
+        "IFLA_XDP_FD of a byte",
+        &[0x05, 0x00, 0x01, 0x00, 0x01],
+        1,
+        4,
+    ),
+    (
+        "IFLA_XDP_EXPECTED_FD of no bytes",
+        &[0x04, 0x00, 0x08, 0x00],
+        0,
+        4,
+    ),
+];
+
 #[test]
 fn refused_express_data_paths(rt: HostRuntime) {
     let alloc = rt.alloc();
     assert_eq!(rt; wrong_bad_frame::<LinkXdp>(alloc), None);
-    for (label, bytes, got, want) in [
-        (
-            "IFLA_XDP_ATTACHED of no bytes",
-            [0x04, 0x00, 0x02, 0x00].as_slice(),
-            0,
-            1,
-        ),
-        (
-            "IFLA_XDP_ATTACHED of 2 bytes",
-            &[0x06, 0x00, 0x02, 0x00, 0x01, 0x02],
-            2,
-            1,
-        ),
-        (
-            "IFLA_XDP_FD of a byte",
-            &[0x05, 0x00, 0x01, 0x00, 0x01],
-            1,
-            4,
-        ),
-        (
-            "IFLA_XDP_EXPECTED_FD of no bytes",
-            &[0x04, 0x00, 0x08, 0x00],
-            0,
-            4,
-        ),
-    ] {
-        let cause = Cause::WrongLength { got, want };
+    for (label, bytes, got, want) in REFUSED_PATHS {
+        let cause = Cause::WrongLength {
+            got: *got,
+            want: *want,
+        };
         assert!(rt; refuses::<LinkXdp>(alloc, bytes, cause), "{label}");
     }
     let over = Cause::FrameOver {
@@ -191,32 +197,58 @@ fn refused_express_data_paths(rt: HostRuntime) {
     );
 }
 
+/// A member of this number is -2, or as many as these bytes are without a sign.
+fn is_path(rt: &impl Abort, alloc: Global, label: &str, number: u8, value: LinkXdp) {
+    let bytes = [0x08, 0x00, number, 0x00, 0xfe, 0xff, 0xff, 0xff];
+    assert!(rt; means(alloc, &bytes, &[value], &bytes), "{label}");
+}
+
 #[test]
 fn express_data_paths(rt: HostRuntime) {
-    for (label, number, value) in [
-        ("IFLA_XDP_FD", 0x01, LinkXdp::Fd(-2)),
-        ("IFLA_XDP_FLAGS", 0x03, LinkXdp::Flags(0xffff_fffe)),
-        ("IFLA_XDP_PROG_ID", 0x04, LinkXdp::ProgId(0xffff_fffe)),
-        (
-            "IFLA_XDP_DRV_PROG_ID",
-            0x05,
-            LinkXdp::DrvProgId(0xffff_fffe),
-        ),
-        (
-            "IFLA_XDP_SKB_PROG_ID",
-            0x06,
-            LinkXdp::SkbProgId(0xffff_fffe),
-        ),
-        ("IFLA_XDP_HW_PROG_ID", 0x07, LinkXdp::HwProgId(0xffff_fffe)),
-        (
-            "IFLA_XDP_EXPECTED_FD",
-            0x08,
-            LinkXdp::ExpectedFd(0xffff_fffe),
-        ),
-    ] {
-        let bytes = [0x08, 0x00, number, 0x00, 0xfe, 0xff, 0xff, 0xff];
-        assert!(rt; means(rt.alloc(), &bytes, &[value], &bytes), "{label}");
-    }
+    let alloc = rt.alloc();
+    is_path(&rt, alloc, "IFLA_XDP_FD", 0x01, LinkXdp::Fd(-2));
+    is_path(
+        &rt,
+        alloc,
+        "IFLA_XDP_FLAGS",
+        0x03,
+        LinkXdp::Flags(0xffff_fffe),
+    );
+    is_path(
+        &rt,
+        alloc,
+        "IFLA_XDP_PROG_ID",
+        0x04,
+        LinkXdp::ProgId(0xffff_fffe),
+    );
+    is_path(
+        &rt,
+        alloc,
+        "IFLA_XDP_DRV_PROG_ID",
+        0x05,
+        LinkXdp::DrvProgId(0xffff_fffe),
+    );
+    is_path(
+        &rt,
+        alloc,
+        "IFLA_XDP_SKB_PROG_ID",
+        0x06,
+        LinkXdp::SkbProgId(0xffff_fffe),
+    );
+    is_path(
+        &rt,
+        alloc,
+        "IFLA_XDP_HW_PROG_ID",
+        0x07,
+        LinkXdp::HwProgId(0xffff_fffe),
+    );
+    is_path(
+        &rt,
+        alloc,
+        "IFLA_XDP_EXPECTED_FD",
+        0x08,
+        LinkXdp::ExpectedFd(0xffff_fffe),
+    );
 }
 
 #[test]
@@ -272,21 +304,25 @@ fn long_names(rt: HostRuntime) {
     }
 }
 
+/// A payload of so few bytes is no event, and changes no byte.
+fn is_no_event(rt: &impl Abort, alloc: Global, label: &str, payload: &[u8], got: usize) {
+    let short = Some(Cause::TooShort { got, need: 8 });
+    let read = WirelessEvent::parse(alloc, payload);
+    assert_eq!(rt; cause_of(read), short, "{label}");
+    assert_eq!(rt; cause_of(WirelessEvent::check(payload)), short, "{label}");
+    let mut out = [255; 8];
+    assert!(rt; WirelessEvent::measure(payload).is_none(), "{label}");
+    assert!(rt;
+        WirelessEvent::canon(payload, &mut out).is_none(),
+        "{label}"
+    );
+    assert!(rt; equal(&out, &[255; 8]), "{label}");
+}
+
 #[test]
 fn refused_wireless_events(rt: HostRuntime) {
-    for (label, payload, got) in [("7 bytes", [0; 7].as_slice(), 7), ("no bytes", &[], 0)] {
-        let short = Some(Cause::TooShort { got, need: 8 });
-        let read = WirelessEvent::parse(rt.alloc(), payload);
-        assert_eq!(rt; cause_of(read), short, "{label}");
-        assert_eq!(rt; cause_of(WirelessEvent::check(payload)), short, "{label}");
-        let mut out = [255; 8];
-        assert!(rt; WirelessEvent::measure(payload).is_none(), "{label}");
-        assert!(rt;
-            WirelessEvent::canon(payload, &mut out).is_none(),
-            "{label}"
-        );
-        assert!(rt; equal(&out, &[255; 8]), "{label}");
-    }
+    is_no_event(&rt, rt.alloc(), "7 bytes", &[0; 7], 7);
+    is_no_event(&rt, rt.alloc(), "no bytes", &[], 0);
 }
 
 /// The longest event is as long as the value of an attribute may be.

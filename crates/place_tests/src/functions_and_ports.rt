@@ -33,23 +33,61 @@ fn refused_statistics(rt: HostRuntime) {
     assert!(rt; refuses::<VfStats>(alloc, &[0x04, 0x00, 0x08, 0x00], none));
 }
 
+/// A counter of this number is seven.
+fn is_counter(rt: &impl Abort, alloc: Global, label: &str, number: u8, value: VfStats) {
+    let bytes = [
+        0x0c, 0x00, number, 0x00, 0x07, 0x00, 0x00, 0x00, 0x00, 0x00, 0x00, 0x00,
+    ];
+    assert!(rt; means(alloc, &bytes, &[value], &bytes), "{label}");
+}
+
 #[test]
 fn statistics(rt: HostRuntime) {
-    for (label, number, value) in [
-        ("IFLA_VF_STATS_RX_PACKETS", 0, VfStats::RxPackets(7)),
-        ("IFLA_VF_STATS_TX_PACKETS", 1, VfStats::TxPackets(7)),
-        ("IFLA_VF_STATS_RX_BYTES", 2, VfStats::RxBytes(7)),
-        ("IFLA_VF_STATS_TX_BYTES", 3, VfStats::TxBytes(7)),
-        ("IFLA_VF_STATS_BROADCAST", 4, VfStats::Broadcast(7)),
-        ("IFLA_VF_STATS_MULTICAST", 5, VfStats::Multicast(7)),
-        ("IFLA_VF_STATS_RX_DROPPED", 7, VfStats::RxDropped(7)),
-        ("IFLA_VF_STATS_TX_DROPPED", 8, VfStats::TxDropped(7)),
-    ] {
-        let bytes = [
-            0x0c, 0x00, number, 0x00, 0x07, 0x00, 0x00, 0x00, 0x00, 0x00, 0x00, 0x00,
-        ];
-        assert!(rt; means(rt.alloc(), &bytes, &[value], &bytes), "{label}");
-    }
+    let alloc = rt.alloc();
+    is_counter(
+        &rt,
+        alloc,
+        "IFLA_VF_STATS_RX_PACKETS",
+        0,
+        VfStats::RxPackets(7),
+    );
+    is_counter(
+        &rt,
+        alloc,
+        "IFLA_VF_STATS_TX_PACKETS",
+        1,
+        VfStats::TxPackets(7),
+    );
+    is_counter(&rt, alloc, "IFLA_VF_STATS_RX_BYTES", 2, VfStats::RxBytes(7));
+    is_counter(&rt, alloc, "IFLA_VF_STATS_TX_BYTES", 3, VfStats::TxBytes(7));
+    is_counter(
+        &rt,
+        alloc,
+        "IFLA_VF_STATS_BROADCAST",
+        4,
+        VfStats::Broadcast(7),
+    );
+    is_counter(
+        &rt,
+        alloc,
+        "IFLA_VF_STATS_MULTICAST",
+        5,
+        VfStats::Multicast(7),
+    );
+    is_counter(
+        &rt,
+        alloc,
+        "IFLA_VF_STATS_RX_DROPPED",
+        7,
+        VfStats::RxDropped(7),
+    );
+    is_counter(
+        &rt,
+        alloc,
+        "IFLA_VF_STATS_TX_DROPPED",
+        8,
+        VfStats::TxDropped(7),
+    );
 }
 
 #[test]
@@ -85,31 +123,40 @@ fn vlans(rt: HostRuntime) {
     );
 }
 
+/// Records of functions, their numbers, and the bytes that they have at least.
+const SHORT_RECORDS: &[(&str, u8, usize)] = &[
+    ("IFLA_VF_MAC", 1, 36),
+    ("IFLA_VF_VLAN", 2, 12),
+    ("IFLA_VF_TX_RATE", 3, 8),
+    ("IFLA_VF_SPOOFCHK", 4, 8),
+    ("IFLA_VF_LINK_STATE", 5, 8),
+    ("IFLA_VF_RATE", 6, 12),
+    ("IFLA_VF_RSS_QUERY_EN", 7, 8),
+    ("IFLA_VF_TRUST", 9, 8),
+    ("IFLA_VF_IB_NODE_GUID", 10, 16),
+    ("IFLA_VF_IB_PORT_GUID", 11, 16),
+    ("IFLA_VF_BROADCAST", 13, 32),
+];
+
 #[test]
 fn short_records_of_functions(rt: HostRuntime) {
     let alloc = rt.alloc();
     assert_eq!(rt; wrong_bad_frame::<VfInfo>(alloc), None);
-    for (label, number, need) in [
-        ("IFLA_VF_MAC", 1, 36),
-        ("IFLA_VF_VLAN", 2, 12),
-        ("IFLA_VF_TX_RATE", 3, 8),
-        ("IFLA_VF_SPOOFCHK", 4, 8),
-        ("IFLA_VF_LINK_STATE", 5, 8),
-        ("IFLA_VF_RATE", 6, 12),
-        ("IFLA_VF_RSS_QUERY_EN", 7, 8),
-        ("IFLA_VF_TRUST", 9, 8),
-        ("IFLA_VF_IB_NODE_GUID", 10, 16),
-        ("IFLA_VF_IB_PORT_GUID", 11, 16),
-        ("IFLA_VF_BROADCAST", 13, 32),
-    ] {
-        let empty = [0x04, 0x00, number, 0x00];
-        let none = Cause::TooShort { got: 0, need };
+    for (label, number, need) in SHORT_RECORDS {
+        let empty = [0x04, 0x00, *number, 0x00];
+        let none = Cause::TooShort {
+            got: 0,
+            need: *need,
+        };
         assert!(rt;
             refuses::<VfInfo>(alloc, &empty, none),
             "{label} of no bytes"
         );
-        let four = [0x08, 0x00, number, 0x00, 0x01, 0x02, 0x03, 0x04];
-        let some = Cause::TooShort { got: 4, need };
+        let four = [0x08, 0x00, *number, 0x00, 0x01, 0x02, 0x03, 0x04];
+        let some = Cause::TooShort {
+            got: 4,
+            need: *need,
+        };
         assert!(rt;
             refuses::<VfInfo>(alloc, &four, some),
             "{label} of four bytes"
@@ -177,36 +224,46 @@ fn broadcasts_of_functions(rt: HostRuntime) {
     assert!(rt; means(rt.alloc(), &bytes, &[broadcast], &bytes));
 }
 
+/// A record of this number says one of the third function.
+fn is_record(rt: &impl Abort, alloc: Global, label: &str, number: u8, value: VfInfo) {
+    let bytes = [
+        0x0c, 0x00, number, 0x00, 0x03, 0x00, 0x00, 0x00, 0x01, 0x00, 0x00, 0x00,
+    ];
+    assert!(rt; means(alloc, &bytes, &[value], &bytes), "{label}");
+}
+
 #[test]
 fn records_of_functions(rt: HostRuntime) {
+    let alloc = rt.alloc();
     let on = VfLinkState::Enable;
-    for (label, number, value) in [
-        (
-            "IFLA_VF_TX_RATE",
-            3,
-            VfInfo::TxRate(VfInfoTxRate::new(3, 1)),
-        ),
-        (
-            "IFLA_VF_SPOOFCHK",
-            4,
-            VfInfo::SpoofCheck(VfInfoSpoofCheck::new(3, true)),
-        ),
-        (
-            "IFLA_VF_LINK_STATE",
-            5,
-            VfInfo::LinkState(VfInfoLinkState::new(3, on)),
-        ),
-        (
-            "IFLA_VF_RSS_QUERY_EN",
-            7,
-            VfInfo::RssQueryEn(VfInfoRssQueryEn::new(3, true)),
-        ),
-    ] {
-        let bytes = [
-            0x0c, 0x00, number, 0x00, 0x03, 0x00, 0x00, 0x00, 0x01, 0x00, 0x00, 0x00,
-        ];
-        assert!(rt; means(rt.alloc(), &bytes, &[value], &bytes), "{label}");
-    }
+    is_record(
+        &rt,
+        alloc,
+        "IFLA_VF_TX_RATE",
+        3,
+        VfInfo::TxRate(VfInfoTxRate::new(3, 1)),
+    );
+    is_record(
+        &rt,
+        alloc,
+        "IFLA_VF_SPOOFCHK",
+        4,
+        VfInfo::SpoofCheck(VfInfoSpoofCheck::new(3, true)),
+    );
+    is_record(
+        &rt,
+        alloc,
+        "IFLA_VF_LINK_STATE",
+        5,
+        VfInfo::LinkState(VfInfoLinkState::new(3, on)),
+    );
+    is_record(
+        &rt,
+        alloc,
+        "IFLA_VF_RSS_QUERY_EN",
+        7,
+        VfInfo::RssQueryEn(VfInfoRssQueryEn::new(3, true)),
+    );
 }
 
 #[test]
@@ -221,34 +278,36 @@ fn vlans_and_rates_of_functions(rt: HostRuntime) {
     assert!(rt; means(rt.alloc(), &bytes, &[vlan, rate], &bytes));
 }
 
+/// What is wrong in a list of a function, its bytes, and what they are refused for.
+const REFUSED_LISTS: &[(&str, &[u8], Cause)] = &[
+    (
+        "a length of 3 in IFLA_VF_STATS",
+        &[0x08, 0x00, 0x08, 0x00, 0x03, 0x00, 0x01, 0x00],
+        Cause::FrameUnder { length: 3 },
+    ),
+    (
+        "a stray byte in IFLA_VF_VLAN_LIST",
+        &[0x05, 0x00, 0x0c, 0x00, 0x01],
+        Cause::FrameShort { left: 1 },
+    ),
+    (
+        "a length that passes IFLA_VF_VLAN_LIST",
+        &[0x08, 0x00, 0x0c, 0x00, 0x09, 0x00, 0x01, 0x00],
+        Cause::FrameOver { length: 9, left: 4 },
+    ),
+    (
+        "a vlan of no bytes, and a length of 3",
+        &[
+            0x0c, 0x00, 0x0c, 0x00, 0x04, 0x00, 0x01, 0x00, 0x03, 0x00, 0x01, 0x00,
+        ],
+        Cause::TooShort { got: 0, need: 16 },
+    ),
+];
+
 #[test]
 fn refused_lists_of_functions(rt: HostRuntime) {
-    for (label, bytes, cause) in [
-        (
-            "a length of 3 in IFLA_VF_STATS",
-            [0x08, 0x00, 0x08, 0x00, 0x03, 0x00, 0x01, 0x00].as_slice(),
-            Cause::FrameUnder { length: 3 },
-        ),
-        (
-            "a stray byte in IFLA_VF_VLAN_LIST",
-            [0x05, 0x00, 0x0c, 0x00, 0x01].as_slice(),
-            Cause::FrameShort { left: 1 },
-        ),
-        (
-            "a length that passes IFLA_VF_VLAN_LIST",
-            [0x08, 0x00, 0x0c, 0x00, 0x09, 0x00, 0x01, 0x00].as_slice(),
-            Cause::FrameOver { length: 9, left: 4 },
-        ),
-        (
-            "a vlan of no bytes, and a length of 3",
-            [
-                0x0c, 0x00, 0x0c, 0x00, 0x04, 0x00, 0x01, 0x00, 0x03, 0x00, 0x01, 0x00,
-            ]
-            .as_slice(),
-            Cause::TooShort { got: 0, need: 16 },
-        ),
-    ] {
-        assert!(rt; refuses::<VfInfo>(rt.alloc(), bytes, cause), "{label}");
+    for (label, bytes, cause) in REFUSED_LISTS {
+        assert!(rt; refuses::<VfInfo>(rt.alloc(), bytes, *cause), "{label}");
     }
 }
 
@@ -323,9 +382,9 @@ fn list_faults<E: Entry>(
 /// What is no frame is refused, in an entry and as one, and so is an entry of no bytes. A list of none is read, and so
 /// is one whose one entry has another number.
 fn refuses_bad_entries<E: Entry>(rt: &impl Abort, alloc: Global) {
-    for (bytes, cause) in BAD_FRAMES {
-        entry_faults::<E>(rt, alloc, "in an entry", bytes, Some(cause));
-        list_faults::<E>(rt, alloc, "as an entry", bytes, Some(cause));
+    for (bytes, cause) in &BAD_FRAMES {
+        entry_faults::<E>(rt, alloc, "in an entry", bytes, Some(*cause));
+        list_faults::<E>(rt, alloc, "as an entry", bytes, Some(*cause));
     }
     entry_faults::<E>(
         rt,
@@ -368,43 +427,44 @@ fn entries_of_functions(rt: HostRuntime) {
 /// An entry of functions that is dropped, whose payload is no list.
 const DROPPED: [u8; 8] = [0x08, 0x00, 0x05, 0x00, 0xff, 0xff, 0xff, 0xff];
 
+/// Entries in a list of functions, and what they are refused for, or nothing.
+const ENTRIES: &[(&str, &[u8], Option<Cause>)] = &[
+    ("an entry that is dropped", &DROPPED, None),
+    (
+        "a function without counters",
+        &[0x08, 0x00, 0x01, 0x00, 0x04, 0x00, 0x08, 0x00],
+        None,
+    ),
+    (
+        "a short record before a length of 3",
+        &[
+            0x08, 0x00, 0x01, 0x00, 0x04, 0x00, 0x09, 0x00, 0x03, 0x00, 0x01, 0x00,
+        ],
+        Some(Cause::TooShort { got: 0, need: 8 }),
+    ),
+    (
+        "a length that passes the list",
+        &[0xff, 0xff, 0x07, 0x00],
+        Some(Cause::FrameOver {
+            length: 65535,
+            left: 4,
+        }),
+    ),
+    (
+        "a counter of seven bytes",
+        &[
+            0x14, 0x00, 0x01, 0x00, 0x10, 0x00, 0x08, 0x00, 0x0b, 0x00, 0x00, 0x00, 0x00, 0x00,
+            0x00, 0x00, 0x00, 0x00, 0x00, 0x00,
+        ],
+        Some(Cause::WrongLength { got: 7, want: 8 }),
+    ),
+];
+
 #[test]
 fn entries_in_lists_of_functions(rt: HostRuntime) {
     let alloc = rt.alloc();
-    for (label, payload, cause) in [
-        ("an entry that is dropped", DROPPED.as_slice(), None),
-        (
-            "a function without counters",
-            [0x08, 0x00, 0x01, 0x00, 0x04, 0x00, 0x08, 0x00].as_slice(),
-            None,
-        ),
-        (
-            "a short record before a length of 3",
-            [
-                0x08, 0x00, 0x01, 0x00, 0x04, 0x00, 0x09, 0x00, 0x03, 0x00, 0x01, 0x00,
-            ]
-            .as_slice(),
-            Some(Cause::TooShort { got: 0, need: 8 }),
-        ),
-        (
-            "a length that passes the list",
-            [0xff, 0xff, 0x07, 0x00].as_slice(),
-            Some(Cause::FrameOver {
-                length: 65535,
-                left: 4,
-            }),
-        ),
-        (
-            "a counter of seven bytes",
-            [
-                0x14, 0x00, 0x01, 0x00, 0x10, 0x00, 0x08, 0x00, 0x0b, 0x00, 0x00, 0x00, 0x00, 0x00,
-                0x00, 0x00, 0x00, 0x00, 0x00, 0x00,
-            ]
-            .as_slice(),
-            Some(Cause::WrongLength { got: 7, want: 8 }),
-        ),
-    ] {
-        list_faults::<LinkVfInfo>(&rt, alloc, label, payload, cause);
+    for (label, payload, cause) in ENTRIES {
+        list_faults::<LinkVfInfo>(&rt, alloc, label, payload, *cause);
     }
     let dropped = LinkVfInfo::parse_list(alloc, &DROPPED);
     assert!(rt; dropped.expect(&rt, "memory").len() == 0);

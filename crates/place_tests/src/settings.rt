@@ -20,31 +20,37 @@ const INET6_SETTINGS: usize = 244;
 
 const ICMP6_COUNTERS: usize = 60;
 
+/// What an attribute is, its bytes, the length of its payload, and the one that is wanted.
+const REFUSED_MCTP: &[(&str, &[u8], usize, usize)] = &[
+    (
+        "IFLA_MCTP_NET of 3 bytes",
+        &[0x07, 0x00, 0x01, 0x00, 0x01, 0x02, 0x03],
+        3,
+        4,
+    ),
+    (
+        "IFLA_MCTP_PHYS_BINDING of no bytes",
+        &[0x04, 0x00, 0x02, 0x00],
+        0,
+        1,
+    ),
+    (
+        "IFLA_MCTP_PHYS_BINDING of 2 bytes",
+        &[0x06, 0x00, 0x02, 0x00, 0x01, 0x02],
+        2,
+        1,
+    ),
+];
+
 #[test]
 fn settings_of_mctp(rt: HostRuntime) {
     let alloc = rt.alloc();
     assert_eq!(rt; wrong_bad_frame::<AfSpecMctp>(alloc), None);
-    for (label, bytes, got, want) in [
-        (
-            "IFLA_MCTP_NET of 3 bytes",
-            [0x07, 0x00, 0x01, 0x00, 0x01, 0x02, 0x03].as_slice(),
-            3,
-            4,
-        ),
-        (
-            "IFLA_MCTP_PHYS_BINDING of no bytes",
-            [0x04, 0x00, 0x02, 0x00].as_slice(),
-            0,
-            1,
-        ),
-        (
-            "IFLA_MCTP_PHYS_BINDING of 2 bytes",
-            [0x06, 0x00, 0x02, 0x00, 0x01, 0x02].as_slice(),
-            2,
-            1,
-        ),
-    ] {
-        let cause = Cause::WrongLength { got, want };
+    for (label, bytes, got, want) in REFUSED_MCTP {
+        let cause = Cause::WrongLength {
+            got: *got,
+            want: *want,
+        };
         assert!(rt; refuses::<AfSpecMctp>(alloc, bytes, cause), "{label}");
     }
     assert!(rt;
@@ -245,7 +251,7 @@ fn written_requests(rt: HostRuntime) {
 }
 
 /// What an attribute is, its number and length, and what it is refused for. Its payload is zeros.
-const REFUSED_SETTINGS: [(&str, u8, u8, Cause); 8] = [
+const REFUSED_SETTINGS: &[(&str, u8, u8, Cause)] = &[
     (
         "IFLA_INET6_FLAGS of 3 bytes",
         0x01,
@@ -302,16 +308,16 @@ fn refused_settings_of_ipv6(rt: HostRuntime) {
     assert_eq!(rt; wrong_bad_frame::<AfSpecInet6>(alloc), None);
     for (label, number, len, cause) in REFUSED_SETTINGS {
         let mut bytes = [0; 24];
-        bytes[0] = len;
-        bytes[2] = number;
-        assert!(rt; len < 24);
+        bytes[0] = *len;
+        bytes[2] = *number;
+        assert!(rt; *len < 24);
         assert!(rt;
-            refuses::<AfSpecInet6>(alloc, &bytes[..len as usize], cause),
+            refuses::<AfSpecInet6>(alloc, &bytes[..*len as usize], *cause),
             "{label}"
         );
         // a length below 4 after it is not come to
         assert!(rt;
-            refuses::<AfSpecInet6>(alloc, &bytes, cause),
+            refuses::<AfSpecInet6>(alloc, &bytes, *cause),
             "{label}, and a fault after it"
         );
     }
@@ -401,12 +407,12 @@ fn half_a_record_of_ipv6(rt: HostRuntime) {
 
 /// The list of a family is refused for each damaged frame in it.
 fn refuses_bad_members(rt: &impl Abort, alloc: Global, label: &str, family: u8) {
-    for (members, cause) in BAD_FRAMES {
+    for (members, cause) in &BAD_FRAMES {
         assert!(rt; members.len() <= 12);
         let len = 4 + members.len() as u8;
         let mut bytes = vec_from(alloc, &[len, 0x00, family, 0x00]).expect(rt, "memory");
         bytes.extend_from_slice(members).expect(rt, "memory");
-        let is_refused = refuses::<AfSpecUnspec>(alloc, bytes.as_slice(), cause);
+        let is_refused = refuses::<AfSpecUnspec>(alloc, bytes.as_slice(), *cause);
         assert!(rt; is_refused, "{label}: {cause:?}");
     }
 }
