@@ -1,7 +1,7 @@
 //! What of the changes is of what the state encodings of the messages have at zero.
 
 use crate::differences::Change;
-use crate::frames::{part_of, place_in};
+use crate::frames::{is_in, part_of, place_in};
 use crate::marks::marked;
 use crate::outer::{Outer, apart, members_at};
 use crate::rows::{Paths, rows};
@@ -110,8 +110,8 @@ fn paths_apart(
 pub struct Cleared {
     /// The message with other numbers in their place; nothing where it is not made yet.
     marked: Vec<u8>,
-    /// The places of the members of the message's line in which they were looked for.
-    known: Vec<usize>,
+    /// Of each member of the message's line, whether they were looked for in it.
+    known: Vec<bool>,
     paths: Paths,
 }
 
@@ -125,17 +125,21 @@ impl Cleared {
         }
     }
 
-    /// Adds the member into which a path leads to those that are known.
-    fn add_place(&mut self, line: Outer<'_>, path: &[u8]) -> Result<(), AllocError> {
-        let last = self.known.last().copied();
-        let Some(place) = place_in(line, path, last.unwrap_or(0)) else {
-            return Ok(());
-        };
-        if last == Some(place) || self.known.contains(&place) {
-            return Ok(());
+    /// Marks the members into which the doubtful paths lead and in which they were not looked for, and returns whether
+    /// there are any.
+    fn mark(&self, side: Side, line: Outer<'_>, doubts: &[Doubt<'_>], wanted: &mut [bool]) -> bool {
+        let mut likely = 0;
+        let mut is_any = false;
+        for doubt in doubts.iter().filter(|doubt| doubt.is_of(side)) {
+            if let Some(place) = place_in(line, doubt.path, likely) {
+                likely = place;
+                if let Some(it) = wanted.get_mut(place) {
+                    *it = !is_in(self.known.as_slice(), place);
+                    is_any |= *it;
+                }
+            }
         }
-        self.known.push(place)?;
-        Ok(())
+        is_any
     }
 
     /// Looks for them in the members into which the doubtful paths lead, if that was not done.
@@ -151,33 +155,37 @@ impl Cleared {
             text: snapshot.line(),
             ends,
         };
-        let before = self.known.len();
-        for doubt in doubts {
-            if doubt.is_of(side) {
-                self.add_place(line, doubt.path)?;
-            }
-        }
-        if self.known.len() == before {
+        let mut wanted = Vec::new(alloc);
+        wanted.resize(ends.len(), false)?;
+        if !self.mark(side, line, doubts, wanted.as_mut_slice()) {
             return Ok(());
         }
-        self.look(alloc, snapshot, line, before)
+        self.look(alloc, snapshot, line, wanted.as_slice())?;
+        self.keep(wanted.as_slice())
     }
 
-    /// Looks for them in the members that are known from this one on: the message says the same with other numbers in
-    /// their place.
+    /// Keeps that they were looked for in these members.
+    fn keep(&mut self, looked: &[bool]) -> Result<(), AllocError> {
+        self.known.resize(looked.len(), false)?;
+        for (known, is_looked) in self.known.iter_mut().zip(looked.iter()) {
+            *known |= *is_looked;
+        }
+        Ok(())
+    }
+
+    /// Looks for them in these members: the message says the same with other numbers in their place.
     fn look(
         &mut self,
         alloc: Global,
         snapshot: &Snapshot,
         line: Outer<'_>,
-        before: usize,
+        wanted: &[bool],
     ) -> Result<(), AllocError> {
         if self.marked.is_empty() {
             self.marked = marked(alloc, snapshot.message())?;
         }
-        let places = self.known.as_slice().get(before..).unwrap_or(&[]);
         let text = self.marked.as_slice();
-        if let Some(part) = part_of(alloc, text, snapshot.text(), line, places)? {
+        if let Some(part) = part_of(alloc, text, snapshot.text(), line, wanted)? {
             let mut shown = Vec::with_capacity(alloc, line.text.len())?;
             push_answer(alloc, snapshot.order(), &mut shown, part.message.as_slice())?;
             let paths = paths_apart(alloc, line, shown.as_slice(), part.is_part)?;

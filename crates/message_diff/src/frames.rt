@@ -48,14 +48,15 @@ fn number_in(digits: &[u8]) -> u16 {
     number
 }
 
-/// The numbers of the attributes that are shown as they are.
+/// The numbers of the attributes that are shown as they are, of which the list is the last member.
 fn kept_numbers(alloc: Global, line: Outer<'_>) -> Result<Vec<u16>, AllocError> {
     let mut numbers = Vec::new(alloc);
-    let Some(place) = line.place_of(OTHER, 0) else {
+    let last = line.ends.len().saturating_sub(1);
+    if !line.has_name(last, OTHER) {
         return Ok(numbers);
-    };
+    }
     let mut walk = Walk::new(alloc)?;
-    let _len = walk.outer(line.member(place))?;
+    let _len = walk.outer(line.member(last))?;
     for member in walk.members() {
         if member.depth == 2 && member.name == NUMBER {
             numbers.push(number_in(member.value))?;
@@ -83,12 +84,11 @@ impl Layout {
         let kept = kept_numbers(alloc, line)?;
         let named = count_named(attributes, kept.as_slice());
         let lists = if kept.is_empty() { 0 } else { 1 };
-        let first = line.ends.len().saturating_sub(named).saturating_sub(lists);
-        let is_header = line.place_of(HEADER, first.saturating_sub(1)) == first.checked_sub(1);
-        if !is_header
-            || line.place_of(HEADER, first).is_some()
-            || line.place_of(REPEATED, 0).is_some()
-        {
+        let end = line.ends.len().saturating_sub(lists);
+        let first = end.saturating_sub(named);
+        let is_behind_header = line.has_name(first.saturating_sub(1), HEADER)
+            && !line.has_name(first, HEADER);
+        if first == 0 || !is_behind_header || line.has_name(end.saturating_sub(1), REPEATED) {
             return Ok(None);
         }
         Ok(Some(Layout { kept, first }))
@@ -147,6 +147,11 @@ pub fn place_in(line: Outer<'_>, path: &[u8], likely: usize) -> Option<usize> {
     }
 }
 
+/// Whether a place is one of those that are marked.
+pub fn is_in(marked: &[bool], place: usize) -> bool {
+    marked.get(place).copied().unwrap_or(false)
+}
+
 /// A message that says less.
 #[derive(Drop)]
 pub struct Part {
@@ -156,17 +161,17 @@ pub struct Part {
 }
 
 /// The message with only those attributes that are not as in the other one, which has them at the same places, and
-/// whose members stand at these places of the other one's line; nothing where there are none.
+/// whose members stand at the wanted places of the other one's line; nothing where there are none.
 ///
 /// An attribute is shown as it is alone, but for the length of the link's address: this stays, and where the list of
-/// those that are shown as they are stands at one of the places, all of them. Where it does not show which attribute is
-/// which member, the message is whole.
+/// those that are shown as they are stands at one of these places, all of them. Where it does not show which attribute
+/// is which member, the message is whole.
 pub fn part_of(
     alloc: Global,
     message: &[u8],
     other: &[u8],
     line: Outer<'_>,
-    places: &[usize],
+    wanted: &[bool],
 ) -> Result<Option<Part>, AllocError> {
     if message == other {
         return Ok(None);
@@ -186,7 +191,7 @@ pub fn part_of(
         attributes,
         beside,
         line.ends.len().saturating_sub(1),
-        places,
+        wanted,
         &mut part,
     )? {
         return Ok(Some(Part {
@@ -205,10 +210,10 @@ impl Layout {
         attributes: &[u8],
         others: &[u8],
         last: usize,
-        places: &[usize],
+        wanted: &[bool],
         part: &mut Vec<u8>,
     ) -> Result<bool, AllocError> {
-        let is_other = places.contains(&last);
+        let is_other = is_in(wanted, last);
         let mut place = self.first;
         let mut rest = attributes;
         let mut beside = others;
@@ -225,7 +230,7 @@ impl Layout {
             let is_wanted = if is_kept {
                 is_other
             } else {
-                differs && places.contains(&place)
+                differs && is_in(wanted, place)
             };
             if is_wanted || number == IFLA_ADDRESS {
                 part.extend_from_slice(frame)?;

@@ -35,6 +35,11 @@ impl<'a> Outer<'a> {
         }
     }
 
+    /// Whether the member at this place has a name that begins so, which is passed with its quote in front.
+    pub fn has_name(&self, place: usize, name: &[u8]) -> bool {
+        is_named(self.member(place), name)
+    }
+
     /// The place from this one on of the member with this name, which is passed with its quotes and its colon.
     pub fn place_of(&self, name: &[u8], from: usize) -> Option<usize> {
         for place in from..self.ends.len() {
