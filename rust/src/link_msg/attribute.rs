@@ -4,6 +4,7 @@
 use crate::link_afspec::{AfSpecBridge, AfSpecUnspec, LinkProtoInfoBridge, LinkProtoInfoInet6};
 use crate::link_msg::numbers::*;
 use crate::link_msg::payload::truth_byte;
+use crate::link_msg::view::View;
 use crate::link_nest::{DevlinkPort, DpllPin, LinkInfo, LinkProtocolDownReason, LinkXdp, Prop, WirelessEvent};
 use crate::link_recs::{Map, Stats, Stats64};
 use crate::link_vals::{LinkEvent, LinkExtentMask, LinkMode, LinkPhysId, State};
@@ -206,31 +207,6 @@ impl Nla for LinkAttribute {
     }
 }
 
-/// What an attribute's value is written from.
-#[derive(Clone, Copy)]
-pub(crate) enum View<'a> {
-    Flat(FlatView<'a>),
-    Id(&'a LinkPhysId),
-    Stats(&'a Stats),
-    Stats64(&'a Stats64),
-    Map(&'a Map),
-    Mask(&'a [LinkExtentMask]),
-    Event(&'a WirelessEvent),
-    Port(&'a [VfPort]),
-    Infos(&'a [LinkInfo]),
-    Functions(&'a [LinkVfInfo]),
-    Ports(&'a [LinkVfPort]),
-    Xdps(&'a [LinkXdp]),
-    Props(&'a [Prop]),
-    Reasons(&'a [LinkProtocolDownReason]),
-    DevlinkPorts(&'a [DevlinkPort]),
-    DpllPins(&'a [DpllPin]),
-    BridgeInfos(&'a [LinkProtoInfoBridge]),
-    Inet6Infos(&'a [LinkProtoInfoInet6]),
-    Bridges(&'a [AfSpecBridge]),
-    Unspecs(&'a [AfSpecUnspec]),
-}
-
 /// A row for each variant, in their order, for `view` and `CloneIn`: how it is copied, its name, what it holds, its
 /// kind with both flag bits, and what its value is written from. `plain` is copied as it is, `held` with memory, and
 /// `mask` is a list of flags.
@@ -312,7 +288,7 @@ macro_rules! variants {
 impl LinkAttribute {
     /// Its kind, with both flag bits, and what its value is written from.
     #[inline(always)]
-    fn view(&self) -> (u16, View<'_>) {
+    pub fn view(&self) -> (u16, View<'_>) {
         macro_rules! viewed {
             ($($how:ident $variant:ident($value:ident => $kind:expr, $view:expr))+) => {
                 match self {

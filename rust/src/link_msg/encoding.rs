@@ -139,6 +139,11 @@ pub fn canonical(input: &[u8]) -> Result<Vec<u8>, CanonError> {
     Ok(encoding)
 }
 
+/// Whether two messages that were read are equal.
+fn same_accepted(one: &LinkMessage, other: &LinkMessage) -> bool {
+    one == other
+}
+
 /// Whether two byte strings mean the same message, which is so exactly where their canonical encodings are equal.
 ///
 /// Both have to mean messages that fit and hold no empty list of ports. Refuses as `canonical` does, each refusal of
@@ -150,7 +155,7 @@ pub fn canonical(input: &[u8]) -> Result<Vec<u8>, CanonError> {
 pub fn same_message(first: &[u8], second: &[u8]) -> Result<bool, CanonError> {
     let one = parse_accepted(first)?;
     let other = parse_accepted(second)?;
-    Ok(one == other)
+    Ok(same_accepted(&one, &other))
 }
 
 /// Why nothing was written to a buffer.

@@ -29,7 +29,7 @@ pub enum FlatView<'a> {
 impl FlatView<'_> {
     /// The length of the encoding: of a `Text` with its NUL.
     #[inline]
-    pub fn len(&self) -> usize {
+    pub(crate) fn len(&self) -> usize {
         match self {
             FlatView::Bytes(bytes) => bytes.len(),
             FlatView::Text(text) => text.len() + 1,
