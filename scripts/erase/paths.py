@@ -6,6 +6,7 @@ from source import counts
 NAME = re.compile(r"\b(?:String|Vec)\b")
 PACKAGE = "linkwire"
 STD_OF_OURS = {"alloc", "str", "test"}              # modules of std of which a file of ours stands
+OF_CRATE, OF_TESTS = {"net"}, {"simd"}              # and those of which one stands for the crate or the tests alone
 CRATES_OF_OURS = {"bitflags", "hex", "memchr", "json"}
 NAMES_OF_OURS = {"Vec", "String", "HostRuntime"}    # of Rattle's prelude, where they differ
 IN_CORE = {"fmt", "marker", "ops", "slice", "str"}
@@ -45,12 +46,10 @@ def std_path(s, i, root, is_crate):
     if s.text[part] == "{":
         s.fail(i, "a group of parts of std: write one `use` for each")
     is_method = s.text[part] == "str" and s.is_path(part)
-    if s.at(part, "process", ":", ":", "Abort") or (s.text[part] in STD_OF_OURS and not is_method):
+    ours = STD_OF_OURS | (OF_CRATE if is_crate else OF_TESTS)
+    if s.at(part, "process", ":", ":", "Abort") or (s.text[part] in ours and not is_method):
         counts["path of std that is ours"] += 1
         s.new[i] = f"{root}::rattle"
-    elif is_crate and s.text[part] == "net":
-        counts["path of std that is ours"] += 1
-        s.new[i] = "crate::rattle"
     elif is_crate:
         if s.text[part] not in IN_CORE:
             s.fail(i, "a part of std that core has not")

@@ -10,6 +10,7 @@ import erase
 import layout
 import memory
 import owed
+import paths
 import surface
 from source import Source, Unknown, counts
 
@@ -38,6 +39,7 @@ REFUSED = [
     ("fn f() {\n    unsafe { g() }\n}\n", "2: unsafe"),
     ("use std::{fmt, str};\n", "1: a group of parts of std: write one `use` for each"),
     ("use std::collections::HashMap;\n", "1: a part of std that core has not"),
+    ("use std::simd::prelude::*;\n", "1: a part of std that core has not"),
     ("pub(in crate::a) fn f() {}\n", "1: pub(in ..)"),
     ("fn f(x: usize) -> u8 {\n    x as u8\n}\n", "2: a cast to u8, of which no checked form is known"),
     ("fn f() -> u16 {\n    5 as u16\n}\n", "2: a cast of what is neither a name nor in parentheses"),
@@ -132,6 +134,11 @@ def main():
     signed = Source("a.rt", "fn f(z: i64) {\n    g((z as i8).to_le_bytes());\n}\n")
     if owed.narrowing(signed) != ["narrow_signed"] or "g(narrow_signed::<i8>(z).to_le_bytes())" not in signed.rust():
         print(signed.rust())
+        failed += 1
+    vectors = Source("a.rt", "use std::simd::prelude::*;\n")
+    paths.paths(vectors, "line_filter", [], is_program=False, is_crate=False)
+    if vectors.rust() != "use crate::rattle::simd::prelude::*;\n":
+        print(vectors.rust())
         failed += 1
     hidden = Source("a.rt", "impl Info {\n    pub fn set(&mut self) {}\n\n    pub fn kind(&self) {}\n}\n")
     surface.hide_calls(hidden)

@@ -9,6 +9,7 @@ pub mod number;
 pub mod prelude;
 pub mod process;
 pub mod rt;
+pub mod simd;
 pub mod str;
 pub mod string;
 pub mod test;
