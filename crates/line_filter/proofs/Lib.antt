@@ -4,3 +4,4 @@ mod Joined
 mod Walk
 mod Spelling
 pub mod Front
+mod Blocks

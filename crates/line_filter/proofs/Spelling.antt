@@ -11,7 +11,7 @@ use Rattle.hex.specs.declared.error.FromHexError.TheVariants.{InvalidHexCharacte
 use Rattle.line_filter.specs.Digits.{listed, IsTable, Spells}
 
 -- ** one pair
-listed-low : (v : ℕ) → v < 16 → listed v ≡ Some v
+pub listed-low : (v : ℕ) → v < 16 → listed v ≡ Some v
 listed-low v h = grind arith
 
 listed-high : (v : ℕ) → 16 ≤ v → listed v ≡ None
@@ -64,9 +64,9 @@ abbrev pub agrees : Option ℕ → ℕ → Bool
 agrees (Some w) v = (w == v) && nat_lt v 16
 agrees None v = not (nat_lt v 16)
 
-abbrev pub all_agree : List ℕ → ℕ → Bool
-all_agree table zero = true
-all_agree table (suc n) = agrees (hex_digit_value n) (slice_index table n) && all_agree table n
+abbrev pub all_agree : (ℕ → ℕ) → ℕ → Bool
+all_agree value zero = true
+all_agree value (suc n) = agrees (hex_digit_value n) (value n) && all_agree value n
 
 agrees-listed : (o : Option ℕ) (v : ℕ) → agrees o v ≡ true → o ≡ listed v
 agrees-listed (Some w) v h =
@@ -75,17 +75,17 @@ agrees-listed (Some w) v h =
     rw (parts.1, same) refl
 agrees-listed None v h = sym (listed-high v (grind arith))
 
-all_agree-at : (table : List ℕ) (n k : ℕ) → all_agree table n ≡ true → k < n
-    → hex_digit_value k ≡ listed (slice_index table k)
-all_agree-at table zero k h lt = absurd (omega arith)
-all_agree-at table (suc n) k h lt =
-    let parts = and_parts (agrees (hex_digit_value n) (slice_index table n)) (all_agree table n) h in
+pub all_agree-at : (value : ℕ → ℕ) (n k : ℕ) → all_agree value n ≡ true → k < n
+    → hex_digit_value k ≡ listed (value k)
+all_agree-at value zero k h lt = absurd (omega arith)
+all_agree-at value (suc n) k h lt =
+    let parts = and_parts (agrees (hex_digit_value n) (value n)) (all_agree value n) h in
     elim (cases_lt k n) [
-      | inl below ↦ all_agree-at table n k parts.1 below
+      | inl below ↦ all_agree-at value n k parts.1 below
       | inr top ↦
           let e : k ≡ n = omega arith in
-          rw e (agrees-listed (hex_digit_value n) (slice_index table n) parts.0)
+          rw e (agrees-listed (hex_digit_value n) (value n) parts.0)
     ]
 
-pub IsTable-from_test : (table : List ℕ) → all_agree table 256 ≡ true → IsTable table
-IsTable-from_test table h = record { each = λ byte within. all_agree-at table 256 byte h within }
+pub IsTable-from_test : (table : List ℕ) → all_agree (slice_index table) 256 ≡ true → IsTable table
+IsTable-from_test table h = record { each = λ byte within. all_agree-at (slice_index table) 256 byte h within }

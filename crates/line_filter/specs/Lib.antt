@@ -3,3 +3,4 @@ pub mod Digits
 pub mod Steps
 pub mod Words
 pub mod OneWorded
+pub mod Lanes

@@ -4,6 +4,7 @@
 pub mod answers;
 pub mod digits;
 pub mod error;
+mod lanes;
 mod lines;
 pub mod run;
 pub mod worded;

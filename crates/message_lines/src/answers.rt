@@ -8,7 +8,7 @@ ghost use Rattle.message_lines.specs.OneAnswer.{each_answered};
 
 use crate::encoding::Encoding;
 use line_filter::answers::Answer;
-use line_filter::digits::{decode, values};
+use line_filter::digits::{decode, encode, values};
 use link_msg::CanonError;
 use std::alloc::{AllocError, Global};
 
@@ -60,11 +60,7 @@ fn push_text(waiting: &mut Vec<u8>, text: &[u8]) -> Result<(), AllocError>
     let start = waiting.len();
     let end = start.checked_add(2 * text.len()).ok_or(AllocError)?;
     waiting.resize(end, 0)?;
-    let written = hex::encode_to_slice(text, &mut waiting[start..]);
-    // for the proof: this never fails, since the room is just what the text needs
-    if written.is_err() {
-        return Err(AllocError);
-    }
+    encode(text, &mut waiting[start..]);
     waiting.push(b'\n')?;
     Ok(())
 }

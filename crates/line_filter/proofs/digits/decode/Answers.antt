@@ -1,7 +1,26 @@
 use Rattle.std.proofs.Common.{◌+◌, ◌*◌, slice_index, arith}
+use Rattle.std.proofs.lemmas.Bool.{OnTrue_at, OnFalse_at}
 use Rattle.hex.proofs.Pairs.{decode_step}
 use Rattle.line_filter.proofs.Spelling.{pair_reads, pair_refuses_first, pair_refuses_second, spells_all, spells_none}
+use Rattle.line_filter.proofs.Blocks.{decode_more}
 use Rattle.line_filter.proofs.digits.decode.Goals as goal
+use Rattle.line_filter.proofs.digits.decode.Goals.{then-loop-bytes-test+else-decode_block, else-loop-bytes-test}
+
+pub loop-bytes-preserved : goal.loop-bytes-preserved
+loop-bytes-preserved c =
+    let is = OnTrue_at c.if-decode_block.true c.decode_block.ensures.read in record {
+      within = omega arith;
+      read = decode_more c.args.digits.now c.loop-bytes.bytes c.decode_block.new.bytes c.loop-bytes.done (omega arith)
+          is c.loop-bytes.invariant.read;
+    }
+
+pub loop-i-init : goal.loop-i-init
+loop-i-init c =
+    elim c.loop-bytes-test.branch [
+      | then-loop-bytes-test+else-decode_block w ↦
+          rw (w.bytes-is, OnFalse_at w.if-decode_block.false w.decode_block.ensures.kept) c.loop-bytes.invariant.read
+      | else-loop-bytes-test w ↦ rw w.bytes-is c.loop-bytes.invariant.read
+    ]
 
 pub returns-then-high-gt15 : goal.returns-then-high-gt15
 returns-then-high-gt15 c =
