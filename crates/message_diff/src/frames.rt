@@ -12,7 +12,7 @@ use nla_wire::fields::u16_at;
 use std::alloc::{AllocError, Global};
 
 /// The names of the list of attributes that are shown as they are, and of that of earlier ones of one name.
-const OTHER: &[u8] = b"\"other\":";
+pub const OTHER: &[u8] = b"\"other\":";
 
 const REPEATED: &[u8] = b"\"repeated\":";
 
@@ -23,7 +23,7 @@ const NUMBER: &[u8] = b"number";
 const HEADER: &[u8] = b"\"ifi-";
 
 /// How many bytes the frame takes up that a list begins with, with its padding.
-fn frame_len(list: &[u8]) -> usize
+pub fn frame_len(list: &[u8]) -> usize
     ensures { result ≤ length list.now }
 {
     if list.len() < NLA_HEADER_SIZE {
@@ -34,7 +34,7 @@ fn frame_len(list: &[u8]) -> usize
 }
 
 /// The number of a frame.
-fn number_of(frame: &[u8]) -> u16 {
+pub fn number_of(frame: &[u8]) -> u16 {
     u16_at(frame, 2) & NLA_TYPE_MASK
 }
 
@@ -68,7 +68,7 @@ fn kept_numbers(alloc: Global, line: Outer<'_>) -> Result<Vec<u16>, AllocError> 
 /// Which members are shown of which attributes: those after the header's, in order, of one attribute each, but for
 /// those that are shown as they are.
 #[derive(Drop)]
-struct Layout {
+pub struct Layout {
     kept: Vec<u16>,
     /// The place of the first attribute's member.
     first: usize,
@@ -76,7 +76,7 @@ struct Layout {
 
 impl Layout {
     /// That of a line, if these are all of its members.
-    fn new(
+    pub fn new(
         alloc: Global,
         attributes: &[u8],
         line: Outer<'_>,
@@ -92,6 +92,21 @@ impl Layout {
             return Ok(None);
         }
         Ok(Some(Layout { kept, first }))
+    }
+
+    /// The place of the first attribute's member.
+    pub fn first(&self) -> usize {
+        self.first
+    }
+
+    /// Whether attributes of this number are shown as they are.
+    pub fn is_kept(&self, number: u16) -> bool {
+        self.kept.contains(&number)
+    }
+
+    /// Whether any are.
+    pub fn has_kept(&self) -> bool {
+        !self.kept.is_empty()
     }
 }
 

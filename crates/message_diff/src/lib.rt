@@ -2,6 +2,7 @@
 //! of interfaces.
 #![tactic(auto)]
 
+mod beside;
 mod counters;
 mod differences;
 mod files;

@@ -4,8 +4,9 @@ ghost use Rattle.std.specs.Prelude.{◌≡◌, IfOk, IfErr, OnOk};
 ghost use Rattle.link_msg.specs.Canonical.{IsRefusal};
 ghost use Rattle.message_diff.specs.Compared.{HasTextBy};
 
+use crate::beside::push_beside;
 use crate::counters::Cleared;
-use crate::outer::ends_of;
+use crate::outer::{Outer, ends_of};
 use link_msg::{CanonError, canonical};
 use link_state::state;
 use message_shown::answers::push_answer;
@@ -114,8 +115,36 @@ impl Snapshot {
         if !self.line.is_empty() {
             return Ok(());
         }
-        self.line = Vec::with_capacity(alloc, self.text.len().saturating_mul(ROOM_FOR_A_BYTE))?;
+        self.line = self.room(alloc)?;
         push_answer(alloc, self.order, &mut self.line, self.text.as_slice())
+    }
+
+    /// Makes the line, if it is not made yet. Where the line of the other message is made, and it is known where its
+    /// members end (by `find_ends`), what both have in common is taken from it.
+    pub fn show_beside(&mut self, alloc: Global, other: &Snapshot) -> Result<(), AllocError>
+        ensures { self.new ≡ self.old }
+    {
+        if !self.line.is_empty() {
+            return Ok(());
+        }
+        if self.order == other.order && !other.ends.is_empty() {
+            let known = Outer {
+                text: other.line(),
+                ends: other.ends(),
+            };
+            let mut line = self.room(alloc)?;
+            let text = self.text.as_slice();
+            if push_beside(alloc, self.order, other.text(), known, text, &mut line)? {
+                self.line = line;
+                return Ok(());
+            }
+        }
+        self.show(alloc)
+    }
+
+    /// Room for its line.
+    fn room(&self, alloc: Global) -> Result<Vec<u8>, AllocError> {
+        Vec::with_capacity(alloc, self.text.len().saturating_mul(ROOM_FOR_A_BYTE))
     }
 
     /// The line that was made.

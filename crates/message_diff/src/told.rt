@@ -156,7 +156,7 @@ pub fn push_changed(
     }
     old.show(alloc)?;
     old.find_ends(alloc)?;
-    new.show(alloc)?;
+    new.show_beside(alloc, old)?;
     push_known(alloc, words, old, new, out)?;
     Ok(true)
 }

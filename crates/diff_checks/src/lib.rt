@@ -1,0 +1,7 @@
+//! Tests of `message_diff`, in a crate of their own so that it is proved once.
+#![tactic(auto)]
+
+#[cfg(test)]
+mod beside;
+#[cfg(test)]
+mod messages;
