@@ -4,7 +4,7 @@ use crate::key::Key;
 use crate::snapshot::{Compared, Snapshot};
 use crate::words::words_of;
 use line_filter::digits::{decode, values};
-use line_filter::words::{split, value_of};
+use line_filter::words::value_of;
 use link_msg::CanonError;
 use message_shown::answers::push_answer;
 use message_shown::context::Order;
@@ -26,15 +26,19 @@ pub enum Said {
 #[derive(Drop)]
 pub struct LineReader {
     by: Compared,
-    /// The words of the last line, as members with a comma after each.
-    pub words: Vec<u8>,
     message: Vec<u8>,
 }
 
-/// Adds a line with the words and a fault.
-fn push_fault(out: &mut Vec<u8>, words: &[u8], fault: &[u8]) -> Result<(), AllocError> {
+/// Adds a line with the words in front of another one and a fault.
+fn push_fault(
+    alloc: Global,
+    out: &mut Vec<u8>,
+    front: &[u8],
+    fault: &[u8],
+) -> Result<(), AllocError> {
+    let words = words_of(alloc, front)?;
     out.push(b'{')?;
-    out.extend_from_slice(words)?;
+    out.extend_from_slice(words.as_slice())?;
     out.extend_from_slice(fault)
 }
 
@@ -42,14 +46,15 @@ fn push_fault(out: &mut Vec<u8>, words: &[u8], fault: &[u8]) -> Result<(), Alloc
 fn push_refusal(
     alloc: Global,
     out: &mut Vec<u8>,
-    words: &[u8],
+    front: &[u8],
     bytes: &[u8],
 ) -> Result<(), AllocError> {
     let mut shown = Vec::new(alloc);
     push_answer(alloc, Order::Unknown, &mut shown, bytes)?;
     push_fault(
+        alloc,
         out,
-        words,
+        front,
         shown.as_slice().strip_prefix(b"{").unwrap_or(b""),
     )
 }
@@ -59,24 +64,21 @@ impl LineReader {
     pub fn new(alloc: Global, by: Compared) -> LineReader {
         LineReader {
             by,
-            words: Vec::new(alloc),
             message: Vec::new(alloc),
         }
     }
 
-    /// What a line says. A line with a fault is answered by the fault.
+    /// What a line says that has these words in front of its digits. A line with a fault is answered by the fault.
     pub fn read(
         &mut self,
         alloc: Global,
-        line: &[u8],
+        front: &[u8],
+        digits: &[u8],
         out: &mut Vec<u8>,
     ) -> Result<Said, AllocError> {
-        let (front, digits) = split(line);
-        self.words = words_of(alloc, front)?;
         self.message.resize(digits.len() / 2, 0)?;
-        let words = self.words.as_slice();
         if !decode(digits, values(), self.message.as_mut_slice()) {
-            push_fault(out, words, b"\"fault\":\"not-hex\"}\n")?;
+            push_fault(alloc, out, front, b"\"fault\":\"not-hex\"}\n")?;
             return Ok(Said::Nothing);
         }
         let bytes = self.message.as_slice();
@@ -85,15 +87,15 @@ impl LineReader {
             Ok(snapshot) => said_of(alloc, front, bytes, snapshot),
             Err(CanonError::OutOfMemory) => Err(AllocError),
             Err(CanonError::Decode(_)) => {
-                push_refusal(alloc, out, words, bytes)?;
+                push_refusal(alloc, out, front, bytes)?;
                 Ok(Said::Nothing)
             }
             Err(CanonError::DoesNotFit) => {
-                push_fault(out, words, b"\"fault\":\"unfit\"}\n")?;
+                push_fault(alloc, out, front, b"\"fault\":\"unfit\"}\n")?;
                 Ok(Said::Nothing)
             }
             Err(CanonError::EmptyVfPorts) => {
-                push_fault(out, words, b"\"fault\":\"empty-ports\"}\n")?;
+                push_fault(alloc, out, front, b"\"fault\":\"empty-ports\"}\n")?;
                 Ok(Said::Nothing)
             }
         }

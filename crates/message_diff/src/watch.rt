@@ -8,16 +8,19 @@ use crate::reading::{LineReader, Said};
 use crate::snapshot::{Compared, Snapshot};
 use crate::store::{Entry, Store};
 use crate::told::{push_changed, push_gone, push_new};
+use crate::words::words_of;
 use line_filter::error::RunError;
+use line_filter::words::split;
 use std::alloc::{AllocError, Global};
 use std::collections::BTreeMap;
 use std::io::{Read, Write};
 
-/// Puts the new message of an interface in place of the last one, and adds a line of what changed.
+/// Puts the new message of an interface in place of the last one, and adds a line of what changed, which has the words
+/// in front of the new message's line.
 #[tactic(auto, using(crate::proofs::Silent::silent))]
 fn replace(
     alloc: Global,
-    words: &[u8],
+    front: &[u8],
     last: &mut Snapshot,
     new: Snapshot,
     out: &mut Vec<u8>,
@@ -25,8 +28,12 @@ fn replace(
     ensures silent { OnOk result ((last.old ≡ new) ↔ (out.new.items ≡ out.old.items)) }
     ensures last { OnOk result (last.new ≡ new) }
 {
+    if last.text() == new.text() {
+        return Ok(());
+    }
+    let words = words_of(alloc, front)?;
     let mut snapshot = new;
-    if push_changed(alloc, words, last, &mut snapshot, out)? {
+    if push_changed(alloc, words.as_slice(), last, &mut snapshot, out)? {
         *last = snapshot;
     }
     Ok(())
@@ -60,6 +67,7 @@ impl Watch {
     fn forget(
         &mut self,
         alloc: Global,
+        words: &[u8],
         key: &Key,
         gone: Option<Snapshot>,
         out: &mut Vec<u8>,
@@ -68,7 +76,7 @@ impl Watch {
         match gone.or(last) {
             Some(snapshot) if self.is_told => {
                 let mut old = snapshot;
-                push_gone(alloc, self.reader.words.as_slice(), &mut old, out)
+                push_gone(alloc, words, &mut old, out)
             }
             _ => Ok(()),
         }
@@ -79,24 +87,32 @@ impl Watch {
     fn end(
         &mut self,
         alloc: Global,
+        front: &[u8],
         key: &Key,
         snapshot: Snapshot,
         out: &mut Vec<u8>,
     ) -> Result<(), AllocError> {
-        self.forget(alloc, key, Some(snapshot), out)?;
+        let words = words_of(alloc, front)?;
+        self.forget(alloc, words.as_slice(), key, Some(snapshot), out)?;
         if !key.is_alone() {
             return Ok(());
         }
         for family in &FAMILIES_OF_PARTS {
             let part = key.in_family(alloc, *family)?;
-            self.forget(alloc, &part, None, out)?;
+            self.forget(alloc, words.as_slice(), &part, None, out)?;
         }
         Ok(())
     }
 
     /// Keeps the first message of an interface, or one that is not compared, with its words.
-    fn keep(&mut self, alloc: Global, key: Key, snapshot: Snapshot) -> Result<(), AllocError> {
-        let words = self.reader.words.as_slice().to_vec(alloc)?;
+    fn keep(
+        &mut self,
+        alloc: Global,
+        words: &[u8],
+        key: Key,
+        snapshot: Snapshot,
+    ) -> Result<(), AllocError> {
+        let words = words.to_vec(alloc)?;
         self.last.insert(key, Entry { words, snapshot })?;
         Ok(())
     }
@@ -105,20 +121,22 @@ impl Watch {
     fn put(
         &mut self,
         alloc: Global,
+        front: &[u8],
         key: Key,
         snapshot: Snapshot,
         out: &mut Vec<u8>,
     ) -> Result<(), AllocError> {
         if !self.is_told {
-            return self.keep(alloc, key, snapshot);
+            let words = words_of(alloc, front)?;
+            return self.keep(alloc, words.as_slice(), key, snapshot);
         }
-        let words = self.reader.words.as_slice();
         if let Some(last) = self.last.get_mut(&key) {
-            return replace(alloc, words, &mut last.snapshot, snapshot, out);
+            return replace(alloc, front, &mut last.snapshot, snapshot, out);
         }
+        let words = words_of(alloc, front)?;
         let mut new = snapshot;
-        push_new(alloc, words, &mut new, out)?;
-        self.keep(alloc, key, new)
+        push_new(alloc, words.as_slice(), &mut new, out)?;
+        self.keep(alloc, words.as_slice(), key, new)
     }
 
     /// Takes a line, and adds what is to be written of it.
@@ -128,10 +146,11 @@ impl Watch {
         line: &[u8],
         out: &mut Vec<u8>,
     ) -> Result<(), AllocError> {
-        match self.reader.read(alloc, line, out)? {
+        let (front, digits) = split(line);
+        match self.reader.read(alloc, front, digits, out)? {
             Said::Nothing => Ok(()),
-            Said::Went(key, snapshot) => self.end(alloc, &key, snapshot, out),
-            Said::Is(key, snapshot) => self.put(alloc, key, snapshot, out),
+            Said::Went(key, snapshot) => self.end(alloc, front, &key, snapshot, out),
+            Said::Is(key, snapshot) => self.put(alloc, front, key, snapshot, out),
         }
     }
 }
