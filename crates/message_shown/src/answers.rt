@@ -22,13 +22,15 @@ use line_filter::digits::{decode, values};
 use line_filter::words::split;
 use link_info::{Tables, all_rows};
 use link_msg::{Cause, DecodeError, LinkMessage};
-use shown::Page;
+use shown::{Page, Room};
 use std::alloc::{AllocError, Global};
+use std::mem;
 
-/// Answers lines by what they say, with room for the bytes of one line.
+/// Answers lines by what they say, with room for the bytes of one line and for the page of its answer.
 #[derive(Drop)]
 pub struct Shown {
     message: Vec<u8>,
+    room: Room,
     tables: Tables,
     order: Order,
 }
@@ -38,6 +40,7 @@ impl Shown {
     pub fn new(alloc: Global, order: Order) -> Shown {
         Shown {
             message: Vec::new(alloc),
+            room: Room::new(alloc),
             tables: all_rows(),
             order,
         }
@@ -57,7 +60,11 @@ impl Answer for Shown {
         self.message.resize(digits.len() / 2, 0)?;
         let tables = self.tables;
         let cx = Context::new(alloc, &tables, order_for(front, self.order));
-        push_digits(&cx, waiting, front, digits, self.message.as_mut_slice())
+        let mut room = mem::replace(&mut self.room, Room::new(alloc));
+        let message = self.message.as_mut_slice();
+        let done = push_digits(&cx, &mut room, waiting, front, digits, message);
+        self.room = room;
+        done
     }
 
     ghost has = { each_answered };
@@ -66,6 +73,7 @@ impl Answer for Shown {
 /// What a message says, after the words in front of a line.
 fn message_page(
     cx: &Context<'_>,
+    room: &mut Room,
     front: &[u8],
     bytes: &[u8],
     message: &LinkMessage,
@@ -73,7 +81,7 @@ fn message_page(
     ensures { IfOk result (λ page. page ≡ with_members
         (words_shown front.now ++ message_members cx.now bytes.now message.now) empty_object) }
 {
-    let mut page = Page::new(cx.alloc)?;
+    let mut page = room.begin()?;
     show_words(cx.alloc, &mut page, front)?;
     let family = u8::from(message.header.interface_family);
     page.number("ifi-family", family.into())?;
@@ -86,6 +94,7 @@ fn message_page(
 /// Adds the answer to a line that spells this message.
 fn push_message(
     cx: &Context<'_>,
+    room: &mut Room,
     waiting: &mut Vec<u8>,
     front: &[u8],
     bytes: &[u8],
@@ -97,8 +106,8 @@ fn push_message(
     ensures told { OnOk result (waiting.new.items ≡ waiting.old.items
         ++ with_lf (message_line (words_shown front.now) cx.now bytes.now message.now)) }
 {
-    let page = message_page(cx, front, bytes, message)?;
-    page.finish(waiting)?;
+    let page = message_page(cx, room, front, bytes, message)?;
+    room.finish(page, waiting)?;
     waiting.push(b'\n')?;
     Ok(())
 }
@@ -106,6 +115,7 @@ fn push_message(
 /// Adds the answer to a line whose bytes are refused for this cause.
 fn push_fault(
     cx: &Context<'_>,
+    room: &mut Room,
     waiting: &mut Vec<u8>,
     front: &[u8],
     bytes: &[u8],
@@ -115,11 +125,11 @@ fn push_fault(
     ensures { OnOk result
         (AddsAnswerTo (words_shown front.now) bytes.now waiting.old.items waiting.new.items) }
 {
-    let mut page = Page::new(cx.alloc)?;
+    let mut page = room.begin()?;
     show_words(cx.alloc, &mut page, front)?;
     page.string("fault", cause_name(&error.cause))?;
     show_fault(cx, &mut page, bytes, error)?;
-    page.finish(waiting)?;
+    room.finish(page, waiting)?;
     waiting.push(b'\n')?;
     Ok(())
 }
@@ -136,35 +146,53 @@ pub fn push_bytes(
     ensures told { OnOk result (TellsMessage (words_shown front.now) cx.now bytes.now
         waiting.old.items waiting.new.items) }
 {
+    push_bytes_in(cx, &mut Room::new(cx.alloc), waiting, front, bytes)
+}
+
+/// Does what `push_bytes` does, and writes the page of the answer in this room.
+pub fn push_bytes_in(
+    cx: &Context<'_>,
+    room: &mut Room,
+    waiting: &mut Vec<u8>,
+    front: &[u8],
+    bytes: &[u8],
+) -> Result<(), AllocError>
+    ensures answer { OnOk result
+        (AddsAnswerTo (words_shown front.now) bytes.now waiting.old.items waiting.new.items) }
+    ensures told { OnOk result (TellsMessage (words_shown front.now) cx.now bytes.now
+        waiting.old.items waiting.new.items) }
+{
     match LinkMessage::parse(cx.alloc, bytes) {
-        Ok(message) => push_message(cx, waiting, front, bytes, &message),
+        Ok(message) => push_message(cx, room, waiting, front, bytes, &message),
         Err(error) => {
             if let Cause::OutOfMemory = error.cause {
                 return Err(AllocError);
             }
-            push_fault(cx, waiting, front, bytes, &error)
+            push_fault(cx, room, waiting, front, bytes, &error)
         }
     }
 }
 
-/// Adds the answer to a line with these digits after its words, with room for the bytes that they spell.
+/// Adds the answer to a line with these digits after its words. `message` has room for the bytes that they spell, and
+/// `room` for the page.
 fn push_digits(
     cx: &Context<'_>,
+    room: &mut Room,
     waiting: &mut Vec<u8>,
     front: &[u8],
     digits: &[u8],
-    room: &mut [u8],
+    message: &mut [u8],
 ) -> Result<(), AllocError>
-    requires { length room.old ≡ length digits.now / 2 }
+    requires { length message.old ≡ length digits.now / 2 }
     ensures answer { OnOk result
         (AddsSpelled (words_shown front.now) digits.now waiting.old.items waiting.new.items) }
     ensures told { OnOk result ((bytes : List ℕ) → decode_of digits.now ≡ Ok bytes
         → TellsMessage (words_shown front.now) cx.now bytes waiting.old.items waiting.new.items) }
 {
-    if !decode(digits, values(), room) {
+    if !decode(digits, values(), message) {
         return waiting.extend_from_slice(b"{\"fault\":\"not-hex\"}\n");
     }
-    push_bytes(cx, waiting, front, room)
+    push_bytes_in(cx, room, waiting, front, message)
 }
 
 /// Adds the answer to these bytes alone: what they say, or why they are no message.

@@ -1,3 +1,6 @@
+pub mod Blocks
+pub mod Pieces
+pub mod Sheets
 pub mod Lines
 pub mod Drafts
 pub mod Pages

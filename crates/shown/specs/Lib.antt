@@ -1,4 +1,5 @@
 pub mod Nesting
+pub mod Sheets
 pub mod Drafts
 pub mod Pages
 pub mod Values

@@ -2,6 +2,11 @@
 #![tactic(auto)]
 
 mod address;
+mod block;
 pub mod page;
+mod piece;
+pub mod room;
+mod sheet;
 
 pub use page::{Nest, Page};
+pub use room::Room;

@@ -1,6 +1,6 @@
 //! An object that is written, member by member.
 
-ghost use Rattle.std.specs.Prelude.{◌≡◌, ◌==◌, true, List, [], ◌∷◌, ◌++◌, map, decimal, option_map};
+ghost use Rattle.std.specs.Prelude.{◌≡◌, ◌==◌, ◌≤◌, true, List, [], ◌∷◌, ◌++◌, map, decimal, option_map, length, take};
 ghost use Rattle.std.specs.Prelude.{OnOk, IfOk};
 ghost use Rattle.std.specs.List.{find};
 ghost use Rattle.std.specs.Fmt.{signed_decimal};
@@ -8,19 +8,18 @@ ghost use Rattle.std.specs.Net.Addr.{ipv4_octets, ipv6_segments};
 ghost use Rattle.std.specs.Net.Text.{ipv4_text, ipv6_text};
 ghost use Rattle.hex.specs.Hex.{encode_lower};
 ghost use Rattle.json.specs.Token.{string, number, boolean};
-ghost use Rattle.shown.specs.Nesting.{opening, closing};
 ghost use Rattle.shown.specs.Values.{hardware_address, name_or_number, named_number, flags_of};
 ghost use Rattle.shown.specs.Drafts.{named, empty_object, with_value, with_begun, Ends};
 ghost use Rattle.shown.specs.Pages.{IsWholeText, AddsText};
 
 use crate::address::address_text;
-use json::Writer;
+use crate::sheet::Sheet;
 use std::alloc::{AllocError, Global};
 use std::marker::Model;
 use std::net::{Ipv4Addr, Ipv6Addr};
 
 /// How many bytes a page has room for at first: those of most messages.
-const ROOM: usize = 8192;
+pub(crate) const ROOM: usize = 8192;
 
 /// What is open in a text.
 #[derive(Clone, Copy, Drop)]
@@ -36,7 +35,7 @@ pub enum Nest {
 #[derive(Drop)]
 pub struct Page {
     alloc: Global,
-    writer: Writer,
+    sheet: Sheet,
     outer: Vec<Nest>,
     inside: Nest,
     whole: bool,
@@ -52,72 +51,47 @@ impl Model for Page {
     ghost coded = { draft_code };
 
     ghost view = { λ page. record {
-      tokens = page.writer.tokens;
+      tokens = page.sheet;
       inside = page.inside;
       outer = page.outer.items;
     } };
 
-    ghost invariant = { λ page. (page.writer.before ≡ [])
-        × (page.whole ≡ true → IsPage page.writer.tokens page.inside page.outer.items) };
+    ghost invariant = { λ page. page.whole ≡ true → IsPage page.sheet page.inside page.outer.items };
 }
 
 /// Writes a name, where one is due.
-fn put_name(writer: &mut Writer, inside: Nest, name: &str) -> Result<(), AllocError>
-    ensures ok { OnOk result (writer.new.tokens ≡ named inside name.now writer.old.tokens) }
-    ensures before { writer.new.before ≡ writer.old.before }
+fn put_name(sheet: &mut Sheet, inside: Nest, name: &str) -> Result<(), AllocError>
+    ensures { OnOk result (sheet.new ≡ named inside name.now sheet.old) }
 {
     match inside {
-        Nest::Object => writer.key(name),
+        Nest::Object => sheet.name(name),
         Nest::List => Ok(()),
     }
 }
 
-/// Writes a number. Most of a link's are zero, and need no division.
-fn put_number(writer: &mut Writer, value: u64) -> Result<(), AllocError>
-    ensures ok { OnOk result
-        (writer.new.tokens ≡ writer.old.tokens ++ number (decimal value) ∷ []) }
-    ensures before { writer.new.before ≡ writer.old.before }
+/// Writes a number, after its name where one is due.
+#[inline(always)]
+fn put_number(sheet: &mut Sheet, inside: Nest, name: &str, value: u64) -> Result<(), AllocError>
+    ensures { OnOk result
+        (sheet.new ≡ named inside name.now sheet.old ++ number (decimal value) ∷ []) }
 {
-    if value == 0 {
-        writer.number("0")
-    } else {
-        writer.u64(value)
+    match inside {
+        Nest::Object => sheet.numbered(name, value),
+        Nest::List => sheet.number(value),
     }
 }
 
-/// Writes a number that may be below zero.
-fn put_signed(writer: &mut Writer, value: i64) -> Result<(), AllocError>
-    ensures ok { OnOk result
-        (writer.new.tokens ≡ writer.old.tokens ++ number (signed_decimal value) ∷ []) }
-    ensures before { writer.new.before ≡ writer.old.before }
+/// Writes a number that may be below zero, after its name where one is due. Few of a link's are.
+#[inline(always)]
+fn put_signed(sheet: &mut Sheet, inside: Nest, name: &str, value: i64) -> Result<(), AllocError>
+    ensures { OnOk result
+        (sheet.new ≡ named inside name.now sheet.old ++ number (signed_decimal value) ∷ []) }
 {
-    if value == 0 {
-        writer.number("0")
-    } else {
-        writer.i64(value)
+    if value >= 0 {
+        return put_number(sheet, inside, name, value as u64);
     }
-}
-
-/// Writes the beginning of an object or a list.
-fn put_begin(writer: &mut Writer, nest: Nest) -> Result<(), AllocError>
-    ensures ok { OnOk result (writer.new.tokens ≡ writer.old.tokens ++ opening nest ∷ []) }
-    ensures before { writer.new.before ≡ writer.old.before }
-{
-    match nest {
-        Nest::Object => writer.begin_object(),
-        Nest::List => writer.begin_array(),
-    }
-}
-
-/// Writes the end of an object or a list.
-fn put_end(writer: &mut Writer, nest: Nest) -> Result<(), AllocError>
-    ensures ok { OnOk result (writer.new.tokens ≡ writer.old.tokens ++ closing nest ∷ []) }
-    ensures before { writer.new.before ≡ writer.old.before }
-{
-    match nest {
-        Nest::Object => writer.end_object(),
-        Nest::List => writer.end_array(),
-    }
+    put_name(sheet, inside, name)?;
+    sheet.signed(value)
 }
 
 /// The first row that has a number.
@@ -132,11 +106,18 @@ impl Page {
     pub fn new(alloc: Global) -> Result<Page, AllocError>
         ensures { IfOk result (λ page. page ≡ empty_object) }
     {
-        let mut writer = Writer::new(Vec::with_capacity(alloc, ROOM)?);
-        writer.begin_object()?;
+        Page::over(alloc, Vec::with_capacity(alloc, ROOM)?)
+    }
+
+    /// An object with no member, which is written over these bytes.
+    pub(crate) fn over(alloc: Global, room: Vec<u8>) -> Result<Page, AllocError>
+        ensures { IfOk result (λ page. page ≡ empty_object) }
+    {
+        let mut sheet = Sheet::new(alloc, room);
+        sheet.begin(Nest::Object)?;
         Ok(Page {
             alloc,
-            writer,
+            sheet,
             outer: Vec::new(alloc),
             inside: Nest::Object,
             whole: true,
@@ -151,8 +132,8 @@ impl Page {
             return Err(AllocError);
         }
         self.whole = false;
-        put_name(&mut self.writer, self.inside, name)?;
-        self.writer.string(text)?;
+        put_name(&mut self.sheet, self.inside, name)?;
+        self.sheet.string(text)?;
         self.whole = true;
         Ok(())
     }
@@ -166,8 +147,7 @@ impl Page {
             return Err(AllocError);
         }
         self.whole = false;
-        put_name(&mut self.writer, self.inside, name)?;
-        put_number(&mut self.writer, value)?;
+        put_number(&mut self.sheet, self.inside, name, value)?;
         self.whole = true;
         Ok(())
     }
@@ -181,8 +161,7 @@ impl Page {
             return Err(AllocError);
         }
         self.whole = false;
-        put_name(&mut self.writer, self.inside, name)?;
-        put_signed(&mut self.writer, value)?;
+        put_signed(&mut self.sheet, self.inside, name, value)?;
         self.whole = true;
         Ok(())
     }
@@ -195,8 +174,8 @@ impl Page {
             return Err(AllocError);
         }
         self.whole = false;
-        put_name(&mut self.writer, self.inside, name)?;
-        self.writer.boolean(value)?;
+        put_name(&mut self.sheet, self.inside, name)?;
+        self.sheet.truth(value)?;
         self.whole = true;
         Ok(())
     }
@@ -210,8 +189,8 @@ impl Page {
         }
         self.whole = false;
         self.outer.push(self.inside)?;
-        put_name(&mut self.writer, self.inside, name)?;
-        put_begin(&mut self.writer, nest)?;
+        put_name(&mut self.sheet, self.inside, name)?;
+        self.sheet.begin(nest)?;
         self.inside = nest;
         self.whole = true;
         Ok(())
@@ -228,7 +207,7 @@ impl Page {
             return Ok(());
         };
         self.whole = false;
-        put_end(&mut self.writer, self.inside)?;
+        self.sheet.end(self.inside)?;
         self.inside = around;
         self.whole = true;
         Ok(())
@@ -321,12 +300,13 @@ impl Page {
         self.end()
     }
 
-    /// The text of the object, where all that was begun has been ended.
-    fn text(self) -> Result<Vec<u8>, AllocError>
-        ensures { IfOk result (λ text. IsWholeText self text.items) }
+    /// Its bytes, of which so many are the text of the object, where all that was begun has been ended.
+    fn text(self) -> Result<(Vec<u8>, usize), AllocError>
+        ensures within { IfOk result (λ text. text.1 ≤ length text.0.items) }
+        ensures whole { IfOk result (λ text. IsWholeText self (take text.1 text.0.items)) }
     {
         let Page {
-            mut writer,
+            mut sheet,
             outer,
             inside,
             whole,
@@ -335,8 +315,8 @@ impl Page {
         if !whole || !outer.is_empty() {
             return Err(AllocError);
         }
-        put_end(&mut writer, inside)?;
-        Ok(writer.into_inner())
+        sheet.end(inside)?;
+        Ok(sheet.into_bytes())
     }
 
     /// Adds the text of the object to `out`. Where something that was begun has not been ended, it fails as where there
@@ -344,7 +324,16 @@ impl Page {
     pub fn finish(self, out: &mut Vec<u8>) -> Result<(), AllocError>
         ensures { OnOk result (AddsText self out.old.items out.new.items) }
     {
-        let text = self.text()?;
-        out.extend_from_slice(text.as_slice())
+        self.finish_over(out)?;
+        Ok(())
+    }
+
+    /// Does what `finish` does, and returns the bytes that the page was written over.
+    pub(crate) fn finish_over(self, out: &mut Vec<u8>) -> Result<Vec<u8>, AllocError>
+        ensures { OnOk result (AddsText self out.old.items out.new.items) }
+    {
+        let (bytes, len) = self.text()?;
+        out.extend_from_slice(&bytes[..len])?;
+        Ok(bytes)
     }
 }

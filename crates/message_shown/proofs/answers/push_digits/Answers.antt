@@ -16,11 +16,11 @@ returns-then-not-decode-clause-told c =
 
 pub returns-clause-answer : goal.returns-clause-answer
 returns-clause-answer c =
-    on_ok_weaker c.push_bytes.result
-    (λ s. adds_spelled (words_shown c.args.front.now) _ _ _ _ c.if-not-decode.ensures s) c.push_bytes.ensures.answer
+    on_ok_weaker c.push_bytes_in.result
+    (λ s. adds_spelled (words_shown c.args.front.now) _ _ _ _ c.if-not-decode.ensures s) c.push_bytes_in.ensures.answer
 
 pub returns-clause-told : goal.returns-clause-told
 returns-clause-told c =
-    on_ok_weaker c.push_bytes.result
+    on_ok_weaker c.push_bytes_in.result
     (λ s. tells_spelled (words_shown c.args.front.now) c.args.cx.now c.args.digits.now _ _ _ c.if-not-decode.ensures s)
-    c.push_bytes.ensures.told
+    c.push_bytes_in.ensures.told

@@ -4,10 +4,5 @@ use Rattle.shown.proofs.Lines.{decimal_on_line}
 use Rattle.shown.proofs.page.Page.number.Goals as goal
 
 pub invariant_of-self-2 : goal.invariant_of-self-2
-invariant_of-self-2 c = (
-  cc (c.in_ok-put_number.ensures.before, c.in_ok-put_name.ensures.before, c.self.invariant.0),
-  λ _. rw (
-    c.in_ok-put_number.ensures.ok,
-    c.in_ok-put_name.ensures.ok,
-  ) (page_value _ _ _ _ _ (c.self.invariant.1 c.if-not-self.false) (λ _. refl) (decimal_on_line _ c.ranges.value.fits)),
-)
+invariant_of-self-2 c = λ _. rw c.in_ok-put_number.ensures
+    (page_value _ _ _ _ _ (c.self.invariant c.if-not-self.false) (λ _. refl) (decimal_on_line _ c.ranges.value.fits))

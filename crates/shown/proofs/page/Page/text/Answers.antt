@@ -4,10 +4,10 @@ use Rattle.shown.specs.Drafts.{Draft}
 use Rattle.shown.proofs.Pages.{page_text, no_items}
 use Rattle.shown.proofs.page.Page.text.Goals as goal
 
-pub returns : goal.returns
-returns c =
+pub returns-clause-whole : goal.returns-clause-whole
+returns-clause-whole c =
     let none : c.self.inside.outer.items ≡ [] = no_items _ (grind (arith, nat_tests)) in
-    let page = rw none at (c.self.invariant.1 c.if-not-whole.false) in
-    rw (c.into_inner.ensures.items, c.in_ok-put_end.ensures.before, c.self.invariant.0, c.in_ok-put_end.ensures.ok)
+    let page = rw none at (c.self.invariant c.if-not-whole.false) in
+    rw (c.into_bytes.ensures.text, c.in_ok-end.ensures)
     (page_text c.args.self _ _ (ap (λ (d : Draft). d.tokens) c.self.view_is)
     (ap (λ (d : Draft). d.inside) c.self.view_is) page)

@@ -3,8 +3,5 @@ use Rattle.shown.proofs.Pages.{page_value}
 use Rattle.shown.proofs.page.Page.truth.Goals as goal
 
 pub invariant_of-self-2 : goal.invariant_of-self-2
-invariant_of-self-2 c = (
-  cc (c.in_ok-boolean.ensures.room.0, c.in_ok-put_name.ensures.before, c.self.invariant.0),
-  λ _. rw (c.in_ok-boolean.ensures.ok, c.in_ok-put_name.ensures.ok)
-      (page_value _ _ _ _ _ (c.self.invariant.1 c.if-not-self.false) (λ _. refl) tt),
-)
+invariant_of-self-2 c = λ _. rw (c.in_ok-truth.ensures, c.in_ok-put_name.ensures)
+    (page_value _ _ _ _ _ (c.self.invariant c.if-not-self.false) (λ _. refl) tt)

@@ -1,7 +1,7 @@
 use Rattle.std.proofs.lemmas.Result.{on_ok_weaker}
 use Rattle.message_shown.proofs.Added.{tells_meant, tells_fault}
 use Rattle.message_shown.specs.Worded.{words_shown}
-use Rattle.message_shown.proofs.answers.push_bytes.Goals as goal
+use Rattle.message_shown.proofs.answers.push_bytes_in.Goals as goal
 
 pub returns-in-Ok-clause-told : goal.returns-in-Ok-clause-told
 returns-in-Ok-clause-told c =

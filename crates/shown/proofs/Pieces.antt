@@ -1,0 +1,45 @@
+-- Pieces that were stored one after another.
+use Rattle.std.proofs.Common.{◌≡◌, ℕ, ◌≤◌, Bool, false, List, [], ◌∷◌, ◌++◌, length, take, ap, sym, ◌∙◌, arith}
+use Rattle.std.proofs.Common.{append_assoc, append-nil, length-append, length-take-le, take-take, subst}
+use Rattle.std.proofs.lemmas.List.{take_at}
+use Rattle.std.specs.Prelude.{Result, Ok, Err}
+use Rattle.json.specs.Filled.{Placed}
+use Rattle.json.specs.Print.{escape, quoted, token_text, print, print_from}
+use Rattle.json.specs.Token.{Token}
+use Rattle.json.proofs.Printed.Places.{Placed-then}
+use Rattle.shown.specs.Sheets.{Adds, Added, comma_if}
+
+-- what stands before a piece is kept
+pub placed_keeps : {a b xs : List ℕ} {at end : ℕ} → at ≤ length a → Placed a b at xs end → take at b ≡ take at a
+placed_keeps {a} {b} {xs} {at} {end} within p =
+    sym (take-take at end b (omega (arith, p.moved))) ∙ ap (take at) p.bytes
+    ∙ take_at (take at a) xs at (length-take-le at a within)
+
+-- a comma where one is due, a quote, a text that needs no escape, and a quote
+pub quoted_placed : {a b c d : List ℕ} {i j k l : ℕ} (comma : Bool) (text : List ℕ) → escape text ≡ text
+    → Placed a b i (comma_if comma ++ 34 ∷ []) j → Placed b c j text k → Placed c d k (34 ∷ []) l
+    → Placed a d i (comma_if comma ++ quoted text) l
+quoted_placed {a} {b} {c} {d} {i} {j} {k} {l} comma text plain p q r =
+    let all = Placed-then p (Placed-then q r) in
+    rw plain (subst (λ xs. Placed a d i xs l) (append_assoc (comma_if comma) (34 ∷ []) (text ++ 34 ∷ [])) all)
+
+-- the text of a token alone
+pub token_alone : (t : Token) → print (t ∷ []) ≡ token_text t
+unfolding print_from
+token_alone t = append-nil (token_text t)
+
+-- a piece that was added behind one that was added
+pub added_behind : {E : Type 0} (a b c : List ℕ) (result : Result ℕ E) (len end : ℕ) (piece more : List ℕ)
+    → len ≤ length a
+    → Adds a b len piece end → Added result b c end (comma_if false ++ more) → Added result a c len (piece ++ more)
+added_behind a b c (Ok last) len end piece more within p q = record {
+  bytes = q.bytes ∙ ap (λ l. l ++ more) p.bytes ∙ append_assoc (take len a) piece more;
+  within = q.within;
+}
+added_behind a b c (Err e) len end piece more within p q =
+    let front = length-take-le len a within in
+    let longer : len ≤ end =
+    omega (arith, ap length p.bytes, length-append (take len a) piece, length-take-le end b p.within) in (
+      sym (take-take len end c longer) ∙ ap (take len) (q.0 ∙ p.bytes) ∙ take_at (take len a) piece len front,
+      omega (arith, q.1),
+    )

@@ -1,0 +1,5 @@
+use Rattle.shown.proofs.Pages.{page_new}
+use Rattle.shown.proofs.page.Page.over.Goals as goal
+
+pub invariant_of-result : goal.invariant_of-result
+invariant_of-result c = λ _. rw (c.in_ok-begin.ensures, c.new-sheet.ensures, c.new.ensures.items) page_new

@@ -1,0 +1,76 @@
+//! Texts that are stored as blocks which overlap, and are looked at for bytes that need an escape on the way.
+
+ghost use Rattle.std.specs.Prelude.{◌+◌, ◌≤◌, length, take, drop};
+ghost use Rattle.std.specs.Bool.{OnTrue};
+ghost use Rattle.json.specs.Filled.{Placed};
+ghost use Rattle.json.specs.Written.{PlainBetween};
+
+use std::simd::prelude::*;
+
+/// Stores N bytes of a text, from one place of it on, at a place of the buffer; whether none of them needs an escape.
+#[inline(always)]
+fn put_block<const N: usize>(buf: &mut [u8], at: usize, text: &[u8], from: usize) -> bool
+    requires few { N ≤ 64 }
+    requires from { from + N ≤ length text.now }
+    requires room { at + N ≤ length buf.old }
+    ensures placed { Placed buf.old buf.new at (take N (drop from text.now)) (at + N) }
+    ensures plain { OnTrue result (PlainBetween text.now from (from + N)) }
+{
+    let block = Simd::<u8, N>::from_slice(&text[from..]);
+    block.copy_to_slice(&mut buf[at..]);
+    (block.simd_eq(Simd::<u8, N>::splat(b'"'))
+        | block.simd_eq(Simd::<u8, N>::splat(b'\\'))
+        | block.simd_lt(Simd::<u8, N>::splat(0x20))).to_bitmask()
+        == 0
+}
+
+/// Stores a text of N to 2N bytes; whether none of them needs an escape.
+#[inline(always)]
+fn put_ends<const N: usize>(buf: &mut [u8], at: usize, text: &[u8]) -> bool
+    requires few { N ≤ 64 }
+    requires twice { (N ≤ length text.now) × (length text.now ≤ N + N) }
+    requires room { at + length text.now ≤ length buf.old }
+    ensures placed { Placed buf.old buf.new at text.now (at + length text.now) }
+    ensures plain { OnTrue result (PlainBetween text.now 0 (length text.now)) }
+{
+    let last = text.len() - N;
+    let front = put_block::<N>(buf, at, text, 0);
+    let back = put_block::<N>(buf, at + last, text, last);
+    front & back
+}
+
+/// Stores a text of 16 bytes or more; whether none of them needs an escape.
+#[inline(always)]
+fn put_long(buf: &mut [u8], at: usize, text: &[u8]) -> bool
+    requires long { 16 ≤ length text.now }
+    requires room { at + length text.now ≤ length buf.old }
+    ensures placed { Placed buf.old buf.new at text.now (at + length text.now) }
+    ensures plain { OnTrue result (PlainBetween text.now 0 (length text.now)) }
+{
+    let mut done = 0;
+    let mut is_plain = true;
+    while text.len() - done > 32 {
+        let block = put_block::<16>(buf, at + done, text, done);
+        is_plain &= block;
+        done += 16;
+    }
+    let rest = put_ends::<16>(buf, at + done, &text[done..]);
+    is_plain & rest
+}
+
+/// Stores a text at a place of the buffer; whether none of its bytes needs an escape.
+#[inline(always)]
+pub(crate) fn put_text(buf: &mut [u8], at: usize, text: &[u8]) -> bool
+    requires room { at + length text.now ≤ length buf.old }
+    ensures placed { Placed buf.old buf.new at text.now (at + length text.now) }
+    ensures plain { OnTrue result (PlainBetween text.now 0 (length text.now)) }
+{
+    match text.len() {
+        8..=15 => put_ends::<8>(buf, at, text),
+        4..=7 => put_ends::<4>(buf, at, text),
+        2..=3 => put_ends::<2>(buf, at, text),
+        1 => put_ends::<1>(buf, at, text),
+        0 => true,
+        _ => put_long(buf, at, text),
+    }
+}
