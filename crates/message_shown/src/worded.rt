@@ -27,6 +27,11 @@ fn show_word(alloc: Global, page: &mut Page, key: &[u8], value: &[u8]) -> Result
     ensures { OnOk result (page.new
         ≡ with_value (word_text key.now) (string (word_text value.now) ∷ []) page.old) }
 {
+    if let Some(name) = text_of(key) {
+        if let Some(text) = text_of(value) {
+            return page.string(name, text);
+        }
+    }
     let key = word_text(alloc, key)?;
     let value = word_text(alloc, value)?;
     page.string(key.as_str(), value.as_str())
