@@ -8,33 +8,29 @@ ghost use Rattle.message_shown.specs.Worded.{words_shown};
 
 use crate::context::{Order, text_of};
 use line_filter::words::{first_word, value_of};
-use nla_wire::Text;
 use shown::Page;
 use std::alloc::{AllocError, Global};
 
-/// A key or a value as a text: bytes that are no UTF-8 by their digits.
-fn word_text(alloc: Global, bytes: &[u8]) -> Result<Text, AllocError>
-    ensures { IfOk result (λ text. text ≡ word_text bytes.now) }
+/// Adds the value of a word under its name.
+fn show_value(page: &mut Page, name: &str, value: &[u8]) -> Result<(), AllocError>
+    ensures { OnOk result (page.new
+        ≡ with_value name.now (string (word_text value.now) ∷ []) page.old) }
 {
-    match text_of(bytes) {
-        Some(text) => Ok(Text::new(String::from_str(alloc, text)?)),
-        None => Ok(Text::new(hex::encode(alloc, bytes)?)),
+    match text_of(value) {
+        Some(text) => page.string(name, text),
+        None => page.hex(name, value),
     }
 }
 
-/// Adds a word.
+/// Adds a word: bytes that are no UTF-8 are shown by their digits.
 fn show_word(alloc: Global, page: &mut Page, key: &[u8], value: &[u8]) -> Result<(), AllocError>
     ensures { OnOk result (page.new
         ≡ with_value (word_text key.now) (string (word_text value.now) ∷ []) page.old) }
 {
-    if let Some(name) = text_of(key) {
-        if let Some(text) = text_of(value) {
-            return page.string(name, text);
-        }
+    match text_of(key) {
+        Some(name) => show_value(page, name, value),
+        None => show_value(page, hex::encode(alloc, key)?.as_str(), value),
     }
-    let key = word_text(alloc, key)?;
-    let value = word_text(alloc, value)?;
-    page.string(key.as_str(), value.as_str())
 }
 
 /// Adds the words in front of a line.

@@ -3,6 +3,7 @@ pub mod Pieces
 pub mod Sheets
 pub mod Lines
 pub mod Drafts
+pub mod Escapes
 pub mod Pages
 pub mod Octets
 pub mod Names

@@ -1,5 +1,5 @@
 -- Pieces that were stored one after another.
-use Rattle.std.proofs.Common.{◌≡◌, ℕ, ◌≤◌, Bool, false, List, [], ◌∷◌, ◌++◌, length, take, ap, sym, ◌∙◌, arith}
+use Rattle.std.proofs.Common.{◌≡◌, ℕ, ◌≤◌, Bool, List, [], ◌∷◌, ◌++◌, length, take, ap, sym, ◌∙◌, arith}
 use Rattle.std.proofs.Common.{append_assoc, append-nil, length-append, length-take-le, take-take, subst}
 use Rattle.std.proofs.lemmas.List.{take_at}
 use Rattle.std.specs.Prelude.{Result, Ok, Err}
@@ -7,7 +7,7 @@ use Rattle.json.specs.Filled.{Placed}
 use Rattle.json.specs.Print.{escape, quoted, token_text, print, print_from}
 use Rattle.json.specs.Token.{Token}
 use Rattle.json.proofs.Printed.Places.{Placed-then}
-use Rattle.shown.specs.Sheets.{Adds, Added, comma_if}
+use Rattle.shown.specs.Sheets.{Adds, Added, Keeps, comma_if}
 
 -- what stands before a piece is kept
 pub placed_keeps : {a b xs : List ℕ} {at end : ℕ} → at ≤ length a → Placed a b at xs end → take at b ≡ take at a
@@ -29,17 +29,25 @@ unfolding print_from
 token_alone t = append-nil (token_text t)
 
 -- a piece that was added behind one that was added
-pub added_behind : {E : Type 0} (a b c : List ℕ) (result : Result ℕ E) (len end : ℕ) (piece more : List ℕ)
-    → len ≤ length a
-    → Adds a b len piece end → Added result b c end (comma_if false ++ more) → Added result a c len (piece ++ more)
-added_behind a b c (Ok last) len end piece more within p q = record {
+pub adds_behind : {a b c : List ℕ} {len end last : ℕ} {piece more : List ℕ}
+    → Adds a b len piece end → Adds b c end more last → Adds a c len (piece ++ more) last
+adds_behind {a} {b} {c} {len} {end} {last} {piece} {more} p q = record {
   bytes = q.bytes ∙ ap (λ l. l ++ more) p.bytes ∙ append_assoc (take len a) piece more;
   within = q.within;
 }
-added_behind a b c (Err e) len end piece more within p q =
+
+-- what stood before a piece is kept, where no other was added behind it
+pub kept_behind : {a b : List ℕ} (c : List ℕ) {len end : ℕ} {piece : List ℕ}
+    → len ≤ length a → Adds a b len piece end → Keeps b c end → Keeps a c len
+kept_behind {a} {b} c {len} {end} {piece} within p q =
     let front = length-take-le len a within in
     let longer : len ≤ end =
     omega (arith, ap length p.bytes, length-append (take len a) piece, length-take-le end b p.within) in (
       sym (take-take len end c longer) ∙ ap (take len) (q.0 ∙ p.bytes) ∙ take_at (take len a) piece len front,
       omega (arith, q.1),
     )
+
+pub added_behind : {E : Type 0} {a b : List ℕ} (c more : List ℕ) (result : Result ℕ E) {len end : ℕ} {piece : List ℕ}
+    → len ≤ length a → Adds a b len piece end → Added result b c end more → Added result a c len (piece ++ more)
+added_behind c more (Ok last) within p q = adds_behind p q
+added_behind c more (Err e) within p q = kept_behind c within p q

@@ -9,7 +9,7 @@ use std::simd::prelude::*;
 
 /// Stores N bytes of a text, from one place of it on, at a place of the buffer; whether none of them needs an escape.
 #[inline(always)]
-fn put_block<const N: usize>(buf: &mut [u8], at: usize, text: &[u8], from: usize) -> bool
+pub(crate) fn put_block<const N: usize>(buf: &mut [u8], at: usize, text: &[u8], from: usize) -> bool
     requires few { N ≤ 64 }
     requires from { from + N ≤ length text.now }
     requires room { at + N ≤ length buf.old }

@@ -3,6 +3,7 @@
 
 mod address;
 mod block;
+mod escape;
 pub mod page;
 mod piece;
 pub mod room;

@@ -1,20 +1,20 @@
 //! Pieces of JSON (RFC 8259) that are added behind the first bytes of a buffer.
 
-ghost use Rattle.std.specs.Prelude.{◌≡◌, ◌+◌, ◌<◌, ◌≤◌, [], ◌∷◌, ◌++◌, OnOk, IfOk, IfSome, decimal, length, take};
+ghost use Rattle.std.specs.Prelude.{◌≡◌, ◌+◌, ◌<◌, ◌≤◌, [], ◌∷◌, ◌++◌, OnOk, IfSome, decimal, length, take};
 ghost use Rattle.json.specs.Filled.{Placed};
-ghost use Rattle.json.specs.Print.{quoted};
+ghost use Rattle.json.specs.Print.{escape, quoted};
 ghost use Rattle.shown.specs.Sheets.{Added, Keeps, comma_if};
 
 use crate::block::put_text;
+use crate::escape::put_escaped;
 use itoa::Buffer;
-use json::Writer;
-use std::alloc::{AllocError, Global};
+use std::alloc::AllocError;
 
 /// The most digits of a number.
 const DIGITS: usize = 20;
 
-/// How much longer a text is at first, for its marks and an escape.
-const MARKS: usize = 16;
+/// How many bytes of a text that needs escapes are stored at a time.
+const PART: usize = 256;
 
 /// What room is made of.
 static BLANK: [u8; 512] = [0; 512];
@@ -123,30 +123,6 @@ fn put_number(buf: &mut [u8], at: usize, value: u64) -> usize
     put_digits(buf, at, value)
 }
 
-/// The text of a name, with the escapes that it needs and a colon.
-#[cold]
-#[inline(never)]
-fn escaped_name(alloc: Global, name: &str) -> Result<Vec<u8>, AllocError>
-    ensures { IfOk result (λ text. text.items ≡ quoted name.now ++ 58 ∷ []) }
-{
-    let room = Vec::with_capacity(alloc, name.len().saturating_add(MARKS))?;
-    let mut writer = Writer::new(room);
-    writer.key(name)?;
-    Ok(writer.into_inner())
-}
-
-/// The text of a string, with the escapes that it needs.
-#[cold]
-#[inline(never)]
-fn escaped_string(alloc: Global, text: &str) -> Result<Vec<u8>, AllocError>
-    ensures { IfOk result (λ written. written.items ≡ quoted text.now) }
-{
-    let room = Vec::with_capacity(alloc, text.len().saturating_add(MARKS))?;
-    let mut writer = Writer::new(room);
-    writer.string(text)?;
-    Ok(writer.into_inner())
-}
-
 /// Adds bytes behind the first ones, after a comma where one is due, and returns where they end.
 pub(crate) fn add_bytes(
     bytes: &mut Vec<u8>,
@@ -164,9 +140,65 @@ pub(crate) fn add_bytes(
     Ok(start + text.len())
 }
 
+/// Adds a part of a text, with the escapes that it needs.
+#[inline(always)]
+fn add_part(bytes: &mut Vec<u8>, len: usize, text: &[u8]) -> Result<usize, AllocError>
+    requires few { length text.now ≤ 256 }
+    requires within { len ≤ length bytes.old.items }
+    ensures { Added result bytes.old.items bytes.new.items len (escape text.now) }
+{
+    reserve(bytes, len, text.len() * 6)?;
+    Ok(put_escaped(bytes.as_mut_slice(), len, text))
+}
+
+/// Adds a text with the escapes that it needs, part after part: no room is made that its escapes may not fill.
+fn add_escapes(bytes: &mut Vec<u8>, len: usize, text: &[u8]) -> Result<usize, AllocError>
+    requires within { len ≤ length bytes.old.items }
+    ensures { Added result bytes.old.items bytes.new.items len (escape text.now) }
+{
+    let mut at = len;
+    let mut done = 0;
+    while text.len() - done > PART {
+        at = add_part(bytes, at, &text[done..done + PART])?;
+        done += PART;
+    }
+    add_part(bytes, at, &text[done..])
+}
+
+/// Adds a text in quotes with the escapes that it needs, after a comma where one is due.
+#[cold]
+#[inline(never)]
+fn add_escaped(
+    bytes: &mut Vec<u8>,
+    len: usize,
+    comma: bool,
+    text: &[u8],
+) -> Result<usize, AllocError>
+    requires within { len ≤ length bytes.old.items }
+    ensures { Added result bytes.old.items bytes.new.items len (comma_if comma ++ quoted text.now) }
+{
+    let start = add_bytes(bytes, len, comma, b"\"")?;
+    let end = add_escapes(bytes, start, text)?;
+    add_bytes(bytes, end, false, b"\"")
+}
+
+/// Adds a name that needs an escape, and a colon.
+fn add_escaped_name(
+    bytes: &mut Vec<u8>,
+    len: usize,
+    comma: bool,
+    name: &[u8],
+) -> Result<usize, AllocError>
+    requires within { len ≤ length bytes.old.items }
+    ensures { Added result bytes.old.items bytes.new.items len
+        (comma_if comma ++ (quoted name.now ++ 58 ∷ [])) }
+{
+    let end = add_escaped(bytes, len, comma, name)?;
+    add_bytes(bytes, end, false, b":")
+}
+
 /// Adds a name and a colon.
 pub(crate) fn add_name(
-    alloc: Global,
     bytes: &mut Vec<u8>,
     len: usize,
     comma: bool,
@@ -181,13 +213,12 @@ pub(crate) fn add_name(
     let buf = bytes.as_mut_slice();
     match put_quoted(buf, len, comma, text) {
         Some(end) => Ok(put_byte(buf, end, b':')),
-        None => add_bytes(bytes, len, comma, escaped_name(alloc, name)?.as_slice()),
+        None => add_escaped_name(bytes, len, comma, text),
     }
 }
 
 /// Adds a string.
 pub(crate) fn add_string(
-    alloc: Global,
     bytes: &mut Vec<u8>,
     len: usize,
     comma: bool,
@@ -200,7 +231,7 @@ pub(crate) fn add_string(
     reserve(bytes, len, plain.len() + 3)?;
     match put_quoted(bytes.as_mut_slice(), len, comma, plain) {
         Some(end) => Ok(end),
-        None => add_bytes(bytes, len, comma, escaped_string(alloc, text)?.as_slice()),
+        None => add_escaped(bytes, len, comma, plain),
     }
 }
 
@@ -223,25 +254,23 @@ pub(crate) fn add_number(
 /// Adds a name that needs an escape and, after a colon, a number.
 #[cold]
 #[inline(never)]
-fn add_escaped(
-    alloc: Global,
+fn add_escaped_numbered(
     bytes: &mut Vec<u8>,
     len: usize,
     comma: bool,
-    name: &str,
+    name: &[u8],
     value: u64,
 ) -> Result<usize, AllocError>
     requires within { len ≤ length bytes.old.items }
     ensures { Added result bytes.old.items bytes.new.items len
         ((comma_if comma ++ (quoted name.now ++ 58 ∷ [])) ++ decimal value) }
 {
-    let end = add_bytes(bytes, len, comma, escaped_name(alloc, name)?.as_slice())?;
+    let end = add_escaped_name(bytes, len, comma, name)?;
     add_number(bytes, end, false, value)
 }
 
 /// Adds a name and, after a colon, a number.
 pub(crate) fn add_numbered(
-    alloc: Global,
     bytes: &mut Vec<u8>,
     len: usize,
     comma: bool,
@@ -259,5 +288,5 @@ pub(crate) fn add_numbered(
         let start = put_byte(buf, end, b':');
         return Ok(put_number(buf, start, value));
     }
-    add_escaped(alloc, bytes, len, comma, name, value)
+    add_escaped_numbered(bytes, len, comma, text, value)
 }

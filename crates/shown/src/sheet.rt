@@ -94,13 +94,7 @@ impl Sheet {
     pub(crate) fn name(&mut self, name: &str) -> Result<(), AllocError>
         ensures { OnOk result (self.new ≡ self.old ++ key name.now ∷ []) }
     {
-        self.len = add_name(
-            self.alloc,
-            &mut self.bytes,
-            self.len,
-            self.after_value,
-            name,
-        )?;
+        self.len = add_name(&mut self.bytes, self.len, self.after_value, name)?;
         self.after_value = false;
         Ok(())
     }
@@ -109,13 +103,7 @@ impl Sheet {
     pub(crate) fn string(&mut self, text: &str) -> Result<(), AllocError>
         ensures { OnOk result (self.new ≡ self.old ++ string text.now ∷ []) }
     {
-        self.len = add_string(
-            self.alloc,
-            &mut self.bytes,
-            self.len,
-            self.after_value,
-            text,
-        )?;
+        self.len = add_string(&mut self.bytes, self.len, self.after_value, text)?;
         self.after_value = true;
         Ok(())
     }
@@ -134,14 +122,7 @@ impl Sheet {
         ensures { OnOk result
             (self.new ≡ (self.old ++ key name.now ∷ []) ++ number (decimal value) ∷ []) }
     {
-        self.len = add_numbered(
-            self.alloc,
-            &mut self.bytes,
-            self.len,
-            self.after_value,
-            name,
-            value,
-        )?;
+        self.len = add_numbered(&mut self.bytes, self.len, self.after_value, name, value)?;
         self.after_value = true;
         Ok(())
     }

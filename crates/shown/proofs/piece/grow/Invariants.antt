@@ -1,4 +1,4 @@
-use Rattle.std.proofs.Common.{◌+◌, ◌-◌, ◌≤◌, vec_len}
+use Rattle.std.proofs.Common.{◌+◌, ◌-◌, vec_len}
 use Rattle.shown.specs.Sheets.{Keeps}
 use Rattle.shown.proofs.piece.grow.Given as goal
 
