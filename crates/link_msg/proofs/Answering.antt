@@ -1,5 +1,5 @@
 -- What follows for a caller from the result of the reader of messages.
-use Rattle.std.proofs.Common.{◌≡◌, ◌≢◌, ℕ, ◌+◌, List, length, refl, sym, ap, subst, arith, lit<, length-append, inl}
+use Rattle.std.proofs.Common.{◌≡◌, ◌≢◌, ℕ, ◌+◌, List, length, refl, sym, ap, ◌∙◌, subst, arith, lit<, length-append, inl}
 use Rattle.std.proofs.Common.{inr, Result, Ok, Err}
 use Rattle.std.specs.Prelude.{IfOk, IsTrue, Bool, ◌↔◌}
 use Rattle.nla_wire.specs.Sizes.{growth, attribute_small}
@@ -19,7 +19,7 @@ use Rattle.link_msg.specs.Messages.{Means, FirstFault, MeansNothing, IsBounded, 
 use Rattle.link_msg.specs.declared.message.LinkMessage.{LinkMessage}
 use Rattle.link_msg.proofs.Reading.{message_agrees}
 use Rattle.link_msg.specs.CanonErrors.{refusal_for, refusal_of}
-use Rattle.link_msg.specs.Canonical.{IsAccepted, HasText, IsRefusal, AreSameMessages}
+use Rattle.link_msg.specs.Canonical.{IsAccepted, HasText, IsRefusal, AreSame}
 use Rattle.link_msg.proofs.Messaging.{text_length}
 use Rattle.link_msg.proofs.ReadingBack.{message_back}
 use Rattle.link_msg.proofs.LawProofs.{same_text}
@@ -92,15 +92,23 @@ accepted_text b t m bytes h is = record {
   short = omega (arith, (message_bounded b m bytes h.means).short, ap (λ (x : List ℕ). length x) is);
 }
 
--- two accepted messages, compared
-pub compared : (a b : List ℕ) (m n : LinkMessage) (answer : Bool) → IsBytes a → IsBytes b → IsAccepted a m
-    → IsAccepted b n → (IsTrue answer ↔ (m ≡ n)) → AreSameMessages a b m n answer
-compared a b m n answer bytes_a bytes_b first second same =
-    let texts =
-    same_text a b m n bytes_a bytes_b first.means second.means first.fits second.fits first.ports second.ports in
-    record {
-      first = first;
-      second = second;
-      messages = same;
-      texts = (λ e. texts.1 (same.0 e), λ e. same.1 (texts.0 e));
-    }
+-- two canonical encodings, compared
+pub encodings_compared : (a b s t : List ℕ) (answer : Bool) → IsBytes a → IsBytes b → HasText a s → HasText b t
+    → (IsTrue answer ↔ (s ≡ t)) → AreSame a b answer
+encodings_compared a b s t answer bytes_a bytes_b first second same =
+    let m = first.message in
+    let n = second.message in
+    let one = first.accepted in
+    let other = second.accepted in
+    let texts = same_text a b m n bytes_a bytes_b one.means other.means one.fits other.fits one.ports other.ports in
+    let equal : IsTrue answer ↔ (message_text m ≡ message_text n) =
+    (λ e. sym first.text ∙ (same.0 e ∙ second.text), λ e. same.1 (first.text ∙ (e ∙ sym second.text))) in (
+      m,
+      n,
+      record {
+        first = one;
+        second = other;
+        messages = (λ e. texts.0 (equal.0 e), λ e. equal.1 (texts.1 e));
+        texts = equal;
+      },
+    )

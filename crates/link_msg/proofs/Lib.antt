@@ -1,6 +1,7 @@
 pub mod Reading
 pub mod Messaging
 pub mod Answering
+pub mod Comparing
 pub mod ReadingBack
 pub mod LawProofs
 pub mod Writing

@@ -9,8 +9,8 @@ ghost use Rattle.link_msg.specs.Header.{header_size, header_bytes};
 ghost use Rattle.link_msg.specs.Tables.{attribute_frame, AttributeFits, attribute_place};
 ghost use Rattle.link_msg.specs.CanonErrors.{SameRefusal, SameRoomRefusal};
 ghost use Rattle.link_msg.specs.Prefixes.{IsPrefix};
-ghost use Rattle.link_msg.specs.Canonical.{IsAccepted, IsRefusal, IsRefusalAlone, IsMeasured, HasLength, HasText};
-ghost use Rattle.link_msg.specs.Canonical.{HoldsText, AreSame, AreSameMessages, IsRefusalOfTwo, IsWritten, IsWithin};
+ghost use Rattle.link_msg.specs.Canonical.{IsRefusal, IsRefusalAlone, IsMeasured, HasLength, HasText};
+ghost use Rattle.link_msg.specs.Canonical.{HoldsText, AreSame, IsRefusalOfTwo, IsWritten, IsWithin};
 
 use crate::attribute::LinkAttribute;
 use crate::header::{HEADER_SIZE, LinkHeader, LinkMessageBuffer};
@@ -81,23 +81,6 @@ impl From<DecodeError> for CanonError {
             _ => CanonError::Decode(error),
         }
     }
-}
-
-/// The message that the bytes mean, if it fits and holds no empty list of ports.
-#[tactic(auto, using(nla_wire::proofs::Front::all_bytes))]
-fn parse_accepted(alloc: Global, input: &[u8]) -> Result<LinkMessage, CanonError>
-    ensures ok { IfOk result (IsAccepted input.now) }
-    ensures bytes { IfOk result (λ _. IsBytes input.now) }
-    ensures err { IfErr result (IsRefusal input.now) }
-{
-    let message = LinkMessage::parse(alloc, input)?;
-    if !message.fits() {
-        return Err(CanonError::DoesNotFit);
-    }
-    if message.has_empty_ports() {
-        return Err(CanonError::EmptyVfPorts);
-    }
-    Ok(message)
 }
 
 /// The header of a message, the bytes after it, the length of their canonical encoding, and how many of them in front
@@ -179,6 +162,25 @@ fn begin_encoding(
     Ok(encoding)
 }
 
+/// The canonical encoding of a message that was measured.
+fn encoded(
+    alloc: Global,
+    header: &LinkHeader,
+    rest: &[u8],
+    len: usize,
+    prefix: usize,
+) -> Result<Vec<u8>, AllocError>
+    requires begins { IsPrefix header.now.interface_family rest.now prefix }
+    requires measured { (input : List ℕ) × IsMeasured input header.now rest.now len }
+    requires room { header_size + len < 2 ^ 64 }
+    ensures { IfOk result (λ t. (input : List ℕ) → IsBytes input
+        → IsMeasured input header.now rest.now len → HasText input t.items) }
+{
+    let mut encoding = begin_encoding(alloc, header, &rest[..prefix], HEADER_SIZE + len)?;
+    let _len = write_after_prefix(header, rest, prefix, encoding.as_mut_slice());
+    Ok(encoding)
+}
+
 /// The number of the canonical form: any change of any message's canonical encoding raises it. Encodings of different
 /// numbers are not to be compared, so a store keeps the number beside its keys.
 pub const CANONICAL_FORM: u32 = 2;
@@ -198,21 +200,21 @@ pub fn canonical_len(input: &[u8]) -> Result<usize, CanonError>
 /// The encoding means the same message, and its attributes are at most `growth_per_byte` times as long as
 /// those read. Refuses as `canonical_len` does, or with `OutOfMemory`: the message is measured, memory for it is taken
 /// once, and it is written.
+#[tactic(auto, using(nla_wire::proofs::Front::all_bytes))]
 pub fn canonical(alloc: Global, input: &[u8]) -> Result<Vec<u8>, CanonError>
     ensures ok { IfOk result (λ t. HasText input.now t.items) }
     ensures err { IfErr result (IsRefusal input.now) }
 {
     let (header, rest, len, prefix) = measure(input)?;
-    let mut encoding = begin_encoding(alloc, &header, &rest[..prefix], HEADER_SIZE + len)?;
-    let _len = write_after_prefix(&header, rest, prefix, encoding.as_mut_slice());
+    let encoding = encoded(alloc, &header, rest, len, prefix)?;
     Ok(encoding)
 }
 
-/// Whether two messages that were read are equal; for the proof: a call of its own, whose clause gives `same_message`
-/// its answer whole.
-fn same_accepted(one: &LinkMessage, other: &LinkMessage) -> bool
-    ensures { (a : List ℕ) → (b : List ℕ) → IsBytes a → IsBytes b → IsAccepted a one.now
-        → IsAccepted b other.now → AreSameMessages a b one.now other.now result }
+/// Whether two canonical encodings are equal; for the proof: a call of its own, whose clause gives `same_message` its
+/// answer whole.
+fn same_encoding(one: &[u8], other: &[u8]) -> bool
+    ensures { (a : List ℕ) → (b : List ℕ) → IsBytes a → IsBytes b → HasText a one.now
+        → HasText b other.now → AreSame a b result }
 {
     one == other
 }
@@ -221,13 +223,19 @@ fn same_accepted(one: &LinkMessage, other: &LinkMessage) -> bool
 ///
 /// Both have to mean messages that fit and hold no empty list of ports. Refuses as `canonical` does, each refusal of
 /// the first before those of the second.
+#[tactic(auto, using(nla_wire::proofs::Front::all_bytes))]
 pub fn same_message(alloc: Global, first: &[u8], second: &[u8]) -> Result<bool, CanonError>
     ensures ok { IfOk result (AreSame first.now second.now) }
     ensures err { IfErr result (IsRefusalOfTwo first.now second.now) }
 {
-    let one = parse_accepted(alloc, first)?;
-    let other = parse_accepted(alloc, second)?;
-    Ok(same_accepted(&one, &other))
+    let (header, rest, len, prefix) = measure(first)?;
+    let (other_header, other_rest, other_len, other_prefix) = measure(second)?;
+    if len != other_len {
+        return Ok(false);
+    }
+    let one = encoded(alloc, &header, rest, len, prefix)?;
+    let other = encoded(alloc, &other_header, other_rest, other_len, other_prefix)?;
+    Ok(same_encoding(one.as_slice(), other.as_slice()))
 }
 
 /// Why nothing was written to a buffer.
