@@ -21,8 +21,13 @@ pub fn check_message(bytes: &[u8]) -> Result<(), Refusal>
 pub fn look_for_fault(bytes: &[u8], at: &mut usize) -> Result<(), Refusal>
     ensures { IsLookAt bytes.now at.old at.new result }
 {
-    move_to(at, LinkMessage::fault_at(bytes));
-    check_message(bytes)
+    match check_message(bytes) {
+        Ok(()) => Ok(()),
+        Err(refusal) => {
+            move_to(at, LinkMessage::fault_at(bytes));
+            Err(refusal)
+        }
+    }
 }
 
 /// Moves to a place, if there is one.

@@ -52,6 +52,11 @@ fn move_to(path: &mut Path, place: Option<FaultPath>)
 pub fn look_along(bytes: &[u8], path: &mut Path) -> Result<(), Refusal>
     ensures { IsLookAlong bytes.now path.old path.new result }
 {
-    move_to(path, LinkMessage::fault_path(bytes));
-    check_message(bytes)
+    match check_message(bytes) {
+        Ok(()) => Ok(()),
+        Err(refusal) => {
+            move_to(path, LinkMessage::fault_path(bytes));
+            Err(refusal)
+        }
+    }
 }
