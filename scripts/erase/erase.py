@@ -29,6 +29,7 @@ CRATES = os.path.join(HERE, "..", "..", "crates")
 PROGRAMS = ["linkwire"]                     # their own tests are run
 ROOTS = ["link_msg", "link_state"]          # what they give again stands at the root
 TOPS = ROOTS + ["link_info"]                # they give again what a user sees
+UNTESTED = ["link_c"]                       # no crate of tests stands on it
 LAWS = {"laws"}                             # modules whose functions do nothing: they state laws
 STANDS_FOR = {"exact", "values"}            # modules of nla_wire that are Rust's own in the crate
 COMMON = ["number.rs", "str.rs"]
@@ -60,9 +61,9 @@ class Mode:
     def __init__(self, is_crate):
         crates = listed()
         self.is_crate = is_crate
-        self.tests = [] if is_crate else [name for name in crates if name.endswith("_tests")]
+        self.tests = [] if is_crate else [name for name in crates if name.endswith(("_tests", "_checks"))]
         self.programs = [] if is_crate else PROGRAMS
-        named = below(crates, TOPS + self.tests + self.programs)
+        named = below(crates, TOPS + self.tests + self.programs + ([] if is_crate else UNTESTED))
         self.libraries = [name for name in named if name not in self.programs]
         self.memory_names = set()           # functions that fail for memory alone
         self.public = set()                 # names that a user sees
@@ -113,6 +114,8 @@ def erase(path, text, crate, mode):
     runtime.mains(s)
     runtime.expects(s)
     runtime.safe(s)
+    if crate in ('message_diff', 'diff_checks'):
+        runtime.to_vecs(s)
     imported = ""
     root = paths.PACKAGE if is_program else "crate"
     casts = runtime.newer(s)
@@ -134,6 +137,8 @@ def erase(path, text, crate, mode):
     if mode.is_crate:
         imported += paths.of_alloc(s)
     paths.paths(s, crate, mode.libraries, is_program, mode.is_crate)
+    if any(new == "to_vec_in" for new in s.new.values()):
+        imported += "use crate::rattle::vec::ToVecIn;\n"
     text = with_imports(s.rust(), imported)
     return layout.laid_out(text) if mode.is_crate else text
 

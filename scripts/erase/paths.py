@@ -6,8 +6,8 @@ from source import counts
 NAME = re.compile(r"\b(?:String|Vec)\b")
 PACKAGE = "linkwire"
 STD_OF_OURS = {"alloc", "str", "test"}              # modules of std of which a file of ours stands
-OF_CRATE, OF_TESTS = {"net"}, {"simd"}              # and those of which one stands for the crate or the tests alone
-CRATES_OF_OURS = {"bitflags", "hex", "memchr", "json"}
+OF_CRATE, OF_TESTS = {"net"}, {"simd", "collections"}              # and those of which one stands for the crate or the tests alone
+CRATES_OF_OURS = {"bitflags", "hex", "memchr", "json", "itoa"}
 NAMES_OF_OURS = {"Vec", "String", "HostRuntime"}    # of Rattle's prelude, where they differ
 IN_CORE = {"fmt", "marker", "ops", "slice", "str"}
 MACROS_OF_OURS = {"vec", "format", "eprintln", "assert", "assert_eq", "assert_ne", "panic"}

@@ -107,6 +107,9 @@ def safe(s):
     """`unsafe { str::from_utf8_unchecked(..) }`: ours of that name checks."""
     for i in s.live("unsafe"):
         open_ = s.next(i)
+        if s.at(s.prev(i, 2), "#", "[", "unsafe", "(", "no_mangle", ")", "]"):
+            exported(s, i)
+            continue
         if s.text[open_] != "{" or not s.at(s.next(open_), "str", ":", ":", "from_utf8_unchecked", "("):
             s.fail(i, "unsafe")
         counts["unsafe"] += 1
@@ -118,6 +121,31 @@ def safe(s):
             s.drop(s.prev(s.match[open_]) + 1, s.match[open_])
         else:
             s.new[open_], s.new[s.match[open_]] = "(", ")"
+
+
+def to_vecs(s):
+    """`slice.to_vec(alloc)`: Rust's takes no allocator, and has the name first."""
+    for i in s.live("to_vec"):
+        if s.at(s.prev(i), ".") and s.at(s.next(i), "(", "alloc", ")"):
+            counts["x.to_vec(alloc)"] += 1
+            s.new[i] = "to_vec_in"
+
+
+def exported(s, i):
+    """`#[unsafe(no_mangle)] pub extern "C" fn`: a function like others."""
+    counts["exported function"] += 1
+    start = s.prev(i, 2)
+    end = s.next(i, 4)
+    s.drop(start, end)
+    if s.kind[end + 1] == "ws":
+        s.dead[end + 1] = True
+    at = s.next(end)
+    while not s.at(at, "fn"):
+        if s.at(at, "extern"):
+            name = s.next(at)
+            s.drop(at, name)
+            s.dead[name + 1] = True
+        at = s.next(at)
 
 
 def drop_safety(s, i):

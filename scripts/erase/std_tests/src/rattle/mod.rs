@@ -2,7 +2,10 @@
 
 pub mod alloc;
 pub mod bitflags;
+pub mod collections;
 pub mod hex;
+pub mod itoa;
+pub mod json;
 pub mod macros;
 pub mod memchr;
 pub mod number;

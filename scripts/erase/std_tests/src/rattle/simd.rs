@@ -67,6 +67,21 @@ impl<const N: usize> Simd<u8, N> {
     }
 }
 
+impl<const N: usize> Simd<u8, N> {
+    /// Which lanes are those of another.
+    pub fn simd_eq(self, other: Self) -> Mask<i8, N> {
+        Mask(self.pairs(other, |a, b| -i8::from(a == b)))
+    }
+}
+
+impl<const N: usize> BitOr for Mask<i8, N> {
+    type Output = Self;
+
+    fn bitor(self, other: Self) -> Self {
+        Mask(from_fn(|i| self.0[i] | other.0[i]))
+    }
+}
+
 impl<const N: usize> Mask<i8, N> {
     /// The lanes of the first where the mask is set, and of the second where it is not.
     pub fn select<U: Copy>(self, true_values: Simd<U, N>, false_values: Simd<U, N>) -> Simd<U, N> {

@@ -69,6 +69,12 @@ impl<T> Vec<T> {
         self.0.as_mut_slice()
     }
 
+    /// For how many values there is room.
+    #[inline]
+    pub fn capacity(&self) -> usize {
+        self.0.capacity()
+    }
+
     /// Takes the last value.
     #[inline]
     pub fn pop(&mut self) -> Option<T> {
@@ -177,5 +183,16 @@ impl std::io::Write for Vec<u8> {
 
     fn flush(&mut self) -> std::io::Result<()> {
         Ok(())
+    }
+}
+
+/// `slice.to_vec(alloc)`.
+pub trait ToVecIn<T> {
+    fn to_vec_in(&self, alloc: Global) -> Result<Vec<T>, AllocError>;
+}
+
+impl<T: Copy> ToVecIn<T> for [T] {
+    fn to_vec_in(&self, alloc: Global) -> Result<Vec<T>, AllocError> {
+        Vec::from_slice(alloc, self)
     }
 }
