@@ -14,7 +14,7 @@ $(if $(NEEDS_RT),$(if $(call is_here,rt),,$(error make $(NEEDS_RT) proves the cr
     on the path: make self-test, make test and make dist-tests need none)))
 
 .PHONY: dist archive deb dist-tests test rust files lint check edits tables bench compare show-tests c-tests
-.PHONY: linkdump-tests dev fmt rust-tests fuzz c-bench
+.PHONY: costs linkdump-tests dev fmt rust-tests fuzz c-bench
 
 dist: ## proves, and makes dist/ and the archive of a release anew; its sums say what it was made of
 	@scripts/dist.sh
@@ -72,6 +72,9 @@ show-tests: ## compares what linkshow says of the running kernel's links with wh
 
 c-tests: $(LIBRARIES) out/linkdiff out/linkdump ## runs the tests of the library for C, and examples on the kernel
 	@scripts/c_tests.sh $(CURDIR)/out/liblinkwire.a
+
+costs: build lib ## counts instructions, requests for memory and bytes moved a line, and compares with tests/costs.txt
+	@python3 scripts/costs.py
 
 linkdump-tests: ## runs linkdump on the running kernel and on captures, with sanitizers too
 	@scripts/linkdump_tests.sh
