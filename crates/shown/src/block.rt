@@ -1,4 +1,7 @@
 //! Texts that are stored as blocks which overlap, and are looked at for bytes that need an escape on the way.
+//!
+//! Both by blocks of vectors, as by the writer of the toolchain's crate `json`, which looks at a text before it stores
+//! it.
 
 ghost use Rattle.std.specs.Prelude.{◌+◌, ◌≤◌, length, take, drop};
 ghost use Rattle.std.specs.Bool.{OnTrue};

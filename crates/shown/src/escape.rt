@@ -1,4 +1,7 @@
 //! Texts that are stored with the escapes that they need.
+//!
+//! An escape is made in six bytes, of which some count, as by the writer of the toolchain's crate `json`. Here all six
+//! are stored.
 
 ghost use Rattle.std.specs.Prelude.{◌≡◌, ◌+◌, ◌<◌, ◌≤◌, ◌*◌, length, take};
 ghost use Rattle.std.specs.Char.{digit_char};
@@ -7,55 +10,52 @@ ghost use Rattle.json.specs.Print.{escape, escape_byte, escape_letter};
 
 use crate::block::put_block;
 
-/// The letter of a byte's short escape, or 0 where it has none.
+/// What stands behind the backslash where a byte has an escape of two bytes; else 0.
 #[inline(always)]
 fn letter(byte: u8) -> u8
     ensures { result ≡ escape_letter byte }
 {
     match byte {
-        b'"' | b'\\' => byte,
-        8 => b'b',
-        12 => b'f',
-        b'\n' => b'n',
-        b'\r' => b'r',
+        0x08 => b'b',
         b'\t' => b't',
+        b'\n' => b'n',
+        0x0c => b'f',
+        b'\r' => b'r',
+        b'"' => b'"',
+        b'\\' => b'\\',
         _ => 0,
     }
 }
 
-/// A digit of a number to the base 16.
+/// The digit of a value below 16.
 #[inline(always)]
 fn digit(value: u8) -> u8
     requires { value < 16 }
     ensures { result ≡ digit_char value }
 {
-    if value < 10 {
-        b'0' + value
-    } else {
-        b'a' - 10 + value
+    match value {
+        0..10 => b'0' + value,
+        _ => b'a' + (value - 10),
     }
 }
 
-/// What stands for a byte, and how many of these bytes it is.
+/// The escape of a byte, or the byte where it needs none, at the front of six bytes, and its length.
 #[inline(always)]
 fn escape_of(byte: u8) -> ([u8; 6], usize)
     ensures value { take result.1 result.0 ≡ escape_byte byte }
     ensures bound { result.1 ≤ 6 }
 {
-    let letter = letter(byte);
-    if letter > 0 {
-        return ([b'\\', letter, 0, 0, 0, 0], 2);
+    match letter(byte) {
+        0 if byte >= 0x20 => ([byte, 0, 0, 0, 0, 0], 1),
+        0 => {
+            let low = digit(byte % 16);
+            ([b'\\', b'u', b'0', b'0', b'0' + byte / 16, low], 6)
+        }
+        letter => ([b'\\', letter, 0, 0, 0, 0], 2),
     }
-    if byte < 0x20 {
-        return (
-            [b'\\', b'u', b'0', b'0', digit(byte / 16), digit(byte % 16)],
-            6,
-        );
-    }
-    ([byte, 0, 0, 0, 0, 0], 1)
 }
 
-/// Stores what stands for a byte.
+/// Stores a byte, or its escape.
 #[inline(always)]
 fn put_escape(buf: &mut [u8], at: usize, byte: u8) -> usize
     requires room { at + 6 ≤ length buf.old }

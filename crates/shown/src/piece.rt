@@ -1,4 +1,7 @@
 //! Pieces of JSON (RFC 8259) that are added behind the first bytes of a buffer.
+//!
+//! Room is made first, and bytes are put at a place of it, as by the writer of the toolchain's crate `json`. Added are
+//! a name and a number in one call, and escapes in parts.
 
 ghost use Rattle.std.specs.Prelude.{◌≡◌, ◌+◌, ◌<◌, ◌≤◌, [], ◌∷◌, ◌++◌, OnOk, IfSome, decimal, length, take};
 ghost use Rattle.json.specs.Filled.{Placed};

@@ -13,7 +13,7 @@ use std::alloc::{AllocError, Global};
 use std::marker::Model;
 
 /// The JSON text (RFC 8259) of tokens, with commas and colons and no space: the first `len` bytes. Those behind them
-/// are room. The nesting is its caller's. What fails adds nothing.
+/// are room. Whether brackets match is for its caller to know. What fails adds nothing.
 #[derive(Drop)]
 pub(crate) struct Sheet {
     alloc: Global,

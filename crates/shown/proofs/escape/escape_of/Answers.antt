@@ -2,14 +2,14 @@ use Rattle.std.proofs.Common.{rules}
 use Rattle.json.specs.Print.{escape_byte}
 use Rattle.shown.proofs.escape.escape_of.Goals as goal
 
-pub returns-then-letter-gt0-clause-value : goal.returns-then-letter-gt0-clause-value
+pub returns-in-0-clause-value : goal.returns-in-0-clause-value
 unfolding escape_byte
-returns-then-letter-gt0-clause-value c = search rules
+returns-in-0-clause-value c = search rules
 
-pub returns-then-byte-lt32-clause-value : goal.returns-then-byte-lt32-clause-value
+pub returns-in-0-2-clause-value : goal.returns-in-0-2-clause-value
 unfolding escape_byte
-returns-then-byte-lt32-clause-value c = search rules
+returns-in-0-2-clause-value c = search rules
 
-pub returns-clause-value : goal.returns-clause-value
+pub returns-in_default-clause-value : goal.returns-in_default-clause-value
 unfolding escape_byte
-returns-clause-value c = search rules
+returns-in_default-clause-value c = search rules

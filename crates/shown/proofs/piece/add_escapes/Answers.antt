@@ -22,4 +22,6 @@ pub returns : goal.returns
 returns c =
     let at = c.loop-done in
     let text = c.args.text.now in
-    rw (escape_rest text at.done) (added_behind _ _ c.add_part-2.result c.requires.within at.invariant.1 (rw (take_rest text at.done) at c.add_part-2.ensures))
+    rw (escape_rest text at.done)
+    (added_behind _ _ c.add_part-2.result c.requires.within at.invariant.1
+    (rw (take_rest text at.done) at c.add_part-2.ensures))
