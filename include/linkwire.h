@@ -47,7 +47,7 @@ extern "C" {
 
 /* The number of the state form: a change of what a state encoding has at zero raises it, and so does one of the
  * canonical form. A store keeps it beside its keys. `linkwire_state_form` returns that of the library. */
-#define LINKWIRE_STATE_FORM 1
+#define LINKWIRE_STATE_FORM 2
 
 /* The bytes of a message's header; its list of attributes starts after them. */
 #define LINKWIRE_HEADER_SIZE 16
@@ -115,7 +115,9 @@ int32_t linkwire_same_message(const uint8_t *a, size_t a_len, const uint8_t *b, 
  * - in the header the change mask;
  * - IFLA_STATS, IFLA_STATS64, IFLA_CARRIER_CHANGES, IFLA_CARRIER_UP_COUNT, IFLA_CARRIER_DOWN_COUNT, and the value of
  *   IFLA_EVENT, which tells a notification from a dump by being there;
- * - in each IFLA_VF_STATS of IFLA_VFINFO_LIST its counters, IFLA_VF_STATS_RX_PACKETS to IFLA_VF_STATS_TX_DROPPED;
+ * - in each IFLA_VF_INFO of IFLA_VFINFO_LIST the counters of IFLA_VF_STATS, IFLA_VF_STATS_RX_PACKETS to
+ *   IFLA_VF_STATS_TX_DROPPED, and IFLA_VF_BROADCAST, which repeats IFLA_BROADCAST, and behind it has bytes that some
+ *   kernels do not set;
  * - IFLA_INET6_STATS, IFLA_INET6_ICMP6STATS, and `tstamp` and `reachable_time` of IFLA_INET6_CACHEINFO: under AF_INET6
  *   of IFLA_AF_SPEC in a message of AF_UNSPEC, and in IFLA_PROTINFO in one of AF_INET6;
  * - of IFLA_LINKINFO, which is kept undecoded but for its kind: IFLA_INFO_XSTATS, and

@@ -34,7 +34,7 @@ FAMILIES = {
 }
 LEVELS = {
     "functions": {1: Enter("function")},  # IFLA_VF_INFO
-    "function": {8: Enter("function's counters")},  # IFLA_VF_STATS
+    "function": {8: Enter("function's counters"), 13: CLEAR},  # IFLA_VF_STATS, IFLA_VF_BROADCAST
     # IFLA_VF_STATS_RX_PACKETS to _MULTICAST, _RX_DROPPED and _TX_DROPPED
     "function's counters": dict.fromkeys((0, 1, 2, 3, 4, 5, 7, 8), CLEAR),
     "families": {AF_INET6: Enter("inet6")},

@@ -32,6 +32,7 @@ static const struct row rows[] = {
     {IN_LINK, 12, IN_PORT_OF_BRIDGE},        /* where it is AF_BRIDGE */
     {IN_FUNCTIONS, 1, IN_FUNCTION},          /* IFLA_VF_INFO */
     {IN_FUNCTION, 8, IN_COUNTERS},           /* IFLA_VF_STATS */
+    {IN_FUNCTION, 13, CLEAR},                /* IFLA_VF_BROADCAST */
     {IN_COUNTERS, 0, CLEAR},                 /* IFLA_VF_STATS_RX_PACKETS */
     {IN_COUNTERS, 1, CLEAR},                 /* IFLA_VF_STATS_TX_PACKETS */
     {IN_COUNTERS, 2, CLEAR},                 /* IFLA_VF_STATS_RX_BYTES */

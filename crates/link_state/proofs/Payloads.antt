@@ -11,7 +11,7 @@ use Rattle.nla_wire.specs.Frames.{Frame, number, IsBytes, IsFrame}
 use Rattle.nla_wire.specs.Grammar.{Grammar, Every, list, not_empty, by_payload, as_a, undecoded, is_one, picked}
 use Rattle.nla_wire.specs.Canon.{canons, AllFit, IsWritable}
 use Rattle.nla_wire.specs.Payloads as payload
-use Rattle.nla_wire.specs.Records.{WritesFilled}
+use Rattle.nla_wire.specs.Records.{WritesFilled, HasSize}
 use Rattle.nla_wire.proofs.Lawful.{always}
 use Rattle.nla_wire.proofs.FieldLemmas.{zero_filled_whole}
 use Rattle.nla_wire.proofs.Cuts.{frames_once}
@@ -130,16 +130,17 @@ filled_closes size of text plain sized action leaves a own =
     record { value = of p; means = ap of (sym same); inside = tt; good = tt; text_is = same }
 
 pub sized_closes : {A : Type 0} (size : ℕ) (of : List ℕ → A) (text : A → List ℕ) → WritesFilled size of text
-    → ((a : A) → length (text a) ≡ size)
+    → HasSize size of text
     → (action : Action) → LeavesBytes action
     → ClosesPayload (payload.sized size of) text always always action
 sized_closes size of text plain sized action leaves a own =
     let p = payload_by cleared action (text a) in
+    let size_is : length (text a) ≡ size = ap (λ x. length (text x)) own.means.1 ∙ sized (text a) in
     let same = record_written size of text plain p (leaves (text a) own.bytes)
-    (length-payload_by action (text a) ∙ sized a) in
+    (length-payload_by action (text a) ∙ size_is) in
     record {
       value = of p;
-      means = (omega (arith, sized (of p)), ap of (sym same));
+      means = (omega (arith, sized p), ap of (sym same));
       inside = tt;
       good = tt;
       text_is = same;

@@ -1,9 +1,10 @@
 -- The places whose members are cleared: each row of the table closes.
-use Rattle.std.proofs.Common.{ℕ, refl}
+use Rattle.std.proofs.Common.{ℕ, refl, lit≤}
 use Rattle.std.specs.Int.{w32, w64}
 use Rattle.nla_wire.specs.Canon.{canons}
+use Rattle.nla_wire.specs.Records.{WritesFilled}
 use Rattle.nla_wire.proofs.Lawful.{always}
-use Rattle.nla_wire.proofs.Codec.{Place, u32, u64, list_of, some_of}
+use Rattle.nla_wire.proofs.Codec.{Place, u32, u64, sized_record, list_of, some_of}
 use Rattle.nla_wire.proofs.Variants.{no_shapes, view_of, entries_of}
 use Rattle.link_vals.specs.LinkEventTable.{link_event_of, link_event_number}
 use Rattle.link_vals.proofs.Numbers.{link_event_again}
@@ -15,6 +16,8 @@ use Rattle.link_recs.specs.Inet6StatsFields.{inet6_stats_size, inet6_stats_of, i
 use Rattle.link_recs.specs.Icmp6StatsFields.{icmp6_stats_size, icmp6_stats_of, icmp6_stats_bytes, icmp6_stats_laws}
 use Rattle.link_recs.specs.Inet6CacheInfoFields.{inet6_cache_info_size, inet6_cache_info_of, inet6_cache_info_bytes}
 use Rattle.link_recs.specs.Inet6CacheInfoFields.{inet6_cache_info_laws}
+use Rattle.link_vfrec.specs.Records.{vf_info_broadcast_size, vf_info_broadcast_of, vf_info_broadcast_bytes}
+use Rattle.link_vfrec.specs.Laws.{vf_info_broadcast_laws}
 use Rattle.link_vf.specs.Tables.{vf_stats_place, vf_stats_table, vf_info_place, vf_info_table, link_vf_info_place}
 use Rattle.link_vf.specs.Tables.{link_vf_info_ones, link_vf_info_of, link_vf_info_members}
 use Rattle.link_vf.specs.declared.numbers.TheConstants.{IFLA_VF_INFO}
@@ -74,7 +77,7 @@ inet6_closes =
     & line_closes no_shapes view always es inet6.Other 5 5 (ClearPart 4 12) inet6_cache_info inet6.CacheInfo
     (λ size. refl) (λ a. refl) (λ a good. tt) (λ a good. tt) refl
     (sized_closes inet6_cache_info_size inet6_cache_info_of inet6_cache_info_bytes inet6_cache_info_laws.plain
-    inet6_cache_info_laws.size_is (ClearPart 4 12) (part_leaves 4 12))
+    inet6_cache_info_laws.laws.sized (ClearPart 4 12) (part_leaves 4 12))
     & line_closes no_shapes view always es inet6.Other 6 6 Clear icmp6_stats inet6.Icmp6Stats (λ size. refl)
     (λ a. refl) (λ a good. tt) (λ a good. tt) refl
     (filled_closes icmp6_stats_size icmp6_stats_of icmp6_stats_bytes icmp6_stats_laws.plain icmp6_stats_laws.size_is
@@ -163,6 +166,10 @@ function_stats_close =
     & tt
     )
 
+broadcast_plain : WritesFilled vf_info_broadcast_size vf_info_broadcast_of vf_info_broadcast_bytes
+unfolding vf_info_broadcast_of vf_info_broadcast_bytes
+broadcast_plain p small = refl
+
 function_closes : ClosesIn vf_info_place Function
 unfolding vf_info_place
 function_closes =
@@ -172,6 +179,10 @@ function_closes =
     line_closes no_shapes view always es vf_info.Other 8 8 (Enter FunctionStats) (list_of vf_stats_place)
     vf_info.Stats (λ size. refl) (λ a. refl) (λ a good. tt) (λ a good. tt) refl
     (list_of_closes vf_stats_place FunctionStats function_stats_close)
+    & line_closes no_shapes view always es vf_info.Other 13 13 Clear (sized_record vf_info_broadcast_laws (lit≤ tt))
+    vf_info.Broadcast (λ size. refl) (λ a. refl) (λ a good. tt) (λ a good. tt) refl
+    (sized_closes vf_info_broadcast_size vf_info_broadcast_of vf_info_broadcast_bytes broadcast_plain
+    vf_info_broadcast_laws.sized Clear clear_leaves)
     & tt
     )
 

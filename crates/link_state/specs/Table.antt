@@ -14,7 +14,7 @@ use Rattle.link_vf.specs.declared.numbers.TheConstants.{IFLA_VF_INFO, IFLA_VF_ST
 use Rattle.link_vf.specs.declared.numbers.TheConstants.{IFLA_VF_STATS_TX_PACKETS, IFLA_VF_STATS_RX_BYTES}
 use Rattle.link_vf.specs.declared.numbers.TheConstants.{IFLA_VF_STATS_TX_BYTES, IFLA_VF_STATS_BROADCAST}
 use Rattle.link_vf.specs.declared.numbers.TheConstants.{IFLA_VF_STATS_MULTICAST, IFLA_VF_STATS_RX_DROPPED}
-use Rattle.link_vf.specs.declared.numbers.TheConstants.{IFLA_VF_STATS_TX_DROPPED}
+use Rattle.link_vf.specs.declared.numbers.TheConstants.{IFLA_VF_STATS_TX_DROPPED, IFLA_VF_BROADCAST}
 use Rattle.link_state.specs.declared.numbers.TheConstants.{IFLA_INFO_DATA, IFLA_INFO_XSTATS, IFLA_INFO_SLAVE_DATA}
 use Rattle.link_state.specs.declared.numbers.TheConstants.{IFLA_BR_HELLO_TIMER, IFLA_BR_TCN_TIMER}
 use Rattle.link_state.specs.declared.numbers.TheConstants.{IFLA_BR_TOPOLOGY_CHANGE_TIMER, IFLA_BR_GC_TIMER}
@@ -89,7 +89,7 @@ rows Inet6 =
     ∷ (IFLA_INET6_ICMP6STATS, Clear)
     ∷ []
 rows Functions = (IFLA_VF_INFO, Enter Function) ∷ []
-rows Function = (IFLA_VF_STATS, Enter FunctionStats) ∷ []
+rows Function = (IFLA_VF_STATS, Enter FunctionStats) ∷ (IFLA_VF_BROADCAST, Clear) ∷ []
 rows FunctionStats =
     (IFLA_VF_STATS_RX_PACKETS, Clear)
     ∷ (IFLA_VF_STATS_TX_PACKETS, Clear)

@@ -28,7 +28,7 @@ use link_msg::numbers::{
 };
 use link_vals::AddressFamily;
 use link_vf::numbers::{
-    IFLA_VF_INFO, IFLA_VF_STATS, IFLA_VF_STATS_BROADCAST, IFLA_VF_STATS_MULTICAST,
+    IFLA_VF_BROADCAST, IFLA_VF_INFO, IFLA_VF_STATS, IFLA_VF_STATS_BROADCAST, IFLA_VF_STATS_MULTICAST,
     IFLA_VF_STATS_RX_BYTES, IFLA_VF_STATS_RX_DROPPED, IFLA_VF_STATS_RX_PACKETS,
     IFLA_VF_STATS_TX_BYTES, IFLA_VF_STATS_TX_DROPPED, IFLA_VF_STATS_TX_PACKETS,
 };
@@ -229,6 +229,9 @@ impl Listed for FunctionsList {
 }
 
 /// `Level::Function`.
+///
+/// `IFLA_VF_BROADCAST` repeats `IFLA_BROADCAST`, and some kernels do not set the bytes behind it; behind the address of
+/// `IFLA_VF_MAC` they have zeros.
 struct FunctionList;
 
 impl Listed for FunctionList {
@@ -238,6 +241,7 @@ impl Listed for FunctionList {
     fn clear_payload(&self, number: u16, payload: &mut [u8]) {
         match number {
             IFLA_VF_STATS => clear_list(payload, &FunctionStatsList),
+            IFLA_VF_BROADCAST => zero(payload),
             _ => {}
         }
     }
