@@ -17,6 +17,11 @@ mkdir "$folder/crates"
 for crate in crates/*; do
     mkdir "$folder/$crate"
     cp -r "$crate/src" "$folder/$crate/"
+    for run in args stdin stdout; do
+        if [ -e "$crate/$run" ]; then
+            cp "$crate/$run" "$folder/$crate/"
+        fi
+    done
 done
 export CARGO_TARGET_DIR=$folder/target CARGO_NET_OFFLINE=true
 
@@ -24,7 +29,7 @@ export CARGO_TARGET_DIR=$folder/target CARGO_NET_OFFLINE=true
 tests() {
     rm -rf "$folder/erased/src"
     python3 "$folder/scripts/erase/erase.py" tests "$folder/erased" >/dev/null
-    cargo test --quiet --no-fail-fast --manifest-path "$folder/erased/Cargo.toml" 2>&1
+    cargo test --quiet --tests --no-fail-fast --manifest-path "$folder/erased/Cargo.toml" 2>&1
 }
 
 if ! log=$(tests); then

@@ -2,7 +2,7 @@
 """Erases the contracts of Rattle's sources, so that the same bodies compile as Rust.
 
     python3 scripts/erase/erase.py crate OUT        what is made of the package `linkwire`, into rust/
-    python3 scripts/erase/erase.py tests OUT        a package of all libraries, linkwire and the crates of tests
+    python3 scripts/erase/erase.py tests OUT        a package of all crates, with the stored runs of the programs
     python3 scripts/erase/erase.py check OUT        whether what stands there is what `crate` would make
 
 Tokens are dropped or replaced, and none is reordered but the names of imports, as rustfmt sorts them. A form that no
@@ -26,10 +26,9 @@ from source import Source, Unknown, counts
 
 HERE = os.path.dirname(os.path.abspath(__file__))
 CRATES = os.path.join(HERE, "..", "..", "crates")
-PROGRAMS = ["linkwire"]                     # their own tests are run
 ROOTS = ["link_msg", "link_state"]          # what they give again stands at the root
 TOPS = ROOTS + ["link_info"]                # they give again what a user sees
-UNTESTED = ["link_c"]                       # no crate of tests stands on it
+RUN = ["args", "stdin", "stdout"]           # a program's stored run
 LAWS = {"laws"}                             # modules whose functions do nothing: they state laws
 STANDS_FOR = {"exact", "values"}            # modules of nla_wire that are Rust's own in the crate
 COMMON = ["number.rs", "str.rs"]
@@ -62,9 +61,8 @@ class Mode:
         crates = listed()
         self.is_crate = is_crate
         self.tests = [] if is_crate else [name for name in crates if name.endswith(("_tests", "_checks"))]
-        self.programs = [] if is_crate else PROGRAMS
-        named = below(crates, TOPS + self.tests + self.programs + ([] if is_crate else UNTESTED))
-        self.libraries = [name for name in named if name not in self.programs]
+        self.programs = [] if is_crate else [name for name in sorted(crates) if os.path.exists(source(name, "main"))]
+        self.libraries = [name for name in below(crates, TOPS if is_crate else crates) if name not in self.programs]
         self.memory_names = set()           # functions that fail for memory alone
         self.public = set()                 # names that a user sees
         self.conditions = []                # what calls require that a user sees
@@ -114,15 +112,15 @@ def erase(path, text, crate, mode):
     runtime.mains(s)
     runtime.expects(s)
     runtime.safe(s)
-    if crate in ('message_diff', 'diff_checks'):
-        runtime.to_vecs(s)
     imported = ""
     root = paths.PACKAGE if is_program else "crate"
+    if not mode.is_crate and runtime.to_vecs(s):
+        imported += f"use {root}::rattle::vec::ToVecBy;\n"
     casts = runtime.newer(s)
     if mode.is_crate:
         casts += owed.narrowing(s) + ["room"] * owed.stores(s)
     if casts:
-        imported = f"use {root}::rattle::number::{paths.group(casts)};\n"
+        imported += f"use {root}::rattle::number::{paths.group(casts)};\n"
     if mode.is_crate and memory.reserved(s):
         imported += "use crate::rattle::list::vacant;\n"
     before = s.references()
@@ -137,8 +135,6 @@ def erase(path, text, crate, mode):
     if mode.is_crate:
         imported += paths.of_alloc(s)
     paths.paths(s, crate, mode.libraries, is_program, mode.is_crate)
-    if any(new == "to_vec_in" for new in s.new.values()):
-        imported += "use crate::rattle::vec::ToVecIn;\n"
     text = with_imports(s.rust(), imported)
     return layout.laid_out(text) if mode.is_crate else text
 
@@ -157,6 +153,10 @@ def with_imports(text, imported):
         imported += "\n"
     lines.insert(at, imported.rstrip("\n") if lines[at].startswith("use ") else imported.rstrip("\n") + "\n")
     return "\n".join(lines)
+
+
+def source(crate, base):
+    return os.path.join(CRATES, crate, "src", base + ".rt")
 
 
 def sources(crate):
@@ -204,6 +204,17 @@ def make(mode, out):
             counts["lines of Rust"] += text.count("\n")
 
 
+def copy_runs(mode, out):
+    """The stored runs of the programs, which the tests compare with what their Rust says."""
+    for crate in mode.programs:
+        to = os.path.join(out, "runs", crate)
+        os.makedirs(to)
+        for name in RUN:
+            path = os.path.join(CRATES, crate, name)
+            if os.path.exists(path):
+                shutil.copy(path, to)
+
+
 def modules(mode):
     """The modules of the crates, and what the top crates give again; a crate comes whole, and not all of it is used."""
     if not mode.is_crate:
@@ -213,14 +224,24 @@ def modules(mode):
     return mods + "\n" + "".join(f"pub use {name}::*;\n" for name in ROOTS if name in mode.libraries)
 
 
+def bins(mode):
+    """The programs, of which only those that have tests are compiled as tests too."""
+    has_tests = {name: str(os.path.exists(source(name, "tests"))).lower() for name in mode.programs}
+    return "".join(f'\n[[bin]]\nname = "{name}"\npath = "src/bin/{name}/main.rs"\ntest = {said}\n'
+                   for name, said in has_tests.items())
+
+
 def copy_std(mode, out):
     """What stands for Rattle's std; that of the tests has more, and two files in common with the crate's."""
     if not mode.is_crate:
         shutil.copytree(os.path.join(HERE, "std_tests"), out, dirs_exist_ok=True)
         for name in COMMON:
             shutil.copy(os.path.join(HERE, "std", "src", "rattle", name), os.path.join(out, "src", "rattle", name))
-        root = os.path.join(out, "src", "lib.rs")
-        write(root, read(root).replace("// MODULES\n", modules(mode)))
+        for name, mark, text in (("src/lib.rs", "// MODULES\n", modules(mode)),
+                                 ("tests/stored.rs", "PROGRAMS", " ".join(mode.programs)),
+                                 ("Cargo.toml", "# BINS\n", bins(mode))):
+            path = os.path.join(out, name)
+            write(path, read(path).replace(mark, text))
         return
     folder = os.path.join(HERE, "std", "src")
     for root, _, files in sorted(os.walk(folder)):
@@ -237,8 +258,10 @@ def copy_std(mode, out):
 
 def make_all(mode, out):
     """All files of a package that are made."""
-    shutil.rmtree(os.path.join(out, "src"), ignore_errors=True)
+    for folder in ("src", "runs"):
+        shutil.rmtree(os.path.join(out, folder), ignore_errors=True)
     copy_std(mode, out)
+    copy_runs(mode, out)
     if mode.is_crate:
         look(mode)
     make(mode, out)

@@ -6,11 +6,12 @@ from source import counts
 NAME = re.compile(r"\b(?:String|Vec)\b")
 PACKAGE = "linkwire"
 STD_OF_OURS = {"alloc", "str", "test"}              # modules of std of which a file of ours stands
-OF_CRATE, OF_TESTS = {"net"}, {"simd", "collections"}              # and those of which one stands for the crate or the tests alone
+OF_CRATE = {"net"}                                  # and those of which one stands for the crate alone,
+OF_TESTS = {"collections", "env", "fs", "simd"}     # or for the tests alone
 CRATES_OF_OURS = {"bitflags", "hex", "memchr", "json", "itoa"}
-NAMES_OF_OURS = {"Vec", "String", "HostRuntime"}    # of Rattle's prelude, where they differ
+NAMES_OF_OURS = {"Vec", "String", "HostRuntime", "Print"}       # of Rattle's prelude, where they differ
 IN_CORE = {"fmt", "marker", "ops", "slice", "str"}
-MACROS_OF_OURS = {"vec", "format", "eprintln", "assert", "assert_eq", "assert_ne", "panic"}
+MACROS_OF_OURS = {"vec", "format", "print", "println", "eprintln", "assert", "assert_eq", "assert_ne", "panic"}
 
 
 def paths(s, crate, crates, is_program, is_crate):
@@ -43,11 +44,12 @@ def own_path(s, i, crate, is_program):
 
 def std_path(s, i, root, is_crate):
     part = s.next(i, 3)
-    if s.text[part] == "{":
+    ours = STD_OF_OURS | (OF_CRATE if is_crate else OF_TESTS)
+    is_group = s.text[part] == "{"
+    if is_group and not ours.issuperset(s.words(part, s.match[part])[1:-1:2]):
         s.fail(i, "a group of parts of std: write one `use` for each")
     is_method = s.text[part] == "str" and s.is_path(part)
-    ours = STD_OF_OURS | (OF_CRATE if is_crate else OF_TESTS)
-    if s.at(part, "process", ":", ":", "Abort") or (s.text[part] in ours and not is_method):
+    if s.at(part, "process", ":", ":", "Abort") or is_group or (s.text[part] in ours and not is_method):
         counts["path of std that is ours"] += 1
         s.new[i] = f"{root}::rattle"
     elif is_crate:

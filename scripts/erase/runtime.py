@@ -80,7 +80,8 @@ def newer(s):
 def mains(s):
     """`fn main(rt: HostRuntime)` and tests of that kind: Rust's take nothing."""
     for i in s.live("fn"):
-        if not s.at(s.next(i, 4), ":", "HostRuntime", ")"):
+        is_test = any(s.at(k, "#", "[", "test", "]") for k in range(s.item_start(i), i) if k in s.rank)
+        if not s.at(s.next(i, 4), ":", "HostRuntime", ")") or not (is_test or s.at(s.next(i), "main")):
             continue
         counts["fn main(rt: HostRuntime), or a test"] += 1
         open_ = s.next(i, 2)
@@ -124,28 +125,32 @@ def safe(s):
 
 
 def to_vecs(s):
-    """`slice.to_vec(alloc)`: Rust's takes no allocator, and has the name first."""
+    """`x.to_vec(alloc)`, and a method of that form: a slice of Rust has a call of this name, and it takes no allocator.
+
+    Returns whether it is called.
+    """
+    is_called = False
     for i in s.live("to_vec"):
         if s.at(s.prev(i), ".") and s.at(s.next(i), "(", "alloc", ")"):
-            counts["x.to_vec(alloc)"] += 1
-            s.new[i] = "to_vec_in"
+            is_called = True
+        elif s.at(s.prev(i), "mod"):
+            continue
+        elif not s.at(s.prev(i), "fn") or not s.at(s.next(i), "(", "&", "self", ",", "alloc", ":", "Global", ")"):
+            s.fail(i, "to_vec other than x.to_vec(alloc), or a method of that form")
+        counts["x.to_vec(alloc)"] += 1
+        s.new[i] = "to_vec_by"
+    return is_called
 
 
 def exported(s, i):
     """`#[unsafe(no_mangle)] pub extern "C" fn`: a function like others."""
+    start, end = s.prev(i, 2), s.next(i, 4)
+    pub = s.next(end)
+    if not s.at(pub, "pub", "extern", '"C"', "fn"):
+        s.fail(i, 'no_mangle of what is no pub extern "C" fn')
     counts["exported function"] += 1
-    start = s.prev(i, 2)
-    end = s.next(i, 4)
-    s.drop(start, end)
-    if s.kind[end + 1] == "ws":
-        s.dead[end + 1] = True
-    at = s.next(end)
-    while not s.at(at, "fn"):
-        if s.at(at, "extern"):
-            name = s.next(at)
-            s.drop(at, name)
-            s.dead[name + 1] = True
-        at = s.next(at)
+    s.drop(start, pub - 1)
+    s.join(pub, s.next(pub, 3))
 
 
 def drop_safety(s, i):

@@ -68,17 +68,56 @@ REFUSED = [
 ]
 
 
+# and as one of message_diff, for the package of the tests
+REFUSED_IN_TESTS = [
+    ("fn f() {\n    let x = y.to_vec();\n}\n", "2: to_vec other than x.to_vec(alloc), or a method of that form"),
+    ("fn f() {\n    let make = T::to_vec;\n}\n", "2: to_vec other than x.to_vec(alloc), or a method of that form"),
+    ("fn to_vec(&self) {}\n", "1: to_vec other than x.to_vec(alloc), or a method of that form"),
+    ("#[unsafe(no_mangle)]\nfn f() {}\n", '1: no_mangle of what is no pub extern "C" fn'),
+    ('#[unsafe(no_mangle)]\npub extern "C" static F: u8 = 0;\n', '1: no_mangle of what is no pub extern "C" fn'),
+    ('#[unsafe(export_name = "g")]\npub extern "C" fn f() {}\n', "1: unsafe"),
+    ("use std::{env, io};\n", "1: a group of parts of std: write one `use` for each"),
+    ("use std::{env::Args, fs};\n", "1: a group of parts of std: write one `use` for each"),
+]
+
+
+# sources of the package of the tests, and their Rust
+MADE = [
+    ("fn f(x: &[u8]) {\n    let y = x.to_vec(alloc)?;\n}\n",
+     "use crate::rattle::vec::ToVecBy;\n\nfn f(x: &[u8]) {\n    let y = x.to_vec_by(alloc)?;\n}\n"),
+    ("pub mod to_vec;\n\nimpl T {\n    fn to_vec(&self, alloc: Global) {}\n}\n",
+     "pub mod to_vec;\n\nimpl T {\n    fn to_vec_by(&self, alloc: Global) {}\n}\n"),
+    ('/// A.\n#[unsafe(no_mangle)]\npub extern "C" fn f(x: u8) -> u8 {\n    x\n}\n',
+     "/// A.\npub fn f(x: u8) -> u8 {\n    x\n}\n"),
+    ("use std::{env, fs};\n", "use crate::rattle::{env, fs};\n"),
+    ("use std::collections::BTreeMap;\n", "use crate::rattle::collections::BTreeMap;\n"),
+    ("fn main(rt: HostRuntime) {\n    print!(rt; \"a\");\n}\n",
+     "use crate::rattle::prelude::{HostRuntime, print};\n\n"
+     "fn main() {\n    let rt = HostRuntime;\n    print!(rt; \"a\");\n}\n"),
+    ("#[test]\n#[allow(dead_code)]\nfn f(rt: HostRuntime) {}\n",
+     "use crate::rattle::prelude::HostRuntime;\n\n"
+     "#[test]\n#[allow(dead_code)]\nfn f() {\n    let rt = HostRuntime;}\n"),
+    ("fn f(rt: HostRuntime) {}\n", "use crate::rattle::prelude::HostRuntime;\n\nfn f(rt: HostRuntime) {}\n"),
+]
+
+
+def said_of(text, crate, mode):
+    """Why a source is refused, or None."""
+    try:
+        erase.erase("a.rt", text, crate, mode)
+    except Unknown as error:
+        return str(error)
+    return None
+
+
 def refusals():
     """What is said of each; None where nothing is refused."""
+    for text, wanted in REFUSED_IN_TESTS:
+        yield text, f"a.rt:{wanted}", said_of(text, "message_diff", erase.Mode(False))
     for text, wanted in REFUSED:
         mode = erase.Mode(True)
         mode.public, mode.memory_names = {"LinkMessage"}, {"text"}
-        try:
-            erase.erase("a.rt", text, "link_msg", mode)
-            said = None
-        except Unknown as error:
-            said = str(error)
-        yield text, f"a.rt:{wanted}", said
+        yield text, f"a.rt:{wanted}", said_of(text, "link_msg", mode)
 
 
 # texts, and how they are laid out
@@ -121,6 +160,11 @@ def main():
         if said != wanted:
             print(f"{text}wanted: {wanted}\nsaid: {said}\n")
             failed += 1
+    for text, wanted in MADE:
+        made = erase.erase("a.rt", text, "message_diff", erase.Mode(False))
+        if made != wanted:
+            print(f"{text}made into:\n{made}")
+            failed += 1
     for text, wanted in LAID:
         if layout.laid_out(text) != wanted:
             print(f"{text}laid out as:\n{layout.laid_out(text)}")
@@ -159,7 +203,8 @@ def main():
         failed += 1
     if failed:
         return 1
-    print(f"erase: {len(REFUSED)} forms are refused, {len(LAID)} are laid out")
+    print(f"erase: {len(REFUSED) + len(REFUSED_IN_TESTS)} forms are refused, {len(MADE)} are made into Rust, "
+          f"{len(LAID)} are laid out")
     return 0
 
 

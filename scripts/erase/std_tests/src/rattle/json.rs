@@ -22,7 +22,7 @@ impl Writer {
     /// Adds a string.
     pub fn string(&mut self, text: &str) -> Result<(), AllocError> {
         if self.after_value {
-            self.out.push(b',').map_err(|_| AllocError)?;
+            self.out.push(b',')?;
         }
         self.after_value = true;
         self.out.extend_from_slice(b"\"")?;
@@ -39,5 +39,19 @@ impl Writer {
             }
         }
         self.out.extend_from_slice(b"\"")
+    }
+}
+
+#[cfg(test)]
+mod tests {
+    use super::super::alloc::Global;
+    use super::*;
+
+    #[test]
+    fn strings_are_escaped() {
+        let mut writer = Writer::new(Vec::new(Global));
+        writer.string("a\"\\\n\u{1f}\u{e9}").expect("memory");
+        writer.string("").expect("memory");
+        assert_eq!(writer.into_inner().as_slice(), "\"a\\\"\\\\\\n\\u001f\u{e9}\",\"\"".as_bytes());
     }
 }

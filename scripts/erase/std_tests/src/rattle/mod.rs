@@ -3,6 +3,8 @@
 pub mod alloc;
 pub mod bitflags;
 pub mod collections;
+pub mod env;
+pub mod fs;
 pub mod hex;
 pub mod itoa;
 pub mod json;

@@ -65,20 +65,10 @@ impl<const N: usize> Simd<u8, N> {
     pub fn simd_ge(self, other: Self) -> Mask<i8, N> {
         Mask(self.pairs(other, |a, b| -i8::from(a >= b)))
     }
-}
 
-impl<const N: usize> Simd<u8, N> {
     /// Which lanes are those of another.
     pub fn simd_eq(self, other: Self) -> Mask<i8, N> {
         Mask(self.pairs(other, |a, b| -i8::from(a == b)))
-    }
-}
-
-impl<const N: usize> BitOr for Mask<i8, N> {
-    type Output = Self;
-
-    fn bitor(self, other: Self) -> Self {
-        Mask(from_fn(|i| self.0[i] | other.0[i]))
     }
 }
 
@@ -91,6 +81,15 @@ impl<const N: usize> Mask<i8, N> {
     /// A bit for each lane, the lowest for the first.
     pub fn to_bitmask(self) -> u64 {
         self.0.iter().rev().fold(0, |bits, lane| bits << 1 | u64::from(*lane < 0))
+    }
+}
+
+/// The lanes that are set in either.
+impl<const N: usize> BitOr for Mask<i8, N> {
+    type Output = Self;
+
+    fn bitor(self, other: Self) -> Self {
+        Mask(from_fn(|i| self.0[i] | other.0[i]))
     }
 }
 
@@ -142,6 +141,8 @@ mod tests {
         assert_eq!((less.to_bitmask(), not_less.to_bitmask()), (0b0001, 0b1110));
         assert_eq!(less.select(A, B).0, [1, 20, 100, 1]);
         assert_eq!(not_less.select(A, B).0, [2, 20, 200, 255]);
+        assert_eq!(A.simd_eq(B).0, [0, -1, 0, 0]);
+        assert_eq!((less | A.simd_eq(B)).0, [-1, -1, 0, 0]);
     }
 
     #[test]

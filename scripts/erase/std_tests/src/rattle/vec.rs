@@ -1,10 +1,11 @@
 //! A vector whose calls that take memory can fail.
 
 use super::alloc::{AllocError, AllocFailed, Global};
+use std::fmt;
 use std::ops::{Deref, DerefMut};
 
 /// A vector of the standard library, whose calls that take memory take the allocator or return an error.
-#[derive(Clone, Debug, Default, PartialEq, Eq, PartialOrd, Ord, Hash)]
+#[derive(Clone, Default, PartialEq, Eq, PartialOrd, Ord, Hash)]
 pub struct Vec<T>(std::vec::Vec<T>);
 
 impl<T> Vec<T> {
@@ -129,6 +130,12 @@ impl<T: Copy> Vec<T> {
     }
 }
 
+impl<T: fmt::Debug> fmt::Debug for Vec<T> {
+    fn fmt(&self, f: &mut fmt::Formatter<'_>) -> fmt::Result {
+        self.0.fmt(f)
+    }
+}
+
 impl<T> Deref for Vec<T> {
     type Target = [T];
 
@@ -142,6 +149,12 @@ impl<T> DerefMut for Vec<T> {
     #[inline]
     fn deref_mut(&mut self) -> &mut [T] {
         &mut self.0
+    }
+}
+
+impl<T> AsRef<[T]> for Vec<T> {
+    fn as_ref(&self) -> &[T] {
+        &self.0
     }
 }
 
@@ -186,13 +199,13 @@ impl std::io::Write for Vec<u8> {
     }
 }
 
-/// `slice.to_vec(alloc)`.
-pub trait ToVecIn<T> {
-    fn to_vec_in(&self, alloc: Global) -> Result<Vec<T>, AllocError>;
+/// `x.to_vec(alloc)` of a slice: its own call of that name takes no allocator.
+pub trait ToVecBy<T> {
+    fn to_vec_by(&self, alloc: Global) -> Result<Vec<T>, AllocError>;
 }
 
-impl<T: Copy> ToVecIn<T> for [T] {
-    fn to_vec_in(&self, alloc: Global) -> Result<Vec<T>, AllocError> {
+impl<T: Copy> ToVecBy<T> for [T] {
+    fn to_vec_by(&self, alloc: Global) -> Result<Vec<T>, AllocError> {
         Vec::from_slice(alloc, self)
     }
 }
