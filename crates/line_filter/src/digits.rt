@@ -42,6 +42,9 @@ pub fn decode(digits: &[u8], values: &[u8; 256], bytes: &mut [u8]) -> bool
     if digits.len() % 2 != 0 {
         return false;
     }
+    if digits.len() >= 2 && values[digits[0] as usize] > 15 {
+        return false;
+    }
     let mut done = 0;
     while bytes.len() - done >= BYTES && decode_block(digits, 2 * done, bytes, done) {
         done += BYTES;

@@ -1,10 +1,19 @@
 use Rattle.std.proofs.Common.{◌+◌, ◌*◌, slice_index, arith}
 use Rattle.std.proofs.lemmas.Bool.{OnTrue_at, OnFalse_at}
-use Rattle.hex.proofs.Pairs.{decode_step}
+use Rattle.hex.proofs.Pairs.{decode_start, decode_step}
 use Rattle.line_filter.proofs.Spelling.{pair_reads, pair_refuses_first, pair_refuses_second, spells_all, spells_none}
 use Rattle.line_filter.proofs.Blocks.{decode_more}
 use Rattle.line_filter.proofs.digits.decode.Goals as goal
 use Rattle.line_filter.proofs.digits.decode.Goals.{then-loop-bytes-test+else-decode_block, else-loop-bytes-test}
+
+pub returns-then-values-digits-gt15 : goal.returns-then-values-digits-gt15
+returns-then-values-digits-gt15 c =
+    let digits = c.args.digits.now in
+    let first = c.type_inv.digits 0 in
+    let bad = pair_refuses_first c.args.values.now (slice_index digits 0) (slice_index digits 1) 0 c.requires.table
+    (omega arith) (omega arith) in
+    spells_none digits c.args.bytes.now 0 _ c.if-digits-ne0.false (omega arith) bad
+    (decode_start digits c.args.bytes.now)
 
 pub loop-bytes-preserved : goal.loop-bytes-preserved
 loop-bytes-preserved c =
