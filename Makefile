@@ -30,7 +30,7 @@ dist-tests: ## runs what is built of dist/ with the toolchain out of reach: here
 	@scripts/dist_tests.sh
 	@scripts/test_dist.sh
 
-test: ## runs the tests by cargo, the contracts erased, within a minute; it proves nothing
+test: ## runs all tests and stored runs by cargo, the contracts erased, in a minute; it proves nothing
 	@scripts/erased_tests.sh
 
 rust: ## makes the crate in rust/ anew, of the sources and scripts/erase
