@@ -9,7 +9,7 @@ loop-done-preserved c =
     let text = c.args.text.now in
     let n : at.done + 16 - at.done ≡ 16 = omega arith in
     let long : length (take 16 (drop at.done text)) ≡ 16 =
-        length-take-le 16 (drop at.done text) (omega (arith, length-drop at.done text)) in
+    length-take-le 16 (drop at.done text) (omega (arith, length-drop at.done text)) in
     let end : c.put_part-end.result ≤ at.end + 16 * 6 = rw (n, long) at c.put_part-end.ensures.within in (
       omega arith,
       part_stored text at.done 16 at.invariant.1 (rw n at c.put_part-end.ensures.placed),

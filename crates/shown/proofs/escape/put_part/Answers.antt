@@ -13,5 +13,5 @@ returns-then-put_block-clause-placed c =
     (escape_on_plain c.put_block.result text
     (subst (λ n. OnTrue c.put_block.result (PlainBetween text 0 n)) (sym c.requires.long) c.put_block.ensures.plain)) in
     let placed : Placed c.args.buf.now c.put_block.new.buf c.args.at (take 16 text) (c.args.at + 16) =
-        c.put_block.ensures.placed in
+    c.put_block.ensures.placed in
     rw plain (rw (take_all 16 text (omega (arith, c.requires.long))) at placed)
