@@ -44,6 +44,8 @@ programs() {
     python3 scripts/state_tests.py crates/linkstate/out/linkstate crates/linkwire/out/linkwire
     stage diff_tests.py python3 scripts/diff_tests.py crates/linkdiff/out/linkdiff crates/linkshow/out/linkshow \
         crates/linkstate/out/linkstate crates/linkwire/out/linkwire
+    stage sizes.py python3 scripts/sizes.py crates/linkwire/out crates/linkshow/out crates/linkstate/out \
+        crates/linkdiff/out out
     python3 scripts/show_rows.py --check
     python3 scripts/show_damaged.py crates/linkshow/out/linkshow crates/linkwire/out/linkwire
     python3 scripts/kernel_messages.py

@@ -3,11 +3,11 @@
 
     python3 scripts/sizes.py FOLDER..
 
-The folders have the programs linkwire, linkshow, linkstate, linkdiff and linkdump; of two the first counts. A message is
-made with what each program has to answer of it: the canonical encoding is known from how the message was made, the state
-encoding by state_model.py, linkshow's members too, and the changes that linkdiff tells by the members of both. Words in
-front of a line, and lines that are no hexadecimal, are as long. linkdump reads captures of packets as long as libpcap
-takes, and is skipped where it has no libpcap. After each long line comes a short one.
+The folders have the programs linkwire, linkshow, linkstate, linkdiff and linkdump; of two the first counts. A message
+is made with what each program has to answer of it: the canonical encoding is known from how the message was made, the
+state encoding by state_model.py, linkshow's members too, and the changes that linkdiff tells by the members of both.
+Words in front of a line, and lines that are no hexadecimal, are as long. linkdump reads captures of packets as long as
+libpcap takes, and is skipped where it has no libpcap. After each long line comes a short one.
 """
 import json
 import os
