@@ -26,7 +26,7 @@ import state_model
 from diff_tests import paths
 
 SIZES = {"5 kB": 5_000, "70 kB": 70_000, "1.2 MB": 1_200_000, "20 MB": 20_000_000}
-PACKETS = {"5 kB": 5_000, "70 kB": 70_000, "260 kB": 260_000}  # libpcap reads no packet above 262,144 bytes
+PACKETS = {"5 kB": 5_000, "70 kB": 70_000, "250 kB": 250_000}  # libpcap reads no packet above 262,144 bytes
 PAYLOADS = [0, 1, 2, 3, 5, 8, 100, 1000, 4096, 65531]
 # numbers of linux/if_link.h, and the first of those that no kernel has
 IFNAME, MTU, IFALIAS, CARRIER_CHANGES, UNKNOWN = 3, 4, 20, 35, 300
@@ -48,7 +48,7 @@ def header(reserved, index=7):
 
 
 class Made:
-    """A message of at least so many bytes, its canonical encoding, and the members that linkshow shows of it."""
+    """A message of about so many bytes, its canonical encoding, and the members that linkshow shows of it."""
 
     def __init__(self, size, mtu=1500, changes=5, last=b"last"):
         chance = random.Random(size)
@@ -60,7 +60,7 @@ class Made:
         alias = "".join(chance.choices(LETTERS, k=min(size, 60_000) // 4))
         self.members["ifalias"] = alias
         self.add(IFALIAS, alias.encode(), alias.encode() + b"\0")
-        self.others, left = [], size
+        self.others, left = [], size - sum(map(len, self.message))
         while left > 0:
             length = min(PAYLOADS[len(self.others) % len(PAYLOADS)], left)
             self.other(chance.randbytes(length))
@@ -189,7 +189,7 @@ def look_at_linkdiff(program, made, size):
 def look_at_linkdump(program, size):
     if b"built without libpcap" in subprocess.run([program, "--help"], capture_output=True, check=True).stdout:
         return False
-    texts = [Made(size - 200).message, header(0), Made(size // 3).message, header(1)]
+    texts = [Made(size).message, header(0), Made(size // 3).message, header(1)]
     packets = [captures.cooked([captures.message(16, it)]) for it in texts[:2]]
     packets.append(captures.cooked([captures.message(16, it) for it in texts[2:]]))
     for name, form in captures.FORMS.items():
