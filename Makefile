@@ -1,7 +1,8 @@
 # The targets that build from dist/ or by the toolchain are in dist/Makefile: `make help` lists all.
 # How long `fuzz` tries messages.
 SECONDS ?= 60
-QUIET = test rust files lint dev fmt check edits tables dist dist-tests archive rust-tests show-tests linkdump-tests
+QUIET = test rust files lint dev fmt check costs edits tables dist dist-tests archive rust-tests show-tests \
+    linkdump-tests
 OF_c-tests = link_c linkdiff linkdump
 OF_fuzz = link_c
 OF_c-bench = link_c
@@ -73,7 +74,7 @@ show-tests: ## compares what linkshow says of the running kernel's links with wh
 c-tests: $(LIBRARIES) out/linkdiff out/linkdump ## runs the tests of the library for C, and examples on the kernel
 	@scripts/c_tests.sh $(CURDIR)/out/liblinkwire.a
 
-costs: build lib ## counts instructions, requests for memory and bytes moved a line, and compares with tests/costs.txt
+costs: ## counts what a line takes of the texts in dist/, and compares with tests/costs.txt
 	@python3 scripts/costs.py
 
 linkdump-tests: ## runs linkdump on the running kernel and on captures, with sanitizers too

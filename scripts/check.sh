@@ -35,6 +35,8 @@ libraries() {
 texts() {
     stage 'the texts of the programs' scripts/dist.sh --compare "${names[@]}"
     stage 'slips in dist/' scripts/test_dist.sh
+    stage costs.py python3 scripts/costs.py
+    stage test_costs.sh scripts/test_costs.sh
 }
 
 programs() {

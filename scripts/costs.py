@@ -1,189 +1,241 @@
 #!/usr/bin/env python3
-"""Counts what the programs and the library do for a line: its instructions, by valgrind's callgrind; its requests for
-memory; and the bytes that the C library is asked to copy, clear or compare.
+"""Counts what the programs and the calls of the library take for a line: its instructions, its requests for memory, and
+the bytes that are copied, cleared or compared. tests/costs.txt says how much each may be.
 
-    python3 scripts/costs.py            compares with tests/costs.txt
-    python3 scripts/costs.py --make     prints the rows as they are now
+    python3 scripts/costs.py [ROW..]           compares: more than two in a hundred above fails, and as much below
+    python3 scripts/costs.py --make [ROW..]    prints the rows as they are
 
-Of the instructions those count that stand in the text of dist/, and none of the C library, the loader, the start of the
-program or dist/*.c: so the counts are the same in each run, in any folder and environment, and with any C library and C
-compiler. What the C library does is counted by the requests and the bytes.
+A ROW is WHAT/WORKLOAD, as linkwire/dumps; with none all are counted. --texts FOLDER counts over other texts than those
+in dist/x86_64, and --rows FILE compares with other rows. JOBS in the environment is how many runs go side by side.
+
+It assembles the texts in a folder of its own, and reads nothing of out/, so that other scripts may build there. Where
+valgrind is not installed, or the compiler is not for x86-64, it says 'skipped'.
+
+Of the instructions those count that stand in the text, by callgrind: none of the C library, of the loader, of the
+program's start or of dist/*.c. So they are the same in each run, in any folder and environment, with any C library and
+any C compiler. What the C library does for a line is seen in the other two numbers alone: a line that is copied once
+more takes hardly an instruction more of the text.
 """
+
+import argparse
 import concurrent.futures
 import os
 import re
 import shutil
-import struct
 import subprocess
 import sys
 import tempfile
 
+sys.dont_write_bytecode = True
+import cost_lines
+
 TOP = os.path.dirname(os.path.dirname(os.path.abspath(__file__)))
-OUT = os.environ.get("COSTS_OUT", f"{TOP}/out")
-HERE = os.path.join(os.path.dirname(os.path.abspath(__file__)), "costs")
-ROWS = f"{TOP}/tests/costs.txt"
+HERE = os.path.join(TOP, "scripts", "costs")
+ROWS = os.path.join(TOP, "tests", "costs.txt")
+ARCH = "x86_64"
+TEXTS = os.path.join(TOP, "dist", ARCH)
 CC = os.environ.get("CC", "cc").split()
-WRAPPED = ["malloc", "realloc", "memcpy", "memmove", "memset", "memcmp", "bcmp"]
-ABOVE, BELOW = 1.02, 0.98
 PROGRAMS = ["linkwire", "linkshow", "linkstate", "linkdiff"]
-CALLS = ["check", "canonical", "canonical_len", "state", "same_message", "next", "fault_at", "fault_path"]
+LIBRARY = "link_c"
+CALLS = ["check", "canonical_len", "canonical", "state", "same_message", "unlike_message", "same_state", "unlike_state",
+         "next", "put", "fault_at", "fault_path"]
+OF_CALLS = ["dumps", "requests", "functions-300", "damaged", "names-of-three"]
+# what count.c counts, and what else the texts may call: where they call more, a cost may stand there that is not seen
+WRAPPED = {"malloc", "realloc", "memcpy", "memmove", "memset", "memcmp", "bcmp"}
+CALLED = WRAPPED | {"read", "write", "open", "close", "__sysv_signal"}
+UNITS = ["instructions", "requests for memory", "bytes copied, cleared or compared"]
+# a number is stored with two digits behind the point
+MOST, LEAST, ROUNDED = 1.02, 0.98, 0.005
+TITLE = """\
+# What a line may take at most, on x86-64. scripts/costs.py compares, and `scripts/costs.py --make` prints the rows as
+# they are. The columns: a program, or a call of the library; a workload of scripts/cost_lines.py; and, of one line,
+# instructions, requests for memory, and bytes that are copied, cleared or compared.
+"""
 
 
-def frame(kind, payload):
-    return struct.pack("<HH", 4 + len(payload), kind) + payload + bytes(-len(payload) % 4)
+def stop(why):
+    sys.exit(f"costs: {why}")
 
 
-HEAD = struct.pack("<BBHIII", 0, 0, 1, 1, 0, 0).hex()
+# ** building
+
+def text_of(texts, name):
+    with open(f"{texts}/{name}.s", encoding="utf-8") as it:
+        return it.read()
 
 
-def names(text, count):
-    """A message with a list of so many alternative names."""
-    return HEAD + frame(52, frame(53, text) * count).hex()
+def functions(text):
+    """The names of the functions in a text."""
+    return set(re.findall(r"^\t\.type\t([\w.$]+),@function$", text, re.M))
 
 
-def damaged(digits, number):
-    """A message with one byte changed, or cut off, or one byte of a length."""
-    at = 2 * (16 + number * 53 % (len(digits) // 2 - 16))
-    return [digits[:at] + "ff" + digits[at + 2:], digits[:at // 2 * 2], digits[:at - 2 * (at // 2 % 4)] + "ffff" +
-            digits[at - 2 * (at // 2 % 4) + 4:]][number % 3]
+def uncounted(text):
+    """What a text calls of others that nothing counts."""
+    called = set(re.findall(r"\b([A-Za-z_]\w*)@(?:PLT|GOTPCREL)", text)) - functions(text)
+    return sorted(it for it in called - CALLED if not it.startswith("rattle_"))
 
 
-def workloads():
-    """The lines of each workload."""
-    with open(f"{TOP}/bench/messages.txt", encoding="ascii") as it:
-        rows = [line.split() for line in it]
-    of = {name: [digits for kind, digits in rows if kind == name] for name in ("dump", "first", "again", "event",
-                                                                               "request")}
-    bad = [damaged(digits, number) for number, digits in enumerate(of["dump"])]
-    quote, three, eight = b'"', b"\1" * 3, b"\1" * 8
-    return {
-        "dumps": of["dump"],
-        "repeats": of["first"] + of["again"],
-        "events": of["event"],
-        "hosts": [f"host=h{at} {digits}" for name in ("first", "again") for at in (1, 2, 3)
-                  for digits in of[name]],
-        "requests": of["request"],
-        "damaged": bad,
-        "names-3": [names(three, 7500)],
-        "names-quote": [names(quote, 7500)],
-        "names-8": [names(eight, 5000)],
-        "words-3": ["\1\1\1=\1\1\1 " * 7000 + HEAD],
-        "words-quote": ['"=" ' * 7000 + HEAD],
-        "words-utf8": ["\u00e9" * 10000 + '"=\udcff ' + HEAD],
-        "late-quote": [HEAD + frame(20, b"x" * 7999 + b'"').hex()],
-        "no-digit": ["g" + "0" * 31] * 100,
-    }
+def build(words, folder):
+    subprocess.run([*CC, *words], check=True, cwd=folder)
 
 
-HOSTILE = {"names-3", "names-quote", "names-8", "words-3", "words-quote", "words-utf8", "late-quote", "no-digit"}
+def link(texts, folder, names):
+    """Builds these programs, and `calls` of the library, with what counts, and returns the functions of each text.
+
+    The C library is linked as it is by default, that is dynamically: the requests of a static one would count too.
+    """
+    own, wrap = {}, [f"-Wl,--wrap={name}" for name in sorted(WRAPPED)]
+    # without -fno-builtin a compiler may make calls of memcpy here, or leave some out
+    for source in (f"{HERE}/count.c", f"{HERE}/calls.c", f"{TOP}/dist/heap.c", f"{TOP}/dist/errno.c"):
+        build(["-O2", "-fno-builtin", f"-I{TOP}/include", "-c", source], folder)
+    for name in names:
+        text = text_of(texts, name)
+        if uncounted(text):
+            stop(f"{name}.s calls what nothing counts: {', '.join(uncounted(text))}")
+        own[name] = functions(text)
+        more = ["calls.o", "-o", "calls"] if name == LIBRARY else ["errno.o", "-Wl,--wrap=main", "-o", name]
+        build([*wrap, f"{texts}/{name}.s", "heap.o", "count.o", *more], folder)
+    return own
 
 
-def wanted():
-    for name in workloads():
-        for program in PROGRAMS:
-            yield program, name
-    for call in CALLS:
-        for name in ("dumps", "damaged"):
-            yield f"linkwire_{call}", name
+# ** counting
 
-
-def link(folder):
-    """Builds the programs and the calls once more, with what counts."""
-    wrap = [f"-Wl,--wrap={name}" for name in WRAPPED]
-    subprocess.run([*CC, "-O2", "-fno-builtin", "-c", "-o", f"{folder}/count.o", f"{HERE}/count.c"], check=True)
-    # a function that nothing calls has no __real_ name to find
-    for name in PROGRAMS:
-        subprocess.run([*CC, *wrap, "-Wl,--wrap=main", "-o", f"{folder}/{name}", f"{OUT}/dist/{name}.o",
-                        f"{OUT}/dist/errno.o", f"{OUT}/dist/heap.o", f"{folder}/count.o"], check=True)
-    subprocess.run([*CC, "-O2", *wrap, f"-I{TOP}/include", "-o", f"{folder}/calls", f"{HERE}/calls.c",
-                    f"{folder}/count.o", f"{OUT}/liblinkwire.a"], check=True)
-
-
-def functions(path):
-    """The functions of a text of dist/."""
-    said = subprocess.run(["nm", path], check=True, capture_output=True, text=True).stdout
-    return {line.split()[-1] for line in said.splitlines() if " t " in line or " T " in line}
-
-
-FN = re.compile(r"fn=\((\d+)\)(?: (.*))?")
-CFN = re.compile(r"cfn=\((\d+)\)(?: (.*))?")
+COST = re.compile(r"[+\-*\d]\S* (\d+)")
+NAME = re.compile(r"c?fn=\((\d+)\)(?: (.*))?")
 
 
 def instructions(path, own):
-    """Those of these functions in callgrind's file."""
-    names_of, total, ours, called = {}, 0, False, False
+    """How many of callgrind's file are in these functions themselves."""
+    names, total, is_own, is_call = {}, 0, False, False
     with open(path, encoding="utf-8") as it:
         for line in it:
-            if line.startswith("fn="):
-                number, name = FN.match(line).groups()
-                if name:
-                    names_of[number] = name
-                ours = re.sub(r"'\d+$", "", names_of[number]) in own
-            elif line.startswith("cfn="):
-                number, name = CFN.match(line).groups()
-                if name:
-                    names_of[number] = name
-            elif line.startswith("calls="):
-                called = True
-            elif line[0] in "+-*0123456789":
-                if ours and not called:
-                    total += int(line.split()[1])
-                called = False
+            name, cost = NAME.match(line), COST.match(line)
+            if name:
+                # a name is written out once; '2 is a function that called itself
+                names.setdefault(name[1], re.sub(r"'\d+$", "", name[2] or ""))
+                is_own = names[name[1]] in own if line.startswith("fn=") else is_own
+            elif cost and not is_call and is_own:
+                total += int(cost[1])
+            # the line behind `calls=` has what the called function took
+            is_call = line.startswith("calls=")
     return total
 
 
-def count(folder, what, name, own):
-    """The three counts of a run, for each line."""
-    lines = sum(1 for _ in open(f"{folder}/{name}", "rb"))
-    # by a name that is as long in any folder: the programs copy it
-    command = ["./calls", what.removeprefix("linkwire_")] if what not in PROGRAMS else [f"./{what}"]
-    stem = f"{folder}/{what}.{name}"
-    with open(f"{folder}/{name}", "rb") as given:
-        extra = os.environ.get("COSTS_VALGRIND", "").split()
-        ran = subprocess.run(["valgrind", "--tool=callgrind", f"--callgrind-out-file={stem}.out", *extra, *command],
-                             stdin=given, capture_output=True, check=False, cwd=folder, env={**os.environ, "COSTS": f"{stem}.txt"})
-    if not os.path.exists(f"{stem}.txt"):
-        sys.exit(f"costs: {what} {name}: {ran.stderr.decode()}")
-    with open(f"{stem}.txt", encoding="ascii") as it:
+def text_for(what):
+    """The text that a program or a call stands in."""
+    return what if what in PROGRAMS else LIBRARY
+
+
+def count(folder, what, workload, own):
+    """What a run takes, for each line. These are the functions of its text.
+
+    The program is run by a name that is as long in each folder: it copies that name.
+    """
+    of = f"{folder}/{what}.{workload}"
+    command = [f"./{what}"] if what in PROGRAMS else ["./calls", what.removeprefix("linkwire_")]
+    valgrind = ["valgrind", "--tool=callgrind", f"--callgrind-out-file={of}.out", "--error-exitcode=99"]
+    with open(f"{folder}/{workload}.lines", "rb") as lines:
+        ran = subprocess.run([*valgrind, *command], stdin=lines, stdout=subprocess.DEVNULL, stderr=subprocess.PIPE,
+                             check=False, cwd=folder, env={**os.environ, "COSTS": f"{of}.txt"})
+        lines.seek(0)
+        number = lines.read().count(b"\n")
+    if ran.returncode:
+        stop(f"{what} {workload}: status {ran.returncode}: {ran.stderr.decode()}")
+    with open(f"{of}.txt", encoding="ascii") as it:
         requests, moved = map(int, it.read().split())
-    return [round(one / lines, 2) for one in (instructions(f"{stem}.out", own), requests, moved)]
+    taken = instructions(f"{of}.out", own)
+    return [round(it / number, 2) for it in (taken, requests, moved)]
 
 
-def counted():
+def all_rows(workloads):
+    """What is counted, each with its workload."""
+    rows = [(program, workload) for workload in workloads for program in PROGRAMS]
+    return rows + [(f"linkwire_{call}", workload) for workload in OF_CALLS for call in CALLS]
+
+
+def counted(texts, workloads, rows):
+    """The numbers of these rows, several side by side."""
+    jobs = int(os.environ.get("JOBS", len(os.sched_getaffinity(0))))
     with tempfile.TemporaryDirectory() as folder:
-        link(folder)
-        for name, lines in workloads().items():
-            with open(f"{folder}/{name}", "wb") as it:
-                it.writelines(line.encode("utf-8", "surrogateescape") + b"\n" for line in lines)
-        owns = {name: functions(f"{OUT}/dist/{name}.o") for name in [*PROGRAMS, "link_c"]}
-        with concurrent.futures.ThreadPoolExecutor(int(os.environ.get("JOBS", os.cpu_count()))) as pool:
-            runs = {row: pool.submit(count, folder, *row, owns.get(row[0], owns["link_c"])) for row in wanted()}
+        own = link(texts, folder, {text_for(what) for what, _ in rows})
+        for workload, lines in workloads.items():
+            with open(f"{folder}/{workload}.lines", "wb") as it:
+                it.write(lines)
+        with concurrent.futures.ThreadPoolExecutor(jobs) as pool:
+            runs = {row: pool.submit(count, folder, *row, own[text_for(row[0])]) for row in rows}
             return {row: run.result() for row, run in runs.items()}
 
 
-def main():
+# ** comparing
+
+def stored(path):
+    """The rows of a file."""
+    with open(path, encoding="ascii") as it:
+        words = [line.split() for line in it if not line.startswith("#")]
+    return {(what, workload): [float(number) for number in numbers] for what, workload, *numbers in words}
+
+
+def remarks(at_most, now):
+    """What is to be said of rows that were counted, by those that are stored."""
+    for row in sorted(at_most.keys() ^ now.keys()):
+        yield f"{'/'.join(row)}: {'is not counted' if row in at_most else 'has no row'}"
+    for row in sorted(at_most.keys() & now.keys()):
+        for unit, most, number in zip(UNITS, at_most[row], now[row]):
+            if number > most * MOST + ROUNDED:
+                yield f"{'/'.join(row)}: {number} {unit} a line, and at most {most} are allowed"
+            elif number < most * LEAST - ROUNDED:
+                yield f"{'/'.join(row)}: {number} {unit} a line: lower the row, which has {most}"
+
+
+def why_skipped():
+    """Why nothing can be counted here, if so."""
     if not shutil.which("valgrind"):
-        print("costs: skipped: no valgrind")
+        return "valgrind is not installed"
+    machine = subprocess.run([*CC, "-dumpmachine"], check=True, capture_output=True, text=True).stdout.strip()
+    if machine.partition("-")[0] not in (ARCH, "amd64"):
+        return f"the rows are for x86-64, and {CC[0]} compiles for {machine}"
+    return None
+
+
+def unfit():
+    """The texts of dist/ that are not those of the sources."""
+    words = ["bash", f"{TOP}/scripts/sums.sh", "unfit", ARCH, *PROGRAMS, LIBRARY]
+    return subprocess.run(words, check=True, capture_output=True, text=True).stdout.split()
+
+
+def arguments():
+    parser = argparse.ArgumentParser(usage="costs.py [--make] [--texts FOLDER] [--rows FILE] [WHAT/WORKLOAD ..]")
+    parser.add_argument("--make", action="store_true")
+    parser.add_argument("--texts")
+    parser.add_argument("--rows", default=ROWS)
+    parser.add_argument("wanted", nargs="*")
+    return parser.parse_args()
+
+
+def main():
+    asked = arguments()
+    skipped = why_skipped()
+    if skipped:
+        print(f"costs: skipped: {skipped}")
         return
-    rows = counted()
-    if sys.argv[1:] == ["--make"]:
-        print("# what, workload; at most so many instructions, requests for memory and bytes moved a line")
-        for (what, name), numbers in rows.items():
-            print(what, name, *numbers)
+    if asked.texts is None and unfit():
+        stop(f"dist/ has other texts than those of the sources ({' '.join(unfit())}): make dist makes them anew")
+    workloads = cost_lines.workloads()
+    wanted = {tuple(row.split("/")) for row in asked.wanted}
+    rows = [row for row in all_rows(workloads) if not wanted or row in wanted]
+    if wanted - set(rows):
+        stop(f"no such row: {', '.join(map('/'.join, sorted(wanted - set(rows))))}")
+    now = counted(os.path.abspath(asked.texts or TEXTS), workloads, rows)
+    if asked.make:
+        print(TITLE, end="")
+        for row, numbers in now.items():
+            print(*row, *numbers)
         return
-    with open(ROWS, encoding="ascii") as it:
-        stored = {tuple(line.split()[:2]): [float(one) for one in line.split()[2:]] for line in it if line[0] != "#"}
-    wrong = []
-    if stored.keys() != rows.keys():
-        wrong.append(f"tests/costs.txt lacks or has too many: {sorted(stored.keys() ^ rows.keys())}")
-    for row in stored.keys() & rows.keys():
-        for unit, at_most, now in zip(("instructions", "requests", "bytes"), stored[row], rows[row]):
-            if now > at_most * ABOVE + 0.01:
-                wrong.append(f"{' '.join(row)}: {now} {unit} a line, of at most {at_most}")
-            elif now < at_most * BELOW - 0.01:
-                wrong.append(f"{' '.join(row)}: {now} {unit} a line: lower the row from {at_most}")
-    print("\n".join(f"costs: {one}" for one in sorted(wrong)) or f"costs: {len(rows)} rows hold")
-    sys.exit(bool(wrong))
+    at_most = {row: numbers for row, numbers in stored(asked.rows).items() if not wanted or row in wanted}
+    found = list(remarks(at_most, now))
+    if found:
+        stop("\ncosts: ".join(found))
+    print(f"costs: {len(now)} rows hold")
 
 
 if __name__ == "__main__":

@@ -1,51 +1,139 @@
-/* Calls one function of linkwire.h once for each line of hexadecimal on the standard input: calls NAME. */
+/* Calls one function of linkwire.h for each message of the standard input, a line of lower-case hexadecimal digits:
+ * calls NAME. What compares two messages compares each with itself, and in a call `unlike_..` with the one before.
+ * Nothing here copies or clears bytes, since those would be counted too. */
 #include <stdio.h>
-#include <stdlib.h>
 #include <string.h>
 
 #include "linkwire.h"
 
-static uint8_t out[1 << 22];
+enum { MOST = 1 << 20 };
 
-static void call(const char *name, const uint8_t *message, size_t len) {
+struct message {
+    uint8_t *bytes;
+    size_t len;
+};
+
+static uint8_t out[MOST];
+
+static void check(struct message it, struct message before) {
+    (void)before;
+    linkwire_check(it.bytes, it.len);
+}
+
+static void canonical_len(struct message it, struct message before) {
+    (void)before;
+    linkwire_canonical_len(it.bytes, it.len);
+}
+
+static void canonical(struct message it, struct message before) {
+    (void)before;
+    linkwire_canonical(it.bytes, it.len, out, sizeof out);
+}
+
+static void state(struct message it, struct message before) {
+    (void)before;
+    linkwire_state(it.bytes, it.len, out, sizeof out);
+}
+
+static void same_message(struct message it, struct message before) {
+    (void)before;
+    linkwire_same_message(it.bytes, it.len, it.bytes, it.len);
+}
+
+static void unlike_message(struct message it, struct message before) {
+    linkwire_same_message(before.bytes, before.len, it.bytes, it.len);
+}
+
+static void same_state(struct message it, struct message before) {
+    (void)before;
+    linkwire_same_state(it.bytes, it.len, it.bytes, it.len);
+}
+
+static void unlike_state(struct message it, struct message before) {
+    linkwire_same_state(before.bytes, before.len, it.bytes, it.len);
+}
+
+/* All attributes, one after the other. */
+static void next(struct message it, struct message before) {
+    (void)before;
     struct linkwire_attribute attribute;
-    struct linkwire_path path;
     size_t at = 0;
-    if (strcmp(name, "check") == 0) {
-        linkwire_check(message, len);
-    } else if (strcmp(name, "canonical") == 0) {
-        linkwire_canonical(message, len, out, sizeof out);
-    } else if (strcmp(name, "canonical_len") == 0) {
-        linkwire_canonical_len(message, len);
-    } else if (strcmp(name, "state") == 0) {
-        linkwire_state(message, len, out, sizeof out);
-    } else if (strcmp(name, "same_message") == 0) {
-        linkwire_same_message(message, len, message, len);
-    } else if (strcmp(name, "next") == 0) {
-        while (len > 16 && linkwire_next(message + 16, len - 16, &at, &attribute) == 1) {
-        }
-    } else if (strcmp(name, "fault_at") == 0) {
-        linkwire_fault_at(message, len, &at);
-    } else if (strcmp(name, "fault_path") == 0) {
-        linkwire_fault_path(message, len, &path);
-    } else {
-        exit(2);
+    while (linkwire_next(it.bytes + LINKWIRE_HEADER_SIZE, it.len - LINKWIRE_HEADER_SIZE, &at, &attribute) == 1) {
     }
 }
 
-static int digit(int c) {
-    return c <= '9' ? c - '0' : c - 'a' + 10;
+/* All attributes, which are found by their lengths alone, so that no other call is counted. */
+static void put(struct message it, struct message before) {
+    (void)before;
+    size_t to = LINKWIRE_HEADER_SIZE;
+    for (size_t at = LINKWIRE_HEADER_SIZE; at < it.len && it.len - at >= 4;) {
+        const uint8_t *frame = it.bytes + at;
+        size_t size = linkwire_le(frame, 2);
+        if (size < 4 || size > it.len - at) {
+            break;
+        }
+        linkwire_put(out, sizeof out, &to, (uint16_t)linkwire_le(frame + 2, 2), frame + 4, size - 4);
+        at += (size + 3) / 4 * 4;
+    }
+}
+
+static void fault_at(struct message it, struct message before) {
+    (void)before;
+    size_t at;
+    linkwire_fault_at(it.bytes, it.len, &at);
+}
+
+static void fault_path(struct message it, struct message before) {
+    (void)before;
+    struct linkwire_path path;
+    linkwire_fault_path(it.bytes, it.len, &path);
+}
+
+static const struct {
+    const char *name;
+    void (*call)(struct message it, struct message before);
+} calls[] = {
+    {"check", check},
+    {"canonical_len", canonical_len},
+    {"canonical", canonical},
+    {"state", state},
+    {"same_message", same_message},
+    {"unlike_message", unlike_message},
+    {"same_state", same_state},
+    {"unlike_state", unlike_state},
+    {"next", next},
+    {"put", put},
+    {"fault_at", fault_at},
+    {"fault_path", fault_path},
+};
+
+static unsigned digit(char c) {
+    return (unsigned)(c <= '9' ? c - '0' : c - 'a' + 10);
+}
+
+/* The message of a line, in this room. */
+static struct message message_of(const char *line, uint8_t *room) {
+    size_t len = 0;
+    for (; line[2 * len] > ' ' && line[2 * len + 1] > ' '; len++) {
+        room[len] = (uint8_t)(digit(line[2 * len]) << 4 | digit(line[2 * len + 1]));
+    }
+    return (struct message){room, len};
 }
 
 int main(int count, char **words) {
-    static char line[1 << 22];
-    static uint8_t message[1 << 21];
-    while (count == 2 && fgets(line, sizeof line, stdin) != NULL) {
-        size_t len = strcspn(line, "\n") / 2;
-        for (size_t i = 0; i < len; i++) {
-            message[i] = digit(line[2 * i]) << 4 | digit(line[2 * i + 1]);
+    static char line[2 * MOST + 2];
+    static uint8_t rooms[2][MOST];
+    for (size_t i = 0; count == 2 && i < sizeof calls / sizeof *calls; i++) {
+        if (strcmp(calls[i].name, words[1]) == 0) {
+            struct message before = {rooms[1], 0};
+            for (int turn = 0; fgets(line, sizeof line, stdin) != NULL; turn = !turn) {
+                struct message it = message_of(line, rooms[turn]);
+                calls[i].call(it, before);
+                before = it;
+            }
+            return 0;
         }
-        call(words[1], message, len);
     }
-    return count != 2;
+    fputs("usage: calls NAME <LINES\n", stderr);
+    return 2;
 }
