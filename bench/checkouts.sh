@@ -1,8 +1,8 @@
 #!/usr/bin/env bash
 # Makes and builds the two checkouts that bench/run times: checkouts.sh COMMIT FOLDER makes FOLDER-old of that commit,
 # with bench/, crates/link_bench and its line of crates.txt laid over it, and FOLDER-new of the commit that is checked
-# out here. Run again, it brings both up to date. In each the program is built by `rt run`, which proves it and all
-# below it first; what is kept of an earlier run is not proved again.
+# out here. Run again, it brings both up to date. In each link_bench is built by `rt run`, which proves it and all
+# below it first; what is kept of an earlier run is not proved again. The other programs are built of dist/.
 set -euo pipefail
 if [ "$#" != 2 ]; then
     echo 'usage: bench/checkouts.sh COMMIT FOLDER' >&2
@@ -29,6 +29,7 @@ lays_over() {
 # builds FOLDER: lowest crate first
 builds() {
     mkdir -p "$1/out"
+    make -s -C "$1" build
     (cd "$1" && scripts/progress.sh link_bench out/log rt run -- wire 1 1)
 }
 
