@@ -194,7 +194,7 @@ refuses() {
         case $call in
         parse | clone_in | parse_before_fault) ((count >= places)) ;;
         reads_back) ((count > places)) ;;
-        same_message) ((count >= 2 * places)) ;;
+        same_message) ((count == (${#4} > 480 ? 2 : 0))) ;; # short encodings are compared without memory
         to_vec | canonical) ((count == 1)) ;;
         *) ((count > 0)) ;;
         esac || fails "$1: of $call $count allocations are refused, of $places places: $(answers "$allocation")"
@@ -206,10 +206,13 @@ refuses() {
 }
 
 total=0
-messages=1
+messages=2
 while read -r name && read -r family attribute text && read -r means; do
     refuses "$name" "$family" "$attribute" "$text" "$means"
     messages=$((messages + 1))
 done < <(rows)
 refuses 'several attributes' 00 "$several" "$several_written" "$several_means"
+letters=$(printf 'a%.0s' {1..250})
+digits=$(printf '61%.0s' {1..250})
+refuses 'a long alias' 00 "fe001400${digits}0000" "ff001400${digits}0000" "IfAlias(\"$letters\")"
 echo "refused_parse: $total allocations on $messages messages refused in turn: ok"

@@ -1,6 +1,6 @@
 -- What follows for a caller from the result of the reader of messages.
-use Rattle.std.proofs.Common.{◌≡◌, ◌≢◌, ℕ, ◌+◌, List, length, refl, sym, ap, ◌∙◌, subst, arith, lit<, length-append, inl}
-use Rattle.std.proofs.Common.{inr, Result, Ok, Err}
+use Rattle.std.proofs.Common.{◌≡◌, ◌≢◌, ℕ, ◌+◌, List, length, refl, sym, ap, ◌∙◌, subst, arith, lit<, length-append}
+use Rattle.std.proofs.Common.{inl, inr, Result, Ok, Err}
 use Rattle.std.specs.Prelude.{IfOk, IsTrue, Bool, ◌↔◌}
 use Rattle.nla_wire.specs.Sizes.{growth, attribute_small}
 use Rattle.nla_wire.specs.Frames.{IsBytes}

@@ -161,7 +161,7 @@ begun_length v prefix_bytes text n enough is =
     )
 
 module _ (b : List ℕ) (v : LinkHeader) (d : List ℕ) (n : ℕ) (h : IsMeasured b v d n) where
-  pub measured_message : LinkMessage
+  unfoldable pub measured_message : LinkMessage
   measured_message = record { header = v; attributes = h.attributes }
 
   pub measured_accepted : IsAccepted b measured_message
@@ -201,15 +201,21 @@ module _ (b : List ℕ) (v : LinkHeader) (d : List ℕ) (n : ℕ) (h : IsMeasure
             (measured_room n (omega arith)),
       )) is
 
-  -- memory of exactly the text's length
+  -- a buffer of exactly the text's length
+  pub exact_text : (old new : List ℕ) (k : ℕ) → length old ≡ header_size + n
+      → Rewrites (λ vs. header_bytes v ++ canons attribute_frame vs)
+      ((list (attribute_place v.interface_family)).reads d) old new k → new ≡ message_text measured_message
+  exact_text old new k exact w =
+      let one = measured_writes old new k w in
+      let rest : drop k old ≡ [] = drop_all k old (omega (arith, exact, one.length_is, measured_length)) in
+      one.new_is
+      ∙ ap (λ (t : List ℕ). message_text measured_message ++ t) rest ∙ append-nil (message_text measured_message)
+
   pub measured_text : (old new : List ℕ) (k : ℕ) → IsBytes b → length old ≡ header_size + n
       → Rewrites (λ vs. header_bytes v ++ canons attribute_frame vs)
       ((list (attribute_place v.interface_family)).reads d) old new k → HasText b new
   measured_text old new k bytes exact w =
-      let one = measured_writes old new k w in
-      let rest : drop k old ≡ [] = drop_all k old (omega (arith, exact, one.length_is, measured_length)) in
-      accepted_text b new measured_message bytes measured_accepted (one.new_is
-      ∙ ap (λ (t : List ℕ). message_text measured_message ++ t) rest ∙ append-nil (message_text measured_message))
+      accepted_text b new measured_message bytes measured_accepted (exact_text old new k exact w)
 
 -- the header, and after it the prefix, which is copied
 pub begun : (v : LinkHeader) (d : List ℕ) (prefix count : ℕ) (old emitted part : List ℕ) → prefix ≤ length d

@@ -210,6 +210,22 @@ pub fn canonical(alloc: Global, input: &[u8]) -> Result<Vec<u8>, CanonError>
     Ok(encoding)
 }
 
+/// The most bytes of a canonical encoding that is compared with no memory of its own.
+const SHORT: usize = 256;
+
+/// The canonical encoding of a message that was measured, in front of zeros.
+fn short_encoding(header: &LinkHeader, rest: &[u8], len: usize, prefix: usize) -> [u8; SHORT]
+    requires begins { IsPrefix header.now.interface_family rest.now prefix }
+    requires measured { (input : List ℕ) × IsMeasured input header.now rest.now len }
+    requires short { header_size + len ≤ 256 }
+    ensures { (input : List ℕ) → IsBytes input → IsMeasured input header.now rest.now len
+        → HasText input (take (header_size + len) result) }
+{
+    let mut encoding = [0; SHORT];
+    let _len = write_message(header, rest, prefix, &mut encoding[..HEADER_SIZE + len]);
+    encoding
+}
+
 /// Whether two canonical encodings are equal; for the proof: a call of its own, whose clause gives `same_message` its
 /// answer whole.
 fn same_encoding(one: &[u8], other: &[u8]) -> bool
@@ -219,10 +235,27 @@ fn same_encoding(one: &[u8], other: &[u8]) -> bool
     one == other
 }
 
+/// Whether two messages are equal whose attributes are canonical as they are spelled.
+fn same_spelling(
+    header: &LinkHeader,
+    rest: &[u8],
+    other_header: &LinkHeader,
+    other_rest: &[u8],
+) -> bool
+    ensures { (a : List ℕ) → (b : List ℕ) → (n : ℕ) → (k : ℕ) → IsBytes a → IsBytes b
+        → IsMeasured a header.now rest.now n → IsMeasured b other_header.now other_rest.now k
+        → IsPrefix header.now.interface_family rest.now (length rest.now)
+        → IsPrefix other_header.now.interface_family other_rest.now (length other_rest.now)
+        → AreSame a b result }
+{
+    *header == *other_header && rest == other_rest
+}
+
 /// Whether two byte strings mean the same message, which is so exactly where their canonical encodings are equal.
 ///
 /// Both have to mean messages that fit and hold no empty list of ports. Refuses as `canonical` does, each refusal of
-/// the first before those of the second.
+/// the first before those of the second. Memory is taken for the two encodings where they have one length, more than
+/// 256 bytes, and one of the messages is not canonical as it is spelled.
 #[tactic(auto, using(nla_wire::proofs::Front::all_bytes))]
 pub fn same_message(alloc: Global, first: &[u8], second: &[u8]) -> Result<bool, CanonError>
     ensures ok { IfOk result (AreSame first.now second.now) }
@@ -232,6 +265,14 @@ pub fn same_message(alloc: Global, first: &[u8], second: &[u8]) -> Result<bool, 
     let (other_header, other_rest, other_len, other_prefix) = measure(second)?;
     if len != other_len {
         return Ok(false);
+    }
+    if prefix == rest.len() && other_prefix == other_rest.len() {
+        return Ok(same_spelling(&header, rest, &other_header, other_rest));
+    }
+    if HEADER_SIZE + len <= SHORT {
+        let one = short_encoding(&header, rest, len, prefix);
+        let other = short_encoding(&other_header, other_rest, other_len, other_prefix);
+        return Ok(same_encoding(&one[..HEADER_SIZE + len], &other[..HEADER_SIZE + other_len]));
     }
     let one = encoded(alloc, &header, rest, len, prefix)?;
     let other = encoded(alloc, &other_header, other_rest, other_len, other_prefix)?;

@@ -32,6 +32,21 @@ fn padding_means_nothing(rt: HostRuntime) {
     are_same(&rt, alloc, "no padding", &NAME_TEXT, &NAME_TEXT[..23], true);
 }
 
+/// Encodings of more than 256 bytes are compared in memory: an alias of 250 letters, with a NUL and without.
+#[test]
+fn long_messages_are_compared(rt: HostRuntime) {
+    let alloc = rt.alloc();
+    let mut one = [0x61; 272];
+    one[..16].fill(0);
+    one[16..20].copy_from_slice(&[0xfe, 0x00, 0x14, 0x00]);
+    let mut other = one;
+    other[16] = 0xff;
+    other[270] = 0x00;
+    are_same(&rt, alloc, "a NUL", &one, &other, true);
+    other[20] = 0x62;
+    are_same(&rt, alloc, "another letter", &one, &other, false);
+}
+
 #[test]
 fn other_messages_differ(rt: HostRuntime) {
     for (label, one, other) in [
