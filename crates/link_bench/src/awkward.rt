@@ -235,19 +235,23 @@ impl Awkward {
         (line % 16_777_216) as u32
     }
 
-    /// What stands in front of the digits at the step of the round: now and then a letter that is none.
+    /// What stands in front of the digits at the step of the round: now and then letters that are none, one or two, so
+    /// that the line has an odd length or an even one.
     fn front(&self) -> &'static [u8] {
         match self.step {
             48..52 => b"x",
+            52..56 => b"xx",
             _ => b"",
         }
     }
 
-    /// What stands behind the digits at the step of the round: now and then a CR, or a digit too many.
+    /// What stands behind the digits at the step of the round: now and then a CR, a digit too many, or a letter that
+    /// is none and a digit.
     fn behind(&self) -> &'static [u8] {
         match self.step {
             40..44 => b"\r\n",
             44..48 => b"0\n",
+            56..60 => b"0x\n",
             _ => b"\n",
         }
     }

@@ -7,7 +7,7 @@ use crate::digest::{Digest, Sink};
 use crate::encodings::{Canonical, State};
 use crate::feed::{Feed, Source};
 use crate::lines::{Fleet, InTurn};
-use crate::message::Messages;
+use crate::message::{Messages, counting};
 use line_filter::answers::Answer;
 use line_filter::error::RunError;
 use line_filter::run::run;
@@ -125,7 +125,7 @@ fn call_messages(
     Ok(())
 }
 
-/// Watches a fleet.
+/// Watches a fleet, all of whose messages have counters, so that none comes twice.
 fn watch(
     alloc: Global,
     messages: Messages,
@@ -133,7 +133,11 @@ fn watch(
     chance: Chance,
     digest: &mut Digest,
 ) -> Result<(), RunError> {
-    let mut feed = Feed::new(Fleet::new(messages, rounds, chance), Vec::new(alloc));
+    let Messages { dumps, events, .. } = messages;
+    let dumps = counting(alloc, dumps)?;
+    let events = counting(alloc, events)?;
+    let fleet = Fleet::new(dumps, events, rounds, chance);
+    let mut feed = Feed::new(fleet, Vec::new(alloc));
     let mut sink = Sink { alloc, digest };
     compare_lines(alloc, Compared::State, &mut feed, &mut sink)
 }

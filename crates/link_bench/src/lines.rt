@@ -2,7 +2,7 @@
 
 use crate::chance::Chance;
 use crate::feed::Source;
-use crate::message::{Messages, Stored, Turn};
+use crate::message::{Stored, Turn};
 use std::alloc::AllocError;
 
 /// Messages in turn, each with another index each time.
@@ -74,7 +74,8 @@ const STEADY: usize = 32;
 /// several machines under one name.
 #[derive(Drop)]
 pub struct Fleet {
-    pub messages: Messages,
+    pub dumps: Vec<Stored>,
+    pub events: Vec<Stored>,
     pub rounds: u16,
     pub chance: Chance,
     round: u16,
@@ -92,9 +93,10 @@ struct Next<'a> {
 
 impl Fleet {
     /// So many rounds.
-    pub fn new(messages: Messages, rounds: u16, chance: Chance) -> Fleet {
+    pub fn new(dumps: Vec<Stored>, events: Vec<Stored>, rounds: u16, chance: Chance) -> Fleet {
         Fleet {
-            messages,
+            dumps,
+            events,
             rounds,
             chance,
             round: 0,
@@ -106,14 +108,14 @@ impl Fleet {
     fn next(&self) -> Next<'_> {
         let round = self.round as usize;
         let step = self.step;
-        let dumps = self.messages.dumps.as_slice();
-        let events = self.messages.events.as_slice();
+        let dumps = self.dumps.as_slice();
+        let events = self.events.as_slice();
         if step < HOSTS * DUMPED {
             let link = step % DUMPED;
             let host = step / DUMPED;
             return Next {
                 host,
-                stored: dumps.get(link * 4 + host % 4),
+                stored: dumps.get((link * 4 + host % 4) % dumps.len().max(1)),
                 index: link + 1,
                 mtu: (round + step) / STEADY,
             };

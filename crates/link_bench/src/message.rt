@@ -133,6 +133,16 @@ impl Stored {
         })
     }
 
+    /// Whether the message has counters, which are other ones each time.
+    pub fn counts(&self) -> bool {
+        for place in self.places.as_slice() {
+            if let Turned::Counter = place.turned {
+                return true;
+            }
+        }
+        false
+    }
+
     /// Adds the digits of the message, turned.
     pub fn push_digits(
         &self,
@@ -165,6 +175,17 @@ impl Stored {
         }
         Ok(())
     }
+}
+
+/// Those of the messages that have counters.
+pub fn counting(alloc: Global, messages: Vec<Stored>) -> Result<Vec<Stored>, AllocError> {
+    let mut found = Vec::new(alloc);
+    for message in messages {
+        if message.counts() {
+            found.push(message)?;
+        }
+    }
+    Ok(found)
 }
 
 /// Messages by the word in front of them.
