@@ -78,12 +78,16 @@ wants "an allocation that fails" 1 "$nothex" "$name: out of memory"
 status=0; printf '0\n\n0' | "$program" >"$folder/out" 2>"$folder/err" || status=$?
 wants "a whole run" 0 "$(printf '%s\n' "$nothex" "$refused" "$nothex")" ""
 
+for word in --help --version; do
+    status=0; "$program" "$word" </dev/null >"$folder/out" 2>"$folder/err" || status=$?
+    [ -s "$folder/out" ] || { echo "$name: $word says nothing" >&2; exit 1; }
+    wants "$word" 0 "$(cat "$folder/out")" ""
+done
+help=$("$program" --help)
+status=0; "$program" -h </dev/null >"$folder/out" 2>"$folder/err" || status=$?
+wants -h 0 "$help" ""
+
 if [ "$name" != linkwire ]; then
-    for word in --help --version; do
-        status=0; "$program" "$word" </dev/null >"$folder/out" 2>"$folder/err" || status=$?
-        [ -s "$folder/out" ] || { echo "$name: $word says nothing" >&2; exit 1; }
-        wants "$word" 0 "$(cat "$folder/out")" ""
-    done
     for word in --helpful -x ''; do
         status=0; "$program" "$word" </dev/null >"$folder/out" 2>"$folder/err" || status=$?
         [ "$(wc -l <"$folder/err")" = 1 ] || { echo "$name: '$word' is not told in one line" >&2; exit 1; }

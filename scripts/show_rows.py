@@ -690,9 +690,19 @@ def front_words():
     short_frame = {"fault": "frame-short", "at": "message", "left": 2, "offset": 16, "ifi-family": 0, "ifi-index": 0,
                    "before": {}}
     worded("host=a ", mtu[:18], {"host": "a", **short_frame})
-    worded("host=a ", b"", {"host": "a", "fault": "too-short", "at": "header", "got": 0, "need": 16, "offset": 0})
-    for line in ("host=a 0x", "host=a", "=a 00", "host 00"):
+    too_short = {"fault": "too-short", "at": "header", "got": 0, "need": 16, "offset": 0}
+    for line in ("host=a ", "host=a"):
+        ROWS.append((line, {"host": "a"}))
+    ROWS.append(("type=done seq=2 port=7 family=0 links=5",
+                 {"type": "done", "seq": "2", "port": "7", "family": "0", "links": "5"}))
+    for line in ("host=a 0x", "host=a b", "host=a ok"):
+        ROWS.append((line, {"host": "a", "fault": "not-hex"}))
+    for line in ("=a 00", "host 00", "ok", "ok  00", "ok ok 00", "OK 00"):
         ROWS.append((line, {"fault": "not-hex"}))
+    worded("ok ", mtu, mtu_said)
+    worded("host=a ok ", mtu, {"host": "a", **mtu_said})
+    worded("ok ", b"", too_short)
+    worded("host=a ok ", b"", {"host": "a", **too_short})
     counters = attr(3, u64(*range(38), 0))
     settings, event = header(0) + attr(26, attr(10, counters)), header(10) + attr(12, counters)
     bare = list(range(38)) + [0]

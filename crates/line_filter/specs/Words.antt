@@ -1,6 +1,6 @@
 -- The words KEY=VALUE in front of a line, and the rest of it.
 use Rattle.std.specs.Prelude.{◌≡◌, ℕ, zero, suc, ◌+◌, ◌==◌, not, ◌||◌, ◌&&◌, nat_lt, List, [], ◌∷◌, ◌++◌, length}
-use Rattle.std.specs.Prelude.{Bool, take, drop, slice_range, Option, None, Some, if◌then◌else◌}
+use Rattle.std.specs.Prelude.{Bool, MatchBool, codes, take, drop, slice_range, Option, None, Some, if◌then◌else◌}
 use Rattle.std.specs.List.{prefix_len}
 use lib.Pointwise.{pointwise}
 use Rattle.line_filter.specs.Lines.{Relation}
@@ -17,10 +17,9 @@ part_len line = prefix_len (λ byte. not (is_blank byte)) line
 abbrev pub key_len : List ℕ → ℕ
 key_len line = prefix_len (λ byte. not (byte == 61)) line
 
--- whether a word stands in front: a part with an `=` that is not its first byte, and a blank after it
+-- whether a word stands in front: a part with an `=` that is not its first byte; a blank or the line's end follows it
 abbrev pub has_word : List ℕ → Bool
-has_word line =
-    nat_lt 0 (key_len line) && nat_lt (key_len line) (part_len line) && nat_lt (part_len line) (length line)
+has_word line = nat_lt 0 (key_len line) && nat_lt (key_len line) (part_len line)
 
 -- how long the first part and the blanks after it are
 abbrev pub step_len : List ℕ → ℕ
@@ -65,6 +64,20 @@ abbrev pub value_in : List ℕ → List (List ℕ × List ℕ) → Option (List 
 value_in key [] = None
 value_in key (word ∷ words) = if pointwise ◌==◌ word.0 key then Some word.1 else value_in key words
 
--- what a line is answered with its words: the words in front as they stand, and then an answer to the rest
+-- whether words stand in a line and nothing follows them
+abbrev pub are_alone : List ℕ → List ℕ → Bool
+are_alone front rest = nat_lt 0 (length front) && length rest == 0
+
+-- the digits of what follows the words: the word `ok` in front of them is passed over
+abbrev pub digits_of : List ℕ → List ℕ
+digits_of rest = if pointwise ◌==◌ (take 3 rest) (codes "ok ") then drop 3 rest else rest
+
+-- an answer to what follows the words: to nothing behind some words it is nothing, for such a line is no message
+abbrev pub IsOwn : Relation → List ℕ → List ℕ → List ℕ → Type 0
+IsOwn is front rest own = MatchBool (are_alone front rest) (own ≡ []) (is (digits_of rest) own)
+
+-- what a line is answered with its words: the words in front as they stand, and then an answer to the rest, if there is
+-- one
 abbrev pub WithWords : Relation → Relation
-WithWords is line answer = (own : List ℕ) × is (rest_of line) own × (answer ≡ front_of line ++ own)
+WithWords is line answer =
+    (own : List ℕ) × IsOwn is (front_of line) (rest_of line) own × (answer ≡ front_of line ++ own)

@@ -4,10 +4,11 @@ ghost use Rattle.line_filter.specs.Words.{WithWords};
 ghost use Rattle.line_filter.specs.OneWorded.{each_worded};
 
 use crate::answers::Answer;
-use crate::words::split;
+use crate::words::{are_alone, digits_of, split};
 use std::alloc::{AllocError, Global};
 
-/// Answers a line by the words in front of it, as they stand, and then as another filter answers the rest.
+/// Answers a line by the words in front of it, as they stand, and then as another filter answers the rest, if there is
+/// one. A line of words alone is its own answer.
 #[derive(Drop)]
 pub struct Worded<A: Answer> {
     rest: A,
@@ -31,7 +32,11 @@ impl<A: Answer> Answer for Worded<A> {
     ) -> Result<(), AllocError> {
         let (front, rest) = split(line);
         waiting.extend_from_slice(front)?;
-        self.rest.push(alloc, rest, waiting)
+        if are_alone(front, rest) {
+            waiting.push(b'\n')?;
+            return Ok(());
+        }
+        self.rest.push(alloc, digits_of(rest), waiting)
     }
 
     ghost has = { each_worded A.is_answer A.has };

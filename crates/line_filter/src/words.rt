@@ -3,8 +3,8 @@
 ghost use Rattle.std.specs.Prelude.{◌≡◌, ◌<◌, ◌≤◌, ◌++◌, false, true, drop, length};
 ghost use Rattle.std.specs.Prelude.{MatchOption, IfSome, Some, None};
 ghost use Rattle.std.specs.List.{prefix_len};
-ghost use Rattle.line_filter.specs.Words.{is_blank, has_word, step_len, first_key, first_value};
-ghost use Rattle.line_filter.specs.Words.{front_len, front_of, rest_of, words_of, value_in};
+ghost use Rattle.line_filter.specs.Words.{is_blank, part_len, has_word, step_len, first_key, first_value};
+ghost use Rattle.line_filter.specs.Words.{are_alone, digits_of, front_len, front_of, rest_of, words_of, value_in};
 
 use memchr::{memchr, memchr2};
 
@@ -28,10 +28,21 @@ fn blanks_len(text: &[u8]) -> usize
         .count()
 }
 
+/// How long the first part of a line is, which a blank or the line's end follows.
+fn part_len(line: &[u8]) -> usize
+    ensures len { result ≡ part_len line.now }
+    ensures within { result ≤ length line.now }
+{
+    match memchr2(b' ', b'\t', line) {
+        Some(end) => end,
+        None => line.len(),
+    }
+}
+
 /// The word that stands first in a line, if one does.
 ///
 /// A word is `key=value`: no blank is in it, the key is not empty and holds no `=`, the value may be empty and may hold
-/// any other byte, and a blank follows it.
+/// any other byte, and a blank or the line's end follows it.
 pub fn first_word(line: &[u8]) -> Option<Word<'_>>
     ensures none { MatchOption result (has_word line.now ≡ false) (λ _. has_word line.now ≡ true) }
     ensures key { IfSome result (λ word. word.key.now ≡ first_key line.now) }
@@ -41,7 +52,7 @@ pub fn first_word(line: &[u8]) -> Option<Word<'_>>
     ensures within { IfSome result (λ word. word.len ≤ length line.now) }
 {
     let equals = memchr(b'=', line)?;
-    let end = memchr2(b' ', b'\t', line)?;
+    let end = part_len(line);
     if equals == 0 || end <= equals {
         return None;
     }
@@ -76,6 +87,24 @@ pub fn split(line: &[u8]) -> (&[u8], &[u8])
     ensures over { has_word result.1.now ≡ false }
 {
     line.split_at(words_len(line))
+}
+
+/// Whether words stand in front and nothing follows them: such a line is no message.
+pub fn are_alone(front: &[u8], rest: &[u8]) -> bool
+    ensures { result ≡ are_alone front.now rest.now }
+{
+    0 < front.len() && rest.len() == 0
+}
+
+/// The digits of what follows the words in front. The word `ok` before them, which an answer of `linkwire` has, is
+/// passed over.
+pub fn digits_of(rest: &[u8]) -> &[u8]
+    ensures { result.now ≡ digits_of rest.now }
+{
+    match rest.strip_prefix(b"ok ") {
+        Some(digits) => digits,
+        None => rest,
+    }
 }
 
 /// The value of a key among the words in front of a line.

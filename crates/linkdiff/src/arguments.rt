@@ -7,7 +7,7 @@ use std::env::Args;
 /// What the arguments ask for.
 #[derive(Drop)]
 pub enum Request {
-    /// `--help`: what the program does.
+    /// `--help` or `-h`: what the program does.
     Help,
     /// `--version`: which one it is.
     Version,
@@ -33,6 +33,7 @@ pub fn requested(alloc: Global, words: Args) -> Result<Request, AllocError> {
         }
         match word.as_str() {
             "--help" if is_first => alone = Some(Request::Help),
+            "-h" if is_first => alone = Some(Request::Help),
             "--version" if is_first => alone = Some(Request::Version),
             "--counters" => by = Compared::Message,
             other if other.starts_with("-") => return Ok(Request::Wrong(word)),

@@ -21,7 +21,7 @@ the new one. OLD and NEW are files, of which the last message of each interface 
 standard input is compared with the last one of its interface. An interface has a family, an index and a word host=.
 
   --counters  compare also what moves by itself, as packet counts
-  --help      print this
+  -h, --help  print this
   --version   print the version
 ";
 

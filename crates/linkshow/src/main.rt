@@ -18,12 +18,13 @@ const HELP: &str = "usage: linkshow [--kernel RELEASE | --help | --version]
 
 Reads lines of hexadecimal digits from standard input, each the bytes of a link message of route netlink, and writes
 for each line one line of JSON: what the message says, or why the bytes are none. Words key=value in front of the
-digits, with a blank after each, are the first members of the answer.
+digits, with blanks between, are the first members of the answer, and the only ones where no digits follow them. A word
+ok right before the digits is passed over.
 
   --kernel RELEASE  the kernel that the messages are of, as 6.12.0-47, or running for the one at hand: it decides the
                     order of the counters of IPv6, which changed between 6.12 and 6.16. Without it, and for releases
                     between the two, the counters are a list of numbers. A word kernel=RELEASE counts for its line.
-  --help            this text
+  -h, --help        this text
   --version         the version
 ";
 

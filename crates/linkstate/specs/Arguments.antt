@@ -1,11 +1,11 @@
 -- What an argument asks for.
-use Rattle.std.specs.Prelude.{ℕ, ◌==◌, if◌then◌else◌, List, codes}
+use Rattle.std.specs.Prelude.{ℕ, ◌==◌, ◌||◌, if◌then◌else◌, List, codes}
 use lib.Pointwise.{pointwise}
 use Rattle.linkstate.specs.declared.arguments.Request.{Request}
 use Rattle.linkstate.specs.declared.arguments.Request.TheVariants.{Help, Version, Unknown}
 
 abbrev pub request_of : List ℕ → Request
 request_of word =
-    if pointwise ◌==◌ word (codes "--help") then Help
+    if pointwise ◌==◌ word (codes "--help") || pointwise ◌==◌ word (codes "-h") then Help
     else if pointwise ◌==◌ word (codes "--version") then Version
     else Unknown

@@ -6,7 +6,7 @@ ghost use Rattle.linkstate.specs.Arguments.{request_of};
 /// What an argument asks for.
 #[derive(Clone, Copy, Debug, PartialEq, Eq)]
 pub enum Request {
-    /// `--help`: what the program does.
+    /// `--help` or `-h`: what the program does.
     Help,
     /// `--version`: which one it is.
     Version,
@@ -18,7 +18,7 @@ pub enum Request {
 pub fn asked_for(word: &str) -> Request
     ensures { result ≡ request_of word.now }
 {
-    if word == "--help" {
+    if word == "--help" || word == "-h" {
         Request::Help
     } else if word == "--version" {
         Request::Version

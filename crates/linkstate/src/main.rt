@@ -18,8 +18,12 @@ const HELP: &str = "usage: linkstate [--help | --version]
 Reads lines of hexadecimal digits from standard input, each the bytes of a link message of route netlink, and writes
 for each line one answer: ok and the state encoding of the message, which is its canonical encoding with all that moves
 by itself at zero; nothex for a line that is no bytes; refused for bytes that are no message; unfit for a message that
-cannot be written; empty-ports for one with an empty list of ports. Words key=value in front of the digits, with a blank
-after each, are written in front of the answer as they stand.
+cannot be written; empty-ports for one with an empty list of ports. Words key=value in front of the digits, with blanks
+between, are written in front of the answer as they stand, and alone where no digits follow them. A word ok right before
+the digits is passed over.
+
+  -h, --help  this text
+  --version   the version
 ";
 
 /// What `--version` writes.

@@ -1,3 +1,4 @@
 pub mod Lines
 pub mod Laws
 pub mod OneText
+pub mod Arguments

@@ -1,16 +1,66 @@
 //! Answers lines of hexadecimal link messages by their canonical encodings.
 #![tactic(auto)]
 
+mod arguments;
 mod encoding;
 mod laws;
 mod run;
 #[cfg(test)]
 mod tests;
 
+use arguments::{Request, asked_for};
 use run::run;
+use std::env;
 use std::process::ExitCode;
 
+/// What `--help` writes.
+const HELP: &str = "usage: linkwire [--help | --version]
+
+Reads lines of hexadecimal digits from standard input, each the bytes of a link message of route netlink, and writes
+for each line one answer: ok and the canonical encoding of the message; nothex for a line that is no bytes; refused for
+bytes that are no message; unfit for a message that cannot be written; empty-ports for one with an empty list of ports.
+No words stand in front of the digits.
+
+  -h, --help  this text
+  --version   the version
+";
+
+/// What `--version` writes.
+const VERSION: &str = "linkwire 0.3.0\n";
+
 fn main(rt: HostRuntime) -> ExitCode {
+    match requested(&rt) {
+        Request::Help => write_text(rt, HELP),
+        Request::Version => write_text(rt, VERSION),
+        Request::Lines => answer_lines(&rt),
+    }
+}
+
+/// What the arguments ask for: more than one of them nothing.
+fn requested(rt: &HostRuntime) -> Request {
+    let Ok(words) = env::args(rt) else {
+        return Request::Lines;
+    };
+    let mut words = words.skip(1);
+    match (words.next(), words.next()) {
+        (Some(word), None) => asked_for(word.as_str()),
+        _ => Request::Lines,
+    }
+}
+
+/// Writes a text.
+fn write_text(rt: HostRuntime, text: &str) -> ExitCode {
+    match print!(rt; "{text}") {
+        Ok(()) => ExitCode::SUCCESS,
+        Err(_) => {
+            let _ = eprintln!(rt; "linkwire: write failed");
+            ExitCode::FAILURE
+        }
+    }
+}
+
+/// Answers the lines of standard input.
+fn answer_lines(rt: &HostRuntime) -> ExitCode {
     let mut reader = rt.stdin();
     let mut writer = rt.stdout();
     match run(rt.alloc(), &mut reader, &mut writer) {

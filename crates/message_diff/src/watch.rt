@@ -10,7 +10,7 @@ use crate::store::{Entry, Store};
 use crate::told::{push_changed, push_gone, push_new};
 use crate::words::words_of;
 use line_filter::error::RunError;
-use line_filter::words::split;
+use line_filter::words::{are_alone, digits_of, split};
 use std::alloc::{AllocError, Global};
 use std::collections::BTreeMap;
 use std::io::{Read, Write};
@@ -146,8 +146,11 @@ impl Watch {
         line: &[u8],
         out: &mut Vec<u8>,
     ) -> Result<(), AllocError> {
-        let (front, digits) = split(line);
-        match self.reader.read(alloc, front, digits, out)? {
+        let (front, rest) = split(line);
+        if are_alone(front, rest) {
+            return Ok(());
+        }
+        match self.reader.read(alloc, front, digits_of(rest), out)? {
             Said::Nothing => Ok(()),
             Said::Went(key, snapshot) => self.end(alloc, front, &key, snapshot, out),
             Said::Is(key, snapshot) => self.put(alloc, front, key, snapshot, out),

@@ -1,8 +1,7 @@
 -- How the answer to a line is added.
-use Rattle.std.proofs.Common.{◌≡◌, ℕ, List, [], ◌∷◌, ◌++◌, refl, sym, ap, subst, ◌∙◌, append_assoc}
-use Rattle.std.specs.Prelude.{Result, Ok, Err, OnOk, is_ok, codes, if◌then◌else◌}
+use Rattle.std.proofs.Common.{◌≡◌, ℕ, Bool, true, false, List, [], ◌∷◌, ◌++◌, refl, sym, ap, subst, ◌∙◌, append_assoc}
+use Rattle.std.specs.Prelude.{Result, Ok, Err, codes, MatchBool}
 use Rattle.std.specs.List.{flat_map}
-use Rattle.std.specs.declared.alloc.AllocError.{AllocError}
 use Rattle.std.proofs.lemmas.List.Concat.{flat_map-append}
 use Rattle.std.proofs.lemmas.List.Sums.{fold-append}
 use Rattle.hex.specs.Hex.{decode_of}
@@ -12,7 +11,7 @@ use Rattle.nla_wire.specs.declared.error.DecodeError.{DecodeError}
 use Rattle.link_msg.specs.Messages.{Means, FirstFault}
 use Rattle.link_msg.specs.declared.message.LinkMessage.{LinkMessage}
 use Rattle.line_filter.specs.Lines.{with_lf}
-use Rattle.line_filter.specs.Words.{front_of, rest_of}
+use Rattle.line_filter.specs.Words.{are_alone, digits_of, front_of, rest_of}
 use Rattle.json.specs.Token.{Token, begin_object, key, string}
 use Rattle.json.specs.Print.{print}
 use Rattle.shown.specs.Drafts.{Draft, Members, empty_object, with_value, with_members, object_of}
@@ -22,16 +21,11 @@ use Rattle.shown.proofs.Pages.{object_found, whole_text}
 use Rattle.link_msg.proofs.Reading.{message_agrees}
 use Rattle.message_shown.specs.Attributes.{message_line, TellsMessage}
 use Rattle.message_shown.specs.Causes.{cause_text, cause_members, AddsFault}
-use Rattle.message_shown.specs.Lines.{IsAnswerTo, IsAnswerToSpelled, AddsAnswer, AddsAnswerTo, AddsSpelled, head}
-use Rattle.message_shown.specs.Lines.{fault_member, fault_head, family_member}
+use Rattle.message_shown.specs.Lines.{IsAnswerTo, IsAnswerToSpelled, IsAnswerOf, head, whole_object}
+use Rattle.message_shown.specs.Lines.{AddsAnswer, AddsAnswerOf, AddsAnswerTo, AddsSpelled}
+use Rattle.message_shown.specs.Lines.{fault_member, fault_head, family_member, nothex_member}
 use Rattle.message_shown.specs.Worded.{words_shown}
 use Rattle.message_shown.specs.declared.context.Context.{Context}
-
--- what an extended list holds where the call succeeds
-pub on_ok_extended : {P : Type 0} (r : Result (Unit {0}) AllocError) (new longer same : List ℕ)
-    → new ≡ (if is_ok r then longer else same) → (new ≡ longer → P) → OnOk r P
-on_ok_extended (Ok _) new longer same h k = k h
-on_ok_extended (Err _) new longer same h k = tt
 
 -- ** what is added
 lf_after : (old text mid new : List ℕ) → mid ≡ old ++ text → new ≡ mid ++ 10 ∷ [] → new ≡ old ++ with_lf text
@@ -56,11 +50,6 @@ adds_message words more page bytes old mid new m means is s k = (
       (begins words more (family_member m) page is) s.1),
   lf_after old s.0 mid new s.2 k,
 )
-
-pub message_told : (ms : Members) (page : Draft) (old mid new : List ℕ) → page ≡ with_members ms empty_object
-    → AddsText page old mid → new ≡ mid ++ 10 ∷ [] → new ≡ old ++ with_lf (print (object_of ms))
-message_told ms page old mid new is s k =
-    lf_after old (print (object_of ms)) mid new (s.2 ∙ ap (λ text. old ++ text) (whole_text ms page s.0 is s.1)) k
 
 -- ** members one after the other
 pub members_then : (words ms more : Members) (member : List ℕ × List Token) (first worded named page : Draft)
@@ -96,22 +85,57 @@ pub adds_spelled : (words : Members) (digits room old new : List ℕ) → decode
 adds_spelled words digits room old new h s =
     (s.0, subst (λ (t : Result (List ℕ) FromHexError). IsAnswerToSpelled words t s.0) (sym h) s.1, s.2)
 
-pub adds_nothex : (words : Members) (digits old new : List ℕ) (e : FromHexError) → decode_of digits ≡ Err e
-    → new ≡ old ++ codes "{\"fault\":\"not-hex\"}\n" → AddsSpelled words digits old new
-adds_nothex words digits old new e h s = (
-  codes "{\"fault\":\"not-hex\"}",
-  subst (λ (t : Result (List ℕ) FromHexError). IsAnswerToSpelled words t (codes "{\"fault\":\"not-hex\"}")) (sym h)
-      refl,
-  s,
-)
+-- a page with a member more
+pub member_last : (words : Members) (member : List ℕ × List Token) (first worded page : Draft) → first ≡ empty_object
+    → worded ≡ with_members words first → page ≡ with_value member.0 member.1 worded
+    → page ≡ with_members (words ++ member ∷ []) empty_object
+member_last words member first worded page e w is =
+    is ∙ ap (λ (d : Draft). with_value member.0 member.1 d) (w ∙ ap (with_members words) e)
+    ∙ sym (fold-append (λ (p : Draft) m. with_value m.0 m.1 p) empty_object words (member ∷ []))
 
--- the words are those in front of the line, and the digits stand behind them
-pub adds_line : (line front digits old new : List ℕ) → front ≡ front_of line → digits ≡ rest_of line
-    → AddsSpelled (words_shown front) digits old new → AddsAnswer line old new
-adds_line line front digits old new f is s = (
+pub object_told : (ms : Members) (page : Draft) (old mid new : List ℕ) → page ≡ with_members ms empty_object
+    → AddsText page old mid → new ≡ mid ++ 10 ∷ [] → new ≡ old ++ with_lf (whole_object ms)
+object_told ms page old mid new is s k =
+    lf_after old (print (object_of ms)) mid new (s.2 ∙ ap (λ text. old ++ text) (whole_text ms page s.0 is s.1)) k
+
+pub adds_nothex : (words : Members) (digits old new : List ℕ) (e : FromHexError) → decode_of digits ≡ Err e
+    → new ≡ old ++ with_lf (whole_object (words ++ nothex_member ∷ [])) → AddsSpelled words digits old new
+adds_nothex words digits old new e h s =
+    let answer : List ℕ = whole_object (words ++ nothex_member ∷ []) in
+    (answer, subst (λ (t : Result (List ℕ) FromHexError). IsAnswerToSpelled words t answer) (sym h) refl, s)
+
+-- ** of what stands in a line
+alone_of : (b : Bool) (P : Type 0) (own answer : List ℕ) → b ≡ true → answer ≡ own → MatchBool b (answer ≡ own) P
+alone_of b P own answer is same = subst (λ c. MatchBool c (answer ≡ own) P) (sym is) same
+
+pub adds_alone : (front rest old new : List ℕ) → are_alone front rest ≡ true
+    → new ≡ old ++ with_lf (whole_object (words_shown front)) → AddsAnswerOf front rest old new
+adds_alone front rest old new alone is =
+    let answer : List ℕ = whole_object (words_shown front) in (
+      answer,
+      alone_of (are_alone front rest) (IsAnswerToSpelled (words_shown front) (decode_of (digits_of rest)) answer) answer
+          answer alone refl,
+      is,
+    )
+
+pub adds_behind : (front rest digits old new : List ℕ) → are_alone front rest ≡ false → digits ≡ digits_of rest
+    → AddsSpelled (words_shown front) digits old new → AddsAnswerOf front rest old new
+adds_behind front rest digits old new some is s =
+    let spelled : IsAnswerToSpelled (words_shown front) (decode_of (digits_of rest)) s.0 =
+    subst (λ d. IsAnswerToSpelled (words_shown front) (decode_of d) s.0) is s.1 in (
+      s.0,
+      subst
+          (λ b. MatchBool b (s.0 ≡ whole_object (words_shown front))
+          (IsAnswerToSpelled (words_shown front) (decode_of (digits_of rest)) s.0)) (sym some) spelled,
+      s.2,
+    )
+
+-- the words are those in front of the line, and the rest stands behind them
+pub adds_line : (line front rest old new : List ℕ) → front ≡ front_of line → rest ≡ rest_of line
+    → AddsAnswerOf front rest old new → AddsAnswer line old new
+adds_line line front rest old new f is s = (
   s.0,
-  subst (λ w. IsAnswerToSpelled (words_shown w) (decode_of (rest_of line)) s.0) f
-      (subst (λ d. IsAnswerToSpelled (words_shown front) (decode_of d) s.0) is s.1),
+  subst (λ w. IsAnswerOf w (rest_of line) s.0) f (subst (λ r. IsAnswerOf front r s.0) is s.1),
   s.2,
 )
 

@@ -1,7 +1,8 @@
 -- Each line has an answer.
-use Rattle.std.proofs.Common.{◌≡◌, ℕ, List, [], ◌∷◌, ◌++◌, suc, refl, sym, ap, subst, ◌∙◌, ◌^◌, ◌<◌, arith, decimal}
+use Rattle.std.proofs.Common.{◌≡◌, ℕ, Bool, true, false, List, [], ◌∷◌, ◌++◌, suc, refl, sym, ap, subst, ◌∙◌, ◌^◌}
+use Rattle.std.proofs.Common.{◌<◌, arith, decimal}
 use Rattle.std.proofs.Common.{append_assoc, append-nil, slice_index}
-use Rattle.std.specs.Prelude.{Result, Ok, Err, codes}
+use Rattle.std.specs.Prelude.{Result, Ok, Err, codes, MatchBool}
 use Rattle.hex.specs.Hex.{decode_of}
 use Rattle.hex.specs.Hex as hex
 use Rattle.hex.specs.declared.error.FromHexError.{FromHexError}
@@ -28,9 +29,9 @@ use Rattle.shown.specs.declared.page.Nest.TheVariants.{Object}
 use Rattle.shown.proofs.Pages.{page_new, page_value, page_text, object_found}
 use Rattle.message_shown.specs.Causes.{cause_text}
 use Rattle.shown.proofs.Lines.{decimal_on_line}
-use Rattle.line_filter.specs.Words.{front_of, rest_of, words_of}
-use Rattle.message_shown.specs.Lines.{IsAnswer, IsAnswerTo, IsAnswerToSpelled, head}
-use Rattle.message_shown.specs.Worded.{word_text, strings}
+use Rattle.line_filter.specs.Words.{are_alone, digits_of, front_of, rest_of, words_of}
+use Rattle.message_shown.specs.Lines.{IsAnswer, IsAnswerTo, IsAnswerToSpelled, head, whole_object, nothex_member}
+use Rattle.message_shown.specs.Worded.{word_text, strings, words_shown}
 
 first_small : (h : List ℕ) → IsBytes h → slice_index h 0 < 2 ^ 64
 first_small [] bytes = omega arith
@@ -106,11 +107,21 @@ by_spelling words digits (Ok b) is =
       some.0,
       subst (λ (t : Result (List ℕ) FromHexError). IsAnswerToSpelled (strings words) t some.0) (sym is) some.1,
     )
-by_spelling words digits (Err e) is = (
-  codes "{\"fault\":\"not-hex\"}",
-  subst (λ (t : Result (List ℕ) FromHexError). IsAnswerToSpelled (strings words) t (codes "{\"fault\":\"not-hex\"}"))
-      (sym is) refl,
-)
+by_spelling words digits (Err e) is =
+    let answer : List ℕ = whole_object (strings words ++ nothex_member ∷ []) in (
+      answer,
+      subst (λ (t : Result (List ℕ) FromHexError). IsAnswerToSpelled (strings words) t answer) (sym is) refl,
+    )
+
+by_words : (b : Bool) (alone : List ℕ) (P : List ℕ → Type 0) → (answer : List ℕ) × P answer
+    → (answer : List ℕ) × MatchBool b (answer ≡ alone) (P answer)
+by_words true alone P some = (alone, refl)
+by_words false alone P some = some
 
 pub each_answered : AnswersEach IsAnswer
-each_answered line = by_spelling (words_of (front_of line)) (rest_of line) (decode_of (rest_of line)) refl
+each_answered line =
+    let front : List ℕ = front_of line in
+    let digits : List ℕ = digits_of (rest_of line) in
+    by_words (are_alone front (rest_of line)) (whole_object (words_shown front))
+    (IsAnswerToSpelled (words_shown front) (decode_of digits))
+    (by_spelling (words_of front) digits (decode_of digits) refl)

@@ -1,20 +1,21 @@
 -- What each line is answered.
-use Rattle.std.specs.Prelude.{◌≡◌, ℕ, List, [], ◌∷◌, ◌++◌, codes, Result, Ok, Err}
+use Rattle.std.specs.Prelude.{◌≡◌, ℕ, List, [], ◌∷◌, ◌++◌, codes, Result, Ok, Err, MatchBool}
 use Rattle.std.specs.List.{flat_map}
 use Rattle.hex.specs.Hex.{decode_of}
 use Rattle.hex.specs.declared.error.FromHexError.{FromHexError}
 use Rattle.json.specs.Token.{Token, begin_object, key, string}
+use Rattle.json.specs.Print.{print}
 use Rattle.nla_wire.specs.declared.error.Cause.{Cause}
 use Rattle.link_vals.specs.AddressFamilyTable.{address_family_number}
 use Rattle.link_msg.specs.Messages.{Means, FirstFault}
 use Rattle.link_msg.specs.declared.message.LinkMessage.{LinkMessage}
 use Rattle.message_shown.specs.Causes.{cause_text}
-use Rattle.shown.specs.Drafts.{Members}
+use Rattle.shown.specs.Drafts.{Members, object_of}
 use Rattle.shown.specs.Pages.{IsObject}
 use Rattle.shown.specs.Values.{numbered}
 use Rattle.line_filter.specs.Lines.{with_lf}
 use Rattle.line_filter.specs.Steps as steps
-use Rattle.line_filter.specs.Words.{front_of, rest_of}
+use Rattle.line_filter.specs.Words.{are_alone, digits_of, front_of, rest_of}
 use Rattle.message_shown.specs.Worded.{words_shown}
 
 -- how an answer begins: the words in front of the line, and a member
@@ -40,14 +41,27 @@ pub data IsAnswerTo (words : Members) (bytes answer : List ℕ) : Type 0 where
   fault : (c : Cause) → FirstFault bytes c → IsObject (fault_head words c) answer → IsAnswerTo words bytes answer
   message : (m : LinkMessage) → Means bytes m → IsObject (message_head words m) answer → IsAnswerTo words bytes answer
 
+-- the object of these members and no other one
+abbrev pub whole_object : Members → List ℕ
+whole_object members = print (object_of members)
+
+-- the member that says that a line spells no bytes
+abbrev pub nothex_member : List ℕ × List Token
+nothex_member = (codes "fault", string (codes "not-hex") ∷ [])
+
 -- a line that is no even number of hexadecimal digits spells no bytes
 abbrev pub IsAnswerToSpelled : Members → Result (List ℕ) FromHexError → List ℕ → Type 0
 IsAnswerToSpelled words (Ok bytes) answer = IsAnswerTo words bytes answer
-IsAnswerToSpelled words (Err _) answer = answer ≡ codes "{\"fault\":\"not-hex\"}"
+IsAnswerToSpelled words (Err _) answer = answer ≡ whole_object (words ++ nothex_member ∷ [])
+
+-- what a line with these words and this rest is answered: words alone are no message, and are shown alone
+abbrev pub IsAnswerOf : List ℕ → List ℕ → List ℕ → Type 0
+IsAnswerOf front rest answer = MatchBool (are_alone front rest) (answer ≡ whole_object (words_shown front))
+    (IsAnswerToSpelled (words_shown front) (decode_of (digits_of rest)) answer)
 
 -- what a line is answered
 abbrev pub IsAnswer : List ℕ → List ℕ → Type 0
-IsAnswer line answer = IsAnswerToSpelled (words_shown (front_of line)) (decode_of (rest_of line)) answer
+IsAnswer line answer = IsAnswerOf (front_of line) (rest_of line) answer
 
 -- the answer to a line that spells these bytes was added
 abbrev pub AddsAnswerTo : Members → List ℕ → List ℕ → List ℕ → Type 0
@@ -57,6 +71,10 @@ AddsAnswerTo words bytes old new = (answer : List ℕ) × IsAnswerTo words bytes
 abbrev pub AddsSpelled : Members → List ℕ → List ℕ → List ℕ → Type 0
 AddsSpelled words digits old new =
     (answer : List ℕ) × IsAnswerToSpelled words (decode_of digits) answer × (new ≡ old ++ with_lf answer)
+
+-- and to what stands in a line
+abbrev pub AddsAnswerOf : List ℕ → List ℕ → List ℕ → List ℕ → Type 0
+AddsAnswerOf front rest old new = (answer : List ℕ) × IsAnswerOf front rest answer × (new ≡ old ++ with_lf answer)
 
 -- the answer to the line was added
 abbrev pub AddsAnswer : List ℕ → List ℕ → List ℕ → Type 0

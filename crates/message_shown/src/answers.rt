@@ -1,14 +1,16 @@
 //! The answer to a line.
 
-ghost use Rattle.std.specs.Prelude.{◌≡◌, ℕ, List, [], Ok, ◌++◌, ◌/◌, OnOk, IfOk, IfErr, ◌≢◌, length};
+ghost use Rattle.std.specs.Prelude.{◌≡◌, ℕ, List, [], ◌∷◌, Ok, ◌++◌, ◌/◌, OnOk, IfOk, IfErr, ◌≢◌, false, length};
 ghost use Rattle.hex.specs.Hex.{decode_of};
 ghost use Rattle.nla_wire.specs.declared.error.Cause.TheVariants.{OutOfMemory};
 ghost use Rattle.link_msg.specs.Messages.{Means, FirstFault};
-ghost use Rattle.message_shown.specs.Lines.{IsAnswer, AddsAnswerTo, AddsSpelled};
+ghost use Rattle.message_shown.specs.Lines.{IsAnswer, AddsAnswerOf, AddsAnswerTo, AddsSpelled};
+ghost use Rattle.message_shown.specs.Lines.{whole_object, nothex_member};
 ghost use Rattle.shown.specs.Drafts.{empty_object, with_members};
 ghost use Rattle.message_shown.specs.Attributes.{message_members, message_line, TellsMessage};
 ghost use Rattle.message_shown.specs.Worded.{words_shown};
 ghost use Rattle.line_filter.specs.Lines.{with_lf};
+ghost use Rattle.line_filter.specs.Words.{are_alone, digits_of};
 ghost use Rattle.message_shown.specs.Answered.{each_answered};
 
 use crate::attribute::show_header;
@@ -19,7 +21,7 @@ use crate::wire::cause_name;
 use crate::worded::{order_for, show_words};
 use line_filter::answers::Answer;
 use line_filter::digits::{decode, values};
-use line_filter::words::split;
+use line_filter::words::{are_alone, digits_of, split};
 use link_info::{Tables, all_rows};
 use link_msg::{Cause, DecodeError, LinkMessage};
 use shown::{Page, Room};
@@ -56,13 +58,13 @@ impl Answer for Shown {
         line: &[u8],
         waiting: &mut Vec<u8>,
     ) -> Result<(), AllocError> {
-        let (front, digits) = split(line);
-        self.message.resize(digits.len() / 2, 0)?;
+        let (front, rest) = split(line);
+        self.message.resize(digits_of(rest).len() / 2, 0)?;
         let tables = self.tables;
         let cx = Context::new(alloc, &tables, order_for(front, self.order));
         let mut room = mem::replace(&mut self.room, Room::new(alloc));
         let message = self.message.as_mut_slice();
-        let done = push_digits(&cx, &mut room, waiting, front, digits, message);
+        let done = push_rest(&cx, &mut room, waiting, front, rest, message);
         self.room = room;
         done
     }
@@ -134,6 +136,41 @@ fn push_fault(
     Ok(())
 }
 
+/// Adds the answer to a line of words alone.
+fn push_alone(
+    alloc: Global,
+    room: &mut Room,
+    waiting: &mut Vec<u8>,
+    front: &[u8],
+) -> Result<(), AllocError>
+    ensures { OnOk result (waiting.new.items ≡ waiting.old.items
+        ++ with_lf (whole_object (words_shown front.now))) }
+{
+    let mut page = room.begin()?;
+    show_words(alloc, &mut page, front)?;
+    room.finish(page, waiting)?;
+    waiting.push(b'\n')?;
+    Ok(())
+}
+
+/// Adds the answer to a line whose rest spells no bytes.
+fn push_not_hex(
+    alloc: Global,
+    room: &mut Room,
+    waiting: &mut Vec<u8>,
+    front: &[u8],
+) -> Result<(), AllocError>
+    ensures { OnOk result (waiting.new.items ≡ waiting.old.items
+        ++ with_lf (whole_object (words_shown front.now ++ nothex_member ∷ []))) }
+{
+    let mut page = room.begin()?;
+    show_words(alloc, &mut page, front)?;
+    page.string("fault", "not-hex")?;
+    room.finish(page, waiting)?;
+    waiting.push(b'\n')?;
+    Ok(())
+}
+
 /// Adds the answer to a line that spells these bytes.
 pub fn push_bytes(
     cx: &Context<'_>,
@@ -190,9 +227,32 @@ fn push_digits(
         → TellsMessage (words_shown front.now) cx.now bytes waiting.old.items waiting.new.items) }
 {
     if !decode(digits, values(), message) {
-        return waiting.extend_from_slice(b"{\"fault\":\"not-hex\"}\n");
+        return push_not_hex(cx.alloc, room, waiting, front);
     }
     push_bytes_in(cx, room, waiting, front, message)
+}
+
+/// Adds the answer to a line with this rest after its words. `message` has room for the bytes that it spells, and
+/// `room` for the page.
+fn push_rest(
+    cx: &Context<'_>,
+    room: &mut Room,
+    waiting: &mut Vec<u8>,
+    front: &[u8],
+    rest: &[u8],
+    message: &mut [u8],
+) -> Result<(), AllocError>
+    requires { length message.old ≡ length (digits_of rest.now) / 2 }
+    ensures answer { OnOk result
+        (AddsAnswerOf front.now rest.now waiting.old.items waiting.new.items) }
+    ensures told { OnOk result ((bytes : List ℕ) → are_alone front.now rest.now ≡ false
+        → decode_of (digits_of rest.now) ≡ Ok bytes
+        → TellsMessage (words_shown front.now) cx.now bytes waiting.old.items waiting.new.items) }
+{
+    if are_alone(front, rest) {
+        return push_alone(cx.alloc, room, waiting, front);
+    }
+    push_digits(cx, room, waiting, front, digits_of(rest), message)
 }
 
 /// Adds the answer to these bytes alone: what they say, or why they are no message.

@@ -1,4 +1,4 @@
-use Rattle.message_shown.proofs.Added.{adds_message, message_told}
+use Rattle.message_shown.proofs.Added.{adds_message, object_told}
 use Rattle.message_shown.specs.Attributes.{message_line, message_members}
 use Rattle.message_shown.specs.Worded.{words_shown}
 use Rattle.std.proofs.Common.{◌++◌}
@@ -12,6 +12,6 @@ returns-clause-answer c =
 pub returns-clause-told : goal.returns-clause-told
 unfolding message_line
 returns-clause-told c =
-    message_told (words_shown c.args.front.now
+    object_told (words_shown c.args.front.now
     ++ message_members c.args.cx.now c.args.bytes.now c.args.message.now) c.in_ok-page.page _ _ _ c.in_ok-page.ensures
     c.in_ok-finish.ensures c.in_ok-push.ensures.items
