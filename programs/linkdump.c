@@ -16,9 +16,9 @@
 #include "linkwire.h"
 
 static const char help[] =
-    "linkdump [--family LIST] [--mask LIST] [--netns NAME] [--monitor [--every SECONDS]] [--plain]\n"
-    "linkdump --read FILE [--plain]\n"
-    "linkdump --help | --version\n"
+    "linkdump [--family LIST] [--mask LIST] [--netns NAME] [--monitor [--every SECONDS]] [--host NAME | --plain]\n"
+    "linkdump --read FILE [--host NAME | --plain]\n"
+    "linkdump -h | --help | --version\n"
     "\n"
     "Writes link messages of the running kernel, or of a capture, a line of hexadecimal each, for linkshow.\n"
     "\n"
@@ -29,7 +29,8 @@ static const char help[] =
     "  --monitor        goes on with each change that the kernel announces\n"
     "  --every SECONDS  with --monitor: asks for all links again, so often\n"
     "  --read FILE      reads a capture of an nlmon device, - for standard input%s\n"
-    "  --plain          leaves out the words time=, type=, kernel=, seq= and port=, for linkwire\n"
+    "  --host NAME      writes host=NAME first in each line\n"
+    "  --plain          leaves out the words, and the lines that have no message, for linkwire\n"
     "\n"
     "The man page linkdump(1) says the rest.\n";
 
@@ -129,14 +130,15 @@ __attribute__((format(printf, 1, 2))) _Noreturn static void say(const char *form
     exit(0);
 }
 
-enum option_number { FAMILY = 256, MASK, NETNS, MONITOR, EVERY, READ, PLAIN, HELP, VERSION };
+enum option_number { FAMILY = 256, MASK, NETNS, MONITOR, EVERY, READ, HOST, PLAIN, HELP, VERSION };
 
 static const struct option options[] = {
     {"family", required_argument, NULL, FAMILY}, {"mask", required_argument, NULL, MASK},
     {"netns", required_argument, NULL, NETNS},   {"monitor", no_argument, NULL, MONITOR},
     {"every", required_argument, NULL, EVERY},   {"read", required_argument, NULL, READ},
-    {"plain", no_argument, NULL, PLAIN},         {"help", no_argument, NULL, HELP},
-    {"version", no_argument, NULL, VERSION},     {NULL, 0, NULL, 0},
+    {"host", required_argument, NULL, HOST},     {"plain", no_argument, NULL, PLAIN},
+    {"help", no_argument, NULL, HELP},           {"version", no_argument, NULL, VERSION},
+    {NULL, 0, NULL, 0},
 };
 
 /* Ends the program because of a word that getopt does not take. */
@@ -148,13 +150,32 @@ _Noreturn static void refuse_option(int answer, char **words) {
            answer == ':' ? "needs a value" : optopt == 0 ? "no such option" : "takes no value");
 }
 
+/* A name is the value of a word, which ends at a blank. */
+static const char *read_host(const char *name) {
+    for (const char *it = name; *it != '\0'; it++) {
+        if ((unsigned char)*it <= ' ' || *it == 127) {
+            refuse("--host: a blank or a control character in '%s'", name);
+        }
+    }
+    if (*name == '\0') {
+        refuse("--host: no name");
+    }
+    return name;
+}
+
+/* How lines are written. */
+struct form {
+    const char *host; /* or NULL */
+    bool is_plain;
+};
+
 /* Reads the options; what is asked of the kernel goes to `question`. Returns the capture, or NULL. */
-static const char *read_options(int count, char **words, struct question *question, bool *is_plain) {
+static const char *read_options(int count, char **words, struct question *question, struct form *form) {
     const char *capture = NULL;
     const char *asks = NULL; /* an option that only the kernel is asked with */
     int it;
     opterr = 0;
-    while ((it = getopt_long(count, words, ":", options, NULL)) != -1) {
+    while ((it = getopt_long(count, words, ":h", options, NULL)) != -1) {
         switch (it) {
         case FAMILY: read_families(optarg, question); break;
         case MASK: read_mask(optarg, question); break;
@@ -162,7 +183,9 @@ static const char *read_options(int count, char **words, struct question *questi
         case MONITOR: question->is_monitor = true; break;
         case EVERY: read_every(optarg, question); break;
         case READ: capture = optarg; break;
-        case PLAIN: *is_plain = true; break;
+        case HOST: form->host = read_host(optarg); break;
+        case PLAIN: form->is_plain = true; break;
+        case 'h':
         case HELP: say(help, reads_captures ? "" : "; built without libpcap, it can not"); break;
         case VERSION: say("linkdump %s\n", LINKWIRE_VERSION); break;
         default: refuse_option(it, words);
@@ -177,6 +200,9 @@ static const char *read_options(int count, char **words, struct question *questi
     }
     if (question->every != 0 && !question->is_monitor) {
         refuse("--every: only with --monitor");
+    }
+    if (form->host != NULL && form->is_plain) {
+        refuse("--host: not with --plain");
     }
     return capture;
 }
@@ -193,14 +219,14 @@ static void hold_standard_files(void) {
 int main(int count, char **words) {
     struct question question = {.families = {AF_UNSPEC, AF_BRIDGE}};
     struct utsname system;
-    bool is_plain = false;
+    struct form form = {.host = NULL};
     hold_standard_files();
     handle_signals();
-    const char *capture = read_options(count, words, &question, &is_plain);
+    const char *capture = read_options(count, words, &question, &form);
     if (question.family_count == 0) { /* those that the kernel announces in one group */
         question.family_count = question.is_monitor ? 2 : 1;
     }
-    begin_lines(is_plain, capture == NULL && uname(&system) == 0 ? system.release : NULL);
+    begin_lines(form.is_plain, form.host, capture == NULL && uname(&system) == 0 ? system.release : NULL);
     if (capture != NULL) {
         read_capture(capture);
     } else {

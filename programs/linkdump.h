@@ -32,11 +32,15 @@ const char *type_name(uint16_t type);
 /* SIGINT and SIGTERM end the program with status 0; SIGPIPE is ignored. */
 void handle_signals(void);
 
-/* Begins lines: plain ones have no words, and others kernel= where a release is given. */
-void begin_lines(bool is_plain, const char *release);
+/* Begins lines: plain ones have no words, and others host= and kernel= where a host and a release are given. */
+void begin_lines(bool is_plain, const char *host, const char *release);
 
 /* Appends the line of a message, whose header stands at `head`, aligned or not, with all its bytes after it. */
 void put_line(const struct timespec *time, const void *head);
+
+/* Appends a line of words alone, which tells of dumps, and none where lines are plain. What stands after the words of
+ * each line is `more`, with a blank in front, or "". */
+void put_words(const struct timespec *time, const char *type, const char *more);
 
 /* Writes out what was appended. Where nobody reads it, the program ends. */
 void flush_lines(void);

@@ -94,12 +94,25 @@ static void put_packet(const struct packet *it, size_t whole) {
 
 static pcap_t *capture;
 
+/* What gzip wrote is told, for libpcap reads none of it; no capture has its first byte. */
+static void refuse_gzip(const char *file, FILE *stream) {
+    int first = getc(stream);
+    if (first != 0x1f) {
+        ungetc(first, stream);
+    } else if (getc(stream) == 0x8b) {
+        fail("%s: compressed by gzip: zcat %s | linkdump --read -", file, file);
+    } else {
+        fail("%s: no capture: unknown file format", file);
+    }
+}
+
 static void open_capture(const char *file) {
     char error[PCAP_ERRBUF_SIZE] = "";
     FILE *stream = strcmp(file, "-") == 0 ? stdin : fopen(file, "rbe");
     if (stream == NULL) {
         fail("%s: %s", file, strerror(errno));
     }
+    refuse_gzip(file, stream);
     capture = pcap_fopen_offline_with_tstamp_precision(stream, PCAP_TSTAMP_PRECISION_NANO, error);
     if (capture == NULL) {
         fail("%s: no capture: %s", file, error);

@@ -22,13 +22,21 @@ struct datagram {
     uint8_t *bytes;
 };
 
+/* What a dump had: how many links, and their family, which is another where the kernel has none of the one that was
+ * asked for. */
+struct answers {
+    uint8_t family;
+    size_t count;
+};
+
 static struct {
     int fd;
-    uint32_t port, seq;   /* the socket's own port, and the number of the last request */
-    size_t family;        /* which of the families is asked for, or as many as there are */
-    bool is_interrupted;  /* the dump that runs has to be asked for again */
-    bool is_stale;        /* all families have to be */
-    int64_t due;          /* when, in milliseconds, or 0 */
+    uint32_t port, seq;    /* the socket's own port, and the number of the last request */
+    struct timespec asked; /* when that was sent */
+    size_t family;         /* which of the families is asked for, or as many as there are */
+    bool is_interrupted;   /* the dump that runs has to be asked for again */
+    bool is_lost;          /* messages were lost: all is asked for again, once what came before is read */
+    int64_t due;           /* when all is asked for again, in milliseconds, or 0 */
     struct datagram *held;
     size_t count, room;
 } self;
@@ -51,33 +59,77 @@ static bool is_answer(const struct nlmsghdr *head) {
     return head->nlmsg_seq == self.seq && head->nlmsg_pid == self.port;
 }
 
-/* Whether news are of a family that was asked for. That of AF_UNSPEC that an interface went is of each. */
-static bool is_wanted(const struct question *question, const struct nlmsghdr *head) {
-    uint8_t family = 0;
-    if (head->nlmsg_len > NLMSG_HDRLEN) {
-        memcpy(&family, (const uint8_t *)head + NLMSG_HDRLEN, sizeof family);
-    }
-    return memchr(question->families, family, question->family_count) != NULL ||
-           (family == AF_UNSPEC && head->nlmsg_type == RTM_DELLINK);
+static uint8_t family_of(const struct nlmsghdr *head) {
+    return head->nlmsg_len > NLMSG_HDRLEN ? *(const uint8_t *)NLMSG_DATA(head) : AF_UNSPEC;
 }
 
-static void release_datagram(const struct question *question, struct datagram *it, bool keeps_answers) {
+static bool asks_for(const struct question *question, uint8_t family) {
+    return memchr(question->families, family, question->family_count) != NULL;
+}
+
+/* Whether news are of a family that was asked for. That of AF_UNSPEC that an interface went is of each. */
+static bool is_wanted(const struct question *question, const struct nlmsghdr *head) {
+    uint8_t family = family_of(head);
+    return asks_for(question, family) || (family == AF_UNSPEC && head->nlmsg_type == RTM_DELLINK);
+}
+
+/* Appends the links of a datagram: what is wanted of news with is_monitor, and the answers where they are kept, which
+ * are counted. */
+static void release_datagram(const struct question *question, struct datagram *it, struct answers *answers) {
     const struct nlmsghdr *head;
     for (size_t at = 0; (head = next_message(it, &at)) != NULL;) {
-        bool is_link = head->nlmsg_type == RTM_NEWLINK || head->nlmsg_type == RTM_DELLINK;
-        if (is_link && (is_answer(head) ? keeps_answers : is_wanted(question, head))) {
+        if (head->nlmsg_type != RTM_NEWLINK && head->nlmsg_type != RTM_DELLINK) {
+            continue;
+        }
+        if (!is_answer(head)) {
+            if (question->is_monitor && is_wanted(question, head)) {
+                put_line(&it->time, head);
+            }
+        } else if (answers != NULL) {
             put_line(&it->time, head);
+            answers->family = family_of(head);
+            answers->count++;
         }
     }
     free(it->bytes);
 }
 
-/* Writes what was held back, of a dump that was interrupted only the news in between. */
-static void release(const struct question *question, bool keeps_answers) {
+/* Writes what was held back, without answers only the news. */
+static void release(const struct question *question, struct answers *answers) {
     for (size_t i = 0; i < self.count; i++) {
-        release_datagram(question, &self.held[i], keeps_answers);
+        release_datagram(question, &self.held[i], answers);
     }
     self.count = 0;
+}
+
+static void release_news(const struct question *question) {
+    release(question, NULL);
+    flush_lines();
+}
+
+/* Whether the kernel has left nothing out: of AF_BRIDGE it has the bridges only where the mask asks for their VLANs. */
+static bool is_whole(const struct question *question) {
+    return question->families[self.family] != AF_BRIDGE || !question->has_mask ||
+           (question->mask & (RTEXT_FILTER_BRVLAN | RTEXT_FILTER_BRVLAN_COMPRESSED)) != 0;
+}
+
+/* Writes what was held back, the dump that has ended among it. A line stands before a whole one and after it: an
+ * interface that is there has a line between the two. */
+static void release_dump(const struct question *question) {
+    const struct timespec end = self.held[self.count - 1].time;
+    struct answers answers = {.family = question->families[self.family]};
+    char words[96];
+    bool has_ends = is_whole(question);
+    if (has_ends) {
+        snprintf(words, sizeof words, " seq=%u port=%u", self.seq, self.port);
+        put_words(&self.asked, "begin", words);
+    }
+    release(question, &answers);
+    if (has_ends) {
+        snprintf(words, sizeof words, " seq=%u port=%u family=%u links=%zu", self.seq, self.port, answers.family,
+                 answers.count);
+        put_words(&end, "done", words);
+    }
     flush_lines();
 }
 
@@ -120,6 +172,7 @@ static void ask(const struct question *question) {
         request.head.nlmsg_len = offsetof(__typeof__(request), attribute);
     }
     self.is_interrupted = false;
+    clock_gettime(CLOCK_REALTIME, &self.asked);
     if (send(self.fd, &request, request.head.nlmsg_len, 0) < 0) {
         fail("netlink: %s", strerror(errno));
     }
@@ -128,34 +181,43 @@ static void ask(const struct question *question) {
 /* Asks for the links of all families, one after another. */
 static void begin_dumps(const struct question *question) {
     self.family = 0;
-    self.is_stale = false;
     self.due = question->every == 0 ? 0 : now() + question->every;
     ask(question);
 }
 
 static void end_dump(const struct question *question) {
-    release(question, !self.is_interrupted);
-    self.family += !self.is_interrupted;
-    if (self.is_stale) {
-        begin_dumps(question);
+    if (self.is_interrupted) {
+        release_news(question);
+    } else {
+        release_dump(question);
+        self.family++;
+    }
+    if (self.is_lost) { /* all is asked for again, once the queue is empty */
+        self.family = question->family_count;
     } else if (self.family < question->family_count) {
         ask(question);
     }
 }
 
-/* Looks for the end of the dump that runs; what it ends with is 0 or minus an errno. */
-static bool ends_dump(const struct datagram *it) {
+/* Looks for the end of the dump that runs; what it ends with is 0 or minus an errno. Of AF_BRIDGE the kernel counts the
+ * links: where one goes between two parts it passes over another, and does not call the dump interrupted. */
+static bool ends_dump(const struct question *question, const struct datagram *it) {
+    const bool is_counted = question->families[self.family] == AF_BRIDGE;
     const struct nlmsghdr *head;
     bool is_over = false;
     for (size_t at = 0; (head = next_message(it, &at)) != NULL;) {
         int error = -EBADMSG;
         if (!is_answer(head)) {
+            self.is_interrupted |= is_counted && head->nlmsg_type == RTM_DELLINK;
             continue;
         }
         self.is_interrupted |= (head->nlmsg_flags & NLM_F_DUMP_INTR) != 0;
         if (head->nlmsg_type == NLMSG_ERROR || head->nlmsg_type == NLMSG_DONE) {
             if (head->nlmsg_len >= NLMSG_LENGTH(sizeof error)) {
                 memcpy(&error, NLMSG_DATA(head), sizeof error);
+            }
+            if (head->nlmsg_type == NLMSG_ERROR && error == -ENOBUFS) { /* the queue is full: it begins later */
+                continue;
             }
             if (error != 0) {
                 fail("the kernel: %s", strerror(-error));
@@ -169,12 +231,24 @@ static bool ends_dump(const struct datagram *it) {
 /* Messages were lost: what was dumped, or heard, is of no use. */
 static void lose(const struct question *question, const char *what) {
     tell("%s: messages are lost, and the links are asked for again", what);
-    if (self.family == question->family_count) {
-        begin_dumps(question);
-        return;
-    }
     self.is_interrupted = true;
-    self.is_stale = question->is_monitor;
+    self.is_lost = question->is_monitor;
+}
+
+/* Asks for all again where messages were lost, once the queue is empty, for what is in it came before them, and has to
+ * stand before the dump. The kernel puts nothing more into a queue that ran over until it is empty. */
+static bool asks_again(const struct question *question) {
+    struct pollfd file = {self.fd, POLLIN, 0};
+    struct timespec time;
+    if (!self.is_lost || poll(&file, 1, 0) != 0) {
+        return false;
+    }
+    self.is_lost = false;
+    clock_gettime(CLOCK_REALTIME, &time);
+    put_words(&time, "lost", "");
+    flush_lines();
+    begin_dumps(question);
+    return true;
 }
 
 /* recv gave less than a datagram: at a queue that ran over the program goes on. */
@@ -212,20 +286,19 @@ static bool receive(const struct question *question, struct datagram *it) {
     return false;
 }
 
-/* Waits for a datagram. False where a dump is due first. */
+/* Waits for a datagram. False where there is none, and a dump is due. */
 static bool waits(void) {
     struct pollfd files[] = {{self.fd, POLLIN, 0}, {STDOUT_FILENO, 0, 0}};
-    do {
+    bool is_due = false;
+    while (files[0].revents == 0 && !is_due) {
         int64_t left = self.due == 0 ? -1 : self.due - now();
-        if (self.due != 0 && left <= 0) {
-            return false;
-        }
-        poll(files, 2, left > INT32_MAX ? INT32_MAX : (int)left);
+        is_due = self.due != 0 && left <= 0;
+        poll(files, 2, is_due ? 0 : left > INT32_MAX ? INT32_MAX : (int)left);
         if ((files[1].revents & (POLLERR | POLLHUP)) != 0) { /* nobody reads */
             exit(0);
         }
-    } while (files[0].revents == 0);
-    return true;
+    }
+    return files[0].revents != 0;
 }
 
 static void enter(const char *netns) {
@@ -246,11 +319,11 @@ static void open_socket(const struct question *question) {
     struct sockaddr_nl own = {.nl_family = AF_NETLINK};
     socklen_t len = sizeof own;
     const int room = 1 << 22;
-    if (question->is_monitor) {
+    if (question->is_monitor || asks_for(question, AF_BRIDGE)) {
         own.nl_groups = RTMGRP_LINK;
-        if (memchr(question->families, AF_INET6, question->family_count) != NULL) {
-            own.nl_groups |= RTMGRP_IPV6_IFINFO;
-        }
+    }
+    if (question->is_monitor && asks_for(question, AF_INET6)) {
+        own.nl_groups |= RTMGRP_IPV6_IFINFO;
     }
     self.fd = socket(AF_NETLINK, SOCK_RAW | SOCK_CLOEXEC, NETLINK_ROUTE);
     /* To a connected socket nobody but the kernel can write. */
@@ -274,14 +347,17 @@ void read_kernel(const struct question *question) {
     begin_dumps(question);
     while (question->is_monitor || self.family < question->family_count) {
         bool is_dumping = self.family < question->family_count;
+        if (!is_dumping && asks_again(question)) {
+            continue;
+        }
         if (!waits() && !is_dumping) {
             begin_dumps(question);
         } else if (receive(question, &it)) {
             hold(it);
-            if (is_dumping && ends_dump(&it)) {
+            if (is_dumping && ends_dump(question, &it)) {
                 end_dump(question);
             } else if (!is_dumping) {
-                release(question, true);
+                release_news(question);
             }
         }
     }

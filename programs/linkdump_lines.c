@@ -13,7 +13,7 @@
 
 static struct {
     bool is_plain;
-    const char *release;
+    const char *host, *release;
     char *text;
     size_t len, room;
 } lines;
@@ -46,8 +46,9 @@ void handle_signals(void) {
     sigaction(SIGPIPE, &ignored, NULL);
 }
 
-void begin_lines(bool is_plain, const char *release) {
+void begin_lines(bool is_plain, const char *host, const char *release) {
     lines.is_plain = is_plain;
+    lines.host = host;
     lines.release = release;
 }
 
@@ -83,19 +84,42 @@ static void put_time(const struct timespec *time) {
         it.tm_min, it.tm_sec, time->tv_nsec);
 }
 
+static size_t length(const char *word) {
+    return word == NULL ? 0 : strlen(word);
+}
+
+/* Appends the words that each line begins with. */
+static void put_front(const struct timespec *time, const char *type) {
+    make_room(length(lines.host) + length(lines.release) + 128);
+    if (lines.host != NULL) {
+        put("host=%s ", lines.host);
+    }
+    put_time(time);
+    put("type=%s", type);
+    if (lines.release != NULL) {
+        put(" kernel=%s", lines.release);
+    }
+}
+
+void put_words(const struct timespec *time, const char *type, const char *more) {
+    if (!lines.is_plain) {
+        put_front(time, type);
+        make_room(strlen(more) + 2);
+        put("%s\n", more);
+    }
+}
+
 void put_line(const struct timespec *time, const void *head) {
     static const char digits[] = "0123456789abcdef";
     const uint8_t *bytes = head;
     struct nlmsghdr it;
     memcpy(&it, head, sizeof it);
-    make_room(2 * (size_t)it.nlmsg_len + 256 + (lines.release == NULL ? 0 : strlen(lines.release)));
     if (!lines.is_plain) {
-        put_time(time);
-        put("type=%s ", type_name(it.nlmsg_type));
-        if (lines.release != NULL) {
-            put("kernel=%s ", lines.release);
-        }
-        put("seq=%u port=%u ", it.nlmsg_seq, it.nlmsg_pid);
+        put_front(time, type_name(it.nlmsg_type));
+    }
+    make_room(2 * (size_t)it.nlmsg_len + 64);
+    if (!lines.is_plain) {
+        put(" seq=%u port=%u ", it.nlmsg_seq, it.nlmsg_pid);
     }
     for (size_t i = NLMSG_HDRLEN; i < it.nlmsg_len; i++) {
         lines.text[lines.len++] = digits[bytes[i] >> 4];

@@ -17,10 +17,12 @@ import subprocess
 import sys
 import time
 
-LINE = re.compile(r"time=([-0-9]{10}T[:0-9]{8}\.[0-9]{9}Z) type=new kernel=(\S+) seq=([0-9]+) port=([0-9]+) "
-                  r"((?:[0-9a-f]{2}){16,})\Z")
+WORDS = r"time=([-0-9]{10}T[:0-9]{8}\.[0-9]{9}Z) type=%s kernel=(\S+) seq=([0-9]+) port=([0-9]+)"
+LINE = re.compile(WORDS % "new" + r" ((?:[0-9a-f]{2}){16,})\Z")
+BEGIN, DONE = re.compile(WORDS % "begin" + r"\Z"), re.compile(WORDS % "done" + r" family=0 links=([0-9]+)\Z")
 UP, NUMBER = 1, 0x3FFF  # a flag, and an attribute's number without its flags
-ADDRESS, NAME, MTU, LINK, MASTER, QLEN, LINKINFO, GROUP, KIND = 1, 3, 4, 5, 10, 13, 18, 27, 1
+HEADER = 16
+ADDRESS, NAME, MTU, LINK, MASTER, QLEN, INFO, GROUP, KIND = 1, 3, 4, 5, 10, 13, 18, 27, 1
 FILES = {"mtu": "mtu", "address": "address", "txqlen": "tx_queue_len", "index": "ifindex"}
 
 
@@ -43,10 +45,14 @@ def number(bytes_):
     return struct.unpack("<I", bytes_)[0]
 
 
+def index_of(bytes_):
+    return struct.unpack_from("<i", bytes_, 4)[0]
+
+
 def of_message(bytes_):
-    _, _, _, index, flags, _ = struct.unpack_from("<BBHiII", bytes_)
-    it = attributes(bytes_[16:])
-    info = attributes(it.get(LINKINFO, b""))
+    index, flags = struct.unpack_from("<iI", bytes_, 4)
+    it = attributes(bytes_[HEADER:])
+    info = attributes(it.get(INFO, b""))
     return {"index": index, "name": text(it[NAME]), "up": bool(flags & UP), "mtu": number(it[MTU]),
             "address": it.get(ADDRESS, b"").hex(":"), "txqlen": number(it[QLEN]), "group": number(it[GROUP]),
             "kind": text(info.get(KIND, b"")), "link": number(it[LINK]) if LINK in it else None,
@@ -55,15 +61,17 @@ def of_message(bytes_):
 
 def of_program(words):
     """Returns the links of the lines, of which each has its words, and those of one dump the same."""
-    lines = subprocess.run(words, capture_output=True, check=True, text=True, timeout=60).stdout.split("\n")
-    if lines.pop() != "" or not all(map(LINE.match, lines)):
-        sys.exit(f"beside: no lines as they are to be: {lines}")
-    whens, kernels, seqs, ports, digits = zip(*(LINE.match(line).groups() for line in lines))
+    ran = subprocess.run(words, capture_output=True, check=True, text=True, timeout=60)
+    begin, *lines, done, end = ran.stdout.split("\n")
+    found = [BEGIN.match(begin), *map(LINE.match, lines), DONE.match(done)]
+    if end != "" or not all(found) or int(found[-1][5]) != len(lines):
+        sys.exit(f"beside: no lines as they are to be: {begin} {lines} {done}")
+    whens, kernels, seqs, ports = zip(*(it.groups()[:4] for it in found))
     first = calendar.timegm(time.strptime(whens[0][:19], "%Y-%m-%dT%H:%M:%S"))
     if set(kernels) != {os.uname().release} or set(seqs) != {"1"} or len(set(ports)) != 1 or list(whens) != \
             sorted(whens) or abs(first - time.time()) > 30:
-        sys.exit(f"beside: words: {lines[0][:200]}")
-    return [of_message(bytes.fromhex(it)) for it in digits]
+        sys.exit(f"beside: words: {begin} {lines[0][:200]} {done}")
+    return [of_message(bytes.fromhex(it[5])) for it in found[1:-1]]
 
 
 def address(link):

@@ -10,6 +10,7 @@ what is printed says how many there were.
 """
 
 import glob
+import gzip
 import os
 import re
 import signal
@@ -129,6 +130,8 @@ class Tests:
         for name, form in FORMS.items():
             self.wants(name, self.run(form(packets)), 0, lines, [])
             self.wants(f"{name} --plain", self.run(None, "--plain"), 0, plain, [])
+            hosted = [f"host=h1 {line}" for line in lines]
+            self.wants(f"{name} --host", self.run(None, "--host", "h1"), 0, hosted, [])
             with open(self.file, "rb") as it:
                 ran = subprocess.run([self.program, "--read", "-"], stdin=it, capture_output=True, timeout=60)
             self.wants(f"{name} from standard input", (ran.returncode, ran.stdout.decode(), ran.stderr),
@@ -192,9 +195,16 @@ class Tests:
                 ("another link type", ethernet, [], "a capture of link type 1 EN10MB, not of NETLINK"),
             ]:
                 self.wants(f"{name}: {what}", self.run(capture), 1, lines, [f"linkdump: FILE: {told}"])
+            self.wants(f"{name}: by gzip", self.run(gzip.compress(form(packets))), 1, [],
+                       ["linkdump: FILE: compressed by gzip: zcat FILE | linkdump --read -"])
+            with open(self.file, "rb") as it:
+                ran = subprocess.run([self.program, "--read", "-"], stdin=it, capture_output=True, timeout=60)
+            self.wants(f"{name}: by gzip, from standard input", (ran.returncode, ran.stdout, ran.stderr),
+                       1, b"", b"linkdump: -: compressed by gzip: zcat - | linkdump --read -\n")
             status, lines, told = self.run(form(packets * 2)[:-9])
             self.wants(f"{name}: a file that was cut", (status, lines, len(told)), 1, [one.line()], 1)
-        for what, capture in [("a text", b"no capture at all\n" * 9), ("an empty file", b""), ("zeros", bytes(999))]:
+        for what, capture in [("a text", b"no capture at all\n" * 9), ("an empty file", b""), ("zeros", bytes(999)),
+                              ("gzip's first byte", b"\x1f"), ("and another", b"\x1f" + pcap(packets))]:
             status, lines, told = self.run(capture)
             self.wants(what, (status, lines, len(told), told[0][:28]), 1, [], 1, "linkdump: FILE: no capture: ")
         for file, told in [("/nowhere/x", "No such file or directory"), (os.path.dirname(self.file), None)]:

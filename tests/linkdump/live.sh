@@ -58,10 +58,11 @@ tells() {
     fi
 }
 
-# starts WORD..: linkdump in the background, with its first dump over
+# starts WORD..: linkdump in the background, with its first dump over; where `fault` is set, with that
 starts() {
     rm -f "$folder/news" "$folder/err" # what an earlier one wrote is not waited for
-    "$linkdump" "$@" >"$folder/news" 2>"$folder/err" &
+    LD_PRELOAD=${fault:+$folder/kernel_faults.so} KERNEL_FAULT=${fault:-} "$linkdump" "$@" \
+        >"$folder/news" 2>"$folder/err" &
     running=$!
     trap 'kill -KILL "$running" 2>/dev/null || true' EXIT
     waits test -s "$folder/news" || fails "$*: no dump"
@@ -80,7 +81,7 @@ stops() {
 
 # the port of linkdump itself, with which the answers to it come
 own_port() {
-    sed -n '1s/.* \(port=[0-9]*\) .*/\1/p' "$folder/news"
+    sed -n '1s/.* \(port=[0-9]*\)$/\1/p' "$folder/news"
 }
 
 # hears PATTERN: until such a line is written
@@ -89,6 +90,20 @@ hears() {
         cut -c1-200 "$folder/news" >&2
         fails "does not write $1"
     fi
+}
+
+# types FILE: the types of the lines, each once where it repeats
+types() {
+    grep -o 'type=[a-z]*' "$1" | uniq | xargs | sed 's/type=//g'
+}
+
+# holds FILE: whether the interfaces that the lines leave are those that are there
+holds() {
+    local it
+    for it in /sys/class/net/*/ifindex; do
+        echo "is  0 $(cat "$it") $(basename "$(dirname "$it")")"
+    done | sort >"$folder/there"
+    python3 "$tests/model.py" <"$1" | grep '^is  0 ' | sort | cmp -s - "$folder/there"
 }
 
 # the bytes of a number, and of a header's first eight, as hexadecimal
@@ -113,7 +128,12 @@ wrong_use() {
     wants 2 '' 'linkdump: --every: only with --monitor; see linkdump --help' --every 5
     wants 2 '' 'linkdump: --mask: not with --read; see linkdump --help' --read x --mask 1
     wants 2 '' 'linkdump: --every: not with --read; see linkdump --help' --monitor --every 1 --read -
+    wants 2 '' 'linkdump: --host: not with --plain; see linkdump --help' --host h --plain
+    wants 2 '' 'linkdump: --host: no name; see linkdump --help' --host ''
     local bad
+    for bad in 'a b' ' a' $'a\t' $'\na' $'a\x7f'; do
+        wants 2 '' "linkdump: --host: a blank or a control character in '$bad'; see linkdump --help" --host "$bad"
+    done
     for bad in 256 0x100 -1 ' 1' '' 1x 99999999999999999999; do
         wants 2 '' "linkdump: --family: neither a name nor a number up to 255: '$bad'; see linkdump --help" \
             --family "unspec,$bad"
@@ -128,6 +148,7 @@ wrong_use() {
     wants 0 "linkdump $(sed -n 's/^#define LINKWIRE_VERSION "\(.*\)"$/\1/p' "$top/include/linkwire.h")" '' --version
     "$linkdump" --help >"$folder/out"
     [ "$(head -c 18 "$folder/out")" = 'linkdump [--family' ] || fails 'no help'
+    "$linkdump" -h | cmp -s - "$folder/out" || fails 'another help'
 }
 
 # what cannot be written: linkdump WORD..
@@ -191,6 +212,16 @@ meets_faults() {
     with 'ran over' --plain >"$folder/out" || fails 'a queue that ran over'
     same_lines 2 || fails 'does not ask again: ran over'
     grep -qx "$said" "$folder/err" || fails 'does not tell: ran over'
+    with 'no room' --plain >"$folder/out" || fails 'a dump that begins later'
+    same_lines 1 || fails 'does not wait for a dump that begins later'
+    for fault in none interrupted 'ran over'; do # the dump that was dropped has no line
+        with "$fault" >"$folder/out" || fails "$fault"
+        wanted="begin new done $(grep -c ' type=new ' "$folder/out")"
+        [ "$(types "$folder/out") $(sed -n '$s/.* links=//p' "$folder/out")" = "$wanted" ] ||
+            fails "a dump between other lines: $fault"
+        wanted=$(grep -c '^asked$' "$folder/err")
+        grep -qE " type=begin .* seq=$wanted port=[0-9]+$" "$folder/out" || fails "another number: $fault"
+    done
     with refused --plain >"$folder/out" || fails 'a message that is refused'
     sed '1s/^\(.\{32\}\)..../\10300/' "$folder/lines" >"$folder/damaged"
     same_links "$folder/damaged" "$folder/out" || fails 'does not write a message as it is'
@@ -213,7 +244,14 @@ meets_faults() {
             wanted=4
         fi
         waits asked "$wanted" || fails "--monitor does not ask again: $fault"
+        hears " seq=$wanted port=[0-9]* family=7 "
         stops INT
+        case $fault in
+            interrupted) wanted='begin new done begin( new)? done' ;;
+            'ran over') wanted='lost begin new done begin( new)? done' ;;
+            *) wanted='begin new done begin( new)? done lost begin new done begin( new)? done' ;;
+        esac
+        types "$folder/news" | grep -qxE "$wanted" || fails "--monitor: other lines: $fault: $(types "$folder/news")"
     done
     echo 'live: an interrupted dump, a queue that ran over, errors, a datagram that was cut off, no netlink, no right'
 }
@@ -295,6 +333,54 @@ chooses() {
     "$linkdump" --plain --mask brvlan --family bridge >"$folder/lines"
     [ "$(wc -c <"$folder/out")" != "$(wc -c <"$folder/lines")" ] || fails '--mask brvlan is not sent'
     echo 'live: families and masks'
+    while read -r wanted words; do # the family of a whole dump, or that there is none
+        # shellcheck disable=SC2086 # words of an option
+        "$linkdump" $words >"$folder/out"
+        sed -n 's/.* type=done .* family=\([0-9]*\) links=[0-9]*$/\1/p' "$folder/out" >"$folder/before"
+        [ "$(cat "$folder/before")" = "${wanted#-}" ] ||
+            fails "$words: $(grep 'type=done' "$folder/out")"
+        if [ "$wanted" = - ] && [ "$(types "$folder/out")" != new ]; then
+            fails "$words: $(types "$folder/out")"
+        fi
+    done <<'END'
+0 --family unspec
+0 --family inet
+7 --family bridge
+7 --family bridge --mask brvlan
+7 --family bridge --mask vf,brvlan-compressed
+- --family bridge --mask vf
+- --family bridge --mask 0
+END
+    if [ "$("$linkdump" --host h1 --family unspec,bridge | sed 's/^host=h1 time=[^ ]* type=[a-z]* kernel=.*//' |
+        uniq)" != '' ]; then
+        fails '--host: a line without it'
+    fi
+    echo 'live: the lines around a dump, and --host'
+}
+
+# a link that goes between two dumps, and between two parts of one
+deletes() {
+    local index part
+    ip link add fault0 type veth peer name fault1
+    ip link set fault0 master bridge0
+    index=$(cat /sys/class/net/fault0/ifindex)
+    {
+        "$linkdump" --family unspec,bridge
+        ip link del fault0
+        "$linkdump" --family unspec,bridge
+    } >"$folder/news"
+    holds "$folder/news" || fails 'two dumps leave other interfaces'
+    [ "$(python3 "$tests/model.py" <"$folder/news" | grep -E "^gone  [07] $index$" | xargs)" = \
+        "gone 0 $index gone 7 $index" ] || fails 'a link that went between two dumps'
+    for part in unspec bridge; do
+        ip link add fault0 type "$kind"
+        with deleted --family "$part" >"$folder/out" || fails "a link that goes within a dump: $part"
+        asked 2 || fails "does not ask again for what lacks a link: $part"
+        if [ "$(types "$folder/out")" != 'begin new done' ] || grep -v ' seq=2 ' "$folder/out"; then
+            fails "a dump within which a link went has lines: $part"
+        fi
+    done
+    echo 'live: a link that goes between two dumps, and within one of each family, without --monitor'
 }
 
 # changes as they come, an interface deleted whose index is used again, and its ports'
@@ -337,31 +423,57 @@ dropped() {
     awk -v id="$running" '$2 == 0 && $3 == id && $9 > 0 { found = 1 } END { exit !found }' /proc/net/netlink
 }
 
-# stops linkdump, and has the kernel announce more than its socket holds
+# overfills [TIMES]: stops linkdump, and has the kernel announce more than its socket holds, at least so many times 400
 overfills() {
     local try
     kill -STOP "$running"
     for try in $(seq 60); do
         seq 1000 1400 | sed "s/.*/link set $base mtu &/" | ip -batch -
-        if dropped; then
+        if [ "$try" -ge "${1:-1}" ] && dropped; then
             break
         fi
     done
     dropped || fails "a queue does not run over, after $try times"
 }
 
+# what was queued comes first, then the line that says that some were lost, and then what is there
 runs_over() {
+    local fault=small index lost
+    ip link add early0 type "$kind"
+    ip link add other0 index 4712 type veth peer name other1
+    index=$(index_of early0)
     starts --monitor
-    overfills
-    ip link add gone0 type "$kind"
+    hears ' family=7 '
+    kill -STOP "$running"
+    ip link set early0 mtu 1301
+    ip link set other0 mtu 1301
+    overfills 6
+    ip link del early0
+    ip link del other0
+    ip link add other0 index 4712 type "$kind"
+    ip link add late0 type "$kind"
     ip link set "$base" mtu 1234
     kill -CONT "$running"
     hears " $(own_port) .*$(mtu 1234)"
+    hears ' seq=4 port=[0-9]* family=7 '
+    stops INT
     grep -qx 'linkdump: the queue ran over: messages are lost, and the links are asked for again' "$folder/err" ||
         fails 'does not tell that a queue ran over'
-    stops INT
-    ip link del gone0
-    echo 'live: --monitor: a queue that ran over is told, and a dump follows'
+    lost=$(grep -n ' type=lost kernel=[^ ]*$' "$folder/news" | cut -d : -f 1)
+    sed "1,${lost}d" "$folder/news" >"$folder/out"
+    [ "$(types "$folder/out")" = 'begin new done begin new done' ] || fails 'after a queue that ran over: other lines'
+    sed "$lost,\$d" "$folder/news" >"$folder/before"
+    grep -q " 00......$index.*$(mtu 1301)" "$folder/before" || fails 'what was queued is not written'
+    if grep -q " 0[07]......$index" "$folder/out"; then
+        fails 'what was queued stands after the line that says that messages are lost'
+    fi
+    holds "$folder/news" || fails 'after a queue that ran over: other interfaces'
+    python3 "$tests/model.py" <"$folder/news" | grep ' 4712$' | xargs | grep -qE 'new 0 4712 gone 0 4712 new 0 4712' ||
+        fails 'another kind of link at an index is the same interface'
+    ip link del late0
+    ip link del other0
+    echo "live: --monitor: a queue that ran over is told, after $((lost - 1)) lines, and a dump follows: links that" \
+        'went, and one of another kind at an index'
 }
 
 # what linkshow makes of it, where it is built
@@ -487,6 +599,7 @@ inside() {
     shows
     "$linkdump" --plain >"$folder/lines"
     chooses
+    deletes
     monitors
     runs_over
     differs

@@ -1,6 +1,6 @@
-/* Preloaded into an example or into linkdump: once, recv fails or gives what a kernel gives seldom, or each call of
- * socket fails. KERNEL_FAULT says which. Each send is reported on standard error, and where that is 'none', what it
- * sends, in hexadecimal. */
+/* Preloaded into an example or into linkdump: once, recv fails or gives what a kernel gives seldom, or a link is
+ * deleted after a request; or each call of socket fails, or the queue is small. KERNEL_FAULT says which. Each send is
+ * reported on standard error, and where that is 'none', what it sends, in hexadecimal. */
 #define _GNU_SOURCE
 #include <dlfcn.h>
 #include <errno.h>
@@ -44,7 +44,13 @@ ssize_t send(int fd, const void *bytes, size_t len, int flags) {
         }
         dprintf(STDERR_FILENO, "\n");
     }
-    return own(fd, bytes, len, flags);
+    ssize_t sent = own(fd, bytes, len, flags);
+    if (fault != NULL && strcmp(fault, "deleted") == 0 && !is_over) { /* a link, after the first part of a dump */
+        is_over = 1;
+        unsetenv("LD_PRELOAD");
+        sent = system("ip link del fault0") == 0 ? sent : -1;
+    }
+    return sent;
 }
 
 int socket(int family, int type, int protocol) {
@@ -59,17 +65,43 @@ int socket(int family, int type, int protocol) {
     return own(family, type, protocol);
 }
 
+/* A queue that a few announcements fill. */
+int setsockopt(int fd, int level, int name, const void *value, socklen_t len) {
+    int (*own)(int, int, int, const void *, socklen_t);
+    *(void **)&own = dlsym(RTLD_NEXT, "setsockopt");
+    const char *fault = getenv("KERNEL_FAULT");
+    const int room = 1 << 17;
+    bool is_small = fault != NULL && strcmp(fault, "small") == 0 && (name == SO_RCVBUF || name == SO_RCVBUFFORCE);
+    return own(fd, level, name, is_small ? &room : value, len);
+}
+
+/* What the kernel answers where the queue has no room for the first part of a dump, in front of that part. */
+static ssize_t give_no_room(int fd, void *buffer, ssize_t (*own)(int, void *, size_t, int)) {
+    const int error = -ENOBUFS;
+    struct nlmsghdr *head = buffer;
+    ssize_t found = own(fd, head, sizeof *head, MSG_PEEK);
+    head->nlmsg_type = NLMSG_ERROR;
+    head->nlmsg_len = NLMSG_LENGTH(sizeof(struct nlmsgerr));
+    memset(NLMSG_DATA(head), 0, sizeof(struct nlmsgerr));
+    memcpy(NLMSG_DATA(head), &error, sizeof error);
+    return found < 0 ? found : (ssize_t)head->nlmsg_len;
+}
+
 ssize_t recv(int fd, void *buffer, size_t len, int flags) {
     ssize_t (*own)(int, void *, size_t, int);
     *(void **)&own = dlsym(RTLD_NEXT, "recv");
     const char *fault = getenv("KERNEL_FAULT");
-    if (fault == NULL || is_over) {
+    if (fault == NULL || is_over || strcmp(fault, "small") == 0) {
         return own(fd, buffer, len, flags);
     }
     if (strcmp(fault, "ran over") == 0) {
         is_over = 1;
         errno = ENOBUFS;
         return -1;
+    }
+    if (strcmp(fault, "no room") == 0 && (flags & MSG_PEEK) == 0) {
+        is_over = 1;
+        return give_no_room(fd, buffer, own);
     }
     ssize_t found = own(fd, buffer, len, flags);
     if (found <= 0 || (flags & MSG_PEEK) != 0) {
