@@ -1,7 +1,8 @@
 #!/usr/bin/env bash
 # Compiles linkdump by each compiler that is there, with every warning an error, with libpcap and without; runs it on
-# the running kernel and on captures, as it is built and with sanitizers. What cannot be had is 'skipped'. The last line
-# is 'linkdump passed'.
+# the running kernel and on captures, as it is built and with sanitizers; and holds its lines to what is there while
+# links come and go: linkdump_tests.sh [RUNS], of which 15 take some 20 seconds. What cannot be had is 'skipped'. The
+# last line is 'linkdump passed'.
 set -euo pipefail
 top=$(cd "$(dirname "$0")/.." && pwd)
 folder=$(mktemp -d)
@@ -56,8 +57,17 @@ for program in "$folder/linkdump" ${sanitized:+"$sanitized"}; do
     "$top/tests/linkdump/live.sh" "$program"
 done
 if ! command -v python3 >/dev/null; then
-    echo 'linkdump: skipped: captures: no python3'
-elif [ "${#pcap[@]}" != 0 ]; then
+    echo 'linkdump: skipped: links that come and go, captures: no python3'
+    echo 'linkdump passed'
+    exit 0
+fi
+python3 "$top/tests/linkdump/hosts.py"
+if command -v ip >/dev/null && "$folder/linkdump" >/dev/null 2>&1; then
+    python3 "$top/tests/linkdump/churn.py" "$folder/linkdump" "${1:-15}"
+else
+    echo 'linkdump: skipped: links that come and go: no command ip, or no netlink'
+fi
+if [ "${#pcap[@]}" != 0 ]; then
     python3 "$top/tests/linkdump/captures.py" "$folder/linkdump"
     if [ -n "$sanitized" ]; then
         python3 "$top/tests/linkdump/captures.py" "$sanitized"
