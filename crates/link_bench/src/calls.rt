@@ -53,7 +53,21 @@ fn add_encoding(
     }
 }
 
-/// Adds the encodings of a message.
+/// Adds how long an encoding is that was written, or why there is none.
+fn add_length(
+    alloc: Global,
+    written: Result<usize, RoomError>,
+    digest: &mut Digest,
+) -> Result<(), AllocError> {
+    match written {
+        Ok(len) => digest.add_number(alloc, len as u64),
+        Err(RoomError::NoEncoding(error)) => digest.add_number(alloc, error.number() as u64),
+        Err(RoomError::NoRoom { wanted }) => digest.add_number(alloc, wanted as u64),
+    }
+}
+
+/// Adds the canonical encoding of a message, and of its state encoding the length: what is zero there differs from form
+/// to form.
 fn add_encodings(
     alloc: Global,
     bytes: &[u8],
@@ -63,7 +77,7 @@ fn add_encodings(
     let canonical = canonical_within(bytes, room);
     add_encoding(alloc, canonical, room, digest)?;
     let state = state_within(bytes, room);
-    add_encoding(alloc, state, room, digest)
+    add_length(alloc, state, digest)
 }
 
 /// Adds where the fault of bytes is, if they have one.
