@@ -129,19 +129,16 @@ def look_at_linkstate(program, made, size):
 def look_at_linkshow(program, made, size):
     host = (LETTERS.replace(" ", "").replace("\n", "\r") * (size // 8)).encode()[:size].decode(errors="ignore")
     words = b"host=" + host.encode() + b" "
-    many = b"".join(b"k%d=v " % at for at in range(size // 16))
+    keys = [f"k{at}" for at in range(min(size, 1_200_000) // 16)]
+    many = "".join(f"{key}=v " for key in keys).encode()
     short = {"ifi-family": 0, "ifi-type": 1, "ifi-index": 7, "ifi-flags": made.members["ifi-flags"], "ifi-change": 0x55}
     lines = [made.message.hex().encode(), SHORT, words + SHORT, many + SHORT, made.faulty().hex().encode(), SHORT]
     *found, faulty, last = [json.loads(it) for it in answers(program, lines)]
-    wanted = [made.members, short, {"host": host, **short}, {**dict.fromkeys(many_keys(size), "v"), **short}, short]
+    wanted = [made.members, short, {"host": host, **short}, {**dict.fromkeys(keys, "v"), **short}, short]
     compare("linkshow", [*found, last], wanted)
     if faulty["fault"] != "frame-under" or faulty["offset"] != len(made.message):
         fails("linkshow: of a fault:", {**faulty, "before": None})
     compare("linkshow: before a fault", [faulty["before"]], [in_front(made.members)])
-
-
-def many_keys(size):
-    return [f"k{at}" for at in range(size // 16)]
 
 
 def in_front(members):
