@@ -476,6 +476,38 @@ runs_over() {
         'went, and one of another kind at an index'
 }
 
+# whether a whole dump of both families stands behind the line that says that messages are lost
+# shellcheck disable=SC2317 # waits calls it
+is_followed() {
+    sed '1,/ type=lost /d' "$folder/news" >"$folder/out"
+    grep -q ' family=7 ' "$folder/out"
+}
+
+# the same where a dump is due before what was queued is read: that stands behind no beginning
+is_late() {
+    local fault=small index queued
+    ip link add early0 type "$kind"
+    index=$(index_of early0)
+    starts --monitor --every 0.001
+    hears ' family=7 '
+    kill -STOP "$running"
+    ip link set early0 mtu 1301
+    overfills
+    ip link del early0
+    kill -CONT "$running"
+    hears ' type=lost '
+    waits is_followed || fails 'after a queue that ran over: no dump'
+    stops INT
+    is_followed
+    queued=" 00......$index.*$(mtu 1301)"
+    if ! sed '/ type=lost /,$d' "$folder/news" | awk -v queued="$queued" '/ type=(begin|done) / { found = 0 }
+        $0 ~ queued { found = 1 } END { exit !found }' || grep -q " 0[07]......$index" "$folder/out"; then
+        fails 'a dump that is due is asked for before what was queued is read'
+    fi
+    holds "$folder/news" || fails 'after a queue that ran over, and --every: other interfaces'
+    echo 'live: --monitor --every: the same where a dump is due'
+}
+
 # what linkshow makes of it, where it is built
 shows() {
     local show=$top/out/linkshow
@@ -602,6 +634,7 @@ inside() {
     deletes
     monitors
     runs_over
+    is_late
     differs
     echo 'live passed'
 }
