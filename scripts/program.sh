@@ -197,6 +197,47 @@ if [ "$name" = linkdiff ]; then
 {"time":"1","host":"d","change":"gone","ifi-family":7,"ifi-index":9,"ifname":"e0"}
 {"time":"1","host":"d","change":"gone","ifi-family":10,"ifi-index":9,"ifname":"e0"}' ""
 
+    # one of the files is standard input; the whole dumps of a file say of which families it tells what is not there
+    status=0; "$program" - "$folder/new" <"$folder/old" >"$folder/one" 2>"$folder/err" || status=$?
+    cmp "$folder/one" "$folder/out"
+    status=0; "$program" "$folder/old" - <"$folder/new" >"$folder/one" 2>"$folder/err" || status=$?
+    cmp "$folder/one" "$folder/out"
+    {
+        echo type=begin seq=1 port=1
+        link 00 01
+        link 00 02
+        echo type=done seq=1 port=1 family=0
+        link 07 02
+        echo "host=b $(link 00 01)"
+    } >"$folder/old"
+    {
+        echo type=begin seq=1 port=1
+        link 00 02 0600040000000000
+        link 00 03
+        echo type=done seq=1 port=1 family=0
+        echo host=b type=begin seq=1 port=1
+        echo "host=b $(link 00 02)"
+    } >"$folder/new"
+    status=0; "$program" "$folder/old" "$folder/new" >"$folder/out" 2>"$folder/err" || status=$?
+    wants "two files with dumps" 0 '{"fault":"wrong-length","at":"IFLA_MTU","got":2,"want":4,"offset":24,'"\
+"'"ifi-family":0,"ifi-index":2,"before":{"ifname":"e0"}}
+{"change":"new","ifi-family":0,"ifi-index":3,"ifname":"e0"}
+{"change":"gone","ifi-family":0,"ifi-index":1,"ifname":"e0"}' \
+        "$name: $folder/old: no whole dump of family 0, host=b: what came is not told
+$name: $folder/new: no whole dump of family 7, host=: what went is not told
+$name: $folder/new: no whole dump of family 0, host=b: what went is not told"
+    status=0; "$program" --changes-only <"$folder/old" >"$folder/out" 2>"$folder/err" || status=$?
+    wants "--changes-only" 0 "" ""
+    status=0; { cat "$folder/old"; link 00 04; link 07 04; } | "$program" --changes-only >"$folder/out" \
+        2>"$folder/err" || status=$?
+    wants "--changes-only, after a whole dump" 0 '{"change":"new","ifi-family":0,"ifi-index":4,"ifname":"e0"}' ""
+    for words in '--changes-only x y' '- -' -; do
+        read -r -a list <<<"$words"
+        status=0; "$program" "${list[@]}" </dev/null >"$folder/out" 2>"$folder/err" || status=$?
+        [ "$(wc -l <"$folder/err")" = 1 ] || { echo "$name: '$words' is not told in one line" >&2; exit 1; }
+        wants "the arguments '$words'" 2 "" "$(cat "$folder/err")"
+    done
+
     # the fifth counter of IPv6: its name is that of a word kernel=
     for kernel in 6.1.0:outforwdatagrams 6.16.0:noectpkts; do
         for count in 07 08; do

@@ -1,6 +1,6 @@
 //! The arguments of the program.
 
-use message_diff::Compared;
+use message_diff::{Compared, Told};
 use std::alloc::{AllocError, Global};
 use std::env::Args;
 
@@ -12,19 +12,53 @@ pub enum Request {
     /// `--version`: which one it is.
     Version,
     /// Each line of standard input beside the last of its interface.
-    Stream(Compared),
-    /// One file beside another.
+    Stream(Compared, Told),
+    /// One file beside another, of which one may be `-`, standard input.
     Files(Compared, String, String),
     /// An argument that there is not, or one beside `--help` or `--version`.
     Wrong(String),
-    /// One file, or more than two.
+    /// One file, or more than two, or `-` twice.
     Count,
+    /// `--changes-only` beside files.
+    NoStream,
+}
+
+/// The options that may stand together, and the names of files.
+#[derive(Drop)]
+struct Options {
+    by: Compared,
+    told: Told,
+    names: Vec<String>,
+}
+
+/// What these ask for.
+fn asked(options: Options) -> Request {
+    let Options { by, told, names } = options;
+    if names.is_empty() {
+        return Request::Stream(by, told);
+    }
+    if told == Told::Changes {
+        return Request::NoStream;
+    }
+    let mut names = names.into_iter();
+    match (names.next(), names.next(), names.next()) {
+        (Some(old), Some(new), None) => {
+            if old.as_str() == "-" && new.as_str() == "-" {
+                return Request::Count;
+            }
+            Request::Files(by, old, new)
+        }
+        _ => Request::Count,
+    }
 }
 
 /// What these words ask for, of which the first is the program's name.
 pub fn requested(alloc: Global, words: Args) -> Result<Request, AllocError> {
-    let mut by = Compared::State;
-    let mut names = Vec::new(alloc);
+    let mut options = Options {
+        by: Compared::State,
+        told: Told::All,
+        names: Vec::new(alloc),
+    };
     let mut alone = None;
     let mut is_first = true;
     for word in words.skip(1) {
@@ -35,21 +69,16 @@ pub fn requested(alloc: Global, words: Args) -> Result<Request, AllocError> {
             "--help" if is_first => alone = Some(Request::Help),
             "-h" if is_first => alone = Some(Request::Help),
             "--version" if is_first => alone = Some(Request::Version),
-            "--counters" => by = Compared::Message,
+            "--counters" => options.by = Compared::Message,
+            "--changes-only" => options.told = Told::Changes,
+            "-" => options.names.push(word)?,
             other if other.starts_with("-") => return Ok(Request::Wrong(word)),
-            _ => names.push(word)?,
+            _ => options.names.push(word)?,
         }
         is_first = false;
     }
-    if let Some(request) = alone {
-        return Ok(request);
-    }
-    if names.is_empty() {
-        return Ok(Request::Stream(by));
-    }
-    let mut names = names.into_iter();
-    match (names.next(), names.next(), names.next()) {
-        (Some(old), Some(new), None) => Ok(Request::Files(by, old, new)),
-        _ => Ok(Request::Count),
+    match alone {
+        Some(request) => Ok(request),
+        None => Ok(asked(options)),
     }
 }

@@ -5,24 +5,27 @@ mod arguments;
 
 use arguments::{Request, requested};
 use line_filter::error::RunError;
-use message_diff::{Compared, compare_lines, compare_readers};
+use message_diff::{Compared, Told, Untold, compare_readers, watch_lines};
 use std::env;
 use std::fs::File;
-use std::io::ErrorKind;
+use std::io::{ErrorKind, Read};
 use std::process::ExitCode;
 
 /// What `--help` writes.
-const HELP: &str = "usage: linkdiff [--counters] [OLD NEW]
+const HELP: &str = "usage: linkdiff [--counters] [--changes-only | OLD NEW]
        linkdiff --help | --version
 
 Reads lines of hexadecimal digits, each the bytes of a link message of route netlink, and writes a line of JSON for each
 interface that came, went or changed: of each member that linkshow shows and that differs the path, the old value and
-the new one. OLD and NEW are files, of which the last message of each interface counts; with no file each line of
-standard input is compared with the last one of its interface. An interface has a family, an index and a word host=.
+the new one. With no file each line of standard input is compared with the last one of its interface; of the files OLD
+and NEW, of which one may be - for standard input, it is what each of them leaves at its end. An interface has a family,
+an index and a word host=. Lines of words alone, type=begin and type=done, say where a dump begins and ends: what it
+does not have went.
 
-  --counters  compare also what moves by itself, as packet counts
-  -h, --help  print this
-  --version   print the version
+  --counters      compare also what moves by itself, as packet counts
+  --changes-only  no line for what is there as a host is first asked
+  -h, --help      print this
+  --version       print the version
 ";
 
 /// What `--version` writes.
@@ -39,7 +42,7 @@ fn main(rt: HostRuntime) -> ExitCode {
     match requested(rt.alloc(), words) {
         Ok(Request::Help) => write_text(rt, HELP),
         Ok(Request::Version) => write_text(rt, VERSION),
-        Ok(Request::Stream(by)) => run_stream(rt, by),
+        Ok(Request::Stream(by, told)) => run_stream(rt, by, told),
         Ok(Request::Files(by, old, new)) => run_files(rt, by, old.as_str(), new.as_str()),
         Ok(Request::Wrong(word)) => {
             let _ = eprintln!(rt; "linkdiff: not understood: {word}; see linkdiff --help");
@@ -47,6 +50,12 @@ fn main(rt: HostRuntime) -> ExitCode {
         }
         Ok(Request::Count) => {
             let _ = eprintln!(rt; "linkdiff: two files, or none; see linkdiff --help");
+            ExitCode::from(USAGE)
+        }
+        Ok(Request::NoStream) => {
+            let _ = eprintln!(rt;
+                "linkdiff: --changes-only goes with no file; see linkdiff --help"
+            );
             ExitCode::from(USAGE)
         }
         Err(_) => {
@@ -92,24 +101,75 @@ fn ended(rt: HostRuntime, outcome: Result<(), RunError>) -> ExitCode {
 }
 
 /// Compares the lines of standard input, each with the last one of its interface.
-fn run_stream(rt: HostRuntime, by: Compared) -> ExitCode {
+fn run_stream(rt: HostRuntime, by: Compared, told: Told) -> ExitCode {
     let mut reader = rt.stdin();
     let mut writer = rt.stdout();
-    let outcome = compare_lines(rt.alloc(), by, &mut reader, &mut writer);
+    let outcome = watch_lines(rt.alloc(), by, told, &mut reader, &mut writer);
     ended(rt, outcome)
 }
 
-/// Compares the last lines of each interface in two files.
+/// Compares what two files leave at their ends.
 fn run_files(rt: HostRuntime, by: Compared, old: &str, new: &str) -> ExitCode {
+    if old == "-" {
+        return match File::open(&rt, new) {
+            Ok(mut second) => run_readers(&rt, by, (old, new), &mut rt.stdin(), &mut second),
+            Err(_) => refuse_file(rt, new),
+        };
+    }
     let Ok(mut first) = File::open(&rt, old) else {
-        let _ = eprintln!(rt; "linkdiff: cannot open {old}");
-        return ExitCode::FAILURE;
+        return refuse_file(rt, old);
     };
-    let Ok(mut second) = File::open(&rt, new) else {
-        let _ = eprintln!(rt; "linkdiff: cannot open {new}");
-        return ExitCode::FAILURE;
-    };
+    if new == "-" {
+        return run_readers(&rt, by, (old, new), &mut first, &mut rt.stdin());
+    }
+    match File::open(&rt, new) {
+        Ok(mut second) => run_readers(&rt, by, (old, new), &mut first, &mut second),
+        Err(_) => refuse_file(rt, new),
+    }
+}
+
+/// Says that a file cannot be opened.
+fn refuse_file(rt: HostRuntime, name: &str) -> ExitCode {
+    let _ = eprintln!(rt; "linkdiff: cannot open {name}");
+    ExitCode::FAILURE
+}
+
+/// Compares what two readers leave at their ends, of which these are the names, and says what is not told.
+fn run_readers<R: Read, S: Read>(
+    rt: &HostRuntime,
+    by: Compared,
+    names: (&str, &str),
+    old: &mut R,
+    new: &mut S,
+) -> ExitCode {
     let mut writer = rt.stdout();
-    let outcome = compare_readers(rt.alloc(), by, &mut first, &mut second, &mut writer);
-    ended(rt, outcome)
+    let outcome = compare_readers(rt.alloc(), by, old, new, &mut writer);
+    match outcome {
+        Ok(untold) => {
+            for one in untold.as_slice() {
+                tell_untold(rt, names, one);
+            }
+            ExitCode::SUCCESS
+        }
+        Err(error) => {
+            let _ = eprintln!(rt; "linkdiff: {error}");
+            ExitCode::FAILURE
+        }
+    }
+}
+
+/// Says of which family of a host it is not told what came or went.
+fn tell_untold(rt: &HostRuntime, names: (&str, &str), untold: &Untold) {
+    let (file, what) = if untold.is_new {
+        (names.1, "went")
+    } else {
+        (names.0, "came")
+    };
+    let family = untold.family;
+    let Ok(host) = untold.host(rt.alloc()) else {
+        return;
+    };
+    let _ = eprintln!(rt;
+        "linkdiff: {file}: no whole dump of family {family}, host={host}: what {what} is not told"
+    );
 }

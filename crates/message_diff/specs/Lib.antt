@@ -1,2 +1,4 @@
 pub mod Compared
 pub mod Members
+pub mod Known
+pub mod Held

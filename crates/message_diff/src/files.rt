@@ -2,60 +2,224 @@
 
 use crate::lines::{read_lines, write_out};
 use crate::snapshot::Compared;
-use crate::store::Store;
+use crate::store::{Entry, Host, Hosts};
 use crate::told::{push_changed, push_gone, push_new};
-use crate::watch::Watch;
+use crate::watch::{Told, Watch};
 use line_filter::error::RunError;
+use message_shown::context::text_of;
 use std::alloc::{AllocError, Global};
 use std::io::{Read, Write};
 
-/// Adds what came, went or changed: first each interface of the new store, in order, and then those that went.
-fn push_stores(
-    alloc: Global,
-    old: &mut Store,
-    new: &mut Store,
-    out: &mut Vec<u8>,
-) -> Result<(), AllocError> {
-    for (key, is) in new.iter_mut() {
-        match old.remove(key) {
-            Some(last) => {
-                let mut was = last;
-                let words = is.words.as_slice();
-                push_changed(alloc, words, &mut was.snapshot, &mut is.snapshot, out)?;
-            }
-            None => push_new(alloc, is.words.as_slice(), &mut is.snapshot, out)?,
+/// A family of a host of which it is not told what came or what went, since one file has no whole dump of it.
+#[derive(Drop)]
+pub struct Untold {
+    /// Whether it is the new file: then it is not told what went.
+    pub is_new: bool,
+    pub family: u8,
+    host: Vec<u8>,
+}
+
+impl Untold {
+    /// The host's name: its digits, where it is no UTF-8.
+    pub fn host(&self, alloc: Global) -> Result<String, AllocError> {
+        match text_of(self.host.as_slice()) {
+            Some(text) => String::from_str(alloc, text),
+            None => hex::encode(alloc, self.host.as_slice()),
         }
     }
-    for was in old.values_mut() {
-        push_gone(alloc, was.words.as_slice(), &mut was.snapshot, out)?;
+
+    /// Whether it is this one.
+    fn is(&self, is_new: bool, family: u8, host: &[u8]) -> bool {
+        self.is_new == is_new && self.family == family && self.host.as_slice() == host
+    }
+}
+
+/// What is written, and what is not told.
+#[derive(Drop)]
+struct Written {
+    out: Vec<u8>,
+    untold: Vec<Untold>,
+}
+
+impl Written {
+    /// Adds a family of a host of which something is not told, unless it was the last one that was added.
+    fn add_untold(
+        &mut self,
+        alloc: Global,
+        is_new: bool,
+        family: u8,
+        host: &[u8],
+    ) -> Result<(), AllocError> {
+        if let Some(last) = self.untold.last() {
+            if last.is(is_new, family, host) {
+                return Ok(());
+            }
+        }
+        let host = host.to_vec(alloc)?;
+        self.untold.push(Untold {
+            is_new,
+            family,
+            host,
+        })?;
+        Ok(())
+    }
+}
+
+/// What one file leaves at its end.
+#[derive(Drop)]
+struct Given {
+    hosts: Hosts,
+    /// Whether a dump began or ended in it.
+    has_dumps: bool,
+}
+
+/// What one file says of a host.
+#[derive(Clone, Copy)]
+struct Side<'a> {
+    name: &'a [u8],
+    has_dumps: bool,
+    is_new: bool,
+}
+
+impl Side<'_> {
+    /// Whether what it has not of a family was not there.
+    fn tells(self, host: Option<&Host>, family: u8) -> bool {
+        match host {
+            Some(host) => !self.has_dumps || host.is_whole(family),
+            None => !self.has_dumps,
+        }
+    }
+}
+
+/// Adds what changed of an interface whose last message in the old file is this.
+fn push_entry(
+    alloc: Global,
+    was: Entry,
+    is: &mut Entry,
+    out: &mut Vec<u8>,
+) -> Result<(), AllocError> {
+    let mut last = was;
+    let words = is.words.as_slice();
+    push_changed(alloc, words, &mut last.snapshot, &mut is.snapshot, out)?;
+    Ok(())
+}
+
+/// Adds what came or changed of a host, and takes out of the old one what the new one has. Of an interface of which one
+/// side has nothing but refusals nothing is added.
+fn push_host(
+    alloc: Global,
+    side: Side<'_>,
+    old: &mut Host,
+    new: &mut Host,
+    written: &mut Written,
+) -> Result<(), AllocError> {
+    for (key, known) in new.known.iter_mut() {
+        let was = old.take(*key);
+        let Some(is) = known.last.as_mut() else {
+            continue;
+        };
+        match was {
+            Some(was) => {
+                if let Some(entry) = was.last {
+                    push_entry(alloc, entry, is, &mut written.out)?;
+                }
+            }
+            None if side.tells(Some(old), key.family) => {
+                let words = is.words.as_slice();
+                push_new(alloc, words, &mut is.snapshot, &mut written.out)?;
+            }
+            None => written.add_untold(alloc, side.is_new, key.family, side.name)?,
+        }
     }
     Ok(())
 }
 
-/// The last message of each interface that a reader gives. What has a fault is told.
-fn stored<R: Read, W: Write>(
+/// Adds what went of a host: what is left of the old one.
+fn push_left(
+    alloc: Global,
+    side: Side<'_>,
+    old: &mut Host,
+    new: Option<&Host>,
+    written: &mut Written,
+) -> Result<(), AllocError> {
+    for (key, known) in old.known.iter_mut() {
+        let Some(was) = known.last.as_mut() else {
+            continue;
+        };
+        if side.tells(new, key.family) {
+            let words = was.words.as_slice();
+            push_gone(alloc, words, &mut was.snapshot, &mut written.out)?;
+        } else {
+            written.add_untold(alloc, side.is_new, key.family, side.name)?;
+        }
+    }
+    Ok(())
+}
+
+/// Adds what came, went or changed: first each interface of the new file, in order, and then those that went.
+fn push_given(
+    alloc: Global,
+    old: &mut Given,
+    new: &mut Given,
+    written: &mut Written,
+) -> Result<(), AllocError> {
+    for (name, is) in new.hosts.iter_mut() {
+        let side = Side {
+            name: name.as_slice(),
+            has_dumps: old.has_dumps,
+            is_new: false,
+        };
+        if let Some(was) = old.hosts.get_mut(name) {
+            push_host(alloc, side, was, is, written)?;
+        } else {
+            push_host(alloc, side, &mut Host::new(alloc), is, written)?;
+        }
+    }
+    for (name, was) in old.hosts.iter_mut() {
+        let side = Side {
+            name: name.as_slice(),
+            has_dumps: new.has_dumps,
+            is_new: true,
+        };
+        push_left(alloc, side, was, new.hosts.get(name), written)?;
+    }
+    Ok(())
+}
+
+/// What a reader leaves at its end. What has a fault is told.
+fn read_all<R: Read, W: Write>(
     alloc: Global,
     by: Compared,
     reader: &mut R,
     writer: &mut W,
-) -> Result<Store, RunError> {
-    let mut watch = Watch::new(alloc, by, false);
+) -> Result<Given, RunError> {
+    let mut watch = Watch::new(alloc, by, Told::Faults);
     read_lines(alloc, reader, &mut watch, writer)?;
-    Ok(watch.into_store())
+    Ok(Given {
+        has_dumps: watch.has_dumps(),
+        hosts: watch.into_hosts(),
+    })
 }
 
-/// Compares the last messages of each interface that two readers give, and writes what came, went or changed. What has
-/// a fault is told first.
-pub fn compare_readers<R: Read, W: Write>(
+/// Compares what two readers leave at their ends, and writes what came, went or changed: faults first.
+///
+/// Where dumps began or ended in what a reader gives, it says only of the families of a host of which a dump was whole
+/// what is not there. What is not told for that is returned.
+pub fn compare_readers<R: Read, S: Read, W: Write>(
     alloc: Global,
     by: Compared,
     old: &mut R,
-    new: &mut R,
+    new: &mut S,
     writer: &mut W,
-) -> Result<(), RunError> {
-    let mut first = stored(alloc, by, old, writer)?;
-    let mut second = stored(alloc, by, new, writer)?;
-    let mut out = Vec::new(alloc);
-    push_stores(alloc, &mut first, &mut second, &mut out)?;
-    write_out(writer, &mut out)
+) -> Result<Vec<Untold>, RunError> {
+    let mut first = read_all(alloc, by, old, writer)?;
+    let mut second = read_all(alloc, by, new, writer)?;
+    let mut written = Written {
+        out: Vec::new(alloc),
+        untold: Vec::new(alloc),
+    };
+    push_given(alloc, &mut first, &mut second, &mut written)?;
+    write_out(writer, &mut written.out)?;
+    let Written { untold, .. } = written;
+    Ok(untold)
 }

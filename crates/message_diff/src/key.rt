@@ -1,53 +1,61 @@
-//! Which interface a message is of.
+//! Which interface of its host a message is of.
+
+ghost use Rattle.std.specs.Prelude.{◌≡◌, ◌==◌};
+ghost use Rattle.message_diff.specs.Known.{reaches, in_family};
 
 use link_msg::header::HEADER_SIZE;
 use nla_wire::fields::u32_at;
-use std::alloc::{AllocError, Global};
 
 /// The family of messages that speak of an interface alone.
 const AF_UNSPEC: u8 = 0;
 
-/// The families of messages that say more of an interface: AF_BRIDGE, of a bridge or the port of one, and AF_INET6.
-pub const FAMILIES_OF_PARTS: [u8; 2] = [7, 10];
+/// The family of messages that say more of a bridge or of the port of one.
+pub const AF_BRIDGE: u8 = 7;
 
-/// An interface.
-#[derive(PartialEq, Eq, PartialOrd, Ord, Drop)]
+/// The family of messages that say more of an interface with IPv6.
+pub const AF_INET6: u8 = 10;
+
+/// An interface of a host.
+#[derive(Clone, Copy, Debug, PartialEq, Eq, PartialOrd, Ord)]
 pub struct Key {
-    host: Vec<u8>,
-    family: u8,
-    index: u32,
+    pub family: u8,
+    pub index: u32,
 }
 
 impl Key {
-    /// The interface of a message that this host sent.
-    pub fn new(alloc: Global, host: &[u8], message: &[u8]) -> Result<Key, AllocError> {
-        let host = host.to_vec(alloc)?;
+    /// The interface of a message. Bytes that are too few for a header are of none.
+    pub fn of(message: &[u8]) -> Option<Key> {
         if message.len() < HEADER_SIZE {
-            return Ok(Key {
-                host,
-                family: AF_UNSPEC,
-                index: 0,
-            });
+            return None;
         }
-        Ok(Key {
-            host,
+        Some(Key {
             family: message[0],
             index: u32_at(message, 4),
         })
     }
 
     /// Whether this is the interface alone.
-    pub fn is_alone(&self) -> bool {
+    pub fn is_alone(self) -> bool
+        ensures { result ≡ (self.family == 0) }
+    {
         self.family == AF_UNSPEC
     }
 
     /// The same interface in this family.
-    pub fn in_family(&self, alloc: Global, family: u8) -> Result<Key, AllocError> {
-        let host = self.host.as_slice().to_vec(alloc)?;
-        Ok(Key {
-            host,
+    pub fn in_family(self, family: u8) -> Key
+        ensures { result ≡ in_family family self }
+    {
+        Key {
             family,
             index: self.index,
-        })
+        }
+    }
+
+    /// Whether what ends in a family ends in this one's too: in AF_UNSPEC, where an interface ends, its parts do.
+    pub fn is_reached_from(self, family: u8) -> bool
+        ensures { result ≡ reaches family self.family }
+    {
+        self.family == family
+            || (family == AF_UNSPEC && (self.family == AF_BRIDGE || self.family == AF_INET6))
     }
 }

@@ -2,6 +2,7 @@
 //! of interfaces.
 #![tactic(auto)]
 
+mod announced;
 mod beside;
 mod counters;
 mod differences;
@@ -21,7 +22,7 @@ mod told;
 mod watch;
 mod words;
 
-pub use files::compare_readers;
+pub use files::{Untold, compare_readers};
 pub use snapshot::{Compared, Snapshot};
 pub use told::{push_changed, push_compared, push_gone, push_new};
-pub use watch::compare_lines;
+pub use watch::{Told, compare_lines, watch_lines};

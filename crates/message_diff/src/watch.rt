@@ -1,19 +1,35 @@
 //! What is done with each line.
 
-ghost use Rattle.std.specs.Prelude.{◌≡◌, ◌↔◌, OnOk};
+ghost use Rattle.std.specs.Prelude.{◌≡◌, ◌↔◌, ◌&&◌, OnOk, Some, None, cond};
+ghost use Rattle.message_diff.specs.declared.key.Key.{Key};
+ghost use Rattle.message_diff.specs.Known.{Item, is_among, is_ended_with, is_now, parts, without};
+ghost use Rattle.message_diff.specs.Held.{held, taken, picture, says, has_text};
+ghost use Rattle.message_diff.specs.Held.{AddsIf, Applies, MayBeOther, Puts};
 
-use crate::key::{FAMILIES_OF_PARTS, Key};
+use crate::announced::are_two_kinds;
+use crate::key::{AF_BRIDGE, AF_INET6, Key};
 use crate::lines::read_lines;
-use crate::reading::{LineReader, Said};
+use crate::reading::{LineReader, Said, word_of};
 use crate::snapshot::{Compared, Snapshot};
-use crate::store::{Entry, Store};
+use crate::store::{Entry, Host, Hosts};
 use crate::told::{push_changed, push_gone, push_new};
 use crate::words::words_of;
 use line_filter::error::RunError;
-use line_filter::words::{are_alone, digits_of, split};
+use line_filter::words::split;
 use std::alloc::{AllocError, Global};
 use std::collections::BTreeMap;
 use std::io::{Read, Write};
+
+/// What is told.
+#[derive(Clone, Copy, Debug, PartialEq, Eq)]
+pub enum Told {
+    /// What came, went or changed.
+    All,
+    /// The same, but of what came only what did after the first whole dump of its host and family.
+    Changes,
+    /// Nothing but faults.
+    Faults,
+}
 
 /// Puts the new message of an interface in place of the last one, and adds a line of what changed, which has the words
 /// in front of the new message's line.
@@ -39,104 +55,342 @@ fn replace(
     Ok(())
 }
 
-/// The last message of each interface, and what the next one changes.
-#[derive(Drop)]
-pub struct Watch {
-    reader: LineReader,
-    last: Store,
-    is_told: bool,
+/// Adds a line that messages were lost.
+fn push_lost(words: &[u8], out: &mut Vec<u8>) -> Result<(), AllocError> {
+    out.push(b'{')?;
+    out.extend_from_slice(words)?;
+    out.extend_from_slice(b"\"change\":\"lost\"}\n")
 }
 
-impl Watch {
-    /// Tells what changes from one message of an interface to the next one, or else only faults.
-    pub fn new(alloc: Global, by: Compared, is_told: bool) -> Watch {
-        Watch {
-            reader: LineReader::new(alloc, by),
-            last: BTreeMap::new(alloc),
-            is_told,
+/// A line: its words, its place, and what is to be told.
+#[derive(Clone, Copy)]
+struct Line<'a> {
+    alloc: Global,
+    front: &'a [u8],
+    at: u64,
+    told: Told,
+}
+
+impl Told {
+    /// Whether anything but faults is told.
+    fn says(self) -> bool
+        ensures { result ≡ says self }
+    {
+        match self {
+            Told::Faults => false,
+            Told::All | Told::Changes => true,
         }
     }
+}
 
-    /// The last messages, each with its words.
-    pub fn into_store(self) -> Store {
-        let Watch { last, .. } = self;
-        last
+impl Line<'_> {
+    /// Adds a line that an interface went, which was this at last.
+    fn tell_gone(self, words: &[u8], last: Snapshot, out: &mut Vec<u8>) -> Result<(), AllocError>
+        ensures { OnOk result (AddsIf (says self.entry.told) out.old.items out.new.items) }
+    {
+        if !self.told.says() {
+            return Ok(());
+        }
+        let mut old = last;
+        push_gone(self.alloc, words, &mut old, out)
     }
 
-    /// Forgets an interface, and adds a line, if it was known or this message has it.
+    /// Forgets an interface, and adds a line if a message of it was no refusal.
     fn forget(
-        &mut self,
-        alloc: Global,
+        self,
+        host: &mut Host,
         words: &[u8],
-        key: &Key,
-        gone: Option<Snapshot>,
+        key: Key,
         out: &mut Vec<u8>,
-    ) -> Result<(), AllocError> {
-        let last = self.last.remove(key).map(|entry| entry.snapshot);
-        match gone.or(last) {
-            Some(snapshot) if self.is_told => {
-                let mut old = snapshot;
-                push_gone(alloc, words, &mut old, out)
-            }
-            _ => Ok(()),
+    ) -> Result<(), AllocError>
+        ensures known { (q : Key) → held host.new q ≡ taken key (held host.old) q }
+        ensures dump { host.new.dump ≡ host.old.dump }
+        ensures told { OnOk result (AddsIf (says self.entry.told && has_text (held host.old key))
+            out.old.items out.new.items) }
+    {
+        let Some(known) = host.take(key) else {
+            return Ok(());
+        };
+        match known.last {
+            Some(entry) => self.tell_gone(words, entry.snapshot, out),
+            None => Ok(()),
         }
     }
 
-    /// Forgets an interface that went, and each family in which more was said of it, and adds a line for each: of a
-    /// bridge, and in AF_INET6, the kernel announces only the first.
-    fn end(
-        &mut self,
-        alloc: Global,
-        front: &[u8],
-        key: &Key,
-        snapshot: Snapshot,
+    /// Forgets an interface that went, where this is what it was, and adds a line. One alone has a line even where
+    /// nothing was known of it.
+    fn forget_told(
+        self,
+        host: &mut Host,
+        words: &[u8],
+        key: Key,
+        gone: Snapshot,
         out: &mut Vec<u8>,
-    ) -> Result<(), AllocError> {
-        let words = words_of(alloc, front)?;
-        self.forget(alloc, words.as_slice(), key, Some(snapshot), out)?;
+    ) -> Result<(), AllocError>
+        ensures known { (q : Key) → held host.new q ≡ taken key (held host.old) q }
+        ensures dump { host.new.dump ≡ host.old.dump }
+    {
+        let is_told = match host.take(key) {
+            Some(known) => known.last.is_some(),
+            None => key.is_alone(),
+        };
+        if is_told {
+            return self.tell_gone(words, gone, out);
+        }
+        Ok(())
+    }
+
+    /// Forgets each family in which more was said of an interface that went, and adds a line for each: of a bridge, and
+    /// in AF_INET6, the kernel announces only the interface alone.
+    fn end_parts(
+        self,
+        host: &mut Host,
+        words: &[u8],
+        key: Key,
+        out: &mut Vec<u8>,
+    ) -> Result<(), AllocError>
+        ensures known { OnOk result ((q : Key) → held host.new q
+            ≡ cond (is_among (parts key) q) None (held host.old q)) }
+        ensures dump { host.new.dump ≡ host.old.dump }
+    {
         if !key.is_alone() {
             return Ok(());
         }
-        for family in &FAMILIES_OF_PARTS {
-            let part = key.in_family(alloc, *family)?;
-            self.forget(alloc, words.as_slice(), &part, None, out)?;
+        self.forget(host, words, key.in_family(AF_BRIDGE), out)?;
+        self.forget(host, words, key.in_family(AF_INET6), out)
+    }
+
+    /// Forgets an interface that went, with its parts, and adds a line for each.
+    fn end(
+        self,
+        host: &mut Host,
+        key: Key,
+        gone: Option<Snapshot>,
+        out: &mut Vec<u8>,
+    ) -> Result<(), AllocError>
+        ensures known { OnOk result ((q : Key) → held host.new q
+            ≡ cond (is_ended_with key q) None (held host.old q)) }
+        ensures dump { host.new.dump ≡ host.old.dump }
+    {
+        let words = words_of(self.alloc, self.front)?;
+        match gone {
+            Some(snapshot) => self.forget_told(host, words.as_slice(), key, snapshot, out)?,
+            None => self.forget(host, words.as_slice(), key, out)?,
+        }
+        self.end_parts(host, words.as_slice(), key, out)
+    }
+
+    /// Forgets these interfaces, and adds a line for each.
+    fn forget_all(self, host: &mut Host, keys: &[Key], out: &mut Vec<u8>) -> Result<(), AllocError>
+        ensures known { OnOk result ((q : Key) → held host.new q
+            ≡ cond (is_among keys.now q) None (held host.old q)) }
+        ensures dump { host.new.dump ≡ host.old.dump }
+    {
+        let words = words_of(self.alloc, self.front)?;
+        for key in keys {
+            self.forget(host, words.as_slice(), *key, out)?;
         }
         Ok(())
     }
 
-    /// Keeps the first message of an interface, or one that is not compared, with its words.
-    fn keep(
-        &mut self,
-        alloc: Global,
-        words: &[u8],
-        key: Key,
-        snapshot: Snapshot,
-    ) -> Result<(), AllocError> {
-        let words = words.to_vec(alloc)?;
-        self.last.insert(key, Entry { words, snapshot })?;
-        Ok(())
+    /// Forgets the interfaces that a dump of this family did not have, which has ended, and adds a line for each. One
+    /// whose beginning was not read, or not all of its lines, ends none.
+    fn finish(
+        self,
+        host: &mut Host,
+        dump: &[u8],
+        family: u8,
+        out: &mut Vec<u8>,
+    ) -> Result<(), AllocError>
+        ensures known { OnOk result ((q : Key) → (picture host.new).of q
+            ≡ without (picture host.old) (Item.finished dump.now family) q) }
+        ensures dump { host.new.dump ≡ host.old.dump }
+    {
+        let Some(begin) = host.begin_of(dump) else {
+            return Ok(());
+        };
+        let missed = host.missed(self.alloc, family, begin)?;
+        self.forget_all(host, missed.as_slice(), out)?;
+        host.keep_whole(family)
     }
 
-    /// Keeps a message of an interface, and adds a line of what changed.
-    fn put(
-        &mut self,
-        alloc: Global,
-        front: &[u8],
+    /// Whether a line is added for an interface that came.
+    fn tells_new(self, host: &Host, key: Key) -> bool {
+        match self.told {
+            Told::All => true,
+            Told::Changes => host.is_whole(key.family),
+            Told::Faults => false,
+        }
+    }
+
+    /// Keeps a message of an interface of which none is known, with its words, and adds a line that it came.
+    fn keep(
+        self,
+        host: &mut Host,
         key: Key,
         snapshot: Snapshot,
         out: &mut Vec<u8>,
-    ) -> Result<(), AllocError> {
-        if !self.is_told {
-            let words = words_of(alloc, front)?;
-            return self.keep(alloc, words.as_slice(), key, snapshot);
-        }
-        if let Some(last) = self.last.get_mut(&key) {
-            return replace(alloc, front, &mut last.snapshot, snapshot, out);
-        }
-        let words = words_of(alloc, front)?;
+    ) -> Result<(), AllocError>
+        ensures known { OnOk result ((q : Key) → (picture host.new).of q
+            ≡ is_now self.entry.at key snapshot (picture host.old).of q) }
+        ensures dump { host.new.dump ≡ host.old.dump }
+    {
+        let words = words_of(self.alloc, self.front)?;
         let mut new = snapshot;
-        push_new(alloc, words.as_slice(), &mut new, out)?;
-        self.keep(alloc, words.as_slice(), key, new)
+        if self.tells_new(host, key) {
+            push_new(self.alloc, words.as_slice(), &mut new, out)?;
+        }
+        let entry = Entry {
+            words,
+            snapshot: new,
+        };
+        host.keep(key, self.at, entry)
+    }
+
+    /// Keeps a message of an interface whose last one was taken out, and adds a line of what changed.
+    fn put_beside(
+        self,
+        host: &mut Host,
+        key: Key,
+        last: Entry,
+        snapshot: Snapshot,
+        out: &mut Vec<u8>,
+    ) -> Result<(), AllocError>
+        ensures known { OnOk result ((q : Key) → (picture host.new).of q
+            ≡ is_now self.entry.at key snapshot (picture host.old).of q) }
+        ensures dump { host.new.dump ≡ host.old.dump }
+    {
+        if !self.told.says() {
+            return self.keep(host, key, snapshot, out);
+        }
+        let Entry {
+            words,
+            snapshot: was,
+        } = last;
+        let mut kept = was;
+        replace(self.alloc, self.front, &mut kept, snapshot, out)?;
+        let entry = Entry {
+            words,
+            snapshot: kept,
+        };
+        host.keep(key, self.at, entry)
+    }
+
+    /// Keeps a message of an interface, and adds a line of what changed, or that it came. Where it is of another kind
+    /// than the last one that had its place, that one went.
+    fn put(
+        self,
+        host: &mut Host,
+        key: Key,
+        snapshot: Snapshot,
+        out: &mut Vec<u8>,
+    ) -> Result<(), AllocError>
+        ensures known { OnOk result
+            (Puts self.entry.at key snapshot (picture host.old) (picture host.new)) }
+        ensures dump { host.new.dump ≡ host.old.dump }
+    {
+        let Some(last) = host.take_last(key) else {
+            return self.keep(host, key, snapshot, out);
+        };
+        if !is_another(&last.snapshot, &snapshot) {
+            return self.put_beside(host, key, last, snapshot, out);
+        }
+        let words = words_of(self.alloc, self.front)?;
+        self.tell_gone(words.as_slice(), last.snapshot, out)?;
+        self.end_parts(host, words.as_slice(), key, out)?;
+        self.keep(host, key, snapshot, out)
+    }
+
+    /// Adds what is to be written of what the line says, and keeps what is known from then on.
+    fn apply(self, host: &mut Host, said: Said, out: &mut Vec<u8>) -> Result<(), AllocError>
+        ensures { OnOk result (Applies self.entry.at said host.old host.new) }
+    {
+        match said {
+            Said::Is(key, snapshot) => self.put(host, key, snapshot, out),
+            Said::Refused(key) => host.see(key, self.at),
+            Said::Went(key, gone) => self.end(host, key, gone, out),
+            Said::Begin(dump) => {
+                host.begin(dump, self.at);
+                Ok(())
+            }
+            Said::Done(dump, family) => self.finish(host, dump.as_slice(), family, out),
+            Said::Blind => {
+                host.break_dump();
+                Ok(())
+            }
+            Said::Lost => Ok(()),
+            Said::Nothing => Ok(()),
+        }
+    }
+}
+
+/// Whether an interface is of another kind than the last one that had its place.
+fn is_another(last: &Snapshot, new: &Snapshot) -> bool
+    ensures { MayBeOther (Some last.now) new.now result }
+{
+    if last.text() == new.text() {
+        return false;
+    }
+    are_two_kinds(last.message(), new.message())
+}
+
+/// What is known of the interfaces of each host, and what the next line changes.
+#[derive(Drop)]
+pub struct Watch {
+    reader: LineReader,
+    hosts: Hosts,
+    /// How many lines there were.
+    lines: u64,
+    told: Told,
+    has_dumps: bool,
+}
+
+impl Watch {
+    /// Tells of messages that are compared by this.
+    pub fn new(alloc: Global, by: Compared, told: Told) -> Watch {
+        Watch {
+            reader: LineReader::new(alloc, by),
+            hosts: BTreeMap::new(alloc),
+            lines: 0,
+            told,
+            has_dumps: false,
+        }
+    }
+
+    /// Whether a dump began or ended.
+    pub fn has_dumps(&self) -> bool {
+        self.has_dumps
+    }
+
+    /// What is known of each host.
+    pub fn into_hosts(self) -> Hosts {
+        let Watch { hosts, .. } = self;
+        hosts
+    }
+
+    /// Takes what a line of a host with these words says.
+    fn take_said(
+        &mut self,
+        alloc: Global,
+        front: &[u8],
+        said: Said,
+        out: &mut Vec<u8>,
+    ) -> Result<(), AllocError> {
+        let line = Line {
+            alloc,
+            front,
+            at: self.lines,
+            told: self.told,
+        };
+        self.has_dumps |= matches!(&said, Said::Begin(_) | Said::Done(_, _));
+        let name = word_of(front, b"host").to_vec(alloc)?;
+        if let Some(host) = self.hosts.get_mut(&name) {
+            return line.apply(host, said, out);
+        }
+        let mut host = Host::new(alloc);
+        line.apply(&mut host, said, out)?;
+        self.hosts.insert(name, host)?;
+        Ok(())
     }
 
     /// Takes a line, and adds what is to be written of it.
@@ -146,25 +400,40 @@ impl Watch {
         line: &[u8],
         out: &mut Vec<u8>,
     ) -> Result<(), AllocError> {
+        self.lines = self.lines.saturating_add(1);
         let (front, rest) = split(line);
-        if are_alone(front, rest) {
-            return Ok(());
-        }
-        match self.reader.read(alloc, front, digits_of(rest), out)? {
+        match self.reader.read(alloc, front, rest, out)? {
             Said::Nothing => Ok(()),
-            Said::Went(key, snapshot) => self.end(alloc, front, &key, snapshot, out),
-            Said::Is(key, snapshot) => self.put(alloc, front, key, snapshot, out),
+            Said::Lost => {
+                if self.told == Told::Faults {
+                    return Ok(());
+                }
+                let words = words_of(alloc, front)?;
+                push_lost(words.as_slice(), out)
+            }
+            said => self.take_said(alloc, front, said, out),
         }
     }
 }
 
-/// Compares each line that a reader gives with the last one of its interface, and writes what changed.
+/// Compares each line that a reader gives with the last one of its interface, and writes what is to be told.
+pub fn watch_lines<R: Read, W: Write>(
+    alloc: Global,
+    by: Compared,
+    told: Told,
+    reader: &mut R,
+    writer: &mut W,
+) -> Result<(), RunError> {
+    let mut watch = Watch::new(alloc, by, told);
+    read_lines(alloc, reader, &mut watch, writer)
+}
+
+/// The same, where all is told.
 pub fn compare_lines<R: Read, W: Write>(
     alloc: Global,
     by: Compared,
     reader: &mut R,
     writer: &mut W,
 ) -> Result<(), RunError> {
-    let mut watch = Watch::new(alloc, by, true);
-    read_lines(alloc, reader, &mut watch, writer)
+    watch_lines(alloc, by, Told::All, reader, writer)
 }

@@ -1,0 +1,121 @@
+-- What a host's map has, and what is known by it.
+use Rattle.std.specs.Prelude.{◌≡◌, ◌≢◌, ◌<◌, ℕ, ◌&&◌, not, nat_le, Bool, MatchBool, true, false, List, length}
+use Rattle.std.specs.Prelude.{Option, None, Some, cond}
+use Rattle.std.specs.List.{filter}
+use Rattle.std.specs.BTreeMap.{is_at}
+use Rattle.std.specs.Map.{lookup}
+use Rattle.message_diff.specs.declared.key.Key.{Key}
+use Rattle.message_diff.specs.declared.store.Known.{Known}
+use Rattle.message_diff.specs.declared.store.Dump.{Dump}
+use Rattle.message_diff.specs.declared.store.Host.{Host}
+use Rattle.message_diff.specs.declared.store.Entry.{Entry}
+use Rattle.message_diff.specs.declared.reading.Said.{Said}
+use Rattle.message_diff.specs.declared.reading.Said.TheVariants as Saids
+use Rattle.message_diff.specs.declared.watch.Told.{Told}
+use Rattle.message_diff.specs.declared.watch.Told.TheVariants as Tellings
+use Rattle.message_diff.specs.Known.{Item, Seen, Picture, is_text, key_cmp, is_key, is_since, reaches, in_family}
+use Rattle.message_diff.specs.Known.{text_of}
+use Rattle.message_diff.specs.Known.{of_after, run_after}
+
+-- what the map has at an interface
+abbrev pub held_in : List (Key × Known) → Key → Option Known
+held_in entries key = lookup (is_at (key_cmp key)) entries
+
+abbrev pub held : Host → Key → Option Known
+held host = held_in host.known.entries
+
+-- with an interface taken out, and put in
+abbrev pub taken : Key → (Key → Option Known) → Key → Option Known
+taken key of q = cond (is_key key q) None (of q)
+
+abbrev pub put : Key → Known → (Key → Option Known) → Key → Option Known
+put key known of q = cond (is_key key q) (Some known) (of q)
+
+abbrev pub last_of : Option Known → Option Entry
+last_of None = None
+last_of (Some known) = known.last
+
+-- ** what is known by it
+
+abbrev pub text_in : Option Entry → Option (List ℕ)
+text_in None = None
+text_in (Some entry) = Some entry.snapshot
+
+abbrev pub seen_in : Option Known → Option Seen
+seen_in None = None
+seen_in (Some known) = Some (record { at = known.at; text = text_in known.last })
+
+-- whether a dump of this family that began there should have had an entry, and did not
+abbrev pub is_left : List (Key × Known) → ℕ → ℕ → Key × Known → Bool
+is_left entries family begin e =
+    not (nat_le begin e.1.at)
+    && (reaches family e.0.family && not (is_since begin (seen_in (held_in entries (in_family family e.0)))))
+
+abbrev pub left : Host → ℕ → ℕ → List (Key × Known)
+left host family begin = filter (is_left host.known.entries family begin) host.known.entries
+
+-- where the dump that runs began, if it has this name
+abbrev pub begin_of : Option Dump → List ℕ → Option ℕ
+begin_of None name = None
+begin_of (Some dump) name = cond (is_text dump.name.items name) (Some dump.begin) None
+
+abbrev pub run_in : Option Dump → Option (List ℕ × ℕ)
+run_in None = None
+run_in (Some dump) = Some (dump.name.items, dump.begin)
+
+abbrev pub picture : Host → Picture
+picture host = record { of = λ q. seen_in (held host q); run = run_in host.dump }
+
+-- ** what a line says, and what is known after it
+
+abbrev pub item_of : Bool → Said → Item
+item_of other (Saids.Is key text) = Item.is key text other
+item_of other (Saids.Refused key) = Item.refused key
+item_of other (Saids.Went key _) = Item.went key
+item_of other (Saids.Begin dump) = Item.started dump.items
+item_of other (Saids.Done dump family) = Item.finished dump.items family
+item_of other Saids.Lost = Item.nothing
+item_of other Saids.Blind = Item.blind
+item_of other Saids.Nothing = Item.nothing
+
+-- a message is of another kind only where its encoding is another than that of the last one of its interface
+abbrev pub MayBeOther : Option (List ℕ) → List ℕ → Bool → Type 0
+MayBeOther last text false = Unit {0}
+MayBeOther None text true = ⊥
+MayBeOther (Some last) text true = last ≢ text
+
+-- an interface is this from then on: it goes on, or went, with its parts, and is new
+abbrev pub Puts : ℕ → Key → List ℕ → Picture → Picture → Type 0
+Puts at key text old new = (other : Bool) × MayBeOther (text_of (old.of key)) text other
+    × ((q : Key) → new.of q ≡ of_after old at (Item.is key text other) q)
+
+abbrev pub MayBeSaid : Picture → Said → Bool → Type 0
+MayBeSaid p (Saids.Is key text) other = MayBeOther (text_of (p.of key)) text other
+MayBeSaid p said other = Unit {0}
+
+-- what is known after a line at a place that says this
+pub record IsAfter (old : Picture) (at : ℕ) (item : Item) (new : Picture) : Type 0 where
+  pub of : (q : Key) → new.of q ≡ of_after old at item q
+  pub run : new.run ≡ run_after old at item
+
+abbrev pub Applies : ℕ → Said → Host → Host → Type 0
+Applies at said old new =
+    (other : Bool) × MayBeSaid (picture old) said other × IsAfter (picture old) at (item_of other said) (picture new)
+
+-- ** what is told
+
+abbrev pub says : Told → Bool
+says Tellings.Faults = false
+says _ = true
+
+-- whether a message of it was accepted
+abbrev pub has_text : Option Known → Bool
+has_text None = false
+has_text (Some known) = has_last known.last where
+  has_last : Option Entry → Bool
+  has_last None = false
+  has_last (Some _) = true
+
+-- something is added, or nothing
+abbrev pub AddsIf : Bool → List ℕ → List ℕ → Type 0
+AddsIf is_told old new = MatchBool is_told (length old < length new) (new ≡ old)

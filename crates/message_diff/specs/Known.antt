@@ -1,0 +1,138 @@
+-- What is known of the interfaces of a host after some lines, and which of them the next line ends. No map stands here:
+-- what is known is a function of what the lines say, and the code's map has to have the same at each interface.
+use Rattle.std.specs.Prelude.{ℕ, ◌==◌, ◌&&◌, ◌||◌, not, nat_le, Bool, false, List, [], ◌∷◌, ◌++◌, codes}
+use Rattle.std.specs.Prelude.{Option, None, Some, cond}
+use Rattle.std.specs.List.{fold, list_any}
+use Rattle.std.specs.declared.cmp.Ordering.{Ordering}
+use Rattle.std.specs.Ordering.{nat_cmp, ordering_then, is_eq}
+use lib.Pointwise.{pointwise}
+use Rattle.line_filter.specs.Words.{value_in}
+use Rattle.message_diff.specs.declared.key.Key.{Key}
+
+-- the order of a host's interfaces: by family and index
+abbrev pub key_cmp : Key → Key → Ordering
+key_cmp a b = ordering_then (nat_cmp a.family b.family) (nat_cmp a.index b.index)
+
+abbrev pub is_key : Key → Key → Bool
+is_key a b = is_eq (key_cmp a b)
+
+abbrev pub is_text : List ℕ → List ℕ → Bool
+is_text = pointwise ◌==◌
+
+-- the value of a word, or nothing
+abbrev pub value_or_nothing : Option (List ℕ) → List ℕ
+value_or_nothing None = []
+value_or_nothing (Some value) = value
+
+-- the name of the dump that a line with these words is of: its number and its port, with a blank between
+abbrev pub dump_name : List (List ℕ × List ℕ) → List ℕ
+dump_name words =
+    value_or_nothing (value_in (codes "seq") words) ++ 32 ∷ value_or_nothing (value_in (codes "port") words)
+
+-- what a line says of its host: what an interface is, by the encoding that is compared, and whether it is of another
+-- kind than the last one that had its place; that it is there; that it went; where a dump begins and ends, by its name;
+-- something of an interface, and not of which one; or nothing
+pub data Item : Type 0 where
+  is : Key → (text : List ℕ) → (other : Bool) → Item
+  refused : Key → Item
+  went : Key → Item
+  started : (dump : List ℕ) → Item
+  finished : (dump : List ℕ) (family : ℕ) → Item
+  blind : Item
+  nothing : Item
+
+-- what is known of an interface: the place of its last line, and the encoding of its last message that was accepted, if
+-- there was one
+pub record Seen : Type 0 where
+  pub at : ℕ
+  pub text : Option (List ℕ)
+
+-- what is known of a host: of each interface, and of the dump that runs its name and the place where it began
+pub record Picture : Type 0 where
+  pub of : Key → Option Seen
+  pub run : Option (List ℕ × ℕ)
+
+abbrev pub nothing_known : Picture
+nothing_known = record { of = λ _. None; run = None }
+
+-- ** which interfaces a line ends
+
+-- the families whose messages are parts of what is said of an interface
+abbrev pub is_part : ℕ → Bool
+is_part family = family == 7 || family == 10
+
+-- what an end in this family ends: in AF_UNSPEC the parts too
+abbrev pub reaches : ℕ → ℕ → Bool
+reaches family other = other == family || (family == 0 && is_part other)
+
+abbrev pub in_family : ℕ → Key → Key
+in_family family key = record { family = family; index = key.index }
+
+-- the parts of an interface, and whether an interface ends with another one
+abbrev pub parts : Key → List Key
+parts key = cond (key.family == 0) (in_family 7 key ∷ in_family 10 key ∷ []) []
+
+abbrev pub is_among : List Key → Key → Bool
+is_among keys other = list_any (λ key. is_key key other) keys
+
+abbrev pub is_ended_with : Key → Key → Bool
+is_ended_with key other = is_among (key ∷ parts key) other
+
+abbrev pub is_since : ℕ → Option Seen → Bool
+is_since at None = false
+is_since at (Some seen) = nat_le at seen.at
+
+-- of a whole dump: neither the interface nor the part had a line since the dump began
+abbrev pub is_missed : (Key → Option Seen) → ℕ → ℕ → Key → Bool
+is_missed of begin family key =
+    not (is_since begin (of key)) && (reaches family key.family && not (is_since begin (of (in_family family key))))
+
+-- a dump that is not the one that runs ends nothing
+abbrev pub is_missed_by : (Key → Option Seen) → Option (List ℕ × ℕ) → List ℕ → ℕ → Key → Bool
+is_missed_by of None dump family key = false
+is_missed_by of (Some run) dump family key = is_text run.0 dump && is_missed of run.1 family key
+
+-- whether the line ends this interface, if it is known
+abbrev pub ends : Picture → Item → Key → Bool
+ends p (is key text other) q = other && is_ended_with key q
+ends p (refused key) q = false
+ends p (went key) q = is_ended_with key q
+ends p (started dump) q = false
+ends p (finished dump family) q = is_missed_by p.of p.run dump family q
+ends p blind q = false
+ends p nothing q = false
+
+-- ** what is known after a line, and after all lines
+
+abbrev pub text_of : Option Seen → Option (List ℕ)
+text_of None = None
+text_of (Some seen) = seen.text
+
+abbrev pub without : Picture → Item → Key → Option Seen
+without p x q = cond (ends p x q) None (p.of q)
+
+abbrev pub with_seen : Key → Seen → (Key → Option Seen) → Key → Option Seen
+with_seen key seen of q = cond (is_key key q) (Some seen) (of q)
+
+-- an interface is this from then on
+abbrev pub is_now : ℕ → Key → List ℕ → (Key → Option Seen) → Key → Option Seen
+is_now at key text of = with_seen key (record { at = at; text = Some text }) of
+
+abbrev pub of_after : Picture → ℕ → Item → Key → Option Seen
+of_after p at (is key text other) = is_now at key text (without p (is key text other))
+of_after p at (refused key) = with_seen key (record { at = at; text = text_of (p.of key) }) p.of
+of_after p at x = without p x
+
+-- the dump that began last; a line of no interface leaves it unknown whether it is whole. It need not be forgotten at
+-- its end: what stood before it is gone by then, so that the same end once more ends nothing
+abbrev pub run_after : Picture → ℕ → Item → Option (List ℕ × ℕ)
+run_after p at (started dump) = Some (dump, at)
+run_after p at blind = None
+run_after p at x = p.run
+
+abbrev pub after : Picture → ℕ × Item → Picture
+after p x = record { of = of_after p x.0 x.1; run = run_after p x.0 x.1 }
+
+-- what the lines of a host tell, each with its place among all lines
+abbrev pub known : List (ℕ × Item) → Picture
+known items = fold after nothing_known items
