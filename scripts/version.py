@@ -23,6 +23,8 @@ PLACES = [(files, constant, re.compile(form, re.M)) for files, constant, form in
     ("rust/Cargo.lock", "VERSION", r'^name = "linkwire"\nversion = "(.*)"'),
     ("crates/link_msg/src/encoding.rt", "CANONICAL_FORM", r"^pub const CANONICAL_FORM: u32 = (\d+);"),
     ("crates/link_state/src/state_encoding.rt", "STATE_FORM", r"^pub const STATE_FORM: u32 = (\d+);"),
+    ("crates/link_c/src/export.rt", "CANONICAL_FORM", r"_canonical_form\(\) -> u32\n *ensures \{ result ≡ (\d+) \}"),
+    ("crates/link_c/src/export.rt", "STATE_FORM", r"_state_form\(\) -> u32\n *ensures \{ result ≡ (\d+) \}"),
     ("man/linkwire.1", "CANONICAL_FORM", r"canonical encoding is of form (\d+)"),
     ("man/linkstate.1", "CANONICAL_FORM", r"canonical encoding of form (\d+)"),
     ("man/linkstate.1", "STATE_FORM", r"state encoding is of form (\d+)"),

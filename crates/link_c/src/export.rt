@@ -109,7 +109,7 @@ pub extern "C" fn linkwire_same_state(alloc: Global, a: &[u8], b: &[u8]) -> i32
 /// `linkwire_state_form` of linkwire.h.
 #[unsafe(no_mangle)]
 pub extern "C" fn linkwire_state_form() -> u32
-    ensures { result ≡ 1 }
+    ensures { result ≡ 2 }
 {
     STATE_FORM
 }
