@@ -10,7 +10,7 @@ mod tests;
 
 use arguments::{Request, asked_for};
 use run::run;
-use std::env;
+use std::env::{self, Args};
 use std::process::ExitCode;
 
 /// What `--help` writes.
@@ -29,18 +29,19 @@ No words stand in front of the digits.
 const VERSION: &str = "linkwire 0.3.0\n";
 
 fn main(rt: HostRuntime) -> ExitCode {
-    match requested(&rt) {
+    let Ok(words) = env::args(&rt) else {
+        let _ = eprintln!(rt; "linkwire: out of memory");
+        return ExitCode::FAILURE;
+    };
+    match requested(words) {
         Request::Help => write_text(rt, HELP),
         Request::Version => write_text(rt, VERSION),
         Request::Lines => answer_lines(&rt),
     }
 }
 
-/// What the arguments ask for: more than one of them nothing.
-fn requested(rt: &HostRuntime) -> Request {
-    let Ok(words) = env::args(rt) else {
-        return Request::Lines;
-    };
+/// What the words ask for, of which the first is the program's name: more than one after it nothing.
+fn requested(words: Args) -> Request {
     let mut words = words.skip(1);
     match (words.next(), words.next()) {
         (Some(word), None) => asked_for(word.as_str()),
