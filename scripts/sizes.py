@@ -123,7 +123,7 @@ def look_at_linkstate(program, made, size):
     short = b"ok " + state_model.state(header(0)).hex().encode()
     lines = [digits, SHORT, words + digits, many + SHORT, words, made.faulty().hex().encode(), SHORT]
     compare("linkstate", answers(program, lines),
-            [ok, short, words + ok, many + short, words + b"refused", b"refused", short])
+            [ok, short, words + ok, many + short, words, b"refused", short])
 
 
 def look_at_linkshow(program, made, size):
