@@ -55,18 +55,6 @@ impl From<DecodeError> for CanonError {
     }
 }
 
-/// The message that the bytes mean, if it fits and holds no empty list of ports.
-fn parse_accepted(input: &[u8]) -> Result<LinkMessage, CanonError> {
-    let message = LinkMessage::parse(input)?;
-    if !message.fits() {
-        return Err(CanonError::DoesNotFit);
-    }
-    if message.has_empty_ports() {
-        return Err(CanonError::EmptyVfPorts);
-    }
-    Ok(message)
-}
-
 /// The header of a message, the bytes after it, the length of their canonical encoding, and how many of them in front
 /// are canonical as they are spelled, without memory.
 fn measure(input: &[u8]) -> Result<(LinkHeader, &[u8], usize, usize), CanonError> {
@@ -110,6 +98,13 @@ fn begin_encoding(header: &LinkHeader, prefix: &[u8], len: usize) -> Vec<u8> {
     encoding
 }
 
+/// The canonical encoding of a message that was measured.
+fn encoded(header: &LinkHeader, rest: &[u8], len: usize, prefix: usize) -> Vec<u8> {
+    let mut encoding = begin_encoding(header, &rest[..prefix], HEADER_SIZE + len);
+    let _len = write_after_prefix(header, rest, prefix, encoding.as_mut_slice());
+    encoding
+}
+
 /// The number of the canonical form: any change of any message's canonical encoding raises it. Encodings of different
 /// numbers are not to be compared, so a store keeps the number beside its keys.
 pub const CANONICAL_FORM: u32 = 2;
@@ -134,28 +129,56 @@ pub fn canonical_len(input: &[u8]) -> Result<usize, CanonError> {
 /// The first fault: its cause, and where it is.
 pub fn canonical(input: &[u8]) -> Result<Vec<u8>, CanonError> {
     let (header, rest, len, prefix) = measure(input)?;
-    let mut encoding = begin_encoding(&header, &rest[..prefix], HEADER_SIZE + len);
-    let _len = write_after_prefix(&header, rest, prefix, encoding.as_mut_slice());
+    let encoding = encoded(&header, rest, len, prefix);
     Ok(encoding)
 }
 
-/// Whether two messages that were read are equal.
-fn same_accepted(one: &LinkMessage, other: &LinkMessage) -> bool {
+/// The most bytes of a canonical encoding that is compared with no memory of its own.
+const SHORT: usize = 256;
+
+/// The canonical encoding of a message that was measured, in front of zeros.
+fn short_encoding(header: &LinkHeader, rest: &[u8], len: usize, prefix: usize) -> [u8; SHORT] {
+    let mut encoding = [0; SHORT];
+    let _len = write_message(header, rest, prefix, &mut encoding[..HEADER_SIZE + len]);
+    encoding
+}
+
+/// Whether two canonical encodings are equal.
+fn same_encoding(one: &[u8], other: &[u8]) -> bool {
     one == other
+}
+
+/// Whether two messages are equal whose attributes are canonical as they are spelled.
+fn same_spelling(header: &LinkHeader, rest: &[u8], other_header: &LinkHeader, other_rest: &[u8]) -> bool {
+    *header == *other_header && rest == other_rest
 }
 
 /// Whether two byte strings mean the same message, which is so exactly where their canonical encodings are equal.
 ///
 /// Both have to mean messages that fit and hold no empty list of ports. Refuses as `canonical` does, each refusal of
-/// the first before those of the second.
+/// the first before those of the second. Memory is taken for the two encodings where they have one length, more than
+/// 256 bytes, and one of the messages is not canonical as it is spelled.
 ///
 /// # Errors
 ///
 /// The first fault: its cause, and where it is.
 pub fn same_message(first: &[u8], second: &[u8]) -> Result<bool, CanonError> {
-    let one = parse_accepted(first)?;
-    let other = parse_accepted(second)?;
-    Ok(same_accepted(&one, &other))
+    let (header, rest, len, prefix) = measure(first)?;
+    let (other_header, other_rest, other_len, other_prefix) = measure(second)?;
+    if len != other_len {
+        return Ok(false);
+    }
+    if prefix == rest.len() && other_prefix == other_rest.len() {
+        return Ok(same_spelling(&header, rest, &other_header, other_rest));
+    }
+    if HEADER_SIZE + len <= SHORT {
+        let one = short_encoding(&header, rest, len, prefix);
+        let other = short_encoding(&other_header, other_rest, other_len, other_prefix);
+        return Ok(same_encoding(&one[..HEADER_SIZE + len], &other[..HEADER_SIZE + other_len]));
+    }
+    let one = encoded(&header, rest, len, prefix);
+    let other = encoded(&other_header, other_rest, other_len, other_prefix);
+    Ok(same_encoding(one.as_slice(), other.as_slice()))
 }
 
 /// Why nothing was written to a buffer.

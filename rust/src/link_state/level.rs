@@ -18,9 +18,9 @@ use crate::link_state::numbers::{
 use crate::link_state::walk::{Listed, clear_list, zero, zero_part};
 use crate::link_vals::AddressFamily;
 use crate::link_vf::numbers::{
-    IFLA_VF_INFO, IFLA_VF_STATS, IFLA_VF_STATS_BROADCAST, IFLA_VF_STATS_MULTICAST, IFLA_VF_STATS_RX_BYTES,
-    IFLA_VF_STATS_RX_DROPPED, IFLA_VF_STATS_RX_PACKETS, IFLA_VF_STATS_TX_BYTES, IFLA_VF_STATS_TX_DROPPED,
-    IFLA_VF_STATS_TX_PACKETS,
+    IFLA_VF_BROADCAST, IFLA_VF_INFO, IFLA_VF_STATS, IFLA_VF_STATS_BROADCAST, IFLA_VF_STATS_MULTICAST,
+    IFLA_VF_STATS_RX_BYTES, IFLA_VF_STATS_RX_DROPPED, IFLA_VF_STATS_RX_PACKETS, IFLA_VF_STATS_TX_BYTES,
+    IFLA_VF_STATS_TX_DROPPED, IFLA_VF_STATS_TX_PACKETS,
 };
 
 /// A list of attributes.
@@ -199,6 +199,9 @@ impl Listed for FunctionsList {
 }
 
 /// `Level::Function`.
+///
+/// `IFLA_VF_BROADCAST` repeats `IFLA_BROADCAST`, and some kernels do not set the bytes behind it; behind the address of
+/// `IFLA_VF_MAC` they have zeros.
 struct FunctionList;
 
 impl Listed for FunctionList {
@@ -206,6 +209,7 @@ impl Listed for FunctionList {
     fn clear_payload(&self, number: u16, payload: &mut [u8]) {
         match number {
             IFLA_VF_STATS => clear_list(payload, &FunctionStatsList),
+            IFLA_VF_BROADCAST => zero(payload),
             _ => {}
         }
     }

@@ -12,7 +12,7 @@ use alloc::vec::Vec;
 /// The number of the state encoding: it is raised when the table of what moves by itself changes, and when the
 /// canonical form does. Encodings of different numbers are not to be compared, so a store keeps the number beside its
 /// keys.
-pub const STATE_FORM: u32 = 1;
+pub const STATE_FORM: u32 = 2;
 
 /// The place of the header's mask of changed flags, its last four bytes.
 const CHANGE_MASK: usize = 12;
