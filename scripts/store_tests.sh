@@ -149,7 +149,7 @@ polls_folder() {
     polls
     polls
     wants 'links that are gone, a veth and its peer' "$(cat "$folder"/store/links/* | grep -c ' gone$')" 2
-    for line in "$folder"/store/2-1/*; do
+    for line in "$folder"/store/[0-9]*-[0-9]*/*; do
         [ "$(basenc --base16 -d <<<"$(tr a-f A-F <"$line")" | sha256sum | cut -d ' ' -f 1)" = "${line##*/}" ] ||
             fails 'a file is not named by its encoding'
     done
