@@ -62,8 +62,14 @@ if ! command -v python3 >/dev/null; then
     exit 0
 fi
 python3 "$top/tests/linkdump/hosts.py"
+linkdiff=$top/out/linkdiff
+[ -x "$linkdiff" ] || linkdiff=$top/crates/linkdiff/out/linkdiff
+if [ ! -x "$linkdiff" ]; then
+    echo 'linkdump: skipped: what linkdiff tells of links that come and go: it is not built'
+    linkdiff=''
+fi
 if command -v ip >/dev/null && "$folder/linkdump" >/dev/null 2>&1; then
-    python3 "$top/tests/linkdump/churn.py" "$folder/linkdump" "${1:-15}"
+    python3 "$top/tests/linkdump/churn.py" ${linkdiff:+--linkdiff "$linkdiff"} "$folder/linkdump" "${1:-15}"
 else
     echo 'linkdump: skipped: links that come and go: no command ip, or no netlink'
 fi

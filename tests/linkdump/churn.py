@@ -1,13 +1,15 @@
 #!/usr/bin/env python3
 """Makes, changes, moves and deletes links while linkdump runs, and holds the model of model.py to what is there.
 
-    python3 tests/linkdump/churn.py LINKDUMP [RUNS]
+    python3 tests/linkdump/churn.py [--linkdiff LINKDIFF] LINKDUMP [RUNS]
 
 In each of the runs, 15 without RUNS, three loops do so at once for a third of a second, while linkdump --monitor runs,
-in every second run with --every 0.02. At each line `done` the model has what the lines since `begin` say, and after
-each run what `ip -j link` says. Then 250 of 550 ports of a bridge are deleted one by one while they are dumped: none of
-the others may go. No dump has an interface again that the one before it ended, but for one that was announced. What
-needs a right or a kind of link that is not there is 'skipped'; the last lines say how much was seen.
+in every second run with --every 0.02, and in every fourth a third of what is announced is left out. At each line `done`
+the model has what the lines since `begin` say, and after each run what `ip -j link` says. Then 250 of 550 ports of a
+bridge are deleted one by one while they are dumped: none of the others may go. No dump has an interface again that the
+one before it ended, but for one that was announced. With --linkdiff the lines `new` and `gone` of linkdiff are the
+model's for each line, and after each run the names that it told are those of `ip -j link` too. What needs a right or a
+kind of link that is not there is 'skipped'; the last lines say how much was seen.
 """
 
 import json
@@ -21,6 +23,7 @@ import time
 
 from beside import index_of
 from model import BRIDGE, PARTS, UNSPEC, Model, split
+from told import Told
 
 INDEXES, NAMES, LOOPS = range(600, 606), range(8), 3
 GONE, STAY = 250, 300
@@ -35,21 +38,26 @@ def batch(commands):
     return run("ip", "-force", "-batch", "-", input="".join(it + "\n" for it in commands))
 
 
-def links():
-    return json.loads(run("ip", "-d", "-j", "link").stdout)
+def links(*words):
+    return json.loads(run("ip", "-d", "-j", "link", "show", *words).stdout)
 
 
 class Followed:
-    """The model over lines, and beside it what each dump and the news among it say."""
+    """The model over lines, what linkdiff tells of them, and beside it what each dump and the news among it say."""
 
-    def __init__(self):
+    def __init__(self, linkdiff, lost):
         self.model, self.wrong = Model(), []
+        self.own, self.lost, self.chance = linkdiff and Told(linkdiff), lost, random.Random(7)
         self.span, self.ended, self.gone, self.port = None, set(), set(), None
         self.count = dict.fromkeys(("lines", "whole dumps", "deletions", "losses", "ended by a dump"), 0)
 
     def take(self, line):
         words, digits = split(line)
+        if digits and words["port"] != self.port and self.chance.random() < self.lost:
+            return
         told = self.model.take(line)
+        if self.own:
+            self.own.take(line, told)
         self.count["lines"] += 1
         self.gone |= {key for change, key in told if change == "gone"}
         if digits:
@@ -69,7 +77,7 @@ class Followed:
             self.span = self.span and {it for it in self.span if it[2] != key[2] or key[1] not in (UNSPEC, it[1])}
         elif self.span is not None:
             self.span.add(key)
-        if key in self.ended and words["port"] == self.port:
+        if key in self.ended and words["port"] == self.port and not self.lost:
             self.wrong.append(f"{key} went, and is back without news")
         self.ended.discard(key)
 
@@ -87,8 +95,9 @@ class Followed:
 class Running:
     """linkdump --monitor, whose lines are followed as they come."""
 
-    def __init__(self, linkdump, *words):
-        self.followed, self.wanted, self.left, self.found = Followed(), "", 0, threading.Event()
+    def __init__(self, programs, words, lost=0):
+        linkdump, linkdiff = programs
+        self.followed, self.wanted, self.left, self.found = Followed(linkdiff, lost), "", 0, threading.Event()
         self.errors = tempfile.TemporaryFile("w+", encoding="utf-8")
         self.process = subprocess.Popen([linkdump, "--monitor", *words], stdout=subprocess.PIPE, stderr=self.errors,
                                         text=True)
@@ -122,6 +131,9 @@ class Running:
         self.thread.join()
         self.process.stdout.close()
         self.errors.close()
+        if self.followed.own:
+            self.followed.wrong += self.followed.own.ends()
+            self.followed.count["told as gone"] = len(self.followed.own.gone)
         return self.followed
 
     def fails(self, what):
@@ -147,10 +159,10 @@ def churns(seed, until, other):
         batch(commands)
 
 
-def one_run(linkdump, number, other):
+def one_run(programs, number, other):
     """Returns what was followed, and what is wrong of it."""
     is_dumped = number % 2 == 0
-    running = Running(linkdump, *(["--every", "0.02"] if is_dumped else []))
+    running = Running(programs, ["--every", "0.02"] if is_dumped else [], 1 / 3 if number % 4 == 2 else 0)
     running.waits()
     until = time.monotonic() + 0.35
     loops = [threading.Thread(target=churns, args=(LOOPS * number + it, until, other)) for it in range(LOOPS)]
@@ -173,6 +185,9 @@ def one_run(linkdump, number, other):
     found = followed.model.names("", UNSPEC), set(followed.model.names("", BRIDGE))
     if found[0] != names:
         followed.wrong.append(f"after all: {found[0]}\nand not\n{names}")
+    own = followed.own and {index: name for (_, family, index), name in followed.own.names.items() if family == UNSPEC}
+    if own not in (None, names):
+        followed.wrong.append(f"after all linkdiff has told: {own}\nand not\n{names}")
     if not is_dumped:  # a bridge is not announced as such
         found[1].update(index for index in of_bridge if there[index]["linkinfo"].get("info_kind") == "bridge")
     if found[1] != of_bridge:
@@ -180,7 +195,7 @@ def one_run(linkdump, number, other):
     return followed
 
 
-def deletes_ports(linkdump):
+def deletes_ports(programs):
     """Returns what was followed while ports were deleted."""
     commands = ["link add big0 type bridge"]
     for kind, count in (("a", GONE), ("b", STAY)):
@@ -189,14 +204,14 @@ def deletes_ports(linkdump):
     batch(commands)
     stay = {it["ifindex"] for it in links() if it["ifname"] == "big0" or
             (it.get("master") == "big0" and it["ifname"].startswith("b"))}
-    running = Running(linkdump, "--family", "bridge", "--every", "0.004")
+    running = Running(programs, ["--family", "bridge", "--every", "0.004"])
     running.waits()
     for it in range(GONE):
         batch([f"link del a{it}"])
     running.wants(f" family={BRIDGE} links=", 2)
     running.waits()
     followed = running.stops()
-    false = {key for key in followed.gone if key[2] in stay}
+    false = {key for key in {*followed.gone, *(followed.own.gone if followed.own else [])} if key[2] in stay}
     if false:
         followed.wrong.append(f"{len(false)} links are said to have gone, and are there: {sorted(false)}")
     if not stay <= followed.model.names("", BRIDGE).keys():
@@ -214,24 +229,28 @@ def says(what, all_):
         sys.exit("churn: " + "\n".join(it[:2000] for it in wrong[:5]))
 
 
-def inside(linkdump, runs):
+def inside(programs, runs):
     batch(["link add br0 type bridge", "link add br1 type bridge", "link add lower0 type veth peer name lower1"])
     if not {"br0", "lower0"} <= {it["ifname"] for it in links()}:
         print("churn: skipped: the kernel knows no bridge, or no veth")
         return
     with subprocess.Popen(["unshare", "-n", "sleep", "100000"]) as other:
         time.sleep(0.3)
-        all_ = [one_run(linkdump, number, other.pid) for number in range(runs)]
+        all_ = [one_run(programs, number, other.pid) for number in range(runs)]
         other.kill()
     says(f"{runs} runs", all_)
     batch([f"link del n{it}" for it in NAMES])
-    says(f"{GONE} of {GONE + STAY} ports deleted", [deletes_ports(linkdump)])
+    says(f"{GONE} of {GONE + STAY} ports deleted", [deletes_ports(programs)])
 
 
 def main():
     arguments = [it for it in sys.argv[1:] if it != "--inside"]
     if len(arguments) < len(sys.argv) - 1:
-        inside(os.path.abspath(arguments[0]), int(arguments[1]) if arguments[1:] else 15)
+        linkdiff = None
+        if arguments[0] == "--linkdiff":
+            _, linkdiff, *arguments = arguments
+        linkdump, runs = arguments[0], int(arguments[1]) if arguments[1:] else 15
+        inside((os.path.abspath(linkdump), linkdiff and os.path.abspath(linkdiff)), runs)
         return
     for flags in ("-n", "-rn"):
         if run("unshare", flags, "true").returncode == 0:

@@ -9,13 +9,12 @@ name, and a dump that is not whole ends none. With --linkdiff the lines `new` an
 the lines `begin` and `done`, are compared with the model's for each line. The last line says how many there were.
 """
 
-import json
 import random
-import subprocess
 import sys
 
 from beside import INFO, KIND, MTU, NAME
 from model import BRIDGE, UNSPEC, WIRELESS, Model
+from told import Told
 
 HOSTS, STEPS, INDEXES = 50, 60, range(1, 9)
 KINDS = None, "veth", "bridge", "vxlan"
@@ -150,23 +149,15 @@ def made(seed):
     return found
 
 
-def is_told(line, own, told):
-    """Whether linkdiff tells what the model does. That an interface went it tells where nothing was known of it too."""
-    return own == told or " type=del " in line and [it for it in own if it in told or it[1][1] != UNSPEC] == told
-
-
 def differs(linkdiff, lines, told):
-    """Returns how many lines of linkdiff differ from the model's."""
-    text = "".join(line + "\n" for _, line, _ in lines)
-    ran = subprocess.run([linkdiff], input=text, capture_output=True, text=True, check=True, timeout=600)
-    found = [[] for _ in lines]
-    for it in map(json.loads, ran.stdout.splitlines()):
-        if it.get("change") in ("new", "gone"):
-            found[int(it["time"])].append((it["change"], (it["host"], it["ifi-family"], it["ifi-index"])))
-    bad = [at for at, own in enumerate(found) if not is_told(lines[at][1], own, told[at])]
-    for at in bad[:3]:
-        print(f"hosts: {lines[at][1]}\n  {found[at]}\nand not\n  {told[at]}", file=sys.stderr)
-    return len(bad)
+    """Returns how many lines linkdiff tells otherwise than the model."""
+    own = Told(linkdiff)
+    for (_, line, _), it in zip(lines, told):
+        own.take(line, it)
+    wrong = own.ends()
+    for it in wrong[:3]:
+        print(f"hosts: {it}", file=sys.stderr)
+    return len(wrong)
 
 
 def is_wrong(model, host, holds, told):
