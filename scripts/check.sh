@@ -49,6 +49,7 @@ programs() {
     stage sizes.py python3 scripts/sizes.py crates/linkwire/out crates/linkshow/out crates/linkstate/out \
         crates/linkdiff/out out
     python3 tests/linkdump/hosts.py --linkdiff crates/linkdiff/out/linkdiff
+    python3 tests/linkdiff/live.py out/linkdump crates/linkdiff/out/linkdiff
     python3 scripts/show_rows.py --check
     python3 scripts/show_damaged.py crates/linkshow/out/linkshow crates/linkwire/out/linkwire
     python3 scripts/kernel_messages.py
