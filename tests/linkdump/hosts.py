@@ -3,10 +3,11 @@
 
     python3 tests/linkdump/hosts.py [--linkdiff LINKDIFF] [SEED..]
 
-A fifth of the news is lost. Dumps are cut, repeated, or have a line that cannot be read, and links come and go within
-them; the lines of the hosts are interleaved. After each whole dump the model has the host's interfaces, by index and
-name, and a dump that is not whole ends none. With --linkdiff the lines `new` and `gone` of linkdiff, which has to know
-the lines `begin` and `done`, are compared with the model's for each line. The last line says how many there were.
+A fifth of the news is lost, a tenth of the messages are refused. Dumps are cut, repeated, or have a line that cannot be
+read, and links come and go within them; the lines of the hosts are interleaved. After each whole dump the model has the
+host's interfaces, by index and name, and a dump that is not whole ends none. With --linkdiff the lines `new` and `gone`
+of linkdiff, which has to know the lines `begin` and `done`, are compared with the model's for each line. The last line
+says how many there were.
 """
 
 import random
@@ -44,15 +45,20 @@ class Host:
     def __init__(self, chance, number):
         self.chance, self.name = chance, f"h{number}"
         self.links, self.ports, self.written, self.seq, self.port = {}, set(), [], 0, chance.randrange(1, 99)
+        self.unread = set()  # of what the last message is refused
 
     def write(self, type_, text="", holds=None, **words):
         words = "".join(f" {key}={value}" for key, value in words.items())
         self.written.append((f"type={type_} kernel=6.18.0{words}{text and ' '}{text}", holds))
 
+    def message(self, family, index, link):
+        is_refused = self.chance.random() < 0.1
+        (self.unread.add if is_refused else self.unread.discard)((family, index))
+        return (refused if is_refused else of_link)(family, index, link)
+
     def news(self, type_, family, index, link, lost=0.2):
         if self.chance.random() >= lost:
-            form = refused if self.chance.random() < 0.1 else of_link
-            self.write(type_, form(family, index, link), seq=0, port=0)
+            self.write(type_, self.message(family, index, link), seq=0, port=0)
 
     def make(self, lost=0.2):
         index = self.chance.choice(INDEXES)
@@ -89,16 +95,17 @@ class Host:
         self.write("begin", **number)
         there = sorted(self.links if family == UNSPEC else self.ports)
         half = self.chance.randrange(len(there) + 1)
-        for index in there[:half]:
-            self.write("new", of_link(family, index, self.links[index]), **number)
-        rest = [of_link(family, index, self.links[index]) for index in there[half:]]
+        made = [self.message(family, index, self.links[index]) for index in there]
+        for text in made[:half]:
+            self.write("new", text, **number)
         if self.chance.random() < 0.3:  # the kernel has made all parts; news of them come in order, for none is lost
             self.chance.choice((self.change, self.make))(0)
-        for text in rest:
+        for text in made[half:]:
             self.write("new", text, **number)
         if self.chance.random() < 0.3:
             self.chance.choice((self.delete, self.make, self.change))(0)
-        known = {index: it["name"] for index, it in self.links.items() if family == UNSPEC or index in self.ports}
+        known = {index: None if (family, index) in self.unread else it["name"] for index, it in self.links.items()
+                 if family == UNSPEC or index in self.ports}
         self.write("done", holds=(family, known), **number, family=family, links=len(there))
         self.spoil(first)
 
@@ -164,7 +171,8 @@ def is_wrong(model, host, holds, told):
     """Whether the model has other interfaces than a whole dump leaves, or ended one that is there."""
     family, there = holds
     names = model.names(host, family)
-    is_other = names.keys() != there.keys() or any(names[key] not in (None, there[key]) for key in there)
+    is_other = names.keys() != there.keys() or any(None not in (names[key], there[key]) and names[key] != there[key]
+                                                   for key in there)
     is_left = family == UNSPEC and not model.names(host, BRIDGE).keys() <= there.keys()
     return is_other or is_left or any(index in there for _, (_, _, index) in told)
 
