@@ -4,9 +4,9 @@
     python3 tests/linkdiff/live.py LINKDUMP LINKDIFF
 
 Of each case the lines are known: what is told, the family, the name, and the paths of what changed. Links go between
-two dumps, and others come at their indices; a link has an alias that is no UTF-8; and linkdump stands still while
-thousands of changes are announced. What needs a right or a kind of link that is not there is 'skipped'. The last line
-is 'linkdiff live passed', or what is skipped.
+two dumps, and others come at their indices; news and dumps are followed; a link has an alias that is no UTF-8; and
+linkdump stands still while thousands of changes are announced. What needs a right or a kind of link that is not there
+is 'skipped'. The last line is 'linkdiff live passed', or what is skipped.
 """
 
 import json
@@ -71,8 +71,8 @@ def left(lines):
 class Between:
     """Two dumps, and what is done between them."""
 
-    def __init__(self, linkdump, linkdiff):
-        self.linkdump, self.linkdiff = linkdump, linkdiff
+    def __init__(self, programs):
+        self.linkdump, self.linkdiff = programs
 
     def dump(self, *words):
         return subprocess.run([self.linkdump, *words], capture_output=True, check=True, timeout=60).stdout
@@ -124,10 +124,11 @@ class Between:
 class Watched:
     """linkdump --monitor | linkdiff, where the lines of both are seen."""
 
-    def __init__(self, linkdump, linkdiff, *words):
+    def __init__(self, programs, of_linkdump=(), of_linkdiff=()):
+        linkdump, linkdiff = programs
         self.errors = tempfile.TemporaryFile()
-        self.dump = subprocess.Popen([linkdump, "--monitor"], stdout=subprocess.PIPE, stderr=self.errors)
-        self.diff = subprocess.Popen([linkdiff, *words], stdin=subprocess.PIPE, stdout=subprocess.PIPE)
+        self.dump = subprocess.Popen([linkdump, "--monitor", *of_linkdump], stdout=subprocess.PIPE, stderr=self.errors)
+        self.diff = subprocess.Popen([linkdiff, *of_linkdiff], stdin=subprocess.PIPE, stdout=subprocess.PIPE)
         self.lines, self.told, self.all = queue.Queue(), queue.Queue(), []
         self.threads = [threading.Thread(target=it, daemon=True) for it in (self.passes, self.takes)]
         for it in self.threads:
@@ -170,7 +171,7 @@ class Watched:
         return any(row[1] == "0" and row[2] == str(self.dump.pid) and row[8] != "0" for row in rows)
 
     def stops(self):
-        """Ends both, and holds what linkdiff told to what is there."""
+        """Ends linkdump, and with its lines linkdiff."""
         self.dump.terminate()
         if self.dump.wait(60) or self.diff.wait(60):
             fails(f"status {self.dump.returncode} and {self.diff.returncode}")
@@ -184,7 +185,26 @@ def alias(name):
     subprocess.run(["ip", "-batch", "-"], input=LATIN_1 % name.encode() + b"\n", check=True, timeout=60)
 
 
-def aliases(linkdump, linkdiff):
+def follows(programs):
+    """What is there at first has no line, and what the kernel does not announce has one with the next dump."""
+    batch([veth("follow", 180)])
+    watched = Watched(programs, ["--every", "0.3"], ["--changes-only"])
+    compares("at first", watched.settle(), [])
+    batch(["link set follow0 alias quiet"])
+    found = watched.until(watched.told, b'"new":"quiet"')
+    compares("an alias of a link that is down", [told(it) for it in found], ["changed 0 follow0 ifalias"])
+    batch(["link set follow0 txqueuelen 7", "link del follow0"])
+    compares("a link goes", watched.settle(), ["changed 0 follow0 txqlen", "gone 0 follow0", "gone 0 follow1"])
+    batch(["link add follow0 type bridge"])
+    watched.until(watched.told, b'"change":"new","ifi-family":7')
+    compares("a bridge comes", watched.settle(), [])
+    batch(["link del follow0"])
+    compares("a bridge goes", watched.settle(), ["gone 0 follow0", "gone 7 follow0"])
+    watched.stops()
+    print("linkdiff live: what changes from now on, with --every and --changes-only")
+
+
+def aliases(programs):
     """An alias that is no UTF-8 comes, goes and comes again, and then its link goes."""
     batch([veth("alias", 120), veth("only", 130), "link set alias0 up", "link set only0 up"])
     for it in "alias0", "only0":  # the kernel tells later that the peer is down
@@ -193,7 +213,7 @@ def aliases(linkdump, linkdiff):
                 break
             time.sleep(0.1)
     alias("only0")
-    watched = Watched(linkdump, linkdiff)
+    watched = Watched(programs)
     fault, only = "not-utf8 IFLA_IFALIAS alias0", "not-utf8 IFLA_IFALIAS only0"
     start = [*(f"new 0 {it}" for it in ("lo", "marker0", "marker1", "alias0", "alias1", "only1")), only]
     compares("what is there", sorted(watched.settle()), sorted(start))
@@ -215,10 +235,10 @@ def aliases(linkdump, linkdiff):
     print("linkdiff live: an alias that is no UTF-8, that is taken away, and whose link goes")
 
 
-def stands_still(linkdump, linkdiff):
+def stands_still(programs):
     """linkdump is stopped, and more is announced than its queue holds."""
     batch([veth("early", 140), veth("other", 150), veth("busy", 160)])
-    watched = Watched(linkdump, linkdiff)
+    watched = Watched(programs)
     watched.settle()
     os.kill(watched.dump.pid, signal.SIGSTOP)
     try:
@@ -249,7 +269,7 @@ def stands_still(linkdump, linkdiff):
     print(f"linkdiff live: a queue that ran over, after {lost} changes: what went, and another kind at an index")
 
 
-def inside(linkdump, linkdiff):
+def inside(programs):
     for it in "all", "default":
         try:
             with open(f"/proc/sys/net/ipv6/conf/{it}/disable_ipv6", "w", encoding="utf-8") as file:
@@ -261,18 +281,19 @@ def inside(linkdump, linkdiff):
         print("linkdiff live: skipped: the kernel knows no bridge, or no veth")
         return
     batch(["link del bridge0"])
-    between = Between(linkdump, linkdiff)
+    between = Between(programs)
     between.cases()
     between.files()
-    aliases(linkdump, linkdiff)
-    stands_still(linkdump, linkdiff)
+    follows(programs)
+    aliases(programs)
+    stands_still(programs)
     print("linkdiff live passed")
 
 
 def main():
     arguments = [it for it in sys.argv[1:] if it != "--inside"]
     if len(arguments) < len(sys.argv) - 1:
-        inside(*map(os.path.abspath, arguments))
+        inside([os.path.abspath(it) for it in arguments])
         return
     for flags in ("-n", "-rn"):
         if run("unshare", flags, "true").returncode == 0:
