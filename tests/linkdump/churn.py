@@ -214,6 +214,8 @@ def deletes_ports(programs):
     false = {key for key in {*followed.gone, *(followed.own.gone if followed.own else [])} if key[2] in stay}
     if false:
         followed.wrong.append(f"{len(false)} links are said to have gone, and are there: {sorted(false)}")
+    if followed.own and sum(key[1] == BRIDGE for key in followed.own.gone) != GONE:
+        followed.wrong.append(f"linkdiff tells that other ports than these {GONE} went: {followed.own.gone}")
     if not stay <= followed.model.names("", BRIDGE).keys():
         followed.wrong.append("ports are missing")
     batch(["link del big0", *(f"link del b{it}" for it in range(STAY))])
