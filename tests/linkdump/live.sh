@@ -536,7 +536,7 @@ starts_diff() {
 
 # says PATTERN: until linkdiff has written such a line
 says() {
-    if ! waits grep -qE "$1" "$folder/changes"; then
+    if ! waits grep -qsE "$1" "$folder/changes"; then
         cut -c1-200 "$folder/changes" >&2
         fails "linkdiff does not write $1"
     fi
