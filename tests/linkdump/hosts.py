@@ -6,8 +6,8 @@
 A fifth of the news is lost, a tenth of the messages are refused. Dumps are cut, repeated, or have a line that cannot be
 read, and links come and go within them; the lines of the hosts are interleaved. After each whole dump the model has the
 host's interfaces, by index and name, and a dump that is not whole ends none. With --linkdiff the lines `new` and `gone`
-of linkdiff, which has to know the lines `begin` and `done`, are compared with the model's for each line. The last line
-says how many there were.
+of linkdiff are compared with the model's for each line, and those of two files, which are parts of the lines. The last
+line says how many there were.
 """
 
 import random
@@ -15,7 +15,7 @@ import sys
 
 from beside import INFO, KIND, MTU, NAME
 from model import BRIDGE, UNSPEC, WIRELESS, Model
-from told import Told
+from told import Told, differ_as_files
 
 HOSTS, STEPS, INDEXES = 50, 60, range(1, 9)
 KINDS = None, "veth", "bridge", "vxlan"
@@ -167,6 +167,16 @@ def differs(linkdiff, lines, told):
     return len(wrong)
 
 
+def differs_as_files(linkdiff, lines, chance):
+    """Returns 1 where linkdiff has other interfaces that came or went from one part of the lines to another."""
+    at, again = sorted(chance.randrange(len(lines)) for _ in range(2))
+    own, wanted = differ_as_files(linkdiff, *([line for _, line, _ in it] for it in (lines[:at], lines[again:])))
+    if own == wanted:
+        return 0
+    print(f"hosts: two files: {own}\nand not\n  {wanted}", file=sys.stderr)
+    return 1
+
+
 def is_wrong(model, host, holds, told):
     """Whether the model has other interfaces than a whole dump leaves, or ended one that is there."""
     family, there = holds
@@ -198,6 +208,7 @@ def main():
         count["lines"] += len(lines)
         if linkdiff:
             count["differ"] += differs(linkdiff, lines, told)
+            count["differ"] += sum(differs_as_files(linkdiff, lines, random.Random(it)) for it in range(8))
     print(f"hosts: {HOSTS} hosts" + (", as linkdiff has them" if linkdiff else "") + ": " +
           ", ".join(f"{number} {what}" for what, number in count.items()))
     sys.exit(1 if count["differ"] else 0)

@@ -55,6 +55,7 @@ class Seen:
 class Model:
     def __init__(self):
         self.at, self.known, self.begun = 0, {}, {}
+        self.has_dumps, self.whole = False, set()  # whether one began or ended; hosts and families of which all came
 
     def take(self, line):
         """Returns what a line tells: pairs of 'new' or 'gone' and an interface."""
@@ -74,11 +75,13 @@ class Model:
 
     def take_words(self, host, words):
         dump = words.get("seq"), words.get("port")
+        self.has_dumps |= words.get("type") in ("begin", "done")
         if words.get("type") == "begin":
             self.begun[host] = dump, self.at
         if words.get("type") != "done" or host not in self.begun or self.begun[host][0] != dump:
             return []
         family, begun = int(words["family"]), self.begun[host][1]
+        self.whole.add((host, family))
         return self.end(key for key in self.reached(host, family)
                         if self.last(key) < begun and self.last((host, family, key[2])) < begun)
 

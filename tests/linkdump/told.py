@@ -6,7 +6,7 @@ import re
 import subprocess
 import tempfile
 
-from model import UNSPEC
+from model import UNSPEC, Model
 
 TIME = re.compile(r"\btime=\S+")
 
@@ -14,6 +14,30 @@ TIME = re.compile(r"\btime=\S+")
 def is_told(line, own, told):
     """Whether linkdiff tells what the model does. That an interface went it tells where nothing was known of it too."""
     return own == told or " type=del " in line and [it for it in own if it in told or it[1][1] != UNSPEC] == told
+
+
+def only(one, other):
+    """Returns of which interfaces one model has a message and the other has nothing, where that says what there is."""
+    return sorted(key for key, seen in one.known.items() if seen.message and key not in other.known and
+                  (not other.has_dumps or key[:2] in other.whole))
+
+
+def differ_as_files(linkdiff, old, new):
+    """Returns what came and went by linkdiff from the lines of one file to those of another, and what by the model."""
+    models = Model(), Model()
+    with tempfile.TemporaryDirectory() as folder:
+        for name, lines, model in zip(("old", "new"), (old, new), models):
+            with open(f"{folder}/{name}", "w", encoding="utf-8") as it:
+                it.writelines(line + "\n" for line in lines)
+            for line in lines:
+                model.take(line)
+        ran = subprocess.run([linkdiff, f"{folder}/old", f"{folder}/new"], capture_output=True, check=True, timeout=600)
+    found = {"new": [], "gone": []}
+    for it in map(json.loads, ran.stdout.splitlines()):
+        key = it.get("host", ""), it.get("ifi-family"), it.get("ifi-index")
+        if it.get("change") in found and not all(key in model.known for model in models):
+            found[it["change"]].append(key)
+    return found, {"new": only(models[1], models[0]), "gone": only(*models)}
 
 
 class Told:
