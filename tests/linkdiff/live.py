@@ -12,6 +12,7 @@ is 'skipped'. The last line is 'linkdiff live passed', or what is skipped.
 import json
 import os
 import queue
+import shutil
 import signal
 import subprocess
 import sys
@@ -295,6 +296,10 @@ def main():
     if len(arguments) < len(sys.argv) - 1:
         inside([os.path.abspath(it) for it in arguments])
         return
+    for command in ("ip", "unshare"):
+        if not shutil.which(command):
+            print(f"linkdiff live: skipped: no command {command}")
+            return
     for flags in ("-n", "-rn"):
         if run("unshare", flags, "true").returncode == 0:
             os.execvp("unshare", ["unshare", flags, sys.executable, os.path.abspath(__file__), "--inside", *arguments])
