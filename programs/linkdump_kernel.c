@@ -199,16 +199,21 @@ static void end_dump(const struct question *question) {
     }
 }
 
-/* Looks for the end of the dump that runs; what it ends with is 0 or minus an errno. Of AF_BRIDGE the kernel counts the
- * links: where one goes between two parts it passes over another, and does not call the dump interrupted. */
+/* Whether the kernel counts the links of a family, so that where one goes between two parts it passes over another, and
+ * does not call the dump interrupted: those of AF_BRIDGE, and before Linux 6.9 those of AF_INET6. */
+static bool is_counted(uint8_t family) {
+    return family == AF_BRIDGE || family == AF_INET6;
+}
+
+/* Looks for the end of the dump that runs; what it ends with is 0 or minus an errno. */
 static bool ends_dump(const struct question *question, const struct datagram *it) {
-    const bool is_counted = question->families[self.family] == AF_BRIDGE;
+    const bool is_of_counted = is_counted(question->families[self.family]);
     const struct nlmsghdr *head;
     bool is_over = false;
     for (size_t at = 0; (head = next_message(it, &at)) != NULL;) {
         int error = -EBADMSG;
         if (!is_answer(head)) {
-            self.is_interrupted |= is_counted && head->nlmsg_type == RTM_DELLINK;
+            self.is_interrupted |= is_of_counted && head->nlmsg_type == RTM_DELLINK;
             continue;
         }
         self.is_interrupted |= (head->nlmsg_flags & NLM_F_DUMP_INTR) != 0;
@@ -319,7 +324,7 @@ static void open_socket(const struct question *question) {
     struct sockaddr_nl own = {.nl_family = AF_NETLINK};
     socklen_t len = sizeof own;
     const int room = 1 << 22;
-    if (question->is_monitor || asks_for(question, AF_BRIDGE)) {
+    if (question->is_monitor || asks_for(question, AF_BRIDGE) || asks_for(question, AF_INET6)) {
         own.nl_groups = RTMGRP_LINK;
     }
     if (question->is_monitor && asks_for(question, AF_INET6)) {
