@@ -4,7 +4,7 @@ from source import counts
 # Names that a top crate gives again and the crate has otherwise, or not: they serve the crates below.
 HIDDEN_NAMES = {
     "Action", "Entry", "Kind", "Level", "Nla", "NlaBuffer", "NlaRead", "NlasIterator", "canonical_into",
-    "check_string", "clear", "emit_i32", "emit_nlas", "emit_u16", "emit_u32", "emit_u64", "list_measure",
+    "check_string", "clear", "emit_i32", "emit_nlas", "emit_u16", "emit_u32", "emit_u64", "fill", "list_measure",
     "nlas_buffer_len", "nlas_fill", "nlas_fit", "nlas_measure", "nlas_write", "same_refusal", "same_room_refusal",
     "state_into", "write_list",
 }

@@ -1,4 +1,4 @@
--- Clearing a canonical list gives a canonical list again.
+-- Filling a canonical list gives a canonical list again.
 use Rattle.std.proofs.Common.{◌≡◌, ℕ, ◌+◌, ◌==◌, List, [], ◌∷◌, ◌++◌, length, take, drop}
 use Rattle.std.proofs.Common.{replicate, map, refl, sym, ap, ◌∙◌, arith, append_assoc, take_at, drop_at, eqb-true}
 use Rattle.std.proofs.Common.{Bool, true, false}
@@ -12,11 +12,11 @@ use Rattle.nla_wire.specs.Canon.{canon, canons, IsWritable}
 use Rattle.nla_wire.proofs.Steps.{step_whole}
 use Rattle.nla_wire.proofs.Back.{canon_begins}
 use Rattle.link_state.specs.Table.{action_of, find}
-use Rattle.link_state.specs.Cleared.{payload_by, cleared}
+use Rattle.link_state.specs.Cleared.{payload_by, filled}
 use Rattle.link_state.specs.declared.level.Level.{Level}
 use Rattle.link_state.specs.Table.{Action}
 use Rattle.link_state.specs.Table.Action.{Keep}
-use Rattle.link_state.proofs.Walking.{cleared_next, cleared_nil, length-payload_by}
+use Rattle.link_state.proofs.Walking.{filled_next, filled_nil, length-payload_by}
 
 -- the first of what is to be shown, and the rest of it
 infixr 5 ◌&◌
@@ -25,11 +25,11 @@ x & y = (x, y)
 
 -- ** frames
 
-abbrev pub acted : Action → Frame → Frame
-acted action f = record { kind = f.kind; payload = payload_by cleared action f.payload }
+abbrev pub acted : ℕ → Action → Frame → Frame
+acted by action f = record { kind = f.kind; payload = payload_by by (filled by) action f.payload }
 
-abbrev pub cleared_frame : Level → Frame → Frame
-cleared_frame level f = acted (action_of level (number f)) f
+abbrev pub filled_frame : ℕ → Level → Frame → Frame
+filled_frame by level f = acted by (action_of level (number f)) f
 
 abbrev pub head_of : Frame → List ℕ
 head_of f = to_le_bytes w16 (4 + length f.payload) ++ to_le_bytes w16 f.kind
@@ -40,16 +40,17 @@ canon_parts f rest =
     append_assoc (head_of f ++ f.payload) (replicate (missing (length f.payload)) 0) rest
     ∙ append_assoc (head_of f) f.payload (replicate (missing (length f.payload)) 0 ++ rest)
 
-acted_text : (action : Action) (f : Frame)
-    → head_of f ++ payload_by cleared action f.payload ++ replicate (missing (length f.payload)) 0
-    ≡ canon (acted action f)
-acted_text action f = ap (λ n. to_le_bytes w16 (4 + n) ++ to_le_bytes w16 f.kind ++ payload_by cleared action f.payload
-    ++ replicate (missing n) 0) (sym (length-payload_by action f.payload))
+acted_text : (by : ℕ) (action : Action) (f : Frame)
+    → head_of f ++ payload_by by (filled by) action f.payload ++ replicate (missing (length f.payload)) 0
+    ≡ canon (acted by action f)
+acted_text by action f = ap (λ n. to_le_bytes w16 (4 + n) ++ to_le_bytes w16 f.kind
+    ++ payload_by by (filled by) action f.payload ++ replicate (missing n) 0)
+    (sym (length-payload_by by action f.payload))
 
 -- the first frame of canonical encoding
-cleared_canon : (level : Level) (f : Frame) (rest : List ℕ) → IsWritable f
-    → cleared level (canon f ++ rest) ≡ canon (cleared_frame level f) ++ cleared level rest
-cleared_canon level f rest writable =
+filled_canon : (by : ℕ) (level : Level) (f : Frame) (rest : List ℕ) → IsWritable f
+    → filled by level (canon f ++ rest) ≡ canon (filled_frame by level f) ++ filled by level rest
+filled_canon by level f rest writable =
     let b = canon f ++ rest in
     let k = missing (length f.payload) in
     let zeros = replicate k 0 in
@@ -62,26 +63,26 @@ cleared_canon level f rest writable =
     ap (λ xs. take k (drop (4 + length f.payload) xs)) (append_assoc (head_of f ++ f.payload) zeros rest)
     ∙ ap (take k) (drop_at (head_of f ++ f.payload) (zeros ++ rest) (4 + length f.payload) whole)
     ∙ take_at zeros rest k (length-replicate k 0) in
-    let p = payload_by cleared (action_of level (number f)) f.payload in
-    cleared_next level b f rest (step_whole b f rest (canon_begins f rest writable))
-    ∙ ap (λ xs. xs ++ p ++ take k (drop (4 + length f.payload) b) ++ cleared level rest) front
-    ∙ ap (λ xs. head_of f ++ p ++ xs ++ cleared level rest) behind
-    ∙ ap (λ xs. xs ++ cleared level rest) (acted_text (action_of level (number f)) f)
+    let p = payload_by by (filled by) (action_of level (number f)) f.payload in
+    filled_next by level b f rest (step_whole b f rest (canon_begins f rest writable))
+    ∙ ap (λ xs. xs ++ p ++ take k (drop (4 + length f.payload) b) ++ filled by level rest) front
+    ∙ ap (λ xs. head_of f ++ p ++ xs ++ filled by level rest) behind
+    ∙ ap (λ xs. xs ++ filled by level rest) (acted_text by (action_of level (number f)) f)
 
--- values whose frames are the cleared frames of others have the cleared text
-pub cleared_canons : {V : Type 0} (level : Level) (frame : V → Frame) (vs ws : List V)
+-- values whose frames are the filled frames of others have the filled text
+pub filled_canons : {V : Type 0} (by : ℕ) (level : Level) (frame : V → Frame) (vs ws : List V)
     → AllByRecursion (λ v. IsWritable (frame v)) vs
-    → map frame ws ≡ map (λ v. cleared_frame level (frame v)) vs
-    → canons frame ws ≡ cleared level (canons frame vs)
-cleared_canons level frame [] [] writable e = sym (cleared_nil level [] refl)
-cleared_canons level frame [] (w ∷ ws) writable e = absurd (omega (arith, ap (λ (fs : List Frame). length fs) e))
-cleared_canons level frame (v ∷ vs) [] writable e = absurd (omega (arith, ap (λ (fs : List Frame). length fs) e))
-cleared_canons level frame (v ∷ vs) (w ∷ ws) writable e =
-    let first : frame w ≡ cleared_frame level (frame v) = cc in
-    let later : map frame ws ≡ map (λ v. cleared_frame level (frame v)) vs = cc in
+    → map frame ws ≡ map (λ v. filled_frame by level (frame v)) vs
+    → canons frame ws ≡ filled by level (canons frame vs)
+filled_canons by level frame [] [] writable e = sym (filled_nil by level [] refl)
+filled_canons by level frame [] (w ∷ ws) writable e = absurd (omega (arith, ap (λ (fs : List Frame). length fs) e))
+filled_canons by level frame (v ∷ vs) [] writable e = absurd (omega (arith, ap (λ (fs : List Frame). length fs) e))
+filled_canons by level frame (v ∷ vs) (w ∷ ws) writable e =
+    let first : frame w ≡ filled_frame by level (frame v) = cc in
+    let later : map frame ws ≡ map (λ v. filled_frame by level (frame v)) vs = cc in
     ap (λ f. canon f ++ canons frame ws) first
-    ∙ ap (λ xs. canon (cleared_frame level (frame v)) ++ xs) (cleared_canons level frame vs ws writable.1 later)
-    ∙ sym (cleared_canon level (frame v) (canons frame vs) writable.0)
+    ∙ ap (λ xs. canon (filled_frame by level (frame v)) ++ xs) (filled_canons by level frame vs ws writable.1 later)
+    ∙ sym (filled_canon by level (frame v) (canons frame vs) writable.0)
 
 -- ** values that are what their own text means
 
@@ -101,52 +102,53 @@ module _ {V : Type 0} (g : Grammar Frame V) (frame : V → Frame) (Fits Good : V
     pub frame_is : frame value ≡ f
 
   -- values of this number become others
-  abbrev pub ClosesAt : ℕ → Action → Type 0
-  ClosesAt n action = (v : V) → IsOwn v → number (frame v) ≡ n → Becomes (acted action (frame v))
+  abbrev pub ClosesAt : ℕ → ℕ → Action → Type 0
+  ClosesAt by n action = (v : V) → IsOwn v → number (frame v) ≡ n → Becomes (acted by action (frame v))
 
   -- what is kept is the same value
-  pub keep_closes : (n : ℕ) → ClosesAt n Keep
-  keep_closes n v own is =
+  pub keep_closes : (by n : ℕ) → ClosesAt by n Keep
+  keep_closes by n v own is =
       record { value = v; means = own.means; fits = own.fits; good = own.good; frame_is = refl }
 
-  abbrev pub AllClose : List (ℕ × Action) → Type 0
-  AllClose [] = Unit {0}
-  AllClose (row ∷ rs) = ClosesAt row.0 row.1 × AllClose rs
+  abbrev pub AllClose : ℕ → List (ℕ × Action) → Type 0
+  AllClose by [] = Unit {0}
+  AllClose by (row ∷ rs) = ClosesAt by row.0 row.1 × AllClose by rs
 
-  abbrev pub Closes : Level → Type 0
-  Closes level = (v : V) → IsOwn v → Becomes (cleared_frame level (frame v))
+  abbrev pub Closes : ℕ → Level → Type 0
+  Closes by level = (v : V) → IsOwn v → Becomes (filled_frame by level (frame v))
 
-  closes_row : (v : V) → IsOwn v → (row : ℕ × Action) (rs : List (ℕ × Action)) → ClosesAt row.0 row.1
-      → Becomes (acted (find rs (number (frame v))) (frame v))
+  closes_row : (by : ℕ) (v : V) → IsOwn v → (row : ℕ × Action) (rs : List (ℕ × Action)) → ClosesAt by row.0 row.1
+      → Becomes (acted by (find rs (number (frame v))) (frame v))
       → (t : Bool) → (number (frame v) == row.0) ≡ t
-      → Becomes (acted (if t then row.1 else find rs (number (frame v))) (frame v))
-  closes_row v own row rs here later true e = here v own (eqb-true (number (frame v)) row.0 e)
-  closes_row v own row rs here later false e = later
+      → Becomes (acted by (if t then row.1 else find rs (number (frame v))) (frame v))
+  closes_row by v own row rs here later true e = here v own (eqb-true (number (frame v)) row.0 e)
+  closes_row by v own row rs here later false e = later
 
   -- a place closes if each row does
-  pub by_rows : (rs : List (ℕ × Action)) → AllClose rs → (v : V) → IsOwn v
-      → Becomes (acted (find rs (number (frame v))) (frame v))
-  by_rows [] h v own = keep_closes (number (frame v)) v own refl
-  by_rows (row ∷ rs) h v own =
-      closes_row v own row rs h.0 (by_rows rs h.1 v own) (number (frame v) == row.0) refl
+  pub by_rows : (by : ℕ) (rs : List (ℕ × Action)) → AllClose by rs → (v : V) → IsOwn v
+      → Becomes (acted by (find rs (number (frame v))) (frame v))
+  by_rows by [] h v own = keep_closes by (number (frame v)) v own refl
+  by_rows by (row ∷ rs) h v own =
+      closes_row by v own row rs h.0 (by_rows by rs h.1 v own) (number (frame v) == row.0) refl
 
-  pub record BecomeAll (level : Level) (vs : List V) : Type 0 where
+  pub record BecomeAll (by : ℕ) (level : Level) (vs : List V) : Type 0 where
     pub values : List V
     pub means : Every g.means (map frame values) values
     pub fits : AllByRecursion Fits values
     pub good : AllByRecursion Good values
-    pub frames_are : map frame values ≡ map (λ v. cleared_frame level (frame v)) vs
+    pub frames_are : map frame values ≡ map (λ v. filled_frame by level (frame v)) vs
 
-  pub each : (level : Level) → Closes level → (vs : List V) → AllByRecursion IsOwn vs → BecomeAll level vs
-  each level closes [] own = record { values = []; means = tt; fits = tt; good = tt; frames_are = refl }
-  each level closes (v ∷ vs) own =
+  pub each : (by : ℕ) (level : Level) → Closes by level → (vs : List V) → AllByRecursion IsOwn vs
+      → BecomeAll by level vs
+  each by level closes [] own = record { values = []; means = tt; fits = tt; good = tt; frames_are = refl }
+  each by level closes (v ∷ vs) own =
       let here = closes v own.0 in
-      let later = each level closes vs own.1 in
+      let later = each by level closes vs own.1 in
       record {
         values = here.value ∷ later.values;
         means = (here.means, later.means);
         fits = (here.fits, later.fits);
         good = (here.good, later.good);
         frames_are = ap (λ f. f ∷ map frame later.values) here.frame_is
-            ∙ ap (λ fs. cleared_frame level (frame v) ∷ fs) later.frames_are;
+            ∙ ap (λ fs. filled_frame by level (frame v) ∷ fs) later.frames_are;
       }

@@ -1,4 +1,4 @@
--- What is cleared twice, and which bytes are kept.
+-- What is filled twice, and which bytes are kept.
 use Rattle.std.specs.Prelude.{◌↔◌}
 use Rattle.std.proofs.Common.{◌≡◌, ℕ, zero, suc, ◌+◌, ◌<◌, ◌≤◌, List, [], ◌∷◌, ◌++◌, length, take, drop, replicate}
 use Rattle.std.proofs.Common.{refl, sym, ap, ap₂, subst, ◌∙◌, arith, append_assoc, inl, inr, Bool, true, false, take_at}
@@ -19,18 +19,19 @@ use Rattle.nla_wire.proofs.Steps.{step_rest_bytes}
 use Rattle.nla_wire.proofs.Steps.{length-begins}
 use Rattle.link_nest.specs.declared.numbers.TheConstants.{IFLA_INFO_KIND}
 use Rattle.link_state.specs.declared.numbers.TheConstants.{IFLA_INFO_SLAVE_KIND}
-use Rattle.link_state.specs.Laws.{OneList}
+use Rattle.link_state.specs.Laws.{ListTwice, OneList, ListZeroAtItsMask, ListFilledTwice, ListFilledAtItsMask}
+use Rattle.link_state.specs.Laws.{ListMaskStays}
 use Rattle.link_state.specs.Kinds.{kind_of, named, or_else, first_kind, kind_at}
 use Rattle.link_state.specs.declared.kind.Kind.TheVariants.{Other}
 use Rattle.link_state.specs.Table.{action_of}
-use Rattle.link_state.specs.Cleared.{info_level, part, payload_by, cleared_on, cleared}
-use Rattle.link_state.specs.Masks.{part_mask, payload_mask, mask_on, mask_within, mask, blank}
+use Rattle.link_state.specs.Cleared.{info_level, part, payload_by, filled_on, filled, cleared}
+use Rattle.link_state.specs.Masks.{part_mask, payload_mask, mask_on, mask_within, mask, stamp}
 use Rattle.link_state.specs.declared.level.Level.{Level}
 use Rattle.link_state.specs.Table.{Action}
 use Rattle.link_state.specs.Table.Action.{Keep, Clear, ClearPart, Enter, EnterInfo}
-use Rattle.link_state.proofs.Walking.{cleared_step, cleared_next, cleared_nil, length-payload_by}
+use Rattle.link_state.proofs.Walking.{filled_step, filled_next, filled_nil, length-payload_by}
 use Rattle.link_state.proofs.Walking.{length_part}
-use Rattle.link_state.proofs.Closing.{head_of, acted, cleared_frame}
+use Rattle.link_state.proofs.Closing.{head_of, acted, filled_frame}
 
 -- ** by the frames of bytes, at all levels
 
@@ -55,7 +56,7 @@ module _ (P : Level → List ℕ → Type 0)
   pub by_frames : (level : Level) (b : List ℕ) → IsBytes b → P level b
   by_frames level b small = within (suc (length b)) level b (omega arith) small
 
--- ** the frames of what was cleared
+-- ** the frames of what was filled
 
 -- what is kept of the padding is all of it
 padding_is : (b : List ℕ) (f : Frame) (rest : List ℕ) (h : Begins b f rest)
@@ -77,102 +78,104 @@ front_is b f rest h =
     ∙ append_assoc (head_of f) f.payload (h.padding ++ rest))
     ∙ take_at (head_of f) (f.payload ++ (h.padding ++ rest)) 4 refl
 
--- the bytes of one frame, cleared
-pub spelled : (level : Level) (b : List ℕ) (f : Frame) (rest : List ℕ) (h : Begins b f rest)
-    → cleared level b ≡ unpadded (cleared_frame level f) ++ h.padding ++ cleared level rest
-spelled level b f rest h =
-    let p = payload_by cleared (action_of level (number f)) f.payload in
-    cleared_next level b f rest (step_whole b f rest h)
-    ∙ ap₂ (λ (front padding : List ℕ). front ++ p ++ padding ++ cleared level rest)
+-- the bytes of one frame, filled
+pub spelled : (by : ℕ) (level : Level) (b : List ℕ) (f : Frame) (rest : List ℕ) (h : Begins b f rest)
+    → filled by level b ≡ unpadded (filled_frame by level f) ++ h.padding ++ filled by level rest
+spelled by level b f rest h =
+    let p = payload_by by (filled by) (action_of level (number f)) f.payload in
+    filled_next by level b f rest (step_whole b f rest h)
+    ∙ ap₂ (λ (front padding : List ℕ). front ++ p ++ padding ++ filled by level rest)
     (front_is b f rest h) (padding_is b f rest h)
-    ∙ ap (λ n. to_le_bytes w16 (4 + n) ++ to_le_bytes w16 f.kind ++ p ++ h.padding ++ cleared level rest)
-    (sym (length-payload_by (action_of level (number f)) f.payload))
+    ∙ ap (λ n. to_le_bytes w16 (4 + n) ++ to_le_bytes w16 f.kind ++ p ++ h.padding ++ filled by level rest)
+    (sym (length-payload_by by (action_of level (number f)) f.payload))
 
-pub cleared_begins : (level : Level) (b : List ℕ) (f : Frame) (rest : List ℕ) → Begins b f rest
-    → Begins (cleared level b) (cleared_frame level f) (cleared level rest)
-cleared_begins level b f rest h =
-    let same : length (payload_by cleared (action_of level (number f)) f.payload) ≡ length f.payload =
-    length-payload_by (action_of level (number f)) f.payload in
+pub filled_begins : (by : ℕ) (level : Level) (b : List ℕ) (f : Frame) (rest : List ℕ) → Begins b f rest
+    → Begins (filled by level b) (filled_frame by level f) (filled by level rest)
+filled_begins by level b f rest h =
+    let same : length (payload_by by (filled by) (action_of level (number f)) f.payload) ≡ length f.payload =
+    length-payload_by by (action_of level (number f)) f.payload in
     record {
       kind = h.kind;
       size = omega (arith, same, h.size);
       padding = h.padding;
-      parts = spelled level b f rest h;
+      parts = spelled by level b f rest h;
       padded = subst (λ n. length h.padding ≤ missing n) (sym same) h.padded;
       full = elim h.full [
         | inl all ↦ inl (all ∙ ap missing (sym same))
-        | inr none ↦ inr (ap (cleared level) none ∙ cleared_nil level [] refl)
+        | inr none ↦ inr (ap (filled by level) none ∙ filled_nil by level [] refl)
       ];
     }
 
-pub cleared_goes_on : (level : Level) (b : List ℕ) (f : Frame) (rest : List ℕ) → IsBytes b → step b ≡ Next f rest
-    → step (cleared level b) ≡ Next (cleared_frame level f) (cleared level rest)
-cleared_goes_on level b f rest small e =
-    step_whole (cleared level b) (cleared_frame level f) (cleared level rest)
-    (cleared_begins level b f rest (step_begins b f rest small e))
+pub filled_goes_on : (by : ℕ) (level : Level) (b : List ℕ) (f : Frame) (rest : List ℕ) → IsBytes b
+    → step b ≡ Next f rest
+    → step (filled by level b) ≡ Next (filled_frame by level f) (filled by level rest)
+filled_goes_on by level b f rest small e =
+    step_whole (filled by level b) (filled_frame by level f) (filled by level rest)
+    (filled_begins by level b f rest (step_begins b f rest small e))
 
 -- ** kinds
 
-same_named : (n : ℕ) (level : Level) (f : Frame) → action_of level n ≡ Keep → (t : Bool) → (number f == n) ≡ t
-    → named n (cleared_frame level f) ≡ named n f
-same_named n level f keeps true e =
-    ap (λ a. named n (acted a f)) (ap (action_of level) (eqb-true (number f) n e) ∙ keeps)
-same_named n level f keeps false e =
-    ap (λ t. if t then kind_of n (cleared_frame level f).payload else Other) e
+same_named : (by n : ℕ) (level : Level) (f : Frame) → action_of level n ≡ Keep → (t : Bool) → (number f == n) ≡ t
+    → named n (filled_frame by level f) ≡ named n f
+same_named by n level f keeps true e =
+    ap (λ a. named n (acted by a f)) (ap (action_of level) (eqb-true (number f) n e) ∙ keeps)
+same_named by n level f keeps false e =
+    ap (λ t. if t then kind_of n (filled_frame by level f).payload else Other) e
     ∙ sym (ap (λ t. if t then kind_of n f.payload else Other) e)
 
 -- the frames of a number that is kept name the same kind
-kind_kept : (n : ℕ) (level : Level) (b : List ℕ) → IsBytes b → action_of level n ≡ Keep
-    → kind_at n (cleared level b) ≡ kind_at n b
+kind_kept : (by n : ℕ) (level : Level) (b : List ℕ) → IsBytes b → action_of level n ≡ Keep
+    → kind_at n (filled by level b) ≡ kind_at n b
 unfolding kind_at
-kind_kept n = by_frames (λ level b. action_of level n ≡ Keep → kind_at n (cleared level b) ≡ kind_at n b)
-    (λ level b e keeps. ap (kind_at n) (cleared_nil level b (ap length (step_end b e))))
-    (λ level b c e keeps. ap (kind_at n) (cleared_step level b ∙ ap (cleared_on cleared level b) e))
+kind_kept by n = by_frames (λ level b. action_of level n ≡ Keep → kind_at n (filled by level b) ≡ kind_at n b)
+    (λ level b e keeps. ap (kind_at n) (filled_nil by level b (ap length (step_end b e))))
+    (λ level b c e keeps. ap (kind_at n) (filled_step by level b ∙ ap (filled_on by (filled by) level b) e))
     (λ level b f rest small e inside later keeps.
-    ap (first_kind n) (items_next (cleared level b) (cleared_frame level f) (cleared level rest)
-    (cleared_goes_on level b f rest small e))
-    ∙ ap₂ or_else (same_named n level f keeps (number f == n) refl) (later keeps)
+    ap (first_kind n) (items_next (filled by level b) (filled_frame by level f) (filled by level rest)
+    (filled_goes_on by level b f rest small e))
+    ∙ ap₂ or_else (same_named by n level f keeps (number f == n) refl) (later keeps)
     ∙ sym (ap (first_kind n) (items_next b f rest e)))
 
-level_kept : (p : List ℕ) → IsBytes p → info_level (cleared (info_level p) p) ≡ info_level p
-level_kept p small =
-    ap₂ Info (kind_kept IFLA_INFO_KIND (info_level p) p small refl)
-    (kind_kept IFLA_INFO_SLAVE_KIND (info_level p) p small refl)
+level_kept : (by : ℕ) (p : List ℕ) → IsBytes p → info_level (filled by (info_level p) p) ≡ info_level p
+level_kept by p small =
+    ap₂ Info (kind_kept by IFLA_INFO_KIND (info_level p) p small refl)
+    (kind_kept by IFLA_INFO_SLAVE_KIND (info_level p) p small refl)
 
--- ** zeros by a mask
+-- ** a byte by a mask
 
-pub blank_append : (ms ns : List Bool) (a b : List ℕ) → length ms ≡ length a
-    → blank (ms ++ ns) (a ++ b) ≡ blank ms a ++ blank ns b
-blank_append [] ns [] b e = refl
-blank_append [] ns (x ∷ a) b e = absurd (omega arith)
-blank_append (m ∷ ms) ns [] b e = absurd (omega arith)
-blank_append (m ∷ ms) ns (x ∷ a) b e =
-    ap (λ ys. (if m then 0 else x) ∷ ys) (blank_append ms ns a b (omega arith))
+pub stamp_append : (by : ℕ) (ms ns : List Bool) (a b : List ℕ) → length ms ≡ length a
+    → stamp by (ms ++ ns) (a ++ b) ≡ stamp by ms a ++ stamp by ns b
+stamp_append by [] ns [] b e = refl
+stamp_append by [] ns (x ∷ a) b e = absurd (omega arith)
+stamp_append by (m ∷ ms) ns [] b e = absurd (omega arith)
+stamp_append by (m ∷ ms) ns (x ∷ a) b e =
+    ap (λ ys. (if m then by else x) ∷ ys) (stamp_append by ms ns a b (omega arith))
 
-blank_none : (b : List ℕ) → blank (replicate (length b) false) b ≡ b
-blank_none [] = refl
-blank_none (x ∷ b) = ap (λ ys. x ∷ ys) (blank_none b)
+stamp_none : (by : ℕ) (b : List ℕ) → stamp by (replicate (length b) false) b ≡ b
+stamp_none by [] = refl
+stamp_none by (x ∷ b) = ap (λ ys. x ∷ ys) (stamp_none by b)
 
-blank_all : (b : List ℕ) → blank (replicate (length b) true) b ≡ replicate (length b) 0
-blank_all [] = refl
-blank_all (x ∷ b) = ap (λ ys. 0 ∷ ys) (blank_all b)
+stamp_all : (by : ℕ) (b : List ℕ) → stamp by (replicate (length b) true) b ≡ replicate (length b) by
+stamp_all by [] = refl
+stamp_all by (x ∷ b) = ap (λ ys. by ∷ ys) (stamp_all by b)
 
-blank_twice : (ms : List Bool) (b : List ℕ) → blank ms (blank ms b) ≡ blank ms b
-blank_twice [] b = refl
-blank_twice (m ∷ ms) [] = refl
-blank_twice (true ∷ ms) (x ∷ b) = ap (λ ys. 0 ∷ ys) (blank_twice ms b)
-blank_twice (false ∷ ms) (x ∷ b) = ap (λ ys. x ∷ ys) (blank_twice ms b)
+stamp_twice : (by other : ℕ) (ms : List Bool) (b : List ℕ)
+    → stamp by ms (stamp other ms b) ≡ stamp by ms b
+stamp_twice by other [] b = refl
+stamp_twice by other (m ∷ ms) [] = refl
+stamp_twice by other (true ∷ ms) (x ∷ b) = ap (λ ys. by ∷ ys) (stamp_twice by other ms b)
+stamp_twice by other (false ∷ ms) (x ∷ b) = ap (λ ys. x ∷ ys) (stamp_twice by other ms b)
 
-pub blank_kept : (n : ℕ) (b : List ℕ) → length b ≡ n → blank (replicate n false) b ≡ b
-blank_kept n b e = ap (λ i. blank (replicate i false) b) (sym e) ∙ blank_none b
+pub stamp_kept : (by n : ℕ) (b : List ℕ) → length b ≡ n → stamp by (replicate n false) b ≡ b
+stamp_kept by n b e = ap (λ i. stamp by (replicate i false) b) (sym e) ∙ stamp_none by b
 
-pub blank_cleared : (n : ℕ) (b : List ℕ) → length b ≡ n → blank (replicate n true) b ≡ replicate (length b) 0
-blank_cleared n b e = ap (λ i. blank (replicate i true) b) (sym e) ∙ blank_all b
+pub stamp_whole : (by n : ℕ) (b : List ℕ) → length b ≡ n → stamp by (replicate n true) b ≡ replicate (length b) by
+stamp_whole by n b e = ap (λ i. stamp by (replicate i true) b) (sym e) ∙ stamp_all by b
 
 -- a part is what its mask says
-part_masked : (from to : ℕ) (p : List ℕ) → (length (part_mask from to (length p)) ≡ length p)
-    × (blank (part_mask from to (length p)) p ≡ part from to p)
-part_masked from to p =
+part_masked : (by from to : ℕ) (p : List ℕ) → (length (part_mask from to (length p)) ≡ length p)
+    × (stamp by (part_mask from to (length p)) p ≡ part by from to p)
+part_masked by from to p =
     let front = take from (take to p) in
     let middle = drop from (take to p) in
     let a : List Bool = replicate (min from (min to (length p))) false in
@@ -196,51 +199,58 @@ part_masked from to p =
         b_size,
         length-replicate (length p - to) false,
       ),
-      ap (blank (a ++ b ++ c)) whole
-          ∙ blank_append (a ++ b) c (front ++ middle) (drop to p) two
-          ∙ ap (λ xs. xs ++ blank c (drop to p)) (blank_append a b front middle (omega (arith, a_size, first)))
-          ∙ ap₂ (λ (xs ys : List ℕ). xs ++ ys ++ blank c (drop to p)) (blank_kept _ front first)
-          (blank_cleared _ middle second)
-          ∙ ap (λ ys. front ++ replicate (length middle) 0 ++ ys) (blank_kept _ (drop to p) third),
+      ap (stamp by (a ++ b ++ c)) whole
+          ∙ stamp_append by (a ++ b) c (front ++ middle) (drop to p) two
+          ∙ ap (λ xs. xs ++ stamp by c (drop to p)) (stamp_append by a b front middle (omega (arith, a_size, first)))
+          ∙ ap₂ (λ (xs ys : List ℕ). xs ++ ys ++ stamp by c (drop to p)) (stamp_kept by _ front first)
+          (stamp_whole by _ middle second)
+          ∙ ap (λ ys. front ++ replicate (length middle) by ++ ys) (stamp_kept by _ (drop to p) third),
     )
 
-part_twice : (from to : ℕ) (p : List ℕ) → part from to (part from to p) ≡ part from to p
-part_twice from to p =
+part_twice : (by other from to : ℕ) (p : List ℕ)
+    → part by from to (part other from to p) ≡ part by from to p
+part_twice by other from to p =
     let ms = part_mask from to (length p) in
-    sym (part_masked from to (part from to p)).1
-    ∙ ap₂ blank (ap (part_mask from to) (length_part from to p)) (sym (part_masked from to p).1)
-    ∙ blank_twice ms p
-    ∙ (part_masked from to p).1
+    sym (part_masked by from to (part other from to p)).1
+    ∙ ap₂ (stamp by) (ap (part_mask from to) (length_part other from to p)) (sym (part_masked other from to p).1)
+    ∙ stamp_twice by other ms p
+    ∙ (part_masked by from to p).1
 
--- ** cleared twice
+-- ** filled twice
 
-payload_twice : (action : Action) (p : List ℕ) → IsBytes p
-    → ((inner : Level) → cleared inner (cleared inner p) ≡ cleared inner p)
-    → payload_by cleared action (payload_by cleared action p) ≡ payload_by cleared action p
-payload_twice Keep p small h = refl
-payload_twice Clear p small h = ap (λ n. replicate n 0) (length-replicate (length p) 0)
-payload_twice (ClearPart from to) p small h = part_twice from to p
-payload_twice (Enter inner) p small h = h inner
-payload_twice EnterInfo p small h =
-    ap (λ level. cleared level (cleared (info_level p) p)) (level_kept p small) ∙ h (info_level p)
+payload_twice : (by other : ℕ) (action : Action) (p : List ℕ) → IsBytes p
+    → ((inner : Level) → filled by inner (filled other inner p) ≡ filled by inner p)
+    → payload_by by (filled by) action (payload_by other (filled other) action p)
+    ≡ payload_by by (filled by) action p
+payload_twice by other Keep p small h = refl
+payload_twice by other Clear p small h = ap (λ n. replicate n by) (length-replicate (length p) other)
+payload_twice by other (ClearPart from to) p small h = part_twice by other from to p
+payload_twice by other (Enter inner) p small h = h inner
+payload_twice by other EnterInfo p small h =
+    ap (λ level. filled by level (filled other (info_level p) p)) (level_kept other p small) ∙ h (info_level p)
 
-twice_frame : (level : Level) (b : List ℕ) (f : Frame) (rest : List ℕ) → IsBytes b → step b ≡ Next f rest
-    → ((inner : Level) → cleared inner (cleared inner f.payload) ≡ cleared inner f.payload)
-    → cleared level (cleared level rest) ≡ cleared level rest
-    → cleared level (cleared level b) ≡ cleared level b
-unfolding cleared_begins
-twice_frame level b f rest small e inside later =
+twice_frame : (by other : ℕ) (level : Level) (b : List ℕ) (f : Frame) (rest : List ℕ) → IsBytes b
+    → step b ≡ Next f rest
+    → ((inner : Level) → filled by inner (filled other inner f.payload) ≡ filled by inner f.payload)
+    → filled by level (filled other level rest) ≡ filled by level rest
+    → filled by level (filled other level b) ≡ filled by level b
+unfolding filled_begins
+twice_frame by other level b f rest small e inside later =
     let h = step_begins b f rest small e in
-    spelled level (cleared level b) (cleared_frame level f) (cleared level rest) (cleared_begins level b f rest h)
+    spelled by level (filled other level b) (filled_frame other level f) (filled other level rest)
+    (filled_begins other level b f rest h)
     ∙ ap₂ (λ (p r : List ℕ). unpadded (record { kind = f.kind; payload = p }) ++ h.padding ++ r)
-    (payload_twice (action_of level (number f)) f.payload (step_framed b f rest small e).bytes inside) later
-    ∙ sym (spelled level b f rest h)
+    (payload_twice by other (action_of level (number f)) f.payload (step_framed b f rest small e).bytes inside) later
+    ∙ sym (spelled by level b f rest h)
 
-pub cleared_twice : (level : Level) (b : List ℕ) → IsBytes b → cleared level (cleared level b) ≡ cleared level b
-cleared_twice = by_frames (λ level b. cleared level (cleared level b) ≡ cleared level b)
-    (λ level b e. let none = cleared_nil level b (ap length (step_end b e)) in ap (cleared level) none)
-    (λ level b c e. ap (cleared level) (cleared_step level b ∙ ap (cleared_on cleared level b) e))
-    twice_frame
+pub filled_twice : ListFilledTwice
+filled_twice by other = by_frames (λ level b. filled by level (filled other level b) ≡ filled by level b)
+    (λ level b e. let none = filled_nil other level b (ap length (step_end b e)) in ap (filled by level) none)
+    (λ level b c e. ap (filled by level) (filled_step other level b ∙ ap (filled_on other (filled other) level b) e))
+    (twice_frame by other)
+
+pub cleared_twice : ListTwice
+cleared_twice = filled_twice 0 0
 
 -- ** the mask
 
@@ -287,29 +297,30 @@ mask_step level [] = refl
 mask_step level (x ∷ b) = mask_same (mask_within (length b)) mask level (x ∷ b) (step (x ∷ b)) refl
     (λ l c shorter. mask_enough (length b) (length c) l c (omega arith) (omega arith))
 
--- b's mask has a truth value for each byte, and is what is cleared
-abbrev Masked : Level → List ℕ → Type 0
-Masked level b = (length (mask level b) ≡ length b) × (blank (mask level b) b ≡ cleared level b)
+-- b's mask has a truth value for each byte, and is what is filled
+abbrev Masked : ℕ → Level → List ℕ → Type 0
+Masked by level b = (length (mask level b) ≡ length b) × (stamp by (mask level b) b ≡ filled by level b)
 
-payload_masked : (action : Action) (p : List ℕ) → ((inner : Level) → Masked inner p)
+payload_masked : (by : ℕ) (action : Action) (p : List ℕ) → ((inner : Level) → Masked by inner p)
     → (length (payload_mask mask action p) ≡ length p)
-    × (blank (payload_mask mask action p) p ≡ payload_by cleared action p)
-payload_masked Keep p h = (length-replicate (length p) false, blank_none p)
-payload_masked Clear p h = (length-replicate (length p) true, blank_all p)
-payload_masked (ClearPart from to) p h = part_masked from to p
-payload_masked (Enter inner) p h = h inner
-payload_masked EnterInfo p h = h (info_level p)
+    × (stamp by (payload_mask mask action p) p ≡ payload_by by (filled by) action p)
+payload_masked by Keep p h = (length-replicate (length p) false, stamp_none by p)
+payload_masked by Clear p h = (length-replicate (length p) true, stamp_all by p)
+payload_masked by (ClearPart from to) p h = part_masked by from to p
+payload_masked by (Enter inner) p h = h inner
+payload_masked by EnterInfo p h = h (info_level p)
 
-blank_four : (m1 m2 m3 m4 : List Bool) (a b c d : List ℕ) → length m1 ≡ length a → length m2 ≡ length b
+stamp_four : (by : ℕ) (m1 m2 m3 m4 : List Bool) (a b c d : List ℕ) → length m1 ≡ length a → length m2 ≡ length b
     → length m3 ≡ length c
-    → blank (m1 ++ m2 ++ m3 ++ m4) (a ++ b ++ c ++ d) ≡ blank m1 a ++ blank m2 b ++ blank m3 c ++ blank m4 d
-blank_four m1 m2 m3 m4 a b c d e1 e2 e3 =
+    → stamp by (m1 ++ m2 ++ m3 ++ m4) (a ++ b ++ c ++ d)
+    ≡ stamp by m1 a ++ stamp by m2 b ++ stamp by m3 c ++ stamp by m4 d
+stamp_four by m1 m2 m3 m4 a b c d e1 e2 e3 =
     let two : length (m1 ++ m2) ≡ length (a ++ b) = omega (arith, length-append m1 m2, length-append a b, e1, e2) in
     let three : length (m1 ++ m2 ++ m3) ≡ length (a ++ b ++ c) =
     omega (arith, length-append (m1 ++ m2) m3, length-append (a ++ b) c, two, e3) in
-    blank_append (m1 ++ m2 ++ m3) m4 (a ++ b ++ c) d three
-    ∙ ap (λ xs. xs ++ blank m4 d) (blank_append (m1 ++ m2) m3 (a ++ b) c two)
-    ∙ ap (λ xs. xs ++ blank m3 c ++ blank m4 d) (blank_append m1 m2 a b e1)
+    stamp_append by (m1 ++ m2 ++ m3) m4 (a ++ b ++ c) d three
+    ∙ ap (λ xs. xs ++ stamp by m4 d) (stamp_append by (m1 ++ m2) m3 (a ++ b) c two)
+    ∙ ap (λ xs. xs ++ stamp by m3 c ++ stamp by m4 d) (stamp_append by m1 m2 a b e1)
 
 mask_at : (level : Level) (b : List ℕ) (f : Frame) (rest : List ℕ) (h : Begins b f rest)
     → mask level b ≡ replicate 4 false ++ payload_mask mask (action_of level (number f)) f.payload
@@ -319,11 +330,11 @@ mask_at level b f rest h =
     ∙ ap (λ (q : List ℕ). replicate 4 false ++ payload_mask mask (action_of level (number f)) f.payload
     ++ replicate (length q) false ++ mask level rest) (padding_is b f rest h)
 
-masked_frame : (level : Level) (b : List ℕ) (f : Frame) (rest : List ℕ) → IsBytes b → step b ≡ Next f rest
-    → ((inner : Level) → Masked inner f.payload) → Masked level rest → Masked level b
-masked_frame level b f rest small e inside later =
+masked_frame : (by : ℕ) (level : Level) (b : List ℕ) (f : Frame) (rest : List ℕ) → IsBytes b → step b ≡ Next f rest
+    → ((inner : Level) → Masked by inner f.payload) → Masked by level rest → Masked by level b
+masked_frame by level b f rest small e inside later =
     let h = step_begins b f rest small e in
-    let p = payload_masked (action_of level (number f)) f.payload inside in
+    let p = payload_masked by (action_of level (number f)) f.payload inside in
     let pm = payload_mask mask (action_of level (number f)) f.payload in
     let k = replicate (length h.padding) false in
     let ms = replicate 4 false ++ pm ++ k ++ mask level rest in
@@ -340,74 +351,83 @@ masked_frame level b f rest small e inside later =
             later.0,
             length-begins b f rest h,
           ),
-      ap₂ blank (mask_at level b f rest h) h.parts
-          ∙ blank_four (replicate 4 false) pm k (mask level rest) (head_of f) f.payload h.padding rest refl p.0 k_size
-          ∙ ap₂ (λ (x y : List ℕ). head_of f ++ x ++ y ++ blank (mask level rest) rest) p.1 (blank_none h.padding)
-          ∙ ap (λ (r : List ℕ). head_of f ++ payload_by cleared (action_of level (number f)) f.payload ++ h.padding
-          ++ r) later.1
+      ap₂ (stamp by) (mask_at level b f rest h) h.parts
+          ∙ stamp_four by (replicate 4 false) pm k (mask level rest) (head_of f) f.payload h.padding rest refl p.0
+          k_size
+          ∙ ap₂ (λ (x y : List ℕ). head_of f ++ x ++ y ++ stamp by (mask level rest) rest) p.1 (stamp_none by h.padding)
+          ∙ ap (λ (r : List ℕ). head_of f ++ payload_by by (filled by) (action_of level (number f)) f.payload
+          ++ h.padding ++ r) later.1
           ∙ ap (λ n. to_le_bytes w16 (4 + n) ++ to_le_bytes w16 f.kind
-          ++ payload_by cleared (action_of level (number f)) f.payload ++ h.padding ++ cleared level rest)
-          (sym (length-payload_by (action_of level (number f)) f.payload))
-          ∙ sym (spelled level b f rest h),
+          ++ payload_by by (filled by) (action_of level (number f)) f.payload ++ h.padding ++ filled by level rest)
+          (sym (length-payload_by by (action_of level (number f)) f.payload))
+          ∙ sym (spelled by level b f rest h),
     )
 
-no_frame : (level : Level) (b : List ℕ) → mask level b ≡ replicate (length b) false → cleared level b ≡ b
-    → Masked level b
-no_frame level b marks same = (
+no_frame : (by : ℕ) (level : Level) (b : List ℕ) → mask level b ≡ replicate (length b) false → filled by level b ≡ b
+    → Masked by level b
+no_frame by level b marks same = (
   ap (λ (xs : List Bool). length xs) marks ∙ length-replicate (length b) false,
-  ap (λ ms. blank ms b) marks ∙ blank_none b ∙ sym same,
+  ap (λ ms. stamp by ms b) marks ∙ stamp_none by b ∙ sym same,
 )
 
-pub masked : (level : Level) (b : List ℕ) → IsBytes b → Masked level b
-masked = by_frames Masked
-    (λ level b e. no_frame level b (mask_step level b ∙ ap (mask_on mask level b) e)
-    (cleared_nil level b (ap length (step_end b e))))
-    (λ level b c e. no_frame level b (mask_step level b ∙ ap (mask_on mask level b) e)
-    (cleared_step level b ∙ ap (cleared_on cleared level b) e))
-    masked_frame
+pub masked : (by : ℕ) (level : Level) (b : List ℕ) → IsBytes b → Masked by level b
+masked by = by_frames (Masked by)
+    (λ level b e. no_frame by level b (mask_step level b ∙ ap (mask_on mask level b) e)
+    (filled_nil by level b (ap length (step_end b e))))
+    (λ level b c e. no_frame by level b (mask_step level b ∙ ap (mask_on mask level b) e)
+    (filled_step by level b ∙ ap (filled_on by (filled by) level b) e))
+    (masked_frame by)
 
--- ** what is cleared is at the same paths
+-- ** what is filled is at the same places
 
-payload_kept : (action : Action) (p : List ℕ) → IsBytes p
-    → ((inner : Level) → mask inner (cleared inner p) ≡ mask inner p)
-    → payload_mask mask action (payload_by cleared action p) ≡ payload_mask mask action p
-payload_kept Keep p small h = refl
-payload_kept Clear p small h = ap (λ n. replicate n true) (length-replicate (length p) 0)
-payload_kept (ClearPart from to) p small h = ap (part_mask from to) (length_part from to p)
-payload_kept (Enter inner) p small h = h inner
-payload_kept EnterInfo p small h =
-    ap (λ level. mask level (cleared (info_level p) p)) (level_kept p small) ∙ h (info_level p)
+payload_kept : (by : ℕ) (action : Action) (p : List ℕ) → IsBytes p
+    → ((inner : Level) → mask inner (filled by inner p) ≡ mask inner p)
+    → payload_mask mask action (payload_by by (filled by) action p) ≡ payload_mask mask action p
+payload_kept by Keep p small h = refl
+payload_kept by Clear p small h = ap (λ n. replicate n true) (length-replicate (length p) by)
+payload_kept by (ClearPart from to) p small h = ap (part_mask from to) (length_part by from to p)
+payload_kept by (Enter inner) p small h = h inner
+payload_kept by EnterInfo p small h =
+    ap (λ level. mask level (filled by (info_level p) p)) (level_kept by p small) ∙ h (info_level p)
 
-kept_frame : (level : Level) (b : List ℕ) (f : Frame) (rest : List ℕ) → IsBytes b → step b ≡ Next f rest
-    → ((inner : Level) → mask inner (cleared inner f.payload) ≡ mask inner f.payload)
-    → mask level (cleared level rest) ≡ mask level rest
-    → mask level (cleared level b) ≡ mask level b
-unfolding cleared_begins
-kept_frame level b f rest small e inside later =
+kept_frame : (by : ℕ) (level : Level) (b : List ℕ) (f : Frame) (rest : List ℕ) → IsBytes b → step b ≡ Next f rest
+    → ((inner : Level) → mask inner (filled by inner f.payload) ≡ mask inner f.payload)
+    → mask level (filled by level rest) ≡ mask level rest
+    → mask level (filled by level b) ≡ mask level b
+unfolding filled_begins
+kept_frame by level b f rest small e inside later =
     let h = step_begins b f rest small e in
-    mask_at level (cleared level b) (cleared_frame level f) (cleared level rest) (cleared_begins level b f rest h)
+    mask_at level (filled by level b) (filled_frame by level f) (filled by level rest)
+    (filled_begins by level b f rest h)
     ∙ ap₂ (λ (p r : List Bool). replicate 4 false ++ p ++ replicate (length h.padding) false ++ r)
-    (payload_kept (action_of level (number f)) f.payload (step_framed b f rest small e).bytes inside) later
+    (payload_kept by (action_of level (number f)) f.payload (step_framed b f rest small e).bytes inside) later
     ∙ sym (mask_at level b f rest h)
 
-pub mask_kept : (level : Level) (b : List ℕ) → IsBytes b → mask level (cleared level b) ≡ mask level b
-mask_kept = by_frames (λ level b. mask level (cleared level b) ≡ mask level b)
-    (λ level b e. ap (mask level) (cleared_nil level b (ap length (step_end b e))))
-    (λ level b c e. ap (mask level) (cleared_step level b ∙ ap (cleared_on cleared level b) e))
-    kept_frame
+pub mask_kept : ListMaskStays
+mask_kept by = by_frames (λ level b. mask level (filled by level b) ≡ mask level b)
+    (λ level b e. ap (mask level) (filled_nil by level b (ap length (step_end b e))))
+    (λ level b c e. ap (mask level) (filled_step by level b ∙ ap (filled_on by (filled by) level b) e))
+    (kept_frame by)
 
--- two texts are cleared to the same one exactly where they have one mask, and are equal outside of it
-pub one_mask : (clear : List ℕ → List ℕ) (marks : List ℕ → List Bool) (a b : List ℕ)
-    → blank (marks a) a ≡ clear a → blank (marks b) b ≡ clear b → marks (clear a) ≡ marks a → marks (clear b) ≡ marks b
-    → (clear a ≡ clear b) ↔ ((marks a ≡ marks b) × (blank (marks a) a ≡ blank (marks a) b))
-one_mask clear marks a b clear_a clear_b kept_a kept_b = (
+-- two texts become the same one exactly where they have one mask, and are equal outside of it
+pub one_mask : (by : ℕ) (clear : List ℕ → List ℕ) (marks : List ℕ → List Bool) (a b : List ℕ)
+    → stamp by (marks a) a ≡ clear a → stamp by (marks b) b ≡ clear b
+    → marks (clear a) ≡ marks a → marks (clear b) ≡ marks b
+    → (clear a ≡ clear b) ↔ ((marks a ≡ marks b) × (stamp by (marks a) a ≡ stamp by (marks a) b))
+one_mask by clear marks a b clear_a clear_b kept_a kept_b = (
   λ e.
       let same : marks a ≡ marks b = sym kept_a ∙ ap marks e ∙ kept_b in
-      (same, clear_a ∙ e ∙ sym clear_b ∙ ap (λ ms. blank ms b) (sym same)),
-  λ h. sym clear_a ∙ h.1 ∙ ap (λ ms. blank ms b) h.0 ∙ clear_b,
+      (same, clear_a ∙ e ∙ sym clear_b ∙ ap (λ ms. stamp by ms b) (sym same)),
+  λ h. sym clear_a ∙ h.1 ∙ ap (λ ms. stamp by ms b) h.0 ∙ clear_b,
 )
 
 pub one_list : OneList
 one_list level a b small_a small_b =
-    one_mask (cleared level) (mask level) a b (masked level a small_a).1 (masked level b small_b).1
-    (mask_kept level a small_a) (mask_kept level b small_b)
+    one_mask 0 (cleared level) (mask level) a b (masked 0 level a small_a).1 (masked 0 level b small_b).1
+    (mask_kept 0 level a small_a) (mask_kept 0 level b small_b)
+
+pub zero_at_its_mask : ListZeroAtItsMask
+zero_at_its_mask = masked 0
+
+pub filled_at_its_mask : ListFilledAtItsMask
+filled_at_its_mask by level b small = (masked by level b small).1

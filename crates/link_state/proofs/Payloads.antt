@@ -1,6 +1,6 @@
--- Payloads that are cleared, by what they are, and lines of tables.
-use Rattle.std.proofs.Common.{◌≡◌, ℕ, zero, suc, ◌≤◌, ◌^◌, ◌%◌, List, [], ◌∷◌, ◌++◌, length, replicate, map, refl, sym}
-use Rattle.std.proofs.Common.{take, drop}
+-- Payloads that are filled, by what they are, and lines of tables.
+use Rattle.std.proofs.Common.{◌≡◌, ℕ, zero, suc, ◌≤◌, ◌<◌, ◌^◌, ◌%◌, List, [], ◌∷◌, ◌++◌, length, replicate, map, refl}
+use Rattle.std.proofs.Common.{sym, take, drop}
 use Rattle.std.proofs.Common.{ap, subst, ◌∙◌, arith, filter}
 use Rattle.std.proofs.lemmas.List.{length-replicate, take-append-drop}
 use Rattle.nla_wire.proofs.Steps.{bytes_left, bytes_right}
@@ -13,23 +13,24 @@ use Rattle.nla_wire.specs.Canon.{canons, AllFit, IsWritable}
 use Rattle.nla_wire.specs.Payloads as payload
 use Rattle.nla_wire.specs.Records.{WritesFilled, HasSize}
 use Rattle.nla_wire.proofs.Lawful.{always}
+use Rattle.nla_wire.proofs.Again.{WritesAgain}
 use Rattle.nla_wire.proofs.FieldLemmas.{zero_filled_whole}
 use Rattle.nla_wire.proofs.Cuts.{frames_once}
 use Rattle.nla_wire.proofs.Back.{canons_frames, every_writable, frames_framed, ones_kept, all_filtered}
 use Rattle.nla_wire.proofs.Codec.{Any, CodecWhere, Place}
 use Rattle.nla_wire.proofs.Tables.{Seen, held, as_it_is, Entry, lines, line_in, frame_of, FitsAs}
 use Rattle.link_state.specs.Table.{action_of}
-use Rattle.link_state.specs.Cleared.{payload_by, cleared}
+use Rattle.link_state.specs.Cleared.{payload_by, filled}
 use Rattle.link_state.specs.declared.level.Level.{Level}
 use Rattle.link_state.specs.Table.{Action}
 use Rattle.link_state.specs.Table.Action.{Clear, ClearPart, Enter}
-use Rattle.link_state.proofs.Walking.{length-payload_by, length-cleared}
-use Rattle.link_state.proofs.Closing.{acted, cleared_frame, cleared_canons, IsOwn, ClosesAt, Closes}
+use Rattle.link_state.proofs.Walking.{length-payload_by, length-filled}
+use Rattle.link_state.proofs.Closing.{acted, filled_frame, filled_canons, IsOwn, ClosesAt, Closes}
 use Rattle.link_state.proofs.Closing.{each}
 
-zeros_bytes : (n : ℕ) → IsBytes (replicate n 0)
-zeros_bytes zero = tt
-zeros_bytes (suc n) = (omega arith, zeros_bytes n)
+filled_bytes : (by : ℕ) → by < 256 → (n : ℕ) → IsBytes (replicate n by)
+filled_bytes by small zero = tt
+filled_bytes by small (suc n) = (small, filled_bytes by small n)
 
 module _ {A : Type 0} (g : Grammar (List ℕ) A) (text : A → List ℕ) (Inside Good : A → Type 0) where
   pub record IsOwnPayload (a : A) : Type 0 where
@@ -45,55 +46,57 @@ module _ {A : Type 0} (g : Grammar (List ℕ) A) (text : A → List ℕ) (Inside
     pub good : Good value
     pub text_is : text value ≡ p
 
-  abbrev pub ClosesPayload : Action → Type 0
-  ClosesPayload action = (a : A) → IsOwnPayload a → BecomesPayload (payload_by cleared action (text a))
+  abbrev pub ClosesPayload : ℕ → Action → Type 0
+  ClosesPayload by action = (a : A) → IsOwnPayload a → BecomesPayload (payload_by by (filled by) action (text a))
 
 -- ** what is not looked into, and numbers and records
 
-pub bytes_close : (action : Action) → ClosesPayload payload.bytes (λ p. p) always always action
-bytes_close action a own =
-    record { value = payload_by cleared action a; means = refl; inside = tt; good = tt; text_is = refl }
+pub bytes_close : (by : ℕ) (action : Action) → ClosesPayload payload.bytes (λ p. p) always always by action
+bytes_close by action a own =
+    record { value = payload_by by (filled by) action a; means = refl; inside = tt; good = tt; text_is = refl }
 
-pub number_closes : (w : Width) → to_le_bytes w 0 ≡ replicate (byte_len w) 0
-    → from_le_bytes w (to_le_bytes w 0) ≡ 0
-    → ClosesPayload (payload.number_of w) (to_le_bytes w) always always Clear
-number_closes w zero_text zero_again a own =
-    let size : length (to_le_bytes w a) ≡ byte_len w = own.means.0 in
+pub number_closes : (by : ℕ) → by < 256 → (w : Width) → WritesAgain w
+    → ClosesPayload (payload.number_of w) (to_le_bytes w) always always by Clear
+number_closes by small w again a own =
+    let n = length (to_le_bytes w a) in
+    let size : n ≡ byte_len w = own.means.0 in
+    let p : List ℕ = replicate n by in
+    let p_size : length p ≡ byte_len w = length-replicate n by ∙ size in
+    let text_is : to_le_bytes w (from_le_bytes w p) ≡ p = again p p_size (filled_bytes by small n) in
     record {
-      value = 0;
-      means = (ap length zero_text ∙ length-replicate (byte_len w) 0, sym zero_again);
+      value = from_le_bytes w p;
+      means = (ap length text_is ∙ p_size, ap (from_le_bytes w) (sym text_is));
       inside = tt;
       good = tt;
-      text_is = zero_text ∙ ap (λ n. replicate n 0) (sym size);
+      text_is = text_is;
     }
 
 -- the value that stands for a number
-pub enum_closes : {A : Type 0} (w : Width) (of : ℕ → A) (num : A → ℕ) → ((x : ℕ) → num (of x) ≡ x)
-    → to_le_bytes w 0 ≡ replicate (byte_len w) 0
-    → from_le_bytes w (to_le_bytes w 0) ≡ 0
-    → ClosesPayload (as_a of (payload.number_of w)) (λ a. to_le_bytes w (num a)) always always Clear
-enum_closes w of num again zero_text zero_again a own =
-    let size : length (to_le_bytes w (num a)) ≡ byte_len w = own.means.1.0 in
-    let text_is : to_le_bytes w (num (of 0)) ≡ to_le_bytes w 0 = ap (to_le_bytes w) (again 0) in
+pub enum_closes : (by : ℕ) → by < 256 → {A : Type 0} (w : Width) → WritesAgain w
+    → (of : ℕ → A) (num : A → ℕ) → ((x : ℕ) → num (of x) ≡ x)
+    → ClosesPayload (as_a of (payload.number_of w)) (λ a. to_le_bytes w (num a)) always always by Clear
+enum_closes by small w written of num again a own =
+    let n = length (to_le_bytes w (num a)) in
+    let size : n ≡ byte_len w = own.means.1.0 in
+    let p : List ℕ = replicate n by in
+    let p_size : length p ≡ byte_len w = length-replicate n by ∙ size in
+    let x : ℕ = from_le_bytes w p in
+    let text_is : to_le_bytes w (num (of x)) ≡ p =
+    ap (to_le_bytes w) (again x) ∙ written p p_size (filled_bytes by small n) in
     record {
-      value = of 0;
-      means = (
-        0,
-        subst (λ p. (payload.number_of w).means p 0) (sym text_is)
-            (ap length zero_text ∙ length-replicate (byte_len w) 0, sym zero_again),
-        refl,
-      );
+      value = of x;
+      means = (x, (ap length text_is ∙ p_size, ap (from_le_bytes w) (sym text_is)), refl);
       inside = tt;
       good = tt;
-      text_is = text_is ∙ zero_text ∙ ap (λ n. replicate n 0) (sym size);
+      text_is = text_is;
     }
 
 -- what is left of bytes is bytes
-abbrev pub LeavesBytes : Action → Type 0
-LeavesBytes action = (p : List ℕ) → IsBytes p → IsBytes (payload_by cleared action p)
+abbrev pub LeavesBytes : ℕ → Action → Type 0
+LeavesBytes by action = (p : List ℕ) → IsBytes p → IsBytes (payload_by by (filled by) action p)
 
-pub clear_leaves : LeavesBytes Clear
-clear_leaves p small = zeros_bytes (length p)
+pub clear_leaves : (by : ℕ) → by < 256 → LeavesBytes by Clear
+clear_leaves by byte p small = filled_bytes by byte (length p)
 
 bytes_joined : (xs ys : List ℕ) → IsBytes xs → IsBytes ys → IsBytes (xs ++ ys)
 bytes_joined [] ys hx hy = hy
@@ -107,11 +110,11 @@ bytes_drop : (n : ℕ) (p : List ℕ) → IsBytes p → IsBytes (drop n p)
 bytes_drop n p small =
     bytes_right (take n p) (drop n p) (subst IsBytes (sym (take-append-drop n p)) small)
 
-pub part_leaves : (from to : ℕ) → LeavesBytes (ClearPart from to)
-part_leaves from to p small =
-    bytes_joined (take from (take to p) ++ replicate (length (drop from (take to p))) 0) (drop to p)
-    (bytes_joined (take from (take to p)) (replicate (length (drop from (take to p))) 0)
-    (bytes_take from (take to p) (bytes_take to p small)) (zeros_bytes (length (drop from (take to p)))))
+pub part_leaves : (by : ℕ) → by < 256 → (from to : ℕ) → LeavesBytes by (ClearPart from to)
+part_leaves by byte from to p small =
+    bytes_joined (take from (take to p) ++ replicate (length (drop from (take to p))) by) (drop to p)
+    (bytes_joined (take from (take to p)) (replicate (length (drop from (take to p))) by)
+    (bytes_take from (take to p) (bytes_take to p small)) (filled_bytes by byte (length (drop from (take to p)))))
     (bytes_drop to p small)
 
 -- bytes of a record's size are the bytes of the record that they are read as
@@ -119,25 +122,25 @@ record_written : {A : Type 0} (size : ℕ) (of : List ℕ → A) (text : A → L
     → (p : List ℕ) → IsBytes p → length p ≡ size → text (of p) ≡ p
 record_written size of text plain p small sized = plain p small ∙ zero_filled_whole size p sized
 
-pub filled_closes : {A : Type 0} (size : ℕ) (of : List ℕ → A) (text : A → List ℕ) → WritesFilled size of text
+pub filled_closes : {A : Type 0} (by : ℕ) (size : ℕ) (of : List ℕ → A) (text : A → List ℕ) → WritesFilled size of text
     → ((a : A) → length (text a) ≡ size)
-    → (action : Action) → LeavesBytes action
-    → ClosesPayload (payload.filled of) text always always action
-filled_closes size of text plain sized action leaves a own =
-    let p = payload_by cleared action (text a) in
+    → (action : Action) → LeavesBytes by action
+    → ClosesPayload (payload.filled of) text always always by action
+filled_closes by size of text plain sized action leaves a own =
+    let p = payload_by by (filled by) action (text a) in
     let same = record_written size of text plain p (leaves (text a) own.bytes)
-    (length-payload_by action (text a) ∙ sized a) in
+    (length-payload_by by action (text a) ∙ sized a) in
     record { value = of p; means = ap of (sym same); inside = tt; good = tt; text_is = same }
 
-pub sized_closes : {A : Type 0} (size : ℕ) (of : List ℕ → A) (text : A → List ℕ) → WritesFilled size of text
+pub sized_closes : {A : Type 0} (by : ℕ) (size : ℕ) (of : List ℕ → A) (text : A → List ℕ) → WritesFilled size of text
     → HasSize size of text
-    → (action : Action) → LeavesBytes action
-    → ClosesPayload (payload.sized size of) text always always action
-sized_closes size of text plain sized action leaves a own =
-    let p = payload_by cleared action (text a) in
+    → (action : Action) → LeavesBytes by action
+    → ClosesPayload (payload.sized size of) text always always by action
+sized_closes by size of text plain sized action leaves a own =
+    let p = payload_by by (filled by) action (text a) in
     let size_is : length (text a) ≡ size = ap (λ x. length (text x)) own.means.1 ∙ sized (text a) in
     let same = record_written size of text plain p (leaves (text a) own.bytes)
-    (length-payload_by action (text a) ∙ size_is) in
+    (length-payload_by by action (text a) ∙ size_is) in
     record {
       value = of p;
       means = (omega (arith, sized p), ap of (sym same));
@@ -159,74 +162,82 @@ module _ {V : Type 0} (g : Grammar Frame V) (frame : V → Frame) (Fits Good : V
   )
 
   -- what is written as frames that can be written
-  same_writable : (level : Level) (vs ws : List V) → map frame ws ≡ map (λ v. cleared_frame level (frame v)) vs
+  same_writable : (by : ℕ) (level : Level) (vs ws : List V)
+      → map frame ws ≡ map (λ v. filled_frame by level (frame v)) vs
       → AllByRecursion (λ v. IsWritable (frame v)) vs → AllByRecursion (λ v. IsWritable (frame v)) ws
-  same_writable level vs [] e h = tt
-  same_writable level [] (w ∷ ws) e h = absurd (omega (arith, ap (λ (fs : List Frame). length fs) e))
-  same_writable level (v ∷ vs) (w ∷ ws) e h =
-      let first : frame w ≡ cleared_frame level (frame v) = cc in
-      let later : map frame ws ≡ map (λ v. cleared_frame level (frame v)) vs = cc in (
+  same_writable by level vs [] e h = tt
+  same_writable by level [] (w ∷ ws) e h = absurd (omega (arith, ap (λ (fs : List Frame). length fs) e))
+  same_writable by level (v ∷ vs) (w ∷ ws) e h =
+      let first : frame w ≡ filled_frame by level (frame v) = cc in
+      let later : map frame ws ≡ map (λ v. filled_frame by level (frame v)) vs = cc in (
         subst IsWritable (sym first)
             (record {
               kind = h.0.kind;
-              size = omega (arith, h.0.size, length-payload_by (action_of level (number (frame v))) (frame v).payload);
+              size = omega (
+                arith,
+                h.0.size,
+                length-payload_by by (action_of level (number (frame v))) (frame v).payload,
+              );
             }),
-        same_writable level vs ws later h.1,
+        same_writable by level vs ws later h.1,
       )
 
-  pub record ListBecomes (level : Level) (vs : List V) : Type 0 where
+  pub record ListBecomes (by : ℕ) (level : Level) (vs : List V) : Type 0 where
     pub values : List V
     pub means : (list g).means (canons frame values) values
     pub fits : AllByRecursion Fits values
     pub good : AllByRecursion Good values
-    pub text_is : canons frame values ≡ cleared level (canons frame vs)
+    pub text_is : canons frame values ≡ filled by level (canons frame vs)
     pub every : Every g.means (map frame values) values
     pub written : AllByRecursion (λ v. IsWritable (frame v)) values
 
-  pub list_closes : (level : Level) → Closes g frame Fits Good level → (vs : List V) → IsBytes (canons frame vs)
-      → (list g).means (canons frame vs) vs → AllByRecursion Fits vs → AllByRecursion Good vs → ListBecomes level vs
-  list_closes level closes vs small means fits good =
+  pub list_closes : (by : ℕ) (level : Level) → Closes g frame Fits Good by level → (vs : List V)
+      → IsBytes (canons frame vs)
+      → (list g).means (canons frame vs) vs → AllByRecursion Fits vs → AllByRecursion Good vs → ListBecomes by level vs
+  list_closes by level closes vs small means fits good =
       let framed = frames_framed (canons frame vs) means.0 small means.1 in
       let writable_all = every_writable g frame Fits writable means.0 vs framed means.2 fits in
       let one : means.0 ≡ map frame vs =
       frames_once (canons frame vs) means.0 (map frame vs) means.1 (canons_frames frame vs writable_all) in
       let own = own_each vs (subst (λ fs. AllByRecursion IsFrame fs) one framed)
       (subst (λ fs. Every g.means fs vs) one means.2) fits good in
-      let to = each g frame Fits Good level closes vs own in
+      let to = each g frame Fits Good by level closes vs own in
       record {
         values = to.values;
         means = (
           map frame to.values,
-          canons_frames frame to.values (same_writable level vs to.values to.frames_are writable_all),
+          canons_frames frame to.values (same_writable by level vs to.values to.frames_are writable_all),
           to.means,
         );
         fits = to.fits;
         good = to.good;
-        text_is = cleared_canons level frame vs to.values writable_all to.frames_are;
+        text_is = filled_canons by level frame vs to.values writable_all to.frames_are;
         every = to.means;
-        written = same_writable level vs to.values to.frames_are writable_all;
+        written = same_writable by level vs to.values to.frames_are writable_all;
       }
 
 -- ** lists as payloads
 
-module _ {V : Type 0} (p : Place V) (level : Level) (closes : Closes p.grammar p.frame p.Fits always level) where
+module _ {V : Type 0} (p : Place V) (by : ℕ) (level : Level)
+    (closes : Closes p.grammar p.frame p.Fits always by level) where
   all_always : (vs : List V) → AllByRecursion always vs
   all_always [] = tt
   all_always (v ∷ vs) = (tt, all_always vs)
 
   become : (vs : List V) → IsBytes (canons p.frame vs) → (list p.grammar).means (canons p.frame vs) vs
-      → AllFit p.Fits p.frame vs → ListBecomes p.grammar p.frame p.Fits always p.lawful.writable level vs
+      → AllFit p.Fits p.frame vs → ListBecomes p.grammar p.frame p.Fits always p.lawful.writable by level vs
   become vs small means fits =
-      list_closes p.grammar p.frame p.Fits always p.lawful.writable level closes vs small means fits.0 (all_always vs)
+      list_closes p.grammar p.frame p.Fits always p.lawful.writable by level closes vs small means fits.0
+      (all_always vs)
 
-  same_fits : (vs : List V) (to : ListBecomes p.grammar p.frame p.Fits always p.lawful.writable level vs)
+  same_fits : (vs : List V) (to : ListBecomes p.grammar p.frame p.Fits always p.lawful.writable by level vs)
       → AllFit p.Fits p.frame vs → AllFit p.Fits p.frame to.values
   same_fits vs to fits = (
     to.fits,
-    omega (arith, fits.1, ap (λ (b : List ℕ). length b) to.text_is, length-cleared level (canons p.frame vs)),
+    omega (arith, fits.1, ap (λ (b : List ℕ). length b) to.text_is, length-filled by level (canons p.frame vs)),
   )
 
-  pub list_of_closes : ClosesPayload (list p.grammar) (canons p.frame) (AllFit p.Fits p.frame) always (Enter level)
+  pub list_of_closes : ClosesPayload (list p.grammar) (canons p.frame) (AllFit p.Fits p.frame) always by (Enter level)
   list_of_closes vs own =
       let to = become vs own.bytes own.means own.inside in
       record {
@@ -238,7 +249,7 @@ module _ {V : Type 0} (p : Place V) (level : Level) (closes : Closes p.grammar p
       }
 
   pub some_of_closes : ClosesPayload (not_empty (list p.grammar)) (canons p.frame) (AllFit p.Fits p.frame) always
-      (Enter level)
+      by (Enter level)
   some_of_closes vs own =
       let to = become vs own.bytes own.means.1 own.inside in
       record {
@@ -248,7 +259,7 @@ module _ {V : Type 0} (p : Place V) (level : Level) (closes : Closes p.grammar p
             arith,
             own.means.0,
             ap (λ (b : List ℕ). length b) to.text_is,
-            length-cleared level (canons p.frame vs),
+            length-filled by level (canons p.frame vs),
           ),
           to.means,
         );
@@ -259,7 +270,7 @@ module _ {V : Type 0} (p : Place V) (level : Level) (closes : Closes p.grammar p
 
   -- a list whose members with other numbers than 1 are dropped
   pub picked_of_closes : ((v : V) → number (p.frame v) ≡ 1)
-      → ClosesPayload (picked p.grammar) (canons p.frame) (AllFit p.Fits p.frame) always (Enter level)
+      → ClosesPayload (picked p.grammar) (canons p.frame) (AllFit p.Fits p.frame) always by (Enter level)
   picked_of_closes ones vs own =
       let fs = own.means.0 in
       let framed = all_filtered IsFrame is_one fs (frames_framed (canons p.frame vs) fs own.bytes own.means.1) in
@@ -288,10 +299,10 @@ module _ {V : Type 0} (p : Place V) (level : Level) (closes : Closes p.grammar p
 -- ** a place of one kind
 
 module _ {A B : Type 0} (wrap : A → B) (inner : B → A) (c : CodecWhere A always) (same : (a : A) → inner (wrap a) ≡ a)
-    (kind : ℕ) (action : Action) (closes : ClosesPayload c.grammar c.encoding c.Inside always action) where
+    (kind by : ℕ) (action : Action) (closes : ClosesPayload c.grammar c.encoding c.Inside always by action) where
   pub place_of_closes : (n : ℕ) → ClosesAt (by_payload (as_a wrap c.grammar))
       (λ b. record { kind = kind; payload = c.encoding (inner b) })
-      (λ b. (length (c.encoding (inner b)) ≤ most_payload) × c.Inside (inner b)) always n action
+      (λ b. (length (c.encoding (inner b)) ≤ most_payload) × c.Inside (inner b)) always by n action
   place_of_closes n v own is =
       let a = own.means.0 in
       let e : inner v ≡ a = ap inner own.means.2 ∙ same a in
@@ -302,8 +313,8 @@ module _ {A B : Type 0} (wrap : A → B) (inner : B → A) (c : CodecWhere A alw
         good = tt;
       }) in
       let b = to.value in
-      let text_is : c.encoding (inner (wrap b)) ≡ payload_by cleared action (c.encoding (inner v)) =
-      ap c.encoding (same b) ∙ to.text_is ∙ ap (λ x. payload_by cleared action (c.encoding x)) (sym e) in
+      let text_is : c.encoding (inner (wrap b)) ≡ payload_by by (filled by) action (c.encoding (inner v)) =
+      ap c.encoding (same b) ∙ to.text_is ∙ ap (λ x. payload_by by (filled by) action (c.encoding x)) (sym e) in
       record {
         value = wrap b;
         means = (b, subst (λ x. c.grammar.means (c.encoding x) b) (sym (same b)) to.means, refl);
@@ -312,7 +323,7 @@ module _ {A B : Type 0} (wrap : A → B) (inner : B → A) (c : CodecWhere A alw
             arith,
             own.framed.size,
             ap (λ (t : List ℕ). length t) text_is,
-            length-payload_by action (c.encoding (inner v)),
+            length-payload_by by action (c.encoding (inner v)),
           ),
           subst c.Inside (sym (same b)) to.inside,
         );
@@ -324,21 +335,21 @@ module _ {A B : Type 0} (wrap : A → B) (inner : B → A) (c : CodecWhere A alw
 
 module _ {S : Type 0} (base : S → Any) {V : Type 0} (view : V → Seen) (Good : V → Type 0)
     (es : List {1} (Entry base view Good)) (other : Frame → V) where
-  abbrev pub LineClosesAt : ℕ → Action → Type 0
-  LineClosesAt n action = ClosesAt (lines base view Good es (undecoded other)) (frame_of base view Good)
-      (FitsAs base view Good) Good n action
+  abbrev pub LineClosesAt : ℕ → ℕ → Action → Type 0
+  LineClosesAt by n action = ClosesAt (lines base view Good es (undecoded other)) (frame_of base view Good)
+      (FitsAs base view Good) Good by n action
 
   -- a line whose payload closes: its number is its kind's, and it reads frames of any size
-  pub line_closes : {A : Type 0} {GoodA : A → Type 0} (n kind : ℕ) (action : Action) (c : CodecWhere A GoodA)
+  pub line_closes : {A : Type 0} {GoodA : A → Type 0} (by n kind : ℕ) (action : Action) (c : CodecWhere A GoodA)
       (variant : A → V)
       → ((size : ℕ) → line_in base view Good n size es (undecoded other) ≡ by_payload (as_a variant c.grammar))
       → ((a : A) → view (variant a) ≡ held kind c a)
       → ((a : A) → Good (variant a) → GoodA a)
       → ((a : A) → GoodA a → Good (variant a))
       → kind % 2 ^ 14 ≡ n
-      → ClosesPayload c.grammar c.encoding c.Inside GoodA action
-      → LineClosesAt n action
-  line_closes n kind action c variant reads same good_in good_out number_is closes v own is =
+      → ClosesPayload c.grammar c.encoding c.Inside GoodA by action
+      → LineClosesAt by n action
+  line_closes by n kind action c variant reads same good_in good_out number_is closes v own is =
       let f = (view v).frame in
       let read : (by_payload (as_a variant c.grammar)).means f v =
       subst (λ (g : Grammar Frame V). g.means f v) (reads (length f.payload))
@@ -353,7 +364,7 @@ module _ {S : Type 0} (base : S → Any) {V : Type 0} (view : V → Seen) (Good 
         good = good_in a (subst Good read.2 own.good);
       }) in
       let w = variant to.value in
-      let new_is : (view w).frame ≡ record { kind = kind; payload = payload_by cleared action (c.encoding a) } =
+      let new_is : (view w).frame ≡ record { kind = kind; payload = payload_by by (filled by) action (c.encoding a) } =
       ap (λ (s : Seen). s.frame) (same to.value) ∙ ap (λ t. record { kind = kind; payload = t }) to.text_is in
       let new_number : number (view w).frame ≡ n = ap number new_is ∙ number_is in
       let new_read : (by_payload (as_a variant c.grammar)).means (view w).frame w = (
@@ -376,22 +387,22 @@ module _ {S : Type 0} (base : S → Any) {V : Type 0} (view : V → Seen) (Good 
             own.framed.size,
             ap (λ (x : Frame). length x.payload) frame_is,
             ap (λ (x : Frame). length x.payload) new_is,
-            length-payload_by action (c.encoding a),
+            length-payload_by by action (c.encoding a),
           ),
           subst (λ (s : Seen). s.Inside) (sym (same to.value)) to.inside,
         );
         good = good_out to.value to.good;
-        frame_is = new_is ∙ ap (acted action) (sym frame_is);
+        frame_is = new_is ∙ ap (acted by action) (sym frame_is);
       }
 
   -- frames of a number that no line has
-  pub kept_closes : (n : ℕ) (action : Action)
+  pub kept_closes : (by n : ℕ) (action : Action)
       → ((size : ℕ) → line_in base view Good n size es (undecoded other) ≡ undecoded other)
       → ((f : Frame) → view (other f) ≡ as_it_is f)
       → ((f : Frame) → Good (other f))
-      → LineClosesAt n action
-  kept_closes n action reads same good v own is =
-      let f = acted action (view v).frame in
+      → LineClosesAt by n action
+  kept_closes by n action reads same good v own is =
+      let f = acted by action (view v).frame in
       let w = other f in
       let frame_is : (view w).frame ≡ f = ap (λ (s : Seen). s.frame) (same f) in
       record {
@@ -407,7 +418,7 @@ module _ {S : Type 0} (base : S → Any) {V : Type 0} (view : V → Seen) (Good 
             arith,
             own.framed.size,
             ap (λ (x : Frame). length x.payload) frame_is,
-            length-payload_by action (view v).frame.payload,
+            length-payload_by by action (view v).frame.payload,
           ),
           subst (λ (s : Seen). s.Inside) (sym (same f)) tt,
         );

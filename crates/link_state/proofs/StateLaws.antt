@@ -11,7 +11,7 @@ use Rattle.link_state.specs.Masks.{mask, blank}
 use Rattle.link_state.specs.State.{change_mask_at, level_of, state, state_mask}
 use Rattle.link_state.specs.Laws.{StateTwice, ZeroAtItsMask, MaskStays, OneState}
 use Rattle.link_state.specs.declared.level.Level.{Level}
-use Rattle.link_state.proofs.Masks.{cleared_twice, masked, mask_kept, one_mask, blank_append, blank_kept, blank_cleared}
+use Rattle.link_state.proofs.Masks.{cleared_twice, masked, mask_kept, one_mask, stamp_append, stamp_kept, stamp_whole}
 
 abbrev rest_of : List ℕ → List ℕ
 rest_of t = drop header_size t
@@ -57,7 +57,7 @@ mask_stays t (small, long) =
     ap₂ (λ (l : Level) (b : List ℕ). replicate change_mask_at false ++ replicate 4 true ++ mask l b)
     (state_level t long) (state_rest t long)
     ∙ ap (λ (ms : List Bool). replicate change_mask_at false ++ replicate 4 true ++ ms)
-    (mask_kept (level_of t) (rest_of t) (bytes_after t small))
+    (mask_kept 0 (level_of t) (rest_of t) (bytes_after t small))
 
 header_parts : (t : List ℕ) → header_size ≤ length t
     → t ≡ take change_mask_at t ++ take 4 (drop change_mask_at t) ++ rest_of t
@@ -66,7 +66,7 @@ header_parts t long =
 
 pub zero_at_its_mask : ZeroAtItsMask
 zero_at_its_mask t (small, long) =
-    let inner = masked (level_of t) (rest_of t) (bytes_after t small) in
+    let inner = masked 0 (level_of t) (rest_of t) (bytes_after t small) in
     let a : List ℕ = take change_mask_at t in
     let b : List ℕ = take 4 (drop change_mask_at t) in
     let kept : List Bool = replicate change_mask_at false in
@@ -90,14 +90,14 @@ zero_at_its_mask t (small, long) =
         long,
       ),
       ap (blank (kept ++ gone ++ marks)) (header_parts t long)
-          ∙ blank_append (kept ++ gone) marks (a ++ b) (rest_of t) two
-          ∙ ap (λ xs. xs ++ blank marks (rest_of t)) (blank_append kept gone a b (omega (arith, kept_size, a_size)))
-          ∙ ap₂ (λ (xs ys : List ℕ). xs ++ ys ++ blank marks (rest_of t)) (blank_kept change_mask_at a a_size)
-          (blank_cleared 4 b b_size ∙ ap (λ n. replicate n 0) b_size)
+          ∙ stamp_append 0 (kept ++ gone) marks (a ++ b) (rest_of t) two
+          ∙ ap (λ xs. xs ++ blank marks (rest_of t)) (stamp_append 0 kept gone a b (omega (arith, kept_size, a_size)))
+          ∙ ap₂ (λ (xs ys : List ℕ). xs ++ ys ++ blank marks (rest_of t)) (stamp_kept 0 change_mask_at a a_size)
+          (stamp_whole 0 4 b b_size ∙ ap (λ n. replicate n 0) b_size)
           ∙ ap (λ ys. a ++ replicate 4 0 ++ ys) inner.1,
     )
 
 pub one_state : OneState
 one_state s t (small_s, long_s) (small_t, long_t) =
-    one_mask state state_mask s t (zero_at_its_mask s (small_s, long_s)).1 (zero_at_its_mask t (small_t, long_t)).1
+    one_mask 0 state state_mask s t (zero_at_its_mask s (small_s, long_s)).1 (zero_at_its_mask t (small_t, long_t)).1
     (mask_stays s (small_s, long_s)) (mask_stays t (small_t, long_t))

@@ -1,12 +1,12 @@
 -- Laws of the state encoding, for every family.
-use Rattle.std.specs.Prelude.{◌≡◌, ◌↔◌, ◌≤◌, ℕ, List, length, drop}
+use Rattle.std.specs.Prelude.{◌≡◌, ◌↔◌, ◌≤◌, ◌<◌, ℕ, List, length, ◌++◌, take, drop}
 use Rattle.nla_wire.specs.Frames.{IsBytes}
 use Rattle.link_msg.specs.Header.{header_size}
 use Rattle.link_msg.specs.Messages.{message_text}
 use Rattle.link_msg.specs.Canonical.{IsAccepted}
 use Rattle.link_msg.specs.declared.message.LinkMessage.{LinkMessage}
-use Rattle.link_state.specs.Cleared.{cleared}
-use Rattle.link_state.specs.Masks.{mask, blank, SameFrames}
+use Rattle.link_state.specs.Cleared.{filled, cleared}
+use Rattle.link_state.specs.Masks.{mask, stamp, blank, SameFrames}
 use Rattle.link_state.specs.State.{level_of, state, state_mask}
 use Rattle.link_state.specs.declared.level.Level.{Level}
 
@@ -64,3 +64,24 @@ abbrev pub OneList : Type 0
 OneList = (level : Level) (a b : List ℕ) → IsBytes a → IsBytes b
     → (cleared level a ≡ cleared level b)
     ↔ ((mask level a ≡ mask level b) × (blank (mask level a) a ≡ blank (mask level a) b))
+
+-- ** another byte than zero
+
+-- of what is filled twice the first byte does not count; what is filled and then cleared is cleared
+abbrev pub ListFilledTwice : Type 0
+ListFilledTwice = (by other : ℕ) (level : Level) (b : List ℕ) → IsBytes b
+    → filled by level (filled other level b) ≡ filled by level b
+
+-- only the bytes of the mask are changed, and each of these becomes the byte
+abbrev pub ListFilledAtItsMask : Type 0
+ListFilledAtItsMask = (by : ℕ) (level : Level) (b : List ℕ) → IsBytes b → stamp by (mask level b) b ≡ filled by level b
+
+-- the mask does not depend on what is filled
+abbrev pub ListMaskStays : Type 0
+ListMaskStays = (by : ℕ) (level : Level) (b : List ℕ) → IsBytes b → mask level (filled by level b) ≡ mask level b
+
+-- canonical encoding whose list is filled by a byte is the canonical encoding of some message, with the same header
+abbrev pub FilledIsCanonical : Type 0
+FilledIsCanonical = (by : ℕ) (t : List ℕ) (m : LinkMessage) → by < 256 → IsBytes t → IsCanonical t m
+    → (n : LinkMessage) × (n.header ≡ m.header)
+    × IsCanonical (take header_size t ++ filled by (level_of t) (drop header_size t)) n

@@ -61,8 +61,12 @@ same_frames_within (suc n) level b c =
 unfoldable pub SameFrames : Level → List ℕ → List ℕ → Type 0
 SameFrames level b c = same_frames_within (length b) level b c
 
+-- the byte where the mask says so
+abbrev pub stamp : ℕ → List Bool → List ℕ → List ℕ
+stamp by [] b = b
+stamp by (m ∷ ms) [] = []
+stamp by (m ∷ ms) (x ∷ b) = (if m then by else x) ∷ stamp by ms b
+
 -- zeros where the mask says so
 abbrev pub blank : List Bool → List ℕ → List ℕ
-blank [] b = b
-blank (m ∷ ms) [] = []
-blank (m ∷ ms) (x ∷ b) = (if m then 0 else x) ∷ blank ms b
+blank = stamp 0

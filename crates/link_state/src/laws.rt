@@ -3,6 +3,7 @@
 ghost use Rattle.link_state.specs.Laws.{StateIsCanonical, StateIsAsLong, StateTwice, ZeroAtItsMask, MaskStays};
 ghost use Rattle.link_state.specs.Laws.{MaskByFrames, OneState};
 ghost use Rattle.link_state.specs.Laws.{ListTwice, ListZeroAtItsMask, ListMaskByFrames, OneList};
+ghost use Rattle.link_state.specs.Laws.{ListFilledTwice, ListFilledAtItsMask, ListMaskStays, FilledIsCanonical};
 
 /// The state encoding of canonical encoding is canonical, and as long; and the state of a state is itself.
 pub fn law_state()
@@ -26,4 +27,14 @@ pub fn law_lists()
     ensures zero { ListZeroAtItsMask }
     ensures frames { ListMaskByFrames }
     ensures one { OneList }
+{}
+
+/// Of lists in which another byte than zero is written: it stands exactly where their mask says so, the mask stays, and
+/// of two bytes that are written one after the other the first does not count. Canonical encoding of which the list is
+/// filled so stays canonical.
+pub fn law_filled()
+    ensures twice { ListFilledTwice }
+    ensures stamped { ListFilledAtItsMask }
+    ensures stays { ListMaskStays }
+    ensures canonical { FilledIsCanonical }
 {}

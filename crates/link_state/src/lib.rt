@@ -9,5 +9,5 @@ mod state_encoding;
 mod walk;
 
 pub use kind::Kind;
-pub use level::{Level, clear};
+pub use level::{Level, clear, fill};
 pub use state_encoding::{STATE_FORM, same_state, state, state_into, state_within};

@@ -6,7 +6,7 @@ ghost use Rattle.link_msg.specs.Canonical.{HoldsText, IsRefusal, IsRefusalOfTwo}
 ghost use Rattle.link_state.specs.State.{state, HasState, HaveSameState, IsStateWithin, IsStateWritten};
 
 use crate::level::{Level, clear};
-use crate::walk::zero;
+use crate::walk::fill_bytes;
 use link_msg::header::HEADER_SIZE;
 use link_msg::{CanonError, RoomError, canonical, canonical_within};
 use link_vals::AddressFamily;
@@ -26,7 +26,7 @@ fn clear_message(encoding: &mut [u8])
     ensures { encoding.new ≡ state encoding.old }
 {
     let level = Level::Message(AddressFamily::from(encoding[0]));
-    zero(&mut encoding[CHANGE_MASK..HEADER_SIZE]);
+    fill_bytes::<0>(&mut encoding[CHANGE_MASK..HEADER_SIZE]);
     clear(&mut encoding[HEADER_SIZE..], level);
 }
 

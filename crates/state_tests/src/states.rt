@@ -3,7 +3,7 @@
 use expected::{GROWTH, equal, is_stored};
 use link_msg::laws::law_room;
 use link_msg::{CanonError, RoomError};
-use link_state::{Level, clear, same_state, state, state_into, state_within};
+use link_state::{Level, clear, fill, same_state, state, state_into, state_within};
 
 /// All flags are changed, and the carrier has changed three times.
 const POLLED: [u8; 24] = [
@@ -76,6 +76,14 @@ fn cleared(rt: HostRuntime) {
     let mut list = [8, 0, 16, 0, 1, 2, 3, 4, 8, 0, 5, 0, 1, 0, 0, 0];
     clear(&mut list, Level::Bridge);
     assert!(rt; equal(&list, &[8, 0, 16, 0, 0, 0, 0, 0, 8, 0, 5, 0, 1, 0, 0, 0]));
+}
+
+#[test]
+fn filled(rt: HostRuntime) {
+    // the same list
+    let mut list = [8, 0, 16, 0, 1, 2, 3, 4, 8, 0, 5, 0, 1, 0, 0, 0];
+    fill::<7>(&mut list, Level::Bridge);
+    assert!(rt; equal(&list, &[8, 0, 16, 0, 7, 7, 7, 7, 8, 0, 5, 0, 1, 0, 0, 0]));
 }
 
 #[test]

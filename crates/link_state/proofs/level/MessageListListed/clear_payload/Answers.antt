@@ -1,7 +1,0 @@
-use Rattle.std.proofs.Common.{rules}
-use Rattle.link_state.specs.declared.level.Level.TheVariants.{Message}
-use Rattle.link_state.proofs.Rows.{other_stays}
-use Rattle.link_state.proofs.level.MessageListListed.clear_payload.Goals as goal
-
-pub returns-in_default : goal.returns-in_default
-returns-in_default c = other_stays (Message c.args.self.now.family) c.args.number c.args.payload.now (Prim.search rules)

@@ -1,0 +1,8 @@
+use Rattle.std.proofs.Common.{rules}
+use Rattle.link_state.specs.declared.level.Level.TheVariants.{Message}
+use Rattle.link_state.proofs.Rows.{other_stays}
+use Rattle.link_state.proofs.level.MessageListListed.fill_payload.Goals as goal
+
+pub returns-in_default : goal.returns-in_default
+returns-in_default g c =
+    other_stays g.row.BY (Message c.args.self.now.family) c.args.number c.args.payload.now (Prim.search rules)
