@@ -16,7 +16,7 @@ pub mod numbers;
 mod payload;
 pub mod place;
 mod prefix;
-mod shape;
+pub mod shape;
 pub mod to_vec;
 pub mod view;
 mod walk;

@@ -32,7 +32,7 @@ const ID_SIZE: usize = 32;
 
 /// What a payload has to be, and how its canonical encoding follows from it.
 #[derive(Clone, Copy)]
-pub(crate) enum Shape {
+pub enum Shape {
     /// Bytes, written as they are.
     Bytes,
     /// A text, written with one NUL.
@@ -85,10 +85,12 @@ pub(crate) enum Shape {
 
 impl Shape {
     /// The shape of a payload of this size, of an attribute of this number under the header's family; `None` where the
-    /// attribute is kept.
+    /// attribute is kept as it is, as `LinkAttribute::Other`, whatever its payload.
+    ///
+    /// It reads no payload: one of this shape may still be refused.
     #[tactic(auto, unfolding(crate::specs::Tables::attribute_view, crate::specs::Tables::attribute_entries))]
     #[inline(always)]
-    pub(crate) fn of(number: u16, size: usize, family: AddressFamily) -> Option<Shape>
+    pub fn of(number: u16, size: usize, family: AddressFamily) -> Option<Shape>
         ensures { as_way result ≡ attribute_way family number size }
     {
         match number {
