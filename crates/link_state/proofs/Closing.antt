@@ -48,7 +48,7 @@ acted_text by action f = ap (λ n. to_le_bytes w16 (4 + n) ++ to_le_bytes w16 f.
     (sym (length-payload_by by action f.payload))
 
 -- the first frame of canonical encoding
-filled_canon : (by : ℕ) (level : Level) (f : Frame) (rest : List ℕ) → IsWritable f
+pub filled_canon : (by : ℕ) (level : Level) (f : Frame) (rest : List ℕ) → IsWritable f
     → filled by level (canon f ++ rest) ≡ canon (filled_frame by level f) ++ filled by level rest
 filled_canon by level f rest writable =
     let b = canon f ++ rest in

@@ -1,5 +1,8 @@
 pub mod Rows
 pub mod Walking
+pub mod Thinning
+pub mod Left
+pub mod Apart
 pub mod Closing
 pub mod Payloads
 pub mod Places

@@ -19,7 +19,7 @@ use Rattle.link_msg.specs.declared.message.LinkMessage.{LinkMessage}
 use Rattle.link_msg.proofs.Messaging.{header_length}
 use Rattle.link_msg.proofs.ReadingBack.{header_back}
 use Rattle.link_state.specs.Cleared.{filled, cleared}
-use Rattle.link_state.specs.State.{change_mask_at, level_of, state}
+use Rattle.link_state.specs.State.{change_mask_at, level_of}
 use Rattle.link_state.specs.Laws.{IsCanonical, StateIsCanonical, StateIsAsLong, FilledIsCanonical}
 use Rattle.link_state.specs.declared.level.Level.TheVariants.{Message}
 use Rattle.link_state.proofs.Walking.{length-filled}

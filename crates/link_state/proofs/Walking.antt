@@ -193,7 +193,7 @@ stepped by level list at next f rest q e within q_is next_is =
     ∙ ap (λ xs. take at list ++ xs) (sym (filled_next by level (drop at list) f rest e))
 
 -- the payload, as a part of the list
-payload_part : (list : List ℕ) (at : ℕ) (f : Frame) (rest : List ℕ) → Begins (drop at list) f rest
+pub payload_part : (list : List ℕ) (at : ℕ) (f : Frame) (rest : List ℕ) → Begins (drop at list) f rest
     → take (length f.payload) (drop (at + 4) list) ≡ f.payload
 payload_part list at f rest begins =
     ap (take (length f.payload)) (sym (drop-drop 4 at list) ∙ ap (drop 4) begins.parts

@@ -1,14 +1,21 @@
 -- Laws of the state encoding, for every family.
 use Rattle.std.specs.Prelude.{◌≡◌, ◌↔◌, ◌≤◌, ◌<◌, ℕ, List, length, ◌++◌, take, drop}
 use Rattle.nla_wire.specs.Frames.{IsBytes}
+use Rattle.nla_wire.specs.Grammar.{list}
+use Rattle.nla_wire.specs.Canon.{canons, AllFit}
+use Rattle.link_afspec.specs.Tables.{af_spec_inet6_place, af_spec_unspec_place}
+use Rattle.link_afspec.specs.declared.inet6.AfSpecInet6.{AfSpecInet6}
+use Rattle.link_afspec.specs.declared.unspec.AfSpecUnspec.{AfSpecUnspec}
 use Rattle.link_msg.specs.Header.{header_size}
 use Rattle.link_msg.specs.Messages.{message_text}
 use Rattle.link_msg.specs.Canonical.{IsAccepted}
 use Rattle.link_msg.specs.declared.message.LinkMessage.{LinkMessage}
 use Rattle.link_state.specs.Cleared.{filled, cleared}
+use Rattle.link_state.specs.Thinned.{thinned, inet6_left, families_left}
 use Rattle.link_state.specs.Masks.{mask, stamp, blank, SameFrames}
 use Rattle.link_state.specs.State.{level_of, state, state_mask}
 use Rattle.link_state.specs.declared.level.Level.{Level}
+use Rattle.link_state.specs.declared.level.Level.TheVariants.{Families, Inet6}
 
 -- t is the canonical encoding of this message, which it means, which fits and holds no empty list of ports
 pub record IsCanonical (t : List ℕ) (m : LinkMessage) : Type 0 where
@@ -85,3 +92,35 @@ abbrev pub FilledIsCanonical : Type 0
 FilledIsCanonical = (by : ℕ) (t : List ℕ) (m : LinkMessage) → by < 256 → IsBytes t → IsCanonical t m
     → (n : LinkMessage) × (n.header ≡ m.header)
     × IsCanonical (take header_size t ++ filled by (level_of t) (drop header_size t)) n
+
+-- ** lists that are thinned
+
+-- the canonical encoding of settings of IPv6, which it means, and which fit
+pub record AreInet6 (b : List ℕ) (vs : List AfSpecInet6) : Type 0 where
+  pub means : (list af_spec_inet6_place.grammar).means b vs
+  pub fits : AllFit af_spec_inet6_place.Fits af_spec_inet6_place.frame vs
+  pub text : b ≡ canons af_spec_inet6_place.frame vs
+
+-- the same of settings by family
+pub record AreFamilies (b : List ℕ) (vs : List AfSpecUnspec) : Type 0 where
+  pub means : (list af_spec_unspec_place.grammar).means b vs
+  pub fits : AllFit af_spec_unspec_place.Fits af_spec_unspec_place.frame vs
+  pub text : b ≡ canons af_spec_unspec_place.frame vs
+
+-- what is left of canonical encoding is canonical, and means the values of which something is cleared
+abbrev pub Inet6Thinned : Type 0
+Inet6Thinned = (b : List ℕ) (vs : List AfSpecInet6) → IsBytes b → AreInet6 b vs
+    → AreInet6 (thinned Inet6 b) (inet6_left vs)
+
+abbrev pub FamiliesThinned : Type 0
+FamiliesThinned = (b : List ℕ) (vs : List AfSpecUnspec) → IsBytes b → AreFamilies b vs
+    → AreFamilies (thinned Families b) (families_left vs)
+
+-- nothing is filled of what is left out
+abbrev pub Inet6Apart : Type 0
+Inet6Apart = (by : ℕ) (b : List ℕ) (vs : List AfSpecInet6) → IsBytes b → AreInet6 b vs
+    → thinned Inet6 (filled by Inet6 b) ≡ filled by Inet6 (thinned Inet6 b)
+
+abbrev pub FamiliesApart : Type 0
+FamiliesApart = (by : ℕ) (b : List ℕ) (vs : List AfSpecUnspec) → IsBytes b → AreFamilies b vs
+    → thinned Families (filled by Families b) ≡ filled by Families (thinned Families b)

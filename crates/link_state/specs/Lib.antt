@@ -1,6 +1,7 @@
 pub mod Table
 pub mod Kinds
 pub mod Cleared
+pub mod Thinned
 pub mod Masks
 pub mod State
 pub mod Laws

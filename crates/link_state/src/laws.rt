@@ -3,6 +3,7 @@
 ghost use Rattle.link_state.specs.Laws.{StateIsCanonical, StateIsAsLong, StateTwice, ZeroAtItsMask, MaskStays};
 ghost use Rattle.link_state.specs.Laws.{MaskByFrames, OneState};
 ghost use Rattle.link_state.specs.Laws.{ListTwice, ListZeroAtItsMask, ListMaskByFrames, OneList};
+ghost use Rattle.link_state.specs.Laws.{Inet6Thinned, FamiliesThinned, Inet6Apart, FamiliesApart};
 ghost use Rattle.link_state.specs.Laws.{ListFilledTwice, ListFilledAtItsMask, ListMaskStays, FilledIsCanonical};
 
 /// The state encoding of canonical encoding is canonical, and as long; and the state of a state is itself.
@@ -37,4 +38,13 @@ pub fn law_filled()
     ensures stamped { ListFilledAtItsMask }
     ensures stays { ListMaskStays }
     ensures canonical { FilledIsCanonical }
+{}
+
+/// What is left of canonical encoding that is thinned is canonical, and means the values of which something is cleared;
+/// and nothing is filled of what is left out.
+pub fn law_thinned()
+    ensures inet6 { Inet6Thinned }
+    ensures families { FamiliesThinned }
+    ensures inet6_apart { Inet6Apart }
+    ensures families_apart { FamiliesApart }
 {}

@@ -6,8 +6,10 @@ pub mod laws;
 mod level;
 pub mod numbers;
 mod state_encoding;
+mod thin;
 mod walk;
 
 pub use kind::Kind;
 pub use level::{Level, clear, fill};
 pub use state_encoding::{STATE_FORM, same_state, state, state_into, state_within};
+pub use thin::{thin_families, thin_inet6};

@@ -33,7 +33,7 @@ pub(crate) trait Listed {
 /// The next multiple of four after a frame with a payload of this length, counted from the place where it starts; or
 /// the end of the list, where that is less.
 #[inline(always)]
-fn after(size: usize, at: usize, payload_len: usize) -> usize
+pub(crate) fn after(size: usize, at: usize, payload_len: usize) -> usize
     requires { at + 4 + payload_len ≤ size }
     ensures { result ≡ min (at + (4 + payload_len + missing payload_len)) size }
 {

@@ -3,7 +3,9 @@
 use expected::{GROWTH, equal, is_stored};
 use link_msg::laws::law_room;
 use link_msg::{CanonError, RoomError};
-use link_state::{Level, clear, fill, same_state, state, state_into, state_within};
+use link_state::{
+    Level, clear, fill, same_state, state, state_into, state_within, thin_families, thin_inet6,
+};
 
 /// All flags are changed, and the carrier has changed three times.
 const POLLED: [u8; 24] = [
@@ -84,6 +86,19 @@ fn filled(rt: HostRuntime) {
     let mut list = [8, 0, 16, 0, 1, 2, 3, 4, 8, 0, 5, 0, 1, 0, 0, 0];
     fill::<7>(&mut list, Level::Bridge);
     assert!(rt; equal(&list, &[8, 0, 16, 0, 7, 7, 7, 7, 8, 0, 5, 0, 1, 0, 0, 0]));
+}
+
+#[test]
+fn thinned(rt: HostRuntime) {
+    // of IPv4 four bytes; of IPv6 its flags, its counters of ICMP, and how it makes addresses
+    let mut list = [
+        8, 0, 2, 0, 1, 1, 1, 1, 28, 0, 10, 0, 8, 0, 1, 0, 0, 0, 0, 128, 8, 0, 6, 0, 5, 6, 7, 8, 5,
+        0, 8, 0, 1, 0, 0, 0,
+    ];
+    assert!(rt; thin_families(&mut list) == 12);
+    assert!(rt; equal(&list[..12], &[12, 0, 10, 0, 8, 0, 6, 0, 5, 6, 7, 8]));
+    let mut flags = [8, 0, 1, 0, 0, 0, 0, 128];
+    assert!(rt; thin_inet6(&mut flags) == 0);
 }
 
 #[test]
