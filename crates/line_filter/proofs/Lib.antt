@@ -1,5 +1,5 @@
 pub mod Text
-mod Known
+pub mod Known
 mod Joined
 mod Walk
 mod Spelling

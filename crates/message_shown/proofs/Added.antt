@@ -13,7 +13,7 @@ use Rattle.link_msg.specs.declared.message.LinkMessage.{LinkMessage}
 use Rattle.line_filter.specs.Lines.{with_lf}
 use Rattle.line_filter.specs.Words.{are_alone, digits_of, front_of, rest_of}
 use Rattle.json.specs.Token.{Token, begin_object, key, string}
-use Rattle.json.specs.Print.{print}
+use Rattle.json.specs.Print.{print, print_from, escape_byte}
 use Rattle.shown.specs.Drafts.{Draft, Members, empty_object, with_value, with_members, object_of}
 use Rattle.shown.specs.Pages.{AddsText}
 use Rattle.shown.proofs.Drafts.{members_added}
@@ -139,7 +139,7 @@ adds_line line front rest old new f is s = (
   s.2,
 )
 
-same_message : (b : List ℕ) (m n : LinkMessage) → Means b m → Means b n → m ≡ n
+pub same_message : (b : List ℕ) (m n : LinkMessage) → Means b m → Means b n → m ≡ n
 same_message b m n h k =
     let same : Ok m ≡ Ok n = sym (message_agrees.only b m h) ∙ message_agrees.only b n k in cc
 
@@ -149,10 +149,14 @@ pub tells_meant : (words : Members) (cx : Context) (b old new : List ℕ) (m : L
 tells_meant words cx b old new m means is n k =
     is ∙ ap (λ x. old ++ with_lf (message_line words cx b x)) (same_message b m n means k)
 
+-- bytes with a fault mean no message
+pub means_nothing : (b : List ℕ) (c : Cause) (m : LinkMessage) → FirstFault b c → Means b m → ⊥
+means_nothing b c m fault means =
+    let clash : Err c ≡ Ok m = sym (message_agrees.refused b c fault) ∙ message_agrees.only b m means in absurd cc
+
 pub tells_fault : (words : Members) (cx : Context) (b old new : List ℕ) (c : Cause) → FirstFault b c
     → TellsMessage words cx b old new
-tells_fault words cx b old new c fault m means =
-    let clash : Err c ≡ Ok m = sym (message_agrees.refused b c fault) ∙ message_agrees.only b m means in absurd cc
+tells_fault words cx b old new c fault m means = absurd (means_nothing b c m fault means)
 
 pub tells_spelled : (words : Members) (cx : Context) (digits room old new : List ℕ) → decode_of digits ≡ Ok room
     → TellsMessage words cx room old new → (b : List ℕ) → decode_of digits ≡ Ok b → TellsMessage words cx b old new
@@ -163,3 +167,8 @@ tells_spelled words cx digits room old new h tells b is =
 pub tells_nothex : (words : Members) (cx : Context) (digits old new : List ℕ) (e : FromHexError)
     → decode_of digits ≡ Err e → (b : List ℕ) → decode_of digits ≡ Ok b → TellsMessage words cx b old new
 tells_nothex words cx digits old new e h b is = let clash : Err e ≡ Ok b = sym h ∙ is in absurd cc
+
+-- the answer to a line of digits that spell no bytes, without words
+pub not_hex_line : with_lf (whole_object (nothex_member ∷ [])) ≡ codes "{\"fault\":\"not-hex\"}\n"
+unfolding print_from escape_byte
+not_hex_line = refl

@@ -1,4 +1,4 @@
-mod Added
+pub mod Added
 mod Filled
 mod Named
 mod Places

@@ -153,6 +153,9 @@ fn push_alone(
     Ok(())
 }
 
+/// The answer to a line without words whose rest spells no bytes.
+const NOT_HEX: &[u8] = b"{\"fault\":\"not-hex\"}\n";
+
 /// Adds the answer to a line whose rest spells no bytes.
 fn push_not_hex(
     alloc: Global,
@@ -163,6 +166,10 @@ fn push_not_hex(
     ensures { OnOk result (waiting.new.items ≡ waiting.old.items
         ++ with_lf (whole_object (words_shown front.now ++ nothex_member ∷ []))) }
 {
+    if front.is_empty() {
+        waiting.extend_from_slice(NOT_HEX)?;
+        return Ok(());
+    }
     let mut page = room.begin()?;
     show_words(alloc, &mut page, front)?;
     page.string("fault", "not-hex")?;

@@ -11,8 +11,8 @@ use line_filter::words::{first_word, value_of};
 use shown::Page;
 use std::alloc::{AllocError, Global};
 
-/// Adds the value of a word under its name.
-fn show_value(page: &mut Page, name: &str, value: &[u8]) -> Result<(), AllocError>
+/// Adds the value of a word under its name: bytes that are no UTF-8 are shown by their digits.
+pub fn show_value(page: &mut Page, name: &str, value: &[u8]) -> Result<(), AllocError>
     ensures { OnOk result (page.new
         ≡ with_value name.now (string (word_text value.now) ∷ []) page.old) }
 {
@@ -22,7 +22,7 @@ fn show_value(page: &mut Page, name: &str, value: &[u8]) -> Result<(), AllocErro
     }
 }
 
-/// Adds a word: bytes that are no UTF-8 are shown by their digits.
+/// Adds a word, whose key is shown as its value is.
 fn show_word(alloc: Global, page: &mut Page, key: &[u8], value: &[u8]) -> Result<(), AllocError>
     ensures { OnOk result (page.new
         ≡ with_value (word_text key.now) (string (word_text value.now) ∷ []) page.old) }

@@ -1,8 +1,22 @@
-use Rattle.message_shown.proofs.Added.{member_last, object_told}
-use Rattle.message_shown.specs.Lines.{nothex_member}
+use Rattle.message_shown.proofs.Added.{member_last, not_hex_line, object_told}
+use Rattle.message_shown.specs.Lines.{nothex_member, whole_object}
 use Rattle.message_shown.specs.Worded.{words_shown}
-use Rattle.std.proofs.Common.{◌++◌, ◌∷◌, []}
+use Rattle.std.proofs.Common.{◌≡◌, ◌++◌, ◌∷◌, [], List, ℕ, sym, ap, ◌∙◌, arith, length}
+use Rattle.std.proofs.lemmas.Bool.Decides.{nat_tests}
+use Rattle.std.proofs.lemmas.List.{nil_from_length}
+use Rattle.line_filter.specs.Lines.{with_lf}
 use Rattle.message_shown.proofs.answers.push_not_hex.Goals as goal
+
+no_words : (front : List ℕ) → front ≡ []
+    → whole_object (words_shown front ++ nothex_member ∷ []) ≡ whole_object (nothex_member ∷ [])
+no_words front is = ap (λ f. whole_object (words_shown f ++ nothex_member ∷ [])) is
+
+pub returns-then-is_empty : goal.returns-then-is_empty
+returns-then-is_empty c =
+    let none : length c.args.front.now ≡ 0 = grind (arith, nat_tests) in
+    c.in_ok-extend_from_slice.ensures.items
+    ∙ ap (λ t. c.args.waiting.now.items ++ t)
+    (sym (ap with_lf (no_words c.args.front.now (nil_from_length c.args.front.now none)) ∙ not_hex_line))
 
 pub returns : goal.returns
 returns c =
