@@ -108,6 +108,23 @@ class Between:
         print("linkdiff live: links that go between two dumps, and indices that are used again")
 
     def files(self):
+        """A bridge at the index of another link in one of two files: that one went, and the bridge came."""
+        batch([veth("veth", 110)])
+        before = self.dump()
+        batch(["link del veth0", "link add bridge0 index 110 type bridge"])
+        after = self.dump()
+        batch(["link del bridge0"])
+        self.beside("a bridge at its index", before, after, ["gone 0 veth0", "new 0 bridge0", "gone 0 veth1"])
+        self.beside("a veth at the index of a bridge", after, before,
+                    ["gone 0 bridge0", "new 0 veth0", "new 0 veth1"])
+
+    def beside(self, case, old, new, wanted):
+        with tempfile.NamedTemporaryFile() as file:
+            file.write(old)
+            file.flush()
+            compares(f"two files: {case}", self.told(new, file.name, "-"), wanted)
+
+    def refusals(self):
         """An alias that is no UTF-8 in one of two files: the link neither went nor came."""
         batch([veth("alias", 120)])
         before = self.dump()
@@ -115,10 +132,7 @@ class Between:
         after = self.dump()
         fault = "not-utf8 IFLA_IFALIAS alias0"
         for case, old, new in ("new", before, after), ("old", after, before):
-            with tempfile.NamedTemporaryFile() as file:
-                file.write(old)
-                file.flush()
-                compares(f"an alias that is no UTF-8 in the {case} file", self.told(new, file.name, "-"), [fault])
+            self.beside(f"an alias that is no UTF-8 in the {case} one", old, new, [fault])
         batch(["link del alias0"])
 
 
@@ -285,6 +299,7 @@ def inside(programs):
     between = Between(programs)
     between.cases()
     between.files()
+    between.refusals()
     follows(programs)
     aliases(programs)
     stands_still(programs)

@@ -101,9 +101,10 @@ class Model:
 
     def see(self, key, message):
         told, seen = [], self.known.get(key)
-        if message.is_refused or message.says_nothing:
-            if seen or message.is_refused:
-                self.known.setdefault(key, Seen()).at = self.at
+        if message.says_nothing:
+            return told
+        if message.is_refused:
+            self.known.setdefault(key, Seen()).at = self.at
             return told
         if seen and seen.message and "" not in (seen.message.kind, message.kind) and \
                 seen.message.kind != message.kind:
