@@ -3,3 +3,8 @@ pub mod Steps
 pub mod Silent
 pub mod Pictures
 pub mod Missed
+pub mod Gone
+pub mod Hosts
+pub mod Runs
+pub mod Meant
+pub mod Extends

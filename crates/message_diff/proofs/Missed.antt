@@ -1,7 +1,8 @@
 -- What a whole dump ends, by the entries of the map and by what is known.
 use Rattle.std.proofs.Common.{◌≡◌, ℕ, Bool, true, false, not, List, [], ◌∷◌, refl, sym, ap, subst, ◌∙◌, arith}
-use Rattle.std.specs.Prelude.{Option, None, Some, cond, ◌&&◌, ◌||◌, ◌==◌, nat_le}
-use Rattle.std.specs.List.{filter, IsDistinct}
+use Rattle.std.specs.Prelude.{Option, None, Some, cond, is_some, ◌&&◌, ◌||◌, ◌==◌, nat_le}
+use Rattle.std.specs.List.{filter, AllByRecursion, IsDistinct}
+use Rattle.std.specs.declared.cmp.Ordering.TheVariants.{Less}
 use Rattle.std.specs.List.Sorted.{IsStrictlySortedBy}
 use Rattle.std.specs.Map.{keys_of, lookup}
 use Rattle.std.specs.BTreeMap.{is_at}
@@ -16,12 +17,13 @@ use Rattle.message_diff.specs.declared.key.Key.{Key}
 use Rattle.message_diff.specs.declared.store.Known.{Known}
 use Rattle.message_diff.specs.declared.store.Dump.{Dump}
 use Rattle.message_diff.specs.declared.store.Host.{Host}
-use Rattle.message_diff.specs.Known.{Seen, key_cmp, is_key, is_among, is_since, is_missed, is_missed_by, is_text}
-use Rattle.message_diff.specs.Known.{reaches, in_family}
-use Rattle.message_diff.specs.Held.{seen_in, held, left, begin_of, run_in}
+use Rattle.message_diff.specs.Known.{Item, Seen, key_cmp, is_key, is_among, is_since, is_missed, is_missed_by, is_text}
+use Rattle.message_diff.specs.Known.{reaches, in_family, ends, text_of}
+use Rattle.message_diff.specs.Told.{is_told}
+use Rattle.message_diff.specs.Held.{seen_in, held, picture, is_left, left, begin_of, run_in}
 use Rattle.message_diff.proofs.Pictures.{key_total, seen_taken}
 
-laws : IsEquivalence (eq_by_cmp key_cmp)
+pub laws : IsEquivalence (eq_by_cmp key_cmp)
 laws = eq_by_cmp_equiv key_total
 
 both : (x y : Bool) → (x && y) ≡ true → (x ≡ true) × (y ≡ true)
@@ -34,7 +36,7 @@ same_number m n h = let e : (m == n) ≡ true = sym (unsigned_tied m n) ∙ h in
 key_at : ℕ → ℕ → Key
 key_at family index = record { family = family; index = index }
 
-same_key : (a b : Key) → is_key a b ≡ true → a ≡ b
+pub same_key : (a b : Key) → is_key a b ≡ true → a ≡ b
 unfolding key_at
 same_key a b h =
     let ties = both (is_eq (nat_cmp a.family b.family)) (is_eq (nat_cmp a.index b.index))
@@ -137,3 +139,55 @@ missed_taken host family begin sorted q =
     seen_taken (is_among (keys_of (left host family begin)) q) (held host q)
     ∙ among (λ k. reaches family k.family && not (is_since begin (seen_in (held host (in_family family k))))) begin q
     host.known.entries (IsDistinct-from_sorted key_cmp (keys_of host.known.entries) sorted)
+
+-- ** in order
+less_cond : (k : Key) (e : Key × Known) (rest : List (Key × Known)) (b : Bool) → key_cmp k e.0 ≡ Less
+    → AllByRecursion (λ y. key_cmp k y ≡ Less) (keys_of rest)
+    → AllByRecursion (λ y. key_cmp k y ≡ Less) (keys_of (cond b (e ∷ rest) rest))
+less_cond k e rest true one all = (one, all)
+less_cond k e rest false one all = all
+
+less_filter : (k : Key) (P : Key × Known → Bool) (es : List (Key × Known))
+    → AllByRecursion (λ y. key_cmp k y ≡ Less) (keys_of es)
+    → AllByRecursion (λ y. key_cmp k y ≡ Less) (keys_of (filter P es))
+less_filter k P [] h = tt
+less_filter k P (e ∷ es) h = less_cond k e (filter P es) (P e) h.0 (less_filter k P es h.1)
+
+sorted_cond : (e : Key × Known) (rest : List (Key × Known)) (b : Bool)
+    → AllByRecursion (λ y. key_cmp e.0 y ≡ Less) (keys_of rest) → IsStrictlySortedBy key_cmp (keys_of rest)
+    → IsStrictlySortedBy key_cmp (keys_of (cond b (e ∷ rest) rest))
+unfolding IsStrictlySortedBy
+sorted_cond e rest true less h = (less, h)
+sorted_cond e rest false less h = h
+
+sorted_filter : (P : Key × Known → Bool) (es : List (Key × Known)) → IsStrictlySortedBy key_cmp (keys_of es)
+    → IsStrictlySortedBy key_cmp (keys_of (filter P es))
+unfolding IsStrictlySortedBy
+sorted_filter P [] h = tt
+sorted_filter P (e ∷ es) h =
+    sorted_cond e (filter P es) (P e) (less_filter e.0 P es h.0) (sorted_filter P es h.1)
+
+pub left_sorted : (host : Host) (family begin : ℕ) → IsStrictlySortedBy key_cmp (keys_of host.known.entries)
+    → IsStrictlySortedBy key_cmp (keys_of (left host family begin))
+left_sorted host family begin sorted = sorted_filter (is_left host.known.entries family begin) host.known.entries sorted
+
+-- ** those that are told
+told_same : (a b : Bool) (o : Option Seen) → cond a None o ≡ cond b None o
+    → (is_some (text_of o) && a) ≡ (is_some (text_of o) && b)
+told_same a b None h = refl
+told_same true true (Some s) h = refl
+told_same false false (Some s) h = refl
+told_same true false (Some s) h = absurd cc
+told_same false true (Some s) h = absurd cc
+
+pub left_each : (host : Host) (family begin : ℕ) (name : List ℕ)
+    → IsStrictlySortedBy key_cmp (keys_of host.known.entries) → begin_of host.dump name ≡ Some begin → (q : Key)
+    → (is_told (picture host) (Item.finished name family) q && is_among (keys_of (left host family begin)) q)
+    ≡ (is_told (picture host) (Item.finished name family) q && ends (picture host) (Item.finished name family) q)
+left_each host family begin name sorted is q =
+    let of : Key → Option Seen = λ k. seen_in (held host k) in
+    told_same (is_among (keys_of (left host family begin)) q) (is_missed of begin family q) (of q)
+    (sym (seen_taken (is_among (keys_of (left host family begin)) q) (held host q))
+    ∙ missed_taken host family begin sorted q)
+    ∙ ap (λ b. is_told (picture host) (Item.finished name family) q && b)
+    (sym (runs host.dump name begin is of family q))

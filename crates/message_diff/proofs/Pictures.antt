@@ -33,7 +33,7 @@ taken_both false false o = refl
 pub taken_next : {A : Type 0} (a b : Bool) (o n : Option A) → n ≡ cond a None o → cond b None n ≡ cond (a || b) None o
 taken_next a b o n is = ap (λ x. cond b None x) is ∙ taken_both a b o
 
-drop_is : (keys : List Key) (i : ℕ) (d : Key) → i < length keys → drop i keys ≡ get_or keys i d ∷ drop (i + 1) keys
+pub drop_is : (keys : List Key) (i : ℕ) (d : Key) → i < length keys → drop i keys ≡ get_or keys i d ∷ drop (i + 1) keys
 drop_is keys i d h = rw (add-one, drop-cons keys i d)
 
 -- the next of them

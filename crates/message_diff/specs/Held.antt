@@ -1,7 +1,6 @@
 -- What a host's map has, and what is known by it.
-use Rattle.std.specs.Prelude.{◌≡◌, ◌≢◌, ◌<◌, ℕ, ◌&&◌, not, nat_le, Bool, MatchBool, true, false, List, length}
-use Rattle.std.specs.Prelude.{Option, None, Some, cond}
-use Rattle.std.specs.List.{filter}
+use Rattle.std.specs.Prelude.{◌≡◌, ◌≢◌, ◌==◌, ◌&&◌, ℕ, not, nat_le, Bool, true, false, List, Option, None, Some, cond}
+use Rattle.std.specs.List.{filter, list_any}
 use Rattle.std.specs.BTreeMap.{is_at}
 use Rattle.std.specs.Map.{lookup}
 use Rattle.message_diff.specs.declared.key.Key.{Key}
@@ -12,10 +11,9 @@ use Rattle.message_diff.specs.declared.store.Entry.{Entry}
 use Rattle.message_diff.specs.declared.reading.Said.{Said}
 use Rattle.message_diff.specs.declared.reading.Said.TheVariants as Saids
 use Rattle.message_diff.specs.declared.watch.Told.{Told}
-use Rattle.message_diff.specs.declared.watch.Told.TheVariants as Tellings
 use Rattle.message_diff.specs.Known.{Item, Seen, Picture, is_text, key_cmp, is_key, is_since, reaches, in_family}
-use Rattle.message_diff.specs.Known.{text_of}
-use Rattle.message_diff.specs.Known.{of_after, run_after}
+use Rattle.message_diff.specs.Known.{text_of, of_after, run_after, whole_after}
+use Rattle.message_diff.specs.Told.{AddsTold, says}
 
 -- what the map has at an interface
 abbrev pub held_in : List (Key × Known) → Key → Option Known
@@ -63,15 +61,22 @@ abbrev pub run_in : Option Dump → Option (List ℕ × ℕ)
 run_in None = None
 run_in (Some dump) = Some (dump.name.items, dump.begin)
 
+abbrev pub whole_in : Host → ℕ → Bool
+whole_in host family = list_any (λ f. f == family) host.whole.items
+
 abbrev pub picture : Host → Picture
-picture host = record { of = λ q. seen_in (held host q); run = run_in host.dump }
+picture host = record { of = λ q. seen_in (held host q); run = run_in host.dump; whole = whole_in host }
+
+-- the encoding that has a line where an interface went
+abbrev pub text_told : Told → Host → Key → Option (List ℕ)
+text_told told host q = cond (says told) (text_of (seen_in (held host q))) None
 
 -- ** what a line says, and what is known after it
 
 abbrev pub item_of : Bool → Said → Item
 item_of other (Saids.Is key text) = Item.is key text other
 item_of other (Saids.Refused key) = Item.refused key
-item_of other (Saids.Went key _) = Item.went key
+item_of other (Saids.Went key gone) = Item.went key gone
 item_of other (Saids.Begin dump) = Item.started dump.items
 item_of other (Saids.Done dump family) = Item.finished dump.items family
 item_of other Saids.Lost = Item.nothing
@@ -84,11 +89,6 @@ MayBeOther last text false = Unit {0}
 MayBeOther None text true = ⊥
 MayBeOther (Some last) text true = last ≢ text
 
--- an interface is this from then on: it goes on, or went, with its parts, and is new
-abbrev pub Puts : ℕ → Key → List ℕ → Picture → Picture → Type 0
-Puts at key text old new = (other : Bool) × MayBeOther (text_of (old.of key)) text other
-    × ((q : Key) → new.of q ≡ of_after old at (Item.is key text other) q)
-
 abbrev pub MayBeSaid : Picture → Said → Bool → Type 0
 MayBeSaid p (Saids.Is key text) other = MayBeOther (text_of (p.of key)) text other
 MayBeSaid p said other = Unit {0}
@@ -97,25 +97,17 @@ MayBeSaid p said other = Unit {0}
 pub record IsAfter (old : Picture) (at : ℕ) (item : Item) (new : Picture) : Type 0 where
   pub of : (q : Key) → new.of q ≡ of_after old at item q
   pub run : new.run ≡ run_after old at item
+  pub whole : (f : ℕ) → new.whole f ≡ whole_after old item f
 
-abbrev pub Applies : ℕ → Said → Host → Host → Type 0
-Applies at said old new =
-    (other : Bool) × MayBeSaid (picture old) said other × IsAfter (picture old) at (item_of other said) (picture new)
+-- what is known after a line with these words that says this, and what it adds
+abbrev pub Applies : List ℕ → Told → ℕ → Said → Picture → Picture → List ℕ → List ℕ → Type 0
+Applies front told at said old new before now =
+    (other : Bool) × MayBeSaid old said other × IsAfter old at (item_of other said) new
+    × AddsTold front told old (item_of other said) before now
 
--- ** what is told
-
-abbrev pub says : Told → Bool
-says Tellings.Faults = false
-says _ = true
-
--- whether a message of it was accepted
-abbrev pub has_text : Option Known → Bool
-has_text None = false
-has_text (Some known) = has_last known.last where
-  has_last : Option Entry → Bool
-  has_last None = false
-  has_last (Some _) = true
-
--- something is added, or nothing
-abbrev pub AddsIf : Bool → List ℕ → List ℕ → Type 0
-AddsIf is_told old new = MatchBool is_told (length old < length new) (new ≡ old)
+-- an interface is this from then on: it goes on, or went, with its parts, and is new
+abbrev pub Puts : List ℕ → Told → ℕ → Key → List ℕ → Picture → Picture → List ℕ → List ℕ → Type 0
+Puts front told at key text old new before now =
+    (other : Bool) × MayBeOther (text_of (old.of key)) text other
+    × ((q : Key) → new.of q ≡ of_after old at (Item.is key text other) q)
+    × AddsTold front told old (Item.is key text other) before now

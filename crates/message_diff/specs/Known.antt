@@ -30,12 +30,13 @@ dump_name words =
     value_or_nothing (value_in (codes "seq") words) ++ 32 ∷ value_or_nothing (value_in (codes "port") words)
 
 -- what a line says of its host: what an interface is, by the encoding that is compared, and whether it is of another
--- kind than the last one that had its place; that it is there; that it went; where a dump begins and ends, by its name;
--- something of an interface, and not of which one; or nothing
+-- kind than the last one that had its place; that it is there; that it went, and by the encoding what it was, unless
+-- that is refused; where a dump begins and ends, by its name; something of an interface, and not of which one; or
+-- nothing
 pub data Item : Type 0 where
   is : Key → (text : List ℕ) → (other : Bool) → Item
   refused : Key → Item
-  went : Key → Item
+  went : Key → (text : Option (List ℕ)) → Item
   started : (dump : List ℕ) → Item
   finished : (dump : List ℕ) (family : ℕ) → Item
   blind : Item
@@ -47,13 +48,15 @@ pub record Seen : Type 0 where
   pub at : ℕ
   pub text : Option (List ℕ)
 
--- what is known of a host: of each interface, and of the dump that runs its name and the place where it began
+-- what is known of a host: of each interface, of the dump that runs its name and the place where it began, and of each
+-- family whether a dump of it was whole
 pub record Picture : Type 0 where
   pub of : Key → Option Seen
   pub run : Option (List ℕ × ℕ)
+  pub whole : ℕ → Bool
 
 abbrev pub nothing_known : Picture
-nothing_known = record { of = λ _. None; run = None }
+nothing_known = record { of = λ _. None; run = None; whole = λ _. false }
 
 -- ** which interfaces a line ends
 
@@ -96,7 +99,7 @@ is_missed_by of (Some run) dump family key = is_text run.0 dump && is_missed of 
 abbrev pub ends : Picture → Item → Key → Bool
 ends p (is key text other) q = other && is_ended_with key q
 ends p (refused key) q = false
-ends p (went key) q = is_ended_with key q
+ends p (went key text) q = is_ended_with key q
 ends p (started dump) q = false
 ends p (finished dump family) q = is_missed_by p.of p.run dump family q
 ends p blind q = false
@@ -130,8 +133,17 @@ run_after p at (started dump) = Some (dump, at)
 run_after p at blind = None
 run_after p at x = p.run
 
+-- the families of which a dump was whole: the dump that runs is, once it ends
+abbrev pub is_run : Option (List ℕ × ℕ) → List ℕ → Bool
+is_run None dump = false
+is_run (Some run) dump = is_text run.0 dump
+
+abbrev pub whole_after : Picture → Item → ℕ → Bool
+whole_after p (finished dump family) other = p.whole other || (is_run p.run dump && family == other)
+whole_after p x other = p.whole other
+
 abbrev pub after : Picture → ℕ × Item → Picture
-after p x = record { of = of_after p x.0 x.1; run = run_after p x.0 x.1 }
+after p x = record { of = of_after p x.0 x.1; run = run_after p x.0 x.1; whole = whole_after p x.1 }
 
 -- what the lines of a host tell, each with its place among all lines
 abbrev pub known : List (ℕ × Item) → Picture

@@ -1,10 +1,11 @@
 //! One file beside another.
 
+use crate::key::Key;
 use crate::lines::{read_lines, write_out};
-use crate::snapshot::Compared;
+use crate::snapshot::{Compared, Snapshot};
 use crate::store::{Entry, Host, Hosts};
 use crate::told::{push_changed, push_gone, push_new};
-use crate::watch::{Told, Watch};
+use crate::watch::{Told, Watch, is_another};
 use line_filter::error::RunError;
 use message_shown::context::text_of;
 use std::alloc::{AllocError, Global};
@@ -91,21 +92,46 @@ impl Side<'_> {
     }
 }
 
-/// Adds what changed of an interface whose last message in the old file is this.
+/// Whether an interface is another one than that of the old file. The parts of one that is are another's too: its index
+/// is added to those that were replaced.
+fn is_replaced(
+    replaced: &mut Vec<u32>,
+    key: Key,
+    was: &Snapshot,
+    is: &Snapshot,
+) -> Result<bool, AllocError> {
+    if key.is_part() && replaced.as_slice().contains(&key.index) {
+        return Ok(true);
+    }
+    if !is_another(was, is) {
+        return Ok(false);
+    }
+    if key.is_alone() {
+        replaced.push(key.index)?;
+    }
+    Ok(true)
+}
+
+/// Adds what changed of an interface whose last message in the old file is this, or that it went and another one came.
 fn push_entry(
     alloc: Global,
     was: Entry,
     is: &mut Entry,
+    is_replaced: bool,
     out: &mut Vec<u8>,
 ) -> Result<(), AllocError> {
     let mut last = was;
-    let words = is.words.as_slice();
-    push_changed(alloc, words, &mut last.snapshot, &mut is.snapshot, out)?;
+    let front = is.front.as_slice();
+    if is_replaced {
+        push_gone(alloc, last.front.as_slice(), &last.snapshot, out)?;
+        return push_new(alloc, front, &is.snapshot, out);
+    }
+    push_changed(alloc, front, &mut last.snapshot, &mut is.snapshot, out)?;
     Ok(())
 }
 
-/// Adds what came or changed of a host, and takes out of the old one what the new one has. Of an interface of which one
-/// side has nothing but refusals nothing is added.
+/// Adds what came or changed of a host, and takes out of the old one what the new one has: first the interfaces alone,
+/// and then their parts. Of an interface of which one side has nothing but refusals nothing is added.
 fn push_host(
     alloc: Global,
     side: Side<'_>,
@@ -113,6 +139,7 @@ fn push_host(
     new: &mut Host,
     written: &mut Written,
 ) -> Result<(), AllocError> {
+    let mut replaced = Vec::new(alloc);
     for (key, known) in new.known.iter_mut() {
         let was = old.take(*key);
         let Some(is) = known.last.as_mut() else {
@@ -121,12 +148,12 @@ fn push_host(
         match was {
             Some(was) => {
                 if let Some(entry) = was.last {
-                    push_entry(alloc, entry, is, &mut written.out)?;
+                    let other = is_replaced(&mut replaced, *key, &entry.snapshot, &is.snapshot)?;
+                    push_entry(alloc, entry, is, other, &mut written.out)?;
                 }
             }
             None if side.tells(Some(old), key.family) => {
-                let words = is.words.as_slice();
-                push_new(alloc, words, &mut is.snapshot, &mut written.out)?;
+                push_new(alloc, is.front.as_slice(), &is.snapshot, &mut written.out)?;
             }
             None => written.add_untold(alloc, side.is_new, key.family, side.name)?,
         }
@@ -138,17 +165,16 @@ fn push_host(
 fn push_left(
     alloc: Global,
     side: Side<'_>,
-    old: &mut Host,
+    old: &Host,
     new: Option<&Host>,
     written: &mut Written,
 ) -> Result<(), AllocError> {
-    for (key, known) in old.known.iter_mut() {
-        let Some(was) = known.last.as_mut() else {
+    for (key, known) in old.known.iter() {
+        let Some(was) = known.last.as_ref() else {
             continue;
         };
         if side.tells(new, key.family) {
-            let words = was.words.as_slice();
-            push_gone(alloc, words, &mut was.snapshot, &mut written.out)?;
+            push_gone(alloc, was.front.as_slice(), &was.snapshot, &mut written.out)?;
         } else {
             written.add_untold(alloc, side.is_new, key.family, side.name)?;
         }
@@ -175,7 +201,7 @@ fn push_given(
             push_host(alloc, side, &mut Host::new(alloc), is, written)?;
         }
     }
-    for (name, was) in old.hosts.iter_mut() {
+    for (name, was) in old.hosts.iter() {
         let side = Side {
             name: name.as_slice(),
             has_dumps: new.has_dumps,

@@ -1,7 +1,8 @@
 //! Which interface of its host a message is of.
 
 ghost use Rattle.std.specs.Prelude.{◌≡◌, ◌==◌};
-ghost use Rattle.message_diff.specs.Known.{reaches, in_family};
+ghost use Rattle.message_diff.specs.Known.{is_part, reaches, in_family};
+ghost use Rattle.message_diff.specs.Said.{key_in};
 
 use link_msg::header::HEADER_SIZE;
 use nla_wire::fields::u32_at;
@@ -24,7 +25,9 @@ pub struct Key {
 
 impl Key {
     /// The interface of a message. Bytes that are too few for a header are of none.
-    pub fn of(message: &[u8]) -> Option<Key> {
+    pub fn of(message: &[u8]) -> Option<Key>
+        ensures { result ≡ key_in message.now }
+    {
         if message.len() < HEADER_SIZE {
             return None;
         }
@@ -41,6 +44,13 @@ impl Key {
         self.family == AF_UNSPEC
     }
 
+    /// Whether this is what is said more of an interface: that of a bridge or a port, and with IPv6.
+    pub fn is_part(self) -> bool
+        ensures { result ≡ is_part self.family }
+    {
+        self.family == AF_BRIDGE || self.family == AF_INET6
+    }
+
     /// The same interface in this family.
     pub fn in_family(self, family: u8) -> Key
         ensures { result ≡ in_family family self }
@@ -55,7 +65,6 @@ impl Key {
     pub fn is_reached_from(self, family: u8) -> bool
         ensures { result ≡ reaches family self.family }
     {
-        self.family == family
-            || (family == AF_UNSPEC && (self.family == AF_BRIDGE || self.family == AF_INET6))
+        self.family == family || (family == AF_UNSPEC && self.is_part())
     }
 }

@@ -2,6 +2,7 @@
 //! of interfaces.
 #![tactic(auto)]
 
+mod alone;
 mod announced;
 mod beside;
 mod counters;

@@ -1,9 +1,11 @@
 //! The parts of a line that tells of an interface.
 
 ghost use Rattle.std.specs.Prelude.{◌≤◌, ◌<◌, OnOk, length};
+ghost use Rattle.message_diff.specs.Compared.{Extends};
 
 use crate::differences::Change;
 use crate::members::value_in;
+use crate::words::push_words;
 use std::alloc::{AllocError, Global};
 
 /// The members that tell which interface it is.
@@ -11,7 +13,8 @@ const NAMES: [&str; 3] = ["ifi-family", "ifi-index", "ifname"];
 
 /// Adds a member after another.
 fn push_member(out: &mut Vec<u8>, name: &str, value: &[u8]) -> Result<(), AllocError>
-    ensures { OnOk result (length out.old.items ≤ length out.new.items) }
+    ensures more { OnOk result (length out.old.items ≤ length out.new.items) }
+    ensures added { OnOk result (Extends out.old.items out.new.items) }
 {
     out.extend_from_slice(b",\"")?;
     out.extend_from_slice(name.as_bytes())?;
@@ -19,17 +22,19 @@ fn push_member(out: &mut Vec<u8>, name: &str, value: &[u8]) -> Result<(), AllocE
     out.extend_from_slice(value)
 }
 
-/// Begins a line: the words, what became of the interface, and which it is, by the line that `Shown` writes of it.
+/// Begins a line: the words that are told, what became of the interface, and which it is, by the line that `Shown`
+/// writes of it.
 pub fn push_head(
-    out: &mut Vec<u8>,
-    words: &[u8],
+    alloc: Global,
+    front: &[u8],
     change: &str,
     line: &[u8],
+    out: &mut Vec<u8>,
 ) -> Result<(), AllocError>
-    ensures { OnOk result (length out.old.items < length out.new.items) }
+    ensures said { OnOk result (length out.old.items < length out.new.items) }
+    ensures added { OnOk result (Extends out.old.items out.new.items) }
 {
-    out.push(b'{')?;
-    out.extend_from_slice(words)?;
+    push_words(alloc, front, out)?;
     out.extend_from_slice(b"\"change\":\"")?;
     out.extend_from_slice(change.as_bytes())?;
     out.push(b'"')?;
@@ -43,7 +48,8 @@ pub fn push_head(
 
 /// Adds what changed at one path.
 fn push_change(out: &mut Vec<u8>, change: Change<'_>) -> Result<(), AllocError>
-    ensures { OnOk result (length out.old.items ≤ length out.new.items) }
+    ensures more { OnOk result (length out.old.items ≤ length out.new.items) }
+    ensures added { OnOk result (Extends out.old.items out.new.items) }
 {
     let (path, old, new) = match change {
         Change::Came(path, value) => (path, None, Some(value)),
@@ -65,7 +71,8 @@ fn push_change(out: &mut Vec<u8>, change: Change<'_>) -> Result<(), AllocError>
 
 /// Adds the list of what changed at each path.
 pub fn push_changes(out: &mut Vec<u8>, changes: &[Change<'_>]) -> Result<(), AllocError>
-    ensures { OnOk result (length out.old.items ≤ length out.new.items) }
+    ensures more { OnOk result (length out.old.items ≤ length out.new.items) }
+    ensures added { OnOk result (Extends out.old.items out.new.items) }
 {
     out.extend_from_slice(b",\"changes\":[")?;
     for (i, change) in changes.iter().enumerate() {
@@ -84,7 +91,8 @@ pub fn push_texts(
     old: &[u8],
     new: &[u8],
 ) -> Result<(), AllocError>
-    ensures { OnOk result (length out.old.items ≤ length out.new.items) }
+    ensures more { OnOk result (length out.old.items ≤ length out.new.items) }
+    ensures added { OnOk result (Extends out.old.items out.new.items) }
 {
     let was = hex::encode(alloc, old)?;
     let is = hex::encode(alloc, new)?;

@@ -1,12 +1,14 @@
 //! The lines that a reader gives.
 
-ghost use Rattle.std.specs.Prelude.{◌≡◌, [], OnOk};
+ghost use Rattle.std.specs.Prelude.{◌≡◌, ◌++◌, ◌<◌, [], IfOk, IsTrue, OnOk, length};
 ghost use Rattle.std.specs.Io.KnownBytes.{Appends};
+ghost use Rattle.line_filter.specs.Steps.{NoLf, Sends};
+ghost use Rattle.message_diff.specs.Watched.{AddsLine, RunsSome, RunsLast, RunsAll};
 
 use crate::watch::Watch;
 use line_filter::error::RunError;
 use memchr::memchr;
-use std::alloc::Global;
+use std::alloc::{AllocError, Global};
 use std::io::{Read, Write};
 
 /// How many bytes a read may give.
@@ -28,6 +30,17 @@ pub fn write_out<W: Write>(writer: &mut W, out: &mut Vec<u8>) -> Result<(), RunE
     Ok(())
 }
 
+/// Writes what waits, if enough of it waits.
+fn write_full<W: Write>(writer: &mut W, out: &mut Vec<u8>) -> Result<(), RunError>
+    ensures { OnOk result (Sends (W.contents writer.old) (W.contents writer.new)
+        out.old.items out.new.items) }
+{
+    if out.len() < ENOUGH {
+        return Ok(());
+    }
+    write_out(writer, out)
+}
+
 /// Takes the line that `held` begins and `part` ends, and empties `held`.
 fn end_line(
     alloc: Global,
@@ -35,10 +48,13 @@ fn end_line(
     part: &[u8],
     watch: &mut Watch,
     out: &mut Vec<u8>,
-) -> Result<(), RunError> {
+) -> Result<(), AllocError>
+    ensures taken { OnOk result (AddsLine (held.old.items ++ part.now) watch.old watch.new
+        out.old.items out.new.items) }
+    ensures held { OnOk result (held.new.items ≡ []) }
+{
     if held.is_empty() {
-        watch.take(alloc, part, out)?;
-        return Ok(());
+        return watch.take(alloc, part, out);
     }
     held.extend_from_slice(part)?;
     watch.take(alloc, held.as_slice(), out)?;
@@ -54,18 +70,78 @@ fn take_piece<W: Write>(
     watch: &mut Watch,
     out: &mut Vec<u8>,
     writer: &mut W,
-) -> Result<(), RunError> {
+) -> Result<(), RunError>
+    requires held { NoLf held.old.items }
+    requires none { out.old.items ≡ [] }
+    ensures none { OnOk result (out.new.items ≡ []) }
+    ensures runs { OnOk result (RunsSome watch.old watch.new (W.contents writer.old)
+        (W.contents writer.new) (held.old.items ++ piece.now) held.new.items) }
+{
     let mut rest = piece;
     while let Some(end) = memchr(b'\n', rest) {
         end_line(alloc, held, &rest[..end], watch, out)?;
-        if out.len() >= ENOUGH {
-            write_out(writer, out)?;
-        }
+        write_full(writer, out)?;
         // for the proof: cut in two steps, at the LF and after it
         rest = &rest[end..][1..];
     }
     held.extend_from_slice(rest)?;
     write_out(writer, out)
+}
+
+/// Takes the last line, which no LF ends, if there is one.
+fn finish<W: Write>(
+    alloc: Global,
+    held: &mut Vec<u8>,
+    watch: &mut Watch,
+    out: &mut Vec<u8>,
+    writer: &mut W,
+) -> Result<(), RunError>
+    requires held { NoLf held.old.items }
+    requires none { out.old.items ≡ [] }
+    ensures { OnOk result (RunsLast watch.old watch.new (W.contents writer.old)
+        (W.contents writer.new) held.old.items) }
+{
+    if held.is_empty() {
+        return Ok(());
+    }
+    end_line(alloc, held, b"", watch, out)?;
+    write_out(writer, out)
+}
+
+/// So many zeros.
+fn zeros(alloc: Global, count: usize) -> Result<Vec<u8>, AllocError>
+    ensures { IfOk result (λ zeros. length zeros.items ≡ count) }
+{
+    vec![in alloc; 0u8; count]
+}
+
+/// Takes each line that the reader gives, read into the chunk, and returns whether the reader came to its end within
+/// 2^64 - 1 reads.
+fn take_all<R: Read, W: Write>(
+    alloc: Global,
+    reader: &mut R,
+    chunk: &mut [u8],
+    watch: &mut Watch,
+    writer: &mut W,
+) -> Result<bool, RunError>
+    requires { 0 < length chunk.old }
+    ensures { IfOk result (λ ended. IsTrue ended → RunsAll watch.old watch.new
+        (R.remaining reader.old) (R.remaining reader.new)
+        (W.contents writer.old) (W.contents writer.new)) }
+{
+    let mut held = Vec::new(alloc);
+    let mut out = Vec::new(alloc);
+    for _reads in 0..u64::MAX {
+        let Ok(n) = reader.read(chunk) else {
+            return Err(RunError::Read);
+        };
+        if n == 0 {
+            finish(alloc, &mut held, watch, &mut out, writer)?;
+            return Ok(true);
+        }
+        take_piece(alloc, &mut held, &chunk[..n], watch, &mut out, writer)?;
+    }
+    Ok(false)
 }
 
 /// Takes each line that the reader gives, up to its end, and writes what they gave before the next read.
@@ -74,21 +150,14 @@ pub fn read_lines<R: Read, W: Write>(
     reader: &mut R,
     watch: &mut Watch,
     writer: &mut W,
-) -> Result<(), RunError> {
-    let mut chunk = vec![in alloc; 0u8; CHUNK]?;
-    let mut held = Vec::new(alloc);
-    let mut out = Vec::new(alloc);
-    for _reads in 0..u64::MAX {
-        let Ok(n) = reader.read(chunk.as_mut_slice()) else {
-            return Err(RunError::Read);
-        };
-        if n == 0 {
-            if !held.is_empty() {
-                end_line(alloc, &mut held, b"", watch, &mut out)?;
-            }
-            return write_out(writer, &mut out);
-        }
-        take_piece(alloc, &mut held, &chunk[..n], watch, &mut out, writer)?;
+) -> Result<(), RunError>
+    ensures { OnOk result (RunsAll watch.old watch.new (R.remaining reader.old)
+        (R.remaining reader.new) (W.contents writer.old) (W.contents writer.new)) }
+{
+    let mut chunk = zeros(alloc, CHUNK)?;
+    if take_all(alloc, reader, chunk.as_mut_slice(), watch, writer)? {
+        Ok(())
+    } else {
+        Err(RunError::Read)
     }
-    Err(RunError::Read)
 }

@@ -1,13 +1,17 @@
 //! What a line says.
 
-ghost use Rattle.std.specs.Prelude.{◌≡◌, IfOk};
+ghost use Rattle.std.specs.Prelude.{◌≡◌, ◌≢◌, IfOk, OnOk};
 ghost use Rattle.line_filter.specs.Words.{value_in, words_of};
+ghost use Rattle.link_msg.specs.declared.encoding.CanonError.TheVariants.{OutOfMemory};
+ghost use Rattle.message_diff.specs.Compared.{Extends};
 ghost use Rattle.message_diff.specs.Known.{dump_name, value_or_nothing};
+ghost use Rattle.message_diff.specs.Said.{is_type, sort_of, key_in, accepted_says, refused_says};
+ghost use Rattle.message_diff.specs.Said.{Says, SaysWords, SaysMessage};
 
 use crate::announced::{is_wireless_alone, without_event};
 use crate::key::Key;
 use crate::snapshot::{Compared, Snapshot};
-use crate::words::words_of;
+use crate::words::{push_line, push_not_hex, push_words};
 use line_filter::digits::{decode, values};
 use line_filter::words::{are_alone, digits_of, value_of};
 use link_msg::CanonError;
@@ -44,49 +48,37 @@ pub struct LineReader {
     message: Vec<u8>,
 }
 
-/// Adds a line with the words in front of another one and a fault.
-fn push_fault(
-    alloc: Global,
-    out: &mut Vec<u8>,
-    front: &[u8],
-    fault: &[u8],
-) -> Result<(), AllocError> {
-    let words = words_of(alloc, front)?;
-    out.push(b'{')?;
-    out.extend_from_slice(words.as_slice())?;
-    out.extend_from_slice(fault)
-}
-
 /// Adds a line with the words and the fault of bytes that are no message, as linkshow tells it.
 fn push_decode_fault(
     alloc: Global,
-    out: &mut Vec<u8>,
     front: &[u8],
     bytes: &[u8],
-) -> Result<(), AllocError> {
+    out: &mut Vec<u8>,
+) -> Result<(), AllocError>
+    ensures { OnOk result (Extends out.old.items out.new.items) }
+{
     let mut shown = Vec::new(alloc);
     push_answer(alloc, Order::Unknown, &mut shown, bytes)?;
-    push_fault(
-        alloc,
-        out,
-        front,
-        shown.as_slice().strip_prefix(b"{").unwrap_or(b""),
-    )
+    push_words(alloc, front, out)?;
+    out.extend_from_slice(shown.as_slice().strip_prefix(b"{").unwrap_or(b""))
 }
 
 /// Adds a line with the words and the fault of bytes that are refused for this reason.
 fn push_refusal(
     alloc: Global,
-    out: &mut Vec<u8>,
     front: &[u8],
     bytes: &[u8],
     error: CanonError,
-) -> Result<(), AllocError> {
+    out: &mut Vec<u8>,
+) -> Result<(), AllocError>
+    ensures added { OnOk result (Extends out.old.items out.new.items) }
+    ensures known { OnOk result (error ≢ OutOfMemory) }
+{
     match error {
         CanonError::OutOfMemory => Err(AllocError),
-        CanonError::Decode(_) => push_decode_fault(alloc, out, front, bytes),
-        CanonError::DoesNotFit => push_fault(alloc, out, front, b"\"fault\":\"unfit\"}\n"),
-        CanonError::EmptyVfPorts => push_fault(alloc, out, front, b"\"fault\":\"empty-ports\"}\n"),
+        CanonError::Decode(_) => push_decode_fault(alloc, front, bytes, out),
+        CanonError::DoesNotFit => push_line(alloc, front, "fault", "unfit", out),
+        CanonError::EmptyVfPorts => push_line(alloc, front, "fault", "empty-ports", out),
     }
 }
 
@@ -115,48 +107,128 @@ fn family_of(front: &[u8]) -> Option<u8> {
     text_of(value_of(front, b"family")?)?.parse::<u8>().ok()
 }
 
+/// Whether the word `type` in front of a line is this.
+fn is_type(front: &[u8], name: &[u8]) -> bool
+    ensures { result ≡ is_type front.now name.now }
+{
+    word_of(front, b"type") == name
+}
+
 /// What words alone say.
-fn said_by_words(alloc: Global, front: &[u8]) -> Result<Said, AllocError> {
-    match value_of(front, b"type") {
-        Some(b"begin") => Ok(Said::Begin(dump_of(alloc, front)?)),
-        Some(b"done") => match family_of(front) {
-            Some(family) => Ok(Said::Done(dump_of(alloc, front)?, family)),
-            None => Ok(Said::Nothing),
-        },
-        Some(b"lost") => Ok(Said::Lost),
-        _ => Ok(Said::Nothing),
+fn said_by_words(alloc: Global, front: &[u8]) -> Result<Said, AllocError>
+    ensures { IfOk result (SaysWords front.now) }
+{
+    if is_type(front, b"begin") {
+        return Ok(Said::Begin(dump_of(alloc, front)?));
+    }
+    if is_type(front, b"lost") {
+        return Ok(Said::Lost);
+    }
+    if is_type(front, b"done") {
+        if let Some(family) = family_of(front) {
+            return Ok(Said::Done(dump_of(alloc, front)?, family));
+        }
+    }
+    Ok(Said::Nothing)
+}
+
+/// What the word `type` says of a message.
+#[derive(Clone, Copy, Debug, PartialEq, Eq)]
+enum Sort {
+    /// `del`: that its interface went.
+    Gone,
+    /// `get` or `set`: what somebody asked for.
+    Asked,
+    /// Anything else: that its interface is there.
+    There,
+}
+
+/// What the word `type` says of a message.
+fn sort_of(front: &[u8]) -> Sort
+    ensures { result ≡ sort_of front.now }
+{
+    let name = word_of(front, b"type");
+    if name == b"del".as_slice() {
+        Sort::Gone
+    } else if name == b"get".as_slice() || name == b"set".as_slice() {
+        Sort::Asked
+    } else {
+        Sort::There
     }
 }
 
-/// What a line with these words and this message says.
-fn said_of(front: &[u8], bytes: &[u8], snapshot: Snapshot) -> Said {
+/// What a line with these words and this message says, where that tells what its interface is, or nothing of it.
+fn said_of(front: &[u8], bytes: &[u8], tells: bool, snapshot: Snapshot) -> Said
+    ensures { result ≡ accepted_says (sort_of front.now) tells (key_in bytes.now) snapshot }
+{
     let Some(key) = Key::of(bytes) else {
         return Said::Blind;
     };
-    match value_of(front, b"type") {
-        Some(b"del") => Said::Went(key, Some(snapshot)),
-        Some(b"get") | Some(b"set") => Said::Nothing,
-        _ if is_wireless_alone(bytes) => Said::Nothing,
-        _ => Said::Is(key, snapshot),
+    match sort_of(front) {
+        Sort::Gone => Said::Went(key, Some(snapshot)),
+        Sort::Asked => Said::Nothing,
+        Sort::There if tells => Said::Is(key, snapshot),
+        Sort::There => Said::Nothing,
     }
 }
 
 /// What a line with these words and a message that is refused says.
-fn said_by_refused(front: &[u8], bytes: &[u8]) -> Said {
-    let type_of = value_of(front, b"type");
-    if type_of == Some(b"get") || type_of == Some(b"set") {
-        return Said::Nothing;
+fn said_by_refused(front: &[u8], bytes: &[u8]) -> Said
+    ensures { result ≡ refused_says (sort_of front.now) (key_in bytes.now) }
+{
+    match (sort_of(front), Key::of(bytes)) {
+        (Sort::Asked, _) => Said::Nothing,
+        (_, None) => Said::Blind,
+        (Sort::Gone, Some(key)) => Said::Went(key, None),
+        (Sort::There, Some(key)) => Said::Refused(key),
     }
-    match Key::of(bytes) {
-        Some(key) if type_of == Some(b"del") => Said::Went(key, None),
-        Some(key) => Said::Refused(key),
-        None => Said::Blind,
+}
+
+/// What a line with these words says by its bytes, of which these are compared.
+fn said_by_bytes(
+    alloc: Global,
+    by: Compared,
+    front: &[u8],
+    bytes: &[u8],
+    compared: &[u8],
+    out: &mut Vec<u8>,
+) -> Result<Said, AllocError>
+    ensures said { IfOk result (SaysMessage by front.now bytes.now) }
+    ensures added { OnOk result (Extends out.old.items out.new.items) }
+{
+    let order = order_for(front, Order::Unknown);
+    match Snapshot::new(alloc, by, order, compared) {
+        Ok(snapshot) => Ok(said_of(front, bytes, !is_wireless_alone(bytes), snapshot)),
+        Err(error) => {
+            push_refusal(alloc, front, bytes, error, out)?;
+            Ok(said_by_refused(front, bytes))
+        }
+    }
+}
+
+/// What a line with these words says by the bytes that its digits spell. What is compared of them has no attributes
+/// IFLA_EVENT.
+fn said_by_message(
+    alloc: Global,
+    by: Compared,
+    front: &[u8],
+    bytes: &[u8],
+    out: &mut Vec<u8>,
+) -> Result<Said, AllocError>
+    ensures said { IfOk result (SaysMessage by front.now bytes.now) }
+    ensures added { OnOk result (Extends out.old.items out.new.items) }
+{
+    match without_event(alloc, bytes)? {
+        Some(shorter) => said_by_bytes(alloc, by, front, bytes, shorter.as_slice(), out),
+        None => said_by_bytes(alloc, by, front, bytes, bytes, out),
     }
 }
 
 impl LineReader {
     /// Compares messages by this.
-    pub fn new(alloc: Global, by: Compared) -> LineReader {
+    pub fn new(alloc: Global, by: Compared) -> LineReader
+        ensures { result.by ≡ by }
+    {
         LineReader {
             by,
             message: Vec::new(alloc),
@@ -170,39 +242,20 @@ impl LineReader {
         front: &[u8],
         rest: &[u8],
         out: &mut Vec<u8>,
-    ) -> Result<Said, AllocError> {
+    ) -> Result<Said, AllocError>
+        ensures said { IfOk result (Says self.old.by front.now rest.now) }
+        ensures added { OnOk result (Extends out.old.items out.new.items) }
+        ensures by { self.new.by ≡ self.old.by }
+    {
         if are_alone(front, rest) {
             return said_by_words(alloc, front);
         }
         let digits = digits_of(rest);
         self.message.resize(digits.len() / 2, 0)?;
         if !decode(digits, values(), self.message.as_mut_slice()) {
-            push_fault(alloc, out, front, b"\"fault\":\"not-hex\"}\n")?;
+            push_not_hex(alloc, front, out)?;
             return Ok(Said::Blind);
         }
-        self.read_message(alloc, front, out)
-    }
-
-    /// What a line with these words says by the bytes that its digits spell.
-    fn read_message(
-        &self,
-        alloc: Global,
-        front: &[u8],
-        out: &mut Vec<u8>,
-    ) -> Result<Said, AllocError> {
-        let bytes = self.message.as_slice();
-        let order = order_for(front, Order::Unknown);
-        let without = without_event(alloc, bytes)?;
-        let compared = match &without {
-            Some(shorter) => shorter.as_slice(),
-            None => bytes,
-        };
-        match Snapshot::new(alloc, self.by, order, compared) {
-            Ok(snapshot) => Ok(said_of(front, bytes, snapshot)),
-            Err(error) => {
-                push_refusal(alloc, out, front, bytes, error)?;
-                Ok(said_by_refused(front, bytes))
-            }
-        }
+        said_by_message(alloc, self.by, front, self.message.as_slice(), out)
     }
 }

@@ -1,10 +1,10 @@
 //! What is known of the interfaces of a host.
 
-ghost use Rattle.std.specs.Prelude.{◌≡◌, None, Some, IfOk, OnOk};
+ghost use Rattle.std.specs.Prelude.{◌≡◌, ◌==◌, ◌||◌, ℕ, false, Some, IfOk, OnOk, IsTrue};
 ghost use Rattle.message_diff.specs.declared.key.Key.{Key};
 ghost use Rattle.message_diff.specs.Held.{held, taken, put, last_of, seen_in, is_left, left};
-ghost use Rattle.message_diff.specs.Held.{begin_of};
-ghost use Rattle.message_diff.specs.Known.{key_cmp, is_since};
+ghost use Rattle.message_diff.specs.Held.{begin_of, picture, whole_in, text_in};
+ghost use Rattle.message_diff.specs.Known.{key_cmp, is_since, nothing_known};
 ghost use Rattle.std.specs.List.Sorted.{IsStrictlySortedBy};
 ghost use Rattle.std.specs.Map.{keys_of};
 
@@ -13,10 +13,10 @@ use crate::snapshot::Snapshot;
 use std::alloc::{AllocError, Global};
 use std::collections::BTreeMap;
 
-/// A message, and the words in front of it as members.
+/// A message, and the words in front of it, where what is told is told at the end.
 #[derive(Drop)]
 pub struct Entry {
-    pub words: Vec<u8>,
+    pub front: Vec<u8>,
     pub snapshot: Snapshot,
 }
 
@@ -50,8 +50,7 @@ pub type Hosts = BTreeMap<Vec<u8>, Host>;
 impl Host {
     /// A host of which nothing is known.
     pub fn new(alloc: Global) -> Host
-        ensures known { (q : Key) → held result q ≡ None }
-        ensures dump { result.dump ≡ None }
+        ensures { picture result ≡ nothing_known }
     {
         Host {
             known: BTreeMap::new(alloc),
@@ -64,6 +63,7 @@ impl Host {
     pub fn begin(&mut self, name: Vec<u8>, begin: u64)
         ensures known { self.new.known ≡ self.old.known }
         ensures dump { self.new.dump ≡ Some (record { name = name; begin = begin }) }
+        ensures whole { self.new.whole ≡ self.old.whole }
     {
         self.dump = Some(Dump { name, begin });
     }
@@ -72,6 +72,7 @@ impl Host {
     pub fn break_dump(&mut self)
         ensures known { self.new.known ≡ self.old.known }
         ensures dump { self.new.dump ≡ None }
+        ensures whole { self.new.whole ≡ self.old.whole }
     {
         self.dump = None;
     }
@@ -90,6 +91,8 @@ impl Host {
     pub fn keep_whole(&mut self, family: u8) -> Result<(), AllocError>
         ensures known { self.new.known ≡ self.old.known }
         ensures dump { self.new.dump ≡ self.old.dump }
+        ensures whole { OnOk result ((f : ℕ) → whole_in self.new f
+            ≡ (whole_in self.old f || family == f)) }
     {
         if !self.is_whole(family) {
             self.whole.push(family)?;
@@ -98,7 +101,9 @@ impl Host {
     }
 
     /// Whether some dump of this family had all.
-    pub fn is_whole(&self, family: u8) -> bool {
+    pub fn is_whole(&self, family: u8) -> bool
+        ensures { result ≡ whole_in self.now family }
+    {
         self.whole.as_slice().contains(&family)
     }
 
@@ -140,6 +145,7 @@ impl Host {
         ensures was { result ≡ held self.old key }
         ensures known { (q : Key) → held self.new q ≡ taken key (held self.old) q }
         ensures dump { self.new.dump ≡ self.old.dump }
+        ensures whole { self.new.whole ≡ self.old.whole }
     {
         self.known.remove(&key)
     }
@@ -149,6 +155,7 @@ impl Host {
         ensures was { result ≡ last_of (held self.old key) }
         ensures known { (q : Key) → held self.new q ≡ taken key (held self.old) q }
         ensures dump { self.new.dump ≡ self.old.dump }
+        ensures whole { self.new.whole ≡ self.old.whole }
     {
         match self.known.remove(&key) {
             Some(known) => known.last,
@@ -156,22 +163,59 @@ impl Host {
         }
     }
 
+    /// Whether the last message of an interface has this encoding.
+    fn is_same(&self, key: Key, text: &[u8]) -> bool
+        ensures { IsTrue result → text_in (last_of (held self.now key)) ≡ Some text.now }
+    {
+        match self.known.get(&key) {
+            Some(
+                Known {
+                    last: Some(entry),
+                    ..
+                },
+            ) => entry.snapshot.text() == text,
+            _ => false,
+        }
+    }
+
+    /// Sees a line of an interface, if its last message has this encoding, and returns whether it has.
+    pub fn see_same(&mut self, key: Key, at: u64, text: &[u8]) -> Result<bool, AllocError>
+        ensures same { IfOk result (λ is_same. IsTrue is_same
+            → (text_in (last_of (held self.old key)) ≡ Some text.now)
+            × ((q : Key) → held self.new q
+            ≡ put key (record { at = at; last = last_of (held self.old key) }) (held self.old) q)) }
+        ensures other { IfOk result (λ is_same. is_same ≡ false → self.new ≡ self.old) }
+        ensures dump { self.new.dump ≡ self.old.dump }
+        ensures whole { self.new.whole ≡ self.old.whole }
+    {
+        if !self.is_same(key, text) {
+            return Ok(false);
+        }
+        self.see(key, at)?;
+        Ok(true)
+    }
+
     /// An interface had a line that tells nothing more of it.
     pub fn see(&mut self, key: Key, at: u64) -> Result<(), AllocError>
         ensures known { OnOk result ((q : Key) → held self.new q
             ≡ put key (record { at = at; last = last_of (held self.old key) }) (held self.old) q) }
         ensures dump { self.new.dump ≡ self.old.dump }
+        ensures whole { self.new.whole ≡ self.old.whole }
     {
-        let last = self.take_last(key);
-        self.known.insert(key, Known { at, last })?;
+        if let Some(known) = self.known.get_mut(&key) {
+            known.at = at;
+            return Ok(());
+        }
+        self.known.insert(key, Known { at, last: None })?;
         Ok(())
     }
 
-    /// Keeps a message of an interface with its words.
+    /// Keeps a message of an interface.
     pub fn keep(&mut self, key: Key, at: u64, entry: Entry) -> Result<(), AllocError>
         ensures known { OnOk result ((q : Key) → held self.new q
             ≡ put key (record { at = at; last = Some entry }) (held self.old) q) }
         ensures dump { self.new.dump ≡ self.old.dump }
+        ensures whole { self.new.whole ≡ self.old.whole }
     {
         let last = Some(entry);
         self.known.insert(key, Known { at, last })?;

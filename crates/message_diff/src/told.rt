@@ -1,9 +1,11 @@
 //! A line for an interface that came, went or changed.
 
-ghost use Rattle.std.specs.Prelude.{◌≡◌, ◌<◌, ◌≤◌, ◌↔◌, IsTrue, IfOk, IfErr, OnOk, false, length};
+ghost use Rattle.std.specs.Prelude.{◌≡◌, ◌<◌, ◌≤◌, ◌↔◌, IsTrue, IfOk, IfErr, OnOk, false, length, codes};
 ghost use Rattle.link_msg.specs.Canonical.{IsRefusalOfTwo};
-ghost use Rattle.message_diff.specs.Compared.{TellsIfDiffers};
+ghost use Rattle.message_diff.specs.Compared.{TellsIfDiffers, Extends};
+ghost use Rattle.message_diff.specs.Alone.{AddsAlone};
 
+use crate::alone::push_alone;
 use crate::counters::Counters;
 use crate::differences::{Change, differences};
 use crate::line::{push_changes, push_head, push_texts};
@@ -14,47 +16,31 @@ use link_msg::CanonError;
 use message_shown::context::Order;
 use std::alloc::{AllocError, Global};
 
-/// Adds a line that tells that the interface came: `words`, which are members with a comma after each, `change`, which
-/// is `new`, and its family, index and name.
+/// Adds a line that tells that the interface came: the words in front of a line that are told (`type`, `time`, `host`),
+/// `change`, which is `new`, and its family, index and name.
 pub fn push_new(
     alloc: Global,
-    words: &[u8],
-    new: &mut Snapshot,
+    front: &[u8],
+    new: &Snapshot,
     out: &mut Vec<u8>,
 ) -> Result<(), AllocError>
-    ensures said { OnOk result (length out.old.items < length out.new.items) }
-    ensures kept { new.new ≡ new.old }
+    ensures { OnOk result
+        (AddsAlone front.now (codes "new") new.now out.old.items out.new.items) }
 {
-    push_alone(alloc, words, "new", new, out)
+    push_alone(alloc, front, "new", new.text(), out)
 }
 
 /// Adds a line that tells that the interface went: the same, where `change` is `gone`.
 pub fn push_gone(
     alloc: Global,
-    words: &[u8],
-    old: &mut Snapshot,
+    front: &[u8],
+    old: &Snapshot,
     out: &mut Vec<u8>,
 ) -> Result<(), AllocError>
-    ensures said { OnOk result (length out.old.items < length out.new.items) }
-    ensures kept { old.new ≡ old.old }
+    ensures { OnOk result
+        (AddsAlone front.now (codes "gone") old.now out.old.items out.new.items) }
 {
-    push_alone(alloc, words, "gone", old, out)
-}
-
-/// Adds a line that has no changes.
-fn push_alone(
-    alloc: Global,
-    words: &[u8],
-    change: &str,
-    snapshot: &mut Snapshot,
-    out: &mut Vec<u8>,
-) -> Result<(), AllocError>
-    ensures said { OnOk result (length out.old.items < length out.new.items) }
-    ensures kept { snapshot.new ≡ snapshot.old }
-{
-    snapshot.show(alloc)?;
-    push_head(out, words, change, snapshot.line())?;
-    out.extend_from_slice(b"}\n")
+    push_alone(alloc, front, "gone", old.text(), out)
 }
 
 /// Ends a line by what differs between the rows, or else by the encodings.
@@ -65,7 +51,8 @@ fn push_differences(
     changes: &[Change<'_>],
     out: &mut Vec<u8>,
 ) -> Result<(), AllocError>
-    ensures { OnOk result (length out.old.items ≤ length out.new.items) }
+    ensures more { OnOk result (length out.old.items ≤ length out.new.items) }
+    ensures added { OnOk result (Extends out.old.items out.new.items) }
 {
     if changes.is_empty() {
         return push_texts(alloc, out, old.text(), new.text());
@@ -76,13 +63,14 @@ fn push_differences(
 /// Adds a line for an interface whose encoding is another, and returns where the members of the new line end.
 fn push_difference(
     alloc: Global,
-    words: &[u8],
+    front: &[u8],
     old: &Snapshot,
     new: &Snapshot,
     counters: &mut Counters,
     out: &mut Vec<u8>,
 ) -> Result<Vec<usize>, AllocError>
-    ensures { OnOk result (length out.old.items < length out.new.items) }
+    ensures said { OnOk result (length out.old.items < length out.new.items) }
+    ensures added { OnOk result (Extends out.old.items out.new.items) }
 {
     let outer = Outer {
         text: old.line(),
@@ -99,7 +87,7 @@ fn push_difference(
     if new.by() == Compared::State {
         changes = counters.leave_out(alloc, old, new, apart.ends.as_slice(), changes)?;
     }
-    push_head(out, words, "changed", new.line())?;
+    push_head(alloc, front, "changed", new.line(), out)?;
     push_differences(alloc, old, new, changes.as_slice(), out)?;
     Ok(apart.into_ends())
 }
@@ -107,12 +95,13 @@ fn push_difference(
 /// The same, where what was found of the messages stays with them.
 fn push_known(
     alloc: Global,
-    words: &[u8],
+    front: &[u8],
     old: &mut Snapshot,
     new: &mut Snapshot,
     out: &mut Vec<u8>,
 ) -> Result<(), AllocError>
     ensures said { OnOk result (length out.old.items < length out.new.items) }
+    ensures added { OnOk result (Extends out.old.items out.new.items) }
     ensures old_kept { old.new ≡ old.old }
     ensures new_kept { new.new ≡ new.old }
 {
@@ -120,7 +109,7 @@ fn push_known(
         old: old.take_cleared(alloc),
         new: new.take_cleared(alloc),
     };
-    let ends = push_difference(alloc, words, old, new, &mut counters, out)?;
+    let ends = push_difference(alloc, front, old, new, &mut counters, out)?;
     let Counters {
         old: of_old,
         new: of_new,
@@ -133,13 +122,13 @@ fn push_known(
 
 /// Adds a line that tells what changed of the interface, if its encoding is another, and returns whether it is.
 ///
-/// The line has `words`, which are members with a comma after each, `change`, which is `changed`, family, index and
-/// name of the new message, and `changes`: of each path whose value differs `path`, `old` and `new`, of which one is
+/// The line has the words in front of a line that are told, `change`, which is `changed`, family, index and name of the
+/// new message, and `changes`: of each path whose value differs `path`, `old` and `new`, of which one is
 /// left out where the path came or went. Of state encodings, paths that have a counter's zero are left out. Where the
 /// encodings differ and no path does, the one path `state` has both of them in hexadecimal.
 pub fn push_changed(
     alloc: Global,
-    words: &[u8],
+    front: &[u8],
     old: &mut Snapshot,
     new: &mut Snapshot,
     out: &mut Vec<u8>,
@@ -148,6 +137,7 @@ pub fn push_changed(
     ensures silent { IfOk result (λ told. told ≡ false → out.new ≡ out.old) }
     ensures said { IfOk result
         (λ told. IsTrue told → length out.old.items < length out.new.items) }
+    ensures added { OnOk result (Extends out.old.items out.new.items) }
     ensures old_kept { old.new ≡ old.old }
     ensures new_kept { new.new ≡ new.old }
 {
@@ -157,7 +147,7 @@ pub fn push_changed(
     old.show(alloc)?;
     old.find_ends(alloc)?;
     new.show_beside(alloc, old)?;
-    push_known(alloc, words, old, new, out)?;
+    push_known(alloc, front, old, new, out)?;
     Ok(true)
 }
 

@@ -1,10 +1,17 @@
 //! What is done with each line.
 
-ghost use Rattle.std.specs.Prelude.{◌≡◌, ◌↔◌, ◌&&◌, OnOk, Some, None, cond};
+ghost use Rattle.std.specs.Prelude.{◌≡◌, ◌↔◌, ℕ, OnOk, None, Some, cond};
+ghost use Rattle.std.specs.List.Sorted.{IsStrictlySortedBy};
 ghost use Rattle.message_diff.specs.declared.key.Key.{Key};
-ghost use Rattle.message_diff.specs.Known.{Item, is_among, is_ended_with, is_now, parts, without};
-ghost use Rattle.message_diff.specs.Held.{held, taken, picture, says, has_text};
-ghost use Rattle.message_diff.specs.Held.{AddsIf, Applies, MayBeOther, Puts};
+ghost use Rattle.message_diff.specs.Compared.{Extends};
+ghost use Rattle.message_diff.specs.Known.{Item, key_cmp, is_among, is_ended_with, is_now, parts, without};
+ghost use Rattle.message_diff.specs.Known.{whole_after};
+ghost use Rattle.message_diff.specs.declared.watch.Told.TheVariants.{All};
+ghost use Rattle.message_diff.specs.Told.{says, is_told_gone, is_new_told, own_text};
+ghost use Rattle.message_diff.specs.Told.{AddsGone, AddsAllGone, AddsNews, AddsTold};
+ghost use Rattle.message_diff.specs.Held.{held, taken, picture, seen_in, whole_in, text_told};
+ghost use Rattle.message_diff.specs.Held.{Applies, MayBeOther, Puts};
+ghost use Rattle.message_diff.specs.Watched.{IsFresh, AddsFor, AddsSaid, AddsLine, Watches};
 
 use crate::announced::are_two_kinds;
 use crate::key::{AF_BRIDGE, AF_INET6, Key};
@@ -13,7 +20,7 @@ use crate::reading::{LineReader, Said, word_of};
 use crate::snapshot::{Compared, Snapshot};
 use crate::store::{Entry, Host, Hosts};
 use crate::told::{push_changed, push_gone, push_new};
-use crate::words::words_of;
+use crate::words::push_line;
 use line_filter::error::RunError;
 use line_filter::words::split;
 use std::alloc::{AllocError, Global};
@@ -42,24 +49,14 @@ fn replace(
     out: &mut Vec<u8>,
 ) -> Result<(), AllocError>
     ensures silent { OnOk result ((last.old ≡ new) ↔ (out.new.items ≡ out.old.items)) }
+    ensures added { OnOk result (Extends out.old.items out.new.items) }
     ensures last { OnOk result (last.new ≡ new) }
 {
-    if last.text() == new.text() {
-        return Ok(());
-    }
-    let words = words_of(alloc, front)?;
     let mut snapshot = new;
-    if push_changed(alloc, words.as_slice(), last, &mut snapshot, out)? {
+    if push_changed(alloc, front, last, &mut snapshot, out)? {
         *last = snapshot;
     }
     Ok(())
-}
-
-/// Adds a line that messages were lost.
-fn push_lost(words: &[u8], out: &mut Vec<u8>) -> Result<(), AllocError> {
-    out.push(b'{')?;
-    out.extend_from_slice(words)?;
-    out.extend_from_slice(b"\"change\":\"lost\"}\n")
 }
 
 /// A line: its words, its place, and what is to be told.
@@ -85,34 +82,29 @@ impl Told {
 
 impl Line<'_> {
     /// Adds a line that an interface went, which was this at last.
-    fn tell_gone(self, words: &[u8], last: Snapshot, out: &mut Vec<u8>) -> Result<(), AllocError>
-        ensures { OnOk result (AddsIf (says self.entry.told) out.old.items out.new.items) }
+    fn tell_gone(self, last: &Snapshot, out: &mut Vec<u8>) -> Result<(), AllocError>
+        ensures { OnOk result (AddsGone self.entry.front.now
+            (cond (says self.entry.told) (Some last.now) None) out.old.items out.new.items) }
     {
         if !self.told.says() {
             return Ok(());
         }
-        let mut old = last;
-        push_gone(self.alloc, words, &mut old, out)
+        push_gone(self.alloc, self.front, last, out)
     }
 
     /// Forgets an interface, and adds a line if a message of it was no refusal.
-    fn forget(
-        self,
-        host: &mut Host,
-        words: &[u8],
-        key: Key,
-        out: &mut Vec<u8>,
-    ) -> Result<(), AllocError>
+    fn forget(self, host: &mut Host, key: Key, out: &mut Vec<u8>) -> Result<(), AllocError>
         ensures known { (q : Key) → held host.new q ≡ taken key (held host.old) q }
         ensures dump { host.new.dump ≡ host.old.dump }
-        ensures told { OnOk result (AddsIf (says self.entry.told && has_text (held host.old key))
-            out.old.items out.new.items) }
+        ensures whole { host.new.whole ≡ host.old.whole }
+        ensures told { OnOk result (AddsGone self.entry.front.now
+            (text_told self.entry.told host.old key) out.old.items out.new.items) }
     {
         let Some(known) = host.take(key) else {
             return Ok(());
         };
         match known.last {
-            Some(entry) => self.tell_gone(words, entry.snapshot, out),
+            Some(entry) => self.tell_gone(&entry.snapshot, out),
             None => Ok(()),
         }
     }
@@ -122,42 +114,64 @@ impl Line<'_> {
     fn forget_told(
         self,
         host: &mut Host,
-        words: &[u8],
         key: Key,
-        gone: Snapshot,
+        gone: &Snapshot,
         out: &mut Vec<u8>,
     ) -> Result<(), AllocError>
         ensures known { (q : Key) → held host.new q ≡ taken key (held host.old) q }
         ensures dump { host.new.dump ≡ host.old.dump }
+        ensures whole { host.new.whole ≡ host.old.whole }
+        ensures told { OnOk result (AddsGone self.entry.front.now
+            (cond (says self.entry.told)
+            (cond (is_told_gone key (seen_in (held host.old key))) (Some gone.now) None) None)
+            out.old.items out.new.items) }
     {
         let is_told = match host.take(key) {
             Some(known) => known.last.is_some(),
             None => key.is_alone(),
         };
         if is_told {
-            return self.tell_gone(words, gone, out);
+            return self.tell_gone(gone, out);
         }
         Ok(())
     }
 
     /// Forgets each family in which more was said of an interface that went, and adds a line for each: of a bridge, and
     /// in AF_INET6, the kernel announces only the interface alone.
-    fn end_parts(
-        self,
-        host: &mut Host,
-        words: &[u8],
-        key: Key,
-        out: &mut Vec<u8>,
-    ) -> Result<(), AllocError>
+    fn end_parts(self, host: &mut Host, key: Key, out: &mut Vec<u8>) -> Result<(), AllocError>
         ensures known { OnOk result ((q : Key) → held host.new q
             ≡ cond (is_among (parts key) q) None (held host.old q)) }
         ensures dump { host.new.dump ≡ host.old.dump }
+        ensures whole { host.new.whole ≡ host.old.whole }
+        ensures told { OnOk result (AddsAllGone self.entry.front.now
+            (text_told self.entry.told host.old) (parts key) out.old.items out.new.items) }
     {
         if !key.is_alone() {
             return Ok(());
         }
-        self.forget(host, words, key.in_family(AF_BRIDGE), out)?;
-        self.forget(host, words, key.in_family(AF_INET6), out)
+        self.forget(host, key.in_family(AF_BRIDGE), out)?;
+        self.forget(host, key.in_family(AF_INET6), out)
+    }
+
+    /// Forgets an interface that went, and adds a line.
+    fn forget_own(
+        self,
+        host: &mut Host,
+        key: Key,
+        gone: Option<Snapshot>,
+        out: &mut Vec<u8>,
+    ) -> Result<(), AllocError>
+        ensures known { (q : Key) → held host.new q ≡ taken key (held host.old) q }
+        ensures dump { host.new.dump ≡ host.old.dump }
+        ensures whole { host.new.whole ≡ host.old.whole }
+        ensures told { OnOk result (AddsGone self.entry.front.now
+            (cond (says self.entry.told) (own_text key gone (seen_in (held host.old key))) None)
+            out.old.items out.new.items) }
+    {
+        match gone {
+            Some(snapshot) => self.forget_told(host, key, &snapshot, out),
+            None => self.forget(host, key, out),
+        }
     }
 
     /// Forgets an interface that went, with its parts, and adds a line for each.
@@ -171,13 +185,12 @@ impl Line<'_> {
         ensures known { OnOk result ((q : Key) → held host.new q
             ≡ cond (is_ended_with key q) None (held host.old q)) }
         ensures dump { host.new.dump ≡ host.old.dump }
+        ensures whole { host.new.whole ≡ host.old.whole }
+        ensures told { OnOk result (AddsTold self.entry.front.now self.entry.told
+            (picture host.old) (Item.went key gone) out.old.items out.new.items) }
     {
-        let words = words_of(self.alloc, self.front)?;
-        match gone {
-            Some(snapshot) => self.forget_told(host, words.as_slice(), key, snapshot, out)?,
-            None => self.forget(host, words.as_slice(), key, out)?,
-        }
-        self.end_parts(host, words.as_slice(), key, out)
+        self.forget_own(host, key, gone, out)?;
+        self.end_parts(host, key, out)
     }
 
     /// Forgets these interfaces, and adds a line for each.
@@ -185,10 +198,13 @@ impl Line<'_> {
         ensures known { OnOk result ((q : Key) → held host.new q
             ≡ cond (is_among keys.now q) None (held host.old q)) }
         ensures dump { host.new.dump ≡ host.old.dump }
+        ensures whole { host.new.whole ≡ host.old.whole }
+        ensures told { OnOk result (IsStrictlySortedBy key_cmp keys.now
+            → AddsAllGone self.entry.front.now (text_told self.entry.told host.old) keys.now
+            out.old.items out.new.items) }
     {
-        let words = words_of(self.alloc, self.front)?;
         for key in keys {
-            self.forget(host, words.as_slice(), *key, out)?;
+            self.forget(host, *key, out)?;
         }
         Ok(())
     }
@@ -205,6 +221,10 @@ impl Line<'_> {
         ensures known { OnOk result ((q : Key) → (picture host.new).of q
             ≡ without (picture host.old) (Item.finished dump.now family) q) }
         ensures dump { host.new.dump ≡ host.old.dump }
+        ensures whole { OnOk result ((f : ℕ) → whole_in host.new f
+            ≡ whole_after (picture host.old) (Item.finished dump.now family) f) }
+        ensures told { OnOk result (AddsTold self.entry.front.now self.entry.told
+            (picture host.old) (Item.finished dump.now family) out.old.items out.new.items) }
     {
         let Some(begin) = host.begin_of(dump) else {
             return Ok(());
@@ -215,7 +235,9 @@ impl Line<'_> {
     }
 
     /// Whether a line is added for an interface that came.
-    fn tells_new(self, host: &Host, key: Key) -> bool {
+    fn tells_new(self, host: &Host, key: Key) -> bool
+        ensures { result ≡ is_new_told self.entry.told (whole_in host.now) key }
+    {
         match self.told {
             Told::All => true,
             Told::Changes => host.is_whole(key.family),
@@ -223,7 +245,16 @@ impl Line<'_> {
         }
     }
 
-    /// Keeps a message of an interface of which none is known, with its words, and adds a line that it came.
+    /// The words that are kept with a message: none where what it tells is told at once.
+    fn kept_front(self) -> Result<Vec<u8>, AllocError> {
+        let alloc = self.alloc;
+        if self.told.says() {
+            return Ok(Vec::new(alloc));
+        }
+        self.front.to_vec(alloc)
+    }
+
+    /// Keeps a message of an interface of which none is known, and adds a line that it came.
     fn keep(
         self,
         host: &mut Host,
@@ -234,15 +265,17 @@ impl Line<'_> {
         ensures known { OnOk result ((q : Key) → (picture host.new).of q
             ≡ is_now self.entry.at key snapshot (picture host.old).of q) }
         ensures dump { host.new.dump ≡ host.old.dump }
+        ensures whole { host.new.whole ≡ host.old.whole }
+        ensures told { OnOk result (AddsNews self.entry.front.now self.entry.told
+            (is_new_told self.entry.told (whole_in host.old) key) None snapshot
+            out.old.items out.new.items) }
     {
-        let words = words_of(self.alloc, self.front)?;
-        let mut new = snapshot;
         if self.tells_new(host, key) {
-            push_new(self.alloc, words.as_slice(), &mut new, out)?;
+            push_new(self.alloc, self.front, &snapshot, out)?;
         }
         let entry = Entry {
-            words,
-            snapshot: new,
+            front: self.kept_front()?,
+            snapshot,
         };
         host.keep(key, self.at, entry)
     }
@@ -259,35 +292,40 @@ impl Line<'_> {
         ensures known { OnOk result ((q : Key) → (picture host.new).of q
             ≡ is_now self.entry.at key snapshot (picture host.old).of q) }
         ensures dump { host.new.dump ≡ host.old.dump }
+        ensures whole { host.new.whole ≡ host.old.whole }
+        ensures told { OnOk result (AddsNews self.entry.front.now self.entry.told
+            (is_new_told self.entry.told (whole_in host.old) key) (Some last.snapshot) snapshot
+            out.old.items out.new.items) }
     {
         if !self.told.says() {
             return self.keep(host, key, snapshot, out);
         }
         let Entry {
-            words,
+            front,
             snapshot: was,
         } = last;
         let mut kept = was;
         replace(self.alloc, self.front, &mut kept, snapshot, out)?;
         let entry = Entry {
-            words,
+            front,
             snapshot: kept,
         };
         host.keep(key, self.at, entry)
     }
 
-    /// Keeps a message of an interface, and adds a line of what changed, or that it came. Where it is of another kind
-    /// than the last one that had its place, that one went.
-    fn put(
+    /// Keeps a message of an interface in the place of its last one, and adds a line of what changed. Where it is of
+    /// another kind, the last one went, and it came.
+    fn put_over(
         self,
         host: &mut Host,
         key: Key,
         snapshot: Snapshot,
         out: &mut Vec<u8>,
     ) -> Result<(), AllocError>
-        ensures known { OnOk result
-            (Puts self.entry.at key snapshot (picture host.old) (picture host.new)) }
+        ensures known { OnOk result (Puts self.entry.front.now self.entry.told self.entry.at key
+            snapshot (picture host.old) (picture host.new) out.old.items out.new.items) }
         ensures dump { host.new.dump ≡ host.old.dump }
+        ensures whole { host.new.whole ≡ host.old.whole }
     {
         let Some(last) = host.take_last(key) else {
             return self.keep(host, key, snapshot, out);
@@ -295,15 +333,34 @@ impl Line<'_> {
         if !is_another(&last.snapshot, &snapshot) {
             return self.put_beside(host, key, last, snapshot, out);
         }
-        let words = words_of(self.alloc, self.front)?;
-        self.tell_gone(words.as_slice(), last.snapshot, out)?;
-        self.end_parts(host, words.as_slice(), key, out)?;
+        self.tell_gone(&last.snapshot, out)?;
+        self.end_parts(host, key, out)?;
         self.keep(host, key, snapshot, out)
+    }
+
+    /// Keeps a message of an interface, and adds a line of what changed, or that it came.
+    fn put(
+        self,
+        host: &mut Host,
+        key: Key,
+        snapshot: Snapshot,
+        out: &mut Vec<u8>,
+    ) -> Result<(), AllocError>
+        ensures known { OnOk result (Puts self.entry.front.now self.entry.told self.entry.at key
+            snapshot (picture host.old) (picture host.new) out.old.items out.new.items) }
+        ensures dump { host.new.dump ≡ host.old.dump }
+        ensures whole { host.new.whole ≡ host.old.whole }
+    {
+        if self.told.says() && host.see_same(key, self.at, snapshot.text())? {
+            return Ok(());
+        }
+        self.put_over(host, key, snapshot, out)
     }
 
     /// Adds what is to be written of what the line says, and keeps what is known from then on.
     fn apply(self, host: &mut Host, said: Said, out: &mut Vec<u8>) -> Result<(), AllocError>
-        ensures { OnOk result (Applies self.entry.at said host.old host.new) }
+        ensures { OnOk result (Applies self.entry.front.now self.entry.told self.entry.at said
+            (picture host.old) (picture host.new) out.old.items out.new.items) }
     {
         match said {
             Said::Is(key, snapshot) => self.put(host, key, snapshot, out),
@@ -325,7 +382,7 @@ impl Line<'_> {
 }
 
 /// Whether an interface is of another kind than the last one that had its place.
-fn is_another(last: &Snapshot, new: &Snapshot) -> bool
+pub fn is_another(last: &Snapshot, new: &Snapshot) -> bool
     ensures { MayBeOther (Some last.now) new.now result }
 {
     if last.text() == new.text() {
@@ -347,7 +404,9 @@ pub struct Watch {
 
 impl Watch {
     /// Tells of messages that are compared by this.
-    pub fn new(alloc: Global, by: Compared, told: Told) -> Watch {
+    pub fn new(alloc: Global, by: Compared, told: Told) -> Watch
+        ensures { IsFresh by told result }
+    {
         Watch {
             reader: LineReader::new(alloc, by),
             hosts: BTreeMap::new(alloc),
@@ -368,51 +427,67 @@ impl Watch {
         hosts
     }
 
-    /// Takes what a line of a host with these words says.
+    /// Takes what a line with these words says of its host.
     fn take_said(
         &mut self,
         alloc: Global,
         front: &[u8],
         said: Said,
         out: &mut Vec<u8>,
-    ) -> Result<(), AllocError> {
+    ) -> Result<(), AllocError>
+        ensures known { OnOk result (AddsFor front.now self.old.told self.old.lines said
+            self.old self.new out.old.items out.new.items) }
+        ensures reader { self.new.reader ≡ self.old.reader }
+        ensures told { self.new.told ≡ self.old.told }
+        ensures lines { self.new.lines ≡ self.old.lines }
+    {
         let line = Line {
             alloc,
             front,
             at: self.lines,
             told: self.told,
         };
-        self.has_dumps |= matches!(&said, Said::Begin(_) | Said::Done(_, _));
-        let name = word_of(front, b"host").to_vec(alloc)?;
-        if let Some(host) = self.hosts.get_mut(&name) {
+        let name = word_of(front, b"host");
+        if let Some(host) = self.hosts.get_mut(name) {
             return line.apply(host, said, out);
         }
         let mut host = Host::new(alloc);
         line.apply(&mut host, said, out)?;
-        self.hosts.insert(name, host)?;
+        self.hosts.insert(name.to_vec(alloc)?, host)?;
         Ok(())
     }
 
-    /// Takes a line, and adds what is to be written of it.
-    pub fn take(
+    /// Takes what a line with these words says.
+    fn take_any(
         &mut self,
         alloc: Global,
-        line: &[u8],
+        front: &[u8],
+        said: Said,
         out: &mut Vec<u8>,
-    ) -> Result<(), AllocError> {
-        self.lines = self.lines.saturating_add(1);
-        let (front, rest) = split(line);
-        match self.reader.read(alloc, front, rest, out)? {
+    ) -> Result<(), AllocError>
+        ensures known { OnOk result (AddsSaid front.now self.old.told self.old.lines said
+            self.old self.new out.old.items out.new.items) }
+        ensures reader { self.new.reader ≡ self.old.reader }
+        ensures told { self.new.told ≡ self.old.told }
+        ensures lines { self.new.lines ≡ self.old.lines }
+    {
+        match said {
             Said::Nothing => Ok(()),
-            Said::Lost => {
-                if self.told == Told::Faults {
-                    return Ok(());
-                }
-                let words = words_of(alloc, front)?;
-                push_lost(words.as_slice(), out)
-            }
+            Said::Lost if self.told.says() => push_line(alloc, front, "change", "lost", out),
+            Said::Lost => Ok(()),
             said => self.take_said(alloc, front, said, out),
         }
+    }
+
+    /// Takes a line, and adds what is to be written of it.
+    pub fn take(&mut self, alloc: Global, line: &[u8], out: &mut Vec<u8>) -> Result<(), AllocError>
+        ensures { OnOk result (AddsLine line.now self.old self.new out.old.items out.new.items) }
+    {
+        self.lines = self.lines.saturating_add(1);
+        let (front, rest) = split(line);
+        let said = self.reader.read(alloc, front, rest, out)?;
+        self.has_dumps |= matches!(&said, Said::Begin(_) | Said::Done(_, _));
+        self.take_any(alloc, front, said, out)
     }
 }
 
@@ -423,7 +498,10 @@ pub fn watch_lines<R: Read, W: Write>(
     told: Told,
     reader: &mut R,
     writer: &mut W,
-) -> Result<(), RunError> {
+) -> Result<(), RunError>
+    ensures { OnOk result (Watches by told (R.remaining reader.old) (R.remaining reader.new)
+        (W.contents writer.old) (W.contents writer.new)) }
+{
     let mut watch = Watch::new(alloc, by, told);
     read_lines(alloc, reader, &mut watch, writer)
 }
@@ -434,6 +512,9 @@ pub fn compare_lines<R: Read, W: Write>(
     by: Compared,
     reader: &mut R,
     writer: &mut W,
-) -> Result<(), RunError> {
+) -> Result<(), RunError>
+    ensures { OnOk result (Watches by All (R.remaining reader.old) (R.remaining reader.new)
+        (W.contents writer.old) (W.contents writer.new)) }
+{
     watch_lines(alloc, by, Told::All, reader, writer)
 }

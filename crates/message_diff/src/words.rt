@@ -1,52 +1,83 @@
-//! The words in front of a line, as members of the answer.
+//! The words in front of a line that are told.
 
-use json::Writer;
+ghost use Rattle.std.specs.Prelude.{◌≡◌, ◌<◌, ◌++◌, OnOk, length, codes};
+ghost use Rattle.line_filter.specs.Words.{value_in, words_of};
+ghost use Rattle.shown.specs.Drafts.{with_members};
+ghost use Rattle.message_diff.specs.Alone.{word_member, told_words, member_line};
+ghost use Rattle.message_diff.specs.Compared.{Extends};
+
 use line_filter::words::value_of;
-use message_shown::context::text_of;
+use message_shown::worded::show_value;
+use shown::Page;
 use std::alloc::{AllocError, Global};
 
-/// The words that are told.
-const KEYS: [&str; 3] = ["type", "time", "host"];
-
-/// Adds a text with its quotes.
-fn with_text(out: Vec<u8>, text: &str) -> Result<Vec<u8>, AllocError> {
-    let mut writer = Writer::new(out);
-    writer.string(text)?;
-    Ok(writer.into_inner())
-}
-
-/// Adds a value as a text. One that is no UTF-8 stands as its digits, as linkshow has it.
-fn with_value(alloc: Global, out: Vec<u8>, value: &[u8]) -> Result<Vec<u8>, AllocError> {
-    match text_of(value) {
-        Some(text) => with_text(out, text),
-        None => with_text(out, hex::encode(alloc, value)?.as_str()),
+/// Adds the value of a word, if there is one with this key in front of the line.
+fn show_told_word(page: &mut Page, front: &[u8], key: &str) -> Result<(), AllocError>
+    ensures { OnOk result (page.new
+        ≡ with_members (word_member key.now (value_in key.now (words_of front.now))) page.old) }
+{
+    match value_of(front, key.as_bytes()) {
+        Some(value) => show_value(page, key, value),
+        None => Ok(()),
     }
 }
 
-/// Adds a member and a comma.
-fn with_word(
+/// Adds the words in front of a line that are told: `type`, `time` and `host`.
+pub fn show_told(page: &mut Page, front: &[u8]) -> Result<(), AllocError>
+    ensures { OnOk result (page.new ≡ with_members (told_words front.now) page.old) }
+{
+    show_told_word(page, front, "type")?;
+    show_told_word(page, front, "time")?;
+    show_told_word(page, front, "host")
+}
+
+/// Begins a line by the words that are told, with a comma after each.
+pub fn push_words(alloc: Global, front: &[u8], out: &mut Vec<u8>) -> Result<(), AllocError>
+    ensures said { OnOk result (length out.old.items < length out.new.items) }
+    ensures added { OnOk result (Extends out.old.items out.new.items) }
+{
+    let mut text = Vec::new(alloc);
+    let mut page = Page::new(alloc)?;
+    show_told(&mut page, front)?;
+    page.finish(&mut text)?;
+    text.pop();
+    if text.len() > 1 {
+        text.push(b',')?;
+    }
+    out.push(b'{')?;
+    out.extend_from_slice(text.as_slice().get(1..).unwrap_or(b""))
+}
+
+/// Adds a line with the words that are told and this member alone.
+pub fn push_line(
     alloc: Global,
-    words: Vec<u8>,
-    key: &str,
-    value: &[u8],
-) -> Result<Vec<u8>, AllocError> {
-    let mut out = with_text(words, key)?;
-    out.push(b':')?;
-    let mut told = with_value(alloc, out, value)?;
-    told.push(b',')?;
-    Ok(told)
+    front: &[u8],
+    name: &str,
+    value: &str,
+    out: &mut Vec<u8>,
+) -> Result<(), AllocError>
+    ensures { OnOk result (out.new.items
+        ≡ out.old.items ++ member_line front.now name.now value.now) }
+{
+    let mut page = Page::new(alloc)?;
+    show_told(&mut page, front)?;
+    page.string(name, value)?;
+    page.finish(out)?;
+    out.push(b'\n')?;
+    Ok(())
 }
 
-/// The words of a line that are told, as members with a comma after each: `type`, `time` and `host`.
-pub fn words_of(alloc: Global, line: &[u8]) -> Result<Vec<u8>, AllocError> {
-    let mut words = Vec::new(alloc);
-    if line.is_empty() {
-        return Ok(words);
+/// The line of digits that spell no bytes, where no words are in front of them.
+const NOT_HEX: &[u8] = b"{\"fault\":\"not-hex\"}\n";
+
+/// Adds a line with the words that are told and the fault of digits that spell no bytes.
+pub fn push_not_hex(alloc: Global, front: &[u8], out: &mut Vec<u8>) -> Result<(), AllocError>
+    ensures { OnOk result (out.new.items
+        ≡ out.old.items ++ member_line front.now (codes "fault") (codes "not-hex")) }
+{
+    if front.is_empty() {
+        out.extend_from_slice(NOT_HEX)?;
+        return Ok(());
     }
-    for key in &KEYS {
-        if let Some(value) = value_of(line, key.as_bytes()) {
-            words = with_word(alloc, words, key, value)?;
-        }
-    }
-    Ok(words)
+    push_line(alloc, front, "fault", "not-hex", out)
 }

@@ -1,6 +1,7 @@
 //! A vector whose calls that take memory can fail.
 
 use super::alloc::{AllocError, AllocFailed, Global};
+use std::borrow::Borrow;
 use std::fmt;
 use std::ops::{Deref, DerefMut};
 
@@ -154,6 +155,12 @@ impl<T> DerefMut for Vec<T> {
 
 impl<T> AsRef<[T]> for Vec<T> {
     fn as_ref(&self) -> &[T] {
+        &self.0
+    }
+}
+
+impl<T> Borrow<[T]> for Vec<T> {
+    fn borrow(&self) -> &[T] {
         &self.0
     }
 }

@@ -1,20 +1,102 @@
-use Rattle.std.proofs.Common.{false, sym, ap, subst, ◌∙◌}
+use Rattle.std.proofs.Common.{◌≡◌, List, ℕ, false, refl, sym, ap, subst, ◌∙◌}
 use Rattle.std.proofs.lemmas.Result.{on_ok_weaker}
-use Rattle.message_diff.specs.Known.{is_ended_with}
-use Rattle.message_diff.specs.Held.{Applies, held, run_in, seen_in}
 use Rattle.message_diff.specs.declared.reading.Said.{Said}
-use Rattle.message_diff.proofs.Pictures.{seen_taken}
+use Rattle.message_diff.specs.declared.store.Host.{Host}
+use Rattle.message_diff.specs.Known.{Item, is_ended_with, is_key, text_of}
+use Rattle.message_diff.specs.declared.watch.Told.{Told}
+use Rattle.message_diff.specs.Told.{AddsTold}
+use Rattle.message_diff.specs.Held.{Applies, IsAfter, held, last_of, picture, run_in, seen_in}
+use Rattle.message_diff.proofs.Pictures.{seen_taken, text_is}
+use Rattle.message_diff.proofs.Gone.{on_ok_both, seen_put, stays, tells_nothing, whole_same}
 use Rattle.message_diff.proofs.watch.Line.apply.Goals as goal
 
-pub returns-in-Went : goal.returns-in-Went
-returns-in-Went c =
-    on_ok_weaker c.end.result
-    (λ known. subst (λ (said : Said). Applies c.args.self.at said c.args.host.now c.end.new.host) (sym c.in-Went.is) (
+pub returns-in-Refused : goal.returns-in-Refused
+returns-in-Refused c =
+    let host = c.args.host.now in
+    let key = c.in-Refused.key in
+    let front = c.args.self.front.now in
+    let told = c.args.self.told in
+    let out = c.args.out.now.items in
+    on_ok_weaker c.see.result
+    (λ known. subst (λ (said : Said). Applies front told c.args.self.at said (picture host)
+    (picture c.see.new.self) out out)
+    (sym c.in-Refused.is) (
       false,
       tt,
       record {
-        of = λ q. ap seen_in (known q) ∙ seen_taken (is_ended_with c.in-Went.key q) (held c.args.host.now q);
-        run = ap run_in c.end.ensures.dump;
+        of = λ q. ap seen_in (known q)
+            ∙ seen_put (is_key key q) c.args.self.at (last_of (held host key)) (text_of (seen_in (held host key)))
+            (held host q) (sym (text_is (held host key)));
+        run = ap run_in c.see.ensures.dump;
+        whole = λ f. whole_same host c.see.new.self f c.see.ensures.whole;
       },
+      tells_nothing front told (picture host) (Item.refused key) out (λ q. refl) refl,
     ))
-    c.end.ensures.known
+    c.see.ensures.known
+
+pub returns-in-Went : goal.returns-in-Went
+returns-in-Went c =
+    let host = c.args.host.now in
+    on_ok_both c.end.result
+    (λ known told. subst
+    (λ (said : Said). Applies c.args.self.front.now c.args.self.told c.args.self.at said (picture host)
+    (picture c.end.new.host) c.args.out.now.items c.end.new.out.items) (sym c.in-Went.is) (
+      false,
+      tt,
+      record {
+        of = λ q. ap seen_in (known q) ∙ seen_taken (is_ended_with c.in-Went.key q) (held host q);
+        run = ap run_in c.end.ensures.dump;
+        whole = λ f. whole_same host c.end.new.host f c.end.ensures.whole;
+      },
+      told,
+    ))
+    c.end.ensures.known c.end.ensures.told
+
+pub returns-in-Begin : goal.returns-in-Begin
+returns-in-Begin c =
+    let host = c.args.host.now in
+    let front = c.args.self.front.now in
+    let out = c.args.out.now.items in
+    let is = stays front c.args.self.told c.args.self.at host c.begin.new.self (Item.started c.in-Begin.dump.items) out
+    c.begin.ensures.known c.begin.ensures.whole (ap run_in c.begin.ensures.dump) (λ q. refl) (λ q. refl) (λ f. refl)
+    refl in
+    subst (λ (said : Said). Applies front c.args.self.told c.args.self.at said (picture host)
+    (picture c.begin.new.self) out out)
+    (sym c.in-Begin.is) (false, tt, is.0, is.1)
+
+pub returns-in-Blind : goal.returns-in-Blind
+returns-in-Blind c =
+    let host = c.args.host.now in
+    let front = c.args.self.front.now in
+    let out = c.args.out.now.items in
+    let is = stays front c.args.self.told c.args.self.at host c.break_dump.new.self Item.blind out
+    c.break_dump.ensures.known c.break_dump.ensures.whole (ap run_in c.break_dump.ensures.dump) (λ q. refl) (λ q. refl)
+    (λ f. refl) refl in
+    subst (λ (said : Said). Applies front c.args.self.told c.args.self.at said (picture host)
+    (picture c.break_dump.new.self) out out)
+    (sym c.in-Blind.is) (false, tt, is.0, is.1)
+
+nothing : (front : List ℕ) (told : Told) (at : ℕ) (host : Host) (out : List ℕ)
+    → IsAfter (picture host) at Item.nothing (picture host) × AddsTold front told (picture host) Item.nothing out out
+nothing front told at host out =
+    stays front told at host host Item.nothing out refl refl refl (λ q. refl) (λ q. refl) (λ f. refl) refl
+
+pub returns-in-Lost : goal.returns-in-Lost
+returns-in-Lost c =
+    let host = c.args.host.now in
+    let front = c.args.self.front.now in
+    let out = c.args.out.now.items in
+    let is = nothing front c.args.self.told c.args.self.at host out in
+    subst (λ (said : Said). Applies front c.args.self.told c.args.self.at said (picture host) (picture host) out out)
+    (sym c.in-Lost.is)
+    (false, tt, is.0, is.1)
+
+pub returns-in-Nothing : goal.returns-in-Nothing
+returns-in-Nothing c =
+    let host = c.args.host.now in
+    let front = c.args.self.front.now in
+    let out = c.args.out.now.items in
+    let is = nothing front c.args.self.told c.args.self.at host out in
+    subst (λ (said : Said). Applies front c.args.self.told c.args.self.at said (picture host) (picture host) out out)
+    (sym c.in-Nothing.is)
+    (false, tt, is.0, is.1)

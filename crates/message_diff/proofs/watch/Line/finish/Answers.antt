@@ -1,10 +1,15 @@
-use Rattle.std.proofs.Common.{◌≡◌, List, sym, ap, ◌∙◌}
+use Rattle.std.proofs.Common.{◌≡◌, List, [], refl, sym, ap, subst, append-nil, ◌∙◌}
 use Rattle.std.specs.Prelude.{Result, Ok, Err, OnOk, None, cond}
 use Rattle.std.specs.declared.alloc.AllocError.{AllocError}
 use Rattle.message_diff.specs.declared.key.Key.{Key}
-use Rattle.message_diff.specs.Known.{is_among}
-use Rattle.message_diff.specs.Held.{held, held_in, picture, seen_in}
-use Rattle.message_diff.proofs.Missed.{missed_taken, runs}
+use Rattle.std.specs.List.Sorted.{IsStrictlySortedBy}
+use Rattle.std.specs.Map.{keys_of}
+use Rattle.std.specs.Prelude.{◌&&◌}
+use Rattle.message_diff.specs.Known.{Item, is_among, key_cmp}
+use Rattle.message_diff.specs.Told.{AddsAllGone, is_told}
+use Rattle.message_diff.specs.Held.{held, held_in, left, picture, seen_in, text_told}
+use Rattle.message_diff.proofs.Gone.{tells_gone, tells_nothing}
+use Rattle.message_diff.proofs.Missed.{missed_taken, runs, runs_not, left_sorted, left_each}
 use Rattle.message_diff.proofs.watch.Line.finish.Goals as goal
 
 always : {P : Type 0} (r : Result (Unit {0}) AllocError) → P → OnOk r P
@@ -22,3 +27,33 @@ returns-clause-known c = always c.keep_whole.result (λ q.
     ∙ missed_taken host c.args.family c.in-Some.begin c.in_ok-missed.ensures.ordered q
     ∙ ap (λ b. cond b None (seen_in (held host q)))
     (sym (runs host.dump c.args.dump.now c.in-Some.begin (sym c.in-Some.ensures) (picture host).of c.args.family q)))
+
+pub returns-in_default-clause-told : goal.returns-in_default-clause-told
+returns-in_default-clause-told c =
+    let host = c.args.host.now in
+    tells_nothing c.args.self.front.now c.args.self.told (picture host) (Item.finished c.args.dump.now c.args.family)
+    c.args.out.now.items
+    (runs_not host.dump c.args.dump.now (sym c.in_default.ensures) (picture host).of c.args.family) refl
+
+pub returns-clause-told : goal.returns-clause-told
+returns-clause-told c =
+    let host = c.args.host.now in
+    let p = picture host in
+    let x : Item = Item.finished c.args.dump.now c.args.family in
+    let keys : List Key = keys_of (left host c.args.family c.in-Some.begin) in
+    let listed = c.as_slice.ensures.value ∙ c.in_ok-missed.ensures.keys in
+    let ordered = c.in_ok-missed.ensures.ordered in
+    let sorted = left_sorted host c.args.family c.in-Some.begin ordered in
+    let front = c.args.self.front.now in
+    let told = c.args.self.told in
+    let out = c.forget_all.new.out.items in
+    always c.keep_whole.result
+    (tells_gone front told p x keys [] c.args.out.now.items out out
+    (record {
+      sorted = sorted;
+      each = left_each host c.args.family c.in-Some.begin c.args.dump.now ordered (sym c.in-Some.ensures);
+    })
+    (subst (λ (ks : List Key). AddsAllGone front (text_told told host) ks c.args.out.now.items out) listed
+    (c.in_ok-forget_all.ensures.told
+    (subst (λ (ks : List Key). IsStrictlySortedBy key_cmp ks) (sym listed) sorted)))
+    refl (sym (append-nil out)))

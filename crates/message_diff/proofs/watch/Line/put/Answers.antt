@@ -1,41 +1,21 @@
-use Rattle.std.proofs.Common.{◌≡◌, List, ℕ, true, false, sym, ap, subst, ◌∙◌}
-use Rattle.std.specs.Prelude.{Option, None, Some, cond}
-use Rattle.std.proofs.lemmas.Result.{on_ok_weaker}
-use Rattle.message_diff.specs.Known.{Seen, is_among, is_ended_with, is_key, parts}
-use Rattle.message_diff.specs.Held.{MayBeOther, held, seen_in, text_in}
-use Rattle.message_diff.proofs.Pictures.{put_over, seen_taken, taken_both, text_is}
+use Rattle.std.proofs.Common.{List, ℕ, false, ap, ◌∙◌}
+use Rattle.std.specs.Prelude.{Some}
+use Rattle.message_diff.specs.Known.{is_key}
+use Rattle.message_diff.specs.Held.{held, last_of, seen_in}
+use Rattle.message_diff.proofs.Pictures.{text_is}
+use Rattle.message_diff.proofs.Gone.{seen_put, tells_same}
 use Rattle.message_diff.proofs.watch.Line.put.Goals as goal
 
-pub returns-then-not-is_another-clause-known : goal.returns-then-not-is_another-clause-known
-returns-then-not-is_another-clause-known c =
+pub returns-then-branch-clause-known : goal.returns-then-branch-clause-known
+returns-then-branch-clause-known c =
     let host = c.args.host.now in
     let key = c.args.key in
-    let seen : Seen = record { at = c.args.self.at; text = Some c.args.snapshot } in
-    on_ok_weaker c.put_beside.result
-    (λ known. (
+    let same = c.in_ok-see_same.ensures.same c.if-branch.true in
+    let text = same.0 ∙ ap Some c.text.ensures in (
       false,
       tt,
-      λ q. known q
-          ∙ put_over (is_key key q) seen (held host q) (held c.take_last.new.self q) (c.in-Some.ensures.known q),
-    ))
-    c.put_beside.ensures.known
-
-pub returns-clause-known : goal.returns-clause-known
-returns-clause-known c =
-    let host = c.args.host.now in
-    let key = c.args.key in
-    on_ok_weaker c.keep-2.result
-    (λ known. (
-      true,
-      subst (λ (t : Option (List ℕ)). MayBeOther t c.args.snapshot true)
-          (sym (text_is (held host key) ∙ ap text_in (sym c.in-Some.ensures.was))) c.if-not-is_another.ensures,
-      λ q.
-          let gone : held c.end_parts.new.host q ≡ cond (is_ended_with key q) None (held host q) =
-          c.in_ok-end_parts.ensures.known q
-          ∙ ap (λ o. cond (is_among (parts key) q) None o) (c.in-Some.ensures.known q)
-          ∙ taken_both (is_key key q) (is_among (parts key) q) (held host q) in
-          let seen : Seen = record { at = c.args.self.at; text = Some c.args.snapshot } in
-          known q ∙ ap (λ (o : Option Seen). cond (is_key key q) (Some seen) o)
-          (ap seen_in gone ∙ seen_taken (is_ended_with key q) (held host q)),
-    ))
-    c.keep-2.ensures.known
+      λ q. ap seen_in (same.1 q)
+          ∙ seen_put (is_key key q) c.args.self.at (last_of (held host key)) (Some c.args.snapshot) (held host q) text,
+      tells_same c.args.self.front.now c.args.self.told host key c.args.snapshot c.args.out.now.items
+          (text_is (held host key) ∙ text),
+    )

@@ -1,0 +1,128 @@
+-- What is known of each host, and what a line tells and leaves known.
+use Rattle.std.specs.Prelude.{◌≡◌, ◌+◌, ◌-◌, ◌^◌, ◌++◌, ℕ, Bool, false, List, [], ◌∷◌, Option, None, Some}
+use Rattle.std.specs.Prelude.{codes, cond, min}
+use Rattle.std.specs.Cmp.Lexicographic.{slice_cmp}
+use Rattle.std.specs.Ordering.{nat_cmp}
+use Rattle.std.specs.BTreeMap.{is_at}
+use Rattle.std.specs.Map.{lookup}
+use Rattle.std.specs.Io.KnownBytes.{Consumes, Appends, IsAtEnd}
+use Rattle.line_filter.specs.Lines.{lines_of}
+use Rattle.line_filter.specs.Steps.{Cut}
+use Rattle.line_filter.specs.Words.{front_of, rest_of}
+use Rattle.message_diff.specs.declared.store.Host.{Host}
+use Rattle.message_diff.specs.declared.reading.Said.{Said}
+use Rattle.message_diff.specs.declared.reading.Said.TheVariants as Saids
+use Rattle.message_diff.specs.declared.watch.Told.{Told}
+use Rattle.message_diff.specs.declared.watch.Watch.{Watch}
+use Rattle.message_diff.specs.declared.snapshot.Compared.{Compared}
+use Rattle.message_diff.specs.Alone.{member_line}
+use Rattle.message_diff.specs.Known.{Picture, nothing_known, is_text}
+use Rattle.message_diff.specs.Said.{Says, word_in}
+use Rattle.message_diff.specs.Told.{says, Tells}
+use Rattle.message_diff.specs.Held.{IsAfter, MayBeSaid, item_of, picture}
+
+abbrev pub known_of : Option Host → Picture
+known_of None = nothing_known
+known_of (Some host) = picture host
+
+-- what is known of the host with this name
+abbrev pub host_in : Watch → List ℕ → Option Host
+host_in watch name = lookup (is_at (λ k. slice_cmp nat_cmp name k.items)) watch.hosts.entries
+
+abbrev pub known_in : Watch → List ℕ → Picture
+known_in watch name = known_of (host_in watch name)
+
+-- the name of the host of a line with these words: without the word `host` it has none
+abbrev pub host_of : List ℕ → List ℕ
+host_of front = word_in (codes "host") front
+
+-- lines are counted as far as 64 bits count
+abbrev pub next_line : ℕ → ℕ
+next_line lines = min (lines + 1) (2 ^ 64 - 1)
+
+-- what is known after a line, and what it adds
+abbrev pub Goes : List ℕ → Told → ℕ → Said → Picture → Picture → List ℕ → Type 0
+Goes front told at said old new more =
+    (other : Bool) × MayBeSaid old said other × IsAfter old at (item_of other said) new
+    × Tells front told old (item_of other said) more
+
+-- what a line says is taken for its host, and what is known of the others stays
+pub record GoesFor (front : List ℕ) (told : Told) (at : ℕ) (said : Said) (old new : Watch)
+    (more : List ℕ) : Type 0 where
+  pub own : Goes front told at said (known_in old (host_of front)) (known_in new (host_of front)) more
+  pub others : (name : List ℕ) → is_text (host_of front) name ≡ false → known_in new name ≡ known_in old name
+
+-- that messages were lost
+abbrev pub lost_line : List ℕ → List ℕ
+lost_line front = member_line front (codes "change") (codes "lost")
+
+-- they have a line, and change nothing of what is known
+abbrev pub TakesSaid : List ℕ → Told → ℕ → Said → Watch → Watch → List ℕ → Type 0
+TakesSaid front told at Saids.Lost old new more =
+    (new.hosts ≡ old.hosts) × (more ≡ cond (says told) (lost_line front) [])
+TakesSaid front told at Saids.Nothing old new more = (new.hosts ≡ old.hosts) × (more ≡ [])
+TakesSaid front told at said old new more = GoesFor front told at said old new more
+
+abbrev pub AddsSaid : List ℕ → Told → ℕ → Said → Watch → Watch → List ℕ → List ℕ → Type 0
+AddsSaid front told at said old new before now =
+    (more : List ℕ) × TakesSaid front told at said old new more × (now ≡ before ++ more)
+
+abbrev pub AddsFor : List ℕ → Told → ℕ → Said → Watch → Watch → List ℕ → List ℕ → Type 0
+AddsFor front told at said old new before now =
+    (more : List ℕ) × GoesFor front told at said old new more × (now ≡ before ++ more)
+
+-- a line is taken, and this is added: its fault, if it has one, and what it tells
+pub record IsTaken (line : List ℕ) (old new : Watch) (added : List ℕ) : Type 0 where
+  pub said : Said
+  pub fault : List ℕ
+  pub more : List ℕ
+  pub says : Says old.reader.by (front_of line) (rest_of line) said
+  pub lines : new.lines ≡ next_line old.lines
+  pub by : new.reader.by ≡ old.reader.by
+  pub told : new.told ≡ old.told
+  pub takes : TakesSaid (front_of line) old.told new.lines said old new more
+  pub all : added ≡ fault ++ more
+
+abbrev pub AddsLine : List ℕ → Watch → Watch → List ℕ → List ℕ → Type 0
+AddsLine line old new before now = (added : List ℕ) × IsTaken line old new added × (now ≡ before ++ added)
+
+-- ** a run
+
+-- lines are taken one after another, each by what is known after those before it
+abbrev pub Runs : Watch → List (List ℕ) → Watch → List ℕ → Type 0
+Runs old [] new added = (new ≡ old) × (added ≡ [])
+Runs old (line ∷ lines) new added =
+    (mid : Watch) × (first : List ℕ) × (rest : List ℕ) × IsTaken line old mid first × Runs mid lines new rest
+    × (added ≡ first ++ rest)
+
+-- the lines that an LF ends in the text were taken, and the rest is what follows them
+pub record RunsSome (old new : Watch) (held held_after : Option (List ℕ)) (text rest : List ℕ) : Type 0 where
+  pub lines : List (List ℕ)
+  pub cut : Cut text lines rest
+  pub written : List ℕ
+  pub appended : Appends held held_after written
+  pub runs : Runs old lines new written
+
+-- a last line was taken, if there is one
+abbrev pub RunsLast : Watch → Watch → Option (List ℕ) → Option (List ℕ) → List ℕ → Type 0
+RunsLast old new held held_after text =
+    (written : List ℕ) × Appends held held_after written × Runs old (lines_of text) new written
+
+-- the reader was read to its end, and what was written is what the lines of what it gave add
+pub record RunsAll (old new : Watch) (left left_after held held_after : Option (List ℕ)) : Type 0 where
+  pub text : List ℕ
+  pub consumed : Consumes left left_after text
+  pub at_end : IsAtEnd left_after
+  pub last : RunsLast old new held held_after text
+
+-- nothing is known yet
+pub record IsFresh (by : Compared) (told : Told) (watch : Watch) : Type 0 where
+  pub compares : watch.reader.by ≡ by
+  pub tells : watch.told ≡ told
+  pub lines : watch.lines ≡ 0
+  pub known : (name : List ℕ) → known_in watch name ≡ nothing_known
+
+-- a run from nothing
+abbrev pub Watches : Compared → Told → Option (List ℕ) → Option (List ℕ) → Option (List ℕ) → Option (List ℕ) → Type 0
+Watches by told left left_after held held_after =
+    (first : Watch) × (last : Watch) × IsFresh by told first × RunsAll first last left left_after held held_after
