@@ -9,7 +9,7 @@ STD_OF_OURS = {"alloc", "str", "test"}              # modules of std of which a 
 OF_CRATE = {"net"}                                  # and those of which one stands for the crate alone,
 OF_TESTS = {"collections", "env", "fs", "simd"}     # or for the tests alone
 CRATES_OF_OURS = {"bitflags", "hex", "memchr", "json", "itoa"}
-NAMES_OF_OURS = {"Vec", "String", "HostRuntime", "Print"}       # of Rattle's prelude, where they differ
+NAMES_OF_OURS = {"Box", "Vec", "String", "HostRuntime", "Print"}     # of Rattle's prelude, where they differ
 IN_CORE = {"fmt", "marker", "ops", "slice", "str"}
 MACROS_OF_OURS = {"vec", "format", "print", "println", "eprintln", "assert", "assert_eq", "assert_ne", "panic"}
 

@@ -2,6 +2,7 @@
 
 pub mod alloc;
 pub mod bitflags;
+pub mod boxed;
 pub mod collections;
 pub mod env;
 pub mod fs;
