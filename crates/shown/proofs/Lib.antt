@@ -5,6 +5,7 @@ pub mod Lines
 pub mod Drafts
 pub mod Escapes
 pub mod Pages
+pub mod Noted
 pub mod Octets
 pub mod Names
 pub mod Flags

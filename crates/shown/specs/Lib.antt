@@ -2,4 +2,5 @@ pub mod Nesting
 pub mod Sheets
 pub mod Drafts
 pub mod Pages
+pub mod Marks
 pub mod Values

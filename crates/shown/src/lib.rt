@@ -4,10 +4,12 @@
 mod address;
 mod block;
 mod escape;
+pub mod marks;
 pub mod page;
 mod piece;
 pub mod room;
 mod sheet;
 
+pub use marks::{Mark, Marked};
 pub use page::{Nest, Page};
 pub use room::Room;

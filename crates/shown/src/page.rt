@@ -1,7 +1,7 @@
 //! An object that is written, member by member.
 
 ghost use Rattle.std.specs.Prelude.{◌≡◌, ◌==◌, ◌≤◌, true, List, [], ◌∷◌, ◌++◌, map, decimal, option_map, length, take};
-ghost use Rattle.std.specs.Prelude.{OnOk, IfOk};
+ghost use Rattle.std.specs.Prelude.{OnOk, IfOk, IfSome};
 ghost use Rattle.std.specs.List.{find};
 ghost use Rattle.std.specs.Fmt.{signed_decimal};
 ghost use Rattle.std.specs.Net.Addr.{ipv4_octets, ipv6_segments};
@@ -10,9 +10,11 @@ ghost use Rattle.hex.specs.Hex.{encode_lower};
 ghost use Rattle.json.specs.Token.{string, number, boolean};
 ghost use Rattle.shown.specs.Values.{hardware_address, name_or_number, named_number, flags_of};
 ghost use Rattle.shown.specs.Drafts.{named, empty_object, with_value, with_begun, Ends};
-ghost use Rattle.shown.specs.Pages.{IsWholeText, AddsText};
+ghost use Rattle.shown.specs.Marks.{scalar_token, noted, nothing_noted, marks_of};
+ghost use Rattle.shown.specs.Pages.{IsPlain, IsWholeText, AddsText, ended};
 
 use crate::address::address_text;
+use crate::marks::Marks;
 use crate::sheet::Sheet;
 use std::alloc::{AllocError, Global};
 use std::marker::Model;
@@ -28,23 +30,41 @@ pub enum Nest {
     List,
 }
 
+/// Whether the members of a page are marked as they are written, and whether a part of it could not be written.
+#[derive(Clone, Copy, Drop)]
+pub(crate) enum Writing {
+    Plain,
+    Marked,
+    Broken,
+}
+
+/// A value that is no object and no list.
+#[derive(Clone, Copy, Drop)]
+pub(crate) enum Scalar<'a> {
+    Text(&'a str),
+    Number(u64),
+    Signed(i64),
+    Truth(bool),
+}
+
 /// An object that is written, with the objects and lists that are open in it.
 ///
 /// A value goes to the innermost of them. A name that is passed is written where that is an object. What failed once,
-/// for lack of memory, fails from then on.
+/// for lack of memory, fails from then on. Where its members are marked, each write leaves at its first line for a copy
+/// that marks, so that other pages pay nothing for it.
 #[derive(Drop)]
 pub struct Page {
     alloc: Global,
     sheet: Sheet,
     outer: Vec<Nest>,
     inside: Nest,
-    whole: bool,
+    writing: Writing,
+    marks: Option<Box<Marks>>,
 }
 
 impl Model for Page {
-    ghost use Rattle.std.specs.Prelude.{◌≡◌, true, List, []};
     ghost use Rattle.shown.specs.Drafts.{Draft, draft_code};
-    ghost use Rattle.shown.specs.Pages.{IsPage};
+    ghost use Rattle.shown.specs.Marks.{IsWritten};
 
     ghost Value = { Draft };
 
@@ -56,7 +76,8 @@ impl Model for Page {
       outer = page.outer.items;
     } };
 
-    ghost invariant = { λ page. page.whole ≡ true → IsPage page.sheet page.inside page.outer.items };
+    ghost invariant = { λ page.
+        IsWritten page.writing page.marks page.sheet page.inside page.outer.items };
 }
 
 /// Writes a name, where one is due.
@@ -94,6 +115,19 @@ fn put_signed(sheet: &mut Sheet, inside: Nest, name: &str, value: i64) -> Result
     sheet.signed(value)
 }
 
+/// Writes a value that is no object and no list.
+fn put_scalar(sheet: &mut Sheet, value: Scalar<'_>) -> Result<(), AllocError>
+    ensures tokens { OnOk result (sheet.new ≡ sheet.old ++ scalar_token value.entry ∷ []) }
+    ensures plain { IsPlain (scalar_token value.entry) }
+{
+    match value {
+        Scalar::Text(text) => sheet.string(text),
+        Scalar::Number(number) => sheet.number(number),
+        Scalar::Signed(number) => sheet.signed(number),
+        Scalar::Truth(truth) => sheet.truth(truth),
+    }
+}
+
 /// The first row that has a number.
 fn row_of<'a>(names: &'a [(u64, &'a str)], value: u64) -> Option<&'a (u64, &'a str)>
     ensures { option_map (λ row. row.now) result ≡ find (λ row. row.0 == value) names.now }
@@ -106,49 +140,162 @@ impl Page {
     pub fn new(alloc: Global) -> Result<Page, AllocError>
         ensures { IfOk result (λ page. page ≡ empty_object) }
     {
-        Page::over(alloc, Vec::with_capacity(alloc, ROOM)?)
+        let room = Vec::with_capacity(alloc, ROOM)?;
+        Page::over(alloc, room, Vec::new(alloc), None)
     }
 
-    /// An object with no member, which is written over these bytes.
-    pub(crate) fn over(alloc: Global, room: Vec<u8>) -> Result<Page, AllocError>
+    /// An object with no member, which is written over these bytes, and whose members are marked where there are marks.
+    pub(crate) fn over(
+        alloc: Global,
+        room: Vec<u8>,
+        outer: Vec<Nest>,
+        marks: Option<Box<Marks>>,
+    ) -> Result<Page, AllocError>
+        requires nests { outer.items ≡ [] }
+        requires noted { IfSome marks (λ m. noted m.value ≡ nothing_noted) }
         ensures { IfOk result (λ page. page ≡ empty_object) }
     {
         let mut sheet = Sheet::new(alloc, room);
         sheet.begin(Nest::Object)?;
+        let writing = match &marks {
+            None => Writing::Plain,
+            Some(_) => Writing::Marked,
+        };
         Ok(Page {
             alloc,
             sheet,
-            outer: Vec::new(alloc),
+            outer,
             inside: Nest::Object,
-            whole: true,
+            writing,
+            marks,
         })
     }
 
+    /// Adds a value to a page whose members are marked.
+    #[cold]
+    #[inline(never)]
+    fn scalar_marked(&mut self, name: &str, value: Scalar<'_>) -> Result<(), AllocError>
+        ensures { OnOk result
+            (self.new ≡ with_value name.now (scalar_token value.entry ∷ []) self.old) }
+    {
+        let Writing::Marked = self.writing else {
+            return Err(AllocError);
+        };
+        self.writing = Writing::Broken;
+        let place = self.sheet.next_place();
+        put_name(&mut self.sheet, self.inside, name)?;
+        let at = self.sheet.next_place();
+        put_scalar(&mut self.sheet, value)?;
+        let Some(marks) = &mut self.marks else {
+            return Err(AllocError);
+        };
+        marks.scalar(self.inside, place, at, self.sheet.len())?;
+        self.writing = Writing::Marked;
+        Ok(())
+    }
+
+    /// Adds a text to a page whose members are marked.
+    #[cold]
+    #[inline(never)]
+    fn string_marked(&mut self, name: &str, text: &str) -> Result<(), AllocError>
+        ensures { OnOk result (self.new ≡ with_value name.now (string text.now ∷ []) self.old) }
+    {
+        self.scalar_marked(name, Scalar::Text(text))
+    }
+
+    /// Adds a number to a page whose members are marked.
+    #[cold]
+    #[inline(never)]
+    fn number_marked(&mut self, name: &str, value: u64) -> Result<(), AllocError>
+        ensures { OnOk result
+            (self.new ≡ with_value name.now (number (decimal value) ∷ []) self.old) }
+    {
+        self.scalar_marked(name, Scalar::Number(value))
+    }
+
+    /// Adds a number that may be below zero to a page whose members are marked.
+    #[cold]
+    #[inline(never)]
+    fn signed_marked(&mut self, name: &str, value: i64) -> Result<(), AllocError>
+        ensures { OnOk result
+            (self.new ≡ with_value name.now (number (signed_decimal value) ∷ []) self.old) }
+    {
+        self.scalar_marked(name, Scalar::Signed(value))
+    }
+
+    /// Begins an object or a list in a page whose members are marked.
+    #[cold]
+    #[inline(never)]
+    fn begin_marked(&mut self, name: &str, begun: Nest) -> Result<(), AllocError>
+        ensures { OnOk result (self.new ≡ with_begun name.now begun self.old) }
+    {
+        let Writing::Marked = self.writing else {
+            return Err(AllocError);
+        };
+        self.writing = Writing::Broken;
+        self.outer.push(self.inside)?;
+        let place = self.sheet.next_place();
+        put_name(&mut self.sheet, self.inside, name)?;
+        let Some(marks) = &mut self.marks else {
+            return Err(AllocError);
+        };
+        marks.begin(self.inside, place, self.sheet.next_place())?;
+        self.sheet.begin(begun)?;
+        self.inside = begun;
+        self.writing = Writing::Marked;
+        Ok(())
+    }
+
+    /// Ends the innermost object or list in a page whose members are marked.
+    #[cold]
+    #[inline(never)]
+    fn end_marked(&mut self) -> Result<(), AllocError>
+        ensures { OnOk result (Ends self.old self.new) }
+    {
+        let Writing::Marked = self.writing else {
+            return Err(AllocError);
+        };
+        let Some(outer) = self.outer.pop() else {
+            return Ok(());
+        };
+        self.writing = Writing::Broken;
+        self.sheet.end(self.inside)?;
+        let Some(marks) = &mut self.marks else {
+            return Err(AllocError);
+        };
+        marks.end(self.sheet.len());
+        self.inside = outer;
+        self.writing = Writing::Marked;
+        Ok(())
+    }
+
     /// Adds a text.
+    #[inline(never)]
     pub fn string(&mut self, name: &str, text: &str) -> Result<(), AllocError>
         ensures { OnOk result (self.new ≡ with_value name.now (string text.now ∷ []) self.old) }
     {
-        if !self.whole {
-            return Err(AllocError);
-        }
-        self.whole = false;
+        let Writing::Plain = self.writing else {
+            return self.string_marked(name, text);
+        };
+        self.writing = Writing::Broken;
         put_name(&mut self.sheet, self.inside, name)?;
         self.sheet.string(text)?;
-        self.whole = true;
+        self.writing = Writing::Plain;
         Ok(())
     }
 
     /// Adds a number.
+    #[inline(always)]
     pub fn number(&mut self, name: &str, value: u64) -> Result<(), AllocError>
         ensures { OnOk result
             (self.new ≡ with_value name.now (number (decimal value) ∷ []) self.old) }
     {
-        if !self.whole {
-            return Err(AllocError);
-        }
-        self.whole = false;
+        let Writing::Plain = self.writing else {
+            return self.number_marked(name, value);
+        };
+        self.writing = Writing::Broken;
         put_number(&mut self.sheet, self.inside, name, value)?;
-        self.whole = true;
+        self.writing = Writing::Plain;
         Ok(())
     }
 
@@ -157,12 +304,12 @@ impl Page {
         ensures { OnOk result
             (self.new ≡ with_value name.now (number (signed_decimal value) ∷ []) self.old) }
     {
-        if !self.whole {
-            return Err(AllocError);
-        }
-        self.whole = false;
+        let Writing::Plain = self.writing else {
+            return self.signed_marked(name, value);
+        };
+        self.writing = Writing::Broken;
         put_signed(&mut self.sheet, self.inside, name, value)?;
-        self.whole = true;
+        self.writing = Writing::Plain;
         Ok(())
     }
 
@@ -170,13 +317,13 @@ impl Page {
     pub fn truth(&mut self, name: &str, value: bool) -> Result<(), AllocError>
         ensures { OnOk result (self.new ≡ with_value name.now (boolean value ∷ []) self.old) }
     {
-        if !self.whole {
-            return Err(AllocError);
-        }
-        self.whole = false;
+        let Writing::Plain = self.writing else {
+            return self.scalar_marked(name, Scalar::Truth(value));
+        };
+        self.writing = Writing::Broken;
         put_name(&mut self.sheet, self.inside, name)?;
         self.sheet.truth(value)?;
-        self.whole = true;
+        self.writing = Writing::Plain;
         Ok(())
     }
 
@@ -184,15 +331,15 @@ impl Page {
     pub fn begin(&mut self, name: &str, nest: Nest) -> Result<(), AllocError>
         ensures { OnOk result (self.new ≡ with_begun name.now nest self.old) }
     {
-        if !self.whole {
-            return Err(AllocError);
-        }
-        self.whole = false;
+        let Writing::Plain = self.writing else {
+            return self.begin_marked(name, nest);
+        };
+        self.writing = Writing::Broken;
         self.outer.push(self.inside)?;
         put_name(&mut self.sheet, self.inside, name)?;
         self.sheet.begin(nest)?;
         self.inside = nest;
-        self.whole = true;
+        self.writing = Writing::Plain;
         Ok(())
     }
 
@@ -200,16 +347,16 @@ impl Page {
     pub fn end(&mut self) -> Result<(), AllocError>
         ensures { OnOk result (Ends self.old self.new) }
     {
-        if !self.whole {
-            return Err(AllocError);
-        }
+        let Writing::Plain = self.writing else {
+            return self.end_marked();
+        };
         let Some(around) = self.outer.pop() else {
             return Ok(());
         };
-        self.whole = false;
+        self.writing = Writing::Broken;
         self.sheet.end(self.inside)?;
         self.inside = around;
-        self.whole = true;
+        self.writing = Writing::Plain;
         Ok(())
     }
 
@@ -300,23 +447,34 @@ impl Page {
         self.end()
     }
 
-    /// Its bytes, of which so many are the text of the object, where all that was begun has been ended.
-    fn text(self) -> Result<(Vec<u8>, usize), AllocError>
+    /// Its bytes, of which so many are the text of the object, where all that was begun has been ended; what was open,
+    /// and its marks.
+    pub(crate) fn text(self) -> Result<(Vec<u8>, usize, Vec<Nest>, Option<Box<Marks>>), AllocError>
         ensures within { IfOk result (λ text. text.1 ≤ length text.0.items) }
         ensures whole { IfOk result (λ text. IsWholeText self (take text.1 text.0.items)) }
+        ensures marks { IfOk result
+            (λ text. IfSome text.3 (λ m. m.value.list.items ≡ marks_of (ended self))) }
     {
         let Page {
             mut sheet,
             outer,
             inside,
-            whole,
+            writing,
+            mut marks,
             ..
         } = self;
-        if !whole || !outer.is_empty() {
+        if let Writing::Broken = writing {
+            return Err(AllocError);
+        }
+        if !outer.is_empty() {
             return Err(AllocError);
         }
         sheet.end(inside)?;
-        Ok(sheet.into_bytes())
+        if let Some(marks) = &mut marks {
+            marks.end(sheet.len());
+        }
+        let (bytes, len) = sheet.into_bytes();
+        Ok((bytes, len, outer, marks))
     }
 
     /// Adds the text of the object to `out`. Where something that was begun has not been ended, it fails as where there
@@ -332,7 +490,7 @@ impl Page {
     pub(crate) fn finish_over(self, out: &mut Vec<u8>) -> Result<Vec<u8>, AllocError>
         ensures { OnOk result (AddsText self out.old.items out.new.items) }
     {
-        let (bytes, len) = self.text()?;
+        let (bytes, len, ..) = self.text()?;
         out.extend_from_slice(&bytes[..len])?;
         Ok(bytes)
     }

@@ -221,6 +221,7 @@ pub(crate) fn add_name(
 }
 
 /// Adds a string.
+#[inline(always)]
 pub(crate) fn add_string(
     bytes: &mut Vec<u8>,
     len: usize,

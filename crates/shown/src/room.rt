@@ -36,7 +36,7 @@ impl Room {
         if bytes.is_empty() {
             bytes = Vec::with_capacity(self.alloc, ROOM)?;
         }
-        Page::over(self.alloc, bytes)
+        Page::over(self.alloc, bytes, Vec::new(self.alloc), None)
     }
 
     /// Adds the text of the object to `out` as `Page::finish` does, and keeps the page's room for the next one.

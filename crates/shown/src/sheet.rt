@@ -4,6 +4,7 @@ ghost use Rattle.std.specs.Prelude.{◌≡◌, ◌≤◌, [], ◌∷◌, ◌++�
 ghost use Rattle.std.specs.Fmt.{signed_decimal};
 ghost use Rattle.json.specs.Token.{key, string, number, boolean};
 ghost use Rattle.json.specs.Print.{print, token_text};
+ghost use Rattle.shown.specs.Marks.{next_place};
 ghost use Rattle.shown.specs.Nesting.{opening, closing};
 
 use crate::page::Nest;
@@ -90,7 +91,22 @@ impl Sheet {
         (bytes, len)
     }
 
+    /// How many bytes the text has.
+    pub(crate) fn len(&self) -> usize
+        ensures { result ≡ length (print self.now) }
+    {
+        self.len
+    }
+
+    /// Where one more name or value begins, behind a comma where one is due.
+    pub(crate) fn next_place(&self) -> usize
+        ensures { result ≡ next_place self.now }
+    {
+        self.len + usize::from(self.after_value)
+    }
+
     /// Adds a name.
+    #[inline(always)]
     pub(crate) fn name(&mut self, name: &str) -> Result<(), AllocError>
         ensures { OnOk result (self.new ≡ self.old ++ key name.now ∷ []) }
     {
@@ -100,6 +116,7 @@ impl Sheet {
     }
 
     /// Adds a string.
+    #[inline(always)]
     pub(crate) fn string(&mut self, text: &str) -> Result<(), AllocError>
         ensures { OnOk result (self.new ≡ self.old ++ string text.now ∷ []) }
     {
@@ -128,6 +145,7 @@ impl Sheet {
     }
 
     /// Adds a number that may be below zero.
+    #[inline(always)]
     pub(crate) fn signed(&mut self, value: i64) -> Result<(), AllocError>
         ensures { OnOk result (self.new ≡ self.old ++ number (signed_decimal value) ∷ []) }
     {
@@ -148,6 +166,7 @@ impl Sheet {
     }
 
     /// Adds the beginning of an object or a list.
+    #[inline(always)]
     pub(crate) fn begin(&mut self, nest: Nest) -> Result<(), AllocError>
         ensures { OnOk result (self.new ≡ self.old ++ opening nest ∷ []) }
     {

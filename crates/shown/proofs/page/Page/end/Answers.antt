@@ -2,5 +2,6 @@ use Rattle.shown.proofs.Pages.{page_end}
 use Rattle.shown.proofs.page.Page.end.Goals as goal
 
 pub invariant_of-self-2 : goal.invariant_of-self-2
-invariant_of-self-2 c = λ _. rw c.in_ok-end.ensures
-    (page_end _ _ _ _ (rw c.in-Some.ensures.items at (c.self.invariant c.if-not-self.false)))
+invariant_of-self-2 c =
+    let page = rw c.in-Plain.is at c.self.invariant in
+    rw c.in_ok-end.ensures (page_end _ _ _ _ (rw c.in-Some.ensures.items at page.0), page.1)

@@ -4,5 +4,7 @@ use Rattle.shown.proofs.Lines.{decimal_on_line}
 use Rattle.shown.proofs.page.Page.number.Goals as goal
 
 pub invariant_of-self-2 : goal.invariant_of-self-2
-invariant_of-self-2 c = λ _. rw c.in_ok-put_number.ensures
-    (page_value _ _ _ _ _ (c.self.invariant c.if-not-self.false) (λ _. refl) (decimal_on_line _ c.ranges.value.fits))
+invariant_of-self-2 c =
+    let page = rw c.in-Plain.is at c.self.invariant in
+    rw c.in_ok-put_number.ensures
+    (page_value _ _ _ _ _ page.0 (λ _. refl) (decimal_on_line _ c.ranges.value.fits), page.1)

@@ -4,5 +4,6 @@ use Rattle.shown.proofs.Lines.{signed_on_line}
 use Rattle.shown.proofs.page.Page.signed.Goals as goal
 
 pub invariant_of-self-2 : goal.invariant_of-self-2
-invariant_of-self-2 c = λ _. rw c.in_ok-put_signed.ensures
-    (page_value _ _ _ _ _ (c.self.invariant c.if-not-self.false) (λ _. refl) (signed_on_line _ (search rules)))
+invariant_of-self-2 c =
+    let page = rw c.in-Plain.is at c.self.invariant in
+    rw c.in_ok-put_signed.ensures (page_value _ _ _ _ _ page.0 (λ _. refl) (signed_on_line _ (search rules)), page.1)

@@ -3,5 +3,6 @@ use Rattle.shown.proofs.Pages.{page_value}
 use Rattle.shown.proofs.page.Page.truth.Goals as goal
 
 pub invariant_of-self-2 : goal.invariant_of-self-2
-invariant_of-self-2 c = λ _. rw (c.in_ok-truth.ensures, c.in_ok-put_name.ensures)
-    (page_value _ _ _ _ _ (c.self.invariant c.if-not-self.false) (λ _. refl) tt)
+invariant_of-self-2 c =
+    let page = rw c.in-Plain.is at c.self.invariant in
+    rw (c.in_ok-truth.ensures, c.in_ok-put_name.ensures) (page_value _ _ _ _ _ page.0 (λ _. refl) tt, page.1)
