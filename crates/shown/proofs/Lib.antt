@@ -6,6 +6,7 @@ pub mod Drafts
 pub mod Escapes
 pub mod Pages
 pub mod Noted
+pub mod MarkTrees
 pub mod Octets
 pub mod Names
 pub mod Flags
