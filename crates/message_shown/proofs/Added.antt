@@ -15,11 +15,12 @@ use Rattle.line_filter.specs.Words.{are_alone, digits_of, front_of, rest_of}
 use Rattle.json.specs.Token.{Token, begin_object, key, string}
 use Rattle.json.specs.Print.{print, print_from, escape_byte}
 use Rattle.shown.specs.Drafts.{Draft, Members, empty_object, with_value, with_members, object_of}
+use Rattle.shown.specs.Marks.{MarkedText, IsMarkedText}
 use Rattle.shown.specs.Pages.{AddsText}
 use Rattle.shown.proofs.Drafts.{members_added}
 use Rattle.shown.proofs.Pages.{object_found, whole_text}
 use Rattle.link_msg.proofs.Reading.{message_agrees}
-use Rattle.message_shown.specs.Attributes.{message_line, TellsMessage}
+use Rattle.message_shown.specs.Attributes.{message_line, message_members, TellsMessage}
 use Rattle.message_shown.specs.Causes.{cause_text, cause_members, AddsFault}
 use Rattle.message_shown.specs.Lines.{IsAnswerTo, IsAnswerToSpelled, IsAnswerOf, head, whole_object}
 use Rattle.message_shown.specs.Lines.{AddsAnswer, AddsAnswerOf, AddsAnswerTo, AddsSpelled}
@@ -62,6 +63,22 @@ members_then words ms more member first worded named page e w n is =
     ∙ sym (fold-append (λ (p : Draft) m. with_value m.0 m.1 p)
     (with_value member.0 member.1 (with_members words empty_object)) ms more)
     ∙ sym (fold-append (λ (p : Draft) m. with_value m.0 m.1 p) empty_object words (member ∷ (ms ++ more)))
+
+-- members behind those of words
+pub words_then : (words ms : Members) (first worded page : Draft) → first ≡ empty_object
+    → worded ≡ with_members words first → page ≡ with_members ms worded
+    → page ≡ with_members (words ++ ms) empty_object
+words_then words ms first worded page e w is =
+    is ∙ ap (with_members ms) (w ∙ ap (with_members words) e)
+    ∙ sym (fold-append (λ (p : Draft) m. with_value m.0 m.1 p) empty_object words ms)
+
+-- a member, and others behind it
+pub members_next : (ms more : Members) (member : List ℕ × List Token) (first named page : Draft)
+    → named ≡ with_value member.0 member.1 first → page ≡ with_members more (with_members ms named)
+    → page ≡ with_members (member ∷ (ms ++ more)) first
+members_next ms more member first named page n is =
+    is ∙ ap (λ (d : Draft). with_members more (with_members ms d)) n
+    ∙ sym (fold-append (λ (p : Draft) m. with_value m.0 m.1 p) (with_value member.0 member.1 first) ms more)
 
 -- ** of a fault
 pub adds_fault : (words : Members) (text : List ℕ) (e : DecodeError) (first worded named page : Draft)
@@ -157,6 +174,19 @@ means_nothing b c m fault means =
 pub tells_fault : (words : Members) (cx : Context) (b old new : List ℕ) (c : Cause) → FirstFault b c
     → TellsMessage words cx b old new
 tells_fault words cx b old new c fault m means = absurd (means_nothing b c m fault means)
+
+-- a page whose members are marked
+pub marked_meant : (cx : Context) (b : List ℕ) (page : Draft) (shown : MarkedText) (m : LinkMessage) → Means b m
+    → page ≡ with_members (message_members cx b m) empty_object → IsMarkedText page shown
+    → (n : LinkMessage) → Means b n → IsMarkedText (with_members (message_members cx b n) empty_object) shown
+marked_meant cx b page shown m means is h n k =
+    subst (λ (d : Draft). IsMarkedText d shown)
+    (is ∙ ap (λ x. with_members (message_members cx b x) empty_object) (same_message b m n means k)) h
+
+pub marked_fault : (cx : Context) (b : List ℕ) (shown : MarkedText) (c : Cause) → FirstFault b c
+    → (n : LinkMessage) → Means b n → IsMarkedText (with_members (message_members cx b n) empty_object) shown
+marked_fault cx b shown c fault n means =
+    let clash : Err c ≡ Ok n = sym (message_agrees.refused b c fault) ∙ message_agrees.only b n means in absurd cc
 
 pub tells_spelled : (words : Members) (cx : Context) (digits room old new : List ℕ) → decode_of digits ≡ Ok room
     → TellsMessage words cx room old new → (b : List ℕ) → decode_of digits ≡ Ok b → TellsMessage words cx b old new

@@ -4,9 +4,11 @@ ghost use Rattle.std.specs.Prelude.{◌≡◌, ℕ, List, [], ◌∷◌, Ok, ◌
 ghost use Rattle.hex.specs.Hex.{decode_of};
 ghost use Rattle.nla_wire.specs.declared.error.Cause.TheVariants.{OutOfMemory};
 ghost use Rattle.link_msg.specs.Messages.{Means, FirstFault};
+ghost use Rattle.link_msg.specs.declared.message.LinkMessage.{LinkMessage};
 ghost use Rattle.message_shown.specs.Lines.{IsAnswer, AddsAnswerOf, AddsAnswerTo, AddsSpelled};
 ghost use Rattle.message_shown.specs.Lines.{whole_object, nothex_member};
 ghost use Rattle.shown.specs.Drafts.{empty_object, with_members};
+ghost use Rattle.shown.specs.Marks.{IsMarkedText};
 ghost use Rattle.message_shown.specs.Attributes.{message_members, message_line, TellsMessage};
 ghost use Rattle.message_shown.specs.Worded.{words_shown};
 ghost use Rattle.line_filter.specs.Lines.{with_lf};
@@ -24,7 +26,7 @@ use line_filter::digits::{decode, values};
 use line_filter::words::{are_alone, digits_of, split};
 use link_info::{Tables, all_rows};
 use link_msg::{Cause, DecodeError, LinkMessage};
-use shown::{Page, Room};
+use shown::{Marked, Page, Room};
 use std::alloc::{AllocError, Global};
 use std::mem;
 
@@ -72,25 +74,22 @@ impl Answer for Shown {
     ghost has = { each_answered };
 }
 
-/// What a message says, after the words in front of a line.
-fn message_page(
+/// Adds what a message says.
+fn show_message(
     cx: &Context<'_>,
-    room: &mut Room,
-    front: &[u8],
+    page: &mut Page,
     bytes: &[u8],
     message: &LinkMessage,
-) -> Result<Page, AllocError>
-    ensures { IfOk result (λ page. page ≡ with_members
-        (words_shown front.now ++ message_members cx.now bytes.now message.now) empty_object) }
+) -> Result<(), AllocError>
+    ensures { OnOk result
+        (page.new ≡ with_members (message_members cx.now bytes.now message.now) page.old) }
 {
-    let mut page = room.begin()?;
-    show_words(cx.alloc, &mut page, front)?;
     let family = u8::from(message.header.interface_family);
     page.number("ifi-family", family.into())?;
-    show_header(&mut page, bytes)?;
+    show_header(page, bytes)?;
     let attributes = message.attributes.as_slice();
-    show_members(&cx.with_address(attributes), &mut page, attributes)?;
-    Ok(page)
+    show_members(&cx.with_address(attributes), page, attributes)?;
+    Ok(())
 }
 
 /// Adds the answer to a line that spells this message.
@@ -108,7 +107,9 @@ fn push_message(
     ensures told { OnOk result (waiting.new.items ≡ waiting.old.items
         ++ with_lf (message_line (words_shown front.now) cx.now bytes.now message.now)) }
 {
-    let page = message_page(cx, room, front, bytes, message)?;
+    let mut page = room.begin()?;
+    show_words(cx.alloc, &mut page, front)?;
+    show_message(cx, &mut page, bytes, message)?;
     room.finish(page, waiting)?;
     waiting.push(b'\n')?;
     Ok(())
@@ -134,6 +135,29 @@ fn push_fault(
     room.finish(page, waiting)?;
     waiting.push(b'\n')?;
     Ok(())
+}
+
+/// Writes what these bytes say on a page whose members are marked.
+pub fn show_marked(cx: &Context<'_>, bytes: &[u8], marked: &mut Marked) -> Result<(), AllocError>
+    ensures { OnOk result ((m : LinkMessage) → Means bytes.now m
+        → IsMarkedText (with_members (message_members cx.now bytes.now m) empty_object) marked.new) }
+{
+    let mut page = marked.begin()?;
+    match LinkMessage::parse(cx.alloc, bytes) {
+        Ok(message) => {
+            show_message(cx, &mut page, bytes, &message)?;
+            marked.keep(page)
+        }
+        Err(error) => {
+            let cause = &error.cause;
+            if let Cause::OutOfMemory = cause {
+                return Err(AllocError);
+            }
+            page.string("fault", cause_name(cause))?;
+            show_fault(cx, &mut page, bytes, &error)?;
+            marked.keep(page)
+        }
+    }
 }
 
 /// Adds the answer to a line of words alone.

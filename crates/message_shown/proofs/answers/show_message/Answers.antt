@@ -7,9 +7,8 @@ use Rattle.shown.specs.Drafts.{with_members, with_value}
 use Rattle.message_shown.specs.Attributes.{around, attribute_said, header_members}
 use Rattle.message_shown.specs.Lines.{family_member}
 use Rattle.message_shown.specs.Places.{items_of, members_of}
-use Rattle.message_shown.specs.Worded.{words_shown}
-use Rattle.message_shown.proofs.Added.{members_then}
-use Rattle.message_shown.proofs.answers.message_page.Goals as goal
+use Rattle.message_shown.proofs.Added.{members_next}
+use Rattle.message_shown.proofs.answers.show_message.Goals as goal
 
 pub returns : goal.returns
 returns c =
@@ -19,9 +18,8 @@ returns c =
     c.into.ensures ∙ c.from-family.ensures in
     let shown : c.show_members.new.page ≡ with_members members c.show_header.new.page =
     simp (c.with_address.ensures, c.as_slice-attributes.ensures) at c.in_ok-show_members.ensures in
-    members_then (words_shown c.args.front.now) (header_members c.args.bytes.now) members (family_member m)
-    c.in_ok-page.page c.show_words.new.page c.number.new.self c.show_members.new.page c.in_ok-page.ensures
-    c.in_ok-show_words.ensures
+    members_next (header_members c.args.bytes.now) members (family_member m) c.args.page.now c.number.new.self
+    c.show_members.new.page
     (c.in_ok-number.ensures
-    ∙ ap (λ n. with_value (codes "ifi-family") (number (decimal n) ∷ []) c.show_words.new.page) family)
+    ∙ ap (λ n. with_value (codes "ifi-family") (number (decimal n) ∷ []) c.args.page.now) family)
     (shown ∙ ap (with_members members) c.in_ok-show_header.ensures)
