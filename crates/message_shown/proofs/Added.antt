@@ -15,17 +15,17 @@ use Rattle.line_filter.specs.Words.{are_alone, digits_of, front_of, rest_of}
 use Rattle.json.specs.Token.{Token, begin_object, key, string}
 use Rattle.json.specs.Print.{print, print_from, escape_byte}
 use Rattle.shown.specs.Drafts.{Draft, Members, empty_object, with_value, with_members, object_of}
-use Rattle.shown.specs.Marks.{MarkedText, IsMarkedText}
 use Rattle.shown.specs.Pages.{AddsText}
 use Rattle.shown.proofs.Drafts.{members_added}
 use Rattle.shown.proofs.Pages.{object_found, whole_text}
 use Rattle.link_msg.proofs.Reading.{message_agrees}
-use Rattle.message_shown.specs.Attributes.{message_line, message_members, TellsMessage}
+use Rattle.message_shown.specs.Attributes.{message_line, TellsMessage}
 use Rattle.message_shown.specs.Causes.{cause_text, cause_members, AddsFault}
 use Rattle.message_shown.specs.Lines.{IsAnswerTo, IsAnswerToSpelled, IsAnswerOf, head, whole_object}
-use Rattle.message_shown.specs.Lines.{AddsAnswer, AddsAnswerOf, AddsAnswerTo, AddsSpelled}
+use Rattle.message_shown.specs.Lines.{TellsLine, AddsAnswer, AddsAnswerOf, AddsAnswerTo, AddsSpelled}
 use Rattle.message_shown.specs.Lines.{fault_member, fault_head, family_member, nothex_member}
 use Rattle.message_shown.specs.Worded.{words_shown}
+use Rattle.message_shown.specs.declared.answers.Shown.{Shown}
 use Rattle.message_shown.specs.declared.context.Context.{Context}
 
 -- ** what is added
@@ -175,28 +175,15 @@ pub tells_fault : (words : Members) (cx : Context) (b old new : List ℕ) (c : C
     → TellsMessage words cx b old new
 tells_fault words cx b old new c fault m means = absurd (means_nothing b c m fault means)
 
--- a page whose members are marked
-pub marked_meant : (cx : Context) (b : List ℕ) (page : Draft) (shown : MarkedText) (m : LinkMessage) → Means b m
-    → page ≡ with_members (message_members cx b m) empty_object → IsMarkedText page shown
-    → (n : LinkMessage) → Means b n → IsMarkedText (with_members (message_members cx b n) empty_object) shown
-marked_meant cx b page shown m means is h n k =
-    subst (λ (d : Draft). IsMarkedText d shown)
-    (is ∙ ap (λ x. with_members (message_members cx b x) empty_object) (same_message b m n means k)) h
-
-pub marked_fault : (cx : Context) (b : List ℕ) (shown : MarkedText) (c : Cause) → FirstFault b c
-    → (n : LinkMessage) → Means b n → IsMarkedText (with_members (message_members cx b n) empty_object) shown
-marked_fault cx b shown c fault n means =
-    let clash : Err c ≡ Ok n = sym (message_agrees.refused b c fault) ∙ message_agrees.only b n means in absurd cc
-
-pub tells_spelled : (words : Members) (cx : Context) (digits room old new : List ℕ) → decode_of digits ≡ Ok room
-    → TellsMessage words cx room old new → (b : List ℕ) → decode_of digits ≡ Ok b → TellsMessage words cx b old new
-tells_spelled words cx digits room old new h tells b is =
+pub line_spelled : (shown : Shown) (front digits room old new : List ℕ) → decode_of digits ≡ Ok room
+    → TellsLine shown front room old new → (b : List ℕ) → decode_of digits ≡ Ok b → TellsLine shown front b old new
+line_spelled shown front digits room old new h tells b is =
     let same : room ≡ b = let both : Ok room ≡ Ok b = sym h ∙ is in cc in
-    subst (λ x. TellsMessage words cx x old new) same tells
+    subst (λ x. TellsLine shown front x old new) same tells
 
-pub tells_nothex : (words : Members) (cx : Context) (digits old new : List ℕ) (e : FromHexError)
-    → decode_of digits ≡ Err e → (b : List ℕ) → decode_of digits ≡ Ok b → TellsMessage words cx b old new
-tells_nothex words cx digits old new e h b is = let clash : Err e ≡ Ok b = sym h ∙ is in absurd cc
+pub line_nothex : (shown : Shown) (front digits old new : List ℕ) (e : FromHexError)
+    → decode_of digits ≡ Err e → (b : List ℕ) → decode_of digits ≡ Ok b → TellsLine shown front b old new
+line_nothex shown front digits old new e h b is = let clash : Err e ≡ Ok b = sym h ∙ is in absurd cc
 
 -- the answer to a line of digits that spell no bytes, without words
 pub not_hex_line : with_lf (whole_object (nothex_member ∷ [])) ≡ codes "{\"fault\":\"not-hex\"}\n"

@@ -1,5 +1,5 @@
 -- What each line is answered.
-use Rattle.std.specs.Prelude.{◌≡◌, ℕ, List, [], ◌∷◌, ◌++◌, codes, Result, Ok, Err, MatchBool}
+use Rattle.std.specs.Prelude.{◌≡◌, ℕ, List, [], ◌∷◌, ◌++◌, codes, None, Result, Ok, Err, MatchBool}
 use Rattle.std.specs.List.{flat_map}
 use Rattle.hex.specs.Hex.{decode_of}
 use Rattle.hex.specs.declared.error.FromHexError.{FromHexError}
@@ -16,7 +16,10 @@ use Rattle.shown.specs.Values.{numbered}
 use Rattle.line_filter.specs.Lines.{with_lf}
 use Rattle.line_filter.specs.Steps as steps
 use Rattle.line_filter.specs.Words.{are_alone, digits_of, front_of, rest_of}
-use Rattle.message_shown.specs.Worded.{words_shown}
+use Rattle.message_shown.specs.Worded.{words_shown, order_for}
+use Rattle.message_shown.specs.Attributes.{TellsMessage}
+use Rattle.message_shown.specs.declared.context.Context.{Context}
+use Rattle.message_shown.specs.declared.answers.Shown.{Shown}
 
 -- how an answer begins: the words in front of the line, and a member
 abbrev pub head : Members → List ℕ × List Token → List Token
@@ -79,3 +82,18 @@ AddsAnswerOf front rest old new = (answer : List ℕ) × IsAnswerOf front rest a
 -- the answer to the line was added
 abbrev pub AddsAnswer : List ℕ → List ℕ → List ℕ → Type 0
 AddsAnswer = steps.AddsAnswer IsAnswer
+
+-- ** which tokens are added
+
+-- what attributes of a line with these words are shown by: the tables, and the order that the words say
+pub record IsContextOf (shown : Shown) (front : List ℕ) (cx : Context) : Type 0 where
+  pub tables : cx.tables.now ≡ shown.tables
+  pub order : cx.order ≡ order_for front shown.order
+  pub link : cx.link_place ≡ None
+  pub port : cx.port_place ≡ None
+  pub address : cx.address_len ≡ 0
+
+-- where the bytes mean a message, the text of its members was added
+abbrev pub TellsLine : Shown → List ℕ → List ℕ → List ℕ → List ℕ → Type 0
+TellsLine shown front bytes old new =
+    (cx : Context) × IsContextOf shown front cx × TellsMessage (words_shown front) cx bytes old new

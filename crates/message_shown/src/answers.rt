@@ -1,12 +1,12 @@
 //! The answer to a line.
 
-ghost use Rattle.std.specs.Prelude.{◌≡◌, ℕ, List, [], ◌∷◌, Ok, ◌++◌, ◌/◌, OnOk, IfOk, IfErr, ◌≢◌, false, length};
+ghost use Rattle.std.specs.Prelude.{◌≡◌, ℕ, List, [], ◌∷◌, Ok, ◌++◌, ◌/◌, OnOk, false, length};
 ghost use Rattle.hex.specs.Hex.{decode_of};
 ghost use Rattle.nla_wire.specs.declared.error.Cause.TheVariants.{OutOfMemory};
 ghost use Rattle.link_msg.specs.Messages.{Means, FirstFault};
 ghost use Rattle.link_msg.specs.declared.message.LinkMessage.{LinkMessage};
 ghost use Rattle.message_shown.specs.Lines.{IsAnswer, AddsAnswerOf, AddsAnswerTo, AddsSpelled};
-ghost use Rattle.message_shown.specs.Lines.{whole_object, nothex_member};
+ghost use Rattle.message_shown.specs.Lines.{whole_object, nothex_member, TellsLine};
 ghost use Rattle.shown.specs.Drafts.{empty_object, with_members};
 ghost use Rattle.shown.specs.Marks.{IsMarkedText};
 ghost use Rattle.message_shown.specs.Attributes.{message_members, message_line, TellsMessage};
@@ -51,6 +51,73 @@ impl Shown {
     }
 }
 
+impl Shown {
+    /// Adds the answer to a line that spells these bytes.
+    fn push_message(
+        &mut self,
+        alloc: Global,
+        front: &[u8],
+        bytes: &[u8],
+        waiting: &mut Vec<u8>,
+    ) -> Result<(), AllocError>
+        ensures answer { OnOk result (AddsAnswerTo (words_shown front.now) bytes.now
+            waiting.old.items waiting.new.items) }
+        ensures told { OnOk result (TellsLine self.old front.now bytes.now
+            waiting.old.items waiting.new.items) }
+    {
+        let tables = self.tables;
+        let cx = Context::new(alloc, &tables, order_for(front, self.order));
+        let mut room = mem::replace(&mut self.room, Room::new(alloc));
+        let done = push_bytes_in(&cx, &mut room, waiting, front, bytes);
+        self.room = room;
+        done
+    }
+
+    /// Adds the answer to a line with these digits after its words. `message` has room for the bytes that they spell.
+    fn push_digits(
+        &mut self,
+        alloc: Global,
+        front: &[u8],
+        digits: &[u8],
+        message: &mut [u8],
+        waiting: &mut Vec<u8>,
+    ) -> Result<(), AllocError>
+        requires { length message.old ≡ length digits.now / 2 }
+        ensures answer { OnOk result
+            (AddsSpelled (words_shown front.now) digits.now waiting.old.items waiting.new.items) }
+        ensures told { OnOk result ((bytes : List ℕ) → decode_of digits.now ≡ Ok bytes
+            → TellsLine self.old front.now bytes waiting.old.items waiting.new.items) }
+    {
+        if !decode(digits, values(), message) {
+            return push_not_hex(alloc, &mut self.room, waiting, front);
+        }
+        self.push_message(alloc, front, message, waiting)
+    }
+
+    /// Adds the answer to a line with this rest after its words. `message` is room for the bytes that it spells.
+    fn push_rest(
+        &mut self,
+        alloc: Global,
+        front: &[u8],
+        rest: &[u8],
+        message: &mut Vec<u8>,
+        waiting: &mut Vec<u8>,
+    ) -> Result<(), AllocError>
+        ensures answer { OnOk result
+            (AddsAnswerOf front.now rest.now waiting.old.items waiting.new.items) }
+        ensures told { OnOk result ((bytes : List ℕ) → are_alone front.now rest.now ≡ false
+            → decode_of (digits_of rest.now) ≡ Ok bytes
+            → TellsLine self.old front.now bytes waiting.old.items waiting.new.items) }
+    {
+        if are_alone(front, rest) {
+            return push_alone(alloc, &mut self.room, waiting, front);
+        }
+        let digits = digits_of(rest);
+        message.resize(digits.len() / 2, 0)?;
+        self.push_digits(alloc, front, digits, message.as_mut_slice(), waiting)
+    }
+}
+
 impl Answer for Shown {
     ghost is_answer = { IsAnswer };
 
@@ -61,13 +128,9 @@ impl Answer for Shown {
         waiting: &mut Vec<u8>,
     ) -> Result<(), AllocError> {
         let (front, rest) = split(line);
-        self.message.resize(digits_of(rest).len() / 2, 0)?;
-        let tables = self.tables;
-        let cx = Context::new(alloc, &tables, order_for(front, self.order));
-        let mut room = mem::replace(&mut self.room, Room::new(alloc));
-        let message = self.message.as_mut_slice();
-        let done = push_rest(&cx, &mut room, waiting, front, rest, message);
-        self.room = room;
+        let mut message = mem::replace(&mut self.message, Vec::new(alloc));
+        let done = self.push_rest(alloc, front, rest, &mut message, waiting);
+        self.message = message;
         done
     }
 
@@ -137,25 +200,47 @@ fn push_fault(
     Ok(())
 }
 
+/// Writes what a message says, whose bytes these are, on a page whose members are marked.
+fn mark_message(
+    cx: &Context<'_>,
+    bytes: &[u8],
+    message: &LinkMessage,
+    marked: &mut Marked,
+) -> Result<(), AllocError>
+    ensures { OnOk result (IsMarkedText (with_members
+        (message_members cx.now bytes.now message.now) empty_object) marked.new) }
+{
+    let mut object = marked.begin()?;
+    show_message(cx, &mut object, bytes, message)?;
+    marked.keep(object)
+}
+
+/// Writes why these bytes are no message on a page whose members are marked.
+fn mark_fault(
+    cx: &Context<'_>,
+    bytes: &[u8],
+    error: &DecodeError,
+    marked: &mut Marked,
+) -> Result<(), AllocError> {
+    let mut object = marked.begin()?;
+    object.string("fault", cause_name(&error.cause))?;
+    show_fault(cx, &mut object, bytes, error)?;
+    marked.keep(object)
+}
+
 /// Writes what these bytes say on a page whose members are marked.
 pub fn show_marked(cx: &Context<'_>, bytes: &[u8], marked: &mut Marked) -> Result<(), AllocError>
     ensures { OnOk result ((m : LinkMessage) → Means bytes.now m
-        → IsMarkedText (with_members (message_members cx.now bytes.now m) empty_object) marked.new) }
+        → IsMarkedText (with_members (message_members cx.now bytes.now m) empty_object)
+        marked.new) }
 {
-    let mut page = marked.begin()?;
     match LinkMessage::parse(cx.alloc, bytes) {
-        Ok(message) => {
-            show_message(cx, &mut page, bytes, &message)?;
-            marked.keep(page)
-        }
-        Err(error) => {
-            let cause = &error.cause;
-            if let Cause::OutOfMemory = cause {
+        Ok(message) => mark_message(cx, bytes, &message, marked),
+        Err(refusal) => {
+            if let Cause::OutOfMemory = refusal.cause {
                 return Err(AllocError);
             }
-            page.string("fault", cause_name(cause))?;
-            show_fault(cx, &mut page, bytes, &error)?;
-            marked.keep(page)
+            mark_fault(cx, bytes, &refusal, marked)
         }
     }
 }
@@ -239,51 +324,6 @@ pub fn push_bytes_in(
             push_fault(cx, room, waiting, front, bytes, &error)
         }
     }
-}
-
-/// Adds the answer to a line with these digits after its words. `message` has room for the bytes that they spell, and
-/// `room` for the page.
-fn push_digits(
-    cx: &Context<'_>,
-    room: &mut Room,
-    waiting: &mut Vec<u8>,
-    front: &[u8],
-    digits: &[u8],
-    message: &mut [u8],
-) -> Result<(), AllocError>
-    requires { length message.old ≡ length digits.now / 2 }
-    ensures answer { OnOk result
-        (AddsSpelled (words_shown front.now) digits.now waiting.old.items waiting.new.items) }
-    ensures told { OnOk result ((bytes : List ℕ) → decode_of digits.now ≡ Ok bytes
-        → TellsMessage (words_shown front.now) cx.now bytes waiting.old.items waiting.new.items) }
-{
-    if !decode(digits, values(), message) {
-        return push_not_hex(cx.alloc, room, waiting, front);
-    }
-    push_bytes_in(cx, room, waiting, front, message)
-}
-
-/// Adds the answer to a line with this rest after its words. `message` has room for the bytes that it spells, and
-/// `room` for the page.
-fn push_rest(
-    cx: &Context<'_>,
-    room: &mut Room,
-    waiting: &mut Vec<u8>,
-    front: &[u8],
-    rest: &[u8],
-    message: &mut [u8],
-) -> Result<(), AllocError>
-    requires { length message.old ≡ length (digits_of rest.now) / 2 }
-    ensures answer { OnOk result
-        (AddsAnswerOf front.now rest.now waiting.old.items waiting.new.items) }
-    ensures told { OnOk result ((bytes : List ℕ) → are_alone front.now rest.now ≡ false
-        → decode_of (digits_of rest.now) ≡ Ok bytes
-        → TellsMessage (words_shown front.now) cx.now bytes waiting.old.items waiting.new.items) }
-{
-    if are_alone(front, rest) {
-        return push_alone(cx.alloc, room, waiting, front);
-    }
-    push_digits(cx, room, waiting, front, digits_of(rest), message)
 }
 
 /// Adds the answer to these bytes alone: what they say, or why they are no message.
