@@ -2,6 +2,6 @@
 #![tactic(auto)]
 
 #[cfg(test)]
-mod beside;
-#[cfg(test)]
 mod messages;
+#[cfg(test)]
+mod parts;

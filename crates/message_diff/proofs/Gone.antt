@@ -14,10 +14,10 @@ use Rattle.message_diff.specs.declared.store.Entry.{Entry}
 use Rattle.message_diff.specs.declared.store.Host.{Host}
 use Rattle.message_diff.specs.declared.store.Known.{Known}
 use Rattle.message_diff.specs.declared.watch.Told.{Told}
-use Rattle.message_diff.specs.Known.{Item, Seen, Picture, key_cmp, is_key, is_among, in_family, parts, ends, text_of}
+use Rattle.message_diff.specs.Known.{Item, Picture, key_cmp, is_key, is_among, in_family, parts, ends, text_of}
 use Rattle.message_diff.specs.Known.{of_after, run_after, whole_after}
 use Rattle.message_diff.specs.Told.{says, is_told, told_text, own_text, is_new_told, AreEnded, IsGone, AreGone}
-use Rattle.message_diff.specs.Told.{NewsOf, IsNews, Tells, AddsGone, AddsAllGone, AddsNews, AddsTold}
+use Rattle.message_diff.specs.Told.{NewsOf, IsNews, AddsGone, AddsAllGone, AddsNews, AddsTold}
 use Rattle.message_diff.specs.Held.{IsAfter, held, held_in, run_in, taken, picture, seen_in, text_in, whole_in}
 use Rattle.message_diff.specs.Held.{text_told}
 use Rattle.message_diff.proofs.Pictures.{drop_is}

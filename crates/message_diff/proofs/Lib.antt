@@ -7,4 +7,3 @@ pub mod Gone
 pub mod Hosts
 pub mod Runs
 pub mod Meant
-pub mod Extends

@@ -1,16 +1,21 @@
 //! What of the changes is of what the state encodings of the messages have at zero.
 
+use crate::desk::Pair;
 use crate::differences::Change;
-use crate::frames::{is_in, part_of, place_in};
-use crate::marks::marked;
-use crate::outer::{Outer, apart, members_at};
-use crate::rows::{Paths, rows};
-use crate::snapshot::Snapshot;
-use message_shown::answers::push_answer;
+use crate::half::Half;
+use link_msg::header::HEADER_SIZE;
+use link_state::{Level, fill};
+use link_vals::AddressFamily;
 use std::alloc::{AllocError, Global};
+
+/// What stands in the place of zeros, where counters are looked for.
+const FILLED: u8 = 1;
 
 /// Whether a value may stand for zeros: no digit from 1 to 9 stands in it.
 fn may_be_zero(value: &[u8]) -> bool {
+    if let [digit] = value {
+        return *digit == b'0';
+    }
     !value.iter().any(|byte| matches!(*byte, b'1'..=b'9'))
 }
 
@@ -39,159 +44,15 @@ fn may_be_cleared(path: &[u8], was: &[u8], is: &[u8], may_differ: bool) -> bool 
     (!is_sure || may_differ && is_of_kind(path)) && (may_be_zero(was) || may_be_zero(is))
 }
 
-/// One of two messages.
-#[derive(Clone, Copy)]
-enum Side {
-    Old,
-    New,
-}
-
-/// What may be cleared of a change: its path, and in which of the messages.
-#[derive(Clone, Copy)]
-struct Doubt<'a> {
-    path: &'a [u8],
-    in_old: bool,
-    in_new: bool,
-}
-
-impl Doubt<'_> {
-    /// Whether it is one of the message of this side.
-    fn is_of(&self, side: Side) -> bool {
-        match side {
-            Side::Old => self.in_old,
-            Side::New => self.in_new,
-        }
-    }
-}
-
-/// What may be cleared of a change.
-fn doubt_of<'a>(change: &Change<'a>, may_differ: bool) -> Doubt<'a> {
-    let (path, in_old, in_new) = match *change {
-        Change::Came(path, value) => (path, false, may_be_zero(value)),
-        Change::Went(path, value) => (path, may_be_zero(value), false),
+/// Whether the old value of a change may be cleared, and the new one.
+fn doubt_of(change: &Change<'_>, may_differ: bool) -> (bool, bool) {
+    match *change {
+        Change::Came(_, value) => (false, may_be_zero(value)),
+        Change::Went(_, value) => (may_be_zero(value), false),
         Change::Turned(path, was, is) => {
             let may_be = may_be_cleared(path, was, is, may_differ);
-            (path, may_be, may_be)
+            (may_be, may_be)
         }
-    };
-    Doubt {
-        path,
-        in_old,
-        in_new,
-    }
-}
-
-/// What may be cleared of each change.
-fn doubts<'a>(alloc: Global, changes: &[Change<'a>]) -> Result<Vec<Doubt<'a>>, AllocError> {
-    let may_differ = kinds_may_differ(changes);
-    let mut doubts = Vec::with_capacity(alloc, changes.len())?;
-    for change in changes {
-        doubts.push(doubt_of(change, may_differ))?;
-    }
-    Ok(doubts)
-}
-
-/// The paths of a line whose values differ in the other one, of which `is_part` says whether it has only some of the
-/// members.
-fn paths_apart(
-    alloc: Global,
-    line: Outer<'_>,
-    marked: &[u8],
-    is_part: bool,
-) -> Result<Paths, AllocError> {
-    let apart = apart(alloc, line, marked)?;
-    let own = members_at(alloc, line, apart.old.as_slice(), is_part)?;
-    let rows = rows(alloc, own.as_slice(), apart.members())?;
-    Ok(rows.into_paths())
-}
-
-/// The paths of a message whose values its state encoding has at zero, as far as they were looked for.
-#[derive(Drop)]
-pub struct Cleared {
-    /// The message with other numbers in their place; nothing where it is not made yet.
-    marked: Vec<u8>,
-    /// Of each member of the message's line, whether they were looked for in it.
-    known: Vec<bool>,
-    paths: Paths,
-}
-
-impl Cleared {
-    /// None, of a message where they were not looked for.
-    pub fn new(alloc: Global) -> Cleared {
-        Cleared {
-            marked: Vec::new(alloc),
-            known: Vec::new(alloc),
-            paths: Paths::new(alloc),
-        }
-    }
-
-    /// Marks the members into which the doubtful paths lead and in which they were not looked for, and returns whether
-    /// there are any.
-    fn mark(&self, side: Side, line: Outer<'_>, doubts: &[Doubt<'_>], wanted: &mut [bool]) -> bool {
-        let mut likely = 0;
-        let mut is_any = false;
-        for doubt in doubts.iter().filter(|doubt| doubt.is_of(side)) {
-            if let Some(place) = place_in(line, doubt.path, likely) {
-                likely = place;
-                if let Some(it) = wanted.get_mut(place) {
-                    *it = !is_in(self.known.as_slice(), place);
-                    is_any |= *it;
-                }
-            }
-        }
-        is_any
-    }
-
-    /// Looks for them in the members into which the doubtful paths lead, if that was not done.
-    fn find(
-        &mut self,
-        alloc: Global,
-        side: Side,
-        snapshot: &Snapshot,
-        ends: &[usize],
-        doubts: &[Doubt<'_>],
-    ) -> Result<(), AllocError> {
-        let line = Outer {
-            text: snapshot.line(),
-            ends,
-        };
-        let mut wanted = Vec::new(alloc);
-        wanted.resize(ends.len(), false)?;
-        if !self.mark(side, line, doubts, wanted.as_mut_slice()) {
-            return Ok(());
-        }
-        self.look(alloc, snapshot, line, wanted.as_slice())?;
-        self.keep(wanted.as_slice())
-    }
-
-    /// Keeps that they were looked for in these members.
-    fn keep(&mut self, looked: &[bool]) -> Result<(), AllocError> {
-        self.known.resize(looked.len(), false)?;
-        for (known, is_looked) in self.known.iter_mut().zip(looked.iter()) {
-            *known |= *is_looked;
-        }
-        Ok(())
-    }
-
-    /// Looks for them in these members: the message says the same with other numbers in their place.
-    fn look(
-        &mut self,
-        alloc: Global,
-        snapshot: &Snapshot,
-        line: Outer<'_>,
-        wanted: &[bool],
-    ) -> Result<(), AllocError> {
-        if self.marked.is_empty() {
-            self.marked = marked(alloc, snapshot.message())?;
-        }
-        let text = self.marked.as_slice();
-        if let Some(part) = part_of(alloc, text, snapshot.text(), line, wanted)? {
-            let mut shown = Vec::with_capacity(alloc, line.text.len())?;
-            push_answer(alloc, snapshot.order(), &mut shown, part.message.as_slice())?;
-            let paths = paths_apart(alloc, line, shown.as_slice(), part.is_part)?;
-            self.paths.append(&paths)?;
-        }
-        Ok(())
     }
 }
 
@@ -205,38 +66,88 @@ fn left_of<'a>(change: &Change<'a>, by_old: bool, by_new: bool) -> Option<Change
     }
 }
 
-/// What two messages clear, an old one and a new one.
+/// The counters of two messages, each with other bytes in the place of the zeros of its state encoding: they are the
+/// rows whose values differ then.
 #[derive(Drop)]
 pub struct Counters {
-    pub old: Cleared,
-    pub new: Cleared,
+    filled: Vec<u8>,
+    old: Half,
+    new: Half,
+}
+
+/// Takes the rows of a message that its state encoding has at zero.
+fn take_counters(
+    alloc: Global,
+    of: &Half,
+    is_part: bool,
+    filled: &mut Vec<u8>,
+    counters: &mut Half,
+) -> Result<(), AllocError> {
+    let text = of.part.text();
+    let family = text.first().copied().unwrap_or(0);
+    let start = HEADER_SIZE.min(text.len());
+    filled.clear();
+    filled.extend_from_slice(text)?;
+    let level = Level::Message(AddressFamily::from(family));
+    fill::<FILLED>(&mut filled.as_mut_slice()[start..], level);
+    if !counters.part.take_filled(filled.as_slice(), text)? {
+        return Ok(());
+    }
+    if !is_part {
+        counters.part.take(filled.as_slice())?;
+    }
+    counters.show(alloc, of.order)?;
+    counters.take_rows_of(of, is_part)
 }
 
 impl Counters {
-    /// The changes from an old message to a new one without what these clear. It is passed where the members of the new
-    /// message's line end.
+    /// None. It takes no memory.
+    pub fn new(alloc: Global) -> Counters {
+        Counters {
+            filled: Vec::new(alloc),
+            old: Half::new(alloc),
+            new: Half::new(alloc),
+        }
+    }
+
+    /// Takes those of the messages in which a change may be of one.
+    fn take(
+        &mut self,
+        alloc: Global,
+        pair: &Pair,
+        changes: &[Change<'_>],
+        may_differ: bool,
+    ) -> Result<(), AllocError> {
+        let filled = &mut self.filled;
+        self.old.rows.clear();
+        self.new.rows.clear();
+        if changes.iter().any(|it| doubt_of(it, may_differ).0) {
+            take_counters(alloc, &pair.old, pair.is_part, filled, &mut self.old)?;
+        }
+        if changes.iter().any(|it| doubt_of(it, may_differ).1) {
+            take_counters(alloc, &pair.new, pair.is_part, filled, &mut self.new)?;
+        }
+        Ok(())
+    }
+
+    /// The changes from the old message to the new one without what their state encodings have at zero.
     pub fn leave_out<'a>(
         &mut self,
         alloc: Global,
-        old: &Snapshot,
-        new: &Snapshot,
-        new_ends: &[usize],
+        pair: &Pair,
         changes: Vec<Change<'a>>,
     ) -> Result<Vec<Change<'a>>, AllocError> {
-        let doubts = doubts(alloc, changes.as_slice())?;
-        self.old
-            .find(alloc, Side::Old, old, old.ends(), doubts.as_slice())?;
-        self.new
-            .find(alloc, Side::New, new, new_ends, doubts.as_slice())?;
-        if self.old.paths.is_empty() && self.new.paths.is_empty() {
+        let may_differ = kinds_may_differ(changes.as_slice());
+        self.take(alloc, pair, changes.as_slice(), may_differ)?;
+        if self.old.rows.is_empty() && self.new.rows.is_empty() {
             return Ok(changes);
         }
         let mut left = Vec::with_capacity(alloc, changes.len())?;
-        let mut in_old = 0;
-        let mut in_new = 0;
-        for (change, doubt) in changes.iter().zip(doubts.iter()) {
-            let by_old = doubt.in_old && self.old.paths.contains(doubt.path, &mut in_old);
-            let by_new = doubt.in_new && self.new.paths.contains(doubt.path, &mut in_new);
+        let (mut in_old, mut in_new) = (0, 0);
+        for change in changes.iter() {
+            let (may_old, may_new) = doubt_of(change, may_differ);
+            let by_old = may_old && self.old.rows.contains(change.path(), &mut in_old);
+            let by_new = may_new && self.new.rows.contains(change.path(), &mut in_new);
             if let Some(it) = left_of(change, by_old, by_new) {
                 left.push(it)?;
             }

@@ -18,6 +18,15 @@ pub enum Change<'a> {
     Turned(&'a [u8], &'a [u8], &'a [u8]),
 }
 
+impl<'a> Change<'a> {
+    /// Its path.
+    pub fn path(&self) -> &'a [u8] {
+        match *self {
+            Change::Came(path, _) | Change::Went(path, _) | Change::Turned(path, _, _) => path,
+        }
+    }
+}
+
 /// The value of a row with this path, which is looked for first where it is likely; the next one is likely after it.
 pub fn value_of<'a>(rows: &[Row<'a>], path: &[u8], likely: &mut usize) -> Option<&'a [u8]>
     ensures { MatchOption result (Lacks rows.now path.now)

@@ -1,5 +1,6 @@
 //! One file beside another.
 
+use crate::desk::Desk;
 use crate::key::Key;
 use crate::lines::{read_lines, write_out};
 use crate::snapshot::{Compared, Snapshot};
@@ -38,6 +39,7 @@ impl Untold {
 /// What is written, and what is not told.
 #[derive(Drop)]
 struct Written {
+    desk: Desk,
     out: Vec<u8>,
     untold: Vec<Untold>,
 }
@@ -118,15 +120,23 @@ fn push_entry(
     was: Entry,
     is: &mut Entry,
     is_replaced: bool,
-    out: &mut Vec<u8>,
+    written: &mut Written,
 ) -> Result<(), AllocError> {
     let mut last = was;
+    let Written { desk, out, .. } = written;
     let front = is.front.as_slice();
     if is_replaced {
         push_gone(alloc, last.front.as_slice(), &last.snapshot, out)?;
         return push_new(alloc, front, &is.snapshot, out);
     }
-    push_changed(alloc, front, &mut last.snapshot, &mut is.snapshot, out)?;
+    push_changed(
+        alloc,
+        front,
+        &mut last.snapshot,
+        &mut is.snapshot,
+        desk,
+        out,
+    )?;
     Ok(())
 }
 
@@ -149,7 +159,7 @@ fn push_host(
             Some(was) => {
                 if let Some(entry) = was.last {
                     let other = is_replaced(&mut replaced, *key, &entry.snapshot, &is.snapshot)?;
-                    push_entry(alloc, entry, is, other, &mut written.out)?;
+                    push_entry(alloc, entry, is, other, written)?;
                 }
             }
             None if side.tells(Some(old), key.family) => {
@@ -241,6 +251,7 @@ pub fn compare_readers<R: Read, S: Read, W: Write>(
     let mut first = read_all(alloc, by, old, writer)?;
     let mut second = read_all(alloc, by, new, writer)?;
     let mut written = Written {
+        desk: Desk::new(alloc),
         out: Vec::new(alloc),
         untold: Vec::new(alloc),
     };

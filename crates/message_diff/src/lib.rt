@@ -4,17 +4,17 @@
 
 mod alone;
 mod announced;
-mod beside;
 mod counters;
+mod desk;
 mod differences;
 mod files;
 mod frames;
+mod half;
 mod key;
 mod line;
 mod lines;
-mod marks;
 mod members;
-mod outer;
+mod parts;
 mod reading;
 mod rows;
 mod snapshot;
@@ -23,6 +23,7 @@ mod told;
 mod watch;
 mod words;
 
+pub use desk::Desk;
 pub use files::{Untold, compare_readers};
 pub use snapshot::{Compared, Snapshot};
 pub use told::{push_changed, push_compared, push_gone, push_new};

@@ -4,7 +4,7 @@ ghost use Rattle.std.specs.Prelude.{◌≤◌, ◌<◌, OnOk, length};
 ghost use Rattle.message_diff.specs.Compared.{Extends};
 
 use crate::differences::Change;
-use crate::members::value_in;
+use crate::members::Members;
 use crate::words::push_words;
 use std::alloc::{AllocError, Global};
 
@@ -22,13 +22,12 @@ fn push_member(out: &mut Vec<u8>, name: &str, value: &[u8]) -> Result<(), AllocE
     out.extend_from_slice(value)
 }
 
-/// Begins a line: the words that are told, what became of the interface, and which it is, by the line that `Shown`
-/// writes of it.
+/// Begins a line: the words that are told, what became of the interface, and which it is, by its members.
 pub fn push_head(
     alloc: Global,
     front: &[u8],
     change: &str,
-    line: &[u8],
+    members: Members<'_>,
     out: &mut Vec<u8>,
 ) -> Result<(), AllocError>
     ensures said { OnOk result (length out.old.items < length out.new.items) }
@@ -39,7 +38,7 @@ pub fn push_head(
     out.extend_from_slice(change.as_bytes())?;
     out.push(b'"')?;
     for name in &NAMES {
-        if let Some(value) = value_in(line, name) {
+        if let Some(value) = members.value_of(name.as_bytes()) {
             push_member(out, name, value)?;
         }
     }

@@ -86,6 +86,9 @@ fn push_refusal(
 pub fn word_of<'a>(front: &'a [u8], key: &[u8]) -> &'a [u8]
     ensures { result.now ≡ value_or_nothing (value_in key.now (words_of front.now)) }
 {
+    if front.is_empty() {
+        return b"";
+    }
     match value_of(front, key) {
         Some(value) => value,
         None => b"",

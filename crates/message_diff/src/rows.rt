@@ -1,15 +1,11 @@
 //! The members that two texts do not have in common, one below the other.
 
-ghost use Rattle.std.specs.Prelude.{◌<◌, length};
+ghost use Rattle.std.specs.Prelude.{◌<◌, ◌^◌, length, IfSome};
 
-use crate::members::Member;
+use crate::members::Members;
+use itoa::Buffer;
+use shown::Mark;
 use std::alloc::{AllocError, Global};
-
-/// How many rows there is room for at first.
-const ROOM: usize = 32;
-
-/// How many bytes of its path there is room for in each of these.
-const PATH_ROOM: usize = 32;
 
 /// A member that holds no other: its path and its value, as they stand in the text.
 ///
@@ -22,249 +18,238 @@ pub struct Row<'a> {
     pub value: &'a [u8],
 }
 
-/// Paths, one behind the other.
-#[derive(Drop)]
-pub struct Paths {
-    text: Vec<u8>,
-    ends: Vec<usize>,
-}
-
-impl Paths {
-    /// None.
-    pub fn new(alloc: Global) -> Paths {
-        Paths {
-            text: Vec::new(alloc),
-            ends: Vec::new(alloc),
-        }
-    }
-
-    pub fn is_empty(&self) -> bool {
-        self.ends.is_empty()
-    }
-
-    /// Adds a path.
-    fn push(&mut self, path: &[u8]) -> Result<(), AllocError> {
-        self.text.extend_from_slice(path)?;
-        self.ends.push(self.text.len())?;
-        Ok(())
-    }
-
-    /// Adds paths.
-    pub fn append(&mut self, others: &Paths) -> Result<(), AllocError> {
-        for place in 0..others.ends.len() {
-            self.push(others.at(place))?;
-        }
-        Ok(())
-    }
-
-    /// The path at this place; nothing where there is none.
-    fn at(&self, place: usize) -> &[u8] {
-        let start = match place {
-            0 => 0,
-            _ => self.ends.get(place - 1).copied().unwrap_or(0),
-        };
-        match self.ends.get(place) {
-            Some(end) => self.text.get(start..*end).unwrap_or(b""),
-            None => b"",
-        }
-    }
-
-    /// Whether this is one of them. It is looked for first where it is likely; the next one is likely after it.
-    pub fn contains(&self, path: &[u8], likely: &mut usize) -> bool {
-        if self.at(*likely) == path {
-            *likely = (*likely).saturating_add(1);
-            return true;
-        }
-        let text = self.text.as_slice();
-        let mut start = 0;
-        for (place, end) in self.ends.iter().enumerate() {
-            let is_as_long = end.saturating_sub(start) == path.len();
-            if is_as_long && text.get(start..*end) == Some(path) {
-                *likely = place.saturating_add(1);
-                return true;
-            }
-            start = *end;
-        }
-        false
-    }
-}
-
-/// The paths and the values of rows.
-#[derive(Drop)]
-pub struct RowList<'a> {
-    paths: Paths,
-    values: Vec<&'a [u8]>,
-}
-
-impl<'a> RowList<'a> {
-    /// No row, with room for some.
-    fn new(alloc: Global) -> Result<RowList<'a>, AllocError> {
-        Ok(RowList {
-            paths: Paths {
-                text: Vec::with_capacity(alloc, ROOM * PATH_ROOM)?,
-                ends: Vec::with_capacity(alloc, ROOM)?,
-            },
-            values: Vec::with_capacity(alloc, ROOM)?,
-        })
-    }
-
-    /// The rows.
-    pub fn list(&self, alloc: Global) -> Result<Vec<Row<'_>>, AllocError> {
-        let text = self.paths.text.as_slice();
-        let mut rows = Vec::with_capacity(alloc, self.values.len())?;
-        let mut start = 0;
-        for (end, value) in self.paths.ends.iter().zip(self.values.iter()) {
-            rows.push(Row {
-                path: text.get(start..*end).unwrap_or(b""),
-                value,
-            })?;
-            start = *end;
-        }
-        Ok(rows)
-    }
-
-    /// The paths alone.
-    pub fn into_paths(self) -> Paths {
-        let RowList { paths, .. } = self;
-        paths
-    }
-}
-
-/// The members of another text beside those of an object or list that is open: where the first one stands, and where
-/// they end.
+/// A row: where its path ends among the paths, and the place of its member.
 #[derive(Clone, Copy)]
-struct Beside {
+struct Spot {
+    end: usize,
+    mark: usize,
+}
+
+/// An object or list that is open: where its members end, and those beside them, of the other text.
+#[derive(Clone, Copy)]
+struct Open {
+    end: usize,
     path_len: usize,
     first: usize,
-    end: usize,
+    others_end: usize,
     /// Where the next one is likely.
     likely: usize,
 }
 
-impl Beside {
-    /// The member with this one's name, and the place behind it: it is looked for first where it is likely.
-    fn find<'b>(
-        &self,
-        others: &'b [Member<'b>],
-        member: &Member<'_>,
-    ) -> Option<(usize, &'b Member<'b>)> {
-        if self.likely < self.end && self.likely < others.len() {
-            let other = &others[self.likely];
-            if other.is_named_as(member) {
-                return Some((self.likely.saturating_add(1), other));
+/// The members of a text that another text does not have, with room that is kept from one text to the next.
+#[derive(Drop)]
+pub struct Rows {
+    /// The paths, one behind the other.
+    paths: Vec<u8>,
+    spots: Vec<Spot>,
+    /// The path of what is open.
+    path: Vec<u8>,
+    open: Vec<Open>,
+}
+
+/// Whether two values are the same. Many are one digit.
+#[inline(always)]
+fn are_same(one: &[u8], other: &[u8]) -> bool {
+    if let ([a], [b]) = (one, other) {
+        return *a == *b;
+    }
+    one == other
+}
+
+impl Open {
+    /// The place of the other text's member with this one's name: it is looked for first where it is likely.
+    #[inline(always)]
+    fn find(&self, own: Members<'_>, mark: &Mark, others: Members<'_>) -> Option<usize>
+        ensures { IfSome result (λ place. place < length others.entry.marks.now) }
+    {
+        let likely = self.likely;
+        if likely < self.others_end && likely < others.marks.len() {
+            let other = &others.marks[likely];
+            if others.is_named_as(other, own, mark) {
+                return Some(likely);
             }
         }
-        let mut at = self.first;
-        for _members in self.first..self.end {
-            if at >= self.end || at >= others.len() {
-                return None;
-            }
-            let other = &others[at];
-            if other.is_named_as(member) {
-                return Some((at.saturating_add(1), other));
-            }
-            at = other.end;
-        }
-        None
+        others.find(self.first, self.others_end, own, mark)
     }
 }
 
-/// A walk over the members of a text, beside those of another one.
-#[derive(Drop)]
-struct Walk<'a> {
-    alloc: Global,
-    path: Vec<u8>,
-    open: Vec<Beside>,
-    rows: RowList<'a>,
-}
+impl Rows {
+    /// No row. It takes no memory.
+    pub fn new(alloc: Global) -> Rows {
+        Rows {
+            paths: Vec::new(alloc),
+            spots: Vec::new(alloc),
+            path: Vec::new(alloc),
+            open: Vec::new(alloc),
+        }
+    }
 
-impl<'a> Walk<'a> {
+    /// Whether there is none.
+    pub fn is_empty(&self) -> bool {
+        self.spots.is_empty()
+    }
+
+    /// Forgets all rows.
+    pub fn clear(&mut self) {
+        self.paths.clear();
+        self.spots.clear();
+        self.path.clear();
+        self.open.clear();
+    }
+
+    /// Whether there is a row with this path. It is looked for first where it is likely; the next one is likely after
+    /// it.
+    pub fn contains(&self, path: &[u8], likely: &mut usize) -> bool {
+        if self.path_at(*likely) == path {
+            *likely = (*likely).saturating_add(1);
+            return true;
+        }
+        for place in 0..self.spots.len() {
+            if self.path_at(place) == path {
+                *likely = place + 1;
+                return true;
+            }
+        }
+        false
+    }
+
+    /// The path of the row at this place; nothing where there is none.
+    fn path_at(&self, place: usize) -> &[u8] {
+        let start = match place {
+            0 => 0,
+            _ => self.spots.get(place - 1).map_or(0, |spot| spot.end),
+        };
+        match self.spots.get(place) {
+            Some(spot) => self.paths.get(start..spot.end).unwrap_or(b""),
+            None => b"",
+        }
+    }
+
+    /// The rows, which are of these members.
+    pub fn list<'a>(
+        &'a self,
+        alloc: Global,
+        members: Members<'a>,
+    ) -> Result<Vec<Row<'a>>, AllocError> {
+        let mut rows = Vec::with_capacity(alloc, self.spots.len())?;
+        let mut start = 0;
+        for spot in self.spots.iter() {
+            rows.push(Row {
+                path: self.paths.get(start..spot.end).unwrap_or(b""),
+                value: members.value_at(spot.mark),
+            })?;
+            start = spot.end;
+        }
+        Ok(rows)
+    }
+
     /// Makes the path that of a member of what is open.
-    fn name(&mut self, len: usize, member: &Member<'_>) -> Result<(), AllocError> {
+    fn name(&mut self, len: usize, own: Members<'_>, mark: &Mark) -> Result<(), AllocError> {
         self.path.truncate(len);
         if len > 0 {
             self.path.push(b'.')?;
         }
-        if !member.name.is_empty() {
-            return self.path.extend_from_slice(member.name);
+        let name = mark.name_in(own.text);
+        if !name.is_empty() {
+            return self.path.extend_from_slice(name);
         }
-        let place = member.place;
-        let name = format!(in self.alloc; "{place}")?;
-        self.path.extend_from_slice(name.as_str().as_bytes())
+        let mut digits = Buffer::new();
+        self.path
+            .extend_from_slice(digits.format(mark.place).as_bytes())
     }
 
-    /// Adds a row, or begins the members in the value, beside those of the other text from one place to before another.
-    fn begin(
-        &mut self,
-        member: &Member<'a>,
-        is_open: bool,
-        inside: (usize, usize),
-    ) -> Result<(), AllocError> {
-        if is_open {
-            self.open.push(Beside {
+    /// Adds the row of the member at this place, or opens it beside the members of the other text from one place to
+    /// before another.
+    fn add(&mut self, at: usize, mark: &Mark, inside: (usize, usize)) -> Result<(), AllocError>
+        requires { at < 2 ^ 63 }
+    {
+        if at + 1 < mark.next {
+            self.open.push(Open {
+                end: mark.next,
                 path_len: self.path.len(),
                 first: inside.0,
-                end: inside.1,
+                others_end: inside.1,
                 likely: inside.0,
             })?;
             return Ok(());
         }
-        self.rows.paths.push(self.path.as_slice())?;
-        self.rows.values.push(member.value)?;
+        self.paths.extend_from_slice(self.path.as_slice())?;
+        self.spots.push(Spot {
+            end: self.paths.len(),
+            mark: at,
+        })?;
         Ok(())
     }
 
+    /// Closes what ends before the member at this place.
+    #[inline(always)]
+    fn close(&mut self, at: usize) {
+        for _open in 0..self.open.len() {
+            match self.open.last() {
+                Some(open) if open.end <= at => {
+                    self.open.pop();
+                }
+                _ => break,
+            }
+        }
+    }
+
     /// Passes the member at this place, and returns the place of the next one that is to be passed: where the other
-    /// text has the same value, all that is in it is left out.
+    /// text has the same value, all that is in it is left out. Where `is_part`, so is one of whose name it has none.
     fn pass(
         &mut self,
         at: usize,
-        member: &Member<'a>,
-        others: &[Member<'_>],
-    ) -> Result<usize, AllocError> {
-        let next = at.saturating_add(1);
-        self.open.truncate(member.depth.saturating_add(1));
-        let Some(beside) = self.open.last_mut() else {
-            return Ok(next);
+        own: Members<'_>,
+        others: Members<'_>,
+        is_part: bool,
+    ) -> Result<usize, AllocError>
+        requires { at < length own.marks.now }
+    {
+        self.close(at);
+        let mark = &own.marks[at];
+        let Some(open) = self.open.last_mut() else {
+            return Ok(mark.next);
         };
-        let len = beside.path_len;
+        let len = open.path_len;
         let mut inside = (0, 0);
-        if let Some((first, other)) = beside.find(others, member) {
-            beside.likely = other.end;
-            if other.value == member.value {
-                return Ok(member.end);
+        if let Some(place) = open.find(own, mark, others) {
+            let other = &others.marks[place];
+            open.likely = other.next;
+            if are_same(other.value_in(others.text), mark.value_in(own.text)) {
+                return Ok(mark.next);
             }
-            inside = (first, other.end);
+            inside = (place + 1, other.next);
+        } else if is_part {
+            return Ok(mark.next);
         }
-        self.name(len, member)?;
-        self.begin(member, next < member.end, inside)?;
-        Ok(next)
+        self.name(len, own, mark)?;
+        self.add(at, mark, inside)?;
+        Ok(at + 1)
     }
-}
 
-/// The rows of these members that the other ones do not have.
-pub fn rows<'a>(
-    alloc: Global,
-    members: &[Member<'a>],
-    others: &[Member<'_>],
-) -> Result<RowList<'a>, AllocError> {
-    let mut walk = Walk {
-        alloc,
-        path: Vec::new(alloc),
-        open: Vec::new(alloc),
-        rows: RowList::new(alloc)?,
-    };
-    walk.open.push(Beside {
-        path_len: 0,
-        first: 0,
-        end: others.len(),
-        likely: 0,
-    })?;
-    let mut next = 0;
-    for (i, member) in members.iter().enumerate() {
-        if i >= next {
-            next = walk.pass(i, member, others)?;
+    /// Takes the rows of these members that the other ones do not have; where `is_part`, only those whose path they
+    /// have with another value.
+    pub fn take(
+        &mut self,
+        own: Members<'_>,
+        others: Members<'_>,
+        is_part: bool,
+    ) -> Result<(), AllocError> {
+        self.clear();
+        self.open.push(Open {
+            end: own.marks.len(),
+            path_len: 0,
+            first: 0,
+            others_end: others.marks.len(),
+            likely: 0,
+        })?;
+        let mut next = 0;
+        for _members in 0..own.marks.len() {
+            if next >= own.marks.len() {
+                break;
+            }
+            next = self.pass(next, own, others, is_part)?;
         }
+        Ok(())
     }
-    Ok(walk.rows)
 }

@@ -7,10 +7,9 @@ ghost use Rattle.message_diff.specs.Alone.{AddsAlone};
 
 use crate::alone::push_alone;
 use crate::counters::Counters;
+use crate::desk::{Desk, Pair};
 use crate::differences::{Change, differences};
 use crate::line::{push_changes, push_head, push_texts};
-use crate::outer::{Outer, apart, members_at};
-use crate::rows::rows;
 use crate::snapshot::{Compared, Snapshot};
 use link_msg::CanonError;
 use message_shown::context::Order;
@@ -60,64 +59,44 @@ fn push_differences(
     push_changes(out, changes)
 }
 
-/// Adds a line for an interface whose encoding is another, and returns where the members of the new line end.
+/// Adds a line for an interface whose encoding is another, by what is shown of both.
+fn push_shown(
+    alloc: Global,
+    front: &[u8],
+    old: &Snapshot,
+    new: &Snapshot,
+    pair: &Pair,
+    counters: &mut Counters,
+    out: &mut Vec<u8>,
+) -> Result<(), AllocError>
+    ensures said { OnOk result (length out.old.items < length out.new.items) }
+    ensures added { OnOk result (Extends out.old.items out.new.items) }
+{
+    let was = pair.old.list(alloc)?;
+    let is = pair.new.list(alloc)?;
+    let mut changes = differences(alloc, was.as_slice(), is.as_slice())?;
+    if new.by() == Compared::State {
+        changes = counters.leave_out(alloc, pair, changes)?;
+    }
+    push_head(alloc, front, "changed", pair.new.members(), out)?;
+    push_differences(alloc, old, new, changes.as_slice(), out)
+}
+
+/// The same, with room to show them in.
 fn push_difference(
     alloc: Global,
     front: &[u8],
     old: &Snapshot,
     new: &Snapshot,
-    counters: &mut Counters,
-    out: &mut Vec<u8>,
-) -> Result<Vec<usize>, AllocError>
-    ensures said { OnOk result (length out.old.items < length out.new.items) }
-    ensures added { OnOk result (Extends out.old.items out.new.items) }
-{
-    let outer = Outer {
-        text: old.line(),
-        ends: old.ends(),
-    };
-    let apart = apart(alloc, outer, new.line())?;
-    let was = members_at(alloc, outer, apart.old.as_slice(), false)?;
-    let is = apart.members();
-    let old_rows = rows(alloc, was.as_slice(), is)?;
-    let new_rows = rows(alloc, is, was.as_slice())?;
-    let old_list = old_rows.list(alloc)?;
-    let new_list = new_rows.list(alloc)?;
-    let mut changes = differences(alloc, old_list.as_slice(), new_list.as_slice())?;
-    if new.by() == Compared::State {
-        changes = counters.leave_out(alloc, old, new, apart.ends.as_slice(), changes)?;
-    }
-    push_head(alloc, front, "changed", new.line(), out)?;
-    push_differences(alloc, old, new, changes.as_slice(), out)?;
-    Ok(apart.into_ends())
-}
-
-/// The same, where what was found of the messages stays with them.
-fn push_known(
-    alloc: Global,
-    front: &[u8],
-    old: &mut Snapshot,
-    new: &mut Snapshot,
+    desk: &mut Desk,
     out: &mut Vec<u8>,
 ) -> Result<(), AllocError>
     ensures said { OnOk result (length out.old.items < length out.new.items) }
     ensures added { OnOk result (Extends out.old.items out.new.items) }
-    ensures old_kept { old.new ≡ old.old }
-    ensures new_kept { new.new ≡ new.old }
 {
-    let mut counters = Counters {
-        old: old.take_cleared(alloc),
-        new: new.take_cleared(alloc),
-    };
-    let ends = push_difference(alloc, front, old, new, &mut counters, out)?;
-    let Counters {
-        old: of_old,
-        new: of_new,
-    } = counters;
-    old.keep_cleared(of_old);
-    new.keep_cleared(of_new);
-    new.keep_ends(ends);
-    Ok(())
+    let orders = (old.order(), new.order());
+    desk.pair.show(alloc, orders, old.text(), new.text())?;
+    push_shown(alloc, front, old, new, &desk.pair, &mut desk.counters, out)
 }
 
 /// Adds a line that tells what changed of the interface, if its encoding is another, and returns whether it is.
@@ -131,6 +110,7 @@ pub fn push_changed(
     front: &[u8],
     old: &mut Snapshot,
     new: &mut Snapshot,
+    desk: &mut Desk,
     out: &mut Vec<u8>,
 ) -> Result<bool, AllocError>
     ensures told { IfOk result (λ told. (told ≡ false) ↔ (old.old ≡ new.old)) }
@@ -144,10 +124,7 @@ pub fn push_changed(
     if old.text() == new.text() {
         return Ok(false);
     }
-    old.show(alloc)?;
-    old.find_ends(alloc)?;
-    new.show_beside(alloc, old)?;
-    push_known(alloc, front, old, new, out)?;
+    push_difference(alloc, front, old, new, desk, out)?;
     Ok(true)
 }
 
@@ -171,7 +148,8 @@ pub fn push_compared(
 {
     let mut was = Snapshot::new(alloc, by, order, old)?;
     let mut is = Snapshot::new(alloc, by, order, new)?;
-    match push_changed(alloc, b"", &mut was, &mut is, out) {
+    let mut desk = Desk::new(alloc);
+    match push_changed(alloc, b"", &mut was, &mut is, &mut desk, out) {
         Ok(told) => Ok(told),
         Err(AllocError) => Err(CanonError::OutOfMemory),
     }

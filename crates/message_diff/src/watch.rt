@@ -1,11 +1,12 @@
 //! What is done with each line.
 
-ghost use Rattle.std.specs.Prelude.{◌≡◌, ◌↔◌, ℕ, OnOk, None, Some, cond};
+ghost use Rattle.std.specs.Prelude.{◌≡◌, ◌↔◌, ℕ, [], OnOk, None, Some, cond};
 ghost use Rattle.std.specs.List.Sorted.{IsStrictlySortedBy};
 ghost use Rattle.message_diff.specs.declared.key.Key.{Key};
 ghost use Rattle.message_diff.specs.Compared.{Extends};
 ghost use Rattle.message_diff.specs.Known.{Item, key_cmp, is_among, is_ended_with, is_now, parts, without};
 ghost use Rattle.message_diff.specs.Known.{whole_after};
+ghost use Rattle.message_diff.specs.declared.reading.Said.TheVariants.{Blind};
 ghost use Rattle.message_diff.specs.declared.watch.Told.TheVariants.{All};
 ghost use Rattle.message_diff.specs.Told.{says, is_told_gone, is_new_told, own_text};
 ghost use Rattle.message_diff.specs.Told.{AddsGone, AddsAllGone, AddsNews, AddsTold};
@@ -14,6 +15,7 @@ ghost use Rattle.message_diff.specs.Held.{Applies, MayBeOther, Puts};
 ghost use Rattle.message_diff.specs.Watched.{IsFresh, AddsFor, AddsSaid, AddsLine, Watches};
 
 use crate::announced::are_two_kinds;
+use crate::desk::Desk;
 use crate::key::{AF_BRIDGE, AF_INET6, Key};
 use crate::lines::read_lines;
 use crate::reading::{LineReader, Said, word_of};
@@ -46,6 +48,7 @@ fn replace(
     front: &[u8],
     last: &mut Snapshot,
     new: Snapshot,
+    desk: &mut Desk,
     out: &mut Vec<u8>,
 ) -> Result<(), AllocError>
     ensures silent { OnOk result ((last.old ≡ new) ↔ (out.new.items ≡ out.old.items)) }
@@ -53,7 +56,7 @@ fn replace(
     ensures last { OnOk result (last.new ≡ new) }
 {
     let mut snapshot = new;
-    if push_changed(alloc, front, last, &mut snapshot, out)? {
+    if push_changed(alloc, front, last, &mut snapshot, desk, out)? {
         *last = snapshot;
     }
     Ok(())
@@ -287,6 +290,7 @@ impl Line<'_> {
         key: Key,
         last: Entry,
         snapshot: Snapshot,
+        desk: &mut Desk,
         out: &mut Vec<u8>,
     ) -> Result<(), AllocError>
         ensures known { OnOk result ((q : Key) → (picture host.new).of q
@@ -305,7 +309,7 @@ impl Line<'_> {
             snapshot: was,
         } = last;
         let mut kept = was;
-        replace(self.alloc, self.front, &mut kept, snapshot, out)?;
+        replace(self.alloc, self.front, &mut kept, snapshot, desk, out)?;
         let entry = Entry {
             front,
             snapshot: kept,
@@ -320,6 +324,7 @@ impl Line<'_> {
         host: &mut Host,
         key: Key,
         snapshot: Snapshot,
+        desk: &mut Desk,
         out: &mut Vec<u8>,
     ) -> Result<(), AllocError>
         ensures known { OnOk result (Puts self.entry.front.now self.entry.told self.entry.at key
@@ -331,7 +336,7 @@ impl Line<'_> {
             return self.keep(host, key, snapshot, out);
         };
         if !is_another(&last.snapshot, &snapshot) {
-            return self.put_beside(host, key, last, snapshot, out);
+            return self.put_beside(host, key, last, snapshot, desk, out);
         }
         self.tell_gone(&last.snapshot, out)?;
         self.end_parts(host, key, out)?;
@@ -344,6 +349,7 @@ impl Line<'_> {
         host: &mut Host,
         key: Key,
         snapshot: Snapshot,
+        desk: &mut Desk,
         out: &mut Vec<u8>,
     ) -> Result<(), AllocError>
         ensures known { OnOk result (Puts self.entry.front.now self.entry.told self.entry.at key
@@ -354,16 +360,22 @@ impl Line<'_> {
         if self.told.says() && host.see_same(key, self.at, snapshot.text())? {
             return Ok(());
         }
-        self.put_over(host, key, snapshot, out)
+        self.put_over(host, key, snapshot, desk, out)
     }
 
     /// Adds what is to be written of what the line says, and keeps what is known from then on.
-    fn apply(self, host: &mut Host, said: Said, out: &mut Vec<u8>) -> Result<(), AllocError>
+    fn apply(
+        self,
+        host: &mut Host,
+        said: Said,
+        desk: &mut Desk,
+        out: &mut Vec<u8>,
+    ) -> Result<(), AllocError>
         ensures { OnOk result (Applies self.entry.front.now self.entry.told self.entry.at said
             (picture host.old) (picture host.new) out.old.items out.new.items) }
     {
         match said {
-            Said::Is(key, snapshot) => self.put(host, key, snapshot, out),
+            Said::Is(key, snapshot) => self.put(host, key, snapshot, desk, out),
             Said::Refused(key) => host.see(key, self.at),
             Said::Went(key, gone) => self.end(host, key, gone, out),
             Said::Begin(dump) => {
@@ -388,13 +400,14 @@ pub fn is_another(last: &Snapshot, new: &Snapshot) -> bool
     if last.text() == new.text() {
         return false;
     }
-    are_two_kinds(last.message(), new.message())
+    are_two_kinds(last.text(), new.text())
 }
 
 /// What is known of the interfaces of each host, and what the next line changes.
 #[derive(Drop)]
 pub struct Watch {
     reader: LineReader,
+    desk: Desk,
     hosts: Hosts,
     /// How many lines there were.
     lines: u64,
@@ -409,6 +422,7 @@ impl Watch {
     {
         Watch {
             reader: LineReader::new(alloc, by),
+            desk: Desk::new(alloc),
             hosts: BTreeMap::new(alloc),
             lines: 0,
             told,
@@ -449,12 +463,25 @@ impl Watch {
         };
         let name = word_of(front, b"host");
         if let Some(host) = self.hosts.get_mut(name) {
-            return line.apply(host, said, out);
+            return line.apply(host, said, &mut self.desk, out);
         }
         let mut host = Host::new(alloc);
-        line.apply(&mut host, said, out)?;
+        line.apply(&mut host, said, &mut self.desk, out)?;
         self.hosts.insert(name.to_vec(alloc)?, host)?;
         Ok(())
+    }
+
+    /// Takes that a line with these words says something of its host, and not of which interface.
+    fn take_blind(&mut self, front: &[u8])
+        ensures known { AddsFor front.now self.old.told self.old.lines Blind
+            self.old self.new [] [] }
+        ensures reader { self.new.reader ≡ self.old.reader }
+        ensures told { self.new.told ≡ self.old.told }
+        ensures lines { self.new.lines ≡ self.old.lines }
+    {
+        if let Some(host) = self.hosts.get_mut(word_of(front, b"host")) {
+            host.break_dump();
+        }
     }
 
     /// Takes what a line with these words says.
@@ -475,6 +502,10 @@ impl Watch {
             Said::Nothing => Ok(()),
             Said::Lost if self.told.says() => push_line(alloc, front, "change", "lost", out),
             Said::Lost => Ok(()),
+            Said::Blind => {
+                self.take_blind(front);
+                Ok(())
+            }
             said => self.take_said(alloc, front, said, out),
         }
     }

@@ -1,6 +1,4 @@
-use Rattle.std.proofs.Common.{◌++◌, ◌∷◌, [], sym, ap, ◌∙◌}
-use Rattle.std.proofs.lemmas.List.Sums.{fold-append}
-use Rattle.shown.specs.Drafts.{Draft, empty_object, with_members, with_value}
+use Rattle.std.proofs.Common.{◌++◌, ◌∷◌, []}
 use Rattle.message_shown.proofs.Added.{members_then, object_told}
 use Rattle.message_diff.specs.Alone.{told_words, change_member, head_members, alone_line}
 use Rattle.message_diff.proofs.alone.push_message.Goals as goal

@@ -1,4 +1,4 @@
-use Rattle.std.proofs.Common.{sym, ap, ◌∙◌}
+use Rattle.std.proofs.Common.{ap, ◌∙◌}
 use Rattle.std.specs.Prelude.{Option, None, Some, cond}
 use Rattle.message_diff.specs.declared.store.Known.{Known}
 use Rattle.message_diff.specs.Known.{is_key}

@@ -1,4 +1,4 @@
-use Rattle.std.proofs.Common.{◌≡◌, List, ℕ, false, refl, sym, ap, subst, ◌∙◌}
+use Rattle.std.proofs.Common.{List, ℕ, false, refl, sym, ap, subst, ◌∙◌}
 use Rattle.std.proofs.lemmas.Result.{on_ok_weaker}
 use Rattle.message_diff.specs.declared.reading.Said.{Said}
 use Rattle.message_diff.specs.declared.store.Host.{Host}

@@ -4,9 +4,8 @@ use Rattle.std.specs.declared.alloc.AllocError.{AllocError}
 use Rattle.message_diff.specs.declared.key.Key.{Key}
 use Rattle.std.specs.List.Sorted.{IsStrictlySortedBy}
 use Rattle.std.specs.Map.{keys_of}
-use Rattle.std.specs.Prelude.{◌&&◌}
 use Rattle.message_diff.specs.Known.{Item, is_among, key_cmp}
-use Rattle.message_diff.specs.Told.{AddsAllGone, is_told}
+use Rattle.message_diff.specs.Told.{AddsAllGone}
 use Rattle.message_diff.specs.Held.{held, held_in, left, picture, seen_in, text_told}
 use Rattle.message_diff.proofs.Gone.{tells_gone, tells_nothing}
 use Rattle.message_diff.proofs.Missed.{missed_taken, runs, runs_not, left_sorted, left_each}

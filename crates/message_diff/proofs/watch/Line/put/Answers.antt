@@ -1,4 +1,4 @@
-use Rattle.std.proofs.Common.{List, ℕ, false, ap, ◌∙◌}
+use Rattle.std.proofs.Common.{false, ap, ◌∙◌}
 use Rattle.std.specs.Prelude.{Some}
 use Rattle.message_diff.specs.Known.{is_key}
 use Rattle.message_diff.specs.Held.{held, last_of, seen_in}

@@ -1,10 +1,10 @@
-//! The line that is made of a message beside another is the one that is made of it alone.
+//! The parts of two messages that differ have the line that the messages have, whatever was compared before.
 
 ghost use Rattle.std.specs.Prelude.{◌≤◌, length};
 
 use crate::messages::{BRIDGE, CARD, PORT};
 use link_msg::CanonError;
-use message_diff::{Compared, Snapshot};
+use message_diff::{Compared, Desk, Snapshot, push_changed};
 use message_shown::context::Order;
 use std::alloc::{AllocError, Global};
 
@@ -90,24 +90,69 @@ fn with(alloc: Global, message: &[u8], turn: Turn) -> Result<Vec<u8>, AllocError
     Ok(made)
 }
 
-/// Whether the line of a message is the same, made beside another and alone, and that of the other, made beside this
-/// one; so it is where one of them is refused.
-fn is_same(alloc: Global, by: Compared, old: &[u8], new: &[u8]) -> Result<bool, AllocError> {
-    let (Some(mut was), Some(mut is)) = (shown_by(alloc, by, old)?, shown_by(alloc, by, new)?)
-    else {
-        return Ok(true);
-    };
-    let (Some(mut alone), Some(mut back)) = (shown_by(alloc, by, new)?, shown_by(alloc, by, old)?)
-    else {
-        return Ok(true);
-    };
-    was.show(alloc)?;
-    was.find_ends(alloc)?;
-    is.show_beside(alloc, &was)?;
-    is.find_ends(alloc)?;
-    back.show_beside(alloc, &is)?;
-    alone.show(alloc)?;
-    Ok(!alone.line().is_empty() && is.line() == alone.line() && back.line() == was.line())
+/// The message with an attribute at its end that comes twice, which none of the messages has: it is shown as a whole.
+fn with_twice(alloc: Global, message: &[u8]) -> Result<Vec<u8>, AllocError> {
+    let mut made = message.to_vec(alloc)?;
+    made.resize(made.len().next_multiple_of(4), 0)?;
+    made.extend_from_slice(&[8, 0, 46, 0, 1, 2, 3, 4])?;
+    made.extend_from_slice(&[8, 0, 46, 0, 1, 2, 3, 4])?;
+    Ok(made)
+}
+
+/// Adds the line of two messages, in this room; returns whether something is, or nothing where one of them is
+/// refused.
+fn tell(
+    alloc: Global,
+    by: Compared,
+    messages: (&[u8], &[u8]),
+    desk: &mut Desk,
+    out: &mut Vec<u8>,
+) -> Result<Option<bool>, AllocError> {
+    let (old, new) = messages;
+    match (shown_by(alloc, by, old)?, shown_by(alloc, by, new)?) {
+        (Some(mut was), Some(mut is)) => {
+            Ok(Some(push_changed(alloc, b"", &mut was, &mut is, desk, out)?))
+        }
+        _ => Ok(None),
+    }
+}
+
+/// Whether a line has these bytes.
+fn has(line: &[u8], bytes: &[u8]) -> bool {
+    line.windows(bytes.len()).any(|part| part == bytes)
+}
+
+/// Whether two lines tell the same. Those that have no path have two encodings, and where attributes come twice already
+/// they have other places in one of them.
+fn tell_the_same(part: &[u8], whole: &[u8]) -> bool {
+    if has(part, b"\"repeated.") || has(whole, b"\"repeated.") {
+        return true;
+    }
+    if has(part, b"\"path\":\"state\"") {
+        return has(whole, b"\"path\":\"state\"");
+    }
+    part == whole
+}
+
+/// Whether two messages have the line that they have as a whole; so it is where one of them is refused.
+fn is_same(
+    alloc: Global,
+    by: Compared,
+    old: &[u8],
+    new: &[u8],
+    desk: &mut Desk,
+) -> Result<bool, AllocError> {
+    let mut part = Vec::new(alloc);
+    let mut whole = Vec::new(alloc);
+    let (was, is) = (with_twice(alloc, old)?, with_twice(alloc, new)?);
+    let both = (was.as_slice(), is.as_slice());
+    let told = tell(alloc, by, (old, new), desk, &mut part)?;
+    let all_told = tell(alloc, by, both, &mut Desk::new(alloc), &mut whole)?;
+    Ok(
+        told.is_none()
+            || all_told.is_none()
+            || told == all_told && tell_the_same(part.as_slice(), whole.as_slice()),
+    )
 }
 
 /// A message as it is compared; nothing where it is refused.
@@ -120,11 +165,11 @@ fn shown_by(alloc: Global, by: Compared, bytes: &[u8]) -> Result<Option<Snapshot
 }
 
 /// Whether it is in both directions, and of both encodings.
-fn are_same(alloc: Global, old: &[u8], new: &[u8]) -> Result<bool, AllocError> {
+fn are_same(alloc: Global, old: &[u8], new: &[u8], desk: &mut Desk) -> Result<bool, AllocError> {
     Ok(
-        is_same(alloc, Compared::Message, old, new)?
-            && is_same(alloc, Compared::Message, new, old)?
-            && is_same(alloc, Compared::State, old, new)?,
+        is_same(alloc, Compared::Message, old, new, desk)?
+            && is_same(alloc, Compared::Message, new, old, desk)?
+            && is_same(alloc, Compared::State, old, new, desk)?,
     )
 }
 
@@ -136,12 +181,13 @@ const STEP: usize = 3;
 
 /// Whether it is beside a message of which one byte is another, whichever of each third it is.
 fn is_by_each_byte(alloc: Global, message: &[u8], mask: u8) -> Result<bool, AllocError> {
+    let mut desk = Desk::new(alloc);
     for place in (0..message.len()).step_by(STEP) {
         let mut other = message.to_vec(alloc)?;
         if let Some(byte) = other.as_mut_slice().get_mut(place) {
             *byte ^= mask;
         }
-        if !are_same(alloc, message, other.as_slice())? {
+        if !are_same(alloc, message, other.as_slice(), &mut desk)? {
             return Ok(false);
         }
     }
@@ -150,6 +196,7 @@ fn is_by_each_byte(alloc: Global, message: &[u8], mask: u8) -> Result<bool, Allo
 
 /// Whether it is beside a message with other attributes, whichever these are.
 fn is_by_each_attribute(alloc: Global, message: &[u8]) -> Result<bool, AllocError> {
+    let mut desk = Desk::new(alloc);
     for place in 0..count_of(message).saturating_add(1) {
         let turns = [
             Turn::Without(place),
@@ -159,7 +206,7 @@ fn is_by_each_attribute(alloc: Global, message: &[u8]) -> Result<bool, AllocErro
         ];
         for turn in turns {
             let other = with(alloc, message, turn)?;
-            if !are_same(alloc, message, other.as_slice())? {
+            if !are_same(alloc, message, other.as_slice(), &mut desk)? {
                 return Ok(false);
             }
         }
@@ -208,7 +255,7 @@ fn is_with_kept(alloc: Global, message: &[u8], count: u16) -> Result<bool, Alloc
         push_letters(&mut old, 200 + number % 1000, 12)?;
     }
     let new = with(alloc, old.as_slice(), Turn::Turned(4))?;
-    are_same(alloc, old.as_slice(), new.as_slice())
+    are_same(alloc, old.as_slice(), new.as_slice(), &mut Desk::new(alloc))
 }
 
 /// Whether it is with an alias of so many letters.
@@ -216,31 +263,30 @@ fn is_with_alias(alloc: Global, message: &[u8], count: u16) -> Result<bool, Allo
     let mut old = message.to_vec(alloc)?;
     push_letters(&mut old, 20, count)?;
     let new = with(alloc, old.as_slice(), Turn::Turned(4))?;
-    are_same(alloc, old.as_slice(), new.as_slice())
+    are_same(alloc, old.as_slice(), new.as_slice(), &mut Desk::new(alloc))
 }
 
-/// Whether it is beside a message of another order, whose counters have other names.
-fn is_beside_another_order(alloc: Global, message: &[u8]) -> Result<bool, AllocError> {
-    let Ok(mut was) = Snapshot::new(alloc, Compared::Message, Order::Before, message) else {
+/// Whether a message whose counters have another order has the same line: of its state they are all zero.
+fn is_of_another_order(alloc: Global, old: &[u8], new: &[u8]) -> Result<bool, AllocError> {
+    let Ok(mut was) = Snapshot::new(alloc, Compared::State, Order::Before, old) else {
         return Ok(false);
     };
-    let Some(mut is) = shown_by(alloc, Compared::Message, message)? else {
+    let Some(mut is) = shown_by(alloc, Compared::State, new)? else {
         return Ok(false);
     };
-    let Some(mut alone) = shown_by(alloc, Compared::Message, message)? else {
-        return Ok(false);
-    };
-    was.show(alloc)?;
-    was.find_ends(alloc)?;
-    is.show_beside(alloc, &was)?;
-    alone.show(alloc)?;
-    Ok(is.line() == alone.line())
+    let mut desk = Desk::new(alloc);
+    let mut line = Vec::new(alloc);
+    let mut other = Vec::new(alloc);
+    let told = push_changed(alloc, b"", &mut was, &mut is, &mut desk, &mut line)?;
+    tell(alloc, Compared::State, (old, new), &mut desk, &mut other)?;
+    Ok(told && line.as_slice() == other.as_slice())
 }
 
 #[test]
 fn another_order(rt: HostRuntime) {
-    let message = bytes_of(rt.alloc(), &PORT).expect(&rt, "memory");
-    assert!(rt; is_beside_another_order(rt.alloc(), message.as_slice()) == Ok(true));
+    let old = bytes_of(rt.alloc(), &PORT).expect(&rt, "memory");
+    let new = with(rt.alloc(), old.as_slice(), Turn::Turned(4)).expect(&rt, "memory");
+    assert!(rt; is_of_another_order(rt.alloc(), old.as_slice(), new.as_slice()) == Ok(true));
 }
 
 /// Whether it is where an attribute has one length or another, by which it is read or kept as it is.
@@ -254,9 +300,10 @@ fn is_by_length(
     push_letters(&mut old, 68, first)?;
     let mut new = message.to_vec(alloc)?;
     push_letters(&mut new, 68, second)?;
+    let mut desk = Desk::new(alloc);
     Ok(
-        are_same(alloc, old.as_slice(), new.as_slice())?
-            && are_same(alloc, message, new.as_slice())?,
+        are_same(alloc, old.as_slice(), new.as_slice(), &mut desk)?
+            && are_same(alloc, message, new.as_slice(), &mut desk)?,
     )
 }
 
@@ -301,11 +348,13 @@ fn long(rt: HostRuntime) {
 #[test]
 fn unlike_messages(rt: HostRuntime) {
     let alloc = rt.alloc();
+    let mut desk = Desk::new(alloc);
     for rows in &MESSAGES {
         let old = bytes_of(alloc, rows).expect(&rt, "memory");
         for others in &MESSAGES {
             let new = bytes_of(alloc, others).expect(&rt, "memory");
-            assert!(rt; are_same(alloc, old.as_slice(), new.as_slice()) == Ok(true));
+            let same = are_same(alloc, old.as_slice(), new.as_slice(), &mut desk);
+            assert!(rt; same == Ok(true));
         }
     }
 }

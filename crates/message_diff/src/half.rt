@@ -1,0 +1,62 @@
+//! What is shown of a message that is compared.
+
+use crate::members::Members;
+use crate::parts::Part;
+use crate::rows::{Row, Rows};
+use link_info::all_rows;
+use message_shown::answers::show_marked;
+use message_shown::context::{Context, Order};
+use shown::Marked;
+use std::alloc::{AllocError, Global};
+
+/// A message, or a part of one, what is shown of it, and rows of that. The room stays from one message to the next.
+#[derive(Drop)]
+pub struct Half {
+    pub order: Order,
+    pub part: Part,
+    page: Marked,
+    pub rows: Rows,
+}
+
+impl Half {
+    /// No message. It takes no memory.
+    pub fn new(alloc: Global) -> Half {
+        Half {
+            order: Order::Unknown,
+            part: Part::new(alloc),
+            page: Marked::new(alloc),
+            rows: Rows::new(alloc),
+        }
+    }
+
+    /// The members that are shown.
+    pub fn members(&self) -> Members<'_> {
+        Members::of(&self.page)
+    }
+
+    /// Shows the part, whose counters of IPv6 have this order.
+    pub fn show(&mut self, alloc: Global, order: Order) -> Result<(), AllocError> {
+        self.order = order;
+        let tables = all_rows();
+        let cx = Context::new(alloc, &tables, order);
+        show_marked(&cx, self.part.text(), &mut self.page)
+    }
+
+    /// The rows.
+    pub fn list(&self, alloc: Global) -> Result<Vec<Row<'_>>, AllocError> {
+        let members = self.members();
+        self.rows.list(alloc, members)
+    }
+
+    /// Takes the rows that the other one does not have.
+    pub fn take_rows(&mut self, other: &Half) -> Result<(), AllocError> {
+        let own = Members::of(&self.page);
+        self.rows.take(own, other.members(), false)
+    }
+
+    /// Takes the rows of the other one that this one does not have; of a part, those whose path it has.
+    pub fn take_rows_of(&mut self, other: &Half, is_part: bool) -> Result<(), AllocError> {
+        let own = Members::of(&self.page);
+        self.rows.take(other.members(), own, is_part)
+    }
+}
