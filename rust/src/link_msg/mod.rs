@@ -15,7 +15,7 @@ pub(crate) mod numbers;
 mod payload;
 pub(crate) mod place;
 mod prefix;
-mod shape;
+pub(crate) mod shape;
 pub(crate) mod to_vec;
 pub(crate) mod view;
 mod walk;

@@ -21,7 +21,7 @@ const ID_SIZE: usize = 32;
 
 /// What a payload has to be, and how its canonical encoding follows from it.
 #[derive(Clone, Copy)]
-pub(crate) enum Shape {
+pub enum Shape {
     /// Bytes, written as they are.
     Bytes,
     /// A text, written with one NUL.
@@ -74,9 +74,11 @@ pub(crate) enum Shape {
 
 impl Shape {
     /// The shape of a payload of this size, of an attribute of this number under the header's family; `None` where the
-    /// attribute is kept.
+    /// attribute is kept as it is, as `LinkAttribute::Other`, whatever its payload.
+    ///
+    /// It reads no payload: one of this shape may still be refused.
     #[inline(always)]
-    pub(crate) fn of(number: u16, size: usize, family: AddressFamily) -> Option<Shape> {
+    pub fn of(number: u16, size: usize, family: AddressFamily) -> Option<Shape> {
         match number {
             IFLA_ADDRESS => Some(Shape::Bytes),
             IFLA_BROADCAST => Some(Shape::Bytes),

@@ -15,7 +15,7 @@ use crate::link_state::numbers::{
     IFLA_BRPORT_TOPOLOGY_CHANGE_ACK, IFLA_CAN_BERR_COUNTER, IFLA_HSR_SEQ_NR, IFLA_INFO_DATA, IFLA_INFO_SLAVE_DATA,
     IFLA_INFO_XSTATS,
 };
-use crate::link_state::walk::{Listed, clear_list, zero, zero_part};
+use crate::link_state::walk::{Listed, fill_bytes, fill_list, fill_part};
 use crate::link_vals::AddressFamily;
 use crate::link_vf::numbers::{
     IFLA_VF_BROADCAST, IFLA_VF_INFO, IFLA_VF_STATS, IFLA_VF_STATS_BROADCAST, IFLA_VF_STATS_MULTICAST,
@@ -56,11 +56,11 @@ pub enum Level {
 
 /// `Level::Message`.
 #[derive(Clone, Copy)]
-struct MessageList {
+struct MessageList<const BY: u8> {
     family: AddressFamily,
 }
 
-impl Listed for MessageList {
+impl<const BY: u8> Listed for MessageList<BY> {
     #[inline(always)]
     fn keeps(&self, number: u16) -> bool {
         match number {
@@ -79,120 +79,120 @@ impl Listed for MessageList {
     }
 
     #[inline(always)]
-    fn clear_payload(&self, number: u16, payload: &mut [u8]) {
+    fn fill_payload(&self, number: u16, payload: &mut [u8]) {
         match number {
-            IFLA_STATS => zero(payload),
-            IFLA_PROTINFO => clear_proto_info(self.family, payload),
-            IFLA_LINKINFO => clear_link_info(payload),
-            IFLA_VFINFO_LIST => clear_list(payload, &FunctionsList),
-            IFLA_STATS64 => zero(payload),
-            IFLA_AF_SPEC => clear_af_spec(self.family, payload),
-            IFLA_CARRIER_CHANGES => zero(payload),
-            IFLA_EVENT => zero(payload),
-            IFLA_CARRIER_UP_COUNT => zero(payload),
-            IFLA_CARRIER_DOWN_COUNT => zero(payload),
+            IFLA_STATS => fill_bytes::<BY>(payload),
+            IFLA_PROTINFO => fill_proto_info::<BY>(self.family, payload),
+            IFLA_LINKINFO => fill_link_info::<BY>(payload),
+            IFLA_VFINFO_LIST => fill_list(payload, &FunctionsList::<BY>),
+            IFLA_STATS64 => fill_bytes::<BY>(payload),
+            IFLA_AF_SPEC => fill_af_spec::<BY>(self.family, payload),
+            IFLA_CARRIER_CHANGES => fill_bytes::<BY>(payload),
+            IFLA_EVENT => fill_bytes::<BY>(payload),
+            IFLA_CARRIER_UP_COUNT => fill_bytes::<BY>(payload),
+            IFLA_CARRIER_DOWN_COUNT => fill_bytes::<BY>(payload),
             _ => {}
         }
     }
 }
 
-/// Clears `IFLA_PROTINFO` under a family.
-fn clear_proto_info(family: AddressFamily, payload: &mut [u8]) {
+/// Fills `IFLA_PROTINFO` under a family.
+fn fill_proto_info<const BY: u8>(family: AddressFamily, payload: &mut [u8]) {
     match family {
-        AddressFamily::Inet6 => clear_list(payload, &Inet6List),
-        AddressFamily::Bridge => clear_list(payload, &BridgePortList),
+        AddressFamily::Inet6 => fill_list(payload, &Inet6List::<BY>),
+        AddressFamily::Bridge => fill_list(payload, &BridgePortList::<BY>),
         _ => {}
     }
 }
 
-/// Clears `IFLA_AF_SPEC` under a family.
-fn clear_af_spec(family: AddressFamily, payload: &mut [u8]) {
+/// Fills `IFLA_AF_SPEC` under a family.
+fn fill_af_spec<const BY: u8>(family: AddressFamily, payload: &mut [u8]) {
     match family {
-        AddressFamily::Unspec => clear_list(payload, &FamiliesList),
+        AddressFamily::Unspec => fill_list(payload, &FamiliesList::<BY>),
         _ => {}
     }
 }
 
-/// Clears `IFLA_LINKINFO`, by the kinds that it names.
-fn clear_link_info(payload: &mut [u8]) {
+/// Fills `IFLA_LINKINFO`, by the kinds that it names.
+fn fill_link_info<const BY: u8>(payload: &mut [u8]) {
     let (kind, slave_kind) = kinds(payload);
-    clear_list(payload, &InfoList { kind, slave_kind });
+    fill_list(payload, &InfoList::<BY> { kind, slave_kind });
 }
 
 /// `Level::Info`.
 #[derive(Clone, Copy)]
-struct InfoList {
+struct InfoList<const BY: u8> {
     kind: Kind,
     slave_kind: Kind,
 }
 
-impl Listed for InfoList {
+impl<const BY: u8> Listed for InfoList<BY> {
     #[inline(always)]
-    fn clear_payload(&self, number: u16, payload: &mut [u8]) {
+    fn fill_payload(&self, number: u16, payload: &mut [u8]) {
         match number {
-            IFLA_INFO_DATA => clear_data(self.kind, payload),
-            IFLA_INFO_XSTATS => zero(payload),
-            IFLA_INFO_SLAVE_DATA => clear_slave_data(self.slave_kind, payload),
+            IFLA_INFO_DATA => fill_data::<BY>(self.kind, payload),
+            IFLA_INFO_XSTATS => fill_bytes::<BY>(payload),
+            IFLA_INFO_SLAVE_DATA => fill_slave_data::<BY>(self.slave_kind, payload),
             _ => {}
         }
     }
 }
 
-/// Clears the settings of a device of this kind.
-fn clear_data(kind: Kind, payload: &mut [u8]) {
+/// Fills the settings of a device of this kind.
+fn fill_data<const BY: u8>(kind: Kind, payload: &mut [u8]) {
     match kind {
-        Kind::Bridge => clear_list(payload, &BridgeList),
-        Kind::Can => clear_list(payload, &CanList),
-        Kind::Hsr => clear_list(payload, &HsrList),
+        Kind::Bridge => fill_list(payload, &BridgeList::<BY>),
+        Kind::Can => fill_list(payload, &CanList::<BY>),
+        Kind::Hsr => fill_list(payload, &HsrList::<BY>),
         _ => {}
     }
 }
 
-/// Clears the settings of a port of a device of this kind.
-fn clear_slave_data(kind: Kind, payload: &mut [u8]) {
+/// Fills the settings of a port of a device of this kind.
+fn fill_slave_data<const BY: u8>(kind: Kind, payload: &mut [u8]) {
     match kind {
-        Kind::Bridge => clear_list(payload, &BridgePortList),
-        Kind::Bond => clear_list(payload, &BondPortList),
+        Kind::Bridge => fill_list(payload, &BridgePortList::<BY>),
+        Kind::Bond => fill_list(payload, &BondPortList::<BY>),
         _ => {}
     }
 }
 
 /// `Level::Families`.
-struct FamiliesList;
+struct FamiliesList<const BY: u8>;
 
-impl Listed for FamiliesList {
+impl<const BY: u8> Listed for FamiliesList<BY> {
     #[inline(always)]
-    fn clear_payload(&self, number: u16, payload: &mut [u8]) {
+    fn fill_payload(&self, number: u16, payload: &mut [u8]) {
         match number {
-            AF_INET6 => clear_list(payload, &Inet6List),
+            AF_INET6 => fill_list(payload, &Inet6List::<BY>),
             _ => {}
         }
     }
 }
 
 /// `Level::Inet6`.
-struct Inet6List;
+struct Inet6List<const BY: u8>;
 
-impl Listed for Inet6List {
+impl<const BY: u8> Listed for Inet6List<BY> {
     #[inline(always)]
-    fn clear_payload(&self, number: u16, payload: &mut [u8]) {
+    fn fill_payload(&self, number: u16, payload: &mut [u8]) {
         match number {
-            IFLA_INET6_STATS => zero(payload),
-            IFLA_INET6_CACHEINFO => zero_part(payload, 4, 12),
-            IFLA_INET6_ICMP6STATS => zero(payload),
+            IFLA_INET6_STATS => fill_bytes::<BY>(payload),
+            IFLA_INET6_CACHEINFO => fill_part::<BY>(payload, 4, 12),
+            IFLA_INET6_ICMP6STATS => fill_bytes::<BY>(payload),
             _ => {}
         }
     }
 }
 
 /// `Level::Functions`.
-struct FunctionsList;
+struct FunctionsList<const BY: u8>;
 
-impl Listed for FunctionsList {
+impl<const BY: u8> Listed for FunctionsList<BY> {
     #[inline(always)]
-    fn clear_payload(&self, number: u16, payload: &mut [u8]) {
+    fn fill_payload(&self, number: u16, payload: &mut [u8]) {
         match number {
-            IFLA_VF_INFO => clear_list(payload, &FunctionList),
+            IFLA_VF_INFO => fill_list(payload, &FunctionList::<BY>),
             _ => {}
         }
     }
@@ -202,126 +202,148 @@ impl Listed for FunctionsList {
 ///
 /// `IFLA_VF_BROADCAST` repeats `IFLA_BROADCAST`, and some kernels do not set the bytes behind it; behind the address of
 /// `IFLA_VF_MAC` they have zeros.
-struct FunctionList;
+struct FunctionList<const BY: u8>;
 
-impl Listed for FunctionList {
+impl<const BY: u8> Listed for FunctionList<BY> {
     #[inline(always)]
-    fn clear_payload(&self, number: u16, payload: &mut [u8]) {
+    fn fill_payload(&self, number: u16, payload: &mut [u8]) {
         match number {
-            IFLA_VF_STATS => clear_list(payload, &FunctionStatsList),
-            IFLA_VF_BROADCAST => zero(payload),
+            IFLA_VF_STATS => fill_list(payload, &FunctionStatsList::<BY>),
+            IFLA_VF_BROADCAST => fill_bytes::<BY>(payload),
             _ => {}
         }
     }
 }
 
 /// `Level::FunctionStats`.
-struct FunctionStatsList;
+struct FunctionStatsList<const BY: u8>;
 
-impl Listed for FunctionStatsList {
+impl<const BY: u8> Listed for FunctionStatsList<BY> {
     #[inline(always)]
-    fn clear_payload(&self, number: u16, payload: &mut [u8]) {
+    fn fill_payload(&self, number: u16, payload: &mut [u8]) {
         match number {
-            IFLA_VF_STATS_RX_PACKETS => zero(payload),
-            IFLA_VF_STATS_TX_PACKETS => zero(payload),
-            IFLA_VF_STATS_RX_BYTES => zero(payload),
-            IFLA_VF_STATS_TX_BYTES => zero(payload),
-            IFLA_VF_STATS_BROADCAST => zero(payload),
-            IFLA_VF_STATS_MULTICAST => zero(payload),
-            IFLA_VF_STATS_RX_DROPPED => zero(payload),
-            IFLA_VF_STATS_TX_DROPPED => zero(payload),
+            IFLA_VF_STATS_RX_PACKETS => fill_bytes::<BY>(payload),
+            IFLA_VF_STATS_TX_PACKETS => fill_bytes::<BY>(payload),
+            IFLA_VF_STATS_RX_BYTES => fill_bytes::<BY>(payload),
+            IFLA_VF_STATS_TX_BYTES => fill_bytes::<BY>(payload),
+            IFLA_VF_STATS_BROADCAST => fill_bytes::<BY>(payload),
+            IFLA_VF_STATS_MULTICAST => fill_bytes::<BY>(payload),
+            IFLA_VF_STATS_RX_DROPPED => fill_bytes::<BY>(payload),
+            IFLA_VF_STATS_TX_DROPPED => fill_bytes::<BY>(payload),
             _ => {}
         }
     }
 }
 
 /// `Level::Bridge`.
-struct BridgeList;
+struct BridgeList<const BY: u8>;
 
-impl Listed for BridgeList {
+impl<const BY: u8> Listed for BridgeList<BY> {
     #[inline(always)]
-    fn clear_payload(&self, number: u16, payload: &mut [u8]) {
+    fn fill_payload(&self, number: u16, payload: &mut [u8]) {
         match number {
-            IFLA_BR_HELLO_TIMER => zero(payload),
-            IFLA_BR_TCN_TIMER => zero(payload),
-            IFLA_BR_TOPOLOGY_CHANGE_TIMER => zero(payload),
-            IFLA_BR_GC_TIMER => zero(payload),
-            IFLA_BR_MCAST_QUERIER_STATE => clear_list(payload, &QuerierList),
-            IFLA_BR_FDB_N_LEARNED => zero(payload),
+            IFLA_BR_HELLO_TIMER => fill_bytes::<BY>(payload),
+            IFLA_BR_TCN_TIMER => fill_bytes::<BY>(payload),
+            IFLA_BR_TOPOLOGY_CHANGE_TIMER => fill_bytes::<BY>(payload),
+            IFLA_BR_GC_TIMER => fill_bytes::<BY>(payload),
+            IFLA_BR_MCAST_QUERIER_STATE => fill_list(payload, &QuerierList::<BY>),
+            IFLA_BR_FDB_N_LEARNED => fill_bytes::<BY>(payload),
             _ => {}
         }
     }
 }
 
 /// `Level::Querier`.
-struct QuerierList;
+struct QuerierList<const BY: u8>;
 
-impl Listed for QuerierList {
+impl<const BY: u8> Listed for QuerierList<BY> {
     #[inline(always)]
-    fn clear_payload(&self, number: u16, payload: &mut [u8]) {
+    fn fill_payload(&self, number: u16, payload: &mut [u8]) {
         match number {
-            BRIDGE_QUERIER_IP_OTHER_TIMER => zero(payload),
-            BRIDGE_QUERIER_IPV6_OTHER_TIMER => zero(payload),
+            BRIDGE_QUERIER_IP_OTHER_TIMER => fill_bytes::<BY>(payload),
+            BRIDGE_QUERIER_IPV6_OTHER_TIMER => fill_bytes::<BY>(payload),
             _ => {}
         }
     }
 }
 
 /// `Level::BridgePort`.
-struct BridgePortList;
+struct BridgePortList<const BY: u8>;
 
-impl Listed for BridgePortList {
+impl<const BY: u8> Listed for BridgePortList<BY> {
     #[inline(always)]
-    fn clear_payload(&self, number: u16, payload: &mut [u8]) {
+    fn fill_payload(&self, number: u16, payload: &mut [u8]) {
         match number {
-            IFLA_BRPORT_TOPOLOGY_CHANGE_ACK => zero(payload),
-            IFLA_BRPORT_CONFIG_PENDING => zero(payload),
-            IFLA_BRPORT_MESSAGE_AGE_TIMER => zero(payload),
-            IFLA_BRPORT_FORWARD_DELAY_TIMER => zero(payload),
-            IFLA_BRPORT_HOLD_TIMER => zero(payload),
-            IFLA_BRPORT_MCAST_EHT_HOSTS_CNT => zero(payload),
-            IFLA_BRPORT_MCAST_N_GROUPS => zero(payload),
+            IFLA_BRPORT_TOPOLOGY_CHANGE_ACK => fill_bytes::<BY>(payload),
+            IFLA_BRPORT_CONFIG_PENDING => fill_bytes::<BY>(payload),
+            IFLA_BRPORT_MESSAGE_AGE_TIMER => fill_bytes::<BY>(payload),
+            IFLA_BRPORT_FORWARD_DELAY_TIMER => fill_bytes::<BY>(payload),
+            IFLA_BRPORT_HOLD_TIMER => fill_bytes::<BY>(payload),
+            IFLA_BRPORT_MCAST_EHT_HOSTS_CNT => fill_bytes::<BY>(payload),
+            IFLA_BRPORT_MCAST_N_GROUPS => fill_bytes::<BY>(payload),
             _ => {}
         }
     }
 }
 
 /// `Level::BondPort`.
-struct BondPortList;
+struct BondPortList<const BY: u8>;
 
-impl Listed for BondPortList {
+impl<const BY: u8> Listed for BondPortList<BY> {
     #[inline(always)]
-    fn clear_payload(&self, number: u16, payload: &mut [u8]) {
+    fn fill_payload(&self, number: u16, payload: &mut [u8]) {
         match number {
-            IFLA_BOND_SLAVE_LINK_FAILURE_COUNT => zero(payload),
+            IFLA_BOND_SLAVE_LINK_FAILURE_COUNT => fill_bytes::<BY>(payload),
             _ => {}
         }
     }
 }
 
 /// `Level::Can`.
-struct CanList;
+struct CanList<const BY: u8>;
 
-impl Listed for CanList {
+impl<const BY: u8> Listed for CanList<BY> {
     #[inline(always)]
-    fn clear_payload(&self, number: u16, payload: &mut [u8]) {
+    fn fill_payload(&self, number: u16, payload: &mut [u8]) {
         match number {
-            IFLA_CAN_BERR_COUNTER => zero(payload),
+            IFLA_CAN_BERR_COUNTER => fill_bytes::<BY>(payload),
             _ => {}
         }
     }
 }
 
 /// `Level::Hsr`.
-struct HsrList;
+struct HsrList<const BY: u8>;
 
-impl Listed for HsrList {
+impl<const BY: u8> Listed for HsrList<BY> {
     #[inline(always)]
-    fn clear_payload(&self, number: u16, payload: &mut [u8]) {
+    fn fill_payload(&self, number: u16, payload: &mut [u8]) {
         match number {
-            IFLA_HSR_SEQ_NR => zero(payload),
+            IFLA_HSR_SEQ_NR => fill_bytes::<BY>(payload),
             _ => {}
         }
+    }
+}
+
+/// Writes this byte over all that the state encoding clears in the attributes of a list, in which lists can stand that
+/// have a level of their own.
+///
+/// Lengths, kinds and padding are kept, and all that stands after a fault of the frames.
+pub fn fill<const BY: u8>(list: &mut [u8], level: Level) {
+    match level {
+        Level::Message(family) => fill_list(list, &MessageList::<BY> { family }),
+        Level::Families => fill_list(list, &FamiliesList::<BY>),
+        Level::Inet6 => fill_list(list, &Inet6List::<BY>),
+        Level::Functions => fill_list(list, &FunctionsList::<BY>),
+        Level::Function => fill_list(list, &FunctionList::<BY>),
+        Level::FunctionStats => fill_list(list, &FunctionStatsList::<BY>),
+        Level::Info(kind, slave_kind) => fill_list(list, &InfoList::<BY> { kind, slave_kind }),
+        Level::Bridge => fill_list(list, &BridgeList::<BY>),
+        Level::Querier => fill_list(list, &QuerierList::<BY>),
+        Level::BridgePort => fill_list(list, &BridgePortList::<BY>),
+        Level::BondPort => fill_list(list, &BondPortList::<BY>),
+        Level::Can => fill_list(list, &CanList::<BY>),
+        Level::Hsr => fill_list(list, &HsrList::<BY>),
     }
 }
 
@@ -329,19 +351,5 @@ impl Listed for HsrList {
 ///
 /// Lengths, kinds and padding are kept, and all that stands after a fault of the frames.
 pub fn clear(list: &mut [u8], level: Level) {
-    match level {
-        Level::Message(family) => clear_list(list, &MessageList { family }),
-        Level::Families => clear_list(list, &FamiliesList),
-        Level::Inet6 => clear_list(list, &Inet6List),
-        Level::Functions => clear_list(list, &FunctionsList),
-        Level::Function => clear_list(list, &FunctionList),
-        Level::FunctionStats => clear_list(list, &FunctionStatsList),
-        Level::Info(kind, slave_kind) => clear_list(list, &InfoList { kind, slave_kind }),
-        Level::Bridge => clear_list(list, &BridgeList),
-        Level::Querier => clear_list(list, &QuerierList),
-        Level::BridgePort => clear_list(list, &BridgePortList),
-        Level::BondPort => clear_list(list, &BondPortList),
-        Level::Can => clear_list(list, &CanList),
-        Level::Hsr => clear_list(list, &HsrList),
-    }
+    fill::<0>(list, level)
 }

@@ -5,6 +5,7 @@ mod kind;
 mod level;
 pub(crate) mod numbers;
 mod state_encoding;
+mod thin;
 mod walk;
 
 pub use state_encoding::{STATE_FORM, same_state, state, state_within};

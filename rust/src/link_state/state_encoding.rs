@@ -4,7 +4,7 @@
 use crate::link_msg::header::HEADER_SIZE;
 use crate::link_msg::{CanonError, RoomError, canonical, canonical_within};
 use crate::link_state::level::{Level, clear};
-use crate::link_state::walk::zero;
+use crate::link_state::walk::fill_bytes;
 use crate::link_vals::AddressFamily;
 use crate::rattle::number::room;
 use alloc::vec::Vec;
@@ -20,7 +20,7 @@ const CHANGE_MASK: usize = 12;
 /// Makes the state encoding of a canonical encoding, in place.
 fn clear_message(encoding: &mut [u8]) {
     let level = Level::Message(AddressFamily::from(encoding[0]));
-    zero(room(encoding, CHANGE_MASK..HEADER_SIZE));
+    fill_bytes::<0>(room(encoding, CHANGE_MASK..HEADER_SIZE));
     clear(room(encoding, HEADER_SIZE..), level);
 }
 
