@@ -119,7 +119,14 @@ fn tell(
 
 /// Whether a line has these bytes.
 fn has(line: &[u8], bytes: &[u8]) -> bool {
-    line.windows(bytes.len()).any(|part| part == bytes)
+    let mut rest = line;
+    for _byte in 0..line.len() {
+        if rest.starts_with(bytes) {
+            return true;
+        }
+        rest = &rest[rest.len().min(1)..];
+    }
+    false
 }
 
 /// Whether two lines tell the same. Those that have no path have two encodings, and where attributes come twice already
