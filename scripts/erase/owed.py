@@ -27,7 +27,8 @@ NEVER = {
     "write": (("&", "id", ".", "id", "[", ".", ".", "id", ".", "len", "]"), 11, "id.bytes()"),
 }
 
-NEVER["state_into"] = NEVER["canonical_into"]
+for call in ["canonical_lenient_into", "state_into", "state_lenient_into"]:
+    NEVER[call] = NEVER["canonical_into"]
 
 
 def narrowing(s):

@@ -4,9 +4,10 @@ from source import counts
 # Names that a top crate gives again and the crate has otherwise, or not: they serve the crates below.
 HIDDEN_NAMES = {
     "Action", "Entry", "Kind", "Level", "Nla", "NlaBuffer", "NlaRead", "NlasIterator", "canonical_into",
-    "check_string", "clear", "emit_i32", "emit_nlas", "emit_u16", "emit_u32", "emit_u64", "fill", "list_measure",
-    "nlas_buffer_len", "nlas_fill", "nlas_fit", "nlas_measure", "nlas_write", "same_refusal", "same_room_refusal",
-    "state_into", "thin_families", "thin_inet6", "write_list",
+    "canonical_lenient_into", "check_string", "clear", "emit_i32", "emit_nlas", "emit_u16", "emit_u32",
+    "emit_u64", "fill", "list_measure", "nlas_buffer_len", "nlas_fill", "nlas_fit", "nlas_measure",
+    "nlas_write", "same_refusal", "same_room_refusal", "state_into", "state_lenient_into", "thin_families",
+    "thin_inet6", "write_list",
 }
 # Calls of types that serve the crates alone, or that the trait `Emitable` has, as in netlink-packet-route.
 HIDDEN_CALLS = {

@@ -1,59 +1,34 @@
 -- What follows for a caller from the result of the reader of messages.
-use Rattle.std.proofs.Common.{◌≡◌, ◌≢◌, ℕ, ◌+◌, List, length, refl, sym, ap, ◌∙◌, subst, arith, lit<, length-append}
-use Rattle.std.proofs.Common.{inl, inr, Result, Ok, Err}
+use Rattle.std.proofs.Common.{◌≡◌, ◌≢◌, ℕ, ◌+◌, List, length, refl, sym, ap, ◌∙◌, subst, arith}
+use Rattle.std.proofs.Common.{Result}
 use Rattle.std.specs.Prelude.{IfOk, IsTrue, Bool, ◌↔◌}
-use Rattle.nla_wire.specs.Sizes.{growth, attribute_small}
 use Rattle.nla_wire.specs.Frames.{IsBytes}
 use Rattle.nla_wire.specs.Gives.{Gives}
 use Rattle.nla_wire.specs.declared.error.Cause.{Cause}
 use Rattle.nla_wire.specs.declared.error.Cause.TheVariants.{OutOfMemory}
 use Rattle.nla_wire.specs.declared.error.Cause.TheVariants as Causes
 use Rattle.nla_wire.specs.declared.error.DecodeError.{DecodeError}
-use Rattle.nla_wire.proofs.Lawful.{place_count, place_growth, place_all_fit}
-use Rattle.nla_wire.proofs.Memory.{memory_list}
-use Rattle.nla_wire.proofs.Steps.{bytes_right}
-use Rattle.link_msg.specs.Header.{header_size}
-use Rattle.link_msg.specs.Tables.{attribute_frame, AttributeFits, NotEmptyPorts, attribute_count, attribute_place}
-use Rattle.link_msg.specs.Tables.{attribute_lawful}
+use Rattle.link_msg.specs.Tables.{attribute_place, attribute_lawful}
 use Rattle.link_msg.specs.Messages.{Means, FirstFault, MeansNothing, IsBounded, read_message, message_text}
 use Rattle.link_msg.specs.declared.message.LinkMessage.{LinkMessage}
-use Rattle.link_msg.proofs.Reading.{message_agrees}
+use Rattle.link_msg.specs.Lenient.{read_by}
 use Rattle.link_msg.specs.CanonErrors.{refusal_for, refusal_of}
 use Rattle.link_msg.specs.Canonical.{IsAccepted, HasText, IsRefusal, AreSame}
-use Rattle.link_msg.proofs.Messaging.{text_length}
+use Rattle.link_msg.proofs.MessagesBy.{bounded_by, gives_bounded_by, memory_by}
 use Rattle.link_msg.proofs.ReadingBack.{message_back}
 use Rattle.link_msg.proofs.LawProofs.{same_text}
 
 pub message_bounded : (b : List ℕ) (m : LinkMessage) → IsBytes b → Means b m → IsBounded b m
-message_bounded b m bytes (h, c, whole, header, means) =
-    let family = m.header.interface_family in
-    let size : length b ≡ header_size + length c =
-    omega (arith, ap (λ (x : List ℕ). length x) whole, length-append h c, header.size) in
-    let counted = place_count (attribute_place family) attribute_frame AttributeFits NotEmptyPorts attribute_count
-    growth 0 attribute_small (attribute_lawful family) c m.attributes means in
-    let grown = place_growth (attribute_place family) attribute_frame AttributeFits NotEmptyPorts attribute_count 0
-    attribute_small (attribute_lawful family) c m.attributes means in
-    record {
-      few = omega (arith, size, counted);
-      short = omega (arith, size, grown, text_length m);
-      small = λ few.
-          let after : IsBytes c = bytes_right h c (subst IsBytes whole bytes) in
-          let fit =
-          place_all_fit (attribute_place family) attribute_frame AttributeFits NotEmptyPorts attribute_count growth 0
-          attribute_small (attribute_lawful family) (lit< tt) c m.attributes (omega (arith, size, few)) after means in
-          (fit.0, omega (arith, text_length m, grown, size, few));
-    }
+message_bounded = bounded_by attribute_place attribute_lawful
 
 pub gives_bounded : (b : List ℕ) (r : Result LinkMessage DecodeError) → IsBytes b → Gives r (read_message b)
     → IfOk r (IsBounded b)
-gives_bounded b (Ok m) bytes gives = message_bounded b m bytes (message_agrees.found b m bytes gives)
-gives_bounded b (Err e) bytes gives = tt
+unfolding read_message read_by
+gives_bounded = gives_bounded_by attribute_place attribute_lawful
 
 -- no byte string is refused for lack of memory
 pub message_memory : (b : List ℕ) → FirstFault b OutOfMemory → ⊥
-message_memory b (inl (short, is)) = absurd cc
-message_memory b (inr (h, d, v, whole, header, first)) =
-    memory_list (attribute_place v.interface_family) (attribute_lawful v.interface_family).no_memory d first
+message_memory = memory_by attribute_place attribute_lawful
 
 -- ** refusals
 

@@ -54,7 +54,7 @@ made (Ok ps) v e = (ps, cc)
 made (Err c) v e = absurd cc
 
 -- one that was read from IFLA_VF_PORTS, with no bytes
-no_ports : (family : AddressFamily) (f : Frame) (v : LinkAttribute) → (attribute_place family).reads f ≡ Ok v
+pub no_ports : (family : AddressFamily) (f : Frame) (v : LinkAttribute) → (attribute_place family).reads f ≡ Ok v
     → number f ≡ IFLA_VF_PORTS → length (attribute_frame v).payload ≡ 0 → NotEmptyPorts v → ⊥
 unfolding attribute_view
 no_ports family f v read is none some =
@@ -62,7 +62,7 @@ no_ports family f v read is none some =
     ports_long k.0 (subst (λ x. length (attribute_frame x).payload ≡ 0) k.1 none) (subst NotEmptyPorts k.1 some)
 
 -- any but one that is written as IFLA_VF_PORTS, with no bytes
-some_ports : (v : LinkAttribute)
+pub some_ports : (v : LinkAttribute)
     → ((number (attribute_frame v) ≡ IFLA_VF_PORTS) × (length (attribute_frame v).payload ≡ 0) → ⊥) → NotEmptyPorts v
 unfolding attribute_view
 some_ports (Attributes.VfPorts ports) never = ports_some ports (λ none. never (refl, none))

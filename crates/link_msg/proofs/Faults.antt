@@ -16,7 +16,8 @@ use Rattle.link_msg.specs.declared.fault_path.FaultPath.{FaultPath}
 use Rattle.link_msg.specs.declared.attribute.LinkAttribute.{LinkAttribute}
 use Rattle.link_msg.specs.declared.header.LinkHeader.{LinkHeader}
 use Rattle.link_msg.specs.declared.message.LinkMessage.{LinkMessage}
-use Rattle.link_msg.proofs.Reading.{message_agrees, parts, is_header}
+use Rattle.link_msg.proofs.MessagesBy.{parts, is_header}
+use Rattle.link_msg.proofs.Reading.{message_agrees}
 use Rattle.link_msg.proofs.Sound.{first_of}
 
 -- what has a fault means nothing

@@ -1,3 +1,5 @@
+pub mod HeaderBack
+pub mod MessagesBy
 pub mod Reading
 pub mod Messaging
 pub mod Answering
@@ -17,6 +19,10 @@ pub mod Walking
 pub mod Faults
 pub mod BeforeFault
 pub mod ReadAgain
+pub mod Leniently
+pub mod LenientPorts
+pub mod LenientWriting
+pub mod Telling
 pub mod Opened
 pub mod Lengths
 pub mod Decided

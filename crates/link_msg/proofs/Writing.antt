@@ -27,7 +27,8 @@ use Rattle.link_msg.specs.declared.attribute.LinkAttribute.{LinkAttribute}
 use Rattle.link_msg.specs.declared.header.LinkHeader.{LinkHeader}
 use Rattle.link_msg.specs.declared.message.LinkMessage.{LinkMessage}
 use Rattle.link_msg.specs.declared.encoding.CanonError.TheVariants as Refusals
-use Rattle.link_msg.proofs.Reading.{message_agrees, attributes_agree, parts, is_header}
+use Rattle.link_msg.proofs.MessagesBy.{parts, is_header}
+use Rattle.link_msg.proofs.Reading.{message_agrees, attributes_agree}
 use Rattle.link_msg.proofs.Messaging.{header_length, text_length, attributes_counted}
 use Rattle.link_msg.proofs.Answering.{accepted_text}
 use Rattle.link_msg.proofs.Prefixes.{prefix_within}

@@ -16,3 +16,6 @@ pub mod FaultPath
 pub mod OneAnswer
 pub mod BeforeFault
 pub mod Written
+pub mod Lenient
+pub mod LenientTable
+pub mod Told

@@ -139,7 +139,7 @@ fn in_shape(shape: Shape, payload: &[u8]) -> Option<FaultPath>
 }
 
 /// Where the fault is in the payload of an attribute of a message whose header has this family.
-fn in_attribute(frame: &NlaBuffer<'_>, family: AddressFamily) -> Option<FaultPath>
+pub(crate) fn in_attribute(frame: &NlaBuffer<'_>, family: AddressFamily) -> Option<FaultPath>
     ensures { IsPathIn (in_attribute family frame.now) frame.now.payload 3 result }
 {
     let payload = frame.value();

@@ -42,6 +42,10 @@ ghost use Rattle.link_msg.specs.OneAnswer.{EachHasOneAnswer, OneFault, FaultOrMe
 ghost use Rattle.link_msg.specs.OneAnswer.{PathOfTheFault};
 ghost use Rattle.link_msg.specs.LawStatements.{OneMeaning, TextMeansTheSame, OnlyWithPorts, SameTextSameMessage};
 ghost use Rattle.link_msg.specs.LawStatements.{CanonicalTwice, Joined, ForeignKept};
+ghost use Rattle.link_msg.specs.Lenient.{StrictIsLenient, OneLenientMeaning, FittingIsRead, LenientTextMeansTheSame};
+ghost use Rattle.link_msg.specs.Lenient.{SameLenientTextSameMessage, LenientTwice, StrictAnswersStay};
+ghost use Rattle.link_msg.specs.Lenient.{HasLenientLength, HoldsLenientText};
+ghost use Rattle.link_msg.specs.Told.{ToldAreRaw};
 
 use crate::header::LinkHeader;
 use crate::place::AttributePlace;
@@ -88,6 +92,35 @@ pub fn law_room(input: &[u8])
 pub fn law_exact_room(input: &[u8], len: usize)
     requires { HasLength input.now (Ok len) }
     ensures { HoldsText input.now len }
+{}
+
+/// What bytes mean they mean leniently, and what has a canonical encoding has the same one leniently; frames that fit
+/// always mean a message leniently, and no bytes mean two. Where such a message fits and holds no empty list of ports, its canonical encoding means it leniently; two have one
+/// encoding exactly where they are one message; and the lenient canonical encoding of such an encoding is itself.
+pub fn law_lenient()
+    ensures strict { StrictIsLenient }
+    ensures answers { StrictAnswersStay }
+    ensures one_meaning { OneLenientMeaning }
+    ensures fitting { FittingIsRead }
+    ensures means_the_same { LenientTextMeansTheSame }
+    ensures same_text { SameLenientTextSameMessage }
+    ensures twice { LenientTwice }
+{}
+
+/// Of a message that is read leniently exactly the attributes are told that are kept raw, in order.
+pub fn law_refusals()
+    ensures { ToldAreRaw }
+{}
+
+/// `growth_per_byte` bytes of buffer for each byte of a message are room for its lenient canonical encoding.
+pub fn law_lenient_room(input: &[u8])
+    ensures { HoldsLenientText input.now (growth_per_byte * length input.now) }
+{}
+
+/// As many bytes of buffer as `canonical_lenient_len` returns of a message are room for its lenient canonical encoding.
+pub fn law_lenient_exact_room(input: &[u8], len: usize)
+    requires { HasLenientLength input.now (Ok len) }
+    ensures { HoldsLenientText input.now len }
 {}
 
 /// `growth_per_byte` bytes of buffer for each byte of an attribute's header and payload are room for its canonical

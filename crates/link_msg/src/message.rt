@@ -28,7 +28,7 @@ pub struct LinkMessage {
 }
 
 /// The name of the place of a fault that no attribute holds.
-const OUTERMOST: &str = "message";
+pub(crate) const OUTERMOST: &str = "message";
 
 /// The header, and the bytes after it.
 #[inline(always)]

@@ -6,7 +6,10 @@ pub mod Apart
 pub mod Closing
 pub mod Payloads
 pub mod Places
-pub mod States
 pub mod Masks
+pub mod Before
+pub mod BeforeRows
+pub mod States
 pub mod Outlines
 pub mod StateLaws
+pub mod LenientStates

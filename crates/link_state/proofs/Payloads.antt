@@ -190,6 +190,8 @@ module _ {V : Type 0} (g : Grammar Frame V) (frame : V → Frame) (Fits Good : V
     pub text_is : canons frame values ≡ filled by level (canons frame vs)
     pub every : Every g.means (map frame values) values
     pub written : AllByRecursion (λ v. IsWritable (frame v)) values
+    pub own : AllByRecursion (IsOwn g frame Fits Good) vs
+    pub frames_are : map frame values ≡ map (λ v. filled_frame by level (frame v)) vs
 
   pub list_closes : (by : ℕ) (level : Level) → Closes g frame Fits Good by level → (vs : List V)
       → IsBytes (canons frame vs)
@@ -214,6 +216,8 @@ module _ {V : Type 0} (g : Grammar Frame V) (frame : V → Frame) (Fits Good : V
         text_is = filled_canons by level frame vs to.values writable_all to.frames_are;
         every = to.means;
         written = same_writable by level vs to.values to.frames_are writable_all;
+        own = own;
+        frames_are = to.frames_are;
       }
 
 -- ** lists as payloads

@@ -5,3 +5,4 @@ pub mod Thinned
 pub mod Masks
 pub mod State
 pub mod Laws
+pub mod LenientState

@@ -4,6 +4,7 @@ ghost use Rattle.link_state.specs.Laws.{StateIsCanonical, StateIsAsLong, StateTw
 ghost use Rattle.link_state.specs.Laws.{MaskByFrames, OneState};
 ghost use Rattle.link_state.specs.Laws.{ListTwice, ListZeroAtItsMask, ListMaskByFrames, OneList};
 ghost use Rattle.link_state.specs.Laws.{Inet6Thinned, FamiliesThinned, Inet6Apart, FamiliesApart};
+ghost use Rattle.link_state.specs.LenientState.{LenientStateIsCanonical, LenientFilledIsCanonical, StrictStateStays};
 ghost use Rattle.link_state.specs.Laws.{ListFilledTwice, ListFilledAtItsMask, ListMaskStays, FilledIsCanonical};
 
 /// The state encoding of canonical encoding is canonical, and as long; and the state of a state is itself.
@@ -47,4 +48,13 @@ pub fn law_thinned()
     ensures families { FamiliesThinned }
     ensures inet6_apart { Inet6Apart }
     ensures families_apart { FamiliesApart }
+{}
+
+/// The state encoding of a lenient canonical encoding is the lenient canonical encoding of some message, of which the
+/// same attributes are kept raw; so it is where another byte than zero is written. What has a state encoding has the
+/// same one leniently.
+pub fn law_lenient_state()
+    ensures canonical { LenientStateIsCanonical }
+    ensures filled { LenientFilledIsCanonical }
+    ensures strict { StrictStateStays }
 {}

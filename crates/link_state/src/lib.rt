@@ -11,5 +11,8 @@ mod walk;
 
 pub use kind::Kind;
 pub use level::{Level, clear, fill};
-pub use state_encoding::{STATE_FORM, same_state, state, state_into, state_within};
+pub use state_encoding::{
+    STATE_FORM, same_state, state, state_into, state_lenient, state_lenient_into,
+    state_lenient_len, state_lenient_within, state_within,
+};
 pub use thin::{thin_families, thin_inet6};

@@ -3,12 +3,18 @@
 ghost use Rattle.std.specs.Prelude.{◌≡◌, ◌≤◌, ◌<◌, ◌^◌, length, IfOk, IfErr};
 ghost use Rattle.link_msg.specs.Header.{header_size};
 ghost use Rattle.link_msg.specs.Canonical.{HoldsText, IsRefusal, IsRefusalOfTwo};
+ghost use Rattle.link_msg.specs.Lenient.{HoldsLenientText, IsLenientRefusal};
+ghost use Rattle.link_state.specs.LenientState.{HasLenientState, HasLenientStateLength, IsLenientStateWithin};
+ghost use Rattle.link_state.specs.LenientState.{IsLenientStateWritten};
 ghost use Rattle.link_state.specs.State.{state, HasState, HaveSameState, IsStateWithin, IsStateWritten};
 
 use crate::level::{Level, clear};
 use crate::walk::fill_bytes;
 use link_msg::header::HEADER_SIZE;
-use link_msg::{CanonError, RoomError, canonical, canonical_within};
+use link_msg::{
+    CanonError, RoomError, canonical, canonical_lenient, canonical_lenient_len,
+    canonical_lenient_within, canonical_within,
+};
 use link_vals::AddressFamily;
 use std::alloc::Global;
 
@@ -83,4 +89,57 @@ pub fn same_state(alloc: Global, first: &[u8], second: &[u8]) -> Result<bool, Ca
     let one = state(alloc, first)?;
     let other = state(alloc, second)?;
     Ok(one.as_slice() == other.as_slice())
+}
+
+/// Writes the state encoding of what the bytes mean leniently to the front of a buffer of any size, without memory, and
+/// returns its length, which is that of the lenient canonical encoding. The rest of the buffer is kept.
+///
+/// Attributes that are kept raw because they are refused are cleared as others of their number are, in a list as far as
+/// its first fault. Refuses as `canonical_lenient_within` does. After a refusal the buffer is unchanged.
+pub fn state_lenient_within(input: &[u8], out: &mut [u8]) -> Result<usize, RoomError>
+    ensures { IsLenientStateWithin input.now out.old out.new result }
+{
+    let len = canonical_lenient_within(input, out)?;
+    clear_message(&mut out[..len]);
+    Ok(len)
+}
+
+/// Writes the state encoding of what the bytes mean leniently to the front of the buffer, without memory, and returns
+/// its length. The rest of the buffer is kept.
+///
+/// The buffer has room for the lenient canonical encoding, which is as long. Refuses as `canonical_lenient_into` does.
+/// After a refusal the buffer is unchanged.
+pub fn state_lenient_into(input: &[u8], out: &mut [u8]) -> Result<usize, CanonError>
+    requires { HoldsLenientText input.now (length out.old) }
+    ensures { IsLenientStateWritten input.now out.old out.new result }
+{
+    match state_lenient_within(input, out) {
+        Ok(len) => Ok(len),
+        Err(RoomError::NoEncoding(error)) => Err(error),
+        // for the proof: never taken, since there is room
+        Err(RoomError::NoRoom { wanted }) => Ok(wanted),
+    }
+}
+
+/// The length of the state encoding of what the bytes mean leniently, which is that of the lenient canonical encoding,
+/// without memory.
+///
+/// Refuses as `canonical_lenient_len` does.
+pub fn state_lenient_len(input: &[u8]) -> Result<usize, CanonError>
+    ensures { HasLenientStateLength input.now result }
+{
+    canonical_lenient_len(input)
+}
+
+/// The state encoding of what the bytes mean leniently: their lenient canonical encoding with all that moves by itself
+/// at zero. Where `state` has an encoding, this is it.
+///
+/// Refuses as `canonical_lenient` does.
+pub fn state_lenient(alloc: Global, input: &[u8]) -> Result<Vec<u8>, CanonError>
+    ensures ok { IfOk result (λ s. HasLenientState input.now s.items) }
+    ensures err { IfErr result (IsLenientRefusal input.now) }
+{
+    let mut encoding = canonical_lenient(alloc, input)?;
+    clear_message(encoding.as_mut_slice());
+    Ok(encoding)
 }

@@ -12,6 +12,8 @@ mod empty_ports;
 #[cfg(test)]
 mod fault_places;
 #[cfg(test)]
+mod lenient_reading;
+#[cfg(test)]
 mod list_values;
 #[cfg(test)]
 mod long_inputs;

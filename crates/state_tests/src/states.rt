@@ -1,10 +1,11 @@
 //! Each call once with ample memory, on a message whose state is known.
 
 use expected::{GROWTH, equal, is_stored};
-use link_msg::laws::law_room;
+use link_msg::laws::{law_lenient_room, law_room};
 use link_msg::{CanonError, RoomError};
 use link_state::{
-    Level, clear, fill, same_state, state, state_into, state_within, thin_families, thin_inet6,
+    Level, clear, fill, same_state, state, state_into, state_lenient, state_lenient_into,
+    state_lenient_len, state_lenient_within, state_within, thin_families, thin_inet6,
 };
 
 /// All flags are changed, and the carrier has changed three times.
@@ -117,4 +118,39 @@ fn compared_by_addresses(rt: HostRuntime) {
     let alloc = rt.alloc();
     let same = same_state(alloc, &FUNCTION, &FUNCTION_AGAIN).expect(&rt, "both are messages");
     assert!(rt; same);
+}
+
+/// An alias that is refused, a carrier that changed three times, and a count of five bytes, which is refused too.
+const REFUSED: [u8; 44] = [
+    0x00, 0x00, 0x00, 0x00, 0x07, 0x00, 0x00, 0x00, 0x01, 0x00, 0x00, 0x00, 0xff, 0xff, 0xff, 0xff,
+    0x05, 0x00, 0x14, 0x00, 0xe9, 0x00, 0x00, 0x00, 0x08, 0x00, 0x23, 0x00, 0x03, 0x00, 0x00, 0x00,
+    0x09, 0x00, 0x2f, 0x00, 0x01, 0x02, 0x03, 0x04, 0x05, 0x00, 0x00, 0x00,
+];
+
+/// Its state: both counts are zero.
+const REFUSED_STATE: [u8; 44] = [
+    0x00, 0x00, 0x00, 0x00, 0x07, 0x00, 0x00, 0x00, 0x01, 0x00, 0x00, 0x00, 0x00, 0x00, 0x00, 0x00,
+    0x05, 0x00, 0x14, 0x00, 0xe9, 0x00, 0x00, 0x00, 0x08, 0x00, 0x23, 0x00, 0x00, 0x00, 0x00, 0x00,
+    0x09, 0x00, 0x2f, 0x00, 0x00, 0x00, 0x00, 0x00, 0x00, 0x00, 0x00, 0x00,
+];
+
+#[test]
+fn taken_leniently(rt: HostRuntime) {
+    let made = state_lenient(rt.alloc(), &REFUSED).expect(&rt, "its frames fit");
+    assert!(rt; equal(made.as_slice(), &REFUSED_STATE));
+    assert!(rt; state_lenient_len(&REFUSED) == Ok(44));
+    let made = state_lenient(rt.alloc(), &POLLED).expect(&rt, "it has a state");
+    assert!(rt; equal(made.as_slice(), &STATE));
+}
+
+#[test]
+fn written_leniently(rt: HostRuntime) {
+    let mut out = [255; 50];
+    let len = state_lenient_within(&REFUSED, &mut out).expect(&rt, "there is room");
+    assert!(rt; is_stored(len, &out, &REFUSED_STATE));
+    let mut out = [255; 4000];
+    assert!(rt; 44 * GROWTH <= 4000);
+    law_lenient_room(&REFUSED);
+    assert!(rt; state_lenient_into(&REFUSED, &mut out) == Ok(44));
+    assert!(rt; is_stored(44, &out, &REFUSED_STATE));
 }

@@ -23,7 +23,7 @@ mod writer;
 // MODULES
 
 pub use attributes::{Attribute, Attributes, attributes};
-pub use calls::{GROWTH, canonical_into, check, fault_at};
+pub use calls::{GROWTH, canonical_into, canonical_lenient_into, check, fault_at};
 pub use flags::{Iter, IterNames};
 pub use link_msg::header::HEADER_SIZE;
 pub use packet::{
