@@ -1,5 +1,5 @@
 -- What follows for a caller from the result of the reader of messages.
-use Rattle.std.proofs.Common.{◌≡◌, ◌≢◌, ℕ, ◌+◌, List, length, refl, sym, ap, ◌∙◌, subst, arith}
+use Rattle.std.proofs.Common.{◌≡◌, ◌≢◌, ℕ, List, length, refl, sym, ap, ◌∙◌, subst, arith}
 use Rattle.std.proofs.Common.{Result}
 use Rattle.std.specs.Prelude.{IfOk, IsTrue, Bool, ◌↔◌}
 use Rattle.nla_wire.specs.Frames.{IsBytes}

@@ -1,6 +1,6 @@
 -- Two messages that were measured.
 use Rattle.std.proofs.Common.{◌≡◌, ℕ, ◌+◌, List, [], ◌++◌, length, take, drop, ap, sym, ◌∙◌, append-nil, arith}
-use Rattle.std.proofs.Common.{Result, Ok}
+use Rattle.std.proofs.Common.{Ok}
 use Rattle.std.proofs.Common.{subst}
 use Rattle.std.proofs.lemmas.List.{append_cancel_left, drop_all, take_all, take_at}
 use Rattle.std.specs.Prelude.{Bool, false, IsTrue, ◌↔◌}
@@ -8,7 +8,6 @@ use Rattle.nla_wire.specs.Frames.{IsBytes}
 use Rattle.nla_wire.specs.Reading.{list_of, with_front}
 use Rattle.nla_wire.specs.Grammar.{list}
 use Rattle.nla_wire.specs.Canon.{canons, Rewrites}
-use Rattle.nla_wire.specs.declared.error.Cause.{Cause}
 use Rattle.nla_wire.proofs.Lists.{list_nil}
 use Rattle.link_msg.specs.Header.{header_size, header_bytes}
 use Rattle.link_msg.specs.Tables.{attribute_frame, attribute_place}

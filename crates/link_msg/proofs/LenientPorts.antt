@@ -1,10 +1,10 @@
 -- Empty lists of ports among what is read leniently.
-use Rattle.std.proofs.Common.{◌≡◌, ◌≢◌, ℕ, ◌<◌, ◌≤◌, List, [], ◌∷◌, ◌++◌, length, refl, sym, ap, ◌∙◌, subst, arith}
-use Rattle.std.proofs.Common.{Result, Ok, Err, Option, Some, None, Bool, true, false, MatchBool, append-nil, append_assoc}
+use Rattle.std.proofs.Common.{◌≡◌, ◌≢◌, ℕ, List, [], ◌∷◌, ◌++◌, length, refl, sym, ap, ◌∙◌, subst, arith}
+use Rattle.std.proofs.Common.{Result, Ok, Err, Some, None, Bool, true, false, append-nil, append_assoc}
 use Rattle.std.proofs.Common.{lit≤}
 use Rattle.std.specs.List.{AllByRecursion}
 use Rattle.nla_wire.specs.Frames.{Frame, number, IsFrame}
-use Rattle.nla_wire.specs.Reading.{list_of, with_front, ◌>>=◌}
+use Rattle.nla_wire.specs.Reading.{list_of, with_front}
 use Rattle.nla_wire.specs.Items.{Item, items, read_items}
 use Rattle.nla_wire.specs.Canon.{Weighs, canons, AllFit}
 use Rattle.nla_wire.specs.declared.error.Cause.{Cause}

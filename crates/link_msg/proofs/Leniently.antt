@@ -1,8 +1,8 @@
 -- The laws of lenient reading.
-use Rattle.std.proofs.Common.{◌≡◌, ◌≢◌, ℕ, ◌≤◌, inl, inr, List, [], ◌∷◌, ◌++◌, length, refl, sym, ap, ◌∙◌, subst}
-use Rattle.std.proofs.Common.{Result, Ok, Err, IsOk, IfErr, Option, Some, None}
+use Rattle.std.proofs.Common.{◌≡◌, ◌≢◌, ℕ, ◌≤◌, inl, inr, List, [], ◌∷◌, length, refl, sym, ap, ◌∙◌, subst}
+use Rattle.std.proofs.Common.{Result, Ok, Err, IsOk, IfErr, Some, None}
 use Rattle.std.specs.List.{AllByRecursion}
-use Rattle.nla_wire.specs.Frames.{Frame, IsBytes, IsFrame, Frames, Fault}
+use Rattle.nla_wire.specs.Frames.{Frame, IsBytes, IsFrame, Fault}
 use Rattle.nla_wire.specs.Grammar.{Every, FirstAfter}
 use Rattle.nla_wire.specs.declared.error.Cause.{Cause}
 use Rattle.nla_wire.specs.declared.error.Cause.TheVariants.{OutOfMemory}

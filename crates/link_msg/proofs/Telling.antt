@@ -5,27 +5,23 @@ use Rattle.std.proofs.Common.{◌^◌}
 use Rattle.std.proofs.lemmas.List.{take-append-drop}
 use Rattle.std.proofs.Math.Seq.{take-append_seam, drop-append_seam}
 use Rattle.nla_wire.specs.Frames.{Frame, number, IsBytes, IsFrame, missing, Begins, Frames}
-use Rattle.nla_wire.specs.Reading.{step}
-use Rattle.nla_wire.specs.Reading.Step.{Bad, Next}
 use Rattle.nla_wire.specs.Items.{Item, items}
 use Rattle.nla_wire.specs.Grammar.{Every}
 use Rattle.nla_wire.specs.declared.error.Cause.{Cause}
 use Rattle.nla_wire.proofs.Steps.{bytes_right, step_whole, step_begins, step_bad, step_framed, step_rest_bytes, length-begins}
 use Rattle.nla_wire.proofs.Items.{items_nil, items_next, items_case}
 use Rattle.link_vals.specs.declared.address_family.AddressFamily.{AddressFamily}
-use Rattle.link_msg.specs.Header.{header_size, header_of, IsHeader}
+use Rattle.link_msg.specs.Header.{header_size, header_of}
 use Rattle.link_msg.specs.Tables.{attribute_place, attribute_lawful}
 use Rattle.link_msg.specs.Nested.{in_attribute}
 use Rattle.link_msg.specs.FaultAt.{FaultIn}
 use Rattle.link_msg.specs.FaultPath.{numbers_to, IsPathIn, Extends}
-use Rattle.link_msg.specs.Lenient.{lenient_place, MeansLeniently}
+use Rattle.link_msg.specs.Lenient.{lenient_place}
 use Rattle.link_msg.specs.Told.{Told, told_of, after, told_on, told, told_all, span, AreTold, AreFrames, AreRefusals}
 use Rattle.link_msg.specs.Told.{LeadsThere, AreRaw, ToldAreRaw}
 use Rattle.link_msg.specs.declared.fault_path.FaultPath.{FaultPath}
 use Rattle.link_msg.specs.declared.header.LinkHeader.{LinkHeader}
-use Rattle.link_msg.specs.declared.message.LinkMessage.{LinkMessage}
 use Rattle.link_msg.specs.declared.attribute.LinkAttribute.{LinkAttribute}
-use Rattle.link_msg.specs.declared.attribute.LinkAttribute.TheVariants as Attributes
 use Rattle.link_msg.proofs.Sound.{sound_outermost}
 use Rattle.link_msg.proofs.MessagesBy.{parts, is_header}
 

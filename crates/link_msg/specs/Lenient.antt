@@ -1,7 +1,7 @@
 -- Lenient reading: an attribute that its table refuses is kept whole, with its number, flags and payload. So frames that
 -- fit always mean a message, and a fault is a header that is too short, or a frame that does not fit.
 use Rattle.std.specs.Prelude.{◌≡◌, ◌≢◌, ℕ, ◌+◌, ◌-◌, ◌*◌, ◌<◌, ◌≤◌, nat_lt, if◌then◌else◌, List, ◌++◌, ◌⊎◌, length}
-use Rattle.std.specs.Prelude.{take, drop, Result, Ok, Err, Bool, MatchBool, Option, Some, None, false}
+use Rattle.std.specs.Prelude.{take, drop, Result, Ok, Err, Bool, MatchBool}
 use Rattle.std.specs.List.{AllByRecursion}
 use Rattle.nla_wire.specs.Sizes.{growth_per_byte}
 use Rattle.nla_wire.specs.Canon.{canons, Writes}

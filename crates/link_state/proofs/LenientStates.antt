@@ -11,10 +11,11 @@ use Rattle.link_vals.specs.declared.address_family.AddressFamily.{AddressFamily}
 use Rattle.link_msg.specs.Header.{header_size}
 use Rattle.link_msg.specs.Tables.{attribute_place, attribute_frame, AttributeFits, NotEmptyPorts, attribute_lawful}
 use Rattle.link_msg.specs.Messages.{message_text}
-use Rattle.link_msg.specs.Lenient.{lenient_place}
+use Rattle.link_msg.specs.Lenient.{lenient_place, HasLenientLength}
 use Rattle.link_msg.specs.LenientTable.{lenient_lawful, other_frame, other_fits}
 use Rattle.link_msg.specs.declared.attribute.LinkAttribute.{LinkAttribute}
 use Rattle.link_msg.specs.declared.attribute.LinkAttribute.TheVariants as Attributes
+use Rattle.link_msg.specs.declared.encoding.CanonError.{CanonError}
 use Rattle.link_msg.specs.declared.message.LinkMessage.{LinkMessage}
 use Rattle.link_msg.proofs.Leniently.{lenient_accepted, one_lenient}
 use Rattle.link_state.specs.Table.{Action, action_of}
@@ -23,7 +24,7 @@ use Rattle.link_state.specs.Cleared.{info_level, payload_by, filled}
 use Rattle.link_state.specs.Masks.{mask, stamp}
 use Rattle.link_state.specs.State.{level_of, state}
 use Rattle.link_state.specs.LenientState.{IsLenientlyCanonical, IsRaw, SameRaw, LenientStateIsCanonical}
-use Rattle.link_state.specs.LenientState.{LenientFilledIsCanonical, StrictStateStays}
+use Rattle.link_state.specs.LenientState.{LenientFilledIsCanonical, StrictStateStays, HasLenientStateLength}
 use Rattle.link_state.specs.declared.level.Level.{Level}
 use Rattle.link_state.specs.declared.level.Level.TheVariants.{Message}
 use Rattle.link_state.proofs.Walking.{length-payload_by}
@@ -32,7 +33,7 @@ use Rattle.link_state.proofs.Masks.{filled_at_its_mask}
 use Rattle.link_state.proofs.Payloads.{clear_leaves, part_leaves}
 use Rattle.link_state.proofs.Places.{message_closes}
 use Rattle.link_state.proofs.BeforeRows.{message_before}
-use Rattle.link_state.proofs.States.{IsTextBy, FilledFrom, state_by, filled_by}
+use Rattle.link_state.proofs.States.{IsTextBy, FilledFrom, state_by, filled_by, state_is_as_long, has_header}
 
 -- ** bytes that are filled are bytes
 
@@ -209,3 +210,8 @@ pub strict_state_stays : StrictStateStays
 strict_state_stays b s t h k =
     let same = one_lenient b h.message k.message (lenient_accepted b h.message h.accepted).means k.accepted.means in
     h.text ∙ ap (λ (m : LinkMessage). state (message_text m)) same ∙ sym k.text
+
+-- the state is as long as the encoding
+pub state_length : (b : List ℕ) (r : Result ℕ CanonError) → HasLenientLength b r → HasLenientStateLength b r
+state_length b (Ok n) (m, accepted, is) = (m, accepted, is ∙ sym (state_is_as_long (message_text m) (has_header m)))
+state_length b (Err e) h = h

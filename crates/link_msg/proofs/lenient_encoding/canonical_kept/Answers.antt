@@ -1,4 +1,4 @@
-use Rattle.std.proofs.Common.{◌+◌, length, drop, sym, subst, arith}
+use Rattle.std.proofs.Common.{length, drop, sym, subst, arith}
 use Rattle.std.proofs.lemmas.List.{take_at}
 use Rattle.nla_wire.proofs.Front.{all_bytes}
 use Rattle.link_msg.specs.Lenient.{HasLenientText}

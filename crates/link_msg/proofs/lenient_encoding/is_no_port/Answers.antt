@@ -1,4 +1,4 @@
-use Rattle.std.proofs.Common.{◌≡◌, ◌∙◌, sym, inl, inr, eq-eqb, ne_eqb}
+use Rattle.std.proofs.Common.{◌∙◌, sym, inl, inr, eq-eqb, ne_eqb}
 use Rattle.std.proofs.lemmas.Bool.{cases_eq}
 use Rattle.link_msg.proofs.LenientPorts.{other_number, measured_ports, unmeasured_ports}
 use Rattle.link_msg.proofs.lenient_encoding.is_no_port.Goals as goal

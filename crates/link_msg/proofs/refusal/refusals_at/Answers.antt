@@ -7,4 +7,4 @@ pub invariant_of-result : goal.invariant_of-result
 invariant_of-result c =
     room_for_all c.args.input.now c.bytes_from-rest.result.now c.args.at c.new-frames.result
     c.bytes_from-rest.ensures.rest (all_bytes c.args.input.now (λ i. omega (arith, c.type_inv.input i)))
-    (omega (arith, c.type_inv.at)) c.bytes_from-rest.ensures.room c.new-frames.ensures.value
+    c.ranges.at.fits c.bytes_from-rest.ensures.room c.new-frames.ensures.value
