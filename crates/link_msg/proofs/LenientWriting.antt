@@ -95,7 +95,8 @@ module _ (b : List ℕ) (v : LinkHeader) (d : List ℕ) (long : header_size ≤ 
   measured_none vs means none =
       let m : LinkMessage = record { header = v; attributes = vs } in
       let unfit : AllFit AttributeFits attribute_frame vs → ⊥ =
-      subst (λ r. ListWeighs r None) ((agree_by lenient_place lenient_lawful v.interface_family).only d vs means) none in
+      subst (λ r. ListWeighs r None)
+      ((agree_by lenient_place lenient_lawful v.interface_family).only d vs means) none in
       (m, after_means vs means, λ fits. unfit (fits.0, attributes_counted m fits))
 
   weighed : (r : Result (List LinkAttribute) Cause) (w : ℕ × Bool) → ListWeighs r (Some w)
@@ -121,7 +122,8 @@ module _ (b : List ℕ) (v : LinkHeader) (d : List ℕ) (long : header_size ≤ 
     read_means : MeansLeniently b message_read
     unfolding message_read
     read_means =
-        after_means measured.0 ((agree_by lenient_place lenient_lawful v.interface_family).found d measured.0 after_bytes measured.1)
+        after_means measured.0
+        ((agree_by lenient_place lenient_lawful v.interface_family).found d measured.0 after_bytes measured.1)
 
     -- the text is longer than the machine can count
     pub measured_long : (header_size + n < 2 ^ 64 → ⊥) → IsLenientlyUnfit b

@@ -17,7 +17,8 @@ use Rattle.link_vals.specs.declared.address_family.AddressFamily.{AddressFamily}
 use Rattle.link_msg.specs.Header.{header_of}
 use Rattle.link_msg.specs.Tables.{attribute_place, attribute_lawful, attribute_frame, AttributeFits}
 use Rattle.link_msg.specs.Messages.{message_text}
-use Rattle.link_msg.specs.Lenient.{FaultBy, read_by, message_by, kept_if_bad, lenient_place, MeansLeniently, LenientFault}
+use Rattle.link_msg.specs.Lenient.{FaultBy, read_by, message_by, kept_if_bad, lenient_place, MeansLeniently}
+use Rattle.link_msg.specs.Lenient.{LenientFault}
 use Rattle.link_msg.specs.Lenient.{StrictIsLenient, OneLenientMeaning, FittingIsRead, LenientTextMeansTheSame}
 use Rattle.link_msg.specs.Lenient.{SameLenientTextSameMessage, LenientTwice, StrictAnswersStay}
 use Rattle.link_msg.specs.Canonical.{IsAccepted, HasText, IsUnfit, HasEmptyPorts}
@@ -160,36 +161,3 @@ module _ (family : AddressFamily) (f : Frame) where
   pub read_adds : (r : Result LinkAttribute Cause) (old new : List LinkAttribute) → Adds (Ok tt) r old new
       → Adds (Ok tt) (kept_if_bad (Attributes.Other f) r) old new
   read_adds r old new (v, is, added) = (v, ap (kept_if_bad (Attributes.Other f)) is, added)
-
--- ** the strict answers that are lenient ones
-
-pub lenient_of_text : (b t : List ℕ) → HasText b t → HasLenientText b t
-lenient_of_text b t h = record {
-  message = h.message;
-  accepted = record {
-    means = strict_is_lenient b h.message h.accepted.means;
-    fits = h.accepted.fits;
-    ports = h.accepted.ports;
-  };
-  text = h.text;
-  reads_back = strict_is_lenient t h.message h.reads_back;
-  short = h.short;
-}
-
-pub lenient_unfit : (b : List ℕ) → IsUnfit b → IsLenientlyUnfit b
-lenient_unfit b (m, means, unfit) = (m, strict_is_lenient b m means, unfit)
-
-pub lenient_ports : (b : List ℕ) → HasEmptyPorts b → HasLenientPorts b
-lenient_ports b (m, means, fits, ports) = (m, strict_is_lenient b m means, fits, ports)
-
-pub lenient_accepted : (b : List ℕ) (m : LinkMessage) → IsAccepted b m → IsLenientlyAccepted b m
-lenient_accepted b m h = record { means = strict_is_lenient b m h.means; fits = h.fits; ports = h.ports }
-
-pub strict_answers_stay : StrictAnswersStay
-strict_answers_stay b = record {
-  accepted = lenient_accepted b;
-  text = λ t u h k. h.text ∙ ap message_text (one_lenient b h.message k.message
-      (strict_is_lenient b h.message h.accepted.means) k.accepted.means) ∙ sym k.text;
-  unfit = lenient_unfit b;
-  ports = lenient_ports b;
-}

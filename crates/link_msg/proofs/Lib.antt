@@ -20,6 +20,7 @@ pub mod Faults
 pub mod BeforeFault
 pub mod ReadAgain
 pub mod Leniently
+pub mod Stays
 pub mod LenientPorts
 pub mod LenientWriting
 pub mod Telling

@@ -1,5 +1,6 @@
--- What is told of the attributes that are refused: it is all of them, and the paths lead to their faults.
-use Rattle.std.proofs.Common.{◌≡◌, ℕ, ◌+◌, ◌<◌, ◌≤◌, ◌⊎◌, inl, inr, List, [], ◌∷◌, ◌++◌, length, take, drop, refl, sym, ap}
+-- Refusals: all are there, and their paths lead to their faults.
+use Rattle.std.proofs.Common.{◌≡◌, ℕ, ◌+◌, ◌<◌, ◌≤◌, ◌⊎◌, inl, inr, List, [], ◌∷◌, ◌++◌, length, take, drop, refl, sym}
+use Rattle.std.proofs.Common.{ap}
 use Rattle.std.proofs.Common.{◌∙◌, subst, arith, Result, Ok, Err, Option, Some, None, IsOk}
 use Rattle.std.proofs.Common.{◌^◌}
 use Rattle.std.proofs.lemmas.List.{take-append-drop}
@@ -8,7 +9,8 @@ use Rattle.nla_wire.specs.Frames.{Frame, number, IsBytes, IsFrame, missing, Begi
 use Rattle.nla_wire.specs.Items.{Item, items}
 use Rattle.nla_wire.specs.Grammar.{Every}
 use Rattle.nla_wire.specs.declared.error.Cause.{Cause}
-use Rattle.nla_wire.proofs.Steps.{bytes_right, step_whole, step_begins, step_bad, step_framed, step_rest_bytes, length-begins}
+use Rattle.nla_wire.proofs.Steps.{bytes_right, step_whole, step_begins, step_bad, step_framed, step_rest_bytes}
+use Rattle.nla_wire.proofs.Steps.{length-begins}
 use Rattle.nla_wire.proofs.Items.{items_nil, items_next, items_case}
 use Rattle.link_vals.specs.declared.address_family.AddressFamily.{AddressFamily}
 use Rattle.link_msg.specs.Header.{header_size, header_of}
@@ -39,7 +41,8 @@ none_left : (rest : List ℕ) → rest ≡ [] → span (items rest) ≡ 0
 none_left rest is = ap (λ x. span (items x)) is ∙ ap span items_nil
 
 pub span_bound : (b : List ℕ) → IsBytes b → span (items b) ≤ length b + 3
-span_bound b = items_case (λ b xs. IsBytes b → span xs ≤ length b + 3) (λ small. omega arith) (λ b c e small. omega arith)
+span_bound b = items_case (λ b xs. IsBytes b → span xs ≤ length b + 3) (λ small. omega arith)
+    (λ b c e small. omega arith)
     (λ b f rest e more small. whole_or_last b f rest (step_begins b f rest small e) (span (items rest)) (none_left rest)
     (more (step_rest_bytes b f rest small e))) b
 
@@ -141,7 +144,8 @@ told_are_raw b m small (h, c, whole, header, (fs, frames, every)) =
     let rest : drop header_size b ≡ c =
     ap (drop header_size) whole ∙ ap (λ n. drop n (h ++ c)) (sym header.size) ∙ drop-append_seam h c in
     let fields : header_of (take header_size b) ≡ m.header = ap header_of front ∙ sym header.says in
-    subst (λ (v : LinkHeader). AreRaw family m.attributes (told v.interface_family header_size (items (drop header_size b))))
+    subst (λ (v : LinkHeader).
+    AreRaw family m.attributes (told v.interface_family header_size (items (drop header_size b))))
     (sym fields)
     (subst (λ x. AreRaw family m.attributes (told family header_size (items x))) (sym rest)
     (raw_list family header_size c fs m.attributes frames every))

@@ -1,5 +1,5 @@
--- Lenient reading: an attribute that its table refuses is kept whole, with its number, flags and payload. So frames that
--- fit always mean a message, and a fault is a header that is too short, or a frame that does not fit.
+-- Lenient reading: an attribute that its table refuses is kept whole, with its number, flags and payload. So frames
+-- that fit always mean a message, and a fault is a header that is too short, or a frame that does not fit.
 use Rattle.std.specs.Prelude.{◌≡◌, ◌≢◌, ℕ, ◌+◌, ◌-◌, ◌*◌, ◌<◌, ◌≤◌, nat_lt, if◌then◌else◌, List, ◌++◌, ◌⊎◌, length}
 use Rattle.std.specs.Prelude.{take, drop, Result, Ok, Err, Bool, MatchBool}
 use Rattle.std.specs.List.{AllByRecursion}

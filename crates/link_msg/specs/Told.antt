@@ -1,4 +1,4 @@
--- What is told of the attributes that lenient reading keeps because they are refused: each, in order, with its place.
+-- Refusals: the attributes that lenient reading keeps because they are refused, in order, each with its place.
 use Rattle.std.specs.Prelude.{◌≡◌, ℕ, ◌+◌, ◌<◌, ◌⊎◌, List, [], ◌∷◌, ◌++◌, length, take, drop, max}
 use Rattle.std.specs.Prelude.{Result, Ok, Err, Option, Some, None}
 use Rattle.nla_wire.specs.Frames.{Frame, IsBytes, missing, Frames, Fault}
@@ -35,12 +35,12 @@ after at f = at + (4 + length f.payload + missing (length f.payload))
 
 -- ** as a function
 
--- what is told of a frame that is read so, and then of what comes after it
+-- the refusal of a frame that is read so, if it is one, in front of those that come after it
 abbrev pub told_on : AddressFamily → ℕ → Frame → Result LinkAttribute Cause → List Told → List Told
 told_on family at f (Ok v) more = more
 told_on family at f (Err c) more = told_of family at (Some f) c ∷ more
 
--- what is told of items, of which the first starts there
+-- the refusals among items, of which the first starts there
 abbrev pub told : AddressFamily → ℕ → List Item → List Told
 told family at [] = []
 told family at ((Err c) ∷ xs) = told_of family at None c ∷ told family at xs
@@ -87,7 +87,7 @@ abbrev pub AreFrames : List ℕ → List Frame → Option Cause → Type 0
 AreFrames b fs None = Frames b fs
 AreFrames b fs (Some c) = Fault b fs c
 
--- what is told of the message b: each attribute that is refused, in order, with its offset from the front of b, and the
+-- the refusals of the message b: each attribute that is refused, in order, with its offset from the front of b, and the
 -- bytes behind them that are no frame
 pub record AreRefusals (b : List ℕ) (ts : List Told) : Type 0 where
   pub header : List ℕ
@@ -104,8 +104,8 @@ pub record AreRefusals (b : List ℕ) (ts : List Told) : Type 0 where
 abbrev pub IsHeaderless : List ℕ → Cause → Type 0
 IsHeaderless b c = (length b < header_size) × (c ≡ TooShort (length b) header_size)
 
--- the path leads to the fault that is told: to bytes that are no frame; or to a frame, where its payload is no list that
--- has a fault, and else to that fault
+-- the path leads to the fault: to bytes that are no frame; to a frame, if its payload is no list that has a fault; or
+-- else to that fault
 abbrev pub LeadsThere : Told → FaultPath → Type 0
 LeadsThere t p =
     LeadsTo (λ f. FaultIn (in_attribute t.family f) f.payload) t.cause t.offset t.frame p.offset (numbers_to p)

@@ -95,8 +95,9 @@ pub fn law_exact_room(input: &[u8], len: usize)
 {}
 
 /// What bytes mean they mean leniently, and what has a canonical encoding has the same one leniently; frames that fit
-/// always mean a message leniently, and no bytes mean two. Where such a message fits and holds no empty list of ports, its canonical encoding means it leniently; two have one
-/// encoding exactly where they are one message; and the lenient canonical encoding of such an encoding is itself.
+/// always mean a message leniently, and no bytes mean two. Where such a message fits and holds no empty list of ports,
+/// its canonical encoding means it leniently; two have one encoding exactly where they are one message; and the lenient
+/// canonical encoding of such an encoding is itself.
 pub fn law_lenient()
     ensures strict { StrictIsLenient }
     ensures answers { StrictAnswersStay }

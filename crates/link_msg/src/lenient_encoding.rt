@@ -140,7 +140,7 @@ fn within_kept(input: &[u8], out: &mut [u8]) -> Result<usize, RoomError>
 ///
 /// Refuses as `canonical_lenient_len` does, and `NoRoom` exactly where the encoding is longer than the buffer. After a
 /// refusal the buffer is unchanged. Where the bytes are accepted strictly this is what `canonical_within` does.
-#[tactic(auto, using(crate::proofs::Leniently::lenient_unfit, crate::proofs::Leniently::lenient_ports, crate::proofs::Leniently::lenient_accepted))]
+#[tactic(auto, using(crate::proofs::Stays::is_unfit, crate::proofs::Stays::has_ports))]
 pub fn canonical_lenient_within(input: &[u8], out: &mut [u8]) -> Result<usize, RoomError>
     ensures { IsLenientlyWithin input.now out.old out.new result }
 {
@@ -175,7 +175,7 @@ fn canonical_kept(alloc: Global, input: &[u8]) -> Result<Vec<u8>, CanonError>
 /// Where `canonical` has an encoding, this is it. The encoding means leniently the same message, and its attributes are
 /// at most `growth_per_byte` times as long as those read. Refuses as `canonical_lenient_len` does, or with
 /// `OutOfMemory`.
-#[tactic(auto, using(crate::proofs::Leniently::lenient_of_text, crate::proofs::Leniently::lenient_unfit, crate::proofs::Leniently::lenient_ports))]
+#[tactic(auto, using(crate::proofs::Stays::of_text, crate::proofs::Stays::is_unfit, crate::proofs::Stays::has_ports))]
 pub fn canonical_lenient(alloc: Global, input: &[u8]) -> Result<Vec<u8>, CanonError>
     ensures ok { IfOk result (λ t. HasLenientText input.now t.items) }
     ensures err { IfErr result (IsLenientRefusal input.now) }
@@ -203,7 +203,7 @@ fn len_kept(input: &[u8]) -> Result<usize, CanonError>
 ///
 /// Refuses, in this order: `Decode` where a header is too short or a frame does not fit, with the first such fault;
 /// `DoesNotFit`; `EmptyVfPorts`; and never `OutOfMemory`.
-#[tactic(auto, using(crate::proofs::Leniently::lenient_unfit, crate::proofs::Leniently::lenient_ports))]
+#[tactic(auto, using(crate::proofs::Stays::is_unfit, crate::proofs::Stays::has_ports))]
 pub fn canonical_lenient_len(input: &[u8]) -> Result<usize, CanonError>
     ensures { HasLenientLength input.now result }
 {

@@ -1,6 +1,7 @@
 //! The attributes that lenient reading keeps because they are refused.
 
-ghost use Rattle.std.specs.Prelude.{◌≡◌, ◌⊎◌, [], ◌+◌, ◌^◌, ◌<◌, ◌≤◌, List, length, drop, MatchOption, MatchResult, IfOk, IfErr, None, Some};
+ghost use Rattle.std.specs.Prelude.{◌≡◌, ◌⊎◌, [], ◌+◌, ◌^◌, ◌<◌, List, length, drop, MatchOption, IfOk, IfErr};
+ghost use Rattle.std.specs.Prelude.{None, Some};
 ghost use Rattle.nla_wire.specs.Frames.{Frame};
 ghost use Rattle.nla_wire.specs.Items.{Item, items};
 ghost use Rattle.link_msg.specs.Tables.{attribute_place};
@@ -74,7 +75,7 @@ impl<'a> Refusal<'a> {
     }
 }
 
-/// What is told of bytes that are no frame.
+/// The refusal of bytes that are no frame.
 fn stray<'a>(error: DecodeError, offset: usize, family: AddressFamily) -> Refusal<'a>
     ensures { result ≡ told_of family offset None error.cause }
 {
@@ -87,7 +88,7 @@ fn stray<'a>(error: DecodeError, offset: usize, family: AddressFamily) -> Refusa
     }
 }
 
-/// What is told of a frame, if it is refused.
+/// The refusal of a frame, if it is refused.
 fn refused<'a>(frame: NlaBuffer<'a>, offset: usize, family: AddressFamily) -> Option<Refusal<'a>>
     requires { offset + 4 + length frame.payload < 2 ^ 64 }
     ensures { (more : List Told)
@@ -110,7 +111,7 @@ fn refused<'a>(frame: NlaBuffer<'a>, offset: usize, family: AddressFamily) -> Op
     }
 }
 
-/// What is told next of the frames that are left, of which the first starts at this offset.
+/// The next refusal among the frames that are left, of which the first starts at this offset.
 fn next_refused<'a>(
     frames: &mut NlasIterator<'a>,
     at: &mut usize,
@@ -118,7 +119,8 @@ fn next_refused<'a>(
 ) -> Option<Refusal<'a>>
     requires { at.old + span frames.old < 2 ^ 64 }
     ensures room { at.new + span frames.new < 2 ^ 64 }
-    ensures told { TellsNext (told family at.old frames.old) result (told family at.new frames.new) }
+    ensures told { TellsNext (told family at.old frames.old) result
+        (told family at.new frames.new) }
 {
     while let Some(item) = frames.next() {
         let frame = match item {

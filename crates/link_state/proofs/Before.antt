@@ -116,13 +116,15 @@ at_bad by level b c e [] frames =
       filled_is = refl;
     }
 at_bad by level b c e (g ∷ gs) frames =
-    let here = subst (λ x. Frames x (g ∷ gs)) (filled_step by level b ∙ ap (filled_on by (filled by) level b) e) frames in
+    let here = subst (λ x. Frames x (g ∷ gs))
+    (filled_step by level b ∙ ap (filled_on by (filled by) level b) e) frames in
     absurd (no_frame b c e g here.0 here.1)
 
 at_end : (by : ℕ) (level : Level) (b : List ℕ) → step b ≡ End → Unfilled by level b
 at_end by level b e [] frames = record { frames = []; spelt = step_end b e; framed = tt; filled_is = refl }
 at_end by level b e (g ∷ gs) frames =
-    let here = subst (λ x. Frames x (g ∷ gs)) (filled_step by level b ∙ ap (filled_on by (filled by) level b) e) frames in
+    let here = subst (λ x. Frames x (g ∷ gs))
+    (filled_step by level b ∙ ap (filled_on by (filled by) level b) e) frames in
     let clash = sym e ∙ step_whole b g here.0 here.1 in absurd cc
 
 at_next : (by : ℕ) (level : Level) (b : List ℕ) (f : Frame) (rest : List ℕ) → IsBytes b → step b ≡ Next f rest

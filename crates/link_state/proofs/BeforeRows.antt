@@ -112,7 +112,8 @@ proto_inet6_before by =
     let es = entries_of no_shapes proto_inet6s always link_proto_info_inet6_table in
     let at = λ (n : ℕ) (action : Action).
     kept_before no_shapes view always es proto_inet6.Other by n action (λ size. refl) in
-    rows_before link_proto_info_inet6_place.grammar by (rows Inet6) (at 3 Clear & at 5 (ClearPart 4 12) & at 6 Clear & tt)
+    rows_before link_proto_info_inet6_place.grammar by (rows Inet6)
+    (at 3 Clear & at 5 (ClearPart 4 12) & at 6 Clear & tt)
 
 proto_bridge_before : (by : ℕ) → BeforeIn link_proto_info_bridge_place by BridgePort
 unfolding link_proto_info_bridge_place
@@ -131,16 +132,17 @@ unfolding vf_stats_place
 function_stats_before by =
     let view = view_of no_shapes vf_statistics always vf_stats_table in
     let es = entries_of no_shapes vf_statistics always vf_stats_table in
+    let g = u64.grammar in
     let number = number_before by w64 in
     rows_before vf_stats_place.grammar by (rows FunctionStats) (
-    line_before no_shapes view always es vf_stats.Other by 0 Clear u64.grammar vf_stats.RxPackets (λ size. refl) number
-    & line_before no_shapes view always es vf_stats.Other by 1 Clear u64.grammar vf_stats.TxPackets (λ size. refl) number
-    & line_before no_shapes view always es vf_stats.Other by 2 Clear u64.grammar vf_stats.RxBytes (λ size. refl) number
-    & line_before no_shapes view always es vf_stats.Other by 3 Clear u64.grammar vf_stats.TxBytes (λ size. refl) number
-    & line_before no_shapes view always es vf_stats.Other by 4 Clear u64.grammar vf_stats.Broadcast (λ size. refl) number
-    & line_before no_shapes view always es vf_stats.Other by 5 Clear u64.grammar vf_stats.Multicast (λ size. refl) number
-    & line_before no_shapes view always es vf_stats.Other by 7 Clear u64.grammar vf_stats.RxDropped (λ size. refl) number
-    & line_before no_shapes view always es vf_stats.Other by 8 Clear u64.grammar vf_stats.TxDropped (λ size. refl) number
+    line_before no_shapes view always es vf_stats.Other by 0 Clear g vf_stats.RxPackets (λ size. refl) number
+    & line_before no_shapes view always es vf_stats.Other by 1 Clear g vf_stats.TxPackets (λ size. refl) number
+    & line_before no_shapes view always es vf_stats.Other by 2 Clear g vf_stats.RxBytes (λ size. refl) number
+    & line_before no_shapes view always es vf_stats.Other by 3 Clear g vf_stats.TxBytes (λ size. refl) number
+    & line_before no_shapes view always es vf_stats.Other by 4 Clear g vf_stats.Broadcast (λ size. refl) number
+    & line_before no_shapes view always es vf_stats.Other by 5 Clear g vf_stats.Multicast (λ size. refl) number
+    & line_before no_shapes view always es vf_stats.Other by 7 Clear g vf_stats.RxDropped (λ size. refl) number
+    & line_before no_shapes view always es vf_stats.Other by 8 Clear g vf_stats.TxDropped (λ size. refl) number
     & tt
     )
 

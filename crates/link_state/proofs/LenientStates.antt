@@ -17,7 +17,8 @@ use Rattle.link_msg.specs.declared.attribute.LinkAttribute.{LinkAttribute}
 use Rattle.link_msg.specs.declared.attribute.LinkAttribute.TheVariants as Attributes
 use Rattle.link_msg.specs.declared.encoding.CanonError.{CanonError}
 use Rattle.link_msg.specs.declared.message.LinkMessage.{LinkMessage}
-use Rattle.link_msg.proofs.Leniently.{lenient_accepted, one_lenient}
+use Rattle.link_msg.proofs.Leniently.{one_lenient}
+use Rattle.link_msg.proofs.Stays.{of_accepted}
 use Rattle.link_state.specs.Table.{Action, action_of}
 use Rattle.link_state.specs.Table.Action.{Keep, Clear, ClearPart, Enter, EnterInfo}
 use Rattle.link_state.specs.Cleared.{info_level, payload_by, filled}
@@ -76,7 +77,8 @@ module _ (by : ℕ) (byte : by < 256) (family : AddressFamily) where
   -- no frame is both read and refused
   apart : (f : Frame) (v : LinkAttribute) (c : Cause) → Strict f v → Bad f c → ⊥
   apart f v c means bad =
-      let clash = sym ((attribute_lawful family).agrees.only f v means) ∙ (attribute_lawful family).agrees.refused f c bad in
+      let clash = sym ((attribute_lawful family).agrees.only f v means)
+      ∙ (attribute_lawful family).agrees.refused f c bad in
       absurd cc
 
   -- what is read is read once it is filled, and what is refused stays refused
@@ -208,7 +210,7 @@ lenient_filled_is_canonical by t m byte small own =
 
 pub strict_state_stays : StrictStateStays
 strict_state_stays b s t h k =
-    let same = one_lenient b h.message k.message (lenient_accepted b h.message h.accepted).means k.accepted.means in
+    let same = one_lenient b h.message k.message (of_accepted b h.message h.accepted).means k.accepted.means in
     h.text ∙ ap (λ (m : LinkMessage). state (message_text m)) same ∙ sym k.text
 
 -- the state is as long as the encoding

@@ -49,7 +49,7 @@ state_is_as_long t long = omega (
 -- ** the header
 
 -- no flags are changed
-no_changes : LinkHeader → LinkHeader
+pub no_changes : LinkHeader → LinkHeader
 no_changes v = record {
   interface_family = v.interface_family;
   index = v.index;

@@ -56,8 +56,8 @@ pub fn canonical_into(message: &[u8], out: &mut [u8]) -> Result<usize, RoomError
 ///
 /// # Errors
 ///
-/// [`RoomError::NoEncoding`] where [`canonical_lenient`](crate::canonical_lenient) refuses, [`RoomError::NoRoom`] exactly
-/// where the encoding is longer than `out`. After a refusal `out` is unchanged.
+/// [`RoomError::NoEncoding`] where [`canonical_lenient`](crate::canonical_lenient) refuses, [`RoomError::NoRoom`]
+/// exactly where the encoding is longer than `out`. After a refusal `out` is unchanged.
 ///
 /// ```
 /// use linkwire::{canonical_lenient_into, canonical_into};

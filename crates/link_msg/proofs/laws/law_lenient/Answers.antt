@@ -1,5 +1,6 @@
 use Rattle.link_msg.proofs.Leniently.{strict_is_lenient, one_lenient, fitting_is_read, lenient_text}
-use Rattle.link_msg.proofs.Leniently.{same_lenient_text, lenient_twice, strict_answers_stay}
+use Rattle.link_msg.proofs.Leniently.{same_lenient_text, lenient_twice}
+use Rattle.link_msg.proofs.Stays.{strict_answers_stay}
 use Rattle.link_msg.proofs.laws.law_lenient.Goals as goal
 
 pub returns : goal.returns

@@ -1,5 +1,5 @@
-use Rattle.link_msg.proofs.Leniently.{lenient_accepted}
+use Rattle.link_msg.proofs.Stays.{of_accepted}
 use Rattle.link_msg.proofs.lenient_encoding.canonical_lenient_len.Goals as goal
 
 pub returns-in-Ok : goal.returns-in-Ok
-returns-in-Ok c = let e = c.in-Ok.ensures in (e.0, lenient_accepted c.args.input.now e.0 e.1, e.2)
+returns-in-Ok c = let e = c.in-Ok.ensures in (e.0, of_accepted c.args.input.now e.0 e.1, e.2)

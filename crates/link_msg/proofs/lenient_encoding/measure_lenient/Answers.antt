@@ -2,7 +2,8 @@ use Rattle.std.proofs.Common.{◌≢◌, arith}
 use Rattle.std.proofs.lemmas.Result.{err_from_is_err_and}
 use Rattle.nla_wire.proofs.Front.{all_bytes}
 use Rattle.link_msg.specs.declared.encoding.CanonError.TheVariants as Refusals
-use Rattle.link_msg.proofs.LenientWriting.{measured_refused, measured_none, measured_long, measured_empty, measured_whole}
+use Rattle.link_msg.proofs.LenientWriting.{measured_refused, measured_none, measured_long, measured_empty}
+use Rattle.link_msg.proofs.LenientWriting.{measured_whole}
 use Rattle.link_msg.proofs.lenient_encoding.measure_lenient.Goals as goal
 
 pub returns-in_err-check_frames-clause-err : goal.returns-in_err-check_frames-clause-err

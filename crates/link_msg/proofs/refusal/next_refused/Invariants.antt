@@ -2,7 +2,7 @@ use Rattle.std.proofs.Common.{◌≡◌, ◌+◌, ◌<◌, ◌^◌, length}
 use Rattle.link_msg.specs.Told.{told, span}
 use Rattle.link_msg.proofs.refusal.next_refused.Given as goal
 
--- what is told of what is left is what was told at first
+-- the refusals that are left are those of the beginning
 abbrev pub invariant-loop-item : goal.invariant-loop-item
 invariant-loop-item l = record {
   room : l.at + span l.frames < 2 ^ 64;
