@@ -4,7 +4,7 @@
 // forms of the sources that this is made from
 #![allow(clippy::manual_map, clippy::match_like_matches_macro, clippy::needless_range_loop)]
 #![allow(clippy::manual_flatten, clippy::redundant_closure, clippy::unnecessary_map_on_constructor)]
-#![allow(clippy::single_match)]
+#![allow(clippy::single_match, clippy::slow_vector_initialization, clippy::while_let_on_iterator)]
 
 #[cfg(not(all(target_pointer_width = "64", target_endian = "little")))]
 compile_error!("linkwire is for 64-bit little-endian targets");
