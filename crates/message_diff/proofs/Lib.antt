@@ -6,4 +6,5 @@ pub mod Missed
 pub mod Gone
 pub mod Hosts
 pub mod Runs
+pub mod LastNames
 pub mod Meant

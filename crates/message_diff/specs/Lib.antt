@@ -3,6 +3,7 @@ pub mod Members
 pub mod Known
 pub mod Said
 pub mod Alone
+pub mod Named
 pub mod Told
 pub mod Held
 pub mod Watched

@@ -14,6 +14,7 @@ mod key;
 mod line;
 mod lines;
 mod members;
+mod named;
 mod parts;
 mod reading;
 mod rows;
