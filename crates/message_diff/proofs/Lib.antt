@@ -1,5 +1,6 @@
+pub mod Diffs
 pub mod Found
-pub mod Steps
+pub mod Paths
 pub mod Silent
 pub mod Pictures
 pub mod Missed
@@ -8,3 +9,8 @@ pub mod Hosts
 pub mod Runs
 pub mod LastNames
 pub mod Meant
+pub mod Changed
+pub mod Without
+pub mod Trees
+pub mod Taken
+pub mod Marked

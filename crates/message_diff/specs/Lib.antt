@@ -1,9 +1,13 @@
 pub mod Compared
-pub mod Members
+pub mod Differences
+pub mod Paths
 pub mod Known
 pub mod Said
 pub mod Alone
 pub mod Named
 pub mod Told
+pub mod Changed
+pub mod Trees
+pub mod Marked
 pub mod Held
 pub mod Watched

@@ -1,8 +1,14 @@
 //! What of the changes is of what the state encodings of the messages have at zero.
 
+ghost use Rattle.std.specs.Prelude.{◌≡◌, IfOk, true};
+ghost use Rattle.std.specs.List.{Contains};
+ghost use Rattle.message_diff.specs.Differences.{left_of, diff_of, diff_in, diffs_of, AreLeft};
+ghost use Rattle.message_diff.specs.Paths.{paths_in};
+
 use crate::desk::Pair;
 use crate::differences::Change;
 use crate::half::Half;
+use crate::rows::Rows;
 use link_msg::header::HEADER_SIZE;
 use link_state::{Level, fill};
 use link_vals::AddressFamily;
@@ -57,13 +63,22 @@ fn doubt_of(change: &Change<'_>, may_differ: bool) -> (bool, bool) {
 }
 
 /// What is left of a change without what the old message clears, and the new one.
-fn left_of<'a>(change: &Change<'a>, by_old: bool, by_new: bool) -> Option<Change<'a>> {
+fn left_of<'a>(change: &Change<'a>, by_old: bool, by_new: bool) -> Option<Change<'a>>
+    ensures { diff_in result ≡ left_of by_old by_new (diff_of change.now) }
+{
     match (*change, by_old, by_new) {
         (it, false, false) => Some(it),
         (Change::Turned(path, _, is), true, false) => Some(Change::Came(path, is)),
         (Change::Turned(path, was, _), false, true) => Some(Change::Went(path, was)),
         _ => None,
     }
+}
+
+/// Whether a path is one of the rows, where it may be.
+fn is_counter(rows: &Rows, may_be: bool, path: &[u8], likely: &mut usize) -> bool
+    ensures { result ≡ true → Contains (paths_in rows.now) path.now }
+{
+    may_be && rows.contains(path, likely)
 }
 
 /// The counters of two messages, each with other bytes in the place of the zeros of its state encoding: they are the
@@ -136,7 +151,11 @@ impl Counters {
         alloc: Global,
         pair: &Pair,
         changes: Vec<Change<'a>>,
-    ) -> Result<Vec<Change<'a>>, AllocError> {
+    ) -> Result<Vec<Change<'a>>, AllocError>
+        ensures { IfOk result (λ left. AreLeft (paths_in self.exit.now.old.rows)
+            (paths_in self.exit.now.new.rows) (diffs_of changes.entry.items)
+            (diffs_of left.items)) }
+    {
         let may_differ = kinds_may_differ(changes.as_slice());
         self.take(alloc, pair, changes.as_slice(), may_differ)?;
         if self.old.rows.is_empty() && self.new.rows.is_empty() {
@@ -146,10 +165,11 @@ impl Counters {
         let (mut in_old, mut in_new) = (0, 0);
         for change in changes.iter() {
             let (may_old, may_new) = doubt_of(change, may_differ);
-            let by_old = may_old && self.old.rows.contains(change.path(), &mut in_old);
-            let by_new = may_new && self.new.rows.contains(change.path(), &mut in_new);
-            if let Some(it) = left_of(change, by_old, by_new) {
-                left.push(it)?;
+            let by_old = is_counter(&self.old.rows, may_old, change.path(), &mut in_old);
+            let by_new = is_counter(&self.new.rows, may_new, change.path(), &mut in_new);
+            match left_of(change, by_old, by_new) {
+                Some(it) => left.push(it)?,
+                None => {}
             }
         }
         Ok(left)

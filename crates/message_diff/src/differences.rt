@@ -1,8 +1,9 @@
 //! What differs between the members of two texts.
 
-ghost use Rattle.std.specs.Prelude.{◌≡◌, List, ℕ, IfOk, MatchOption};
-ghost use Rattle.std.specs.List.{All};
-ghost use Rattle.message_diff.specs.Members.{Has, HasPath, Lacks, IsReal, IsOldTold, IsChangeOf, AreDifferences};
+ghost use Rattle.std.specs.Prelude.{◌≡◌, IfOk, option_map};
+ghost use Rattle.message_diff.specs.Differences.{IsValueAt, Says, AreOldDiffs, AreDiffs};
+ghost use Rattle.message_diff.specs.Differences.{leaf_of, leaves, diff_of, diff_in, diffs_of};
+ghost use Rattle.message_diff.specs.Differences.{path_of, old_of, new_of};
 
 use crate::rows::Row;
 use std::alloc::{AllocError, Global};
@@ -20,17 +21,38 @@ pub enum Change<'a> {
 
 impl<'a> Change<'a> {
     /// Its path.
-    pub fn path(&self) -> &'a [u8] {
+    pub fn path(&self) -> &'a [u8]
+        ensures { result.now ≡ path_of (diff_of self.now) }
+    {
         match *self {
             Change::Came(path, _) | Change::Went(path, _) | Change::Turned(path, _, _) => path,
+        }
+    }
+
+    /// The value that the path had.
+    pub fn old(&self) -> Option<&'a [u8]>
+        ensures { option_map (λ value. value.now) result ≡ old_of (diff_of self.now) }
+    {
+        match *self {
+            Change::Came(_, _) => None,
+            Change::Went(_, value) | Change::Turned(_, value, _) => Some(value),
+        }
+    }
+
+    /// The value that it has.
+    pub fn new(&self) -> Option<&'a [u8]>
+        ensures { option_map (λ value. value.now) result ≡ new_of (diff_of self.now) }
+    {
+        match *self {
+            Change::Went(_, _) => None,
+            Change::Came(_, value) | Change::Turned(_, _, value) => Some(value),
         }
     }
 }
 
 /// The value of a row with this path, which is looked for first where it is likely; the next one is likely after it.
 pub fn value_of<'a>(rows: &[Row<'a>], path: &[u8], likely: &mut usize) -> Option<&'a [u8]>
-    ensures { MatchOption result (Lacks rows.now path.now)
-        (λ value. Has rows.now path.now value.now) }
+    ensures { IsValueAt (leaves rows.now) path.now (option_map (λ value. value.now) result) }
 {
     if *likely < rows.len() {
         let row = &rows[*likely];
@@ -50,8 +72,7 @@ pub fn value_of<'a>(rows: &[Row<'a>], path: &[u8], likely: &mut usize) -> Option
 
 /// What an old row says that the new rows do not.
 fn change_of<'a>(row: &'a Row<'a>, new: &'a [Row<'a>], likely: &mut usize) -> Option<Change<'a>>
-    ensures { MatchOption result (Has new.now row.now.path.now row.now.value.now)
-        (IsChangeOf row.now new.now) }
+    ensures { Says (leaves new.now) (leaf_of row.now) (diff_in result) }
 {
     match value_of(new, row.path, likely) {
         None => Some(Change::Went(row.path, row.value)),
@@ -66,8 +87,8 @@ fn old_changes<'a>(
     old: &'a [Row<'a>],
     new: &'a [Row<'a>],
 ) -> Result<Vec<Change<'a>>, AllocError>
-    ensures real { IfOk result (λ cs. All (IsReal old.now new.now) cs.items) }
-    ensures told { IfOk result (λ cs. All (IsOldTold new.now cs.items) old.now) }
+    ensures { IfOk result
+        (λ cs. AreOldDiffs (leaves old.now) (leaves new.now) (diffs_of cs.items)) }
 {
     let mut changes = Vec::new(alloc);
     let mut likely = 0;
@@ -81,12 +102,15 @@ fn old_changes<'a>(
 }
 
 /// What differs between the rows: first what the old ones say, in their order, and then what came.
+///
+/// Where a path stands more than once among the new rows, with two values, an old row is compared with one of them.
 pub fn differences<'a>(
     alloc: Global,
     old: &'a [Row<'a>],
     new: &'a [Row<'a>],
 ) -> Result<Vec<Change<'a>>, AllocError>
-    ensures { IfOk result (λ cs. AreDifferences old.now new.now cs.items) }
+    ensures { IfOk result
+        (λ cs. AreDiffs (leaves old.now) (leaves new.now) (diffs_of cs.items)) }
 {
     let mut changes = old_changes(alloc, old, new)?;
     let mut likely = 0;

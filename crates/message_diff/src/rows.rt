@@ -1,6 +1,8 @@
 //! The members that two texts do not have in common, one below the other.
 
-ghost use Rattle.std.specs.Prelude.{◌<◌, ◌^◌, length, IfSome};
+ghost use Rattle.std.specs.Prelude.{◌≡◌, ◌<◌, ◌^◌, length, IfSome, true};
+ghost use Rattle.std.specs.List.{Contains};
+ghost use Rattle.message_diff.specs.Paths.{part_of, start_in, path_in, paths_in};
 
 use crate::members::Members;
 use itoa::Buffer;
@@ -56,6 +58,14 @@ fn are_same(one: &[u8], other: &[u8]) -> bool {
     one == other
 }
 
+/// The bytes from one place to before another; none where they do not lie so in the text.
+#[inline(always)]
+fn part(text: &[u8], start: usize, end: usize) -> &[u8]
+    ensures { result.now ≡ part_of text.now start end }
+{
+    text.get(start..end).unwrap_or(b"")
+}
+
 impl Open {
     /// The place of the other text's member with this one's name: it is looked for first where it is likely.
     #[inline(always)]
@@ -99,9 +109,11 @@ impl Rows {
 
     /// Whether there is a row with this path. It is looked for first where it is likely; the next one is likely after
     /// it.
-    pub fn contains(&self, path: &[u8], likely: &mut usize) -> bool {
-        if self.path_at(*likely) == path {
-            *likely = (*likely).saturating_add(1);
+    pub fn contains(&self, path: &[u8], likely: &mut usize) -> bool
+        ensures { result ≡ true → Contains (paths_in self.now) path.now }
+    {
+        if *likely < self.spots.len() && self.path_at(*likely) == path {
+            *likely += 1;
             return true;
         }
         for place in 0..self.spots.len() {
@@ -113,16 +125,24 @@ impl Rows {
         false
     }
 
-    /// The path of the row at this place; nothing where there is none.
-    fn path_at(&self, place: usize) -> &[u8] {
-        let start = match place {
-            0 => 0,
-            _ => self.spots.get(place - 1).map_or(0, |spot| spot.end),
-        };
-        match self.spots.get(place) {
-            Some(spot) => self.paths.get(start..spot.end).unwrap_or(b""),
-            None => b"",
+    /// The path of the row at this place.
+    fn path_at(&self, place: usize) -> &[u8]
+        requires { place < length self.now.spots.items }
+        ensures { result.now ≡ path_in self.now.paths.items self.now.spots.items place }
+    {
+        let start = self.start_of(place);
+        part(self.paths.as_slice(), start, self.spots[place].end)
+    }
+
+    /// Where the path of the row at this place begins.
+    fn start_of(&self, place: usize) -> usize
+        requires { place < length self.now.spots.items }
+        ensures { result ≡ start_in self.now.spots.items place }
+    {
+        if place == 0 {
+            return 0;
         }
+        self.spots[place - 1].end
     }
 
     /// The rows, which are of these members.

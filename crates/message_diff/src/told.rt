@@ -1,9 +1,11 @@
 //! A line for an interface that came, went or changed.
 
-ghost use Rattle.std.specs.Prelude.{◌≡◌, ◌<◌, ◌≤◌, ◌↔◌, IsTrue, IfOk, IfErr, OnOk, false, length, codes};
+ghost use Rattle.std.specs.Prelude.{◌≡◌, ◌<◌, ◌++◌, ◌↔◌, IsTrue, IfOk, IfErr, OnOk, false, length, codes};
 ghost use Rattle.link_msg.specs.Canonical.{IsRefusalOfTwo};
 ghost use Rattle.message_diff.specs.Compared.{TellsIfDiffers, Extends};
 ghost use Rattle.message_diff.specs.Alone.{AddsAlone};
+ghost use Rattle.message_diff.specs.Differences.{diffs_of, AreSomeLeft};
+ghost use Rattle.message_diff.specs.Changed.{told_diffs, changes_text, AddsChanged, AddsChangedBy};
 
 use crate::alone::push_alone;
 use crate::counters::Counters;
@@ -50,13 +52,30 @@ fn push_differences(
     changes: &[Change<'_>],
     out: &mut Vec<u8>,
 ) -> Result<(), AllocError>
-    ensures more { OnOk result (length out.old.items ≤ length out.new.items) }
-    ensures added { OnOk result (Extends out.old.items out.new.items) }
+    ensures { OnOk result (out.new.items ≡ out.old.items
+        ++ changes_text (told_diffs old.now new.now (diffs_of changes.now))) }
 {
     if changes.is_empty() {
         return push_texts(alloc, out, old.text(), new.text());
     }
     push_changes(out, changes)
+}
+
+/// The changes without those of counters, where these are not compared.
+fn leave_out<'a>(
+    alloc: Global,
+    by: Compared,
+    pair: &Pair,
+    counters: &mut Counters,
+    changes: Vec<Change<'a>>,
+) -> Result<Vec<Change<'a>>, AllocError>
+    ensures { IfOk result (λ left. AreSomeLeft (diffs_of changes.entry.items)
+        (diffs_of left.items)) }
+{
+    match by {
+        Compared::State => counters.leave_out(alloc, pair, changes),
+        Compared::Message => Ok(changes),
+    }
 }
 
 /// Adds a line for an interface whose encoding is another, by what is shown of both.
@@ -69,15 +88,13 @@ fn push_shown(
     counters: &mut Counters,
     out: &mut Vec<u8>,
 ) -> Result<(), AllocError>
-    ensures said { OnOk result (length out.old.items < length out.new.items) }
-    ensures added { OnOk result (Extends out.old.items out.new.items) }
+    ensures { OnOk result
+        (AddsChanged front.now old.now new.now out.old.items out.new.items) }
 {
     let was = pair.old.list(alloc)?;
     let is = pair.new.list(alloc)?;
-    let mut changes = differences(alloc, was.as_slice(), is.as_slice())?;
-    if new.by() == Compared::State {
-        changes = counters.leave_out(alloc, pair, changes)?;
-    }
+    let found = differences(alloc, was.as_slice(), is.as_slice())?;
+    let changes = leave_out(alloc, new.by(), pair, counters, found)?;
     push_head(alloc, front, "changed", pair.new.members(), out)?;
     push_differences(alloc, old, new, changes.as_slice(), out)
 }
@@ -91,8 +108,8 @@ fn push_difference(
     desk: &mut Desk,
     out: &mut Vec<u8>,
 ) -> Result<(), AllocError>
-    ensures said { OnOk result (length out.old.items < length out.new.items) }
-    ensures added { OnOk result (Extends out.old.items out.new.items) }
+    ensures { OnOk result
+        (AddsChanged front.now old.now new.now out.old.items out.new.items) }
 {
     let orders = (old.order(), new.order());
     desk.pair.show(alloc, orders, old.text(), new.text())?;
@@ -118,6 +135,8 @@ pub fn push_changed(
     ensures said { IfOk result
         (λ told. IsTrue told → length out.old.items < length out.new.items) }
     ensures added { OnOk result (Extends out.old.items out.new.items) }
+    ensures line { IfOk result (λ told. IsTrue told
+        → AddsChanged front.now old.old new.old out.old.items out.new.items) }
     ensures old_kept { old.new ≡ old.old }
     ensures new_kept { new.new ≡ new.old }
 {
@@ -144,6 +163,8 @@ pub fn push_compared(
     ensures silent { IfOk result (λ told. told ≡ false → out.new ≡ out.old) }
     ensures said { IfOk result
         (λ told. IsTrue told → length out.old.items < length out.new.items) }
+    ensures line { IfOk result (λ told. IsTrue told
+        → AddsChangedBy by old.now new.now out.old.items out.new.items) }
     ensures err { IfErr result (IsRefusalOfTwo old.now new.now) }
 {
     let mut was = Snapshot::new(alloc, by, order, old)?;

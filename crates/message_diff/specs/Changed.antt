@@ -1,0 +1,110 @@
+-- A line that tells what changed of an interface.
+use Rattle.std.specs.Prelude.{◌≡◌, ℕ, List, [], ◌∷◌, ◌++◌, Option, None, Some, Bool, codes}
+use Rattle.std.specs.List.{flat_map}
+use Rattle.hex.specs.Hex.{encode_lower}
+use Rattle.json.specs.Token.{Token, begin_object, key, number}
+use Rattle.json.specs.Print.{print, print_from}
+use Rattle.line_filter.specs.Lines.{with_lf}
+use Rattle.shown.specs.Drafts.{Members, object_of, list_of}
+use Rattle.message_diff.specs.Alone.{told_words, change_member}
+use Rattle.message_diff.specs.declared.snapshot.Compared.{Compared}
+use Rattle.message_diff.specs.Compared.{HasTextBy}
+use Rattle.message_diff.specs.Differences.{Leaf, Diff, AreDiffs, AreSomeLeft}
+
+-- a value that stands in a line as it is given, as the text of a number does
+abbrev pub given : List ℕ → List ℕ → List ℕ × List Token
+given name value = (name, number value ∷ [])
+
+abbrev pub given_if : List ℕ → Option (List ℕ) → Members
+given_if name None = []
+given_if name (Some value) = given name value ∷ []
+
+-- ** what changed
+
+abbrev pub in_quotes : List ℕ → List ℕ
+in_quotes text = 34 ∷ (text ++ 34 ∷ [])
+
+abbrev pub path_member : List ℕ → List ℕ × List Token
+path_member path = given (codes "path") (in_quotes path)
+
+-- at one path
+abbrev pub diff_members : Diff → Members
+diff_members (Diff.came path value) = path_member path ∷ given (codes "new") value ∷ []
+diff_members (Diff.went path value) = path_member path ∷ given (codes "old") value ∷ []
+diff_members (Diff.turned path was is) = path_member path ∷ given (codes "old") was ∷ given (codes "new") is ∷ []
+
+abbrev pub diff_objects : List Diff → List Token
+diff_objects ds = flat_map (λ d. object_of (diff_members d)) ds
+
+abbrev pub changes_member : List Diff → List ℕ × List Token
+changes_member ds = (codes "changes", list_of (diff_objects ds))
+
+-- where no path differs, both encodings in hexadecimal
+abbrev pub state_diff : List ℕ → List ℕ → Diff
+state_diff old new = Diff.turned (codes "state") (in_quotes (encode_lower old)) (in_quotes (encode_lower new))
+
+abbrev pub told_diffs : List ℕ → List ℕ → List Diff → List Diff
+told_diffs old new [] = state_diff old new ∷ []
+told_diffs old new (d ∷ ds) = d ∷ ds
+
+-- ** the line
+
+-- which interface it is: the values of its family, its index and its name, where it has them
+pub record Head : Type 0 where
+  pub family : Option (List ℕ)
+  pub index : Option (List ℕ)
+  pub name : Option (List ℕ)
+
+-- behind words, what became of the interface, and which it is
+abbrev pub begun : Members → List ℕ → Head → Members
+begun words change head =
+    words ++ change_member change ∷ []
+    ++ given_if (codes "ifi-family") head.family
+    ++ given_if (codes "ifi-index") head.index
+    ++ given_if (codes "ifname") head.name
+
+-- an object as far as these members are written
+abbrev pub opened : Members → List Token
+opened ms = begin_object ∷ flat_map (λ m. key m.0 ∷ m.1) ms
+
+unfoldable pub changed_line : Members → Head → List Diff → List ℕ
+changed_line words head ds =
+    with_lf (print (object_of (begun words (codes "changed") head ++ changes_member ds ∷ [])))
+
+-- ** its parts as they are added
+
+abbrev pub given_text : List ℕ → Option (List ℕ) → List ℕ
+given_text name None = []
+given_text name (Some value) = codes ",\"" ++ (name ++ (codes "\":" ++ value))
+
+unfoldable pub head_text : Members → List ℕ → Head → List ℕ
+head_text words change head = print (opened (begun words change head))
+
+unfoldable pub changes_text : List Diff → List ℕ
+changes_text ds = codes ",\"changes\":[" ++ (print (diff_objects ds) ++ codes "]}\n")
+
+-- behind a comma where one is due
+unfoldable pub diff_text : Bool → Diff → List ℕ
+diff_text is_next d = print_from is_next (object_of (diff_members d))
+
+-- ** what is added
+
+-- the line that tells what changed: of the changes between two lists of members some may be left out, or one of their
+-- two values, where their paths are counters of the old message, or of the new one
+pub record IsChanged (front old new line : List ℕ) : Type 0 where
+  pub head : Head
+  pub was : List Leaf
+  pub now : List Leaf
+  pub found : List Diff
+  pub left : List Diff
+  pub differ : AreDiffs was now found
+  pub are_left : AreSomeLeft found left
+  pub told : line ≡ changed_line (told_words front) head (told_diffs old new left)
+
+abbrev pub AddsChanged : List ℕ → List ℕ → List ℕ → List ℕ → List ℕ → Type 0
+AddsChanged front old new before now = (line : List ℕ) × IsChanged front old new line × (now ≡ before ++ line)
+
+-- of what is compared of two byte strings
+abbrev pub AddsChangedBy : Compared → List ℕ → List ℕ → List ℕ → List ℕ → Type 0
+AddsChangedBy by old new before now =
+    (was : List ℕ) × (is : List ℕ) × HasTextBy by old was × HasTextBy by new is × AddsChanged [] was is before now

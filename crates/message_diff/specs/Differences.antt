@@ -1,0 +1,145 @@
+-- What differs between the members of two texts, by the paths and values of those that hold no other.
+use Rattle.std.specs.Prelude.{◌≡◌, ◌≢◌, ◌⊎◌, ℕ, List, [], ◌∷◌, ◌++◌, Bool, true, false, Option, Some, None, cond, map}
+use Rattle.std.specs.List.{flat_map, Contains}
+use Rattle.message_diff.specs.declared.rows.Row.{Row}
+use Rattle.message_diff.specs.declared.differences.Change.{Change}
+use Rattle.message_diff.specs.declared.differences.Change.TheVariants.{Came, Went, Turned}
+use Rattle.message_diff.specs.Known.{is_text}
+
+-- a path and the value at it
+abbrev pub Leaf : Type 0
+Leaf = List ℕ × List ℕ
+
+-- a path that came, that went, or whose value turned
+pub data Diff : Type 0 where
+  came : (path value : List ℕ) → Diff
+  went : (path value : List ℕ) → Diff
+  turned : (path was is : List ℕ) → Diff
+
+-- the first value at a path
+abbrev pub value_at : List Leaf → List ℕ → Option (List ℕ)
+value_at [] path = None
+value_at (l ∷ ls) path = cond (is_text l.0 path) (Some l.1) (value_at ls path)
+
+-- what an old member says, by the new value at its path
+abbrev pub old_diff : Leaf → Option (List ℕ) → List Diff
+old_diff l None = Diff.went l.0 l.1 ∷ []
+old_diff l (Some value) = cond (is_text value l.1) [] (Diff.turned l.0 l.1 value ∷ [])
+
+-- what a new one says, by the old value at its path
+abbrev pub new_diff : Leaf → Option (List ℕ) → List Diff
+new_diff l None = Diff.came l.0 l.1 ∷ []
+new_diff l (Some value) = []
+
+-- what the old ones say, in their order, and then what came
+abbrev pub old_diffs : List Leaf → List Leaf → List Diff
+old_diffs old new = flat_map (λ l. old_diff l (value_at new l.0)) old
+
+abbrev pub new_diffs : List Leaf → List Leaf → List Diff
+new_diffs old new = flat_map (λ l. new_diff l (value_at old l.0)) new
+
+abbrev pub diffs : List Leaf → List Leaf → List Diff
+diffs old new = old_diffs old new ++ new_diffs old new
+
+-- ** where a path stands more than once
+
+-- some member has this path and this value
+abbrev pub Has : List Leaf → List ℕ → List ℕ → Type 0
+Has [] path value = ⊥
+Has (l ∷ ls) path value = ((l.0 ≡ path) × (l.1 ≡ value)) ⊎ Has ls path value
+
+-- no member has this path
+abbrev pub Lacks : List Leaf → List ℕ → Type 0
+Lacks [] path = Unit {0}
+Lacks (l ∷ ls) path = (l.0 ≢ path) × Lacks ls path
+
+-- each path has one value
+abbrev pub HasOneEach : List Leaf → Type 0
+HasOneEach ls = (path value other : List ℕ) → Has ls path value → Has ls path other → value ≡ other
+
+-- a value at a path
+abbrev pub IsValueAt : List Leaf → List ℕ → Option (List ℕ) → Type 0
+IsValueAt ls path None = Lacks ls path
+IsValueAt ls path (Some value) = Has ls path value
+
+-- what an old member says, by a new value at its path
+pub record Says (new : List Leaf) (l : Leaf) (ds : List Diff) : Type 0 where
+  pub value : Option (List ℕ)
+  pub at : IsValueAt new l.0 value
+  pub says : ds ≡ old_diff l value
+
+-- what the old ones say, one after another
+abbrev pub AreOldDiffs : List Leaf → List Leaf → List Diff → Type 0
+AreOldDiffs [] new ds = ds ≡ []
+AreOldDiffs (l ∷ ls) new ds =
+    (first : List Diff) × (rest : List Diff) × Says new l first × AreOldDiffs ls new rest × (ds ≡ first ++ rest)
+
+-- what differs: where each path has one value among the new ones, it is `diffs` of both
+pub record AreDiffs (old new : List Leaf) (ds : List Diff) : Type 0 where
+  pub first : List Diff
+  pub said : AreOldDiffs old new first
+  pub all : ds ≡ first ++ new_diffs old new
+  pub one : HasOneEach new → ds ≡ diffs old new
+
+-- the parts of a change: its path, the old value and the new one
+abbrev pub path_of : Diff → List ℕ
+path_of (Diff.came path value) = path
+path_of (Diff.went path value) = path
+path_of (Diff.turned path was is) = path
+
+abbrev pub old_of : Diff → Option (List ℕ)
+old_of (Diff.came path value) = None
+old_of (Diff.went path value) = Some value
+old_of (Diff.turned path was is) = Some was
+
+abbrev pub new_of : Diff → Option (List ℕ)
+new_of (Diff.came path value) = Some value
+new_of (Diff.went path value) = None
+new_of (Diff.turned path was is) = Some is
+
+-- ** what is left of changes
+
+-- without the old value, or without the new one
+abbrev pub left_of : Bool → Bool → Diff → List Diff
+left_of false false d = d ∷ []
+left_of true false (Diff.turned path was is) = Diff.came path is ∷ []
+left_of false true (Diff.turned path was is) = Diff.went path was ∷ []
+left_of by_old by_new d = []
+
+-- one loses its old value where its path is one of these, and its new one where it is one of those
+pub record IsLeft (olds news : List (List ℕ)) (d : Diff) (left : List Diff) : Type 0 where
+  pub by_old : Bool
+  pub by_new : Bool
+  pub of_old : by_old ≡ true → Contains olds (path_of d)
+  pub of_new : by_new ≡ true → Contains news (path_of d)
+  pub is : left ≡ left_of by_old by_new d
+
+abbrev pub AreLeft : List (List ℕ) → List (List ℕ) → List Diff → List Diff → Type 0
+AreLeft olds news [] left = left ≡ []
+AreLeft olds news (d ∷ ds) left =
+    (first : List Diff) × (rest : List Diff) × IsLeft olds news d first × AreLeft olds news ds rest
+    × (left ≡ first ++ rest)
+
+-- by some paths
+abbrev pub AreSomeLeft : List Diff → List Diff → Type 0
+AreSomeLeft found left = (olds : List (List ℕ)) × (news : List (List ℕ)) × AreLeft olds news found left
+
+-- ** rows and changes
+
+abbrev pub leaf_of : Row → Leaf
+leaf_of row = (row.path.now, row.value.now)
+
+abbrev pub leaves : List Row → List Leaf
+leaves rows = map leaf_of rows
+
+abbrev pub diff_of : Change → Diff
+diff_of (Came path value) = Diff.came path.now value.now
+diff_of (Went path value) = Diff.went path.now value.now
+diff_of (Turned path was is) = Diff.turned path.now was.now is.now
+
+abbrev pub diffs_of : List Change → List Diff
+diffs_of changes = map diff_of changes
+
+abbrev pub diff_in : Option Change → List Diff
+diff_in None = []
+diff_in (Some change) = diff_of change ∷ []
