@@ -6,7 +6,7 @@ set -euo pipefail
 top=$(cd "$(dirname "$0")/.." && pwd)
 tests=$top/crates/info_tests/out/info_tests_tests
 name=memory::refused_memory_changes_nothing
-calls=(Info::new Info::set LinkInfo::parse_list Info::list Info::of)
+calls=(Info::new Info::set Info::set_flags LinkInfo::parse_list Info::list Info::of)
 if ! command -v rt >/dev/null; then
     echo "refused_info: skipped: no rt, which alone makes ${tests#"$top"/}"
     exit 0

@@ -1,5 +1,6 @@
 //! Link data by names: what the calls that are written by hand for this crate return.
 
+use linkwire::DefaultNla;
 use linkwire::info::{Fields, Info, InfoError, KINDS, Place, Plain, SLAVE_KINDS, Size, Style, Value};
 use linkwire::{LinkAttribute, LinkInfo, LinkMessage};
 use std::net::{Ipv4Addr, Ipv6Addr};
@@ -106,13 +107,28 @@ fn texts_and_arrays_of_other_places() {
 fn kinds() {
     for row in KINDS {
         assert_eq!(Place::of_kind(row.kind()), Some(row.place()));
-        assert_eq!(Info::new(row.kind()).map(|it| it.place()), Ok(row.place()));
+        assert_eq!(Info::new(row.kind()).map(|it| it.place()), Ok(Some(row.place())));
     }
     for row in SLAVE_KINDS {
         assert_eq!(Place::of_slave_kind(row.kind()), Some(row.place()));
     }
-    assert_eq!(Info::new("dummy"), Err(InfoError::UnknownKind));
-    assert_eq!(InfoError::UnknownKind.to_string(), "no kind of interface with a table has this name");
+    let mut dummy = Info::new("dummy").unwrap();
+    assert_eq!((dummy.kind(), dummy.place(), dummy.value("mode")), ("dummy", None, None));
+    assert_eq!(dummy.set("mode", 1), Err(InfoError::UnknownName));
+    assert_eq!(dummy.list().unwrap(), [LinkInfo::Kind("dummy".to_string())]);
+    let kept = DefaultNla::new(2, vec![5, 0, 1, 0, 7, 0, 0, 0]);
+    let list = [LinkInfo::Kind("dummy".to_string()), LinkInfo::Other(kept)];
+    assert_eq!(Info::of(&list).unwrap().list().unwrap(), list);
+    assert_eq!(Info::of(&list[1..]), Err(InfoError::UnknownKind));
+    assert_eq!(InfoError::UnknownKind.to_string(), "no kind of interface is named");
+    let mut gre = Info::new("gre").unwrap();
+    assert_eq!(gre.set_flags("iflags", &["key", "csum"]), Ok(()));
+    assert_eq!((gre.u16("iflags"), gre.set("oflags", "seq")), (Some(0xa000), Ok(())));
+    assert_eq!(gre.set_flags("iflags", &["keys"]), Err(InfoError::NotHeld));
+    let mut bond = Info::new("bond").unwrap();
+    assert_eq!((bond.set("mode", "802.3ad"), bond.u8("mode"), bond.named("mode")), (Ok(()), Some(4), Some("802.3ad")));
+    assert_eq!((bond.set("mode", 99), bond.u8("mode"), bond.named("mode")), (Ok(()), Some(99), None));
+    assert_eq!(bond.set("mode", "802.3"), Err(InfoError::NotHeld));
     let error: Box<dyn std::error::Error> = InfoError::NotHeld.into();
     assert_eq!(error.to_string(), "the attribute cannot have this value");
 }

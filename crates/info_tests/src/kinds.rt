@@ -63,7 +63,7 @@ fn begins_with(place: Option<Place>, name: &str) -> bool {
 
 /// Whether an interface is of this kind, with rows of which the first has this name.
 fn is_of(info: &Info, kind: &str, name: &str) -> bool {
-    info.kind() == kind && begins_with(Some(info.place()), name)
+    info.kind() == kind && begins_with(info.place(), name)
 }
 
 /// Whether an interface of this kind is made, with rows of which the first has this name.

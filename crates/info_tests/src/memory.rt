@@ -23,6 +23,9 @@ const SET: [(&str, u64); 4] = [
     ("collect-metadata", 1),
 ];
 
+/// The flags that are set, by name (`MACVLAN_FLAG_*`, linux/if_link.h).
+const FLAGS: &[&str] = &["nopromisc"];
+
 /// The number that was set.
 fn number(info: &Info, name: &str) -> Option<u64> {
     match info.value(name) {
@@ -43,14 +46,14 @@ fn numbers(info: &Info) -> [Option<u64>; 3] {
 /// The call that was refused memory, if one was: it is refused once.
 type Refused = Option<&'static str>;
 
-/// A vxlan, nothing of which is set.
-fn new(rt: &impl Abort, alloc: Global, refused: &mut Refused) -> Info {
-    match Info::new(alloc, "vxlan") {
+/// An interface of this kind, nothing of which is set.
+fn new(rt: &impl Abort, alloc: Global, kind: &str, refused: &mut Refused) -> Info {
+    match Info::new(alloc, kind) {
         Ok(info) => info,
         Err(error) => {
             assert_eq!(rt; error, InfoError::OutOfMemory);
             *refused = Some("Info::new");
-            Info::new(alloc, "vxlan").expect(rt, "memory is refused once")
+            Info::new(alloc, kind).expect(rt, "memory is refused once")
         }
     }
 }
@@ -68,6 +71,24 @@ fn set(rt: &impl Abort, alloc: Global, info: &mut Info, name: &str, n: u64, refu
         }
     }
     assert!(rt; number(info, name) == Some(n), "{name}");
+}
+
+/// Sets a flag of a macvlan.
+fn set_flags(rt: &impl Abort, alloc: Global, refused: &mut Refused) {
+    let mut info = new(rt, alloc, "macvlan", refused);
+    match values::set_flags(&mut info, alloc, "flags", FLAGS) {
+        Ok(()) => (),
+        Err(error) => {
+            assert_eq!(rt; error, InfoError::OutOfMemory);
+            assert!(rt; number(&info, "flags").is_none(), "all is as it was");
+            *refused = Some("Info::set_flags");
+            values::set_flags(&mut info, alloc, "flags", FLAGS).expect(
+                rt,
+                "memory is refused once",
+            );
+        }
+    }
+    assert!(rt; number(&info, "flags") == Some(1));
 }
 
 /// What `IFLA_LINKINFO` holds.
@@ -111,10 +132,11 @@ fn members(rt: &impl Abort, alloc: Global, bytes: &[u8], refused: &mut Refused) 
 fn refused_memory_changes_nothing(rt: HostRuntime) {
     let alloc = rt.alloc();
     let mut refused = None;
-    let mut vxlan = new(&rt, alloc, &mut refused);
+    let mut vxlan = new(&rt, alloc, "vxlan", &mut refused);
     for (name, n) in SET {
         set(&rt, alloc, &mut vxlan, name, n, &mut refused);
     }
+    set_flags(&rt, alloc, &mut refused);
     let wanted = members(&rt, alloc, &VXLAN, &mut refused);
     let made = list(&rt, alloc, &vxlan, &mut refused);
     assert!(rt; made.as_slice() == wanted.as_slice());

@@ -29,6 +29,16 @@ pub fn set(info: &mut Info, alloc: Global, name: &str, value: Value<'_>) -> Resu
     info.set(alloc, name, value)
 }
 
+/// Sets flags; for the proof: what the call promises stays here.
+pub fn set_flags(
+    info: &mut Info,
+    alloc: Global,
+    name: &str,
+    flags: &[&str],
+) -> Result<(), InfoError> {
+    info.set_flags(alloc, name, flags)
+}
+
 /// The next field; for the proof: what the call promises stays here.
 pub fn next_field<'a>(fields: &mut Fields<'a>) -> Option<Result<Field<'a>, DecodeError>> {
     fields.next()

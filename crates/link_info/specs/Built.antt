@@ -3,6 +3,8 @@ use Rattle.std.specs.Prelude.{◌≡◌, ℕ, ◌==◌, ◌^◌, ◌*◌, ◌<�
 use Rattle.std.specs.Prelude.{if◌then◌else◌, map, Ok}
 use Rattle.std.specs.Prelude.{FitsSigned, Option, None, Some, option_map, slice_set}
 use Rattle.std.specs.Int.{byte_len}
+use Rattle.std.specs.Int.RustNames.{bit_or}
+use Rattle.std.specs.Borrow.{Bor}
 use Rattle.std.specs.List.{find, position}
 use lib.Pointwise.{pointwise}
 use Rattle.nla_wire.specs.Frames.{Frame, number}
@@ -15,17 +17,18 @@ use Rattle.link_info.specs.declared.info.TheConstants.{IFLA_INFO_DATA}
 use Rattle.link_info.specs.declared.style.Row.{Row}
 use Rattle.link_info.specs.declared.style.Style.{Style}
 use Rattle.link_info.specs.declared.style.Style.TheVariants as S
+use Rattle.link_info.specs.declared.style.Plain.{Plain}
+use Rattle.link_info.specs.declared.style.Plain.TheVariants as P
 use Rattle.link_info.specs.Styles.{Form, Host, Network, Twos, SixOctets, FourOctets, SixteenOctets, Octets, width, form}
 use Rattle.link_info.specs.Styles.{plain_size, record_size, is_multiple, are_frames, are_frames_of}
 use Rattle.link_info.specs.Meanings.{Meaning, Raw, Present, Number, Signed, Words, Hardware, Four, Six}
 use Rattle.link_info.specs.Meanings.{read_as, payload_as}
-use Rattle.link_info.specs.Places.{place_of_kind}
 use Rattle.link_info.specs.declared.place.Place.{Place}
 
--- the text of a kind, the place of its data and the rows there, and the frames that were set
+-- the text of a kind, the place of its data, if it has one, and the rows there, and the frames that were set
 pub record Built : Type 0 where
   pub kind : List ℕ
-  pub place : Place
+  pub place : Option Place
   pub rows : List Row
   pub frames : List Frame
 
@@ -71,19 +74,84 @@ Holds (S.List plain) (Raw p) = IsTrue (are_frames_of (plain_size plain) (items p
 Holds (S.Nest place) (Raw p) = IsTrue (are_frames (items p))
 Holds style m = ⊥
 
+-- ** values that are given by names
+
+-- a number or bit, and its name
+abbrev pub Name : Type 0
+Name = ℕ × Bor (List ℕ)
+
+abbrev pub has_name : List ℕ → Name → Bool
+has_name name row = pointwise ◌==◌ row.1.now name
+
+-- the first number of this name
+abbrev pub number_named : List Name → List ℕ → Option ℕ
+number_named names name = option_map (λ row. row.0) (find (has_name name) names)
+
+abbrev pub plain_names : Plain → List Name
+plain_names (P.Named size names) = names.now
+plain_names (P.BigEndianNamed size names) = names.now
+plain_names (P.Flags size names) = names.now
+plain_names (P.BigEndianFlags size names) = names.now
+plain_names plain = []
+
+-- the names of numbers or bits of this style
+abbrev pub names_of : Style → List Name
+names_of (S.Plain plain) = plain_names plain
+names_of style = []
+
+abbrev pub number_or : Option ℕ → Meaning → Meaning
+number_or None m = m
+number_or (Some n) m = Number n
+
+-- a name that the style has says its number; another value says what it is
+abbrev pub by_name : Style → Meaning → Meaning
+by_name style (Words s) = number_or (number_named (names_of style) s) (Words s)
+by_name style m = m
+
+abbrev pub bits_with : (ℕ → Option ℕ) → Option ℕ → Option ℕ
+bits_with rest None = None
+bits_with rest (Some bit) = rest bit
+
+-- these bits and those of the names, if each has one
+abbrev pub bits_named : List Name → ℕ → List (Bor (List ℕ)) → Option ℕ
+bits_named names bits [] = Some bits
+bits_named names bits (flag ∷ flags) =
+    bits_with (λ bit. bits_named names (bit_or bits bit) flags) (number_named names flag.now)
+
+-- the bits of these names, by a style of flags that has each
+abbrev pub bits_of : Style → List (Bor (List ℕ)) → Option ℕ
+bits_of (S.Plain (P.Flags size names)) flags = bits_named names.now 0 flags
+bits_of (S.Plain (P.BigEndianFlags size names)) flags = bits_named names.now 0 flags
+bits_of style flags = None
+
+-- ** what is set
+
 -- why a row cannot be set to a value
 abbrev pub IsRefused : Option Row → Meaning → Type 0
 IsRefused None m = ⊥
-IsRefused (Some row) m = Holds row.2 m → ⊥
+IsRefused (Some row) m = Holds row.2 (by_name row.2 m) → ⊥
+
+-- why a row cannot be set to flags
+abbrev pub AreRefused : Option Row → List (Bor (List ℕ)) → Type 0
+AreRefused None flags = ⊥
+AreRefused (Some row) flags = (bits : ℕ) → bits_of row.2 flags ≡ Some bits → Holds row.2 (Number bits) → ⊥
 
 -- the frame that a row is set by
 abbrev pub frame_of_row : Row → Meaning → Frame
 frame_of_row row m = record { kind = row.0; payload = payload_as row.2 m }
 
+-- this row was set to this value
+abbrev pub IsSetTo : Row → Meaning → Built → Built → Type 0
+IsSetTo row m old new = Holds row.2 m × (new ≡ record old { frames = placed old.frames (frame_of_row row m) })
+
 -- a row of this name was set to this value
 abbrev pub IsSet : List ℕ → Meaning → Built → Built → Type 0
-IsSet name m old new = (row : Row) × (row_named old.rows name ≡ Some row) × Holds row.2 m
-    × (new ≡ record old { frames = placed old.frames (frame_of_row row m) })
+IsSet name m old new = (row : Row) × (row_named old.rows name ≡ Some row) × IsSetTo row (by_name row.2 m) old new
+
+-- a row of this name was set to these flags
+abbrev pub AreSet : List ℕ → List (Bor (List ℕ)) → Built → Built → Type 0
+AreSet name flags old new = (row : Row) × (bits : ℕ) × (row_named old.rows name ≡ Some row)
+    × (bits_of row.2 flags ≡ Some bits) × IsSetTo row (Number bits) old new
 
 -- what the row of this name was set to
 abbrev pub value_by : Option Row → List Frame → Option Meaning
@@ -101,9 +169,14 @@ AreWhole b fs = items b ≡ map (λ f. Ok f) fs
 abbrev pub DataFit : Built → Type 0
 DataFit b = (length (canons (λ f. f) b.frames) ≤ most_payload) × AllFit (λ f. IsSmall f) (λ f. f) b.frames
 
--- what IFLA_LINKINFO holds: the kind, and the data in canonical encoding
+-- frames as data in canonical encoding; without frames there are no data
+abbrev pub data_of : List Frame → List LinkInfo
+data_of [] = []
+data_of (f ∷ fs) = infos.Other (record { kind = IFLA_INFO_DATA; payload = canons (λ g. g) (f ∷ fs) }) ∷ []
+
+-- what IFLA_LINKINFO holds: the kind, and the data
 abbrev pub list_of : Built → List LinkInfo
-list_of b = infos.Kind b.kind ∷ infos.Other (record { kind = IFLA_INFO_DATA; payload = canons (λ f. f) b.frames }) ∷ []
+list_of b = infos.Kind b.kind ∷ data_of b.frames
 
 -- the first kind, and the payload of the first data
 abbrev pub kind_in : List LinkInfo → Option (List ℕ)
@@ -115,8 +188,3 @@ abbrev pub data_in : List LinkInfo → List ℕ
 data_in [] = []
 data_in ((infos.Kind kind) ∷ xs) = data_in xs
 data_in ((infos.Other f) ∷ xs) = if has_number IFLA_INFO_DATA f then f.payload else data_in xs
-
--- the place of a kind that was found
-abbrev pub place_by : Option (List ℕ) → Option Place
-place_by None = None
-place_by (Some kind) = place_of_kind kind

@@ -6,7 +6,8 @@ ghost use Rattle.nla_wire.specs.Frames.{number};
 ghost use Rattle.nla_wire.specs.Canon.{canons, AllFit, IsSmall};
 ghost use Rattle.link_info.specs.Meanings.{meaning, payload_as};
 ghost use Rattle.link_info.specs.Built.{Built, row_named, placed, has_number, Holds, IsSet, value_of, IsRefused};
-ghost use Rattle.link_info.specs.Built.{AreWhole, DataFit, list_of, kind_in, data_in, place_by};
+ghost use Rattle.link_info.specs.Built.{AreWhole, DataFit, list_of, kind_in, data_in, AreSet, AreRefused};
+ghost use Rattle.link_info.specs.Built.{IsSetTo, number_named, names_of, by_name, bits_named, bits_of};
 ghost use Rattle.link_info.specs.Places.{place_of_kind};
 ghost use Rattle.link_info.specs.Styles.{are_frames};
 ghost use Rattle.nla_wire.specs.Items.{items};
@@ -15,7 +16,7 @@ ghost use Rattle.link_info.specs.declared.info.InfoError.TheVariants as why;
 use crate::holds::holds;
 use crate::place::Place;
 use crate::read::read;
-use crate::style::Row;
+use crate::style::{Names, Plain, Row, Style};
 use crate::value::Value;
 use crate::write::push_payload;
 use link_nest::LinkInfo;
@@ -32,8 +33,8 @@ pub const IFLA_INFO_DATA: u16 = 2;
 /// Why something could not be set or made.
 #[derive(Clone, Copy, Debug, PartialEq, Eq, Error)]
 pub enum InfoError {
-    /// The kind has no table.
-    #[error("no kind of interface with a table has this name")]
+    /// The list has no kind.
+    #[error("no kind of interface is named")]
     UnknownKind,
     /// No row of the kind's table has this name.
     #[error("no attribute of the kind has this name")]
@@ -64,7 +65,7 @@ impl From<AllocError> for InfoError {
 #[derive(Debug, Drop)]
 pub struct Info {
     kind: Text,
-    place: Place,
+    place: Option<Place>,
     rows: &'static [Row],
     frames: Vec<DefaultNla>,
 }
@@ -118,6 +119,61 @@ fn put(frames: &mut Vec<DefaultNla>, frame: DefaultNla) -> Result<(), AllocError
             frames.push_reserved(frame);
             Ok(())
         }
+    }
+}
+
+/// The first number or bit of this name.
+fn number_named(names: Names, name: &str) -> Option<u64>
+    ensures { result ≡ number_named names.now name.now }
+{
+    names.iter().find(|row| row.1 == name).map(|row| row.0)
+}
+
+/// The names of numbers or bits of this style.
+fn names_of(style: Style) -> Names
+    ensures { result.now ≡ names_of style }
+{
+    match style {
+        Style::Plain(Plain::Named(_, names)) => names,
+        Style::Plain(Plain::BigEndianNamed(_, names)) => names,
+        Style::Plain(Plain::Flags(_, names)) => names,
+        Style::Plain(Plain::BigEndianFlags(_, names)) => names,
+        _ => &[],
+    }
+}
+
+/// The number of a name that the style has; another value as it is.
+fn by_name<'v>(style: Style, value: Value<'v>) -> Value<'v>
+    ensures { meaning result ≡ by_name style (meaning value.entry) }
+{
+    let Value::Text(name) = value else {
+        return value;
+    };
+    match number_named(names_of(style), name) {
+        Some(number) => Value::Unsigned(number),
+        None => value,
+    }
+}
+
+/// The bits of these names, if each has one.
+fn bits_named(names: Names, flags: &[&str]) -> Option<u64>
+    ensures { result ≡ bits_named names.now 0 flags.now }
+{
+    let mut bits = 0;
+    for flag in flags {
+        bits |= number_named(names, flag)?;
+    }
+    Some(bits)
+}
+
+/// The bits of these names, by a style of flags that has each.
+fn bits_of(style: Style, flags: &[&str]) -> Option<u64>
+    ensures { result ≡ bits_of style flags.now }
+{
+    match style {
+        Style::Plain(Plain::Flags(_, names)) => bits_named(names, flags),
+        Style::Plain(Plain::BigEndianFlags(_, names)) => bits_named(names, flags),
+        _ => None,
     }
 }
 
@@ -189,24 +245,24 @@ fn encoding(alloc: Global, frames: &[DefaultNla]) -> Result<Vec<u8>, AllocError>
 }
 
 impl Info {
-    /// Nothing set, of a kind that has a table: the text of `IFLA_INFO_KIND`, as `vlan` or `bridge`.
-    ///
-    /// Refuses another kind with `UnknownKind`, or with `OutOfMemory`.
+    /// Nothing set, of this kind, the text of `IFLA_INFO_KIND`, as `vlan` or `bridge`. A kind that has no table has no
+    /// rows.
     pub fn new(alloc: Global, kind: &str) -> Result<Info, InfoError>
         ensures made { IfOk result (λ info. (info.kind ≡ kind.now) × (info.frames ≡ [])) }
-        ensures place { IfOk result (λ info. place_of_kind kind.now ≡ Some info.place) }
-        ensures unknown { IfErr result (λ e. (e ≡ why.UnknownKind)
-            ↔ (place_of_kind kind.now ≡ None)) }
-        ensures causes { IfErr result (λ e. (e ≡ why.UnknownKind) ⊎ (e ≡ why.OutOfMemory)) }
+        ensures place { IfOk result (λ info. info.place ≡ place_of_kind kind.now) }
+        ensures none { IfOk result (λ info. info.place ≡ None → info.rows ≡ []) }
+        ensures causes { IfErr result (λ e. e ≡ why.OutOfMemory) }
     {
-        let Some(place) = Place::of_kind(kind) else {
-            return Err(InfoError::UnknownKind);
+        let place = Place::of_kind(kind);
+        let rows: &'static [Row] = match place {
+            Some(place) => place.rows(),
+            None => &[],
         };
         let kind = String::from_str(alloc, kind)?;
         Ok(Info {
             kind: Text::new(kind),
             place,
-            rows: place.rows(),
+            rows,
             frames: Vec::new(alloc),
         })
     }
@@ -218,14 +274,31 @@ impl Info {
         self.kind.as_str()
     }
 
-    /// The place of the data, by whose rows it is set and read.
-    pub fn place(&self) -> Place
+    /// The place of the data, by whose rows it is set and read, if the kind has a table.
+    pub fn place(&self) -> Option<Place>
         ensures { result ≡ self.now.place }
     {
         self.place
     }
 
-    /// Sets the attribute of this name to this value, in place of one that it was set to before. What holds other
+    /// Sets a row to a value.
+    fn set_row(&mut self, alloc: Global, row: &Row, value: Value<'_>) -> Result<(), InfoError>
+        ensures set { IfOk result (λ _. IsSetTo row.now (meaning value.entry) self.old self.new) }
+        ensures kept { IfErr result (λ _. self.new ≡ self.old) }
+        ensures held { IfErr result (λ e. (e ≡ why.NotHeld)
+            ↔ (Holds row.now.2 (meaning value.entry) → ⊥)) }
+        ensures causes { IfErr result (λ e. (e ≡ why.NotHeld) ⊎ (e ≡ why.OutOfMemory)) }
+    {
+        if !holds(row.2, value) {
+            return Err(InfoError::NotHeld);
+        }
+        let payload = payload_of(alloc, row, value)?;
+        put(&mut self.frames, DefaultNla::new(row.0, payload))?;
+        Ok(())
+    }
+
+    /// Sets the attribute of this name to this value, in place of one that it was set to before. A number may be given
+    /// by a name that its row has, and a flag by its own; one that has no name is taken as a number. What holds other
     /// values, a record, an array or a list, is given by its bytes.
     ///
     /// Refuses a name that no row has with `UnknownName`, and a value that the row's style cannot have with `NotHeld`;
@@ -243,12 +316,30 @@ impl Info {
         let Some(row) = row_named(self.rows, name) else {
             return Err(InfoError::UnknownName);
         };
-        if !holds(row.2, value) {
-            return Err(InfoError::NotHeld);
+        self.set_row(alloc, row, by_name(row.2, value))
+    }
+
+    /// Sets the attribute of this name, whose bits have names, to the flags of these names, and to no other.
+    ///
+    /// Refuses a name that no row has with `UnknownName`, and a row without flags, or without a flag of one of the
+    /// names, with `NotHeld`; or there is no memory. After a refusal all is as it was.
+    pub fn set_flags(&mut self, alloc: Global, name: &str, flags: &[&str]) -> Result<(), InfoError>
+        ensures set { IfOk result (λ _. AreSet name.now flags.now self.old self.new) }
+        ensures kept { IfErr result (λ _. self.new ≡ self.old) }
+        ensures name { IfErr result (λ e. (e ≡ why.UnknownName)
+            ↔ (row_named self.old.rows name.now ≡ None)) }
+        ensures held { IfErr result (λ e. (e ≡ why.NotHeld)
+            ↔ AreRefused (row_named self.old.rows name.now) flags.now) }
+        ensures causes { IfErr result
+            (λ e. (e ≡ why.UnknownName) ⊎ ((e ≡ why.NotHeld) ⊎ (e ≡ why.OutOfMemory))) }
+    {
+        match row_named(self.rows, name) {
+            Some(row) => match bits_of(row.2, flags) {
+                Some(bits) => self.set_row(alloc, row, Value::Unsigned(bits)),
+                None => Err(InfoError::NotHeld),
+            },
+            None => Err(InfoError::UnknownName),
         }
-        let payload = payload_of(alloc, row, value)?;
-        put(&mut self.frames, DefaultNla::new(row.0, payload))?;
-        Ok(())
     }
 
     /// What the attribute of this name was set to.
@@ -260,7 +351,7 @@ impl Info {
         Some(read(row.2, frame.value()))
     }
 
-    /// What `IFLA_LINKINFO` holds for it: the kind, and the data in canonical encoding.
+    /// What `IFLA_LINKINFO` holds for it: the kind, and the data in canonical encoding; no data where nothing is set.
     ///
     /// Refuses data of more than 65531 bytes with `TooLong`; or there is no memory.
     pub fn list(&self, alloc: Global) -> Result<Vec<LinkInfo>, InfoError>
@@ -272,24 +363,26 @@ impl Info {
         if !list_fits(self.frames.as_slice()) {
             return Err(InfoError::TooLong);
         }
-        let data = encoding(alloc, self.frames.as_slice())?;
         let kind = String::from_str(alloc, self.kind.as_str())?;
         let mut list = Vec::with_capacity(alloc, 2)?;
         list.push_reserved(LinkInfo::Kind(Text::new(kind)));
-        list.push_reserved(LinkInfo::Other(DefaultNla::new(IFLA_INFO_DATA, data)));
+        if !self.frames.is_empty() {
+            let data = encoding(alloc, self.frames.as_slice())?;
+            list.push_reserved(LinkInfo::Other(DefaultNla::new(IFLA_INFO_DATA, data)));
+        }
         Ok(list)
     }
 
     /// The kind and the data that `IFLA_LINKINFO` holds, to be read by name or changed.
     ///
-    /// Refuses a list without a kind, or with one that has no table, with `UnknownKind`, and data that are no whole
-    /// attributes with `Damaged`; or there is no memory.
+    /// Refuses a list without a kind with `UnknownKind`, and data that are no whole attributes with `Damaged`; or there
+    /// is no memory.
     pub fn of(alloc: Global, list: &[LinkInfo]) -> Result<Info, InfoError>
         ensures kind { IfOk result (λ info. kind_in list.now ≡ Some info.kind) }
         ensures data { IfOk result (λ info. AreWhole (data_in list.now) info.frames) }
-        ensures place { IfOk result (λ info. place_of_kind info.kind ≡ Some info.place) }
-        ensures unknown { IfErr result (λ e. (e ≡ why.UnknownKind)
-            ↔ (place_by (kind_in list.now) ≡ None)) }
+        ensures place { IfOk result (λ info. info.place ≡ place_of_kind info.kind) }
+        ensures none { IfOk result (λ info. info.place ≡ None → info.rows ≡ []) }
+        ensures unknown { IfErr result (λ e. (e ≡ why.UnknownKind) ↔ (kind_in list.now ≡ None)) }
         ensures damaged { IfErr result
             (λ e. e ≡ why.Damaged → are_frames (items (data_in list.now)) ≡ false) }
         ensures causes { IfErr result
