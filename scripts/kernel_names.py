@@ -204,6 +204,8 @@ ROW_VALUES = {
     "others.POLICIES": RowValues("if_link.h", None, None, "netkit-policy"),
     "others.NETKIT_MODES": RowValues("if_link.h", "NETKIT_", "NETKIT_L2", "netkit-mode"),
     "others.SCRUBS": RowValues("if_link.h", "NETKIT_SCRUB_"),
+    "others.PAIRINGS": RowValues("if_link.h", "NETKIT_DEVICE_"),
+    "bridge.STP_MODES": RowValues("if_link.h", "BR_STP_MODE_"),
     "others.RMNET_BITS": RowValues("if_link.h", "RMNET_FLAGS_"),
     "others.HSR_PROTOCOLS": RowValues("if_link.h", "HSR_PROTOCOL_"),
     "others.GTP_ROLES": RowValues("if_link.h", "GTP_ROLE_"), "others.AMT_MODES": RowValues("amt.h", "AMT_MODE_"),

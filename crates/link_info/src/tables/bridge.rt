@@ -35,6 +35,9 @@ const STATES: Names = &[
     (4, "blocking"),
 ];
 
+/// Who runs the spanning tree (`enum br_stp_mode`, linux/if_link.h).
+const STP_MODES: Names = &[(0, "auto"), (1, "user"), (2, "kernel")];
+
 /// The data of a bridge.
 pub const BRIDGE: &[Row] = &[
     Row(1, "forward-delay", U32),
@@ -89,6 +92,11 @@ pub const BRIDGE: &[Row] = &[
     Row(47, "mcast-querier-state", Style::Nest(Place::BridgeQuerier)),
     Row(48, "fdb-n-learned", U32),
     Row(49, "fdb-max-learned", U32),
+    Row(
+        50,
+        "stp-mode",
+        Style::Plain(Plain::Named(Size::Four, STP_MODES)),
+    ),
 ];
 
 /// Who asks for multicast groups (`BRIDGE_QUERIER_*`, linux/if_bridge.h).
@@ -146,4 +154,5 @@ pub const BRIDGE_PORT: &[Row] = &[
     Row(42, "mcast-max-groups", U32),
     Row(43, "neigh-vlan-suppress", U8),
     Row(44, "backup-nhid", U32),
+    Row(45, "neigh-forward-grat", U8),
 ];

@@ -1,5 +1,6 @@
 //! The tables, by kind.
 
+use crate::place::Place;
 use crate::style::{Plain, Size, Style};
 
 pub(crate) mod bond;
@@ -37,3 +38,7 @@ const MAC: Style = Style::Plain(Plain::Mac);
 const IPV4: Style = Style::Plain(Plain::Ipv4);
 /// An IPv6 address.
 const IPV6: Style = Style::Plain(Plain::Ipv6);
+
+/// The attributes whose kind has the flag `NLA_F_NESTED` where kernels write them, by place and number. That of another
+/// row has it not.
+pub const NESTED: &[(Place, u16)] = &[(Place::Bridge, 47), (Place::Can, 16), (Place::Can, 17)];
