@@ -71,6 +71,16 @@ END
     (cd "$folder/debian_crate" && cargo build --quiet --release --offline)
     flags+=(-DWITH_CRATE "-DCRATE_VERSION=\"netlink-packet-route $version\"")
     objects+=("$folder/debian_crate/target/release/libdebian_crate.a")
+    # a program of both, for typed data: ratios by turns
+    mkdir -p "$folder/typed_data"
+    cp "$here/typed_data.rs" "$folder/typed_data/main.rs"
+    cp -r "$folder/debian_crate/.cargo" "$folder/typed_data"
+    printf '[package]\nname = "typed_data"\nversion = "0.0.0"\nedition = "2021"\n[[bin]]\nname = "typed_data"\n' \
+        >"$folder/typed_data/Cargo.toml"
+    printf '%s\n' 'path = "main.rs"' '[dependencies]' "linkwire = { path = \"$top/rust\" }" \
+        "netlink-packet-route = \"=$version\"" 'netlink-packet-utils = "0.5"' \
+        '[profile.release]' 'lto = true' 'codegen-units = 1' >>"$folder/typed_data/Cargo.toml"
+    (cd "$folder/typed_data" && cargo build --quiet --release --offline)
 else
     echo 'bench: librust-netlink-packet-route-dev or cargo is not installed: skipped' >&2
 fi
@@ -100,4 +110,9 @@ echo
 for _ in 1 2 3 4 5; do
     "${pin[@]}" "$folder/compare" ratio "$folder/made" "$dump"
 done | python3 "$here/ratios.py"
+if [ -n "$debian" ] && [ -x "$folder/typed_data/target/release/typed_data" ]; then
+    echo
+    echo "typed data: the crate in rust/, netlink-packet-route $version, and the ratio"
+    "${pin[@]}" "$folder/typed_data/target/release/typed_data"
+fi
 "$folder/peak" "$folder/growing"

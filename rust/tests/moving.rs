@@ -24,7 +24,49 @@ fn table() {
     let kinds = ["enum", "struct", "flag set"];
     let is_type =
         |row: &&str| kinds.iter().any(|kind| row.split(" | ").nth(1).map_or(false, |it| it.starts_with(kind)));
-    let rows: Vec<&str> = page.lines().filter(|it| it.starts_with("| `")).filter(is_type).collect();
+    let has_three = |row: &&str| row.split(" | ").count() == 3;
+    let rows: Vec<&str> = page.lines().filter(|it| it.starts_with("| `")).filter(has_three).filter(is_type).collect();
     let found: Vec<&str> = rows.iter().filter_map(|row| row.split('`').nth(1)).collect();
     assert_eq!(found, NAMES);
+}
+
+mod typed {
+    macro_rules! typed {
+        ($($name:ident),* $(,)?) => {
+            #[allow(unused_imports)]
+            use linkwire::typed::{$($name as _),*};
+            #[allow(unused_imports)]
+            use linkwire::link::{$($name),*};
+            pub const TYPED: &[&str] = &[$(stringify!($name)),*];
+        };
+    }
+
+    typed! {
+        AmtMode, BondAdInfo, BondAdSelect, BondAllPortActive, BondArpAllTargets, BondArpValidate,
+        BondFailOverMac, BondLacpRate, BondMode, BondPortState, BondPrimaryReselect,
+        BondXmitHashPolicy, BridgeBooleanOptionFlags, BridgeBooleanOptions, BridgeFlag, BridgeId,
+        BridgeIdBuffer, BridgeMode, BridgeMulticastRouterType, BridgePortState, BridgeQuerierState,
+        BridgeStpMode, BridgeStpState, BridgeVlanInfo, BridgeVlanInfoFlags, BridgeVlanTunnelInfo,
+        CanBerrCounter, CanBitTiming, CanBitTimingConst, CanClock, CanCtrlMode, CanCtrlModeExt,
+        CanCtrlModeFlags, CanTdc, ChurnState, ErSpanDir, GeneveDf, GreEncapFlags, GreEncapType,
+        GreIOFlags, GtpRole, HsrProtocol, InfoAmt, InfoBareUdp, InfoBatAdv, InfoBond, InfoBondPort,
+        InfoBridge, InfoBridgePort, InfoCan, InfoData, InfoDsa, InfoGeneve, InfoGre, InfoGre6,
+        InfoGtp, InfoHsr, InfoIpTunnel, InfoIpVlan, InfoIpVtap, InfoIpoib, InfoKind, InfoMacSec,
+        InfoMacVlan, InfoMacVtap, InfoNetkit, InfoPortData, InfoPortKind, InfoRmNet, InfoRmNetFlags,
+        InfoTeamPort, InfoTun, InfoVeth, InfoVlan, InfoVrf, InfoVrfPort, InfoVti, InfoVxcan,
+        InfoVxlan, InfoWireguard, InfoWwan, InfoXfrm, Ip6TunnelFlags, IpVlanFlags, IpVlanMode,
+        IpVtapFlags, IpVtapMode, IpoibMode, LacpState, LinkXstats, MacSecCipherId, MacSecOffload,
+        MacSecValidate, MacVlanFlags, MacVlanMacAddressMode, MacVlanMode, MacVtapFlags,
+        MacVtapMacAddressMode, MacVtapMode, MiiStatus, NetkitMode, NetkitPolicy, NetkitScrub,
+        RmNetFlags, TunnelEncapFlags, TunnelEncapType, VlanFlags, VlanQosMapping, VxlanDf,
+    }
+}
+
+#[test]
+fn typed_table() {
+    let page = include_str!("../MOVING.md");
+    let table = page.split("| name | here |").nth(1).unwrap();
+    let rows = table.lines().skip(2).take_while(|it| it.starts_with("| `"));
+    let found: Vec<&str> = rows.filter_map(|row| row.split('`').nth(1)).collect();
+    assert_eq!(found, typed::TYPED);
 }

@@ -59,6 +59,7 @@ fn flags() {
     assert_eq!(format!("{flags:x} {flags:#X} {flags:o} {flags:b}").len(), 8 + 1 + 10 + 1 + 11 + 1 + 32);
     assert_eq!(format!("{flags:x} {flags:#010X}"), "80000041 0x80000041");
     assert_eq!(flags.to_string(), "Up | Running | 0x80000000");
+    assert_eq!(format!("{flags:?} {:?}", LinkFlags::empty()), "LinkFlags(Up | Running | 0x80000000) LinkFlags(0x0)");
     assert_eq!(LinkFlags::empty().to_string(), "");
     assert_eq!(LinkFlags::from_bits(u32::MAX), Some(LinkFlags::all()));
     assert_eq!(LinkFlags::from_bits_truncate(3), LinkFlags::Up | LinkFlags::Broadcast);

@@ -2,6 +2,12 @@
 from source import counts
 from tokens import is_part
 
+# Of these no value is stored: they are borrowed, are rows of tables, or say why something was refused.
+NOT_STORED = {"CanonError", "Cause", "DecodeError", "Field", "Fields", "Info", "InfoError", "KindRow", "Member",
+              "Place", "Plain", "RoomError", "Row", "Size", "Style", "Value"}
+# `Debug` of these is written by hand: it names the flags.
+FLAG_SETS = {"LinkFlags", "Inet6IfaceFlags"}
+SERDE = '#[cfg_attr(feature = "serde", derive(serde::Serialize, serde::Deserialize))]'
 ORDER = ["Clone", "Copy", "Debug", "Default", "PartialEq", "Eq", "PartialOrd", "Ord", "Hash"]
 # These are empty lists by default, as in netlink-packet-route.
 EMPTY = {"LinkVfInfo", "LinkVfPort"}
@@ -33,12 +39,20 @@ def derives(s, is_crate):
         kept = [name for name in had if name not in ("Drop", "Error")]
         if is_crate:
             kept = wanted(s, type_after(s, s.next(i)), had, kept)
+            stored(s, type_after(s, s.next(i)), s.match[s.next(i)], kept)
         if kept != had:
             counts["derive"] += 1
             put(s, i, list_, kept)
         if "Error" in had:
             counts["derive(Error), written out"] += 1
             derive_error(s, s.next(s.match[s.next(i)]))
+
+
+def stored(s, name, end, kept):
+    """A value of a message can be stored, by the feature `serde`."""
+    if "Eq" in kept and s.text[name] not in NOT_STORED and s.text[s.next(name)] != "<":
+        counts["serde's derive"] += 1
+        s.after[end] = "\n" + SERDE
 
 
 def put(s, i, list_, kept):
@@ -61,6 +75,8 @@ def wanted(s, name, had, kept):
         kept.add("Hash")
     if s.text[name] in EMPTY:
         kept.add("Default")
+    if s.text[name] in FLAG_SETS:
+        kept.discard("Debug")
     return [one for one in ORDER if one in kept] + [one for one in had if one in kept and one not in ORDER]
 
 

@@ -21,6 +21,7 @@ import owed
 import paths
 import runtime
 import surface
+import typed
 import words
 from source import Source, Unknown, counts
 
@@ -266,6 +267,7 @@ def make_all(mode, out):
         look(mode)
     make(mode, out)
     if mode.is_crate:
+        write(os.path.join(out, "src", "typed", "places.rs"), typed.text())
         write(os.path.join(out, "conditions.txt"), "\n".join(sorted(mode.conditions)) + "\n")
 
 

@@ -12,6 +12,7 @@ import memory
 import owed
 import paths
 import surface
+import typed
 from source import Source, Unknown, counts
 
 # a source, as one of link_msg, and what is said of it
@@ -198,6 +199,20 @@ def main():
         pushed = Source("a.rt", text)
         if not memory.reserved(pushed) or wanted not in pushed.rust():
             print(pushed.rust())
+            failed += 1
+    stored = Source("a.rt", "#[derive(Debug, Eq)]\npub enum State {\n    A,\n}\n")
+    derives.derives(stored, is_crate=True)
+    if derives.SERDE + "\npub enum State" not in stored.rust():
+        print(stored.rust())
+        failed += 1
+    maker = typed.Maker()
+    maker.put("One", ("named", ": u8;", ["0 A \"a\","]))
+    try:
+        maker.put("One", ("named", ": u8;", ["0 B \"b\","]))
+        failed += 1
+    except ValueError as error:
+        if "two types would be named One" not in str(error):
+            print(error)
             failed += 1
     if derives.names_in('"{a} {{b}} {0:x}"') != ["a", "0"]:
         failed += 1

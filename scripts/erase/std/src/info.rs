@@ -4,7 +4,7 @@
 //! kernel's `rt_link.yaml`, or of `linux/if_link.h` in its style. Each kind of [`KINDS`] has a [`Place`], whose rows
 //! say of each attribute its number, its name, and how its payload is spelled; another kind has no rows, and its data
 //! are kept. [`Fields`] goes over any list of attributes by the rows of a place, those of ports and of address families
-//! too.
+//! too. [`typed`](crate::typed) has the same data as enums.
 //!
 //! The messages below are of Linux 6.12: what it dumped, of which the header, the name and `IFLA_LINKINFO` are shown,
 //! and what `ip` sent to it.

@@ -17,6 +17,7 @@ mod flags;
 pub mod info;
 mod packet;
 mod rattle;
+pub mod typed;
 mod values;
 mod writer;
 
@@ -35,6 +36,15 @@ pub use writer::Writer;
 pub mod link {
     #[doc(no_inline)]
     pub use crate::link_msg::*;
+    // the kept forms, and not the types of these names
+    #[doc(no_inline)]
+    pub use crate::link_msg::{AfSpecBridge, LinkProtoInfoBridge};
+    #[doc(no_inline)]
+    pub use crate::typed::BridgeIdBuffer;
+    #[doc(no_inline)]
+    pub use crate::typed::kinds::*;
+    #[doc(no_inline)]
+    pub use crate::typed::places::*;
 }
 
 /// The kernel's numbers of a message's attributes: `IFLA_..` of linux/if_link.h.

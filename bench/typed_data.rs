@@ -1,0 +1,110 @@
+//! Typed data of kinds, and a request, by the crate in rust/ and by Debian's netlink-packet-route, in turns: the ratio of
+//! the first to the second, of the least times of many turns.
+
+use linkwire::typed::{self, Typed};
+use netlink_packet_route::link::nlas as theirs;
+use netlink_packet_route::traits::{Emitable, Parseable};
+use netlink_packet_utils::nla::NlasIterator;
+use std::hint::black_box;
+use std::time::{Duration, Instant};
+
+const TURNS: usize = 300;
+const TIMES: usize = 400;
+
+fn time(what: &mut dyn FnMut()) -> Duration {
+    let start = Instant::now();
+    for _ in 0..TIMES {
+        what();
+    }
+    start.elapsed()
+}
+
+/// The least of the turns of both.
+fn ratio(what: &str, ours: &mut dyn FnMut(), theirs: &mut dyn FnMut()) {
+    let (mut one, mut other) = (Duration::MAX, Duration::MAX);
+    for _ in 0..TURNS {
+        one = one.min(time(ours));
+        other = other.min(time(theirs));
+    }
+    let nanos = |it: Duration| it.as_nanos() as f64 / TIMES as f64;
+    println!("{what}: {:.0} ns, {:.0} ns, {:.2}", nanos(one), nanos(other), nanos(one) / nanos(other));
+}
+
+fn their_list<'a, T>(data: &'a [u8]) -> Vec<T>
+where
+    T: Parseable<netlink_packet_utils::nla::NlaBuffer<&'a [u8]>>,
+{
+    NlasIterator::new(data).map(|nla| T::parse(&nla.unwrap()).unwrap_or_else(|error| panic!("{error:?}"))).collect()
+}
+
+fn kind<'a, Ours, Theirs>(name: &str, data: &'a [u8])
+where
+    Ours: Typed,
+    Theirs: Parseable<netlink_packet_utils::nla::NlaBuffer<&'a [u8]>> + netlink_packet_utils::nla::Nla,
+{
+    ratio(
+        &format!("parse of {name}"),
+        &mut || drop(black_box(typed::parse::<Ours>(black_box(data)).unwrap())),
+        &mut || drop(black_box(their_list::<Theirs>(black_box(data)))),
+    );
+    let (ours, others) = (typed::parse::<Ours>(data).unwrap(), their_list::<Theirs>(data));
+    ratio(
+        &format!("emit of {name}"),
+        &mut || drop(black_box(typed::emit(black_box(&ours)))),
+        &mut || {
+            let list = black_box(others.as_slice());
+            let mut out = vec![0; list.buffer_len()];
+            list.emit(&mut out);
+            drop(black_box(out));
+        },
+    );
+}
+
+fn bytes(digits: &str) -> Vec<u8> {
+    let digits: Vec<u8> = digits.chars().filter_map(|it| Some(it.to_digit(16)? as u8)).collect();
+    digits.chunks(2).map(|it| it[0] * 16 + it[1]).collect()
+}
+
+fn request() {
+    let ours = || {
+        let mut link = linkwire::LinkMessage::default();
+        link.header.index = 7;
+        link.attributes.push(linkwire::LinkAttribute::Mtu(black_box(1400)));
+        drop(black_box(link.to_vec().unwrap()));
+    };
+    let other = || {
+        let mut link = netlink_packet_route::LinkMessage::default();
+        link.header.index = 7;
+        link.nlas.push(theirs::Nla::Mtu(black_box(1400)));
+        let mut out = vec![0; link.buffer_len()];
+        link.emit(&mut out);
+        drop(black_box(out));
+    };
+    ratio("a request of an MTU", &mut { ours }, &mut { other });
+}
+
+fn main() {
+    // what Linux 6.12 dumped of a vlan, a bridge and a vxlan
+    let vlan = bytes("0600050081000000060001000a0000000c00020006000000ffffffff");
+    let bridge = bytes(
+        "0c00100000000000000000000c00110000000000000000000c00120000000000000000000c0013006771000000000000
+         080001009001000008000200c800000008000300d0070000080004003075000008000500000000000600060000800000
+         050007000000000006000900080000000c000b008000dee9c35e65500c000a008000dee9c35e655006000c0000000000
+         08000d000000000005000e000000000005000f00000000000a0014000180c20000000000
+         0600080088a8000006002700010000000500290000000000
+         05002d0000000000050016000100000005001700010000000500180000000000050019000000000005002a0000000000
+         08001a001000000008001b000010000008001c000200000008001d000200000005002b000200000005002c0001000000
+         0c001e0064000000000000000c001f0090650000000000000c0020009c630000000000000c002100d430000000000000
+         0c002200e8030000000000000c002300340c000000000000050024000100000005002500000000000500260000000000",
+    );
+    let vxlan = bytes(
+        "080001002a00000008000200ef010101080003002e000000050005000500000005001c0000000000050006000000000005001d0000000000
+         08001a0000000000050007000100000005000b000000000005000c000000000005000d000000000005000e000000000008000800640000
+         00080009000500000006000f0012b500000500120001000000050013000000000005001400000000000500150000000000
+         0500160000000000",
+    );
+    kind::<typed::InfoVlan, theirs::InfoVlan>("a vlan", &vlan);
+    kind::<typed::InfoBridge, theirs::InfoBridge>("a bridge", &bridge);
+    kind::<typed::InfoVxlan, theirs::InfoVxlan>("a vxlan", &vxlan);
+    request();
+}

@@ -1,0 +1,313 @@
+#!/usr/bin/env python3
+"""Makes the types of link data of the tables of crates/link_info: an enum of each place, with a variant of each row.
+
+    python3 scripts/erase/typed.py        says what each is named
+"""
+import os
+import re
+import textwrap
+
+HERE = os.path.dirname(os.path.abspath(__file__))
+CRATE = os.path.join(HERE, "..", "..", "crates", "link_info", "src")
+SIZES = {"One": 1, "Two": 2, "Four": 4, "Eight": 8}
+WIDTH = 120
+
+# ** names: the rule is the place and the row, in capitals
+
+# Words of rows that netlink-packet-route spells otherwise.
+WORDS = {"mcast": "multicast", "intvl": "interval", "cnt": "count", "miimon": "mii-mon", "updelay": "up-delay",
+         "downdelay": "down-delay", "l2miss": "l2-miss", "l3miss": "l3-miss", "iptables": "ip-tables",
+         "arptables": "arp-tables", "slave": "port", "slaves": "ports", "boolopt": "bool-opt", "macaddr": "mac-addr"}
+# Places whose name no rule gives, and those whose type has no `Info` in front.
+PLACES = {"BondSlave": "BondPort", "VlanQos": "VlanQosMapping", "BridgeQuerier": "BridgeQuerierState",
+          "Macvlan": "MacVlan", "Ipvlan": "IpVlan", "Macsec": "MacSec", "Rmnet": "RmNet", "Bareudp": "BareUdp",
+          "MacvlanAddresses": "MacVlanAddresses", "CanCtrlmode": "CanCtrlModeExt", "BridgeSpec": "AfSpecBridge",
+          "BridgeVlanTunnel": "BridgeVlanTunnelInfo"}
+WHOLE = {"VlanQos", "BondAdInfo", "BridgeQuerier", "CanTdc", "CanCtrlmode", "BridgeSpec", "BridgeVlanTunnel",
+         "BridgeMst", "BridgeMstEntry"}
+ROWS = {("Vlan", "flag"): "Flags", ("Vrf", "table"): "TableId", ("VrfPort", "table"): "TableId",
+        ("Vxlan", "udp-csum"): "UDPCsum", ("Vxlan", "udp-zero-csum6-tx"): "UDPZeroCsumTX",
+        ("Vxlan", "udp-zero-csum6-rx"): "UDPZeroCsumRX", ("Vxlan", "remcsum-tx"): "RemCsumTX",
+        ("Vxlan", "remcsum-rx"): "RemCsumRX", ("Vxlan", "remcsum-nopartial"): "RemCsumNoPartial",
+        ("Bond", "all-slaves-active"): "AllPortsActive"}
+VALUES = {"802.3ad": "Ieee8023Ad", "8021q": "Ieee8021Q", "8021ad": "Ieee8021Ad", "self": "SelfFlag",
+          "3-samples": "ThreeSamples"}
+# Types of numbers with names, of flags and of records.
+TYPES = {("Bond", "ad-lacp-rate"): "BondLacpRate", ("BondSlave", "state"): "BondPortState",
+         ("BondSlave", "mii-status"): "MiiStatus", ("BondSlave", "ad-churn-actor-state"): "ChurnState",
+         ("BondSlave", "ad-churn-partner-state"): "ChurnState", ("Bridge", "root-id"): "BridgeId",
+         ("Bridge", "bridge-id"): "BridgeId", ("BridgePort", "root-id"): "BridgeId",
+         ("BridgePort", "bridge-id"): "BridgeId", ("Bridge", "multi-boolopt"): "BridgeBooleanOptions",
+         ("BridgePort", "state"): "BridgePortState", ("BridgeMstEntry", "state"): "BridgePortState",
+         ("Vlan", "protocol"): "VlanProtocol", ("Bridge", "vlan-protocol"): "VlanProtocol",
+         ("Vlan", "flag"): "VlanFlagsAndMask", ("Macvlan", "macaddr-mode"): "MacVlanMacAddressMode",
+         ("VlanQos", "mapping"): "VlanPriorityMapping", ("BridgeSpec", "flags"): "BridgeFlag",
+         ("BridgeSpec", "mode"): "BridgeMode", ("BridgeSpec", "vlan-info"): "BridgeVlanInfo",
+         ("BridgeVlanTunnel", "flags"): "BridgeVlanInfoFlags", ("Can", "bittiming"): "CanBitTiming",
+         ("Can", "data-bittiming"): "CanBitTiming", ("Can", "bittiming-const"): "CanBitTimingConst",
+         ("Can", "data-bittiming-const"): "CanBitTimingConst", ("Can", "ctrlmode"): "CanCtrlMode",
+         ("CanCtrlmode", "supported"): "CanCtrlModeFlags", ("Gre", "iflags"): "GreIOFlags",
+         ("Gre", "oflags"): "GreIOFlags", ("Gre6", "iflags"): "GreIOFlags", ("Gre6", "oflags"): "GreIOFlags",
+         ("Gre6", "encap-type"): "GreEncapType", ("Gre6", "encap-flags"): "GreEncapFlags",
+         ("IpTunnel", "encap-type"): "TunnelEncapType", ("IpTunnel", "encap-flags"): "TunnelEncapFlags",
+         ("Ip6Tunnel", "encap-type"): "TunnelEncapType", ("Ip6Tunnel", "encap-flags"): "TunnelEncapFlags",
+         ("IpTunnel", "flags"): "SitFlags", ("Macsec", "validation"): "MacSecValidate",
+         ("Netkit", "peer-policy"): "NetkitPolicy", ("Netkit", "peer-scrub"): "NetkitScrub",
+         ("Rmnet", "flags"): "InfoRmNetFlags", ("Vxlan", "port-range"): "PortRange",
+         ("Geneve", "port-range"): "PortRange", ("Inet6", "flags"): "Inet6Flags",
+         ("Inet6", "cacheinfo"): "Inet6Times", ("Port", "request"): "PortRequest"}
+MEMBERS = {("Vlan", "flag"): "VlanFlags", ("Bridge", "multi-boolopt"): "BridgeBooleanOptionFlags",
+           ("BridgeSpec", "vlan-info"): "BridgeVlanInfoFlags", ("Can", "ctrlmode"): "CanCtrlModeFlags",
+           ("Rmnet", "flags"): "RmNetFlags"}
+# Members of records that netlink-packet-route spells otherwise.
+FIELDS = {("BridgeId", "prio"): "priority", ("BridgeId", "addr"): "address"}
+# Types that the crate has by hand.
+THERE = {"VlanProtocol": "crate::VlanProtocol"}
+# Payloads that are a whole message of a link.
+MESSAGES = {("Veth", "peer"), ("Vxcan", "peer"), ("Netkit", "peer-info")}
+
+# ** what the tables have not: they name what linkshow names, and no more
+
+# Numbers and flags that the tables show without names: what they are named by is the kernel's constants.
+MULTICAST_ROUTERS = ("BridgeMulticastRouterType", False,
+                     ((0, "disabled"), (1, "temp-query"), (2, "perm"), (3, "temp")))   # MDB_RTR_TYPE_*, if_bridge.h
+ERSPAN = ("ErSpanDir", False, ((0, "ingress"), (1, "egress")))                         # `erspan_dir` of ip-link(8)
+LACP = ("LacpState", True, tuple((1 << k, name) for k, name in enumerate(              # LACP_STATE_*, net/bond_3ad.h
+    "activity timeout aggregation synchronization collecting distributing defaulted expired".split())))
+TUNNEL6 = tuple((1 << k, name) for k, name in enumerate(                               # IP6_TNL_F_*, ip6_tunnel.h
+    "ign-encap-limit use-orig-tclass use-orig-flowlabel mip6-dev rcv-dscp-copy use-orig-fwmark "
+    "allow-local-remote".split()))
+CIPHERS = ((0x0080020001000001, "default-gcm-aes-128"), (0x0080C20001000001, "gcm-aes-128"),
+           (0x0080C20001000002, "gcm-aes-256"), (0x0080C20001000003, "gcm-aes-xpn-128"),
+           (0x0080C20001000004, "gcm-aes-xpn-256"))                                    # MACSEC_*CIPHER_ID*, if_macsec.h
+NAMED = {("Bond", "all-slaves-active"): ("BondAllPortActive", False, ((0, "dropped"), (1, "delivered"))),
+         ("Bridge", "stp-state"): ("BridgeStpState", False, ((0, "disabled"), (1, "kernel"), (2, "user"))),
+         ("Bridge", "mcast-router"): MULTICAST_ROUTERS, ("BridgePort", "multicast-router"): MULTICAST_ROUTERS,
+         ("Gre", "erspan-dir"): ERSPAN, ("Gre6", "erspan-dir"): ERSPAN,
+         ("BondSlave", "ad-actor-oper-port-state"): LACP, ("BondSlave", "ad-partner-oper-port-state"): LACP,
+         ("Ip6Tunnel", "flags"): ("Ip6TunnelFlags", True, TUNNEL6),
+         ("Macsec", "cipher-suite"): ("MacSecCipherId", False, CIPHERS)}
+# The width of such a type, where its rows have several.
+BITS = {"LacpState": 1}
+# Places that no table has, with their rows.
+U16, U32 = ("Plain", ("Unsigned", 2)), ("Plain", ("Unsigned", 4))
+MORE = {"BatAdv": ("The data of a batman-adv interface.", [(1, "algo-name", ("Text",))]),
+        "Dsa": ("The data of a port of a switch.", [(1, "conduit", U32)]),
+        "Ipoib": ("The data of an IPoIB interface.", [
+            (1, "pkey", U16), (2, "mode", ("Plain", ("Named", 2, [(0, "datagram"), (1, "connected")]))),
+            (3, "umcast", U16)]),
+        "Wireguard": ("The data of a wireguard interface, of which kernels send none.", []),
+        "TeamPort": ("The data of a port of a team, of which kernels send none.", [])}
+
+
+class Forms:
+    """`Style.Plain(..)` and its like, as tuples."""
+
+    def __init__(self, kind):
+        self.kind = kind
+
+    def __getattr__(self, name):
+        if self.kind == "Size":
+            return SIZES[name]
+        if self.kind == "Place":
+            return name
+        if (self.kind, name) in (("Style", "Bytes"), ("Style", "Flag"), ("Style", "Text"), ("Plain", "Mac"),
+                                 ("Plain", "Ipv4"), ("Plain", "Ipv6")):
+            return (name,)
+        return lambda *args: (name, *args)
+
+
+def read(name):
+    with open(os.path.join(CRATE, name), encoding="utf-8") as file:
+        return file.read()
+
+
+CONSTANT = re.compile(r"const (\w+): ([^=]+) = ([^;]+);", re.S)
+
+
+def tables():
+    """The rows of each table, by its file and constant, and all other constants of the files."""
+    found = {}
+    forms = {kind: Forms(kind) for kind in ("Style", "Plain", "Size", "Place")}
+    forms |= {"Row": lambda *args: args, "Member": lambda *args: args}
+    files = sorted(name[:-3] for name in os.listdir(os.path.join(CRATE, "tables")))
+    common = {}
+    for name in ["mod"] + [name for name in files if name != "mod"]:
+        local = forms | common
+        items = CONSTANT.findall(re.sub(r"//.*", "", read(f"tables/{name}.rt")))
+        for wanted in ("Style", "Names", "&[Member]", "&[Row]", "&[(Place, u16)]"):
+            for one, kind, text in items:
+                if kind.strip() == wanted:
+                    local[one] = found[name, one] = eval(text.replace("&[", "[").replace("::", "."), local)
+                    if name == "mod":
+                        common[one] = local[one]
+    return found
+
+
+def camel(text):
+    words = [WORDS.get(word, word) for word in text.split("-")]
+    parts = [part for part in re.split(r"[^0-9A-Za-z]+", "-".join(words)) if part]
+    name = "".join(part[0].upper() + part[1:] for part in parts)
+    return "N" * name[0].isdigit() + name
+
+
+def place_name(place):
+    return ("" if place in WHOLE else "Info") + PLACES.get(place, place)
+
+
+def variant(place, row):
+    return ROWS.get((place, row)) or camel(row)
+
+
+def type_name(place, row):
+    return TYPES.get((place, row)) or PLACES.get(place, place) + camel(row)
+
+
+def doc(text):
+    return textwrap.wrap(text, WIDTH - 4, initial_indent="    /// ", subsequent_indent="    /// ")
+
+
+def form(name, lines, head):
+    """A call of one of the macros."""
+    return "\n".join([f"{name}! {{", *head, *(f"    {line}" for line in lines), "}", ""])
+
+
+class Maker:
+    def __init__(self):
+        self.rows = tables()
+        text = read("place.rt")
+        docs = {name: words for words, name in re.findall(r"/// ([^\n]+)\n    (\w+),\n", text)}
+        self.places = {place: (docs[place], self.rows[file, table], f"{file}::{table}")
+                       for place, file, table in re.findall(r"Place::(\w+) => (\w+)::(\w+),", text)}
+        self.places |= {place: (words, rows, None) for place, (words, rows) in MORE.items()}
+        self.nested = set(self.rows["mod", "NESTED"])
+        self.types = {}                         # by name: the macro, what stands behind the name, and the lines
+        self.named = []
+
+    def put(self, name, made):
+        if self.types.setdefault(name, made) != made:
+            raise ValueError(f"typed.py: two types would be named {name}: name one of them in TYPES")
+        return name
+
+    def number(self, name, size, names, is_flags):
+        if name in THERE:
+            return THERE[name]
+        size = BITS.get(name, size)
+        digits = hex if is_flags or size == 8 else str
+        lines = [f'{digits(n)} {VALUES.get(text) or camel(text)} "{text}",' for n, text in names]
+        return self.put(name, ("flag_set" if is_flags else "named", f": u{8 * size};", lines))
+
+    def plain(self, place, row, plain, name):
+        """The type of a value of this spelling, which is made if it has names."""
+        kind = plain[0]
+        if (place, row) in NAMED and kind == "Unsigned":
+            name, is_flags, names = NAMED[place, row]
+            return self.number(name, plain[1], names, is_flags)
+        if kind in ("Unsigned", "BigEndian"):
+            return f"u{8 * plain[1]}"
+        if kind == "Signed":
+            return f"i{8 * plain[1]}"
+        if kind.endswith(("Named", "Flags")):
+            return self.number(name, plain[1], plain[2], kind.endswith("Flags"))
+        return {"Mac": "[u8; 6]", "Ipv4": "Ipv4Addr", "Ipv6": "Ipv6Addr"}.get(kind) or f"[u8; {plain[1]}]"
+
+    def record(self, place, row, members):
+        name, flags = type_name(place, row), MEMBERS.get((place, row))
+        lines = []
+        for k, (member, plain) in enumerate(members):
+            kind = self.plain(place, None, plain, flags or name + camel(member))
+            field = FIELDS.get((name, member)) or member.replace("-", "_")
+            lines.append(f'{k} {field}: {kind}, "{member}";')
+        return self.put(name, ("members", ";", lines))
+
+    def payload(self, place, row, style):
+        """The type of a variant, and the word for how it is read and written."""
+        kind, name = style[0], type_name(place, row)
+        if (place, row) in MESSAGES:
+            return "LinkMessage", "message"
+        if kind == "Plain":
+            return self.plain(place, row, style[1], name), "part"
+        if kind in ("Text", "Bytes"):
+            return {"Text": ("String", "text"), "Bytes": ("Vec<u8>", "bytes")}[kind]
+        if kind == "Record":
+            return self.record(place, row, style[1]), "record"
+        if kind in ("Array", "List"):
+            return f"Vec<{self.plain(place, row, style[1], name)}>", kind.lower()
+        return f"Vec<{place_name(style[1])}>", "nest"
+
+    def place(self, place):
+        words, rows, table = self.places[place]
+        name, lines, flags = place_name(place), [], []
+        for k, (number, row, style) in enumerate(rows):
+            one = variant(place, row)
+            if style[0] == "Flag":
+                flags.append(f'{number} {k} {one} "{row}",')
+                self.named.append((place, row, name, one, ""))
+                continue
+            kind, word = self.payload(place, row, style)
+            lines.append(f'{number} {k} {one}({kind}) {word} push_{word} "{row}",')
+            self.named.append((place, row, name, one, kind))
+        nested = [number for number, _, _ in rows if (place, number) in self.nested]
+        if table is None:
+            table = name[4:].upper()
+        return form("place", [f"{name}: {table}, {nested};"] + lines + ["flags:"] + flags, doc(words))
+
+    def more(self, place):
+        """The rows of a place that no table has."""
+        rows = [f'Row({n}, "{row}", {self.style(style)})' for n, row, style in self.places[place][1]]
+        list_ = "".join(f"\n    {row}," for row in rows) + "\n" if len(rows) > 1 else "".join(rows)
+        return f"const {place.upper()}: &[Row] = &[{list_}];\n"
+
+    def style(self, style):
+        if style[0] == "Text":
+            return "Style::Text"
+        plain = style[1]
+        size = {size: name for name, size in SIZES.items()}[plain[1]]
+        names = "".join(f', &[{", ".join(f"""({n}, "{text}")""" for n, text in names)}]' for names in plain[2:])
+        return f"Style::Plain(Plain::{plain[0]}(Size::{size}{names}))"
+
+    def make(self):
+        enums = [self.place(place) for place in self.places]
+        stats = [(None, None, ("Record", self.rows["can", "CAN_STATS"]))]
+        TYPES[None, None] = "CanDeviceStats"
+        for place, row, style in stats:
+            self.payload(place, row, style)
+        docs = {"named": "A number that may have a name.", "flag_set": "A set of flags.",
+                "members": "A record, its members in order."}
+        types = [form(made[0], [name + made[1]] + made[2], doc(docs[made[0]])) for name, made in self.types.items()]
+        return "\n".join([*map(self.more, MORE), *enums, *types])
+
+
+MARK = "// @generated by scripts/erase/typed.py of the tables of crates/link_info: do not edit.\n"
+HEAD = """//! The types of the tables: of each place its attributes, and what they hold.
+
+use super::{Typed, parts};
+use crate::link_info::tables::{bond, bridge, can, family, geneve, gre, macsec, macvlan, others, tunnel, vlan, vxlan};
+use crate::link_info::{Plain, Row, Size, Style, Value};
+use crate::link_msg::LinkMessage;
+use crate::nla_wire::{DecodeError, DefaultNla};
+use crate::packet::{Nla, NlaBuffer, Parseable};
+use crate::rattle::net::{Ipv4Addr, Ipv6Addr};
+use alloc::string::String;
+use alloc::vec::Vec;
+use core::fmt;
+
+"""
+
+
+def text():
+    """The module of the types."""
+    return MARK + HEAD + Maker().make()
+
+
+def main():
+    maker = Maker()
+    maker.make()
+    for line in maker.named:
+        print(*line, sep="\t")
+    for name, made in maker.types.items():
+        print("type", name, made[0], sep="\t")
+
+
+if __name__ == "__main__":
+    main()
