@@ -1,5 +1,5 @@
-//! Typed data of kinds, and a request, by the crate in rust/ and by Debian's netlink-packet-route, in turns: the ratio of
-//! the first to the second, of the least times of many turns.
+//! Typed data of kinds, and a request, by the crate in rust/ and by Debian's netlink-packet-route, in turns: the least
+//! times of many turns, and the ratio of the first to the second.
 
 use linkwire::typed::{self, Typed};
 use netlink_packet_route::link::nlas as theirs;
@@ -48,16 +48,12 @@ where
         &mut || drop(black_box(their_list::<Theirs>(black_box(data)))),
     );
     let (ours, others) = (typed::parse::<Ours>(data).unwrap(), their_list::<Theirs>(data));
-    ratio(
-        &format!("emit of {name}"),
-        &mut || drop(black_box(typed::emit(black_box(&ours)))),
-        &mut || {
-            let list = black_box(others.as_slice());
-            let mut out = vec![0; list.buffer_len()];
-            list.emit(&mut out);
-            drop(black_box(out));
-        },
-    );
+    ratio(&format!("emit of {name}"), &mut || drop(black_box(typed::emit(black_box(&ours)))), &mut || {
+        let list = black_box(others.as_slice());
+        let mut out = vec![0; list.buffer_len()];
+        list.emit(&mut out);
+        drop(black_box(out));
+    });
 }
 
 fn bytes(digits: &str) -> Vec<u8> {
@@ -98,10 +94,10 @@ fn main() {
          0c002200e8030000000000000c002300340c000000000000050024000100000005002500000000000500260000000000",
     );
     let vxlan = bytes(
-        "080001002a00000008000200ef010101080003002e000000050005000500000005001c0000000000050006000000000005001d0000000000
-         08001a0000000000050007000100000005000b000000000005000c000000000005000d000000000005000e000000000008000800640000
-         00080009000500000006000f0012b500000500120001000000050013000000000005001400000000000500150000000000
-         0500160000000000",
+        "080001002a00000008000200ef010101080003002e000000050005000500000005001c0000000000050006000000000005001d00
+         0000000008001a0000000000050007000100000005000b000000000005000c000000000005000d000000000005000e0000000000
+         0800080064000000080009000500000006000f0012b5000005001200010000000500130000000000050014000000000005001500
+         000000000500160000000000",
     );
     kind::<typed::InfoVlan, theirs::InfoVlan>("a vlan", &vlan);
     kind::<typed::InfoBridge, theirs::InfoBridge>("a bridge", &bridge);

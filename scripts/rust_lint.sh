@@ -35,5 +35,6 @@ where 'no feature' 'cargo --version' cargo check --no-default-features
 where rustfmt 'cargo fmt --version' cargo fmt --check
 where clippy 'cargo clippy --version' cargo clippy --all-targets -- -D clippy::incompatible_msrv
 where rustdoc 'rustdoc --version' cargo doc --no-deps
+where 'public items' 'rustdoc --version' python3 ../scripts/rust_items.py "$CARGO_TARGET_DIR/doc/linkwire" items.txt
 where package 'cargo --version' cargo package --offline --allow-dirty --no-verify
 exit "$status"

@@ -27,6 +27,8 @@ cd "$top/rust"
 runs cargo test --locked
 awk '/^test result: ok/ { sum += $4 } END { print "rust: " sum " tests passed" }' "$folder/log"
 
+"$top/scripts/rust_netlink.sh"
+
 # block LANGUAGE: the first of that language after README's line '<!-- runs: rust -->'
 block() {
     awk -v fence="\`\`\`$1" '$0 == "<!-- runs: rust -->" { is_part = 1 } is_part && $0 == "```" { if (in_block) exit }

@@ -15,8 +15,11 @@ mod attributes;
 mod calls;
 mod flags;
 pub mod info;
+#[macro_use]
+mod netlink;
 mod packet;
 mod rattle;
+pub mod request;
 pub mod typed;
 mod values;
 mod writer;

@@ -1,0 +1,71 @@
+#!/usr/bin/env python3
+"""The public items of the crate in rust/: each with its variants, fields and calls, and the traits that it has.
+
+    python3 scripts/rust_items.py DOC [FILE]
+
+DOC is the folder that `cargo doc` made, of the crate. With FILE, what differs from the list there is printed, and the
+exit status is then 1; rust/items.txt is such a list. What came or went of it is for the CHANGELOG.
+"""
+import difflib
+import html
+import os
+import re
+import sys
+import textwrap
+
+IDS = re.compile(r'id="((?:variant|structfield|method|tymethod|associatedconstant|associatedtype|impl)[.-][^"]+)"')
+OWN = ("variant.", "structfield.", "method.", "tymethod.", "associatedconstant.", "associatedtype.")
+
+
+def parts(text):
+    """The ids of an item's page: its own, and the traits that are implemented for it."""
+    text = text.split('id="synthetic-implementations"')[0].split('id="implementors"')[0]
+    own, _, traits = text.partition('id="trait-implementations"')
+    ids = [one for one in IDS.findall(own) if one.startswith(OWN) and ".field." not in one]
+    names = [one.split(".", 1)[1] for one in ids]
+    fields = re.findall(r'id="variant\.(\w+)\.field\.(\w+)"', own)
+    names += [f"{variant}.{field}" for variant, field in fields]
+    found = [html.unescape(one)[5:] for one in IDS.findall(traits) if one.startswith("impl-")]
+    found = {re.sub(r"(-for-|%3C).*", "", one) for one in found} - {"StructuralPartialEq"}
+    return list(dict.fromkeys(names)), sorted(found)
+
+
+def items(folder):
+    """The items as lines, in the order of their paths."""
+    lines = []
+    for root, _, files in sorted(os.walk(folder)):
+        module = os.path.relpath(root, folder).replace(os.sep, "::").replace(".", "")
+        for name in sorted(files):
+            match = re.fullmatch(r"(struct|enum|fn|constant|trait|type|macro)\.(\w+)\.html", name)
+            if not match or is_hidden(folder, root, name):
+                continue
+            with open(os.path.join(root, name), encoding="utf-8") as file:
+                names, traits = parts(file.read())
+            lines.append(f"{match[1]} {module + '::' if module else ''}{match[2]}")
+            for words in (" ".join(names), "has " + " ".join(traits) if traits else ""):
+                lines += textwrap.wrap(words, 116, initial_indent="  ", subsequent_indent="    ")
+    return lines
+
+
+def is_hidden(folder, root, name):
+    """Pages that only lead to another."""
+    with open(os.path.join(root, name), encoding="utf-8") as file:
+        return 'http-equiv="refresh"' in file.read(2000)
+
+
+def main():
+    if len(sys.argv) not in (2, 3):
+        sys.exit("usage: rust_items.py DOC [FILE]")
+    found = items(sys.argv[1])
+    if len(sys.argv) == 2:
+        print(*found, sep="\n")
+        return
+    with open(sys.argv[2], encoding="utf-8") as file:
+        kept = file.read().splitlines()
+    if found != kept:
+        print(*difflib.unified_diff(kept, found, sys.argv[2], "what is public", lineterm="", n=1), sep="\n")
+        sys.exit(1)
+
+
+if __name__ == "__main__":
+    main()
