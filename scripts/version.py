@@ -22,6 +22,8 @@ PLACES = [(files, constant, re.compile(form, re.M)) for files, constant, form in
     ("rust/Cargo.toml", "VERSION", r'^version = "(.*)"'),
     ("rust/netlink/Cargo.toml", "VERSION", r'^version = "(.*)"'),
     ("rust/serde/Cargo.toml", "VERSION", r'^version = "(.*)"'),
+    ("python/pyproject.toml", "VERSION", r'^version = "(.*)"'),
+    ("python/linkwire/__init__.py", "VERSION", r'^__version__ = "(.*)"'),
     ("rust/Cargo.lock", "VERSION", r'^name = "linkwire"\nversion = "(.*)"'),
     ("crates/link_msg/src/encoding.rt", "CANONICAL_FORM", r"^pub const CANONICAL_FORM: u32 = (\d+);"),
     ("crates/link_state/src/state_encoding.rt", "STATE_FORM", r"^pub const STATE_FORM: u32 = (\d+);"),

@@ -1,0 +1,20 @@
+"""Link messages of Linux's route netlink: checked, in one canonical encoding, shown by name, compared, and watched.
+
+A message is what stands after the netlink header: `struct ifinfomsg` of 16 bytes, and attributes (rtnetlink(7)). Calls
+take bytes, bytearray or a memoryview; what another thread may write meanwhile is to be copied first. They may run side
+by side in any number of threads. docs/PYTHON.md shows how each is used.
+"""
+
+from .messages import (CANONICAL_FORM, HEADER_SIZE, STATE_FORM, Attribute, Bytes, Change, Fault, Value, attributes,
+                       be16, be32, build, canonical, check, diff, key, number, pick, same_message, same_state, show,
+                       show_all, show_json, state, text, u8, u16, u32, u64)
+from .netlink import Announcement, KernelError, Links, LostMessages, Stream
+from .watching import Event, Line, Watch, read_line
+
+__version__ = "0.3.0"
+__all__ = [
+    "CANONICAL_FORM", "HEADER_SIZE", "STATE_FORM", "Announcement", "Attribute", "Bytes", "Change", "Event", "Fault",
+    "KernelError", "Line", "Links", "LostMessages", "Stream", "Value", "Watch", "attributes", "be16", "be32", "build",
+    "canonical", "check", "diff", "key", "number", "pick", "read_line", "same_message", "same_state", "show",
+    "show_all", "show_json", "state", "text", "u8", "u16", "u32", "u64",
+]

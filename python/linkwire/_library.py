@@ -1,0 +1,115 @@
+"""The shared library, and what its numbers mean."""
+
+import ctypes
+import os
+import threading
+from typing import Any, List, Optional, Tuple
+
+OUT_OF_MEMORY, NO_ROOM = -18, -19
+
+# what linkshow calls each refusal, and the phrase of linkwire.h
+CAUSES = {
+    -1: ("too-short", "a header or record with too few bytes"),
+    -2: ("frame-short", "too few bytes for the header of an attribute"),
+    -3: ("frame-over", "an attribute that passes the end of its list"),
+    -4: ("frame-under", "an attribute shorter than its header"),
+    -5: ("empty-list", "an empty list that needs a member"),
+    -6: ("wrong-length", "a number or address of a wrong length"),
+    -7: ("not-utf8", "a text that is not UTF-8"),
+    -16: ("unfit", "an attribute that would be too long"),
+    -17: ("empty-ports", "an empty list of ports"),
+}
+
+
+class Path(ctypes.Structure):
+    """`struct linkwire_path` of linkwire.h."""
+
+    _fields_ = [("at", ctypes.c_size_t), ("depth", ctypes.c_size_t), ("numbers", ctypes.c_uint16 * 4)]
+
+
+_NAME = "liblinkwire.so.0"
+_bytes, _size, _length = ctypes.c_char_p, ctypes.c_size_t, ctypes.c_ssize_t
+_i32, _u32 = ctypes.c_int32, ctypes.c_uint32
+_SIGNATURES: Tuple[Tuple[str, Any, List[Any]], ...] = (
+    ("linkwire_check", _i32, [_bytes, _size]),
+    ("linkwire_canonical_len", _length, [_bytes, _size]),
+    ("linkwire_canonical", _length, [_bytes, _size, _bytes, _size]),
+    ("linkwire_state", _length, [_bytes, _size, _bytes, _size]),
+    ("linkwire_same_message", _i32, [_bytes, _size, _bytes, _size]),
+    ("linkwire_same_state", _i32, [_bytes, _size, _bytes, _size]),
+    ("linkwire_fault_path", _i32, [_bytes, _size, ctypes.POINTER(Path)]),
+    ("linkwire_canonical_form", _u32, []),
+    ("linkwire_state_form", _u32, []),
+    ("linkwire_order", _u32, [_bytes, _size]),
+    ("linkwire_show", _length, [_bytes, _size, _u32, _u32, _bytes, _size]),
+    ("linkwire_diff", _length, [_bytes, _size, _bytes, _size, _u32, _u32, _bytes, _size]),
+)
+
+
+def _find() -> str:
+    """Where the library is: what LINKWIRE in the environment names, else beside this file, else where ld.so looks."""
+    named = os.environ.get("LINKWIRE")
+    beside = os.path.join(os.path.dirname(os.path.abspath(__file__)), _NAME)
+    return named or (beside if os.path.exists(beside) else _NAME)
+
+
+def _lacking(path: str, name: str) -> Any:
+    def fails(*_: Any) -> Any:
+        raise NotImplementedError(f"linkwire: {path} has no {name}: it is older than this package")
+
+    return fails
+
+
+class _Library:
+    """The functions of linkwire.h. One that the library lacks raises NotImplementedError."""
+
+    def __init__(self, path: str) -> None:
+        try:
+            found = ctypes.CDLL(path)
+        except OSError as error:
+            raise ImportError(f"linkwire: no shared library: install liblinkwire.so.0 (Debian: liblinkwire0), or a C "
+                              f"compiler and then this package again, or name it by LINKWIRE ({error})") from None
+        self.path = path
+        for name, result, arguments in _SIGNATURES:
+            function: Any = getattr(found, name, None)
+            if function is None:
+                function = _lacking(path, name)
+            else:
+                function.restype, function.argtypes = result, arguments
+            setattr(self, name, function)
+
+    def __getattr__(self, name: str) -> Any:
+        raise AttributeError(name)
+
+
+library = _Library(_find())
+
+
+class _Room(threading.local):
+    """Room for what a call writes: each thread has its own."""
+
+    def __init__(self) -> None:
+        self.out = ctypes.create_string_buffer(1 << 16)
+
+
+_room = _Room()
+
+
+def text_of(call: Any, *arguments: Any) -> Tuple[int, Optional[bytes]]:
+    """What a call returns, and what it writes; it says how long that is where the room is too short."""
+    out = _room.out
+    length: int = call(*arguments, out, len(out))
+    if length > len(out):
+        out = ctypes.create_string_buffer(length)
+        length = call(*arguments, out, length)
+    return length, ctypes.string_at(out, length) if length >= 0 else None
+
+
+def encoding_of(call: Any, message: bytes) -> Tuple[int, Optional[memoryview]]:
+    """What `linkwire_canonical` or `linkwire_state` returns and writes; the view ends with the thread's next call."""
+    out = _room.out
+    length: int = call(message, len(message), out, len(out))
+    if length == NO_ROOM:
+        out = ctypes.create_string_buffer(library.linkwire_canonical_len(message, len(message)))
+        length = call(message, len(message), out, len(out))
+    return length, memoryview(out)[:length] if length >= 0 else None

@@ -1,0 +1,268 @@
+"""The calls of the package on stored messages of kernels, on damaged ones, and on what is built."""
+
+import ctypes
+import os
+import pickle
+import random
+import re
+import threading
+import unittest
+
+import linkwire
+from linkwire import numbers
+from linkwire._library import CAUSES, library
+
+TOP = os.path.dirname(os.path.dirname(os.path.dirname(os.path.abspath(__file__))))
+# IFLA_VFINFO_LIST, IFLA_VF_INFO and IFLA_VF_VLAN, which is too short, after an MTU
+FUNCTION = bytes.fromhex("0000010007000000000000000000000008000400440000001400160010000100"
+                         "0c0002000000000064000000")
+LO = linkwire.build([(numbers.IFLA_IFNAME, "lo"), (numbers.IFLA_MTU, linkwire.u32(65536))], index=1, link_type=772)
+NAMES = {name for name, _ in CAUSES.values()}
+
+
+def lacks(name):
+    """Whether the library that dist/ has is older than the calls; a gate over one that is not has to pass."""
+    return isinstance(getattr(library, name), type(lacks))
+
+
+def has(name):
+    return unittest.skipIf(lacks(name), f"the library has no {name}: dist/ is older than the package")
+
+
+def stored(program):
+    with open(f"{TOP}/tests/kernels/messages.txt", encoding="utf-8") as it:
+        lines = [line.strip() for line in it if not line.startswith("#")]
+    with open(f"{TOP}/tests/kernels/{program}.txt", encoding="utf-8") as it:
+        answers = it.read().splitlines()
+    with open(f"{TOP}/tests/kernels/messages.txt", encoding="utf-8") as it:
+        kernels = [line[2:].split(":")[0] for line in it if line.startswith("#")]
+    return [(bytes.fromhex(line), answer.replace("=", line) if program != "linkshow" else answer, kernel)
+            for line, answer, kernel in zip(lines, answers, kernels)]
+
+
+def answered(call, message):
+    """What linkwire and linkstate answer."""
+    try:
+        return "ok " + call(message).hex()
+    except linkwire.Fault as fault:
+        return f"refused {fault.cause}"
+
+
+class Calls(unittest.TestCase):
+    def test_encodings(self):
+        """Of each stored message, what linkwire and linkstate answer."""
+        for program, call in ("linkwire", linkwire.canonical), ("linkstate", linkwire.state):
+            for message, answer, _ in stored(program):
+                found = answered(call, message)
+                self.assertEqual(found.split()[0], answer.split()[0])
+                if found.startswith("ok"):
+                    self.assertEqual(found, answer)
+                    self.assertEqual(call(bytearray(message)), call(memoryview(message)))
+
+    def test_check(self):
+        linkwire.check(LO)
+        with self.assertRaises(linkwire.Fault) as raised:
+            linkwire.check(FUNCTION)
+        fault = raised.exception
+        self.assertEqual((fault.cause, fault.offset, fault.path), ("too-short", 32, (22, 1, 2)))
+        self.assertEqual(str(fault), "a header or record with too few bytes, at byte 32 in IFLA_VFINFO_LIST 1 2")
+        again = pickle.loads(pickle.dumps(fault))
+        self.assertEqual((str(again), again.path, again.message), (str(fault), fault.path, FUNCTION))
+        for wrong in (5, "lo", None):
+            self.assertRaises(TypeError, linkwire.check, wrong)
+
+    @has("linkwire_show")
+    def test_before(self):
+        with self.assertRaises(linkwire.Fault) as raised:
+            linkwire.canonical(FUNCTION)
+        self.assertEqual(raised.exception.before, {"mtu": 68})
+
+    def test_no_canonical_encoding(self):
+        """IFLA_VF_PORTS with another entry than IFLA_VF_PORT, and a text that has no room for its NUL."""
+        long = bytes(65531)
+        for cause, list_ in ("empty-ports", [(numbers.IFLA_VF_PORTS, [(9, b"")])]), \
+                ("unfit", [(numbers.IFLA_IFALIAS, b"a" * len(long))]):
+            message = linkwire.build(list_)
+            linkwire.check(message)
+            for call in linkwire.canonical, linkwire.state, linkwire.key, lambda it: linkwire.same_state(LO, it):
+                with self.assertRaises(linkwire.Fault) as raised:
+                    call(message)
+                self.assertEqual((raised.exception.cause, raised.exception.offset), (cause, None))
+
+    def test_key(self):
+        counted = [linkwire.build([(numbers.IFLA_CARRIER_CHANGES, linkwire.u32(it))], index=7) for it in (2, 12)]
+        self.assertEqual(*map(linkwire.key, counted))
+        self.assertTrue(linkwire.same_state(*counted))
+        self.assertFalse(linkwire.same_message(*counted))
+        self.assertRegex(linkwire.key(LO), f"^{linkwire.CANONICAL_FORM}.{linkwire.STATE_FORM}:[0-9a-f]{{64}}$")
+        self.assertNotEqual(linkwire.key(LO), linkwire.key(counted[0]))
+
+    def test_long(self):
+        """Encodings that are longer than the room that a thread keeps."""
+        message = linkwire.build([(9999, bytes(65000))] * 5 + [(numbers.IFLA_STATS64, bytes(8))] * 2000)
+        self.assertEqual(linkwire.canonical(linkwire.canonical(message)), linkwire.canonical(message))
+        self.assertGreater(len(linkwire.canonical(message)), 5 * 65000 + 2000 * 196)
+
+    def test_threads(self):
+        """Calls of several threads have the answers of one: long messages, so that they run side by side."""
+        messages = [linkwire.build([(9999, bytes([it]) * 15000)] * 4) for it in range(4)]
+        wanted, found = [linkwire.canonical(it) for it in messages], {}
+
+        def work(number):
+            found[number] = {linkwire.canonical(messages[number]) for _ in range(2000)}
+
+        threads = [threading.Thread(target=work, args=(it,)) for it in range(4)]
+        for it in threads:
+            it.start()
+        for it in threads:
+            it.join()
+        self.assertEqual([found[it] for it in range(4)], [{it} for it in wanted])
+
+    @has("linkwire_show")
+    def test_show(self):
+        """Of each stored message the line of linkshow, which its kernel decides."""
+        for message, answer, kernel in stored("linkshow"):
+            self.assertIn(answer.encode(), [linkwire.show_json(message), linkwire.show_json(message, kernel)])
+        self.assertEqual(linkwire.show(LO), {"ifi-family": 0, "ifi-type": 772, "ifi-index": 1, "ifi-flags": [],
+                                             "ifi-change": 0, "ifname": "lo", "mtu": 65536})
+        self.assertEqual({key: linkwire.show(FUNCTION)[key] for key in ("fault", "at", "before")},
+                         {"fault": "too-short", "at": "IFLA_VF_VLAN", "before": {"mtu": 68}})
+        long = linkwire.build([(numbers.IFLA_IFALIAS, "é" * 30000)])
+        self.assertEqual(linkwire.show(long)["ifalias"], "é" * 30000)
+        longer = linkwire.build([(numbers.IFLA_IFALIAS, '"' * 60000)])
+        self.assertEqual(linkwire.show(longer)["ifalias"], '"' * 60000)
+        self.assertEqual(linkwire.diff(longer[:16], longer), [("ifalias", None, '"' * 60000)])
+        messages = [message for message, _, _ in stored("linkshow")] * 5 + [FUNCTION, b""]
+        for lenient in False, True:
+            self.assertEqual(list(linkwire.show_all(messages, "6.1.0", lenient)),
+                             [linkwire.show(it, "6.1.0", lenient) for it in messages])
+        self.assertEqual(list(linkwire.show_all([])), [])
+        self.assertEqual(linkwire.show(LO, kernel="running"), linkwire.show(LO, kernel="6.1.0"))
+
+    @has("linkwire_diff")
+    def test_diff(self):
+        new = LO.replace(b"lo\0", b"l1\0").replace(linkwire.u32(65536), linkwire.u32(1500))
+        self.assertEqual(linkwire.diff(LO, new), [("ifname", "lo", "l1"), ("mtu", 65536, 1500)])
+        self.assertEqual(linkwire.diff(LO, LO), [])
+        self.assertEqual(linkwire.diff(LO[:24], LO), [("mtu", None, 65536)])
+        self.assertEqual(linkwire.diff(LO, LO[:24])[0].new, None)
+        counted = [linkwire.build([(numbers.IFLA_CARRIER_CHANGES, linkwire.u32(it))], index=7) for it in (2, 12)]
+        self.assertEqual(linkwire.diff(*counted), [])
+        self.assertEqual(linkwire.diff(*counted, counters=True), [("carrier-changes", 2, 12)])
+        for pair in (LO, FUNCTION), (FUNCTION, LO):
+            with self.assertRaises(linkwire.Fault) as raised:
+                linkwire.diff(*pair)
+            self.assertEqual(raised.exception.cause, "too-short")
+
+    @has("linkwire_diff")
+    def test_lenient(self):
+        """An alias in Latin-1 and an empty list of a port hide nothing."""
+        mtu, other = ((numbers.IFLA_MTU, linkwire.u32(it)) for it in (1500, 1400))
+        port, one, two = (numbers.IFLA_PROTINFO, b""), (numbers.IFLA_IFALIAS, b"\xe9"), (numbers.IFLA_IFALIAS, b"\xe8")
+        old, new = linkwire.build([port, one, mtu], family=7), linkwire.build([two, other], family=7)
+        self.assertIn("fault", linkwire.show(old))
+        self.assertEqual({key: linkwire.show(old, lenient=True).get(key) for key in ("mtu", "fault", "refused")}, {
+            "mtu": 1500, "fault": None, "refused": [
+                {"at": "IFLA_PROTINFO", "fault": "empty-list", "offset": 16, "payload": ""},
+                {"at": "IFLA_IFALIAS", "fault": "not-utf8", "offset": 20, "payload": "e9"}]})
+        self.assertEqual(linkwire.diff(old, new, lenient=True), [
+            ("mtu", 1500, 1400), ("refused.protinfo", "", None), ("refused.ifalias", "e9", "e8")])
+        self.assertEqual(linkwire.diff(old, old, lenient=True), [])
+        self.assertNotIn("refused", linkwire.show(LO, lenient=True))
+        for it in LO[:15], LO + b"\0":
+            self.assertIn("fault", linkwire.show(it, lenient=True))
+        self.assertEqual(linkwire.show(FUNCTION, lenient=True)["refused"][0]["offset"], 32)
+
+    def test_lacking(self):
+        """A call that the library lacks says so."""
+        for name, call in ("linkwire_show", linkwire.show), ("linkwire_diff", lambda it: linkwire.diff(it, it[:16])):
+            if lacks(name):
+                self.assertRaisesRegex(NotImplementedError, f"has no {name}", call, LO)
+
+    def test_damaged(self):
+        """Of damaged messages check, canonical and fault are of one mind, and attributes end as the frames do."""
+        chance = random.Random(59)
+        messages = [message for message, _, _ in stored("linkwire")]
+        for _ in range(3000):
+            message = bytearray(chance.choice(messages))
+            for _ in range(chance.randrange(1, 4)):
+                message[chance.randrange(len(message))] = chance.randrange(256)
+            message = bytes(message[:chance.randrange(len(message) + 1)] if chance.random() < .3 else message)
+            try:
+                linkwire.check(message)
+            except linkwire.Fault as fault:
+                self.assertIn(fault.cause, NAMES)
+                self.assertLessEqual(fault.offset, len(message))
+                with self.assertRaises(linkwire.Fault) as raised:
+                    linkwire.state(message)
+                self.assertEqual(str(raised.exception), str(fault))
+                continue
+            self.assertTrue(all(len(it.payload) <= 65531 for it in linkwire.attributes(message)))
+
+
+class Attributes(unittest.TestCase):
+    def test_attributes(self):
+        """The attributes of a message, built again, are the message."""
+        for message, answer, _ in stored("linkwire"):
+            if answer.startswith("ok"):
+                parts = [(it.number | it.flags, it.payload) for it in linkwire.attributes(message)]
+                self.assertEqual(message[:16] + linkwire.build(parts)[16:], message)
+        found = list(linkwire.attributes(LO))
+        self.assertEqual([(it.number, it.flags) for it in found], [(3, 0), (4, 0)])
+        self.assertIsInstance(found[0].payload, memoryview)
+        self.assertEqual((linkwire.text(found[0].payload), linkwire.number(found[1].payload)), ("lo", 65536))
+
+    def test_faults(self):
+        self.assertEqual(linkwire.pick(LO, 4, 3, 9), {3: b"lo\0", 4: linkwire.u32(65536)})
+        self.assertEqual(linkwire.pick(LO + LO[16:].replace(b"lo", b"l1"), 3, 4, 9)[3], b"lo\0")
+        self.assertEqual(linkwire.pick(LO[16:], 4, start=0), {4: linkwire.u32(65536)})
+        for cause, rest in ("frame-short", b"\0\0\0"), ("frame-over", b"\x09\0\1\0abcd"), ("frame-under", b"\3\0\1\0"):
+            found = linkwire.attributes(LO + rest)
+            self.assertEqual([next(found).number, next(found).number], [3, 4])
+            with self.assertRaises(linkwire.Fault) as raised:
+                next(found)
+            self.assertEqual((raised.exception.cause, raised.exception.offset), (cause, len(LO)))
+            self.assertEqual(linkwire.pick(LO + rest, 3, 4)[3], b"lo\0")
+            for call in linkwire.check, lambda it: linkwire.pick(it, 3, 9):
+                with self.assertRaises(linkwire.Fault) as checked:
+                    call(LO + rest)
+                self.assertEqual(checked.exception.cause, cause)
+
+    def test_build(self):
+        nested = linkwire.build([(18, [(1, "vlan"), (2, [(1, linkwire.u16(7)), (5, linkwire.be16(0x88A8))])])])
+        self.assertEqual(nested[16:].hex(), "2400120009000100766c616e0000000014000200060001000700000006000500"
+                         "88a80000")
+        self.assertEqual(linkwire.build(index=-1, flags=1, change=1, family=7, link_type=1).hex(),
+                         "07000100ffffffff0100000001000000")
+        widths = {"u8": 1, "u16": 2, "be16": 2, "u32": 4, "be32": 4, "u64": 8}
+        for name, width in widths.items():
+            call = getattr(linkwire, name)
+            self.assertEqual(call(2 ** (8 * width) - 1), b"\xff" * width)
+            self.assertEqual(call(1), (1).to_bytes(width, "big" if name.startswith("be") else "little"))
+            for wrong in (-1, 2 ** (8 * width), "1"):
+                self.assertRaises(ValueError, call, wrong)
+        self.assertRaises(TypeError, linkwire.build, [(4, 1500)])
+        self.assertRaises(TypeError, linkwire.build, [(4, None)])
+        self.assertRaises(ValueError, linkwire.build, [(4, bytes(65532))])
+        self.assertRaises(ValueError, linkwire.build, [(18, [(1, bytes(40000)), (2, bytes(40000))])])
+        self.assertRaises(ValueError, linkwire.build, [(1 << 16, b"")])
+        self.assertRaises(ValueError, linkwire.build, index=1 << 31)
+
+    def test_put(self):
+        """An attribute that is built is one that linkwire_put writes."""
+        put = ctypes.CDLL(library.path).linkwire_put
+        for length in range(9):
+            out, at = ctypes.create_string_buffer(32), ctypes.c_size_t(0)
+            self.assertEqual(put(out, ctypes.c_size_t(32), ctypes.byref(at), 9, bytes(range(length)),
+                                 ctypes.c_size_t(length)), 1)
+            self.assertEqual(linkwire.build([(9, bytes(range(length)))])[16:], out.raw[:at.value])
+
+    def test_numbers(self):
+        """The numbers are those of linkwire.h."""
+        with open(f"{TOP}/include/linkwire.h", encoding="utf-8") as it:
+            names = re.findall(r'"(IFLA_\w+)"', it.read())
+        self.assertEqual([getattr(numbers, name) for name in names], list(range(len(names))))
+
+
+if __name__ == "__main__":
+    unittest.main()

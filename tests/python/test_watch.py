@@ -1,0 +1,169 @@
+"""The rules of `Watch` beside the program linkdiff: of each line the same events, on made streams of fifty hosts."""
+
+import json
+import os
+import random
+import subprocess
+import sys
+import unittest
+
+import linkwire
+from linkwire import numbers
+from test_calls import TOP, has, stored
+
+sys.path.insert(0, f"{TOP}/tests/linkdump")
+sys.dont_write_bytecode = True
+import hosts  # noqa: E402
+
+EVENT = linkwire.build([(numbers.IFLA_EVENT, linkwire.u32(1))])[16:]
+TYPES = ["type=new "] * 6 + ["type=del ", "type=get ", "type=set ", "type=x ", ""]
+LINKDIFF = os.environ.get("LINKDIFF", f"{TOP}/out/linkdiff")
+
+
+def members(event):
+    """What linkdiff writes of an event, but for the words."""
+    found = {"change": event.change}
+    if event.change == "fault":
+        return {"fault": event.fault.cause}
+    if event.ifindex is not None:
+        found.update({"ifi-family": event.family, "ifi-index": event.ifindex})
+        if event.ifname is not None:
+            found["ifname"] = event.ifname
+    if event.change == "changed":
+        found["changes"] = [{"path": it.path, **({"old": it.old} if it.old is not None else {}),
+                             **({"new": it.new} if it.new is not None else {})} for it in event.changes]
+    return found
+
+
+def told(options, lines):
+    """What linkdiff writes, each with its host and the number of its line, which stands in the place of its time."""
+    numbered = "".join(f"time={at} {line}\n" for at, line in enumerate(lines))
+    ran = subprocess.run([LINKDIFF, *options], input=numbered, capture_output=True, text=True, check=True, timeout=300)
+    found = []
+    for it in map(json.loads, ran.stdout.splitlines()):
+        at, host = int(it.pop("time")), it.pop("host", "")
+        if "fault" in it:
+            it = {"fault": it["fault"]}
+        found.append((at, host, {key: value for key, value in it.items() if key != "type"}))
+    return found
+
+
+def watched(watch, lines):
+    found = []
+    for at, line in enumerate(lines):
+        try:
+            found += [(at, it.host, members(it)) for it in watch.line(line)]
+        except ValueError:
+            words = dict(word.split("=", 1) for word in line.split() if "=" in word)
+            found.append((at, words.get("host", ""), {"fault": "not-hex"}))
+    return found
+
+
+def odd_lines(chance, count):
+    """Lines of any sort: damaged, cut, of requests, of words alone, of wireless alone, in capital letters."""
+    messages, turn = [it for it, _, _ in stored("linkwire")][:40], 0
+    for _ in range(count):
+        message = bytearray(chance.choice(messages))
+        message[0], message[4:8] = chance.choice((0, 0, 0, 7, 10)), linkwire.u32(chance.randrange(1, 5))
+        if chance.random() < .15:
+            message[chance.randrange(16, len(message))] = chance.randrange(256)
+        if chance.random() < .05:
+            message = message[:chance.randrange(len(message) + 1)]
+        if chance.random() < .1:
+            message += chance.choice((EVENT, EVENT, EVENT, linkwire.build([(numbers.IFLA_EVENT, bytes(3))])[16:]))
+        if chance.random() < .3:
+            message += linkwire.build([(numbers.IFLA_CARRIER_CHANGES, linkwire.u32(turn))])[16:]
+        if chance.random() < .1:
+            message[16:] = linkwire.build([(numbers.IFLA_IFNAME, "e0")])[16:] + linkwire.build(
+                [(numbers.IFLA_WIRELESS, bytes(chance.choice((4, 8))))])[16:]
+        host, type_ = chance.choice(("", "host=a ", "host=b ")), chance.choice(TYPES)
+        sort = chance.random()
+        turn += sort < .05
+        digits = message.hex() if chance.random() < .8 else message.hex().upper()
+        yield host + (f"type=begin seq={turn} port=1" if sort < .05 else
+                      f"type=done seq={chance.choice((turn, turn, turn, 1))} port=1 family={chance.choice((0, 7, 10))}"
+                      if sort < .12 else "type=lost" if sort < .14 else f"{type_}zz" if sort < .16 else
+                      "links=4" if sort < .18 else f"{type_}kernel=6.1.0 {chance.choice(('', 'ok '))}{digits}")
+
+
+@unittest.skipUnless(os.path.exists(LINKDIFF), "linkdiff is not built")
+class Rules(unittest.TestCase):
+    def compares(self, lines, options=(), **words):
+        own = watched(linkwire.Watch(**words), lines)
+        wanted = told(options, lines)
+        for one, other in zip(own, wanted):
+            self.assertEqual(one, other, lines[one[0]])
+        self.assertEqual(len(own), len(wanted))
+        return len(own)
+
+    @has("linkwire_diff")
+    def test_streams(self):
+        for seed in range(2):
+            lines = [line.split(" ", 2) for _, line, _ in hosts.made(seed)]
+            lines = [" ".join((host, rest)) for host, _, rest in lines]
+            self.assertGreater(self.compares(lines), 2500)
+        self.compares(lines, ["--changes-only"], changes_only=True)
+
+    @has("linkwire_diff")
+    def test_messages(self):
+        """Stored messages of kernels, counters, announcements and ends, in any turn."""
+        chance, messages = random.Random(1), [(it, kernel) for it, _, kernel in stored("linkwire")]
+        lines = []
+        for _ in range(1500):
+            message, kernel = chance.choice(messages)
+            message = bytearray(message)
+            message[4:8] = linkwire.u32(chance.randrange(1, 4))
+            for it in linkwire.attributes(bytes(message)):
+                if it.payload and chance.random() < .1:
+                    at = bytes(message).index(bytes(it.payload))
+                    message[at] ^= chance.choice((0, 0, 1, 3))
+            if chance.random() < .2:  # IFLA_EVENT
+                message += EVENT
+            lines.append(f"type={chance.choice(('new', 'new', 'new', 'del'))} kernel=6.1.0 {message.hex()}")
+        self.assertGreater(self.compares(lines), 500)
+        self.compares(lines, ["--counters"], counters=True)
+
+    @has("linkwire_diff")
+    def test_counters(self):
+        lines = ["type=new " + linkwire.build([(numbers.IFLA_CARRIER_CHANGES, linkwire.u32(it))], index=7).hex()
+                 for it in (1, 2, 2, 3)]
+        self.assertEqual(self.compares(lines), 1)
+        self.assertEqual(self.compares(lines, ["--counters"], counters=True), 3)
+
+    @has("linkwire_diff")
+    def test_odd_lines(self):
+        for seed in range(3):
+            lines = list(odd_lines(random.Random(seed), 600))
+            self.compares(lines)
+            self.compares(lines, ["--changes-only"], changes_only=True)
+            self.compares(lines, ["--counters"], counters=True)
+
+    def test_links(self):
+        watch = linkwire.Watch()
+        one, other = (linkwire.build([(3, name)], index=it) for it, name in ((1, "a"), (2, "b")))
+        self.assertEqual([it.change for it in watch.message(one) + watch.message(other)], ["new", "new"])
+        self.assertEqual(watch.links(), {(0, 1): one, (0, 2): other})
+        watch.begin("1")
+        watch.message(other)
+        (gone,) = watch.done("1", 0)
+        self.assertEqual((gone.change, gone.ifname, gone.message), ("gone", "a", one))
+        self.assertEqual(watch.done("1", 7) + watch.message(other) + watch.begin("2") + watch.done("1", 0), [])
+        self.assertNotIn("message", repr(gone))
+
+
+class Lines(unittest.TestCase):
+    def test_lines(self):
+        for line, wanted in (("00", ({}, b"\0")), ("host=a type=new 00FF\n", ({"host": "a", "type": "new"}, b"\0\xff")),
+                             ("type=done seq=1", ({"type": "done", "seq": "1"}, None)),
+                             ("a=1 a=2 ok 00", ({"a": "1"}, b"\0")),
+                             ("a= 00", ({"a": ""}, b"\0")), ("type=lost \t", ({"type": "lost"}, None)),
+                             ("", ({}, b"")), ("a=1 ok ", ({"a": "1"}, b""))):
+            self.assertEqual(linkwire.read_line(line), wanted)
+        for line in ("0", "0g", "ok", "a=1 ok", " 00", "a=1 ok  00", "00 00", "a=1 refused 00", "=1 00", "٠٠"):
+            self.assertRaises(ValueError, linkwire.read_line, line)
+        with self.assertRaises(ValueError):
+            linkwire.Watch().line("host=a xyz")
+
+
+if __name__ == "__main__":
+    unittest.main()
