@@ -14,6 +14,9 @@ mkdir -p "$to/tests" out
 cp dist/Makefile README.md LICENSE CHANGELOG.md "$to"
 cp -r dist include man programs "$to"
 rm "$to/dist/Makefile"
+mkdir -p "$to/python/linkwire"
+cp python/*.py python/*.toml "$to/python"
+cp python/linkwire/*.py python/linkwire/py.typed "$to/python/linkwire"
 cp -r tests/c tests/self_test.sh "$to/tests"
 read -ra programs <<<"$(sed -n 's/^PROGRAMS = //p' dist/Makefile)"
 for program in "${programs[@]}"; do

@@ -1,7 +1,7 @@
 #!/usr/bin/env bash
-# Makes Debian's packages of what is built in out/, by dpkg-deb: liblinkwire0, liblinkwire-dev, linkwire and linkdump,
-# in out/deb/. They have the same bytes each time, with the same tools, and the date of the newest version. DEBFULLNAME
-# and DEBEMAIL name a maintainer.
+# Makes Debian's packages of what is built in out/, by dpkg-deb: liblinkwire0, liblinkwire-dev, python3-linkwire,
+# linkwire and linkdump, in out/deb/. They have the same bytes each time, with the same tools, and the date of the
+# newest version. DEBFULLNAME and DEBEMAIL name a maintainer.
 set -euo pipefail
 cd "$(dirname "$0")/.."
 for tool in dpkg-deb dpkg-gensymbols dpkg-shlibdeps dpkg-architecture strip; do
@@ -26,10 +26,11 @@ to=$PWD/out/deb
 rm -rf "$to"
 mkdir -p "$to"
 
-# begins PACKAGE: its folder, and what each package has
+# begins PACKAGE [ARCHITECTURE]: its folder, and what each package has
 begins() {
     tree=$folder/$1
     package=$1
+    of=${2:-$arch}
     doc=$tree/usr/share/doc/$1
     install -d "$doc" "$tree/DEBIAN"
     {
@@ -58,7 +59,7 @@ manuals() {
 # ends SECTION MULTIARCH DEPENDS SUMMARY LAST: the control file, and the package
 ends() {
     {
-        printf '%s\n' "Package: $package" 'Source: linkwire' "Version: $version" "Architecture: $arch" \
+        printf '%s\n' "Package: $package" 'Source: linkwire' "Version: $version" "Architecture: $of" \
             "Maintainer: $who" "Installed-Size: $(du -k -s --apparent-size "$tree/usr" | cut -f 1)" \
             ${3:+"Depends: $3"} "Section: $1" 'Priority: optional' "Multi-Arch: $2" \
             "Description: $short - $4"
@@ -68,8 +69,8 @@ ends() {
     (cd "$tree" && find usr -type f -print0 | sort -z | xargs -0 md5sum >DEBIAN/md5sums)
     chmod -R u=rwX,go=rX "$tree"
     find "$tree" -exec touch -hd "@$date" {} +
-    dpkg-deb --root-owner-group -Zxz --build "$tree" "$to/${package}_${version}_$arch.deb" >/dev/null
-    echo "$to/${package}_${version}_$arch.deb"
+    dpkg-deb --root-owner-group -Zxz --build "$tree" "$to/${package}_${version}_$of.deb" >/dev/null
+    echo "$to/${package}_${version}_$of.deb"
 }
 
 # needs FILE..: the libraries that they are linked with
@@ -110,6 +111,20 @@ manuals 3 linkwire
 ends libdevel same "liblinkwire0 (= $version)" 'development files' \
     'This package has the header, the static library and the manual page. The library is machine-proved; the inline
 functions of the header are tested, and not proved.'
+
+begins python3-linkwire all
+modules=$tree/usr/lib/python3/dist-packages
+install -d "$modules/linkwire"
+install -m 644 python/linkwire/*.py python/linkwire/py.typed "$modules/linkwire"
+python3 -B python/backend.py --metadata "$modules"
+for it in postinst:py3compile prerm:py3clean; do # what dh_python3 has for a package of modules
+    printf '#!/bin/sh\nset -e\nif command -v %s >/dev/null 2>&1; then\n    %s -p python3-linkwire\nfi\n' "${it#*:}" \
+        "${it#*:}" >"$tree/DEBIAN/${it%:*}"
+    chmod 755 "$tree/DEBIAN/${it%:*}"
+done
+ends python foreign "python3 (>= 3.9), python3:any, liblinkwire0 (>= $upstream)" 'for Python' 'This package has the
+modules for Python 3, over the shared library: messages are checked, shown by the names of the kernel and compared, and
+the links of the running kernel are dumped, watched and changed. The modules are tested, and not proved.'
 
 begins linkwire
 install -d "$tree/usr/bin"

@@ -117,6 +117,9 @@ cd "$folder/$(basename "$file" .tar.gz)"
 make -s install DESTDIR="$folder/stage"
 make -s uninstall DESTDIR="$folder/stage"
 [ -z "$(find "$folder/stage" ! -type d)" ]
+if ! lacks python3 >/dev/null; then
+    python3 -B python/backend.py "$folder" >/dev/null
+fi
 make -s check >"$folder/log"
 tail -n 1 "$folder/log" | grep -qx 'self-test passed'
 if make -s PROVE=1 >"$folder/log" 2>&1 || ! grep -q 'the crates, which are not in this archive' "$folder/log"; then
@@ -147,6 +150,12 @@ else
     done
     TESTS=header tests 'the programs of the packages'
     "$folder/root/usr/bin/linkdump" --version >/dev/null
+    if it=$(lacks python3); then
+        echo "dist: packages: python3-linkwire: skipped: no $it"
+    else
+        PYTHONPATH=$folder/root/usr/lib/python3/dist-packages LD_LIBRARY_PATH=$lib python3 -B -c \
+            'import linkwire; linkwire.check(linkwire.build([(3, "lo")]))'
+    fi
     echo 'dist: packages: the same bytes twice, unpacked and used by pkg-config: ok'
     if it=$(lacks lintian); then
         echo "dist: packages: lintian: skipped: no $it"
