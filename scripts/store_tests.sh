@@ -22,8 +22,8 @@ block() {
 }
 
 sqlite() {
-    LINKWIRE=$library python3 "$top/examples/store.py" "$folder/links.db" "$@" >"$folder/out" 2>&1 ||
-        fails "store.py: $(cat "$folder/out")"
+    LINKWIRE=$library PYTHONPATH=$top/python python3 -B "$top/examples/store.py" "$folder/links.db" "$@" \
+        >"$folder/out" 2>&1 || fails "store.py: $(cat "$folder/out")"
 }
 
 # in_sqlite QUERY
