@@ -1,0 +1,65 @@
+#!/usr/bin/env python3
+"""Counts over files of dumps, one file a host, by Dask: what each host has, and how many states its links had.
+
+    fleet_dask.py FOLDER [WORKERS | ADDRESS]
+
+FOLDER has lines of linkdump in HOST.lines, of one dump or of many. WORKERS are processes that are started here (2), and
+ADDRESS is that of a scheduler, whose workers see FOLDER under the same name and have the package. A worker that ends
+takes nothing with it: its files are read again by another. docs/FLEET.md says more.
+"""
+
+import glob
+import os
+import sys
+import time
+from collections import Counter
+
+import linkwire
+from distributed import Client, LocalCluster, as_completed
+
+
+def of_host(path):
+    """Returns of one file the host, how many messages it has and how many are refused, its states, and its kinds."""
+    keys, kinds, counts = set(), Counter(), Counter()
+    with open(path, encoding="utf-8") as lines:
+        for line in lines:
+            words, message = linkwire.read_line(line)
+            if message is None:
+                continue
+            counts["messages"] += 1
+            try:
+                key = linkwire.key(message)
+            except linkwire.Fault:
+                counts["refused"] += 1
+                continue
+            keys.add(key)
+            link = linkwire.show(message, words.get("kernel"))
+            kinds[link.get("linkinfo", {}).get("kind", "")] += 1
+    return os.path.basename(path)[:-len(".lines")], dict(counts), len(keys), dict(kinds)
+
+
+def results(client, folder):
+    """Returns what each host has, by its name, as the files are done."""
+    files = sorted(glob.glob(f"{folder}/*.lines"))
+    jobs = client.map(of_host, files, key=files, retries=3)
+    return sorted(job.result() for job in as_completed(jobs))
+
+
+def cluster(workers):
+    return LocalCluster(n_workers=workers, threads_per_worker=1, dashboard_address=None)
+
+
+def main(folder, where="2"):
+    with Client(cluster(int(where)) if where.isdigit() else where) as client:
+        start = time.monotonic()
+        found = results(client, folder)
+        seconds = time.monotonic() - start
+    for host, counts, states, kinds in found:
+        print(host, counts.get("messages", 0), "messages,", counts.get("refused", 0), "refused,", states, "states,",
+              ", ".join(f"{count} {kind or 'without a kind'}" for kind, count in sorted(kinds.items())))
+    print(f"fleet: {sum(it[1].get('messages', 0) for it in found)} messages of {len(found)} hosts, {seconds:.1f} s",
+          file=sys.stderr)
+
+
+if __name__ == "__main__":
+    main(*sys.argv[1:])
