@@ -7,6 +7,7 @@ OF_c-tests = link_c linkdiff linkdump
 OF_fuzz = link_c
 OF_c-bench = link_c
 OF_compare = link_c
+OF_python-tests = link_c linkdiff linkdump
 
 include dist/Makefile
 
@@ -15,7 +16,7 @@ $(if $(NEEDS_RT),$(if $(call is_here,rt),,$(error make $(NEEDS_RT) proves the cr
     on the path: make self-test, make test and make dist-tests need none)))
 
 .PHONY: dist archive deb dist-tests test rust files lint check edits tables bench compare show-tests c-tests
-.PHONY: costs linkdump-tests dev fmt rust-tests fuzz c-bench
+.PHONY: costs linkdump-tests python-tests dev fmt rust-tests fuzz c-bench
 
 dist: ## proves, and makes dist/ and the archive of a release anew; its sums say what it was made of
 	@scripts/dist.sh
@@ -79,6 +80,9 @@ costs: ## counts what a line takes of the texts in dist/, and compares with test
 
 linkdump-tests: ## runs linkdump on the running kernel and on captures, with sanitizers too
 	@scripts/linkdump_tests.sh
+
+python-tests: $(LIBRARIES) out/linkdiff out/linkdump ## tests the package in python/, for each Python that is here
+	@scripts/python_tests.sh
 
 rust-tests: ## runs the tests of rust/, and compares it with the built program linkwire
 	@scripts/rust_tests.sh

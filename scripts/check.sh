@@ -27,6 +27,7 @@ libraries() {
     make -s -o out/library.o out/liblinkwire.a out/liblinkwire.so.0
     stage 'c_tests.sh, with state_live.sh' scripts/c_tests.sh out/liblinkwire.a crates/linkdiff/out out
     stage linkdump_tests.sh scripts/linkdump_tests.sh
+    stage python_tests.sh scripts/python_tests.sh out
     python3 scripts/readme.py out/liblinkwire.a crates/linkwire/out crates/linkshow/out crates/linkstate/out \
         crates/linkdiff/out out
     stage 'builds of dist/' scripts/dist_tests.sh

@@ -6,6 +6,7 @@ manual pages each block with commands has a mark in front:
                        is one of those that are printed
     runs: c            the program is compiled and run as the block below it says, and prints what stands there
     runs: rust         scripts/rust_tests.sh does so
+    runs: python, file: NAME    tests/python/pages.py does so, which scripts/python_tests.sh runs
     compiles: c        the block is compiled, as what a function does that is given `message` and `len`
     stands in: FILE    the block is a part of that file
     not run: WHY
@@ -28,13 +29,15 @@ import sys
 import tempfile
 
 TOP = os.path.dirname(os.path.dirname(os.path.abspath(__file__)))
-PAGES = "README.md", "docs/USING.md", "docs/CONTRIBUTING.md"
+PAGES = "README.md", "docs/USING.md", "docs/PYTHON.md", "docs/FLEET.md", "docs/CONTRIBUTING.md"
 WARNINGS = "-std=c11 -Wall -Wextra -Wpedantic -Wconversion -Wshadow -Werror -fsyntax-only".split()
 # what a command in the text of a page begins with; one word alone is a name
-PROGRAM = re.compile(r"(?:apt-get|cargo|cut|link(?:diff|dump|show|state|wire)|make|parallel|python3|rt|scripts/\S+) ")
+PROGRAM = re.compile(
+    r"(?:apt-get|cargo|cut|link(?:diff|dump|show|state|wire)|make|parallel|pip|python3|rt|scripts/\S+) ")
 SECTIONS = "NAME", "SYNOPSIS", "DESCRIPTION", "OPTIONS", "EXIT STATUS", "EXAMPLES", "SEE ALSO"
 LINKS = "ip link set lo up && ip link add br0 type bridge && ip link add veth0 mtu 9000 type veth peer name veth1"
 
+BY_PAGES = re.compile(r"runs: python\b|file: ")
 BLOCK = re.compile(r"^(?:<!-- ([^\n]*) -->\n)?```(\w*)\n([\s\S]*?)^```$", re.M)
 MAN_BLOCK = re.compile(r'^(?:\.\\" ([^\n]*)\n)?\.nf\n([\s\S]*?)^\.fi$', re.M)
 COMMAND = re.compile(r"^[$#] (.*)\n((?:(?![$#] ).*\n)*)", re.M)
@@ -138,7 +141,7 @@ class Page:
             self.stands(rest, shown)
         elif kind == "not run":
             self.counts["not run"] += len(COMMAND.findall(shown))
-        elif mark != "runs: rust" and (mark or COMMAND.search(shown)):
+        elif mark != "runs: rust" and not BY_PAGES.match(mark or "") and (mark or COMMAND.search(shown)):
             self.fails(f"a block has the mark {mark}:\n{shown}")
         self.commands += [command for command, _ in COMMAND.findall(shown)]
         return mark in ("runs: c", "runs: rust")
