@@ -15,10 +15,15 @@ use nla_wire::{DecodeError, Exact};
 /// bytes) at 4, flags (four bytes) at 8, mask of the flags that change (four bytes) at 12. Numbers are in host order.
 #[derive(Clone, Copy, Debug, Default, PartialEq, Eq)]
 pub struct LinkHeader {
+    /// The address family: `AF_UNSPEC`, or the one that asks or answers.
     pub interface_family: AddressFamily,
+    /// The index of the interface; 0 is none.
     pub index: u32,
+    /// The type of the link layer: `ARPHRD_*` of linux/if_arp.h.
     pub link_layer_type: LinkLayerType,
+    /// The flags: `IFF_*` of linux/if.h.
     pub flags: LinkFlags,
+    /// Which flags are meant, in a request; which have changed, in a notification.
     pub change_mask: LinkFlags,
 }
 

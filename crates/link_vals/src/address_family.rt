@@ -9,11 +9,16 @@ use nla_wire::Exact;
 /// `Bridge` and `Inet6` alone; `Inet` and `Mctp` are told apart from numbers without a name, and read like these.
 #[derive(Clone, Copy, Debug, Default, PartialEq, Eq)]
 pub enum AddressFamily {
+    /// `AF_UNSPEC`, 0.
     #[default]
     Unspec,
+    /// `AF_INET`, 2.
     Inet,
+    /// `AF_BRIDGE`, 7.
     Bridge,
+    /// `AF_INET6`, 10.
     Inet6,
+    /// `AF_MCTP`, 45.
     Mctp,
     /// A number without a name.
     Other(u8),

@@ -11,15 +11,25 @@ use std::fmt;
 /// `IFLA_MCTP_PHYS_BINDING` of linux/if_link.h carries them.
 #[derive(Clone, Copy, Debug, PartialEq, Eq)]
 pub enum MctpPhysBinding {
+    /// SMBus, 1.
     Smbus,
+    /// PCIe messages of a vendor, 2.
     PcieVdm,
+    /// USB, 3.
     Usb,
+    /// KCS, 4.
     Kcs,
+    /// A serial line, 5.
     Serial,
+    /// I3C, 6.
     I3c,
+    /// MMBI, 7.
     Mmbi,
+    /// PCC, 8.
     Pcc,
+    /// UCIe, 9.
     Ucie,
+    /// A vendor's own, 255.
     Vendor,
     /// A number without a name.
     Other(u8),

@@ -12,7 +12,9 @@ use nla_wire::{DecodeError, Exact};
 /// The bytes of `id` from `len` on are no part of it.
 #[derive(Clone, Copy, Debug, PartialEq, Eq)]
 pub struct LinkPhysId {
+    /// The bytes, and zeros after them.
     pub id: [u8; 32],
+    /// How many bytes it has, at most 32.
     pub len: usize,
 }
 

@@ -9,9 +9,12 @@ use nla_wire::Exact;
 /// linux/if_link.h.
 #[derive(Clone, Copy, Debug, Default, PartialEq, Eq)]
 pub enum VfLinkState {
+    /// `IFLA_VF_LINK_STATE_AUTO`: as the physical function.
     #[default]
     Auto,
+    /// `IFLA_VF_LINK_STATE_ENABLE`: always up.
     Enable,
+    /// `IFLA_VF_LINK_STATE_DISABLE`: always down.
     Disable,
     /// A number without a name.
     Other(u32),

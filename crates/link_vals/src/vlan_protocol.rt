@@ -11,8 +11,10 @@ use nla_wire::Exact;
 /// first.
 #[derive(Clone, Copy, Debug, Default, PartialEq, Eq)]
 pub enum VlanProtocol {
+    /// `ETH_P_8021Q`: the tags of customers.
     #[default]
     Ieee8021Q,
+    /// `ETH_P_8021AD`: the tags of providers.
     Ieee8021Ad,
 }
 

@@ -19,6 +19,7 @@ pub const VF_INFO_BROADCAST_SIZE: usize = 32;
 /// `struct ifla_vf_broadcast` of linux/if_link.h, 32 bytes: the address at 0, with zeros after a shorter one.
 #[derive(Clone, Copy, Debug, Default, PartialEq, Eq)]
 pub struct VfInfoBroadcast {
+    /// The broadcast address, and zeros after it.
     pub addr: [u8; 32],
 }
 

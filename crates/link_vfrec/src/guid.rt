@@ -19,7 +19,9 @@ pub const VF_INFO_GUID_SIZE: usize = 16;
 /// four bytes of padding, which are not read and written as zeros; `guid` at 8, of eight bytes.
 #[derive(Clone, Copy, Debug, Default, PartialEq, Eq)]
 pub struct VfInfoGuid {
+    /// The number of the function.
     pub vf_id: u32,
+    /// The identifier.
     pub guid: u64,
 }
 

@@ -20,7 +20,9 @@ pub const VF_INFO_LINK_STATE_SIZE: usize = 8;
 /// number of `state` at 4.
 #[derive(Clone, Copy, Debug, Default, PartialEq, Eq)]
 pub struct VfInfoLinkState {
+    /// The number of the function.
     pub vf_id: u32,
+    /// The state.
     pub state: VfLinkState,
 }
 

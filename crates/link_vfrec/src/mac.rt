@@ -20,7 +20,9 @@ pub const VF_INFO_MAC_SIZE: usize = 36;
 /// of 32 bytes, with zeros after a shorter one.
 #[derive(Clone, Copy, Debug, Default, PartialEq, Eq)]
 pub struct VfInfoMac {
+    /// The number of the function.
     pub vf_id: u32,
+    /// The hardware address, and zeros after it.
     pub mac: [u8; 32],
 }
 

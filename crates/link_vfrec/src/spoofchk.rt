@@ -20,7 +20,9 @@ pub const VF_INFO_SPOOF_CHECK_SIZE: usize = 8;
 /// the setting, where 0 and 4294967295 are off and all else is on. It is written as 0 or 1.
 #[derive(Clone, Copy, Debug, Default, PartialEq, Eq)]
 pub struct VfInfoSpoofCheck {
+    /// The number of the function.
     pub vf_id: u32,
+    /// Whether it is on.
     pub enabled: bool,
 }
 

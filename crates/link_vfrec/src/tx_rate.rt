@@ -19,7 +19,9 @@ pub const VF_INFO_TX_RATE_SIZE: usize = 8;
 /// at 4, in megabits a second, where 0 is no bound.
 #[derive(Clone, Copy, Debug, Default, PartialEq, Eq)]
 pub struct VfInfoTxRate {
+    /// The number of the function.
     pub vf_id: u32,
+    /// The greatest rate of sending, in Mbit/s; 0 is none.
     pub rate: u32,
 }
 

@@ -21,9 +21,13 @@ pub const VF_VLAN_INFO_SIZE: usize = 16;
 /// byte first; two bytes of padding, which are not read and written as zeros.
 #[derive(Clone, Copy, Debug, Default, PartialEq, Eq)]
 pub struct VfVlanInfo {
+    /// The number of the function.
     pub vf_id: u32,
+    /// The vlan, 1 to 4095; 0 is none.
     pub vlan_id: u32,
+    /// The priority of the vlan, 0 to 7.
     pub qos: u32,
+    /// The protocol of the vlan.
     pub protocol: VlanProtocol,
 }
 

@@ -14,22 +14,43 @@ use thiserror::Error;
 pub enum Cause {
     /// Cause 1: a header, record or wireless event has fewer bytes than it needs.
     #[error("{got} bytes where {need} are needed")]
-    TooShort { got: usize, need: usize },
+    TooShort {
+        /// How many bytes there are.
+        got: usize,
+        /// How many are needed at least.
+        need: usize,
+    },
     /// Cause 2: fewer than four bytes are left for the header of a frame.
     #[error("{left} bytes are left for a header of 4")]
-    FrameShort { left: usize },
+    FrameShort {
+        /// How many bytes are left.
+        left: usize,
+    },
     /// Cause 3: the length of a frame passes the bytes that are left.
     #[error("a length of {length} with {left} bytes left")]
-    FrameOver { length: u16, left: usize },
+    FrameOver {
+        /// The length that the header of the attribute says.
+        length: u16,
+        /// How many bytes are left.
+        left: usize,
+    },
     /// Cause 4: the length of a frame is below that of its header.
     #[error("a length of {length}, below that of a header")]
-    FrameUnder { length: u16 },
+    FrameUnder {
+        /// The length that the header of the attribute says.
+        length: u16,
+    },
     /// Cause 5: the payload of a list that must not be empty is empty.
     #[error("an empty list where one member is needed")]
     EmptyList,
     /// Cause 6: a number or an address has another length than its own.
     #[error("{got} bytes where exactly {want} are wanted")]
-    WrongLength { got: usize, want: usize },
+    WrongLength {
+        /// How many bytes there are.
+        got: usize,
+        /// How many there have to be.
+        want: usize,
+    },
     /// Cause 7: a text is not UTF-8.
     #[error("text that is not UTF-8")]
     NotUtf8,
@@ -78,7 +99,9 @@ pub const PAYLOAD: &str = "payload";
 #[derive(Clone, Copy, Debug, PartialEq, Eq, Error)]
 #[error("{place}: {cause}")]
 pub struct DecodeError {
+    /// The name of what was to be read.
     pub place: &'static str,
+    /// What is wrong.
     pub cause: Cause,
 }
 
