@@ -1,5 +1,6 @@
 -- How a line that tells what changed is added.
-use Rattle.std.proofs.Common.{◌≡◌, ◌<◌, ℕ, Bool, true, false, List, [], ◌∷◌, ◌++◌, refl, sym, ap, ◌∙◌, append_assoc, append-nil}
+use Rattle.std.proofs.Common.{◌≡◌, ◌<◌, ℕ, Bool, true, false, List, [], ◌∷◌, ◌++◌, refl, sym, ap, ◌∙◌, append_assoc}
+use Rattle.std.proofs.Common.{append-nil}
 use Rattle.std.proofs.Common.{length, length-append, arith}
 use Rattle.std.specs.Prelude.{Option, None, Some, IsSome, option_to_list, ◌↔◌, codes}
 use Rattle.std.specs.List.{flat_map, fold}
@@ -17,7 +18,8 @@ use Rattle.message_diff.specs.declared.differences.Change.{Change}
 use Rattle.message_diff.specs.Alone.{told_words, change_member}
 use Rattle.message_diff.specs.Differences.{Diff, path_of, old_of, new_of, diffs_of}
 use Rattle.message_diff.specs.Changed.{given, given_if, diff_members, diff_objects, changes_member, state_diff}
-use Rattle.message_diff.specs.Changed.{Head, begun, opened, changed_line, given_text, head_text, changes_text, diff_text}
+use Rattle.message_diff.specs.Changed.{Head, begun, opened, changed_line, given_text, head_text, changes_text}
+use Rattle.message_diff.specs.Changed.{diff_text}
 use Rattle.message_diff.specs.Changed.{told_diffs, IsChanged, AddsChanged}
 
 -- ** members behind members

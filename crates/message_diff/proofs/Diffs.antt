@@ -1,5 +1,6 @@
 -- What is said of paths and values.
-use Rattle.std.proofs.Common.{◌≡◌, ◌≢◌, ◌⊎◌, ◌<◌, ◌+◌, ℕ, zero, suc, Bool, true, false, List, [], ◌∷◌, ◌++◌, length, take}
+use Rattle.std.proofs.Common.{◌≡◌, ◌≢◌, ◌⊎◌, ◌<◌, ◌+◌, ℕ, zero, suc, Bool, true, false, List, [], ◌∷◌, ◌++◌, length}
+use Rattle.std.proofs.Common.{take}
 use Rattle.std.proofs.Common.{get_or, map, refl, sym, ap, subst, ◌∙◌, inl, inr, arith, append_assoc, append-nil}
 use Rattle.std.specs.Prelude.{Option, Some, None, cond}
 use Rattle.std.specs.List.{flat_map}
@@ -91,15 +92,17 @@ said_more leaf xs new i d ds more within all says =
     subst (λ (ls : List Leaf). AreOldDiffs ls new (ds ++ more)) (sym (map_more leaf xs i d within))
     (said_push (map leaf (take i xs)) new (leaf (get_or xs i d)) ds more all says)
 
-pub new_more : {X : Type 0} (leaf : X → Leaf) (old : List Leaf) (xs : List X) (i : ℕ) (d : X) (ds more first : List Diff)
-    (v : Option (List ℕ)) → i < length xs → ds ≡ first ++ new_diffs old (map leaf (take i xs))
+pub new_more : {X : Type 0} (leaf : X → Leaf) (old : List Leaf) (xs : List X) (i : ℕ) (d : X)
+    (ds more first : List Diff) (v : Option (List ℕ)) → i < length xs
+    → ds ≡ first ++ new_diffs old (map leaf (take i xs))
     → IsValueAt old (leaf (get_or xs i d)).0 v → more ≡ new_diff (leaf (get_or xs i d)) v
     → ds ++ more ≡ first ++ new_diffs old (map leaf (take (i + 1) xs))
 new_more leaf old xs i d ds more first v within is at says =
     let l : Leaf = leaf (get_or xs i d) in
     let so_far : List Leaf = map leaf (take i xs) in
     let last : more ≡ new_diffs old (l ∷ []) =
-    says ∙ new_same old l l.0 v (value_at old l.0) at (value_is old l.0) ∙ sym (append-nil (new_diff l (value_at old l.0))) in
+    says ∙ new_same old l l.0 v (value_at old l.0) at (value_is old l.0)
+    ∙ sym (append-nil (new_diff l (value_at old l.0))) in
     ap (λ (x : List Diff). x ++ more) is ∙ ap (λ (x : List Diff). (first ++ new_diffs old so_far) ++ x) last
     ∙ append_assoc first (new_diffs old so_far) (new_diffs old (l ∷ []))
     ∙ ap (λ (x : List Diff). first ++ x) (sym (flat_map-append (λ l. new_diff l (value_at old l.0)) so_far (l ∷ [])))

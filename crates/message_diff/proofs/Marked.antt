@@ -1,9 +1,11 @@
 -- The marks of an object tell of its members.
-use Rattle.std.proofs.Common.{◌≡◌, ◌≤◌, ℕ, suc, ◌+◌, ◌-◌, Bool, true, false, List, [], ◌∷◌, ◌++◌, refl, sym, ap, subst, ◌∙◌}
+use Rattle.std.proofs.Common.{◌≡◌, ◌≤◌, ℕ, suc, ◌+◌, ◌-◌, Bool, true, false, List, [], ◌∷◌, ◌++◌, refl, sym, ap, subst}
+use Rattle.std.proofs.Common.{◌∙◌}
 use Rattle.std.proofs.Common.{append_assoc, append-nil, length, length-append, take, drop, zero-add, arith}
 use Rattle.std.specs.Prelude.{Option, Some, None, cond, ◌&&◌, decimal}
 use Rattle.std.specs.List.{fold}
-use Rattle.json.specs.Json.{Json, null, boolean, number, string, array, object, Items, no_items, item, Members, no_members, member}
+use Rattle.json.specs.Json.{Json, null, boolean, number, string, array, object, Items, no_items, item, Members}
+use Rattle.json.specs.Json.{no_members, member}
 use Rattle.json.specs.Print.{print, print_from, ends, ends_value, escape, quoted, token_text, separator}
 use Rattle.json.specs.Token.{Token, begin_object, begin_array, key}
 use Rattle.json.specs.Tree.{json_tokens, items_tokens, members_tokens}
@@ -91,7 +93,8 @@ inner_marks (object ms) before at = members_marks ms (before ++ begin_object ∷
 
 -- a value with a name has a mark
 named_marks : (j : Json) (before : List Token) (name at place : ℕ)
-    → value_marks j before (Some name) at place ≡ with_inner j before (Some name) at place (inner_marks j before (suc at))
+    → value_marks j before (Some name) at place
+    ≡ with_inner j before (Some name) at place (inner_marks j before (suc at))
 named_marks null before name at place = refl
 named_marks (boolean b) before name at place = refl
 named_marks (number s) before name at place = refl
@@ -245,7 +248,8 @@ mutual
       own_marks ++ members_marks ms (named ++ own) (length own_marks + at) (suc place) in
       subst (λ (l : List Mark). AreMarksOf text at (marks l) (members_forest place (member k j ms)))
       (sym (named_marks j named (suc (next_place before)) at place))
-      (more_marks text at (label_of (escape k) place) (json_text j) (inside_of j) (members_forest (suc place) ms) _ inner
+      (more_marks text at (label_of (escape k) place) (json_text j) (inside_of j) (members_forest (suc place) ms) _
+      inner
       (members_marks ms (named ++ own) (suc (length inner) + at) (suc place))
       (named_mark text before rest k j at place inner here) (inner_are j text named rest (suc at) here)
       (members_are ms text (named ++ own) after (suc (length inner) + at) (suc place)
@@ -257,28 +261,33 @@ mutual
   items_are no_items text before after at place is = refl
   items_are (item null js) text before after at place is =
       let last : List Token = before ++ json_tokens null in
-      subst (λ n. AreMarksOf text n (items_marks js last (0 + at) (suc place)) (items_forest (suc place) js)) (zero-add at)
+      subst (λ n. AreMarksOf text n (items_marks js last (0 + at) (suc place)) (items_forest (suc place) js))
+      (zero-add at)
       (items_are js text last after (0 + at) (suc place)
       (is ∙ ap print (moved before (json_tokens null) (items_tokens js ++ after))))
   items_are (item (boolean b) js) text before after at place is =
       let last : List Token = before ++ json_tokens (boolean b) in
-      subst (λ n. AreMarksOf text n (items_marks js last (0 + at) (suc place)) (items_forest (suc place) js)) (zero-add at)
+      subst (λ n. AreMarksOf text n (items_marks js last (0 + at) (suc place)) (items_forest (suc place) js))
+      (zero-add at)
       (items_are js text last after (0 + at) (suc place)
       (is ∙ ap print (moved before (json_tokens (boolean b)) (items_tokens js ++ after))))
   items_are (item (number s) js) text before after at place is =
       let last : List Token = before ++ json_tokens (number s) in
-      subst (λ n. AreMarksOf text n (items_marks js last (0 + at) (suc place)) (items_forest (suc place) js)) (zero-add at)
+      subst (λ n. AreMarksOf text n (items_marks js last (0 + at) (suc place)) (items_forest (suc place) js))
+      (zero-add at)
       (items_are js text last after (0 + at) (suc place)
       (is ∙ ap print (moved before (json_tokens (number s)) (items_tokens js ++ after))))
   items_are (item (string s) js) text before after at place is =
       let last : List Token = before ++ json_tokens (string s) in
-      subst (λ n. AreMarksOf text n (items_marks js last (0 + at) (suc place)) (items_forest (suc place) js)) (zero-add at)
+      subst (λ n. AreMarksOf text n (items_marks js last (0 + at) (suc place)) (items_forest (suc place) js))
+      (zero-add at)
       (items_are js text last after (0 + at) (suc place)
       (is ∙ ap print (moved before (json_tokens (string s)) (items_tokens js ++ after))))
   items_are (item (array a) js) text before after at place is =
       let own : List Token = json_tokens (array a) in
       let rest : List Token = items_tokens js ++ after in
-      let here : text ≡ print (before ++ (own ++ rest)) = is ∙ ap print (behind_value before own (items_tokens js) after) in
+      let here : text ≡ print (before ++ (own ++ rest)) =
+      is ∙ ap print (behind_value before own (items_tokens js) after) in
       let inner : List Mark = items_marks a (before ++ begin_array ∷ []) (suc at) 0 in
       more_marks text at (decimal place) (json_text (array a)) (items_forest 0 a) (items_forest (suc place) js) _ inner
       (items_marks js (before ++ own) (suc (length inner) + at) (suc place))
@@ -290,9 +299,11 @@ mutual
   items_are (item (object o) js) text before after at place is =
       let own : List Token = json_tokens (object o) in
       let rest : List Token = items_tokens js ++ after in
-      let here : text ≡ print (before ++ (own ++ rest)) = is ∙ ap print (behind_value before own (items_tokens js) after) in
+      let here : text ≡ print (before ++ (own ++ rest)) =
+      is ∙ ap print (behind_value before own (items_tokens js) after) in
       let inner : List Mark = members_marks o (before ++ begin_object ∷ []) (suc at) 0 in
-      more_marks text at (decimal place) (json_text (object o)) (members_forest 0 o) (items_forest (suc place) js) _ inner
+      more_marks text at (decimal place) (json_text (object o)) (members_forest 0 o) (items_forest (suc place) js) _
+      inner
       (items_marks js (before ++ own) (suc (length inner) + at) (suc place))
       (nest_mark text before rest (object o) at place inner here)
       (members_are o text (before ++ begin_object ∷ []) rest (suc at) 0

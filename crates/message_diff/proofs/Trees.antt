@@ -1,5 +1,6 @@
 -- The members that others do not have are those whose path and value others do not have.
-use Rattle.std.proofs.Common.{◌≡◌, ◌≢◌, ◌⊎◌, ◌<◌, ℕ, Bool, true, false, List, [], ◌∷◌, ◌++◌, refl, sym, ap, subst, ◌∙◌, inl, inr}
+use Rattle.std.proofs.Common.{◌≡◌, ◌≢◌, ◌⊎◌, ◌<◌, ℕ, Bool, true, false, List, [], ◌∷◌, ◌++◌, refl, sym, ap, subst, ◌∙◌}
+use Rattle.std.proofs.Common.{inl, inr}
 use Rattle.std.proofs.Common.{append_assoc, append-nil, length, length-append, arith}
 use Rattle.std.specs.Prelude.{Option, Some, None, cond, not, ◌&&◌, ◌||◌}
 use Rattle.std.specs.Bool.{Decides}
@@ -8,7 +9,8 @@ use Rattle.std.proofs.lemmas.List.{append_cancel_left}
 use Rattle.std.proofs.lemmas.Slice.Eq.{bytes_eq-Decides}
 use Rattle.message_diff.specs.Known.{is_text}
 use Rattle.message_diff.specs.Differences.{Leaf, Has}
-use Rattle.message_diff.specs.Trees.{Forest, joined, leaf_or, rows_in, find_tree, one_beside, beside, has_leaf, HasNoPoint, IsLabel}
+use Rattle.message_diff.specs.Trees.{Forest, joined, leaf_or, rows_in, find_tree, one_beside, beside, has_leaf}
+use Rattle.message_diff.specs.Trees.{HasNoPoint, IsLabel}
 use Rattle.message_diff.specs.Trees.{IsGood}
 use Rattle.message_diff.proofs.Without.{without}
 

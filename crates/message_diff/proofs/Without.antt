@@ -90,7 +90,9 @@ old_left test old new one one_new shared (l ∷ ls) within =
 
     by : old_diffs (without test ls) (without test new) ≡ old_diffs ls new → (b : Bool) → test l ≡ b
         → old_diffs (cond (not b) (l ∷ without test ls) (without test ls)) (without test new) ≡ old_diffs (l ∷ ls) new
-    by rest true h = rest ∙ ap (λ (x : List Diff). x ++ old_diffs ls new) (sym (old_silent new l one_new (shared.in_new l.0 l.1 h has)))
+    by rest true h =
+        rest ∙ ap (λ (x : List Diff). x ++ old_diffs ls new)
+        (sym (old_silent new l one_new (shared.in_new l.0 l.1 h has)))
     by rest false h =
         ap (λ (v : Option (List ℕ)). old_diff l v ++ old_diffs (without test ls) (without test new))
         (still_at test old new l one one_new shared.in_old has h (value_at new l.0) (value_is new l.0))
@@ -108,7 +110,9 @@ new_left test old new one one_new shared (l ∷ ls) within =
 
     by : new_diffs (without test old) (without test ls) ≡ new_diffs old ls → (b : Bool) → test l ≡ b
         → new_diffs (without test old) (cond (not b) (l ∷ without test ls) (without test ls)) ≡ new_diffs old (l ∷ ls)
-    by rest true h = rest ∙ ap (λ (x : List Diff). x ++ new_diffs old ls) (sym (new_silent old l one (shared.in_old l.0 l.1 h has)))
+    by rest true h =
+        rest ∙ ap (λ (x : List Diff). x ++ new_diffs old ls)
+        (sym (new_silent old l one (shared.in_old l.0 l.1 h has)))
     by rest false h =
         ap (λ (v : Option (List ℕ)). new_diff l v ++ new_diffs (without test old) (without test ls))
         (still_at test new old l one_new one shared.in_new has h (value_at old l.0) (value_is old l.0))

@@ -1,7 +1,9 @@
 -- The members of a JSON value as marks tell of them, and the paths and values of those that hold no other.
-use Rattle.std.specs.Prelude.{◌≡◌, ◌≢◌, ◌⊎◌, ℕ, suc, List, [], ◌∷◌, ◌++◌, decimal, Bool, true, false, Option, Some, None, cond, not, ◌&&◌}
+use Rattle.std.specs.Prelude.{◌≡◌, ◌≢◌, ◌⊎◌, ℕ, suc, List, [], ◌∷◌, ◌++◌, decimal, Bool, true, false, Option, Some}
+use Rattle.std.specs.Prelude.{None, cond, not, ◌&&◌}
 use Rattle.std.specs.List.{list_any, filter}
-use Rattle.json.specs.Json.{Json, null, boolean, number, string, array, object, Items, no_items, item, Members, no_members, member}
+use Rattle.json.specs.Json.{Json, null, boolean, number, string, array, object, Items, no_items, item, Members}
+use Rattle.json.specs.Json.{no_members, member}
 use Rattle.json.specs.Tree.{json_tokens}
 use Rattle.json.specs.Print.{print, escape}
 use Rattle.message_diff.specs.Known.{is_text}
@@ -75,7 +77,8 @@ rows ms = rows_in [] (members_forest 0 ms)
 -- the first with a label, its text and what is inside it
 abbrev pub find_tree : List ℕ → Forest → Option (List ℕ × Forest)
 find_tree label Forest.none = None
-find_tree label (Forest.tree other text inside rest) = cond (is_text other label) (Some (text, inside)) (find_tree label rest)
+find_tree label (Forest.tree other text inside rest) =
+    cond (is_text other label) (Some (text, inside)) (find_tree label rest)
 
 -- of one member, by those of what is inside it with nothing beside, and beside what is inside the other
 abbrev pub one_beside : List ℕ → List ℕ → Forest → (Forest → List Leaf) → Option (List ℕ × Forest) → List Leaf

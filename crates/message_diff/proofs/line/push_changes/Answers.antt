@@ -27,7 +27,8 @@ loop-i-preserved c =
           c.loop-i.invariant.text c.loop-i.invariant.ends c.in_ok-push_change.ensures
           ∙ ap (λ (ds : List Diff). c.args.out.now.items ++ (codes ",\"changes\":[" ++ print (diff_objects ds)))
           (sym more);
-      ends = ap (λ (ds : List Diff). ends_value (diff_objects ds)) more ∙ ends_objects before _ ∙ grind (arith, nat_tests);
+      ends = ap (λ (ds : List Diff). ends_value (diff_objects ds)) more ∙ ends_objects before _
+          ∙ grind (arith, nat_tests);
     }
 
 pub returns : goal.returns

@@ -34,7 +34,8 @@ loop-change-preserved c =
             by_old = c.is_counter-by_old.result;
             by_new = c.is_counter-by_new.result;
             of_old = λ h. subst (λ (p : List ℕ). Contains olds p) c.path.ensures (c.is_counter-by_old.ensures h);
-            of_new = λ h. subst (λ (p : List ℕ). Contains news p) c.path-in-loop-change.ensures (c.is_counter-by_new.ensures h);
+            of_new = λ h.
+                subst (λ (p : List ℕ). Contains news p) c.path-in-loop-change.ensures (c.is_counter-by_new.ensures h);
             is = w.in-Some.ensures;
           }))
       | in-None w ↦
@@ -45,7 +46,8 @@ loop-change-preserved c =
             by_old = c.is_counter-by_old.result;
             by_new = c.is_counter-by_new.result;
             of_old = λ h. subst (λ (p : List ℕ). Contains olds p) c.path.ensures (c.is_counter-by_old.ensures h);
-            of_new = λ h. subst (λ (p : List ℕ). Contains news p) c.path-in-loop-change.ensures (c.is_counter-by_new.ensures h);
+            of_new = λ h.
+                subst (λ (p : List ℕ). Contains news p) c.path-in-loop-change.ensures (c.is_counter-by_new.ensures h);
             is = w.in-None.ensures;
           }))
     ]
