@@ -21,11 +21,12 @@
  *   nor the bytes of a list that `linkwire_put` writes to; a nest that is put as a payload was written whole.
  * Nothing is asked of the bytes themselves: every call returns, whatever the bytes are.
  *
- * Calls share nothing, so they can run side by side in several threads, and no call reads or sets errno but by the
- * allocator. `linkwire_same_message` and `linkwire_same_state` take memory from malloc and realloc, and give all of it
- * back with free before they return. The three belong to one allocator, which aligns a block of N bytes to the largest
- * power of two, up to 16, that divides N; it may set errno. These two calls are not to be made from a signal handler,
- * nor in the forked child of a process with threads. The other functions take no memory and can be called anywhere.
+ * Calls share nothing and keep nothing, so they can run side by side in any number of threads, and no call reads or
+ * sets errno but by the allocator. Three calls take memory, `linkwire_same_message`, `linkwire_same_state`
+ * and `linkwire_show`: from malloc and realloc, and they give all of it back with free before they
+ * return. The three belong to one allocator, which aligns a block of N bytes to the largest power of two, up to 16,
+ * that divides N; it may set errno. These three calls are not to be made from a signal handler, nor in the forked child
+ * of a process with threads. The other functions take no memory and can be called anywhere.
  */
 #ifndef LINKWIRE_H
 #define LINKWIRE_H
@@ -70,7 +71,7 @@ enum linkwire_answer {
     LINKWIRE_UNFIT = -16,       /* the value of an attribute would have more than 65531 bytes */
     LINKWIRE_EMPTY_PORTS = -17, /* IFLA_VF_PORTS has entries, none of them an IFLA_VF_PORT */
     /* Neither says anything of the bytes. */
-    LINKWIRE_OUT_OF_MEMORY = -18, /* no memory was left; only the two calls that compare return it */
+    LINKWIRE_OUT_OF_MEMORY = -18, /* no memory was left; only the three calls that take memory return it */
     LINKWIRE_NO_ROOM = -19        /* the buffer is too short */
 };
 
@@ -140,6 +141,25 @@ ptrdiff_t linkwire_state(const uint8_t *message, size_t len, uint8_t *out, size_
  * -18, of the first that is refused. Takes memory. */
 int32_t linkwire_same_state(const uint8_t *a, size_t a_len, const uint8_t *b, size_t b_len);
 
+/* The order of the counters of IPv6: those of IFLA_INET6_STATS had another one up to Linux 6.12 than since 6.16, and no
+ * message says which one it has. Any other number is taken for LINKWIRE_ORDER_UNKNOWN. */
+enum linkwire_counter_order {
+    LINKWIRE_ORDER_UNKNOWN = 0, /* the counters are shown without names */
+    LINKWIRE_ORDER_BEFORE = 1,  /* as up to Linux 6.12 */
+    LINKWIRE_ORDER_SINCE = 2    /* as since Linux 6.16 */
+};
+
+/* The order in the release of a kernel, as uname(2) has it: two numbers with a dot between them, and anything behind
+ * them. LINKWIRE_ORDER_UNKNOWN also where the text is no release. Takes no memory. */
+uint32_t linkwire_order(const char *release, size_t len);
+
+/* What the message says, as linkshow(1) answers it: one JSON object, in UTF-8, without an end of line and without a
+ * NUL; its members, or, where the bytes are no message, why and where: {"fault":..}. It stands at the front of `out`,
+ * and the rest is kept. Returns its length, also where that is above `cap`: then `out` is unchanged, and a second call
+ * with so much room writes it. Or -18, and `out` is unchanged. It refuses no bytes. Of `flags` none is defined: they
+ * are to be 0. Takes memory. */
+ptrdiff_t linkwire_show(const uint8_t *message, size_t len, uint32_t order, uint32_t flags, char *out, size_t cap);
+
 /* The attribute at `*at` of a list of attributes: 1, and `*at` moves to the next multiple of four after it, or to
  * `len` where that is less; 0 where `*at` is `len` or more; -2, -3 or -4 where no attribute stands there. After 0 and
  * a fault `*at` and `*attribute` are unchanged. Multiples of four are counted from the start of the attribute.
@@ -150,8 +170,9 @@ int32_t linkwire_next(const uint8_t *list, size_t len, size_t *at, struct linkwi
 
 /* Writes an attribute at `*at` of a list that has room for `cap` bytes: 1, and header, payload and the padding up to
  * the next multiple of four, which is zeros, stand there; `*at` moves past them, and all other bytes are kept. -16
- * where the payload has more than 65531 bytes, else -19 where there is no room, padding counted; then nothing
- * changes. A nest is a list that was written, put as a payload. Takes no memory. */
+ * where the payload has more than 65531 bytes, else -19 where there is no room, padding counted; then nothing changes.
+ * A nest is a list that was written, put as a payload; or it is written in place, by a `struct linkwire_writer`
+ * (below). Takes no memory. */
 int32_t linkwire_put(uint8_t *list, size_t cap, size_t *at, uint16_t kind, const uint8_t *payload, size_t len);
 
 /* What `linkwire_check` returns. After a fault `*at` is the offset, from the start of the message, of the innermost
@@ -228,6 +249,114 @@ static inline size_t linkwire_text_len(const uint8_t *list, const struct linkwir
     return len;
 }
 
+/* A list of attributes that is written by one call after another. After a refusal nothing more is written, so that one
+ * look at `refused` at the end is enough for any number of calls. No call takes memory. */
+struct linkwire_writer {
+    uint8_t *list;   /* where the list starts */
+    size_t cap;      /* how many bytes it has room for */
+    size_t at;       /* how many of them are written */
+    int32_t refused; /* 0, or the first refusal: -16 or -19 */
+};
+
+/* A list with room for `cap` bytes, of which `at` are written: those of a header in front of it count, as 16 of a
+ * message's, or the 32 of a netlink header and that. */
+static inline struct linkwire_writer linkwire_writer_at(uint8_t *list, size_t cap, size_t at) {
+    struct linkwire_writer writer;
+    writer.list = list;
+    writer.cap = cap;
+    writer.at = at;
+    writer.refused = 0;
+    return writer;
+}
+
+/* Writes an attribute, as `linkwire_put` does. The payload is in no part of the list that is not written. */
+static inline void linkwire_put_bytes(struct linkwire_writer *writer, uint16_t kind, const uint8_t *payload,
+                                      size_t len) {
+    int32_t answer;
+    if (writer->refused != 0) {
+        return;
+    }
+    answer = linkwire_put(writer->list, writer->cap, &writer->at, kind, payload, len);
+    writer->refused = answer < 0 ? answer : 0;
+}
+
+/* A number of `width` bytes, at most eight, lowest first. */
+static inline void linkwire_put_le(struct linkwire_writer *writer, uint16_t kind, uint64_t value, size_t width) {
+    uint8_t bytes[8] = {0, 0, 0, 0, 0, 0, 0, 0};
+    size_t i;
+    for (i = 0; i < width; i++) {
+        bytes[i] = (uint8_t)(value >> (8 * i));
+    }
+    linkwire_put_bytes(writer, kind, bytes, width);
+}
+
+static inline void linkwire_put_u8(struct linkwire_writer *writer, uint16_t kind, uint8_t value) {
+    linkwire_put_le(writer, kind, value, 1);
+}
+
+static inline void linkwire_put_u16(struct linkwire_writer *writer, uint16_t kind, uint16_t value) {
+    linkwire_put_le(writer, kind, value, 2);
+}
+
+static inline void linkwire_put_u32(struct linkwire_writer *writer, uint16_t kind, uint32_t value) {
+    linkwire_put_le(writer, kind, value, 4);
+}
+
+static inline void linkwire_put_u64(struct linkwire_writer *writer, uint16_t kind, uint64_t value) {
+    linkwire_put_le(writer, kind, value, 8);
+}
+
+/* A text and the NUL at its end. */
+static inline void linkwire_put_text(struct linkwire_writer *writer, uint16_t kind, const char *text) {
+    size_t len = 0;
+    while (text[len] != 0) {
+        len++;
+    }
+    linkwire_put_bytes(writer, kind, (const uint8_t *)text, len + 1);
+}
+
+/* Bytes that are no attribute, and zeros up to the next multiple of four: the struct ifinfomsg with which the nest
+ * VETH_INFO_PEER (linux/veth.h) begins. */
+static inline void linkwire_put_raw(struct linkwire_writer *writer, const uint8_t *bytes, size_t len) {
+    size_t i, padding = (4 - len % 4) % 4;
+    if (writer->refused != 0) {
+        return;
+    }
+    if (writer->at > writer->cap || writer->cap - writer->at < padding || writer->cap - writer->at - padding < len) {
+        writer->refused = LINKWIRE_NO_ROOM;
+        return;
+    }
+    for (i = 0; i < len; i++) {
+        writer->list[writer->at++] = bytes[i];
+    }
+    for (i = 0; i < padding; i++) {
+        writer->list[writer->at++] = 0;
+    }
+}
+
+/* Begins a nest: what is written from here to its end is its list. Returns where it begins, for `linkwire_nest_end`.
+ * The kind has NLA_F_NESTED (linux/netlink.h) where the kernel demands it; linkwire(3) says where. */
+static inline size_t linkwire_nest_begin(struct linkwire_writer *writer, uint16_t kind) {
+    const uint8_t none = 0;
+    size_t begin = writer->at;
+    linkwire_put_bytes(writer, kind, &none, 0);
+    return begin;
+}
+
+/* Ends the nest that begins there; nests end in the opposite order. -16 where its list has more than 65528 bytes. */
+static inline void linkwire_nest_end(struct linkwire_writer *writer, size_t begin) {
+    size_t len = writer->at - begin;
+    if (writer->refused != 0) {
+        return;
+    }
+    if (len > 65535) {
+        writer->refused = LINKWIRE_UNFIT;
+        return;
+    }
+    writer->list[begin] = (uint8_t)(len & 0xff);
+    writer->list[begin + 1] = (uint8_t)(len >> 8);
+}
+
 /* What a number that these functions return means: a phrase for a log, never null. */
 static inline const char *linkwire_answer_text(ptrdiff_t answer) {
     if (answer >= 0) {
@@ -280,6 +409,63 @@ static inline const char *linkwire_name(uint16_t number) {
     };
     return number < sizeof names / sizeof *names ? names[number] : NULL;
 }
+
+/* From here to the next mark scripts/c_names.py makes the header of the library's own tables. */
+
+/* The name of an operational state, the value of IFLA_OPERSTATE; null for another number. */
+static inline const char *linkwire_operstate_name(uint8_t state) {
+    static const char *const names[] = {
+        "unknown", "notpresent", "down", "lowerlayerdown", "testing", "dormant", "up",
+    };
+    return state < sizeof names / sizeof *names ? names[state] : NULL;
+}
+
+/* The name of a link mode, the value of IFLA_LINKMODE; null for another number. */
+static inline const char *linkwire_linkmode_name(uint8_t mode) {
+    static const char *const names[] = {
+        "default", "dormant", "testing",
+    };
+    return mode < sizeof names / sizeof *names ? names[mode] : NULL;
+}
+
+/* The name of the flag 1 << bit of `ifi_flags`; null for a bit without one. */
+static inline const char *linkwire_flag_name(unsigned bit) {
+    static const char *const names[] = {
+        "up", "broadcast", "debug", "loopback", "point-to-point", "no-trailers", "running", "no-arp", "promisc",
+        "all-multi", "master", "slave", "multicast", "portsel", "auto-media", "dynamic", "lower-up", "dormant", "echo",
+    };
+    return bit < sizeof names / sizeof *names ? names[bit] : NULL;
+}
+
+/* The name of a hardware type, `ifi_type`: that of its constant ARPHRD_ in linux/if_arp.h, in small letters;
+ * null for another number. */
+static inline const char *linkwire_type_name(uint16_t type) {
+    static const struct {
+        uint16_t number;
+        const char *name;
+    } names[] = {
+        {0, "netrom"}, {1, "ether"}, {2, "eether"}, {3, "ax25"}, {4, "pronet"}, {5, "chaos"}, {6, "ieee802"},
+        {7, "arcnet"}, {8, "appletlk"}, {15, "dlci"}, {19, "atm"}, {23, "metricom"}, {24, "ieee1394"}, {27, "eui64"},
+        {32, "infiniband"}, {256, "slip"}, {257, "cslip"}, {258, "slip6"}, {259, "cslip6"}, {260, "rsrvd"},
+        {264, "adapt"}, {270, "rose"}, {271, "x25"}, {272, "hwx25"}, {280, "can"}, {290, "mctp"}, {512, "ppp"},
+        {513, "hdlc"}, {516, "lapb"}, {517, "ddcmp"}, {518, "rawhdlc"}, {519, "rawip"}, {768, "tunnel"},
+        {769, "tunnel6"}, {770, "frad"}, {771, "skip"}, {772, "loopback"}, {773, "localtlk"}, {774, "fddi"},
+        {775, "bif"}, {776, "sit"}, {777, "ipddp"}, {778, "ipgre"}, {779, "pimreg"}, {780, "hippi"}, {781, "ash"},
+        {782, "econet"}, {783, "irda"}, {784, "fcpp"}, {785, "fcal"}, {786, "fcpl"}, {787, "fcfabric"},
+        {800, "ieee802_tr"}, {801, "ieee80211"}, {802, "ieee80211_prism"}, {803, "ieee80211_radiotap"},
+        {804, "ieee802154"}, {805, "ieee802154_monitor"}, {820, "phonet"}, {821, "phonet_pipe"}, {822, "caif"},
+        {823, "ip6gre"}, {824, "netlink"}, {825, "6lowpan"}, {826, "vsockmon"}, {65534, "none"}, {65535, "void"},
+    };
+    size_t i;
+    for (i = 0; i < sizeof names / sizeof *names; i++) {
+        if (names[i].number == type) {
+            return names[i].name;
+        }
+    }
+    return NULL;
+}
+
+/* Made so far. */
 
 #ifdef __cplusplus
 }

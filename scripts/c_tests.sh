@@ -14,7 +14,9 @@ warnings=(-Wall -Wextra -Wpedantic -Wconversion -Wshadow -Werror -I"$top/include
 names() {
     nm --defined-only --extern-only --format=posix "$@" | awk 'NF > 1 { print $1 }' | sort
 }
-declared=$(sed -n 's/^[a-z][a-z0-9_]* *.*[ *]\(linkwire_[a-z_]*\)(.*;$/\1/p' "$top/include/linkwire.h" | sort)
+# a declaration may have several lines
+declared=$(sed -n -e ':a' -e '/^[a-z].*,$/{N;s/\n *//;ba' -e '}' \
+    -e 's/^[a-z][a-z0-9_]* *.*[ *]\(linkwire_[a-z_]*\)(.*;$/\1/p' "$top/include/linkwire.h" | sort)
 for found in "$(names "$library")" "$(names -D "$shared")"; do
     if [ "$found" != "$declared" ]; then
         printf 'c tests: a library defines other names than the header declares:\n%s\n' "$found" >&2
@@ -44,8 +46,15 @@ header c++17 g++ clang++
 for test in "$top"/tests/c/*.c; do
     program="$top/out/$(basename "$test" .c)"
     [ "${program##*/}" != laws ] || continue
-    ${CC:-cc} -std=c11 -O1 -Wall -Wextra -Wpedantic -Wshadow -Werror -I"$top/include" -o "$program" "$test" "$library"
+    flags=(-std=c11 -O1 -Wall -Wextra -Wpedantic -Wshadow -Werror -I"$top/include")
+    ${CC:-cc} "${flags[@]}" -o "$program" "$test" "$library"
     "$program"
+    # memory.c has an allocator of its own
+    [ "${program##*/}" != memory ] || continue
+    sanitized=(-fsanitize=address -fsanitize=undefined -fno-sanitize-recover=all)
+    if ${CC:-cc} "${flags[@]}" "${sanitized[@]}" -o "$program" "$test" "$library" 2>"$top/out/sanitized.log"; then
+        "$program"
+    fi
 done
 "$top/scripts/laws.sh" "$library"
 "$top/scripts/live_tests.sh" "$library"

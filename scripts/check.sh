@@ -26,6 +26,7 @@ libraries() {
     scripts/c_library.sh --built
     make -s -o out/library.o out/liblinkwire.a out/liblinkwire.so.0
     stage 'c_tests.sh, with state_live.sh' scripts/c_tests.sh out/liblinkwire.a crates/linkdiff/out out
+    stage call_answers.py python3 scripts/call_answers.py out/liblinkwire.a crates/linkshow/out/linkshow
     stage linkdump_tests.sh scripts/linkdump_tests.sh
     stage python_tests.sh scripts/python_tests.sh out
     python3 scripts/readme.py out/liblinkwire.a crates/linkwire/out crates/linkshow/out crates/linkstate/out \
@@ -74,6 +75,7 @@ python3 scripts/words.py
 python3 scripts/version.py
 python3 scripts/scripts_listed.py
 python3 scripts/files.py --check
+python3 scripts/c_names.py --check
 scripts/sums.sh check
 python3 scripts/erase/test_erase.py
 python3 scripts/erase/erase.py check rust

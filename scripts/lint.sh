@@ -34,6 +34,7 @@ says words python3 scripts/words.py
 says version python3 scripts/version.py
 says scripts/README.md python3 scripts/scripts_listed.py
 says docs/FILES.md python3 scripts/files.py --check
+says include/linkwire.h python3 scripts/c_names.py --check
 where shellcheck 'shellcheck --version' shellcheck "${shell[@]}"
 pyflakes=$(command -v pyflakes3 || command -v pyflakes || true)
 where pyflakes "test -n $pyflakes" "$pyflakes" "${python[@]}"

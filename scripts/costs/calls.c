@@ -1,6 +1,6 @@
 /* Calls one function of linkwire.h for each message of the standard input, a line of lower-case hexadecimal digits:
- * calls NAME. What compares two messages compares each with itself, and in a call `unlike_..` with the one before.
- * Nothing here copies or clears bytes, since those would be counted too. */
+ * calls NAME. What compares two messages compares each with itself, and in a call `unlike_..` with the one
+ * before. Nothing here copies or clears bytes, since those would be counted too. */
 #include <stdio.h>
 #include <string.h>
 
@@ -89,6 +89,11 @@ static void fault_path(struct message it, struct message before) {
     linkwire_fault_path(it.bytes, it.len, &path);
 }
 
+static void show(struct message it, struct message before) {
+    (void)before;
+    linkwire_show(it.bytes, it.len, LINKWIRE_ORDER_UNKNOWN, 0, (char *)out, sizeof out);
+}
+
 static const struct {
     const char *name;
     void (*call)(struct message it, struct message before);
@@ -105,6 +110,7 @@ static const struct {
     {"put", put},
     {"fault_at", fault_at},
     {"fault_path", fault_path},
+    {"show", show},
 };
 
 static unsigned digit(char c) {

@@ -6,11 +6,26 @@
 static_assert(sizeof(linkwire_attribute) == 3 * sizeof(size_t), "the layout of an attribute");
 #endif
 
+/* A request, and what its message says. */
+static int writes(void) {
+    uint8_t list[64] = {0};
+    char out[256];
+    struct linkwire_writer writer = linkwire_writer_at(list, sizeof list, LINKWIRE_HEADER_SIZE);
+    size_t nest = linkwire_nest_begin(&writer, 18);
+    linkwire_put_text(&writer, 1, "vlan");
+    linkwire_nest_end(&writer, nest);
+    linkwire_put_u32(&writer, 4, 1400);
+    return writer.refused == 0 && writer.at == 40 &&
+           linkwire_show(list, writer.at, linkwire_order("6.12.1", 6), 0, out, sizeof out) > 0 &&
+           linkwire_operstate_name(0) != NULL && linkwire_linkmode_name(0) != NULL && linkwire_flag_name(0) != NULL &&
+           linkwire_type_name(1) != NULL && linkwire_name(1) != NULL;
+}
+
 int main(void) {
     struct linkwire_attribute attribute = {0, 0, 0};
     uint8_t byte = 0;
     size_t at = 0;
     int32_t found = linkwire_next(&byte, 0, &at, &attribute);
-    return found != 0 || linkwire_canonical_form() != LINKWIRE_CANONICAL_FORM ||
+    return found != 0 || !writes() || linkwire_canonical_form() != LINKWIRE_CANONICAL_FORM ||
            linkwire_state_form() != LINKWIRE_STATE_FORM || LINKWIRE_VERSION[0] == '\0';
 }

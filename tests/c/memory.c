@@ -1,6 +1,6 @@
-/* Refuses each call of linkwire_same_message and linkwire_same_state for memory in turn, with all that come after it
- * and alone: they return LINKWIRE_OUT_OF_MEMORY, and nothing else, until memory is ample, and all memory is given back.
- * The other functions take none. */
+/* Refuses each request of the three calls that take memory in turn, with all that come after it and alone: they return
+ * LINKWIRE_OUT_OF_MEMORY, and nothing else, and write nothing, until memory is ample, and all memory is given back. The
+ * other functions take none. */
 #include <stdio.h>
 #include <string.h>
 
@@ -79,13 +79,27 @@ static long same_state(void) {
     return linkwire_same_state(message, sizeof message, message, sizeof message);
 }
 
+static char out[1 << 16];
+
+static long show(void) {
+    return linkwire_show(message, sizeof message, LINKWIRE_ORDER_SINCE, 0, out, sizeof out);
+}
+
+static long show_fault(void) {
+    return linkwire_show(message, sizeof message - 1, LINKWIRE_ORDER_SINCE, 0, out, sizeof out);
+}
+
 /* Refuses the first call for memory, then the second, and so on, until no call is refused. */
 static int refuses_from(const char *what, long (*call)(void), long want) {
     for (long at = 0;; at++) {
         used = 0;
         refused_from = at;
         taken = 0;
+        memset(out, 0x55, sizeof out);
         long found = call();
+        if (found == LINKWIRE_OUT_OF_MEMORY && (out[0] != 0x55 || memcmp(out, out + 1, sizeof out - 1) != 0)) {
+            return wrong("a call that wrote", at, found);
+        }
         if (in_use != 0) {
             return wrong("a call that kept memory", at, found);
         }
@@ -109,7 +123,7 @@ static int refuses_each(const char *what, long (*call)(void), long want) {
 
 /* Calls each function that takes no memory where all memory is refused. */
 static int takes_none(void) {
-    static uint8_t out[LINKWIRE_GROWTH * sizeof message];
+    static uint8_t text[LINKWIRE_GROWTH * sizeof message];
     static uint8_t list[8];
     static uint8_t damaged[sizeof message];
     size_t at = LINKWIRE_HEADER_SIZE, end = 0;
@@ -125,16 +139,19 @@ static int takes_none(void) {
     taken = 0;
     long checked = linkwire_check(message, sizeof message);
     long measured = linkwire_canonical_len(message, sizeof message);
-    long written = linkwire_canonical(message, sizeof message, out, sizeof out);
-    long cleared = linkwire_state(message, sizeof message, out, sizeof out);
+    long written = linkwire_canonical(message, sizeof message, text, sizeof text);
+    long cleared = linkwire_state(message, sizeof message, text, sizeof text);
     long found = linkwire_next(message, sizeof message, &at, &attribute);
     long put = linkwire_put(list, sizeof list, &end, 4, message, 4);
     long fault = linkwire_fault_at(message, 15, &at);
     long deep = linkwire_fault_path(damaged, sizeof damaged, &path);
+    struct linkwire_writer writer = linkwire_writer_at(list, sizeof list, 0);
+    linkwire_nest_end(&writer, linkwire_nest_begin(&writer, 1));
+    long order = linkwire_order("6.16", 4);
     long forms = linkwire_canonical_form() == LINKWIRE_CANONICAL_FORM && linkwire_state_form() == LINKWIRE_STATE_FORM;
     if (checked != 0 || measured <= 0 || written != measured || cleared != measured || found != 1 || put != 1 ||
         fault != LINKWIRE_TOO_SHORT || deep != LINKWIRE_FRAME_UNDER || path.at != 60 || path.depth != 3 || !forms ||
-        taken != 0) {
+        order != LINKWIRE_ORDER_SINCE || writer.at != 4 || taken != 0) {
         fprintf(stderr, "memory.c: with no memory %ld %ld %ld %ld %ld %ld %ld %ld %ld, and %ld calls for it\n", checked,
                 measured, written, cleared, found, put, fault, deep, forms, taken);
         return 1;
@@ -144,6 +161,13 @@ static int takes_none(void) {
 
 int main(void) {
     setvbuf(stderr, NULL, _IONBF, 0);
+    /* with ample memory */
+    refused_from = -1;
+    long shown = show(), fault = show_fault();
+    if (shown <= 0 || fault <= 0) {
+        return wrong("a call with ample memory", -1, shown);
+    }
     return takes_none() || refuses_each("linkwire_same_message", same, 1) ||
-           refuses_each("linkwire_same_state", same_state, 1);
+           refuses_each("linkwire_same_state", same_state, 1) || refuses_each("linkwire_show", show, shown) ||
+           refuses_each("linkwire_show of a fault", show_fault, fault);
 }

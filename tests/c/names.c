@@ -1,5 +1,7 @@
-/* Compares the names of linkwire_name with the constants of linux/if_link.h. Those that older headers lack stand here
- * by their numbers. */
+/* Compares the names of linkwire_name with the constants of linux/if_link.h, and the others with some of linux/if.h and
+ * linux/if_arp.h. Those that older headers lack stand here by their numbers. */
+#include <linux/if.h>
+#include <linux/if_arp.h>
 #include <linux/if_link.h>
 #include <stdio.h>
 #include <string.h>
@@ -32,8 +34,59 @@ static const struct {
 
 enum { COUNT = sizeof names / sizeof *names };
 
-int main(void) {
+/* The bit of a flag. */
+static unsigned bit(unsigned flag) {
+    unsigned found = 0;
+    while (flag >> found > 1) {
+        found++;
+    }
+    return found;
+}
+
+/* The tables that scripts/c_names.py makes: the first and the last of each, some between, and what is past them. */
+static int others_differ(void) {
+    const struct {
+        const char *want, *found;
+    } rows[] = {
+        {"unknown", linkwire_operstate_name(IF_OPER_UNKNOWN)},
+        {"lowerlayerdown", linkwire_operstate_name(IF_OPER_LOWERLAYERDOWN)},
+        {"up", linkwire_operstate_name(IF_OPER_UP)},
+        {NULL, linkwire_operstate_name(7)},
+        {NULL, linkwire_operstate_name(255)},
+        {"default", linkwire_linkmode_name(IF_LINK_MODE_DEFAULT)},
+        {"dormant", linkwire_linkmode_name(IF_LINK_MODE_DORMANT)},
+        {"testing", linkwire_linkmode_name(2)},
+        {NULL, linkwire_linkmode_name(3)},
+        {"up", linkwire_flag_name(bit(IFF_UP))},
+        {"loopback", linkwire_flag_name(bit(IFF_LOOPBACK))},
+        {"master", linkwire_flag_name(bit(IFF_MASTER))},
+        {"multicast", linkwire_flag_name(bit(IFF_MULTICAST))},
+        {"lower-up", linkwire_flag_name(bit(IFF_LOWER_UP))},
+        {"echo", linkwire_flag_name(bit(IFF_ECHO))},
+        {NULL, linkwire_flag_name(19)},
+        {NULL, linkwire_flag_name(31)},
+        {"netrom", linkwire_type_name(ARPHRD_NETROM)},
+        {"ether", linkwire_type_name(ARPHRD_ETHER)},
+        {"loopback", linkwire_type_name(ARPHRD_LOOPBACK)},
+        {"tunnel6", linkwire_type_name(ARPHRD_TUNNEL6)},
+        {"none", linkwire_type_name(ARPHRD_NONE)},
+        {"void", linkwire_type_name(ARPHRD_VOID)},
+        {NULL, linkwire_type_name(9)},
+        {NULL, linkwire_type_name(1000)},
+    };
     int failures = 0;
+    for (size_t i = 0; i < sizeof rows / sizeof *rows; i++) {
+        const char *want = rows[i].want ? rows[i].want : "null", *found = rows[i].found ? rows[i].found : "null";
+        if (strcmp(want, found) != 0) {
+            fprintf(stderr, "names.c: %s is not %s\n", found, want);
+            failures++;
+        }
+    }
+    return failures;
+}
+
+int main(void) {
+    int failures = others_differ();
     for (unsigned i = 0; i < COUNT; i++) {
         const char *found = linkwire_name((uint16_t)names[i].number);
         if (names[i].number != i || found == NULL || strcmp(found, names[i].name) != 0) {

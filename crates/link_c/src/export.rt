@@ -6,6 +6,7 @@ ghost use Rattle.link_c.specs.Messages.{MeansOrFaults, IsLookAt, IsLength, IsTex
 ghost use Rattle.link_c.specs.Messages.{IsStateComparison};
 ghost use Rattle.link_c.specs.Lists.{IsNext, IsPut};
 ghost use Rattle.link_c.specs.Paths.{IsLookAlong};
+ghost use Rattle.link_c.specs.Shown.{IsShown, numbered_order, release_number};
 
 use crate::list::{Attribute, next_attribute, put_attribute};
 use crate::message::{
@@ -14,6 +15,7 @@ use crate::message::{
 };
 use crate::path::{Path, look_along};
 use crate::refusal::{done_code, fault_code, length_code, whether_code};
+use crate::show::{numbered_order, release_number, write_shown};
 use link_msg::CANONICAL_FORM;
 use link_state::STATE_FORM;
 use std::alloc::Global;
@@ -112,4 +114,26 @@ pub extern "C" fn linkwire_state_form() -> u32
     ensures { result ≡ 2 }
 {
     STATE_FORM
+}
+
+/// `linkwire_order` of linkwire.h.
+#[unsafe(no_mangle)]
+pub extern "C" fn linkwire_order(release: &[u8]) -> u32
+    ensures { result ≡ release_number release.now }
+{
+    release_number(release)
+}
+
+/// `linkwire_show` of linkwire.h. No flag of it is defined.
+#[unsafe(no_mangle)]
+pub extern "C" fn linkwire_show(
+    alloc: Global,
+    message: &[u8],
+    order: u32,
+    _flags: u32,
+    out: &mut [u8],
+) -> isize
+    ensures { Says itself (IsShown (numbered_order order) message.now out.old out.new) result }
+{
+    length_code(write_shown(alloc, numbered_order(order), message, out))
 }

@@ -6,3 +6,4 @@ pub mod list;
 pub mod message;
 pub mod path;
 pub mod refusal;
+pub mod show;

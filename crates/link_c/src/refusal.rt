@@ -5,6 +5,7 @@ ghost use Rattle.link_c.specs.Answers.{refusal_number, Says, itself, as_bit, as_
 
 use link_msg::{CanonError, RoomError};
 use nla_wire::{Cause, DecodeError};
+use std::alloc::AllocError;
 use thiserror::Error;
 
 /// Why a call was refused: each has one number, whatever the call.
@@ -84,6 +85,16 @@ impl From<RoomError> for Refusal {
             RoomError::NoEncoding(error) => Refusal::from(error),
             RoomError::NoRoom { .. } => Refusal::NoRoom,
         }
+    }
+}
+
+impl From<AllocError> for Refusal {
+    ghost use Rattle.link_c.specs.declared.refusal.Refusal.TheVariants.{OutOfMemory};
+
+    ghost from_gives = { λ e r. r ≡ OutOfMemory };
+
+    fn from(_error: AllocError) -> Refusal {
+        Refusal::OutOfMemory
     }
 }
 

@@ -1,0 +1,65 @@
+-- What `linkwire_show` writes: a text, for which the buffer may have no room.
+use Rattle.std.specs.Prelude.{◌≡◌, ℕ, ◌==◌, ◌<◌, List, [], length, Bool, None, Result, Ok, Err, cond}
+use Rattle.nla_wire.specs.Canon.{Writes}
+use Rattle.link_msg.specs.Messages.{Means}
+use Rattle.link_msg.specs.declared.message.LinkMessage.{LinkMessage}
+use Rattle.message_shown.specs.Attributes.{message_line}
+use Rattle.message_shown.specs.Lines.{IsAnswerTo}
+use Rattle.message_shown.specs.Worded.{order_of, order_or}
+use Rattle.message_shown.specs.declared.context.Context.{Context}
+use Rattle.message_shown.specs.declared.context.Order.{Order}
+use Rattle.message_shown.specs.declared.context.Order.TheVariants as Orders
+use Rattle.link_c.specs.declared.refusal.Refusal.{Refusal}
+use Rattle.link_c.specs.declared.refusal.Refusal.TheVariants.{Fault, Unfit, EmptyPorts, OutOfMemory, NoRoom}
+
+-- ** numbers of linkwire.h
+
+-- the order of counters that a number stands for; any other one is unknown
+abbrev pub numbered_order : ℕ → Order
+numbered_order n = cond (n == 1) Orders.Before (cond (n == 2) Orders.Since Orders.Unknown)
+
+abbrev pub order_number : Order → ℕ
+order_number Orders.Unknown = 0
+order_number Orders.Before = 1
+order_number Orders.Since = 2
+
+-- the number of the order in a release, or of an unknown one where the text is no release
+abbrev pub release_number : List ℕ → ℕ
+release_number release = order_number (order_or (order_of release))
+
+-- ** texts in a buffer
+
+-- the text stands at the front of the buffer, and the rest is kept; or the buffer has fewer bytes, and is as it was
+pub data Puts (text old new : List ℕ) : Type 0 where
+  written : Writes text old new (length text) → Puts text old new
+  short : length old < length text → new ≡ old → Puts text old new
+
+-- the text has so many bytes, and was put
+abbrev pub PutsWhole : List ℕ → List ℕ → List ℕ → ℕ → Type 0
+PutsWhole text old new n = (n ≡ length text) × Puts text old new
+
+-- ** what is shown
+
+-- what attributes are shown by where nothing is known but the order of the counters of IPv6
+pub record IsPlainContext (order : Order) (cx : Context) : Type 0 where
+  pub order_is : cx.order ≡ order
+  pub link : cx.link_place ≡ None
+  pub port : cx.port_place ≡ None
+  pub address : cx.address_len ≡ 0
+
+-- the text answers a line that spells these bytes, with no words in front of them: where they mean a message, by all
+-- its members, and else by its first fault
+pub record Answers (order : Order) (bytes text : List ℕ) : Type 0 where
+  pub answer : IsAnswerTo [] bytes text
+  pub context : Context
+  pub plain : IsPlainContext order context
+  pub told : (m : LinkMessage) → Means bytes m → text ≡ message_line [] context bytes m
+
+-- the answer to these bytes, n of them; or memory ran out, and the buffer is as it was
+abbrev pub IsShown : Order → List ℕ → List ℕ → List ℕ → Result ℕ Refusal → Type 0
+IsShown order b old new (Ok n) = (text : List ℕ) × Answers order b text × PutsWhole text old new n
+IsShown order b old new (Err OutOfMemory) = new ≡ old
+IsShown order b old new (Err (Fault c)) = ⊥
+IsShown order b old new (Err Unfit) = ⊥
+IsShown order b old new (Err EmptyPorts) = ⊥
+IsShown order b old new (Err NoRoom) = ⊥
