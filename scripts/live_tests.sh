@@ -1,7 +1,7 @@
 #!/usr/bin/env bash
-# Runs examples/c/setmtu.c against the running kernel: live_tests.sh LIBRARY. What linkdump and linkshow say of links is
-# compared with /sys/class/net, here and in a network namespace of their own, where an MTU is set. What needs netlink, a
-# command or a right that is not there is 'skipped'.
+# Runs examples/c/manager.c against the running kernel: live_tests.sh LIBRARY. What linkdump, linkshow and the example
+# say of links is compared with /sys/class/net, here and in a network namespace of their own, where the example makes
+# and changes links. What needs netlink, libmnl, a command or a right that is not there is 'skipped'.
 set -euo pipefail
 top=$(cd "$(dirname "$0")/.." && pwd)
 
@@ -72,14 +72,63 @@ tells() {
 meets_faults() {
     ${CC:-cc} -O1 -Wall -Wextra -Wpedantic -Werror -shared -fPIC -o "$folder/kernel_faults.so" \
         "$top/tests/live/kernel_faults.c" -ldl
-    local mtu
-    mtu=$(cat /sys/class/net/lo/mtu)
-    if [ "$(with 'ran over' setmtu lo "$mtu")" != "lo $mtu" ] || ! asked 3; then
-        fails 'setmtu does not ask again: ran over'
+    local fault
+    "$folder/manager" >"$folder/links"
+    for fault in 'ran over' interrupted; do
+        if ! with "$fault" manager >"$folder/out" || ! cmp -s "$folder/out" "$folder/links" || ! asked 2; then
+            fails "manager does not ask again: $fault"
+        fi
+    done
+    tells error 'Operation not permitted' manager
+    tells 'short error' 'Bad message' manager
+    if ! with refused manager >"$folder/out" || [ "$(wc -l <"$folder/out")" != $(($(wc -l <"$folder/links") - 1)) ] ||
+        ! grep -qx "manager: the kernel's message is refused: an attribute shorter than its header" "$folder/err"; then
+        fails 'manager does not tell that a message is refused'
     fi
-    tells error 'the kernel: Operation not permitted' setmtu lo "$mtu"
-    tells 'short error' 'the kernel: Bad message' setmtu lo "$mtu"
-    echo 'live: setmtu: a queue that ran over, errors'
+    echo 'live: manager: a queue that ran over, a dump that was interrupted, errors, a message that is refused'
+}
+
+# refused WORDS ERROR WORD..: the example fails, and tells what the kernel says of it, if it does, and the error
+refused() {
+    if "$manager" "${@:3}" >"$folder/out" 2>"$folder/err" || [ -s "$folder/out" ] ||
+        ! grep -qx "manager: $2" "$folder/err" ||
+        { [ -n "$1" ] && ! grep -qx "manager: the kernel says: $1" "$folder/err"; }; then
+        cat "$folder/out" "$folder/err" >&2
+        fails "manager ${*:3} does not tell: $1: $2"
+    fi
+}
+
+# shown LINE: whether the example prints this line
+shown() {
+    "$manager" | grep -qx "$1" || fails "manager does not print: $1"
+}
+
+# makes and changes links by the example, of the kinds that the kernel knows
+manages() {
+    local made='' link=''
+    if "$manager" add veth made1 made2 2>"$folder/err"; then
+        shown 'made1 ether down mtu 1500 kind veth'
+        shown 'made2 ether down mtu 1500 kind veth'
+        made=' veth' link=made1
+    fi
+    if "$manager" add vxlan made0 42 192.0.2.1 2>"$folder/err"; then
+        shown 'made0 ether down mtu [0-9]* kind vxlan'
+        refused 'VXLAN ID must be lower than 16777216' 'Numerical result out of range' \
+            add vxlan made9 16777216 192.0.2.1
+        made="$made vxlan" link=made0
+    fi
+    [ -n "$made" ] || skips 'manager: the kernel knows neither veth nor vxlan'
+    if "$manager" add vlan made3 "$link" 7 2>"$folder/err"; then
+        shown 'made3 ether [a-z]* mtu [0-9]* kind vlan id 7'
+        made="$made vlan"
+    fi
+    refused '' 'File exists' add "${made##* }" "$link" "$link" 7
+    "$manager" set "$link" 1400 desk || fails 'manager does not set'
+    shown 'desk ether [a-z]* mtu 1400 kind .*'
+    [ "$(cat /sys/class/net/desk/mtu)" = 1400 ] || fails 'manager has not set the MTU'
+    refused 'mtu greater than device maximum' 'Invalid argument' set desk 70000 desk
+    refused '' 'No such device' set none 1400 desk
+    echo "live: manager: makes$made, sets, and tells what the kernel says"
 }
 
 # makes NAME COMMAND..: an interface, if the kernel knows its kind
@@ -116,32 +165,38 @@ inside() {
     makes macvlan link "$base" name macvlan0 type macvlan
     echo "live: kinds that the kernel knows:${known:- none}; and not:${unknown:- none}"
     compares 'a namespace'
-    meets_faults
-    if [ "$base" = none ]; then
-        skips 'setmtu: the kernel knows neither dummy nor veth'
+    if [ -x "$folder/manager" ]; then
+        meets_faults
     fi
-    ip link set "$base" up
-    if [ "$("$folder/setmtu" "$base" 1400)" != "$base 1400" ] || [ "$(cat "/sys/class/net/$base/mtu")" != 1400 ]; then
-        fails 'setmtu does not set'
+    if [ -x "$folder/manager" ]; then
+        manages
+        compares 'after manager'
     fi
-    if "$folder/setmtu" "$base" 4000000000 2>"$folder/err" || ! grep -q '^setmtu: the kernel: ' "$folder/err"; then
-        fails 'setmtu does not tell that the kernel refuses'
-    fi
-    compares 'after setmtu'
 }
 
 show=$top/out/linkshow
 [ -x "$show" ] || show=$top/crates/linkshow/out/linkshow
 if [ "$1" = --inside ]; then
-    folder=$2
+    folder=$2 manager=$3
     inside
     exit 0
 fi
 library=$1
 folder=$(mktemp -d)
 trap 'rm -rf "$folder"' EXIT
-${CC:-cc} -std=c11 -D_GNU_SOURCE -O1 -Wall -Wextra -Wpedantic -Werror -I"$top/include" -o "$folder/setmtu" \
-    "$top/examples/c/setmtu.c" "$library"
+manager=$folder/manager
+if echo '#include <libmnl/libmnl.h>' | ${CC:-cc} -E - >/dev/null 2>&1; then
+    flags=(-std=c11 -D_GNU_SOURCE -O1 -Wall -Wextra -Wpedantic -Wconversion -Wshadow -Werror -I"$top/include")
+    ${CC:-cc} "${flags[@]}" -o "$folder/manager" "$top/examples/c/manager.c" "$library" -lmnl
+    if ${CC:-cc} "${flags[@]}" -fsanitize=address,undefined -fno-sanitize-recover=all -o "$folder/sanitized" \
+        "$top/examples/c/manager.c" "$library" -lmnl 2>"$folder/err"; then
+        manager=$folder/sanitized
+    else
+        echo 'live: skipped: manager with sanitizers'
+    fi
+else
+    echo 'live: skipped: manager: no libmnl'
+fi
 ${CC:-cc} -std=gnu11 -D_GNU_SOURCE -O1 -I"$top/include" -o "$folder/linkdump" "$top"/programs/linkdump*.c
 # what linkdump says where there is no netlink, or no right to it
 absent='Address family not supported by protocol|Protocol not supported|Operation not supported|Connection refused'
@@ -157,7 +212,7 @@ compares 'this machine'
 command -v ip >/dev/null || skips 'a namespace: no command ip'
 for flags in -mn -rmn; do
     if unshare "$flags" true 2>/dev/null; then
-        unshare "$flags" "$0" --inside "$folder"
+        unshare "$flags" "$0" --inside "$folder" "$manager"
         exit 0
     fi
 done

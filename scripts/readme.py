@@ -1,5 +1,5 @@
-"""Holds the pages that users meet first to what they show. Of README.md, docs/USING.md, docs/CONTRIBUTING.md and the
-manual pages each block with commands has a mark in front:
+"""Holds the pages that users meet first to what they show. Of README.md, docs/USING.md, docs/C.md,
+docs/CONTRIBUTING.md and the manual pages each block with commands has a mark in front:
 
     runs: shell        each command is run, and prints what stands below it
     runs: namespace    the same in a network namespace with a bridge and a pair of veth; each line that stands there
@@ -29,7 +29,7 @@ import sys
 import tempfile
 
 TOP = os.path.dirname(os.path.dirname(os.path.abspath(__file__)))
-PAGES = "README.md", "docs/USING.md", "docs/PYTHON.md", "docs/FLEET.md", "docs/CONTRIBUTING.md"
+PAGES = "README.md", "docs/USING.md", "docs/C.md", "docs/PYTHON.md", "docs/FLEET.md", "docs/CONTRIBUTING.md"
 WARNINGS = "-std=c11 -Wall -Wextra -Wpedantic -Wconversion -Wshadow -Werror -fsyntax-only".split()
 # what a command in the text of a page begins with; one word alone is a name
 PROGRAM = re.compile(

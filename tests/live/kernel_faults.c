@@ -1,6 +1,6 @@
-/* Preloaded into an example or into linkdump: once, recv fails or gives what a kernel gives seldom, or a link is
- * deleted after a request; or each call of socket fails, or the queue is small. KERNEL_FAULT says which. Each send is
- * reported on standard error, and where that is 'none', what it sends, in hexadecimal. */
+/* Preloaded into an example or into linkdump: once, recv or recvmsg fails or gives what a kernel gives seldom, or a
+ * link is deleted after a request; or each call of socket fails, or the queue is small. KERNEL_FAULT says which. Each
+ * send or sendto is reported on standard error, and where that is 'none', what send sends, in hexadecimal. */
 #define _GNU_SOURCE
 #include <dlfcn.h>
 #include <errno.h>
@@ -52,6 +52,16 @@ ssize_t send(int fd, const void *bytes, size_t len, int flags) {
     }
     return sent;
 }
+
+/* libmnl calls this one. Its last parameter but one has a type of GNU's C library. */
+#pragma GCC diagnostic push
+#pragma GCC diagnostic ignored "-Wpedantic"
+ssize_t sendto(int fd, const void *bytes, size_t len, int flags, const struct sockaddr *to, socklen_t to_len) {
+    ssize_t (*own)(int, const void *, size_t, int, const struct sockaddr *, socklen_t);
+    *(void **)&own = dlsym(RTLD_NEXT, "sendto");
+    return write(STDERR_FILENO, "asked\n", 6) == 6 ? own(fd, bytes, len, flags, to, to_len) : -1;
+}
+#pragma GCC diagnostic pop
 
 int socket(int family, int type, int protocol) {
     int (*own)(int, int, int);
@@ -117,5 +127,23 @@ ssize_t recv(int fd, void *buffer, size_t len, int flags) {
         change(buffer, fault);
     }
     is_over = 1;
+    return found;
+}
+
+/* And this one. */
+ssize_t recvmsg(int fd, struct msghdr *message, int flags) {
+    ssize_t (*own)(int, struct msghdr *, int);
+    *(void **)&own = dlsym(RTLD_NEXT, "recvmsg");
+    const char *fault = getenv("KERNEL_FAULT");
+    ssize_t found = own(fd, message, flags);
+    if (fault == NULL || is_over || found <= 0) {
+        return found;
+    }
+    is_over = 1;
+    if (strcmp(fault, "ran over") == 0) {
+        errno = ENOBUFS;
+        return -1;
+    }
+    change(message->msg_iov[0].iov_base, fault);
     return found;
 }
