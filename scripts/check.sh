@@ -46,6 +46,7 @@ programs() {
         stage "program.sh $name" scripts/program.sh "$name"
     done
     python3 scripts/state_tests.py crates/linkstate/out/linkstate crates/linkwire/out/linkwire
+    python3 scripts/lenient_tests.py crates/linkstate/out/linkstate crates/linkwire/out/linkwire
     stage diff_tests.py python3 scripts/diff_tests.py crates/linkdiff/out/linkdiff crates/linkshow/out/linkshow \
         crates/linkstate/out/linkstate crates/linkwire/out/linkwire
     stage sizes.py python3 scripts/sizes.py crates/linkwire/out crates/linkshow/out crates/linkstate/out \

@@ -1,7 +1,7 @@
 #!/usr/bin/env bash
 # Erases the contracts of all crates, and compiles them by cargo, with overflow checks; runs all tests, and each program
-# on its stored lines. It needs no registry and no Rattle, and proves nothing: that the bodies meet their contracts is
-# said by the gate alone.
+# on its stored lines, of linkshow and linkstate those of tests/program/lenient.txt too. It needs no registry and no
+# Rattle, and proves nothing: that the bodies meet their contracts is said by the gate alone.
 set -euo pipefail
 cd "$(dirname "$0")/.."
 if ! command -v cargo >/dev/null; then
@@ -16,3 +16,12 @@ if ! cargo test --quiet --tests --manifest-path out/erased/Cargo.toml >out/erase
     exit 1
 fi
 awk '/^test result: ok/ { sum += $4 } END { print "test: " sum " tests passed, which prove nothing" }' out/erased.log
+grep -v '^#' tests/program/lenient.txt >out/erased.lenient
+for run in linkshow:2 linkstate:3; do
+    name=${run%:*}
+    if ! sed -n '1~3p' out/erased.lenient | "$CARGO_TARGET_DIR/debug/$name" --lenient |
+        cmp -s - <(sed -n "${run#*:}~3p" out/erased.lenient); then
+        echo "test: $name --lenient: other answers than in tests/program/lenient.txt" >&2
+        exit 1
+    fi
+done

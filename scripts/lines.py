@@ -24,6 +24,7 @@ EXCEPTIONS = [(files, re.compile(begins), why) for files, begins, why in [
     ("README.md", r'\{"', "a program's output is shown as it is printed, and a message is one line of JSON"),
     ("crates/*/must-fail/*.edit", r"(old|new): ", "`rt must-fail` reads each text of an edit from one line"),
     ("tests/captures.txt", "", "a message is one line of hexadecimal"),
+    ("tests/program/lenient.txt", "", "a message is one line of hexadecimal, and an answer one line"),
     ("bench/messages.txt", "", "a message is one line of hexadecimal"),
     ("edits/plants.md", "plants ", "a line of counts as `rt plant` prints it"),
     ("tests/kernels/*.txt", "", "a message is one line of hexadecimal, and an answer one line"),

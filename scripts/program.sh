@@ -102,6 +102,25 @@ if [ "$name" != linkwire ]; then
     wants "an argument that is no UTF-8" 2 "" "$name: an argument is no UTF-8; see $name --help"
 fi
 
+case $name in
+linkshow) answers='2~3p' ;;
+linkstate) answers='3~3p' ;;
+*) answers= ;;
+esac
+if [ -n "$answers" ]; then
+    grep -v '^#' "$top/tests/program/lenient.txt" >"$folder/lenient"
+    sed -n '1~3p' "$folder/lenient" >"$folder/lines"
+    sed -n "$answers" "$folder/lenient" >"$folder/wanted"
+    status=0; "$program" --lenient <"$folder/lines" >"$folder/out" 2>"$folder/err" || status=$?
+    wants "--lenient" 0 "$(cat "$folder/wanted")" ""
+    for words in '--lenient x' '--lenient --help' '--help --lenient'; do
+        read -r -a list <<<"$words"
+        status=0; "$program" "${list[@]}" </dev/null >"$folder/out" 2>"$folder/err" || status=$?
+        [ "$(wc -l <"$folder/err")" = 1 ] || { echo "$name: '$words' is not told in one line" >&2; exit 1; }
+        wants "the arguments '$words'" 2 "" "$(cat "$folder/err")"
+    done
+fi
+
 # link FAMILY INDEX ATTRIBUTES: a message of e0, the first two a byte in hexadecimal each
 link() {
     printf '%s000100%s00000043100000000000000700030065300000%s\n' "$1" "$2" "${3:-}"
@@ -145,6 +164,13 @@ if [ "$name" = linkshow ]; then
     wants "no release" 2 "" "$name: not understood: --kernel; see $name --help"
     status=0; "$program" --kernel running </dev/null >"$folder/out" 2>"$folder/err" || status=$?
     wants "the kernel at hand" 0 "" ""
+    for words in '--lenient --kernel 6.1' '--kernel 6.1 --lenient'; do
+        read -r -a list <<<"$words"
+        status=0; "$program" "${list[@]}" <"$folder/lines" >"$folder/out" 2>"$folder/err" || status=$?
+        wants "$words" 0 "$(cat "$folder/out")" ""
+    done
+    status=0; "$program" --lenient --kernel </dev/null >"$folder/out" 2>"$folder/err" || status=$?
+    wants "no release behind --lenient" 2 "" "$name: not understood: --kernel; see $name --help"
 fi
 
 if [ "$name" = linkdiff ]; then
@@ -276,18 +302,28 @@ else
     function few(what, is_one) { return is_one && ++count[what] <= 3 }
     '"$chosen"' { print $1 >(stored "/stdin"); print $2 >(stored "/stdout") }'
 fi
-for ((call = 1; ; call++)); do
-    rm -f "$folder/refused"
-    status=0
-    REFUSED_CALL=$call REFUSED_MARK=$folder/refused LD_PRELOAD=$folder/refuse.so \
-        "$program" <"$stored/stdin" >"$folder/out" 2>"$folder/err" || status=$?
-    if [ ! -e "$folder/refused" ]; then
-        break
-    fi
-    if ! head -c "$(stat -c %s "$folder/out")" "$stored/stdout" | cmp -s - "$folder/out"; then
-        echo "$name: allocation $call refused: no beginning of the answers" >&2
-        exit 1
-    fi
-    wants "allocation $call refused" 1 "$(cat "$folder/out")" "$name: out of memory" >/dev/null
-done
-wants "no allocation refused, after $((call - 1))" 0 "$(cat "$stored/stdout")" ""
+# refuses LINES ANSWERS WORDS..: the arguments are WORDS
+refuses() {
+    local lines=$1 answers=$2
+    shift 2
+    for ((call = 1; ; call++)); do
+        rm -f "$folder/refused"
+        status=0
+        REFUSED_CALL=$call REFUSED_MARK=$folder/refused LD_PRELOAD=$folder/refuse.so \
+            "$program" "$@" <"$lines" >"$folder/out" 2>"$folder/err" || status=$?
+        if [ ! -e "$folder/refused" ]; then
+            break
+        fi
+        if ! head -c "$(stat -c %s "$folder/out")" "$answers" | cmp -s - "$folder/out"; then
+            echo "$name $*: allocation $call refused: no beginning of the answers" >&2
+            exit 1
+        fi
+        wants "$*: allocation $call refused" 1 "$(cat "$folder/out")" "$name: out of memory" >/dev/null
+    done
+    wants "${*:+$*: }no allocation refused, after $((call - 1))" 0 "$(cat "$answers")" ""
+}
+refuses "$stored/stdin" "$stored/stdout"
+if [ -n "$answers" ]; then
+    sed -n '1~3p' "$folder/lenient" >"$folder/lines"
+    refuses "$folder/lines" "$folder/wanted" --lenient
+fi

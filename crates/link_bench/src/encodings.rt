@@ -1,6 +1,7 @@
 //! The encodings that the programs answer with.
 
 ghost use Rattle.link_msg.specs.Canonical.{HasText};
+ghost use Rattle.link_msg.specs.Messages.{Means};
 ghost use Rattle.link_state.specs.State.{HasState};
 ghost use Rattle.link_bench.specs.OneText.{one_canonical, one_state};
 
@@ -14,8 +15,11 @@ use std::alloc::Global;
 pub struct Canonical;
 
 impl Encoding for Canonical {
+    ghost means = { Means };
+
     ghost encodes = { HasText };
 
+    #[tactic(auto, using(message_lines::proofs::Refused::refused))]
     fn encode(&self, alloc: Global, bytes: &[u8]) -> Result<Vec<u8>, CanonError> {
         canonical(alloc, bytes)
     }
@@ -28,8 +32,11 @@ impl Encoding for Canonical {
 pub struct State;
 
 impl Encoding for State {
+    ghost means = { Means };
+
     ghost encodes = { HasState };
 
+    #[tactic(auto, using(message_lines::proofs::Refused::refused))]
     fn encode(&self, alloc: Global, bytes: &[u8]) -> Result<Vec<u8>, CanonError> {
         state(alloc, bytes)
     }

@@ -14,8 +14,8 @@ use line_filter::run::run;
 use line_filter::worded::Worded;
 use message_diff::{Compared, compare_lines};
 use message_lines::answers::Encoded;
-use message_shown::Shown;
 use message_shown::context::Order;
+use message_shown::{Shown, Strict};
 use std::alloc::{AllocError, Global};
 
 /// A job.
@@ -163,7 +163,12 @@ pub fn run_job(
         }
         Job::Show => {
             let lines = captured(messages, WORDS, rounds, chance)?;
-            answer(alloc, Shown::new(alloc, Order::Unknown), lines, digest)
+            answer(
+                alloc,
+                Shown::new(alloc, Strict, Order::Unknown),
+                lines,
+                digest,
+            )
         }
         Job::Diff => watch(alloc, messages, rounds, chance, digest),
         Job::Calls => call_messages(alloc, &messages, rounds, chance, digest),
@@ -173,7 +178,12 @@ pub fn run_job(
             let mut next = chance;
             let _turned = next.next();
             let second = Awkward::new(alloc, rounds / 2, next)?;
-            answer(alloc, Shown::new(alloc, Order::Unknown), second, digest)
+            answer(
+                alloc,
+                Shown::new(alloc, Strict, Order::Unknown),
+                second,
+                digest,
+            )
         }
     }
 }

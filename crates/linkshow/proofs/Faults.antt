@@ -7,13 +7,15 @@ use Rattle.std.proofs.lemmas.List.{append_assoc, append_cancel_left}
 use Rattle.json.specs.Token.{Token, begin_object, key}
 use Rattle.json.specs.Print.{print_from, escape_byte, separator, token_text, ends}
 use Rattle.nla_wire.specs.declared.error.Cause.{Cause}
+use Rattle.link_msg.specs.Lenient.{MeansNoneLeniently}
 use Rattle.link_msg.specs.Messages.{FirstFault, MeansNothing}
 use Rattle.link_msg.specs.declared.message.LinkMessage.{LinkMessage}
 use Rattle.link_msg.proofs.Reading.{message_agrees}
 use Rattle.shown.specs.Drafts.{Members}
 use Rattle.shown.specs.Pages.{IsObject}
+use Rattle.message_shown.specs.Leniently.{IsLenientAnswerTo}
 use Rattle.message_shown.specs.Lines.{IsAnswerTo, fault_head, message_head, fault_member, family_member}
-use Rattle.linkshow.specs.Laws.{FaultsAreRefusals}
+use Rattle.linkshow.specs.Laws.{FaultsAreRefusals, LenientFaultsAreRefusals}
 
 no_message : (b : List ℕ) (c : Cause) → FirstFault b c → MeansNothing b
 no_message b c h = λ m means.
@@ -83,3 +85,18 @@ only words bytes answer c (IsAnswerTo.message m h o) k = absurd (not_both words 
 
 pub faults_are_refusals : FaultsAreRefusals
 faults_are_refusals = record { refused = refused; only = only }
+
+-- ** what is read leniently
+
+refused_leniently : (words : Members) (bytes answer : List ℕ) → IsLenientAnswerTo words bytes answer
+    → MeansNoneLeniently bytes → (c : Cause) × FirstFault bytes c × IsObject (fault_head words c) answer
+refused_leniently words bytes answer (IsLenientAnswerTo.fault c h _ o) none = (c, h, o)
+refused_leniently words bytes answer (IsLenientAnswerTo.message m h o) none = absurd (none m h)
+
+only_leniently : (words : Members) (bytes answer : List ℕ) (c : Cause) → IsLenientAnswerTo words bytes answer
+    → IsObject (fault_head words c) answer → MeansNoneLeniently bytes
+only_leniently words bytes answer c (IsLenientAnswerTo.fault d h none o) k = none
+only_leniently words bytes answer c (IsLenientAnswerTo.message m h o) k = absurd (not_both words c m answer k o)
+
+pub lenient_faults_are_refusals : LenientFaultsAreRefusals
+lenient_faults_are_refusals = record { refused = refused_leniently; only = only_leniently }

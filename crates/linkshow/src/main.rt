@@ -5,16 +5,19 @@ mod arguments;
 mod laws;
 mod run;
 
-use arguments::{Request, asked_for};
+use arguments::{Asked, requested};
+use line_filter::error::RunError;
 use message_shown::context::Order;
 use message_shown::worded::order_of;
+use message_shown::{Lenient, Strict};
 use run::run;
 use std::io::{ErrorKind, Read};
 use std::process::ExitCode;
 use std::{env, fs};
 
 /// What `--help` writes.
-const HELP: &str = "usage: linkshow [--kernel RELEASE | --help | --version]
+const HELP: &str = "usage: linkshow [--kernel RELEASE] [--lenient]
+       linkshow --help | --version
 
 Reads lines of hexadecimal digits from standard input, each the bytes of a link message of route netlink, and writes
 for each line one line of JSON: what the message says, or why the bytes are none. Words key=value in front of the
@@ -24,6 +27,8 @@ ok right before the digits is passed over.
   --kernel RELEASE  the kernel that the messages are of, as 6.12.0-47, or running for the one at hand: it decides the
                     order of the counters of IPv6, which changed between 6.12 and 6.16. Without it, and for releases
                     between the two, the counters are a list of numbers. A word kernel=RELEASE counts for its line.
+  --lenient         an attribute whose payload is refused does not hide the others: they are shown, and last, under
+                    refused, what is refused of it and why
   -h, --help        this text
   --version         the version
 ";
@@ -38,27 +43,16 @@ const USAGE: u8 = 2;
 const OSRELEASE: &str = "/proc/sys/kernel/osrelease";
 
 fn main(rt: HostRuntime) -> ExitCode {
-    let mut words = match env::args(&rt) {
+    let words = match env::args(&rt) {
         Ok(words) => words,
         Err(error) => return refuse_all(rt, error.kind()),
     };
-    let _program = words.next();
-    let Some(word) = words.next() else {
-        return answer_lines(rt, Order::Unknown);
-    };
-    let asked = asked_for(word.as_str());
-    let release = match asked {
-        Request::Kernel => words.next(),
-        _ => None,
-    };
-    if let Some(word) = words.next() {
-        return refuse(rt, word.as_str());
-    }
-    match (asked, release) {
-        (Request::Help, _) => write_text(rt, HELP),
-        (Request::Version, _) => write_text(rt, VERSION),
-        (Request::Kernel, Some(release)) => answer_kernel(rt, release.as_str()),
-        _ => refuse(rt, word.as_str()),
+    match requested(words) {
+        Asked::Help => write_text(rt, HELP),
+        Asked::Version => write_text(rt, VERSION),
+        Asked::Lines(None, is_lenient) => answer_lines(rt, Order::Unknown, is_lenient),
+        Asked::Lines(Some(release), is_lenient) => answer_kernel(rt, release.as_str(), is_lenient),
+        Asked::Wrong(word) => refuse(rt, word.as_str()),
     }
 }
 
@@ -103,13 +97,13 @@ fn running_order(rt: &HostRuntime) -> Option<Order> {
 }
 
 /// Answers lines of messages of a kernel.
-fn answer_kernel(rt: HostRuntime, release: &str) -> ExitCode {
+fn answer_kernel(rt: HostRuntime, release: &str, is_lenient: bool) -> ExitCode {
     let order = match release {
         "running" => running_order(&rt),
         release => order_of(release.as_bytes()),
     };
     match order {
-        Some(order) => answer_lines(rt, order),
+        Some(order) => answer_lines(rt, order, is_lenient),
         None => {
             let release = release.escape_debug();
             let _ = eprintln!(rt; "linkshow: no release of a kernel: {release}");
@@ -119,10 +113,20 @@ fn answer_kernel(rt: HostRuntime, release: &str) -> ExitCode {
 }
 
 /// Answers the lines of standard input.
-fn answer_lines(rt: HostRuntime, order: Order) -> ExitCode {
+fn answer_lines(rt: HostRuntime, order: Order, is_lenient: bool) -> ExitCode {
     let mut reader = rt.stdin();
     let mut writer = rt.stdout();
-    match run(rt.alloc(), order, &mut reader, &mut writer) {
+    let outcome = if is_lenient {
+        run(rt.alloc(), Lenient, order, &mut reader, &mut writer)
+    } else {
+        run(rt.alloc(), Strict, order, &mut reader, &mut writer)
+    };
+    ended(rt, outcome)
+}
+
+/// The exit status and the line for how a run ended.
+fn ended(rt: HostRuntime, outcome: Result<(), RunError>) -> ExitCode {
+    match outcome {
         Ok(()) => ExitCode::SUCCESS,
         Err(error) => {
             let _ = eprintln!(rt; "linkshow: {error}");

@@ -10,6 +10,8 @@ pub enum Request {
     Help,
     /// `--version`: which one it is.
     Version,
+    /// `--lenient`: an attribute that is refused does not make a message none.
+    Lenient,
     /// No argument that there is.
     Unknown,
 }
@@ -22,6 +24,8 @@ pub fn asked_for(word: &str) -> Request
         Request::Help
     } else if word == "--version" {
         Request::Version
+    } else if word == "--lenient" {
+        Request::Lenient
     } else {
         Request::Unknown
     }

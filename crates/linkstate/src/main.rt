@@ -7,13 +7,15 @@ mod laws;
 mod run;
 
 use arguments::{Request, asked_for};
+use encoding::{LenientState, State};
+use line_filter::error::RunError;
 use run::run;
 use std::env;
 use std::io::ErrorKind;
 use std::process::ExitCode;
 
 /// What `--help` writes.
-const HELP: &str = "usage: linkstate [--help | --version]
+const HELP: &str = "usage: linkstate [--lenient | --help | --version]
 
 Reads lines of hexadecimal digits from standard input, each the bytes of a link message of route netlink, and writes
 for each line one answer: ok and the state encoding of the message, which is its canonical encoding with all that moves
@@ -22,6 +24,7 @@ cannot be written; empty-ports for one with an empty list of ports. Words key=va
 between, are written in front of the answer as they stand, and alone where no digits follow them. A word ok right before
 the digits is passed over.
 
+  --lenient   bytes are a message as far as their attributes fit: one whose payload is refused is kept as it is
   -h, --help  this text
   --version   the version
 ";
@@ -39,7 +42,7 @@ fn main(rt: HostRuntime) -> ExitCode {
     };
     let _program = words.next();
     let Some(word) = words.next() else {
-        return answer_lines(rt);
+        return answer_strictly(rt);
     };
     let asked = asked_for(word.as_str());
     if let Some(word) = words.next() {
@@ -48,6 +51,7 @@ fn main(rt: HostRuntime) -> ExitCode {
     match asked {
         Request::Help => write_text(rt, HELP),
         Request::Version => write_text(rt, VERSION),
+        Request::Lenient => answer_leniently(rt),
         Request::Unknown => refuse(rt, word.as_str()),
     }
 }
@@ -83,11 +87,21 @@ fn write_text(rt: HostRuntime, text: &str) -> ExitCode {
     }
 }
 
-/// Answers the lines of standard input.
-fn answer_lines(rt: HostRuntime) -> ExitCode {
-    let mut reader = rt.stdin();
-    let mut writer = rt.stdout();
-    match run(rt.alloc(), &mut reader, &mut writer) {
+/// Answers the lines of standard input by the states of what they mean.
+fn answer_strictly(rt: HostRuntime) -> ExitCode {
+    let outcome = run(rt.alloc(), State, &mut rt.stdin(), &mut rt.stdout());
+    ended(rt, outcome)
+}
+
+/// Answers the lines of standard input by the states of what they mean leniently.
+fn answer_leniently(rt: HostRuntime) -> ExitCode {
+    let outcome = run(rt.alloc(), LenientState, &mut rt.stdin(), &mut rt.stdout());
+    ended(rt, outcome)
+}
+
+/// The exit status and the line for how a run ended.
+fn ended(rt: HostRuntime, outcome: Result<(), RunError>) -> ExitCode {
+    match outcome {
         Ok(()) => ExitCode::SUCCESS,
         Err(error) => {
             let _ = eprintln!(rt; "linkstate: {error}");

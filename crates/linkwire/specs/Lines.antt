@@ -1,13 +1,14 @@
 -- What each line is answered, and what a run writes.
 use Rattle.std.specs.Prelude.{ℕ, List, Option}
 use Rattle.link_msg.specs.Canonical.{HasText}
+use Rattle.link_msg.specs.Messages.{Means}
 use Rattle.message_lines.specs.Answers as answers
 use Rattle.line_filter.specs.Lines as filter
 use Rattle.line_filter.specs.declared.error.RunError.{RunError}
 
 -- what a line is answered: `nothex`, `refused`, `unfit`, `empty-ports`, or `ok ` and the canonical text in hexadecimal
 abbrev pub IsAnswer : List ℕ → List ℕ → Type 0
-IsAnswer = answers.IsAnswer HasText
+IsAnswer = answers.IsAnswer Means HasText
 
 -- an answer to each of the lines, in order, each ended by an LF
 abbrev pub AreAnswers : List (List ℕ) → List ℕ → Type 0

@@ -6,11 +6,10 @@ use Rattle.hex.specs.Hex.{decode_of, encode_lower}
 use Rattle.hex.specs.declared.error.FromHexError.{FromHexError}
 use Rattle.link_msg.specs.declared.encoding.CanonError.{CanonError}
 use Rattle.link_msg.specs.declared.encoding.CanonError.TheVariants.{Decode, DoesNotFit, EmptyVfPorts}
-use Rattle.link_msg.specs.Messages.{MeansNothing}
-use Rattle.link_msg.specs.Canonical.{IsRefusal}
 use Rattle.nla_wire.specs.declared.error.DecodeError.{DecodeError}
 use Rattle.line_filter.specs.Lines.{with_lf}
-use Rattle.message_lines.specs.Answers.{Encodes, IsAnswerTo, IsAnswerToSpelled, AddsAnswer, AddsAnswerTo}
+use Rattle.message_lines.specs.Answers.{Meaning, MeansNone, Encodes, IsRefusal, IsAnswerTo, IsAnswerToSpelled}
+use Rattle.message_lines.specs.Answers.{AddsAnswer, AddsAnswerTo}
 
 -- what an extended list holds where the call succeeds
 pub on_ok_extended : {P : Type 0} (r : Result (Unit {0}) AllocError) (new longer same : List ℕ)
@@ -19,40 +18,36 @@ on_ok_extended (Ok _) new longer same h k = k h
 on_ok_extended (Err _) new longer same h k = tt
 
 -- ** what was answered by the bytes
--- bytes that are refused with some cause are refused
-is_refused : (bytes : List ℕ) (fault : DecodeError) → IsRefusal bytes (Decode fault) → MeansNothing bytes
-is_refused bytes fault h = h.2
-
-module _ (Text : Encodes) where
+module _ (Means : Meaning) (Text : Encodes) where
   pub adds_text : (bytes text shown old new : List ℕ) → Text bytes text → shown ≡ text
-      → new ≡ old ++ with_lf (codes "ok " ++ encode_lower shown) → AddsAnswerTo Text bytes old new
+      → new ≡ old ++ with_lf (codes "ok " ++ encode_lower shown) → AddsAnswerTo Means Text bytes old new
   adds_text bytes text shown old new h e k =
       (codes "ok " ++ encode_lower shown, IsAnswerTo.ok text h (ap (λ t. codes "ok " ++ encode_lower t) e), k)
 
   pub adds_refused : (bytes old new : List ℕ) (e : CanonError) (fault : DecodeError) → e ≡ Decode fault
-      → IsRefusal bytes e → new ≡ old ++ codes "refused\n" → AddsAnswerTo Text bytes old new
+      → IsRefusal Means bytes e → new ≡ old ++ codes "refused\n" → AddsAnswerTo Means Text bytes old new
   adds_refused bytes old new e fault is h k =
-      (codes "refused", IsAnswerTo.refused (is_refused bytes fault (subst (IsRefusal bytes) is h)) refl, k)
+      (codes "refused", IsAnswerTo.refused (subst (IsRefusal Means bytes) is h) refl, k)
 
-  pub adds_unfit : (bytes old new : List ℕ) (e : CanonError) → e ≡ DoesNotFit → IsRefusal bytes e
-      → new ≡ old ++ codes "unfit\n" → AddsAnswerTo Text bytes old new
-  adds_unfit bytes old new e is h k = (codes "unfit", IsAnswerTo.unfit (subst (IsRefusal bytes) is h) refl, k)
+  pub adds_unfit : (bytes old new : List ℕ) (e : CanonError) → e ≡ DoesNotFit → IsRefusal Means bytes e
+      → new ≡ old ++ codes "unfit\n" → AddsAnswerTo Means Text bytes old new
+  adds_unfit bytes old new e is h k = (codes "unfit", IsAnswerTo.unfit (subst (IsRefusal Means bytes) is h) refl, k)
 
-  pub adds_empty_ports : (bytes old new : List ℕ) (e : CanonError) → e ≡ EmptyVfPorts → IsRefusal bytes e
-      → new ≡ old ++ codes "empty-ports\n" → AddsAnswerTo Text bytes old new
+  pub adds_empty_ports : (bytes old new : List ℕ) (e : CanonError) → e ≡ EmptyVfPorts → IsRefusal Means bytes e
+      → new ≡ old ++ codes "empty-ports\n" → AddsAnswerTo Means Text bytes old new
   adds_empty_ports bytes old new e is h k =
-      (codes "empty-ports", IsAnswerTo.empty_ports (subst (IsRefusal bytes) is h) refl, k)
+      (codes "empty-ports", IsAnswerTo.empty_ports (subst (IsRefusal Means bytes) is h) refl, k)
 
   -- ** what was spelled by the line
-  pub adds_spelled : (line room old new : List ℕ) → decode_of line ≡ Ok room → AddsAnswerTo Text room old new
-      → AddsAnswer Text line old new
+  pub adds_spelled : (line room old new : List ℕ) → decode_of line ≡ Ok room → AddsAnswerTo Means Text room old new
+      → AddsAnswer Means Text line old new
   adds_spelled line room old new h s =
-      (s.0, subst (λ (t : Result (List ℕ) FromHexError). IsAnswerToSpelled Text t s.0) (sym h) s.1, s.2)
+      (s.0, subst (λ (t : Result (List ℕ) FromHexError). IsAnswerToSpelled Means Text t s.0) (sym h) s.1, s.2)
 
   pub adds_nothex : (line old new : List ℕ) (e : FromHexError) → decode_of line ≡ Err e → new ≡ old ++ codes "nothex\n"
-      → AddsAnswer Text line old new
+      → AddsAnswer Means Text line old new
   adds_nothex line old new e h s = (
     codes "nothex",
-    subst (λ (t : Result (List ℕ) FromHexError). IsAnswerToSpelled Text t (codes "nothex")) (sym h) refl,
+    subst (λ (t : Result (List ℕ) FromHexError). IsAnswerToSpelled Means Text t (codes "nothex")) (sym h) refl,
     s,
   )

@@ -30,7 +30,7 @@ impl<E: Encoding> Encoded<E> {
 }
 
 impl<E: Encoding> Answer for Encoded<E> {
-    ghost is_answer = { IsAnswer E.encodes };
+    ghost is_answer = { IsAnswer E.means E.encodes };
 
     fn push(
         &mut self,
@@ -48,7 +48,7 @@ impl<E: Encoding> Answer for Encoded<E> {
         )
     }
 
-    ghost has = { each_answered E.encodes E.one };
+    ghost has = { each_answered E.means E.encodes E.one };
 }
 
 /// Adds `ok `, the text in lower-case hexadecimal and an LF.
@@ -73,7 +73,7 @@ fn push_encoded<E: Encoding>(
     bytes: &[u8],
 ) -> Result<(), AllocError>
     ensures { OnOk result
-        (AddsAnswerTo E.encodes bytes.now waiting.old.items waiting.new.items) }
+        (AddsAnswerTo E.means E.encodes bytes.now waiting.old.items waiting.new.items) }
 {
     match encoding.encode(alloc, bytes) {
         Ok(text) => push_text(waiting, text.as_slice()),
@@ -93,7 +93,8 @@ fn push_spelled<E: Encoding>(
     room: &mut [u8],
 ) -> Result<(), AllocError>
     requires { length room.old ≡ length line.now / 2 }
-    ensures { OnOk result (AddsAnswer E.encodes line.now waiting.old.items waiting.new.items) }
+    ensures { OnOk result
+        (AddsAnswer E.means E.encodes line.now waiting.old.items waiting.new.items) }
 {
     if !decode(line, values(), room) {
         return waiting.extend_from_slice(b"nothex\n");

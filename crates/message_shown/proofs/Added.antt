@@ -21,7 +21,7 @@ use Rattle.shown.proofs.Pages.{object_found, whole_text}
 use Rattle.link_msg.proofs.Reading.{message_agrees}
 use Rattle.message_shown.specs.Attributes.{message_line, TellsMessage}
 use Rattle.message_shown.specs.Causes.{cause_text, cause_members, AddsFault}
-use Rattle.message_shown.specs.Lines.{IsAnswerTo, IsAnswerToSpelled, IsAnswerOf, head, whole_object}
+use Rattle.message_shown.specs.Lines.{Answering, Telling, IsAnswerTo, IsAnswerToSpelled, IsAnswerOf, head, whole_object}
 use Rattle.message_shown.specs.Lines.{TellsLine, AddsAnswer, AddsAnswerOf, AddsAnswerTo, AddsSpelled}
 use Rattle.message_shown.specs.Lines.{fault_member, fault_head, family_member, nothex_member}
 use Rattle.message_shown.specs.Worded.{words_shown}
@@ -29,11 +29,11 @@ use Rattle.message_shown.specs.declared.answers.Shown.{Shown}
 use Rattle.message_shown.specs.declared.context.Context.{Context}
 
 -- ** what is added
-lf_after : (old text mid new : List ℕ) → mid ≡ old ++ text → new ≡ mid ++ 10 ∷ [] → new ≡ old ++ with_lf text
+pub lf_after : (old text mid new : List ℕ) → mid ≡ old ++ text → new ≡ mid ++ 10 ∷ [] → new ≡ old ++ with_lf text
 lf_after old text mid new h k = k ∙ ap (λ l. l ++ 10 ∷ []) h ∙ append_assoc old text (10 ∷ [])
 
 -- a page of members begins with the first of them
-begins : (words more : Members) (member : List ℕ × List Token) (page : Draft)
+pub begins : (words more : Members) (member : List ℕ × List Token) (page : Draft)
     → page ≡ with_members (words ++ member ∷ more) empty_object
     → page.tokens ≡ head words member ++ flat_map (λ m. key m.0 ∷ m.1) more
 begins words more member page is =
@@ -44,7 +44,7 @@ begins words more member page is =
 
 pub adds_message : (words more : Members) (page : Draft) (bytes old mid new : List ℕ) (m : LinkMessage) → Means bytes m
     → page ≡ with_members (words ++ family_member m ∷ more) empty_object
-    → AddsText page old mid → new ≡ mid ++ 10 ∷ [] → AddsAnswerTo words bytes old new
+    → AddsText page old mid → new ≡ mid ++ 10 ∷ [] → AddsAnswerTo IsAnswerTo words bytes old new
 adds_message words more page bytes old mid new m means is s k = (
   s.0,
   IsAnswerTo.message m means (object_found page (head words (family_member m)) _ s.0
@@ -84,7 +84,8 @@ members_next ms more member first named page n is =
 pub adds_fault : (words : Members) (text : List ℕ) (e : DecodeError) (first worded named page : Draft)
     (bytes old mid new : List ℕ) → FirstFault bytes e.cause → text ≡ cause_text e.cause → first ≡ empty_object
     → worded ≡ with_members words first → named ≡ with_value (codes "fault") (string text ∷ []) worded
-    → AddsFault e named page → AddsText page old mid → new ≡ mid ++ 10 ∷ [] → AddsAnswerTo words bytes old new
+    → AddsFault e named page → AddsText page old mid → new ≡ mid ++ 10 ∷ []
+    → AddsAnswerTo IsAnswerTo words bytes old new
 adds_fault words text e first worded named page bytes old mid new fault same empty w n adds s k =
     let ms = (codes "at", string adds.0 ∷ []) ∷ cause_members e.cause in
     let told : named ≡ with_value (codes "fault") (string (cause_text e.cause) ∷ []) worded =
@@ -97,10 +98,10 @@ adds_fault words text e first worded named page bytes old mid new fault same emp
     )
 
 -- ** of digits
-pub adds_spelled : (words : Members) (digits room old new : List ℕ) → decode_of digits ≡ Ok room
-    → AddsAnswerTo words room old new → AddsSpelled words digits old new
-adds_spelled words digits room old new h s =
-    (s.0, subst (λ (t : Result (List ℕ) FromHexError). IsAnswerToSpelled words t s.0) (sym h) s.1, s.2)
+pub adds_spelled : (To : Answering) (words : Members) (digits room old new : List ℕ) → decode_of digits ≡ Ok room
+    → AddsAnswerTo To words room old new → AddsSpelled To words digits old new
+adds_spelled To words digits room old new h s =
+    (s.0, subst (λ (t : Result (List ℕ) FromHexError). IsAnswerToSpelled To words t s.0) (sym h) s.1, s.2)
 
 -- a page with a member more
 pub member_last : (words : Members) (member : List ℕ × List Token) (first worded page : Draft) → first ≡ empty_object
@@ -115,44 +116,46 @@ pub object_told : (ms : Members) (page : Draft) (old mid new : List ℕ) → pag
 object_told ms page old mid new is s k =
     lf_after old (print (object_of ms)) mid new (s.2 ∙ ap (λ text. old ++ text) (whole_text ms page s.0 is s.1)) k
 
-pub adds_nothex : (words : Members) (digits old new : List ℕ) (e : FromHexError) → decode_of digits ≡ Err e
-    → new ≡ old ++ with_lf (whole_object (words ++ nothex_member ∷ [])) → AddsSpelled words digits old new
-adds_nothex words digits old new e h s =
+pub adds_nothex : (To : Answering) (words : Members) (digits old new : List ℕ) (e : FromHexError)
+    → decode_of digits ≡ Err e
+    → new ≡ old ++ with_lf (whole_object (words ++ nothex_member ∷ [])) → AddsSpelled To words digits old new
+adds_nothex To words digits old new e h s =
     let answer : List ℕ = whole_object (words ++ nothex_member ∷ []) in
-    (answer, subst (λ (t : Result (List ℕ) FromHexError). IsAnswerToSpelled words t answer) (sym h) refl, s)
+    (answer, subst (λ (t : Result (List ℕ) FromHexError). IsAnswerToSpelled To words t answer) (sym h) refl, s)
 
 -- ** of what stands in a line
 alone_of : (b : Bool) (P : Type 0) (own answer : List ℕ) → b ≡ true → answer ≡ own → MatchBool b (answer ≡ own) P
 alone_of b P own answer is same = subst (λ c. MatchBool c (answer ≡ own) P) (sym is) same
 
-pub adds_alone : (front rest old new : List ℕ) → are_alone front rest ≡ true
-    → new ≡ old ++ with_lf (whole_object (words_shown front)) → AddsAnswerOf front rest old new
-adds_alone front rest old new alone is =
+pub adds_alone : (To : Answering) (front rest old new : List ℕ) → are_alone front rest ≡ true
+    → new ≡ old ++ with_lf (whole_object (words_shown front)) → AddsAnswerOf To front rest old new
+adds_alone To front rest old new alone is =
     let answer : List ℕ = whole_object (words_shown front) in (
       answer,
-      alone_of (are_alone front rest) (IsAnswerToSpelled (words_shown front) (decode_of (digits_of rest)) answer) answer
-          answer alone refl,
+      alone_of (are_alone front rest) (IsAnswerToSpelled To (words_shown front) (decode_of (digits_of rest)) answer)
+          answer answer alone refl,
       is,
     )
 
-pub adds_behind : (front rest digits old new : List ℕ) → are_alone front rest ≡ false → digits ≡ digits_of rest
-    → AddsSpelled (words_shown front) digits old new → AddsAnswerOf front rest old new
-adds_behind front rest digits old new some is s =
-    let spelled : IsAnswerToSpelled (words_shown front) (decode_of (digits_of rest)) s.0 =
-    subst (λ d. IsAnswerToSpelled (words_shown front) (decode_of d) s.0) is s.1 in (
+pub adds_behind : (To : Answering) (front rest digits old new : List ℕ) → are_alone front rest ≡ false
+    → digits ≡ digits_of rest
+    → AddsSpelled To (words_shown front) digits old new → AddsAnswerOf To front rest old new
+adds_behind To front rest digits old new some is s =
+    let spelled : IsAnswerToSpelled To (words_shown front) (decode_of (digits_of rest)) s.0 =
+    subst (λ d. IsAnswerToSpelled To (words_shown front) (decode_of d) s.0) is s.1 in (
       s.0,
       subst
           (λ b. MatchBool b (s.0 ≡ whole_object (words_shown front))
-          (IsAnswerToSpelled (words_shown front) (decode_of (digits_of rest)) s.0)) (sym some) spelled,
+          (IsAnswerToSpelled To (words_shown front) (decode_of (digits_of rest)) s.0)) (sym some) spelled,
       s.2,
     )
 
 -- the words are those in front of the line, and the rest stands behind them
-pub adds_line : (line front rest old new : List ℕ) → front ≡ front_of line → rest ≡ rest_of line
-    → AddsAnswerOf front rest old new → AddsAnswer line old new
-adds_line line front rest old new f is s = (
+pub adds_line : (To : Answering) (line front rest old new : List ℕ) → front ≡ front_of line → rest ≡ rest_of line
+    → AddsAnswerOf To front rest old new → AddsAnswer To line old new
+adds_line To line front rest old new f is s = (
   s.0,
-  subst (λ w. IsAnswerOf w (rest_of line) s.0) f (subst (λ r. IsAnswerOf front r s.0) is s.1),
+  subst (λ w. IsAnswerOf To w (rest_of line) s.0) f (subst (λ r. IsAnswerOf To front r s.0) is s.1),
   s.2,
 )
 
@@ -175,15 +178,16 @@ pub tells_fault : (words : Members) (cx : Context) (b old new : List ℕ) (c : C
     → TellsMessage words cx b old new
 tells_fault words cx b old new c fault m means = absurd (means_nothing b c m fault means)
 
-pub line_spelled : (shown : Shown) (front digits room old new : List ℕ) → decode_of digits ≡ Ok room
-    → TellsLine shown front room old new → (b : List ℕ) → decode_of digits ≡ Ok b → TellsLine shown front b old new
-line_spelled shown front digits room old new h tells b is =
+pub line_spelled : {R : Type 0} (Tells : Telling) (shown : Shown R) (front digits room old new : List ℕ)
+    → decode_of digits ≡ Ok room → TellsLine Tells shown front room old new → (b : List ℕ) → decode_of digits ≡ Ok b
+    → TellsLine Tells shown front b old new
+line_spelled Tells shown front digits room old new h tells b is =
     let same : room ≡ b = let both : Ok room ≡ Ok b = sym h ∙ is in cc in
-    subst (λ x. TellsLine shown front x old new) same tells
+    subst (λ x. TellsLine Tells shown front x old new) same tells
 
-pub line_nothex : (shown : Shown) (front digits old new : List ℕ) (e : FromHexError)
-    → decode_of digits ≡ Err e → (b : List ℕ) → decode_of digits ≡ Ok b → TellsLine shown front b old new
-line_nothex shown front digits old new e h b is = let clash : Err e ≡ Ok b = sym h ∙ is in absurd cc
+pub line_nothex : {R : Type 0} (Tells : Telling) (shown : Shown R) (front digits old new : List ℕ) (e : FromHexError)
+    → decode_of digits ≡ Err e → (b : List ℕ) → decode_of digits ≡ Ok b → TellsLine Tells shown front b old new
+line_nothex Tells shown front digits old new e h b is = let clash : Err e ≡ Ok b = sym h ∙ is in absurd cc
 
 -- the answer to a line of digits that spell no bytes, without words
 pub not_hex_line : with_lf (whole_object (nothex_member ∷ [])) ≡ codes "{\"fault\":\"not-hex\"}\n"

@@ -5,3 +5,4 @@ mod Places
 mod Elements
 mod Forms
 mod Kept
+mod Leniently

@@ -11,7 +11,8 @@ use Rattle.std.specs.List.{flat_map}
 use Rattle.std.proofs.lemmas.List.Concat.{flat_map-append}
 use Rattle.json.specs.Token.{Token, begin_object, end_object, key, string, number}
 use Rattle.json.specs.Print.{print}
-use Rattle.nla_wire.specs.Frames.{IsBytes}
+use Rattle.nla_wire.specs.Frames.{Frame, IsBytes}
+use Rattle.nla_wire.specs.Grammar.{Agrees, Grammar}
 use Rattle.nla_wire.specs.declared.error.Cause.{Cause}
 use Rattle.nla_wire.proofs.Steps.{bytes_left}
 use Rattle.link_vals.specs.AddressFamilyTable.{address_family_of, address_family_number}
@@ -19,8 +20,14 @@ use Rattle.link_vals.specs.declared.address_family.AddressFamily.{AddressFamily}
 use Rattle.link_vals.proofs.Numbers.{address_family_below}
 use Rattle.link_msg.specs.Header.{header_of, IsHeader}
 use Rattle.link_msg.specs.declared.header.LinkHeader.{LinkHeader}
-use Rattle.link_msg.specs.Messages.{Means, read_message}
+use Rattle.link_msg.specs.Lenient.{MeansBy, MeansNoneLeniently, lenient_place, message_by, read_by}
+use Rattle.link_msg.specs.LenientTable.{lenient_lawful}
+use Rattle.link_msg.specs.Messages.{read_message}
+use Rattle.link_msg.specs.Tables.{attribute_place}
+use Rattle.link_msg.specs.declared.attribute.LinkAttribute.{LinkAttribute}
 use Rattle.link_msg.specs.declared.message.LinkMessage.{LinkMessage}
+use Rattle.link_msg.proofs.Leniently.{strict_is_lenient}
+use Rattle.link_msg.proofs.MessagesBy.{agrees_by}
 use Rattle.link_msg.proofs.Reading.{message_agrees}
 use Rattle.line_filter.specs.Lines.{AnswersEach}
 use Rattle.shown.specs.Drafts.{Draft}
@@ -30,7 +37,9 @@ use Rattle.shown.proofs.Pages.{page_new, page_value, page_text, object_found}
 use Rattle.message_shown.specs.Causes.{cause_text}
 use Rattle.shown.proofs.Lines.{decimal_on_line}
 use Rattle.line_filter.specs.Words.{are_alone, digits_of, front_of, rest_of, words_of}
-use Rattle.message_shown.specs.Lines.{IsAnswer, IsAnswerTo, IsAnswerToSpelled, head, whole_object, nothex_member}
+use Rattle.message_shown.specs.Leniently.{IsLenientAnswerTo}
+use Rattle.message_shown.specs.Lines.{Answering, AnswersAll, IsAnswer, IsAnswerTo, IsAnswerToSpelled, head}
+use Rattle.message_shown.specs.Lines.{whole_object, nothex_member}
 use Rattle.message_shown.specs.Worded.{word_text, strings, words_shown}
 
 first_small : (h : List ℕ) → IsBytes h → slice_index h 0 < 2 ^ 64
@@ -46,9 +55,9 @@ header_small h v bytes is =
     subst (λ (f : AddressFamily). address_family_number f < 2 ^ 64) (sym family)
     (address_family_below (slice_index h 0) 64 (first_small h bytes))
 
-family_small : (b : List ℕ) (m : LinkMessage) → IsBytes b → Means b m
-    → address_family_number m.header.interface_family < 2 ^ 64
-family_small b m bytes k = header_small k.0 m.header (bytes_left k.0 k.1 (subst IsBytes k.2 bytes)) k.3
+family_small : (place : AddressFamily → Grammar Frame LinkAttribute) (b : List ℕ) (m : LinkMessage) → IsBytes b
+    → MeansBy place b m → address_family_number m.header.interface_family < 2 ^ 64
+family_small place b m bytes k = header_small k.0 m.header (bytes_left k.0 k.1 (subst IsBytes k.2 bytes)) k.3
 
 -- ** the least answer with words in front
 words_page : (words : List (List ℕ × List ℕ)) (ts : List Token) → IsPage ts Object []
@@ -87,7 +96,7 @@ by_reading words b bytes (Ok m) is = (
   _,
   IsAnswerTo.message m (message_agrees.found b m bytes is)
       (least words (codes "ifi-family") (number (decimal (address_family_number m.header.interface_family)))
-      (λ _. refl) (decimal_on_line _ (family_small b m bytes (message_agrees.found b m bytes is)))),
+      (λ _. refl) (decimal_on_line _ (family_small attribute_place b m bytes (message_agrees.found b m bytes is)))),
 )
 by_reading words b bytes (Err c) is = (
   _,
@@ -95,22 +104,60 @@ by_reading words b bytes (Err c) is = (
       (least words (codes "fault") (string (cause_text c)) (λ _. refl) tt),
 )
 
+pub all_answered : AnswersAll IsAnswerTo
+all_answered words b bytes = by_reading words b bytes (read_message b) refl
+
+-- ** what is read leniently
+
+by_fault : (words : List (List ℕ × List ℕ)) (b : List ℕ) → IsBytes b → MeansNoneLeniently b
+    → (r : Result LinkMessage Cause) → read_message b ≡ r
+    → (answer : List ℕ) × IsLenientAnswerTo (strings words) b answer
+by_fault words b bytes none (Ok m) is =
+    absurd (none m (strict_is_lenient b m (message_agrees.found b m bytes is)))
+by_fault words b bytes none (Err c) is = (
+  _,
+  IsLenientAnswerTo.fault c (message_agrees.fault b c bytes is) none
+      (least words (codes "fault") (string (cause_text c)) (λ _. refl) tt),
+)
+
+read_leniently : Agrees IsBytes (message_by lenient_place)
+read_leniently = agrees_by lenient_place lenient_lawful
+
+by_lenient_reading : (words : List (List ℕ × List ℕ)) (b : List ℕ) → IsBytes b → (r : Result LinkMessage Cause)
+    → read_by lenient_place b ≡ r → (answer : List ℕ) × IsLenientAnswerTo (strings words) b answer
+by_lenient_reading words b bytes (Ok m) is =
+    let means = read_leniently.found b m bytes is in (
+      _,
+      IsLenientAnswerTo.message m means
+          (least words (codes "ifi-family") (number (decimal (address_family_number m.header.interface_family)))
+          (λ _. refl) (decimal_on_line _ (family_small lenient_place b m bytes means))),
+    )
+by_lenient_reading words b bytes (Err c) is =
+    by_fault words b bytes (λ m means. let clash : Err c ≡ Ok m = sym is ∙ read_leniently.only b m means in absurd cc)
+    (read_message b) refl
+
+pub all_answered_leniently : AnswersAll IsLenientAnswerTo
+all_answered_leniently words b bytes = by_lenient_reading words b bytes (read_by lenient_place b) refl
+
+-- ** of a line
+
 -- the bytes that digits spell are bytes
 spelled_bytes : (b : List ℕ) → hex.IsBytes b → IsBytes b
 spelled_bytes [] h = tt
 spelled_bytes (x ∷ b) h = (h 0, spelled_bytes b (λ i. h (suc i)))
 
-by_spelling : (words : List (List ℕ × List ℕ)) (digits : List ℕ) (r : Result (List ℕ) FromHexError)
-    → decode_of digits ≡ r → (answer : List ℕ) × IsAnswerToSpelled (strings words) (decode_of digits) answer
-by_spelling words digits (Ok b) is =
-    let some = by_reading words b (spelled_bytes b (decode_of-ok digits b is).3) (read_message b) refl in (
+by_spelling : (To : Answering) → AnswersAll To → (words : List (List ℕ × List ℕ)) (digits : List ℕ)
+    (r : Result (List ℕ) FromHexError) → decode_of digits ≡ r
+    → (answer : List ℕ) × IsAnswerToSpelled To (strings words) (decode_of digits) answer
+by_spelling To all words digits (Ok b) is =
+    let some = all words b (spelled_bytes b (decode_of-ok digits b is).3) in (
       some.0,
-      subst (λ (t : Result (List ℕ) FromHexError). IsAnswerToSpelled (strings words) t some.0) (sym is) some.1,
+      subst (λ (t : Result (List ℕ) FromHexError). IsAnswerToSpelled To (strings words) t some.0) (sym is) some.1,
     )
-by_spelling words digits (Err e) is =
+by_spelling To all words digits (Err e) is =
     let answer : List ℕ = whole_object (strings words ++ nothex_member ∷ []) in (
       answer,
-      subst (λ (t : Result (List ℕ) FromHexError). IsAnswerToSpelled (strings words) t answer) (sym is) refl,
+      subst (λ (t : Result (List ℕ) FromHexError). IsAnswerToSpelled To (strings words) t answer) (sym is) refl,
     )
 
 by_words : (b : Bool) (alone : List ℕ) (P : List ℕ → Type 0) → (answer : List ℕ) × P answer
@@ -118,10 +165,10 @@ by_words : (b : Bool) (alone : List ℕ) (P : List ℕ → Type 0) → (answer :
 by_words true alone P some = (alone, refl)
 by_words false alone P some = some
 
-pub each_answered : AnswersEach IsAnswer
-each_answered line =
+pub each_answered : (To : Answering) → AnswersAll To → AnswersEach (IsAnswer To)
+each_answered To all line =
     let front : List ℕ = front_of line in
     let digits : List ℕ = digits_of (rest_of line) in
     by_words (are_alone front (rest_of line)) (whole_object (words_shown front))
-    (IsAnswerToSpelled (words_shown front) (decode_of digits))
-    (by_spelling (words_of front) digits (decode_of digits) refl)
+    (IsAnswerToSpelled To (words_shown front) (decode_of digits))
+    (by_spelling To all (words_of front) digits (decode_of digits) refl)

@@ -12,3 +12,4 @@ pub mod Nests
 pub mod Settings
 pub mod Attributes
 pub mod Forms
+pub mod Leniently

@@ -5,6 +5,7 @@ use Rattle.hex.specs.Hex.{decode_of}
 use Rattle.hex.specs.declared.error.FromHexError.{FromHexError}
 use Rattle.json.specs.Token.{Token, begin_object, key, string}
 use Rattle.json.specs.Print.{print}
+use Rattle.nla_wire.specs.Frames.{IsBytes}
 use Rattle.nla_wire.specs.declared.error.Cause.{Cause}
 use Rattle.link_vals.specs.AddressFamilyTable.{address_family_number}
 use Rattle.link_msg.specs.Messages.{Means, FirstFault}
@@ -16,8 +17,7 @@ use Rattle.shown.specs.Values.{numbered}
 use Rattle.line_filter.specs.Lines.{with_lf}
 use Rattle.line_filter.specs.Steps as steps
 use Rattle.line_filter.specs.Words.{are_alone, digits_of, front_of, rest_of}
-use Rattle.message_shown.specs.Worded.{words_shown, order_for}
-use Rattle.message_shown.specs.Attributes.{TellsMessage}
+use Rattle.message_shown.specs.Worded.{strings, words_shown, order_for}
 use Rattle.message_shown.specs.declared.context.Context.{Context}
 use Rattle.message_shown.specs.declared.answers.Shown.{Shown}
 
@@ -44,6 +44,15 @@ pub data IsAnswerTo (words : Members) (bytes answer : List ℕ) : Type 0 where
   fault : (c : Cause) → FirstFault bytes c → IsObject (fault_head words c) answer → IsAnswerTo words bytes answer
   message : (m : LinkMessage) → Means bytes m → IsObject (message_head words m) answer → IsAnswerTo words bytes answer
 
+-- an answer to bytes with words in front of them: the words, the bytes, the answer
+abbrev pub Answering : Type 1
+Answering = Members → List ℕ → List ℕ → Type 0
+
+-- all bytes have one, whatever the words
+abbrev pub AnswersAll : Answering → Type 0
+AnswersAll To = (words : List (List ℕ × List ℕ)) (b : List ℕ) → IsBytes b
+    → (answer : List ℕ) × To (strings words) b answer
+
 -- the object of these members and no other one
 abbrev pub whole_object : Members → List ℕ
 whole_object members = print (object_of members)
@@ -53,47 +62,51 @@ abbrev pub nothex_member : List ℕ × List Token
 nothex_member = (codes "fault", string (codes "not-hex") ∷ [])
 
 -- a line that is no even number of hexadecimal digits spells no bytes
-abbrev pub IsAnswerToSpelled : Members → Result (List ℕ) FromHexError → List ℕ → Type 0
-IsAnswerToSpelled words (Ok bytes) answer = IsAnswerTo words bytes answer
-IsAnswerToSpelled words (Err _) answer = answer ≡ whole_object (words ++ nothex_member ∷ [])
+abbrev pub IsAnswerToSpelled : Answering → Members → Result (List ℕ) FromHexError → List ℕ → Type 0
+IsAnswerToSpelled To words (Ok bytes) answer = To words bytes answer
+IsAnswerToSpelled To words (Err _) answer = answer ≡ whole_object (words ++ nothex_member ∷ [])
 
 -- what a line with these words and this rest is answered: words alone are no message, and are shown alone
-abbrev pub IsAnswerOf : List ℕ → List ℕ → List ℕ → Type 0
-IsAnswerOf front rest answer = MatchBool (are_alone front rest) (answer ≡ whole_object (words_shown front))
-    (IsAnswerToSpelled (words_shown front) (decode_of (digits_of rest)) answer)
+abbrev pub IsAnswerOf : Answering → List ℕ → List ℕ → List ℕ → Type 0
+IsAnswerOf To front rest answer = MatchBool (are_alone front rest) (answer ≡ whole_object (words_shown front))
+    (IsAnswerToSpelled To (words_shown front) (decode_of (digits_of rest)) answer)
 
 -- what a line is answered
-abbrev pub IsAnswer : List ℕ → List ℕ → Type 0
-IsAnswer line answer = IsAnswerOf (front_of line) (rest_of line) answer
+abbrev pub IsAnswer : Answering → List ℕ → List ℕ → Type 0
+IsAnswer To line answer = IsAnswerOf To (front_of line) (rest_of line) answer
 
 -- the answer to a line that spells these bytes was added
-abbrev pub AddsAnswerTo : Members → List ℕ → List ℕ → List ℕ → Type 0
-AddsAnswerTo words bytes old new = (answer : List ℕ) × IsAnswerTo words bytes answer × (new ≡ old ++ with_lf answer)
+abbrev pub AddsAnswerTo : Answering → Members → List ℕ → List ℕ → List ℕ → Type 0
+AddsAnswerTo To words bytes old new = (answer : List ℕ) × To words bytes answer × (new ≡ old ++ with_lf answer)
 
 -- and to digits
-abbrev pub AddsSpelled : Members → List ℕ → List ℕ → List ℕ → Type 0
-AddsSpelled words digits old new =
-    (answer : List ℕ) × IsAnswerToSpelled words (decode_of digits) answer × (new ≡ old ++ with_lf answer)
+abbrev pub AddsSpelled : Answering → Members → List ℕ → List ℕ → List ℕ → Type 0
+AddsSpelled To words digits old new =
+    (answer : List ℕ) × IsAnswerToSpelled To words (decode_of digits) answer × (new ≡ old ++ with_lf answer)
 
 -- and to what stands in a line
-abbrev pub AddsAnswerOf : List ℕ → List ℕ → List ℕ → List ℕ → Type 0
-AddsAnswerOf front rest old new = (answer : List ℕ) × IsAnswerOf front rest answer × (new ≡ old ++ with_lf answer)
+abbrev pub AddsAnswerOf : Answering → List ℕ → List ℕ → List ℕ → List ℕ → Type 0
+AddsAnswerOf To front rest old new = (answer : List ℕ) × IsAnswerOf To front rest answer × (new ≡ old ++ with_lf answer)
 
 -- the answer to the line was added
-abbrev pub AddsAnswer : List ℕ → List ℕ → List ℕ → Type 0
-AddsAnswer = steps.AddsAnswer IsAnswer
+abbrev pub AddsAnswer : Answering → List ℕ → List ℕ → List ℕ → Type 0
+AddsAnswer To = steps.AddsAnswer (IsAnswer To)
 
 -- ** which tokens are added
 
 -- what attributes of a line with these words are shown by: the tables, and the order that the words say
-pub record IsContextOf (shown : Shown) (front : List ℕ) (cx : Context) : Type 0 where
+pub record IsContextOf {R : Type 0} (shown : Shown R) (front : List ℕ) (cx : Context) : Type 0 where
   pub tables : cx.tables.now ≡ shown.tables
   pub order : cx.order ≡ order_for front shown.order
   pub link : cx.link_place ≡ None
   pub port : cx.port_place ≡ None
   pub address : cx.address_len ≡ 0
 
--- where the bytes mean a message, the text of its members was added
-abbrev pub TellsLine : Shown → List ℕ → List ℕ → List ℕ → List ℕ → Type 0
-TellsLine shown front bytes old new =
-    (cx : Context) × IsContextOf shown front cx × TellsMessage (words_shown front) cx bytes old new
+-- what is added for bytes with words in front of them: the words, what they are shown by, the bytes, old and new
+abbrev pub Telling : Type 1
+Telling = Members → Context → List ℕ → List ℕ → List ℕ → Type 0
+
+-- this was added for the bytes of a line with these words
+abbrev pub TellsLine : {R : Type 0} → Telling → Shown R → List ℕ → List ℕ → List ℕ → List ℕ → Type 0
+TellsLine Tells shown front bytes old new =
+    (cx : Context) × IsContextOf shown front cx × Tells (words_shown front) cx bytes old new

@@ -5,7 +5,7 @@ ghost use Rattle.hex.specs.Hex.{decode_of};
 ghost use Rattle.nla_wire.specs.declared.error.Cause.TheVariants.{OutOfMemory};
 ghost use Rattle.link_msg.specs.Messages.{Means, FirstFault};
 ghost use Rattle.link_msg.specs.declared.message.LinkMessage.{LinkMessage};
-ghost use Rattle.message_shown.specs.Lines.{IsAnswer, AddsAnswerOf, AddsAnswerTo, AddsSpelled};
+ghost use Rattle.message_shown.specs.Lines.{IsAnswer, IsAnswerTo, AddsAnswerOf, AddsAnswerTo, AddsSpelled};
 ghost use Rattle.message_shown.specs.Lines.{whole_object, nothex_member, TellsLine};
 ghost use Rattle.shown.specs.Drafts.{empty_object, with_members};
 ghost use Rattle.shown.specs.Marks.{IsMarkedText};
@@ -19,6 +19,7 @@ use crate::attribute::show_header;
 use crate::context::{Context, Order};
 use crate::fault::show_fault;
 use crate::member::show_members;
+use crate::reading::Reading;
 use crate::wire::cause_name;
 use crate::worded::{order_for, show_words};
 use line_filter::answers::Answer;
@@ -32,17 +33,19 @@ use std::mem;
 
 /// Answers lines by what they say, with room for the bytes of one line and for the page of its answer.
 #[derive(Drop)]
-pub struct Shown {
+pub struct Shown<R: Reading> {
+    reading: R,
     message: Vec<u8>,
     room: Room,
     tables: Tables,
     order: Order,
 }
 
-impl Shown {
-    /// Counters of IPv6 have this order, where a line does not say another one.
-    pub fn new(alloc: Global, order: Order) -> Shown {
+impl<R: Reading> Shown<R> {
+    /// Bytes are read so. Counters of IPv6 have this order, where a line does not say another one.
+    pub fn new(alloc: Global, reading: R, order: Order) -> Shown<R> {
         Shown {
+            reading,
             message: Vec::new(alloc),
             room: Room::new(alloc),
             tables: all_rows(),
@@ -51,7 +54,7 @@ impl Shown {
     }
 }
 
-impl Shown {
+impl<R: Reading> Shown<R> {
     /// Adds the answer to a line that spells these bytes.
     fn push_message(
         &mut self,
@@ -60,15 +63,15 @@ impl Shown {
         bytes: &[u8],
         waiting: &mut Vec<u8>,
     ) -> Result<(), AllocError>
-        ensures answer { OnOk result (AddsAnswerTo (words_shown front.now) bytes.now
+        ensures answer { OnOk result (AddsAnswerTo R.is_answer (words_shown front.now) bytes.now
             waiting.old.items waiting.new.items) }
-        ensures told { OnOk result (TellsLine self.old front.now bytes.now
+        ensures told { OnOk result (TellsLine R.tells self.old front.now bytes.now
             waiting.old.items waiting.new.items) }
     {
         let tables = self.tables;
         let cx = Context::new(alloc, &tables, order_for(front, self.order));
         let mut room = mem::replace(&mut self.room, Room::new(alloc));
-        let done = push_bytes_in(&cx, &mut room, waiting, front, bytes);
+        let done = self.reading.push(&cx, &mut room, waiting, front, bytes);
         self.room = room;
         done
     }
@@ -84,9 +87,10 @@ impl Shown {
     ) -> Result<(), AllocError>
         requires { length message.old ≡ length digits.now / 2 }
         ensures answer { OnOk result
-            (AddsSpelled (words_shown front.now) digits.now waiting.old.items waiting.new.items) }
+            (AddsSpelled R.is_answer (words_shown front.now) digits.now
+            waiting.old.items waiting.new.items) }
         ensures told { OnOk result ((bytes : List ℕ) → decode_of digits.now ≡ Ok bytes
-            → TellsLine self.old front.now bytes waiting.old.items waiting.new.items) }
+            → TellsLine R.tells self.old front.now bytes waiting.old.items waiting.new.items) }
     {
         if !decode(digits, values(), message) {
             return push_not_hex(alloc, &mut self.room, waiting, front);
@@ -104,10 +108,10 @@ impl Shown {
         waiting: &mut Vec<u8>,
     ) -> Result<(), AllocError>
         ensures answer { OnOk result
-            (AddsAnswerOf front.now rest.now waiting.old.items waiting.new.items) }
+            (AddsAnswerOf R.is_answer front.now rest.now waiting.old.items waiting.new.items) }
         ensures told { OnOk result ((bytes : List ℕ) → are_alone front.now rest.now ≡ false
             → decode_of (digits_of rest.now) ≡ Ok bytes
-            → TellsLine self.old front.now bytes waiting.old.items waiting.new.items) }
+            → TellsLine R.tells self.old front.now bytes waiting.old.items waiting.new.items) }
     {
         if are_alone(front, rest) {
             return push_alone(alloc, &mut self.room, waiting, front);
@@ -118,8 +122,8 @@ impl Shown {
     }
 }
 
-impl Answer for Shown {
-    ghost is_answer = { IsAnswer };
+impl<R: Reading> Answer for Shown<R> {
+    ghost is_answer = { IsAnswer R.is_answer };
 
     fn push(
         &mut self,
@@ -134,11 +138,11 @@ impl Answer for Shown {
         done
     }
 
-    ghost has = { each_answered };
+    ghost has = { each_answered R.is_answer R.has };
 }
 
 /// Adds what a message says.
-fn show_message(
+pub(crate) fn show_message(
     cx: &Context<'_>,
     page: &mut Page,
     bytes: &[u8],
@@ -156,7 +160,7 @@ fn show_message(
 }
 
 /// Adds the answer to a line that spells this message.
-fn push_message(
+pub(crate) fn push_message(
     cx: &Context<'_>,
     room: &mut Room,
     waiting: &mut Vec<u8>,
@@ -166,7 +170,8 @@ fn push_message(
 ) -> Result<(), AllocError>
     requires { Means bytes.now message.now }
     ensures answer { OnOk result
-        (AddsAnswerTo (words_shown front.now) bytes.now waiting.old.items waiting.new.items) }
+        (AddsAnswerTo IsAnswerTo (words_shown front.now) bytes.now
+        waiting.old.items waiting.new.items) }
     ensures told { OnOk result (waiting.new.items ≡ waiting.old.items
         ++ with_lf (message_line (words_shown front.now) cx.now bytes.now message.now)) }
 {
@@ -179,7 +184,7 @@ fn push_message(
 }
 
 /// Adds the answer to a line whose bytes are refused for this cause.
-fn push_fault(
+pub(crate) fn push_fault(
     cx: &Context<'_>,
     room: &mut Room,
     waiting: &mut Vec<u8>,
@@ -189,7 +194,8 @@ fn push_fault(
 ) -> Result<(), AllocError>
     requires { FirstFault bytes.now error.now.cause }
     ensures { OnOk result
-        (AddsAnswerTo (words_shown front.now) bytes.now waiting.old.items waiting.new.items) }
+        (AddsAnswerTo IsAnswerTo (words_shown front.now) bytes.now
+        waiting.old.items waiting.new.items) }
 {
     let mut page = room.begin()?;
     show_words(cx.alloc, &mut page, front)?;
@@ -295,7 +301,8 @@ pub fn push_bytes(
     bytes: &[u8],
 ) -> Result<(), AllocError>
     ensures answer { OnOk result
-        (AddsAnswerTo (words_shown front.now) bytes.now waiting.old.items waiting.new.items) }
+        (AddsAnswerTo IsAnswerTo (words_shown front.now) bytes.now
+        waiting.old.items waiting.new.items) }
     ensures told { OnOk result (TellsMessage (words_shown front.now) cx.now bytes.now
         waiting.old.items waiting.new.items) }
 {
@@ -311,7 +318,8 @@ pub fn push_bytes_in(
     bytes: &[u8],
 ) -> Result<(), AllocError>
     ensures answer { OnOk result
-        (AddsAnswerTo (words_shown front.now) bytes.now waiting.old.items waiting.new.items) }
+        (AddsAnswerTo IsAnswerTo (words_shown front.now) bytes.now
+        waiting.old.items waiting.new.items) }
     ensures told { OnOk result (TellsMessage (words_shown front.now) cx.now bytes.now
         waiting.old.items waiting.new.items) }
 {
@@ -333,7 +341,8 @@ pub fn push_answer(
     waiting: &mut Vec<u8>,
     bytes: &[u8],
 ) -> Result<(), AllocError>
-    ensures { OnOk result (AddsAnswerTo [] bytes.now waiting.old.items waiting.new.items) }
+    ensures { OnOk result
+        (AddsAnswerTo IsAnswerTo [] bytes.now waiting.old.items waiting.new.items) }
 {
     let tables = all_rows();
     push_bytes(&Context::new(alloc, &tables, order), waiting, &[], bytes)

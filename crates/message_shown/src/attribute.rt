@@ -103,7 +103,7 @@ fn row_at(rows: &[(&'static str, Form)], number: usize) -> (&'static str, Form)
 
 /// The name and the form of an attribute of this kind.
 #[inline(always)]
-fn row_of(kind: u16) -> (&'static str, Form)
+pub fn row_of(kind: u16) -> (&'static str, Form)
     ensures name { result.0.now ≡ name_of kind }
     ensures form { result.1 ≡ form_of kind }
 {

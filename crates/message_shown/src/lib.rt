@@ -8,12 +8,16 @@ pub mod context;
 mod counts;
 mod fault;
 mod form;
+pub mod laws;
+mod lenient;
 mod member;
 mod names;
 mod nests;
+pub mod reading;
 mod rows;
 mod vf;
 mod wire;
 pub mod worded;
 
 pub use answers::Shown;
+pub use reading::{Lenient, Reading, Strict};

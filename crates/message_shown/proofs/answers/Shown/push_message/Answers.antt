@@ -3,11 +3,11 @@ use Rattle.std.proofs.lemmas.Result.{on_ok_weaker}
 use Rattle.message_shown.proofs.answers.Shown.push_message.Goals as goal
 
 pub returns-clause-answer : goal.returns-clause-answer
-returns-clause-answer c = on_ok_weaker c.push_bytes_in-done.result (λ s. s) c.push_bytes_in-done.ensures.answer
+returns-clause-answer g c = on_ok_weaker c.push-done.result (λ s. s) c.push-done.ensures.answer
 
 pub returns-clause-told : goal.returns-clause-told
-returns-clause-told c =
-    on_ok_weaker c.push_bytes_in-done.result
+returns-clause-told g c =
+    on_ok_weaker c.push-done.result
     (λ s. (
       c.new-cx.result,
       record {
@@ -19,4 +19,4 @@ returns-clause-told c =
       },
       s,
     ))
-    c.push_bytes_in-done.ensures.told
+    c.push-done.ensures.told

@@ -1,0 +1,279 @@
+-- Bytes that are read leniently: which they are, and what their answers hold.
+use Rattle.std.proofs.Common.{◌≡◌, ℕ, ◌+◌, ◌<◌, ◌≤◌, Bool, true, false, List, [], ◌∷◌, ◌++◌, length, take, drop, refl}
+use Rattle.std.proofs.Common.{sym, ap, ◌∙◌, subst, arith, inl, inr, append-nil, append_assoc, length-append}
+use Rattle.std.specs.Prelude.{Result, Ok, Err, Option, Some, None, codes, decimal}
+use Rattle.std.proofs.lemmas.List.Sums.{fold-append}
+use Rattle.json.specs.Token.{number, string}
+use Rattle.std.proofs.Math.Seq.{take-append_seam, drop-append_seam}
+use Rattle.std.proofs.lemmas.List.{take-append-drop}
+use Rattle.nla_wire.specs.Frames.{Frame, Frames, IsBytes}
+use Rattle.nla_wire.specs.Grammar.{Every}
+use Rattle.nla_wire.specs.Items.{Item, items, all_frames}
+use Rattle.nla_wire.specs.declared.error.Cause.{Cause}
+use Rattle.nla_wire.proofs.Cuts.{frames_not_fault}
+use Rattle.nla_wire.proofs.Items.{items_are, items_next, items_nil}
+use Rattle.nla_wire.proofs.Steps.{bytes_right, step_whole}
+use Rattle.link_info.specs.Styles.{are_frames}
+use Rattle.link_vals.specs.declared.address_family.AddressFamily.{AddressFamily}
+use Rattle.link_msg.specs.Header.{header_size, header_of}
+use Rattle.link_msg.specs.Lenient.{MeansLeniently, MeansNoneLeniently, lenient_place}
+use Rattle.link_msg.specs.Messages.{Means, FirstFault, MeansNothing}
+use Rattle.link_msg.specs.Tables.{attribute_place, attribute_lawful}
+use Rattle.link_msg.specs.FaultPath.{numbers_to}
+use Rattle.link_msg.specs.Told.{Told, after, told_all, told_on}
+use Rattle.link_msg.specs.Told.{told as told_in}
+use Rattle.link_msg.specs.declared.fault_path.FaultPath.{FaultPath}
+use Rattle.link_msg.specs.declared.attribute.LinkAttribute.{LinkAttribute}
+use Rattle.link_msg.specs.declared.header.LinkHeader.{LinkHeader}
+use Rattle.link_msg.specs.declared.message.LinkMessage.{LinkMessage}
+use Rattle.link_msg.proofs.Leniently.{strict_is_lenient, fitting_is_read, one_lenient}
+use Rattle.link_msg.proofs.MessagesBy.{is_header}
+use Rattle.line_filter.specs.Lines.{with_lf}
+use Rattle.shown.specs.Drafts.{Draft, Members, empty_object, object_of, with_members, with_value}
+use Rattle.shown.specs.Pages.{AddsText}
+use Rattle.shown.specs.Values.{numbered}
+use Rattle.shown.proofs.Pages.{object_found}
+use Rattle.message_shown.specs.Attributes.{message_members}
+use Rattle.message_shown.specs.Causes.{cause_members, cause_text}
+use Rattle.message_shown.specs.Leniently.{taken, in_front, accepted, accepted_part, ReadsAccepted, AreTold}
+use Rattle.message_shown.specs.Leniently.{IsSplit, EachIsTold}
+use Rattle.message_shown.specs.Leniently.{AddsOne, AddsTold, IsLenientAnswerTo, TellsRefused, frame_told, lenient_line}
+use Rattle.message_shown.specs.Leniently.{refusal_members, refused_member}
+use Rattle.message_shown.specs.Lines.{AddsAnswerTo, IsAnswerTo, family_member, head, whole_object}
+use Rattle.message_shown.specs.Places.{objects}
+use Rattle.message_shown.specs.declared.context.Context.{Context}
+use Rattle.message_shown.proofs.Added.{begins, lf_after, means_nothing, object_told}
+use Rattle.message_shown.proofs.Places.{both_added}
+
+-- ** which bytes mean a message leniently
+
+-- the front of its bytes is its header
+header_is : (b : List ℕ) (m : LinkMessage) → MeansLeniently b m → m.header ≡ header_of (take header_size b)
+header_is b m (h, c, whole, header, means) =
+    header.says ∙ ap header_of (sym (ap (take header_size) whole ∙ ap (λ n. take n (h ++ c)) (sym header.size)
+    ∙ take-append_seam h c))
+
+after_is : (b h c : List ℕ) → b ≡ h ++ c → length h ≡ header_size → drop header_size b ≡ c
+after_is b h c whole size =
+    ap (drop header_size) whole ∙ ap (λ n. drop n (h ++ c)) (sym size) ∙ drop-append_seam h c
+
+pub none_short : (b : List ℕ) → length b < header_size → MeansNoneLeniently b
+none_short b short m (h, c, whole, header, means) =
+    absurd (omega (arith, short, ap (λ (x : List ℕ). length x) whole, length-append h c, header.size))
+
+pub long_enough : (b : List ℕ) (m : LinkMessage) → MeansLeniently b m → header_size ≤ length b
+long_enough b m (h, c, whole, header, means) =
+    omega (arith, ap (λ (x : List ℕ). length x) whole, length-append h c, header.size)
+
+frames_whole : (fs : List Frame) → are_frames (all_frames fs) ≡ true
+frames_whole [] = refl
+frames_whole (f ∷ fs) = frames_whole fs
+
+fault_breaks : (fs : List Frame) (c : Cause) → are_frames (all_frames fs ++ Err c ∷ []) ≡ false
+fault_breaks [] c = refl
+fault_breaks (f ∷ fs) c = fault_breaks fs c
+
+bytes_after : (b : List ℕ) → IsBytes b → IsBytes (drop header_size b)
+bytes_after b bytes = bytes_right (take header_size b) (drop header_size b)
+    (subst IsBytes (sym (take-append-drop header_size b)) bytes)
+
+-- bytes that are no frame stand among them
+pub none_stray : (b : List ℕ) → IsBytes b → are_frames (items (drop header_size b)) ≡ false → MeansNoneLeniently b
+none_stray b bytes stray m (h, c, whole, header, (fs, frames, every)) =
+    let d = drop header_size b in
+    let framed : Frames d fs = subst (λ x. Frames x fs) (sym (after_is b h c whole header.size)) frames in
+    elim (items_are d (bytes_after b bytes)) [
+      | inl (gs, _, is) ↦
+          (let clash : true ≡ false = sym (frames_whole gs) ∙ ap are_frames (sym is) ∙ stray in absurd cc)
+      | inr (gs, cause, fault, _) ↦ absurd (frames_not_fault d fs gs cause framed fault)
+    ]
+
+pub meant_whole : (b : List ℕ) → IsBytes b → header_size ≤ length b → are_frames (items (drop header_size b)) ≡ true
+    → (m : LinkMessage) × MeansLeniently b m
+meant_whole b bytes long whole =
+    let h = take header_size b in
+    let d = drop header_size b in
+    let parts : h ++ d ≡ b = take-append-drop header_size b in
+    elim (items_are d (bytes_after b bytes)) [
+      | inl (fs, frames, _) ↦
+          (let it = fitting_is_read h d fs (subst IsBytes (sym parts) bytes)
+          (is_header b long).size frames in
+          (it.0, subst (λ x. MeansLeniently x it.0) parts it.1))
+      | inr (fs, cause, _, is) ↦
+          (let clash : false ≡ true = sym (fault_breaks fs cause) ∙ ap are_frames (sym is) ∙ whole in absurd cc)
+    ]
+
+-- what is read of frames that fit
+pub accepted_whole : (b : List ℕ) (v : LinkHeader) (vs : List LinkAttribute) → IsBytes b → header_size ≤ length b
+    → are_frames (items (drop header_size b)) ≡ true → v ≡ header_of (take header_size b)
+    → vs ≡ accepted v.interface_family (items (drop header_size b))
+    → ReadsAccepted b (Some (record { header = v; attributes = vs }))
+accepted_whole b v vs bytes long whole says read =
+    let it = meant_whole b bytes long whole in
+    let same : v ≡ it.0.header = says ∙ sym (header_is b it.0 it.1) in
+    let all = read ∙ ap (λ (x : LinkHeader). accepted x.interface_family (items (drop header_size b))) same in
+    (it.0, it.1, λ k. record { header = same k; attributes = all k })
+
+-- ** the attributes that are accepted
+
+-- the next frame, and those behind it
+pub next_accepted : (family : AddressFamily) (f : Frame) (o : Option LinkAttribute) (left rest : List Item)
+    (front all : List LinkAttribute) → left ≡ Ok f ∷ rest
+    → ((vs : List LinkAttribute) → taken ((attribute_place family).reads f) vs ≡ in_front o vs)
+    → front ++ accepted family left ≡ all → front ++ in_front o (accepted family rest) ≡ all
+next_accepted family f o left rest front all is read so_far =
+    ap (λ vs. front ++ vs) (sym (read (accepted family rest)))
+    ∙ ap (λ (xs : List Item). front ++ accepted family xs) (sym is) ∙ so_far
+
+pub one_accepted : (family : AddressFamily) (f : Frame) (v : LinkAttribute) (left rest : List Item)
+    (front all : List LinkAttribute) → left ≡ Ok f ∷ rest
+    → ((vs : List LinkAttribute) → taken ((attribute_place family).reads f) vs ≡ v ∷ vs)
+    → front ++ accepted family left ≡ all → (front ++ v ∷ []) ++ accepted family rest ≡ all
+one_accepted family f v left rest front all is read so_far =
+    append_assoc front (v ∷ []) (accepted family rest)
+    ∙ next_accepted family f (Some v) left rest front all is read so_far
+
+-- ** nothing is left out
+
+split_on : (family : AddressFamily) (at : ℕ) (f : Frame) (v : LinkAttribute) (all vs : List LinkAttribute)
+    (ts : List Told) → (lenient_place family).means f v → IsSplit family all vs ts
+    → IsSplit family (v ∷ all) (taken ((attribute_place family).reads f) vs)
+    (told_on family at f ((attribute_place family).reads f) ts)
+split_on family at f v all vs ts (inl means) later =
+    subst (λ (r : Result LinkAttribute Cause). IsSplit family (v ∷ all) (taken r vs) (told_on family at f r ts))
+    (sym ((attribute_lawful family).agrees.only f v means)) (inl (vs, refl, later))
+split_on family at f v all vs ts (inr ((c, bad), is)) later =
+    subst (λ (r : Result LinkAttribute Cause). IsSplit family (v ∷ all) (taken r vs) (told_on family at f r ts))
+    (sym ((attribute_lawful family).agrees.refused f c bad)) (inr (f, at, c, ts, is, refl, later))
+
+split_list : (family : AddressFamily) (at : ℕ) (d : List ℕ) (fs : List Frame) (all : List LinkAttribute) → Frames d fs
+    → Every (lenient_place family).means fs all
+    → IsSplit family all (accepted family (items d)) (told_in family at (items d))
+split_list family at d [] [] frames every = (
+  ap (λ x. accepted family (items x)) frames ∙ ap (accepted family) items_nil,
+  ap (λ x. told_in family at (items x)) frames ∙ ap (told_in family at) items_nil,
+)
+split_list family at d [] (v ∷ all) frames every = absurd every
+split_list family at d (f ∷ fs) [] frames every = absurd every
+split_list family at d (f ∷ fs) (v ∷ all) (rest, begins, frames) every =
+    subst (λ (xs : List Item). IsSplit family (v ∷ all) (accepted family xs) (told_in family at xs))
+    (sym (items_next d f rest (step_whole d f rest begins)))
+    (split_on family at f v all (accepted family (items rest)) (told_in family (after at f) (items rest)) every.0
+    (split_list family (after at f) rest fs all frames every.1))
+
+pub each_is_told : EachIsTold
+unfolding told_all
+each_is_told b m (h, c, whole, header, (fs, frames, every)) =
+    let family = m.header.interface_family in
+    let d = drop header_size b in
+    let framed : Frames d fs = subst (λ x. Frames x fs) (sym (after_is b h c whole header.size)) frames in
+    subst (λ (v : LinkHeader). IsSplit family m.attributes (accepted family (items d))
+    (told_in v.interface_family header_size (items d)))
+    (header_is b m (h, c, whole, header, (fs, frames, every)))
+    (split_list family header_size d fs m.attributes framed every)
+
+-- ** answers
+
+-- an answer to a message, or to bytes that mean none leniently either
+pub leniently : (words : Members) (b answer : List ℕ) → (MeansNothing b → MeansNoneLeniently b)
+    → IsAnswerTo words b answer → IsLenientAnswerTo words b answer
+leniently words b answer none (IsAnswerTo.fault c fault o) =
+    IsLenientAnswerTo.fault c fault (none (λ m. means_nothing b c m fault)) o
+leniently words b answer none (IsAnswerTo.message m means o) =
+    IsLenientAnswerTo.message m (strict_is_lenient b m means) o
+
+pub added_leniently : (words : Members) (b old new : List ℕ) → (MeansNothing b → MeansNoneLeniently b)
+    → AddsAnswerTo IsAnswerTo words b old new → AddsAnswerTo IsLenientAnswerTo words b old new
+added_leniently words b old new none added = (added.0, leniently words b added.0 none added.1, added.2)
+
+-- what bytes mean is told as ever, and nothing of it is refused
+pub meant_none_refused : (words : Members) (cx : Context) (b old new : List ℕ) (m : LinkMessage) → Means b m
+    → TellsRefused words cx b old new
+meant_none_refused words cx b old new m means n leniently none = absurd (none m means)
+
+pub none_refused : (words : Members) (cx : Context) (b old new : List ℕ) → MeansNoneLeniently b
+    → TellsRefused words cx b old new
+none_refused words cx b old new none m leniently nothing = absurd (none m leniently)
+
+-- ** the attributes that are refused
+
+-- the members of one
+pub one_page : (place : List ℕ) (path : FaultPath) (t : Told) (begun named caused counted at page : Draft)
+    → named ≡ with_value (codes "at") (string place ∷ []) begun
+    → caused ≡ with_value (codes "fault") (string (cause_text t.cause) ∷ []) named
+    → counted ≡ with_members (cause_members t.cause) caused
+    → at ≡ with_value (codes "offset") (number (decimal path.offset) ∷ []) counted
+    → page ≡ with_members (frame_told (numbers_to path) t.frame) at
+    → page ≡ with_members (refusal_members place path t) begun
+one_page place path t begun named caused counted at page n c k o is =
+    let first = with_value (codes "fault") (string (cause_text t.cause) ∷ [])
+    (with_value (codes "at") (string place ∷ []) begun) in
+    let rest = frame_told (numbers_to path) t.frame in
+    is ∙ ap (with_members rest)
+    (o ∙ ap (λ (d : Draft). with_value (codes "offset") (number (decimal path.offset) ∷ []) d)
+    (k ∙ ap (with_members (cause_members t.cause))
+    (c ∙ ap (λ (d : Draft). with_value (codes "fault") (string (cause_text t.cause) ∷ []) d) n)))
+    ∙ sym (fold-append (λ (d : Draft) m. with_value m.0 m.1 d) first (cause_members t.cause)
+    (numbered (codes "offset") path.offset ∷ rest))
+
+objects_more : (os : List Members) (o : Members) → objects (os ++ o ∷ []) ≡ objects os ++ ([], object_of o) ∷ []
+objects_more [] o = refl
+objects_more (x ∷ os) o = ap (λ ms. ([], object_of x) ∷ ms) (objects_more os o)
+
+-- the members of those that were told, in front of those that are left
+abbrev pub Telling : List Told → List Told → Draft → Draft → Type 0
+Telling all left old page = (told : List Members) × (page ≡ with_members (objects told) old)
+    × ((more : List Members) → AreTold left more → AreTold all (told ++ more))
+
+pub telling_starts : (all left : List Told) (page : Draft) → left ≡ all → Telling all left page page
+telling_starts all left page is = ([], refl, λ more h. subst (λ ts. AreTold ts more) is h)
+
+pub one_told : (all left rest : List Told) (t : Told) (old page new : Draft) → left ≡ t ∷ rest → AddsOne t page new
+    → Telling all left old page → Telling all rest old new
+one_told all left rest t old page new is (ms, told, added) (done, so_far, go) = (
+  done ++ ms ∷ [],
+  both_added (objects done) (([], object_of ms) ∷ []) old page new so_far added
+      ∙ ap (λ os. with_members os old) (sym (objects_more done ms)),
+  λ more h. subst (AreTold all) (sym (append_assoc done (ms ∷ []) more))
+      (go (ms ∷ more) (subst (λ ts. AreTold ts (ms ∷ more)) (sym is) (told, h))),
+)
+
+pub telling_ends : (all left : List Told) (old page : Draft) → left ≡ [] → Telling all left old page
+    → AddsTold all old page
+telling_ends all left old page is (done, so_far, go) = (
+  done,
+  subst (AreTold all) (append-nil done) (go [] (subst (λ ts. AreTold ts []) (sym is) tt)),
+  so_far,
+)
+
+-- ** the line
+
+adds_leniently : (words more : Members) (page : Draft) (bytes old mid new : List ℕ) (m : LinkMessage)
+    → MeansLeniently bytes m → page ≡ with_members (words ++ family_member m ∷ more) empty_object
+    → AddsText page old mid → new ≡ mid ++ 10 ∷ [] → AddsAnswerTo IsLenientAnswerTo words bytes old new
+adds_leniently words more page bytes old mid new m means is s k = (
+  s.0,
+  IsLenientAnswerTo.message m means (object_found page (head words (family_member m)) _ s.0
+      (begins words more (family_member m) page is) s.1),
+  lf_after old s.0 mid new s.2 k,
+)
+
+module _ (words : Members) (cx : Context) (b old mid new : List ℕ) (part : LinkMessage) (told : List Members)
+    (page : Draft) (reads : ReadsAccepted b (Some part))
+    (is : page ≡ with_members (words ++ (message_members cx b part ++ refused_member told ∷ [])) empty_object)
+    (s : AddsText page old mid) (k : new ≡ mid ++ 10 ∷ []) where
+  pub accepted_answered : AddsAnswerTo IsLenientAnswerTo words b old new
+  accepted_answered =
+      adds_leniently words _ page b old mid new reads.0 reads.1
+      (is ∙ ap (λ (p : LinkMessage). with_members (words ++ (message_members cx b p ++ refused_member told ∷ []))
+      empty_object) reads.2) s k
+
+  pub accepted_told : AreTold (told_all b) told → TellsRefused words cx b old new
+  unfolding lenient_line
+  accepted_told are m means none = (
+    told,
+    are,
+    object_told (words ++ (message_members cx b part ++ refused_member told ∷ [])) page old mid new is s k
+        ∙ ap (λ (p : LinkMessage). old ++ with_lf (whole_object (words ++ (message_members cx b p
+        ++ refused_member told ∷ [])))) (reads.2 ∙ ap (accepted_part b) (one_lenient b reads.0 m reads.1 means)),
+  )

@@ -1,0 +1,35 @@
+use Rattle.std.proofs.Common.{[], ◌∷◌, ◌++◌}
+use Rattle.message_shown.specs.Attributes.{message_members}
+use Rattle.message_shown.specs.Leniently.{refused_member}
+use Rattle.message_shown.specs.Worded.{words_shown}
+use Rattle.message_shown.proofs.Added.{words_then}
+use Rattle.message_shown.proofs.Leniently.{accepted_answered, accepted_told, long_enough}
+use Rattle.message_shown.proofs.Places.{both_added}
+use Rattle.message_shown.proofs.lenient.push_accepted.Goals as goal
+
+pub show_refused-requires : goal.show_refused-requires
+show_refused-requires c = long_enough c.args.bytes.now c.requires.0 c.requires.1
+
+pub returns-clause-answer : goal.returns-clause-answer
+returns-clause-answer c =
+    let words = words_shown c.args.front.now in
+    let members = message_members c.args.cx.now c.args.bytes.now c.args.part.now in
+    let added = c.in_ok-show_refused.ensures in
+    let page = words_then words (members ++ refused_member added.0 ∷ []) c.in_ok-page.page c.show_words.new.page
+    c.show_refused.new.page c.in_ok-page.ensures c.in_ok-show_words.ensures
+    (both_added members (refused_member added.0 ∷ []) c.show_words.new.page c.show_message.new.page
+    c.show_refused.new.page c.in_ok-show_message.ensures added.2) in
+    accepted_answered words c.args.cx.now c.args.bytes.now _ _ _ c.args.part.now added.0 c.show_refused.new.page
+    c.requires page c.in_ok-finish.ensures c.in_ok-push.ensures.items
+
+pub returns-clause-told : goal.returns-clause-told
+returns-clause-told c =
+    let words = words_shown c.args.front.now in
+    let members = message_members c.args.cx.now c.args.bytes.now c.args.part.now in
+    let added = c.in_ok-show_refused.ensures in
+    let page = words_then words (members ++ refused_member added.0 ∷ []) c.in_ok-page.page c.show_words.new.page
+    c.show_refused.new.page c.in_ok-page.ensures c.in_ok-show_words.ensures
+    (both_added members (refused_member added.0 ∷ []) c.show_words.new.page c.show_message.new.page
+    c.show_refused.new.page c.in_ok-show_message.ensures added.2) in
+    accepted_told words c.args.cx.now c.args.bytes.now _ _ _ c.args.part.now added.0 c.show_refused.new.page
+    c.requires page c.in_ok-finish.ensures c.in_ok-push.ensures.items added.1

@@ -1,0 +1,17 @@
+use Rattle.std.proofs.Common.{ap, ◌∙◌}
+use Rattle.std.specs.Prelude.{codes}
+use Rattle.std.proofs.lemmas.Result.{on_ok_weaker}
+use Rattle.shown.specs.Drafts.{with_members}
+use Rattle.message_shown.specs.Places.{objects}
+use Rattle.message_shown.proofs.Places.{objects_ended}
+use Rattle.message_shown.proofs.lenient.show_refused.Goals as goal
+
+pub returns : goal.returns
+returns c =
+    let added = c.in_ok-show_refusals.ensures in
+    on_ok_weaker c.end.result (λ ends. (
+      added.0,
+      added.1,
+      objects_ended (codes "refused") added.0 c.args.page.now _ _
+          (added.2 ∙ ap (with_members (objects added.0)) c.in_ok-begin.ensures) ends,
+    )) c.end.ensures

@@ -1,0 +1,9 @@
+//! A law of what is read leniently: a function that does nothing, whose contract speaks of the definitions alone.
+
+ghost use Rattle.message_shown.specs.Leniently.{EachIsTold};
+
+/// Of a message that is read leniently each attribute is shown with those that are accepted, or told with those that
+/// are refused.
+pub fn law_lenient()
+    ensures { EachIsTold }
+{}

@@ -1,0 +1,232 @@
+//! Bytes of which some attributes are refused: the others are shown, and those last.
+
+ghost use Rattle.std.specs.Prelude.{◌≡◌, ◌≤◌, IfOk, OnOk, Some, length};
+ghost use Rattle.link_info.specs.Styles.{are_frames};
+ghost use Rattle.link_msg.specs.Header.{header_size};
+ghost use Rattle.link_msg.specs.Messages.{FirstFault};
+ghost use Rattle.link_msg.specs.Tables.{attribute_place, Values};
+ghost use Rattle.link_msg.specs.Told.{told_all};
+ghost use Rattle.nla_wire.specs.Items.{items};
+ghost use Rattle.shown.specs.Drafts.{with_members};
+ghost use Rattle.message_shown.specs.Leniently.{taken, in_front, accepted, ReadsAccepted, holder_members, frame_told};
+ghost use Rattle.message_shown.specs.Leniently.{AddsOne, AddsTold, AddsList};
+ghost use Rattle.message_shown.specs.Leniently.{IsLenientAnswerTo, TellsRefused, TellsLeniently};
+ghost use Rattle.message_shown.specs.Lines.{AddsAnswerTo};
+ghost use Rattle.message_shown.specs.Worded.{words_shown};
+
+use crate::answers::{push_fault, push_message, show_message};
+use crate::attribute::row_of;
+use crate::context::Context;
+use crate::wire::{cause_name, show_cause};
+use crate::worded::show_words;
+use link_msg::header::HEADER_SIZE;
+use link_msg::{
+    AddressFamily, Cause, DecodeError, LinkAttribute, LinkHeader, LinkMessage, List, NlaBuffer,
+    NlasIterator, Refusal,
+};
+use shown::{Nest, Page, Room};
+use std::alloc::{AllocError, Global};
+
+/// Whether bytes are frames that fit.
+fn are_frames(bytes: &[u8]) -> bool
+    ensures { result ≡ are_frames (items bytes.now) }
+{
+    for item in NlasIterator::new(bytes) {
+        if item.is_err() {
+            return false;
+        }
+    }
+    true
+}
+
+/// What a frame means, where it is accepted.
+fn read_one(
+    alloc: Global,
+    frame: &NlaBuffer<'_>,
+    family: AddressFamily,
+) -> Result<Option<LinkAttribute>, AllocError>
+    ensures { IfOk result (λ v. (vs : Values)
+        → taken ((attribute_place family).reads frame.now) vs ≡ in_front v vs) }
+{
+    match LinkAttribute::parse_with_param(alloc, frame, family) {
+        Ok(attribute) => Ok(Some(attribute)),
+        Err(error) => match error.cause {
+            Cause::OutOfMemory => Err(AllocError),
+            _ => Ok(None),
+        },
+    }
+}
+
+/// What those frames mean that are accepted.
+fn accepted_in(
+    alloc: Global,
+    family: AddressFamily,
+    bytes: &[u8],
+) -> Result<Vec<LinkAttribute>, AllocError>
+    ensures { IfOk result (λ attributes. attributes.items ≡ accepted family (items bytes.now)) }
+{
+    let mut attributes = Vec::new(alloc);
+    for item in NlasIterator::new(bytes) {
+        let Ok(frame) = item else {
+            break;
+        };
+        if let Some(attribute) = read_one(alloc, &frame, family)? {
+            attributes.reserve(1)?;
+            attributes.push_reserved(attribute);
+        }
+    }
+    Ok(attributes)
+}
+
+/// What bytes mean leniently, without the attributes that are refused; `None` where they mean nothing.
+fn parse_accepted(alloc: Global, bytes: &[u8]) -> Result<Option<LinkMessage>, AllocError>
+    ensures { IfOk result (ReadsAccepted bytes.now) }
+{
+    if bytes.len() < HEADER_SIZE {
+        return Ok(None);
+    }
+    let (front, rest) = bytes.split_at(HEADER_SIZE);
+    let Ok(header) = LinkHeader::parse(front) else {
+        return Ok(None);
+    };
+    if !are_frames(rest) {
+        return Ok(None);
+    }
+    let attributes = accepted_in(alloc, header.interface_family, rest)?;
+    Ok(Some(LinkMessage {
+        header,
+        attributes: List::new(attributes),
+    }))
+}
+
+/// Adds the name of an attribute of this kind, where these numbers lead to one that is inside of it.
+fn show_holder(page: &mut Page, numbers: &[u16], kind: u16) -> Result<(), AllocError>
+    ensures { OnOk result (page.new ≡ with_members (holder_members numbers.now kind) page.old) }
+{
+    match numbers {
+        [_, _, ..] => page.string("in", row_of(kind).0),
+        _ => Ok(()),
+    }
+}
+
+/// Adds the bytes of an attribute that is refused, behind its name where these numbers lead to one inside of it.
+fn show_attribute(page: &mut Page, refusal: &Refusal<'_>, numbers: &[u16]) -> Result<(), AllocError>
+    ensures { OnOk result
+        (page.new ≡ with_members (frame_told numbers.now refusal.now.frame) page.old) }
+{
+    let Some((kind, payload)) = refusal.attribute() else {
+        return Ok(());
+    };
+    show_holder(page, numbers, kind)?;
+    page.hex("payload", payload)
+}
+
+/// Adds an attribute that is refused, to a list.
+fn show_refusal(page: &mut Page, refusal: &Refusal<'_>) -> Result<(), AllocError>
+    ensures { OnOk result (AddsOne refusal.now page.old page.new) }
+{
+    let error = refusal.error();
+    let path = refusal.path();
+    page.begin("", Nest::Object)?;
+    page.string("at", error.place)?;
+    page.string("fault", cause_name(&error.cause))?;
+    show_cause(page, &error.cause)?;
+    page.number("offset", path.offset as u64)?;
+    show_attribute(page, refusal, path.numbers())?;
+    page.end()
+}
+
+/// Adds the attributes that are refused, to a list.
+fn show_refusals(page: &mut Page, bytes: &[u8]) -> Result<(), AllocError>
+    requires { header_size ≤ length bytes.now }
+    ensures { OnOk result (AddsTold (told_all bytes.now) page.old page.new) }
+{
+    let Ok(refusals) = LinkMessage::refusals(bytes) else {
+        return Ok(());
+    };
+    for refusal in refusals {
+        show_refusal(page, &refusal)?;
+    }
+    Ok(())
+}
+
+/// Adds the list of the attributes that are refused.
+fn show_refused(page: &mut Page, bytes: &[u8]) -> Result<(), AllocError>
+    requires { header_size ≤ length bytes.now }
+    ensures { OnOk result (AddsList (told_all bytes.now) page.old page.new) }
+{
+    page.begin("refused", Nest::List)?;
+    show_refusals(page, bytes)?;
+    page.end()
+}
+
+/// Adds the answer to a line whose bytes mean this message leniently, without the attributes that are refused.
+fn push_accepted(
+    cx: &Context<'_>,
+    room: &mut Room,
+    waiting: &mut Vec<u8>,
+    front: &[u8],
+    bytes: &[u8],
+    part: &LinkMessage,
+) -> Result<(), AllocError>
+    requires { ReadsAccepted bytes.now (Some part.now) }
+    ensures answer { OnOk result (AddsAnswerTo IsLenientAnswerTo (words_shown front.now) bytes.now
+        waiting.old.items waiting.new.items) }
+    ensures told { OnOk result (TellsRefused (words_shown front.now) cx.now bytes.now
+        waiting.old.items waiting.new.items) }
+{
+    let mut page = room.begin()?;
+    show_words(cx.alloc, &mut page, front)?;
+    show_message(cx, &mut page, bytes, part)?;
+    show_refused(&mut page, bytes)?;
+    room.finish(page, waiting)?;
+    waiting.push(b'\n')?;
+    Ok(())
+}
+
+/// Adds the answer to a line whose bytes mean no message, for this cause.
+fn push_refused(
+    cx: &Context<'_>,
+    room: &mut Room,
+    waiting: &mut Vec<u8>,
+    front: &[u8],
+    bytes: &[u8],
+    error: &DecodeError,
+) -> Result<(), AllocError>
+    requires { FirstFault bytes.now error.now.cause }
+    ensures answer { OnOk result (AddsAnswerTo IsLenientAnswerTo (words_shown front.now) bytes.now
+        waiting.old.items waiting.new.items) }
+    ensures told { OnOk result (TellsRefused (words_shown front.now) cx.now bytes.now
+        waiting.old.items waiting.new.items) }
+{
+    match parse_accepted(cx.alloc, bytes)? {
+        Some(part) => push_accepted(cx, room, waiting, front, bytes, &part),
+        None => push_fault(cx, room, waiting, front, bytes, error),
+    }
+}
+
+/// Adds the answer to a line that spells these bytes, and writes its page in this room. The answer to bytes that are a
+/// message is that of `push_bytes_in`, and so is that to bytes that are not even frames that fit. Of others the
+/// attributes are shown that are accepted, and last, under `refused`, those that are not.
+pub fn push_leniently_in(
+    cx: &Context<'_>,
+    room: &mut Room,
+    waiting: &mut Vec<u8>,
+    front: &[u8],
+    bytes: &[u8],
+) -> Result<(), AllocError>
+    ensures answer { OnOk result (AddsAnswerTo IsLenientAnswerTo (words_shown front.now) bytes.now
+        waiting.old.items waiting.new.items) }
+    ensures told { OnOk result (TellsLeniently (words_shown front.now) cx.now bytes.now
+        waiting.old.items waiting.new.items) }
+{
+    match LinkMessage::parse(cx.alloc, bytes) {
+        Ok(message) => push_message(cx, room, waiting, front, bytes, &message),
+        Err(error) => {
+            if let Cause::OutOfMemory = error.cause {
+                return Err(AllocError);
+            }
+            push_refused(cx, room, waiting, front, bytes, &error)
+        }
+    }
+}
