@@ -50,8 +50,10 @@ fn main(rt: HostRuntime) -> ExitCode {
     match requested(words) {
         Asked::Help => write_text(rt, HELP),
         Asked::Version => write_text(rt, VERSION),
-        Asked::Lines(None, is_lenient) => answer_lines(rt, Order::Unknown, is_lenient),
-        Asked::Lines(Some(release), is_lenient) => answer_kernel(rt, release.as_str(), is_lenient),
+        Asked::Lines(release, is_lenient) => match release {
+            Some(release) => answer_kernel(rt, release.as_str(), is_lenient),
+            None => answer_lines(rt, Order::Unknown, is_lenient),
+        },
         Asked::Wrong(word) => refuse(rt, word.as_str()),
     }
 }
