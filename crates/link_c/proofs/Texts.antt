@@ -18,7 +18,7 @@ lf_cancel one other same = append_cancel_right one other (10 ∷ []) same
 
 -- what was added to an empty line
 pub answered : (order : Order) (cx : Context) (b old new : List ℕ) → IsPlainContext order cx → old ≡ []
-    → AddsAnswerTo [] b old new → TellsMessage [] cx b old new
+    → AddsAnswerTo IsAnswerTo [] b old new → TellsMessage [] cx b old new
     → (text : List ℕ) × Answers order b text × (new ≡ with_lf text)
 answered order cx b old new plain empty added tells =
     let text = added.0 in
