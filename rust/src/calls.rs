@@ -1,7 +1,7 @@
 // Copied from scripts/erase/std/src/calls.rs: do not edit here.
 //! Calls on the bytes of one message, without values.
 
-use crate::{DecodeError, LinkMessage, RoomError, canonical_within};
+use crate::{DecodeError, LinkMessage, RoomError, canonical_lenient_within, canonical_within};
 
 /// A canonical encoding has at most so many bytes for each byte of its message.
 pub const GROWTH: usize = 79;
@@ -51,4 +51,22 @@ pub fn fault_at(message: &[u8]) -> Option<(DecodeError, usize)> {
 /// ```
 pub fn canonical_into(message: &[u8], out: &mut [u8]) -> Result<usize, RoomError> {
     canonical_within(message, out)
+}
+
+/// The same of what the bytes mean leniently, where each attribute that [`LinkMessage::parse`] refuses is kept whole.
+///
+/// # Errors
+///
+/// [`RoomError::NoEncoding`] where [`canonical_lenient`](crate::canonical_lenient) refuses, [`RoomError::NoRoom`]
+/// exactly where the encoding is longer than `out`. After a refusal `out` is unchanged.
+///
+/// ```
+/// use linkwire::{canonical_lenient_into, canonical_into};
+/// // an alias that is not UTF-8
+/// let message = [0, 9, 1, 0, 7, 0, 0, 0, 0, 0, 0, 0, 0, 0, 0, 0, 5, 0, 20, 0, 0xe9];
+/// assert!(canonical_into(&message, &mut [0; 64]).is_err());
+/// assert_eq!(canonical_lenient_into(&message, &mut [0; 64]), Ok(24));
+/// ```
+pub fn canonical_lenient_into(message: &[u8], out: &mut [u8]) -> Result<usize, RoomError> {
+    canonical_lenient_within(message, out)
 }

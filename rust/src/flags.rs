@@ -68,6 +68,23 @@ macro_rules! flags {
             }
         }
 
+        /// `LinkFlags(Up | LowerUp | 0x80000000)`, as bitflags shows it.
+        impl fmt::Debug for $type {
+            fn fmt(&self, f: &mut fmt::Formatter<'_>) -> fmt::Result {
+                let (mut names, mut bar) = (self.iter_names(), "");
+                f.write_str(concat!(stringify!($type), "("))?;
+                for (name, _) in names.by_ref() {
+                    write!(f, "{bar}{name}")?;
+                    bar = " | ";
+                }
+                let left = names.remaining().bits();
+                if left != 0 || self.is_empty() {
+                    write!(f, "{bar}{left:#x}")?;
+                }
+                f.write_str(")")
+            }
+        }
+
         impl IntoIterator for $type {
             type Item = $type;
             type IntoIter = Iter<$type>;

@@ -3,8 +3,9 @@
 //!
 //! [`LinkInfo`] keeps these data as bytes. [`Info`] has them by kind and name; names and values are those of the
 //! kernel's `rt_link.yaml`, or of `linux/if_link.h` in its style. Each kind of [`KINDS`] has a [`Place`], whose rows
-//! say of each attribute its number, its name, and how its payload is spelled; [`Fields`] goes over any list of
-//! attributes by the rows of a place, those of ports and of address families too.
+//! say of each attribute its number, its name, and how its payload is spelled; another kind has no rows, and its data
+//! are kept. [`Fields`] goes over any list of attributes by the rows of a place, those of ports and of address families
+//! too. [`typed`](crate::typed) has the same data as enums.
 //!
 //! The messages below are of Linux 6.12: what it dumped, of which the header, the name and `IFLA_LINKINFO` are shown,
 //! and what `ip` sent to it.
@@ -95,7 +96,7 @@
 //! bridge.set("forward-delay", 400)?;
 //! bridge.set("group-fwd-mask", 8)?;
 //! bridge.set("nf-call-iptables", true)?;
-//! bridge.set("vlan-protocol", 0x88a8)?;
+//! bridge.set("vlan-protocol", "8021ad")?;
 //! assert_eq!(bridge.set("forward_delay", 400), Err(InfoError::UnknownName));
 //! assert_eq!(bridge.set("group-fwd-mask", 65536), Err(InfoError::NotHeld));
 //! let mut request = LinkMessage::default();
@@ -143,10 +144,10 @@
 //! // ip link add bondB type bond mode 802.3ad lacp_rate fast \
 //! //     ad_actor_system 00:00:00:00:00:AA xmit_hash_policy layer3+4
 //! let mut bond = Info::new("bond")?;
-//! bond.set("mode", 4)?;
-//! bond.set("ad-lacp-rate", 1)?;
+//! bond.set("mode", "802.3ad")?;
+//! bond.set("ad-lacp-rate", "fast")?;
 //! bond.set("ad-actor-system", [0, 0, 0, 0, 0, 0xaa])?;
-//! bond.set("xmit-hash-policy", 1)?;
+//! bond.set("xmit-hash-policy", "layer3+4")?;
 //! let mut request = LinkMessage::default();
 //! request.attributes =
 //!     vec![LinkAttribute::IfName("bondB".to_string()), LinkAttribute::LinkInfo(bond.list()?)];
@@ -235,8 +236,9 @@ pub use crate::link_info::*;
 
 impl Info {
     /// Sets the attribute of this name to this value, in place of one that it was set to before. A number may be of
-    /// any type: what counts is whether the attribute can hold it; a `bool` is 0 or 1. What holds other values, a
-    /// record, an array, a list or a nest, is given by its bytes.
+    /// any type: what counts is whether the attribute can hold it; a `bool` is 0 or 1. A number that has a name may be
+    /// given by it, and a single flag by its own; [`Info::set_flags`] sets several. What holds other values, a record,
+    /// an array, a list or a nest, is given by its bytes.
     ///
     /// # Errors
     ///
@@ -249,6 +251,7 @@ impl Info {
     /// vxlan.set("id", 100u16)?;
     /// vxlan.set("local6", std::net::Ipv6Addr::LOCALHOST)?;
     /// vxlan.set("gbp", Value::Flag)?;
+    /// vxlan.set("df", "inherit")?;
     /// assert_eq!(vxlan.set("ttl", 256), Err(InfoError::NotHeld));
     /// assert_eq!(vxlan.set("ttl", -1), Err(InfoError::NotHeld));
     /// assert_eq!(vxlan.u32("id"), Some(100));
@@ -293,7 +296,7 @@ impl Info {
 
     /// The name of the number that this attribute was set to, if it has one.
     pub fn named(&self, name: &str) -> Option<&'static str> {
-        let row = self.place().rows().iter().find(|row| row.name() == name)?;
+        let row = self.place()?.rows().iter().find(|row| row.name() == name)?;
         match row.style() {
             Style::Plain(plain) => plain.name_of(self.u64(name)?),
             _ => None,

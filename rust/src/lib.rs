@@ -4,7 +4,7 @@
 //! and the attributes after it (`linux/if_link.h`), as they stand after the netlink header; [`LinkMessage`] is its value.
 //! Bytes are read whole, or refused with the first fault. Each message that can be written has one **canonical encoding**,
 //! to which every other spelling of it is brought. Names and types are those of netlink-packet-route 0.34.0, module `link`:
-//! the page [`moving`] has what is here, otherwise or not here.
+//! the page [`moving`] has what is here, and what otherwise.
 //!
 //! The crate has no dependency and no `unsafe`; it is for 64-bit little-endian targets, and without the feature `std` it
 //! needs `alloc` alone. A script makes it of sources that are proved. It is itself tested equal to the proved programs, and
@@ -56,18 +56,32 @@
 //! # The data of a kind of interface
 //!
 //! ```
-//! use linkwire::info::Info;
-//! use linkwire::{LinkAttribute, LinkMessage};
+//! use linkwire::typed::{InfoData, InfoKind, InfoVlan, LinkInfos};
+//! use linkwire::{LinkAttribute, LinkInfo, LinkMessage};
 //!
-//! let mut vlan = Info::new("vlan")?;
-//! vlan.set("id", 100)?;
-//! let mut request = LinkMessage::default();
-//! request.attributes.push(LinkAttribute::LinkInfo(vlan.list()?));
-//! assert_eq!(vlan.u16("id"), Some(100));
-//! # Ok::<(), linkwire::info::InfoError>(())
+//! let vlan = InfoData::Vlan(vec![InfoVlan::Id(100)]);
+//! let info = vec![LinkInfo::from(InfoKind::Vlan), LinkInfo::from(vlan.clone())];
+//! assert_eq!(info.info_data(), Some(Ok(vlan)));
+//! let mut message = LinkMessage::default();
+//! message.attributes.push(LinkAttribute::LinkInfo(info));
 //! ```
 //!
-//! [`info`] has the kinds of which it knows the data, and an example of a vlan, a bridge, a bond and a vxlan each.
+//! [`typed`] has an enum of each kind of which it knows the data. [`info`] has them by the names of attributes, and an
+//! example of a vlan, a bridge, a bond and a vxlan each.
+//!
+//! # A request
+//!
+//! ```
+//! use linkwire::request;
+//!
+//! let packet = request::mtu("eth0", 9000)?.packet(1)?;
+//! assert_eq!(packet.len(), 52);
+//! assert!(request::name(7, "a name above fifteen").is_err());
+//! # Ok::<(), request::RequestError>(())
+//! ```
+//!
+//! [`request`] has what managers send: with type, flags and message. [`route_link!`] makes an enum of messages for
+//! netlink-packet-core, by which netlink-sys and netlink-proto send and receive them.
 //!
 //! # A key to store
 //!
@@ -101,13 +115,34 @@
 //! assert_eq!(LinkMessage::parse(bytes), Err(fault));
 //! println!("{fault}, {at} bytes into the message");
 //! ```
+//!
+//! # A message with an attribute that is refused
+//!
+//! [`LinkMessage::parse_lenient`] keeps it whole, as `Other`, and [`LinkMessage::refusals`] tells which ones it kept so.
+//! [`canonical_lenient`] and [`state_lenient`] go with it; keep [`LENIENT_FORM`] beside what is stored of them.
+//!
+//! ```
+//! use linkwire::{Cause, LinkMessage, canonical_lenient};
+//!
+//! // An alias with a byte of Latin-1, and a name.
+//! let bytes = b"\0\0\x01\0\x07\0\0\0\0\0\0\0\0\0\0\0\x05\0\x14\0\xe9\0\0\0\x07\0\x03\0lo\0\0";
+//! assert!(LinkMessage::parse(bytes).is_err());
+//! assert_eq!(LinkMessage::parse_lenient(bytes)?.attributes.len(), 2);
+//! for refusal in LinkMessage::refusals(bytes)? {
+//!     assert_eq!((refusal.offset(), refusal.error().cause), (16, Cause::NotUtf8));
+//!     assert_eq!(refusal.attribute(), Some((20, b"\xe9".as_slice())));
+//! }
+//! assert_eq!(canonical_lenient(bytes)?, bytes);
+//! # Ok::<(), linkwire::CanonError>(())
+//! ```
 #![forbid(unsafe_code)]
+#![warn(missing_docs)]
 #![cfg_attr(not(feature = "std"), no_std)]
 #![allow(non_upper_case_globals)]
 // forms of the sources that this is made from
 #![allow(clippy::manual_map, clippy::match_like_matches_macro, clippy::needless_range_loop)]
 #![allow(clippy::manual_flatten, clippy::redundant_closure, clippy::unnecessary_map_on_constructor)]
-#![allow(clippy::single_match)]
+#![allow(clippy::single_match, clippy::slow_vector_initialization, clippy::while_let_on_iterator)]
 
 #[cfg(not(all(target_pointer_width = "64", target_endian = "little")))]
 compile_error!("linkwire is for 64-bit little-endian targets");
@@ -118,8 +153,12 @@ mod attributes;
 mod calls;
 mod flags;
 pub mod info;
+#[macro_use]
+mod netlink;
 mod packet;
 mod rattle;
+pub mod request;
+pub mod typed;
 mod values;
 mod writer;
 
@@ -148,7 +187,7 @@ pub use link_msg::*;
 pub use link_state::*;
 
 pub use attributes::{Attribute, Attributes, attributes};
-pub use calls::{GROWTH, canonical_into, check, fault_at};
+pub use calls::{GROWTH, canonical_into, canonical_lenient_into, check, fault_at};
 pub use flags::{Iter, IterNames};
 pub use link_msg::header::HEADER_SIZE;
 pub use packet::{
@@ -160,6 +199,15 @@ pub use writer::Writer;
 pub mod link {
     #[doc(no_inline)]
     pub use crate::link_msg::*;
+    // the kept forms, and not the types of these names
+    #[doc(no_inline)]
+    pub use crate::link_msg::{AfSpecBridge, LinkProtoInfoBridge};
+    #[doc(no_inline)]
+    pub use crate::typed::BridgeIdBuffer;
+    #[doc(no_inline)]
+    pub use crate::typed::kinds::*;
+    #[doc(no_inline)]
+    pub use crate::typed::places::*;
 }
 
 /// The kernel's numbers of a message's attributes: `IFLA_..` of linux/if_link.h.

@@ -352,7 +352,7 @@ impl<T: AsRef<[u8]>> NlaBuffer<T> {
     }
 
     /// The checked frame.
-    fn frame(&self) -> Result<nla_wire::NlaBuffer<'_>, DecodeError> {
+    pub(crate) fn frame(&self) -> Result<nla_wire::NlaBuffer<'_>, DecodeError> {
         nla_wire::NlaBuffer::new_checked(self.buffer.as_ref())
     }
 

@@ -5,6 +5,7 @@ use crate::nla_wire::{DecodeError, DefaultNla, Flat, FlatView, Nla, NlaBuffer, N
 
 /// A member of IFLA_AF_SPEC of the family AF_BRIDGE (linux/if_bridge.h), kept as it is.
 #[derive(Clone, Debug, PartialEq, Eq, Hash)]
+#[cfg_attr(feature = "serde", derive(serde::Serialize, serde::Deserialize))]
 pub enum AfSpecBridge {
     /// An attribute of any number.
     Other(DefaultNla),

@@ -10,6 +10,7 @@ use crate::nla_wire::{
 
 /// A member of AF_INET in IFLA_AF_SPEC (linux/if_link.h).
 #[derive(Clone, Debug, PartialEq, Eq, Hash)]
+#[cfg_attr(feature = "serde", derive(serde::Serialize, serde::Deserialize))]
 pub enum AfSpecInet {
     /// IFLA_INET_CONF: all settings, a record of 136 bytes, as the kernel sends them. A shorter one is filled up with
     /// zeros.

@@ -17,6 +17,7 @@ use crate::rattle::net::Ipv6Addr;
 
 /// A member of AF_INET6 in IFLA_AF_SPEC (linux/if_link.h).
 #[derive(Clone, Debug, PartialEq, Eq, Hash)]
+#[cfg_attr(feature = "serde", derive(serde::Serialize, serde::Deserialize))]
 pub enum AfSpecInet6 {
     /// IFLA_INET6_FLAGS: flags of the interface, four bytes, of which every bit is kept.
     Flags(Inet6IfaceFlags),

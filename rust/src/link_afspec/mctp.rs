@@ -11,6 +11,7 @@ use crate::nla_wire::{
 
 /// A member of AF_MCTP in IFLA_AF_SPEC (linux/if_link.h).
 #[derive(Clone, Debug, PartialEq, Eq, Hash)]
+#[cfg_attr(feature = "serde", derive(serde::Serialize, serde::Deserialize))]
 pub enum AfSpecMctp {
     /// IFLA_MCTP_NET: the number of the network, four bytes.
     Net(u32),

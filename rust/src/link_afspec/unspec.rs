@@ -12,6 +12,7 @@ use alloc::vec::Vec;
 /// A member of IFLA_AF_SPEC of the family AF_UNSPEC (linux/if_link.h): its number is a family (linux/socket.h), and its
 /// payload a non-empty list.
 #[derive(Clone, Debug, PartialEq, Eq, Hash)]
+#[cfg_attr(feature = "serde", derive(serde::Serialize, serde::Deserialize))]
 pub enum AfSpecUnspec {
     /// AF_INET: settings of IPv4.
     Inet(Vec<AfSpecInet>),

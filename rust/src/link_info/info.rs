@@ -4,7 +4,7 @@
 use crate::link_info::holds::holds;
 use crate::link_info::place::Place;
 use crate::link_info::read::read;
-use crate::link_info::style::Row;
+use crate::link_info::style::{Names, Plain, Row, Style};
 use crate::link_info::value::Value;
 use crate::link_info::write::push_payload;
 use crate::link_nest::LinkInfo;
@@ -20,7 +20,7 @@ pub const IFLA_INFO_DATA: u16 = 2;
 /// Why something could not be set or made.
 #[derive(Clone, Copy, Debug, PartialEq, Eq, Hash)]
 pub enum InfoError {
-    /// The kind has no table.
+    /// The list has no kind.
     UnknownKind,
     /// No row of the kind's table has this name.
     UnknownName,
@@ -35,7 +35,7 @@ pub enum InfoError {
 impl core::fmt::Display for InfoError {
     fn fmt(&self, f: &mut core::fmt::Formatter<'_>) -> core::fmt::Result {
         match self {
-            InfoError::UnknownKind => f.write_str("no kind of interface with a table has this name"),
+            InfoError::UnknownKind => f.write_str("no kind of interface is named"),
             InfoError::UnknownName => f.write_str("no attribute of the kind has this name"),
             InfoError::NotHeld => f.write_str("the attribute cannot have this value"),
             InfoError::TooLong => f.write_str("more bytes than an attribute can have"),
@@ -51,7 +51,7 @@ impl std::error::Error for InfoError {}
 #[derive(Clone, Debug, PartialEq, Eq, Hash)]
 pub struct Info {
     kind: String,
-    place: Place,
+    place: Option<Place>,
     rows: &'static [Row],
     frames: Vec<DefaultNla>,
 }
@@ -86,6 +86,51 @@ fn put(frames: &mut Vec<DefaultNla>, frame: DefaultNla) {
             frames.reserve(1);
             vacant(frames).push(frame);
         }
+    }
+}
+
+/// The first number or bit of this name.
+fn number_named(names: Names, name: &str) -> Option<u64> {
+    names.iter().find(|row| row.1 == name).map(|row| row.0)
+}
+
+/// The names of numbers or bits of this style.
+fn names_of(style: Style) -> Names {
+    match style {
+        Style::Plain(Plain::Named(_, names)) => names,
+        Style::Plain(Plain::BigEndianNamed(_, names)) => names,
+        Style::Plain(Plain::Flags(_, names)) => names,
+        Style::Plain(Plain::BigEndianFlags(_, names)) => names,
+        _ => &[],
+    }
+}
+
+/// The number of a name that the style has; another value as it is.
+fn by_name<'v>(style: Style, value: Value<'v>) -> Value<'v> {
+    let Value::Text(name) = value else {
+        return value;
+    };
+    match number_named(names_of(style), name) {
+        Some(number) => Value::Unsigned(number),
+        None => value,
+    }
+}
+
+/// The bits of these names, if each has one.
+fn bits_named(names: Names, flags: &[&str]) -> Option<u64> {
+    let mut bits = 0;
+    for flag in flags {
+        bits |= number_named(names, flag)?;
+    }
+    Some(bits)
+}
+
+/// The bits of these names, by a style of flags that has each.
+fn bits_of(style: Style, flags: &[&str]) -> Option<u64> {
+    match style {
+        Style::Plain(Plain::Flags(_, names)) => bits_named(names, flags),
+        Style::Plain(Plain::BigEndianFlags(_, names)) => bits_named(names, flags),
+        _ => None,
     }
 }
 
@@ -141,17 +186,20 @@ fn encoding(frames: &[DefaultNla]) -> Vec<u8> {
 }
 
 impl Info {
-    /// Nothing set, of a kind that has a table: the text of `IFLA_INFO_KIND`, as `vlan` or `bridge`.
+    /// Nothing set, of this kind, the text of `IFLA_INFO_KIND`, as `vlan` or `bridge`. A kind that has no table has no
+    /// rows.
     ///
     /// # Errors
     ///
-    /// Refuses another kind with `UnknownKind`.
+    /// The first fault: its cause, and where it is.
     pub fn new(kind: &str) -> Result<Info, InfoError> {
-        let Some(place) = Place::of_kind(kind) else {
-            return Err(InfoError::UnknownKind);
+        let place = Place::of_kind(kind);
+        let rows: &'static [Row] = match place {
+            Some(place) => place.rows(),
+            None => &[],
         };
         let kind = String::from(kind);
-        Ok(Info { kind, place, rows: place.rows(), frames: Vec::new() })
+        Ok(Info { kind, place, rows, frames: Vec::new() })
     }
 
     /// The kind.
@@ -159,12 +207,23 @@ impl Info {
         self.kind.as_str()
     }
 
-    /// The place of the data, by whose rows it is set and read.
-    pub fn place(&self) -> Place {
+    /// The place of the data, by whose rows it is set and read, if the kind has a table.
+    pub fn place(&self) -> Option<Place> {
         self.place
     }
 
-    /// Sets the attribute of this name to this value, in place of one that it was set to before. What holds other
+    /// Sets a row to a value.
+    fn set_row(&mut self, row: &Row, value: Value<'_>) -> Result<(), InfoError> {
+        if !holds(row.2, value) {
+            return Err(InfoError::NotHeld);
+        }
+        let payload = payload_of(row, value);
+        put(&mut self.frames, DefaultNla::new(row.0, payload));
+        Ok(())
+    }
+
+    /// Sets the attribute of this name to this value, in place of one that it was set to before. A number may be given
+    /// by a name that its row has, and a flag by its own; one that has no name is taken as a number. What holds other
     /// values, a record, an array or a list, is given by its bytes.
     ///
     /// Refuses a name that no row has with `UnknownName`, and a value that the row's style cannot have with `NotHeld`.
@@ -173,12 +232,23 @@ impl Info {
         let Some(row) = row_named(self.rows, name) else {
             return Err(InfoError::UnknownName);
         };
-        if !holds(row.2, value) {
-            return Err(InfoError::NotHeld);
+        self.set_row(row, by_name(row.2, value))
+    }
+
+    /// Sets the attribute of this name, whose bits have names, to the flags of these names, and to no other.
+    ///
+    /// # Errors
+    ///
+    /// Refuses a name that no row has with `UnknownName`, and a row without flags, or without a flag of one of the
+    /// names, with `NotHeld`. After a refusal all is as it was.
+    pub fn set_flags(&mut self, name: &str, flags: &[&str]) -> Result<(), InfoError> {
+        match row_named(self.rows, name) {
+            Some(row) => match bits_of(row.2, flags) {
+                Some(bits) => self.set_row(row, Value::Unsigned(bits)),
+                None => Err(InfoError::NotHeld),
+            },
+            None => Err(InfoError::UnknownName),
         }
-        let payload = payload_of(row, value);
-        put(&mut self.frames, DefaultNla::new(row.0, payload));
-        Ok(())
     }
 
     /// What the attribute of this name was set to.
@@ -188,7 +258,7 @@ impl Info {
         Some(read(row.2, frame.value()))
     }
 
-    /// What `IFLA_LINKINFO` holds for it: the kind, and the data in canonical encoding.
+    /// What `IFLA_LINKINFO` holds for it: the kind, and the data in canonical encoding; no data where nothing is set.
     ///
     /// # Errors
     ///
@@ -197,11 +267,13 @@ impl Info {
         if !list_fits(self.frames.as_slice()) {
             return Err(InfoError::TooLong);
         }
-        let data = encoding(self.frames.as_slice());
         let kind = String::from(self.kind.as_str());
         let mut list = Vec::with_capacity(2);
         vacant(&mut list).push(LinkInfo::Kind(kind));
-        vacant(&mut list).push(LinkInfo::Other(DefaultNla::new(IFLA_INFO_DATA, data)));
+        if !self.frames.is_empty() {
+            let data = encoding(self.frames.as_slice());
+            vacant(&mut list).push(LinkInfo::Other(DefaultNla::new(IFLA_INFO_DATA, data)));
+        }
         Ok(list)
     }
 
@@ -209,8 +281,7 @@ impl Info {
     ///
     /// # Errors
     ///
-    /// Refuses a list without a kind, or with one that has no table, with `UnknownKind`, and data that are no whole
-    /// attributes with `Damaged`.
+    /// Refuses a list without a kind with `UnknownKind`, and data that are no whole attributes with `Damaged`.
     pub fn of(list: &[LinkInfo]) -> Result<Info, InfoError> {
         let Some(kind) = kind_of(list) else {
             return Err(InfoError::UnknownKind);

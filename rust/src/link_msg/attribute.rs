@@ -15,6 +15,7 @@ use alloc::vec::Vec;
 
 /// An attribute of a link message (linux/if_link.h, IFLA_*). Numbers are in host order.
 #[derive(Clone, Debug, PartialEq, Eq, Hash)]
+#[cfg_attr(feature = "serde", derive(serde::Serialize, serde::Deserialize))]
 pub enum LinkAttribute {
     /// IFLA_ADDRESS: the hardware address, bytes.
     Address(Vec<u8>),

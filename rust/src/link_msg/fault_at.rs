@@ -102,7 +102,7 @@ fn in_shape(shape: Shape, payload: &[u8]) -> Option<FaultPath> {
 }
 
 /// Where the fault is in the payload of an attribute of a message whose header has this family.
-fn in_attribute(frame: &NlaBuffer<'_>, family: AddressFamily) -> Option<FaultPath> {
+pub(crate) fn in_attribute(frame: &NlaBuffer<'_>, family: AddressFamily) -> Option<FaultPath> {
     let payload = frame.value();
     match Shape::of(frame.kind(), payload.len(), family) {
         Some(shape) => in_shape(shape, payload),

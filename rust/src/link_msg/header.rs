@@ -11,11 +11,17 @@ use crate::rattle::number::room;
 /// Layout: family at 0, one byte that is not read and written zero at 1, layer type (two bytes) at 2, index (four
 /// bytes) at 4, flags (four bytes) at 8, mask of the flags that change (four bytes) at 12. Numbers are in host order.
 #[derive(Clone, Copy, Debug, Default, PartialEq, Eq, Hash)]
+#[cfg_attr(feature = "serde", derive(serde::Serialize, serde::Deserialize))]
 pub struct LinkHeader {
+    /// The address family: `AF_UNSPEC`, or the one that asks or answers.
     pub interface_family: AddressFamily,
+    /// The index of the interface; 0 is none.
     pub index: u32,
+    /// The type of the link layer: `ARPHRD_*` of linux/if_arp.h.
     pub link_layer_type: LinkLayerType,
+    /// The flags: `IFF_*` of linux/if.h.
     pub flags: LinkFlags,
+    /// Which flags are meant, in a request; which have changed, in a notification.
     pub change_mask: LinkFlags,
 }
 
@@ -72,6 +78,7 @@ impl LinkHeader {
 
 /// The sixteen bytes of a header.
 #[derive(Clone, Copy, Debug, PartialEq, Eq, Hash)]
+#[cfg_attr(feature = "serde", derive(serde::Serialize, serde::Deserialize))]
 pub struct LinkMessageBuffer {
     bytes: [u8; 16],
 }

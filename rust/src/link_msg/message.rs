@@ -10,6 +10,7 @@ use alloc::vec::Vec;
 
 /// A link message: RTM_NEWLINK and its kin after the netlink header (rtnetlink(7)).
 #[derive(Clone, Debug, PartialEq, Eq, Hash)]
+#[cfg_attr(feature = "serde", derive(serde::Serialize, serde::Deserialize))]
 pub struct LinkMessage {
     /// The 16 bytes at the front.
     pub header: LinkHeader,
@@ -18,7 +19,7 @@ pub struct LinkMessage {
 }
 
 /// The name of the place of a fault that no attribute holds.
-const OUTERMOST: &str = "message";
+pub(crate) const OUTERMOST: &str = "message";
 
 /// The header, and the bytes after it.
 #[inline(always)]

@@ -11,6 +11,7 @@ use alloc::string::String;
 
 /// A member of IFLA_DEVLINK_PORT (linux/devlink.h).
 #[derive(Clone, Debug, PartialEq, Eq, Hash)]
+#[cfg_attr(feature = "serde", derive(serde::Serialize, serde::Deserialize))]
 pub enum DevlinkPort {
     /// DEVLINK_ATTR_BUS_NAME: the name of the bus, a text with one NUL.
     BusName(String),

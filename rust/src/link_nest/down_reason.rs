@@ -10,6 +10,7 @@ use crate::nla_wire::{
 
 /// A member of IFLA_PROTO_DOWN_REASON (linux/if_link.h).
 #[derive(Clone, Debug, PartialEq, Eq, Hash)]
+#[cfg_attr(feature = "serde", derive(serde::Serialize, serde::Deserialize))]
 pub enum LinkProtocolDownReason {
     /// IFLA_PROTO_DOWN_REASON_MASK: which reasons are meant, four bytes.
     Mask(u32),

@@ -10,6 +10,7 @@ use crate::nla_wire::{
 
 /// A member of IFLA_DPLL_PIN (linux/dpll.h).
 #[derive(Clone, Debug, PartialEq, Eq, Hash)]
+#[cfg_attr(feature = "serde", derive(serde::Serialize, serde::Deserialize))]
 pub enum DpllPin {
     /// DPLL_A_PIN_ID: the number of the pin, four bytes.
     PinId(u32),

@@ -10,6 +10,7 @@ use alloc::string::String;
 
 /// A member of IFLA_LINKINFO (linux/if_link.h).
 #[derive(Clone, Debug, PartialEq, Eq, Hash)]
+#[cfg_attr(feature = "serde", derive(serde::Serialize, serde::Deserialize))]
 pub enum LinkInfo {
     /// IFLA_INFO_KIND: the type of the interface, a text with one NUL.
     Kind(String),

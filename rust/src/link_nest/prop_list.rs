@@ -10,6 +10,7 @@ use alloc::string::String;
 
 /// A member of IFLA_PROP_LIST (linux/if_link.h).
 #[derive(Clone, Debug, PartialEq, Eq, Hash)]
+#[cfg_attr(feature = "serde", derive(serde::Serialize, serde::Deserialize))]
 pub enum Prop {
     /// IFLA_ALT_IFNAME: an alternative name, a text with one NUL.
     AltIfName(String),

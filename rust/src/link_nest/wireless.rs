@@ -17,6 +17,7 @@ const HEADER_LEN: usize = 8;
 /// padding, with the length and the flags of their data, two bytes each, and four more of padding: these are kept as
 /// the first eight of the event's bytes.
 #[derive(Clone, Debug, PartialEq, Eq, Hash)]
+#[cfg_attr(feature = "serde", derive(serde::Serialize, serde::Deserialize))]
 pub enum WirelessEvent {
     /// IWEVASSOCREQIE: the information elements of an association request.
     AssociateRequest(Vec<u8>),

@@ -15,6 +15,7 @@ use crate::nla_wire::{
 
 /// A member of IFLA_XDP (linux/if_link.h).
 #[derive(Clone, Debug, PartialEq, Eq, Hash)]
+#[cfg_attr(feature = "serde", derive(serde::Serialize, serde::Deserialize))]
 pub enum LinkXdp {
     /// IFLA_XDP_FD: a file descriptor of a program, four bytes, signed.
     Fd(i32),

@@ -21,39 +21,73 @@ pub const INET_DEV_CONF_SIZE: usize = 4 * INET_DEV_CONF_COUNT;
 /// no unit: `medium_id` and `tag` are numbers that an administrator gives, `force_igmp_version` is a version or 0, and
 /// the rest say what is on, or in which way, 0 where it is off (Documentation/networking/ip-sysctl.rst of the kernel).
 #[derive(Clone, Copy, Debug, Default, PartialEq, Eq, Hash)]
+#[cfg_attr(feature = "serde", derive(serde::Serialize, serde::Deserialize))]
 pub struct InetDevConf {
+    /// `IPV4_DEVCONF_FORWARDING`.
     pub forwarding: i32,
+    /// `IPV4_DEVCONF_MC_FORWARDING`.
     pub mc_forwarding: i32,
+    /// `IPV4_DEVCONF_PROXY_ARP`.
     pub proxy_arp: i32,
+    /// `IPV4_DEVCONF_ACCEPT_REDIRECTS`.
     pub accept_redirects: i32,
+    /// `IPV4_DEVCONF_SECURE_REDIRECTS`.
     pub secure_redirects: i32,
+    /// `IPV4_DEVCONF_SEND_REDIRECTS`.
     pub send_redirects: i32,
+    /// `IPV4_DEVCONF_SHARED_MEDIA`.
     pub shared_media: i32,
+    /// `IPV4_DEVCONF_RP_FILTER`.
     pub rp_filter: i32,
+    /// `IPV4_DEVCONF_ACCEPT_SOURCE_ROUTE`.
     pub accept_source_route: i32,
+    /// `IPV4_DEVCONF_BOOTP_RELAY`.
     pub bootp_relay: i32,
+    /// `IPV4_DEVCONF_LOG_MARTIANS`.
     pub log_martians: i32,
+    /// `IPV4_DEVCONF_TAG`.
     pub tag: i32,
+    /// `IPV4_DEVCONF_ARPFILTER`.
     pub arpfilter: i32,
+    /// `IPV4_DEVCONF_MEDIUM_ID`.
     pub medium_id: i32,
+    /// `IPV4_DEVCONF_NOXFRM`.
     pub noxfrm: i32,
+    /// `IPV4_DEVCONF_NOPOLICY`.
     pub nopolicy: i32,
+    /// `IPV4_DEVCONF_FORCE_IGMP_VERSION`.
     pub force_igmp_version: i32,
+    /// `IPV4_DEVCONF_ARP_ANNOUNCE`.
     pub arp_announce: i32,
+    /// `IPV4_DEVCONF_ARP_IGNORE`.
     pub arp_ignore: i32,
+    /// `IPV4_DEVCONF_PROMOTE_SECONDARIES`.
     pub promote_secondaries: i32,
+    /// `IPV4_DEVCONF_ARP_ACCEPT`.
     pub arp_accept: i32,
+    /// `IPV4_DEVCONF_ARP_NOTIFY`.
     pub arp_notify: i32,
+    /// `IPV4_DEVCONF_ACCEPT_LOCAL`.
     pub accept_local: i32,
+    /// `IPV4_DEVCONF_SRC_VMARK`.
     pub src_vmark: i32,
+    /// `IPV4_DEVCONF_PROXY_ARP_PVLAN`.
     pub proxy_arp_pvlan: i32,
+    /// `IPV4_DEVCONF_ROUTE_LOCALNET`.
     pub route_localnet: i32,
+    /// `IPV4_DEVCONF_IGMPV2_UNSOLICITED_REPORT_INTERVAL`.
     pub igmpv2_unsolicited_report_interval: i32,
+    /// `IPV4_DEVCONF_IGMPV3_UNSOLICITED_REPORT_INTERVAL`.
     pub igmpv3_unsolicited_report_interval: i32,
+    /// `IPV4_DEVCONF_IGNORE_ROUTES_WITH_LINKDOWN`.
     pub ignore_routes_with_linkdown: i32,
+    /// `IPV4_DEVCONF_DROP_UNICAST_IN_L2_MULTICAST`.
     pub drop_unicast_in_l2_multicast: i32,
+    /// `IPV4_DEVCONF_DROP_GRATUITOUS_ARP`.
     pub drop_gratuitous_arp: i32,
+    /// `IPV4_DEVCONF_BC_FORWARDING`.
     pub bc_forwarding: i32,
+    /// `IPV4_DEVCONF_ARP_EVICT_NOCARRIER`.
     pub arp_evict_nocarrier: i32,
     /// Reserved: this project's own, and in no kernel. Zero where the payload is shorter.
     pub reserved_34: i32,

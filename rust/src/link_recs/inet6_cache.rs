@@ -17,10 +17,15 @@ pub const INET6_CACHE_INFO_SIZE: usize = 4 * INET6_CACHE_INFO_COUNT;
 /// linux/if_link.h, at offsets 0, 4, 8 and 12. `max_reasm_len` is in bytes, `tstamp` in hundredths of a second,
 /// `reachable_time` and `retrans_time` in milliseconds.
 #[derive(Clone, Copy, Debug, PartialEq, Eq, Hash)]
+#[cfg_attr(feature = "serde", derive(serde::Serialize, serde::Deserialize))]
 pub struct Inet6CacheInfo {
+    /// The longest packet that is put together of fragments, in bytes.
     pub max_reasm_len: i32,
+    /// When the interface was last changed, in hundredths of a second since the system began.
     pub tstamp: i32,
+    /// How long a neighbour counts as reachable, in milliseconds.
     pub reachable_time: i32,
+    /// The time between two solicitations, in milliseconds.
     pub retrans_time: i32,
 }
 

@@ -17,13 +17,21 @@ pub const ICMP6_STATS_SIZE: usize = 8 * ICMP6_STATS_COUNT;
 /// linux/snmp.h, which count from 0: counter number `n` stands at offset `8 * n`. `num` is the number of counters that
 /// the kernel sent.
 #[derive(Clone, Copy, Debug, Default, PartialEq, Eq, Hash)]
+#[cfg_attr(feature = "serde", derive(serde::Serialize, serde::Deserialize))]
 pub struct Icmp6Stats {
+    /// How many counters there are.
     pub num: i64,
+    /// `ICMP6_MIB_INMSGS`.
     pub in_msgs: i64,
+    /// `ICMP6_MIB_INERRORS`.
     pub in_errors: i64,
+    /// `ICMP6_MIB_OUTMSGS`.
     pub out_msgs: i64,
+    /// `ICMP6_MIB_OUTERRORS`.
     pub out_errors: i64,
+    /// `ICMP6_MIB_CSUMERRORS`.
     pub csum_errors: i64,
+    /// `ICMP6_MIB_RATELIMITHOST`.
     pub rate_limit_host: i64,
 }
 

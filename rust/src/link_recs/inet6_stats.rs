@@ -21,44 +21,83 @@ pub const INET6_STATS_SIZE: usize = 8 * INET6_STATS_COUNT;
 /// of counters: `since_6_16` gives what its messages mean. The order of the releases between the two was not looked
 /// at, and a message does not say which order it has.
 #[derive(Clone, Copy, Debug, Default, PartialEq, Eq, Hash)]
+#[cfg_attr(feature = "serde", derive(serde::Serialize, serde::Deserialize))]
 pub struct Inet6Stats {
+    /// How many counters there are.
     pub num: i64,
+    /// `IPSTATS_MIB_INPKTS`.
     pub in_pkts: i64,
+    /// `IPSTATS_MIB_INOCTETS`.
     pub in_octets: i64,
+    /// `IPSTATS_MIB_INDELIVERS`.
     pub in_delivers: i64,
+    /// `IPSTATS_MIB_OUTFORWDATAGRAMS`.
     pub out_forw_datagrams: i64,
+    /// `IPSTATS_MIB_OUTREQUESTS`.
     pub out_requests: i64,
+    /// `IPSTATS_MIB_OUTOCTETS`.
     pub out_octets: i64,
+    /// `IPSTATS_MIB_INHDRERRORS`.
     pub in_hdr_errors: i64,
+    /// `IPSTATS_MIB_INTOOBIGERRORS`.
     pub in_too_big_errors: i64,
+    /// `IPSTATS_MIB_INNOROUTES`.
     pub in_no_routes: i64,
+    /// `IPSTATS_MIB_INADDRERRORS`.
     pub in_addr_errors: i64,
+    /// `IPSTATS_MIB_INUNKNOWNPROTOS`.
     pub in_unknown_protos: i64,
+    /// `IPSTATS_MIB_INTRUNCATEDPKTS`.
     pub in_truncated_pkts: i64,
+    /// `IPSTATS_MIB_INDISCARDS`.
     pub in_discards: i64,
+    /// `IPSTATS_MIB_OUTDISCARDS`.
     pub out_discards: i64,
+    /// `IPSTATS_MIB_OUTNOROUTES`.
     pub out_no_routes: i64,
+    /// `IPSTATS_MIB_REASMTIMEOUT`.
     pub reasm_timeout: i64,
+    /// `IPSTATS_MIB_REASMREQDS`.
     pub reasm_reqds: i64,
+    /// `IPSTATS_MIB_REASMOKS`.
     pub reasm_oks: i64,
+    /// `IPSTATS_MIB_REASMFAILS`.
     pub reasm_fails: i64,
+    /// `IPSTATS_MIB_FRAGOKS`.
     pub frag_oks: i64,
+    /// `IPSTATS_MIB_FRAGFAILS`.
     pub frag_fails: i64,
+    /// `IPSTATS_MIB_FRAGCREATES`.
     pub frag_creates: i64,
+    /// `IPSTATS_MIB_INMCASTPKTS`.
     pub in_mcast_pkts: i64,
+    /// `IPSTATS_MIB_OUTMCASTPKTS`.
     pub out_mcast_pkts: i64,
+    /// `IPSTATS_MIB_INBCASTPKTS`.
     pub in_bcast_pkts: i64,
+    /// `IPSTATS_MIB_OUTBCASTPKTS`.
     pub out_bcast_pkts: i64,
+    /// `IPSTATS_MIB_INMCASTOCTETS`.
     pub in_mcast_octets: i64,
+    /// `IPSTATS_MIB_OUTMCASTOCTETS`.
     pub out_mcast_octets: i64,
+    /// `IPSTATS_MIB_INBCASTOCTETS`.
     pub in_bcast_octets: i64,
+    /// `IPSTATS_MIB_OUTBCASTOCTETS`.
     pub out_bcast_octets: i64,
+    /// `IPSTATS_MIB_CSUMERRORS`.
     pub in_csum_errors: i64,
+    /// `IPSTATS_MIB_NOECTPKTS`.
     pub in_no_ect_pkts: i64,
+    /// `IPSTATS_MIB_ECT1PKTS`.
     pub in_ect1_pkts: i64,
+    /// `IPSTATS_MIB_ECT0PKTS`.
     pub in_ect0_pkts: i64,
+    /// `IPSTATS_MIB_CEPKTS`.
     pub in_ce_pkts: i64,
+    /// `IPSTATS_MIB_REASM_OVERLAPS`.
     pub reasm_overlaps: i64,
+    /// `IPSTATS_MIB_OUTPKTS`.
     pub out_pkts: i64,
     /// Reserved: this project's own, and in no kernel. Zero where the payload is shorter.
     pub reserved_39: i64,

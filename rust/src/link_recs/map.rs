@@ -13,12 +13,19 @@ pub const MAP_SIZE: usize = 32;
 /// `memory_end` at 8 and `base_address` at 16, of eight bytes; `irq` at 24, of two; `dma` at 26 and `port` at 27, of
 /// one; then four bytes of padding, which are not read and written as zeros.
 #[derive(Clone, Copy, Debug, Default, PartialEq, Eq, Hash)]
+#[cfg_attr(feature = "serde", derive(serde::Serialize, serde::Deserialize))]
 pub struct Map {
+    /// Where the memory of the device begins.
     pub memory_start: u64,
+    /// Where the memory of the device ends.
     pub memory_end: u64,
+    /// The base address of its ports.
     pub base_address: u64,
+    /// The interrupt.
     pub irq: u16,
+    /// The channel of direct memory access.
     pub dma: u8,
+    /// The kind of port: `IF_PORT_*`.
     pub port: u8,
 }
 

@@ -17,30 +17,55 @@ pub const STATS_SIZE: usize = 4 * STATS_COUNT;
 /// linux/if_link.h: field number `i`, counted from 0, stands at offset `4 * i`. Packets and errors are counted in
 /// packets, `rx_bytes` and `tx_bytes` in bytes, `rx_over_errors` in events and `collisions` in collisions.
 #[derive(Clone, Copy, Debug, Default, PartialEq, Eq, Hash)]
+#[cfg_attr(feature = "serde", derive(serde::Serialize, serde::Deserialize))]
 pub struct Stats {
+    /// Packets that were received.
     pub rx_packets: u32,
+    /// Packets that were sent.
     pub tx_packets: u32,
+    /// Bytes that were received.
     pub rx_bytes: u32,
+    /// Bytes that were sent.
     pub tx_bytes: u32,
+    /// Packets that were received with an error.
     pub rx_errors: u32,
+    /// Packets that were not sent for an error.
     pub tx_errors: u32,
+    /// Packets that were received and not processed, as for lack of memory.
     pub rx_dropped: u32,
+    /// Packets that were dropped on their way to be sent.
     pub tx_dropped: u32,
+    /// Multicast packets that were received.
     pub multicast: u32,
+    /// Collisions while packets were sent.
     pub collisions: u32,
+    /// Packets that were dropped for their length.
     pub rx_length_errors: u32,
+    /// Packets for which the receiver had no room.
     pub rx_over_errors: u32,
+    /// Packets with a wrong checksum of the link.
     pub rx_crc_errors: u32,
+    /// Packets whose frame was not aligned.
     pub rx_frame_errors: u32,
+    /// Packets for which a queue of the receiver had no room.
     pub rx_fifo_errors: u32,
+    /// Packets that the host missed.
     pub rx_missed_errors: u32,
+    /// Packets whose sending was given up.
     pub tx_aborted_errors: u32,
+    /// Packets that were not sent since the carrier was lost.
     pub tx_carrier_errors: u32,
+    /// Packets that were not sent since a queue ran empty.
     pub tx_fifo_errors: u32,
+    /// Packets that failed a test of the heartbeat.
     pub tx_heartbeat_errors: u32,
+    /// Packets that were not sent since a collision came late.
     pub tx_window_errors: u32,
+    /// Compressed packets that were received.
     pub rx_compressed: u32,
+    /// Compressed packets that were sent.
     pub tx_compressed: u32,
+    /// Packets that were received and that nothing took.
     pub rx_nohandler: u32,
 }
 

@@ -7,6 +7,7 @@ use crate::nla_wire::NlasIterator;
 
 /// A kind of device of which something moves by itself.
 #[derive(Clone, Copy, Debug, PartialEq, Eq, Hash)]
+#[cfg_attr(feature = "serde", derive(serde::Serialize, serde::Deserialize))]
 pub enum Kind {
     /// `bridge`: of it, and of its ports.
     Bridge,

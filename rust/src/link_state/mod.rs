@@ -8,4 +8,6 @@ mod state_encoding;
 mod thin;
 mod walk;
 
-pub use state_encoding::{STATE_FORM, same_state, state, state_within};
+pub use state_encoding::{
+    STATE_FORM, same_state, state, state_lenient, state_lenient_len, state_lenient_within, state_within,
+};

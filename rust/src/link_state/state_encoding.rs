@@ -2,7 +2,10 @@
 //! The state encoding of a message.
 
 use crate::link_msg::header::HEADER_SIZE;
-use crate::link_msg::{CanonError, RoomError, canonical, canonical_within};
+use crate::link_msg::{
+    CanonError, RoomError, canonical, canonical_lenient, canonical_lenient_len, canonical_lenient_within,
+    canonical_within,
+};
 use crate::link_state::level::{Level, clear};
 use crate::link_state::walk::fill_bytes;
 use crate::link_vals::AddressFamily;
@@ -71,4 +74,54 @@ pub fn same_state(first: &[u8], second: &[u8]) -> Result<bool, CanonError> {
     let one = state(first)?;
     let other = state(second)?;
     Ok(one.as_slice() == other.as_slice())
+}
+
+/// Writes the state encoding of what the bytes mean leniently to the front of a buffer of any size, without memory, and
+/// returns its length, which is that of the lenient canonical encoding. The rest of the buffer is kept.
+///
+/// Attributes that are kept raw because they are refused are cleared as others of their number are, in a list as far as
+/// its first fault. Refuses as `canonical_lenient_within` does. After a refusal the buffer is unchanged.
+///
+/// # Errors
+///
+/// The first fault: its cause, and where it is.
+pub fn state_lenient_within(input: &[u8], out: &mut [u8]) -> Result<usize, RoomError> {
+    let len = canonical_lenient_within(input, out)?;
+    clear_message(room(out, ..len));
+    Ok(len)
+}
+
+/// Writes the state encoding of what the bytes mean leniently to the front of the buffer, without memory, and returns
+/// its length. The rest of the buffer is kept.
+///
+/// The buffer has room for the lenient canonical encoding, which is as long. Refuses as `canonical_lenient_into` does.
+/// After a refusal the buffer is unchanged.
+pub fn state_lenient_into(input: &[u8], out: &mut [u8]) -> Result<usize, CanonError> {
+    match state_lenient_within(input, out) {
+        Ok(len) => Ok(len),
+        Err(RoomError::NoEncoding(error)) => Err(error),
+        Err(RoomError::NoRoom { wanted }) => panic!("the text has {wanted} bytes, and the buffer has fewer"),
+    }
+}
+
+/// The length of the state encoding of what the bytes mean leniently, which is that of the lenient canonical encoding,
+/// without memory.
+///
+/// # Errors
+///
+/// Refuses as `canonical_lenient_len` does.
+pub fn state_lenient_len(input: &[u8]) -> Result<usize, CanonError> {
+    canonical_lenient_len(input)
+}
+
+/// The state encoding of what the bytes mean leniently: their lenient canonical encoding with all that moves by itself
+/// at zero. Where `state` has an encoding, this is it.
+///
+/// # Errors
+///
+/// Refuses as `canonical_lenient` does.
+pub fn state_lenient(input: &[u8]) -> Result<Vec<u8>, CanonError> {
+    let mut encoding = canonical_lenient(input)?;
+    clear_message(encoding.as_mut_slice());
+    Ok(encoding)
 }

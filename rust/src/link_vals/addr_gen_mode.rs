@@ -5,11 +5,16 @@ use core::fmt;
 
 /// How a link makes its IPv6 addresses, one byte: `IN6_ADDR_GEN_MODE_..` of linux/if_link.h.
 #[derive(Clone, Copy, Debug, Default, PartialEq, Eq, Hash)]
+#[cfg_attr(feature = "serde", derive(serde::Serialize, serde::Deserialize))]
 pub enum In6AddrGenMode {
+    /// `IN6_ADDR_GEN_MODE_EUI64`: of the hardware address.
     #[default]
     Eui64,
+    /// `IN6_ADDR_GEN_MODE_NONE`: none is made.
     None,
+    /// `IN6_ADDR_GEN_MODE_STABLE_PRIVACY`: of a secret, the same each time.
     StablePrivacy,
+    /// `IN6_ADDR_GEN_MODE_RANDOM`: as with a secret, which is random.
     Random,
     /// A number without a name.
     Other(u8),

@@ -4,12 +4,18 @@
 /// The address family of a link message, one byte: numbers `AF_..` of linux/socket.h. Reading depends on `Unspec`,
 /// `Bridge` and `Inet6` alone; `Inet` and `Mctp` are told apart from numbers without a name, and read like these.
 #[derive(Clone, Copy, Debug, Default, PartialEq, Eq, Hash)]
+#[cfg_attr(feature = "serde", derive(serde::Serialize, serde::Deserialize))]
 pub enum AddressFamily {
+    /// `AF_UNSPEC`, 0.
     #[default]
     Unspec,
+    /// `AF_INET`, 2.
     Inet,
+    /// `AF_BRIDGE`, 7.
     Bridge,
+    /// `AF_INET6`, 10.
     Inet6,
+    /// `AF_MCTP`, 45.
     Mctp,
     /// A number without a name.
     Other(u8),

@@ -5,14 +5,22 @@ use crate::nla_wire::{DecodeError, emit_u32, parse_u32};
 
 /// Why a link announced itself anew, four bytes in host order: `IFLA_EVENT_..` of linux/if_link.h.
 #[derive(Clone, Copy, Debug, Default, PartialEq, Eq, Hash)]
+#[cfg_attr(feature = "serde", derive(serde::Serialize, serde::Deserialize))]
 pub enum LinkEvent {
+    /// `IFLA_EVENT_NONE`: no event.
     #[default]
     None,
+    /// `IFLA_EVENT_REBOOT`: the device was reset.
     Reboot,
+    /// `IFLA_EVENT_FEATURES`: features have changed.
     Features,
+    /// `IFLA_EVENT_BONDING_FAILOVER`: another port of a bond is active.
     BondingFailover,
+    /// `IFLA_EVENT_NOTIFY_PEERS`: peers are told of the address.
     NotifyPeers,
+    /// `IFLA_EVENT_IGMP_RESEND`: reports of groups are sent again.
     IgmpResend,
+    /// `IFLA_EVENT_BONDING_OPTIONS`: options of a bond have changed.
     BondingOptions,
     /// A number without a name.
     Other(u32),

@@ -8,6 +8,7 @@ use alloc::vec::Vec;
 ///
 /// A number that is not one of the eight flags is kept in `Other`, of one bit or of many.
 #[derive(Clone, Copy, Debug, PartialEq, Eq, Hash)]
+#[cfg_attr(feature = "serde", derive(serde::Serialize, serde::Deserialize))]
 pub enum LinkExtentMask {
     /// RTEXT_FILTER_VF: virtual functions.
     Vf,

@@ -7,74 +7,142 @@ use core::fmt;
 ///
 /// A number that is not listed becomes `Void`.
 #[derive(Clone, Copy, Debug, Default, PartialEq, Eq, Hash)]
+#[cfg_attr(feature = "serde", derive(serde::Serialize, serde::Deserialize))]
 pub enum LinkLayerType {
+    /// `ARPHRD_NETROM`.
     #[default]
     Netrom,
+    /// `ARPHRD_ETHER`.
     Ether,
+    /// `ARPHRD_EETHER`.
     Eether,
+    /// `ARPHRD_AX25`.
     Ax25,
+    /// `ARPHRD_PRONET`.
     Pronet,
+    /// `ARPHRD_CHAOS`.
     Chaos,
+    /// `ARPHRD_IEEE802`.
     Ieee802,
+    /// `ARPHRD_ARCNET`.
     Arcnet,
+    /// `ARPHRD_APPLETLK`.
     Appletlk,
+    /// `ARPHRD_DLCI`.
     Dlci,
+    /// `ARPHRD_ATM`.
     Atm,
+    /// `ARPHRD_METRICOM`.
     Metricom,
+    /// `ARPHRD_IEEE1394`.
     Ieee1394,
+    /// `ARPHRD_EUI64`.
     Eui64,
+    /// `ARPHRD_INFINIBAND`.
     Infiniband,
+    /// `ARPHRD_SLIP`.
     Slip,
+    /// `ARPHRD_CSLIP`.
     Cslip,
+    /// `ARPHRD_SLIP6`.
     Slip6,
+    /// `ARPHRD_CSLIP6`.
     Cslip6,
+    /// `ARPHRD_RSRVD`.
     Rsrvd,
+    /// `ARPHRD_ADAPT`.
     Adapt,
+    /// `ARPHRD_ROSE`.
     Rose,
+    /// `ARPHRD_X25`.
     X25,
+    /// `ARPHRD_HWX25`.
     Hwx25,
+    /// `ARPHRD_CAN`.
     Can,
+    /// `ARPHRD_MCTP`.
     Mctp,
+    /// `ARPHRD_PPP`.
     Ppp,
+    /// `ARPHRD_HDLC`.
     Hdlc,
+    /// `ARPHRD_LAPB`.
     Lapb,
+    /// `ARPHRD_DDCMP`.
     Ddcmp,
+    /// `ARPHRD_RAWHDLC`.
     Rawhdlc,
+    /// `ARPHRD_RAWIP`.
     Rawip,
+    /// `ARPHRD_TUNNEL`.
     Tunnel,
+    /// `ARPHRD_TUNNEL6`.
     Tunnel6,
+    /// `ARPHRD_FRAD`.
     Frad,
+    /// `ARPHRD_SKIP`.
     Skip,
+    /// `ARPHRD_LOOPBACK`.
     Loopback,
+    /// `ARPHRD_LOCALTLK`.
     Localtlk,
+    /// `ARPHRD_FDDI`.
     Fddi,
+    /// `ARPHRD_BIF`.
     Bif,
+    /// `ARPHRD_SIT`.
     Sit,
+    /// `ARPHRD_IPDDP`.
     Ipddp,
+    /// `ARPHRD_IPGRE`.
     Ipgre,
+    /// `ARPHRD_PIMREG`.
     Pimreg,
+    /// `ARPHRD_HIPPI`.
     Hippi,
+    /// `ARPHRD_ASH`.
     Ash,
+    /// `ARPHRD_ECONET`.
     Econet,
+    /// `ARPHRD_IRDA`.
     Irda,
+    /// `ARPHRD_FCPP`.
     Fcpp,
+    /// `ARPHRD_FCAL`.
     Fcal,
+    /// `ARPHRD_FCPL`.
     Fcpl,
+    /// `ARPHRD_FCFABRIC`.
     Fcfabric,
+    /// `ARPHRD_IEEE802_TR`.
     Ieee802Tr,
+    /// `ARPHRD_IEEE80211`.
     Ieee80211,
+    /// `ARPHRD_IEEE80211_PRISM`.
     Ieee80211Prism,
+    /// `ARPHRD_IEEE80211_RADIOTAP`.
     Ieee80211Radiotap,
+    /// `ARPHRD_IEEE802154`.
     Ieee802154,
+    /// `ARPHRD_IEEE802154_MONITOR`.
     Ieee802154Monitor,
+    /// `ARPHRD_PHONET`.
     Phonet,
+    /// `ARPHRD_PHONET_PIPE`.
     PhonetPipe,
+    /// `ARPHRD_CAIF`.
     Caif,
+    /// `ARPHRD_IP6GRE`.
     Ip6gre,
+    /// `ARPHRD_NETLINK`.
     Netlink,
+    /// `ARPHRD_6LOWPAN`.
     Sixlowpan,
+    /// `ARPHRD_VSOCKMON`.
     Vsockmon,
+    /// `ARPHRD_NONE`.
     None,
+    /// `ARPHRD_VOID`.
     Void,
 }
 

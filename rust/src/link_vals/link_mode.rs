@@ -5,10 +5,14 @@ use core::fmt;
 
 /// The mode of a link, one byte: `IF_LINK_MODE_..` of linux/if.h.
 #[derive(Clone, Copy, Debug, Default, PartialEq, Eq, Hash)]
+#[cfg_attr(feature = "serde", derive(serde::Serialize, serde::Deserialize))]
 pub enum LinkMode {
+    /// `IF_LINK_MODE_DEFAULT`: up where the carrier is.
     #[default]
     Default,
+    /// `IF_LINK_MODE_DORMANT`: dormant before it is up.
     Dormant,
+    /// `IF_LINK_MODE_TESTING`: testing before it is up.
     Testing,
     /// A number without a name.
     Other(u8),

@@ -7,13 +7,21 @@ use core::str::FromStr;
 
 /// The operational state of a link, one byte: `IF_OPER_..` of linux/if.h, of RFC 2863.
 #[derive(Clone, Copy, Debug, PartialEq, Eq, Hash)]
+#[cfg_attr(feature = "serde", derive(serde::Serialize, serde::Deserialize))]
 pub enum State {
+    /// `IF_OPER_UNKNOWN`: the driver does not say.
     Unknown,
+    /// `IF_OPER_NOTPRESENT`: a part is missing.
     NotPresent,
+    /// `IF_OPER_DOWN`.
     Down,
+    /// `IF_OPER_LOWERLAYERDOWN`: a link below it is down.
     LowerLayerDown,
+    /// `IF_OPER_TESTING`.
     Testing,
+    /// `IF_OPER_DORMANT`: it waits for an event, as of an authentication.
     Dormant,
+    /// `IF_OPER_UP`.
     Up,
     /// A number without a name.
     Other(u8),

@@ -6,16 +6,27 @@ use core::fmt;
 /// The physical binding of an MCTP link, one byte: the numbers that DSP0239 of DMTF assigns, as
 /// `IFLA_MCTP_PHYS_BINDING` of linux/if_link.h carries them.
 #[derive(Clone, Copy, Debug, PartialEq, Eq, Hash)]
+#[cfg_attr(feature = "serde", derive(serde::Serialize, serde::Deserialize))]
 pub enum MctpPhysBinding {
+    /// SMBus, 1.
     Smbus,
+    /// PCIe messages of a vendor, 2.
     PcieVdm,
+    /// USB, 3.
     Usb,
+    /// KCS, 4.
     Kcs,
+    /// A serial line, 5.
     Serial,
+    /// I3C, 6.
     I3c,
+    /// MMBI, 7.
     Mmbi,
+    /// PCC, 8.
     Pcc,
+    /// UCIe, 9.
     Ucie,
+    /// A vendor's own, 255.
     Vendor,
     /// A number without a name.
     Other(u8),

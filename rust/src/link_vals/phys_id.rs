@@ -9,8 +9,11 @@ use crate::nla_wire::fields::{put_bytes, zero_filled_32};
 ///
 /// The bytes of `id` from `len` on are no part of it.
 #[derive(Clone, Copy, Debug, PartialEq, Eq, Hash)]
+#[cfg_attr(feature = "serde", derive(serde::Serialize, serde::Deserialize))]
 pub struct LinkPhysId {
+    /// The bytes, and zeros after them.
     pub id: [u8; 32],
+    /// How many bytes it has, at most 32.
     pub len: usize,
 }
 

@@ -4,10 +4,14 @@
 /// How the link of a virtual function follows that of its device, four bytes: `IFLA_VF_LINK_STATE_..` of
 /// linux/if_link.h.
 #[derive(Clone, Copy, Debug, Default, PartialEq, Eq, Hash)]
+#[cfg_attr(feature = "serde", derive(serde::Serialize, serde::Deserialize))]
 pub enum VfLinkState {
+    /// `IFLA_VF_LINK_STATE_AUTO`: as the physical function.
     #[default]
     Auto,
+    /// `IFLA_VF_LINK_STATE_ENABLE`: always up.
     Enable,
+    /// `IFLA_VF_LINK_STATE_DISABLE`: always down.
     Disable,
     /// A number without a name.
     Other(u32),

@@ -6,9 +6,12 @@
 /// Any other number is read as `Ieee8021Q`. The numbers here are those of the protocols; the wire has them highest byte
 /// first.
 #[derive(Clone, Copy, Debug, Default, PartialEq, Eq, Hash)]
+#[cfg_attr(feature = "serde", derive(serde::Serialize, serde::Deserialize))]
 pub enum VlanProtocol {
+    /// `ETH_P_8021Q`: the tags of customers.
     #[default]
     Ieee8021Q,
+    /// `ETH_P_8021AD`: the tags of providers.
     Ieee8021Ad,
 }
 

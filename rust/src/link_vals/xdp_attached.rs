@@ -5,11 +5,17 @@ use crate::nla_wire::DecodeError;
 
 /// Where the XDP program of a link is attached, one byte: `XDP_ATTACHED_..` of linux/if_link.h.
 #[derive(Clone, Copy, Debug, PartialEq, Eq, Hash)]
+#[cfg_attr(feature = "serde", derive(serde::Serialize, serde::Deserialize))]
 pub enum XdpAttached {
+    /// `XDP_ATTACHED_NONE`: no program.
     None,
+    /// `XDP_ATTACHED_DRV`: in the driver.
     Driver,
+    /// `XDP_ATTACHED_SKB`: on socket buffers.
     SocketBuffer,
+    /// `XDP_ATTACHED_HW`: in the hardware.
     Hardware,
+    /// `XDP_ATTACHED_MULTI`: more than one.
     Multiple,
     /// A number without a name.
     Other(u8),

@@ -10,6 +10,7 @@ use alloc::vec::Vec;
 /// An entry of IFLA_VF_PORTS, with the number of IFLA_VF_PORT (linux/if_link.h): what is said of one port. Alone it is
 /// the value of IFLA_PORT_SELF.
 #[derive(Clone, Debug, Default, PartialEq, Eq, Hash)]
+#[cfg_attr(feature = "serde", derive(serde::Serialize, serde::Deserialize))]
 pub struct LinkVfPort(pub Vec<VfPort>);
 
 impl Nla for LinkVfPort {

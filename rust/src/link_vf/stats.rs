@@ -13,6 +13,7 @@ use crate::nla_wire::{
 
 /// A member of IFLA_VF_STATS (linux/if_link.h): a number of eight bytes.
 #[derive(Clone, Debug, PartialEq, Eq, Hash)]
+#[cfg_attr(feature = "serde", derive(serde::Serialize, serde::Deserialize))]
 pub enum VfStats {
     /// IFLA_VF_STATS_RX_PACKETS: packets received.
     RxPackets(u64),

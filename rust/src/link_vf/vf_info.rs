@@ -20,6 +20,7 @@ use alloc::vec::Vec;
 
 /// A member of IFLA_VF_INFO (linux/if_link.h).
 #[derive(Clone, Debug, PartialEq, Eq, Hash)]
+#[cfg_attr(feature = "serde", derive(serde::Serialize, serde::Deserialize))]
 pub enum VfInfo {
     /// IFLA_VF_MAC: the hardware address, a record of 36 bytes.
     Mac(VfInfoMac),

@@ -10,6 +10,7 @@ use alloc::vec::Vec;
 /// An entry of IFLA_VFINFO_LIST, with the number of IFLA_VF_INFO (linux/if_link.h): what is said of one virtual
 /// function.
 #[derive(Clone, Debug, Default, PartialEq, Eq, Hash)]
+#[cfg_attr(feature = "serde", derive(serde::Serialize, serde::Deserialize))]
 pub struct LinkVfInfo(pub Vec<VfInfo>);
 
 impl Nla for LinkVfInfo {

@@ -5,6 +5,7 @@ use crate::nla_wire::{DecodeError, DefaultNla, Flat, FlatView, Nla, NlaBuffer, N
 
 /// A member of IFLA_VF_PORT (linux/if_link.h).
 #[derive(Clone, Debug, PartialEq, Eq, Hash)]
+#[cfg_attr(feature = "serde", derive(serde::Serialize, serde::Deserialize))]
 pub enum VfPort {
     /// No number is listed: each is kept as it is.
     Other(DefaultNla),

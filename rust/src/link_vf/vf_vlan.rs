@@ -8,6 +8,7 @@ use crate::nla_wire::{DecodeError, DefaultNla, Nla, NlaBuffer, NlaRead, Record, 
 
 /// A member of IFLA_VF_VLAN_LIST (linux/if_link.h).
 #[derive(Clone, Debug, PartialEq, Eq, Hash)]
+#[cfg_attr(feature = "serde", derive(serde::Serialize, serde::Deserialize))]
 pub enum VfVlan {
     /// IFLA_VF_VLAN_INFO: one vlan, a record of 16 bytes.
     Info(VfVlanInfo),

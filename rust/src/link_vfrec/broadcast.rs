@@ -11,7 +11,9 @@ pub const VF_INFO_BROADCAST_SIZE: usize = 32;
 ///
 /// `struct ifla_vf_broadcast` of linux/if_link.h, 32 bytes: the address at 0, with zeros after a shorter one.
 #[derive(Clone, Copy, Debug, Default, PartialEq, Eq, Hash)]
+#[cfg_attr(feature = "serde", derive(serde::Serialize, serde::Deserialize))]
 pub struct VfInfoBroadcast {
+    /// The broadcast address, and zeros after it.
     pub addr: [u8; 32],
 }
 

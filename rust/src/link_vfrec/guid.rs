@@ -12,8 +12,11 @@ pub const VF_INFO_GUID_SIZE: usize = 16;
 /// `struct ifla_vf_guid` of linux/if_link.h, 16 bytes, numbers with the lowest byte first: `vf_id` at 0, of four bytes;
 /// four bytes of padding, which are not read and written as zeros; `guid` at 8, of eight bytes.
 #[derive(Clone, Copy, Debug, Default, PartialEq, Eq, Hash)]
+#[cfg_attr(feature = "serde", derive(serde::Serialize, serde::Deserialize))]
 pub struct VfInfoGuid {
+    /// The number of the function.
     pub vf_id: u32,
+    /// The identifier.
     pub guid: u64,
 }
 

@@ -13,8 +13,11 @@ pub const VF_INFO_LINK_STATE_SIZE: usize = 8;
 /// `struct ifla_vf_link_state` of linux/if_link.h, 8 bytes, numbers of four bytes, lowest byte first: `vf_id` at 0; the
 /// number of `state` at 4.
 #[derive(Clone, Copy, Debug, Default, PartialEq, Eq, Hash)]
+#[cfg_attr(feature = "serde", derive(serde::Serialize, serde::Deserialize))]
 pub struct VfInfoLinkState {
+    /// The number of the function.
     pub vf_id: u32,
+    /// The state.
     pub state: VfLinkState,
 }
 

@@ -12,8 +12,11 @@ pub const VF_INFO_MAC_SIZE: usize = 36;
 /// `struct ifla_vf_mac` of linux/if_link.h, 36 bytes: `vf_id` at 0, of four bytes, lowest byte first; the address at 4,
 /// of 32 bytes, with zeros after a shorter one.
 #[derive(Clone, Copy, Debug, Default, PartialEq, Eq, Hash)]
+#[cfg_attr(feature = "serde", derive(serde::Serialize, serde::Deserialize))]
 pub struct VfInfoMac {
+    /// The number of the function.
     pub vf_id: u32,
+    /// The hardware address, and zeros after it.
     pub mac: [u8; 32],
 }
 

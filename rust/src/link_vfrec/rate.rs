@@ -12,9 +12,13 @@ pub const VF_INFO_RATE_SIZE: usize = 12;
 /// `struct ifla_vf_rate` of linux/if_link.h, 12 bytes, numbers of four bytes, lowest byte first: `vf_id` at 0;
 /// `min_tx_rate` at 4 and `max_tx_rate` at 8, in megabits a second.
 #[derive(Clone, Copy, Debug, Default, PartialEq, Eq, Hash)]
+#[cfg_attr(feature = "serde", derive(serde::Serialize, serde::Deserialize))]
 pub struct VfInfoRate {
+    /// The number of the function.
     pub vf_id: u32,
+    /// The least rate of sending, in Mbit/s; 0 is none.
     pub min_tx_rate: u32,
+    /// The greatest rate of sending, in Mbit/s; 0 is none.
     pub max_tx_rate: u32,
 }
 

@@ -12,8 +12,11 @@ pub const VF_INFO_TX_RATE_SIZE: usize = 8;
 /// `struct ifla_vf_tx_rate` of linux/if_link.h, 8 bytes, numbers of four bytes, lowest byte first: `vf_id` at 0; `rate`
 /// at 4, in megabits a second, where 0 is no bound.
 #[derive(Clone, Copy, Debug, Default, PartialEq, Eq, Hash)]
+#[cfg_attr(feature = "serde", derive(serde::Serialize, serde::Deserialize))]
 pub struct VfInfoTxRate {
+    /// The number of the function.
     pub vf_id: u32,
+    /// The greatest rate of sending, in Mbit/s; 0 is none.
     pub rate: u32,
 }
 

@@ -14,10 +14,15 @@ pub const VF_VLAN_INFO_SIZE: usize = 16;
 /// filter off, and `qos` at 8, of four bytes, lowest byte first; the number of `protocol` at 12, of two bytes, highest
 /// byte first; two bytes of padding, which are not read and written as zeros.
 #[derive(Clone, Copy, Debug, Default, PartialEq, Eq, Hash)]
+#[cfg_attr(feature = "serde", derive(serde::Serialize, serde::Deserialize))]
 pub struct VfVlanInfo {
+    /// The number of the function.
     pub vf_id: u32,
+    /// The vlan, 1 to 4095; 0 is none.
     pub vlan_id: u32,
+    /// The priority of the vlan, 0 to 7.
     pub qos: u32,
+    /// The protocol of the vlan.
     pub protocol: VlanProtocol,
 }
 

@@ -12,9 +12,13 @@ pub const VF_INFO_VLAN_SIZE: usize = 12;
 /// `struct ifla_vf_vlan` of linux/if_link.h, 12 bytes, numbers of four bytes, lowest byte first: `vf_id` at 0;
 /// `vlan_id` at 4, 0 to 4095, where 0 turns the filter off; `qos` at 8.
 #[derive(Clone, Copy, Debug, Default, PartialEq, Eq, Hash)]
+#[cfg_attr(feature = "serde", derive(serde::Serialize, serde::Deserialize))]
 pub struct VfInfoVlan {
+    /// The number of the function.
     pub vf_id: u32,
+    /// The vlan, 1 to 4095; 0 is none.
     pub vlan_id: u32,
+    /// The priority of the vlan, 0 to 7.
     pub qos: u32,
 }
 

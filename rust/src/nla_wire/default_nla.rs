@@ -10,6 +10,7 @@ use alloc::vec::Vec;
 
 /// An attribute whose number is not known at its place: its kind with both flag bits, and its payload.
 #[derive(Clone, Debug, PartialEq, Eq, Hash)]
+#[cfg_attr(feature = "serde", derive(serde::Serialize, serde::Deserialize))]
 pub struct DefaultNla {
     kind: u16,
     value: Vec<u8>,

@@ -5,17 +5,38 @@
 #[derive(Clone, Copy, Debug, PartialEq, Eq, Hash)]
 pub enum Cause {
     /// Cause 1: a header, record or wireless event has fewer bytes than it needs.
-    TooShort { got: usize, need: usize },
+    TooShort {
+        /// How many bytes there are.
+        got: usize,
+        /// How many are needed at least.
+        need: usize,
+    },
     /// Cause 2: fewer than four bytes are left for the header of a frame.
-    FrameShort { left: usize },
+    FrameShort {
+        /// How many bytes are left.
+        left: usize,
+    },
     /// Cause 3: the length of a frame passes the bytes that are left.
-    FrameOver { length: u16, left: usize },
+    FrameOver {
+        /// The length that the header of the attribute says.
+        length: u16,
+        /// How many bytes are left.
+        left: usize,
+    },
     /// Cause 4: the length of a frame is below that of its header.
-    FrameUnder { length: u16 },
+    FrameUnder {
+        /// The length that the header of the attribute says.
+        length: u16,
+    },
     /// Cause 5: the payload of a list that must not be empty is empty.
     EmptyList,
     /// Cause 6: a number or an address has another length than its own.
-    WrongLength { got: usize, want: usize },
+    WrongLength {
+        /// How many bytes there are.
+        got: usize,
+        /// How many there have to be.
+        want: usize,
+    },
     /// Cause 7: a text is not UTF-8.
     NotUtf8,
     /// Cause 8: a name names no operational state.
@@ -67,7 +88,9 @@ pub const PAYLOAD: &str = "payload";
 /// read name it so is tested, and not proved.
 #[derive(Clone, Copy, Debug, PartialEq, Eq, Hash)]
 pub struct DecodeError {
+    /// The name of what was to be read.
     pub place: &'static str,
+    /// What is wrong.
     pub cause: Cause,
 }
 

@@ -82,6 +82,8 @@ pub const BOND: &[Row] = &[
     Row(30, "missed-max", U8),
     Row(31, "ns-ip6-target", Style::List(Plain::Ipv6)),
     Row(32, "coupled-control", U8),
+    Row(33, "broadcast-neigh", U8),
+    Row(34, "lacp-strict", U8),
 ];
 
 /// The aggregator in use.

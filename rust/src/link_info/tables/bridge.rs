@@ -23,6 +23,9 @@ const BOOLOPT_BITS: Names = &[(1, "no-ll-learn"), (2, "mcast-vlan-snooping"), (4
 /// What a port does with packets (`BR_STATE_*`, linux/if_bridge.h).
 const STATES: Names = &[(0, "disabled"), (1, "listening"), (2, "learning"), (3, "forwarding"), (4, "blocking")];
 
+/// Who runs the spanning tree (`enum br_stp_mode`, linux/if_link.h).
+const STP_MODES: Names = &[(0, "auto"), (1, "user"), (2, "kernel")];
+
 /// The data of a bridge.
 pub const BRIDGE: &[Row] = &[
     Row(1, "forward-delay", U32),
@@ -73,6 +76,7 @@ pub const BRIDGE: &[Row] = &[
     Row(47, "mcast-querier-state", Style::Nest(Place::BridgeQuerier)),
     Row(48, "fdb-n-learned", U32),
     Row(49, "fdb-max-learned", U32),
+    Row(50, "stp-mode", Style::Plain(Plain::Named(Size::Four, STP_MODES))),
 ];
 
 /// Who asks for multicast groups (`BRIDGE_QUERIER_*`, linux/if_bridge.h).
@@ -130,4 +134,5 @@ pub const BRIDGE_PORT: &[Row] = &[
     Row(42, "mcast-max-groups", U32),
     Row(43, "neigh-vlan-suppress", U8),
     Row(44, "backup-nhid", U32),
+    Row(45, "neigh-forward-grat", U8),
 ];

@@ -16,6 +16,9 @@ const NETKIT_MODES: Names = &[(0, "l2"), (1, "l3")];
 /// What is cleared of packets (`enum netkit_scrub`).
 const SCRUBS: Names = &[(0, "none"), (1, "default")];
 
+/// Whether a netkit device has a peer (`enum netkit_pairing`).
+const PAIRINGS: Names = &[(0, "pair"), (1, "single")];
+
 /// Protocols of redundancy (`enum hsr_proto`).
 const HSR_PROTOCOLS: Names = &[(0, "hsr"), (1, "prp")];
 
@@ -72,6 +75,7 @@ pub const NETKIT: &[Row] = &[
     Row(7, "peer-scrub", Style::Plain(Plain::Named(Size::Four, SCRUBS))),
     Row(8, "headroom", U16),
     Row(9, "tailroom", U16),
+    Row(10, "pairing", Style::Plain(Plain::Named(Size::Four, PAIRINGS))),
 ];
 
 /// The data of an hsr device (`IFLA_HSR_*`, linux/if_link.h).

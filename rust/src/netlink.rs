@@ -1,0 +1,121 @@
+// Copied from scripts/erase/std/src/netlink.rs: do not edit here.
+//! Link messages in netlink's envelope, for any release of netlink-packet-core, of which the crate has none.
+
+/// Makes an enum of messages of links that `NetlinkMessage` of this netlink-packet-core can hold: with
+/// `NetlinkSerializable` and `NetlinkDeserializable`, so that netlink-sys and netlink-proto send and receive it.
+#[macro_export]
+macro_rules! route_link {
+    ($(#[$attribute:meta])* $visible:vis enum $name:ident of $($core:ident)::+) => {
+        $(#[$attribute])*
+        #[derive(Clone, Debug, PartialEq, Eq, Hash)]
+        #[non_exhaustive]
+        $visible enum $name {
+            /// `RTM_NEWLINK`: a link is there, or is to be made or changed.
+            NewLink($crate::LinkMessage),
+            /// `RTM_DELLINK`: a link is gone, or is to be taken away.
+            DelLink($crate::LinkMessage),
+            /// `RTM_GETLINK`: a link is asked for, or all.
+            GetLink($crate::LinkMessage),
+            /// `RTM_SETLINK`: a link is to be changed.
+            SetLink($crate::LinkMessage),
+            /// A message of another type, or one of links that is refused: its type, and the bytes after netlink's
+            /// header.
+            Other(u16, Vec<u8>),
+        }
+
+        impl $name {
+            /// The message of this type and these bytes.
+            ///
+            /// # Errors
+            ///
+            /// Where a message of links is refused, its first fault.
+            $visible fn parse(message_type: u16, payload: &[u8]) -> Result<Self, $crate::DecodeError> {
+                let make = match message_type {
+                    16 => $name::NewLink,
+                    17 => $name::DelLink,
+                    18 => $name::GetLink,
+                    19 => $name::SetLink,
+                    other => return Ok($name::Other(other, payload.to_vec())),
+                };
+                Ok(make($crate::LinkMessage::parse(payload)?))
+            }
+
+            /// A request as a message in netlink's envelope, with its flags. What else the header has, as a sequence
+            /// number, is the caller's, or that of netlink-proto.
+            ///
+            /// # Errors
+            ///
+            /// Where `Request::check` has one.
+            $visible fn packet(
+                request: $crate::request::Request,
+            ) -> Result<$($core)::+::NetlinkMessage<$name>, $crate::request::RequestError> {
+                request.check()?;
+                let (kind, flags) = (request.message_type, request.flags);
+                let message = match kind {
+                    16 => $name::NewLink(request.message),
+                    17 => $name::DelLink(request.message),
+                    18 => $name::GetLink(request.message),
+                    19 => $name::SetLink(request.message),
+                    other => {
+                        let bytes = request.message.to_vec();
+                        $name::Other(other, bytes.map_err(|_| $crate::request::RequestError::DoesNotFit)?)
+                    }
+                };
+                let mut packet = $($core)::+::NetlinkMessage::from(message);
+                packet.header.flags = flags;
+                Ok(packet)
+            }
+
+            /// Its message of links, if it is one.
+            $visible fn link(&self) -> Option<&$crate::LinkMessage> {
+                match self {
+                    $name::NewLink(link) | $name::DelLink(link) => Some(link),
+                    $name::GetLink(link) | $name::SetLink(link) => Some(link),
+                    $name::Other(..) => None,
+                }
+            }
+        }
+
+        impl $($core)::+::NetlinkSerializable for $name {
+            fn message_type(&self) -> u16 {
+                match self {
+                    $name::NewLink(_) => 16,
+                    $name::DelLink(_) => 17,
+                    $name::GetLink(_) => 18,
+                    $name::SetLink(_) => 19,
+                    $name::Other(other, _) => *other,
+                }
+            }
+
+            fn buffer_len(&self) -> usize {
+                match self {
+                    $name::Other(_, bytes) => bytes.len(),
+                    _ => self.link().map_or(0, $crate::Emitable::buffer_len),
+                }
+            }
+
+            fn serialize(&self, buffer: &mut [u8]) {
+                match self {
+                    $name::Other(_, bytes) => buffer[..bytes.len()].copy_from_slice(bytes),
+                    _ => self.link().map_or((), |link| $crate::Emitable::emit(link, buffer)),
+                }
+            }
+        }
+
+        impl $($core)::+::NetlinkDeserializable for $name {
+            type Error = core::convert::Infallible;
+
+            /// A message of links that is refused is kept as `Other`: netlink-proto drops what is not read.
+            fn deserialize(header: &$($core)::+::NetlinkHeader, payload: &[u8]) -> Result<Self, Self::Error> {
+                let kind = header.message_type;
+                Ok($name::parse(kind, payload).unwrap_or_else(|_| $name::Other(kind, payload.to_vec())))
+            }
+        }
+
+        impl From<$name> for $($core)::+::NetlinkPayload<$name> {
+            fn from(message: $name) -> Self {
+                $($core)::+::NetlinkPayload::InnerMessage(message)
+            }
+        }
+    };
+}

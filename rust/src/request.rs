@@ -1,0 +1,400 @@
+// Copied from scripts/erase/std/src/request.rs: do not edit here.
+//! Requests that managers of interfaces send: the type and the flags of netlink's header, and the message after it.
+//!
+//! The types and flags are those of `ip`, which changes an interface by RTM_NEWLINK. What the kernel would refuse, or
+//! cut, for its length is an error here, before anything is sent.
+//!
+//! ```
+//! use linkwire::request;
+//! use linkwire::typed::{InfoData, InfoKind, InfoVlan};
+//! use linkwire::LinkAttribute;
+//!
+//! // ip link add vl0 link veth0 type vlan id 10, where veth0 has the index 3
+//! let vlan = InfoData::Vlan(vec![InfoVlan::Id(10)]);
+//! let add = request::add("vl0", InfoKind::Vlan, Some(vlan))?.with(LinkAttribute::Link(3));
+//! assert_eq!((add.message_type, add.flags), (16, 0x605));
+//! let packet = add.packet(1)?;
+//! assert_eq!(packet.len(), 16 + 60);
+//!
+//! let up = request::up(7)?;
+//! assert_eq!(up.packet(2)?[..8], [32, 0, 0, 0, 16, 0, 5, 0]);
+//! assert_eq!(request::name(7, "a name above fifteen"), Err(request::RequestError::Name));
+//! # Ok::<(), request::RequestError>(())
+//! ```
+
+use crate::link_msg::numbers::{IFLA_IFALIAS, IFLA_IFNAME};
+use crate::link_msg::{
+    DefaultNla, LinkAttribute, LinkExtentMask, LinkFlags, LinkInfo, LinkMessage, LinkVfInfo, Prop, VfInfo,
+};
+use crate::packet::Nla;
+use crate::typed::{InfoData, InfoKind};
+use alloc::string::String;
+use alloc::vec;
+use alloc::vec::Vec;
+use core::fmt;
+
+/// A link is there, or is to be made or changed (linux/rtnetlink.h).
+pub const RTM_NEWLINK: u16 = 16;
+/// A link is gone, or is to be taken away.
+pub const RTM_DELLINK: u16 = 17;
+/// A link is asked for, or all.
+pub const RTM_GETLINK: u16 = 18;
+/// A link is to be changed.
+pub const RTM_SETLINK: u16 = 19;
+/// Alternative names are to be added.
+pub const RTM_NEWLINKPROP: u16 = 108;
+/// Alternative names are to be taken away.
+pub const RTM_DELLINKPROP: u16 = 109;
+
+/// It is a request (linux/netlink.h).
+pub const NLM_F_REQUEST: u16 = 1;
+/// An answer is wanted where nothing else would be answered.
+pub const NLM_F_ACK: u16 = 4;
+/// All are asked for.
+pub const NLM_F_DUMP: u16 = 0x300;
+/// It is refused where one is there.
+pub const NLM_F_EXCL: u16 = 0x200;
+/// One is made where none is there.
+pub const NLM_F_CREATE: u16 = 0x400;
+/// It is added to a list.
+pub const NLM_F_APPEND: u16 = 0x800;
+
+/// The longest name of an interface, in bytes (`IFNAMSIZ` with its NUL, linux/if.h).
+pub const MOST_NAME: usize = 15;
+/// The longest alternative name (`ALTIFNAMSIZ` with its NUL).
+pub const MOST_ALT_NAME: usize = 127;
+/// The longest alias (`IFALIASZ` with its NUL).
+pub const MOST_ALIAS: usize = 255;
+
+/// Why a request is not made, or not written.
+#[derive(Clone, Copy, Debug, PartialEq, Eq, Hash)]
+#[non_exhaustive]
+pub enum RequestError {
+    /// A name is empty, has a NUL, or has more than 15 bytes; an alternative one may have 127.
+    Name,
+    /// An alias has a NUL, or more than 255 bytes.
+    Alias,
+    /// The message does not fit: an attribute holds at most 65531 bytes.
+    DoesNotFit,
+}
+
+impl fmt::Display for RequestError {
+    fn fmt(&self, f: &mut fmt::Formatter<'_>) -> fmt::Result {
+        f.write_str(match self {
+            RequestError::Name => "the name is empty, or longer than the kernel takes it",
+            RequestError::Alias => "the alias is longer than 255 bytes",
+            RequestError::DoesNotFit => "the message does not fit: an attribute holds at most 65531 bytes",
+        })
+    }
+}
+
+#[cfg(feature = "std")]
+impl std::error::Error for RequestError {}
+
+/// The interface that a request is of, by its index or its name.
+#[derive(Clone, Copy, Debug, PartialEq, Eq, Hash)]
+pub enum Of<'a> {
+    /// Its index.
+    Index(u32),
+    /// Its name.
+    Name(&'a str),
+}
+
+impl From<u32> for Of<'_> {
+    fn from(index: u32) -> Self {
+        Of::Index(index)
+    }
+}
+
+impl<'a> From<&'a str> for Of<'a> {
+    fn from(name: &'a str) -> Self {
+        Of::Name(name)
+    }
+}
+
+/// A request: the type and the flags of netlink's header, and the message after it.
+#[derive(Clone, Debug, PartialEq, Eq, Hash)]
+pub struct Request {
+    /// The type of the message: one of `RTM_*`.
+    pub message_type: u16,
+    /// The flags: of `NLM_F_*`.
+    pub flags: u16,
+    /// The message.
+    pub message: LinkMessage,
+}
+
+impl Request {
+    fn new(message_type: u16, flags: u16, link: Of<'_>) -> Result<Request, RequestError> {
+        let mut message = LinkMessage::default();
+        match link {
+            Of::Index(index) => message.header.index = index,
+            Of::Name(name) => message.attributes.push(if_name(name)?),
+        }
+        Ok(Request { message_type, flags: flags | NLM_F_REQUEST, message })
+    }
+
+    /// The request with one more attribute at its end.
+    pub fn with(mut self, attribute: LinkAttribute) -> Request {
+        self.message.attributes.push(attribute);
+        self
+    }
+
+    /// Whether it can be sent: all names have a length that the kernel takes, and the message fits.
+    ///
+    /// # Errors
+    ///
+    /// The first attribute with a name or alias that is too long; or a message that does not fit.
+    pub fn check(&self) -> Result<(), RequestError> {
+        for attribute in &self.message.attributes {
+            match attribute {
+                LinkAttribute::IfName(name) => named(name, MOST_NAME)?,
+                LinkAttribute::IfAlias(alias) if alias.len() >= MOST_ALIAS => return Err(RequestError::Alias),
+                LinkAttribute::PropList(list) => list.iter().try_for_each(checked)?,
+                LinkAttribute::Other(kept) => kept_text(kept)?,
+                _ => (),
+            }
+        }
+        if self.message.fits() { Ok(()) } else { Err(RequestError::DoesNotFit) }
+    }
+
+    /// The whole packet: netlink's header with this sequence number, and the message.
+    ///
+    /// # Errors
+    ///
+    /// Where `check` has one.
+    pub fn packet(&self, sequence: u32) -> Result<Vec<u8>, RequestError> {
+        self.check()?;
+        let text = self.message.to_vec().map_err(|_| RequestError::DoesNotFit)?;
+        let len = u32::try_from(16 + text.len()).map_err(|_| RequestError::DoesNotFit)?;
+        let mut packet = Vec::with_capacity(16 + text.len());
+        packet.extend_from_slice(&len.to_le_bytes());
+        packet.extend_from_slice(&self.message_type.to_le_bytes());
+        packet.extend_from_slice(&self.flags.to_le_bytes());
+        packet.extend_from_slice(&sequence.to_le_bytes());
+        packet.extend_from_slice(&[0; 4]);
+        packet.extend_from_slice(&text);
+        Ok(packet)
+    }
+}
+
+/// A name that the kernel takes, of at most so many bytes.
+fn named(name: &str, most: usize) -> Result<(), RequestError> {
+    if name.is_empty() || name.len() > most || name.contains('\0') { Err(RequestError::Name) } else { Ok(()) }
+}
+
+fn checked(prop: &Prop) -> Result<(), RequestError> {
+    match prop {
+        Prop::AltIfName(name) => named(name, MOST_ALT_NAME),
+        Prop::Other(_) => Ok(()),
+    }
+}
+
+/// A name or an alias that is kept as its bytes, as [`alias`] has it.
+fn kept_text(kept: &DefaultNla) -> Result<(), RequestError> {
+    match Nla::kind(kept) {
+        IFLA_IFALIAS if kept.value().len() > MOST_ALIAS => Err(RequestError::Alias),
+        IFLA_IFNAME if kept.value().len() > MOST_NAME + 1 => Err(RequestError::Name),
+        _ => Ok(()),
+    }
+}
+
+fn if_name(name: &str) -> Result<LinkAttribute, RequestError> {
+    named(name, MOST_NAME)?;
+    Ok(LinkAttribute::IfName(String::from(name)))
+}
+
+fn change<'a>(link: impl Into<Of<'a>>) -> Result<Request, RequestError> {
+    Request::new(RTM_NEWLINK, NLM_F_ACK, link.into())
+}
+
+fn set<'a>(link: impl Into<Of<'a>>, attribute: LinkAttribute) -> Result<Request, RequestError> {
+    Ok(change(link)?.with(attribute))
+}
+
+/// All links: a dump, with what the mask asks for besides, as the settings of virtual functions.
+pub fn dump(mask: &[LinkExtentMask]) -> Request {
+    let message = LinkMessage::default();
+    let all = Request { message_type: RTM_GETLINK, flags: NLM_F_REQUEST | NLM_F_DUMP, message };
+    if mask.is_empty() { all } else { all.with(LinkAttribute::ExtMask(mask.to_vec())) }
+}
+
+/// One link. It is answered by a message of it, or by an error.
+///
+/// # Errors
+///
+/// A name that the kernel does not take.
+pub fn get<'a>(link: impl Into<Of<'a>>, mask: &[LinkExtentMask]) -> Result<Request, RequestError> {
+    let one = Request::new(RTM_GETLINK, 0, link.into())?;
+    Ok(if mask.is_empty() { one } else { one.with(LinkAttribute::ExtMask(mask.to_vec())) })
+}
+
+/// The greatest length of a packet, in bytes.
+///
+/// # Errors
+///
+/// A name that the kernel does not take.
+pub fn mtu<'a>(link: impl Into<Of<'a>>, mtu: u32) -> Result<Request, RequestError> {
+    set(link, LinkAttribute::Mtu(mtu))
+}
+
+/// These flags, of those that the mask has.
+///
+/// # Errors
+///
+/// A name that the kernel does not take.
+pub fn flags<'a>(link: impl Into<Of<'a>>, flags: LinkFlags, mask: LinkFlags) -> Result<Request, RequestError> {
+    let mut request = change(link)?;
+    request.message.header.flags = flags;
+    request.message.header.change_mask = mask;
+    Ok(request)
+}
+
+/// The link is set up.
+///
+/// # Errors
+///
+/// A name that the kernel does not take.
+pub fn up<'a>(link: impl Into<Of<'a>>) -> Result<Request, RequestError> {
+    flags(link, LinkFlags::Up, LinkFlags::Up)
+}
+
+/// The link is set down.
+///
+/// # Errors
+///
+/// A name that the kernel does not take.
+pub fn down<'a>(link: impl Into<Of<'a>>) -> Result<Request, RequestError> {
+    flags(link, LinkFlags::empty(), LinkFlags::Up)
+}
+
+/// Another name, of the link with this index.
+///
+/// # Errors
+///
+/// A name that the kernel does not take.
+pub fn name(index: u32, name: &str) -> Result<Request, RequestError> {
+    set(index, if_name(name)?)
+}
+
+/// The alias, as its bytes without a NUL: with one, the kernel refuses an alias of 255 bytes.
+///
+/// # Errors
+///
+/// An alias of more than 255 bytes, or a name that the kernel does not take.
+pub fn alias<'a>(link: impl Into<Of<'a>>, alias: &str) -> Result<Request, RequestError> {
+    if alias.len() > MOST_ALIAS || alias.contains('\0') {
+        return Err(RequestError::Alias);
+    }
+    set(link, LinkAttribute::Other(DefaultNla::new(IFLA_IFALIAS, Vec::from(alias))))
+}
+
+/// The hardware address.
+///
+/// # Errors
+///
+/// A name that the kernel does not take.
+pub fn address<'a>(link: impl Into<Of<'a>>, address: &[u8]) -> Result<Request, RequestError> {
+    set(link, LinkAttribute::Address(address.to_vec()))
+}
+
+/// The link that it is a port of, by its index (`IFLA_MASTER`); none takes it from that.
+///
+/// # Errors
+///
+/// A name that the kernel does not take.
+pub fn controller<'a>(link: impl Into<Of<'a>>, index: Option<u32>) -> Result<Request, RequestError> {
+    set(link, LinkAttribute::Controller(index.unwrap_or(0)))
+}
+
+/// The link goes to the network namespace of this process.
+///
+/// # Errors
+///
+/// A name that the kernel does not take.
+pub fn namespace_of<'a>(link: impl Into<Of<'a>>, process: u32) -> Result<Request, RequestError> {
+    set(link, LinkAttribute::NetNsPid(process))
+}
+
+/// The link goes to the network namespace that this file descriptor is open on.
+///
+/// # Errors
+///
+/// A name that the kernel does not take.
+pub fn namespace<'a>(link: impl Into<Of<'a>>, descriptor: i32) -> Result<Request, RequestError> {
+    set(link, LinkAttribute::NetNsFd(descriptor))
+}
+
+/// A link of this name and kind is made, with these data. What else it has, as the link below it, is added by
+/// [`Request::with`].
+///
+/// # Errors
+///
+/// A name that the kernel does not take.
+pub fn add(name: &str, kind: InfoKind, data: Option<InfoData>) -> Result<Request, RequestError> {
+    let flags = NLM_F_ACK | NLM_F_CREATE | NLM_F_EXCL;
+    let mut info = vec![LinkInfo::from(kind)];
+    info.extend(data.map(LinkInfo::from));
+    Ok(Request::new(RTM_NEWLINK, flags, Of::Name(name))?.with(LinkAttribute::LinkInfo(info)))
+}
+
+/// The data of its kind are changed.
+///
+/// # Errors
+///
+/// A name that the kernel does not take.
+pub fn data<'a>(link: impl Into<Of<'a>>, kind: InfoKind, data: InfoData) -> Result<Request, RequestError> {
+    set(link, LinkAttribute::LinkInfo(vec![LinkInfo::from(kind), LinkInfo::from(data)]))
+}
+
+/// The link is taken away.
+///
+/// # Errors
+///
+/// A name that the kernel does not take.
+pub fn delete<'a>(link: impl Into<Of<'a>>) -> Result<Request, RequestError> {
+    Request::new(RTM_DELLINK, NLM_F_ACK, link.into())
+}
+
+/// Alternative names, each of at most 127 bytes, are added.
+///
+/// # Errors
+///
+/// A name that the kernel does not take.
+pub fn add_names<'a>(link: impl Into<Of<'a>>, names: &[&str]) -> Result<Request, RequestError> {
+    let flags = NLM_F_ACK | NLM_F_CREATE | NLM_F_EXCL | NLM_F_APPEND;
+    names_of(RTM_NEWLINKPROP, flags, link.into(), names)
+}
+
+/// Alternative names are taken away.
+///
+/// # Errors
+///
+/// A name that the kernel does not take.
+pub fn delete_names<'a>(link: impl Into<Of<'a>>, names: &[&str]) -> Result<Request, RequestError> {
+    names_of(RTM_DELLINKPROP, NLM_F_ACK, link.into(), names)
+}
+
+fn names_of(message_type: u16, flags: u16, link: Of<'_>, names: &[&str]) -> Result<Request, RequestError> {
+    let mut list = Vec::new();
+    for name in names {
+        named(name, MOST_ALT_NAME)?;
+        list.push(Prop::AltIfName(String::from(*name)));
+    }
+    Ok(Request::new(message_type, flags, link)?.with(LinkAttribute::PropList(list)))
+}
+
+/// Settings of a virtual function, each of which has its number.
+///
+/// # Errors
+///
+/// A name that the kernel does not take.
+///
+/// ```
+/// use linkwire::{request, VfInfo, VfInfoTrust};
+/// let trust = request::function("eth0", vec![VfInfo::Trust(VfInfoTrust::new(3, true))])?;
+/// assert_eq!(trust.flags, 5);
+/// # Ok::<(), request::RequestError>(())
+/// ```
+pub fn function<'a>(link: impl Into<Of<'a>>, settings: Vec<VfInfo>) -> Result<Request, RequestError> {
+    set(link, LinkAttribute::VfInfoList(vec![LinkVfInfo(settings)]))
+}

@@ -1,0 +1,366 @@
+// Copied from scripts/erase/std/src/typed/kinds.rs: do not edit here.
+//! Which data a kind of interface or port has, and how they come from [`LinkInfo`] and go to it.
+
+use super::places::*;
+use super::{emit, parse};
+use crate::link_info::read::read;
+use crate::link_info::tables::can::CAN_STATS;
+use crate::link_info::{Info, InfoError, Style, Value};
+use crate::link_msg::{self, LinkInfo};
+use crate::nla_wire::{DecodeError, DefaultNla, NLA_TYPE_MASK};
+use crate::packet::Nla;
+use crate::typed::parts::Members;
+use alloc::string::String;
+use alloc::vec::Vec;
+use core::fmt;
+
+/// `IFLA_INFO_DATA` and its neighbours (linux/if_link.h).
+const INFO_DATA: u16 = 2;
+const INFO_XSTATS: u16 = 3;
+const INFO_SLAVE_KIND: u16 = 4;
+const INFO_SLAVE_DATA: u16 = 5;
+
+/// Kinds, and the data that they have.
+macro_rules! kinds {
+    (
+        $(#[$kind_doc:meta])* $kinds:ident;
+        $(#[$data_doc:meta])* $datas:ident;
+        $($kind:ident $data:ident $text:literal $type:ident,)*
+        ; $($alone:ident $alone_text:literal,)*
+    ) => {
+        $(#[$kind_doc])*
+        #[derive(Clone, Debug, PartialEq, Eq, Hash)]
+        #[cfg_attr(feature = "serde", derive(serde::Serialize, serde::Deserialize))]
+        #[non_exhaustive]
+        pub enum $kinds {
+            $(
+                #[doc = concat!("`", $text, "`.")]
+                $kind,
+            )*
+            $(
+                #[doc = concat!("`", $alone_text, "`, whose data have no type.")]
+                $alone,
+            )*
+            /// Another kind.
+            Other(String),
+        }
+
+        impl $kinds {
+            /// The text of the kind.
+            pub fn as_str(&self) -> &str {
+                match self {
+                    $($kinds::$kind => $text,)*
+                    $($kinds::$alone => $alone_text,)*
+                    $kinds::Other(text) => text,
+                }
+            }
+        }
+
+        impl From<&str> for $kinds {
+            fn from(text: &str) -> Self {
+                match text {
+                    $($text => $kinds::$kind,)*
+                    $($alone_text => $kinds::$alone,)*
+                    other => $kinds::Other(String::from(other)),
+                }
+            }
+        }
+
+        impl fmt::Display for $kinds {
+            fn fmt(&self, f: &mut fmt::Formatter<'_>) -> fmt::Result {
+                f.write_str(self.as_str())
+            }
+        }
+
+        $(#[$data_doc])*
+        #[derive(Clone, Debug, PartialEq, Eq, Hash)]
+        #[cfg_attr(feature = "serde", derive(serde::Serialize, serde::Deserialize))]
+        #[non_exhaustive]
+        pub enum $datas {
+            $(
+                #[doc = concat!("The data of `", $text, "`.")]
+                $data(Vec<$type>),
+            )*
+            /// The data of a kind that has no type: they are kept.
+            Other(Vec<u8>),
+        }
+
+        impl $datas {
+            /// The data of this kind.
+            ///
+            /// # Errors
+            ///
+            /// Refuses data of a kind with a type that are no whole attributes: the first fault.
+            pub fn parse(kind: &$kinds, data: &[u8]) -> Result<Self, DecodeError> {
+                Ok(match kind {
+                    $($kinds::$kind => $datas::$data(parse(data)?),)*
+                    _ => $datas::Other(data.to_vec()),
+                })
+            }
+
+            /// The payload that they are written as.
+            ///
+            /// # Panics
+            ///
+            /// Where a value does not fit: an attribute holds at most 65531 bytes.
+            pub fn emit(&self) -> Vec<u8> {
+                match self {
+                    $($datas::$data(list) => emit(list),)*
+                    $datas::Other(bytes) => bytes.clone(),
+                }
+            }
+
+            /// The kind that has such data; of `Other` it is not known.
+            pub fn kind(&self) -> Option<$kinds> {
+                match self {
+                    $($datas::$data(_) => Some($kinds::$kind),)*
+                    $datas::Other(_) => None,
+                }
+            }
+        }
+    };
+}
+
+kinds! {
+    /// A kind of interface: the text of `IFLA_INFO_KIND`.
+    InfoKind;
+    /// The data of a kind of interface: `IFLA_INFO_DATA`.
+    InfoData;
+    Vlan Vlan "vlan" InfoVlan,
+    Bond Bond "bond" InfoBond,
+    Bridge Bridge "bridge" InfoBridge,
+    Vxlan Vxlan "vxlan" InfoVxlan,
+    Geneve Geneve "geneve" InfoGeneve,
+    GreTun GreTun "gre" InfoGre,
+    GreTap GreTap "gretap" InfoGre,
+    ErSpan ErSpan "erspan" InfoGre,
+    GreTun6 GreTun6 "ip6gre" InfoGre6,
+    GreTap6 GreTap6 "ip6gretap" InfoGre6,
+    ErSpan6 ErSpan6 "ip6erspan" InfoGre6,
+    IpTun IpTunnel "ipip" InfoIpTunnel,
+    SitTun SitTun "sit" InfoIpTunnel,
+    Ip6Tnl Ip6Tunnel "ip6tnl" InfoIp6Tunnel,
+    Vti Vti "vti" InfoVti,
+    Vti6 Vti6 "vti6" InfoVti6,
+    Xfrm Xfrm "xfrm" InfoXfrm,
+    MacVlan MacVlan "macvlan" InfoMacVlan,
+    MacVtap MacVtap "macvtap" InfoMacVtap,
+    IpVlan IpVlan "ipvlan" InfoIpVlan,
+    IpVtap IpVtap "ipvtap" InfoIpVtap,
+    MacSec MacSec "macsec" InfoMacSec,
+    Can Can "can" InfoCan,
+    Vcan Vcan "vcan" InfoCan,
+    Vrf Vrf "vrf" InfoVrf,
+    Tun Tun "tun" InfoTun,
+    Netkit Netkit "netkit" InfoNetkit,
+    Hsr Hsr "hsr" InfoHsr,
+    RmNet RmNet "rmnet" InfoRmNet,
+    Gtp Gtp "gtp" InfoGtp,
+    BareUdp BareUdp "bareudp" InfoBareUdp,
+    Amt Amt "amt" InfoAmt,
+    Wwan Wwan "wwan" InfoWwan,
+    Ovpn Ovpn "ovpn" InfoOvpn,
+    Veth Veth "veth" InfoVeth,
+    Vxcan Vxcan "vxcan" InfoVxcan,
+    Ppp Ppp "ppp" InfoPpp,
+    BatAdv BatAdv "batadv" InfoBatAdv,
+    Dsa Dsa "dsa" InfoDsa,
+    Ipoib Ipoib "ipoib" InfoIpoib,
+    Wireguard Wireguard "wireguard" InfoWireguard,
+    ;
+    Dummy "dummy",
+    Ifb "ifb",
+    Nlmon "nlmon",
+    Team "team",
+    Lowpan "lowpan",
+}
+
+kinds! {
+    /// A kind of port: the text of `IFLA_INFO_SLAVE_KIND`.
+    InfoPortKind;
+    /// The data of a kind of port: `IFLA_INFO_SLAVE_DATA`.
+    InfoPortData;
+    Bond BondPort "bond" InfoBondPort,
+    Bridge BridgePort "bridge" InfoBridgePort,
+    Vrf VrfPort "vrf" InfoVrfPort,
+    Team TeamPort "team" InfoTeamPort,
+    ;
+}
+
+/// A macvtap's data are those of a macvlan.
+pub type InfoMacVtap = InfoMacVlan;
+/// The mode of a macvtap is that of a macvlan.
+pub type MacVtapMode = MacVlanMode;
+/// The flags of a macvtap are those of a macvlan.
+pub type MacVtapFlags = MacVlanFlags;
+/// What is done with addresses of a macvtap is that of a macvlan.
+pub type MacVtapMacAddressMode = MacVlanMacAddressMode;
+/// An ipvtap's data are those of an ipvlan.
+pub type InfoIpVtap = InfoIpVlan;
+/// The mode of an ipvtap is that of an ipvlan.
+pub type IpVtapMode = IpVlanMode;
+/// The flags of an ipvtap are those of an ipvlan.
+pub type IpVtapFlags = IpVlanFlags;
+/// The members of `IFLA_PROTINFO` under AF_BRIDGE are those of a bridge's port.
+pub type LinkProtoInfoBridge = InfoBridgePort;
+
+/// What `IFLA_INFO_XSTATS` holds: counters of a kind of interface.
+#[derive(Clone, Debug, PartialEq, Eq, Hash)]
+#[cfg_attr(feature = "serde", derive(serde::Serialize, serde::Deserialize))]
+#[non_exhaustive]
+pub enum LinkXstats {
+    /// Those of a CAN interface.
+    Can(CanDeviceStats),
+    /// Those of a kind that has no type, or of another length: they are kept.
+    Other(Vec<u8>),
+}
+
+impl LinkXstats {
+    /// The counters of this kind.
+    pub fn parse(kind: &InfoKind, bytes: &[u8]) -> Self {
+        let can = match kind {
+            InfoKind::Can | InfoKind::Vcan => CanDeviceStats::read(read(Style::Record(CAN_STATS), bytes)),
+            _ => None,
+        };
+        can.map_or_else(|| LinkXstats::Other(bytes.to_vec()), LinkXstats::Can)
+    }
+
+    /// The payload that they are written as.
+    pub fn emit(&self) -> Vec<u8> {
+        let mut out = Vec::new();
+        match self {
+            LinkXstats::Can(stats) => stats.push(Style::Record(CAN_STATS), &mut out),
+            LinkXstats::Other(bytes) => out.extend_from_slice(bytes),
+        }
+        out
+    }
+}
+
+/// What a list of [`LinkInfo`] says, as types.
+pub trait LinkInfos {
+    /// The kind of interface: the first `IFLA_INFO_KIND`.
+    fn info_kind(&self) -> Option<InfoKind>;
+
+    /// The data of that kind: the first `IFLA_INFO_DATA`.
+    fn info_data(&self) -> Option<Result<InfoData, DecodeError>>;
+
+    /// The kind of port: the first `IFLA_INFO_SLAVE_KIND`.
+    fn port_kind(&self) -> Option<InfoPortKind>;
+
+    /// The data of that kind: the first `IFLA_INFO_SLAVE_DATA`.
+    fn port_data(&self) -> Option<Result<InfoPortData, DecodeError>>;
+
+    /// The counters of the kind of interface: the first `IFLA_INFO_XSTATS`.
+    fn xstats(&self) -> Option<LinkXstats>;
+}
+
+/// The payload of the first attribute of this number.
+fn payload(list: &[LinkInfo], number: u16) -> Option<&[u8]> {
+    list.iter().find_map(|it| match it {
+        LinkInfo::Other(frame) if Nla::kind(frame) & NLA_TYPE_MASK == number => Some(frame.value()),
+        _ => None,
+    })
+}
+
+impl LinkInfos for [LinkInfo] {
+    fn info_kind(&self) -> Option<InfoKind> {
+        link_info_kind(self).map(InfoKind::from)
+    }
+
+    fn info_data(&self) -> Option<Result<InfoData, DecodeError>> {
+        Some(InfoData::parse(&self.info_kind()?, payload(self, INFO_DATA)?))
+    }
+
+    fn port_kind(&self) -> Option<InfoPortKind> {
+        match read(Style::Text, payload(self, INFO_SLAVE_KIND)?) {
+            Value::Text(text) => Some(InfoPortKind::from(text)),
+            _ => None,
+        }
+    }
+
+    fn port_data(&self) -> Option<Result<InfoPortData, DecodeError>> {
+        Some(InfoPortData::parse(&self.port_kind()?, payload(self, INFO_SLAVE_DATA)?))
+    }
+
+    fn xstats(&self) -> Option<LinkXstats> {
+        Some(LinkXstats::parse(&self.info_kind()?, payload(self, INFO_XSTATS)?))
+    }
+}
+
+fn link_info_kind(list: &[LinkInfo]) -> Option<&str> {
+    crate::link_info::info::kind_of(list)
+}
+
+impl Info {
+    /// The data that are set, as types.
+    ///
+    /// # Errors
+    ///
+    /// Refuses data of more than 65531 bytes with `TooLong`.
+    ///
+    /// ```
+    /// use linkwire::info::Info;
+    /// use linkwire::typed::{InfoData, InfoVlan};
+    /// let mut vlan = Info::new("vlan")?;
+    /// vlan.set("id", 10)?;
+    /// assert_eq!(vlan.data()?, InfoData::Vlan(vec![InfoVlan::Id(10)]));
+    /// # Ok::<(), linkwire::info::InfoError>(())
+    /// ```
+    pub fn data(&self) -> Result<InfoData, InfoError> {
+        let list = self.list()?;
+        let data = InfoData::parse(&InfoKind::from(self.kind()), payload(&list, INFO_DATA).unwrap_or(&[]));
+        data.map_err(|_| InfoError::Damaged)
+    }
+}
+
+impl From<InfoKind> for LinkInfo {
+    fn from(kind: InfoKind) -> Self {
+        LinkInfo::Kind(String::from(kind.as_str()))
+    }
+}
+
+impl From<InfoData> for LinkInfo {
+    fn from(data: InfoData) -> Self {
+        LinkInfo::Other(DefaultNla::new(INFO_DATA, data.emit()))
+    }
+}
+
+impl From<InfoPortKind> for LinkInfo {
+    fn from(kind: InfoPortKind) -> Self {
+        let mut text = Vec::from(kind.as_str());
+        text.push(0);
+        LinkInfo::Other(DefaultNla::new(INFO_SLAVE_KIND, text))
+    }
+}
+
+impl From<InfoPortData> for LinkInfo {
+    fn from(data: InfoPortData) -> Self {
+        LinkInfo::Other(DefaultNla::new(INFO_SLAVE_DATA, data.emit()))
+    }
+}
+
+impl From<LinkXstats> for LinkInfo {
+    fn from(stats: LinkXstats) -> Self {
+        LinkInfo::Other(DefaultNla::new(INFO_XSTATS, stats.emit()))
+    }
+}
+
+/// The kept form of an attribute, and its type.
+macro_rules! kept {
+    ($($kept:ident $typed:ident)*) => {$(
+        impl From<&link_msg::$kept> for $typed {
+            fn from(kept: &link_msg::$kept) -> Self {
+                let link_msg::$kept::Other(frame) = kept;
+                super::of_frame(Nla::kind(frame), frame.value())
+            }
+        }
+
+        impl From<&$typed> for link_msg::$kept {
+            fn from(typed: &$typed) -> Self {
+                link_msg::$kept::Other(DefaultNla::new(super::kind(typed), super::payload(typed)))
+            }
+        }
+    )*};
+}
+
+kept!(AfSpecBridge AfSpecBridge LinkProtoInfoBridge InfoBridgePort);
