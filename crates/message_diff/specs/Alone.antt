@@ -6,7 +6,6 @@ use Rattle.json.specs.Print.{print}
 use Rattle.std.specs.Int.{w32}
 use Rattle.nla_wire.specs.Fields.{signed_at}
 use Rattle.link_vals.specs.AddressFamilyTable.{address_family_number}
-use Rattle.link_vals.specs.declared.address_family.AddressFamily.{AddressFamily}
 use Rattle.link_msg.specs.Messages.{Means}
 use Rattle.link_msg.specs.declared.message.LinkMessage.{LinkMessage}
 use Rattle.link_msg.specs.declared.attribute.LinkAttribute.{LinkAttribute}
@@ -45,18 +44,11 @@ name_members None = []
 name_members (Some name) = (codes "ifname", string name ∷ []) ∷ []
 
 -- which interface it is: its family, its index and its name
-abbrev pub interface_members : AddressFamily → Option (List ℕ) → List ℕ → Members
-interface_members family name bytes =
-    numbered (codes "ifi-family") (address_family_number family)
-    ∷ signed (codes "ifi-index") (signed_at w32 bytes 4)
-    ∷ name_members name
-
 abbrev pub head_members : List ℕ → LinkMessage → Members
-head_members bytes m = interface_members m.header.interface_family (last_name m.attributes) bytes
-
-unfoldable pub interface_line : List ℕ → List ℕ → AddressFamily → Option (List ℕ) → List ℕ → List ℕ
-interface_line front change family name bytes =
-    with_lf (print (object_of (told_words front ++ change_member change ∷ interface_members family name bytes)))
+head_members bytes m =
+    numbered (codes "ifi-family") (address_family_number m.header.interface_family)
+    ∷ signed (codes "ifi-index") (signed_at w32 bytes 4)
+    ∷ name_members (last_name m.attributes)
 
 unfoldable pub alone_line : List ℕ → List ℕ → List ℕ → LinkMessage → List ℕ
 alone_line front change bytes m =

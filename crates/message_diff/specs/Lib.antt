@@ -4,7 +4,6 @@ pub mod Paths
 pub mod Known
 pub mod Said
 pub mod Alone
-pub mod Named
 pub mod Told
 pub mod Changed
 pub mod Trees

@@ -14,7 +14,6 @@ mod key;
 mod line;
 mod lines;
 mod members;
-mod named;
 mod parts;
 mod reading;
 mod rows;
