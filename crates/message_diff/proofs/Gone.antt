@@ -14,14 +14,16 @@ use Rattle.message_diff.specs.declared.store.Entry.{Entry}
 use Rattle.message_diff.specs.declared.store.Host.{Host}
 use Rattle.message_diff.specs.declared.store.Known.{Known}
 use Rattle.message_diff.specs.declared.watch.Told.{Told}
-use Rattle.message_diff.specs.Known.{Item, Picture, key_cmp, is_key, is_among, in_family, parts, ends, text_of}
-use Rattle.message_diff.specs.Known.{of_after, run_after, whole_after}
+use Rattle.message_diff.specs.Announced.{is_another, are_two_kinds}
+use Rattle.message_diff.specs.Known.{Item, Picture, Seen, key_cmp, is_key, is_among, in_family, parts, ends, text_of}
+use Rattle.message_diff.specs.Known.{is_ended_with, is_now, of_after, run_after, whole_after}
 use Rattle.message_diff.specs.Told.{says, is_told, told_text, own_text, is_new_told, AreEnded, IsGone, AreGone}
 use Rattle.message_diff.specs.Told.{NewsOf, IsNews, AddsGone, AddsAllGone, AddsNews, AddsTold}
 use Rattle.message_diff.specs.Held.{IsAfter, held, held_in, run_in, taken, picture, seen_in, text_in, whole_in}
 use Rattle.message_diff.specs.Held.{text_told}
 use Rattle.message_diff.proofs.Pictures.{drop_is}
 use Rattle.message_diff.proofs.Missed.{laws, same_key}
+use Rattle.message_diff.proofs.TwoKinds.{one_kind}
 
 -- ** two clauses of one call
 pub on_ok_both : {A E : Type 0} {P Q R : Type 0} (r : Result A E) → (P → Q → R) → OnOk r P → OnOk r Q → OnOk r R
@@ -210,28 +212,37 @@ news_same front told a b key last text line is news =
     subst (λ (n : Bool). NewsOf front told n last text line) (new_same told a b key is) news
 
 pub tells_put : (front : List ℕ) (told : Told) (a b : Host) (key : Key) (last : Option (List ℕ)) (text old new : List ℕ)
-    → b.whole ≡ a.whole → text_of (seen_in (held a key)) ≡ last
+    → b.whole ≡ a.whole → text_of (seen_in (held a key)) ≡ last → is_another last text ≡ false
     → AddsNews front told (is_new_told told (whole_in b) key) last text old new
-    → AddsTold front told (picture a) (Item.is key text false) old new
-tells_put front told a b key last text old new whole is added =
-    tells_news front told (picture a) (Item.is key text false) old added.0 new (λ q. refl)
-    (subst (λ (t : Option (List ℕ)). NewsOf front told (is_new_told told (whole_in a) key) t text added.0) (sym is)
+    → AddsTold front told (picture a) (Item.is key text) old new
+tells_put front told a b key last text old new whole is same added =
+    let kept : is_another (text_of (seen_in (held a key))) text ≡ false = ap (λ t. is_another t text) is ∙ same in
+    tells_news front told (picture a) (Item.is key text) old added.0 new (λ q. ap (λ b. b && is_ended_with key q) kept)
+    (subst (λ (t : Option (List ℕ)). NewsOf front told (is_new_told told (whole_in a) key) t text added.0)
+    (sym (ap (λ b. cond b None (text_of (seen_in (held a key)))) kept ∙ is))
     (news_same front told b a key last text added.0 whole added.1)) added.2
 
 pub tells_other : (front : List ℕ) (told : Told) (a b c : Host) (key : Key) (last text old mid next new : List ℕ)
     → ((q : Key) → held b q ≡ taken key (held a) q) → c.whole ≡ a.whole
-    → text_of (seen_in (held a key)) ≡ Some last → AddsGone front (cond (says told) (Some last) None) old mid
+    → text_of (seen_in (held a key)) ≡ Some last → are_two_kinds last text ≡ true
+    → AddsGone front (cond (says told) (Some last) None) old mid
     → AddsAllGone front (text_told told b) (parts key) mid next
     → AddsNews front told (is_new_told told (whole_in c) key) None text next new
-    → AddsTold front told (picture a) (Item.is key text true) old new
-tells_other front told a b c key last text old mid next new known whole is one rest added =
-    let x : Item = Item.is key text true in
+    → AddsTold front told (picture a) (Item.is key text) old new
+tells_other front told a b c key last text old mid next new known whole is two one rest added =
+    let x : Item = Item.is key text in
+    let other : is_another (text_of (seen_in (held a key))) text ≡ true = ap (λ t. is_another t text) is ∙ two in
     tells_gone front told (picture a) x (key ∷ parts key) added.0 old next new
-    (record { sorted = own_sorted key; each = λ q. refl })
+    (record {
+      sorted = own_sorted key;
+      each = λ q. ap (λ b. is_told (picture a) x q && (b && is_ended_with key q)) (sym other);
+    })
     (gone_first front (text_told told a) (text_told told b) key (parts key) old mid next (own_sorted key)
     (told_after told a b key known)
     (subst (λ (t : Option (List ℕ)). AddsGone front (cond (says told) t None) old mid) (sym is) one) rest)
-    (news_same front told c a key None text added.0 whole added.1) added.2
+    (subst (λ (t : Option (List ℕ)). NewsOf front told (is_new_told told (whole_in a) key) t text added.0)
+    (sym (ap (λ b. cond b None (text_of (seen_in (held a key)))) other))
+    (news_same front told c a key None text added.0 whole added.1)) added.2
 
 -- the same once more
 match_both : {A B : Type 0} (b : Bool) → A → B → MatchBool b A B
@@ -239,11 +250,30 @@ match_both true x y = x
 match_both false x y = y
 
 pub tells_same : (front : List ℕ) (told : Told) (a : Host) (key : Key) (text old : List ℕ)
-    → text_of (seen_in (held a key)) ≡ Some text → AddsTold front told (picture a) (Item.is key text false) old old
+    → text_of (seen_in (held a key)) ≡ Some text → AddsTold front told (picture a) (Item.is key text) old old
 tells_same front told a key text old is =
-    tells_nothing front told (picture a) (Item.is key text false) old (λ q. refl)
-    (subst (λ (t : Option (List ℕ)). NewsOf front told (is_new_told told (whole_in a) key) t text []) (sym is)
+    let kept : is_another (text_of (seen_in (held a key))) text ≡ false =
+    ap (λ t. is_another t text) is ∙ one_kind text in
+    tells_nothing front told (picture a) (Item.is key text) old (λ q. ap (λ b. b && is_ended_with key q) kept)
+    (subst (λ (t : Option (List ℕ)). NewsOf front told (is_new_told told (whole_in a) key) t text [])
+    (sym (ap (λ b. cond b None (text_of (seen_in (held a key)))) kept ∙ is))
     (match_both (says told) (λ _. refl, λ _. refl) refl))
+
+-- what is known of an interface that goes on, and of one whose place another one has
+pub of_kept : (a : Host) (at : ℕ) (key : Key) (text : List ℕ) (q : Key)
+    → is_another (text_of (seen_in (held a key))) text ≡ false
+    → is_now at key text (picture a).of q ≡ of_after (picture a) at (Item.is key text) q
+of_kept a at key text q kept =
+    let seen : Seen = record { at = at; text = Some text } in
+    ap (λ b. cond (is_key key q) (Some seen) (cond (b && is_ended_with key q) None (seen_in (held a q)))) (sym kept)
+
+pub of_other : (a : Host) (at : ℕ) (key : Key) (text : List ℕ) (q : Key)
+    → is_another (text_of (seen_in (held a key))) text ≡ true
+    → is_now at key text (λ r. cond (is_ended_with key r) None (seen_in (held a r))) q
+    ≡ of_after (picture a) at (Item.is key text) q
+of_other a at key text q other =
+    let seen : Seen = record { at = at; text = Some text } in
+    ap (λ b. cond (is_key key q) (Some seen) (cond (b && is_ended_with key q) None (seen_in (held a q)))) (sym other)
 
 pub seen_put : (b : Bool) (at : ℕ) (last : Option Entry) (text : Option (List ℕ)) (o : Option Known)
     → text_in last ≡ text

@@ -34,7 +34,7 @@ others_stay items a b old new keeps other =
 goes : (front : List ℕ) (told : Told) (at : ℕ) (said : Said) (p q : Picture) (before now : List ℕ)
     → Applies front told at said p q before now
     → (more : List ℕ) × Goes front told at said p q more × (now ≡ before ++ more)
-goes front told at said p q before now h = (h.3.0, (h.0, h.1, h.2, h.3.1), h.3.2)
+goes front told at said p q before now h = (h.1.0, (h.0, h.1.1), h.1.2)
 
 pub taken_for : (front : List ℕ) (told : Told) (at : ℕ) (said : Said) (old new : Watch) (before now name : List ℕ)
     (p q : Picture) → name ≡ host_of front → known_in old name ≡ p → known_in new name ≡ q

@@ -13,3 +13,10 @@ pub mod Without
 pub mod Trees
 pub mod Taken
 pub mod Marked
+pub mod Stopping
+pub mod TwoKinds
+pub mod Cuts
+pub mod Events
+pub mod Families
+pub mod Faulted
+pub mod Wireless

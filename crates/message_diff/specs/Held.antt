@@ -73,25 +73,15 @@ text_told told host q = cond (says told) (text_of (seen_in (held host q))) None
 
 -- ** what a line says, and what is known after it
 
-abbrev pub item_of : Bool → Said → Item
-item_of other (Saids.Is key text) = Item.is key text other
-item_of other (Saids.Refused key) = Item.refused key
-item_of other (Saids.Went key gone) = Item.went key gone
-item_of other (Saids.Begin dump) = Item.started dump.items
-item_of other (Saids.Done dump family) = Item.finished dump.items family
-item_of other Saids.Lost = Item.nothing
-item_of other Saids.Blind = Item.blind
-item_of other Saids.Nothing = Item.nothing
-
--- a message is of another kind only where its encoding is another than that of the last one of its interface
-abbrev pub MayBeOther : Option (List ℕ) → List ℕ → Bool → Type 0
-MayBeOther last text false = Unit {0}
-MayBeOther None text true = ⊥
-MayBeOther (Some last) text true = last ≢ text
-
-abbrev pub MayBeSaid : Picture → Said → Bool → Type 0
-MayBeSaid p (Saids.Is key text) other = MayBeOther (text_of (p.of key)) text other
-MayBeSaid p said other = Unit {0}
+abbrev pub item_of : Said → Item
+item_of (Saids.Is key text) = Item.is key text
+item_of (Saids.Refused key) = Item.refused key
+item_of (Saids.Went key gone) = Item.went key gone
+item_of (Saids.Begin dump) = Item.started dump.items
+item_of (Saids.Done dump family) = Item.finished dump.items family
+item_of Saids.Lost = Item.nothing
+item_of Saids.Blind = Item.blind
+item_of Saids.Nothing = Item.nothing
 
 -- what is known after a line at a place that says this
 pub record IsAfter (old : Picture) (at : ℕ) (item : Item) (new : Picture) : Type 0 where
@@ -102,12 +92,10 @@ pub record IsAfter (old : Picture) (at : ℕ) (item : Item) (new : Picture) : Ty
 -- what is known after a line with these words that says this, and what it adds
 abbrev pub Applies : List ℕ → Told → ℕ → Said → Picture → Picture → List ℕ → List ℕ → Type 0
 Applies front told at said old new before now =
-    (other : Bool) × MayBeSaid old said other × IsAfter old at (item_of other said) new
-    × AddsTold front told old (item_of other said) before now
+    IsAfter old at (item_of said) new × AddsTold front told old (item_of said) before now
 
 -- an interface is this from then on: it goes on, or went, with its parts, and is new
 abbrev pub Puts : List ℕ → Told → ℕ → Key → List ℕ → Picture → Picture → List ℕ → List ℕ → Type 0
 Puts front told at key text old new before now =
-    (other : Bool) × MayBeOther (text_of (old.of key)) text other
-    × ((q : Key) → new.of q ≡ of_after old at (Item.is key text other) q)
-    × AddsTold front told old (Item.is key text other) before now
+    ((q : Key) → new.of q ≡ of_after old at (Item.is key text) q)
+    × AddsTold front told old (Item.is key text) before now

@@ -8,6 +8,7 @@ use Rattle.std.specs.Ordering.{nat_cmp, ordering_then, is_eq}
 use lib.Pointwise.{pointwise}
 use Rattle.line_filter.specs.Words.{value_in}
 use Rattle.message_diff.specs.declared.key.Key.{Key}
+use Rattle.message_diff.specs.Announced.{is_another}
 
 -- the order of a host's interfaces: by family and index
 abbrev pub key_cmp : Key → Key → Ordering
@@ -29,12 +30,11 @@ abbrev pub dump_name : List (List ℕ × List ℕ) → List ℕ
 dump_name words =
     value_or_nothing (value_in (codes "seq") words) ++ 32 ∷ value_or_nothing (value_in (codes "port") words)
 
--- what a line says of its host: what an interface is, by the encoding that is compared, and whether it is of another
--- kind than the last one that had its place; that it is there; that it went, and by the encoding what it was, unless
--- that is refused; where a dump begins and ends, by its name; something of an interface, and not of which one; or
--- nothing
+-- what a line says of its host: what an interface is, by the encoding that is compared; that it is there; that it went,
+-- and by the encoding what it was, unless that is refused; where a dump begins and ends, by its name; something of an
+-- interface, and not of which one; or nothing
 pub data Item : Type 0 where
-  is : Key → (text : List ℕ) → (other : Bool) → Item
+  is : Key → (text : List ℕ) → Item
   refused : Key → Item
   went : Key → (text : Option (List ℕ)) → Item
   started : (dump : List ℕ) → Item
@@ -95,9 +95,14 @@ abbrev pub is_missed_by : (Key → Option Seen) → Option (List ℕ × ℕ) →
 is_missed_by of None dump family key = false
 is_missed_by of (Some run) dump family key = is_text run.0 dump && is_missed of run.1 family key
 
--- whether the line ends this interface, if it is known
+abbrev pub text_of : Option Seen → Option (List ℕ)
+text_of None = None
+text_of (Some seen) = seen.text
+
+-- whether the line ends this interface, if it is known: one that is of another kind than the last one that had its
+-- place ends that one
 abbrev pub ends : Picture → Item → Key → Bool
-ends p (is key text other) q = other && is_ended_with key q
+ends p (is key text) q = is_another (text_of (p.of key)) text && is_ended_with key q
 ends p (refused key) q = false
 ends p (went key text) q = is_ended_with key q
 ends p (started dump) q = false
@@ -106,10 +111,6 @@ ends p blind q = false
 ends p nothing q = false
 
 -- ** what is known after a line, and after all lines
-
-abbrev pub text_of : Option Seen → Option (List ℕ)
-text_of None = None
-text_of (Some seen) = seen.text
 
 abbrev pub without : Picture → Item → Key → Option Seen
 without p x q = cond (ends p x q) None (p.of q)
@@ -122,7 +123,7 @@ abbrev pub is_now : ℕ → Key → List ℕ → (Key → Option Seen) → Key �
 is_now at key text of = with_seen key (record { at = at; text = Some text }) of
 
 abbrev pub of_after : Picture → ℕ → Item → Key → Option Seen
-of_after p at (is key text other) = is_now at key text (without p (is key text other))
+of_after p at (is key text) = is_now at key text (without p (is key text))
 of_after p at (refused key) = with_seen key (record { at = at; text = text_of (p.of key) }) p.of
 of_after p at x = without p x
 

@@ -1,12 +1,16 @@
+pub mod Frames
+pub mod Announced
 pub mod Compared
 pub mod Differences
 pub mod Paths
 pub mod Known
 pub mod Said
 pub mod Alone
+pub mod Faults
 pub mod Told
 pub mod Changed
 pub mod Trees
 pub mod Marked
 pub mod Held
 pub mod Watched
+pub mod Stopped

@@ -6,6 +6,7 @@ use Rattle.message_diff.specs.declared.key.Key.{Key}
 use Rattle.message_diff.specs.declared.watch.Told.{Told}
 use Rattle.message_diff.specs.declared.watch.Told.TheVariants as Tellings
 use Rattle.message_diff.specs.Alone.{IsAlone}
+use Rattle.message_diff.specs.Announced.{is_another}
 use Rattle.message_diff.specs.Known.{Item, Seen, Picture, key_cmp, is_key, is_among, ends, text_of}
 
 -- whether anything but faults is told
@@ -68,9 +69,13 @@ IsNew front is_told (Some last) text line = (last ≡ text) ↔ (line ≡ [])
 abbrev pub NewsOf : List ℕ → Told → Bool → Option (List ℕ) → List ℕ → List ℕ → Type 0
 NewsOf front told is_told last text line = MatchBool (says told) (IsNew front is_told last text line) (line ≡ [])
 
+-- the encoding of the last message of an interface, unless the new one is of another kind
+abbrev pub kept_of : Option (List ℕ) → List ℕ → Option (List ℕ)
+kept_of last text = cond (is_another last text) None last
+
 abbrev pub IsNews : List ℕ → Told → Picture → Item → List ℕ → Type 0
-IsNews front told p (Item.is key text other) line =
-    NewsOf front told (is_new_told told p.whole key) (cond other None (text_of (p.of key))) text line
+IsNews front told p (Item.is key text) line =
+    NewsOf front told (is_new_told told p.whole key) (kept_of (text_of (p.of key)) text) text line
 IsNews front told p x line = line ≡ []
 
 -- ** both: first what went

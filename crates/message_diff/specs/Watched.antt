@@ -19,7 +19,7 @@ use Rattle.message_diff.specs.Alone.{member_line}
 use Rattle.message_diff.specs.Known.{Picture, nothing_known, is_text}
 use Rattle.message_diff.specs.Said.{Says, word_in}
 use Rattle.message_diff.specs.Told.{says, Tells}
-use Rattle.message_diff.specs.Held.{IsAfter, MayBeSaid, item_of, picture}
+use Rattle.message_diff.specs.Held.{IsAfter, item_of, picture}
 
 abbrev pub known_of : Option Host → Picture
 known_of None = nothing_known
@@ -43,8 +43,7 @@ next_line lines = min (lines + 1) (2 ^ 64 - 1)
 -- what is known after a line, and what it adds
 abbrev pub Goes : List ℕ → Told → ℕ → Said → Picture → Picture → List ℕ → Type 0
 Goes front told at said old new more =
-    (other : Bool) × MayBeSaid old said other × IsAfter old at (item_of other said) new
-    × Tells front told old (item_of other said) more
+    IsAfter old at (item_of said) new × Tells front told old (item_of said) more
 
 -- what a line says is taken for its host, and what is known of the others stays
 pub record GoesFor (front : List ℕ) (told : Told) (at : ℕ) (said : Said) (old new : Watch)
@@ -76,7 +75,7 @@ pub record IsTaken (line : List ℕ) (old new : Watch) (added : List ℕ) : Type
   pub said : Said
   pub fault : List ℕ
   pub more : List ℕ
-  pub says : Says old.reader.by (front_of line) (rest_of line) said
+  pub says : Says old.reader.by (front_of line) (rest_of line) said fault
   pub lines : new.lines ≡ next_line old.lines
   pub by : new.reader.by ≡ old.reader.by
   pub told : new.told ≡ old.told

@@ -1,5 +1,11 @@
 //! What announcements have and dumps have not, and the kind of a link.
 
+ghost use Rattle.std.specs.Prelude.{◌≡◌, IfOk, option_map};
+ghost use Rattle.std.specs.List.{list_any};
+ghost use Rattle.message_diff.specs.Frames.{frames_of};
+ghost use Rattle.message_diff.specs.Announced.{is_event, without_event, shorter_or, is_wireless_alone};
+ghost use Rattle.message_diff.specs.Announced.{payload_of, kind_in, are_two_kinds};
+
 use crate::frames::{Frames, number_of};
 use link_msg::NLA_HEADER_SIZE;
 use link_msg::header::HEADER_SIZE;
@@ -16,16 +22,28 @@ const NUMBER_SIZE: usize = NLA_HEADER_SIZE + 4;
 
 /// Whether a frame is an attribute IFLA_EVENT. One of another length than the kernel's is none, so that the message
 /// without it is refused where the whole one is.
-fn is_event(frame: &[u8]) -> bool {
+fn is_event(frame: &[u8]) -> bool
+    ensures { result ≡ is_event frame.now }
+{
     frame.len() == NUMBER_SIZE
         && u16_at(frame, 0) as usize == NUMBER_SIZE
         && number_of(frame) == IFLA_EVENT
 }
 
+/// Whether a message has an attribute IFLA_EVENT.
+fn has_event(message: &[u8]) -> bool
+    ensures { result ≡ list_any is_event (frames_of message.now) }
+{
+    memchr(IFLA_EVENT as u8, message).is_some() && Frames::of(message).any(is_event)
+}
+
 /// The message without the attributes IFLA_EVENT, if it has one: they say why it was announced, and not what the link
 /// is.
-pub fn without_event(alloc: Global, message: &[u8]) -> Result<Option<Vec<u8>>, AllocError> {
-    if memchr(IFLA_EVENT as u8, message).is_none() || !Frames::of(message).any(is_event) {
+pub fn without_event(alloc: Global, message: &[u8]) -> Result<Option<Vec<u8>>, AllocError>
+    ensures { IfOk result (λ kept. shorter_or (option_map (λ k. k.items) kept) message.now
+        ≡ without_event message.now) }
+{
+    if !has_event(message) {
         return Ok(None);
     }
     let mut kept = Vec::with_capacity(alloc, message.len())?;
@@ -40,7 +58,9 @@ pub fn without_event(alloc: Global, message: &[u8]) -> Result<Option<Vec<u8>>, A
 
 /// Whether a message has no attributes but a name and what a wireless driver announces: it does not say what the link
 /// is.
-pub fn is_wireless_alone(message: &[u8]) -> bool {
+pub fn is_wireless_alone(message: &[u8]) -> bool
+    ensures { result ≡ is_wireless_alone message.now }
+{
     let mut is_any = false;
     for frame in Frames::of(message) {
         match number_of(frame) {
@@ -54,7 +74,9 @@ pub fn is_wireless_alone(message: &[u8]) -> bool {
 }
 
 /// The payload of the first attribute with this number.
-fn payload_of<'a>(frames: Frames<'a>, number: u16) -> Option<&'a [u8]> {
+fn payload_of<'a>(frames: Frames<'a>, number: u16) -> Option<&'a [u8]>
+    ensures { option_map (λ payload. payload.now) result ≡ payload_of number frames.entry }
+{
     for frame in frames {
         if frame.len() >= NLA_HEADER_SIZE && number_of(frame) == number {
             return frame.get(NLA_HEADER_SIZE..u16_at(frame, 0) as usize);
@@ -64,7 +86,10 @@ fn payload_of<'a>(frames: Frames<'a>, number: u16) -> Option<&'a [u8]> {
 }
 
 /// The kind of a link, if its message has one.
-fn kind_of(message: &[u8]) -> Option<&[u8]> {
+#[tactic(auto, unfolding(crate::specs::Announced::kind_in))]
+fn kind_of(message: &[u8]) -> Option<&[u8]>
+    ensures { option_map (λ kind. kind.now) result ≡ kind_in message.now }
+{
     let info = payload_of(Frames::of(message), IFLA_LINKINFO)?;
     let payload = payload_of(Frames::new(info), IFLA_INFO_KIND)?;
     match memchr(0, payload) {
@@ -75,9 +100,15 @@ fn kind_of(message: &[u8]) -> Option<&[u8]> {
 }
 
 /// Whether two messages have kinds, and two different ones: they are of two links.
-pub fn are_two_kinds(old: &[u8], new: &[u8]) -> bool {
-    match (kind_of(old), kind_of(new)) {
-        (Some(was), Some(is)) => was != is,
-        _ => false,
-    }
+#[tactic(auto, unfolding(crate::specs::Announced::are_two_kinds))]
+pub fn are_two_kinds(old: &[u8], new: &[u8]) -> bool
+    ensures { result ≡ are_two_kinds old.now new.now }
+{
+    let Some(was) = kind_of(old) else {
+        return false;
+    };
+    let Some(is) = kind_of(new) else {
+        return false;
+    };
+    was != is
 }

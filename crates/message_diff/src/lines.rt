@@ -1,15 +1,18 @@
 //! The lines that a reader gives.
 
-ghost use Rattle.std.specs.Prelude.{◌≡◌, ◌++◌, ◌<◌, [], IfOk, IsTrue, OnOk, length};
+ghost use Rattle.std.specs.Prelude.{◌≡◌, ◌++◌, ◌<◌, [], IfOk, IfErr, MatchBool, OnOk, false, length};
 ghost use Rattle.std.specs.Io.KnownBytes.{Appends};
-ghost use Rattle.line_filter.specs.Steps.{NoLf, Sends};
+ghost use Rattle.line_filter.specs.Lines.{complete_lines};
+ghost use Rattle.line_filter.specs.Steps.{NoLf, Sends, FailedWrite};
+ghost use Rattle.line_filter.specs.declared.error.RunError.TheVariants as Errors;
+ghost use Rattle.message_diff.specs.Stopped.{RunsShort, StopsLast, Stops};
 ghost use Rattle.message_diff.specs.Watched.{AddsLine, RunsSome, RunsLast, RunsAll};
 
 use crate::watch::Watch;
 use line_filter::error::RunError;
 use memchr::memchr;
 use std::alloc::{AllocError, Global};
-use std::io::{Read, Write};
+use std::io::{ErrorKind, Read, Write};
 
 /// How many bytes a read may give.
 const CHUNK: usize = 65536;
@@ -17,23 +20,64 @@ const CHUNK: usize = 65536;
 /// How many bytes may wait to be written.
 const ENOUGH: usize = 65536;
 
+/// Writes some of the bytes, and returns the others. A write that is interrupted took none, and one that takes no byte
+/// is refused.
+fn write_some<'a, W: Write>(writer: &mut W, bytes: &'a [u8]) -> Result<&'a [u8], RunError>
+    ensures ok { IfOk result (λ rest. Sends (W.contents writer.old) (W.contents writer.new)
+        bytes.now rest.now) }
+    ensures err { IfErr result (λ e. (e ≡ Errors.Write)
+        × Appends (W.contents writer.old) (W.contents writer.new) []) }
+{
+    match writer.write(bytes) {
+        Ok(0) => Err(RunError::Write),
+        Ok(n) => Ok(&bytes[n..]),
+        Err(error) => {
+            if error.kind() == ErrorKind::Interrupted {
+                return Ok(bytes);
+            }
+            Err(RunError::Write)
+        }
+    }
+}
+
+/// Writes all the bytes.
+fn write_bytes<W: Write>(writer: &mut W, bytes: &[u8]) -> Result<(), RunError>
+    ensures ok { OnOk result (Appends (W.contents writer.old) (W.contents writer.new) bytes.now) }
+    ensures err { IfErr result
+        (λ e. FailedWrite e (W.contents writer.old) (W.contents writer.new) bytes.now) }
+{
+    let mut rest = bytes;
+    for _writes in 0..u64::MAX {
+        if rest.is_empty() {
+            return Ok(());
+        }
+        rest = write_some(writer, rest)?;
+    }
+    if rest.is_empty() {
+        return Ok(());
+    }
+    Err(RunError::Write)
+}
+
 /// Writes what waits, so that nothing waits.
 pub fn write_out<W: Write>(writer: &mut W, out: &mut Vec<u8>) -> Result<(), RunError>
     ensures none { OnOk result (out.new.items ≡ []) }
     ensures ok { OnOk result
         (Appends (W.contents writer.old) (W.contents writer.new) out.old.items) }
+    ensures err { IfErr result
+        (λ e. FailedWrite e (W.contents writer.old) (W.contents writer.new) out.old.items) }
 {
-    if writer.write_all(out.as_slice()).is_err() {
-        return Err(RunError::Write);
-    }
+    write_bytes(writer, out.as_slice())?;
     out.clear();
     Ok(())
 }
 
 /// Writes what waits, if enough of it waits.
 fn write_full<W: Write>(writer: &mut W, out: &mut Vec<u8>) -> Result<(), RunError>
-    ensures { OnOk result (Sends (W.contents writer.old) (W.contents writer.new)
+    ensures ok { OnOk result (Sends (W.contents writer.old) (W.contents writer.new)
         out.old.items out.new.items) }
+    ensures err { IfErr result
+        (λ e. FailedWrite e (W.contents writer.old) (W.contents writer.new) out.old.items) }
 {
     if out.len() < ENOUGH {
         return Ok(());
@@ -76,6 +120,8 @@ fn take_piece<W: Write>(
     ensures none { OnOk result (out.new.items ≡ []) }
     ensures runs { OnOk result (RunsSome watch.old watch.new (W.contents writer.old)
         (W.contents writer.new) (held.old.items ++ piece.now) held.new.items) }
+    ensures err { IfErr result (λ e. RunsShort e watch.old (W.contents writer.old)
+        (W.contents writer.new) (complete_lines false (held.old.items ++ piece.now))) }
 {
     let mut rest = piece;
     while let Some(end) = memchr(b'\n', rest) {
@@ -98,7 +144,9 @@ fn finish<W: Write>(
 ) -> Result<(), RunError>
     requires held { NoLf held.old.items }
     requires none { out.old.items ≡ [] }
-    ensures { OnOk result (RunsLast watch.old watch.new (W.contents writer.old)
+    ensures ok { OnOk result (RunsLast watch.old watch.new (W.contents writer.old)
+        (W.contents writer.new) held.old.items) }
+    ensures err { IfErr result (λ e. StopsLast e watch.old (W.contents writer.old)
         (W.contents writer.new) held.old.items) }
 {
     if held.is_empty() {
@@ -125,9 +173,13 @@ fn take_all<R: Read, W: Write>(
     writer: &mut W,
 ) -> Result<bool, RunError>
     requires { 0 < length chunk.old }
-    ensures { IfOk result (λ ended. IsTrue ended → RunsAll watch.old watch.new
+    ensures ok { IfOk result (λ ended. MatchBool ended (RunsAll watch.old watch.new
         (R.remaining reader.old) (R.remaining reader.new)
-        (W.contents writer.old) (W.contents writer.new)) }
+        (W.contents writer.old) (W.contents writer.new))
+        (Stops Errors.Read watch.old (R.remaining reader.old) (R.remaining reader.new)
+        (W.contents writer.old) (W.contents writer.new))) }
+    ensures err { IfErr result (λ e. Stops e watch.old (R.remaining reader.old)
+        (R.remaining reader.new) (W.contents writer.old) (W.contents writer.new)) }
 {
     let mut held = Vec::new(alloc);
     let mut out = Vec::new(alloc);
@@ -151,7 +203,9 @@ pub fn read_lines<R: Read, W: Write>(
     watch: &mut Watch,
     writer: &mut W,
 ) -> Result<(), RunError>
-    ensures { OnOk result (RunsAll watch.old watch.new (R.remaining reader.old)
+    ensures ok { OnOk result (RunsAll watch.old watch.new (R.remaining reader.old)
+        (R.remaining reader.new) (W.contents writer.old) (W.contents writer.new)) }
+    ensures err { IfErr result (λ e. Stops e watch.old (R.remaining reader.old)
         (R.remaining reader.new) (W.contents writer.old) (W.contents writer.new)) }
 {
     let mut chunk = zeros(alloc, CHUNK)?;

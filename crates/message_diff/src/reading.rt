@@ -1,12 +1,12 @@
 //! What a line says.
 
-ghost use Rattle.std.specs.Prelude.{◌≡◌, ◌≢◌, IfOk, OnOk};
+ghost use Rattle.std.specs.Prelude.{◌≡◌, ◌≢◌, ◌++◌, ℕ, List, IfOk, OnOk};
 ghost use Rattle.line_filter.specs.Words.{value_in, words_of};
 ghost use Rattle.link_msg.specs.declared.encoding.CanonError.TheVariants.{OutOfMemory};
-ghost use Rattle.message_diff.specs.Compared.{Extends};
+ghost use Rattle.message_diff.specs.Faults.{IsAnswered, AddsFault};
 ghost use Rattle.message_diff.specs.Known.{dump_name, value_or_nothing};
 ghost use Rattle.message_diff.specs.Said.{is_type, sort_of, key_in, accepted_says, refused_says};
-ghost use Rattle.message_diff.specs.Said.{Says, SaysWords, SaysMessage};
+ghost use Rattle.message_diff.specs.Said.{family_in, family_of, SaysWords, AddsCompared, AddsMessage, AddsSays};
 
 use crate::announced::{is_wireless_alone, without_event};
 use crate::key::Key;
@@ -55,7 +55,8 @@ fn push_decode_fault(
     bytes: &[u8],
     out: &mut Vec<u8>,
 ) -> Result<(), AllocError>
-    ensures { OnOk result (Extends out.old.items out.new.items) }
+    ensures { OnOk result ((line : List ℕ) × IsAnswered front.now bytes.now line
+        × (out.new.items ≡ out.old.items ++ line)) }
 {
     let mut shown = Vec::new(alloc);
     push_answer(alloc, Order::Unknown, &mut shown, bytes)?;
@@ -71,7 +72,8 @@ fn push_refusal(
     error: CanonError,
     out: &mut Vec<u8>,
 ) -> Result<(), AllocError>
-    ensures added { OnOk result (Extends out.old.items out.new.items) }
+    ensures added { OnOk result
+        (AddsFault front.now bytes.now error out.old.items out.new.items) }
     ensures known { OnOk result (error ≢ OutOfMemory) }
 {
     match error {
@@ -105,9 +107,19 @@ fn dump_of(alloc: Global, front: &[u8]) -> Result<Vec<u8>, AllocError>
     Ok(name)
 }
 
+/// The family that a text is.
+fn parse_family(text: &str) -> Option<u8>
+    ensures { result ≡ family_of text.now }
+{
+    text.parse::<u8>().ok()
+}
+
 /// The family that a line says by its words.
-fn family_of(front: &[u8]) -> Option<u8> {
-    text_of(value_of(front, b"family")?)?.parse::<u8>().ok()
+#[tactic(auto, unfolding(crate::specs::Said::family_in))]
+fn family_of(front: &[u8]) -> Option<u8>
+    ensures { result ≡ family_in front.now }
+{
+    parse_family(text_of(value_of(front, b"family")?)?)
 }
 
 /// Whether the word `type` in front of a line is this.
@@ -196,8 +208,8 @@ fn said_by_bytes(
     compared: &[u8],
     out: &mut Vec<u8>,
 ) -> Result<Said, AllocError>
-    ensures said { IfOk result (SaysMessage by front.now bytes.now) }
-    ensures added { OnOk result (Extends out.old.items out.new.items) }
+    ensures { IfOk result (λ said. AddsCompared by front.now bytes.now compared.now said
+        out.old.items out.new.items) }
 {
     let order = order_for(front, Order::Unknown);
     match Snapshot::new(alloc, by, order, compared) {
@@ -218,8 +230,8 @@ fn said_by_message(
     bytes: &[u8],
     out: &mut Vec<u8>,
 ) -> Result<Said, AllocError>
-    ensures said { IfOk result (SaysMessage by front.now bytes.now) }
-    ensures added { OnOk result (Extends out.old.items out.new.items) }
+    ensures { IfOk result (λ said. AddsMessage by front.now bytes.now said
+        out.old.items out.new.items) }
 {
     match without_event(alloc, bytes)? {
         Some(shorter) => said_by_bytes(alloc, by, front, bytes, shorter.as_slice(), out),
@@ -246,8 +258,8 @@ impl LineReader {
         rest: &[u8],
         out: &mut Vec<u8>,
     ) -> Result<Said, AllocError>
-        ensures said { IfOk result (Says self.old.by front.now rest.now) }
-        ensures added { OnOk result (Extends out.old.items out.new.items) }
+        ensures said { IfOk result (λ said. AddsSays self.old.by front.now rest.now said
+            out.old.items out.new.items) }
         ensures by { self.new.by ≡ self.old.by }
     {
         if are_alone(front, rest) {

@@ -1,6 +1,6 @@
 //! What is done with each line.
 
-ghost use Rattle.std.specs.Prelude.{◌≡◌, ◌↔◌, ℕ, [], OnOk, None, Some, cond};
+ghost use Rattle.std.specs.Prelude.{◌≡◌, ◌↔◌, ℕ, [], IfErr, OnOk, None, Some, cond};
 ghost use Rattle.std.specs.List.Sorted.{IsStrictlySortedBy};
 ghost use Rattle.message_diff.specs.declared.key.Key.{Key};
 ghost use Rattle.message_diff.specs.Compared.{Extends};
@@ -11,7 +11,9 @@ ghost use Rattle.message_diff.specs.declared.watch.Told.TheVariants.{All};
 ghost use Rattle.message_diff.specs.Told.{says, is_told_gone, is_new_told, own_text};
 ghost use Rattle.message_diff.specs.Told.{AddsGone, AddsAllGone, AddsNews, AddsTold};
 ghost use Rattle.message_diff.specs.Held.{held, taken, picture, seen_in, whole_in, text_told};
-ghost use Rattle.message_diff.specs.Held.{Applies, MayBeOther, Puts};
+ghost use Rattle.message_diff.specs.Held.{Applies, Puts};
+ghost use Rattle.message_diff.specs.Announced.{are_two_kinds};
+ghost use Rattle.message_diff.specs.Stopped.{WatchStops};
 ghost use Rattle.message_diff.specs.Watched.{IsFresh, AddsFor, AddsSaid, AddsLine, Watches};
 
 use crate::announced::are_two_kinds;
@@ -394,8 +396,9 @@ impl Line<'_> {
 }
 
 /// Whether an interface is of another kind than the last one that had its place.
+#[tactic(auto, using(crate::proofs::TwoKinds::same_kind))]
 pub fn is_another(last: &Snapshot, new: &Snapshot) -> bool
-    ensures { MayBeOther (Some last.now) new.now result }
+    ensures { result ≡ are_two_kinds last.now new.now }
 {
     if last.text() == new.text() {
         return false;
@@ -530,8 +533,10 @@ pub fn watch_lines<R: Read, W: Write>(
     reader: &mut R,
     writer: &mut W,
 ) -> Result<(), RunError>
-    ensures { OnOk result (Watches by told (R.remaining reader.old) (R.remaining reader.new)
+    ensures ok { OnOk result (Watches by told (R.remaining reader.old) (R.remaining reader.new)
         (W.contents writer.old) (W.contents writer.new)) }
+    ensures err { IfErr result (λ e. WatchStops by told e (R.remaining reader.old)
+        (R.remaining reader.new) (W.contents writer.old) (W.contents writer.new)) }
 {
     let mut watch = Watch::new(alloc, by, told);
     read_lines(alloc, reader, &mut watch, writer)
@@ -544,8 +549,10 @@ pub fn compare_lines<R: Read, W: Write>(
     reader: &mut R,
     writer: &mut W,
 ) -> Result<(), RunError>
-    ensures { OnOk result (Watches by All (R.remaining reader.old) (R.remaining reader.new)
+    ensures ok { OnOk result (Watches by All (R.remaining reader.old) (R.remaining reader.new)
         (W.contents writer.old) (W.contents writer.new)) }
+    ensures err { IfErr result (λ e. WatchStops by All e (R.remaining reader.old)
+        (R.remaining reader.new) (W.contents writer.old) (W.contents writer.new)) }
 {
     watch_lines(alloc, by, Told::All, reader, writer)
 }

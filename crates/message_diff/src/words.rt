@@ -4,7 +4,7 @@ ghost use Rattle.std.specs.Prelude.{◌≡◌, ◌<◌, ◌++◌, OnOk, length, 
 ghost use Rattle.line_filter.specs.Words.{value_in, words_of};
 ghost use Rattle.shown.specs.Drafts.{with_members};
 ghost use Rattle.message_diff.specs.Alone.{word_member, told_words, member_line};
-ghost use Rattle.message_diff.specs.Compared.{Extends};
+ghost use Rattle.message_diff.specs.Faults.{told_front};
 
 use line_filter::words::value_of;
 use message_shown::worded::show_value;
@@ -32,9 +32,10 @@ pub fn show_told(page: &mut Page, front: &[u8]) -> Result<(), AllocError>
 }
 
 /// Begins a line by the words that are told, with a comma after each.
+#[tactic(auto, unfolding(crate::specs::Faults::told_front))]
 pub fn push_words(alloc: Global, front: &[u8], out: &mut Vec<u8>) -> Result<(), AllocError>
     ensures said { OnOk result (length out.old.items < length out.new.items) }
-    ensures added { OnOk result (Extends out.old.items out.new.items) }
+    ensures added { OnOk result (out.new.items ≡ out.old.items ++ told_front front.now) }
 {
     let mut text = Vec::new(alloc);
     let mut page = Page::new(alloc)?;

@@ -1,16 +1,37 @@
 use Rattle.std.proofs.Common.{arith, ◌<◌, length}
+use Rattle.std.proofs.lemmas.Result.{err_from_is_err_and}
 use Rattle.message_diff.proofs.Runs.{Reading-init, Reading-step, Reading-ends}
+use Rattle.message_diff.proofs.Stopping.{Reading-keeps, Reading-stops, Reading-stops_in, Reading-stops_at_end}
 use Rattle.message_diff.proofs.lines.take_all.Goals as goal
 
 pub loop-reads-init : goal.loop-reads-init
 loop-reads-init g c = rw c.new-held.ensures.items (Reading-init _ _ _, c.new-out.ensures.items)
 
-pub returns-then-n-eq0 : goal.returns-then-n-eq0
-returns-then-n-eq0 g c =
+pub returns-in_default-clause-err : goal.returns-in_default-clause-err
+returns-in_default-clause-err g c =
+    Reading-stops _ _ _ _ _ _ _ (Reading-keeps _ _ _ _ _ _ _ _ c.loop-reads.invariant.0 c.in_default.ensures.bytes)
+
+pub returns-in_err-finish-clause-err : goal.returns-in_err-finish-clause-err
+returns-in_err-finish-clause-err g c =
     let some : 0 < length c.read.new.buf = omega arith in
     let last = rw c.if-n-eq0.true at c.in-Ok.ensures.bytes.0 in
-    λ _. Reading-ends _ _ _ _ _ _ _ _ _ _ c.loop-reads.invariant.0 last
-    (c.in-Ok.ensures.bytes.1 c.if-n-eq0.true some) c.in_ok-finish.ensures
+    let p = err_from_is_err_and c.from_residual.result c.from_residual.ensures.1 in
+    rw (p.1, p.2) (Reading-stops_at_end _ _ _ _ _ _ _ _ _ _ c.loop-reads.invariant.0 last
+    (c.in-Ok.ensures.bytes.1 c.if-n-eq0.true some) c.in_err-finish.ensures.err)
+
+pub returns-then-n-eq0-clause-ok : goal.returns-then-n-eq0-clause-ok
+returns-then-n-eq0-clause-ok g c =
+    let some : 0 < length c.read.new.buf = omega arith in
+    let last = rw c.if-n-eq0.true at c.in-Ok.ensures.bytes.0 in
+    Reading-ends _ _ _ _ _ _ _ _ _ _ c.loop-reads.invariant.0 last
+    (c.in-Ok.ensures.bytes.1 c.if-n-eq0.true some) c.in_ok-finish.ensures.ok
+
+pub returns-in_err-take_piece-clause-err : goal.returns-in_err-take_piece-clause-err
+returns-in_err-take_piece-clause-err g c =
+    let p =
+    err_from_is_err_and c.from_residual-in_err-take_piece.result c.from_residual-in_err-take_piece.ensures.1 in
+    rw (p.1, p.2) (Reading-stops_in _ _ _ _ _ _ _ _ _ _ _ c.loop-reads.invariant.0 c.in-Ok.ensures.bytes.0
+    c.in_err-take_piece.ensures.err)
 
 pub loop-reads-preserved : goal.loop-reads-preserved
 loop-reads-preserved g c = (
@@ -18,3 +39,6 @@ loop-reads-preserved g c = (
       c.in_ok-take_piece.ensures.runs,
   c.in_ok-take_piece.ensures.none,
 )
+
+pub returns-clause-ok : goal.returns-clause-ok
+returns-clause-ok g c = Reading-stops _ _ _ _ _ _ _ c.loop-reads.invariant.0

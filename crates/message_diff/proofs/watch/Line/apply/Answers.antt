@@ -1,4 +1,4 @@
-use Rattle.std.proofs.Common.{List, ℕ, false, refl, sym, ap, subst, ◌∙◌}
+use Rattle.std.proofs.Common.{List, ℕ, refl, sym, ap, subst, ◌∙◌}
 use Rattle.std.proofs.lemmas.Result.{on_ok_weaker}
 use Rattle.message_diff.specs.declared.reading.Said.{Said}
 use Rattle.message_diff.specs.declared.store.Host.{Host}
@@ -21,8 +21,6 @@ returns-in-Refused c =
     (λ known. subst (λ (said : Said). Applies front told c.args.self.at said (picture host)
     (picture c.see.new.self) out out)
     (sym c.in-Refused.is) (
-      false,
-      tt,
       record {
         of = λ q. ap seen_in (known q)
             ∙ seen_put (is_key key q) c.args.self.at (last_of (held host key)) (text_of (seen_in (held host key)))
@@ -41,8 +39,6 @@ returns-in-Went c =
     (λ known told. subst
     (λ (said : Said). Applies c.args.self.front.now c.args.self.told c.args.self.at said (picture host)
     (picture c.end.new.host) c.args.out.now.items c.end.new.out.items) (sym c.in-Went.is) (
-      false,
-      tt,
       record {
         of = λ q. ap seen_in (known q) ∙ seen_taken (is_ended_with c.in-Went.key q) (held host q);
         run = ap run_in c.end.ensures.dump;
@@ -62,7 +58,7 @@ returns-in-Begin c =
     refl in
     subst (λ (said : Said). Applies front c.args.self.told c.args.self.at said (picture host)
     (picture c.begin.new.self) out out)
-    (sym c.in-Begin.is) (false, tt, is.0, is.1)
+    (sym c.in-Begin.is) is
 
 pub returns-in-Blind : goal.returns-in-Blind
 returns-in-Blind c =
@@ -74,7 +70,7 @@ returns-in-Blind c =
     (λ f. refl) refl in
     subst (λ (said : Said). Applies front c.args.self.told c.args.self.at said (picture host)
     (picture c.break_dump.new.self) out out)
-    (sym c.in-Blind.is) (false, tt, is.0, is.1)
+    (sym c.in-Blind.is) is
 
 nothing : (front : List ℕ) (told : Told) (at : ℕ) (host : Host) (out : List ℕ)
     → IsAfter (picture host) at Item.nothing (picture host) × AddsTold front told (picture host) Item.nothing out out
@@ -89,7 +85,7 @@ returns-in-Lost c =
     let is = nothing front c.args.self.told c.args.self.at host out in
     subst (λ (said : Said). Applies front c.args.self.told c.args.self.at said (picture host) (picture host) out out)
     (sym c.in-Lost.is)
-    (false, tt, is.0, is.1)
+    is
 
 pub returns-in-Nothing : goal.returns-in-Nothing
 returns-in-Nothing c =
@@ -99,4 +95,4 @@ returns-in-Nothing c =
     let is = nothing front c.args.self.told c.args.self.at host out in
     subst (λ (said : Said). Applies front c.args.self.told c.args.self.at said (picture host) (picture host) out out)
     (sym c.in-Nothing.is)
-    (false, tt, is.0, is.1)
+    is

@@ -1,4 +1,4 @@
-use Rattle.std.proofs.Common.{List, ℕ, [], false, refl, sym, ap, ◌∙◌, rules}
+use Rattle.std.proofs.Common.{List, ℕ, [], refl, sym, ap, ◌∙◌, rules}
 use Rattle.std.specs.BTreeMap.{is_at}
 use Rattle.std.specs.Cmp.Lexicographic.{slice_cmp}
 use Rattle.std.specs.Ordering.{nat_cmp}
@@ -15,8 +15,6 @@ use Rattle.message_diff.proofs.watch.Watch.take_blind.Goals as goal
 -- of a host of which nothing is known nothing is known
 unknown : (front : List ℕ) (told : Told) (at : ℕ) → Applies front told at Blind nothing_known nothing_known [] []
 unknown front told at = (
-  false,
-  tt,
   record { of = λ q. refl; run = refl; whole = λ f. refl },
   tells_nothing front told nothing_known Item.blind [] (λ q. refl) refl,
 )
@@ -31,7 +29,7 @@ returns-in-Some-clause-known c =
     taken_for c.args.front.now c.args.self.now.told c.args.self.now.lines Blind c.args.self.now _ [] []
     c.word_of.result.now (picture host) (picture c.break_dump.new.self) c.word_of.ensures
     (ap known_of (sym c.in-Some.ensures.value)) (ap known_of updates.1)
-    (λ other apart. others_stay (λ k. k.items) c.word_of.result.now other _ _ updates.3 apart) (false, tt, is.0, is.1)
+    (λ other apart. others_stay (λ k. k.items) c.word_of.result.now other _ _ updates.3 apart) is
 
 pub returns-in_default-clause-known : goal.returns-in_default-clause-known
 returns-in_default-clause-known c =
