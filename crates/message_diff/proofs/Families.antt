@@ -55,6 +55,7 @@ by_digits ds (Err e) h = none_of (is_numeral ds && nat_lt (digits_value 10 ds) 2
     h (numeral ds parts.0, below_of (digits_value 10 ds) 256 parts.1))
 
 -- what `parse` reads
-pub family_read : {E : Type 0} (text : List ℕ) (r : Result ℕ E) → ParsesUnsigned 8 10 text r → result_ok r ≡ family_of text
+pub family_read : {E : Type 0} (text : List ℕ) (r : Result ℕ E) → ParsesUnsigned 8 10 text r
+    → result_ok r ≡ family_of text
 unfolding family_of
 family_read text r h = by_digits (without_leading_plus text) r h

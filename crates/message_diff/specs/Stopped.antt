@@ -33,7 +33,8 @@ pub record RunsShort (error : RunError) (old : Watch) (held held_after : Option 
 
 -- the last line had to be taken, if there is one; that needs no read
 abbrev pub StopsLast : RunError → Watch → Option (List ℕ) → Option (List ℕ) → List ℕ → Type 0
-StopsLast error old held held_after text = (error ≡ Errors.Read → ⊥) × RunsShort error old held held_after (lines_of text)
+StopsLast error old held held_after text =
+    (error ≡ Errors.Read → ⊥) × RunsShort error old held held_after (lines_of text)
 
 -- some bytes were read, and of what the complete lines among them add was written what the error leaves; a read fails
 -- before the end

@@ -22,4 +22,5 @@ returns-in-None c =
     let payload : List ℕ = c.in_ok-payload.payload.now in
     let first : payload_of IFLA_LINKINFO (frames_of c.args.message.now) ≡ Some c.in_ok-info.info.now = (search rules) in
     let second : payload_of 1 (frames_in c.in_ok-info.info.now) ≡ Some payload = (search rules) in
-    sym (kind_named c.args.message.now c.in_ok-info.info.now payload first second ∙ name_whole payload c.in-None.ensures)
+    sym (kind_named c.args.message.now c.in_ok-info.info.now payload first second
+    ∙ name_whole payload c.in-None.ensures)
