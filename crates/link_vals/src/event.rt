@@ -17,7 +17,7 @@ pub enum LinkEvent {
     Features,
     /// `IFLA_EVENT_BONDING_FAILOVER`: another port of a bond is active.
     BondingFailover,
-    /// `IFLA_EVENT_NOTIFY_PEERS`: peers are told of the address.
+    /// `IFLA_EVENT_NOTIFY_PEERS`: peers get the address announced.
     NotifyPeers,
     /// `IFLA_EVENT_IGMP_RESEND`: reports of groups are sent again.
     IgmpResend,
