@@ -175,7 +175,7 @@ fn paths_lead_inside(rt: HostRuntime) {
     let wanted = [(24, Cause::FrameShort { left: 1 }, 36)];
     assert!(rt; told(&rt, bytes.as_slice(), &wanted));
     for refusal in LinkMessage::refusals(bytes.as_slice()).expect(&rt, "it has a header") {
-        assert!(rt; refusal.path().numbers() == [22, 1, 8]);
+        assert!(rt; refusal.path().numbers() == [22, 1, 8].as_slice());
         assert!(rt; refusal.attribute().map(|it| it.0) == Some(22));
     }
     let later = LinkMessage::refusals_from(bytes.as_slice(), 40).expect(&rt, "it has a header");
