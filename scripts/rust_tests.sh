@@ -1,5 +1,5 @@
 #!/usr/bin/env bash
-# Tests the crate in rust/: its tests and those in its docs, with overflow checks, and the README's program in Rust,
+# Tests the crate in rust/: its tests and those in its docs, with overflow checks, and the program in docs/USING.md,
 # taken out of it, whose output is compared. The example 'lines' has to answer the stored input of the program linkwire
 # as that does, and, where that is built, so many lines that are made and damaged, byte for byte, and these as linkstate
 # does by the state encoding; what the crate's calls say of each of these lines has to agree: rust_tests.sh [LINES].
@@ -29,10 +29,10 @@ awk '/^test result: ok/ { sum += $4 } END { print "rust: " sum " tests passed" }
 
 "$top/scripts/rust_netlink.sh"
 
-# block LANGUAGE: the first of that language after README's line '<!-- runs: rust -->'
+# block LANGUAGE: the first of that language after the page's line '<!-- runs: rust -->'
 block() {
     awk -v fence="\`\`\`$1" '$0 == "<!-- runs: rust -->" { is_part = 1 } is_part && $0 == "```" { if (in_block) exit }
-        in_block { print } is_part && $0 == fence { in_block = 1 }' "$top/README.md"
+        in_block { print } is_part && $0 == fence { in_block = 1 }' "$top/docs/USING.md"
 }
 mkdir -p "$folder/sample/src"
 block rust >"$folder/sample/src/main.rs"
@@ -50,7 +50,7 @@ END
 (cd "$folder/sample" && runs cargo build)
 "$CARGO_TARGET_DIR/debug/sample" >"$folder/found"
 diff "$folder/wanted" "$folder/found"
-echo "rust: the README's program: ok"
+echo "rust: the page's program: ok"
 
 runs cargo build --locked --release --example lines
 example=$CARGO_TARGET_DIR/release/examples/lines
