@@ -178,6 +178,6 @@ fn paths_lead_inside(rt: HostRuntime) {
         assert!(rt; refusal.path().numbers() == [22, 1, 8].as_slice());
         assert!(rt; refusal.attribute().map(|it| it.0) == Some(22));
     }
-    let later = LinkMessage::refusals_from(bytes.as_slice(), 40).expect(&rt, "it has a header");
-    assert!(rt; later.count() == 0);
+    let mut later = LinkMessage::refusals_from(bytes.as_slice(), 40).expect(&rt, "it has a header");
+    assert!(rt; later.next().is_none());
 }
