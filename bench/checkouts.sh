@@ -1,8 +1,9 @@
 #!/usr/bin/env bash
 # Makes and builds the two checkouts that bench/run times: checkouts.sh COMMIT FOLDER makes FOLDER-old of that commit,
 # with bench/, crates/link_bench and its line of crates.txt laid over it, and FOLDER-new of the commit that is checked
-# out here. Run again, it brings both up to date. In each link_bench is built by `rt run`, which proves it and all
-# below it first; what is kept of an earlier run is not proved again. The other programs are built of dist/.
+# out here. Where COMMIT is of before messages were read leniently, before_readings.patch fits link_bench to it. Run
+# again, it brings both up to date. In each link_bench is built by `rt run`, which proves it and all below it first;
+# what is kept of an earlier run is not proved again. The other programs are built of dist/.
 set -euo pipefail
 if [ "$#" != 2 ]; then
     echo 'usage: bench/checkouts.sh COMMIT FOLDER' >&2
@@ -24,6 +25,9 @@ lays_over() {
     git -C "$1" checkout -q "$new" -- bench crates/link_bench
     sed -i '/^link_bench[: ]/d' "$1/crates.txt"
     git -C "$top" show "$new:crates.txt" | grep '^link_bench[: ]' >>"$1/crates.txt"
+    if [ ! -e "$1/crates/message_shown/src/reading.rt" ]; then
+        git -C "$1" apply "$top/bench/before_readings.patch"
+    fi
 }
 
 # builds FOLDER: lowest crate first
