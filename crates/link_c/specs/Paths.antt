@@ -1,6 +1,5 @@
 -- Where a fault is, as C is told.
 use Rattle.std.specs.Prelude.{◌≡◌, ℕ, ◌-◌, ◌≤◌, List, ◌++◌, length, replicate, Result, Ok, Err}
-use Rattle.nla_wire.specs.declared.error.Cause.{Cause}
 use Rattle.link_msg.specs.FaultAt.{FaultsAlong}
 use Rattle.link_msg.specs.FaultPath.{numbers_to}
 use Rattle.link_msg.specs.declared.fault_path.FaultPath.{FaultPath}

@@ -1,5 +1,5 @@
 -- What `linkwire_show` writes: a text, for which the buffer may have no room.
-use Rattle.std.specs.Prelude.{◌≡◌, ℕ, ◌==◌, ◌<◌, List, [], length, Bool, None, Result, Ok, Err, cond}
+use Rattle.std.specs.Prelude.{◌≡◌, ℕ, ◌==◌, ◌<◌, List, [], length, None, Result, Ok, Err, cond}
 use Rattle.nla_wire.specs.Canon.{Writes}
 use Rattle.link_msg.specs.Messages.{Means}
 use Rattle.link_msg.specs.declared.message.LinkMessage.{LinkMessage}

@@ -1,9 +1,9 @@
 -- The laws of lenient reading.
-use Rattle.std.proofs.Common.{◌≡◌, ◌≢◌, ℕ, ◌≤◌, inl, inr, List, [], ◌∷◌, length, refl, sym, ap, ◌∙◌, subst}
+use Rattle.std.proofs.Common.{◌≡◌, ◌≢◌, ◌⊎◌, ℕ, ◌≤◌, inl, inr, List, [], ◌∷◌, length, refl, sym, ap, ◌∙◌, subst}
 use Rattle.std.proofs.Common.{Result, Ok, Err, IsOk, IfErr, Some, None}
 use Rattle.std.specs.List.{AllByRecursion}
 use Rattle.nla_wire.specs.Frames.{Frame, IsBytes, IsFrame, Fault}
-use Rattle.nla_wire.specs.Grammar.{Every, FirstAfter}
+use Rattle.nla_wire.specs.Grammar.{Agrees, Every, FirstAfter}
 use Rattle.nla_wire.specs.declared.error.Cause.{Cause}
 use Rattle.nla_wire.specs.declared.error.Cause.TheVariants.{OutOfMemory}
 use Rattle.nla_wire.specs.declared.error.DecodeError.{DecodeError}
@@ -17,12 +17,10 @@ use Rattle.link_vals.specs.declared.address_family.AddressFamily.{AddressFamily}
 use Rattle.link_msg.specs.Header.{header_of}
 use Rattle.link_msg.specs.Tables.{attribute_place, attribute_lawful, attribute_frame, AttributeFits}
 use Rattle.link_msg.specs.Messages.{message_text}
-use Rattle.link_msg.specs.Lenient.{FaultBy, read_by, message_by, kept_if_bad, lenient_place, MeansLeniently}
-use Rattle.link_msg.specs.Lenient.{LenientFault}
+use Rattle.link_msg.specs.Lenient.{FaultBy, read_by, message_by, kept_if_bad, lenient_place}
+use Rattle.link_msg.specs.Lenient.{LenientFault, MeansLeniently, MeansNoneLeniently}
 use Rattle.link_msg.specs.Lenient.{StrictIsLenient, OneLenientMeaning, FittingIsRead, LenientTextMeansTheSame}
-use Rattle.link_msg.specs.Lenient.{SameLenientTextSameMessage, LenientTwice, StrictAnswersStay}
-use Rattle.link_msg.specs.Canonical.{IsAccepted, HasText, IsUnfit, HasEmptyPorts}
-use Rattle.link_msg.specs.Lenient.{IsLenientlyAccepted, HasLenientText, IsLenientlyUnfit, HasLenientPorts}
+use Rattle.link_msg.specs.Lenient.{SameLenientTextSameMessage, LenientTwice}
 use Rattle.link_msg.specs.LenientTable.{always_kept, lenient_lawful, other_frame, other_fits}
 use Rattle.link_msg.specs.declared.attribute.LinkAttribute.{LinkAttribute}
 use Rattle.link_msg.specs.declared.attribute.LinkAttribute.TheVariants as Attributes
@@ -61,6 +59,18 @@ fitting_is_read h c fs small size frames =
       (h, c, refl, record { size = size; says = refl }, (fs, frames, values.1)),
     )
 
+pub read_leniently : Agrees IsBytes (message_by lenient_place)
+read_leniently = agrees_by lenient_place lenient_lawful
+
+by_lenient_reading : (b : List ℕ) → IsBytes b → (r : Result LinkMessage Cause) → read_by lenient_place b ≡ r
+    → ((m : LinkMessage) × MeansLeniently b m) ⊎ MeansNoneLeniently b
+by_lenient_reading b bytes (Ok m) is = inl (m, read_leniently.found b m bytes is)
+by_lenient_reading b bytes (Err c) is =
+    inr (λ m means. let clash : Err c ≡ Ok m = sym is ∙ read_leniently.only b m means in absurd cc)
+
+pub means_or_not : (b : List ℕ) → IsBytes b → ((m : LinkMessage) × MeansLeniently b m) ⊎ MeansNoneLeniently b
+means_or_not b bytes = by_lenient_reading b bytes (read_by lenient_place b) refl
+
 pub lenient_text : LenientTextMeansTheSame
 lenient_text = back_by lenient_place lenient_lawful
 
@@ -94,7 +104,7 @@ pub lenient_fault : (b : List ℕ) → IsBytes b → (r : Result LinkMessage Dec
     → Gives r (read_by lenient_place b) → IfErr r (λ e. e.cause ≢ OutOfMemory → LenientFault b e.cause)
 lenient_fault b small (Ok m) gives = tt
 lenient_fault b small (Err e) gives = λ other. fault_of_frames b e.cause
-    (gives_fault (message_by lenient_place) (agrees_by lenient_place lenient_lawful) b small (Err e) gives other)
+    (gives_fault (message_by lenient_place) read_leniently b small (Err e) gives other)
 
 -- ** one frame, by what it is read as strictly
 

@@ -24,7 +24,8 @@ impl FaultPath {
     /// The numbers of the frames at fault, without their two flags, the outermost first: at most four. Bytes that are
     /// no frame have none, so that there is none where they stand in the outermost list, or where the header is short.
     pub fn numbers(&self) -> &[u16]
-        ensures { result.now ≡ numbers_to self.now }
+        ensures all { result.now ≡ numbers_to self.now }
+        ensures few { length result.now ≤ 4 }
     {
         &self.numbers[..self.depth.min(MOST_DEPTH)]
     }

@@ -1,5 +1,5 @@
 -- What is read of filled bytes was read of them before: filling makes no payload accepted that was refused.
-use Rattle.std.proofs.Common.{◌≡◌, ℕ, ◌<◌, ◌==◌, List, [], ◌∷◌, length, map, filter, cond, refl, sym, ap, subst, ◌∙◌}
+use Rattle.std.proofs.Common.{◌≡◌, ℕ, ◌==◌, List, [], ◌∷◌, length, map, filter, cond, refl, sym, ap, subst, ◌∙◌}
 use Rattle.std.proofs.Common.{arith, eqb-true, Bool, true, false}
 use Rattle.std.proofs.lemmas.List.{length-replicate}
 use Rattle.std.specs.Prelude.{if◌then◌else◌}
@@ -16,7 +16,7 @@ use Rattle.nla_wire.proofs.Back.{all_filtered}
 use Rattle.nla_wire.proofs.Joined.{begins_once}
 use Rattle.nla_wire.proofs.Tables.{Seen, Entry, lines, line_in}
 use Rattle.nla_wire.proofs.Codec.{Any}
-use Rattle.link_state.specs.Table.{Action, find, action_of}
+use Rattle.link_state.specs.Table.{Action, find}
 use Rattle.link_state.specs.Table.Action.{Keep, Clear, Enter}
 use Rattle.link_state.specs.Cleared.{payload_by, filled_on, filled}
 use Rattle.link_state.specs.declared.level.Level.{Level}

@@ -1,9 +1,8 @@
 -- The state encoding of a lenient canonical encoding is one again, with the same attributes raw.
 use Rattle.std.specs.Prelude.{◌↔◌}
-use Rattle.std.proofs.Common.{◌≡◌, ℕ, ◌<◌, ◌≤◌, inl, inr, List, [], ◌∷◌, ◌++◌, length, take, drop, map, refl, sym, ap}
+use Rattle.std.proofs.Common.{◌≡◌, ℕ, ◌<◌, inl, inr, List, [], ◌∷◌, ◌++◌, length, take, drop, map, refl, sym, ap}
 use Rattle.std.proofs.Common.{subst, ◌∙◌, arith, Result, Ok, Err, Bool, true, false, if◌then◌else◌}
 use Rattle.std.specs.List.{AllByRecursion}
-use Rattle.nla_wire.specs.Sizes.{most_payload}
 use Rattle.nla_wire.specs.Frames.{Frame, number, IsBytes, IsFrame}
 use Rattle.nla_wire.specs.Grammar.{Every}
 use Rattle.nla_wire.specs.declared.error.Cause.{Cause}
@@ -34,7 +33,7 @@ use Rattle.link_state.proofs.Masks.{filled_at_its_mask}
 use Rattle.link_state.proofs.Payloads.{clear_leaves, part_leaves}
 use Rattle.link_state.proofs.Places.{message_closes}
 use Rattle.link_state.proofs.BeforeRows.{message_before}
-use Rattle.link_state.proofs.States.{IsTextBy, FilledFrom, state_by, filled_by, state_is_as_long, has_header}
+use Rattle.link_state.proofs.States.{IsTextBy, state_by, filled_by, state_is_as_long, has_header}
 
 -- ** bytes that are filled are bytes
 

@@ -1,15 +1,9 @@
 -- What bytes mean has one state encoding.
-use Rattle.std.proofs.Common.{◌≡◌, ℕ, List, ◌⊎◌, inl, inr, refl, sym, ap, ◌∙◌}
-use Rattle.std.specs.Prelude.{Result, Ok, Err}
-use Rattle.nla_wire.specs.Frames.{IsBytes}
-use Rattle.nla_wire.specs.Grammar.{Agrees}
-use Rattle.nla_wire.specs.declared.error.Cause.{Cause}
-use Rattle.link_msg.specs.Lenient.{MeansLeniently, MeansNoneLeniently, lenient_place, message_by, read_by}
-use Rattle.link_msg.specs.LenientTable.{lenient_lawful}
+use Rattle.std.proofs.Common.{refl, sym, ap, ◌∙◌}
+use Rattle.link_msg.specs.Lenient.{MeansLeniently}
 use Rattle.link_msg.specs.Messages.{Means, message_text}
 use Rattle.link_msg.proofs.LawProofs.{one_message}
-use Rattle.link_msg.proofs.Leniently.{one_lenient}
-use Rattle.link_msg.proofs.MessagesBy.{agrees_by}
+use Rattle.link_msg.proofs.Leniently.{means_or_not, one_lenient}
 use Rattle.link_msg.specs.declared.message.LinkMessage.{LinkMessage}
 use Rattle.link_state.specs.LenientState.{HasLenientState}
 use Rattle.link_state.specs.State.{state, HasState}
@@ -37,19 +31,10 @@ one_text = record {
 
 -- ** what they mean leniently
 
-read_leniently : Agrees IsBytes (message_by lenient_place)
-read_leniently = agrees_by lenient_place lenient_lawful
-
-meant_or_not : (b : List ℕ) → IsBytes b → (r : Result LinkMessage Cause) → read_by lenient_place b ≡ r
-    → ((m : LinkMessage) × MeansLeniently b m) ⊎ MeansNoneLeniently b
-meant_or_not b bytes (Ok m) is = inl (m, read_leniently.found b m bytes is)
-meant_or_not b bytes (Err c) is =
-    inr (λ m means. let clash : Err c ≡ Ok m = sym is ∙ read_leniently.only b m means in absurd cc)
-
 one_lenient_meaning : IsMeaning MeansLeniently
 one_lenient_meaning = record {
   once = one_lenient;
-  decided = λ b bytes. meant_or_not b bytes (read_by lenient_place b) refl;
+  decided = means_or_not;
 }
 
 pub one_lenient_text : IsEncoding MeansLeniently HasLenientState

@@ -8,7 +8,7 @@ use Rattle.std.proofs.lemmas.List.{same_from_push}
 use Rattle.std.proofs.lemmas.List.Concat.{flat_map-append}
 use Rattle.std.proofs.lemmas.List.Sums.{fold-append}
 use Rattle.hex.specs.Hex.{encode_lower}
-use Rattle.json.specs.Token.{Token, begin_object, end_object, begin_array, end_array, key, string, number}
+use Rattle.json.specs.Token.{Token, begin_object, end_object, end_array, key, string, number}
 use Rattle.json.specs.Print.{print, print_from, escape, escape_byte, ends, ends_value}
 use Rattle.json.proofs.Printed.Tokens.{print_from-append}
 use Rattle.line_filter.specs.Lines.{with_lf}

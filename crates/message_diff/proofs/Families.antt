@@ -1,6 +1,6 @@
 -- Families in decimal digits.
 use Rattle.std.proofs.Common.{◌≡◌, ◌<◌, ◌^◌, ℕ, Bool, true, false, List, [], ◌∷◌, length, refl, sym, ap, ◌∙◌, arith}
-use Rattle.std.specs.Prelude.{Option, None, Some, Result, Ok, Err, ◌&&◌, cond, nat_lt}
+use Rattle.std.specs.Prelude.{None, Some, Result, Ok, Err, ◌&&◌, cond, nat_lt}
 use Rattle.std.specs.Char.{digit_value}
 use Rattle.std.specs.List.{list_all}
 use Rattle.std.specs.Result.{OkIff, result_ok}

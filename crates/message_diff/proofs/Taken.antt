@@ -1,11 +1,11 @@
 -- What differs of the members that others do not have is what differs of all.
-use Rattle.std.proofs.Common.{◌≡◌, ◌⊎◌, ℕ, Bool, true, false, List, [], ◌∷◌, ◌++◌, refl, sym, ap, ◌∙◌, inl, inr}
+use Rattle.std.proofs.Common.{◌≡◌, ◌⊎◌, ℕ, Bool, true, false, List, [], ◌++◌, refl, sym, ap, ◌∙◌, inl, inr}
 use Rattle.std.proofs.Common.{append_assoc}
-use Rattle.std.specs.Prelude.{Option, Some, None, ◌&&◌}
+use Rattle.std.specs.Prelude.{Some, None, ◌&&◌}
 use Rattle.std.specs.Bool.{Decides}
 use Rattle.std.proofs.lemmas.Bool.Decides.{Decides-and}
 use Rattle.std.proofs.lemmas.List.{append_cancel_left}
-use Rattle.message_diff.specs.Differences.{Leaf, Diff, diffs, Has, HasOneEach}
+use Rattle.message_diff.specs.Differences.{Leaf, diffs, Has, HasOneEach}
 use Rattle.message_diff.specs.Trees.{Forest, joined, rows_in, find_tree, beside, has_leaf, IsLabel, IsGood}
 use Rattle.message_diff.proofs.Without.{without, AreShared, left_out}
 use Rattle.message_diff.proofs.Trees.{before, joined_is, joined_some, cut_same, has_split, rows_of, behind, row_of}

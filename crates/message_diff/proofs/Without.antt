@@ -1,12 +1,11 @@
 -- What both have may be left out of both.
-use Rattle.std.proofs.Common.{◌≡◌, ◌⊎◌, ℕ, Bool, true, false, List, [], ◌∷◌, ◌++◌, refl, sym, ap, ◌∙◌, inl, inr}
+use Rattle.std.proofs.Common.{◌≡◌, ℕ, Bool, true, false, List, [], ◌∷◌, ◌++◌, refl, sym, ap, ◌∙◌, inl, inr}
 use Rattle.std.specs.Prelude.{Option, Some, None, cond, not}
-use Rattle.std.specs.List.{flat_map, filter}
+use Rattle.std.specs.List.{filter}
 use Rattle.std.proofs.lemmas.Slice.Eq.{bytes_eq-Decides}
-use Rattle.message_diff.specs.Known.{is_text}
 use Rattle.message_diff.specs.Differences.{Leaf, Diff, value_at, old_diff, new_diff, old_diffs, new_diffs, diffs, Has}
 use Rattle.message_diff.specs.Differences.{HasOneEach, IsValueAt}
-use Rattle.message_diff.proofs.Diffs.{clash, value_is, value_one, new_same}
+use Rattle.message_diff.proofs.Diffs.{clash, value_is, value_one}
 
 -- those that do not pass a test
 abbrev pub without : (Leaf → Bool) → List Leaf → List Leaf

@@ -1,5 +1,5 @@
 -- The kind of a link, and what announcements have and dumps have not.
-use Rattle.std.specs.Prelude.{ℕ, ◌==◌, ◌&&◌, not, nat_le, Bool, false, List, [], ◌∷◌, ◌++◌, length, take, drop, cond}
+use Rattle.std.specs.Prelude.{ℕ, ◌==◌, ◌&&◌, not, nat_le, Bool, false, List, [], ◌∷◌, ◌++◌, length, take, cond}
 use Rattle.std.specs.Prelude.{Option, None, Some, option_and_then, slice_range}
 use Rattle.std.specs.Int.{w16}
 use Rattle.std.specs.List.{concat, filter, list_any, take_while}

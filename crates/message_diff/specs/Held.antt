@@ -1,5 +1,5 @@
 -- What a host's map has, and what is known by it.
-use Rattle.std.specs.Prelude.{◌≡◌, ◌≢◌, ◌==◌, ◌&&◌, ℕ, not, nat_le, Bool, true, false, List, Option, None, Some, cond}
+use Rattle.std.specs.Prelude.{◌≡◌, ◌==◌, ◌&&◌, ℕ, not, nat_le, Bool, List, Option, None, Some, cond}
 use Rattle.std.specs.List.{filter, list_any}
 use Rattle.std.specs.BTreeMap.{is_at}
 use Rattle.std.specs.Map.{lookup}

@@ -1,7 +1,7 @@
 -- The members of a JSON value as marks tell of them, and the paths and values of those that hold no other.
-use Rattle.std.specs.Prelude.{◌≡◌, ◌≢◌, ◌⊎◌, ℕ, suc, List, [], ◌∷◌, ◌++◌, decimal, Bool, true, false, Option, Some}
-use Rattle.std.specs.Prelude.{None, cond, not, ◌&&◌}
-use Rattle.std.specs.List.{list_any, filter}
+use Rattle.std.specs.Prelude.{◌≡◌, ◌≢◌, ℕ, suc, List, [], ◌∷◌, ◌++◌, decimal, Bool, Option, Some}
+use Rattle.std.specs.Prelude.{None, cond, ◌&&◌}
+use Rattle.std.specs.List.{list_any}
 use Rattle.json.specs.Json.{Json, null, boolean, number, string, array, object, Items, no_items, item, Members}
 use Rattle.json.specs.Json.{no_members, member}
 use Rattle.json.specs.Tree.{json_tokens}

@@ -8,7 +8,7 @@ use Rattle.link_msg.specs.declared.encoding.CanonError.{CanonError}
 use Rattle.link_msg.specs.declared.encoding.CanonError.TheVariants.{Decode, DoesNotFit, EmptyVfPorts}
 use Rattle.nla_wire.specs.declared.error.DecodeError.{DecodeError}
 use Rattle.line_filter.specs.Lines.{with_lf}
-use Rattle.message_lines.specs.Answers.{Meaning, MeansNone, Encodes, IsRefusal, IsAnswerTo, IsAnswerToSpelled}
+use Rattle.message_lines.specs.Answers.{Meaning, Encodes, IsRefusal, IsAnswerTo, IsAnswerToSpelled}
 use Rattle.message_lines.specs.Answers.{AddsAnswer, AddsAnswerTo}
 
 -- what an extended list holds where the call succeeds

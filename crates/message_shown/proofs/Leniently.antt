@@ -1,7 +1,7 @@
 -- Bytes that are read leniently: which they are, and what their answers hold.
-use Rattle.std.proofs.Common.{◌≡◌, ℕ, ◌+◌, ◌<◌, ◌≤◌, Bool, true, false, List, [], ◌∷◌, ◌++◌, length, take, drop, refl}
+use Rattle.std.proofs.Common.{◌≡◌, ℕ, ◌+◌, ◌<◌, ◌≤◌, true, false, List, [], ◌∷◌, ◌++◌, length, take, drop, refl}
 use Rattle.std.proofs.Common.{sym, ap, ◌∙◌, subst, arith, inl, inr, append-nil, append_assoc, length-append}
-use Rattle.std.specs.Prelude.{Result, Ok, Err, Option, Some, None, codes, decimal}
+use Rattle.std.specs.Prelude.{Result, Ok, Err, Option, Some, codes, decimal}
 use Rattle.std.proofs.lemmas.List.Sums.{fold-append}
 use Rattle.json.specs.Token.{number, string}
 use Rattle.std.proofs.Math.Seq.{take-append_seam, drop-append_seam}
@@ -17,7 +17,7 @@ use Rattle.link_info.specs.Styles.{are_frames}
 use Rattle.link_vals.specs.declared.address_family.AddressFamily.{AddressFamily}
 use Rattle.link_msg.specs.Header.{header_size, header_of}
 use Rattle.link_msg.specs.Lenient.{MeansLeniently, MeansNoneLeniently, lenient_place}
-use Rattle.link_msg.specs.Messages.{Means, FirstFault, MeansNothing}
+use Rattle.link_msg.specs.Messages.{Means, MeansNothing}
 use Rattle.link_msg.specs.Tables.{attribute_place, attribute_lawful}
 use Rattle.link_msg.specs.FaultPath.{numbers_to}
 use Rattle.link_msg.specs.Told.{Told, after, told_all, told_on}

@@ -1,6 +1,6 @@
 -- Each line has an answer.
-use Rattle.std.proofs.Common.{◌≡◌, ℕ, Bool, true, false, List, [], ◌∷◌, ◌++◌, suc, refl, sym, ap, subst, ◌∙◌, ◌^◌}
-use Rattle.std.proofs.Common.{◌<◌, arith, decimal}
+use Rattle.std.proofs.Common.{◌≡◌, ◌⊎◌, inl, inr, ℕ, Bool, true, false, List, [], ◌∷◌, ◌++◌, suc, refl, sym, ap}
+use Rattle.std.proofs.Common.{subst, ◌∙◌, ◌^◌, ◌<◌, arith, decimal}
 use Rattle.std.proofs.Common.{append_assoc, append-nil, slice_index}
 use Rattle.std.specs.Prelude.{Result, Ok, Err, codes, MatchBool}
 use Rattle.hex.specs.Hex.{decode_of}
@@ -12,7 +12,7 @@ use Rattle.std.proofs.lemmas.List.Concat.{flat_map-append}
 use Rattle.json.specs.Token.{Token, begin_object, end_object, key, string, number}
 use Rattle.json.specs.Print.{print}
 use Rattle.nla_wire.specs.Frames.{Frame, IsBytes}
-use Rattle.nla_wire.specs.Grammar.{Agrees, Grammar}
+use Rattle.nla_wire.specs.Grammar.{Grammar}
 use Rattle.nla_wire.specs.declared.error.Cause.{Cause}
 use Rattle.nla_wire.proofs.Steps.{bytes_left}
 use Rattle.link_vals.specs.AddressFamilyTable.{address_family_of, address_family_number}
@@ -20,14 +20,12 @@ use Rattle.link_vals.specs.declared.address_family.AddressFamily.{AddressFamily}
 use Rattle.link_vals.proofs.Numbers.{address_family_below}
 use Rattle.link_msg.specs.Header.{header_of, IsHeader}
 use Rattle.link_msg.specs.declared.header.LinkHeader.{LinkHeader}
-use Rattle.link_msg.specs.Lenient.{MeansBy, MeansNoneLeniently, lenient_place, message_by, read_by}
-use Rattle.link_msg.specs.LenientTable.{lenient_lawful}
+use Rattle.link_msg.specs.Lenient.{MeansBy, MeansLeniently, MeansNoneLeniently, lenient_place}
 use Rattle.link_msg.specs.Messages.{read_message}
 use Rattle.link_msg.specs.Tables.{attribute_place}
 use Rattle.link_msg.specs.declared.attribute.LinkAttribute.{LinkAttribute}
 use Rattle.link_msg.specs.declared.message.LinkMessage.{LinkMessage}
-use Rattle.link_msg.proofs.Leniently.{strict_is_lenient}
-use Rattle.link_msg.proofs.MessagesBy.{agrees_by}
+use Rattle.link_msg.proofs.Leniently.{means_or_not, strict_is_lenient}
 use Rattle.link_msg.proofs.Reading.{message_agrees}
 use Rattle.line_filter.specs.Lines.{AnswersEach}
 use Rattle.shown.specs.Drafts.{Draft}
@@ -120,24 +118,19 @@ by_fault words b bytes none (Err c) is = (
       (least words (codes "fault") (string (cause_text c)) (λ _. refl) tt),
 )
 
-read_leniently : Agrees IsBytes (message_by lenient_place)
-read_leniently = agrees_by lenient_place lenient_lawful
-
-by_lenient_reading : (words : List (List ℕ × List ℕ)) (b : List ℕ) → IsBytes b → (r : Result LinkMessage Cause)
-    → read_by lenient_place b ≡ r → (answer : List ℕ) × IsLenientAnswerTo (strings words) b answer
-by_lenient_reading words b bytes (Ok m) is =
-    let means = read_leniently.found b m bytes is in (
-      _,
-      IsLenientAnswerTo.message m means
-          (least words (codes "ifi-family") (number (decimal (address_family_number m.header.interface_family)))
-          (λ _. refl) (decimal_on_line _ (family_small lenient_place b m bytes means))),
-    )
-by_lenient_reading words b bytes (Err c) is =
-    by_fault words b bytes (λ m means. let clash : Err c ≡ Ok m = sym is ∙ read_leniently.only b m means in absurd cc)
-    (read_message b) refl
+by_lenient_reading : (words : List (List ℕ × List ℕ)) (b : List ℕ) → IsBytes b
+    → ((m : LinkMessage) × MeansLeniently b m) ⊎ MeansNoneLeniently b
+    → (answer : List ℕ) × IsLenientAnswerTo (strings words) b answer
+by_lenient_reading words b bytes (inl (m, means)) = (
+  _,
+  IsLenientAnswerTo.message m means
+      (least words (codes "ifi-family") (number (decimal (address_family_number m.header.interface_family)))
+      (λ _. refl) (decimal_on_line _ (family_small lenient_place b m bytes means))),
+)
+by_lenient_reading words b bytes (inr none) = by_fault words b bytes none (read_message b) refl
 
 pub all_answered_leniently : AnswersAll IsLenientAnswerTo
-all_answered_leniently words b bytes = by_lenient_reading words b bytes (read_by lenient_place b) refl
+all_answered_leniently words b bytes = by_lenient_reading words b bytes (means_or_not b bytes)
 
 -- ** of a line
 

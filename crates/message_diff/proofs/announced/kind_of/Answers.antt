@@ -2,7 +2,7 @@ use Rattle.std.proofs.Common.{◌≡◌, ◌<◌, List, ℕ, length, take, sym, 
 use Rattle.std.specs.Prelude.{option_map, Some}
 use Rattle.std.proofs.lemmas.Bool.Decides.{nat_tests}
 use Rattle.link_msg.specs.declared.numbers.TheConstants.{IFLA_LINKINFO}
-use Rattle.message_diff.specs.Announced.{kind_in, name_in, payload_of}
+use Rattle.message_diff.specs.Announced.{payload_of}
 use Rattle.message_diff.specs.Frames.{frames_in, frames_of}
 use Rattle.message_diff.proofs.TwoKinds.{kind_named, name_before, name_whole}
 use Rattle.message_diff.proofs.announced.kind_of.Goals as goal

@@ -1,4 +1,4 @@
-use Rattle.std.proofs.Common.{◌≡◌, ◌≤◌, ◌∙◌, List, ℕ, true, false, length, take, refl, sym, ap, rules}
+use Rattle.std.proofs.Common.{◌≡◌, ◌≤◌, ◌∙◌, List, ℕ, true, false, length, take, sym, ap, rules}
 use Rattle.std.specs.List.{list_any}
 use Rattle.message_diff.specs.Announced.{is_event, without_event}
 use Rattle.message_diff.specs.Frames.{frames_of}

@@ -1,7 +1,6 @@
-use Rattle.std.proofs.Common.{rules, ap, sym, refl, subst, ◌∙◌, ◌≡◌, ◌++◌, ◌∷◌, [], List, append-nil, take, ◌+◌}
-use Rattle.std.specs.Prelude.{Option, Some, None}
+use Rattle.std.proofs.Common.{rules, ap, sym, refl, ◌∙◌, ◌≡◌, ◌++◌, ◌∷◌, [], List, append-nil, ◌+◌}
+use Rattle.std.specs.Prelude.{Some, None}
 use Rattle.std.proofs.lemmas.List.{map_push}
-use Rattle.message_diff.specs.declared.differences.Change.{Change}
 use Rattle.message_diff.specs.declared.differences.Change.TheVariants.{Came}
 use Rattle.message_diff.specs.Differences.{Diff, new_diffs, leaf_of, leaves, diff_of, diffs_of}
 use Rattle.message_diff.proofs.Diffs.{new_more, said_one}

@@ -1,6 +1,5 @@
 use Rattle.std.proofs.Common.{rules, ap, sym, subst, ◌∙◌, ◌≡◌, ◌++◌, ◌∷◌, [], List, append-nil, take, ◌+◌}
 use Rattle.std.proofs.lemmas.List.{map_push}
-use Rattle.message_diff.specs.declared.differences.Change.{Change}
 use Rattle.message_diff.specs.Differences.{Diff, AreOldDiffs, leaf_of, leaves, diff_of, diffs_of}
 use Rattle.message_diff.proofs.Diffs.{said_more}
 use Rattle.message_diff.proofs.Found.{all_rows}

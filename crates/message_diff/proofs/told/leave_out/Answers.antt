@@ -1,5 +1,4 @@
 use Rattle.std.proofs.Common.{[]}
-use Rattle.std.specs.Prelude.{Result}
 use Rattle.message_diff.specs.Differences.{diffs_of}
 use Rattle.message_diff.proofs.Diffs.{left_all}
 use Rattle.message_diff.proofs.told.leave_out.Goals as goal

@@ -1,5 +1,5 @@
-use Rattle.std.proofs.Common.{◌≡◌, ◌++◌, ◌∷◌, [], List, ℕ, rules, refl, sym, ap, ◌∙◌, drop}
-use Rattle.std.proofs.Common.{◌<◌, OnOk, length, arith}
+use Rattle.std.proofs.Common.{◌≡◌, ◌++◌, List, ℕ, rules, refl, sym, ap, ◌∙◌, drop}
+use Rattle.std.proofs.Common.{OnOk, arith}
 use Rattle.std.proofs.lemmas.Bool.Decides.{nat_tests}
 use Rattle.std.proofs.lemmas.Result.{on_ok_weaker}
 use Rattle.json.specs.Print.{print}

@@ -1,6 +1,6 @@
-use Rattle.std.proofs.Common.{◌≡◌, ◌≤◌, ◌∙◌, true, false, length, take, drop, sym, ap, arith}
+use Rattle.std.proofs.Common.{◌≡◌, ◌∙◌, true, false, sym, ap, arith}
 use Rattle.link_info.specs.Styles.{are_frames}
-use Rattle.link_msg.specs.Header.{header_size, header_of}
+use Rattle.link_msg.specs.Header.{header_of}
 use Rattle.nla_wire.proofs.Front.{all_bytes}
 use Rattle.nla_wire.specs.Items.{items}
 use Rattle.message_shown.specs.Leniently.{accepted}

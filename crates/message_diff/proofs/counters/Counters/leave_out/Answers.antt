@@ -2,7 +2,7 @@ use Rattle.std.proofs.Common.{◌≡◌, ◌++◌, ◌∷◌, [], ◌+◌, List,
 use Rattle.std.specs.List.{Contains}
 use Rattle.std.proofs.lemmas.List.{map_push, take_all}
 use Rattle.message_diff.specs.declared.differences.Change.{Change}
-use Rattle.message_diff.specs.Differences.{Diff, IsLeft, AreLeft, diff_of, diffs_of}
+use Rattle.message_diff.specs.Differences.{Diff, AreLeft, diff_of, diffs_of}
 use Rattle.message_diff.specs.Paths.{paths_in}
 use Rattle.message_diff.proofs.Diffs.{left_more, left_all}
 use Rattle.message_diff.proofs.counters.Counters.leave_out.Goals as goal
