@@ -1,7 +1,7 @@
 # The targets that build from dist/ or by the toolchain are in dist/Makefile: `make help` lists all.
 # How long `fuzz` tries messages.
 SECONDS ?= 60
-QUIET = test rust files lint dev fmt check costs edits tables dist dist-tests archive rust-tests show-tests \
+QUIET = test rust lint dev fmt check costs edits tables dist dist-tests archive rust-tests show-tests \
     linkdump-tests
 OF_c-tests = link_c linkdiff linkdump
 OF_fuzz = link_c
@@ -15,7 +15,7 @@ NEEDS_RT := $(firstword $(filter check dist edits compare bench dev fmt,$(MAKECM
 $(if $(NEEDS_RT),$(if $(call is_here,rt),,$(error make $(NEEDS_RT) proves the crates by the command rt, which is not \
     on the path: make self-test, make test and make dist-tests need none)))
 
-.PHONY: dist archive deb dist-tests test rust files lint check edits tables bench compare show-tests c-tests
+.PHONY: dist archive deb dist-tests test rust lint check edits tables bench compare show-tests c-tests
 .PHONY: costs linkdump-tests python-tests dev fmt rust-tests fuzz c-bench
 
 dist: ## proves, and makes dist/ and the archive of a release anew; its sums say what it was made of
@@ -38,10 +38,7 @@ test: ## runs all tests and stored runs by cargo, the contracts erased, in a min
 rust: ## makes the crate in rust/ anew, of the sources and scripts/erase
 	@python3 scripts/erase/erase.py crate rust
 
-files: ## makes docs/FILES.md anew, of the sentence that each source file begins with
-	@python3 scripts/files.py
-
-lint: ## long lines, pages that are stale, shellcheck, pyflakes, and of rust/ rustfmt, clippy and rustdoc
+lint: ## long lines, edits that no longer fit, shellcheck, pyflakes, and of rust/ rustfmt, clippy and rustdoc
 	@scripts/lint.sh
 
 dev: ## checks one crate: make dev CRATE=link_vf

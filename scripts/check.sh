@@ -72,10 +72,8 @@ programs() {
 }
 
 python3 scripts/lines.py
-python3 scripts/words.py
 python3 scripts/version.py
-python3 scripts/scripts_listed.py
-python3 scripts/files.py --check
+python3 scripts/edits.py --fit
 python3 scripts/c_names.py --check
 scripts/sums.sh check
 python3 scripts/erase/test_erase.py

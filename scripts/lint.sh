@@ -1,7 +1,6 @@
 #!/usr/bin/env bash
-# What can be said of the sources without a proof: the length of lines, phrases that stand nowhere, versions, the pages
-# that scripts make, shellcheck, pyflakes, groff and mandoc over the manual pages, and of rust/ rustfmt, clippy and
-# rustdoc, each where it is installed. All are run, and any that finds something makes the status 1.
+# What can be said of the sources without a proof: the length of lines, versions, edits that no longer fit, shellcheck,
+# pyflakes, groff and mandoc over the manual pages, and of rust/ rustfmt, clippy and rustdoc, each where it is installed. All are run, and any that finds something makes the status 1.
 set -euo pipefail
 cd "$(dirname "$0")/.."
 status=0
@@ -30,10 +29,8 @@ where() {
 mapfile -t shell < <(git ls-files '*.sh' .ci/run)
 mapfile -t python < <(git ls-files '*.py')
 says lines python3 scripts/lines.py
-says words python3 scripts/words.py
 says version python3 scripts/version.py
-says scripts/README.md python3 scripts/scripts_listed.py
-says docs/FILES.md python3 scripts/files.py --check
+says 'edits that fit' python3 scripts/edits.py --fit
 says include/linkwire.h python3 scripts/c_names.py --check
 where shellcheck 'shellcheck --version' shellcheck "${shell[@]}"
 pyflakes=$(command -v pyflakes3 || command -v pyflakes || true)

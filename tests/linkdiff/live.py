@@ -118,11 +118,11 @@ class Between:
         self.beside("a veth at the index of a bridge", after, before,
                     ["gone 0 bridge0", "new 0 veth0", "new 0 veth1"])
 
-    def beside(self, case, old, new, wanted):
+    def beside(self, case, old, new, wanted, *words):
         with tempfile.NamedTemporaryFile() as file:
             file.write(old)
             file.flush()
-            compares(f"two files: {case}", self.told(new, file.name, "-"), wanted)
+            compares(f"two files: {case}", self.told(new, *words, file.name, "-"), wanted)
 
     def refusals(self):
         """An alias that is no UTF-8 in one of two files: the link neither went nor came."""
@@ -133,6 +133,7 @@ class Between:
         fault = "not-utf8 IFLA_IFALIAS alias0"
         for case, old, new in ("new", before, after), ("old", after, before):
             self.beside(f"an alias that is no UTF-8 in the {case} one", old, new, [fault])
+            self.beside("the same with --lenient", old, new, ["changed 0 alias0 refused.ifla_ifalias"], "--lenient")
         batch(["link del alias0"])
 
 
@@ -250,6 +251,41 @@ def aliases(programs):
     print("linkdiff live: an alias that is no UTF-8, that is taken away, and whose link goes")
 
 
+def paths(lines, name):
+    """Returns the paths that changed of an interface alone, by what is told."""
+    found = [it.split()[3:] for it in lines if it.startswith(f"changed 0 {name} ")]
+    return {path for line in found for path in line}
+
+
+def leniently(programs):
+    """With --lenient a link whose alias is no UTF-8 has news as any other, and as the port of a bridge too."""
+    batch([veth("odd", 190), "link add bridge0 index 195 address 02:00:00:00:00:95 type bridge", "link set odd0 up"])
+    watched = Watched(programs, of_linkdiff=["--lenient"])
+    watched.settle()
+    alias("odd0")
+    batch(["link set odd0 txqueuelen 1400"])
+    compares("an alias that is no UTF-8", sorted(paths(watched.settle(), "odd0") - {"operstate"}),
+             ["refused.ifla_ifalias", "txqlen"])
+    batch(["link set odd0 master bridge0"])
+    found = watched.settle()
+    if "master" not in paths(found, "odd0") or "new 7 odd0" not in found:
+        fails(f"a port whose alias is no UTF-8: told is {found}")
+    run("ip", "link", "set", "odd0", "alias", "")
+    batch(["link set odd0 txqueuelen 1401"])
+    if not {"refused.ifla_ifalias", "txqlen"} <= paths(watched.settle(), "odd0"):
+        fails(f"an alias that is taken away: told is {found}")
+    alias("odd0")
+    batch(["link del odd0"])
+    found = watched.settle()
+    if not {"gone 0 odd0", "gone 7 odd0"} <= set(found):
+        fails(f"its link goes: told is {found}")
+    batch(["link del bridge0"])
+    watched.stops()
+    if any("fault" in json.loads(it) for it in watched.all):
+        fails("a fault is told")
+    print("linkdiff live: with --lenient a link, and a port, whose alias is no UTF-8")
+
+
 def stands_still(programs):
     """linkdump is stopped, and more is announced than its queue holds."""
     batch([veth("early", 140), veth("other", 150), veth("busy", 160)])
@@ -302,6 +338,7 @@ def inside(programs):
     between.refusals()
     follows(programs)
     aliases(programs)
+    leniently(programs)
     stands_still(programs)
     print("linkdiff live passed")
 
