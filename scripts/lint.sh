@@ -1,6 +1,7 @@
 #!/usr/bin/env bash
 # What can be said of the sources without a proof: the length of lines, versions, edits that no longer fit, shellcheck,
-# pyflakes, groff and mandoc over the manual pages, and of rust/ rustfmt, clippy and rustdoc, each where it is installed. All are run, and any that finds something makes the status 1.
+# pyflakes, groff and mandoc over the manual pages, and of rust/ rustfmt, clippy and rustdoc, each where it is
+# installed. All are run, and any that finds something makes the status 1.
 set -euo pipefail
 cd "$(dirname "$0")/.."
 status=0

@@ -9,11 +9,12 @@ A place that has another one, or none, is printed as 'FILE: CONSTANT is FOUND, n
 """
 
 import fnmatch
+import os
 import re
+import subprocess
 import sys
 
-from lines import read, tracked
-
+TOP = os.path.dirname(os.path.dirname(os.path.abspath(__file__)))
 HEADER, SUMS = "include/linkwire.h", "dist/SUMS"
 # each of these files has one: which constant of the header it is, or TOOLCHAIN, and its form, whose group is the value
 PLACES = [(files, constant, re.compile(form, re.M)) for files, constant, form in [
@@ -43,10 +44,16 @@ ANYWHERE = re.compile(r"\blink(?:wire|show|state|dump|diff)[ -]v?(\d+\.\d+\.\d+)
 OLDER = {"CHANGELOG.md", "docs/DECISIONS.md"}
 
 
+def read(file):
+    with open(f"{TOP}/{file}", encoding="utf-8", errors="replace") as it:
+        return it.read()
+
+
 def main():
-    wanted = dict(re.findall(r'^#define LINKWIRE_(\w+) "?([\d.]+)"?$', "\n".join(read(HEADER)), re.M))
-    wanted["TOOLCHAIN"] = re.search(r"^# toolchain (.*)$", "\n".join(read(SUMS)), re.M)[1]
-    texts = {file: "\n".join(read(file)) for file in tracked()}
+    wanted = dict(re.findall(r'^#define LINKWIRE_(\w+) "?([\d.]+)"?$', read(HEADER), re.M))
+    wanted["TOOLCHAIN"] = re.search(r"^# toolchain (.*)$", read(SUMS), re.M)[1]
+    listed = subprocess.run(["git", "ls-files"], cwd=TOP, check=True, capture_output=True, text=True, timeout=60).stdout
+    texts = {it: read(it) for it in listed.splitlines() if os.path.isfile(f"{TOP}/{it}") and not it.endswith(".s")}
     places = [(file, constant, form.findall(texts.get(file, "")) or ["none"])
               for files, constant, form in PLACES for file in fnmatch.filter(texts, files) or [files]]
     places += [(file, "VERSION", ANYWHERE.findall(text)) for file, text in texts.items() if file not in OLDER]
