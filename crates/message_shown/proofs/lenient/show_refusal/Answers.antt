@@ -24,7 +24,7 @@ returns c =
     let counts = c.in_ok-show_cause.ensures
     ∙ ap (λ (k : Cause). with_members (cause_members k) c.string-2.new.self) c.error-error.ensures in
     let bytes = c.in_ok-show_attribute.ensures
-    ∙ ap (λ ns. with_members (frame_told ns t.frame) c.number.new.self) c.numbers.ensures in
+    ∙ ap (λ ns. with_members (frame_told ns t.frame) c.number.new.self) c.numbers.ensures.all in
     let page = one_page place path t (with_begun [] Object c.args.page.now) c.string.new.self c.string-2.new.self
     c.show_cause.new.page c.number.new.self c.show_attribute.new.page at why counts c.in_ok-number.ensures bytes in
     on_ok_weaker c.end.result (λ ends. (
