@@ -78,7 +78,7 @@ END
     printf '[package]\nname = "typed_data"\nversion = "0.0.0"\nedition = "2021"\n[[bin]]\nname = "typed_data"\n' \
         >"$folder/typed_data/Cargo.toml"
     printf '%s\n' 'path = "main.rs"' '[dependencies]' "linkwire = { path = \"$top/rust\" }" \
-        "netlink-packet-route = \"=$version\"" 'netlink-packet-utils = "0.5"' \
+        "netlink-packet-route = \"=$version\"" 'netlink-packet-utils = "0.5"' 'netlink-packet-core = "0.4"' \
         '[profile.release]' 'lto = true' 'codegen-units = 1' >>"$folder/typed_data/Cargo.toml"
     (cd "$folder/typed_data" && cargo build --quiet --release --offline)
 else

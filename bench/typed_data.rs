@@ -2,8 +2,10 @@
 //! times of many turns, and the ratio of the first to the second.
 
 use linkwire::typed::{self, Typed};
+use netlink_packet_core::{NetlinkMessage, NLM_F_ACK, NLM_F_REQUEST};
 use netlink_packet_route::link::nlas as theirs;
 use netlink_packet_route::traits::{Emitable, Parseable};
+use netlink_packet_route::RtnlMessage;
 use netlink_packet_utils::nla::NlasIterator;
 use std::hint::black_box;
 use std::time::{Duration, Instant};
@@ -17,6 +19,12 @@ fn time(what: &mut dyn FnMut()) -> Duration {
         what();
     }
     start.elapsed()
+}
+
+/// The least of the turns, where there is nothing beside it.
+fn alone(what: &str, ours: &mut dyn FnMut()) {
+    let least = (0..TURNS).map(|_| time(ours)).min().unwrap();
+    println!("{what}: {:.0} ns, no peer", least.as_nanos() as f64 / TIMES as f64);
 }
 
 /// The least of the turns of both.
@@ -61,6 +69,13 @@ fn bytes(digits: &str) -> Vec<u8> {
     digits.chunks(2).map(|it| it[0] * 16 + it[1]).collect()
 }
 
+fn their_message() -> netlink_packet_route::LinkMessage {
+    let mut link = netlink_packet_route::LinkMessage::default();
+    link.header.index = 7;
+    link.nlas.push(theirs::Nla::Mtu(black_box(1400)));
+    link
+}
+
 fn request() {
     let ours = || {
         let mut link = linkwire::LinkMessage::default();
@@ -69,14 +84,39 @@ fn request() {
         drop(black_box(link.to_vec().unwrap()));
     };
     let other = || {
-        let mut link = netlink_packet_route::LinkMessage::default();
-        link.header.index = 7;
-        link.nlas.push(theirs::Nla::Mtu(black_box(1400)));
+        let link = their_message();
         let mut out = vec![0; link.buffer_len()];
         link.emit(&mut out);
         drop(black_box(out));
     };
     ratio("a request of an MTU", &mut { ours }, &mut { other });
+    let ours = || drop(black_box(linkwire::request::mtu(7, black_box(1400)).unwrap().packet(1).unwrap()));
+    let other = || {
+        let mut packet = NetlinkMessage::from(RtnlMessage::NewLink(their_message()));
+        packet.header.flags = NLM_F_REQUEST | NLM_F_ACK;
+        packet.header.sequence_number = 1;
+        packet.finalize();
+        let mut out = vec![0; packet.buffer_len()];
+        packet.serialize(&mut out);
+        drop(black_box(out));
+    };
+    ratio("the packet of that request", &mut { ours }, &mut { other });
+}
+
+/// Data that netlink-packet-route keeps as bytes.
+fn bond() {
+    // what Linux 6.12 dumped of one
+    let data = bytes(
+        "0500010001000000080002005000000008000300640000000800040000000000080005000000000008001c0000000000
+         05000600010000000800070000000000080009000000000008000a000000000008000b005000000005000c0000000000
+         05000d000100000005000e000000000008000f0001000000050010000100000005001100000000000800120000000000
+         0800130001000000080014000100000005001d00010000000500150000000000050016000000000005001b0001000000
+         05001e00020000000500200001000000",
+    );
+    let list = typed::parse::<typed::InfoBond>(&data).unwrap();
+    assert!(!list.iter().any(|it| matches!(it, typed::InfoBond::Other(_))));
+    alone("parse of a bond", &mut || drop(black_box(typed::parse::<typed::InfoBond>(black_box(&data)).unwrap())));
+    alone("emit of a bond", &mut || drop(black_box(typed::emit(black_box(&list)))));
 }
 
 fn main() {
@@ -102,5 +142,6 @@ fn main() {
     kind::<typed::InfoVlan, theirs::InfoVlan>("a vlan", &vlan);
     kind::<typed::InfoBridge, theirs::InfoBridge>("a bridge", &bridge);
     kind::<typed::InfoVxlan, theirs::InfoVxlan>("a vxlan", &vxlan);
+    bond();
     request();
 }
