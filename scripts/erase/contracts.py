@@ -53,6 +53,16 @@ def drop_attributes(s):
             s.drop(i, s.match[j])
 
 
+def inline_optimized(s):
+    """`#[inline(always)]` holds where the crate is optimized: a debug build would have more than twice the code."""
+    for i in s.live("always"):
+        word = s.prev(i, 2)
+        if s.at(word, "inline", "(", "always", ")", "]"):
+            counts["#[inline(always)]"] += 1
+            s.new[word] = "cfg_attr(not(debug_assertions), inline"
+            s.new[s.next(i)] = "))"
+
+
 def drop_impls_of(s, trait):
     """`impl TRAIT for T { .. }`, of which nothing but ghosts is left."""
     for i, body in impls_of(s, trait):

@@ -96,6 +96,7 @@ def crate_only(s, mode, crate):
         surface.hide_modules(s)
     contracts.drop_modules(s, LAWS | (STANDS_FOR if crate == "nla_wire" else set()))
     contracts.drop_impls_of(s, "Exact")
+    contracts.inline_optimized(s)
     derives.drop_structural(s)
 
 

@@ -221,23 +221,6 @@ def makers(s):
             s.after[close] = ")"
 
 
-def zeroed(s):
-    """`let mut text = Vec::with_capacity(alloc, len)?; text.resize(len, 0)?;` is memory of zeros."""
-    for i in s.live("with_capacity"):
-        if not s.follows_path(i):
-            continue
-        end = s.skip_to(i, {";"})
-        name = s.prev(i, 5)
-        len_ = s.prev(s.match[s.next(i)])
-        if not s.at(s.next(end), s.text[name], ".", "resize", "(", s.text[len_], ",", "0", ")", "?", ";"):
-            continue
-        counts["memory of zeros"] += 1
-        s.drop(s.prev(i, 3), end)
-        s.drop(end + 1, s.next(end, 10))
-        s.dead[i] = False
-        s.new[i] = f"vec![0; {s.text[len_]}];"
-
-
 def types(s):
     """`List`, `Text` and `Bytes` are `Vec`, `String` and `Vec<u8>`; a call of `new` of theirs gives what it takes."""
     for i in s.live(*TYPES):
@@ -337,7 +320,6 @@ def memory(s, names):
     drop_impls(s)
     drop_variants(s)
     unwrap_functions(s)
-    zeroed(s)
     makers(s)
     asked_calls(s, names)
     types(s)

@@ -5,6 +5,7 @@
 """
 import sys
 
+import contracts
 import derives
 import erase
 import layout
@@ -189,6 +190,11 @@ def main():
     surface.hide_calls(hidden)
     if hidden.rust() != "impl Info {\n    pub(crate) fn set_value(&mut self) {}\n\n    pub fn kind(&self) {}\n}\n":
         print(hidden.rust())
+        failed += 1
+    always = Source("a.rt", "#[inline(always)]\nfn f() {}\n")
+    contracts.inline_optimized(always)
+    if always.rust() != "#[cfg_attr(not(debug_assertions), inline(always))]\nfn f() {}\n":
+        print(always.rust())
         failed += 1
     nothing = Source("a.rt", "fn f() -> Result<(), AllocError> {\n    g();\n    Ok(())\n}\n")
     memory.unwrap_functions(nothing)

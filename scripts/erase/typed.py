@@ -11,6 +11,7 @@ HERE = os.path.dirname(os.path.abspath(__file__))
 CRATE = os.path.join(HERE, "..", "..", "crates", "link_info", "src")
 SIZES = {"One": 1, "Two": 2, "Four": 4, "Eight": 8}
 WIDTH = 120
+NESTED = 0x8000                                 # NLA_F_NESTED
 
 # ** names: the rule is the place and the row, in capitals
 
@@ -163,6 +164,11 @@ def type_name(place, row):
     return TYPES.get((place, row)) or PLACES.get(place, place) + camel(row)
 
 
+def order(plain):
+    """The form of a value of this spelling."""
+    return "net" if plain[0].startswith("BigEndian") else "host"
+
+
 def doc(text):
     return textwrap.wrap(text, WIDTH - 4, initial_indent="    /// ", subsequent_indent="    /// ")
 
@@ -214,43 +220,45 @@ class Maker:
     def record(self, place, row, members):
         name, flags = type_name(place, row), MEMBERS.get((place, row))
         lines = []
-        for k, (member, plain) in enumerate(members):
+        for member, plain in members:
             kind = self.plain(place, None, plain, flags or name + camel(member))
             field = FIELDS.get((name, member)) or member.replace("-", "_")
-            lines.append(f'{k} {field}: {kind}, "{member}";')
+            lines.append(f'{field}: {kind}, {order(plain)} "{member}";')
         return self.put(name, ("members", ";", lines))
 
     def payload(self, place, row, style):
-        """The type of a variant, and the word for how it is read and written."""
+        """The type of a variant, and its form: the module of parts.rs that reads and writes it."""
         kind, name = style[0], type_name(place, row)
         if (place, row) in MESSAGES:
             return "LinkMessage", "message"
         if kind == "Plain":
-            return self.plain(place, row, style[1], name), "part"
+            return self.plain(place, row, style[1], name), order(style[1])
         if kind in ("Text", "Bytes"):
             return {"Text": ("String", "text"), "Bytes": ("Vec<u8>", "bytes")}[kind]
         if kind == "Record":
             return self.record(place, row, style[1]), "record"
         if kind in ("Array", "List"):
+            if order(style[1]) != "host":
+                raise ValueError(f"typed.py: {place}, {row}: numbers in network order are no {kind.lower()}")
             return f"Vec<{self.plain(place, row, style[1], name)}>", kind.lower()
         return f"Vec<{place_name(style[1])}>", "nest"
 
     def place(self, place):
         words, rows, table = self.places[place]
         name, lines, flags = place_name(place), [], []
-        for k, (number, row, style) in enumerate(rows):
+        for number, row, style in rows:
             one = variant(place, row)
             if style[0] == "Flag":
-                flags.append(f'{number} {k} {one} "{row}",')
+                flags.append(f'{number} {one} "{row}",')
                 self.named.append((place, row, name, one, ""))
                 continue
             kind, word = self.payload(place, row, style)
-            lines.append(f'{number} {k} {one}({kind}) {word} push_{word} "{row}",')
+            written = hex(number | NESTED) if (place, number) in self.nested else number
+            lines.append(f'{number} {written} {one}({kind}) {word} "{row}",')
             self.named.append((place, row, name, one, kind))
-        nested = [number for number, _, _ in rows if (place, number) in self.nested]
         if table is None:
             table = name[4:].upper()
-        return form("place", [f"{name}: {table}, {nested};"] + lines + ["flags:"] + flags, doc(words))
+        return form("place", [f"{name}: {table};"] + lines + ["flags:"] + flags, doc(words))
 
     def more(self, place):
         """The rows of a place that no table has."""
@@ -283,7 +291,7 @@ HEAD = """//! The types of the tables: of each place its attributes, and what th
 
 use super::{Typed, parts};
 use crate::link_info::tables::{bond, bridge, can, family, geneve, gre, macsec, macvlan, others, tunnel, vlan, vxlan};
-use crate::link_info::{Plain, Row, Size, Style, Value};
+use crate::link_info::{Plain, Row, Size, Style};
 use crate::link_msg::LinkMessage;
 use crate::nla_wire::{DecodeError, DefaultNla};
 use crate::packet::{Nla, NlaBuffer, Parseable};

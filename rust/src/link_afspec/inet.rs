@@ -71,7 +71,7 @@ impl NlaRead for AfSpecInet {
         Ok(())
     }
 
-    #[inline(always)]
+    #[cfg_attr(not(debug_assertions), inline(always))]
     fn measure_frame(buffer: &NlaBuffer<'_>) -> Option<usize> {
         match buffer.kind() {
             IFLA_INET_CONF => InetDevConf::measure_filled(buffer.value()),

@@ -140,7 +140,7 @@ impl NlaRead for AfSpecInet6 {
         }
     }
 
-    #[inline(always)]
+    #[cfg_attr(not(debug_assertions), inline(always))]
     fn measure_frame(buffer: &NlaBuffer<'_>) -> Option<usize> {
         let payload = buffer.value();
         match buffer.kind() {

@@ -58,7 +58,7 @@ impl NlaRead for AfSpecMctp {
         }
     }
 
-    #[inline(always)]
+    #[cfg_attr(not(debug_assertions), inline(always))]
     fn measure_frame(buffer: &NlaBuffer<'_>) -> Option<usize> {
         match buffer.kind() {
             IFLA_MCTP_NET => measure_u32(buffer.value()),

@@ -107,7 +107,7 @@ impl NlaRead for AfSpecUnspec {
         }
     }
 
-    #[inline(always)]
+    #[cfg_attr(not(debug_assertions), inline(always))]
     fn measure_frame(buffer: &NlaBuffer<'_>) -> Option<usize> {
         match buffer.kind() {
             AF_INET => AfSpecInet::measure_some(buffer.value()),

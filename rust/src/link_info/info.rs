@@ -11,7 +11,6 @@ use crate::link_nest::LinkInfo;
 use crate::nla_wire::{DefaultNla, NLA_TYPE_MASK, Nla, NlasIterator, list_fits, nlas_buffer_len, nlas_write};
 use crate::rattle::list::vacant;
 use alloc::string::String;
-use alloc::vec;
 use alloc::vec::Vec;
 
 /// The number of the attribute of data by kind (linux/if_link.h).
@@ -180,7 +179,8 @@ fn data_in(list: &[LinkInfo]) -> &[u8] {
 /// The canonical encoding of frames that fit into one attribute.
 fn encoding(frames: &[DefaultNla]) -> Vec<u8> {
     let len = nlas_buffer_len(frames);
-    let mut data = vec![0; len];
+    let mut data = Vec::with_capacity(len);
+    data.resize(len, 0);
     let _len = nlas_write(frames, data.as_mut_slice());
     data
 }

@@ -196,12 +196,12 @@ impl Nla for LinkAttribute {
         }
     }
 
-    #[inline(always)]
+    #[cfg_attr(not(debug_assertions), inline(always))]
     fn measure(&self) -> Option<usize> {
         self.view().1.measure()
     }
 
-    #[inline(always)]
+    #[cfg_attr(not(debug_assertions), inline(always))]
     fn write(&self, buffer: &mut [u8]) -> usize {
         let (kind, view) = self.view();
         view.write(kind, buffer)
@@ -288,7 +288,7 @@ macro_rules! variants {
 
 impl LinkAttribute {
     /// Its kind, with both flag bits, and what its value is written from.
-    #[inline(always)]
+    #[cfg_attr(not(debug_assertions), inline(always))]
     pub fn view(&self) -> (u16, View<'_>) {
         macro_rules! viewed {
             ($($how:ident $variant:ident($value:ident => $kind:expr, $view:expr))+) => {

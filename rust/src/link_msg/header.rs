@@ -40,7 +40,7 @@ impl LinkHeader {
     /// # Errors
     ///
     /// The first fault: its cause, and where it is.
-    #[inline(always)]
+    #[cfg_attr(not(debug_assertions), inline(always))]
     pub fn parse(bytes: &[u8]) -> Result<LinkHeader, DecodeError> {
         if bytes.len() < HEADER_SIZE {
             return Err(no_header(bytes));
@@ -60,7 +60,7 @@ impl LinkHeader {
     }
 
     /// Writes the header into exactly 16 bytes.
-    #[inline(always)]
+    #[cfg_attr(not(debug_assertions), inline(always))]
     fn emit_whole(&self, buffer: &mut [u8]) {
         put_bytes(buffer, 0, &[u8::from(self.interface_family), 0]);
         put_u16(buffer, 2, u16::from(self.link_layer_type));
@@ -70,7 +70,7 @@ impl LinkHeader {
     }
 
     /// Writes the header to the first 16 bytes, and keeps the rest.
-    #[inline(always)]
+    #[cfg_attr(not(debug_assertions), inline(always))]
     pub(crate) fn emit(&self, buffer: &mut [u8]) {
         self.emit_whole(room(buffer, ..HEADER_SIZE));
     }

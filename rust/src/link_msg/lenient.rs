@@ -27,14 +27,14 @@ pub struct LenientPlace {
 
 impl LenientPlace {
     /// The place that refuses.
-    #[inline(always)]
+    #[cfg_attr(not(debug_assertions), inline(always))]
     fn strict(&self) -> AttributePlace {
         AttributePlace { family: self.family }
     }
 }
 
 impl Place<LinkAttribute> for LenientPlace {
-    #[inline(always)]
+    #[cfg_attr(not(debug_assertions), inline(always))]
     fn drops(&self, _kind: u16) -> bool {
         false
     }
@@ -43,7 +43,7 @@ impl Place<LinkAttribute> for LenientPlace {
         kind_name(kind)
     }
 
-    #[inline(always)]
+    #[cfg_attr(not(debug_assertions), inline(always))]
     fn parse_into(&self, buffer: &NlaBuffer<'_>, values: &mut Vec<LinkAttribute>) -> Result<(), DecodeError> {
         match self.strict().parse_into(buffer, values) {
             Ok(()) => Ok(()),
@@ -56,7 +56,7 @@ impl Place<LinkAttribute> for LenientPlace {
     }
 
     /// A frame that is refused is as long as it was read.
-    #[inline(always)]
+    #[cfg_attr(not(debug_assertions), inline(always))]
     fn measure(&self, buffer: &NlaBuffer<'_>) -> Option<usize> {
         let strict = self.strict();
         match strict.measure(buffer) {
@@ -72,7 +72,7 @@ impl Place<LinkAttribute> for LenientPlace {
     }
 
     /// A frame that was measured and has no length by itself is refused.
-    #[inline(always)]
+    #[cfg_attr(not(debug_assertions), inline(always))]
     fn write(&self, buffer: &NlaBuffer<'_>, out: &mut [u8]) -> usize {
         let strict = self.strict();
         match strict.measure(buffer) {

@@ -22,7 +22,7 @@ pub struct LinkMessage {
 pub(crate) const OUTERMOST: &str = "message";
 
 /// The header, and the bytes after it.
-#[inline(always)]
+#[cfg_attr(not(debug_assertions), inline(always))]
 pub(crate) fn split_header(input: &[u8]) -> Result<(LinkHeader, &[u8]), DecodeError> {
     if input.len() < HEADER_SIZE {
         return Err(no_header(input));
@@ -84,7 +84,7 @@ impl LinkMessage {
 
     /// The length of the canonical encoding, or `None` where the message does not fit. The walk over the values is a
     /// call that only reads, so a caller of `fits` and then of `buffer_len` makes it once.
-    #[inline(always)]
+    #[cfg_attr(not(debug_assertions), inline(always))]
     fn measured(&self) -> Option<usize> {
         match nlas_measure(self.attributes.as_slice()) {
             Some(len) => len.checked_add(HEADER_SIZE),

@@ -56,7 +56,7 @@ impl LinkAttribute {
 
     /// Reads a frame into the room after the last value: its number selects the variant. Numbers, ids and records are
     /// read here, with no room on the stack for a value.
-    #[inline(always)]
+    #[cfg_attr(not(debug_assertions), inline(always))]
     fn parse_into(
         buffer: &NlaBuffer<'_>,
         family: AddressFamily,
@@ -173,7 +173,7 @@ impl LinkAttribute {
     }
 
     /// `Ok` where a frame is read, else its first fault, by the shape of its payload.
-    #[inline(always)]
+    #[cfg_attr(not(debug_assertions), inline(always))]
     fn check_frame(buffer: &NlaBuffer<'_>, family: AddressFamily) -> Result<(), DecodeError> {
         let payload = buffer.value();
         match Shape::of(buffer.kind(), payload.len(), family) {
@@ -184,7 +184,7 @@ impl LinkAttribute {
 
     /// The length of the encoding of a frame's value under the header's family, without header and padding and with no
     /// memory; `None` where the value does not fit, or the frame is refused.
-    #[inline(always)]
+    #[cfg_attr(not(debug_assertions), inline(always))]
     fn measure_frame(buffer: &NlaBuffer<'_>, family: AddressFamily) -> Option<usize> {
         buffer.is_frame();
         let payload = buffer.value();
@@ -196,7 +196,7 @@ impl LinkAttribute {
 
     /// Whether a frame is canonical as it is spelled, but for its padding, and not an empty list of ports. One with
     /// flags is not looked at.
-    #[inline(always)]
+    #[cfg_attr(not(debug_assertions), inline(always))]
     pub(crate) fn is_own_encoding(buffer: &NlaBuffer<'_>, family: AddressFamily) -> bool {
         let payload = buffer.value();
         if !has_no_flags(buffer) {
@@ -219,7 +219,7 @@ impl LinkAttribute {
 
     /// Writes the canonical encoding of a frame that was measured to the front of the buffer, and returns its length
     /// with header and padding.
-    #[inline(always)]
+    #[cfg_attr(not(debug_assertions), inline(always))]
     fn write_frame(buffer: &NlaBuffer<'_>, family: AddressFamily, out: &mut [u8]) -> usize {
         buffer.is_frame();
         let payload = buffer.value();
@@ -305,13 +305,13 @@ fn keep_into(buffer: &NlaBuffer<'_>, values: &mut Vec<LinkAttribute>) -> Result<
 }
 
 /// Whether the kind of a frame is its number alone.
-#[inline(always)]
+#[cfg_attr(not(debug_assertions), inline(always))]
 fn has_no_flags(buffer: &NlaBuffer<'_>) -> bool {
     buffer.kind_with_flags() == buffer.kind()
 }
 
 /// Whether a frame whose value has an encoding of so many bytes is an empty list of ports.
-#[inline(always)]
+#[cfg_attr(not(debug_assertions), inline(always))]
 fn is_empty_ports(buffer: &NlaBuffer<'_>, value_len: usize) -> bool {
     buffer.is_frame();
     value_len == 0 && buffer.kind() == IFLA_VF_PORTS
@@ -325,7 +325,7 @@ pub struct AttributePlace {
 }
 
 impl Place<LinkAttribute> for AttributePlace {
-    #[inline(always)]
+    #[cfg_attr(not(debug_assertions), inline(always))]
     fn drops(&self, _kind: u16) -> bool {
         false
     }
@@ -334,22 +334,22 @@ impl Place<LinkAttribute> for AttributePlace {
         kind_name(kind)
     }
 
-    #[inline(always)]
+    #[cfg_attr(not(debug_assertions), inline(always))]
     fn parse_into(&self, buffer: &NlaBuffer<'_>, values: &mut Vec<LinkAttribute>) -> Result<(), DecodeError> {
         LinkAttribute::parse_into(buffer, self.family, values)
     }
 
-    #[inline(always)]
+    #[cfg_attr(not(debug_assertions), inline(always))]
     fn check(&self, buffer: &NlaBuffer<'_>) -> Result<(), DecodeError> {
         LinkAttribute::check_frame(buffer, self.family)
     }
 
-    #[inline(always)]
+    #[cfg_attr(not(debug_assertions), inline(always))]
     fn measure(&self, buffer: &NlaBuffer<'_>) -> Option<usize> {
         LinkAttribute::measure_frame(buffer, self.family)
     }
 
-    #[inline(always)]
+    #[cfg_attr(not(debug_assertions), inline(always))]
     fn write(&self, buffer: &NlaBuffer<'_>, out: &mut [u8]) -> usize {
         LinkAttribute::write_frame(buffer, self.family, out)
     }

@@ -6,7 +6,7 @@ use crate::link_vals::AddressFamily;
 use crate::nla_wire::{NlasIterator, nla_align, padded_len};
 
 /// Whether at most three bytes are all zero.
-#[inline(always)]
+#[cfg_attr(not(debug_assertions), inline(always))]
 fn is_clear(padding: &[u8]) -> bool {
     match padding.len() {
         1 => padding[0] == 0,
@@ -17,7 +17,7 @@ fn is_clear(padding: &[u8]) -> bool {
 }
 
 /// Whether all of the padding stands after a frame of this length at the front, and is zeros.
-#[inline(always)]
+#[cfg_attr(not(debug_assertions), inline(always))]
 fn is_padded(bytes: &[u8], front_len: u16) -> bool {
     let end = front_len as usize;
     let padded = nla_align(end);

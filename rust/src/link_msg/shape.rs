@@ -77,7 +77,7 @@ impl Shape {
     /// attribute is kept as it is, as `LinkAttribute::Other`, whatever its payload.
     ///
     /// It reads no payload: one of this shape may still be refused.
-    #[inline(always)]
+    #[cfg_attr(not(debug_assertions), inline(always))]
     pub fn of(number: u16, size: usize, family: AddressFamily) -> Option<Shape> {
         match number {
             IFLA_ADDRESS => Some(Shape::Bytes),
@@ -194,7 +194,7 @@ impl Shape {
     }
 
     /// Whether a payload of this shape that is as long as its canonical encoding is that encoding.
-    #[inline(always)]
+    #[cfg_attr(not(debug_assertions), inline(always))]
     pub(crate) fn is_copied(self) -> bool {
         match self {
             Shape::Bytes => true,
@@ -210,7 +210,7 @@ impl Shape {
 
     /// The length of the encoding of the value that a payload of this shape means, with no memory; `None` where the
     /// value does not fit, or the payload is refused.
-    #[inline(always)]
+    #[cfg_attr(not(debug_assertions), inline(always))]
     pub(crate) fn measure(self, payload: &[u8]) -> Option<usize> {
         match self {
             Shape::Bytes => Some(payload.len()),
@@ -242,7 +242,7 @@ impl Shape {
 
     /// Writes the attribute of this number that a payload of this shape means, which was measured, to the front of the
     /// buffer, and returns its length with padding. The rest of the buffer is kept.
-    #[inline(always)]
+    #[cfg_attr(not(debug_assertions), inline(always))]
     pub(crate) fn write(self, number: u16, payload: &[u8], out: &mut [u8]) -> usize {
         match self {
             Shape::Bytes => write_value(number, payload, out),

@@ -3,14 +3,14 @@
 
 use crate::link_msg::encoding::CanonError;
 use crate::link_msg::message::LinkMessage;
-use alloc::vec;
 use alloc::vec::Vec;
 
 impl LinkMessage {
     /// The canonical encoding of a message that fits.
     fn encoding(&self) -> Vec<u8> {
         let len = self.buffer_len();
-        let mut encoding = vec![0; len];
+        let mut encoding = Vec::with_capacity(len);
+        encoding.resize(len, 0);
         self.emit(encoding.as_mut_slice());
         encoding
     }

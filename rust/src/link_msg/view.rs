@@ -68,7 +68,7 @@ fn write_event(kind: u16, event: &WirelessEvent, buffer: &mut [u8]) -> usize {
 
 impl View<'_> {
     /// The length of the encoding; `None` where it has more than 65531 bytes, or what is inside does not fit.
-    #[inline(always)]
+    #[cfg_attr(not(debug_assertions), inline(always))]
     pub(crate) fn measure(&self) -> Option<usize> {
         match self {
             View::Flat(flat) => at_most_value(flat.len()),
@@ -98,7 +98,7 @@ impl View<'_> {
 
     /// Writes the attribute of this kind with the encoding as its value to the front of the buffer, and returns its
     /// length. The rest of the buffer is kept.
-    #[inline(always)]
+    #[cfg_attr(not(debug_assertions), inline(always))]
     pub(crate) fn write(&self, kind: u16, buffer: &mut [u8]) -> usize {
         match self {
             View::Flat(flat) => flat.write(kind, buffer),

@@ -58,7 +58,7 @@ impl NlaRead for DevlinkPort {
         }
     }
 
-    #[inline(always)]
+    #[cfg_attr(not(debug_assertions), inline(always))]
     fn measure_frame(buffer: &NlaBuffer<'_>) -> Option<usize> {
         match buffer.kind() {
             DEVLINK_ATTR_BUS_NAME => measure_text(buffer.value()),

@@ -52,7 +52,7 @@ impl NlaRead for LinkProtocolDownReason {
         }
     }
 
-    #[inline(always)]
+    #[cfg_attr(not(debug_assertions), inline(always))]
     fn measure_frame(buffer: &NlaBuffer<'_>) -> Option<usize> {
         match buffer.kind() {
             IFLA_PROTO_DOWN_REASON_MASK => measure_u32(buffer.value()),

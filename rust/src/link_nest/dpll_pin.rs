@@ -47,7 +47,7 @@ impl NlaRead for DpllPin {
         }
     }
 
-    #[inline(always)]
+    #[cfg_attr(not(debug_assertions), inline(always))]
     fn measure_frame(buffer: &NlaBuffer<'_>) -> Option<usize> {
         match buffer.kind() {
             DPLL_A_PIN_ID => measure_u32(buffer.value()),

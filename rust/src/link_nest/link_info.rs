@@ -47,7 +47,7 @@ impl NlaRead for LinkInfo {
         }
     }
 
-    #[inline(always)]
+    #[cfg_attr(not(debug_assertions), inline(always))]
     fn measure_frame(buffer: &NlaBuffer<'_>) -> Option<usize> {
         match buffer.kind() {
             IFLA_INFO_KIND => measure_text(buffer.value()),

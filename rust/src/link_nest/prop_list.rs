@@ -47,7 +47,7 @@ impl NlaRead for Prop {
         }
     }
 
-    #[inline(always)]
+    #[cfg_attr(not(debug_assertions), inline(always))]
     fn measure_frame(buffer: &NlaBuffer<'_>) -> Option<usize> {
         match buffer.kind() {
             IFLA_ALT_IFNAME => measure_text(buffer.value()),

@@ -96,7 +96,7 @@ impl NlaRead for LinkXdp {
         }
     }
 
-    #[inline(always)]
+    #[cfg_attr(not(debug_assertions), inline(always))]
     fn measure_frame(buffer: &NlaBuffer<'_>) -> Option<usize> {
         match buffer.kind() {
             IFLA_XDP_FD => measure_i32(buffer.value()),

@@ -94,7 +94,7 @@ pub struct InetDevConf {
 }
 
 impl InetDevConf {
-    #[inline(always)]
+    #[cfg_attr(not(debug_assertions), inline(always))]
     fn from_words(words: [i32; INET_DEV_CONF_COUNT]) -> InetDevConf {
         InetDevConf {
             forwarding: words[0],
@@ -135,7 +135,7 @@ impl InetDevConf {
     }
 
     /// The fields, in their order.
-    #[inline(always)]
+    #[cfg_attr(not(debug_assertions), inline(always))]
     pub fn words(&self) -> [i32; INET_DEV_CONF_COUNT] {
         [
             self.forwarding,
@@ -177,7 +177,7 @@ impl InetDevConf {
 }
 
 impl Record<INET_DEV_CONF_SIZE> for InetDevConf {
-    #[inline(always)]
+    #[cfg_attr(not(debug_assertions), inline(always))]
     fn read(payload: &[u8]) -> InetDevConf {
         let mut words = [0; INET_DEV_CONF_COUNT];
         read_i32s(payload, &mut words);

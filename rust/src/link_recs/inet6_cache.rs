@@ -30,20 +30,20 @@ pub struct Inet6CacheInfo {
 }
 
 impl Inet6CacheInfo {
-    #[inline(always)]
+    #[cfg_attr(not(debug_assertions), inline(always))]
     fn from_words(words: [i32; INET6_CACHE_INFO_COUNT]) -> Inet6CacheInfo {
         Inet6CacheInfo { max_reasm_len: words[0], tstamp: words[1], reachable_time: words[2], retrans_time: words[3] }
     }
 
     /// The fields, in their order.
-    #[inline(always)]
+    #[cfg_attr(not(debug_assertions), inline(always))]
     pub fn words(&self) -> [i32; INET6_CACHE_INFO_COUNT] {
         [self.max_reasm_len, self.tstamp, self.reachable_time, self.retrans_time]
     }
 }
 
 impl Record<INET6_CACHE_INFO_SIZE> for Inet6CacheInfo {
-    #[inline(always)]
+    #[cfg_attr(not(debug_assertions), inline(always))]
     fn read(payload: &[u8]) -> Inet6CacheInfo {
         let mut words = [0; INET6_CACHE_INFO_COUNT];
         read_i32s(payload, &mut words);

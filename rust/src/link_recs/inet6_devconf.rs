@@ -143,7 +143,7 @@ pub struct Inet6DevConf {
 }
 
 impl Inet6DevConf {
-    #[inline(always)]
+    #[cfg_attr(not(debug_assertions), inline(always))]
     fn from_words(words: [i32; INET6_DEV_CONF_COUNT]) -> Inet6DevConf {
         Inet6DevConf {
             forwarding: words[0],
@@ -210,7 +210,7 @@ impl Inet6DevConf {
     }
 
     /// The fields, in their order.
-    #[inline(always)]
+    #[cfg_attr(not(debug_assertions), inline(always))]
     pub fn words(&self) -> [i32; INET6_DEV_CONF_COUNT] {
         [
             self.forwarding,
@@ -278,7 +278,7 @@ impl Inet6DevConf {
 }
 
 impl Record<INET6_DEV_CONF_SIZE> for Inet6DevConf {
-    #[inline(always)]
+    #[cfg_attr(not(debug_assertions), inline(always))]
     fn read(payload: &[u8]) -> Inet6DevConf {
         let mut words = [0; INET6_DEV_CONF_COUNT];
         read_i32s(payload, &mut words);

@@ -36,7 +36,7 @@ pub struct Icmp6Stats {
 }
 
 impl Icmp6Stats {
-    #[inline(always)]
+    #[cfg_attr(not(debug_assertions), inline(always))]
     fn from_words(words: [i64; ICMP6_STATS_COUNT]) -> Icmp6Stats {
         Icmp6Stats {
             num: words[0],
@@ -50,14 +50,14 @@ impl Icmp6Stats {
     }
 
     /// The fields, in their order.
-    #[inline(always)]
+    #[cfg_attr(not(debug_assertions), inline(always))]
     pub fn words(&self) -> [i64; ICMP6_STATS_COUNT] {
         [self.num, self.in_msgs, self.in_errors, self.out_msgs, self.out_errors, self.csum_errors, self.rate_limit_host]
     }
 }
 
 impl Record<ICMP6_STATS_SIZE> for Icmp6Stats {
-    #[inline(always)]
+    #[cfg_attr(not(debug_assertions), inline(always))]
     fn read(payload: &[u8]) -> Icmp6Stats {
         let mut words = [0; ICMP6_STATS_COUNT];
         read_i64s(payload, &mut words);

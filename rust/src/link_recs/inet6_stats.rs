@@ -104,7 +104,7 @@ pub struct Inet6Stats {
 }
 
 impl Inet6Stats {
-    #[inline(always)]
+    #[cfg_attr(not(debug_assertions), inline(always))]
     fn from_words(words: [i64; INET6_STATS_COUNT]) -> Inet6Stats {
         Inet6Stats {
             num: words[0],
@@ -150,7 +150,7 @@ impl Inet6Stats {
     }
 
     /// The fields, in their order.
-    #[inline(always)]
+    #[cfg_attr(not(debug_assertions), inline(always))]
     pub fn words(&self) -> [i64; INET6_STATS_COUNT] {
         [
             self.num,
@@ -214,7 +214,7 @@ impl Inet6Stats {
 }
 
 impl Record<INET6_STATS_SIZE> for Inet6Stats {
-    #[inline(always)]
+    #[cfg_attr(not(debug_assertions), inline(always))]
     fn read(payload: &[u8]) -> Inet6Stats {
         let mut words = [0; INET6_STATS_COUNT];
         read_i64s(payload, &mut words);

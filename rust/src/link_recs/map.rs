@@ -30,7 +30,7 @@ pub struct Map {
 }
 
 impl Record<MAP_SIZE> for Map {
-    #[inline(always)]
+    #[cfg_attr(not(debug_assertions), inline(always))]
     fn read(payload: &[u8]) -> Map {
         Map {
             memory_start: u64_at(payload, 0),

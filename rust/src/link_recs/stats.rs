@@ -70,7 +70,7 @@ pub struct Stats {
 }
 
 impl Stats {
-    #[inline(always)]
+    #[cfg_attr(not(debug_assertions), inline(always))]
     fn from_words(words: [u32; STATS_COUNT]) -> Stats {
         Stats {
             rx_packets: words[0],
@@ -101,7 +101,7 @@ impl Stats {
     }
 
     /// The fields, in their order.
-    #[inline(always)]
+    #[cfg_attr(not(debug_assertions), inline(always))]
     pub fn words(&self) -> [u32; STATS_COUNT] {
         [
             self.rx_packets,
@@ -133,7 +133,7 @@ impl Stats {
 }
 
 impl Record<STATS_SIZE> for Stats {
-    #[inline(always)]
+    #[cfg_attr(not(debug_assertions), inline(always))]
     fn read(payload: &[u8]) -> Stats {
         let mut words = [0; STATS_COUNT];
         read_u32s(payload, &mut words);

@@ -72,7 +72,7 @@ pub struct Stats64 {
 }
 
 impl Stats64 {
-    #[inline(always)]
+    #[cfg_attr(not(debug_assertions), inline(always))]
     fn from_words(words: [u64; STATS64_COUNT]) -> Stats64 {
         Stats64 {
             rx_packets: words[0],
@@ -104,7 +104,7 @@ impl Stats64 {
     }
 
     /// The fields, in their order.
-    #[inline(always)]
+    #[cfg_attr(not(debug_assertions), inline(always))]
     pub fn words(&self) -> [u64; STATS64_COUNT] {
         [
             self.rx_packets,
@@ -137,7 +137,7 @@ impl Stats64 {
 }
 
 impl Record<STATS64_SIZE> for Stats64 {
-    #[inline(always)]
+    #[cfg_attr(not(debug_assertions), inline(always))]
     fn read(payload: &[u8]) -> Stats64 {
         let mut words = [0; STATS64_COUNT];
         read_u64s(payload, &mut words);

@@ -3,7 +3,7 @@
 
 use crate::nla_wire::fields::{i32_at, i64_at, u32_at, u64_at};
 
-#[inline(always)]
+#[cfg_attr(not(debug_assertions), inline(always))]
 fn load_u32s(payload: &[u8], words: &mut [u32]) {
     for i in 0..words.len() {
         words[i] = u32_at(payload, 4 * i);
@@ -11,7 +11,7 @@ fn load_u32s(payload: &[u8], words: &mut [u32]) {
 }
 
 /// Reads numbers from the front of the payload, as if zeros followed it. One test, of the payload's length.
-#[inline(always)]
+#[cfg_attr(not(debug_assertions), inline(always))]
 pub fn read_u32s(payload: &[u8], words: &mut [u32]) {
     let size = 4 * words.len();
     if payload.len() < size {
@@ -21,7 +21,7 @@ pub fn read_u32s(payload: &[u8], words: &mut [u32]) {
     }
 }
 
-#[inline(always)]
+#[cfg_attr(not(debug_assertions), inline(always))]
 fn load_u64s(payload: &[u8], words: &mut [u64]) {
     for i in 0..words.len() {
         words[i] = u64_at(payload, 8 * i);
@@ -29,7 +29,7 @@ fn load_u64s(payload: &[u8], words: &mut [u64]) {
 }
 
 /// Reads numbers from the front of the payload, as if zeros followed it. One test, of the payload's length.
-#[inline(always)]
+#[cfg_attr(not(debug_assertions), inline(always))]
 pub fn read_u64s(payload: &[u8], words: &mut [u64]) {
     let size = 8 * words.len();
     if payload.len() < size {
@@ -39,7 +39,7 @@ pub fn read_u64s(payload: &[u8], words: &mut [u64]) {
     }
 }
 
-#[inline(always)]
+#[cfg_attr(not(debug_assertions), inline(always))]
 fn load_i32s(payload: &[u8], words: &mut [i32]) {
     for i in 0..words.len() {
         words[i] = i32_at(payload, 4 * i);
@@ -47,7 +47,7 @@ fn load_i32s(payload: &[u8], words: &mut [i32]) {
 }
 
 /// Reads signed numbers from the front of the payload, as if zeros followed it. One test, of the payload's length.
-#[inline(always)]
+#[cfg_attr(not(debug_assertions), inline(always))]
 pub fn read_i32s(payload: &[u8], words: &mut [i32]) {
     let size = 4 * words.len();
     if payload.len() < size {
@@ -57,7 +57,7 @@ pub fn read_i32s(payload: &[u8], words: &mut [i32]) {
     }
 }
 
-#[inline(always)]
+#[cfg_attr(not(debug_assertions), inline(always))]
 fn load_i64s(payload: &[u8], words: &mut [i64]) {
     for i in 0..words.len() {
         words[i] = i64_at(payload, 8 * i);
@@ -65,7 +65,7 @@ fn load_i64s(payload: &[u8], words: &mut [i64]) {
 }
 
 /// Reads signed numbers from the front of the payload, as if zeros followed it. One test, of the payload's length.
-#[inline(always)]
+#[cfg_attr(not(debug_assertions), inline(always))]
 pub fn read_i64s(payload: &[u8], words: &mut [i64]) {
     let size = 8 * words.len();
     if payload.len() < size {

@@ -62,7 +62,7 @@ struct MessageList<const BY: u8> {
 }
 
 impl<const BY: u8> Listed for MessageList<BY> {
-    #[inline(always)]
+    #[cfg_attr(not(debug_assertions), inline(always))]
     fn keeps(&self, number: u16) -> bool {
         match number {
             IFLA_STATS => false,
@@ -79,7 +79,7 @@ impl<const BY: u8> Listed for MessageList<BY> {
         }
     }
 
-    #[inline(always)]
+    #[cfg_attr(not(debug_assertions), inline(always))]
     fn fill_payload(&self, number: u16, payload: &mut [u8]) {
         match number {
             IFLA_STATS => fill_bytes::<BY>(payload),
@@ -128,7 +128,7 @@ struct InfoList<const BY: u8> {
 }
 
 impl<const BY: u8> Listed for InfoList<BY> {
-    #[inline(always)]
+    #[cfg_attr(not(debug_assertions), inline(always))]
     fn fill_payload(&self, number: u16, payload: &mut [u8]) {
         match number {
             IFLA_INFO_DATA => fill_data::<BY>(self.kind, payload),
@@ -162,7 +162,7 @@ fn fill_slave_data<const BY: u8>(kind: Kind, payload: &mut [u8]) {
 struct FamiliesList<const BY: u8>;
 
 impl<const BY: u8> Listed for FamiliesList<BY> {
-    #[inline(always)]
+    #[cfg_attr(not(debug_assertions), inline(always))]
     fn fill_payload(&self, number: u16, payload: &mut [u8]) {
         match number {
             AF_INET6 => fill_list(payload, &Inet6List::<BY>),
@@ -175,7 +175,7 @@ impl<const BY: u8> Listed for FamiliesList<BY> {
 struct Inet6List<const BY: u8>;
 
 impl<const BY: u8> Listed for Inet6List<BY> {
-    #[inline(always)]
+    #[cfg_attr(not(debug_assertions), inline(always))]
     fn fill_payload(&self, number: u16, payload: &mut [u8]) {
         match number {
             IFLA_INET6_STATS => fill_bytes::<BY>(payload),
@@ -190,7 +190,7 @@ impl<const BY: u8> Listed for Inet6List<BY> {
 struct FunctionsList<const BY: u8>;
 
 impl<const BY: u8> Listed for FunctionsList<BY> {
-    #[inline(always)]
+    #[cfg_attr(not(debug_assertions), inline(always))]
     fn fill_payload(&self, number: u16, payload: &mut [u8]) {
         match number {
             IFLA_VF_INFO => fill_list(payload, &FunctionList::<BY>),
@@ -206,7 +206,7 @@ impl<const BY: u8> Listed for FunctionsList<BY> {
 struct FunctionList<const BY: u8>;
 
 impl<const BY: u8> Listed for FunctionList<BY> {
-    #[inline(always)]
+    #[cfg_attr(not(debug_assertions), inline(always))]
     fn fill_payload(&self, number: u16, payload: &mut [u8]) {
         match number {
             IFLA_VF_STATS => fill_list(payload, &FunctionStatsList::<BY>),
@@ -220,7 +220,7 @@ impl<const BY: u8> Listed for FunctionList<BY> {
 struct FunctionStatsList<const BY: u8>;
 
 impl<const BY: u8> Listed for FunctionStatsList<BY> {
-    #[inline(always)]
+    #[cfg_attr(not(debug_assertions), inline(always))]
     fn fill_payload(&self, number: u16, payload: &mut [u8]) {
         match number {
             IFLA_VF_STATS_RX_PACKETS => fill_bytes::<BY>(payload),
@@ -240,7 +240,7 @@ impl<const BY: u8> Listed for FunctionStatsList<BY> {
 struct BridgeList<const BY: u8>;
 
 impl<const BY: u8> Listed for BridgeList<BY> {
-    #[inline(always)]
+    #[cfg_attr(not(debug_assertions), inline(always))]
     fn fill_payload(&self, number: u16, payload: &mut [u8]) {
         match number {
             IFLA_BR_HELLO_TIMER => fill_bytes::<BY>(payload),
@@ -258,7 +258,7 @@ impl<const BY: u8> Listed for BridgeList<BY> {
 struct QuerierList<const BY: u8>;
 
 impl<const BY: u8> Listed for QuerierList<BY> {
-    #[inline(always)]
+    #[cfg_attr(not(debug_assertions), inline(always))]
     fn fill_payload(&self, number: u16, payload: &mut [u8]) {
         match number {
             BRIDGE_QUERIER_IP_OTHER_TIMER => fill_bytes::<BY>(payload),
@@ -272,7 +272,7 @@ impl<const BY: u8> Listed for QuerierList<BY> {
 struct BridgePortList<const BY: u8>;
 
 impl<const BY: u8> Listed for BridgePortList<BY> {
-    #[inline(always)]
+    #[cfg_attr(not(debug_assertions), inline(always))]
     fn fill_payload(&self, number: u16, payload: &mut [u8]) {
         match number {
             IFLA_BRPORT_TOPOLOGY_CHANGE_ACK => fill_bytes::<BY>(payload),
@@ -291,7 +291,7 @@ impl<const BY: u8> Listed for BridgePortList<BY> {
 struct BondPortList<const BY: u8>;
 
 impl<const BY: u8> Listed for BondPortList<BY> {
-    #[inline(always)]
+    #[cfg_attr(not(debug_assertions), inline(always))]
     fn fill_payload(&self, number: u16, payload: &mut [u8]) {
         match number {
             IFLA_BOND_SLAVE_LINK_FAILURE_COUNT => fill_bytes::<BY>(payload),
@@ -304,7 +304,7 @@ impl<const BY: u8> Listed for BondPortList<BY> {
 struct CanList<const BY: u8>;
 
 impl<const BY: u8> Listed for CanList<BY> {
-    #[inline(always)]
+    #[cfg_attr(not(debug_assertions), inline(always))]
     fn fill_payload(&self, number: u16, payload: &mut [u8]) {
         match number {
             IFLA_CAN_BERR_COUNTER => fill_bytes::<BY>(payload),
@@ -317,7 +317,7 @@ impl<const BY: u8> Listed for CanList<BY> {
 struct HsrList<const BY: u8>;
 
 impl<const BY: u8> Listed for HsrList<BY> {
-    #[inline(always)]
+    #[cfg_attr(not(debug_assertions), inline(always))]
     fn fill_payload(&self, number: u16, payload: &mut [u8]) {
         match number {
             IFLA_HSR_SEQ_NR => fill_bytes::<BY>(payload),

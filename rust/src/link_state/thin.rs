@@ -19,7 +19,7 @@ trait Thinned {
 struct OfFamilies;
 
 impl Thinned for OfFamilies {
-    #[inline(always)]
+    #[cfg_attr(not(debug_assertions), inline(always))]
     fn thin_frame(number: u16, len: usize, frame: &mut [u8]) -> usize {
         match number {
             AF_INET6 => thin_wrapped::<OfInet6>(len, frame),
@@ -32,7 +32,7 @@ impl Thinned for OfFamilies {
 struct OfInet6;
 
 impl Thinned for OfInet6 {
-    #[inline(always)]
+    #[cfg_attr(not(debug_assertions), inline(always))]
     fn thin_frame(number: u16, _len: usize, frame: &mut [u8]) -> usize {
         match number {
             IFLA_INET6_STATS => frame.len(),

@@ -7,7 +7,7 @@ use crate::rattle::number::room;
 /// What a list is of, and the byte that is written: it says in which of its attributes.
 pub(crate) trait Listed {
     /// Whether the attributes of this number are known to be kept.
-    #[inline(always)]
+    #[cfg_attr(not(debug_assertions), inline(always))]
     fn keeps(&self, _number: u16) -> bool {
         false
     }
@@ -18,7 +18,7 @@ pub(crate) trait Listed {
 
 /// The next multiple of four after a frame with a payload of this length, counted from the place where it starts; or
 /// the end of the list, where that is less.
-#[inline(always)]
+#[cfg_attr(not(debug_assertions), inline(always))]
 pub(crate) fn after(size: usize, at: usize, payload_len: usize) -> usize {
     let padding = nla_align(payload_len) - payload_len;
     let end = at + NLA_HEADER_SIZE + payload_len;
@@ -26,7 +26,7 @@ pub(crate) fn after(size: usize, at: usize, payload_len: usize) -> usize {
 }
 
 /// The byte in place of these, of which there are four in most counters.
-#[inline(always)]
+#[cfg_attr(not(debug_assertions), inline(always))]
 pub(crate) fn fill_bytes<const BY: u8>(bytes: &mut [u8]) {
     if bytes.len() == 4 {
         bytes.copy_from_slice(&[BY; 4]);
@@ -43,7 +43,7 @@ pub(crate) fn fill_part<const BY: u8>(bytes: &mut [u8], from: usize, to: usize) 
 }
 
 /// The number of the frame at this place, if it has eight bytes with its padding: most attributes of a link have.
-#[inline(always)]
+#[cfg_attr(not(debug_assertions), inline(always))]
 fn number_of_eight(list: &[u8], at: usize) -> Option<u16> {
     match NlaBuffer::new_checked(&list[at..at + 8]) {
         Ok(frame) if !frame.value().is_empty() => Some(frame.kind()),
@@ -53,7 +53,7 @@ fn number_of_eight(list: &[u8], at: usize) -> Option<u16> {
 
 /// Fills the attribute at this place, and returns the place of the next one; or the end of the list, where no frame
 /// begins here.
-#[inline(always)]
+#[cfg_attr(not(debug_assertions), inline(always))]
 fn fill_at<L: Listed>(list: &mut [u8], at: usize, of: &L) -> usize {
     let Ok(frame) = NlaBuffer::new_checked(&list[at..]) else {
         return list.len();

@@ -22,7 +22,7 @@ pub enum AddressFamily {
 }
 
 impl From<u8> for AddressFamily {
-    #[inline(always)]
+    #[cfg_attr(not(debug_assertions), inline(always))]
     fn from(number: u8) -> AddressFamily {
         match number {
             0 => AddressFamily::Unspec,
@@ -36,7 +36,7 @@ impl From<u8> for AddressFamily {
 }
 
 impl From<AddressFamily> for u8 {
-    #[inline(always)]
+    #[cfg_attr(not(debug_assertions), inline(always))]
     fn from(value: AddressFamily) -> u8 {
         match value {
             AddressFamily::Unspec => 0,

@@ -195,7 +195,7 @@ fn high(number: u16) -> LinkLayerType {
 }
 
 impl From<u16> for LinkLayerType {
-    #[inline(always)]
+    #[cfg_attr(not(debug_assertions), inline(always))]
     fn from(number: u16) -> LinkLayerType {
         match number {
             0 => LinkLayerType::Netrom,
@@ -230,7 +230,7 @@ impl From<u16> for LinkLayerType {
 }
 
 impl From<LinkLayerType> for u16 {
-    #[inline(always)]
+    #[cfg_attr(not(debug_assertions), inline(always))]
     fn from(value: LinkLayerType) -> u16 {
         match value {
             LinkLayerType::Netrom => 0,

@@ -112,7 +112,7 @@ pub trait Entry: Nla + Sized {
 pub struct EntryPlace;
 
 impl<E: Entry> Place<E> for EntryPlace {
-    #[inline(always)]
+    #[cfg_attr(not(debug_assertions), inline(always))]
     fn drops(&self, kind: u16) -> bool {
         kind != E::NUMBER
     }

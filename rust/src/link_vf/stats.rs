@@ -94,7 +94,7 @@ impl NlaRead for VfStats {
         }
     }
 
-    #[inline(always)]
+    #[cfg_attr(not(debug_assertions), inline(always))]
     fn measure_frame(buffer: &NlaBuffer<'_>) -> Option<usize> {
         match buffer.kind() {
             IFLA_VF_STATS_RX_PACKETS

@@ -183,7 +183,7 @@ impl Nla for VfInfo {
 }
 
 /// The record that an attribute is, if its number is one of a record: no memory is taken.
-#[inline(always)]
+#[cfg_attr(not(debug_assertions), inline(always))]
 fn parse_record(buffer: &NlaBuffer<'_>) -> Option<Result<VfInfo, DecodeError>> {
     let payload = buffer.value();
     match buffer.kind() {
@@ -203,7 +203,7 @@ fn parse_record(buffer: &NlaBuffer<'_>) -> Option<Result<VfInfo, DecodeError>> {
 }
 
 /// The bytes that the payload of a record's number has to have: one comparison measures every record.
-#[inline(always)]
+#[cfg_attr(not(debug_assertions), inline(always))]
 fn record_size(buffer: &NlaBuffer<'_>) -> Option<usize> {
     let payload = buffer.value();
     match buffer.kind() {
@@ -263,7 +263,7 @@ impl NlaRead for VfInfo {
         }
     }
 
-    #[inline(always)]
+    #[cfg_attr(not(debug_assertions), inline(always))]
     fn measure_frame(buffer: &NlaBuffer<'_>) -> Option<usize> {
         let payload = buffer.value();
         match record_size(buffer) {

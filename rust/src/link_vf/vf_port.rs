@@ -33,7 +33,7 @@ impl NlaRead for VfPort {
         Ok(())
     }
 
-    #[inline(always)]
+    #[cfg_attr(not(debug_assertions), inline(always))]
     fn measure_frame(buffer: &NlaBuffer<'_>) -> Option<usize> {
         Some(buffer.value().len())
     }

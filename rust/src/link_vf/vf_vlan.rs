@@ -65,7 +65,7 @@ impl NlaRead for VfVlan {
         }
     }
 
-    #[inline(always)]
+    #[cfg_attr(not(debug_assertions), inline(always))]
     fn measure_frame(buffer: &NlaBuffer<'_>) -> Option<usize> {
         match buffer.kind() {
             IFLA_VF_VLAN_INFO => VfVlanInfo::measure_sized(buffer.value()),

@@ -18,7 +18,7 @@ pub struct VfInfoBroadcast {
 }
 
 impl Record<VF_INFO_BROADCAST_SIZE> for VfInfoBroadcast {
-    #[inline(always)]
+    #[cfg_attr(not(debug_assertions), inline(always))]
     fn read(payload: &[u8]) -> VfInfoBroadcast {
         VfInfoBroadcast { addr: bytes_32_at(payload, 0) }
     }

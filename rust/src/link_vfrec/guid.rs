@@ -21,7 +21,7 @@ pub struct VfInfoGuid {
 }
 
 impl Record<VF_INFO_GUID_SIZE> for VfInfoGuid {
-    #[inline(always)]
+    #[cfg_attr(not(debug_assertions), inline(always))]
     fn read(payload: &[u8]) -> VfInfoGuid {
         VfInfoGuid { vf_id: u32_at(payload, 0), guid: u64_at(payload, 8) }
     }

@@ -22,7 +22,7 @@ pub struct VfInfoLinkState {
 }
 
 impl Record<VF_INFO_LINK_STATE_SIZE> for VfInfoLinkState {
-    #[inline(always)]
+    #[cfg_attr(not(debug_assertions), inline(always))]
     fn read(payload: &[u8]) -> VfInfoLinkState {
         VfInfoLinkState { vf_id: u32_at(payload, 0), state: VfLinkState::from(u32_at(payload, 4)) }
     }

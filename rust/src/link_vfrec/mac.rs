@@ -21,7 +21,7 @@ pub struct VfInfoMac {
 }
 
 impl Record<VF_INFO_MAC_SIZE> for VfInfoMac {
-    #[inline(always)]
+    #[cfg_attr(not(debug_assertions), inline(always))]
     fn read(payload: &[u8]) -> VfInfoMac {
         VfInfoMac { vf_id: u32_at(payload, 0), mac: bytes_32_at(payload, 4) }
     }

@@ -23,7 +23,7 @@ pub struct VfInfoRate {
 }
 
 impl Record<VF_INFO_RATE_SIZE> for VfInfoRate {
-    #[inline(always)]
+    #[cfg_attr(not(debug_assertions), inline(always))]
     fn read(payload: &[u8]) -> VfInfoRate {
         VfInfoRate { vf_id: u32_at(payload, 0), min_tx_rate: u32_at(payload, 4), max_tx_rate: u32_at(payload, 8) }
     }

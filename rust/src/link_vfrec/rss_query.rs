@@ -22,7 +22,7 @@ pub struct VfInfoRssQueryEn {
 }
 
 impl Record<VF_INFO_RSS_QUERY_EN_SIZE> for VfInfoRssQueryEn {
-    #[inline(always)]
+    #[cfg_attr(not(debug_assertions), inline(always))]
     fn read(payload: &[u8]) -> VfInfoRssQueryEn {
         VfInfoRssQueryEn { vf_id: u32_at(payload, 0), enabled: is_on(u32_at(payload, 4)) }
     }

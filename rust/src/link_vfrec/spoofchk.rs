@@ -22,7 +22,7 @@ pub struct VfInfoSpoofCheck {
 }
 
 impl Record<VF_INFO_SPOOF_CHECK_SIZE> for VfInfoSpoofCheck {
-    #[inline(always)]
+    #[cfg_attr(not(debug_assertions), inline(always))]
     fn read(payload: &[u8]) -> VfInfoSpoofCheck {
         VfInfoSpoofCheck { vf_id: u32_at(payload, 0), enabled: is_on(u32_at(payload, 4)) }
     }

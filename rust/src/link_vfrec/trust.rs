@@ -22,7 +22,7 @@ pub struct VfInfoTrust {
 }
 
 impl Record<VF_INFO_TRUST_SIZE> for VfInfoTrust {
-    #[inline(always)]
+    #[cfg_attr(not(debug_assertions), inline(always))]
     fn read(payload: &[u8]) -> VfInfoTrust {
         VfInfoTrust { vf_id: u32_at(payload, 0), enabled: is_on(u32_at(payload, 4)) }
     }

@@ -2,13 +2,13 @@
 //! Truth values, numbers of four bytes.
 
 /// Whether a setting is on: 0 and 4294967295 are off, all else is on.
-#[inline(always)]
+#[cfg_attr(not(debug_assertions), inline(always))]
 pub fn is_on(number: u32) -> bool {
     number != 0 && number != 4294967295
 }
 
 /// The number of a setting.
-#[inline(always)]
+#[cfg_attr(not(debug_assertions), inline(always))]
 pub fn on_number(on: bool) -> u32 {
     if on { 1 } else { 0 }
 }

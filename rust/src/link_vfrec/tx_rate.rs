@@ -21,7 +21,7 @@ pub struct VfInfoTxRate {
 }
 
 impl Record<VF_INFO_TX_RATE_SIZE> for VfInfoTxRate {
-    #[inline(always)]
+    #[cfg_attr(not(debug_assertions), inline(always))]
     fn read(payload: &[u8]) -> VfInfoTxRate {
         VfInfoTxRate { vf_id: u32_at(payload, 0), rate: u32_at(payload, 4) }
     }

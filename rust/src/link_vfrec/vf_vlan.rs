@@ -27,7 +27,7 @@ pub struct VfVlanInfo {
 }
 
 impl Record<VF_VLAN_INFO_SIZE> for VfVlanInfo {
-    #[inline(always)]
+    #[cfg_attr(not(debug_assertions), inline(always))]
     fn read(payload: &[u8]) -> VfVlanInfo {
         VfVlanInfo {
             vf_id: u32_at(payload, 0),

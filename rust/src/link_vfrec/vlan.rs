@@ -23,7 +23,7 @@ pub struct VfInfoVlan {
 }
 
 impl Record<VF_INFO_VLAN_SIZE> for VfInfoVlan {
-    #[inline(always)]
+    #[cfg_attr(not(debug_assertions), inline(always))]
     fn read(payload: &[u8]) -> VfInfoVlan {
         VfInfoVlan { vf_id: u32_at(payload, 0), vlan_id: u32_at(payload, 4), qos: u32_at(payload, 8) }
     }

@@ -72,14 +72,14 @@ impl<'a> NlaBuffer<'a> {
     }
 
     /// The same frame: what is lent to a call that is rarely made is a copy, so that this one can stay in registers.
-    #[inline(always)]
+    #[cfg_attr(not(debug_assertions), inline(always))]
     pub(crate) fn again(&self) -> NlaBuffer<'a> {
         NlaBuffer { kind: self.kind, value: self.value }
     }
 
     /// What holds of every frame that was read: its kind is a number of two bytes, and its payload is bytes, at most
     /// 65531.
-    #[inline(always)]
+    #[cfg_attr(not(debug_assertions), inline(always))]
     pub fn is_frame(&self) {
         let _kind = self.kind_with_flags();
         are_bytes(self.value());
@@ -92,7 +92,7 @@ impl<'a> NlaBuffer<'a> {
 }
 
 /// What holds of every slice of bytes: each is below 256.
-#[inline(always)]
+#[cfg_attr(not(debug_assertions), inline(always))]
 fn are_bytes(_bytes: &[u8]) {}
 
 fn frame_fault(cause: Cause) -> DecodeError {

@@ -51,7 +51,7 @@ impl Nla for DefaultNla {
         fill_bytes(buffer, self.value.as_slice())
     }
 
-    #[inline(always)]
+    #[cfg_attr(not(debug_assertions), inline(always))]
     fn write(&self, buffer: &mut [u8]) -> usize {
         write_value(self.kind, self.value.as_slice(), buffer)
     }

@@ -10,19 +10,19 @@ pub fn too_short(got: usize, need: usize) -> DecodeError {
 }
 
 /// The byte at a place, zero past the end.
-#[inline(always)]
+#[cfg_attr(not(debug_assertions), inline(always))]
 pub fn u8_at(bytes: &[u8], place: usize) -> u8 {
     if place < bytes.len() { bytes[place] } else { 0 }
 }
 
 /// The number of two bytes at a place, lowest byte first, with zeros past the end.
-#[inline(always)]
+#[cfg_attr(not(debug_assertions), inline(always))]
 pub fn u16_at(bytes: &[u8], place: usize) -> u16 {
     u16::from_le_bytes([u8_at(bytes, place), u8_at(bytes, place + 1)])
 }
 
 /// The number of two bytes at a place, highest byte first, with zeros past the end.
-#[inline(always)]
+#[cfg_attr(not(debug_assertions), inline(always))]
 pub fn be16_at(bytes: &[u8], place: usize) -> u16 {
     u16::from_be_bytes([u8_at(bytes, place), u8_at(bytes, place + 1)])
 }
@@ -34,7 +34,7 @@ fn u32_near_end(bytes: &[u8], place: usize) -> u32 {
 }
 
 /// The number of four bytes at a place, lowest byte first, with zeros past the end.
-#[inline(always)]
+#[cfg_attr(not(debug_assertions), inline(always))]
 pub fn u32_at(bytes: &[u8], place: usize) -> u32 {
     if bytes.len() < place + 4 {
         return u32_near_end(bytes, place);
@@ -58,7 +58,7 @@ fn u64_near_end(bytes: &[u8], place: usize) -> u64 {
 }
 
 /// The number of eight bytes at a place, lowest byte first, with zeros past the end.
-#[inline(always)]
+#[cfg_attr(not(debug_assertions), inline(always))]
 pub fn u64_at(bytes: &[u8], place: usize) -> u64 {
     if bytes.len() < place + 8 {
         return u64_near_end(bytes, place);
@@ -76,19 +76,19 @@ pub fn u64_at(bytes: &[u8], place: usize) -> u64 {
 }
 
 /// The signed number of four bytes at a place, in two's complement, with zeros past the end.
-#[inline(always)]
+#[cfg_attr(not(debug_assertions), inline(always))]
 pub fn i32_at(bytes: &[u8], place: usize) -> i32 {
     u32_at(bytes, place).to_signed()
 }
 
 /// The signed number of eight bytes at a place, in two's complement, with zeros past the end.
-#[inline(always)]
+#[cfg_attr(not(debug_assertions), inline(always))]
 pub fn i64_at(bytes: &[u8], place: usize) -> i64 {
     u64_at(bytes, place).to_signed()
 }
 
 /// The first 32 bytes, with zeros after them where there are fewer.
-#[inline(always)]
+#[cfg_attr(not(debug_assertions), inline(always))]
 pub fn zero_filled_32(bytes: &[u8]) -> [u8; 32] {
     let mut found = [0; 32];
     let len = bytes.len().min(32);
@@ -97,7 +97,7 @@ pub fn zero_filled_32(bytes: &[u8]) -> [u8; 32] {
 }
 
 /// The 32 bytes at a place, with zeros past the end.
-#[inline(always)]
+#[cfg_attr(not(debug_assertions), inline(always))]
 pub fn bytes_32_at(bytes: &[u8], place: usize) -> [u8; 32] {
     zero_filled_32(&bytes[place.min(bytes.len())..])
 }

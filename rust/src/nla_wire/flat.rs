@@ -58,7 +58,7 @@ impl FlatView<'_> {
 
     /// Writes the attribute of this kind with the encoding as its value to the front of the buffer, and returns its
     /// length. The rest of the buffer is kept.
-    #[inline(always)]
+    #[cfg_attr(not(debug_assertions), inline(always))]
     pub(crate) fn write(&self, kind: u16, buffer: &mut [u8]) -> usize {
         match self {
             FlatView::Bytes(bytes) => write_value(kind, bytes, buffer),
@@ -99,12 +99,12 @@ impl<T: Flat> Nla for T {
         self.view().1.fill(buffer)
     }
 
-    #[inline(always)]
+    #[cfg_attr(not(debug_assertions), inline(always))]
     fn measure(&self) -> Option<usize> {
         at_most_value(self.view().1.len())
     }
 
-    #[inline(always)]
+    #[cfg_attr(not(debug_assertions), inline(always))]
     fn write(&self, buffer: &mut [u8]) -> usize {
         let (kind, view) = self.view();
         view.write(kind, buffer)

@@ -26,7 +26,7 @@ impl<'a> NlasIterator<'a> {
 }
 
 /// The first item, and the place from which the others are read.
-#[inline(always)]
+#[cfg_attr(not(debug_assertions), inline(always))]
 fn first(bytes: &[u8]) -> (Result<NlaBuffer<'_>, DecodeError>, usize) {
     match NlaBuffer::at_front(bytes) {
         Ok(frame) => {
@@ -40,7 +40,7 @@ fn first(bytes: &[u8]) -> (Result<NlaBuffer<'_>, DecodeError>, usize) {
 impl<'a> Iterator for NlasIterator<'a> {
     type Item = Result<NlaBuffer<'a>, DecodeError>;
 
-    #[inline(always)]
+    #[cfg_attr(not(debug_assertions), inline(always))]
     fn next(&mut self) -> Option<Result<NlaBuffer<'a>, DecodeError>> {
         if self.left.len() <= self.given {
             return None;

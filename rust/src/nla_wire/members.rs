@@ -38,7 +38,7 @@ fn parse_each<V: Nla, P: Place<V>>(place: &P, bytes: &[u8]) -> Result<Vec<V>, De
 ///
 /// Refuses with the cause of the fault that is met first, front to back, each member's value before the next frame.
 /// There are at least four bytes for each value.
-#[inline(always)]
+#[cfg_attr(not(debug_assertions), inline(always))]
 pub fn parse_members<V: Nla, P: Place<V>>(place: &P, bytes: &[u8]) -> Result<Vec<V>, DecodeError> {
     parse_each(place, bytes)
 }
@@ -57,7 +57,7 @@ fn check_each<V: Nla, P: Place<V>>(place: &P, bytes: &[u8]) -> Result<(), Decode
 
 /// Whether the bytes are a list of members of this place, with no memory taken: `Ok` where they are, else the cause of
 /// the fault that is met first.
-#[inline(always)]
+#[cfg_attr(not(debug_assertions), inline(always))]
 pub fn check_members<V: Nla, P: Place<V>>(place: &P, bytes: &[u8]) -> Result<(), DecodeError> {
     check_each(place, bytes)
 }
@@ -81,7 +81,7 @@ fn measure_each<V: Nla, P: Place<V>>(place: &P, bytes: &[u8]) -> Option<usize> {
 
 /// The length of the canonical encoding of a list's members, with no memory taken; `None` where a member does not fit,
 /// or the list is refused.
-#[inline(always)]
+#[cfg_attr(not(debug_assertions), inline(always))]
 pub fn measure_members<V: Nla, P: Place<V>>(place: &P, bytes: &[u8]) -> Option<usize> {
     measure_each(place, bytes)
 }
@@ -111,7 +111,7 @@ fn write_each<V: Nla, P: Place<V>>(place: &P, bytes: &[u8], out: &mut [u8]) -> u
 /// length. The rest of the buffer is kept.
 ///
 /// The list was measured, and there is room for its encoding.
-#[inline(always)]
+#[cfg_attr(not(debug_assertions), inline(always))]
 pub fn write_members<V: Nla, P: Place<V>>(place: &P, bytes: &[u8], out: &mut [u8]) -> usize {
     write_each(place, bytes, out)
 }

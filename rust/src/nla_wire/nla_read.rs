@@ -37,7 +37,7 @@ pub trait NlaRead: Nla {
     /// Reads the value of an attribute.
     ///
     /// Refuses with the cause of the first fault.
-    #[inline(always)]
+    #[cfg_attr(not(debug_assertions), inline(always))]
     fn parse(buffer: &NlaBuffer<'_>) -> Result<Self, DecodeError>
     where
         Self: Sized,
@@ -47,7 +47,7 @@ pub trait NlaRead: Nla {
     }
 
     /// Whether an attribute has a value, with no memory taken: `Ok` where it has, else the cause of the first fault.
-    #[inline(always)]
+    #[cfg_attr(not(debug_assertions), inline(always))]
     fn check(buffer: &NlaBuffer<'_>) -> Result<(), DecodeError>
     where
         Self: Sized,
@@ -150,7 +150,7 @@ pub trait NlaRead: Nla {
 }
 
 /// Reads the value of an attribute. A fault is told with the attribute's name.
-#[inline(always)]
+#[cfg_attr(not(debug_assertions), inline(always))]
 fn parse_named<V: NlaRead>(buffer: &NlaBuffer<'_>) -> Result<V, DecodeError> {
     match V::parse_frame(buffer) {
         Ok(value) => Ok(value),
@@ -163,7 +163,7 @@ fn parse_named<V: NlaRead>(buffer: &NlaBuffer<'_>) -> Result<V, DecodeError> {
 pub struct OwnPlace;
 
 impl<V: NlaRead> Place<V> for OwnPlace {
-    #[inline(always)]
+    #[cfg_attr(not(debug_assertions), inline(always))]
     fn drops(&self, _kind: u16) -> bool {
         false
     }
@@ -172,23 +172,23 @@ impl<V: NlaRead> Place<V> for OwnPlace {
         <V as NlaRead>::kind_name(kind)
     }
 
-    #[inline(always)]
+    #[cfg_attr(not(debug_assertions), inline(always))]
     fn parse_into(&self, buffer: &NlaBuffer<'_>, values: &mut Vec<V>) -> Result<(), DecodeError> {
         vacant(values).push(<V as NlaRead>::parse_frame(buffer)?);
         Ok(())
     }
 
-    #[inline(always)]
+    #[cfg_attr(not(debug_assertions), inline(always))]
     fn check(&self, buffer: &NlaBuffer<'_>) -> Result<(), DecodeError> {
         <V as NlaRead>::check_frame(buffer)
     }
 
-    #[inline(always)]
+    #[cfg_attr(not(debug_assertions), inline(always))]
     fn measure(&self, buffer: &NlaBuffer<'_>) -> Option<usize> {
         <V as NlaRead>::measure_frame(buffer)
     }
 
-    #[inline(always)]
+    #[cfg_attr(not(debug_assertions), inline(always))]
     fn write(&self, buffer: &NlaBuffer<'_>, out: &mut [u8]) -> usize {
         <V as NlaRead>::write_frame(buffer, out)
     }

@@ -6,7 +6,7 @@ use crate::rattle::net::Ipv6Addr;
 use crate::rattle::number::{narrow, room};
 
 /// The number as two bytes: what the proof carries, that it fits, stands here alone.
-#[inline(always)]
+#[cfg_attr(not(debug_assertions), inline(always))]
 pub fn to_u16(number: usize) -> u16 {
     narrow(number)
 }

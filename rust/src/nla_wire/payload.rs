@@ -7,37 +7,37 @@ use crate::nla_wire::write::{MOST_VALUE_LEN, finish, write_bytes, write_text, wr
 use crate::rattle::number::room;
 
 /// The length of the number of one byte that a payload is: `None` where it has another length.
-#[inline(always)]
+#[cfg_attr(not(debug_assertions), inline(always))]
 pub fn measure_u8(payload: &[u8]) -> Option<usize> {
     if payload.len() == 1 { Some(1) } else { None }
 }
 
 /// The length of the number of two bytes that a payload is: `None` where it has another length.
-#[inline(always)]
+#[cfg_attr(not(debug_assertions), inline(always))]
 pub fn measure_u16(payload: &[u8]) -> Option<usize> {
     if payload.len() == 2 { Some(2) } else { None }
 }
 
 /// The length of the number of four bytes that a payload is: `None` where it has another length.
-#[inline(always)]
+#[cfg_attr(not(debug_assertions), inline(always))]
 pub fn measure_u32(payload: &[u8]) -> Option<usize> {
     if payload.len() == 4 { Some(4) } else { None }
 }
 
 /// The length of the number of eight bytes that a payload is: `None` where it has another length.
-#[inline(always)]
+#[cfg_attr(not(debug_assertions), inline(always))]
 pub fn measure_u64(payload: &[u8]) -> Option<usize> {
     if payload.len() == 8 { Some(8) } else { None }
 }
 
 /// The length of the signed number of four bytes that a payload is: `None` where it has another length.
-#[inline(always)]
+#[cfg_attr(not(debug_assertions), inline(always))]
 pub fn measure_i32(payload: &[u8]) -> Option<usize> {
     if payload.len() == 4 { Some(4) } else { None }
 }
 
 /// The length of the IPv6 address that a payload is: `None` where it has another length.
-#[inline(always)]
+#[cfg_attr(not(debug_assertions), inline(always))]
 pub fn measure_ipv6_addr(payload: &[u8]) -> Option<usize> {
     if payload.len() == 16 { Some(16) } else { None }
 }
@@ -55,43 +55,43 @@ pub fn measure_text(payload: &[u8]) -> Option<usize> {
 }
 
 /// Writes the attribute of this kind with the text of a payload, which ends in one NUL.
-#[inline(always)]
+#[cfg_attr(not(debug_assertions), inline(always))]
 pub fn write_text_payload(kind: u16, payload: &[u8], out: &mut [u8]) -> usize {
     write_text(kind, text::without_nul(payload), out)
 }
 
 /// Writes the attribute of this kind with the number of one byte that its payload is.
-#[inline(always)]
+#[cfg_attr(not(debug_assertions), inline(always))]
 pub fn write_u8_payload(kind: u16, payload: &[u8], out: &mut [u8]) -> usize {
     write_value(kind, &payload[..1], out)
 }
 
 /// Writes the attribute of this kind with the number of two bytes that its payload is.
-#[inline(always)]
+#[cfg_attr(not(debug_assertions), inline(always))]
 pub fn write_u16_payload(kind: u16, payload: &[u8], out: &mut [u8]) -> usize {
     write_value(kind, &payload[..2], out)
 }
 
 /// Writes the attribute of this kind with the number of four bytes that its payload is.
-#[inline(always)]
+#[cfg_attr(not(debug_assertions), inline(always))]
 pub fn write_u32_payload(kind: u16, payload: &[u8], out: &mut [u8]) -> usize {
     write_value(kind, &payload[..4], out)
 }
 
 /// Writes the attribute of this kind with the number of eight bytes that its payload is.
-#[inline(always)]
+#[cfg_attr(not(debug_assertions), inline(always))]
 pub fn write_u64_payload(kind: u16, payload: &[u8], out: &mut [u8]) -> usize {
     write_value(kind, &payload[..8], out)
 }
 
 /// Writes the attribute of this kind with the signed number of four bytes, in two's complement, that its payload is.
-#[inline(always)]
+#[cfg_attr(not(debug_assertions), inline(always))]
 pub fn write_i32_payload(kind: u16, payload: &[u8], out: &mut [u8]) -> usize {
     write_value(kind, &payload[..4], out)
 }
 
 /// Writes the attribute of this kind with the IPv6 address whose sixteen octets its payload is.
-#[inline(always)]
+#[cfg_attr(not(debug_assertions), inline(always))]
 pub fn write_ipv6_addr_payload(kind: u16, payload: &[u8], out: &mut [u8]) -> usize {
     write_value(kind, &payload[..16], out)
 }
@@ -105,7 +105,7 @@ fn write_filled(payload: &[u8], size: usize, out: &mut [u8]) -> usize {
 }
 
 /// Writes the attribute of this kind with the first `size` bytes of a payload, and zeros after a shorter one.
-#[inline(always)]
+#[cfg_attr(not(debug_assertions), inline(always))]
 pub fn write_filled_payload(kind: u16, size: usize, payload: &[u8], out: &mut [u8]) -> usize {
     if size <= payload.len() {
         return write_value(kind, &payload[..size], out);

@@ -34,7 +34,7 @@ pub trait Place<V: Nla> {
 }
 
 /// Reads the value of an attribute as the place does. A fault is told with the attribute's name.
-#[inline(always)]
+#[cfg_attr(not(debug_assertions), inline(always))]
 pub(crate) fn add_one<V: Nla, P: Place<V>>(
     place: &P,
     buffer: &NlaBuffer<'_>,
@@ -47,7 +47,7 @@ pub(crate) fn add_one<V: Nla, P: Place<V>>(
 }
 
 /// Whether an attribute has a value that fits, by measuring its encoding.
-#[inline(always)]
+#[cfg_attr(not(debug_assertions), inline(always))]
 pub(crate) fn is_measured<V: Nla, P: Place<V>>(place: &P, buffer: &NlaBuffer<'_>) -> bool {
     place.measure(buffer).is_some()
 }

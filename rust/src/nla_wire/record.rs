@@ -10,7 +10,7 @@ use crate::rattle::number::room;
 use core::marker::PhantomData;
 
 /// `size`, where so many bytes are there: the length of what is written of a payload that is read exactly then.
-#[inline(always)]
+#[cfg_attr(not(debug_assertions), inline(always))]
 pub fn measure_by_size(payload: &[u8], size: usize) -> Option<usize> {
     if payload.len() < size { None } else { Some(size) }
 }
@@ -28,19 +28,19 @@ pub trait Record<const SIZE: usize>: Sized {
 
     /// Reads a record from a payload that has it whole: what is read is cut to `SIZE` bytes, so that no field is tested
     /// by itself.
-    #[inline(always)]
+    #[cfg_attr(not(debug_assertions), inline(always))]
     fn read_front(payload: &[u8]) -> Self {
         Self::read(&payload[..SIZE])
     }
 
     /// Reads a record from the front of a payload, as if zeros followed it. It never fails.
-    #[inline(always)]
+    #[cfg_attr(not(debug_assertions), inline(always))]
     fn parse_filled(payload: &[u8]) -> Result<Self, DecodeError> {
         Ok(Self::read(payload))
     }
 
     /// Reads a record from the front of a payload. One of fewer than `SIZE` bytes is refused with `TooShort`.
-    #[inline(always)]
+    #[cfg_attr(not(debug_assertions), inline(always))]
     fn parse_sized(payload: &[u8]) -> Result<Self, DecodeError> {
         if payload.len() < SIZE {
             return Err(too_short(payload.len(), SIZE));
@@ -50,19 +50,19 @@ pub trait Record<const SIZE: usize>: Sized {
 
     /// The length of the encoding of the record that a payload means as if zeros followed it: `SIZE`, whatever it
     /// holds.
-    #[inline(always)]
+    #[cfg_attr(not(debug_assertions), inline(always))]
     fn measure_filled(_payload: &[u8]) -> Option<usize> {
         Some(SIZE)
     }
 
     /// The bytes that a payload has to have, by which alone it is measured.
-    #[inline(always)]
+    #[cfg_attr(not(debug_assertions), inline(always))]
     fn size_for(_payload: &[u8]) -> usize {
         SIZE
     }
 
     /// The length of the encoding of the record that a payload means: `None` where it has fewer than `SIZE` bytes.
-    #[inline(always)]
+    #[cfg_attr(not(debug_assertions), inline(always))]
     fn measure_sized(payload: &[u8]) -> Option<usize> {
         measure_by_size(payload, Self::size_for(payload))
     }
@@ -77,7 +77,7 @@ pub trait Record<const SIZE: usize>: Sized {
 
     /// Writes the attribute of this kind whose value is the record to the front of the buffer, and returns its length
     /// with padding. The rest of the buffer is kept.
-    #[inline(always)]
+    #[cfg_attr(not(debug_assertions), inline(always))]
     fn write_attribute(&self, kind: u16, out: &mut [u8]) -> usize {
         self.write(room(out, NLA_HEADER_SIZE..NLA_HEADER_SIZE + SIZE));
         finish(out, SIZE, kind)
@@ -85,7 +85,7 @@ pub trait Record<const SIZE: usize>: Sized {
 
     /// Writes the attribute of this kind whose value is the record that a payload of `SIZE` bytes or more means to the
     /// front of the buffer, and returns its length with padding. The rest of the buffer is kept.
-    #[inline(always)]
+    #[cfg_attr(not(debug_assertions), inline(always))]
     fn write_sized(kind: u16, payload: &[u8], out: &mut [u8]) -> usize {
         let value = Self::read_front(payload);
         value.write_attribute(kind, out)
@@ -97,7 +97,7 @@ pub trait PlainRecord<const SIZE: usize>: Record<SIZE> {
     /// Writes the attribute of this kind whose value is the record that a payload means, the payload cut to `SIZE`
     /// bytes or filled up with zeros, to the front of the buffer, and returns its length with padding. The rest of the
     /// buffer is kept.
-    #[inline(always)]
+    #[cfg_attr(not(debug_assertions), inline(always))]
     fn write_filled(kind: u16, payload: &[u8], out: &mut [u8]) -> usize {
         write_filled_payload(kind, SIZE, payload, out)
     }

@@ -19,7 +19,7 @@ fn not_utf8() -> DecodeError {
 }
 
 /// The highest of the bytes, or 0: one look at each, with no branch.
-#[inline(always)]
+#[cfg_attr(not(debug_assertions), inline(always))]
 fn highest(bytes: &[u8]) -> u8 {
     let mut high = 0;
     for byte in bytes {
@@ -37,33 +37,33 @@ const HIGH_BITS_4: u32 = 0x8080_8080;
 const HIGH_BITS_8: u64 = 0x8080_8080_8080_8080;
 
 /// Whether the first four bytes are ASCII.
-#[inline(always)]
+#[cfg_attr(not(debug_assertions), inline(always))]
 fn begins_ascii_4(bytes: &[u8]) -> bool {
     u32_at(bytes, 0) & HIGH_BITS_4 == 0
 }
 
 /// Whether the first eight bytes are ASCII.
-#[inline(always)]
+#[cfg_attr(not(debug_assertions), inline(always))]
 fn begins_ascii_8(bytes: &[u8]) -> bool {
     u64_at(bytes, 0) & HIGH_BITS_8 == 0
 }
 
 /// Whether one to three bytes are ASCII.
-#[inline(always)]
+#[cfg_attr(not(debug_assertions), inline(always))]
 fn is_ascii_short(bytes: &[u8]) -> bool {
     let last = bytes.len() - 1;
     bytes[0] < 128 && bytes[bytes.len() / 2] < 128 && bytes[last] < 128
 }
 
 /// Whether bytes are ASCII, of which so many in front and so many at the end, which meet or overlap, are all.
-#[inline(always)]
+#[cfg_attr(not(debug_assertions), inline(always))]
 fn are_ends_ascii(bytes: &[u8], front: usize, back: usize) -> bool {
     highest(&bytes[..front]) < 128 && highest(&bytes[bytes.len() - back..]) < 128
 }
 
 /// Whether bytes are ASCII. Most names are short, and two words that overlap are all of their bytes; of a longer text
 /// whole blocks of 32 bytes are looked at, and the last 32, so that no loop goes byte by byte.
-#[inline(always)]
+#[cfg_attr(not(debug_assertions), inline(always))]
 fn is_ascii(bytes: &[u8]) -> bool {
     match bytes.len() {
         0 => true,
@@ -82,13 +82,13 @@ fn is_decoded(bytes: &[u8]) -> bool {
 }
 
 /// Whether bytes are UTF-8, as ASCII is.
-#[inline(always)]
+#[cfg_attr(not(debug_assertions), inline(always))]
 pub(crate) fn is_utf8(bytes: &[u8]) -> bool {
     is_ascii(bytes) || is_decoded(bytes)
 }
 
 /// The bytes as a text, where they are UTF-8.
-#[inline(always)]
+#[cfg_attr(not(debug_assertions), inline(always))]
 fn utf8(bytes: &[u8]) -> Option<&str> {
     if is_utf8(bytes) {
         return Some(str::from_utf8_unchecked(bytes));
@@ -101,7 +101,7 @@ fn utf8(bytes: &[u8]) -> Option<&str> {
 /// # Errors
 ///
 /// Refuses other bytes with `NotUtf8`.
-#[inline(always)]
+#[cfg_attr(not(debug_assertions), inline(always))]
 pub fn parse_string(bytes: &[u8]) -> Result<String, DecodeError> {
     match utf8(without_nul(bytes)) {
         Some(text) => Ok(String::from(text)),

@@ -9,39 +9,39 @@ use crate::rattle::number::room;
 pub const MOST_VALUE_LEN: usize = 65531;
 
 /// A length that the value of an attribute may have, or `None`.
-#[inline(always)]
+#[cfg_attr(not(debug_assertions), inline(always))]
 pub fn at_most_value(len: usize) -> Option<usize> {
     if len <= MOST_VALUE_LEN { Some(len) } else { None }
 }
 
 /// A length rounded up to a multiple of four, at which each frame starts (`NLA_ALIGN` of linux/netlink.h).
-#[inline(always)]
+#[cfg_attr(not(debug_assertions), inline(always))]
 pub fn nla_align(len: usize) -> usize {
     (len + 3) / 4 * 4
 }
 
 /// The length of an attribute whose value has so many bytes: with its header and its padding.
-#[inline(always)]
+#[cfg_attr(not(debug_assertions), inline(always))]
 pub fn padded_len(value_len: usize) -> usize {
     NLA_HEADER_SIZE + nla_align(value_len)
 }
 
 /// The sum of two lengths, or `None` where it is no `usize`, which its carry tells.
-#[inline(always)]
+#[cfg_attr(not(debug_assertions), inline(always))]
 pub fn add_len(len: usize, more: usize) -> Option<usize> {
     let sum = len.wrapping_add(more);
     if sum < len { None } else { Some(sum) }
 }
 
 /// Writes the header of a frame to the first four bytes, and keeps the rest.
-#[inline(always)]
+#[cfg_attr(not(debug_assertions), inline(always))]
 pub(crate) fn write_header(out: &mut [u8], len: u16, kind: u16) {
     room(out, ..2).copy_from_slice(&len.to_le_bytes());
     room(out, 2..4).copy_from_slice(&kind.to_le_bytes());
 }
 
 /// Clears at most three bytes, by a store each.
-#[inline(always)]
+#[cfg_attr(not(debug_assertions), inline(always))]
 fn clear(padding: &mut [u8]) {
     match padding.len() {
         1 => *room(padding, 0) = 0,
@@ -60,7 +60,7 @@ fn clear(padding: &mut [u8]) {
 
 /// Makes a frame of this kind of the value that stands after the four bytes of its header: writes the header before it
 /// and the padding after it, and returns the length with both. The rest of the buffer is kept.
-#[inline(always)]
+#[cfg_attr(not(debug_assertions), inline(always))]
 pub fn finish(out: &mut [u8], len: usize, kind: u16) -> usize {
     let end = NLA_HEADER_SIZE + len;
     let padded = nla_align(end);
@@ -70,7 +70,7 @@ pub fn finish(out: &mut [u8], len: usize, kind: u16) -> usize {
 }
 
 /// Writes bytes to the front of the buffer, and returns their number.
-#[inline(always)]
+#[cfg_attr(not(debug_assertions), inline(always))]
 pub fn write_bytes(bytes: &[u8], out: &mut [u8]) -> usize {
     room(out, ..bytes.len()).copy_from_slice(bytes);
     bytes.len()
@@ -78,14 +78,14 @@ pub fn write_bytes(bytes: &[u8], out: &mut [u8]) -> usize {
 
 /// Writes the attribute of this kind and value to the front of the buffer, and returns its length with padding. The
 /// rest of the buffer is kept.
-#[inline(always)]
+#[cfg_attr(not(debug_assertions), inline(always))]
 pub fn write_value(kind: u16, value: &[u8], out: &mut [u8]) -> usize {
     let len = write_bytes(value, room(out, NLA_HEADER_SIZE..));
     finish(out, len, kind)
 }
 
 /// Writes bytes to the front of the buffer as their first and their last `half` bytes, which meet or overlap.
-#[inline(always)]
+#[cfg_attr(not(debug_assertions), inline(always))]
 fn write_ends(bytes: &[u8], half: usize, out: &mut [u8]) {
     let last = bytes.len() - half;
     room(out, ..half).copy_from_slice(&bytes[..half]);
@@ -93,7 +93,7 @@ fn write_ends(bytes: &[u8], half: usize, out: &mut [u8]) {
 }
 
 /// Writes the bytes of a text, and returns their number. Most names are short, and are two words that overlap.
-#[inline(always)]
+#[cfg_attr(not(debug_assertions), inline(always))]
 fn write_name(bytes: &[u8], out: &mut [u8]) -> usize {
     let len = bytes.len();
     match len {
@@ -105,7 +105,7 @@ fn write_name(bytes: &[u8], out: &mut [u8]) -> usize {
 }
 
 /// Writes bytes and one NUL after them to the front of the buffer, and returns their number.
-#[inline(always)]
+#[cfg_attr(not(debug_assertions), inline(always))]
 fn write_terminated(bytes: &[u8], out: &mut [u8]) -> usize {
     let len = write_name(bytes, out);
     *room(out, len) = 0;
@@ -113,38 +113,38 @@ fn write_terminated(bytes: &[u8], out: &mut [u8]) -> usize {
 }
 
 /// Writes the attribute of this kind with these bytes of a text, and one NUL after them.
-#[inline(always)]
+#[cfg_attr(not(debug_assertions), inline(always))]
 pub fn write_text(kind: u16, text: &[u8], out: &mut [u8]) -> usize {
     let len = write_terminated(text, room(out, NLA_HEADER_SIZE..));
     finish(out, len, kind)
 }
 
 /// Writes the attribute of this kind with a number of one byte.
-#[inline(always)]
+#[cfg_attr(not(debug_assertions), inline(always))]
 pub fn write_u8(kind: u16, value: u8, out: &mut [u8]) -> usize {
     write_value(kind, &[value], out)
 }
 
 /// Writes the attribute of this kind with a number of two bytes, lowest byte first.
-#[inline(always)]
+#[cfg_attr(not(debug_assertions), inline(always))]
 pub fn write_u16(kind: u16, value: u16, out: &mut [u8]) -> usize {
     write_value(kind, &value.to_le_bytes(), out)
 }
 
 /// Writes the attribute of this kind with a number of four bytes, lowest byte first.
-#[inline(always)]
+#[cfg_attr(not(debug_assertions), inline(always))]
 pub fn write_u32(kind: u16, value: u32, out: &mut [u8]) -> usize {
     write_value(kind, &value.to_le_bytes(), out)
 }
 
 /// Writes the attribute of this kind with a number of eight bytes, lowest byte first.
-#[inline(always)]
+#[cfg_attr(not(debug_assertions), inline(always))]
 pub fn write_u64(kind: u16, value: u64, out: &mut [u8]) -> usize {
     write_value(kind, &value.to_le_bytes(), out)
 }
 
 /// Writes the attribute of this kind with a signed number of four bytes, in two's complement.
-#[inline(always)]
+#[cfg_attr(not(debug_assertions), inline(always))]
 pub fn write_i32(kind: u16, value: i32, out: &mut [u8]) -> usize {
     write_value(kind, &value.to_le_bytes(), out)
 }

@@ -22,7 +22,7 @@ macro_rules! casts {
         impl Unsigned for $unsigned {
             type Signed = $signed;
 
-            #[inline(always)]
+            #[cfg_attr(not(debug_assertions), inline(always))]
             fn to_signed(self) -> $signed {
                 self as $signed
             }
@@ -31,7 +31,7 @@ macro_rules! casts {
         impl Signed for $signed {
             type Unsigned = $unsigned;
 
-            #[inline(always)]
+            #[cfg_attr(not(debug_assertions), inline(always))]
             fn to_unsigned(self) -> $unsigned {
                 self as $unsigned
             }
@@ -46,7 +46,7 @@ casts!(i8 u8, i16 u16, i32 u32, i64 u64);
 /// # Panics
 ///
 /// Where they cannot.
-#[inline(always)]
+#[cfg_attr(not(debug_assertions), inline(always))]
 pub(crate) fn narrow(len: usize) -> u16 {
     match u16::try_from(len) {
         Ok(len) => len,
@@ -64,7 +64,7 @@ fn too_long(len: usize) -> ! {
 /// # Panics
 ///
 /// Where these cannot hold it.
-#[inline(always)]
+#[cfg_attr(not(debug_assertions), inline(always))]
 pub(crate) fn narrow_signed<T: TryFrom<i64>>(number: i64) -> T {
     match T::try_from(number) {
         Ok(number) => number,
@@ -77,7 +77,7 @@ pub(crate) fn narrow_signed<T: TryFrom<i64>>(number: i64) -> T {
 /// # Panics
 ///
 /// Where the buffer has no such part.
-#[inline(always)]
+#[cfg_attr(not(debug_assertions), inline(always))]
 pub(crate) fn room<I: SliceIndex<[u8]>>(buffer: &mut [u8], part: I) -> &mut I::Output {
     let len = buffer.len();
     match buffer.get_mut(part) {

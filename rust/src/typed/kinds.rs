@@ -2,9 +2,8 @@
 //! Which data a kind of interface or port has, and how they come from [`LinkInfo`] and go to it.
 
 use super::places::*;
-use super::{emit, parse};
+use super::{emit, parse, parts};
 use crate::link_info::read::read;
-use crate::link_info::tables::can::CAN_STATS;
 use crate::link_info::{Info, InfoError, Style, Value};
 use crate::link_msg::{self, LinkInfo};
 use crate::nla_wire::{DecodeError, DefaultNla, NLA_TYPE_MASK};
@@ -219,7 +218,7 @@ impl LinkXstats {
     /// The counters of this kind.
     pub fn parse(kind: &InfoKind, bytes: &[u8]) -> Self {
         let can = match kind {
-            InfoKind::Can | InfoKind::Vcan => CanDeviceStats::read(read(Style::Record(CAN_STATS), bytes)),
+            InfoKind::Can | InfoKind::Vcan => parts::record::read::<CanDeviceStats>(bytes),
             _ => None,
         };
         can.map_or_else(|| LinkXstats::Other(bytes.to_vec()), LinkXstats::Can)
@@ -229,7 +228,7 @@ impl LinkXstats {
     pub fn emit(&self) -> Vec<u8> {
         let mut out = Vec::new();
         match self {
-            LinkXstats::Can(stats) => stats.push(Style::Record(CAN_STATS), &mut out),
+            LinkXstats::Can(stats) => stats.add(&mut out),
             LinkXstats::Other(bytes) => out.extend_from_slice(bytes),
         }
         out
@@ -357,7 +356,7 @@ macro_rules! kept {
 
         impl From<&$typed> for link_msg::$kept {
             fn from(typed: &$typed) -> Self {
-                link_msg::$kept::Other(DefaultNla::new(super::kind(typed), super::payload(typed)))
+                link_msg::$kept::Other(DefaultNla::new(Nla::kind(typed), super::payload(typed)))
             }
         }
     )*};

@@ -26,11 +26,8 @@ pub(crate) mod kinds;
 mod parts;
 pub(crate) mod places;
 
-use crate::link_info::read::read;
-use crate::link_info::{Row, Style, Value};
-use crate::nla_wire::{DecodeError, DefaultNla, NlasIterator, padded_len};
-use crate::nla_wire::{NLA_F_NESTED, NLA_HEADER_SIZE, NLA_TYPE_MASK};
-use crate::packet::Nla;
+use crate::link_info::Row;
+use crate::nla_wire::{DecodeError, DefaultNla, NLA_HEADER_SIZE, NlasIterator};
 use alloc::vec::Vec;
 
 pub use kinds::*;
@@ -42,23 +39,16 @@ pub trait Typed: Sized {
     /// The rows of the place.
     #[doc(hidden)]
     const ROWS: &'static [Row];
-    /// The numbers whose kind has `NLA_F_NESTED`.
-    #[doc(hidden)]
-    const NESTED: &'static [u16];
     #[doc(hidden)]
     fn other(frame: DefaultNla) -> Self;
     #[doc(hidden)]
     fn kept(&self) -> Option<&DefaultNla>;
-    /// Where the row of a number stands.
+    /// The attribute of this kind, unless it would be `Other`.
     #[doc(hidden)]
-    fn at(number: u16) -> Option<usize>;
+    fn read(kind: u16, payload: &[u8]) -> Option<Self>;
+    /// Adds the whole attribute.
     #[doc(hidden)]
-    fn read(at: usize, value: Value<'_>) -> Option<Self>;
-    /// Where its row stands; that of `Other` nowhere.
-    #[doc(hidden)]
-    fn row(&self) -> usize;
-    #[doc(hidden)]
-    fn push(&self, style: Style, out: &mut Vec<u8>);
+    fn push(&self, out: &mut Vec<u8>);
 }
 
 /// The attributes of these bytes, by the place that the type is of.
@@ -74,7 +64,8 @@ pub trait Typed: Sized {
 /// # Ok::<(), linkwire::DecodeError>(())
 /// ```
 pub fn parse<T: Typed>(bytes: &[u8]) -> Result<Vec<T>, DecodeError> {
-    let mut list = Vec::new();
+    // most attributes have eight bytes
+    let mut list = Vec::with_capacity(MOST_AT_ONCE.min(bytes.len() / 8));
     for frame in NlasIterator::new(bytes) {
         let frame = frame?;
         list.push(of_frame(frame.kind_with_flags(), frame.value()));
@@ -82,25 +73,12 @@ pub fn parse<T: Typed>(bytes: &[u8]) -> Result<Vec<T>, DecodeError> {
     Ok(list)
 }
 
+/// For how many attributes there is room before any is read.
+const MOST_AT_ONCE: usize = 64;
+
 /// The attribute of a kind and a payload.
 pub(crate) fn of_frame<T: Typed>(kind: u16, payload: &[u8]) -> T {
-    known(kind, payload).unwrap_or_else(|| T::other(DefaultNla::new(kind, payload.to_vec())))
-}
-
-#[inline]
-fn known<T: Typed>(kind: u16, payload: &[u8]) -> Option<T> {
-    let number = kind & NLA_TYPE_MASK;
-    if kind != kind_of(number, T::NESTED) {
-        return None;
-    }
-    let at = T::at(number)?;
-    T::read(at, read(T::ROWS[at].style(), payload))
-}
-
-/// The kind that an attribute of a row is written with.
-#[inline]
-fn kind_of(number: u16, nested: &[u16]) -> u16 {
-    if nested.contains(&number) { number | NLA_F_NESTED } else { number }
+    T::read(kind, payload).unwrap_or_else(|| T::other(DefaultNla::new(kind, payload.to_vec())))
 }
 
 /// The encoding of attributes.
@@ -115,52 +93,16 @@ fn kind_of(number: u16, nested: &[u16]) -> u16 {
 /// ```
 pub fn emit<T: Typed>(list: &[T]) -> Vec<u8> {
     let mut out = Vec::with_capacity(12 * list.len());
-    for one in list {
-        push_one(&mut out, one);
-    }
+    list.iter().for_each(|one| one.push(&mut out));
     out
-}
-
-#[inline]
-fn push_one<T: Typed>(out: &mut Vec<u8>, one: &T) {
-    let start = out.len();
-    let (kind, style) = form(one);
-    let [low, high] = kind.to_le_bytes();
-    out.extend_from_slice(&[0, 0, low, high]);
-    one.push(style, out);
-    close(out, start);
-}
-
-/// The kind that an attribute is written with, and the style of its payload.
-#[inline]
-fn form<T: Typed>(one: &T) -> (u16, Style) {
-    match one.kept() {
-        Some(frame) => (Nla::kind(frame), Style::Bytes),
-        None => {
-            let row = &T::ROWS[one.row()];
-            (kind_of(row.number(), T::NESTED), row.style())
-        }
-    }
-}
-
-/// Writes the length of the attribute that begins there, and its padding.
-#[inline]
-fn close(out: &mut Vec<u8>, start: usize) {
-    let len = out.len() - start;
-    assert!(len <= usize::from(u16::MAX), "the value does not fit: an attribute holds at most 65531 bytes");
-    out[start..start + 2].copy_from_slice(&(len as u16).to_le_bytes());
-    let padding = padded_len(len - NLA_HEADER_SIZE) - len;
-    out.extend_from_slice(&[0; 3][..padding]);
-}
-
-/// The kind that an attribute is written with.
-pub(crate) fn kind<T: Typed>(one: &T) -> u16 {
-    form(one).0
 }
 
 /// The payload that an attribute is written with.
 pub(crate) fn payload<T: Typed>(one: &T) -> Vec<u8> {
     let mut out = Vec::new();
-    one.push(form(one).1, &mut out);
+    one.push(&mut out);
+    let len = usize::from(u16::from_le_bytes([out[0], out[1]]));
+    out.truncate(len);
+    out.drain(..NLA_HEADER_SIZE);
     out
 }

@@ -2,199 +2,298 @@
 //! What payloads are read as, and written: numbers, addresses, texts, records, lists.
 
 use super::{BridgeId, Typed, emit, parse};
-use crate::link_info::read::read_plain;
-use crate::link_info::write::push_payload;
-use crate::link_info::{Member, Style, Value};
+use crate::link_info::read::read;
+use crate::link_info::{Style, Value};
 use crate::link_msg::{LinkMessage, VlanProtocol};
-use crate::nla_wire::{NLA_HEADER_SIZE, NlasIterator};
+use crate::nla_wire::{NLA_HEADER_SIZE, NlasIterator, padded_len};
 use crate::rattle::net::{Ipv4Addr, Ipv6Addr};
 use alloc::string::String;
 use alloc::vec::Vec;
 use core::fmt;
+use core::mem::size_of;
 
-/// What a value of a fixed size says, as a type.
+/// A value of a fixed size, by its bytes: a number's in host order, lowest byte first.
 pub(crate) trait Part: Sized {
-    fn of(value: Value<'_>) -> Option<Self>;
-    fn value(&self) -> Value<'_>;
+    type Bytes: Copy + AsRef<[u8]> + AsMut<[u8]> + for<'a> TryFrom<&'a [u8]>;
+    fn of(bytes: Self::Bytes) -> Option<Self>;
+    fn bytes(&self) -> Self::Bytes;
 }
 
-macro_rules! numbers {
-    ($variant:ident $($type:ty)*) => {$(
+macro_rules! parts {
+    ($($type:ty, $size:literal, $of:expr, $bytes:expr;)*) => {$(
         impl Part for $type {
+            type Bytes = [u8; $size];
+
             #[inline]
-            fn of(value: Value<'_>) -> Option<Self> {
-                if let Value::$variant(n) = value { Self::try_from(n).ok() } else { None }
+            fn of(bytes: Self::Bytes) -> Option<Self> {
+                Some($of(bytes))
             }
 
             #[inline]
-            fn value(&self) -> Value<'_> {
-                Value::$variant((*self).into())
+            fn bytes(&self) -> Self::Bytes {
+                $bytes(*self)
             }
         }
     )*};
 }
 
-numbers!(Unsigned u8 u16 u32 u64);
-numbers!(Signed i32);
-
-macro_rules! addresses {
-    ($($variant:ident $type:ty)*) => {$(
-        impl Part for $type {
-            fn of(value: Value<'_>) -> Option<Self> {
-                if let Value::$variant(address) = value { Some(address) } else { None }
-            }
-
-            fn value(&self) -> Value<'_> {
-                Value::$variant(*self)
-            }
-        }
-    )*};
-}
-
-addresses!(Mac [u8; 6] Ipv4 Ipv4Addr Ipv6 Ipv6Addr);
-
-impl Part for [u8; 16] {
-    fn of(value: Value<'_>) -> Option<Self> {
-        value.bytes()?.try_into().ok()
-    }
-
-    fn value(&self) -> Value<'_> {
-        Value::Bytes(self)
-    }
+parts! {
+    u8, 1, u8::from_le_bytes, u8::to_le_bytes;
+    u16, 2, u16::from_le_bytes, u16::to_le_bytes;
+    u32, 4, u32::from_le_bytes, u32::to_le_bytes;
+    u64, 8, u64::from_le_bytes, u64::to_le_bytes;
+    i32, 4, i32::from_le_bytes, i32::to_le_bytes;
+    Ipv4Addr, 4, Ipv4Addr::from, |it: Ipv4Addr| it.octets();
+    Ipv6Addr, 16, Ipv6Addr::from, |it: Ipv6Addr| it.octets();
+    [u8; 6], 6, |it| it, |it| it;
+    [u8; 16], 16, |it| it, |it| it;
 }
 
 /// Each other number is read as 802.1q, as in netlink-packet-route: it is kept as it is.
 impl Part for VlanProtocol {
-    fn of(value: Value<'_>) -> Option<Self> {
-        let number = <u16 as Part>::of(value)?;
-        let protocol = VlanProtocol::from(number);
-        (u16::from(protocol) == number).then_some(protocol)
+    type Bytes = [u8; 2];
+
+    #[inline]
+    fn of(bytes: Self::Bytes) -> Option<Self> {
+        let protocol = VlanProtocol::from(u16::from_le_bytes(bytes));
+        (protocol.bytes() == bytes).then_some(protocol)
     }
 
-    fn value(&self) -> Value<'_> {
-        Value::Unsigned(u16::from(*self).into())
+    #[inline]
+    fn bytes(&self) -> Self::Bytes {
+        u16::from(*self).to_le_bytes()
     }
 }
 
+/// The value of all these bytes.
 #[inline]
-pub(crate) fn part<T: Part>(value: Value<'_>) -> Option<T> {
-    T::of(value)
+fn part<T: Part>(bytes: &[u8]) -> Option<T> {
+    T::of(bytes.try_into().ok()?)
 }
 
 #[inline]
-pub(crate) fn push_part<T: Part>(out: &mut Vec<u8>, style: Style, part: &T) {
-    push_payload(out, style, part.value());
+fn reversed<T: AsMut<[u8]>>(mut bytes: T) -> T {
+    bytes.as_mut().reverse();
+    bytes
 }
 
-/// The member of this place of a record, of which these bytes are left.
+/// The bytes in front of a record.
 #[inline]
-pub(crate) fn member<T: Part>(members: &[Member], place: usize, left: &mut &[u8]) -> Option<T> {
-    let plain = members.get(place)?.plain();
-    let size = plain.size();
-    let (bytes, rest) = (left.get(..size)?, left.get(size..)?);
+fn front<T: for<'a> TryFrom<&'a [u8]>>(left: &mut &[u8]) -> Option<T> {
+    let (bytes, rest) = (left.get(..size_of::<T>())?, left.get(size_of::<T>()..)?);
     *left = rest;
-    T::of(read_plain(plain, bytes))
+    bytes.try_into().ok()
 }
 
-/// A value of a fixed size that stands in a record, one of its members.
-pub(crate) fn push_member<T: Part>(out: &mut Vec<u8>, style: Style, place: usize, part: &T) {
-    if let Style::Record(members) = style {
-        push_payload(out, Style::Plain(members[place].plain()), part.value());
+/// Adds an attribute of this kind.
+#[inline]
+pub(crate) fn push_frame(out: &mut Vec<u8>, kind: u16, payload: &[u8]) {
+    let start = begin(out, kind);
+    out.extend_from_slice(payload);
+    close(out, start);
+}
+
+/// Adds an attribute of at most 16 bytes, at once.
+#[inline]
+fn push_fixed(out: &mut Vec<u8>, kind: u16, payload: &[u8]) {
+    let mut frame = [0; NLA_HEADER_SIZE + 16];
+    let len = NLA_HEADER_SIZE + payload.len();
+    frame[..2].copy_from_slice(&(len as u16).to_le_bytes());
+    frame[2..4].copy_from_slice(&kind.to_le_bytes());
+    frame[4..len].copy_from_slice(payload);
+    out.extend_from_slice(&frame[..padded_len(payload.len())]);
+}
+
+/// Adds the header of an attribute whose length is not known: where it begins.
+#[inline]
+fn begin(out: &mut Vec<u8>, kind: u16) -> usize {
+    let [low, high] = kind.to_le_bytes();
+    out.extend_from_slice(&[0, 0, low, high]);
+    out.len() - NLA_HEADER_SIZE
+}
+
+/// Writes the length of the attribute that begins there, and its padding.
+#[inline]
+fn close(out: &mut Vec<u8>, start: usize) {
+    let len = out.len() - start;
+    assert!(len <= usize::from(u16::MAX), "the value does not fit: an attribute holds at most 65531 bytes");
+    out[start..start + 2].copy_from_slice(&(len as u16).to_le_bytes());
+    let padding = padded_len(len - NLA_HEADER_SIZE) - len;
+    out.extend_from_slice(&[0; 3][..padding]);
+}
+
+/// A value of a fixed size: a number in host order, an address, bytes.
+pub(crate) mod host {
+    use super::{Part, Vec, front, part, push_fixed};
+
+    #[inline]
+    pub(crate) fn read<T: Part>(payload: &[u8]) -> Option<T> {
+        part(payload)
+    }
+
+    #[inline]
+    pub(crate) fn push<T: Part>(out: &mut Vec<u8>, kind: u16, it: &T) {
+        push_fixed(out, kind, it.bytes().as_ref());
+    }
+
+    #[inline]
+    pub(crate) fn take<T: Part>(left: &mut &[u8]) -> Option<T> {
+        T::of(front(left)?)
+    }
+
+    #[inline]
+    pub(crate) fn add<T: Part>(out: &mut Vec<u8>, it: &T) {
+        out.extend_from_slice(it.bytes().as_ref());
+    }
+}
+
+/// A number in network order, highest byte first.
+pub(crate) mod net {
+    use super::{Part, Vec, front, push_fixed, reversed};
+
+    #[inline]
+    pub(crate) fn read<T: Part>(payload: &[u8]) -> Option<T> {
+        T::of(reversed(payload.try_into().ok()?))
+    }
+
+    #[inline]
+    pub(crate) fn push<T: Part>(out: &mut Vec<u8>, kind: u16, it: &T) {
+        push_fixed(out, kind, reversed(it.bytes()).as_ref());
+    }
+
+    #[inline]
+    pub(crate) fn take<T: Part>(left: &mut &[u8]) -> Option<T> {
+        T::of(reversed(front(left)?))
+    }
+
+    #[inline]
+    pub(crate) fn add<T: Part>(out: &mut Vec<u8>, it: &T) {
+        out.extend_from_slice(reversed(it.bytes()).as_ref());
     }
 }
 
 /// A record, a structure of the kernel.
 pub(crate) trait Members: Sized {
-    fn read(value: Value<'_>) -> Option<Self>;
-    fn push(&self, style: Style, out: &mut Vec<u8>);
+    fn take(left: &mut &[u8]) -> Option<Self>;
+    fn add(&self, out: &mut Vec<u8>);
 }
 
-pub(crate) fn record<T: Members>(value: Value<'_>) -> Option<T> {
-    T::read(value)
+pub(crate) mod record {
+    use super::{Members, Vec, begin, close};
+
+    #[inline]
+    pub(crate) fn read<T: Members>(payload: &[u8]) -> Option<T> {
+        let mut left = payload;
+        let record = T::take(&mut left)?;
+        left.is_empty().then_some(record)
+    }
+
+    #[inline]
+    pub(crate) fn push<T: Members>(out: &mut Vec<u8>, kind: u16, it: &T) {
+        let start = begin(out, kind);
+        it.add(out);
+        close(out, start);
+    }
 }
 
-pub(crate) fn push_record<T: Members>(out: &mut Vec<u8>, style: Style, record: &T) {
-    record.push(style, out);
+pub(crate) mod text {
+    use super::{String, Style, Value, Vec, begin, close};
+
+    pub(crate) fn read(payload: &[u8]) -> Option<String> {
+        if let Value::Text(text) = super::read(Style::Text, payload) { Some(String::from(text)) } else { None }
+    }
+
+    pub(crate) fn push(out: &mut Vec<u8>, kind: u16, it: &str) {
+        let start = begin(out, kind);
+        out.extend_from_slice(it.as_bytes());
+        out.push(0);
+        close(out, start);
+    }
 }
 
-pub(crate) fn flag(value: Value<'_>) -> Option<()> {
-    (value == Value::Flag).then_some(())
-}
+pub(crate) mod bytes {
+    use super::{Vec, push_frame};
 
-pub(crate) fn text(value: Value<'_>) -> Option<String> {
-    if let Value::Text(text) = value { Some(String::from(text)) } else { None }
-}
+    pub(crate) fn read(payload: &[u8]) -> Option<Vec<u8>> {
+        Some(payload.to_vec())
+    }
 
-pub(crate) fn push_text(out: &mut Vec<u8>, style: Style, text: &str) {
-    push_payload(out, style, Value::Text(text));
-}
-
-pub(crate) fn bytes(value: Value<'_>) -> Option<Vec<u8>> {
-    value.bytes().map(Vec::from)
-}
-
-pub(crate) fn push_bytes(out: &mut Vec<u8>, _style: Style, bytes: &[u8]) {
-    out.extend_from_slice(bytes);
+    pub(crate) fn push(out: &mut Vec<u8>, kind: u16, it: &[u8]) {
+        push_frame(out, kind, it);
+    }
 }
 
 /// A message of a link, where it is written as it was.
-pub(crate) fn message(value: Value<'_>) -> Option<LinkMessage> {
-    let bytes = value.bytes()?;
-    let message = LinkMessage::parse(bytes).ok()?;
-    (message.to_vec().ok()? == bytes).then_some(message)
+pub(crate) mod message {
+    use super::{LinkMessage, Vec, push_frame};
+
+    pub(crate) fn read(payload: &[u8]) -> Option<LinkMessage> {
+        let message = LinkMessage::parse(payload).ok()?;
+        (message.to_vec().ok()? == payload).then_some(message)
+    }
+
+    pub(crate) fn push(out: &mut Vec<u8>, kind: u16, it: &LinkMessage) {
+        let bytes = it.to_vec();
+        push_frame(out, kind, &bytes.expect("the message does not fit: `fits` tells"));
+    }
 }
 
-pub(crate) fn push_message(out: &mut Vec<u8>, _style: Style, message: &LinkMessage) {
-    let bytes = message.to_vec();
-    out.extend_from_slice(&bytes.expect("the message does not fit: `fits` tells"));
-}
+/// Values of one fixed size, one after the other.
+pub(crate) mod array {
+    use super::{Part, Vec, begin, close, host, part, size_of};
 
-pub(crate) fn array<T: Part>(value: Value<'_>) -> Option<Vec<T>> {
-    matches!(value, Value::Array(..)).then(|| value.elements().map(part).collect())?
-}
+    pub(crate) fn read<T: Part>(payload: &[u8]) -> Option<Vec<T>> {
+        payload.chunks(size_of::<T::Bytes>()).map(part).collect()
+    }
 
-pub(crate) fn push_array<T: Part>(out: &mut Vec<u8>, style: Style, list: &[T]) {
-    if let Style::Array(plain) = style {
-        list.iter().for_each(|it| push_payload(out, Style::Plain(plain), it.value()));
+    pub(crate) fn push<T: Part>(out: &mut Vec<u8>, kind: u16, it: &[T]) {
+        let start = begin(out, kind);
+        it.iter().for_each(|one| host::add(out, one));
+        close(out, start);
     }
 }
 
 /// A list whose numbers ascend from 0, as the kernel has them, and whose padding is zero.
-pub(crate) fn list<T: Part>(value: Value<'_>) -> Option<Vec<T>> {
-    let Value::List(plain, bytes) = value else { return None };
-    let mut found = Vec::new();
-    for (k, frame) in NlasIterator::new(bytes).enumerate() {
-        if usize::from(frame.ok()?.kind_with_flags()) != k {
-            return None;
-        }
-    }
-    for one in value.elements() {
-        found.push(part(one)?);
-    }
-    let mut again = Vec::new();
-    push_list(&mut again, Style::List(plain), &found);
-    (again == bytes).then_some(found)
-}
+pub(crate) mod list {
+    use super::{NlasIterator, Part, Vec, begin, close, host, part};
 
-pub(crate) fn push_list<T: Part>(out: &mut Vec<u8>, style: Style, list: &[T]) {
-    let Style::List(plain) = style else { return };
-    for (k, it) in list.iter().enumerate() {
-        out.extend_from_slice(&((NLA_HEADER_SIZE + plain.size()) as u16).to_le_bytes());
-        out.extend_from_slice(&(k as u16).to_le_bytes());
-        push_payload(out, Style::Plain(plain), it.value());
-        out.resize(out.len() + plain.size().wrapping_neg() % 4, 0);
+    pub(crate) fn read<T: Part>(payload: &[u8]) -> Option<Vec<T>> {
+        let mut found = Vec::new();
+        for (k, frame) in NlasIterator::new(payload).enumerate() {
+            let frame = frame.ok()?;
+            if usize::from(frame.kind_with_flags()) != k {
+                return None;
+            }
+            found.push(part(frame.value())?);
+        }
+        let mut again = Vec::new();
+        add(&mut again, &found);
+        (again == payload).then_some(found)
+    }
+
+    pub(crate) fn push<T: Part>(out: &mut Vec<u8>, kind: u16, it: &[T]) {
+        let start = begin(out, kind);
+        add(out, it);
+        close(out, start);
+    }
+
+    fn add<T: Part>(out: &mut Vec<u8>, it: &[T]) {
+        it.iter().enumerate().for_each(|(k, one)| host::push(out, k as u16, one));
     }
 }
 
 /// The attributes of a nest, where they are written as they were.
-pub(crate) fn nest<T: Typed>(value: Value<'_>) -> Option<Vec<T>> {
-    let Value::Nest(_, bytes) = value else { return None };
-    let list = parse(bytes).ok()?;
-    (emit(&list) == bytes).then_some(list)
-}
+pub(crate) mod nest {
+    use super::{Typed, Vec, emit, parse, push_frame};
 
-pub(crate) fn push_nest<T: Typed>(out: &mut Vec<u8>, _style: Style, list: &[T]) {
-    out.extend_from_slice(&emit(list));
+    pub(crate) fn read<T: Typed>(payload: &[u8]) -> Option<Vec<T>> {
+        let list = parse(payload).ok()?;
+        (emit(&list) == payload).then_some(list)
+    }
+
+    pub(crate) fn push<T: Typed>(out: &mut Vec<u8>, kind: u16, it: &[T]) {
+        push_frame(out, kind, &emit(it));
+    }
 }
 
 /// A set as bitflags shows it: `VlanFlags(ReorderHdr | 0x20)`.

@@ -3,7 +3,7 @@
 
 use super::{Typed, parts};
 use crate::link_info::tables::{bond, bridge, can, family, geneve, gre, macsec, macvlan, others, tunnel, vlan, vxlan};
-use crate::link_info::{Plain, Row, Size, Style, Value};
+use crate::link_info::{Plain, Row, Size, Style};
 use crate::link_msg::LinkMessage;
 use crate::nla_wire::{DecodeError, DefaultNla};
 use crate::packet::{Nla, NlaBuffer, Parseable};
@@ -28,743 +28,743 @@ const TEAMPORT: &[Row] = &[];
 
 place! {
     /// The data of a vlan.
-    InfoVlan: vlan::VLAN, [];
-    1 0 Id(u16) part push_part "id",
-    2 1 Flags(VlanFlagsAndMask) record push_record "flag",
-    3 2 EgressQos(Vec<VlanQosMapping>) nest push_nest "egress-qos",
-    4 3 IngressQos(Vec<VlanQosMapping>) nest push_nest "ingress-qos",
-    5 4 Protocol(crate::VlanProtocol) part push_part "protocol",
+    InfoVlan: vlan::VLAN;
+    1 1 Id(u16) host "id",
+    2 2 Flags(VlanFlagsAndMask) record "flag",
+    3 3 EgressQos(Vec<VlanQosMapping>) nest "egress-qos",
+    4 4 IngressQos(Vec<VlanQosMapping>) nest "ingress-qos",
+    5 5 Protocol(crate::VlanProtocol) net "protocol",
     flags:
 }
 
 place! {
     /// Mappings of priorities of a vlan.
-    VlanQosMapping: vlan::VLAN_QOS, [];
-    1 0 Mapping(VlanPriorityMapping) record push_record "mapping",
+    VlanQosMapping: vlan::VLAN_QOS;
+    1 1 Mapping(VlanPriorityMapping) record "mapping",
     flags:
 }
 
 place! {
     /// The data of a bond.
-    InfoBond: bond::BOND, [];
-    1 0 Mode(BondMode) part push_part "mode",
-    2 1 ActivePort(u32) part push_part "active-slave",
-    3 2 MiiMon(u32) part push_part "miimon",
-    4 3 UpDelay(u32) part push_part "updelay",
-    5 4 DownDelay(u32) part push_part "downdelay",
-    6 5 UseCarrier(u8) part push_part "use-carrier",
-    7 6 ArpInterval(u32) part push_part "arp-interval",
-    8 7 ArpIpTarget(Vec<Ipv4Addr>) list push_list "arp-ip-target",
-    9 8 ArpValidate(BondArpValidate) part push_part "arp-validate",
-    10 9 ArpAllTargets(BondArpAllTargets) part push_part "arp-all-targets",
-    11 10 Primary(u32) part push_part "primary",
-    12 11 PrimaryReselect(BondPrimaryReselect) part push_part "primary-reselect",
-    13 12 FailOverMac(BondFailOverMac) part push_part "fail-over-mac",
-    14 13 XmitHashPolicy(BondXmitHashPolicy) part push_part "xmit-hash-policy",
-    15 14 ResendIgmp(u32) part push_part "resend-igmp",
-    16 15 NumPeerNotif(u8) part push_part "num-peer-notif",
-    17 16 AllPortsActive(BondAllPortActive) part push_part "all-slaves-active",
-    18 17 MinLinks(u32) part push_part "min-links",
-    19 18 LpInterval(u32) part push_part "lp-interval",
-    20 19 PacketsPerPort(u32) part push_part "packets-per-slave",
-    21 20 AdLacpRate(BondLacpRate) part push_part "ad-lacp-rate",
-    22 21 AdSelect(BondAdSelect) part push_part "ad-select",
-    23 22 AdInfo(Vec<BondAdInfo>) nest push_nest "ad-info",
-    24 23 AdActorSysPrio(u16) part push_part "ad-actor-sys-prio",
-    25 24 AdUserPortKey(u16) part push_part "ad-user-port-key",
-    26 25 AdActorSystem([u8; 6]) part push_part "ad-actor-system",
-    27 26 TlbDynamicLb(u8) part push_part "tlb-dynamic-lb",
-    28 27 PeerNotifDelay(u32) part push_part "peer-notif-delay",
-    29 28 AdLacpActive(u8) part push_part "ad-lacp-active",
-    30 29 MissedMax(u8) part push_part "missed-max",
-    31 30 NsIp6Target(Vec<Ipv6Addr>) list push_list "ns-ip6-target",
-    32 31 CoupledControl(u8) part push_part "coupled-control",
-    33 32 BroadcastNeigh(u8) part push_part "broadcast-neigh",
-    34 33 LacpStrict(u8) part push_part "lacp-strict",
+    InfoBond: bond::BOND;
+    1 1 Mode(BondMode) host "mode",
+    2 2 ActivePort(u32) host "active-slave",
+    3 3 MiiMon(u32) host "miimon",
+    4 4 UpDelay(u32) host "updelay",
+    5 5 DownDelay(u32) host "downdelay",
+    6 6 UseCarrier(u8) host "use-carrier",
+    7 7 ArpInterval(u32) host "arp-interval",
+    8 8 ArpIpTarget(Vec<Ipv4Addr>) list "arp-ip-target",
+    9 9 ArpValidate(BondArpValidate) host "arp-validate",
+    10 10 ArpAllTargets(BondArpAllTargets) host "arp-all-targets",
+    11 11 Primary(u32) host "primary",
+    12 12 PrimaryReselect(BondPrimaryReselect) host "primary-reselect",
+    13 13 FailOverMac(BondFailOverMac) host "fail-over-mac",
+    14 14 XmitHashPolicy(BondXmitHashPolicy) host "xmit-hash-policy",
+    15 15 ResendIgmp(u32) host "resend-igmp",
+    16 16 NumPeerNotif(u8) host "num-peer-notif",
+    17 17 AllPortsActive(BondAllPortActive) host "all-slaves-active",
+    18 18 MinLinks(u32) host "min-links",
+    19 19 LpInterval(u32) host "lp-interval",
+    20 20 PacketsPerPort(u32) host "packets-per-slave",
+    21 21 AdLacpRate(BondLacpRate) host "ad-lacp-rate",
+    22 22 AdSelect(BondAdSelect) host "ad-select",
+    23 23 AdInfo(Vec<BondAdInfo>) nest "ad-info",
+    24 24 AdActorSysPrio(u16) host "ad-actor-sys-prio",
+    25 25 AdUserPortKey(u16) host "ad-user-port-key",
+    26 26 AdActorSystem([u8; 6]) host "ad-actor-system",
+    27 27 TlbDynamicLb(u8) host "tlb-dynamic-lb",
+    28 28 PeerNotifDelay(u32) host "peer-notif-delay",
+    29 29 AdLacpActive(u8) host "ad-lacp-active",
+    30 30 MissedMax(u8) host "missed-max",
+    31 31 NsIp6Target(Vec<Ipv6Addr>) list "ns-ip6-target",
+    32 32 CoupledControl(u8) host "coupled-control",
+    33 33 BroadcastNeigh(u8) host "broadcast-neigh",
+    34 34 LacpStrict(u8) host "lacp-strict",
     flags:
 }
 
 place! {
     /// The aggregator in use of a bond.
-    BondAdInfo: bond::BOND_AD_INFO, [];
-    1 0 Aggregator(u16) part push_part "aggregator",
-    2 1 NumPorts(u16) part push_part "num-ports",
-    3 2 ActorKey(u16) part push_part "actor-key",
-    4 3 PartnerKey(u16) part push_part "partner-key",
-    5 4 PartnerMac([u8; 6]) part push_part "partner-mac",
+    BondAdInfo: bond::BOND_AD_INFO;
+    1 1 Aggregator(u16) host "aggregator",
+    2 2 NumPorts(u16) host "num-ports",
+    3 3 ActorKey(u16) host "actor-key",
+    4 4 PartnerKey(u16) host "partner-key",
+    5 5 PartnerMac([u8; 6]) host "partner-mac",
     flags:
 }
 
 place! {
     /// The data of a port of a bond.
-    InfoBondPort: bond::BOND_SLAVE, [];
-    1 0 State(BondPortState) part push_part "state",
-    2 1 MiiStatus(MiiStatus) part push_part "mii-status",
-    3 2 LinkFailureCount(u32) part push_part "link-failure-count",
-    4 3 PermHwaddr([u8; 6]) part push_part "perm-hwaddr",
-    5 4 QueueId(u16) part push_part "queue-id",
-    6 5 AdAggregatorId(u16) part push_part "ad-aggregator-id",
-    7 6 AdActorOperPortState(LacpState) part push_part "ad-actor-oper-port-state",
-    8 7 AdPartnerOperPortState(LacpState) part push_part "ad-partner-oper-port-state",
-    9 8 Prio(i32) part push_part "prio",
-    10 9 ActorPortPrio(u16) part push_part "actor-port-prio",
-    11 10 AdChurnActorState(ChurnState) part push_part "ad-churn-actor-state",
-    12 11 AdChurnPartnerState(ChurnState) part push_part "ad-churn-partner-state",
+    InfoBondPort: bond::BOND_SLAVE;
+    1 1 State(BondPortState) host "state",
+    2 2 MiiStatus(MiiStatus) host "mii-status",
+    3 3 LinkFailureCount(u32) host "link-failure-count",
+    4 4 PermHwaddr([u8; 6]) host "perm-hwaddr",
+    5 5 QueueId(u16) host "queue-id",
+    6 6 AdAggregatorId(u16) host "ad-aggregator-id",
+    7 7 AdActorOperPortState(LacpState) host "ad-actor-oper-port-state",
+    8 8 AdPartnerOperPortState(LacpState) host "ad-partner-oper-port-state",
+    9 9 Prio(i32) host "prio",
+    10 10 ActorPortPrio(u16) host "actor-port-prio",
+    11 11 AdChurnActorState(ChurnState) host "ad-churn-actor-state",
+    12 12 AdChurnPartnerState(ChurnState) host "ad-churn-partner-state",
     flags:
 }
 
 place! {
     /// The data of a bridge.
-    InfoBridge: bridge::BRIDGE, [47];
-    1 0 ForwardDelay(u32) part push_part "forward-delay",
-    2 1 HelloTime(u32) part push_part "hello-time",
-    3 2 MaxAge(u32) part push_part "max-age",
-    4 3 AgeingTime(u32) part push_part "ageing-time",
-    5 4 StpState(BridgeStpState) part push_part "stp-state",
-    6 5 Priority(u16) part push_part "priority",
-    7 6 VlanFiltering(u8) part push_part "vlan-filtering",
-    8 7 VlanProtocol(crate::VlanProtocol) part push_part "vlan-protocol",
-    9 8 GroupFwdMask(u16) part push_part "group-fwd-mask",
-    10 9 RootId(BridgeId) record push_record "root-id",
-    11 10 BridgeId(BridgeId) record push_record "bridge-id",
-    12 11 RootPort(u16) part push_part "root-port",
-    13 12 RootPathCost(u32) part push_part "root-path-cost",
-    14 13 TopologyChange(u8) part push_part "topology-change",
-    15 14 TopologyChangeDetected(u8) part push_part "topology-change-detected",
-    16 15 HelloTimer(u64) part push_part "hello-timer",
-    17 16 TcnTimer(u64) part push_part "tcn-timer",
-    18 17 TopologyChangeTimer(u64) part push_part "topology-change-timer",
-    19 18 GcTimer(u64) part push_part "gc-timer",
-    20 19 GroupAddr([u8; 6]) part push_part "group-addr",
-    22 21 MulticastRouter(BridgeMulticastRouterType) part push_part "mcast-router",
-    23 22 MulticastSnooping(u8) part push_part "mcast-snooping",
-    24 23 MulticastQueryUseIfaddr(u8) part push_part "mcast-query-use-ifaddr",
-    25 24 MulticastQuerier(u8) part push_part "mcast-querier",
-    26 25 MulticastHashElasticity(u32) part push_part "mcast-hash-elasticity",
-    27 26 MulticastHashMax(u32) part push_part "mcast-hash-max",
-    28 27 MulticastLastMemberCount(u32) part push_part "mcast-last-member-cnt",
-    29 28 MulticastStartupQueryCount(u32) part push_part "mcast-startup-query-cnt",
-    30 29 MulticastLastMemberInterval(u64) part push_part "mcast-last-member-intvl",
-    31 30 MulticastMembershipInterval(u64) part push_part "mcast-membership-intvl",
-    32 31 MulticastQuerierInterval(u64) part push_part "mcast-querier-intvl",
-    33 32 MulticastQueryInterval(u64) part push_part "mcast-query-intvl",
-    34 33 MulticastQueryResponseInterval(u64) part push_part "mcast-query-response-intvl",
-    35 34 MulticastStartupQueryInterval(u64) part push_part "mcast-startup-query-intvl",
-    36 35 NfCallIpTables(u8) part push_part "nf-call-iptables",
-    37 36 NfCallIp6Tables(u8) part push_part "nf-call-ip6-tables",
-    38 37 NfCallArpTables(u8) part push_part "nf-call-arptables",
-    39 38 VlanDefaultPvid(u16) part push_part "vlan-default-pvid",
-    41 39 VlanStatsEnabled(u8) part push_part "vlan-stats-enabled",
-    42 40 MulticastStatsEnabled(u8) part push_part "mcast-stats-enabled",
-    43 41 MulticastIgmpVersion(u8) part push_part "mcast-igmp-version",
-    44 42 MulticastMldVersion(u8) part push_part "mcast-mld-version",
-    45 43 VlanStatsPerPort(u8) part push_part "vlan-stats-per-port",
-    46 44 MultiBoolOpt(BridgeBooleanOptions) record push_record "multi-boolopt",
-    47 45 MulticastQuerierState(Vec<BridgeQuerierState>) nest push_nest "mcast-querier-state",
-    48 46 FdbNLearned(u32) part push_part "fdb-n-learned",
-    49 47 FdbMaxLearned(u32) part push_part "fdb-max-learned",
-    50 48 StpMode(BridgeStpMode) part push_part "stp-mode",
+    InfoBridge: bridge::BRIDGE;
+    1 1 ForwardDelay(u32) host "forward-delay",
+    2 2 HelloTime(u32) host "hello-time",
+    3 3 MaxAge(u32) host "max-age",
+    4 4 AgeingTime(u32) host "ageing-time",
+    5 5 StpState(BridgeStpState) host "stp-state",
+    6 6 Priority(u16) host "priority",
+    7 7 VlanFiltering(u8) host "vlan-filtering",
+    8 8 VlanProtocol(crate::VlanProtocol) net "vlan-protocol",
+    9 9 GroupFwdMask(u16) host "group-fwd-mask",
+    10 10 RootId(BridgeId) record "root-id",
+    11 11 BridgeId(BridgeId) record "bridge-id",
+    12 12 RootPort(u16) host "root-port",
+    13 13 RootPathCost(u32) host "root-path-cost",
+    14 14 TopologyChange(u8) host "topology-change",
+    15 15 TopologyChangeDetected(u8) host "topology-change-detected",
+    16 16 HelloTimer(u64) host "hello-timer",
+    17 17 TcnTimer(u64) host "tcn-timer",
+    18 18 TopologyChangeTimer(u64) host "topology-change-timer",
+    19 19 GcTimer(u64) host "gc-timer",
+    20 20 GroupAddr([u8; 6]) host "group-addr",
+    22 22 MulticastRouter(BridgeMulticastRouterType) host "mcast-router",
+    23 23 MulticastSnooping(u8) host "mcast-snooping",
+    24 24 MulticastQueryUseIfaddr(u8) host "mcast-query-use-ifaddr",
+    25 25 MulticastQuerier(u8) host "mcast-querier",
+    26 26 MulticastHashElasticity(u32) host "mcast-hash-elasticity",
+    27 27 MulticastHashMax(u32) host "mcast-hash-max",
+    28 28 MulticastLastMemberCount(u32) host "mcast-last-member-cnt",
+    29 29 MulticastStartupQueryCount(u32) host "mcast-startup-query-cnt",
+    30 30 MulticastLastMemberInterval(u64) host "mcast-last-member-intvl",
+    31 31 MulticastMembershipInterval(u64) host "mcast-membership-intvl",
+    32 32 MulticastQuerierInterval(u64) host "mcast-querier-intvl",
+    33 33 MulticastQueryInterval(u64) host "mcast-query-intvl",
+    34 34 MulticastQueryResponseInterval(u64) host "mcast-query-response-intvl",
+    35 35 MulticastStartupQueryInterval(u64) host "mcast-startup-query-intvl",
+    36 36 NfCallIpTables(u8) host "nf-call-iptables",
+    37 37 NfCallIp6Tables(u8) host "nf-call-ip6-tables",
+    38 38 NfCallArpTables(u8) host "nf-call-arptables",
+    39 39 VlanDefaultPvid(u16) host "vlan-default-pvid",
+    41 41 VlanStatsEnabled(u8) host "vlan-stats-enabled",
+    42 42 MulticastStatsEnabled(u8) host "mcast-stats-enabled",
+    43 43 MulticastIgmpVersion(u8) host "mcast-igmp-version",
+    44 44 MulticastMldVersion(u8) host "mcast-mld-version",
+    45 45 VlanStatsPerPort(u8) host "vlan-stats-per-port",
+    46 46 MultiBoolOpt(BridgeBooleanOptions) record "multi-boolopt",
+    47 0x802f MulticastQuerierState(Vec<BridgeQuerierState>) nest "mcast-querier-state",
+    48 48 FdbNLearned(u32) host "fdb-n-learned",
+    49 49 FdbMaxLearned(u32) host "fdb-max-learned",
+    50 50 StpMode(BridgeStpMode) host "stp-mode",
     flags:
-    21 20 FdbFlush "fdb-flush",
+    21 FdbFlush "fdb-flush",
 }
 
 place! {
     /// Who asks for multicast groups.
-    BridgeQuerierState: bridge::BRIDGE_QUERIER, [];
-    1 0 IpAddress(Ipv4Addr) part push_part "ip-address",
-    2 1 IpPort(u32) part push_part "ip-port",
-    3 2 IpOtherTimer(u64) part push_part "ip-other-timer",
-    5 3 Ipv6Address(Ipv6Addr) part push_part "ipv6-address",
-    6 4 Ipv6Port(u32) part push_part "ipv6-port",
-    7 5 Ipv6OtherTimer(u64) part push_part "ipv6-other-timer",
+    BridgeQuerierState: bridge::BRIDGE_QUERIER;
+    1 1 IpAddress(Ipv4Addr) host "ip-address",
+    2 2 IpPort(u32) host "ip-port",
+    3 3 IpOtherTimer(u64) host "ip-other-timer",
+    5 5 Ipv6Address(Ipv6Addr) host "ipv6-address",
+    6 6 Ipv6Port(u32) host "ipv6-port",
+    7 7 Ipv6OtherTimer(u64) host "ipv6-other-timer",
     flags:
 }
 
 place! {
     /// The data of a port of a bridge.
-    InfoBridgePort: bridge::BRIDGE_PORT, [];
-    1 0 State(BridgePortState) part push_part "state",
-    2 1 Priority(u16) part push_part "priority",
-    3 2 Cost(u32) part push_part "cost",
-    4 3 Mode(u8) part push_part "mode",
-    5 4 Guard(u8) part push_part "guard",
-    6 5 Protect(u8) part push_part "protect",
-    7 6 FastLeave(u8) part push_part "fast-leave",
-    8 7 Learning(u8) part push_part "learning",
-    9 8 UnicastFlood(u8) part push_part "unicast-flood",
-    10 9 Proxyarp(u8) part push_part "proxyarp",
-    11 10 LearningSync(u8) part push_part "learning-sync",
-    12 11 ProxyarpWifi(u8) part push_part "proxyarp-wifi",
-    13 12 RootId(BridgeId) record push_record "root-id",
-    14 13 BridgeId(BridgeId) record push_record "bridge-id",
-    15 14 DesignatedPort(u16) part push_part "designated-port",
-    16 15 DesignatedCost(u16) part push_part "designated-cost",
-    17 16 Id(u16) part push_part "id",
-    18 17 No(u16) part push_part "no",
-    19 18 TopologyChangeAck(u8) part push_part "topology-change-ack",
-    20 19 ConfigPending(u8) part push_part "config-pending",
-    21 20 MessageAgeTimer(u64) part push_part "message-age-timer",
-    22 21 ForwardDelayTimer(u64) part push_part "forward-delay-timer",
-    23 22 HoldTimer(u64) part push_part "hold-timer",
-    25 24 MulticastRouter(BridgeMulticastRouterType) part push_part "multicast-router",
-    27 25 MulticastFlood(u8) part push_part "mcast-flood",
-    28 26 MulticastToUcast(u8) part push_part "mcast-to-ucast",
-    29 27 VlanTunnel(u8) part push_part "vlan-tunnel",
-    30 28 BcastFlood(u8) part push_part "bcast-flood",
-    31 29 GroupFwdMask(u16) part push_part "group-fwd-mask",
-    32 30 NeighSuppress(u8) part push_part "neigh-suppress",
-    33 31 Isolated(u8) part push_part "isolated",
-    34 32 BackupPort(u32) part push_part "backup-port",
-    35 33 MrpRingOpen(u8) part push_part "mrp-ring-open",
-    36 34 MrpInOpen(u8) part push_part "mrp-in-open",
-    37 35 MulticastEhtHostsLimit(u32) part push_part "mcast-eht-hosts-limit",
-    38 36 MulticastEhtHostsCount(u32) part push_part "mcast-eht-hosts-cnt",
-    39 37 Locked(u8) part push_part "locked",
-    40 38 Mab(u8) part push_part "mab",
-    41 39 MulticastNGroups(u32) part push_part "mcast-n-groups",
-    42 40 MulticastMaxGroups(u32) part push_part "mcast-max-groups",
-    43 41 NeighVlanSuppress(u8) part push_part "neigh-vlan-suppress",
-    44 42 BackupNhid(u32) part push_part "backup-nhid",
-    45 43 NeighForwardGrat(u8) part push_part "neigh-forward-grat",
+    InfoBridgePort: bridge::BRIDGE_PORT;
+    1 1 State(BridgePortState) host "state",
+    2 2 Priority(u16) host "priority",
+    3 3 Cost(u32) host "cost",
+    4 4 Mode(u8) host "mode",
+    5 5 Guard(u8) host "guard",
+    6 6 Protect(u8) host "protect",
+    7 7 FastLeave(u8) host "fast-leave",
+    8 8 Learning(u8) host "learning",
+    9 9 UnicastFlood(u8) host "unicast-flood",
+    10 10 Proxyarp(u8) host "proxyarp",
+    11 11 LearningSync(u8) host "learning-sync",
+    12 12 ProxyarpWifi(u8) host "proxyarp-wifi",
+    13 13 RootId(BridgeId) record "root-id",
+    14 14 BridgeId(BridgeId) record "bridge-id",
+    15 15 DesignatedPort(u16) host "designated-port",
+    16 16 DesignatedCost(u16) host "designated-cost",
+    17 17 Id(u16) host "id",
+    18 18 No(u16) host "no",
+    19 19 TopologyChangeAck(u8) host "topology-change-ack",
+    20 20 ConfigPending(u8) host "config-pending",
+    21 21 MessageAgeTimer(u64) host "message-age-timer",
+    22 22 ForwardDelayTimer(u64) host "forward-delay-timer",
+    23 23 HoldTimer(u64) host "hold-timer",
+    25 25 MulticastRouter(BridgeMulticastRouterType) host "multicast-router",
+    27 27 MulticastFlood(u8) host "mcast-flood",
+    28 28 MulticastToUcast(u8) host "mcast-to-ucast",
+    29 29 VlanTunnel(u8) host "vlan-tunnel",
+    30 30 BcastFlood(u8) host "bcast-flood",
+    31 31 GroupFwdMask(u16) host "group-fwd-mask",
+    32 32 NeighSuppress(u8) host "neigh-suppress",
+    33 33 Isolated(u8) host "isolated",
+    34 34 BackupPort(u32) host "backup-port",
+    35 35 MrpRingOpen(u8) host "mrp-ring-open",
+    36 36 MrpInOpen(u8) host "mrp-in-open",
+    37 37 MulticastEhtHostsLimit(u32) host "mcast-eht-hosts-limit",
+    38 38 MulticastEhtHostsCount(u32) host "mcast-eht-hosts-cnt",
+    39 39 Locked(u8) host "locked",
+    40 40 Mab(u8) host "mab",
+    41 41 MulticastNGroups(u32) host "mcast-n-groups",
+    42 42 MulticastMaxGroups(u32) host "mcast-max-groups",
+    43 43 NeighVlanSuppress(u8) host "neigh-vlan-suppress",
+    44 44 BackupNhid(u32) host "backup-nhid",
+    45 45 NeighForwardGrat(u8) host "neigh-forward-grat",
     flags:
-    24 23 Flush "flush",
+    24 Flush "flush",
 }
 
 place! {
     /// The data of a vxlan.
-    InfoVxlan: vxlan::VXLAN, [];
-    1 0 Id(u32) part push_part "id",
-    2 1 Group(Ipv4Addr) part push_part "group",
-    3 2 Link(u32) part push_part "link",
-    4 3 Local(Ipv4Addr) part push_part "local",
-    5 4 Ttl(u8) part push_part "ttl",
-    6 5 Tos(u8) part push_part "tos",
-    7 6 Learning(u8) part push_part "learning",
-    8 7 Ageing(u32) part push_part "ageing",
-    9 8 Limit(u32) part push_part "limit",
-    10 9 PortRange(PortRange) record push_record "port-range",
-    11 10 Proxy(u8) part push_part "proxy",
-    12 11 Rsc(u8) part push_part "rsc",
-    13 12 L2Miss(u8) part push_part "l2miss",
-    14 13 L3Miss(u8) part push_part "l3miss",
-    15 14 Port(u16) part push_part "port",
-    16 15 Group6(Ipv6Addr) part push_part "group6",
-    17 16 Local6(Ipv6Addr) part push_part "local6",
-    18 17 UDPCsum(u8) part push_part "udp-csum",
-    19 18 UDPZeroCsumTX(u8) part push_part "udp-zero-csum6-tx",
-    20 19 UDPZeroCsumRX(u8) part push_part "udp-zero-csum6-rx",
-    21 20 RemCsumTX(u8) part push_part "remcsum-tx",
-    22 21 RemCsumRX(u8) part push_part "remcsum-rx",
-    25 24 CollectMetadata(u8) part push_part "collect-metadata",
-    26 25 Label(u32) part push_part "label",
-    28 27 TtlInherit(u8) part push_part "ttl-inherit",
-    29 28 Df(VxlanDf) part push_part "df",
-    30 29 Vnifilter(u8) part push_part "vnifilter",
-    31 30 Localbypass(u8) part push_part "localbypass",
-    32 31 LabelPolicy(VxlanLabelPolicy) part push_part "label-policy",
-    33 32 ReservedBits(u64) part push_part "reserved-bits",
+    InfoVxlan: vxlan::VXLAN;
+    1 1 Id(u32) host "id",
+    2 2 Group(Ipv4Addr) host "group",
+    3 3 Link(u32) host "link",
+    4 4 Local(Ipv4Addr) host "local",
+    5 5 Ttl(u8) host "ttl",
+    6 6 Tos(u8) host "tos",
+    7 7 Learning(u8) host "learning",
+    8 8 Ageing(u32) host "ageing",
+    9 9 Limit(u32) host "limit",
+    10 10 PortRange(PortRange) record "port-range",
+    11 11 Proxy(u8) host "proxy",
+    12 12 Rsc(u8) host "rsc",
+    13 13 L2Miss(u8) host "l2miss",
+    14 14 L3Miss(u8) host "l3miss",
+    15 15 Port(u16) net "port",
+    16 16 Group6(Ipv6Addr) host "group6",
+    17 17 Local6(Ipv6Addr) host "local6",
+    18 18 UDPCsum(u8) host "udp-csum",
+    19 19 UDPZeroCsumTX(u8) host "udp-zero-csum6-tx",
+    20 20 UDPZeroCsumRX(u8) host "udp-zero-csum6-rx",
+    21 21 RemCsumTX(u8) host "remcsum-tx",
+    22 22 RemCsumRX(u8) host "remcsum-rx",
+    25 25 CollectMetadata(u8) host "collect-metadata",
+    26 26 Label(u32) net "label",
+    28 28 TtlInherit(u8) host "ttl-inherit",
+    29 29 Df(VxlanDf) host "df",
+    30 30 Vnifilter(u8) host "vnifilter",
+    31 31 Localbypass(u8) host "localbypass",
+    32 32 LabelPolicy(VxlanLabelPolicy) host "label-policy",
+    33 33 ReservedBits(u64) net "reserved-bits",
     flags:
-    23 22 Gbp "gbp",
-    24 23 RemCsumNoPartial "remcsum-nopartial",
-    27 26 Gpe "gpe",
+    23 Gbp "gbp",
+    24 RemCsumNoPartial "remcsum-nopartial",
+    27 Gpe "gpe",
 }
 
 place! {
     /// The data of a geneve tunnel.
-    InfoGeneve: geneve::GENEVE, [];
-    1 0 Id(u32) part push_part "id",
-    2 1 Remote(Ipv4Addr) part push_part "remote",
-    3 2 Ttl(u8) part push_part "ttl",
-    4 3 Tos(u8) part push_part "tos",
-    5 4 Port(u16) part push_part "port",
-    7 6 Remote6(Ipv6Addr) part push_part "remote6",
-    8 7 UdpCsum(u8) part push_part "udp-csum",
-    9 8 UdpZeroCsum6Tx(u8) part push_part "udp-zero-csum6-tx",
-    10 9 UdpZeroCsum6Rx(u8) part push_part "udp-zero-csum6-rx",
-    11 10 Label(u32) part push_part "label",
-    12 11 TtlInherit(u8) part push_part "ttl-inherit",
-    13 12 Df(GeneveDf) part push_part "df",
-    15 14 PortRange(PortRange) record push_record "port-range",
+    InfoGeneve: geneve::GENEVE;
+    1 1 Id(u32) host "id",
+    2 2 Remote(Ipv4Addr) host "remote",
+    3 3 Ttl(u8) host "ttl",
+    4 4 Tos(u8) host "tos",
+    5 5 Port(u16) net "port",
+    7 7 Remote6(Ipv6Addr) host "remote6",
+    8 8 UdpCsum(u8) host "udp-csum",
+    9 9 UdpZeroCsum6Tx(u8) host "udp-zero-csum6-tx",
+    10 10 UdpZeroCsum6Rx(u8) host "udp-zero-csum6-rx",
+    11 11 Label(u32) net "label",
+    12 12 TtlInherit(u8) host "ttl-inherit",
+    13 13 Df(GeneveDf) host "df",
+    15 15 PortRange(PortRange) record "port-range",
     flags:
-    6 5 CollectMetadata "collect-metadata",
-    14 13 InnerProtoInherit "inner-proto-inherit",
+    6 CollectMetadata "collect-metadata",
+    14 InnerProtoInherit "inner-proto-inherit",
 }
 
 place! {
     /// The data of a GRE or ERSPAN tunnel over IPv4.
-    InfoGre: gre::GRE, [];
-    1 0 Link(u32) part push_part "link",
-    2 1 Iflags(GreIOFlags) part push_part "iflags",
-    3 2 Oflags(GreIOFlags) part push_part "oflags",
-    4 3 Ikey(u32) part push_part "ikey",
-    5 4 Okey(u32) part push_part "okey",
-    6 5 Local(Ipv4Addr) part push_part "local",
-    7 6 Remote(Ipv4Addr) part push_part "remote",
-    8 7 Ttl(u8) part push_part "ttl",
-    9 8 Tos(u8) part push_part "tos",
-    10 9 Pmtudisc(u8) part push_part "pmtudisc",
-    11 10 EncapLimit(u8) part push_part "encap-limit",
-    12 11 Flowinfo(u32) part push_part "flowinfo",
-    13 12 Flags(u32) part push_part "flags",
-    14 13 EncapType(GreEncapType) part push_part "encap-type",
-    15 14 EncapFlags(GreEncapFlags) part push_part "encap-flags",
-    16 15 EncapSport(u16) part push_part "encap-sport",
-    17 16 EncapDport(u16) part push_part "encap-dport",
-    19 18 IgnoreDf(u8) part push_part "ignore-df",
-    20 19 Fwmark(u32) part push_part "fwmark",
-    21 20 ErspanIndex(u32) part push_part "erspan-index",
-    22 21 ErspanVer(u8) part push_part "erspan-ver",
-    23 22 ErspanDir(ErSpanDir) part push_part "erspan-dir",
-    24 23 ErspanHwid(u16) part push_part "erspan-hwid",
+    InfoGre: gre::GRE;
+    1 1 Link(u32) host "link",
+    2 2 Iflags(GreIOFlags) net "iflags",
+    3 3 Oflags(GreIOFlags) net "oflags",
+    4 4 Ikey(u32) net "ikey",
+    5 5 Okey(u32) net "okey",
+    6 6 Local(Ipv4Addr) host "local",
+    7 7 Remote(Ipv4Addr) host "remote",
+    8 8 Ttl(u8) host "ttl",
+    9 9 Tos(u8) host "tos",
+    10 10 Pmtudisc(u8) host "pmtudisc",
+    11 11 EncapLimit(u8) host "encap-limit",
+    12 12 Flowinfo(u32) net "flowinfo",
+    13 13 Flags(u32) host "flags",
+    14 14 EncapType(GreEncapType) host "encap-type",
+    15 15 EncapFlags(GreEncapFlags) host "encap-flags",
+    16 16 EncapSport(u16) net "encap-sport",
+    17 17 EncapDport(u16) net "encap-dport",
+    19 19 IgnoreDf(u8) host "ignore-df",
+    20 20 Fwmark(u32) host "fwmark",
+    21 21 ErspanIndex(u32) host "erspan-index",
+    22 22 ErspanVer(u8) host "erspan-ver",
+    23 23 ErspanDir(ErSpanDir) host "erspan-dir",
+    24 24 ErspanHwid(u16) host "erspan-hwid",
     flags:
-    18 17 CollectMetadata "collect-metadata",
+    18 CollectMetadata "collect-metadata",
 }
 
 place! {
     /// The data of a GRE or ERSPAN tunnel over IPv6.
-    InfoGre6: gre::GRE6, [];
-    1 0 Link(u32) part push_part "link",
-    2 1 Iflags(GreIOFlags) part push_part "iflags",
-    3 2 Oflags(GreIOFlags) part push_part "oflags",
-    4 3 Ikey(u32) part push_part "ikey",
-    5 4 Okey(u32) part push_part "okey",
-    6 5 Local(Ipv6Addr) part push_part "local",
-    7 6 Remote(Ipv6Addr) part push_part "remote",
-    8 7 Ttl(u8) part push_part "ttl",
-    9 8 Tos(u8) part push_part "tos",
-    10 9 Pmtudisc(u8) part push_part "pmtudisc",
-    11 10 EncapLimit(u8) part push_part "encap-limit",
-    12 11 Flowinfo(u32) part push_part "flowinfo",
-    13 12 Flags(u32) part push_part "flags",
-    14 13 EncapType(GreEncapType) part push_part "encap-type",
-    15 14 EncapFlags(GreEncapFlags) part push_part "encap-flags",
-    16 15 EncapSport(u16) part push_part "encap-sport",
-    17 16 EncapDport(u16) part push_part "encap-dport",
-    19 18 IgnoreDf(u8) part push_part "ignore-df",
-    20 19 Fwmark(u32) part push_part "fwmark",
-    21 20 ErspanIndex(u32) part push_part "erspan-index",
-    22 21 ErspanVer(u8) part push_part "erspan-ver",
-    23 22 ErspanDir(ErSpanDir) part push_part "erspan-dir",
-    24 23 ErspanHwid(u16) part push_part "erspan-hwid",
+    InfoGre6: gre::GRE6;
+    1 1 Link(u32) host "link",
+    2 2 Iflags(GreIOFlags) net "iflags",
+    3 3 Oflags(GreIOFlags) net "oflags",
+    4 4 Ikey(u32) net "ikey",
+    5 5 Okey(u32) net "okey",
+    6 6 Local(Ipv6Addr) host "local",
+    7 7 Remote(Ipv6Addr) host "remote",
+    8 8 Ttl(u8) host "ttl",
+    9 9 Tos(u8) host "tos",
+    10 10 Pmtudisc(u8) host "pmtudisc",
+    11 11 EncapLimit(u8) host "encap-limit",
+    12 12 Flowinfo(u32) net "flowinfo",
+    13 13 Flags(u32) host "flags",
+    14 14 EncapType(GreEncapType) host "encap-type",
+    15 15 EncapFlags(GreEncapFlags) host "encap-flags",
+    16 16 EncapSport(u16) net "encap-sport",
+    17 17 EncapDport(u16) net "encap-dport",
+    19 19 IgnoreDf(u8) host "ignore-df",
+    20 20 Fwmark(u32) host "fwmark",
+    21 21 ErspanIndex(u32) host "erspan-index",
+    22 22 ErspanVer(u8) host "erspan-ver",
+    23 23 ErspanDir(ErSpanDir) host "erspan-dir",
+    24 24 ErspanHwid(u16) host "erspan-hwid",
     flags:
-    18 17 CollectMetadata "collect-metadata",
+    18 CollectMetadata "collect-metadata",
 }
 
 place! {
     /// The data of an ipip or sit tunnel.
-    InfoIpTunnel: tunnel::IP_TUNNEL, [];
-    1 0 Link(u32) part push_part "link",
-    2 1 Local(Ipv4Addr) part push_part "local",
-    3 2 Remote(Ipv4Addr) part push_part "remote",
-    4 3 Ttl(u8) part push_part "ttl",
-    5 4 Tos(u8) part push_part "tos",
-    6 5 EncapLimit(u8) part push_part "encap-limit",
-    7 6 Flowinfo(u32) part push_part "flowinfo",
-    8 7 Flags(SitFlags) part push_part "flags",
-    9 8 Proto(u8) part push_part "proto",
-    10 9 Pmtudisc(u8) part push_part "pmtudisc",
-    11 10 N6rdPrefix(Ipv6Addr) part push_part "6rd-prefix",
-    12 11 N6rdRelayPrefix(Ipv4Addr) part push_part "6rd-relay-prefix",
-    13 12 N6rdPrefixlen(u16) part push_part "6rd-prefixlen",
-    14 13 N6rdRelayPrefixlen(u16) part push_part "6rd-relay-prefixlen",
-    15 14 EncapType(TunnelEncapType) part push_part "encap-type",
-    16 15 EncapFlags(TunnelEncapFlags) part push_part "encap-flags",
-    17 16 EncapSport(u16) part push_part "encap-sport",
-    18 17 EncapDport(u16) part push_part "encap-dport",
-    20 19 Fwmark(u32) part push_part "fwmark",
+    InfoIpTunnel: tunnel::IP_TUNNEL;
+    1 1 Link(u32) host "link",
+    2 2 Local(Ipv4Addr) host "local",
+    3 3 Remote(Ipv4Addr) host "remote",
+    4 4 Ttl(u8) host "ttl",
+    5 5 Tos(u8) host "tos",
+    6 6 EncapLimit(u8) host "encap-limit",
+    7 7 Flowinfo(u32) net "flowinfo",
+    8 8 Flags(SitFlags) host "flags",
+    9 9 Proto(u8) host "proto",
+    10 10 Pmtudisc(u8) host "pmtudisc",
+    11 11 N6rdPrefix(Ipv6Addr) host "6rd-prefix",
+    12 12 N6rdRelayPrefix(Ipv4Addr) host "6rd-relay-prefix",
+    13 13 N6rdPrefixlen(u16) host "6rd-prefixlen",
+    14 14 N6rdRelayPrefixlen(u16) host "6rd-relay-prefixlen",
+    15 15 EncapType(TunnelEncapType) host "encap-type",
+    16 16 EncapFlags(TunnelEncapFlags) host "encap-flags",
+    17 17 EncapSport(u16) net "encap-sport",
+    18 18 EncapDport(u16) net "encap-dport",
+    20 20 Fwmark(u32) host "fwmark",
     flags:
-    19 18 CollectMetadata "collect-metadata",
+    19 CollectMetadata "collect-metadata",
 }
 
 place! {
     /// The data of an ip6tnl tunnel.
-    InfoIp6Tunnel: tunnel::IP6_TUNNEL, [];
-    1 0 Link(u32) part push_part "link",
-    2 1 Local(Ipv6Addr) part push_part "local",
-    3 2 Remote(Ipv6Addr) part push_part "remote",
-    4 3 Ttl(u8) part push_part "ttl",
-    5 4 Tos(u8) part push_part "tos",
-    6 5 EncapLimit(u8) part push_part "encap-limit",
-    7 6 Flowinfo(u32) part push_part "flowinfo",
-    8 7 Flags(Ip6TunnelFlags) part push_part "flags",
-    9 8 Proto(u8) part push_part "proto",
-    10 9 Pmtudisc(u8) part push_part "pmtudisc",
-    11 10 N6rdPrefix(Ipv6Addr) part push_part "6rd-prefix",
-    12 11 N6rdRelayPrefix(Ipv4Addr) part push_part "6rd-relay-prefix",
-    13 12 N6rdPrefixlen(u16) part push_part "6rd-prefixlen",
-    14 13 N6rdRelayPrefixlen(u16) part push_part "6rd-relay-prefixlen",
-    15 14 EncapType(TunnelEncapType) part push_part "encap-type",
-    16 15 EncapFlags(TunnelEncapFlags) part push_part "encap-flags",
-    17 16 EncapSport(u16) part push_part "encap-sport",
-    18 17 EncapDport(u16) part push_part "encap-dport",
-    20 19 Fwmark(u32) part push_part "fwmark",
+    InfoIp6Tunnel: tunnel::IP6_TUNNEL;
+    1 1 Link(u32) host "link",
+    2 2 Local(Ipv6Addr) host "local",
+    3 3 Remote(Ipv6Addr) host "remote",
+    4 4 Ttl(u8) host "ttl",
+    5 5 Tos(u8) host "tos",
+    6 6 EncapLimit(u8) host "encap-limit",
+    7 7 Flowinfo(u32) net "flowinfo",
+    8 8 Flags(Ip6TunnelFlags) host "flags",
+    9 9 Proto(u8) host "proto",
+    10 10 Pmtudisc(u8) host "pmtudisc",
+    11 11 N6rdPrefix(Ipv6Addr) host "6rd-prefix",
+    12 12 N6rdRelayPrefix(Ipv4Addr) host "6rd-relay-prefix",
+    13 13 N6rdPrefixlen(u16) host "6rd-prefixlen",
+    14 14 N6rdRelayPrefixlen(u16) host "6rd-relay-prefixlen",
+    15 15 EncapType(TunnelEncapType) host "encap-type",
+    16 16 EncapFlags(TunnelEncapFlags) host "encap-flags",
+    17 17 EncapSport(u16) net "encap-sport",
+    18 18 EncapDport(u16) net "encap-dport",
+    20 20 Fwmark(u32) host "fwmark",
     flags:
-    19 18 CollectMetadata "collect-metadata",
+    19 CollectMetadata "collect-metadata",
 }
 
 place! {
     /// The data of a vti tunnel.
-    InfoVti: tunnel::VTI, [];
-    1 0 Link(u32) part push_part "link",
-    2 1 Ikey(u32) part push_part "ikey",
-    3 2 Okey(u32) part push_part "okey",
-    4 3 Local(Ipv4Addr) part push_part "local",
-    5 4 Remote(Ipv4Addr) part push_part "remote",
-    6 5 Fwmark(u32) part push_part "fwmark",
+    InfoVti: tunnel::VTI;
+    1 1 Link(u32) host "link",
+    2 2 Ikey(u32) net "ikey",
+    3 3 Okey(u32) net "okey",
+    4 4 Local(Ipv4Addr) host "local",
+    5 5 Remote(Ipv4Addr) host "remote",
+    6 6 Fwmark(u32) host "fwmark",
     flags:
 }
 
 place! {
     /// The data of a vti6 tunnel.
-    InfoVti6: tunnel::VTI6, [];
-    1 0 Link(u32) part push_part "link",
-    2 1 Ikey(u32) part push_part "ikey",
-    3 2 Okey(u32) part push_part "okey",
-    4 3 Local(Ipv6Addr) part push_part "local",
-    5 4 Remote(Ipv6Addr) part push_part "remote",
-    6 5 Fwmark(u32) part push_part "fwmark",
+    InfoVti6: tunnel::VTI6;
+    1 1 Link(u32) host "link",
+    2 2 Ikey(u32) net "ikey",
+    3 3 Okey(u32) net "okey",
+    4 4 Local(Ipv6Addr) host "local",
+    5 5 Remote(Ipv6Addr) host "remote",
+    6 6 Fwmark(u32) host "fwmark",
     flags:
 }
 
 place! {
     /// The data of an xfrm interface.
-    InfoXfrm: tunnel::XFRM, [];
-    1 0 Link(u32) part push_part "link",
-    2 1 IfId(u32) part push_part "if-id",
+    InfoXfrm: tunnel::XFRM;
+    1 1 Link(u32) host "link",
+    2 2 IfId(u32) host "if-id",
     flags:
-    3 2 CollectMetadata "collect-metadata",
+    3 CollectMetadata "collect-metadata",
 }
 
 place! {
     /// The data of a macvlan or macvtap.
-    InfoMacVlan: macvlan::MACVLAN, [];
-    1 0 Mode(MacVlanMode) part push_part "mode",
-    2 1 Flags(MacVlanFlags) part push_part "flags",
-    3 2 MacAddrMode(MacVlanMacAddressMode) part push_part "macaddr-mode",
-    4 3 MacAddr([u8; 6]) part push_part "macaddr",
-    5 4 MacAddrData(Vec<InfoMacVlanAddresses>) nest push_nest "macaddr-data",
-    6 5 MacAddrCount(u32) part push_part "macaddr-count",
-    7 6 BcQueueLen(u32) part push_part "bc-queue-len",
-    8 7 BcQueueLenUsed(u32) part push_part "bc-queue-len-used",
-    9 8 BcCutoff(i32) part push_part "bc-cutoff",
+    InfoMacVlan: macvlan::MACVLAN;
+    1 1 Mode(MacVlanMode) host "mode",
+    2 2 Flags(MacVlanFlags) host "flags",
+    3 3 MacAddrMode(MacVlanMacAddressMode) host "macaddr-mode",
+    4 4 MacAddr([u8; 6]) host "macaddr",
+    5 5 MacAddrData(Vec<InfoMacVlanAddresses>) nest "macaddr-data",
+    6 6 MacAddrCount(u32) host "macaddr-count",
+    7 7 BcQueueLen(u32) host "bc-queue-len",
+    8 8 BcQueueLenUsed(u32) host "bc-queue-len-used",
+    9 9 BcCutoff(i32) host "bc-cutoff",
     flags:
 }
 
 place! {
     /// Addresses that a macvlan takes packets from.
-    InfoMacVlanAddresses: macvlan::MACVLAN_ADDRESSES, [];
-    4 0 MacAddr([u8; 6]) part push_part "macaddr",
+    InfoMacVlanAddresses: macvlan::MACVLAN_ADDRESSES;
+    4 4 MacAddr([u8; 6]) host "macaddr",
     flags:
 }
 
 place! {
     /// The data of an ipvlan or ipvtap.
-    InfoIpVlan: macvlan::IPVLAN, [];
-    1 0 Mode(IpVlanMode) part push_part "mode",
-    2 1 Flags(IpVlanFlags) part push_part "flags",
+    InfoIpVlan: macvlan::IPVLAN;
+    1 1 Mode(IpVlanMode) host "mode",
+    2 2 Flags(IpVlanFlags) host "flags",
     flags:
 }
 
 place! {
     /// The data of a macsec interface.
-    InfoMacSec: macsec::MACSEC, [];
-    1 0 Sci(u64) part push_part "sci",
-    2 1 Port(u16) part push_part "port",
-    3 2 IcvLen(u8) part push_part "icv-len",
-    4 3 CipherSuite(MacSecCipherId) part push_part "cipher-suite",
-    5 4 Window(u32) part push_part "window",
-    6 5 EncodingSa(u8) part push_part "encoding-sa",
-    7 6 Encrypt(u8) part push_part "encrypt",
-    8 7 Protect(u8) part push_part "protect",
-    9 8 IncSci(u8) part push_part "inc-sci",
-    10 9 Es(u8) part push_part "es",
-    11 10 Scb(u8) part push_part "scb",
-    12 11 ReplayProtect(u8) part push_part "replay-protect",
-    13 12 Validation(MacSecValidate) part push_part "validation",
-    15 13 Offload(MacSecOffload) part push_part "offload",
+    InfoMacSec: macsec::MACSEC;
+    1 1 Sci(u64) net "sci",
+    2 2 Port(u16) net "port",
+    3 3 IcvLen(u8) host "icv-len",
+    4 4 CipherSuite(MacSecCipherId) host "cipher-suite",
+    5 5 Window(u32) host "window",
+    6 6 EncodingSa(u8) host "encoding-sa",
+    7 7 Encrypt(u8) host "encrypt",
+    8 8 Protect(u8) host "protect",
+    9 9 IncSci(u8) host "inc-sci",
+    10 10 Es(u8) host "es",
+    11 11 Scb(u8) host "scb",
+    12 12 ReplayProtect(u8) host "replay-protect",
+    13 13 Validation(MacSecValidate) host "validation",
+    15 15 Offload(MacSecOffload) host "offload",
     flags:
 }
 
 place! {
     /// The data of a CAN interface.
-    InfoCan: can::CAN, [16, 17];
-    1 0 Bittiming(CanBitTiming) record push_record "bittiming",
-    2 1 BittimingConst(CanBitTimingConst) record push_record "bittiming-const",
-    3 2 Clock(CanClock) record push_record "clock",
-    4 3 State(CanState) part push_part "state",
-    5 4 Ctrlmode(CanCtrlMode) record push_record "ctrlmode",
-    6 5 RestartMs(u32) part push_part "restart-ms",
-    7 6 Restart(u32) part push_part "restart",
-    8 7 BerrCounter(CanBerrCounter) record push_record "berr-counter",
-    9 8 DataBittiming(CanBitTiming) record push_record "data-bittiming",
-    10 9 DataBittimingConst(CanBitTimingConst) record push_record "data-bittiming-const",
-    11 10 Termination(u16) part push_part "termination",
-    12 11 TerminationConst(Vec<u16>) array push_array "termination-const",
-    13 12 BitrateConst(Vec<u32>) array push_array "bitrate-const",
-    14 13 DataBitrateConst(Vec<u32>) array push_array "data-bitrate-const",
-    15 14 BitrateMax(u32) part push_part "bitrate-max",
-    16 15 Tdc(Vec<CanTdc>) nest push_nest "tdc",
-    17 16 CtrlmodeExt(Vec<CanCtrlModeExt>) nest push_nest "ctrlmode-ext",
+    InfoCan: can::CAN;
+    1 1 Bittiming(CanBitTiming) record "bittiming",
+    2 2 BittimingConst(CanBitTimingConst) record "bittiming-const",
+    3 3 Clock(CanClock) record "clock",
+    4 4 State(CanState) host "state",
+    5 5 Ctrlmode(CanCtrlMode) record "ctrlmode",
+    6 6 RestartMs(u32) host "restart-ms",
+    7 7 Restart(u32) host "restart",
+    8 8 BerrCounter(CanBerrCounter) record "berr-counter",
+    9 9 DataBittiming(CanBitTiming) record "data-bittiming",
+    10 10 DataBittimingConst(CanBitTimingConst) record "data-bittiming-const",
+    11 11 Termination(u16) host "termination",
+    12 12 TerminationConst(Vec<u16>) array "termination-const",
+    13 13 BitrateConst(Vec<u32>) array "bitrate-const",
+    14 14 DataBitrateConst(Vec<u32>) array "data-bitrate-const",
+    15 15 BitrateMax(u32) host "bitrate-max",
+    16 0x8010 Tdc(Vec<CanTdc>) nest "tdc",
+    17 0x8011 CtrlmodeExt(Vec<CanCtrlModeExt>) nest "ctrlmode-ext",
     flags:
 }
 
 place! {
     /// The compensation of delays of a CAN transceiver.
-    CanTdc: can::CAN_TDC, [];
-    1 0 TdcvMin(u32) part push_part "tdcv-min",
-    2 1 TdcvMax(u32) part push_part "tdcv-max",
-    3 2 TdcoMin(u32) part push_part "tdco-min",
-    4 3 TdcoMax(u32) part push_part "tdco-max",
-    5 4 TdcfMin(u32) part push_part "tdcf-min",
-    6 5 TdcfMax(u32) part push_part "tdcf-max",
-    7 6 Tdcv(u32) part push_part "tdcv",
-    8 7 Tdco(u32) part push_part "tdco",
-    9 8 Tdcf(u32) part push_part "tdcf",
+    CanTdc: can::CAN_TDC;
+    1 1 TdcvMin(u32) host "tdcv-min",
+    2 2 TdcvMax(u32) host "tdcv-max",
+    3 3 TdcoMin(u32) host "tdco-min",
+    4 4 TdcoMax(u32) host "tdco-max",
+    5 5 TdcfMin(u32) host "tdcf-min",
+    6 6 TdcfMax(u32) host "tdcf-max",
+    7 7 Tdcv(u32) host "tdcv",
+    8 8 Tdco(u32) host "tdco",
+    9 9 Tdcf(u32) host "tdcf",
     flags:
 }
 
 place! {
     /// Modes that a CAN controller knows.
-    CanCtrlModeExt: can::CAN_CTRLMODE, [];
-    1 0 Supported(CanCtrlModeFlags) part push_part "supported",
+    CanCtrlModeExt: can::CAN_CTRLMODE;
+    1 1 Supported(CanCtrlModeFlags) host "supported",
     flags:
 }
 
 place! {
     /// The data of a vrf.
-    InfoVrf: others::VRF, [];
-    1 0 TableId(u32) part push_part "table",
+    InfoVrf: others::VRF;
+    1 1 TableId(u32) host "table",
     flags:
 }
 
 place! {
     /// The data of a port of a vrf.
-    InfoVrfPort: others::VRF_PORT, [];
-    1 0 TableId(u32) part push_part "table",
+    InfoVrfPort: others::VRF_PORT;
+    1 1 TableId(u32) host "table",
     flags:
 }
 
 place! {
     /// The data of a tun device.
-    InfoTun: others::TUN, [];
-    1 0 Owner(u32) part push_part "owner",
-    2 1 Group(u32) part push_part "group",
-    3 2 Type(TunType) part push_part "type",
-    4 3 Pi(u8) part push_part "pi",
-    5 4 VnetHdr(u8) part push_part "vnet-hdr",
-    6 5 Persist(u8) part push_part "persist",
-    7 6 MultiQueue(u8) part push_part "multi-queue",
-    8 7 NumQueues(u32) part push_part "num-queues",
-    9 8 NumDisabledQueues(u32) part push_part "num-disabled-queues",
+    InfoTun: others::TUN;
+    1 1 Owner(u32) host "owner",
+    2 2 Group(u32) host "group",
+    3 3 Type(TunType) host "type",
+    4 4 Pi(u8) host "pi",
+    5 5 VnetHdr(u8) host "vnet-hdr",
+    6 6 Persist(u8) host "persist",
+    7 7 MultiQueue(u8) host "multi-queue",
+    8 8 NumQueues(u32) host "num-queues",
+    9 9 NumDisabledQueues(u32) host "num-disabled-queues",
     flags:
 }
 
 place! {
     /// The data of a netkit device.
-    InfoNetkit: others::NETKIT, [];
-    1 0 PeerInfo(LinkMessage) message push_message "peer-info",
-    2 1 Primary(u8) part push_part "primary",
-    3 2 Policy(NetkitPolicy) part push_part "policy",
-    4 3 PeerPolicy(NetkitPolicy) part push_part "peer-policy",
-    5 4 Mode(NetkitMode) part push_part "mode",
-    6 5 Scrub(NetkitScrub) part push_part "scrub",
-    7 6 PeerScrub(NetkitScrub) part push_part "peer-scrub",
-    8 7 Headroom(u16) part push_part "headroom",
-    9 8 Tailroom(u16) part push_part "tailroom",
-    10 9 Pairing(NetkitPairing) part push_part "pairing",
+    InfoNetkit: others::NETKIT;
+    1 1 PeerInfo(LinkMessage) message "peer-info",
+    2 2 Primary(u8) host "primary",
+    3 3 Policy(NetkitPolicy) host "policy",
+    4 4 PeerPolicy(NetkitPolicy) host "peer-policy",
+    5 5 Mode(NetkitMode) host "mode",
+    6 6 Scrub(NetkitScrub) host "scrub",
+    7 7 PeerScrub(NetkitScrub) host "peer-scrub",
+    8 8 Headroom(u16) host "headroom",
+    9 9 Tailroom(u16) host "tailroom",
+    10 10 Pairing(NetkitPairing) host "pairing",
     flags:
 }
 
 place! {
     /// The data of an hsr device.
-    InfoHsr: others::HSR, [];
-    1 0 Slave1(u32) part push_part "slave1",
-    2 1 Slave2(u32) part push_part "slave2",
-    3 2 MulticastSpec(u8) part push_part "multicast-spec",
-    4 3 SupervisionAddr([u8; 6]) part push_part "supervision-addr",
-    5 4 SeqNr(u16) part push_part "seq-nr",
-    6 5 Version(u8) part push_part "version",
-    7 6 Protocol(HsrProtocol) part push_part "protocol",
-    8 7 Interlink(u32) part push_part "interlink",
+    InfoHsr: others::HSR;
+    1 1 Slave1(u32) host "slave1",
+    2 2 Slave2(u32) host "slave2",
+    3 3 MulticastSpec(u8) host "multicast-spec",
+    4 4 SupervisionAddr([u8; 6]) host "supervision-addr",
+    5 5 SeqNr(u16) host "seq-nr",
+    6 6 Version(u8) host "version",
+    7 7 Protocol(HsrProtocol) host "protocol",
+    8 8 Interlink(u32) host "interlink",
     flags:
 }
 
 place! {
     /// The data of an rmnet device.
-    InfoRmNet: others::RMNET, [];
-    1 0 MuxId(u16) part push_part "mux-id",
-    2 1 Flags(InfoRmNetFlags) record push_record "flags",
+    InfoRmNet: others::RMNET;
+    1 1 MuxId(u16) host "mux-id",
+    2 2 Flags(InfoRmNetFlags) record "flags",
     flags:
 }
 
 place! {
     /// The data of a GTP tunnel.
-    InfoGtp: others::GTP, [];
-    1 0 Fd0(u32) part push_part "fd0",
-    2 1 Fd1(u32) part push_part "fd1",
-    3 2 PdpHashsize(u32) part push_part "pdp-hashsize",
-    4 3 Role(GtpRole) part push_part "role",
-    5 4 CreateSockets(u8) part push_part "create-sockets",
-    6 5 RestartCount(u8) part push_part "restart-count",
-    7 6 Local(Ipv4Addr) part push_part "local",
-    8 7 Local6(Ipv6Addr) part push_part "local6",
+    InfoGtp: others::GTP;
+    1 1 Fd0(u32) host "fd0",
+    2 2 Fd1(u32) host "fd1",
+    3 3 PdpHashsize(u32) host "pdp-hashsize",
+    4 4 Role(GtpRole) host "role",
+    5 5 CreateSockets(u8) host "create-sockets",
+    6 6 RestartCount(u8) host "restart-count",
+    7 7 Local(Ipv4Addr) host "local",
+    8 8 Local6(Ipv6Addr) host "local6",
     flags:
 }
 
 place! {
     /// The data of a bareudp tunnel.
-    InfoBareUdp: others::BAREUDP, [];
-    1 0 Port(u16) part push_part "port",
-    2 1 Ethertype(u16) part push_part "ethertype",
-    3 2 SrcportMin(u16) part push_part "srcport-min",
+    InfoBareUdp: others::BAREUDP;
+    1 1 Port(u16) net "port",
+    2 2 Ethertype(u16) net "ethertype",
+    3 3 SrcportMin(u16) host "srcport-min",
     flags:
-    4 3 MultiprotoMode "multiproto-mode",
+    4 MultiprotoMode "multiproto-mode",
 }
 
 place! {
     /// The data of an AMT tunnel.
-    InfoAmt: others::AMT, [];
-    1 0 Mode(AmtMode) part push_part "mode",
-    2 1 RelayPort(u16) part push_part "relay-port",
-    3 2 GatewayPort(u16) part push_part "gateway-port",
-    4 3 Link(u32) part push_part "link",
-    5 4 LocalIp(Ipv4Addr) part push_part "local-ip",
-    6 5 RemoteIp(Ipv4Addr) part push_part "remote-ip",
-    7 6 DiscoveryIp(Ipv4Addr) part push_part "discovery-ip",
-    8 7 MaxTunnels(u32) part push_part "max-tunnels",
+    InfoAmt: others::AMT;
+    1 1 Mode(AmtMode) host "mode",
+    2 2 RelayPort(u16) net "relay-port",
+    3 3 GatewayPort(u16) net "gateway-port",
+    4 4 Link(u32) host "link",
+    5 5 LocalIp(Ipv4Addr) host "local-ip",
+    6 6 RemoteIp(Ipv4Addr) host "remote-ip",
+    7 7 DiscoveryIp(Ipv4Addr) host "discovery-ip",
+    8 8 MaxTunnels(u32) host "max-tunnels",
     flags:
 }
 
 place! {
     /// The data of a wwan device.
-    InfoWwan: others::WWAN, [];
-    1 0 LinkId(u32) part push_part "link-id",
+    InfoWwan: others::WWAN;
+    1 1 LinkId(u32) host "link-id",
     flags:
 }
 
 place! {
     /// The data of an ovpn device.
-    InfoOvpn: others::OVPN, [];
-    1 0 Mode(OvpnMode) part push_part "mode",
+    InfoOvpn: others::OVPN;
+    1 1 Mode(OvpnMode) host "mode",
     flags:
 }
 
 place! {
     /// The data of an end of a veth pair.
-    InfoVeth: others::VETH, [];
-    1 0 Peer(LinkMessage) message push_message "peer",
+    InfoVeth: others::VETH;
+    1 1 Peer(LinkMessage) message "peer",
     flags:
 }
 
 place! {
     /// The data of an end of a vxcan pair.
-    InfoVxcan: others::VXCAN, [];
-    1 0 Peer(LinkMessage) message push_message "peer",
+    InfoVxcan: others::VXCAN;
+    1 1 Peer(LinkMessage) message "peer",
     flags:
 }
 
 place! {
     /// The data of a ppp interface.
-    InfoPpp: others::PPP, [];
-    1 0 DevFd(i32) part push_part "dev-fd",
+    InfoPpp: others::PPP;
+    1 1 DevFd(i32) host "dev-fd",
     flags:
 }
 
 place! {
     /// `IFLA_AF_SPEC` under AF_BRIDGE. The members of `IFLA_PROTINFO` there are those of `BridgePort`.
-    AfSpecBridge: family::BRIDGE_SPEC, [];
-    0 0 Flags(BridgeFlag) part push_part "flags",
-    1 1 Mode(BridgeMode) part push_part "mode",
-    2 2 VlanInfo(BridgeVlanInfo) record push_record "vlan-info",
-    3 3 VlanTunnelInfo(Vec<BridgeVlanTunnelInfo>) nest push_nest "vlan-tunnel-info",
-    6 4 Mst(Vec<BridgeMst>) nest push_nest "mst",
+    AfSpecBridge: family::BRIDGE_SPEC;
+    0 0 Flags(BridgeFlag) host "flags",
+    1 1 Mode(BridgeMode) host "mode",
+    2 2 VlanInfo(BridgeVlanInfo) record "vlan-info",
+    3 3 VlanTunnelInfo(Vec<BridgeVlanTunnelInfo>) nest "vlan-tunnel-info",
+    6 6 Mst(Vec<BridgeMst>) nest "mst",
     flags:
 }
 
 place! {
     /// A vlan of a port that is a tunnel.
-    BridgeVlanTunnelInfo: family::BRIDGE_VLAN_TUNNEL, [];
-    1 0 Id(u32) part push_part "id",
-    2 1 Vid(u16) part push_part "vid",
-    3 2 Flags(BridgeVlanInfoFlags) part push_part "flags",
+    BridgeVlanTunnelInfo: family::BRIDGE_VLAN_TUNNEL;
+    1 1 Id(u32) host "id",
+    2 2 Vid(u16) host "vid",
+    3 3 Flags(BridgeVlanInfoFlags) host "flags",
     flags:
 }
 
 place! {
     /// Spanning trees of a port.
-    BridgeMst: family::BRIDGE_MST, [];
-    1 0 Entry(Vec<BridgeMstEntry>) nest push_nest "entry",
+    BridgeMst: family::BRIDGE_MST;
+    1 1 Entry(Vec<BridgeMstEntry>) nest "entry",
     flags:
 }
 
 place! {
     /// A spanning tree of a port.
-    BridgeMstEntry: family::BRIDGE_MST_ENTRY, [];
-    1 0 Msti(u16) part push_part "msti",
-    2 1 State(BridgePortState) part push_part "state",
+    BridgeMstEntry: family::BRIDGE_MST_ENTRY;
+    1 1 Msti(u16) host "msti",
+    2 2 State(BridgePortState) host "state",
     flags:
 }
 
 place! {
     /// AF_INET6 in `IFLA_AF_SPEC`, and `IFLA_PROTINFO` under AF_INET6.
-    InfoInet6: family::INET6, [];
-    1 0 Flags(Inet6Flags) part push_part "flags",
-    2 1 Conf(Vec<i32>) array push_array "conf",
-    3 2 Stats(Vec<u64>) array push_array "stats",
-    4 3 Multicast(Vec<u8>) bytes push_bytes "mcast",
-    5 4 Cacheinfo(Inet6Times) record push_record "cacheinfo",
-    6 5 Icmp6Stats(Vec<u64>) array push_array "icmp6-stats",
-    7 6 Token(Ipv6Addr) part push_part "token",
-    8 7 AddrGenMode(Inet6AddrGenMode) part push_part "addr-gen-mode",
-    9 8 RaMtu(u32) part push_part "ra-mtu",
+    InfoInet6: family::INET6;
+    1 1 Flags(Inet6Flags) host "flags",
+    2 2 Conf(Vec<i32>) array "conf",
+    3 3 Stats(Vec<u64>) array "stats",
+    4 4 Multicast(Vec<u8>) bytes "mcast",
+    5 5 Cacheinfo(Inet6Times) record "cacheinfo",
+    6 6 Icmp6Stats(Vec<u64>) array "icmp6-stats",
+    7 7 Token(Ipv6Addr) host "token",
+    8 8 AddrGenMode(Inet6AddrGenMode) host "addr-gen-mode",
+    9 9 RaMtu(u32) host "ra-mtu",
     flags:
 }
 
 place! {
     /// `IFLA_PORT_SELF`, and each port of `IFLA_VF_PORTS`.
-    InfoPort: family::PORT, [];
-    1 0 Vf(u32) part push_part "vf",
-    2 1 Profile(String) text push_text "profile",
-    3 2 VsiType(Vec<u8>) bytes push_bytes "vsi-type",
-    4 3 InstanceUuid(Vec<u8>) bytes push_bytes "instance-uuid",
-    5 4 HostUuid(Vec<u8>) bytes push_bytes "host-uuid",
-    6 5 Request(PortRequest) part push_part "request",
-    7 6 Response(u16) part push_part "response",
+    InfoPort: family::PORT;
+    1 1 Vf(u32) host "vf",
+    2 2 Profile(String) text "profile",
+    3 3 VsiType(Vec<u8>) bytes "vsi-type",
+    4 4 InstanceUuid(Vec<u8>) bytes "instance-uuid",
+    5 5 HostUuid(Vec<u8>) bytes "host-uuid",
+    6 6 Request(PortRequest) host "request",
+    7 7 Response(u16) host "response",
     flags:
 }
 
 place! {
     /// The data of a batman-adv interface.
-    InfoBatAdv: BATADV, [];
-    1 0 AlgoName(String) text push_text "algo-name",
+    InfoBatAdv: BATADV;
+    1 1 AlgoName(String) text "algo-name",
     flags:
 }
 
 place! {
     /// The data of a port of a switch.
-    InfoDsa: DSA, [];
-    1 0 Conduit(u32) part push_part "conduit",
+    InfoDsa: DSA;
+    1 1 Conduit(u32) host "conduit",
     flags:
 }
 
 place! {
     /// The data of an IPoIB interface.
-    InfoIpoib: IPOIB, [];
-    1 0 Pkey(u16) part push_part "pkey",
-    2 1 Mode(IpoibMode) part push_part "mode",
-    3 2 Umcast(u16) part push_part "umcast",
+    InfoIpoib: IPOIB;
+    1 1 Pkey(u16) host "pkey",
+    2 2 Mode(IpoibMode) host "mode",
+    3 3 Umcast(u16) host "umcast",
     flags:
 }
 
 place! {
     /// The data of a wireguard interface, of which kernels send none.
-    InfoWireguard: WIREGUARD, [];
+    InfoWireguard: WIREGUARD;
     flags:
 }
 
 place! {
     /// The data of a port of a team, of which kernels send none.
-    InfoTeamPort: TEAMPORT, [];
+    InfoTeamPort: TEAMPORT;
     flags:
 }
 
@@ -781,15 +781,15 @@ flag_set! {
 members! {
     /// A record, its members in order.
     VlanFlagsAndMask;
-    0 flags: VlanFlags, "flags";
-    1 mask: VlanFlags, "mask";
+    flags: VlanFlags, host "flags";
+    mask: VlanFlags, host "mask";
 }
 
 members! {
     /// A record, its members in order.
     VlanPriorityMapping;
-    0 from: u32, "from";
-    1 to: u32, "to";
+    from: u32, host "from";
+    to: u32, host "to";
 }
 
 named! {
@@ -920,8 +920,8 @@ named! {
 members! {
     /// A record, its members in order.
     BridgeId;
-    0 priority: u16, "prio";
-    1 address: [u8; 6], "addr";
+    priority: u16, net "prio";
+    address: [u8; 6], host "addr";
 }
 
 named! {
@@ -944,8 +944,8 @@ flag_set! {
 members! {
     /// A record, its members in order.
     BridgeBooleanOptions;
-    0 optval: BridgeBooleanOptionFlags, "optval";
-    1 optmask: BridgeBooleanOptionFlags, "optmask";
+    optval: BridgeBooleanOptionFlags, host "optval";
+    optmask: BridgeBooleanOptionFlags, host "optmask";
 }
 
 named! {
@@ -969,8 +969,8 @@ named! {
 members! {
     /// A record, its members in order.
     PortRange;
-    0 low: u16, "low";
-    1 high: u16, "high";
+    low: u16, net "low";
+    high: u16, net "high";
 }
 
 named! {
@@ -1135,34 +1135,34 @@ named! {
 members! {
     /// A record, its members in order.
     CanBitTiming;
-    0 bitrate: u32, "bitrate";
-    1 sample_point: u32, "sample-point";
-    2 tq: u32, "tq";
-    3 prop_seg: u32, "prop-seg";
-    4 phase_seg1: u32, "phase-seg1";
-    5 phase_seg2: u32, "phase-seg2";
-    6 sjw: u32, "sjw";
-    7 brp: u32, "brp";
+    bitrate: u32, host "bitrate";
+    sample_point: u32, host "sample-point";
+    tq: u32, host "tq";
+    prop_seg: u32, host "prop-seg";
+    phase_seg1: u32, host "phase-seg1";
+    phase_seg2: u32, host "phase-seg2";
+    sjw: u32, host "sjw";
+    brp: u32, host "brp";
 }
 
 members! {
     /// A record, its members in order.
     CanBitTimingConst;
-    0 name: [u8; 16], "name";
-    1 tseg1_min: u32, "tseg1-min";
-    2 tseg1_max: u32, "tseg1-max";
-    3 tseg2_min: u32, "tseg2-min";
-    4 tseg2_max: u32, "tseg2-max";
-    5 sjw_max: u32, "sjw-max";
-    6 brp_min: u32, "brp-min";
-    7 brp_max: u32, "brp-max";
-    8 brp_inc: u32, "brp-inc";
+    name: [u8; 16], host "name";
+    tseg1_min: u32, host "tseg1-min";
+    tseg1_max: u32, host "tseg1-max";
+    tseg2_min: u32, host "tseg2-min";
+    tseg2_max: u32, host "tseg2-max";
+    sjw_max: u32, host "sjw-max";
+    brp_min: u32, host "brp-min";
+    brp_max: u32, host "brp-max";
+    brp_inc: u32, host "brp-inc";
 }
 
 members! {
     /// A record, its members in order.
     CanClock;
-    0 freq: u32, "freq";
+    freq: u32, host "freq";
 }
 
 named! {
@@ -1195,15 +1195,15 @@ flag_set! {
 members! {
     /// A record, its members in order.
     CanCtrlMode;
-    0 mask: CanCtrlModeFlags, "mask";
-    1 flags: CanCtrlModeFlags, "flags";
+    mask: CanCtrlModeFlags, host "mask";
+    flags: CanCtrlModeFlags, host "flags";
 }
 
 members! {
     /// A record, its members in order.
     CanBerrCounter;
-    0 txerr: u16, "txerr";
-    1 rxerr: u16, "rxerr";
+    txerr: u16, host "txerr";
+    rxerr: u16, host "rxerr";
 }
 
 named! {
@@ -1262,8 +1262,8 @@ flag_set! {
 members! {
     /// A record, its members in order.
     InfoRmNetFlags;
-    0 flags: RmNetFlags, "flags";
-    1 mask: RmNetFlags, "mask";
+    flags: RmNetFlags, host "flags";
+    mask: RmNetFlags, host "mask";
 }
 
 named! {
@@ -1316,8 +1316,8 @@ flag_set! {
 members! {
     /// A record, its members in order.
     BridgeVlanInfo;
-    0 flags: BridgeVlanInfoFlags, "flags";
-    1 vid: u16, "vid";
+    flags: BridgeVlanInfoFlags, host "flags";
+    vid: u16, host "vid";
 }
 
 flag_set! {
@@ -1333,10 +1333,10 @@ flag_set! {
 members! {
     /// A record, its members in order.
     Inet6Times;
-    0 max_reasm_len: u32, "max-reasm-len";
-    1 tstamp: u32, "tstamp";
-    2 reachable_time: u32, "reachable-time";
-    3 retrans_time: u32, "retrans-time";
+    max_reasm_len: u32, host "max-reasm-len";
+    tstamp: u32, host "tstamp";
+    reachable_time: u32, host "reachable-time";
+    retrans_time: u32, host "retrans-time";
 }
 
 named! {
@@ -1367,10 +1367,10 @@ named! {
 members! {
     /// A record, its members in order.
     CanDeviceStats;
-    0 bus_error: u32, "bus-error";
-    1 error_warning: u32, "error-warning";
-    2 error_passive: u32, "error-passive";
-    3 bus_off: u32, "bus-off";
-    4 arbitration_lost: u32, "arbitration-lost";
-    5 restarts: u32, "restarts";
+    bus_error: u32, host "bus-error";
+    error_warning: u32, host "error-warning";
+    error_passive: u32, host "error-passive";
+    bus_off: u32, host "bus-off";
+    arbitration_lost: u32, host "arbitration-lost";
+    restarts: u32, host "restarts";
 }

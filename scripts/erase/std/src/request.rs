@@ -21,10 +21,12 @@
 //! # Ok::<(), request::RequestError>(())
 //! ```
 
+use crate::link_msg::header::HEADER_SIZE;
 use crate::link_msg::numbers::{IFLA_IFALIAS, IFLA_IFNAME};
 use crate::link_msg::{
-    DefaultNla, LinkAttribute, LinkExtentMask, LinkFlags, LinkInfo, LinkMessage, LinkVfInfo, Prop, VfInfo,
+    DefaultNla, LinkAttribute, LinkExtentMask, LinkFlags, LinkHeader, LinkInfo, LinkMessage, LinkVfInfo, Prop, VfInfo,
 };
+use crate::nla_wire::nlas_measure;
 use crate::packet::Nla;
 use crate::typed::{InfoData, InfoKind};
 use alloc::string::String;
@@ -64,6 +66,9 @@ pub const MOST_NAME: usize = 15;
 pub const MOST_ALT_NAME: usize = 127;
 /// The longest alias (`IFALIASZ` with its NUL).
 pub const MOST_ALIAS: usize = 255;
+
+/// The bytes of netlink's header.
+const NLMSG_HDRLEN: usize = 16;
 
 /// Why a request is not made, or not written.
 #[derive(Clone, Copy, Debug, PartialEq, Eq, Hash)]
@@ -123,13 +128,17 @@ pub struct Request {
 }
 
 impl Request {
-    fn new(message_type: u16, flags: u16, link: Of<'_>) -> Result<Request, RequestError> {
-        let mut message = LinkMessage::default();
+    /// A request of this link, with one more attribute, if any.
+    #[inline]
+    fn new(message_type: u16, flags: u16, link: Of<'_>, more: Option<LinkAttribute>) -> Result<Request, RequestError> {
+        let mut header = LinkHeader::default();
+        let mut attributes = Vec::new();
         match link {
-            Of::Index(index) => message.header.index = index,
-            Of::Name(name) => message.attributes.push(if_name(name)?),
+            Of::Index(index) => header.index = index,
+            Of::Name(name) => attributes.push(if_name(name)?),
         }
-        Ok(Request { message_type, flags: flags | NLM_F_REQUEST, message })
+        attributes.extend(more);
+        Ok(Request { message_type, flags: flags | NLM_F_REQUEST, message: LinkMessage { header, attributes } })
     }
 
     /// The request with one more attribute at its end.
@@ -142,8 +151,14 @@ impl Request {
     ///
     /// # Errors
     ///
-    /// The first attribute with a name or alias that is too long; or a message that does not fit.
+    /// The first attribute with a name or alias that is too long; or a message that does not fit, or that holds an
+    /// empty list of ports, which has no encoding.
     pub fn check(&self) -> Result<(), RequestError> {
+        self.measured().map(|_| ())
+    }
+
+    /// The length of the attributes, where `check` has no error.
+    fn measured(&self) -> Result<usize, RequestError> {
         for attribute in &self.message.attributes {
             match attribute {
                 LinkAttribute::IfName(name) => named(name, MOST_NAME)?,
@@ -153,25 +168,25 @@ impl Request {
                 _ => (),
             }
         }
-        if self.message.fits() { Ok(()) } else { Err(RequestError::DoesNotFit) }
+        let len = nlas_measure(&self.message.attributes).filter(|_| !self.message.has_empty_ports());
+        len.ok_or(RequestError::DoesNotFit)
     }
 
-    /// The whole packet: netlink's header with this sequence number, and the message.
+    /// The whole packet: netlink's header with this sequence number, and the message. Its memory is taken once.
     ///
     /// # Errors
     ///
     /// Where `check` has one.
     pub fn packet(&self, sequence: u32) -> Result<Vec<u8>, RequestError> {
-        self.check()?;
-        let text = self.message.to_vec().map_err(|_| RequestError::DoesNotFit)?;
-        let len = u32::try_from(16 + text.len()).map_err(|_| RequestError::DoesNotFit)?;
-        let mut packet = Vec::with_capacity(16 + text.len());
-        packet.extend_from_slice(&len.to_le_bytes());
+        let len = self.measured()?.checked_add(NLMSG_HDRLEN + HEADER_SIZE).ok_or(RequestError::DoesNotFit)?;
+        let in_header = u32::try_from(len).map_err(|_| RequestError::DoesNotFit)?;
+        let mut packet = Vec::with_capacity(len);
+        packet.extend_from_slice(&in_header.to_le_bytes());
         packet.extend_from_slice(&self.message_type.to_le_bytes());
         packet.extend_from_slice(&self.flags.to_le_bytes());
         packet.extend_from_slice(&sequence.to_le_bytes());
-        packet.extend_from_slice(&[0; 4]);
-        packet.extend_from_slice(&text);
+        packet.resize(len, 0);
+        self.message.emit(&mut packet[NLMSG_HDRLEN..]);
         Ok(packet)
     }
 }
@@ -202,19 +217,25 @@ fn if_name(name: &str) -> Result<LinkAttribute, RequestError> {
     Ok(LinkAttribute::IfName(String::from(name)))
 }
 
+#[inline]
 fn change<'a>(link: impl Into<Of<'a>>) -> Result<Request, RequestError> {
-    Request::new(RTM_NEWLINK, NLM_F_ACK, link.into())
+    Request::new(RTM_NEWLINK, NLM_F_ACK, link.into(), None)
 }
 
+#[inline]
 fn set<'a>(link: impl Into<Of<'a>>, attribute: LinkAttribute) -> Result<Request, RequestError> {
-    Ok(change(link)?.with(attribute))
+    Request::new(RTM_NEWLINK, NLM_F_ACK, link.into(), Some(attribute))
+}
+
+/// What is asked for besides.
+fn asked(mask: &[LinkExtentMask]) -> Option<LinkAttribute> {
+    (!mask.is_empty()).then(|| LinkAttribute::ExtMask(mask.to_vec()))
 }
 
 /// All links: a dump, with what the mask asks for besides, as the settings of virtual functions.
 pub fn dump(mask: &[LinkExtentMask]) -> Request {
-    let message = LinkMessage::default();
-    let all = Request { message_type: RTM_GETLINK, flags: NLM_F_REQUEST | NLM_F_DUMP, message };
-    if mask.is_empty() { all } else { all.with(LinkAttribute::ExtMask(mask.to_vec())) }
+    let message = LinkMessage { attributes: asked(mask).into_iter().collect(), ..LinkMessage::default() };
+    Request { message_type: RTM_GETLINK, flags: NLM_F_REQUEST | NLM_F_DUMP, message }
 }
 
 /// One link. It is answered by a message of it, or by an error.
@@ -223,8 +244,7 @@ pub fn dump(mask: &[LinkExtentMask]) -> Request {
 ///
 /// A name that the kernel does not take.
 pub fn get<'a>(link: impl Into<Of<'a>>, mask: &[LinkExtentMask]) -> Result<Request, RequestError> {
-    let one = Request::new(RTM_GETLINK, 0, link.into())?;
-    Ok(if mask.is_empty() { one } else { one.with(LinkAttribute::ExtMask(mask.to_vec())) })
+    Request::new(RTM_GETLINK, 0, link.into(), asked(mask))
 }
 
 /// The greatest length of a packet, in bytes.
@@ -333,7 +353,7 @@ pub fn add(name: &str, kind: InfoKind, data: Option<InfoData>) -> Result<Request
     let flags = NLM_F_ACK | NLM_F_CREATE | NLM_F_EXCL;
     let mut info = vec![LinkInfo::from(kind)];
     info.extend(data.map(LinkInfo::from));
-    Ok(Request::new(RTM_NEWLINK, flags, Of::Name(name))?.with(LinkAttribute::LinkInfo(info)))
+    Request::new(RTM_NEWLINK, flags, Of::Name(name), Some(LinkAttribute::LinkInfo(info)))
 }
 
 /// The data of its kind are changed.
@@ -351,7 +371,7 @@ pub fn data<'a>(link: impl Into<Of<'a>>, kind: InfoKind, data: InfoData) -> Resu
 ///
 /// A name that the kernel does not take.
 pub fn delete<'a>(link: impl Into<Of<'a>>) -> Result<Request, RequestError> {
-    Request::new(RTM_DELLINK, NLM_F_ACK, link.into())
+    Request::new(RTM_DELLINK, NLM_F_ACK, link.into(), None)
 }
 
 /// Alternative names, each of at most 127 bytes, are added.
@@ -379,7 +399,7 @@ fn names_of(message_type: u16, flags: u16, link: Of<'_>, names: &[&str]) -> Resu
         named(name, MOST_ALT_NAME)?;
         list.push(Prop::AltIfName(String::from(*name)));
     }
-    Ok(Request::new(message_type, flags, link)?.with(LinkAttribute::PropList(list)))
+    Request::new(message_type, flags, link, Some(LinkAttribute::PropList(list)))
 }
 
 /// Settings of a virtual function, each of which has its number.

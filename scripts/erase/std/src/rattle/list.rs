@@ -8,7 +8,7 @@ use alloc::vec::Vec;
 /// # Panics
 ///
 /// Where the list has no room.
-#[inline(always)]
+#[cfg_attr(not(debug_assertions), inline(always))]
 pub(crate) fn vacant<T>(list: &mut Vec<T>) -> &mut Vec<T> {
     if list.len() == list.capacity() {
         full(list.len())

@@ -1,12 +1,13 @@
 //! The forms of what is made of the tables.
 
-/// A place: an enum with a variant of each row, its number, where the row stands, and how its payload is read.
+/// A place: an enum with a variant of each row: its number, the kind that it is written with, and its form, a module of
+/// `parts`.
 macro_rules! place {
     (
         $(#[$doc:meta])*
-        $name:ident: $rows:expr, $nested:expr;
-        $($number:literal $at:literal $variant:ident($kind:ty) $form:ident $push:ident $text:literal,)*
-        flags: $($flag_number:literal $flag_at:literal $flag:ident $flag_text:literal,)*
+        $name:ident: $rows:expr;
+        $($number:literal $kind:literal $variant:ident($type:ty) $form:ident $text:literal,)*
+        flags: $($flag_number:literal $flag:ident $flag_text:literal,)*
     ) => {
         $(#[$doc])*
         #[derive(Clone, Debug, PartialEq, Eq, Hash)]
@@ -15,7 +16,7 @@ macro_rules! place {
         pub enum $name {
             $(
                 #[doc = concat!("`", $text, "`, number ", $number, ".")]
-                $variant($kind),
+                $variant($type),
             )*
             $(
                 #[doc = concat!("`", $flag_text, "`, number ", $flag_number, ": that it is there says it.")]
@@ -25,53 +26,35 @@ macro_rules! place {
             Other(DefaultNla),
         }
 
-        #[allow(irrefutable_let_patterns, unused_variables)]
+        #[allow(unused_variables)]
         impl Typed for $name {
             const ROWS: &'static [Row] = $rows;
-            const NESTED: &'static [u16] = &$nested;
 
             fn other(frame: DefaultNla) -> Self {
                 $name::Other(frame)
             }
 
-            #[inline]
+            #[allow(irrefutable_let_patterns)]
             fn kept(&self) -> Option<&DefaultNla> {
                 if let $name::Other(frame) = self { Some(frame) } else { None }
             }
 
-            #[inline]
-            fn at(number: u16) -> Option<usize> {
-                match number {
-                    $($number => Some($at),)*
-                    $($flag_number => Some($flag_at),)*
-                    _ => None,
+            fn read(kind: u16, payload: &[u8]) -> Option<Self> {
+                match kind {
+                    $($kind => if let Some(it) = parts::$form::read(payload) {
+                        return Some($name::$variant(it));
+                    })*
+                    $($flag_number if payload.is_empty() => return Some($name::$flag),)*
+                    _ => (),
                 }
+                None
             }
 
-            #[inline]
-            fn read(at: usize, value: Value<'_>) -> Option<Self> {
-                match at {
-                    $($at => parts::$form(value).map($name::$variant),)*
-                    $($flag_at => parts::flag(value).map(|()| $name::$flag),)*
-                    _ => None,
-                }
-            }
-
-            #[inline]
-            fn row(&self) -> usize {
+            fn push(&self, out: &mut Vec<u8>) {
                 match self {
-                    $($name::$variant(_) => $at,)*
-                    $($name::$flag => $flag_at,)*
-                    $name::Other(_) => usize::MAX,
-                }
-            }
-
-            #[inline]
-            fn push(&self, style: Style, out: &mut Vec<u8>) {
-                match self {
-                    $($name::$variant(it) => parts::$push(out, style, it),)*
-                    $($name::$flag => (),)*
-                    $name::Other(frame) => parts::push_bytes(out, style, frame.value()),
+                    $($name::$variant(it) => parts::$form::push(out, $kind, it),)*
+                    $($name::$flag => parts::push_frame(out, $flag_number, &[]),)*
+                    $name::Other(frame) => parts::push_frame(out, Nla::kind(frame), frame.value()),
                 }
             }
         }
@@ -82,7 +65,11 @@ macro_rules! place {
             }
 
             fn kind(&self) -> u16 {
-                super::kind(self)
+                match self {
+                    $($name::$variant(_) => $kind,)*
+                    $($name::$flag => $flag_number,)*
+                    $name::Other(frame) => Nla::kind(frame),
+                }
             }
 
             fn emit_value(&self, buffer: &mut [u8]) {
@@ -143,15 +130,16 @@ macro_rules! named {
         }
 
         impl parts::Part for $name {
+            type Bytes = <$bits as parts::Part>::Bytes;
+
             #[inline]
-            fn of(value: Value<'_>) -> Option<Self> {
-                let number = <$bits as parts::Part>::of(value)?;
-                Some($name::from(number))
+            fn of(bytes: Self::Bytes) -> Option<Self> {
+                <$bits as parts::Part>::of(bytes).map($name::from)
             }
 
             #[inline]
-            fn value(&self) -> Value<'_> {
-                Value::Unsigned(<$bits>::from(*self).into())
+            fn bytes(&self) -> Self::Bytes {
+                parts::Part::bytes(&<$bits>::from(*self))
             }
         }
     };
@@ -264,14 +252,16 @@ macro_rules! flag_set {
         }
 
         impl parts::Part for $name {
+            type Bytes = <$bits as parts::Part>::Bytes;
+
             #[inline]
-            fn of(value: Value<'_>) -> Option<Self> {
-                Some($name(<$bits as parts::Part>::of(value)?))
+            fn of(bytes: Self::Bytes) -> Option<Self> {
+                <$bits as parts::Part>::of(bytes).map($name)
             }
 
             #[inline]
-            fn value(&self) -> Value<'_> {
-                Value::Unsigned(self.0.into())
+            fn bytes(&self) -> Self::Bytes {
+                parts::Part::bytes(&self.0)
             }
         }
     };
@@ -279,28 +269,24 @@ macro_rules! flag_set {
 
 /// A record: its members in order.
 macro_rules! members {
-    ($(#[$doc:meta])* $name:ident; $($place:literal $field:ident: $kind:ty, $text:literal;)*) => {
+    ($(#[$doc:meta])* $name:ident; $($field:ident: $type:ty, $order:ident $text:literal;)*) => {
         $(#[$doc])*
         #[derive(Clone, Copy, Debug, PartialEq, Eq, Hash)]
         #[cfg_attr(feature = "serde", derive(serde::Serialize, serde::Deserialize))]
         pub struct $name {
             $(
                 #[doc = concat!("`", $text, "`.")]
-                pub $field: $kind,
+                pub $field: $type,
             )*
         }
 
         impl parts::Members for $name {
-            fn read(value: Value<'_>) -> Option<Self> {
-                let Value::Record(members, left) = value else { return None };
-                let mut left = left;
-                Some($name {
-                    $($field: parts::member(members, $place, &mut left)?,)*
-                })
+            fn take(left: &mut &[u8]) -> Option<Self> {
+                Some($name { $($field: parts::$order::take(left)?,)* })
             }
 
-            fn push(&self, style: Style, out: &mut Vec<u8>) {
-                $(parts::push_member(out, style, $place, &self.$field);)*
+            fn add(&self, out: &mut Vec<u8>) {
+                $(parts::$order::add(out, &self.$field);)*
             }
         }
     };
