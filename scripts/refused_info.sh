@@ -6,7 +6,7 @@ set -euo pipefail
 top=$(cd "$(dirname "$0")/.." && pwd)
 tests=$top/crates/info_tests/out/info_tests_tests
 name=memory::refused_memory_changes_nothing
-calls=(Info::new Info::set Info::set_flags LinkInfo::parse_list Info::list Info::of)
+calls=(Info::new Info::set Info::set_flags LinkInfo::parse_list Info::list Info::of rewrite push_field)
 if ! command -v rt >/dev/null; then
     echo "refused_info: skipped: no rt, which alone makes ${tests#"$top"/}"
     exit 0
@@ -33,6 +33,7 @@ for ((allocation = 1; ; allocation++)); do
     counts[$call]=$((${counts[$call]:-0} + 1))
 done
 ! grep -q '^refused: ' "$folder/said" || fails 'no allocation is refused, and a call says so'
+[ "${#counts[@]}" = "${#calls[@]}" ] || fails "memory is refused to ${!counts[*]}, and not to ${calls[*]} alone"
 for call in "${calls[@]}"; do
     [ "${counts[$call]:-0}" != 0 ] || fails "no allocation of $call is refused"
     echo "refused_info: $call, ${counts[$call]} refused: ok"

@@ -1,10 +1,10 @@
 //! Calls whose memory is refused: they say so and change nothing, and succeed when they are called again.
 
 use crate::values;
-use link_info::Value;
 use link_info::info::{Info, InfoError};
+use link_info::{Field, Place, Value};
 use link_nest::LinkInfo;
-use nla_wire::{Cause, NlaRead};
+use nla_wire::{Cause, NlaBuffer, NlaRead};
 use std::alloc::Global;
 use std::process::Abort;
 
@@ -127,6 +127,50 @@ fn members(rt: &impl Abort, alloc: Global, bytes: &[u8], refused: &mut Refused) 
     }
 }
 
+/// These data of a vxlan in canonical encoding.
+fn rewritten(rt: &impl Abort, alloc: Global, data: &[u8], refused: &mut Refused) -> Vec<u8> {
+    match values::rewrite(alloc, Place::Vxlan.rows(), data) {
+        Ok(bytes) => bytes,
+        Err(error) => {
+            assert_eq!(rt; error, InfoError::OutOfMemory);
+            *refused = Some("rewrite");
+            values::rewrite(alloc, Place::Vxlan.rows(), data).expect(rt, "memory is refused once")
+        }
+    }
+}
+
+/// Adds the attribute that these data of a vxlan begin with.
+fn add_first(
+    rt: &impl Abort,
+    alloc: Global,
+    out: &mut Vec<u8>,
+    data: &[u8],
+    refused: &mut Refused,
+) {
+    let frame = NlaBuffer::new_checked(data).expect(rt, "it is whole");
+    let field = Field::new(Place::Vxlan.rows(), &frame);
+    let before = out.len();
+    match values::push_field(alloc, out, &field) {
+        Ok(()) => (),
+        Err(error) => {
+            assert_eq!(rt; error, InfoError::OutOfMemory);
+            assert_eq!(rt; out.len(), before, "all is as it was");
+            *refused = Some("push_field");
+            values::push_field(alloc, out, &field).expect(rt, "memory is refused once");
+        }
+    }
+}
+
+/// Attributes are written again, and added.
+fn write_again(rt: &impl Abort, alloc: Global, data: &[u8], refused: &mut Refused) {
+    let again = rewritten(rt, alloc, data, refused);
+    assert!(rt; again.as_slice() == data);
+    let mut added = Vec::new(alloc);
+    add_first(rt, alloc, &mut added, data, refused);
+    assert_eq!(rt; added.len(), 8);
+    assert!(rt; data.starts_with(added.as_slice()));
+}
+
 /// Where memory is refused, the test says of which call; `scripts/refused_info.sh` refuses each allocation in turn.
 #[test]
 fn refused_memory_changes_nothing(rt: HostRuntime) {
@@ -145,6 +189,7 @@ fn refused_memory_changes_nothing(rt: HostRuntime) {
     assert!(rt; numbers(&read) == [Some(42), Some(4789), Some(1)]);
     let again = list(&rt, alloc, &read, &mut refused);
     assert!(rt; again.as_slice() == wanted.as_slice());
+    write_again(&rt, alloc, &VXLAN[16..], &mut refused);
     if let Some(call) = refused {
         let _ = eprintln!(rt; "refused: {call}");
     }

@@ -1,7 +1,7 @@
 //! How values are compared, and calls of which no more is known than their answers.
 
 use link_info::info::{Info, InfoError};
-use link_info::{Field, Fields, Value};
+use link_info::{Field, Fields, Row, Value};
 use nla_wire::DecodeError;
 use std::alloc::Global;
 
@@ -37,6 +37,16 @@ pub fn set_flags(
     flags: &[&str],
 ) -> Result<(), InfoError> {
     info.set_flags(alloc, name, flags)
+}
+
+/// Attributes in canonical encoding; for the proof: what the call promises stays here.
+pub fn rewrite(alloc: Global, rows: &'static [Row], bytes: &[u8]) -> Result<Vec<u8>, InfoError> {
+    link_info::rewrite(alloc, rows, bytes)
+}
+
+/// Adds a field; for the proof: what the call promises stays here.
+pub fn push_field(alloc: Global, out: &mut Vec<u8>, field: &Field<'_>) -> Result<(), InfoError> {
+    link_info::push_field(alloc, out, field)
 }
 
 /// The next field; for the proof: what the call promises stays here.
