@@ -4,7 +4,8 @@
     python3 scripts/rust_items.py DOC [FILE]
 
 DOC is the folder that `cargo doc` made, of the crate. With FILE, what differs from the list there is printed, and the
-exit status is then 1; rust/items.txt is such a list. What came or went of it is for the CHANGELOG.
+exit status is then 1; rust/items.txt is such a list. What came or went of it is for the CHANGELOG. Calls whose docs
+have no example, and no link to one, are printed too.
 """
 import difflib
 import html
@@ -14,6 +15,9 @@ import sys
 import textwrap
 
 IDS = re.compile(r'id="((?:variant|structfield|method|tymethod|associatedconstant|associatedtype|impl)[.-][^"]+)"')
+CALL = re.compile(r'<section id="(?:ty)?method\.(\w+)"(.*?)(?=<section |$)', re.S)
+OTHERS = re.compile(r'id="(?:trait-implementations|foreign-impls|implementors)"')
+EXAMPLE = re.compile(r"example-wrap|has an example|have examples")
 OWN = ("variant.", "structfield.", "method.", "tymethod.", "associatedconstant.", "associatedtype.")
 
 
@@ -30,27 +34,40 @@ def parts(text):
     return list(dict.fromkeys(names)), sorted(found)
 
 
-def items(folder):
-    """The items as lines, in the order of their paths."""
-    lines = []
+def pages(folder):
+    """The pages of items, in the order of their paths: the kind, the path and the text of each."""
     for root, _, files in sorted(os.walk(folder)):
         module = os.path.relpath(root, folder).replace(os.sep, "::").replace(".", "")
         for name in sorted(files):
             match = re.fullmatch(r"(struct|enum|fn|constant|trait|type|macro)\.(\w+)\.html", name)
-            if not match or is_hidden(folder, root, name):
+            if not match:
                 continue
             with open(os.path.join(root, name), encoding="utf-8") as file:
-                names, traits = parts(file.read())
-            lines.append(f"{match[1]} {module + '::' if module else ''}{match[2]}")
-            for words in (" ".join(names), "has " + " ".join(traits) if traits else ""):
-                lines += textwrap.wrap(words, 116, initial_indent="  ", subsequent_indent="    ")
+                text = file.read()
+            if 'http-equiv="refresh"' not in text[:2000]:           # a page that only leads to another
+                yield match[1], (module + "::" if module else "") + match[2], text
+
+
+def items(folder):
+    """The items as lines."""
+    lines = []
+    for kind, path, text in pages(folder):
+        names, traits = parts(text)
+        lines.append(f"{kind} {path}")
+        for words in (" ".join(names), "has " + " ".join(traits) if traits else ""):
+            lines += textwrap.wrap(words, 116, initial_indent="  ", subsequent_indent="    ")
     return lines
 
 
-def is_hidden(folder, root, name):
-    """Pages that only lead to another."""
-    with open(os.path.join(root, name), encoding="utf-8") as file:
-        return 'http-equiv="refresh"' in file.read(2000)
+def without_example(folder):
+    """The calls whose docs have no example, and no link to one."""
+    for kind, path, text in pages(folder):
+        if kind in ("fn", "macro"):
+            calls = [(path, text)]
+        else:
+            own = OTHERS.split(text)[0]
+            calls = [(f"{path}::{name}", docs) for name, docs in CALL.findall(own)]
+        yield from (name for name, docs in calls if not EXAMPLE.search(docs))
 
 
 def main():
@@ -62,8 +79,12 @@ def main():
         return
     with open(sys.argv[2], encoding="utf-8") as file:
         kept = file.read().splitlines()
+    calls = list(without_example(sys.argv[1]))
     if found != kept:
         print(*difflib.unified_diff(kept, found, sys.argv[2], "what is public", lineterm="", n=1), sep="\n")
+    for call in calls:
+        print(f"{call}: no example, and no link to one")
+    if found != kept or calls:
         sys.exit(1)
 
 

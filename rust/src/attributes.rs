@@ -67,6 +67,17 @@ impl<'a> Iterator for Attributes<'a> {
 impl FusedIterator for Attributes<'_> {}
 
 /// An attribute: a kind and a payload, which is not copied.
+///
+/// ```
+/// use linkwire::Attributes;
+/// let list = [8, 0, 4, 0, 0xdc, 5, 0, 0, 5, 0, 20, 0x40, b'a'];
+/// let found: Vec<_> = Attributes::of_list(&list).collect::<Result<_, _>>()?;
+/// assert_eq!((found[0].number(), found[0].as_u32(), found[0].as_u16()), (4, Some(1500), None));
+/// assert_eq!((found[1].kind(), found[1].number()), (0x4014, 20));
+/// assert_eq!((found[1].payload(), found[1].as_u8(), found[1].as_str()), (&[b'a'][..], Some(b'a'), Some("a")));
+/// assert_eq!(found[1].as_u64(), None);
+/// # Ok::<(), linkwire::DecodeError>(())
+/// ```
 #[derive(Clone, Copy, Debug, PartialEq, Eq, Hash)]
 pub struct Attribute<'a> {
     kind: u16,
@@ -75,41 +86,57 @@ pub struct Attribute<'a> {
 
 impl<'a> Attribute<'a> {
     /// The number and the two flag bits above it.
+    ///
+    /// [`Attribute`] has an example.
     pub fn kind(&self) -> u16 {
         self.kind
     }
 
     /// The low 14 bits of the kind, as the kernel's constants have it.
+    ///
+    /// [`Attribute`] has an example.
     pub fn number(&self) -> u16 {
         self.kind & NLA_TYPE_MASK
     }
 
     /// The bytes between header and padding.
+    ///
+    /// [`Attribute`] has an example.
     pub fn payload(&self) -> &'a [u8] {
         self.payload
     }
 
     /// The payload as a number, if it has one byte.
+    ///
+    /// [`Attribute`] has an example.
     pub fn as_u8(&self) -> Option<u8> {
         Some(u8::from_le_bytes(self.payload.try_into().ok()?))
     }
 
     /// The payload as a number, lowest byte first, if it has two bytes.
+    ///
+    /// [`Attribute`] has an example.
     pub fn as_u16(&self) -> Option<u16> {
         Some(u16::from_le_bytes(self.payload.try_into().ok()?))
     }
 
     /// The payload as a number, lowest byte first, if it has four bytes.
+    ///
+    /// [`Attribute`] has an example.
     pub fn as_u32(&self) -> Option<u32> {
         Some(u32::from_le_bytes(self.payload.try_into().ok()?))
     }
 
     /// The payload as a number, lowest byte first, if it has eight bytes.
+    ///
+    /// [`Attribute`] has an example.
     pub fn as_u64(&self) -> Option<u64> {
         Some(u64::from_le_bytes(self.payload.try_into().ok()?))
     }
 
     /// The payload without the one NUL at its end, if there is one, where that is UTF-8.
+    ///
+    /// [`Attribute`] has an example.
     pub fn as_str(&self) -> Option<&'a str> {
         core::str::from_utf8(self.payload.strip_suffix(&[0]).unwrap_or(self.payload)).ok()
     }

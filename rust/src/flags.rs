@@ -20,6 +20,8 @@ pub struct IterNames<F> {
 
 impl<F: Flags + Copy> IterNames<F> {
     /// The bits that were not given yet.
+    ///
+    /// [`LinkFlags::iter_names`] has an example.
     pub fn remaining(&self) -> F {
         self.left
     }
@@ -58,11 +60,23 @@ macro_rules! flags {
     ($type:ident) => {
         impl $type {
             /// The flags that are set, each as a set of its own; and then the bits without a name as one.
+            ///
+            /// [`LinkFlags::iter_names`] has an example.
             pub fn iter(&self) -> Iter<$type> {
                 Iter { names: self.iter_names() }
             }
 
             /// The flags that are set and have a name, with their names.
+            ///
+            /// ```
+            /// use linkwire::LinkFlags;
+            /// let flags = LinkFlags::Up | LinkFlags::Running | LinkFlags::from_bits_retain(0x8000_0000);
+            /// let mut names = flags.iter_names();
+            /// assert_eq!(names.by_ref().map(|(name, _)| name).collect::<Vec<_>>(), ["Up", "Running"]);
+            /// assert_eq!(names.remaining().bits(), 0x8000_0000);
+            /// assert_eq!(flags.iter().collect::<LinkFlags>(), flags);
+            /// assert_eq!(flags.iter().count(), 3);
+            /// ```
             pub fn iter_names(&self) -> IterNames<$type> {
                 IterNames { left: *self, place: 0 }
             }

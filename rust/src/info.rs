@@ -266,26 +266,53 @@ impl Info {
     }
 
     /// The number that this attribute was set to, if it was set to one of this type.
+    ///
+    /// [`Info::u32`] has an example.
     pub fn u8(&self, name: &str) -> Option<u8> {
         self.number(name)
     }
 
     /// The number that this attribute was set to, if it was set to one of this type.
+    ///
+    /// [`Info::u32`] has an example.
     pub fn u16(&self, name: &str) -> Option<u16> {
         self.number(name)
     }
 
     /// The number that this attribute was set to, if it was set to one of this type.
+    ///
+    /// ```
+    /// use linkwire::info::Info;
+    /// use std::net::Ipv4Addr;
+    /// let mut vxlan = Info::new("vxlan")?;
+    /// vxlan.set("id", 42)?;
+    /// vxlan.set("ttl", 5)?;
+    /// vxlan.set("port", 4789)?;
+    /// vxlan.set("group", Ipv4Addr::new(239, 1, 1, 1))?;
+    /// vxlan.set("df", "inherit")?;
+    /// assert_eq!((vxlan.u32("id"), vxlan.u8("ttl"), vxlan.u16("port")), (Some(42), Some(5), Some(4789)));
+    /// assert_eq!(vxlan.u64("id"), Some(42));
+    /// assert_eq!((vxlan.ipv4("group"), vxlan.ipv6("group")), (Some(Ipv4Addr::new(239, 1, 1, 1)), None));
+    /// assert_eq!((vxlan.named("df"), vxlan.flag("gbp")), (Some("inherit"), false));
+    /// // none of them is of such a type
+    /// assert!(vxlan.text("id").is_none() && vxlan.mac("id").is_none() && vxlan.bytes("id").is_none());
+    /// assert_eq!(vxlan.i32("group"), None);
+    /// # Ok::<(), linkwire::info::InfoError>(())
+    /// ```
     pub fn u32(&self, name: &str) -> Option<u32> {
         self.number(name)
     }
 
     /// The number that this attribute was set to, if it was set to one.
+    ///
+    /// [`Info::u32`] has an example.
     pub fn u64(&self, name: &str) -> Option<u64> {
         self.number(name)
     }
 
     /// The number that this attribute was set to, if it was set to one of this type.
+    ///
+    /// [`Info::u32`] has an example.
     pub fn i32(&self, name: &str) -> Option<i32> {
         self.number(name)
     }
@@ -295,6 +322,8 @@ impl Info {
     }
 
     /// The name of the number that this attribute was set to, if it has one.
+    ///
+    /// [`Info::u32`] has an example.
     pub fn named(&self, name: &str) -> Option<&'static str> {
         let row = self.place()?.rows().iter().find(|row| row.name() == name)?;
         match row.style() {
@@ -304,6 +333,8 @@ impl Info {
     }
 
     /// The text that this attribute was set to, without the NUL at its end.
+    ///
+    /// [`Info::u32`] has an example.
     pub fn text(&self, name: &str) -> Option<&str> {
         match self.value(name)? {
             Value::Text(text) => Some(text),
@@ -312,6 +343,8 @@ impl Info {
     }
 
     /// The hardware address that this attribute was set to.
+    ///
+    /// [`Info::u32`] has an example.
     pub fn mac(&self, name: &str) -> Option<[u8; 6]> {
         match self.value(name)? {
             Value::Mac(address) => Some(address),
@@ -320,6 +353,8 @@ impl Info {
     }
 
     /// The IPv4 address that this attribute was set to.
+    ///
+    /// [`Info::u32`] has an example.
     pub fn ipv4(&self, name: &str) -> Option<Ipv4Addr> {
         match self.value(name)? {
             Value::Ipv4(address) => Some(address),
@@ -328,6 +363,8 @@ impl Info {
     }
 
     /// The IPv6 address that this attribute was set to.
+    ///
+    /// [`Info::u32`] has an example.
     pub fn ipv6(&self, name: &str) -> Option<Ipv6Addr> {
         match self.value(name)? {
             Value::Ipv6(address) => Some(address),
@@ -337,11 +374,15 @@ impl Info {
 
     /// The bytes that this attribute was set to: those of a record, an array, a list or a nest, and those of which no
     /// more is known.
+    ///
+    /// [`Info::u32`] has an example.
     pub fn bytes(&self, name: &str) -> Option<&[u8]> {
         self.value(name)?.bytes()
     }
 
     /// Whether this attribute, one without a payload, is there.
+    ///
+    /// [`Info::u32`] has an example.
     pub fn flag(&self, name: &str) -> bool {
         self.value(name) == Some(Value::Flag)
     }
@@ -374,6 +415,8 @@ impl TryFrom<&[LinkInfo]> for Info {
 
 impl<'a> Value<'a> {
     /// The bytes of what holds other values, or of which no more is known.
+    ///
+    /// [`Value::members`] and [`Value::fields`] have examples of values that hold others.
     pub fn bytes(self) -> Option<&'a [u8]> {
         match self {
             Value::Bytes(bytes) | Value::Record(_, bytes) | Value::Nest(_, bytes) => Some(bytes),
@@ -427,6 +470,18 @@ impl<'a> Value<'a> {
     }
 
     /// The fields of a nest.
+    ///
+    /// ```
+    /// use linkwire::info::{Info, Value};
+    /// let mut bridge = Info::new("bridge")?;
+    /// let querier = [8, 0, 1, 0, 10, 0, 0, 1];
+    /// bridge.set("mcast-querier-state", &querier)?;
+    /// let value = bridge.value("mcast-querier-state").unwrap();
+    /// assert_eq!(value.bytes(), Some(&querier[..]));
+    /// let first = value.fields().unwrap().next().unwrap()?;
+    /// assert_eq!((first.name(), first.value()), (Some("ip-address"), Value::Ipv4([10, 0, 0, 1].into())));
+    /// # Ok::<(), Box<dyn std::error::Error>>(())
+    /// ```
     pub fn fields(self) -> Option<Fields<'a>> {
         match self {
             Value::Nest(place, bytes) => Some(Fields::new(place.rows(), bytes)),
@@ -442,6 +497,8 @@ fn payloads(list: &[u8]) -> Vec<&[u8]> {
 
 impl Field<'_> {
     /// The name of its attribute, if its number has a row.
+    ///
+    /// [`Value::fields`] has an example.
     pub fn name(&self) -> Option<&'static str> {
         self.row().map(Row::name)
     }
@@ -449,16 +506,28 @@ impl Field<'_> {
 
 impl Row {
     /// The number of the attribute, as the kernel's constant has it.
+    ///
+    /// ```
+    /// use linkwire::info::{KINDS, Place, Plain, Size, Style};
+    /// let vlan = KINDS.iter().find(|row| row.kind() == "vlan").unwrap();
+    /// assert_eq!(vlan.place(), Place::Vlan);
+    /// let id = vlan.place().rows()[0];
+    /// assert_eq!((id.number(), id.name(), id.style()), (1, "id", Style::Plain(Plain::Unsigned(Size::Two))));
+    /// ```
     pub fn number(&self) -> u16 {
         self.0
     }
 
     /// Its name.
+    ///
+    /// [`Row::number`] has an example.
     pub fn name(&self) -> &'static str {
         self.1
     }
 
     /// How its payload is spelled.
+    ///
+    /// [`Row::number`] has an example.
     pub fn style(&self) -> Style {
         self.2
     }
@@ -466,11 +535,15 @@ impl Row {
 
 impl Member {
     /// Its name.
+    ///
+    /// [`Value::members`] has an example.
     pub fn name(&self) -> &'static str {
         self.0
     }
 
     /// How it is spelled.
+    ///
+    /// [`Value::members`] has an example.
     pub fn plain(&self) -> Plain {
         self.1
     }
@@ -478,11 +551,15 @@ impl Member {
 
 impl KindRow {
     /// The kind, as `IFLA_INFO_KIND` or `IFLA_INFO_SLAVE_KIND` has it.
+    ///
+    /// [`Row::number`] has an example.
     pub fn kind(&self) -> &'static str {
         self.0
     }
 
     /// The place of its data.
+    ///
+    /// [`Row::number`] has an example.
     pub fn place(&self) -> Place {
         self.1
     }
@@ -490,6 +567,13 @@ impl KindRow {
 
 impl Plain {
     /// The name of a number, where numbers of this kind have names.
+    ///
+    /// ```
+    /// use linkwire::info::{Place, Style};
+    /// let rows = Place::Bond.rows();
+    /// let Style::Plain(mode) = rows[0].style() else { panic!("a number with names") };
+    /// assert_eq!((mode.name_of(4), mode.name_of(99)), (Some("802.3ad"), None));
+    /// ```
     pub fn name_of(self, number: u64) -> Option<&'static str> {
         match self {
             Plain::Named(_, names) | Plain::BigEndianNamed(_, names) => {
@@ -501,6 +585,8 @@ impl Plain {
 
     /// The names of the bits that are set in a number, where bits of this kind have names; a bit without one is passed
     /// over.
+    ///
+    /// [`Value::members`] has an example.
     pub fn names_of(self, number: u64) -> impl Iterator<Item = &'static str> {
         let names = match self {
             Plain::Flags(_, names) | Plain::BigEndianFlags(_, names) => names,

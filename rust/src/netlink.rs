@@ -3,6 +3,47 @@
 
 /// Makes an enum of messages of links that `NetlinkMessage` of this netlink-packet-core can hold: with
 /// `NetlinkSerializable` and `NetlinkDeserializable`, so that netlink-sys and netlink-proto send and receive it.
+///
+/// ```
+/// # mod netlink_packet_core {
+/// #     pub struct NetlinkHeader {
+/// #         pub message_type: u16,
+/// #         pub flags: u16,
+/// #     }
+/// #     pub enum NetlinkPayload<T> {
+/// #         InnerMessage(T),
+/// #     }
+/// #     pub struct NetlinkMessage<T> {
+/// #         pub header: NetlinkHeader,
+/// #         pub payload: NetlinkPayload<T>,
+/// #     }
+/// #     impl<T: NetlinkSerializable> From<T> for NetlinkMessage<T> {
+/// #         fn from(message: T) -> Self {
+/// #             let header = NetlinkHeader { message_type: message.message_type(), flags: 0 };
+/// #             NetlinkMessage { header, payload: NetlinkPayload::InnerMessage(message) }
+/// #         }
+/// #     }
+/// #     pub trait NetlinkSerializable {
+/// #         fn message_type(&self) -> u16;
+/// #         fn buffer_len(&self) -> usize;
+/// #         fn serialize(&self, buffer: &mut [u8]);
+/// #     }
+/// #     pub trait NetlinkDeserializable: Sized {
+/// #         type Error;
+/// #         fn deserialize(header: &NetlinkHeader, payload: &[u8]) -> Result<Self, Self::Error>;
+/// #     }
+/// # }
+/// linkwire::route_link! {
+///     /// Messages of links.
+///     pub enum RouteLink of netlink_packet_core
+/// }
+///
+/// let packet = RouteLink::packet(linkwire::request::up(7)?)?;
+/// assert_eq!((packet.header.message_type, packet.header.flags), (16, 5));
+/// let message = RouteLink::parse(17, &[0; 16])?;
+/// assert!(matches!(&message, RouteLink::DelLink(_)) && message.link().is_some());
+/// # Ok::<(), Box<dyn std::error::Error>>(())
+/// ```
 #[macro_export]
 macro_rules! route_link {
     ($(#[$attribute:meta])* $visible:vis enum $name:ident of $($core:ident)::+) => {

@@ -16,9 +16,19 @@ pub trait Emitable {
     /// # Panics
     ///
     /// Where the value does not fit: an attribute holds at most 65531 bytes.
+    ///
+    /// ```
+    /// use linkwire::{Emitable, LinkAttribute};
+    /// let attribute = LinkAttribute::Mtu(1500);
+    /// let mut bytes = vec![0; attribute.buffer_len()];
+    /// attribute.emit(&mut bytes);
+    /// assert_eq!(bytes, [8, 0, 4, 0, 0xdc, 5, 0, 0]);
+    /// ```
     fn buffer_len(&self) -> usize;
 
     /// Writes the text to the front of the buffer.
+    ///
+    /// [`buffer_len`](Emitable::buffer_len) has an example.
     ///
     /// # Panics
     ///
@@ -33,6 +43,13 @@ pub trait Parseable<T: ?Sized>: Sized {
     /// # Errors
     ///
     /// The first fault, front to back.
+    ///
+    /// ```
+    /// use linkwire::{LinkXdp, NlaBuffer, Parseable};
+    /// let frame = NlaBuffer::new_checked(&[5, 0, 2, 0, 1])?;
+    /// assert_eq!(LinkXdp::parse(&frame)?, LinkXdp::Attached(1.try_into()?));
+    /// # Ok::<(), linkwire::DecodeError>(())
+    /// ```
     fn parse(buf: &T) -> Result<Self, DecodeError>;
 }
 
@@ -43,6 +60,13 @@ pub trait ParseableParametrized<T: ?Sized, P>: Sized {
     /// # Errors
     ///
     /// The first fault, front to back.
+    ///
+    /// ```
+    /// use linkwire::{AddressFamily, LinkAttribute, NlaBuffer, ParseableParametrized};
+    /// let frame = NlaBuffer::new_checked(&[8, 0, 4, 0, 0xdc, 5, 0, 0])?;
+    /// assert_eq!(LinkAttribute::parse_with_param(&frame, AddressFamily::Unspec)?, LinkAttribute::Mtu(1500));
+    /// # Ok::<(), linkwire::DecodeError>(())
+    /// ```
     fn parse_with_param(buf: &T, params: P) -> Result<Self, DecodeError>;
 }
 
@@ -54,12 +78,25 @@ pub trait Nla {
     /// # Panics
     ///
     /// Where the value does not fit: an attribute holds at most 65531 bytes.
+    ///
+    /// ```
+    /// use linkwire::{LinkAttribute, Nla};
+    /// let name = LinkAttribute::IfName("lo".to_string());
+    /// let mut value = vec![0; name.value_len()];
+    /// name.emit_value(&mut value);
+    /// assert_eq!((name.kind(), &value[..]), (3, &b"lo\0"[..]));
+    /// assert!(!name.is_nested() && !name.is_network_byteorder());
+    /// ```
     fn value_len(&self) -> usize;
 
     /// The kind: the number and both flag bits.
+    ///
+    /// [`value_len`](Nla::value_len) has an example.
     fn kind(&self) -> u16;
 
     /// Writes the value into a buffer of exactly its length.
+    ///
+    /// [`value_len`](Nla::value_len) has an example.
     ///
     /// # Panics
     ///
@@ -67,11 +104,15 @@ pub trait Nla {
     fn emit_value(&self, buffer: &mut [u8]);
 
     /// Whether the kind has the bit `NLA_F_NESTED`.
+    ///
+    /// [`value_len`](Nla::value_len) has an example.
     fn is_nested(&self) -> bool {
         self.kind() & NLA_F_NESTED != 0
     }
 
     /// Whether the kind has the bit `NLA_F_NET_BYTEORDER`.
+    ///
+    /// [`value_len`](Nla::value_len) has an example.
     fn is_network_byteorder(&self) -> bool {
         self.kind() & NLA_F_NET_BYTEORDER != 0
     }
@@ -326,6 +367,8 @@ pub struct NlaBuffer<T: AsRef<[u8]>> {
 
 impl<T: AsRef<[u8]>> NlaBuffer<T> {
     /// The frame at the front of these bytes, whatever they are.
+    ///
+    /// [`new_checked`](NlaBuffer::new_checked) and [`set_kind`](NlaBuffer::set_kind) have examples.
     pub fn new(buffer: T) -> NlaBuffer<T> {
         NlaBuffer { buffer }
     }
@@ -335,6 +378,18 @@ impl<T: AsRef<[u8]>> NlaBuffer<T> {
     /// # Errors
     ///
     /// As `check_buffer_length`.
+    ///
+    /// ```
+    /// use linkwire::{Cause, NlaBuffer};
+    /// let bytes = [6, 0, 3, 0x80, b'l', b'o', 0, 0];
+    /// let frame = NlaBuffer::new_checked(&bytes)?;
+    /// assert_eq!((frame.kind(), frame.length(), frame.value_length(), frame.value()), (3, 6, 2, &b"lo"[..]));
+    /// assert!(frame.nested_flag() && !frame.network_byte_order_flag());
+    /// assert_eq!(frame.into_inner(), &bytes);
+    /// let short = NlaBuffer::new(&bytes[..5]).check_buffer_length().unwrap_err();
+    /// assert_eq!(short.cause, Cause::FrameOver { length: 6, left: 5 });
+    /// # Ok::<(), linkwire::DecodeError>(())
+    /// ```
     pub fn new_checked(buffer: T) -> Result<NlaBuffer<T>, DecodeError> {
         let buffer = NlaBuffer::new(buffer);
         buffer.check_buffer_length()?;
@@ -342,6 +397,8 @@ impl<T: AsRef<[u8]>> NlaBuffer<T> {
     }
 
     /// Whether the bytes begin with a frame.
+    ///
+    /// [`new_checked`](NlaBuffer::new_checked) has an example.
     ///
     /// # Errors
     ///
@@ -357,6 +414,8 @@ impl<T: AsRef<[u8]>> NlaBuffer<T> {
     }
 
     /// The bytes.
+    ///
+    /// [`new_checked`](NlaBuffer::new_checked) has an example.
     pub fn into_inner(self) -> T {
         self.buffer
     }
@@ -370,6 +429,8 @@ impl<T: AsRef<[u8]>> NlaBuffer<T> {
 
     /// The number of the attribute: its kind without the two flag bits.
     ///
+    /// [`new_checked`](NlaBuffer::new_checked) has an example.
+    ///
     /// # Panics
     ///
     /// Where there are fewer than four bytes.
@@ -378,6 +439,8 @@ impl<T: AsRef<[u8]>> NlaBuffer<T> {
     }
 
     /// Whether [`NLA_F_NESTED`] is set.
+    ///
+    /// [`new_checked`](NlaBuffer::new_checked) has an example.
     ///
     /// # Panics
     ///
@@ -388,6 +451,8 @@ impl<T: AsRef<[u8]>> NlaBuffer<T> {
 
     /// Whether [`NLA_F_NET_BYTEORDER`] is set.
     ///
+    /// [`new_checked`](NlaBuffer::new_checked) has an example.
+    ///
     /// # Panics
     ///
     /// Where there are fewer than four bytes.
@@ -397,6 +462,8 @@ impl<T: AsRef<[u8]>> NlaBuffer<T> {
 
     /// The length field: the header and the payload, without padding.
     ///
+    /// [`new_checked`](NlaBuffer::new_checked) has an example.
+    ///
     /// # Panics
     ///
     /// Where there are fewer than four bytes.
@@ -405,6 +472,8 @@ impl<T: AsRef<[u8]>> NlaBuffer<T> {
     }
 
     /// The length of the payload.
+    ///
+    /// [`new_checked`](NlaBuffer::new_checked) has an example.
     ///
     /// # Panics
     ///
@@ -436,11 +505,25 @@ impl<T: AsRef<[u8]> + AsMut<[u8]>> NlaBuffer<T> {
     /// # Panics
     ///
     /// Where there are fewer than four bytes.
+    ///
+    /// ```
+    /// use linkwire::NlaBuffer;
+    /// let mut bytes = [0; 6];
+    /// let mut frame = NlaBuffer::new(&mut bytes[..]);
+    /// frame.set_length(6);
+    /// frame.set_kind(3);
+    /// frame.set_nested_flag();
+    /// frame.set_network_byte_order_flag();
+    /// frame.value_mut().copy_from_slice(b"lo");
+    /// assert_eq!(bytes, [6, 0, 3, 0xc0, b'l', b'o']);
+    /// ```
     pub fn set_kind(&mut self, kind: u16) {
         self.set_word(2, kind & NLA_TYPE_MASK);
     }
 
     /// Sets [`NLA_F_NESTED`], and keeps the rest of the kind.
+    ///
+    /// [`set_kind`](NlaBuffer::set_kind) has an example.
     ///
     /// # Panics
     ///
@@ -451,6 +534,8 @@ impl<T: AsRef<[u8]> + AsMut<[u8]>> NlaBuffer<T> {
 
     /// Sets [`NLA_F_NET_BYTEORDER`], and keeps the rest of the kind.
     ///
+    /// [`set_kind`](NlaBuffer::set_kind) has an example.
+    ///
     /// # Panics
     ///
     /// Where there are fewer than four bytes.
@@ -459,6 +544,8 @@ impl<T: AsRef<[u8]> + AsMut<[u8]>> NlaBuffer<T> {
     }
 
     /// Sets the length field.
+    ///
+    /// [`set_kind`](NlaBuffer::set_kind) has an example.
     ///
     /// # Panics
     ///
@@ -476,6 +563,8 @@ fn no_payload(length: usize, len: usize) -> ! {
 impl<'a, T: AsRef<[u8]> + ?Sized> NlaBuffer<&'a T> {
     /// The payload.
     ///
+    /// [`new_checked`](NlaBuffer::new_checked) has an example.
+    ///
     /// # Panics
     ///
     /// Where the length field passes the bytes, or is below four; `new_checked` refuses that.
@@ -490,6 +579,8 @@ impl<'a, T: AsRef<[u8]> + ?Sized> NlaBuffer<&'a T> {
 
 impl<T: AsRef<[u8]> + AsMut<[u8]> + ?Sized> NlaBuffer<&mut T> {
     /// The payload, to be changed.
+    ///
+    /// [`set_kind`](NlaBuffer::set_kind) has an example.
     ///
     /// # Panics
     ///
@@ -518,6 +609,13 @@ pub struct NlasIterator<T> {
 
 impl<T> NlasIterator<T> {
     /// The frames of these bytes.
+    ///
+    /// ```
+    /// use linkwire::NlasIterator;
+    /// let frames: Result<Vec<_>, _> = NlasIterator::new(&[8, 0, 4, 0, 0xdc, 5, 0, 0, 5, 0, 16, 0, 6]).collect();
+    /// assert_eq!(frames?.iter().map(|it| it.kind()).collect::<Vec<_>>(), [4, 16]);
+    /// # Ok::<(), linkwire::DecodeError>(())
+    /// ```
     pub fn new(buffer: T) -> NlasIterator<T> {
         NlasIterator { position: 0, buffer }
     }
@@ -549,6 +647,14 @@ macro_rules! emit {
         /// # Errors
         ///
         /// [`Cause::TooShort`] where the buffer has fewer bytes than the number; it is unchanged then.
+        ///
+        /// ```
+        /// let mut buffer = [0xff; 9];
+        /// linkwire::emit_u16(&mut buffer, 1500)?;
+        /// linkwire::emit_u32(&mut buffer[2..], 7)?;
+        /// assert_eq!(buffer, [0xdc, 5, 7, 0, 0, 0, 0xff, 0xff, 0xff]);
+        /// # Ok::<(), linkwire::DecodeError>(())
+        /// ```
         pub fn $name(buffer: &mut [u8], value: $type) -> Result<(), DecodeError> {
             let bytes = value.to_le_bytes();
             let got = buffer.len();

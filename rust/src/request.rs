@@ -143,12 +143,16 @@ impl Request {
     }
 
     /// The request with one more attribute at its end.
+    ///
+    /// [`packet`](Request::packet) has an example.
     pub fn with(mut self, attribute: LinkAttribute) -> Request {
         self.message.attributes.push(attribute);
         self
     }
 
     /// Whether it can be sent: all names have a length that the kernel takes, and the message fits.
+    ///
+    /// [`packet`](Request::packet) has an example.
     ///
     /// # Errors
     ///
@@ -178,6 +182,15 @@ impl Request {
     /// # Errors
     ///
     /// Where `check` has one.
+    ///
+    /// ```
+    /// use linkwire::{request, LinkAttribute};
+    /// let request = request::mtu(7, 1400)?.with(LinkAttribute::TxQueueLen(100));
+    /// assert_eq!(request.check(), Ok(()));
+    /// let packet = request.packet(1)?;
+    /// assert_eq!((packet.len(), packet[0], packet[4], packet[8]), (16 + 16 + 8 + 8, 48, 16, 1));
+    /// # Ok::<(), request::RequestError>(())
+    /// ```
     pub fn packet(&self, sequence: u32) -> Result<Vec<u8>, RequestError> {
         let len = self.measured()?.checked_add(NLMSG_HDRLEN + HEADER_SIZE).ok_or(RequestError::DoesNotFit)?;
         let in_header = u32::try_from(len).map_err(|_| RequestError::DoesNotFit)?;
@@ -234,6 +247,8 @@ fn asked(mask: &[LinkExtentMask]) -> Option<LinkAttribute> {
 }
 
 /// All links: a dump, with what the mask asks for besides, as the settings of virtual functions.
+///
+/// [`get`] has an example.
 pub fn dump(mask: &[LinkExtentMask]) -> Request {
     let message = LinkMessage { attributes: asked(mask).into_iter().collect(), ..LinkMessage::default() };
     Request { message_type: RTM_GETLINK, flags: NLM_F_REQUEST | NLM_F_DUMP, message }
@@ -244,6 +259,16 @@ pub fn dump(mask: &[LinkExtentMask]) -> Request {
 /// # Errors
 ///
 /// A name that the kernel does not take.
+///
+/// ```
+/// use linkwire::{request, LinkExtentMask};
+/// // ip link show, and ip link show dev eth0
+/// let all = request::dump(&[LinkExtentMask::Vf]);
+/// let one = request::get("eth0", &[LinkExtentMask::Vf])?;
+/// assert_eq!((all.message_type, all.flags), (18, 0x301));
+/// assert_eq!((one.message_type, one.flags, one.message.attributes.len()), (18, 1, 2));
+/// # Ok::<(), request::RequestError>(())
+/// ```
 pub fn get<'a>(link: impl Into<Of<'a>>, mask: &[LinkExtentMask]) -> Result<Request, RequestError> {
     Request::new(RTM_GETLINK, 0, link.into(), asked(mask))
 }
@@ -253,6 +278,16 @@ pub fn get<'a>(link: impl Into<Of<'a>>, mask: &[LinkExtentMask]) -> Result<Reque
 /// # Errors
 ///
 /// A name that the kernel does not take.
+///
+/// ```
+/// use linkwire::{request, LinkAttribute};
+/// // by its name, or by its index
+/// let by_name = request::mtu("eth0", 1400)?;
+/// let by_index = request::mtu(7, 1400)?;
+/// assert_eq!(by_name.message.attributes[1], LinkAttribute::Mtu(1400));
+/// assert_eq!((by_index.message.header.index, by_index.message.attributes.len()), (7, 1));
+/// # Ok::<(), request::RequestError>(())
+/// ```
 pub fn mtu<'a>(link: impl Into<Of<'a>>, mtu: u32) -> Result<Request, RequestError> {
     set(link, LinkAttribute::Mtu(mtu))
 }
@@ -262,6 +297,17 @@ pub fn mtu<'a>(link: impl Into<Of<'a>>, mtu: u32) -> Result<Request, RequestErro
 /// # Errors
 ///
 /// A name that the kernel does not take.
+///
+/// ```
+/// use linkwire::{request, LinkFlags};
+/// // ip link set dev eth0 up, down, and promisc on
+/// let up = request::up("eth0")?;
+/// assert_eq!((up.message.header.flags, up.message.header.change_mask), (LinkFlags::Up, LinkFlags::Up));
+/// assert_eq!(request::down("eth0")?.message.header.flags, LinkFlags::empty());
+/// let promiscuous = request::flags("eth0", LinkFlags::Promisc, LinkFlags::Promisc)?;
+/// assert_eq!(promiscuous.message.header.change_mask, LinkFlags::Promisc);
+/// # Ok::<(), request::RequestError>(())
+/// ```
 pub fn flags<'a>(link: impl Into<Of<'a>>, flags: LinkFlags, mask: LinkFlags) -> Result<Request, RequestError> {
     let mut request = change(link)?;
     request.message.header.flags = flags;
@@ -271,6 +317,8 @@ pub fn flags<'a>(link: impl Into<Of<'a>>, flags: LinkFlags, mask: LinkFlags) -> 
 
 /// The link is set up.
 ///
+/// [`flags`] has an example.
+///
 /// # Errors
 ///
 /// A name that the kernel does not take.
@@ -279,6 +327,8 @@ pub fn up<'a>(link: impl Into<Of<'a>>) -> Result<Request, RequestError> {
 }
 
 /// The link is set down.
+///
+/// [`flags`] has an example.
 ///
 /// # Errors
 ///
@@ -292,11 +342,22 @@ pub fn down<'a>(link: impl Into<Of<'a>>) -> Result<Request, RequestError> {
 /// # Errors
 ///
 /// A name that the kernel does not take.
+///
+/// ```
+/// use linkwire::request::{self, RequestError};
+/// let renamed = request::name(7, "uplink0")?;
+/// assert_eq!(request::name(7, "a name above fifteen"), Err(RequestError::Name));
+/// let alias = request::alias("uplink0", "to the first switch")?;
+/// assert_eq!(request::alias("uplink0", &"a".repeat(256)), Err(RequestError::Alias));
+/// # Ok::<(), RequestError>(())
+/// ```
 pub fn name(index: u32, name: &str) -> Result<Request, RequestError> {
     set(index, if_name(name)?)
 }
 
 /// The alias, as its bytes without a NUL: with one, the kernel refuses an alias of 255 bytes.
+///
+/// [`name`] has an example.
 ///
 /// # Errors
 ///
@@ -310,6 +371,8 @@ pub fn alias<'a>(link: impl Into<Of<'a>>, alias: &str) -> Result<Request, Reques
 
 /// The hardware address.
 ///
+/// [`controller`] has an example.
+///
 /// # Errors
 ///
 /// A name that the kernel does not take.
@@ -322,11 +385,27 @@ pub fn address<'a>(link: impl Into<Of<'a>>, address: &[u8]) -> Result<Request, R
 /// # Errors
 ///
 /// A name that the kernel does not take.
+///
+/// ```
+/// use linkwire::{request, LinkAttribute};
+/// // ip link set dev eth0 master 9, nomaster, address 02:00:00:00:00:01, netns 4711
+/// let port = request::controller("eth0", Some(9))?;
+/// assert_eq!(port.message.attributes[1], LinkAttribute::Controller(9));
+/// assert_eq!(request::controller("eth0", None)?.message.attributes[1], LinkAttribute::Controller(0));
+/// let address = request::address("eth0", &[2, 0, 0, 0, 0, 1])?;
+/// assert_eq!(address.message.attributes[1], LinkAttribute::Address(vec![2, 0, 0, 0, 0, 1]));
+/// let moved = request::namespace_of("eth0", 4711)?;
+/// assert_eq!(moved.message.attributes[1], LinkAttribute::NetNsPid(4711));
+/// assert_eq!(request::namespace("eth0", 3)?.message.attributes[1], LinkAttribute::NetNsFd(3));
+/// # Ok::<(), request::RequestError>(())
+/// ```
 pub fn controller<'a>(link: impl Into<Of<'a>>, index: Option<u32>) -> Result<Request, RequestError> {
     set(link, LinkAttribute::Controller(index.unwrap_or(0)))
 }
 
 /// The link goes to the network namespace of this process.
+///
+/// [`controller`] has an example.
 ///
 /// # Errors
 ///
@@ -336,6 +415,8 @@ pub fn namespace_of<'a>(link: impl Into<Of<'a>>, process: u32) -> Result<Request
 }
 
 /// The link goes to the network namespace that this file descriptor is open on.
+///
+/// [`controller`] has an example.
 ///
 /// # Errors
 ///
@@ -350,6 +431,19 @@ pub fn namespace<'a>(link: impl Into<Of<'a>>, descriptor: i32) -> Result<Request
 /// # Errors
 ///
 /// A name that the kernel does not take.
+///
+/// ```
+/// use linkwire::request;
+/// use linkwire::typed::{BridgeStpState, InfoBridge, InfoData, InfoKind};
+/// // ip link add br0 type bridge, and then stp_state 1
+/// let bridge = request::add("br0", InfoKind::Bridge, None)?;
+/// assert_eq!((bridge.message_type, bridge.flags), (16, 0x605));
+/// let stp = InfoData::Bridge(vec![InfoBridge::StpState(BridgeStpState::Kernel)]);
+/// let change = request::data("br0", InfoKind::Bridge, stp)?;
+/// assert_eq!((change.message_type, change.flags), (16, 5));
+/// assert_eq!(request::delete("br0")?.message_type, 17);
+/// # Ok::<(), request::RequestError>(())
+/// ```
 pub fn add(name: &str, kind: InfoKind, data: Option<InfoData>) -> Result<Request, RequestError> {
     let flags = NLM_F_ACK | NLM_F_CREATE | NLM_F_EXCL;
     let mut info = vec![LinkInfo::from(kind)];
@@ -359,6 +453,8 @@ pub fn add(name: &str, kind: InfoKind, data: Option<InfoData>) -> Result<Request
 
 /// The data of its kind are changed.
 ///
+/// [`add`] has an example.
+///
 /// # Errors
 ///
 /// A name that the kernel does not take.
@@ -367,6 +463,8 @@ pub fn data<'a>(link: impl Into<Of<'a>>, kind: InfoKind, data: InfoData) -> Resu
 }
 
 /// The link is taken away.
+///
+/// [`add`] has an example.
 ///
 /// # Errors
 ///
@@ -380,12 +478,23 @@ pub fn delete<'a>(link: impl Into<Of<'a>>) -> Result<Request, RequestError> {
 /// # Errors
 ///
 /// A name that the kernel does not take.
+///
+/// ```
+/// use linkwire::request;
+/// // ip link property add dev eth0 altname uplink, and del
+/// let add = request::add_names("eth0", &["uplink"])?;
+/// assert_eq!((add.message_type, add.flags), (108, 0xe05));
+/// assert_eq!(request::delete_names("eth0", &["uplink"])?.message_type, 109);
+/// # Ok::<(), request::RequestError>(())
+/// ```
 pub fn add_names<'a>(link: impl Into<Of<'a>>, names: &[&str]) -> Result<Request, RequestError> {
     let flags = NLM_F_ACK | NLM_F_CREATE | NLM_F_EXCL | NLM_F_APPEND;
     names_of(RTM_NEWLINKPROP, flags, link.into(), names)
 }
 
 /// Alternative names are taken away.
+///
+/// [`add_names`] has an example.
 ///
 /// # Errors
 ///

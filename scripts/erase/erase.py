@@ -15,6 +15,7 @@ import tempfile
 
 import contracts
 import derives
+import examples
 import layout
 import memory
 import owed
@@ -67,6 +68,8 @@ class Mode:
         self.memory_names = set()           # functions that fail for memory alone
         self.public = set()                 # names that a user sees
         self.conditions = []                # what calls require that a user sees
+        self.examples = examples.read() if is_crate else {}
+        self.shown = set()                  # the calls that have one, or a link to one
 
     def skips(self, crate, base):
         if base.split(os.sep)[0] in (LAWS if self.is_crate else ()):
@@ -129,6 +132,7 @@ def erase(path, text, crate, mode):
     if mode.is_crate:
         owed.never(s)
         said = owed.told(s, found, mode.public)
+        examples.add(s, said, mode)
         memory.memory(s, mode.memory_names)
         words.docs(s, said)
     derives.derives(s, mode.is_crate)
@@ -269,6 +273,8 @@ def make_all(mode, out):
     make(mode, out)
     if mode.is_crate:
         write(os.path.join(out, "src", "typed", "places.rs"), typed.text())
+        if examples.unused(mode):
+            raise Unknown(f"examples.md: no public call is named {examples.unused(mode)}")
         write(os.path.join(out, "conditions.txt"), "\n".join(sorted(mode.conditions)) + "\n")
 
 

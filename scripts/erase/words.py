@@ -118,12 +118,15 @@ def undocumented(s, item, more):
 
 
 def with_told(found, told):
-    """The paragraph that says what is refused goes under its heading; what is told comes after all."""
+    """The paragraph that says what is refused goes under its heading, a link to an example above the headings; what
+    else is told comes after all."""
     if [] in told:                                      # the mark of a call that returns a Result
         told = [one for one in told if one]
         at = next((n for n, one in enumerate(found) if one[0].startswith("Refuses")), None)
         if at is None:
-            told = [["# Errors"], ["The first fault: its cause, and where it is."]] + told
+            found = found + [["# Errors"], ["The first fault: its cause, and where it is."]]
         else:
             found = found[:at] + [["# Errors"], found[at]] + found[at + 1:]
-    return found + told
+    at = next((n for n, one in enumerate(found) if one[0].startswith("# ")), len(found))
+    links = [one for one in told if one[0].startswith("[")]
+    return found[:at] + links + found[at:] + [one for one in told if one not in links]

@@ -5,6 +5,7 @@ use crate::link_info::read::read;
 use crate::link_info::style::{Row, Style};
 use crate::link_info::value::Value;
 use crate::nla_wire::{DecodeError, NlaBuffer, NlasIterator};
+use alloc::vec::Vec;
 
 /// What a frame says: its row, if its number has one, its kind, and its value.
 #[derive(Clone, Debug, PartialEq, Eq, Hash)]
@@ -23,16 +24,22 @@ impl<'a> Field<'a> {
     }
 
     /// The row of its number, if one has it.
+    ///
+    /// [`Fields::new`](crate::info::Fields::new) has an example.
     pub fn row(&self) -> Option<&'static Row> {
         self.row
     }
 
     /// The whole kind: the number and both flag bits.
+    ///
+    /// [`Fields::new`](crate::info::Fields::new) has an example.
     pub fn kind(&self) -> u16 {
         self.kind
     }
 
     /// Its value, of which the style of its row has bytes.
+    ///
+    /// [`Fields::new`](crate::info::Fields::new) has an example.
     pub fn value(&self) -> Value<'a> {
         self.value
     }
@@ -61,6 +68,19 @@ pub struct Fields<'a> {
 
 impl<'a> Fields<'a> {
     /// The fields of these bytes by the rows of their place.
+    ///
+    /// ```
+    /// use linkwire::info::{Fields, Place, Value, push_field};
+    /// // the id of a vlan, and a number that has no row
+    /// let data = [6, 0, 1, 0, 10, 0, 0, 0, 5, 0, 99, 0, 7, 0, 0, 0];
+    /// let fields: Vec<_> = Fields::new(Place::Vlan.rows(), &data).collect::<Result<_, _>>()?;
+    /// assert_eq!((fields[0].kind(), fields[0].value()), (1, Value::Unsigned(10)));
+    /// assert!(fields[0].row().is_some() && fields[1].row().is_none());
+    /// let mut out = Vec::new();
+    /// push_field(&mut out, &fields[0])?;
+    /// assert_eq!(out, data[..8]);
+    /// # Ok::<(), Box<dyn std::error::Error>>(())
+    /// ```
     pub fn new(rows: &'static [Row], bytes: &'a [u8]) -> Fields<'a> {
         Fields { rows, frames: NlasIterator::new(bytes) }
     }

@@ -189,6 +189,8 @@ impl Info {
     /// Nothing set, of this kind, the text of `IFLA_INFO_KIND`, as `vlan` or `bridge`. A kind that has no table has no
     /// rows.
     ///
+    /// [`Info::list`](crate::info::Info::list) has an example.
+    ///
     /// # Errors
     ///
     /// The first fault: its cause, and where it is.
@@ -203,11 +205,15 @@ impl Info {
     }
 
     /// The kind.
+    ///
+    /// [`Info::list`](crate::info::Info::list) has an example.
     pub fn kind(&self) -> &str {
         self.kind.as_str()
     }
 
     /// The place of the data, by whose rows it is set and read, if the kind has a table.
+    ///
+    /// [`Info::list`](crate::info::Info::list) has an example.
     pub fn place(&self) -> Option<Place> {
         self.place
     }
@@ -241,6 +247,15 @@ impl Info {
     ///
     /// Refuses a name that no row has with `UnknownName`, and a row without flags, or without a flag of one of the
     /// names, with `NotHeld`. After a refusal all is as it was.
+    ///
+    /// ```
+    /// use linkwire::info::{Info, InfoError};
+    /// let mut gre = Info::new("gre")?;
+    /// gre.set_flags("iflags", &["key", "csum"])?;
+    /// assert_eq!(gre.u16("iflags"), Some(0xa000));
+    /// assert_eq!(gre.set_flags("ttl", &["key"]), Err(InfoError::NotHeld));
+    /// # Ok::<(), InfoError>(())
+    /// ```
     pub fn set_flags(&mut self, name: &str, flags: &[&str]) -> Result<(), InfoError> {
         match row_named(self.rows, name) {
             Some(row) => match bits_of(row.2, flags) {
@@ -252,6 +267,8 @@ impl Info {
     }
 
     /// What the attribute of this name was set to.
+    ///
+    /// [`Info::list`](crate::info::Info::list) has an example.
     pub fn value(&self, name: &str) -> Option<Value<'_>> {
         let row = row_named(self.rows, name)?;
         let frame = frame_of(self.frames.as_slice(), row.0)?;
@@ -263,6 +280,17 @@ impl Info {
     /// # Errors
     ///
     /// Refuses data of more than 65531 bytes with `TooLong`.
+    ///
+    /// ```
+    /// use linkwire::info::{Info, Place, Value};
+    /// let mut vlan = Info::new("vlan")?;
+    /// assert_eq!((vlan.kind(), vlan.place()), ("vlan", Some(Place::Vlan)));
+    /// vlan.set("id", 10)?;
+    /// let list = vlan.list()?;
+    /// assert_eq!(list.len(), 2);
+    /// assert_eq!(Info::of(&list)?.value("id"), Some(Value::Unsigned(10)));
+    /// # Ok::<(), linkwire::info::InfoError>(())
+    /// ```
     pub fn list(&self) -> Result<Vec<LinkInfo>, InfoError> {
         if !list_fits(self.frames.as_slice()) {
             return Err(InfoError::TooLong);
@@ -278,6 +306,8 @@ impl Info {
     }
 
     /// The kind and the data that `IFLA_LINKINFO` holds, to be read by name or changed.
+    ///
+    /// [`Info::list`](crate::info::Info::list) has an example.
     ///
     /// # Errors
     ///

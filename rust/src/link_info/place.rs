@@ -165,6 +165,8 @@ fn place_among(kinds: &'static [KindRow], kind: &str) -> Option<Place> {
 
 impl Place {
     /// Where its rows stand in a table of all places.
+    ///
+    /// [`Place::rows`](crate::info::Place::rows) has an example.
     pub fn number(self) -> usize {
         match self {
             Place::Vlan => 0,
@@ -215,12 +217,23 @@ impl Place {
     }
 
     /// Its rows in a table of all places; none where the table is shorter.
+    ///
+    /// [`Place::rows`](crate::info::Place::rows) has an example.
     pub fn rows_in(self, tables: &[&'static [Row]]) -> &'static [Row] {
         let number = self.number();
         if number < tables.len() { tables[number] } else { &[] }
     }
 
     /// Its rows.
+    ///
+    /// ```
+    /// use linkwire::info::{Plain, Place, Size, Style, all_rows};
+    /// let place = Place::of_kind("vlan").unwrap();
+    /// assert_eq!((place, Place::of_slave_kind("bond")), (Place::Vlan, Some(Place::BondSlave)));
+    /// assert_eq!((place.rows()[0].name(), place.rows()[0].style()), ("id", Style::Plain(Plain::Unsigned(Size::Two))));
+    /// assert_eq!((Size::Two.bytes(), Plain::Mac.size()), (2, 6));
+    /// assert_eq!(place.rows_in(&all_rows()), all_rows()[place.number()]);
+    /// ```
     pub fn rows(self) -> &'static [Row] {
         match self {
             Place::Vlan => vlan::VLAN,
@@ -271,17 +284,23 @@ impl Place {
     }
 
     /// The place of the members of `IFLA_INFO_DATA` of links of this kind, the text of `IFLA_INFO_KIND`.
+    ///
+    /// [`Place::rows`](crate::info::Place::rows) has an example.
     pub fn of_kind(kind: &str) -> Option<Place> {
         place_among(KINDS, kind)
     }
 
     /// The place of the members of `IFLA_INFO_SLAVE_DATA` of ports of this kind, the text of `IFLA_INFO_SLAVE_KIND`.
+    ///
+    /// [`Place::rows`](crate::info::Place::rows) has an example.
     pub fn of_slave_kind(kind: &str) -> Option<Place> {
         place_among(SLAVE_KINDS, kind)
     }
 }
 
 /// The rows of all places, in their order.
+///
+/// [`Place::rows`](crate::info::Place::rows) has an example.
 pub fn all_rows() -> Tables {
     [
         Place::Vlan.rows(),

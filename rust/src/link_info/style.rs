@@ -18,6 +18,8 @@ pub enum Size {
 
 impl Size {
     /// The number of bytes.
+    ///
+    /// [`Place::rows`](crate::info::Place::rows) has an example.
     pub fn bytes(self) -> usize {
         match self {
             Size::One => 1,
@@ -60,6 +62,8 @@ pub enum Plain {
 
 impl Plain {
     /// The number of bytes.
+    ///
+    /// [`Place::rows`](crate::info::Place::rows) has an example.
     pub fn size(self) -> usize {
         match self {
             Plain::Unsigned(size) | Plain::BigEndian(size) | Plain::Signed(size) => size.bytes(),

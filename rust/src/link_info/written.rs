@@ -25,6 +25,8 @@ fn push_nla(out: &mut Vec<u8>, nla: &DefaultNla) {
 /// Adds a field as one attribute in canonical encoding: the length and the kind as it was, the payload that the style
 /// of its row gives its value, and zeros up to a multiple of four. A text has one NUL at its end.
 ///
+/// [`Fields::new`](crate::info::Fields::new) has an example.
+///
 /// # Errors
 ///
 /// Refuses a payload of more than 65531 bytes with `TooLong`. After a refusal the output is as it was.
@@ -45,6 +47,14 @@ pub fn push_field(out: &mut Vec<u8>, field: &Field<'_>) -> Result<(), InfoError>
 ///
 /// Refuses bytes that are no whole attributes with `Damaged`, and a payload that would have more than 65531 bytes, as a
 /// text so long without a NUL, with `TooLong`.
+///
+/// ```
+/// use linkwire::info::{Place, rewrite};
+/// // the padding is zero, whatever it was
+/// let data = rewrite(Place::Vlan.rows(), &[6, 0, 1, 0, 10, 0, 0xff, 0xff])?;
+/// assert_eq!(data, [6, 0, 1, 0, 10, 0, 0, 0]);
+/// # Ok::<(), linkwire::info::InfoError>(())
+/// ```
 pub fn rewrite(rows: &'static [Row], bytes: &[u8]) -> Result<Vec<u8>, InfoError> {
     let mut out = Vec::new();
     for item in NlasIterator::new(bytes) {

@@ -288,6 +288,12 @@ macro_rules! variants {
 
 impl LinkAttribute {
     /// Its kind, with both flag bits, and what its value is written from.
+    ///
+    /// ```
+    /// use linkwire::{FlatView, LinkAttribute, View};
+    /// let mtu = LinkAttribute::Mtu(1500);
+    /// assert!(matches!(mtu.view(), (4, View::Flat(FlatView::U32(1500)))));
+    /// ```
     #[cfg_attr(not(debug_assertions), inline(always))]
     pub fn view(&self) -> (u16, View<'_>) {
         macro_rules! viewed {

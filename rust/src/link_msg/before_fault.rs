@@ -29,6 +29,17 @@ impl LinkMessage {
     /// # Errors
     ///
     /// The first fault: its cause, and where it is.
+    ///
+    /// ```
+    /// use linkwire::{Cause, LinkAttribute, LinkMessage};
+    /// // an MTU, an alias that is no UTF-8, and a group
+    /// let mut bytes = vec![0; 16];
+    /// bytes.extend([8, 0, 4, 0, 0xdc, 5, 0, 0, 5, 0, 20, 0, 0xe9, 0, 0, 0, 8, 0, 27, 0, 1, 0, 0, 0]);
+    /// let (message, fault) = LinkMessage::parse_before_fault(&bytes)?;
+    /// assert_eq!(message.attributes, [LinkAttribute::Mtu(1500)]);
+    /// assert_eq!(fault.unwrap().cause, Cause::NotUtf8);
+    /// # Ok::<(), linkwire::DecodeError>(())
+    /// ```
     pub fn parse_before_fault(input: &[u8]) -> Result<(LinkMessage, Option<DecodeError>), DecodeError> {
         let (header, rest) = split_header(input)?;
         let family = header.interface_family;

@@ -35,6 +35,8 @@ impl std::error::Error for CanonError {}
 
 impl CanonError {
     /// The number of the refusal, 1 to 3 in the order of the variants.
+    ///
+    /// [`DecodeError::new`](crate::DecodeError::new) has an example.
     pub fn number(&self) -> u8 {
         match self {
             CanonError::Decode(_) => 1,
@@ -111,6 +113,8 @@ pub const CANONICAL_FORM: u32 = 2;
 
 /// The length of the canonical encoding of what the bytes mean, without memory.
 ///
+/// [`canonical`](crate::canonical) has an example.
+///
 /// # Errors
 ///
 /// Refuses, in this order: `Decode` with the first fault, `DoesNotFit`, `EmptyVfPorts`.
@@ -127,6 +131,18 @@ pub fn canonical_len(input: &[u8]) -> Result<usize, CanonError> {
 /// # Errors
 ///
 /// The first fault: its cause, and where it is.
+///
+/// ```
+/// use linkwire::{canonical, canonical_len, same_message};
+/// // the name "lo" without its NUL, and with it
+/// let mut bytes = vec![0; 16];
+/// bytes.extend([6, 0, 3, 0, b'l', b'o', 0, 0]);
+/// let encoding = canonical(&bytes)?;
+/// assert_eq!(encoding[16..], [7, 0, 3, 0, b'l', b'o', 0, 0]);
+/// assert_eq!(canonical_len(&bytes), Ok(24));
+/// assert_eq!(same_message(&bytes, &encoding), Ok(true));
+/// # Ok::<(), linkwire::CanonError>(())
+/// ```
 pub fn canonical(input: &[u8]) -> Result<Vec<u8>, CanonError> {
     let (header, rest, len, prefix) = measure(input)?;
     let encoding = encoded(&header, rest, len, prefix);
@@ -158,6 +174,8 @@ fn same_spelling(header: &LinkHeader, rest: &[u8], other_header: &LinkHeader, ot
 /// Both have to mean messages that fit and hold no empty list of ports. Refuses as `canonical` does, each refusal of
 /// the first before those of the second. Memory is taken for the two encodings where they have one length, more than
 /// 256 bytes, and one of the messages is not canonical as it is spelled.
+///
+/// [`canonical`](crate::canonical) has an example.
 ///
 /// # Errors
 ///
@@ -223,6 +241,14 @@ impl From<CanonError> for RoomError {
 ///
 /// Refuses as `canonical_len` does, and `NoRoom` exactly where the encoding is longer than the buffer. After a refusal
 /// the buffer is unchanged. The message must not change during the call: it is measured, and written then.
+///
+/// ```
+/// use linkwire::{RoomError, canonical_within};
+/// let mut out = [0xff; 20];
+/// assert_eq!(canonical_within(&[0; 16], &mut out), Ok(16));
+/// assert_eq!(out[14..], [0, 0, 0xff, 0xff, 0xff, 0xff]);
+/// assert_eq!(canonical_within(&[0; 16], &mut out[..9]), Err(RoomError::NoRoom { wanted: 16 }));
+/// ```
 pub fn canonical_within(input: &[u8], out: &mut [u8]) -> Result<usize, RoomError> {
     let (header, rest, len, prefix) = measure(input)?;
     if out.len() < HEADER_SIZE + len {

@@ -128,6 +128,16 @@ impl LinkMessage {
     /// passes the end. Of a message that is shorter than its header the offset is 0. A frame is refused where its value
     /// is, and it is the innermost where its payload is no list, or a list of which no member is refused, as an empty
     /// one. All that stands before it in each list is read.
+    ///
+    /// ```
+    /// use linkwire::LinkMessage;
+    /// // IFLA_PROP_LIST, number 52, with an alternative name, number 53, that is no UTF-8
+    /// let mut bytes = vec![0; 16];
+    /// bytes.extend([12, 0, 52, 0, 5, 0, 53, 0, 0xe9, 0, 0, 0]);
+    /// let path = LinkMessage::fault_path(&bytes).unwrap();
+    /// assert_eq!((path.offset, path.numbers()), (20, &[52, 53][..]));
+    /// assert_eq!(LinkMessage::fault_at(&bytes), Some(20));
+    /// ```
     pub fn fault_path(input: &[u8]) -> Option<FaultPath> {
         let Ok((header, rest)) = split_header(input) else {
             return Some(FaultPath::stray(0));
@@ -139,6 +149,8 @@ impl LinkMessage {
     }
 
     /// Where the fault is that `check` finds, without memory: the offset of `fault_path`.
+    ///
+    /// [`LinkMessage::fault_path`](crate::LinkMessage::fault_path) has an example.
     pub fn fault_at(input: &[u8]) -> Option<usize> {
         match LinkMessage::fault_path(input) {
             Some(path) => Some(path.offset),

@@ -21,6 +21,8 @@ pub struct FaultPath {
 impl FaultPath {
     /// The numbers of the frames at fault, without their two flags, the outermost first: at most four. Bytes that are
     /// no frame have none, so that there is none where they stand in the outermost list, or where the header is short.
+    ///
+    /// [`LinkMessage::fault_path`](crate::LinkMessage::fault_path) has an example.
     pub fn numbers(&self) -> &[u16] {
         &self.numbers[..self.depth.min(MOST_DEPTH)]
     }

@@ -40,6 +40,16 @@ impl LinkHeader {
     /// # Errors
     ///
     /// The first fault: its cause, and where it is.
+    ///
+    /// ```
+    /// use linkwire::{AddressFamily, LinkHeader, LinkMessageBuffer};
+    /// let bytes = [7, 0, 1, 0, 3, 0, 0, 0, 0, 0, 0, 0, 0, 0, 0, 0, 9];
+    /// let header = LinkHeader::parse(&bytes)?;
+    /// assert_eq!((header.interface_family, header.index), (AddressFamily::Bridge, 3));
+    /// let (buffer, rest) = LinkMessageBuffer::read_from_prefix(&bytes)?;
+    /// assert_eq!((buffer.as_bytes(), rest), (&bytes[..16], &[9][..]));
+    /// # Ok::<(), linkwire::DecodeError>(())
+    /// ```
     #[cfg_attr(not(debug_assertions), inline(always))]
     pub fn parse(bytes: &[u8]) -> Result<LinkHeader, DecodeError> {
         if bytes.len() < HEADER_SIZE {
@@ -93,12 +103,16 @@ impl From<&LinkHeader> for LinkMessageBuffer {
 
 impl LinkMessageBuffer {
     /// The bytes.
+    ///
+    /// [`LinkHeader::parse`](crate::LinkHeader::parse) has an example.
     pub fn as_bytes(&self) -> &[u8] {
         &self.bytes
     }
 
     /// The first 16 bytes as they are, and the rest, which is the part of `bytes` that begins after them; or
     /// `TooShort`.
+    ///
+    /// [`LinkHeader::parse`](crate::LinkHeader::parse) has an example.
     ///
     /// # Errors
     ///

@@ -89,6 +89,8 @@ impl LinkMessage {
     /// Reads a message leniently: a header of 16 bytes, and attributes under its family, of which each that `parse`
     /// refuses is kept whole as `Other`.
     ///
+    /// [`LinkMessage::refusals`](crate::LinkMessage::refusals) has an example.
+    ///
     /// # Errors
     ///
     /// Refuses `TooShort` below 16 bytes, or where bytes are no frame, with the cause of the first such fault.

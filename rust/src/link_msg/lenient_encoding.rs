@@ -96,6 +96,8 @@ fn within_kept(input: &[u8], out: &mut [u8]) -> Result<usize, RoomError> {
 /// Writes what the bytes mean leniently, in canonical encoding, to the front of a buffer of any size, without memory,
 /// and returns its length. The rest of the buffer is kept.
 ///
+/// [`canonical_within`](crate::canonical_within) has an example.
+///
 /// # Errors
 ///
 /// Refuses as `canonical_lenient_len` does, and `NoRoom` exactly where the encoding is longer than the buffer. After a
@@ -131,6 +133,17 @@ fn canonical_kept(input: &[u8]) -> Result<Vec<u8>, CanonError> {
 /// # Errors
 ///
 /// The first fault: its cause, and where it is.
+///
+/// ```
+/// use linkwire::{canonical, canonical_lenient, canonical_lenient_len};
+/// // an alias that is no UTF-8: it is kept
+/// let mut bytes = vec![0; 16];
+/// bytes.extend([5, 0, 20, 0, 0xe9, 0, 0, 0]);
+/// assert!(canonical(&bytes).is_err());
+/// assert_eq!(canonical_lenient(&bytes)?, bytes);
+/// assert_eq!(canonical_lenient_len(&bytes), Ok(24));
+/// # Ok::<(), linkwire::CanonError>(())
+/// ```
 pub fn canonical_lenient(input: &[u8]) -> Result<Vec<u8>, CanonError> {
     match canonical(input) {
         Ok(encoding) => Ok(encoding),
@@ -149,6 +162,8 @@ fn len_kept(input: &[u8]) -> Result<usize, CanonError> {
 }
 
 /// The length of the canonical encoding of what the bytes mean leniently, without memory.
+///
+/// [`canonical_lenient`](crate::canonical_lenient) has an example.
 ///
 /// # Errors
 ///

@@ -42,6 +42,18 @@ pub(crate) fn check_attributes(rest: &[u8], family: AddressFamily) -> Result<(),
 
 impl LinkMessage {
     /// The message with the default header and no attributes. It takes no memory.
+    ///
+    /// ```
+    /// use linkwire::{CanonError, LinkAttribute, LinkMessage};
+    /// let mut message = LinkMessage::new();
+    /// message.attributes.push(LinkAttribute::IfAlias("up".to_string()));
+    /// assert!(message.fits() && message.reads_back());
+    /// assert_eq!(message.to_vec()?.len(), 16 + 8);
+    /// message.attributes.push(LinkAttribute::VfPorts(Vec::new()));
+    /// assert!(message.has_empty_ports());
+    /// assert_eq!(message.to_vec(), Err(CanonError::EmptyVfPorts));
+    /// # Ok::<(), CanonError>(())
+    /// ```
     pub fn new() -> LinkMessage {
         LinkMessage { header: LinkHeader::default(), attributes: Vec::new() }
     }
@@ -54,6 +66,18 @@ impl LinkMessage {
     /// the next attribute. Four times the number of attributes, at all levels, is at most the number of bytes after the
     /// header; their canonical encoding is at most 79 times as long; and what was read from at most 839 bytes after the
     /// header fits.
+    ///
+    /// ```
+    /// use linkwire::{Cause, LinkAttribute, LinkMessage};
+    /// // a header, and an MTU of 1500
+    /// let mut bytes = vec![0; 16];
+    /// bytes.extend([8, 0, 4, 0, 0xdc, 5, 0, 0]);
+    /// assert_eq!(LinkMessage::check(&bytes), Ok(()));
+    /// assert_eq!(LinkMessage::parse(&bytes)?.attributes, [LinkAttribute::Mtu(1500)]);
+    /// let fault = LinkMessage::parse(&bytes[..23]).unwrap_err();
+    /// assert_eq!(fault.cause, Cause::FrameOver { length: 8, left: 7 });
+    /// # Ok::<(), linkwire::DecodeError>(())
+    /// ```
     pub fn parse(input: &[u8]) -> Result<LinkMessage, DecodeError> {
         LinkMessage::parse_input(input)
     }
@@ -68,6 +92,8 @@ impl LinkMessage {
     }
 
     /// Whether the bytes are a message: `Ok` exactly where `parse` reads one, else the first fault. It takes no memory.
+    ///
+    /// [`LinkMessage::parse`](crate::LinkMessage::parse) has an example.
     ///
     /// # Errors
     ///
@@ -93,6 +119,8 @@ impl LinkMessage {
     }
 
     /// Whether each attribute fits, and the length of the encoding is a `usize`.
+    ///
+    /// [`LinkMessage::new`](crate::LinkMessage::new) has an example.
     pub fn fits(&self) -> bool {
         self.measured().is_some()
     }
@@ -121,6 +149,8 @@ impl LinkMessage {
 
     /// Whether some attribute is an empty list of ports. It is read, it fits, and `emit` writes it; but it has no
     /// canonical encoding, so that `canonical` and `to_vec` refuse its message.
+    ///
+    /// [`LinkMessage::new`](crate::LinkMessage::new) has an example.
     pub fn has_empty_ports(&self) -> bool {
         for attribute in self.attributes.as_slice() {
             if attribute.is_empty_ports() {

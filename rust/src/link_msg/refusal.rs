@@ -22,12 +22,16 @@ pub struct Refusal<'a> {
 
 impl<'a> Refusal<'a> {
     /// How many bytes of the message stand before the attribute, or before the bytes that are no frame.
+    ///
+    /// [`LinkMessage::refusals`](crate::LinkMessage::refusals) has an example.
     pub fn offset(&self) -> usize {
         self.offset
     }
 
     /// The kind of the attribute, its number and both flag bits, and its payload, as they are kept. `None` where the
     /// bytes are no frame.
+    ///
+    /// [`LinkMessage::refusals`](crate::LinkMessage::refusals) has an example.
     pub fn attribute(&self) -> Option<(u16, &'a [u8])> {
         match &self.frame {
             Some(frame) => Some((frame.kind_with_flags(), frame.value())),
@@ -36,12 +40,16 @@ impl<'a> Refusal<'a> {
     }
 
     /// Why it is refused.
+    ///
+    /// [`LinkMessage::refusals`](crate::LinkMessage::refusals) has an example.
     pub fn error(&self) -> DecodeError {
         self.error
     }
 
     /// Where its fault is, as `LinkMessage::fault_path` tells that of a message in which all attributes before it are
     /// accepted.
+    ///
+    /// [`LinkMessage::fault_path`](crate::LinkMessage::fault_path) has an example.
     pub fn path(&self) -> FaultPath {
         self.path
     }
@@ -104,12 +112,29 @@ impl LinkMessage {
     /// # Errors
     ///
     /// Refuses `TooShort` below 16 bytes, as `parse_lenient` does.
+    ///
+    /// ```
+    /// use linkwire::{Cause, LinkAttribute, LinkMessage};
+    /// // an alias that is no UTF-8, and a group
+    /// let mut bytes = vec![0; 16];
+    /// bytes.extend([5, 0, 20, 0, 0xe9, 0, 0, 0, 8, 0, 27, 0, 1, 0, 0, 0]);
+    /// let message = LinkMessage::parse_lenient(&bytes)?;
+    /// assert!(matches!(message.attributes[..], [LinkAttribute::Other(_), LinkAttribute::Group(1)]));
+    /// for refusal in LinkMessage::refusals(&bytes)? {
+    ///     assert_eq!((refusal.offset(), refusal.error().cause), (16, Cause::NotUtf8));
+    ///     assert_eq!(refusal.attribute(), Some((20, &[0xe9][..])));
+    /// }
+    /// assert_eq!(LinkMessage::refusals_from(&bytes, 24)?.count(), 0);
+    /// # Ok::<(), linkwire::DecodeError>(())
+    /// ```
     pub fn refusals(input: &[u8]) -> Result<Refusals<'_>, DecodeError> {
         let (header, _rest) = split_header(input)?;
         Ok(refusals_at(input, HEADER_SIZE, header.interface_family))
     }
 
     /// The same of the attributes from an offset on, at which one starts, or of all where it is below 16.
+    ///
+    /// [`LinkMessage::refusals`](crate::LinkMessage::refusals) has an example.
     ///
     /// # Errors
     ///

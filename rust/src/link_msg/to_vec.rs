@@ -17,6 +17,8 @@ impl LinkMessage {
 
     /// The canonical encoding, in memory that is taken once.
     ///
+    /// [`LinkMessage::new`](crate::LinkMessage::new) has an example.
+    ///
     /// # Errors
     ///
     /// Refuses, in this order: `DoesNotFit`, `EmptyVfPorts`.
@@ -36,6 +38,8 @@ impl LinkMessage {
     /// Of a message that was built it can be otherwise: a list is empty that must not be, an attribute holds what is
     /// read under another family, or `Other` holds a frame with the number of a listed attribute. The encoding is
     /// written and read, in memory that is given back.
+    ///
+    /// [`LinkMessage::new`](crate::LinkMessage::new) has an example.
     ///
     /// # Errors
     ///

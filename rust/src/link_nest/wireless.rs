@@ -56,6 +56,14 @@ impl WirelessEvent {
     /// # Errors
     ///
     /// Refuses a payload of fewer than 8 bytes with `TooShort`.
+    ///
+    /// ```
+    /// use linkwire::WirelessEvent;
+    /// let event = WirelessEvent::parse(&[12, 0, 1, 0x8b, 1, 2, 3, 4, 0, 0, 0, 0])?;
+    /// assert!(matches!(event, WirelessEvent::Other(_)) && event.fits());
+    /// assert!(WirelessEvent::check(&[]).is_err());
+    /// # Ok::<(), linkwire::DecodeError>(())
+    /// ```
     pub fn parse(payload: &[u8]) -> Result<WirelessEvent, DecodeError> {
         if payload.len() < HEADER_LEN {
             return Err(too_short(payload.len(), HEADER_LEN));
@@ -76,6 +84,8 @@ impl WirelessEvent {
     }
 
     /// Whether a payload is an event, with no memory taken: `Ok` where `parse` reads it, else `TooShort`.
+    ///
+    /// [`WirelessEvent::parse`](crate::WirelessEvent::parse) has an example.
     ///
     /// # Errors
     ///
@@ -114,6 +124,8 @@ impl WirelessEvent {
     }
 
     /// Whether the encoding has at most 65531 bytes.
+    ///
+    /// [`WirelessEvent::parse`](crate::WirelessEvent::parse) has an example.
     pub fn fits(&self) -> bool {
         match self {
             WirelessEvent::AssociateRequest(bytes) => bytes.len() <= MOST_VALUE_LEN - HEADER_LEN,

@@ -135,6 +135,8 @@ impl InetDevConf {
     }
 
     /// The fields, in their order.
+    ///
+    /// [`Stats64::parse`](crate::Stats64::parse) has an example.
     #[cfg_attr(not(debug_assertions), inline(always))]
     pub fn words(&self) -> [i32; INET_DEV_CONF_COUNT] {
         [
@@ -193,11 +195,15 @@ impl PlainRecord<INET_DEV_CONF_SIZE> for InetDevConf {}
 
 impl InetDevConf {
     /// Reads a record from the front of the payload, as if zeros followed it. Nothing is refused.
+    ///
+    /// [`Stats64::parse`](crate::Stats64::parse) has an example.
     pub fn read_padded(payload: &[u8]) -> InetDevConf {
         InetDevConf::read(payload)
     }
 
     /// Reads a record from the front of the payload. A payload of fewer than 136 bytes is refused with `TooShort`.
+    ///
+    /// [`Stats64::parse`](crate::Stats64::parse) has an example.
     ///
     /// # Errors
     ///
@@ -228,6 +234,13 @@ impl InetDevConf {
     /// # Panics
     ///
     /// Where `number` is 0, or `number` is above 34.
+    ///
+    /// ```
+    /// use linkwire::InetDevConf;
+    /// let settings = InetDevConf { forwarding: 1, ..InetDevConf::default() };
+    /// // IPV4_DEVCONF_FORWARDING
+    /// assert_eq!(settings.setting(1), 1);
+    /// ```
     pub fn setting(&self, number: usize) -> i32 {
         assert!(number >= 1, "there is no setting 0: they count from 1");
         assert!(number <= INET_DEV_CONF_COUNT, "there is no setting {number}: the last is 34");

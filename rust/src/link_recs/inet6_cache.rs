@@ -36,6 +36,8 @@ impl Inet6CacheInfo {
     }
 
     /// The fields, in their order.
+    ///
+    /// [`Stats64::parse`](crate::Stats64::parse) has an example.
     #[cfg_attr(not(debug_assertions), inline(always))]
     pub fn words(&self) -> [i32; INET6_CACHE_INFO_COUNT] {
         [self.max_reasm_len, self.tstamp, self.reachable_time, self.retrans_time]
@@ -59,6 +61,8 @@ impl PlainRecord<INET6_CACHE_INFO_SIZE> for Inet6CacheInfo {}
 
 impl Inet6CacheInfo {
     /// Reads a record from the front of the payload. A payload of fewer than 16 bytes is refused with `TooShort`.
+    ///
+    /// [`Stats64::parse`](crate::Stats64::parse) has an example.
     ///
     /// # Errors
     ///

@@ -210,6 +210,8 @@ impl Inet6DevConf {
     }
 
     /// The fields, in their order.
+    ///
+    /// [`Stats64::parse`](crate::Stats64::parse) has an example.
     #[cfg_attr(not(debug_assertions), inline(always))]
     pub fn words(&self) -> [i32; INET6_DEV_CONF_COUNT] {
         [
@@ -294,11 +296,15 @@ impl PlainRecord<INET6_DEV_CONF_SIZE> for Inet6DevConf {}
 
 impl Inet6DevConf {
     /// Reads a record from the front of the payload, as if zeros followed it. Nothing is refused.
+    ///
+    /// [`Stats64::parse`](crate::Stats64::parse) has an example.
     pub fn read_padded(payload: &[u8]) -> Inet6DevConf {
         Inet6DevConf::read(payload)
     }
 
     /// Reads a record from the front of the payload. A payload of fewer than 240 bytes is refused with `TooShort`.
+    ///
+    /// [`Stats64::parse`](crate::Stats64::parse) has an example.
     ///
     /// # Errors
     ///

@@ -50,6 +50,8 @@ impl Icmp6Stats {
     }
 
     /// The fields, in their order.
+    ///
+    /// [`Stats64::parse`](crate::Stats64::parse) has an example.
     #[cfg_attr(not(debug_assertions), inline(always))]
     pub fn words(&self) -> [i64; ICMP6_STATS_COUNT] {
         [self.num, self.in_msgs, self.in_errors, self.out_msgs, self.out_errors, self.csum_errors, self.rate_limit_host]
@@ -73,11 +75,15 @@ impl PlainRecord<ICMP6_STATS_SIZE> for Icmp6Stats {}
 
 impl Icmp6Stats {
     /// Reads a record from the front of the payload, as if zeros followed it. Nothing is refused.
+    ///
+    /// [`Stats64::parse`](crate::Stats64::parse) has an example.
     pub fn read_padded(payload: &[u8]) -> Icmp6Stats {
         Icmp6Stats::read(payload)
     }
 
     /// Reads a record from the front of the payload. A payload of fewer than 56 bytes is refused with `TooShort`.
+    ///
+    /// [`Stats64::parse`](crate::Stats64::parse) has an example.
     ///
     /// # Errors
     ///

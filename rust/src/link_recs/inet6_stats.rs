@@ -150,6 +150,8 @@ impl Inet6Stats {
     }
 
     /// The fields, in their order.
+    ///
+    /// [`Stats64::parse`](crate::Stats64::parse) has an example.
     #[cfg_attr(not(debug_assertions), inline(always))]
     pub fn words(&self) -> [i64; INET6_STATS_COUNT] {
         [
@@ -201,6 +203,14 @@ impl Inet6Stats {
     ///
     /// The order of that kernel's IPSTATS_MIB_* (linux/snmp.h): after `in_delivers` come the four counters of packets
     /// by ECN, then `out_requests`, `out_pkts`, `out_octets` and `out_forw_datagrams`, and the others as they were.
+    ///
+    /// ```
+    /// use linkwire::Inet6Stats;
+    /// // the fifth counter is of packets that were forwarded, and since 6.16 of those without a mark of congestion
+    /// let stats = Inet6Stats::read_padded(&[[0; 32], [5; 32]].concat());
+    /// let newer = stats.since_6_16();
+    /// assert_eq!(newer.in_no_ect_pkts, stats.out_forw_datagrams);
+    /// ```
     pub fn since_6_16(&self) -> Inet6Stats {
         let words = self.words();
         Inet6Stats::from_words([
@@ -230,11 +240,15 @@ impl PlainRecord<INET6_STATS_SIZE> for Inet6Stats {}
 
 impl Inet6Stats {
     /// Reads a record from the front of the payload, as if zeros followed it. Nothing is refused.
+    ///
+    /// [`Stats64::parse`](crate::Stats64::parse) has an example.
     pub fn read_padded(payload: &[u8]) -> Inet6Stats {
         Inet6Stats::read(payload)
     }
 
     /// Reads a record from the front of the payload. A payload of fewer than 312 bytes is refused with `TooShort`.
+    ///
+    /// [`Stats64::parse`](crate::Stats64::parse) has an example.
     ///
     /// # Errors
     ///

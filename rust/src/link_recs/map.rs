@@ -54,6 +54,8 @@ impl Record<MAP_SIZE> for Map {
 impl Map {
     /// Reads a record from the front of the payload. A payload of fewer than 32 bytes is refused with `TooShort`.
     ///
+    /// [`Stats64::parse`](crate::Stats64::parse) has an example.
+    ///
     /// # Errors
     ///
     /// The first fault: its cause, and where it is.

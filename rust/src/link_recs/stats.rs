@@ -101,6 +101,8 @@ impl Stats {
     }
 
     /// The fields, in their order.
+    ///
+    /// [`Stats64::parse`](crate::Stats64::parse) has an example.
     #[cfg_attr(not(debug_assertions), inline(always))]
     pub fn words(&self) -> [u32; STATS_COUNT] {
         [
@@ -149,11 +151,15 @@ impl PlainRecord<STATS_SIZE> for Stats {}
 
 impl Stats {
     /// Reads a record from the front of the payload, as if zeros followed it. Nothing is refused.
+    ///
+    /// [`Stats64::parse`](crate::Stats64::parse) has an example.
     pub fn read_padded(payload: &[u8]) -> Stats {
         Stats::read(payload)
     }
 
     /// Reads a record from the front of the payload, as if zeros followed it. It never fails.
+    ///
+    /// [`Stats64::parse`](crate::Stats64::parse) has an example.
     ///
     /// # Errors
     ///

@@ -104,6 +104,8 @@ impl Stats64 {
     }
 
     /// The fields, in their order.
+    ///
+    /// [`Stats64::parse`](crate::Stats64::parse) has an example.
     #[cfg_attr(not(debug_assertions), inline(always))]
     pub fn words(&self) -> [u64; STATS64_COUNT] {
         [
@@ -153,6 +155,8 @@ impl PlainRecord<STATS64_SIZE> for Stats64 {}
 
 impl Stats64 {
     /// Reads a record from the front of the payload, as if zeros followed it. Nothing is refused.
+    ///
+    /// [`Stats64::parse`](crate::Stats64::parse) has an example.
     pub fn read_padded(payload: &[u8]) -> Stats64 {
         Stats64::read(payload)
     }
@@ -162,6 +166,16 @@ impl Stats64 {
     /// # Errors
     ///
     /// The first fault: its cause, and where it is.
+    ///
+    /// ```
+    /// use linkwire::Stats64;
+    /// // the counters of an older kernel: those that it has not are 0
+    /// let stats = Stats64::parse(&[7, 0, 0, 0, 0, 0, 0, 0])?;
+    /// assert_eq!((stats.rx_packets, stats.tx_packets), (7, 0));
+    /// assert_eq!(Stats64::read_padded(&[7]), stats);
+    /// assert_eq!(stats.words()[..2], [7, 0]);
+    /// # Ok::<(), linkwire::DecodeError>(())
+    /// ```
     pub fn parse(payload: &[u8]) -> Result<Stats64, DecodeError> {
         Stats64::parse_filled(payload)
     }

@@ -30,6 +30,8 @@ fn clear_message(encoding: &mut [u8]) {
 /// Writes the state encoding of what the bytes mean to the front of a buffer of any size, without memory, and returns
 /// its length, which is that of the canonical encoding. The rest of the buffer is kept.
 ///
+/// [`canonical_within`](crate::canonical_within) has an example.
+///
 /// # Errors
 ///
 /// Refuses as `canonical_within` does, and with its causes: a fault, `DoesNotFit` and `EmptyVfPorts`, and `NoRoom`
@@ -59,6 +61,19 @@ pub fn state_into(input: &[u8], out: &mut [u8]) -> Result<usize, CanonError> {
 /// # Errors
 ///
 /// Refuses as `canonical` does.
+///
+/// ```
+/// use linkwire::{same_message, same_state, state, state_lenient};
+/// // IFLA_CARRIER_CHANGES counts by itself, an MTU does not
+/// let message = |changes, mtu| [vec![0; 16], vec![8, 0, 35, 0, changes, 0, 0, 0, 8, 0, 4, 0, mtu, 5, 0, 0]].concat();
+/// assert_eq!(same_message(&message(1, 0), &message(2, 0)), Ok(false));
+/// assert_eq!(same_state(&message(1, 0), &message(2, 0)), Ok(true));
+/// assert_eq!(same_state(&message(1, 0), &message(1, 1)), Ok(false));
+/// assert_eq!(state(&message(1, 0))?, message(0, 0));
+/// assert_eq!(state_lenient(&message(1, 0))?, message(0, 0));
+/// assert_eq!(linkwire::state_lenient_len(&message(1, 0)), Ok(32));
+/// # Ok::<(), linkwire::CanonError>(())
+/// ```
 pub fn state(input: &[u8]) -> Result<Vec<u8>, CanonError> {
     let mut encoding = canonical(input)?;
     clear_message(encoding.as_mut_slice());
@@ -66,6 +81,8 @@ pub fn state(input: &[u8]) -> Result<Vec<u8>, CanonError> {
 }
 
 /// Whether what two byte strings mean has one state encoding.
+///
+/// [`state`](crate::state) has an example.
 ///
 /// # Errors
 ///
@@ -81,6 +98,8 @@ pub fn same_state(first: &[u8], second: &[u8]) -> Result<bool, CanonError> {
 ///
 /// Attributes that are kept raw because they are refused are cleared as others of their number are, in a list as far as
 /// its first fault. Refuses as `canonical_lenient_within` does. After a refusal the buffer is unchanged.
+///
+/// [`canonical_within`](crate::canonical_within) has an example.
 ///
 /// # Errors
 ///
@@ -107,6 +126,8 @@ pub fn state_lenient_into(input: &[u8], out: &mut [u8]) -> Result<usize, CanonEr
 /// The length of the state encoding of what the bytes mean leniently, which is that of the lenient canonical encoding,
 /// without memory.
 ///
+/// [`state`](crate::state) has an example.
+///
 /// # Errors
 ///
 /// Refuses as `canonical_lenient_len` does.
@@ -116,6 +137,8 @@ pub fn state_lenient_len(input: &[u8]) -> Result<usize, CanonError> {
 
 /// The state encoding of what the bytes mean leniently: their lenient canonical encoding with all that moves by itself
 /// at zero. Where `state` has an encoding, this is it.
+///
+/// [`state`](crate::state) has an example.
 ///
 /// # Errors
 ///

@@ -62,6 +62,12 @@ impl LinkEvent {
     /// # Errors
     ///
     /// The first fault: its cause, and where it is.
+    ///
+    /// ```
+    /// use linkwire::LinkEvent;
+    /// assert_eq!(LinkEvent::parse(&[3, 0, 0, 0]), Ok(LinkEvent::BondingFailover));
+    /// assert!(LinkEvent::parse(&[3]).is_err());
+    /// ```
     pub fn parse(payload: &[u8]) -> Result<LinkEvent, DecodeError> {
         Ok(LinkEvent::from(parse_u32(payload)?))
     }

@@ -39,101 +39,141 @@ impl Inet6IfaceFlags {
     ];
 
     /// No bits.
+    ///
+    /// [`LinkFlags::union`](crate::LinkFlags::union) has an example.
     pub fn empty() -> Inet6IfaceFlags {
         Inet6IfaceFlags(0)
     }
 
     /// All 32 bits.
+    ///
+    /// [`LinkFlags::union`](crate::LinkFlags::union) has an example.
     pub fn all() -> Inet6IfaceFlags {
         Inet6IfaceFlags(u32::MAX)
     }
 
     /// The bits as a number.
+    ///
+    /// [`LinkFlags::union`](crate::LinkFlags::union) has an example.
     pub fn bits(&self) -> u32 {
         self.0
     }
 
     /// The value with exactly these bits.
+    ///
+    /// [`LinkFlags::union`](crate::LinkFlags::union) has an example.
     pub fn from_bits_retain(bits: u32) -> Inet6IfaceFlags {
         Inet6IfaceFlags(bits)
     }
 
     /// The value with these bits: always there, since every bit is known.
+    ///
+    /// [`LinkFlags::union`](crate::LinkFlags::union) has an example.
     pub fn from_bits(bits: u32) -> Option<Inet6IfaceFlags> {
         Some(Inet6IfaceFlags(bits))
     }
 
     /// The value with these bits, all of which are kept, since every bit is known.
+    ///
+    /// [`LinkFlags::union`](crate::LinkFlags::union) has an example.
     pub fn from_bits_truncate(bits: u32) -> Inet6IfaceFlags {
         Inet6IfaceFlags(bits)
     }
 
     /// The declared flag of this name, spelled exactly so.
+    ///
+    /// [`LinkFlags::union`](crate::LinkFlags::union) has an example.
     pub fn from_name(name: &str) -> Option<Inet6IfaceFlags> {
         <Inet6IfaceFlags as Flags>::from_name(name)
     }
 
     /// Whether no bit is set.
+    ///
+    /// [`LinkFlags::union`](crate::LinkFlags::union) has an example.
     pub fn is_empty(&self) -> bool {
         self.0 == 0
     }
 
     /// Whether all 32 bits are set.
+    ///
+    /// [`LinkFlags::union`](crate::LinkFlags::union) has an example.
     pub fn is_all(&self) -> bool {
         self.0 == u32::MAX
     }
 
     /// Whether every bit of `other` is set.
+    ///
+    /// [`LinkFlags::union`](crate::LinkFlags::union) has an example.
     pub fn contains(&self, other: Inet6IfaceFlags) -> bool {
         self.0 & other.0 == other.0
     }
 
     /// Whether the two have a bit in common.
+    ///
+    /// [`LinkFlags::union`](crate::LinkFlags::union) has an example.
     pub fn intersects(&self, other: Inet6IfaceFlags) -> bool {
         self.0 & other.0 != 0
     }
 
     /// The bits that either has.
+    ///
+    /// [`LinkFlags::union`](crate::LinkFlags::union) has an example.
     pub fn union(self, other: Inet6IfaceFlags) -> Inet6IfaceFlags {
         Inet6IfaceFlags(self.0 | other.0)
     }
 
     /// The bits that both have.
+    ///
+    /// [`LinkFlags::union`](crate::LinkFlags::union) has an example.
     pub fn intersection(self, other: Inet6IfaceFlags) -> Inet6IfaceFlags {
         Inet6IfaceFlags(self.0 & other.0)
     }
 
     /// The bits of this that `other` has not.
+    ///
+    /// [`LinkFlags::union`](crate::LinkFlags::union) has an example.
     pub fn difference(self, other: Inet6IfaceFlags) -> Inet6IfaceFlags {
         Inet6IfaceFlags(self.0 & !other.0)
     }
 
     /// The bits that exactly one of them has.
+    ///
+    /// [`LinkFlags::union`](crate::LinkFlags::union) has an example.
     pub fn symmetric_difference(self, other: Inet6IfaceFlags) -> Inet6IfaceFlags {
         Inet6IfaceFlags(self.0 ^ other.0)
     }
 
     /// The bits that this has not.
+    ///
+    /// [`LinkFlags::union`](crate::LinkFlags::union) has an example.
     pub fn complement(self) -> Inet6IfaceFlags {
         Inet6IfaceFlags(!self.0)
     }
 
     /// Sets the bits of `other`.
+    ///
+    /// [`LinkFlags::union`](crate::LinkFlags::union) has an example.
     pub fn insert(&mut self, other: Inet6IfaceFlags) {
         self.0 |= other.0;
     }
 
     /// Clears the bits of `other`.
+    ///
+    /// [`LinkFlags::union`](crate::LinkFlags::union) has an example.
     pub fn remove(&mut self, other: Inet6IfaceFlags) {
         self.0 &= !other.0;
     }
 
     /// Flips the bits of `other`.
+    ///
+    /// [`LinkFlags::union`](crate::LinkFlags::union) has an example.
     pub fn toggle(&mut self, other: Inet6IfaceFlags) {
         self.0 ^= other.0;
     }
 
     /// Sets the bits of `other`, or clears them.
+    ///
+    /// [`LinkFlags::union`](crate::LinkFlags::union) has an example.
     pub fn set(&mut self, other: Inet6IfaceFlags, value: bool) {
         *self = if value { *self | other } else { *self - other };
     }

@@ -96,101 +96,158 @@ impl LinkFlags {
     ];
 
     /// No bits.
+    ///
+    /// [`LinkFlags::union`](crate::LinkFlags::union) has an example.
     pub fn empty() -> LinkFlags {
         LinkFlags(0)
     }
 
     /// All 32 bits.
+    ///
+    /// [`LinkFlags::union`](crate::LinkFlags::union) has an example.
     pub fn all() -> LinkFlags {
         LinkFlags(u32::MAX)
     }
 
     /// The bits as a number.
+    ///
+    /// [`LinkFlags::union`](crate::LinkFlags::union) has an example.
     pub fn bits(&self) -> u32 {
         self.0
     }
 
     /// The value with exactly these bits.
+    ///
+    /// [`LinkFlags::union`](crate::LinkFlags::union) has an example.
     pub fn from_bits_retain(bits: u32) -> LinkFlags {
         LinkFlags(bits)
     }
 
     /// The value with these bits: always there, since every bit is known.
+    ///
+    /// [`LinkFlags::union`](crate::LinkFlags::union) has an example.
     pub fn from_bits(bits: u32) -> Option<LinkFlags> {
         Some(LinkFlags(bits))
     }
 
     /// The value with these bits, all of which are kept, since every bit is known.
+    ///
+    /// [`LinkFlags::union`](crate::LinkFlags::union) has an example.
     pub fn from_bits_truncate(bits: u32) -> LinkFlags {
         LinkFlags(bits)
     }
 
     /// The declared flag of this name, spelled exactly so.
+    ///
+    /// [`LinkFlags::union`](crate::LinkFlags::union) has an example.
     pub fn from_name(name: &str) -> Option<LinkFlags> {
         <LinkFlags as Flags>::from_name(name)
     }
 
     /// Whether no bit is set.
+    ///
+    /// [`LinkFlags::union`](crate::LinkFlags::union) has an example.
     pub fn is_empty(&self) -> bool {
         self.0 == 0
     }
 
     /// Whether all 32 bits are set.
+    ///
+    /// [`LinkFlags::union`](crate::LinkFlags::union) has an example.
     pub fn is_all(&self) -> bool {
         self.0 == u32::MAX
     }
 
     /// Whether every bit of `other` is set.
+    ///
+    /// [`LinkFlags::union`](crate::LinkFlags::union) has an example.
     pub fn contains(&self, other: LinkFlags) -> bool {
         self.0 & other.0 == other.0
     }
 
     /// Whether the two have a bit in common.
+    ///
+    /// [`LinkFlags::union`](crate::LinkFlags::union) has an example.
     pub fn intersects(&self, other: LinkFlags) -> bool {
         self.0 & other.0 != 0
     }
 
     /// The bits that either has.
+    ///
+    /// ```
+    /// use linkwire::LinkFlags;
+    /// let mut flags = LinkFlags::Up.union(LinkFlags::Running);
+    /// assert_eq!((flags.bits(), flags == LinkFlags::Up | LinkFlags::Running), (0x41, true));
+    /// assert!(flags.contains(LinkFlags::Up) && flags.intersects(LinkFlags::Up | LinkFlags::Echo));
+    /// assert_eq!(flags.intersection(LinkFlags::Up), flags.difference(LinkFlags::Running));
+    /// flags.insert(LinkFlags::Noarp);
+    /// flags.remove(LinkFlags::Running);
+    /// flags.toggle(LinkFlags::Up);
+    /// flags.set(LinkFlags::Promisc, false);
+    /// assert_eq!(flags, LinkFlags::from_name("Noarp").unwrap());
+    /// assert_eq!(flags.symmetric_difference(flags), LinkFlags::empty());
+    /// assert_eq!(flags.complement() & flags, LinkFlags::default());
+    /// assert!(LinkFlags::empty().is_empty() && LinkFlags::all().is_all());
+    /// // each bit is kept, those without a name too
+    /// assert_eq!(LinkFlags::from_bits_retain(0x8000_0001).bits(), 0x8000_0001);
+    /// assert_eq!(LinkFlags::from_bits_truncate(0x8000_0001), LinkFlags::from_bits(0x8000_0001).unwrap());
+    /// ```
     pub fn union(self, other: LinkFlags) -> LinkFlags {
         LinkFlags(self.0 | other.0)
     }
 
     /// The bits that both have.
+    ///
+    /// [`LinkFlags::union`](crate::LinkFlags::union) has an example.
     pub fn intersection(self, other: LinkFlags) -> LinkFlags {
         LinkFlags(self.0 & other.0)
     }
 
     /// The bits of this that `other` has not.
+    ///
+    /// [`LinkFlags::union`](crate::LinkFlags::union) has an example.
     pub fn difference(self, other: LinkFlags) -> LinkFlags {
         LinkFlags(self.0 & !other.0)
     }
 
     /// The bits that exactly one of them has.
+    ///
+    /// [`LinkFlags::union`](crate::LinkFlags::union) has an example.
     pub fn symmetric_difference(self, other: LinkFlags) -> LinkFlags {
         LinkFlags(self.0 ^ other.0)
     }
 
     /// The bits that this has not.
+    ///
+    /// [`LinkFlags::union`](crate::LinkFlags::union) has an example.
     pub fn complement(self) -> LinkFlags {
         LinkFlags(!self.0)
     }
 
     /// Sets the bits of `other`.
+    ///
+    /// [`LinkFlags::union`](crate::LinkFlags::union) has an example.
     pub fn insert(&mut self, other: LinkFlags) {
         self.0 |= other.0;
     }
 
     /// Clears the bits of `other`.
+    ///
+    /// [`LinkFlags::union`](crate::LinkFlags::union) has an example.
     pub fn remove(&mut self, other: LinkFlags) {
         self.0 &= !other.0;
     }
 
     /// Flips the bits of `other`.
+    ///
+    /// [`LinkFlags::union`](crate::LinkFlags::union) has an example.
     pub fn toggle(&mut self, other: LinkFlags) {
         self.0 ^= other.0;
     }
 
     /// Sets the bits of `other`, or clears them.
+    ///
+    /// [`LinkFlags::union`](crate::LinkFlags::union) has an example.
     pub fn set(&mut self, other: LinkFlags, value: bool) {
         *self = if value { *self | other } else { *self - other };
     }

@@ -24,11 +24,21 @@ impl LinkPhysId {
     /// # Errors
     ///
     /// The first fault: its cause, and where it is.
+    ///
+    /// ```
+    /// use linkwire::LinkPhysId;
+    /// let id = LinkPhysId::parse(&[1, 2, 3])?;
+    /// assert_eq!((id.len, id.id[..4] == [1, 2, 3, 0]), (3, true));
+    /// assert!(id.fits() && !LinkPhysId { len: 33, ..id }.fits());
+    /// # Ok::<(), linkwire::DecodeError>(())
+    /// ```
     pub fn parse(payload: &[u8]) -> Result<LinkPhysId, DecodeError> {
         Ok(LinkPhysId { id: zero_filled_32(payload), len: payload.len().min(32) })
     }
 
     /// Whether `len` is at most 32, so that the id can be written.
+    ///
+    /// [`LinkPhysId::parse`](crate::LinkPhysId::parse) has an example.
     pub fn fits(&self) -> bool {
         self.len <= 32
     }

@@ -30,11 +30,15 @@ impl Record<VF_INFO_BROADCAST_SIZE> for VfInfoBroadcast {
 
 impl VfInfoBroadcast {
     /// The record with these fields: an address is cut to 32 bytes, or zeros follow it.
+    ///
+    /// [`VfInfoMac::new`](crate::VfInfoMac::new) has an example.
     pub fn new(addr: &[u8]) -> VfInfoBroadcast {
         VfInfoBroadcast { addr: zero_filled_32(addr) }
     }
 
     /// Reads a record from the front of the payload. A payload of fewer than 32 bytes is refused with `TooShort`.
+    ///
+    /// [`VfInfoMac::new`](crate::VfInfoMac::new) has an example.
     ///
     /// # Errors
     ///

@@ -35,11 +35,15 @@ impl Record<VF_INFO_GUID_SIZE> for VfInfoGuid {
 
 impl VfInfoGuid {
     /// The record with these fields.
+    ///
+    /// [`VfInfoMac::new`](crate::VfInfoMac::new) has an example.
     pub fn new(vf_id: u32, guid: u64) -> VfInfoGuid {
         VfInfoGuid { vf_id, guid }
     }
 
     /// Reads a record from the front of the payload. A payload of fewer than 16 bytes is refused with `TooShort`.
+    ///
+    /// [`VfInfoMac::new`](crate::VfInfoMac::new) has an example.
     ///
     /// # Errors
     ///

@@ -35,11 +35,15 @@ impl Record<VF_INFO_LINK_STATE_SIZE> for VfInfoLinkState {
 
 impl VfInfoLinkState {
     /// The record with these fields.
+    ///
+    /// [`VfInfoMac::new`](crate::VfInfoMac::new) has an example.
     pub fn new(vf_id: u32, state: VfLinkState) -> VfInfoLinkState {
         VfInfoLinkState { vf_id, state }
     }
 
     /// Reads a record from the front of the payload. A payload of fewer than 8 bytes is refused with `TooShort`.
+    ///
+    /// [`VfInfoMac::new`](crate::VfInfoMac::new) has an example.
     ///
     /// # Errors
     ///

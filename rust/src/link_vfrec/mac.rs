@@ -34,11 +34,22 @@ impl Record<VF_INFO_MAC_SIZE> for VfInfoMac {
 
 impl VfInfoMac {
     /// The record with these fields: an address is cut to 32 bytes, or zeros follow it.
+    ///
+    /// ```
+    /// use linkwire::{Emitable, VfInfoMac};
+    /// let mac = VfInfoMac::new(2, &[2, 0, 0, 0, 0, 1]);
+    /// let mut bytes = vec![0; mac.buffer_len()];
+    /// mac.emit(&mut bytes);
+    /// assert_eq!(bytes[..10], [2, 0, 0, 0, 2, 0, 0, 0, 0, 1]);
+    /// assert_eq!(VfInfoMac::parse(&bytes), Ok(mac));
+    /// ```
     pub fn new(vf_id: u32, mac: &[u8]) -> VfInfoMac {
         VfInfoMac { vf_id, mac: zero_filled_32(mac) }
     }
 
     /// Reads a record from the front of the payload. A payload of fewer than 36 bytes is refused with `TooShort`.
+    ///
+    /// [`VfInfoMac::new`](crate::VfInfoMac::new) has an example.
     ///
     /// # Errors
     ///

@@ -37,11 +37,15 @@ impl Record<VF_INFO_RATE_SIZE> for VfInfoRate {
 
 impl VfInfoRate {
     /// The record with these fields.
+    ///
+    /// [`VfInfoMac::new`](crate::VfInfoMac::new) has an example.
     pub fn new(vf_id: u32, min_tx_rate: u32, max_tx_rate: u32) -> VfInfoRate {
         VfInfoRate { vf_id, min_tx_rate, max_tx_rate }
     }
 
     /// Reads a record from the front of the payload. A payload of fewer than 12 bytes is refused with `TooShort`.
+    ///
+    /// [`VfInfoMac::new`](crate::VfInfoMac::new) has an example.
     ///
     /// # Errors
     ///

@@ -35,11 +35,15 @@ impl Record<VF_INFO_RSS_QUERY_EN_SIZE> for VfInfoRssQueryEn {
 
 impl VfInfoRssQueryEn {
     /// The record with these fields.
+    ///
+    /// [`VfInfoMac::new`](crate::VfInfoMac::new) has an example.
     pub fn new(vf_id: u32, enabled: bool) -> VfInfoRssQueryEn {
         VfInfoRssQueryEn { vf_id, enabled }
     }
 
     /// Reads a record from the front of the payload. A payload of fewer than 8 bytes is refused with `TooShort`.
+    ///
+    /// [`VfInfoMac::new`](crate::VfInfoMac::new) has an example.
     ///
     /// # Errors
     ///

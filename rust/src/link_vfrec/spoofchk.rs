@@ -35,11 +35,15 @@ impl Record<VF_INFO_SPOOF_CHECK_SIZE> for VfInfoSpoofCheck {
 
 impl VfInfoSpoofCheck {
     /// The record with these fields.
+    ///
+    /// [`VfInfoMac::new`](crate::VfInfoMac::new) has an example.
     pub fn new(vf_id: u32, enabled: bool) -> VfInfoSpoofCheck {
         VfInfoSpoofCheck { vf_id, enabled }
     }
 
     /// Reads a record from the front of the payload. A payload of fewer than 8 bytes is refused with `TooShort`.
+    ///
+    /// [`VfInfoMac::new`](crate::VfInfoMac::new) has an example.
     ///
     /// # Errors
     ///

@@ -34,11 +34,15 @@ impl Record<VF_INFO_TX_RATE_SIZE> for VfInfoTxRate {
 
 impl VfInfoTxRate {
     /// The record with these fields.
+    ///
+    /// [`VfInfoMac::new`](crate::VfInfoMac::new) has an example.
     pub fn new(vf_id: u32, rate: u32) -> VfInfoTxRate {
         VfInfoTxRate { vf_id, rate }
     }
 
     /// Reads a record from the front of the payload. A payload of fewer than 8 bytes is refused with `TooShort`.
+    ///
+    /// [`VfInfoMac::new`](crate::VfInfoMac::new) has an example.
     ///
     /// # Errors
     ///

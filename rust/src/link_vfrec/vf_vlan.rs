@@ -48,11 +48,15 @@ impl Record<VF_VLAN_INFO_SIZE> for VfVlanInfo {
 
 impl VfVlanInfo {
     /// The record with these fields.
+    ///
+    /// [`VfInfoMac::new`](crate::VfInfoMac::new) has an example.
     pub fn new(vf_id: u32, vlan_id: u32, qos: u32, protocol: VlanProtocol) -> VfVlanInfo {
         VfVlanInfo { vf_id, vlan_id, qos, protocol }
     }
 
     /// Reads a record from the front of the payload. A payload of fewer than 16 bytes is refused with `TooShort`.
+    ///
+    /// [`VfInfoMac::new`](crate::VfInfoMac::new) has an example.
     ///
     /// # Errors
     ///

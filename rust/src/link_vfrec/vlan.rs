@@ -37,11 +37,15 @@ impl Record<VF_INFO_VLAN_SIZE> for VfInfoVlan {
 
 impl VfInfoVlan {
     /// The record with these fields.
+    ///
+    /// [`VfInfoMac::new`](crate::VfInfoMac::new) has an example.
     pub fn new(vf_id: u32, vlan_id: u32, qos: u32) -> VfInfoVlan {
         VfInfoVlan { vf_id, vlan_id, qos }
     }
 
     /// Reads a record from the front of the payload. A payload of fewer than 12 bytes is refused with `TooShort`.
+    ///
+    /// [`VfInfoMac::new`](crate::VfInfoMac::new) has an example.
     ///
     /// # Errors
     ///

@@ -18,6 +18,13 @@ pub struct DefaultNla {
 
 impl DefaultNla {
     /// The attribute of this kind, flag bits and all, and payload. Any kind is allowed.
+    ///
+    /// ```
+    /// use linkwire::{DefaultNla, LinkAttribute, Nla};
+    /// let kept = DefaultNla::new(0x8064, vec![1, 2]);
+    /// assert_eq!((kept.kind(), kept.is_nested(), kept.value()), (0x8064, true, &[1, 2][..]));
+    /// let attribute = LinkAttribute::Other(kept);
+    /// ```
     pub fn new(kind: u16, value: Vec<u8>) -> DefaultNla {
         DefaultNla { kind, value }
     }
@@ -29,6 +36,8 @@ impl DefaultNla {
     }
 
     /// The payload.
+    ///
+    /// [`DefaultNla::new`](crate::DefaultNla::new) has an example.
     pub fn value(&self) -> &[u8] {
         self.value.as_slice()
     }

@@ -63,6 +63,8 @@ impl std::error::Error for Cause {}
 
 impl Cause {
     /// The number of the cause, 1 to 8 in the order of the variants.
+    ///
+    /// [`DecodeError::new`](crate::DecodeError::new) has an example.
     pub fn number(&self) -> u8 {
         match self {
             Cause::TooShort { .. } => 1,
@@ -106,17 +108,31 @@ impl std::error::Error for DecodeError {}
 
 impl DecodeError {
     /// The fault of this cause at this place.
+    ///
+    /// ```
+    /// use linkwire::{CanonError, Cause, DecodeError};
+    /// let fault = DecodeError::new("IFLA_MTU", Cause::WrongLength { got: 3, want: 4 });
+    /// assert_eq!(fault.to_string(), "IFLA_MTU: 3 bytes where exactly 4 are wanted");
+    /// assert_eq!((fault.number(), fault.cause.number()), (6, 6));
+    /// // the innermost place is kept
+    /// assert_eq!(fault.within("message"), fault);
+    /// assert_eq!(CanonError::Decode(fault).number(), 1);
+    /// ```
     pub fn new(place: &'static str, cause: Cause) -> DecodeError {
         DecodeError { place, cause }
     }
 
     /// The same fault in what has this name, unless its place is known or the name is empty.
+    ///
+    /// [`DecodeError::new`](crate::DecodeError::new) has an example.
     #[cold]
     pub fn within(self, holder: &'static str) -> DecodeError {
         if self.place == PAYLOAD && !holder.is_empty() { DecodeError::new(holder, self.cause) } else { self }
     }
 
     /// The number of the cause.
+    ///
+    /// [`DecodeError::new`](crate::DecodeError::new) has an example.
     pub fn number(&self) -> u8 {
         self.cause.number()
     }

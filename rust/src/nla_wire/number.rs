@@ -17,6 +17,8 @@ fn wrong_length(bytes: &[u8], want: usize) -> DecodeError {
 
 /// Reads a number of one byte, or refuses with `WrongLength`.
 ///
+/// [`parse_u32`](crate::parse_u32) has an example.
+///
 /// # Errors
 ///
 /// The first fault: its cause, and where it is.
@@ -28,6 +30,8 @@ pub fn parse_u8(bytes: &[u8]) -> Result<u8, DecodeError> {
 }
 
 /// Reads a number of two bytes in host order, lowest byte first, or refuses with `WrongLength`.
+///
+/// [`parse_u32`](crate::parse_u32) has an example.
 ///
 /// # Errors
 ///
@@ -44,6 +48,13 @@ pub fn parse_u16(bytes: &[u8]) -> Result<u16, DecodeError> {
 /// # Errors
 ///
 /// The first fault: its cause, and where it is.
+///
+/// ```
+/// use linkwire::{Cause, link};
+/// assert_eq!(link::parse_u32(&[0xdc, 5, 0, 0]), Ok(1500));
+/// assert_eq!(link::parse_i32(&[0xff; 4]), Ok(-1));
+/// assert_eq!(link::parse_u16(&[1]).unwrap_err().cause, Cause::WrongLength { got: 1, want: 2 });
+/// ```
 pub fn parse_u32(bytes: &[u8]) -> Result<u32, DecodeError> {
     if bytes.len() != 4 {
         return Err(wrong_length(bytes, 4));
@@ -52,6 +63,8 @@ pub fn parse_u32(bytes: &[u8]) -> Result<u32, DecodeError> {
 }
 
 /// Reads a number of eight bytes in host order, or refuses with `WrongLength`.
+///
+/// [`parse_u32`](crate::parse_u32) has an example.
 ///
 /// # Errors
 ///
@@ -64,6 +77,8 @@ pub fn parse_u64(bytes: &[u8]) -> Result<u64, DecodeError> {
 }
 
 /// Reads a signed number of four bytes in host order, in two's complement, or refuses with `WrongLength`.
+///
+/// [`parse_u32`](crate::parse_u32) has an example.
 ///
 /// # Errors
 ///
@@ -80,6 +95,13 @@ pub fn parse_i32(bytes: &[u8]) -> Result<i32, DecodeError> {
 /// # Errors
 ///
 /// The first fault: its cause, and where it is.
+///
+/// ```
+/// use linkwire::link::parse_ipv6_addr;
+/// let mut bytes = [0; 16];
+/// bytes[15] = 1;
+/// assert_eq!(parse_ipv6_addr(&bytes), Ok(std::net::Ipv6Addr::LOCALHOST));
+/// ```
 pub fn parse_ipv6_addr(bytes: &[u8]) -> Result<Ipv6Addr, DecodeError> {
     if bytes.len() != 16 {
         return Err(wrong_length(bytes, 16));

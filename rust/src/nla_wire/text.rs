@@ -101,6 +101,14 @@ fn utf8(bytes: &[u8]) -> Option<&str> {
 /// # Errors
 ///
 /// Refuses other bytes with `NotUtf8`.
+///
+/// ```
+/// use linkwire::{Cause, link::parse_string};
+/// assert_eq!(parse_string(b"lo\0")?, "lo");
+/// assert_eq!(parse_string(b"lo")?, "lo");
+/// assert_eq!(parse_string(b"\xe9").unwrap_err().cause, Cause::NotUtf8);
+/// # Ok::<(), linkwire::DecodeError>(())
+/// ```
 #[cfg_attr(not(debug_assertions), inline(always))]
 pub fn parse_string(bytes: &[u8]) -> Result<String, DecodeError> {
     match utf8(without_nul(bytes)) {

@@ -46,6 +46,8 @@ macro_rules! kinds {
 
         impl $kinds {
             /// The text of the kind.
+            ///
+            /// [`InfoKind`] has an example.
             pub fn as_str(&self) -> &str {
                 match self {
                     $($kinds::$kind => $text,)*
@@ -87,6 +89,8 @@ macro_rules! kinds {
         impl $datas {
             /// The data of this kind.
             ///
+            /// [`InfoData`] has an example.
+            ///
             /// # Errors
             ///
             /// Refuses data of a kind with a type that are no whole attributes: the first fault.
@@ -99,6 +103,8 @@ macro_rules! kinds {
 
             /// The payload that they are written as.
             ///
+            /// [`InfoData`] has an example.
+            ///
             /// # Panics
             ///
             /// Where a value does not fit: an attribute holds at most 65531 bytes.
@@ -110,6 +116,8 @@ macro_rules! kinds {
             }
 
             /// The kind that has such data; of `Other` it is not known.
+            ///
+            /// [`InfoData`] has an example.
             pub fn kind(&self) -> Option<$kinds> {
                 match self {
                     $($datas::$data(_) => Some($kinds::$kind),)*
@@ -122,8 +130,26 @@ macro_rules! kinds {
 
 kinds! {
     /// A kind of interface: the text of `IFLA_INFO_KIND`.
+    ///
+    /// ```
+    /// use linkwire::typed::{InfoKind, InfoPortKind};
+    /// let kind = InfoKind::from("vlan");
+    /// assert_eq!((kind.as_str(), kind.to_string()), ("vlan", "vlan".to_string()));
+    /// assert_eq!(InfoKind::from("geneve2"), InfoKind::Other("geneve2".to_string()));
+    /// assert_eq!(InfoPortKind::Bridge.as_str(), "bridge");
+    /// ```
     InfoKind;
     /// The data of a kind of interface: `IFLA_INFO_DATA`.
+    ///
+    /// ```
+    /// use linkwire::typed::{BondPortState, InfoBondPort, InfoData, InfoKind, InfoPortData, InfoPortKind, InfoVlan};
+    /// let vlan = InfoData::parse(&InfoKind::Vlan, &[6, 0, 1, 0, 10, 0, 0, 0])?;
+    /// assert_eq!(vlan, InfoData::Vlan(vec![InfoVlan::Id(10)]));
+    /// assert_eq!((vlan.kind(), vlan.emit()), (Some(InfoKind::Vlan), vec![6, 0, 1, 0, 10, 0, 0, 0]));
+    /// let port = InfoPortData::parse(&InfoPortKind::Bond, &[5, 0, 1, 0, 1, 0, 0, 0])?;
+    /// assert_eq!(port, InfoPortData::BondPort(vec![InfoBondPort::State(BondPortState::Backup)]));
+    /// # Ok::<(), linkwire::DecodeError>(())
+    /// ```
     InfoData;
     Vlan Vlan "vlan" InfoVlan,
     Bond Bond "bond" InfoBond,
@@ -216,6 +242,14 @@ pub enum LinkXstats {
 
 impl LinkXstats {
     /// The counters of this kind.
+    ///
+    /// ```
+    /// use linkwire::typed::{InfoKind, LinkXstats};
+    /// let stats = LinkXstats::parse(&InfoKind::Can, &[1; 24]);
+    /// assert!(matches!(stats, LinkXstats::Can(counters) if counters.bus_error == 0x1010101));
+    /// assert_eq!(stats.emit(), [1; 24]);
+    /// assert_eq!(LinkXstats::parse(&InfoKind::Vlan, &[1]), LinkXstats::Other(vec![1]));
+    /// ```
     pub fn parse(kind: &InfoKind, bytes: &[u8]) -> Self {
         let can = match kind {
             InfoKind::Can | InfoKind::Vcan => parts::record::read::<CanDeviceStats>(bytes),
@@ -225,6 +259,8 @@ impl LinkXstats {
     }
 
     /// The payload that they are written as.
+    ///
+    /// [`parse`](LinkXstats::parse) has an example.
     pub fn emit(&self) -> Vec<u8> {
         let mut out = Vec::new();
         match self {
@@ -236,20 +272,46 @@ impl LinkXstats {
 }
 
 /// What a list of [`LinkInfo`] says, as types.
+///
+/// ```
+/// use linkwire::typed::{BridgePortState, InfoBridgePort, InfoData, InfoKind, InfoPortData, InfoPortKind, InfoVlan};
+/// use linkwire::{LinkInfo, typed::LinkInfos};
+/// let vlan = InfoData::Vlan(vec![InfoVlan::Id(10)]);
+/// let port = InfoPortData::BridgePort(vec![InfoBridgePort::State(BridgePortState::Forwarding)]);
+/// let list = [
+///     LinkInfo::from(InfoKind::Vlan),
+///     LinkInfo::from(vlan.clone()),
+///     LinkInfo::from(InfoPortKind::Bridge),
+///     LinkInfo::from(port.clone()),
+/// ];
+/// assert_eq!((list.info_kind(), list.info_data()), (Some(InfoKind::Vlan), Some(Ok(vlan))));
+/// assert_eq!((list.port_kind(), list.port_data()), (Some(InfoPortKind::Bridge), Some(Ok(port))));
+/// assert_eq!(list.xstats(), None);
+/// ```
 pub trait LinkInfos {
     /// The kind of interface: the first `IFLA_INFO_KIND`.
+    ///
+    /// [The trait](LinkInfos) has an example.
     fn info_kind(&self) -> Option<InfoKind>;
 
     /// The data of that kind: the first `IFLA_INFO_DATA`.
+    ///
+    /// [The trait](LinkInfos) has an example.
     fn info_data(&self) -> Option<Result<InfoData, DecodeError>>;
 
     /// The kind of port: the first `IFLA_INFO_SLAVE_KIND`.
+    ///
+    /// [The trait](LinkInfos) has an example.
     fn port_kind(&self) -> Option<InfoPortKind>;
 
     /// The data of that kind: the first `IFLA_INFO_SLAVE_DATA`.
+    ///
+    /// [The trait](LinkInfos) has an example.
     fn port_data(&self) -> Option<Result<InfoPortData, DecodeError>>;
 
     /// The counters of the kind of interface: the first `IFLA_INFO_XSTATS`.
+    ///
+    /// [The trait](LinkInfos) has an example.
     fn xstats(&self) -> Option<LinkXstats>;
 }
 

@@ -19,6 +19,22 @@
 //! assert_eq!(list.info_kind(), Some(InfoKind::Bond));
 //! assert_eq!(list.info_data(), Some(Ok(data)));
 //! ```
+//!
+//! # Flags
+//!
+//! ```
+//! use linkwire::typed::VlanFlags;
+//! let mut flags = VlanFlags::ReorderHdr | VlanFlags::Gvrp;
+//! assert_eq!((flags.bits(), flags), (3, VlanFlags::ReorderHdr.union(VlanFlags::Gvrp)));
+//! flags.insert(VlanFlags::Mvrp);
+//! flags.remove(VlanFlags::Gvrp);
+//! assert!(flags.contains(VlanFlags::Mvrp) && !flags.is_empty() && flags != VlanFlags::all());
+//! // a bit without a name is kept
+//! let newer = VlanFlags::from_bits_retain(0x81);
+//! assert_eq!(format!("{newer:?}"), "VlanFlags(ReorderHdr | 0x80)");
+//! assert_eq!(VlanFlags::from_bits_truncate(0x81) & newer, VlanFlags::ReorderHdr);
+//! assert_eq!(VlanFlags::empty(), VlanFlags::default());
+//! ```
 
 #[macro_use]
 mod macros;

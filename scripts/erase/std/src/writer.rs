@@ -23,11 +23,15 @@ pub struct Writer<'a> {
 
 impl<'a> Writer<'a> {
     /// A list of attributes that starts at the front of the buffer.
+    ///
+    /// [`put`](Writer::put) has an example.
     pub fn new(buffer: &'a mut [u8]) -> Writer<'a> {
         Writer { bytes: buffer, at: 0 }
     }
 
     /// A message: its header, and the attributes after it.
+    ///
+    /// [`Writer`] has an example.
     ///
     /// # Errors
     ///
@@ -69,6 +73,8 @@ impl<'a> Writer<'a> {
 
     /// Writes an attribute whose payload is the list that `write` writes.
     ///
+    /// [`Writer`] has an example.
+    ///
     /// # Errors
     ///
     /// Those of `write`, with lengths of its own buffer, and those of [`put`](Writer::put). Then no attribute is added,
@@ -91,6 +97,8 @@ impl<'a> Writer<'a> {
     }
 
     /// What was written.
+    ///
+    /// [`Writer`] has an example.
     pub fn finish(self) -> &'a [u8] {
         &self.bytes[..self.at]
     }

@@ -161,51 +161,71 @@ macro_rules! flag_set {
             )*
 
             /// No flag.
+            ///
+            /// [The module](crate::typed#flags) has an example.
             pub const fn empty() -> Self {
                 $name(0)
             }
 
             /// All flags that have a name.
+            ///
+            /// [The module](crate::typed#flags) has an example.
             pub const fn all() -> Self {
                 $name(0 $(| $bit)*)
             }
 
             /// The bits.
+            ///
+            /// [The module](crate::typed#flags) has an example.
             pub const fn bits(self) -> $bits {
                 self.0
             }
 
             /// The set of these bits, those without a name too.
+            ///
+            /// [The module](crate::typed#flags) has an example.
             pub const fn from_bits_retain(bits: $bits) -> Self {
                 $name(bits)
             }
 
             /// The set of those of these bits that have a name.
+            ///
+            /// [The module](crate::typed#flags) has an example.
             pub const fn from_bits_truncate(bits: $bits) -> Self {
                 $name(bits & $name::all().0)
             }
 
             /// Whether it has no flag.
+            ///
+            /// [The module](crate::typed#flags) has an example.
             pub const fn is_empty(self) -> bool {
                 self.0 == 0
             }
 
             /// Whether all of those are in it.
+            ///
+            /// [The module](crate::typed#flags) has an example.
             pub const fn contains(self, other: Self) -> bool {
                 self.0 & other.0 == other.0
             }
 
             /// Adds those.
+            ///
+            /// [The module](crate::typed#flags) has an example.
             pub fn insert(&mut self, other: Self) {
                 self.0 |= other.0;
             }
 
             /// Takes those away.
+            ///
+            /// [The module](crate::typed#flags) has an example.
             pub fn remove(&mut self, other: Self) {
                 self.0 &= !other.0;
             }
 
             /// Those that are in one of both.
+            ///
+            /// [The module](crate::typed#flags) has an example.
             pub const fn union(self, other: Self) -> Self {
                 $name(self.0 | other.0)
             }

@@ -318,6 +318,12 @@ pub struct BridgeIdBuffer([u8; 8]);
 
 impl BridgeIdBuffer {
     /// The bytes.
+    ///
+    /// ```
+    /// use linkwire::link::{BridgeId, BridgeIdBuffer};
+    /// let id = BridgeId { priority: 0x8000, address: [2, 0, 0, 0, 0, 1] };
+    /// assert_eq!(BridgeIdBuffer::from(&id).as_bytes(), [0x80, 0, 2, 0, 0, 0, 0, 1]);
+    /// ```
     pub fn as_bytes(&self) -> &[u8] {
         &self.0
     }

@@ -1,0 +1,48 @@
+"""The examples of examples.md: of each public call its own, or where that of another has it too."""
+import os
+import re
+
+import surface
+from source import counts
+
+PAGE = os.path.join(os.path.dirname(os.path.abspath(__file__)), "examples.md")
+PART = re.compile(r"^## (\S+)\n\n(?:Besides: ([^`]+)\.\n\n)?```rust\n(.*?)\n```$", re.M | re.S)
+
+
+def read():
+    """By the name of a call, without its module: paragraphs of docs."""
+    with open(PAGE, encoding="utf-8") as file:
+        text = file.read()
+    found = {}
+    for name, besides, code in PART.findall(text):
+        put(found, name, ["```", *code.split("\n"), "```"])
+        for other in besides.replace(",", " ").split():
+            put(found, other, [f"[`{short(name)}`](crate::{name}) has an example."])
+    if len(PART.findall(text)) != text.count("\n## "):
+        raise ValueError("examples.md: a part has another form")
+    return found
+
+
+def put(found, name, paragraph):
+    if short(name) in found:
+        raise ValueError(f"examples.md: {name} has two examples")
+    found[short(name)] = paragraph
+
+
+def short(name):
+    return name.removeprefix("info::")
+
+
+def add(s, said, mode):
+    """Puts them below what is said of calls, by the place of their `fn`."""
+    for fn in s.live("fn"):
+        name = surface.public_name(s, fn, mode.public)
+        if name in mode.examples:
+            counts["call with an example, or with a link to one"] += 1
+            said.setdefault(fn, []).append(mode.examples[name])
+            mode.shown.add(name)
+
+
+def unused(mode):
+    """A name that no public call has, or None."""
+    return next(iter(sorted(mode.examples.keys() - mode.shown)), None)
