@@ -28,10 +28,20 @@ where() {
     fi
 }
 
+# the rustc that RUSTC_OLDEST names, or that of the distribution, where it is the one that the crate is said to need
+oldest=$(sed -n 's/^rust-version = "\(.*\)"/\1/p' rust/Cargo.toml)
+rustc=${RUSTC_OLDEST:-/usr/bin/rustc}
+# shellcheck disable=SC2317
+is_oldest() {
+    [[ $("$rustc" --version) = "rustc $oldest."* ]]
+}
+
 says 'scripts/erase' python3 scripts/erase/test_erase.py
 says 'as it is made' python3 scripts/erase/erase.py check rust
 cd rust
 where 'no feature' 'cargo --version' cargo check --no-default-features
+where "rustc $oldest" is_oldest "$rustc" --edition 2021 --crate-type lib --cfg 'feature="std"' --emit metadata \
+    --out-dir "$folder" -D warnings src/lib.rs
 where rustfmt 'cargo fmt --version' cargo fmt --check
 where clippy 'cargo clippy --version' cargo clippy --all-targets -- -D clippy::incompatible_msrv
 where rustdoc 'rustdoc --version' cargo doc --no-deps

@@ -25,8 +25,9 @@ fn written(bytes: &[u8]) -> Result<Vec<u8>, CanonError> {
 
 /// What a line is answered, by this encoding.
 fn answer(line: &[u8], encode: fn(&[u8]) -> Result<Vec<u8>, CanonError>) -> String {
-    let Some(bytes) = bytes_of(line) else {
-        return "nothex".to_string();
+    let bytes = match bytes_of(line) {
+        Some(bytes) => bytes,
+        None => return "nothex".to_string(),
     };
     match encode(&bytes) {
         Ok(encoding) => encoding.iter().fold("ok ".to_string(), |mut answer, byte| {

@@ -571,8 +571,10 @@ impl Plain {
     /// ```
     /// use linkwire::info::{Place, Style};
     /// let rows = Place::Bond.rows();
-    /// let Style::Plain(mode) = rows[0].style() else { panic!("a number with names") };
-    /// assert_eq!((mode.name_of(4), mode.name_of(99)), (Some("802.3ad"), None));
+    /// match rows[0].style() {
+    ///     Style::Plain(mode) => assert_eq!((mode.name_of(4), mode.name_of(99)), (Some("802.3ad"), None)),
+    ///     _ => panic!("a number with names"),
+    /// }
     /// ```
     pub fn name_of(self, number: u64) -> Option<&'static str> {
         match self {

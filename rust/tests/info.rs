@@ -97,7 +97,10 @@ fn texts_and_arrays_of_other_places() {
     assert_eq!((field.value().members().count(), field.value().fields().is_none()), (0, true));
     // a value that was made by hand of fewer bytes than its members have
     let flags = Place::Vlan.rows()[1].style();
-    let Style::Record(members) = flags else { panic!("a record") };
+    let members = match flags {
+        Style::Record(members) => members,
+        _ => panic!("a record"),
+    };
     assert_eq!(Value::Record(members, &[1, 0, 0, 0, 2]).members().count(), 1);
     assert_eq!(Value::Array(Plain::Octets(0), &[1]).elements().count(), 0);
     assert_eq!(Value::List(Plain::Ipv4, &[5, 0, 0, 0, 1]).elements().count(), 0);

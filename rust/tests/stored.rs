@@ -21,8 +21,9 @@ fn bytes_of(line: &str) -> Option<Vec<u8>> {
 }
 
 fn answer(line: &str) -> String {
-    let Some(message) = bytes_of(line) else {
-        return "nothex".into();
+    let message = match bytes_of(line) {
+        Some(message) => message,
+        None => return "nothex".into(),
     };
     match canonical(&message) {
         Ok(text) => format!("ok {}", text.iter().map(|it| format!("{it:02x}")).collect::<String>()),
@@ -243,8 +244,9 @@ fn rows() {
 /// The lines of the file that `LINKWIRE_LINES` names; none where it is not set.
 #[test]
 fn lines() {
-    let Some(file) = std::env::var_os("LINKWIRE_LINES") else {
-        return;
+    let file = match std::env::var_os("LINKWIRE_LINES") {
+        Some(file) => file,
+        None => return,
     };
     let text = fs::read(file).unwrap();
     let lines = text.split(|it| *it == b'\n').filter_map(|it| std::str::from_utf8(it).ok());

@@ -175,7 +175,10 @@ fn lists_of_link_info() {
     assert_eq!((dummy.info_kind(), dummy.info_data()), (Some(InfoKind::Dummy), None));
     assert_eq!(Info::new("dummy").unwrap().data(), Ok(InfoData::Other(Vec::new())));
     let can = [LinkInfo::from(InfoKind::Can), LinkInfo::Other(DefaultNla::new(3, vec![1; 24]))];
-    let Some(LinkXstats::Can(stats)) = can.xstats() else { panic!("24 bytes are six counters") };
+    let stats = match can.xstats() {
+        Some(LinkXstats::Can(stats)) => stats,
+        other => panic!("24 bytes are six counters: {other:?}"),
+    };
     assert_eq!((stats.bus_error, LinkInfo::from(LinkXstats::Can(stats))), (0x1010101, can[1].clone()));
 }
 
@@ -204,14 +207,16 @@ fn a_peer_is_a_message() {
 /// How many data a message has, each of which comes back byte for byte.
 fn data(bytes: &[u8]) -> (usize, usize) {
     let (mut count, mut others) = (0, 0);
-    let Ok(message) = LinkMessage::parse(bytes) else { return (0, 0) };
-    for attribute in &message.attributes {
-        let LinkAttribute::LinkInfo(list) = attribute else { continue };
+    let attributes = LinkMessage::parse(bytes).map_or(Vec::new(), |message| message.attributes);
+    let lists = attributes.iter().filter_map(|it| match it {
+        LinkAttribute::LinkInfo(list) => Some(list),
+        _ => None,
+    });
+    for list in lists {
         for it in list {
-            let LinkInfo::Other(frame) = it else { continue };
-            let again = match Nla::kind(frame) {
-                2 => list.info_data().map(|it| LinkInfo::from(it.unwrap())),
-                5 => list.port_data().map(|it| LinkInfo::from(it.unwrap())),
+            let again = match it {
+                LinkInfo::Other(frame) if frame.kind() == 2 => list.info_data().map(|it| LinkInfo::from(it.unwrap())),
+                LinkInfo::Other(frame) if frame.kind() == 5 => list.port_data().map(|it| LinkInfo::from(it.unwrap())),
                 _ => continue,
             };
             // data without a kind have no type
@@ -230,11 +235,17 @@ fn messages_of_kernels() {
     let mut paths = vec![concat!(env!("CARGO_MANIFEST_DIR"), "/../bench/messages.txt").to_string()];
     paths.extend(std::env::var("LINK_MESSAGES"));
     for path in paths {
-        let Ok(text) = std::fs::read_to_string(&path) else { continue };
+        let text = match std::fs::read_to_string(&path) {
+            Ok(text) => text,
+            Err(_) => continue,
+        };
         let (mut messages, mut counts) = (0, (0, 0));
         for line in text.lines().filter_map(|line| line.split_whitespace().last()) {
             let digits: Option<Vec<u8>> = line.bytes().map(|it| Some((it as char).to_digit(16)? as u8)).collect();
-            let Some(digits) = digits.filter(|it| it.len() >= 32 && it.len() % 2 == 0) else { continue };
+            let digits = digits.filter(|it| it.len() >= 32 && it.len() % 2 == 0).unwrap_or_default();
+            if digits.is_empty() {
+                continue;
+            }
             let bytes: Vec<u8> = digits.chunks(2).map(|it| it[0] * 16 + it[1]).collect();
             let (count, others) = data(&bytes);
             (messages, counts) = (messages + 1, (counts.0 + count, counts.1 + others));

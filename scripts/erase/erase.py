@@ -18,6 +18,7 @@ import derives
 import examples
 import layout
 import memory
+import older
 import owed
 import paths
 import runtime
@@ -142,7 +143,7 @@ def erase(path, text, crate, mode):
         imported += paths.of_alloc(s)
     paths.paths(s, crate, mode.libraries, is_program, mode.is_crate)
     text = with_imports(s.rust(), imported)
-    return layout.laid_out(text) if mode.is_crate else text
+    return layout.laid_out(older.let_else(path, text)) if mode.is_crate else text
 
 
 def with_imports(text, imported):

@@ -63,15 +63,15 @@ def formatters(s):
 
 
 def newer(s):
-    """Parts of std that came after Rust 1.65, as older ones say them; the traits of ours that the casts need."""
+    """Parts of std that came after Rust 1.63, as older ones say them; the traits of ours that the casts need."""
     for i in s.live("Ipv4Addr", "Ipv6Addr"):
         if s.at(s.next(i), ":", ":", "from_octets", "("):
-            counts["part of std after 1.65"] += 1
+            counts["part of std after 1.63"] += 1
             s.new[s.next(i, 3)] = "from"
     needed = set()
     for i in s.live(*CASTS):
         if s.at(s.prev(i), "."):
-            counts["part of std after 1.65"] += 1
+            counts["part of std after 1.63"] += 1
             s.new[i], trait = CASTS[s.text[i]]
             needed.add(trait)
     return sorted(needed)

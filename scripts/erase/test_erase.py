@@ -10,6 +10,7 @@ import derives
 import erase
 import layout
 import memory
+import older
 import owed
 import paths
 import surface
@@ -145,6 +146,19 @@ LAID = [
 ]
 
 
+# `let .. else`, and the `match` that it is made
+ELSE = [
+    ("fn f() {\n    let Ok(x) = g() else {\n        return 1;\n    };\n}\n",
+     "fn f() {\n    let x = match g() {\n        Ok(x) => x,\n        _ => return 1,\n    };\n}\n"),
+    ("fn f() {\n    let Some(A { at, b: _b, c: (d, E) }) = g(F { h }) else {\n        i()?;\n        return 1;\n"
+     "    };\n}\n",
+     "fn f() {\n    let (at, d) = match g(F { h }) {\n        Some(A { at, b: _b, c: (d, E) }) => (at, d),\n"
+     "        _ => {\n            i()?;\n            return 1;\n        }\n    };\n}\n"),
+    ("fn f() {\n    let x = if g() { 1 } else { 2 };\n    if let Some(y) = h() { i() } else { j() }\n}\n",
+     "fn f() {\n    let x = if g() { 1 } else { 2 };\n    if let Some(y) = h() { i() } else { j() }\n}\n"),
+]
+
+
 # pushes into a list with room, and what they are
 RESERVED = [
     ("{\n    values.push_reserved(A(f(x)?));\n}\n", "{\n    vacant(values).push(A(f(x)?));\n}\n"),
@@ -201,6 +215,10 @@ def main():
     if nothing.rust() != "fn f() {\n    g();\n}\n":
         print(nothing.rust())
         failed += 1
+    for text, wanted in ELSE:
+        if older.let_else("a.rs", text) != wanted:
+            print(older.let_else("a.rs", text))
+            failed += 1
     for text, wanted in RESERVED:
         pushed = Source("a.rt", text)
         if not memory.reserved(pushed) or wanted not in pushed.rust():

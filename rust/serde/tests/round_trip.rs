@@ -23,9 +23,11 @@ fn messages_of_kernels() {
         let (mut messages, mut data) = (0, 0);
         for line in text.lines().filter_map(|line| line.split_whitespace().last()) {
             let digits: Option<Vec<u8>> = line.bytes().map(|it| Some((it as char).to_digit(16)? as u8)).collect();
-            let Some(digits) = digits.filter(|it| it.len() >= 32 && it.len() % 2 == 0) else { continue };
-            let bytes: Vec<u8> = digits.chunks(2).map(|it| it[0] * 16 + it[1]).collect();
-            let Ok(message) = LinkMessage::parse(&bytes) else { continue };
+            let bytes: Vec<u8> = digits.unwrap_or_default().chunks_exact(2).map(|it| it[0] * 16 + it[1]).collect();
+            let message = match LinkMessage::parse(&bytes) {
+                Ok(message) => message,
+                Err(_) => continue,
+            };
             comes_back(&message);
             messages += 1;
             for attribute in &message.attributes {

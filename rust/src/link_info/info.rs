@@ -106,8 +106,9 @@ fn names_of(style: Style) -> Names {
 
 /// The number of a name that the style has; another value as it is.
 fn by_name<'v>(style: Style, value: Value<'v>) -> Value<'v> {
-    let Value::Text(name) = value else {
-        return value;
+    let name = match value {
+        Value::Text(name) => name,
+        _ => return value,
     };
     match number_named(names_of(style), name) {
         Some(number) => Value::Unsigned(number),
@@ -144,8 +145,9 @@ fn payload_of(row: &Row, value: Value<'_>) -> Vec<u8> {
 fn kept(bytes: &[u8]) -> Result<Vec<DefaultNla>, InfoError> {
     let mut frames = Vec::new();
     for item in NlasIterator::new(bytes) {
-        let Ok(frame) = item else {
-            return Err(InfoError::Damaged);
+        let frame = match item {
+            Ok(frame) => frame,
+            _ => return Err(InfoError::Damaged),
         };
         let payload = Vec::from(frame.value());
         frames.reserve(1);
@@ -235,8 +237,9 @@ impl Info {
     /// Refuses a name that no row has with `UnknownName`, and a value that the row's style cannot have with `NotHeld`.
     /// After a refusal all is as it was.
     pub(crate) fn set_value(&mut self, name: &str, value: Value<'_>) -> Result<(), InfoError> {
-        let Some(row) = row_named(self.rows, name) else {
-            return Err(InfoError::UnknownName);
+        let row = match row_named(self.rows, name) {
+            Some(row) => row,
+            _ => return Err(InfoError::UnknownName),
         };
         self.set_row(row, by_name(row.2, value))
     }
@@ -313,8 +316,9 @@ impl Info {
     ///
     /// Refuses a list without a kind with `UnknownKind`, and data that are no whole attributes with `Damaged`.
     pub fn of(list: &[LinkInfo]) -> Result<Info, InfoError> {
-        let Some(kind) = kind_of(list) else {
-            return Err(InfoError::UnknownKind);
+        let kind = match kind_of(list) {
+            Some(kind) => kind,
+            _ => return Err(InfoError::UnknownKind),
         };
         let mut info = Info::new(kind)?;
         info.frames = kept(data_in(list))?;

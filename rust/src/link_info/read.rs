@@ -72,8 +72,9 @@ pub(crate) fn are_whole(bytes: &[u8]) -> bool {
 /// Whether the bytes are whole frames whose payloads have this size.
 pub(crate) fn are_elements(bytes: &[u8], size: usize) -> bool {
     for item in NlasIterator::new(bytes) {
-        let Ok(frame) = item else {
-            return false;
+        let frame = match item {
+            Ok(frame) => frame,
+            _ => return false,
         };
         if frame.value().len() != size {
             return false;

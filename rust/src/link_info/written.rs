@@ -58,8 +58,9 @@ pub fn push_field(out: &mut Vec<u8>, field: &Field<'_>) -> Result<(), InfoError>
 pub fn rewrite(rows: &'static [Row], bytes: &[u8]) -> Result<Vec<u8>, InfoError> {
     let mut out = Vec::new();
     for item in NlasIterator::new(bytes) {
-        let Ok(frame) = item else {
-            return Err(InfoError::Damaged);
+        let frame = match item {
+            Ok(frame) => frame,
+            _ => return Err(InfoError::Damaged),
         };
         push_field(&mut out, &Field::new(rows, &frame))?;
     }

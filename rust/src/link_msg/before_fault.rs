@@ -10,8 +10,9 @@ use crate::nla_wire::DecodeError;
 
 /// How many bytes of attributes stand in front of the first fault, and the fault; or all of them, where there is none.
 fn front_of(family: AddressFamily, rest: &[u8]) -> (usize, Option<DecodeError>) {
-    let Some(Found { at, frame: _frame }) = first_fault(&AttributePlace { family }, rest) else {
-        return (rest.len(), None);
+    let at = match first_fault(&AttributePlace { family }, rest) {
+        Some(Found { at, frame: _frame }) => at,
+        _ => return (rest.len(), None),
     };
     match check_attributes(rest, family) {
         Ok(()) => (at, None),

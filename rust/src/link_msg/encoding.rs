@@ -62,9 +62,12 @@ impl From<DecodeError> for CanonError {
 fn measure(input: &[u8]) -> Result<(LinkHeader, &[u8], usize, usize), CanonError> {
     let (header, rest) = split_header(input)?;
     let family = header.interface_family;
-    let Some((len, empty, prefix)) = LinkAttribute::measure_list_with_param(rest, family) else {
-        check_attributes(rest, family)?;
-        return Err(CanonError::DoesNotFit);
+    let (len, empty, prefix) = match LinkAttribute::measure_list_with_param(rest, family) {
+        Some((len, empty, prefix)) => (len, empty, prefix),
+        _ => {
+            check_attributes(rest, family)?;
+            return Err(CanonError::DoesNotFit);
+        }
     };
     if len > usize::MAX - HEADER_SIZE {
         return Err(CanonError::DoesNotFit);

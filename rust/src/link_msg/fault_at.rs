@@ -139,8 +139,9 @@ impl LinkMessage {
     /// assert_eq!(LinkMessage::fault_at(&bytes), Some(20));
     /// ```
     pub fn fault_path(input: &[u8]) -> Option<FaultPath> {
-        let Ok((header, rest)) = split_header(input) else {
-            return Some(FaultPath::stray(0));
+        let (header, rest) = match split_header(input) {
+            Ok((header, rest)) => (header, rest),
+            _ => return Some(FaultPath::stray(0)),
         };
         match in_attributes(header.interface_family, rest) {
             Some(path) => Some(path.after(HEADER_SIZE)),

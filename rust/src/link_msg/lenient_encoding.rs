@@ -32,8 +32,9 @@ fn is_no_port(frame: &NlaBuffer<'_>, family: AddressFamily) -> bool {
 /// Whether an empty list of ports is among the attributes.
 fn holds_no_port(bytes: &[u8], family: AddressFamily) -> bool {
     for item in NlasIterator::new(bytes) {
-        let Ok(frame) = item else {
-            return false;
+        let frame = match item {
+            Ok(frame) => frame,
+            _ => return false,
         };
         if is_no_port(&frame, family) {
             return true;
@@ -63,9 +64,12 @@ fn check_frames(rest: &[u8], family: AddressFamily) -> Result<(), DecodeError> {
 fn measure_lenient(input: &[u8]) -> Result<(LinkHeader, &[u8], usize), CanonError> {
     let (header, rest) = split_header(input)?;
     let family = header.interface_family;
-    let Some((len, empty)) = weigh(rest, family) else {
-        check_frames(rest, family)?;
-        return Err(CanonError::DoesNotFit);
+    let (len, empty) = match weigh(rest, family) {
+        Some((len, empty)) => (len, empty),
+        _ => {
+            check_frames(rest, family)?;
+            return Err(CanonError::DoesNotFit);
+        }
     };
     if len > usize::MAX - HEADER_SIZE {
         return Err(CanonError::DoesNotFit);

@@ -205,8 +205,9 @@ impl LinkAttribute {
         if is_empty_ports(buffer, payload.len()) {
             return false;
         }
-        let Some(shape) = Shape::of(buffer.kind(), payload.len(), family) else {
-            return true;
+        let shape = match Shape::of(buffer.kind(), payload.len(), family) {
+            Some(shape) => shape,
+            _ => return true,
         };
         if !shape.is_copied() {
             return false;
@@ -274,8 +275,9 @@ impl LinkAttribute {
         let mut len: usize = 0;
         let mut empty = false;
         for item in NlasIterator::new(bytes) {
-            let Ok(frame) = item else {
-                return None;
+            let frame = match item {
+                Ok(frame) => frame,
+                _ => return None,
             };
             let value = LinkAttribute::measure_frame(&frame, family)?;
             let more = add_len(len, padded_len(value))?;

@@ -28,8 +28,9 @@ fn is_padded(bytes: &[u8], front_len: u16) -> bool {
 pub(crate) fn copied_prefix(bytes: &[u8], family: AddressFamily) -> usize {
     let mut prefix = 0;
     for item in NlasIterator::new(bytes) {
-        let Ok(frame) = item else {
-            return prefix;
+        let frame = match item {
+            Ok(frame) => frame,
+            _ => return prefix,
         };
         if !is_padded(&bytes[prefix..], frame.length()) || !LinkAttribute::is_own_encoding(&frame, family) {
             return prefix;

@@ -16,8 +16,9 @@ pub(crate) struct Found<'a> {
 pub(crate) fn first_fault<'a, V: Nla, P: Place<V>>(place: &P, bytes: &'a [u8]) -> Option<Found<'a>> {
     let mut at = 0;
     for item in NlasIterator::new(bytes) {
-        let Ok(frame) = item else {
-            return Some(Found { at, frame: None });
+        let frame = match item {
+            Ok(frame) => frame,
+            _ => return Some(Found { at, frame: None }),
         };
         if !place.drops(frame.kind()) && place.check(&frame).is_err() {
             return Some(Found { at, frame: Some(frame) });

@@ -56,10 +56,13 @@ fn thin_wrapped<L: Thinned>(len: usize, frame: &mut [u8]) -> usize {
 /// Moves what is left of the attribute at this place to another place in front of it, and returns where the next
 /// attribute starts and how many bytes were moved.
 fn thin_at<L: Thinned>(list: &mut [u8], at: usize, to: usize) -> (usize, usize) {
-    let Ok(frame) = NlaBuffer::new_checked(&list[at..]) else {
-        let left = list.len() - at;
-        list.copy_within(at.., to);
-        return (list.len(), left);
+    let frame = match NlaBuffer::new_checked(&list[at..]) {
+        Ok(frame) => frame,
+        _ => {
+            let left = list.len() - at;
+            list.copy_within(at.., to);
+            return (list.len(), left);
+        }
     };
     let len = frame.value().len();
     let number = frame.kind();

@@ -55,8 +55,9 @@ fn number_of_eight(list: &[u8], at: usize) -> Option<u16> {
 /// begins here.
 #[cfg_attr(not(debug_assertions), inline(always))]
 fn fill_at<L: Listed>(list: &mut [u8], at: usize, of: &L) -> usize {
-    let Ok(frame) = NlaBuffer::new_checked(&list[at..]) else {
-        return list.len();
+    let frame = match NlaBuffer::new_checked(&list[at..]) {
+        Ok(frame) => frame,
+        _ => return list.len(),
     };
     let len = frame.value().len();
     let number = frame.kind();

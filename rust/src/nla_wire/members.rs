@@ -67,8 +67,9 @@ pub fn check_members<V: Nla, P: Place<V>>(place: &P, bytes: &[u8]) -> Result<(),
 fn measure_each<V: Nla, P: Place<V>>(place: &P, bytes: &[u8]) -> Option<usize> {
     let mut len: usize = 0;
     for item in NlasIterator::new(bytes) {
-        let Ok(frame) = item else {
-            return None;
+        let frame = match item {
+            Ok(frame) => frame,
+            _ => return None,
         };
         if !place.drops(frame.kind()) {
             let value = place.measure(&frame)?;
@@ -97,8 +98,9 @@ pub fn measure_nested_members<V: Nla, P: Place<V>>(place: &P, bytes: &[u8]) -> O
 fn write_each<V: Nla, P: Place<V>>(place: &P, bytes: &[u8], out: &mut [u8]) -> usize {
     let mut at = 0;
     for item in NlasIterator::new(bytes) {
-        let Ok(frame) = item else {
-            return at;
+        let frame = match item {
+            Ok(frame) => frame,
+            _ => return at,
         };
         if !place.drops(frame.kind()) {
             at += place.write(&frame, room(out, at..));

@@ -67,8 +67,9 @@ pub fn check_one<V: Nla, P: Place<V>>(place: &P, buffer: &NlaBuffer<'_>) -> Resu
 pub fn parse_one<V: Nla, P: Place<V>>(place: &P, buffer: &NlaBuffer<'_>) -> Result<V, DecodeError> {
     let mut values = Vec::with_capacity(1);
     add_one(place, buffer, &mut values)?;
-    let Some(value) = values.pop() else {
-        return Err(empty_list());
+    let value = match values.pop() {
+        Some(value) => value,
+        _ => return Err(empty_list()),
     };
     Ok(value)
 }
