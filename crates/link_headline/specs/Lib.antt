@@ -1,0 +1,5 @@
+pub mod Rows
+pub mod Values
+pub mod Kernel
+pub mod Headline
+pub mod Words
