@@ -64,11 +64,11 @@ class Store:
                  *link)
         if event.change != "gone":
             self.run("INSERT INTO stretch VALUES (?, ?, ?, ?, ?, ?, ?, NULL)", *link, event.ifname,
-                     linkwire.key(event.message), event.message.hex(), time)
+                     linkwire.key(event.message, lenient=True), event.message.hex(), time)
 
 
 def main(database):
-    store, watch = Store(database), linkwire.Watch()
+    store, watch = Store(database), linkwire.Watch(lenient=True)  # an alias in Latin-1 hides no link
     for host, message in store.known():  # as it was left; the next whole dump says what went meanwhile
         watch.message(message, host=host)
     for line in sys.stdin:

@@ -19,7 +19,7 @@ from distributed import Client, LocalCluster, as_completed
 
 
 def of_host(path):
-    """Returns of one file the host, how many messages it has and how many are refused, its states, and its kinds."""
+    """Returns of one file the host, how many messages it has and of how many some is refused, its states and kinds."""
     keys, kinds, counts = set(), Counter(), Counter()
     with open(path, encoding="utf-8") as lines:
         for line in lines:
@@ -28,12 +28,12 @@ def of_host(path):
                 continue
             counts["messages"] += 1
             try:
-                key = linkwire.key(message)
+                keys.add(linkwire.key(message, lenient=True))
             except linkwire.Fault:
                 counts["refused"] += 1
                 continue
-            keys.add(key)
-            link = linkwire.show(message, words.get("kernel"))
+            link = linkwire.show(message, words.get("kernel"), lenient=True)
+            counts["refused"] += "refused" in link
             kinds[link.get("linkinfo", {}).get("kind", "")] += 1
     return os.path.basename(path)[:-len(".lines")], dict(counts), len(keys), dict(kinds)
 

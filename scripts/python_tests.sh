@@ -142,12 +142,7 @@ live() {
     fi
     ours unshare -n python3 tests/python/live.py
     ours unshare -n python3 tests/python/beside.py made
-    if ours python3 -c 'import linkwire; linkwire.diff(bytes(16), bytes(16))' 2>"$folder/err"; then
-        ours python3 tests/python/pages.py README.md docs/PYTHON.md docs/FLEET.md
-    else
-        says '^NotImplementedError'
-        skips "docs/PYTHON.md and docs/FLEET.md: the library has no linkwire_diff: dist/ is older than the package"
-    fi
+    ours python3 tests/python/pages.py README.md docs/PYTHON.md docs/FLEET.md
 }
 
 mkdir "$folder/bin"

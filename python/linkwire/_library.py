@@ -3,7 +3,7 @@
 import ctypes
 import os
 import threading
-from typing import Any, List, Optional, Tuple
+from typing import Any, List, Optional, Set, Tuple
 
 OUT_OF_MEMORY, NO_ROOM = -18, -19
 
@@ -27,19 +27,38 @@ class Path(ctypes.Structure):
     _fields_ = [("at", ctypes.c_size_t), ("depth", ctypes.c_size_t), ("numbers", ctypes.c_uint16 * 4)]
 
 
+class Frame(ctypes.Structure):
+    """`struct linkwire_attribute` of linkwire.h."""
+
+    _fields_ = [("kind", ctypes.c_uint16), ("payload", ctypes.c_size_t), ("payload_len", ctypes.c_size_t)]
+
+
+class Refused(ctypes.Structure):
+    """`struct linkwire_refusal` of linkwire.h."""
+
+    _fields_ = [("offset", ctypes.c_size_t), ("fault", ctypes.c_int32), ("is_attribute", ctypes.c_uint32),
+                ("attribute", Frame), ("path", Path)]
+
+
 _NAME = "liblinkwire.so.0"
 _bytes, _size, _length = ctypes.c_char_p, ctypes.c_size_t, ctypes.c_ssize_t
 _i32, _u32 = ctypes.c_int32, ctypes.c_uint32
+_MEASURES, _WRITES = [_bytes, _size], [_bytes, _size, _bytes, _size]
 _SIGNATURES: Tuple[Tuple[str, Any, List[Any]], ...] = (
     ("linkwire_check", _i32, [_bytes, _size]),
-    ("linkwire_canonical_len", _length, [_bytes, _size]),
-    ("linkwire_canonical", _length, [_bytes, _size, _bytes, _size]),
-    ("linkwire_state", _length, [_bytes, _size, _bytes, _size]),
+    ("linkwire_canonical_len", _length, _MEASURES),
+    ("linkwire_canonical", _length, _WRITES),
+    ("linkwire_state", _length, _WRITES),
+    ("linkwire_canonical_lenient_len", _length, _MEASURES),
+    ("linkwire_canonical_lenient", _length, _WRITES),
+    ("linkwire_state_lenient", _length, _WRITES),
     ("linkwire_same_message", _i32, [_bytes, _size, _bytes, _size]),
     ("linkwire_same_state", _i32, [_bytes, _size, _bytes, _size]),
     ("linkwire_fault_path", _i32, [_bytes, _size, ctypes.POINTER(Path)]),
+    ("linkwire_refusal_next", _i32, [_bytes, _size, ctypes.POINTER(_size), ctypes.POINTER(Refused)]),
     ("linkwire_canonical_form", _u32, []),
     ("linkwire_state_form", _u32, []),
+    ("linkwire_lenient_form", _u32, []),
     ("linkwire_order", _u32, [_bytes, _size]),
     ("linkwire_show", _length, [_bytes, _size, _u32, _u32, _bytes, _size]),
     ("linkwire_diff", _length, [_bytes, _size, _bytes, _size, _u32, _u32, _bytes, _size]),
@@ -70,9 +89,11 @@ class _Library:
             raise ImportError(f"linkwire: no shared library: install liblinkwire.so.0 (Debian: liblinkwire0), or a C "
                               f"compiler and then this package again, or name it by LINKWIRE ({error})") from None
         self.path = path
+        self.lacks: Set[str] = set()
         for name, result, arguments in _SIGNATURES:
             function: Any = getattr(found, name, None)
             if function is None:
+                self.lacks.add(name)
                 function = _lacking(path, name)
             else:
                 function.restype, function.argtypes = result, arguments
@@ -105,11 +126,11 @@ def text_of(call: Any, *arguments: Any) -> Tuple[int, Optional[bytes]]:
     return length, ctypes.string_at(out, length) if length >= 0 else None
 
 
-def encoding_of(call: Any, message: bytes) -> Tuple[int, Optional[memoryview]]:
-    """What `linkwire_canonical` or `linkwire_state` returns and writes; the view ends with the thread's next call."""
+def encoding_of(call: Any, measure: Any, message: bytes) -> Tuple[int, Optional[memoryview]]:
+    """What a call that writes an encoding returns and writes; the view ends with the thread's next call."""
     out = _room.out
     length: int = call(message, len(message), out, len(out))
     if length == NO_ROOM:
-        out = ctypes.create_string_buffer(library.linkwire_canonical_len(message, len(message)))
+        out = ctypes.create_string_buffer(measure(message, len(message)))
         length = call(message, len(message), out, len(out))
     return length, memoryview(out)[:length] if length >= 0 else None

@@ -1,5 +1,6 @@
 """Messages as bytes: checked, encoded, shown, compared, taken apart and built."""
 
+import collections
 import ctypes
 import functools
 import hashlib
@@ -7,21 +8,27 @@ import itertools
 import json
 import os
 import struct
-from typing import Any, Dict, Iterable, Iterator, List, NamedTuple, Optional, Tuple, Union
+from typing import Any, Dict, Iterable, Iterator, List, NamedTuple, NoReturn, Optional, Tuple, Union
 
 from . import numbers
-from ._library import CAUSES, OUT_OF_MEMORY, Path, encoding_of, library, text_of
+from ._library import CAUSES, OUT_OF_MEMORY, Path, Refused, encoding_of, library, text_of
 
 HEADER_SIZE = 16
 CANONICAL_FORM: int = library.linkwire_canonical_form()
 STATE_FORM: int = library.linkwire_state_form()
+_HAS_LENIENT = "linkwire_lenient_form" not in library.lacks
+LENIENT_FORM: int = library.linkwire_lenient_form() if _HAS_LENIENT else 0  # of a library that reads none leniently
 
 Bytes = Union[bytes, bytearray, memoryview]
 
-_FORMS = f"{CANONICAL_FORM}.{STATE_FORM}:"
+# by whether a message is read leniently: what a key begins with, and what writes and measures an encoding
+_FORMS = f"{CANONICAL_FORM}.{STATE_FORM}:", f"L{LENIENT_FORM}.{STATE_FORM}:"
+_LENGTH = library.linkwire_canonical_len, library.linkwire_canonical_lenient_len
+_CANONICAL = library.linkwire_canonical, library.linkwire_canonical_lenient
+_STATE = library.linkwire_state, library.linkwire_state_lenient
 _NAMES = {number: name for name, number in vars(numbers).items() if name.startswith("IFLA_")
           and not name.startswith("IFLA_INFO_")}
-_COUNTERS = 1  # LINKWIRE_COUNTERS
+_LENIENT, _COUNTERS = 1, 2  # LINKWIRE_LENIENT, LINKWIRE_COUNTERS
 
 
 class Fault(ValueError):
@@ -70,70 +77,142 @@ class Attribute(NamedTuple):
     payload: memoryview
 
 
+class Refusal(NamedTuple):
+    """An attribute of the outermost list that is refused, where others are read.
+
+    number, flags, payload: its own, as those of `Attribute`. Of bytes behind the attributes that are none the number is
+        None, and the payload all of them.
+    fault: the cause, as `Fault` has it.
+    offset, path: of the innermost attribute at fault, as `Fault` has them.
+    """
+
+    number: Optional[int]
+    flags: int
+    payload: memoryview
+    fault: str
+    offset: int
+    path: Tuple[int, ...]
+
+
 def _own(message: Bytes) -> bytes:
     return message if type(message) is bytes else bytes(memoryview(message))
 
 
-def _refuse(number: int, message: bytes) -> None:
+def _refuse(number: int, message: bytes, lenient: bool = False) -> NoReturn:
     """Raises what a number below zero says of the message."""
     if number == OUT_OF_MEMORY:
         raise MemoryError("linkwire")
-    path = Path()
-    cause = CAUSES.get(number, (str(number), ""))[0]
+    cause, path = CAUSES.get(number, (str(number), ""))[0], Path()
+    if lenient and len(message) >= HEADER_SIZE:
+        collections.deque(attributes(message), 0)  # raises where one does not fit, which strictly may be another fault
+        raise Fault(cause, None, (), message)
     if library.linkwire_fault_path(message, len(message), ctypes.byref(path)) == number:
         raise Fault(cause, path.at, tuple(path.numbers[: path.depth]), message)
     raise Fault(cause, None, (), message)
 
 
+_check = library.linkwire_check
+
+
 def check(message: Bytes) -> None:
     """Returns where the bytes are a message; else raises `Fault`, the first one, front to back."""
-    message = _own(message)
-    number = library.linkwire_check(message, len(message))
+    if type(message) is not bytes:
+        message = _own(message)
+    number = _check(message, len(message))
     if number < 0:
         _refuse(number, message)
 
 
-def _encoded(call: Any, message: bytes) -> memoryview:
-    length, encoding = encoding_of(call, message)
+def _encoded(calls: Tuple[Any, Any], message: Bytes, lenient: bool) -> memoryview:
+    message = _own(message)
+    length, encoding = encoding_of(calls[lenient], _LENGTH[lenient], message)
     if encoding is None:
-        _refuse(length, message)
-        raise AssertionError
+        _refuse(length, message, lenient)
     return encoding
 
 
-def canonical(message: Bytes) -> bytes:
-    """The canonical encoding: two byte strings mean the same message exactly where theirs are equal. Raises `Fault`."""
-    return _encoded(library.linkwire_canonical, _own(message)).tobytes()
+def canonical(message: Bytes, lenient: bool = False) -> bytes:
+    """The canonical encoding: two byte strings mean the same message exactly where theirs are equal.
+
+    lenient: an attribute of the outermost list that is refused is kept as it is. Where none is, the encoding is the
+        same. Encodings of the two readings have numbers of their own, CANONICAL_FORM and LENIENT_FORM.
+
+    Raises `Fault`; with lenient only where the header is too short, where an attribute does not fit, `unfit` and
+    `empty-ports`. The calls that have it raise NotImplementedError where the library has no lenient reading.
+    """
+    return _encoded(_CANONICAL, message, lenient).tobytes()
 
 
-def state(message: Bytes) -> bytes:
-    """The state encoding: the canonical one in which what an idle kernel moves by itself is zero. Raises `Fault`."""
-    return _encoded(library.linkwire_state, _own(message)).tobytes()
+def state(message: Bytes, lenient: bool = False) -> bytes:
+    """The state encoding: the canonical one in which what an idle kernel moves by itself is zero. Takes lenient, and
+    raises `Fault`, as `canonical` does."""
+    return _encoded(_STATE, message, lenient).tobytes()
 
 
-def key(message: Bytes) -> str:
+def key(message: Bytes, lenient: bool = False) -> str:
     """The key of a link's state: `CANONICAL.STATE:`, the numbers of the two forms, and the SHA-256 of the state
-    encoding. It stays the same while settings and state do, whatever the counters count. Raises `Fault`."""
-    return _FORMS + hashlib.sha256(_encoded(library.linkwire_state, _own(message))).hexdigest()
+    encoding. It stays the same while settings and state do, whatever the counters count.
+
+    lenient: as for `canonical`. The key begins with `LLENIENT.STATE:`, the number of the lenient form in the place of
+        the canonical one: a store has keys of one sort, of all links.
+
+    Raises `Fault`, as `canonical` does.
+    """
+    return _FORMS[lenient] + hashlib.sha256(_encoded(_STATE, message, lenient)).hexdigest()
+
+
+def _refuse_one(number: int, old: bytes, new: bytes, lenient: bool = False) -> NoReturn:
+    """Raises what a number below zero says of two messages: of the first that is refused."""
+    if number != OUT_OF_MEMORY:
+        canonical(old, lenient)
+        canonical(new, lenient)
+    raise MemoryError("linkwire")
 
 
 def _same(call: Any, a: bytes, b: bytes) -> bool:
     answer: int = call(a, len(a), b, len(b))
     if answer < 0:
-        canonical(a)  # raises what is refused first
-        canonical(b)
-        raise MemoryError("linkwire")
+        _refuse_one(answer, a, b)
     return answer == 1
 
 
-def same_message(a: Bytes, b: Bytes) -> bool:
-    """Whether both mean the same message. Raises `Fault`, of the first that has one, and MemoryError."""
+def same_message(a: Bytes, b: Bytes, lenient: bool = False) -> bool:
+    """Whether both mean the same message. Takes lenient as `canonical` does, and raises what that raises, of the first
+    that is refused, and MemoryError."""
+    if lenient:
+        return canonical(a, True) == canonical(b, True)
     return _same(library.linkwire_same_message, _own(a), _own(b))
 
 
-def same_state(a: Bytes, b: Bytes) -> bool:
-    """Whether both have one state encoding. Raises `Fault`, of the first that has one, and MemoryError."""
+def same_state(a: Bytes, b: Bytes, lenient: bool = False) -> bool:
+    """Whether both have one state encoding. Takes lenient as `canonical` does, and raises what that raises, of the
+    first that is refused, and MemoryError."""
+    if lenient:
+        return state(a, True) == state(b, True)
     return _same(library.linkwire_same_state, _own(a), _own(b))
+
+
+def refusals(message: Bytes) -> Iterator[Refusal]:
+    """The attributes of the outermost list that are refused, and that lenient reading keeps as they are, in turn.
+
+    The last one may be bytes behind the attributes that are none: of such a message lenient reading refuses all. Raises
+    `Fault` of a header that is too short, where the first is asked for, and NotImplementedError where the library has
+    no lenient reading.
+    """
+    message = _own(message)
+    view, at, found = memoryview(message), ctypes.c_size_t(0), Refused()
+    while True:
+        answer = library.linkwire_refusal_next(message, len(message), ctypes.byref(at), ctypes.byref(found))
+        if answer <= 0:
+            break
+        kind, start, path = found.attribute.kind, found.attribute.payload, found.path
+        told = CAUSES[found.fault][0], path.at, tuple(path.numbers[: path.depth])
+        if found.is_attribute:
+            yield Refusal(kind & 0x3FFF, kind & 0xC000, view[start : start + found.attribute.payload_len], *told)
+        else:
+            yield Refusal(None, 0, view[found.offset :], *told)
+    if answer < 0:
+        _refuse(answer, message)
 
 
 @functools.lru_cache(maxsize=64)
@@ -146,13 +225,18 @@ def _order(kernel: Optional[str]) -> int:
     return found
 
 
-def show_json(message: Bytes, kernel: Optional[str] = None) -> bytes:
-    """What `show` reads: the line of linkshow(1), without its end. It raises what `show` raises."""
+def _flags(lenient: bool, counters: bool = False) -> int:
+    if lenient and not _HAS_LENIENT:  # an older library passes over flags that it does not know
+        library.linkwire_lenient_form()
+    return _LENIENT * lenient + _COUNTERS * counters
+
+
+def show_json(message: Bytes, kernel: Optional[str] = None, lenient: bool = False) -> bytes:
+    """What `show` reads: the line of linkshow(1), without its end. It takes and raises what `show` does."""
     message = _own(message)
-    length, text = text_of(library.linkwire_show, message, len(message), _order(kernel), 0)
+    length, text = text_of(library.linkwire_show, message, len(message), _order(kernel), _flags(lenient))
     if text is None:
         _refuse(length, message)
-        raise AssertionError
     return text
 
 
@@ -162,101 +246,77 @@ def show(message: Bytes, kernel: Optional[str] = None, lenient: bool = False) ->
     kernel: the release that the message is of, as `6.12.0-47`, or `running`. It decides the order of the counters of
         IPv6; without it they are a list of numbers.
     lenient: attributes of the outermost list that are refused hide none of the others: the last member, `refused`, is
-        a list of them, each with `at` and `fault`, as linkshow has them, `offset`, and `payload` in hexadecimal.
+        a list of them, each with `at`, `fault`, `offset` and, in hexadecimal, `payload`; `in` names the attribute where
+        the fault is deeper.
 
     Bytes that are no message are no exception here: `fault`, `at`, `offset`, `before` are what linkshow says of them;
     with lenient only those whose header is too short, or of which an outermost attribute does not fit. Raises
-    MemoryError, and NotImplementedError where the library has no `linkwire_show`.
+    MemoryError, and NotImplementedError where the library lacks the call or lenient reading.
     """
-    if not lenient:
-        found: Dict[str, Any] = json.loads(show_json(message, kernel).decode())
-        return found
-    kept, refused = _parted(_own(message))
-    found = show(kept, kernel)
-    if refused:
-        found["refused"] = [{"at": show(alone)["at"], "fault": fault.cause, "offset": offset, "payload": payload.hex()}
-                            for alone, fault, offset, payload in refused]
-    return found
+    return next(show_all([message], kernel, lenient))
 
 
 def show_all(messages: Iterable[Bytes], kernel: Optional[str] = None, lenient: bool = False
              ) -> Iterator[Dict[str, Any]]:
-    """What `show` returns of each in turn: of many a quarter faster, and with each name once in memory."""
+    """What `show` returns of each in turn: of many faster, and with each name once in memory."""
     rest = iter(messages)
     while True:
-        some = list(itertools.islice(rest, 256))
+        some = [show_json(it, kernel, lenient) for it in itertools.islice(rest, 256)]
         if not some:
             return
-        text = b",".join([show_json(it, kernel) for it in some])
-        for message, found in zip(some, json.loads(f"[{text.decode()}]")):
-            yield show(message, kernel, lenient) if lenient and "fault" in found else found
+        yield from _objects(some)
 
 
-_Refused = Tuple[bytes, Fault, int, bytes]
+_CONF = b'"conf":{'
 
 
-def _parted(message: bytes) -> Tuple[bytes, List[_Refused]]:
-    """The message without the outermost attributes that are refused, and of each of these a message of it alone, the
-    fault of that, the fault's offset in the whole, and the payload. Nothing is left out of one whose frames do not fit.
-    """
-    try:
-        check(message)
-        return message, []
-    except Fault:
-        pass
-    header, at = message[:HEADER_SIZE], HEADER_SIZE
-    kept: List[bytes] = [header]
-    refused: List[_Refused] = []
-    try:
-        for it in attributes(message):
-            end = at + 4 + (len(it.payload) + 3 & ~3)
-            alone = header + message[at:end]
-            try:
-                check(alone)
-                kept.append(message[at:end])
-            except Fault as fault:
-                offset = (fault.offset or HEADER_SIZE) - HEADER_SIZE + at
-                refused.append((alone, fault, offset, bytes(it.payload)))
-            at = end
-    except Fault:
-        return message, []
-    return b"".join(kept), refused
-
-
-def _payloads(refused: List[_Refused]) -> Dict[str, str]:
-    """By a path of their own, as `refused.ifalias`, the payloads of attributes that are refused."""
-    found: Dict[str, str] = {}
-    for alone, _, _, payload in refused:
-        number = next(attributes(alone)).number
-        name = _NAMES.get(number, f"IFLA_{number}")[len("IFLA_"):].lower().replace("_", "-")
-        found[f"refused.{name}"] = found.get(f"refused.{name}", "") + payload.hex()
+@functools.lru_cache(maxsize=256)
+def _settings(text: bytes) -> Dict[str, Any]:
+    found: Dict[str, Any] = json.loads(b"{" + text + b"}")
     return found
+
+
+def _objects(texts: List[bytes]) -> List[Dict[str, Any]]:
+    """What these texts say. The settings of IPv4 and IPv6 are half of a text, and most links have those of another one:
+    they are read once, and copied."""
+    short: List[bytes] = []
+    settings: List[List[bytes]] = []
+    for text in texts:
+        first, *others = text.split(_CONF)  # no text holds this: a quote in it has a backslash in front
+        cut = [it.partition(b"}") for it in others]  # they are numbers alone
+        settings.append([inner for inner, _, _ in cut])
+        short.append(b'"conf":null'.join([first, *(rest for _, _, rest in cut)]))
+    found = json.loads(f"[{b','.join(short).decode()}]")
+    return [it if _fill(it, inner) else json.loads(text.decode()) for it, inner, text in zip(found, settings, texts)]
+
+
+def _fill(found: Dict[str, Any], settings: List[bytes]) -> bool:
+    """Puts settings in their places; false where these are not as many."""
+    places: List[Any] = []
+    for name in "protinfo", "af-spec":
+        it = found.get(name)
+        places += [it] if name == "protinfo" else it.values() if isinstance(it, dict) else []
+    places = [it for it in places if isinstance(it, dict) and it.get("conf", 0) is None]
+    for place, text in zip(places, settings):
+        place["conf"] = _settings(text).copy()
+    return len(places) == len(settings)
 
 
 def diff(old: Bytes, new: Bytes, kernel: Optional[str] = None, counters: bool = False,
          lenient: bool = False) -> List[Change]:
     """What changed from one message to another, as linkdiff(1) tells it; an empty list where the states are equal.
 
-    kernel, lenient: as for `show`, of both messages. With lenient the path of an attribute that is refused is
-        `refused.` and its name, and the values are payloads in hexadecimal.
+    kernel, lenient: as for `show`, of both messages.
     counters: compares the canonical encodings, so that what moves by itself is there too.
 
-    Raises `Fault`, of the first that has one, MemoryError, and NotImplementedError where the library has no
-    `linkwire_diff`.
+    Raises `Fault`, of the first that has one, as `canonical` does, MemoryError, and NotImplementedError where the
+    library has no `linkwire_diff`, or no lenient reading.
     """
-    if lenient:
-        (old, gone), (new, came) = _parted(_own(old)), _parted(_own(new))
-        was, now = _payloads(gone), _payloads(came)
-        return diff(old, new, kernel, counters) + [Change(path, was.get(path), now.get(path))
-                                                   for path in {**was, **now} if was.get(path) != now.get(path)]
     old, new = _own(old), _own(new)
     length, text = text_of(library.linkwire_diff, old, len(old), new, len(new), _order(kernel),
-                           _COUNTERS if counters else 0)
+                           _flags(lenient, counters))
     if text is None:
-        if length != OUT_OF_MEMORY:
-            canonical(old)  # raises what is refused first
-            canonical(new)
-        raise MemoryError("linkwire")
+        _refuse_one(length, old, new, lenient)
     changes = json.loads(text.decode()) if text else []
     return [Change(it["path"], it.get("old"), it.get("new")) for it in changes]
 

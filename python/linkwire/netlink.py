@@ -116,12 +116,13 @@ class _Socket:
         if cut & _MSG_TRUNC:  # the next one has room
             self._room = bytearray(2 * len(self._room))
             raise LostMessages(_ENOBUFS, "a datagram was cut off")
-        datagram, at, found = memoryview(self._room), 0, []
+        datagram, at, found = bytes(memoryview(self._room)[:size]), 0, []
+        header, new = _HEADER.unpack_from, tuple.__new__  # thrice as fast as _Part(..), and there are many
         while at + 16 <= size:
-            length, kind, flags, turn, port = _HEADER.unpack_from(datagram, at)
+            length, kind, flags, turn, port = header(datagram, at)
             if length < 16 or at + length > size:
                 raise OSError(74, os.strerror(74))  # EBADMSG
-            found.append(_Part(kind, flags, turn, port, datagram[at + 16 : at + length].tobytes()))
+            found.append(new(_Part, (kind, flags, turn, port, datagram[at + 16 : at + length])))
             at += (length + 3) & ~3
         return found
 
@@ -182,9 +183,9 @@ class _Dumps:
         self.held += parts
         if not self.is_dumping:
             return self._released(False), None, None
-        turn, is_over = self.turn, False
+        turn, is_over, new = self.turn, False, numbers.RTM_NEWLINK
         for it in parts:
-            if it.turn != turn or it.kind != numbers.RTM_NEWLINK or it.flags & _NLM_F_DUMP_INTR:
+            if it.turn != turn or it.kind != new or it.flags & _NLM_F_DUMP_INTR:
                 is_over |= self._is_end(it)
         if not is_over:
             return [], None, None
@@ -199,7 +200,8 @@ class _Dumps:
 
     def _released(self, answers: bool) -> List[_Part]:
         held, self.held = self.held, []
-        return [it for it in held if it.kind in _LINKS and (answers if self.is_answer(it) else
+        turn, port = self.turn, self.port
+        return [it for it in held if it.kind in _LINKS and (answers if it.turn == turn and it.port == port else
                                                             self.is_monitor and self.is_wanted(it))]
 
     def _is_end(self, part: _Part) -> bool:
@@ -465,7 +467,8 @@ class Links:
         return Stream(it, read, lambda: None)
 
     def watch(self, every: Optional[float] = None, families: Sequence[int] = (AF_UNSPEC, AF_BRIDGE),
-              counters: bool = False, changes_only: bool = False, queue: int = _QUEUE) -> Stream[Event]:
+              counters: bool = False, changes_only: bool = False, queue: int = _QUEUE,
+              lenient: bool = False) -> Stream[Event]:
         """Which links are there, and then which come, go or change: what `linkdump --monitor | linkdiff` says.
 
         every: asks for all links again each so many seconds: the kernel does not announce every change of a link that
@@ -475,12 +478,13 @@ class Links:
         changes_only: leaves out what is there at first.
         queue: bytes that the kernel keeps while nobody reads. Where it ran over there is an event `lost`, all links
             are asked for again, and what came, went or changed meanwhile follows.
+        lenient: an attribute that is refused hides none of the others, as with `Watch`.
 
-        The stream raises KernelError where a dump is refused, and MemoryError.
+        The stream raises KernelError where a dump is refused, and what `Watch` raises.
         """
         groups = [_RTNLGRP_LINK, *([_RTNLGRP_IPV6_IFINFO] if AF_INET6 in families else [])]
         it = _Socket(self._namespace, groups, queue)
-        watch = Watch(counters, changes_only, os.uname().release)
+        watch = Watch(counters, changes_only, os.uname().release, lenient)
         watching = _Watching(it, _Dumps(it.port, families, None, True), watch, every)
         return Stream(it, watching.read, watching.next_due)
 

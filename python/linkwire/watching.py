@@ -78,9 +78,15 @@ def _first(payload: Bytes, number: int, start: int = 0) -> Optional[memoryview]:
 
 
 def _name(message: bytes) -> Optional[str]:
-    """The name of a message that is not refused."""
-    found = _first(message, IFLA_IFNAME, HEADER_SIZE)
-    return None if found is None else text(found)
+    """The name that a message has, the last one of several; one that is refused is none."""
+    name = None
+    for it in attributes(message):
+        if it.number == IFLA_IFNAME:
+            try:
+                name = text(it.payload)
+            except UnicodeDecodeError:
+                pass
+    return name
 
 
 def _kind(message: bytes) -> bytes:
@@ -142,13 +148,18 @@ class Watch:
 
     counters: compares what moves by itself too.
     changes_only: leaves out `new` before the first whole dump of a host and family.
-    kernel: the release that the messages are of; a word `kernel=` of a line is another one.
+    kernel: the release that the messages are of; a word `kernel=` of a line is another one, of both messages that are
+        compared with it.
+    lenient: an attribute that is refused hides none of the others; there is a `fault` only where `canonical` raises it
+        with lenient.
 
-    Each call returns what happened, in turn, and raises MemoryError.
+    Each call returns what happened, in turn, and raises MemoryError, and NotImplementedError where the library lacks
+    `linkwire_diff` or lenient reading.
     """
 
-    def __init__(self, counters: bool = False, changes_only: bool = False, kernel: Optional[str] = None) -> None:
-        self._counters, self._changes_only, self._kernel = counters, changes_only, kernel
+    def __init__(self, counters: bool = False, changes_only: bool = False, kernel: Optional[str] = None,
+                 lenient: bool = False) -> None:
+        self._counters, self._changes_only, self._kernel, self._lenient = counters, changes_only, kernel, lenient
         self._hosts: Dict[str, _Host] = {}
         self._at = 0
 
@@ -211,13 +222,13 @@ class Watch:
         message = bytes(memoryview(message))
         if len(message) < HEADER_SIZE:
             self.blind(host)
-            return [Event("fault", host, message=message, fault=_fault(message))]
+            return [Event("fault", host, message=message, fault=self._fault(message))]
         self._at += 1
         key = message[0], int.from_bytes(message[4:8], "little", signed=True)
         it = self._of(host)
         if is_gone:
             return self._go(host, it, key, message)
-        if _is_wireless_alone(message) and _fault(message) is None:
+        if _is_wireless_alone(message) and self._fault(message) is None:
             return []
         return self._come(host, it, key, _without_event(message), kernel or self._kernel)
 
@@ -234,7 +245,14 @@ class Watch:
         return told + self._end(host, it, self._parts(key))
 
     def _encoding(self, message: bytes) -> bytes:
-        return canonical(message) if self._counters else state(message)
+        return canonical(message, self._lenient) if self._counters else state(message, self._lenient)
+
+    def _fault(self, message: bytes) -> Optional[Fault]:
+        try:
+            canonical(message, self._lenient)
+        except Fault as fault:
+            return fault
+        return None
 
     def _come(self, host: str, it: _Host, key: Key, message: bytes, kernel: Optional[str]) -> List[Event]:
         seen = it.known.get(key)
@@ -256,7 +274,7 @@ class Watch:
                 seen = it.known[key] = _Seen()
                 seen.at, last = self._at, None
         if last is not None:
-            changes = diff(last, message, kernel, self._counters)
+            changes = diff(last, message, kernel, self._counters, self._lenient)
             told.append(Event("changed", host, *key, _name(message), changes, message))
         elif key[0] in it.whole or not self._changes_only:
             told.append(Event("new", host, *key, _name(message), message=message))
@@ -275,7 +293,7 @@ class Watch:
         host, what = words.get("host", ""), words.get("type")
         if message is not None:
             if what in ("get", "set"):  # a request
-                fault = _fault(message)
+                fault = self._fault(message)
                 return [] if fault is None else [Event("fault", host, message=message, fault=fault)]
             return self.message(message, what == "del", host, words.get("kernel"))
         dump = f"{words.get('seq')} {words.get('port')}"
@@ -289,11 +307,3 @@ class Watch:
         """The last message of each link that is there, by family and index; of refusals alone there is none."""
         known = self._hosts[host].known if host in self._hosts else {}
         return {key: seen.message for key, seen in known.items() if seen.message is not None}
-
-
-def _fault(message: bytes) -> Optional[Fault]:
-    try:
-        canonical(message)
-    except Fault as fault:
-        return fault
-    return None

@@ -113,13 +113,12 @@ def main():
     warnings.simplefilter("ignore")
     try:
         of_pyroute2(bytes(16))
-        linkwire.show(bytes(16))
-    except (ImportError, NotImplementedError) as error:
+    except ImportError as error:
         print(f"python: skipped: beside pyroute2: {error}")
         return 0
     counts, differ = Counter(), defaultdict(list)
     for message, kernel in messages(sys.argv[1:] or [f"{TOP}/tests/kernels/messages.txt"]):
-        own = dict(leaves(linkwire.show(message, kernel)))
+        own = dict(leaves(linkwire.show(message, kernel, lenient=True)))
         if "fault" in own:
             counts["refused"] += 1
             continue

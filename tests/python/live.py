@@ -18,15 +18,14 @@ import time
 
 import linkwire
 from linkwire import numbers
-from linkwire._library import library
 
 VETH_INFO_PEER = 1  # linux/veth.h
 NEW = numbers.NLM_F_CREATE | numbers.NLM_F_EXCL
-HAS_DIFF = not isinstance(library.linkwire_diff, type(lambda: 0))
 
 
 def ip(*words):
-    return subprocess.run(["ip", *words], capture_output=True, text=True, check=True, timeout=60).stdout
+    ran = subprocess.run(["ip", *words], capture_output=True, check=True, timeout=60)
+    return ran.stdout.decode(errors="replace")
 
 
 def batch(lines):
@@ -105,8 +104,7 @@ def dumps(links):
     finally:
         end.set()
         thread.join()
-    wants("what ip has", {linkwire.show(it)["ifi-index"]: name_of(it) for it in links.dump()} if HAS_DIFF else names(),
-          names())
+    wants("what ip has", {linkwire.show(it)["ifi-index"]: name_of(it) for it in links.dump()}, names())
     wants("dumps with counters", len(links.dump(mask=numbers.RTEXT_FILTER_VF)), len(names()))
     print(f"live: 40 dumps while links come and go, of {min(counts)} to {max(counts)}")
     batch([f"link del stay{it}" for it in range(40)])
@@ -254,6 +252,40 @@ def asks_again(links):
     print("live: watch: every")
 
 
+def leniently(links):
+    """A link whose alias is Latin-1: strictly it is a fault, and leniently all is said of it, and followed."""
+    ip("link", "add", "alias0", "type", "veth", "peer", "name", "alias1")
+    index = links_by_name()["alias0"]
+
+    def sets(*attributes):
+        links.send(linkwire.build(attributes, index=index))
+
+    sets((numbers.IFLA_IFALIAS, b"caf\xe9"))
+    message = links.get("alias0")
+    (refusal,) = linkwire.refusals(message)
+    wants("what is refused", refusal[:4], (numbers.IFLA_IFALIAS, 0, b"caf\xe9\0", "not-utf8"))
+    shown = linkwire.show(message, lenient=True)
+    wants("what is said", (shown["ifname"], shown["mtu"], shown["refused"][0]["payload"]),
+          ("alias0", 1500, "636166e900"))
+    wants("a key that stands still", linkwire.key(links.get("alias0"), lenient=True),
+          linkwire.key(message, lenient=True))
+    with links.watch() as watch:
+        wants("a fault", {(it.ifindex, it.fault.cause) for it in until_idle(watch) if it.change == "fault"},
+              {(index, "not-utf8")})
+    with links.watch(lenient=True) as watch:
+        wants("what is there", {it.ifname for it in until_idle(watch) if it.change == "new"}, set(names().values()))
+        sets((numbers.IFLA_MTU, linkwire.u32(1400)))
+        wants("its MTU", linkwire.Change("mtu", 1500, 1400) in
+              until(watch, ("changed", 0, "alias0", "mtu"))[-1].changes, True)
+        sets((numbers.IFLA_IFALIAS, b"th\xe9"))  # which the kernel announces where the link is up
+        ip("link", "set", "alias0", "up")
+        paths = {path.split(".")[0] for it in told(until_idle(watch)) if it[2] == "alias0" for path in it[3:]}
+        wants("its alias", "refused" in paths, True)
+        ip("link", "del", "alias0")
+        wants("that it went", ("gone", 0, "alias0") in told(until_idle(watch)), True)
+    print("live: lenient: an alias in Latin-1 hides nothing")
+
+
 async def turns(links):
     """Both for asyncio, at the same time as another task."""
     count = 0
@@ -330,14 +362,12 @@ def main():
         requests(links)
         dumps(links)
         monitors(links)
-        if HAS_DIFF:
-            watches(links)
-            loses(links)
-            follows(links)
-            asks_again(links)
-            asyncio.run(turns(links))
-        else:
-            print("live: skipped: watch: the library has no linkwire_diff")
+        watches(links)
+        loses(links)
+        follows(links)
+        asks_again(links)
+        leniently(links)
+        asyncio.run(turns(links))
     namespaces()
     print("live: ok")
 

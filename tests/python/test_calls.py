@@ -1,16 +1,18 @@
 """The calls of the package on stored messages of kernels, on damaged ones, and on what is built."""
 
 import ctypes
+import json
 import os
 import pickle
 import random
 import re
 import threading
 import unittest
+from unittest import mock
 
 import linkwire
-from linkwire import numbers
-from linkwire._library import CAUSES, library
+from linkwire import messages, numbers
+from linkwire._library import CAUSES, _Library, library
 
 TOP = os.path.dirname(os.path.dirname(os.path.dirname(os.path.abspath(__file__))))
 # IFLA_VFINFO_LIST, IFLA_VF_INFO and IFLA_VF_VLAN, which is too short, after an MTU
@@ -18,15 +20,6 @@ FUNCTION = bytes.fromhex("000001000700000000000000000000000800040044000000140016
                          "0c0002000000000064000000")
 LO = linkwire.build([(numbers.IFLA_IFNAME, "lo"), (numbers.IFLA_MTU, linkwire.u32(65536))], index=1, link_type=772)
 NAMES = {name for name, _ in CAUSES.values()}
-
-
-def lacks(name):
-    """Whether the library that dist/ has is older than the calls; a gate over one that is not has to pass."""
-    return isinstance(getattr(library, name), type(lacks))
-
-
-def has(name):
-    return unittest.skipIf(lacks(name), f"the library has no {name}: dist/ is older than the package")
 
 
 def stored(program):
@@ -40,12 +33,31 @@ def stored(program):
             for line, answer, kernel in zip(lines, answers, kernels)]
 
 
-def answered(call, message):
+def answered(call, message, *words):
     """What linkwire and linkstate answer."""
     try:
-        return "ok " + call(message).hex()
+        return "ok " + call(message, *words).hex()
     except linkwire.Fault as fault:
         return f"refused {fault.cause}"
+
+
+def stored_lenient():
+    """Messages, the words in front of them, and what linkshow --lenient and linkstate --lenient answer."""
+    with open(f"{TOP}/tests/program/lenient.txt", encoding="utf-8") as it:
+        lines = [line.rstrip("\n") for line in it if not line.startswith("#")]
+    for line, shown, state in zip(lines[::3], lines[1::3], lines[2::3]):
+        try:
+            yield (*linkwire.read_line(line), json.loads(shown), re.sub(r"^(\w+=\S* )*", "", state))
+        except ValueError:
+            continue
+
+
+def damaged(chance, messages):
+    """One of these messages, of which some bytes are others, and which may be cut off."""
+    message = bytearray(chance.choice(messages))
+    for _ in range(chance.randrange(1, 4)):
+        message[chance.randrange(len(message))] = chance.randrange(256)
+    return bytes(message[:chance.randrange(len(message) + 1)] if chance.random() < .3 else message)
 
 
 class Calls(unittest.TestCase):
@@ -71,7 +83,6 @@ class Calls(unittest.TestCase):
         for wrong in (5, "lo", None):
             self.assertRaises(TypeError, linkwire.check, wrong)
 
-    @has("linkwire_show")
     def test_before(self):
         with self.assertRaises(linkwire.Fault) as raised:
             linkwire.canonical(FUNCTION)
@@ -118,7 +129,6 @@ class Calls(unittest.TestCase):
             it.join()
         self.assertEqual([found[it] for it in range(4)], [{it} for it in wanted])
 
-    @has("linkwire_show")
     def test_show(self):
         """Of each stored message the line of linkshow, which its kernel decides."""
         for message, answer, kernel in stored("linkshow"):
@@ -138,12 +148,10 @@ class Calls(unittest.TestCase):
         self.assertEqual(list(linkwire.show_all([])), [])
         self.assertEqual(linkwire.show(LO, kernel="running"), linkwire.show(LO, kernel="6.1.0"))
 
-    @has("linkwire_diff")
     def test_long_diff(self):
         longer = linkwire.build([(numbers.IFLA_IFALIAS, '"' * 60000)])
         self.assertEqual(linkwire.diff(longer[:16], longer), [("ifalias", None, '"' * 60000)])
 
-    @has("linkwire_diff")
     def test_diff(self):
         new = LO.replace(b"lo\0", b"l1\0").replace(linkwire.u32(65536), linkwire.u32(1500))
         self.assertEqual(linkwire.diff(LO, new), [("ifname", "lo", "l1"), ("mtu", 65536, 1500)])
@@ -158,8 +166,41 @@ class Calls(unittest.TestCase):
                 linkwire.diff(*pair)
             self.assertEqual(raised.exception.cause, "too-short")
 
-    @has("linkwire_diff")
+    def test_settings(self):
+        """What show puts together is what the line of linkshow says, wherever settings of families stand."""
+        conf = (2, bytes(range(240)))  # IFLA_INET6_CONF
+        families = [(10, [conf, (1, linkwire.u32(5))]), (2, [(1, bytes(132))]), (10, [conf])]
+        odd = [linkwire.build([(numbers.IFLA_AF_SPEC, it)]) for it in (families, families[:2], families[::-1])]
+        alias = numbers.IFLA_IFALIAS, '"conf":{"conf":{}'
+        odd += [linkwire.build([(numbers.IFLA_PROTINFO, [conf]), alias], family=it) for it in (0, 7, 10)]
+        odd += [odd[0] + odd[1][16:], odd[5] + odd[1][16:], odd[1] + odd[5][16:], FUNCTION]
+        for message in odd + [it for it, _, _ in stored("linkshow")]:
+            self.assertEqual(linkwire.show(message), json.loads(linkwire.show_json(message)))
+        self.assertEqual(list(linkwire.show_all(odd)), [linkwire.show(it) for it in odd])
+        linkwire.show(odd[1])["af-spec"]["inet6"]["conf"].clear()
+        self.assertEqual(linkwire.show(odd[1]), json.loads(linkwire.show_json(odd[1])))
+
     def test_lenient(self):
+        """What linkshow --lenient and linkstate --lenient answer, and where nothing is refused what all do."""
+        for words, message, shown, state in stored_lenient():
+            found = {**words, **linkwire.show(message, words.get("kernel"), lenient=True)}
+            self.assertEqual(found, shown)
+            found = answered(linkwire.state, message, True)
+            self.assertIn(state, (found, found.split()[0], found.split()[1]))
+            if state.startswith("ok"):
+                text = linkwire.canonical(message, lenient=True)
+                self.assertEqual(linkwire.canonical(text, lenient=True), text)
+                self.assertTrue(linkwire.same_message(message, text, lenient=True))
+                self.assertTrue(linkwire.same_state(message, text, lenient=True))
+                self.assertRegex(linkwire.key(message, lenient=True),
+                                 f"^L{linkwire.LENIENT_FORM}.{linkwire.STATE_FORM}:[0-9a-f]{{64}}$")
+        for message, answer, kernel in stored("linkshow"):
+            self.assertEqual(linkwire.show_json(message, kernel, lenient=True), linkwire.show_json(message, kernel))
+            self.assertEqual(answered(linkwire.canonical, message, True), answered(linkwire.canonical, message))
+        longer = linkwire.build([(numbers.IFLA_IFALIAS, b"\xe9")] + [(numbers.IFLA_STATS64, bytes(8))] * 2000)
+        self.assertGreater(len(linkwire.canonical(longer, lenient=True)), 2000 * 196)
+
+    def test_lenient_changes(self):
         """An alias in Latin-1 and an empty list of a port hide nothing."""
         mtu, other = ((numbers.IFLA_MTU, linkwire.u32(it)) for it in (1500, 1400))
         port, one, two = (numbers.IFLA_PROTINFO, b""), (numbers.IFLA_IFALIAS, b"\xe9"), (numbers.IFLA_IFALIAS, b"\xe8")
@@ -169,29 +210,71 @@ class Calls(unittest.TestCase):
             "mtu": 1500, "fault": None, "refused": [
                 {"at": "IFLA_PROTINFO", "fault": "empty-list", "offset": 16, "payload": ""},
                 {"at": "IFLA_IFALIAS", "fault": "not-utf8", "offset": 20, "payload": "e9"}]})
-        self.assertEqual(linkwire.diff(old, new, lenient=True), [
-            ("mtu", 1500, 1400), ("refused.protinfo", "", None), ("refused.ifalias", "e9", "e8")])
+        found = linkwire.diff(old, new, lenient=True)
+        self.assertIn(("mtu", 1500, 1400), found)
+        self.assertTrue({it.path.split(".")[0] for it in found} == {"mtu", "refused"}, found)
         self.assertEqual(linkwire.diff(old, old, lenient=True), [])
-        self.assertNotIn("refused", linkwire.show(LO, lenient=True))
-        for it in LO[:15], LO + b"\0":
-            self.assertIn("fault", linkwire.show(it, lenient=True))
-        self.assertEqual(linkwire.show(FUNCTION, lenient=True)["refused"][0]["offset"], 32)
+        self.assertFalse(linkwire.same_state(old, new, lenient=True))
+        self.assertFalse(linkwire.same_message(old, new, lenient=True))
+        self.assertEqual(linkwire.diff(LO, LO[:24], lenient=True), linkwire.diff(LO, LO[:24]))
+        for call in linkwire.diff, linkwire.same_state, linkwire.same_message:
+            for pair in (LO, old + b"\0"), (old + b"\0", LO), (LO, LO[:15]):
+                with self.assertRaises(linkwire.Fault) as raised:
+                    call(*pair, lenient=True)
+                self.assertIn(raised.exception.cause, ("frame-short", "too-short"))
+            self.assertRaises(linkwire.Fault, call, old, new)
+
+    def test_refusals(self):
+        """The attributes that are refused are those that linkshow --lenient has."""
+        found, = linkwire.refusals(FUNCTION)
+        self.assertEqual(found, (22, 0, FUNCTION[28:], "too-short", 32, (22, 1, 2)))
+        self.assertEqual(list(linkwire.refusals(LO)), [])
+        self.assertEqual(list(linkwire.refusals(linkwire.build([(20 | numbers.NLA_F_NESTED, b"\xe9")]) + b"abc")), [
+            (20, numbers.NLA_F_NESTED, b"\xe9", "not-utf8", 16, (20,)), (None, 0, b"abc", "frame-short", 24, ())])
+        for wrong in b"", LO[:15]:
+            with self.assertRaises(linkwire.Fault) as raised:
+                next(linkwire.refusals(wrong))
+            self.assertEqual((raised.exception.cause, raised.exception.offset), ("too-short", 0))
+        chance, some = random.Random(60), [message for message, _, _ in stored("linkwire")]
+        for _ in range(2000):
+            message = damaged(chance, some)
+            shown = linkwire.show(message, lenient=True)
+            if len(message) < 16:
+                self.assertEqual(shown["fault"], "too-short")
+                continue
+            found = list(linkwire.refusals(message))
+            if found and found[-1].number is None:
+                self.assertIn("fault", shown)
+                with self.assertRaises(linkwire.Fault) as raised:
+                    linkwire.state(message, lenient=True)
+                fault = raised.exception
+                self.assertEqual((fault.cause, fault.offset, fault.path), found[-1][3:])
+                continue
+            self.assertEqual([(it.fault, it.offset, it.payload.hex()) for it in found],
+                             [(it["fault"], it["offset"], it["payload"]) for it in shown.get("refused", [])])
+            self.assertEqual(bool(found), "fault" in linkwire.show(message))
+            for it in found:
+                self.assertEqual(it.path[0], it.number)
+                self.assertTrue(16 <= it.offset <= len(message))
 
     def test_lacking(self):
-        """A call that the library lacks says so."""
-        for name, call in ("linkwire_show", linkwire.show), ("linkwire_diff", lambda it: linkwire.diff(it, it[:16])):
-            if lacks(name):
-                self.assertRaisesRegex(NotImplementedError, f"has no {name}", call, LO)
+        """A call that the library lacks says so, and none is made without what was asked for."""
+        none = _Library(None)  # this process, which has no call
+        calls = [lambda: linkwire.diff(LO, LO), lambda: linkwire.show(LO), lambda: next(linkwire.refusals(LO))]
+        lenient = [lambda: linkwire.canonical(LO, True), lambda: linkwire.state(LO, True),
+                   lambda: linkwire.key(LO, True), lambda: linkwire.Watch(lenient=True).message(LO),
+                   lambda: linkwire.show(LO, lenient=True), lambda: linkwire.diff(LO, LO, lenient=True)]
+        pairs = {name: tuple(getattr(none, f"linkwire_{name[1:].lower()}{it}") for it in ("", "_lenient"))
+                 for name in ("_CANONICAL", "_STATE")}
+        with mock.patch.multiple(messages, library=none, _HAS_LENIENT=False, **pairs):
+            for call in calls + lenient:
+                self.assertRaisesRegex(NotImplementedError, "has no linkwire_", call)
 
     def test_damaged(self):
         """Of damaged messages check, canonical and fault are of one mind, and attributes end as the frames do."""
-        chance = random.Random(59)
-        messages = [message for message, _, _ in stored("linkwire")]
+        chance, some = random.Random(59), [message for message, _, _ in stored("linkwire")]
         for _ in range(3000):
-            message = bytearray(chance.choice(messages))
-            for _ in range(chance.randrange(1, 4)):
-                message[chance.randrange(len(message))] = chance.randrange(256)
-            message = bytes(message[:chance.randrange(len(message) + 1)] if chance.random() < .3 else message)
+            message = damaged(chance, some)
             try:
                 linkwire.check(message)
             except linkwire.Fault as fault:

@@ -9,7 +9,7 @@ import unittest
 
 import linkwire
 from linkwire import numbers
-from test_calls import TOP, has, stored
+from test_calls import TOP, stored
 
 sys.path.insert(0, f"{TOP}/tests/linkdump")
 sys.dont_write_bytecode = True
@@ -18,6 +18,11 @@ import hosts  # noqa: E402
 EVENT = linkwire.build([(numbers.IFLA_EVENT, linkwire.u32(1))])[16:]
 TYPES = ["type=new "] * 6 + ["type=del ", "type=get ", "type=set ", "type=x ", ""]
 LINKDIFF = os.environ.get("LINKDIFF", f"{TOP}/out/linkdiff")
+# attributes that are refused, and a second name
+REFUSED = [linkwire.build([it])[16:] for it in ((numbers.IFLA_IFALIAS, b"\xe9"), (numbers.IFLA_IFALIAS, b"\xe8"), (
+    numbers.IFLA_IFNAME, b"\xe9"), (numbers.IFLA_PROTINFO, b""), (numbers.IFLA_CARRIER_CHANGES, b"\1"), (
+    numbers.IFLA_VF_PORTS, [(9, b"")]), (numbers.IFLA_MTU, b"\1"), (numbers.IFLA_LINKINFO, [(1, b"\xe9")]))]
+NAME = linkwire.build([(numbers.IFLA_IFNAME, "second")])[16:]
 
 
 def members(event):
@@ -73,6 +78,8 @@ def odd_lines(chance, count):
             message += chance.choice((EVENT, EVENT, EVENT, linkwire.build([(numbers.IFLA_EVENT, bytes(3))])[16:]))
         if chance.random() < .3:
             message += linkwire.build([(numbers.IFLA_CARRIER_CHANGES, linkwire.u32(turn))])[16:]
+        if chance.random() < .2:
+            message += chance.choice([NAME, *REFUSED])
         if chance.random() < .1:
             message[16:] = linkwire.build([(numbers.IFLA_IFNAME, "e0")])[16:] + linkwire.build(
                 [(numbers.IFLA_WIRELESS, bytes(chance.choice((4, 8))))])[16:]
@@ -96,7 +103,6 @@ class Rules(unittest.TestCase):
         self.assertEqual(len(own), len(wanted))
         return len(own)
 
-    @has("linkwire_diff")
     def test_streams(self):
         for seed in range(2):
             lines = [line.split(" ", 2) for _, line, _ in hosts.made(seed)]
@@ -104,7 +110,6 @@ class Rules(unittest.TestCase):
             self.assertGreater(self.compares(lines), 2500)
         self.compares(lines, ["--changes-only"], changes_only=True)
 
-    @has("linkwire_diff")
     def test_messages(self):
         """Stored messages of kernels, counters, announcements and ends, in any turn."""
         chance, messages = random.Random(1), [(it, kernel) for it, _, kernel in stored("linkwire")]
@@ -123,20 +128,24 @@ class Rules(unittest.TestCase):
         self.assertGreater(self.compares(lines), 500)
         self.compares(lines, ["--counters"], counters=True)
 
-    @has("linkwire_diff")
     def test_counters(self):
         lines = ["type=new " + linkwire.build([(numbers.IFLA_CARRIER_CHANGES, linkwire.u32(it))], index=7).hex()
                  for it in (1, 2, 2, 3)]
         self.assertEqual(self.compares(lines), 1)
         self.assertEqual(self.compares(lines, ["--counters"], counters=True), 3)
 
-    @has("linkwire_diff")
     def test_odd_lines(self):
         for seed in range(3):
             lines = list(odd_lines(random.Random(seed), 600))
             self.compares(lines)
             self.compares(lines, ["--changes-only"], changes_only=True)
             self.compares(lines, ["--counters"], counters=True)
+
+    def test_lenient(self):
+        for seed in range(3):
+            lines = list(odd_lines(random.Random(seed), 600))
+            self.compares(lines, ["--lenient"], lenient=True)
+            self.compares(lines, ["--lenient", "--counters"], lenient=True, counters=True)
 
     def test_links(self):
         watch = linkwire.Watch()
