@@ -9,6 +9,7 @@ takes nothing with it: its files are read again by another. docs/FLEET.md says m
 """
 
 import glob
+import itertools
 import os
 import sys
 import time
@@ -22,19 +23,18 @@ def of_host(path):
     """Returns of one file the host, how many messages it has and of how many some is refused, its states and kinds."""
     keys, kinds, counts = set(), Counter(), Counter()
     with open(path, encoding="utf-8") as lines:
-        for line in lines:
-            words, message = linkwire.read_line(line)
-            if message is None:
-                continue
-            counts["messages"] += 1
-            try:
-                keys.add(linkwire.key(message, lenient=True))
-            except linkwire.Fault:
-                counts["refused"] += 1
-                continue
-            link = linkwire.show(message, words.get("kernel"), lenient=True)
-            counts["refused"] += "refused" in link
-            kinds[link.get("linkinfo", {}).get("kind", "")] += 1
+        found = (it for it in map(linkwire.read_line, lines) if it.message is not None)
+        for kernel, same in itertools.groupby(found, lambda it: it.words.get("kernel")):
+            messages = [it.message for it in same]
+            counts["messages"] += len(messages)
+            for message, link in zip(messages, linkwire.show_all(messages, kernel, lenient=True)):
+                try:
+                    keys.add(linkwire.key(message, lenient=True))
+                except linkwire.Fault:
+                    counts["refused"] += 1
+                    continue
+                counts["refused"] += "refused" in link
+                kinds[link.get("linkinfo", {}).get("kind", "")] += 1
     return os.path.basename(path)[:-len(".lines")], dict(counts), len(keys), dict(kinds)
 
 

@@ -253,7 +253,7 @@ def show(message: Bytes, kernel: Optional[str] = None, lenient: bool = False) ->
     with lenient only those whose header is too short, or of which an outermost attribute does not fit. Raises
     MemoryError, and NotImplementedError where the library lacks the call or lenient reading.
     """
-    return next(show_all([message], kernel, lenient))
+    return _objects([show_json(message, kernel, lenient)])[0]
 
 
 def show_all(messages: Iterable[Bytes], kernel: Optional[str] = None, lenient: bool = False

@@ -68,9 +68,10 @@ def read_line(line: str) -> Line:
         return Line(words, None)
     if digits.startswith("ok "):
         digits = digits[3:]
-    if digits and not (digits.isascii() and digits.isalnum()):  # fromhex takes blanks, and other digits
+    message = bytes.fromhex(digits)
+    if 2 * len(message) != len(digits):  # it passes over blanks
         raise ValueError(f"no hexadecimal digits: {digits[:40]!r}")
-    return Line(words, bytes.fromhex(digits))
+    return Line(words, message)
 
 
 def _first(payload: Bytes, number: int, start: int = 0) -> Optional[memoryview]:
