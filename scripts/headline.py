@@ -4,9 +4,11 @@ lines of the specs from `Headline` on, how many constants its tables pin, and wh
 its examples.
 
     python3 scripts/headline.py [LINKWIRE LINKSHOW]
+    python3 scripts/headline.py --list
 
-Without the two programs it takes those in out/. In an example, `H` is a header of sixteen zeros, and `3*(0400)` the
-bytes in parentheses three times. The last line is 'headline: ok'."""
+Without the two programs it takes those in out/; --list prints the definitions, the headline first, and runs nothing.
+In an example, `H` is a header of sixteen zeros, and `3*(0400)` the bytes in parentheses three times. The last line is
+'headline: ok'."""
 import os
 import re
 import subprocess
@@ -86,7 +88,7 @@ def walk():
     """What one reads from the headline on: module, name and the lines of each definition."""
     modules, found, todo = {}, {}, [START]
     while todo:
-        module, name = todo.pop()
+        module, name = todo.pop(0)
         crate = module.split(".")[0]
         if (module, name) in found or crate in ("std", "bitflags") or ".declared." in module or module == PINNED:
             continue
@@ -142,6 +144,15 @@ def hold(line, linkwire, linkshow):
         fails(f"'{line}': the answer is {found}")
 
 
+def show():
+    """Prints the definitions, a file a line."""
+    files = {}
+    for (module, name), lines in walk().items():
+        files.setdefault(module, []).append(f"{name} {lines}")
+    for module, names in files.items():
+        print(f"crates/{module.replace('.', '/')}.antt: {', '.join(names)}")
+
+
 def main(linkwire="out/linkwire", linkshow="out/linkshow"):
     page = read(PAGE)
     plain = " ".join(page.split())
@@ -157,4 +168,4 @@ def main(linkwire="out/linkwire", linkshow="out/linkshow"):
 
 
 if __name__ == "__main__":
-    main(*sys.argv[1:])
+    show() if sys.argv[1:] == ["--list"] else main(*sys.argv[1:])

@@ -45,7 +45,7 @@ text m = header_bytes m.header ++ canons written.attributes.frame m.attributes
 abbrev pub Fits : LinkMessage → Type 0
 Fits m = AllByRecursion written.attributes.Fits m.attributes × (length (text m) < 2 ^ 64)
 
--- no attribute is a list of ports without any: of bytes that mean one the entries have other numbers, and are dropped
+-- no attribute is a list of ports with none in it: bytes that mean one have entries of other numbers, which are dropped
 abbrev pub HasPorts : LinkAttribute → Type 0
 HasPorts (Attributes.VfPorts ports) = 0 < length ports
 HasPorts _ = Unit {0}

@@ -22,7 +22,7 @@ pub record Form (A : Type 0) : Type 1 where
 abbrev pub plain : {A : Type 0} → Grammar (List ℕ) A → (A → List ℕ) → Form A
 plain g encoding = record { grammar = g; encoding = encoding; Inside = λ a. Unit {0}; count = λ a. 0 }
 
--- the same as another type, which holds it
+-- the same, with its value wrapped as one of another type
 abbrev pub as_form : {A B : Type 0} → (A → B) → (B → A) → Form A → Form B
 as_form wrap inner form = record {
   grammar = as_a wrap form.grammar;
@@ -91,7 +91,7 @@ kept_row number variant =
 
 -- ** tables
 
--- rows; the variant of frames of no row; and how its values are written, of which the rows have to speak true
+-- rows; the variant of frames of no row; and how the values are written, which is to be as the rows say
 pub record Table (V : Type 0) : Type 1 where
   pub rows : List {1} (Row V)
   pub other : Frame → V

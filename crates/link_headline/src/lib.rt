@@ -1,7 +1,7 @@
 //! The headline of the library as one theorem: what bytes mean, what the calls return of them, and their bounds.
 //!
 //! `specs/Headline.antt` states it, over the tables of `specs/Kernel.antt`, which have the kernel's own numbers. Its
-//! proof cites the public contracts of `link_msg` alone.
+//! proof cites the public contracts of `link_msg` and no other code. `docs/HEADLINE.md` leads through it.
 #![tactic(auto)]
 
 ghost use Rattle.link_headline.specs.Headline.{Headline};
