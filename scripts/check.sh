@@ -53,6 +53,7 @@ programs() {
         crates/linkdiff/out out
     python3 tests/linkdump/hosts.py --linkdiff crates/linkdiff/out/linkdiff
     python3 tests/linkdiff/live.py out/linkdump crates/linkdiff/out/linkdiff
+    python3 scripts/headline.py crates/linkwire/out/linkwire crates/linkshow/out/linkshow
     python3 scripts/show_rows.py --check
     python3 scripts/show_damaged.py crates/linkshow/out/linkshow crates/linkwire/out/linkwire
     python3 scripts/kernel_messages.py
