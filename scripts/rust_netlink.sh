@@ -30,6 +30,7 @@ if has netlink-packet-core netlink-proto netlink-sys tokio tokio-macros futures 
     cp -r "$top/rust" "$folder/rust"
     cd "$folder/rust/netlink"
     runs "${debian[@]}" build --examples
+    runs "${debian[@]}" test --doc
     echo 'rust: netlink: the examples are built'
     if unshare -rn true 2>/dev/null; then
         for example in manage moved; do
@@ -51,6 +52,7 @@ if has serde serde_derive serde_json; then
     [ -d "$folder/rust" ] || cp -r "$top/rust" "$folder/rust"
     cp -r "$top/bench" "$folder/bench"
     cd "$folder/rust/serde"
+    runs "${debian[@]}" build # by itself: for the tests another crate asks serde for its std
     runs "${debian[@]}" test --tests
     awk '/^test result: ok/ { sum += $4 } END { print "rust: serde: " sum " tests passed" }' "$folder/log"
 else
