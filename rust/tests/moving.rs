@@ -30,6 +30,25 @@ fn table() {
     assert_eq!(found, NAMES);
 }
 
+mod buffers {
+    names! {
+        Icmp6StatsBuffer, Inet6CacheInfoBuffer, Inet6DevConfBuffer, Inet6StatsBuffer, InetDevConfBuffer,
+        LinkMessageBuffer, MapBuffer, Stats64Buffer, StatsBuffer, VfInfoBroadcastBuffer, VfInfoGuidBuffer,
+        VfInfoLinkStateBuffer, VfInfoMacBuffer, VfInfoRateBuffer, VfInfoRssQueryEnBuffer, VfInfoSpoofCheckBuffer,
+        VfInfoTrustBuffer, VfInfoTxRateBuffer, VfInfoVlanBuffer,
+    }
+
+    /// The sentence that names them, and no name besides: all that the module exports there stand on the page.
+    #[test]
+    fn sentence() {
+        let page = include_str!("../MOVING.md");
+        let words = page.split("are no views of memory:").nth(1).unwrap().split("have `From`").next().unwrap();
+        let found: Vec<&str> = words.split('`').skip(1).step_by(2).collect();
+        assert_eq!(found, NAMES);
+        assert_eq!(super::NAMES.len() + found.len() + super::typed::TYPED.len(), 183);
+    }
+}
+
 mod typed {
     macro_rules! typed {
         ($($name:ident),* $(,)?) => {
