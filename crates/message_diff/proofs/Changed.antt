@@ -18,9 +18,9 @@ use Rattle.message_diff.specs.declared.differences.Change.{Change}
 use Rattle.message_diff.specs.Alone.{told_words, change_member}
 use Rattle.message_diff.specs.Differences.{Diff, path_of, old_of, new_of, diffs_of}
 use Rattle.message_diff.specs.Changed.{given, given_if, diff_members, diff_objects, changes_member, state_diff}
-use Rattle.message_diff.specs.Changed.{Head, begun, opened, changed_line, given_text, head_text, changes_text}
+use Rattle.message_diff.specs.Changed.{Head, begun, opened, changed_line, given_text, head_text, list_text}
 use Rattle.message_diff.specs.Changed.{diff_text}
-use Rattle.message_diff.specs.Changed.{told_diffs, IsChanged, AddsChanged}
+use Rattle.message_diff.specs.Changed.{told_diffs, IsChanged, AddsChanged, AddsList}
 
 -- ** members behind members
 
@@ -166,36 +166,50 @@ pub diff_is : (is_next : Bool) (d : Diff) → diff_text is_next d
 unfolding diff_text
 diff_is is_next d = object_print is_next d ∙ ap (λ t. comma_if is_next ++ t) (object_is d)
 
+-- ** the list
+
+closed : (b : Bool) → print_from b (end_array ∷ []) ≡ 93 ∷ []
+unfolding print_from
+closed true = refl
+closed false = refl
+
+-- a list is its objects between brackets
+pub list_is : (ds : List Diff) → list_text ds ≡ 91 ∷ (print (diff_objects ds) ++ 93 ∷ [])
+unfolding list_text print_from
+list_is ds =
+    ap (λ t. 91 ∷ t)
+    (print_from-append false (diff_objects ds) (end_array ∷ [])
+    ∙ ap (λ t. print (diff_objects ds) ++ t) (closed (ends_value (diff_objects ds))))
+
 -- where no path differs
-pub state_is : (old new : List ℕ) → changes_text (state_diff old new ∷ [])
-    ≡ codes ",\"changes\":[{\"path\":\"state\",\"old\":\""
-    ++ (encode_lower old ++ (codes "\",\"new\":\"" ++ (encode_lower new ++ codes "\"}]}\n")))
-unfolding changes_text
+pub state_is : (old new : List ℕ) → list_text (state_diff old new ∷ [])
+    ≡ codes "[{\"path\":\"state\",\"old\":\""
+    ++ (encode_lower old ++ (codes "\",\"new\":\"" ++ (encode_lower new ++ codes "\"}]")))
 state_is old new =
-    ap (λ t. codes ",\"changes\":[" ++ (t ++ codes "]}\n"))
+    list_is (state_diff old new ∷ [])
+    ∙ ap (λ t. 91 ∷ (t ++ 93 ∷ []))
     (ap print (append-nil (object_of (diff_members (state_diff old new)))) ∙ object_is (state_diff old new))
     ∙ simp append_assoc
 
 -- ** the line
 
-closed : (b : Bool) → print_from b (end_array ∷ end_object ∷ []) ≡ 93 ∷ 125 ∷ []
+ended : (b : Bool) → print_from b (end_object ∷ []) ≡ 125 ∷ []
 unfolding print_from
-closed true = refl
-closed false = refl
+ended true = refl
+ended false = refl
 
 changes_print : (ds : List Diff)
     → print_from true ((key (codes "changes") ∷ list_of (diff_objects ds)) ++ end_object ∷ [])
-    ≡ codes ",\"changes\":[" ++ (print (diff_objects ds) ++ codes "]}")
-unfolding print_from escape_byte
+    ≡ codes ",\"changes\":" ++ (list_text ds ++ 125 ∷ [])
+unfolding print_from escape_byte list_text
 changes_print ds =
-    ap (λ t. codes ",\"changes\":[" ++ t)
-    (ap print (append_assoc (diff_objects ds) (end_array ∷ []) (end_object ∷ []))
-    ∙ print_from-append false (diff_objects ds) (end_array ∷ end_object ∷ [])
-    ∙ ap (λ t. print (diff_objects ds) ++ t) (closed (ends_value (diff_objects ds))))
+    let list : List Token = list_of (diff_objects ds) in
+    ap (λ t. codes ",\"changes\":" ++ t)
+    (print_from-append false list (end_object ∷ []) ∙ ap (λ t. print list ++ t) (ended (ends_value list)))
 
 line_print : (ms : Members) (ds : List Diff) → ends_value (opened ms) ≡ true
     → print (object_of (ms ++ changes_member ds ∷ []))
-    ≡ print (opened ms) ++ (codes ",\"changes\":[" ++ (print (diff_objects ds) ++ codes "]}"))
+    ≡ print (opened ms) ++ (codes ",\"changes\":" ++ (list_text ds ++ 125 ∷ []))
 line_print ms ds is =
     let member : List Token = key (codes "changes") ∷ list_of (diff_objects ds) in
     ap (λ (ts : List Token). print (ts ++ end_object ∷ []))
@@ -206,8 +220,9 @@ line_print ms ds is =
 
 -- the line is its head and what changed
 pub line_is : (words : Members) (head : Head) (ds : List Diff)
-    → changed_line words head ds ≡ head_text words (codes "changed") head ++ changes_text ds
-unfolding changed_line head_text changes_text
+    → changed_line words head ds
+    ≡ head_text words (codes "changed") head ++ (codes ",\"changes\":" ++ (list_text ds ++ codes "}\n"))
+unfolding changed_line head_text
 line_is words head ds =
     ap with_lf (line_print (begun words (codes "changed") head) ds (ends_begun words (codes "changed") head))
     ∙ simp append_assoc
@@ -233,43 +248,40 @@ change_added old a b c e f g new path was now is_next d is_path is_was is_now ha
     ∙ shape ∙ ap (λ t. old ++ t) (sym (diff_is is_next d))
 
 pub texts_added : (out a b c e new was now old text : List ℕ) → was ≡ encode_lower old → now ≡ encode_lower text
-    → a ≡ out ++ codes ",\"changes\":[{\"path\":\"state\",\"old\":\"" → b ≡ a ++ was
-    → c ≡ b ++ codes "\",\"new\":\"" → e ≡ c ++ now → new ≡ e ++ codes "\"}]}\n"
-    → new ≡ out ++ changes_text (state_diff old text ∷ [])
+    → a ≡ out ++ codes "[{\"path\":\"state\",\"old\":\"" → b ≡ a ++ was
+    → c ≡ b ++ codes "\",\"new\":\"" → e ≡ c ++ now → new ≡ e ++ codes "\"}]"
+    → new ≡ out ++ list_text (state_diff old text ∷ [])
 texts_added out a b c e new was now old text is_was is_now ha hb hc he hn =
-    let first : List ℕ = codes ",\"changes\":[{\"path\":\"state\",\"old\":\"" in
+    let first : List ℕ = codes "[{\"path\":\"state\",\"old\":\"" in
     let second : List ℕ = codes "\",\"new\":\"" in
     let w : List ℕ = encode_lower old in
     let n : List ℕ = encode_lower text in
-    let shape : ((((out ++ first) ++ w) ++ second) ++ n) ++ codes "\"}]}\n"
-    ≡ out ++ (first ++ (w ++ (second ++ (n ++ codes "\"}]}\n"))))
+    let shape : ((((out ++ first) ++ w) ++ second) ++ n) ++ codes "\"}]"
+    ≡ out ++ (first ++ (w ++ (second ++ (n ++ codes "\"}]"))))
     = simp append_assoc in
-    hn ∙ ap (λ t. t ++ codes "\"}]}\n") (he ∙ (λ i. hc i ++ is_now i)
+    hn ∙ ap (λ t. t ++ codes "\"}]") (he ∙ (λ i. hc i ++ is_now i)
     ∙ ap (λ t. (t ++ second) ++ n) (hb ∙ (λ i. ha i ++ is_was i)))
     ∙ shape ∙ ap (λ t. out ++ t) (sym (state_is old text))
 
 -- so far, and one more
-pub changes_begun : (out a : List ℕ) → a ≡ out ++ codes ",\"changes\":["
-    → a ≡ out ++ (codes ",\"changes\":[" ++ print (diff_objects []))
+pub changes_begun : (out a : List ℕ) → a ≡ out ++ 91 ∷ [] → a ≡ out ++ 91 ∷ print (diff_objects [])
 unfolding print_from
 changes_begun out a h = h
 
 pub changes_more : (out so_far next : List ℕ) (ds : List Diff) (d : Diff) (b : Bool)
-    → so_far ≡ out ++ (codes ",\"changes\":[" ++ print (diff_objects ds)) → ends_value (diff_objects ds) ≡ b
-    → next ≡ so_far ++ diff_text b d
-    → next ≡ out ++ (codes ",\"changes\":[" ++ print (diff_objects (ds ++ d ∷ [])))
+    → so_far ≡ out ++ 91 ∷ print (diff_objects ds) → ends_value (diff_objects ds) ≡ b → next ≡ so_far ++ diff_text b d
+    → next ≡ out ++ 91 ∷ print (diff_objects (ds ++ d ∷ []))
 changes_more out so_far next ds d b before ends is =
     is ∙ ap (λ t. t ++ diff_text b d) before
-    ∙ append_assoc out (codes ",\"changes\":[" ++ print (diff_objects ds)) (diff_text b d)
-    ∙ ap (λ t. out ++ (codes ",\"changes\":[" ++ t)) (sym (objects_more ds d b ends))
+    ∙ append_assoc out (91 ∷ print (diff_objects ds)) (diff_text b d)
+    ∙ ap (λ t. out ++ 91 ∷ t) (sym (objects_more ds d b ends))
 
 pub changes_added : (out so_far new : List ℕ) (ds : List Diff)
-    → so_far ≡ out ++ (codes ",\"changes\":[" ++ print (diff_objects ds)) → new ≡ so_far ++ codes "]}\n"
-    → new ≡ out ++ changes_text ds
-unfolding changes_text
+    → so_far ≡ out ++ 91 ∷ print (diff_objects ds) → new ≡ so_far ++ 93 ∷ [] → new ≡ out ++ list_text ds
 changes_added out so_far new ds before is =
-    is ∙ ap (λ t. t ++ codes "]}\n") before
-    ∙ append_assoc out (codes ",\"changes\":[" ++ print (diff_objects ds)) (codes "]}\n")
+    is ∙ ap (λ t. t ++ 93 ∷ []) before
+    ∙ append_assoc out (91 ∷ print (diff_objects ds)) (93 ∷ [])
+    ∙ ap (λ t. out ++ t) (sym (list_is ds))
 
 pub head_added : (out a b c new : List ℕ) (words : Members) (change : List ℕ) (head : Head)
     → a ≡ out ++ print (opened (words ++ change_member change ∷ []))
@@ -305,13 +317,18 @@ begun_added out text mid new words change last is added popped some = by last po
         let is : false ≡ true = some long in absurd cc
     by (Some x) popped some = (same_from_push new (out ++ begun) x 125 (sym popped ∙ whole)).0
 
-pub line_added : (out mid new : List ℕ) (words : Members) (head : Head) (ds : List Diff)
-    → mid ≡ out ++ head_text words (codes "changed") head → new ≡ mid ++ changes_text ds
-    → new ≡ out ++ changed_line words head ds
-line_added out mid new words head ds hm hn =
-    hn ∙ ap (λ t. t ++ changes_text ds) hm
-    ∙ append_assoc out (head_text words (codes "changed") head) (changes_text ds)
-    ∙ ap (λ t. out ++ t) (sym (line_is words head ds))
+pub line_added : (out mid a b new : List ℕ) (words : Members) (head : Head) (ds : List Diff)
+    → mid ≡ out ++ head_text words (codes "changed") head → a ≡ mid ++ codes ",\"changes\":" → b ≡ a ++ list_text ds
+    → new ≡ b ++ codes "}\n" → new ≡ out ++ changed_line words head ds
+line_added out mid a b new words head ds hm ha hb hn =
+    let first : List ℕ = head_text words (codes "changed") head in
+    let name : List ℕ = codes ",\"changes\":" in
+    let list : List ℕ = list_text ds in
+    let shape : (((out ++ first) ++ name) ++ list) ++ codes "}\n"
+    ≡ out ++ (first ++ (name ++ (list ++ codes "}\n")))
+    = simp append_assoc in
+    hn ∙ ap (λ t. t ++ codes "}\n") (hb ∙ ap (λ t. t ++ list) (ha ∙ ap (λ t. t ++ name) hm))
+    ∙ shape ∙ ap (λ t. out ++ t) (sym (line_is words head ds))
 
 -- where no change is left both encodings are told
 pub told_none : (old new : List ℕ) (changes : List Change) → length changes ≡ 0
@@ -329,8 +346,8 @@ pub some_changed : (front old new line : List ℕ) → IsChanged front old new l
 unfolding changed_line
 some_changed front old new line is =
     let text : List ℕ = print (object_of (begun (told_words front) (codes "changed") is.head
-    ++ changes_member (told_diffs old new is.left) ∷ [])) in
-    let same : line ≡ text ++ 10 ∷ [] = is.told in
+    ++ changes_member is.changes ∷ [])) in
+    let same : line ≡ text ++ 10 ∷ [] = is.is in
     omega (arith, ap length same, length-append text (10 ∷ []))
 
 -- something is added
@@ -338,3 +355,10 @@ pub longer_changed : (front old new before now : List ℕ) → AddsChanged front
     → length before < length now
 longer_changed front old new before now adds =
     omega (arith, ap length adds.2, length-append before adds.0, some_changed front old new adds.0 adds.1)
+
+-- a list has its brackets
+pub longer_list : (old new before now : List ℕ) → AddsList old new before now → length before < length now
+longer_list old new before now adds =
+    let text : adds.0 ≡ 91 ∷ (print (diff_objects adds.1.changes) ++ 93 ∷ [])
+    = adds.1.is ∙ list_is adds.1.changes in
+    omega (arith, ap length adds.2, length-append before adds.0, ap length text)

@@ -7,7 +7,6 @@ use Rattle.std.specs.Iterator.{MakesProgress, item_count}
 use Rattle.std.specs.Int.{w16}
 use Rattle.nla_wire.specs.Fields.{number_at}
 use Rattle.std.specs.List.{concat}
-use Rattle.std.proofs.lemmas.Bool.Decides.{nat_tests}
 use Rattle.message_diff.specs.Frames.{frame_len, frames_within, frames_in}
 
 -- ** how long a frame is

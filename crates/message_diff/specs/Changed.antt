@@ -80,8 +80,8 @@ given_text name (Some value) = codes ",\"" ++ (name ++ (codes "\":" ++ value))
 unfoldable pub head_text : Members → List ℕ → Head → List ℕ
 head_text words change head = print (opened (begun words change head))
 
-unfoldable pub changes_text : List Diff → List ℕ
-changes_text ds = codes ",\"changes\":[" ++ (print (diff_objects ds) ++ codes "]}\n")
+unfoldable pub list_text : List Diff → List ℕ
+list_text ds = print (list_of (diff_objects ds))
 
 -- behind a comma where one is due
 unfoldable pub diff_text : Bool → Diff → List ℕ
@@ -89,17 +89,23 @@ diff_text is_next d = print_from is_next (object_of (diff_members d))
 
 -- ** what is added
 
--- the line that tells what changed: of the changes between two lists of members some may be left out, or one of their
+-- what is told between two encodings: of the changes between two lists of members some may be left out, or one of their
 -- two values, where their paths are counters of the old message, or of the new one
-pub record IsChanged (front old new line : List ℕ) : Type 0 where
-  pub head : Head
+pub record AreTold (old new : List ℕ) (told : List Diff) : Type 0 where
   pub was : List Leaf
   pub now : List Leaf
   pub found : List Diff
   pub left : List Diff
   pub differ : AreDiffs was now found
   pub are_left : AreSomeLeft found left
-  pub told : line ≡ changed_line (told_words front) head (told_diffs old new left)
+  pub all : told ≡ told_diffs old new left
+
+-- the line that tells them
+pub record IsChanged (front old new line : List ℕ) : Type 0 where
+  pub head : Head
+  pub changes : List Diff
+  pub are_told : AreTold old new changes
+  pub is : line ≡ changed_line (told_words front) head changes
 
 abbrev pub AddsChanged : List ℕ → List ℕ → List ℕ → List ℕ → List ℕ → Type 0
 AddsChanged front old new before now = (line : List ℕ) × IsChanged front old new line × (now ≡ before ++ line)
@@ -108,3 +114,18 @@ AddsChanged front old new before now = (line : List ℕ) × IsChanged front old 
 abbrev pub AddsChangedBy : Compared → List ℕ → List ℕ → List ℕ → List ℕ → Type 0
 AddsChangedBy by old new before now =
     (was : List ℕ) × (is : List ℕ) × HasTextBy by old was × HasTextBy by new is × AddsChanged [] was is before now
+
+-- ** the list alone
+
+-- it has no line's end
+pub record IsList (old new text : List ℕ) : Type 0 where
+  pub changes : List Diff
+  pub are_told : AreTold old new changes
+  pub is : text ≡ list_text changes
+
+abbrev pub AddsList : List ℕ → List ℕ → List ℕ → List ℕ → Type 0
+AddsList old new before now = (text : List ℕ) × IsList old new text × (now ≡ before ++ text)
+
+abbrev pub AddsListBy : Compared → List ℕ → List ℕ → List ℕ → List ℕ → Type 0
+AddsListBy by old new before now =
+    (was : List ℕ) × (is : List ℕ) × HasTextBy by old was × HasTextBy by new is × AddsList was is before now

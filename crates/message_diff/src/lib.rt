@@ -13,6 +13,7 @@ mod half;
 mod key;
 mod line;
 mod lines;
+mod listed;
 mod members;
 mod parts;
 mod reading;
@@ -25,6 +26,7 @@ mod words;
 
 pub use desk::Desk;
 pub use files::{Untold, compare_readers};
+pub use listed::push_list;
 pub use snapshot::{Compared, Snapshot};
 pub use told::{push_changed, push_compared, push_gone, push_new};
 pub use watch::{Told, compare_lines, watch_lines};

@@ -1,11 +1,11 @@
-//! The parts of a line that tells what changed of an interface.
+//! The parts of a line that tells what changed of an interface, and of a list of changes.
 
 ghost use Rattle.std.specs.Prelude.{◌≡◌, ◌++◌, ◌∷◌, [], OnOk, option_map};
 ghost use Rattle.json.specs.Print.{print};
 ghost use Rattle.shown.specs.Sheets.{comma_if};
 ghost use Rattle.message_diff.specs.Alone.{told_words, change_member};
 ghost use Rattle.message_diff.specs.Differences.{diff_of, diffs_of};
-ghost use Rattle.message_diff.specs.Changed.{Head, opened, given_text, head_text, diff_text, changes_text, state_diff};
+ghost use Rattle.message_diff.specs.Changed.{Head, opened, given_text, head_text, diff_text, list_text, state_diff};
 
 use crate::differences::Change;
 use crate::members::Members;
@@ -87,20 +87,19 @@ fn push_change(out: &mut Vec<u8>, is_next: bool, change: &Change<'_>) -> Result<
     Ok(())
 }
 
-/// Ends a line by the list of what changed at each path.
+/// Adds the list of what changed at each path.
 pub fn push_changes(out: &mut Vec<u8>, changes: &[Change<'_>]) -> Result<(), AllocError>
-    ensures { OnOk result
-        (out.new.items ≡ out.old.items ++ changes_text (diffs_of changes.now)) }
+    ensures { OnOk result (out.new.items ≡ out.old.items ++ list_text (diffs_of changes.now)) }
 {
-    out.extend_from_slice(b",\"changes\":[")?;
+    out.push(b'[')?;
     for (i, change) in changes.iter().enumerate() {
         push_change(out, i > 0, change)?;
     }
-    out.extend_from_slice(b"]}\n")?;
+    out.push(b']')?;
     Ok(())
 }
 
-/// Ends a line by both encodings, which differ where no path does.
+/// Adds the list of both encodings alone, which differ where no path does.
 pub fn push_texts(
     alloc: Global,
     out: &mut Vec<u8>,
@@ -108,14 +107,14 @@ pub fn push_texts(
     new: &[u8],
 ) -> Result<(), AllocError>
     ensures { OnOk result
-        (out.new.items ≡ out.old.items ++ changes_text (state_diff old.now new.now ∷ [])) }
+        (out.new.items ≡ out.old.items ++ list_text (state_diff old.now new.now ∷ [])) }
 {
     let was = hex::encode(alloc, old)?;
     let is = hex::encode(alloc, new)?;
-    out.extend_from_slice(b",\"changes\":[{\"path\":\"state\",\"old\":\"")?;
+    out.extend_from_slice(b"[{\"path\":\"state\",\"old\":\"")?;
     out.extend_from_slice(was.as_str().as_bytes())?;
     out.extend_from_slice(b"\",\"new\":\"")?;
     out.extend_from_slice(is.as_str().as_bytes())?;
-    out.extend_from_slice(b"\"}]}\n")?;
+    out.extend_from_slice(b"\"}]")?;
     Ok(())
 }

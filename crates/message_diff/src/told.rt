@@ -1,17 +1,16 @@
 //! A line for an interface that came, went or changed.
 
-ghost use Rattle.std.specs.Prelude.{◌≡◌, ◌<◌, ◌++◌, ◌↔◌, IsTrue, IfOk, IfErr, OnOk, false, length, codes};
+ghost use Rattle.std.specs.Prelude.{◌≡◌, ◌<◌, ◌↔◌, IsTrue, IfOk, IfErr, OnOk, false, length, codes};
 ghost use Rattle.link_msg.specs.Canonical.{IsRefusalOfTwo};
 ghost use Rattle.message_diff.specs.Compared.{TellsIfDiffers, Extends};
 ghost use Rattle.message_diff.specs.Alone.{AddsAlone};
-ghost use Rattle.message_diff.specs.Differences.{diffs_of, AreSomeLeft};
-ghost use Rattle.message_diff.specs.Changed.{told_diffs, changes_text, AddsChanged, AddsChangedBy};
+ghost use Rattle.message_diff.specs.Changed.{AddsChanged, AddsChangedBy};
 
 use crate::alone::push_alone;
 use crate::counters::Counters;
 use crate::desk::{Desk, Pair};
-use crate::differences::{Change, differences};
-use crate::line::{push_changes, push_head, push_texts};
+use crate::line::push_head;
+use crate::listed::{push_found, show_both};
 use crate::snapshot::{Compared, Snapshot};
 use link_msg::CanonError;
 use message_shown::context::Order;
@@ -44,40 +43,6 @@ pub fn push_gone(
     push_alone(alloc, front, "gone", old.text(), out)
 }
 
-/// Ends a line by what differs between the rows, or else by the encodings.
-fn push_differences(
-    alloc: Global,
-    old: &Snapshot,
-    new: &Snapshot,
-    changes: &[Change<'_>],
-    out: &mut Vec<u8>,
-) -> Result<(), AllocError>
-    ensures { OnOk result (out.new.items ≡ out.old.items
-        ++ changes_text (told_diffs old.now new.now (diffs_of changes.now))) }
-{
-    if changes.is_empty() {
-        return push_texts(alloc, out, old.text(), new.text());
-    }
-    push_changes(out, changes)
-}
-
-/// The changes without those of counters, where these are not compared.
-fn leave_out<'a>(
-    alloc: Global,
-    by: Compared,
-    pair: &Pair,
-    counters: &mut Counters,
-    changes: Vec<Change<'a>>,
-) -> Result<Vec<Change<'a>>, AllocError>
-    ensures { IfOk result (λ left. AreSomeLeft (diffs_of changes.entry.items)
-        (diffs_of left.items)) }
-{
-    match by {
-        Compared::State => counters.leave_out(alloc, pair, changes),
-        Compared::Message => Ok(changes),
-    }
-}
-
 /// Adds a line for an interface whose encoding is another, by what is shown of both.
 fn push_shown(
     alloc: Global,
@@ -91,15 +56,14 @@ fn push_shown(
     ensures { OnOk result
         (AddsChanged front.now old.now new.now out.old.items out.new.items) }
 {
-    let was = pair.old.list(alloc)?;
-    let is = pair.new.list(alloc)?;
-    let found = differences(alloc, was.as_slice(), is.as_slice())?;
-    let changes = leave_out(alloc, new.by(), pair, counters, found)?;
     push_head(alloc, front, "changed", pair.new.members(), out)?;
-    push_differences(alloc, old, new, changes.as_slice(), out)
+    out.extend_from_slice(b",\"changes\":")?;
+    push_found(alloc, old, new, pair, counters, out)?;
+    out.extend_from_slice(b"}\n")?;
+    Ok(())
 }
 
-/// The same, with room to show them in.
+/// The same, where nothing is shown of them yet.
 fn push_difference(
     alloc: Global,
     front: &[u8],
@@ -111,8 +75,7 @@ fn push_difference(
     ensures { OnOk result
         (AddsChanged front.now old.now new.now out.old.items out.new.items) }
 {
-    let orders = (old.order(), new.order());
-    desk.pair.show(alloc, orders, old.text(), new.text())?;
+    show_both(alloc, old, new, desk)?;
     push_shown(alloc, front, old, new, &desk.pair, &mut desk.counters, out)
 }
 

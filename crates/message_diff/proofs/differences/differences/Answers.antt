@@ -1,4 +1,4 @@
-use Rattle.std.proofs.Common.{rules, ap, sym, refl, ◌∙◌, ◌≡◌, ◌++◌, ◌∷◌, [], List, append-nil, ◌+◌}
+use Rattle.std.proofs.Common.{rules, ap, sym, refl, ◌∙◌, ◌≡◌, ◌++◌, ◌∷◌, [], List, append-nil}
 use Rattle.std.specs.Prelude.{Some, None}
 use Rattle.std.proofs.lemmas.List.{map_push}
 use Rattle.message_diff.specs.declared.differences.Change.TheVariants.{Came}

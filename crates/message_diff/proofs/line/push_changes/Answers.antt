@@ -1,5 +1,4 @@
-use Rattle.std.proofs.Common.{◌++◌, ◌+◌, List, take, refl, ap, sym, ◌∙◌, arith}
-use Rattle.std.specs.Prelude.{codes}
+use Rattle.std.proofs.Common.{◌++◌, ◌∷◌, List, take, refl, ap, sym, ◌∙◌, arith}
 use Rattle.std.proofs.lemmas.Bool.Decides.{nat_tests}
 use Rattle.std.proofs.lemmas.List.{take_all}
 use Rattle.json.specs.Print.{print, ends_value}
@@ -12,7 +11,7 @@ use Rattle.message_diff.proofs.line.push_changes.Goals as goal
 
 pub loop-i-init : goal.loop-i-init
 loop-i-init c = record {
-  text = changes_begun c.args.out.now.items c.extend_from_slice.new.self.items c.in_ok-extend_from_slice.ensures.items;
+  text = changes_begun c.args.out.now.items c.push.new.self.items c.in_ok-push.ensures.items;
   ends = refl;
 }
 
@@ -25,7 +24,7 @@ loop-i-preserved c =
     record {
       text = changes_more c.args.out.now.items c.loop-i.out.items c.push_change.new.out.items before _ _
           c.loop-i.invariant.text c.loop-i.invariant.ends c.in_ok-push_change.ensures
-          ∙ ap (λ (ds : List Diff). c.args.out.now.items ++ (codes ",\"changes\":[" ++ print (diff_objects ds)))
+          ∙ ap (λ (ds : List Diff). c.args.out.now.items ++ 91 ∷ print (diff_objects ds))
           (sym more);
       ends = ap (λ (ds : List Diff). ends_value (diff_objects ds)) more ∙ ends_objects before _
           ∙ grind (arith, nat_tests);
@@ -34,9 +33,7 @@ loop-i-preserved c =
 pub returns : goal.returns
 returns c =
     let all = take_all c.loop-i.i c.args.changes.now c.loop-i-test.false in
-    changes_added c.args.out.now.items c.loop-i.out.items c.extend_from_slice-2.new.self.items
-    (diffs_of c.args.changes.now)
+    changes_added c.args.out.now.items c.loop-i.out.items c.push-2.new.self.items (diffs_of c.args.changes.now)
     (c.loop-i.invariant.text
-    ∙ ap (λ (cs : List Change). c.args.out.now.items ++ (codes ",\"changes\":[" ++ print (diff_objects (diffs_of cs))))
-    all)
-    c.in_ok-extend_from_slice-2.ensures.items
+    ∙ ap (λ (cs : List Change). c.args.out.now.items ++ 91 ∷ print (diff_objects (diffs_of cs))) all)
+    c.in_ok-push-2.ensures.items

@@ -1,0 +1,124 @@
+//! The list of what changed of an interface.
+
+ghost use Rattle.std.specs.Prelude.{◌≡◌, ◌<◌, ◌++◌, IsTrue, IfOk, IfErr, OnOk, false, length};
+ghost use Rattle.link_msg.specs.Canonical.{IsRefusalOfTwo};
+ghost use Rattle.message_diff.specs.Compared.{TellsIfDiffers};
+ghost use Rattle.message_diff.specs.Differences.{diffs_of, AreSomeLeft};
+ghost use Rattle.message_diff.specs.Changed.{told_diffs, list_text, AddsList, AddsListBy};
+
+use crate::counters::Counters;
+use crate::desk::{Desk, Pair};
+use crate::differences::{Change, differences};
+use crate::line::{push_changes, push_texts};
+use crate::snapshot::{Compared, Snapshot};
+use link_msg::CanonError;
+use message_shown::context::Order;
+use std::alloc::{AllocError, Global};
+
+/// Shows both messages, each with its order of the counters of IPv6.
+pub fn show_both(
+    alloc: Global,
+    old: &Snapshot,
+    new: &Snapshot,
+    desk: &mut Desk,
+) -> Result<(), AllocError> {
+    let orders = (old.order(), new.order());
+    desk.pair.show(alloc, orders, old.text(), new.text())
+}
+
+/// The changes without those of counters, where these are not compared.
+fn leave_out<'a>(
+    alloc: Global,
+    by: Compared,
+    pair: &Pair,
+    counters: &mut Counters,
+    changes: Vec<Change<'a>>,
+) -> Result<Vec<Change<'a>>, AllocError>
+    ensures { IfOk result (λ left. AreSomeLeft (diffs_of changes.entry.items)
+        (diffs_of left.items)) }
+{
+    match by {
+        Compared::State => counters.leave_out(alloc, pair, changes),
+        Compared::Message => Ok(changes),
+    }
+}
+
+/// Adds the list of what differs between the rows, or else of the encodings.
+fn push_differences(
+    alloc: Global,
+    old: &Snapshot,
+    new: &Snapshot,
+    changes: &[Change<'_>],
+    out: &mut Vec<u8>,
+) -> Result<(), AllocError>
+    ensures { OnOk result (out.new.items ≡ out.old.items
+        ++ list_text (told_diffs old.now new.now (diffs_of changes.now))) }
+{
+    if changes.is_empty() {
+        return push_texts(alloc, out, old.text(), new.text());
+    }
+    push_changes(out, changes)
+}
+
+/// Adds the list of what changed, by what is shown of both messages.
+pub fn push_found(
+    alloc: Global,
+    old: &Snapshot,
+    new: &Snapshot,
+    pair: &Pair,
+    counters: &mut Counters,
+    out: &mut Vec<u8>,
+) -> Result<(), AllocError>
+    ensures { OnOk result (AddsList old.now new.now out.old.items out.new.items) }
+{
+    let was = pair.old.list(alloc)?;
+    let is = pair.new.list(alloc)?;
+    let found = differences(alloc, was.as_slice(), is.as_slice())?;
+    let changes = leave_out(alloc, new.by(), pair, counters, found)?;
+    push_differences(alloc, old, new, changes.as_slice(), out)
+}
+
+/// Adds the list of what changed of an interface whose encoding is another.
+fn push_both(
+    alloc: Global,
+    old: &Snapshot,
+    new: &Snapshot,
+    out: &mut Vec<u8>,
+) -> Result<(), AllocError>
+    ensures { OnOk result (AddsList old.now new.now out.old.items out.new.items) }
+{
+    let mut desk = Desk::new(alloc);
+    show_both(alloc, old, new, &mut desk)?;
+    push_found(alloc, old, new, &desk.pair, &mut desk.counters, out)
+}
+
+/// Adds the list of what differs between the messages that the bytes are, if their encodings do, and returns whether
+/// they do. It is what a line of `push_compared` has as `changes`: a JSON list, and no line's end.
+///
+/// Refuses as `same_message` does, each refusal of the old one before those of the new one; then nothing was added.
+pub fn push_list(
+    alloc: Global,
+    by: Compared,
+    order: Order,
+    old: &[u8],
+    new: &[u8],
+    out: &mut Vec<u8>,
+) -> Result<bool, CanonError>
+    ensures told { IfOk result (TellsIfDiffers by old.now new.now) }
+    ensures silent { IfOk result (λ told. told ≡ false → out.new ≡ out.old) }
+    ensures said { IfOk result
+        (λ told. IsTrue told → length out.old.items < length out.new.items) }
+    ensures list { IfOk result (λ told. IsTrue told
+        → AddsListBy by old.now new.now out.old.items out.new.items) }
+    ensures err { IfErr result (IsRefusalOfTwo old.now new.now) }
+{
+    let was = Snapshot::new(alloc, by, order, old)?;
+    let is = Snapshot::new(alloc, by, order, new)?;
+    if was.text() == is.text() {
+        return Ok(false);
+    }
+    match push_both(alloc, &was, &is, out) {
+        Ok(()) => Ok(true),
+        Err(AllocError) => Err(CanonError::OutOfMemory),
+    }
+}
