@@ -4,8 +4,8 @@ use crate::members::Members;
 use crate::parts::Part;
 use crate::rows::{Row, Rows};
 use link_info::all_rows;
-use message_shown::answers::show_marked;
 use message_shown::context::{Context, Order};
+use message_shown::marked::show_marked;
 use shown::Marked;
 use std::alloc::{AllocError, Global};
 

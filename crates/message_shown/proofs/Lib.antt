@@ -6,3 +6,4 @@ mod Elements
 mod Forms
 mod Kept
 mod Leniently
+mod Raw

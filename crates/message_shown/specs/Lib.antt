@@ -13,3 +13,4 @@ pub mod Settings
 pub mod Attributes
 pub mod Forms
 pub mod Leniently
+pub mod Raw

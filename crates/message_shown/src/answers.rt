@@ -7,8 +7,7 @@ ghost use Rattle.link_msg.specs.Messages.{Means, FirstFault};
 ghost use Rattle.link_msg.specs.declared.message.LinkMessage.{LinkMessage};
 ghost use Rattle.message_shown.specs.Lines.{IsAnswer, IsAnswerTo, AddsAnswerOf, AddsAnswerTo, AddsSpelled};
 ghost use Rattle.message_shown.specs.Lines.{whole_object, nothex_member, TellsLine};
-ghost use Rattle.shown.specs.Drafts.{empty_object, with_members};
-ghost use Rattle.shown.specs.Marks.{IsMarkedText};
+ghost use Rattle.shown.specs.Drafts.{with_members};
 ghost use Rattle.message_shown.specs.Attributes.{message_members, message_line, TellsMessage};
 ghost use Rattle.message_shown.specs.Worded.{words_shown};
 ghost use Rattle.line_filter.specs.Lines.{with_lf};
@@ -27,7 +26,7 @@ use line_filter::digits::{decode, values};
 use line_filter::words::{are_alone, digits_of, split};
 use link_info::{Tables, all_rows};
 use link_msg::{Cause, DecodeError, LinkMessage};
-use shown::{Marked, Page, Room};
+use shown::{Page, Room};
 use std::alloc::{AllocError, Global};
 use std::mem;
 
@@ -204,51 +203,6 @@ pub(crate) fn push_fault(
     room.finish(page, waiting)?;
     waiting.push(b'\n')?;
     Ok(())
-}
-
-/// Writes what a message says, whose bytes these are, on a page whose members are marked.
-fn mark_message(
-    cx: &Context<'_>,
-    bytes: &[u8],
-    message: &LinkMessage,
-    marked: &mut Marked,
-) -> Result<(), AllocError>
-    ensures { OnOk result (IsMarkedText (with_members
-        (message_members cx.now bytes.now message.now) empty_object) marked.new) }
-{
-    let mut object = marked.begin()?;
-    show_message(cx, &mut object, bytes, message)?;
-    marked.keep(object)
-}
-
-/// Writes why these bytes are no message on a page whose members are marked.
-fn mark_fault(
-    cx: &Context<'_>,
-    bytes: &[u8],
-    error: &DecodeError,
-    marked: &mut Marked,
-) -> Result<(), AllocError> {
-    let mut object = marked.begin()?;
-    object.string("fault", cause_name(&error.cause))?;
-    show_fault(cx, &mut object, bytes, error)?;
-    marked.keep(object)
-}
-
-/// Writes what these bytes say on a page whose members are marked.
-pub fn show_marked(cx: &Context<'_>, bytes: &[u8], marked: &mut Marked) -> Result<(), AllocError>
-    ensures { OnOk result ((m : LinkMessage) → Means bytes.now m
-        → IsMarkedText (with_members (message_members cx.now bytes.now m) empty_object)
-        marked.new) }
-{
-    match LinkMessage::parse(cx.alloc, bytes) {
-        Ok(message) => mark_message(cx, bytes, &message, marked),
-        Err(refusal) => {
-            if let Cause::OutOfMemory = refusal.cause {
-                return Err(AllocError);
-            }
-            mark_fault(cx, bytes, &refusal, marked)
-        }
-    }
 }
 
 /// Adds the answer to a line of words alone.

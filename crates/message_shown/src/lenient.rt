@@ -79,7 +79,7 @@ fn accepted_in(
 }
 
 /// What bytes mean leniently, without the attributes that are refused; `None` where they mean nothing.
-fn parse_accepted(alloc: Global, bytes: &[u8]) -> Result<Option<LinkMessage>, AllocError>
+pub(crate) fn parse_accepted(alloc: Global, bytes: &[u8]) -> Result<Option<LinkMessage>, AllocError>
     ensures { IfOk result (ReadsAccepted bytes.now) }
 {
     if bytes.len() < HEADER_SIZE {

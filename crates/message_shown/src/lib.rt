@@ -10,6 +10,7 @@ mod fault;
 mod form;
 pub mod laws;
 mod lenient;
+pub mod marked;
 mod member;
 mod names;
 mod nests;
