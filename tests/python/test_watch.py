@@ -93,11 +93,21 @@ def odd_lines(chance, count):
                       "links=4" if sort < .18 else f"{type_}kernel=6.1.0 {chance.choice(('', 'ok '))}{digits}")
 
 
+def undecoded(found):
+    """Of bytes that are no message only that they are none: linkdiff has the first fault, which may be one that lenient
+    reading passes over."""
+    alike = "not-hex", "unfit", "empty-ports"
+    return [(at, host, {"fault": "refused"} if it.get("fault", alike[0]) not in alike else it)
+            for at, host, it in found]
+
+
 @unittest.skipUnless(os.path.exists(LINKDIFF), "linkdiff is not built")
 class Rules(unittest.TestCase):
     def compares(self, lines, options=(), **words):
         own = watched(linkwire.Watch(**words), lines)
         wanted = told(options, lines)
+        if "--lenient" in options:
+            own, wanted = undecoded(own), undecoded(wanted)
         for one, other in zip(own, wanted):
             self.assertEqual(one, other, lines[one[0]])
         self.assertEqual(len(own), len(wanted))
