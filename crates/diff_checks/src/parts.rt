@@ -110,9 +110,7 @@ fn tell(
 ) -> Result<Option<bool>, AllocError> {
     let (old, new) = messages;
     match (shown_by(alloc, by, old)?, shown_by(alloc, by, new)?) {
-        (Some(mut was), Some(mut is)) => {
-            Ok(Some(push_changed(alloc, b"", &mut was, &mut is, desk, out)?))
-        }
+        (Some(was), Some(is)) => { Ok(Some(push_changed(alloc, b"", &was, &is, desk, out)?)) }
         _ => Ok(None),
     }
 }
@@ -275,16 +273,16 @@ fn is_with_alias(alloc: Global, message: &[u8], count: u16) -> Result<bool, Allo
 
 /// Whether a message whose counters have another order has the same line: of its state they are all zero.
 fn is_of_another_order(alloc: Global, old: &[u8], new: &[u8]) -> Result<bool, AllocError> {
-    let Ok(mut was) = Snapshot::new(alloc, Compared::State, Order::Before, old) else {
+    let Ok(was) = Snapshot::new(alloc, Compared::State, Order::Before, old) else {
         return Ok(false);
     };
-    let Some(mut is) = shown_by(alloc, Compared::State, new)? else {
+    let Some(is) = shown_by(alloc, Compared::State, new)? else {
         return Ok(false);
     };
     let mut desk = Desk::new(alloc);
     let mut line = Vec::new(alloc);
     let mut other = Vec::new(alloc);
-    let told = push_changed(alloc, b"", &mut was, &mut is, &mut desk, &mut line)?;
+    let told = push_changed(alloc, b"", &was, &is, &mut desk, &mut line)?;
     tell(alloc, Compared::State, (old, new), &mut desk, &mut other)?;
     Ok(told && line.as_slice() == other.as_slice())
 }

@@ -20,3 +20,5 @@ pub mod Events
 pub mod Families
 pub mod Faulted
 pub mod Wireless
+pub mod Once
+pub mod Beside

@@ -14,3 +14,4 @@ pub mod Marked
 pub mod Held
 pub mod Watched
 pub mod Stopped
+pub mod Files

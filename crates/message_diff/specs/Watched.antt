@@ -1,6 +1,6 @@
 -- What is known of each host, and what a line tells and leaves known.
-use Rattle.std.specs.Prelude.{◌≡◌, ◌+◌, ◌-◌, ◌^◌, ◌++◌, ℕ, false, List, [], ◌∷◌, Option, None, Some}
-use Rattle.std.specs.Prelude.{codes, cond, min}
+use Rattle.std.specs.Prelude.{◌≡◌, ◌||◌, ◌+◌, ◌-◌, ◌^◌, ◌++◌, ℕ, Bool, true, false, List, [], ◌∷◌}
+use Rattle.std.specs.Prelude.{Option, None, Some, codes, cond, min}
 use Rattle.std.specs.Cmp.Lexicographic.{slice_cmp}
 use Rattle.std.specs.Ordering.{nat_cmp}
 use Rattle.std.specs.BTreeMap.{is_at}
@@ -70,6 +70,12 @@ abbrev pub AddsFor : List ℕ → Told → ℕ → Said → Watch → Watch → 
 AddsFor front told at said old new before now =
     (more : List ℕ) × GoesFor front told at said old new more × (now ≡ before ++ more)
 
+-- whether what a line says begins a dump or ends one
+abbrev pub is_of_dump : Said → Bool
+is_of_dump (Saids.Begin dump) = true
+is_of_dump (Saids.Done dump family) = true
+is_of_dump _ = false
+
 -- a line is taken, and this is added: its fault, if it has one, and what it tells
 pub record IsTaken (line : List ℕ) (old new : Watch) (added : List ℕ) : Type 0 where
   pub said : Said
@@ -79,6 +85,7 @@ pub record IsTaken (line : List ℕ) (old new : Watch) (added : List ℕ) : Type
   pub lines : new.lines ≡ next_line old.lines
   pub by : new.reader.by ≡ old.reader.by
   pub told : new.told ≡ old.told
+  pub dumps : new.has_dumps ≡ (old.has_dumps || is_of_dump said)
   pub takes : TakesSaid (front_of line) old.told new.lines said old new more
   pub all : added ≡ fault ++ more
 
@@ -119,6 +126,7 @@ pub record IsFresh (by : Compared) (told : Told) (watch : Watch) : Type 0 where
   pub compares : watch.reader.by ≡ by
   pub tells : watch.told ≡ told
   pub lines : watch.lines ≡ 0
+  pub dumps : watch.has_dumps ≡ false
   pub known : (name : List ℕ) → known_in watch name ≡ nothing_known
 
 -- a run from nothing

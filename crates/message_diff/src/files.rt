@@ -1,10 +1,22 @@
 //! One file beside another.
 
+ghost use Rattle.std.specs.Prelude.{◌≡◌, ◌∷◌, [], Some, false, true, cond, IfErr, IfOk, OnOk, map, option_copied};
+ghost use Rattle.std.specs.List.{flat_map};
+ghost use Rattle.std.specs.Map.{keys_of};
+ghost use Rattle.message_diff.specs.Known.{in_family};
+ghost use Rattle.message_diff.specs.declared.watch.Told.TheVariants.{Faults};
+ghost use Rattle.message_diff.specs.Watched.{host_in};
+ghost use Rattle.message_diff.specs.Stopped.{WatchStops};
+ghost use Rattle.message_diff.specs.Files.{News, found, found_last, known_at, are_two, tells};
+ghost use Rattle.message_diff.specs.Files.{news_at, gone_of, gone_at, host_news, host_gone, names_in, Adds};
+ghost use Rattle.message_diff.specs.Files.{missings, is_missing, is_last, missing_in, WatchesTo, TellsNews, Compares};
+ghost use Rattle.message_diff.specs.Files.{StopsAtEnds, CompareStops};
+
 use crate::desk::Desk;
-use crate::key::Key;
+use crate::key::{AF_UNSPEC, Key};
 use crate::lines::{read_lines, write_out};
-use crate::snapshot::{Compared, Snapshot};
-use crate::store::{Entry, Host, Hosts};
+use crate::snapshot::Compared;
+use crate::store::{Entry, Host, Known};
 use crate::told::{push_changed, push_gone, push_new};
 use crate::watch::{Told, Watch, is_another};
 use line_filter::error::RunError;
@@ -31,8 +43,56 @@ impl Untold {
     }
 
     /// Whether it is this one.
-    fn is(&self, is_new: bool, family: u8, host: &[u8]) -> bool {
-        self.is_new == is_new && self.family == family && self.host.as_slice() == host
+    fn is(&self, is_new: bool, family: u8, host: &[u8]) -> bool
+        ensures { result ≡ is_missing
+            (record { is_new = is_new; family = family; host = host.now }) (missing_in self.now) }
+    {
+        is_new == self.is_new && family == self.family && host == self.host.as_slice()
+    }
+}
+
+/// What one file has of a host.
+#[derive(Clone, Copy)]
+struct Side<'a> {
+    name: &'a [u8],
+    host: Option<&'a Host>,
+    has_dumps: bool,
+}
+
+impl<'a> Side<'a> {
+    /// What a file has of the host with this name.
+    fn of(watch: &'a Watch, name: &'a [u8]) -> Side<'a>
+        ensures name { result.name.now ≡ name.now }
+        ensures host { option_copied result.host ≡ host_in watch.now name.now }
+        ensures has_dumps { result.has_dumps ≡ watch.now.has_dumps }
+    {
+        Side {
+            name,
+            host: watch.hosts().get(name),
+            has_dumps: watch.has_dumps(),
+        }
+    }
+
+    /// What it has of an interface.
+    fn known(self, key: Key) -> Option<&'a Known>
+        ensures { option_copied result
+            ≡ known_at (option_copied self.entry.host) key }
+    {
+        match self.host {
+            Some(host) => host.known.get(&key),
+            None => None,
+        }
+    }
+
+    /// Whether what it has not of a family was not there.
+    fn tells(self, family: u8) -> bool
+        ensures { result
+            ≡ tells self.entry.has_dumps (option_copied self.entry.host) family }
+    {
+        match self.host {
+            Some(host) => !self.has_dumps || host.is_whole(family),
+            None => !self.has_dumps,
+        }
     }
 }
 
@@ -45,6 +105,17 @@ struct Written {
 }
 
 impl Written {
+    /// Whether the last family that was added is this one.
+    fn is_last(&self, is_new: bool, family: u8, host: &[u8]) -> bool
+        ensures { result ≡ is_last self.now.untold.items
+            (record { is_new = is_new; family = family; host = host.now }) }
+    {
+        match self.untold.as_slice().last() {
+            Some(last) => last.is(is_new, family, host),
+            None => false,
+        }
+    }
+
     /// Adds a family of a host of which something is not told, unless it was the last one that was added.
     fn add_untold(
         &mut self,
@@ -52,11 +123,13 @@ impl Written {
         is_new: bool,
         family: u8,
         host: &[u8],
-    ) -> Result<(), AllocError> {
-        if let Some(last) = self.untold.last() {
-            if last.is(is_new, family, host) {
-                return Ok(());
-            }
+    ) -> Result<(), AllocError>
+        ensures { OnOk result (Adds (News.untold
+            (record { is_new = is_new; family = family; host = host.now }) ∷ [])
+            self.old self.new) }
+    {
+        if self.is_last(is_new, family, host) {
+            return Ok(());
         }
         let host = host.to_vec(alloc)?;
         self.untold.push(Untold {
@@ -68,156 +141,185 @@ impl Written {
     }
 }
 
-/// What one file leaves at its end.
-#[derive(Drop)]
-struct Given {
-    hosts: Hosts,
-    /// Whether a dump began or ended in it.
-    has_dumps: bool,
+/// Whether an interface has messages of two kinds in two files.
+fn are_two(was: &Known, is: &Known) -> bool
+    ensures { result ≡ are_two (found_last was.now.last) (found_last is.now.last) }
+{
+    let Some(last) = was.last.as_ref() else {
+        return false;
+    };
+    let Some(new) = is.last.as_ref() else {
+        return false;
+    };
+    is_another(&last.snapshot, &new.snapshot)
 }
 
-/// What one file says of a host.
-#[derive(Clone, Copy)]
-struct Side<'a> {
-    name: &'a [u8],
-    has_dumps: bool,
-    is_new: bool,
+/// The same of the interface alone.
+fn are_two_alone(old: Side<'_>, new: Side<'_>, key: Key) -> bool
+    ensures { result
+        ≡ are_two (found (option_copied old.entry.host) (in_family 0 key))
+        (found (option_copied new.entry.host) (in_family 0 key)) }
+{
+    let alone = key.in_family(AF_UNSPEC);
+    let Some(was) = old.known(alone) else {
+        return false;
+    };
+    let Some(is) = new.known(alone) else {
+        return false;
+    };
+    are_two(was, is)
 }
 
-impl Side<'_> {
-    /// Whether what it has not of a family was not there.
-    fn tells(self, host: Option<&Host>, family: u8) -> bool {
-        match host {
-            Some(host) => !self.has_dumps || host.is_whole(family),
-            None => !self.has_dumps,
-        }
-    }
-}
-
-/// Whether an interface is another one than that of the old file. The parts of one that is are another's too: its index
-/// is added to those that were replaced.
-fn is_replaced(
-    replaced: &mut Vec<u32>,
-    key: Key,
-    was: &Snapshot,
-    is: &Snapshot,
-) -> Result<bool, AllocError> {
-    if key.is_part() && replaced.as_slice().contains(&key.index) {
-        return Ok(true);
-    }
-    if !is_another(was, is) {
-        return Ok(false);
-    }
-    if key.is_alone() {
-        replaced.push(key.index)?;
-    }
-    Ok(true)
-}
-
-/// Adds what changed of an interface whose last message in the old file is this, or that it went and another one came.
-fn push_entry(
+/// Adds what changed of an interface which both files have, or that it went and another one came.
+fn push_both(
     alloc: Global,
-    was: Entry,
-    is: &mut Entry,
+    was: &Entry,
+    is: &Entry,
     is_replaced: bool,
     written: &mut Written,
-) -> Result<(), AllocError> {
-    let mut last = was;
+) -> Result<(), AllocError>
+    ensures { OnOk result (Adds (cond is_replaced
+        (News.replaced was.now.front.items was.now.snapshot is.now.front.items is.now.snapshot)
+        (News.changed is.now.front.items was.now.snapshot is.now.snapshot) ∷ [])
+        written.old written.new) }
+{
     let Written { desk, out, .. } = written;
     let front = is.front.as_slice();
     if is_replaced {
-        push_gone(alloc, last.front.as_slice(), &last.snapshot, out)?;
+        push_gone(alloc, was.front.as_slice(), &was.snapshot, out)?;
         return push_new(alloc, front, &is.snapshot, out);
     }
-    push_changed(
-        alloc,
-        front,
-        &mut last.snapshot,
-        &mut is.snapshot,
-        desk,
-        out,
-    )?;
+    push_changed(alloc, front, &was.snapshot, &is.snapshot, desk, out)?;
     Ok(())
 }
 
-/// Adds what came or changed of a host, and takes out of the old one what the new one has: first the interfaces alone,
-/// and then their parts. Of an interface of which one side has nothing but refusals nothing is added.
-fn push_host(
+/// Adds what came or changed of an interface of which the new file knows this. Of one of which a file has nothing but
+/// refusals nothing is added.
+fn push_news(
     alloc: Global,
-    side: Side<'_>,
-    old: &mut Host,
-    new: &mut Host,
+    old: Side<'_>,
+    new: Side<'_>,
+    key: Key,
+    known: &Known,
     written: &mut Written,
-) -> Result<(), AllocError> {
-    let mut replaced = Vec::new(alloc);
-    for (key, known) in new.known.iter_mut() {
-        let was = old.take(*key);
-        let Some(is) = known.last.as_mut() else {
-            continue;
-        };
-        match was {
-            Some(was) => {
-                if let Some(entry) = was.last {
-                    let other = is_replaced(&mut replaced, *key, &entry.snapshot, &is.snapshot)?;
-                    push_entry(alloc, entry, is, other, written)?;
-                }
-            }
-            None if side.tells(Some(old), key.family) => {
-                push_new(alloc, is.front.as_slice(), &is.snapshot, &mut written.out)?;
-            }
-            None => written.add_untold(alloc, side.is_new, key.family, side.name)?,
+) -> Result<(), AllocError>
+    requires { known_at (option_copied new.host) key ≡ Some known.now }
+    ensures { OnOk result (Adds (news_at old.entry.has_dumps old.entry.name.now
+        (option_copied old.entry.host) (option_copied new.entry.host) key ∷ [])
+        written.old written.new) }
+{
+    let Some(is) = known.last.as_ref() else {
+        return Ok(());
+    };
+    let Some(other) = old.known(key) else {
+        if old.tells(key.family) {
+            return push_new(alloc, is.front.as_slice(), &is.snapshot, &mut written.out);
         }
-    }
-    Ok(())
+        return written.add_untold(alloc, false, key.family, old.name);
+    };
+    let Some(was) = other.last.as_ref() else {
+        return Ok(());
+    };
+    let is_replaced = are_two(other, known) || key.is_part() && are_two_alone(old, new, key);
+    push_both(alloc, was, is, is_replaced, written)
 }
 
-/// Adds what went of a host: what is left of the old one.
+/// Adds that an interface of which the old file knows this went, if the new one has nothing of it.
 fn push_left(
     alloc: Global,
-    side: Side<'_>,
-    old: &Host,
-    new: Option<&Host>,
+    new: Side<'_>,
+    key: Key,
+    known: &Known,
     written: &mut Written,
-) -> Result<(), AllocError> {
-    for (key, known) in old.known.iter() {
-        let Some(was) = known.last.as_ref() else {
-            continue;
-        };
-        if side.tells(new, key.family) {
-            push_gone(alloc, was.front.as_slice(), &was.snapshot, &mut written.out)?;
-        } else {
-            written.add_untold(alloc, side.is_new, key.family, side.name)?;
-        }
+) -> Result<(), AllocError>
+    ensures { OnOk result (Adds (gone_of
+        (tells new.entry.has_dumps (option_copied new.entry.host) key.family)
+        (record { is_new = true; family = key.family; host = new.entry.name.now })
+        (found_last known.now.last)
+        (found (option_copied new.entry.host) key) ∷ [])
+        written.old written.new) }
+{
+    let Some(was) = known.last.as_ref() else {
+        return Ok(());
+    };
+    if new.known(key).is_some() {
+        return Ok(());
+    }
+    if new.tells(key.family) {
+        return push_gone(alloc, was.front.as_slice(), &was.snapshot, &mut written.out);
+    }
+    written.add_untold(alloc, true, key.family, new.name)
+}
+
+/// Adds what came or changed of a host.
+fn push_host(
+    alloc: Global,
+    old: Side<'_>,
+    new: Side<'_>,
+    host: &Host,
+    written: &mut Written,
+) -> Result<(), AllocError>
+    requires { option_copied new.host ≡ Some host.now }
+    ensures { OnOk result (Adds (map (news_at old.entry.has_dumps old.entry.name.now
+        (option_copied old.entry.host) (option_copied new.entry.host))
+        (keys_of host.now.known.entries)) written.old written.new) }
+{
+    for (key, known) in host.known.iter() {
+        push_news(alloc, old, new, *key, known, written)?;
     }
     Ok(())
 }
 
-/// Adds what came, went or changed: first each interface of the new file, in order, and then those that went.
-fn push_given(
+/// Adds what went of a host.
+fn push_left_of(
     alloc: Global,
-    old: &mut Given,
-    new: &mut Given,
+    new: Side<'_>,
+    host: &Host,
     written: &mut Written,
-) -> Result<(), AllocError> {
-    for (name, is) in new.hosts.iter_mut() {
-        let side = Side {
-            name: name.as_slice(),
-            has_dumps: old.has_dumps,
-            is_new: false,
-        };
-        if let Some(was) = old.hosts.get_mut(name) {
-            push_host(alloc, side, was, is, written)?;
-        } else {
-            push_host(alloc, side, &mut Host::new(alloc), is, written)?;
-        }
+) -> Result<(), AllocError>
+    ensures { OnOk result (Adds (map (gone_at new.entry.has_dumps new.entry.name.now
+        (Some host.now) (option_copied new.entry.host))
+        (keys_of host.now.known.entries)) written.old written.new) }
+{
+    for (key, known) in host.known.iter() {
+        push_left(alloc, new, *key, known, written)?;
     }
-    for (name, was) in old.hosts.iter() {
-        let side = Side {
-            name: name.as_slice(),
-            has_dumps: new.has_dumps,
-            is_new: true,
-        };
-        push_left(alloc, side, was, new.hosts.get(name), written)?;
+    Ok(())
+}
+
+/// Adds what came or changed: each interface of the new file, in order.
+fn push_came(
+    alloc: Global,
+    old: &Watch,
+    new: &Watch,
+    written: &mut Written,
+) -> Result<(), AllocError>
+    ensures { OnOk result (Adds (flat_map (host_news old.now new.now) (names_in new.now))
+        written.old written.new) }
+{
+    for (name, host) in new.hosts().iter() {
+        let name = name.as_slice();
+        let was = Side::of(old, name);
+        let is = Side::of(new, name);
+        push_host(alloc, was, is, host, written)?;
+    }
+    Ok(())
+}
+
+/// Adds what went: each interface of the old file, in order.
+fn push_went(
+    alloc: Global,
+    old: &Watch,
+    new: &Watch,
+    written: &mut Written,
+) -> Result<(), AllocError>
+    ensures { OnOk result (Adds (flat_map (host_gone old.now new.now) (names_in old.now))
+        written.old written.new) }
+{
+    for (name, host) in old.hosts().iter() {
+        let name = name.as_slice();
+        let is = Side::of(new, name);
+        push_left_of(alloc, is, host, written)?;
     }
     Ok(())
 }
@@ -228,13 +330,39 @@ fn read_all<R: Read, W: Write>(
     by: Compared,
     reader: &mut R,
     writer: &mut W,
-) -> Result<Given, RunError> {
+) -> Result<Watch, RunError>
+    ensures ok { IfOk result (λ last. WatchesTo by Faults last (R.remaining reader.old)
+        (R.remaining reader.new) (W.contents writer.old) (W.contents writer.new)) }
+    ensures err { IfErr result (λ e. WatchStops by Faults e (R.remaining reader.old)
+        (R.remaining reader.new) (W.contents writer.old) (W.contents writer.new)) }
+{
     let mut watch = Watch::new(alloc, by, Told::Faults);
     read_lines(alloc, reader, &mut watch, writer)?;
-    Ok(Given {
-        has_dumps: watch.has_dumps(),
-        hosts: watch.into_hosts(),
-    })
+    Ok(watch)
+}
+
+/// Writes what two files tell beside each other, and returns what they do not tell.
+fn write_news<W: Write>(
+    alloc: Global,
+    old: &Watch,
+    new: &Watch,
+    writer: &mut W,
+) -> Result<Vec<Untold>, RunError>
+    ensures ok { IfOk result (λ untold. TellsNews old.now new.now
+        (W.contents writer.old) (W.contents writer.new) (missings untold.items)) }
+    ensures err { IfErr result (λ e. StopsAtEnds e old.now new.now
+        (W.contents writer.old) (W.contents writer.new)) }
+{
+    let mut written = Written {
+        desk: Desk::new(alloc),
+        out: Vec::new(alloc),
+        untold: Vec::new(alloc),
+    };
+    push_came(alloc, old, new, &mut written)?;
+    push_went(alloc, old, new, &mut written)?;
+    write_out(writer, &mut written.out)?;
+    let Written { untold, .. } = written;
+    Ok(untold)
 }
 
 /// Compares what two readers leave at their ends, and writes what came, went or changed: faults first.
@@ -247,16 +375,16 @@ pub fn compare_readers<R: Read, S: Read, W: Write>(
     old: &mut R,
     new: &mut S,
     writer: &mut W,
-) -> Result<Vec<Untold>, RunError> {
-    let mut first = read_all(alloc, by, old, writer)?;
-    let mut second = read_all(alloc, by, new, writer)?;
-    let mut written = Written {
-        desk: Desk::new(alloc),
-        out: Vec::new(alloc),
-        untold: Vec::new(alloc),
-    };
-    push_given(alloc, &mut first, &mut second, &mut written)?;
-    write_out(writer, &mut written.out)?;
-    let Written { untold, .. } = written;
-    Ok(untold)
+) -> Result<Vec<Untold>, RunError>
+    ensures ok { IfOk result (λ untold. Compares by (R.remaining old.old) (R.remaining old.new)
+        (S.remaining new.old) (S.remaining new.new)
+        (W.contents writer.old) (W.contents writer.new) (missings untold.items)) }
+    ensures err { IfErr result (λ e. CompareStops by e
+        (R.remaining old.old) (R.remaining old.new)
+        (S.remaining new.old) (S.remaining new.new)
+        (W.contents writer.old) (W.contents writer.new)) }
+{
+    let first = read_all(alloc, by, old, writer)?;
+    let second = read_all(alloc, by, new, writer)?;
+    write_news(alloc, &first, &second, writer)
 }

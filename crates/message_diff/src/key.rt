@@ -8,7 +8,7 @@ use link_msg::header::HEADER_SIZE;
 use nla_wire::fields::u32_at;
 
 /// The family of messages that speak of an interface alone.
-const AF_UNSPEC: u8 = 0;
+pub const AF_UNSPEC: u8 = 0;
 
 /// The family of messages that say more of a bridge or of the port of one.
 pub const AF_BRIDGE: u8 = 7;

@@ -88,20 +88,18 @@ fn push_difference(
 pub fn push_changed(
     alloc: Global,
     front: &[u8],
-    old: &mut Snapshot,
-    new: &mut Snapshot,
+    old: &Snapshot,
+    new: &Snapshot,
     desk: &mut Desk,
     out: &mut Vec<u8>,
 ) -> Result<bool, AllocError>
-    ensures told { IfOk result (λ told. (told ≡ false) ↔ (old.old ≡ new.old)) }
+    ensures told { IfOk result (λ told. (told ≡ false) ↔ (old.now ≡ new.now)) }
     ensures silent { IfOk result (λ told. told ≡ false → out.new ≡ out.old) }
     ensures said { IfOk result
         (λ told. IsTrue told → length out.old.items < length out.new.items) }
     ensures added { OnOk result (Extends out.old.items out.new.items) }
     ensures line { IfOk result (λ told. IsTrue told
-        → AddsChanged front.now old.old new.old out.old.items out.new.items) }
-    ensures old_kept { old.new ≡ old.old }
-    ensures new_kept { new.new ≡ new.old }
+        → AddsChanged front.now old.now new.now out.old.items out.new.items) }
 {
     if old.text() == new.text() {
         return Ok(false);
@@ -130,10 +128,10 @@ pub fn push_compared(
         → AddsChangedBy by old.now new.now out.old.items out.new.items) }
     ensures err { IfErr result (IsRefusalOfTwo old.now new.now) }
 {
-    let mut was = Snapshot::new(alloc, by, order, old)?;
-    let mut is = Snapshot::new(alloc, by, order, new)?;
+    let was = Snapshot::new(alloc, by, order, old)?;
+    let is = Snapshot::new(alloc, by, order, new)?;
     let mut desk = Desk::new(alloc);
-    match push_changed(alloc, b"", &mut was, &mut is, &mut desk, out) {
+    match push_changed(alloc, b"", &was, &is, &mut desk, out) {
         Ok(told) => Ok(told),
         Err(AllocError) => Err(CanonError::OutOfMemory),
     }

@@ -14,7 +14,7 @@ ghost use Rattle.message_diff.specs.Held.{held, taken, picture, seen_in, whole_i
 ghost use Rattle.message_diff.specs.Held.{Applies, Puts};
 ghost use Rattle.message_diff.specs.Announced.{are_two_kinds};
 ghost use Rattle.message_diff.specs.Stopped.{WatchStops};
-ghost use Rattle.message_diff.specs.Watched.{IsFresh, AddsFor, AddsSaid, AddsLine, Watches};
+ghost use Rattle.message_diff.specs.Watched.{IsFresh, AddsFor, AddsSaid, AddsLine, Watches, is_of_dump};
 
 use crate::announced::are_two_kinds;
 use crate::desk::Desk;
@@ -57,9 +57,8 @@ fn replace(
     ensures added { OnOk result (Extends out.old.items out.new.items) }
     ensures last { OnOk result (last.new ≡ new) }
 {
-    let mut snapshot = new;
-    if push_changed(alloc, front, last, &mut snapshot, desk, out)? {
-        *last = snapshot;
+    if push_changed(alloc, front, last, &new, desk, out)? {
+        *last = new;
     }
     Ok(())
 }
@@ -406,6 +405,13 @@ pub fn is_another(last: &Snapshot, new: &Snapshot) -> bool
     are_two_kinds(last.text(), new.text())
 }
 
+/// Whether a line that says this begins a dump or ends one.
+fn is_of_dump(said: &Said) -> bool
+    ensures { result ≡ is_of_dump said.now }
+{
+    matches!(said, Said::Begin(_) | Said::Done(_, _))
+}
+
 /// What is known of the interfaces of each host, and what the next line changes.
 #[derive(Drop)]
 pub struct Watch {
@@ -434,14 +440,17 @@ impl Watch {
     }
 
     /// Whether a dump began or ended.
-    pub fn has_dumps(&self) -> bool {
+    pub fn has_dumps(&self) -> bool
+        ensures { result ≡ self.now.has_dumps }
+    {
         self.has_dumps
     }
 
     /// What is known of each host.
-    pub fn into_hosts(self) -> Hosts {
-        let Watch { hosts, .. } = self;
-        hosts
+    pub fn hosts(&self) -> &Hosts
+        ensures { result.now ≡ self.now.hosts }
+    {
+        &self.hosts
     }
 
     /// Takes what a line with these words says of its host.
@@ -457,6 +466,7 @@ impl Watch {
         ensures reader { self.new.reader ≡ self.old.reader }
         ensures told { self.new.told ≡ self.old.told }
         ensures lines { self.new.lines ≡ self.old.lines }
+        ensures dumps { self.new.has_dumps ≡ self.old.has_dumps }
     {
         let line = Line {
             alloc,
@@ -481,6 +491,7 @@ impl Watch {
         ensures reader { self.new.reader ≡ self.old.reader }
         ensures told { self.new.told ≡ self.old.told }
         ensures lines { self.new.lines ≡ self.old.lines }
+        ensures dumps { self.new.has_dumps ≡ self.old.has_dumps }
     {
         if let Some(host) = self.hosts.get_mut(word_of(front, b"host")) {
             host.break_dump();
@@ -500,6 +511,7 @@ impl Watch {
         ensures reader { self.new.reader ≡ self.old.reader }
         ensures told { self.new.told ≡ self.old.told }
         ensures lines { self.new.lines ≡ self.old.lines }
+        ensures dumps { self.new.has_dumps ≡ self.old.has_dumps }
     {
         match said {
             Said::Nothing => Ok(()),
@@ -520,7 +532,7 @@ impl Watch {
         self.lines = self.lines.saturating_add(1);
         let (front, rest) = split(line);
         let said = self.reader.read(alloc, front, rest, out)?;
-        self.has_dumps |= matches!(&said, Said::Begin(_) | Said::Done(_, _));
+        self.has_dumps |= is_of_dump(&said);
         self.take_any(alloc, front, said, out)
     }
 }

@@ -1,4 +1,5 @@
 use Rattle.std.proofs.Common.{◌≡◌, List, ℕ, refl, sym, ap, subst, append_assoc, ◌++◌, ◌∙◌}
+use Rattle.std.specs.Prelude.{◌||◌}
 use Rattle.std.proofs.lemmas.Result.{on_ok_weaker}
 use Rattle.line_filter.specs.Words.{rest_of}
 use Rattle.message_diff.specs.Said.{Says}
@@ -28,6 +29,7 @@ returns c =
         lines = lines ∙ c.saturating_add-self.ensures;
         by = ap (λ r. r.by) reader ∙ c.in_ok-said.ensures.by;
         told = told;
+        dumps = c.take_any.ensures.dumps ∙ ap (λ b. old.has_dumps || b) c.is_of_dump.ensures;
         takes = takes_at front _ old.told _ _ said _ old new takes.0 c.split.ensures.front (sym lines) refl takes.1;
         all = refl;
       },
