@@ -22,3 +22,6 @@ pub mod Faulted
 pub mod Wireless
 pub mod Once
 pub mod Beside
+pub mod Places
+pub mod Spans
+pub mod Passing

@@ -1,13 +1,13 @@
 -- What differs of the members that others do not have is what differs of all.
-use Rattle.std.proofs.Common.{◌≡◌, ◌⊎◌, ℕ, Bool, true, false, List, [], ◌++◌, refl, sym, ap, ◌∙◌, inl, inr}
+use Rattle.std.proofs.Common.{◌≡◌, ◌⊎◌, ℕ, Bool, true, false, List, [], ◌++◌, refl, sym, ap, subst, ◌∙◌, inl, inr}
 use Rattle.std.proofs.Common.{append_assoc}
 use Rattle.std.specs.Prelude.{Some, None, ◌&&◌}
 use Rattle.std.specs.Bool.{Decides}
 use Rattle.std.proofs.lemmas.Bool.Decides.{Decides-and}
 use Rattle.std.proofs.lemmas.List.{append_cancel_left}
-use Rattle.message_diff.specs.Differences.{Leaf, diffs, Has, HasOneEach}
+use Rattle.message_diff.specs.Differences.{Leaf, Diff, diffs, AreDiffs, Has, HasOneEach}
 use Rattle.message_diff.specs.Trees.{Forest, joined, rows_in, find_tree, beside, has_leaf, IsLabel, IsGood}
-use Rattle.message_diff.proofs.Without.{without, AreShared, left_out}
+use Rattle.message_diff.proofs.Without.{without, AreShared, left_out, one_still}
 use Rattle.message_diff.proofs.Trees.{before, joined_is, joined_some, cut_same, has_split, rows_of, behind, row_of}
 use Rattle.message_diff.proofs.Trees.{beside_is}
 use Rattle.message_diff.proofs.Trees.{has_decides, without_same}
@@ -91,3 +91,13 @@ taken_is by f g good good_too =
     sym (true_and (has_leaf old (p, v)) (has_leaf new (p, v)) ((has_decides new (p, v)).1 h))) in
     (λ i. diffs (own i) (other i))
     ∙ left_out (in_both old new) old new (one_each by f [] good) (one_each by g [] good_too) (are_shared old new)
+
+-- so are the changes that are found between the two
+pub taken_differ : (by : List ℕ → Forest) (f g : Forest) (found : List Diff) → IsGood by f → IsGood by g
+    → AreDiffs (beside [] f g) (beside [] g f) found → found ≡ diffs (rows_in [] f) (rows_in [] g)
+taken_differ by f g found good good_too h =
+    let test : Leaf → Bool = has_leaf (rows_in [] f) in
+    let one : HasOneEach (beside [] g f) =
+    subst (λ (ls : List Leaf). HasOneEach ls) (sym (beside_is by g f [] good_too good))
+    (one_still test (rows_in [] g) (one_each by g [] good_too)) in
+    h.one one ∙ taken_is by f g good good_too

@@ -39,7 +39,7 @@ has_still test (l ∷ ls) path value fails (inl e) = by (test l) (ap test (λ i.
     by true h = let no : true ≡ false = h in absurd cc
     by false h = inl e
 
-one_still : (test : Leaf → Bool) (ls : List Leaf) → HasOneEach ls → HasOneEach (without test ls)
+pub one_still : (test : Leaf → Bool) (ls : List Leaf) → HasOneEach ls → HasOneEach (without test ls)
 one_still test ls one path v w a b = one path v w (has_all test ls path v a) (has_all test ls path w b)
 
 -- what is left of both, where what passes the test is had by both or by none

@@ -11,6 +11,7 @@ pub mod Told
 pub mod Changed
 pub mod Trees
 pub mod Marked
+pub mod Listed
 pub mod Held
 pub mod Watched
 pub mod Stopped

@@ -1,10 +1,16 @@
 //! The members that two texts do not have in common, one below the other.
 
-ghost use Rattle.std.specs.Prelude.{◌≡◌, ◌<◌, ◌^◌, length, IfSome, true};
+ghost use Rattle.std.specs.Prelude.{◌≡◌, ◌++◌, ◌∷◌, ◌<◌, ℕ, [], length, IfOk, IfSome, OnOk, true, false};
 ghost use Rattle.std.specs.List.{Contains};
-ghost use Rattle.message_diff.specs.Paths.{part_of, start_in, path_in, paths_in};
+ghost use Rattle.message_diff.specs.Differences.{leaves};
+ghost use Rattle.message_diff.specs.Paths.{start_in, path_in, paths_in};
+ghost use Rattle.message_diff.specs.Known.{is_text};
+ghost use Rattle.message_diff.specs.Trees.{Forest, find_tree, joined, beside};
+ghost use Rattle.message_diff.specs.Marked.{AreMarksOf};
+ghost use Rattle.message_diff.specs.Listed.{value_in, label_in, leaves_in, mark_at, marks_in};
+ghost use Rattle.message_diff.specs.Listed.{AreApart, IsAt, IsBeside, IsFound, IsLikely, TakesInside, TakesOne};
 
-use crate::members::Members;
+use crate::members::{Members, name_of, part, value_of};
 use itoa::Buffer;
 use shown::Mark;
 use std::alloc::{AllocError, Global};
@@ -27,15 +33,20 @@ struct Spot {
     mark: usize,
 }
 
-/// An object or list that is open: where its members end, and those beside them, of the other text.
+/// Two texts: of the members of one the rows are taken.
 #[derive(Clone, Copy)]
-struct Open {
+struct Both<'a> {
+    own: Members<'a>,
+    others: Members<'a>,
+    /// Whether those are left out whose path the other one does not have.
+    is_part: bool,
+}
+
+/// Members of a text: from the place of one to before that of another.
+#[derive(Clone, Copy)]
+struct Span {
+    at: usize,
     end: usize,
-    path_len: usize,
-    first: usize,
-    others_end: usize,
-    /// Where the next one is likely.
-    likely: usize,
 }
 
 /// The members of a text that another text does not have, with room that is kept from one text to the next.
@@ -44,42 +55,88 @@ pub struct Rows {
     /// The paths, one behind the other.
     paths: Vec<u8>,
     spots: Vec<Spot>,
-    /// The path of what is open.
+    /// The path of the member that is passed.
     path: Vec<u8>,
-    open: Vec<Open>,
 }
 
 /// Whether two values are the same. Many are one digit.
 #[inline(always)]
-fn are_same(one: &[u8], other: &[u8]) -> bool {
+fn are_same(one: &[u8], other: &[u8]) -> bool
+    ensures { result ≡ is_text one.now other.now }
+{
     if let ([a], [b]) = (one, other) {
         return *a == *b;
     }
     one == other
 }
 
-/// The bytes from one place to before another; none where they do not lie so in the text.
-#[inline(always)]
-fn part(text: &[u8], start: usize, end: usize) -> &[u8]
-    ensures { result.now ≡ part_of text.now start end }
-{
-    text.get(start..end).unwrap_or(b"")
-}
-
-impl Open {
-    /// The place of the other text's member with this one's name: it is looked for first where it is likely.
+impl Both<'_> {
+    /// The place of the other text's member with the name of the one at this place: it is looked for first where it is
+    /// likely.
     #[inline(always)]
-    fn find(&self, own: Members<'_>, mark: &Mark, others: Members<'_>) -> Option<usize>
-        ensures { IfSome result (λ place. place < length others.entry.marks.now) }
+    fn find(self, at: usize, others: Span, likely: usize) -> Option<usize>
+        requires { at < length self.own.marks.now }
+        ensures within { IfSome result (λ place. place < length self.entry.others.marks.now) }
+        ensures found { (g : Forest) → AreApart g
+            → AreMarksOf self.entry.others.text.now others.at
+            (marks_in self.entry.others.marks.now others.at others.end) g
+            → IsLikely self.entry.others.text.now self.entry.others.marks.now others.end g likely
+            → IsFound self.entry.others.text.now self.entry.others.marks.now others.end
+            (label_in self.entry.own.text.now (mark_at self.entry.own.marks.now at)) g result }
     {
-        let likely = self.likely;
-        if likely < self.others_end && likely < others.marks.len() {
-            let other = &others.marks[likely];
-            if others.is_named_as(other, own, mark) {
+        let mark = &self.own.marks[at];
+        if likely < others.end && likely < self.others.marks.len() {
+            let other = &self.others.marks[likely];
+            if self.others.is_named_as(other, self.own, mark) {
                 return Some(likely);
             }
         }
-        others.find(self.first, self.others_end, own, mark)
+        self.others.find(others.at, others.end, self.own, mark)
+    }
+
+    /// The members beside those that are inside the one at this place, where that has rows: none where the other text
+    /// has no member with its name.
+    fn beside(self, at: usize, found: Option<usize>) -> Option<Span>
+        requires within { at < length self.own.marks.now }
+        requires found { IfSome found (λ place. place < length self.others.marks.now) }
+        ensures { self.entry.is_part ≡ false → (g : Forest) → (end : ℕ) → AreApart g
+            → IsFound self.entry.others.text.now self.entry.others.marks.now end
+            (label_in self.entry.own.text.now (mark_at self.entry.own.marks.now at)) g found
+            → IsBeside self.entry.others.text.now self.entry.others.marks.now
+            (value_in self.entry.own.text.now (mark_at self.entry.own.marks.now at))
+            (find_tree (label_in self.entry.own.text.now (mark_at self.entry.own.marks.now at)) g)
+            result }
+    {
+        match found {
+            Some(place) => self.beside_one(at, place),
+            None if self.is_part => None,
+            None => Some(Span { at: 0, end: 0 }),
+        }
+    }
+
+    /// The same, where the other text has one.
+    fn beside_one(self, at: usize, place: usize) -> Option<Span>
+        requires within { at < length self.own.marks.now }
+        requires found { place < length self.others.marks.now }
+        ensures { (g : Forest) → (end : ℕ) → AreApart g
+            → IsAt self.entry.others.text.now self.entry.others.marks.now end
+            (label_in self.entry.own.text.now (mark_at self.entry.own.marks.now at)) g place
+            → IsBeside self.entry.others.text.now self.entry.others.marks.now
+            (value_in self.entry.own.text.now (mark_at self.entry.own.marks.now at))
+            (find_tree (label_in self.entry.own.text.now (mark_at self.entry.own.marks.now at)) g)
+            result }
+    {
+        let other = &self.others.marks[place];
+        if are_same(
+            value_of(self.others.text, other),
+            value_of(self.own.text, &self.own.marks[at]),
+        ) {
+            return None;
+        }
+        Some(Span {
+            at: place + 1,
+            end: other.next,
+        })
     }
 }
 
@@ -90,7 +147,6 @@ impl Rows {
             paths: Vec::new(alloc),
             spots: Vec::new(alloc),
             path: Vec::new(alloc),
-            open: Vec::new(alloc),
         }
     }
 
@@ -100,11 +156,14 @@ impl Rows {
     }
 
     /// Forgets all rows.
-    pub fn clear(&mut self) {
+    pub fn clear(&mut self)
+        ensures paths { self.new.paths.items ≡ [] }
+        ensures spots { self.new.spots.items ≡ [] }
+        ensures path { self.new.path.items ≡ [] }
+    {
         self.paths.clear();
         self.spots.clear();
         self.path.clear();
-        self.open.clear();
     }
 
     /// Whether there is a row with this path. It is looked for first where it is likely; the next one is likely after
@@ -150,12 +209,15 @@ impl Rows {
         &'a self,
         alloc: Global,
         members: Members<'a>,
-    ) -> Result<Vec<Row<'a>>, AllocError> {
+    ) -> Result<Vec<Row<'a>>, AllocError>
+        ensures { IfOk result (λ rows. leaves rows.items
+            ≡ leaves_in members.entry.text.now members.entry.marks.now self.now) }
+    {
         let mut rows = Vec::with_capacity(alloc, self.spots.len())?;
         let mut start = 0;
         for spot in self.spots.iter() {
             rows.push(Row {
-                path: self.paths.get(start..spot.end).unwrap_or(b""),
+                path: part(self.paths.as_slice(), start, spot.end),
                 value: members.value_at(spot.mark),
             })?;
             start = spot.end;
@@ -163,13 +225,17 @@ impl Rows {
         Ok(rows)
     }
 
-    /// Makes the path that of a member of what is open.
-    fn name(&mut self, len: usize, own: Members<'_>, mark: &Mark) -> Result<(), AllocError> {
-        self.path.truncate(len);
-        if len > 0 {
+    /// Adds the name of a member to the path, or its place.
+    fn name(&mut self, own: Members<'_>, mark: &Mark) -> Result<(), AllocError>
+        ensures path { OnOk result (self.new.path.items
+            ≡ joined self.old.path.items (label_in own.entry.text.now mark.now)) }
+        ensures paths { self.new.paths ≡ self.old.paths }
+        ensures spots { self.new.spots ≡ self.old.spots }
+    {
+        if !self.path.is_empty() {
             self.path.push(b'.')?;
         }
-        let name = mark.name_in(own.text);
+        let name = name_of(own.text, mark);
         if !name.is_empty() {
             return self.path.extend_from_slice(name);
         }
@@ -178,73 +244,71 @@ impl Rows {
             .extend_from_slice(digits.format(mark.place).as_bytes())
     }
 
-    /// Adds the row of the member at this place, or opens it beside the members of the other text from one place to
-    /// before another.
-    fn add(&mut self, at: usize, mark: &Mark, inside: (usize, usize)) -> Result<(), AllocError>
-        requires { at < 2 ^ 63 }
+    /// Adds a row of the member at this place, whose path this is.
+    fn add(&mut self, mark: usize) -> Result<(), AllocError>
+        ensures paths { OnOk result (self.new.paths.items ≡ self.old.paths.items ++ self.old.path.items) }
+        ensures spots { OnOk result (self.new.spots.items ≡ self.old.spots.items
+            ++ record { end = length self.new.paths.items; mark = mark } ∷ []) }
+        ensures path { self.new.path ≡ self.old.path }
     {
-        if at + 1 < mark.next {
-            self.open.push(Open {
-                end: mark.next,
-                path_len: self.path.len(),
-                first: inside.0,
-                others_end: inside.1,
-                likely: inside.0,
-            })?;
-            return Ok(());
-        }
         self.paths.extend_from_slice(self.path.as_slice())?;
         self.spots.push(Spot {
             end: self.paths.len(),
-            mark: at,
+            mark,
         })?;
         Ok(())
     }
 
-    /// Closes what ends before the member at this place.
-    #[inline(always)]
-    fn close(&mut self, at: usize) {
-        for _open in 0..self.open.len() {
-            match self.open.last() {
-                Some(open) if open.end <= at => {
-                    self.open.pop();
-                }
-                _ => break,
-            }
+    /// Adds the rows of the member at this place, behind which the next one is there, beside the other text's member
+    /// at another place, if there is one.
+    #[cycle(rows)]
+    fn take_one(
+        &mut self,
+        both: Both<'_>,
+        at: usize,
+        next: usize,
+        found: Option<usize>,
+    ) -> Result<(), AllocError>
+        requires within { at < length both.own.marks.now }
+        requires found { IfSome found (λ place. place < length both.others.marks.now) }
+        ensures { OnOk result (both.entry.is_part ≡ false
+            → TakesOne both.entry.own.text.now both.entry.own.marks.now at next
+            both.entry.others.text.now both.entry.others.marks.now found self.old self.new) }
+    {
+        let Some(beside) = both.beside(at, found) else {
+            return Ok(());
+        };
+        self.name(both.own, &both.own.marks[at])?;
+        if at + 1 < next {
+            let inside = Span {
+                at: at + 1,
+                end: next,
+            };
+            return self.take_span(both, inside, beside);
         }
+        self.add(at)
     }
 
-    /// Passes the member at this place, and returns the place of the next one that is to be passed: where the other
-    /// text has the same value, all that is in it is left out. Where `is_part`, so is one of whose name it has none.
-    fn pass(
-        &mut self,
-        at: usize,
-        own: Members<'_>,
-        others: Members<'_>,
-        is_part: bool,
-    ) -> Result<usize, AllocError>
-        requires { at < length own.marks.now }
+    /// Adds the rows of these members beside those of the other text.
+    #[cycle(rows)]
+    fn take_span(&mut self, both: Both<'_>, own: Span, others: Span) -> Result<(), AllocError>
+        ensures { OnOk result (both.entry.is_part ≡ false
+            → TakesInside both.entry.own.text.now both.entry.own.marks.now own.at own.end
+            both.entry.others.text.now both.entry.others.marks.now others.at others.end
+            self.old self.new) }
     {
-        self.close(at);
-        let mark = &own.marks[at];
-        let Some(open) = self.open.last_mut() else {
-            return Ok(mark.next);
-        };
-        let len = open.path_len;
-        let mut inside = (0, 0);
-        if let Some(place) = open.find(own, mark, others) {
-            let other = &others.marks[place];
-            open.likely = other.next;
-            if are_same(other.value_in(others.text), mark.value_in(own.text)) {
-                return Ok(mark.next);
-            }
-            inside = (place + 1, other.next);
-        } else if is_part {
-            return Ok(mark.next);
+        let len = self.path.len();
+        let mut at = own.at;
+        let mut likely = others.at;
+        while at < own.end && at < both.own.marks.len() {
+            let next = both.own.next_of(at, own.end);
+            let found = both.find(at, others, likely);
+            likely = both.others.behind(found, likely);
+            self.path.truncate(len);
+            self.take_one(both, at, next, found)?;
+            at = next;
         }
-        self.name(len, own, mark)?;
-        self.add(at, mark, inside)?;
-        Ok(at + 1)
+        Ok(())
     }
 
     /// Takes the rows of these members that the other ones do not have; where `is_part`, only those whose path they
@@ -254,22 +318,28 @@ impl Rows {
         own: Members<'_>,
         others: Members<'_>,
         is_part: bool,
-    ) -> Result<(), AllocError> {
+    ) -> Result<(), AllocError>
+        ensures { OnOk result ((f : Forest) → (g : Forest) → is_part ≡ false → AreApart g
+            → AreMarksOf own.entry.text.now 0 own.entry.marks.now f
+            → AreMarksOf others.entry.text.now 0 others.entry.marks.now g
+            → leaves_in own.entry.text.now own.entry.marks.now self.new ≡ beside [] f g) }
+    {
         self.clear();
-        self.open.push(Open {
-            end: own.marks.len(),
-            path_len: 0,
-            first: 0,
-            others_end: others.marks.len(),
-            likely: 0,
-        })?;
-        let mut next = 0;
-        for _members in 0..own.marks.len() {
-            if next >= own.marks.len() {
-                break;
-            }
-            next = self.pass(next, own, others, is_part)?;
-        }
-        Ok(())
+        let both = Both {
+            own,
+            others,
+            is_part,
+        };
+        self.take_span(
+            both,
+            Span {
+                at: 0,
+                end: own.marks.len(),
+            },
+            Span {
+                at: 0,
+                end: others.marks.len(),
+            },
+        )
     }
 }
