@@ -2,6 +2,8 @@
 #![tactic(auto)]
 
 #[cfg(test)]
+mod lenient;
+#[cfg(test)]
 mod messages;
 #[cfg(test)]
 mod parts;

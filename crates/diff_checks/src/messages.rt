@@ -1,5 +1,7 @@
 //! Messages of kernels, in hexadecimal.
 
+use std::alloc::{AllocError, Global};
+
 /// A port, as Linux dumps it: statistics, settings of IPv4 and IPv6, link data, attributes that are kept.
 pub const PORT: [&str; 23] = [
     "000001004b0000008208000000000000070003007331000008000d00e80300000500100002000000050011000000000005004300",
@@ -54,3 +56,12 @@ pub const BRIDGE: [&str; 8] = [
     "05002b00000000000c00150000000000000000000c00160000000000000000000c00170000000000000000000500190001000000",
     "08002500000200000800260000000000080029000000000008002a00000000000c001a000800020006000100",
 ];
+
+/// The bytes of a message.
+pub fn bytes_of(alloc: Global, rows: &[&str]) -> Result<Vec<u8>, AllocError> {
+    let mut digits = Vec::new(alloc);
+    for row in rows {
+        digits.extend_from_slice(row.as_bytes())?;
+    }
+    Ok(hex::decode(alloc, digits.as_slice()).unwrap_or(Vec::new(alloc)))
+}

@@ -2,7 +2,7 @@
 
 ghost use Rattle.std.specs.Prelude.{◌≤◌, length};
 
-use crate::messages::{BRIDGE, CARD, PORT};
+use crate::messages::{BRIDGE, CARD, PORT, bytes_of};
 use link_msg::CanonError;
 use message_diff::{Compared, Desk, Snapshot, push_changed};
 use message_shown::context::Order;
@@ -10,15 +10,6 @@ use std::alloc::{AllocError, Global};
 
 /// How many bytes a header has.
 const HEADER: usize = 16;
-
-/// The bytes of a message.
-fn bytes_of(alloc: Global, rows: &[&str]) -> Result<Vec<u8>, AllocError> {
-    let mut digits = Vec::new(alloc);
-    for row in rows {
-        digits.extend_from_slice(row.as_bytes())?;
-    }
-    Ok(hex::decode(alloc, digits.as_slice()).unwrap_or(Vec::new(alloc)))
-}
 
 /// How many bytes the first attribute takes up, with its padding.
 fn frame_len(list: &[u8]) -> usize
@@ -178,6 +169,19 @@ fn are_same(alloc: Global, old: &[u8], new: &[u8], desk: &mut Desk) -> Result<bo
     )
 }
 
+/// Whether it is where the messages are read leniently.
+fn are_same_leniently(
+    alloc: Global,
+    old: &[u8],
+    new: &[u8],
+    desk: &mut Desk,
+) -> Result<bool, AllocError> {
+    Ok(
+        is_same(alloc, Compared::LenientMessage, old, new, desk)?
+            && is_same(alloc, Compared::LenientState, new, old, desk)?,
+    )
+}
+
 /// The messages.
 const MESSAGES: [&[&str]; 3] = [&PORT, &CARD, &BRIDGE];
 
@@ -217,6 +221,32 @@ fn is_by_each_attribute(alloc: Global, message: &[u8]) -> Result<bool, AllocErro
         }
     }
     Ok(true)
+}
+
+/// How far two bytes are apart that are turned where the messages are read leniently.
+const LENIENT_STEP: usize = 29;
+
+/// Whether it is leniently beside a message of which one byte is another, which may be refused by it.
+fn is_by_some_bytes(alloc: Global, message: &[u8], mask: u8) -> Result<bool, AllocError> {
+    let mut desk = Desk::new(alloc);
+    for place in (0..message.len()).step_by(LENIENT_STEP) {
+        let mut other = message.to_vec(alloc)?;
+        if let Some(byte) = other.as_mut_slice().get_mut(place) {
+            *byte ^= mask;
+        }
+        if !are_same_leniently(alloc, message, other.as_slice(), &mut desk)? {
+            return Ok(false);
+        }
+    }
+    Ok(true)
+}
+
+#[test]
+fn one_byte_leniently(rt: HostRuntime) {
+    for rows in &MESSAGES {
+        let message = bytes_of(rt.alloc(), rows).expect(&rt, "memory");
+        assert!(rt; is_by_some_bytes(rt.alloc(), message.as_slice(), 0xa5) == Ok(true));
+    }
 }
 
 #[test]

@@ -12,7 +12,7 @@ use std::io::{ErrorKind, Read};
 use std::process::ExitCode;
 
 /// What `--help` writes.
-const HELP: &str = "usage: linkdiff [--counters] [--changes-only | OLD NEW]
+const HELP: &str = "usage: linkdiff [--counters] [--lenient] [--changes-only | OLD NEW]
        linkdiff --help | --version
 
 Reads lines of hexadecimal digits, each the bytes of a link message of route netlink, and writes a line of JSON for each
@@ -23,6 +23,8 @@ an index and a word host=. Lines of words alone, type=begin and type=done, say w
 does not have went.
 
   --counters      compare also what moves by itself, as packet counts
+  --lenient       an attribute whose payload is refused does not hide the others: it is compared by its bytes, and its
+                  path begins with refused
   --changes-only  no line for what is there as a host is first asked
   -h, --help      print this
   --version       print the version

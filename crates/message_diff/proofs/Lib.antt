@@ -7,6 +7,7 @@ pub mod Missed
 pub mod Gone
 pub mod Hosts
 pub mod Runs
+pub mod LastNames
 pub mod Meant
 pub mod Changed
 pub mod Without

@@ -6,7 +6,8 @@ use Rattle.json.specs.Print.{print}
 use Rattle.std.specs.Int.{w32}
 use Rattle.nla_wire.specs.Fields.{signed_at}
 use Rattle.link_vals.specs.AddressFamilyTable.{address_family_number}
-use Rattle.link_msg.specs.Messages.{Means}
+use Rattle.link_vals.specs.declared.address_family.AddressFamily.{AddressFamily}
+use Rattle.link_msg.specs.Lenient.{MeansLeniently}
 use Rattle.link_msg.specs.declared.message.LinkMessage.{LinkMessage}
 use Rattle.link_msg.specs.declared.attribute.LinkAttribute.{LinkAttribute}
 use Rattle.link_msg.specs.declared.attribute.LinkAttribute.TheVariants as Attributes
@@ -44,20 +45,24 @@ name_members None = []
 name_members (Some name) = (codes "ifname", string name ∷ []) ∷ []
 
 -- which interface it is: its family, its index and its name
-abbrev pub head_members : List ℕ → LinkMessage → Members
-head_members bytes m =
-    numbered (codes "ifi-family") (address_family_number m.header.interface_family)
+abbrev pub interface_members : AddressFamily → Option (List ℕ) → List ℕ → Members
+interface_members family name bytes =
+    numbered (codes "ifi-family") (address_family_number family)
     ∷ signed (codes "ifi-index") (signed_at w32 bytes 4)
-    ∷ name_members (last_name m.attributes)
+    ∷ name_members name
 
-unfoldable pub alone_line : List ℕ → List ℕ → List ℕ → LinkMessage → List ℕ
+unfoldable pub interface_line : List ℕ → List ℕ → AddressFamily → Option (List ℕ) → List ℕ → List ℕ
+interface_line front change family name bytes =
+    with_lf (print (object_of (told_words front ++ change_member change ∷ interface_members family name bytes)))
+
+abbrev pub alone_line : List ℕ → List ℕ → List ℕ → LinkMessage → List ℕ
 alone_line front change bytes m =
-    with_lf (print (object_of (told_words front ++ change_member change ∷ head_members bytes m)))
+    interface_line front change m.header.interface_family (last_name m.attributes) bytes
 
 -- the line that tells that this became of the interface whose encoding this is
 pub record IsAlone (front change text line : List ℕ) : Type 0 where
   pub some : 0 < length line
-  pub told : (m : LinkMessage) → Means text m → line ≡ alone_line front change text m
+  pub told : (m : LinkMessage) → MeansLeniently text m → line ≡ alone_line front change text m
 
 -- it was added
 abbrev pub AddsAlone : List ℕ → List ℕ → List ℕ → List ℕ → List ℕ → Type 0

@@ -6,6 +6,7 @@ pub mod Paths
 pub mod Known
 pub mod Said
 pub mod Alone
+pub mod Named
 pub mod Faults
 pub mod Told
 pub mod Changed

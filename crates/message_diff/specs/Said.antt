@@ -8,7 +8,6 @@ use Rattle.std.specs.Int.{w32}
 use Rattle.hex.specs.Hex.{decode_of}
 use Rattle.hex.specs.declared.error.FromHexError.{FromHexError}
 use Rattle.nla_wire.specs.Fields.{number_at}
-use Rattle.link_msg.specs.Canonical.{IsRefusalAlone}
 use Rattle.link_msg.specs.declared.encoding.CanonError.{CanonError}
 use Rattle.line_filter.specs.Words.{value_in, words_of, are_alone, digits_of}
 use Rattle.message_diff.specs.declared.key.Key.{Key}
@@ -19,7 +18,7 @@ use Rattle.message_diff.specs.declared.reading.Said.{Said}
 use Rattle.message_diff.specs.declared.reading.Said.TheVariants as Saids
 use Rattle.message_shown.specs.Contexts.{text_in}
 use Rattle.message_diff.specs.Announced.{is_wireless_alone, without_event}
-use Rattle.message_diff.specs.Compared.{HasTextBy}
+use Rattle.message_diff.specs.Compared.{HasTextBy, IsRefusalAloneBy}
 use Rattle.message_diff.specs.Faults.{IsFault, fault_line}
 use Rattle.message_diff.specs.Known.{is_text, value_or_nothing, dump_name}
 
@@ -95,15 +94,15 @@ pub record SaysAccepted (by : Compared) (front bytes compared : List ℕ) (said 
   pub none : fault ≡ []
 
 -- what is compared of them is refused, and the line has a fault
-pub record SaysRefused (front bytes compared : List ℕ) (said : Said) (fault : List ℕ) : Type 0 where
+pub record SaysRefused (by : Compared) (front bytes compared : List ℕ) (said : Said) (fault : List ℕ) : Type 0 where
   pub error : CanonError
-  pub refused : IsRefusalAlone compared error
+  pub refused : IsRefusalAloneBy by compared error
   pub is : said ≡ refused_says (sort_of front) (key_in bytes)
   pub told : IsFault front bytes error fault
 
 abbrev pub SaysCompared : Compared → List ℕ → List ℕ → List ℕ → Said → List ℕ → Type 0
 SaysCompared by front bytes compared said fault =
-    SaysAccepted by front bytes compared said fault ⊎ SaysRefused front bytes compared said fault
+    SaysAccepted by front bytes compared said fault ⊎ SaysRefused by front bytes compared said fault
 
 -- an IFLA_EVENT is not compared
 abbrev pub SaysMessage : Compared → List ℕ → List ℕ → Said → List ℕ → Type 0

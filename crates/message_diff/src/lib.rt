@@ -15,6 +15,7 @@ mod line;
 mod lines;
 mod listed;
 mod members;
+mod named;
 mod parts;
 mod reading;
 mod rows;

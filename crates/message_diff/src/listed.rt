@@ -1,8 +1,7 @@
 //! The list of what changed of an interface.
 
 ghost use Rattle.std.specs.Prelude.{◌≡◌, ◌<◌, ◌++◌, IsTrue, IfOk, IfErr, OnOk, false, length};
-ghost use Rattle.link_msg.specs.Canonical.{IsRefusalOfTwo};
-ghost use Rattle.message_diff.specs.Compared.{TellsIfDiffers};
+ghost use Rattle.message_diff.specs.Compared.{TellsIfDiffers, IsRefusalOfTwoBy};
 ghost use Rattle.message_diff.specs.Differences.{diffs_of, AreSomeLeft};
 ghost use Rattle.message_diff.specs.Changed.{told_diffs, list_text, AddsList, AddsListBy};
 
@@ -38,8 +37,8 @@ fn leave_out<'a>(
         (diffs_of left.items)) }
 {
     match by {
-        Compared::State => counters.leave_out(alloc, pair, changes),
-        Compared::Message => Ok(changes),
+        Compared::State | Compared::LenientState => counters.leave_out(alloc, pair, changes),
+        Compared::Message | Compared::LenientMessage => Ok(changes),
     }
 }
 
@@ -95,7 +94,7 @@ fn push_both(
 /// Adds the list of what differs between the messages that the bytes are, if their encodings do, and returns whether
 /// they do. It is what a line of `push_compared` has as `changes`: a JSON list, and no line's end.
 ///
-/// Refuses as `same_message` does, each refusal of the old one before those of the new one; then nothing was added.
+/// Refuses as `Snapshot::new` does, each refusal of the old one before those of the new one; then nothing was added.
 pub fn push_list(
     alloc: Global,
     by: Compared,
@@ -110,7 +109,7 @@ pub fn push_list(
         (λ told. IsTrue told → length out.old.items < length out.new.items) }
     ensures list { IfOk result (λ told. IsTrue told
         → AddsListBy by old.now new.now out.old.items out.new.items) }
-    ensures err { IfErr result (IsRefusalOfTwo old.now new.now) }
+    ensures err { IfErr result (IsRefusalOfTwoBy by old.now new.now) }
 {
     let was = Snapshot::new(alloc, by, order, old)?;
     let is = Snapshot::new(alloc, by, order, new)?;

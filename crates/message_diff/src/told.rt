@@ -1,8 +1,7 @@
 //! A line for an interface that came, went or changed.
 
 ghost use Rattle.std.specs.Prelude.{◌≡◌, ◌<◌, ◌↔◌, IsTrue, IfOk, IfErr, OnOk, false, length, codes};
-ghost use Rattle.link_msg.specs.Canonical.{IsRefusalOfTwo};
-ghost use Rattle.message_diff.specs.Compared.{TellsIfDiffers, Extends};
+ghost use Rattle.message_diff.specs.Compared.{TellsIfDiffers, Extends, IsRefusalOfTwoBy};
 ghost use Rattle.message_diff.specs.Alone.{AddsAlone};
 ghost use Rattle.message_diff.specs.Changed.{AddsChanged, AddsChangedBy};
 
@@ -111,7 +110,7 @@ pub fn push_changed(
 /// Adds a line that tells what differs between the messages that the bytes are, if their encodings do, and returns
 /// whether they do.
 ///
-/// Refuses as `same_message` does, each refusal of the old one before those of the new one; then nothing was added.
+/// Refuses as `Snapshot::new` does, each refusal of the old one before those of the new one; then nothing was added.
 pub fn push_compared(
     alloc: Global,
     by: Compared,
@@ -126,7 +125,7 @@ pub fn push_compared(
         (λ told. IsTrue told → length out.old.items < length out.new.items) }
     ensures line { IfOk result (λ told. IsTrue told
         → AddsChangedBy by old.now new.now out.old.items out.new.items) }
-    ensures err { IfErr result (IsRefusalOfTwo old.now new.now) }
+    ensures err { IfErr result (IsRefusalOfTwoBy by old.now new.now) }
 {
     let was = Snapshot::new(alloc, by, order, old)?;
     let is = Snapshot::new(alloc, by, order, new)?;

@@ -1,16 +1,16 @@
 use Rattle.std.proofs.lemmas.Result.{on_ok_weaker}
-use Rattle.message_diff.proofs.Meant.{alone_meant, alone_fault}
+use Rattle.message_diff.proofs.Meant.{alone_meant, alone_short}
 use Rattle.message_diff.proofs.alone.push_alone.Goals as goal
 
-pub returns-in-Ok : goal.returns-in-Ok
-returns-in-Ok c =
-    on_ok_weaker c.push_message.result
-    (λ is. alone_meant c.args.front.now c.args.change.now c.args.text.now _ _ c.in-Ok.message c.in-Ok.ensures.means is)
-    c.push_message.ensures
+pub returns-in-Some : goal.returns-in-Some
+returns-in-Some c =
+    on_ok_weaker c.push_interface.result
+    (alone_meant c.args.front.now c.args.change.now c.args.text.now c.in-Some.attributes.now _ _ c.in-Some.family
+    c.in-Some.ensures.0 c.in-Some.ensures.1)
+    c.push_interface.ensures
 
-pub returns-in_default : goal.returns-in_default
-returns-in_default c =
+pub returns-in-None : goal.returns-in-None
+returns-in-None c =
     on_ok_weaker c.push_line.result
-    (λ is. alone_fault c.args.front.now c.args.change.now c.args.text.now _ _ c.in-Err.error.cause
-    (c.in-Err.ensures.fault c.in_default.not-OutOfMemory) is)
+    (alone_short c.args.front.now c.args.change.now c.args.text.now _ _ c.in-None.ensures)
     c.push_line.ensures
