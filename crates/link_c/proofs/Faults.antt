@@ -26,10 +26,7 @@ look_at b old new (Some at) (Ok fine) found refused moved h = absurd (refused h.
 look_at b old new (Some at) (Err (Refusals.Fault c)) found refused moved h =
     let there = subst (λ d. FaultsAt b d at) (fault_once b found.0 c found.1 h.first) found.2 in
     (h, subst (λ n. FaultsAt b c n) (sym moved) there)
-look_at b old new place (Err Refusals.Unfit) found refused moved h = absurd h
-look_at b old new place (Err Refusals.EmptyPorts) found refused moved h = absurd h
-look_at b old new place (Err Refusals.OutOfMemory) found refused moved h = absurd h
-look_at b old new place (Err Refusals.NoRoom) found refused moved h = absurd h
+look_at b old new place (Err e) found refused moved h = absurd h
 
 -- the same of a path
 pub look_along : (b : List ℕ) (old new : Path) (place : Option FaultPath) (r : Result (Unit {0}) Refusal)
@@ -43,7 +40,4 @@ look_along b old new (Some path) (Err (Refusals.Fault c)) found refused moved h 
     let there = subst (λ d. FaultsAlong b d path.offset (numbers_to path)) (fault_once b found.0 c found.1 h.first)
     found.2 in
     (h, (numbers_to path, moved.1, subst (λ n. FaultsAlong b c n (numbers_to path)) (sym moved.0) there))
-look_along b old new place (Err Refusals.Unfit) found refused moved h = absurd h
-look_along b old new place (Err Refusals.EmptyPorts) found refused moved h = absurd h
-look_along b old new place (Err Refusals.OutOfMemory) found refused moved h = absurd h
-look_along b old new place (Err Refusals.NoRoom) found refused moved h = absurd h
+look_along b old new place (Err e) found refused moved h = absurd h

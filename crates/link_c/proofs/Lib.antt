@@ -1,3 +1,4 @@
 pub mod Faults
+pub mod Refusals
 pub mod Steps
 pub mod Texts

@@ -7,6 +7,7 @@ use Rattle.link_msg.specs.declared.encoding.RoomError.{RoomError}
 use Rattle.link_msg.specs.declared.encoding.RoomError.TheVariants as Rooms
 use Rattle.link_c.specs.declared.refusal.Refusal.{Refusal}
 use Rattle.link_c.specs.declared.refusal.Refusal.TheVariants.{Fault, Unfit, EmptyPorts, OutOfMemory, NoRoom}
+use Rattle.link_c.specs.declared.refusal.Refusal.TheVariants.{UnknownFlag}
 
 abbrev pub refusal_number : Refusal → ℕ
 refusal_number (Fault c) = cause_number c
@@ -14,6 +15,7 @@ refusal_number Unfit = 16
 refusal_number EmptyPorts = 17
 refusal_number OutOfMemory = 18
 refusal_number NoRoom = 19
+refusal_number UnknownFlag = 20
 
 -- a refusal of `canonical` and its kin
 abbrev pub of_canon : CanonError → Refusal

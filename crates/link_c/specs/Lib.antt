@@ -1,5 +1,8 @@
 pub mod Answers
+pub mod Flags
+pub mod Leniently
 pub mod Lists
 pub mod Messages
 pub mod Paths
+pub mod Refused
 pub mod Shown

@@ -30,10 +30,7 @@ abbrev pub IsNext : List ℕ → ℕ → ℕ → Attribute → Attribute → Res
 IsNext b at next old new (Ok true) = (at < length b) × IsStep b at next new
 IsNext b at next old new (Ok false) = (length b ≤ at) × Frames (drop at b) [] × (next ≡ at) × (new ≡ old)
 IsNext b at next old new (Err (Refusals.Fault c)) = (at < length b) × Fault (drop at b) [] c × (next ≡ at) × (new ≡ old)
-IsNext b at next old new (Err Refusals.Unfit) = ⊥
-IsNext b at next old new (Err Refusals.EmptyPorts) = ⊥
-IsNext b at next old new (Err Refusals.OutOfMemory) = ⊥
-IsNext b at next old new (Err Refusals.NoRoom) = ⊥
+IsNext b at next old new (Err e) = ⊥
 
 -- the text of the frame stands at this place, the next place is after it, and all other bytes are kept
 pub record IsPlaced (f : Frame) (old new : List ℕ) (at next : ℕ) : Type 0 where
@@ -49,6 +46,4 @@ IsPut kind p old new at next (Err Refusals.Unfit) = (most_payload < length p) ×
 IsPut kind p old new at next (Err Refusals.NoRoom) =
     (length p ≤ most_payload) × (length old < at + length (canon (record { kind = kind; payload = p })))
     × (new ≡ old) × (next ≡ at)
-IsPut kind p old new at next (Err (Refusals.Fault c)) = ⊥
-IsPut kind p old new at next (Err Refusals.EmptyPorts) = ⊥
-IsPut kind p old new at next (Err Refusals.OutOfMemory) = ⊥
+IsPut kind p old new at next (Err e) = ⊥

@@ -6,7 +6,7 @@ use Rattle.link_msg.specs.declared.fault_path.FaultPath.{FaultPath}
 use Rattle.link_c.specs.Messages.{MeansOrFaults, IsFault}
 use Rattle.link_c.specs.declared.path.Path.{Path}
 use Rattle.link_c.specs.declared.refusal.Refusal.{Refusal}
-use Rattle.link_c.specs.declared.refusal.Refusal.TheVariants.{Fault, Unfit, EmptyPorts, OutOfMemory, NoRoom}
+use Rattle.link_c.specs.declared.refusal.Refusal.TheVariants.{Fault}
 
 -- the path has these numbers, at most four, and zeros after them
 pub record HasNumbers (p : Path) (numbers : List ℕ) : Type 0 where
@@ -23,7 +23,4 @@ abbrev pub IsLookAlong : List ℕ → Path → Path → Result (Unit {0}) Refusa
 IsLookAlong b old new (Ok fine) = MeansOrFaults b (Ok fine) × (new ≡ old)
 IsLookAlong b old new (Err (Fault c)) =
     IsFault b c × ((numbers : List ℕ) × HasNumbers new numbers × FaultsAlong b c new.at numbers)
-IsLookAlong b old new (Err Unfit) = ⊥
-IsLookAlong b old new (Err EmptyPorts) = ⊥
-IsLookAlong b old new (Err OutOfMemory) = ⊥
-IsLookAlong b old new (Err NoRoom) = ⊥
+IsLookAlong b old new (Err e) = ⊥

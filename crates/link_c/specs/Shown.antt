@@ -1,16 +1,18 @@
 -- What `linkwire_show` writes: a text, for which the buffer may have no room.
-use Rattle.std.specs.Prelude.{◌≡◌, ℕ, ◌==◌, ◌<◌, List, [], length, None, Result, Ok, Err, cond}
+use Rattle.std.specs.Prelude.{◌≡◌, ℕ, ◌==◌, ◌<◌, List, [], length, Bool, true, false, None, Result, Ok, Err, cond}
 use Rattle.nla_wire.specs.Canon.{Writes}
-use Rattle.link_msg.specs.Messages.{Means}
-use Rattle.link_msg.specs.declared.message.LinkMessage.{LinkMessage}
-use Rattle.message_shown.specs.Attributes.{message_line}
-use Rattle.message_shown.specs.Lines.{IsAnswerTo}
+use Rattle.line_filter.specs.Lines.{with_lf}
+use Rattle.message_shown.specs.Attributes.{TellsMessage}
+use Rattle.message_shown.specs.Leniently.{IsLenientAnswerTo, TellsLeniently}
+use Rattle.message_shown.specs.Lines.{Answering, Telling, IsAnswerTo}
 use Rattle.message_shown.specs.Worded.{order_of, order_or}
 use Rattle.message_shown.specs.declared.context.Context.{Context}
 use Rattle.message_shown.specs.declared.context.Order.{Order}
 use Rattle.message_shown.specs.declared.context.Order.TheVariants as Orders
+use Rattle.link_c.specs.Flags.{AreFlags}
+use Rattle.link_c.specs.declared.flags.Flags.{Flags}
 use Rattle.link_c.specs.declared.refusal.Refusal.{Refusal}
-use Rattle.link_c.specs.declared.refusal.Refusal.TheVariants.{Fault, Unfit, EmptyPorts, OutOfMemory, NoRoom}
+use Rattle.link_c.specs.declared.refusal.Refusal.TheVariants.{OutOfMemory, UnknownFlag}
 
 -- ** numbers of linkwire.h
 
@@ -47,19 +49,25 @@ pub record IsPlainContext (order : Order) (cx : Context) : Type 0 where
   pub port : cx.port_place ≡ None
   pub address : cx.address_len ≡ 0
 
--- the text answers a line that spells these bytes, with no words in front of them: where they mean a message, by all
--- its members, and else by its first fault
-pub record Answers (order : Order) (bytes text : List ℕ) : Type 0 where
-  pub answer : IsAnswerTo [] bytes text
+-- the text answers a line that spells these bytes, with no words in front of them, where they are read so
+pub record AnswersBy (To : Answering) (Tells : Telling) (order : Order) (bytes text : List ℕ) : Type 0 where
+  pub answer : To [] bytes text
   pub context : Context
   pub plain : IsPlainContext order context
-  pub told : (m : LinkMessage) → Means bytes m → text ≡ message_line [] context bytes m
+  pub told : Tells [] context bytes [] (with_lf text)
 
--- the answer to these bytes, n of them; or memory ran out, and the buffer is as it was
-abbrev pub IsShown : Order → List ℕ → List ℕ → List ℕ → Result ℕ Refusal → Type 0
-IsShown order b old new (Ok n) = (text : List ℕ) × Answers order b text × PutsWhole text old new n
-IsShown order b old new (Err OutOfMemory) = new ≡ old
-IsShown order b old new (Err (Fault c)) = ⊥
-IsShown order b old new (Err Unfit) = ⊥
-IsShown order b old new (Err EmptyPorts) = ⊥
-IsShown order b old new (Err NoRoom) = ⊥
+-- read leniently or not: where they mean a message, by all its members; leniently where their frames fit, by all that
+-- are accepted and all that are refused; and else by their first fault
+abbrev pub Answers : Bool → Order → List ℕ → List ℕ → Type 0
+Answers false = AnswersBy IsAnswerTo TellsMessage
+Answers true = AnswersBy IsLenientAnswerTo TellsLeniently
+
+-- the answer to these bytes by what the flags say, n bytes; or memory ran out, or a flag is none, and the buffer is as
+-- it was
+abbrev pub IsShown : Order → ℕ → List ℕ → List ℕ → List ℕ → Result ℕ Refusal → Type 0
+IsShown order flags b old new (Ok n) =
+    (f : Flags) × AreFlags flags (Ok f)
+    × ((text : List ℕ) × Answers f.lenient order b text × PutsWhole text old new n)
+IsShown order flags b old new (Err OutOfMemory) = ((f : Flags) × AreFlags flags (Ok f)) × (new ≡ old)
+IsShown order flags b old new (Err UnknownFlag) = AreFlags flags (Err UnknownFlag) × (new ≡ old)
+IsShown order flags b old new (Err e) = ⊥

@@ -4,10 +4,13 @@ ghost use Rattle.std.specs.Prelude.{◌≡◌};
 ghost use Rattle.link_c.specs.Answers.{Says, itself, as_bit, as_one, as_zero};
 ghost use Rattle.link_c.specs.Messages.{MeansOrFaults, IsLookAt, IsLength, IsText, IsComparison, IsState};
 ghost use Rattle.link_c.specs.Messages.{IsStateComparison};
+ghost use Rattle.link_c.specs.Leniently.{IsLenientLength, IsLenientText, IsLenientState};
 ghost use Rattle.link_c.specs.Lists.{IsNext, IsPut};
 ghost use Rattle.link_c.specs.Paths.{IsLookAlong};
+ghost use Rattle.link_c.specs.Refused.{IsNextRefused};
 ghost use Rattle.link_c.specs.Shown.{IsShown, numbered_order, release_number};
 
+use crate::lenient::{lenient_len, write_lenient, write_lenient_state};
 use crate::list::{Attribute, next_attribute, put_attribute};
 use crate::message::{
     are_alike, check_message, encoding_len, have_same_state, look_for_fault, write_encoding,
@@ -15,8 +18,9 @@ use crate::message::{
 };
 use crate::path::{Path, look_along};
 use crate::refusal::{done_code, fault_code, length_code, whether_code};
+use crate::refused::{Refused, next_refused};
 use crate::show::{numbered_order, release_number, write_shown};
-use link_msg::CANONICAL_FORM;
+use link_msg::{CANONICAL_FORM, LENIENT_FORM};
 use link_state::STATE_FORM;
 use std::alloc::Global;
 
@@ -124,16 +128,62 @@ pub extern "C" fn linkwire_order(release: &[u8]) -> u32
     release_number(release)
 }
 
-/// `linkwire_show` of linkwire.h. No flag of it is defined.
+/// `linkwire_show` of linkwire.h.
 #[unsafe(no_mangle)]
 pub extern "C" fn linkwire_show(
     alloc: Global,
     message: &[u8],
     order: u32,
-    _flags: u32,
+    flags: u32,
     out: &mut [u8],
 ) -> isize
-    ensures { Says itself (IsShown (numbered_order order) message.now out.old out.new) result }
+    ensures { Says itself
+        (IsShown (numbered_order order) flags message.now out.old out.new) result }
 {
-    length_code(write_shown(alloc, numbered_order(order), message, out))
+    length_code(write_shown(alloc, numbered_order(order), flags, message, out))
+}
+
+/// `linkwire_canonical_lenient_len` of linkwire.h.
+#[unsafe(no_mangle)]
+pub extern "C" fn linkwire_canonical_lenient_len(message: &[u8]) -> isize
+    ensures { Says itself (IsLenientLength message.now) result }
+{
+    length_code(lenient_len(message))
+}
+
+/// `linkwire_canonical_lenient` of linkwire.h.
+#[unsafe(no_mangle)]
+pub extern "C" fn linkwire_canonical_lenient(message: &[u8], out: &mut [u8]) -> isize
+    ensures { Says itself (IsLenientText message.now out.old out.new) result }
+{
+    length_code(write_lenient(message, out))
+}
+
+/// `linkwire_state_lenient` of linkwire.h.
+#[unsafe(no_mangle)]
+pub extern "C" fn linkwire_state_lenient(message: &[u8], out: &mut [u8]) -> isize
+    ensures { Says itself (IsLenientState message.now out.old out.new) result }
+{
+    length_code(write_lenient_state(message, out))
+}
+
+/// `linkwire_refusal_next` of linkwire.h.
+#[unsafe(no_mangle)]
+pub extern "C" fn linkwire_refusal_next(
+    message: &[u8],
+    at: &mut usize,
+    refusal: &mut Refused,
+) -> i32
+    ensures { Says as_bit
+        (IsNextRefused message.now at.old at.new refusal.old refusal.new) result }
+{
+    whether_code(next_refused(message, at, refusal))
+}
+
+/// `linkwire_lenient_form` of linkwire.h.
+#[unsafe(no_mangle)]
+pub extern "C" fn linkwire_lenient_form() -> u32
+    ensures { result ≡ 1 }
+{
+    LENIENT_FORM
 }

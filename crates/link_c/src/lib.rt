@@ -2,8 +2,11 @@
 #![tactic(auto)]
 
 pub mod export;
+pub mod flags;
+pub mod lenient;
 pub mod list;
 pub mod message;
 pub mod path;
 pub mod refusal;
+pub mod refused;
 pub mod show;

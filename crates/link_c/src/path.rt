@@ -1,7 +1,6 @@
 //! Where the fault of a message is, and the numbers of the attributes that lead there.
 
-ghost use Rattle.std.specs.Prelude.{◌≡◌, ◌≤◌, length, IfSome, MatchOption};
-ghost use Rattle.link_msg.specs.FaultPath.{numbers_to};
+ghost use Rattle.std.specs.Prelude.{◌≡◌, MatchOption};
 ghost use Rattle.link_c.specs.Paths.{Tells, IsLookAlong};
 
 use crate::message::check_message;
@@ -24,8 +23,7 @@ pub struct Path {
 }
 
 /// A path that was found, for C.
-fn told(found: &FaultPath) -> Path
-    requires { length (numbers_to found.now) ≤ 4 }
+pub(crate) fn told(found: &FaultPath) -> Path
     ensures { Tells result found.now }
 {
     let some = found.numbers();
@@ -40,7 +38,6 @@ fn told(found: &FaultPath) -> Path
 
 /// Moves to a place, if there is one.
 fn move_to(path: &mut Path, place: Option<FaultPath>)
-    requires { IfSome place (λ found. length (numbers_to found) ≤ 4) }
     ensures { MatchOption place (path.new ≡ path.old) (λ found. Tells path.new found) }
 {
     if let Some(found) = place {

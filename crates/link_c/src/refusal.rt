@@ -26,6 +26,9 @@ pub enum Refusal {
     /// Refusal 19: the buffer is too short.
     #[error("a buffer that is too short")]
     NoRoom,
+    /// Refusal 20: a flag that is none.
+    #[error("an unknown flag")]
+    UnknownFlag,
 }
 
 impl Refusal {
@@ -39,6 +42,7 @@ impl Refusal {
             Refusal::EmptyPorts => 17,
             Refusal::OutOfMemory => 18,
             Refusal::NoRoom => 19,
+            Refusal::UnknownFlag => 20,
         }
     }
 

@@ -1,14 +1,7 @@
-use Rattle.link_c.specs.Shown.{IsPlainContext}
-use Rattle.link_c.proofs.Texts.{answered}
 use Rattle.link_c.proofs.show.answer_to.Goals as goal
 
-pub returns : goal.returns
-returns c =
-    let plain : IsPlainContext c.args.order c.new.result = record {
-      order_is = c.new.ensures.order;
-      link = c.new.ensures.link;
-      port = c.new.ensures.port;
-      address = c.new.ensures.address;
-    } in
-    answered c.args.order c.new.result c.args.bytes.now c.new-line.result.items c.push_bytes.new.waiting.items plain
-    c.new-line.ensures.items c.in_ok-push_bytes.ensures.answer c.in_ok-push_bytes.ensures.told
+pub returns-then-is_lenient : goal.returns-then-is_lenient
+returns-then-is_lenient c = rw c.if-is_lenient.true c.answer_by.ensures
+
+pub returns-else-is_lenient : goal.returns-else-is_lenient
+returns-else-is_lenient c = rw c.if-is_lenient.false c.answer_by-else-is_lenient.ensures
