@@ -12,21 +12,22 @@
  * What each function asks of its caller, and does not test:
  * - A pointer is not null, is aligned for what it points to, and has at least as many bytes after it as its length
  *   says; where the length is 0, any address but null will do. No length is above PTRDIFF_MAX.
- * - What a function writes (`out`, the list of `linkwire_put`, `*at`, `*attribute`) overlaps no other argument.
- *   Arguments that are only read may overlap.
+ * - What a function writes (`out`, the list of `linkwire_put`, `*at`, `*attribute`, `*refusal`, `*path`) overlaps no
+ *   other argument. Arguments that are only read may overlap.
  * - Nobody else writes the bytes that are read, or touches what is written, during the call. An encoding is measured
  *   first and then written: bytes that change in between, in memory that another thread or process shares, can make
- *   `linkwire_canonical` and `linkwire_state` write past `out`. Copy such bytes first.
- * - `*at` has a value before the call. `out`, `*attribute` and what the static functions write need not be initialised,
- *   nor the bytes of a list that `linkwire_put` writes to; a nest that is put as a payload was written whole.
+ *   `linkwire_canonical`, `linkwire_state`, and these two with `_lenient`, write past `out`. Copy such bytes first.
+ * - `*at` has a value before the call. `out`, `*attribute`, `*refusal`, `*path` and what the static functions write
+ *   need not be initialised, nor the bytes of a list that `linkwire_put` writes to; a nest that is put as a payload was
+ *   written whole.
  * Nothing is asked of the bytes themselves: every call returns, whatever the bytes are.
  *
  * Calls share nothing and keep nothing, so they can run side by side in any number of threads, and no call reads or
- * sets errno but by the allocator. Three calls take memory, `linkwire_same_message`, `linkwire_same_state`
- * and `linkwire_show`: from malloc and realloc, and they give all of it back with free before they
- * return. The three belong to one allocator, which aligns a block of N bytes to the largest power of two, up to 16,
- * that divides N; it may set errno. These three calls are not to be made from a signal handler, nor in the forked child
- * of a process with threads. The other functions take no memory and can be called anywhere.
+ * sets errno but by the allocator. Four calls take memory, `linkwire_same_message`, `linkwire_same_state`,
+ * `linkwire_show` and `linkwire_diff`: from malloc and realloc, and they give all of it back with free before they
+ * return. malloc, realloc and free belong to one allocator, which aligns a block of N bytes to the largest power of
+ * two, up to 16, that divides N; it may set errno. These four calls are not to be made from a signal handler, nor in
+ * the forked child of a process with threads. The other functions take no memory and can be called anywhere.
  */
 #ifndef LINKWIRE_H
 #define LINKWIRE_H
@@ -50,6 +51,12 @@ extern "C" {
  * canonical form. A store keeps it beside its keys. `linkwire_state_form` returns that of the library. */
 #define LINKWIRE_STATE_FORM 2
 
+/* The number of the lenient form: what raises that of the canonical form raises it, and so does a table that reads what
+ * was refused before, though no strict encoding changes. It is that of `linkwire_canonical_lenient`; a state encoding
+ * of `linkwire_state_lenient` goes by it and the state form. A store keeps them beside its keys.
+ * `linkwire_lenient_form` returns that of the library. */
+#define LINKWIRE_LENIENT_FORM 1
+
 /* The bytes of a message's header; its list of attributes starts after them. */
 #define LINKWIRE_HEADER_SIZE 16
 
@@ -70,9 +77,17 @@ enum linkwire_answer {
     /* The bytes are a message that has no canonical encoding. */
     LINKWIRE_UNFIT = -16,       /* the value of an attribute would have more than 65531 bytes */
     LINKWIRE_EMPTY_PORTS = -17, /* IFLA_VF_PORTS has entries, none of them an IFLA_VF_PORT */
-    /* Neither says anything of the bytes. */
-    LINKWIRE_OUT_OF_MEMORY = -18, /* no memory was left; only the three calls that take memory return it */
-    LINKWIRE_NO_ROOM = -19        /* the buffer is too short */
+    /* None of these says anything of the bytes. */
+    LINKWIRE_OUT_OF_MEMORY = -18, /* no memory was left; only the four calls that take memory return it */
+    LINKWIRE_NO_ROOM = -19,       /* the buffer is too short */
+    LINKWIRE_UNKNOWN_FLAG = -20   /* `flags` has a bit that is no flag of this library */
+};
+
+/* What `flags` of `linkwire_show` and `linkwire_diff` are made of. Any other bit is refused, so that a program which
+ * sets a flag of a newer library learns that this one lacks it. */
+enum linkwire_call_flag {
+    LINKWIRE_LENIENT = 1, /* an attribute that is refused hides none of the others */
+    LINKWIRE_COUNTERS = 2 /* what moves by itself is compared too; nothing to `linkwire_show` */
 };
 
 /* An attribute of a list. */
@@ -90,6 +105,16 @@ struct linkwire_path {
     size_t at;                        /* the offset from the start of the message */
     size_t depth;                     /* how many of the numbers count */
     uint16_t numbers[LINKWIRE_DEPTH]; /* of the attributes at fault, the outermost first, and zeros after them */
+};
+
+/* What lenient reading keeps whole since it is refused: an attribute of the message's own list; or the bytes behind the
+ * attributes that are none, for which lenient reading refuses the message too. */
+struct linkwire_refusal {
+    size_t offset;                       /* where it starts, counted from the start of the message */
+    int32_t fault;                       /* why it is refused, -1 to -7 */
+    uint32_t is_attribute;               /* 1; or 0 where the bytes are no attribute, and the last that is told */
+    struct linkwire_attribute attribute; /* as `linkwire_next` gives it of the message at `offset`; or zeros */
+    struct linkwire_path path;           /* where in it the fault is; of bytes that are no attribute `depth` is 0 */
 };
 
 /* 0 where the bytes are a message, else the first fault, -1 to -7. Takes no memory. */
@@ -141,6 +166,22 @@ ptrdiff_t linkwire_state(const uint8_t *message, size_t len, uint8_t *out, size_
  * -18, of the first that is refused. Takes memory. */
 int32_t linkwire_same_state(const uint8_t *a, size_t a_len, const uint8_t *b, size_t b_len);
 
+/* Lenient reading: an attribute of the message's own list that is refused is kept whole, with its number, its flags and
+ * its payload, like one of a number that nothing reads. So what has a header, and behind it attributes that fit where
+ * they stand, is a message, and what has not is refused with -1 to -4. For the rest the three calls do what those
+ * without `_lenient` do, with -16, -17 and -19 too, and where these have an encoding it is the same. Two byte strings
+ * mean the same message leniently exactly where their lenient encodings are equal; a lenient state has the same zeros,
+ * also in what is kept. They are as long as said of the others. Take no memory. */
+ptrdiff_t linkwire_canonical_lenient_len(const uint8_t *message, size_t len);
+ptrdiff_t linkwire_canonical_lenient(const uint8_t *message, size_t len, uint8_t *out, size_t cap);
+ptrdiff_t linkwire_state_lenient(const uint8_t *message, size_t len, uint8_t *out, size_t cap);
+
+/* The attributes that lenient reading keeps since they are refused, one a call: from 0 in `*at` on, 1, and `*refusal`
+ * is the next one, and `*at` moves behind it; 0 where there is none left; -1 where there are fewer bytes than a header.
+ * After 0 and -1 `*at` and `*refusal` are unchanged. Bytes that are no attribute are told last. Of a message that
+ * `linkwire_check` accepts there is none. Takes no memory. */
+int32_t linkwire_refusal_next(const uint8_t *message, size_t len, size_t *at, struct linkwire_refusal *refusal);
+
 /* The order of the counters of IPv6: those of IFLA_INET6_STATS had another one up to Linux 6.12 than since 6.16, and no
  * message says which one it has. Any other number is taken for LINKWIRE_ORDER_UNKNOWN. */
 enum linkwire_counter_order {
@@ -154,11 +195,23 @@ enum linkwire_counter_order {
 uint32_t linkwire_order(const char *release, size_t len);
 
 /* What the message says, as linkshow(1) answers it: one JSON object, in UTF-8, without an end of line and without a
- * NUL; its members, or, where the bytes are no message, why and where: {"fault":..}. It stands at the front of `out`,
- * and the rest is kept. Returns its length, also where that is above `cap`: then `out` is unchanged, and a second call
- * with so much room writes it. Or -18, and `out` is unchanged. It refuses no bytes. Of `flags` none is defined: they
- * are to be 0. Takes memory. */
+ * NUL; its members, or, where the bytes are no message, why and where: {"fault":..}. With LINKWIRE_LENIENT it is what
+ * linkshow --lenient answers: attributes that are refused hide none of the others, and stand last, under "refused". It
+ * stands at the front of `out`, and the rest is kept. Returns its length, also where that is above `cap`: then `out` is
+ * unchanged, and a second call with so much room writes it. Or -18 or -20, and `out` is unchanged. It refuses no bytes.
+ * Takes memory. */
 ptrdiff_t linkwire_show(const uint8_t *message, size_t len, uint32_t order, uint32_t flags, char *out, size_t cap);
+
+/* What changed from one message to another, as linkdiff(1) tells it under "changes": a list in JSON, in UTF-8, without
+ * an end of line and without a NUL, of an object for each path whose value differs, with "path", "old" and "new", of
+ * which one is left out where the path came or went. Where no path differs, though the messages do, the one path
+ * "state" has both encodings, in hexadecimal. It is written, and its length returned, as `linkwire_show` does; 0, and
+ * `out` is unchanged, exactly where the state encodings are equal. With LINKWIRE_COUNTERS the canonical encodings are
+ * compared, so that what moves by itself is told too; with LINKWIRE_LENIENT the lenient ones of either. Both messages
+ * are shown in one order. Or -20; or the refusal, -1 to -7, -16, -17 or -18, of the first that is refused, and `out` is
+ * unchanged. Takes memory. */
+ptrdiff_t linkwire_diff(const uint8_t *old_message, size_t old_len, const uint8_t *new_message, size_t new_len,
+                        uint32_t order, uint32_t flags, char *out, size_t cap);
 
 /* The attribute at `*at` of a list of attributes: 1, and `*at` moves to the next multiple of four after it, or to
  * `len` where that is less; 0 where `*at` is `len` or more; -2, -3 or -4 where no attribute stands there. After 0 and
@@ -189,6 +242,9 @@ uint32_t linkwire_canonical_form(void);
 
 /* The number of the state form that the library writes. */
 uint32_t linkwire_state_form(void);
+
+/* The number of the lenient form that the library writes. */
+uint32_t linkwire_lenient_form(void);
 
 /* The number of a kind: its low 14 bits. */
 static inline uint16_t linkwire_number(uint16_t kind) {
@@ -385,6 +441,8 @@ static inline const char *linkwire_answer_text(ptrdiff_t answer) {
         return "out of memory";
     case LINKWIRE_NO_ROOM:
         return "a buffer that is too short";
+    case LINKWIRE_UNKNOWN_FLAG:
+        return "a flag that this library does not have";
     default:
         return "an unknown answer";
     }

@@ -26,7 +26,8 @@ libraries() {
     scripts/c_library.sh --built
     make -s -o out/library.o out/liblinkwire.a out/liblinkwire.so.0
     stage 'c_tests.sh, with state_live.sh' scripts/c_tests.sh out/liblinkwire.a crates/linkdiff/out out
-    stage call_answers.py python3 scripts/call_answers.py out/liblinkwire.a crates/linkshow/out/linkshow
+    stage call_answers.py python3 scripts/call_answers.py out/liblinkwire.a crates/linkshow/out/linkshow \
+        crates/linkdiff/out/linkdiff
     stage linkdump_tests.sh scripts/linkdump_tests.sh
     stage python_tests.sh scripts/python_tests.sh out
     python3 scripts/readme.py out/liblinkwire.a crates/linkwire/out crates/linkshow/out crates/linkstate/out \

@@ -118,6 +118,8 @@ def of_messages():
         "damaged": [damaged(at, message) for at, message in enumerate(dumps)],
         "names-of-three": turning(names(b"\1\1\1", 7500)),
         "names-of-a-quote": turning(names(b'"', 7500)),
+        # an MTU of three bytes, so often that a walk which begins anew at each would be seen
+        "all-refused": turning(frame(IFLA_MTU, b"\1\2\3") * 7500),
         "late-quote": [HEAD + alias for alias in aliases(7999, 2, b'"')],
         # half of the message stays
         "turning-alias": [HEAD + kept + alias for alias in aliases(len(kept), 20)],

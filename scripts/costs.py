@@ -38,8 +38,9 @@ CC = os.environ.get("CC", "cc").split()
 PROGRAMS = ["linkwire", "linkshow", "linkstate", "linkdiff"]
 LIBRARY = "link_c"
 CALLS = ["check", "canonical_len", "canonical", "state", "same_message", "unlike_message", "same_state", "unlike_state",
-         "next", "put", "fault_at", "fault_path"]
-OF_CALLS = ["dumps", "requests", "functions-300", "damaged", "names-of-three"]
+         "next", "put", "fault_at", "fault_path", "canonical_lenient_len", "canonical_lenient", "state_lenient",
+         "refusal_next", "show", "show_leniently", "diff", "diff_leniently"]
+OF_CALLS = ["dumps", "requests", "functions-300", "damaged", "names-of-three", "all-refused"]
 # what count.c counts, and what else the texts may call: where they call more, a cost may stand there that is not seen
 WRAPPED = {"malloc", "realloc", "memcpy", "memmove", "memset", "memcmp", "bcmp"}
 CALLED = WRAPPED | {"read", "write", "open", "close", "__sysv_signal"}

@@ -1,6 +1,6 @@
 /* Calls one function of linkwire.h for each message of the standard input, a line of lower-case hexadecimal digits:
- * calls NAME. What compares two messages compares each with itself, and in a call `unlike_..` with the one
- * before. Nothing here copies or clears bytes, since those would be counted too. */
+ * calls NAME. What compares two messages compares each with itself, and in a call `unlike_..` or `diff..` with
+ * the one before. Nothing here copies or clears bytes, since those would be counted too. */
 #include <stdio.h>
 #include <string.h>
 
@@ -89,9 +89,50 @@ static void fault_path(struct message it, struct message before) {
     linkwire_fault_path(it.bytes, it.len, &path);
 }
 
+static void canonical_lenient_len(struct message it, struct message before) {
+    (void)before;
+    linkwire_canonical_lenient_len(it.bytes, it.len);
+}
+
+static void canonical_lenient(struct message it, struct message before) {
+    (void)before;
+    linkwire_canonical_lenient(it.bytes, it.len, out, sizeof out);
+}
+
+static void state_lenient(struct message it, struct message before) {
+    (void)before;
+    linkwire_state_lenient(it.bytes, it.len, out, sizeof out);
+}
+
+/* All refusals, one after the other. */
+static void refusal_next(struct message it, struct message before) {
+    (void)before;
+    struct linkwire_refusal refusal;
+    size_t at = 0;
+    while (linkwire_refusal_next(it.bytes, it.len, &at, &refusal) == 1) {
+    }
+}
+
 static void show(struct message it, struct message before) {
     (void)before;
     linkwire_show(it.bytes, it.len, LINKWIRE_ORDER_UNKNOWN, 0, (char *)out, sizeof out);
+}
+
+static void show_leniently(struct message it, struct message before) {
+    (void)before;
+    linkwire_show(it.bytes, it.len, LINKWIRE_ORDER_UNKNOWN, LINKWIRE_LENIENT, (char *)out, sizeof out);
+}
+
+static void diff_by(struct message it, struct message before, uint32_t flags) {
+    linkwire_diff(before.bytes, before.len, it.bytes, it.len, LINKWIRE_ORDER_UNKNOWN, flags, (char *)out, sizeof out);
+}
+
+static void diff(struct message it, struct message before) {
+    diff_by(it, before, 0);
+}
+
+static void diff_leniently(struct message it, struct message before) {
+    diff_by(it, before, LINKWIRE_LENIENT);
 }
 
 static const struct {
@@ -110,7 +151,14 @@ static const struct {
     {"put", put},
     {"fault_at", fault_at},
     {"fault_path", fault_path},
+    {"canonical_lenient_len", canonical_lenient_len},
+    {"canonical_lenient", canonical_lenient},
+    {"state_lenient", state_lenient},
+    {"refusal_next", refusal_next},
     {"show", show},
+    {"show_leniently", show_leniently},
+    {"diff", diff},
+    {"diff_leniently", diff_leniently},
 };
 
 static unsigned digit(char c) {

@@ -4,6 +4,7 @@
 
 #ifdef __cplusplus
 static_assert(sizeof(linkwire_attribute) == 3 * sizeof(size_t), "the layout of an attribute");
+static_assert(sizeof(linkwire_refusal) == 8 * sizeof(size_t), "the layout of a refusal");
 #endif
 
 /* A request, and what its message says. */
@@ -21,11 +22,27 @@ static int writes(void) {
            linkwire_type_name(1) != NULL && linkwire_name(1) != NULL;
 }
 
+/* What changed of it, and what is refused of it. */
+static int compares(void) {
+    const uint8_t was[LINKWIRE_HEADER_SIZE] = {0};
+    const uint8_t is[] = {0, 0, 0, 0, 0, 0, 0, 0, 0, 0, 0, 0, 0, 0, 0, 0, 5, 0, 4, 0, 1};
+    struct linkwire_refusal refusal;
+    char out[256];
+    size_t at = 0;
+    return linkwire_diff(was, sizeof was, is, sizeof is, LINKWIRE_ORDER_UNKNOWN, LINKWIRE_LENIENT | LINKWIRE_COUNTERS,
+                         out, sizeof out) > 0 &&
+           linkwire_refusal_next(is, sizeof is, &at, &refusal) == 1 && refusal.fault == LINKWIRE_WRONG_LENGTH &&
+           refusal.offset == LINKWIRE_HEADER_SIZE && refusal.is_attribute == 1 && refusal.attribute.payload == 20 &&
+           refusal.attribute.payload_len == 1 && refusal.path.depth == 1 && refusal.path.numbers[0] == 4 &&
+           linkwire_canonical_lenient_len(is, sizeof is) == 24;
+}
+
 int main(void) {
     struct linkwire_attribute attribute = {0, 0, 0};
     uint8_t byte = 0;
     size_t at = 0;
     int32_t found = linkwire_next(&byte, 0, &at, &attribute);
-    return found != 0 || !writes() || linkwire_canonical_form() != LINKWIRE_CANONICAL_FORM ||
-           linkwire_state_form() != LINKWIRE_STATE_FORM || LINKWIRE_VERSION[0] == '\0';
+    return found != 0 || !writes() || !compares() || linkwire_canonical_form() != LINKWIRE_CANONICAL_FORM ||
+           linkwire_state_form() != LINKWIRE_STATE_FORM || linkwire_lenient_form() != LINKWIRE_LENIENT_FORM ||
+           LINKWIRE_VERSION[0] == '\0';
 }

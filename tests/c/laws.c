@@ -664,6 +664,147 @@ static void tries_list(const uint8_t *message, size_t len) {
     LAW(linkwire_same_message(message, len, list, room) == 1);
 }
 
+/* What is expected of a message that is read leniently: by the strict calls, asked of each attribute alone. */
+struct lenient {
+    ptrdiff_t length; /* of the text, or the refusal */
+    uint8_t *text;
+};
+
+/* One attribute behind the message's header, alone. */
+static size_t alone(uint8_t *into, const uint8_t *message, size_t from, const struct linkwire_attribute *it) {
+    size_t size = it->payload + it->payload_len - from;
+    memcpy(into, message, LINKWIRE_HEADER_SIZE);
+    memcpy(into + LINKWIRE_HEADER_SIZE, message + from, size);
+    return LINKWIRE_HEADER_SIZE + size;
+}
+
+/* The canonical text of an attribute that is accepted, and else the attribute as it is, at the end of a text. */
+static ptrdiff_t add_kept(struct lenient *to, const uint8_t *message, size_t from, struct linkwire_attribute *it) {
+    static uint8_t one[MOST], text[ROOM];
+    size_t len = alone(one, message, from, it), end = (size_t)to->length;
+    if (linkwire_check(one, len) != 0) {
+        LAW(linkwire_put(to->text, ROOM, &end, it->kind, message + it->payload, it->payload_len) == 1);
+        return (ptrdiff_t)end - to->length;
+    }
+    ptrdiff_t length = linkwire_canonical(one, len, text, sizeof text);
+    if (length >= 0) {
+        memcpy(to->text + end, text + LINKWIRE_HEADER_SIZE, (size_t)length - LINKWIRE_HEADER_SIZE);
+        return length - LINKWIRE_HEADER_SIZE;
+    }
+    return length;
+}
+
+static struct lenient lenient_of(const uint8_t *message, size_t len) {
+    static uint8_t text[ROOM];
+    struct lenient made = {LINKWIRE_TOO_SHORT, text};
+    struct linkwire_attribute it;
+    ptrdiff_t refused = 0;
+    if (len < LINKWIRE_HEADER_SIZE) {
+        return made;
+    }
+    made.length = linkwire_canonical(message, LINKWIRE_HEADER_SIZE, text, sizeof text);
+    size_t at = LINKWIRE_HEADER_SIZE;
+    int32_t found;
+    for (size_t from = at; (found = linkwire_next(message, len, &at, &it)) == 1; from = at) {
+        ptrdiff_t added = add_kept(&made, message, from, &it);
+        made.length += added > 0 ? added : 0;
+        /* what does not fit is told before an empty list of ports */
+        refused = added < 0 && refused != LINKWIRE_UNFIT ? added : refused;
+    }
+    made.length = found < 0 ? found : refused < 0 ? refused : made.length;
+    return made;
+}
+
+typedef ptrdiff_t writer(const uint8_t *, size_t, uint8_t *, size_t);
+
+/* The text stands in a buffer of just its size, and of more; one byte less is too short, and after a refusal all is
+ * kept. */
+static void tries_writing(writer *write, const uint8_t *message, size_t len, ptrdiff_t length, const uint8_t *text) {
+    size_t size = length < 0 ? len : (size_t)length, more = 1 + below(80);
+    uint8_t *out = place_out(size);
+    LAW(write(message, len, out, size) == length);
+    LAW(length < 0 ? is_kept(out, size) : memcmp(out, text, size) == 0);
+    if (length < 0) {
+        return;
+    }
+    out = place_out(size - 1);
+    LAW(write(message, len, out, size - 1) == LINKWIRE_NO_ROOM);
+    LAW(is_kept(out, size - 1));
+    out = place_out(size + more);
+    LAW(write(message, len, out, size + more) == length);
+    LAW(memcmp(out, text, size) == 0 && is_kept(out + size, more));
+}
+
+/* What is read leniently is what is expected; it is so of its own text too, and the state is its text with zeros where
+ * mask.h has marks. */
+static void tries_lenient(const uint8_t *message, size_t len, ptrdiff_t strict) {
+    static uint8_t marks[ROOM];
+    struct lenient want = lenient_of(message, len);
+    LAW(linkwire_canonical_lenient_len(message, len) == want.length);
+    LAW(strict < 0 ? strict >= LINKWIRE_NOT_UTF8 || strict == want.length : strict == want.length);
+    tries_writing(linkwire_canonical_lenient, message, len, want.length, want.text);
+    if (want.length >= 0) {
+        size_t size = (size_t)want.length;
+        LAW(size <= LINKWIRE_GROWTH * len);
+        const uint8_t *again = place_message(&area_of_text, want.text, size);
+        LAW(linkwire_canonical_lenient_len(again, size) == want.length);
+        uint8_t *out = place_out(size);
+        LAW(linkwire_canonical_lenient(again, size, out, size) == want.length);
+        LAW(memcmp(out, want.text, size) == 0);
+        mark(want.text, size, marks);
+        for (size_t i = 0; i < size; i++) {
+            want.text[i] = marks[i] ? 0 : want.text[i];
+        }
+    }
+    tries_writing(linkwire_state_lenient, message, len, want.length, want.text);
+}
+
+/* A refusal is of an attribute that is refused alone, which is told as `linkwire_next` gives it, with its own fault at
+ * its own place. */
+static void tries_refusal(const uint8_t *message, size_t from, const struct linkwire_attribute *it,
+                          const struct linkwire_refusal *refusal) {
+    static uint8_t one[MOST];
+    size_t len = alone(one, message, from, it);
+    struct linkwire_path path;
+    LAW(refusal->offset == from && refusal->is_attribute == 1);
+    LAW(refusal->attribute.kind == it->kind && refusal->attribute.payload == it->payload);
+    LAW(refusal->attribute.payload_len == it->payload_len);
+    LAW(refusal->fault == linkwire_fault_path(one, len, &path) && refusal->fault < 0);
+    LAW(refusal->path.at == path.at - LINKWIRE_HEADER_SIZE + from && refusal->path.depth == path.depth);
+    LAW(memcmp(refusal->path.numbers, path.numbers, sizeof path.numbers) == 0 && path.depth > 0);
+}
+
+/* Exactly the attributes that are refused alone are told, in order, and last the bytes that are none. */
+static void tries_refusals(const uint8_t *message, size_t len) {
+    static uint8_t one[MOST];
+    struct linkwire_refusal refusal, kept;
+    struct linkwire_attribute it;
+    size_t at = LINKWIRE_HEADER_SIZE, told = one_in(2) ? 0 : below(LINKWIRE_HEADER_SIZE + 1);
+    size_t first = told;
+    int32_t found = LINKWIRE_TOO_SHORT;
+    memset(&refusal, 0x5a, sizeof refusal);
+    for (size_t from = at; len >= LINKWIRE_HEADER_SIZE && (found = linkwire_next(message, len, &at, &it)) == 1;
+         from = at) {
+        if (linkwire_check(one, alone(one, message, from, &it)) == 0) {
+            continue;
+        }
+        LAW(linkwire_refusal_next(message, len, &told, &refusal) == 1 && told == at);
+        tries_refusal(message, from, &it, &refusal);
+    }
+    if (len >= LINKWIRE_HEADER_SIZE && found < 0) {
+        LAW(linkwire_refusal_next(message, len, &told, &refusal) == 1 && told == len);
+        LAW(refusal.offset == at && refusal.fault == found && refusal.is_attribute == 0);
+        LAW(refusal.attribute.kind == 0 && refusal.attribute.payload == 0 && refusal.attribute.payload_len == 0);
+        LAW(refusal.path.at == at && refusal.path.depth == 0);
+    }
+    size_t last = told;
+    kept = refusal;
+    int32_t ended = len < LINKWIRE_HEADER_SIZE ? LINKWIRE_TOO_SHORT : 0;
+    LAW(linkwire_refusal_next(message, len, &told, &refusal) == ended);
+    LAW(told == last && memcmp(&kept, &refusal, sizeof kept) == 0);
+    LAW((len >= LINKWIRE_HEADER_SIZE && linkwire_check(message, len) != 0) == (told != first));
+}
+
 static void tries(uint64_t number) {
     seed = drawn = number;
     tried_len = other_len = 0;
@@ -688,6 +829,8 @@ static void tries(uint64_t number) {
         ptrdiff_t length = linkwire_canonical_len(message, tried_len);
         tries_one(message, tried_len, length);
         tries_two(message, tried_len, length, second, other_len);
+        tries_lenient(message, tried_len, length);
+        tries_refusals(message, tried_len);
         if (length >= 0) {
             tries_list(message, tried_len);
             tries_moved(message, tried_len, length);

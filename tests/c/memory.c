@@ -1,4 +1,4 @@
-/* Refuses each request of the three calls that take memory in turn, with all that come after it and alone: they return
+/* Refuses each request of the four calls that take memory in turn, with all that come after it and alone: they return
  * LINKWIRE_OUT_OF_MEMORY, and nothing else, and write nothing, until memory is ample, and all memory is given back. The
  * other functions take none. */
 #include <stdio.h>
@@ -89,6 +89,28 @@ static long show_fault(void) {
     return linkwire_show(message, sizeof message - 1, LINKWIRE_ORDER_SINCE, 0, out, sizeof out);
 }
 
+/* The message with another MTU, which stands behind it, and with an alias that is refused. */
+static uint8_t turned[sizeof message + 16] = {0};
+
+static long show_leniently(void) {
+    return linkwire_show(turned, sizeof turned, LINKWIRE_ORDER_SINCE, LINKWIRE_LENIENT, out, sizeof out);
+}
+
+static long diff(void) {
+    return linkwire_diff(message, sizeof message, turned, sizeof turned - 8, LINKWIRE_ORDER_SINCE, 0, out, sizeof out);
+}
+
+static long diff_leniently(void) {
+    return linkwire_diff(turned, sizeof turned, message, sizeof message, LINKWIRE_ORDER_SINCE,
+                         LINKWIRE_LENIENT | LINKWIRE_COUNTERS, out, sizeof out);
+}
+
+static void turn(void) {
+    static const uint8_t more[] = {8, 0, 4, 0, 0xdc, 5, 0, 0, 6, 0, 20, 0, 'a', 0xe9, 0, 0};
+    memcpy(turned, message, sizeof message);
+    memcpy(turned + sizeof message, more, sizeof more);
+}
+
 /* Refuses the first call for memory, then the second, and so on, until no call is refused. */
 static int refuses_from(const char *what, long (*call)(void), long want) {
     for (long at = 0;; at++) {
@@ -148,12 +170,21 @@ static int takes_none(void) {
     struct linkwire_writer writer = linkwire_writer_at(list, sizeof list, 0);
     linkwire_nest_end(&writer, linkwire_nest_begin(&writer, 1));
     long order = linkwire_order("6.16", 4);
-    long forms = linkwire_canonical_form() == LINKWIRE_CANONICAL_FORM && linkwire_state_form() == LINKWIRE_STATE_FORM;
+    long forms = linkwire_canonical_form() == LINKWIRE_CANONICAL_FORM &&
+                 linkwire_state_form() == LINKWIRE_STATE_FORM && linkwire_lenient_form() == LINKWIRE_LENIENT_FORM;
+    long kept_len = linkwire_canonical_lenient_len(turned, sizeof turned);
+    long kept = linkwire_canonical_lenient(turned, sizeof turned, text, sizeof text);
+    long kept_state = linkwire_state_lenient(turned, sizeof turned, text, sizeof text);
+    struct linkwire_refusal refusal;
+    size_t told = 0;
+    long refused = linkwire_refusal_next(turned, sizeof turned, &told, &refusal);
     if (checked != 0 || measured <= 0 || written != measured || cleared != measured || found != 1 || put != 1 ||
         fault != LINKWIRE_TOO_SHORT || deep != LINKWIRE_FRAME_UNDER || path.at != 60 || path.depth != 3 || !forms ||
-        order != LINKWIRE_ORDER_SINCE || writer.at != 4 || taken != 0) {
-        fprintf(stderr, "memory.c: with no memory %ld %ld %ld %ld %ld %ld %ld %ld %ld, and %ld calls for it\n", checked,
-                measured, written, cleared, found, put, fault, deep, forms, taken);
+        order != LINKWIRE_ORDER_SINCE || writer.at != 4 || kept_len <= measured || kept != kept_len ||
+        kept_state != kept_len || refused != 1 || refusal.fault != LINKWIRE_NOT_UTF8 || taken != 0) {
+        fprintf(stderr, "memory.c: with no memory %ld %ld %ld %ld %ld %ld %ld %ld %ld %ld %ld %ld %ld, "
+                "and %ld calls for it\n", checked, measured, written, cleared, found, put, fault, deep, forms, kept_len,
+                kept, kept_state, refused, taken);
         return 1;
     }
     return 0;
@@ -163,11 +194,16 @@ int main(void) {
     setvbuf(stderr, NULL, _IONBF, 0);
     /* with ample memory */
     refused_from = -1;
-    long shown = show(), fault = show_fault();
-    if (shown <= 0 || fault <= 0) {
+    turn();
+    long shown = show(), fault = show_fault(), kept = show_leniently();
+    long changed = diff(), changed_kept = diff_leniently();
+    if (shown <= 0 || fault <= 0 || kept <= shown || changed <= 0 || changed_kept <= changed) {
         return wrong("a call with ample memory", -1, shown);
     }
     return takes_none() || refuses_each("linkwire_same_message", same, 1) ||
            refuses_each("linkwire_same_state", same_state, 1) || refuses_each("linkwire_show", show, shown) ||
-           refuses_each("linkwire_show of a fault", show_fault, fault);
+           refuses_each("linkwire_show of a fault", show_fault, fault) ||
+           refuses_each("linkwire_show, leniently", show_leniently, kept) ||
+           refuses_each("linkwire_diff", diff, changed) ||
+           refuses_each("linkwire_diff, leniently", diff_leniently, changed_kept);
 }

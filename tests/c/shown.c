@@ -1,7 +1,8 @@
-/* Calls linkwire_show and linkwire_order: answers, refusals, and buffers that are too short.
+/* Calls linkwire_show, linkwire_diff and linkwire_order: answers, refusals, flags, and buffers that are too short.
  *
  * With words it answers the standard input, lines of hexadecimal messages, and scripts/call_answers.py compares:
- *     shown ORDER     what each message says */
+ *     shown show ORDER FLAGS     what each message says
+ *     shown diff ORDER FLAGS     of each two lines what changed from the first message to the second */
 #include <stdio.h>
 #include <stdlib.h>
 #include <string.h>
@@ -24,14 +25,25 @@ static void expect(int line, const char *what, long found, long want) {
 #define MTU(low) 8, 0, 4, 0, low, 5, 0, 0
 #define CHANGES(low) 8, 0, 35, 0, low, 0, 0, 0
 
+#define ALIAS(last) 6, 0, 20, 0, 'a', last, 0, 0
+
 static const uint8_t message[] = {HEADER, NAME, MTU(0xdc), CHANGES(1)};
+static const uint8_t turned[] = {HEADER, NAME, MTU(0xdd), CHANGES(2), ALIAS(0)};
+static const uint8_t counted[] = {HEADER, NAME, MTU(0xdc), CHANGES(2)};
 static const uint8_t wrong[] = {HEADER, 6, 0, 3, 0, 0xff, 0};
+static const uint8_t kept[] = {HEADER, NAME, ALIAS(0xe9), MTU(0xdc), CHANGES(1)};
+static const uint8_t kept_too[] = {HEADER, NAME, ALIAS(0xe8), MTU(0xdc), CHANGES(1)};
+static const uint8_t ports[] = {HEADER, 8, 0, 24, 0, 4, 0, 2, 0};
 
 static const char said[] = "{\"ifi-family\":0,\"ifi-type\":1,\"ifi-index\":7,\"ifi-flags\":[\"up\",\"broadcast\","
                            "\"running\",\"lower-up\"],\"ifi-change\":0,\"ifname\":\"lo\",\"mtu\":1500,"
                            "\"carrier-changes\":1}";
 static const char refused[] = "{\"fault\":\"not-utf8\",\"at\":\"IFLA_IFNAME\",\"offset\":16,\"ifi-family\":0,"
                               "\"ifi-index\":7,\"before\":{}}";
+static const char refused_leniently[] = "{\"ifi-family\":0,\"ifi-type\":1,\"ifi-index\":7,\"ifi-flags\":[\"up\","
+                                        "\"broadcast\",\"running\",\"lower-up\"],\"ifi-change\":0,\"refused\":[{"
+                                        "\"at\":\"IFLA_IFNAME\",\"fault\":\"not-utf8\",\"offset\":16,"
+                                        "\"payload\":\"ff00\"}]}";
 static const char too_short[] = "{\"fault\":\"too-short\",\"at\":\"header\",\"got\":3,\"need\":16,\"offset\":0}";
 
 /* What a call returns that is given a buffer of so many bytes; the bytes behind the answer, or all, are to be kept. */
@@ -57,6 +69,60 @@ static void answers(int line, const char *want, ptrdiff_t (*call)(char *out, siz
 CALL(shows, linkwire_show(message, sizeof message, 0, 0, out, cap))
 CALL(shows_fault, linkwire_show(wrong, sizeof wrong, 7, 0, out, cap))
 CALL(shows_nothing, linkwire_show(message, 3, 0, 0, out, cap))
+CALL(shows_leniently, linkwire_show(message, sizeof message, 0, LINKWIRE_LENIENT, out, cap))
+CALL(shows_refused, linkwire_show(wrong, sizeof wrong, 0, LINKWIRE_LENIENT | LINKWIRE_COUNTERS, out, cap))
+CALL(shows_nothing_leniently, linkwire_show(message, 3, 0, LINKWIRE_LENIENT, out, cap))
+CALL(shows_no_counter, linkwire_show(message, sizeof message, 0, LINKWIRE_COUNTERS, out, cap))
+
+static const char changed[] = "[{\"path\":\"mtu\",\"old\":1500,\"new\":1501},{\"path\":\"ifalias\",\"new\":\"a\"}]";
+static const char changed_back[] = "[{\"path\":\"mtu\",\"old\":1501,\"new\":1500},"
+                                   "{\"path\":\"ifalias\",\"old\":\"a\"}]";
+static const char changed_all[] = "[{\"path\":\"mtu\",\"old\":1500,\"new\":1501},"
+                                  "{\"path\":\"carrier-changes\",\"old\":1,\"new\":2},"
+                                  "{\"path\":\"ifalias\",\"new\":\"a\"}]";
+
+#define DIFF(old_message, new_message, flags)                                                                         \
+    linkwire_diff(old_message, sizeof old_message, new_message, sizeof new_message, 0, flags, out, cap)
+
+CALL(tells, DIFF(message, turned, 0))
+CALL(tells_back, DIFF(turned, message, 0))
+CALL(tells_counters, DIFF(message, turned, LINKWIRE_COUNTERS))
+CALL(tells_leniently, DIFF(message, turned, LINKWIRE_LENIENT))
+CALL(tells_all, DIFF(message, turned, LINKWIRE_LENIENT | LINKWIRE_COUNTERS))
+
+/* What writes nothing into a buffer: equal messages, and what is refused. */
+static void writes_nothing(void) {
+    char out[512];
+    size_t cap = sizeof out;
+    memset(out, 0x55, sizeof out);
+    for (uint32_t flags = 4; flags != 0; flags *= 2) {
+        EXPECT(linkwire_show(message, sizeof message, 0, flags, out, cap), LINKWIRE_UNKNOWN_FLAG);
+        EXPECT(linkwire_show(message, sizeof message, 0, flags | LINKWIRE_LENIENT, out, cap), LINKWIRE_UNKNOWN_FLAG);
+        EXPECT(DIFF(message, turned, flags), LINKWIRE_UNKNOWN_FLAG);
+        EXPECT(DIFF(wrong, turned, flags), LINKWIRE_UNKNOWN_FLAG);
+    }
+    for (uint32_t flags = 0; flags < 4; flags++) {
+        EXPECT(DIFF(message, message, flags), 0);
+        EXPECT(linkwire_diff(message, 15, wrong, 3, 0, flags, out, cap), LINKWIRE_TOO_SHORT);
+        EXPECT(linkwire_diff(message, sizeof message, wrong, 3, 0, flags, out, cap), LINKWIRE_TOO_SHORT);
+        EXPECT(linkwire_diff(message, 17, wrong, 3, 0, flags, out, cap), LINKWIRE_FRAME_SHORT);
+        EXPECT(DIFF(ports, message, flags), LINKWIRE_EMPTY_PORTS);
+        EXPECT(DIFF(message, ports, flags), LINKWIRE_EMPTY_PORTS);
+    }
+    EXPECT(DIFF(message, counted, 0), 0);
+    EXPECT(DIFF(message, counted, LINKWIRE_LENIENT), 0);
+    EXPECT(DIFF(kept, kept, LINKWIRE_LENIENT), 0);
+    EXPECT(DIFF(wrong, kept, 0), LINKWIRE_NOT_UTF8);
+    EXPECT(DIFF(message, kept, LINKWIRE_COUNTERS), LINKWIRE_NOT_UTF8);
+    EXPECT(DIFF(kept, ports, 0), LINKWIRE_NOT_UTF8);
+    EXPECT(DIFF(ports, kept, 0), LINKWIRE_EMPTY_PORTS);
+    for (size_t at = 0; at < sizeof out; at++) {
+        EXPECT(out[at], 0x55);
+    }
+    EXPECT(DIFF(message, counted, LINKWIRE_COUNTERS) > 0, 1);
+    EXPECT(DIFF(kept, kept_too, LINKWIRE_LENIENT) > 0, 1);
+    EXPECT(DIFF(message, kept, LINKWIRE_LENIENT) > 0, 1);
+}
 
 static void orders(void) {
     static const char *const before[] = {"5.10.0", "6.12.0-47-generic", "6.12", "2.6", "6.1"};
@@ -97,7 +163,7 @@ static long read_message(void) {
     return len;
 }
 
-static int print(ptrdiff_t len) {
+static int print_answer(ptrdiff_t len) {
     if (len < 0) {
         printf("%ld\n", (long)len);
     } else {
@@ -106,10 +172,23 @@ static int print(ptrdiff_t len) {
     return len > (ptrdiff_t)sizeof out;
 }
 
-static int show_lines(uint32_t order) {
+static int show_lines(uint32_t order, uint32_t flags) {
     long len;
     while ((len = read_message()) >= 0) {
-        if (print(linkwire_show(room, (size_t)len, order, 0, out, sizeof out))) {
+        if (print_answer(linkwire_show(room, (size_t)len, order, flags, out, sizeof out))) {
+            return 1;
+        }
+    }
+    return 0;
+}
+
+static int diff_lines(uint32_t order, uint32_t flags) {
+    static uint8_t before[MOST];
+    long old_len, len;
+    while ((old_len = read_message()) >= 0) {
+        memcpy(before, room, (size_t)old_len);
+        if ((len = read_message()) < 0 ||
+            print_answer(linkwire_diff(before, (size_t)old_len, room, (size_t)len, order, flags, out, sizeof out))) {
             return 1;
         }
     }
@@ -117,12 +196,23 @@ static int show_lines(uint32_t order) {
 }
 
 int main(int count, char **words) {
-    if (count == 2) {
-        return show_lines((uint32_t)atoi(words[1]));
+    if (count == 4) {
+        uint32_t order = (uint32_t)atoi(words[2]), flags = (uint32_t)atoi(words[3]);
+        return strcmp(words[1], "diff") == 0 ? diff_lines(order, flags) : show_lines(order, flags);
     }
     answers(__LINE__, said, shows);
     answers(__LINE__, refused, shows_fault);
     answers(__LINE__, too_short, shows_nothing);
+    answers(__LINE__, said, shows_leniently);
+    answers(__LINE__, said, shows_no_counter);
+    answers(__LINE__, refused_leniently, shows_refused);
+    answers(__LINE__, too_short, shows_nothing_leniently);
+    answers(__LINE__, changed, tells);
+    answers(__LINE__, changed_back, tells_back);
+    answers(__LINE__, changed_all, tells_counters);
+    answers(__LINE__, changed, tells_leniently);
+    answers(__LINE__, changed_all, tells_all);
+    writes_nothing();
     orders();
     return failures != 0;
 }

@@ -2,3 +2,4 @@ pub mod Faults
 pub mod Refusals
 pub mod Steps
 pub mod Texts
+pub mod Listed

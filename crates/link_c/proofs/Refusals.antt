@@ -90,7 +90,8 @@ module _ (family : AddressFamily) (b : List ℕ) where
   told_past at = elim (cases_lt (length b) at) [
     | inl past ↦
         (told_ended at (drop at b) (drop_all at b (omega arith))
-        ∙ sym (told_ended (min at (length b)) (drop (min at (length b)) b) (drop_min at b ∙ drop_all at b (omega arith))))
+        ∙ sym (told_ended (min at (length b)) (drop (min at (length b)) b)
+        (drop_min at b ∙ drop_all at b (omega arith))))
     | inr before ↦
         (let same : at ≡ min at (length b) = omega arith in ap (λ n. told family n (items (drop n b))) same)
   ]
@@ -154,7 +155,8 @@ module _ (family : AddressFamily) (b : List ℕ) where
     finds_by (Ok v) reads more small t rest found =
         goes_on t rest (more (step_rest_bytes d f left small e) (after at f) left_is t rest found)
     finds_by (Err c) reads more small t rest found =
-        first_is (IsFirst family b at) (told_of family at (Some f) c) t (told family (after at f) (items left)) rest found
+        first_is (IsFirst family b at) (told_of family at (Some f) c) t (told family (after at f) (items left)) rest
+        found
         (refused_first small c reads)
 
   finds : (d : List ℕ) → Finds d (items d)

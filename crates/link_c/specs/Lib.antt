@@ -6,3 +6,4 @@ pub mod Messages
 pub mod Paths
 pub mod Refused
 pub mod Shown
+pub mod Diffs

@@ -4,12 +4,14 @@ ghost use Rattle.std.specs.Prelude.{◌≡◌};
 ghost use Rattle.link_c.specs.Answers.{Says, itself, as_bit, as_one, as_zero};
 ghost use Rattle.link_c.specs.Messages.{MeansOrFaults, IsLookAt, IsLength, IsText, IsComparison, IsState};
 ghost use Rattle.link_c.specs.Messages.{IsStateComparison};
+ghost use Rattle.link_c.specs.Diffs.{IsDiff};
 ghost use Rattle.link_c.specs.Leniently.{IsLenientLength, IsLenientText, IsLenientState};
 ghost use Rattle.link_c.specs.Lists.{IsNext, IsPut};
 ghost use Rattle.link_c.specs.Paths.{IsLookAlong};
 ghost use Rattle.link_c.specs.Refused.{IsNextRefused};
 ghost use Rattle.link_c.specs.Shown.{IsShown, numbered_order, release_number};
 
+use crate::diff::write_diff;
 use crate::lenient::{lenient_len, write_lenient, write_lenient_state};
 use crate::list::{Attribute, next_attribute, put_attribute};
 use crate::message::{
@@ -141,6 +143,21 @@ pub extern "C" fn linkwire_show(
         (IsShown (numbered_order order) flags message.now out.old out.new) result }
 {
     length_code(write_shown(alloc, numbered_order(order), flags, message, out))
+}
+
+/// `linkwire_diff` of linkwire.h.
+#[unsafe(no_mangle)]
+pub extern "C" fn linkwire_diff(
+    alloc: Global,
+    old: &[u8],
+    new: &[u8],
+    order: u32,
+    flags: u32,
+    out: &mut [u8],
+) -> isize
+    ensures { Says itself (IsDiff flags old.now new.now out.old out.new) result }
+{
+    length_code(write_diff(alloc, numbered_order(order), flags, old, new, out))
 }
 
 /// `linkwire_canonical_lenient_len` of linkwire.h.

@@ -1,6 +1,7 @@
 //! Link messages for programs in C: `include/linkwire.h` declares what is exported here.
 #![tactic(auto)]
 
+pub mod diff;
 pub mod export;
 pub mod flags;
 pub mod lenient;

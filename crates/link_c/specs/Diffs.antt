@@ -1,0 +1,35 @@
+-- What `linkwire_diff` writes: a text, for which the buffer may have no room.
+use Rattle.std.specs.Prelude.{◌≡◌, ℕ, ◌<◌, Bool, true, false, List, [], length, Result, Ok, Err, cond}
+use Rattle.link_msg.specs.declared.encoding.CanonError.{CanonError}
+use Rattle.message_diff.specs.Changed.{AddsListBy}
+use Rattle.message_diff.specs.Compared.{IsRefusalOfTwoBy, TellsIfDiffers}
+use Rattle.message_diff.specs.declared.snapshot.Compared.{Compared}
+use Rattle.message_diff.specs.declared.snapshot.Compared.TheVariants.{State, Message, LenientState, LenientMessage}
+use Rattle.link_c.specs.Answers.{of_canon}
+use Rattle.link_c.specs.Flags.{AreFlags}
+use Rattle.link_c.specs.Shown.{PutsWhole}
+use Rattle.link_c.specs.declared.flags.Flags.{Flags}
+use Rattle.link_c.specs.declared.refusal.Refusal.{Refusal}
+use Rattle.link_c.specs.declared.refusal.Refusal.TheVariants.{OutOfMemory, UnknownFlag}
+
+-- what is compared by the flags
+abbrev pub compared : Flags → Compared
+compared f = cond f.lenient (cond f.counters LenientMessage LenientState) (cond f.counters Message State)
+
+-- where what is compared of a and b is equal nothing was written; else the list of what changed was put, n bytes
+abbrev pub IsListed : Compared → List ℕ → List ℕ → List ℕ → List ℕ → Bool → ℕ → Type 0
+IsListed by a b old new false n = (n ≡ 0) × (new ≡ old)
+IsListed by a b old new true n =
+    (text : List ℕ) × AddsListBy by a b [] text × (0 < length text) × PutsWhole text old new n
+
+-- what was written of a and b by what the flags say; or why one of them has no encoding, or memory ran out, or a flag
+-- is none, and the buffer is as it was
+abbrev pub IsDiff : ℕ → List ℕ → List ℕ → List ℕ → List ℕ → Result ℕ Refusal → Type 0
+IsDiff flags a b old new (Ok n) =
+    (f : Flags) × AreFlags flags (Ok f)
+    × ((told : Bool) × TellsIfDiffers (compared f) a b told × IsListed (compared f) a b old new told n)
+IsDiff flags a b old new (Err OutOfMemory) = ((f : Flags) × AreFlags flags (Ok f)) × (new ≡ old)
+IsDiff flags a b old new (Err UnknownFlag) = AreFlags flags (Err UnknownFlag) × (new ≡ old)
+IsDiff flags a b old new (Err e) =
+    (f : Flags) × AreFlags flags (Ok f)
+    × ((why : CanonError) × (e ≡ of_canon why) × IsRefusalOfTwoBy (compared f) a b why) × (new ≡ old)
