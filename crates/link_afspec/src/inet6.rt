@@ -4,17 +4,12 @@ ghost use Rattle.std.specs.Prelude.{◌≡◌};
 ghost use Rattle.nla_wire.specs.Gives.{without_place};
 ghost use Rattle.link_afspec.specs.Tables.{iface_flags, addr_gen_mode, af_spec_inet6_place};
 
-use crate::numbers::{
-    IFLA_INET6_ADDR_GEN_MODE, IFLA_INET6_CACHEINFO, IFLA_INET6_CONF, IFLA_INET6_FLAGS,
-    IFLA_INET6_ICMP6STATS, IFLA_INET6_RA_MTU, IFLA_INET6_STATS, IFLA_INET6_TOKEN,
-};
+use crate::numbers::*;
 use link_recs::{Icmp6Stats, Inet6CacheInfo, Inet6DevConf, Inet6Stats};
 use link_vals::{In6AddrGenMode, Inet6IfaceFlags};
-use nla_wire::error::checked;
 use nla_wire::{
-    CloneIn, DecodeError, DefaultNla, Exact, MOST_VALUE_LEN, Nla, NlaBuffer, NlaRead, PlainRecord,
-    Record, fill_bytes, kind_names, measure_ipv6_addr, measure_u8, measure_u32, parse_ipv6_addr,
-    parse_u8, parse_u32, write_ipv6_addr_payload, write_u8_payload, write_u32_payload, write_value,
+    CloneIn, DecodeError, DefaultNla, Exact, Nla, NlaBuffer, NlaRead, PlainRecord, Record,
+    parse_u8, parse_u32, rows,
 };
 use std::alloc::Global;
 use std::net::Ipv6Addr;
@@ -42,6 +37,22 @@ pub enum AfSpecInet6 {
     Other(DefaultNla),
 }
 
+/// A row for each member that is listed, in their order.
+macro_rules! members {
+    ($($call:tt)*) => {
+        rows! { ($($call)*)
+            flags Flags(u32, IFLA_INET6_FLAGS, parse_flags)
+            whole CacheInfo(Inet6CacheInfo, IFLA_INET6_CACHEINFO)
+            filled DevConf(Inet6DevConf, IFLA_INET6_CONF)
+            filled Stats(Inet6Stats, IFLA_INET6_STATS)
+            filled Icmp6Stats(Icmp6Stats, IFLA_INET6_ICMP6STATS)
+            address Token(Ipv6Addr, IFLA_INET6_TOKEN)
+            named AddrGenMode(u8, IFLA_INET6_ADDR_GEN_MODE, parse_mode)
+            plain RaMtu(u32, IFLA_INET6_RA_MTU)
+        }
+    };
+}
+
 #[tactic(auto, unfolding(crate::specs::Tables::af_spec_inet6_place), using(crate::proofs::Lengths::inet6_lengths))]
 impl Nla for AfSpecInet6 {
     ghost frame = { af_spec_inet6_place.frame };
@@ -51,53 +62,23 @@ impl Nla for AfSpecInet6 {
     ghost is_small = { af_spec_inet6_place.is_small };
 
     fn kind(&self) -> u16 {
-        match self {
-            AfSpecInet6::Flags(_) => IFLA_INET6_FLAGS,
-            AfSpecInet6::CacheInfo(_) => IFLA_INET6_CACHEINFO,
-            AfSpecInet6::DevConf(_) => IFLA_INET6_CONF,
-            AfSpecInet6::Stats(_) => IFLA_INET6_STATS,
-            AfSpecInet6::Icmp6Stats(_) => IFLA_INET6_ICMP6STATS,
-            AfSpecInet6::Token(_) => IFLA_INET6_TOKEN,
-            AfSpecInet6::AddrGenMode(_) => IFLA_INET6_ADDR_GEN_MODE,
-            AfSpecInet6::RaMtu(_) => IFLA_INET6_RA_MTU,
-            AfSpecInet6::Other(nla) => nla.kind(),
-        }
+        members!(kind AfSpecInet6, self)
     }
 
     fn fits(&self) -> bool {
-        match self {
-            // for the proof: 16 octets are fewer
-            AfSpecInet6::Token(token) => token.octets().len() <= MOST_VALUE_LEN,
-            AfSpecInet6::Other(nla) => nla.fits(),
-            _ => true,
-        }
+        self.measure().is_some()
     }
 
     fn value_len(&self) -> usize {
-        match self {
-            AfSpecInet6::Flags(_) | AfSpecInet6::RaMtu(_) => 4,
-            AfSpecInet6::CacheInfo(info) => info.buffer_len(),
-            AfSpecInet6::DevConf(conf) => conf.buffer_len(),
-            AfSpecInet6::Stats(stats) => stats.buffer_len(),
-            AfSpecInet6::Icmp6Stats(stats) => stats.buffer_len(),
-            AfSpecInet6::Token(token) => token.octets().len(),
-            AfSpecInet6::AddrGenMode(_) => 1,
-            AfSpecInet6::Other(nla) => nla.value_len(),
-        }
+        self.measure().unwrap_or(0)
     }
 
     fn fill_value(&self, buffer: &mut [u8]) -> usize {
-        match self {
-            AfSpecInet6::Flags(flags) => fill_bytes(buffer, &flags.bits().to_le_bytes()),
-            AfSpecInet6::CacheInfo(info) => info.fill(buffer),
-            AfSpecInet6::DevConf(conf) => conf.fill(buffer),
-            AfSpecInet6::Stats(stats) => stats.fill(buffer),
-            AfSpecInet6::Icmp6Stats(stats) => stats.fill(buffer),
-            AfSpecInet6::Token(token) => fill_bytes(buffer, &token.octets()),
-            AfSpecInet6::AddrGenMode(mode) => fill_bytes(buffer, &[u8::from(mode)]),
-            AfSpecInet6::RaMtu(mtu) => fill_bytes(buffer, &mtu.to_le_bytes()),
-            AfSpecInet6::Other(nla) => nla.fill_value(buffer),
-        }
+        members!(fill AfSpecInet6, self, buffer)
+    }
+
+    fn measure(&self) -> Option<usize> {
+        members!(size AfSpecInet6, self)
     }
 }
 
@@ -121,81 +102,28 @@ impl NlaRead for AfSpecInet6 {
     ghost grammar = { af_spec_inet6_place.grammar };
 
     fn kind_name(kind: u16) -> &'static str {
-        kind_names!(kind;
-            IFLA_INET6_FLAGS,
-            IFLA_INET6_CONF,
-            IFLA_INET6_STATS,
-            IFLA_INET6_CACHEINFO,
-            IFLA_INET6_ICMP6STATS,
-            IFLA_INET6_TOKEN,
-            IFLA_INET6_ADDR_GEN_MODE,
-            IFLA_INET6_RA_MTU,
-        )
+        members!(name kind)
     }
 
     #[tactic(auto, unfolding(crate::specs::Tables::af_spec_inet6_place))]
     fn parse_frame(alloc: Global, buffer: &NlaBuffer<'_>) -> Result<AfSpecInet6, DecodeError> {
-        let payload = buffer.value();
-        match buffer.kind() {
-            IFLA_INET6_FLAGS => Ok(AfSpecInet6::Flags(parse_flags(payload)?)),
-            IFLA_INET6_CONF => Ok(AfSpecInet6::DevConf(Inet6DevConf::read_padded(payload))),
-            IFLA_INET6_STATS => Ok(AfSpecInet6::Stats(Inet6Stats::read_padded(payload))),
-            IFLA_INET6_CACHEINFO => Ok(AfSpecInet6::CacheInfo(Inet6CacheInfo::parse(payload)?)),
-            IFLA_INET6_ICMP6STATS => Ok(AfSpecInet6::Icmp6Stats(Icmp6Stats::read_padded(payload))),
-            IFLA_INET6_TOKEN => Ok(AfSpecInet6::Token(parse_ipv6_addr(payload)?)),
-            IFLA_INET6_ADDR_GEN_MODE => Ok(AfSpecInet6::AddrGenMode(parse_mode(payload)?)),
-            IFLA_INET6_RA_MTU => Ok(AfSpecInet6::RaMtu(parse_u32(payload)?)),
-            _ => Ok(AfSpecInet6::Other(DefaultNla::parse(alloc, buffer)?)),
-        }
+        members!(parse AfSpecInet6, alloc, buffer)
     }
 
     #[tactic(auto, unfolding(crate::specs::Tables::af_spec_inet6_place))]
     fn check_frame(buffer: &NlaBuffer<'_>) -> Result<(), DecodeError> {
-        let payload = buffer.value();
-        match buffer.kind() {
-            IFLA_INET6_FLAGS | IFLA_INET6_RA_MTU => checked(parse_u32(payload)),
-            IFLA_INET6_CACHEINFO => checked(Inet6CacheInfo::parse(payload)),
-            IFLA_INET6_TOKEN => checked(parse_ipv6_addr(payload)),
-            IFLA_INET6_ADDR_GEN_MODE => checked(parse_u8(payload)),
-            _ => Ok(()),
-        }
+        members!(check buffer)
     }
 
     #[inline(always)]
     #[tactic(auto, unfolding(crate::proofs::Opened::inet6), using(link_vals::proofs::Numbers::in6_addr_gen_mode_again))]
     fn measure_frame(buffer: &NlaBuffer<'_>) -> Option<usize> {
-        let payload = buffer.value();
-        match buffer.kind() {
-            IFLA_INET6_FLAGS => measure_u32(payload),
-            IFLA_INET6_CONF => Inet6DevConf::measure_filled(payload),
-            IFLA_INET6_STATS => Inet6Stats::measure_filled(payload),
-            IFLA_INET6_CACHEINFO => Inet6CacheInfo::measure_sized(payload),
-            IFLA_INET6_ICMP6STATS => Icmp6Stats::measure_filled(payload),
-            IFLA_INET6_TOKEN => measure_ipv6_addr(payload),
-            IFLA_INET6_ADDR_GEN_MODE => measure_u8(payload),
-            IFLA_INET6_RA_MTU => measure_u32(payload),
-            _ => Some(payload.len()),
-        }
+        members!(measure buffer)
     }
 
     #[tactic(auto, unfolding(crate::proofs::Opened::inet6), using(link_vals::proofs::Numbers::in6_addr_gen_mode_again))]
     fn write_frame(buffer: &NlaBuffer<'_>, out: &mut [u8]) -> usize {
-        let payload = buffer.value();
-        match buffer.kind() {
-            IFLA_INET6_FLAGS => write_u32_payload(IFLA_INET6_FLAGS, payload, out),
-            IFLA_INET6_CONF => Inet6DevConf::write_filled(IFLA_INET6_CONF, payload, out),
-            IFLA_INET6_STATS => Inet6Stats::write_filled(IFLA_INET6_STATS, payload, out),
-            IFLA_INET6_CACHEINFO => Inet6CacheInfo::write_filled(
-                IFLA_INET6_CACHEINFO,
-                payload,
-                out,
-            ),
-            IFLA_INET6_ICMP6STATS => Icmp6Stats::write_filled(IFLA_INET6_ICMP6STATS, payload, out),
-            IFLA_INET6_TOKEN => write_ipv6_addr_payload(IFLA_INET6_TOKEN, payload, out),
-            IFLA_INET6_ADDR_GEN_MODE => write_u8_payload(IFLA_INET6_ADDR_GEN_MODE, payload, out),
-            IFLA_INET6_RA_MTU => write_u32_payload(IFLA_INET6_RA_MTU, payload, out),
-            _ => write_value(buffer.kind_with_flags(), payload, out),
-        }
+        members!(write buffer, out)
     }
 
     ghost agrees = { af_spec_inet6_place.lawful.agrees };
@@ -207,22 +135,12 @@ impl NlaRead for AfSpecInet6 {
 
 impl CloneIn for AfSpecInet6 {
     fn clone_in(&self, alloc: Global) -> Result<AfSpecInet6, DecodeError> {
-        match self {
-            AfSpecInet6::Flags(flags) => Ok(AfSpecInet6::Flags(*flags)),
-            AfSpecInet6::CacheInfo(info) => Ok(AfSpecInet6::CacheInfo(*info)),
-            AfSpecInet6::DevConf(conf) => Ok(AfSpecInet6::DevConf(*conf)),
-            AfSpecInet6::Stats(stats) => Ok(AfSpecInet6::Stats(*stats)),
-            AfSpecInet6::Icmp6Stats(stats) => Ok(AfSpecInet6::Icmp6Stats(*stats)),
-            AfSpecInet6::Token(token) => Ok(AfSpecInet6::Token(*token)),
-            AfSpecInet6::AddrGenMode(mode) => Ok(AfSpecInet6::AddrGenMode(*mode)),
-            AfSpecInet6::RaMtu(mtu) => Ok(AfSpecInet6::RaMtu(*mtu)),
-            AfSpecInet6::Other(nla) => Ok(AfSpecInet6::Other(nla.clone_in(alloc)?)),
-        }
+        members!(copy AfSpecInet6, self, alloc)
     }
 }
 
 impl Exact for AfSpecInet6 {
-    ghost use Rattle.nla_wire.specs.Decided.{◌&◌, by_exact, number_exact};
+    ghost use Rattle.nla_wire.specs.Decided.{by_exact, one_field, number_exact};
     ghost use Rattle.nla_wire.specs.Same.{same_frame-Decides};
     ghost use Rattle.link_recs.specs.Inet6DevConfFields.{inet6_dev_conf_decides};
     ghost use Rattle.link_recs.specs.Inet6StatsFields.{inet6_stats_decides};
@@ -237,15 +155,15 @@ impl Exact for AfSpecInet6 {
     ghost use Rattle.link_afspec.specs.Same.{address_exact};
     ghost use Rattle.link_afspec.specs.contracts.inet6.AfSpecInet6.{enum};
 
-    ghost decides = { by_exact enum _ (
-        flags_exact
-        & inet6_cache_info_decides
-        & inet6_dev_conf_decides
-        & inet6_stats_decides
-        & icmp6_stats_decides
-        & address_exact
-        & mode_exact
-        & number_exact
-        & same_frame-Decides
-        & tt) };
+    ghost decides = { by_exact enum _ (Prim.assumption (
+      one_field flags_exact,
+      one_field inet6_cache_info_decides,
+      one_field inet6_dev_conf_decides,
+      one_field inet6_stats_decides,
+      one_field icmp6_stats_decides,
+      one_field address_exact,
+      one_field mode_exact,
+      one_field number_exact,
+      one_field same_frame-Decides,
+    )) };
 }

@@ -4,12 +4,11 @@ ghost use Rattle.std.specs.Prelude.{◌≡◌};
 ghost use Rattle.nla_wire.specs.Gives.{without_place};
 ghost use Rattle.link_afspec.specs.Tables.{phys_binding};
 
-use crate::numbers::{IFLA_MCTP_NET, IFLA_MCTP_PHYS_BINDING};
+use crate::numbers::*;
 use link_vals::MctpPhysBinding;
-use nla_wire::error::checked;
 use nla_wire::{
-    CloneIn, DecodeError, DefaultNla, Exact, Flat, FlatView, Nla, NlaBuffer, NlaRead, kind_names,
-    measure_u8, measure_u32, parse_u8, parse_u32, write_u8_payload, write_u32_payload, write_value,
+    CloneIn, DecodeError, DefaultNla, Exact, Flat, FlatView, Nla, NlaBuffer, NlaRead, parse_u8,
+    rows,
 };
 use std::alloc::Global;
 
@@ -31,6 +30,16 @@ fn parse_binding(payload: &[u8]) -> Result<MctpPhysBinding, DecodeError>
     parse_u8(payload).map(MctpPhysBinding::from)
 }
 
+/// A row for each member that is listed, in their order.
+macro_rules! members {
+    ($($call:tt)*) => {
+        rows! { ($($call)*)
+            plain Net(u32, IFLA_MCTP_NET)
+            named PhysBinding(u8, IFLA_MCTP_PHYS_BINDING, parse_binding)
+        }
+    };
+}
+
 #[tactic(auto, unfolding(crate::specs::Tables::af_spec_mctp_place))]
 impl Flat for AfSpecMctp {
     ghost use Rattle.link_afspec.specs.Tables.{af_spec_mctp_place, af_spec_mctp_small};
@@ -45,14 +54,7 @@ impl Flat for AfSpecMctp {
 
     #[inline]
     fn view(&self) -> (u16, FlatView<'_>) {
-        match self {
-            AfSpecMctp::Net(net) => (IFLA_MCTP_NET, FlatView::U32(*net)),
-            AfSpecMctp::PhysBinding(binding) => (
-                IFLA_MCTP_PHYS_BINDING,
-                FlatView::U8(u8::from(binding)),
-            ),
-            AfSpecMctp::Other(nla) => (nla.kind(), FlatView::Bytes(nla.value())),
-        }
+        members!(view AfSpecMctp, self)
     }
 }
 
@@ -63,44 +65,28 @@ impl NlaRead for AfSpecMctp {
     ghost grammar = { af_spec_mctp_place.grammar };
 
     fn kind_name(kind: u16) -> &'static str {
-        kind_names!(kind; IFLA_MCTP_NET, IFLA_MCTP_PHYS_BINDING)
+        members!(name kind)
     }
 
     #[tactic(auto, unfolding(crate::specs::Tables::af_spec_mctp_place))]
     fn parse_frame(alloc: Global, buffer: &NlaBuffer<'_>) -> Result<AfSpecMctp, DecodeError> {
-        match buffer.kind() {
-            IFLA_MCTP_NET => parse_u32(buffer.value()).map(AfSpecMctp::Net),
-            IFLA_MCTP_PHYS_BINDING => parse_binding(buffer.value()).map(AfSpecMctp::PhysBinding),
-            _ => DefaultNla::parse(alloc, buffer).map(AfSpecMctp::Other),
-        }
+        members!(parse AfSpecMctp, alloc, buffer)
     }
 
     #[tactic(auto, unfolding(crate::specs::Tables::af_spec_mctp_place))]
     fn check_frame(buffer: &NlaBuffer<'_>) -> Result<(), DecodeError> {
-        match buffer.kind() {
-            IFLA_MCTP_NET => checked(parse_u32(buffer.value())),
-            IFLA_MCTP_PHYS_BINDING => checked(parse_binding(buffer.value())),
-            _ => Ok(()),
-        }
+        members!(check buffer)
     }
 
     #[inline(always)]
     #[tactic(auto, unfolding(crate::proofs::Opened::mctp), using(link_vals::proofs::Numbers::mctp_phys_binding_again))]
     fn measure_frame(buffer: &NlaBuffer<'_>) -> Option<usize> {
-        match buffer.kind() {
-            IFLA_MCTP_NET => measure_u32(buffer.value()),
-            IFLA_MCTP_PHYS_BINDING => measure_u8(buffer.value()),
-            _ => Some(buffer.value().len()),
-        }
+        members!(measure buffer)
     }
 
     #[tactic(auto, unfolding(crate::proofs::Opened::mctp), using(link_vals::proofs::Numbers::mctp_phys_binding_again))]
     fn write_frame(buffer: &NlaBuffer<'_>, out: &mut [u8]) -> usize {
-        match buffer.kind() {
-            IFLA_MCTP_NET => write_u32_payload(IFLA_MCTP_NET, buffer.value(), out),
-            IFLA_MCTP_PHYS_BINDING => write_u8_payload(IFLA_MCTP_PHYS_BINDING, buffer.value(), out),
-            _ => write_value(buffer.kind_with_flags(), buffer.value(), out),
-        }
+        members!(write buffer, out)
     }
 
     ghost agrees = { af_spec_mctp_place.lawful.agrees };
@@ -112,11 +98,7 @@ impl NlaRead for AfSpecMctp {
 
 impl CloneIn for AfSpecMctp {
     fn clone_in(&self, alloc: Global) -> Result<AfSpecMctp, DecodeError> {
-        match self {
-            AfSpecMctp::Net(net) => Ok(AfSpecMctp::Net(*net)),
-            AfSpecMctp::PhysBinding(binding) => Ok(AfSpecMctp::PhysBinding(*binding)),
-            AfSpecMctp::Other(nla) => nla.clone_in(alloc).map(AfSpecMctp::Other),
-        }
+        members!(copy AfSpecMctp, self, alloc)
     }
 }
 

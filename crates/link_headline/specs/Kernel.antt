@@ -1,5 +1,6 @@
 -- The tables of link messages by the kernel's numbers (linux/if_link.h, linux/devlink.h, linux/dpll.h,
--- linux/wireless.h, and linux/socket.h for the families).
+-- linux/wireless.h, and linux/socket.h for the families). What the field `written` of each table does, `AllFollowRows`
+-- says at the end.
 use Rattle.std.specs.Prelude.{ℕ, ℤ, ◌+◌, ◌<◌, ◌≤◌, ◌^◌, ◌==◌, not, Bool, true, false, List, [], ◌∷◌, ◌++◌, length, drop}
 use Rattle.std.specs.Prelude.{if◌then◌else◌}
 use Rattle.std.specs.Int.{Width, w8, w16, w32, w64, to_le_bytes, cast_signed, cast_unsigned}
@@ -82,13 +83,15 @@ use Rattle.link_headline.specs.Values as written
 
 -- ** payloads that hold no members
 
+-- bytes that are kept as they are
 abbrev pub bytes : Form (List ℕ)
 bytes = plain payload.bytes (λ p. p)
 
--- a text is written with one NUL
+-- a text, which is written with one NUL whether it had one or not
 abbrev pub text : Form (List ℕ)
 text = plain payload.text (λ s. s ++ 0 ∷ [])
 
+-- a number of exactly this width, lowest byte first
 abbrev pub number : Width → Form ℕ
 number w = plain (payload.number_of w) (to_le_bytes w)
 
@@ -111,7 +114,7 @@ i32 = as_form (cast_signed w32) (cast_unsigned w32) u32
 abbrev pub address : Form Ipv6Addr
 address = as_form address_of_octets ipv6_octets (plain (exactly 16) (λ p. p))
 
--- 0 is false, and all else true
+-- 0 is false, and all else true, which is written as 1
 abbrev pub truth_of : ℕ → Bool
 truth_of n = not (n == 0)
 
@@ -119,22 +122,24 @@ abbrev pub truth_number : Bool → ℕ
 truth_number true = 1
 truth_number false = 0
 
--- a number of four bytes as the list of its flags, which fits where their sum is such a number
+-- a number of four bytes as the list of its flags. A list fits where its sum has four bytes, as all do that bytes mean
 abbrev pub ext_mask : Form (List LinkExtentMask)
 ext_mask = record (as_form ext_list ext_sum u32) { Inside = λ flags. ext_sum flags < 2 ^ 32 }
 
--- the first 32 bytes of the payload
+-- the first 32 bytes of the payload, or all if they are fewer. An id fits where it has 32 at most, as all do that bytes
+-- mean
 abbrev pub phys_id : Form LinkPhysId
 phys_id = record (plain (filled phys_id_of) phys_id_bytes) { Inside = λ id. id.len ≤ 32 }
 
--- an event of the wireless extensions: its length, its command, four bytes of padding, and what it says. Of two
--- commands that is read, and of others the payload is kept whole
+-- an event of the wireless extensions: two bytes of length, two of command, four of padding, and what it says. Of the
+-- commands IWEVASSOCREQIE and IWEVASSOCRESPIE only what it says is kept; of others the payload, whole
 abbrev pub event_by : ℕ → List ℕ → WirelessEvent
 event_by command p =
     if command == 0x8c07 then Events.AssociateRequest (drop 8 p)
     else if command == 0x8c08 then Events.AssociateResponse (drop 8 p)
     else Events.Other p
 
+-- such an event: its length is the true one, and its padding zeros
 abbrev pub event_bytes : ℕ → List ℕ → List ℕ
 event_bytes command said =
     (to_le_bytes w16 (8 + length said) ++ to_le_bytes w16 command ++ 0 ∷ 0 ∷ 0 ∷ 0 ∷ []) ++ said
@@ -198,14 +203,17 @@ functions = record {
   written = written.functions;
 }
 
+-- an entry of IFLA_VFINFO_LIST: a record whose one field is the list
 abbrev pub function : Form LinkVfInfo
 function = as_form (λ members. record { 0 = members }) (λ v. v.0) (not_empty (list functions))
 
 -- ** IFLA_VF_PORTS, IFLA_PORT_SELF
 
+-- IFLA_VF_PORT: without rows, so all members are kept as they are
 abbrev pub ports : Table VfPort
 ports = record { rows = []; other = VfPorts.Other; written = written.ports }
 
+-- an entry of IFLA_VF_PORTS, and IFLA_PORT_SELF
 abbrev pub port : Form LinkVfPort
 port = as_form (λ members. record { 0 = members }) (λ v. v.0) (not_empty (list ports))
 
@@ -247,7 +255,7 @@ mctps = record {
   written = written.mctps;
 }
 
--- by the number of a family
+-- AF_UNSPEC: each member's number is that of a family
 abbrev pub families : Table AfSpecUnspec
 families = record {
   rows =
@@ -259,15 +267,17 @@ families = record {
   written = written.families;
 }
 
--- of the family AF_BRIDGE
+-- AF_BRIDGE: all members are kept as they are
 abbrev pub bridges : Table AfSpecBridge
 bridges = record { rows = []; other = Bridges.Other; written = written.bridges }
 
 -- ** IFLA_PROTINFO
 
+-- AF_BRIDGE
 abbrev pub bridge_infos : Table LinkProtoInfoBridge
 bridge_infos = record { rows = []; other = BridgeInfos.Other; written = written.bridge_infos }
 
+-- AF_INET6
 abbrev pub inet6_infos : Table LinkProtoInfoInet6
 inet6_infos = record { rows = []; other = Inet6Infos.Other; written = written.inet6_infos }
 
@@ -327,6 +337,7 @@ infos = record { rows = row 1 text Infos.Kind ∷ []; other = Infos.Other; writt
 
 -- ** the outermost list
 
+-- the rows that stand under each family. Which attribute a variant is, src/attribute.rt of link_msg says
 abbrev pub rows : List {1} (Row LinkAttribute)
 rows =
     row 1 bytes Attributes.Address
@@ -392,13 +403,13 @@ rows =
     ∷ row_of_size 2 69 u16 Attributes.Tailroom
     ∷ []
 
--- IFLA_PROTINFO by the header's family
+-- IFLA_PROTINFO by the header's family: a list, or a frame that is kept with its flags
 abbrev pub proto_info : AddressFamily → Row LinkAttribute
 proto_info Families.Inet6 = nested_row 12 (not_empty (list inet6_infos)) Attributes.ProtoInfoInet6
 proto_info Families.Bridge = nested_row 12 (not_empty (list bridge_infos)) Attributes.ProtoInfoBridge
 proto_info _ = kept_row 12 Attributes.ProtoInfoUnknown
 
--- IFLA_AF_SPEC likewise
+-- IFLA_AF_SPEC by the header's family: a list, or a payload that is kept, without the flags of the frame
 abbrev pub af_spec : AddressFamily → Row LinkAttribute
 af_spec Families.Unspec = row 26 (list families) Attributes.AfSpecUnspec
 af_spec Families.Bridge = row 26 (not_empty (list bridges)) Attributes.AfSpecBridge

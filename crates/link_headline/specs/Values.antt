@@ -1,5 +1,5 @@
 -- How the values of each table are written, whether they fit and how many they are, by the tables that the code goes
--- by. Nothing here has to be read: the headline says of each what it does.
+-- by. Nothing here has to be read: `AllFollowRows`, which is in the headline, says of each what it does.
 use Rattle.link_nest.specs.Tables.{prop_place, devlink_port_place, dpll_pin_place, down_reason_place, xdp_place}
 use Rattle.link_nest.specs.Tables.{link_info_place}
 use Rattle.link_nest.specs.declared.prop_list.Prop.{Prop}

@@ -127,11 +127,10 @@ impl LinkMessage {
         check_attributes(rest, header.interface_family)
     }
 
-    /// The length of the canonical encoding, or `None` where the message does not fit. The walk over the values is a
-    /// call that only reads, so a caller of `fits` and then of `buffer_len` makes it once.
+    /// The length of the canonical encoding, or `None` where the message does not fit: one walk over the values.
     #[inline(always)]
     #[tactic(auto, using(crate::proofs::Messaging::text_length))]
-    fn measured(&self) -> Option<usize>
+    pub(crate) fn measured(&self) -> Option<usize>
         ensures { Measures (MessageFits self.now) (length (message_text self.now)) result }
     {
         match nlas_measure(self.attributes.as_slice()) {

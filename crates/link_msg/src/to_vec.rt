@@ -1,6 +1,6 @@
 //! Messages that were built or changed: written into memory of their own, and read again.
 
-ghost use Rattle.std.specs.Prelude.{◌≡◌, ◌↔◌, IsTrue, IfOk, IfErr};
+ghost use Rattle.std.specs.Prelude.{◌≡◌, ◌↔◌, length, IsTrue, IfOk, IfErr};
 ghost use Rattle.link_msg.specs.Messages.{Means, message_text, MessageFits, NoEmptyPorts};
 ghost use Rattle.link_msg.specs.Written.{IsUnwritten, IsWhole};
 
@@ -10,12 +10,12 @@ use nla_wire::Cause;
 use std::alloc::{AllocError, Global};
 
 impl LinkMessage {
-    /// The canonical encoding of a message that fits, or out of memory.
-    fn encoding(&self, alloc: Global) -> Result<Vec<u8>, AllocError>
-        requires { MessageFits self.now }
+    /// The canonical encoding of a message that was measured, or out of memory.
+    fn encoding(&self, alloc: Global, len: usize) -> Result<Vec<u8>, AllocError>
+        requires fits { MessageFits self.now }
+        requires measured { len ≡ length (message_text self.now) }
         ensures { IfOk result (λ encoding. encoding.items ≡ message_text self.now) }
     {
-        let len = self.buffer_len();
         let mut encoding = Vec::with_capacity(alloc, len)?;
         encoding.resize(len, 0)?;
         self.emit(encoding.as_mut_slice());
@@ -29,13 +29,13 @@ impl LinkMessage {
         ensures ok { IfOk result (λ encoding. IsWhole self.now encoding.items) }
         ensures err { IfErr result (IsUnwritten self.now) }
     {
-        if !self.fits() {
+        let Some(len) = self.measured() else {
             return Err(CanonError::DoesNotFit);
-        }
+        };
         if self.has_empty_ports() {
             return Err(CanonError::EmptyVfPorts);
         }
-        Ok(self.encoding(alloc)?)
+        Ok(self.encoding(alloc, len)?)
     }
 
     /// Whether the message fits and its canonical encoding means it, which is so of every message that was read, fits
@@ -48,10 +48,10 @@ impl LinkMessage {
         ensures { IfOk result (λ same.
             IsTrue same ↔ (MessageFits self.now × Means (message_text self.now) self.now)) }
     {
-        if !self.fits() {
+        let Some(len) = self.measured() else {
             return Ok(false);
-        }
-        let encoding = self.encoding(alloc)?;
+        };
+        let encoding = self.encoding(alloc, len)?;
         match LinkMessage::parse(alloc, encoding.as_slice()) {
             Ok(read) => Ok(read == *self),
             Err(error) => match error.cause {

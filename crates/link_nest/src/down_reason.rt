@@ -1,10 +1,8 @@
 //! Why a protocol holds an interface down, members of IFLA_PROTO_DOWN_REASON.
 
-use crate::numbers::{IFLA_PROTO_DOWN_REASON_MASK, IFLA_PROTO_DOWN_REASON_VALUE};
-use nla_wire::error::checked;
+use crate::numbers::*;
 use nla_wire::{
-    CloneIn, DecodeError, DefaultNla, Exact, Flat, FlatView, Nla, NlaBuffer, NlaRead, kind_names,
-    measure_u32, parse_u32, write_u32_payload, write_value,
+    CloneIn, DecodeError, DefaultNla, Exact, Flat, FlatView, Nla, NlaBuffer, NlaRead, rows,
 };
 use std::alloc::Global;
 
@@ -17,6 +15,16 @@ pub enum LinkProtocolDownReason {
     Value(u32),
     /// A number that is not listed here.
     Other(DefaultNla),
+}
+
+/// A row for each member that is listed, in their order.
+macro_rules! members {
+    ($($call:tt)*) => {
+        rows! { ($($call)*)
+            plain Mask(u32, IFLA_PROTO_DOWN_REASON_MASK)
+            plain Value(u32, IFLA_PROTO_DOWN_REASON_VALUE)
+        }
+    };
 }
 
 #[tactic(auto, unfolding(crate::specs::Tables::down_reason_place))]
@@ -33,17 +41,7 @@ impl Flat for LinkProtocolDownReason {
 
     #[inline]
     fn view(&self) -> (u16, FlatView<'_>) {
-        match self {
-            LinkProtocolDownReason::Mask(mask) => (
-                IFLA_PROTO_DOWN_REASON_MASK,
-                FlatView::U32(*mask),
-            ),
-            LinkProtocolDownReason::Value(value) => (
-                IFLA_PROTO_DOWN_REASON_VALUE,
-                FlatView::U32(*value),
-            ),
-            LinkProtocolDownReason::Other(nla) => (nla.kind(), FlatView::Bytes(nla.value())),
-        }
+        members!(view LinkProtocolDownReason, self)
     }
 }
 
@@ -54,7 +52,7 @@ impl NlaRead for LinkProtocolDownReason {
     ghost grammar = { down_reason_place.grammar };
 
     fn kind_name(kind: u16) -> &'static str {
-        kind_names!(kind; IFLA_PROTO_DOWN_REASON_MASK, IFLA_PROTO_DOWN_REASON_VALUE)
+        members!(name kind)
     }
 
     #[tactic(auto, unfolding(crate::specs::Tables::down_reason_place))]
@@ -62,51 +60,23 @@ impl NlaRead for LinkProtocolDownReason {
         alloc: Global,
         buffer: &NlaBuffer<'_>,
     ) -> Result<LinkProtocolDownReason, DecodeError> {
-        match buffer.kind() {
-            IFLA_PROTO_DOWN_REASON_MASK => parse_u32(buffer.value()).map(
-                LinkProtocolDownReason::Mask,
-            ),
-            IFLA_PROTO_DOWN_REASON_VALUE => parse_u32(buffer.value()).map(
-                LinkProtocolDownReason::Value,
-            ),
-            _ => DefaultNla::parse(alloc, buffer).map(LinkProtocolDownReason::Other),
-        }
+        members!(parse LinkProtocolDownReason, alloc, buffer)
     }
 
     #[tactic(auto, unfolding(crate::specs::Tables::down_reason_place))]
     fn check_frame(buffer: &NlaBuffer<'_>) -> Result<(), DecodeError> {
-        match buffer.kind() {
-            IFLA_PROTO_DOWN_REASON_MASK => checked(parse_u32(buffer.value())),
-            IFLA_PROTO_DOWN_REASON_VALUE => checked(parse_u32(buffer.value())),
-            _ => Ok(()),
-        }
+        members!(check buffer)
     }
 
     #[inline(always)]
     #[tactic(auto, unfolding(crate::specs::Tables::down_reason_place, nla_wire::specs::Payloads::read_number))]
     fn measure_frame(buffer: &NlaBuffer<'_>) -> Option<usize> {
-        match buffer.kind() {
-            IFLA_PROTO_DOWN_REASON_MASK => measure_u32(buffer.value()),
-            IFLA_PROTO_DOWN_REASON_VALUE => measure_u32(buffer.value()),
-            _ => Some(buffer.value().len()),
-        }
+        members!(measure buffer)
     }
 
     #[tactic(auto, unfolding(crate::specs::Tables::down_reason_place, nla_wire::specs::Payloads::read_number))]
     fn write_frame(buffer: &NlaBuffer<'_>, out: &mut [u8]) -> usize {
-        match buffer.kind() {
-            IFLA_PROTO_DOWN_REASON_MASK => write_u32_payload(
-                IFLA_PROTO_DOWN_REASON_MASK,
-                buffer.value(),
-                out,
-            ),
-            IFLA_PROTO_DOWN_REASON_VALUE => write_u32_payload(
-                IFLA_PROTO_DOWN_REASON_VALUE,
-                buffer.value(),
-                out,
-            ),
-            _ => write_value(buffer.kind_with_flags(), buffer.value(), out),
-        }
+        members!(write buffer, out)
     }
 
     ghost agrees = { down_reason_place.lawful.agrees };
@@ -118,13 +88,7 @@ impl NlaRead for LinkProtocolDownReason {
 
 impl CloneIn for LinkProtocolDownReason {
     fn clone_in(&self, alloc: Global) -> Result<LinkProtocolDownReason, DecodeError> {
-        match self {
-            LinkProtocolDownReason::Mask(mask) => Ok(LinkProtocolDownReason::Mask(*mask)),
-            LinkProtocolDownReason::Value(value) => Ok(LinkProtocolDownReason::Value(*value)),
-            LinkProtocolDownReason::Other(nla) => nla
-                .clone_in(alloc)
-                .map(LinkProtocolDownReason::Other),
-        }
+        members!(copy LinkProtocolDownReason, self, alloc)
     }
 }
 

@@ -1,4 +1,3 @@
 pub mod Entries
 pub mod Picked
-pub mod Lengths
 pub mod Opened

@@ -1,12 +1,8 @@
 //! Vlans of a virtual function, members of IFLA_VF_VLAN_LIST.
 
-use crate::numbers::IFLA_VF_VLAN_INFO;
+use crate::numbers::*;
 use link_vfrec::VfVlanInfo;
-use nla_wire::error::checked;
-use nla_wire::{
-    CloneIn, DecodeError, DefaultNla, Exact, Nla, NlaBuffer, NlaRead, Record, kind_names,
-    write_value,
-};
+use nla_wire::{CloneIn, DecodeError, DefaultNla, Exact, Nla, NlaBuffer, NlaRead, Record, rows};
 use std::alloc::Global;
 
 /// A member of IFLA_VF_VLAN_LIST (linux/if_link.h).
@@ -16,6 +12,15 @@ pub enum VfVlan {
     Info(VfVlanInfo),
     /// A number that is not listed here.
     Other(DefaultNla),
+}
+
+/// A row for each member that is listed.
+macro_rules! members {
+    ($($call:tt)*) => {
+        rows! { ($($call)*)
+            record Info(VfVlanInfo, IFLA_VF_VLAN_INFO)
+        }
+    };
 }
 
 impl Nla for VfVlan {
@@ -29,34 +34,32 @@ impl Nla for VfVlan {
 
     #[tactic(auto, unfolding(crate::specs::Tables::vf_vlan_place))]
     fn kind(&self) -> u16 {
-        match self {
-            VfVlan::Info(_) => IFLA_VF_VLAN_INFO,
-            VfVlan::Other(nla) => nla.kind(),
-        }
+        members!(kind VfVlan, self)
     }
 
     #[tactic(auto, unfolding(crate::specs::Tables::vf_vlan_place, link_vfrec::specs::Records::vf_vlan_info_bytes))]
     fn fits(&self) -> bool {
-        match self {
-            VfVlan::Info(_) => true,
-            VfVlan::Other(nla) => nla.fits(),
-        }
+        self.measure().is_some()
     }
 
     #[tactic(auto, unfolding(crate::specs::Tables::vf_vlan_place, link_vfrec::specs::Records::vf_vlan_info_bytes))]
     fn value_len(&self) -> usize {
-        match self {
-            VfVlan::Info(vlan) => vlan.buffer_len(),
-            VfVlan::Other(nla) => nla.value_len(),
-        }
+        self.measure().unwrap_or(0)
     }
 
     #[tactic(auto, unfolding(crate::specs::Tables::vf_vlan_place, link_vfrec::specs::Records::vf_vlan_info_bytes))]
     fn fill_value(&self, buffer: &mut [u8]) -> usize {
-        match self {
-            VfVlan::Info(vlan) => vlan.fill_back(buffer),
-            VfVlan::Other(nla) => nla.fill_value(buffer),
-        }
+        members!(fill VfVlan, self, buffer)
+    }
+
+    #[tactic(auto, unfolding(crate::specs::Tables::vf_vlan_place, link_vfrec::specs::Records::vf_vlan_info_bytes))]
+    fn measure(&self) -> Option<usize> {
+        members!(size VfVlan, self)
+    }
+
+    #[tactic(auto, unfolding(crate::specs::Tables::vf_vlan_place, link_vfrec::specs::Records::vf_vlan_info_bytes))]
+    fn write(&self, buffer: &mut [u8]) -> usize {
+        members!(put VfVlan, self, buffer)
     }
 }
 
@@ -67,40 +70,28 @@ impl NlaRead for VfVlan {
     ghost grammar = { vf_vlan_place.grammar };
 
     fn kind_name(kind: u16) -> &'static str {
-        kind_names!(kind; IFLA_VF_VLAN_INFO)
+        members!(name kind)
     }
 
     #[tactic(auto, unfolding(crate::specs::Tables::vf_vlan_place))]
     fn parse_frame(alloc: Global, buffer: &NlaBuffer<'_>) -> Result<VfVlan, DecodeError> {
-        match buffer.kind() {
-            IFLA_VF_VLAN_INFO => VfVlanInfo::parse(buffer.value()).map(VfVlan::Info),
-            _ => DefaultNla::parse(alloc, buffer).map(VfVlan::Other),
-        }
+        members!(parse VfVlan, alloc, buffer)
     }
 
     #[tactic(auto, unfolding(crate::specs::Tables::vf_vlan_place))]
     fn check_frame(buffer: &NlaBuffer<'_>) -> Result<(), DecodeError> {
-        match buffer.kind() {
-            IFLA_VF_VLAN_INFO => checked(VfVlanInfo::parse(buffer.value())),
-            _ => Ok(()),
-        }
+        members!(check buffer)
     }
 
     #[inline(always)]
     #[tactic(auto, unfolding(crate::specs::Tables::vf_vlan_place))]
     fn measure_frame(buffer: &NlaBuffer<'_>) -> Option<usize> {
-        match buffer.kind() {
-            IFLA_VF_VLAN_INFO => VfVlanInfo::measure_sized(buffer.value()),
-            _ => Some(buffer.value().len()),
-        }
+        members!(measure buffer)
     }
 
     #[tactic(auto, unfolding(crate::specs::Tables::vf_vlan_place, nla_wire::specs::Payloads::read_sized))]
     fn write_frame(buffer: &NlaBuffer<'_>, out: &mut [u8]) -> usize {
-        match buffer.kind() {
-            IFLA_VF_VLAN_INFO => VfVlanInfo::write_sized(IFLA_VF_VLAN_INFO, buffer.value(), out),
-            _ => write_value(buffer.kind_with_flags(), buffer.value(), out),
-        }
+        members!(write buffer, out)
     }
 
     ghost agrees = { vf_vlan_place.lawful.agrees };
@@ -112,10 +103,7 @@ impl NlaRead for VfVlan {
 
 impl CloneIn for VfVlan {
     fn clone_in(&self, alloc: Global) -> Result<VfVlan, DecodeError> {
-        match self {
-            VfVlan::Info(vlan) => Ok(VfVlan::Info(*vlan)),
-            VfVlan::Other(nla) => nla.clone_in(alloc).map(VfVlan::Other),
-        }
+        members!(copy VfVlan, self, alloc)
     }
 }
 
