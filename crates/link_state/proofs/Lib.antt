@@ -10,6 +10,7 @@ pub mod Masks
 pub mod Before
 pub mod BeforeRows
 pub mod States
+pub mod Still
 pub mod Outlines
 pub mod StateLaws
 pub mod LenientStates

@@ -13,7 +13,6 @@ use Rattle.nla_wire.specs.Canon.{canons}
 use Rattle.nla_wire.proofs.Steps.{bytes_left, bytes_right}
 use Rattle.link_vals.specs.declared.address_family.AddressFamily.{AddressFamily}
 use Rattle.link_vals.specs.AddressFamilyTable.{address_family_of, address_family_number}
-use Rattle.link_vals.specs.LinkFlagsTable.{link_flags_of}
 use Rattle.link_vals.proofs.Numbers.{address_family_again}
 use Rattle.link_msg.specs.Header.{header_size, header_of, header_bytes, IsHeader}
 use Rattle.link_msg.specs.Tables.{attribute_place, attribute_frame, AttributeFits, NotEmptyPorts, attribute_lawful}
@@ -28,6 +27,7 @@ use Rattle.link_msg.proofs.HeaderBack.{header_back}
 use Rattle.link_state.specs.Cleared.{filled, cleared}
 use Rattle.link_state.specs.State.{change_mask_at, level_of, state}
 use Rattle.link_state.specs.Laws.{IsCanonical, StateIsCanonical, StateIsAsLong, FilledIsCanonical}
+use Rattle.link_state.specs.Still.{StateMeansStill, no_changes}
 use Rattle.link_state.specs.declared.level.Level.TheVariants.{Message}
 use Rattle.link_state.proofs.Walking.{length-filled}
 use Rattle.link_state.proofs.Closing.{filled_frame, IsOwn, Closes}
@@ -48,23 +48,13 @@ state_is_as_long t long = omega (
 
 -- ** the header
 
--- no flags are changed
-pub no_changes : LinkHeader → LinkHeader
-no_changes v = record {
-  interface_family = v.interface_family;
-  index = v.index;
-  link_layer_type = v.link_layer_type;
-  flags = v.flags;
-  change_mask = link_flags_of 0;
-}
-
-no_changes_bytes : (v : LinkHeader) (rest : List ℕ)
+pub no_changes_bytes : (v : LinkHeader) (rest : List ℕ)
     → take change_mask_at (header_bytes v ++ rest) ++ replicate 4 0 ≡ header_bytes (no_changes v)
-unfolding header_bytes no_changes
+unfolding header_bytes
 no_changes_bytes v rest = refl
 
 no_changes_says : (v : LinkHeader) → header_of (header_bytes (no_changes v)) ≡ no_changes (header_of (header_bytes v))
-unfolding header_bytes header_of no_changes number_at
+unfolding header_bytes header_of number_at
 no_changes_says v = refl
 
 no_changes_back : (v : LinkHeader) → IsHeader (header_bytes v) v
@@ -74,13 +64,13 @@ no_changes_back v is = record {
   says = ap no_changes is.says ∙ sym (no_changes_says v);
 }
 
-first_byte : (v : LinkHeader) (rest : List ℕ)
+pub first_byte : (v : LinkHeader) (rest : List ℕ)
     → slice_index (header_bytes v ++ rest) 0 ≡ address_family_number v.interface_family
 unfolding header_bytes
 first_byte v rest = refl
 
 -- a header's family is that of its number
-family_again : (h : List ℕ) (v : LinkHeader) → IsHeader h v
+pub family_again : (h : List ℕ) (v : LinkHeader) → IsHeader h v
     → address_family_of (address_family_number v.interface_family) ≡ v.interface_family
 unfolding header_of
 family_again h v is =
@@ -186,7 +176,6 @@ module _ (place : AddressFamily → Grammar Frame LinkAttribute)
   -- the state encoding
   pub state_by : (t : List ℕ) (m : LinkMessage) → IsBytes t → IsTextBy place t m
       → FilledFrom place 0 m (no_changes m.header) (state t)
-  unfolding no_changes
   state_by t m small own =
       let v = m.header in
       let made = with_header 0 (omega arith) t m small own (no_changes v) refl
@@ -225,6 +214,14 @@ pub state_is_canonical : StateIsCanonical
 state_is_canonical t m small own =
     let made = state_by attribute_place attribute_lawful message_closes t m small (strict_text t m own) in
     (made.message, is_canonical (state t) made.message made.is_text)
+
+pub state_means_still : StateMeansStill
+state_means_still t m small own =
+    let made = state_by attribute_place attribute_lawful message_closes t m small (strict_text t m own) in (
+      made.message,
+      is_canonical (state t) made.message made.is_text,
+      record { header = made.header_is; attributes = made.frames_are },
+    )
 
 pub filled_is_canonical : FilledIsCanonical
 filled_is_canonical by t m byte small own =

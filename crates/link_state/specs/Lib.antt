@@ -5,4 +5,5 @@ pub mod Thinned
 pub mod Masks
 pub mod State
 pub mod Laws
+pub mod Still
 pub mod LenientState

@@ -2,6 +2,7 @@
 
 ghost use Rattle.link_state.specs.Laws.{StateIsCanonical, StateIsAsLong, StateTwice, ZeroAtItsMask, MaskStays};
 ghost use Rattle.link_state.specs.Laws.{MaskByFrames, OneState};
+ghost use Rattle.link_state.specs.Still.{StateMeansStill, CountersLeave};
 ghost use Rattle.link_state.specs.Laws.{ListTwice, ListZeroAtItsMask, ListMaskByFrames, OneList};
 ghost use Rattle.link_state.specs.Laws.{Inet6Thinned, FamiliesThinned, Inet6Apart, FamiliesApart};
 ghost use Rattle.link_state.specs.LenientState.{LenientStateIsCanonical, LenientFilledIsCanonical, StrictStateStays};
@@ -12,6 +13,13 @@ pub fn law_state()
     ensures canonical { StateIsCanonical }
     ensures as_long { StateIsAsLong }
     ensures twice { StateTwice }
+{}
+
+/// The state of canonical encoding means the message of which no flags are changed and no attribute has what moves by
+/// itself; and two accepted byte strings whose messages differ in the values of counters alone have one state.
+pub fn law_still()
+    ensures means { StateMeansStill }
+    ensures counters { CountersLeave }
 {}
 
 /// The state encoding is the canonical encoding with zeros at a mask, which depends on the frames alone. Two canonical
