@@ -1,6 +1,7 @@
 pub mod Added
 mod Filled
 mod Named
+mod NamesTied
 mod Places
 mod Elements
 mod Forms

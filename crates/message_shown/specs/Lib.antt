@@ -12,5 +12,7 @@ pub mod Nests
 pub mod Settings
 pub mod Attributes
 pub mod Forms
+pub mod Names
+pub mod NamesTied
 pub mod Leniently
 pub mod Raw
