@@ -1,5 +1,5 @@
 -- How reads and writes join.
-use Rattle.std.proofs.Common.{ℕ, List, [], ◌++◌, length-append, arith, refl, sym, ap, ◌∙◌, subst, append_assoc, take}
+use Rattle.std.proofs.Common.{ℕ, List, [], ◌++◌, refl, sym, ap, ◌∙◌, subst, append_assoc, take}
 use Rattle.std.proofs.Common.{drop}
 use Rattle.std.specs.Prelude.{Option, None, Some}
 use Rattle.std.specs.Io.KnownBytes.{Consumes, Appends, Keeps}
@@ -70,17 +70,4 @@ Sends-short a b c bytes waiting h k = (
   h.0 ++ k.0,
   Appends-join a b c h.0 k.0 h.1 k.1,
   (k.2.0, k.2.1, h.2 ∙ ap (λ t. h.0 ++ t) k.2.2 ∙ sym (append_assoc h.0 k.0 k.2.0)),
-)
-
--- the same where more is due
-pub AppendsShort-more : (a b : Option (List ℕ)) (bytes more : List ℕ) → AppendsShort a b bytes
-    → AppendsShort a b (bytes ++ more)
-AppendsShort-more a b bytes more h = (
-  h.0,
-  h.1,
-  (
-    h.2.0 ++ more,
-    omega (arith, h.2.1, length-append h.2.0 more),
-    ap (λ t. t ++ more) h.2.2 ∙ append_assoc h.0 h.2.0 more,
-  ),
 )

@@ -1,7 +1,9 @@
 pub mod Text
 pub mod Known
 mod Joined
-mod Walk
+mod Running
+mod Stopping
+mod Answered
 mod Spelling
 pub mod Front
 mod Blocks

@@ -1,4 +1,4 @@
-//! Filters of lines: each line of a reader is answered by one line, whatever the answers are.
+//! A run over lines, whatever takes them; and filters, which answer each line by one line, whatever the answers are.
 #![tactic(auto)]
 
 pub mod answers;
@@ -6,7 +6,8 @@ pub mod digits;
 pub mod error;
 mod lanes;
 mod lines;
+pub mod program;
 pub mod run;
 pub mod worded;
 pub mod words;
-mod write;
+pub mod write;

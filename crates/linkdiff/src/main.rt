@@ -4,12 +4,15 @@
 mod arguments;
 
 use arguments::{Request, requested};
-use line_filter::error::RunError;
+use line_filter::program::{ended, misused, out_of_memory, refuse, refuse_all, write_text};
 use message_diff::{Compared, Told, Untold, compare_readers, watch_lines};
 use std::env;
 use std::fs::File;
-use std::io::{ErrorKind, Read};
+use std::io::Read;
 use std::process::ExitCode;
+
+/// The name of the program.
+const NAME: &str = "linkdiff";
 
 /// What `--help` writes.
 const HELP: &str = "usage: linkdiff [--counters] [--lenient] [--changes-only | OLD NEW]
@@ -33,72 +36,20 @@ does not have went.
 /// What `--version` writes.
 const VERSION: &str = "linkdiff 0.3.0\n";
 
-/// The exit status after wrong arguments.
-const USAGE: u8 = 2;
-
 fn main(rt: HostRuntime) -> ExitCode {
     let words = match env::args(&rt) {
         Ok(words) => words,
-        Err(error) => return refuse_all(rt, error.kind()),
+        Err(error) => return refuse_all(&rt, NAME, error.kind()),
     };
     match requested(rt.alloc(), words) {
-        Ok(Request::Help) => write_text(rt, HELP),
-        Ok(Request::Version) => write_text(rt, VERSION),
+        Ok(Request::Help) => write_text(&rt, NAME, HELP),
+        Ok(Request::Version) => write_text(&rt, NAME, VERSION),
         Ok(Request::Stream(by, told)) => run_stream(rt, by, told),
         Ok(Request::Files(by, old, new)) => run_files(rt, by, old.as_str(), new.as_str()),
-        Ok(Request::Wrong(word)) => {
-            let _ = eprintln!(rt; "linkdiff: not understood: {word}; see linkdiff --help");
-            ExitCode::from(USAGE)
-        }
-        Ok(Request::Count) => {
-            let _ = eprintln!(rt; "linkdiff: two files, or none; see linkdiff --help");
-            ExitCode::from(USAGE)
-        }
-        Ok(Request::NoStream) => {
-            let _ = eprintln!(rt;
-                "linkdiff: --changes-only goes with no file; see linkdiff --help"
-            );
-            ExitCode::from(USAGE)
-        }
-        Err(_) => {
-            let _ = eprintln!(rt; "linkdiff: out of memory");
-            ExitCode::FAILURE
-        }
-    }
-}
-
-/// Says why there are no arguments to look at.
-fn refuse_all(rt: HostRuntime, kind: ErrorKind) -> ExitCode {
-    match kind {
-        ErrorKind::InvalidData => {
-            let _ = eprintln!(rt; "linkdiff: an argument is no UTF-8; see linkdiff --help");
-            ExitCode::from(USAGE)
-        }
-        _ => {
-            let _ = eprintln!(rt; "linkdiff: out of memory");
-            ExitCode::FAILURE
-        }
-    }
-}
-
-fn write_text(rt: HostRuntime, text: &str) -> ExitCode {
-    match print!(rt; "{text}") {
-        Ok(()) => ExitCode::SUCCESS,
-        Err(_) => {
-            let _ = eprintln!(rt; "linkdiff: write failed");
-            ExitCode::FAILURE
-        }
-    }
-}
-
-/// The exit status and the line for how a run ended.
-fn ended(rt: HostRuntime, outcome: Result<(), RunError>) -> ExitCode {
-    match outcome {
-        Ok(()) => ExitCode::SUCCESS,
-        Err(error) => {
-            let _ = eprintln!(rt; "linkdiff: {error}");
-            ExitCode::FAILURE
-        }
+        Ok(Request::Wrong(word)) => refuse(&rt, NAME, word.as_str()),
+        Ok(Request::Count) => misused(&rt, NAME, "two files, or none"),
+        Ok(Request::NoStream) => misused(&rt, NAME, "--changes-only goes with no file"),
+        Err(_) => out_of_memory(&rt, NAME),
     }
 }
 
@@ -107,7 +58,7 @@ fn run_stream(rt: HostRuntime, by: Compared, told: Told) -> ExitCode {
     let mut reader = rt.stdin();
     let mut writer = rt.stdout();
     let outcome = watch_lines(rt.alloc(), by, told, &mut reader, &mut writer);
-    ended(rt, outcome)
+    ended(&rt, NAME, outcome)
 }
 
 /// Compares what two files leave at their ends.
@@ -153,10 +104,7 @@ fn run_readers<R: Read, S: Read>(
             }
             ExitCode::SUCCESS
         }
-        Err(error) => {
-            let _ = eprintln!(rt; "linkdiff: {error}");
-            ExitCode::FAILURE
-        }
+        Err(error) => { ended(rt, NAME, Err(error)) }
     }
 }
 

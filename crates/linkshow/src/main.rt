@@ -6,14 +6,17 @@ mod laws;
 mod run;
 
 use arguments::{Asked, requested};
-use line_filter::error::RunError;
+use line_filter::program::{USAGE, ended, refuse, refuse_all, write_text};
 use message_shown::context::Order;
 use message_shown::worded::order_of;
 use message_shown::{Lenient, Strict};
 use run::run;
-use std::io::{ErrorKind, Read};
+use std::io::Read;
 use std::process::ExitCode;
 use std::{env, fs};
+
+/// The name of the program.
+const NAME: &str = "linkshow";
 
 /// What `--help` writes.
 const HELP: &str = "usage: linkshow [--kernel RELEASE] [--lenient]
@@ -36,57 +39,22 @@ ok right before the digits is passed over.
 /// What `--version` writes.
 const VERSION: &str = "linkshow 0.3.0\n";
 
-/// The exit status after wrong arguments.
-const USAGE: u8 = 2;
-
 /// Where the kernel at hand says its release.
 const OSRELEASE: &str = "/proc/sys/kernel/osrelease";
 
 fn main(rt: HostRuntime) -> ExitCode {
     let words = match env::args(&rt) {
         Ok(words) => words,
-        Err(error) => return refuse_all(rt, error.kind()),
+        Err(error) => return refuse_all(&rt, NAME, error.kind()),
     };
     match requested(words) {
-        Asked::Help => write_text(rt, HELP),
-        Asked::Version => write_text(rt, VERSION),
+        Asked::Help => write_text(&rt, NAME, HELP),
+        Asked::Version => write_text(&rt, NAME, VERSION),
         Asked::Lines(release, is_lenient) => match release {
             Some(release) => answer_kernel(rt, release.as_str(), is_lenient),
             None => answer_lines(rt, Order::Unknown, is_lenient),
         },
-        Asked::Wrong(word) => refuse(rt, word.as_str()),
-    }
-}
-
-/// Says that an argument is wrong.
-fn refuse(rt: HostRuntime, word: &str) -> ExitCode {
-    let word = word.escape_debug();
-    let _ = eprintln!(rt; "linkshow: not understood: {word}; see linkshow --help");
-    ExitCode::from(USAGE)
-}
-
-/// Says why there are no arguments to look at.
-fn refuse_all(rt: HostRuntime, kind: ErrorKind) -> ExitCode {
-    match kind {
-        ErrorKind::InvalidData => {
-            let _ = eprintln!(rt; "linkshow: an argument is no UTF-8; see linkshow --help");
-            ExitCode::from(USAGE)
-        }
-        _ => {
-            let _ = eprintln!(rt; "linkshow: out of memory");
-            ExitCode::FAILURE
-        }
-    }
-}
-
-/// Writes a text.
-fn write_text(rt: HostRuntime, text: &str) -> ExitCode {
-    match print!(rt; "{text}") {
-        Ok(()) => ExitCode::SUCCESS,
-        Err(_) => {
-            let _ = eprintln!(rt; "linkshow: write failed");
-            ExitCode::FAILURE
-        }
+        Asked::Wrong(word) => refuse(&rt, NAME, word.as_str()),
     }
 }
 
@@ -123,16 +91,5 @@ fn answer_lines(rt: HostRuntime, order: Order, is_lenient: bool) -> ExitCode {
     } else {
         run(rt.alloc(), Strict, order, &mut reader, &mut writer)
     };
-    ended(rt, outcome)
-}
-
-/// The exit status and the line for how a run ended.
-fn ended(rt: HostRuntime, outcome: Result<(), RunError>) -> ExitCode {
-    match outcome {
-        Ok(()) => ExitCode::SUCCESS,
-        Err(error) => {
-            let _ = eprintln!(rt; "linkshow: {error}");
-            ExitCode::FAILURE
-        }
-    }
+    ended(&rt, NAME, outcome)
 }

@@ -8,11 +8,13 @@ mod run;
 
 use arguments::{Request, asked_for};
 use encoding::{LenientState, State};
-use line_filter::error::RunError;
+use line_filter::program::{ended, refuse, refuse_all, write_text};
 use run::run;
 use std::env;
-use std::io::ErrorKind;
 use std::process::ExitCode;
+
+/// The name of the program.
+const NAME: &str = "linkstate";
 
 /// What `--help` writes.
 const HELP: &str = "usage: linkstate [--lenient | --help | --version]
@@ -32,13 +34,10 @@ the digits is passed over.
 /// What `--version` writes.
 const VERSION: &str = "linkstate 0.3.0\n";
 
-/// The exit status after wrong arguments.
-const USAGE: u8 = 2;
-
 fn main(rt: HostRuntime) -> ExitCode {
     let mut words = match env::args(&rt) {
         Ok(words) => words,
-        Err(error) => return refuse_all(rt, error.kind()),
+        Err(error) => return refuse_all(&rt, NAME, error.kind()),
     };
     let _program = words.next();
     let Some(word) = words.next() else {
@@ -46,66 +45,24 @@ fn main(rt: HostRuntime) -> ExitCode {
     };
     let asked = asked_for(word.as_str());
     if let Some(word) = words.next() {
-        return refuse(rt, word.as_str());
+        return refuse(&rt, NAME, word.as_str());
     }
     match asked {
-        Request::Help => write_text(rt, HELP),
-        Request::Version => write_text(rt, VERSION),
+        Request::Help => write_text(&rt, NAME, HELP),
+        Request::Version => write_text(&rt, NAME, VERSION),
         Request::Lenient => answer_leniently(rt),
-        Request::Unknown => refuse(rt, word.as_str()),
-    }
-}
-
-/// Says that an argument is wrong.
-fn refuse(rt: HostRuntime, word: &str) -> ExitCode {
-    let _ = eprintln!(rt; "linkstate: not understood: {word}; see linkstate --help");
-    ExitCode::from(USAGE)
-}
-
-/// Says why there are no arguments to look at.
-fn refuse_all(rt: HostRuntime, kind: ErrorKind) -> ExitCode {
-    match kind {
-        ErrorKind::InvalidData => {
-            let _ = eprintln!(rt; "linkstate: an argument is no UTF-8; see linkstate --help");
-            ExitCode::from(USAGE)
-        }
-        _ => {
-            let _ = eprintln!(rt; "linkstate: out of memory");
-            ExitCode::FAILURE
-        }
-    }
-}
-
-/// Writes a text.
-fn write_text(rt: HostRuntime, text: &str) -> ExitCode {
-    match print!(rt; "{text}") {
-        Ok(()) => ExitCode::SUCCESS,
-        Err(_) => {
-            let _ = eprintln!(rt; "linkstate: write failed");
-            ExitCode::FAILURE
-        }
+        Request::Unknown => refuse(&rt, NAME, word.as_str()),
     }
 }
 
 /// Answers the lines of standard input by the states of what they mean.
 fn answer_strictly(rt: HostRuntime) -> ExitCode {
     let outcome = run(rt.alloc(), State, &mut rt.stdin(), &mut rt.stdout());
-    ended(rt, outcome)
+    ended(&rt, NAME, outcome)
 }
 
 /// Answers the lines of standard input by the states of what they mean leniently.
 fn answer_leniently(rt: HostRuntime) -> ExitCode {
     let outcome = run(rt.alloc(), LenientState, &mut rt.stdin(), &mut rt.stdout());
-    ended(rt, outcome)
-}
-
-/// The exit status and the line for how a run ended.
-fn ended(rt: HostRuntime, outcome: Result<(), RunError>) -> ExitCode {
-    match outcome {
-        Ok(()) => ExitCode::SUCCESS,
-        Err(error) => {
-            let _ = eprintln!(rt; "linkstate: {error}");
-            ExitCode::FAILURE
-        }
-    }
+    ended(&rt, NAME, outcome)
 }

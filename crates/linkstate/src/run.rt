@@ -15,10 +15,10 @@ use std::io::{Read, Write};
 ///
 /// A line ends with an LF; bytes after the last LF are one too. Its answer is the words `key=value` in front of it, as
 /// they stand, with the blanks after each, and then the answer to the rest of it: `nothex`, `refused`, `unfit`,
-/// `empty-ports`, or `ok ` and the encoding in lower-case hexadecimal; and an LF. Every answer to what was read
-/// is written before the next read. A reader or writer that fails is not asked again, and the run is over: `Read` where
-/// the reader fails or has not ended after 2^64 - 1 reads, `Write` where the writer fails or takes no byte, and
-/// `OutOfMemory` where an allocation is refused.
+/// `empty-ports`, or `ok ` and the encoding in lower-case hexadecimal; and an LF. Every answer to what was read is
+/// written before the next read. A reader or writer that fails is not asked again, but where a write was interrupted,
+/// and the run is over: `Read` where the reader fails or has not ended after 2^64 - 1 reads, `Write` where the writer
+/// fails or takes no byte, and `OutOfMemory` where an allocation is refused.
 pub fn run<E: Encoding, R: Read, W: Write>(
     alloc: Global,
     encoding: E,

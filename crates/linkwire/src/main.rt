@@ -9,9 +9,13 @@ mod run;
 mod tests;
 
 use arguments::{Request, asked_for};
+use line_filter::program::{ended, out_of_memory, write_text};
 use run::run;
 use std::env::{self, Args};
 use std::process::ExitCode;
+
+/// The name of the program.
+const NAME: &str = "linkwire";
 
 /// What `--help` writes.
 const HELP: &str = "usage: linkwire [--help | --version]
@@ -30,12 +34,11 @@ const VERSION: &str = "linkwire 0.3.0\n";
 
 fn main(rt: HostRuntime) -> ExitCode {
     let Ok(words) = env::args(&rt) else {
-        let _ = eprintln!(rt; "linkwire: out of memory");
-        return ExitCode::FAILURE;
+        return out_of_memory(&rt, NAME);
     };
     match requested(words) {
-        Request::Help => write_text(rt, HELP),
-        Request::Version => write_text(rt, VERSION),
+        Request::Help => write_text(&rt, NAME, HELP),
+        Request::Version => write_text(&rt, NAME, VERSION),
         Request::Lines => answer_lines(&rt),
     }
 }
@@ -49,26 +52,10 @@ fn requested(words: Args) -> Request {
     }
 }
 
-/// Writes a text.
-fn write_text(rt: HostRuntime, text: &str) -> ExitCode {
-    match print!(rt; "{text}") {
-        Ok(()) => ExitCode::SUCCESS,
-        Err(_) => {
-            let _ = eprintln!(rt; "linkwire: write failed");
-            ExitCode::FAILURE
-        }
-    }
-}
-
 /// Answers the lines of standard input.
 fn answer_lines(rt: &HostRuntime) -> ExitCode {
     let mut reader = rt.stdin();
     let mut writer = rt.stdout();
-    match run(rt.alloc(), &mut reader, &mut writer) {
-        Ok(()) => ExitCode::SUCCESS,
-        Err(error) => {
-            let _ = eprintln!(rt; "linkwire: {error}");
-            ExitCode::FAILURE
-        }
-    }
+    let outcome = run(rt.alloc(), &mut reader, &mut writer);
+    ended(rt, NAME, outcome)
 }

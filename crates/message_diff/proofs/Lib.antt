@@ -6,7 +6,6 @@ pub mod Pictures
 pub mod Missed
 pub mod Gone
 pub mod Hosts
-pub mod Runs
 pub mod LastNames
 pub mod Meant
 pub mod Changed
@@ -14,7 +13,6 @@ pub mod Without
 pub mod Trees
 pub mod Taken
 pub mod Marked
-pub mod Stopping
 pub mod TwoKinds
 pub mod Cuts
 pub mod Events
@@ -26,3 +24,7 @@ pub mod Beside
 pub mod Places
 pub mod Spans
 pub mod Passing
+pub mod Below
+pub mod PartFrames
+pub mod LeftOut
+pub mod Clauses

@@ -7,9 +7,12 @@ use Rattle.json.specs.Print.{print, print_from}
 use Rattle.line_filter.specs.Lines.{with_lf}
 use Rattle.shown.specs.Drafts.{Members, object_of, list_of}
 use Rattle.message_diff.specs.Alone.{told_words, change_member}
+use Rattle.message_shown.specs.declared.context.Order.{Order}
+use Rattle.message_diff.specs.declared.desk.Pair.{Pair}
 use Rattle.message_diff.specs.declared.snapshot.Compared.{Compared}
 use Rattle.message_diff.specs.Compared.{HasTextBy}
-use Rattle.message_diff.specs.Differences.{Leaf, Diff, AreDiffs, AreSomeLeft}
+use Rattle.message_diff.specs.Shown.{AreCompared, leaves_of}
+use Rattle.message_diff.specs.Differences.{Diff, AreDiffs, AreSomeLeft}
 
 -- a value that stands in a line as it is given, as the text of a number does
 abbrev pub given : List ℕ → List ℕ → List ℕ × List Token
@@ -89,14 +92,15 @@ diff_text is_next d = print_from is_next (object_of (diff_members d))
 
 -- ** what is added
 
--- what is told between two encodings: of the changes between two lists of members some may be left out, or one of their
--- two values, where their paths are counters of the old message, or of the new one
+-- what is told between two encodings, by what is shown of the two beside each other: of the changes between their rows
+-- some are left out, or one of their two values, where their paths are counters of the old message, or of the new one
 pub record AreTold (old new : List ℕ) (told : List Diff) : Type 0 where
-  pub was : List Leaf
-  pub now : List Leaf
+  pub orders : Order × Order
+  pub pair : Pair
+  pub compared : AreCompared orders old new pair
   pub found : List Diff
   pub left : List Diff
-  pub differ : AreDiffs was now found
+  pub differ : AreDiffs (leaves_of pair.old) (leaves_of pair.new) found
   pub are_left : AreSomeLeft found left
   pub all : told ≡ told_diffs old new left
 

@@ -5,6 +5,7 @@ use Rattle.std.specs.Global.{Global}
 use Rattle.std.specs.List.{flat_map, dedup, slice_get}
 use Rattle.std.specs.Map.{keys_of}
 use Rattle.std.specs.Io.KnownBytes.{Appends}
+use Rattle.line_filter.specs.Runs.{RunsAll}
 use Rattle.line_filter.specs.Steps.{FailedWrite}
 use Rattle.line_filter.specs.declared.error.RunError.{RunError}
 use Rattle.line_filter.specs.declared.error.RunError.TheVariants as Errors
@@ -23,8 +24,7 @@ use Rattle.message_diff.specs.Announced.{are_two_kinds}
 use Rattle.message_diff.specs.Changed.{IsChanged}
 use Rattle.message_diff.specs.Held.{held}
 use Rattle.message_diff.specs.Known.{is_part, in_family, is_text}
-use Rattle.message_diff.specs.Stopped.{WatchStops}
-use Rattle.message_diff.specs.Watched.{IsFresh, RunsAll, Watches, host_in, known_of}
+use Rattle.message_diff.specs.Watched.{IsFresh, WatchStops, Watches, host_in, known_of, takes_line}
 
 -- ** what a file has at its end
 
@@ -197,7 +197,7 @@ pub record Adds (ns : List News) (old new : Written) : Type 0 where
 abbrev pub WatchesTo : Compared → Told → Watch → Option (List ℕ) → Option (List ℕ) → Option (List ℕ) → Option (List ℕ)
     → Type 0
 WatchesTo by told end left left_after held held_after =
-    (first : Watch) × IsFresh by told first × RunsAll first end left left_after held held_after
+    (first : Watch) × IsFresh by told first × RunsAll takes_line first end left left_after held held_after
 
 -- these lines are written, and this is not told
 pub record TellsNews (old new : Watch) (held held_after : Option (List ℕ)) (untold : List Missing) : Type 0 where

@@ -1,14 +1,13 @@
 -- What is known of each host, and what a line tells and leaves known.
-use Rattle.std.specs.Prelude.{◌≡◌, ◌||◌, ◌+◌, ◌-◌, ◌^◌, ◌++◌, ℕ, Bool, true, false, List, [], ◌∷◌}
+use Rattle.std.specs.Prelude.{◌≡◌, ◌||◌, ◌+◌, ◌-◌, ◌^◌, ◌++◌, ℕ, Bool, true, false, List, []}
 use Rattle.std.specs.Prelude.{Option, None, Some, codes, cond, min}
 use Rattle.std.specs.Cmp.Lexicographic.{slice_cmp}
 use Rattle.std.specs.Ordering.{nat_cmp}
 use Rattle.std.specs.BTreeMap.{is_at}
 use Rattle.std.specs.Map.{lookup}
-use Rattle.std.specs.Io.KnownBytes.{Consumes, Appends, IsAtEnd}
-use Rattle.line_filter.specs.Lines.{lines_of}
-use Rattle.line_filter.specs.Steps.{Cut}
+use Rattle.line_filter.specs.Runs.{RunsAll, Stops, Taking}
 use Rattle.line_filter.specs.Words.{front_of, rest_of}
+use Rattle.line_filter.specs.declared.error.RunError.{RunError}
 use Rattle.message_diff.specs.declared.store.Host.{Host}
 use Rattle.message_diff.specs.declared.reading.Said.{Said}
 use Rattle.message_diff.specs.declared.reading.Said.TheVariants as Saids
@@ -89,37 +88,9 @@ pub record IsTaken (line : List ℕ) (old new : Watch) (added : List ℕ) : Type
   pub takes : TakesSaid (front_of line) old.told new.lines said old new more
   pub all : added ≡ fault ++ more
 
-abbrev pub AddsLine : List ℕ → Watch → Watch → List ℕ → List ℕ → Type 0
-AddsLine line old new before now = (added : List ℕ) × IsTaken line old new added × (now ≡ before ++ added)
-
--- ** a run
-
--- lines are taken one after another, each by what is known after those before it
-abbrev pub Runs : Watch → List (List ℕ) → Watch → List ℕ → Type 0
-Runs old [] new added = (new ≡ old) × (added ≡ [])
-Runs old (line ∷ lines) new added =
-    (mid : Watch) × (first : List ℕ) × (rest : List ℕ) × IsTaken line old mid first × Runs mid lines new rest
-    × (added ≡ first ++ rest)
-
--- the lines that an LF ends in the text were taken, and the rest is what follows them
-pub record RunsSome (old new : Watch) (held held_after : Option (List ℕ)) (text rest : List ℕ) : Type 0 where
-  pub lines : List (List ℕ)
-  pub cut : Cut text lines rest
-  pub written : List ℕ
-  pub appended : Appends held held_after written
-  pub runs : Runs old lines new written
-
--- a last line was taken, if there is one
-abbrev pub RunsLast : Watch → Watch → Option (List ℕ) → Option (List ℕ) → List ℕ → Type 0
-RunsLast old new held held_after text =
-    (written : List ℕ) × Appends held held_after written × Runs old (lines_of text) new written
-
--- the reader was read to its end, and what was written is what the lines of what it gave add
-pub record RunsAll (old new : Watch) (left left_after held held_after : Option (List ℕ)) : Type 0 where
-  pub text : List ℕ
-  pub consumed : Consumes left left_after text
-  pub at_end : IsAtEnd left_after
-  pub last : RunsLast old new held held_after text
+-- how lines are taken
+abbrev pub takes_line : Taking Watch
+takes_line old line new added = IsTaken line old new added
 
 -- nothing is known yet
 pub record IsFresh (by : Compared) (told : Told) (watch : Watch) : Type 0 where
@@ -132,4 +103,11 @@ pub record IsFresh (by : Compared) (told : Told) (watch : Watch) : Type 0 where
 -- a run from nothing
 abbrev pub Watches : Compared → Told → Option (List ℕ) → Option (List ℕ) → Option (List ℕ) → Option (List ℕ) → Type 0
 Watches by told left left_after held held_after =
-    (first : Watch) × (last : Watch) × IsFresh by told first × RunsAll first last left left_after held held_after
+    (first : Watch) × (last : Watch) × IsFresh by told first
+    × RunsAll takes_line first last left left_after held held_after
+
+-- and one that stops early
+abbrev pub WatchStops : Compared → Told → RunError → Option (List ℕ) → Option (List ℕ) → Option (List ℕ)
+    → Option (List ℕ) → Type 0
+WatchStops by told error left left_after held held_after =
+    (first : Watch) × IsFresh by told first × Stops takes_line error first left left_after held held_after

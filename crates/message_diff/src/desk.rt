@@ -1,5 +1,8 @@
 //! The room in which messages are compared.
 
+ghost use Rattle.std.specs.Prelude.{OnOk};
+ghost use Rattle.message_diff.specs.Shown.{AreCompared};
+
 use crate::counters::Counters;
 use crate::half::Half;
 use crate::parts::take_parts;
@@ -44,7 +47,9 @@ impl Pair {
         orders: (Order, Order),
         old: &[u8],
         new: &[u8],
-    ) -> Result<(), AllocError> {
+    ) -> Result<(), AllocError>
+        ensures { OnOk result (AreCompared orders old.now new.now self.exit.now) }
+    {
         let is_alike = orders.0 == orders.1;
         self.is_part = take_parts(old, new, is_alike, &mut self.old.part, &mut self.new.part)?;
         self.old.show(alloc, orders.0)?;

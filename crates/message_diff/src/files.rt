@@ -5,8 +5,7 @@ ghost use Rattle.std.specs.List.{flat_map};
 ghost use Rattle.std.specs.Map.{keys_of};
 ghost use Rattle.message_diff.specs.Known.{in_family};
 ghost use Rattle.message_diff.specs.declared.watch.Told.TheVariants.{Faults};
-ghost use Rattle.message_diff.specs.Watched.{host_in};
-ghost use Rattle.message_diff.specs.Stopped.{WatchStops};
+ghost use Rattle.message_diff.specs.Watched.{WatchStops, host_in};
 ghost use Rattle.message_diff.specs.Files.{News, found, found_last, known_at, are_two, tells};
 ghost use Rattle.message_diff.specs.Files.{news_at, gone_of, gone_at, host_news, host_gone, names_in, Adds};
 ghost use Rattle.message_diff.specs.Files.{missings, is_missing, is_last, missing_in, WatchesTo, TellsNews, Compares};
@@ -14,12 +13,13 @@ ghost use Rattle.message_diff.specs.Files.{StopsAtEnds, CompareStops};
 
 use crate::desk::Desk;
 use crate::key::{AF_UNSPEC, Key};
-use crate::lines::{read_lines, write_out};
 use crate::snapshot::Compared;
 use crate::store::{Entry, Host, Known};
 use crate::told::{push_changed, push_gone, push_new};
 use crate::watch::{Told, Watch, is_another};
 use line_filter::error::RunError;
+use line_filter::run::read_lines;
+use line_filter::write::write_out;
 use message_shown::context::text_of;
 use std::alloc::{AllocError, Global};
 use std::io::{Read, Write};
@@ -337,7 +337,7 @@ fn read_all<R: Read, W: Write>(
         (R.remaining reader.new) (W.contents writer.old) (W.contents writer.new)) }
 {
     let mut watch = Watch::new(alloc, by, Told::Faults);
-    read_lines(alloc, reader, &mut watch, writer)?;
+    read_lines(alloc, &mut watch, reader, writer)?;
     Ok(watch)
 }
 

@@ -12,7 +12,6 @@ mod frames;
 mod half;
 mod key;
 mod line;
-mod lines;
 mod listed;
 mod members;
 mod named;

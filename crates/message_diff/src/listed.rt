@@ -3,6 +3,8 @@
 ghost use Rattle.std.specs.Prelude.{◌≡◌, ◌<◌, ◌++◌, IsTrue, IfOk, IfErr, OnOk, false, length};
 ghost use Rattle.message_diff.specs.Compared.{TellsIfDiffers, IsRefusalOfTwoBy};
 ghost use Rattle.message_diff.specs.Differences.{diffs_of, AreSomeLeft};
+ghost use Rattle.message_diff.specs.Shown.{AreCompared};
+ghost use Rattle.message_shown.specs.declared.context.Order.{Order};
 ghost use Rattle.message_diff.specs.Changed.{told_diffs, list_text, AddsList, AddsListBy};
 
 use crate::counters::Counters;
@@ -20,7 +22,10 @@ pub fn show_both(
     old: &Snapshot,
     new: &Snapshot,
     desk: &mut Desk,
-) -> Result<(), AllocError> {
+) -> Result<(), AllocError>
+    ensures { OnOk result
+        ((orders : Order × Order) × AreCompared orders old.now new.now desk.new.pair) }
+{
     let orders = (old.order(), new.order());
     desk.pair.show(alloc, orders, old.text(), new.text())
 }
@@ -68,7 +73,8 @@ pub fn push_found(
     counters: &mut Counters,
     out: &mut Vec<u8>,
 ) -> Result<(), AllocError>
-    ensures { OnOk result (AddsList old.now new.now out.old.items out.new.items) }
+    ensures { OnOk result ((orders : Order × Order) → AreCompared orders old.now new.now pair.now
+        → AddsList old.now new.now out.old.items out.new.items) }
 {
     let was = pair.old.list(alloc)?;
     let is = pair.new.list(alloc)?;

@@ -1,6 +1,11 @@
 //! The attributes of two messages that are not the same in both.
 
-ghost use Rattle.std.specs.Prelude.{◌<◌};
+ghost use Rattle.std.specs.Prelude.{◌≡◌, ◌<◌, ◌%◌, ◌++◌, ℕ, List, [], IfOk, OnOk, true, length, take};
+ghost use Rattle.std.specs.List.{concat, filter};
+ghost use Rattle.message_diff.specs.Frames.{frame_number, frames_of};
+ghost use Rattle.message_diff.specs.Known.{is_text};
+ghost use Rattle.message_diff.specs.Parts.{is_kept, kept_in, named_in, are_single, stays, is_taken, part, are_alike};
+ghost use Rattle.message_diff.specs.Parts.{have_parts, part_if, AreEmpty, AreAtPlaces};
 
 use crate::frames::{Frames, number_of};
 use link_afspec::numbers::AF_INET6;
@@ -28,7 +33,10 @@ pub struct Part {
 
 /// Whether an attribute is shown as it is in a message of this family, and not under a name.
 #[inline(always)]
-fn is_kept(family: AddressFamily, frame: &[u8]) -> bool {
+#[tactic(auto, unfolding(crate::specs::Parts::is_kept))]
+fn is_kept(family: AddressFamily, frame: &[u8]) -> bool
+    ensures { result ≡ is_kept family frame.now }
+{
     let size = (u16_at(frame, 0) as usize).saturating_sub(NLA_HEADER_SIZE);
     match number_of(frame) {
         IFLA_AF_SPEC => !matches!(family, AddressFamily::Unspec | AddressFamily::Bridge),
@@ -39,16 +47,27 @@ fn is_kept(family: AddressFamily, frame: &[u8]) -> bool {
 /// The place of an attribute among those that have a name.
 #[inline(always)]
 fn place_of(frame: &[u8]) -> usize
-    ensures { result < 128 }
+    ensures is { result ≡ frame_number frame.now % 128 }
+    ensures within { result < 128 }
 {
     number_of(frame) as usize % NUMBERS
 }
 
+/// Whether the first eight bytes of two frames are the same.
+#[inline(always)]
+fn begin_alike(one: &[u8], other: &[u8]) -> bool
+    ensures { length one.now ≡ 8 → length other.now ≡ 8 → result ≡ is_text one.now other.now }
+{
+    u64_at(one, 0) == u64_at(other, 0)
+}
+
 /// Whether two frames are the same. Most have eight bytes.
 #[inline(always)]
-fn are_same(one: &[u8], other: &[u8]) -> bool {
+fn are_same(one: &[u8], other: &[u8]) -> bool
+    ensures { result ≡ is_text one.now other.now }
+{
     if one.len() == 8 && other.len() == 8 {
-        return u64_at(one, 0) == u64_at(other, 0);
+        return begin_alike(one, other);
     }
     one == other
 }
@@ -113,7 +132,9 @@ fn put_len(part: &mut [u8], start: usize) {
 
 /// Whether an attribute stays though it is the same: the address, on whose length others depend, and the name.
 #[inline(always)]
-fn stays(frame: &[u8]) -> bool {
+fn stays(frame: &[u8]) -> bool
+    ensures { result ≡ stays frame.now }
+{
     matches!(number_of(frame), IFLA_ADDRESS | IFLA_IFNAME)
 }
 
@@ -127,12 +148,17 @@ impl Part {
     }
 
     /// It as a message.
-    pub fn text(&self) -> &[u8] {
+    pub fn text(&self) -> &[u8]
+        ensures { result.now ≡ self.now.text.items }
+    {
         self.text.as_slice()
     }
 
     /// Takes these bytes, and nothing that is shown as it is.
-    pub fn take(&mut self, bytes: &[u8]) -> Result<(), AllocError> {
+    pub fn take(&mut self, bytes: &[u8]) -> Result<(), AllocError>
+        ensures text { OnOk result (self.new.text.items ≡ bytes.now) }
+        ensures kept { self.new.kept.items ≡ [] }
+    {
         self.text.clear();
         self.kept.clear();
         self.text.extend_from_slice(bytes)
@@ -145,7 +171,15 @@ impl Part {
         message: &'a [u8],
         family: AddressFamily,
         places: &mut Places<'a>,
-    ) -> Result<bool, AllocError> {
+    ) -> Result<bool, AllocError>
+        ensures single { AreEmpty places.old → IfOk result (λ is_single. is_single
+            ≡ are_single (named_in family (frames_of message.now))) }
+        ensures text { OnOk result (self.new.text.items ≡ take 16 message.now) }
+        ensures kept { IfOk result (λ is_single. is_single ≡ true
+            → self.new.kept.items ≡ concat (kept_in family (frames_of message.now))) }
+        ensures places { AreEmpty places.old → IfOk result (λ is_single. is_single ≡ true
+            → AreAtPlaces places.new (named_in family (frames_of message.now))) }
+    {
         self.take(&message[..HEADER_SIZE.min(message.len())])?;
         for frame in Frames::of(message) {
             if is_kept(family, frame) {
@@ -181,7 +215,12 @@ impl Part {
         message: &[u8],
         family: AddressFamily,
         others: &Places<'_>,
-    ) -> Result<(), AllocError> {
+    ) -> Result<(), AllocError>
+        ensures text { OnOk result ((named : List (List ℕ)) → AreAtPlaces others.now named
+            → self.new.text.items ≡ self.old.text.items
+            ++ concat (filter (is_taken named) (named_in family (frames_of message.now)))) }
+        ensures kept { self.new.kept ≡ self.old.kept }
+    {
         for frame in Frames::of(message) {
             if (stays(frame) || !are_same(frame, others[place_of(frame)]))
                 && !is_kept(family, frame)
@@ -201,7 +240,13 @@ fn take_apart(
     family: AddressFamily,
     was: &mut Part,
     is: &mut Part,
-) -> Result<bool, AllocError> {
+) -> Result<bool, AllocError>
+    ensures alike { IfOk result (λ is_part. is_part ≡ are_alike family old.now new.now) }
+    ensures was { IfOk result (λ is_part. is_part ≡ true
+        → was.new.text.items ≡ part family old.now new.now) }
+    ensures is { IfOk result (λ is_part. is_part ≡ true
+        → is.new.text.items ≡ part family new.now old.now) }
+{
     let mut old_places: Places<'_> = [b""; NUMBERS];
     let mut new_places: Places<'_> = [b""; NUMBERS];
     if !was.sort(old, family, &mut old_places)? || !is.sort(new, family, &mut new_places)? {
@@ -229,7 +274,11 @@ pub fn take_parts(
     is_alike: bool,
     was: &mut Part,
     is: &mut Part,
-) -> Result<bool, AllocError> {
+) -> Result<bool, AllocError>
+    ensures parts { IfOk result (λ is_part. is_part ≡ have_parts is_alike old.now new.now) }
+    ensures was { IfOk result (λ is_part. was.new.text.items ≡ part_if is_part old.now new.now) }
+    ensures is { IfOk result (λ is_part. is.new.text.items ≡ part_if is_part new.now old.now) }
+{
     if let (Some(family), Some(other)) = (old.first(), new.first()) {
         let is_alike = is_alike && *family == *other;
         if is_alike && take_apart(old, new, AddressFamily::from(*family), was, is)? {

@@ -3,6 +3,8 @@
 ghost use Rattle.std.specs.Prelude.{◌≡◌, ◌<◌, ◌↔◌, IsTrue, IfOk, IfErr, OnOk, false, length, codes};
 ghost use Rattle.message_diff.specs.Compared.{TellsIfDiffers, Extends, IsRefusalOfTwoBy};
 ghost use Rattle.message_diff.specs.Alone.{AddsAlone};
+ghost use Rattle.message_diff.specs.Shown.{AreCompared};
+ghost use Rattle.message_shown.specs.declared.context.Order.{Order};
 ghost use Rattle.message_diff.specs.Changed.{AddsChanged, AddsChangedBy};
 
 use crate::alone::push_alone;
@@ -52,8 +54,8 @@ fn push_shown(
     counters: &mut Counters,
     out: &mut Vec<u8>,
 ) -> Result<(), AllocError>
-    ensures { OnOk result
-        (AddsChanged front.now old.now new.now out.old.items out.new.items) }
+    ensures { OnOk result ((orders : Order × Order) → AreCompared orders old.now new.now pair.now
+        → AddsChanged front.now old.now new.now out.old.items out.new.items) }
 {
     push_head(alloc, front, "changed", pair.new.members(), out)?;
     out.extend_from_slice(b",\"changes\":")?;

@@ -13,19 +13,19 @@ ghost use Rattle.message_diff.specs.Told.{AddsGone, AddsAllGone, AddsNews, AddsT
 ghost use Rattle.message_diff.specs.Held.{held, taken, picture, seen_in, whole_in, text_told};
 ghost use Rattle.message_diff.specs.Held.{Applies, Puts};
 ghost use Rattle.message_diff.specs.Announced.{are_two_kinds};
-ghost use Rattle.message_diff.specs.Stopped.{WatchStops};
-ghost use Rattle.message_diff.specs.Watched.{IsFresh, AddsFor, AddsSaid, AddsLine, Watches, is_of_dump};
+ghost use Rattle.message_diff.specs.Watched.{IsFresh, AddsFor, AddsSaid, Watches, WatchStops, is_of_dump, takes_line};
 
 use crate::announced::are_two_kinds;
 use crate::desk::Desk;
 use crate::key::{AF_BRIDGE, AF_INET6, Key};
-use crate::lines::read_lines;
 use crate::reading::{LineReader, Said, word_of};
 use crate::snapshot::{Compared, Snapshot};
 use crate::store::{Entry, Host, Hosts};
 use crate::told::{push_changed, push_gone, push_new};
 use crate::words::push_line;
+use line_filter::answers::Take;
 use line_filter::error::RunError;
+use line_filter::run::read_lines;
 use line_filter::words::split;
 use std::alloc::{AllocError, Global};
 use std::collections::BTreeMap;
@@ -524,11 +524,12 @@ impl Watch {
             said => self.take_said(alloc, front, said, out),
         }
     }
+}
 
-    /// Takes a line, and adds what is to be written of it.
-    pub fn take(&mut self, alloc: Global, line: &[u8], out: &mut Vec<u8>) -> Result<(), AllocError>
-        ensures { OnOk result (AddsLine line.now self.old self.new out.old.items out.new.items) }
-    {
+impl Take for Watch {
+    ghost takes = { takes_line };
+
+    fn take(&mut self, alloc: Global, line: &[u8], out: &mut Vec<u8>) -> Result<(), AllocError> {
         self.lines = self.lines.saturating_add(1);
         let (front, rest) = split(line);
         let said = self.reader.read(alloc, front, rest, out)?;
@@ -551,7 +552,7 @@ pub fn watch_lines<R: Read, W: Write>(
         (R.remaining reader.new) (W.contents writer.old) (W.contents writer.new)) }
 {
     let mut watch = Watch::new(alloc, by, told);
-    read_lines(alloc, reader, &mut watch, writer)
+    read_lines(alloc, &mut watch, reader, writer)
 }
 
 /// The same, where all is told.

@@ -1,10 +1,11 @@
 //! Runs whose reader or writer fails at each call in turn, or whose memory is refused; how such faults are compared.
 
 use super::lines::{ANSWERS, TEXT};
-use super::pieces::{NEVER, run_in_pieces};
+use super::pieces::{NEVER, run_failing, run_in_pieces};
 use line_filter::error::RunError;
 use nla_wire::exact::same;
 use std::alloc::Global;
+use std::io::ErrorKind;
 use std::process::Abort;
 use std::test::Fail;
 
@@ -88,6 +89,18 @@ fn fail_each_write(
 #[test]
 fn each_write_may_fail(rt: HostRuntime) -> Result<(), Fail> {
     fail_each_write(&rt, rt.alloc(), TEXT, ANSWERS)
+}
+
+/// An interrupted write took nothing, and is tried again, wherever it stands.
+#[test]
+fn interrupted_writes_change_no_answer(rt: HostRuntime) -> Result<(), Fail> {
+    for writes in 0..ANSWERS.len() {
+        let calls = (NEVER, writes);
+        let ran = run_failing(rt.alloc(), TEXT, (NEVER, 1), calls, ErrorKind::Interrupted);
+        assert_eq!(rt; ran.result, Ok(()), "after {writes} writes");
+        assert_eq!(rt; ran.written.as_slice(), ANSWERS, "after {writes} writes");
+    }
+    Ok(())
 }
 
 #[test]

@@ -34,12 +34,13 @@ impl<'a> Read for PieceReader<'a> {
     }
 }
 
-/// Takes at most `piece` bytes at a write. The write after the first `writes` fails, and no other.
+/// Takes at most `piece` bytes at a write. The write after the first `writes` fails for this reason, and no other.
 #[derive(Drop)]
 pub struct PieceWriter {
     pub taken: Vec<u8>,
     pub piece: usize,
     pub writes: usize,
+    pub why: io::ErrorKind,
     pub longest: usize,
 }
 
@@ -47,7 +48,7 @@ impl Write for PieceWriter {
     fn write(&mut self, buf: &[u8]) -> io::Result<usize> {
         if self.writes == 0 {
             self.writes = NEVER;
-            return Err(io::Error::from(io::ErrorKind::Interrupted));
+            return Err(io::Error::from(self.why));
         }
         self.writes -= 1;
         self.longest = self.longest.max(buf.len());
@@ -76,6 +77,17 @@ pub fn run_in_pieces(
     pieces: (usize, usize),
     calls: (usize, usize),
 ) -> Ran {
+    run_failing(alloc, text, pieces, calls, io::ErrorKind::BrokenPipe)
+}
+
+/// As `run_in_pieces`, where the write fails for this reason.
+pub fn run_failing(
+    alloc: Global,
+    text: &[u8],
+    pieces: (usize, usize),
+    calls: (usize, usize),
+    why: io::ErrorKind,
+) -> Ran {
     let mut reader = PieceReader {
         bytes: text,
         piece: pieces.0,
@@ -85,6 +97,7 @@ pub fn run_in_pieces(
         taken: Vec::new(alloc),
         piece: pieces.1,
         writes: calls.1,
+        why,
         longest: 0,
     };
     let result = run(alloc, &mut reader, &mut writer);

@@ -6,9 +6,10 @@ use Rattle.message_diff.proofs.told.push_shown.Goals as goal
 
 pub returns : goal.returns
 returns c =
+    λ orders compared.
     let words = told_words c.args.front.now in
     let head = c.in_ok-push_head.ensures.0 in
-    let list = c.in_ok-push_found.ensures in (
+    let list = c.in_ok-push_found.ensures orders compared in (
       changed_line words head list.1.changes,
       record { head = head; changes = list.1.changes; are_told = list.1.are_told; is = refl },
       line_added c.args.out.now.items c.push_head.new.out.items c.extend_from_slice.new.self.items

@@ -1,9 +1,0 @@
-use Rattle.std.proofs.Common.{length}
-use Rattle.line_filter.specs.Steps.{Sends}
-use Rattle.line_filter.proofs.write.write_out.Given as goal
-
-abbrev pub invariant-loop-rest : goal.invariant-loop-rest
-invariant-loop-rest g l = Sends (g.W.Write.contents l.initial.writer) (g.W.Write.contents l.writer) l.bytes l.rest
-
-abbrev pub decreases-loop-rest : goal.decreases-loop-rest
-decreases-loop-rest g l = length l.rest
