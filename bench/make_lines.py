@@ -5,17 +5,10 @@ import random
 import struct
 import sys
 
+from frames import frame, head, u32
+
 SMALLEST, LARGEST = 20, 2000
 REFUSED = 0.1  # the part of the messages whose last frame is cut off
-
-
-def frame(kind, payload):
-    """An attribute: length, kind, payload, padding."""
-    return struct.pack("<HH", 4 + len(payload), kind) + payload + bytes(-len(payload) % 4)
-
-
-def u32(chance):
-    return struct.pack("<I", chance.getrandbits(32))
 
 
 def text(chance, longest):
@@ -40,7 +33,7 @@ def settings(chance):
     """Settings of the internet families, as a kernel reports them."""
     inet = frame(1, chance.randbytes(132))
     inet6 = b"".join((
-        frame(1, u32(chance)),
+        frame(1, u32(chance.getrandbits(32))),
         frame(5, chance.randbytes(16)),
         frame(2, chance.randbytes(240)),
         frame(3, chance.randbytes(304)),
@@ -82,13 +75,13 @@ def attribute(chance):
         return frame(43, frame(2, b"\0"))
     if pick == 12:
         return frame(chance.randrange(100, 200), chance.randbytes(chance.randrange(1, 60)))
-    return frame(chance.choice((4, 5, 13, 27, 30, 31, 32, 35, 40, 41, 50, 51)), u32(chance))
+    return frame(chance.choice((4, 5, 13, 27, 30, 31, 32, 35, 40, 41, 50, 51)), u32(chance.getrandbits(32)))
 
 
 def message(chance):
     wanted = chance.randrange(SMALLEST, LARGEST - 4)
-    head = struct.pack("<BBHIII", 0, 0, 1, chance.randrange(1, 5000), chance.getrandbits(19), 0)
-    parts, length = [head], len(head)
+    parts = [head(0, chance.randrange(1, 5000), chance.getrandbits(19))]
+    length = len(parts[0])
     while length < wanted:
         part = attribute(chance)
         if length + len(part) > LARGEST - 4:

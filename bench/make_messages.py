@@ -8,17 +8,10 @@ import random
 import struct
 import sys
 
+from frames import frame, head, u32
+
 COUNT = 240  # messages
 NESTED = 0x8000  # NLA_F_NESTED
-
-
-def frame(kind, payload):
-    """An attribute: length, kind, payload, padding."""
-    return struct.pack("<HH", 4 + len(payload), kind) + payload + bytes(-len(payload) % 4)
-
-
-def u32(*values):
-    return struct.pack(f"<{len(values)}I", *values)
 
 
 def text(words):
@@ -72,10 +65,6 @@ def function(chance, index):
         switches,
         frame(8, counted),
     )))
-
-
-def head(family, index, flags):
-    return struct.pack("<BBHiII", family, 0, 1, index, flags, 0)
 
 
 def common(chance, index, name, discipline):

@@ -1,12 +1,13 @@
 #!/usr/bin/env python3
 """Times the package in python/ beside Debian's pyroute2, by turns, on the links of a network namespace.
 
-    unshare -n python3 bench/python_links.py [LINKS [TURNS]]
+    PYTHONPATH=python LINKWIRE=out/liblinkwire.so.0 unshare -n /usr/bin/python3 bench/python_links.py [LINKS [TURNS]]
 
-It makes pairs of veth until there are LINKS (1000), of each one as a port of a bridge, and prints of each way the
-processor's milliseconds of the best of TURNS (9), of this process alone. The ways of pyroute2: `get_links`, which
-decodes a message when it is looked at; three attributes of each; all of each. Those of the package: the bytes; checked;
-keys; three attributes; JSON; dicts. `ip -d -s -j link` and json.loads are timed by the clock, and so are dicts then.
+It runs as root, by the Python that has pyroute2. It makes pairs of veth until there are LINKS (1000), of each one as a
+port of a bridge, and prints of each way the processor's milliseconds of the best of TURNS (9), of this process alone.
+The ways of pyroute2: `get_links`, which decodes a message when it is looked at; three attributes of each; all of each.
+Those of the package: the bytes; checked; keys; three attributes; JSON; dicts. `ip -d -s -j link` and json.loads are
+timed by the clock, and so are dicts then.
 """
 
 import gc

@@ -5,21 +5,16 @@ They are texts of which each byte wants an escape, or the last one does, names a
 no UTF-8, a key of ten million bytes, and lines that begin with no digit.
 """
 
-import struct
 import sys
 from pathlib import Path
 
+from frames import frame, head, u32
+
 IFLA_MTU, IFLA_IFALIAS, IFLA_PROP_LIST, IFLA_ALT_IFNAME = 4, 20, 52, 53
-HEADER = struct.pack("<BBHIII", 0, 0, 1, 1, 0, 0)
-
-
-def frame(number, payload):
-    """An attribute: length, number, payload, padding."""
-    return struct.pack("<HH", 4 + len(payload), number) + payload + bytes(-len(payload) % 4)
 
 
 def digits(*attributes):
-    return (HEADER + b"".join(attributes)).hex().encode()
+    return (head(0, 1, 0) + b"".join(attributes)).hex().encode()
 
 
 def names(text, count):
@@ -32,7 +27,7 @@ def words(key, value, count):
 
 def mtu_in_turn(front, count):
     """Words, and a message whose MTU has two values in turn."""
-    return [front + digits(frame(IFLA_MTU, struct.pack("<I", 1000 + at % 2))) for at in range(count)]
+    return [front + digits(frame(IFLA_MTU, u32(1000 + at % 2))) for at in range(count)]
 
 
 def lines():
