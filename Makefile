@@ -1,12 +1,12 @@
 # The targets that build from dist/ or by the toolchain are in dist/Makefile: `make help` lists all.
 # How long `fuzz` tries messages.
 SECONDS ?= 60
-QUIET = test rust lint dev fmt check costs edits tables dist dist-tests archive rust-tests show-tests \
+QUIET = test rust lint dev fmt check costs edits tables dist dist-tests archive deb rust-tests show-tests \
     linkdump-tests
 OF_c-tests = link_c linkdiff linkdump
 OF_fuzz = link_c
 OF_c-bench = link_c
-OF_compare = link_c
+OF_compare = link_c linkdump
 OF_python-tests = link_c linkdiff linkdump
 
 include dist/Makefile
@@ -25,8 +25,13 @@ dist: ## proves, and makes dist/ and the archive of a release anew; its sums say
 archive: ## packs the archive of a release of what dist/ has
 	@scripts/archive.sh
 
-deb: all ## makes Debian's packages of what dist/ has
-	@scripts/deb.sh
+deb: ## makes Debian's packages in out/deb, by debhelper, of debian/ and what the archive of a release has
+	@scripts/archive.sh >/dev/null
+	@rm -rf out/deb && mkdir out/deb && tar -xf out/linkwire-$(VERSION).tar.gz -C out/deb
+	@cp -r debian out/deb/linkwire-$(VERSION)
+	@cd out/deb/linkwire-$(VERSION) && dpkg-buildpackage -b -us -uc >../log 2>&1 || { cat ../log >&2; exit 1; }
+	@rm -r out/deb/linkwire-$(VERSION)
+	@ls $(CURDIR)/out/deb/*.deb
 
 dist-tests: ## runs what is built of dist/ with the toolchain out of reach: here, under qemu, with musl, from packages
 	@scripts/dist_tests.sh
@@ -56,17 +61,17 @@ edits: ## tries the edits that the gate has no time for; it takes more than an h
 	@scripts/tested_edits.sh
 
 tables: ## prints the tables as JSON, after they were compared with the kernel's files: make -s tables >tables.json
-	@scripts/kernel_tables.sh >&2
-	@scripts/kernel_tables.sh --json
+	@python3 scripts/kernel_tables.py >&2
+	@python3 scripts/kernel_tables.py --json
 
 bench: build c-bench compare ## times the programs and the library
-	@bench/run.sh out/linkwire out/linkshow
+	@bench/run programs
+	@bench/run lines
 
-compare: $(LIBRARIES) ## times the calls beside libnl-route-3 and Debian's netlink-packet-route, if installed
+compare: $(LIBRARIES) out/linkdump ## times the calls beside libnl-route-3 and Debian's netlink-packet-route
 	@bench/compare.sh $(CURDIR)/out/liblinkwire.a
 
 show-tests: ## compares what linkshow says of the running kernel's links with what the kernel's client ynl says
-	@python3 scripts/show_rows.py --check
 	@scripts/show_tests.sh
 
 c-tests: $(LIBRARIES) out/linkdiff out/linkdump ## runs the tests of the library for C, and examples on the kernel
@@ -88,4 +93,5 @@ fuzz: $(LIBRARIES) ## tries the laws of the library on generated messages, for s
 	@scripts/laws.sh $(CURDIR)/out/liblinkwire.a --seconds $(SECONDS)
 
 c-bench: $(LIBRARIES) ## times the library for C
-	@scripts/c_bench.sh $(CURDIR)/out/liblinkwire.a
+	@for it in link_bench dump_bench; do $(CC) -std=gnu11 -O2 -Wall -Wextra -Werror -Iinclude -o out/$$it \
+	    bench/$$it.c out/liblinkwire.a && out/$$it || exit; done

@@ -468,7 +468,7 @@ static inline const char *linkwire_name(uint16_t number) {
     return number < sizeof names / sizeof *names ? names[number] : NULL;
 }
 
-/* From here to the next mark scripts/c_names.py makes the header of the library's own tables. */
+/* The names from here on are those of the library's own tables, as scripts/c_names.py compares. */
 
 /* The name of an operational state, the value of IFLA_OPERSTATE; null for another number. */
 static inline const char *linkwire_operstate_name(uint8_t state) {
@@ -522,8 +522,6 @@ static inline const char *linkwire_type_name(uint16_t type) {
     }
     return NULL;
 }
-
-/* Made so far. */
 
 #ifdef __cplusplus
 }

@@ -1,13 +1,11 @@
 #!/usr/bin/env bash
 # Packs the archive of a release, out/linkwire-VERSION.tar.gz, of what dist/ has, and prints where it is: the texts and
 # what builds and tests them, and no crates. It has the same bytes each time, and says the date of the newest version.
-set -euo pipefail
-cd "$(dirname "$0")/.."
+. "$(dirname "$0")/common.sh"
+cd "$top"
 scripts/sums.sh check >/dev/null
 version=$(sed -n 's/^#define LINKWIRE_VERSION "\(.*\)"$/\1/p' include/linkwire.h)
 date=${SOURCE_DATE_EPOCH:-$(date -ud "$(sed -n 's/^## \[[0-9.]*\] - //p' CHANGELOG.md | head -n 1)" +%s)}
-folder=$(mktemp -d)
-trap 'rm -rf "$folder"' EXIT
 name=linkwire-$version
 to=$folder/$name
 mkdir -p "$to/tests" out

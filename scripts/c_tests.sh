@@ -4,8 +4,8 @@
 # [FOLDER..]. The shared library is beside the archive; the folders have the programs linkdump and linkdiff, without
 # them it is that of the archive. With LONG=1 in the environment the kernel's links are polled for a minute. The last
 # line is 'c tests passed'.
-set -euo pipefail
-top=$(cd "$(dirname "$0")/.." && pwd)
+self='c tests'
+. "$(dirname "$0")/common.sh"
 library=$(realpath "$1")
 shared=${library%.a}.so.0
 warnings=(-Wall -Wextra -Wpedantic -Wconversion -Wshadow -Werror -I"$top/include")
@@ -18,25 +18,23 @@ names() {
 declared=$(sed -n -e ':a' -e '/^[a-z].*,$/{N;s/\n *//;ba' -e '}' \
     -e 's/^[a-z][a-z0-9_]* *.*[ *]\(linkwire_[a-z_]*\)(.*;$/\1/p' "$top/include/linkwire.h" | sort)
 for found in "$(names "$library")" "$(names -D "$shared")"; do
-    if [ "$found" != "$declared" ]; then
-        printf 'c tests: a library defines other names than the header declares:\n%s\n' "$found" >&2
-        exit 1
-    fi
+    [ "$found" = "$declared" ] || fails "a library defines other names than the header declares: $found"
 done
-readelf -d "$shared" >"$top/out/dynamic"
-grep -q 'SONAME.*\[liblinkwire\.so\.0\]' "$top/out/dynamic"
-if ! grep -q BIND_NOW "$top/out/dynamic" || ! readelf -l "$shared" | grep GNU_RELRO >/dev/null; then
-    echo 'c tests: the shared library is not bound at its start, and read-only after it' >&2
-    exit 1
+packed=$(sed -n 's/^ \(linkwire_.*\)@Base .*/\1/p' "$top/debian/liblinkwire0.symbols" | sort)
+[ "$packed" = "$declared" ] || fails 'debian/liblinkwire0.symbols has other names than the header declares'
+readelf -d "$shared" >"$folder/dynamic"
+grep -q 'SONAME.*\[liblinkwire\.so\.0\]' "$folder/dynamic"
+if ! grep -q BIND_NOW "$folder/dynamic" || ! readelf -l "$shared" | grep GNU_RELRO >/dev/null; then
+    fails 'the shared library is not bound at its start, and read-only after it'
 fi
 
 # Compiles the header's own program as a language, by each compiler of it that is there, and runs it.
 header() {
     for compiler in "${@:2}"; do
         command -v "$compiler" >/dev/null || continue
-        "$compiler" "${warnings[@]}" -std="$1" -o "$top/out/header" \
+        "$compiler" "${warnings[@]}" -std="$1" -o "$folder/header" \
             -x "${1%[0-9][0-9]}" "$top/tests/c/header.c" -x none "$library"
-        "$top/out/header"
+        "$folder/header"
     done
 }
 header c99 gcc clang
@@ -44,7 +42,7 @@ header c11 gcc clang
 header c++17 g++ clang++
 
 for test in "$top"/tests/c/*.c; do
-    program="$top/out/$(basename "$test" .c)"
+    program="$folder/$(basename "$test" .c)"
     [ "${program##*/}" != laws ] || continue
     flags=(-std=c11 -O1 -Wall -Wextra -Wpedantic -Wshadow -Werror -I"$top/include")
     ${CC:-cc} "${flags[@]}" -o "$program" "$test" "$library"
@@ -52,7 +50,7 @@ for test in "$top"/tests/c/*.c; do
     # memory.c has an allocator of its own
     [ "${program##*/}" != memory ] || continue
     sanitized=(-fsanitize=address -fsanitize=undefined -fno-sanitize-recover=all)
-    if ${CC:-cc} "${flags[@]}" "${sanitized[@]}" -o "$program" "$test" "$library" 2>"$top/out/sanitized.log"; then
+    if ${CC:-cc} "${flags[@]}" "${sanitized[@]}" -o "$program" "$test" "$library" 2>"$folder/log"; then
         "$program"
     fi
 done
@@ -61,7 +59,5 @@ done
 start=$SECONDS
 "$top/scripts/state_live.sh" "$library" "${@:2}"
 echo "c tests: state_live.sh: $((SECONDS - start)) s"
-linkstate=$top/crates/linkstate/out/linkstate
-[ -x "$linkstate" ] || linkstate=$top/out/linkstate
-"$top/scripts/store_tests.sh" "$shared" "$linkstate"
+"$top/scripts/store_tests.sh" "$shared"
 echo 'c tests passed'

@@ -17,7 +17,9 @@ import subprocess
 import sys
 import tempfile
 
-TOP = os.path.dirname(os.path.dirname(os.path.abspath(__file__)))
+from shared import HEADER_SIZE, TOP, answers, compare, frames, said
+from show_damaged import damaged_bytes
+
 FILES = ["tests/captures.txt", "tests/kernels/messages.txt", "crates/linkshow/stdin", "crates/linkwire/stdin",
          "crates/linkdiff/stdin", "bench/messages.txt"]
 # the numbers of orders, and the release of a kernel that has each
@@ -26,7 +28,7 @@ ORDERS = {0: "6.14", 1: "6.12.3", 2: "6.18"}
 FLAGS = {1: "--lenient", 2: "--counters"}
 LONGEST = 1 << 19
 DAMAGED = 4
-HEADER_SIZE, FAMILY, INDEX = 16, slice(0, 1), slice(4, 8)
+FAMILY, INDEX = slice(0, 1), slice(4, 8)
 # linkdiff leaves out what announcements alone have: IFLA_WIRELESS and IFLA_EVENT
 ANNOUNCED = {11, 44}
 OTHER = "another interface"
@@ -42,23 +44,6 @@ def lines_of(files):
                     yield words[-1].lower().decode()
 
 
-def damaged(digits, chance):
-    """The same message with bytes that are turned, or without its end."""
-    octets = bytearray.fromhex(digits)
-    if chance.random() < 0.3:
-        del octets[chance.randrange(len(octets)):]
-    else:
-        for _ in range(chance.randrange(1, 4)):
-            octets[chance.randrange(len(octets))] = chance.choice([0, 1, 3, 4, 8, 255, chance.randrange(256)])
-    return octets.hex()
-
-
-def run(words, lines):
-    text = "".join(f"{line}\n" for line in lines)
-    ran = subprocess.run(words, input=text.encode(), stdout=subprocess.PIPE, check=True)
-    return ran.stdout.decode().split("\n")[:-1]
-
-
 def options(flags):
     return [option for flag, option in FLAGS.items() if flags & flag]
 
@@ -68,34 +53,20 @@ def options(flags):
 def compare_shown(call, program, lines):
     for order, release in ORDERS.items():
         for flags in (0, 1):
-            ours = run([call, "show", str(order), str(flags)], lines)
-            theirs = run([program, "--kernel", release, *options(flags)], lines)
-            assert len(ours) == len(theirs) == len(lines), "a line has no answer"
-            for line, our, their in zip(lines, ours, theirs):
-                if our != their:
-                    sys.exit(f"call_answers: {line}\nlinkwire_show, flags {flags}: {our}\nlinkshow: {their}")
+            shown = answers(program, lines, "--kernel", release, *options(flags))
+            compare(f"linkwire_show, flags {flags}", lines, answers(call, lines, "show", str(order), str(flags)), shown)
     return len(lines) * len(ORDERS) * 2
 
 
 # ** what changed
 
-def frames(octets):
-    """The attributes of a message with their padding, and what stands behind them."""
-    at = HEADER_SIZE
-    while at + 4 <= len(octets):
-        size = int.from_bytes(octets[at:at + 2], "little")
-        if size < 4 or at + size > len(octets):
-            break
-        yield octets[at:at + (size + 3 & ~3)]
-        at += size + 3 & ~3
-    yield octets[at:]
-
-
 def unannounced(digits):
     """The message without what linkdiff does not compare."""
     octets = bytes.fromhex(digits)
-    kept = [it for it in frames(octets) if int.from_bytes(it[2:4], "little") & 0x3fff not in ANNOUNCED]
-    return octets[:HEADER_SIZE] + b"".join(kept)
+    found, end = frames(octets)
+    ends = [at for at, _, _ in found[1:]] + [end]
+    kept = [octets[at:to] for (at, kind, _), to in zip(found, ends) if kind & 0x3fff not in ANNOUNCED]
+    return octets[:HEADER_SIZE] + b"".join(kept) + octets[end:]
 
 
 def of_one_interface(old, new):
@@ -111,7 +82,7 @@ def pairs_of(lines, chance):
     messages = [unannounced(line) for line in lines]
     pairs = [(old, of_one_interface(old, new)) for old, new in zip(messages, messages[1:])]
     pairs += [(new, old) for old, new in pairs]
-    pairs += [(it, of_one_interface(it, unannounced(damaged(it.hex(), chance)))) for it in messages if it]
+    pairs += [(it, of_one_interface(it, unannounced(damaged_bytes(chance, it.hex())))) for it in messages if it]
     # a line of words alone is no message
     return [pair for pair in pairs if all(pair)]
 
@@ -122,7 +93,7 @@ def told(program, pairs, order, flags):
     front = f"kernel={ORDERS[order]}"
     lines = [f"host=h{at} {front} {message.hex()}" for at, pair in enumerate(pairs) for message in pair]
     found = [""] * len(pairs)
-    for line in run([program, *options(flags)], lines):
+    for line in map(bytes.decode, said(program, lines, *options(flags))):
         at = int(re.search(r'"host":"h(\d+)"', line)[1])
         if '"fault":' in line:
             found[at] = None
@@ -133,30 +104,24 @@ def told(program, pairs, order, flags):
     return found
 
 
-def diffs(call, pairs, order, flags):
-    """The same of linkwire_diff, which knows of no other interface."""
-    ours = run([call, "diff", str(order), str(flags)], [it.hex() for pair in pairs for it in pair])
-    assert len(ours) == len(pairs), "a pair has no answer"
-    return [None if re.fullmatch(r"-\d+", our) else our for our in ours]
-
-
 def compare_told(call, program, pairs):
+    """linkwire_diff knows of no other interface."""
     count = 0
     for order in ORDERS:
         for flags in range(4):
-            ours, theirs = diffs(call, pairs, order, flags), told(program, pairs, order, flags)
-            for pair, our, their in zip(pairs, ours, theirs):
-                if our != their and not (our and their is OTHER):
-                    sys.exit(f"call_answers: {pair[0].hex()}\n{pair[1].hex()}\nlinkwire_diff, flags {flags}: {our}\n"
-                             f"linkdiff: {their}")
-                count += bool(our)
+            ours = said(call, [it.hex() for pair in pairs for it in pair], "diff", str(order), str(flags))
+            ours = [None if re.fullmatch(r"-\d+", it) else it for it in map(bytes.decode, ours)]
+            theirs = [our if our and it is OTHER else it
+                      for our, it in zip(ours, told(program, pairs, order, flags), strict=True)]
+            compare(f"linkwire_diff, flags {flags}", [f"{old.hex()} {new.hex()}" for old, new in pairs], ours, theirs)
+            count += sum(map(bool, ours))
     return count
 
 
 def main(archive, linkshow, linkdiff, *files):
     lines = list(lines_of(files or [f"{TOP}/{it}" for it in FILES]))
     chance = random.Random(58)
-    more = [damaged(line, chance) for line in lines for _ in range(DAMAGED)]
+    more = [damaged_bytes(chance, line) for line in lines for _ in range(DAMAGED)]
     with tempfile.TemporaryDirectory() as folder:
         call = f"{folder}/shown"
         cc = os.environ.get("CC", "cc").split()

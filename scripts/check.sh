@@ -47,7 +47,6 @@ programs() {
         stage "program.sh $name" scripts/program.sh "$name"
     done
     python3 scripts/state_tests.py crates/linkstate/out/linkstate crates/linkwire/out/linkwire
-    python3 scripts/lenient_tests.py crates/linkstate/out/linkstate crates/linkwire/out/linkwire
     stage diff_tests.py python3 scripts/diff_tests.py crates/linkdiff/out/linkdiff crates/linkshow/out/linkshow \
         crates/linkstate/out/linkstate crates/linkwire/out/linkwire
     stage sizes.py python3 scripts/sizes.py crates/linkwire/out crates/linkshow/out crates/linkstate/out \
@@ -55,7 +54,6 @@ programs() {
     python3 tests/linkdump/hosts.py --linkdiff crates/linkdiff/out/linkdiff
     python3 tests/linkdiff/live.py out/linkdump crates/linkdiff/out/linkdiff
     python3 scripts/headline.py crates/linkwire/out/linkwire crates/linkshow/out/linkshow
-    python3 scripts/show_rows.py --check
     python3 scripts/show_damaged.py crates/linkshow/out/linkshow crates/linkwire/out/linkwire
     python3 scripts/kernel_messages.py
     python3 scripts/kernel_truth.py crates/linkshow/out/linkshow
@@ -69,14 +67,14 @@ programs() {
     scripts/refused_parse.sh
     scripts/refused_info.sh
     scripts/tested_edits.sh
-    scripts/kernel_tables.sh
+    python3 scripts/kernel_tables.py
     scripts/test_kernel_tables.sh
 }
 
 python3 scripts/lines.py
 python3 scripts/version.py
 python3 scripts/edits.py --fit
-python3 scripts/c_names.py --check
+python3 scripts/c_names.py
 scripts/sums.sh check
 python3 scripts/erase/test_erase.py
 python3 scripts/erase/erase.py check rust

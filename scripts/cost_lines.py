@@ -4,12 +4,12 @@ They are made of the stored messages in bench/messages.txt, and of messages that
 slow. Nothing is left to chance, so that they are the same each time.
 """
 
-import os
 import struct
 import sys
 
-TOP = os.path.dirname(os.path.dirname(os.path.abspath(__file__)))
-STORED = f"{TOP}/bench/messages.txt"
+from shared import attribute as frame
+from shared import read
+
 IFLA_MTU, IFLA_IFALIAS, IFLA_VFINFO_LIST, IFLA_PROP_LIST, IFLA_ALT_IFNAME = 4, 20, 22, 52, 53
 # a number that no kernel sends, and those above it
 UNKNOWN = 200
@@ -17,18 +17,12 @@ HEAD = struct.pack("<BBHiII", 0, 0, 1, 7, 0, 0)
 HEAD_SIZE = len(HEAD)
 
 
-def frame(number, payload):
-    """An attribute: length, number, payload, padding."""
-    return struct.pack("<HH", 4 + len(payload), number) + payload + bytes(-len(payload) % 4)
-
-
 def stored():
     """The stored messages, as lists of bytes by the word in front of them."""
     found = {}
-    with open(STORED, encoding="ascii") as it:
-        for line in it:
-            kind, digits = line.split()
-            found.setdefault(kind, []).append(bytes.fromhex(digits))
+    for line in read("bench/messages.txt").splitlines():
+        kind, digits = line.split()
+        found.setdefault(kind, []).append(bytes.fromhex(digits))
     return found
 
 

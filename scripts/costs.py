@@ -20,20 +20,18 @@ more takes hardly an instruction more of the text.
 import argparse
 import concurrent.futures
 import os
+import pathlib
 import re
 import shutil
 import subprocess
 import sys
 import tempfile
 
-sys.dont_write_bytecode = True
 import cost_lines
+from shared import TOP
 
-TOP = os.path.dirname(os.path.dirname(os.path.abspath(__file__)))
-HERE = os.path.join(TOP, "scripts", "costs")
-ROWS = os.path.join(TOP, "tests", "costs.txt")
 ARCH = "x86_64"
-TEXTS = os.path.join(TOP, "dist", ARCH)
+HERE, ROWS, TEXTS = f"{TOP}/scripts/costs", f"{TOP}/tests/costs.txt", f"{TOP}/dist/{ARCH}"
 CC = os.environ.get("CC", "cc").split()
 PROGRAMS = ["linkwire", "linkshow", "linkstate", "linkdiff"]
 LIBRARY = "link_c"
@@ -60,11 +58,6 @@ def stop(why):
 
 # ** building
 
-def text_of(texts, name):
-    with open(f"{texts}/{name}.s", encoding="utf-8") as it:
-        return it.read()
-
-
 def functions(text):
     """The names of the functions in a text."""
     return set(re.findall(r"^\t\.type\t([\w.$]+),@function$", text, re.M))
@@ -76,10 +69,6 @@ def uncounted(text):
     return sorted(it for it in called - CALLED if not it.startswith("rattle_"))
 
 
-def build(words, folder):
-    subprocess.run([*CC, *words], check=True, cwd=folder)
-
-
 def link(texts, folder, names):
     """Builds these programs, and `calls` of the library, with what counts, and returns the functions of each text.
 
@@ -88,14 +77,14 @@ def link(texts, folder, names):
     own, wrap = {}, [f"-Wl,--wrap={name}" for name in sorted(WRAPPED)]
     # without -fno-builtin a compiler may make calls of memcpy here, or leave some out
     for source in (f"{HERE}/count.c", f"{HERE}/calls.c", f"{TOP}/dist/heap.c", f"{TOP}/dist/errno.c"):
-        build(["-O2", "-fno-builtin", f"-I{TOP}/include", "-c", source], folder)
+        subprocess.run([*CC, "-O2", "-fno-builtin", f"-I{TOP}/include", "-c", source], check=True, cwd=folder)
     for name in names:
-        text = text_of(texts, name)
+        text = pathlib.Path(f"{texts}/{name}.s").read_text("utf-8")
         if uncounted(text):
             stop(f"{name}.s calls what nothing counts: {', '.join(uncounted(text))}")
         own[name] = functions(text)
         more = ["calls.o", "-o", "calls"] if name == LIBRARY else ["errno.o", "-Wl,--wrap=main", "-o", name]
-        build([*wrap, f"{texts}/{name}.s", "heap.o", "count.o", *more], folder)
+        subprocess.run([*CC, *wrap, f"{texts}/{name}.s", "heap.o", "count.o", *more], check=True, cwd=folder)
     return own
 
 

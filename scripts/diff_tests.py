@@ -11,143 +11,88 @@ are made. Words in front of a line are told as linkshow tells them.
 """
 import json
 import random
-import struct
-import subprocess
 import sys
+from collections import namedtuple
 
-sys.dont_write_bytecode = True
-from state_tests import pairs
+from shared import HEADER_SIZE, answers, attribute, compare, frames, said
+from state_tests import of_answer, pairs
+
+Programs = namedtuple("Programs", "linkdiff linkshow linkstate linkwire")
 
 
 def fails(*words):
     sys.exit("diff_tests: " + " ".join(map(str, words)))
 
 
-def answers(program, lines, *arguments):
-    text = "".join(line + "\n" for line in lines)
-    ran = subprocess.run([program, *arguments], input=text.encode(), stdout=subprocess.PIPE, check=True)
-    return ran.stdout.decode().splitlines()
-
-
-def frames(attributes):
-    """Returns (kind, payload) of each frame."""
-    found, at = [], 0
-    while at + 4 <= len(attributes):
-        length, kind = struct.unpack_from("<HH", attributes, at)
-        found.append((kind, attributes[at + 4:at + length]))
-        at += (length + 3) // 4 * 4
-    return found
-
-
-def joined(header, found):
-    out = bytearray(header)
-    for kind, payload in found:
-        out += struct.pack("<HH", 4 + len(payload), kind) + payload + bytes(-len(payload) % 4)
-    return bytes(out)
-
-
 def paths(value, path=()):
     """Returns the value of each path: of an object and of a list of objects those of its parts."""
-    is_list = isinstance(value, list) and value and isinstance(value[0], dict)
     if isinstance(value, dict) and value:
         parts = value.items()
-    elif is_list:
+    elif isinstance(value, list) and value and isinstance(value[0], dict):
         parts = enumerate(value)
     else:
         return {".".join(path): value}
-    found = {}
-    for name, part in parts:
-        found.update(paths(part, (*path, str(name))))
-    return found
+    return {at: one for name, part in parts for at, one in paths(part, (*path, str(name))).items()}
 
 
-def compare_words(linkdiff, linkshow, rng):
+def changes_of(was, now):
+    """Returns the changes between the values of two messages, in the order of the paths."""
+    rows = [{"path": path, **{name: rows[path] for name, rows in (("old", was), ("new", now)) if path in rows}}
+            for path in sorted({*was, *now})]
+    return [row for row in rows if "old" not in row or "new" not in row or row["old"] != row["new"]]
+
+
+def compare_words(programs):
     """Tells as linkshow does the words of lines that are no messages: texts, what JSON escapes, and no UTF-8."""
+    rng = random.Random(8)
     pieces = [b"a", b"9", b"=", b'"', b"\\", b"/", b"\0", b"\1", b"\b", b"\f", b"\r", b"\x1f", b"\x7f", b"\xc3",
               b"\xff", "\u00e9".encode(), "\u2028".encode(), "\U0001f517".encode()]
     lines = [b"".join(key + b"=" + b"".join(rng.choices(pieces, k=rng.randrange(5))) + b" "
-                      for key in (b"type", b"time", b"host")) + b"00\n" for _ in range(1000)]
-    told, shown = [subprocess.run([it], input=b"".join(lines), stdout=subprocess.PIPE, check=True).stdout.split(b"\n")
-                   for it in (linkdiff, linkshow)]
-    for line, one, other in zip(lines, told, shown):
-        if one != other:
-            fails("words of", line, "told", one, "and not", other)
-    if len(told) != len(lines) + 1 or len(shown) != len(told):
-        fails(len(told) - 1, "answers to", len(lines), "lines with words")
+                      for key in (b"type", b"time", b"host")) + b"00" for _ in range(1000)]
+    compare("diff_tests: words", lines, answers(programs.linkdiff, lines), answers(programs.linkshow, lines))
     print(f"diff_tests: the words of {len(lines)} lines as linkshow tells them")
 
 
-class Programs:
-    def __init__(self, linkshow, linkstate, linkwire):
-        self.linkshow, self.linkstate, self.linkwire = linkshow, linkstate, linkwire
-
-    def shown(self, lines):
-        return [paths(json.loads(line)) for line in answers(self.linkshow, lines)]
-
-    def states(self, lines):
-        return answers(self.linkstate, lines)
-
-    def canonicals(self, lines):
-        return answers(self.linkwire, lines)
+def shown(programs, messages):
+    return [paths(json.loads(line)) for line in answers(programs.linkshow, [it.hex() for it in messages])]
 
 
 def bits(encoding):
     """Returns the encoding with one byte of its attributes changed, for each that is zero in a word of zeros."""
-    made = []
-    for at in range(16, len(encoding), 4):
-        if not any(encoding[at:at + 4]):
-            other = bytearray(encoding)
-            other[at] = 1
-            made.append(bytes(other))
-    return made
+    return [encoding[:at] + b"\1" + encoding[at + 1:] for at in range(HEADER_SIZE, len(encoding), 4)
+            if not any(encoding[at:at + 4])]
 
 
 def counters(programs, message):
     """Returns the paths whose value moves where linkstate's answer does not: each word is tried by itself."""
-    own = bytes.fromhex(programs.canonicals([message.hex()])[0][3:])
-    state = programs.states([message.hex()])[0]
+    own = of_answer(answers(programs.linkwire, [message.hex()])[0])
+    state = answers(programs.linkstate, [message.hex()])[0]
     tried = [own, *bits(own)]
-    lines = [one.hex() for one in tried]
-    same = [line for line, answer in zip(lines, programs.states(lines)) if answer == state]
-    base = programs.shown([state[3:]])[0]
-    found = set()
-    for one in programs.shown(same):
-        found |= {path for path in base if one.get(path) != base[path]}
-    return found
+    same = [one for one, answer in zip(tried, answers(programs.linkstate, [it.hex() for it in tried]))
+            if answer == state]
+    base, *others = shown(programs, [of_answer(state), *same])
+    return {path for one in others for path in base if one.get(path) != base[path]}
 
 
 def wanted(programs, old, new, is_all):
     """Returns the changes that linkdiff has to tell of two messages, or None."""
-    encodings = programs.canonicals if is_all else programs.states
-    one, other = encodings([old.hex(), new.hex()])
-    if not one.startswith("ok ") or not other.startswith("ok "):
+    encoded = answers(programs.linkwire if is_all else programs.linkstate, [old.hex(), new.hex()])
+    one, other = map(of_answer, encoded)
+    if one is None or other is None:
         fails("no encoding", old.hex(), new.hex())
     if one == other:
         return None
-    was, now = programs.shown([one[3:], other[3:]])
+    was, now = shown(programs, [one, other])
     if not is_all:
         for rows, message in ((was, old), (now, new)):
             for path in counters(programs, message):
                 rows.pop(path, None)
-    made = []
-    for path in sorted({*was, *now}):
-        if path not in was:
-            made.append({"path": path, "new": now[path]})
-        elif path not in now:
-            made.append({"path": path, "old": was[path]})
-        elif was[path] != now[path]:
-            made.append({"path": path, "old": was[path], "new": now[path]})
-    return made or [{"path": "state", "old": one[3:], "new": other[3:]}]
-
-
-def told(line):
-    """Returns the changes of a line of linkdiff's, in the order of their paths."""
-    return sorted(json.loads(line)["changes"], key=lambda change: change["path"])
+    return changes_of(was, now) or [{"path": "state", "old": one.hex(), "new": other.hex()}]
 
 
 def altered(rng, message):
     """Returns the message with a few attributes changed, dropped, moved or added, and its flags perhaps."""
-    header, found = bytearray(message[:16]), frames(message[16:])
+    header, found = bytearray(message[:HEADER_SIZE]), [(kind, it) for _, kind, it in frames(message)[0]]
     for _ in range(rng.choice([0, 1, 1, 2, 3])):
         at = rng.randrange(len(found)) if found else 0
         way = rng.choice(["drop", "number", "move", "flags", "name", "add"])
@@ -164,38 +109,35 @@ def altered(rng, message):
         elif way == "add":
             found.append(rng.choice([(4, b"\xdc\5\0\0"), (20, b"text\0"), (35, bytes(4)), (35, b"\1\0\0\0"),
                                      (23, bytes(200)), (7, bytes(96)), (300, b"\1\2\3")]))
-    return joined(header, found)
+    return bytes(header) + b"".join(attribute(*it) for it in found)
 
 
-def compare(linkdiff, programs, old, new, is_all):
-    arguments = ["--counters"] if is_all else []
-    lines = answers(linkdiff, [old.hex(), new.hex()], *arguments)
+def differs(programs, old, new, is_all):
+    """Whether something has to be told of two messages, as it is."""
+    told = said(programs.linkdiff, [old.hex(), new.hex()], *["--counters"] * is_all)
     changes = wanted(programs, old, new, is_all)
-    if len(lines) != (1 if changes is None else 2):
-        fails("not as many lines as wanted:", lines, changes, old.hex(), new.hex())
-    if changes is not None and told(lines[1]) != changes:
-        fails("wanted", json.dumps(changes), "told", lines[1], old.hex(), new.hex())
+    if len(told) != (1 if changes is None else 2):
+        fails("not as many lines as wanted:", told, changes, old.hex(), new.hex())
+    if changes is not None and sorted(json.loads(told[1])["changes"], key=lambda it: it["path"]) != changes:
+        fails("wanted", json.dumps(changes), "told", told[1], old.hex(), new.hex())
     return changes is not None
 
 
 def main():
-    linkdiff, *others = sys.argv[1:5]
+    programs = Programs(*sys.argv[1:5])
     count = int(sys.argv[5]) if len(sys.argv) > 5 else 300
-    programs = Programs(*others)
-    rng = random.Random(7)
-    compare_words(linkdiff, programs.linkshow, random.Random(8))
-    stored = pairs()
+    rng, stored, different = random.Random(7), pairs(), 0
+    compare_words(programs)
     for name, one, other in stored:
-        if compare(linkdiff, programs, one, other, False) or compare(linkdiff, programs, one, one, True):
+        if differs(programs, one, other, False) or differs(programs, one, one, True):
             fails(name, "changed, and nobody touched it")
-        compare(linkdiff, programs, one, other, True)
+        differs(programs, one, other, True)
     print(f"diff_tests: {len(stored)} pairs of one state, of which nothing is told")
-    different = 0
     for _ in range(count):
         _name, one, other = rng.choice(stored)
         new = altered(rng, other)
-        if programs.states([new.hex()])[0].startswith("ok "):
-            different += compare(linkdiff, programs, one, new, rng.random() < 0.3)
+        if answers(programs.linkstate, [new.hex()])[0].startswith(b"ok "):
+            different += differs(programs, one, new, rng.random() < 0.3)
     print(f"diff_tests: {count} altered messages, of which {different} differ: ok")
 
 

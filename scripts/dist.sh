@@ -3,11 +3,8 @@
 # at work, and standard output each verdict.
 #     dist.sh --compare NAME..    makes the texts of these in out/texts, over what the gate left, and compares
 #     dist.sh --against FOLDER NAME..   compares with those that were made
-set -euo pipefail
-top=$(cd "$(dirname "$0")/.." && pwd)
+. "$(dirname "$0")/common.sh"
 cd "$top"
-folder=$(mktemp -d)
-trap 'rm -rf "$folder"' EXIT
 read -ra programs <<<"$(sed -n 's/^PROGRAMS = //p' dist/Makefile)"
 mapfile -t archs < <(awk '!/^#/ { print $1 }' scripts/targets.txt)
 
@@ -25,8 +22,7 @@ compares() {
     local arch
     for arch in "${archs[@]}"; do
         if ! cmp "dist/$arch/$2.s" "$1/$arch/$2.s" >&2; then
-            echo "dist: dist/$arch/$2.s is not what is made of the crates: make dist makes it anew" >&2
-            exit 1
+            fails "dist/$arch/$2.s is not what is made of the crates: make dist makes it anew"
         fi
     done
     echo "dist: $2: the texts are what is made of the crates"
@@ -91,8 +87,7 @@ for arch in "${archs[@]}"; do
 done
 scripts/sums.sh make >"$folder/sums"
 if ! grep '  crates/' "$folder/sums" | cmp -s - "$folder/before"; then
-    echo 'dist: a source changed while the texts were made: run this again' >&2
-    exit 1
+    fails 'a source changed while the texts were made: run this again'
 fi
 mv "$folder/sums" dist/SUMS
 scripts/sums.sh check

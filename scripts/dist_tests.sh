@@ -2,19 +2,14 @@
 # Builds copies of the tree from dist/ alone, with the toolchain off the path and hidden by a mount where that is
 # allowed, and runs them: here, under qemu-aarch64, on an old processor by qemu-x86_64, statically with musl, from the
 # archive of a release and from Debian's packages. What is not installed is 'skipped'. The last line is 'dist passed'.
-set -euo pipefail
-top=$(cd "$(dirname "$0")/.." && pwd)
-folder=${1:-}
-if [ -z "$folder" ]; then
-    folder=$(mktemp -d)
-    trap 'rm -rf "$folder"' EXIT
-    mkdir "$folder/tree" "$folder/empty"
-    (cd "$top" && git ls-files -z --cached --others --exclude-standard | tar --null --ignore-failed-read -T - -c) \
-        2>/dev/null | tar -x -C "$folder/tree"
-    command=("$0" "$folder")
+self=dist
+. "$(dirname "$0")/common.sh"
+if [ -z "$inside" ]; then
     rt=$(command -v rt || true)
+    mkdir "$folder/empty"
+    copies_tree "$folder/tree"
+    command=("$0" --inside "$folder")
     if [ -n "$rt" ]; then
-        PATH=$(tr ':' '\n' <<<"$PATH" | while read -r it; do [ -e "$it/rt" ] || echo "$it"; done | paste -sd :)
         hidden="mount --bind '$folder/empty' '$(dirname "$(dirname "$(readlink -f "$rt")")")'"
         if unshare -rm sh -c "$hidden" 2>/dev/null; then
             command=(unshare -rm sh -c "$hidden && exec \"\$@\"" sh "${command[@]}")
@@ -22,14 +17,12 @@ if [ -z "$folder" ]; then
             echo 'dist: the toolchain hidden by a mount: skipped: it is not allowed here'
         fi
     fi
-    PATH=$PATH "${command[@]}"
+    "${command[@]}"
     exit
 fi
 if command -v rt >/dev/null; then
-    echo 'dist: rt is in reach' >&2
-    exit 1
+    fails 'rt is in reach'
 fi
-unset CC LD OBJCOPY AR CFLAGS LDFLAGS MAKEFLAGS MFLAGS MAKELEVEL PROVE
 cd "$folder/tree"
 read -ra programs <<<"$(sed -n 's/^PROGRAMS = //p' dist/Makefile)"
 
@@ -49,8 +42,7 @@ lacks() {
 tests() {
     if ! sh tests/self_test.sh "${programs[@]}" >"$folder/log" 2>&1; then
         cat "$folder/log" >&2
-        echo "dist: $1 fails" >&2
-        exit 1
+        fails "$1 fails"
     fi
     grep skipped "$folder/log" | sed "s/^/dist: $1: /" || true
     echo "dist: $1: $(grep -c 'stored run' "$folder/log") stored runs, ${TESTS:-all tests of tests/c}: ok"
@@ -128,14 +120,14 @@ if make -s PROVE=1 >"$folder/log" 2>&1 || ! grep -q 'the crates, which are not i
 fi
 echo 'dist: the archive: the same bytes twice, built, tested, installed: ok'
 
-if it=$(lacks dpkg-deb dpkg-gensymbols dpkg-shlibdeps dpkg-architecture strip pkg-config); then
+if it=$(lacks dpkg-buildpackage dh dh_python3 pkg-config); then
     echo "dist: packages: skipped: no $it"
 else
     cd "$folder/tree"
     make -s deb >"$folder/packages"
     mkdir "$folder/deb"
     cp out/deb/*.deb "$folder/deb"
-    make -s deb >/dev/null
+    DEB_BUILD_OPTIONS=nocheck make -s deb >/dev/null
     while read -r file; do
         cmp "$file" "$folder/deb/$(basename "$file")"
         dpkg-deb -x "$file" "$folder/root"

@@ -34,15 +34,22 @@ def name_of(headline):
     return "_".join(re.findall(r"[a-z0-9]+", headline.lower()))
 
 
-def paragraphs(path):
-    """Returns each paragraph's first line, counted from 1, and its lines."""
+def text_of(path):
     try:
         with open(path, encoding="utf-8") as it:
-            lines = it.read().split("\n")
+            return it.read()
     except (OSError, UnicodeDecodeError) as error:
         sys.exit(f"{path}: it cannot be read: {error}")
+
+
+def lines_of(edit):
+    return text_of(edit).rstrip("\n").split("\n")
+
+
+def paragraphs(path):
+    """Returns each paragraph's first line, counted from 1, and its lines."""
     found, is_open = [], False
-    for number, line in enumerate(lines, 1):
+    for number, line in enumerate(text_of(path).split("\n"), 1):
         if line and not is_open:
             found.append((number, []))
         if line.startswith(GOES_ON) and found[-1][1]:
@@ -129,8 +136,7 @@ def edited(lines, crate):
             if not os.path.isfile(f"{crate}/{path}"):
                 return texts, f"there is no file {path}"
             if path not in texts:
-                with open(f"{crate}/{path}", encoding="utf-8") as it:
-                    texts[path] = it.read()
+                texts[path] = text_of(f"{crate}/{path}")
         elif key == "old":
             old, count = text, texts[path].count(text)
             if count != 1:
@@ -141,8 +147,7 @@ def edited(lines, crate):
 
 
 def apply(edit, crate):
-    with open(edit, encoding="utf-8") as it:
-        texts, why = edited(it.read().rstrip("\n").split("\n"), crate)
+    texts, why = edited(lines_of(edit), crate)
     if why:
         sys.exit(f"{edit}: {why}")
     for path, text in texts.items():
@@ -173,8 +178,7 @@ def places(lines, crate):
         if key == "file":
             path = text
         elif key == "old" and os.path.isfile(f"{crate}/{path}"):
-            with open(f"{crate}/{path}", encoding="utf-8") as it:
-                source = it.read()
+            source = text_of(f"{crate}/{path}")
             found.add(owner(source, source.find(text)))
     return found
 
@@ -184,8 +188,7 @@ def edits_of_gate(top):
     found = {}
     for path in sorted(glob.glob(f"{top}/crates/*/must-fail/*.edit")):
         crate = os.path.dirname(os.path.dirname(path))
-        with open(path, encoding="utf-8") as it:
-            lines = it.read().rstrip("\n").split("\n")
+        lines = lines_of(path)
         found[os.path.basename(crate), f"`{os.path.basename(path)[: -len('.edit')]}`"] = places(lines, crate)
     for path in sorted(glob.glob(f"{top}/tests/edits/*.txt")):
         crate = f"{top}/crates/{os.path.basename(path)[: -len('.txt')]}"
@@ -196,8 +199,7 @@ def edits_of_gate(top):
 
 def rows_of_page(top):
     """Returns the rows of the table of edits: where, the edit's name and the function that the row names."""
-    with open(f"{top}/{PAGE}", encoding="utf-8") as it:
-        table = it.read().partition(TABLE + "\n")[2].partition("\n\n")[0]
+    table = text_of(f"{top}/{PAGE}").partition(TABLE + "\n")[2].partition("\n\n")[0]
     for row in table.split("\n")[1:]:
         edit, function, _, where = (it.strip() for it in row.strip("|").split(" | "))
         yield where.strip("`"), edit, function.strip("`")
@@ -215,21 +217,13 @@ def unlisted(top):
     return said + [f"{PAGE}: {where}: {edit}: no row" for where, edit in edits]
 
 
-def fit_of_gate(top):
-    """Returns how many of the edits in must-fail/ do not fit."""
-    failed = 0
-    for folder in sorted(glob.glob(f"{top}/crates/*/must-fail")):
-        crate, bad = os.path.dirname(folder), 0
-        files = sorted(glob.glob(f"{folder}/*.edit"))
-        for path in files:
-            with open(path, encoding="utf-8") as it:
-                why = edited(it.read().rstrip("\n").split("\n"), crate)[1]
-            if why:
-                print(f"{os.path.basename(crate)}: {os.path.basename(path)}: {why}")
-                bad += 1
-        print(f"{os.path.relpath(folder, top)}: {len(files)} edits, {bad} do not fit")
-        failed += bad
-    return failed
+def unfit(title, crate, edits):
+    """Prints which edits, pairs of a name and lines, do not fit, and returns how many."""
+    bad = [(name, why) for name, lines in edits for why in [edited(lines, crate)[1]] if why]
+    for name, why in bad:
+        print(f"{os.path.basename(crate)}: {name}: {why}")
+    print(f"{title}: {len(edits)} edits, {len(bad)} do not fit")
+    return len(bad)
 
 
 def fit(paths):
@@ -237,15 +231,14 @@ def fit(paths):
     missing = [] if paths else unlisted(top)
     for line in missing:
         print(line)
-    failed = len(missing) + (0 if paths else fit_of_gate(top))
+    failed = len(missing)
+    for folder in [] if paths else sorted(glob.glob(f"{top}/crates/*/must-fail")):
+        files = sorted(glob.glob(f"{folder}/*.edit"))
+        failed += unfit(os.path.relpath(folder, top), os.path.dirname(folder),
+                        [(os.path.basename(it), lines_of(it)) for it in files])
     for path in paths or sorted(glob.glob(f"{top}/edits/*.txt") + glob.glob(f"{top}/tests/edits/*.txt")):
-        crate = os.path.basename(path)[: -len(".txt")]
-        edits = read(path)
-        bad = [(it, why) for it, lines in edits for why in [edited(lines, f"{top}/crates/{crate}")[1]] if why]
-        for headline, why in bad:
-            print(f"{crate}: {headline}: {why}")
-        print(f"{os.path.relpath(path, top)}: {len(edits)} edits, {len(bad)} do not fit")
-        failed += len(bad)
+        crate = f"{top}/crates/{os.path.basename(path).removesuffix('.txt')}"
+        failed += unfit(os.path.relpath(path, top), crate, read(path))
     return 1 if failed else 0
 
 

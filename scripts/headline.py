@@ -9,12 +9,11 @@ its examples.
 Without the two programs it takes those in out/; --list prints the definitions, the headline first, and runs nothing.
 In an example, `H` is a header of sixteen zeros, and `3*(0400)` the bytes in parentheses three times. The last line is
 'headline: ok'."""
-import os
 import re
-import subprocess
 import sys
 
-TOP = os.path.dirname(os.path.dirname(os.path.abspath(__file__)))
+from shared import answers, read
+
 PAGE = "docs/HEADLINE.md"
 START = "link_headline.specs.Headline", "Headline"
 # what the headline says all of, so that nobody has to read how it is made
@@ -26,11 +25,6 @@ ITEM = re.compile(r"^(?:abbrev |unfoldable )?(?:pub )?(?:(?:record|data) )?([^\s
 USE = re.compile(r"^use Rattle\.(\S+?)(?: as (\S+)|\.\{(.*)\})?$", re.M)
 NAME = re.compile(r"[^\s(){},;:λ→×]+")
 BLOCK = re.compile(r"^```bytes\n([\s\S]*?)^```$", re.M)
-
-
-def read(name):
-    with open(f"{TOP}/{name}", encoding="utf-8") as it:
-        return it.read()
 
 
 def fails(what):
@@ -123,18 +117,13 @@ def spelled(text):
     return "".join(text.split())
 
 
-def answered(program, digits):
-    done = subprocess.run([program], input=digits + "\n", capture_output=True, text=True, timeout=60, check=True)
-    return done.stdout.strip()
-
-
 def hold(line, linkwire, linkshow):
     """Looks whether the programs answer an example as it says."""
     given, arrow, wanted = line.partition(" -> ")
     if not arrow:
         fails(f"'{line}' has no answer")
     digits, (word, _, rest) = spelled(given), wanted.strip().partition(" ")
-    found, shown = answered(linkwire, digits), answered(linkshow, digits)
+    found, shown = (answers(program, [digits])[0].decode() for program in (linkwire, linkshow))
     if word == "refused":
         fault = re.match(r'\{"fault":"([^"]*)"', shown)
         wanted, found = f"refused {rest}", f"{found} {fault[1] if fault else 'with no fault'}"

@@ -5,20 +5,23 @@ the kernel's own code puts into messages or takes from them; the members of reco
 and flags beside enums and tables of the code.
 """
 
-import glob
 import os
 import re
+import sys
 from collections import namedtuple
 
 from kernel_names import ROW_PLACES, ROW_RECORDS, ROW_VALUES
+from shared import TOP
+
+sys.path.append(f"{TOP}/scripts/erase")
+import typed
 
 # a form: a word as u32, be16, ipv4, struct, nest; names of values or flags, the members of a record, the place inside
 Form = namedtuple("Form", "word names record place", defaults=(None, None, None))
 Row = namedtuple("Row", "number name form")
-Call = namedtuple("Call", "name args")
-SIZES = {"Size::One": 8, "Size::Two": 16, "Size::Four": 32, "Size::Eight": 64}
 LETTERS = {"Unsigned": "u", "BigEndian": "be", "Signed": "s", "Named": "u", "BigEndianNamed": "be", "Flags": "u",
            "BigEndianFlags": "be"}
+WORDS = {"Bytes": "binary", "Flag": "flag", "Text": "string"}
 BYTES = {"mac": 6, "ipv4": 4, "ipv6": 16}
 
 
@@ -29,109 +32,51 @@ class Unread(Exception):
 # ** reader of the rows
 
 
-class Source:
-    """The constants of a file of rows: calls, lists, texts and numbers; names stand for constants."""
-
-    def __init__(self, path, common=None):
-        self.file = os.path.basename(path)[:-len(".rt")]
-        self.common = common
-        self.constants, self.numbers = {}, {}
-        with open(path, encoding="utf-8") as file:
-            text = re.sub(r"//[^\n]*", "", file.read())
-        for name, kind, body in re.findall(r"\bconst (\w+): ([^=;]+?)\s*= ([^;]*);", text):
-            self.tokens = re.findall(r'"[^"]*"|\w+(?:::\w+)*|[\[\](),]', body)
-            self.at = 0
-            self.constants[name] = (kind, self.expression())
-            if self.at != len(self.tokens):
-                raise Unread("%s: %s is not read" % (self.file, name))
-
-    def expression(self):
-        token = self.tokens[self.at]
-        self.at += 1
-        if token in "[(":
-            return self.listed("]" if token == "[" else ")")
-        if token.startswith('"'):
-            return token[1:-1]
-        if token[0].isdigit():
-            return int(token, 0)
-        if self.tokens[self.at:self.at + 1] == ["("]:
-            self.at += 1
-            return Call(token, self.listed(")"))
-        return Call(token, [])
-
-    def listed(self, end):
-        items = []
-        while self.tokens[self.at] != end:
-            items.append(self.expression())
-            self.at += self.tokens[self.at] == ","
-        self.at += 1
-        return items
-
-    def value(self, call):
-        """What a name stands for, here or in the common file."""
-        if call.name in self.constants:
-            return self.constants[call.name][1]
-        if self.common and call.name in self.common.constants:
-            return self.common.constants[call.name][1]
-        raise Unread("%s: no constant %s" % (self.file, call.name))
-
-    def style(self, call):
-        """The form of a row."""
-        kind = call.name.rpartition("::")[2]
-        if not call.name.startswith("Style::"):
-            return self.style(self.value(call))
-        if kind in ("Bytes", "Flag", "Text"):
-            return Form({"Bytes": "binary", "Flag": "flag", "Text": "string"}[kind])
-        if kind == "Record":
-            return Form("struct", record="%s.%s" % (self.file, call.args[0].name))
-        if kind == "Nest":
-            return Form("nest", place=call.args[0].name.rpartition("::")[2])
-        form = self.plain(call.args[0])
-        return form if kind == "Plain" else form._replace(word="%s %s" % (kind.lower(), form.word))
-
-    def plain(self, call):
-        kind = call.name.rpartition("::")[2]
-        if not call.name.startswith("Plain::"):
-            return self.plain(self.value(call))
-        if kind in ("Mac", "Ipv4", "Ipv6"):
-            return Form(kind.lower())
-        if kind == "Octets":
-            return Form("%d bytes" % call.args[0])
-        names = "%s.%s" % (self.file, call.args[1].name) if len(call.args) > 1 else None
-        return Form("%s%d" % (LETTERS[kind], SIZES[call.args[0].name]), names)
-
-
 class Rows:
-    """The rows of each place, the members of records, and the names of values."""
+    """The rows of each place, the members of records, and the names of values, by file and constant as vlan.FLAGS."""
 
     def __init__(self, crates):
         folder = os.path.join(crates, "link_info", "src")
-        common = Source(os.path.join(folder, "tables", "mod.rt"))
-        self.places, self.records, self.names, tables = {}, {}, {}, {}
-        for path in sorted(glob.glob(os.path.join(folder, "tables", "*.rt"))):
-            source = Source(path, common)
-            for name, (kind, value) in source.constants.items():
-                key = "%s.%s" % (source.file, name)
-                if "Row]" in kind:
-                    tables["%s::%s" % (source.file, name)] = [
-                        Row(row.args[0], row.args[1], source.style(row.args[2])) for row in value]
-                elif "Member]" in kind:
-                    self.records[key] = [(it.args[0], source.plain(it.args[1])) for it in value]
-                elif kind == "Names":
-                    self.names[key] = {name: number for number, name in value}
-                    if len(self.names[key]) != len(value):
-                        raise Unread("%s: a name comes twice" % key)
-        with open(os.path.join(folder, "place.rt"), encoding="utf-8") as file:
-            text = file.read()
-        for place, table in re.findall(r"Place::(\w+) => (\w+::\w+),", text):
-            self.places[place] = tables[table]
+        found = typed.tables(folder)
+        self.keys = {id(value): "%s.%s" % key for key, value in found.items() if key[0] != "mod" and value}
+        named = {"%s.%s" % key: value for key, value in found.items() if key[0] != "mod" and isinstance(value, list)}
+        self.records = {key: [(name, self.plain(plain)) for name, plain in value]
+                        for key, value in named.items() if isinstance(value[0][1], tuple)}
+        self.names = {key: {name: number for number, name in value}
+                      for key, value in named.items() if len(value[0]) == 2 and key not in self.records}
+        twice = [key for key, value in self.names.items() if len(value) != len(named[key])]
+        if twice:
+            raise Unread("%s: a name comes twice" % twice[0])
+        text = typed.read("place.rt", folder)
+        self.places = {place: [Row(number, name, self.form(style)) for number, name, style in found[file, table]]
+                       for place, file, table in re.findall(r"Place::(\w+) => (\w+)::(\w+),", text)}
         self.kinds = {}
         for call, table in (("of_kind", "KINDS"), ("of_slave_kind", "SLAVE_KINDS")):
             body = re.search(r"\bconst %s: [^=]*= &\[(.*?)\];" % table, text, flags=re.S)
-            found = re.findall(r'KindRow\("(\w+)", Place::(\w+)\)', body.group(1)) if body else []
-            if not found:
+            rows = re.findall(r'KindRow\("(\w+)", Place::(\w+)\)', body.group(1)) if body else []
+            if not rows:
                 raise Unread("place: %s has no row that is read" % table)
-            self.kinds.update({(call, kind): place for kind, place in found})
+            self.kinds.update({(call, kind): place for kind, place in rows})
+
+    def form(self, style):
+        """The form of a row."""
+        kind = style[0]
+        if kind in WORDS:
+            return Form(WORDS[kind])
+        if kind == "Record":
+            return Form("struct", record=self.keys[id(style[1])])
+        if kind == "Nest":
+            return Form("nest", place=style[1])
+        form = self.plain(style[1])
+        return form if kind == "Plain" else form._replace(word="%s %s" % (kind.lower(), form.word))
+
+    def plain(self, plain):
+        kind = plain[0]
+        if kind in ("Mac", "Ipv4", "Ipv6"):
+            return Form(kind.lower())
+        if kind == "Octets":
+            return Form("%d bytes" % plain[1])
+        return Form("%s%d" % (LETTERS[kind], 8 * plain[1]), self.keys[id(plain[2])] if len(plain) > 2 else None)
 
     def size(self, form):
         """How many bytes a form has, or its word."""
@@ -201,11 +146,6 @@ class Code:
 # ** comparison
 
 
-def kernel_plain(name):
-    """A name of the kernel without dashes and capitals."""
-    return re.sub(r"[-_]", "", name).lower()
-
-
 class Compared:
     """Rows beside the kernel's files: what is found in none of them is kept as not compared."""
 
@@ -221,7 +161,7 @@ class Compared:
             group = self.group(known)
             code = Code(self.kernel.texts(known.files.split()))
             for row in rows:
-                self.number("%s.%s" % (place, row.name), row, group, known, report)
+                self.number("%s.%s" % (place, row.name), row, group, known)
                 self.form(place, row, group, known, code)
             for name, n in group.items():
                 if known.whole and n not in [row.number for row in rows]:
@@ -233,17 +173,16 @@ class Compared:
         return {name: headers.number(name) for name in headers.block.get(known.beside, [])
                 if name.startswith(known.prefix) and name not in ends}
 
-    @staticmethod
-    def number(where, row, group, known, report):
+    def number(self, where, row, group, known):
         """The number and the name beside the constants of the headers."""
         named = [it[len(known.prefix):] for it, n in group.items() if n == row.number]
         if named:
-            names = [it for it in named if kernel_plain(it) == kernel_plain(row.name)] or named
-            report.compare("rows, headers", where, ("name", row.name, names[0]))
+            names = [it for it in named if self.tools.plain(it) == self.tools.plain(row.name)] or named
+            self.report.compare("rows, headers", where, ("name", row.name, names[0]))
         elif row.number > max(group.values(), default=-1):
-            report.is_newer("rows, headers", "%s = %d" % (where, row.number))
+            self.report.is_newer("rows, headers", "%s = %d" % (where, row.number))
         else:
-            report.compare("rows, headers", where, ("number", row.number, "none"))
+            self.report.compare("rows, headers", where, ("number", row.number, "none"))
 
     def form(self, place, row, group, known, code):
         """The form beside rt_link.yaml, and beside the code."""
@@ -251,7 +190,7 @@ class Compared:
         attribute = self.kernel.sets.get(known.set, {}).get(row.number) if known.set else None
         if attribute:
             self.report.compare("rows, yaml", where, ("name", row.name, attribute["name"]),
-                                ("form", self.in_words(row.form), self.described(attribute)))
+                                ("form", row.form.word, self.described(attribute)))
             if row.form.word == "struct" and attribute.get("struct") in self.kernel.structs:
                 self.in_yaml(where, row.form, self.kernel.structs[attribute["struct"]])
         names = [it for it, n in group.items() if n == row.number]
@@ -284,12 +223,6 @@ class Compared:
                 self.report.compare("row kinds, code", "%s.%s" % (call, kind), ("place", here, there[0]))
             else:
                 self.left["kinds"].append("%s.%s" % (call, kind))
-
-    def in_words(self, form):
-        """A form as rt_link.yaml describes one."""
-        if form.word == "struct":
-            return "struct"
-        return form.word
 
     @staticmethod
     def described(attribute):

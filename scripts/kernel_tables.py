@@ -1,9 +1,10 @@
 """Compares the numbers, names, sizes and orders of fields of this repository with the files of the kernel.
 
-It fails on a difference for which kernel_names.py has no reason. The kernel's files are a tree of its sources, such a
+It fails on a difference for which kernel_names.txt has no reason. The kernel's files are a tree of its sources, such a
 tree packed as a .tar.xz, or the file rt_link.yaml, and then the headers are those of /usr/include. They are named as
 the argument or by KERNEL in the environment, else they are what Debian's linux-source-6.12 installs. Where there is no
-such file, nothing is compared. What is newer than the files is told, and is no difference.
+such file, only the names that linkshow shows are compared, with the specs. What is newer than the files is told, and is
+no difference.
 """
 
 import argparse
@@ -17,8 +18,13 @@ import sys
 import tempfile
 from collections import Counter, namedtuple
 
-sys.dont_write_bytecode = True
+try:
+    import yaml
+except ImportError:
+    yaml = None
+
 import kernel_rows
+import kernel_shown
 from kernel_names import (ALONE, LEFT_OUT, LEVELS, OWN_FIELDS, PLACES, REASONS, RECORDS, ROW_PLACES, ROW_VALUES, VALUES,
                           VALUES_LEFT_OUT)
 
@@ -34,99 +40,6 @@ HEADERS += ["include/linux/socket.h", "include/linux/netdevice.h"]
 # code that writes and reads what rows have
 CODE = {name for place in ROW_PLACES.values() for name in place.files.split()}
 CODE |= {known.header for known in ROW_VALUES.values() if known.header.endswith(".c")}
-
-# ** reader of YAML: block and flow collections, plain, quoted and block scalars, anchors and aliases
-
-
-class Yaml:
-    """The value of a document in the subset of YAML that the kernel's specifications keep to."""
-
-    def __init__(self, text):
-        self.lines = []
-        for line in text.split("\n"):
-            content = re.sub(r"(^|\s)#.*", "", line).rstrip() if not re.search(r"[\"'].*#", line) else line.rstrip()
-            if content.strip() and content not in ("---", "..."):
-                self.lines.append((len(content) - len(content.lstrip()), content.lstrip()))
-        self.at = 0
-        self.anchors = {}
-        self.value = self.node()
-        if self.at < len(self.lines):
-            raise ValueError("YAML: not read: %s" % self.lines[self.at][1])
-
-    def indent(self):
-        return self.lines[self.at][0] if self.at < len(self.lines) else -1
-
-    def node(self):
-        """The collection or scalar that begins here."""
-        indent, content = self.lines[self.at]
-        if re.match(r"-( |$)", content):
-            return self.sequence(indent)
-        return self.mapping(indent) if self.key(content) else self.folded("", indent - 1)
-
-    @staticmethod
-    def key(content):
-        return re.match(r"""("[^"]*"|'[^']*'|[^\s"'&*\[{>|-][^:]*|-[^\s:][^:]*):(?:\s+(.*))?$""", content)
-
-    def sequence(self, indent):
-        items = []
-        while self.indent() == indent and re.match(r"-( |$)", self.lines[self.at][1]):
-            rest = self.lines[self.at][1][1:].lstrip()
-            if rest and (self.key(rest) or rest.startswith("- ")):
-                self.lines[self.at] = (indent + len(self.lines[self.at][1]) - len(rest), rest)
-                items.append(self.node())
-            else:
-                self.at += 1
-                items.append(self.item(rest, indent))
-        return items
-
-    def mapping(self, indent):
-        items = {}
-        while self.indent() == indent and self.key(self.lines[self.at][1]):
-            key, rest = self.key(self.lines[self.at][1]).groups()
-            self.at += 1
-            items[scalar(key)] = self.item(rest or "", indent)
-        return items
-
-    def item(self, rest, indent):
-        """What stands after a dash or a colon, on the same line or on those that follow."""
-        anchor = re.match(r"&(\S+)\s*", rest)
-        if anchor:
-            rest = rest[anchor.end():]
-        if rest.startswith("*"):
-            return self.anchors[rest[1:]]
-        if re.match(r"[|>][-+]?$", rest):
-            value = self.folded("", indent)
-        elif rest:
-            value = self.folded(rest, indent)
-        elif self.indent() > indent:
-            value = self.node()
-        elif self.indent() == indent and re.match(r"-( |$)", self.lines[self.at][1]):
-            value = self.sequence(indent)
-        else:
-            value = None
-        if anchor:
-            self.anchors[anchor.group(1)] = value
-        return value
-
-    def folded(self, first, indent):
-        """A scalar or flow collection with all lines that are indented by more."""
-        parts = [first] if first else []
-        while self.indent() > indent:
-            parts.append(self.lines[self.at][1])
-            self.at += 1
-        return scalar(" ".join(parts))
-
-
-def scalar(text):
-    if text.startswith("[") and text.endswith("]"):
-        inside = text[1:-1].strip()
-        return [scalar(part.strip()) for part in inside.split(",")] if inside else []
-    if len(text) > 1 and text[0] == text[-1] and text[0] in "\"'":
-        return text[1:-1]
-    if re.fullmatch(r"-?(0x[0-9a-fA-F]+|0|[1-9]\d*)", text):
-        return int(text, 0)
-    return {"true": True, "True": True, "false": False, "False": False, "null": None, "~": None}.get(text, text)
-
 
 # ** reader of headers
 
@@ -246,7 +159,9 @@ class Kernel:
                 path = folder
             files = [os.path.join(path, name) for name in YAML_FILES] if os.path.isdir(path) else [path]
             self.yaml = next(filter(os.path.isfile, files), None)
-            spec = Yaml(read(self.yaml)).value if self.yaml else {}
+            if self.yaml and not yaml:
+                sys.exit("kernel_tables: the kernel's files are there, and no python3-yaml to read rt_link.yaml")
+            spec = yaml.safe_load(read(self.yaml)) if self.yaml else {}
             self.headers = Headers(self.header_texts(path))
             self.code = {name: read(os.path.join(path, name)) for name in sorted(CODE)
                          if os.path.isfile(os.path.join(path, name))}
@@ -258,8 +173,7 @@ class Kernel:
         self.messages = {it["name"]: {form["value"]: form["attribute-set"] for form in it["formats"]}
                          for it in spec.get("sub-messages", [])}
         for name, attributes in LEFT_OUT.items():
-            for n, text in attributes.items():
-                word, kind, *nested = text.split()
+            for n, (word, kind, *nested) in attributes.items():
                 attribute = {"name": word, "type": kind, "nested-attributes": " ".join(nested), "left out": True}
                 self.sets.setdefault(name, {}).setdefault(n, attribute)
         self.lists.update(VALUES_LEFT_OUT)
@@ -496,9 +410,7 @@ class Repository:
     def read_tables(self):
         for crate in CRATES:
             self.read_numbers(crate)
-            for path in self.files(crate + "/specs/Tables.antt"):
-                self.sources[crate] = definitions(read(path))
-        self.missing = [crate for crate in CRATES if crate not in self.sources]
+            self.sources[crate] = definitions(self.code(crate + "/specs/Tables.antt"))
         for crate, source in self.sources.items():
             for name, kind in source.types.items():
                 if kind.startswith("Table "):
@@ -518,8 +430,8 @@ class Repository:
     def read_levels(self):
         """The rows of each level as (constant, action); an action that goes by a family or a kind is its name."""
         self.read_numbers("link_state")
-        source = next((definitions(read(path)) for path in self.files("link_state/specs/Table.antt")), None)
-        for parameters, body in source.equations["rows"] if source else []:
+        source = definitions(self.code("link_state/specs/Table.antt"))
+        for parameters, body in source.equations["rows"]:
             rows = []
             for it in atoms(body.replace("∷", " ")):
                 row = re.fullmatch(r"\((\w+), (.*)\)", it)
@@ -563,8 +475,8 @@ class Repository:
         words = atoms(text)
         if len(words) == 1 and text.startswith("("):
             return self.resolve(text[1:-1].strip(), crate)
-        source, head = self.sources.get(crate), words[0].split(".")[-1] if words else ""
-        if source and text in source.equations:
+        source, head = self.sources[crate], words[0].split(".")[-1] if words else ""
+        if text in source.equations:
             return self.named(text, crate)
         if head in SIMPLE:
             return Payload(SIMPLE[head])
@@ -587,7 +499,7 @@ class Repository:
         if head in ("as_codec", "any", "nested"):
             payload = next(filter(None, (self.resolve(word, crate) for word in words[1:])), None)
             return payload and payload._replace(nested=head == "nested" or payload.nested)
-        other, _, name = source.imports.get(text, (None, None, None)) if source else (None, None, None)
+        other, _, name = source.imports.get(text, (None, None, None))
         return self.resolve(name, other) if other in self.sources and other != crate else None
 
     def named(self, name, crate):
@@ -611,7 +523,7 @@ class Repository:
 
     def place(self, name, crate):
         """The type of a place."""
-        source = self.sources.get(crate, Source({}, {}, {}))
+        source = self.sources[crate]
         if name in source.types:
             return source.types[name].split()[1]
         if name not in source.imports:
@@ -780,6 +692,8 @@ def compare_names(ours, kernel, report):
         rows = re.findall(r'\b([A-Z]\w+) => "(\w+)",', code)
         lists = re.findall(r'\bkind_names!\(\w+;([\w\s,]*)\)', code)
         rows += [(name, name) for names in lists for name in re.findall(r'\w+', names)]
+        lists = re.findall(r'\brows! \{ \(\$\(\$call\)\*\)([^}]*)\}', code)
+        rows += [(name, name) for names in lists for name in re.findall(r'\w+ \w+\(\w+, (\w+)', names)]
         rows += re.findall(r'const NUMBER: u16 = (\w+);\s*const NAME: &\'static str = "(\w+)";', code)
         for constant, name in rows:
             report.compare("names of faults", constant, ("constant", constant, name))
@@ -794,15 +708,11 @@ def beside(ours, kernel, crate, name):
         names = [line.constant for line in lines]
         if home == crate and name in names and kind in PLACES:
             return kernel.headers.group(PLACES[kind].prefix, None, names).values()
-    for level, rows in ours.levels.items():
-        if crate == "link_state" and name in dict(rows) and level in LEVELS:
-            return kernel.headers.group(LEVELS[level].prefix, None, [LEVELS[level].beside]).values()
     return [1 << 16]
 
 
 def compare_tables(ours, kernel, report):
-    if not ours.missing:
-        report.same_names("place", ours.tables, PLACES)
+    report.same_names("place", ours.tables, PLACES)
     for kind in filter(PLACES.get, ours.tables):
         crate, lines = ours.tables[kind]
         place = PLACES[kind]
@@ -902,7 +812,7 @@ def as_json(ours):
 # ** what is printed
 
 
-def show(report, ours):
+def show(report):
     for category in sorted({category for category, outcome in report.counts}):
         counts = [report.counts[category, outcome] for outcome in ("equal", "newer", "reason", "fault")]
         print("%-22s %3d: %3d equal, %2d newer, %3d otherwise with a reason, %d without"
@@ -913,8 +823,6 @@ def show(report, ours):
         for (other, what, here, _), (there, places) in report.reasoned.items():
             if other == why:
                 print("    %s %s, there %s: %s" % (what, here, there, ", ".join(shortened(places))))
-    for crate in ours.missing:
-        print("%s has no specs/Tables.antt yet: its lines are not compared" % crate)
 
 
 def shortened(places):
@@ -926,11 +834,14 @@ def shortened(places):
 
 
 def compare(ours, kernel):
-    report = Report()
-    for step in (compare_constants, compare_names, compare_tables, compare_records, compare_values, compare_levels):
-        step(ours, kernel, report)
-    left = kernel_rows.compare_rows(ours.crates, kernel, report, sys.modules[__name__])
-    show(report, ours)
+    """Compares all; without the kernel's files what linkshow shows alone."""
+    report, left = Report(), {}
+    kernel_shown.compare_shown(ours, kernel and kernel.headers, report)
+    if kernel:
+        for step in (compare_constants, compare_names, compare_tables, compare_records, compare_values, compare_levels):
+            step(ours, kernel, report)
+        left = kernel_rows.compare_rows(ours.crates, kernel, report, sys.modules[__name__])
+    show(report)
     for what, where in left.items():
         print("rows: %s that are compared with none of the files: %s" % (what, ", ".join(where) or "none"))
     for fault in report.faults:
@@ -958,7 +869,8 @@ def main():
         return print(as_json(ours))
     kernel = Kernel(given.kernel) if os.path.exists(given.kernel) else None
     if not kernel or not kernel.yaml:
-        return print("kernel_tables: skipped: no rt_link.yaml in %s" % given.kernel)
+        print("kernel_tables: skipped: no rt_link.yaml in %s" % given.kernel)
+        kernel = None
     return compare(ours, kernel)
 
 

@@ -24,42 +24,33 @@ import shlex
 import shutil
 import subprocess
 import sys
-import tempfile
 from collections import Counter, defaultdict, namedtuple
 
-TOP = os.path.dirname(os.path.dirname(os.path.abspath(__file__)))
-TABLE = os.path.join(TOP, "scripts", "kernel_fields.txt")
+from shared import TOP, answers, kernels, read, table
+
 # our objects by kind, the name of the kind, and ip's
 PARTS = {"data": ("linkinfo.data", "kind", "linkinfo.info_data"),
          "slave-data": ("linkinfo.slave-data", "slave-kind", "linkinfo.info_slave_data"),
          "xstats": ("linkinfo.xstats", "kind", "linkinfo.info_xstats")}
-UNDECODED = tuple(ours for ours, _, _ in PARTS.values()) + ("linkinfo.slave-kind",)
 MISSING = type("Missing", (), {"__repr__": lambda _: "none"})()
 Row = namedtuple("Row", "field ours how args")
-World = namedtuple("World", "link first names devices path", defaults=("",))
+World = namedtuple("World", "link first names path", defaults=("",))
 
 # ** the table
 
 
 def read_table(path):
     """Rows by where they are, as ("ip", None) or ("data", "vlan"), and by field."""
-    rows, places = defaultdict(dict), []
-    with open(path, encoding="utf-8") as file:
-        for number, line in enumerate(file.read().replace("\n    ", " ").split("\n"), 1):
-            if not line or line.startswith("#"):
-                continue
-            if line.startswith("["):
-                where, *kinds = line.strip("[]").split()
-                places = [(where, kind) for kind in kinds or [None]]
-                continue
-            field, ours, *rest = re.split(r" {2,}", line)
-            words = [rest[0]] if ours == "-" else (rest[0].split() if rest else ["same"])
-            if ours != "-" and words[0] not in (*HOW, *SETS, *ABSENT, "timer"):
-                sys.exit("%s:%d: no translation %s" % (path, number, words[0]))
-            for place in places:
-                if field in rows[place]:
-                    sys.exit("%s:%d: a second row of %s" % (path, number, field))
-                rows[place][field] = Row(field, ours, words[0], words[1:])
+    rows = defaultdict(dict)
+    for section, (field, ours, *rest) in table(path):
+        where, *kinds = section.split()
+        words = [" ".join(rest)] if ours == "-" else " ".join(rest).split() or ["same"]
+        if ours != "-" and words[0] not in (*HOW, *SETS, *ABSENT, "timer"):
+            sys.exit("%s: %s: no translation %s" % (path, field, words[0]))
+        for place in [(where, kind) for kind in kinds or [None]]:
+            if field in rows[place]:
+                sys.exit("%s: a second row of %s" % (path, field))
+            rows[place][field] = Row(field, ours, words[0], words[1:])
     return rows
 
 
@@ -226,13 +217,6 @@ SETS = {
 }
 
 
-def member_of_set(how, theirs):
-    """A member as the sets have it. Whether a master is down ip looks up."""
-    if how == "flags":
-        return theirs.lower().replace("_", "-")
-    return theirs
-
-
 # ** our side
 
 
@@ -283,27 +267,20 @@ def leaves(it, path="", at=(), sizes=(), parents=()):
 
 
 class Report:
-    """What is right, what is wrong, and what is not covered and why, by kind of field."""
+    """How often what is right, wrong, or not covered and why, by source and kind of field; and what is wrong."""
 
     def __init__(self, strict):
-        self.strict = strict
-        self.values, self.kinds, self.covered = Counter(), defaultdict(set), defaultdict(set)
-        self.wrong, self.left = defaultdict(list), defaultdict(Counter)
+        self.strict, self.found, self.wrong = strict, Counter(), defaultdict(list)
 
     def right(self, source, kind):
-        self.values[source, "right"] += 1
-        self.kinds[source].add(kind)
-        self.covered[source].add(kind)
+        self.found[source, "right", kind, None] += 1
 
     def is_wrong(self, source, kind, who, theirs, *ours):
-        self.values[source, "wrong"] += 1
-        self.kinds[source].add(kind)
+        self.found[source, "wrong", kind, None] += 1
         self.wrong["%s %s" % (source, kind)].append((who, theirs) + ours)
 
     def not_covered(self, source, kind, why):
-        self.values[source, "left"] += 1
-        self.kinds[source].add(kind)
-        self.left[source, why][kind] += 1
+        self.found[source, "left", kind, why] += 1
 
     def no_row(self, source, kind, who, theirs):
         if self.strict:
@@ -329,17 +306,12 @@ def timer_agrees(theirs, first, last):
 def agrees(row, theirs, first, last, world):
     """Whether theirs lies between the two of ours. What is not of the form that is translated is not."""
     try:
-        return translated_agrees(row, theirs, first, last, world)
+        if row.how == "timer":
+            return timer_agrees(theirs, first, last)
+        translated, before = HOW[row.how](theirs, first, world, row.args)
+        return between(translated, before, HOW[row.how](theirs, last, world, row.args)[1])
     except (AttributeError, KeyError, TypeError, ValueError):
         return False
-
-
-def translated_agrees(row, theirs, first, last, world):
-    if row.how == "timer":
-        return timer_agrees(theirs, first, last)
-    translate = HOW[row.how]
-    translated, before = translate(theirs, first, world, row.args)
-    return between(translated, before, translate(theirs, last, world, row.args)[1])
 
 
 def whole(it):
@@ -354,7 +326,6 @@ class Links:
         self.first, self.last = ({it["ifi-index"]: whole(it) for it in dump if "ifi-index" in it}
                                  for dump in (first, last))
         self.names = {n: it.get("ifname") for n, it in self.first.items()}
-        self.decodes = any(isinstance(it.get("linkinfo", {}).get("data"), dict) for it in first)
 
 
 def place_of(path, link):
@@ -387,10 +358,8 @@ def compare_link(rows, link, links, who, report):
             report.not_covered("ip", kind, row.how)
         elif "fault" in first and find(first, prefix + row.ours, at) is MISSING:
             report.not_covered("ip", kind, "the message is refused: %s at %s" % (first["fault"], first.get("at")))
-        elif (prefix + row.ours).startswith(UNDECODED) and not links.decodes:
-            report.not_covered("ip", kind, "the program shows link data undecoded")
         else:
-            world = World(link, first, links.names, links, parents)
+            world = World(link, first, links.names, parents)
             compare_value(row._replace(ours=prefix + row.ours), kind, (at, sizes, theirs), (first, last), world, who,
                           report)
     if "fault" not in first and report.strict:
@@ -405,7 +374,8 @@ def compare_value(row, kind, leaf, ours, world, who, report):
     first, last = (find(it, row.ours, at) for it in ours)
     if row.how in SETS:
         sets = [SETS[row.how](it, row.args) for it in (first, last) if it is not MISSING]
-        there = [] if theirs == [] else world_list(theirs, row, world, at, sizes)
+        name = row.field.removesuffix("[]").rpartition(".")[2]
+        there = [] if theirs == [] else world.path[-1][name] if sizes else [theirs]
         good = any(same_set(row.how, there, it) for it in sets)
         return report.right("ip", kind) if good else report.is_wrong("ip", kind, who, there, *sets)
     if first is MISSING and row.how not in ABSENT:
@@ -417,15 +387,9 @@ def compare_value(row, kind, leaf, ours, world, who, report):
     return report.is_wrong("ip", kind, who, theirs, first, last)
 
 
-def world_list(theirs, row, world, at, sizes):
-    """The whole list of ip in which a value stands."""
-    name = row.field.removesuffix("[]").rpartition(".")[2]
-    return world.path[-1][name] if sizes else [theirs]
-
-
 def same_set(how, theirs, ours):
-    theirs = {member_of_set(how, it) for it in theirs} - ({"M-DOWN"} if how == "link-flags" else set())
-    return theirs == ours
+    """Whether ip's list has the members of ours. Whether a master is down ip looks up."""
+    return {it.lower().replace("_", "-") if how == "flags" else it for it in theirs} - {"M-DOWN"} == ours
 
 
 def unsaid(rows, place, seen, first, who, report):
@@ -465,7 +429,7 @@ def proc(path):
     return found
 
 
-def compare_files(rows, source, files, links, who, left_out, report):
+def compare_files(rows, source, files, links, who, report):
     """What sysfs or /proc said before the first dump and after the second; ours lies between."""
     before, after = files
     named = {it.get("ifname"): n for n, it in links.first.items() if "fault" not in it}
@@ -483,22 +447,14 @@ def compare_files(rows, source, files, links, who, left_out, report):
             continue
         parent, ours = find(first, row.ours.rpartition(".")[0]) if "." in row.ours else first, find(first, row.ours)
         if parent is MISSING or ours is MISSING and row.how not in ABSENT:
-            absent(source, field, theirs, parent, report)
-        elif isinstance(parent, list) or row.ours.startswith(left_out):
+            if parent is not MISSING and theirs not in ("0", ""):
+                report.not_covered(source, field, "the kernel leaves it out of the message")
+        elif isinstance(parent, list):
             report.not_covered(source, field, "the names of these counters are not known of this kernel")
         else:
-            world = World({}, first, links.names, links)
+            world = World({}, first, links.names)
             compare_around(row, (theirs, after.get((name, field), theirs)), (ours, find(last, row.ours)), world,
                            (source, field, whose), report)
-
-
-def absent(source, field, theirs, parent, report):
-    """Messages of links without these settings, or without what is 0 or empty."""
-    if parent is MISSING:
-        return
-    if theirs in ("0", ""):
-        return
-    report.not_covered(source, field, "the kernel leaves it out of the message")
 
 
 def compare_around(row, theirs, ours, world, where, report):
@@ -515,26 +471,8 @@ def compare_around(row, theirs, ours, world, where, report):
 # ** the program
 
 
-class Program:
-    """linkshow, and whether it can be told whose messages they are."""
-
-    def __init__(self, path):
-        self.path = path
-        said = subprocess.run([path, "--help"], stdin=subprocess.DEVNULL, capture_output=True, check=False).stdout
-        self.told = b"--kernel" in said
-
-    def shown(self, lines, release):
-        options = ["--kernel", release] if self.told else []
-        run = subprocess.run([self.path] + options, input=("\n".join(lines) + "\n").encode(), capture_output=True,
-                             check=False)
-        if run.returncode:
-            sys.exit("kernel_truth: %s: %s" % (self.path, run.stderr.decode().strip()))
-        return [json.loads(it) for it in run.stdout.decode().split("\n")[:-1]]
-
-    def left_out(self, release):
-        """Where the counters of this kernel stand under the names of another."""
-        numbers = tuple(int(it) for it in re.findall(r"\d+", release)[:2])
-        return ("af-spec.inet6.stats",) if not self.told and numbers >= (6, 13) else ("none",)
+def shown(program, lines, release):
+    return [json.loads(it) for it in answers(program, lines, "--kernel", release)]
 
 
 def hexadecimal(path):
@@ -545,19 +483,16 @@ def hexadecimal(path):
 def compare_label(rows, program, release, out, name, report):
     """One moment of one kernel."""
     it = os.path.join(out, "%s-" + name + "%s")
-    dumps = [program.shown(hexadecimal(it % ("truth", end)), release) for end in (".hex", ".hex2")]
-    links = Links(*dumps)
+    links = Links(*(shown(program, hexadecimal(it % ("truth", end)), release) for end in (".hex", ".hex2")))
     with open(it % ("truth", ".json"), encoding="utf-8", errors="surrogateescape") as file:
         said = json.loads(file.read(), strict=False)
     for link in said:
-        report.values["links", "all"] += 1
         compare_link(rows, link, links, "%s %s %s" % (release, name, link["ifname"]), report)
     compare_stored(rows, release, name, said, links, report)
     for source, reader in (("sysfs", sysfs), ("proc", proc)):
         files = [it % (source, end) for end in ("-a.txt", "-b.txt")]
         if all(map(os.path.exists, files)):
-            compare_files(rows, source, [reader(path) for path in files], links, release + " " + name,
-                          program.left_out(release), report)
+            compare_files(rows, source, [reader(path) for path in files], links, release + " " + name, report)
 
 
 # ** stored answers
@@ -568,14 +503,8 @@ MOVES = re.compile(r"ip (stats64\.|xstats<|.*(_timer|fdb_n_learned|failure_count
 
 def stored():
     """The answers of linkshow in tests/kernels, with the kernel and the step of each that is of a dump."""
-    folder = os.path.join(TOP, "tests", "kernels")
-    if not os.path.exists(os.path.join(folder, "linkshow.txt")):
-        return
-    with open(os.path.join(folder, "messages.txt"), encoding="utf-8") as file:
-        lines = file.read().splitlines()
-    with open(os.path.join(folder, "linkshow.txt"), encoding="utf-8") as file:
-        answers = file.read().split("\n")[:-1]
-    for head, answer in zip(lines[::2], answers):
+    heads, shown_ = read("tests/kernels/messages.txt").splitlines()[::2], read("tests/kernels/linkshow.txt")
+    for head, answer in zip(heads, shown_.split("\n")):
         found = re.match(r"# ([^:]+): dump (\w+) family=0 ", head)
         if found:
             yield found.group(1), found.group(2), json.loads(answer)
@@ -588,12 +517,10 @@ def compare_stored(rows, release, step, said, links, report):
         if (kernel, name) != (release, step) or link is None or "fault" in answer:
             continue
         beside, one = Report(False), Links([answer], [answer])
-        one.names, info = links.names, answer.get("linkinfo", {})
-        one.decodes = "slave-kind" in info or isinstance(info.get("data"), dict)
+        one.names = links.names
         compare_link(rows, link, one, "%s %s %s" % (release, step, link["ifname"]), beside)
-        report.values["stored", "right"] += beside.values["ip", "right"]
-        report.covered["stored"] |= beside.covered["ip"]
-        report.kinds["stored"] |= beside.covered["ip"]
+        report.found.update({("stored", "right", kind, None): n for (_, outcome, kind, _), n in beside.found.items()
+                             if outcome == "right"})
         for where, found in beside.wrong.items():
             for it in found if not MOVES.match(where) else ():
                 if it[2:] and MISSING not in it[2:] and not (str(it[1]).endswith(" members") and it[2] == 0):
@@ -601,81 +528,6 @@ def compare_stored(rows, release, step, said, links, report):
 
 
 # ** the kernel at hand
-
-# links of each kind, and what is done with them; which kinds the kernel at hand does not make is said
-COMMANDS = """
-link set lo up
-link add dummy0 numtxqueues 2 type dummy
-link set dummy0 up mtu 1400 alias "some words" group 7 promisc on
-link property add dev dummy0 altname another-name altname a-third
-link add veth0 type veth peer name veth1
-link set veth0 up
-link set veth1 up
-link add br0 type bridge vlan_filtering 1 mcast_querier 1 stp_state 1 group_fwd_mask 8 vlan_protocol 802.1ad
-link set br0 up
-link set veth1 master br0
-link set veth1 type bridge_slave guard on hairpin on fastleave on flood off isolated on cost 7 priority 3
-link add link veth0 name veth0.5 type vlan id 5 gvrp on loose_binding on ingress-qos-map 1:2 3:4 egress-qos-map 1:2 2:3
-link add link veth0 name veth0.6 type vlan proto 802.1ad id 6 reorder_hdr off mvrp on
-link add link veth0 name mv0 type macvlan mode bridge
-link add link veth0 name mv1 type macvlan mode source
-link set mv1 type macvlan macaddr set 02:00:00:00:00:01 02:00:00:00:00:02
-link add link veth0 name mt0 type macvtap mode bridge
-link add low1 type veth
-link add link low1 name iv0 type ipvlan mode l3s private
-link add low2 type veth
-link add link low2 name it0 type ipvtap mode l3
-link add low3 type veth
-link add link low3 name ms0 type macsec port 11 encrypt on cipher gcm-aes-256 window 12 replay on validate check
-link add bond0 type bond mode 802.3ad lacp_rate fast ad_actor_system 00:00:00:00:00:AA xmit_hash_policy layer3+4
-link add bond1 type bond mode active-backup miimon 100 fail_over_mac active
-link add low4 type veth
-link add low5 type veth
-link set low4 master bond0
-link set low5 master bond1
-link set bond0 up
-link set bond1 up
-link add team0 type team
-link add vrf0 type vrf table 100
-link add low6 type veth
-link set low6 master vrf0
-link add gre1 type gre local 10.1.1.1 remote 10.1.1.2 key 7 ttl 64 tos inherit csum
-link add gretap1 type gretap local 10.1.1.1 remote 10.1.1.2
-link add gretap2 type gretap external
-link add erspan1 type erspan local 10.1.1.1 remote 10.1.1.2 seq key 100 erspan 123
-link add g6 type ip6gre local fd00::1 remote fd00::2 key 5 encaplimit 3 tclass inherit flowlabel 0x12345
-link add g6t type ip6gretap local fd00::1 remote fd00::2
-link add e6 type ip6erspan local fd00::1 remote fd00::2 seq key 102 erspan_ver 1 erspan 9
-link add ipip1 type ipip local 10.1.1.1 remote 10.1.1.2 encap fou encap-sport auto encap-dport 5555
-link add sit1 type sit local 10.1.1.1 isatap
-link add t6 type ip6tnl mode any local fd00::1 remote fd00::2 hoplimit 4
-link add vti1 type vti local 10.1.1.1 remote 10.1.1.2 key 9
-link add v6 type vti6 local fd00::1 remote fd00::2 key 10
-link add xf0 type xfrm dev veth0 if_id 5
-link add vx0 type vxlan id 42 dev veth0 group 239.1.1.1 dstport 4789 ttl 5 ageing 100 maxaddress 5
-link add vx1 type vxlan id 43 remote fd00::2 local fd00::1 dstport 4790 udp6zerocsumrx gbp
-link add vx2 type vxlan external dstport 4791 vnifilter
-link add gnv0 type geneve id 5 remote 10.1.1.2 ttl 7 df unset
-link add gnv1 type geneve id 6 remote fd00::2 dstport 6082
-link add wg0 type wireguard
-link add bu0 type bareudp dstport 6635 ethertype mpls_uc srcportmin 1000
-link add gtp0 type gtp role sgsn
-link add amt0 type amt mode gateway local 10.1.1.1 discovery 10.1.1.2 dev veth0
-link add nk0 type netkit
-link add low7 type veth
-link add low8 type veth
-link add hsr0 type hsr slave1 low7 slave2 low8 supervision 45 version 1
-link add low9 type veth
-link add rm0 link low9 type rmnet mux_id 4
-link add vcan0 type vcan
-link add vxcan0 type vxcan
-link add ifb0 type ifb
-link add nlmon0 type nlmon
-link add bat0 type batadv
-tuntap add name tun0 mode tun
-tuntap add name tap0 mode tap multi_queue vnet_hdr
-""".strip().split("\n")
-
 
 def ran(*words):
     return subprocess.run(words, stdin=subprocess.DEVNULL, capture_output=True, check=False)
@@ -686,15 +538,16 @@ def live(program, linkdump, rows):
     if "--inside" not in sys.argv:
         if not shutil.which("ip") or not shutil.which("unshare") or ran("unshare", "-rn", "true").returncode:
             return print("kernel_truth: skipped: live: no network namespace, or no ip")
-        again = [sys.executable, os.path.abspath(__file__), "--live", "--inside", program.path, linkdump]
+        again = [sys.executable, os.path.abspath(__file__), "--live", "--inside", program, linkdump]
         return subprocess.run(["unshare", "-rn"] + again, check=False).returncode
-    refused = [it for it in COMMANDS if ran("ip", *shlex.split(it)).returncode]
+    commands = [it for it in read("tests/live/links.txt").splitlines() if it[0] != "#"]
+    refused = [it for it in commands if ran("ip", *shlex.split(it)).returncode]
     kinds = sorted({found.group(1) for it in refused for found in [re.search(r" (?:type|mode) (\w+)", it)] if found})
     print("kernel_truth: skipped: live: this kernel or its ip makes none of: %s" % (" ".join(kinds) or "none"))
     release, report, dumps, said = os.uname().release, Report(False), [], None
     for _ in range(2):
         lines = ran(linkdump, "--plain").stdout.decode().split()
-        dumps.append(program.shown(lines, release))
+        dumps.append(shown(program, lines, release))
         if said is None:
             said = json.loads(ran("ip", "-s", "-s", "-j", "-d", "link", "show").stdout.decode(), strict=False)
     links = Links(*dumps)
@@ -705,50 +558,39 @@ def live(program, linkdump, rows):
     found = sorted({it["linkinfo"]["kind"] for it in links.first.values() if "kind" in it.get("linkinfo", {})})
     print("kernel_truth: live: %d links, of the kinds: %s" % (len(said), " ".join(found)))
     show("live", report)
-    return finish([report], False)
+    return finish([report])
 
 
 # ** what is printed
 
 
 def show(release, report):
-    """Counts, and what is not covered by its reason."""
+    """Counts by source."""
     for source in ("ip", "stored", "sysfs", "proc"):
-        right, wrong, left = (report.values[source, it] for it in ("right", "wrong", "left"))
-        if right + wrong + left:
+        found = [(outcome, kind, n) for (where, outcome, kind, _), n in report.found.items() if where == source]
+        right, wrong, left = (sum(n for it, _, n in found if it == outcome) for outcome in ("right", "wrong", "left"))
+        if found:
             print("%s: %s: %d values of %d right (%.2f %%), %d wrong; %d kinds of fields of %d"
                   % (release, source, right, right + wrong + left, 100 * right / (right + wrong + left), wrong,
-                     len(report.covered[source]), len(report.kinds[source])))
+                     len({kind for it, kind, _ in found if it == "right"}), len({kind for _, kind, _ in found})))
 
 
-def show_left(report):
-    for (source, why), fields in sorted(report.left.items()):
-        print("not covered: %s: %s:" % (source, why))
-        print("    %d values of %d kinds: %s" % (sum(fields.values()), len(fields), " ".join(sorted(fields))))
-    for where, found in sorted(report.wrong.items()):
-        print("kernel_truth: wrong: %s, %d times: %s" % (where, len(found), " ".join(map(repr, found[:3]))),
-              file=sys.stderr)
-
-
-def merged(reports, strict):
-    whole = Report(strict)
+def finish(reports):
+    """What is not covered, by its reason, and what is wrong, of all."""
+    whole = Report(True)
     for it in reports:
-        whole.values.update(it.values)
-        for name in ("kinds", "covered"):
-            for source, found in getattr(it, name).items():
-                getattr(whole, name)[source] |= found
+        whole.found.update(it.found)
         for where, found in it.wrong.items():
             whole.wrong[where] += found
-        for where, found in it.left.items():
-            whole.left[where].update(found)
-    return whole
-
-
-def finish(reports, strict):
-    whole = merged(reports, strict)
     if len(reports) > 1:
         show("all kernels", whole)
-    show_left(whole)
+    for source, why in sorted({(source, why) for source, outcome, _, why in whole.found if outcome == "left"}):
+        fields = {it[2]: n for it, n in whole.found.items() if it[0] == source and it[3] == why}
+        print("not covered: %s: %s:" % (source, why))
+        print("    %d values of %d kinds: %s" % (sum(fields.values()), len(fields), " ".join(sorted(fields))))
+    for where, found in sorted(whole.wrong.items()):
+        print("kernel_truth: wrong: %s, %d times: %s" % (where, len(found), " ".join(map(repr, found[:3]))),
+              file=sys.stderr)
     if whole.wrong:
         return 1
     print("kernel_truth: ok")
@@ -756,29 +598,20 @@ def finish(reports, strict):
 
 
 def of_folder(folder, program, rows):
-    """Each kernel of a folder, which is unpacked where it is an archive."""
+    """Each kernel of a folder."""
     reports = []
-    with tempfile.TemporaryDirectory() as unpacked:
-        for archive in glob.glob(os.path.join(folder, "*.tar.xz")):
-            release = os.path.basename(archive)[:-len(".tar.xz")]
-            os.makedirs(os.path.join(unpacked, release))
-            subprocess.run(["tar", "-xJf", archive, "-C", os.path.join(unpacked, release)], check=True)
-        kernels = glob.glob(os.path.join(folder, "*", "out")) + glob.glob(os.path.join(unpacked, "*", "out"))
-        for out in sorted(kernels, key=lambda it: [int(n) for n in re.findall(r"\d+", it.split(os.sep)[-2])]):
-            release, report = out.split(os.sep)[-2], Report(True)
-            for path in sorted(glob.glob(os.path.join(out, "truth-*.json"))):
-                compare_label(rows, program, release, out, os.path.basename(path)[len("truth-"):-len(".json")], report)
-            show(release, report)
-            reports.append(report)
-    if not reports:
-        sys.exit("kernel_truth: no kernel in %s" % folder)
-    return finish(reports, True)
+    for release, out in kernels(folder):
+        report = Report(True)
+        for path in sorted(glob.glob(f"{out}/truth-*.json")):
+            compare_label(rows, program, release, out, os.path.basename(path)[len("truth-"):-len(".json")], report)
+        show(release, report)
+        reports.append(report)
+    return finish(reports)
 
 
 def main():
     arguments = [it for it in sys.argv[1:] if not it.startswith("--")]
-    program = Program(arguments[0] if arguments else os.path.join(TOP, "out", "linkshow"))
-    rows = read_table(TABLE)
+    program, rows = arguments[0] if arguments else f"{TOP}/out/linkshow", read_table("scripts/kernel_fields.txt")
     if "--live" in sys.argv:
         return live(program, arguments[1] if len(arguments) > 1 else os.path.join(TOP, "out", "linkdump"), rows)
     if not os.environ.get("KERNELS"):

@@ -2,16 +2,14 @@
 # Tries the laws of the library for C on messages that a seed makes:
 # laws.sh LIBRARY [MESSAGES [SEED] | --seconds N [SEED]]. The test's own code is built with sanitizers, where a program
 # with them can be built and runs.
-set -euo pipefail
-top=$(cd "$(dirname "$0")/.." && pwd)
+. "$(dirname "$0")/common.sh"
 library=$1
 shift
-mkdir -p "$top/out"
-program=$top/out/laws
+program=$folder/laws
 sanitizers=("-fsanitize=address,undefined" -fno-sanitize-recover=all)
-if ! ${CC:-cc} "${sanitizers[@]}" -o "$program" -x c - <<<'int main(void) { return 0; }' >"$top/out/laws.log" 2>&1 ||
-    ! "$program" >>"$top/out/laws.log" 2>&1; then
-    echo "laws: without sanitizers, which are not to be had: $(head -n 1 "$top/out/laws.log")"
+if ! ${CC:-cc} "${sanitizers[@]}" -o "$program" -x c - <<<'int main(void) { return 0; }' >"$folder/log" 2>&1 ||
+    ! "$program" >>"$folder/log" 2>&1; then
+    echo "laws: without sanitizers, which are not to be had: $(head -n 1 "$folder/log")"
     sanitizers=()
 fi
 ${CC:-cc} -std=gnu11 -O1 -g -Wall -Wextra -Wpedantic -Wshadow -Werror -I"$top/include" "${sanitizers[@]}" \

@@ -3,17 +3,10 @@
 # the running kernel and on captures, as it is built and with sanitizers; and holds its lines to what is there while
 # links come and go: linkdump_tests.sh [RUNS], of which 15 take some 20 seconds. What cannot be had is 'skipped'. The
 # last line is 'linkdump passed'.
-set -euo pipefail
-top=$(cd "$(dirname "$0")/.." && pwd)
-folder=$(mktemp -d)
-trap 'rm -rf "$folder"' EXIT
+self=linkdump
+. "$(dirname "$0")/common.sh"
 flags=(-std=gnu11 -D_GNU_SOURCE -Wall -Wextra -Wpedantic -Wconversion -Wshadow -Werror -I"$top/include")
 read -ra pcap <<< "-DLINKDUMP_PCAP $(pkg-config --cflags --libs libpcap 2>/dev/null || echo -lpcap)"
-
-fails() {
-    echo "linkdump: $*" >&2
-    exit 1
-}
 
 # builds FILE FLAGS..
 builds() {
@@ -62,12 +55,8 @@ if ! command -v python3 >/dev/null; then
     exit 0
 fi
 python3 "$top/tests/linkdump/hosts.py"
-linkdiff=$top/out/linkdiff
-[ -x "$linkdiff" ] || linkdiff=$top/crates/linkdiff/out/linkdiff
-if [ ! -x "$linkdiff" ]; then
-    echo 'linkdump: skipped: what linkdiff tells of links that come and go: it is not built'
-    linkdiff=''
-fi
+linkdiff=$(program linkdiff)
+[ -n "$linkdiff" ] || echo 'linkdump: skipped: what linkdiff tells of links that come and go: it is not built'
 if command -v ip >/dev/null && "$folder/linkdump" >/dev/null 2>&1; then
     python3 "$top/tests/linkdump/churn.py" ${linkdiff:+--linkdiff "$linkdiff"} "$folder/linkdump" "${1:-15}"
 else

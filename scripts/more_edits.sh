@@ -4,8 +4,8 @@
 # have them:
 #     scripts/more_edits.sh [CRATE ..] [--headline WORDS]
 # Libraries that stand in the out/ of the crates are not proved again.
-set -euo pipefail
-cd "$(dirname "$0")/.."
+. "$(dirname "$0")/common.sh"
+cd "$top"
 crates=()
 words=
 while [ $# != 0 ]; do
@@ -26,36 +26,11 @@ if [ ${#crates[@]} = 0 ]; then
     done
 fi
 
-# The libraries of the repository that a crate stands on, some of them more than once.
-below() {
-    local name names
-    read -ra names <<<"$(sed -nE "s/^$1( [^:]*)?://p" crates.txt)"
-    for name in "${names[@]}"; do
-        if [ -d "crates/$name" ]; then
-            echo "$name"
-            below "$name"
-        fi
-    done
-}
-
-folder=$(mktemp -d)
-trap 'rm -rf "$folder"' EXIT
-cp HANDLES crates.txt "$folder"
-mkdir "$folder/crates"
-for crate in crates/*; do
-    mkdir "$folder/$crate"
-    for part in src specs proofs must-fail; do
-        if [ -d "$crate/$part" ]; then
-            cp -r "$crate/$part" "$folder/$crate/"
-        fi
-    done
-done
+shopt -s nullglob
+cp -r --parents HANDLES crates.txt crates/*/{src,specs,proofs,must-fail} "$folder"
 tried=()
 for crate in "${crates[@]}"; do
-    if [ ! -f "edits/$crate.txt" ]; then
-        echo "there is no list edits/$crate.txt" >&2
-        exit 1
-    fi
+    [ -f "edits/$crate.txt" ] || fails "there is no list edits/$crate.txt"
     edits="$folder/crates/$crate/must-fail"
     python3 scripts/edits.py "edits/$crate.txt" "$edits" "$words"
     count=$(find "$edits" -name '*.edit' | wc -l)
@@ -64,11 +39,8 @@ for crate in "${crates[@]}"; do
         tried+=("$crate")
     fi
 done
-if [ ${#tried[@]} = 0 ]; then
-    echo "no headline has these words: $words" >&2
-    exit 1
-fi
-for crate in $(for name in "${tried[@]}"; do below "$name"; done | sort -u); do
+[ ${#tried[@]} != 0 ] || fails "no headline has these words: $words"
+for crate in $(for name in "${tried[@]}"; do crates_below "$name" | sed '$d'; done | sort -u); do
     if [ -d "crates/$crate/out" ]; then
         cp -r "crates/$crate/out" "$folder/crates/$crate/"
     fi

@@ -3,14 +3,9 @@
 # own, kills all that runs on one of them while a job there is in the middle of its answers, and compares what comes,
 # byte for byte, with what one process answers: parallel_hosts.sh [FOLDER], where the programs are. It fails where the
 # bytes differ or parallel fails; what cannot be had here, or not in time, is 'skipped'.
-set -euo pipefail
+self='parallel hosts'
+. "$(dirname "$0")/common.sh"
 shopt -s inherit_errexit
-top=$(cd "$(dirname "$0")/.." && pwd)
-
-skips() {
-    echo "parallel hosts: skipped: $*"
-    exit 0
-}
 
 fails() {
     echo "parallel hosts: $*" >&2
@@ -51,27 +46,20 @@ host() {
 
 # serves NUMBER: starts the host's sshd, which listens a moment after it went into the background
 serves() {
-    local try
     ip netns exec "host$1" "$sshd" -f "$folder/config.$1" -E "$folder/sshd.$1"
-    for ((try = 0; try < 50; try++)); do
-        if ssh -F "$folder/ssh_config" "host$1" true 2>"$folder/err"; then return; fi
-        sleep 0.2
-    done
-    skips "no ssh to a host: $(cat "$folder/err")"
+    waits 10 listens "$1" || skips "no ssh to a host: $(cat "$folder/err")"
+}
+
+# shellcheck disable=SC2317 # waits calls it
+listens() {
+    ssh -F "$folder/ssh_config" "host$1" true 2>"$folder/err"
 }
 
 # Waits until the third host has ended a job and is in the middle of another, and kills all that runs there.
 dies() {
-    local try
-    for ((try = 0; try < 1200; try++)); do
-        if [ -e "$folder/halfway" ]; then
-            sleep 1
-            ip netns pids host3 | xargs kill -9 2>/dev/null || true
-            return
-        fi
-        sleep 0.1
-    done
-    return 1
+    waits 120 test -e "$folder/halfway" || return 1
+    sleep 1
+    ip netns pids host3 | xargs kill -9 2>/dev/null || true
 }
 
 # spread PROGRAM: over the hosts. On the third the first job ends, and those after it stop halfway; the other hosts
@@ -115,11 +103,11 @@ END
     wait "$killer" || skips 'the third host had no job in the middle of its answers'
 }
 
-if [ "${1:-}" = --inside ]; then
-    folder=$2 sshd=$3
+if [ -n "$inside" ]; then
+    sshd=$1
     mount -t tmpfs tmpfs /run 2>/dev/null || skips 'no right to mount'
     mkdir /run/sshd /run/netns
-    trap 'for it in 1 2 3; do ip netns pids "host$it" 2>/dev/null; done | xargs -r kill -9 2>/dev/null || true' EXIT
+    trap 'seq 3 | xargs -I{} ip netns pids host{} 2>/dev/null | xargs -r kill -9 2>/dev/null || true' EXIT
     ssh-keygen -q -t ed25519 -N '' -f "$folder/user"
     printf '%s\n' 'BatchMode yes' "IdentityFile $folder/user" 'IdentitiesOnly yes' \
         "UserKnownHostsFile $folder/known" 'LogLevel ERROR' >"$folder/ssh_config"
@@ -129,7 +117,7 @@ if [ "${1:-}" = --inside ]; then
     serves 1
     serves 2
     lines >"$folder/lines"
-    for program in "${@:4}"; do
+    for program in "${@:2}"; do
         serves 3
         spread "$program"
         "$program" <"$folder/lines" >"$folder/one"
@@ -140,19 +128,14 @@ if [ "${1:-}" = --inside ]; then
     done
     exit 0
 fi
-for it in parallel ip unshare ssh ssh-keygen timeout; do
-    command -v "$it" >/dev/null || skips "no $it"
-done
+needs parallel ip unshare ssh ssh-keygen timeout
 parallel --version 2>/dev/null | grep -q '^GNU parallel' || skips 'parallel is not GNU parallel'
 sshd=$(PATH=$PATH:/usr/sbin:/usr/local/sbin command -v sshd) || skips 'no sshd'
 programs=()
 for name in linkwire linkshow linkstate; do
-    it=${1:-$top/crates/$name/out}/$name
-    [ -n "${1:-}" ] || [ -x "$it" ] || it=$top/out/$name
-    [ ! -x "$it" ] || programs+=("$(realpath "$it")")
+    it=$(program "$name" "$@")
+    [ -z "$it" ] || programs+=("$it")
 done
 [ "${#programs[@]}" != 0 ] || skips 'no program is built'
 unshare -mn true 2>/dev/null || skips 'no right to make a namespace'
-folder=$(mktemp -d)
-trap 'rm -rf "$folder"' EXIT
-unshare -mn "$0" --inside "$folder" "$sshd" "${programs[@]}"
+goes_inside "$sshd" "${programs[@]}"

@@ -2,15 +2,10 @@
 # Spreads generated lines over all cores by GNU parallel, and compares what comes with what one process answers, for
 # each program that is built: parallel_test.sh [MEGABYTES], or 9 MB a core, which is a block for each and more. Where
 # parallel is not installed it says 'skipped'. The times are printed, not judged.
-set -euo pipefail
+self=parallel
+. "$(dirname "$0")/common.sh"
 shopt -s inherit_errexit
-top=$(cd "$(dirname "$0")/.." && pwd)
-if ! parallel --version 2>/dev/null | grep -q '^GNU parallel'; then
-    echo 'parallel: skipped: GNU parallel is not installed'
-    exit 0
-fi
-folder=$(mktemp -d)
-trap 'rm -rf "$folder"' EXIT
+parallel --version 2>/dev/null | grep -q '^GNU parallel' || skips 'GNU parallel is not installed'
 cores=$(nproc)
 megabytes=${1:-$((9 * cores))}
 python3 "$top/bench/make_lines.py" "$folder/lines" "$megabytes"
@@ -31,9 +26,8 @@ of_file() {
 }
 compared=0
 for name in linkwire linkshow linkstate; do
-    program=$top/crates/$name/out/$name
-    [ -x "$program" ] || program=$top/out/$name
-    if [ ! -x "$program" ]; then
+    program=$(program "$name")
+    if [ -z "$program" ]; then
         echo "parallel: $name is not built"
         continue
     fi

@@ -2,8 +2,8 @@
 # Lists wrong bodies that a crate's contracts let through, by `rt plant`, and adds what it printed to edits/plants.md
 # with the commit: plant.sh [--minutes N] [CRATE..]. Without names it takes every crate with contracts. Bodies that the
 # time did not reach are counted there as not run.
-set -euo pipefail
-cd "$(dirname "$0")/.."
+. "$(dirname "$0")/common.sh"
+cd "$top"
 minutes=10
 if [ "${1:-}" = --minutes ]; then
     minutes=$2
@@ -13,8 +13,6 @@ crates=("$@")
 [ "${#crates[@]}" != 0 ] || crates=(nla_wire link_vals link_recs link_vfrec link_nest link_vf link_afspec link_msg
     link_state link_info link_c line_filter message_lines shown message_shown message_diff expected linkwire linkstate
     linkshow linkdiff)
-folder=$(mktemp -d)
-trap 'rm -rf "$folder"' EXIT
 for crate in "${crates[@]}"; do
     (cd "crates/$crate" && rt plant --minutes "$minutes") >"$folder/log" 2>&1 || true
     {

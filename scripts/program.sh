@@ -1,20 +1,21 @@
 #!/usr/bin/env bash
 # Runs a built program where a read, a write or an allocation fails, and looks at its status and its line:
 # program.sh [linkwire|linkshow|linkstate|linkdiff]
-set -euo pipefail
-top=$(cd "$(dirname "$0")/.." && pwd)
-name=${1:-linkwire}
-program=$top/crates/$name/out/$name
-[ -x "$program" ] || program=$top/out/$name
-case $name in
-linkwire | linkstate) nothex=nothex refused=refused chosen=1 ;;
-linkdiff)
+self=${1:-linkwire}
+. "$(dirname "$0")/common.sh"
+name=$self
+program=$(program "$name")
+[ -n "$program" ] || fails 'it is not built'
+nothex=nothex refused=refused chosen=1 answers=''
+case $name in linkshow | linkdiff)
     nothex='{"fault":"not-hex"}'
     refused='{"fault":"too-short","at":"header","got":0,"need":16,"offset":0}'
     ;;
+esac
+case $name in
+linkstate) answers='3~3p' ;;
 linkshow)
-    nothex='{"fault":"not-hex"}'
-    refused='{"fault":"too-short","at":"header","got":0,"need":16,"offset":0}'
+    answers='2~3p'
     # every ninth line, and the first few that show a hardware address, a wireless event, counters of eight bytes, a
     # name that comes again, and what stands before a fault
     chosen='NR % 9 == 0 || few("address", /"(address|broadcast)":"..:/) || few("wireless", /"wireless":/) ||
@@ -22,103 +23,98 @@ linkshow)
         few("repeated", /"repeated":/) || few("before", /"before":[{]"/)'
     ;;
 esac
-folder=$(mktemp -d)
-trap 'rm -rf "$folder"' EXIT
 
-# wants NAME STATUS OUTPUT ERRORS: what the last run of NAME must have left
+# wants NAME STATUS OUTPUT ERRORS: what the last run has to have left, where '*' is whatever that is
 wants() {
-    if [ "$status" != "$2" ] || [ "$(cat "$folder/out")" != "$3" ] || [ "$(cat "$folder/err")" != "$4" ]; then
-        echo "$name: $1: status $status" >&2
+    if [ "$status" != "$2" ] || { [ "$3" != '*' ] && [ "$(cat "$folder/out")" != "$3" ]; } ||
+        [ "$(cat "$folder/err")" != "$4" ]; then
         head -c 300 "$folder/out" "$folder/err" >&2
-        exit 1
+        fails "$1: status $status"
     fi
     echo "$name: $1: ok"
 }
 
-: >"$folder/out"
-status=0; "$program" <"$folder" >"$folder/out" 2>"$folder/err" || status=$?
-wants "a read that fails" 1 "" "$name: read failed"
+# gives NAME STATUS OUTPUT ERRORS WORD..: what a run with these words has to leave
+gives() {
+    status=0
+    "$program" "${@:5}" >"$folder/out" 2>"$folder/err" || status=$?
+    wants "${@:1:4}"
+}
 
+# refuses NAME WORD..: a run with these words ends with status 2, no output and one line
+refuses() {
+    status=0
+    "$program" "${@:2}" </dev/null >"$folder/out" 2>"$folder/err" || status=$?
+    [ "$(wc -l <"$folder/err")" = 1 ] || fails "$1: not told in one line"
+    wants "$1" 2 '' "$(cat "$folder/err")"
+}
+
+# refuses_words WORDS..: each by itself, split at its blanks
+refuses_words() {
+    local words list
+    for words in "$@"; do
+        read -r -a list <<<"$words"
+        refuses "the arguments '$words'" "${list[@]}"
+    done
+}
+
+gives 'a read that fails' 1 '' "$name: read failed" <"$folder"
 if [ "$name" = linkwire ]; then
-    status=0; echo 0 | "$program" --help - '' >"$folder/out" 2>"$folder/err" || status=$?
-    wants "arguments, which are ignored" 0 "$nothex" ""
+    gives 'arguments, which are ignored' 0 "$nothex" '' --help - '' <<<0
     grep -v '^#' "$top/tests/captures.txt" >"$folder/captures"
-    status=0; sed -n '1~2p' "$folder/captures" | "$program" >"$folder/out" 2>"$folder/err" || status=$?
-    wants "captures of kernels" 0 "$(sed -n '2~2p' "$folder/captures")" ""
-    status=0; echo 'host=a 00000000000000000000000000000000' | "$program" >"$folder/out" 2>"$folder/err" || status=$?
-    wants "words in front of a line, which are no digits" 0 "$nothex" ""
+    gives 'captures of kernels' 0 "$(sed -n '2~2p' "$folder/captures")" '' < <(sed -n '1~2p' "$folder/captures")
+    gives 'words in front of a line, which are no digits' 0 "$nothex" '' <<<'host=a 00000000000000000000000000000000'
 fi
 
+# write_fails NAME COMMAND..: with descriptor 6 as its output, which cannot be written to
 : >"$folder/out"
-status=0; echo 0 | "$program" >/dev/full 2>"$folder/err" || status=$?
-wants "a write that fails" 1 "" "$name: write failed"
-
-status=0; echo 0 | "$program" >&- 2>"$folder/err" || status=$?
-wants "a closed output" 1 "" "$name: write failed"
-
+write_fails() {
+    status=0
+    echo 0 | "${@:2}" >&6 2>"$folder/err" || status=$?
+    wants "$1" 1 '' "$name: write failed"
+}
+write_fails 'a write that fails' "$program" 6>/dev/full
+status=0
+echo 0 | "$program" >&- 2>"$folder/err" || status=$?
+wants 'a closed output' 1 '' "$name: write failed"
 # a pipe that has no reader
 mkfifo "$folder/pipe"
 exec 5<>"$folder/pipe"
 exec 6>"$folder/pipe" 5<&-
 for signal in default ignore; do
-    status=0; echo 0 | env "--$signal-signal=PIPE" "$program" >&6 2>"$folder/err" || status=$?
-    wants "a closed pipe, SIGPIPE $signal" 1 "" "$name: write failed"
+    write_fails "a closed pipe, SIGPIPE $signal" env "--$signal-signal=PIPE" "$program"
 done
 exec 6>&-
 
 status=0
 (yes 0 | "$program" 2>"$folder/err" | head -n 1 >"$folder/out"; exit "${PIPESTATUS[1]}") || status=$?
-wants "a pipe that is closed after one line" 1 "$nothex" "$name: write failed"
+wants 'a pipe that is closed after one line' 1 "$nothex" "$name: write failed"
 
 status=0
 (ulimit -v 40000; { echo 0; head -c 60000000 /dev/zero | tr '\0' 0; } | "$program" >"$folder/out" 2>"$folder/err") ||
     status=$?
-wants "an allocation that fails" 1 "$nothex" "$name: out of memory"
-
-status=0; printf '0\n\n0' | "$program" >"$folder/out" 2>"$folder/err" || status=$?
-wants "a whole run" 0 "$(printf '%s\n' "$nothex" "$refused" "$nothex")" ""
-
+wants 'an allocation that fails' 1 "$nothex" "$name: out of memory"
+gives 'a whole run' 0 "$(printf '%s\n' "$nothex" "$refused" "$nothex")" '' < <(printf '0\n\n0')
 for word in --help --version; do
-    status=0; "$program" "$word" </dev/null >"$folder/out" 2>"$folder/err" || status=$?
-    [ -s "$folder/out" ] || { echo "$name: $word says nothing" >&2; exit 1; }
-    wants "$word" 0 "$(cat "$folder/out")" ""
+    gives "$word" 0 '*' '' "$word" </dev/null
+    [ -s "$folder/out" ] || fails "$word says nothing"
 done
-help=$("$program" --help)
-status=0; "$program" -h </dev/null >"$folder/out" 2>"$folder/err" || status=$?
-wants -h 0 "$help" ""
+gives -h 0 "$("$program" --help)" '' -h </dev/null
 
 if [ "$name" != linkwire ]; then
     for word in --helpful -x ''; do
-        status=0; "$program" "$word" </dev/null >"$folder/out" 2>"$folder/err" || status=$?
-        [ "$(wc -l <"$folder/err")" = 1 ] || { echo "$name: '$word' is not told in one line" >&2; exit 1; }
-        wants "the argument '$word'" 2 "" "$(cat "$folder/err")"
+        refuses "the argument '$word'" "$word"
     done
-    for words in '--help x' '--version --help'; do
-        status=0; "$program" "${words% *}" "${words#* }" </dev/null >"$folder/out" 2>"$folder/err" || status=$?
-        [ "$(wc -l <"$folder/err")" = 1 ] || { echo "$name: '$words' is not told in one line" >&2; exit 1; }
-        wants "the arguments '$words'" 2 "" "$(cat "$folder/err")"
-    done
-    status=0; "$program" $'\xff' </dev/null >"$folder/out" 2>"$folder/err" || status=$?
-    wants "an argument that is no UTF-8" 2 "" "$name: an argument is no UTF-8; see $name --help"
+    refuses_words '--help x' '--version --help'
+    gives 'an argument that is no UTF-8' 2 '' "$name: an argument is no UTF-8; see $name --help" $'\xff' </dev/null
 fi
 
-case $name in
-linkshow) answers='2~3p' ;;
-linkstate) answers='3~3p' ;;
-*) answers= ;;
-esac
 if [ -n "$answers" ]; then
     grep -v '^#' "$top/tests/program/lenient.txt" >"$folder/lenient"
-    sed -n '1~3p' "$folder/lenient" >"$folder/lines"
+    sed -n '1~3p' "$folder/lenient" >"$folder/lenient_lines"
     sed -n "$answers" "$folder/lenient" >"$folder/wanted"
-    status=0; "$program" --lenient <"$folder/lines" >"$folder/out" 2>"$folder/err" || status=$?
-    wants "--lenient" 0 "$(cat "$folder/wanted")" ""
-    for words in '--lenient x' '--lenient --help' '--help --lenient'; do
-        read -r -a list <<<"$words"
-        status=0; "$program" "${list[@]}" </dev/null >"$folder/out" 2>"$folder/err" || status=$?
-        [ "$(wc -l <"$folder/err")" = 1 ] || { echo "$name: '$words' is not told in one line" >&2; exit 1; }
-        wants "the arguments '$words'" 2 "" "$(cat "$folder/err")"
-    done
+    gives --lenient 0 "$(cat "$folder/wanted")" '' --lenient <"$folder/lenient_lines"
+    refuses_words '--lenient x' '--lenient --help' '--help --lenient'
 fi
 
 # link FAMILY INDEX ATTRIBUTES: a message of e0, the first two a byte in hexadecimal each
@@ -135,8 +131,7 @@ mtus() {
 holds() {
     status=0; (ulimit -v 16000; exec "$program" <"$folder/lines" >"$folder/out" 2>"$folder/err") || status=$?
     if [ "$status$(cat "$folder/err")" != 0 ] || [ "$(wc -l <"$folder/out")" != "$2" ]; then
-        echo "$name: $1: status $status, $(wc -l <"$folder/out") answers: $(cat "$folder/err")" >&2
-        exit 1
+        fails "$1: status $status, $(wc -l <"$folder/out") answers: $(cat "$folder/err")"
     fi
     echo "$name: $1, in 16 MB: ok"
 }
@@ -156,38 +151,31 @@ fi
 
 if [ "$name" = linkshow ]; then
     for release in x '' 6 $'6\n' $'\xff'; do
-        status=0; "$program" --kernel "$release" </dev/null >"$folder/out" 2>"$folder/err" || status=$?
-        [ "$(wc -l <"$folder/err")" = 1 ] || { echo "$name: a release is not told in one line" >&2; exit 1; }
-        wants "the release ${release@Q}" 2 "" "$(cat "$folder/err")"
+        refuses "the release ${release@Q}" --kernel "$release"
     done
-    status=0; "$program" --kernel </dev/null >"$folder/out" 2>"$folder/err" || status=$?
-    wants "no release" 2 "" "$name: not understood: --kernel; see $name --help"
-    status=0; "$program" --kernel running </dev/null >"$folder/out" 2>"$folder/err" || status=$?
-    wants "the kernel at hand" 0 "" ""
+    gives 'no release' 2 '' "$name: not understood: --kernel; see $name --help" --kernel </dev/null
+    gives 'the kernel at hand' 0 '' '' --kernel running </dev/null
     for words in '--lenient --kernel 6.1' '--kernel 6.1 --lenient'; do
         read -r -a list <<<"$words"
-        status=0; "$program" "${list[@]}" <"$folder/lines" >"$folder/out" 2>"$folder/err" || status=$?
-        wants "$words" 0 "$(cat "$folder/out")" ""
+        gives "$words" 0 '*' '' "${list[@]}" <"$folder/lines"
     done
-    status=0; "$program" --lenient --kernel </dev/null >"$folder/out" 2>"$folder/err" || status=$?
-    wants "no release behind --lenient" 2 "" "$name: not understood: --kernel; see $name --help"
+    gives 'no release behind --lenient' 2 '' "$name: not understood: --kernel; see $name --help" \
+        --lenient --kernel </dev/null
 fi
 
 if [ "$name" = linkdiff ]; then
-    status=0; "$program" "$folder/none" /dev/null >"$folder/out" 2>"$folder/err" || status=$?
-    wants "a file that is not there" 1 "" "$name: cannot open $folder/none"
-    status=0; "$program" /dev/null "$folder" >"$folder/out" 2>"$folder/err" || status=$?
-    wants "a file that cannot be read" 1 "" "$name: read failed"
-    status=0; "$program" /dev/null "$top/crates/$name/stdin" >"$folder/out" 2>"$folder/err" || status=$?
-    [ "$(grep -c '"change":"new"' "$folder/out")" -gt 1 ] || { echo "$name: nothing came" >&2; exit 1; }
-    wants "a file beside an empty one" 0 "$(cat "$folder/out")" ""
-    status=0; "$program" "$top/crates/$name/stdin" /dev/null >"$folder/gone" 2>"$folder/err" || status=$?
-    if [ "$(sed -n 's/"change":"gone"/"change":"new"/p' "$folder/gone")" != "$(grep change "$folder/out")" ]; then
-        echo "$name: what came one way did not go the other" >&2
-        exit 1
+    stored=$top/crates/$name/stdin
+    gives 'a file that is not there' 1 '' "$name: cannot open $folder/none" "$folder/none" /dev/null
+    gives 'a file that cannot be read' 1 '' "$name: read failed" /dev/null "$folder"
+    gives 'a file beside an empty one' 0 '*' '' /dev/null "$stored"
+    [ "$(grep -c '"change":"new"' "$folder/out")" -gt 1 ] || fails 'nothing came'
+    grep change "$folder/out" >"$folder/came"
+    "$program" "$stored" /dev/null | sed -n 's/"change":"gone"/"change":"new"/p' | cmp - "$folder/came" ||
+        fails 'what came one way did not go the other'
+    gives 'a file beside itself' 0 '*' '' "$stored" "$stored"
+    if grep -v '"fault":' "$folder/out" >&2; then
+        fails 'a file beside itself has changes'
     fi
-    status=0; "$program" "$top/crates/$name/stdin" "$top/crates/$name/stdin" >"$folder/out" 2>"$folder/err" || status=$?
-    wants "a file beside itself" 0 "$(grep fault "$folder/out")" ""
 
     # of each file the last line of an interface; first what came and changed, by host, family and index, and then what
     # went; the words are NEW's, or OLD's of what went; where an interface went, it went in all families
@@ -211,8 +199,7 @@ if [ "$name" = linkdiff ]; then
         echo "host=d type=del $(link 00 09 "$old")"
         link 00 01 "$new"
     } >"$folder/new"
-    status=0; "$program" "$folder/old" "$folder/new" >"$folder/out" 2>"$folder/err" || status=$?
-    wants "hosts in two files, and their order" 0 '{"change":"new","ifi-family":0,"ifi-index":1,"ifname":"e0"}
+    gives 'hosts in two files, and their order' 0 '{"change":"new","ifi-family":0,"ifi-index":1,"ifname":"e0"}
 {"host":"a","change":"new","ifi-family":0,"ifi-index":2,"ifname":"e0"}
 {"type":"new","host":"a","change":"changed","ifi-family":0,"ifi-index":3,'"$mtu"'
 {"time":"3","host":"a","change":"changed","ifi-family":7,"ifi-index":2,'"$mtu"'
@@ -221,13 +208,11 @@ if [ "$name" = linkdiff ]; then
 {"time":"1","host":"c","change":"gone","ifi-family":0,"ifi-index":2,"ifname":"e0"}
 {"time":"1","host":"d","change":"gone","ifi-family":0,"ifi-index":9,"ifname":"e0"}
 {"time":"1","host":"d","change":"gone","ifi-family":7,"ifi-index":9,"ifname":"e0"}
-{"time":"1","host":"d","change":"gone","ifi-family":10,"ifi-index":9,"ifname":"e0"}' ""
+{"time":"1","host":"d","change":"gone","ifi-family":10,"ifi-index":9,"ifname":"e0"}' '' "$folder/old" "$folder/new"
 
     # one of the files is standard input; the whole dumps of a file say of which families it tells what is not there
-    status=0; "$program" - "$folder/new" <"$folder/old" >"$folder/one" 2>"$folder/err" || status=$?
-    cmp "$folder/one" "$folder/out"
-    status=0; "$program" "$folder/old" - <"$folder/new" >"$folder/one" 2>"$folder/err" || status=$?
-    cmp "$folder/one" "$folder/out"
+    "$program" - "$folder/new" <"$folder/old" | cmp - "$folder/out"
+    "$program" "$folder/old" - <"$folder/new" | cmp - "$folder/out"
     {
         echo type=begin seq=1 port=1
         link 00 01
@@ -244,54 +229,41 @@ if [ "$name" = linkdiff ]; then
         echo host=b type=begin seq=1 port=1
         echo "host=b $(link 00 02)"
     } >"$folder/new"
-    status=0; "$program" "$folder/old" "$folder/new" >"$folder/out" 2>"$folder/err" || status=$?
-    wants "two files with dumps" 0 '{"fault":"wrong-length","at":"IFLA_MTU","got":2,"want":4,"offset":24,'"\
+    gives 'two files with dumps' 0 '{"fault":"wrong-length","at":"IFLA_MTU","got":2,"want":4,"offset":24,'"\
 "'"ifi-family":0,"ifi-index":2,"before":{"ifname":"e0"}}
 {"change":"new","ifi-family":0,"ifi-index":3,"ifname":"e0"}
 {"change":"gone","ifi-family":0,"ifi-index":1,"ifname":"e0"}' \
         "$name: $folder/old: no whole dump of family 0, host=b: what came is not told
 $name: $folder/new: no whole dump of family 7, host=: what went is not told
-$name: $folder/new: no whole dump of family 0, host=b: what went is not told"
-    status=0; "$program" --changes-only <"$folder/old" >"$folder/out" 2>"$folder/err" || status=$?
-    wants "--changes-only" 0 "" ""
-    status=0; { cat "$folder/old"; link 00 04; link 07 04; } | "$program" --changes-only >"$folder/out" \
-        2>"$folder/err" || status=$?
-    wants "--changes-only, after a whole dump" 0 '{"change":"new","ifi-family":0,"ifi-index":4,"ifname":"e0"}' ""
-    for words in '--changes-only x y' '- -' -; do
-        read -r -a list <<<"$words"
-        status=0; "$program" "${list[@]}" </dev/null >"$folder/out" 2>"$folder/err" || status=$?
-        [ "$(wc -l <"$folder/err")" = 1 ] || { echo "$name: '$words' is not told in one line" >&2; exit 1; }
-        wants "the arguments '$words'" 2 "" "$(cat "$folder/err")"
-    done
+$name: $folder/new: no whole dump of family 0, host=b: what went is not told" "$folder/old" "$folder/new"
+    gives --changes-only 0 '' '' --changes-only <"$folder/old"
+    gives '--changes-only, after a whole dump' 0 '{"change":"new","ifi-family":0,"ifi-index":4,"ifname":"e0"}' '' \
+        --changes-only < <(cat "$folder/old"; link 00 04; link 07 04)
+    refuses_words '--changes-only x y' '- -' -
 
     # the fifth counter of IPv6: its name is that of a word kernel=
     for kernel in 6.1.0:outforwdatagrams 6.16.0:noectpkts; do
         for count in 07 08; do
             echo "kernel=${kernel%:*} $(link 00 02 "34001a0030000a002c000300$(printf '%064d' 0)${count}00000000000000")"
         done >"$folder/lines"
-        status=0; "$program" --counters <"$folder/lines" >"$folder/out" 2>"$folder/err" || status=$?
-        wants "a word $kernel with --counters" 0 '{"change":"new","ifi-family":0,"ifi-index":2,"ifname":"e0"}
+        gives "a word $kernel with --counters" 0 '{"change":"new","ifi-family":0,"ifi-index":2,"ifname":"e0"}
 {"change":"changed","ifi-family":0,"ifi-index":2,"ifname":"e0","changes":'"\
-[{\"path\":\"af-spec.inet6.stats.${kernel#*:}\",\"old\":7,\"new\":8}]}" ""
+[{\"path\":\"af-spec.inet6.stats.${kernel#*:}\",\"old\":7,\"new\":8}]}" '' --counters <"$folder/lines"
     done
-    status=0; "$program" <"$folder/lines" >"$folder/out" 2>"$folder/err" || status=$?
-    wants "counters without it" 0 '{"change":"new","ifi-family":0,"ifi-index":2,"ifname":"e0"}' ""
+    gives 'counters without it' 0 '{"change":"new","ifi-family":0,"ifi-index":2,"ifname":"e0"}' '' <"$folder/lines"
 fi
 
 # each line is answered before the next is given
 coproc RUN { "$program"; }
 for line in 0 00 zz; do
     echo "$line" >&"${RUN[1]}"
-    if ! read -r -t 10 _ <&"${RUN[0]}"; then
-        echo "$name: no answer to $line before the next line" >&2
-        exit 1
-    fi
+    read -r -t 10 _ <&"${RUN[0]}" || fails "no answer to $line before the next line"
 done
 echo "$name: answers before the next line: ok"
 
 # each allocation is refused in turn on the stored input, or on some lines of it, until none is: the fault, and a
 # beginning of the answers
-${CC:-cc} -O2 -Wall -Wextra -Werror -shared -fPIC -o "$folder/refuse.so" "$top/tests/program/refuse_allocation.c"
+preloads program/refuse_allocation
 stored=$folder/stored
 mkdir "$stored"
 if [ "$name" = linkdiff ]; then
@@ -302,28 +274,17 @@ else
     function few(what, is_one) { return is_one && ++count[what] <= 3 }
     '"$chosen"' { print $1 >(stored "/stdin"); print $2 >(stored "/stdout") }'
 fi
-# refuses LINES ANSWERS WORDS..: the arguments are WORDS
-refuses() {
-    local lines=$1 answers=$2
-    shift 2
+# each_refused LINES ANSWERS WORDS..: the arguments are WORDS
+each_refused() {
     for ((call = 1; ; call++)); do
-        rm -f "$folder/refused"
         status=0
-        REFUSED_CALL=$call REFUSED_MARK=$folder/refused LD_PRELOAD=$folder/refuse.so \
-            "$program" "$@" <"$lines" >"$folder/out" 2>"$folder/err" || status=$?
-        if [ ! -e "$folder/refused" ]; then
-            break
-        fi
-        if ! head -c "$(stat -c %s "$folder/out")" "$answers" | cmp -s - "$folder/out"; then
-            echo "$name $*: allocation $call refused: no beginning of the answers" >&2
-            exit 1
-        fi
-        wants "$*: allocation $call refused" 1 "$(cat "$folder/out")" "$name: out of memory" >/dev/null
+        refusing "$call" "$program" "${@:3}" <"$1" >"$folder/out" 2>"$folder/err" || status=$?
+        [ -e "$folder/refused" ] || break
+        head -c "$(stat -c %s "$folder/out")" "$2" | cmp -s - "$folder/out" ||
+            fails "${*:3}: allocation $call refused: no beginning of the answers"
+        wants "${*:3}: allocation $call refused" 1 '*' "$name: out of memory" >/dev/null
     done
-    wants "${*:+$*: }no allocation refused, after $((call - 1))" 0 "$(cat "$answers")" ""
+    wants "${3:+$3: }no allocation refused, after $((call - 1))" 0 "$(cat "$2")" ''
 }
-refuses "$stored/stdin" "$stored/stdout"
-if [ -n "$answers" ]; then
-    sed -n '1~3p' "$folder/lenient" >"$folder/lines"
-    refuses "$folder/lines" "$folder/wanted" --lenient
-fi
+each_refused "$stored/stdin" "$stored/stdout"
+[ -z "$answers" ] || each_refused "$folder/lenient_lines" "$folder/wanted" --lenient

@@ -2,28 +2,12 @@
 # Proves the crates below a crate, lowest first, and then runs a command in its own folder, as `rt run`:
 # progress.sh CRATE LOG COMMAND.. Standard error shows which crate is at work, 'linkwire: 3 of 11 link_recs .. 41 s',
 # and at the end the verdict; what they say goes to the log.
-set -euo pipefail
-top=$(cd "$(dirname "$0")/.." && pwd)
+. "$(dirname "$0")/common.sh"
 crate=$1 log=$(realpath "$2")
 last=("${@:3}")
 : >"$log"
 
-# adds NAME and the repository's crates below it to `order`, each after those that it stands on
-order=()
-add() {
-    local name=$1 dep deps
-    read -ra deps <<<"$(sed -n "s/^$name\( staticlib\)\?://p" "$top/crates.txt")"
-    for dep in "${deps[@]}"; do
-        if grep -q "^${dep}[: ]" "$top/crates.txt"; then
-            add "$dep"
-        fi
-    done
-    case " ${order[*]-} " in
-    *" $name "*) ;;
-    *) order+=("$name") ;;
-    esac
-}
-add "$crate"
+mapfile -t order < <(crates_below "$crate")
 
 # is_kept NAME: whether the library of an earlier run is newer than all that it is made of
 is_kept() {
@@ -72,6 +56,7 @@ works() {
 work='' ticker=''
 ends() {
     kill ${work:+"$work"} ${ticker:+"$ticker"} 2>/dev/null || true
+    rm -rf "$folder"
 }
 trap ends EXIT
 trap 'exit 130' INT

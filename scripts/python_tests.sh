@@ -4,23 +4,17 @@
 # 3.13 that is here, a fresh environment into which pip installs the package without a network, and the tests there; the
 # running kernel, in a network namespace; the commands of docs/PYTHON.md and docs/FLEET.md; and what needs Debian's
 # pyroute2, PostgreSQL or distributed. What lacks is 'skipped'. The last line is 'python passed'.
-set -euo pipefail
-cd "$(dirname "$0")/.."
-top=$PWD
+self=python
+. "$(dirname "$0")/common.sh"
+cd "$top"
 programs=$(realpath "${1:-out}")
-folder=$(mktemp -d)
-trap 'rm -rf "$folder"' EXIT
 unset LINKWIRE PYTHONPATH CC
 export PYTHONDONTWRITEBYTECODE=1 PIP_DISABLE_PIP_VERSION_CHECK=1 PIP_ROOT_USER_ACTION=ignore
 export LINKDIFF=$programs/linkdiff
 
-skips() {
+# lacks WHAT: says so, and goes on
+lacks() {
     echo "python: skipped: $*"
-}
-
-fails() {
-    echo "python: $*" >&2
-    exit 1
 }
 
 # offline COMMAND..: where there is no network, if that is allowed
@@ -44,14 +38,6 @@ python() {
     done
 }
 
-# quiet NAME COMMAND..: what it prints where it fails
-quiet() {
-    if ! "${@:2}" >"$folder/$1.log" 2>&1; then
-        cat "$folder/$1.log" >&2
-        fails "$1 fails"
-    fi
-}
-
 # says PATTERN: whether the last error does
 says() {
     grep -q "$1" "$folder/err" || fails "it does not say '$1' but $(cat "$folder/err")"
@@ -59,11 +45,11 @@ says() {
 
 types() {
     if ! command -v mypy >/dev/null; then
-        skips 'types: no mypy'
+        lacks 'types: no mypy'
         return
     fi
-    quiet mypy mypy --strict --cache-dir="$folder/mypy" python/linkwire
-    echo "python: mypy --strict: $(tail -n 1 "$folder/mypy.log")"
+    runs mypy --strict --cache-dir="$folder/mypy" python/linkwire
+    echo "python: mypy --strict: $(tail -n 1 "$log")"
 }
 
 wheels() {
@@ -93,21 +79,21 @@ wheels() {
 
 # environment VERSION PYTHON: installs, and runs the tests
 environment() {
-    local env=$folder/$1 start=$SECONDS pip
+    local env=$folder/$1 start=$SECONDS pip log=$folder/$1.log
     # by the pip that this Python has, where it can install elsewhere: to unpack one takes longer than all the rest
-    if "$2" -m pip --python "$2" --version >"$folder/$1.log" 2>&1 && "$2" -m venv --without-pip "$env"; then
+    if "$2" -m pip --python "$2" --version >"$log" 2>&1 && "$2" -m venv --without-pip "$env"; then
         pip=("$2" -m pip --python "$env/bin/python")
-    elif "$2" -m venv "$env" >"$folder/$1.log" 2>&1; then
+    elif "$2" -m venv "$env" >"$log" 2>&1; then
         pip=("$env/bin/pip")
     else
-        skips "Python $1: no venv"
+        lacks "Python $1: no venv"
         return
     fi
-    quiet "$1" offline "${pip[@]}" install --no-index ./python
-    quiet "$1" env -u LINKWIRE PYTHONPATH=tests/python "$env/bin/python" -m unittest discover -v -s tests/python
-    sed -n "s/.*\.\.\. skipped ['\"]\(.*\)['\"]\$/python: $1: skipped: \1/p" "$folder/$1.log" | sort | uniq -c |
+    runs offline "${pip[@]}" install --no-index ./python
+    runs env -u LINKWIRE PYTHONPATH=tests/python "$env/bin/python" -m unittest discover -v -s tests/python
+    sed -n "s/.*\.\.\. skipped ['\"]\(.*\)['\"]\$/python: $1: skipped: \1/p" "$log" | sort | uniq -c |
         sed 's/^ *\([0-9]*\) \(.*\)/\2 (\1 tests)/'
-    echo "python: $1: pip install ./python, $(sed -n 's/^Ran \([0-9]* tests\).*/\1/p' "$folder/$1.log"): ok," \
+    echo "python: $1: pip install ./python, $(sed -n 's/^Ran \([0-9]* tests\).*/\1/p' "$log"): ok," \
         "$((SECONDS - start)) s"
 }
 
@@ -116,7 +102,7 @@ environments() {
     for it in 3.9 3.10 3.11 3.12 3.13; do
         found=$(python "$it")
         if [ -z "$found" ]; then
-            skips "Python $it: it is not here"
+            lacks "Python $it: it is not here"
             continue
         fi
         environment "$it" "$found" &
@@ -137,7 +123,7 @@ ours() {
 
 live() {
     if ! command -v ip >/dev/null || ! unshare -n true 2>/dev/null; then
-        skips 'the running kernel: no ip, or no right to make a namespace'
+        lacks 'the running kernel: no ip, or no right to make a namespace'
         return
     fi
     ours unshare -n python3 tests/python/live.py

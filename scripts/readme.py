@@ -27,8 +27,10 @@ import re
 import subprocess
 import sys
 import tempfile
+from pathlib import Path
 
-TOP = os.path.dirname(os.path.dirname(os.path.abspath(__file__)))
+from shared import TOP, read
+
 PAGES = "README.md", "docs/USING.md", "docs/C.md", "docs/PYTHON.md", "docs/FLEET.md", "docs/CONTRIBUTING.md"
 WARNINGS = "-std=c11 -Wall -Wextra -Wpedantic -Wconversion -Wshadow -Werror -fsyntax-only".split()
 # what a command in the text of a page begins with; one word alone is a name
@@ -63,9 +65,7 @@ class Page:
         self.name, self.library, self.path = name, library, path
         self.counts = dict.fromkeys(("run", "compiled", "only compiled", "parts", "not run"), 0)
         self.commands = []
-        with open(f"{TOP}/{name}", encoding="utf-8") as it:
-            self.text = it.read()
-        self.in_man = name.startswith("man/")
+        self.text, self.in_man = read(name), name.startswith("man/")
         self.listed = [" ".join(it.split()) for found in NAMED.findall(self.text) for it in found.split(";")]
 
     def fails(self, what):
@@ -107,23 +107,22 @@ class Page:
         """A program in C, by a pkg-config that names the library as it was built."""
         (command, wanted), = COMMAND.findall(shown)
         with tempfile.TemporaryDirectory() as folder:
-            write(f"{folder}/{re.search(r'[a-z]+[.]c', command)[0]}", source)
-            write(f"{folder}/pkg-config", f"#!/bin/sh\necho -I{TOP}/include {self.library}\n")
-            os.chmod(f"{folder}/pkg-config", 0o755)
+            Path(folder, re.search(r"[a-z]+[.]c", command)[0]).write_text(source, "utf-8")
+            Path(folder, "pkg-config").write_text(f"#!/bin/sh\necho -I{TOP}/include {self.library}\n", "utf-8")
+            Path(folder, "pkg-config").chmod(0o755)
             self.output(f"cc {' '.join(WARNINGS)} -I{TOP}/include *.c", folder)
             self.compares(command, self.output(f"PATH=.:$PATH; {command}", folder), wanted)
         self.counts["compiled"] += 1
 
     def compiles(self, part):
         with tempfile.TemporaryDirectory() as folder:
-            write(f"{folder}/part.c", PART % part)
+            Path(folder, "part.c").write_text(PART % part, "utf-8")
             self.output(f"cc {' '.join(WARNINGS)} -I{TOP}/include part.c", folder)
         self.counts["only compiled"] += 1
 
     def stands(self, file, part):
-        with open(f"{TOP}/{file}", encoding="utf-8") as it:
-            if part not in it.read():
-                self.fails(f"{file} has not what stands here")
+        if part not in read(file):
+            self.fails(f"{file} has not what stands here")
         self.counts["parts"] += 1
 
     def block(self, mark, shown, following):
@@ -180,11 +179,6 @@ class Page:
             if target and target[1] not in targets():
                 self.fails(f"'{command}' names no target of make")
         self.counts["not run"] += len(self.listed)
-
-
-def write(file, text):
-    with open(file, "w", encoding="utf-8") as it:
-        it.write(text)
 
 
 def plain(shown):

@@ -2,11 +2,9 @@
 # What stands beside the crate in rust/, over the crates that Debian packs: the examples of rust/netlink are built and,
 # where a network namespace may be made, run on the kernel at hand; the tests of rust/serde bring messages to JSON and
 # back. What is not installed is said to be skipped.
-set -euo pipefail
-top=$(cd "$(dirname "$0")/.." && pwd)
+self=rust
+. "$(dirname "$0")/common.sh"
 registry=/usr/share/cargo/registry
-folder=$(mktemp -d)
-trap 'rm -rf "$folder"' EXIT
 export CARGO_TARGET_DIR=$folder/target CARGO_NET_OFFLINE=true
 debian=(cargo --config "$top/rust/netlink/debian.toml")
 
@@ -19,13 +17,6 @@ has() {
     done
 }
 
-runs() {
-    if ! "$@" >"$folder/log" 2>&1; then
-        cat "$folder/log" >&2
-        exit 1
-    fi
-}
-
 if has netlink-packet-core netlink-proto netlink-sys tokio tokio-macros futures libc; then
     cp -r "$top/rust" "$folder/rust"
     cd "$folder/rust/netlink"
@@ -33,8 +24,10 @@ if has netlink-packet-core netlink-proto netlink-sys tokio tokio-macros futures 
     runs "${debian[@]}" test --doc
     echo 'rust: netlink: the examples are built'
     if unshare -rn true 2>/dev/null; then
-        for example in manage moved; do
-            runs unshare -rn "$CARGO_TARGET_DIR/debug/examples/$example"
+        for example in manage moved; do # an alias in Latin-1 hides no link
+            # shellcheck disable=SC2016
+            runs unshare -rn sh -c 'ip link set lo alias "$(printf "caf\351")"; exec "$0"' \
+                "$CARGO_TARGET_DIR/debug/examples/$example"
             [ "$(tail -n 1 "$folder/log")" = 'links left: 1' ]
         done
         # shellcheck disable=SC2016

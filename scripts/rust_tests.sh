@@ -4,24 +4,12 @@
 # as that does, and, where that is built, so many lines that are made and damaged, byte for byte, and these as linkstate
 # does by the state encoding; what the crate's calls say of each of these lines has to agree: rust_tests.sh [LINES].
 # Where cargo is not there it says 'skipped'. It needs no registry.
-set -euo pipefail
-top=$(cd "$(dirname "$0")/.." && pwd)
+self=rust
+. "$(dirname "$0")/common.sh"
 count=${1:-100000}
 linkwire=$top/crates/linkwire
-if ! command -v cargo >/dev/null; then
-    echo 'rust: skipped: no cargo'
-    exit 0
-fi
-folder=$(mktemp -d)
-trap 'rm -rf "$folder"' EXIT
+needs cargo
 export CARGO_TARGET_DIR=$folder/target CARGO_NET_OFFLINE=true
-
-runs() {
-    if ! "$@" >"$folder/log" 2>&1; then
-        cat "$folder/log" >&2
-        exit 1
-    fi
-}
 
 cd "$top/rust"
 runs cargo test --locked
@@ -56,20 +44,15 @@ runs cargo build --locked --release --example lines
 example=$CARGO_TARGET_DIR/release/examples/lines
 "$example" <"$linkwire/stdin" | cmp - "$linkwire/stdout"
 echo "rust: the program's stored input: the same bytes"
-program=$linkwire/out/linkwire
-[ -x "$program" ] || program=$top/out/linkwire
-if [ ! -x "$program" ]; then
-    echo 'rust: lines: skipped: the program linkwire is not built'
-    exit 0
-fi
+program=$(program linkwire)
+[ -n "$program" ] || skips 'lines: the program linkwire is not built'
 python3 "$top/scripts/rust_lines.py" "$folder/lines" "$count"
 "$program" <"$folder/lines" >"$folder/wanted"
 "$example" <"$folder/lines" | cmp - "$folder/wanted"
 answers=$(cut -c 1-7 "$folder/wanted" | cut -d ' ' -f 1 | sort | uniq -c | awk '{ printf ", %s %s", $1, $2 }')
 echo "rust: $(wc -l <"$folder/lines") lines: the same bytes$answers"
-linkstate=$top/crates/linkstate/out/linkstate
-[ -x "$linkstate" ] || linkstate=$top/out/linkstate
-if [ -x "$linkstate" ]; then
+linkstate=$(program linkstate)
+if [ -n "$linkstate" ]; then
     "$linkstate" <"$folder/lines" >"$folder/wanted"
     "$example" state <"$folder/lines" | cmp - "$folder/wanted"
     echo "rust: by the state encoding: the same bytes, $(grep -c '^ok ' "$folder/wanted") states"

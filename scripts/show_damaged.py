@@ -12,14 +12,12 @@ what a model here makes of the answers without it to one attribute at a time.
 
 import glob
 import json
-import os
 import random
 import re
-import struct
-import subprocess
 import sys
 
-TOP = os.path.dirname(os.path.dirname(os.path.abspath(__file__)))
+from shared import HEADER_SIZE, TOP, answers, attribute, compare, frames, read
+
 HEADER = "00" * 16
 LONG = [
     HEADER + "ffff0300" + "61" * 65531,  # a name
@@ -27,35 +25,24 @@ LONG = [
     HEADER + "f4ff1600" + "100001000c0004000000000001000000" * 4095,  # functions
     HEADER + "0800040001000000" * 16000,  # one name at one place
 ]
-# the attributes that hold others, by their numbers: the kernel's name, and the one that is shown
-HOLDERS = {
-    12: ("IFLA_PROTINFO", "protinfo"), 18: ("IFLA_LINKINFO", "linkinfo"), 22: ("IFLA_VFINFO_LIST", "vfinfo-list"),
-    24: ("IFLA_VF_PORTS", "vf-ports"), 25: ("IFLA_PORT_SELF", "port-self"), 26: ("IFLA_AF_SPEC", "af-spec"),
-    43: ("IFLA_XDP", "xdp"), 52: ("IFLA_PROP_LIST", "prop-list"),
-    55: ("IFLA_PROTO_DOWN_REASON", "proto-down-reason"), 62: ("IFLA_DEVLINK_PORT", "devlink-port"),
-    65: ("IFLA_DPLL_PIN", "dpll-pin"),
-}
+# the attributes that hold others, by their numbers: the kernel's name, of which small letters are the one that is shown
+HOLDERS = {12: "IFLA_PROTINFO", 18: "IFLA_LINKINFO", 22: "IFLA_VFINFO_LIST", 24: "IFLA_VF_PORTS", 25: "IFLA_PORT_SELF",
+           26: "IFLA_AF_SPEC", 43: "IFLA_XDP", 52: "IFLA_PROP_LIST", 55: "IFLA_PROTO_DOWN_REASON",
+           62: "IFLA_DEVLINK_PORT", 65: "IFLA_DPLL_PIN"}
 
 
-def stored_lines():
-    with open(f"{TOP}/crates/linkshow/stdin", encoding="utf-8", newline="") as it:
-        return [line for line in it.read().split("\n") if re.fullmatch("(?:[0-9a-fA-F]{2})+", line)]
+def sources():
+    """Returns the lines of linkshow's stored run, and the lines and canonical texts that linkwire's tests have."""
+    stored = [it for it in read("crates/linkshow/stdin").split("\n") if re.fullmatch("(?:[0-9a-fA-F]{2})+", it)]
+    tested = [digits for path in sorted(glob.glob("crates/linkwire/src/tests/*.rt", root_dir=TOP))
+              for digits in re.findall("[0-9a-fA-F]{32,}", re.sub(r"\\\n\s*", "", read(path))) if len(digits) % 2 == 0]
+    if not stored or not tested:
+        sys.exit("show_damaged: linkshow's stored run, or the tests of linkwire, have no lines")
+    return list(dict.fromkeys(stored + tested))
 
 
-def tested_lines():
-    """Returns the lines and canonical texts that the tests of linkwire have."""
-    found = []
-    for path in sorted(glob.glob(f"{TOP}/crates/linkwire/src/tests/*.rt")):
-        with open(path, encoding="utf-8") as it:
-            text = re.sub(r"\\\n\s*", "", it.read())
-        found += [digits for digits in re.findall("[0-9a-fA-F]{32,}", text) if len(digits) % 2 == 0]
-    if not found:
-        sys.exit("show_damaged: the tests of linkwire have no lines")
-    return found
-
-
-def damaged(chance, line):
-    """Returns a line with a few bytes changed, cut or doubled, or a digit that is none."""
+def damaged_bytes(chance, line):
+    """Returns a line with a few bytes changed, cut or doubled."""
     bytes_ = bytearray.fromhex(line)
     for _ in range(chance.randrange(1, 4)):
         if not bytes_:
@@ -70,17 +57,16 @@ def damaged(chance, line):
             bytes_[at:at] = bytes_[16:at][: chance.randrange(1, 64)]
         else:
             bytes_[at] ^= 1 << chance.randrange(8)
-    digits = bytes_.hex()
+    return bytes_.hex()
+
+
+def damaged(chance, line):
+    """Returns a line with a few bytes changed, cut or doubled, or a digit that is none."""
+    digits = damaged_bytes(chance, line)
     if chance.randrange(50) == 0:
         at = chance.randrange(len(digits) + 1)
         digits = digits[:at] + chance.choice(("", "0", "g", " ", "\r", "\0", "é")) + digits[at + 1 :]
     return digits
-
-
-def answers(program, lines, *options):
-    text = "".join(line + "\n" for line in lines)
-    ran = subprocess.run([program, *options], input=text.encode(), capture_output=True, check=True)
-    return ran.stdout.split(b"\n")[:-1]
 
 
 def object_of(pairs):
@@ -98,91 +84,69 @@ def fault_of(answer):
     return json.loads(answer.decode("utf-8"), object_pairs_hook=object_of).get("fault")
 
 
-def frames_of(message):
-    """Returns offset and bytes of each frame behind the header; None without a header, or where bytes are no frame."""
-    found, at = [], 16
-    while at < len(message):
-        length = struct.unpack_from("<H", message, at)[0] if at + 4 <= len(message) else 0
-        if length < 4 or at + length > len(message):
-            return None
-        found.append((at, message[at:at + length]))
-        at += (length + 3) // 4 * 4
-    return found if len(message) >= 16 else None
+def parts(message):
+    """Returns offset and line of a message of each attribute alone; None without a header, or where one is no frame."""
+    found, end = frames(message)
+    if len(message) < HEADER_SIZE or end < len(message):
+        return None
+    return [(at, (message[:HEADER_SIZE] + attribute(kind, payload)).hex()) for at, kind, payload in found]
 
 
-def one_line(header, frames):
-    """Returns the line of a message of these frames."""
-    return (header + b"".join(it + bytes(-len(it) % 4) for it in frames)).hex()
-
-
-def refused_as(at, frame, answer):
-    """Returns what stands under refused of a frame there, by the answer to it alone; nothing where it is accepted."""
+def refused_as(at, line, answer):
+    """Returns what stands under refused of an attribute there, by the answer to it alone; nothing if it is accepted."""
     alone = json.loads(answer)
     if "fault" not in alone:
         return None
-    kernel_name, name = HOLDERS.get(struct.unpack_from("<H", frame, 2)[0] & 0x3FFF, ("", ""))
+    (_, kind, payload), = frames(bytes.fromhex(line))[0]
+    holder = HOLDERS.get(kind & 0x3FFF, "")
     told = {"at": alone["at"], "fault": alone["fault"]}
     told |= {it: alone[it] for it in ("got", "need", "want", "left", "length") if it in alone}
-    told["offset"] = alone["offset"] - 16 + at
-    if alone["offset"] > 16 and alone["at"] != kernel_name:
-        told["in"] = name
-    told["payload"] = frame[4:].hex()
+    told["offset"] = alone["offset"] - HEADER_SIZE + at
+    if alone["offset"] > HEADER_SIZE and alone["at"] != holder:
+        told["in"] = holder.removeprefix("IFLA_").lower().replace("_", "-")
+    told["payload"] = payload.hex()
     # numbers in the order of the answer
     order = [it for it in ("at", "fault", *alone, "in", "payload") if it in told]
     return json.dumps({it: told[it] for it in dict.fromkeys(order)}, separators=(",", ":")).encode()
 
 
-def compare_leniently(show, lines, shown):
-    """Compares the answers with --lenient, of which most are those without it; returns how many are other ones."""
-    found = answers(show, lines, "--lenient")
-    if len(found) != len(lines):
-        sys.exit("show_damaged: with --lenient lines have more or fewer answers than one")
-    faulty = {}
-    for n, (line, answer) in enumerate(zip(lines, shown)):
-        message = bytes.fromhex(line) if fault_of(answer) not in (None, "not-hex") else b""
-        if frames_of(message) is None:
-            if found[n] != answer:
-                sys.exit(f"show_damaged: {line[:300]}: --lenient: {found[n][:300]}, and not {answer[:300]}")
-        else:
-            faulty[n] = (message[:16], frames_of(message))
-    alone = list({one_line(header, [it]) for header, frames in faulty.values() for _, it in frames})
-    alone = dict(zip(alone, answers(show, alone)))
-    split = {}
-    for n, (header, frames) in faulty.items():
-        told = [(it, refused_as(at, it, alone[one_line(header, [it])])) for at, it in frames]
-        split[n] = (one_line(header, [it for it, refused in told if refused is None]),
-                    b",".join(refused for _, refused in told if refused is not None))
-    for (n, (_, refused)), accepted in zip(split.items(), answers(show, [line for line, _ in split.values()])):
-        wanted = accepted[:-1] + b',"refused":[' + refused + b"]}"
-        if found[n] != wanted:
-            sys.exit(f"show_damaged: {lines[n][:300]}: --lenient: {found[n][:600]}, and not {wanted[:600]}")
-    return len(split)
+def leniently(show, lines, shown):
+    """Returns what the model says with --lenient, of most lines as without it, and of how many it is another answer."""
+    split = {n: parts(bytes.fromhex(line)) for n, (line, answer) in enumerate(zip(lines, shown))
+             if fault_of(answer) not in (None, "not-hex")}
+    split = {n: found for n, found in split.items() if found is not None}
+    asked = list({line for found in split.values() for _, line in found})
+    alone, accepted, refused = dict(zip(asked, answers(show, asked))), [], []
+    for n, found in split.items():
+        told = [(line, refused_as(at, line, alone[line])) for at, line in found]
+        accepted.append(lines[n][:2 * HEADER_SIZE] + "".join(it[2 * HEADER_SIZE:] for it, why in told if why is None))
+        refused.append(b",".join(why for _, why in told if why is not None))
+    wanted = list(shown)
+    for n, answer, why in zip(split, answers(show, accepted), refused):
+        wanted[n] = answer[:-1] + b',"refused":[' + why + b"]}"
+    return wanted, len(split)
 
 
 def main():
     show, wire = sys.argv[1:3]
     rounds = int(sys.argv[3]) if len(sys.argv) > 3 else 100
     chance = random.Random(1)
-    sources = list(dict.fromkeys(stored_lines() + tested_lines()))
-    lines = sources + LONG + [damaged(chance, line) for line in sources for _ in range(rounds)]
+    lines = sources() + LONG + [damaged(chance, line) for line in sources() for _ in range(rounds)]
     lines += [damaged(chance, line) for line in LONG for _ in range(rounds // 10)]
     shown, checked = answers(show, lines), answers(wire, lines)
-    if len(shown) != len(lines) or len(checked) != len(lines):
-        sys.exit("show_damaged: lines have more or fewer answers than one")
-    counts = {"refused": 0, "nothex": 0}
+    counts = {None: 0, "refused": 0, "nothex": 0}
     for line, answer, other in zip(lines, shown, checked):
         try:
             fault = fault_of(answer)
         except ValueError as error:
             sys.exit(f"show_damaged: {line[:300]}: {error}: {answer[:300]}")
         said = "nothex" if fault == "not-hex" else "refused" if fault else None
-        told = other.decode() if other in (b"refused", b"nothex") else None
-        if said != told:
+        if said != (other.decode() if other in (b"refused", b"nothex") else None):
             sys.exit(f"show_damaged: {line[:300]}: {answer[:300]}, and linkwire: {other[:300]}")
-        if said:
-            counts[said] += 1
-    leniently = compare_leniently(show, lines, shown)
-    print(f"show_damaged: {len(lines)} lines, {counts['refused']} with a fault, of which {leniently} are shown with "
+        counts[said] += 1
+    wanted, count = leniently(show, lines, shown)
+    compare("show_damaged: --lenient", lines, answers(show, lines, "--lenient"), wanted)
+    print(f"show_damaged: {len(lines)} lines, {counts['refused']} with a fault, of which {count} are shown with "
           f"--lenient, {counts['nothex']} no hexadecimal")
 
 

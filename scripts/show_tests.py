@@ -23,14 +23,12 @@ import struct
 import subprocess
 import sys
 
+from c_names import listed
+from shared import answers
+
 FEWEST = 60
-NAMES = {
-    "operstate": "unknown notpresent down lowerlayerdown testing dormant up".split(),
-    "linkmode": "default dormant testing".split(),
-    "addr-gen-mode": "eui64 none stable-privacy random".split(),
-    "attached": "none drv skb hw multi".split(),
-    "event": "none reboot features bonding-failover notify-peers igmp-resend bonding-options".split(),
-}
+NAMES = {"operstate": listed("OPERSTATES"), "linkmode": listed("LINK_MODES"), "event": listed("EVENTS"),
+         "addr-gen-mode": listed("ADDR_GEN_MODES"), "attached": listed("XDP_ATTACHED")}
 # what ynl has in other forms: link data, which kernel_truth.py compares with ip
 ELSEWHERE = set("data slave-kind slave-data xstats".split())
 BYTES_IN_FILE = "devlink-port proto-down-reason wireless protinfo".split()
@@ -59,11 +57,9 @@ def kernel_messages():
 
 
 def shown(program):
-    messages = kernel_messages()
-    lines = "".join(message.hex() + "\n" for message in messages)
-    ran = subprocess.run([program, "--kernel", "6.12"], input=lines, capture_output=True, text=True, check=True)
-    found = [json.loads(line) for line in ran.stdout.split("\n")[:-1]]
-    if len(found) != len(messages) or not all("ifname" in it for it in found):
+    lines = [message.hex() for message in kernel_messages()]
+    found = [json.loads(line) for line in answers(program, lines, "--kernel", "6.12")]
+    if not all("ifname" in it for it in found):
         sys.exit("show: linkshow does not show each link of the kernel")
     return found
 

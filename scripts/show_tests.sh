@@ -2,22 +2,15 @@
 # Compares what linkshow says of the running kernel's links with what the kernel's client ynl says, here and in a
 # network namespace with links of a few kinds: show_tests.sh [SOURCES], where SOURCES is a kernel's tree or a package's
 # archive of it; else Debian's linux-source-6.12. What cannot be had is 'skipped'; in the namespace ynl has to run.
-set -euo pipefail
-top=$(cd "$(dirname "$0")/.." && pwd)
+self=show
+. "$(dirname "$0")/common.sh"
 program=$top/out/linkshow
 sources=${1:-/usr/src/linux-source-6.12.tar.xz}
 
-skips() {
-    echo "show: skipped: $*"
-    exit 0
-}
-
 [ -x "$program" ] || skips "linkshow is not built: make show"
 [ -e "$sources" ] || skips "no $sources"
-command -v python3 >/dev/null || skips "no python3"
+needs python3
 python3 -c 'import yaml' 2>/dev/null || skips "python3 has no yaml"
-folder=$(mktemp -d)
-trap 'rm -rf "$folder"' EXIT
 if [ -d "$sources" ]; then
     tree=$sources
 else

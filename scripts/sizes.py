@@ -18,29 +18,25 @@ import sys
 import tempfile
 import time
 
-sys.dont_write_bytecode = True
-TOP = os.path.dirname(os.path.dirname(os.path.abspath(__file__)))
+import state_model
+from diff_tests import changes_of, paths
+from shared import TOP, answers, attribute, compare, said
+
 sys.path.append(TOP + "/tests/linkdump")
 import captures
-import state_model
-from diff_tests import paths
 
 SIZES = {"5 kB": 5_000, "70 kB": 70_000, "1.2 MB": 1_200_000, "20 MB": 20_000_000}
 PACKETS = {"5 kB": 5_000, "70 kB": 70_000, "250 kB": 250_000}  # libpcap reads no packet above 262,144 bytes
 PAYLOADS = [0, 1, 2, 3, 5, 8, 100, 1000, 4096, 65531]
 # numbers of linux/if_link.h, and the first of those that no kernel has
 IFNAME, MTU, IFALIAS, CARRIER_CHANGES, UNKNOWN = 3, 4, 20, 35, 300
-FLAGS, HEADER_SIZE = 0xC000, 16
+FLAGS = 0xC000
 LETTERS = 'a"\\/\n\x01\x1f\x7f\u00e9\U0001f517 '
 WORDS = {"host": "rack7", "time": "2026-11-27T06:00:00Z"}
 
 
 def fails(*words):
     sys.exit("sizes: " + " ".join(str(it) if len(str(it)) < 300 else f"{str(it)[:300]} .." for it in words))
-
-
-def attribute(kind, payload, padding=b"\0"):
-    return struct.pack("<HH", 4 + len(payload), kind) + payload + padding * (-len(payload) % 4)
 
 
 def header(reserved, index=7):
@@ -85,22 +81,6 @@ class Made:
         return self.message + b"\3\0\1\0"
 
 
-def answers(program, lines, *arguments):
-    """The answers of a program to lines of bytes, each of which is ended."""
-    ran = subprocess.run([program, *arguments], input=b"".join(it + b"\n" for it in lines), capture_output=True)
-    if ran.returncode or ran.stderr:
-        fails(program, "ends with status", ran.returncode, ran.stderr)
-    return ran.stdout.split(b"\n")[:-1]
-
-
-def compare(what, found, wanted):
-    if len(found) != len(wanted):
-        fails(f"{what}: {len(found)} answers, and not {len(wanted)}")
-    for number, (answer, one) in enumerate(zip(found, wanted)):
-        if answer != one:
-            fails(f"{what}: answer {number + 1} is", answer, "and not", one)
-
-
 SHORT = header(0).hex().encode()
 
 
@@ -113,7 +93,8 @@ def look_at_linkwire(program, made, size):
     lines = [made.message.hex().encode(), SHORT, made.message.hex().upper().encode(), made.faulty().hex().encode(),
              SHORT, *no_digits(size), SHORT]
     ok, short = b"ok " + made.canonical.hex().encode(), b"ok " + SHORT
-    compare("linkwire", answers(program, lines), [ok, short, ok, b"refused", short, *[b"nothex"] * 4, short])
+    wanted = [ok, short, ok, b"refused", short, *[b"nothex"] * 4, short]
+    compare("sizes: linkwire", lines, answers(program, lines), wanted)
 
 
 def look_at_linkstate(program, made, size):
@@ -122,7 +103,7 @@ def look_at_linkstate(program, made, size):
     digits, ok = made.message.hex().encode(), b"ok " + made.state.hex().encode()
     short = b"ok " + state_model.state(header(0)).hex().encode()
     lines = [digits, SHORT, words + digits, many + SHORT, words, made.faulty().hex().encode(), SHORT]
-    compare("linkstate", answers(program, lines),
+    compare("sizes: linkstate", lines, answers(program, lines),
             [ok, short, words + ok, many + short, words, b"refused", short])
 
 
@@ -135,27 +116,16 @@ def look_at_linkshow(program, made, size):
     lines = [made.message.hex().encode(), SHORT, words + SHORT, many + SHORT, made.faulty().hex().encode(), SHORT]
     *found, faulty, last = [json.loads(it) for it in answers(program, lines)]
     wanted = [made.members, short, {"host": host, **short}, {**dict.fromkeys(keys, "v"), **short}, short]
-    compare("linkshow", [*found, last], wanted)
+    compare("sizes: linkshow", lines, [*found, last], wanted)
     if faulty["fault"] != "frame-under" or faulty["offset"] != len(made.message):
         fails("linkshow: of a fault:", {**faulty, "before": None})
-    compare("linkshow: before a fault", [faulty["before"]], [in_front(made.members)])
-
-
-def in_front(members):
-    return {name: value for name, value in members.items() if not name.startswith("ifi-")}
+    before = {name: value for name, value in made.members.items() if not name.startswith("ifi-")}
+    compare("sizes: linkshow: before a fault", lines, [faulty["before"]], [before])
 
 
 def told(host, change, changes=None):
     found = {"host": host, "change": change, "ifi-family": 0, "ifi-index": 7, "ifname": "eth0"}
     return found if changes is None else {**found, "changes": changes}
-
-
-def changes_of(old, new):
-    """What linkdiff has to tell of the members of two messages, counters aside, in the order of the paths."""
-    was, now = paths(old.members), paths(new.members)
-    rows = [{"path": path, **{name: rows[path] for name, rows in (("old", was), ("new", now)) if path in rows}}
-            for path in sorted({*was, *now} - {"carrier-changes"})]
-    return [row for row in rows if "old" not in row or "new" not in row or row["old"] != row["new"]]
 
 
 def sorted_changes(answer):
@@ -165,22 +135,24 @@ def sorted_changes(answer):
 
 
 def look_at_linkdiff(program, made, size):
-    host = "h" * size
+    host, small = "h" * size, Made(0)
     moved, other = Made(size, changes=6), Made(size, mtu=9000, last=b"\xff" * 9)
-    small = Made(0)
     front = [f"host={host}{end} ".encode() for end in "ab"]
     lines = [front[0] + made.message.hex().encode(), front[1] + small.message.hex().encode(),
              front[0] + moved.message.hex().encode(), front[0] + other.message.hex().encode(),
              front[0] + small.message.hex().encode(), front[1] + small.message.hex().encode()]
-    wanted = [told(host + "a", "new"), told(host + "b", "new"), told(host + "a", "changed", changes_of(moved, other)),
-              told(host + "a", "changed", changes_of(other, small))]
-    compare("linkdiff", [sorted_changes(it) for it in answers(program, lines)], wanted)
+    first, second, third = [paths({name: it for name, it in one.members.items() if name != "carrier-changes"})
+                            for one in (moved, other, small)]
+    wanted = [told(host + "a", "new"), told(host + "b", "new"), told(host + "a", "changed", changes_of(first, second)),
+              told(host + "a", "changed", changes_of(second, third))]
+    compare("sizes: linkdiff", lines, [sorted_changes(it) for it in said(program, lines)], wanted)
     with tempfile.TemporaryDirectory() as folder:
         names = [f"{folder}/old", f"{folder}/new"]
         for name, line in zip(names, (lines[0], lines[3])):
             with open(name, "wb") as it:
                 it.write(line + b"\n" + front[1] + small.message.hex().encode() + b"\n")
-        compare("linkdiff of files", [sorted_changes(it) for it in answers(program, [], *names)], wanted[2:3])
+        found = [sorted_changes(it) for it in said(program, [], *names)]
+        compare("sizes: linkdiff of files", lines, found, wanted[2:3])
 
 
 def look_at_linkdump(program, size):
@@ -194,7 +166,8 @@ def look_at_linkdump(program, size):
         ran = subprocess.run([program, "--read", "-", "--plain"], input=capture, capture_output=True)
         if ran.returncode or ran.stderr:
             fails(f"linkdump of a {name} ends with status", ran.returncode, ran.stderr)
-        compare(f"linkdump of a {name}", ran.stdout.split(b"\n")[:-1], [it.hex().encode() for it in texts])
+        wanted = [it.hex().encode() for it in texts]
+        compare(f"sizes: linkdump of a {name}", wanted, ran.stdout.split(b"\n")[:-1], wanted)
     return True
 
 

@@ -5,20 +5,10 @@
 # after each of the changes below. Of each change linkdiff has a line, and none while nobody changes a link. The folders
 # have the programs; without them it is that of the library. Kinds and changes that cannot be had are named, and what
 # needs a right, a command or a program that is not there is 'skipped'.
-set -euo pipefail
-top=$(cd "$(dirname "$0")/.." && pwd)
+self=state
+. "$(dirname "$0")/common.sh"
 
-skips() {
-    echo "state: skipped: $*"
-    exit 0
-}
-
-fails() {
-    echo "state: $*" >&2
-    exit 1
-}
-
-# what is made, in this order: the kind, and the words of ip
+# what is made, in this order, after the pairs of veth that others stand on: the kind, and the words of ip
 kinds=(
     'dummy link add dummy0 type dummy'
     'veth link add veth0 type veth peer name port0'
@@ -26,8 +16,6 @@ kinds=(
     'port link set port0 master bridge0'
     'bridge-stp link add bridge1 type bridge stp_state 1 forward_delay 200 max_age 600'
     'bridge-stp link add bridge2 type bridge stp_state 1 forward_delay 200 max_age 600'
-    'veth link add port1 type veth peer name port2'
-    'veth link add port3 type veth peer name port4'
     'port link set port1 master bridge1'
     'port link set port3 master bridge1'
     'port link set port2 master bridge2'
@@ -35,12 +23,8 @@ kinds=(
     'bond link add bond0 type bond mode 802.3ad miimon 100 lacp_rate fast'
     'bond link add bond1 type bond mode 802.3ad miimon 100 lacp_rate fast'
     'bond-port link add port5 master bond0 type veth peer name port6 master bond1'
-    'veth link add port7 type veth peer name port8'
-    'veth link add port9 type veth peer name port10'
     'hsr link add hsr0 type hsr slave1 port7 slave2 port9'
     'hsr link add hsr1 type hsr slave1 port8 slave2 port10'
-    'veth link add port11 type veth peer name port12'
-    'veth link add port13 type veth peer name port14'
     'prp link add prp0 type hsr slave1 port11 slave2 port13 proto 1'
     'prp link add prp1 type hsr slave1 port12 slave2 port14 proto 1'
     'team link add team0 type team'
@@ -55,7 +39,6 @@ kinds=(
     'vlan link add link veth0 name vlan0 type vlan id 5'
     'macvlan link add link veth0 name macvlan0 type macvlan'
     'macvtap link add link veth0 name macvtap0 type macvtap'
-    'veth link add veth1 type veth peer name veth2'
     'ipvlan link add link veth1 name ipvlan0 type ipvlan'
     'ipvtap link add link dummy0 name ipvtap0 type ipvtap'
     'macsec link add link veth2 name macsec0 type macsec'
@@ -79,7 +62,6 @@ kinds=(
     'gtp link add gtp0 type gtp role sgsn'
     'pfcp link add pfcp0 type pfcp'
     'ovpn link add ovpn0 type ovpn'
-    'veth link add port19 type veth peer name port20'
     'rmnet link add rmnet0 link port19 type rmnet mux_id 4'
     'virt-wifi link add link port20 name wlan0 type virt_wifi'
     'vsockmon link add vsockmon0 type vsockmon'
@@ -176,37 +158,30 @@ state() {
     "$folder/states" | awk -v number="$1" '$1 == 0 && $2 == number { print $4 }'
 }
 
-# stands: whether no state moves for ten seconds; a bridge with a spanning tree tells for eight that its ports changed
-stands() {
-    "$folder/states" 10 >/dev/null 2>&1
+# names WORD..: each once, in a line
+names() {
+    printf '%s\n' "$@" | sort -u | sed 's/^/ /' | tr -d '\n'
 }
 
 makes_kinds() {
-    local it kind known='' unknown='' link
+    local it known=() unknown=()
+    for it in 'port1 port2' 'port3 port4' 'port7 port8' 'port9 port10' 'port11 port12' 'port13 port14' 'port19 port20' \
+        'veth1 veth2'; do
+        ip link add "${it% *}" type veth peer name "${it#* }" 2>/dev/null || true
+    done
     for it in "${kinds[@]}"; do
-        kind=${it%% *}
         # shellcheck disable=SC2086 # words of ip
         if ip ${it#* } 2>/dev/null; then
-            known="$known $kind"
+            known+=("${it%% *}")
         else
-            unknown="$unknown $kind"
+            unknown+=("${it%% *}")
         fi
     done
     ip addr add 10.9.9.1/24 dev veth0 2>/dev/null || true
-    for link in /sys/class/net/*; do
-        ip link set "${link##*/}" up 2>/dev/null || true
+    for it in /sys/class/net/*; do
+        ip link set "${it##*/}" up 2>/dev/null || true
     done
-    echo "state: kinds that the kernel knows:$(echo "$known" | xargs -n1 | sort -u | sed 's/^/ /' | tr -d '\n');" \
-        "skipped:$(echo "$unknown" | xargs -n1 | sort -u | sed 's/^/ /' | tr -d '\n')"
-}
-
-# waits SECONDS COMMAND..: until it succeeds, so long at most
-waits() {
-    local until=$((SECONDS + $1))
-    while ! "${@:2}"; do
-        [ "$SECONDS" -lt "$until" ] || return 1
-        sleep 0.05
-    done
+    echo "state: kinds that the kernel knows:$(names "${known[@]}"); skipped:$(names "${unknown[@]}")"
 }
 
 # lines NAME: how many linkdiff has written
@@ -263,9 +238,9 @@ stops() {
     fi
     if ! command -v python3 >/dev/null; then
         echo 'state: skipped: whether each line of linkdiff is JSON: no python3'
-    elif ! python3 -c 'import json, sys; [json.loads(line) for line in sys.stdin]' <"$folder/news" ||
-        ! python3 -c 'import json, sys; [json.loads(line) for line in sys.stdin]' <"$folder/polled"; then
-        fails 'a line of linkdiff is not one of JSON'
+    else
+        cat "$folder/news" "$folder/polled" | python3 -c 'import json, sys; [json.loads(line) for line in sys.stdin]' ||
+            fails 'a line of linkdiff is not one of JSON'
     fi
 }
 
@@ -279,15 +254,13 @@ announced() {
 
 # hears INDEX WHAT COMMAND: until both have a line of the change, the one only where the kernel announces it
 hears() {
-    if [[ $2 == '~'* ]] || ! waits 10 tells news "$of_news" "$1" "$2"; then
-        if ! waits 30 tells polled "$of_polled" "$1" "$2"; then
-            tail -n "+$((of_polled + 1))" "$folder/polled" >&2
-            fails "linkdump --monitor --every 0.5 | linkdiff has no $2 of the link $1 after: $3"
-        fi
-        announced "$1" "$2" || dumped+=("$3")
-    elif ! waits 30 tells polled "$of_polled" "$1" "$2"; then
-        fails "linkdump --monitor | linkdiff has $2 of the link $1, and not with --every 0.5, after: $3"
+    local is_news=''
+    [[ $2 == '~'* ]] || ! waits 10 tells news "$of_news" "$1" "$2" || is_news=1
+    if ! waits 30 tells polled "$of_polled" "$1" "$2"; then
+        tail -n "+$((of_polled + 1))" "$folder/polled" >&2
+        fails "linkdump --monitor --every 0.5 | linkdiff has no $2 of the link $1 after: $3"
     fi
+    [ -n "$is_news" ] || announced "$1" "$2" || dumped+=("$3")
 }
 
 # sends what veth0 and its peer, a bridge and lo count
@@ -302,16 +275,12 @@ traffic() {
     done
 }
 
-# each link has one state while it is polled
+# each link has one state while it is polled; a bridge with a spanning tree tells for eight seconds that its ports
+# changed
 stays() {
-    local try
     [ ! -e /sys/class/net/bond0 ] || sleep 65 # a minute after it is up LACP says whether a port churns
-    for try in $(seq 30); do # router solicitation, and ports that come to forward
-        if stands; then
-            break
-        fi
-        [ "$try" != 30 ] || fails 'the states of the links do not come to stand'
-    done
+    # router solicitation, and ports that come to forward
+    waits 300 "$folder/states" 10 >/dev/null 2>&1 || fails 'the states of the links do not come to stand'
     if [ -n "$linkdiff" ]; then
         starts news
         starts polled --every 0.5
@@ -338,9 +307,15 @@ stays() {
     fi
 }
 
+# moved INDEX STATE: whether it has another
+# shellcheck disable=SC2317 # waits calls it
+moved() {
+    [ "$(state "$1")" != "$2" ]
+}
+
 # a new state after each change, and a line of linkdiff
 changes() {
-    local it link what command index before after try done=0 skipped=''
+    local it link what command index before done=0 skipped=''
     for it in "${changes[@]}"; do
         read -r link what command <<<"$it"
         index=$(cat "/sys/class/net/$link/ifindex" 2>/dev/null) || true
@@ -353,14 +328,7 @@ changes() {
             skipped="$skipped, $command"
             continue
         fi
-        for try in $(seq 20); do
-            after=$(state "$index")
-            if [ "$after" != "$before" ]; then
-                break
-            fi
-            [ "$try" != 20 ] || fails "the state of $link is the same after: $command"
-            sleep 0.1
-        done
+        waits 3 moved "$index" "$before" || fails "the state of $link is the same after: $command"
         [ -z "$linkdiff" ] || hears "$index" "$what" "$command"
         done=$((done + 1))
     done
@@ -409,16 +377,13 @@ uses_again() {
     echo 'state: linkdump --monitor | linkdiff: an index that is used again is new, gone and new'
 }
 
-if [ "$1" = --inside ]; then
-    folder=$2 linkdump=$3 linkdiff=$4
-    running=() dumped=() later=2000
+if [ -n "$inside" ]; then
+    linkdump=$1 linkdiff=$2 running=() dumped=() later=2000
     trap 'kill "${running[@]}" 2>/dev/null || true' EXIT
-    mount -t sysfs sysfs /sys || skips 'no right to mount a sysfs'
     seconds=10
     [ -z "${LONG:-}" ] || seconds=60
     { echo 0 >/proc/sys/net/ipv6/conf/all/disable_ipv6 && echo 0 >/proc/sys/net/ipv6/conf/default/disable_ipv6; } \
         2>/dev/null || echo 'state: skipped: IPv6: the kernel has none, or leaves it off'
-    ip link set lo up
     makes_kinds
     stays
     changes
@@ -429,17 +394,6 @@ if [ "$1" = --inside ]; then
     exit 0
 fi
 
-# program NAME FOLDER..: where it is, or nothing
-program() {
-    local it
-    for it in "${@:2}"; do
-        if [ -x "$it/$1" ]; then
-            realpath "$it/$1"
-            return
-        fi
-    done
-}
-
 library=$1
 [ $# -gt 1 ] || set -- "$1" "$(dirname "$1")"
 linkdump=$(program linkdump "${@:2}") linkdiff=$(program linkdiff "${@:2}")
@@ -447,16 +401,7 @@ if [ -z "$linkdump" ] || [ -z "$linkdiff" ]; then
     echo 'state: skipped: linkdump --monitor | linkdiff: one of them is not built'
     linkdiff=''
 fi
-folder=$(mktemp -d)
-trap 'rm -rf "$folder"' EXIT
 ${CC:-cc} -std=c11 -D_GNU_SOURCE -O1 -Wall -Wextra -Wpedantic -Werror -I"$top/include" -o "$folder/states" \
     "$top/tests/live/states.c" "$library"
 "$folder/states" >"$folder/out" 2>"$folder/err" || skips "no netlink: $(cat "$folder/err")"
-command -v ip >/dev/null || skips 'no command ip'
-for flags in -mn -rmn; do
-    if unshare "$flags" true 2>/dev/null; then
-        unshare "$flags" "$0" --inside "$folder" "$linkdump" "$linkdiff"
-        exit 0
-    fi
-done
-skips 'no right to make a namespace'
+goes_inside "$linkdump" "$linkdiff"

@@ -3,18 +3,8 @@
 # are one row an interface, and a change, a deleted interface and an index that is used again are one more each; in the
 # folder a refused message and a linkdump that fails are none. LIBRARY is the shared one; where the program LINKSTATE is
 # not built the store in a folder is 'skipped', as is all that cannot be had.
-set -euo pipefail
-top=$(cd "$(dirname "$0")/.." && pwd)
-
-skips() {
-    echo "store: skipped: $*"
-    exit 0
-}
-
-fails() {
-    echo "store: $*" >&2
-    exit 1
-}
+self=store
+. "$(dirname "$0")/common.sh"
 
 # block WORD: the block of that language in the page
 block() {
@@ -49,6 +39,7 @@ wants() {
 }
 
 # stands: whether no state moves for five seconds
+# shellcheck disable=SC2317 # waits calls it
 stands() {
     local rows
     rm -f "$folder/links.db"
@@ -64,13 +55,8 @@ makes_again() {
 }
 
 polls_sqlite() {
-    local try links index
-    for try in $(seq 20); do
-        if stands; then
-            break
-        fi
-        [ "$try" != 20 ] || fails 'the states of the links do not come to stand'
-    done
+    local links index
+    waits 120 stands || fails 'the states of the links do not come to stand'
     rm -f "$folder/links.db"
     sqlite 100 0.05
     links=$(in_sqlite 'SELECT sum(is_open) FROM stretch')
@@ -157,28 +143,21 @@ polls_folder() {
 
 # in_news PATTERN: until a line of the store of news of the index 4242 has it
 in_news() {
-    local try
-    for try in $(seq 100); do
-        if tail -n 1 "$folder/news/0092100000" 2>/dev/null | grep -q "$1"; then
-            return
-        fi
-        sleep 0.1
-    done
-    fails "news: $1 is not the last: $(cut -c1-60 "$folder"/news/0092100000 2>&1)"
+    waits 10 last_has "$1" || fails "news: $1 is not the last: $(cut -c1-60 "$folder"/news/0092100000 2>&1)"
+}
+
+# shellcheck disable=SC2317 # waits calls it
+last_has() {
+    tail -n 1 "$folder/news/0092100000" 2>/dev/null | grep -q "$1"
 }
 
 keeps_news() {
-    local news try
+    local news
     block sh >"$folder/news.sh"
     PATH=$folder:$(dirname "$linkstate"):$PATH setsid bash -uo pipefail "$folder/news.sh" "$folder/news" &
     news=$!
     trap 'kill -- "-$news" 2>/dev/null || true' EXIT
-    for try in $(seq 100); do
-        if [ -e "$folder/news/0001000000" ]; then
-            break
-        fi
-        sleep 0.1
-    done
+    waits 10 test -e "$folder/news/0001000000" || true
     makes_again
     in_news ' type=new '
     ip link set again0 mtu 1400
@@ -195,10 +174,8 @@ keeps_news() {
         "$(grep -c ' type=del ' "$folder/news/0092100000")" 2
 }
 
-if [ "$1" = --inside ]; then
-    folder=$2 library=$3 linkstate=$4
-    mount -t sysfs sysfs /sys || skips 'no right to mount a sysfs'
-    ip link set lo up
+if [ -n "$inside" ]; then
+    library=$1 linkstate=$2
     ip link add veth0 type veth peer name veth1 2>/dev/null || skips 'the kernel knows no veth'
     ip link add bridge0 type bridge 2>/dev/null && ip link set veth1 master bridge0
     for link in /sys/class/net/*; do
@@ -207,28 +184,10 @@ if [ "$1" = --inside ]; then
     polls_sqlite
     [ -x "$linkstate" ] || skips 'a store in a folder: linkstate is not built'
     polls_folder
-    # a linkstate of before answers no line with words
-    if [ "$(echo 'a=b 0' | "$linkstate")" != 'a=b nothex' ]; then
-        skips 'a store of news: linkstate takes no words'
-    fi
     keeps_news
     exit 0
 fi
-library=$(realpath "$1") linkstate=${2:-$top/crates/linkstate/out/linkstate}
-python3 - "$top" <<'END' || fails 'docs/STORE.md and examples/store.py have other tables'
-import sys
-page, program = (open(f"{sys.argv[1]}/{it}", encoding="utf-8").read() for it in ("docs/STORE.md", "examples/store.py"))
-sys.exit(page.split("```sql\n")[1].split("```")[0] not in program)
-END
+library=$(realpath "$1") linkstate=${2:-$(program linkstate)}
 python3 -c 'import sqlite3' 2>/dev/null || skips 'no sqlite3 in python3'
-command -v ip >/dev/null || skips 'no command ip'
-folder=$(mktemp -d)
-trap 'rm -rf "$folder"' EXIT
-${CC:-cc} -std=gnu11 -D_GNU_SOURCE -O1 -I"$top/include" -o "$folder/linkdump" "$top"/programs/linkdump*.c
-for flags in -mn -rmn; do
-    if unshare "$flags" true 2>/dev/null; then
-        unshare "$flags" "$0" --inside "$folder" "$library" "$(realpath -m "$linkstate")"
-        exit 0
-    fi
-done
-skips 'no right to make a namespace'
+makes_linkdump
+goes_inside "$library" "${linkstate:+$(realpath -m "$linkstate")}"

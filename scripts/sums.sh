@@ -5,30 +5,16 @@
 #     sums.sh unfit ARCH NAME..   prints the names of those texts that do not fit the tree
 #     sums.sh why ARCH NAME   prints in a line what changed since the text was made, nothing where it fits
 #     sums.sh check           compares all; where rt is on the path and is not the toolchain that made them, it says so
-set -euo pipefail
+. "$(dirname "$0")/common.sh"
 shopt -s inherit_errexit
 export LC_ALL=C
-cd "$(dirname "$0")/.."
+cd "$top"
 sums=dist/SUMS
 names() {
     sed -n 's/^TEXTS = //p' dist/Makefile | sed "s/\$(PROGRAMS)/$(sed -n 's/^PROGRAMS = //p' dist/Makefile)/"
 }
 archs() {
     awk '!/^#/ { print $1 }' scripts/targets.txt
-}
-
-# crates NAME: the crates that the text of NAME is made of, one a line
-crates() {
-    awk -v wanted="$1" '
-        /^[a-z]/ { name = $1; sub(/:.*/, "", name); sub(/^[^:]*:/, ""); below[name] = $0 }
-        function add(name, words, count, at) {
-            if (!(name in below) || name in seen) return
-            seen[name] = 1
-            print name
-            count = split(below[name], words, " ")
-            for (at = 1; at <= count; at++) add(words[at])
-        }
-        END { add(wanted) }' crates.txt
 }
 
 # sources CRATE..: their sums
@@ -43,7 +29,7 @@ sources() {
 make_sums() {
     local all=() name arch crate
     for name in $(names); do
-        mapfile -t -O "${#all[@]}" all < <(crates "$name")
+        mapfile -t -O "${#all[@]}" all < <(crates_below "$name")
     done
     mapfile -t all < <(printf '%s\n' "${all[@]}" | sort -u)
     echo "# What the texts in dist/ are made of: sha256sum -c dist/SUMS compares the files, scripts/sums.sh all."

@@ -3,11 +3,9 @@
 # is copied once more, or gone over once more; memory is asked for twice; a call of the library waits; something is
 # called that nothing counts. And that it names a row that may be lowered, and one that is missing.
 # shellcheck disable=SC2016
-set -euo pipefail
+. "$(dirname "$0")/common.sh"
 shopt -s inherit_errexit
-cd "$(dirname "$0")/.."
-folder=$(mktemp -d)
-trap 'rm -rf "$folder"' EXIT
+cd "$top"
 texts=$folder/texts
 
 # costs ROW WORD..: compares one row over the texts
@@ -19,8 +17,7 @@ costs() {
 names() {
     local said
     if said=$(costs "${@:2}") || [ "$(grep -c . <<<"$said")" != 1 ] || ! grep -qF "$1" <<<"$said"; then
-        printf 'test_costs: this was to be one line with "%s":\n%s\n' "$1" "$said" >&2
-        exit 1
+        fails "this was to be one line with '$1': $said"
     fi
     echo "test_costs: named: ${said#costs: }"
 }
@@ -40,7 +37,7 @@ said=$(costs linkwire/dumps linkwire_check/dumps)
 case $said in
 *skipped*) echo "test_costs: ${said#costs: }" && exit ;;
 'costs: 2 rows hold') ;;
-*) echo "$said" >&2 && exit 1 ;;
+*) fails "$said" ;;
 esac
 
 slips linkwire read '

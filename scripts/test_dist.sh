@@ -4,17 +4,11 @@
 # that is missing. A stand-in takes the place of rt. The texts in out/texts, of `dist.sh --compare`, are compared where
 # there are any.
 # shellcheck disable=SC2016
-set -euo pipefail
-top=$(cd "$(dirname "$0")/.." && pwd)
-folder=$(mktemp -d)
-trap 'rm -rf "$folder"' EXIT
-unset CC LD OBJCOPY AR CFLAGS LDFLAGS MAKEFLAGS MFLAGS MAKELEVEL PROVE
-mkdir "$folder/tree" "$folder/bin" "$folder/rt"
-(cd "$top" && git ls-files -z --cached --others --exclude-standard | tar --null --ignore-failed-read -T - -c) \
-    2>/dev/null | tar -x -C "$folder/tree"
+. "$(dirname "$0")/common.sh"
+mkdir "$folder/bin" "$folder/rt"
+copies_tree "$folder/tree"
 cd "$folder/tree"
-with=$PATH
-PATH=$folder/bin:$(tr ':' '\n' <<<"$PATH" | while read -r it; do [ -e "$it/rt" ] || echo "$it"; done | paste -sd :)
+PATH=$folder/bin:$PATH
 arch=$(cc -dumpmachine | sed 's/-.*//')
 text=dist/$arch/linkwire.s
 
@@ -22,26 +16,26 @@ text=dist/$arch/linkwire.s
 tells() {
     local status=0
     "${@:2}" >"$folder/out" 2>&1 </dev/null || status=$?
-    if [ "$status" = 0 ] || ! grep -qF "$1" "$folder/out" || [ "$(grep -c . "$folder/out")" != 1 ]; then
-        echo "test_dist: status $status of '${*:2}', which was to tell '$1':" >&2
+    if [ "$status" = 0 ] || ! grep -qF "$1" "$folder/out" || [ "$(grep -c . "$folder/out")" != 1 ] ||
+        { [ "$2" = make ] && [ "$status" != 2 ]; }; then
         cat "$folder/out" >&2
-        exit 1
-    fi
-    if [ "$2" = make ] && [ "$status" != 2 ]; then
-        echo "test_dist: status $status of '${*:2}'" >&2
-        exit 1
+        fails "status $status of '${*:2}', which was to tell '$1'"
     fi
     echo "test_dist: $1: ok"
+}
+
+# lacks FILE COMMAND..: runs the rest without this file
+lacks() {
+    mv "$1" "$folder/away"
+    "${@:2}"
+    mv "$folder/away" "$1"
 }
 
 # changes FILE WORD..: changes a file by sed, has the rest told, and puts it back
 changes() {
     cp "$1" "$folder/was"
     sed -i "$2" "$1"
-    if cmp -s "$1" "$folder/was"; then
-        echo "test_dist: $1 has nothing that '$2' changes" >&2
-        exit 1
-    fi
+    ! cmp -s "$1" "$folder/was" || fails "$1 has nothing that '$2' changes"
     "${@:3}"
     cp "$folder/was" "$1"
 }
@@ -62,12 +56,8 @@ changes crates.txt 's/^link_msg: /link_msg: memchr /' \
 touch crates/link_msg/src/another.rt
 told 'crates/link_msg/src/another.rt changed since dist/ was made'
 rm crates/link_msg/src/another.rt
-mv crates/link_msg/src/lib.rt "$folder/lib.rt"
-told 'crates/link_msg/src/lib.rt changed since dist/ was made'
-mv "$folder/lib.rt" crates/link_msg/src/lib.rt
-mv crates.txt "$folder/crates.txt"
-told 'crates.txt is missing'
-mv "$folder/crates.txt" crates.txt
+lacks crates/link_msg/src/lib.rt told 'crates/link_msg/src/lib.rt changed since dist/ was made'
+lacks crates.txt told 'crates.txt is missing'
 
 # where nobody can tell whether they fit, nothing is built: without a command, or without the script; its mode is no
 # matter
@@ -85,9 +75,7 @@ for it in bash sha256sum; do
     untold "$it"
     changes "$read_rt" '$a// changed' untold "$it"
 done
-mv scripts/sums.sh "$folder/sums.sh"
-untold none
-mv "$folder/sums.sh" scripts/sums.sh
+lacks scripts/sums.sh untold none
 chmod -x scripts/sums.sh
 changes "$read_rt" '$a// changed' tells "$read_rt changed since dist/ was made" make -s run
 chmod +x scripts/sums.sh
@@ -101,7 +89,7 @@ forged() {
     if scripts/dist.sh --against "$top/out/texts" linkwire >"$folder/out" 2>&1 ||
         ! grep -q "$text is not what is made of the crates" "$folder/out"; then
         cat "$folder/out" >&2
-        exit 1
+        fails 'a text with its sum is not refused'
     fi
     echo 'test_dist: an instruction changed, and its sum: ok'
 }
@@ -151,10 +139,7 @@ PATH=$folder/rt:$PATH make -s run PROVE=1 2>"$folder/err" </dev/null | grep -qx 
 has_proved() {
     local count
     count=$({ nm out/liblinkwire.a; nm -D out/liblinkwire.so.0; } | grep -c ' T linkwire_proved$' || true)
-    if [ "$count" != "$1" ]; then
-        echo "test_dist: $count libraries have what was proved, and not $1" >&2
-        exit 1
-    fi
+    [ "$count" = "$1" ] || fails "$count libraries have what was proved, and not $1"
 }
 make -s lib >/dev/null
 has_proved 0
@@ -166,13 +151,15 @@ echo 'test_dist: what was proved gives way to what dist/ has: ok'
 
 # bad input, and nothing is installed
 installs=(make -s install "DESTDIR=$folder/stage")
-printf '#!/bin/sh\necho riscv64-linux-gnu\n' >"$folder/bin/other-cc"
-chmod +x "$folder/bin/other-cc"
+compiles_for() {
+    printf '#!/bin/sh\necho %s\n' "$2" >"$folder/bin/$1"
+    chmod +x "$folder/bin/$1"
+}
+compiles_for other-cc riscv64-linux-gnu
+compiles_for mac-cc arm64-apple-darwin23.1.0
 tells 'there is no nocc: install a C compiler and binutils, or set CC' "${installs[@]}" CC=nocc
 tells 'there is no nold: install a C compiler and binutils, or set LD' "${installs[@]}" LD=nold
 tells 'dist/ has no text for riscv64, only for' "${installs[@]}" CC=other-cc
-printf '#!/bin/sh\necho arm64-apple-darwin23.1.0\n' >"$folder/bin/mac-cc"
-chmod +x "$folder/bin/mac-cc"
 tells 'the texts in dist/ are for Linux, and mac-cc compiles for arm64-apple-darwin23.1.0: set CC to a compiler' \
     "${installs[@]}" CC=mac-cc
 # the headers that a compiler finds: none, and those of the C library alone
@@ -186,21 +173,13 @@ for goal in dump out/linkdump; do
     tells 'there is no nocc: install a C compiler and binutils, or set CC' make -s "$goal" CC=nocc
 done
 for file in "$text" dist/heap.c man/linkwire.1 include/linkwire.h dist/linkwire.pc.in programs/*; do
-    mv "$file" "$folder/away"
-    tells "$file is missing" "${installs[@]}"
-    mv "$folder/away" "$file"
+    lacks "$file" tells "$file is missing" "${installs[@]}"
 done
 for file in include/linkwire.h programs/linkdump.h programs/linkdump_capture.c; do
-    mv "$file" "$folder/away"
-    tells "$file is missing" make -s dump
-    mv "$folder/away" "$file"
+    lacks "$file" tells "$file is missing" make -s dump
 done
 for goal in check dist edits; do
     tells "make $goal proves the crates by the command rt, which is not on the path: make self-test" make -s "$goal"
 done
-if [ -e "$folder/stage" ]; then
-    echo 'test_dist: something is installed' >&2
-    exit 1
-fi
-export PATH=$with
+[ ! -e "$folder/stage" ] || fails 'something is installed'
 echo 'test_dist passed'

@@ -1,10 +1,8 @@
 #!/usr/bin/env bash
 # Installs into an empty folder, compiles tests/install.c there by pkg-config alone, runs it with each
 # library, looks at the manual pages, and takes all away again. The last line is 'install passed'.
-set -euo pipefail
-top=$(cd "$(dirname "$0")/.." && pwd)
-folder=$(mktemp -d)
-trap 'rm -rf "$folder"' EXIT
+self=install
+. "$(dirname "$0")/common.sh"
 prefix=$folder/usr
 make -s -C "$top" install DESTDIR= PREFIX="$prefix"
 
@@ -16,10 +14,7 @@ wanted="lo 1500 $(pkg-config --modversion linkwire)"
 # Runs what was compiled, and compares what it prints.
 expect() {
     found=$("$@")
-    if [ "$found" != "$wanted" ]; then
-        printf 'install: a program prints %s and not %s\n' "$found" "$wanted" >&2
-        exit 1
-    fi
+    [ "$found" = "$wanted" ] || fails "a program prints $found and not $wanted"
 }
 ${CC:-cc} -o shared install.c "${flags[@]}"
 readelf -d shared | grep -q 'NEEDED.*\[liblinkwire\.so\.0\]'
@@ -40,20 +35,18 @@ done
 
 for page in "$prefix"/share/man/man[13]/link*.[13]; do
     warnings=$(groff -ww -man -Tutf8 "$page" 2>&1 >/dev/null; man --warnings=w -l "$page" 2>&1 >/dev/null)
-    if [ -n "$warnings" ]; then
-        echo "install: $warnings" >&2
-        exit 1
-    fi
+    [ -z "$warnings" ] || fails "$warnings"
 done
 
 # With DESTDIR the paths inside are those without it, and nothing is left after the removal.
 make -s -C "$top" install DESTDIR="$folder/stage" PREFIX=/usr
 grep -qx 'prefix=/usr' "$folder/stage/usr/lib/pkgconfig/linkwire.pc"
+# each file is one of Debian's packages, of which debhelper is not asked here
+find "$folder/stage" ! -type d -printf '/%P\n' | sort >"$folder/installed"
+sed -n 's|^usr/|/usr/|p' "$top"/debian/*.install | sed 's|/lib/\*/|/lib/|' | grep -v python3 | sort |
+    diff "$folder/installed" - >&2 || fails 'debian/*.install lists other files'
 make -s -C "$top" uninstall DESTDIR="$folder/stage" PREFIX=/usr
 make -s -C "$top" uninstall DESTDIR= PREFIX="$prefix"
 left=$(find "$folder/stage" "$prefix" ! -type d)
-if [ -n "$left" ]; then
-    echo "install: $left is left" >&2
-    exit 1
-fi
+[ -z "$left" ] || fails "$left is left"
 echo 'install passed'

@@ -1,12 +1,10 @@
 #!/usr/bin/env bash
 # Looks at the lines of scripts/progress.sh, with a stand-in for rt that sleeps: in a file, on a terminal, after a
 # failure, and when it is ended.
-set -euo pipefail
-top=$(cd "$(dirname "$0")/.." && pwd)
-folder=$(mktemp -d)
-trap 'rm -rf "$folder"' EXIT
+self=progress
+. "$(dirname "$0")/common.sh"
 mkdir -p "$folder/bin" "$folder/scripts" "$folder/crates/"{low,mid,top}
-cp "$top/scripts/progress.sh" "$folder/scripts/"
+cp "$top/scripts/"{progress,common}.sh "$folder/scripts/"
 printf 'low: std\nmid: low\nmid_not: low\ntop staticlib: mid low\n' >"$folder/crates.txt"
 stand_in() {
     cat >"$folder/bin/rt" <<'END'
@@ -29,9 +27,7 @@ export PATH="$folder/bin:$PATH"
 # wants NAME TEXT: what the last run must have printed, without its seconds
 wants() {
     if [ "$(sed -E 's/[0-9]+ s$/N s/' "$folder/err")" != "$2" ]; then
-        echo "progress: $1:" >&2
-        cat "$folder/err" >&2
-        exit 1
+        fails "$1: $(cat "$folder/err")"
     fi
     echo "progress: $1: ok"
 }
@@ -44,8 +40,7 @@ top: 2 of 3 mid .. N s
 top: 3 of 3 top ..
 top: 3 of 3 top .. N s'
 if [ -s "$folder/out" ] || [ "$(grep -c '^said by' "$folder/log")" != 3 ]; then
-    echo 'progress: something is on standard output, or the log lacks a line' >&2
-    exit 1
+    fails 'something is on standard output, or the log lacks a line'
 fi
 
 sleep 1.1
@@ -54,10 +49,7 @@ status=0
 TOP_STATUS=1 "$folder/scripts/progress.sh" top "$folder/log" rt lib 2>"$folder/err" || status=$?
 head -n 3 "$folder/err" >"$folder/cut" && mv "$folder/cut" "$folder/err"
 wants 'one that changed' $'top: 2 of 3 mid ..\ntop: 2 of 3 mid .. N s\ntop: 3 of 3 top ..'
-if [ "$status" != 1 ]; then
-    echo 'progress: a failure is not told' >&2
-    exit 1
-fi
+[ "$status" = 1 ] || fails 'a failure is not told'
 
 rm -r "$folder/crates/low/out"
 cat >"$folder/bin/rt" <<'END'
@@ -66,33 +58,23 @@ echo "$$" >pid
 exec sleep 60
 END
 "$folder/scripts/progress.sh" top "$folder/log" rt run 2>"$folder/err" &
-for ((try = 0; try < 100; try++)); do
-    if [ -s "$folder/crates/low/pid" ]; then break; fi
-    sleep 0.1
-done
+waits 10 test -s "$folder/crates/low/pid"
 kill $!
 wait $! || true
 pid=$(cat "$folder/crates/low/pid")
-for ((try = 0; try < 50; try++)); do
-    if ! kill -0 "$pid" 2>/dev/null; then break; fi
-    sleep 0.1
-done
-if kill -0 "$pid" 2>/dev/null; then
-    echo 'progress: what was started goes on after its end' >&2
-    exit 1
-fi
+# shellcheck disable=SC2317 # waits calls it
+ended() {
+    ! kill -0 "$pid" 2>/dev/null
+}
+waits 5 ended || fails 'what was started goes on after its end'
 echo 'progress: ended from outside: ok'
 rm "$folder/crates/low/pid"
 stand_in
 
-if ! command -v script >/dev/null; then
-    echo 'progress: on a terminal: skipped, no command script'
-    exit 0
-fi
+command -v script >/dev/null || skips 'on a terminal: no command script'
 touch "$folder/crates/mid/source"
 MID_SECONDS=7 script -qec "'$folder/scripts/progress.sh' top '$folder/log' rt run" /dev/null </dev/null >"$folder/err"
 if [ "$(tr '\r' '\n' <"$folder/err" | grep -c '^top: 2 of 3 mid \.\. [0-9]* s$')" -lt 3 ]; then
-    echo 'progress: the seconds stand still on a terminal' >&2
-    exit 1
+    fails 'the seconds stand still on a terminal'
 fi
 echo 'progress: on a terminal: ok'

@@ -3,26 +3,11 @@
 # contracts erased: a test has to refuse each, by cargo, in some seconds. Words limit it to the edits whose headlines
 # have them:
 #     scripts/tested_edits.sh [WORDS]
-set -euo pipefail
-cd "$(dirname "$0")/.."
-if ! command -v cargo >/dev/null; then
-    echo 'tested_edits: skipped: no cargo'
-    exit 0
-fi
-folder=$(mktemp -d)
-trap 'rm -rf "$folder"' EXIT
-cp crates.txt "$folder"
-cp -r scripts "$folder/scripts"
-mkdir "$folder/crates"
-for crate in crates/*; do
-    mkdir "$folder/$crate"
-    cp -r "$crate/src" "$folder/$crate/"
-    for run in args stdin stdout; do
-        if [ -e "$crate/$run" ]; then
-            cp "$crate/$run" "$folder/$crate/"
-        fi
-    done
-done
+. "$(dirname "$0")/common.sh"
+cd "$top"
+needs cargo
+shopt -s nullglob
+cp -r --parents crates.txt scripts crates/*/{src,args,stdin,stdout} "$folder"
 export CARGO_TARGET_DIR=$folder/target CARGO_NET_OFFLINE=true
 
 # Erases the contracts of the copy, and runs its tests.
@@ -33,16 +18,14 @@ tests() {
 }
 
 if ! log=$(tests); then
-    echo 'tested_edits: the tests fail without an edit' >&2
     tail -n 20 <<<"$log" | cut -c 1-200 >&2
-    exit 1
+    fails 'the tests fail without an edit'
 fi
 failed=0
 for list in tests/edits/*.txt; do
     name=$(basename "$list" .txt)
     python3 scripts/edits.py "$list" "$folder/edits/$name" "${1:-}"
     for edit in "$folder/edits/$name"/*.edit; do
-        [ -e "$edit" ] || continue
         python3 scripts/edits.py --apply "$edit" "$folder/crates/$name"
         log=$(tests || true)
         count=$(awk '/^test result: FAILED/ { sum += $6 } END { print sum + 0 }' <<<"$log")

@@ -5,7 +5,7 @@ and each that names the toolchain with dist/SUMS.
     python3 scripts/version.py
 
 A place that has another one, or none, is printed as 'FILE: CONSTANT is FOUND, not WANTED', and the exit status is then
-1. What is made of the header, as linkwire.pc and Debian's packages, has no number of its own, and is not looked at.
+1. What is made of the header, as linkwire.pc, has no number of its own, and is not looked at.
 """
 
 import fnmatch
@@ -14,12 +14,14 @@ import re
 import subprocess
 import sys
 
-TOP = os.path.dirname(os.path.dirname(os.path.abspath(__file__)))
+from shared import TOP
+
 HEADER, SUMS = "include/linkwire.h", "dist/SUMS"
 # each of these files has one: which constant of the header it is, or TOOLCHAIN, and its form, whose group is the value
 PLACES = [(files, constant, re.compile(form, re.M)) for files, constant, form in [
     ("man/*.[1-9]", "VERSION", r'^\.TH .* "linkwire ([^"]*)"'),
     ("CHANGELOG.md", "VERSION", r"\A[\s\S]*?^## \[([\d.]+)\] - "),
+    ("debian/changelog", "VERSION", r"\A\w+ \(([\d.]+)-"),
     ("rust/Cargo.toml", "VERSION", r'^version = "(.*)"'),
     ("rust/netlink/Cargo.toml", "VERSION", r'^version = "(.*)"'),
     ("rust/serde/Cargo.toml", "VERSION", r'^version = "(.*)"'),
@@ -35,8 +37,6 @@ PLACES = [(files, constant, re.compile(form, re.M)) for files, constant, form in
     ("man/linkwire.1", "CANONICAL_FORM", r"canonical encoding is of form (\d+)"),
     ("man/linkstate.1", "CANONICAL_FORM", r"canonical encoding of form (\d+)"),
     ("man/linkstate.1", "STATE_FORM", r"state encoding is of form (\d+)"),
-    ("docs/CRATES.md", "CANONICAL_FORM", r"^\| the canonical form \| (\d+),"),
-    ("docs/CRATES.md", "LENIENT_FORM", r"^\| the lenient form \| (\d+),"),
     ("docs/STORE.md", "CANONICAL_FORM", r"\bforms=(\d+)-"),
     ("docs/STORE.md", "STATE_FORM", r"\bforms=\d+-(\d+)"),
     ("README.md", "TOOLCHAIN", r"toolchain\s+\(`([^`]*)`\)"),

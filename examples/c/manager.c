@@ -35,7 +35,7 @@ static void begin(struct request *request, uint16_t type, uint16_t flags, unsign
     request->list = linkwire_writer_at(request->buffer.bytes, sizeof request->buffer.bytes, head->nlmsg_len);
 }
 
-/* A text of a message that was checked, for printf's "%.*s". */
+/* A text, for printf's "%.*s". Where it is refused it is no UTF-8. */
 struct text {
     int len;
     const char *start;
@@ -62,6 +62,22 @@ static void look_into(const uint8_t *list, size_t len, struct text *kind, uint16
     }
 }
 
+/* Whether a message can be read. Attributes of it that are refused are told, and hide none of the others. */
+static int is_readable(const uint8_t *message, size_t len) {
+    struct linkwire_refusal it;
+    size_t at = 0;
+    int32_t found = 0;
+    while ((found = linkwire_refusal_next(message, len, &at, &it)) == 1 && it.is_attribute) {
+        const char *name = linkwire_name(linkwire_number(it.attribute.kind));
+        fprintf(stderr, "manager: %s of link %u is refused: %s\n", name ? name : "an attribute",
+                (unsigned)linkwire_le(message + 4, 4), linkwire_answer_text(it.fault));
+    }
+    if (found != 0) {
+        fprintf(stderr, "manager: a message is refused: %s\n", linkwire_answer_text(found < 0 ? found : it.fault));
+    }
+    return found == 0;
+}
+
 /* Prints one link of a dump to a file. */
 static int print_link(const struct nlmsghdr *head, void *file) {
     const uint8_t *message = mnl_nlmsg_get_payload(head);
@@ -71,9 +87,7 @@ static int print_link(const struct nlmsghdr *head, void *file) {
     uint32_t mtu = 0;
     uint16_t vlan = 0;
     uint8_t state = 0;
-    int32_t fault = linkwire_check(message, len);
-    if (fault != 0) {
-        fprintf(stderr, "manager: the kernel's message is refused: %s\n", linkwire_answer_text(fault));
+    if (!is_readable(message, len)) {
         return MNL_CB_OK;
     }
     while (linkwire_next(message, len, &at, &it) == 1) {

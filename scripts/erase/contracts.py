@@ -1,5 +1,4 @@
 """What states and proves is dropped: ghosts, clauses, tactics, models, and the words that Rust has not."""
-from source import counts
 
 
 def drop_ghosts(s):
@@ -8,7 +7,6 @@ def drop_ghosts(s):
         end = s.skip_to(i, {";", ","})
         if end is None:
             s.fail(i, "a ghost item without an end")
-        counts["ghost use" if s.at(s.next(i), "use") else "ghost member or field"] += 1
         s.drop(s.item_start(i), end)
 
 
@@ -23,7 +21,6 @@ def drop_clauses(s):
         if s.text[j] != "{":
             s.fail(i, "a clause without braces")
         end = s.match[j]
-        counts["clause"] += 1
         s.drop(i, end)
         if s.text[s.next(end)] in ("{", ";"):
             close_signature(s, i, s.next(end))
@@ -49,7 +46,6 @@ def drop_attributes(s):
         if s.text[j] == "!":
             j = s.next(j)
         if s.text[j] == "[" and s.text[s.next(j)] in ("tactic", "cycle"):
-            counts["#[tactic]"] += 1
             s.drop(i, s.match[j])
 
 
@@ -58,7 +54,6 @@ def inline_optimized(s):
     for i in s.live("always"):
         word = s.prev(i, 2)
         if s.at(word, "inline", "(", "always", ")", "]"):
-            counts["#[inline(always)]"] += 1
             s.new[word] = "cfg_attr(not(debug_assertions), inline"
             s.new[s.next(i)] = "))"
 
@@ -68,7 +63,6 @@ def drop_impls_of(s, trait):
     for i, body in impls_of(s, trait):
         if any(k in s.rank and not s.dead[k] for k in range(body + 1, s.match[body])):
             s.fail(i, f"an impl of {trait} with more than ghosts")
-        counts[f"impl {trait}"] += 1
         s.drop(s.item_start(i), s.match[body])
 
 
@@ -97,25 +91,13 @@ def drop_comments(s):
     """`// for the proof: ..`: why a body is written as it is."""
     for i, kind in enumerate(s.kind):
         if kind == "line" and s.text[i].startswith("// for the proof") and not s.dead[i]:
-            counts["comment for the proof"] += 1
             s.drop(i, i)
 
 
 def drop_final(s):
     for i in s.live("final"):
         if s.at(s.next(i), "fn"):
-            counts["final"] += 1
             s.drop_word(i)
-
-
-def drop_tests(s):
-    """`#[cfg(test)]` and its item."""
-    for i in s.live("#"):
-        if s.at(i, "#", "[", "cfg", "(", "test", ")", "]"):
-            j = s.next(s.match[s.next(i)])
-            end = s.skip_to(j, {";", "{"})
-            counts["cfg(test)"] += 1
-            s.drop(i, s.match.get(end, end))
 
 
 def export_macros(s):
@@ -125,7 +107,6 @@ def export_macros(s):
             j = s.next(i, 4)
             if s.text[j] != "macro_rules":
                 s.fail(i, "macro_export of no macro")
-            counts["macro_export"] += 1
             s.drop(i, j - 1)
             s.after[s.match[s.next(j, 3)]] = f"\n\npub(crate) use {s.text[s.next(j, 2)]};"
 
@@ -134,7 +115,6 @@ def drop_modules(s, names):
     """`mod NAME;` of modules that state laws, or for which a file of Rust stands."""
     for i in s.live("mod"):
         if s.text[s.next(i)] in names and s.text[s.next(i, 2)] == ";":
-            counts["mod that is not made"] += 1
             s.drop(s.item_start(i), s.next(i, 2))
 
 
@@ -144,19 +124,13 @@ def drop_bounds(s, bound):
         before, after = s.prev(i), s.next(i)
         if s.text[after] == "for" or s.in_use(i) or is_derived(s, i):
             continue
-        if s.follows_path(i):
-            s.fail(i, f"{bound} other than as a bound")
-        elif s.text[before] == "+":
+        if s.text[before] == "+":
             s.drop(before, i)
             s.dead[before - 1] = s.kind[before - 1] == "ws"
-        elif s.text[before] == ":" and s.text[after] == "+":
-            s.drop(i, after)
-            s.dead[after + 1] = s.kind[after + 1] == "ws"
-        elif s.text[before] == ":":
+        elif s.text[before] == ":" and s.text[after] != "+" and not s.follows_path(i):
             drop_whole_bound(s, i)
         else:
             s.fail(i, f"{bound} other than as a bound")
-        counts[f"bound {bound}"] += 1
 
 
 def is_derived(s, i):
@@ -170,18 +144,10 @@ def drop_whole_bound(s, i):
     before = s.prev(i)
     subject = s.prev(before)
     lead = s.prev(subject)
-    if s.text[lead] == "where" or (s.text[lead] == "," and is_in_where(s, lead)):
+    if s.text[lead] == "where":
         drop_predicate(s, lead, subject, i)
     else:
         s.drop(before, i)
-
-
-def is_in_where(s, i):
-    while i is not None and s.text[i] not in ("{", "}", ";", "fn"):
-        if s.text[i] == "where":
-            return True
-        i = s.prev(i)
-    return False
 
 
 def drop_predicate(s, lead, subject, i):
@@ -191,6 +157,6 @@ def drop_predicate(s, lead, subject, i):
     rest = s.next(after if s.text[after] == "," else i)
     while s.dead[rest]:
         rest = s.next(rest)
-    if s.text[lead] == "where" and s.text[rest] in ("{", ";"):
+    if s.text[rest] in ("{", ";"):
         s.drop(lead, lead)
         s.join(s.prev(lead), rest)

@@ -1,6 +1,7 @@
 """What is derived: `Drop` goes, thiserror's `Error` is written out, and a Rust user's traits come."""
-from source import counts
-from tokens import is_part
+import re
+
+from contracts import impls_of
 
 # Of these no value is stored: they are borrowed, are rows of tables, or say why something was refused.
 NOT_STORED = {"CanonError", "Cause", "DecodeError", "Field", "Fields", "Info", "InfoError", "KindRow", "Member",
@@ -41,17 +42,14 @@ def derives(s, is_crate):
             kept = wanted(s, type_after(s, s.next(i)), had, kept)
             stored(s, type_after(s, s.next(i)), s.match[s.next(i)], kept)
         if kept != had:
-            counts["derive"] += 1
             put(s, i, list_, kept)
         if "Error" in had:
-            counts["derive(Error), written out"] += 1
             derive_error(s, s.next(s.match[s.next(i)]))
 
 
 def stored(s, name, end, kept):
     """A value of a message can be stored, by the feature `serde`."""
     if "Eq" in kept and s.text[name] not in NOT_STORED and s.text[s.next(name)] != "<":
-        counts["serde's derive"] += 1
         s.after[end] = "\n" + SERDE
 
 
@@ -87,16 +85,9 @@ def has_impl(s, trait, name):
 def drop_structural(s):
     """`PartialEq` and `Eq` that are written out where the derived ones are the same."""
     for trait in ("PartialEq", "Eq"):
-        for i in s.live("impl"):
-            body = s.skip_to(i, {"{", ";"})
-            if s.implements(i, body) != trait:
-                continue
-            name = i
-            while s.text[name] != "for":
-                name = s.next(name)
-            if s.text[s.next(name)] not in STRUCTURAL:
+        for i, body in impls_of(s, trait):
+            if s.text[s.next(s.skip_to(i, {"for"}))] not in STRUCTURAL:
                 s.fail(i, f"an impl of {trait} that is written out")
-            counts["impl PartialEq or Eq, derived"] += 1
             s.drop(s.item_start(i), s.match[body])
 
 
@@ -112,19 +103,7 @@ def attributes(s, i):
 
 def names_in(fmt):
     """What a format names: `{name:..}` and `{0}`."""
-    found, i = [], 0
-    while i < len(fmt):
-        if fmt.startswith("{{", i) or fmt.startswith("}}", i):
-            i += 2
-        elif fmt[i] == "{":
-            end = i + 1
-            while is_part(fmt[end]):
-                end += 1
-            found.append(fmt[i + 1:end])
-            i = fmt.index("}", i) + 1
-        else:
-            i += 1
-    return found
+    return re.findall(r"\{(\w*)[^{}]*\}", fmt.replace("{{", "").replace("}}", ""))
 
 
 def message(s, found, i):
@@ -136,7 +115,6 @@ def message(s, found, i):
     if s.kind[text] != "str" or s.text[s.next(text)] != ")":
         s.fail(text, "a message that is more than one text")
     s.drop(at, s.match[s.next(at)])
-    counts["#[error]"] += 1
     return s.text[text]
 
 

@@ -6,8 +6,9 @@
     python3 scripts/erase/erase.py check OUT        whether what stands there is what `crate` would make
 
 Tokens are dropped or replaced, and none is reordered but the names of imports, as rustfmt sorts them. A form that no
-rewrite knows is an error, which names the file and the line. How often each rewrite was made is printed.
+rewrite knows is an error, which names the file and the line.
 """
+import glob
 import os
 import shutil
 import sys
@@ -25,7 +26,7 @@ import runtime
 import surface
 import typed
 import words
-from source import Source, Unknown, counts
+from source import Source, Unknown
 
 HERE = os.path.dirname(os.path.abspath(__file__))
 CRATES = os.path.join(HERE, "..", "..", "crates")
@@ -84,8 +85,6 @@ def states(s, mode, crate):
     contracts.drop_attributes(s)
     contracts.export_macros(s)
     contracts.drop_clauses(s)
-    if mode.is_crate:
-        contracts.drop_tests(s)
     contracts.drop_models(s)
     contracts.drop_final(s)
     contracts.drop_bounds(s, "Drop")
@@ -169,11 +168,8 @@ def source(crate, base):
 def sources(crate):
     """The sources of a crate: the path of each, and its name without `.rt`."""
     folder = os.path.join(CRATES, crate, "src")
-    for root, _, files in sorted(os.walk(folder)):
-        for name in sorted(files):
-            if name.endswith(".rt"):
-                path = os.path.join(root, name)
-                yield path, os.path.relpath(path, folder)[:-3]
+    for name in sorted(glob.glob("**/*.rt", root_dir=folder, recursive=True)):
+        yield os.path.join(folder, name), name.removesuffix(".rt")
 
 
 def read(path):
@@ -207,8 +203,6 @@ def make(mode, out):
             text = erase(os.path.relpath(path), read(path), crate, mode)
             to = os.path.join(*(["bin"] if crate in mode.programs else []), crate, "mod" if base == "lib" else base)
             write(os.path.join(out, "src", to + ".rs"), MARK.format(f"{crate}/src/{base}.rt") + text)
-            counts["files"] += 1
-            counts["lines of Rust"] += text.count("\n")
 
 
 def copy_runs(mode, out):
@@ -251,15 +245,13 @@ def copy_std(mode, out):
             write(path, read(path).replace(mark, text))
         return
     folder = os.path.join(HERE, "std", "src")
-    for root, _, files in sorted(os.walk(folder)):
-        for name in sorted(files):
-            path = os.path.relpath(os.path.join(root, name), folder)
-            text = layout.uses(read(os.path.join(root, name)).replace("// MODULES\n", modules(mode)))
-            if root == folder:
-                mode.conditions += owed.written(Source(path, text))
-            front = read(os.path.join(HERE, "front.md")).splitlines() if path == "lib.rs" else []
-            doc = "".join(f"//! {line}".rstrip() + "\n" for line in front)
-            write(os.path.join(out, "src", path), COPIED.format(path) + doc + text)
+    for path in sorted(files(folder, ["."])):
+        text = layout.uses(read(os.path.join(folder, path)).replace("// MODULES\n", modules(mode)))
+        if os.sep not in path:
+            mode.conditions += owed.written(Source(path, text))
+        front = read(os.path.join(HERE, "front.md")).splitlines() if path == "lib.rs" else []
+        doc = "".join(f"//! {line}".rstrip() + "\n" for line in front)
+        write(os.path.join(out, "src", path), COPIED.format(path) + doc + text)
     shutil.copy(os.path.join(HERE, "..", "..", "LICENSE"), os.path.join(out, "LICENSE"))
 
 
@@ -280,19 +272,16 @@ def make_all(mode, out):
 
 
 def files(folder, names):
-    """The files of these names and below them, in order."""
-    for name in names:
-        path = os.path.join(folder, name)
-        found = [path] if os.path.isfile(path) else [
-            os.path.join(root, one) for root, _, ones in os.walk(path) for one in ones]
-        yield from (os.path.relpath(one, folder) for one in sorted(found))
+    """The files of these names and below them."""
+    found = {one for name in names for one in [name, *glob.glob(f"{name}/**", root_dir=folder, recursive=True)]}
+    return {os.path.normpath(one) for one in found if os.path.isfile(os.path.join(folder, one))}
 
 
 def compare(mode, out):
     """What differs between the made files and those that stand there: the first, or None."""
     with tempfile.TemporaryDirectory() as made:
         make_all(mode, made)
-        there, here = (set(files(folder, MADE)) for folder in (out, made))
+        there, here = (files(folder, MADE) for folder in (out, made))
         for name in sorted(there ^ here):
             return f"{name} is " + ("not made any more" if name in there else "missing")
         for name in sorted(here):
@@ -309,11 +298,9 @@ def main():
         found = compare(mode, out)
         if found:
             sys.exit(f"erase.py: {out}: {found}: run `make rust`")
-        print(f'erase: {counts["files"]} files of {out} are what is made of the sources')
+        print(f"erase: {len(files(out, MADE))} files of {out} are what is made of the sources")
         return
     make_all(mode, out)
-    for name, count in sorted(counts.items()):
-        print(f"{count:6} {name}")
 
 
 if __name__ == "__main__":

@@ -3,7 +3,6 @@ import os
 import re
 
 import surface
-from source import counts
 
 PAGE = os.path.join(os.path.dirname(os.path.abspath(__file__)), "examples.md")
 PART = re.compile(r"^## (\S+)\n\n(?:Besides: ([^`]+)\.\n\n)?```rust\n(.*?)\n```$", re.M | re.S)
@@ -38,7 +37,6 @@ def add(s, said, mode):
     for fn in s.live("fn"):
         name = surface.public_name(s, fn, mode.public)
         if name in mode.examples:
-            counts["call with an example, or with a link to one"] += 1
             said.setdefault(fn, []).append(mode.examples[name])
             mode.shown.add(name)
 

@@ -100,20 +100,14 @@ class Layout(Source):
         """A bracket on one line; None where it cannot be."""
         close = self.match[i]
         inner = range(i + 1, close)
-        if any(self.kind[k] in ("line", "block", "doc") or self.text[k] in (";", "=") and self.is_code(i, k)
+        if any(self.kind[k] in ("line", "block", "doc") or self.text[k] == ";" and self.text[self.outer(k)] != "["
                for k in inner):
-            return None
+            return None                             # comments, and code, as a `;` shows
         words = "".join(" " if self.kind[k] == "ws" else self.shown(k) for k in inner)
         words = " ".join(words.split()).removesuffix(",")
         words = re.sub(r"(?<=[(\[]) | (?=[)\]])|,(?= ?[)\]])| (?=\.(?!\.)|\?)", "", words)
         words = re.sub(r", \}", " }", words)
         return f"{{ {words} }}" if self.text[i] == "{" else f"{self.text[i]}{words}{self.text[close]}"
-
-    def is_code(self, i, k):
-        """Whether a `;`, or the arrow of an arm, shows that the bracket holds code and not values alone."""
-        if self.text[k] == "=":
-            return self.text[k + 1] == ">" and k + 1 < len(self.text)
-        return self.text[self.outer(k)] != "["
 
     def is_literal(self, i):
         """Whether a brace is that of a literal or pattern of a struct."""
@@ -171,35 +165,35 @@ CHAIN = re.compile(r"^( +)([^\n]*[^\s,;{}(\[])((?:\n\1 {4}\.[^\n]*[^\n{(\[])+)(?
 OPERATOR = re.compile(r"^([^\n]*[^\s,;{}])\n +((?:\|\||&&) [^\n]*?)(?: \{|\n +\{)?$", re.M)
 
 
+def fits(found, line, *parts):
+    """The line, where it is not too long and no comment is in these parts of it; else what stands there."""
+    return line if len(line) <= WIDTH and not any("//" in one for one in parts) else found.group()
+
+
 def join_arm(found):
     """`pattern => {` with one value in it, on one line."""
     indent, head, value = found.groups()
-    line = f"{indent}{head} {value},"
-    return line if len(line) <= WIDTH else found.group()
+    return fits(found, f"{indent}{head} {value},")
 
 
 def break_arm(found):
     """`pattern => (` that does not fit: its value has the next line."""
     indent, head, first, inner, last = found.groups()
     value = first + " ".join(inner.split()).removesuffix(",") + last
-    if len(f"{indent}{head} {value},") <= WIDTH:
-        return f"{indent}{head} {value},"
-    if len(indent) + 4 + len(value) <= WIDTH and "{" not in value:
+    if len(f"{indent}{head} {value},") > WIDTH and len(indent) + 4 + len(value) <= WIDTH and "{" not in value:
         return f"{indent}{head} {{\n{indent}    {value}\n{indent}}}"
-    return found.group()
+    return fits(found, f"{indent}{head} {value},")
 
 
 def join_operator(found):
     line, rest = found.groups()
-    joined = f"{line} {rest}" + (" {" if found.group().endswith("{") else "")
-    return joined if len(joined) <= WIDTH and "//" not in line else found.group()
+    return fits(found, f"{line} {rest}" + (" {" if found.group().endswith("{") else ""), line)
 
 
 def join_choice(found):
     """`if` and `else` of one value each, as a value itself, on one line."""
     head, _, one, other, rest = found.groups()
-    joined = f"{head}{{ {one} }} else {{ {other} }}{rest}"
-    return joined if len(joined) <= WIDTH and "//" not in head else found.group()
+    return fits(found, f"{head}{{ {one} }} else {{ {other} }}{rest}", head)
 
 
 def join_constant(found):
@@ -212,8 +206,7 @@ def join_constant(found):
 def join_chain(found):
     """Calls, each on a line, on one line."""
     indent, first, rest = found.groups()
-    line = indent + first + "".join(one.strip() for one in rest.split("\n"))
-    return line if len(line) <= WIDTH and "//" not in line else found.group()
+    return fits(found, indent + first + "".join(one.strip() for one in rest.split("\n")), first)
 
 
 def fill_rows(found):

@@ -1,7 +1,7 @@
 """The crate's memory: no allocator is passed, `Vec` and `String` are Rust's, and no call fails for memory alone."""
-from source import counts
 
-ALLOCATORS = {("alloc",), ("alloc", ":", "Global"), ("self", ".", "alloc"), ("rt", ".", "alloc", "(", ")")}
+ALLOCATORS = {("alloc",), ("alloc", ":", "Global"), ("self", ".", "alloc"), ("rt", ".", "alloc", "(", ")"),
+              ("$", "alloc"), ("$", "alloc", ":", "ident")}
 GONE = {"Bytes", "CloneIn", "Exact", "Global", "List", "Text"}         # names that an import of the crate has not
 ERRORS = {"AllocError", "AllocFailed"}
 MEMORY = "OutOfMemory"
@@ -17,7 +17,6 @@ def drop_imports(s):
     for i, end in s.imports():
         for k in s.names(i, end):
             if s.text[k] in GONE | ERRORS and not s.dead[i]:
-                counts["name of an import dropped"] += 1
                 s.drop_name(i, end, k)
     for i, end in s.imports():
         for k in range(i, end):
@@ -31,8 +30,18 @@ def drop_impls(s):
         body = s.skip_to(i, {"{", ";"})
         trait = s.implements(i, body)
         if trait == "CloneIn" or (trait == "From" and any(s.text[k] in ERRORS for k in range(i, body))):
-            counts["impl CloneIn, derived" if trait == "CloneIn" else "impl From<AllocError>"] += 1
             s.drop(s.item_start(i), s.match[body])
+
+
+def drop_copies(s):
+    """The arms of macros that copy, `(copy ..) => {..};` and `((copy ..) ..) => {..};`: `Clone` is derived."""
+    for i in s.live("copy"):
+        if not s.at(s.prev(i), "("):
+            continue
+        first = s.prev(i, 2) if s.at(s.prev(i, 2), "(") else s.prev(i)
+        arrow = s.next(s.match[first])
+        if s.at(arrow, "=", ">", "{"):
+            s.drop(first, s.next(s.match[s.next(arrow, 2)]))
 
 
 def drop_variants(s):
@@ -41,7 +50,6 @@ def drop_variants(s):
         if s.follows_path(i):
             drop_arm(s, i)
         elif s.text[s.next(i)] == ",":
-            counts["variant that only memory gives"] += 1
             s.drop(s.item_start(i), s.next(i))
         else:
             s.fail(i, "a cause that only memory gives, other than a variant or an arm")
@@ -55,7 +63,6 @@ def drop_arm(s, i):
     end = s.skip_to(s.next(arrow, 2), {",", "}"})
     if s.text[end] != ",":
         s.fail(i, "an arm without a comma")
-    counts["arm that only memory takes"] += 1
     open_ = s.outer(i)
     s.drop(first, end)
     only_arm(s, open_)
@@ -73,7 +80,6 @@ def only_arm(s, open_):
     comma = live[-1] if s.text[live[-1]] == "," else None
     if s.skip_to(value, {",", "}"}) not in (comma, s.match[open_]):
         return
-    counts["match with one arm left"] += 1
     subject = s.next(word)
     s.drop(word, value - 1)
     s.drop(comma or s.match[open_], s.match[open_])
@@ -109,7 +115,6 @@ def memory_functions(s):
 def unwrap_functions(s):
     """Those functions return their values, `Ok(value)` is the value."""
     for _, result, end in memory_functions(s):
-        counts["function that fails for memory alone"] += 1
         if s.at(s.next(result, 2), "(", ")", ","):
             s.drop(s.prev(result, 3) + 1, end)              # it returns nothing
         else:
@@ -128,7 +133,6 @@ def unwrap_value(s, k):
         return                                          # a pattern
     if s.text[k] == "Err":
         s.fail(k, "a function that fails for memory alone gives an error of its own")
-    counts["Ok(value) of such a function"] += 1
     if s.at(s.next(k), "(", "(", ")", ")", "}") and s.text[s.prev(k)] in (";", "}"):
         s.drop(s.prev(k) + 1, close)
         return
@@ -148,7 +152,6 @@ def asked_calls(s, names):
             if s.text[i] in GROWS or (s.text[ask] in (",", "}") and s.text[s.outer(i)] == "{"):
                 continue                                # the value of a function that fails for memory alone
             s.fail(i, "a call that fails for memory alone is not asked at once whether it failed")
-        counts["call that fails for memory alone"] += 1
         s.drop(ask, ask)
 
 
@@ -159,14 +162,12 @@ def reserved(s):
     for i in s.live("push_reserved"):
         owner = s.prev(i, 2)
         if s.at(s.prev(owner), "$"):
-            counts["push_reserved"] += 1
             s.new[s.prev(owner)] = "$crate::rattle::list::vacant($"
             s.after[owner] = ").push"
             s.drop(s.prev(i), i)
             continue
         if not s.at(s.prev(i), ".") or s.kind[owner] != "id" or s.text[s.prev(owner)] not in ("{", "}", ";"):
             s.fail(i, "push_reserved on what is no list with a name")
-        counts["push_reserved"] += 1
         needed = True
         call = f"vacant({'&mut ' * is_local(s, owner)}{s.text[owner]}).push"
         if not made_before(s, owner, i, call):
@@ -193,7 +194,6 @@ def made_before(s, owner, i, call):
         word = s.prev(word)
     if not s.at(word, "let", s.text[value], "=") or not s.at(value, s.text[value], ")", ";") or s.text[end] != ";":
         return False
-    counts["value made in the list"] += 1
     first = s.next(word, 3)
     s.drop(word, first - 1)
     s.before[first] = call + "("
@@ -208,7 +208,6 @@ def makers(s):
         owner = s.prev(i, 3)
         if i in s.new or not s.follows_path(i) or (s.text[owner], s.text[i]) not in MADE or s.text[s.next(i)] != "(":
             continue
-        counts["value made in memory"] += 1
         close = s.match[s.next(i)]
         made = MADE[s.text[owner], s.text[i]]
         s.drop(owner, i)
@@ -232,7 +231,6 @@ def types(s):
         elif s.at(after, ":", ":"):
             s.fail(i, f"a call of {s.text[i]} that is not known")
         else:
-            counts["List, Text or Bytes"] += 1
             s.new[i] = TYPES[s.text[i]]
 
 
@@ -244,7 +242,6 @@ def is_variant(s, i):
 
 def drop_new(s, i):
     new = s.next(i, 3)
-    counts["List::new and its like"] += 1
     if s.text[s.next(new)] == "(":
         open_ = s.next(new)
         s.drop(i, open_)
@@ -269,7 +266,6 @@ def shorten(s, i, value, close):
         while s.follows_path(path):
             path = s.prev(path, 3)
         if s.at(s.prev(path, 3), "|", name, "|"):
-            counts["closure of a variant"] += 1
             s.drop(s.prev(path, 3), path - 1)
             s.drop(s.prev(i), s.match[s.prev(i)])
 
@@ -283,7 +279,6 @@ def questions(s):
         end = s.skip_to(close, {";"})
         word = s.skip_to(close, {"else", ";"})
         if s.at(word, "else", "{", "return", "None", ";", "}", ";"):
-            counts["let .. else { return None; }"] += 1
             s.drop(s.next(i), s.next(i, 2))
             s.drop(close, close)
             s.drop(word - 1, end - 1)
@@ -300,7 +295,6 @@ def drop_allocators(s):
                 continue
             if s.text[i] == "{" and comma is None:
                 continue
-            counts["allocator passed or taken"] += 1
             if comma is not None:
                 s.drop(first, comma)
                 s.dead[comma + 1] = s.kind[comma + 1] == "ws" and "\n" not in s.text[comma + 1]
@@ -318,6 +312,7 @@ def memory(s, names):
     """All of it. `names` are the functions of the whole package that fail for memory alone."""
     drop_imports(s)
     drop_impls(s)
+    drop_copies(s)
     drop_variants(s)
     unwrap_functions(s)
     makers(s)

@@ -1,5 +1,5 @@
 """What Rust 1.63 has not, which Debian 12 has: `let PATTERN = value else { .. };`, as a `match`."""
-from source import Source, counts
+from source import Source
 
 
 def let_else(path, text):
@@ -11,7 +11,6 @@ def let_else(path, text):
         # `if let`, and `let x = if .. {} else {}`
         if s.text[s.prev(i)] in ("if", "while") or s.text[word] != "else" or s.text[s.prev(word)] == "}":
             continue
-        counts["let .. else { .. }"] += 1
         pattern = "".join(s.text[i + 1:equals]).strip()
         value = "".join(s.text[equals + 1:word]).strip()
         names = bound(s, i, equals)

@@ -3,7 +3,6 @@ import re
 
 import surface
 import words
-from source import counts
 
 BUFFER = (":", "&", "mut", "[", "u8", "]")
 NARROW = {"u8", "u16", "u32", "i8", "i16", "i32"}
@@ -40,32 +39,21 @@ def narrowing(s):
             continue
         if s.text[to] not in CHECKED:
             s.fail(i, f"a cast to {s.text[to]}, of which no checked form is known")
-        counts["narrowing cast, checked"] += 1
         name = CHECKED[s.text[to]]
         needed.add(name)
         call = name if name == "narrow" else f"{name}::<{s.text[to]}>"
         last = s.prev(i)
-        if s.text[last] == ")":
-            s.before[s.match[last]] = call
-            s.drop(last + 1, to)
-        elif s.at(s.prev(i, 2), "(") and s.at(s.next(to), ")", "."):
+        if s.at(s.prev(i, 2), "(") and s.at(s.next(to), ")", "."):
             s.before[s.prev(i, 2)] = call               # `(z as i8).abs()`
             s.drop(last + 1, to)
         else:
-            s.before[operand(s, last)] = call + "("
+            if s.kind[last] != "id" or s.at(s.prev(last), "."):
+                s.fail(last, "a cast of what is no name")
+            s.before[last] = call + "("
             s.drop(last + 1, to)
             s.dead[to] = False
             s.new[to] = ")"
     return sorted(needed)
-
-
-def operand(s, i):
-    """The first token of a name with its fields."""
-    if s.kind[i] != "id":
-        s.fail(i, "a cast of what is neither a name nor in parentheses")
-    while s.at(s.prev(i), "."):
-        i = s.prev(i, 2)
-    return i
 
 
 def stores(s):
@@ -92,7 +80,6 @@ def store(s, i):
         s.before[i] = "*"
     elif not s.at(s.next(close), ".") or s.at(before, "&"):
         return False
-    counts["store into a buffer, told"] += 1
     s.before[i] = s.before.get(i, "") + "room("
     s.new[open_], s.new[close] = ", ", ")"
     return True
@@ -122,7 +109,6 @@ def conditions(s, public):
         if row is None:
             s.fail(i, f"a condition without words for a user: {text}")
         found.setdefault(fn, (name, []))[1].append(row)
-        counts["condition of a call that a user sees"] += 1
     return found
 
 
@@ -136,7 +122,6 @@ def check(s, found):
     checks = {fn: [check for _, _, check in rows if check] for fn, (_, rows) in found.items()}
     checks |= {fn: [SILENT[s.text[s.next(fn)]]] for fn in s.live("fn") if s.text[s.next(fn)] in SILENT}
     for fn, lines in checks.items():
-        counts["check at the start of a call"] += len(lines)
         if lines:
             body = body_of(s, fn)
             indent = "\n" + " " * (8 if s.outer(fn) else 4)
@@ -152,7 +137,6 @@ def never(s):
         body = body_of(s, fn)
         for i in range(body, s.match.get(body, body)):
             if i in s.rank and not s.dead[i] and s.at(i, *tokens):
-                counts["what is never done, told"] += 1
                 first, end = s.next(i, len(tokens) - last), s.next(i, len(tokens) - 1)
                 s.drop(first, end)
                 s.dead[first] = False
@@ -171,7 +155,6 @@ def told(s, found, public):
     for fn, (_, rows) in found.items():
         wheres = list(dict.fromkeys(row[1] for row in rows))
         said.setdefault(fn, []).extend([["# Panics"], ["Where " + ", or ".join(wheres) + "."]])
-        counts["# Panics"] += 1
     return said
 
 

@@ -1,8 +1,6 @@
 """Crates become modules of one package, and parts of Rattle's std are ours."""
 import re
 
-from source import counts
-
 NAME = re.compile(r"\b(?:String|Vec)\b")
 PACKAGE = "linkwire"
 STD_OF_OURS = {"alloc", "str", "test"}              # modules of std of which a file of ours stands
@@ -25,10 +23,8 @@ def paths(s, crate, crates, is_program, is_crate):
         if text == "crate":
             own_path(s, i, crate, is_program)
         elif text in crates:
-            counts["path of another crate"] += 1
             s.new[i] = f"{root}::{text}"
         elif text in CRATES_OF_OURS:
-            counts["path of a crate of the kit"] += 1
             s.new[i] = f"{root}::rattle::{text}"
         elif text == "std":
             std_path(s, i, root, is_crate)
@@ -38,7 +34,6 @@ def own_path(s, i, crate, is_program):
     if s.at(s.prev(i), "in") and s.at(s.prev(i, 2), "("):
         s.fail(i, "pub(in ..)")
     if not is_program:
-        counts["path of this crate"] += 1
         s.new[i] = f"crate::{crate}"
 
 
@@ -50,12 +45,10 @@ def std_path(s, i, root, is_crate):
         s.fail(i, "a group of parts of std: write one `use` for each")
     is_method = s.text[part] == "str" and s.is_path(part)
     if s.at(part, "process", ":", ":", "Abort") or is_group or (s.text[part] in ours and not is_method):
-        counts["path of std that is ours"] += 1
         s.new[i] = f"{root}::rattle"
     elif is_crate:
         if s.text[part] not in IN_CORE:
             s.fail(i, "a part of std that core has not")
-        counts["path of std that is of core"] += 1
         s.new[i] = "core"
 
 
@@ -71,7 +64,6 @@ def prelude(s, names, is_program):
             used.add(s.text[i])
     if not used:
         return ""
-    counts["import of the prelude of ours"] += 1
     root = PACKAGE if is_program else "crate"
     return f"use {root}::rattle::prelude::{group(sorted(used))};\n"
 
@@ -81,9 +73,6 @@ def of_alloc(s):
     used = {s.text[i] for i in s.sig if not s.dead[i] and s.kind[i] == "id"}
     used |= {word for new in s.new.values() for word in NAME.findall(new)}
     found = [text for name, text in (("String", "string::String"), ("Vec", "vec::Vec")) if name in used]
-    if any(new.startswith("vec!") for new in s.new.values()):
-        found.append("vec")
-    counts["import of alloc"] += len(found)
     return "".join(f"use alloc::{one};\n" for one in found)
 
 

@@ -1,5 +1,4 @@
 """The runtime that Rattle's programs and tests are given, its formatter, and what Rust has otherwise."""
-from source import counts
 
 # casts that came to Rust with 1.87: the name that ours have, and its trait
 CASTS = {"cast_signed": ("to_signed", "Unsigned as _"), "cast_unsigned": ("to_unsigned", "Signed as _")}
@@ -16,13 +15,9 @@ def copies(s):
 
 def asked_copy(s, i):
     after = s.next(i, 3)
-    if s.at(after, ".", "expect", "("):
-        s.drop(after, s.match[s.next(after, 2)])
-    elif s.at(after, "?"):
-        s.drop(after, after)
-    else:
+    if not s.at(after, ".", "expect", "("):
         s.fail(i, "a copy by Clone that is not asked at once whether it failed")
-    counts["x.clone()?"] += 1
+    s.drop(after, s.match[s.next(after, 2)])
 
 
 def made_copy(s, i):
@@ -34,7 +29,6 @@ def made_copy(s, i):
     if not (s.text[error] == "AllocError" and s.at(ok, "Ok", "(")
             and s.next(s.match[s.next(ok)]) == s.match[body]):
         s.fail(i, "an impl of Clone that can fail")
-    counts["impl Clone"] += 1
     s.drop(result, s.next(result))
     s.drop(s.prev(error), angle)
     s.drop(ok, s.next(ok))
@@ -50,7 +44,6 @@ def formatters(s):
         if not (s.text[j] == "<" and s.kind[s.next(j)] == "id" and s.text[s.next(j, 2)] == ">"):
             continue
         writer = s.next(j)
-        counts["fmt::Formatter<W>"] += 1
         s.new[writer] = "'_"
         k = i
         while s.text[k] != "fn":
@@ -66,12 +59,10 @@ def newer(s):
     """Parts of std that came after Rust 1.63, as older ones say them; the traits of ours that the casts need."""
     for i in s.live("Ipv4Addr", "Ipv6Addr"):
         if s.at(s.next(i), ":", ":", "from_octets", "("):
-            counts["part of std after 1.63"] += 1
             s.new[s.next(i, 3)] = "from"
     needed = set()
     for i in s.live(*CASTS):
         if s.at(s.prev(i), "."):
-            counts["part of std after 1.63"] += 1
             s.new[i], trait = CASTS[s.text[i]]
             needed.add(trait)
     return sorted(needed)
@@ -83,7 +74,6 @@ def mains(s):
         is_test = any(s.at(k, "#", "[", "test", "]") for k in range(s.item_start(i), i) if k in s.rank)
         if not s.at(s.next(i, 4), ":", "HostRuntime", ")") or not (is_test or s.at(s.next(i), "main")):
             continue
-        counts["fn main(rt: HostRuntime), or a test"] += 1
         open_ = s.next(i, 2)
         s.drop(open_ + 1, s.match[open_] - 1)
         body = s.skip_to(s.match[open_], {"{"})
@@ -98,7 +88,6 @@ def expects(s):
         first, last, comma = s.parts(s.next(i))[0]
         if s.words(first, last) not in (("rt",), ("&", "rt")):
             s.fail(i, "expect without a runtime")
-        counts["expect(rt, ..)"] += 1
         s.drop(first, comma)
         if s.kind[comma + 1] == "ws":
             s.dead[comma + 1] = True
@@ -113,15 +102,13 @@ def safe(s):
             continue
         if s.text[open_] != "{" or not s.at(s.next(open_), "str", ":", ":", "from_utf8_unchecked", "("):
             s.fail(i, "unsafe")
-        counts["unsafe"] += 1
         drop_safety(s, i)
         s.drop(i, i)
         s.dead[i + 1] = True
-        if s.text[s.prev(i)] == "(" and s.text[s.next(s.match[open_])] == ")":
-            s.drop(i, s.next(open_) - 1)
-            s.drop(s.prev(s.match[open_]) + 1, s.match[open_])
-        else:
-            s.new[open_], s.new[s.match[open_]] = "(", ")"
+        if s.text[s.prev(i)] != "(" or s.text[s.next(s.match[open_])] != ")":
+            s.fail(i, "unsafe other than as all that stands in parentheses")
+        s.drop(i, s.next(open_) - 1)
+        s.drop(s.prev(s.match[open_]) + 1, s.match[open_])
 
 
 def to_vecs(s):
@@ -137,7 +124,6 @@ def to_vecs(s):
             continue
         elif not s.at(s.prev(i), "fn") or not s.at(s.next(i), "(", "&", "self", ",", "alloc", ":", "Global", ")"):
             s.fail(i, "to_vec other than x.to_vec(alloc), or a method of that form")
-        counts["x.to_vec(alloc)"] += 1
         s.new[i] = "to_vec_by"
     return is_called
 
@@ -148,7 +134,6 @@ def exported(s, i):
     pub = s.next(end)
     if not s.at(pub, "pub", "extern", '"C"', "fn"):
         s.fail(i, 'no_mangle of what is no pub extern "C" fn')
-    counts["exported function"] += 1
     s.drop(start, pub - 1)
     s.join(pub, s.next(pub, 3))
 

@@ -5,8 +5,6 @@ from tokens import COMMENTS, tokens
 
 OPEN, CLOSE = {"(": ")", "[": "]", "{": "}"}, {")", "]", "}"}
 
-counts = collections.Counter()                  # how often each rewrite was made, by name
-
 
 class Unknown(Exception):
     """A form that no rewrite knows, with its file and line."""
@@ -108,23 +106,17 @@ class Source:
                 return found
             first = k = self.next(comma)
 
-    def angle(self, i):
-        """The `>` that closes the `<` at a place."""
+    def angle(self, i, way=1):
+        """The `>` that closes the `<` at a place; backwards the `<` that a `>` closes."""
         depth = 0
         while True:
             depth += (self.text[i] == "<") - (self.text[i] == ">" and self.text[self.prev(i)] not in ("-", "="))
             if depth == 0:
                 return i
-            i = self.next(i)
+            i = self.next(i, way)
 
     def angle_start(self, i):
-        """The `<` that the `>` at a place closes."""
-        depth = 0
-        while True:
-            depth += (self.text[i] == ">" and self.text[self.prev(i)] not in ("-", "=")) - (self.text[i] == "<")
-            if depth == 0:
-                return i
-            i = self.prev(i)
+        return self.angle(i, -1)
 
     def outer(self, i):
         """The innermost open bracket around a token, or None."""
@@ -166,7 +158,6 @@ class Source:
                 continue
             for k in self.names(i, end):
                 if self.text[k] == name:
-                    counts["name of an import dropped"] += 1
                     self.drop_name(i, end, k)
 
     def names(self, i, end):
@@ -204,7 +195,6 @@ class Source:
                 continue
             for k in self.names(i, end):
                 if before[self.text[k]] and not now[self.text[k]] and not self.dead[i]:
-                    counts["import that nothing needs any more"] += 1
                     self.drop_name(i, end, k)
 
     def skip_to(self, i, ends):

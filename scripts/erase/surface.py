@@ -1,5 +1,4 @@
 """What of the crates a Rust user sees: the names that the top crates give again, and their calls."""
-from source import counts
 
 # Names that a top crate gives again and the crate has otherwise, or not: they serve the crates below.
 HIDDEN_NAMES = {
@@ -11,7 +10,7 @@ HIDDEN_NAMES = {
 }
 # Calls of types that serve the crates alone, or that the trait `Emitable` has, as in netlink-packet-route.
 HIDDEN_CALLS = {
-    "buffer_len", "canon", "canon_list", "canon_list_with_param", "canon_with_param", "check_list",
+    "buffer_len", "canon", "canon_list_with_param", "canon_with_param", "check_list",
     "check_list_with_param", "check_with_param", "emit", "fill", "list_from", "measure", "measure_entry",
     "measure_list", "parse_list", "parse_list_with_param", "parse_with_param", "sum", "sum_fits", "write",
     "write_entry", "write_list",
@@ -33,7 +32,6 @@ def hide_names(s):
     for i, end in s.imports():
         for k in s.names(i, end):
             if s.at(s.prev(i), "pub") and s.text[k] in HIDDEN_NAMES and not s.dead[i]:
-                counts["name that is not given again"] += 1
                 s.drop_name(i, end, k)
 
 
@@ -41,7 +39,6 @@ def hide_modules(s):
     """`pub mod` of a top crate is `pub(crate) mod`: a user has its names without them."""
     for i in s.live("mod"):
         if s.at(s.prev(i), "pub"):
-            counts["module that is not public"] += 1
             s.new[s.prev(i)] = "pub(crate)"
 
 
@@ -57,7 +54,6 @@ def hide_calls(s):
     """`pub fn` of those calls is `pub(crate) fn`."""
     for i in s.live("fn"):
         if s.at(s.prev(i), "pub") and owner(s, i) and is_hidden(s, i):
-            counts["call that is not public"] += 1
             s.new[s.prev(i)] = "pub(crate)"
             if by_hand(s, i):
                 s.new[s.next(i)] = by_hand(s, i)
@@ -70,14 +66,20 @@ def by_hand(s, i):
 
 def owner(s, i):
     """The type of the inherent impl around this `fn`; None elsewhere."""
-    open_ = s.outer(i)
-    if open_ is None or s.text[open_] != "{":
-        return None
-    k = open_
+    open_, k = around(s, i)
+    return None if k is None or s.text[k] != "impl" or s.implements(k, open_) is not None else named(s, k)
+
+
+def around(s, i):
+    """The brace around this `fn`, and the word `impl` or `trait` in front of it, or what else stands there."""
+    open_ = k = s.outer(i)
     while k is not None and s.text[k] not in (";", "}", "impl", "trait"):
         k = s.prev(s.angle_start(k) if s.text[k] == ">" else k)
-    if k is None or s.text[k] != "impl" or s.implements(k, open_) is not None:
-        return None
+    return open_, k
+
+
+def named(s, k):
+    """What is named behind an `impl` or `trait`."""
     k = s.next(k)
     return s.text[s.next(s.angle(k)) if s.text[k] == "<" else k]
 
@@ -95,8 +97,4 @@ def public_name(s, i, public):
 
 def holder(s, fn):
     """The type of the impl, or the trait, around this `fn`."""
-    k = s.outer(fn)
-    while s.text[k] not in ("impl", "trait"):
-        k = s.prev(s.angle_start(k) if s.text[k] == ">" else k)
-    k = s.next(k)
-    return s.text[s.next(s.angle(k)) if s.text[k] == "<" else k]
+    return named(s, around(s, fn)[1])

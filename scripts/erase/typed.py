@@ -1,8 +1,4 @@
-#!/usr/bin/env python3
-"""Makes the types of link data of the tables of crates/link_info: an enum of each place, with a variant of each row.
-
-    python3 scripts/erase/typed.py        says what each is named
-"""
+"""Makes the types of link data of the tables of crates/link_info: an enum of each place, with a variant of each row."""
 import os
 import re
 import textwrap
@@ -15,57 +11,18 @@ NESTED = 0x8000                                 # NLA_F_NESTED
 
 # ** names: the rule is the place and the row, in capitals
 
-# Words of rows that netlink-packet-route spells otherwise.
-WORDS = {"mcast": "multicast", "intvl": "interval", "cnt": "count", "miimon": "mii-mon", "updelay": "up-delay",
-         "downdelay": "down-delay", "l2miss": "l2-miss", "l3miss": "l3-miss", "iptables": "ip-tables",
-         "arptables": "arp-tables", "slave": "port", "slaves": "ports", "boolopt": "bool-opt", "macaddr": "mac-addr"}
-# Places whose name no rule gives, and those whose type has no `Info` in front.
-PLACES = {"BondSlave": "BondPort", "VlanQos": "VlanQosMapping", "BridgeQuerier": "BridgeQuerierState",
-          "Macvlan": "MacVlan", "Ipvlan": "IpVlan", "Macsec": "MacSec", "Rmnet": "RmNet", "Bareudp": "BareUdp",
-          "MacvlanAddresses": "MacVlanAddresses", "CanCtrlmode": "CanCtrlModeExt", "BridgeSpec": "AfSpecBridge",
-          "BridgeVlanTunnel": "BridgeVlanTunnelInfo"}
-WHOLE = {"VlanQos", "BondAdInfo", "BridgeQuerier", "CanTdc", "CanCtrlmode", "BridgeSpec", "BridgeVlanTunnel",
-         "BridgeMst", "BridgeMstEntry"}
-ROWS = {("Vlan", "flag"): "Flags", ("Vrf", "table"): "TableId", ("VrfPort", "table"): "TableId",
-        ("Vxlan", "udp-csum"): "UDPCsum", ("Vxlan", "udp-zero-csum6-tx"): "UDPZeroCsumTX",
-        ("Vxlan", "udp-zero-csum6-rx"): "UDPZeroCsumRX", ("Vxlan", "remcsum-tx"): "RemCsumTX",
-        ("Vxlan", "remcsum-rx"): "RemCsumRX", ("Vxlan", "remcsum-nopartial"): "RemCsumNoPartial",
-        ("Bond", "all-slaves-active"): "AllPortsActive"}
-VALUES = {"802.3ad": "Ieee8023Ad", "8021q": "Ieee8021Q", "8021ad": "Ieee8021Ad", "self": "SelfFlag",
-          "3-samples": "ThreeSamples"}
-# Types of numbers with names, of flags and of records.
-TYPES = {("Bond", "ad-lacp-rate"): "BondLacpRate", ("BondSlave", "state"): "BondPortState",
-         ("BondSlave", "mii-status"): "MiiStatus", ("BondSlave", "ad-churn-actor-state"): "ChurnState",
-         ("BondSlave", "ad-churn-partner-state"): "ChurnState", ("Bridge", "root-id"): "BridgeId",
-         ("Bridge", "bridge-id"): "BridgeId", ("BridgePort", "root-id"): "BridgeId",
-         ("BridgePort", "bridge-id"): "BridgeId", ("Bridge", "multi-boolopt"): "BridgeBooleanOptions",
-         ("BridgePort", "state"): "BridgePortState", ("BridgeMstEntry", "state"): "BridgePortState",
-         ("Vlan", "protocol"): "VlanProtocol", ("Bridge", "vlan-protocol"): "VlanProtocol",
-         ("Vlan", "flag"): "VlanFlagsAndMask", ("Macvlan", "macaddr-mode"): "MacVlanMacAddressMode",
-         ("VlanQos", "mapping"): "VlanPriorityMapping", ("BridgeSpec", "flags"): "BridgeFlag",
-         ("BridgeSpec", "mode"): "BridgeMode", ("BridgeSpec", "vlan-info"): "BridgeVlanInfo",
-         ("BridgeVlanTunnel", "flags"): "BridgeVlanInfoFlags", ("Can", "bittiming"): "CanBitTiming",
-         ("Can", "data-bittiming"): "CanBitTiming", ("Can", "bittiming-const"): "CanBitTimingConst",
-         ("Can", "data-bittiming-const"): "CanBitTimingConst", ("Can", "ctrlmode"): "CanCtrlMode",
-         ("CanCtrlmode", "supported"): "CanCtrlModeFlags", ("Gre", "iflags"): "GreIOFlags",
-         ("Gre", "oflags"): "GreIOFlags", ("Gre6", "iflags"): "GreIOFlags", ("Gre6", "oflags"): "GreIOFlags",
-         ("Gre6", "encap-type"): "GreEncapType", ("Gre6", "encap-flags"): "GreEncapFlags",
-         ("IpTunnel", "encap-type"): "TunnelEncapType", ("IpTunnel", "encap-flags"): "TunnelEncapFlags",
-         ("Ip6Tunnel", "encap-type"): "TunnelEncapType", ("Ip6Tunnel", "encap-flags"): "TunnelEncapFlags",
-         ("IpTunnel", "flags"): "SitFlags", ("Macsec", "validation"): "MacSecValidate",
-         ("Netkit", "peer-policy"): "NetkitPolicy", ("Netkit", "peer-scrub"): "NetkitScrub",
-         ("Rmnet", "flags"): "InfoRmNetFlags", ("Vxlan", "port-range"): "PortRange",
-         ("Geneve", "port-range"): "PortRange", ("Inet6", "flags"): "Inet6Flags",
-         ("Inet6", "cacheinfo"): "Inet6Times", ("Port", "request"): "PortRequest"}
-MEMBERS = {("Vlan", "flag"): "VlanFlags", ("Bridge", "multi-boolopt"): "BridgeBooleanOptionFlags",
-           ("BridgeSpec", "vlan-info"): "BridgeVlanInfoFlags", ("Can", "ctrlmode"): "CanCtrlModeFlags",
-           ("Rmnet", "flags"): "RmNetFlags"}
-# Members of records that netlink-packet-route spells otherwise.
-FIELDS = {("BridgeId", "prio"): "priority", ("BridgeId", "addr"): "address"}
+def names(section):
+    """The rows of a part of typed.txt, by all words but the last, which is the name."""
+    with open(os.path.join(HERE, "typed.txt"), encoding="utf-8") as file:
+        part = re.search(rf"^\[{section}\]\n(.*?)(?:\n\n|\Z)", file.read(), re.M | re.S)[1]
+    rows = [line.split() for line in part.strip().split("\n")]
+    return {row[0] if len(row) < 3 else tuple(row[:-1]): row[-1] for row in rows}
+
+
+WORDS, PLACES, WHOLE, ROWS, VALUES = map(names, ("words", "places", "whole", "rows", "values"))
+TYPES, MEMBERS, FIELDS, MESSAGES = map(names, ("types", "members", "fields", "messages"))
 # Types that the crate has by hand.
 THERE = {"VlanProtocol": "crate::VlanProtocol"}
-# Payloads that are a whole message of a link.
-MESSAGES = {("Veth", "peer"), ("Vxcan", "peer"), ("Netkit", "peer-info")}
 
 # ** what the tables have not: they name what linkshow names, and no more
 
@@ -118,24 +75,24 @@ class Forms:
         return lambda *args: (name, *args)
 
 
-def read(name):
-    with open(os.path.join(CRATE, name), encoding="utf-8") as file:
+def read(name, crate=CRATE):
+    with open(os.path.join(crate, name), encoding="utf-8") as file:
         return file.read()
 
 
 CONSTANT = re.compile(r"const (\w+): ([^=]+) = ([^;]+);", re.S)
 
 
-def tables():
+def tables(crate=CRATE):
     """The rows of each table, by its file and constant, and all other constants of the files."""
     found = {}
     forms = {kind: Forms(kind) for kind in ("Style", "Plain", "Size", "Place")}
     forms |= {"Row": lambda *args: args, "Member": lambda *args: args}
-    files = sorted(name[:-3] for name in os.listdir(os.path.join(CRATE, "tables")))
+    files = sorted(name[:-3] for name in os.listdir(os.path.join(crate, "tables")))
     common = {}
     for name in ["mod"] + [name for name in files if name != "mod"]:
         local = forms | common
-        items = CONSTANT.findall(re.sub(r"//.*", "", read(f"tables/{name}.rt")))
+        items = CONSTANT.findall(re.sub(r"//.*", "", read(f"tables/{name}.rt", crate)))
         for wanted in ("Style", "Names", "&[Member]", "&[Row]", "&[(Place, u16)]"):
             for one, kind, text in items:
                 if kind.strip() == wanted:
@@ -188,7 +145,6 @@ class Maker:
         self.places |= {place: (words, rows, None) for place, (words, rows) in MORE.items()}
         self.nested = set(self.rows["mod", "NESTED"])
         self.types = {}                         # by name: the macro, what stands behind the name, and the lines
-        self.named = []
 
     def put(self, name, made):
         if self.types.setdefault(name, made) != made:
@@ -229,7 +185,7 @@ class Maker:
     def payload(self, place, row, style):
         """The type of a variant, and its form: the module of parts.rs that reads and writes it."""
         kind, name = style[0], type_name(place, row)
-        if (place, row) in MESSAGES:
+        if (place, row) in MESSAGES.items():
             return "LinkMessage", "message"
         if kind == "Plain":
             return self.plain(place, row, style[1], name), order(style[1])
@@ -250,12 +206,10 @@ class Maker:
             one = variant(place, row)
             if style[0] == "Flag":
                 flags.append(f'{number} {one} "{row}",')
-                self.named.append((place, row, name, one, ""))
                 continue
             kind, word = self.payload(place, row, style)
             written = hex(number | NESTED) if (place, number) in self.nested else number
             lines.append(f'{number} {written} {one}({kind}) {word} "{row}",')
-            self.named.append((place, row, name, one, kind))
         if table is None:
             table = name[4:].upper()
         return form("place", [f"{name}: {table};"] + lines + ["flags:"] + flags, doc(words))
@@ -306,16 +260,3 @@ use core::fmt;
 def text():
     """The module of the types."""
     return MARK + HEAD + Maker().make()
-
-
-def main():
-    maker = Maker()
-    maker.make()
-    for line in maker.named:
-        print(*line, sep="\t")
-    for name, made in maker.types.items():
-        print("type", name, made[0], sep="\t")
-
-
-if __name__ == "__main__":
-    main()

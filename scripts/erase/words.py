@@ -2,18 +2,14 @@
 import re
 import textwrap
 
-from source import counts
-
 WIDTH = 120
 # Sentences about what only Rattle has, as the joined text of a paragraph has them, and what the crate says there.
 SAID = [(re.compile(pattern), text) for pattern, text in [
-    (r"(It takes no memory), and so never returns `OutOfMemory`\.", r"\1."),
-    (r"(It takes no memory), and never returns `OutOfMemory`\.", r"\1."),
+    (r"(It takes no memory), and (?:so )?never returns `OutOfMemory`\.", r"\1."),
     (r"[,;] and never `OutOfMemory`", ""),
     (r", and out of memory with `OutOfMemory`", ""),
     (r"[,;]?,? (or|and)( with)? `OutOfMemory`(, which says nothing of the \w+)?", ""),
     (r" The cause is never `OutOfMemory`\.", ""),
-    (r" It fails only for lack of memory\.", ""),
     (r"^It fails only for lack of memory\.", ""),
     (r", or out of memory\.", "."),
     (r"[;,] or there is no memory", ""),
@@ -22,7 +18,6 @@ SAID = [(re.compile(pattern), text) for pattern, text in [
     (r"(returns) with ample memory", r"\1"),
     (r"1 to 9 in the order", "1 to 8 in the order"),
     (r"1 to 4 in the order", "1 to 3 in the order"),
-    (r" No clause rests on it\.", ""),
     (r"; for the proof: [^.]*\.", "."),
     (r" It does nothing\.", ""),
     (r"`growth_per_byte`", "79"),
@@ -44,12 +39,6 @@ def blocks(s):
             block = []
     if block:
         yield block
-
-
-def column(s, i):
-    """How far from the left a token stands."""
-    before = s.text[i - 1] if i else ""
-    return len(before) - before.rfind("\n") - 1 if s.kind[i - 1] == "ws" else 0
 
 
 def paragraphs(lines):
@@ -82,7 +71,8 @@ def wrapped(paragraph, width):
 def put(s, block, found):
     """Writes the docs anew, in place of the first of their lines."""
     mark = "//!" if s.kind[block[0]] == "innerdoc" else "///"
-    indent = " " * column(s, block[0])
+    front = s.text[block[0] - 1] if block[0] and s.kind[block[0] - 1] == "ws" else "\n"
+    indent = front[front.rfind("\n") + 1:]
     lines = []
     for paragraph in found:
         lines += ([""] if lines else []) + wrapped(paragraph, WIDTH - len(indent) - 4)
@@ -105,16 +95,9 @@ def docs(s, told):
         if left:
             s.fail(block[0], f"words of Rattle in docs: {left.group()}")
         if found != before:
-            counts["docs in other words"] += 1
             put(s, block, found)
-    for item, more in of.items():
-        s.before[item] = undocumented(s, item, more)
-
-
-def undocumented(s, item, more):
-    indent = " " * column(s, item)
-    lines = [line for n, one in enumerate(more) for line in ([""] if n else []) + one]
-    return "".join(f"/// {line}".rstrip() + f"\n{indent}" for line in lines)
+    for item in of:
+        s.fail(item, "a call that a user sees has no docs")
 
 
 def with_told(found, told):

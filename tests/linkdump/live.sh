@@ -1,16 +1,11 @@
 #!/usr/bin/env bash
 # Runs linkdump on the running kernel, here and in network namespaces of its own: live.sh LINKDUMP. What needs netlink,
 # a command or a right that is not there is 'skipped'. The last line is 'live passed', or what is skipped.
-set -euo pipefail
-top=$(cd "$(dirname "$0")/../.." && pwd)
+self=live
+. "$(dirname "$0")/../../scripts/common.sh"
 tests=$top/tests/linkdump
-# a program with a sanitizer does not look whether that was loaded first: kernel_faults.so is
+# a program with a sanitizer does not look whether that was loaded first: what is preloaded is
 export ASAN_OPTIONS=${ASAN_OPTIONS:-verify_asan_link_order=0}
-
-skips() {
-    echo "live: skipped: $*"
-    exit 0
-}
 
 fails() {
     echo "live: linkdump: $*" >&2
@@ -27,32 +22,10 @@ wants() {
     fi
 }
 
-# waits COMMAND..: until it succeeds, ten seconds at most
-waits() {
-    local try
-    for try in $(seq 100); do
-        if "$@"; then
-            return
-        fi
-        sleep 0.1
-    done
-    return 1
-}
-
-# asked COUNT: whether linkdump has sent so many requests
-asked() {
-    [ "$(grep -sc '^asked$' "$folder/err")" -ge "$1" ] 2>/dev/null
-}
-
-# with FAULT WORD..: linkdump where a kernel does what it seldom does
-with() {
-    LD_PRELOAD=$folder/kernel_faults.so KERNEL_FAULT=$1 timeout 20 "$linkdump" "${@:2}" 2>"$folder/err"
-}
-
 # tells FAULT MESSAGE: it writes nothing else, and fails
 tells() {
     local status=0
-    with "$1" >"$folder/out" || status=$?
+    with "$1" "$linkdump" >"$folder/out" || status=$?
     if [ "$status" != 1 ] || [ -s "$folder/out" ] || [ "$(grep -vx asked "$folder/err")" != "linkdump: $2" ]; then
         fails "does not tell: $1"
     fi
@@ -61,11 +34,11 @@ tells() {
 # starts WORD..: linkdump in the background, with its first dump over; where `fault` is set, with that
 starts() {
     rm -f "$folder/news" "$folder/err" # what an earlier one wrote is not waited for
-    LD_PRELOAD=${fault:+$folder/kernel_faults.so} KERNEL_FAULT=${fault:-} "$linkdump" "$@" \
+    LD_PRELOAD=${fault:+$folder/preloaded.so} KERNEL_FAULT=${fault:-} "$linkdump" "$@" \
         >"$folder/news" 2>"$folder/err" &
     running=$!
     trap 'kill -KILL "$running" 2>/dev/null || true' EXIT
-    waits test -s "$folder/news" || fails "$*: no dump"
+    waits 10 test -s "$folder/news" || fails "$*: no dump"
 }
 
 # stops SIGNAL: it ends with status 0, and its last line is whole
@@ -86,7 +59,7 @@ own_port() {
 
 # hears PATTERN: until such a line is written
 hears() {
-    if ! waits grep -qE "$1" "$folder/news"; then
+    if ! waits 10 grep -qE "$1" "$folder/news"; then
         cut -c1-200 "$folder/news" >&2
         fails "does not write $1"
     fi
@@ -163,16 +136,15 @@ write_fails() {
 
 # what ends it: nobody reads any more, and a signal while a pipe is full, of which the lines that were written are whole
 ends() {
-    local status=0
+    local words status=0
     mkfifo "$folder/pipe"
     # shellcheck disable=SC2094 # so that it opens without a reader
     exec 5<>"$folder/pipe" 6>"$folder/pipe" 5<&-
-    "$linkdump" >&6 2>"$folder/err" || status=$?
-    [ "$status$(cat "$folder/err")" = 0 ] || fails 'a closed pipe'
-    "$linkdump" --monitor >&6 2>"$folder/err" || status=$?
-    [ "$status$(cat "$folder/err")" = 0 ] || fails '--monitor: a closed pipe'
-    "$linkdump" --help >&6 2>"$folder/err" || status=$?
-    [ "$status$(cat "$folder/err")" = 0 ] || fails '--help: a closed pipe'
+    for words in '' --monitor --help; do
+        # shellcheck disable=SC2086 # none or one
+        "$linkdump" $words >&6 2>"$folder/err" || status=$?
+        [ "$status$(cat "$folder/err")" = 0 ] || fails "$words: a closed pipe"
+    done
     exec 6>&-
     (timeout 20 "$linkdump" --monitor 2>"$folder/err"; echo $? >"$folder/status") | head -n 1 >"$folder/out"
     [ "$(cat "$folder/status" "$folder/err")" = 0 ] || fails '--monitor | head -n 1 does not end by itself'
@@ -180,7 +152,7 @@ ends() {
     head -c 65000 /dev/zero >"$folder/pipe"
     "$linkdump" --monitor >"$folder/pipe" 2>"$folder/err" &
     running=$!
-    waits grep -q '^SigCgt:.*[2367abef]$' "/proc/$running/status" || fails 'does not handle an interrupt'
+    waits 10 grep -q '^SigCgt:.*[2367abef]$' "/proc/$running/status" || fails 'does not handle an interrupt'
     sleep 0.3
     kill -INT "$running"
     sleep 0.2
@@ -203,26 +175,25 @@ same_lines() {
 
 # the faults of tests/live/kernel_faults.c, in a namespace, where nothing changes meanwhile
 meets_faults() {
-    ${CC:-cc} -O1 -Wall -Wextra -Wpedantic -Werror -shared -fPIC -o "$folder/kernel_faults.so" \
-        "$top/tests/live/kernel_faults.c" -ldl
+    preloads live/kernel_faults -Wpedantic
     "$linkdump" --plain >"$folder/lines"
     local fault wanted said='linkdump: the queue ran over: messages are lost, and the links are asked for again'
-    with interrupted --plain >"$folder/out" || fails 'an interrupted dump'
+    with interrupted "$linkdump" --plain >"$folder/out" || fails 'an interrupted dump'
     same_lines 2 || fails 'does not ask again: interrupted'
-    with 'ran over' --plain >"$folder/out" || fails 'a queue that ran over'
+    with 'ran over' "$linkdump" --plain >"$folder/out" || fails 'a queue that ran over'
     same_lines 2 || fails 'does not ask again: ran over'
     grep -qx "$said" "$folder/err" || fails 'does not tell: ran over'
-    with 'no room' --plain >"$folder/out" || fails 'a dump that begins later'
+    with 'no room' "$linkdump" --plain >"$folder/out" || fails 'a dump that begins later'
     same_lines 1 || fails 'does not wait for a dump that begins later'
     for fault in none interrupted 'ran over'; do # the dump that was dropped has no line
-        with "$fault" >"$folder/out" || fails "$fault"
+        with "$fault" "$linkdump" >"$folder/out" || fails "$fault"
         wanted="begin new done $(grep -c ' type=new ' "$folder/out")"
         [ "$(types "$folder/out") $(sed -n '$s/.* links=//p' "$folder/out")" = "$wanted" ] ||
             fails "a dump between other lines: $fault"
         wanted=$(grep -c '^asked$' "$folder/err")
         grep -qE " type=begin .* seq=$wanted port=[0-9]+$" "$folder/out" || fails "another number: $fault"
     done
-    with refused --plain >"$folder/out" || fails 'a message that is refused'
+    with refused "$linkdump" --plain >"$folder/out" || fails 'a message that is refused'
     sed '1s/^\(.\{32\}\)..../\10300/' "$folder/lines" >"$folder/damaged"
     same_links "$folder/damaged" "$folder/out" || fails 'does not write a message as it is'
     tells error 'the kernel: Operation not permitted'
@@ -232,18 +203,18 @@ meets_faults() {
     tells 'no right' 'netlink: Operation not permitted'
     for fault in interrupted 'ran over' 'cut off'; do # links and ports are asked for, and once more
         rm -f "$folder/news" "$folder/err"
-        LD_PRELOAD=$folder/kernel_faults.so KERNEL_FAULT=$fault "$linkdump" --monitor >"$folder/news" 2>"$folder/err" &
+        LD_PRELOAD=$folder/preloaded.so KERNEL_FAULT=$fault "$linkdump" --monitor >"$folder/news" 2>"$folder/err" &
         running=$!
         trap 'kill -KILL "$running" 2>/dev/null || true' EXIT
-        waits asked 2 || fails "--monitor: no dump: $fault"
+        waits 10 asked 2 || fails "--monitor: no dump: $fault"
         wanted=3
         if [ "$fault" = 'cut off' ]; then
             sleep 0.3
             ip link set lo txqueuelen 900
-            waits grep -q 'a datagram was cut off' "$folder/err" || fails '--monitor: does not tell: cut off'
+            waits 10 grep -q 'a datagram was cut off' "$folder/err" || fails '--monitor: does not tell: cut off'
             wanted=4
         fi
-        waits asked "$wanted" || fails "--monitor does not ask again: $fault"
+        waits 10 asked "$wanted" || fails "--monitor does not ask again: $fault"
         hears " seq=$wanted port=[0-9]* family=7 "
         stops INT
         case $fault in
@@ -252,6 +223,11 @@ meets_faults() {
             *) wanted='begin new done begin( new)? done lost begin new done begin( new)? done' ;;
         esac
         types "$folder/news" | grep -qxE "$wanted" || fails "--monitor: other lines: $fault: $(types "$folder/news")"
+        if [ "$fault" = 'cut off' ] && [ -n "$(program linkdiff)" ]; then
+            "$(program linkdiff)" <"$folder/news" >"$folder/out"
+            grep -qE '"ifname":"lo","changes":\[\{"path":"txqlen","old":[0-9]+,"new":900\}\]' "$folder/out" ||
+                fails 'linkdiff does not tell what changed while a datagram was cut off'
+        fi
     done
     echo 'live: an interrupted dump, a queue that ran over, errors, a datagram that was cut off, no netlink, no right'
 }
@@ -266,7 +242,7 @@ requests() {
         fi
         wanted=$(word "$len")12000103$(word 1)$(word 0)$(printf '%02x%030d' "$family" 0)$attribute
         # shellcheck disable=SC2086 # an option and its value
-        with none --plain ${word/=/ } >"$folder/out" || fails "$word"
+        with none "$linkdump" --plain ${word/=/ } >"$folder/out" || fails "$word"
         [ "$(sed -n 2p "$folder/err")" = "$wanted" ] || fails "$word: another request, and not $wanted"
     done <<'END'
 --family=unspec 0
@@ -377,7 +353,7 @@ deletes() {
             continue # it is answered by links of AF_UNSPEC
         fi
         ip link add fault0 type "$kind"
-        with deleted --family "$part" >"$folder/out" || fails "a link that goes within a dump: $part"
+        with deleted "$linkdump" --family "$part" >"$folder/out" || fails "a link that goes within a dump: $part"
         asked 2 || fails "does not ask again for what lacks a link: $part"
         if [ "$(types "$folder/out")" != 'begin new done' ] || grep -v ' seq=2 ' "$folder/out"; then
             fails "a dump within which a link went has lines: $part"
@@ -414,7 +390,7 @@ monitors() {
     stops TERM
     grep -vE "^0a|^0000.{4}$index" "$folder/news" && fails '--monitor --family inet6: other families'
     starts --monitor --every 0.3
-    waits grep -q ' seq=8 ' "$folder/news" || fails '--every does not ask again'
+    waits 10 grep -q ' seq=8 ' "$folder/news" || fails '--every does not ask again'
     stops INT
     [ "$(sed -n "s/.* \(seq=[0-9]*\) $(own_port) .*/\1/p" "$folder/news" | uniq | head -n 4 | xargs)" = \
         'seq=1 seq=2 seq=3 seq=4' ] || fails '--every: other requests'
@@ -426,57 +402,14 @@ dropped() {
     awk -v id="$running" '$2 == 0 && $3 == id && $9 > 0 { found = 1 } END { exit !found }' /proc/net/netlink
 }
 
-# overfills [TIMES]: stops linkdump, and has the kernel announce more than its socket holds, at least so many times 400
+# overfills: has the kernel announce more than the socket of linkdump holds
 overfills() {
     local try
-    kill -STOP "$running"
     for try in $(seq 60); do
         seq 1000 1400 | sed "s/.*/link set $base mtu &/" | ip -batch -
-        if [ "$try" -ge "${1:-1}" ] && dropped; then
-            break
-        fi
+        ! dropped || return 0
     done
-    dropped || fails "a queue does not run over, after $try times"
-}
-
-# what was queued comes first, then the line that says that some were lost, and then what is there
-runs_over() {
-    local fault=small index lost
-    ip link add early0 type "$kind"
-    ip link add other0 index 4712 type veth peer name other1
-    index=$(index_of early0)
-    starts --monitor
-    hears ' family=7 '
-    kill -STOP "$running"
-    ip link set early0 mtu 1301
-    ip link set other0 mtu 1301
-    overfills 6
-    ip link del early0
-    ip link del other0
-    ip link add other0 index 4712 type "$kind"
-    ip link add late0 type "$kind"
-    ip link set "$base" mtu 1234
-    kill -CONT "$running"
-    hears " $(own_port) .*$(mtu 1234)"
-    hears ' seq=4 port=[0-9]* family=7 '
-    stops INT
-    grep -qx 'linkdump: the queue ran over: messages are lost, and the links are asked for again' "$folder/err" ||
-        fails 'does not tell that a queue ran over'
-    lost=$(grep -n ' type=lost kernel=[^ ]*$' "$folder/news" | cut -d : -f 1)
-    sed "1,${lost}d" "$folder/news" >"$folder/out"
-    [ "$(types "$folder/out")" = 'begin new done begin new done' ] || fails 'after a queue that ran over: other lines'
-    sed "$lost,\$d" "$folder/news" >"$folder/before"
-    grep -q " 00......$index.*$(mtu 1301)" "$folder/before" || fails 'what was queued is not written'
-    if grep -q " 0[07]......$index" "$folder/out"; then
-        fails 'what was queued stands after the line that says that messages are lost'
-    fi
-    holds "$folder/news" || fails 'after a queue that ran over: other interfaces'
-    python3 "$tests/model.py" <"$folder/news" | grep ' 4712$' | xargs | grep -qE 'new 0 4712 gone 0 4712 new 0 4712' ||
-        fails 'another kind of link at an index is the same interface'
-    ip link del late0
-    ip link del other0
-    echo "live: --monitor: a queue that ran over is told, after $((lost - 1)) lines, and a dump follows: links that" \
-        'went, and one of another kind at an index'
+    fails "a queue does not run over, after $try times"
 }
 
 # whether a whole dump of both families stands behind the line that says that messages are lost
@@ -486,133 +419,61 @@ is_followed() {
     grep -q ' family=7 ' "$folder/out"
 }
 
-# the same where a dump is due before what was queued is read: that stands behind no beginning
-is_late() {
-    local fault=small index queued
+# runs_over WORD..: where linkdump stands still, what was queued comes first, though a dump is due, then the line that
+# says that messages are lost, and then what is there
+runs_over() {
+    local fault=small index
     ip link add early0 type "$kind"
     index=$(index_of early0)
-    starts --monitor --every 0.001
+    starts --monitor "$@"
     hears ' family=7 '
     kill -STOP "$running"
     ip link set early0 mtu 1301
     overfills
     ip link del early0
     kill -CONT "$running"
-    hears ' type=lost '
-    waits is_followed || fails 'after a queue that ran over: no dump'
+    hears ' type=lost kernel=[^ ]*$'
+    waits 10 is_followed || fails 'after a queue that ran over: no dump'
     stops INT
     is_followed
-    queued=" 00......$index.*$(mtu 1301)"
-    if ! sed '/ type=lost /,$d' "$folder/news" | awk -v queued="$queued" '/ type=(begin|done) / { found = 0 }
-        $0 ~ queued { found = 1 } END { exit !found }' || grep -q " 0[07]......$index" "$folder/out"; then
-        fails 'a dump that is due is asked for before what was queued is read'
+    grep -qx 'linkdump: the queue ran over: messages are lost, and the links are asked for again' "$folder/err" ||
+        fails 'does not tell that a queue ran over'
+    if ! sed '/ type=lost /,$d' "$folder/news" | awk -v queued=" 00......$index.*$(mtu 1301)" '
+        / type=(begin|done) / { found = 0 } $0 ~ queued { found = 1 } END { exit !found }' ||
+        grep -q " 0[07]......$index" "$folder/out"; then
+        fails 'what was queued stands before a dump that is due, or after messages were lost'
     fi
-    holds "$folder/news" || fails 'after a queue that ran over, and --every: other interfaces'
-    echo 'live: --monitor --every: the same where a dump is due'
-}
-
-# what linkshow makes of it, where it is built
-shows() {
-    local show=$top/out/linkshow
-    [ -x "$show" ] || show=$top/crates/linkshow/out/linkshow
-    if [ ! -x "$show" ] || ! command -v jq >/dev/null; then
-        echo 'live: skipped: linkdump --plain | linkshow: linkshow is not built, or no jq'
-        return
+    if [ $# = 0 ] && [ "$(types "$folder/out")" != 'begin new done begin new done' ]; then
+        fails 'after a queue that ran over: other lines'
     fi
-    "$linkdump" --plain | "$show" | jq -r '"\(.ifname) \(.mtu)"' >"$folder/out"
-    ip -j link | jq -r '.[] | "\(.ifname) \(.mtu)"' | cmp -s - "$folder/out" || fails 'linkshow shows other links'
-    echo 'live: linkdump --plain | linkshow: the names and MTUs of ip'
+    holds "$folder/news" || fails "$*: after a queue that ran over: other interfaces"
+    echo "live: --monitor $*: a queue that ran over is told, and a dump follows"
 }
 
-# starts_diff [FAULT [WORD..]]: linkdump --monitor WORD.. | linkdiff in the background, with its dumps over
-starts_diff() {
-    rm -f "$folder/pipe" "$folder/changes" "$folder/err"
-    mkfifo "$folder/pipe"
-    "$diff" <"$folder/pipe" >"$folder/changes" &
-    reading=$!
-    LD_PRELOAD=${1:+$folder/kernel_faults.so} KERNEL_FAULT=${1:-} "$linkdump" --monitor "${@:2}" \
-        >"$folder/pipe" 2>"$folder/err" &
-    running=$!
-    trap 'kill -KILL "$running" "$reading" 2>/dev/null || true' EXIT
-    says '"change":"new","ifi-family":(7|10),.*"ifname":"port0"'
-}
-
-# says PATTERN: until linkdiff has written such a line
-says() {
-    if ! waits grep -qsE "$1" "$folder/changes"; then
-        cut -c1-200 "$folder/changes" >&2
-        fails "linkdiff does not write $1"
-    fi
-}
-
-# stops_diff: both end with status 0
-stops_diff() {
-    local status=0
-    kill -INT "$running"
-    wait "$running" || status=$?
-    wait "$reading" || status=$?
-    trap - EXIT
-    rm "$folder/pipe"
-    [ "$status" = 0 ] || fails "linkdump --monitor | linkdiff: status $status"
-}
-
-# what linkdiff makes of it, where it is built: changes without counters, what changed while messages were lost, a port
-# that left, a bridge that went
+# what linkdiff makes of an interface that went where families are chosen; tests/linkdiff/live.py has the rest
 differs() {
-    local host diff=$top/out/linkdiff lo='"change":"changed","ifi-family":0,"ifi-index":1,"ifname":"lo"'
-    [ -x "$diff" ] || diff=$top/crates/linkdiff/out/linkdiff
-    if [ ! -x "$diff" ]; then
-        echo 'live: skipped: linkdump --monitor | linkdiff: linkdiff is not built'
-        return
-    fi
-    starts_diff 'cut off'
-    ip link set lo txqueuelen 901
-    says "$lo,\"changes\":\[\{\"path\":\"txqlen\",\"old\":[0-9]+,\"new\":901\}\]"
-    grep -q 'a datagram was cut off' "$folder/err" || fails 'linkdiff: no datagram was cut off'
-    stops_diff
-    starts_diff
-    for host in 127.0.0.1 ::1; do # counters of lo count it
-        (echo >"/dev/udp/$host/9") 2>/dev/null || true
-    done
-    ip link set lo txqueuelen 902
-    says "$lo,\"changes\":\[\{\"path\":\"txqlen\",\"old\":901,\"new\":902\}\]"
-    [ "$(grep -c "$lo" "$folder/changes")" = 1 ] || fails "linkdiff: lo changed twice: $(grep "$lo" "$folder/changes")"
-    ip link set port0 nomaster
-    says '"change":"gone","ifi-family":7,.*"ifname":"port0"'
-    says '"change":"changed","ifi-family":0,.*"ifname":"port0",.*\{"path":"master","old":[0-9]+\}'
-    ip link del bridge0
-    says '"change":"gone","ifi-family":0,.*"ifname":"bridge0"'
-    says '"change":"gone","ifi-family":7,.*"ifname":"bridge0"'
-    overfills
-    ip link add gone0 type "$kind"
-    ip link set "$base" mtu 1235
-    kill -CONT "$running"
-    says "\"change\":\"changed\",.*\"ifname\":\"$base\",.*\"path\":\"mtu\",\"old\":[0-9]+,\"new\":1235\}"
-    says '"change":"new","ifi-family":0,.*"ifname":"gone0"'
-    stops_diff
-    if grep -E '"path":"stats' "$folder/changes" >&2; then
-        fails 'linkdiff writes counters'
-    fi
-    echo 'live: --monitor | linkdiff: changes without counters, a datagram that was cut off, a queue that ran over,' \
-        'a port that left, a bridge that went'
-    if ! "$linkdump" --plain --family inet6 | grep -q '^0a'; then
-        echo 'live: skipped: --monitor --family inet6 | linkdiff: the kernel has no IPv6'
+    local diff index
+    diff=$(program linkdiff)
+    if [ -z "$diff" ] || ! "$linkdump" --plain --family inet6 | grep -q '^0a'; then
+        echo 'live: skipped: --monitor --family inet6 | linkdiff: linkdiff is not built, or the kernel has no IPv6'
         return
     fi
     ip link add six0 type "$kind"
-    starts_diff '' --family inet6
-    says '"change":"new","ifi-family":10,.*"ifname":"six0"'
+    index=$(index_of six0)
+    starts --monitor --family inet6
     ip link del six0
-    says '"change":"gone","ifi-family":0,.*"ifname":"six0"'
-    says '"change":"gone","ifi-family":10,.*"ifname":"six0"'
-    stops_diff
-    echo 'live: --monitor --family inet6 | linkdiff: an interface that went'
+    hears "type=del .* 0000.{4}$index"
+    stops INT
+    "$diff" <"$folder/news" >"$folder/out"
+    for family in 0 10; do
+        grep -q "\"change\":\"gone\",\"ifi-family\":$family,.*\"ifname\":\"six0\"" "$folder/out" ||
+            fails "linkdiff does not tell that a link went in the family $family"
+    done
+    echo 'live: --monitor --family inet6, and linkdiff of its lines: an interface that went'
 }
 
 # in the namespace
-inside() {
-    mount -t sysfs sysfs /sys || skips 'no right to mount a sysfs'
-    ip link set lo up
+tells_of_links() {
     for kind in dummy bridge; do
         if ip link add one0 type "$kind" 2>/dev/null; then
             break
@@ -631,47 +492,29 @@ inside() {
     fi
     ip link add link "$base" name vlan0 type vlan id 5 2>/dev/null || echo 'live: skipped: a vlan: not of this kernel'
     python3 "$tests/beside.py" "$linkdump"
-    shows
     "$linkdump" --plain >"$folder/lines"
     chooses
     deletes
     monitors
     runs_over
-    is_late
+    runs_over --every 0.001
     differs
     echo 'live passed'
 }
 
 linkdump=$(readlink -f "$1")
-if [ "${2:-}" = --inside ]; then
-    folder=$3
-    inside
+if [ -n "$inside" ]; then
+    tells_of_links
     exit 0
 fi
-folder=$(mktemp -d)
-trap 'rm -rf "$folder"' EXIT
-# what linkdump says where there is no netlink, or no right to it
-absent='Address family not supported by protocol|Protocol not supported|Operation not supported|Connection refused'
-absent="$absent|Function not implemented|Operation not permitted|Permission denied"
 wrong_use
-if ! "$linkdump" >"$folder/out" 2>"$folder/err"; then
-    grep -qxE "linkdump: netlink: ($absent)" "$folder/err" || fails 'fails'
-    skips "no netlink: $(cat "$folder/err")"
-fi
+needs_netlink "$linkdump"
 for words in '' '--version' '--help'; do
     # shellcheck disable=SC2086 # none or one
     write_fails $words
 done
 ends
-for command in ip python3; do
-    command -v "$command" >/dev/null || skips "no command $command"
-done
+needs ip python3
 [ -d /sys/class/net ] || skips 'no /sys/class/net'
 python3 "$tests/beside.py" "$linkdump"
-for flags in -mn -rmn; do
-    if unshare "$flags" true 2>/dev/null; then
-        unshare "$flags" "$0" "$linkdump" --inside "$folder"
-        exit 0
-    fi
-done
-skips 'a namespace: no right to make one'
+goes_inside "$linkdump"

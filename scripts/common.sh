@@ -1,0 +1,155 @@
+# shellcheck shell=bash disable=SC2034
+# What the scripts share, `. "$(dirname "$0")/common.sh"`: `self` stands in front of what a script says, by default its
+# name; `top` is the repository, and `folder` is one for the script alone, which goes at its end.
+set -euo pipefail
+self=${self:-$(basename "$0" .sh)}
+top=$(cd "$(dirname "${BASH_SOURCE[0]}")/.." && pwd)
+
+skips() {
+    echo "$self: skipped: $*"
+    exit 0
+}
+
+fails() {
+    echo "$self: $*" >&2
+    exit 1
+}
+
+# A script runs itself again as `SCRIPT --inside FOLDER WORD..`: `inside` is 1 there, and its words stay.
+inside=''
+if [ "${1:-}" = --inside ]; then
+    inside=1 folder=$2
+    shift 2
+else
+    folder=$(mktemp -d)
+    trap 'rm -rf "$folder"' EXIT
+fi
+
+# goes_inside WORD..: ends with this script in a network namespace of its own, with a /sys of that
+goes_inside() {
+    local flags mounts='mount -t sysfs sysfs /sys'
+    command -v ip >/dev/null || skips 'a namespace: no command ip'
+    for flags in -mn -rmn; do
+        if unshare "$flags" sh -c "$mounts" 2>/dev/null; then
+            unshare "$flags" sh -c "$mounts && ip link set lo up && exec \"\$@\"" sh "$0" --inside "$folder" "$@"
+            exit 0
+        fi
+    done
+    skips 'a namespace: no right to make one, or to mount a sysfs'
+}
+
+# needs COMMAND..: else the script is skipped
+needs() {
+    local it
+    for it in "$@"; do
+        command -v "$it" >/dev/null || skips "no $it"
+    done
+}
+
+# program NAME [FOLDER..]: where the program is, in these folders, else as the gate left it or in out/; nothing where it
+# is not built
+program() {
+    local it
+    [ "$#" != 1 ] || set -- "$1" "$top/crates/$1/out" "$top/out"
+    for it in "${@:2}"; do
+        if [ -x "$it/$1" ]; then
+            realpath "$it/$1"
+            return
+        fi
+    done
+}
+
+# waits SECONDS COMMAND..: until it succeeds, so long at most
+waits() {
+    local until=$((SECONDS + $1))
+    while ! "${@:2}"; do
+        [ "$SECONDS" -lt "$until" ] || return 1
+        sleep 0.05
+    done
+}
+
+# runs COMMAND..: what it says is in the file $log, and is shown where it fails
+log=$folder/log
+runs() {
+    "$@" >"$log" 2>&1 || { cat "$log" >&2; fails "$* fails"; }
+}
+
+# says NAME COMMAND..: what it says where it fails, and `status` is 1 then, else that it is well
+status=0
+says() {
+    if "${@:2}" >"$folder/log" 2>&1; then
+        echo "$self: $1: ok"
+    else
+        cat "$folder/log" >&2
+        echo "$self: $1: failed" >&2
+        status=1
+    fi
+}
+
+# where NAME HAS COMMAND..: what `says` does, or that NAME is skipped where the command HAS is not there
+where() {
+    if $2 >/dev/null 2>&1; then
+        says "$1" "${@:3}"
+    else
+        echo "$self: $1: skipped: not installed"
+    fi
+}
+
+# preloads FILE FLAG..: compiles tests/FILE.c, whose functions stand for those of the C library, as $folder/preloaded.so
+preloads() {
+    ${CC:-cc} -O2 -Wall -Wextra -Werror "${@:2}" -shared -fPIC -o "$folder/preloaded.so" "$top/tests/$1.c" -ldl
+}
+
+# refusing NUMBER COMMAND..: with that allocation refused by program/refuse_allocation, and then $folder/refused made
+refusing() {
+    rm -f "$folder/refused"
+    REFUSED_CALL=$1 REFUSED_MARK=$folder/refused LD_PRELOAD=$folder/preloaded.so "${@:2}"
+}
+
+# with FAULT COMMAND..: where by live/kernel_faults a kernel does what it seldom does
+with() {
+    LD_PRELOAD=$folder/preloaded.so KERNEL_FAULT=$1 timeout 20 "${@:2}" 2>"$folder/err"
+}
+
+# asked COUNT: whether what ran last has sent so many requests
+asked() {
+    [ "$(grep -sc '^asked$' "$folder/err")" -ge "$1" ] 2>/dev/null
+}
+
+# makes_linkdump: compiles $folder/linkdump, without captures
+makes_linkdump() {
+    ${CC:-cc} -std=gnu11 -D_GNU_SOURCE -O1 -I"$top/include" -o "$folder/linkdump" "$top"/programs/linkdump*.c
+}
+
+# needs_netlink LINKDUMP: else the script is skipped, by what linkdump says where there is none, or no right to it
+needs_netlink() {
+    local absent='Address family not supported by protocol|Protocol not supported|Operation not supported'
+    absent+='|Connection refused|Function not implemented|Operation not permitted|Permission denied'
+    if ! "$1" >"$folder/out" 2>"$folder/err"; then
+        grep -qxE "linkdump: netlink: ($absent)" "$folder/err" || fails "linkdump fails: $(cat "$folder/err")"
+        skips "no netlink: $(cat "$folder/err")"
+    fi
+}
+
+# copies_tree FOLDER: makes a copy of the tree without what is built, and takes rt off the path
+copies_tree() {
+    mkdir -p "$1"
+    (cd "$top" && git ls-files -z --cached --others --exclude-standard | tar --null --ignore-failed-read -T - -c) \
+        2>/dev/null | tar -x -C "$1"
+    PATH=$(tr ':' '\n' <<<"$PATH" | while read -r it; do [ -e "$it/rt" ] || echo "$it"; done | paste -sd :)
+    unset CC LD OBJCOPY AR CFLAGS LDFLAGS MAKEFLAGS MFLAGS MAKELEVEL PROVE
+}
+
+# crates_below CRATE: the repository's crates that it stands on, each after those below it, and at the end itself
+crates_below() {
+    awk -v wanted="$1" '
+        /^[a-z]/ { name = $1; sub(/:.*/, "", name); sub(/^[^:]*:/, ""); below[name] = $0 }
+        function add(name, words, count, at) {
+            if (!(name in below) || name in seen) return
+            seen[name] = 1
+            count = split(below[name], words, " ")
+            for (at = 1; at <= count; at++) add(words[at])
+            print name
+        }
+        END { add(wanted) }' "$top/crates.txt"
+}

@@ -1,0 +1,81 @@
+"""The tables of names.rt, in which a name and a form that linkshow shows stand once, beside the specs, for
+kernel_tables.py: number, name and form of each attribute, names of flags and values, fields of records. A number that
+no spec has is kept, and its name stands beside the kernel's headers."""
+
+import fnmatch
+import re
+
+from kernel_names import OWN_FIELDS, PLACES, REASONS, ROWS
+
+NAMES = "message_shown/src/names.rt"
+# forms, by the types of rt_link.yaml or of values; what has none of these has code of its own
+FORMS = {"U8": "u8", "U16": "u16", "U32": "u32", "U64": "u64", "I32": "s32", "Text": "string", "Address": "binary",
+         "OperState": "State", "LinkMode": "LinkMode", "Event": "LinkEvent", "Attached": "XdpAttached",
+         "Binding": "MctpPhysBinding"}
+
+
+def tables(code):
+    """The rows of each constant: words, numbers as such."""
+    for name, body in re.findall(r"pub const (\w+): \[[^;]*; \d+\] =\s*\[(.*?)\];", code, re.S):
+        rows = re.findall(r'\(([^()]*)\)|("[^"]*")', body)
+        rows = [[it.strip().strip('"').removeprefix("Form::") for it in (row or word).split(",")] for row, word in rows]
+        yield name, rows
+
+
+def kernel_name(where):
+    """The kernel's name for what netlink-packet-route has perhaps another one."""
+    own = where.split(".")[1]
+    return next((theirs for pattern, what, here, theirs, _ in REASONS
+                 if what == "name" and here == own and fnmatch.fnmatchcase(where, pattern)), own)
+
+
+def form_of(payload):
+    """The form of a payload, by its type or that of its value."""
+    if payload.value in FORMS.values():
+        return payload.value
+    is_own = payload.word in ("nest", "struct") or payload.value and payload.value != "Bool"
+    return "own" if is_own else payload.word
+
+
+def compare_places(kind, rows, ours, headers, report):
+    """Rows of a place as number or constant, name and form; of the outermost place as name and form."""
+    crate, lines = ours.tables[kind]
+    prefix, by_number = PLACES[kind].prefix, {}
+    for line in lines:
+        by_number.setdefault(line.number, []).append(line)
+    kept = headers.group(prefix, None, [line.constant for line in lines]) if headers else {}
+    numbers = [ours.constants.get((crate, row[0])) if row[0][:1].isalpha() else int(row[0]) for row in rows] \
+        if len(rows[0]) == 3 else range(len(rows))
+    for number, (name, form) in zip(numbers, (row[-2:] for row in rows)):
+        found, where = by_number.get(number, []), "%s.%s" % (kind, name)
+        there = [it.constant for it in found[:1]] or [it for it, n in kept.items() if n == number] or [prefix + name]
+        wanted = form_of(found[0].payload) if len(found) == 1 else "own"
+        if name:
+            report.compare("names shown", where, ("name", name, there[0].removeprefix(prefix)),
+                           ("form", FORMS.get(form, "own"), wanted))
+    shown = {number for number, (name, *_) in zip(numbers, (row[-2:] for row in rows)) if name}
+    if shown & by_number.keys():  # else it has what is kept alone
+        for number in by_number.keys() - shown:
+            report.compare("names shown", "%s.%s" % (kind, by_number[number][0].constant), ("row", "none", number))
+
+
+def compare_shown(ours, headers, report):
+    """All of it."""
+    known = dict(ROWS["shown"])
+    found = dict(tables(ours.code(NAMES)))
+    report.same_names("table of names.rt", found, known)
+    for table, kind in ((it, known[it]) for it in found if it in known):
+        rows = found[table]
+        if kind in ours.tables:
+            compare_places(kind, rows, ours, headers, report)
+            continue
+        if kind in ours.records:
+            fields = ["%s.%s" % (kind, it.name) for it in ours.records[kind][0]]
+            theirs = dict(enumerate(kernel_name(it) for it in fields if it not in OWN_FIELDS))
+        else:
+            theirs = {n: kernel_name("%s.%s" % (kind, it)) for it, n in ours.values[kind].items()}
+        here = {int(row[0], 0): row[1] for row in rows} if len(rows[0]) == 2 else \
+            {n: name for n, (name,) in enumerate(rows) if name}
+        for n in here.keys() | {n for n in theirs if len(rows[0]) == 2 or n < len(rows)}:
+            name = here.get(n, "none")
+            report.compare("names shown", "%s.%s" % (kind, name), ("name", name, theirs.get(n, "none")))
