@@ -42,6 +42,10 @@
 /// assert_eq!((packet.header.message_type, packet.header.flags), (16, 5));
 /// let message = RouteLink::parse(17, &[0; 16])?;
 /// assert!(matches!(&message, RouteLink::DelLink(_)) && message.link().is_some());
+/// // an alias in Latin-1 is refused: such a message came as `Other`, and hides no link where it is read leniently
+/// let bytes = b"\0\0\x01\0\x07\0\0\0\0\0\0\0\0\0\0\0\x08\0\x14\0caf\xe9";
+/// assert!(RouteLink::parse(16, bytes).is_err());
+/// assert!(matches!(RouteLink::Other(16, bytes.to_vec()).lenient(), RouteLink::NewLink(_)));
 /// # Ok::<(), Box<dyn std::error::Error>>(())
 /// ```
 #[macro_export]
@@ -71,14 +75,32 @@ macro_rules! route_link {
             ///
             /// Where a message of links is refused, its first fault.
             $visible fn parse(message_type: u16, payload: &[u8]) -> Result<Self, $crate::DecodeError> {
-                let make = match message_type {
-                    16 => $name::NewLink,
-                    17 => $name::DelLink,
-                    18 => $name::GetLink,
-                    19 => $name::SetLink,
-                    other => return Ok($name::Other(other, payload.to_vec())),
+                match $name::of_type(message_type) {
+                    Some(make) => Ok(make($crate::LinkMessage::parse(payload)?)),
+                    None => Ok($name::Other(message_type, payload.to_vec())),
+                }
+            }
+
+            /// A message of links that was refused, read leniently: an attribute at fault is kept as it is, and hides
+            /// none of the others. Where that is refused too, and of another message, it is what it was.
+            $visible fn lenient(self) -> Self {
+                let read = match &self {
+                    $name::Other(kind, payload) => $name::of_type(*kind)
+                        .and_then(|make| $crate::LinkMessage::parse_lenient(payload).ok().map(make)),
+                    _ => None,
                 };
-                Ok(make($crate::LinkMessage::parse(payload)?))
+                read.unwrap_or(self)
+            }
+
+            /// What holds a message of links of this type.
+            fn of_type(message_type: u16) -> Option<fn($crate::LinkMessage) -> Self> {
+                match message_type {
+                    16 => Some($name::NewLink),
+                    17 => Some($name::DelLink),
+                    18 => Some($name::GetLink),
+                    19 => Some($name::SetLink),
+                    _ => None,
+                }
             }
 
             /// A request as a message in netlink's envelope, with its flags. What else the header has, as a sequence
@@ -92,14 +114,11 @@ macro_rules! route_link {
             ) -> Result<$($core)::+::NetlinkMessage<$name>, $crate::request::RequestError> {
                 request.check()?;
                 let (kind, flags) = (request.message_type, request.flags);
-                let message = match kind {
-                    16 => $name::NewLink(request.message),
-                    17 => $name::DelLink(request.message),
-                    18 => $name::GetLink(request.message),
-                    19 => $name::SetLink(request.message),
-                    other => {
+                let message = match $name::of_type(kind) {
+                    Some(make) => make(request.message),
+                    None => {
                         let bytes = request.message.to_vec();
-                        $name::Other(other, bytes.map_err(|_| $crate::request::RequestError::DoesNotFit)?)
+                        $name::Other(kind, bytes.map_err(|_| $crate::request::RequestError::DoesNotFit)?)
                     }
                 };
                 let mut packet = $($core)::+::NetlinkMessage::from(message);
@@ -146,7 +165,8 @@ macro_rules! route_link {
         impl $($core)::+::NetlinkDeserializable for $name {
             type Error = core::convert::Infallible;
 
-            /// A message of links that is refused is kept as `Other`: netlink-proto drops what is not read.
+            /// A message of links that is refused is kept as `Other`, for `lenient`: netlink-proto drops what is not
+            /// read.
             fn deserialize(header: &$($core)::+::NetlinkHeader, payload: &[u8]) -> Result<Self, Self::Error> {
                 let kind = header.message_type;
                 Ok($name::parse(kind, payload).unwrap_or_else(|_| $name::Other(kind, payload.to_vec())))

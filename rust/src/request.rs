@@ -96,7 +96,15 @@ impl fmt::Display for RequestError {
 #[cfg(feature = "std")]
 impl std::error::Error for RequestError {}
 
-/// The interface that a request is of, by its index or its name.
+/// The interface that a request is of, by its index or its name. It comes from a `u32`, and from a reference to any
+/// text: a `&str`, a `&String`.
+///
+/// ```
+/// use linkwire::request::Of;
+/// let names = vec![String::from("eth0")];
+/// assert_eq!((Of::from(7), Of::from("eth0")), (Of::Index(7), Of::Name("eth0")));
+/// assert_eq!(Of::from(&names[0]), Of::Name("eth0"));
+/// ```
 #[derive(Clone, Copy, Debug, PartialEq, Eq, Hash)]
 pub enum Of<'a> {
     /// Its index.
@@ -111,9 +119,9 @@ impl From<u32> for Of<'_> {
     }
 }
 
-impl<'a> From<&'a str> for Of<'a> {
-    fn from(name: &'a str) -> Self {
-        Of::Name(name)
+impl<'a, T: AsRef<str> + ?Sized> From<&'a T> for Of<'a> {
+    fn from(name: &'a T) -> Self {
+        Of::Name(name.as_ref())
     }
 }
 
@@ -482,12 +490,15 @@ pub fn delete<'a>(link: impl Into<Of<'a>>) -> Result<Request, RequestError> {
 /// ```
 /// use linkwire::request;
 /// // ip link property add dev eth0 altname uplink, and del
-/// let add = request::add_names("eth0", &["uplink"])?;
+/// let add = request::add_names("eth0", ["uplink"])?;
 /// assert_eq!((add.message_type, add.flags), (108, 0xe05));
-/// assert_eq!(request::delete_names("eth0", &["uplink"])?.message_type, 109);
+/// assert_eq!(request::delete_names("eth0", ["uplink"])?.message_type, 109);
 /// # Ok::<(), request::RequestError>(())
 /// ```
-pub fn add_names<'a>(link: impl Into<Of<'a>>, names: &[&str]) -> Result<Request, RequestError> {
+pub fn add_names<'a>(
+    link: impl Into<Of<'a>>,
+    names: impl IntoIterator<Item = impl AsRef<str>>,
+) -> Result<Request, RequestError> {
     let flags = NLM_F_ACK | NLM_F_CREATE | NLM_F_EXCL | NLM_F_APPEND;
     names_of(RTM_NEWLINKPROP, flags, link.into(), names)
 }
@@ -499,15 +510,23 @@ pub fn add_names<'a>(link: impl Into<Of<'a>>, names: &[&str]) -> Result<Request,
 /// # Errors
 ///
 /// A name that the kernel does not take.
-pub fn delete_names<'a>(link: impl Into<Of<'a>>, names: &[&str]) -> Result<Request, RequestError> {
+pub fn delete_names<'a>(
+    link: impl Into<Of<'a>>,
+    names: impl IntoIterator<Item = impl AsRef<str>>,
+) -> Result<Request, RequestError> {
     names_of(RTM_DELLINKPROP, NLM_F_ACK, link.into(), names)
 }
 
-fn names_of(message_type: u16, flags: u16, link: Of<'_>, names: &[&str]) -> Result<Request, RequestError> {
+fn names_of(
+    message_type: u16,
+    flags: u16,
+    link: Of<'_>,
+    names: impl IntoIterator<Item = impl AsRef<str>>,
+) -> Result<Request, RequestError> {
     let mut list = Vec::new();
     for name in names {
-        named(name, MOST_ALT_NAME)?;
-        list.push(Prop::AltIfName(String::from(*name)));
+        named(name.as_ref(), MOST_ALT_NAME)?;
+        list.push(Prop::AltIfName(String::from(name.as_ref())));
     }
     Request::new(message_type, flags, link, Some(LinkAttribute::PropList(list)))
 }

@@ -204,19 +204,19 @@ const ROWS: &[Row] = &[
         command: "ip link property add dev v0 altname uplink-of-rack-7",
         header: (108, 0xe05),
         sent: "000000000300000000000000000000001c0034801500350075706c696e6b2d6f662d7261636b2d3700000000",
-        made: || one(request::add_names(3, &["uplink-of-rack-7"])),
+        made: || one(request::add_names(3, ["uplink-of-rack-7"])),
     },
     Row {
         command: "ip link property add dev v0 altname one altname two",
         header: (108, 0xe05),
         sent: "0000000003000000000000000000000014003480080035006f6e65000800350074776f00",
-        made: || one(request::add_names(3, &["one", "two"])),
+        made: || one(request::add_names(3, ["one", "two"])),
     },
     Row {
         command: "ip link property del dev v0 altname one",
         header: (109, 0x5),
         sent: "000000000300000000000000000000000c003480080035006f6e6500",
-        made: || one(request::delete_names(3, &["one"])),
+        made: || one(request::delete_names(3, ["one"])),
     },
     Row {
         command: "ip link add dum0 type dummy",
@@ -419,8 +419,8 @@ fn what_is_too_long_is_not_sent() {
         assert_eq!(request::add(name, InfoKind::Dummy, None), Err(RequestError::Name), "{name:?}");
         assert_eq!(request::up(name), Err(RequestError::Name), "{name:?}");
     }
-    assert_eq!(request::add_names(7, &["one", &"n".repeat(128)]), Err(RequestError::Name));
-    assert!(request::add_names(7, &["one", &"n".repeat(127)]).is_ok());
+    assert_eq!(request::add_names(7, ["one", &"n".repeat(128)]), Err(RequestError::Name));
+    assert!(request::add_names(7, ["one", &"n".repeat(127)]).is_ok());
     assert!(request::alias(7, &"a".repeat(255)).unwrap().packet(1).is_ok());
     assert_eq!(request::alias(7, &"a".repeat(256)), Err(RequestError::Alias));
     let long = request::up(7).unwrap().with(LinkAttribute::IfName("n".repeat(16)));
@@ -437,6 +437,16 @@ fn by_name_or_by_index() {
     let by_name = request::mtu("eth0", 1400).unwrap().message;
     assert_eq!(by_name.attributes, [LinkAttribute::IfName("eth0".to_string()), LinkAttribute::Mtu(1400)]);
     assert_eq!(request::namespace(3, 5).unwrap().message.attributes, [LinkAttribute::NetNsFd(5)]);
+    let names = vec![String::from("eth0"), String::from("uplink")];
+    let boxed: Box<str> = "eth0".into();
+    for made in [request::mtu(&names[0], 1400), request::mtu(names[0].as_str(), 1400), request::mtu(&boxed, 1400)] {
+        assert_eq!(made.unwrap().message, by_name);
+    }
+    let listed = request::add_names(&names[0], &names);
+    assert_eq!(listed, request::add_names("eth0", ["eth0", "uplink"]));
+    assert_eq!(listed, request::add_names("eth0", names.iter()));
+    assert_eq!(request::delete_names("eth0", &names[1..]), request::delete_names("eth0", ["uplink"]));
+    assert_eq!(request::delete_names("eth0", vec![""]), Err(RequestError::Name));
     assert!(request::dump(&[]).message.attributes.is_empty());
     assert_eq!(request::get("eth0", &[]).unwrap().message.attributes.len(), 1);
 }

@@ -6,7 +6,7 @@ use linkwire::request::{self, Request};
 use linkwire::typed::{BondMode, InfoBond, InfoBridge, InfoData, InfoKind, InfoVeth, InfoVlan, LinkInfos};
 use linkwire::{LinkAttribute, LinkMessage};
 use linkwire_netlink::RouteLink;
-use netlink_packet_core::{NetlinkMessage, NetlinkPayload};
+use netlink_packet_core::{NLM_F_DUMP_INTR, NetlinkMessage, NetlinkPayload};
 use netlink_sys::{Socket, SocketAddr, protocols::NETLINK_ROUTE};
 use std::error::Error;
 use std::os::unix::io::AsRawFd;
@@ -33,33 +33,53 @@ impl Kernel {
         Ok(Kernel { socket, number: 0 })
     }
 
-    /// Sends a request, and gives the links of the answer.
+    /// Sends a request, and gives the links of the answer; a dump during which links came or went is asked for again.
     fn ask(&mut self, request: Request) -> Result<Vec<LinkMessage>, Box<dyn Error>> {
+        loop {
+            if let Some(links) = self.ask_once(&request)? {
+                return Ok(links);
+            }
+        }
+    }
+
+    fn ask_once(&mut self, request: &Request) -> Result<Option<Vec<LinkMessage>>, Box<dyn Error>> {
         self.number += 1;
         let is_one = request.flags == request::NLM_F_REQUEST;
         self.socket.send(&request.packet(self.number)?, 0)?;
-        let mut links = Vec::new();
+        let (mut links, mut is_whole) = (Vec::new(), true);
         loop {
             let (datagram, _) = self.socket.recv_from_full()?;
             let mut at = 0;
             while at < datagram.len() {
                 let packet = NetlinkMessage::<RouteLink>::deserialize(&datagram[at..])?;
                 at += (packet.header.length as usize + 3) / 4 * 4;
+                is_whole &= packet.header.flags & NLM_F_DUMP_INTR == 0;
                 match packet.payload {
-                    NetlinkPayload::Done | NetlinkPayload::Ack(_) => return Ok(links),
+                    NetlinkPayload::Done | NetlinkPayload::Ack(_) => return Ok(is_whole.then_some(links)),
                     NetlinkPayload::Error(error) => return Err(told(&error.header, error.to_io()).into()),
-                    NetlinkPayload::InnerMessage(RouteLink::NewLink(link)) => links.push(link),
+                    NetlinkPayload::InnerMessage(message) => links.push(link_of(message)?),
                     other => return Err(format!("{other:?}").into()),
                 }
             }
             if is_one {
-                return Ok(links);
+                return Ok(Some(links));
             }
         }
     }
 
     fn one(&mut self, name: &str) -> Result<LinkMessage, Box<dyn Error>> {
         self.ask(request::get(name, &[])?)?.pop().ok_or_else(|| "no answer".into())
+    }
+}
+
+/// The link of a message. What is refused of it, as an alias in Latin-1, is told, and hides nothing else.
+fn link_of(message: RouteLink) -> Result<LinkMessage, Box<dyn Error>> {
+    if let RouteLink::Other(_, bytes) = &message {
+        LinkMessage::refusals(bytes)?.for_each(|it| println!("refused: {} at byte {}", it.error(), it.offset()));
+    }
+    match message.lenient() {
+        RouteLink::NewLink(link) => Ok(link),
+        other => Err(format!("{other:?}").into()),
     }
 }
 
@@ -130,7 +150,7 @@ fn main() -> Result<(), Box<dyn Error>> {
     kernel.ask(request::mtu(v0, 1400)?)?;
     kernel.ask(request::name(v0, "w0")?)?;
     kernel.ask(request::alias("w0", &"a".repeat(255))?)?;
-    kernel.ask(request::add_names("w0", &["uplink of rack 7"])?)?;
+    kernel.ask(request::add_names("w0", ["uplink of rack 7"])?)?;
     kernel.ask(request::up(v0)?)?;
     let w0 = kernel.one("w0")?;
     println!("now {:?}, {:?}", name(&w0), w0.header.flags);

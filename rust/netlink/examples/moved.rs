@@ -33,7 +33,10 @@ async fn links(
     let mut found = Vec::new();
     while let Some(packet) = answer.next().await {
         match packet.payload {
-            NetlinkPayload::InnerMessage(RouteLink::NewLink(link)) => found.push(link), // RouteNetlinkMessage
+            NetlinkPayload::InnerMessage(message) => match message.lenient() {
+                RouteLink::NewLink(link) => found.push(link), // RouteNetlinkMessage
+                other => println!("{other:?}"),
+            }, // lenient() is new: a link with an alias in Latin-1 was dropped
             NetlinkPayload::Error(error) => return Err(error.to_io().into()),
             _ => (),
         }

@@ -17,6 +17,15 @@ fn line(link: &LinkMessage) -> String {
     format!("{}: {} <{}>", link.header.index, name.unwrap_or("?"), link.header.flags)
 }
 
+/// A line of a link, also where an attribute of it is refused.
+fn tell(word: &str, message: RouteLink) {
+    match message.lenient() {
+        RouteLink::NewLink(link) => println!("{word} {}", line(&link)),
+        RouteLink::DelLink(link) => println!("gone  {}", line(&link)),
+        other => println!("{other:?}"),
+    }
+}
+
 #[tokio::main(flavor = "current_thread")]
 async fn main() -> Result<(), Box<dyn std::error::Error>> {
     let (mut connection, mut handle, mut events) = netlink_proto::new_connection(NETLINK_ROUTE)?;
@@ -25,14 +34,13 @@ async fn main() -> Result<(), Box<dyn std::error::Error>> {
     let mut answer = handle.request(RouteLink::packet(request::dump(&[]))?, SocketAddr::new(0, 0))?;
     while let Some(packet) = answer.next().await {
         match packet.payload {
-            NetlinkPayload::InnerMessage(RouteLink::NewLink(link)) => println!("there {}", line(&link)),
+            NetlinkPayload::InnerMessage(message) => tell("there", message),
             other => println!("{other:?}"),
         }
     }
     while let Ok(Some((packet, _))) = tokio::time::timeout(Duration::from_millis(1500), events.next()).await {
         match packet.payload {
-            NetlinkPayload::InnerMessage(RouteLink::NewLink(link)) => println!("new   {}", line(&link)),
-            NetlinkPayload::InnerMessage(RouteLink::DelLink(link)) => println!("gone  {}", line(&link)),
+            NetlinkPayload::InnerMessage(message) => tell("new  ", message),
             other => println!("{other:?}"),
         }
     }

@@ -108,10 +108,9 @@ impl LinkMessage {
         check_attributes(rest, header.interface_family)
     }
 
-    /// The length of the canonical encoding, or `None` where the message does not fit. The walk over the values is a
-    /// call that only reads, so a caller of `fits` and then of `buffer_len` makes it once.
+    /// The length of the canonical encoding, or `None` where the message does not fit: one walk over the values.
     #[cfg_attr(not(debug_assertions), inline(always))]
-    fn measured(&self) -> Option<usize> {
+    pub(crate) fn measured(&self) -> Option<usize> {
         match nlas_measure(self.attributes.as_slice()) {
             Some(len) => len.checked_add(HEADER_SIZE),
             None => None,

@@ -6,9 +6,8 @@ use crate::link_msg::message::LinkMessage;
 use alloc::vec::Vec;
 
 impl LinkMessage {
-    /// The canonical encoding of a message that fits.
-    fn encoding(&self) -> Vec<u8> {
-        let len = self.buffer_len();
+    /// The canonical encoding of a message that was measured.
+    fn encoding(&self, len: usize) -> Vec<u8> {
         let mut encoding = Vec::with_capacity(len);
         encoding.resize(len, 0);
         self.emit(encoding.as_mut_slice());
@@ -23,13 +22,14 @@ impl LinkMessage {
     ///
     /// Refuses, in this order: `DoesNotFit`, `EmptyVfPorts`.
     pub fn to_vec(&self) -> Result<Vec<u8>, CanonError> {
-        if !self.fits() {
-            return Err(CanonError::DoesNotFit);
-        }
+        let len = match self.measured() {
+            Some(len) => len,
+            _ => return Err(CanonError::DoesNotFit),
+        };
         if self.has_empty_ports() {
             return Err(CanonError::EmptyVfPorts);
         }
-        Ok(self.encoding())
+        Ok(self.encoding(len))
     }
 
     /// Whether the message fits and its canonical encoding means it, which is so of every message that was read, fits
@@ -45,10 +45,11 @@ impl LinkMessage {
     ///
     /// The first fault: its cause, and where it is.
     pub fn reads_back(&self) -> bool {
-        if !self.fits() {
-            return false;
-        }
-        let encoding = self.encoding();
+        let len = match self.measured() {
+            Some(len) => len,
+            _ => return false,
+        };
+        let encoding = self.encoding(len);
         match LinkMessage::parse(encoding.as_slice()) {
             Ok(read) => read == *self,
             Err(_) => false,

@@ -2,16 +2,9 @@
 //! The express data path of an interface, members of IFLA_XDP.
 
 use crate::link_nest::attached::parse_attached;
-use crate::link_nest::numbers::{
-    IFLA_XDP_ATTACHED, IFLA_XDP_DRV_PROG_ID, IFLA_XDP_EXPECTED_FD, IFLA_XDP_FD, IFLA_XDP_FLAGS, IFLA_XDP_HW_PROG_ID,
-    IFLA_XDP_PROG_ID, IFLA_XDP_SKB_PROG_ID,
-};
+use crate::link_nest::numbers::*;
 use crate::link_vals::XdpAttached;
-use crate::nla_wire::error::checked;
-use crate::nla_wire::{
-    DecodeError, DefaultNla, Flat, FlatView, Nla, NlaBuffer, NlaRead, kind_names, measure_i32, measure_u8, measure_u32,
-    parse_i32, parse_u32, write_i32_payload, write_u8_payload, write_u32_payload, write_value,
-};
+use crate::nla_wire::{DecodeError, DefaultNla, Flat, FlatView, Nla, NlaBuffer, NlaRead, rows};
 
 /// A member of IFLA_XDP (linux/if_link.h).
 #[derive(Clone, Debug, PartialEq, Eq, Hash)]
@@ -37,91 +30,48 @@ pub enum LinkXdp {
     Other(DefaultNla),
 }
 
+/// A row for each member that is listed, in their order.
+macro_rules! members {
+    ($($call:tt)*) => {
+        rows! { ($($call)*)
+            plain Fd(i32, IFLA_XDP_FD)
+            listed Attached(u8, IFLA_XDP_ATTACHED, parse_attached)
+            plain Flags(u32, IFLA_XDP_FLAGS)
+            plain ProgId(u32, IFLA_XDP_PROG_ID)
+            plain DrvProgId(u32, IFLA_XDP_DRV_PROG_ID)
+            plain SkbProgId(u32, IFLA_XDP_SKB_PROG_ID)
+            plain HwProgId(u32, IFLA_XDP_HW_PROG_ID)
+            plain ExpectedFd(u32, IFLA_XDP_EXPECTED_FD)
+        }
+    };
+}
+
 impl Flat for LinkXdp {
     #[inline]
     fn view(&self) -> (u16, FlatView<'_>) {
-        match self {
-            LinkXdp::Fd(fd) => (IFLA_XDP_FD, FlatView::I32(*fd)),
-            LinkXdp::Attached(place) => (IFLA_XDP_ATTACHED, FlatView::U8(u8::from(*place))),
-            LinkXdp::Flags(flags) => (IFLA_XDP_FLAGS, FlatView::U32(*flags)),
-            LinkXdp::ProgId(id) => (IFLA_XDP_PROG_ID, FlatView::U32(*id)),
-            LinkXdp::DrvProgId(id) => (IFLA_XDP_DRV_PROG_ID, FlatView::U32(*id)),
-            LinkXdp::SkbProgId(id) => (IFLA_XDP_SKB_PROG_ID, FlatView::U32(*id)),
-            LinkXdp::HwProgId(id) => (IFLA_XDP_HW_PROG_ID, FlatView::U32(*id)),
-            LinkXdp::ExpectedFd(fd) => (IFLA_XDP_EXPECTED_FD, FlatView::U32(*fd)),
-            LinkXdp::Other(nla) => (nla.kind(), FlatView::Bytes(nla.value())),
-        }
+        members!(view LinkXdp, self)
     }
 }
 
 impl NlaRead for LinkXdp {
     fn kind_name(kind: u16) -> &'static str {
-        kind_names!(kind;
-            IFLA_XDP_FD,
-            IFLA_XDP_ATTACHED,
-            IFLA_XDP_FLAGS,
-            IFLA_XDP_PROG_ID,
-            IFLA_XDP_DRV_PROG_ID,
-            IFLA_XDP_SKB_PROG_ID,
-            IFLA_XDP_HW_PROG_ID,
-            IFLA_XDP_EXPECTED_FD,
-        )
+        members!(name kind)
     }
 
     fn parse_frame(buffer: &NlaBuffer<'_>) -> Result<LinkXdp, DecodeError> {
-        match buffer.kind() {
-            IFLA_XDP_FD => parse_i32(buffer.value()).map(LinkXdp::Fd),
-            IFLA_XDP_ATTACHED => parse_attached(buffer.value()).map(LinkXdp::Attached),
-            IFLA_XDP_FLAGS => parse_u32(buffer.value()).map(LinkXdp::Flags),
-            IFLA_XDP_PROG_ID => parse_u32(buffer.value()).map(LinkXdp::ProgId),
-            IFLA_XDP_DRV_PROG_ID => parse_u32(buffer.value()).map(LinkXdp::DrvProgId),
-            IFLA_XDP_SKB_PROG_ID => parse_u32(buffer.value()).map(LinkXdp::SkbProgId),
-            IFLA_XDP_HW_PROG_ID => parse_u32(buffer.value()).map(LinkXdp::HwProgId),
-            IFLA_XDP_EXPECTED_FD => parse_u32(buffer.value()).map(LinkXdp::ExpectedFd),
-            _ => DefaultNla::parse(buffer).map(LinkXdp::Other),
-        }
+        members!(parse LinkXdp, buffer)
     }
 
     fn check_frame(buffer: &NlaBuffer<'_>) -> Result<(), DecodeError> {
-        match buffer.kind() {
-            IFLA_XDP_FD => checked(parse_i32(buffer.value())),
-            IFLA_XDP_ATTACHED => checked(parse_attached(buffer.value())),
-            IFLA_XDP_FLAGS => checked(parse_u32(buffer.value())),
-            IFLA_XDP_PROG_ID => checked(parse_u32(buffer.value())),
-            IFLA_XDP_DRV_PROG_ID => checked(parse_u32(buffer.value())),
-            IFLA_XDP_SKB_PROG_ID => checked(parse_u32(buffer.value())),
-            IFLA_XDP_HW_PROG_ID => checked(parse_u32(buffer.value())),
-            IFLA_XDP_EXPECTED_FD => checked(parse_u32(buffer.value())),
-            _ => Ok(()),
-        }
+        members!(check buffer)
     }
 
     #[cfg_attr(not(debug_assertions), inline(always))]
     fn measure_frame(buffer: &NlaBuffer<'_>) -> Option<usize> {
-        match buffer.kind() {
-            IFLA_XDP_FD => measure_i32(buffer.value()),
-            IFLA_XDP_ATTACHED => measure_u8(buffer.value()),
-            IFLA_XDP_FLAGS => measure_u32(buffer.value()),
-            IFLA_XDP_PROG_ID => measure_u32(buffer.value()),
-            IFLA_XDP_DRV_PROG_ID => measure_u32(buffer.value()),
-            IFLA_XDP_SKB_PROG_ID => measure_u32(buffer.value()),
-            IFLA_XDP_HW_PROG_ID => measure_u32(buffer.value()),
-            IFLA_XDP_EXPECTED_FD => measure_u32(buffer.value()),
-            _ => Some(buffer.value().len()),
-        }
+        members!(measure buffer)
     }
 
     fn write_frame(buffer: &NlaBuffer<'_>, out: &mut [u8]) -> usize {
-        match buffer.kind() {
-            IFLA_XDP_FD => write_i32_payload(IFLA_XDP_FD, buffer.value(), out),
-            IFLA_XDP_ATTACHED => write_u8_payload(IFLA_XDP_ATTACHED, buffer.value(), out),
-            IFLA_XDP_FLAGS => write_u32_payload(IFLA_XDP_FLAGS, buffer.value(), out),
-            IFLA_XDP_PROG_ID => write_u32_payload(IFLA_XDP_PROG_ID, buffer.value(), out),
-            IFLA_XDP_DRV_PROG_ID => write_u32_payload(IFLA_XDP_DRV_PROG_ID, buffer.value(), out),
-            IFLA_XDP_SKB_PROG_ID => write_u32_payload(IFLA_XDP_SKB_PROG_ID, buffer.value(), out),
-            IFLA_XDP_HW_PROG_ID => write_u32_payload(IFLA_XDP_HW_PROG_ID, buffer.value(), out),
-            IFLA_XDP_EXPECTED_FD => write_u32_payload(IFLA_XDP_EXPECTED_FD, buffer.value(), out),
-            _ => write_value(buffer.kind_with_flags(), buffer.value(), out),
-        }
+        members!(write buffer, out)
     }
 }

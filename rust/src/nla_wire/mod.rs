@@ -31,6 +31,187 @@ macro_rules! kind_names {
 
 pub(crate) use kind_names;
 
+/// The `match` of one call of a place, made of a row for each member that is listed: how it is held, its variant, what
+/// it holds or the number that it is on the wire, its kind, and what more `member!` needs.
+macro_rules! rows {
+    ((kind $place:ident, $value:expr) $($how:ident $variant:ident($type:ident, $number:ident $($more:tt)*))+) => {
+        match $value {
+            $($place::$variant(_) => $number,)+
+            $place::Other(nla) => nla.kind(),
+        }
+    };
+    ((name $kind:ident) $($how:ident $variant:ident($type:ident, $number:ident $($more:tt)*))+) => {
+        match $kind {
+            $($number => stringify!($number),)+
+            _ => "",
+        }
+    };
+    ((view $place:ident, $value:expr) $($how:ident $variant:ident($type:ident, $number:ident $($more:tt)*))+) => {
+        match $value {
+            $($place::$variant(member) => ($number, $crate::nla_wire::member!(view $how $type, member)),)+
+            $place::Other(nla) => (nla.kind(), $crate::nla_wire::FlatView::Bytes(nla.value())),
+        }
+    };
+    ((size $place:ident, $value:expr) $($how:ident $variant:ident($type:ident, $number:ident $($more:tt)*))+) => {
+        match $value {
+            $($place::$variant(member) => $crate::nla_wire::member!(size $how $type, member $($more)*),)+
+            $place::Other(nla) => nla.measure(),
+        }
+    };
+    ((fill $place:ident, $value:expr, $buffer:ident)
+        $($how:ident $variant:ident($type:ident, $number:ident $($more:tt)*))+) => {
+        match $value {
+            $($place::$variant(member) => $crate::nla_wire::member!(fill $how $type, member, $buffer $($more)*),)+
+            $place::Other(nla) => nla.fill_value($buffer),
+        }
+    };
+    ((put $place:ident, $value:expr, $buffer:ident)
+        $($how:ident $variant:ident($type:ident, $number:ident $($more:tt)*))+) => {
+        match $value {
+            $($place::$variant(member) => $crate::nla_wire::member!(put $how $number, member, $buffer $($more)*),)+
+            $place::Other(nla) => nla.write($buffer),
+        }
+    };
+    ((parse $place:ident, $buffer:ident)
+        $($how:ident $variant:ident($type:ident, $number:ident $($more:tt)*))+) => {{
+        let payload = $buffer.value();
+        match $buffer.kind() {
+            $($number => $crate::nla_wire::member!(parse $how $type, $place, $variant, payload $($more)*),)+
+            _ => Ok($place::Other($crate::nla_wire::DefaultNla::parse($buffer)?)),
+        }
+    }};
+    ((check $buffer:ident) $($how:ident $variant:ident($type:ident, $number:ident $($more:tt)*))+) => {{
+        let payload = $buffer.value();
+        match $buffer.kind() {
+            $($number => $crate::nla_wire::member!(check $how $type, payload $($more)*),)+
+            _ => Ok(()),
+        }
+    }};
+    ((measure $buffer:ident) $($how:ident $variant:ident($type:ident, $number:ident $($more:tt)*))+) => {{
+        let payload = $buffer.value();
+        match $buffer.kind() {
+            $($number => $crate::nla_wire::member!(measure $how $type, payload),)+
+            _ => Some(payload.len()),
+        }
+    }};
+    ((write $buffer:ident, $out:ident) $($how:ident $variant:ident($type:ident, $number:ident $($more:tt)*))+) => {{
+        let payload = $buffer.value();
+        match $buffer.kind() {
+            $($number => $crate::nla_wire::member!(write $how $type, $number, payload, $out),)+
+            _ => $crate::nla_wire::write_value($buffer.kind_with_flags(), payload, $out),
+        }
+    }};
+}
+
+pub(crate) use rows;
+
+/// What a call does with one member, by how it is held. `plain` is a number of that many bytes. The function at the end
+/// of a row reads a `named` number, whose type keeps all, a `listed` one, which refuses others, and `flags`. `text`
+/// ends in one NUL, `address` is one of IPv6. A record that is too short is filled up with zeros if it is `filled`, and
+/// else refused: `whole` is written as it was read, and `long` has an array of bytes, so that a function counts its
+/// length, and is written from its buffer. `list` may be empty, `some` may not.
+macro_rules! member {
+    (view plain i32, $value:ident) => { $crate::nla_wire::FlatView::I32(*$value) };
+    (view plain u32, $value:ident) => { $crate::nla_wire::FlatView::U32(*$value) };
+    (view plain u64, $value:ident) => { $crate::nla_wire::FlatView::U64(*$value) };
+    (view listed u8, $value:ident) => { $crate::nla_wire::FlatView::U8(u8::from(*$value)) };
+    (view named u8, $value:ident) => { $crate::nla_wire::FlatView::U8(u8::from($value)) };
+    (view text $type:ident, $value:ident) => { $crate::nla_wire::FlatView::Text($value.as_str()) };
+
+    (size named u8, $value:ident, $read:ident) => {{ let _ = $value; Some(1) }};
+    (size $how:ident u32, $value:ident $($more:tt)*) => {{ let _ = $value; Some(4) }};
+    (size address $type:ident, $value:ident) => { $crate::nla_wire::at_most_value($value.octets().len()) };
+    (size long $type:ident, $value:ident, $len:ident, $buffer:ident) => { $crate::nla_wire::at_most_value($len($value)) };
+    (size list $type:ident, $value:ident) => { $crate::nla_wire::list_measure($value.as_slice()) };
+    (size some $type:ident, $value:ident) => { $crate::nla_wire::list_measure($value.as_slice()) };
+    (size $how:ident $type:ident, $value:ident) => { Some($value.buffer_len()) };
+
+    (fill plain u32, $value:ident, $out:ident) => { $crate::nla_wire::fill_bytes($out, &$value.to_le_bytes()) };
+    (fill named u8, $value:ident, $out:ident, $read:ident) => { $crate::nla_wire::fill_bytes($out, &[u8::from($value)]) };
+    (fill flags u32, $value:ident, $out:ident, $read:ident) => {
+        $crate::nla_wire::fill_bytes($out, &$value.bits().to_le_bytes())
+    };
+    (fill address $type:ident, $value:ident, $out:ident) => { $crate::nla_wire::fill_bytes($out, &$value.octets()) };
+    (fill long $type:ident, $value:ident, $out:ident, $len:ident, $buffer:ident) => {
+        $crate::nla_wire::fill_bytes($out, $buffer::from($value).as_bytes())
+    };
+    (fill list $type:ident, $value:ident, $out:ident) => { $crate::nla_wire::nlas_fill($value.as_slice(), $out) };
+    (fill some $type:ident, $value:ident, $out:ident) => { $crate::nla_wire::nlas_fill($value.as_slice(), $out) };
+    (fill record $type:ident, $value:ident, $out:ident) => { $value.fill_back($out) };
+    (fill $how:ident $type:ident, $value:ident, $out:ident) => { $value.fill($out) };
+
+    (put long $number:ident, $value:ident, $out:ident, $len:ident, $buffer:ident) => {
+        $crate::nla_wire::write_value($number, $buffer::from($value).as_bytes(), $out)
+    };
+    (put list $number:ident, $value:ident, $out:ident) => { $crate::nla_wire::write_list($number, $value.as_slice(), $out) };
+    (put some $number:ident, $value:ident, $out:ident) => { $crate::nla_wire::write_list($number, $value.as_slice(), $out) };
+    (put record $number:ident, $value:ident, $out:ident) => { $value.write_attribute($number, $out) };
+
+    (read plain i32, $payload:ident) => { $crate::nla_wire::parse_i32($payload) };
+    (read plain u32, $payload:ident) => { $crate::nla_wire::parse_u32($payload) };
+    (read plain u64, $payload:ident) => { $crate::nla_wire::parse_u64($payload) };
+    (read address $type:ident, $payload:ident) => { $crate::nla_wire::parse_ipv6_addr($payload) };
+    (read $how:ident $type:ident, $payload:ident, $read:ident) => { $read($payload) };
+    (read $how:ident $type:ident, $payload:ident) => { $type::parse($payload) };
+
+    (parse text $type:ident, $place:ident, $variant:ident, $payload:ident) => {
+        Ok($place::$variant($crate::nla_wire::parse_string($payload)?))
+    };
+    (parse list $type:ident, $place:ident, $variant:ident, $payload:ident) => {
+        Ok($place::$variant($type::parse_list($payload)?))
+    };
+    (parse some $type:ident, $place:ident, $variant:ident, $payload:ident) => {
+        if $payload.is_empty() {
+            Err($crate::nla_wire::empty_list())
+        } else {
+            Ok($place::$variant($type::parse_list($payload)?))
+        }
+    };
+    (parse filled $type:ident, $place:ident, $variant:ident, $payload:ident) => {
+        Ok($place::$variant($type::read_padded($payload)))
+    };
+    (parse long $type:ident, $place:ident, $variant:ident, $payload:ident $($more:tt)*) => {
+        Ok($place::$variant($type::parse($payload)?))
+    };
+    (parse $how:ident $type:ident, $place:ident, $variant:ident, $payload:ident $($more:tt)*) => {
+        Ok($place::$variant($crate::nla_wire::member!(read $how $type, $payload $($more)*)?))
+    };
+
+    (check text $type:ident, $payload:ident) => { $crate::nla_wire::check_string($payload) };
+    (check list $type:ident, $payload:ident) => { $type::check_list($payload) };
+    (check some $type:ident, $payload:ident) => {
+        if $payload.is_empty() { Err($crate::nla_wire::empty_list()) } else { $type::check_list($payload) }
+    };
+    (check filled $type:ident, $payload:ident) => { Ok(()) };
+    (check long $type:ident, $payload:ident $($more:tt)*) => { $crate::nla_wire::error::checked($type::parse($payload)) };
+    (check $($held:tt)*) => { $crate::nla_wire::error::checked($crate::nla_wire::member!(read $($held)*)) };
+
+    (measure $how:ident u8, $payload:ident) => { $crate::nla_wire::measure_u8($payload) };
+    (measure $how:ident i32, $payload:ident) => { $crate::nla_wire::measure_i32($payload) };
+    (measure $how:ident u32, $payload:ident) => { $crate::nla_wire::measure_u32($payload) };
+    (measure $how:ident u64, $payload:ident) => { $crate::nla_wire::measure_u64($payload) };
+    (measure text $type:ident, $payload:ident) => { $crate::nla_wire::measure_text($payload) };
+    (measure address $type:ident, $payload:ident) => { $crate::nla_wire::measure_ipv6_addr($payload) };
+    (measure list $type:ident, $payload:ident) => { $type::measure_nested($payload) };
+    (measure some $type:ident, $payload:ident) => { $type::measure_some($payload) };
+    (measure filled $type:ident, $payload:ident) => { $type::measure_filled($payload) };
+    (measure $how:ident $type:ident, $payload:ident) => { $type::measure_sized($payload) };
+
+    (write $how:ident u8, $($args:tt)*) => { $crate::nla_wire::write_u8_payload($($args)*) };
+    (write $how:ident i32, $($args:tt)*) => { $crate::nla_wire::write_i32_payload($($args)*) };
+    (write $how:ident u32, $($args:tt)*) => { $crate::nla_wire::write_u32_payload($($args)*) };
+    (write $how:ident u64, $($args:tt)*) => { $crate::nla_wire::write_u64_payload($($args)*) };
+    (write text $type:ident, $($args:tt)*) => { $crate::nla_wire::write_text_payload($($args)*) };
+    (write address $type:ident, $($args:tt)*) => { $crate::nla_wire::write_ipv6_addr_payload($($args)*) };
+    (write list $type:ident, $($args:tt)*) => { $type::write_nested($($args)*) };
+    (write some $type:ident, $($args:tt)*) => { $type::write_some($($args)*) };
+    (write filled $type:ident, $($args:tt)*) => { $type::write_filled($($args)*) };
+    (write whole $type:ident, $($args:tt)*) => { $type::write_filled($($args)*) };
+    (write $how:ident $type:ident, $($args:tt)*) => { $type::write_sized($($args)*) };
+}
+
+pub(crate) use member;
+
 pub use buffer::{NLA_F_NESTED, NLA_F_NET_BYTEORDER, NLA_HEADER_SIZE, NLA_TYPE_MASK, NlaBuffer};
 pub use default_nla::DefaultNla;
 pub use error::{Cause, DecodeError, PAYLOAD, empty_list, same_fault};
