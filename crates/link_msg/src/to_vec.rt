@@ -11,6 +11,7 @@ use std::alloc::{AllocError, Global};
 
 impl LinkMessage {
     /// The canonical encoding of a message that was measured, or out of memory.
+    #[inline]
     fn encoding(&self, alloc: Global, len: usize) -> Result<Vec<u8>, AllocError>
         requires fits { MessageFits self.now }
         requires measured { len ≡ length (message_text self.now) }
@@ -25,6 +26,7 @@ impl LinkMessage {
     /// The canonical encoding, in memory that is taken once.
     ///
     /// Refuses, in this order: `DoesNotFit`, `EmptyVfPorts`, and `OutOfMemory`, which says nothing of the message.
+    #[inline]
     pub fn to_vec(&self, alloc: Global) -> Result<Vec<u8>, CanonError>
         ensures ok { IfOk result (λ encoding. IsWhole self.now encoding.items) }
         ensures err { IfErr result (IsUnwritten self.now) }

@@ -7,6 +7,7 @@ use alloc::vec::Vec;
 
 impl LinkMessage {
     /// The canonical encoding of a message that was measured.
+    #[inline]
     fn encoding(&self, len: usize) -> Vec<u8> {
         let mut encoding = Vec::with_capacity(len);
         encoding.resize(len, 0);
@@ -21,6 +22,7 @@ impl LinkMessage {
     /// # Errors
     ///
     /// Refuses, in this order: `DoesNotFit`, `EmptyVfPorts`.
+    #[inline]
     pub fn to_vec(&self) -> Result<Vec<u8>, CanonError> {
         let len = match self.measured() {
             Some(len) => len,

@@ -34,6 +34,9 @@ use alloc::vec;
 use alloc::vec::Vec;
 use core::fmt;
 
+/// For how many attributes a request has room from the start: a list that grows has as much after its first.
+const FIRST_ROOM: usize = 4;
+
 /// A link is there, or is to be made or changed (linux/rtnetlink.h).
 pub const RTM_NEWLINK: u16 = 16;
 /// A link is gone, or is to be taken away.
@@ -140,12 +143,17 @@ impl Request {
     #[inline]
     fn new(message_type: u16, flags: u16, link: Of<'_>, more: Option<LinkAttribute>) -> Result<Request, RequestError> {
         let mut header = LinkHeader::default();
-        let mut attributes = Vec::new();
+        let mut attributes = match (link, &more) {
+            (Of::Index(_), None) => Vec::new(),
+            _ => Vec::with_capacity(FIRST_ROOM),
+        };
         match link {
             Of::Index(index) => header.index = index,
             Of::Name(name) => attributes.push(if_name(name)?),
         }
-        attributes.extend(more);
+        if let Some(attribute) = more {
+            attributes.push(attribute);
+        }
         Ok(Request { message_type, flags: flags | NLM_F_REQUEST, message: LinkMessage { header, attributes } })
     }
 
@@ -295,6 +303,7 @@ pub fn get<'a>(link: impl Into<Of<'a>>, mask: &[LinkExtentMask]) -> Result<Reque
 /// assert_eq!((by_index.message.header.index, by_index.message.attributes.len()), (7, 1));
 /// # Ok::<(), request::RequestError>(())
 /// ```
+#[inline]
 pub fn mtu<'a>(link: impl Into<Of<'a>>, mtu: u32) -> Result<Request, RequestError> {
     set(link, LinkAttribute::Mtu(mtu))
 }
