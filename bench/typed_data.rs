@@ -77,12 +77,13 @@ fn their_message() -> netlink_packet_route::LinkMessage {
 }
 
 fn request() {
-    let ours = || {
+    let by_hand = || {
         let mut link = linkwire::LinkMessage::default();
         link.header.index = 7;
         link.attributes.push(linkwire::LinkAttribute::Mtu(black_box(1400)));
         drop(black_box(link.to_vec().unwrap()));
     };
+    let ours = || drop(black_box(linkwire::request::mtu(7, black_box(1400)).unwrap().message.to_vec().unwrap()));
     let other = || {
         let link = their_message();
         let mut out = vec![0; link.buffer_len()];
@@ -90,6 +91,7 @@ fn request() {
         drop(black_box(out));
     };
     ratio("a request of an MTU", &mut { ours }, &mut { other });
+    ratio("its message by hand", &mut { by_hand }, &mut { other });
     let ours = || drop(black_box(linkwire::request::mtu(7, black_box(1400)).unwrap().packet(1).unwrap()));
     let other = || {
         let mut packet = NetlinkMessage::from(RtnlMessage::NewLink(their_message()));
