@@ -1,5 +1,6 @@
 //! A filter of lines that may have words in front.
 
+ghost use Rattle.std.specs.Prelude.{◌≡◌, ◌++◌, OnOk};
 ghost use Rattle.line_filter.specs.Words.{WithWords};
 ghost use Rattle.line_filter.specs.OneWorded.{each_worded};
 
@@ -21,6 +22,17 @@ impl<A: Answer> Worded<A> {
     }
 }
 
+/// Adds the words in front of a line, if there are any.
+#[inline(always)]
+fn push_front(waiting: &mut Vec<u8>, front: &[u8]) -> Result<(), AllocError>
+    ensures { OnOk result (waiting.new.items ≡ waiting.old.items ++ front.now) }
+{
+    if front.is_empty() {
+        return Ok(());
+    }
+    waiting.extend_from_slice(front)
+}
+
 impl<A: Answer> Answer for Worded<A> {
     ghost is_answer = { WithWords A.is_answer };
 
@@ -31,7 +43,7 @@ impl<A: Answer> Answer for Worded<A> {
         waiting: &mut Vec<u8>,
     ) -> Result<(), AllocError> {
         let (front, rest) = split(line);
-        waiting.extend_from_slice(front)?;
+        push_front(waiting, front)?;
         if are_alone(front, rest) {
             waiting.push(b'\n')?;
             return Ok(());

@@ -80,6 +80,7 @@ pub fn words_len(line: &[u8]) -> usize
 /// The words in front of a line, as they stand, with the blanks after each, and the rest of the line.
 ///
 /// A line with no word in front is all rest.
+#[inline(always)]
 pub fn split(line: &[u8]) -> (&[u8], &[u8])
     ensures front { result.0.now ≡ front_of line.now }
     ensures rest { result.1.now ≡ rest_of line.now }
