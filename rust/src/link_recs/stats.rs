@@ -72,32 +72,7 @@ pub struct Stats {
 impl Stats {
     #[cfg_attr(not(debug_assertions), inline(always))]
     fn from_words(words: [u32; STATS_COUNT]) -> Stats {
-        Stats {
-            rx_packets: words[0],
-            tx_packets: words[1],
-            rx_bytes: words[2],
-            tx_bytes: words[3],
-            rx_errors: words[4],
-            tx_errors: words[5],
-            rx_dropped: words[6],
-            tx_dropped: words[7],
-            multicast: words[8],
-            collisions: words[9],
-            rx_length_errors: words[10],
-            rx_over_errors: words[11],
-            rx_crc_errors: words[12],
-            rx_frame_errors: words[13],
-            rx_fifo_errors: words[14],
-            rx_missed_errors: words[15],
-            tx_aborted_errors: words[16],
-            tx_carrier_errors: words[17],
-            tx_fifo_errors: words[18],
-            tx_heartbeat_errors: words[19],
-            tx_window_errors: words[20],
-            rx_compressed: words[21],
-            tx_compressed: words[22],
-            rx_nohandler: words[23],
-        }
+        counters!(made Stats, words)
     }
 
     /// The fields, in their order.
@@ -105,32 +80,7 @@ impl Stats {
     /// [`Stats64::parse`](crate::Stats64::parse) has an example.
     #[cfg_attr(not(debug_assertions), inline(always))]
     pub fn words(&self) -> [u32; STATS_COUNT] {
-        [
-            self.rx_packets,
-            self.tx_packets,
-            self.rx_bytes,
-            self.tx_bytes,
-            self.rx_errors,
-            self.tx_errors,
-            self.rx_dropped,
-            self.tx_dropped,
-            self.multicast,
-            self.collisions,
-            self.rx_length_errors,
-            self.rx_over_errors,
-            self.rx_crc_errors,
-            self.rx_frame_errors,
-            self.rx_fifo_errors,
-            self.rx_missed_errors,
-            self.tx_aborted_errors,
-            self.tx_carrier_errors,
-            self.tx_fifo_errors,
-            self.tx_heartbeat_errors,
-            self.tx_window_errors,
-            self.rx_compressed,
-            self.tx_compressed,
-            self.rx_nohandler,
-        ]
+        counters!(words self)
     }
 }
 
