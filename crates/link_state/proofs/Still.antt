@@ -1,8 +1,8 @@
 -- What a state leaves out.
 use Rattle.std.proofs.Common.{◌≡◌, ℕ, List, [], ◌∷◌, ◌++◌, length, drop, take, map, replicate, refl, sym, ap, ap₂}
-use Rattle.std.proofs.Common.{◌∙◌, subst, inl, inr, drop_at}
+use Rattle.std.proofs.Common.{◌∙◌, subst, inl, inr, drop_at, arith, length-drop, length-take}
 use Rattle.std.specs.List.{AllByRecursion, AllZip}
-use Rattle.nla_wire.specs.Frames.{Frame, IsBytes}
+use Rattle.nla_wire.specs.Frames.{Frame, IsBytes, number}
 use Rattle.nla_wire.specs.Canon.{canon, canons, IsWritable}
 use Rattle.nla_wire.proofs.Back.{every_writable, frames_framed}
 use Rattle.nla_wire.proofs.Steps.{bytes_right}
@@ -18,9 +18,12 @@ use Rattle.link_msg.specs.declared.attribute.LinkAttribute.{LinkAttribute}
 use Rattle.link_msg.specs.declared.header.LinkHeader.{LinkHeader}
 use Rattle.link_msg.specs.declared.message.LinkMessage.{LinkMessage}
 use Rattle.link_msg.proofs.Messaging.{header_length}
-use Rattle.link_state.specs.Cleared.{cleared}
-use Rattle.link_state.specs.State.{change_mask_at, level_of, state}
+use Rattle.link_state.specs.Cleared.{cleared, filled, info_level, part, payload_by}
+use Rattle.link_state.specs.State.{HasState, level_of, state}
 use Rattle.link_state.specs.Still.{AreCounters, CountersLeave, SameButCounters, no_changes, still_frame}
+use Rattle.link_state.specs.Still.{AreIn, DifferBetween, DifferInMoving, MovingLeaves}
+use Rattle.link_state.specs.Table.{Action, action_of}
+use Rattle.link_state.specs.Table.Action.{Clear, ClearPart, Enter, EnterInfo}
 use Rattle.link_state.specs.declared.level.Level.{Level}
 use Rattle.link_state.specs.declared.level.Level.TheVariants.{Message}
 use Rattle.link_state.proofs.Closing.{filled_canon, filled_frame}
@@ -99,16 +102,107 @@ same_frames family (v ∷ vs) [] h = absurd h
 same_frames family (v ∷ vs) (w ∷ ws) h =
     ap₂ (λ (f : Frame) fs. f ∷ fs) (same_still family v w h.0) (same_frames family vs ws h.1)
 
-pub counters_leave : CountersLeave
-counters_leave a b s t small_a small_b h k differ =
+-- messages whose frames are the same without what moves
+same_state : (a b s t : List ℕ) → IsBytes a → IsBytes b → (h : HasState a s) → (k : HasState b t)
+    → no_changes h.message.header ≡ no_changes k.message.header
+    → frames_of h.message.header.interface_family h.message.attributes
+    ≡ frames_of h.message.header.interface_family k.message.attributes
+    → s ≡ t
+same_state a b s t small_a small_b h k headers frames =
     let m = h.message in
     let n = k.message in
     let family : m.header.interface_family ≡ n.header.interface_family =
-    ap (λ (v : LinkHeader). v.interface_family) differ.header in
+    ap (λ (v : LinkHeader). v.interface_family) headers in
     h.text
     ∙ still_text a m small_a h.accepted
-    ∙ ap₂ (λ (v : LinkHeader) fs. header_bytes v ++ encoded fs) differ.header
-    (same_frames m.header.interface_family m.attributes n.attributes differ.attributes
-    ∙ ap (λ f. frames_of f n.attributes) family)
+    ∙ ap₂ (λ (v : LinkHeader) fs. header_bytes v ++ encoded fs) headers
+    (frames ∙ ap (λ f. frames_of f n.attributes) family)
     ∙ sym (still_text b n small_b k.accepted)
     ∙ sym k.text
+
+pub counters_leave : CountersLeave
+counters_leave a b s t small_a small_b h k differ =
+    same_state a b s t small_a small_b h k differ.header
+    (same_frames h.message.header.interface_family h.message.attributes k.message.attributes differ.attributes)
+
+-- ** frames that differ in what moves, at any depth
+
+part_same : (from to : ℕ) (p q : List ℕ) → DifferBetween from to p q → part 0 from to p ≡ part 0 from to q
+part_same from to p q h =
+    let long : length (drop from (take to p)) ≡ length (drop from (take to q)) = omega (
+      arith,
+      h.as_long,
+      length-drop from (take to p),
+      length-drop from (take to q),
+      length-take to p,
+      length-take to q,
+    ) in
+    ap (λ xs. xs ++ replicate (length (drop from (take to p))) 0 ++ drop to p) h.before
+    ∙ ap (λ n. take from (take to q) ++ replicate n 0 ++ drop to p) long
+    ∙ ap (λ xs. take from (take to q) ++ replicate (length (drop from (take to q))) 0 ++ xs) h.behind
+
+abbrev with_payload : ℕ → List ℕ → Frame
+with_payload k p = record { kind = k; payload = p }
+
+same_action : (l : Level) (f g : Frame) (action : Action) → f.kind ≡ g.kind → action_of l (number f) ≡ action
+    → payload_by 0 (filled 0) action f.payload ≡ payload_by 0 (filled 0) action g.payload
+    → filled_frame 0 l f ≡ filled_frame 0 l g
+same_action l f g action kinds is same =
+    let other : action_of l (number g) ≡ action =
+    sym (ap (λ k. action_of l (number (with_payload k []))) kinds) ∙ is in
+    ap₂ with_payload kinds (ap (λ it. payload_by 0 (filled 0) it f.payload) is ∙ same
+    ∙ sym (ap (λ it. payload_by 0 (filled 0) it g.payload) other))
+
+cleared_encoded : (l : Level) (fs : List Frame) → AllByRecursion IsWritable fs
+    → filled 0 l (encoded fs) ≡ encoded (map (filled_frame 0 l) fs)
+cleared_encoded l [] writable = filled_nil 0 l [] refl
+cleared_encoded l (f ∷ fs) writable =
+    filled_canon 0 l f (encoded fs) writable.0
+    ∙ ap (λ xs. canon (filled_frame 0 l f) ++ xs) (cleared_encoded l fs writable.1)
+
+same_inside : (l : Level) (xs ys : List Frame) (p q : List ℕ) → AreIn xs p → AreIn ys q
+    → map (filled_frame 0 l) xs ≡ map (filled_frame 0 l) ys → filled 0 l p ≡ filled 0 l q
+same_inside l xs ys p q in_p in_q same =
+    ap (filled 0 l) in_p.encoded
+    ∙ cleared_encoded l xs in_p.writable
+    ∙ ap encoded same
+    ∙ sym (cleared_encoded l ys in_q.writable)
+    ∙ sym (ap (filled 0 l) in_q.encoded)
+
+abbrev in_front : Frame → List Frame → List Frame
+in_front f fs = f ∷ fs
+
+same_filled : (l : Level) (us vs : List Frame) → DifferInMoving l us vs
+    → map (filled_frame 0 l) us ≡ map (filled_frame 0 l) vs
+same_filled l us vs (DifferInMoving.none _) = refl
+same_filled l us vs (DifferInMoving.same _ f fs gs later) =
+    ap (in_front (filled_frame 0 l f)) (same_filled l fs gs later)
+same_filled l us vs (DifferInMoving.all _ f g fs gs kinds is long later) =
+    ap₂ in_front (same_action l f g Clear kinds is (ap (λ n. replicate n 0) long)) (same_filled l fs gs later)
+same_filled l us vs (DifferInMoving.some _ from to f g fs gs kinds is between later) =
+    ap₂ in_front (same_action l f g (ClearPart from to) kinds is (part_same from to f.payload g.payload between))
+    (same_filled l fs gs later)
+same_filled l us vs (DifferInMoving.inside _ inner f g xs ys fs gs kinds is in_f in_g deeper later) =
+    ap₂ in_front (same_action l f g (Enter inner) kinds is
+    (same_inside inner xs ys f.payload g.payload in_f in_g (same_filled inner xs ys deeper)))
+    (same_filled l fs gs later)
+same_filled l us vs (DifferInMoving.by_kind _ f g xs ys fs gs kinds is named in_f in_g deeper later) =
+    ap₂ in_front (same_action l f g EnterInfo kinds is
+    (same_inside (info_level f.payload) xs ys f.payload g.payload in_f in_g
+    (same_filled (info_level f.payload) xs ys deeper) ∙ ap (λ it. filled 0 it g.payload) named))
+    (same_filled l fs gs later)
+
+frames_filled : (family : AddressFamily) (vs : List LinkAttribute)
+    → frames_of family vs ≡ map (filled_frame 0 (Message family)) (map attribute_frame vs)
+unfolding frames_of
+frames_filled family [] = refl
+frames_filled family (v ∷ vs) = ap (in_front (still_frame family (attribute_frame v))) (frames_filled family vs)
+
+pub moving_leaves : MovingLeaves
+moving_leaves a b s t small_a small_b h k differ =
+    let m = h.message in
+    let family = m.header.interface_family in
+    same_state a b s t small_a small_b h k differ.header (frames_filled family m.attributes
+    ∙ same_filled (Message family) (map attribute_frame m.attributes) (map attribute_frame k.message.attributes)
+    differ.attributes
+    ∙ sym (frames_filled family k.message.attributes))

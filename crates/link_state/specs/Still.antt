@@ -1,6 +1,7 @@
 -- Which message a state means: over values, and not over bytes.
-use Rattle.std.specs.Prelude.{◌≡◌, ◌⊎◌, ℕ, List, map}
-use Rattle.std.specs.List.{AllZip}
+use Rattle.std.specs.Prelude.{◌≡◌, ◌⊎◌, ℕ, List, [], ◌∷◌, drop, length, map, take}
+use Rattle.std.specs.List.{AllByRecursion, AllZip}
+use Rattle.nla_wire.specs.Canon.{canons, IsWritable}
 use Rattle.nla_wire.specs.Frames.{Frame, IsBytes, number}
 use Rattle.link_recs.specs.declared.stats.Stats.{Stats}
 use Rattle.link_recs.specs.declared.stats64.Stats64.{Stats64}
@@ -11,10 +12,12 @@ use Rattle.link_msg.specs.declared.attribute.LinkAttribute.{LinkAttribute}
 use Rattle.link_msg.specs.declared.attribute.LinkAttribute.TheVariants as Attributes
 use Rattle.link_msg.specs.declared.header.LinkHeader.{LinkHeader}
 use Rattle.link_msg.specs.declared.message.LinkMessage.{LinkMessage}
-use Rattle.link_state.specs.Cleared.{cleared, payload_by}
+use Rattle.link_state.specs.Cleared.{cleared, info_level, payload_by}
 use Rattle.link_state.specs.Laws.{IsCanonical}
 use Rattle.link_state.specs.State.{state, HasState}
 use Rattle.link_state.specs.Table.{action_of}
+use Rattle.link_state.specs.Table.Action.{Clear, ClearPart, Enter, EnterInfo}
+use Rattle.link_state.specs.declared.level.Level.{Level}
 use Rattle.link_state.specs.declared.level.Level.TheVariants.{Message}
 
 -- no flags are changed
@@ -66,3 +69,45 @@ pub record DifferInCounters (m n : LinkMessage) : Type 0 where
 abbrev pub CountersLeave : Type 0
 CountersLeave = (a b s t : List ℕ) → IsBytes a → IsBytes b → (h : HasState a s) → (k : HasState b t)
     → DifferInCounters h.message k.message → s ≡ t
+
+-- ** what a state leaves out at any depth
+
+-- two payloads that are as long, and have other bytes at most from one place to before the other
+pub record DifferBetween (from to : ℕ) (p q : List ℕ) : Type 0 where
+  pub before : take from (take to p) ≡ take from (take to q)
+  pub behind : drop to p ≡ drop to q
+  pub as_long : length p ≡ length q
+
+-- the canonical encoding of frames
+pub record AreIn (fs : List Frame) (p : List ℕ) : Type 0 where
+  pub encoded : p ≡ canons (λ f. f) fs
+  pub writable : AllByRecursion IsWritable fs
+
+-- two lists of frames of the same kinds, one for one, which differ at most in bytes that move by themselves: those of
+-- payloads that are cleared at this level, of a part of them, and inside of lists that are entered
+pub data DifferInMoving : Level → List Frame → List Frame → Type 0 where
+  none : (l : Level) → DifferInMoving l [] []
+  same : (l : Level) (f : Frame) (fs gs : List Frame) → DifferInMoving l fs gs → DifferInMoving l (f ∷ fs) (f ∷ gs)
+  all : (l : Level) (f g : Frame) (fs gs : List Frame) → f.kind ≡ g.kind → action_of l (number f) ≡ Clear
+      → length f.payload ≡ length g.payload → DifferInMoving l fs gs → DifferInMoving l (f ∷ fs) (g ∷ gs)
+  some : (l : Level) (from to : ℕ) (f g : Frame) (fs gs : List Frame) → f.kind ≡ g.kind
+      → action_of l (number f) ≡ ClearPart from to → DifferBetween from to f.payload g.payload
+      → DifferInMoving l fs gs → DifferInMoving l (f ∷ fs) (g ∷ gs)
+  inside : (l inner : Level) (f g : Frame) (xs ys fs gs : List Frame) → f.kind ≡ g.kind
+      → action_of l (number f) ≡ Enter inner → AreIn xs f.payload → AreIn ys g.payload → DifferInMoving inner xs ys
+      → DifferInMoving l fs gs → DifferInMoving l (f ∷ fs) (g ∷ gs)
+  by_kind : (l : Level) (f g : Frame) (xs ys fs gs : List Frame) → f.kind ≡ g.kind
+      → action_of l (number f) ≡ EnterInfo → info_level f.payload ≡ info_level g.payload
+      → AreIn xs f.payload → AreIn ys g.payload → DifferInMoving (info_level f.payload) xs ys
+      → DifferInMoving l fs gs → DifferInMoving l (f ∷ fs) (g ∷ gs)
+
+-- two messages that differ in such bytes alone, or in which flags are changed
+pub record DifferInside (m n : LinkMessage) : Type 0 where
+  pub header : no_changes m.header ≡ no_changes n.header
+  pub attributes : DifferInMoving (Message m.header.interface_family)
+      (map attribute_frame m.attributes) (map attribute_frame n.attributes)
+
+-- two accepted byte strings whose messages differ so have one state
+abbrev pub MovingLeaves : Type 0
+MovingLeaves = (a b s t : List ℕ) → IsBytes a → IsBytes b → (h : HasState a s) → (k : HasState b t)
+    → DifferInside h.message k.message → s ≡ t

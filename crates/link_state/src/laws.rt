@@ -2,7 +2,7 @@
 
 ghost use Rattle.link_state.specs.Laws.{StateIsCanonical, StateIsAsLong, StateTwice, ZeroAtItsMask, MaskStays};
 ghost use Rattle.link_state.specs.Laws.{MaskByFrames, OneState};
-ghost use Rattle.link_state.specs.Still.{StateMeansStill, CountersLeave};
+ghost use Rattle.link_state.specs.Still.{StateMeansStill, CountersLeave, MovingLeaves};
 ghost use Rattle.link_state.specs.Laws.{ListTwice, ListZeroAtItsMask, ListMaskByFrames, OneList};
 ghost use Rattle.link_state.specs.Laws.{Inet6Thinned, FamiliesThinned, Inet6Apart, FamiliesApart};
 ghost use Rattle.link_state.specs.LenientState.{LenientStateIsCanonical, LenientFilledIsCanonical, StrictStateStays};
@@ -16,10 +16,12 @@ pub fn law_state()
 {}
 
 /// The state of canonical encoding means the message of which no flags are changed and no attribute has what moves by
-/// itself; and two accepted byte strings whose messages differ in the values of counters alone have one state.
+/// itself; and two accepted byte strings whose messages differ in the values of counters alone have one state, as two
+/// have that differ, at any depth, in bytes that move by themselves.
 pub fn law_still()
     ensures means { StateMeansStill }
     ensures counters { CountersLeave }
+    ensures inside { MovingLeaves }
 {}
 
 /// The state encoding is the canonical encoding with zeros at a mask, which depends on the frames alone. Two canonical
