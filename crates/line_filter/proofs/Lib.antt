@@ -3,7 +3,7 @@ pub mod Known
 mod Joined
 mod Running
 mod Stopping
-mod Answered
+pub mod Answered
 mod Spelling
 pub mod Front
 mod Blocks

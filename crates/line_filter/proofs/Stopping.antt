@@ -5,14 +5,14 @@ use Rattle.std.specs.List.{flat_map}
 use Rattle.std.specs.Prelude.{Option, None, Some}
 use Rattle.std.specs.Io.KnownBytes.{Consumes, Appends, IsAtEnd, Keeps}
 use Rattle.std.proofs.lemmas.List.{append-nil, take-append-drop}
-use Rattle.line_filter.specs.Lines.{complete_lines, lines_of, with_lf}
+use Rattle.line_filter.specs.Lines.{AreFirst, AreTaken, complete_lines, lines_of, with_lf}
 use Rattle.line_filter.specs.Steps.{FailedWrite, Sends}
 use Rattle.line_filter.specs.declared.error.RunError.{RunError}
 use Rattle.line_filter.specs.declared.error.RunError.TheVariants as Errors
 use Rattle.line_filter.proofs.Text.{complete_lines-cut, complete_lines-joined, complete_lines-none}
 use Rattle.line_filter.proofs.Known.{Consumes-join, Consumes-keeps, Consumes-all, Consumes-none, Appends-none}
 use Rattle.line_filter.proofs.Known.{Appends-join, Sends-short}
-use Rattle.line_filter.specs.Runs.{NotEnded, Taking, Runs, AreFirst, AreTaken, RunsShort, StopsLast, Stops}
+use Rattle.line_filter.specs.Runs.{NotEnded, Taking, Runs, RunsShort, StopsLast, Stops}
 use Rattle.line_filter.proofs.Joined.{IsCut-after}
 use Rattle.line_filter.proofs.Running.{Going, Reading, Runs-none, Runs-join}
 

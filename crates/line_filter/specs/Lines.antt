@@ -90,3 +90,36 @@ pub record Stopped (is : Relation) (error : RunError) (left left_after held held
   pub at_end : ended ≡ true → IsAtEnd left_after
   pub before_end : error ≡ Errors.Read → ended ≡ false
   pub wrote : WroteSome is error held held_after (complete_lines ended text)
+
+-- ** which lines were answered where a run stops
+
+-- the lines are these from the first on, and maybe not all of them
+abbrev pub AreFirst : List (List ℕ) → List (List ℕ) → Type 0
+AreFirst lines all = (more : List (List ℕ)) × (all ≡ lines ++ more)
+
+-- which lines were answered where a run stops: all of them before a read that fails
+abbrev pub AreTaken : RunError → List (List ℕ) → List (List ℕ) → Type 0
+AreTaken Errors.Read lines all = lines ≡ all
+AreTaken Errors.Write lines all = AreFirst lines all
+AreTaken Errors.OutOfMemory lines all = AreFirst lines all
+
+-- of these lines the first were answered, and known bytes grew by what the error leaves of the answers
+pub record WroteFirst (is : Relation) (error : RunError) (held held_after : Option (List ℕ))
+    (all : List (List ℕ)) : Type 0 where
+  pub lines : List (List ℕ)
+  pub taken : AreTaken error lines all
+  pub due : List ℕ
+  pub answers : AreAnswers is lines due
+  pub written : List ℕ
+  pub appended : Appends held held_after written
+  pub cut : IsCut error written due
+
+-- as in `Stopped`, but of the complete lines the first alone are due, which were answered
+pub record StoppedAfter (is : Relation) (error : RunError) (left left_after held held_after : Option (List ℕ))
+    : Type 0 where
+  pub text : List ℕ
+  pub ended : Bool
+  pub consumed : Consumes left left_after text
+  pub at_end : ended ≡ true → IsAtEnd left_after
+  pub before_end : error ≡ Errors.Read → ended ≡ false
+  pub wrote : WroteFirst is error held held_after (complete_lines ended text)

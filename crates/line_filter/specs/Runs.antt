@@ -1,7 +1,7 @@
 -- What a run over lines does, whatever takes them: a state goes from line to line, and each line adds bytes.
 use Rattle.std.specs.Prelude.{◌≡◌, ℕ, ◌-◌, ◌^◌, ◌≤◌, Bool, true, false, MatchBool, List, [], ◌∷◌, ◌++◌, length, Option}
 use Rattle.std.specs.Io.KnownBytes.{Consumes, Appends, IsAtEnd}
-use Rattle.line_filter.specs.Lines.{Relation, complete_lines, lines_of, with_lf, IsCut}
+use Rattle.line_filter.specs.Lines.{Relation, complete_lines, lines_of, with_lf, AreTaken, IsCut}
 use Rattle.line_filter.specs.Steps.{Cut}
 use Rattle.line_filter.specs.declared.error.RunError.{RunError}
 use Rattle.line_filter.specs.declared.error.RunError.TheVariants as Errors
@@ -10,9 +10,14 @@ use Rattle.line_filter.specs.declared.error.RunError.TheVariants as Errors
 abbrev pub Taking : Type 0 → Type 1
 Taking S = S → List ℕ → S → List ℕ → Type 0
 
--- each line is answered, whatever the state is
-abbrev pub answering : {S : Type 0} → Relation → Taking S
-answering is old line new added = (answer : List ℕ) × is line answer × (added ≡ with_lf answer)
+-- each line is answered by what the state keeps, which stays the same
+abbrev pub answering : {S K : Type 0} → (K → Relation) → (S → K) → Taking S
+answering is kept old line new added =
+    ((answer : List ℕ) × is (kept old) line answer × (added ≡ with_lf answer)) × (kept new ≡ kept old)
+
+-- nothing is kept that answers depend on
+abbrev pub nothing : {S : Type 0} → S → Unit {0}
+nothing _ = tt
 
 abbrev pub AddsLine : {S : Type 0} → Taking S → List ℕ → S → S → List ℕ → List ℕ → Type 0
 AddsLine takes line old new before now = (added : List ℕ) × takes old line new added × (now ≡ before ++ added)
@@ -65,16 +70,6 @@ ToldEnd takes ended old new left left_after held held_after =
     (NotEnded takes old left left_after held held_after)
 
 -- ** runs that stop early
-
--- the lines are these from the first on, and maybe not all of them
-abbrev pub AreFirst : List (List ℕ) → List (List ℕ) → Type 0
-AreFirst lines all = (more : List (List ℕ)) × (all ≡ lines ++ more)
-
--- which lines were taken where a run stops: all of them before a read that fails
-abbrev pub AreTaken : RunError → List (List ℕ) → List (List ℕ) → Type 0
-AreTaken Errors.Read lines all = lines ≡ all
-AreTaken Errors.Write lines all = AreFirst lines all
-AreTaken Errors.OutOfMemory lines all = AreFirst lines all
 
 -- of these lines the first were taken, and known bytes grew by what the error leaves of what they add
 pub record RunsShort {S : Type 0} (takes : Taking S) (error : RunError) (old : S) (held held_after : Option (List ℕ))

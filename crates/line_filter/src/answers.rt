@@ -2,7 +2,7 @@
 
 ghost use Rattle.std.specs.Prelude.{List, OnOk, ℕ};
 ghost use Rattle.line_filter.specs.Lines.{AnswersEach};
-ghost use Rattle.line_filter.specs.Runs.{AddsLine, answering};
+ghost use Rattle.line_filter.specs.Runs.{AddsLine, answering, nothing};
 ghost use Rattle.line_filter.specs.Steps.{AddsAnswer};
 
 use std::alloc::{AllocError, Global};
@@ -36,7 +36,7 @@ pub(crate) struct Answering<A: Answer> {
 }
 
 impl<A: Answer> Take for Answering<A> {
-    ghost takes = { answering A.is_answer };
+    ghost takes = { answering (λ _. A.is_answer) nothing };
 
     fn take(
         &mut self,
