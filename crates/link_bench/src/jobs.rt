@@ -10,7 +10,7 @@ use crate::lines::{Fleet, InTurn};
 use crate::message::{Messages, counting};
 use line_filter::answers::Answer;
 use line_filter::error::RunError;
-use line_filter::run::run;
+use line_filter::run::{read_lines, run};
 use line_filter::worded::Worded;
 use message_diff::{Compared, compare_lines};
 use message_lines::answers::Encoded;
@@ -91,6 +91,14 @@ fn answer<A: Answer, S: Source>(
     run(alloc, answer, &mut feed, &mut sink)
 }
 
+/// Shows what the lines of a source say.
+fn show<S: Source>(alloc: Global, source: S, digest: &mut Digest) -> Result<(), RunError> {
+    let mut shown = Shown::new(alloc, Strict, Order::Unknown);
+    let mut feed = Feed::new(source, Vec::new(alloc));
+    let mut sink = Sink { alloc, digest };
+    read_lines(alloc, &mut shown, &mut feed, &mut sink)
+}
+
 /// Dumps and announcements in turn.
 fn captured(
     messages: Messages,
@@ -163,12 +171,7 @@ pub fn run_job(
         }
         Job::Show => {
             let lines = captured(messages, WORDS, rounds, chance)?;
-            answer(
-                alloc,
-                Shown::new(alloc, Strict, Order::Unknown),
-                lines,
-                digest,
-            )
+            show(alloc, lines, digest)
         }
         Job::Diff => watch(alloc, messages, rounds, chance, digest),
         Job::Calls => call_messages(alloc, &messages, rounds, chance, digest),
@@ -178,12 +181,7 @@ pub fn run_job(
             let mut next = chance;
             let _turned = next.next();
             let second = Awkward::new(alloc, rounds / 2, next)?;
-            answer(
-                alloc,
-                Shown::new(alloc, Strict, Order::Unknown),
-                second,
-                digest,
-            )
+            show(alloc, second, digest)
         }
     }
 }

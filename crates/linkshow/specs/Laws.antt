@@ -1,12 +1,17 @@
 -- What holds of every answer.
-use Rattle.std.specs.Prelude.{List, ℕ}
+use Rattle.std.specs.Prelude.{List, Option, ℕ}
+use Rattle.line_filter.specs.Lines as filter
+use Rattle.line_filter.specs.declared.error.RunError.{RunError}
+use Rattle.linkshow.specs.Lines.{RanToEnd, Stopped}
 use Rattle.nla_wire.specs.declared.error.Cause.{Cause}
 use Rattle.link_msg.specs.Lenient.{MeansNoneLeniently}
 use Rattle.link_msg.specs.Messages.{FirstFault, MeansNothing}
 use Rattle.shown.specs.Drafts.{Members}
 use Rattle.shown.specs.Pages.{IsObject}
 use Rattle.message_shown.specs.Leniently.{IsLenientAnswerTo}
-use Rattle.message_shown.specs.Lines.{Answering, IsAnswerTo, fault_head}
+use Rattle.message_shown.specs.Lines.{Answering, IsAnswer, IsAnswerTo, fault_head}
+use Rattle.message_shown.specs.Whole.{Whole, IsWholeAnswerTo, IsWholeLenientAnswerTo}
+use Rattle.message_shown.specs.declared.context.Order.{Order}
 
 -- behind the words of its line the answer to bytes that mean nothing has the cause of their fault, and no other answer
 -- has one there
@@ -21,3 +26,18 @@ FaultsAreRefusals = HasFaults IsAnswerTo MeansNothing
 
 abbrev pub LenientFaultsAreRefusals : Type 0
 LenientFaultsAreRefusals = HasFaults IsLenientAnswerTo MeansNoneLeniently
+
+-- what a run writes begins so: where it stops, of the answers to all complete lines was written what the error leaves
+pub record RunsBegin (To : Whole) (Head : Answering) : Type 0 where
+  pub ran : (order : Order) (left left_after held held_after : Option (List ℕ))
+      → RanToEnd To order left left_after held held_after
+      → filter.RanToEnd (IsAnswer Head) left left_after held held_after
+  pub stopped : (order : Order) (e : RunError) (left left_after held held_after : Option (List ℕ))
+      → Stopped To order e left left_after held held_after
+      → filter.Stopped (IsAnswer Head) e left left_after held held_after
+
+abbrev pub AnswersBegin : Type 0
+AnswersBegin = RunsBegin IsWholeAnswerTo IsAnswerTo
+
+abbrev pub LenientAnswersBegin : Type 0
+LenientAnswersBegin = RunsBegin IsWholeLenientAnswerTo IsLenientAnswerTo

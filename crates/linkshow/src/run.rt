@@ -4,7 +4,7 @@ ghost use Rattle.std.specs.Prelude.{IfErr, OnOk};
 ghost use Rattle.linkshow.specs.Lines.{RanToEnd, Stopped};
 
 use line_filter::error::RunError;
-use line_filter::run as filter;
+use line_filter::run::read_lines;
 use message_shown::context::Order;
 use message_shown::{Reading, Shown};
 use std::alloc::Global;
@@ -24,12 +24,13 @@ pub fn run<B: Reading, R: Read, W: Write>(
     reader: &mut R,
     writer: &mut W,
 ) -> Result<(), RunError>
-    ensures ok { OnOk result (RanToEnd B.is_answer
+    ensures ok { OnOk result (RanToEnd B.is_answer order
         (R.remaining reader.old) (R.remaining reader.new)
         (W.contents writer.old) (W.contents writer.new)) }
-    ensures err { IfErr result (λ e. Stopped B.is_answer e
+    ensures err { IfErr result (λ e. Stopped B.is_answer order e
         (R.remaining reader.old) (R.remaining reader.new)
         (W.contents writer.old) (W.contents writer.new)) }
 {
-    filter::run(alloc, Shown::new(alloc, reading, order), reader, writer)
+    let mut shown = Shown::new(alloc, reading, order);
+    read_lines(alloc, &mut shown, reader, writer)
 }

@@ -1,6 +1,6 @@
 -- How the answer to a line is added.
 use Rattle.std.proofs.Common.{◌≡◌, ℕ, Bool, true, false, List, [], ◌∷◌, ◌++◌, refl, sym, ap, subst, ◌∙◌, append_assoc}
-use Rattle.std.specs.Prelude.{Result, Ok, Err, codes, MatchBool}
+use Rattle.std.specs.Prelude.{Result, Ok, Err, OnOk, codes, MatchBool}
 use Rattle.std.specs.List.{flat_map}
 use Rattle.std.proofs.lemmas.List.Concat.{flat_map-append}
 use Rattle.std.proofs.lemmas.List.Sums.{fold-append}
@@ -19,13 +19,14 @@ use Rattle.shown.specs.Pages.{AddsText}
 use Rattle.shown.proofs.Drafts.{members_added}
 use Rattle.shown.proofs.Pages.{object_found, whole_text}
 use Rattle.link_msg.proofs.Reading.{message_agrees}
-use Rattle.message_shown.specs.Attributes.{message_line, TellsMessage}
-use Rattle.message_shown.specs.Causes.{cause_text, cause_members, AddsFault}
-use Rattle.message_shown.specs.Lines.{Answering, Telling, IsAnswerTo, IsAnswerToSpelled, IsAnswerOf, head, whole_object}
-use Rattle.message_shown.specs.Lines.{TellsLine, AddsAnswer, AddsAnswerOf, AddsAnswerTo, AddsSpelled}
+use Rattle.message_shown.specs.Attributes.{message_line, message_members, TellsMessage}
+use Rattle.message_shown.specs.Causes.{cause_text, cause_members}
+use Rattle.message_shown.specs.Faults.{AddsFault}
+use Rattle.message_shown.specs.Lines.{Answering, IsAnswer, IsAnswerTo, IsAnswerToSpelled, IsAnswerOf, head, whole_object}
+use Rattle.message_shown.specs.Lines.{AddsAnswerOf, AddsAnswerTo, AddsSpelled}
 use Rattle.message_shown.specs.Lines.{fault_member, fault_head, family_member, nothex_member}
+use Rattle.message_shown.specs.Whole.{Kept, Whole, BeginsAs, TellsAs, IsWholeAnswer, IsWholeAnswerTo, ToLine}
 use Rattle.message_shown.specs.Worded.{words_shown}
-use Rattle.message_shown.specs.declared.answers.Shown.{Shown}
 use Rattle.message_shown.specs.declared.context.Context.{Context}
 
 -- ** what is added
@@ -42,13 +43,15 @@ begins words more member page is =
     ∙ ap (λ (l : List Token). begin_object ∷ l) (ap tokens (sym (append_assoc words (member ∷ []) more))
     ∙ flat_map-append (λ m. key m.0 ∷ m.1) (words ++ member ∷ []) more)
 
-pub adds_message : (words more : Members) (page : Draft) (bytes old mid new : List ℕ) (m : LinkMessage) → Means bytes m
-    → page ≡ with_members (words ++ family_member m ∷ more) empty_object
-    → AddsText page old mid → new ≡ mid ++ 10 ∷ [] → AddsAnswerTo IsAnswerTo words bytes old new
-adds_message words more page bytes old mid new m means is s k = (
+pub adds_message : (cx : Context) (words : Members) (page : Draft) (bytes old mid new : List ℕ) (m : LinkMessage)
+    → Means bytes m → page ≡ with_members (words ++ message_members cx bytes m) empty_object
+    → AddsText page old mid → new ≡ mid ++ 10 ∷ [] → AddsAnswerTo (IsWholeAnswerTo cx) words bytes old new
+unfolding message_line
+adds_message cx words page bytes old mid new m means is s k = (
   s.0,
-  IsAnswerTo.message m means (object_found page (head words (family_member m)) _ s.0
-      (begins words more (family_member m) page is) s.1),
+  IsWholeAnswerTo.message m means
+      (object_found page (head words (family_member m)) _ s.0 (begins words _ (family_member m) page is) s.1)
+      (whole_text (words ++ message_members cx bytes m) page s.0 is s.1),
   lf_after old s.0 mid new s.2 k,
 )
 
@@ -81,19 +84,22 @@ members_next ms more member first named page n is =
     ∙ sym (fold-append (λ (p : Draft) m. with_value m.0 m.1 p) (with_value member.0 member.1 first) ms more)
 
 -- ** of a fault
-pub adds_fault : (words : Members) (text : List ℕ) (e : DecodeError) (first worded named page : Draft)
+pub adds_fault : (cx : Context) (words : Members) (text : List ℕ) (e : DecodeError) (first worded named page : Draft)
     (bytes old mid new : List ℕ) → FirstFault bytes e.cause → text ≡ cause_text e.cause → first ≡ empty_object
     → worded ≡ with_members words first → named ≡ with_value (codes "fault") (string text ∷ []) worded
-    → AddsFault e named page → AddsText page old mid → new ≡ mid ++ 10 ∷ []
-    → AddsAnswerTo IsAnswerTo words bytes old new
-adds_fault words text e first worded named page bytes old mid new fault same empty w n adds s k =
-    let ms = (codes "at", string adds.0 ∷ []) ∷ cause_members e.cause in
+    → AddsFault cx bytes e named page → AddsText page old mid → new ≡ mid ++ 10 ∷ []
+    → AddsAnswerTo (IsWholeAnswerTo cx) words bytes old new
+adds_fault cx words text e first worded named page bytes old mid new fault same empty w n adds s k =
+    let ms : Members = (codes "at", string adds.0 ∷ []) ∷ cause_members e.cause in
     let told : named ≡ with_value (codes "fault") (string (cause_text e.cause) ∷ []) worded =
     n ∙ ap (λ t. with_value (codes "fault") (string t ∷ []) worded) same in
-    let all = members_then words ms adds.1.0 (fault_member e.cause) first worded named page empty w told adds.1.1 in (
+    let all = members_then words ms adds.1 (fault_member e.cause) first worded named page empty w told adds.2 in (
       s.0,
-      IsAnswerTo.fault e.cause fault (object_found page (fault_head words e.cause) _ s.0
-          (begins words (ms ++ adds.1.0) (fault_member e.cause) page all) s.1),
+      IsWholeAnswerTo.fault e.cause fault
+          (object_found page (fault_head words e.cause) _ s.0
+          (begins words (ms ++ adds.1) (fault_member e.cause) page all) s.1)
+          (ms ++ adds.1) (adds.0, adds.1, adds.3 fault, refl)
+          (whole_text (words ++ fault_member e.cause ∷ (ms ++ adds.1)) page s.0 all s.1),
       lf_after old s.0 mid new s.2 k,
     )
 
@@ -150,12 +156,27 @@ adds_behind To front rest digits old new some is s =
       s.2,
     )
 
--- the words are those in front of the line, and the rest stands behind them
-pub adds_line : (To : Answering) (line front rest old new : List ℕ) → front ≡ front_of line → rest ≡ rest_of line
-    → AddsAnswerOf To front rest old new → AddsAnswer To line old new
-adds_line To line front rest old new f is s = (
-  s.0,
-  subst (λ w. IsAnswerOf To w (rest_of line) s.0) f (subst (λ r. IsAnswerOf To front r s.0) is s.1),
+pub both_ok : {T E : Type 0} (P Q : Type 0) (r : Result T E) → OnOk r P → OnOk r Q → OnOk r (P × Q)
+both_ok P Q (Ok x) p q = (p, q)
+both_ok P Q (Err e) p q = tt
+
+-- the words are those in front of the line, and the rest stands behind them; what is kept stayed
+pub takes_line : (To : Whole) (kept after : Kept) (line front rest old new : List ℕ)
+    → front ≡ front_of line → rest ≡ rest_of line → AddsAnswerOf (ToLine To kept front) front rest old new
+    → after ≡ kept
+    → (added : List ℕ) × (((answer : List ℕ) × IsWholeAnswer To kept line answer × (added ≡ with_lf answer))
+    × (after ≡ kept)) × (new ≡ old ++ added)
+takes_line To kept after line front rest old new f is s same = (
+  with_lf s.0,
+  (
+    (
+      s.0,
+      subst (λ w. IsAnswerOf (ToLine To kept w) w (rest_of line) s.0) f
+          (subst (λ r. IsAnswerOf (ToLine To kept front) front r s.0) is s.1),
+      refl,
+    ),
+    same,
+  ),
   s.2,
 )
 
@@ -163,31 +184,56 @@ pub same_message : (b : List ℕ) (m n : LinkMessage) → Means b m → Means b 
 same_message b m n h k =
     let same : Ok m ≡ Ok n = sym (message_agrees.only b m h) ∙ message_agrees.only b n k in cc
 
--- bytes mean one message
-pub tells_meant : (words : Members) (cx : Context) (b old new : List ℕ) (m : LinkMessage) → Means b m
-    → new ≡ old ++ with_lf (message_line words cx b m) → TellsMessage words cx b old new
-tells_meant words cx b old new m means is n k =
-    is ∙ ap (λ x. old ++ with_lf (message_line words cx b x)) (same_message b m n means k)
-
 -- bytes with a fault mean no message
 pub means_nothing : (b : List ℕ) (c : Cause) (m : LinkMessage) → FirstFault b c → Means b m → ⊥
 means_nothing b c m fault means =
     let clash : Err c ≡ Ok m = sym (message_agrees.refused b c fault) ∙ message_agrees.only b m means in absurd cc
 
-pub tells_fault : (words : Members) (cx : Context) (b old new : List ℕ) (c : Cause) → FirstFault b c
-    → TellsMessage words cx b old new
-tells_fault words cx b old new c fault m means = absurd (means_nothing b c m fault means)
+-- ** what follows from a whole answer
+pub adds_begun : (To : Whole) (Head : Answering) → BeginsAs To Head → (cx : Context) (words : Members)
+    (b old new : List ℕ) → AddsAnswerTo (To cx) words b old new → AddsAnswerTo Head words b old new
+adds_begun To Head begin cx words b old new s = (s.0, begin cx words b s.0 s.1, s.2)
 
-pub line_spelled : {R : Type 0} (Tells : Telling) (shown : Shown R) (front digits room old new : List ℕ)
-    → decode_of digits ≡ Ok room → TellsLine Tells shown front room old new → (b : List ℕ) → decode_of digits ≡ Ok b
-    → TellsLine Tells shown front b old new
-line_spelled Tells shown front digits room old new h tells b is =
-    let same : room ≡ b = let both : Ok room ≡ Ok b = sym h ∙ is in cc in
-    subst (λ x. TellsLine Tells shown front x old new) same tells
+pub begins_as : BeginsAs IsWholeAnswerTo IsAnswerTo
+begins_as cx words b answer (IsWholeAnswerTo.fault c fault o ms are is) = IsAnswerTo.fault c fault o
+begins_as cx words b answer (IsWholeAnswerTo.message m means o is) = IsAnswerTo.message m means o
 
-pub line_nothex : {R : Type 0} (Tells : Telling) (shown : Shown R) (front digits old new : List ℕ) (e : FromHexError)
-    → decode_of digits ≡ Err e → (b : List ℕ) → decode_of digits ≡ Ok b → TellsLine Tells shown front b old new
-line_nothex Tells shown front digits old new e h b is = let clash : Err e ≡ Ok b = sym h ∙ is in absurd cc
+spelled_begins : (To Head : Answering)
+    → ((words : Members) (b answer : List ℕ) → To words b answer → Head words b answer) → (words : Members)
+    (bytes : Result (List ℕ) FromHexError) (answer : List ℕ) → IsAnswerToSpelled To words bytes answer
+    → IsAnswerToSpelled Head words bytes answer
+spelled_begins To Head begin words (Ok b) answer is = begin words b answer is
+spelled_begins To Head begin words (Err e) answer is = is
+
+either_words : (b : Bool) (own : Type 0) (P Q : Type 0) → (P → Q) → MatchBool b own P → MatchBool b own Q
+either_words true own P Q to is = is
+either_words false own P Q to is = to is
+
+pub line_begins : (To : Whole) (Head : Answering) → BeginsAs To Head → (kept : Kept) (line answer : List ℕ)
+    → IsWholeAnswer To kept line answer → IsAnswer Head line answer
+line_begins To Head begin kept line answer =
+    let front : List ℕ = front_of line in
+    let words : Members = words_shown front in
+    either_words (are_alone front (rest_of line)) (answer ≡ whole_object words) _ _
+    (spelled_begins (ToLine To kept front) Head (λ ms b a h. begin h.0 ms b a h.2) words
+    (decode_of (digits_of (rest_of line))) answer)
+
+-- bytes mean one message
+pub one_line : (cx : Context) (words : Members) (b answer old new : List ℕ) (m n : LinkMessage) → Means b m
+    → Means b n → answer ≡ message_line words cx b m → new ≡ old ++ with_lf answer
+    → new ≡ old ++ with_lf (message_line words cx b n)
+one_line cx words b answer old new m n means too is added =
+    added ∙ ap (λ t. old ++ with_lf t) (is ∙ ap (message_line words cx b) (same_message b m n means too))
+
+tells_by : (cx : Context) (words : Members) (b answer old new : List ℕ) → IsWholeAnswerTo cx words b answer
+    → new ≡ old ++ with_lf answer → TellsMessage words cx b old new
+tells_by cx words b answer old new (IsWholeAnswerTo.fault c fault o ms are is) added n means =
+    absurd (means_nothing b c n fault means)
+tells_by cx words b answer old new (IsWholeAnswerTo.message m means o is) added n too =
+    one_line cx words b answer old new m n means too is added
+
+pub tells_as : TellsAs IsWholeAnswerTo TellsMessage
+tells_as cx words b old new s = tells_by cx words b s.0 old new s.1 s.2
 
 -- the answer to a line of digits that spell no bytes, without words
 pub not_hex_line : with_lf (whole_object (nothex_member ∷ [])) ≡ codes "{\"fault\":\"not-hex\"}\n"

@@ -30,19 +30,20 @@ use Rattle.link_msg.proofs.Leniently.{strict_is_lenient, fitting_is_read, one_le
 use Rattle.link_msg.proofs.MessagesBy.{is_header}
 use Rattle.line_filter.specs.Lines.{with_lf}
 use Rattle.shown.specs.Drafts.{Draft, Members, empty_object, object_of, with_members, with_value}
-use Rattle.shown.specs.Pages.{AddsText}
+use Rattle.shown.specs.Pages.{AddsText, IsObject, IsWholeText}
 use Rattle.shown.specs.Values.{numbered}
-use Rattle.shown.proofs.Pages.{object_found}
+use Rattle.shown.proofs.Pages.{object_found, whole_text}
 use Rattle.message_shown.specs.Attributes.{message_members}
 use Rattle.message_shown.specs.Causes.{cause_members, cause_text}
 use Rattle.message_shown.specs.Leniently.{taken, in_front, accepted, accepted_part, ReadsAccepted, AreTold}
 use Rattle.message_shown.specs.Leniently.{IsSplit, EachIsTold}
-use Rattle.message_shown.specs.Leniently.{AddsOne, AddsTold, IsLenientAnswerTo, TellsRefused, frame_told, lenient_line}
+use Rattle.message_shown.specs.Leniently.{AddsOne, AddsTold, IsLenientAnswerTo, TellsLeniently, frame_told, lenient_line}
 use Rattle.message_shown.specs.Leniently.{refusal_members, refused_member}
-use Rattle.message_shown.specs.Lines.{AddsAnswerTo, IsAnswerTo, family_member, head, whole_object}
+use Rattle.message_shown.specs.Lines.{AddsAnswerTo, family_member, head, message_head}
 use Rattle.message_shown.specs.Places.{objects}
+use Rattle.message_shown.specs.Whole.{BeginsAs, TellsAs, IsWholeAnswerTo, IsWholeLenientAnswerTo}
 use Rattle.message_shown.specs.declared.context.Context.{Context}
-use Rattle.message_shown.proofs.Added.{begins, lf_after, means_nothing, object_told}
+use Rattle.message_shown.proofs.Added.{begins, lf_after, means_nothing, one_line}
 use Rattle.message_shown.proofs.Places.{both_added}
 
 -- ** which bytes mean a message leniently
@@ -175,25 +176,47 @@ each_is_told b m (h, c, whole, header, (fs, frames, every)) =
 -- ** answers
 
 -- an answer to a message, or to bytes that mean none leniently either
-pub leniently : (words : Members) (b answer : List ℕ) → (MeansNothing b → MeansNoneLeniently b)
-    → IsAnswerTo words b answer → IsLenientAnswerTo words b answer
-leniently words b answer none (IsAnswerTo.fault c fault o) =
-    IsLenientAnswerTo.fault c fault (none (λ m. means_nothing b c m fault)) o
-leniently words b answer none (IsAnswerTo.message m means o) =
+leniently : (cx : Context) (words : Members) (b answer : List ℕ) → (MeansNothing b → MeansNoneLeniently b)
+    → IsWholeAnswerTo cx words b answer → IsWholeLenientAnswerTo cx words b answer
+leniently cx words b answer none (IsWholeAnswerTo.fault c fault o ms are is) =
+    IsWholeLenientAnswerTo.fault c fault (none (λ m. means_nothing b c m fault)) o ms are is
+leniently cx words b answer none (IsWholeAnswerTo.message m means o is) = IsWholeLenientAnswerTo.message m means o is
+
+pub added_leniently : (cx : Context) (words : Members) (b old new : List ℕ) → (MeansNothing b → MeansNoneLeniently b)
+    → AddsAnswerTo (IsWholeAnswerTo cx) words b old new → AddsAnswerTo (IsWholeLenientAnswerTo cx) words b old new
+added_leniently cx words b old new none added = (added.0, leniently cx words b added.0 none added.1, added.2)
+
+-- ** what follows from a whole answer
+pub begins_leniently : BeginsAs IsWholeLenientAnswerTo IsLenientAnswerTo
+begins_leniently cx words b answer (IsWholeLenientAnswerTo.fault c fault none o ms are is) =
+    IsLenientAnswerTo.fault c fault none o
+begins_leniently cx words b answer (IsWholeLenientAnswerTo.message m means o is) =
     IsLenientAnswerTo.message m (strict_is_lenient b m means) o
+begins_leniently cx words b answer (IsWholeLenientAnswerTo.part m means nothing o told are is) =
+    IsLenientAnswerTo.message m means o
 
-pub added_leniently : (words : Members) (b old new : List ℕ) → (MeansNothing b → MeansNoneLeniently b)
-    → AddsAnswerTo IsAnswerTo words b old new → AddsAnswerTo IsLenientAnswerTo words b old new
-added_leniently words b old new none added = (added.0, leniently words b added.0 none added.1, added.2)
+tells_by : (cx : Context) (words : Members) (b answer old new : List ℕ) → IsWholeLenientAnswerTo cx words b answer
+    → new ≡ old ++ with_lf answer → TellsLeniently words cx b old new
+tells_by cx words b answer old new (IsWholeLenientAnswerTo.fault c fault none o ms are is) added = (
+  λ n means. absurd (means_nothing b c n fault means),
+  λ n means nothing. absurd (none n means),
+)
+tells_by cx words b answer old new (IsWholeLenientAnswerTo.message m means o is) added = (
+  λ n too. one_line cx words b answer old new m n means too is added,
+  λ n too nothing. absurd (nothing m means),
+)
+tells_by cx words b answer old new (IsWholeLenientAnswerTo.part m means nothing o told are is) added = (
+  λ n too. absurd (nothing n too),
+  λ n too none. (
+    told,
+    are,
+    added ∙ ap (λ t. old ++ with_lf t)
+        (is ∙ ap (λ (x : LinkMessage). lenient_line words cx b x told) (one_lenient b m n means too)),
+  ),
+)
 
--- what bytes mean is told as ever, and nothing of it is refused
-pub meant_none_refused : (words : Members) (cx : Context) (b old new : List ℕ) (m : LinkMessage) → Means b m
-    → TellsRefused words cx b old new
-meant_none_refused words cx b old new m means n leniently none = absurd (none m means)
-
-pub none_refused : (words : Members) (cx : Context) (b old new : List ℕ) → MeansNoneLeniently b
-    → TellsRefused words cx b old new
-none_refused words cx b old new none m leniently nothing = absurd (none m leniently)
+pub tells_leniently : TellsAs IsWholeLenientAnswerTo TellsLeniently
+tells_leniently cx words b old new s = tells_by cx words b s.0 old new s.1 s.2
 
 -- ** the attributes that are refused
 
@@ -247,33 +270,36 @@ telling_ends all left old page is (done, so_far, go) = (
 )
 
 -- ** the line
-
-adds_leniently : (words more : Members) (page : Draft) (bytes old mid new : List ℕ) (m : LinkMessage)
-    → MeansLeniently bytes m → page ≡ with_members (words ++ family_member m ∷ more) empty_object
-    → AddsText page old mid → new ≡ mid ++ 10 ∷ [] → AddsAnswerTo IsLenientAnswerTo words bytes old new
-adds_leniently words more page bytes old mid new m means is s k = (
-  s.0,
-  IsLenientAnswerTo.message m means (object_found page (head words (family_member m)) _ s.0
-      (begins words more (family_member m) page is) s.1),
-  lf_after old s.0 mid new s.2 k,
-)
+lenient_text : (words : Members) (cx : Context) (b : List ℕ) (m : LinkMessage) (told : List Members) (page : Draft)
+    (text : List ℕ)
+    → page ≡ with_members (words ++ (message_members cx b (accepted_part b m) ++ refused_member told ∷ [])) empty_object
+    → IsWholeText page text → text ≡ lenient_line words cx b m told
+unfolding lenient_line
+lenient_text words cx b m told page text is whole =
+    whole_text (words ++ (message_members cx b (accepted_part b m) ++ refused_member told ∷ [])) page text is whole
 
 module _ (words : Members) (cx : Context) (b old mid new : List ℕ) (part : LinkMessage) (told : List Members)
     (page : Draft) (reads : ReadsAccepted b (Some part))
     (is : page ≡ with_members (words ++ (message_members cx b part ++ refused_member told ∷ [])) empty_object)
     (s : AddsText page old mid) (k : new ≡ mid ++ 10 ∷ []) where
+  here : page ≡ with_members (words ++ (message_members cx b (accepted_part b reads.0) ++ refused_member told ∷ []))
+      empty_object
+  here = is ∙ ap (λ (p : LinkMessage). with_members (words ++ (message_members cx b p ++ refused_member told ∷ []))
+      empty_object) reads.2
+
+  found : IsObject (message_head words reads.0) s.0
+  found = object_found page (head words (family_member reads.0)) _ s.0
+      (begins words _ (family_member reads.0) page here) s.1
+
   pub accepted_answered : AddsAnswerTo IsLenientAnswerTo words b old new
   accepted_answered =
-      adds_leniently words _ page b old mid new reads.0 reads.1
-      (is ∙ ap (λ (p : LinkMessage). with_members (words ++ (message_members cx b p ++ refused_member told ∷ []))
-      empty_object) reads.2) s k
+      (s.0, IsLenientAnswerTo.message reads.0 reads.1 found, lf_after old s.0 mid new s.2 k)
 
-  pub accepted_told : AreTold (told_all b) told → TellsRefused words cx b old new
-  unfolding lenient_line
-  accepted_told are m means none = (
-    told,
-    are,
-    object_told (words ++ (message_members cx b part ++ refused_member told ∷ [])) page old mid new is s k
-        ∙ ap (λ (p : LinkMessage). old ++ with_lf (whole_object (words ++ (message_members cx b p
-        ++ refused_member told ∷ [])))) (reads.2 ∙ ap (accepted_part b) (one_lenient b reads.0 m reads.1 means)),
+  pub accepted_shown : AreTold (told_all b) told → MeansNothing b
+      → AddsAnswerTo (IsWholeLenientAnswerTo cx) words b old new
+  accepted_shown are nothing = (
+    s.0,
+    IsWholeLenientAnswerTo.part reads.0 reads.1 nothing found told are
+        (lenient_text words cx b reads.0 told page s.0 here s.1),
+    lf_after old s.0 mid new s.2 k,
   )

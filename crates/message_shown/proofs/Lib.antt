@@ -6,5 +6,6 @@ mod Places
 mod Elements
 mod Forms
 mod Kept
-mod Leniently
+pub mod Leniently
 mod Raw
+mod Faults

@@ -20,7 +20,6 @@ use Rattle.message_shown.specs.Places.{Item, Said, Kept, item_of, kept_of, shown
 use Rattle.message_shown.specs.Places.{has_number, comes_in}
 use Rattle.message_shown.specs.Places.{last_ones, earlier_ones, named_ones, kept_ones, objects, TellsLast}
 use Rattle.message_shown.specs.Places.{are_any, list_under, values_of}
-use Rattle.message_shown.specs.Causes.{AddsMembers}
 use Rattle.message_shown.specs.Functions.{objects_under}
 
 -- where the last one of a number stands, of those from a place on, and the place so far
@@ -215,14 +214,6 @@ pub both_added : (ms ns : Members) (old page new : Draft) → page ≡ with_memb
     → new ≡ with_members (ms ++ ns) old
 both_added ms ns old page new is then =
     then ∙ ap (with_members ns) is ∙ sym (fold-append (λ (p : Draft) m. with_value m.0 m.1 p) old ms ns)
-
-pub then_more : (old page new : Draft) (ms : Members) → AddsMembers old page → new ≡ with_members ms page
-    → AddsMembers old new
-then_more old page new ms was is = (was.0 ++ ms, both_added was.0 ms old page new was.1 is)
-
-pub then_one : (old page new : Draft) (name : List ℕ) (value : List Token) → AddsMembers old page
-    → new ≡ with_value name value page → AddsMembers old new
-then_one old page new name value = then_more old page new ((name, value) ∷ [])
 
 -- ** where the last one of a number stands
 

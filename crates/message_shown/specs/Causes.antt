@@ -5,9 +5,8 @@ use Rattle.json.specs.Token.{number, string}
 use Rattle.nla_wire.specs.declared.error.Cause.{Cause}
 use Rattle.nla_wire.specs.declared.error.Cause.TheVariants.{TooShort, FrameShort, FrameOver, FrameUnder, EmptyList}
 use Rattle.nla_wire.specs.declared.error.Cause.TheVariants.{WrongLength, NotUtf8, InvalidState, OutOfMemory}
-use Rattle.nla_wire.specs.declared.error.DecodeError.{DecodeError}
 use Rattle.message_shown.specs.declared.wire.TheConstants.{FRAME_FLAGS}
-use Rattle.shown.specs.Drafts.{Draft, Members, with_members}
+use Rattle.shown.specs.Drafts.{Members}
 use Rattle.shown.specs.Values.{numbered, BitNames, flags_of}
 
 -- the name of a cause
@@ -51,12 +50,3 @@ frame_members name kind payload =
     ++ (codes "flags", flags_of frame_flags (bit_and kind 0xc000))
     ∷ (codes "payload", string (encode_lower payload) ∷ [])
     ∷ []
-
--- members were added
-abbrev pub AddsMembers : Draft → Draft → Type 0
-AddsMembers old new = (more : Members) × (new ≡ with_members more old)
-
--- what is said of a fault after its cause's name: a place, the numbers of the cause, and more
-abbrev pub AddsFault : DecodeError → Draft → Draft → Type 0
-AddsFault e old new = (place : List ℕ) × AddsMembers
-    (with_members ((codes "at", string place ∷ []) ∷ cause_members e.cause) old) new

@@ -16,3 +16,5 @@ pub mod Names
 pub mod NamesTied
 pub mod Leniently
 pub mod Raw
+pub mod Faults
+pub mod Whole

@@ -1,5 +1,5 @@
--- What each line is answered.
-use Rattle.std.specs.Prelude.{◌≡◌, ℕ, List, [], ◌∷◌, ◌++◌, codes, None, Result, Ok, Err, MatchBool}
+-- What each line is answered, and how the answer to bytes begins.
+use Rattle.std.specs.Prelude.{◌≡◌, ℕ, List, [], ◌∷◌, ◌++◌, codes, Result, Ok, Err, MatchBool}
 use Rattle.std.specs.List.{flat_map}
 use Rattle.hex.specs.Hex.{decode_of}
 use Rattle.hex.specs.declared.error.FromHexError.{FromHexError}
@@ -17,9 +17,8 @@ use Rattle.shown.specs.Values.{numbered}
 use Rattle.line_filter.specs.Lines.{with_lf}
 use Rattle.line_filter.specs.Steps as steps
 use Rattle.line_filter.specs.Words.{are_alone, digits_of, front_of, rest_of}
-use Rattle.message_shown.specs.Worded.{strings, words_shown, order_for}
+use Rattle.message_shown.specs.Worded.{strings, words_shown}
 use Rattle.message_shown.specs.declared.context.Context.{Context}
-use Rattle.message_shown.specs.declared.answers.Shown.{Shown}
 
 -- how an answer begins: the words in front of the line, and a member
 abbrev pub head : Members → List ℕ × List Token → List Token
@@ -94,19 +93,6 @@ AddsAnswer To = steps.AddsAnswer (IsAnswer To)
 
 -- ** which tokens are added
 
--- what attributes of a line with these words are shown by: the tables, and the order that the words say
-pub record IsContextOf {R : Type 0} (shown : Shown R) (front : List ℕ) (cx : Context) : Type 0 where
-  pub tables : cx.tables.now ≡ shown.tables
-  pub order : cx.order ≡ order_for front shown.order
-  pub link : cx.link_place ≡ None
-  pub port : cx.port_place ≡ None
-  pub address : cx.address_len ≡ 0
-
 -- what is added for bytes with words in front of them: the words, what they are shown by, the bytes, old and new
 abbrev pub Telling : Type 1
 Telling = Members → Context → List ℕ → List ℕ → List ℕ → Type 0
-
--- this was added for the bytes of a line with these words
-abbrev pub TellsLine : {R : Type 0} → Telling → Shown R → List ℕ → List ℕ → List ℕ → List ℕ → Type 0
-TellsLine Tells shown front bytes old new =
-    (cx : Context) × IsContextOf shown front cx × Tells (words_shown front) cx bytes old new

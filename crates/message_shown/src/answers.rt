@@ -1,18 +1,17 @@
 //! The answer to a line.
 
-ghost use Rattle.std.specs.Prelude.{◌≡◌, ℕ, List, [], ◌∷◌, Ok, ◌++◌, ◌/◌, OnOk, false, length};
-ghost use Rattle.hex.specs.Hex.{decode_of};
+ghost use Rattle.std.specs.Prelude.{◌≡◌, [], ◌∷◌, ◌++◌, ◌/◌, OnOk, length};
 ghost use Rattle.nla_wire.specs.declared.error.Cause.TheVariants.{OutOfMemory};
 ghost use Rattle.link_msg.specs.Messages.{Means, FirstFault};
 ghost use Rattle.link_msg.specs.declared.message.LinkMessage.{LinkMessage};
-ghost use Rattle.message_shown.specs.Lines.{IsAnswer, IsAnswerTo, AddsAnswerOf, AddsAnswerTo, AddsSpelled};
-ghost use Rattle.message_shown.specs.Lines.{whole_object, nothex_member, TellsLine};
+ghost use Rattle.message_shown.specs.Lines.{IsAnswerTo, AddsAnswerOf, AddsAnswerTo, AddsSpelled};
+ghost use Rattle.message_shown.specs.Lines.{whole_object, nothex_member};
+ghost use Rattle.message_shown.specs.Whole.{IsWholeAnswer, IsWholeAnswerTo, ToLine, kept_of};
 ghost use Rattle.shown.specs.Drafts.{with_members};
-ghost use Rattle.message_shown.specs.Attributes.{message_members, message_line, TellsMessage};
+ghost use Rattle.message_shown.specs.Attributes.{message_members, TellsMessage};
 ghost use Rattle.message_shown.specs.Worded.{words_shown};
 ghost use Rattle.line_filter.specs.Lines.{with_lf};
-ghost use Rattle.line_filter.specs.Words.{are_alone, digits_of};
-ghost use Rattle.message_shown.specs.Answered.{each_answered};
+ghost use Rattle.line_filter.specs.Runs.{answering};
 
 use crate::attribute::show_header;
 use crate::context::{Context, Order};
@@ -21,7 +20,7 @@ use crate::member::show_members;
 use crate::reading::Reading;
 use crate::wire::cause_name;
 use crate::worded::{order_for, show_words};
-use line_filter::answers::Answer;
+use line_filter::answers::Take;
 use line_filter::digits::{decode, values};
 use line_filter::words::{are_alone, digits_of, split};
 use link_info::{Tables, all_rows};
@@ -42,7 +41,9 @@ pub struct Shown<R: Reading> {
 
 impl<R: Reading> Shown<R> {
     /// Bytes are read so. Counters of IPv6 have this order, where a line does not say another one.
-    pub fn new(alloc: Global, reading: R, order: Order) -> Shown<R> {
+    pub fn new(alloc: Global, reading: R, order: Order) -> Shown<R>
+        ensures { (kept_of result).order ≡ order }
+    {
         Shown {
             reading,
             message: Vec::new(alloc),
@@ -62,10 +63,10 @@ impl<R: Reading> Shown<R> {
         bytes: &[u8],
         waiting: &mut Vec<u8>,
     ) -> Result<(), AllocError>
-        ensures answer { OnOk result (AddsAnswerTo R.is_answer (words_shown front.now) bytes.now
-            waiting.old.items waiting.new.items) }
-        ensures told { OnOk result (TellsLine R.tells self.old front.now bytes.now
-            waiting.old.items waiting.new.items) }
+        ensures answer { OnOk result
+            (AddsAnswerTo (ToLine R.is_answer (kept_of self.old) front.now)
+            (words_shown front.now) bytes.now waiting.old.items waiting.new.items) }
+        ensures kept { OnOk result (kept_of self.new ≡ kept_of self.old) }
     {
         let tables = self.tables;
         let cx = Context::new(alloc, &tables, order_for(front, self.order));
@@ -86,10 +87,9 @@ impl<R: Reading> Shown<R> {
     ) -> Result<(), AllocError>
         requires { length message.old ≡ length digits.now / 2 }
         ensures answer { OnOk result
-            (AddsSpelled R.is_answer (words_shown front.now) digits.now
-            waiting.old.items waiting.new.items) }
-        ensures told { OnOk result ((bytes : List ℕ) → decode_of digits.now ≡ Ok bytes
-            → TellsLine R.tells self.old front.now bytes waiting.old.items waiting.new.items) }
+            (AddsSpelled (ToLine R.is_answer (kept_of self.old) front.now)
+            (words_shown front.now) digits.now waiting.old.items waiting.new.items) }
+        ensures kept { OnOk result (kept_of self.new ≡ kept_of self.old) }
     {
         if !decode(digits, values(), message) {
             return push_not_hex(alloc, &mut self.room, waiting, front);
@@ -107,10 +107,9 @@ impl<R: Reading> Shown<R> {
         waiting: &mut Vec<u8>,
     ) -> Result<(), AllocError>
         ensures answer { OnOk result
-            (AddsAnswerOf R.is_answer front.now rest.now waiting.old.items waiting.new.items) }
-        ensures told { OnOk result ((bytes : List ℕ) → are_alone front.now rest.now ≡ false
-            → decode_of (digits_of rest.now) ≡ Ok bytes
-            → TellsLine R.tells self.old front.now bytes waiting.old.items waiting.new.items) }
+            (AddsAnswerOf (ToLine R.is_answer (kept_of self.old) front.now)
+            front.now rest.now waiting.old.items waiting.new.items) }
+        ensures kept { OnOk result (kept_of self.new ≡ kept_of self.old) }
     {
         if are_alone(front, rest) {
             return push_alone(alloc, &mut self.room, waiting, front);
@@ -121,10 +120,10 @@ impl<R: Reading> Shown<R> {
     }
 }
 
-impl<R: Reading> Answer for Shown<R> {
-    ghost is_answer = { IsAnswer R.is_answer };
+impl<R: Reading> Take for Shown<R> {
+    ghost takes = { answering (IsWholeAnswer R.is_answer) kept_of };
 
-    fn push(
+    fn take(
         &mut self,
         alloc: Global,
         line: &[u8],
@@ -136,8 +135,6 @@ impl<R: Reading> Answer for Shown<R> {
         self.message = message;
         done
     }
-
-    ghost has = { each_answered R.is_answer R.has };
 }
 
 /// Adds what a message says.
@@ -168,11 +165,9 @@ pub(crate) fn push_message(
     message: &LinkMessage,
 ) -> Result<(), AllocError>
     requires { Means bytes.now message.now }
-    ensures answer { OnOk result
-        (AddsAnswerTo IsAnswerTo (words_shown front.now) bytes.now
+    ensures { OnOk result
+        (AddsAnswerTo (IsWholeAnswerTo cx.now) (words_shown front.now) bytes.now
         waiting.old.items waiting.new.items) }
-    ensures told { OnOk result (waiting.new.items ≡ waiting.old.items
-        ++ with_lf (message_line (words_shown front.now) cx.now bytes.now message.now)) }
 {
     let mut page = room.begin()?;
     show_words(cx.alloc, &mut page, front)?;
@@ -193,7 +188,7 @@ pub(crate) fn push_fault(
 ) -> Result<(), AllocError>
     requires { FirstFault bytes.now error.now.cause }
     ensures { OnOk result
-        (AddsAnswerTo IsAnswerTo (words_shown front.now) bytes.now
+        (AddsAnswerTo (IsWholeAnswerTo cx.now) (words_shown front.now) bytes.now
         waiting.old.items waiting.new.items) }
 {
     let mut page = room.begin()?;
@@ -271,6 +266,9 @@ pub fn push_bytes_in(
     front: &[u8],
     bytes: &[u8],
 ) -> Result<(), AllocError>
+    ensures whole { OnOk result
+        (AddsAnswerTo (IsWholeAnswerTo cx.now) (words_shown front.now) bytes.now
+        waiting.old.items waiting.new.items) }
     ensures answer { OnOk result
         (AddsAnswerTo IsAnswerTo (words_shown front.now) bytes.now
         waiting.old.items waiting.new.items) }

@@ -1,7 +1,7 @@
 //! What is said of bytes that are no message.
 
 ghost use Rattle.std.specs.Prelude.{OnOk};
-ghost use Rattle.message_shown.specs.Causes.{AddsFault, AddsMembers};
+ghost use Rattle.message_shown.specs.Faults.{AddsBefore, AddsFault};
 
 use crate::attribute::show_index;
 use crate::context::Context;
@@ -19,7 +19,7 @@ pub fn show_fault(
     bytes: &[u8],
     error: &DecodeError,
 ) -> Result<(), AllocError>
-    ensures { OnOk result (AddsFault error.now page.old page.new) }
+    ensures { OnOk result (AddsFault cx.now bytes.now error.now page.old page.new) }
 {
     page.string("at", error.place)?;
     show_cause(page, &error.cause)?;
@@ -33,7 +33,7 @@ pub fn show_fault(
 /// Adds what can be read of bytes with a fault: family and index, and the attributes in front of the outermost one that
 /// has the fault.
 fn show_rest(cx: &Context<'_>, page: &mut Page, bytes: &[u8]) -> Result<(), AllocError>
-    ensures { OnOk result (AddsMembers page.old page.new) }
+    ensures { OnOk result (AddsBefore cx.now bytes.now page.old page.new) }
 {
     if bytes.len() < HEADER_SIZE {
         return Ok(());

@@ -1,7 +1,10 @@
-//! A law of what is read leniently: a function that does nothing, whose contract speaks of the definitions alone.
+//! Laws of answers: functions that do nothing, whose contracts speak of the definitions alone.
 
-ghost use Rattle.message_shown.specs.Leniently.{EachIsTold};
+ghost use Rattle.message_shown.specs.Attributes.{TellsMessage};
+ghost use Rattle.message_shown.specs.Leniently.{EachIsTold, IsLenientAnswerTo, TellsLeniently};
+ghost use Rattle.message_shown.specs.Lines.{IsAnswerTo};
 ghost use Rattle.message_shown.specs.NamesTied.{NamesAreThese};
+ghost use Rattle.message_shown.specs.Whole.{BeginsAs, TellsAs, IsWholeAnswerTo, IsWholeLenientAnswerTo};
 
 /// Of a message that is read leniently each attribute is shown with those that are accepted, or told with those that
 /// are refused.
@@ -12,4 +15,12 @@ pub fn law_lenient()
 /// The tables of names that the code goes by are those of the annex.
 pub fn law_names()
     ensures { NamesAreThese }
+{}
+
+/// A whole answer begins with a fault or with the family of a message, and tells what the bytes mean.
+pub fn law_answers()
+    ensures begins { BeginsAs IsWholeAnswerTo IsAnswerTo }
+    ensures begins_leniently { BeginsAs IsWholeLenientAnswerTo IsLenientAnswerTo }
+    ensures tells { TellsAs IsWholeAnswerTo TellsMessage }
+    ensures tells_leniently { TellsAs IsWholeLenientAnswerTo TellsLeniently }
 {}

@@ -3,15 +3,16 @@
 ghost use Rattle.std.specs.Prelude.{◌≡◌, ◌≤◌, IfOk, OnOk, Some, length};
 ghost use Rattle.link_info.specs.Styles.{are_frames};
 ghost use Rattle.link_msg.specs.Header.{header_size};
-ghost use Rattle.link_msg.specs.Messages.{FirstFault};
+ghost use Rattle.link_msg.specs.Messages.{FirstFault, MeansNothing};
 ghost use Rattle.link_msg.specs.Tables.{attribute_place, Values};
 ghost use Rattle.link_msg.specs.Told.{told_all};
 ghost use Rattle.nla_wire.specs.Items.{items};
 ghost use Rattle.shown.specs.Drafts.{with_members};
 ghost use Rattle.message_shown.specs.Leniently.{taken, in_front, accepted, ReadsAccepted, holder_members, frame_told};
 ghost use Rattle.message_shown.specs.Leniently.{AddsOne, AddsTold, AddsList};
-ghost use Rattle.message_shown.specs.Leniently.{IsLenientAnswerTo, TellsRefused, TellsLeniently};
+ghost use Rattle.message_shown.specs.Leniently.{IsLenientAnswerTo, TellsLeniently};
 ghost use Rattle.message_shown.specs.Lines.{AddsAnswerTo};
+ghost use Rattle.message_shown.specs.Whole.{IsWholeLenientAnswerTo};
 ghost use Rattle.message_shown.specs.Worded.{words_shown};
 
 use crate::answers::{push_fault, push_message, show_message};
@@ -172,7 +173,8 @@ fn push_accepted(
     requires { ReadsAccepted bytes.now (Some part.now) }
     ensures answer { OnOk result (AddsAnswerTo IsLenientAnswerTo (words_shown front.now) bytes.now
         waiting.old.items waiting.new.items) }
-    ensures told { OnOk result (TellsRefused (words_shown front.now) cx.now bytes.now
+    ensures whole { OnOk result (MeansNothing bytes.now
+        → AddsAnswerTo (IsWholeLenientAnswerTo cx.now) (words_shown front.now) bytes.now
         waiting.old.items waiting.new.items) }
 {
     let mut page = room.begin()?;
@@ -194,9 +196,8 @@ fn push_refused(
     error: &DecodeError,
 ) -> Result<(), AllocError>
     requires { FirstFault bytes.now error.now.cause }
-    ensures answer { OnOk result (AddsAnswerTo IsLenientAnswerTo (words_shown front.now) bytes.now
-        waiting.old.items waiting.new.items) }
-    ensures told { OnOk result (TellsRefused (words_shown front.now) cx.now bytes.now
+    ensures { OnOk result
+        (AddsAnswerTo (IsWholeLenientAnswerTo cx.now) (words_shown front.now) bytes.now
         waiting.old.items waiting.new.items) }
 {
     match parse_accepted(cx.alloc, bytes)? {
@@ -215,6 +216,9 @@ pub fn push_leniently_in(
     front: &[u8],
     bytes: &[u8],
 ) -> Result<(), AllocError>
+    ensures whole { OnOk result
+        (AddsAnswerTo (IsWholeLenientAnswerTo cx.now) (words_shown front.now) bytes.now
+        waiting.old.items waiting.new.items) }
     ensures answer { OnOk result (AddsAnswerTo IsLenientAnswerTo (words_shown front.now) bytes.now
         waiting.old.items waiting.new.items) }
     ensures told { OnOk result (TellsLeniently (words_shown front.now) cx.now bytes.now

@@ -4,7 +4,7 @@ use Rattle.message_shown.proofs.answers.push_fault.Goals as goal
 
 pub returns : goal.returns
 returns c =
-    adds_fault (words_shown c.args.front.now) _ c.args.error.now c.in_ok-page.page _ _ _ c.args.bytes.now _ _ _
-    c.requires
+    adds_fault c.args.cx.now (words_shown c.args.front.now) _ c.args.error.now c.in_ok-page.page _ _ _
+    c.args.bytes.now _ _ _ c.requires
     c.cause_name.ensures c.in_ok-page.ensures c.in_ok-show_words.ensures c.in_ok-string.ensures
     c.in_ok-show_fault.ensures c.in_ok-finish.ensures c.in_ok-push.ensures.items

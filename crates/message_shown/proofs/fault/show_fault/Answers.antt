@@ -1,9 +1,11 @@
 use Rattle.std.proofs.Common.{◌≡◌, [], ◌∷◌, ap, ◌∙◌}
-use Rattle.std.specs.Prelude.{codes}
-use Rattle.json.specs.Token.{string}
-use Rattle.shown.specs.Drafts.{with_members}
+use Rattle.std.specs.Prelude.{codes, decimal}
+use Rattle.json.specs.Token.{number, string}
+use Rattle.shown.specs.Drafts.{Draft, with_members, with_value}
+use Rattle.shown.specs.Values.{numbered}
 use Rattle.message_shown.specs.Causes.{cause_members}
-use Rattle.message_shown.proofs.Places.{then_one, then_more}
+use Rattle.message_shown.proofs.Added.{means_nothing}
+use Rattle.message_shown.proofs.Faults.{behind_found}
 use Rattle.message_shown.proofs.fault.show_fault.Goals as goal
 
 pub returns-in_ok-show_rest : goal.returns-in_ok-show_rest
@@ -12,10 +14,14 @@ returns-in_ok-show_rest c =
     let all = with_members ((codes "at", string c.args.error.now.place.now ∷ []) ∷ cause) c.args.page.now in
     let begun : c.show_cause.new.page ≡ all =
     c.in_ok-show_cause.ensures ∙ ap (with_members cause) c.in_ok-string.ensures in
-    let offset = then_one all _ c.number.new.self _ _ ([], begun) c.in_ok-number.ensures in (
+    let rest = c.in_ok-show_rest.ensures in
+    let at = c.in-Some.at in (
       c.args.error.now.place.now,
-      then_more all c.number.new.self c.show_rest.new.page c.in_ok-show_rest.ensures.0 offset
-          c.in_ok-show_rest.ensures.1,
+      numbered (codes "offset") at ∷ rest.0,
+      rest.1 ∙ ap (with_members rest.0) (c.in_ok-number.ensures
+          ∙ ap (λ (d : Draft). with_value (codes "offset") (number (decimal at) ∷ []) d) begun),
+      λ fault. behind_found c.args.cx.now c.args.bytes.now c.args.error.now.cause at rest.0 fault c.in-Some.ensures.found
+          rest.2,
     )
 
 pub returns-in_default : goal.returns-in_default
@@ -24,4 +30,9 @@ returns-in_default c =
     let begun : c.show_cause.new.page
     ≡ with_members ((codes "at", string c.args.error.now.place.now ∷ []) ∷ cause) c.args.page.now =
     c.in_ok-show_cause.ensures ∙ ap (with_members cause) c.in_ok-string.ensures in
-    (c.args.error.now.place.now, ([], begun))
+    let meant = c.in_default.ensures.found in (
+      c.args.error.now.place.now,
+      [],
+      begun,
+      λ fault. absurd (means_nothing c.args.bytes.now c.args.error.now.cause meant.0 fault meant.1),
+    )

@@ -3,7 +3,7 @@ use Rattle.message_shown.specs.Attributes.{message_members}
 use Rattle.message_shown.specs.Leniently.{refused_member}
 use Rattle.message_shown.specs.Worded.{words_shown}
 use Rattle.message_shown.proofs.Added.{words_then}
-use Rattle.message_shown.proofs.Leniently.{accepted_answered, accepted_told, long_enough}
+use Rattle.message_shown.proofs.Leniently.{accepted_answered, accepted_shown, long_enough}
 use Rattle.message_shown.proofs.Places.{both_added}
 use Rattle.message_shown.proofs.lenient.push_accepted.Goals as goal
 
@@ -22,8 +22,8 @@ returns-clause-answer c =
     accepted_answered words c.args.cx.now c.args.bytes.now _ _ _ c.args.part.now added.0 c.show_refused.new.page
     c.requires page c.in_ok-finish.ensures c.in_ok-push.ensures.items
 
-pub returns-clause-told : goal.returns-clause-told
-returns-clause-told c =
+pub returns-clause-whole : goal.returns-clause-whole
+returns-clause-whole c nothing =
     let words = words_shown c.args.front.now in
     let members = message_members c.args.cx.now c.args.bytes.now c.args.part.now in
     let added = c.in_ok-show_refused.ensures in
@@ -31,5 +31,5 @@ returns-clause-told c =
     c.show_refused.new.page c.in_ok-page.ensures c.in_ok-show_words.ensures
     (both_added members (refused_member added.0 ∷ []) c.show_words.new.page c.show_message.new.page
     c.show_refused.new.page c.in_ok-show_message.ensures added.2) in
-    accepted_told words c.args.cx.now c.args.bytes.now _ _ _ c.args.part.now added.0 c.show_refused.new.page
-    c.requires page c.in_ok-finish.ensures c.in_ok-push.ensures.items added.1
+    accepted_shown words c.args.cx.now c.args.bytes.now _ _ _ c.args.part.now added.0 c.show_refused.new.page
+    c.requires page c.in_ok-finish.ensures c.in_ok-push.ensures.items added.1 nothing

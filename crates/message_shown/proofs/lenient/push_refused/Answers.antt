@@ -4,19 +4,18 @@ use Rattle.std.proofs.lemmas.Result.{on_ok_weaker}
 use Rattle.link_msg.specs.declared.message.LinkMessage.{LinkMessage}
 use Rattle.message_shown.specs.Leniently.{ReadsAccepted}
 use Rattle.message_shown.specs.Worded.{words_shown}
-use Rattle.message_shown.proofs.Leniently.{added_leniently, none_refused}
+use Rattle.message_shown.proofs.Added.{means_nothing}
+use Rattle.message_shown.proofs.Leniently.{added_leniently}
 use Rattle.message_shown.proofs.lenient.push_refused.Goals as goal
 
-pub returns-in-None-clause-answer : goal.returns-in-None-clause-answer
-returns-in-None-clause-answer c =
-    on_ok_weaker c.push_fault.result
-    (λ s. added_leniently (words_shown c.args.front.now) c.args.bytes.now _ _
-    (λ _. subst (λ (o : Option LinkMessage). ReadsAccepted c.args.bytes.now o) c.in-None.is c.in_ok-part.ensures) s)
-    c.push_fault.ensures
+pub returns-in-Some : goal.returns-in-Some
+returns-in-Some c =
+    on_ok_weaker c.push_accepted.result
+    (λ s. s (λ m. means_nothing c.args.bytes.now c.args.error.now.cause m c.requires)) c.push_accepted.ensures.whole
 
-pub returns-in-None-clause-told : goal.returns-in-None-clause-told
-returns-in-None-clause-told c =
+pub returns-in-None : goal.returns-in-None
+returns-in-None c =
     on_ok_weaker c.push_fault.result
-    (λ s. none_refused (words_shown c.args.front.now) c.args.cx.now c.args.bytes.now _ _
-    (subst (λ (o : Option LinkMessage). ReadsAccepted c.args.bytes.now o) c.in-None.is c.in_ok-part.ensures))
+    (λ s. added_leniently c.args.cx.now (words_shown c.args.front.now) c.args.bytes.now _ _
+    (λ _. subst (λ (o : Option LinkMessage). ReadsAccepted c.args.bytes.now o) c.in-None.is c.in_ok-part.ensures) s)
     c.push_fault.ensures
