@@ -22,7 +22,8 @@ use Rattle.link_msg.proofs.Reading.{message_agrees}
 use Rattle.message_shown.specs.Attributes.{message_line, message_members, TellsMessage}
 use Rattle.message_shown.specs.Causes.{cause_text, cause_members}
 use Rattle.message_shown.specs.Faults.{AddsFault}
-use Rattle.message_shown.specs.Lines.{Answering, IsAnswer, IsAnswerTo, IsAnswerToSpelled, IsAnswerOf, head, whole_object}
+use Rattle.message_shown.specs.Lines.{Answering, IsAnswer, IsAnswerTo, IsAnswerToSpelled, IsAnswerOf, head}
+use Rattle.message_shown.specs.Lines.{whole_object}
 use Rattle.message_shown.specs.Lines.{AddsAnswerOf, AddsAnswerTo, AddsSpelled}
 use Rattle.message_shown.specs.Lines.{fault_member, fault_head, family_member, nothex_member}
 use Rattle.message_shown.specs.Whole.{Kept, Whole, BeginsAs, TellsAs, IsWholeAnswer, IsWholeAnswerTo, ToLine}

@@ -37,8 +37,8 @@ use Rattle.message_shown.specs.Attributes.{message_members}
 use Rattle.message_shown.specs.Causes.{cause_members, cause_text}
 use Rattle.message_shown.specs.Leniently.{taken, in_front, accepted, accepted_part, ReadsAccepted, AreTold}
 use Rattle.message_shown.specs.Leniently.{IsSplit, EachIsTold}
-use Rattle.message_shown.specs.Leniently.{AddsOne, AddsTold, IsLenientAnswerTo, TellsLeniently, frame_told, lenient_line}
-use Rattle.message_shown.specs.Leniently.{refusal_members, refused_member}
+use Rattle.message_shown.specs.Leniently.{AddsOne, AddsTold, IsLenientAnswerTo, TellsLeniently, frame_told}
+use Rattle.message_shown.specs.Leniently.{lenient_line, refusal_members, refused_member}
 use Rattle.message_shown.specs.Lines.{AddsAnswerTo, family_member, head, message_head}
 use Rattle.message_shown.specs.Places.{objects}
 use Rattle.message_shown.specs.Whole.{BeginsAs, TellsAs, IsWholeAnswerTo, IsWholeLenientAnswerTo}

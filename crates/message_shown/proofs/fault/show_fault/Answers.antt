@@ -20,8 +20,8 @@ returns-in_ok-show_rest c =
       numbered (codes "offset") at ∷ rest.0,
       rest.1 ∙ ap (with_members rest.0) (c.in_ok-number.ensures
           ∙ ap (λ (d : Draft). with_value (codes "offset") (number (decimal at) ∷ []) d) begun),
-      λ fault. behind_found c.args.cx.now c.args.bytes.now c.args.error.now.cause at rest.0 fault c.in-Some.ensures.found
-          rest.2,
+      λ fault. behind_found c.args.cx.now c.args.bytes.now c.args.error.now.cause at rest.0 fault
+          c.in-Some.ensures.found rest.2,
     )
 
 pub returns-in_default : goal.returns-in_default
