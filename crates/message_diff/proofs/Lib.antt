@@ -26,5 +26,7 @@ pub mod Spans
 pub mod Passing
 pub mod Below
 pub mod PartFrames
+pub mod Unlike
+pub mod Counted
 pub mod LeftOut
 pub mod Clauses

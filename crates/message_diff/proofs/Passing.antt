@@ -4,15 +4,17 @@ use Rattle.std.proofs.Common.{length, take, drop, inl, refl, sym, ap, ◌∙◌,
 use Rattle.std.specs.Prelude.{Option, None, Some, cond}
 use Rattle.std.proofs.lemmas.List.{append-nil, take_all, take-append-le, take-take, length-append}
 use Rattle.std.proofs.Math.Seq.{take-length, take-append_seam, drop-append_seam}
+use Rattle.shown.specs.Marks.{MarkedText}
 use Rattle.shown.specs.declared.marks.Mark.{Mark}
 use Rattle.message_diff.specs.declared.rows.Span.{Span}
 use Rattle.message_diff.specs.declared.rows.Spot.{Spot}
 use Rattle.message_diff.specs.declared.rows.Rows.{Rows}
 use Rattle.message_diff.specs.Known.{is_text}
 use Rattle.message_diff.specs.Differences.{Leaf}
-use Rattle.message_diff.specs.Trees.{Forest, IsGood, beside, find_tree, joined, leaf_or, one_beside}
+use Rattle.message_diff.specs.Trees.{Forest, IsGood, beside_in, find_tree, joined, leaf_or, one_in, beside, one_beside}
 use Rattle.message_diff.specs.Marked.{AreMarksOf}
 use Rattle.message_diff.specs.Paths.{part_of}
+use Rattle.message_diff.specs.Shown.{AreBeside}
 use Rattle.message_diff.specs.Listed.{AreApart, AreChained, IsAt, IsBeside, IsFound, IsInside, IsLikely, IsTidy}
 use Rattle.message_diff.specs.Listed.{AddsRows, TakesInside, TakesOne, behind, label_in, leaves_from, leaves_in}
 use Rattle.message_diff.specs.Listed.{mark_at, marks_in, value_at, value_in}
@@ -40,26 +42,28 @@ apart_good by (Forest.tree label text inside rest) good =
     (good.1, apart_good by inside good.3, apart_good by rest good.4)
 
 -- the other text has the same value
-pub left_out : (other : List ℕ) (others : List Mark) (end : ℕ) (label value : List ℕ) (g : Forest) (place : ℕ)
+pub left_out : (few : Bool) (other : List ℕ) (others : List Mark) (end : ℕ) (label value : List ℕ) (g : Forest)
+    (place : ℕ)
     → IsAt other others end label g place → is_text (value_in other (mark_at others place)) value ≡ true
-    → IsBeside other others value (find_tree label g) None
-left_out other others end label value g place at same path inside =
-    ap (one_beside path value inside (beside path inside)) at.found
-    ∙ ap (λ (b : Bool). cond b [] (leaf_or path value inside (beside path inside at.inside))) same
+    → IsBeside few other others value (find_tree label g) None
+left_out few other others end label value g place at same path inside =
+    ap (one_in few path value inside (beside_in few path inside)) at.found
+    ∙ ap (λ (b : Bool). cond b [] (leaf_or path value inside (beside_in few path inside at.inside))) same
 
 -- it has another one
-pub unlike : (other : List ℕ) (others : List Mark) (end : ℕ) (label value : List ℕ) (g : Forest) (place : ℕ)
+pub unlike : (few : Bool) (other : List ℕ) (others : List Mark) (end : ℕ) (label value : List ℕ) (g : Forest)
+    (place : ℕ)
     → AreApart g → IsAt other others end label g place
     → is_text (value_in other (mark_at others place)) value ≡ false
-    → IsBeside other others value (find_tree label g)
+    → IsBeside few other others value (find_tree label g)
     (Some (record { at = place + 1; end = (mark_at others place).next }))
-unlike other others end label value g place apart at differs = (
+unlike few other others end label value g place apart at differs = (
   at.inside,
   apart_inside g label _ at.inside apart at.found,
   subst (λ n. AreMarksOf other n (marks_in others n (mark_at others place).next) at.inside) (sym (add-one place))
       at.in_it,
-  λ path inside. ap (one_beside path value inside (beside path inside)) at.found
-      ∙ ap (λ (b : Bool). cond b [] (leaf_or path value inside (beside path inside at.inside))) differs,
+  λ path inside. ap (one_in few path value inside (beside_in few path inside)) at.found
+      ∙ ap (λ (b : Bool). cond b [] (leaf_or path value inside (beside_in few path inside at.inside))) differs,
 )
 
 -- ** rows as they are kept
@@ -173,7 +177,8 @@ leaf_nest : (path value : List ℕ) (inside : Forest) (rows : List Leaf) → (in
 leaf_nest path value Forest.none rows some = absurd (some refl)
 leaf_nest path value (Forest.tree l t i r) rows some = refl
 
-module _ (text : List ℕ) (ms : List Mark) (at next : ℕ) (other : List ℕ) (others : List Mark) (old : Rows) where
+module _ (few : Bool) (text : List ℕ) (ms : List Mark) (at next : ℕ) (other : List ℕ) (others : List Mark)
+    (old : Rows) where
   abbrev label : List ℕ
   label = label_in text (mark_at ms at)
 
@@ -184,34 +189,35 @@ module _ (text : List ℕ) (ms : List Mark) (at next : ℕ) (other : List ℕ) (
   here = joined old.path.items label
 
   abbrev one : Forest → Forest → List Leaf
-  one inside g = one_beside here value inside (beside here inside) (find_tree label g)
+  one inside g = one_in few here value inside (beside_in few here inside) (find_tree label g)
 
   -- it is left out
-  pub takes_none : (inside g : Forest) → IsTidy old → IsBeside other others value (find_tree label g) None
+  pub takes_none : (inside g : Forest) → IsTidy old → IsBeside few other others value (find_tree label g) None
       → AddsRows text ms old old (one inside g)
   takes_none inside g tidy none =
       subst (λ (more : List Leaf). AddsRows text ms old old more) (sym (none here inside)) (adds_none text ms old tidy)
 
   -- it holds others
   pub takes_nest : (span : Span) (mid new : Rows) (inside g : Forest) → at + 1 < next → IsTidy old
-      → IsInside text ms at next inside → IsBeside other others value (find_tree label g) (Some span)
+      → IsInside text ms at next inside → IsBeside few other others value (find_tree label g) (Some span)
       → mid.paths ≡ old.paths → mid.spots ≡ old.spots → mid.path.items ≡ here
-      → TakesInside text ms (at + 1) next other others span.at span.end mid new
+      → TakesInside few text ms (at + 1) next other others span.at span.end mid new
       → AddsRows text ms old new (one inside g)
   takes_nest span mid new inside g more tidy in_it other_is paths spots path takes =
       let mid_tidy : IsTidy mid = tidy_same old mid paths spots tidy in
       let are : AreMarksOf text (at + 1) (marks_in ms (at + 1) next) inside =
       subst (λ n. AreMarksOf text n (marks_in ms n next) inside) (sym (add-one at)) in_it.are in
-      let rows : one inside g ≡ beside here inside other_is.0 =
-      other_is.3 here inside ∙ leaf_nest here value inside (beside here inside other_is.0) (in_it.nest (omega arith)) in
+      let rows : one inside g ≡ beside_in few here inside other_is.0 =
+      other_is.3 here inside ∙ leaf_nest here value inside (beside_in few here inside other_is.0)
+      (in_it.nest (omega arith)) in
       let taken = takes inside other_is.0 other_is.1 mid_tidy are other_is.2 in
       subst (λ (all : List Leaf). AddsRows text ms old new all)
-      (ap (λ (p : List ℕ). beside p inside other_is.0) path ∙ sym rows)
-      (adds_below text ms old mid new label (beside mid.path.items inside other_is.0) paths spots path taken)
+      (ap (λ (p : List ℕ). beside_in few p inside other_is.0) path ∙ sym rows)
+      (adds_below text ms old mid new label (beside_in few mid.path.items inside other_is.0) paths spots path taken)
 
   -- it holds none
   pub takes_leaf : (span : Span) (mid new : Rows) (inside g : Forest) → next ≤ at + 1 → IsTidy old → at < length ms
-      → IsInside text ms at next inside → IsBeside other others value (find_tree label g) (Some span)
+      → IsInside text ms at next inside → IsBeside few other others value (find_tree label g) (Some span)
       → mid.paths ≡ old.paths → mid.spots ≡ old.spots → mid.path.items ≡ here
       → new.paths.items ≡ mid.paths.items ++ mid.path.items
       → new.spots.items ≡ mid.spots.items ++ record { end = length new.paths.items; mark = at } ∷ []
@@ -219,26 +225,28 @@ module _ (text : List ℕ) (ms : List Mark) (at next : ℕ) (other : List ℕ) (
   takes_leaf span mid new inside g less tidy within in_it other_is paths spots path more one_more same =
       let rows : one inside g ≡ (here, value) ∷ [] =
       other_is.3 here inside
-      ∙ ap (λ (i : Forest). leaf_or here value i (beside here i other_is.0)) (in_it.leaf (omega arith)) in
+      ∙ ap (λ (i : Forest). leaf_or here value i (beside_in few here i other_is.0)) (in_it.leaf (omega arith)) in
       subst (λ (all : List Leaf). AddsRows text ms old new all) (sym rows)
       (adds_leaf text ms old mid new at label tidy within paths spots path more one_more same)
 
 -- ** one after another
 
 -- members were passed up to a place, and the others are left
-pub record Passes (text : List ℕ) (ms : List Mark) (other : List ℕ) (others : List Mark) (at end to likely : ℕ)
+pub record Passes (few : Bool) (text : List ℕ) (ms : List Mark) (other : List ℕ) (others : List Mark)
+    (at end to likely : ℕ)
     (f g : Forest) (first now : Rows) : Type 0 where
   pub left : Forest
   pub are : AreMarksOf text at (marks_in ms at end) left
   pub done : List Leaf
   pub added : AddsRows text ms first now done
-  pub all : beside first.path.items f g ≡ done ++ beside first.path.items left g
+  pub all : beside_in few first.path.items f g ≡ done ++ beside_in few first.path.items left g
   pub is_likely : IsLikely other others to g likely
 
-pub passes_init : (text : List ℕ) (ms : List Mark) (other : List ℕ) (others : List Mark) (at end from to : ℕ)
+pub passes_init : (few : Bool) (text : List ℕ) (ms : List Mark) (other : List ℕ) (others : List Mark)
+    (at end from to : ℕ)
     (f g : Forest) (first : Rows) → IsTidy first → AreMarksOf text at (marks_in ms at end) f
-    → AreMarksOf other from (marks_in others from to) g → Passes text ms other others at end to from f g first first
-passes_init text ms other others at end from to f g first tidy are are_too = record {
+    → AreMarksOf other from (marks_in others from to) g → Passes few text ms other others at end to from f g first first
+passes_init few text ms other others at end from to f g first tidy are are_too = record {
   left = f;
   are = are;
   done = [];
@@ -247,14 +255,15 @@ passes_init text ms other others at end from to f g first tidy are are_too = rec
   is_likely = record { left = g; are = are_too; last = end_self g };
 }
 
-pub passes_end : (text : List ℕ) (ms : List Mark) (other : List ℕ) (others : List Mark) (at end to likely : ℕ)
+pub passes_end : (few : Bool) (text : List ℕ) (ms : List Mark) (other : List ℕ) (others : List Mark)
+    (at end to likely : ℕ)
     (f g : Forest) (first now : Rows) → end ≤ at ⊎ length ms ≤ at
-    → Passes text ms other others at end to likely f g first now
-    → AddsRows text ms first now (beside first.path.items f g)
-passes_end text ms other others at end to likely f g first now over p =
+    → Passes few text ms other others at end to likely f g first now
+    → AddsRows text ms first now (beside_in few first.path.items f g)
+passes_end few text ms other others at end to likely f g first now over p =
     let none = none_left text ms at end p.left over p.are in
     subst (λ (all : List Leaf). AddsRows text ms first now all)
-    (sym (p.all ∙ ap (λ (l : Forest). p.done ++ beside first.path.items l g) none ∙ append-nil p.done)) p.added
+    (sym (p.all ∙ ap (λ (l : Forest). p.done ++ beside_in few first.path.items l g) none ∙ append-nil p.done)) p.added
 
 -- what is inside the next one
 inside_is : (text : List ℕ) (ms : List Mark) (at end next : ℕ) (f : Forest) → next ≡ (mark_at ms at).next
@@ -284,14 +293,15 @@ adds_join text ms first now mid new done more paths spots path h k = record {
 }
 
 -- the next one, in the place of the path to it
-pub passes_next : (text : List ℕ) (ms : List Mark) (other : List ℕ) (others : List Mark) (at end to likely next : ℕ)
+pub passes_next : (few : Bool) (text : List ℕ) (ms : List Mark) (other : List ℕ) (others : List Mark)
+    (at end to likely next : ℕ)
     (found : Option ℕ) (f g : Forest) (first now mid new : Rows) → at < end → at < length ms → AreApart g
     → IsNext ms at end next → IsFound other others to (label_in text (mark_at ms at)) g found
     → mid.paths ≡ now.paths → mid.spots ≡ now.spots → mid.path.items ≡ take (length first.path.items) now.path.items
-    → TakesOne text ms at next other others found mid new
-    → Passes text ms other others at end to likely f g first now
-    → Passes text ms other others next end to (behind others likely found) f g first new
-passes_next text ms other others at end to likely next found f g first now mid new h k apart is_next is_found paths
+    → TakesOne few text ms at next other others found mid new
+    → Passes few text ms other others at end to likely f g first now
+    → Passes few text ms other others next end to (behind others likely found) f g first new
+passes_next few text ms other others at end to likely next found f g first now mid new h k apart is_next is_found paths
     spots path takes p =
     let m = first_of text ms at end p.left h k p.are in
     let next_is : next ≡ (mark_at ms at).next = is_next m.after m.within in
@@ -301,7 +311,7 @@ passes_next text ms other others at end to likely next found f g first now mid n
     let label : List ℕ = label_in text (mark_at ms at) in
     let value : List ℕ = value_in text (mark_at ms at) in
     let row = λ (q : List ℕ).
-    one_beside (joined q label) value m.inside (beside (joined q label) m.inside) (find_tree label g) in
+    one_in few (joined q label) value m.inside (beside_in few (joined q label) m.inside) (find_tree label g) in
     let own : List Leaf = row first.path.items in
     let added = adds_join text ms first now mid new p.done (row mid.path.items) paths spots same p.added taken in
     record {
@@ -309,7 +319,56 @@ passes_next text ms other others at end to likely next found f g first now mid n
       are = subst (λ n. AreMarksOf text n (marks_in ms n end) m.rest) (sym next_is) m.behind;
       done = p.done ++ own;
       added = subst (λ (q : List ℕ). AddsRows text ms first new (p.done ++ row q)) same added;
-      all = p.all ∙ ap (λ (l : Forest). p.done ++ beside first.path.items l g) m.is
-          ∙ sym (append_assoc p.done own (beside first.path.items m.rest g));
+      all = p.all ∙ ap (λ (l : Forest). p.done ++ beside_in few first.path.items l g) m.is
+          ∙ sym (append_assoc p.done own (beside_in few first.path.items m.rest g));
       is_likely = likely_next other others to label g likely found is_found p.is_likely;
     }
+
+-- ** of whole messages
+
+whole_one : (path text : List ℕ) (inside : Forest) (rows others : Forest → List Leaf)
+    (found : Option (List ℕ × Forest)) → ((g : Forest) → rows g ≡ others g)
+    → one_in false path text inside rows found ≡ one_beside path text inside others found
+whole_one path text inside rows others None same = ap (leaf_or path text inside) (same Forest.none)
+whole_one path text inside rows others (Some found) same =
+    ap (λ ls. cond (is_text found.0 text) [] (leaf_or path text inside ls)) (same found.1)
+
+pub beside_whole : (f : Forest) (path : List ℕ) (g : Forest) → beside_in false path f g ≡ beside path f g
+beside_whole Forest.none path g = refl
+beside_whole (Forest.tree label text inside rest) path g =
+    let own = whole_one (joined path label) text inside (beside_in false (joined path label) inside)
+    (beside (joined path label) inside) (find_tree label g) (beside_whole inside (joined path label)) in
+    λ i. own i ++ beside_whole rest path g i
+
+pub beside_pages : (a b : List ℕ) (ms ns : List Mark) (own others : MarkedText) (rows : Rows) → a ≡ own.text
+    → ms ≡ own.marks → b ≡ others.text → ns ≡ others.marks
+    → ((f : Forest) → (g : Forest) → AreApart g → AreMarksOf a 0 ms f → AreMarksOf b 0 ns g
+    → leaves_in a ms rows ≡ beside_in false [] f g)
+    → AreBeside own others rows
+beside_pages a b ms ns own others rows text marks text_too marks_too are f g apart h k =
+    let its : AreMarksOf a 0 ms f =
+    subst (λ (t : List ℕ). AreMarksOf t 0 ms f) (sym text)
+    (subst (λ (m : List Mark). AreMarksOf own.text 0 m f) (sym marks) h) in
+    let their : AreMarksOf b 0 ns g =
+    subst (λ (t : List ℕ). AreMarksOf t 0 ns g) (sym text_too)
+    (subst (λ (m : List Mark). AreMarksOf others.text 0 m g) (sym marks_too) k) in
+    (λ i. leaves_in (sym text i) (sym marks i) rows) ∙ are f g apart its their ∙ beside_whole f [] g
+
+-- ** where the others lack one
+
+pub lacks_part : (few : Bool) (other : List ℕ) (others : List Mark) (value : List ℕ)
+    (found : Option (List ℕ × Forest)) → found ≡ None → few ≡ true → IsBeside few other others value found None
+lacks_part few other others value found none is path inside =
+    ap (one_in few path value inside (beside_in few path inside)) none
+    ∙ ap (λ (b : Bool). cond b [] (leaf_or path value inside (beside_in few path inside Forest.none))) is
+
+pub lacks_whole : (few : Bool) (other : List ℕ) (others : List Mark) (value : List ℕ)
+    (found : Option (List ℕ × Forest)) → found ≡ None → few ≡ false
+    → IsBeside few other others value found (Some (record { at = 0; end = 0 }))
+lacks_whole few other others value found none is = (
+  Forest.none,
+  tt,
+  refl,
+  λ path inside. ap (one_in few path value inside (beside_in few path inside)) none
+      ∙ ap (λ (b : Bool). cond b [] (leaf_or path value inside (beside_in few path inside Forest.none))) is,
+)

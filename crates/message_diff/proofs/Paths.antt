@@ -1,9 +1,16 @@
 -- The paths of rows at their places.
-use Rattle.std.proofs.Common.{◌≡◌, ◌<◌, ℕ, List, length, ◌∙◌, arith}
-use Rattle.std.specs.List.{Contains}
+use Rattle.std.proofs.Common.{◌≡◌, ◌<◌, ◌+◌, ◌-◌, ℕ, zero, suc, List, [], ◌∷◌, length, refl, sym, ap, ◌∙◌, arith, map}
+use Rattle.std.proofs.Common.{false}
+use Rattle.std.specs.Prelude.{◌==◌, cond}
+use Rattle.std.specs.List.{Contains, range_with_len}
+use Rattle.std.proofs.lemmas.Bool.Decides.{nat_tests}
 use Rattle.std.proofs.lemmas.List.FromFn.{get_or-map-range_with_len, length-map-range_with_len}
+use Rattle.shown.specs.declared.marks.Mark.{Mark}
 use Rattle.message_diff.specs.declared.rows.Rows.{Rows}
-use Rattle.message_diff.specs.Paths.{path_in, paths_in}
+use Rattle.message_diff.specs.declared.rows.Spot.{Spot}
+use Rattle.message_diff.specs.Counted.{paths_of}
+use Rattle.message_diff.specs.Listed.{leaves_from, leaves_in}
+use Rattle.message_diff.specs.Paths.{end_in, part_of, path_in, paths_in, start_in}
 
 -- the path at a place is one of them
 pub has_path : (rows : Rows) (k : ℕ) (path : List ℕ) → k < length rows.spots.items
@@ -15,3 +22,41 @@ has_path rows k path within is =
       omega (arith, within, length-map-range_with_len text 0 many),
       get_or-map-range_with_len text 0 many k k path within (omega arith) ∙ is,
     )
+
+-- ** the same beside their values
+
+abbrev start_from : ℕ → List Spot → ℕ → ℕ
+start_from start spots zero = start
+start_from start spots (suc k) = end_in spots k
+
+start_is : (spots : List Spot) (k : ℕ) → start_in spots k ≡ start_from 0 spots k
+start_is spots zero = refl
+start_is spots (suc k) =
+    let other : (suc k == 0) ≡ false = grind (arith, nat_tests) in
+    let before : suc k - 1 ≡ k = omega arith in
+    λ i. cond (other i) 0 (end_in spots (before i))
+
+next_start : (s : Spot) (ss : List Spot) (k : ℕ) → end_in (s ∷ ss) k ≡ start_from s.end ss k
+next_start s ss zero = refl
+next_start s ss (suc k) = refl
+
+paths_from : (paths text : List ℕ) (ms : List Mark) (f : ℕ → List ℕ) (ss : List Spot) (start at : ℕ)
+    → ((k : ℕ) → k < length ss → f (at + k) ≡ part_of paths (start_from start ss k) (end_in ss k))
+    → paths_of (leaves_from paths text ms start ss) ≡ map f (range_with_len at (length ss))
+paths_from paths text ms f [] start at is = refl
+paths_from paths text ms f (s ∷ ss) start at is =
+    let here : at ≡ at + 0 = omega arith in
+    let first : f at ≡ part_of paths start s.end = ap f here ∙ is 0 (omega arith) in
+    let later = paths_from paths text ms f ss s.end (at + 1) (λ k h.
+    let next : at + 1 + k ≡ at + suc k = omega arith in
+    ap f next ∙ is (suc k) (omega (arith, h))
+    ∙ ap (λ from. part_of paths from (end_in ss k)) (next_start s ss k)) in
+    λ i. sym first i ∷ later i
+
+pub paths_are : (text : List ℕ) (ms : List Mark) (rows : Rows) → paths_of (leaves_in text ms rows) ≡ paths_in rows
+paths_are text ms rows =
+    let paths = rows.paths.items in
+    let ss = rows.spots.items in
+    paths_from paths text ms (path_in paths ss) ss 0 0 (λ k h.
+    let here : 0 + k ≡ k = omega arith in
+    ap (path_in paths ss) here ∙ ap (λ from. part_of paths from (end_in ss k)) (start_is ss k))

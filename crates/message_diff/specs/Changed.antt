@@ -11,8 +11,9 @@ use Rattle.message_shown.specs.declared.context.Order.{Order}
 use Rattle.message_diff.specs.declared.desk.Pair.{Pair}
 use Rattle.message_diff.specs.declared.snapshot.Compared.{Compared}
 use Rattle.message_diff.specs.Compared.{HasTextBy}
+use Rattle.message_diff.specs.Counted.{IsWithoutCounters}
 use Rattle.message_diff.specs.Shown.{AreCompared, leaves_of}
-use Rattle.message_diff.specs.Differences.{Diff, AreDiffs, AreSomeLeft}
+use Rattle.message_diff.specs.Differences.{Diff, AreDiffs}
 
 -- a value that stands in a line as it is given, as the text of a number does
 abbrev pub given : List ℕ → List ℕ → List ℕ × List Token
@@ -92,8 +93,8 @@ diff_text is_next d = print_from is_next (object_of (diff_members d))
 
 -- ** what is added
 
--- what is told between two encodings, by what is shown of the two beside each other: of the changes between their rows
--- some are left out, or one of their two values, where their paths are counters of the old message, or of the new one
+-- what is told between two encodings, by what is shown of the two beside each other: the changes between their rows
+-- without the values at counters
 pub record AreTold (old new : List ℕ) (told : List Diff) : Type 0 where
   pub orders : Order × Order
   pub pair : Pair
@@ -101,7 +102,7 @@ pub record AreTold (old new : List ℕ) (told : List Diff) : Type 0 where
   pub found : List Diff
   pub left : List Diff
   pub differ : AreDiffs (leaves_of pair.old) (leaves_of pair.new) found
-  pub are_left : AreSomeLeft found left
+  pub are_left : IsWithoutCounters pair found left
   pub all : told ≡ told_diffs old new left
 
 -- the line that tells them

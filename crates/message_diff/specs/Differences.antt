@@ -120,10 +120,6 @@ AreLeft olds news (d ∷ ds) left =
     (first : List Diff) × (rest : List Diff) × IsLeft olds news d first × AreLeft olds news ds rest
     × (left ≡ first ++ rest)
 
--- by some paths
-abbrev pub AreSomeLeft : List Diff → List Diff → Type 0
-AreSomeLeft found left = (olds : List (List ℕ)) × (news : List (List ℕ)) × AreLeft olds news found left
-
 -- ** rows and changes
 
 abbrev pub leaf_of : Row → Leaf

@@ -5,6 +5,7 @@ pub mod Differences
 pub mod Paths
 pub mod Known
 pub mod Parts
+pub mod Unlike
 pub mod Said
 pub mod Alone
 pub mod Named
@@ -14,6 +15,7 @@ pub mod Trees
 pub mod Marked
 pub mod Listed
 pub mod Shown
+pub mod Counted
 pub mod Changed
 pub mod Held
 pub mod Watched

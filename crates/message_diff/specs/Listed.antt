@@ -1,13 +1,13 @@
 -- Members by their marks, and rows as they are kept.
 use Rattle.std.specs.Prelude.{◌≡◌, ◌≢◌, ◌⊎◌, ◌-◌, ◌<◌, ◌≤◌, ℕ, suc, List, [], ◌∷◌, ◌++◌, Option, None, Some}
-use Rattle.std.specs.Prelude.{length, take, drop, decimal, slice_index_or, slice_get}
+use Rattle.std.specs.Prelude.{Bool, length, take, drop, decimal, slice_index_or, slice_get}
 use Rattle.shown.specs.declared.marks.Mark.{Mark}
 use Rattle.message_diff.specs.declared.rows.Rows.{Rows}
 use Rattle.message_diff.specs.declared.rows.Spot.{Spot}
 use Rattle.message_diff.specs.declared.rows.Span.{Span}
 use Rattle.message_diff.specs.Differences.{Leaf}
 use Rattle.message_diff.specs.Paths.{part_of}
-use Rattle.message_diff.specs.Trees.{Forest, beside, find_tree, joined, label_of, leaf_or, one_beside}
+use Rattle.message_diff.specs.Trees.{Forest, beside_in, find_tree, joined, label_of, leaf_or, one_in}
 use Rattle.message_diff.specs.Marked.{AreMarksOf}
 
 -- ** members
@@ -82,13 +82,14 @@ behind marks other (Some place) = (mark_at marks place).next
 
 -- the members beside those inside one with this value, by what the other text has with its label: nothing where the
 -- value is the same there
-abbrev pub IsBeside : List ℕ → List Mark → List ℕ → Option (List ℕ × Forest) → Option Span → Type 0
-IsBeside other others value found None =
-    (path : List ℕ) → (inside : Forest) → one_beside path value inside (beside path inside) found ≡ []
-IsBeside other others value found (Some span) =
+abbrev pub IsBeside : Bool → List ℕ → List Mark → List ℕ → Option (List ℕ × Forest) → Option Span → Type 0
+IsBeside few other others value found None =
+    (path : List ℕ) → (inside : Forest) → one_in few path value inside (beside_in few path inside) found ≡ []
+IsBeside few other others value found (Some span) =
     (there : Forest) × AreApart there × AreMarksOf other span.at (marks_in others span.at span.end) there
     × ((path : List ℕ) → (inside : Forest)
-    → one_beside path value inside (beside path inside) found ≡ leaf_or path value inside (beside path inside there))
+    → one_in few path value inside (beside_in few path inside) found
+    ≡ leaf_or path value inside (beside_in few path inside there))
 
 -- ** rows: their paths stand one behind the other
 
@@ -115,10 +116,10 @@ pub record AddsRows (text : List ℕ) (marks : List Mark) (old new : Rows) (more
   pub path : take (length old.path.items) new.path.items ≡ old.path.items
 
 -- those of some members beside others
-abbrev pub TakesInside : List ℕ → List Mark → ℕ → ℕ → List ℕ → List Mark → ℕ → ℕ → Rows → Rows → Type 0
-TakesInside text marks at end other others from to old new =
+abbrev pub TakesInside : Bool → List ℕ → List Mark → ℕ → ℕ → List ℕ → List Mark → ℕ → ℕ → Rows → Rows → Type 0
+TakesInside few text marks at end other others from to old new =
     (f : Forest) → (g : Forest) → AreApart g → IsTidy old → AreMarksOf text at (marks_in marks at end) f
-    → AreMarksOf other from (marks_in others from to) g → AddsRows text marks old new (beside old.path.items f g)
+    → AreMarksOf other from (marks_in others from to) g → AddsRows text marks old new (beside_in few old.path.items f g)
 
 -- what is inside the member at a place, behind which the next one is there
 pub record IsInside (text : List ℕ) (marks : List Mark) (at next : ℕ) (inside : Forest) : Type 0 where
@@ -127,11 +128,11 @@ pub record IsInside (text : List ℕ) (marks : List Mark) (at next : ℕ) (insid
   pub nest : suc at < next → inside ≢ Forest.none
 
 -- those of one member, beside the one that has its label
-abbrev pub TakesOne : List ℕ → List Mark → ℕ → ℕ → List ℕ → List Mark → Option ℕ → Rows → Rows → Type 0
-TakesOne text marks at next other others found old new =
+abbrev pub TakesOne : Bool → List ℕ → List Mark → ℕ → ℕ → List ℕ → List Mark → Option ℕ → Rows → Rows → Type 0
+TakesOne few text marks at next other others found old new =
     (inside : Forest) → (g : Forest) → (end : ℕ) → AreApart g → IsTidy old → IsInside text marks at next inside
     → IsFound other others end (label_in text (mark_at marks at)) g found
     → AddsRows text marks old new
-    (one_beside (joined old.path.items (label_in text (mark_at marks at))) (value_in text (mark_at marks at)) inside
-    (beside (joined old.path.items (label_in text (mark_at marks at))) inside)
+    (one_in few (joined old.path.items (label_in text (mark_at marks at))) (value_in text (mark_at marks at)) inside
+    (beside_in few (joined old.path.items (label_in text (mark_at marks at))) inside)
     (find_tree (label_in text (mark_at marks at)) g))

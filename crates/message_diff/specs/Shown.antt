@@ -16,7 +16,7 @@ use Rattle.message_diff.specs.Differences.{Leaf}
 use Rattle.message_diff.specs.Listed.{AreApart, leaves_in}
 use Rattle.message_diff.specs.Marked.{AreMarksOf}
 use Rattle.message_diff.specs.Parts.{have_parts, part_if}
-use Rattle.message_diff.specs.Trees.{Forest, beside}
+use Rattle.message_diff.specs.Trees.{Forest, beside, beside_in}
 
 -- nothing of a message is known yet but the order of its counters
 pub record IsBefore (order : Order) (cx : Context) : Type 0 where
@@ -39,6 +39,12 @@ abbrev pub AreBeside : MarkedText → MarkedText → Rows → Type 0
 AreBeside own others rows =
     (f : Forest) → (g : Forest) → AreApart g → AreMarksOf own.text 0 own.marks f
     → AreMarksOf others.text 0 others.marks g → leaves_in own.text own.marks rows ≡ beside [] f g
+
+-- the same, of a part where it is one
+abbrev pub AreBesideIn : Bool → MarkedText → MarkedText → Rows → Type 0
+AreBesideIn is_part own others rows =
+    (f : Forest) → (g : Forest) → AreApart g → AreMarksOf own.text 0 own.marks f
+    → AreMarksOf others.text 0 others.marks g → leaves_in own.text own.marks rows ≡ beside_in is_part [] f g
 
 -- ** two messages beside each other
 

@@ -93,6 +93,19 @@ beside path (Forest.tree label text inside rest) others =
     one_beside (joined path label) text inside (beside (joined path label) inside) (find_tree label others)
     ++ beside path rest others
 
+-- the same, and of a part nothing of a member that the others lack
+abbrev pub one_in : Bool → List ℕ → List ℕ → Forest → (Forest → List Leaf) → Option (List ℕ × Forest) → List Leaf
+one_in is_part path text inside rows None = cond is_part [] (leaf_or path text inside (rows Forest.none))
+one_in is_part path text inside rows (Some other) =
+    cond (is_text other.0 text) [] (leaf_or path text inside (rows other.1))
+
+abbrev pub beside_in : Bool → List ℕ → Forest → Forest → List Leaf
+beside_in is_part path Forest.none others = []
+beside_in is_part path (Forest.tree label text inside rest) others =
+    one_in is_part (joined path label) text inside (beside_in is_part (joined path label) inside)
+    (find_tree label others)
+    ++ beside_in is_part path rest others
+
 -- whether a path stands there with a value
 abbrev pub has_leaf : List Leaf → Leaf → Bool
 has_leaf ls l = list_any (λ m. is_text m.0 l.0 && is_text m.1 l.1) ls

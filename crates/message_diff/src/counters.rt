@@ -1,13 +1,15 @@
 //! What of the changes is of what the state encodings of the messages have at zero.
 
-ghost use Rattle.std.specs.Prelude.{◌≡◌, IfOk, true};
+ghost use Rattle.std.specs.Prelude.{◌≡◌, IfOk, OnOk, true};
 ghost use Rattle.std.specs.List.{Contains};
 ghost use Rattle.message_diff.specs.Differences.{left_of, diff_of, diff_in, diffs_of, AreLeft};
 ghost use Rattle.message_diff.specs.Paths.{paths_in};
+ghost use Rattle.message_diff.specs.Counted.{filled_by, filled_message, IsFilled, AreCounterPaths, AreCounters};
 
 use crate::desk::Pair;
 use crate::differences::Change;
 use crate::half::Half;
+use crate::parts::Part;
 use crate::rows::Rows;
 use link_msg::header::HEADER_SIZE;
 use link_state::{Level, fill};
@@ -90,26 +92,60 @@ pub struct Counters {
     new: Half,
 }
 
-/// Takes the rows of a message that its state encoding has at zero.
+/// Writes `FILLED` over all that the state encoding clears in the list of a message.
+fn fill_list(message: &mut [u8], level: Level)
+    ensures { message.new ≡ filled_by level message.old }
+{
+    let start = HEADER_SIZE.min(message.len());
+    fill::<FILLED>(&mut message[start..], level);
+}
+
+/// Takes a message with `FILLED` in the place of what its state encoding has at zero.
+fn fill_message(text: &[u8], filled: &mut Vec<u8>) -> Result<(), AllocError>
+    ensures { OnOk result (filled.new.items ≡ filled_message text.now) }
+{
+    let family = text.first().copied().unwrap_or(0);
+    let level = Level::Message(AddressFamily::from(family));
+    filled.clear();
+    filled.extend_from_slice(text)?;
+    fill_list(filled.as_mut_slice(), level);
+    Ok(())
+}
+
+/// Takes what is shown of a message that is filled: all of it, or of a part what is not the same in both. Returns
+/// whether anything is not.
+fn take_text(part: &mut Part, is_part: bool, filled: &[u8], text: &[u8]) -> Result<bool, AllocError>
+    ensures { filled.now ≡ filled_message text.now → IfOk result
+        (λ is_any. is_any ≡ true → IsFilled is_part text.now part.new.text.items) }
+{
+    if !part.take_filled(filled, text)? {
+        return Ok(false);
+    }
+    if !is_part {
+        part.take(filled)?;
+    }
+    Ok(true)
+}
+
+/// Takes the rows of a message that its state encoding has at zero, where a change may be of one.
 fn take_counters(
     alloc: Global,
+    may_be: bool,
     of: &Half,
     is_part: bool,
     filled: &mut Vec<u8>,
     counters: &mut Half,
-) -> Result<(), AllocError> {
-    let text = of.part.text();
-    let family = text.first().copied().unwrap_or(0);
-    let start = HEADER_SIZE.min(text.len());
-    filled.clear();
-    filled.extend_from_slice(text)?;
-    let level = Level::Message(AddressFamily::from(family));
-    fill::<FILLED>(&mut filled.as_mut_slice()[start..], level);
-    if !counters.part.take_filled(filled.as_slice(), text)? {
+) -> Result<(), AllocError>
+    ensures { OnOk result (AreCounterPaths is_part of.now (paths_in counters.new.rows)) }
+{
+    counters.rows.clear();
+    if !may_be {
         return Ok(());
     }
-    if !is_part {
-        counters.part.take(filled.as_slice())?;
+    let text = of.part.text();
+    fill_message(text, filled)?;
+    if !take_text(&mut counters.part, is_part, filled.as_slice(), text)? {
+        return Ok(());
     }
     counters.show(alloc, of.order)?;
     counters.take_rows_of(of, is_part)
@@ -132,17 +168,27 @@ impl Counters {
         pair: &Pair,
         changes: &[Change<'_>],
         may_differ: bool,
-    ) -> Result<(), AllocError> {
-        let filled = &mut self.filled;
-        self.old.rows.clear();
-        self.new.rows.clear();
-        if changes.iter().any(|it| doubt_of(it, may_differ).0) {
-            take_counters(alloc, &pair.old, pair.is_part, filled, &mut self.old)?;
-        }
-        if changes.iter().any(|it| doubt_of(it, may_differ).1) {
-            take_counters(alloc, &pair.new, pair.is_part, filled, &mut self.new)?;
-        }
-        Ok(())
+    ) -> Result<(), AllocError>
+        ensures { OnOk result (AreCounters pair.now self.exit.now) }
+    {
+        let by_old = changes.iter().any(|it| doubt_of(it, may_differ).0);
+        let by_new = changes.iter().any(|it| doubt_of(it, may_differ).1);
+        take_counters(
+            alloc,
+            by_old,
+            &pair.old,
+            pair.is_part,
+            &mut self.filled,
+            &mut self.old,
+        )?;
+        take_counters(
+            alloc,
+            by_new,
+            &pair.new,
+            pair.is_part,
+            &mut self.filled,
+            &mut self.new,
+        )
     }
 
     /// The changes from the old message to the new one without what their state encodings have at zero.
@@ -152,7 +198,8 @@ impl Counters {
         pair: &Pair,
         changes: Vec<Change<'a>>,
     ) -> Result<Vec<Change<'a>>, AllocError>
-        ensures { IfOk result (λ left. AreLeft (paths_in self.exit.now.old.rows)
+        ensures counters { OnOk result (AreCounters pair.now self.exit.now) }
+        ensures left { IfOk result (λ left. AreLeft (paths_in self.exit.now.old.rows)
             (paths_in self.exit.now.new.rows) (diffs_of changes.entry.items)
             (diffs_of left.items)) }
     {

@@ -1,8 +1,8 @@
 //! What is shown of a message that is compared.
 
-ghost use Rattle.std.specs.Prelude.{◌≡◌, IfOk, OnOk, false};
+ghost use Rattle.std.specs.Prelude.{◌≡◌, IfOk, OnOk};
 ghost use Rattle.message_diff.specs.Differences.{leaves};
-ghost use Rattle.message_diff.specs.Shown.{IsShown, AreBeside, leaves_of};
+ghost use Rattle.message_diff.specs.Shown.{IsShown, AreBeside, AreBesideIn, leaves_of};
 
 use crate::members::Members;
 use crate::parts::Part;
@@ -76,7 +76,7 @@ impl Half {
     /// Takes the rows of the other one that this one does not have; of a part, those whose path it has.
     pub fn take_rows_of(&mut self, other: &Half, is_part: bool) -> Result<(), AllocError>
         ensures rows { OnOk result
-            (is_part ≡ false → AreBeside other.now.page self.old.page self.new.rows) }
+            (AreBesideIn is_part other.now.page self.old.page self.new.rows) }
         ensures page { self.new.page ≡ self.old.page }
         ensures part { self.new.part ≡ self.old.part }
         ensures order { self.new.order ≡ self.old.order }

@@ -2,7 +2,8 @@
 
 ghost use Rattle.std.specs.Prelude.{◌≡◌, ◌<◌, ◌++◌, IsTrue, IfOk, IfErr, OnOk, false, length};
 ghost use Rattle.message_diff.specs.Compared.{TellsIfDiffers, IsRefusalOfTwoBy};
-ghost use Rattle.message_diff.specs.Differences.{diffs_of, AreSomeLeft};
+ghost use Rattle.message_diff.specs.Differences.{diffs_of};
+ghost use Rattle.message_diff.specs.Counted.{IsLeftBy};
 ghost use Rattle.message_diff.specs.Shown.{AreCompared};
 ghost use Rattle.message_shown.specs.declared.context.Order.{Order};
 ghost use Rattle.message_diff.specs.Changed.{told_diffs, list_text, AddsList, AddsListBy};
@@ -38,8 +39,8 @@ fn leave_out<'a>(
     counters: &mut Counters,
     changes: Vec<Change<'a>>,
 ) -> Result<Vec<Change<'a>>, AllocError>
-    ensures { IfOk result (λ left. AreSomeLeft (diffs_of changes.entry.items)
-        (diffs_of left.items)) }
+    ensures { IfOk result (λ left. IsLeftBy by pair.now counters.exit.now
+        (diffs_of changes.entry.items) (diffs_of left.items)) }
 {
     match by {
         Compared::State | Compared::LenientState => counters.leave_out(alloc, pair, changes),

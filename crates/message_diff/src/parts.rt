@@ -1,11 +1,12 @@
 //! The attributes of two messages that are not the same in both.
 
-ghost use Rattle.std.specs.Prelude.{◌≡◌, ◌<◌, ◌%◌, ◌++◌, ℕ, List, [], IfOk, OnOk, true, length, take};
+ghost use Rattle.std.specs.Prelude.{◌≡◌, ◌<◌, ◌≤◌, ◌+◌, ◌%◌, ◌++◌, ℕ, List, [], IfOk, OnOk, true, length, take, drop};
 ghost use Rattle.std.specs.List.{concat, filter};
 ghost use Rattle.message_diff.specs.Frames.{frame_number, frames_of};
 ghost use Rattle.message_diff.specs.Known.{is_text};
 ghost use Rattle.message_diff.specs.Parts.{is_kept, kept_in, named_in, are_single, stays, is_taken, part, are_alike};
 ghost use Rattle.message_diff.specs.Parts.{have_parts, part_if, AreEmpty, AreAtPlaces};
+ghost use Rattle.message_diff.specs.Unlike.{payload_in, with_len, AddsUnlike, IsPartOf};
 
 use crate::frames::{Frames, number_of};
 use link_afspec::numbers::AF_INET6;
@@ -76,7 +77,9 @@ fn are_same(one: &[u8], other: &[u8]) -> bool
 const OPENED: [u16; 2] = [IFLA_AF_SPEC, AF_INET6];
 
 /// The payload of a frame.
-fn payload_of(frame: &[u8]) -> &[u8] {
+fn payload_of(frame: &[u8]) -> &[u8]
+    ensures { result.now ≡ payload_in frame.now }
+{
     frame
         .get(NLA_HEADER_SIZE..u16_at(frame, 0) as usize)
         .unwrap_or(b"")
@@ -102,16 +105,19 @@ fn add_unlike(
     other: &[u8],
     opened: &[u16],
     part: &mut Vec<u8>,
-) -> Result<(), AllocError> {
+) -> Result<(), AllocError>
+    ensures { OnOk result
+        (AddsUnlike opened.now frame.now other.now part.old.items part.new.items) }
+{
     let (list, others) = (payload_of(frame), payload_of(other));
     let [first, inner @ ..] = opened else {
         return part.extend_from_slice(frame);
     };
-    if number_of(frame) != *first || !is_single(list) {
+    if number_of(frame) != *first || !is_single(list) || frame.len() < NLA_HEADER_SIZE {
         return part.extend_from_slice(frame);
     }
     let start = part.len();
-    part.extend_from_slice(frame.get(..NLA_HEADER_SIZE).unwrap_or(b""))?;
+    part.extend_from_slice(&frame[..NLA_HEADER_SIZE])?;
     for (one, two) in Frames::new(list).zip(Frames::new(others)) {
         if one != two {
             add_unlike(one, two, inner, part)?;
@@ -122,7 +128,10 @@ fn add_unlike(
 }
 
 /// Puts its length in front of the frame that begins there and is the last, which is less than 2^16.
-fn put_len(part: &mut [u8], start: usize) {
+fn put_len(part: &mut [u8], start: usize)
+    ensures { start + 4 ≤ length part.old
+        → part.new ≡ take start part.old ++ with_len (drop start part.old) }
+{
     let len = part.len().saturating_sub(start);
     if len >= NLA_HEADER_SIZE {
         part[start] = (len % 256) as u8;
@@ -195,7 +204,9 @@ impl Part {
 
     /// Takes, of a message with other bytes in the place of some of this one's, the attributes that have them, with the
     /// header and the address. Returns whether there are any.
-    pub fn take_filled(&mut self, filled: &[u8], message: &[u8]) -> Result<bool, AllocError> {
+    pub fn take_filled(&mut self, filled: &[u8], message: &[u8]) -> Result<bool, AllocError>
+        ensures { OnOk result (IsPartOf filled.now message.now self.new.text.items) }
+    {
         self.take(&message[..HEADER_SIZE.min(message.len())])?;
         let mut is_any = false;
         for (frame, other) in Frames::of(filled).zip(Frames::of(message)) {

@@ -1,11 +1,11 @@
 //! The members that two texts do not have in common, one below the other.
 
-ghost use Rattle.std.specs.Prelude.{◌≡◌, ◌++◌, ◌∷◌, ◌<◌, ℕ, [], length, IfOk, IfSome, OnOk, true, false};
+ghost use Rattle.std.specs.Prelude.{◌≡◌, ◌++◌, ◌∷◌, ◌<◌, ℕ, [], length, IfOk, IfSome, OnOk, true};
 ghost use Rattle.std.specs.List.{Contains};
 ghost use Rattle.message_diff.specs.Differences.{leaves};
 ghost use Rattle.message_diff.specs.Paths.{start_in, path_in, paths_in};
 ghost use Rattle.message_diff.specs.Known.{is_text};
-ghost use Rattle.message_diff.specs.Trees.{Forest, find_tree, joined, beside};
+ghost use Rattle.message_diff.specs.Trees.{Forest, find_tree, joined, beside_in};
 ghost use Rattle.message_diff.specs.Marked.{AreMarksOf};
 ghost use Rattle.message_diff.specs.Listed.{value_in, label_in, leaves_in, mark_at, marks_in};
 ghost use Rattle.message_diff.specs.Listed.{AreApart, IsAt, IsBeside, IsFound, IsLikely, TakesInside, TakesOne};
@@ -99,10 +99,10 @@ impl Both<'_> {
     fn beside(self, at: usize, found: Option<usize>) -> Option<Span>
         requires within { at < length self.own.marks.now }
         requires found { IfSome found (λ place. place < length self.others.marks.now) }
-        ensures { self.entry.is_part ≡ false → (g : Forest) → (end : ℕ) → AreApart g
+        ensures { (g : Forest) → (end : ℕ) → AreApart g
             → IsFound self.entry.others.text.now self.entry.others.marks.now end
             (label_in self.entry.own.text.now (mark_at self.entry.own.marks.now at)) g found
-            → IsBeside self.entry.others.text.now self.entry.others.marks.now
+            → IsBeside self.entry.is_part self.entry.others.text.now self.entry.others.marks.now
             (value_in self.entry.own.text.now (mark_at self.entry.own.marks.now at))
             (find_tree (label_in self.entry.own.text.now (mark_at self.entry.own.marks.now at)) g)
             result }
@@ -121,7 +121,7 @@ impl Both<'_> {
         ensures { (g : Forest) → (end : ℕ) → AreApart g
             → IsAt self.entry.others.text.now self.entry.others.marks.now end
             (label_in self.entry.own.text.now (mark_at self.entry.own.marks.now at)) g place
-            → IsBeside self.entry.others.text.now self.entry.others.marks.now
+            → IsBeside self.entry.is_part self.entry.others.text.now self.entry.others.marks.now
             (value_in self.entry.own.text.now (mark_at self.entry.own.marks.now at))
             (find_tree (label_in self.entry.own.text.now (mark_at self.entry.own.marks.now at)) g)
             result }
@@ -271,8 +271,8 @@ impl Rows {
     ) -> Result<(), AllocError>
         requires within { at < length both.own.marks.now }
         requires found { IfSome found (λ place. place < length both.others.marks.now) }
-        ensures { OnOk result (both.entry.is_part ≡ false
-            → TakesOne both.entry.own.text.now both.entry.own.marks.now at next
+        ensures { OnOk result
+            (TakesOne both.entry.is_part both.entry.own.text.now both.entry.own.marks.now at next
             both.entry.others.text.now both.entry.others.marks.now found self.old self.new) }
     {
         let Some(beside) = both.beside(at, found) else {
@@ -292,8 +292,8 @@ impl Rows {
     /// Adds the rows of these members beside those of the other text.
     #[cycle(rows)]
     fn take_span(&mut self, both: Both<'_>, own: Span, others: Span) -> Result<(), AllocError>
-        ensures { OnOk result (both.entry.is_part ≡ false
-            → TakesInside both.entry.own.text.now both.entry.own.marks.now own.at own.end
+        ensures { OnOk result
+            (TakesInside both.entry.is_part both.entry.own.text.now both.entry.own.marks.now own.at own.end
             both.entry.others.text.now both.entry.others.marks.now others.at others.end
             self.old self.new) }
     {
@@ -319,10 +319,11 @@ impl Rows {
         others: Members<'_>,
         is_part: bool,
     ) -> Result<(), AllocError>
-        ensures { OnOk result ((f : Forest) → (g : Forest) → is_part ≡ false → AreApart g
+        ensures { OnOk result ((f : Forest) → (g : Forest) → AreApart g
             → AreMarksOf own.entry.text.now 0 own.entry.marks.now f
             → AreMarksOf others.entry.text.now 0 others.entry.marks.now g
-            → leaves_in own.entry.text.now own.entry.marks.now self.new ≡ beside [] f g) }
+            → leaves_in own.entry.text.now own.entry.marks.now self.new
+            ≡ beside_in is_part [] f g) }
     {
         self.clear();
         let both = Both {

@@ -8,8 +8,8 @@ use Rattle.message_diff.proofs.Diffs.{left_more, left_all}
 use Rattle.message_diff.proofs.counters.Counters.leave_out.Goals as goal
 use Rattle.message_diff.proofs.counters.Counters.leave_out.Goals.{in-Some+in_ok-push-in-Some, in-None}
 
-pub returns-then-is_empty-2 : goal.returns-then-is_empty-2
-returns-then-is_empty-2 c =
+pub returns-then-is_empty-2-clause-left : goal.returns-then-is_empty-2-clause-left
+returns-then-is_empty-2-clause-left c =
     left_all (paths_in c.take.new.self.old.rows) (paths_in c.take.new.self.new.rows) (diffs_of c.args.changes.items)
 
 pub loop-change-init : goal.loop-change-init
@@ -52,8 +52,8 @@ loop-change-preserved c =
           }))
     ]
 
-pub returns : goal.returns
-returns c =
+pub returns-clause-left : goal.returns-clause-left
+returns-clause-left c =
     let olds = paths_in c.take.new.self.old.rows in
     let news = paths_in c.take.new.self.new.rows in
     subst (λ (cs : List Change). AreLeft olds news (diffs_of cs) (diffs_of c.loop-change.left.items))

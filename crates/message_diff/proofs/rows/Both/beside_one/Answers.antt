@@ -11,5 +11,6 @@ returns c = λ g end apart at.
     let value = value_in own.text.now m in
     let differs = ap (λ t. is_text t value) (sym c.value_of.ensures)
     ∙ ap (is_text c.value_of.result.now) (sym c.value_of-2.ensures) ∙ sym c.if-are_same.ensures in
-    unlike c.args.self.others.text.now c.args.self.others.marks.now end (label_in own.text.now m) value g c.args.place
+    unlike c.args.self.is_part c.args.self.others.text.now c.args.self.others.marks.now end (label_in own.text.now m)
+    value g c.args.place
     apart at differs

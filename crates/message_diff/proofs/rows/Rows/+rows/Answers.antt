@@ -7,32 +7,35 @@ use Rattle.message_diff.proofs.Passing.{takes_none, takes_nest, takes_leaf}
 use Rattle.message_diff.proofs.rows.Rows.+rows.Goals as goal
 
 pub take_one-returns-in_default : goal.take_one-returns-in_default
-take_one-returns-in_default t c = λ all inside g end apart tidy in_it found.
+take_one-returns-in_default t c = λ inside g end apart tidy in_it found.
     let own = c.args.both.own in
     let others = c.args.both.others in
-    takes_none own.text.now own.marks.now c.args.at c.args.next others.text.now others.marks.now c.args.self.now inside
-    g tidy (c.in_default.ensures all g end apart found)
+    takes_none c.args.both.is_part own.text.now own.marks.now c.args.at c.args.next others.text.now others.marks.now
+    c.args.self.now inside
+    g tidy (c.in_default.ensures g end apart found)
 
 pub take_one-returns-then-at-next : goal.take_one-returns-then-at-next
 take_one-returns-then-at-next t c =
     let own = c.args.both.own in
     let others = c.args.both.others in
     on_ok_weaker c.take_span.result
-    (λ takes all inside g end apart tidy in_it found.
-    takes_nest own.text.now own.marks.now c.args.at c.args.next others.text.now others.marks.now c.args.self.now
+    (λ takes inside g end apart tidy in_it found.
+    takes_nest c.args.both.is_part own.text.now own.marks.now c.args.at c.args.next others.text.now others.marks.now
+    c.args.self.now
     c.in-Some.beside c.name.new.self c.take_span.new.self inside g c.if-at-next.true tidy in_it
-    (c.in-Some.ensures all g end apart found) c.in_ok-name.ensures.paths c.in_ok-name.ensures.spots
-    c.in_ok-name.ensures.path (takes all)) c.take_span.ensures
+    (c.in-Some.ensures g end apart found) c.in_ok-name.ensures.paths c.in_ok-name.ensures.spots
+    c.in_ok-name.ensures.path takes) c.take_span.ensures
 
 pub take_one-returns : goal.take_one-returns
 take_one-returns t c =
     let own = c.args.both.own in
     let others = c.args.both.others in
     on_ok_both c.add.result
-    (λ paths spots all inside g end apart tidy in_it found.
-    takes_leaf own.text.now own.marks.now c.args.at c.args.next others.text.now others.marks.now c.args.self.now
+    (λ paths spots inside g end apart tidy in_it found.
+    takes_leaf c.args.both.is_part own.text.now own.marks.now c.args.at c.args.next others.text.now others.marks.now
+    c.args.self.now
     c.in-Some.beside c.name.new.self c.add.new.self inside g c.if-at-next.false tidy c.requires.within in_it
-    (c.in-Some.ensures all g end apart found) c.in_ok-name.ensures.paths c.in_ok-name.ensures.spots
+    (c.in-Some.ensures g end apart found) c.in_ok-name.ensures.paths c.in_ok-name.ensures.spots
     c.in_ok-name.ensures.path paths spots c.add.ensures.path) c.add.ensures.paths c.add.ensures.spots
 
 pub take_span-loop-at-init : goal.take_span-loop-at-init
@@ -42,8 +45,9 @@ take_span-loop-at-init t c =
     record {
       behind = omega arith;
       long = c.len-len.ensures ∙ c.args.self.now.path.ok.0;
-      passes = λ all f g apart tidy are are_too.
-          passes_init own.text.now own.marks.now others.text.now others.marks.now c.args.own.at c.args.own.end
+      passes = λ f g apart tidy are are_too.
+          passes_init c.args.both.is_part own.text.now own.marks.now others.text.now others.marks.now c.args.own.at
+          c.args.own.end
           c.args.others.at c.args.others.end f g c.args.self.now tidy are are_too;
     }
 
@@ -56,32 +60,36 @@ take_span-loop-at-preserved t c =
     record {
       behind = let k : c.args.own.at ≤ c.loop-at.at = i.behind in omega (arith, c.next_of-next.ensures.behind);
       long = i.long;
-      passes = λ all f g apart tidy are are_too.
-          let p = i.passes all f g apart tidy are are_too in
+      passes = λ f g apart tidy are are_too.
+          let p = i.passes f g apart tidy are are_too in
           let found = c.find-found.ensures.found g apart are_too p.is_likely in
           let mid : Rows = record c.loop-at.self { path = c.truncate.new.self } in
           let cut = e.items ∙ ap (λ n. take n c.loop-at.self.path.items) i.long in
-          subst (λ (n : ℕ). Passes own.text.now own.marks.now others.text.now others.marks.now c.next_of-next.result
+          subst (λ (n : ℕ). Passes c.args.both.is_part own.text.now own.marks.now others.text.now others.marks.now
+          c.next_of-next.result
           c.args.own.end c.args.others.end n f g c.args.self.now c.take_one.new.self)
           (sym c.behind-likely.ensures)
-          (passes_next own.text.now own.marks.now others.text.now others.marks.now c.loop-at.at c.args.own.end
+          (passes_next c.args.both.is_part own.text.now own.marks.now others.text.now others.marks.now c.loop-at.at
+          c.args.own.end
           c.args.others.end c.loop-at.likely c.next_of-next.result c.find-found.result f g c.args.self.now
           c.loop-at.self mid c.take_one.new.self c.loop-at-test.true c.if-at-both.true apart
-          c.next_of-next.ensures.next found refl refl cut (c.in_ok-take_one.ensures all) p);
+          c.next_of-next.ensures.next found refl refl cut c.in_ok-take_one.ensures p);
     }
 
 pub take_span-returns-else-at-both : goal.take_span-returns-else-at-both
-take_span-returns-else-at-both t c = λ all f g apart tidy are are_too.
+take_span-returns-else-at-both t c = λ f g apart tidy are are_too.
     let own = c.args.both.own in
     let others = c.args.both.others in
-    passes_end own.text.now own.marks.now others.text.now others.marks.now c.loop-at.at c.args.own.end c.args.others.end
+    passes_end c.args.both.is_part own.text.now own.marks.now others.text.now others.marks.now c.loop-at.at
+    c.args.own.end c.args.others.end
     c.loop-at.likely f g c.args.self.now c.loop-at.self (inr c.if-at-both.false)
-    (c.loop-at.invariant.passes all f g apart tidy are are_too)
+    (c.loop-at.invariant.passes f g apart tidy are are_too)
 
 pub take_span-returns-after-loop-at : goal.take_span-returns-after-loop-at
-take_span-returns-after-loop-at t c = λ all f g apart tidy are are_too.
+take_span-returns-after-loop-at t c = λ f g apart tidy are are_too.
     let own = c.args.both.own in
     let others = c.args.both.others in
-    passes_end own.text.now own.marks.now others.text.now others.marks.now c.loop-at.at c.args.own.end c.args.others.end
+    passes_end c.args.both.is_part own.text.now own.marks.now others.text.now others.marks.now c.loop-at.at
+    c.args.own.end c.args.others.end
     c.loop-at.likely f g c.args.self.now c.loop-at.self (inl c.loop-at-test.false)
-    (c.loop-at.invariant.passes all f g apart tidy are are_too)
+    (c.loop-at.invariant.passes f g apart tidy are are_too)

@@ -1,4 +1,4 @@
-use Rattle.std.proofs.Common.{◌-◌, ◌+◌, ◌*◌, ◌≡◌, ◌≤◌, false, length}
+use Rattle.std.proofs.Common.{◌-◌, ◌+◌, ◌*◌, ◌≡◌, ◌≤◌, length}
 use Rattle.message_diff.specs.Trees.{Forest}
 use Rattle.message_diff.specs.Marked.{AreMarksOf}
 use Rattle.message_diff.specs.Listed.{AreApart, IsTidy, marks_in}
@@ -18,10 +18,11 @@ abbrev pub invariant-take_span-loop-at : goal.invariant-take_span-loop-at
 invariant-take_span-loop-at l = record {
   behind : l.own.at ≤ l.at;
   long : l.len ≡ length l.initial.self.path.items;
-  passes : l.both.is_part ≡ false → (f : Forest) → (g : Forest) → AreApart g → IsTidy l.initial.self
+  passes : (f : Forest) → (g : Forest) → AreApart g → IsTidy l.initial.self
       → AreMarksOf l.both.own.text.now l.own.at (marks_in l.both.own.marks.now l.own.at l.own.end) f
       → AreMarksOf l.both.others.text.now l.others.at
       (marks_in l.both.others.marks.now l.others.at l.others.end) g
-      → Passes l.both.own.text.now l.both.own.marks.now l.both.others.text.now l.both.others.marks.now l.at l.own.end
+      → Passes l.both.is_part l.both.own.text.now l.both.own.marks.now l.both.others.text.now l.both.others.marks.now
+      l.at l.own.end
       l.others.end l.likely f g l.initial.self l.self;
 }
