@@ -1,0 +1,11 @@
+pub mod Values
+pub mod Said
+pub mod Frames
+pub mod Kept
+pub mod Names
+pub mod Read
+pub mod Showing
+pub mod Parts
+pub mod Built
+pub mod LeftOut
+pub mod Trees

@@ -1,0 +1,137 @@
+-- Values of JSON, from their parts.
+use Rattle.std.proofs.Common.{◌≡◌, ℕ, Bool, true, false, List, [], ◌∷◌, ◌++◌, refl, sym, ap, ◌∙◌, map, subst}
+use Rattle.std.proofs.Common.{append_assoc}
+use Rattle.std.specs.Prelude.{cond, decimal, Option, None, Some}
+use Rattle.std.specs.List.{AllByRecursion, flat_map, zip}
+use Rattle.json.specs.Json.{boolean, number, string, array, object, Items, no_items, item}
+use Rattle.json.specs.Json.{Members as Fields, no_members, member}
+use Rattle.json.specs.Token.{Token, end_object, end_array, key}
+use Rattle.json.specs.Token as tokens
+use Rattle.json.specs.Tree.{items_tokens, members_tokens}
+use Rattle.shown.specs.Drafts.{Members, object_of, list_of}
+use Rattle.shown.specs.Values.{BitNames, flags_of, name_else_number, name_in_row, names_set, bits_unnamed, unless_zero}
+use Rattle.diff_laws.specs.Values.{IsOne, AreOne}
+
+-- ** objects
+
+abbrev pub fields_of : (ms : Members) → AreOne ms → Fields
+fields_of [] all = no_members
+fields_of (m ∷ ms) all = member m.0 all.0.0 (fields_of ms all.1)
+
+pub fields_are : (ms : Members) (all : AreOne ms)
+    → flat_map (λ (m : List ℕ × List Token). key m.0 ∷ m.1) ms ++ end_object ∷ [] ≡ members_tokens (fields_of ms all)
+fields_are [] all = refl
+fields_are (m ∷ ms) all =
+    ap (λ (ts : List Token). key m.0 ∷ ts)
+    (append_assoc m.1 (flat_map (λ (m : List ℕ × List Token). key m.0 ∷ m.1) ms) (end_object ∷ [])
+    ∙ (λ i. all.0.1 i ++ fields_are ms all.1 i))
+
+pub object_one : (ms : Members) → AreOne ms → IsOne (object_of ms)
+object_one ms all = (object (fields_of ms all), ap (λ (ts : List Token). tokens.begin_object ∷ ts) (fields_are ms all))
+
+-- ** lists
+
+abbrev pub AreMany : List Token → Type 0
+AreMany ts = (js : Items) × (ts ++ end_array ∷ [] ≡ items_tokens js)
+
+pub many_none : AreMany []
+many_none = (no_items, refl)
+
+pub many_more : (ts us : List Token) → IsOne ts → AreMany us → AreMany (ts ++ us)
+many_more ts us one many =
+    (item one.0 many.0, append_assoc ts us (end_array ∷ []) ∙ (λ i. one.1 i ++ many.1 i))
+
+pub many_each : (vs : List (List Token)) → AllByRecursion IsOne vs → AreMany (flat_map (λ v. v) vs)
+many_each [] all = many_none
+many_each (v ∷ vs) all = many_more v (flat_map (λ v. v) vs) all.0 (many_each vs all.1)
+
+pub many_values : (ms : Members) → AreOne ms → AreMany (flat_map (λ m. m.1) ms)
+many_values [] all = many_none
+many_values (m ∷ ms) all = many_more m.1 (flat_map (λ m. m.1) ms) all.0 (many_values ms all.1)
+
+pub list_one : (ts : List Token) → AreMany ts → IsOne (list_of ts)
+list_one ts many = (array many.0, ap (λ (ts : List Token). tokens.begin_array ∷ ts) many.1)
+
+-- ** tokens
+
+pub text_one : (s : List ℕ) → IsOne (tokens.string s ∷ [])
+text_one s = (string s, refl)
+
+pub number_one : (s : List ℕ) → IsOne (tokens.number s ∷ [])
+number_one s = (number s, refl)
+
+pub truth_one : (b : Bool) → IsOne (tokens.boolean b ∷ [])
+truth_one b = (boolean b, refl)
+
+pub if_one : (b : Bool) (ts us : List Token) → IsOne ts → IsOne us → IsOne (cond b ts us)
+if_one true ts us one other = one
+if_one false ts us one other = other
+
+pub token_one : (b : Bool) (t u : Token) → IsOne (t ∷ []) → IsOne (u ∷ []) → IsOne (cond b t u ∷ [])
+token_one true t u one other = one
+token_one false t u one other = other
+
+pub name_one : (name : List ℕ) (value : ℕ) → IsOne (name_else_number name value ∷ [])
+name_one [] value = number_one (decimal value)
+name_one (x ∷ name) value = text_one (x ∷ name)
+
+pub row_one : (row : Option (ℕ × List ℕ)) (value : ℕ) → IsOne (name_in_row row value ∷ [])
+row_one None value = number_one (decimal value)
+row_one (Some row) value = text_one row.1
+
+many_texts : (names : List (List ℕ)) (ts : List Token) → AreMany ts → AreMany (map tokens.string names ++ ts)
+many_texts [] ts many = many
+many_texts (name ∷ names) ts many =
+    many_more (tokens.string name ∷ []) (map tokens.string names ++ ts) (text_one name) (many_texts names ts many)
+
+many_unnamed : (b : Bool) (value : ℕ) → AreMany (cond b [] (tokens.number (decimal value) ∷ []))
+many_unnamed true value = many_none
+many_unnamed false value = many_more (tokens.number (decimal value) ∷ []) [] (number_one (decimal value)) many_none
+
+pub flags_one : (table : BitNames) (bits : ℕ) → IsOne (flags_of table bits)
+flags_one table bits =
+    list_one _ (many_texts (names_set table bits) (unless_zero (bits_unnamed table bits))
+    (many_unnamed _ (bits_unnamed table bits)))
+
+-- ** members
+
+pub one_more : (ms ns : Members) → AreOne ms → AreOne ns → AreOne (ms ++ ns)
+one_more [] ns all more = more
+one_more (m ∷ ms) ns all more = (all.0, one_more ms ns all.1 more)
+
+pub one_if : (b : Bool) (ms ns : Members) → AreOne ms → AreOne ns → AreOne (cond b ms ns)
+one_if true ms ns one other = one
+one_if false ms ns one other = other
+
+pub zip_one : {A : Type 0} (f : A → List Token) → ((a : A) → IsOne (f a)) → (names : List (List ℕ)) (vs : List A)
+    → AreOne (zip names (map f vs))
+zip_one f one [] vs = tt
+zip_one f one (name ∷ names) [] = tt
+zip_one f one (name ∷ names) (v ∷ vs) = (one v, zip_one f one names vs)
+
+-- one member under a name
+pub named_one : (name : List ℕ) (ts : List Token) → IsOne ts → AreOne ((name, ts) ∷ [])
+named_one name ts one = (one, tt)
+
+pub objects_one : (os : List Members) → AllByRecursion AreOne os → AllByRecursion IsOne (map object_of os)
+objects_one [] all = tt
+objects_one (o ∷ os) all = (object_one o all.0, objects_one os all.1)
+
+-- ** more lists
+
+pub many_behind : (ms : Members) (ts : List Token) → AreOne ms → AreMany ts → AreMany (flat_map (λ m. m.1) ms ++ ts)
+many_behind [] ts all many = many
+many_behind (m ∷ ms) ts all many =
+    subst AreMany (sym (append_assoc m.1 (flat_map (λ m. m.1) ms) ts))
+    (many_more m.1 (flat_map (λ m. m.1) ms ++ ts) all.0 (many_behind ms ts all.1 many))
+
+pub many_objects : (os : List Members) → AllByRecursion AreOne os → AreMany (flat_map object_of os)
+many_objects [] all = many_none
+many_objects (o ∷ os) all =
+    many_more (object_of o) (flat_map object_of os) (object_one o all.0) (many_objects os all.1)
+
+pub values_many : (os : List Members) → AllByRecursion AreOne os
+    → AreMany (flat_map (λ (ms : Members). flat_map (λ m. m.1) ms) os)
+values_many [] all = many_none
+values_many (o ∷ os) all =
+    many_behind o (flat_map (λ (ms : Members). flat_map (λ m. m.1) ms) os) all.0 (values_many os all.1)

@@ -1,0 +1,5 @@
+use Rattle.diff_laws.proofs.Built.{frames_are}
+use Rattle.diff_laws.proofs.law_frames.Goals as goal
+
+pub returns : goal.returns
+returns c = frames_are

@@ -1,0 +1,36 @@
+//! Laws of what differs between two messages: attributes that are the same in both may be left out.
+//!
+//! `specs/LeftOut.antt` states it, over what `message_shown` says that is shown of a message, and what `message_diff`
+//! says that is a part of one.
+#![tactic(auto)]
+
+ghost use Rattle.diff_laws.specs.LeftOut.{HaveTrees, MarksTell, FramesAre, PartsMean, RowsStay, ChangesStay};
+ghost use Rattle.diff_laws.specs.Names.{NamesAreApart};
+ghost use Rattle.diff_laws.specs.Values.{ShownIsOne};
+
+/// What is shown of a message is one JSON value, and so has one tree, which the marks of its page tell of.
+pub fn law_one_value()
+    ensures value { ShownIsOne }
+    ensures tree { HaveTrees }
+    ensures marks { MarksTell }
+{}
+
+/// Attributes that are shown under a name have names that are not empty, those of two numbers have two names, and no
+/// other member beside them has one of these.
+pub fn law_names_apart()
+    ensures { NamesAreApart }
+{}
+
+/// The frames of a canonical encoding are the canonical frames of the message's attributes, one each, in order.
+pub fn law_frames()
+    ensures { FramesAre }
+{}
+
+/// Attributes that are the same in two canonical messages may be left out of both, where these have parts: the parts
+/// mean messages, and the rows that they do not have in common are those of the messages. So are the changes, where
+/// each path leads to one member.
+pub fn law_left_out()
+    ensures messages { PartsMean }
+    ensures rows { RowsStay }
+    ensures changes { ChangesStay }
+{}
