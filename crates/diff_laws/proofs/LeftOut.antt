@@ -1,10 +1,11 @@
 -- Attributes that are the same in two messages may be left out of both.
 use Rattle.std.proofs.Common.{◌≡◌, ℕ, true, List, [], ◌∷◌, ◌++◌, refl, sym, ap, ◌∙◌, subst, length}
-use Rattle.std.proofs.Common.{take, arith}
+use Rattle.std.proofs.Common.{take, append-nil, arith}
 use Rattle.std.specs.Prelude.{◌-◌, codes}
 use Rattle.std.specs.Int.{w16}
 use Rattle.std.specs.List.{AllByRecursion}
 use Rattle.std.proofs.lemmas.Bool.{eqb-true, and_parts}
+use Rattle.json.specs.Json.{no_members}
 use Rattle.nla_wire.specs.Fields.{number_at}
 use Rattle.nla_wire.proofs.Bounds.{length-canon}
 use Rattle.link_vals.specs.AddressFamilyTable.{address_family_number}
@@ -35,7 +36,8 @@ use Rattle.diff_laws.proofs.Built.{part_head}
 use Rattle.diff_laws.proofs.Parts.{part_frames, part_single, part_address, tree_part}
 use Rattle.diff_laws.proofs.Read.{AreRead, items_for, address_for}
 use Rattle.diff_laws.proofs.Trees.{one_tree}
-use Rattle.diff_laws.proofs.Showing.{head, heads_among, head_is, message_fields, message_tokens, message_tree, showing}
+use Rattle.diff_laws.proofs.Showing.{head, heads_among, head_is, message_fields, message_tokens}
+use Rattle.diff_laws.proofs.Showing.{followed_none, message_tree, showing}
 
 -- ** what is shown of a message
 
@@ -51,19 +53,24 @@ module _ (cx : Context) (family : AddressFamily) (b : List ℕ) (m : LinkMessage
       λ i. numbered (codes "ifi-family") (address_family_number (built.family_is i)) ∷ header_members b
       ++ members_of (items_of attribute_frame (attribute_said (is i)) (built.values i))
 
-  shown_is : (known : Context) → around cx m ≡ known → are_single (named_in family built.frames) ≡ true → (f : Forest)
+  pub shown_is : (known : Context) → around cx m ≡ known → are_single (named_in family built.frames) ≡ true
+      → (f : Forest)
       → IsTree (message_members cx b m) f
       → f ≡ whole_tree family (showing known family) (head b family) built.frames
   shown_is known is single f tree =
-      one_tree (message_members cx b m) (message_fields known family b built.frames)
-      (ap object_of (members_are known is) ∙ message_tokens known family b built.frames built.read single) f tree
-      ∙ message_tree known family b built.frames
+      one_tree (message_members cx b m) (message_fields known family b built.frames no_members)
+      (ap object_of (members_are known is)
+      ∙ ap object_of (sym (append-nil (numbered (codes "ifi-family") (address_family_number family) ∷ header_members b
+      ++ members_of (items_for known family built.frames built.read))))
+      ∙ message_tokens known family b built.frames built.read single no_members [] refl) f tree
+      ∙ message_tree known family b built.frames no_members Forest.none (λ place. refl)
+      ∙ followed_none (whole_tree family (showing known family) (head b family) built.frames)
 
-  len_is : address_len_in m.attributes ≡ number_at w16 (frame_at (named_in family built.frames) IFLA_ADDRESS) 0 - 4
+  pub len_is : address_len_in m.attributes ≡ number_at w16 (frame_at (named_in family built.frames) IFLA_ADDRESS) 0 - 4
   len_is = ap address_len_in built.values ∙ address_for family built.frames built.read
 
 -- what is known beside the attributes is the length of the address
-around_same : (cx : Context) (m n : LinkMessage) → address_len_in m.attributes ≡ address_len_in n.attributes
+pub around_same : (cx : Context) (m n : LinkMessage) → address_len_in m.attributes ≡ address_len_in n.attributes
     → around cx m ≡ around cx n
 around_same cx m n same = λ i. record {
   alloc = cx.alloc;
@@ -77,12 +84,12 @@ around_same cx m n same = λ i. record {
 
 -- ** two messages
 
-family_in : (b : List ℕ) (m : LinkMessage) → IsHeader (take 16 b) m.header → family_of b ≡ m.header.interface_family
+pub family_in : (b : List ℕ) (m : LinkMessage) → IsHeader (take 16 b) m.header → family_of b ≡ m.header.interface_family
 unfolding header_of
 family_in [] m header = sym (ap (λ (h : _). h.interface_family) header.says)
 family_in (x ∷ b) m header = sym (ap (λ (h : _). h.interface_family) header.says)
 
-family_same : (own other : List ℕ) → same_family own other ≡ true → family_of own ≡ family_of other
+pub family_same : (own other : List ℕ) → same_family own other ≡ true → family_of own ≡ family_of other
 family_same [] other same = absurd cc
 family_same (x ∷ own) [] same = absurd cc
 family_same (x ∷ own) (y ∷ other) same = ap (λ (n : ℕ). family_of (n ∷ [])) (eqb-true x y same)
@@ -92,7 +99,7 @@ some_each family [] all = tt
 some_each family (f ∷ fs) all =
     (omega (arith, ap length all.0.is, length-canon (attribute_frame all.0.value)), some_each family fs all.1)
 
-means_once : (b : List ℕ) (m n : LinkMessage) → Means b m → Means b n → m ≡ n
+pub means_once : (b : List ℕ) (m n : LinkMessage) → Means b m → Means b n → m ≡ n
 means_once b m n one other = let both = sym (message_agrees.only b m one) ∙ message_agrees.only b n other in cc
 
 address_at : AddressFamily → List (List ℕ) → ℕ
@@ -151,17 +158,17 @@ module _ (cx : Context) (family : AddressFamily) (old new : List ℕ) (m n : Lin
 
 -- ** where there are parts
 
-abbrev SameAddress : (family : AddressFamily) (a b : List (List ℕ)) → Type 0
+abbrev pub SameAddress : (family : AddressFamily) (a b : List (List ℕ)) → Type 0
 SameAddress family a b =
     number_at w16 (frame_at (named_in family a) IFLA_ADDRESS) 0
     ≡ number_at w16 (frame_at (named_in family b) IFLA_ADDRESS) 0
 
-record AreAlike (family : AddressFamily) (a b : List (List ℕ)) : Type 0 where
+pub record AreAlike (family : AddressFamily) (a b : List (List ℕ)) : Type 0 where
   pub single : are_single (named_in family a) ≡ true
   pub single_too : are_single (named_in family b) ≡ true
   pub address : SameAddress family a b
 
-alike_is : (family : AddressFamily) (old new : List ℕ) → are_alike family old new ≡ true
+pub alike_is : (family : AddressFamily) (old new : List ℕ) → are_alike family old new ≡ true
     → AreAlike family (frames_of old) (frames_of new)
 unfolding are_alike
 alike_is family old new alike =

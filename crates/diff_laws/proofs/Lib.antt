@@ -9,3 +9,9 @@ pub mod Parts
 pub mod Built
 pub mod LeftOut
 pub mod Trees
+pub mod Refused
+pub mod Cut
+pub mod Raw
+pub mod Among
+pub mod Lenient
+pub mod Leniently

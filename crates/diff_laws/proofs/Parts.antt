@@ -17,7 +17,7 @@ use Rattle.diff_laws.proofs.Read.{IsReadAs, AreRead}
 
 -- ** lists
 
-filter_append : {A : Type 0} (test : A → Bool) (xs ys : List A)
+pub filter_append : {A : Type 0} (test : A → Bool) (xs ys : List A)
     → filter test (xs ++ ys) ≡ filter test xs ++ filter test ys
 filter_append test [] ys = refl
 filter_append test (x ∷ xs) ys = by (test x) (filter_append test xs ys)
@@ -28,12 +28,13 @@ filter_append test (x ∷ xs) ys = by (test x) (filter_append test xs ys)
     by true rest = ap (λ l. x ∷ l) rest
     by false rest = rest
 
-filter_all : {A : Type 0} (test : A → Bool) (xs : List A) → AllByRecursion (λ x. test x ≡ true) xs → filter test xs ≡ xs
+pub filter_all : {A : Type 0} (test : A → Bool) (xs : List A) → AllByRecursion (λ x. test x ≡ true) xs
+    → filter test xs ≡ xs
 filter_all test [] all = refl
 filter_all test (x ∷ xs) all =
     ap (λ b. cond b (x ∷ filter test xs) (filter test xs)) all.0 ∙ ap (λ l. x ∷ l) (filter_all test xs all.1)
 
-filter_none : {A : Type 0} (test : A → Bool) (xs : List A) → AllByRecursion (λ x. test x ≡ false) xs
+pub filter_none : {A : Type 0} (test : A → Bool) (xs : List A) → AllByRecursion (λ x. test x ≡ false) xs
     → filter test xs ≡ []
 filter_none test [] all = refl
 filter_none test (x ∷ xs) all =
@@ -53,7 +54,7 @@ all_if : {A : Type 0} (P : A → Type 0) (b : Bool) (xs : List A) → AllByRecur
 all_if P true xs all = tt
 all_if P false xs all = all
 
-all_as : {A : Type 0} (P Q : A → Type 0) → ((x : A) → P x → Q x) → (xs : List A) → AllByRecursion P xs
+pub all_as : {A : Type 0} (P Q : A → Type 0) → ((x : A) → P x → Q x) → (xs : List A) → AllByRecursion P xs
     → AllByRecursion Q xs
 all_as P Q turn [] all = tt
 all_as P Q turn (x ∷ xs) all = (turn x all.0, all_as P Q turn xs all.1)
@@ -123,7 +124,7 @@ module _ (family : AddressFamily) (own other : List (List ℕ)) where
       filter (is_taken (named_in family other)) (named_in family own)
       ++ cond (is_text (concat (kept_in family own)) (concat (kept_in family other))) [] (kept_in family own)
 
-  part_all : (P : List ℕ → Type 0) → AllByRecursion P own → AllByRecursion P part_frames
+  pub part_all : (P : List ℕ → Type 0) → AllByRecursion P own → AllByRecursion P part_frames
   part_all P all =
       all_append P (filter (is_taken (named_in family other)) (named_in family own))
       (cond is_same [] (kept_in family own))

@@ -53,7 +53,7 @@ abbrev fields_then : (ms : Members) → AreOne ms → Fields → Fields
 fields_then [] all later = later
 fields_then (m ∷ ms) all later = member m.0 all.0.0 (fields_then ms all.1 later)
 
-abbrev tokens_of : Members → List Token
+abbrev pub tokens_of : Members → List Token
 tokens_of ms = flat_map (λ (m : List ℕ × List Token). key m.0 ∷ m.1) ms
 
 tokens_then : (ms : Members) (all : AreOne ms) (later : Fields) (ts : List Token) → ts ≡ members_tokens later
@@ -70,6 +70,18 @@ tokens_append (m ∷ ms) ns ts =
     ap (λ (t : List Token). key m.0 ∷ t)
     (append_assoc m.1 (tokens_of (ms ++ ns)) ts ∙ ap (λ (t : List Token). m.1 ++ t) (tokens_append ms ns ts)
     ∙ sym (append_assoc m.1 (tokens_of ms) (tokens_of ns ++ ts)))
+
+-- ** trees behind each other
+
+followed_both : (f g later : Forest) → followed f (followed g later) ≡ followed (followed f g) later
+followed_both Forest.none g later = refl
+followed_both (Forest.tree label text inside rest) g later =
+    ap (λ t. Forest.tree label text inside t) (followed_both rest g later)
+
+pub followed_none : (f : Forest) → followed f Forest.none ≡ f
+followed_none Forest.none = refl
+followed_none (Forest.tree label text inside rest) =
+    ap (λ t. Forest.tree label text inside t) (followed_none rest)
 
 -- ** the header
 
@@ -185,9 +197,9 @@ module _ (cx : Context) (family : AddressFamily) where
   fields_for [] later = later
   fields_for (f ∷ fs) later = member (name_for (frame_number f)) (json_for cx family f) (fields_for fs later)
 
-  abbrev last_fields : List ℕ → Fields
-  last_fields [] = no_members
-  last_fields (x ∷ ks) = member (codes "other") (last_json (x ∷ ks)) no_members
+  abbrev last_fields : List ℕ → Fields → Fields
+  last_fields [] later = later
+  last_fields (x ∷ ks) later = member (codes "other") (last_json (x ∷ ks)) later
 
   tokens_for : (fs : List (List ℕ)) (later : Fields) (ts : List Token) → ts ≡ members_tokens later
       → tokens_of (map (member_for cx family) fs) ++ ts ≡ members_tokens (fields_for fs later)
@@ -197,36 +209,51 @@ module _ (cx : Context) (family : AddressFamily) where
       (append_assoc (json_tokens (json_for cx family f)) (tokens_of (map (member_for cx family) fs)) ts
       ∙ ap (λ (t : List Token). json_tokens (json_for cx family f) ++ t) (tokens_for fs later ts is))
 
-  forest_last : (place : ℕ) (ks : List ℕ)
-      → members_forest place (last_fields ks) ≡ last_tree family showing ks
-  unfolding escape_byte
-  forest_last place [] = refl
-  forest_last place (x ∷ ks) = refl
+  trees_followed : (fs : List (List ℕ)) (f g : Forest)
+      → trees family showing fs (followed f g) ≡ followed (trees family showing fs f) g
+  trees_followed [] f g = refl
+  trees_followed (x ∷ fs) f g =
+      ap (λ t. Forest.tree (label_for (frame_number x)) (json_text (json_for cx family x))
+      (inside_of (json_for cx family x)) t) (trees_followed fs f g)
 
-  forest_for : (place : ℕ) (fs : List (List ℕ)) (ks : List ℕ) → AllByRecursion (λ f. is_kept family f ≡ false) fs
-      → members_forest place (fields_for fs (last_fields ks))
-      ≡ trees family showing fs (last_tree family showing ks)
-  forest_for place [] ks all = forest_last place ks
-  forest_for place (f ∷ fs) ks all =
+  -- with members behind them, whose labels are the same at each place
+  abbrev AreAt : Fields → Forest → Type 0
+  AreAt later behind = (place : ℕ) → members_forest place later ≡ behind
+
+  forest_last : (place : ℕ) (ks : List ℕ) (later : Fields) (behind : Forest) → AreAt later behind
+      → members_forest place (last_fields ks later) ≡ followed (last_tree family showing ks) behind
+  unfolding escape_byte
+  forest_last place [] later behind at = at place
+  forest_last place (x ∷ ks) later behind at =
+      ap (λ t. Forest.tree (escape (codes "other")) (json_text (last_json (x ∷ ks)))
+      (inside_of (last_json (x ∷ ks))) t) (at (suc place))
+
+  forest_for : (place : ℕ) (fs : List (List ℕ)) (ks : List ℕ) (later : Fields) (behind : Forest) → AreAt later behind
+      → AllByRecursion (λ f. is_kept family f ≡ false) fs
+      → members_forest place (fields_for fs (last_fields ks later))
+      ≡ trees family showing fs (followed (last_tree family showing ks) behind)
+  forest_for place [] ks later behind at all = forest_last place ks later behind at
+  forest_for place (f ∷ fs) ks later behind at all =
       λ i. Forest.tree (named_label family f place all.0 i) (json_text (json_for cx family f))
-      (inside_of (json_for cx family f)) (forest_for (suc place) fs ks all.1 i)
+      (inside_of (json_for cx family f)) (forest_for (suc place) fs ks later behind at all.1 i)
 
   -- ** the tokens of a message
 
-  other_tokens : (fs : List (List ℕ)) → AllByRecursion IsWhole fs
-      → tokens_of (list_under (codes "other") (map object_of (map (kept_for cx family) fs))) ++ end_object ∷ []
-      ≡ members_tokens (last_fields (concat fs))
-  other_tokens [] all = refl
-  other_tokens ([] ∷ fs) all =
+  other_tokens : (fs : List (List ℕ)) (later : Fields) (ts : List Token) → AllByRecursion IsWhole fs
+      → ts ≡ members_tokens later
+      → tokens_of (list_under (codes "other") (map object_of (map (kept_for cx family) fs))) ++ ts
+      ≡ members_tokens (last_fields (concat fs) later)
+  other_tokens [] later ts all is = is
+  other_tokens ([] ∷ fs) later ts all is =
       absurd (omega (arith, ap length all.0.2, length-canon all.0.0))
-  other_tokens ((x ∷ f) ∷ fs) all =
+  other_tokens ((x ∷ f) ∷ fs) later ts all is =
       let tokens : kept_tokens ((x ∷ f) ∷ fs) ≡ json_tokens (last_json (concat ((x ∷ f) ∷ fs))) =
       ap kept_tokens (sym (frames_whole ((x ∷ f) ∷ fs) all))
       ∙ (kept_tokens_one (frames_in (concat ((x ∷ f) ∷ fs)))).1 in
-      ap (λ (t : List Token). key (codes "other") ∷ (t ++ end_object ∷ []))
-      (append-nil (kept_tokens ((x ∷ f) ∷ fs)) ∙ tokens)
+      let own = append-nil (kept_tokens ((x ∷ f) ∷ fs)) ∙ tokens in
+      λ i. key (codes "other") ∷ (own i ++ is i)
 
-  named_each : (fs : List (List ℕ)) → AllByRecursion (λ f. is_kept family f ≡ false) (named_in family fs)
+  pub named_each : (fs : List (List ℕ)) → AllByRecursion (λ f. is_kept family f ≡ false) (named_in family fs)
   named_each [] = tt
   named_each (f ∷ fs) = by (is_kept family f) refl (named_each fs)
     where
@@ -236,12 +263,13 @@ module _ (cx : Context) (family : AddressFamily) where
       by true is rest = rest
       by false is rest = (is, rest)
 
-  abbrev fields_all : List (List ℕ) → Fields
-  fields_all fs = fields_for (named_in family fs) (last_fields (concat (kept_in family fs)))
+  abbrev fields_all : List (List ℕ) → Fields → Fields
+  fields_all fs later = fields_for (named_in family fs) (last_fields (concat (kept_in family fs)) later)
 
   shown_tokens : (fs : List (List ℕ)) (all : AreRead family fs) → are_single (named_in family fs) ≡ true
-      → tokens_of (members_of (items_for cx family fs all)) ++ end_object ∷ [] ≡ members_tokens (fields_all fs)
-  shown_tokens fs all single =
+      → (later : Fields) (ts : List Token) → ts ≡ members_tokens later
+      → tokens_of (members_of (items_for cx family fs all)) ++ ts ≡ members_tokens (fields_all fs later)
+  shown_tokens fs all single later ts at =
       let named : Members = map (member_for cx family) (named_in family fs) in
       let other : Members =
       list_under (codes "other") (map object_of (map (kept_for cx family) (kept_in family fs))) in
@@ -249,29 +277,38 @@ module _ (cx : Context) (family : AddressFamily) where
       λ i. (last_for cx family fs all single i
       ++ list_under (codes "repeated") (map object_of (earlier_for cx family fs all single i)))
       ++ list_under (codes "other") (map object_of (kept_all cx family fs all i)) in
-      let end : List Token = end_object ∷ [] in
-      ap (λ (ms : Members). tokens_of ms ++ end) is
-      ∙ tokens_append (named ++ []) other end ∙ tokens_append named [] (tokens_of other ++ end)
-      ∙ tokens_for (named_in family fs) (last_fields (concat (kept_in family fs))) (tokens_of other ++ end)
-      (other_tokens (kept_in family fs) (all_filtered IsWhole (is_kept family) fs (whole_each family fs all)))
+      ap (λ (ms : Members). tokens_of ms ++ ts) is
+      ∙ tokens_append (named ++ []) other ts ∙ tokens_append named [] (tokens_of other ++ ts)
+      ∙ tokens_for (named_in family fs) (last_fields (concat (kept_in family fs)) later) (tokens_of other ++ ts)
+      (other_tokens (kept_in family fs) later ts
+      (all_filtered IsWhole (is_kept family) fs (whole_each family fs all)) at)
 
-  -- the members of a message, and its tree
-  abbrev pub message_fields : List ℕ → List (List ℕ) → Fields
-  message_fields bytes fs = fields_then (head_members bytes family) (head_one bytes family) (fields_all fs)
+  -- the members of a message, with others behind them, and their tree
+  abbrev pub message_fields : List ℕ → List (List ℕ) → Fields → Fields
+  message_fields bytes fs later =
+      fields_then (head_members bytes family) (head_one bytes family) (fields_all fs later)
 
   pub message_tokens : (bytes : List ℕ) (fs : List (List ℕ)) (all : AreRead family fs)
       → are_single (named_in family fs) ≡ true
-      → object_of (head_members bytes family ++ members_of (items_for cx family fs all))
-      ≡ json_tokens (object (message_fields bytes fs))
-  message_tokens bytes fs all single =
+      → (later : Fields) (more : Members) → tokens_of more ++ end_object ∷ [] ≡ members_tokens later
+      → object_of ((head_members bytes family ++ members_of (items_for cx family fs all)) ++ more)
+      ≡ json_tokens (object (message_fields bytes fs later))
+  message_tokens bytes fs all single later more at =
+      let end : List Token = end_object ∷ [] in
       ap (λ (ts : List Token). begin_object ∷ ts)
-      (tokens_append (head_members bytes family) (members_of (items_for cx family fs all)) (end_object ∷ [])
-      ∙ tokens_then (head_members bytes family) (head_one bytes family) (fields_all fs) _
-      (shown_tokens fs all single))
+      (tokens_append (head_members bytes family ++ members_of (items_for cx family fs all)) more end
+      ∙ tokens_append (head_members bytes family) (members_of (items_for cx family fs all)) (tokens_of more ++ end)
+      ∙ tokens_then (head_members bytes family) (head_one bytes family) (fields_all fs later) _
+      (shown_tokens fs all single later (tokens_of more ++ end) at))
 
-  pub message_tree : (bytes : List ℕ) (fs : List (List ℕ))
-      → members_forest 0 (message_fields bytes fs) ≡ whole_tree family showing (head bytes family) fs
-  message_tree bytes fs =
-      head_then bytes family (fields_all fs)
+  pub message_tree : (bytes : List ℕ) (fs : List (List ℕ)) (later : Fields) (behind : Forest)
+      → ((place : ℕ) → members_forest place later ≡ behind)
+      → members_forest 0 (message_fields bytes fs later)
+      ≡ followed (whole_tree family showing (head bytes family) fs) behind
+  message_tree bytes fs later behind at =
+      let last : Forest = last_tree family showing (concat (kept_in family fs)) in
+      head_then bytes family (fields_all fs later)
       ∙ ap (followed (head bytes family))
-      (forest_for 5 (named_in family fs) (concat (kept_in family fs)) (named_each fs))
+      (forest_for 5 (named_in family fs) (concat (kept_in family fs)) later behind at (named_each fs)
+      ∙ trees_followed (named_in family fs) last behind)
+      ∙ followed_both (head bytes family) (trees family showing (named_in family fs) last) behind

@@ -1,3 +1,4 @@
 pub mod Values
 pub mod LeftOut
 pub mod Names
+pub mod Leniently

@@ -22,7 +22,7 @@ label_in frame = escape (name_for (frame_number frame))
 abbrev pub other_names : List (List ℕ)
 other_names =
     codes "ifi-family" ∷ codes "ifi-type" ∷ codes "ifi-index" ∷ codes "ifi-flags" ∷ codes "ifi-change"
-    ∷ codes "repeated" ∷ codes "other" ∷ []
+    ∷ codes "repeated" ∷ codes "other" ∷ codes "refused" ∷ []
 
 -- of attributes that are shown under a name: it is not empty, those of two numbers differ, and it is no other member's
 pub record NamesAreApart : Type 0 where

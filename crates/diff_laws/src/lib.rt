@@ -1,10 +1,11 @@
 //! Laws of what differs between two messages: attributes that are the same in both may be left out.
 //!
-//! `specs/LeftOut.antt` states it, over what `message_shown` says that is shown of a message, and what `message_diff`
-//! says that is a part of one.
+//! `specs/LeftOut.antt` and `specs/Leniently.antt` state it, over what `message_shown` says that is shown of a message,
+//! and what `message_diff` says that is a part of one.
 #![tactic(auto)]
 
 ghost use Rattle.diff_laws.specs.LeftOut.{HaveTrees, MarksTell, FramesAre, PartsMean, RowsStay, ChangesStay};
+ghost use Rattle.diff_laws.specs.Leniently.{PartsMeanLeniently, PartsHaveTrees, LenientRowsStay, LenientChangesStay};
 ghost use Rattle.diff_laws.specs.Names.{NamesAreApart};
 ghost use Rattle.diff_laws.specs.Values.{ShownIsOne};
 
@@ -33,4 +34,13 @@ pub fn law_left_out()
     ensures messages { PartsMean }
     ensures rows { RowsStay }
     ensures changes { ChangesStay }
+{}
+
+/// The same of messages that are read leniently, of which some attributes are refused: these stand behind the others,
+/// in a member of their own. The messages and their parts have trees.
+pub fn law_left_out_leniently()
+    ensures messages { PartsMeanLeniently }
+    ensures trees { PartsHaveTrees }
+    ensures rows { LenientRowsStay }
+    ensures changes { LenientChangesStay }
 {}
