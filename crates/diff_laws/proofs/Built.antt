@@ -1,73 +1,45 @@
--- Messages of the frames of their canonical encodings, and of parts of these.
-use Rattle.std.proofs.Common.{◌≡◌, ℕ, ◌+◌, ◌≤◌, List, [], ◌∷◌, ◌++◌, refl, sym, ap, ◌∙◌, subst, map, length}
-use Rattle.std.proofs.Common.{take, drop, arith}
-use Rattle.std.proofs.Math.Seq.{drop-append_seam, take-append_seam}
-use Rattle.std.proofs.lemmas.List.{take-append-drop}
-use Rattle.std.specs.Int.{Width, byte_len, w16, w32}
-use Rattle.std.specs.List.{AllByRecursion, concat, filter}
-use Rattle.nla_wire.specs.Canon.{canon, canons, IsWritable}
+-- Messages by the frames of their attributes, what they mean, and what is shown of them.
+use Rattle.std.proofs.Common.{◌≡◌, ℕ, List, [], ◌∷◌, ◌++◌, refl, sym, ap, ◌∙◌, subst, map}
+use Rattle.std.proofs.Common.{take}
+use Rattle.std.specs.Int.{w16}
+use Rattle.std.specs.List.{concat}
 use Rattle.nla_wire.specs.Fields.{number_at}
-use Rattle.nla_wire.specs.Frames.{Frame, Frames, IsBytes, IsFrame, Begins}
+use Rattle.nla_wire.specs.Frames.{Frames, Begins}
 use Rattle.nla_wire.specs.Grammar.{Every, list}
-use Rattle.nla_wire.proofs.Back.{canon_begins, frames_framed}
-use Rattle.nla_wire.proofs.FieldLemmas.{number_at_before}
-use Rattle.nla_wire.proofs.Steps.{bytes_right}
+use Rattle.nla_wire.proofs.Back.{canon_begins}
 use Rattle.link_vals.specs.declared.address_family.AddressFamily.{AddressFamily}
-use Rattle.link_msg.specs.Header.{header_bytes, IsHeader}
+use Rattle.link_msg.specs.Header.{IsHeader}
 use Rattle.link_msg.specs.Messages.{Means}
-use Rattle.link_msg.specs.Tables.{attribute_frame, attribute_place, attribute_lawful, AttributeFits, NotEmptyPorts}
+use Rattle.link_msg.specs.Tables.{attribute_frame, attribute_place}
 use Rattle.link_msg.specs.declared.attribute.LinkAttribute.{LinkAttribute}
 use Rattle.link_msg.specs.declared.message.LinkMessage.{LinkMessage}
-use Rattle.link_msg.proofs.Messaging.{header_length}
-use Rattle.message_diff.specs.Frames.{frames_in, frames_of}
-use Rattle.message_diff.specs.Parts.{kept_in, named_in, is_taken, part, unless_same}
-use Rattle.diff_laws.specs.LeftOut.{IsCanonical, FramesAre}
-use Rattle.diff_laws.proofs.Frames.{frames_whole}
-use Rattle.diff_laws.proofs.Parts.{part_frames, part_joined, part_read}
-use Rattle.diff_laws.proofs.Read.{AreRead, values_in, whole_each}
-use Rattle.diff_laws.proofs.Showing.{head, head_same}
-
--- ** attributes as they are written
-
-abbrev written : List LinkAttribute → List (List ℕ)
-written vs = map (λ v. canon (attribute_frame v)) vs
-
-record IsWritten (family : AddressFamily) (v : LinkAttribute) : Type 0 where
-  pub writable : IsWritable (attribute_frame v)
-  pub means : (attribute_place family).means (attribute_frame v) v
-
-abbrev read_written : (family : AddressFamily) (vs : List LinkAttribute) → AllByRecursion (IsWritten family) vs
-    → AreRead family (written vs)
-read_written family [] all = tt
-read_written family (v ∷ vs) all = (
-  record { value = v; writable = all.0.writable; means = all.0.means; is = refl },
-  read_written family vs all.1,
-)
-
-values_written : (family : AddressFamily) (vs : List LinkAttribute) (all : AllByRecursion (IsWritten family) vs)
-    → values_in family (written vs) (read_written family vs all) ≡ vs
-values_written family [] all = refl
-values_written family (v ∷ vs) all = ap (λ (l : List LinkAttribute). v ∷ l) (values_written family vs all.1)
-
-written_joined : (vs : List LinkAttribute) → canons attribute_frame vs ≡ concat (written vs)
-written_joined [] = refl
-written_joined (v ∷ vs) = ap (λ l. canon (attribute_frame v) ++ l) (written_joined vs)
-
-each_written : (family : AddressFamily) (fs : List Frame) (vs : List LinkAttribute) → AllByRecursion IsFrame fs
-    → Every (attribute_place family).means fs vs → AllByRecursion AttributeFits vs → AllByRecursion NotEmptyPorts vs
-    → AllByRecursion (IsWritten family) vs
-each_written family [] [] framed means fits ports = tt
-each_written family [] (v ∷ vs) framed means fits ports = absurd means
-each_written family (f ∷ fs) [] framed means fits ports = absurd means
-each_written family (f ∷ fs) (v ∷ vs) framed means fits ports = (
-  record {
-    writable = (attribute_lawful family).writable f v framed.0 means.0 fits.0;
-    means = (attribute_lawful family).back f v framed.0 means.0 fits.0 ports.0;
-  },
-  each_written family fs vs framed.1 means.1 fits.1 ports.1,
-)
-
--- ** messages by their frames
+use Rattle.message_diff.specs.Parts.{named_in}
+use Rattle.diff_laws.proofs.Read.{AreRead, values_in}
+use Rattle.diff_laws.proofs.Showing.{head}
+use Rattle.std.proofs.Common.{◌≡◌, ℕ, true, List, [], ◌∷◌, ◌++◌, refl, sym, ap, ◌∙◌, subst}
+use Rattle.std.proofs.Common.{take, append-nil}
+use Rattle.std.specs.Prelude.{◌-◌, codes}
+use Rattle.std.specs.Int.{w16}
+use Rattle.json.specs.Json.{no_members}
+use Rattle.link_vals.specs.AddressFamilyTable.{address_family_number}
+use Rattle.link_msg.specs.Header.{IsHeader}
+use Rattle.link_msg.specs.Tables.{attribute_frame}
+use Rattle.link_msg.specs.declared.numbers.TheConstants.{IFLA_ADDRESS}
+use Rattle.link_msg.proofs.Reading.{message_agrees}
+use Rattle.message_shown.specs.Attributes.{around, attribute_said, header_members, message_members}
+use Rattle.message_shown.specs.Contexts.{address_len_in}
+use Rattle.message_shown.specs.Places.{items_of, members_of}
+use Rattle.message_shown.specs.declared.context.Context.{Context}
+use Rattle.shown.specs.Drafts.{object_of}
+use Rattle.shown.specs.Values.{numbered}
+use Rattle.message_diff.specs.Parts.{are_single, frame_at, named_in}
+use Rattle.message_diff.specs.Trees.{Forest}
+use Rattle.diff_laws.proofs.Read.{AreRead, items_for, address_for}
+use Rattle.diff_laws.proofs.Trees.{one_tree}
+use Rattle.diff_laws.proofs.Showing.{head, message_fields, message_tokens}
+use Rattle.diff_laws.proofs.Showing.{followed_none, message_tree, showing}
+use Rattle.message_diff.proofs.LeftOut.{whole_tree}
+use Rattle.diff_laws.specs.LeftOut.{IsTree}
 
 pub record IsBuilt (family : AddressFamily) (b : List ℕ) (m : LinkMessage) : Type 0 where
   pub frames : List (List ℕ)
@@ -76,46 +48,6 @@ pub record IsBuilt (family : AddressFamily) (b : List ℕ) (m : LinkMessage) : T
   pub family_is : m.header.interface_family ≡ family
   pub header : IsHeader (take 16 b) m.header
   pub text : b ≡ take 16 b ++ concat frames
-
-behind : (b front rest : List ℕ) → b ≡ front ++ rest → length front ≡ 16 → drop 16 b ≡ rest
-behind b front rest is size =
-    ap (drop 16) is ∙ ap (λ n. drop n (front ++ rest)) (sym size) ∙ drop-append_seam front rest
-
-before : (b front rest : List ℕ) → b ≡ front ++ rest → length front ≡ 16 → take 16 b ≡ front
-before b front rest is size =
-    ap (take 16) is ∙ ap (λ n. take n (front ++ rest)) (sym size) ∙ take-append_seam front rest
-
-pub canonical_built : (b : List ℕ) (m : LinkMessage) → IsCanonical b m → IsBuilt m.header.interface_family b m
-canonical_built b m c =
-    let family : AddressFamily = m.header.interface_family in
-    let parts : b ≡ c.means.0 ++ c.means.1 = c.means.2 in
-    let size : length c.means.0 ≡ 16 = c.means.3.size in
-    let framed : AllByRecursion IsFrame c.means.4.0 =
-    frames_framed c.means.1 c.means.4.0 (bytes_right c.means.0 c.means.1 (subst IsBytes parts c.bytes)) c.means.4.1 in
-    let each : AllByRecursion (IsWritten family) m.attributes =
-    each_written family c.means.4.0 m.attributes framed c.means.4.2 c.fits.0 c.ports in
-    record {
-      frames = written m.attributes;
-      read = read_written family m.attributes each;
-      values = sym (values_written family m.attributes each);
-      family_is = refl;
-      header = subst (λ h. IsHeader h m.header) (sym (before b c.means.0 c.means.1 parts size)) c.means.3;
-      text =
-          sym (take-append-drop 16 b)
-          ∙ ap (λ l. take 16 b ++ l)
-          (behind b (header_bytes m.header) (canons attribute_frame m.attributes) c.text (header_length m.header)
-          ∙ written_joined m.attributes);
-    }
-
-module _ (family : AddressFamily) (b : List ℕ) (m : LinkMessage) (built : IsBuilt family b m) where
-  pub built_frames : frames_of b ≡ built.frames
-  built_frames =
-      ap frames_in (behind b (take 16 b) (concat built.frames) built.text built.header.size)
-      ∙ frames_whole built.frames (whole_each family built.frames built.read)
-
-pub frames_are : FramesAre
-unfolding canonical_built
-frames_are b m c = built_frames m.header.interface_family b m (canonical_built b m c)
 
 -- the frames of attributes mean them
 frames_read : (family : AddressFamily) (fs : List (List ℕ)) (all : AreRead family fs)
@@ -150,56 +82,32 @@ built_means family b m built = (
   list_means family m.header.interface_family built.frames built.read m.attributes built.values built.family_is,
 )
 
--- ** parts
+pub means_once : (b : List ℕ) (m n : LinkMessage) → Means b m → Means b n → m ≡ n
+means_once b m n one other = let both = sym (message_agrees.only b m one) ∙ message_agrees.only b n other in cc
 
-module _ (family : AddressFamily) (own other : List ℕ) (m n : LinkMessage) (built : IsBuilt family own m)
-    (others : IsBuilt family other n) where
-  abbrev pub left : List (List ℕ)
-  left = part_frames family built.frames others.frames
+-- ** what is shown of a message
 
-  pub part_is : part family own other ≡ take 16 own ++ concat (part_frames family built.frames others.frames)
-  unfolding part
-  part_is =
-      let here = built_frames family own m built in
-      let there = built_frames family other n others in
-      (λ i. take 16 own
-      ++ (concat (filter (is_taken (named_in family (there i))) (named_in family (here i)))
-      ++ unless_same (concat (kept_in family (here i))) (concat (kept_in family (there i)))))
-      ∙ ap (λ l. take 16 own ++ l) (sym (part_joined family built.frames others.frames))
+module _ (cx : Context) (family : AddressFamily) (b : List ℕ) (m : LinkMessage) (built : IsBuilt family b m) where
+  members_are : (known : Context) → around cx m ≡ known
+      → message_members cx b m
+      ≡ numbered (codes "ifi-family") (address_family_number family) ∷ header_members b
+      ++ members_of (items_for known family built.frames built.read)
+  members_are known is =
+      λ i. numbered (codes "ifi-family") (address_family_number (built.family_is i)) ∷ header_members b
+      ++ members_of (items_of attribute_frame (attribute_said (is i)) (built.values i))
 
-  pub front_is : take 16 (part family own other) ≡ take 16 own
-  front_is = before (part family own other) (take 16 own) (concat left) part_is built.header.size
+  pub shown_is : (known : Context) → around cx m ≡ known → are_single (named_in family built.frames) ≡ true
+      → (f : Forest)
+      → IsTree (message_members cx b m) f
+      → f ≡ whole_tree family (showing known family) (head b family) built.frames
+  shown_is known is single f tree =
+      one_tree (message_members cx b m) (message_fields known family b built.frames no_members)
+      (ap object_of (members_are known is)
+      ∙ ap object_of (sym (append-nil (numbered (codes "ifi-family") (address_family_number family) ∷ header_members b
+      ++ members_of (items_for known family built.frames built.read))))
+      ∙ message_tokens known family b built.frames built.read single no_members [] refl) f tree
+      ∙ message_tree known family b built.frames no_members Forest.none (λ place. refl)
+      ∙ followed_none (whole_tree family (showing known family) (head b family) built.frames)
 
-  abbrev pub part_message : LinkMessage
-  part_message = record {
-    header = m.header;
-    attributes = values_in family (part_frames family built.frames others.frames)
-        (part_read family built.frames others.frames built.read);
-  }
-
-  abbrev pub part_built : IsBuilt family (part family own other) part_message
-  part_built = record {
-    frames = part_frames family built.frames others.frames;
-    read = part_read family built.frames others.frames built.read;
-    values = refl;
-    family_is = built.family_is;
-    header = subst (λ h. IsHeader h m.header) (sym front_is) built.header;
-    text = part_is
-        ∙ ap (λ l. l ++ concat (part_frames family built.frames others.frames)) (sym front_is);
-  }
-
-  -- the header is shown as that of the whole message
-  pub part_head : head (part family own other) family ≡ head own family
-  part_head =
-      let size : length (take 16 own) ≡ 16 = built.header.size in
-      head_same (part family own other) own family
-      (same w16 2 (omega (arith, size))) (same w32 4 (omega (arith, size))) (same w32 8 (omega (arith, size)))
-      (same w32 12 (omega (arith, size)))
-    where
-      same : (w : Width) (place : ℕ) → place + byte_len w ≤ length (take 16 own)
-          → number_at w (part family own other) place ≡ number_at w own place
-      same w place within =
-          ap (λ (l : List ℕ). number_at w l place) part_is
-          ∙ number_at_before w (take 16 own) (concat left) place within
-          ∙ sym (ap (λ (l : List ℕ). number_at w l place) built.text
-          ∙ number_at_before w (take 16 own) (concat built.frames) place within)
+  pub len_is : address_len_in m.attributes ≡ number_at w16 (frame_at (named_in family built.frames) IFLA_ADDRESS) 0 - 4
+  len_is = ap address_len_in built.values ∙ address_for family built.frames built.read

@@ -45,12 +45,11 @@ use Rattle.message_diff.specs.Trees.{Forest, members_forest}
 use Rattle.message_diff.proofs.LeftOut.{followed, whole_tree}
 use Rattle.diff_laws.specs.Leniently.{IsCanonicalLeniently, IsTreeOf}
 use Rattle.diff_laws.proofs.Among.{address_among, filter_swap}
-use Rattle.diff_laws.proofs.Built.{IsBuilt, built_means}
+use Rattle.diff_laws.proofs.Built.{IsBuilt, built_means, len_is, shown_is}
 use Rattle.diff_laws.proofs.Cut.{IsCut, AreCut, accepts, refuses, accepted_are, cut_frame, frames_cut, frames_in}
 use Rattle.diff_laws.proofs.Cut.{items_cut}
 use Rattle.diff_laws.proofs.Cut.{raw_member, raws_are}
 use Rattle.diff_laws.proofs.Frames.{IsWhole, framed, frames_whole}
-use Rattle.diff_laws.proofs.LeftOut.{len_is, shown_is}
 use Rattle.diff_laws.proofs.Parts.{filter_all, single_filtered}
 use Rattle.diff_laws.proofs.Raw.{raw_holder, refused_at, refused_fields, refused_tokens}
 use Rattle.diff_laws.proofs.Read.{AreRead, address_for, items_for, values_in}
@@ -204,12 +203,6 @@ module _ (family : AddressFamily) (b : List ℕ) (s : IsSplit family b) where
   items_is : items (drop 16 b) ≡ all_frames (frames_in s.frames)
   items_is = ap items behind_is ∙ items_cut family s.frames s.cut
 
-  abbrev ok : List (List ℕ)
-  ok = filter (accepts family) s.frames
-
-  abbrev left : List (List ℕ)
-  left = filter (refuses family) s.frames
-
   pub means_leniently : (m : LinkMessage) × MeansLeniently b m × (m.header ≡ s.fields)
   means_leniently =
       let values = values_cut family s.frames s.cut in (
@@ -262,13 +255,16 @@ module _ (family : AddressFamily) (b : List ℕ) (s : IsSplit family b) where
       let clash : r ∷ rs ≡ [] = sym some ∙ none in
       absurd cc
 
+-- the frames of a canonical encoding
+pub canonical_frames : (b : List ℕ) (m : LinkMessage) → IsCanonicalLeniently b m
+    → frames_of b ≡ map (λ v. canon (attribute_frame v)) m.attributes
+unfolding canonical_split
+canonical_frames b m c = split_frames m.header.interface_family b (canonical_split b m c)
+
 -- ** what is shown of them
 
 module _ (cx : Context) (family : AddressFamily) (b : List ℕ) (s : IsSplit family b)
     (single : are_single (named_in family s.frames) ≡ true) where
-  abbrev known : Context
-  known = known_for cx family s.frames
-
   single_ok : are_single (named_in family (filter (accepts family) s.frames)) ≡ true
   single_ok =
       ap are_single (filter_swap (λ f. not (is_kept family f)) (accepts family) s.frames)
@@ -296,9 +292,6 @@ module _ (cx : Context) (family : AddressFamily) (b : List ℕ) (s : IsSplit fam
         port_place = cx.port_place;
         address_len = same i;
       }
-
-  abbrev shown : Forest
-  shown = whole_tree family (showing known family) (head b family) (filter (accepts family) s.frames)
 
   -- all accepted
   strict_is : (f : Forest) → IsTreeOf cx b f → filter (refuses family) s.frames ≡ []

@@ -5,14 +5,12 @@ use Rattle.std.proofs.Common.{take, arith}
 use Rattle.std.specs.Prelude.{◌-◌, cond, not}
 use Rattle.std.specs.Int.{Width, byte_len, w16, w32}
 use Rattle.std.specs.List.{AllByRecursion, concat, filter}
-use Rattle.std.proofs.lemmas.Bool.{and_parts}
 use Rattle.json.specs.Print.{escape}
 use Rattle.std.specs.Prelude.{codes}
 use Rattle.nla_wire.specs.Fields.{number_at}
 use Rattle.nla_wire.proofs.Back.{all_filtered}
 use Rattle.nla_wire.proofs.FieldLemmas.{number_at_before}
 use Rattle.link_vals.specs.declared.address_family.AddressFamily.{AddressFamily}
-use Rattle.link_msg.specs.Header.{IsHeader}
 use Rattle.link_msg.specs.Lenient.{MeansLeniently}
 use Rattle.link_msg.specs.Messages.{Means}
 use Rattle.link_msg.specs.declared.message.LinkMessage.{LinkMessage}
@@ -22,8 +20,7 @@ use Rattle.message_shown.specs.Attributes.{message_members}
 use Rattle.message_shown.specs.declared.context.Context.{Context}
 use Rattle.message_diff.specs.Differences.{diffs}
 use Rattle.message_diff.specs.Frames.{frames_of}
-use Rattle.message_diff.specs.Parts.{are_alike, are_single, family_of, frame_at, is_kept, is_taken, kept_in, named_in}
-use Rattle.message_diff.specs.Parts.{part, same_family, unless_same}
+use Rattle.message_diff.specs.Parts.{is_kept, is_taken, kept_in, same_family, unless_same}
 use Rattle.message_diff.specs.Trees.{Forest, beside, members_forest}
 use Rattle.message_diff.proofs.LeftOut.{AreTwo, IsNamed, followed, parts_beside, whole_tree}
 use Rattle.message_diff.proofs.PartFrames.{IsSome}
@@ -32,9 +29,8 @@ use Rattle.diff_laws.specs.LeftOut.{IsTree, part_of}
 use Rattle.diff_laws.specs.Leniently.{IsTreeOf, HavePartsLeniently, PartsMeanLeniently, PartsHaveTrees}
 use Rattle.diff_laws.specs.Leniently.{LenientRowsStay, LenientChangesStay}
 use Rattle.diff_laws.proofs.Among.{accepted_part, cut_some, filter_swap, refused_named, refused_part}
-use Rattle.diff_laws.proofs.Built.{built_means}
+use Rattle.diff_laws.proofs.Built.{built_means, means_once}
 use Rattle.diff_laws.proofs.Cut.{IsCut, AreCut, accepts, refuses, kept_accepts}
-use Rattle.diff_laws.proofs.LeftOut.{AreAlike, alike_is, family_in, family_same, means_once}
 use Rattle.diff_laws.proofs.Lenient.{IsSplit, before, canonical_split, known_for, lenient_fields, lenient_tokens}
 use Rattle.diff_laws.proofs.Lenient.{meant_built, means_leniently, nothing_meant, shown_leniently, split_frames}
 use Rattle.diff_laws.proofs.Parts.{part_address, part_all, part_frames, part_joined, part_single, single_filtered}
@@ -42,6 +38,44 @@ use Rattle.diff_laws.proofs.Raw.{holder_free, raw_holder, raw_showing, raw_tells
 use Rattle.diff_laws.proofs.Refused.{held_same, rows_split}
 use Rattle.diff_laws.proofs.Showing.{head, head_is, head_same, heads_among, showing}
 use Rattle.diff_laws.proofs.Trees.{have_trees}
+use Rattle.message_diff.specs.Parts.{address_len, are_alike, are_single, family_of, frame_at, named_in, part}
+use Rattle.link_msg.specs.Header.{header_of, IsHeader}
+use Rattle.std.proofs.lemmas.Bool.{eqb-true, and_parts}
+
+-- ** where there are parts
+
+pub family_in : (b : List ℕ) (m : LinkMessage) → IsHeader (take 16 b) m.header → family_of b ≡ m.header.interface_family
+unfolding header_of
+family_in [] m header = sym (ap (λ (h : _). h.interface_family) header.says)
+family_in (x ∷ b) m header = sym (ap (λ (h : _). h.interface_family) header.says)
+
+pub family_same : (own other : List ℕ) → same_family own other ≡ true → family_of own ≡ family_of other
+family_same [] other same = absurd cc
+family_same (x ∷ own) [] same = absurd cc
+family_same (x ∷ own) (y ∷ other) same = ap (λ (n : ℕ). family_of (n ∷ [])) (eqb-true x y same)
+
+abbrev pub SameAddress : (family : AddressFamily) (a b : List (List ℕ)) → Type 0
+SameAddress family a b =
+    number_at w16 (frame_at (named_in family a) IFLA_ADDRESS) 0
+    ≡ number_at w16 (frame_at (named_in family b) IFLA_ADDRESS) 0
+
+pub record AreAlike (family : AddressFamily) (a b : List (List ℕ)) : Type 0 where
+  pub single : are_single (named_in family a) ≡ true
+  pub single_too : are_single (named_in family b) ≡ true
+  pub address : SameAddress family a b
+
+pub alike_is : (family : AddressFamily) (old new : List ℕ) → are_alike family old new ≡ true
+    → AreAlike family (frames_of old) (frames_of new)
+unfolding are_alike
+alike_is family old new alike =
+    let first = and_parts (are_single (named_in family (frames_of old))) _ alike in
+    let second = and_parts (are_single (named_in family (frames_of new))) _ first.1 in
+    record {
+      single = first.0;
+      single_too = second.0;
+      address = eqb-true (address_len (named_in family (frames_of old))) (address_len (named_in family (frames_of new)))
+          second.1;
+    }
 
 -- ** parts
 
@@ -64,14 +98,14 @@ module _ (family : AddressFamily) (own other : List ℕ) (a : IsSplit family own
       before (part family own other) (take 16 own) (concat (part_frames family a.frames b.frames)) part_is
       a.header.size
 
-  part_text : part family own other
+  pub part_text : part family own other
       ≡ take 16 (part family own other) ++ concat (part_frames family a.frames b.frames)
   part_text = part_is ∙ ap (λ l. l ++ concat (part_frames family a.frames b.frames)) (sym front_is)
 
-  part_header : IsHeader (take 16 (part family own other)) a.fields
+  pub part_header : IsHeader (take 16 (part family own other)) a.fields
   part_header = subst (λ h. IsHeader h a.fields) (sym front_is) a.header
 
-  abbrev part_split : IsSplit family (part family own other)
+  abbrev pub part_split : IsSplit family (part family own other)
   part_split = record {
     frames = part_frames family a.frames b.frames;
     cut = part_all family a.frames b.frames (IsCut family) a.cut;
@@ -113,14 +147,14 @@ named_left family (f ∷ fs) all =
     by false is false at some rest = ((some, at), rest)
 
 -- two messages by their frames
-record AreSplit (family : AddressFamily) (old new : List ℕ) : Type 0 where
+pub record AreSplit (family : AddressFamily) (old new : List ℕ) : Type 0 where
   pub old_split : IsSplit family old
   pub new_split : IsSplit family new
   pub alike : AreAlike family old_split.frames new_split.frames
   pub old_family : family_of old ≡ family
   pub new_family : family_of new ≡ family
 
-abbrev turned : (family : AddressFamily) (old new : List ℕ) → AreSplit family old new → AreSplit family new old
+abbrev pub turned : (family : AddressFamily) (old new : List ℕ) → AreSplit family old new → AreSplit family new old
 turned family old new s = record {
   old_split = s.new_split;
   new_split = s.old_split;
@@ -133,7 +167,7 @@ turned family old new s = record {
   new_family = s.old_family;
 }
 
-both_split : (old new : List ℕ) (m n : LinkMessage) → HavePartsLeniently old new m n
+pub both_split : (old new : List ℕ) (m n : LinkMessage) → HavePartsLeniently old new m n
     → AreSplit m.header.interface_family old new
 both_split old new m n have =
     let both = and_parts (same_family old new) (are_alike (family_of old) old new) have.parts in

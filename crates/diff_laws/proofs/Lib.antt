@@ -7,7 +7,6 @@ pub mod Read
 pub mod Showing
 pub mod Parts
 pub mod Built
-pub mod LeftOut
 pub mod Trees
 pub mod Refused
 pub mod Cut
@@ -15,3 +14,4 @@ pub mod Raw
 pub mod Among
 pub mod Lenient
 pub mod Leniently
+pub mod LeftOut

@@ -11,9 +11,6 @@ use Rattle.message_diff.specs.Frames.{frame_number}
 use Rattle.message_diff.specs.Known.{is_text}
 use Rattle.message_diff.specs.Parts.{is_kept, kept_in, named_in, has_number, frame_at, are_single, is_taken}
 use Rattle.message_diff.specs.Parts.{unless_same}
-use Rattle.message_diff.specs.Trees.{Forest}
-use Rattle.message_diff.proofs.LeftOut.{Showing, whole_tree, part_tree, followed, trees, last_tree}
-use Rattle.diff_laws.proofs.Read.{IsReadAs, AreRead}
 
 -- ** lists
 
@@ -132,9 +129,6 @@ module _ (family : AddressFamily) (own other : List (List ℕ)) where
       (all_filtered P (λ f. not (is_kept family f)) own all))
       (all_if P is_same (kept_in family own) (all_filtered P (is_kept family) own all))
 
-  pub part_read : AreRead family own → AreRead family part_frames
-  part_read all = part_all (IsReadAs family) all
-
   not_kept : AllByRecursion (λ f. not (is_kept family f) ≡ true)
       (filter (is_taken (named_in family other)) (named_in family own))
   not_kept =
@@ -191,8 +185,3 @@ module _ (family : AddressFamily) (own other : List (List ℕ)) where
   part_address =
       ap (λ fs. frame_at fs IFLA_ADDRESS) named_part
       ∙ address_stays (named_in family other) (named_in family own)
-
-  -- a part is shown as a part of what is shown
-  pub tree_part : (s : Showing family) (head : Forest)
-      → whole_tree family s head part_frames ≡ part_tree family s head own other
-  tree_part s head = λ i. followed head (trees family s (named_part i) (last_tree family s (kept_joined i)))

@@ -171,9 +171,6 @@ refused_tokens f fs =
 
 -- ** it is found in no other way
 
-abbrev refused_label : List ℕ
-refused_label = escape (codes "refused")
-
 abbrev AreOff : Forest → Type 0
 AreOff Forest.none = Unit {0}
 AreOff (Forest.tree label text inside rest) =

@@ -109,10 +109,6 @@ zip_one f one [] vs = tt
 zip_one f one (name ∷ names) [] = tt
 zip_one f one (name ∷ names) (v ∷ vs) = (one v, zip_one f one names vs)
 
--- one member under a name
-pub named_one : (name : List ℕ) (ts : List Token) → IsOne ts → AreOne ((name, ts) ∷ [])
-named_one name ts one = (one, tt)
-
 pub objects_one : (os : List Members) → AllByRecursion AreOne os → AllByRecursion IsOne (map object_of os)
 objects_one [] all = tt
 objects_one (o ∷ os) all = (object_one o all.0, objects_one os all.1)

@@ -1,4 +1,4 @@
-use Rattle.diff_laws.proofs.Built.{frames_are}
+use Rattle.diff_laws.proofs.LeftOut.{frames_are}
 use Rattle.diff_laws.proofs.law_frames.Goals as goal
 
 pub returns : goal.returns
