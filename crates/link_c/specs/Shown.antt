@@ -1,10 +1,7 @@
 -- What `linkwire_show` writes: a text, for which the buffer may have no room.
 use Rattle.std.specs.Prelude.{◌≡◌, ℕ, ◌==◌, ◌<◌, List, [], length, Bool, true, false, None, Result, Ok, Err, cond}
 use Rattle.nla_wire.specs.Canon.{Writes}
-use Rattle.line_filter.specs.Lines.{with_lf}
-use Rattle.message_shown.specs.Attributes.{TellsMessage}
-use Rattle.message_shown.specs.Leniently.{IsLenientAnswerTo, TellsLeniently}
-use Rattle.message_shown.specs.Lines.{Answering, Telling, IsAnswerTo}
+use Rattle.message_shown.specs.Whole.{Whole, IsWholeAnswerTo, IsWholeLenientAnswerTo}
 use Rattle.message_shown.specs.Worded.{order_of, order_or}
 use Rattle.message_shown.specs.declared.context.Context.{Context}
 use Rattle.message_shown.specs.declared.context.Order.{Order}
@@ -49,18 +46,17 @@ pub record IsPlainContext (order : Order) (cx : Context) : Type 0 where
   pub port : cx.port_place ≡ None
   pub address : cx.address_len ≡ 0
 
--- the text answers a line that spells these bytes, with no words in front of them, where they are read so
-pub record AnswersBy (To : Answering) (Tells : Telling) (order : Order) (bytes text : List ℕ) : Type 0 where
-  pub answer : To [] bytes text
+-- the text is the whole answer to a line that spells these bytes, with no words in front, where they are read so
+pub record AnswersBy (To : Whole) (order : Order) (bytes text : List ℕ) : Type 0 where
   pub context : Context
   pub plain : IsPlainContext order context
-  pub told : Tells [] context bytes [] (with_lf text)
+  pub answer : To context [] bytes text
 
 -- read leniently or not: where they mean a message, by all its members; leniently where their frames fit, by all that
--- are accepted and all that are refused; and else by their first fault
+-- are accepted and all that are refused; and else by their first fault, and all that is said of it
 abbrev pub Answers : Bool → Order → List ℕ → List ℕ → Type 0
-Answers false = AnswersBy IsAnswerTo TellsMessage
-Answers true = AnswersBy IsLenientAnswerTo TellsLeniently
+Answers false = AnswersBy IsWholeAnswerTo
+Answers true = AnswersBy IsWholeLenientAnswerTo
 
 -- the answer to these bytes by what the flags say, n bytes; or memory ran out, or a flag is none, and the buffer is as
 -- it was

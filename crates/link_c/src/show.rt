@@ -60,7 +60,7 @@ fn answer_by<R: Reading>(
     bytes: &[u8],
 ) -> Result<Vec<u8>, AllocError>
     ensures { IfOk result (λ line. (text : List ℕ)
-        × AnswersBy R.is_answer R.tells order bytes.now text × (line.items ≡ with_lf text)) }
+        × AnswersBy R.is_answer order bytes.now text × (line.items ≡ with_lf text)) }
 {
     let tables = all_rows();
     let cx = Context::new(alloc, &tables, order);
