@@ -28,7 +28,8 @@ _SO_RCVBUFFORCE, _CLONE_NEWNET = 33, 0x40000000
 _NLMSGERR_ATTR_MSG = 1
 _LINKS = numbers.RTM_NEWLINK, numbers.RTM_DELLINK
 _ENOBUFS, _MSG_TRUNC = 105, 0x20
-_QUEUE, _ROOM = 1 << 22, 1 << 18
+_QUEUE = 1 << 22
+_ROOM = 120_000  # more than a message of the kernel has, and less than malloc maps anew each time
 _HEADER = struct.Struct("=IHHII")
 
 
@@ -97,7 +98,7 @@ class _Socket:
         except BaseException:
             self.it.close()
             raise
-        self._room = bytearray(_ROOM)
+        self._room = _ROOM
 
     def _widen(self, queue: int) -> None:
         try:
@@ -108,15 +109,15 @@ class _Socket:
     def receive(self, flags: int = 0) -> List[_Part]:
         """The messages of one datagram. Raises LostMessages where the queue ran over, and BlockingIOError."""
         try:
-            size, _, cut, _ = self.it.recvmsg_into([self._room], 0, flags)
+            datagram, _, cut, _ = self.it.recvmsg(self._room, 0, flags)
         except OSError as error:
             if error.errno == _ENOBUFS:
                 raise LostMessages(_ENOBUFS, "the queue ran over") from None
             raise
         if cut & _MSG_TRUNC:  # the next one has room
-            self._room = bytearray(2 * len(self._room))
+            self._room *= 2
             raise LostMessages(_ENOBUFS, "a datagram was cut off")
-        datagram, at, found = bytes(memoryview(self._room)[:size]), 0, []
+        size, at, found = len(datagram), 0, []
         header, new = _HEADER.unpack_from, tuple.__new__  # thrice as fast as _Part(..), and there are many
         while at + 16 <= size:
             length, kind, flags, turn, port = header(datagram, at)
@@ -143,6 +144,7 @@ class _Dumps:
         self.port, self.families, self.mask, self.is_monitor = port, families, mask, is_monitor
         self.turn, self.at = 0, len(families)
         self.held: List[_Part] = []
+        self.others = 0  # how many of these are no answer of the dump that runs
         self.is_interrupted = self.is_lost = False
 
     @property
@@ -183,9 +185,10 @@ class _Dumps:
         self.held += parts
         if not self.is_dumping:
             return self._released(False), None, None
-        turn, is_over, new = self.turn, False, numbers.RTM_NEWLINK
+        turn, port, is_over, new = self.turn, self.port, False, numbers.RTM_NEWLINK
         for it in parts:
-            if it.turn != turn or it.kind != new or it.flags & _NLM_F_DUMP_INTR:
+            if it.turn != turn or it.kind != new or it.port != port or it.flags & _NLM_F_DUMP_INTR:
+                self.others += 1
                 is_over |= self._is_end(it)
         if not is_over:
             return [], None, None
@@ -200,6 +203,9 @@ class _Dumps:
 
     def _released(self, answers: bool) -> List[_Part]:
         held, self.held = self.held, []
+        others, self.others = self.others, 0
+        if answers and others == 1 and held[-1].kind == _NLMSG_DONE:  # all in front of the end are answers
+            return held[:-1]
         turn, port = self.turn, self.port
         return [it for it in held if it.kind in _LINKS and (answers if it.turn == turn and it.port == port else
                                                             self.is_monitor and self.is_wanted(it))]
