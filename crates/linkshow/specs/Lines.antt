@@ -4,7 +4,7 @@ use Rattle.std.specs.Borrow.{Bor}
 use Rattle.link_info.specs.declared.style.Row.{Row}
 use Rattle.line_filter.specs.Lines as filter
 use Rattle.line_filter.specs.declared.error.RunError.{RunError}
-use Rattle.message_shown.specs.Whole.{Kept, Whole, IsWholeAnswer}
+use Rattle.message_shown.specs.Whole.{Whole, IsWholeAnswer}
 use Rattle.message_shown.specs.declared.context.Order.{Order}
 
 -- what each line is answered by these rows, with this order of counters where it says none

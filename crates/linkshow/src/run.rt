@@ -14,9 +14,9 @@ use std::io::{Read, Write};
 ///
 /// The counters of IPv6 have this order, where a line does not say another one by a word `kernel` in front of it. A
 /// line ends with an LF; bytes after the last LF are one too. Every answer to what was read is written before the next
-/// read. A reader or writer that fails is not asked again, and the run is over: `Read` where the reader fails or has
-/// not ended after 2^64 - 1 reads, `Write` where the writer fails or takes no byte, and `OutOfMemory` where an
-/// allocation is refused.
+/// read. A reader or writer that fails is not asked again, but where a write was interrupted, and the run is over:
+/// `Read` where the reader fails or has not ended after 2^64 - 1 reads, `Write` where the writer fails or takes no
+/// byte, and `OutOfMemory` where an allocation is refused.
 pub fn run<B: Reading, R: Read, W: Write>(
     alloc: Global,
     reading: B,
