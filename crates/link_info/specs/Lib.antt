@@ -3,4 +3,7 @@ pub mod Meanings
 pub mod Tables
 pub mod Laws
 pub mod Places
+pub mod Lent
+pub mod Values
+pub mod Rows
 pub mod Built

@@ -1,7 +1,9 @@
 //! The places of rows: each has a table.
 
-ghost use Rattle.std.specs.Prelude.{◌≡◌};
+ghost use Rattle.std.specs.Prelude.{◌≡◌, map};
+ghost use Rattle.link_info.specs.Lent.{row_now};
 ghost use Rattle.link_info.specs.Places.{place_among, place_number, place_of_kind, place_of_slave_kind, rows_of};
+ghost use Rattle.link_info.specs.Rows.{AreAllRows, own_rows};
 
 use crate::style::Row;
 use crate::tables::{
@@ -238,7 +240,9 @@ impl Place {
     }
 
     /// Its rows.
-    pub fn rows(self) -> &'static [Row] {
+    pub fn rows(self) -> &'static [Row]
+        ensures { map row_now result.now ≡ own_rows self }
+    {
         match self {
             Place::Vlan => vlan::VLAN,
             Place::VlanQos => vlan::VLAN_QOS,
@@ -303,7 +307,9 @@ impl Place {
 }
 
 /// The rows of all places, in their order.
-pub fn all_rows() -> Tables {
+pub fn all_rows() -> Tables
+    ensures { AreAllRows result }
+{
     [
         Place::Vlan.rows(),
         Place::VlanQos.rows(),
