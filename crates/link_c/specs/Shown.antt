@@ -1,6 +1,7 @@
 -- What `linkwire_show` writes: a text, for which the buffer may have no room.
-use Rattle.std.specs.Prelude.{◌≡◌, ℕ, ◌==◌, ◌<◌, List, [], length, Bool, true, false, None, Result, Ok, Err, cond}
+use Rattle.std.specs.Prelude.{◌≡◌, ℕ, ◌==◌, ◌<◌, List, [], length, Bool, true, false, Result, Ok, Err, cond}
 use Rattle.nla_wire.specs.Canon.{Writes}
+use Rattle.message_shown.specs.Contexts.{IsPlain}
 use Rattle.message_shown.specs.Whole.{Whole, IsWholeAnswerTo, IsWholeLenientAnswerTo}
 use Rattle.message_shown.specs.Worded.{order_of, order_or}
 use Rattle.message_shown.specs.declared.context.Context.{Context}
@@ -39,17 +40,10 @@ PutsWhole text old new n = (n ≡ length text) × Puts text old new
 
 -- ** what is shown
 
--- what attributes are shown by where nothing is known but the order of the counters of IPv6
-pub record IsPlainContext (order : Order) (cx : Context) : Type 0 where
-  pub order_is : cx.order ≡ order
-  pub link : cx.link_place ≡ None
-  pub port : cx.port_place ≡ None
-  pub address : cx.address_len ≡ 0
-
 -- the text is the whole answer to a line that spells these bytes, with no words in front, where they are read so
 pub record AnswersBy (To : Whole) (order : Order) (bytes text : List ℕ) : Type 0 where
   pub context : Context
-  pub plain : IsPlainContext order context
+  pub plain : IsPlain order context
   pub answer : To context [] bytes text
 
 -- read leniently or not: where they mean a message, by all its members; leniently where their frames fit, by all that

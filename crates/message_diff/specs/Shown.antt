@@ -1,9 +1,10 @@
 -- What is shown of two messages that are compared.
-use Rattle.std.specs.Prelude.{◌≡◌, ℕ, List, [], Bool, true, None}
+use Rattle.std.specs.Prelude.{◌≡◌, ℕ, List, [], Bool, true}
 use Rattle.link_msg.specs.Lenient.{MeansLeniently}
 use Rattle.link_msg.specs.Messages.{Means, MeansNothing}
 use Rattle.link_msg.specs.declared.message.LinkMessage.{LinkMessage}
 use Rattle.message_shown.specs.Attributes.{message_members}
+use Rattle.message_shown.specs.Contexts.{IsPlain}
 use Rattle.message_shown.specs.Raw.{lenient_members}
 use Rattle.message_shown.specs.declared.context.Context.{Context}
 use Rattle.message_shown.specs.declared.context.Order.{Order}
@@ -18,17 +19,10 @@ use Rattle.message_diff.specs.Marked.{AreMarksOf}
 use Rattle.message_diff.specs.Parts.{have_parts, part_if}
 use Rattle.message_diff.specs.Trees.{Forest, beside, beside_in}
 
--- nothing of a message is known yet but the order of its counters
-pub record IsBefore (order : Order) (cx : Context) : Type 0 where
-  pub order_is : cx.order ≡ order
-  pub link : cx.link_place ≡ None
-  pub port : cx.port_place ≡ None
-  pub address : cx.address_len ≡ 0
-
 -- the page shows what the bytes mean, or mean leniently
 pub record IsShown (order : Order) (bytes : List ℕ) (page : MarkedText) : Type 0 where
   pub cx : Context
-  pub before : IsBefore order cx
+  pub before : IsPlain order cx
   pub meant : (m : LinkMessage) → Means bytes m
       → IsMarkedText (with_members (message_members cx bytes m) empty_object) page
   pub leniently : (m : LinkMessage) → MeansLeniently bytes m → MeansNothing bytes

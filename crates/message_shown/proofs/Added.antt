@@ -26,9 +26,10 @@ use Rattle.message_shown.specs.Lines.{Answering, IsAnswer, IsAnswerTo, IsAnswerT
 use Rattle.message_shown.specs.Lines.{whole_object}
 use Rattle.message_shown.specs.Lines.{AddsAnswerOf, AddsAnswerTo, AddsSpelled}
 use Rattle.message_shown.specs.Lines.{fault_member, fault_head, family_member, nothex_member}
-use Rattle.message_shown.specs.Whole.{Kept, Whole, BeginsAs, TellsAs, IsWholeAnswer, IsWholeAnswerTo, ToLine}
+use Rattle.message_shown.specs.Whole.{Whole, BeginsAs, TellsAs, IsWholeAnswer, IsWholeAnswerTo, ToLine}
 use Rattle.message_shown.specs.Worded.{words_shown}
 use Rattle.message_shown.specs.declared.context.Context.{Context}
+use Rattle.message_shown.specs.declared.context.Order.{Order}
 
 -- ** what is added
 pub lf_after : (old text mid new : List ℕ) → mid ≡ old ++ text → new ≡ mid ++ 10 ∷ [] → new ≡ old ++ with_lf text
@@ -162,18 +163,18 @@ both_ok P Q (Ok x) p q = (p, q)
 both_ok P Q (Err e) p q = tt
 
 -- the words are those in front of the line, and the rest stands behind them; what is kept stayed
-pub takes_line : (To : Whole) (kept after : Kept) (line front rest old new : List ℕ)
-    → front ≡ front_of line → rest ≡ rest_of line → AddsAnswerOf (ToLine To kept front) front rest old new
-    → after ≡ kept
-    → (added : List ℕ) × (((answer : List ℕ) × IsWholeAnswer To kept line answer × (added ≡ with_lf answer))
-    × (after ≡ kept)) × (new ≡ old ++ added)
-takes_line To kept after line front rest old new f is s same = (
+pub takes_line : (To : Whole) (order after : Order) (line front rest old new : List ℕ)
+    → front ≡ front_of line → rest ≡ rest_of line → AddsAnswerOf (ToLine To order front) front rest old new
+    → after ≡ order
+    → (added : List ℕ) × (((answer : List ℕ) × IsWholeAnswer To order line answer × (added ≡ with_lf answer))
+    × (after ≡ order)) × (new ≡ old ++ added)
+takes_line To order after line front rest old new f is s same = (
   with_lf s.0,
   (
     (
       s.0,
-      subst (λ w. IsAnswerOf (ToLine To kept w) w (rest_of line) s.0) f
-          (subst (λ r. IsAnswerOf (ToLine To kept front) front r s.0) is s.1),
+      subst (λ w. IsAnswerOf (ToLine To order w) w (rest_of line) s.0) f
+          (subst (λ r. IsAnswerOf (ToLine To order front) front r s.0) is s.1),
       refl,
     ),
     same,
@@ -210,13 +211,13 @@ either_words : (b : Bool) (own : Type 0) (P Q : Type 0) → (P → Q) → MatchB
 either_words true own P Q to is = is
 either_words false own P Q to is = to is
 
-pub line_begins : (To : Whole) (Head : Answering) → BeginsAs To Head → (kept : Kept) (line answer : List ℕ)
-    → IsWholeAnswer To kept line answer → IsAnswer Head line answer
-line_begins To Head begin kept line answer =
+pub line_begins : (To : Whole) (Head : Answering) → BeginsAs To Head → (order : Order) (line answer : List ℕ)
+    → IsWholeAnswer To order line answer → IsAnswer Head line answer
+line_begins To Head begin order line answer =
     let front : List ℕ = front_of line in
     let words : Members = words_shown front in
     either_words (are_alone front (rest_of line)) (answer ≡ whole_object words) _ _
-    (spelled_begins (ToLine To kept front) Head (λ ms b a h. begin h.0 ms b a h.2) words
+    (spelled_begins (ToLine To order front) Head (λ ms b a h. begin h.0 ms b a h.2) words
     (decode_of (digits_of (rest_of line))) answer)
 
 -- bytes mean one message

@@ -9,3 +9,5 @@ mod Kept
 pub mod Leniently
 mod Raw
 mod Faults
+mod Plain
+mod Alike

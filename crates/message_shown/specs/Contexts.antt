@@ -1,11 +1,14 @@
 -- What is known of a message beside the attribute that is shown.
-use Rattle.std.specs.Prelude.{ℕ, ◌==◌, List, [], ◌∷◌, Option, None, Some, cond, codes, length, option_map}
+use Rattle.std.specs.Prelude.{◌≡◌, ℕ, ◌==◌, List, [], ◌∷◌, Option, None, Some, cond, codes, length, map, option_map}
 use Rattle.std.specs.Prelude.{option_and_then}
 use Rattle.nla_wire.specs.Frames.{number}
 use Rattle.link_info.specs.Built.{kind_in}
+use Rattle.link_info.specs.Lent.{member_now}
 use Rattle.link_info.specs.Meanings.{Meaning, Raw, Present, Number, Signed, Words, Hardware, Four, Six, Members}
 use Rattle.link_info.specs.Meanings.{Elements, Listed, Nested, read_as}
 use Rattle.link_info.specs.Places.{place_of_kind, place_of_slave_kind}
+use Rattle.link_info.specs.Rows.{AreAllRows}
+use Rattle.link_info.specs.Values.{can_counters}
 use Rattle.link_info.specs.declared.place.Place.{Place}
 use Rattle.link_info.specs.declared.place.Place.TheVariants as Places
 use Rattle.link_info.specs.declared.style.Row.{Row}
@@ -16,6 +19,7 @@ use Rattle.link_nest.specs.declared.link_info.LinkInfo.TheVariants as Infos
 use Rattle.link_msg.specs.declared.attribute.LinkAttribute.{LinkAttribute}
 use Rattle.link_msg.specs.declared.attribute.LinkAttribute.TheVariants as Attributes
 use Rattle.message_shown.specs.declared.context.Context.{Context}
+use Rattle.message_shown.specs.declared.context.Order.{Order}
 
 -- a name, and how a payload is spelled
 abbrev pub Known : Type 0
@@ -23,6 +27,15 @@ Known = List ℕ × Style
 
 abbrev pub of_row : Option Row → Option Known
 of_row row = option_map (λ row. (row.1.now, row.2)) row
+
+-- nothing is known of a message yet but the order of its counters: the rows are those of each place
+pub record IsPlain (order : Order) (cx : Context) : Type 0 where
+  pub tables : AreAllRows cx.tables.now
+  pub counters : map member_now cx.can_stats.now ≡ can_counters
+  pub order_is : cx.order ≡ order
+  pub link : cx.link_place ≡ None
+  pub port : cx.port_place ≡ None
+  pub address : cx.address_len ≡ 0
 
 -- ** what other attributes say
 

@@ -18,3 +18,4 @@ pub mod Leniently
 pub mod Raw
 pub mod Faults
 pub mod Whole
+pub mod Plain

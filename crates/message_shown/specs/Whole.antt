@@ -1,7 +1,5 @@
 -- What each line is answered, to the last token.
-use Rattle.std.specs.Prelude.{◌≡◌, ℕ, List, ◌∷◌, ◌++◌, None}
-use Rattle.std.specs.Borrow.{Bor}
-use Rattle.link_info.specs.declared.style.Row.{Row}
+use Rattle.std.specs.Prelude.{◌≡◌, ℕ, List, ◌∷◌, ◌++◌}
 use Rattle.link_msg.specs.Lenient.{MeansLeniently, MeansNoneLeniently}
 use Rattle.link_msg.specs.Messages.{Means, FirstFault, MeansNothing}
 use Rattle.link_msg.specs.Told.{told_all}
@@ -11,12 +9,12 @@ use Rattle.line_filter.specs.Words.{front_of, rest_of}
 use Rattle.shown.specs.Drafts.{Members}
 use Rattle.shown.specs.Pages.{IsObject}
 use Rattle.message_shown.specs.Attributes.{message_line}
+use Rattle.message_shown.specs.Contexts.{IsPlain}
 use Rattle.message_shown.specs.Faults.{AreOfFault}
 use Rattle.message_shown.specs.Leniently.{AreTold, lenient_line}
 use Rattle.message_shown.specs.Lines.{Answering, Telling, AddsAnswerTo, IsAnswerOf, fault_head, fault_member}
 use Rattle.message_shown.specs.Lines.{message_head, whole_object}
 use Rattle.message_shown.specs.Worded.{order_for}
-use Rattle.message_shown.specs.declared.answers.Shown.{Shown}
 use Rattle.message_shown.specs.declared.context.Context.{Context}
 use Rattle.message_shown.specs.declared.context.Order.{Order}
 
@@ -47,30 +45,15 @@ pub data IsWholeLenientAnswerTo (cx : Context) (words : Members) (bytes answer :
 
 -- ** to lines
 
--- what answers depend on beside their lines: the rows of all places, and the order of counters where a line says none
-pub record Kept : Type 0 where
-  pub tables : List (Bor (List Row))
-  pub order : Order
-
-abbrev pub kept_of : {R : Type 0} → Shown R → Kept
-kept_of shown = record { tables = shown.tables; order = shown.order }
-
--- what attributes of a line with these words are shown by
-pub record IsContextOf (kept : Kept) (front : List ℕ) (cx : Context) : Type 0 where
-  pub tables : cx.tables.now ≡ kept.tables
-  pub order : cx.order ≡ order_for front kept.order
-  pub link : cx.link_place ≡ None
-  pub port : cx.port_place ≡ None
-  pub address : cx.address_len ≡ 0
-
--- an answer to the bytes of a line with these words
-abbrev pub ToLine : Whole → Kept → List ℕ → Answering
-ToLine To kept front words bytes answer = (cx : Context) × IsContextOf kept front cx × To cx words bytes answer
+-- an answer to the bytes of a line with these words: by the order of counters that they say, or else by this one
+abbrev pub ToLine : Whole → Order → List ℕ → Answering
+ToLine To order front words bytes answer =
+    (cx : Context) × IsPlain (order_for front order) cx × To cx words bytes answer
 
 -- what a line is answered
-abbrev pub IsWholeAnswer : Whole → Kept → List ℕ → List ℕ → Type 0
-IsWholeAnswer To kept line answer =
-    IsAnswerOf (ToLine To kept (front_of line)) (front_of line) (rest_of line) answer
+abbrev pub IsWholeAnswer : Whole → Order → List ℕ → List ℕ → Type 0
+IsWholeAnswer To order line answer =
+    IsAnswerOf (ToLine To order (front_of line)) (front_of line) (rest_of line) answer
 
 -- ** what follows
 

@@ -6,7 +6,7 @@ ghost use Rattle.link_msg.specs.Messages.{Means, FirstFault};
 ghost use Rattle.link_msg.specs.declared.message.LinkMessage.{LinkMessage};
 ghost use Rattle.message_shown.specs.Lines.{IsAnswerTo, AddsAnswerOf, AddsAnswerTo, AddsSpelled};
 ghost use Rattle.message_shown.specs.Lines.{whole_object, nothex_member};
-ghost use Rattle.message_shown.specs.Whole.{IsWholeAnswer, IsWholeAnswerTo, ToLine, kept_of};
+ghost use Rattle.message_shown.specs.Whole.{IsWholeAnswer, IsWholeAnswerTo, ToLine};
 ghost use Rattle.shown.specs.Drafts.{with_members};
 ghost use Rattle.message_shown.specs.Attributes.{message_members, TellsMessage};
 ghost use Rattle.message_shown.specs.Worded.{words_shown};
@@ -27,6 +27,7 @@ use link_info::{Tables, all_rows};
 use link_msg::{Cause, DecodeError, LinkMessage};
 use shown::{Page, Room};
 use std::alloc::{AllocError, Global};
+use std::marker::Model;
 use std::mem;
 
 /// Answers lines by what they say, with room for the bytes of one line and for the page of its answer.
@@ -39,10 +40,21 @@ pub struct Shown<R: Reading> {
     order: Order,
 }
 
+impl<R: Reading> Model for Shown<R> {
+    ghost use Rattle.link_info.specs.Rows.{AreAllRows};
+    ghost use Rattle.message_shown.specs.declared.context.Order.{Order};
+
+    ghost Value = { Order };
+
+    ghost view = { λ shown. shown.order };
+
+    ghost invariant = { λ shown. AreAllRows shown.tables };
+}
+
 impl<R: Reading> Shown<R> {
     /// Bytes are read so. Counters of IPv6 have this order, where a line does not say another one.
     pub fn new(alloc: Global, reading: R, order: Order) -> Shown<R>
-        ensures { (kept_of result).order ≡ order }
+        ensures { result ≡ order }
     {
         Shown {
             reading,
@@ -64,9 +76,9 @@ impl<R: Reading> Shown<R> {
         waiting: &mut Vec<u8>,
     ) -> Result<(), AllocError>
         ensures answer { OnOk result
-            (AddsAnswerTo (ToLine R.is_answer (kept_of self.old) front.now)
+            (AddsAnswerTo (ToLine R.is_answer self.old front.now)
             (words_shown front.now) bytes.now waiting.old.items waiting.new.items) }
-        ensures kept { OnOk result (kept_of self.new ≡ kept_of self.old) }
+        ensures kept { OnOk result (self.new ≡ self.old) }
     {
         let tables = self.tables;
         let cx = Context::new(alloc, &tables, order_for(front, self.order));
@@ -87,9 +99,9 @@ impl<R: Reading> Shown<R> {
     ) -> Result<(), AllocError>
         requires { length message.old ≡ length digits.now / 2 }
         ensures answer { OnOk result
-            (AddsSpelled (ToLine R.is_answer (kept_of self.old) front.now)
+            (AddsSpelled (ToLine R.is_answer self.old front.now)
             (words_shown front.now) digits.now waiting.old.items waiting.new.items) }
-        ensures kept { OnOk result (kept_of self.new ≡ kept_of self.old) }
+        ensures kept { OnOk result (self.new ≡ self.old) }
     {
         if !decode(digits, values(), message) {
             return push_not_hex(alloc, &mut self.room, waiting, front);
@@ -107,9 +119,9 @@ impl<R: Reading> Shown<R> {
         waiting: &mut Vec<u8>,
     ) -> Result<(), AllocError>
         ensures answer { OnOk result
-            (AddsAnswerOf (ToLine R.is_answer (kept_of self.old) front.now)
+            (AddsAnswerOf (ToLine R.is_answer self.old front.now)
             front.now rest.now waiting.old.items waiting.new.items) }
-        ensures kept { OnOk result (kept_of self.new ≡ kept_of self.old) }
+        ensures kept { OnOk result (self.new ≡ self.old) }
     {
         if are_alone(front, rest) {
             return push_alone(alloc, &mut self.room, waiting, front);
@@ -121,7 +133,7 @@ impl<R: Reading> Shown<R> {
 }
 
 impl<R: Reading> Take for Shown<R> {
-    ghost takes = { answering (IsWholeAnswer R.is_answer) kept_of };
+    ghost takes = { answering (IsWholeAnswer R.is_answer) (λ order. order) };
 
     fn take(
         &mut self,

@@ -1,8 +1,10 @@
 //! What attributes are shown by, beside themselves.
 
-ghost use Rattle.std.specs.Prelude.{◌≡◌, None, option_map};
+ghost use Rattle.std.specs.Prelude.{◌≡◌, None, map, option_map};
+ghost use Rattle.link_info.specs.Lent.{member_now};
 ghost use Rattle.link_info.specs.Places.{rows_of};
 ghost use Rattle.link_info.specs.Tables.{row_at};
+ghost use Rattle.link_info.specs.Values.{can_counters};
 ghost use Rattle.message_shown.specs.Contexts.{of_row, info_row, slave_kind_in, text_in, with_kinds, with_address};
 ghost use Rattle.message_shown.specs.Contexts.{address_len_in};
 
@@ -99,6 +101,7 @@ impl<'a> Context<'a> {
     /// Nothing of a message.
     pub fn new(alloc: Global, tables: &'a Tables, order: Order) -> Context<'a>
         ensures tables { result.tables.now ≡ tables.now }
+        ensures counters { map member_now result.can_stats.now ≡ can_counters }
         ensures order { result.order ≡ order }
         ensures link { result.link_place ≡ None }
         ensures port { result.port_place ≡ None }

@@ -4,6 +4,7 @@ ghost use Rattle.message_shown.specs.Attributes.{TellsMessage};
 ghost use Rattle.message_shown.specs.Leniently.{EachIsTold, IsLenientAnswerTo, TellsLeniently};
 ghost use Rattle.message_shown.specs.Lines.{IsAnswerTo};
 ghost use Rattle.message_shown.specs.NamesTied.{NamesAreThese};
+ghost use Rattle.message_shown.specs.Plain.{ShownByOrder};
 ghost use Rattle.message_shown.specs.Whole.{BeginsAs, TellsAs, IsWholeAnswerTo, IsWholeLenientAnswerTo};
 
 /// Of a message that is read leniently each attribute is shown with those that are accepted, or told with those that
@@ -23,4 +24,9 @@ pub fn law_answers()
     ensures begins_leniently { BeginsAs IsWholeLenientAnswerTo IsLenientAnswerTo }
     ensures tells { TellsAs IsWholeAnswerTo TellsMessage }
     ensures tells_leniently { TellsAs IsWholeLenientAnswerTo TellsLeniently }
+{}
+
+/// The order of the counters of IPv6 decides what is shown of a message: whichever context begins with it shows the same.
+pub fn law_shown()
+    ensures { ShownByOrder }
 {}

@@ -1,4 +1,5 @@
-use Rattle.std.proofs.Common.{ℕ, List, subst}
+use Rattle.std.proofs.Common.{ℕ, List, subst, sym}
+use Rattle.link_info.specs.Rows.{AreAllRows}
 use Rattle.message_diff.specs.Shown.{IsShown}
 use Rattle.message_diff.proofs.Clauses.{on_ok_both}
 use Rattle.message_diff.proofs.half.Half.show.Goals as goal
@@ -10,6 +11,8 @@ returns-clause-shown c =
     subst (λ (bytes : List ℕ). IsShown c.args.order bytes c.show_marked.new.marked) c.text.ensures (record {
       cx = c.new-cx.result;
       before = record {
+        tables = subst AreAllRows (sym c.new-cx.ensures.tables) c.all_rows-tables.ensures;
+        counters = c.new-cx.ensures.counters;
         order_is = c.new-cx.ensures.order;
         link = c.new-cx.ensures.link;
         port = c.new-cx.ensures.port;
