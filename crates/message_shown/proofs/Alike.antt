@@ -199,7 +199,8 @@ module _ (cx other : Context) (s : AreAlike cx other) where
 
   inet6_alike : (v : AfSpecInet6) → inet6_said cx v ≡ inet6_said other v
   inet6_alike (Inet6s.Stats stats) =
-      ap (λ (order : Order). Said.named ((codes "stats", inet6_stats_shown order (inet6_stats_fields stats)) ∷ [])) s.order
+      ap (λ (order : Order). Said.named ((codes "stats", inet6_stats_shown order (inet6_stats_fields stats)) ∷ []))
+      s.order
   inet6_alike _ = refl
 
   proto_inet6_alike : (v : LinkProtoInfoInet6) → proto_inet6_said cx v ≡ proto_inet6_said other v

@@ -26,7 +26,8 @@ pub fn law_answers()
     ensures tells_leniently { TellsAs IsWholeLenientAnswerTo TellsLeniently }
 {}
 
-/// The order of the counters of IPv6 decides what is shown of a message: whichever context begins with it shows the same.
+/// The order of the counters of IPv6 decides what is shown of a message: contexts that begin with the same one show the
+/// same.
 pub fn law_shown()
     ensures { ShownByOrder }
 {}
