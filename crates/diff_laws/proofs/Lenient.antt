@@ -313,7 +313,7 @@ module _ (cx : Context) (family : AddressFamily) (b : List ℕ) (s : IsSplit fam
   abbrev raw : List (List ℕ) → Members
   raw rs = (codes "refused", object_of (map raw_member rs)) ∷ []
 
-  told_is : flat_map (λ t. raw_members t.frame) (told_all b) ≡ map raw_member (filter (refuses family) s.frames)
+  pub told_is : flat_map (λ t. raw_members t.frame) (told_all b) ≡ map raw_member (filter (refuses family) s.frames)
   unfolding told_all
   told_is =
       let turn : (header_of (take 16 b)).interface_family ≡ family =

@@ -130,7 +130,7 @@ module _ (family : AddressFamily) (own other : List ℕ) (a : IsSplit family own
           ∙ sym (ap (λ (l : List ℕ). number_at w l place) a.text
           ∙ number_at_before w (take 16 own) (concat a.frames) place within)
 
-named_left : (family : AddressFamily) (fs : List (List ℕ)) → AreCut family fs
+pub named_left : (family : AddressFamily) (fs : List (List ℕ)) → AreCut family fs
     → AllByRecursion (IsNamed family (raw_showing family)) (filter (refuses family) fs)
 named_left family [] all = tt
 named_left family (f ∷ fs) all =
@@ -255,7 +255,7 @@ single_ok family fs single =
     ap are_single (filter_swap (λ f. not (is_kept family f)) (accepts family) fs)
     ∙ single_filtered (accepts family) (named_in family fs) single
 
-single_left : (family : AddressFamily) (fs : List (List ℕ)) → AreCut family fs
+pub single_left : (family : AddressFamily) (fs : List (List ℕ)) → AreCut family fs
     → are_single (named_in family fs) ≡ true
     → are_single (filter (refuses family) fs) ≡ true
 single_left family fs cut single =

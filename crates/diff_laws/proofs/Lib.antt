@@ -1,3 +1,8 @@
+pub mod Fine
+pub mod Inside
+pub mod Good
+pub mod Titles
+pub mod RowNames
 pub mod Values
 pub mod Said
 pub mod Frames
@@ -15,3 +20,4 @@ pub mod Among
 pub mod Lenient
 pub mod Leniently
 pub mod LeftOut
+pub mod GoodLeniently

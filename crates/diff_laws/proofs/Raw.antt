@@ -49,13 +49,13 @@ some_label : (n : ℕ) → is_name (raw_label n) ≡ true
 unfolding escape_byte
 some_label n = refl
 
-mapped_at : (h : List ℕ → List ℕ) (xs : List (List ℕ)) (n : ℕ) → is_name (get_or xs n []) ≡ true
+pub mapped_at : (h : List ℕ → List ℕ) (xs : List (List ℕ)) (n : ℕ) → is_name (get_or xs n []) ≡ true
     → get_or (map h xs) n [] ≡ h (get_or xs n [])
 mapped_at h [] n some = absurd cc
 mapped_at h (x ∷ xs) zero some = refl
 mapped_at h (x ∷ xs) (suc n) some = mapped_at h xs n some
 
-name_some : (n : ℕ) → is_name (label_for n) ≡ true → is_name (name_for n) ≡ true
+pub name_some : (n : ℕ) → is_name (label_for n) ≡ true → is_name (name_for n) ≡ true
 name_some n some = by (name_for n) (sym (ap is_name (label_is n)) ∙ some)
   where
     by : (name : List ℕ) → is_name (escape name) ≡ true → is_name name ≡ true
@@ -78,7 +78,7 @@ raw_apart family f g is other same =
 raw_some : (n : ℕ) → raw_label n ≢ []
 raw_some n none = let clash : false ≡ true = sym (ap is_name none) ∙ some_label n in absurd cc
 
-raw_name : (f : List ℕ) → kernel_name (framed f).kind ≡ raw_for (frame_number f)
+pub raw_name : (f : List ℕ) → kernel_name (framed f).kind ≡ raw_for (frame_number f)
 unfolding kernel_name
 raw_name f =
     ap (λ n. codes "ifla_" ++ map underlined (get_or names n [])) (and_numeral (number_at w16 f 2) 0x3ffe refl)

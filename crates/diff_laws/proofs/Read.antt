@@ -31,7 +31,7 @@ use Rattle.message_diff.specs.Parts.{is_kept, kept_in, named_in, has_number, fra
 use Rattle.diff_laws.specs.Names.{name_for, names}
 use Rattle.diff_laws.proofs.Frames.{IsWhole, framed, framed_back, number_in, len_in}
 use Rattle.diff_laws.proofs.Kept.{kept_told, canon_kept, frame_told}
-use Rattle.diff_laws.proofs.Said.{IsMember, viewed_one}
+use Rattle.diff_laws.proofs.Said.{IsMemberIf, viewed_one}
 
 -- ** frames that are read
 
@@ -82,8 +82,8 @@ its_kept family f one =
     ∙ sym (kept_told family (attribute_frame one.value) one.value one.means)
 
 module _ (cx : Context) (family : AddressFamily) where
-  shown_one : (v : LinkAttribute) → IsMember (attribute_name v) (attribute_shown cx (attribute_name v) v)
-  shown_one v = viewed_one cx (attribute_name v) (form_of (attribute_frame v).kind) (viewed v)
+  shown_one : (v : LinkAttribute) → IsMemberIf ⊥ (attribute_name v) (attribute_shown cx (attribute_name v) v)
+  shown_one v = viewed_one ⊥ cx (λ none. absurd none) (attribute_name v) (form_of (attribute_frame v).kind) (viewed v)
 
   json_at : Result LinkAttribute Cause → Json
   json_at (Ok v) = (shown_one v).0

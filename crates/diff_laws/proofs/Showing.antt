@@ -1,8 +1,7 @@
 -- What is shown of a message is a showing of its attributes by themselves.
 use Rattle.std.proofs.Common.{◌≡◌, ℕ, suc, Bool, true, false, List, [], ◌∷◌, ◌++◌, refl, sym, ap, ◌∙◌, map}
 use Rattle.std.proofs.Common.{append_assoc, append-nil, length, arith}
-use Rattle.std.specs.Prelude.{codes, cond, decimal, not, None, Some}
-use Rattle.std.specs.Fmt.{signed_decimal}
+use Rattle.std.specs.Prelude.{codes, cond, not, None, Some}
 use Rattle.std.specs.Int.{w16, w32, cast_signed}
 use Rattle.std.specs.List.{AllByRecursion, concat, flat_map, list_any}
 use Rattle.json.specs.Json.{Json, object, Members as Fields, no_members, member}
@@ -23,7 +22,6 @@ use Rattle.message_diff.specs.Frames.{frame_number, frames_in}
 use Rattle.message_diff.specs.Known.{is_text}
 use Rattle.message_diff.specs.Parts.{is_kept, kept_in, named_in, are_single}
 use Rattle.message_diff.specs.Trees.{Forest, label_of, json_text, inside_of, members_forest, find_tree}
-use Rattle.diff_laws.specs.Values.{IsOne, AreOne}
 use Rattle.message_diff.proofs.LeftOut.{Showing, IsHead, AreAmong, followed, trees, last_tree, whole_tree}
 use Rattle.diff_laws.proofs.Frames.{IsWhole, frames_whole}
 use Rattle.diff_laws.specs.Names.{name_for}
@@ -32,7 +30,8 @@ use Rattle.diff_laws.proofs.Names.{attributes_apart, last_apart}
 use Rattle.diff_laws.proofs.Read.{json_for, member_for, kept_for, AreRead, items_for, last_for}
 use Rattle.diff_laws.proofs.Read.{earlier_for, kept_all, whole_each}
 use Rattle.diff_laws.proofs.Said.{frame_one}
-use Rattle.diff_laws.proofs.Values.{objects_one, many_each, list_one, number_one, flags_one}
+use Rattle.diff_laws.proofs.Values.{AreFineIf, IsFineIf, IsObjectIf, objects_one, many_each, list_one, number_one}
+use Rattle.diff_laws.proofs.Values.{flags_one, integer_one}
 
 -- ** labels
 
@@ -49,14 +48,14 @@ named_label family f place is =
 
 -- ** members behind each other
 
-abbrev fields_then : (ms : Members) → AreOne ms → Fields → Fields
+abbrev fields_then : (ms : Members) → AreFineIf ⊥ ms → Fields → Fields
 fields_then [] all later = later
 fields_then (m ∷ ms) all later = member m.0 all.0.0 (fields_then ms all.1 later)
 
 abbrev pub tokens_of : Members → List Token
 tokens_of ms = flat_map (λ (m : List ℕ × List Token). key m.0 ∷ m.1) ms
 
-tokens_then : (ms : Members) (all : AreOne ms) (later : Fields) (ts : List Token) → ts ≡ members_tokens later
+tokens_then : (ms : Members) (all : AreFineIf ⊥ ms) (later : Fields) (ts : List Token) → ts ≡ members_tokens later
     → tokens_of ms ++ ts ≡ members_tokens (fields_then ms all later)
 tokens_then [] all later ts is = is
 tokens_then (m ∷ ms) all later ts is =
@@ -88,16 +87,16 @@ followed_none (Forest.tree label text inside rest) =
 abbrev head_members : List ℕ → AddressFamily → Members
 head_members bytes family = numbered (codes "ifi-family") (address_family_number family) ∷ header_members bytes
 
-abbrev head_one : (bytes : List ℕ) (family : AddressFamily) → AreOne (head_members bytes family)
+abbrev head_one : (bytes : List ℕ) (family : AddressFamily) → AreFineIf ⊥ (head_members bytes family)
 head_one bytes family = (
-  number_one (decimal (address_family_number family)),
+  number_one (address_family_number family),
   (
-    number_one (decimal (number_at w16 bytes 2)),
+    number_one (number_at w16 bytes 2),
     (
-      number_one (signed_decimal (signed_at w32 bytes 4)),
+      integer_one (signed_at w32 bytes 4),
       (
         flags_one link_flag_names (number_at w32 bytes 8),
-        (number_one (decimal (number_at w32 bytes 12)), tt),
+        (number_one (number_at w32 bytes 12), tt),
       ),
     ),
   ),
@@ -110,11 +109,11 @@ head bytes family = members_forest 0 (fields_then (head_members bytes family) (h
 abbrev head_by : AddressFamily → ℕ → ℕ → ℕ → ℕ → Forest
 head_by family type index flags change =
     members_forest 0
-    (member (codes "ifi-family") (number_one (decimal (address_family_number family))).0
-    (member (codes "ifi-type") (number_one (decimal type)).0
-    (member (codes "ifi-index") (number_one (signed_decimal (cast_signed w32 index))).0
-    (member (codes "ifi-flags") (flags_one link_flag_names flags).0
-    (member (codes "ifi-change") (number_one (decimal change)).0 no_members)))))
+    (member (codes "ifi-family") (number_one {H = ⊥} (address_family_number family)).0
+    (member (codes "ifi-type") (number_one {H = ⊥} type).0
+    (member (codes "ifi-index") (integer_one {H = ⊥} (cast_signed w32 index)).0
+    (member (codes "ifi-flags") (flags_one {H = ⊥} link_flag_names flags).0
+    (member (codes "ifi-change") (number_one {H = ⊥} change).0 no_members)))))
 
 -- headers of the same numbers have the same members
 pub head_same : (a b : List ℕ) (family : AddressFamily) → number_at w16 a 2 ≡ number_at w16 b 2
@@ -157,15 +156,15 @@ head_last bytes family = refl
 -- ** those that are shown as they are
 
 module _ (cx : Context) (family : AddressFamily) where
-  frames_one : (fs : List (List ℕ)) → AllByRecursion AreOne (map (kept_for cx family) fs)
+  frames_one : (fs : List (List ℕ)) → AllByRecursion (IsObjectIf ⊥) (map (kept_for cx family) fs)
   frames_one [] = tt
-  frames_one (f ∷ fs) = (frame_one _ _ _, frames_one fs)
+  frames_one (f ∷ fs) = (frame_one ⊥ _ _ _, frames_one fs)
 
   abbrev pub kept_tokens : List (List ℕ) → List Token
   kept_tokens fs = list_of (flat_map (λ v. v) (map object_of (map (kept_for cx family) fs)))
 
-  pub kept_tokens_one : (fs : List (List ℕ)) → IsOne (kept_tokens fs)
-  kept_tokens_one fs = list_one _ (many_each _ (objects_one _ (frames_one fs)))
+  pub kept_tokens_one : (fs : List (List ℕ)) → IsFineIf ⊥ (kept_tokens fs)
+  kept_tokens_one fs = list_one _ (many_each _ (objects_one ⊥ _ (frames_one fs)))
 
   abbrev pub last_json : List ℕ → Json
   last_json ks = (kept_tokens_one (frames_in ks)).0

@@ -2,3 +2,4 @@ pub mod Values
 pub mod LeftOut
 pub mod Names
 pub mod Leniently
+pub mod Good

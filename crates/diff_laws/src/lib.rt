@@ -1,9 +1,11 @@
 //! Laws of what differs between two messages: attributes that are the same in both may be left out.
 //!
 //! `specs/LeftOut.antt` and `specs/Leniently.antt` state it, over what `message_shown` says that is shown of a message,
-//! and what `message_diff` says that is a part of one.
+//! and what `message_diff` says that is a part of one. `specs/Good.antt` states that each path leads to one member.
 #![tactic(auto)]
 
+ghost use Rattle.diff_laws.specs.Good.{TreesAreGood, TreesAreApart, GoodChangesStay, LenientTreesAreGood};
+ghost use Rattle.diff_laws.specs.Good.{LenientGoodChangesStay};
 ghost use Rattle.diff_laws.specs.LeftOut.{HaveTrees, MarksTell, FramesAre, PartsMean, RowsStay, ChangesStay};
 ghost use Rattle.diff_laws.specs.Leniently.{PartsMeanLeniently, PartsHaveTrees, LenientRowsStay, LenientChangesStay};
 ghost use Rattle.diff_laws.specs.Names.{NamesAreApart};
@@ -43,4 +45,15 @@ pub fn law_left_out_leniently()
     ensures trees { PartsHaveTrees }
     ensures rows { LenientRowsStay }
     ensures changes { LenientChangesStay }
+{}
+
+/// Where rows have good names, each path leads to one member of what is shown of a message, and the text of a value
+/// tells what is inside it, if the whole text is shorter than 2^64 bytes. So the changes of parts are those of the
+/// messages.
+pub fn law_good()
+    ensures trees { TreesAreGood }
+    ensures apart { TreesAreApart }
+    ensures changes { GoodChangesStay }
+    ensures lenient { LenientTreesAreGood }
+    ensures lenient_changes { LenientGoodChangesStay }
 {}
