@@ -32,7 +32,12 @@ more_digits x s is all = ap (λ b. cond b (1 + prefix_len is_numeric s) 0) is �
 
 glyph_numeric : (d : ℕ) → d < 10 → is_numeric (digit_glyph false d) ≡ true
 glyph_numeric d small =
-    rw (lt-ltb d 10 small, ne_eqb (48 + d) 45 (λ e. omega arith), le-leb 48 (48 + d) (omega arith), le-leb (48 + d) 57 (omega arith)) refl
+    rw (
+      lt-ltb d 10 small,
+      ne_eqb (48 + d) 45 (λ e. omega arith),
+      le-leb 48 (48 + d) (omega arith),
+      le-leb (48 + d) 57 (omega arith),
+    ) refl
 
 -- one digit more, and it may be the last one
 either_digits : (b : Bool) (s one all : List ℕ) → AreDigits one → suc (length s) ≤ length one

@@ -121,15 +121,15 @@ module _ (cx : Context) (named : AreNamed cx) (family : AddressFamily) (b : List
             (single_left family s.frames s.cut single),
       )
 
-  split_good : AreGoodOf cx b
+  pub split_good : AreGoodOf cx b
   split_good f short tree = by (filter (refuses family) s.frames) refl
     where
       by : (rs : List (List ℕ)) → filter (refuses family) s.frames ≡ rs → IsGood inside_by f
       by [] none =
           let mb = meant_built family b s none in
           let means : Means b mb.0 = built_means family b mb.0 mb.1 in
-          object_good (AreNamed cx) (message_members cx b mb.0) f (message_object (AreNamed cx) cx (λ h. h) b mb.0) named
-          (short.meant mb.0 means) (tree.meant mb.0 means)
+          object_good (AreNamed cx) (message_members cx b mb.0) f (message_object (AreNamed cx) cx (λ h. h) b mb.0)
+          named (short.meant mb.0 means) (tree.meant mb.0 means)
       by (r ∷ rs) some =
           let means = means_leniently family b s in
           let nothing = nothing_meant family b s r rs some in

@@ -106,7 +106,8 @@ digits_read s r all none =
     let n : prefix_len is_numeric (s ++ r) ≡ length s =
     prefix_len-append is_numeric s r
     ∙ ap (λ m. cond (m == length s) (length s + prefix_len is_numeric r) m) all
-    ∙ ap (λ b. cond b (length s + prefix_len is_numeric r) (length s)) (eq-eqb (length s) (length s) refl) ∙ omega (arith, none) in
+    ∙ ap (λ b. cond b (length s + prefix_len is_numeric r) (length s)) (eq-eqb (length s) (length s) refl)
+    ∙ omega (arith, none) in
     ap (λ m. (take m (s ++ r), drop m (s ++ r))) n ∙ (λ i. (take-append_seam s r i, drop-append_seam s r i))
 
 first_is : (s : List ℕ) → IsDigits s → (r : List ℕ) → is_numeric (head (s ++ r)) ≡ true
@@ -212,7 +213,8 @@ mutual
       ∙ ap (λ (p : List ℕ × List ℕ). (number p.0, p.1)) (digits_read s (print_from true ts) fine.1 (after_value ts))
   value_read (string s) zero ts fine turns = absurd (omega arith)
   value_read (string s) (suc n) ts fine turns =
-      ap (λ (t : List ℕ). (string (string_in t).0, (string_in t).1)) (append_assoc (escape s) (34 ∷ []) (print_from true ts))
+      ap (λ (t : List ℕ). (string (string_in t).0, (string_in t).1))
+      (append_assoc (escape s) (34 ∷ []) (print_from true ts))
       ∙ ap (λ (p : List ℕ × List ℕ). (string p.0, p.1)) (string_read s (print_from true ts))
   value_read (array js) zero ts fine turns = absurd (omega arith)
   value_read (array js) (suc n) ts fine turns =
@@ -322,5 +324,6 @@ inside_by text = inside_of (read_value (2 * length text) text).0
 pub inside_told : (j : Json) → IsFine j → inside_of j ≡ inside_by (json_text j)
 inside_told j fine =
     sym (ap (λ (p : Json × List ℕ). inside_of p.0)
-    (ap (λ (ts : List Token). read_value (2 * length (json_text j)) (print_from false ts)) (sym (append-nil (json_tokens j)))
+    (ap (λ (ts : List Token). read_value (2 * length (json_text j)) (print_from false ts))
+    (sym (append-nil (json_tokens j)))
     ∙ value_read j (2 * length (json_text j)) [] fine (omega (arith, size_small j fine))))

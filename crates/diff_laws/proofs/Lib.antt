@@ -21,3 +21,5 @@ pub mod Lenient
 pub mod Leniently
 pub mod LeftOut
 pub mod GoodLeniently
+pub mod PlainNames
+pub mod Compared

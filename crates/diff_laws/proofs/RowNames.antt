@@ -10,7 +10,8 @@ use Rattle.nla_wire.specs.Payloads.{text}
 use Rattle.nla_wire.specs.declared.error.Cause.{Cause}
 use Rattle.link_afspec.specs.declared.proto_inet6.LinkProtoInfoInet6.TheVariants as Inet6Infos
 use Rattle.link_info.specs.Meanings.{Meaning, Raw, Present, Number, Signed, Words, Hardware, Four, Six, read_as}
-use Rattle.link_info.specs.Meanings.{Members as Fields, Elements, Listed, Nested, form_meaning, flag_meaning, text_or_bytes}
+use Rattle.link_info.specs.Meanings.{Members as Fields, Elements, Listed, Nested, form_meaning, flag_meaning}
+use Rattle.link_info.specs.Meanings.{text_or_bytes}
 use Rattle.link_info.specs.Places.{rows_of}
 use Rattle.link_info.specs.Styles.{Form, Host, Network, Twos, SixOctets, FourOctets, SixteenOctets, Octets, form}
 use Rattle.link_info.specs.Styles.{plain_size, is_multiple, record_size, are_frames, are_frames_of}
@@ -302,8 +303,8 @@ module _ (cx : Context) (named : AreNamed cx) (nla : Frame) where
       let n : ℕ = bit_and nla.kind 0x3fff in
       let name : name_in cx Places.Inet6 n ≡ inet6_name_in cx n =
       sym (rw (turned n 2 conf, turned n 3 stats, turned n 6 icmp) refl) in
-      titled_same (placed_said (whole cx) cx Places.Inet6 nla) nla.kind (name_in cx Places.Inet6) (inet6_name_in cx) name
-      (placed_titled (whole cx) cx Places.Inet6 named nla)
+      titled_same (placed_said (whole cx) cx Places.Inet6 nla) nla.kind (name_in cx Places.Inet6) (inet6_name_in cx)
+      name (placed_titled (whole cx) cx Places.Inet6 named nla)
 
   pub inet6_placed : Inet6Titled (proto_inet6_said cx (Inet6Infos.Other nla))
   inet6_placed =

@@ -1,5 +1,6 @@
 -- What each attribute is shown as is one value under its name, and a fine one where rows have good names.
-use Rattle.std.proofs.Common.{◌≡◌, ℕ, zero, suc, ℤ, pos, negsuc, Bool, true, false, List, [], ◌∷◌, ◌++◌, map, ap, refl, sym, subst, inl, append_assoc}
+use Rattle.std.proofs.Common.{◌≡◌, ℕ, zero, suc, ℤ, pos, negsuc, Bool, true, false, List, [], ◌∷◌, ◌++◌, map, ap}
+use Rattle.std.proofs.Common.{refl, sym, subst, inl, append_assoc}
 use Rattle.std.proofs.Common.{length, take, drop, get_or}
 use Rattle.std.specs.Prelude.{cond, codes, bit_and, slice_index, Option, None, Some, Ok, Err, ◌==◌, ◌&&◌}
 use Rattle.std.specs.Prelude.{nat_lt}
@@ -205,7 +206,8 @@ module _ (H : Type 0) where
       by false own rest = rest own
   earlier_one (Item.as_is name kind payload ∷ items) all names = earlier_one items all.1 names
 
-  named_each : (items : List Item) → AllByRecursion (ItemFineIf H) items → AllByRecursion (AreFineIf H) (named_ones items)
+  named_each : (items : List Item) → AllByRecursion (ItemFineIf H) items
+      → AllByRecursion (AreFineIf H) (named_ones items)
   named_each [] all = tt
   named_each (Item.named n ms ∷ items) all = (all.0, named_each items all.1)
   named_each (Item.as_is name kind payload ∷ items) all = named_each items all.1
@@ -238,7 +240,8 @@ module _ (H : Type 0) where
   kept_one (Item.named n ms ∷ items) = kept_one items
   kept_one (Item.as_is name kind payload ∷ items) = (frame_one name kind payload, kept_one items)
 
-  pub under_one : (name : List ℕ) (vs : List (List Token)) → AllByRecursion (IsFineIf H) vs → AreFineIf H (list_under name vs)
+  pub under_one : (name : List ℕ) (vs : List (List Token)) → AllByRecursion (IsFineIf H) vs
+      → AreFineIf H (list_under name vs)
   under_one name [] all = tt
   under_one name (v ∷ vs) all = (list_one _ (many_each (v ∷ vs) all), tt)
 
@@ -265,8 +268,8 @@ module _ (H : Type 0) where
     members_one items all (λ h. earlier_names name lists_beside (table h) items (titled h)),
     λ h.
         subst (λ (l : Members). AreNames (titles l)) (sym (members_are items))
-        (names_between name [] lists_beside (table h) (names_are lists_beside refl) items (titled h) (lists_behind items)
-        (lists_within items)),
+        (names_between name [] lists_beside (table h) (names_are lists_beside refl) items (titled h)
+        (lists_behind items) (lists_within items)),
   )
 
   listed_one : (name : List ℕ) (items : List Item) → are_names (name ∷ codes "other" ∷ []) ≡ true
@@ -405,7 +408,8 @@ module _ (H : Type 0) where
   meaning_one : (nest : Nesting) → NestOne nest → (style : Style) (m : Meaning) → (H → MeansNames m)
       → IsFineIf H (meaning_shown nest style m)
   meaning_one nest one style (Fields members p) names =
-      object_one (record_shown members p) (record_one members p, λ h. subst AreNames (sym (record_titles members p)) (names h))
+      object_one (record_shown members p)
+      (record_one members p, λ h. subst AreNames (sym (record_titles members p)) (names h))
   meaning_one nest one style (Elements plain p) names =
       list_one _ (many_values _ (elements_one plain (count_of (plain_size plain) (length p)) p))
   meaning_one nest one style (Listed plain p) names = list_one _ (many_values _ (payloads_one plain (read_items p)))
@@ -426,7 +430,8 @@ module _ (H : Type 0) where
       (meaning_one nest one known.1 (read_as known.1 f.payload) (λ h. read_names known.1 f.payload (names h)), tt)
 
   module _ (cx : Context) (named : H → AreNamed cx) where
-    placed_one : (nest : Nesting) → NestOne nest → (place : Place) (f : Frame) → SaidFineIf H (placed_said nest cx place f)
+    placed_one : (nest : Nesting) → NestOne nest → (place : Place) (f : Frame)
+        → SaidFineIf H (placed_said nest cx place f)
     placed_one nest one place f =
         row_said_one nest one (of_row (row_at (rows_of cx.tables.now place) (number_of f))) f
         (λ h. known_names (rows_of cx.tables.now place) (number_of f) ((named h).records place))
@@ -440,7 +445,8 @@ module _ (H : Type 0) where
     )
 
     placed_titles : (nest : Nesting) (place : Place) (xs : List Read) → H
-        → AllByRecursion (IsTitled (name_in cx place)) (map (λ a. placed_item nest cx a.place a.frame) (placed_in place xs))
+        → AllByRecursion (IsTitled (name_in cx place))
+        (map (λ a. placed_item nest cx a.place a.frame) (placed_in place xs))
     placed_titles nest place [] h = tt
     placed_titles nest place (Ok f ∷ xs) h =
         (placed_titled nest cx place (named h) f, placed_titles nest place xs h)
@@ -512,8 +518,9 @@ module _ (H : Type 0) where
 
   inet_conf_one : (v : InetDevConf) → IsObjectIf H (inet_conf_shown v)
   inet_conf_one v =
-      longer_object (map (λ name. name.now) INET_CONF) (map signed_tokens (inet_dev_conf_fields v)) (codes "reserved-34")
-      (signed_unless_zero (codes "reserved-34") v.reserved_34) refl (signed_within (codes "reserved-34") v.reserved_34)
+      longer_object (map (λ name. name.now) INET_CONF) (map signed_tokens (inet_dev_conf_fields v))
+      (codes "reserved-34") (signed_unless_zero (codes "reserved-34") v.reserved_34) refl
+      (signed_within (codes "reserved-34") v.reserved_34)
       (signed_all (map (λ name. name.now) INET_CONF) (inet_dev_conf_fields v))
       (signed_one (codes "reserved-34") v.reserved_34)
 
@@ -553,8 +560,8 @@ module _ (H : Type 0) where
 
   vf_vlan_one : (v : VfVlan) → SaidFineIf H (vf_vlan_said v)
   vf_vlan_one (Vlans.Info info) =
-      object_named (codes "info") (vlan_info_shown info) (number_one _, (number_one _, (number_one _, (text_one _, tt))))
-      refl
+      object_named (codes "info") (vlan_info_shown info)
+      (number_one _, (number_one _, (number_one _, (text_one _, tt)))) refl
   vf_vlan_one (Vlans.Other nla) = tt
 
   word_one : (function : ℕ) (field : List ℕ) (value : ℕ) → AreFineIf H (word_shown function field value)
@@ -649,7 +656,8 @@ module _ (H : Type 0) where
   devlink_port_one (Ports.Other nla) = tt
   devlink_port_one v = flat_one (map (λ row. (row.0, (row.1.now, row.2))) DEVLINK_PORT) (devlink_port_place.frame v)
 
-  devlink_port_titled : (v : DevlinkPort) → IsTitledAt (name_at devlink_names) (devlink_port_place.frame v).kind (devlink_port_said v)
+  devlink_port_titled : (v : DevlinkPort)
+      → IsTitledAt (name_at devlink_names) (devlink_port_place.frame v).kind (devlink_port_said v)
   unfolding devlink_port_place
   devlink_port_titled (Ports.Other nla) = tt
   devlink_port_titled v = (refl, refl)
@@ -667,7 +675,8 @@ module _ (H : Type 0) where
   down_reason_one (Reasons.Other nla) = tt
   down_reason_one v = flat_one (map (λ row. (row.0, (row.1.now, row.2))) DOWN_REASON) (down_reason_place.frame v)
 
-  down_reason_titled : (v : LinkProtocolDownReason) → IsTitledAt (name_at reason_names) (down_reason_place.frame v).kind (down_reason_said v)
+  down_reason_titled : (v : LinkProtocolDownReason)
+      → IsTitledAt (name_at reason_names) (down_reason_place.frame v).kind (down_reason_said v)
   unfolding down_reason_place
   down_reason_titled (Reasons.Other nla) = tt
   down_reason_titled v = (refl, refl)
@@ -849,8 +858,9 @@ module _ (H : Type 0) where
   viewed_one cx named name form (Viewed.dpll_pins vs) =
       member_of name _ (known_one dpll_pin_place.frame dpll_pin_said dpll_pin_one dpll_names refl dpll_pin_titled vs)
   viewed_one cx named name form (Viewed.bridge_infos vs) =
-      member_of name _ (object_one _ (place_object link_proto_info_bridge_place.frame (bridge_said cx) (bridge_one cx named)
-      (name_in cx Places.BridgePort) (λ h. place_table cx Places.BridgePort (named h)) (bridge_titled cx named) vs))
+      member_of name _ (object_one _ (place_object link_proto_info_bridge_place.frame (bridge_said cx)
+      (bridge_one cx named) (name_in cx Places.BridgePort) (λ h. place_table cx Places.BridgePort (named h))
+      (bridge_titled cx named) vs))
   viewed_one cx named name form (Viewed.inet6_infos vs) =
       member_of name _ (object_one _ (place_object link_proto_info_inet6_place.frame (proto_inet6_said cx)
       (proto_inet6_one cx named) (inet6_name_in cx) (λ h. inet6_table cx (named h)) (proto_inet6_titled cx named) vs))

@@ -1,5 +1,6 @@
 -- Names of members beside each other: decided, and by the numbers of attributes.
-use Rattle.std.proofs.Common.{◌≡◌, ◌≢◌, ℕ, zero, suc, Bool, true, false, List, [], ◌∷◌, ◌++◌, refl, sym, ap, ◌∙◌, map, subst}
+use Rattle.std.proofs.Common.{◌≡◌, ◌≢◌, ℕ, zero, suc, Bool, true, false, List, [], ◌∷◌, ◌++◌, refl, sym, ap, ◌∙◌}
+use Rattle.std.proofs.Common.{map, subst}
 use Rattle.std.proofs.Common.{◌⊎◌, inl, inr}
 use Rattle.std.specs.Prelude.{◌==◌, ◌&&◌, ◌||◌, cond, not, get_or}
 use Rattle.std.specs.List.{AllByRecursion, list_any}
@@ -301,7 +302,8 @@ IsTitled name (Item.named n ms) = (titles ms ≡ name n ∷ []) × (is_name (nam
 IsTitled name (Item.as_is own kind payload) = Unit {0}
 
 module _ (name : ℕ → List ℕ) (others : List (List ℕ)) (table : IsTable others name) where
-  last_of : (P : List ℕ → Type 0) (b : Bool) (ms : Members) (items : List Item) → (b ≡ false → AllByRecursion P (titles ms))
+  last_of : (P : List ℕ → Type 0) (b : Bool) (ms : Members) (items : List Item)
+      → (b ≡ false → AllByRecursion P (titles ms))
       → AllByRecursion P (titles (last_ones items))
       → AllByRecursion P (titles (cond b [] ms ++ last_ones items))
   last_of P true ms items own more = more
@@ -338,7 +340,8 @@ module _ (name : ℕ → List ℕ) (others : List (List ℕ)) (table : IsTable o
           → AreNames (titles (cond b [] ms ++ last_ones items))
       by true is more = more
       by false is more =
-          subst AreNames (sym (map-append (λ m. m.0) ms (last_ones items) ∙ ap (λ l. l ++ titles (last_ones items)) all.0.0))
+          subst AreNames
+          (sym (map-append (λ m. m.0) ms (last_ones items) ∙ ap (λ l. l ++ titles (last_ones items)) all.0.0))
           (table.label n all.0.1, none_later n items all.0.1 all.1 is, more)
   last_names (Item.as_is other kind payload ∷ items) all = last_names items all.1
 
@@ -367,8 +370,8 @@ names_between name front back table names items all behind in_it =
     (λ n some. table.beside n some) items all) in
     subst (λ (l : List (List ℕ)). AreNames (front ++ l)) (sym (map-append (λ m. m.0) (last_ones items) behind))
     (names_behind front (last ++ titles behind) parts.0
-    (names_behind last (titles behind) (last_names name others table items all) (within_names (titles behind) back in_it parts.1)
-    (off_within last (titles behind) back in_it off.1))
+    (names_behind last (titles behind) (last_names name others table items all)
+    (within_names (titles behind) back in_it parts.1) (off_within last (titles behind) back in_it off.1))
     (off_both front last (titles behind) (off_turned last front off.0)
     (off_within front (titles behind) back in_it parts.2)))
 

@@ -1,5 +1,6 @@
 -- What is shown of a message has one tree.
-use Rattle.std.proofs.Common.{◌≡◌, ℕ, ◌+◌, ◌<◌, ◌^◌, List, [], ◌∷◌, ◌++◌, refl, sym, ap, ◌∙◌, subst, append-nil, append_assoc, arith}
+use Rattle.std.proofs.Common.{◌≡◌, ℕ, ◌+◌, ◌<◌, ◌^◌, List, [], ◌∷◌, ◌++◌, refl, sym, ap, ◌∙◌, subst, append-nil}
+use Rattle.std.proofs.Common.{append_assoc, arith}
 use Rattle.std.proofs.Common.{length, true}
 use Rattle.std.specs.Prelude.{codes, Option, None, Some}
 use Rattle.std.specs.List.{AllByRecursion}
@@ -33,7 +34,8 @@ use Rattle.diff_laws.specs.Good.{AreNamed, AreNames, IsShort, TreesAreApart, Tre
 use Rattle.diff_laws.specs.Names.{name_for, names}
 use Rattle.diff_laws.proofs.Good.{fields_good}
 use Rattle.diff_laws.proofs.Names.{is_name}
-use Rattle.diff_laws.proofs.Said.{IsMemberIf, IsTitledAt, SaidFineIf, items_one, items_titled, lists_behind, lists_within}
+use Rattle.diff_laws.proofs.Said.{IsMemberIf, IsTitledAt, SaidFineIf, items_one, items_titled, lists_behind}
+use Rattle.diff_laws.proofs.Said.{lists_within}
 use Rattle.diff_laws.proofs.Said.{members_are, members_one, viewed_one}
 use Rattle.diff_laws.proofs.Titles.{IsTable, IsTitled, earlier_names, names_are, names_between, places_table, titles}
 use Rattle.diff_laws.proofs.Titles.{IsWithin, within_both}
@@ -115,7 +117,9 @@ module _ (H : Type 0) (cx : Context) (named : H → AreNamed cx) where
   attributes_one : (vs : List LinkAttribute) → AreFineIf H (members_of (attribute_items cx vs))
   attributes_one vs =
       members_one H (attribute_items cx vs) (items_one H attribute_frame (attribute_said cx) attribute_one vs)
-      (λ h. earlier_names name_for (header_names ++ back_names) attributes_table (attribute_items cx vs) (attributes_titled cx vs))
+      (λ h.
+      earlier_names name_for (header_names ++ back_names) attributes_table (attribute_items cx vs)
+      (attributes_titled cx vs))
 
 header_one : (H : Type 0) (bytes : List ℕ) → AreFineIf H (header_members bytes)
 header_one H bytes = (
@@ -196,10 +200,11 @@ pub trees_are_good : TreesAreGood
 trees_are_good = (
   inside_by,
   λ cx bytes m f named short tree.
-      object_good (AreNamed cx) (message_members cx bytes m) f (message_object (AreNamed cx) cx (λ h. h) bytes m) named short tree,
+      object_good (AreNamed cx) (message_members cx bytes m) f (message_object (AreNamed cx) cx (λ h. h) bytes m) named
+      short tree,
 )
 
-good_apart : (inside_by : List ℕ → Forest) (f : Forest) → IsGood inside_by f → AreApart f
+pub good_apart : (inside_by : List ℕ → Forest) (f : Forest) → IsGood inside_by f → AreApart f
 good_apart inside_by Forest.none good = tt
 good_apart inside_by (Forest.tree label text inside rest) good =
     (good.1, good_apart inside_by inside good.3, good_apart inside_by rest good.4)

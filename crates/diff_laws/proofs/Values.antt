@@ -32,6 +32,8 @@ AreManyIf H ts = (js : Items) × (ts ++ end_array ∷ [] ≡ items_tokens js) ×
 abbrev pub IsObjectIf : Type 0 → Members → Type 0
 IsObjectIf H ms = AreFineIf H ms × (H → AreNames (titles ms))
 
+-- ** objects
+
 module _ (H : Type 0) where
   abbrev pub fields_of : (ms : Members) → AreFineIf H ms → Fields
   fields_of [] all = no_members
@@ -56,9 +58,9 @@ module _ (H : Type 0) where
   pub object_fine : (ms : Members) (all : IsObjectIf H ms) → H → IsFine (object (fields_of ms all.0))
   object_fine ms all h = (subst AreNames (titles_are ms all.0) (all.1 h), fields_fine ms all.0 h)
 
-module _ {H : Type 0} where
-  -- ** objects
+-- ** values
 
+module _ {H : Type 0} where
   pub object_one : (ms : Members) → IsObjectIf H ms → IsFineIf H (object_of ms)
   object_one ms all = (
     object (fields_of H ms all.0),
@@ -133,17 +135,14 @@ module _ {H : Type 0} where
       list_one _ (many_texts (names_set table bits) (unless_zero (bits_unnamed table bits))
       (many_unnamed _ (bits_unnamed table bits)))
 
-  -- ** members
-
   pub zip_one : {A : Type 0} (f : A → List Token) → ((a : A) → IsFineIf H (f a)) → (names : List (List ℕ)) (vs : List A)
       → AreFineIf H (zip names (map f vs))
   zip_one f one [] vs = tt
   zip_one f one (name ∷ names) [] = tt
   zip_one f one (name ∷ names) (v ∷ vs) = (one v, zip_one f one names vs)
 
-  -- ** more lists
-
-  pub many_behind : (ms : Members) (ts : List Token) → AreFineIf H ms → AreManyIf H ts → AreManyIf H (flat_map (λ m. m.1) ms ++ ts)
+  pub many_behind : (ms : Members) (ts : List Token) → AreFineIf H ms → AreManyIf H ts
+      → AreManyIf H (flat_map (λ m. m.1) ms ++ ts)
   many_behind [] ts all many = many
   many_behind (m ∷ ms) ts all many =
       subst (AreManyIf H) (sym (append_assoc m.1 (flat_map (λ m. m.1) ms) ts))
@@ -160,6 +159,8 @@ module _ {H : Type 0} where
   values_many (o ∷ os) all =
       many_behind o (flat_map (λ (ms : Members). flat_map (λ m. m.1) ms) os) all.0 (values_many os all.1)
 
+-- ** members
+
 module _ (H : Type 0) where
   pub one_more : (ms ns : Members) → AreFineIf H ms → AreFineIf H ns → AreFineIf H (ms ++ ns)
   one_more [] ns all more = more
@@ -169,6 +170,7 @@ module _ (H : Type 0) where
   one_if true ms ns one other = one
   one_if false ms ns one other = other
 
-  pub objects_one : (os : List Members) → AllByRecursion (IsObjectIf H) os → AllByRecursion (IsFineIf H) (map object_of os)
+  pub objects_one : (os : List Members) → AllByRecursion (IsObjectIf H) os
+      → AllByRecursion (IsFineIf H) (map object_of os)
   objects_one [] all = tt
   objects_one (o ∷ os) all = (object_one o all.0, objects_one os all.1)

@@ -15,8 +15,10 @@ use Rattle.link_msg.specs.Lenient.{MeansLeniently}
 use Rattle.link_msg.specs.Messages.{Means, MeansNothing}
 use Rattle.link_msg.specs.declared.message.LinkMessage.{LinkMessage}
 use Rattle.message_shown.specs.Attributes.{message_members}
+use Rattle.message_shown.specs.Contexts.{IsPlain}
 use Rattle.message_shown.specs.Raw.{lenient_members}
 use Rattle.message_shown.specs.declared.context.Context.{Context}
+use Rattle.message_shown.specs.declared.context.Order.{Order}
 use Rattle.shown.specs.Drafts.{Members, object_of}
 use Rattle.message_diff.specs.Differences.{diffs}
 use Rattle.message_diff.specs.Listed.{AreApart}
@@ -78,6 +80,10 @@ pub record HaveNames (tables : List (Bor (List Row))) (counters : List Member) :
 
 abbrev pub AreNamed : Context → Type 0
 AreNamed cx = HaveNames cx.tables.now cx.can_stats.now
+
+-- so it is where nothing is known of a message yet
+abbrev pub PlainIsNamed : Type 0
+PlainIsNamed = (order : Order) (cx : Context) → IsPlain order cx → AreNamed cx
 
 -- ** trees
 

@@ -3,3 +3,4 @@ pub mod LeftOut
 pub mod Names
 pub mod Leniently
 pub mod Good
+pub mod Compared

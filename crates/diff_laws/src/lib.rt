@@ -4,12 +4,15 @@
 //! and what `message_diff` says that is a part of one. `specs/Good.antt` states that each path leads to one member.
 #![tactic(auto)]
 
-ghost use Rattle.diff_laws.specs.Good.{TreesAreGood, TreesAreApart, GoodChangesStay, LenientTreesAreGood};
-ghost use Rattle.diff_laws.specs.Good.{LenientGoodChangesStay};
+ghost use Rattle.diff_laws.specs.Compared.{AllIsTold, AllIsToldLeniently};
+ghost use Rattle.diff_laws.specs.Good.{PlainIsNamed, TreesAreGood, TreesAreApart, GoodChangesStay};
+ghost use Rattle.diff_laws.specs.Good.{LenientTreesAreGood, LenientGoodChangesStay};
 ghost use Rattle.diff_laws.specs.LeftOut.{HaveTrees, MarksTell, FramesAre, PartsMean, RowsStay, ChangesStay};
 ghost use Rattle.diff_laws.specs.Leniently.{PartsMeanLeniently, PartsHaveTrees, LenientRowsStay, LenientChangesStay};
 ghost use Rattle.diff_laws.specs.Names.{NamesAreApart};
 ghost use Rattle.diff_laws.specs.Values.{ShownIsOne};
+
+use message_shown::laws::law_shown;
 
 /// What is shown of a message is one JSON value, and so has one tree, which the marks of its page tell of.
 pub fn law_one_value()
@@ -49,11 +52,21 @@ pub fn law_left_out_leniently()
 
 /// Where rows have good names, each path leads to one member of what is shown of a message, and the text of a value
 /// tells what is inside it, if the whole text is shorter than 2^64 bytes. So the changes of parts are those of the
-/// messages.
+/// messages. The rows that messages are shown by have such names.
 pub fn law_good()
+    ensures named { PlainIsNamed }
     ensures trees { TreesAreGood }
     ensures apart { TreesAreApart }
     ensures changes { GoodChangesStay }
     ensures lenient { LenientTreesAreGood }
     ensures lenient_changes { LenientGoodChangesStay }
 {}
+
+/// What is found to differ between two messages that are compared is what differs between all rows that are shown of
+/// them, whether they were shown whole or in parts.
+pub fn law_compared()
+    ensures strictly { AllIsTold }
+    ensures leniently { AllIsToldLeniently }
+{
+    law_shown()
+}

@@ -1,6 +1,10 @@
 use Rattle.diff_laws.proofs.GoodLeniently.{good_changes_are, lenient_good_changes_are, lenient_trees_are_good}
+use Rattle.diff_laws.proofs.PlainNames.{plain_is_named}
 use Rattle.diff_laws.proofs.Trees.{trees_are_apart, trees_are_good}
 use Rattle.diff_laws.proofs.law_good.Goals as goal
+
+pub returns-clause-named : goal.returns-clause-named
+returns-clause-named c = plain_is_named
 
 pub returns-clause-trees : goal.returns-clause-trees
 returns-clause-trees c = trees_are_good
