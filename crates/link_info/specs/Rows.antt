@@ -1,5 +1,5 @@
 -- The rows of each place: an annex, to be compared with rt_link.yaml and the kernel's headers.
-use Rattle.std.specs.Prelude.{◌≡◌, ℕ, List, [], ◌∷◌, codes, map}
+use Rattle.std.specs.Prelude.{◌≡◌, ℕ, List, [], ◌∷◌, Option, None, Some, codes, map}
 use Rattle.std.specs.Borrow.{Bor}
 use Rattle.link_info.specs.Lent.{lent, row_now}
 use Rattle.link_info.specs.Places.{rows_of}
@@ -743,6 +743,11 @@ own_rows Places.BridgeMst = bridge_mst_rows
 own_rows Places.BridgeMstEntry = bridge_mst_entry_rows
 own_rows Places.Inet6 = inet6_rows
 own_rows Places.Port = port_rows
+
+-- the rows of data, where their kind has a place
+abbrev pub rows_at : Option Place → List Row
+rows_at None = []
+rows_at (Some place) = own_rows place
 
 -- a table of all places has at each place its rows
 abbrev pub AreAllRows : List (Bor (List Row)) → Type 0

@@ -1,6 +1,6 @@
 //! What an interface of a kind is made with: its data, set and read by the names of rows.
 
-ghost use Rattle.std.specs.Prelude.{◌≡◌, ◌↔◌, ◌⊎◌, [], None, Some, false, IfOk, IfErr, option_map};
+ghost use Rattle.std.specs.Prelude.{◌≡◌, ◌↔◌, ◌⊎◌, [], None, Some, false, IfOk, IfErr, map, option_map};
 ghost use Rattle.std.specs.List.{find, position};
 ghost use Rattle.nla_wire.specs.Frames.{number};
 ghost use Rattle.nla_wire.specs.Canon.{canons, AllFit, IsSmall};
@@ -8,7 +8,9 @@ ghost use Rattle.link_info.specs.Meanings.{meaning, payload_as};
 ghost use Rattle.link_info.specs.Built.{Built, row_named, placed, has_number, Holds, IsSet, value_of, IsRefused};
 ghost use Rattle.link_info.specs.Built.{AreWhole, DataFit, list_of, kind_in, data_in, AreSet, AreRefused};
 ghost use Rattle.link_info.specs.Built.{IsSetTo, number_named, names_of, by_name, bits_named, bits_of};
+ghost use Rattle.link_info.specs.Lent.{row_now};
 ghost use Rattle.link_info.specs.Places.{place_of_kind};
+ghost use Rattle.link_info.specs.Rows.{rows_at};
 ghost use Rattle.link_info.specs.Styles.{are_frames};
 ghost use Rattle.nla_wire.specs.Items.{items};
 ghost use Rattle.link_info.specs.declared.info.InfoError.TheVariants as why;
@@ -251,6 +253,7 @@ impl Info {
         ensures made { IfOk result (λ info. (info.kind ≡ kind.now) × (info.frames ≡ [])) }
         ensures place { IfOk result (λ info. info.place ≡ place_of_kind kind.now) }
         ensures none { IfOk result (λ info. info.place ≡ None → info.rows ≡ []) }
+        ensures rows { IfOk result (λ info. map row_now info.rows ≡ rows_at info.place) }
         ensures causes { IfErr result (λ e. e ≡ why.OutOfMemory) }
     {
         let place = Place::of_kind(kind);
@@ -382,6 +385,7 @@ impl Info {
         ensures data { IfOk result (λ info. AreWhole (data_in list.now) info.frames) }
         ensures place { IfOk result (λ info. info.place ≡ place_of_kind info.kind) }
         ensures none { IfOk result (λ info. info.place ≡ None → info.rows ≡ []) }
+        ensures rows { IfOk result (λ info. map row_now info.rows ≡ rows_at info.place) }
         ensures unknown { IfErr result (λ e. (e ≡ why.UnknownKind) ↔ (kind_in list.now ≡ None)) }
         ensures damaged { IfErr result
             (λ e. e ≡ why.Damaged → are_frames (items (data_in list.now)) ≡ false) }
