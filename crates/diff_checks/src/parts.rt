@@ -101,7 +101,7 @@ fn tell(
 ) -> Result<Option<bool>, AllocError> {
     let (old, new) = messages;
     match (shown_by(alloc, by, old)?, shown_by(alloc, by, new)?) {
-        (Some(was), Some(is)) => { Ok(Some(push_changed(alloc, b"", &was, &is, desk, out)?)) }
+        (Some(was), Some(is)) => { Ok(Some(push_changed(alloc, by, b"", &was, &is, desk, out)?)) }
         _ => Ok(None),
     }
 }
@@ -312,7 +312,7 @@ fn is_of_another_order(alloc: Global, old: &[u8], new: &[u8]) -> Result<bool, Al
     let mut desk = Desk::new(alloc);
     let mut line = Vec::new(alloc);
     let mut other = Vec::new(alloc);
-    let told = push_changed(alloc, b"", &was, &is, &mut desk, &mut line)?;
+    let told = push_changed(alloc, Compared::State, b"", &was, &is, &mut desk, &mut line)?;
     tell(alloc, Compared::State, (old, new), &mut desk, &mut other)?;
     Ok(told && line.as_slice() == other.as_slice())
 }

@@ -21,6 +21,7 @@ use Rattle.message_diff.specs.declared.files.Written.{Written}
 use Rattle.std.specs.Io.KnownBytes.{Appends}
 use Rattle.line_filter.specs.Steps.{FailedWrite}
 use Rattle.line_filter.specs.declared.error.RunError.{RunError}
+use Rattle.message_diff.specs.declared.snapshot.Compared.{Compared}
 use Rattle.message_diff.specs.declared.watch.Watch.{Watch}
 use Rattle.message_diff.specs.Alone.{AddsAlone}
 use Rattle.message_diff.specs.Changed.{AddsChanged}
@@ -159,13 +160,14 @@ came_told : (front text : List ℕ) (w x : Written) → AddsAlone front (codes "
 came_told front text w x h same = one (News.came front text) w x h.0 refl h.1 h.2 same
 
 -- two lines of another one at its place
-pub replaced_told : (old_front was front is : List ℕ) (w x : Written) (mid : List ℕ) (b : Bool) → b ≡ true
+pub replaced_told : (by : Compared) (old_front was front is : List ℕ) (w x : Written) (mid : List ℕ) (b : Bool)
+    → b ≡ true
     → AddsAlone old_front (codes "gone") was w.out.items mid → AddsAlone front (codes "new") is mid x.out.items
     → x.untold ≡ w.untold
-    → Adds (cond b (News.replaced old_front was front is) (News.changed front was is) ∷ []) w x
-replaced_told old_front was front is w x mid b other gone new same =
+    → Adds (cond b (News.replaced old_front was front is) (News.changed by front was is) ∷ []) w x
+replaced_told by old_front was front is w x mid b other gone new same =
     as_one _ (News.replaced old_front was front is) w x
-    (ap (λ (t : Bool). cond t (News.replaced old_front was front is) (News.changed front was is)) other)
+    (ap (λ (t : Bool). cond t (News.replaced old_front was front is) (News.changed by front was is)) other)
     (one (News.replaced old_front was front is) w x (gone.0 ++ new.0) refl (gone.0, new.0, gone.1, new.1, refl)
     (new.2 ∙ ap (λ t. t ++ new.0) gone.2 ∙ append_assoc w.out.items gone.0 new.0) same)
 
@@ -173,72 +175,78 @@ clash : true ≡ false → ⊥
 clash e = let z : ◌≡◌ {A = ℕ} 0 1 = cc in omega arith
 
 -- a line is told of one that changed, where it did
-pub changed_told : (old_front front was is : List ℕ) (w x : Written) (b told : Bool) → b ≡ false
+pub changed_told : (by : Compared) (old_front front was is : List ℕ) (w x : Written) (b told : Bool) → b ≡ false
     → (told ≡ false) ↔ (was ≡ is) → (told ≡ false → x.out ≡ w.out)
-    → (IsTrue told → AddsChanged front was is w.out.items x.out.items) → x.untold ≡ w.untold
-    → Adds (cond b (News.replaced old_front was front is) (News.changed front was is) ∷ []) w x
-changed_told old_front front was is w x b told other tells silent line same =
-    as_one _ (News.changed front was is) w x
-    (ap (λ (t : Bool). cond t (News.replaced old_front was front is) (News.changed front was is)) other)
-    (by told tells silent line)
+    → (IsTrue told → AddsChanged by front was is w.out.items x.out.items) → x.untold ≡ w.untold
+    → Adds (cond b (News.replaced old_front was front is) (News.changed by front was is) ∷ []) w x
+changed_told by old_front front was is w x b told other tells silent line same =
+    as_one _ (News.changed by front was is) w x
+    (ap (λ (t : Bool). cond t (News.replaced old_front was front is) (News.changed by front was is)) other)
+    (each told tells silent line)
   where
-    by : (t : Bool) → (t ≡ false) ↔ (was ≡ is) → (t ≡ false → x.out ≡ w.out)
-        → (IsTrue t → AddsChanged front was is w.out.items x.out.items) → Adds (News.changed front was is ∷ []) w x
-    by false decides nothing more =
-        one (News.changed front was is) w x [] refl (inl (decides.0 refl, refl))
+    each : (t : Bool) → (t ≡ false) ↔ (was ≡ is) → (t ≡ false → x.out ≡ w.out)
+        → (IsTrue t → AddsChanged by front was is w.out.items x.out.items)
+        → Adds (News.changed by front was is ∷ []) w x
+    each false decides nothing more =
+        one (News.changed by front was is) w x [] refl (inl (decides.0 refl, refl))
         (ap (λ o. o.items) (nothing refl) ∙ sym (append-nil w.out.items)) same
-    by true decides nothing more =
+    each true decides nothing more =
         let h = more refl in
-        one (News.changed front was is) w x h.0 refl (inr (λ e. clash (decides.1 e), h.1)) h.2 same
+        one (News.changed by front was is) w x h.0 refl (inr (λ e. clash (decides.1 e), h.1)) h.2 same
 
 -- ** by what the files have
 
-refused : (t : Bool) (m : Missing) (o : Bool) (old : Found) → news_of t m o old Found.refusals ≡ News.same
-refused t m o Found.nothing = refl
-refused t m o Found.refusals = refl
-refused t m o (Found.last front text) = refl
+refused : (by : Compared) (t : Bool) (m : Missing) (o : Bool) (old : Found)
+    → news_of by t m o old Found.refusals ≡ News.same
+refused by t m o Found.nothing = refl
+refused by t m o Found.refusals = refl
+refused by t m o (Found.last front text) = refl
 
 found_is : (host : Option Host) (key : Key) (known : Known) (last : Option Entry) → known_at host key ≡ Some known
     → last ≡ known.last → found host key ≡ found_last last
 found_is host key known last is at = ap found_in is ∙ ap found_last (sym at)
 
-pub told_refused : (dumps : Bool) (name : List ℕ) (old new : Option Host) (key : Key) (known : Known) (w : Written)
-    → known_at new key ≡ Some known → None ≡ known.last → Adds (news_at dumps name old new key ∷ []) w w
-told_refused dumps name old new key known w is none =
+pub told_refused : (by : Compared) (dumps : Bool) (name : List ℕ) (old new : Option Host) (key : Key) (known : Known)
+    (w : Written) → known_at new key ≡ Some known → None ≡ known.last
+    → Adds (news_at by dumps name old new key ∷ []) w w
+told_refused by dumps name old new key known w is none =
     as_one _ News.same w w
-    (ap (news_of (tells dumps old key.family) (record { is_new = false; family = key.family; host = name })
+    (ap (news_of by (tells dumps old key.family) (record { is_new = false; family = key.family; host = name })
     (is_replaced (found old) (found new) key) (found old key)) (found_is new key known None is none)
-    ∙ refused _ _ _ (found old key))
+    ∙ refused by _ _ _ (found old key))
     (one News.same w w [] refl refl (sym (append-nil w.out.items)) refl)
 
-pub told_came : (dumps : Bool) (name : List ℕ) (old new : Option Host) (key : Key) (known : Known) (entry : Entry)
-    (w x : Written) → known_at new key ≡ Some known → Some entry ≡ known.last → None ≡ known_at old key
+pub told_came : (by : Compared) (dumps : Bool) (name : List ℕ) (old new : Option Host) (key : Key) (known : Known)
+    (entry : Entry) (w x : Written) → known_at new key ≡ Some known → Some entry ≡ known.last → None ≡ known_at old key
     → true ≡ tells dumps old key.family
     → AddsAlone entry.front.items (codes "new") entry.snapshot w.out.items x.out.items → x.untold ≡ w.untold
-    → Adds (news_at dumps name old new key ∷ []) w x
-told_came dumps name old new key known entry w x is at none tells_it h same =
+    → Adds (news_at by dumps name old new key ∷ []) w x
+told_came by dumps name old new key known entry w x is at none tells_it h same =
     let missing : Missing = record { is_new = false; family = key.family; host = name } in
     let other : Bool = is_replaced (found old) (found new) key in
     as_one _ (News.came entry.front.items entry.snapshot) w x
-    (ap (λ (f : Found). news_of (tells dumps old key.family) missing other f (found new key)) (ap found_in (sym none))
-    ∙ ap (λ (f : Found). news_of (tells dumps old key.family) missing other Found.nothing f)
+    (ap (λ (f : Found). news_of by (tells dumps old key.family) missing other f (found new key))
+    (ap found_in (sym none))
+    ∙ ap (λ (f : Found). news_of by (tells dumps old key.family) missing other Found.nothing f)
     (found_is new key known (Some entry) is at)
     ∙ ap (λ (t : Bool). cond t (News.came entry.front.items entry.snapshot) (News.untold missing)) (sym tells_it))
     (came_told entry.front.items entry.snapshot w x h same)
 
 -- ** of a host
 
-pub host_told : (old new : Watch) (name other : List ℕ) (dumps : Bool) (was is : Option Host) (host : Host)
-    (w x : Written) → dumps ≡ old.has_dumps → other ≡ name → was ≡ host_in old name → is ≡ host_in new name
-    → is ≡ Some host → Adds (map (news_at dumps other was is) (keys_of host.known.entries)) w x
+pub host_told : (old new : Watch) (by : Compared) (name other : List ℕ) (dumps : Bool) (was is : Option Host)
+    (host : Host) (w x : Written) → by ≡ old.told.by → dumps ≡ old.has_dumps → other ≡ name
+    → was ≡ host_in old name → is ≡ host_in new name
+    → is ≡ Some host → Adds (map (news_at by dumps other was is) (keys_of host.known.entries)) w x
     → Adds (host_news old new name) w x
-host_told old new name other dumps was is host w x has named old_is new_is at h =
+host_told old new by name other dumps was is host w x compared has named old_is new_is at h =
     subst (λ (ns : List News). Adds ns w x)
-    (ap (λ (d : Bool). map (news_at d other was is) (keys_of host.known.entries)) has
-    ∙ ap (λ (n : List ℕ). map (news_at old.has_dumps n was is) (keys_of host.known.entries)) named
-    ∙ ap (λ (o : Option Host). map (news_at old.has_dumps name o is) (keys_of host.known.entries)) old_is
-    ∙ ap (λ (o : Option Host). map (news_at old.has_dumps name (host_in old name) is) (keys_in o)) (sym at)
-    ∙ ap (λ (o : Option Host). map (news_at old.has_dumps name (host_in old name) o) (keys_in o)) new_is)
+    (ap (λ (c : Compared). map (news_at c dumps other was is) (keys_of host.known.entries)) compared
+    ∙ ap (λ (d : Bool). map (news_at old.told.by d other was is) (keys_of host.known.entries)) has
+    ∙ ap (λ (n : List ℕ). map (news_at old.told.by old.has_dumps n was is) (keys_of host.known.entries)) named
+    ∙ ap (λ (o : Option Host). map (news_at old.told.by old.has_dumps name o is) (keys_of host.known.entries)) old_is
+    ∙ ap (λ (o : Option Host). map (news_at old.told.by old.has_dumps name (host_in old name) is) (keys_in o)) (sym at)
+    ∙ ap (λ (o : Option Host). map (news_at old.told.by old.has_dumps name (host_in old name) o) (keys_in o)) new_is)
     h
 
 pub host_left : (old new : Watch) (name other : List ℕ) (dumps : Bool) (is : Option Host) (host : Host)

@@ -1,8 +1,9 @@
 -- How a line that tells what changed is added.
 use Rattle.std.proofs.Common.{◌≡◌, ◌<◌, ℕ, Bool, true, false, List, [], ◌∷◌, ◌++◌, refl, sym, ap, ◌∙◌, append_assoc}
-use Rattle.std.proofs.Common.{append-nil}
+use Rattle.std.proofs.Common.{append-nil, subst}
 use Rattle.std.proofs.Common.{length, length-append, arith}
-use Rattle.std.specs.Prelude.{Option, None, Some, IsSome, option_to_list, ◌↔◌, codes}
+use Rattle.std.specs.Prelude.{Option, None, Some, IsSome, option_copied, option_map, option_to_list, ◌↔◌, codes}
+use Rattle.std.specs.Borrow.{Bor}
 use Rattle.std.specs.List.{flat_map, fold}
 use Rattle.std.proofs.lemmas.List.{same_from_push}
 use Rattle.std.proofs.lemmas.List.Concat.{flat_map-append}
@@ -20,7 +21,9 @@ use Rattle.message_diff.specs.Differences.{Diff, path_of, old_of, new_of, diffs_
 use Rattle.message_diff.specs.Changed.{given, given_if, diff_members, diff_objects, changes_member, state_diff}
 use Rattle.message_diff.specs.Changed.{Head, begun, opened, changed_line, given_text, head_text, list_text}
 use Rattle.message_diff.specs.Changed.{diff_text}
-use Rattle.message_diff.specs.Changed.{told_diffs, IsChanged, AddsChanged, AddsList}
+use Rattle.message_diff.specs.Changed.{told_diffs, IsChanged, IsHeadIn, AddsChanged, AddsList}
+use Rattle.message_diff.specs.declared.snapshot.Compared.{Compared}
+use Rattle.shown.specs.declared.marks.Mark.{Mark}
 
 -- ** members behind members
 
@@ -342,23 +345,36 @@ told_some old new [] some = absurd (omega arith)
 told_some old new (c ∷ cs) some = refl
 
 -- a line has a byte
-pub some_changed : (front old new line : List ℕ) → IsChanged front old new line → 0 < length line
+pub some_changed : (by : Compared) (front old new line : List ℕ) → IsChanged by front old new line → 0 < length line
 unfolding changed_line
-some_changed front old new line is =
+some_changed by front old new line is =
     let text : List ℕ = print (object_of (begun (told_words front) (codes "changed") is.head
     ++ changes_member is.changes ∷ [])) in
     let same : line ≡ text ++ 10 ∷ [] = is.is in
     omega (arith, ap length same, length-append text (10 ∷ []))
 
 -- something is added
-pub longer_changed : (front old new before now : List ℕ) → AddsChanged front old new before now
-    → length before < length now
-longer_changed front old new before now adds =
-    omega (arith, ap length adds.2, length-append before adds.0, some_changed front old new adds.0 adds.1)
+pub longer_changed : (by : Compared) (front old new before now : List ℕ)
+    → AddsChanged by front old new before now → length before < length now
+longer_changed by front old new before now adds =
+    omega (arith, ap length adds.2, length-append before adds.0, some_changed by front old new adds.0 adds.1)
 
 -- a list has its brackets
-pub longer_list : (old new before now : List ℕ) → AddsList old new before now → length before < length now
-longer_list old new before now adds =
-    let text : adds.0 ≡ 91 ∷ (print (diff_objects adds.1.changes) ++ 93 ∷ [])
-    = adds.1.is ∙ list_is adds.1.changes in
-    omega (arith, ap length adds.2, length-append before adds.0, ap length text)
+pub longer_list : (by : Compared) (old new before now : List ℕ) → AddsList by old new before now
+    → length before < length now
+longer_list by old new before now adds =
+    let added = adds.1 in
+    let text : added.0 ≡ 91 ∷ (print (diff_objects added.1.changes) ++ 93 ∷ [])
+    = added.1.is ∙ list_is added.1.changes in
+    omega (arith, ap length added.2, length-append before added.0, ap length text)
+
+-- ** which interface it is
+
+pub value_is : (result : Option (Bor (List ℕ))) (found : Option (List ℕ)) → option_copied result ≡ found
+    → option_map (λ text. text.now) result ≡ found
+value_is None found is = is
+value_is (Some text) found is = is
+
+pub head_in : {text text_too : List ℕ} {marks marks_too : List Mark} → text ≡ text_too → marks ≡ marks_too
+    → (head : Head) → IsHeadIn text marks head → IsHeadIn text_too marks_too head
+head_in is are head h = subst (λ (p : List ℕ × List Mark). IsHeadIn p.0 p.1 head) (λ i. (is i, are i)) h

@@ -1,36 +1,34 @@
--- What is left of changes without those of counters.
-use Rattle.std.proofs.Common.{◌≡◌, List, [], refl, sym, subst, inl}
-use Rattle.message_diff.specs.declared.counters.Counters.{Counters}
-use Rattle.message_diff.specs.declared.desk.Pair.{Pair}
-use Rattle.message_diff.specs.declared.snapshot.Compared.{Compared}
-use Rattle.message_diff.specs.declared.snapshot.Compared.TheVariants.{State, Message, LenientState, LenientMessage}
-use Rattle.message_diff.specs.Counted.{IsLeftBy, IsWithout, IsWithoutCounters}
-use Rattle.message_diff.specs.Differences.{Diff, AreLeft}
-use Rattle.message_diff.specs.Paths.{paths_in}
-use Rattle.message_diff.proofs.Diffs.{left_all}
+-- What is left of changes without the values at counters.
+use Rattle.std.proofs.Common.{◌≡◌, ◌<◌, ◌+◌, ◌++◌, ℕ, Bool, true, false, List, [], ◌∷◌, refl, sym, ap, ◌∙◌, length}
+use Rattle.std.proofs.Common.{append-nil, get_or, map, take}
+use Rattle.std.specs.Prelude.{◌||◌, ◌&&◌}
+use Rattle.std.specs.List.{list_any}
+use Rattle.std.proofs.lemmas.List.Concat.{flat_map-append}
+use Rattle.message_diff.specs.Differences.{Diff, left_by, left_of, less, may_be, new_of, old_of}
+use Rattle.message_diff.proofs.Diffs.{map_more}
 
-without : (pair : Pair) (counters : Counters) (found left : List Diff) → IsWithout pair counters found left
-    → IsWithoutCounters pair found left
-without pair counters found left h = record {
-  olds = paths_in counters.old.rows;
-  news = paths_in counters.new.rows;
-  of_old = h.are.old;
-  of_new = h.are.new;
-  are_left = h.are_left;
-}
+pub any_map : {X Y : Type 0} (p : Y → Bool) (f : X → Y) (xs : List X)
+    → list_any p (map f xs) ≡ list_any (λ x. p (f x)) xs
+any_map p f [] = refl
+any_map p f (x ∷ xs) = ap (λ b. p (f x) || b) (any_map p f xs)
 
-all_of : (pair : Pair) (found left : List Diff) → left ≡ found → IsWithoutCounters pair found left
-all_of pair found left h = record {
-  olds = [];
-  news = [];
-  of_old = inl refl;
-  of_new = inl refl;
-  are_left = subst (λ (ds : List Diff). AreLeft [] [] found ds) (sym h) (left_all [] [] found);
-}
+-- of one more, what is left of it
+pub less_more : {X : Type 0} (diff : X → Diff) (olds news : List (List ℕ)) (xs : List X) (i : ℕ) (d : X)
+    (left more : List Diff) → i < length xs → left ≡ less olds news (map diff (take i xs))
+    → more ≡ left_by olds news (diff (get_or xs i d))
+    → left ++ more ≡ less olds news (map diff (take (i + 1) xs))
+less_more diff olds news xs i d left more within all is =
+    (λ j. all j ++ (is ∙ sym (append-nil (left_by olds news (diff (get_or xs i d))))) j)
+    ∙ sym (flat_map-append (left_by olds news) (map diff (take i xs)) (diff (get_or xs i d) ∷ []))
+    ∙ ap (less olds news) (sym (map_more diff xs i d within))
 
-pub left_by : (by : Compared) (pair : Pair) (counters : Counters) (found left : List Diff)
-    → IsLeftBy by pair counters found left → IsWithoutCounters pair found left
-left_by State pair counters found left h = without pair counters found left h
-left_by LenientState pair counters found left h = without pair counters found left h
-left_by Message pair counters found left h = all_of pair found left h
-left_by LenientMessage pair counters found left h = all_of pair found left h
+-- where there are no counters, all of it
+none_at : (b : Bool) → (b && false) ≡ false
+none_at true = refl
+none_at false = refl
+
+pub less_none : (ds : List Diff) → less [] [] ds ≡ ds
+less_none [] = refl
+less_none (d ∷ ds) =
+    (λ j. left_of (none_at (may_be (old_of d)) j) (none_at (may_be (new_of d)) j) d ++ less [] [] ds)
+    ∙ ap (λ (rest : List Diff). d ∷ rest) (less_none ds)

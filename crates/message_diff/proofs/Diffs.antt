@@ -9,7 +9,7 @@ use Rattle.std.proofs.lemmas.List.Concat.{flat_map-append}
 use Rattle.std.proofs.lemmas.Slice.Eq.{bytes_eq-Decides}
 use Rattle.message_diff.specs.Known.{is_text}
 use Rattle.message_diff.specs.Differences.{Leaf, Diff, value_at, old_diff, new_diff, old_diffs, new_diffs, Has, Lacks}
-use Rattle.message_diff.specs.Differences.{HasOneEach, IsValueAt, Says, AreOldDiffs, IsLeft, AreLeft}
+use Rattle.message_diff.specs.Differences.{HasOneEach, IsValueAt, Says, AreOldDiffs}
 
 -- ** members at their places
 
@@ -114,43 +114,3 @@ said_one (l ∷ ls) new ds one all =
     all.4 ∙ ap (λ (x : List Diff). x ++ all.1)
     (all.2.says ∙ ap (old_diff l) (value_one new l.0 all.2.value (value_at new l.0) one all.2.at (value_is new l.0)))
     ∙ ap (λ (x : List Diff). old_diff l (value_at new l.0) ++ x) (said_one ls new all.1 one all.3)
-
--- ** what is left of them
-
-left_push : (olds news : List (List ℕ)) (ds : List Diff) (d : Diff) (left more : List Diff)
-    → AreLeft olds news ds left → IsLeft olds news d more → AreLeft olds news (ds ++ d ∷ []) (left ++ more)
-left_push olds news [] d left more all is =
-    (more, [], is, refl, ap (λ (x : List Diff). x ++ more) all ∙ sym (append-nil more))
-left_push olds news (x ∷ ds) d left more all is = (
-  all.0,
-  all.1 ++ more,
-  all.2,
-  left_push olds news ds d all.1 more all.3 is,
-  ap (λ (x : List Diff). x ++ more) all.4 ∙ append_assoc all.0 all.1 more,
-)
-
-pub left_more : {X : Type 0} (diff : X → Diff) (olds news : List (List ℕ)) (xs : List X) (i : ℕ) (d : X)
-    (left more : List Diff) → i < length xs → AreLeft olds news (map diff (take i xs)) left
-    → IsLeft olds news (diff (get_or xs i d)) more
-    → AreLeft olds news (map diff (take (i + 1) xs)) (left ++ more)
-left_more diff olds news xs i d left more within all is =
-    subst (λ (ds : List Diff). AreLeft olds news ds (left ++ more))
-    (sym (map_more diff xs i d within))
-    (left_push olds news (map diff (take i xs)) (diff (get_or xs i d)) left more all is)
-
--- all of them
-pub left_all : (olds news : List (List ℕ)) (ds : List Diff) → AreLeft olds news ds ds
-left_all olds news [] = refl
-left_all olds news (d ∷ ds) = (
-  d ∷ [],
-  ds,
-  record {
-    by_old = false;
-    by_new = false;
-    of_old = λ h. absurd cc;
-    of_new = λ h. absurd cc;
-    is = refl;
-  },
-  left_all olds news ds,
-  refl,
-)

@@ -13,12 +13,15 @@ use Rattle.message_diff.specs.declared.key.Key.{Key}
 use Rattle.message_diff.specs.declared.store.Entry.{Entry}
 use Rattle.message_diff.specs.declared.store.Host.{Host}
 use Rattle.message_diff.specs.declared.store.Known.{Known}
-use Rattle.message_diff.specs.declared.watch.Told.{Told}
+use Rattle.message_diff.specs.declared.watch.Telling.{Telling}
 use Rattle.message_diff.specs.Announced.{is_another, are_two_kinds}
+use Rattle.message_diff.specs.Changed.{IsChanged}
+use Rattle.message_diff.specs.declared.snapshot.Compared.{Compared}
+use Rattle.std.proofs.lemmas.Slice.Eq.{bytes_eq-Decides}
 use Rattle.message_diff.specs.Known.{Item, Picture, Seen, key_cmp, is_key, is_among, in_family, parts, ends, text_of}
 use Rattle.message_diff.specs.Known.{is_ended_with, is_now, of_after, run_after, whole_after}
 use Rattle.message_diff.specs.Told.{says, is_told, told_text, own_text, is_new_told, AreEnded, IsGone, AreGone}
-use Rattle.message_diff.specs.Told.{NewsOf, IsNews, AddsGone, AddsAllGone, AddsNews, AddsTold}
+use Rattle.message_diff.specs.Told.{IsTurned, NewsOf, IsNews, AddsGone, AddsAllGone, AddsNews, AddsTold}
 use Rattle.message_diff.specs.Held.{IsAfter, held, held_in, run_in, taken, picture, seen_in, text_in, whole_in}
 use Rattle.message_diff.specs.Held.{text_told}
 use Rattle.message_diff.proofs.Pictures.{drop_is}
@@ -82,10 +85,10 @@ gone_first front f g key keys old mid new sorted same one rest = (
 )
 
 -- those of the others stay as one is taken out
-pub told_after : (told : Told) (a b : Host) (key : Key) → ((q : Key) → held b q ≡ taken key (held a) q)
+pub told_after : (told : Telling) (a b : Host) (key : Key) → ((q : Key) → held b q ≡ taken key (held a) q)
     → (q : Key) → is_key key q ≡ false → text_told told b q ≡ text_told told a q
 told_after told a b key is q other =
-    ap (λ o. cond (says told) (text_of (seen_in o)) None) (is q ∙ ap (λ c. cond c None (held a q)) other)
+    ap (λ o. cond (says told.told) (text_of (seen_in o)) None) (is q ∙ ap (λ c. cond c None (held a q)) other)
 
 -- the same of the keys from a place on
 next_sorted : (keys : List Key) (i : ℕ) (d : Key) → i < length keys → IsStrictlySortedBy key_cmp (drop i keys)
@@ -98,7 +101,7 @@ pub sorted_next : (keys : List Key) (i : ℕ) → i < length keys → IsStrictly
     → IsStrictlySortedBy key_cmp (drop (i + 1) keys)
 sorted_next keys i within = next_sorted keys i (record { family = 0; index = 0 }) within
 
-pub gone_next : (front : List ℕ) (told : Told) (keys : List Key) (i : ℕ) (d : Key) (a b : Host)
+pub gone_next : (front : List ℕ) (told : Telling) (keys : List Key) (i : ℕ) (d : Key) (a b : Host)
     (old mid new : List ℕ) → i < length keys → IsStrictlySortedBy key_cmp (drop i keys)
     → ((q : Key) → held b q ≡ taken (get_or keys i d) (held a) q)
     → AddsGone front (text_told told a (get_or keys i d)) old mid
@@ -111,7 +114,7 @@ gone_next front told keys i d a b old mid new within sorted known one rest =
     (subst (λ (ks : List Key). IsStrictlySortedBy key_cmp ks) is sorted)
     (told_after told a b (get_or keys i d) known) one rest)
 
-pub gone_last : (front : List ℕ) (told : Told) (keys : List Key) (i : ℕ) (a : Host) (old : List ℕ)
+pub gone_last : (front : List ℕ) (told : Telling) (keys : List Key) (i : ℕ) (a : Host) (old : List ℕ)
     → length keys ≤ i → AddsAllGone front (text_told told a) (drop i keys) old old
 gone_last front told keys i a old over =
     subst (λ (ks : List Key). AddsAllGone front (text_told told a) ks old old) (sym (drop_all i keys over))
@@ -135,7 +138,7 @@ pub own_sorted : (key : Key) → IsStrictlySortedBy key_cmp (key ∷ parts key)
 own_sorted key = sorted_by key (key.family == 0) refl
 
 -- ** nothing went
-pub tells_news : (front : List ℕ) (told : Told) (p : Picture) (x : Item) (old line new : List ℕ)
+pub tells_news : (front : List ℕ) (told : Telling) (p : Picture) (x : Item) (old line new : List ℕ)
     → ((q : Key) → ends p x q ≡ false) → IsNews front told p x line → new ≡ old ++ line
     → AddsTold front told p x old new
 unfolding IsStrictlySortedBy
@@ -153,14 +156,15 @@ tells_news front told p x old line new none news is = (
   is,
 )
 
-pub tells_nothing : (front : List ℕ) (told : Told) (p : Picture) (x : Item) (old : List ℕ)
+pub tells_nothing : (front : List ℕ) (told : Telling) (p : Picture) (x : Item) (old : List ℕ)
     → ((q : Key) → ends p x q ≡ false) → IsNews front told p x [] → AddsTold front told p x old old
 tells_nothing front told p x old none news =
     tells_news front told p x old [] old none news (sym (append-nil old))
 
 -- ** some went
-pub tells_gone : (front : List ℕ) (told : Told) (p : Picture) (x : Item) (keys : List Key) (line old mid new : List ℕ)
-    → AreEnded p x keys → AddsAllGone front (told_text told p x) keys old mid → IsNews front told p x line
+pub tells_gone : (front : List ℕ) (told : Telling) (p : Picture) (x : Item) (keys : List Key)
+    (line old mid new : List ℕ) → AreEnded p x keys → AddsAllGone front (told_text told p x) keys old mid
+    → IsNews front told p x line
     → new ≡ mid ++ line → AddsTold front told p x old new
 tells_gone front told p x keys line old mid new ended gone news is = (
   gone.0 ++ line,
@@ -176,16 +180,16 @@ tells_gone front told p x keys line old mid new ended gone news is = (
   is ∙ ap (λ l. l ++ line) gone.2 ∙ append_assoc old gone.0 line,
 )
 
-pub tells_went : (front : List ℕ) (told : Told) (a b : Host) (key : Key) (gone : Option (List ℕ))
+pub tells_went : (front : List ℕ) (told : Telling) (a b : Host) (key : Key) (gone : Option (List ℕ))
     (old mid new : List ℕ) → ((q : Key) → held b q ≡ taken key (held a) q)
-    → AddsGone front (cond (says told) (own_text key gone (seen_in (held a key))) None) old mid
+    → AddsGone front (cond (says told.told) (own_text key gone (seen_in (held a key))) None) old mid
     → AddsAllGone front (text_told told b) (parts key) mid new
     → AddsTold front told (picture a) (Item.went key gone) old new
 tells_went front told a b key gone old mid new known one rest =
     let x : Item = Item.went key gone in
     let own : Option (List ℕ) = own_text key gone (seen_in (held a key)) in
     let text : Bool → Key → Option (List ℕ) =
-    λ c q. cond (says told) (cond c own (text_of (seen_in (held a q)))) None in
+    λ c q. cond (says told.told) (cond c own (text_of (seen_in (held a q)))) None in
     tells_gone front told (picture a) x (key ∷ parts key) [] old new new
     (record { sorted = own_sorted key; each = λ q. refl })
     (gone_first front (told_text told (picture a) x) (text_told told b) key (parts key) old mid new (own_sorted key)
@@ -199,35 +203,35 @@ whole_same a b f is =
     let same : b.whole.items ≡ a.whole.items = ap (λ w. w.items) is in
     ap (λ (fs : List ℕ). list_any (λ g. g == f) fs) same
 
-new_same : (told : Told) (a b : Host) (key : Key) → a.whole ≡ b.whole
-    → is_new_told told (whole_in a) key ≡ is_new_told told (whole_in b) key
+new_same : (told : Telling) (a b : Host) (key : Key) → a.whole ≡ b.whole
+    → is_new_told told.told (whole_in a) key ≡ is_new_told told.told (whole_in b) key
 new_same told a b key is =
     let same : a.whole.items ≡ b.whole.items = ap (λ w. w.items) is in
-    ap (λ (fs : List ℕ). is_new_told told (λ f. list_any (λ g. g == f) fs) key) same
+    ap (λ (fs : List ℕ). is_new_told told.told (λ f. list_any (λ g. g == f) fs) key) same
 
-news_same : (front : List ℕ) (told : Told) (a b : Host) (key : Key) (last : Option (List ℕ)) (text line : List ℕ)
-    → a.whole ≡ b.whole → NewsOf front told (is_new_told told (whole_in a) key) last text line
-    → NewsOf front told (is_new_told told (whole_in b) key) last text line
+news_same : (front : List ℕ) (told : Telling) (a b : Host) (key : Key) (last : Option (List ℕ)) (text line : List ℕ)
+    → a.whole ≡ b.whole → NewsOf front told (is_new_told told.told (whole_in a) key) last text line
+    → NewsOf front told (is_new_told told.told (whole_in b) key) last text line
 news_same front told a b key last text line is news =
     subst (λ (n : Bool). NewsOf front told n last text line) (new_same told a b key is) news
 
-pub tells_put : (front : List ℕ) (told : Told) (a b : Host) (key : Key) (last : Option (List ℕ)) (text old new : List ℕ)
-    → b.whole ≡ a.whole → text_of (seen_in (held a key)) ≡ last → is_another last text ≡ false
-    → AddsNews front told (is_new_told told (whole_in b) key) last text old new
+pub tells_put : (front : List ℕ) (told : Telling) (a b : Host) (key : Key) (last : Option (List ℕ))
+    (text old new : List ℕ) → b.whole ≡ a.whole → text_of (seen_in (held a key)) ≡ last → is_another last text ≡ false
+    → AddsNews front told (is_new_told told.told (whole_in b) key) last text old new
     → AddsTold front told (picture a) (Item.is key text) old new
 tells_put front told a b key last text old new whole is same added =
     let kept : is_another (text_of (seen_in (held a key))) text ≡ false = ap (λ t. is_another t text) is ∙ same in
     tells_news front told (picture a) (Item.is key text) old added.0 new (λ q. ap (λ b. b && is_ended_with key q) kept)
-    (subst (λ (t : Option (List ℕ)). NewsOf front told (is_new_told told (whole_in a) key) t text added.0)
+    (subst (λ (t : Option (List ℕ)). NewsOf front told (is_new_told told.told (whole_in a) key) t text added.0)
     (sym (ap (λ b. cond b None (text_of (seen_in (held a key)))) kept ∙ is))
     (news_same front told b a key last text added.0 whole added.1)) added.2
 
-pub tells_other : (front : List ℕ) (told : Told) (a b c : Host) (key : Key) (last text old mid next new : List ℕ)
+pub tells_other : (front : List ℕ) (told : Telling) (a b c : Host) (key : Key) (last text old mid next new : List ℕ)
     → ((q : Key) → held b q ≡ taken key (held a) q) → c.whole ≡ a.whole
     → text_of (seen_in (held a key)) ≡ Some last → are_two_kinds last text ≡ true
-    → AddsGone front (cond (says told) (Some last) None) old mid
+    → AddsGone front (cond (says told.told) (Some last) None) old mid
     → AddsAllGone front (text_told told b) (parts key) mid next
-    → AddsNews front told (is_new_told told (whole_in c) key) None text next new
+    → AddsNews front told (is_new_told told.told (whole_in c) key) None text next new
     → AddsTold front told (picture a) (Item.is key text) old new
 tells_other front told a b c key last text old mid next new known whole is two one rest added =
     let x : Item = Item.is key text in
@@ -239,8 +243,8 @@ tells_other front told a b c key last text old mid next new known whole is two o
     })
     (gone_first front (text_told told a) (text_told told b) key (parts key) old mid next (own_sorted key)
     (told_after told a b key known)
-    (subst (λ (t : Option (List ℕ)). AddsGone front (cond (says told) t None) old mid) (sym is) one) rest)
-    (subst (λ (t : Option (List ℕ)). NewsOf front told (is_new_told told (whole_in a) key) t text added.0)
+    (subst (λ (t : Option (List ℕ)). AddsGone front (cond (says told.told) t None) old mid) (sym is) one) rest)
+    (subst (λ (t : Option (List ℕ)). NewsOf front told (is_new_told told.told (whole_in a) key) t text added.0)
     (sym (ap (λ b. cond b None (text_of (seen_in (held a key)))) other))
     (news_same front told c a key None text added.0 whole added.1)) added.2
 
@@ -249,15 +253,21 @@ match_both : {A B : Type 0} (b : Bool) → A → B → MatchBool b A B
 match_both true x y = x
 match_both false x y = y
 
-pub tells_same : (front : List ℕ) (told : Told) (a : Host) (key : Key) (text old : List ℕ)
+-- nothing of it turned
+turned_same : (by : Compared) (front text : List ℕ) → IsTurned by front text text []
+turned_same by front text =
+    subst (λ b. MatchBool b (◌≡◌ {A = List ℕ} [] []) (IsChanged by front text text []))
+    (sym ((bytes_eq-Decides text text).1 refl)) refl
+
+pub tells_same : (front : List ℕ) (told : Telling) (a : Host) (key : Key) (text old : List ℕ)
     → text_of (seen_in (held a key)) ≡ Some text → AddsTold front told (picture a) (Item.is key text) old old
 tells_same front told a key text old is =
     let kept : is_another (text_of (seen_in (held a key))) text ≡ false =
     ap (λ t. is_another t text) is ∙ one_kind text in
     tells_nothing front told (picture a) (Item.is key text) old (λ q. ap (λ b. b && is_ended_with key q) kept)
-    (subst (λ (t : Option (List ℕ)). NewsOf front told (is_new_told told (whole_in a) key) t text [])
+    (subst (λ (t : Option (List ℕ)). NewsOf front told (is_new_told told.told (whole_in a) key) t text [])
     (sym (ap (λ b. cond b None (text_of (seen_in (held a key)))) kept ∙ is))
-    (match_both (says told) (λ _. refl, λ _. refl) refl))
+    (match_both (says told.told) (turned_same told.by front text) refl))
 
 -- what is known of an interface that goes on, and of one whose place another one has
 pub of_kept : (a : Host) (at : ℕ) (key : Key) (text : List ℕ) (q : Key)
@@ -283,7 +293,7 @@ seen_put true at last text o is = ap (λ t. Some (record { at = at; text = t }))
 seen_put false at last text o is = refl
 
 -- ** a line that ends nothing, and of which no interface is
-pub stays : (front : List ℕ) (told : Told) (at : ℕ) (a b : Host) (x : Item) (out : List ℕ) → b.known ≡ a.known
+pub stays : (front : List ℕ) (told : Telling) (at : ℕ) (a b : Host) (x : Item) (out : List ℕ) → b.known ≡ a.known
     → b.whole ≡ a.whole → run_in b.dump ≡ run_after (picture a) at x
     → ((q : Key) → of_after (picture a) at x q ≡ (picture a).of q) → ((q : Key) → ends (picture a) x q ≡ false)
     → ((f : ℕ) → whole_after (picture a) x f ≡ (picture a).whole f) → IsNews front told (picture a) x []

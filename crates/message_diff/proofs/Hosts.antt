@@ -8,7 +8,7 @@ use Rattle.std.proofs.lemmas.Cmp.{eq_by_cmp_equiv}
 use Rattle.std.proofs.lemmas.Map.Text.{is_eq-slice_cmp}
 use Rattle.message_diff.specs.declared.reading.Said.{Said}
 use Rattle.message_diff.specs.declared.reading.Said.TheVariants as Saids
-use Rattle.message_diff.specs.declared.watch.Told.{Told}
+use Rattle.message_diff.specs.declared.watch.Telling.{Telling}
 use Rattle.message_diff.specs.declared.watch.Watch.{Watch}
 use Rattle.message_diff.specs.Known.{Picture, is_text}
 use Rattle.message_diff.specs.Held.{Applies}
@@ -31,12 +31,12 @@ others_stay items a b old new keeps other =
     (λ x y. (eq_by_cmp_equiv nat_list_cmp_total).congr b (items x) (items y)) (λ k. apart a b (items k) other)
 
 -- what is said of a host is taken for it alone
-goes : (front : List ℕ) (told : Told) (at : ℕ) (said : Said) (p q : Picture) (before now : List ℕ)
+goes : (front : List ℕ) (told : Telling) (at : ℕ) (said : Said) (p q : Picture) (before now : List ℕ)
     → Applies front told at said p q before now
     → (more : List ℕ) × Goes front told at said p q more × (now ≡ before ++ more)
 goes front told at said p q before now h = (h.1.0, (h.0, h.1.1), h.1.2)
 
-pub taken_for : (front : List ℕ) (told : Told) (at : ℕ) (said : Said) (old new : Watch) (before now name : List ℕ)
+pub taken_for : (front : List ℕ) (told : Telling) (at : ℕ) (said : Said) (old new : Watch) (before now name : List ℕ)
     (p q : Picture) → name ≡ host_of front → known_in old name ≡ p → known_in new name ≡ q
     → ((other : List ℕ) → is_text name other ≡ false → host_in new other ≡ host_in old other)
     → Applies front told at said p q before now → AddsFor front told at said old new before now
@@ -58,7 +58,7 @@ known_same : (a b : Watch) (name : List ℕ) → a.hosts ≡ b.hosts → known_i
 known_same a b name same =
     ap (λ hosts. known_of (lookup (is_at (λ k. slice_cmp nat_cmp name k.items)) hosts.entries)) same
 
-goes_from : (front : List ℕ) (told : Told) (at : ℕ) (said : Said) (a b new : Watch) (more : List ℕ)
+goes_from : (front : List ℕ) (told : Telling) (at : ℕ) (said : Said) (a b new : Watch) (more : List ℕ)
     → a.hosts ≡ b.hosts → GoesFor front told at said a new more → GoesFor front told at said b new more
 goes_from front told at said a b new more same h = record {
   own = subst (λ (p : Picture). Goes front told at said p (known_in new (host_of front)) more)
@@ -66,7 +66,7 @@ goes_from front told at said a b new more same h = record {
   others = λ name apart. h.others name apart ∙ known_same a b name same;
 }
 
-takes_from : (front : List ℕ) (told : Told) (at : ℕ) (said : Said) (a b new : Watch) (more : List ℕ)
+takes_from : (front : List ℕ) (told : Telling) (at : ℕ) (said : Said) (a b new : Watch) (more : List ℕ)
     → a.hosts ≡ b.hosts → TakesSaid front told at said a new more → TakesSaid front told at said b new more
 takes_from front told at Saids.Lost a b new more same h = (h.0 ∙ same, h.1)
 takes_from front told at Saids.Nothing a b new more same h = (h.0 ∙ same, h.1)
@@ -82,8 +82,8 @@ takes_from front told at (Saids.Done dump family) a b new more same h =
     goes_from front told at (Saids.Done dump family) a b new more same h
 takes_from front told at Saids.Blind a b new more same h = goes_from front told at Saids.Blind a b new more same h
 
-pub takes_at : (front line_front : List ℕ) (told : Told) (at place : ℕ) (said : Said) (a b new : Watch) (more : List ℕ)
-    → front ≡ line_front → at ≡ place → a.hosts ≡ b.hosts
+pub takes_at : (front line_front : List ℕ) (told : Telling) (at place : ℕ) (said : Said) (a b new : Watch)
+    (more : List ℕ) → front ≡ line_front → at ≡ place → a.hosts ≡ b.hosts
     → TakesSaid front told at said a new more → TakesSaid line_front told place said b new more
 takes_at front line_front told at place said a b new more fronts places hosts takes =
     subst (λ (f : List ℕ). TakesSaid f told place said b new more) fronts

@@ -1,27 +1,61 @@
 -- The paths of rows at their places.
-use Rattle.std.proofs.Common.{◌≡◌, ◌<◌, ◌+◌, ◌-◌, ℕ, zero, suc, List, [], ◌∷◌, length, refl, sym, ap, ◌∙◌, arith, map}
-use Rattle.std.proofs.Common.{false}
-use Rattle.std.specs.Prelude.{◌==◌, cond}
-use Rattle.std.specs.List.{Contains, range_with_len}
+use Rattle.std.proofs.Common.{◌≡◌, ◌≢◌, ◌<◌, ◌≤◌, ◌+◌, ◌-◌, ℕ, zero, suc, List, [], ◌∷◌, length, refl, sym, ap, ◌∙◌}
+use Rattle.std.proofs.Common.{Bool, arith, false, get_or, map, subst, take, true}
+use Rattle.std.specs.Prelude.{◌==◌, ◌||◌, cond}
+use Rattle.std.specs.Bool.{Decides}
+use Rattle.std.specs.List.{list_any, range_with_len}
+use Rattle.std.proofs.lemmas.List.{take_all}
+use Rattle.std.proofs.lemmas.List.Folds.{list_any_at, list_any_more}
+use Rattle.std.proofs.lemmas.Slice.Eq.{bytes_eq-Decides}
 use Rattle.std.proofs.lemmas.Bool.Decides.{nat_tests}
 use Rattle.std.proofs.lemmas.List.FromFn.{get_or-map-range_with_len, length-map-range_with_len}
 use Rattle.shown.specs.declared.marks.Mark.{Mark}
 use Rattle.message_diff.specs.declared.rows.Rows.{Rows}
 use Rattle.message_diff.specs.declared.rows.Spot.{Spot}
 use Rattle.message_diff.specs.Counted.{paths_of}
+use Rattle.message_diff.specs.Differences.{has_path}
+use Rattle.message_diff.specs.Known.{is_text}
 use Rattle.message_diff.specs.Listed.{leaves_from, leaves_in}
 use Rattle.message_diff.specs.Paths.{end_in, part_of, path_in, paths_in, start_in}
 
+-- whether it is a path
+abbrev pub is_path : List ℕ → List ℕ → Bool
+is_path path p = is_text p path
+
+many_is : (rows : Rows) → length (paths_in rows) ≡ length rows.spots.items
+many_is rows = length-map-range_with_len (path_in rows.paths.items rows.spots.items) 0 (length rows.spots.items)
+
+path_at : (rows : Rows) (k : ℕ) (d : List ℕ) → k < length rows.spots.items
+    → get_or (paths_in rows) k d ≡ path_in rows.paths.items rows.spots.items k
+path_at rows k d within =
+    get_or-map-range_with_len (path_in rows.paths.items rows.spots.items) 0 (length rows.spots.items) k k d within
+    (omega arith)
+
 -- the path at a place is one of them
-pub has_path : (rows : Rows) (k : ℕ) (path : List ℕ) → k < length rows.spots.items
-    → path_in rows.paths.items rows.spots.items k ≡ path → Contains (paths_in rows) path
-has_path rows k path within is =
-    let text = path_in rows.paths.items rows.spots.items in
-    let many = length rows.spots.items in (
-      k,
-      omega (arith, within, length-map-range_with_len text 0 many),
-      get_or-map-range_with_len text 0 many k k path within (omega arith) ∙ is,
-    )
+pub has_here : (rows : Rows) (k : ℕ) (path : List ℕ) → k < length rows.spots.items
+    → path_in rows.paths.items rows.spots.items k ≡ path → has_path (paths_in rows) path ≡ true
+has_here rows k path within is =
+    list_any_at (is_path path) (paths_in rows) k path (omega (arith, within, many_is rows))
+    ((bytes_eq-Decides (get_or (paths_in rows) k path) path).1 (path_at rows k path within ∙ is))
+
+-- one more that is another
+pub lacks_here : (rows : Rows) (k : ℕ) (path : List ℕ) → k < length rows.spots.items
+    → path_in rows.paths.items rows.spots.items k ≢ path → list_any (is_path path) (take k (paths_in rows)) ≡ false
+    → list_any (is_path path) (take (k + 1) (paths_in rows)) ≡ false
+lacks_here rows k path within other before =
+    list_any_more (is_path path) (paths_in rows) k path (omega (arith, within, many_is rows))
+    ∙ (λ i. before i || no (is_text (get_or (paths_in rows) k path) path)
+    (bytes_eq-Decides (get_or (paths_in rows) k path) path) i)
+  where
+    no : (b : Bool) → Decides b (get_or (paths_in rows) k path ≡ path) → b ≡ false
+    no false d = refl
+    no true d = absurd (other (sym (path_at rows k path within) ∙ d.0 refl))
+
+pub lacks_all : (rows : Rows) (k : ℕ) (path : List ℕ) → length rows.spots.items ≤ k
+    → list_any (is_path path) (take k (paths_in rows)) ≡ false → has_path (paths_in rows) path ≡ false
+lacks_all rows k path over before =
+    subst (λ (ps : List (List ℕ)). list_any (is_path path) ps ≡ false)
+    (take_all k (paths_in rows) (omega (arith, over, many_is rows))) before
 
 -- ** the same beside their values
 

@@ -1,5 +1,5 @@
 -- A line that tells what changed of an interface.
-use Rattle.std.specs.Prelude.{◌≡◌, ℕ, List, [], ◌∷◌, ◌++◌, Option, None, Some, Bool, codes}
+use Rattle.std.specs.Prelude.{◌≡◌, ℕ, List, [], ◌∷◌, ◌++◌, Option, None, Some, Bool, codes, option_map}
 use Rattle.std.specs.List.{flat_map}
 use Rattle.hex.specs.Hex.{encode_lower}
 use Rattle.json.specs.Token.{Token, begin_object, key, number}
@@ -11,9 +11,12 @@ use Rattle.message_shown.specs.declared.context.Order.{Order}
 use Rattle.message_diff.specs.declared.desk.Pair.{Pair}
 use Rattle.message_diff.specs.declared.snapshot.Compared.{Compared}
 use Rattle.message_diff.specs.Compared.{HasTextBy}
-use Rattle.message_diff.specs.Counted.{IsWithoutCounters}
+use Rattle.message_diff.specs.Counted.{IsLeftBy}
 use Rattle.message_diff.specs.Shown.{AreCompared, leaves_of}
 use Rattle.message_diff.specs.Differences.{Diff, AreDiffs}
+use Rattle.message_diff.specs.Marked.{AreMarksOf}
+use Rattle.message_diff.specs.Trees.{Forest, find_tree}
+use Rattle.shown.specs.declared.marks.Mark.{Mark}
 
 -- a value that stands in a line as it is given, as the text of a number does
 abbrev pub given : List ℕ → List ℕ → List ℕ × List Token
@@ -59,6 +62,16 @@ pub record Head : Type 0 where
   pub index : Option (List ℕ)
   pub name : Option (List ℕ)
 
+-- the text of the first of these members that has a name
+abbrev pub text_at : List ℕ → Forest → Option (List ℕ)
+text_at name f = option_map (λ found. found.0) (find_tree name f)
+
+-- it is that of the members of a page
+pub record IsHeadIn (text : List ℕ) (marks : List Mark) (head : Head) : Type 0 where
+  pub family : (f : Forest) → AreMarksOf text 0 marks f → head.family ≡ text_at (codes "ifi-family") f
+  pub index : (f : Forest) → AreMarksOf text 0 marks f → head.index ≡ text_at (codes "ifi-index") f
+  pub name : (f : Forest) → AreMarksOf text 0 marks f → head.name ≡ text_at (codes "ifname") f
+
 -- behind words, what became of the interface, and which it is
 abbrev pub begun : Members → List ℕ → Head → Members
 begun words change head =
@@ -93,44 +106,51 @@ diff_text is_next d = print_from is_next (object_of (diff_members d))
 
 -- ** what is added
 
--- what is told between two encodings, by what is shown of the two beside each other: the changes between their rows
--- without the values at counters
-pub record AreTold (old new : List ℕ) (told : List Diff) : Type 0 where
+-- what is told between two encodings, by what is shown of the two beside each other: the changes between their rows,
+-- where not all counts without the values at counters
+pub record AreTold (by : Compared) (pair : Pair) (old new : List ℕ) (told : List Diff) : Type 0 where
   pub orders : Order × Order
-  pub pair : Pair
   pub compared : AreCompared orders old new pair
   pub found : List Diff
   pub left : List Diff
   pub differ : AreDiffs (leaves_of pair.old) (leaves_of pair.new) found
-  pub are_left : IsWithoutCounters pair found left
+  pub are_left : IsLeftBy by pair found left
   pub all : told ≡ told_diffs old new left
 
--- the line that tells them
-pub record IsChanged (front old new line : List ℕ) : Type 0 where
+-- the line that tells them, of the interface that the new message says
+pub record IsChanged (by : Compared) (front old new line : List ℕ) : Type 0 where
+  pub pair : Pair
   pub head : Head
   pub changes : List Diff
-  pub are_told : AreTold old new changes
+  pub head_is : IsHeadIn pair.new.page.text pair.new.page.marks head
+  pub are_told : AreTold by pair old new changes
   pub is : line ≡ changed_line (told_words front) head changes
 
-abbrev pub AddsChanged : List ℕ → List ℕ → List ℕ → List ℕ → List ℕ → Type 0
-AddsChanged front old new before now = (line : List ℕ) × IsChanged front old new line × (now ≡ before ++ line)
+abbrev pub AddsChanged : Compared → List ℕ → List ℕ → List ℕ → List ℕ → List ℕ → Type 0
+AddsChanged by front old new before now =
+    (line : List ℕ) × IsChanged by front old new line × (now ≡ before ++ line)
 
 -- of what is compared of two byte strings
 abbrev pub AddsChangedBy : Compared → List ℕ → List ℕ → List ℕ → List ℕ → Type 0
 AddsChangedBy by old new before now =
-    (was : List ℕ) × (is : List ℕ) × HasTextBy by old was × HasTextBy by new is × AddsChanged [] was is before now
+    (was : List ℕ) × (is : List ℕ) × HasTextBy by old was × HasTextBy by new is
+    × AddsChanged by [] was is before now
 
 -- ** the list alone
 
 -- it has no line's end
-pub record IsList (old new text : List ℕ) : Type 0 where
+pub record IsList (by : Compared) (pair : Pair) (old new text : List ℕ) : Type 0 where
   pub changes : List Diff
-  pub are_told : AreTold old new changes
+  pub are_told : AreTold by pair old new changes
   pub is : text ≡ list_text changes
 
-abbrev pub AddsList : List ℕ → List ℕ → List ℕ → List ℕ → Type 0
-AddsList old new before now = (text : List ℕ) × IsList old new text × (now ≡ before ++ text)
+abbrev pub AddsListOf : Compared → Pair → List ℕ → List ℕ → List ℕ → List ℕ → Type 0
+AddsListOf by pair old new before now = (text : List ℕ) × IsList by pair old new text × (now ≡ before ++ text)
+
+abbrev pub AddsList : Compared → List ℕ → List ℕ → List ℕ → List ℕ → Type 0
+AddsList by old new before now = (pair : Pair) × AddsListOf by pair old new before now
 
 abbrev pub AddsListBy : Compared → List ℕ → List ℕ → List ℕ → List ℕ → Type 0
 AddsListBy by old new before now =
-    (was : List ℕ) × (is : List ℕ) × HasTextBy by old was × HasTextBy by new is × AddsList was is before now
+    (was : List ℕ) × (is : List ℕ) × HasTextBy by old was × HasTextBy by new is
+    × AddsList by was is before now

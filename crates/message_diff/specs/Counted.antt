@@ -5,15 +5,13 @@ use Rattle.link_msg.specs.Header.{header_size}
 use Rattle.link_state.specs.Cleared.{filled}
 use Rattle.link_state.specs.State.{level_of}
 use Rattle.link_state.specs.declared.level.Level.{Level}
-use Rattle.message_diff.specs.declared.counters.Counters.{Counters}
 use Rattle.message_diff.specs.declared.desk.Pair.{Pair}
 use Rattle.message_diff.specs.declared.half.Half.{Half}
 use Rattle.message_diff.specs.declared.snapshot.Compared.{Compared}
 use Rattle.message_diff.specs.declared.snapshot.Compared.TheVariants.{State, Message, LenientState, LenientMessage}
-use Rattle.message_diff.specs.Differences.{Diff, Leaf, AreLeft}
+use Rattle.message_diff.specs.Differences.{Diff, Leaf, any_new, any_old, less}
 use Rattle.message_diff.specs.Listed.{AreApart}
 use Rattle.message_diff.specs.Marked.{AreMarksOf}
-use Rattle.message_diff.specs.Paths.{paths_in}
 use Rattle.message_diff.specs.Shown.{IsShown}
 use Rattle.message_diff.specs.Trees.{Forest, beside_in}
 use Rattle.message_diff.specs.Unlike.{IsPartOf}
@@ -49,32 +47,25 @@ pub record AreFilledPaths (is_part : Bool) (half : Half) (paths : List (List ℕ
   pub are : (f : Forest) → (g : Forest) → AreApart g → AreMarksOf half.page.text 0 half.page.marks f
       → AreMarksOf page.text 0 page.marks g → paths ≡ paths_of (beside_in is_part [] f g)
 
--- or none are looked for
+-- none, where nothing of it is filled
 abbrev pub AreCounterPaths : Bool → Half → List (List ℕ) → Type 0
-AreCounterPaths is_part half paths = (paths ≡ []) ⊎ AreFilledPaths is_part half paths
+AreCounterPaths is_part half paths =
+    ((filled_message half.part.text.items ≡ half.part.text.items) × (paths ≡ [])) ⊎ AreFilledPaths is_part half paths
 
--- ** of two messages
+-- ** what is left of changes
 
-pub record AreCounters (pair : Pair) (counters : Counters) : Type 0 where
-  pub old : AreCounterPaths pair.is_part pair.old (paths_in counters.old.rows)
-  pub new : AreCounterPaths pair.is_part pair.new (paths_in counters.new.rows)
-
--- what is left of changes without these
-pub record IsWithout (pair : Pair) (counters : Counters) (found left : List Diff) : Type 0 where
-  pub are : AreCounters pair counters
-  pub are_left : AreLeft (paths_in counters.old.rows) (paths_in counters.new.rows) found left
-
--- what is left of changes by what is compared: where all counts, all of them
-abbrev pub IsLeftBy : Compared → Pair → Counters → List Diff → List Diff → Type 0
-IsLeftBy State pair counters found left = IsWithout pair counters found left
-IsLeftBy LenientState pair counters found left = IsWithout pair counters found left
-IsLeftBy Message pair counters found left = left ≡ found
-IsLeftBy LenientMessage pair counters found left = left ≡ found
-
--- what is left of changes without the old values at counters of the old one, and the new values at those of the new one
+-- they are without the old values at counters of the old message that may be of zeros, and without the new values at
+-- those of the new one that may be so
 pub record IsWithoutCounters (pair : Pair) (found left : List Diff) : Type 0 where
   pub olds : List (List ℕ)
   pub news : List (List ℕ)
-  pub of_old : AreCounterPaths pair.is_part pair.old olds
-  pub of_new : AreCounterPaths pair.is_part pair.new news
-  pub are_left : AreLeft olds news found left
+  pub of_old : any_old found ≡ true → AreCounterPaths pair.is_part pair.old olds
+  pub of_new : any_new found ≡ true → AreCounterPaths pair.is_part pair.new news
+  pub are_left : left ≡ less olds news found
+
+-- by what is compared: where all counts, all of them are left
+abbrev pub IsLeftBy : Compared → Pair → List Diff → List Diff → Type 0
+IsLeftBy State pair found left = IsWithoutCounters pair found left
+IsLeftBy LenientState pair found left = IsWithoutCounters pair found left
+IsLeftBy Message pair found left = left ≡ found
+IsLeftBy LenientMessage pair found left = left ≡ found

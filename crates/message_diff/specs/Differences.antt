@@ -1,6 +1,7 @@
 -- What differs between the members of two texts, by the paths and values of those that hold no other.
-use Rattle.std.specs.Prelude.{◌≡◌, ◌≢◌, ◌⊎◌, ℕ, List, [], ◌∷◌, ◌++◌, Bool, true, false, Option, Some, None, cond, map}
-use Rattle.std.specs.List.{flat_map, Contains}
+use Rattle.std.specs.Prelude.{◌≡◌, ◌≢◌, ◌⊎◌, ◌==◌, ◌&&◌, ◌||◌, ℕ, List, [], ◌∷◌, ◌++◌, Bool, true, false, Option, Some}
+use Rattle.std.specs.Prelude.{None, codes, cond, map, nat_lt, not}
+use Rattle.std.specs.List.{flat_map, list_any}
 use Rattle.message_diff.specs.declared.rows.Row.{Row}
 use Rattle.message_diff.specs.declared.differences.Change.{Change}
 use Rattle.message_diff.specs.declared.differences.Change.TheVariants.{Came, Went, Turned}
@@ -106,19 +107,37 @@ left_of true false (Diff.turned path was is) = Diff.came path is ∷ []
 left_of false true (Diff.turned path was is) = Diff.went path was ∷ []
 left_of by_old by_new d = []
 
--- one loses its old value where its path is one of these, and its new one where it is one of those
-pub record IsLeft (olds news : List (List ℕ)) (d : Diff) (left : List Diff) : Type 0 where
-  pub by_old : Bool
-  pub by_new : Bool
-  pub of_old : by_old ≡ true → Contains olds (path_of d)
-  pub of_new : by_new ≡ true → Contains news (path_of d)
-  pub is : left ≡ left_of by_old by_new d
+-- a value that may be of zeros: no digit from 1 to 9 stands in it, and a 0, or it is what IFLA_EVENT says of zero
+abbrev pub is_above_zero : ℕ → Bool
+is_above_zero byte = nat_lt 48 byte && nat_lt byte 58
 
-abbrev pub AreLeft : List (List ℕ) → List (List ℕ) → List Diff → List Diff → Type 0
-AreLeft olds news [] left = left ≡ []
-AreLeft olds news (d ∷ ds) left =
-    (first : List Diff) × (rest : List Diff) × IsLeft olds news d first × AreLeft olds news ds rest
-    × (left ≡ first ++ rest)
+abbrev pub has_zero : List ℕ → Bool
+has_zero value = list_any (λ byte. byte == 48) value || is_text value (codes "\"none\"")
+
+abbrev pub may_be_zero : List ℕ → Bool
+may_be_zero value = has_zero value && not (list_any is_above_zero value)
+
+abbrev pub may_be : Option (List ℕ) → Bool
+may_be None = false
+may_be (Some value) = may_be_zero value
+
+abbrev pub has_path : List (List ℕ) → List ℕ → Bool
+has_path paths path = list_any (λ p. is_text p path) paths
+
+-- without an old value that may be of zeros at one of these paths, and a new one that may be so at one of those
+abbrev pub left_by : List (List ℕ) → List (List ℕ) → Diff → List Diff
+left_by olds news d =
+    left_of (may_be (old_of d) && has_path olds (path_of d)) (may_be (new_of d) && has_path news (path_of d)) d
+
+abbrev pub less : List (List ℕ) → List (List ℕ) → List Diff → List Diff
+less olds news ds = flat_map (left_by olds news) ds
+
+-- whether one of their old values may be of zeros, and one of their new values
+abbrev pub any_old : List Diff → Bool
+any_old ds = list_any (λ d. may_be (old_of d)) ds
+
+abbrev pub any_new : List Diff → Bool
+any_new ds = list_any (λ d. may_be (new_of d)) ds
 
 -- ** rows and changes
 

@@ -65,7 +65,7 @@ pub data News : Type 0 where
   same : News
   came : (front text : List ℕ) → News
   went : (front text : List ℕ) → News
-  changed : (front was is : List ℕ) → News
+  changed : (by : Compared) → (front was is : List ℕ) → News
   replaced : (old_front was front is : List ℕ) → News
   untold : Missing → News
 
@@ -81,12 +81,12 @@ is_replaced old new key =
     || (is_part key.family && are_two (old (in_family 0 key)) (new (in_family 0 key)))
 
 -- what came or changed
-abbrev pub news_of : Bool → Missing → Bool → Found → Found → News
-news_of is_told missing is_other Found.nothing (Found.last front text) =
+abbrev pub news_of : Compared → Bool → Missing → Bool → Found → Found → News
+news_of by is_told missing is_other Found.nothing (Found.last front text) =
     cond is_told (News.came front text) (News.untold missing)
-news_of is_told missing is_other (Found.last old_front was) (Found.last front is) =
-    cond is_other (News.replaced old_front was front is) (News.changed front was is)
-news_of is_told missing is_other old new = News.same
+news_of by is_told missing is_other (Found.last old_front was) (Found.last front is) =
+    cond is_other (News.replaced old_front was front is) (News.changed by front was is)
+news_of by is_told missing is_other old new = News.same
 
 -- what went
 abbrev pub gone_of : Bool → Missing → Found → Found → News
@@ -94,9 +94,9 @@ gone_of is_told missing (Found.last front text) Found.nothing =
     cond is_told (News.went front text) (News.untold missing)
 gone_of is_told missing old new = News.same
 
-abbrev pub news_at : Bool → List ℕ → Option Host → Option Host → Key → News
-news_at has_dumps name old new key =
-    news_of (tells has_dumps old key.family) (record { is_new = false; family = key.family; host = name })
+abbrev pub news_at : Compared → Bool → List ℕ → Option Host → Option Host → Key → News
+news_at by has_dumps name old new key =
+    news_of by (tells has_dumps old key.family) (record { is_new = false; family = key.family; host = name })
     (is_replaced (found old) (found new) key) (found old key) (found new key)
 
 abbrev pub gone_at : Bool → List ℕ → Option Host → Option Host → Key → News
@@ -118,7 +118,7 @@ keys_in (Some host) = keys_of host.known.entries
 
 abbrev pub host_news : Watch → Watch → List ℕ → List News
 host_news old new name =
-    map (news_at old.has_dumps name (host_in old name) (host_in new name)) (keys_in (host_in new name))
+    map (news_at old.told.by old.has_dumps name (host_in old name) (host_in new name)) (keys_in (host_in new name))
 
 abbrev pub host_gone : Watch → Watch → List ℕ → List News
 host_gone old new name =
@@ -134,8 +134,8 @@ abbrev pub IsLine : News → List ℕ → Type 0
 IsLine News.same line = line ≡ []
 IsLine (News.came front text) line = IsAlone front (codes "new") text line
 IsLine (News.went front text) line = IsAlone front (codes "gone") text line
-IsLine (News.changed front was is) line =
-    ((was ≡ is) × (line ≡ [])) ⊎ ((was ≢ is) × IsChanged front was is line)
+IsLine (News.changed by front was is) line =
+    ((was ≡ is) × (line ≡ [])) ⊎ ((was ≢ is) × IsChanged by front was is line)
 IsLine (News.replaced old_front was front is) line =
     (gone : List ℕ) × (new : List ℕ) × IsAlone old_front (codes "gone") was gone
     × IsAlone front (codes "new") is new × (line ≡ gone ++ new)

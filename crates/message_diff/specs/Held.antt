@@ -10,7 +10,7 @@ use Rattle.message_diff.specs.declared.store.Host.{Host}
 use Rattle.message_diff.specs.declared.store.Entry.{Entry}
 use Rattle.message_diff.specs.declared.reading.Said.{Said}
 use Rattle.message_diff.specs.declared.reading.Said.TheVariants as Saids
-use Rattle.message_diff.specs.declared.watch.Told.{Told}
+use Rattle.message_diff.specs.declared.watch.Telling.{Telling}
 use Rattle.message_diff.specs.Known.{Item, Seen, Picture, is_text, key_cmp, is_key, is_since, reaches, in_family}
 use Rattle.message_diff.specs.Known.{text_of, of_after, run_after, whole_after}
 use Rattle.message_diff.specs.Told.{AddsTold, says}
@@ -68,8 +68,8 @@ abbrev pub picture : Host → Picture
 picture host = record { of = λ q. seen_in (held host q); run = run_in host.dump; whole = whole_in host }
 
 -- the encoding that has a line where an interface went
-abbrev pub text_told : Told → Host → Key → Option (List ℕ)
-text_told told host q = cond (says told) (text_of (seen_in (held host q))) None
+abbrev pub text_told : Telling → Host → Key → Option (List ℕ)
+text_told told host q = cond (says told.told) (text_of (seen_in (held host q))) None
 
 -- ** what a line says, and what is known after it
 
@@ -90,12 +90,12 @@ pub record IsAfter (old : Picture) (at : ℕ) (item : Item) (new : Picture) : Ty
   pub whole : (f : ℕ) → new.whole f ≡ whole_after old item f
 
 -- what is known after a line with these words that says this, and what it adds
-abbrev pub Applies : List ℕ → Told → ℕ → Said → Picture → Picture → List ℕ → List ℕ → Type 0
+abbrev pub Applies : List ℕ → Telling → ℕ → Said → Picture → Picture → List ℕ → List ℕ → Type 0
 Applies front told at said old new before now =
     IsAfter old at (item_of said) new × AddsTold front told old (item_of said) before now
 
 -- an interface is this from then on: it goes on, or went, with its parts, and is new
-abbrev pub Puts : List ℕ → Told → ℕ → Key → List ℕ → Picture → Picture → List ℕ → List ℕ → Type 0
+abbrev pub Puts : List ℕ → Telling → ℕ → Key → List ℕ → Picture → Picture → List ℕ → List ℕ → Type 0
 Puts front told at key text old new before now =
     ((q : Key) → new.of q ≡ of_after old at (Item.is key text) q)
     × AddsTold front told old (Item.is key text) before now

@@ -1,13 +1,16 @@
 -- What a line tells of the interfaces of its host, by what is known before it.
-use Rattle.std.specs.Prelude.{◌≡◌, ◌↔◌, ◌==◌, ◌&&◌, ℕ, Bool, true, false, MatchBool, List, [], ◌∷◌, ◌++◌}
+use Rattle.std.specs.Prelude.{◌≡◌, ◌==◌, ◌&&◌, ℕ, Bool, true, false, MatchBool, List, [], ◌∷◌, ◌++◌}
 use Rattle.std.specs.Prelude.{Option, None, Some, is_some, cond, codes}
 use Rattle.std.specs.List.Sorted.{IsStrictlySortedBy}
 use Rattle.message_diff.specs.declared.key.Key.{Key}
 use Rattle.message_diff.specs.declared.watch.Told.{Told}
+use Rattle.message_diff.specs.declared.watch.Telling.{Telling}
+use Rattle.message_diff.specs.declared.snapshot.Compared.{Compared}
 use Rattle.message_diff.specs.declared.watch.Told.TheVariants as Tellings
 use Rattle.message_diff.specs.Alone.{IsAlone}
 use Rattle.message_diff.specs.Announced.{is_another}
-use Rattle.message_diff.specs.Known.{Item, Seen, Picture, key_cmp, is_key, is_among, ends, text_of}
+use Rattle.message_diff.specs.Changed.{IsChanged}
+use Rattle.message_diff.specs.Known.{Item, Seen, Picture, key_cmp, is_key, is_among, is_text, ends, text_of}
 
 -- whether anything but faults is told
 abbrev pub says : Told → Bool
@@ -31,8 +34,8 @@ abbrev pub gone_text : Picture → Item → Key → Option (List ℕ)
 gone_text p (Item.went key text) q = cond (is_key key q) (own_text key text (p.of key)) (text_of (p.of q))
 gone_text p x q = text_of (p.of q)
 
-abbrev pub told_text : Told → Picture → Item → Key → Option (List ℕ)
-told_text told p x q = cond (says told) (gone_text p x q) None
+abbrev pub told_text : Telling → Picture → Item → Key → Option (List ℕ)
+told_text told p x q = cond (says told.told) (gone_text p x q) None
 
 abbrev pub is_told : Picture → Item → Key → Bool
 is_told p x q = is_some (gone_text p x q)
@@ -61,27 +64,32 @@ is_new_told Tellings.All whole key = true
 is_new_told Tellings.Changes whole key = whole key.family
 is_new_told Tellings.Faults whole key = false
 
--- an interface that is this came, or its last message had this encoding
-abbrev pub IsNew : List ℕ → Bool → Option (List ℕ) → List ℕ → List ℕ → Type 0
-IsNew front is_told None text line = MatchBool is_told (IsAlone front (codes "new") text line) (line ≡ [])
-IsNew front is_told (Some last) text line = (last ≡ text) ↔ (line ≡ [])
+-- what was this is that: its line says what changed, where anything did
+abbrev pub IsTurned : Compared → List ℕ → List ℕ → List ℕ → List ℕ → Type 0
+IsTurned by front last text line = MatchBool (is_text last text) (line ≡ []) (IsChanged by front last text line)
 
-abbrev pub NewsOf : List ℕ → Told → Bool → Option (List ℕ) → List ℕ → List ℕ → Type 0
-NewsOf front told is_told last text line = MatchBool (says told) (IsNew front is_told last text line) (line ≡ [])
+-- an interface that is this came, or its last message had this encoding
+abbrev pub IsNew : Compared → List ℕ → Bool → Option (List ℕ) → List ℕ → List ℕ → Type 0
+IsNew by front is_told None text line = MatchBool is_told (IsAlone front (codes "new") text line) (line ≡ [])
+IsNew by front is_told (Some last) text line = IsTurned by front last text line
+
+abbrev pub NewsOf : List ℕ → Telling → Bool → Option (List ℕ) → List ℕ → List ℕ → Type 0
+NewsOf front told is_told last text line =
+    MatchBool (says told.told) (IsNew told.by front is_told last text line) (line ≡ [])
 
 -- the encoding of the last message of an interface, unless the new one is of another kind
 abbrev pub kept_of : Option (List ℕ) → List ℕ → Option (List ℕ)
 kept_of last text = cond (is_another last text) None last
 
-abbrev pub IsNews : List ℕ → Told → Picture → Item → List ℕ → Type 0
+abbrev pub IsNews : List ℕ → Telling → Picture → Item → List ℕ → Type 0
 IsNews front told p (Item.is key text) line =
-    NewsOf front told (is_new_told told p.whole key) (kept_of (text_of (p.of key)) text) text line
+    NewsOf front told (is_new_told told.told p.whole key) (kept_of (text_of (p.of key)) text) text line
 IsNews front told p x line = line ≡ []
 
 -- ** both: first what went
 
 -- what a line with these words adds beside its fault
-pub record Tells (front : List ℕ) (told : Told) (p : Picture) (x : Item) (added : List ℕ) : Type 0 where
+pub record Tells (front : List ℕ) (told : Telling) (p : Picture) (x : Item) (added : List ℕ) : Type 0 where
   pub keys : List Key
   pub gone : List ℕ
   pub news : List ℕ
@@ -98,9 +106,13 @@ AddsGone front text old new = (line : List ℕ) × IsGone front text line × (ne
 abbrev pub AddsAllGone : List ℕ → (Key → Option (List ℕ)) → List Key → List ℕ → List ℕ → Type 0
 AddsAllGone front text keys old new = (lines : List ℕ) × AreGone front text keys lines × (new ≡ old ++ lines)
 
-abbrev pub AddsNews : List ℕ → Told → Bool → Option (List ℕ) → List ℕ → List ℕ → List ℕ → Type 0
+abbrev pub AddsTurned : Compared → List ℕ → List ℕ → List ℕ → List ℕ → List ℕ → Type 0
+AddsTurned by front last text old new =
+    (line : List ℕ) × IsTurned by front last text line × (new ≡ old ++ line)
+
+abbrev pub AddsNews : List ℕ → Telling → Bool → Option (List ℕ) → List ℕ → List ℕ → List ℕ → Type 0
 AddsNews front told is_told last text old new =
     (line : List ℕ) × NewsOf front told is_told last text line × (new ≡ old ++ line)
 
-abbrev pub AddsTold : List ℕ → Told → Picture → Item → List ℕ → List ℕ → Type 0
+abbrev pub AddsTold : List ℕ → Telling → Picture → Item → List ℕ → List ℕ → Type 0
 AddsTold front told p x old new = (added : List ℕ) × Tells front told p x added × (new ≡ old ++ added)

@@ -12,6 +12,7 @@ use Rattle.message_diff.specs.declared.store.Host.{Host}
 use Rattle.message_diff.specs.declared.reading.Said.{Said}
 use Rattle.message_diff.specs.declared.reading.Said.TheVariants as Saids
 use Rattle.message_diff.specs.declared.watch.Told.{Told}
+use Rattle.message_diff.specs.declared.watch.Telling.{Telling}
 use Rattle.message_diff.specs.declared.watch.Watch.{Watch}
 use Rattle.message_diff.specs.declared.snapshot.Compared.{Compared}
 use Rattle.message_diff.specs.Alone.{member_line}
@@ -40,12 +41,12 @@ abbrev pub next_line : ℕ → ℕ
 next_line lines = min (lines + 1) (2 ^ 64 - 1)
 
 -- what is known after a line, and what it adds
-abbrev pub Goes : List ℕ → Told → ℕ → Said → Picture → Picture → List ℕ → Type 0
+abbrev pub Goes : List ℕ → Telling → ℕ → Said → Picture → Picture → List ℕ → Type 0
 Goes front told at said old new more =
     IsAfter old at (item_of said) new × Tells front told old (item_of said) more
 
 -- what a line says is taken for its host, and what is known of the others stays
-pub record GoesFor (front : List ℕ) (told : Told) (at : ℕ) (said : Said) (old new : Watch)
+pub record GoesFor (front : List ℕ) (told : Telling) (at : ℕ) (said : Said) (old new : Watch)
     (more : List ℕ) : Type 0 where
   pub own : Goes front told at said (known_in old (host_of front)) (known_in new (host_of front)) more
   pub others : (name : List ℕ) → is_text (host_of front) name ≡ false → known_in new name ≡ known_in old name
@@ -55,17 +56,17 @@ abbrev pub lost_line : List ℕ → List ℕ
 lost_line front = member_line front (codes "change") (codes "lost")
 
 -- they have a line, and change nothing of what is known
-abbrev pub TakesSaid : List ℕ → Told → ℕ → Said → Watch → Watch → List ℕ → Type 0
+abbrev pub TakesSaid : List ℕ → Telling → ℕ → Said → Watch → Watch → List ℕ → Type 0
 TakesSaid front told at Saids.Lost old new more =
-    (new.hosts ≡ old.hosts) × (more ≡ cond (says told) (lost_line front) [])
+    (new.hosts ≡ old.hosts) × (more ≡ cond (says told.told) (lost_line front) [])
 TakesSaid front told at Saids.Nothing old new more = (new.hosts ≡ old.hosts) × (more ≡ [])
 TakesSaid front told at said old new more = GoesFor front told at said old new more
 
-abbrev pub AddsSaid : List ℕ → Told → ℕ → Said → Watch → Watch → List ℕ → List ℕ → Type 0
+abbrev pub AddsSaid : List ℕ → Telling → ℕ → Said → Watch → Watch → List ℕ → List ℕ → Type 0
 AddsSaid front told at said old new before now =
     (more : List ℕ) × TakesSaid front told at said old new more × (now ≡ before ++ more)
 
-abbrev pub AddsFor : List ℕ → Told → ℕ → Said → Watch → Watch → List ℕ → List ℕ → Type 0
+abbrev pub AddsFor : List ℕ → Telling → ℕ → Said → Watch → Watch → List ℕ → List ℕ → Type 0
 AddsFor front told at said old new before now =
     (more : List ℕ) × GoesFor front told at said old new more × (now ≡ before ++ more)
 
@@ -95,7 +96,7 @@ takes_line old line new added = IsTaken line old new added
 -- nothing is known yet
 pub record IsFresh (by : Compared) (told : Told) (watch : Watch) : Type 0 where
   pub compares : watch.reader.by ≡ by
-  pub tells : watch.told ≡ told
+  pub tells : watch.told ≡ record { told = told; by = by }
   pub lines : watch.lines ≡ 0
   pub dumps : watch.has_dumps ≡ false
   pub known : (name : List ℕ) → known_in watch name ≡ nothing_known

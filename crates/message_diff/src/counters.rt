@@ -1,16 +1,19 @@
 //! What of the changes is of what the state encodings of the messages have at zero.
 
-ghost use Rattle.std.specs.Prelude.{◌≡◌, IfOk, OnOk, true};
-ghost use Rattle.std.specs.List.{Contains};
-ghost use Rattle.message_diff.specs.Differences.{left_of, diff_of, diff_in, diffs_of, AreLeft};
+ghost use Rattle.std.specs.Prelude.{◌≡◌, ◌&&◌, IfOk, OnOk, option_map, true};
+ghost use Rattle.message_diff.specs.Differences.{left_of, diff_of, diff_in, diffs_of, less};
+ghost use Rattle.message_diff.specs.Differences.{is_above_zero, has_zero, may_be_zero, may_be};
+ghost use Rattle.message_diff.specs.Differences.{has_path, old_of, new_of, any_old, any_new};
 ghost use Rattle.message_diff.specs.Paths.{paths_in};
-ghost use Rattle.message_diff.specs.Counted.{filled_by, filled_message, IsFilled, AreCounterPaths, AreCounters};
+ghost use Rattle.message_diff.specs.Counted.{filled_by, filled_message, IsFilled, AreCounterPaths};
+ghost use Rattle.message_diff.specs.Counted.{IsWithoutCounters, IsLeftBy};
 
 use crate::desk::Pair;
 use crate::differences::Change;
 use crate::half::Half;
 use crate::parts::Part;
 use crate::rows::Rows;
+use crate::snapshot::Compared;
 use link_msg::header::HEADER_SIZE;
 use link_state::{Level, fill};
 use link_vals::AddressFamily;
@@ -19,49 +22,52 @@ use std::alloc::{AllocError, Global};
 /// What stands in the place of zeros, where counters are looked for.
 const FILLED: u8 = 1;
 
-/// Whether a value may stand for zeros: no digit from 1 to 9 stands in it.
-fn may_be_zero(value: &[u8]) -> bool {
-    if let [digit] = value {
-        return *digit == b'0';
+/// What IFLA_EVENT says of zero.
+const NONE: &[u8] = b"\"none\"";
+
+/// Whether a byte is a digit from 1 to 9.
+fn is_above_zero(byte: &u8) -> bool
+    ensures { result ≡ is_above_zero byte.now }
+{
+    matches!(*byte, b'1'..=b'9')
+}
+
+/// Whether a value has the digit 0, or is what IFLA_EVENT says of zero.
+fn has_zero(value: &[u8]) -> bool
+    ensures { result ≡ has_zero value.now }
+{
+    value.contains(&b'0') || value == NONE
+}
+
+/// Whether a value may be of zeros.
+fn may_be_zero(value: &[u8]) -> bool
+    ensures { result ≡ may_be_zero value.now }
+{
+    has_zero(value) && !value.iter().any(is_above_zero)
+}
+
+/// The same, where there is one.
+fn may_be(value: Option<&[u8]>) -> bool
+    ensures { result ≡ may_be (option_map (λ value. value.now) value.entry) }
+{
+    match value {
+        Some(value) => may_be_zero(value),
+        None => false,
     }
-    !value.iter().any(|byte| matches!(*byte, b'1'..=b'9'))
 }
 
-/// Whether a value is a number.
-fn is_number(value: &[u8]) -> bool {
-    matches!(value, [b'0'..=b'9' | b'-', ..])
+/// Whether the old value of a change may be of zeros.
+fn was_zero(change: &Change<'_>) -> bool
+    ensures { result ≡ may_be (old_of (diff_of change.now)) }
+{
+    may_be(change.old())
 }
 
-/// Whether what a path leads to depends on the kind of device.
-fn is_of_kind(path: &[u8]) -> bool {
-    path.starts_with(b"linkinfo.")
-}
-
-/// Whether the two messages may be of two kinds of device, which clear other numbers: a kind is a text.
-fn kinds_may_differ(changes: &[Change<'_>]) -> bool {
-    changes.iter().any(|change| match change {
-        Change::Came(path, _) | Change::Went(path, _) => is_of_kind(path),
-        Change::Turned(path, was, is) => is_of_kind(path) && !(is_number(was) && is_number(is)),
-    })
-}
-
-/// Whether one of two values at a path may be cleared: both are where the kind is the same and both are numbers, and
-/// then they are equal.
-fn may_be_cleared(path: &[u8], was: &[u8], is: &[u8], may_differ: bool) -> bool {
-    let is_sure = is_number(was) && is_number(is) || !was.contains(&b'0') && !is.contains(&b'0');
-    (!is_sure || may_differ && is_of_kind(path)) && (may_be_zero(was) || may_be_zero(is))
-}
-
-/// Whether the old value of a change may be cleared, and the new one.
-fn doubt_of(change: &Change<'_>, may_differ: bool) -> (bool, bool) {
-    match *change {
-        Change::Came(_, value) => (false, may_be_zero(value)),
-        Change::Went(_, value) => (may_be_zero(value), false),
-        Change::Turned(path, was, is) => {
-            let may_be = may_be_cleared(path, was, is, may_differ);
-            (may_be, may_be)
-        }
-    }
+/// Whether the new value of a change may be of zeros.
+fn is_zero(change: &Change<'_>) -> bool
+    ensures { result ≡ may_be (new_of (diff_of change.now)) }
+{
+    may_be(change.new())
 }
 
 /// What is left of a change without what the old message clears, and the new one.
@@ -76,11 +82,12 @@ fn left_of<'a>(change: &Change<'a>, by_old: bool, by_new: bool) -> Option<Change
     }
 }
 
-/// Whether a path is one of the rows, where it may be.
-fn is_counter(rows: &Rows, may_be: bool, path: &[u8], likely: &mut usize) -> bool
-    ensures { result ≡ true → Contains (paths_in rows.now) path.now }
+/// Whether a value may be of zeros at the path of one of the rows.
+fn is_counter(rows: &Rows, path: &[u8], value: Option<&[u8]>, likely: &mut usize) -> bool
+    ensures { result ≡ (may_be (option_map (λ value. value.now) value.entry)
+        && has_path (paths_in rows.now) path.now) }
 {
-    may_be && rows.contains(path, likely)
+    may_be(value) && rows.contains(path, likely)
 }
 
 /// The counters of two messages, each with other bytes in the place of the zeros of its state encoding: they are the
@@ -112,22 +119,18 @@ fn fill_message(text: &[u8], filled: &mut Vec<u8>) -> Result<(), AllocError>
     Ok(())
 }
 
-/// Takes what is shown of a message that is filled: all of it, or of a part what is not the same in both. Returns
-/// whether anything is not.
-fn take_text(part: &mut Part, is_part: bool, filled: &[u8], text: &[u8]) -> Result<bool, AllocError>
-    ensures { filled.now ≡ filled_message text.now → IfOk result
-        (λ is_any. is_any ≡ true → IsFilled is_part text.now part.new.text.items) }
+/// Takes what is shown of a message that is filled: all of it, or of a part what is not the same in both.
+fn take_text(part: &mut Part, is_part: bool, filled: &[u8], text: &[u8]) -> Result<(), AllocError>
+    ensures { filled.now ≡ filled_message text.now
+        → OnOk result (IsFilled is_part text.now part.new.text.items) }
 {
-    if !part.take_filled(filled, text)? {
-        return Ok(false);
+    if is_part {
+        return part.take_filled(filled, text);
     }
-    if !is_part {
-        part.take(filled)?;
-    }
-    Ok(true)
+    part.take(filled)
 }
 
-/// Takes the rows of a message that its state encoding has at zero, where a change may be of one.
+/// Takes the rows of a message that its state encoding has at zero, where they are looked for.
 fn take_counters(
     alloc: Global,
     may_be: bool,
@@ -136,7 +139,8 @@ fn take_counters(
     filled: &mut Vec<u8>,
     counters: &mut Half,
 ) -> Result<(), AllocError>
-    ensures { OnOk result (AreCounterPaths is_part of.now (paths_in counters.new.rows)) }
+    ensures { may_be ≡ true
+        → OnOk result (AreCounterPaths is_part of.now (paths_in counters.new.rows)) }
 {
     counters.rows.clear();
     if !may_be {
@@ -144,9 +148,10 @@ fn take_counters(
     }
     let text = of.part.text();
     fill_message(text, filled)?;
-    if !take_text(&mut counters.part, is_part, filled.as_slice(), text)? {
+    if filled.as_slice() == text {
         return Ok(());
     }
+    take_text(&mut counters.part, is_part, filled.as_slice(), text)?;
     counters.show(alloc, of.order)?;
     counters.take_rows_of(of, is_part)
 }
@@ -162,17 +167,14 @@ impl Counters {
     }
 
     /// Takes those of the messages in which a change may be of one.
-    fn take(
-        &mut self,
-        alloc: Global,
-        pair: &Pair,
-        changes: &[Change<'_>],
-        may_differ: bool,
-    ) -> Result<(), AllocError>
-        ensures { OnOk result (AreCounters pair.now self.exit.now) }
+    fn take(&mut self, alloc: Global, pair: &Pair, changes: &[Change<'_>]) -> Result<(), AllocError>
+        ensures old { any_old (diffs_of changes.now) ≡ true → OnOk result
+            (AreCounterPaths pair.now.is_part pair.now.old (paths_in self.exit.now.old.rows)) }
+        ensures new { any_new (diffs_of changes.now) ≡ true → OnOk result
+            (AreCounterPaths pair.now.is_part pair.now.new (paths_in self.exit.now.new.rows)) }
     {
-        let by_old = changes.iter().any(|it| doubt_of(it, may_differ).0);
-        let by_new = changes.iter().any(|it| doubt_of(it, may_differ).1);
+        let by_old = changes.iter().any(was_zero);
+        let by_new = changes.iter().any(is_zero);
         take_counters(
             alloc,
             by_old,
@@ -191,34 +193,59 @@ impl Counters {
         )
     }
 
-    /// The changes from the old message to the new one without what their state encodings have at zero.
-    pub fn leave_out<'a>(
-        &mut self,
+    /// The changes without values at the counters that were taken.
+    fn without<'a>(
+        &self,
         alloc: Global,
-        pair: &Pair,
-        changes: Vec<Change<'a>>,
+        changes: &[Change<'a>],
     ) -> Result<Vec<Change<'a>>, AllocError>
-        ensures counters { OnOk result (AreCounters pair.now self.exit.now) }
-        ensures left { IfOk result (λ left. AreLeft (paths_in self.exit.now.old.rows)
-            (paths_in self.exit.now.new.rows) (diffs_of changes.entry.items)
-            (diffs_of left.items)) }
+        ensures { IfOk result (λ left. diffs_of left.items ≡ less (paths_in self.now.old.rows)
+            (paths_in self.now.new.rows) (diffs_of changes.now)) }
     {
-        let may_differ = kinds_may_differ(changes.as_slice());
-        self.take(alloc, pair, changes.as_slice(), may_differ)?;
-        if self.old.rows.is_empty() && self.new.rows.is_empty() {
-            return Ok(changes);
-        }
         let mut left = Vec::with_capacity(alloc, changes.len())?;
         let (mut in_old, mut in_new) = (0, 0);
-        for change in changes.iter() {
-            let (may_old, may_new) = doubt_of(change, may_differ);
-            let by_old = is_counter(&self.old.rows, may_old, change.path(), &mut in_old);
-            let by_new = is_counter(&self.new.rows, may_new, change.path(), &mut in_new);
+        for change in changes {
+            let by_old = is_counter(&self.old.rows, change.path(), change.old(), &mut in_old);
+            let by_new = is_counter(&self.new.rows, change.path(), change.new(), &mut in_new);
             match left_of(change, by_old, by_new) {
                 Some(it) => left.push(it)?,
                 None => {}
             }
         }
         Ok(left)
+    }
+
+    /// The changes from the old message to the new one without what their state encodings have at zero.
+    fn leave_out<'a>(
+        &mut self,
+        alloc: Global,
+        pair: &Pair,
+        changes: Vec<Change<'a>>,
+    ) -> Result<Vec<Change<'a>>, AllocError>
+        ensures { IfOk result (λ left. IsWithoutCounters pair.now
+            (diffs_of changes.entry.items) (diffs_of left.items)) }
+    {
+        self.take(alloc, pair, changes.as_slice())?;
+        if self.old.rows.is_empty() && self.new.rows.is_empty() {
+            return Ok(changes);
+        }
+        self.without(alloc, changes.as_slice())
+    }
+
+    /// What is left of the changes from the old message to the new one: all of them, where all counts.
+    pub fn left<'a>(
+        &mut self,
+        alloc: Global,
+        by: Compared,
+        pair: &Pair,
+        changes: Vec<Change<'a>>,
+    ) -> Result<Vec<Change<'a>>, AllocError>
+        ensures { IfOk result (λ left. IsLeftBy by pair.now
+            (diffs_of changes.entry.items) (diffs_of left.items)) }
+    {
+        match by {
+            Compared::State | Compared::LenientState => self.leave_out(alloc, pair, changes),
+            Compared::Message | Compared::LenientMessage => Ok(changes),
+        }
     }
 }

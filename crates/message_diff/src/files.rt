@@ -54,6 +54,7 @@ impl Untold {
 /// What one file has of a host.
 #[derive(Clone, Copy)]
 struct Side<'a> {
+    by: Compared,
     name: &'a [u8],
     host: Option<&'a Host>,
     has_dumps: bool,
@@ -65,8 +66,10 @@ impl<'a> Side<'a> {
         ensures name { result.name.now ≡ name.now }
         ensures host { option_copied result.host ≡ host_in watch.now name.now }
         ensures has_dumps { result.has_dumps ≡ watch.now.has_dumps }
+        ensures by { result.by ≡ watch.now.told.by }
     {
         Side {
+            by: watch.by(),
             name,
             host: watch.hosts().get(name),
             has_dumps: watch.has_dumps(),
@@ -173,6 +176,7 @@ fn are_two_alone(old: Side<'_>, new: Side<'_>, key: Key) -> bool
 /// Adds what changed of an interface which both files have, or that it went and another one came.
 fn push_both(
     alloc: Global,
+    by: Compared,
     was: &Entry,
     is: &Entry,
     is_replaced: bool,
@@ -180,7 +184,7 @@ fn push_both(
 ) -> Result<(), AllocError>
     ensures { OnOk result (Adds (cond is_replaced
         (News.replaced was.now.front.items was.now.snapshot is.now.front.items is.now.snapshot)
-        (News.changed is.now.front.items was.now.snapshot is.now.snapshot) ∷ [])
+        (News.changed by is.now.front.items was.now.snapshot is.now.snapshot) ∷ [])
         written.old written.new) }
 {
     let Written { desk, out, .. } = written;
@@ -189,7 +193,7 @@ fn push_both(
         push_gone(alloc, was.front.as_slice(), &was.snapshot, out)?;
         return push_new(alloc, front, &is.snapshot, out);
     }
-    push_changed(alloc, front, &was.snapshot, &is.snapshot, desk, out)?;
+    push_changed(alloc, by, front, &was.snapshot, &is.snapshot, desk, out)?;
     Ok(())
 }
 
@@ -204,7 +208,7 @@ fn push_news(
     written: &mut Written,
 ) -> Result<(), AllocError>
     requires { known_at (option_copied new.host) key ≡ Some known.now }
-    ensures { OnOk result (Adds (news_at old.entry.has_dumps old.entry.name.now
+    ensures { OnOk result (Adds (news_at old.entry.by old.entry.has_dumps old.entry.name.now
         (option_copied old.entry.host) (option_copied new.entry.host) key ∷ [])
         written.old written.new) }
 {
@@ -221,7 +225,7 @@ fn push_news(
         return Ok(());
     };
     let is_replaced = are_two(other, known) || key.is_part() && are_two_alone(old, new, key);
-    push_both(alloc, was, is, is_replaced, written)
+    push_both(alloc, old.by, was, is, is_replaced, written)
 }
 
 /// Adds that an interface of which the old file knows this went, if the new one has nothing of it.
@@ -260,7 +264,7 @@ fn push_host(
     written: &mut Written,
 ) -> Result<(), AllocError>
     requires { option_copied new.host ≡ Some host.now }
-    ensures { OnOk result (Adds (map (news_at old.entry.has_dumps old.entry.name.now
+    ensures { OnOk result (Adds (map (news_at old.entry.by old.entry.has_dumps old.entry.name.now
         (option_copied old.entry.host) (option_copied new.entry.host))
         (keys_of host.now.known.entries)) written.old written.new) }
 {

@@ -5,7 +5,8 @@ ghost use Rattle.json.specs.Print.{print};
 ghost use Rattle.shown.specs.Sheets.{comma_if};
 ghost use Rattle.message_diff.specs.Alone.{told_words, change_member};
 ghost use Rattle.message_diff.specs.Differences.{diff_of, diffs_of};
-ghost use Rattle.message_diff.specs.Changed.{Head, opened, given_text, head_text, diff_text, list_text, state_diff};
+ghost use Rattle.message_diff.specs.Changed.{Head, IsHeadIn, opened, given_text, head_text, diff_text};
+ghost use Rattle.message_diff.specs.Changed.{list_text, state_diff};
 
 use crate::differences::Change;
 use crate::members::Members;
@@ -53,8 +54,9 @@ pub fn push_head(
     members: Members<'_>,
     out: &mut Vec<u8>,
 ) -> Result<(), AllocError>
-    ensures { OnOk result ((head : Head) × (out.new.items
-        ≡ out.old.items ++ head_text (told_words front.now) change.now head)) }
+    ensures { OnOk result ((head : Head)
+        × IsHeadIn members.entry.text.now members.entry.marks.now head
+        × (out.new.items ≡ out.old.items ++ head_text (told_words front.now) change.now head)) }
 {
     push_begun(alloc, front, change, out)?;
     push_given(out, "ifi-family", members.value_of(b"ifi-family"))?;

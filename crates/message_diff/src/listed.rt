@@ -3,10 +3,9 @@
 ghost use Rattle.std.specs.Prelude.{◌≡◌, ◌<◌, ◌++◌, IsTrue, IfOk, IfErr, OnOk, false, length};
 ghost use Rattle.message_diff.specs.Compared.{TellsIfDiffers, IsRefusalOfTwoBy};
 ghost use Rattle.message_diff.specs.Differences.{diffs_of};
-ghost use Rattle.message_diff.specs.Counted.{IsLeftBy};
 ghost use Rattle.message_diff.specs.Shown.{AreCompared};
 ghost use Rattle.message_shown.specs.declared.context.Order.{Order};
-ghost use Rattle.message_diff.specs.Changed.{told_diffs, list_text, AddsList, AddsListBy};
+ghost use Rattle.message_diff.specs.Changed.{told_diffs, list_text, AddsList, AddsListBy, AddsListOf};
 
 use crate::counters::Counters;
 use crate::desk::{Desk, Pair};
@@ -31,23 +30,6 @@ pub fn show_both(
     desk.pair.show(alloc, orders, old.text(), new.text())
 }
 
-/// The changes without those of counters, where these are not compared.
-fn leave_out<'a>(
-    alloc: Global,
-    by: Compared,
-    pair: &Pair,
-    counters: &mut Counters,
-    changes: Vec<Change<'a>>,
-) -> Result<Vec<Change<'a>>, AllocError>
-    ensures { IfOk result (λ left. IsLeftBy by pair.now counters.exit.now
-        (diffs_of changes.entry.items) (diffs_of left.items)) }
-{
-    match by {
-        Compared::State | Compared::LenientState => counters.leave_out(alloc, pair, changes),
-        Compared::Message | Compared::LenientMessage => Ok(changes),
-    }
-}
-
 /// Adds the list of what differs between the rows, or else of the encodings.
 fn push_differences(
     alloc: Global,
@@ -68,34 +50,37 @@ fn push_differences(
 /// Adds the list of what changed, by what is shown of both messages.
 pub fn push_found(
     alloc: Global,
+    by: Compared,
     old: &Snapshot,
     new: &Snapshot,
     pair: &Pair,
     counters: &mut Counters,
     out: &mut Vec<u8>,
 ) -> Result<(), AllocError>
-    ensures { OnOk result ((orders : Order × Order) → AreCompared orders old.now new.now pair.now
-        → AddsList old.now new.now out.old.items out.new.items) }
+    ensures { OnOk result ((orders : Order × Order)
+        → AreCompared orders old.now new.now pair.now
+        → AddsListOf by pair.now old.now new.now out.old.items out.new.items) }
 {
     let was = pair.old.list(alloc)?;
     let is = pair.new.list(alloc)?;
     let found = differences(alloc, was.as_slice(), is.as_slice())?;
-    let changes = leave_out(alloc, new.by(), pair, counters, found)?;
+    let changes = counters.left(alloc, by, pair, found)?;
     push_differences(alloc, old, new, changes.as_slice(), out)
 }
 
 /// Adds the list of what changed of an interface whose encoding is another.
 fn push_both(
     alloc: Global,
+    by: Compared,
     old: &Snapshot,
     new: &Snapshot,
     out: &mut Vec<u8>,
 ) -> Result<(), AllocError>
-    ensures { OnOk result (AddsList old.now new.now out.old.items out.new.items) }
+    ensures { OnOk result (AddsList by old.now new.now out.old.items out.new.items) }
 {
     let mut desk = Desk::new(alloc);
     show_both(alloc, old, new, &mut desk)?;
-    push_found(alloc, old, new, &desk.pair, &mut desk.counters, out)
+    push_found(alloc, by, old, new, &desk.pair, &mut desk.counters, out)
 }
 
 /// Adds the list of what differs between the messages that the bytes are, if their encodings do, and returns whether
@@ -123,7 +108,7 @@ pub fn push_list(
     if was.text() == is.text() {
         return Ok(false);
     }
-    match push_both(alloc, &was, &is, out) {
+    match push_both(alloc, by, &was, &is, out) {
         Ok(()) => Ok(true),
         Err(AllocError) => Err(CanonError::OutOfMemory),
     }

@@ -203,21 +203,19 @@ impl Part {
     }
 
     /// Takes, of a message with other bytes in the place of some of this one's, the attributes that have them, with the
-    /// header and the address. Returns whether there are any.
-    pub fn take_filled(&mut self, filled: &[u8], message: &[u8]) -> Result<bool, AllocError>
+    /// header and the address.
+    pub fn take_filled(&mut self, filled: &[u8], message: &[u8]) -> Result<(), AllocError>
         ensures { OnOk result (IsPartOf filled.now message.now self.new.text.items) }
     {
         self.take(&message[..HEADER_SIZE.min(message.len())])?;
-        let mut is_any = false;
         for (frame, other) in Frames::of(filled).zip(Frames::of(message)) {
             if frame != other {
                 add_unlike(frame, other, &OPENED, &mut self.text)?;
-                is_any = true;
             } else if number_of(frame) == IFLA_ADDRESS {
                 self.text.extend_from_slice(frame)?;
             }
         }
-        Ok(is_any)
+        Ok(())
     }
 
     /// Adds the attributes with a name that are not the same in the other message, and those that stay.

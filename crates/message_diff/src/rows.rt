@@ -1,8 +1,7 @@
 //! The members that two texts do not have in common, one below the other.
 
 ghost use Rattle.std.specs.Prelude.{◌≡◌, ◌++◌, ◌∷◌, ◌<◌, ℕ, [], length, IfOk, IfSome, OnOk, true};
-ghost use Rattle.std.specs.List.{Contains};
-ghost use Rattle.message_diff.specs.Differences.{leaves};
+ghost use Rattle.message_diff.specs.Differences.{leaves, has_path};
 ghost use Rattle.message_diff.specs.Paths.{start_in, path_in, paths_in};
 ghost use Rattle.message_diff.specs.Known.{is_text};
 ghost use Rattle.message_diff.specs.Trees.{Forest, find_tree, joined, beside_in};
@@ -151,7 +150,9 @@ impl Rows {
     }
 
     /// Whether there is none.
-    pub fn is_empty(&self) -> bool {
+    pub fn is_empty(&self) -> bool
+        ensures { result ≡ true → paths_in self.now ≡ [] }
+    {
         self.spots.is_empty()
     }
 
@@ -169,7 +170,7 @@ impl Rows {
     /// Whether there is a row with this path. It is looked for first where it is likely; the next one is likely after
     /// it.
     pub fn contains(&self, path: &[u8], likely: &mut usize) -> bool
-        ensures { result ≡ true → Contains (paths_in self.now) path.now }
+        ensures { result ≡ has_path (paths_in self.now) path.now }
     {
         if *likely < self.spots.len() && self.path_at(*likely) == path {
             *likely += 1;

@@ -47,7 +47,6 @@ impl Compared {
 /// A message, and the encoding of it that is compared. A clause sees the encoding.
 #[derive(Drop)]
 pub struct Snapshot {
-    by: Compared,
     order: Order,
     text: Vec<u8>,
 }
@@ -87,12 +86,7 @@ impl Snapshot {
         ensures err { IfErr result (IsRefusalBy by bytes.now) }
     {
         let text = text_by(alloc, by, bytes)?;
-        Ok(Snapshot { by, order, text })
-    }
-
-    /// What is compared.
-    pub fn by(&self) -> Compared {
-        self.by
+        Ok(Snapshot { order, text })
     }
 
     /// The order of its counters of IPv6.

@@ -8,8 +8,7 @@ ghost use Rattle.message_shown.specs.declared.context.Order.{Order};
 ghost use Rattle.message_diff.specs.Changed.{AddsChanged, AddsChangedBy};
 
 use crate::alone::push_alone;
-use crate::counters::Counters;
-use crate::desk::{Desk, Pair};
+use crate::desk::Desk;
 use crate::line::push_head;
 use crate::listed::{push_found, show_both};
 use crate::snapshot::{Compared, Snapshot};
@@ -47,19 +46,20 @@ pub fn push_gone(
 /// Adds a line for an interface whose encoding is another, by what is shown of both.
 fn push_shown(
     alloc: Global,
+    by: Compared,
     front: &[u8],
     old: &Snapshot,
     new: &Snapshot,
-    pair: &Pair,
-    counters: &mut Counters,
+    desk: &mut Desk,
     out: &mut Vec<u8>,
 ) -> Result<(), AllocError>
-    ensures { OnOk result ((orders : Order × Order) → AreCompared orders old.now new.now pair.now
-        → AddsChanged front.now old.now new.now out.old.items out.new.items) }
+    ensures { OnOk result ((orders : Order × Order)
+        → AreCompared orders old.now new.now desk.old.pair
+        → AddsChanged by front.now old.now new.now out.old.items out.new.items) }
 {
-    push_head(alloc, front, "changed", pair.new.members(), out)?;
+    push_head(alloc, front, "changed", desk.pair.new.members(), out)?;
     out.extend_from_slice(b",\"changes\":")?;
-    push_found(alloc, old, new, pair, counters, out)?;
+    push_found(alloc, by, old, new, &desk.pair, &mut desk.counters, out)?;
     out.extend_from_slice(b"}\n")?;
     Ok(())
 }
@@ -67,6 +67,7 @@ fn push_shown(
 /// The same, where nothing is shown of them yet.
 fn push_difference(
     alloc: Global,
+    by: Compared,
     front: &[u8],
     old: &Snapshot,
     new: &Snapshot,
@@ -74,10 +75,10 @@ fn push_difference(
     out: &mut Vec<u8>,
 ) -> Result<(), AllocError>
     ensures { OnOk result
-        (AddsChanged front.now old.now new.now out.old.items out.new.items) }
+        (AddsChanged by front.now old.now new.now out.old.items out.new.items) }
 {
     show_both(alloc, old, new, desk)?;
-    push_shown(alloc, front, old, new, &desk.pair, &mut desk.counters, out)
+    push_shown(alloc, by, front, old, new, desk, out)
 }
 
 /// Adds a line that tells what changed of the interface, if its encoding is another, and returns whether it is.
@@ -88,6 +89,7 @@ fn push_difference(
 /// encodings differ and no path does, the one path `state` has both of them in hexadecimal.
 pub fn push_changed(
     alloc: Global,
+    by: Compared,
     front: &[u8],
     old: &Snapshot,
     new: &Snapshot,
@@ -100,12 +102,12 @@ pub fn push_changed(
         (λ told. IsTrue told → length out.old.items < length out.new.items) }
     ensures added { OnOk result (Extends out.old.items out.new.items) }
     ensures line { IfOk result (λ told. IsTrue told
-        → AddsChanged front.now old.now new.now out.old.items out.new.items) }
+        → AddsChanged by front.now old.now new.now out.old.items out.new.items) }
 {
     if old.text() == new.text() {
         return Ok(false);
     }
-    push_difference(alloc, front, old, new, desk, out)?;
+    push_difference(alloc, by, front, old, new, desk, out)?;
     Ok(true)
 }
 
@@ -132,7 +134,7 @@ pub fn push_compared(
     let was = Snapshot::new(alloc, by, order, old)?;
     let is = Snapshot::new(alloc, by, order, new)?;
     let mut desk = Desk::new(alloc);
-    match push_changed(alloc, b"", &was, &is, &mut desk, out) {
+    match push_changed(alloc, by, b"", &was, &is, &mut desk, out) {
         Ok(told) => Ok(told),
         Err(AllocError) => Err(CanonError::OutOfMemory),
     }

@@ -1,15 +1,14 @@
 //! What is done with each line.
 
-ghost use Rattle.std.specs.Prelude.{◌≡◌, ◌↔◌, ℕ, [], IfErr, OnOk, None, Some, cond};
+ghost use Rattle.std.specs.Prelude.{◌≡◌, ℕ, [], IfErr, OnOk, None, Some, cond};
 ghost use Rattle.std.specs.List.Sorted.{IsStrictlySortedBy};
 ghost use Rattle.message_diff.specs.declared.key.Key.{Key};
-ghost use Rattle.message_diff.specs.Compared.{Extends};
 ghost use Rattle.message_diff.specs.Known.{Item, key_cmp, is_among, is_ended_with, is_now, parts, without};
 ghost use Rattle.message_diff.specs.Known.{whole_after};
 ghost use Rattle.message_diff.specs.declared.reading.Said.TheVariants.{Blind};
 ghost use Rattle.message_diff.specs.declared.watch.Told.TheVariants.{All};
 ghost use Rattle.message_diff.specs.Told.{says, is_told_gone, is_new_told, own_text};
-ghost use Rattle.message_diff.specs.Told.{AddsGone, AddsAllGone, AddsNews, AddsTold};
+ghost use Rattle.message_diff.specs.Told.{AddsGone, AddsAllGone, AddsNews, AddsTold, AddsTurned};
 ghost use Rattle.message_diff.specs.Held.{held, taken, picture, seen_in, whole_in, text_told};
 ghost use Rattle.message_diff.specs.Held.{Applies, Puts};
 ghost use Rattle.message_diff.specs.Announced.{are_two_kinds};
@@ -42,22 +41,29 @@ pub enum Told {
     Faults,
 }
 
+/// What is told, and what is compared.
+#[derive(Clone, Copy)]
+pub struct Telling {
+    told: Told,
+    by: Compared,
+}
+
 /// Puts the new message of an interface in place of the last one, and adds a line of what changed, which has the words
 /// in front of the new message's line.
-#[tactic(auto, using(crate::proofs::Silent::silent))]
 fn replace(
     alloc: Global,
+    by: Compared,
     front: &[u8],
     last: &mut Snapshot,
     new: Snapshot,
     desk: &mut Desk,
     out: &mut Vec<u8>,
 ) -> Result<(), AllocError>
-    ensures silent { OnOk result ((last.old ≡ new) ↔ (out.new.items ≡ out.old.items)) }
-    ensures added { OnOk result (Extends out.old.items out.new.items) }
+    ensures told { OnOk result
+        (AddsTurned by front.now last.old new out.old.items out.new.items) }
     ensures last { OnOk result (last.new ≡ new) }
 {
-    if push_changed(alloc, front, last, &new, desk, out)? {
+    if push_changed(alloc, by, front, last, &new, desk, out)? {
         *last = new;
     }
     Ok(())
@@ -69,15 +75,15 @@ struct Line<'a> {
     alloc: Global,
     front: &'a [u8],
     at: u64,
-    told: Told,
+    told: Telling,
 }
 
-impl Told {
+impl Telling {
     /// Whether anything but faults is told.
     fn says(self) -> bool
-        ensures { result ≡ says self }
+        ensures { result ≡ says self.told }
     {
-        match self {
+        match self.told {
             Told::Faults => false,
             Told::All | Told::Changes => true,
         }
@@ -88,7 +94,7 @@ impl Line<'_> {
     /// Adds a line that an interface went, which was this at last.
     fn tell_gone(self, last: &Snapshot, out: &mut Vec<u8>) -> Result<(), AllocError>
         ensures { OnOk result (AddsGone self.entry.front.now
-            (cond (says self.entry.told) (Some last.now) None) out.old.items out.new.items) }
+            (cond (says self.entry.told.told) (Some last.now) None) out.old.items out.new.items) }
     {
         if !self.told.says() {
             return Ok(());
@@ -126,7 +132,7 @@ impl Line<'_> {
         ensures dump { host.new.dump ≡ host.old.dump }
         ensures whole { host.new.whole ≡ host.old.whole }
         ensures told { OnOk result (AddsGone self.entry.front.now
-            (cond (says self.entry.told)
+            (cond (says self.entry.told.told)
             (cond (is_told_gone key (seen_in (held host.old key))) (Some gone.now) None) None)
             out.old.items out.new.items) }
     {
@@ -169,7 +175,7 @@ impl Line<'_> {
         ensures dump { host.new.dump ≡ host.old.dump }
         ensures whole { host.new.whole ≡ host.old.whole }
         ensures told { OnOk result (AddsGone self.entry.front.now
-            (cond (says self.entry.told) (own_text key gone (seen_in (held host.old key))) None)
+            (cond (says self.entry.told.told) (own_text key gone (seen_in (held host.old key))) None)
             out.old.items out.new.items) }
     {
         match gone {
@@ -240,9 +246,9 @@ impl Line<'_> {
 
     /// Whether a line is added for an interface that came.
     fn tells_new(self, host: &Host, key: Key) -> bool
-        ensures { result ≡ is_new_told self.entry.told (whole_in host.now) key }
+        ensures { result ≡ is_new_told self.entry.told.told (whole_in host.now) key }
     {
-        match self.told {
+        match self.told.told {
             Told::All => true,
             Told::Changes => host.is_whole(key.family),
             Told::Faults => false,
@@ -271,7 +277,7 @@ impl Line<'_> {
         ensures dump { host.new.dump ≡ host.old.dump }
         ensures whole { host.new.whole ≡ host.old.whole }
         ensures told { OnOk result (AddsNews self.entry.front.now self.entry.told
-            (is_new_told self.entry.told (whole_in host.old) key) None snapshot
+            (is_new_told self.entry.told.told (whole_in host.old) key) None snapshot
             out.old.items out.new.items) }
     {
         if self.tells_new(host, key) {
@@ -299,7 +305,7 @@ impl Line<'_> {
         ensures dump { host.new.dump ≡ host.old.dump }
         ensures whole { host.new.whole ≡ host.old.whole }
         ensures told { OnOk result (AddsNews self.entry.front.now self.entry.told
-            (is_new_told self.entry.told (whole_in host.old) key) (Some last.snapshot) snapshot
+            (is_new_told self.entry.told.told (whole_in host.old) key) (Some last.snapshot) snapshot
             out.old.items out.new.items) }
     {
         if !self.told.says() {
@@ -310,7 +316,15 @@ impl Line<'_> {
             snapshot: was,
         } = last;
         let mut kept = was;
-        replace(self.alloc, self.front, &mut kept, snapshot, desk, out)?;
+        replace(
+            self.alloc,
+            self.told.by,
+            self.front,
+            &mut kept,
+            snapshot,
+            desk,
+            out,
+        )?;
         let entry = Entry {
             front,
             snapshot: kept,
@@ -420,7 +434,7 @@ pub struct Watch {
     hosts: Hosts,
     /// How many lines there were.
     lines: u64,
-    told: Told,
+    told: Telling,
     has_dumps: bool,
 }
 
@@ -434,7 +448,7 @@ impl Watch {
             desk: Desk::new(alloc),
             hosts: BTreeMap::new(alloc),
             lines: 0,
-            told,
+            told: Telling { told, by },
             has_dumps: false,
         }
     }
@@ -444,6 +458,13 @@ impl Watch {
         ensures { result ≡ self.now.has_dumps }
     {
         self.has_dumps
+    }
+
+    /// What is compared.
+    pub fn by(&self) -> Compared
+        ensures { result ≡ self.now.told.by }
+    {
+        self.told.by
     }
 
     /// What is known of each host.

@@ -1,18 +1,17 @@
-use Rattle.std.proofs.Common.{◌≡◌, true, List, ℕ, sym, ap, subst, ◌∙◌, inr, rules}
+use Rattle.std.proofs.Common.{◌≡◌, List, ℕ, sym, ap, subst, ◌∙◌, inr}
 use Rattle.std.proofs.lemmas.Result.{on_ok_weaker}
 use Rattle.message_diff.specs.Counted.{IsFilled, paths_of}
 use Rattle.message_diff.proofs.Paths.{paths_are}
 use Rattle.message_diff.proofs.counters.take_counters.Goals as goal
 
 pub returns : goal.returns
-returns c =
-    let some : c.in_ok-take_text.field-0 ≡ true = (search rules) in
+returns c = λ may.
     let bytes = c.take_text.new.part.text.items in
     on_ok_weaker c.take_rows_of.result
     (λ are. inr (record {
       bytes = bytes;
       are_filled = subst (λ (text : List ℕ). IsFilled c.args.is_part text bytes) c.text-text.ensures
-          (c.in_ok-take_text.ensures (c.as_slice.ensures.value ∙ c.in_ok-fill_message.ensures) some);
+          (c.in_ok-take_text.ensures (c.as_slice-2.ensures.value ∙ c.in_ok-fill_message.ensures));
       page = c.show.new.self.page;
       shown = c.in_ok-show.ensures.shown;
       are = λ f g apart own others.

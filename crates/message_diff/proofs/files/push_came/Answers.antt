@@ -40,10 +40,10 @@ loop-name-preserved c = λ all more.
     c.next.ensures.steps (name_total (λ k. k.items)) c.hosts.result.now
     (c.into_iter-name-iterator.ensures.into_iter_gives ∙ c.iter-name-items.ensures.rest)
     c.iter-name-items.ensures.ordered).1 in
-    let here = host_told old new n c.of-was.result.name.now c.of-was.result.has_dumps
+    let here = host_told old new c.of-was.result.by n c.of-was.result.name.now c.of-was.result.has_dumps
     (option_copied c.of-was.result.host) (option_copied c.of-is.result.host) c.in-Some.host.now w x
-    c.of-was.ensures.has_dumps (c.of-was.ensures.name ∙ named) (c.of-was.ensures.host ∙ ap (host_in old) named) is
-    (is ∙ at)
+    c.of-was.ensures.by c.of-was.ensures.has_dumps (c.of-was.ensures.name ∙ named)
+    (c.of-was.ensures.host ∙ ap (host_in old) named) is (is ∙ at)
     c.in_ok-push_host.ensures in
     c.loop-name.invariant all
     (subst (λ (es : List (Vec ℕ Global × Host)). Adds (flat_map f (names_of es)) w all) (sym c.in-Some.ensures.steps)

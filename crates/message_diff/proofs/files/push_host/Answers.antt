@@ -22,7 +22,7 @@ push_news-requires c =
 
 pub loop-key-preserved : goal.loop-key-preserved
 loop-key-preserved c = λ all more.
-    let f = news_at c.args.old.has_dumps c.args.old.name.now (option_copied c.args.old.host)
+    let f = news_at c.args.old.by c.args.old.has_dumps c.args.old.name.now (option_copied c.args.old.host)
     (option_copied c.args.new.host) in
     let w = c.loop-key.written in
     c.loop-key.invariant all
@@ -32,7 +32,7 @@ loop-key-preserved c = λ all more.
 
 pub returns : goal.returns
 returns c =
-    let f = news_at c.args.old.has_dumps c.args.old.name.now (option_copied c.args.old.host)
+    let f = news_at c.args.old.by c.args.old.has_dumps c.args.old.name.now (option_copied c.args.old.host)
     (option_copied c.args.new.host) in
     let w = c.loop-key.written in
     c.loop-key.invariant w

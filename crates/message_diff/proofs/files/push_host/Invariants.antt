@@ -8,7 +8,7 @@ use Rattle.message_diff.proofs.files.push_host.Given as goal
 abbrev pub invariant-loop-key : goal.invariant-loop-key
 invariant-loop-key l =
     (all : Written)
-    → Adds (map (news_at l.old.has_dumps l.old.name.now (option_copied l.old.host) (option_copied l.new.host))
+    → Adds (map (news_at l.old.by l.old.has_dumps l.old.name.now (option_copied l.old.host) (option_copied l.new.host))
     (keys_of l.key-iterator)) l.written all
-    → Adds (map (news_at l.old.has_dumps l.old.name.now (option_copied l.old.host) (option_copied l.new.host))
+    → Adds (map (news_at l.old.by l.old.has_dumps l.old.name.now (option_copied l.old.host) (option_copied l.new.host))
     (keys_of l.host.known.entries)) l.initial.written all

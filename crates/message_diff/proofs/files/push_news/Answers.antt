@@ -8,7 +8,7 @@ use Rattle.message_diff.proofs.files.push_news.Goals as goal
 
 pub returns-in_default : goal.returns-in_default
 returns-in_default c =
-    told_refused c.args.old.has_dumps c.args.old.name.now (option_copied c.args.old.host)
+    told_refused c.args.old.by c.args.old.has_dumps c.args.old.name.now (option_copied c.args.old.host)
     (option_copied c.args.new.host) c.args.key c.args.known.now c.args.written.now c.requires
     c.in_default.ensures.value
 
@@ -17,7 +17,7 @@ returns-then-tells c =
     let w = c.args.written.now in
     let is = c.in-Some.is'.now in
     on_ok_weaker c.push_new.result
-    (λ new. told_came c.args.old.has_dumps c.args.old.name.now (option_copied c.args.old.host)
+    (λ new. told_came c.args.old.by c.args.old.has_dumps c.args.old.name.now (option_copied c.args.old.host)
     (option_copied c.args.new.host) c.args.key c.args.known.now is w (record w { out = c.push_new.new.out })
     c.requires c.in-Some.ensures.value c.in_default-known.ensures c.if-tells.ensures
     (subst (λ (front : List ℕ). AddsAlone front (codes "new") is.snapshot w.out.items c.push_new.new.out.items)

@@ -2,11 +2,10 @@ use Rattle.std.proofs.Common.{◌≡◌, sym, subst, refl, ap, ◌∙◌, List}
 use Rattle.std.proofs.lemmas.Result.{on_ok_weaker}
 use Rattle.message_diff.specs.declared.differences.Change.{Change}
 use Rattle.message_diff.specs.declared.rows.Row.{Row}
-use Rattle.message_diff.specs.Counted.{IsWithoutCounters}
+use Rattle.message_diff.specs.Counted.{IsLeftBy}
 use Rattle.message_diff.specs.Shown.{leaves_of}
 use Rattle.message_diff.specs.Differences.{Leaf, AreDiffs, leaves, diffs_of}
 use Rattle.message_diff.specs.Changed.{list_text, told_diffs}
-use Rattle.message_diff.proofs.Counted.{left_by}
 use Rattle.message_diff.proofs.listed.push_found.Goals as goal
 
 pub returns : goal.returns
@@ -25,16 +24,13 @@ returns c =
         changes = told;
         are_told = record {
           orders = orders;
-          pair = c.args.pair.now;
           compared = compared;
           found = found;
           left = left;
           differ = subst (λ (x : List Leaf × List Leaf). AreDiffs x.0 x.1 found) (λ i. (was i, is i))
               c.in_ok-found.ensures;
-          are_left = subst (λ (cs : List Change). IsWithoutCounters c.args.pair.now found (diffs_of cs))
-              (sym c.as_slice-3.ensures.value)
-              (left_by c.by.result c.args.pair.now c.leave_out.new.counters found
-              (diffs_of c.in_ok-changes.changes.items) c.in_ok-changes.ensures);
+          are_left = subst (λ (cs : List Change). IsLeftBy c.args.by c.args.pair.now found (diffs_of cs))
+              (sym c.as_slice-3.ensures.value) c.in_ok-changes.ensures;
           all = refl;
         };
         is = refl;

@@ -3,7 +3,7 @@ use Rattle.message_diff.proofs.told.push_changed.Goals as goal
 
 pub returns-clause-said : goal.returns-clause-said
 returns-clause-said c =
-    λ _. longer_changed c.args.front.now c.args.old.now c.args.new.now c.args.out.now.items
+    λ _. longer_changed c.args.by c.args.front.now c.args.old.now c.args.new.now c.args.out.now.items
     c.push_difference.new.out.items c.in_ok-push_difference.ensures
 
 pub returns-clause-added : goal.returns-clause-added

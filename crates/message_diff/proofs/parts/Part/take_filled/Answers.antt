@@ -8,8 +8,8 @@ use Rattle.message_diff.specs.Unlike.{IsPartFrame}
 use Rattle.message_diff.proofs.Unlike.{goes_over, goes_step, none_left, part_other, part_same}
 use Rattle.message_diff.proofs.parts.Part.take_filled.Goals as goal
 
-pub loop-frame-preserved-then-ne : goal.loop-frame-preserved-then-ne
-loop-frame-preserved-then-ne c =
+pub loop-frame-preserved-in-Continue-branch-2 : goal.loop-frame-preserved-in-Continue-branch-2
+loop-frame-preserved-in-Continue-branch-2 c =
     let f : List ℕ = c.in-Some.frame.now in
     let g : List ℕ = c.in-Some.other.now in
     let other : is_text f g ≡ false = (search rules) in

@@ -1,9 +1,18 @@
-use Rattle.std.proofs.Common.{rules}
-use Rattle.message_diff.proofs.Paths.{has_path}
+use Rattle.std.proofs.Common.{sym, rules}
+use Rattle.message_diff.proofs.Paths.{has_here, lacks_all, lacks_here}
 use Rattle.message_diff.proofs.rows.Rows.contains.Goals as goal
 
 pub returns-then-eq : goal.returns-then-eq
-returns-then-eq c = λ _. has_path c.args.self.now c.args.likely.now c.args.path.now (search rules) (search rules)
+returns-then-eq c = sym (has_here c.args.self.now c.args.likely.now c.args.path.now (search rules) (search rules))
 
 pub returns-then-eq-2 : goal.returns-then-eq-2
-returns-then-eq-2 c = λ _. has_path c.args.self.now c.loop-place.place c.args.path.now (search rules) (search rules)
+returns-then-eq-2 c = sym (has_here c.args.self.now c.loop-place.place c.args.path.now (search rules) (search rules))
+
+pub loop-place-preserved : goal.loop-place-preserved
+loop-place-preserved c =
+    lacks_here c.args.self.now c.loop-place.place c.args.path.now (search rules) (search rules)
+    c.loop-place.invariant
+
+pub returns : goal.returns
+returns c =
+    sym (lacks_all c.args.self.now c.loop-place.place c.args.path.now (search rules) c.loop-place.invariant)

@@ -3,7 +3,7 @@ use Rattle.std.proofs.lemmas.Result.{on_ok_weaker}
 use Rattle.message_diff.specs.declared.reading.Said.{Said}
 use Rattle.message_diff.specs.declared.store.Host.{Host}
 use Rattle.message_diff.specs.Known.{Item, is_ended_with, is_key, text_of}
-use Rattle.message_diff.specs.declared.watch.Told.{Told}
+use Rattle.message_diff.specs.declared.watch.Telling.{Telling}
 use Rattle.message_diff.specs.Told.{AddsTold}
 use Rattle.message_diff.specs.Held.{Applies, IsAfter, held, last_of, picture, run_in, seen_in}
 use Rattle.message_diff.proofs.Pictures.{seen_taken, text_is}
@@ -72,7 +72,7 @@ returns-in-Blind c =
     (picture c.break_dump.new.self) out out)
     (sym c.in-Blind.is) is
 
-nothing : (front : List ℕ) (told : Told) (at : ℕ) (host : Host) (out : List ℕ)
+nothing : (front : List ℕ) (told : Telling) (at : ℕ) (host : Host) (out : List ℕ)
     → IsAfter (picture host) at Item.nothing (picture host) × AddsTold front told (picture host) Item.nothing out out
 nothing front told at host out =
     stays front told at host host Item.nothing out refl refl refl (λ q. refl) (λ q. refl) (λ f. refl) refl

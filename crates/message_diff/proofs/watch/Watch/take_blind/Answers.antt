@@ -4,7 +4,7 @@ use Rattle.std.specs.Cmp.Lexicographic.{slice_cmp}
 use Rattle.std.specs.Ordering.{nat_cmp}
 use Rattle.std.specs.Map.{lookup}
 use Rattle.message_diff.specs.declared.reading.Said.TheVariants.{Blind}
-use Rattle.message_diff.specs.declared.watch.Told.{Told}
+use Rattle.message_diff.specs.declared.watch.Telling.{Telling}
 use Rattle.message_diff.specs.Known.{Item, nothing_known}
 use Rattle.message_diff.specs.Held.{Applies, picture, run_in}
 use Rattle.message_diff.specs.Watched.{known_of}
@@ -13,7 +13,7 @@ use Rattle.message_diff.proofs.Hosts.{others_stay, taken_for}
 use Rattle.message_diff.proofs.watch.Watch.take_blind.Goals as goal
 
 -- of a host of which nothing is known nothing is known
-unknown : (front : List ℕ) (told : Told) (at : ℕ) → Applies front told at Blind nothing_known nothing_known [] []
+unknown : (front : List ℕ) (told : Telling) (at : ℕ) → Applies front told at Blind nothing_known nothing_known [] []
 unknown front told at = (
   record { of = λ q. refl; run = refl; whole = λ f. refl },
   tells_nothing front told nothing_known Item.blind [] (λ q. refl) refl,

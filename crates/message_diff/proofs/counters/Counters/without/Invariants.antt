@@ -1,0 +1,9 @@
+use Rattle.std.proofs.Common.{◌≡◌, take}
+use Rattle.message_diff.specs.Differences.{diffs_of, less}
+use Rattle.message_diff.specs.Paths.{paths_in}
+use Rattle.message_diff.proofs.counters.Counters.without.Given as goal
+
+abbrev pub invariant-loop-change : goal.invariant-loop-change
+invariant-loop-change l =
+    diffs_of l.left.items
+    ≡ less (paths_in l.self.old.rows) (paths_in l.self.new.rows) (diffs_of (take l.change-index l.changes))
