@@ -25,17 +25,17 @@ use Rattle.message_diff.specs.Trees.{Forest, IsGood, beside}
 use Rattle.message_diff.specs.declared.desk.Pair.{Pair}
 use Rattle.message_diff.specs.declared.rows.Rows.{Rows}
 use Rattle.message_diff.proofs.Taken.{taken_differ}
-use Rattle.diff_laws.specs.Compared.{AllIsTold, AllIsToldLeniently, ArePaired, TellsAll}
+use Rattle.diff_laws.specs.Compared.{AllIsTold, AllIsToldLeniently, ArePaired, HasEachOnce, TellsAll}
 use Rattle.diff_laws.specs.Good.{AreNamed, IsShort, IsShortOf}
 use Rattle.diff_laws.specs.LeftOut.{AreTrees, HaveParts, IsCanonical, IsTree, part_of}
-use Rattle.diff_laws.specs.Leniently.{AreTreesOf, HavePartsLeniently, IsTreeOf}
+use Rattle.diff_laws.specs.Leniently.{AreTreesOf, HavePartsLeniently, IsCanonicalLeniently, IsTreeOf}
 use Rattle.diff_laws.proofs.Built.{built_means}
 use Rattle.diff_laws.proofs.Cut.{refuses}
 use Rattle.diff_laws.proofs.GoodLeniently.{split_good}
 use Rattle.diff_laws.proofs.Inside.{inside_by}
 use Rattle.diff_laws.proofs.LeftOut.{parts_mean, rows_are}
-use Rattle.diff_laws.proofs.Lenient.{IsSplit, meant_built, means_leniently, nothing_meant}
-use Rattle.diff_laws.proofs.Leniently.{AreSplit, both_split, lenient_rows_are, part_split, parts_have_trees}
+use Rattle.diff_laws.proofs.Lenient.{IsSplit, canonical_split, meant_built, means_leniently, nothing_meant}
+use Rattle.diff_laws.proofs.Leniently.{both_split, lenient_rows_are, part_split, parts_have_trees, split_single}
 use Rattle.diff_laws.proofs.Parts.{part_single}
 use Rattle.diff_laws.proofs.PlainNames.{plain_is_named}
 use Rattle.diff_laws.proofs.Trees.{good_apart, have_trees, marks_tell, message_object, object_good}
@@ -233,34 +233,38 @@ module _ (law : ShownByOrder) (orders : Order × Order) (old new : List ℕ) (pa
 
   -- ** leniently
 
-  module _ (m n : LinkMessage) (f g : Forest) (have : HavePartsLeniently old new m n) (short : IsShortOf cx old)
-      (short_too : IsShortOf other new) (tree : IsTreeOf cx old f) (tree_too : IsTreeOf other new g) where
+  module _ (m n : LinkMessage) (f g : Forest) (was : IsCanonicalLeniently old m) (now_is : IsCanonicalLeniently new n)
+      (once : HasEachOnce old) (once_too : HasEachOnce new) (short : IsShortOf cx old) (short_too : IsShortOf other new)
+      (tree : IsTreeOf cx old f) (tree_too : IsTreeOf other new g) where
     abbrev family : AddressFamily
     family = m.header.interface_family
 
-    abbrev split : AreSplit m.header.interface_family old new
-    split = both_split old new m n have
-
     split_f : IsGood inside_by f
-    split_f = split_good cx named family old split.old_split split.alike.single f short tree
+    split_f =
+        split_good cx named family old (canonical_split old m was) (split_single old m was once) f short tree
 
     split_g : IsGood inside_by g
-    split_g = split_good other named_too family new split.new_split split.alike.single_too g short_too tree_too
+    split_g =
+        split_good other named_too n.header.interface_family new (canonical_split new n now_is)
+        (split_single new n now_is once_too) g short_too tree_too
 
     leniently_whole : pair.is_part ≡ false → TellsAll pair f g
     leniently_whole is =
         changes_told pair f g f g split_f split_g
-        (split_page cx named family old split.old_split split.alike.single pair.old.page f
+        (split_page cx named family old (canonical_split old m was) (split_single old m was once) pair.old.page f
         (old_shows old (ap (λ b. part_if b old new) is)) paired.old_small tree)
-        (split_page other named_too family new split.new_split split.alike.single_too pair.new.page g
+        (split_page other named_too n.header.interface_family new (canonical_split new n now_is)
+        (split_single new n now_is once_too) pair.new.page g
         (new_shows other paired.new_plain new (ap (λ b. part_if b new old) is)) paired.new_small tree_too)
         paired.compared.old_rows paired.compared.new_rows (refl, refl)
 
     leniently_parts : pair.is_part ≡ true → TellsAll pair f g
     leniently_parts is =
+        let one = are_parts is in
+        let have : HavePartsLeniently old new m n = record { was = was; now_is = now_is; parts = one.parts } in
+        let split = both_split old new m n have in
         let a = split.old_split in
         let b = split.new_split in
-        let one = are_parts is in
         let alike = law orders.1 other cx paired.new_plain one.plain in
         let found = parts_have_trees cx old new m n have in
         let few : Forest = found.2 in
@@ -300,5 +304,7 @@ all_is_told law orders old new pair cx other m n f g paired canonical canonical_
     told_strictly law orders old new pair cx other paired m n f g canonical canonical_too short short_too tree tree_too
 
 pub all_is_told_leniently : ShownByOrder → AllIsToldLeniently
-all_is_told_leniently law orders old new pair cx other m n f g paired have short short_too tree tree_too =
-    told_leniently law orders old new pair cx other paired m n f g have short short_too tree tree_too
+all_is_told_leniently law orders old new pair cx other m n f g paired was now_is once once_too short short_too tree
+    tree_too =
+    told_leniently law orders old new pair cx other paired m n f g was now_is once once_too short short_too tree
+    tree_too

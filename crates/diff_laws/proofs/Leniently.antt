@@ -26,7 +26,9 @@ use Rattle.message_diff.proofs.LeftOut.{AreTwo, IsNamed, followed, parts_beside,
 use Rattle.message_diff.proofs.PartFrames.{IsSome}
 use Rattle.message_diff.proofs.Taken.{taken_is}
 use Rattle.diff_laws.specs.LeftOut.{IsTree, part_of}
-use Rattle.diff_laws.specs.Leniently.{IsTreeOf, HavePartsLeniently, PartsMeanLeniently, PartsHaveTrees}
+use Rattle.diff_laws.specs.Compared.{HasEachOnce}
+use Rattle.diff_laws.specs.Leniently.{IsCanonicalLeniently, IsTreeOf, HavePartsLeniently, PartsMeanLeniently}
+use Rattle.diff_laws.specs.Leniently.{PartsHaveTrees}
 use Rattle.diff_laws.specs.Leniently.{LenientRowsStay, LenientChangesStay}
 use Rattle.diff_laws.proofs.Among.{accepted_part, cut_some, filter_swap, refused_named, refused_part}
 use Rattle.diff_laws.proofs.Built.{built_means, means_once}
@@ -167,6 +169,17 @@ turned family old new s = record {
   new_family = s.old_family;
 }
 
+family_of_split : (b : List ℕ) (family : AddressFamily) (s : IsSplit family b) → family_of b ≡ family
+family_of_split b family s = family_in b (record { header = s.fields; attributes = [] }) s.header ∙ s.family_is
+
+-- of one in which each number comes once
+pub split_single : (b : List ℕ) (m : LinkMessage) (c : IsCanonicalLeniently b m) → HasEachOnce b
+    → are_single (named_in m.header.interface_family (canonical_split b m c).frames) ≡ true
+split_single b m c once =
+    let family : AddressFamily = m.header.interface_family in
+    let s = canonical_split b m c in
+    sym (λ i. are_single (named_in (family_of_split b family s i) (split_frames family b s i))) ∙ once
+
 pub both_split : (old new : List ℕ) (m n : LinkMessage) → HavePartsLeniently old new m n
     → AreSplit m.header.interface_family old new
 both_split old new m n have =
@@ -190,10 +203,6 @@ both_split old new m n have =
       old_family = own_family;
       new_family = new_family;
     }
-  where
-    family_of_split : (b : List ℕ) (family : AddressFamily) (s : IsSplit family b) → family_of b ≡ family
-    family_of_split b family s =
-        family_in b (record { header = s.fields; attributes = [] }) s.header ∙ s.family_is
 
 -- ** rows
 

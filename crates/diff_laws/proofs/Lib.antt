@@ -23,3 +23,4 @@ pub mod LeftOut
 pub mod GoodLeniently
 pub mod PlainNames
 pub mod Compared
+pub mod Told

@@ -4,3 +4,4 @@ pub mod Names
 pub mod Leniently
 pub mod Good
 pub mod Compared
+pub mod Told

@@ -10,8 +10,11 @@ ghost use Rattle.diff_laws.specs.Good.{LenientTreesAreGood, LenientGoodChangesSt
 ghost use Rattle.diff_laws.specs.LeftOut.{HaveTrees, MarksTell, FramesAre, PartsMean, RowsStay, ChangesStay};
 ghost use Rattle.diff_laws.specs.Leniently.{PartsMeanLeniently, PartsHaveTrees, LenientRowsStay, LenientChangesStay};
 ghost use Rattle.diff_laws.specs.Names.{NamesAreApart};
+ghost use Rattle.diff_laws.specs.Told.{AllIsToldBy, ComparedIsCanonical};
 ghost use Rattle.diff_laws.specs.Values.{ShownIsOne};
 
+use link_msg::laws::{law_lenient, law_one_meaning};
+use link_state::laws::{law_lenient_state, law_mask, law_state};
 use message_shown::laws::law_shown;
 
 /// What is shown of a message is one JSON value, and so has one tree, which the marks of its page tell of.
@@ -68,5 +71,20 @@ pub fn law_compared()
     ensures strictly { AllIsTold }
     ensures leniently { AllIsToldLeniently }
 {
+    law_shown()
+}
+
+/// What is compared of bytes is the canonical encoding of some message. So what is told of two of them is all that
+/// differs between all rows that are shown of both: without the values at counters, where states are compared, and
+/// both encodings, where nothing is left.
+pub fn law_told()
+    ensures canonical { ComparedIsCanonical }
+    ensures all { AllIsToldBy }
+{
+    law_one_meaning();
+    law_lenient();
+    law_state();
+    law_mask();
+    law_lenient_state();
     law_shown()
 }
