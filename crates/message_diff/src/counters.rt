@@ -5,14 +5,16 @@ ghost use Rattle.message_diff.specs.Differences.{left_of, diff_of, diff_in, diff
 ghost use Rattle.message_diff.specs.Differences.{is_above_zero, has_zero, may_be_zero, may_be};
 ghost use Rattle.message_diff.specs.Differences.{has_path, old_of, new_of, any_old, any_new};
 ghost use Rattle.message_diff.specs.Paths.{paths_in};
+ghost use Rattle.message_diff.specs.Sorted.{IsLookup};
+ghost use Rattle.message_diff.specs.declared.rows.Rows.{Rows};
 ghost use Rattle.message_diff.specs.Counted.{filled_by, filled_message, IsFilled, AreCounterPaths};
 ghost use Rattle.message_diff.specs.Counted.{IsWithoutCounters, IsLeftBy};
 
 use crate::desk::Pair;
 use crate::differences::Change;
 use crate::half::Half;
+use crate::lookup::Lookup;
 use crate::parts::Part;
-use crate::rows::Rows;
 use crate::snapshot::Compared;
 use link_msg::header::HEADER_SIZE;
 use link_state::{Level, fill};
@@ -83,11 +85,17 @@ fn left_of<'a>(change: &Change<'a>, by_old: bool, by_new: bool) -> Option<Change
 }
 
 /// Whether a value may be of zeros at the path of one of the rows.
-fn is_counter(rows: &Rows, path: &[u8], value: Option<&[u8]>, likely: &mut usize) -> bool
-    ensures { result ≡ (may_be (option_map (λ value. value.now) value.entry)
-        && has_path (paths_in rows.now) path.now) }
+fn is_counter(
+    alloc: Global,
+    rows: &mut Lookup<'_>,
+    path: &[u8],
+    value: Option<&[u8]>,
+) -> Result<bool, AllocError>
+    ensures is { (counters : Rows) → IsLookup counters rows.old → IfOk result (λ is.
+        is ≡ (may_be (option_map (λ value. value.now) value.entry) && has_path (paths_in counters) path.now)) }
+    ensures lookup { (counters : Rows) → IsLookup counters rows.old → IsLookup counters rows.new }
 {
-    may_be(value) && rows.contains(path, likely)
+    Ok(may_be(value) && rows.has(alloc, path)?)
 }
 
 /// The counters of two messages, each with other bytes in the place of the zeros of its state encoding: they are the
@@ -203,10 +211,11 @@ impl Counters {
             (paths_in self.now.new.rows) (diffs_of changes.now)) }
     {
         let mut left = Vec::with_capacity(alloc, changes.len())?;
-        let (mut in_old, mut in_new) = (0, 0);
+        let mut in_old = Lookup::new(alloc, &self.old.rows);
+        let mut in_new = Lookup::new(alloc, &self.new.rows);
         for change in changes {
-            let by_old = is_counter(&self.old.rows, change.path(), change.old(), &mut in_old);
-            let by_new = is_counter(&self.new.rows, change.path(), change.new(), &mut in_new);
+            let by_old = is_counter(alloc, &mut in_old, change.path(), change.old())?;
+            let by_new = is_counter(alloc, &mut in_new, change.path(), change.new())?;
             match left_of(change, by_old, by_new) {
                 Some(it) => left.push(it)?,
                 None => {}

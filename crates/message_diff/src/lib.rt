@@ -13,6 +13,7 @@ mod half;
 mod key;
 mod line;
 mod listed;
+mod lookup;
 mod members;
 mod named;
 mod parts;

@@ -1,8 +1,9 @@
 //! The members that two texts do not have in common, one below the other.
 
-ghost use Rattle.std.specs.Prelude.{◌≡◌, ◌++◌, ◌∷◌, ◌<◌, ℕ, [], length, IfOk, IfSome, OnOk, true};
+ghost use Rattle.std.specs.Prelude.{◌≡◌, ◌++◌, ◌∷◌, ◌<◌, ℕ, [], length, IfOk, IfSome, OnOk, is_some, true};
 ghost use Rattle.message_diff.specs.Differences.{leaves, has_path};
 ghost use Rattle.message_diff.specs.Paths.{start_in, path_in, paths_in};
+ghost use Rattle.message_diff.specs.Sorted.{AreSorted};
 ghost use Rattle.message_diff.specs.Known.{is_text};
 ghost use Rattle.message_diff.specs.Trees.{Forest, find_tree, joined, beside_in};
 ghost use Rattle.message_diff.specs.Marked.{AreMarksOf};
@@ -167,22 +168,35 @@ impl Rows {
         self.path.clear();
     }
 
-    /// Whether there is a row with this path. It is looked for first where it is likely; the next one is likely after
-    /// it.
-    pub fn contains(&self, path: &[u8], likely: &mut usize) -> bool
-        ensures { result ≡ has_path (paths_in self.now) path.now }
+    /// Whether the row at this place has this path.
+    pub fn is_at(&self, place: usize, path: &[u8]) -> bool
+        ensures { result ≡ true → has_path (paths_in self.now) path.now ≡ true }
     {
-        if *likely < self.spots.len() && self.path_at(*likely) == path {
-            *likely += 1;
-            return true;
-        }
+        place < self.spots.len() && self.path_at(place) == path
+    }
+
+    /// The place of a row with this path, if there is one.
+    pub fn find(&self, path: &[u8]) -> Option<usize>
+        ensures { is_some result ≡ has_path (paths_in self.now) path.now }
+    {
         for place in 0..self.spots.len() {
             if self.path_at(place) == path {
-                *likely = place + 1;
-                return true;
+                return Some(place);
             }
         }
-        false
+        None
+    }
+
+    /// The paths in the order of their bytes.
+    pub fn sorted(&self, alloc: Global) -> Result<Vec<&[u8]>, AllocError>
+        ensures { IfOk result (λ paths. AreSorted (paths_in self.now) paths.items) }
+    {
+        let mut paths = Vec::with_capacity(alloc, self.spots.len())?;
+        for place in 0..self.spots.len() {
+            paths.push(self.path_at(place))?;
+        }
+        paths.sort_unstable();
+        Ok(paths)
     }
 
     /// The path of the row at this place.
