@@ -79,6 +79,18 @@ def names(text, count):
     return frame(IFLA_PROP_LIST, frame(IFLA_ALT_IFNAME, text) * count)
 
 
+def settings(count):
+    """A card with so many virtual functions, whose settings are all 0 in a line, and all 1 in the next, as no counter
+    turns: what is looked for among counters, and is none."""
+    def function_of(number, is_on):
+        of, on = struct.pack("<I", number), struct.pack("<I", is_on)
+        counters = b"".join(frame(kind, struct.pack("<Q", 7 + kind)) for kind in (0, 1, 2, 3, 4, 5, 7, 8))
+        return frame(1, b"".join(frame(kind, of + on) for kind in (3, 4, 7, 9)) + frame(8, counters))
+
+    return [HEAD + frame(IFLA_VFINFO_LIST, b"".join(function_of(number, is_on) for number in range(count)))
+            for is_on in (0, 1) * 4]
+
+
 def aliases(size, count, end=b""):
     """What an interface has as alias in so many messages: a text of this size, which differs each time."""
     return [frame(IFLA_IFALIAS, (b"x", b"y")[at % 2] * size + end) for at in range(count)]
@@ -115,6 +127,8 @@ def of_messages():
         # an MTU of three bytes, so often that a walk which begins anew at each would be seen
         "all-refused": turning(frame(IFLA_MTU, b"\1\2\3") * 7500),
         "late-quote": [HEAD + alias for alias in aliases(7999, 2, b'"')],
+        "settings-64": settings(64),
+        "settings-256": settings(256),
         # half of the message stays
         "turning-alias": [HEAD + kept + alias for alias in aliases(len(kept), 20)],
         "growing": [HEAD + attributes for attributes in growing(100)],
