@@ -12,6 +12,7 @@ pub mod Changed
 pub mod Without
 pub mod Trees
 pub mod Taken
+pub mod Looked
 pub mod Marked
 pub mod TwoKinds
 pub mod Cuts
