@@ -23,7 +23,7 @@ use Rattle.message_diff.specs.Parts.{are_alike, are_single, family_of, have_part
 use Rattle.message_diff.specs.Shown.{AreBeside, IsShown, leaves_of}
 use Rattle.message_diff.specs.Trees.{Forest, IsGood, beside}
 use Rattle.message_diff.specs.declared.desk.Pair.{Pair}
-use Rattle.message_diff.specs.declared.rows.Rows.{Rows}
+use Rattle.message_diff.specs.declared.leaves.Leaves.{Leaves}
 use Rattle.message_diff.proofs.Taken.{taken_differ}
 use Rattle.diff_laws.specs.Compared.{AllIsTold, AllIsToldLeniently, ArePaired, HasEachOnce, TellsAll}
 use Rattle.diff_laws.specs.Good.{AreNamed, IsShort, IsShortOf}
@@ -48,7 +48,7 @@ record IsPageOf (page : MarkedText) (f : Forest) : Type 0 where
   good : IsGood inside_by f
 
 -- the rows that are taken of one beside another are those of their trees
-rows_taken : (page there : MarkedText) (f g : Forest) (rows : Rows) → IsPageOf page f → IsPageOf there g
+rows_taken : (page there : MarkedText) (f g : Forest) (rows : Leaves) → IsPageOf page f → IsPageOf there g
     → AreBeside page there rows
     → leaves_in page.text page.marks rows ≡ beside [] f g
 rows_taken page there f g rows own is taken = taken f g (good_apart inside_by g is.good) own.marks is.marks
@@ -127,15 +127,15 @@ module _ (cx : Context) (named : AreNamed cx) (family : AddressFamily) (b : List
 
 -- so the differences of the rows are those of the trees, whole or in parts
 changes_told : (pair : Pair) (f g few less : Forest) → IsGood inside_by f → IsGood inside_by g
-    → IsPageOf pair.old.page few → IsPageOf pair.new.page less → AreBeside pair.old.page pair.new.page pair.old.rows
-    → AreBeside pair.new.page pair.old.page pair.new.rows
+    → IsPageOf pair.old.page few → IsPageOf pair.new.page less → AreBeside pair.old.page pair.new.page pair.old.leaves
+    → AreBeside pair.new.page pair.old.page pair.new.leaves
     → (beside [] few less ≡ beside [] f g) × (beside [] less few ≡ beside [] g f)
     → TellsAll pair f g
 changes_told pair f g few less good good_too own is taken lost rows found differ =
     let olds : leaves_of pair.old ≡ beside [] f g =
-    rows_taken pair.old.page pair.new.page few less pair.old.rows own is taken ∙ rows.0 in
+    rows_taken pair.old.page pair.new.page few less pair.old.leaves own is taken ∙ rows.0 in
     let news : leaves_of pair.new ≡ beside [] g f =
-    rows_taken pair.new.page pair.old.page less few pair.new.rows is own lost ∙ rows.1 in
+    rows_taken pair.new.page pair.old.page less few pair.new.leaves is own lost ∙ rows.1 in
     taken_differ inside_by f g found good good_too
     (subst (λ (ls : List Leaf). AreDiffs ls (beside [] g f) found) olds
     (subst (λ (ls : List Leaf). AreDiffs (leaves_of pair.old) ls found) news differ))
@@ -196,7 +196,7 @@ module _ (law : ShownByOrder) (orders : Order × Order) (old new : List ℕ) (pa
         canonical.means tree)
         (meant_page other named_too new n pair.new.page g
         (new_shows other paired.new_plain new (ap (λ b. part_if b new old) is)) paired.new_small canonical_too.means
-        tree_too) paired.compared.old_rows paired.compared.new_rows (refl, refl)
+        tree_too) paired.compared.old_leaves paired.compared.new_leaves (refl, refl)
 
     by_parts : pair.is_part ≡ true → TellsAll pair f g
     by_parts is =
@@ -222,7 +222,7 @@ module _ (law : ShownByOrder) (orders : Order × Order) (old new : List ℕ) (pa
         (old_shows (part_of old new) (ap (λ b. part_if b old new) is)) paired.old_small meant.0.1 few.1)
         (meant_page cx named (part_of new old) meant.1.0 pair.new.page less.0
         (new_shows cx one.plain (part_of new old) (ap (λ b. part_if b new old) is)) paired.new_small meant.1.1 less.1)
-        paired.compared.old_rows paired.compared.new_rows (rows_are cx old new m n f g few.0 less.0 have trees)
+        paired.compared.old_leaves paired.compared.new_leaves (rows_are cx old new m n f g few.0 less.0 have trees)
 
     told_strictly : TellsAll pair f g
     told_strictly = by pair.is_part refl
@@ -256,7 +256,7 @@ module _ (law : ShownByOrder) (orders : Order × Order) (old new : List ℕ) (pa
         (split_page other named_too n.header.interface_family new (canonical_split new n now_is)
         (split_single new n now_is once_too) pair.new.page g
         (new_shows other paired.new_plain new (ap (λ b. part_if b new old) is)) paired.new_small tree_too)
-        paired.compared.old_rows paired.compared.new_rows (refl, refl)
+        paired.compared.old_leaves paired.compared.new_leaves (refl, refl)
 
     leniently_parts : pair.is_part ≡ true → TellsAll pair f g
     leniently_parts is =
@@ -289,8 +289,8 @@ module _ (law : ShownByOrder) (orders : Order × Order) (old new : List ℕ) (pa
         (split_page cx named family (part family new old) (part_split family new old b a)
         (part_single family b.frames a.frames split.alike.single_too) pair.new.page less
         (new_shows cx one.plain (part family new old) (ap (λ b. part_if b new old) is ∙ less_is)) paired.new_small
-        (subst (λ (b : List ℕ). IsTreeOf cx b less) less_is trees.less_tree)) paired.compared.old_rows
-        paired.compared.new_rows (lenient_rows_are cx old new m n f g few less have trees)
+        (subst (λ (b : List ℕ). IsTreeOf cx b less) less_is trees.less_tree)) paired.compared.old_leaves
+        paired.compared.new_leaves (lenient_rows_are cx old new m n f g few less have trees)
 
     told_leniently : TellsAll pair f g
     told_leniently = by pair.is_part refl

@@ -21,7 +21,7 @@ use Rattle.message_shown.specs.declared.context.Context.{Context}
 use Rattle.message_shown.specs.declared.context.Order.{Order}
 use Rattle.message_diff.specs.Counted.{IsLeftBy}
 use Rattle.message_diff.specs.Differences.{Diff, diffs}
-use Rattle.message_diff.specs.Trees.{Forest, rows_in}
+use Rattle.message_diff.specs.Trees.{Forest, leaves_under}
 use Rattle.message_diff.specs.declared.desk.Pair.{Pair}
 use Rattle.message_diff.specs.declared.snapshot.Compared.{Compared}
 use Rattle.message_diff.specs.declared.snapshot.Compared.TheVariants.{State, Message, LenientState, LenientMessage}
@@ -187,7 +187,7 @@ module _ (shown : ShownByOrder) (a b old new : List ℕ) (pair : Pair) (told : L
 pub all_is_told_by : ShownByOrder → ComparedIsCanonical → AllIsToldBy
 all_is_told_by shown canonical by a b old new pair told cx other f g of short short_too tree tree_too =
     let are = of.are_told in
-    let same : are.found ≡ diffs (rows_in [] f) (rows_in [] g) =
+    let same : are.found ≡ diffs (leaves_under [] f) (leaves_under [] g) =
     tells shown a b old new pair told cx other f g short short_too tree tree_too canonical by of are.found are.differ in
     record {
       left = are.left;

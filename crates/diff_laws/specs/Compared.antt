@@ -10,7 +10,7 @@ use Rattle.message_diff.specs.Differences.{AreDiffs, Diff, diffs}
 use Rattle.message_diff.specs.Frames.{frames_of}
 use Rattle.message_diff.specs.Parts.{are_single, family_of, named_in}
 use Rattle.message_diff.specs.Shown.{AreCompared, leaves_of}
-use Rattle.message_diff.specs.Trees.{Forest, rows_in}
+use Rattle.message_diff.specs.Trees.{Forest, leaves_under}
 use Rattle.message_diff.specs.declared.desk.Pair.{Pair}
 use Rattle.diff_laws.specs.Good.{IsShort, IsShortOf}
 use Rattle.diff_laws.specs.LeftOut.{IsCanonical, IsTree}
@@ -27,7 +27,7 @@ pub record ArePaired (orders : Order × Order) (old new : List ℕ) (pair : Pair
 -- what is found to differ between the rows that were taken is what differs between all rows of the trees
 abbrev pub TellsAll : Pair → Forest → Forest → Type 0
 TellsAll pair f g = (found : List Diff) → AreDiffs (leaves_of pair.old) (leaves_of pair.new) found
-    → found ≡ diffs (rows_in [] f) (rows_in [] g)
+    → found ≡ diffs (leaves_under [] f) (leaves_under [] g)
 
 -- of canonical messages
 abbrev pub AllIsTold : Type 0

@@ -22,7 +22,7 @@ use Rattle.message_shown.specs.declared.context.Order.{Order}
 use Rattle.shown.specs.Drafts.{Members, object_of}
 use Rattle.message_diff.specs.Differences.{diffs}
 use Rattle.message_diff.specs.Listed.{AreApart}
-use Rattle.message_diff.specs.Trees.{Forest, IsGood, IsLabel, beside, rows_in}
+use Rattle.message_diff.specs.Trees.{Forest, IsGood, IsLabel, beside, leaves_under}
 use Rattle.diff_laws.specs.Leniently.{AreTreesOf, HavePartsLeniently, IsTreeOf}
 use Rattle.diff_laws.specs.LeftOut.{AreTrees, HaveParts, IsTree, part_of}
 
@@ -111,7 +111,7 @@ GoodChangesStay =
     (cx : Context) (old new : List ℕ) (m n : LinkMessage) (f g few less : Forest) → AreNamed cx
     → IsShort (message_members cx old m) → IsShort (message_members cx new n) → HaveParts old new m n
     → AreTrees cx old new m n f g few less
-    → diffs (beside [] few less) (beside [] less few) ≡ diffs (rows_in [] f) (rows_in [] g)
+    → diffs (beside [] few less) (beside [] less few) ≡ diffs (leaves_under [] f) (leaves_under [] g)
 
 -- ** of messages that are read leniently
 
@@ -131,4 +131,4 @@ abbrev pub LenientGoodChangesStay : Type 0
 LenientGoodChangesStay =
     (cx : Context) (old new : List ℕ) (m n : LinkMessage) (f g few less : Forest) → AreNamed cx
     → IsShortOf cx old → IsShortOf cx new → HavePartsLeniently old new m n → AreTreesOf cx old new f g few less
-    → diffs (beside [] few less) (beside [] less few) ≡ diffs (rows_in [] f) (rows_in [] g)
+    → diffs (beside [] few less) (beside [] less few) ≡ diffs (leaves_under [] f) (leaves_under [] g)

@@ -16,7 +16,7 @@ use Rattle.message_diff.specs.Parts.{family_of, have_parts, part}
 use Rattle.message_diff.specs.Differences.{diffs}
 use Rattle.message_diff.specs.Frames.{frames_of}
 use Rattle.message_diff.specs.Marked.{AreMarksOf}
-use Rattle.message_diff.specs.Trees.{Forest, IsGood, beside, members_forest, rows_in}
+use Rattle.message_diff.specs.Trees.{Forest, IsGood, beside, leaves_under, members_forest}
 
 -- ** trees
 
@@ -99,4 +99,4 @@ ChangesStay =
     → HaveParts old new m n
     → AreTrees cx old new m n f g few less
     → IsGood inside_by f → IsGood inside_by g
-    → diffs (beside [] few less) (beside [] less few) ≡ diffs (rows_in [] f) (rows_in [] g)
+    → diffs (beside [] few less) (beside [] less few) ≡ diffs (leaves_under [] f) (leaves_under [] g)

@@ -10,7 +10,7 @@ use Rattle.message_shown.specs.Raw.{lenient_members}
 use Rattle.message_shown.specs.declared.context.Context.{Context}
 use Rattle.message_diff.specs.Differences.{diffs}
 use Rattle.message_diff.specs.Parts.{have_parts}
-use Rattle.message_diff.specs.Trees.{Forest, IsGood, beside, rows_in}
+use Rattle.message_diff.specs.Trees.{Forest, IsGood, beside, leaves_under}
 use Rattle.diff_laws.specs.LeftOut.{IsTree, part_of}
 
 -- the tree of what is shown of bytes: of what they mean, or mean leniently
@@ -66,4 +66,4 @@ LenientChangesStay =
     → HavePartsLeniently old new m n
     → AreTreesOf cx old new f g few less
     → IsGood inside_by f → IsGood inside_by g
-    → diffs (beside [] few less) (beside [] less few) ≡ diffs (rows_in [] f) (rows_in [] g)
+    → diffs (beside [] few less) (beside [] less few) ≡ diffs (leaves_under [] f) (leaves_under [] g)

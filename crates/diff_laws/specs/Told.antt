@@ -8,7 +8,7 @@ use Rattle.message_diff.specs.Changed.{AreTold, told_diffs}
 use Rattle.message_diff.specs.Compared.{HasTextBy, with_counters}
 use Rattle.message_diff.specs.Counted.{IsLeftBy}
 use Rattle.message_diff.specs.Differences.{Diff, diffs}
-use Rattle.message_diff.specs.Trees.{Forest, rows_in}
+use Rattle.message_diff.specs.Trees.{Forest, leaves_under}
 use Rattle.message_diff.specs.declared.desk.Pair.{Pair}
 use Rattle.message_diff.specs.declared.snapshot.Compared.{Compared}
 use Rattle.message_diff.specs.declared.snapshot.Compared.TheVariants.{State, Message, LenientState, LenientMessage}
@@ -70,4 +70,4 @@ AllIsToldBy =
     (by : Compared) (a b old new : List ℕ) (pair : Pair) (told : List Diff) (cx other : Context) (f g : Forest)
     → IsToldOf by a b old new pair told cx other → IsShortOf cx old → IsShortOf other new → IsTreeOf cx old f
     → IsTreeOf other new g
-    → AreToldOf by pair old new (diffs (rows_in [] f) (rows_in [] g)) told
+    → AreToldOf by pair old new (diffs (leaves_under [] f) (leaves_under [] g)) told

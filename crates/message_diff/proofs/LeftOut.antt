@@ -1,6 +1,6 @@
 -- Attributes that are the same in two messages may be left out of both. What is shown of one depends on itself alone,
--- in messages of one family whose addresses are as long and whose counters have one order: so the rows of two parts are
--- those of the messages.
+-- in messages of one family whose addresses are as long and whose counters have one order: so the leaves of two parts
+-- are those of the messages.
 use Rattle.std.proofs.Common.{◌≡◌, ◌≢◌, ℕ, Bool, true, false, List, [], ◌∷◌, ◌++◌, refl, sym, ap, ◌∙◌, length, arith}
 use Rattle.std.specs.Prelude.{Option, Some, None, ◌==◌, ◌&&◌, ◌||◌, cond, not}
 use Rattle.std.specs.List.{AllByRecursion, concat, filter, list_any}
@@ -12,7 +12,7 @@ use Rattle.message_diff.specs.Known.{is_text}
 use Rattle.message_diff.specs.Differences.{Leaf, Diff, diffs}
 use Rattle.message_diff.specs.Parts.{is_kept, kept_in, named_in, has_number, frame_at, are_single, stays, is_taken}
 use Rattle.message_diff.specs.Parts.{unless_same}
-use Rattle.message_diff.specs.Trees.{Forest, joined, find_tree, leaf_or, one_beside, beside, rows_in, IsGood}
+use Rattle.message_diff.specs.Trees.{Forest, joined, find_tree, leaf_or, one_beside, beside, leaves_under, IsGood}
 use Rattle.message_diff.proofs.PartFrames.{IsSome}
 use Rattle.message_diff.proofs.Taken.{taken_is}
 
@@ -301,36 +301,36 @@ module _ (family : AddressFamily) (s : Showing family) where
     find_same f is at takes =
         find_all f is ∙ same_found f (frame_at news (frame_number f)) refl at takes ∙ sym (find_few f is)
 
-    abbrev rows_of : List ℕ → Option (List ℕ × Forest) → List Leaf
-    rows_of f found =
+    abbrev leaves_for : List ℕ → Option (List ℕ × Forest) → List Leaf
+    leaves_for f found =
         one_beside (joined path (s.label (frame_number f))) (s.text f) (s.inside f)
         (beside (joined path (s.label (frame_number f))) (s.inside f)) found
 
-    -- one that is left out has no rows
+    -- one that is left out has no leaves
     left_same : (f : List ℕ) → IsSome f → is_kept family f ≡ false → is_taken news f ≡ false
-        → rows_of f (find_tree (s.label (frame_number f)) all) ≡ []
+        → leaves_for f (find_tree (s.label (frame_number f)) all) ≡ []
     left_same f some is left =
         let both = or_parts (stays f) (not (is_text f (frame_at news (frame_number f)))) left in
         let same : f ≡ frame_at news (frame_number f) =
         (bytes_eq-Decides f (frame_at news (frame_number f))).0
         (not-false (is_text f (frame_at news (frame_number f))) both.1) in
-        ap (rows_of f) (find_all f is ∙ ap found_as (sym same) ∙ found_some f some)
+        ap (leaves_for f) (find_all f is ∙ ap found_as (sym same) ∙ found_some f some)
         ∙ ap (λ b. cond b [] (leaf_or (joined path (s.label (frame_number f))) (s.text f) (s.inside f)
         (beside (joined path (s.label (frame_number f))) (s.inside f) (s.inside f)))) (text_is (s.text f))
 
-    rows_same : (fs : List (List ℕ)) (later less : Forest) → AllByRecursion IsNamed fs
+    leaves_same : (fs : List (List ℕ)) (later less : Forest) → AllByRecursion IsNamed fs
         → AllByRecursion (IsAt olds) fs → beside path later all ≡ beside path less few
         → beside path (trees fs later) all ≡ beside path (trees (filter (is_taken news) fs) less) few
-    rows_same [] later less named at same = same
-    rows_same (f ∷ fs) later less named at same =
-        by (is_taken news f) refl (rows_same fs later less named.1 at.1 same)
+    leaves_same [] later less named at same = same
+    leaves_same (f ∷ fs) later less named at same =
+        by (is_taken news f) refl (leaves_same fs later less named.1 at.1 same)
       where
         by : (b : Bool) → is_taken news f ≡ b
             → beside path (trees fs later) all ≡ beside path (trees (filter (is_taken news) fs) less) few
-            → (rows_of f (find_tree (s.label (frame_number f)) all) ++ beside path (trees fs later) all)
+            → (leaves_for f (find_tree (s.label (frame_number f)) all) ++ beside path (trees fs later) all)
             ≡ beside path
             (trees (cond b (f ∷ filter (is_taken news) fs) (filter (is_taken news) fs)) less) few
-        by true h rest = λ i. rows_of f (find_same f named.0.1 at.0 h i) ++ rest i
+        by true h rest = λ i. leaves_for f (find_same f named.0.1 at.0 h i) ++ rest i
         by false h rest = λ i. left_same f named.0.0 named.0.1 h i ++ rest i
 
     abbrev own_kept : List ℕ
@@ -351,8 +351,8 @@ module _ (family : AddressFamily) (s : Showing family) where
         ∙ find_last (filter (is_taken olds) news) (unless_same other_kept own_kept)
         (all_pass IsNamed (is_taken olds) news other_named)
 
-    abbrev rows_by : List ℕ → Option (List ℕ × Forest) → List Leaf
-    rows_by k found =
+    abbrev leaves_by : List ℕ → Option (List ℕ × Forest) → List Leaf
+    leaves_by k found =
         one_beside (joined path s.last_label) (s.last_text k) (s.last_inside k)
         (beside (joined path s.last_label) (s.last_inside k)) found ++ []
 
@@ -372,7 +372,7 @@ module _ (family : AddressFamily) (s : Showing family) where
             let found : find_tree s.last_label all ≡ Some (s.last_text (x ∷ k), s.last_inside (x ∷ k)) =
             last_all ∙ ap (λ t. find_tree s.last_label (last_tree t)) same
             ∙ ap (λ b. cond b (Some (s.last_text (x ∷ k), s.last_inside (x ∷ k))) None) (text_is s.last_label) in
-            ap (rows_by (x ∷ k)) found
+            ap (leaves_by (x ∷ k)) found
             ∙ ap (λ b. cond b [] (leaf_or (joined path s.last_label) (s.last_text (x ∷ k)) (s.last_inside (x ∷ k))
             (beside (joined path s.last_label) (s.last_inside (x ∷ k)) (s.last_inside (x ∷ k)))) ++ [])
             (text_is (s.last_text (x ∷ k)))
@@ -380,7 +380,8 @@ module _ (family : AddressFamily) (s : Showing family) where
             let there : unless_same other_kept own_kept ≡ other_kept =
             ap (λ b. cond b [] other_kept) (text_back other_kept own_kept
             ∙ ap (λ t. is_text t other_kept) (sym is) ∙ h) in
-            ap (rows_by (x ∷ k)) (last_all ∙ ap (λ t. find_tree s.last_label (last_tree t)) (sym there) ∙ sym last_few)
+            ap (leaves_by (x ∷ k))
+            (last_all ∙ ap (λ t. find_tree s.last_label (last_tree t)) (sym there) ∙ sym last_few)
 
     last_same : beside path (last_tree own_kept) all
         ≡ beside path (last_tree (unless_same own_kept other_kept)) few
@@ -390,17 +391,17 @@ module _ (family : AddressFamily) (s : Showing family) where
         → beside path (followed f later) all ≡ beside path (followed f less) few
     heads_same Forest.none later less are same = same
     heads_same (Forest.tree label text inside rest) later less are same =
-        let rows = heads_same rest later less are.1 same in
+        let rest_same = heads_same rest later less are.1 same in
         let found : find_tree label all ≡ find_tree label few =
         found_front label others_head (trees news (last_tree other_kept)) are.0.0 are.0.1
         ∙ sym (found_front label others_head
         (trees (filter (is_taken olds) news) (last_tree (unless_same other_kept own_kept))) are.0.0 are.0.1) in
-        λ i. one_beside (joined path label) text inside (beside (joined path label) inside) (found i) ++ rows i
+        λ i. one_beside (joined path label) text inside (beside (joined path label) inside) (found i) ++ rest_same i
 
-    -- the rows of the parts are those of the messages
+    -- the leaves of the parts are those of the messages
     pub parts_same : beside path (whole_tree head own) all ≡ beside path (part_tree head own other) few
     parts_same = heads_same head _ _ among
-        (rows_same olds (last_tree own_kept) (last_tree (unless_same own_kept other_kept)) own_named
+        (leaves_same olds (last_tree own_kept) (last_tree (unless_same own_kept other_kept)) own_named
         (all_at olds own_single) last_same)
 
 -- ** what differs
@@ -427,7 +428,7 @@ all_named family s (f ∷ fs) some = by (is_kept family f) refl (all_named famil
     by true h rest = rest
     by false h rest = ((some.0, h), rest)
 
--- the rows that the parts do not have in common are those that the messages do not have in common
+-- the leaves that the parts do not have in common are those that the messages do not have in common
 pub parts_beside : (family : AddressFamily) (s : Showing family) (head others_head : Forest)
     (own other : List (List ℕ)) → AreTwo family s head others_head own other
     → beside [] (part_tree family s head own other) (part_tree family s others_head other own)
@@ -456,7 +457,7 @@ pub parts_differ : (family : AddressFamily) (s : Showing family) (head others_he
     → IsGood by (whole_tree family s head own) → IsGood by (whole_tree family s others_head other)
     → diffs (beside [] (part_tree family s head own other) (part_tree family s others_head other own))
     (beside [] (part_tree family s others_head other own) (part_tree family s head own other))
-    ≡ diffs (rows_in [] (whole_tree family s head own)) (rows_in [] (whole_tree family s others_head other))
+    ≡ diffs (leaves_under [] (whole_tree family s head own)) (leaves_under [] (whole_tree family s others_head other))
 parts_differ family s head others_head own other by two good good_too =
     (λ i. diffs (parts_beside family s head others_head own other two i)
     (parts_beside family s others_head head other own (turned family s head others_head own other two) i))

@@ -1,4 +1,4 @@
--- The paths of rows at their places.
+-- The paths of leaves at their places.
 use Rattle.std.proofs.Common.{◌≡◌, ◌≢◌, ◌<◌, ◌≤◌, ◌+◌, ◌-◌, ℕ, zero, suc, List, [], ◌∷◌, length, refl, sym, ap, ◌∙◌}
 use Rattle.std.proofs.Common.{Bool, arith, false, get_or, map, subst, take, true}
 use Rattle.std.specs.Prelude.{◌==◌, ◌||◌, cond}
@@ -10,8 +10,8 @@ use Rattle.std.proofs.lemmas.Slice.Eq.{bytes_eq-Decides}
 use Rattle.std.proofs.lemmas.Bool.Decides.{nat_tests}
 use Rattle.std.proofs.lemmas.List.FromFn.{get_or-map-range_with_len, length-map-range_with_len}
 use Rattle.shown.specs.declared.marks.Mark.{Mark}
-use Rattle.message_diff.specs.declared.rows.Rows.{Rows}
-use Rattle.message_diff.specs.declared.rows.Spot.{Spot}
+use Rattle.message_diff.specs.declared.leaves.Leaves.{Leaves}
+use Rattle.message_diff.specs.declared.leaves.Spot.{Spot}
 use Rattle.message_diff.specs.Counted.{paths_of}
 use Rattle.message_diff.specs.Differences.{has_path}
 use Rattle.message_diff.specs.Known.{is_text}
@@ -22,40 +22,41 @@ use Rattle.message_diff.specs.Paths.{end_in, part_of, path_in, paths_in, start_i
 abbrev pub is_path : List ℕ → List ℕ → Bool
 is_path path p = is_text p path
 
-many_is : (rows : Rows) → length (paths_in rows) ≡ length rows.spots.items
-many_is rows = length-map-range_with_len (path_in rows.paths.items rows.spots.items) 0 (length rows.spots.items)
+many_is : (leaves : Leaves) → length (paths_in leaves) ≡ length leaves.spots.items
+many_is leaves = length-map-range_with_len (path_in leaves.paths.items leaves.spots.items) 0 (length leaves.spots.items)
 
-path_at : (rows : Rows) (k : ℕ) (d : List ℕ) → k < length rows.spots.items
-    → get_or (paths_in rows) k d ≡ path_in rows.paths.items rows.spots.items k
-path_at rows k d within =
-    get_or-map-range_with_len (path_in rows.paths.items rows.spots.items) 0 (length rows.spots.items) k k d within
+path_at : (leaves : Leaves) (k : ℕ) (d : List ℕ) → k < length leaves.spots.items
+    → get_or (paths_in leaves) k d ≡ path_in leaves.paths.items leaves.spots.items k
+path_at leaves k d within =
+    get_or-map-range_with_len (path_in leaves.paths.items leaves.spots.items) 0 (length leaves.spots.items) k k d within
     (omega arith)
 
 -- the path at a place is one of them
-pub has_here : (rows : Rows) (k : ℕ) (path : List ℕ) → k < length rows.spots.items
-    → path_in rows.paths.items rows.spots.items k ≡ path → has_path (paths_in rows) path ≡ true
-has_here rows k path within is =
-    list_any_at (is_path path) (paths_in rows) k path (omega (arith, within, many_is rows))
-    ((bytes_eq-Decides (get_or (paths_in rows) k path) path).1 (path_at rows k path within ∙ is))
+pub has_here : (leaves : Leaves) (k : ℕ) (path : List ℕ) → k < length leaves.spots.items
+    → path_in leaves.paths.items leaves.spots.items k ≡ path → has_path (paths_in leaves) path ≡ true
+has_here leaves k path within is =
+    list_any_at (is_path path) (paths_in leaves) k path (omega (arith, within, many_is leaves))
+    ((bytes_eq-Decides (get_or (paths_in leaves) k path) path).1 (path_at leaves k path within ∙ is))
 
 -- one more that is another
-pub lacks_here : (rows : Rows) (k : ℕ) (path : List ℕ) → k < length rows.spots.items
-    → path_in rows.paths.items rows.spots.items k ≢ path → list_any (is_path path) (take k (paths_in rows)) ≡ false
-    → list_any (is_path path) (take (k + 1) (paths_in rows)) ≡ false
-lacks_here rows k path within other before =
-    list_any_more (is_path path) (paths_in rows) k path (omega (arith, within, many_is rows))
-    ∙ (λ i. before i || no (is_text (get_or (paths_in rows) k path) path)
-    (bytes_eq-Decides (get_or (paths_in rows) k path) path) i)
+pub lacks_here : (leaves : Leaves) (k : ℕ) (path : List ℕ) → k < length leaves.spots.items
+    → path_in leaves.paths.items leaves.spots.items k ≢ path
+    → list_any (is_path path) (take k (paths_in leaves)) ≡ false
+    → list_any (is_path path) (take (k + 1) (paths_in leaves)) ≡ false
+lacks_here leaves k path within other before =
+    list_any_more (is_path path) (paths_in leaves) k path (omega (arith, within, many_is leaves))
+    ∙ (λ i. before i || no (is_text (get_or (paths_in leaves) k path) path)
+    (bytes_eq-Decides (get_or (paths_in leaves) k path) path) i)
   where
-    no : (b : Bool) → Decides b (get_or (paths_in rows) k path ≡ path) → b ≡ false
+    no : (b : Bool) → Decides b (get_or (paths_in leaves) k path ≡ path) → b ≡ false
     no false d = refl
-    no true d = absurd (other (sym (path_at rows k path within) ∙ d.0 refl))
+    no true d = absurd (other (sym (path_at leaves k path within) ∙ d.0 refl))
 
-pub lacks_all : (rows : Rows) (k : ℕ) (path : List ℕ) → length rows.spots.items ≤ k
-    → list_any (is_path path) (take k (paths_in rows)) ≡ false → has_path (paths_in rows) path ≡ false
-lacks_all rows k path over before =
+pub lacks_all : (leaves : Leaves) (k : ℕ) (path : List ℕ) → length leaves.spots.items ≤ k
+    → list_any (is_path path) (take k (paths_in leaves)) ≡ false → has_path (paths_in leaves) path ≡ false
+lacks_all leaves k path over before =
     subst (λ (ps : List (List ℕ)). list_any (is_path path) ps ≡ false)
-    (take_all k (paths_in rows) (omega (arith, over, many_is rows))) before
+    (take_all k (paths_in leaves) (omega (arith, over, many_is leaves))) before
 
 -- ** the same beside their values
 
@@ -87,10 +88,11 @@ paths_from paths text ms f (s ∷ ss) start at is =
     ∙ ap (λ from. part_of paths from (end_in ss k)) (next_start s ss k)) in
     λ i. sym first i ∷ later i
 
-pub paths_are : (text : List ℕ) (ms : List Mark) (rows : Rows) → paths_of (leaves_in text ms rows) ≡ paths_in rows
-paths_are text ms rows =
-    let paths = rows.paths.items in
-    let ss = rows.spots.items in
+pub paths_are : (text : List ℕ) (ms : List Mark) (leaves : Leaves)
+    → paths_of (leaves_in text ms leaves) ≡ paths_in leaves
+paths_are text ms leaves =
+    let paths = leaves.paths.items in
+    let ss = leaves.spots.items in
     paths_from paths text ms (path_in paths ss) ss 0 0 (λ k h.
     let here : 0 + k ≡ k = omega arith in
     ap (path_in paths ss) here ∙ ap (λ from. part_of paths from (end_in ss k)) (start_is ss k))

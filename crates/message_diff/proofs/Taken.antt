@@ -6,18 +6,18 @@ use Rattle.std.specs.Bool.{Decides}
 use Rattle.std.proofs.lemmas.Bool.Decides.{Decides-and}
 use Rattle.std.proofs.lemmas.List.{append_cancel_left}
 use Rattle.message_diff.specs.Differences.{Leaf, Diff, diffs, AreDiffs, Has, HasOneEach}
-use Rattle.message_diff.specs.Trees.{Forest, joined, rows_in, find_tree, beside, has_leaf, IsLabel, IsGood}
+use Rattle.message_diff.specs.Trees.{Forest, joined, leaves_under, find_tree, beside, has_leaf, IsLabel, IsGood}
 use Rattle.message_diff.proofs.Without.{without, AreShared, left_out, one_still}
-use Rattle.message_diff.proofs.Trees.{before, joined_is, joined_some, cut_same, has_split, rows_of, behind, row_of}
+use Rattle.message_diff.proofs.Trees.{before, joined_is, joined_some, cut_same, has_split, leaves_at, behind, member_of}
 use Rattle.message_diff.proofs.Trees.{beside_is}
 use Rattle.message_diff.proofs.Trees.{has_decides, without_same}
 
--- rows of a member and of one with another label have no path in common
+-- leaves of a member and of one with another label have no path in common
 apart : (by : List ℕ → Forest) (rest inside : Forest) (path label text p v w : List ℕ) → IsLabel label
-    → find_tree label rest ≡ None → IsGood by rest → Has (rows_of (joined path label) text inside) p v
-    → Has (rows_in path rest) p w → ⊥
+    → find_tree label rest ≡ None → IsGood by rest → Has (leaves_at (joined path label) text inside) p v
+    → Has (leaves_under path rest) p w → ⊥
 apart by rest inside path label text p v w is_label none good h k =
-    let e = row_of by rest path p w good k in
+    let e = member_of by rest path p w good k in
     let b = behind (joined path label) text p v inside (joined_some path label is_label.0) h in
     let c = behind (joined path e.label) e.text p w e.inside (joined_some path e.label e.is_label.0) e.has in
     let both : before path ++ (label ++ b.0) ≡ before path ++ (e.label ++ c.0) =
@@ -29,22 +29,22 @@ apart by rest inside path label text p v w is_label none good h k =
     let clash : None ≡ Some (e.text, e.inside) = sym none ∙ ap (λ l. find_tree l rest) same ∙ e.found in absurd cc
 
 -- each path has one value
-pub one_each : (by : List ℕ → Forest) (f : Forest) (path : List ℕ) → IsGood by f → HasOneEach (rows_in path f)
+pub one_each : (by : List ℕ → Forest) (f : Forest) (path : List ℕ) → IsGood by f → HasOneEach (leaves_under path f)
 one_each by Forest.none path good p v w h k = absurd h
 one_each by (Forest.tree label text inside rest) path good p v w h k =
     both inside (one_each by inside (joined path label) good.3 p v w) (one_each by rest path good.4 p v w)
     (apart by rest inside path label text p v w good.0 good.1 good.4)
     (apart by rest inside path label text p w v good.0 good.1 good.4)
-    (has_split (rows_of (joined path label) text inside) (rows_in path rest) p v h)
-    (has_split (rows_of (joined path label) text inside) (rows_in path rest) p w k)
+    (has_split (leaves_at (joined path label) text inside) (leaves_under path rest) p v h)
+    (has_split (leaves_at (joined path label) text inside) (leaves_under path rest) p w k)
   where
     both : (i : Forest)
-        → (Has (rows_in (joined path label) i) p v → Has (rows_in (joined path label) i) p w → v ≡ w)
-        → (Has (rows_in path rest) p v → Has (rows_in path rest) p w → v ≡ w)
-        → (Has (rows_of (joined path label) text i) p v → Has (rows_in path rest) p w → ⊥)
-        → (Has (rows_of (joined path label) text i) p w → Has (rows_in path rest) p v → ⊥)
-        → Has (rows_of (joined path label) text i) p v ⊎ Has (rows_in path rest) p v
-        → Has (rows_of (joined path label) text i) p w ⊎ Has (rows_in path rest) p w → v ≡ w
+        → (Has (leaves_under (joined path label) i) p v → Has (leaves_under (joined path label) i) p w → v ≡ w)
+        → (Has (leaves_under path rest) p v → Has (leaves_under path rest) p w → v ≡ w)
+        → (Has (leaves_at (joined path label) text i) p v → Has (leaves_under path rest) p w → ⊥)
+        → (Has (leaves_at (joined path label) text i) p w → Has (leaves_under path rest) p v → ⊥)
+        → Has (leaves_at (joined path label) text i) p v ⊎ Has (leaves_under path rest) p v
+        → Has (leaves_at (joined path label) text i) p w ⊎ Has (leaves_under path rest) p w → v ≡ w
     both i inner later a b (inr x) (inr y) = later x y
     both i inner later a b (inl x) (inr y) = absurd (a x y)
     both i inner later a b (inr x) (inl y) = absurd (b y x)
@@ -77,10 +77,10 @@ true_and a false h = absurd cc
 
 -- what differs of what either has of its own is what differs of both
 pub taken_is : (by : List ℕ → Forest) (f g : Forest) → IsGood by f → IsGood by g
-    → diffs (beside [] f g) (beside [] g f) ≡ diffs (rows_in [] f) (rows_in [] g)
+    → diffs (beside [] f g) (beside [] g f) ≡ diffs (leaves_under [] f) (leaves_under [] g)
 taken_is by f g good good_too =
-    let old : List Leaf = rows_in [] f in
-    let new : List Leaf = rows_in [] g in
+    let old : List Leaf = leaves_under [] f in
+    let new : List Leaf = leaves_under [] g in
     let own : beside [] f g ≡ without (in_both old new) old =
     beside_is by f g [] good good_too
     ∙ without_same (has_leaf new) (in_both old new) old (λ p v h.
@@ -94,10 +94,10 @@ taken_is by f g good good_too =
 
 -- so are the changes that are found between the two
 pub taken_differ : (by : List ℕ → Forest) (f g : Forest) (found : List Diff) → IsGood by f → IsGood by g
-    → AreDiffs (beside [] f g) (beside [] g f) found → found ≡ diffs (rows_in [] f) (rows_in [] g)
+    → AreDiffs (beside [] f g) (beside [] g f) found → found ≡ diffs (leaves_under [] f) (leaves_under [] g)
 taken_differ by f g found good good_too h =
-    let test : Leaf → Bool = has_leaf (rows_in [] f) in
+    let test : Leaf → Bool = has_leaf (leaves_under [] f) in
     let one : HasOneEach (beside [] g f) =
     subst (λ (ls : List Leaf). HasOneEach ls) (sym (beside_is by g f [] good_too good))
-    (one_still test (rows_in [] g) (one_each by g [] good_too)) in
+    (one_still test (leaves_under [] g) (one_each by g [] good_too)) in
     h.one one ∙ taken_is by f g good good_too

@@ -8,7 +8,7 @@ use Rattle.std.proofs.lemmas.List.{append_cancel_left}
 use Rattle.std.proofs.lemmas.Slice.Eq.{bytes_eq-Decides}
 use Rattle.message_diff.specs.Known.{is_text}
 use Rattle.message_diff.specs.Differences.{Leaf, Has}
-use Rattle.message_diff.specs.Trees.{Forest, joined, leaf_or, rows_in, find_tree, one_beside, beside, has_leaf}
+use Rattle.message_diff.specs.Trees.{Forest, joined, leaf_or, leaves_under, find_tree, one_beside, beside, has_leaf}
 use Rattle.message_diff.specs.Trees.{HasNoPoint, IsLabel}
 use Rattle.message_diff.specs.Trees.{IsGood}
 use Rattle.message_diff.proofs.Without.{without}
@@ -44,7 +44,7 @@ cut_same (x ∷ a) (y ∷ b) r s h k t u is =
     let head : x ≡ y = cc in
     let rest = cut_same a b r s h.1 k.1 t u cc in ((λ i. head i ∷ rest.0 i), rest.1)
 
--- ** rows of members
+-- ** leaves of members
 
 pub has_split : (xs ys : List Leaf) (p v : List ℕ) → Has (xs ++ ys) p v → Has xs p v ⊎ Has ys p v
 has_split [] ys p v h = inr h
@@ -64,42 +64,43 @@ has_right : (xs ys : List Leaf) (p v : List ℕ) → Has ys p v → Has (xs ++ y
 has_right [] ys p v h = h
 has_right (x ∷ xs) ys p v h = inr (has_right xs ys p v h)
 
--- the rows of one member at its path
-abbrev pub rows_of : List ℕ → List ℕ → Forest → List Leaf
-rows_of path text inside = leaf_or path text inside (rows_in path inside)
+-- the leaves of one member at its path
+abbrev pub leaves_at : List ℕ → List ℕ → Forest → List Leaf
+leaves_at path text inside = leaf_or path text inside (leaves_under path inside)
 
--- rows stand behind the path of what is around them
-rows_behind : (f : Forest) (path p v : List ℕ) → path ≢ [] → Has (rows_in path f) p v
+-- leaves stand behind the path of what is around them
+leaves_behind : (f : Forest) (path p v : List ℕ) → path ≢ [] → Has (leaves_under path f) p v
     → (rest : List ℕ) × (p ≡ path ++ 46 ∷ rest)
-rows_behind f [] p v some h = absurd (some refl)
-rows_behind Forest.none (x ∷ path) p v some h = absurd h
-rows_behind (Forest.tree label text inside rest) (x ∷ path) p v some h =
-    first (rows_behind inside ((x ∷ path) ++ 46 ∷ label) p v (λ e. absurd cc)) (rows_behind rest (x ∷ path) p v some)
-    inside (has_split (rows_of ((x ∷ path) ++ 46 ∷ label) text inside) (rows_in (x ∷ path) rest) p v h)
+leaves_behind f [] p v some h = absurd (some refl)
+leaves_behind Forest.none (x ∷ path) p v some h = absurd h
+leaves_behind (Forest.tree label text inside rest) (x ∷ path) p v some h =
+    first (leaves_behind inside ((x ∷ path) ++ 46 ∷ label) p v (λ e. absurd cc))
+    (leaves_behind rest (x ∷ path) p v some) inside
+    (has_split (leaves_at ((x ∷ path) ++ 46 ∷ label) text inside) (leaves_under (x ∷ path) rest) p v h)
   where
     longer : ((tail : List ℕ) × (p ≡ ((x ∷ path) ++ 46 ∷ label) ++ 46 ∷ tail))
         → (tail : List ℕ) × (p ≡ (x ∷ path) ++ 46 ∷ tail)
     longer e = (label ++ 46 ∷ e.0, e.1 ∙ append_assoc (x ∷ path) (46 ∷ label) (46 ∷ e.0))
 
-    first : (Has (rows_in ((x ∷ path) ++ 46 ∷ label) inside) p v
+    first : (Has (leaves_under ((x ∷ path) ++ 46 ∷ label) inside) p v
         → (tail : List ℕ) × (p ≡ ((x ∷ path) ++ 46 ∷ label) ++ 46 ∷ tail))
-        → (Has (rows_in (x ∷ path) rest) p v → (tail : List ℕ) × (p ≡ (x ∷ path) ++ 46 ∷ tail))
+        → (Has (leaves_under (x ∷ path) rest) p v → (tail : List ℕ) × (p ≡ (x ∷ path) ++ 46 ∷ tail))
         → (i : Forest)
-        → Has (leaf_or ((x ∷ path) ++ 46 ∷ label) text i (rows_in ((x ∷ path) ++ 46 ∷ label) inside)) p v
-        ⊎ Has (rows_in (x ∷ path) rest) p v
+        → Has (leaf_or ((x ∷ path) ++ 46 ∷ label) text i (leaves_under ((x ∷ path) ++ 46 ∷ label) inside)) p v
+        ⊎ Has (leaves_under (x ∷ path) rest) p v
         → (tail : List ℕ) × (p ≡ (x ∷ path) ++ 46 ∷ tail)
     first in_it in_rest i (inr k) = in_rest k
     first in_it in_rest Forest.none (inl (inl k)) = (label, sym k.0)
     first in_it in_rest Forest.none (inl (inr k)) = absurd k
     first in_it in_rest (Forest.tree a b c d) (inl k) = longer (in_it k)
 
--- a row of a member stands at its path, or behind it
-pub behind : (path text p v : List ℕ) (inside : Forest) → path ≢ [] → Has (rows_of path text inside) p v
+-- a leaf of a member stands at its path, or behind it
+pub behind : (path text p v : List ℕ) (inside : Forest) → path ≢ [] → Has (leaves_at path text inside) p v
     → (tail : List ℕ) × IsTail tail × (p ≡ path ++ tail)
 behind path text p v Forest.none some (inl h) = ([], tt, sym h.0 ∙ sym (append-nil path))
 behind path text p v Forest.none some (inr h) = absurd h
 behind path text p v (Forest.tree a b c d) some h =
-    let e = rows_behind (Forest.tree a b c d) path p v some h in (46 ∷ e.0, refl, e.1)
+    let e = leaves_behind (Forest.tree a b c d) path p v some h in (46 ∷ e.0, refl, e.1)
 
 -- ** members by their labels
 
@@ -109,14 +110,14 @@ text_same a b h = (bytes_eq-Decides a b).0 h
 text_is : (a : List ℕ) → is_text a a ≡ true
 text_is a = (bytes_eq-Decides a a).1 refl
 
--- the member that a row is of
+-- the member that a leaf is of
 pub record IsOf (by : List ℕ → Forest) (path : List ℕ) (f : Forest) (p v : List ℕ) : Type 0 where
   pub label : List ℕ
   pub text : List ℕ
   pub inside : Forest
   pub is_label : IsLabel label
   pub found : find_tree label f ≡ Some (text, inside)
-  pub has : Has (rows_of (joined path label) text inside) p v
+  pub has : Has (leaves_at (joined path label) text inside) p v
 
 -- one behind another has another label
 further : (label text other : List ℕ) (inside rest : Forest) (found : List ℕ × Forest)
@@ -131,14 +132,15 @@ further label text other inside rest found none some = by (is_text label other) 
         absurd cc
     by false h = some
 
-pub row_of : (by : List ℕ → Forest) (f : Forest) (path p v : List ℕ) → IsGood by f → Has (rows_in path f) p v
+pub member_of : (by : List ℕ → Forest) (f : Forest) (path p v : List ℕ) → IsGood by f → Has (leaves_under path f) p v
     → IsOf by path f p v
-row_of by Forest.none path p v good h = absurd h
-row_of by (Forest.tree label text inside rest) path p v good h =
-    of (row_of by rest path p v good.4) (has_split (rows_of (joined path label) text inside) (rows_in path rest) p v h)
+member_of by Forest.none path p v good h = absurd h
+member_of by (Forest.tree label text inside rest) path p v good h =
+    of (member_of by rest path p v good.4)
+    (has_split (leaves_at (joined path label) text inside) (leaves_under path rest) p v h)
   where
-    of : (Has (rows_in path rest) p v → IsOf by path rest p v)
-        → Has (rows_of (joined path label) text inside) p v ⊎ Has (rows_in path rest) p v
+    of : (Has (leaves_under path rest) p v → IsOf by path rest p v)
+        → Has (leaves_at (joined path label) text inside) p v ⊎ Has (leaves_under path rest) p v
         → IsOf by path (Forest.tree label text inside rest) p v
     of later (inl k) = record {
       label = label;
@@ -158,26 +160,26 @@ row_of by (Forest.tree label text inside rest) path p v good h =
           has = e.has;
         }
 
--- rows of a member that is found are rows
-found_rows : (f : Forest) (path label text p v : List ℕ) (inside : Forest) → find_tree label f ≡ Some (text, inside)
-    → Has (rows_of (joined path label) text inside) p v → Has (rows_in path f) p v
-found_rows Forest.none path label text p v inside found h = absurd cc
-found_rows (Forest.tree other value inner rest) path label text p v inside found h =
-    by (is_text other label) refl found (found_rows rest path label text p v inside)
+-- leaves of a member that is found are leaves
+found_leaves : (f : Forest) (path label text p v : List ℕ) (inside : Forest) → find_tree label f ≡ Some (text, inside)
+    → Has (leaves_at (joined path label) text inside) p v → Has (leaves_under path f) p v
+found_leaves Forest.none path label text p v inside found h = absurd cc
+found_leaves (Forest.tree other value inner rest) path label text p v inside found h =
+    by (is_text other label) refl found (found_leaves rest path label text p v inside)
   where
     by : (b : Bool) → is_text other label ≡ b
         → cond b (Some (value, inner)) (find_tree label rest) ≡ Some (text, inside)
-        → (find_tree label rest ≡ Some (text, inside) → Has (rows_of (joined path label) text inside) p v
-        → Has (rows_in path rest) p v)
-        → Has (rows_in path (Forest.tree other value inner rest)) p v
+        → (find_tree label rest ≡ Some (text, inside) → Has (leaves_at (joined path label) text inside) p v
+        → Has (leaves_under path rest) p v)
+        → Has (leaves_under path (Forest.tree other value inner rest)) p v
     by true e k later =
         let one : (value, inner) ≡ (text, inside) = cc in
         let name : other ≡ label = text_same other label e in
-        has_left (rows_of (joined path other) value inner) (rows_in path rest) p v
-        (subst (λ (x : List ℕ × Forest). Has (rows_of (joined path other) x.0 x.1) p v) (sym one)
-        (subst (λ (l : List ℕ). Has (rows_of (joined path l) text inside) p v) (sym name) h))
+        has_left (leaves_at (joined path other) value inner) (leaves_under path rest) p v
+        (subst (λ (x : List ℕ × Forest). Has (leaves_at (joined path other) x.0 x.1) p v) (sym one)
+        (subst (λ (l : List ℕ). Has (leaves_at (joined path l) text inside) p v) (sym name) h))
     by false e k later =
-        has_right (rows_of (joined path other) value inner) (rows_in path rest) p v (later k h)
+        has_right (leaves_at (joined path other) value inner) (leaves_under path rest) p v (later k h)
 
 -- a member that is found is good
 found_good : (by : List ℕ → Forest) (f : Forest) (label text : List ℕ) (inside : Forest) → IsGood by f
@@ -194,13 +196,13 @@ found_good by (Forest.tree other value inner rest) label text inside good found 
         subst (λ (x : List ℕ × Forest). (x.1 ≡ by x.0) × IsGood by x.1) one (good.2, good.3)
     at false k later = later k
 
--- rows at the path of a label are those of its member
-row_at_label : (by : List ℕ → Forest) (g : Forest) (path label tail p v : List ℕ) → IsGood by g → IsLabel label
-    → IsTail tail → p ≡ joined path label ++ tail → Has (rows_in path g) p v
+-- leaves at the path of a label are those of its member
+leaf_at_label : (by : List ℕ → Forest) (g : Forest) (path label tail p v : List ℕ) → IsGood by g → IsLabel label
+    → IsTail tail → p ≡ joined path label ++ tail → Has (leaves_under path g) p v
     → (text : List ℕ) × (inside : Forest) × (find_tree label g ≡ Some (text, inside))
-    × Has (rows_of (joined path label) text inside) p v
-row_at_label by g path label tail p v good is_label is_tail at h =
-    let e = row_of by g path p v good h in
+    × Has (leaves_at (joined path label) text inside) p v
+leaf_at_label by g path label tail p v good is_label is_tail at h =
+    let e = member_of by g path p v good h in
     let b = behind (joined path e.label) e.text p v e.inside (joined_some path e.label e.is_label.0) e.has in
     let both : before path ++ (e.label ++ b.0) ≡ before path ++ (label ++ tail) =
     sym (append_assoc (before path) e.label b.0) ∙ ap (λ x. x ++ b.0) (sym (joined_is path e.label)) ∙ sym b.2
@@ -211,10 +213,10 @@ row_at_label by g path label tail p v good is_label is_tail at h =
       e.text,
       e.inside,
       ap (λ l. find_tree l g) (sym same) ∙ e.found,
-      subst (λ (l : List ℕ). Has (rows_of (joined path l) e.text e.inside) p v) same e.has,
+      subst (λ (l : List ℕ). Has (leaves_at (joined path l) e.text e.inside) p v) same e.has,
     )
 
--- ** whether a row stands there
+-- ** whether a leaf stands there
 
 or_decides : (a b c : Bool) (P Q R : Type 0) → Decides a P → Decides b Q → Decides c R
     → Decides ((a && b) || c) ((P × Q) ⊎ R)
@@ -285,7 +287,7 @@ without_append test (x ∷ xs) ys = by (test x) (without_append test xs ys)
 
 -- ** what others do not have
 
-beside_none : (f : Forest) (path : List ℕ) → beside path f Forest.none ≡ rows_in path f
+beside_none : (f : Forest) (path : List ℕ) → beside path f Forest.none ≡ leaves_under path f
 beside_none Forest.none path = refl
 beside_none (Forest.tree label text inside rest) path =
     (λ i. leaf_or (joined path label) text inside (beside_none inside (joined path label) i) ++ beside_none rest path i)
@@ -298,93 +300,94 @@ module _ (by : List ℕ → Forest) (g : Forest) (path label : List ℕ) (good :
   here = joined path label
 
   abbrev test : Leaf → Bool
-  test = has_leaf (rows_in path g)
+  test = has_leaf (leaves_under path g)
 
   here_some : here ≢ []
   here_some = joined_some path label is_label.0
 
-  -- a row at the label is one of what is found there
+  -- a leaf at the label is one of what is found there
   of_found : (t : List ℕ) (i : Forest) (tail p v : List ℕ) → find_tree label g ≡ Some (t, i) → IsTail tail
-      → p ≡ here ++ tail → Has (rows_in path g) p v → Has (rows_of here t i) p v
+      → p ≡ here ++ tail → Has (leaves_under path g) p v → Has (leaves_at here t i) p v
   of_found t i tail p v found is_tail at h =
-      let e = row_at_label by g path label tail p v good is_label is_tail at h in
+      let e = leaf_at_label by g path label tail p v good is_label is_tail at h in
       let one : (e.0, e.1) ≡ (t, i) = let both : Some (e.0, e.1) ≡ Some (t, i) = sym e.2 ∙ found in cc in
-      subst (λ (x : List ℕ × Forest). Has (rows_of here x.0 x.1) p v) one e.3
+      subst (λ (x : List ℕ × Forest). Has (leaves_at here x.0 x.1) p v) one e.3
 
   none_found : (text : List ℕ) (inside : Forest) → find_tree label g ≡ None
-      → leaf_or here text inside (beside here inside Forest.none) ≡ without test (rows_of here text inside)
+      → leaf_or here text inside (beside here inside Forest.none) ≡ without test (leaves_at here text inside)
   none_found text inside found =
       ap (leaf_or here text inside) (beside_none inside here)
-      ∙ sym (without_none test (rows_of here text inside) (λ p v h.
+      ∙ sym (without_none test (leaves_at here text inside) (λ p v h.
       let b = behind here text p v inside here_some h in
-      fails (test (p, v)) (Has (rows_in path g) p v) (has_decides (rows_in path g) (p, v)) (λ k.
-      let e = row_at_label by g path label b.0 p v good is_label b.1 b.2 k in
+      fails (test (p, v)) (Has (leaves_under path g) p v) (has_decides (leaves_under path g) (p, v)) (λ k.
+      let e = leaf_at_label by g path label b.0 p v good is_label b.1 b.2 k in
       let clash : None ≡ Some (e.0, e.1) = sym found ∙ e.2 in absurd cc)))
 
   equal_found : (text t : List ℕ) (inside i : Forest) → find_tree label g ≡ Some (t, i) → inside ≡ by text → t ≡ text
-      → [] ≡ without test (rows_of here text inside)
+      → [] ≡ without test (leaves_at here text inside)
   equal_found text t inside i found told same =
       let fine = found_good by g label t i good found in
       let alike : i ≡ inside = fine.0 ∙ ap by same ∙ sym told in
-      sym (without_all test (rows_of here text inside) (λ p v h.
-      (has_decides (rows_in path g) (p, v)).1 (found_rows g path label t p v i found
-      (subst (λ (x : Forest). Has (rows_of here t x) p v) (sym alike)
-      (subst (λ (x : List ℕ). Has (rows_of here x inside) p v) (sym same) h)))))
+      sym (without_all test (leaves_at here text inside) (λ p v h.
+      (has_decides (leaves_under path g) (p, v)).1 (found_leaves g path label t p v i found
+      (subst (λ (x : Forest). Has (leaves_at here t x) p v) (sym alike)
+      (subst (λ (x : List ℕ). Has (leaves_at here x inside) p v) (sym same) h)))))
 
   leaf_found : (text t : List ℕ) (i : Forest) → find_tree label g ≡ Some (t, i) → (t ≡ text → ⊥)
       → (here, text) ∷ [] ≡ without test ((here, text) ∷ [])
   leaf_found text t i found other =
       sym (without_none test ((here, text) ∷ []) (λ p v h.
-      fails (test (p, v)) (Has (rows_in path g) p v) (has_decides (rows_in path g) (p, v)) (λ k.
+      fails (test (p, v)) (Has (leaves_under path g) p v) (has_decides (leaves_under path g) (p, v)) (λ k.
       no i p v (only p v h) (of_found t i [] p v found tt (sym (only p v h).0 ∙ sym (append-nil here)) k))))
     where
       only : (p v : List ℕ) → Has ((here, text) ∷ []) p v → (here ≡ p) × (text ≡ v)
       only p v (inl h) = h
       only p v (inr h) = absurd h
 
-      no : (i : Forest) (p v : List ℕ) → (here ≡ p) × (text ≡ v) → Has (rows_of here t i) p v → ⊥
+      no : (i : Forest) (p v : List ℕ) → (here ≡ p) × (text ≡ v) → Has (leaves_at here t i) p v → ⊥
       no Forest.none p v e (inl h) = other (h.1 ∙ sym e.1)
       no Forest.none p v e (inr h) = h
       no (Forest.tree a b c d) p v e h =
-          let r = rows_behind (Forest.tree a b c d) here p v here_some h in longer here r.0 (e.0 ∙ r.1)
+          let r = leaves_behind (Forest.tree a b c d) here p v here_some h in longer here r.0 (e.0 ∙ r.1)
 
   inner_found : (t : List ℕ) (inside i : Forest) → find_tree label g ≡ Some (t, i)
-      → without (has_leaf (rows_in here i)) (rows_in here inside) ≡ without test (rows_in here inside)
+      → without (has_leaf (leaves_under here i)) (leaves_under here inside) ≡ without test (leaves_under here inside)
   inner_found t inside i found =
-      without_same (has_leaf (rows_in here i)) test (rows_in here inside) (λ p v h.
-      let r = rows_behind inside here p v here_some h in
-      agree (has_leaf (rows_in here i) (p, v)) (test (p, v)) (Has (rows_in here i) p v) (Has (rows_in path g) p v)
-      (has_decides (rows_in here i) (p, v)) (has_decides (rows_in path g) (p, v))
-      (λ k. found_rows g path label t p v i found (up i p v k))
+      without_same (has_leaf (leaves_under here i)) test (leaves_under here inside) (λ p v h.
+      let r = leaves_behind inside here p v here_some h in
+      agree (has_leaf (leaves_under here i) (p, v)) (test (p, v)) (Has (leaves_under here i) p v)
+      (Has (leaves_under path g) p v)
+      (has_decides (leaves_under here i) (p, v)) (has_decides (leaves_under path g) (p, v))
+      (λ k. found_leaves g path label t p v i found (up i p v k))
       (λ k. down i p v r (of_found t i (46 ∷ r.0) p v found refl r.1 k)))
     where
-      up : (i : Forest) (p v : List ℕ) → Has (rows_in here i) p v → Has (rows_of here t i) p v
+      up : (i : Forest) (p v : List ℕ) → Has (leaves_under here i) p v → Has (leaves_at here t i) p v
       up Forest.none p v h = absurd h
       up (Forest.tree a b c d) p v h = h
 
-      down : (i : Forest) (p v : List ℕ) → ((rest : List ℕ) × (p ≡ here ++ 46 ∷ rest)) → Has (rows_of here t i) p v
-          → Has (rows_in here i) p v
+      down : (i : Forest) (p v : List ℕ) → ((rest : List ℕ) × (p ≡ here ++ 46 ∷ rest)) → Has (leaves_at here t i) p v
+          → Has (leaves_under here i) p v
       down Forest.none p v r (inl h) = absurd (longer here r.0 (h.0 ∙ r.1))
       down Forest.none p v r (inr h) = h
       down (Forest.tree a b c d) p v r h = h
 
   unlike_found : (text t : List ℕ) (inside i : Forest) → find_tree label g ≡ Some (t, i) → (t ≡ text → ⊥)
-      → beside here inside i ≡ without (has_leaf (rows_in here i)) (rows_in here inside)
-      → leaf_or here text inside (beside here inside i) ≡ without test (rows_of here text inside)
+      → beside here inside i ≡ without (has_leaf (leaves_under here i)) (leaves_under here inside)
+      → leaf_or here text inside (beside here inside i) ≡ without test (leaves_at here text inside)
   unlike_found text t Forest.none i found other inner = leaf_found text t i found other
   unlike_found text t (Forest.tree a b c d) i found other inner =
       inner ∙ inner_found t (Forest.tree a b c d) i found
 
   member_is : (text : List ℕ) (inside : Forest) → inside ≡ by text
       → ((i : Forest) → IsGood by i
-      → beside here inside i ≡ without (has_leaf (rows_in here i)) (rows_in here inside))
+      → beside here inside i ≡ without (has_leaf (leaves_under here i)) (leaves_under here inside))
       → (found : Option (List ℕ × Forest)) → find_tree label g ≡ found
-      → one_beside here text inside (beside here inside) found ≡ without test (rows_of here text inside)
+      → one_beside here text inside (beside here inside) found ≡ without test (leaves_at here text inside)
   member_is text inside told inner None found = none_found text inside found
   member_is text inside told inner (Some (t, i)) found = at (is_text t text) refl
     where
       at : (b : Bool) → is_text t text ≡ b
-          → cond b [] (leaf_or here text inside (beside here inside i)) ≡ without test (rows_of here text inside)
+          → cond b [] (leaf_or here text inside (beside here inside i)) ≡ without test (leaves_at here text inside)
       at true e = equal_found text t inside i found told (text_same t text e)
       at false e =
           unlike_found text t inside i found
@@ -393,10 +396,11 @@ module _ (by : List ℕ → Forest) (g : Forest) (path label : List ℕ) (good :
 
 -- they are those whose path and value others do not have
 pub beside_is : (by : List ℕ → Forest) (f g : Forest) (path : List ℕ) → IsGood by f → IsGood by g
-    → beside path f g ≡ without (has_leaf (rows_in path g)) (rows_in path f)
+    → beside path f g ≡ without (has_leaf (leaves_under path g)) (leaves_under path f)
 beside_is by Forest.none g path good good_too = refl
 beside_is by (Forest.tree label text inside rest) g path good good_too =
     (λ i. member_is by g path label good_too good.0 text inside good.2
     (λ h fine. beside_is by inside h (joined path label) good.3 fine) (find_tree label g) refl i
     ++ beside_is by rest g path good.4 good_too i)
-    ∙ sym (without_append (has_leaf (rows_in path g)) (rows_of (joined path label) text inside) (rows_in path rest))
+    ∙ sym (without_append (has_leaf (leaves_under path g)) (leaves_at (joined path label) text inside)
+    (leaves_under path rest))

@@ -106,7 +106,7 @@ diff_text is_next d = print_from is_next (object_of (diff_members d))
 
 -- ** what is added
 
--- what is told between two encodings, by what is shown of the two beside each other: the changes between their rows,
+-- what is told between two encodings, by what is shown of the two beside each other: the changes between their leaves,
 -- where not all counts without the values at counters
 pub record AreTold (by : Compared) (pair : Pair) (old new : List ℕ) (told : List Diff) : Type 0 where
   pub orders : Order × Order

@@ -37,8 +37,8 @@ IsFilled true text bytes = IsPartOf (filled_message text) text bytes
 abbrev pub paths_of : List Leaf → List (List ℕ)
 paths_of leaves = map (λ leaf. leaf.0) leaves
 
--- those of the rows of a page that the page of the message filled does not have; of a part, of the rows whose paths it
--- has with another value
+-- those of the leaves of a page that the page of the message filled does not have; of a part, of the leaves whose paths
+-- it has with another value
 pub record AreFilledPaths (is_part : Bool) (half : Half) (paths : List (List ℕ)) : Type 0 where
   pub bytes : List ℕ
   pub are_filled : IsFilled is_part half.part.text.items bytes

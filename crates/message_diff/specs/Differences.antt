@@ -2,12 +2,12 @@
 use Rattle.std.specs.Prelude.{◌≡◌, ◌≢◌, ◌⊎◌, ◌==◌, ◌&&◌, ◌||◌, ℕ, List, [], ◌∷◌, ◌++◌, Bool, true, false, Option, Some}
 use Rattle.std.specs.Prelude.{None, codes, cond, map, nat_lt, not}
 use Rattle.std.specs.List.{flat_map, list_any}
-use Rattle.message_diff.specs.declared.rows.Row.{Row}
+use Rattle.message_diff.specs.declared.leaves.Leaf as held
 use Rattle.message_diff.specs.declared.differences.Change.{Change}
 use Rattle.message_diff.specs.declared.differences.Change.TheVariants.{Came, Went, Turned}
 use Rattle.message_diff.specs.Known.{is_text}
 
--- a path and the value at it
+-- a leaf: a path and the value at it
 abbrev pub Leaf : Type 0
 Leaf = List ℕ × List ℕ
 
@@ -139,13 +139,13 @@ any_old ds = list_any (λ d. may_be (old_of d)) ds
 abbrev pub any_new : List Diff → Bool
 any_new ds = list_any (λ d. may_be (new_of d)) ds
 
--- ** rows and changes
+-- ** leaves and changes
 
-abbrev pub leaf_of : Row → Leaf
-leaf_of row = (row.path.now, row.value.now)
+abbrev pub leaf_of : held.Leaf → Leaf
+leaf_of leaf = (leaf.path.now, leaf.value.now)
 
-abbrev pub leaves : List Row → List Leaf
-leaves rows = map leaf_of rows
+abbrev pub leaves : List held.Leaf → List Leaf
+leaves list = map leaf_of list
 
 abbrev pub diff_of : Change → Diff
 diff_of (Came path value) = Diff.came path.now value.now

@@ -1,10 +1,10 @@
--- Members by their marks, and rows as they are kept.
+-- Members by their marks, and leaves as they are kept.
 use Rattle.std.specs.Prelude.{◌≡◌, ◌≢◌, ◌⊎◌, ◌-◌, ◌<◌, ◌≤◌, ℕ, suc, List, [], ◌∷◌, ◌++◌, Option, None, Some}
 use Rattle.std.specs.Prelude.{Bool, length, take, drop, decimal, slice_index_or, slice_get}
 use Rattle.shown.specs.declared.marks.Mark.{Mark}
-use Rattle.message_diff.specs.declared.rows.Rows.{Rows}
-use Rattle.message_diff.specs.declared.rows.Spot.{Spot}
-use Rattle.message_diff.specs.declared.rows.Span.{Span}
+use Rattle.message_diff.specs.declared.leaves.Leaves.{Leaves}
+use Rattle.message_diff.specs.declared.leaves.Spot.{Spot}
+use Rattle.message_diff.specs.declared.leaves.Span.{Span}
 use Rattle.message_diff.specs.Differences.{Leaf}
 use Rattle.message_diff.specs.Paths.{part_of}
 use Rattle.message_diff.specs.Trees.{Forest, beside_in, find_tree, joined, label_of, leaf_or, one_in}
@@ -91,35 +91,36 @@ IsBeside few other others value found (Some span) =
     → one_in few path value inside (beside_in few path inside) found
     ≡ leaf_or path value inside (beside_in few path inside there))
 
--- ** rows: their paths stand one behind the other
+-- ** leaves: their paths stand one behind the other
 
 abbrev pub leaves_from : List ℕ → List ℕ → List Mark → ℕ → List Spot → List Leaf
 leaves_from paths text marks start [] = []
 leaves_from paths text marks start (s ∷ ss) =
     (part_of paths start s.end, value_at text marks s.mark) ∷ leaves_from paths text marks s.end ss
 
-abbrev pub leaves_in : List ℕ → List Mark → Rows → List Leaf
-leaves_in text marks rows = leaves_from rows.paths.items text marks 0 rows.spots.items
+abbrev pub leaves_in : List ℕ → List Mark → Leaves → List Leaf
+leaves_in text marks leaves = leaves_from leaves.paths.items text marks 0 leaves.spots.items
 
 -- each path ends where the next one begins, and the last one where the paths end
 abbrev pub AreChained : ℕ → List Spot → ℕ → Type 0
 AreChained start [] end = start ≡ end
 AreChained start (s ∷ ss) end = (start ≤ s.end) × AreChained s.end ss end
 
-abbrev pub IsTidy : Rows → Type 0
-IsTidy rows = AreChained 0 rows.spots.items (length rows.paths.items)
+abbrev pub IsTidy : Leaves → Type 0
+IsTidy leaves = AreChained 0 leaves.spots.items (length leaves.paths.items)
 
--- these rows were added, and the path begins as it did
-pub record AddsRows (text : List ℕ) (marks : List Mark) (old new : Rows) (more : List Leaf) : Type 0 where
+-- these leaves were added, and the path begins as it did
+pub record AddsLeaves (text : List ℕ) (marks : List Mark) (old new : Leaves) (more : List Leaf) : Type 0 where
   pub tidy : IsTidy new
-  pub rows : leaves_in text marks new ≡ leaves_in text marks old ++ more
+  pub leaves : leaves_in text marks new ≡ leaves_in text marks old ++ more
   pub path : take (length old.path.items) new.path.items ≡ old.path.items
 
 -- those of some members beside others
-abbrev pub TakesInside : Bool → List ℕ → List Mark → ℕ → ℕ → List ℕ → List Mark → ℕ → ℕ → Rows → Rows → Type 0
+abbrev pub TakesInside : Bool → List ℕ → List Mark → ℕ → ℕ → List ℕ → List Mark → ℕ → ℕ → Leaves → Leaves → Type 0
 TakesInside few text marks at end other others from to old new =
     (f : Forest) → (g : Forest) → AreApart g → IsTidy old → AreMarksOf text at (marks_in marks at end) f
-    → AreMarksOf other from (marks_in others from to) g → AddsRows text marks old new (beside_in few old.path.items f g)
+    → AreMarksOf other from (marks_in others from to) g
+    → AddsLeaves text marks old new (beside_in few old.path.items f g)
 
 -- what is inside the member at a place, behind which the next one is there
 pub record IsInside (text : List ℕ) (marks : List Mark) (at next : ℕ) (inside : Forest) : Type 0 where
@@ -128,11 +129,11 @@ pub record IsInside (text : List ℕ) (marks : List Mark) (at next : ℕ) (insid
   pub nest : suc at < next → inside ≢ Forest.none
 
 -- those of one member, beside the one that has its label
-abbrev pub TakesOne : Bool → List ℕ → List Mark → ℕ → ℕ → List ℕ → List Mark → Option ℕ → Rows → Rows → Type 0
+abbrev pub TakesOne : Bool → List ℕ → List Mark → ℕ → ℕ → List ℕ → List Mark → Option ℕ → Leaves → Leaves → Type 0
 TakesOne few text marks at next other others found old new =
     (inside : Forest) → (g : Forest) → (end : ℕ) → AreApart g → IsTidy old → IsInside text marks at next inside
     → IsFound other others end (label_in text (mark_at marks at)) g found
-    → AddsRows text marks old new
+    → AddsLeaves text marks old new
     (one_in few (joined old.path.items (label_in text (mark_at marks at))) (value_in text (mark_at marks at)) inside
     (beside_in few (joined old.path.items (label_in text (mark_at marks at))) inside)
     (find_tree (label_in text (mark_at marks at)) g))

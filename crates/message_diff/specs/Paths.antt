@@ -1,8 +1,8 @@
--- The paths of rows, which stand one behind the other.
+-- The paths of leaves, which stand one behind the other.
 use Rattle.std.specs.Prelude.{ℕ, ◌-◌, ◌==◌, nat_le, ◌&&◌, List, [], cond, length, take, drop, map, slice_index_or}
 use Rattle.std.specs.List.{range_with_len}
-use Rattle.message_diff.specs.declared.rows.Rows.{Rows}
-use Rattle.message_diff.specs.declared.rows.Spot.{Spot}
+use Rattle.message_diff.specs.declared.leaves.Leaves.{Leaves}
+use Rattle.message_diff.specs.declared.leaves.Spot.{Spot}
 
 -- the bytes from one place to before another; none where they do not lie so in the text
 abbrev pub part_of : List ℕ → ℕ → ℕ → List ℕ
@@ -18,5 +18,5 @@ start_in spots k = cond (k == 0) 0 (end_in spots (k - 1))
 abbrev pub path_in : List ℕ → List Spot → ℕ → List ℕ
 path_in text spots k = part_of text (start_in spots k) (end_in spots k)
 
-abbrev pub paths_in : Rows → List (List ℕ)
-paths_in rows = map (path_in rows.paths.items rows.spots.items) (range_with_len 0 (length rows.spots.items))
+abbrev pub paths_in : Leaves → List (List ℕ)
+paths_in leaves = map (path_in leaves.paths.items leaves.spots.items) (range_with_len 0 (length leaves.spots.items))

@@ -12,7 +12,7 @@ use Rattle.shown.specs.Drafts.{empty_object, with_members}
 use Rattle.shown.specs.Marks.{MarkedText, IsMarkedText}
 use Rattle.message_diff.specs.declared.desk.Pair.{Pair}
 use Rattle.message_diff.specs.declared.half.Half.{Half}
-use Rattle.message_diff.specs.declared.rows.Rows.{Rows}
+use Rattle.message_diff.specs.declared.leaves.Leaves.{Leaves}
 use Rattle.message_diff.specs.Differences.{Leaf}
 use Rattle.message_diff.specs.Listed.{AreApart, leaves_in}
 use Rattle.message_diff.specs.Marked.{AreMarksOf}
@@ -28,22 +28,22 @@ pub record IsShown (order : Order) (bytes : List ℕ) (page : MarkedText) : Type
   pub leniently : (m : LinkMessage) → MeansLeniently bytes m → MeansNothing bytes
       → IsMarkedText (with_members (lenient_members cx bytes m) empty_object) page
 
--- the rows are those of a page that another one does not have
-abbrev pub AreBeside : MarkedText → MarkedText → Rows → Type 0
-AreBeside own others rows =
+-- the leaves are those of a page that another one does not have
+abbrev pub AreBeside : MarkedText → MarkedText → Leaves → Type 0
+AreBeside own others leaves =
     (f : Forest) → (g : Forest) → AreApart g → AreMarksOf own.text 0 own.marks f
-    → AreMarksOf others.text 0 others.marks g → leaves_in own.text own.marks rows ≡ beside [] f g
+    → AreMarksOf others.text 0 others.marks g → leaves_in own.text own.marks leaves ≡ beside [] f g
 
 -- the same, of a part where it is one
-abbrev pub AreBesideIn : Bool → MarkedText → MarkedText → Rows → Type 0
-AreBesideIn is_part own others rows =
+abbrev pub AreBesideIn : Bool → MarkedText → MarkedText → Leaves → Type 0
+AreBesideIn is_part own others leaves =
     (f : Forest) → (g : Forest) → AreApart g → AreMarksOf own.text 0 own.marks f
-    → AreMarksOf others.text 0 others.marks g → leaves_in own.text own.marks rows ≡ beside_in is_part [] f g
+    → AreMarksOf others.text 0 others.marks g → leaves_in own.text own.marks leaves ≡ beside_in is_part [] f g
 
 -- ** two messages beside each other
 
 -- both are shown whole, or both parts where these are, which is only where their counters have one order; and of each
--- the rows are taken that the other does not have
+-- the leaves are taken that the other does not have
 pub record AreCompared (orders : Order × Order) (old new : List ℕ) (pair : Pair) : Type 0 where
   pub alike : Bool
   pub one_order : alike ≡ true → orders.0 ≡ orders.1
@@ -54,9 +54,9 @@ pub record AreCompared (orders : Order × Order) (old new : List ℕ) (pair : Pa
   pub new_order : pair.new.order ≡ orders.1
   pub old_shown : IsShown orders.0 pair.old.part.text.items pair.old.page
   pub new_shown : IsShown orders.1 pair.new.part.text.items pair.new.page
-  pub old_rows : AreBeside pair.old.page pair.new.page pair.old.rows
-  pub new_rows : AreBeside pair.new.page pair.old.page pair.new.rows
+  pub old_leaves : AreBeside pair.old.page pair.new.page pair.old.leaves
+  pub new_leaves : AreBeside pair.new.page pair.old.page pair.new.leaves
 
--- the rows of a message
+-- the leaves of a message
 abbrev pub leaves_of : Half → List Leaf
-leaves_of half = leaves_in half.page.text half.page.marks half.rows
+leaves_of half = leaves_in half.page.text half.page.marks half.leaves

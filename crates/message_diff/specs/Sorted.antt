@@ -5,7 +5,7 @@ use Rattle.std.specs.Cmp.Lexicographic.{slice_cmp}
 use Rattle.std.specs.List.Sorted.{IsPermutation, IsSorted}
 use Rattle.std.specs.Ordering.{nat_cmp}
 use Rattle.message_diff.specs.declared.lookup.Lookup.{Lookup}
-use Rattle.message_diff.specs.declared.rows.Rows.{Rows}
+use Rattle.message_diff.specs.declared.leaves.Leaves.{Leaves}
 use Rattle.message_diff.specs.Paths.{paths_in}
 
 -- the same paths, in this order
@@ -14,6 +14,7 @@ AreSorted paths sorted =
     IsPermutation paths (map (λ path. path.now) sorted)
     × IsSorted (λ one other. slice_cmp nat_cmp one.now other.now) sorted
 
--- paths are looked for in these rows: those that are sorted, if there are any, are theirs
-abbrev pub IsLookup : Rows → Lookup → Type 0
-IsLookup rows it = (it.rows.now ≡ rows) × (0 < length it.sorted.items → AreSorted (paths_in rows) it.sorted.items)
+-- paths are looked for in these leaves: those that are sorted, if there are any, are theirs
+abbrev pub IsLookup : Leaves → Lookup → Type 0
+IsLookup leaves it =
+    (it.leaves.now ≡ leaves) × (0 < length it.sorted.items → AreSorted (paths_in leaves) it.sorted.items)

@@ -1,4 +1,4 @@
--- The members of a JSON value as marks tell of them, and the paths and values of those that hold no other.
+-- The members of a JSON value as marks tell of them, and its leaves: the paths and values of those that hold no other.
 use Rattle.std.specs.Prelude.{◌≡◌, ◌≢◌, ℕ, suc, List, [], ◌∷◌, ◌++◌, decimal, Bool, Option, Some}
 use Rattle.std.specs.Prelude.{None, cond, ◌&&◌}
 use Rattle.std.specs.List.{list_any}
@@ -60,17 +60,17 @@ joined (x ∷ path) label = (x ∷ path) ++ 46 ∷ label
 
 -- of one member, by those of what is inside it
 abbrev pub leaf_or : List ℕ → List ℕ → Forest → List Leaf → List Leaf
-leaf_or path text Forest.none rows = (path, text) ∷ []
-leaf_or path text (Forest.tree label value inside rest) rows = rows
+leaf_or path text Forest.none ls = (path, text) ∷ []
+leaf_or path text (Forest.tree label value inside rest) ls = ls
 
-abbrev pub rows_in : List ℕ → Forest → List Leaf
-rows_in path Forest.none = []
-rows_in path (Forest.tree label text inside rest) =
-    leaf_or (joined path label) text inside (rows_in (joined path label) inside) ++ rows_in path rest
+abbrev pub leaves_under : List ℕ → Forest → List Leaf
+leaves_under path Forest.none = []
+leaves_under path (Forest.tree label text inside rest) =
+    leaf_or (joined path label) text inside (leaves_under (joined path label) inside) ++ leaves_under path rest
 
 -- those of an object
-abbrev pub rows : Members → List Leaf
-rows ms = rows_in [] (members_forest 0 ms)
+abbrev pub leaves_of_object : Members → List Leaf
+leaves_of_object ms = leaves_under [] (members_forest 0 ms)
 
 -- ** those that others do not have
 
@@ -82,9 +82,9 @@ find_tree label (Forest.tree other text inside rest) =
 
 -- of one member, by those of what is inside it with nothing beside, and beside what is inside the other
 abbrev pub one_beside : List ℕ → List ℕ → Forest → (Forest → List Leaf) → Option (List ℕ × Forest) → List Leaf
-one_beside path text inside rows None = leaf_or path text inside (rows Forest.none)
-one_beside path text inside rows (Some other) =
-    cond (is_text other.0 text) [] (leaf_or path text inside (rows other.1))
+one_beside path text inside taken None = leaf_or path text inside (taken Forest.none)
+one_beside path text inside taken (Some other) =
+    cond (is_text other.0 text) [] (leaf_or path text inside (taken other.1))
 
 -- what is equal beside is left out with all that is inside it
 abbrev pub beside : List ℕ → Forest → Forest → List Leaf
@@ -95,9 +95,9 @@ beside path (Forest.tree label text inside rest) others =
 
 -- the same, and of a part nothing of a member that the others lack
 abbrev pub one_in : Bool → List ℕ → List ℕ → Forest → (Forest → List Leaf) → Option (List ℕ × Forest) → List Leaf
-one_in is_part path text inside rows None = cond is_part [] (leaf_or path text inside (rows Forest.none))
-one_in is_part path text inside rows (Some other) =
-    cond (is_text other.0 text) [] (leaf_or path text inside (rows other.1))
+one_in is_part path text inside taken None = cond is_part [] (leaf_or path text inside (taken Forest.none))
+one_in is_part path text inside taken (Some other) =
+    cond (is_text other.0 text) [] (leaf_or path text inside (taken other.1))
 
 abbrev pub beside_in : Bool → List ℕ → Forest → Forest → List Leaf
 beside_in is_part path Forest.none others = []

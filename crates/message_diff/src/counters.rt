@@ -6,7 +6,7 @@ ghost use Rattle.message_diff.specs.Differences.{is_above_zero, has_zero, may_be
 ghost use Rattle.message_diff.specs.Differences.{has_path, old_of, new_of, any_old, any_new};
 ghost use Rattle.message_diff.specs.Paths.{paths_in};
 ghost use Rattle.message_diff.specs.Sorted.{IsLookup};
-ghost use Rattle.message_diff.specs.declared.rows.Rows.{Rows};
+ghost use Rattle.message_diff.specs.declared.leaves.Leaves.{Leaves};
 ghost use Rattle.message_diff.specs.Counted.{filled_by, filled_message, IsFilled, AreCounterPaths};
 ghost use Rattle.message_diff.specs.Counted.{IsWithoutCounters, IsLeftBy};
 
@@ -84,22 +84,22 @@ fn left_of<'a>(change: &Change<'a>, by_old: bool, by_new: bool) -> Option<Change
     }
 }
 
-/// Whether a value may be of zeros at the path of one of the rows.
+/// Whether a value may be of zeros at the path of one of the leaves.
 fn is_counter(
     alloc: Global,
-    rows: &mut Lookup<'_>,
+    leaves: &mut Lookup<'_>,
     path: &[u8],
     value: Option<&[u8]>,
 ) -> Result<bool, AllocError>
-    ensures is { (counters : Rows) → IsLookup counters rows.old → IfOk result (λ is.
+    ensures is { (counters : Leaves) → IsLookup counters leaves.old → IfOk result (λ is.
         is ≡ (may_be (option_map (λ value. value.now) value.entry) && has_path (paths_in counters) path.now)) }
-    ensures lookup { (counters : Rows) → IsLookup counters rows.old → IsLookup counters rows.new }
+    ensures lookup { (counters : Leaves) → IsLookup counters leaves.old → IsLookup counters leaves.new }
 {
-    Ok(may_be(value) && rows.has(alloc, path)?)
+    Ok(may_be(value) && leaves.has(alloc, path)?)
 }
 
 /// The counters of two messages, each with other bytes in the place of the zeros of its state encoding: they are the
-/// rows whose values differ then.
+/// leaves whose values differ then.
 #[derive(Drop)]
 pub struct Counters {
     filled: Vec<u8>,
@@ -138,7 +138,7 @@ fn take_text(part: &mut Part, is_part: bool, filled: &[u8], text: &[u8]) -> Resu
     part.take(filled)
 }
 
-/// Takes the rows of a message that its state encoding has at zero, where they are looked for.
+/// Takes the leaves of a message that its state encoding has at zero, where they are looked for.
 fn take_counters(
     alloc: Global,
     may_be: bool,
@@ -148,9 +148,9 @@ fn take_counters(
     counters: &mut Half,
 ) -> Result<(), AllocError>
     ensures { may_be ≡ true
-        → OnOk result (AreCounterPaths is_part of.now (paths_in counters.new.rows)) }
+        → OnOk result (AreCounterPaths is_part of.now (paths_in counters.new.leaves)) }
 {
-    counters.rows.clear();
+    counters.leaves.clear();
     if !may_be {
         return Ok(());
     }
@@ -161,7 +161,7 @@ fn take_counters(
     }
     take_text(&mut counters.part, is_part, filled.as_slice(), text)?;
     counters.show(alloc, of.order)?;
-    counters.take_rows_of(of, is_part)
+    counters.take_leaves_of(of, is_part)
 }
 
 impl Counters {
@@ -177,9 +177,9 @@ impl Counters {
     /// Takes those of the messages in which a change may be of one.
     fn take(&mut self, alloc: Global, pair: &Pair, changes: &[Change<'_>]) -> Result<(), AllocError>
         ensures old { any_old (diffs_of changes.now) ≡ true → OnOk result
-            (AreCounterPaths pair.now.is_part pair.now.old (paths_in self.exit.now.old.rows)) }
+            (AreCounterPaths pair.now.is_part pair.now.old (paths_in self.exit.now.old.leaves)) }
         ensures new { any_new (diffs_of changes.now) ≡ true → OnOk result
-            (AreCounterPaths pair.now.is_part pair.now.new (paths_in self.exit.now.new.rows)) }
+            (AreCounterPaths pair.now.is_part pair.now.new (paths_in self.exit.now.new.leaves)) }
     {
         let by_old = changes.iter().any(was_zero);
         let by_new = changes.iter().any(is_zero);
@@ -207,12 +207,12 @@ impl Counters {
         alloc: Global,
         changes: &[Change<'a>],
     ) -> Result<Vec<Change<'a>>, AllocError>
-        ensures { IfOk result (λ left. diffs_of left.items ≡ less (paths_in self.now.old.rows)
-            (paths_in self.now.new.rows) (diffs_of changes.now)) }
+        ensures { IfOk result (λ left. diffs_of left.items ≡ less (paths_in self.now.old.leaves)
+            (paths_in self.now.new.leaves) (diffs_of changes.now)) }
     {
         let mut left = Vec::with_capacity(alloc, changes.len())?;
-        let mut in_old = Lookup::new(alloc, &self.old.rows);
-        let mut in_new = Lookup::new(alloc, &self.new.rows);
+        let mut in_old = Lookup::new(alloc, &self.old.leaves);
+        let mut in_new = Lookup::new(alloc, &self.new.leaves);
         for change in changes {
             let by_old = is_counter(alloc, &mut in_old, change.path(), change.old())?;
             let by_new = is_counter(alloc, &mut in_new, change.path(), change.new())?;
@@ -235,7 +235,7 @@ impl Counters {
             (diffs_of changes.entry.items) (diffs_of left.items)) }
     {
         self.take(alloc, pair, changes.as_slice())?;
-        if self.old.rows.is_empty() && self.new.rows.is_empty() {
+        if self.old.leaves.is_empty() && self.new.leaves.is_empty() {
             return Ok(changes);
         }
         self.without(alloc, changes.as_slice())

@@ -40,7 +40,7 @@ impl Desk {
 }
 
 impl Pair {
-    /// Shows what differs between two messages, and takes the rows that the other one does not have.
+    /// Shows what differs between two messages, and takes the leaves that the other one does not have.
     pub fn show(
         &mut self,
         alloc: Global,
@@ -54,7 +54,7 @@ impl Pair {
         self.is_part = take_parts(old, new, is_alike, &mut self.old.part, &mut self.new.part)?;
         self.old.show(alloc, orders.0)?;
         self.new.show(alloc, orders.1)?;
-        self.old.take_rows(&self.new)?;
-        self.new.take_rows(&self.old)
+        self.old.take_leaves(&self.new)?;
+        self.new.take_leaves(&self.old)
     }
 }

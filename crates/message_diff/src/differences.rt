@@ -5,7 +5,7 @@ ghost use Rattle.message_diff.specs.Differences.{IsValueAt, Says, AreOldDiffs, A
 ghost use Rattle.message_diff.specs.Differences.{leaf_of, leaves, diff_of, diff_in, diffs_of};
 ghost use Rattle.message_diff.specs.Differences.{path_of, old_of, new_of};
 
-use crate::rows::Row;
+use crate::leaves::Leaf;
 use std::alloc::{AllocError, Global};
 
 /// A path whose value is not the same in both.
@@ -50,50 +50,50 @@ impl<'a> Change<'a> {
     }
 }
 
-/// The value of a row with this path, which is looked for first where it is likely; the next one is likely after it.
-pub fn value_of<'a>(rows: &[Row<'a>], path: &[u8], likely: &mut usize) -> Option<&'a [u8]>
-    ensures { IsValueAt (leaves rows.now) path.now (option_map (λ value. value.now) result) }
+/// The value of a leaf with this path, which is looked for first where it is likely; the next one is likely after it.
+pub fn value_of<'a>(list: &[Leaf<'a>], path: &[u8], likely: &mut usize) -> Option<&'a [u8]>
+    ensures { IsValueAt (leaves list.now) path.now (option_map (λ value. value.now) result) }
 {
-    if *likely < rows.len() {
-        let row = &rows[*likely];
-        if row.path == path {
+    if *likely < list.len() {
+        let leaf = &list[*likely];
+        if leaf.path == path {
             *likely += 1;
-            return Some(row.value);
+            return Some(leaf.value);
         }
     }
-    for (i, row) in rows.iter().enumerate() {
-        if row.path == path {
+    for (i, leaf) in list.iter().enumerate() {
+        if leaf.path == path {
             *likely = i + 1;
-            return Some(row.value);
+            return Some(leaf.value);
         }
     }
     None
 }
 
-/// What an old row says that the new rows do not.
-fn change_of<'a>(row: &'a Row<'a>, new: &'a [Row<'a>], likely: &mut usize) -> Option<Change<'a>>
-    ensures { Says (leaves new.now) (leaf_of row.now) (diff_in result) }
+/// What an old leaf says that the new leaves do not.
+fn change_of<'a>(leaf: &'a Leaf<'a>, new: &'a [Leaf<'a>], likely: &mut usize) -> Option<Change<'a>>
+    ensures { Says (leaves new.now) (leaf_of leaf.now) (diff_in result) }
 {
-    match value_of(new, row.path, likely) {
-        None => Some(Change::Went(row.path, row.value)),
-        Some(value) if value == row.value => None,
-        Some(value) => Some(Change::Turned(row.path, row.value, value)),
+    match value_of(new, leaf.path, likely) {
+        None => Some(Change::Went(leaf.path, leaf.value)),
+        Some(value) if value == leaf.value => None,
+        Some(value) => Some(Change::Turned(leaf.path, leaf.value, value)),
     }
 }
 
-/// What the old rows say that the new ones do not.
+/// What the old leaves say that the new ones do not.
 fn old_changes<'a>(
     alloc: Global,
-    old: &'a [Row<'a>],
-    new: &'a [Row<'a>],
+    old: &'a [Leaf<'a>],
+    new: &'a [Leaf<'a>],
 ) -> Result<Vec<Change<'a>>, AllocError>
     ensures { IfOk result
         (λ cs. AreOldDiffs (leaves old.now) (leaves new.now) (diffs_of cs.items)) }
 {
     let mut changes = Vec::new(alloc);
     let mut likely = 0;
-    for row in old {
-        match change_of(row, new, &mut likely) {
+    for leaf in old {
+        match change_of(leaf, new, &mut likely) {
             Some(change) => changes.push(change)?,
             None => {}
         }
@@ -101,23 +101,23 @@ fn old_changes<'a>(
     Ok(changes)
 }
 
-/// What differs between the rows: first what the old ones say, in their order, and then what came.
+/// What differs between the leaves: first what the old ones say, in their order, and then what came.
 ///
-/// Where a path stands more than once among the new rows, with two values, an old row is compared with one of them.
+/// Where a path stands more than once among the new leaves, with two values, an old leaf is compared with one of them.
 pub fn differences<'a>(
     alloc: Global,
-    old: &'a [Row<'a>],
-    new: &'a [Row<'a>],
+    old: &'a [Leaf<'a>],
+    new: &'a [Leaf<'a>],
 ) -> Result<Vec<Change<'a>>, AllocError>
     ensures { IfOk result
         (λ cs. AreDiffs (leaves old.now) (leaves new.now) (diffs_of cs.items)) }
 {
     let mut changes = old_changes(alloc, old, new)?;
     let mut likely = 0;
-    for row in new {
-        match value_of(old, row.path, &mut likely) {
+    for leaf in new {
+        match value_of(old, leaf.path, &mut likely) {
             Some(_value) => {}
-            None => changes.push(Change::Came(row.path, row.value))?,
+            None => changes.push(Change::Came(leaf.path, leaf.value))?,
         }
     }
     Ok(changes)

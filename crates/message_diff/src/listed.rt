@@ -30,7 +30,7 @@ pub fn show_both(
     desk.pair.show(alloc, orders, old.text(), new.text())
 }
 
-/// Adds the list of what differs between the rows, or else of the encodings.
+/// Adds the list of what differs between the leaves, or else of the encodings.
 fn push_differences(
     alloc: Global,
     old: &Snapshot,

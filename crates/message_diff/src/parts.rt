@@ -274,9 +274,9 @@ fn take_apart(
     Ok(true)
 }
 
-/// Takes the parts of two messages whose rows differ as those of the messages do, and returns whether attributes may be
-/// left out. What is shown of one depends on the family, the order of counters, the length of the address, and whether
-/// its number comes once more: where these differ the parts are whole.
+/// Takes the parts of two messages whose leaves differ as those of the messages do, and returns whether attributes may
+/// be left out. What is shown of one depends on the family, the order of counters, the length of the address, and
+/// whether its number comes once more: where these differ the parts are whole.
 pub fn take_parts(
     old: &[u8],
     new: &[u8],

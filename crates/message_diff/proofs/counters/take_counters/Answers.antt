@@ -7,7 +7,7 @@ use Rattle.message_diff.proofs.counters.take_counters.Goals as goal
 pub returns : goal.returns
 returns c = λ may.
     let bytes = c.take_text.new.part.text.items in
-    on_ok_weaker c.take_rows_of.result
+    on_ok_weaker c.take_leaves_of.result
     (λ are. inr (record {
       bytes = bytes;
       are_filled = subst (λ (text : List ℕ). IsFilled c.args.is_part text bytes) c.text-text.ensures
@@ -15,7 +15,7 @@ returns c = λ may.
       page = c.show.new.self.page;
       shown = c.in_ok-show.ensures.shown;
       are = λ f g apart own others.
-          sym (paths_are c.args.of.now.page.text c.args.of.now.page.marks c.take_rows_of.new.self.rows)
+          sym (paths_are c.args.of.now.page.text c.args.of.now.page.marks c.take_leaves_of.new.self.leaves)
           ∙ ap paths_of (are f g apart own others);
     }))
-    c.take_rows_of.ensures.rows
+    c.take_leaves_of.ensures.leaves

@@ -4,30 +4,30 @@ use Rattle.std.proofs.lemmas.List.{map_push}
 use Rattle.message_diff.specs.declared.differences.Change.TheVariants.{Came}
 use Rattle.message_diff.specs.Differences.{Diff, new_diffs, leaf_of, leaves, diff_of, diffs_of}
 use Rattle.message_diff.proofs.Diffs.{new_more, said_one}
-use Rattle.message_diff.proofs.Found.{row_at, all_rows}
+use Rattle.message_diff.proofs.Found.{leaf_at, all_leaves}
 use Rattle.message_diff.proofs.differences.differences.Goals as goal
 use Rattle.message_diff.proofs.differences.differences.Goals.{in-Some, in-None+in_ok-push-in-None}
 
-pub loop-row-preserved : goal.loop-row-preserved
-loop-row-preserved c =
+pub loop-leaf-preserved : goal.loop-leaf-preserved
+loop-leaf-preserved c =
     let old = leaves c.args.old.now in
     let new = c.args.new.now in
-    let i = c.loop-row.row-index in
-    let changes = c.loop-row.changes.items in
+    let i = c.loop-leaf.leaf-index in
+    let changes = c.loop-leaf.changes.items in
     let first = diffs_of c.in_ok-changes.changes.items in
     elim c.match-value_of.branch [
       | in-None+in_ok-push-in-None w ↦
-          let change = Came (row_at new i).path (row_at new i).value in
+          let change = Came (leaf_at new i).path (leaf_at new i).value in
           let made : c.match-value_of.changes.items ≡ changes ++ change ∷ [] =
           ap (λ v. v.items) w.changes-is ∙ w.in_ok-push-in-None.ensures.items in
           ap diffs_of made ∙ map_push diff_of changes change
-          ∙ new_more leaf_of old new i _ (diffs_of changes) (diff_of change ∷ []) first None c.loop-row-test.true
-          c.loop-row.invariant w.in-None.ensures refl
+          ∙ new_more leaf_of old new i _ (diffs_of changes) (diff_of change ∷ []) first None c.loop-leaf-test.true
+          c.loop-leaf.invariant w.in-None.ensures refl
       | in-Some w ↦
           let made : c.match-value_of.changes.items ≡ changes = ap (λ v. v.items) w.changes-is in
           ap diffs_of made ∙ sym (append-nil (diffs_of changes))
           ∙ new_more leaf_of old new i _ (diffs_of changes) [] first (Some w.in-Some._value.now)
-          c.loop-row-test.true c.loop-row.invariant w.in-Some.ensures refl
+          c.loop-leaf-test.true c.loop-leaf.invariant w.in-Some.ensures refl
     ]
 
 pub returns : goal.returns
@@ -35,9 +35,9 @@ returns c =
     let old = leaves c.args.old.now in
     let new = leaves c.args.new.now in
     let first = diffs_of c.in_ok-changes.changes.items in
-    let made : diffs_of c.loop-row.changes.items ≡ first ++ new_diffs old new =
-    all_rows (λ rows. diffs_of c.loop-row.changes.items ≡ first ++ new_diffs old (leaves rows)) c.args.new.now
-    c.loop-row.row-index (search rules) c.loop-row.invariant in
+    let made : diffs_of c.loop-leaf.changes.items ≡ first ++ new_diffs old new =
+    all_leaves (λ list. diffs_of c.loop-leaf.changes.items ≡ first ++ new_diffs old (leaves list)) c.args.new.now
+    c.loop-leaf.leaf-index (search rules) c.loop-leaf.invariant in
     record {
       first = first;
       said = c.in_ok-changes.ensures;

@@ -1,19 +1,19 @@
 use Rattle.std.proofs.Common.{rules}
 use Rattle.message_diff.specs.Differences.{Lacks, leaves}
-use Rattle.message_diff.proofs.Found.{found, passed, all_rows}
+use Rattle.message_diff.proofs.Found.{found, passed, all_leaves}
 use Rattle.message_diff.proofs.differences.value_of.Goals as goal
 
 pub returns-then-eq : goal.returns-then-eq
-returns-then-eq c = found c.args.rows.now c.args.likely.now c.args.path.now c.if-likely-rows.true (search rules)
+returns-then-eq c = found c.args.list.now c.args.likely.now c.args.path.now c.if-likely-list.true (search rules)
 
 pub returns-then-eq-2 : goal.returns-then-eq-2
-returns-then-eq-2 c = found c.args.rows.now c.loop-i.i c.args.path.now c.loop-i-test.true (search rules)
+returns-then-eq-2 c = found c.args.list.now c.loop-i.i c.args.path.now c.loop-i-test.true (search rules)
 
 pub loop-i-preserved : goal.loop-i-preserved
 loop-i-preserved c =
-    passed c.args.rows.now c.loop-i.i c.args.path.now c.loop-i-test.true c.loop-i.invariant (search rules)
+    passed c.args.list.now c.loop-i.i c.args.path.now c.loop-i-test.true c.loop-i.invariant (search rules)
 
 pub returns : goal.returns
 returns c =
-    all_rows (λ rows. Lacks (leaves rows) c.args.path.now) c.args.rows.now c.loop-i.i (search rules)
+    all_leaves (λ list. Lacks (leaves list) c.args.path.now) c.args.list.now c.loop-i.i (search rules)
     c.loop-i.invariant

@@ -3,4 +3,4 @@ use Rattle.message_diff.specs.Differences.{Lacks, leaves}
 use Rattle.message_diff.proofs.differences.value_of.Given as goal
 
 abbrev pub invariant-loop-i : goal.invariant-loop-i
-invariant-loop-i l = Lacks (leaves (take l.i l.rows)) l.path
+invariant-loop-i l = Lacks (leaves (take l.i l.list)) l.path

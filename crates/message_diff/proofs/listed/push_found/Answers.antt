@@ -1,7 +1,7 @@
 use Rattle.std.proofs.Common.{◌≡◌, sym, subst, refl, ap, ◌∙◌, List}
 use Rattle.std.proofs.lemmas.Result.{on_ok_weaker}
 use Rattle.message_diff.specs.declared.differences.Change.{Change}
-use Rattle.message_diff.specs.declared.rows.Row.{Row}
+use Rattle.message_diff.specs.declared.leaves.Leaf as held
 use Rattle.message_diff.specs.Counted.{IsLeftBy}
 use Rattle.message_diff.specs.Shown.{leaves_of}
 use Rattle.message_diff.specs.Differences.{Leaf, AreDiffs, leaves, diffs_of}
@@ -14,9 +14,9 @@ returns c =
     let left = diffs_of c.as_slice-3.result.now in
     let told = told_diffs c.args.old.now c.args.new.now left in
     let was : leaves c.as_slice.result.now ≡ leaves_of c.args.pair.now.old =
-    ap (λ (rows : List Row). leaves rows) c.as_slice.ensures.value ∙ c.in_ok-was.ensures in
+    ap (λ (list : List held.Leaf). leaves list) c.as_slice.ensures.value ∙ c.in_ok-was.ensures in
     let is : leaves c.as_slice-2.result.now ≡ leaves_of c.args.pair.now.new =
-    ap (λ (rows : List Row). leaves rows) c.as_slice-2.ensures.value ∙ c.in_ok-is.ensures in
+    ap (λ (list : List held.Leaf). leaves list) c.as_slice-2.ensures.value ∙ c.in_ok-is.ensures in
     on_ok_weaker c.push_differences.result
     (λ all orders compared. (
       list_text told,

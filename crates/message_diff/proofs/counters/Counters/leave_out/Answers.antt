@@ -9,8 +9,8 @@ use Rattle.message_diff.proofs.counters.Counters.leave_out.Goals as goal
 
 pub returns-then-is_empty-2 : goal.returns-then-is_empty-2
 returns-then-is_empty-2 c =
-    let olds : paths_in c.take.new.self.old.rows ≡ [] = c.is_empty.ensures c.if-is_empty.true in
-    let news : paths_in c.take.new.self.new.rows ≡ [] = c.is_empty-then-is_empty.ensures c.if-is_empty-2.true in
+    let olds : paths_in c.take.new.self.old.leaves ≡ [] = c.is_empty.ensures c.if-is_empty.true in
+    let news : paths_in c.take.new.self.new.leaves ≡ [] = c.is_empty-then-is_empty.ensures c.if-is_empty-2.true in
     let taken = c.in_ok-take.ensures in
     let all : diffs_of c.as_slice.result.now ≡ diffs_of c.args.changes.items =
     ap (λ (cs : List Change). diffs_of cs) c.as_slice.ensures.value in
@@ -26,8 +26,8 @@ returns-then-is_empty-2 c =
 
 pub returns : goal.returns
 returns c =
-    let olds = paths_in c.take.new.self.old.rows in
-    let news = paths_in c.take.new.self.new.rows in
+    let olds = paths_in c.take.new.self.old.leaves in
+    let news = paths_in c.take.new.self.new.leaves in
     let taken = c.in_ok-take.ensures in
     let all : diffs_of c.as_slice.result.now ≡ diffs_of c.args.changes.items =
     ap (λ (cs : List Change). diffs_of cs) c.as_slice.ensures.value in

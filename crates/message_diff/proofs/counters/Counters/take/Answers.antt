@@ -15,7 +15,7 @@ returns-clause-old c = λ any.
     (YieldsList-from_slice c.args.changes.now c.iter.ensures.rest) (λ x b q k. search (rules, tests))
     ∙ sym (any_map (λ d. may_be (old_of d)) diff_of c.args.changes.now) in
     on_ok_any c.take_counters-2.result
-    (AreCounterPaths c.args.pair.now.is_part c.args.pair.now.old (paths_in c.take_counters.new.counters.rows))
+    (AreCounterPaths c.args.pair.now.is_part c.args.pair.now.old (paths_in c.take_counters.new.counters.leaves))
     (c.in_ok-take_counters.ensures (by_old ∙ any))
 
 pub returns-clause-new : goal.returns-clause-new

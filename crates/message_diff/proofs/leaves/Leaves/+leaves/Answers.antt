@@ -1,10 +1,10 @@
 use Rattle.std.proofs.Common.{sym, ap, ◌∙◌, refl, subst, inl, inr, arith, ◌≤◌, ℕ, take}
 use Rattle.std.proofs.lemmas.Result.{on_ok_weaker}
-use Rattle.message_diff.specs.declared.rows.Rows.{Rows}
+use Rattle.message_diff.specs.declared.leaves.Leaves.{Leaves}
 use Rattle.message_diff.proofs.Gone.{on_ok_both}
 use Rattle.message_diff.proofs.Passing.{Passes, passes_init, passes_next, passes_end}
 use Rattle.message_diff.proofs.Passing.{takes_none, takes_nest, takes_leaf}
-use Rattle.message_diff.proofs.rows.Rows.+rows.Goals as goal
+use Rattle.message_diff.proofs.leaves.Leaves.+leaves.Goals as goal
 
 pub take_one-returns-in_default : goal.take_one-returns-in_default
 take_one-returns-in_default t c = λ inside g end apart tidy in_it found.
@@ -63,7 +63,7 @@ take_span-loop-at-preserved t c =
       passes = λ f g apart tidy are are_too.
           let p = i.passes f g apart tidy are are_too in
           let found = c.find-found.ensures.found g apart are_too p.is_likely in
-          let mid : Rows = record c.loop-at.self { path = c.truncate.new.self } in
+          let mid : Leaves = record c.loop-at.self { path = c.truncate.new.self } in
           let cut = e.items ∙ ap (λ n. take n c.loop-at.self.path.items) i.long in
           subst (λ (n : ℕ). Passes c.args.both.is_part own.text.now own.marks.now others.text.now others.marks.now
           c.next_of-next.result

@@ -1,7 +1,7 @@
 use Rattle.std.proofs.Common.{sym}
 use Rattle.message_diff.specs.Listed.{label_in, mark_at}
 use Rattle.message_diff.proofs.Spans.{likely_found}
-use Rattle.message_diff.proofs.rows.Both.find.Goals as goal
+use Rattle.message_diff.proofs.leaves.Both.find.Goals as goal
 
 pub returns-then-is_named_as-clause-found : goal.returns-then-is_named_as-clause-found
 returns-then-is_named_as-clause-found c = λ g apart are likely.

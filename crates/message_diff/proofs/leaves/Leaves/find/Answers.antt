@@ -1,6 +1,6 @@
 use Rattle.std.proofs.Common.{sym, rules}
 use Rattle.message_diff.proofs.Paths.{has_here, lacks_all, lacks_here}
-use Rattle.message_diff.proofs.rows.Rows.find.Goals as goal
+use Rattle.message_diff.proofs.leaves.Leaves.find.Goals as goal
 
 pub returns-then-eq : goal.returns-then-eq
 returns-then-eq c = sym (has_here c.args.self.now c.args.likely.now c.args.path.now (search rules) (search rules))

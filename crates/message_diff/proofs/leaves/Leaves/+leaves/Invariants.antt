@@ -3,7 +3,7 @@ use Rattle.message_diff.specs.Trees.{Forest}
 use Rattle.message_diff.specs.Marked.{AreMarksOf}
 use Rattle.message_diff.specs.Listed.{AreApart, IsTidy, marks_in}
 use Rattle.message_diff.proofs.Passing.{Passes}
-use Rattle.message_diff.proofs.rows.Rows.+rows.Given as goal
+use Rattle.message_diff.proofs.leaves.Leaves.+leaves.Given as goal
 
 abbrev pub decreases-take_one : goal.decreases-take_one
 decreases-take_one l = 2 * (l.next - l.at)

@@ -21,19 +21,19 @@ use std::alloc::{AllocError, Global};
 /// there, from 0, with a point between each two. The value is a text with its quotes, a number, a truth value, a list
 /// of these, or an object or a list that is empty.
 #[derive(Clone, Copy)]
-pub struct Row<'a> {
+pub struct Leaf<'a> {
     pub path: &'a [u8],
     pub value: &'a [u8],
 }
 
-/// A row: where its path ends among the paths, and the place of its member.
+/// A leaf: where its path ends among the paths, and the place of its member.
 #[derive(Clone, Copy)]
 struct Spot {
     end: usize,
     mark: usize,
 }
 
-/// Two texts: of the members of one the rows are taken.
+/// Two texts: of the members of one the leaves are taken.
 #[derive(Clone, Copy)]
 struct Both<'a> {
     own: Members<'a>,
@@ -51,7 +51,7 @@ struct Span {
 
 /// The members of a text that another text does not have, with room that is kept from one text to the next.
 #[derive(Drop)]
-pub struct Rows {
+pub struct Leaves {
     /// The paths, one behind the other.
     paths: Vec<u8>,
     spots: Vec<Spot>,
@@ -94,7 +94,7 @@ impl Both<'_> {
         self.others.find(others.at, others.end, self.own, mark)
     }
 
-    /// The members beside those that are inside the one at this place, where that has rows: none where the other text
+    /// The members beside those that are inside the one at this place, where that has leaves: none where the other text
     /// has no member with its name.
     fn beside(self, at: usize, found: Option<usize>) -> Option<Span>
         requires within { at < length self.own.marks.now }
@@ -140,10 +140,10 @@ impl Both<'_> {
     }
 }
 
-impl Rows {
-    /// No row. It takes no memory.
-    pub fn new(alloc: Global) -> Rows {
-        Rows {
+impl Leaves {
+    /// No leaf. It takes no memory.
+    pub fn new(alloc: Global) -> Leaves {
+        Leaves {
             paths: Vec::new(alloc),
             spots: Vec::new(alloc),
             path: Vec::new(alloc),
@@ -157,7 +157,7 @@ impl Rows {
         self.spots.is_empty()
     }
 
-    /// Forgets all rows.
+    /// Forgets all leaves.
     pub fn clear(&mut self)
         ensures paths { self.new.paths.items ≡ [] }
         ensures spots { self.new.spots.items ≡ [] }
@@ -168,14 +168,14 @@ impl Rows {
         self.path.clear();
     }
 
-    /// Whether the row at this place has this path.
+    /// Whether the leaf at this place has this path.
     pub fn is_at(&self, place: usize, path: &[u8]) -> bool
         ensures { result ≡ true → has_path (paths_in self.now) path.now ≡ true }
     {
         place < self.spots.len() && self.path_at(place) == path
     }
 
-    /// The place of a row with this path, if there is one.
+    /// The place of a leaf with this path, if there is one.
     pub fn find(&self, path: &[u8]) -> Option<usize>
         ensures { is_some result ≡ has_path (paths_in self.now) path.now }
     {
@@ -199,7 +199,7 @@ impl Rows {
         Ok(paths)
     }
 
-    /// The path of the row at this place.
+    /// The path of the leaf at this place.
     fn path_at(&self, place: usize) -> &[u8]
         requires { place < length self.now.spots.items }
         ensures { result.now ≡ path_in self.now.paths.items self.now.spots.items place }
@@ -208,7 +208,7 @@ impl Rows {
         part(self.paths.as_slice(), start, self.spots[place].end)
     }
 
-    /// Where the path of the row at this place begins.
+    /// Where the path of the leaf at this place begins.
     fn start_of(&self, place: usize) -> usize
         requires { place < length self.now.spots.items }
         ensures { result ≡ start_in self.now.spots.items place }
@@ -219,25 +219,25 @@ impl Rows {
         self.spots[place - 1].end
     }
 
-    /// The rows, which are of these members.
+    /// The leaves, which are of these members.
     pub fn list<'a>(
         &'a self,
         alloc: Global,
         members: Members<'a>,
-    ) -> Result<Vec<Row<'a>>, AllocError>
-        ensures { IfOk result (λ rows. leaves rows.items
+    ) -> Result<Vec<Leaf<'a>>, AllocError>
+        ensures { IfOk result (λ list. leaves list.items
             ≡ leaves_in members.entry.text.now members.entry.marks.now self.now) }
     {
-        let mut rows = Vec::with_capacity(alloc, self.spots.len())?;
+        let mut list = Vec::with_capacity(alloc, self.spots.len())?;
         let mut start = 0;
         for spot in self.spots.iter() {
-            rows.push(Row {
+            list.push(Leaf {
                 path: part(self.paths.as_slice(), start, spot.end),
                 value: members.value_at(spot.mark),
             })?;
             start = spot.end;
         }
-        Ok(rows)
+        Ok(list)
     }
 
     /// Adds the name of a member to the path, or its place.
@@ -259,7 +259,7 @@ impl Rows {
             .extend_from_slice(digits.format(mark.place).as_bytes())
     }
 
-    /// Adds a row of the member at this place, whose path this is.
+    /// Adds the member at this place, whose path this is, as a leaf.
     fn add(&mut self, mark: usize) -> Result<(), AllocError>
         ensures paths { OnOk result (self.new.paths.items ≡ self.old.paths.items ++ self.old.path.items) }
         ensures spots { OnOk result (self.new.spots.items ≡ self.old.spots.items
@@ -274,9 +274,9 @@ impl Rows {
         Ok(())
     }
 
-    /// Adds the rows of the member at this place, behind which the next one is there, beside the other text's member
+    /// Adds the leaves of the member at this place, behind which the next one is there, beside the other text's member
     /// at another place, if there is one.
-    #[cycle(rows)]
+    #[cycle(leaves)]
     fn take_one(
         &mut self,
         both: Both<'_>,
@@ -304,8 +304,8 @@ impl Rows {
         self.add(at)
     }
 
-    /// Adds the rows of these members beside those of the other text.
-    #[cycle(rows)]
+    /// Adds the leaves of these members beside those of the other text.
+    #[cycle(leaves)]
     fn take_span(&mut self, both: Both<'_>, own: Span, others: Span) -> Result<(), AllocError>
         ensures { OnOk result
             (TakesInside both.entry.is_part both.entry.own.text.now both.entry.own.marks.now own.at own.end
@@ -326,7 +326,7 @@ impl Rows {
         Ok(())
     }
 
-    /// Takes the rows of these members that the other ones do not have; where `is_part`, only those whose path they
+    /// Takes the leaves of these members that the other ones do not have; where `is_part`, only those whose path they
     /// have with another value.
     pub fn take(
         &mut self,

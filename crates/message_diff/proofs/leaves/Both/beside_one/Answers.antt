@@ -2,7 +2,7 @@ use Rattle.std.proofs.Common.{sym, ap, ◌∙◌}
 use Rattle.message_diff.specs.Known.{is_text}
 use Rattle.message_diff.specs.Listed.{label_in, mark_at, value_in}
 use Rattle.message_diff.proofs.Passing.{unlike}
-use Rattle.message_diff.proofs.rows.Both.beside_one.Goals as goal
+use Rattle.message_diff.proofs.leaves.Both.beside_one.Goals as goal
 
 pub returns : goal.returns
 returns c = λ g end apart at.
