@@ -33,9 +33,9 @@ use Rattle.diff_laws.proofs.Built.{built_means}
 use Rattle.diff_laws.proofs.Cut.{refuses}
 use Rattle.diff_laws.proofs.GoodLeniently.{split_good}
 use Rattle.diff_laws.proofs.Inside.{inside_by}
-use Rattle.diff_laws.proofs.LeftOut.{parts_mean, rows_are}
+use Rattle.diff_laws.proofs.LeftOut.{leaves_are, parts_mean}
 use Rattle.diff_laws.proofs.Lenient.{IsSplit, canonical_split, meant_built, means_leniently, nothing_meant}
-use Rattle.diff_laws.proofs.Leniently.{both_split, lenient_rows_are, part_split, parts_have_trees, split_single}
+use Rattle.diff_laws.proofs.Leniently.{both_split, lenient_leaves_are, part_split, parts_have_trees, split_single}
 use Rattle.diff_laws.proofs.Parts.{part_single}
 use Rattle.diff_laws.proofs.PlainNames.{plain_is_named}
 use Rattle.diff_laws.proofs.Trees.{good_apart, have_trees, marks_tell, message_object, object_good}
@@ -47,11 +47,11 @@ record IsPageOf (page : MarkedText) (f : Forest) : Type 0 where
   marks : AreMarksOf page.text 0 page.marks f
   good : IsGood inside_by f
 
--- the rows that are taken of one beside another are those of their trees
-rows_taken : (page there : MarkedText) (f g : Forest) (rows : Leaves) → IsPageOf page f → IsPageOf there g
-    → AreBeside page there rows
-    → leaves_in page.text page.marks rows ≡ beside [] f g
-rows_taken page there f g rows own is taken = taken f g (good_apart inside_by g is.good) own.marks is.marks
+-- the leaves that are taken of one beside another are those of their trees
+leaves_taken : (page there : MarkedText) (f g : Forest) (leaves : Leaves) → IsPageOf page f → IsPageOf there g
+    → AreBeside page there leaves
+    → leaves_in page.text page.marks leaves ≡ beside [] f g
+leaves_taken page there f g leaves own is taken = taken f g (good_apart inside_by g is.good) own.marks is.marks
 
 abbrev PageShows : Members → MarkedText → Type 0
 PageShows members page = IsMarkedText (with_members members empty_object) page
@@ -125,17 +125,17 @@ module _ (cx : Context) (named : AreNamed cx) (family : AddressFamily) (b : List
         }) tree;
   }
 
--- so the differences of the rows are those of the trees, whole or in parts
+-- so the differences of the leaves are those of the trees, whole or in parts
 changes_told : (pair : Pair) (f g few less : Forest) → IsGood inside_by f → IsGood inside_by g
     → IsPageOf pair.old.page few → IsPageOf pair.new.page less → AreBeside pair.old.page pair.new.page pair.old.leaves
     → AreBeside pair.new.page pair.old.page pair.new.leaves
     → (beside [] few less ≡ beside [] f g) × (beside [] less few ≡ beside [] g f)
     → TellsAll pair f g
-changes_told pair f g few less good good_too own is taken lost rows found differ =
+changes_told pair f g few less good good_too own is taken lost stay found differ =
     let olds : leaves_of pair.old ≡ beside [] f g =
-    rows_taken pair.old.page pair.new.page few less pair.old.leaves own is taken ∙ rows.0 in
+    leaves_taken pair.old.page pair.new.page few less pair.old.leaves own is taken ∙ stay.0 in
     let news : leaves_of pair.new ≡ beside [] g f =
-    rows_taken pair.new.page pair.old.page less few pair.new.leaves is own lost ∙ rows.1 in
+    leaves_taken pair.new.page pair.old.page less few pair.new.leaves is own lost ∙ stay.1 in
     taken_differ inside_by f g found good good_too
     (subst (λ (ls : List Leaf). AreDiffs ls (beside [] g f) found) olds
     (subst (λ (ls : List Leaf). AreDiffs (leaves_of pair.old) ls found) news differ))
@@ -222,7 +222,7 @@ module _ (law : ShownByOrder) (orders : Order × Order) (old new : List ℕ) (pa
         (old_shows (part_of old new) (ap (λ b. part_if b old new) is)) paired.old_small meant.0.1 few.1)
         (meant_page cx named (part_of new old) meant.1.0 pair.new.page less.0
         (new_shows cx one.plain (part_of new old) (ap (λ b. part_if b new old) is)) paired.new_small meant.1.1 less.1)
-        paired.compared.old_leaves paired.compared.new_leaves (rows_are cx old new m n f g few.0 less.0 have trees)
+        paired.compared.old_leaves paired.compared.new_leaves (leaves_are cx old new m n f g few.0 less.0 have trees)
 
     told_strictly : TellsAll pair f g
     told_strictly = by pair.is_part refl
@@ -290,7 +290,7 @@ module _ (law : ShownByOrder) (orders : Order × Order) (old new : List ℕ) (pa
         (part_single family b.frames a.frames split.alike.single_too) pair.new.page less
         (new_shows cx one.plain (part family new old) (ap (λ b. part_if b new old) is ∙ less_is)) paired.new_small
         (subst (λ (b : List ℕ). IsTreeOf cx b less) less_is trees.less_tree)) paired.compared.old_leaves
-        paired.compared.new_leaves (lenient_rows_are cx old new m n f g few less have trees)
+        paired.compared.new_leaves (lenient_leaves_are cx old new m n f g few less have trees)
 
     told_leniently : TellsAll pair f g
     told_leniently = by pair.is_part refl

@@ -12,14 +12,14 @@ use Rattle.message_diff.specs.Differences.{diffs}
 use Rattle.message_diff.specs.Parts.{is_taken, part}
 use Rattle.message_diff.specs.Trees.{Forest}
 use Rattle.message_diff.proofs.Taken.{taken_is}
-use Rattle.diff_laws.specs.LeftOut.{IsTree, IsCanonical, FramesAre, HaveParts, PartsMean, RowsStay}
+use Rattle.diff_laws.specs.LeftOut.{IsTree, IsCanonical, FramesAre, HaveParts, PartsMean, LeavesStay}
 use Rattle.diff_laws.specs.LeftOut.{ChangesStay, part_of}
 use Rattle.diff_laws.specs.Leniently.{IsTreeOf, IsCanonicalLeniently, HavePartsLeniently}
 use Rattle.diff_laws.proofs.Among.{refused_part}
 use Rattle.diff_laws.proofs.Built.{built_means, means_once}
 use Rattle.diff_laws.proofs.Cut.{refuses}
 use Rattle.diff_laws.proofs.Lenient.{IsSplit, canonical_frames, meant_built, nothing_meant}
-use Rattle.diff_laws.proofs.Leniently.{AreSplit, both_split, lenient_rows_are, part_split, turned}
+use Rattle.diff_laws.proofs.Leniently.{AreSplit, both_split, lenient_leaves_are, part_split, turned}
 
 lenient_of : (b : List ℕ) (m : LinkMessage) → IsCanonical b m → IsCanonicalLeniently b m
 lenient_of b m c = record {
@@ -72,7 +72,7 @@ parts_mean old new m n have =
       part_means family new old (turned family old new s) n m have.now_is.means have.was.means,
     )
 
--- ** rows
+-- ** leaves
 
 tree_meant : (cx : Context) (b : List ℕ) (m : LinkMessage) → Means b m → (f : Forest)
     → IsTree (message_members cx b m) f
@@ -82,9 +82,9 @@ tree_meant cx b m means f tree = record {
   leniently = λ n other nothing. absurd (nothing m means);
 }
 
-pub rows_are : RowsStay
-rows_are cx old new m n f g few less have trees =
-    lenient_rows_are cx old new m n f g few less (have_leniently old new m n have) (record {
+pub leaves_are : LeavesStay
+leaves_are cx old new m n f g few less have trees =
+    lenient_leaves_are cx old new m n f g few less (have_leniently old new m n have) (record {
       old_tree = tree_meant cx old m have.was.means f trees.old_tree;
       new_tree = tree_meant cx new n have.now_is.means g trees.new_tree;
       few_tree = tree_meant cx (part_of old new) trees.p trees.old_part few trees.few_tree;
@@ -93,5 +93,5 @@ rows_are cx old new m n f g few less have trees =
 
 pub changes_are : ChangesStay
 changes_are cx old new m n f g few less inside_by have trees good good_too =
-    let rows = rows_are cx old new m n f g few less have trees in
-    (λ i. diffs (rows.0 i) (rows.1 i)) ∙ taken_is inside_by f g good good_too
+    let stay = leaves_are cx old new m n f g few less have trees in
+    (λ i. diffs (stay.0 i) (stay.1 i)) ∙ taken_is inside_by f g good good_too

@@ -29,7 +29,7 @@ use Rattle.diff_laws.specs.LeftOut.{IsTree, part_of}
 use Rattle.diff_laws.specs.Compared.{HasEachOnce}
 use Rattle.diff_laws.specs.Leniently.{IsCanonicalLeniently, IsTreeOf, HavePartsLeniently, PartsMeanLeniently}
 use Rattle.diff_laws.specs.Leniently.{PartsHaveTrees}
-use Rattle.diff_laws.specs.Leniently.{LenientRowsStay, LenientChangesStay}
+use Rattle.diff_laws.specs.Leniently.{LenientLeavesStay, LenientChangesStay}
 use Rattle.diff_laws.proofs.Among.{accepted_part, cut_some, filter_swap, refused_named, refused_part}
 use Rattle.diff_laws.proofs.Built.{built_means, means_once}
 use Rattle.diff_laws.proofs.Cut.{IsCut, AreCut, accepts, refuses, kept_accepts}
@@ -37,7 +37,7 @@ use Rattle.diff_laws.proofs.Lenient.{IsSplit, before, canonical_split, known_for
 use Rattle.diff_laws.proofs.Lenient.{meant_built, means_leniently, nothing_meant, shown_leniently, split_frames}
 use Rattle.diff_laws.proofs.Parts.{part_address, part_all, part_frames, part_joined, part_single, single_filtered}
 use Rattle.diff_laws.proofs.Raw.{holder_free, raw_holder, raw_showing, raw_tells, raw_text, whole_free}
-use Rattle.diff_laws.proofs.Refused.{held_same, rows_split}
+use Rattle.diff_laws.proofs.Refused.{held_same, leaves_split}
 use Rattle.diff_laws.proofs.Showing.{head, head_is, head_same, heads_among, showing}
 use Rattle.diff_laws.proofs.Trees.{have_trees}
 use Rattle.message_diff.specs.Parts.{address_len, are_alike, are_single, family_of, frame_at, named_in, part}
@@ -204,7 +204,7 @@ both_split old new m n have =
       new_family = new_family;
     }
 
--- ** rows
+-- ** leaves
 
 module _ (cx : Context) (family : AddressFamily) (old new : List ℕ) (s : AreSplit family old new) where
   abbrev own : List (List ℕ)
@@ -246,13 +246,13 @@ module _ (cx : Context) (family : AddressFamily) (old new : List ℕ) (s : AreSp
       (filter (accepts family) split.frames)) (raw_holder family (filter (refuses family) split.frames)))
       (known_same split.frames same)
 
-  rows_of : (a b : List ℕ) (x y : List (List ℕ))
+  leaves_for : (a b : List ℕ) (x y : List (List ℕ))
       → beside [] (tree_for a x) (tree_for b y)
       ≡ beside [] (whole_tree family (showing known family) (head a family) (filter (accepts family) x))
       (whole_tree family (showing known family) (head b family) (filter (accepts family) y))
       ++ beside [] (raw_holder family (filter (refuses family) x)) (raw_holder family (filter (refuses family) y))
-  rows_of a b x y =
-      rows_split [] (whole_tree family (showing known family) (head a family) (filter (accepts family) x))
+  leaves_for a b x y =
+      leaves_split [] (whole_tree family (showing known family) (head a family) (filter (accepts family) x))
       (whole_tree family (showing known family) (head b family) (filter (accepts family) y))
       (raw_holder family (filter (refuses family) x)) (raw_holder family (filter (refuses family) y))
       (whole_free known family a (filter (accepts family) x) (filter (refuses family) y))
@@ -286,15 +286,15 @@ module _ (known : Context) (family : AddressFamily) (old new : List ℕ) (own ot
     single_too = single_ok family other single_too;
   }
 
-  -- the rows of those that are accepted
-  accepted_rows : beside []
+  -- the leaves of those that are accepted
+  accepted_leaves : beside []
       (whole_tree family (showing known family) (head old family)
       (filter (accepts family) (part_frames family own other)))
       (whole_tree family (showing known family) (head new family)
       (filter (accepts family) (part_frames family other own)))
       ≡ beside [] (whole_tree family (showing known family) (head old family) (filter (accepts family) own))
       (whole_tree family (showing known family) (head new family) (filter (accepts family) other))
-  accepted_rows =
+  accepted_leaves =
       (λ i. beside []
       (accepted_part family own other cut single_too cut_too (showing known family) (head old family) i)
       (accepted_part family other own cut_too single cut (showing known family) (head new family) i))
@@ -302,10 +302,10 @@ module _ (known : Context) (family : AddressFamily) (old new : List ℕ) (own ot
       (filter (accepts family) other) two
 
   -- and of those that are refused
-  refused_rows : beside [] (raw_holder family (filter (refuses family) (part_frames family own other)))
+  refused_leaves : beside [] (raw_holder family (filter (refuses family) (part_frames family own other)))
       (raw_holder family (filter (refuses family) (part_frames family other own)))
       ≡ beside [] (raw_holder family (filter (refuses family) own)) (raw_holder family (filter (refuses family) other))
-  refused_rows =
+  refused_leaves =
       (λ i. beside [] (raw_holder family (refused_part family own other cut single_too cut_too i))
       (raw_holder family (refused_part family other own cut_too single cut i)))
       ∙ held_same family (raw_showing family) (escape (codes "refused")) raw_text (raw_tells family)
@@ -315,11 +315,11 @@ module _ (known : Context) (family : AddressFamily) (old new : List ℕ) (own ot
       (single_filtered (is_taken (filter (refuses family) own)) (filter (refuses family) other)
       (single_left family other cut_too single_too))
 
-rows_stay : (cx : Context) (family : AddressFamily) (old new : List ℕ) (s : AreSplit family old new)
+leaves_stay : (cx : Context) (family : AddressFamily) (old new : List ℕ) (s : AreSplit family old new)
     (f g few less : Forest) → IsTreeOf cx old f → IsTreeOf cx new g → IsTreeOf cx (part family old new) few
     → IsTreeOf cx (part family new old) less
     → beside [] few less ≡ beside [] f g
-rows_stay cx family old new s f g few less old_tree new_tree few_tree less_tree =
+leaves_stay cx family old new s f g few less old_tree new_tree few_tree less_tree =
     let a = s.old_split in
     let b = s.new_split in
     let known = known_for cx family a.frames in
@@ -342,10 +342,11 @@ rows_stay cx family old new s f g few less old_tree new_tree few_tree less_tree 
     let f_is = tree_is cx family old new s old a s.alike.single refl f old_tree in
     let g_is = tree_is cx family old new s new b s.alike.single_too (sym s.alike.address) g new_tree in
     (λ i. beside [] (few_is i) (less_is i))
-    ∙ rows_of cx family old new s old new (part_frames family a.frames b.frames) (part_frames family b.frames a.frames)
-    ∙ (λ i. accepted_rows known family old new a.frames b.frames a.cut b.cut s.alike.single s.alike.single_too i
-    ++ refused_rows known family old new a.frames b.frames a.cut b.cut s.alike.single s.alike.single_too i)
-    ∙ sym (rows_of cx family old new s old new a.frames b.frames)
+    ∙ leaves_for cx family old new s old new (part_frames family a.frames b.frames)
+    (part_frames family b.frames a.frames)
+    ∙ (λ i. accepted_leaves known family old new a.frames b.frames a.cut b.cut s.alike.single s.alike.single_too i
+    ++ refused_leaves known family old new a.frames b.frames a.cut b.cut s.alike.single s.alike.single_too i)
+    ∙ sym (leaves_for cx family old new s old new a.frames b.frames)
     ∙ sym (λ i. beside [] (f_is i) (g_is i))
 
 -- a part by the family of its bytes
@@ -354,21 +355,21 @@ part_tree_of : (cx : Context) (family : AddressFamily) (old new : List ℕ) (s :
     → IsTreeOf cx (part family old new) few
 part_tree_of cx family old new s few tree = subst (λ x. IsTreeOf cx (part x old new) few) s.old_family tree
 
-pub lenient_rows_are : LenientRowsStay
-lenient_rows_are cx old new m n f g few less have trees =
+pub lenient_leaves_are : LenientLeavesStay
+lenient_leaves_are cx old new m n f g few less have trees =
     let family = m.header.interface_family in
     let s = both_split old new m n have in
     let t = turned family old new s in
     let few_tree = part_tree_of cx family old new s few trees.few_tree in
     let less_tree = part_tree_of cx family new old t less trees.less_tree in (
-      rows_stay cx family old new s f g few less trees.old_tree trees.new_tree few_tree less_tree,
-      rows_stay cx family new old t g f less few trees.new_tree trees.old_tree less_tree few_tree,
+      leaves_stay cx family old new s f g few less trees.old_tree trees.new_tree few_tree less_tree,
+      leaves_stay cx family new old t g f less few trees.new_tree trees.old_tree less_tree few_tree,
     )
 
 pub lenient_changes_are : LenientChangesStay
 lenient_changes_are cx old new m n f g few less inside_by have trees good good_too =
-    let rows = lenient_rows_are cx old new m n f g few less have trees in
-    (λ i. diffs (rows.0 i) (rows.1 i)) ∙ taken_is inside_by f g good good_too
+    let stay = lenient_leaves_are cx old new m n f g few less have trees in
+    (λ i. diffs (stay.0 i) (stay.1 i)) ∙ taken_is inside_by f g good good_too
 
 -- ** parts mean messages, and have trees
 

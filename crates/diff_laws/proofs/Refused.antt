@@ -1,4 +1,4 @@
--- Members of which one holds others: the rows of what is behind the first members, and of what is inside the last one.
+-- Members of which one holds others: the leaves of what is behind the first members, and of what is inside the last.
 use Rattle.std.proofs.Common.{◌≡◌, ℕ, Bool, true, false, List, [], ◌∷◌, ◌++◌, refl, sym, ap, ◌∙◌}
 use Rattle.std.proofs.Common.{append_assoc, append-nil, subst}
 use Rattle.std.specs.Prelude.{◌==◌, cond, not, None, Some}
@@ -64,9 +64,9 @@ beside_both path (Forest.tree label text inside rest) later others =
     ∙ sym (append_assoc (one_beside (joined path label) text inside (beside (joined path label) inside)
     (find_tree label others)) (beside path rest others) (beside path later others))
 
-pub rows_split : (path : List ℕ) (f g own others : Forest) → AreFree f others → AreFree own g
+pub leaves_split : (path : List ℕ) (f g own others : Forest) → AreFree f others → AreFree own g
     → beside path (followed f own) (followed g others) ≡ beside path f g ++ beside path own others
-rows_split path f g own others free behind =
+leaves_split path f g own others free behind =
     beside_both path f own (followed g others)
     ∙ (λ i. beside_front path f g others free i ++ beside_behind path own g others behind i)
 
@@ -132,17 +132,17 @@ module _ (family : AddressFamily) (s : Showing family) where
     holder [] = Forest.none
     holder (f ∷ fs) = Forest.tree label (text (f ∷ fs)) (members_for (f ∷ fs)) Forest.none
 
-    held_rows : (a b : List (List ℕ)) → Named b → are_single b ≡ true
+    held_leaves : (a b : List (List ℕ)) → Named b → are_single b ≡ true
         → beside [] (holder a) (holder b) ≡ beside label (members_for a) (members_for b)
-    held_rows [] b named single = refl
-    held_rows (f ∷ fs) [] named single = append-nil (beside label (members_for (f ∷ fs)) Forest.none)
-    held_rows (f ∷ fs) (g ∷ gs) named single =
+    held_leaves [] b named single = refl
+    held_leaves (f ∷ fs) [] named single = append-nil (beside label (members_for (f ∷ fs)) Forest.none)
+    held_leaves (f ∷ fs) (g ∷ gs) named single =
         ap (λ b. one_beside label (text (f ∷ fs)) (members_for (f ∷ fs)) (beside label (members_for (f ∷ fs)))
         (cond b (Some (text (g ∷ gs), members_for (g ∷ gs))) None) ++ []) (text_is label)
         ∙ by (is_text (text (g ∷ gs)) (text (f ∷ fs))) refl
       where
-        rows : List Leaf
-        rows = beside label (members_for (f ∷ fs)) (members_for (g ∷ gs))
+        leaves : List Leaf
+        leaves = beside label (members_for (f ∷ fs)) (members_for (g ∷ gs))
 
         by : (b : Bool) → is_text (text (g ∷ gs)) (text (f ∷ fs)) ≡ b
             → cond b [] (beside label (members_for (f ∷ fs)) (members_for (g ∷ gs))) ++ []
@@ -196,11 +196,11 @@ module _ (family : AddressFamily) (s : Showing family) where
         ap are_single (all_named fs x) ∙ one) in
         let inner = parts_same family s label Forest.none Forest.none a b tt no_head
         (subst_named a named) (subst_named b named_too) (names a named single) (names b named_too single_too) in
-        held_rows (filter (is_taken b) a) (filter (is_taken a) b) (filter_named (is_taken a) b named_too) single_less
+        held_leaves (filter (is_taken b) a) (filter (is_taken a) b) (filter_named (is_taken a) b named_too) single_less
         ∙ sym (λ i. beside label (part_is a b named named_too i) (part_is b a named_too named i))
         ∙ sym inner
         ∙ (λ i. beside label (whole_is a named i) (whole_is b named_too i))
-        ∙ sym (held_rows a b named_too single_too)
+        ∙ sym (held_leaves a b named_too single_too)
       where
         subst_named : (fs : List (List ℕ)) → Named fs → Named (named_in family fs)
         subst_named fs named = subst Named (sym (all_named fs named)) named

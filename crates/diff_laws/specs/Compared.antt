@@ -24,7 +24,7 @@ pub record ArePaired (orders : Order × Order) (old new : List ℕ) (pair : Pair
   pub old_plain : IsPlain orders.0 cx
   pub new_plain : IsPlain orders.1 other
 
--- what is found to differ between the rows that were taken is what differs between all rows of the trees
+-- what is found to differ between the leaves that were taken is what differs between all leaves of the trees
 abbrev pub TellsAll : Pair → Forest → Forest → Type 0
 TellsAll pair f g = (found : List Diff) → AreDiffs (leaves_of pair.old) (leaves_of pair.new) found
     → found ≡ diffs (leaves_under [] f) (leaves_under [] g)

@@ -1,5 +1,5 @@
--- Attributes that are the same in two messages may be left out of both: the rows of the two parts beside each other are
--- those of the two messages.
+-- Attributes that are the same in two messages may be left out of both: the leaves of the two parts beside each other
+-- are those of the two messages.
 use Rattle.std.specs.Prelude.{◌≡◌, ℕ, true, List, [], map}
 use Rattle.json.specs.Json.{object, Members as Fields}
 use Rattle.json.specs.Tree.{json_tokens}
@@ -72,7 +72,7 @@ PartsMean =
     (old new : List ℕ) (m n : LinkMessage) → HaveParts old new m n
     → ((p : LinkMessage) × Means (part_of old new) p) × ((q : LinkMessage) × Means (part_of new old) q)
 
--- ** rows
+-- ** leaves
 
 -- the trees of two messages, and of their parts
 pub record AreTrees (cx : Context) (old new : List ℕ) (m n : LinkMessage) (f g few less : Forest) : Type 0 where
@@ -85,9 +85,9 @@ pub record AreTrees (cx : Context) (old new : List ℕ) (m n : LinkMessage) (f g
   pub few_tree : IsTree (message_members cx (part_of old new) p) few
   pub less_tree : IsTree (message_members cx (part_of new old) q) less
 
--- the rows that parts do not have in common are those that the messages do not have in common
-abbrev pub RowsStay : Type 0
-RowsStay =
+-- the leaves that parts do not have in common are those that the messages do not have in common
+abbrev pub LeavesStay : Type 0
+LeavesStay =
     (cx : Context) (old new : List ℕ) (m n : LinkMessage) (f g few less : Forest) → HaveParts old new m n
     → AreTrees cx old new m n f g few less
     → (beside [] few less ≡ beside [] f g) × (beside [] less few ≡ beside [] g f)

@@ -52,9 +52,9 @@ PartsHaveTrees =
     (cx : Context) (old new : List ℕ) (m n : LinkMessage) → HavePartsLeniently old new m n
     → (f : Forest) × (g : Forest) × (few : Forest) × (less : Forest) × AreTreesOf cx old new f g few less
 
--- the rows that parts do not have in common are those that the messages do not have in common
-abbrev pub LenientRowsStay : Type 0
-LenientRowsStay =
+-- the leaves that parts do not have in common are those that the messages do not have in common
+abbrev pub LenientLeavesStay : Type 0
+LenientLeavesStay =
     (cx : Context) (old new : List ℕ) (m n : LinkMessage) (f g few less : Forest) → HavePartsLeniently old new m n
     → AreTreesOf cx old new f g few less
     → (beside [] few less ≡ beside [] f g) × (beside [] less few ≡ beside [] g f)

@@ -64,7 +64,7 @@ pub record AreToldOf (by : Compared) (pair : Pair) (old new : List ℕ) (all tol
   pub are_left : IsLeftBy by pair all left
   pub are : told ≡ told_diffs old new left
 
--- so they are those between all rows of both messages
+-- so they are those between all leaves of both messages
 abbrev pub AllIsToldBy : Type 0
 AllIsToldBy =
     (by : Compared) (a b old new : List ℕ) (pair : Pair) (told : List Diff) (cx other : Context) (f g : Forest)

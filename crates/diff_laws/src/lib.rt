@@ -7,8 +7,8 @@
 ghost use Rattle.diff_laws.specs.Compared.{AllIsTold, AllIsToldLeniently};
 ghost use Rattle.diff_laws.specs.Good.{PlainIsNamed, TreesAreGood, TreesAreApart, GoodChangesStay};
 ghost use Rattle.diff_laws.specs.Good.{LenientTreesAreGood, LenientGoodChangesStay};
-ghost use Rattle.diff_laws.specs.LeftOut.{HaveTrees, MarksTell, FramesAre, PartsMean, RowsStay, ChangesStay};
-ghost use Rattle.diff_laws.specs.Leniently.{PartsMeanLeniently, PartsHaveTrees, LenientRowsStay, LenientChangesStay};
+ghost use Rattle.diff_laws.specs.LeftOut.{HaveTrees, MarksTell, FramesAre, PartsMean, LeavesStay, ChangesStay};
+ghost use Rattle.diff_laws.specs.Leniently.{PartsMeanLeniently, PartsHaveTrees, LenientLeavesStay, LenientChangesStay};
 ghost use Rattle.diff_laws.specs.Names.{NamesAreApart};
 ghost use Rattle.diff_laws.specs.Told.{AllIsToldBy, ComparedIsCanonical};
 ghost use Rattle.diff_laws.specs.Values.{ShownIsOne};
@@ -36,11 +36,11 @@ pub fn law_frames()
 {}
 
 /// Attributes that are the same in two canonical messages may be left out of both, where these have parts: the parts
-/// mean messages, and the rows that they do not have in common are those of the messages. So are the changes, where
+/// mean messages, and the leaves that they do not have in common are those of the messages. So are the changes, where
 /// each path leads to one member.
 pub fn law_left_out()
     ensures messages { PartsMean }
-    ensures rows { RowsStay }
+    ensures leaves { LeavesStay }
     ensures changes { ChangesStay }
 {}
 
@@ -49,7 +49,7 @@ pub fn law_left_out()
 pub fn law_left_out_leniently()
     ensures messages { PartsMeanLeniently }
     ensures trees { PartsHaveTrees }
-    ensures rows { LenientRowsStay }
+    ensures leaves { LenientLeavesStay }
     ensures changes { LenientChangesStay }
 {}
 
@@ -65,7 +65,7 @@ pub fn law_good()
     ensures lenient_changes { LenientGoodChangesStay }
 {}
 
-/// What is found to differ between two messages that are compared is what differs between all rows that are shown of
+/// What is found to differ between two messages that are compared is what differs between all leaves that are shown of
 /// them, whether they were shown whole or in parts.
 pub fn law_compared()
     ensures strictly { AllIsTold }
@@ -75,7 +75,7 @@ pub fn law_compared()
 }
 
 /// What is compared of bytes is the canonical encoding of some message. So what is told of two of them is all that
-/// differs between all rows that are shown of both: without the values at counters, where states are compared, and
+/// differs between all leaves that are shown of both: without the values at counters, where states are compared, and
 /// both encodings, where nothing is left.
 pub fn law_told()
     ensures canonical { ComparedIsCanonical }
