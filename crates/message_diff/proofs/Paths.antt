@@ -1,10 +1,10 @@
 -- The paths of leaves at their places.
 use Rattle.std.proofs.Common.{◌≡◌, ◌≢◌, ◌<◌, ◌≤◌, ◌+◌, ◌-◌, ℕ, zero, suc, List, [], ◌∷◌, length, refl, sym, ap, ◌∙◌}
-use Rattle.std.proofs.Common.{Bool, arith, false, get_or, map, subst, take, true}
+use Rattle.std.proofs.Common.{Bool, Bor, arith, false, get_or, map, subst, take, true, ◌++◌}
 use Rattle.std.specs.Prelude.{◌==◌, ◌||◌, cond}
 use Rattle.std.specs.Bool.{Decides}
 use Rattle.std.specs.List.{list_any, range_with_len}
-use Rattle.std.proofs.lemmas.List.{take_all}
+use Rattle.std.proofs.lemmas.List.{map_push, take_all, take_more}
 use Rattle.std.proofs.lemmas.List.Folds.{list_any_at, list_any_more}
 use Rattle.std.proofs.lemmas.Slice.Eq.{bytes_eq-Decides}
 use Rattle.std.proofs.lemmas.Bool.Decides.{nat_tests}
@@ -57,6 +57,21 @@ pub lacks_all : (leaves : Leaves) (k : ℕ) (path : List ℕ) → length leaves.
 lacks_all leaves k path over before =
     subst (λ (ps : List (List ℕ)). list_any (is_path path) ps ≡ false)
     (take_all k (paths_in leaves) (omega (arith, over, many_is leaves))) before
+
+-- ** the paths, taken one after the other
+
+pub one_taken : (leaves : Leaves) (k : ℕ) (ps : List (Bor (List ℕ))) (p : Bor (List ℕ))
+    → k < length leaves.spots.items → map (λ q. q.now) ps ≡ take k (paths_in leaves)
+    → p.now ≡ path_in leaves.paths.items leaves.spots.items k
+    → map (λ q. q.now) (ps ++ p ∷ []) ≡ take (k + 1) (paths_in leaves)
+one_taken leaves k ps p within before is =
+    let here = is ∙ sym (path_at leaves k p.now within) in
+    map_push (λ q. q.now) ps p ∙ (λ i. before i ++ here i ∷ [])
+    ∙ sym (take_more (paths_in leaves) k p.now (omega (arith, within, many_is leaves)))
+
+pub all_taken : (leaves : Leaves) (k : ℕ) (ps : List (Bor (List ℕ))) → length leaves.spots.items ≤ k
+    → map (λ q. q.now) ps ≡ take k (paths_in leaves) → map (λ q. q.now) ps ≡ paths_in leaves
+all_taken leaves k ps over before = before ∙ take_all k (paths_in leaves) (omega (arith, over, many_is leaves))
 
 -- ** the same beside their values
 

@@ -1,5 +1,5 @@
 -- Paths in the order of their bytes.
-use Rattle.std.specs.Prelude.{◌<◌, ◌×◌, ◌≡◌, List, ℕ, length, map}
+use Rattle.std.specs.Prelude.{◌<◌, ◌≡◌, List, ℕ, length, map}
 use Rattle.std.specs.Borrow.{Bor}
 use Rattle.std.specs.Cmp.Lexicographic.{slice_cmp}
 use Rattle.std.specs.List.Sorted.{IsPermutation, IsSorted}

@@ -52,7 +52,7 @@ impl<'a> Lookup<'a> {
         ensures lookup { (leaves : Leaves) → IsLookup leaves self.old → IsLookup leaves self.new }
     {
         if self.leaves.is_at(self.likely, path) {
-            self.likely += 1;
+            self.likely = self.likely.saturating_add(1);
             return Ok(true);
         }
         if self.passes < PASSES {
@@ -74,7 +74,7 @@ impl<'a> Lookup<'a> {
         let Some(place) = self.leaves.find(path) else {
             return false;
         };
-        self.likely = place + 1;
+        self.likely = place.saturating_add(1);
         true
     }
 }

@@ -3,10 +3,7 @@ use Rattle.message_diff.proofs.Paths.{has_here, lacks_all, lacks_here}
 use Rattle.message_diff.proofs.leaves.Leaves.find.Goals as goal
 
 pub returns-then-eq : goal.returns-then-eq
-returns-then-eq c = sym (has_here c.args.self.now c.args.likely.now c.args.path.now (search rules) (search rules))
-
-pub returns-then-eq-2 : goal.returns-then-eq-2
-returns-then-eq-2 c = sym (has_here c.args.self.now c.loop-place.place c.args.path.now (search rules) (search rules))
+returns-then-eq c = sym (has_here c.args.self.now c.loop-place.place c.args.path.now (search rules) (search rules))
 
 pub loop-place-preserved : goal.loop-place-preserved
 loop-place-preserved c =
