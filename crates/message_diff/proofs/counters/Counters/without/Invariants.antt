@@ -1,4 +1,4 @@
-use Rattle.std.proofs.Common.{◌≡◌, ◌×◌, take}
+use Rattle.std.proofs.Common.{◌≡◌, take}
 use Rattle.message_diff.specs.Differences.{diffs_of, less}
 use Rattle.message_diff.specs.Paths.{paths_in}
 use Rattle.message_diff.specs.Sorted.{IsLookup}
