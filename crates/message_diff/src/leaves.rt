@@ -1,6 +1,6 @@
 //! The members that two texts do not have in common, one below the other.
 
-ghost use Rattle.std.specs.Prelude.{◌≡◌, ◌++◌, ◌∷◌, ◌<◌, ℕ, [], length, IfOk, IfSome, OnOk, is_some, true};
+ghost use Rattle.std.specs.Prelude.{◌≡◌, ◌++◌, ◌∷◌, ◌<◌, ◌&&◌, ℕ, [], length, nat_lt, IfOk, IfSome, OnOk, is_some, true};
 ghost use Rattle.message_diff.specs.Differences.{leaves, has_path};
 ghost use Rattle.message_diff.specs.Paths.{start_in, path_in, paths_in};
 ghost use Rattle.message_diff.specs.Sorted.{AreSorted};
@@ -170,14 +170,18 @@ impl Leaves {
 
     /// Whether the leaf at this place has this path.
     pub fn is_at(&self, place: usize, path: &[u8]) -> bool
-        ensures { result ≡ true → has_path (paths_in self.now) path.now ≡ true }
+        ensures at { result ≡ (nat_lt place (length self.now.spots.items)
+            && is_text (path_in self.now.paths.items self.now.spots.items place) path.now) }
+        ensures has { result ≡ true → has_path (paths_in self.now) path.now ≡ true }
     {
         place < self.spots.len() && self.path_at(place) == path
     }
 
     /// The place of a leaf with this path, if there is one.
     pub fn find(&self, path: &[u8]) -> Option<usize>
-        ensures { is_some result ≡ has_path (paths_in self.now) path.now }
+        ensures has { is_some result ≡ has_path (paths_in self.now) path.now }
+        ensures at { IfSome result (λ place.
+            path_in self.now.paths.items self.now.spots.items place ≡ path.now) }
     {
         for place in 0..self.spots.len() {
             if self.path_at(place) == path {
