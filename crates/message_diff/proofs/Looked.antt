@@ -1,6 +1,6 @@
 -- What is looked for among paths in the order of their bytes.
-use Rattle.std.proofs.Common.{◌≡◌, ◌≢◌, ◌<◌, ◌≤◌, ℕ, List, [], ◌∷◌, length, inl, inr, refl, sym, ap, ◌∙◌, arith, get_or, map, subst}
-use Rattle.std.proofs.Common.{Bool, true, false, Result, Ok, Err, MatchResult, Bor}
+use Rattle.std.proofs.Common.{◌≡◌, ◌≢◌, ◌<◌, ◌≤◌, ℕ, List, [], ◌∷◌, length, inl, inr, refl, sym, ap, ◌∙◌, arith}
+use Rattle.std.proofs.Common.{Bool, true, false, Result, Ok, Err, Bor, get_or, map}
 use Rattle.std.specs.Prelude.{◌||◌}
 use Rattle.std.specs.Bool.{Decides}
 use Rattle.std.specs.List.{All, list_any}

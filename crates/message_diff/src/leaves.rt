@@ -1,6 +1,7 @@
 //! The members that two texts do not have in common, one below the other.
 
-ghost use Rattle.std.specs.Prelude.{◌≡◌, ◌++◌, ◌∷◌, ◌<◌, ◌&&◌, ℕ, [], length, nat_lt, IfOk, IfSome, OnOk, is_some, true};
+ghost use Rattle.std.specs.Prelude.{◌≡◌, ◌++◌, ◌∷◌, ◌<◌, ◌&&◌, ℕ, [], length, nat_lt};
+ghost use Rattle.std.specs.Prelude.{IfOk, IfSome, OnOk, is_some, true};
 ghost use Rattle.message_diff.specs.Differences.{leaves, has_path};
 ghost use Rattle.message_diff.specs.Paths.{start_in, path_in, paths_in};
 ghost use Rattle.message_diff.specs.Sorted.{AreSorted};
