@@ -14,7 +14,7 @@ use Rattle.link_msg.specs.OneAnswer.{EachHasOneAnswer, OneFault, FaultOrMeaning,
 use Rattle.link_msg.specs.declared.encoding.CanonError.{CanonError}
 use Rattle.link_msg.specs.declared.encoding.CanonError.TheVariants as Refusals
 use Rattle.link_msg.specs.declared.message.LinkMessage.{LinkMessage}
-use Rattle.link_headline.specs.Headline.{KernelMeans, KernelFault, Accepts, IsParsed, IsChecked, IsText, IsSame}
+use Rattle.link_headline.specs.Headline.{KernelMeans, KernelFault, Accepts, IsParsed, IsChecked, IsEncoded, IsSame}
 use Rattle.link_headline.specs.Headline.{IsRefusal, Format}
 use Rattle.link_headline.specs.Words.{SameMeaning, SameFault}
 use Rattle.link_headline.proofs.Tied.{one_place}
@@ -75,8 +75,8 @@ format one_meaning one_fault fault_or_meaning one_answer text_means same_text = 
   not_both = λ b m c k f. fault_or_meaning b c m (fault_back b c f) (means_back b m k);
   one_meaning = λ b m n k l. one_meaning b m n (means_back b m k) (means_back b n l);
   one_fault = λ b c d f g. one_fault b c d (fault_back b c f) (fault_back b d g);
-  text_means = λ b m small a. means _ m (text_means b m small (means_back b m a.means) a.fits a.ports);
-  same_text = λ a b m n small smaller x y.
+  encoding_means = λ b m small a. means _ m (text_means b m small (means_back b m a.means) a.fits a.ports);
+  same_encoding = λ a b m n small smaller x y.
       same_text a b m n small smaller (means_back a m x.means) (means_back b n y.means) x.fits y.fits x.ports y.ports;
 }
 
@@ -100,7 +100,7 @@ refusal b Refusals.EmptyVfPorts is = (is.0, means b is.0 is.1, is.2, is.3)
 refusal b Refusals.OutOfMemory is = tt
 
 pub texted : (b : List ℕ) (r : Result (Vec ℕ) CanonError) → IfOk r (λ t. HasText b t.items)
-    → IfErr r (canonical.IsRefusal b) → IsText b r
+    → IfErr r (canonical.IsRefusal b) → IsEncoded b r
 texted b (Ok t) has why = (has.message, accepts b has.message has.accepted, has.text, has.short)
 texted b (Err e) has why = refusal b e why
 

@@ -39,13 +39,13 @@ KernelFault b c =
     × First (place (attributes v.interface_family)) d c)
 
 -- the canonical encoding of a message: its header, and each attribute as its row writes it, with zeros as padding
-abbrev pub text : LinkMessage → List ℕ
-text m = header_bytes m.header ++ canons written.attributes.frame m.attributes
+abbrev pub encoding : LinkMessage → List ℕ
+encoding m = header_bytes m.header ++ canons written.attributes.frame m.attributes
 
 -- each value has at most 65531 bytes, at every level, and the encoding fewer than 2 ^ 64. What `written.attributes` is,
 -- `AllFollowRows` says
 abbrev pub Fits : LinkMessage → Type 0
-Fits m = AllByRecursion written.attributes.Fits m.attributes × (length (text m) < 2 ^ 64)
+Fits m = AllByRecursion written.attributes.Fits m.attributes × (length (encoding m) < 2 ^ 64)
 
 -- if the attribute is IFLA_VF_PORTS, it has an entry. Bytes can mean one without: all its entries had other numbers
 -- than 1, and were dropped. Written it would be empty, and refused
@@ -73,11 +73,11 @@ pub record Format : Type 0 where
   pub one_meaning : (b : List ℕ) (m n : LinkMessage) → KernelMeans b m → KernelMeans b n → m ≡ n
   pub one_fault : (b : List ℕ) (c d : Cause) → KernelFault b c → KernelFault b d → c ≡ d
   -- an encoding means its message, and by `one_meaning` no other
-  pub text_means : (b : List ℕ) (m : LinkMessage) → IsBytes b → Accepts b m → KernelMeans (text m) m
-  -- encodings are equal exactly where messages are: the same attributes in the same order. It follows from `text_means`
-  -- and `one_meaning`
-  pub same_text : (a b : List ℕ) (m n : LinkMessage) → IsBytes a → IsBytes b → Accepts a m → Accepts b n
-      → (text m ≡ text n) ↔ (m ≡ n)
+  pub encoding_means : (b : List ℕ) (m : LinkMessage) → IsBytes b → Accepts b m → KernelMeans (encoding m) m
+  -- encodings are equal exactly where messages are: the same attributes in the same order. It follows from
+  -- `encoding_means` and `one_meaning`
+  pub same_encoding : (a b : List ℕ) (m n : LinkMessage) → IsBytes a → IsBytes b → Accepts a m → Accepts b n
+      → (encoding m ≡ encoding n) ↔ (m ≡ n)
 
 -- ** what the calls return
 
@@ -85,7 +85,7 @@ pub record Format : Type 0 where
 -- many bytes after its header as b; and what at most 839 bytes after a header mean fits
 pub record IsWithinBounds (b : List ℕ) (m : LinkMessage) : Type 0 where
   pub few : 4 * total written.attributes.count m.attributes ≤ length b - 16
-  pub short : length (text m) ≤ 16 + 79 * (length b - 16)
+  pub short : length (encoding m) ≤ 16 + 79 * (length b - 16)
   pub small : length b ≤ 16 + 839 → Fits m
 
 -- the message that b means; or the first fault of b; or memory ran out
@@ -107,9 +107,10 @@ IsRefusal b Refusals.EmptyVfPorts = (m : LinkMessage) × KernelMeans b m × Fits
 IsRefusal b Refusals.OutOfMemory = Unit {0}
 
 -- the canonical encoding of the message that b means; or why there is none
-abbrev pub IsText : List ℕ → Result (Vec ℕ) CanonError → Type 0
-IsText b (Ok t) = (m : LinkMessage) × Accepts b m × (t.items ≡ text m) × (length t.items ≤ 16 + 79 * (length b - 16))
-IsText b (Err e) = IsRefusal b e
+abbrev pub IsEncoded : List ℕ → Result (Vec ℕ) CanonError → Type 0
+IsEncoded b (Ok t) =
+    (m : LinkMessage) × Accepts b m × (t.items ≡ encoding m) × (length t.items ≤ 16 + 79 * (length b - 16))
+IsEncoded b (Err e) = IsRefusal b e
 
 -- whether a and b mean one message; or why the first of them that has no canonical encoding has none
 abbrev pub IsSame : List ℕ → List ℕ → Result Bool CanonError → Type 0
@@ -123,5 +124,5 @@ pub record Headline (a b : List ℕ) (parse : Result LinkMessage DecodeError) (c
   pub format : Format
   pub parsed : IsParsed a parse
   pub checked : IsChecked a check
-  pub encoded : IsText a canonical
+  pub encoded : IsEncoded a canonical
   pub compared : IsSame a b same_message

@@ -62,8 +62,8 @@ pub record Row (V : Type 0) : Type 1 where
 
 -- a frame of this number has such a payload, whatever its flags, and means its value as this variant, which is written
 -- with this kind: the number, with or without a flag
-abbrev pub row_of : {V A : Type 0} (number kind : ℕ) (size : Option ℕ) → Form A → (A → V) → Row V
-row_of {V} {A} number kind size form variant = record {
+abbrev pub row_as : {V A : Type 0} (number kind : ℕ) (size : Option ℕ) → Form A → (A → V) → Row V
+row_as {V} {A} number kind size form variant = record {
   number = number;
   size = size;
   grammar = by_payload (as_a variant form.grammar);
@@ -73,15 +73,15 @@ row_of {V} {A} number kind size form variant = record {
 
 -- it is written without flags
 abbrev pub row : {V A : Type 0} (number : ℕ) → Form A → (A → V) → Row V
-row number = row_of number number None
+row number = row_as number number None
 
 -- it is written with NLA_F_NESTED
 abbrev pub nested_row : {V A : Type 0} (number : ℕ) → Form A → (A → V) → Row V
-nested_row number = row_of number (number + 32768) None
+nested_row number = row_as number (number + 32768) None
 
 -- only where the payload has so many bytes
 abbrev pub row_of_size : {V A : Type 0} (size number : ℕ) → Form A → (A → V) → Row V
-row_of_size size number = row_of number number (Some size)
+row_of_size size number = row_as number number (Some size)
 
 -- values of this variant are frames, and are written as they are, with their flags
 abbrev pub Keeps : {V : Type 0} → (Frame → V) → Written V → Type 0
