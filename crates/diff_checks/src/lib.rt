@@ -7,3 +7,5 @@ mod lenient;
 mod messages;
 #[cfg(test)]
 mod parts;
+#[cfg(test)]
+mod settings;
