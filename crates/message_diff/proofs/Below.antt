@@ -1,14 +1,13 @@
 -- The numbers of attributes that have a name.
-use Rattle.std.proofs.Common.{◌≡◌, ◌≢◌, ℕ, ◌<◌, ◌≤◌, Bool, true, false, List, [], ◌∷◌, refl, sym, ap, ◌∙◌, arith}
+use Rattle.std.proofs.Common.{◌≡◌, ℕ, ◌<◌, ◌≤◌, Bool, true, false, List, [], ◌∷◌, refl, sym, ap, ◌∙◌, arith}
 use Rattle.std.specs.Prelude.{◌-◌, ◌==◌, ◌&&◌, cond, nat_lt, not}
 use Rattle.std.proofs.lemmas.Bool.{eqb-true, ltb-true, ltb-false, and_parts}
 use Rattle.std.specs.Int.{w16}
 use Rattle.nla_wire.specs.Fields.{number_at}
-use Rattle.nla_wire.proofs.Tables.{Entry, IsOther, way_in, other_way, Way, Kept}
+use Rattle.nla_wire.proofs.Tables.{Entry, IsOther, other_way}
 use Rattle.link_vals.specs.declared.address_family.AddressFamily.{AddressFamily}
 use Rattle.link_msg.specs.Tables.{base, attribute_view, NotEmptyPorts, attribute_entries, attribute_way}
 use Rattle.link_msg.specs.declared.numbers.TheConstants.{IFLA_AF_SPEC}
-use Rattle.link_msg.specs.declared.shape.Shape.{Shape}
 use Rattle.message_diff.specs.Frames.{frame_number}
 use Rattle.message_diff.specs.Parts.{are_kept, has_settings, is_kept}
 

@@ -8,7 +8,6 @@ use Rattle.std.specs.Slice.{IsGetRangeResult}
 use Rattle.std.specs.Prelude.{Option, None, Some, ◌==◌, ◌&&◌, ◌||◌, cond, not}
 use Rattle.std.specs.Int.{w16}
 use Rattle.std.specs.List.{All, concat, filter, list_any}
-use Rattle.std.proofs.lemmas.Bool.Decides.{nat_tests}
 use Rattle.std.proofs.lemmas.List.Elements.{All-take, All-drop, All-get_or, All-from_get_or}
 use Rattle.memchr.specs.Find.{IsFirstByte, is_byte}
 use Rattle.nla_wire.specs.Fields.{number_at}

@@ -1,12 +1,12 @@
 -- The last name among frames is that among the attributes that they mean leniently.
-use Rattle.std.proofs.Common.{◌≡◌, ◌≢◌, ℕ, ◌==◌, Bool, true, false, List, [], ◌∷◌, ◌++◌, refl, sym, ap, subst, ◌∙◌}
-use Rattle.std.proofs.Common.{Option, Some, None, Result, Ok, Err, take, drop, length, inl, inr}
+use Rattle.std.proofs.Common.{◌≡◌, ◌≢◌, ℕ, ◌==◌, Bool, true, false, List, [], ◌∷◌, refl, sym, ap, ◌∙◌}
+use Rattle.std.proofs.Common.{Option, None, take, drop, length, inl, inr}
 use Rattle.std.specs.Prelude.{cond}
 use Rattle.std.specs.List.{fold}
 use Rattle.std.proofs.Math.Seq.{take-append_seam, drop-append_seam}
 use borrow.Author.Tests.{false-eqb}
 use Rattle.nla_wire.specs.Frames.{Frame, number, Frames}
-use Rattle.nla_wire.specs.Reading.{Cut, cut}
+use Rattle.nla_wire.specs.Reading.{Cut}
 use Rattle.nla_wire.specs.Items.{items_of, items}
 use Rattle.nla_wire.specs.Grammar.{Every}
 use Rattle.nla_wire.specs.declared.error.Cause.{Cause}

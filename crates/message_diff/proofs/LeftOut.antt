@@ -2,14 +2,14 @@
 -- in messages of one family whose addresses are as long and whose counters have one order: so the leaves of two parts
 -- are those of the messages.
 use Rattle.std.proofs.Common.{◌≡◌, ◌≢◌, ℕ, Bool, true, false, List, [], ◌∷◌, ◌++◌, refl, sym, ap, ◌∙◌, length, arith}
-use Rattle.std.specs.Prelude.{Option, Some, None, ◌==◌, ◌&&◌, ◌||◌, cond, not}
+use Rattle.std.specs.Prelude.{Option, Some, None, ◌==◌, ◌||◌, cond, not}
 use Rattle.std.specs.List.{AllByRecursion, concat, filter, list_any}
 use Rattle.std.proofs.lemmas.Bool.{eqb-true, eqb-false, eq-eqb, ne_eqb, and_parts, or_parts, not-true, not-false}
 use Rattle.std.proofs.lemmas.Slice.Eq.{bytes_eq-Decides}
 use Rattle.link_vals.specs.declared.address_family.AddressFamily.{AddressFamily}
 use Rattle.message_diff.specs.Frames.{frame_number}
 use Rattle.message_diff.specs.Known.{is_text}
-use Rattle.message_diff.specs.Differences.{Leaf, Diff, diffs}
+use Rattle.message_diff.specs.Differences.{Leaf, diffs}
 use Rattle.message_diff.specs.Parts.{is_kept, kept_in, named_in, has_number, frame_at, are_single, stays, is_taken}
 use Rattle.message_diff.specs.Parts.{unless_same}
 use Rattle.message_diff.specs.Trees.{Forest, joined, find_tree, leaf_or, one_beside, beside, leaves_under, IsGood}

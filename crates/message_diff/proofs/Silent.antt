@@ -1,5 +1,5 @@
 -- What is told of two encodings.
-use Rattle.std.proofs.Common.{◌≡◌, ◌++◌, ℕ, List, [], Bool, true, false, append-nil, ap, refl, sym, subst, ◌∙◌, arith}
+use Rattle.std.proofs.Common.{◌≡◌, ◌++◌, ℕ, List, [], Bool, true, false, append-nil, refl, sym, ◌∙◌, arith}
 use Rattle.std.specs.Prelude.{◌↔◌, IsTrue, MatchBool}
 use Rattle.std.specs.Bool.{Decides}
 use Rattle.std.proofs.lemmas.Slice.Eq.{bytes_eq-Decides}

@@ -1,4 +1,4 @@
-use Rattle.std.proofs.Common.{◌≡◌, List, ℕ, sym, ap, subst, ◌∙◌, inr}
+use Rattle.std.proofs.Common.{List, ℕ, sym, ap, subst, ◌∙◌, inr}
 use Rattle.std.proofs.lemmas.Result.{on_ok_weaker}
 use Rattle.message_diff.specs.Counted.{IsFilled, paths_of}
 use Rattle.message_diff.proofs.Paths.{paths_are}

@@ -1,12 +1,10 @@
-use Rattle.std.proofs.Common.{◌≡◌, ◌%◌, ◌++◌, ◌∷◌, ℕ, List, [], Bool, true, false, sym, ap, subst, ◌∙◌, append_assoc}
+use Rattle.std.proofs.Common.{◌≡◌, ◌%◌, ◌++◌, ◌∷◌, ℕ, List, [], true, false, sym, ap, ◌∙◌, append_assoc}
 use Rattle.std.proofs.Common.{append-nil, refl, rules}
 use Rattle.std.specs.Prelude.{◌||◌, not}
-use Rattle.std.specs.List.{concat, filter}
-use Rattle.message_diff.specs.Frames.{frame_number, frames_of}
+use Rattle.message_diff.specs.Frames.{frame_number}
 use Rattle.message_diff.specs.Known.{is_text}
-use Rattle.message_diff.specs.Parts.{is_kept, is_taken, named_in, stays, frame_at, at_place, AreAtPlaces}
-use Rattle.message_diff.proofs.Below.{named_below}
-use Rattle.message_diff.proofs.PartFrames.{add_kept, add_same, add_taken, add_left, read_place}
+use Rattle.message_diff.specs.Parts.{is_kept, is_taken, named_in, at_place, AreAtPlaces}
+use Rattle.message_diff.proofs.PartFrames.{add_kept, add_taken, add_left, read_place}
 use Rattle.message_diff.proofs.PartFrames.{taken, by_place, by_number}
 use Rattle.message_diff.proofs.parts.Part.add.Goals as goal
 use Rattle.message_diff.proofs.parts.Part.add.Goals.{then-stays, else-stays}

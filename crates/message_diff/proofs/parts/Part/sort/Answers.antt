@@ -1,6 +1,5 @@
 use Rattle.std.proofs.Common.{◌≡◌, ◌<◌, ℕ, zero, suc, refl, List, [], false, length}
 use Rattle.std.proofs.Common.{take, get_or, set, sym, ap, subst, ◌∙◌, rules, arith}
-use Rattle.std.specs.Borrow.{Bor}
 use Rattle.std.proofs.lemmas.Bool.{eqb-true, eqb-false}
 use Rattle.std.proofs.lemmas.List.{take_min}
 use Rattle.message_diff.specs.Frames.{frame_number, frames_of}
