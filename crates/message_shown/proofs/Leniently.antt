@@ -17,7 +17,7 @@ use Rattle.link_info.specs.Styles.{are_frames}
 use Rattle.link_vals.specs.declared.address_family.AddressFamily.{AddressFamily}
 use Rattle.link_msg.specs.Header.{header_size, header_of}
 use Rattle.link_msg.specs.Lenient.{MeansLeniently, MeansNoneLeniently, lenient_place}
-use Rattle.link_msg.specs.Messages.{Means, MeansNothing}
+use Rattle.link_msg.specs.Messages.{MeansNothing}
 use Rattle.link_msg.specs.Tables.{attribute_place, attribute_lawful}
 use Rattle.link_msg.specs.FaultPath.{numbers_to}
 use Rattle.link_msg.specs.Told.{Told, after, told_all, told_on}

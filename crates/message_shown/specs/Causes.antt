@@ -1,5 +1,5 @@
 -- The names of causes and their numbers, and what an attribute's frame holds.
-use Rattle.std.specs.Prelude.{◌≡◌, ℕ, List, [], ◌∷◌, ◌++◌, bit_and, codes, decimal, map}
+use Rattle.std.specs.Prelude.{ℕ, List, [], ◌∷◌, ◌++◌, bit_and, codes, decimal, map}
 use Rattle.hex.specs.Hex.{encode_lower}
 use Rattle.json.specs.Token.{number, string}
 use Rattle.nla_wire.specs.declared.error.Cause.{Cause}
