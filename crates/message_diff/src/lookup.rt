@@ -10,7 +10,7 @@ use crate::leaves::Leaves;
 use std::alloc::{AllocError, Global};
 
 /// So often all leaves are passed before their paths are sorted.
-const PASSES: usize = 8;
+const PASSES: usize = 24;
 
 /// Whether a path is among these, which are in the order of their bytes.
 fn is_in(sorted: &[&[u8]], path: &[u8]) -> bool
