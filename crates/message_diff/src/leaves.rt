@@ -158,6 +158,13 @@ impl Leaves {
         self.spots.is_empty()
     }
 
+    /// How many there are.
+    pub fn len(&self) -> usize
+        ensures { result ≡ length self.now.spots.items }
+    {
+        self.spots.len()
+    }
+
     /// Forgets all leaves.
     pub fn clear(&mut self)
         ensures paths { self.new.paths.items ≡ [] }

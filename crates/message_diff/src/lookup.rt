@@ -9,8 +9,11 @@ ghost use Rattle.message_diff.specs.Sorted.{AreSorted, IsLookup};
 use crate::leaves::Leaves;
 use std::alloc::{AllocError, Global};
 
-/// So often all leaves are passed before their paths are sorted.
-const PASSES: usize = 24;
+/// So many leaves are passed each time.
+const FEW: usize = 64;
+
+/// So often more leaves are passed before their paths are sorted.
+const PASSES: usize = 8;
 
 /// Whether a path is among these, which are in the order of their bytes.
 fn is_in(sorted: &[&[u8]], path: &[u8]) -> bool
@@ -55,8 +58,8 @@ impl<'a> Lookup<'a> {
             self.likely = self.likely.saturating_add(1);
             return Ok(true);
         }
-        if self.passes < PASSES {
-            self.passes += 1;
+        if self.leaves.len() <= FEW || self.passes < PASSES {
+            self.passes = self.passes.saturating_add(1);
             return Ok(self.pass(path));
         }
         if self.sorted.is_empty() {
