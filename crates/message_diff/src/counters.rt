@@ -92,8 +92,10 @@ fn is_counter(
     value: Option<&[u8]>,
 ) -> Result<bool, AllocError>
     ensures is { (counters : Leaves) → IsLookup counters leaves.old → IfOk result (λ is.
-        is ≡ (may_be (option_map (λ value. value.now) value.entry) && has_path (paths_in counters) path.now)) }
-    ensures lookup { (counters : Leaves) → IsLookup counters leaves.old → IsLookup counters leaves.new }
+        is ≡ (may_be (option_map (λ value. value.now) value.entry)
+        && has_path (paths_in counters) path.now)) }
+    ensures lookup { (counters : Leaves) → IsLookup counters leaves.old
+        → IsLookup counters leaves.new }
 {
     Ok(may_be(value) && leaves.has(alloc, path)?)
 }

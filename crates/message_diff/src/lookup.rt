@@ -17,7 +17,8 @@ const PASSES: usize = 8;
 
 /// Whether a path is among these, which are in the order of their bytes.
 fn is_in(sorted: &[&[u8]], path: &[u8]) -> bool
-    ensures { (paths : List (List ℕ)) → AreSorted paths sorted.now → result ≡ has_path paths path.now }
+    ensures { (paths : List (List ℕ)) → AreSorted paths sorted.now
+        → result ≡ has_path paths path.now }
 {
     sorted.binary_search(&path).is_ok()
 }
@@ -52,7 +53,8 @@ impl<'a> Lookup<'a> {
     pub fn has(&mut self, alloc: Global, path: &[u8]) -> Result<bool, AllocError>
         ensures has { (leaves : Leaves) → IsLookup leaves self.old
             → IfOk result (λ has. has ≡ has_path (paths_in leaves) path.now) }
-        ensures lookup { (leaves : Leaves) → IsLookup leaves self.old → IsLookup leaves self.new }
+        ensures lookup { (leaves : Leaves) → IsLookup leaves self.old
+            → IsLookup leaves self.new }
     {
         if self.leaves.is_at(self.likely, path) {
             self.likely = self.likely.saturating_add(1);
