@@ -8,9 +8,13 @@ use std::alloc::{AllocError, Global};
 /// How many functions there are: of so many settings the counters are looked for one by one, and then in order.
 const FUNCTIONS: u32 = 32;
 
+/// How long a payload may be.
+const MOST: usize = 65531;
+
 /// Adds an attribute whose size is a multiple of four.
 fn push_frame(out: &mut Vec<u8>, kind: u16, payload: &[u8]) -> Result<(), AllocError> {
-    out.extend_from_slice(&(payload.len().saturating_add(4) as u16).to_le_bytes())?;
+    let len = payload.len().min(MOST) + 4;
+    out.extend_from_slice(&(len as u16).to_le_bytes())?;
     out.extend_from_slice(&kind.to_le_bytes())?;
     out.extend_from_slice(payload)
 }
