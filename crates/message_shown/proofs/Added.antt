@@ -13,7 +13,7 @@ use Rattle.link_msg.specs.declared.message.LinkMessage.{LinkMessage}
 use Rattle.line_filter.specs.Lines.{with_lf}
 use Rattle.line_filter.specs.Words.{are_alone, digits_of, front_of, rest_of}
 use Rattle.json.specs.Token.{Token, begin_object, key, string}
-use Rattle.json.specs.Print.{print, print_from, escape_byte}
+use Rattle.shown.specs.Print.{print, print_from, escape_byte, escape_from}
 use Rattle.shown.specs.Drafts.{Draft, Members, empty_object, with_value, with_members, object_of}
 use Rattle.shown.specs.Pages.{AddsText}
 use Rattle.shown.proofs.Drafts.{members_added}
@@ -239,5 +239,5 @@ tells_as cx words b old new s = tells_by cx words b s.0 old new s.1 s.2
 
 -- the answer to a line of digits that spell no bytes, without words
 pub not_hex_line : with_lf (whole_object (nothex_member ∷ [])) ≡ codes "{\"fault\":\"not-hex\"}\n"
-unfolding print_from escape_byte
+unfolding print_from escape_from escape_byte
 not_hex_line = refl

@@ -10,7 +10,7 @@ use Rattle.hex.proofs.HexLemmas.{decode_of-ok}
 use Rattle.std.specs.List.{flat_map}
 use Rattle.std.proofs.lemmas.List.Concat.{flat_map-append}
 use Rattle.json.specs.Token.{Token, begin_object, end_object, key, string, number}
-use Rattle.json.specs.Print.{print}
+use Rattle.shown.specs.Print.{print}
 use Rattle.nla_wire.specs.Frames.{Frame, IsBytes}
 use Rattle.nla_wire.specs.Grammar.{Grammar}
 use Rattle.nla_wire.specs.declared.error.Cause.{Cause}

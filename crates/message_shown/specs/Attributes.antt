@@ -7,7 +7,7 @@ use Rattle.link_msg.specs.declared.attribute.LinkAttribute.{LinkAttribute}
 use Rattle.link_msg.specs.declared.attribute.LinkAttribute.TheVariants as Attributes
 use Rattle.hex.specs.Hex.{encode_lower}
 use Rattle.json.specs.Token.{Token, string}
-use Rattle.json.specs.Print.{print}
+use Rattle.shown.specs.Print.{print}
 use Rattle.link_vals.specs.AddressFamilyTable.{address_family_number}
 use Rattle.nla_wire.specs.Fields.{number_at, signed_at}
 use Rattle.link_msg.specs.Tables.{attribute_frame}

@@ -1,41 +1,196 @@
 -- Texts with their escapes that were stored part after part.
-use Rattle.std.proofs.Common.{◌≡◌, ℕ, ◌+◌, ◌<◌, List, [], ◌∷◌, ◌++◌, length, take, drop, get_or, ap, sym, ◌∙◌}
-use Rattle.std.proofs.Common.{append-nil, take-add, take-append-drop}
-use Rattle.std.proofs.lemmas.List.{take_more}
-use Rattle.std.proofs.lemmas.List.Concat.{flat_map-append}
+use Rattle.std.proofs.Common.{◌≡◌, ℕ, zero, suc, ◌+◌, ◌<◌, ◌≤◌, true, false, not, ◌==◌}
+use Rattle.std.proofs.Common.{List, [], ◌∷◌, ◌++◌}
+use Rattle.std.proofs.Common.{length, take, drop, get_or, nat_lt, refl, ap, sym, ◌∙◌, subst, arith, length-drop}
+use Rattle.std.proofs.Common.{append_assoc, append-nil, get_or-drop, length-take-le, set, Bool}
+use Rattle.std.specs.Bool.{OnTrue}
+use Rattle.std.proofs.lemmas.Bool.{eqb-false, ltb-false, not-true, or_parts}
+use Rattle.std.proofs.lemmas.List.{drop_all, drop_more, drop-drop, length-set, take_all, take_more_set}
 use Rattle.json.specs.Filled.{Placed}
-use Rattle.json.specs.Print.{escape, escape_byte}
 use Rattle.json.proofs.Printed.Places.{Placed-then}
+use Rattle.json.proofs.Printed.Strings.{escape_byte_plain}
+use Rattle.shown.specs.Escapes.{AddsEscaped, Escaped, PlainBetween, may_escape}
+use Rattle.shown.specs.Print.{bytes_behind, escape, escape_byte, escape_first, escape_from, unseen, unseen_in}
+use Rattle.shown.specs.Sheets.{Adds, Keeps}
+use Rattle.shown.proofs.Pieces.{adds_behind, placed_keeps}
 
--- the escapes of one byte more
-escape_more : (text : List ℕ) (done : ℕ) → done < length text
-    → escape (take (done + 1) text) ≡ escape (take done text) ++ escape_byte (get_or text done 0)
-escape_more text done within =
-    ap escape (take_more text done 0 within) ∙ flat_map-append escape_byte (take done text) (get_or text done 0 ∷ [])
-    ∙ ap (λ l. escape (take done text) ++ l) (append-nil (escape_byte (get_or text done 0)))
+-- ** one character
 
--- the escapes of n bytes more
-pub escape_part : (text : List ℕ) (done n : ℕ)
-    → escape (take (done + n) text) ≡ escape (take done text) ++ escape (take n (drop done text))
-escape_part text done n =
-    ap escape (take-add done n text) ∙ flat_map-append escape_byte (take done text) (take n (drop done text))
+skipped : (n : ℕ) (s : List ℕ) → escape_from n s ≡ escape (drop n s)
+unfolding escape_from
+skipped zero [] = refl
+skipped zero (x ∷ s) = refl
+skipped (suc n) [] = refl
+skipped (suc n) (x ∷ s) = skipped n s
 
--- the escapes of the rest
-pub escape_rest : (text : List ℕ) (done : ℕ) → escape text ≡ escape (take done text) ++ escape (drop done text)
-escape_rest text done =
-    ap escape (sym (take-append-drop done text)) ∙ flat_map-append escape_byte (take done text) (drop done text)
+-- what stands for the front, and the rest of a text
+front_and_rest : (x : ℕ) (s : List ℕ)
+    → escape (x ∷ s) ≡ escape_first (unseen_in (x ∷ s)) x ++ escape (drop (bytes_behind (unseen_in (x ∷ s))) s)
+unfolding escape_from
+front_and_rest x s =
+    ap (λ l. escape_first (unseen_in (x ∷ s)) x ++ l) (skipped (bytes_behind (unseen_in (x ∷ s))) s)
 
-pub byte_stored : {a b c : List ℕ} {i j k : ℕ} (text : List ℕ) (done : ℕ) → done < length text
-    → Placed a b i (escape (take done text)) j → Placed b c j (escape_byte (get_or text done 0)) k
-    → Placed a c i (escape (take (done + 1) text)) k
-byte_stored text done within front more = rw (escape_more text done within) (Placed-then front more)
+at_place : (text : List ℕ) (from : ℕ) → from < length text
+    → escape (drop from text)
+    ≡ escape_first (unseen_in (drop from text)) (get_or text from 0)
+    ++ escape (drop (from + 1 + bytes_behind (unseen_in (drop from text))) text)
+at_place text from within =
+    let x = get_or text from 0 in
+    let s = drop (from + 1) text in
+    let is = drop_more text from 0 within in
+    ap escape is ∙ front_and_rest x s
+    ∙ (λ i. escape_first (unseen_in (sym is i)) x ++ escape (drop (bytes_behind (unseen_in (sym is i))) s))
+    ∙ ap (λ l. escape_first (unseen_in (drop from text)) x ++ escape l)
+    (drop-drop (bytes_behind (unseen_in (drop from text))) (from + 1) text)
 
-pub part_stored : {a b c : List ℕ} {i j k : ℕ} (text : List ℕ) (done n : ℕ)
-    → Placed a b i (escape (take done text)) j → Placed b c j (escape (take n (drop done text))) k
-    → Placed a c i (escape (take (done + n) text)) k
-part_stored text done n front more = rw (escape_part text done n) (Placed-then front more)
+-- ** plain bytes
 
-pub rest_stored : {a b c : List ℕ} {i j k : ℕ} (text : List ℕ) (done : ℕ)
-    → Placed a b i (escape (take done text)) j → Placed b c j (escape (drop done text)) k
-    → Placed a c i (escape text) k
-rest_stored text done front more = rw (escape_rest text done) (Placed-then front more)
+plain_first : (x y z : ℕ) → not (may_escape x) ≡ true → (unseen x y z ≡ 0) × (escape_byte x ≡ x ∷ [])
+plain_first x y z h =
+    let sixth = or_parts _ (x == 0xe2) (not-true (may_escape x) h) in
+    let fifth = or_parts _ (x == 0xd8) sixth.0 in
+    let fourth = or_parts _ (x == 0xc2) fifth.0 in
+    let third = or_parts _ (x == 0x7f) fourth.0 in
+    let second = or_parts _ (x == 0x5c) third.0 in
+    let first = or_parts (nat_lt x 0x20) (x == 0x22) second.0 in (
+      rw (third.1, fourth.1, fifth.1, sixth.1) refl,
+      escape_byte_plain x (eqb-false x 34 first.1) (eqb-false x 92 second.1) (ltb-false x 32 first.0),
+    )
+
+plain_step : (x : ℕ) (s : List ℕ) → not (may_escape x) ≡ true → escape (x ∷ s) ≡ x ∷ escape s
+plain_step x s h =
+    let is = plain_first x (get_or s 0 0) (get_or s 1 0) h in
+    front_and_rest x s ∙ (λ i. escape_first (is.0 i) x ++ escape (drop (bytes_behind (is.0 i)) s))
+    ∙ ap (λ l. l ++ escape s) is.1
+
+pub plain_run : (n : ℕ) (t : List ℕ) → n ≤ length t → PlainBetween t 0 n → escape t ≡ take n t ++ escape (drop n t)
+plain_run zero t within h = refl
+plain_run (suc n) [] within h = absurd (omega arith)
+plain_run (suc n) (x ∷ s) within h =
+    plain_step x s (h 0 (omega arith) (omega arith))
+    ∙ ap (λ l. x ∷ l) (plain_run n s (omega arith) (λ k from to. h (suc k) (omega arith) (omega arith)))
+
+pub plain_text : (text : List ℕ) → PlainBetween text 0 (length text) → escape text ≡ text
+unfolding escape_from
+plain_text text h =
+    plain_run (length text) text (omega arith) h
+    ∙ (λ i. take_all (length text) text (omega arith) i ++ escape (drop_all (length text) text (omega arith) i))
+    ∙ append-nil text
+
+plain_part : (text : List ℕ) (from n : ℕ) → from + n ≤ length text → PlainBetween text from (from + n)
+    → escape (drop from text) ≡ take n (drop from text) ++ escape (drop (from + n) text)
+plain_part text from n within h =
+    plain_run n (drop from text) (omega (arith, length-drop from text))
+    (λ k low high. ap (λ x. not (may_escape x)) (get_or-drop from text k 0) ∙ h (from + k) (omega arith) (omega arith))
+    ∙ ap (λ l. take n (drop from text) ++ escape l) (drop-drop n from text)
+
+-- ** what was stored
+
+pub none_stored : (a text : List ℕ) (at from : ℕ) → Escaped a a at at text from from
+none_stored a text at from = record {
+  piece = [];
+  placed = record { bytes = sym (append-nil (take at a)); moved = omega arith; len = refl };
+  is = refl;
+  onwards = omega arith;
+  room = omega arith;
+}
+
+pub stored_then : {a b c text : List ℕ} {at mid end from via to : ℕ}
+    → Escaped a b at mid text from via → Escaped b c mid end text via to → Escaped a c at end text from to
+stored_then {text = text} {from = from} {via = via} {to = to} p q = record {
+  piece = p.piece ++ q.piece;
+  placed = Placed-then p.placed q.placed;
+  is = p.is ∙ ap (λ l. p.piece ++ l) q.is ∙ sym (append_assoc p.piece q.piece (escape (drop to text)));
+  onwards = omega (arith, p.onwards, q.onwards);
+  room = omega (arith, p.onwards, q.onwards, p.room, q.room);
+}
+
+pub character_stored : {a b : List ℕ} {at len : ℕ} (text : List ℕ) (from : ℕ) → from < length text → len ≤ 6
+    → Placed a b at (escape_first (unseen_in (drop from text)) (get_or text from 0)) (at + len)
+    → Escaped a b at (at + len) text from (from + 1 + bytes_behind (unseen_in (drop from text)))
+character_stored {a} {b} {at} {len} text from within few placed = record {
+  piece = escape_first (unseen_in (drop from text)) (get_or text from 0);
+  placed = placed;
+  is = at_place text from within;
+  onwards = omega arith;
+  room = omega arith;
+}
+
+pub plain_stored : {a b : List ℕ} {at : ℕ} (text : List ℕ) (from n : ℕ) → from + n ≤ length text
+    → PlainBetween text from (from + n) → Placed a b at (take n (drop from text)) (at + n)
+    → Escaped a b at (at + n) text from (from + n)
+plain_stored {a} {b} {at} text from n within plain placed = record {
+  piece = take n (drop from text);
+  placed = placed;
+  is = plain_part text from n within plain;
+  onwards = omega arith;
+  room = omega arith;
+}
+
+pub one_plain : (text : List ℕ) (from : ℕ) → may_escape (get_or text from 0) ≡ false → PlainBetween text from (from + 1)
+one_plain text from h k low high =
+    let same : from ≡ k = omega arith in
+    subst (λ j. not (may_escape (get_or text j 0)) ≡ true) same (ap not h)
+
+pub byte_stored : (a text : List ℕ) (at from : ℕ) → at < length a → from < length text
+    → may_escape (get_or text from 0) ≡ false
+    → Escaped a (set a at (get_or text from 0)) at (at + 1) text from (from + 1)
+byte_stored a text at from room within h =
+    let one = length-take-le 1 (drop from text) (omega (arith, length-drop from text)) in
+    plain_stored text from 1 (omega arith) (one_plain text from h)
+    (record {
+      bytes = take_more_set a at (get_or text from 0) room
+          ∙ ap (λ l. take at a ++ l) (sym (ap (take 1) (drop_more text from 0 within)));
+      moved = omega (arith, one);
+      len = length-set a at (get_or text from 0);
+    })
+
+-- what was stored before at the same place is stored over
+pub stored_over : {a b c text xs : List ℕ} {at last end from to : ℕ} → at ≤ length a → Placed a b at xs last
+    → Escaped b c at end text from to → Escaped a c at end text from to
+stored_over within p q = record {
+  piece = q.piece;
+  placed = record {
+    bytes = q.placed.bytes ∙ ap (λ l. l ++ q.piece) (placed_keeps within p);
+    moved = q.placed.moved;
+    len = q.placed.len ∙ p.len;
+  };
+  is = q.is;
+  onwards = q.onwards;
+  room = q.room;
+}
+
+-- ** what was added
+
+pub escaped_added : {a b c text : List ℕ} {len end from to : ℕ} → Keeps a b len → Escaped b c len end text from to
+    → end ≤ length c → AddsEscaped a c len end text from to
+escaped_added kept e within = record {
+  piece = e.piece;
+  adds = record { bytes = e.placed.bytes ∙ ap (λ l. l ++ e.piece) kept.0; within = within };
+  is = e.is;
+}
+
+pub none_added : (a text : List ℕ) (len from : ℕ) → len ≤ length a → AddsEscaped a a len len text from from
+none_added a text len from within =
+    record { piece = []; adds = record { bytes = sym (append-nil (take len a)); within = within }; is = refl }
+
+pub added_then : {a b c text : List ℕ} {len mid end from via to : ℕ} → AddsEscaped a b len mid text from via
+    → AddsEscaped b c mid end text via to → AddsEscaped a c len end text from to
+added_then {text = text} {to = to} p q = record {
+  piece = p.piece ++ q.piece;
+  adds = adds_behind p.adds q.adds;
+  is = p.is ∙ ap (λ l. p.piece ++ l) q.is ∙ sym (append_assoc p.piece q.piece (escape (drop to text)));
+}
+
+-- the whole text
+pub all_added : {a b : List ℕ} {len end to : ℕ} (text : List ℕ) → length text ≤ to
+    → AddsEscaped a b len end text 0 to → Adds a b len (escape text) end
+unfolding escape_from
+all_added {a} {b} {len} {end} {to} text within h =
+    subst (λ (piece : List ℕ). Adds a b len piece end)
+    (sym (h.is ∙ ap (λ l. h.piece ++ escape l) (drop_all to text within) ∙ append-nil h.piece)) h.adds
+
+pub escape_on_plain : (b : Bool) (text : List ℕ) → OnTrue b (PlainBetween text 0 (length text))
+    → OnTrue b (escape text ≡ text)
+escape_on_plain true text h = plain_text text h
+escape_on_plain false text h = tt

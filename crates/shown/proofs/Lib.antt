@@ -1,3 +1,5 @@
+pub mod Printed
+pub mod Characters
 pub mod Blocks
 pub mod Pieces
 pub mod Sheets

@@ -12,7 +12,8 @@ use Rattle.std.proofs.lemmas.Fmt.{decimal_is_IsNumeral, decimal_digit}
 use Rattle.std.proofs.lemmas.Str.Parse.{digit_at}
 use Rattle.json.specs.Token.{Token, begin_object, end_object, begin_array, end_array, key, string, number, boolean}
 use Rattle.json.specs.Token.{null, bad}
-use Rattle.json.specs.Print.{escape_letter, escape_byte, escape, quoted, token_text, ends, separator, print_from}
+use Rattle.shown.specs.Print.{bytes_behind, ends, escape, escape_byte, escape_first, escape_from, escape_letter}
+use Rattle.shown.specs.Print.{print_from, quoted, separator, token_text, unseen_in}
 use Rattle.shown.specs.Pages.{IsOneLine, IsPlain}
 
 one : (x : ℕ) → 32 ≤ x → IsOneLine (x ∷ [])
@@ -48,13 +49,29 @@ byte_on_line x =
     pick (nat_lt 0 (escape_letter x)) _ _ (λ e. two 92 (escape_letter x) (omega arith) (letter_on_line x e))
     (λ _. pick (nat_lt x 32) _ _ (λ _. unicode_on_line x) (λ e. one x (not_below x e)))
 
-text_on_line : (s : List ℕ) → IsOneLine (escape s)
-text_on_line [] = All-nil (λ y. 32 ≤ y)
-text_on_line (x ∷ s) = All-append (λ y. 32 ≤ y) (escape_byte x) (escape s) (byte_on_line x) (text_on_line s)
+first_on_line : (c x : ℕ) → IsOneLine (escape_first c x)
+first_on_line zero x = byte_on_line x
+first_on_line (suc c) x =
+    let d = λ (n : ℕ). digit_on_line n in
+    let front : List ℕ = digit_char (suc c / 4096) ∷ digit_char (suc c / 256 % 16) ∷ [] in
+    let back : List ℕ = digit_char (suc c / 16 % 16) ∷ digit_char (suc c % 16) ∷ [] in
+    All-append (λ y. 32 ≤ y) (92 ∷ 117 ∷ []) (front ++ back) (two 92 117 (omega arith) (omega arith))
+    (All-append (λ y. 32 ≤ y) front back
+    (two (digit_char (suc c / 4096)) (digit_char (suc c / 256 % 16)) (d (suc c / 4096)) (d (suc c / 256 % 16)))
+    (two (digit_char (suc c / 16 % 16)) (digit_char (suc c % 16)) (d (suc c / 16 % 16)) (d (suc c % 16))))
+
+text_on_line : (n : ℕ) (s : List ℕ) → IsOneLine (escape_from n s)
+unfolding escape_from
+text_on_line zero [] = All-nil (λ y. 32 ≤ y)
+text_on_line (suc n) [] = All-nil (λ y. 32 ≤ y)
+text_on_line (suc n) (x ∷ s) = text_on_line n s
+text_on_line zero (x ∷ s) =
+    All-append (λ y. 32 ≤ y) (escape_first (unseen_in (x ∷ s)) x) (escape_from (bytes_behind (unseen_in (x ∷ s))) s)
+    (first_on_line (unseen_in (x ∷ s)) x) (text_on_line (bytes_behind (unseen_in (x ∷ s))) s)
 
 quoted_on_line : (s : List ℕ) → IsOneLine (quoted s)
 quoted_on_line s = All-cons (λ y. 32 ≤ y) 34 (escape s ++ 34 ∷ []) (omega arith)
-    (All-append (λ y. 32 ≤ y) (escape s) (34 ∷ []) (text_on_line s) (one 34 (omega arith)))
+    (All-append (λ y. 32 ≤ y) (escape s) (34 ∷ []) (text_on_line 0 s) (one 34 (omega arith)))
 
 -- ** numbers
 pub decimal_on_line : (n : ℕ) → n < 2 ^ 64 → IsOneLine (decimal n)

@@ -5,7 +5,7 @@ use Rattle.std.specs.List.{fold}
 use Rattle.std.specs.Prelude.{Option, Some, None}
 use Rattle.json.specs.Json.{Json, null, boolean, number, string, array, object, Items, no_items, item, Members}
 use Rattle.json.specs.Json.{no_members, member}
-use Rattle.json.specs.Print.{print}
+use Rattle.shown.specs.Print.{print}
 use Rattle.json.specs.Token.{Token, begin_object, begin_array, end_object, end_array, key}
 use Rattle.json.specs.Tree.{json_tokens, items_tokens, members_tokens}
 use Rattle.shown.specs.Marks.{Noted, Marking, name_or, with_mark, scalar_marks, ended_at, closed, next_place}

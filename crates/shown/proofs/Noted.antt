@@ -7,7 +7,7 @@ use Rattle.std.specs.Prelude.{Option, None, Some, IfSome}
 use Rattle.std.specs.Global.{Global}
 use Rattle.std.specs.declared.boxed.Box.{Box}
 use Rattle.json.specs.Token.{Token, begin_object, key}
-use Rattle.json.specs.Print.{print}
+use Rattle.shown.specs.Print.{print}
 use Rattle.shown.specs.Drafts.{named}
 use Rattle.shown.specs.Marks.{Noted, Marking, with_scalar, with_nest, with_end, ended_at, next_place, name_at}
 use Rattle.shown.specs.Marks.{after_scalar, after_nest, after_end, marked, first_marking, marking}

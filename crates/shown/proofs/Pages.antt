@@ -6,7 +6,7 @@ use Rattle.std.specs.List.{All}
 use Rattle.std.proofs.lemmas.List.Elements.{All-nil, All-cons, All-push}
 use Rattle.std.proofs.lemmas.List.Sums.{fold-append}
 use Rattle.json.specs.Token.{Token, begin_object, end_object, key}
-use Rattle.json.specs.Print.{print}
+use Rattle.shown.specs.Print.{print}
 use Rattle.shown.specs.Nesting.{Spot, due, object, list, after_token, after_tokens, spot_of}
 use Rattle.shown.specs.Nesting.{opening, closing, IsValue}
 use Rattle.shown.specs.Pages.{IsOneLine, IsPlain, IsScalar, IsPage, IsWholeText, IsObject, ended, spots_of}

@@ -4,7 +4,7 @@ use Rattle.std.proofs.Common.{append_assoc, append-nil, length-append, length-ta
 use Rattle.std.proofs.lemmas.List.{take_at}
 use Rattle.std.specs.Prelude.{Result, Ok, Err}
 use Rattle.json.specs.Filled.{Placed}
-use Rattle.json.specs.Print.{escape, quoted, token_text, print, print_from}
+use Rattle.shown.specs.Print.{escape, quoted, token_text, print, print_from}
 use Rattle.json.specs.Token.{Token}
 use Rattle.json.proofs.Printed.Places.{Placed-then}
 use Rattle.shown.specs.Sheets.{Adds, Added, Keeps, comma_if}

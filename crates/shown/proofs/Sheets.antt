@@ -4,8 +4,8 @@ use Rattle.std.proofs.Common.{append_assoc, length, length-append, ◌+◌, refl
 use Rattle.std.specs.Int.{from_bool}
 use Rattle.json.specs.Token.{Token, key, number}
 use Rattle.json.specs.Lex.{tokens}
-use Rattle.json.specs.Print.{print, print_from, ends, ends_value, separator, token_text, IsPrintable, ArePrintable}
-use Rattle.json.proofs.Printed.Tokens.{tokens-print, print_from_push, ends_push, ArePrintable-push}
+use Rattle.shown.specs.Print.{print, print_from, ends, ends_value, separator, token_text, IsPrintable, ArePrintable}
+use Rattle.shown.proofs.Printed.{tokens-print, print_from_push, ends_push, ArePrintable-push}
 use Rattle.json.proofs.Printed.Decimals.{IsNumber-decimal}
 use Rattle.shown.specs.Marks.{next_place}
 use Rattle.shown.specs.Nesting.{opening, closing}

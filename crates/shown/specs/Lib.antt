@@ -1,3 +1,4 @@
+pub mod Print
 pub mod Nesting
 pub mod Sheets
 pub mod Drafts
@@ -5,3 +6,5 @@ pub mod Pages
 pub mod Marks
 pub mod MarkTrees
 pub mod Values
+pub mod Escapes
+pub mod Laws

@@ -2,7 +2,7 @@
 use Rattle.std.specs.Prelude.{ℕ, suc, ◌+◌, List, [], ◌∷◌, ◌++◌, Option, Some, None, length}
 use Rattle.json.specs.Json.{Json, null, boolean, number, string, array, object, Items, no_items, item, Members}
 use Rattle.json.specs.Json.{no_members, member}
-use Rattle.json.specs.Print.{print}
+use Rattle.shown.specs.Print.{print}
 use Rattle.json.specs.Token.{Token, begin_object, begin_array, key}
 use Rattle.json.specs.Tree.{json_tokens}
 use Rattle.shown.specs.Marks.{name_or, next_place}

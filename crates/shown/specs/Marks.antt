@@ -7,7 +7,7 @@ use Rattle.std.specs.Global.{Global}
 use Rattle.std.specs.declared.boxed.Box.{Box}
 use Rattle.json.specs.Token.{Token, begin_object, end_object, begin_array, end_array, key, string, number, boolean}
 use Rattle.json.specs.Token.{null, bad}
-use Rattle.json.specs.Print.{print, ends_value}
+use Rattle.shown.specs.Print.{print, ends_value}
 use Rattle.shown.specs.Drafts.{Draft}
 use Rattle.shown.specs.Pages.{IsPage, IsWholeText, ended}
 use Rattle.shown.specs.Sheets.{comma_if}

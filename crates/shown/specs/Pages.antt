@@ -2,7 +2,7 @@
 use Rattle.std.specs.Prelude.{◌≡◌, ℕ, ◌≤◌, List, [], ◌∷◌, ◌++◌, Some}
 use Rattle.std.specs.List.{fold, All}
 use Rattle.json.specs.Token.{Token, begin_object, number}
-use Rattle.json.specs.Print.{print}
+use Rattle.shown.specs.Print.{print}
 use Rattle.shown.specs.Drafts.{Draft}
 use Rattle.shown.specs.Nesting.{Spot, closing, due, after_value, after_token, after_tokens, IsValue, spot_of}
 use Rattle.shown.specs.declared.page.Nest.{Nest}

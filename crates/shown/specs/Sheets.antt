@@ -1,7 +1,7 @@
 -- The text of tokens, in the first bytes of a buffer.
 use Rattle.std.specs.Prelude.{◌≡◌, ℕ, ◌≤◌, Bool, List, [], ◌∷◌, ◌++◌, length, take, cond, Result, MatchResult}
 use Rattle.json.specs.Token.{Token}
-use Rattle.json.specs.Print.{print, ends_value, ArePrintable}
+use Rattle.shown.specs.Print.{print, ends_value, ArePrintable}
 
 -- the bytes are the text of some tokens; whether the last of them ends a value
 pub record IsText (text : List ℕ) (after_value : Bool) : Type 0 where

@@ -1,16 +1,18 @@
-//! Texts that are stored as blocks which overlap, and are looked at for bytes that need an escape on the way.
+//! Texts that are stored as blocks which overlap, and are looked at for bytes that may need an escape on the way.
 //!
 //! Both by blocks of vectors, as by the writer of the toolchain's crate `json`, which looks at a text before it stores
-//! it.
+//! it. Names and most texts have only the bytes from `#` to `~`, without the backslash, which two tests tell; where
+//! others stand, a text is looked at again, as it is stored by `escape`.
 
 ghost use Rattle.std.specs.Prelude.{◌+◌, ◌≤◌, length, take, drop};
 ghost use Rattle.std.specs.Bool.{OnTrue};
 ghost use Rattle.json.specs.Filled.{Placed};
-ghost use Rattle.json.specs.Written.{PlainBetween};
+ghost use Rattle.shown.specs.Escapes.{PlainBetween};
 
 use std::simd::prelude::*;
 
-/// Stores N bytes of a text, from one place of it on, at a place of the buffer; whether none of them needs an escape.
+/// Stores N bytes of a text, from one place of it on, at a place of the buffer; whether all are from `#` to `~`, and
+/// none is a backslash.
 #[inline(always)]
 pub(crate) fn put_block<const N: usize>(buf: &mut [u8], at: usize, text: &[u8], from: usize) -> bool
     requires few { N ≤ 64 }
@@ -21,13 +23,33 @@ pub(crate) fn put_block<const N: usize>(buf: &mut [u8], at: usize, text: &[u8], 
 {
     let block = Simd::<u8, N>::from_slice(&text[from..]);
     block.copy_to_slice(&mut buf[at..]);
-    (block.simd_eq(Simd::<u8, N>::splat(b'"'))
-        | block.simd_eq(Simd::<u8, N>::splat(b'\\'))
-        | block.simd_lt(Simd::<u8, N>::splat(0x20))).to_bitmask()
+    let above = block - Simd::<u8, N>::splat(b'#');
+    (above.simd_gt(Simd::<u8, N>::splat(b'~' - b'#'))
+        | block.simd_eq(Simd::<u8, N>::splat(b'\\'))).to_bitmask()
         == 0
 }
 
-/// Stores a text of N to 2N bytes; whether none of them needs an escape.
+/// Stores 16 bytes of a text, from one place of it on; whether none of them may need an escape.
+#[inline(always)]
+pub(crate) fn put_exactly(buf: &mut [u8], at: usize, text: &[u8], from: usize) -> bool
+    requires from { from + 16 ≤ length text.now }
+    requires room { at + 16 ≤ length buf.old }
+    ensures placed { Placed buf.old buf.new at (take 16 (drop from text.now)) (at + 16) }
+    ensures plain { OnTrue result (PlainBetween text.now from (from + 16)) }
+{
+    let block = u8x16::from_slice(&text[from..]);
+    block.copy_to_slice(&mut buf[at..]);
+    (block.simd_lt(u8x16::splat(0x20))
+        | block.simd_eq(u8x16::splat(b'"'))
+        | block.simd_eq(u8x16::splat(b'\\'))
+        | block.simd_eq(u8x16::splat(0x7f))
+        | block.simd_eq(u8x16::splat(0xc2))
+        | block.simd_eq(u8x16::splat(0xd8))
+        | block.simd_eq(u8x16::splat(0xe2))).to_bitmask()
+        == 0
+}
+
+/// Stores a text of N to 2N bytes; whether none of them may need an escape.
 #[inline(always)]
 fn put_ends<const N: usize>(buf: &mut [u8], at: usize, text: &[u8]) -> bool
     requires few { N ≤ 64 }
@@ -42,7 +64,7 @@ fn put_ends<const N: usize>(buf: &mut [u8], at: usize, text: &[u8]) -> bool
     front & back
 }
 
-/// Stores a text of 16 bytes or more; whether none of them needs an escape.
+/// Stores a text of 16 bytes or more; whether none of them may need an escape.
 #[inline(always)]
 fn put_long(buf: &mut [u8], at: usize, text: &[u8]) -> bool
     requires long { 16 ≤ length text.now }
@@ -61,7 +83,7 @@ fn put_long(buf: &mut [u8], at: usize, text: &[u8]) -> bool
     is_plain & rest
 }
 
-/// Stores a text at a place of the buffer; whether none of its bytes needs an escape.
+/// Stores a text at a place of the buffer; whether none of its bytes may need an escape.
 #[inline(always)]
 pub(crate) fn put_text(buf: &mut [u8], at: usize, text: &[u8]) -> bool
     requires room { at + length text.now ≤ length buf.old }

@@ -1,14 +1,15 @@
 //! Texts that are stored with the escapes that they need.
 //!
 //! An escape is made in six bytes, of which some count, as by the writer of the toolchain's crate `json`. Here all six
-//! are stored.
+//! are stored. Characters have escapes too that show nothing, or that turn what stands beside them.
 
-ghost use Rattle.std.specs.Prelude.{◌≡◌, ◌+◌, ◌<◌, ◌≤◌, ◌*◌, length, take};
+ghost use Rattle.std.specs.Prelude.{◌≡◌, ◌+◌, ◌-◌, ◌<◌, ◌≤◌, ◌*◌, length, take, drop, not, true, slice_index};
 ghost use Rattle.std.specs.Char.{digit_char};
-ghost use Rattle.json.specs.Filled.{Placed};
-ghost use Rattle.json.specs.Print.{escape, escape_byte, escape_letter};
+ghost use Rattle.shown.specs.Print.{escape_byte, escape_letter};
+ghost use Rattle.shown.specs.Escapes.{Escaped, may_escape};
+ghost use Rattle.shown.specs.Print.{bytes_behind, escape_first, unicode_escape, unseen, unseen_in};
 
-use crate::block::put_block;
+use crate::block::put_exactly;
 
 /// What stands behind the backslash where a byte has an escape of two bytes; else 0.
 #[inline(always)]
@@ -29,13 +30,13 @@ fn letter(byte: u8) -> u8
 
 /// The digit of a value below 16.
 #[inline(always)]
-fn digit(value: u8) -> u8
+fn digit(value: u16) -> u8
     requires { value < 16 }
     ensures { result ≡ digit_char value }
 {
     match value {
-        0..10 => b'0' + value,
-        _ => b'a' + (value - 10),
+        0..10 => b'0' + value as u8,
+        _ => b'a' + (value - 10) as u8,
     }
 }
 
@@ -48,67 +49,175 @@ fn escape_of(byte: u8) -> ([u8; 6], usize)
     match letter(byte) {
         0 if byte >= 0x20 => ([byte, 0, 0, 0, 0, 0], 1),
         0 => {
-            let low = digit(byte % 16);
+            let low = digit(u16::from(byte) % 16);
             ([b'\\', b'u', b'0', b'0', b'0' + byte / 16, low], 6)
         }
         letter => ([b'\\', letter, 0, 0, 0, 0], 2),
     }
 }
 
-/// Stores a byte, or its escape.
+/// The escape of a character by its number.
+fn unicode_escape(number: u16) -> [u8; 6]
+    ensures { result ≡ unicode_escape number }
+{
+    let first = digit(number / 4096);
+    let second = digit(number / 256 % 16);
+    let third = digit(number / 16 % 16);
+    let fourth = digit(number % 16);
+    [b'\\', b'u', first, second, third, fourth]
+}
+
+/// The number of the character that begins with these bytes, where it shows nothing or turns what stands beside it;
+/// else 0.
+fn unseen(first: u8, second: u8, third: u8) -> u16
+    ensures { result ≡ unseen first second third }
+{
+    match (first, second, third) {
+        (0x7f, _, _) => 0x7f,
+        (0xc2, 0x80..=0x9f, _) => u16::from(second),
+        (0xd8, 0x9c, _) => 0x61c,
+        (0xe2, 0x80, 0x8e..=0x8f) => 0x1f80 + u16::from(third),
+        (0xe2, 0x80, 0xa8..=0xae) => 0x1f80 + u16::from(third),
+        (0xe2, 0x81, 0xa6..=0xa9) => 0x1fc0 + u16::from(third),
+        _ => 0,
+    }
+}
+
+/// How many bytes a character has behind its first one.
 #[inline(always)]
-fn put_escape(buf: &mut [u8], at: usize, byte: u8) -> usize
+fn bytes_behind(number: u16) -> usize
+    ensures { result ≡ bytes_behind number }
+{
+    match number {
+        0..0x80 => 0,
+        0x80..0x800 => 1,
+        _ => 2,
+    }
+}
+
+/// A byte of a text, or 0 behind its end.
+#[inline(always)]
+fn byte_at(text: &[u8], at: usize) -> u8
+    ensures { result ≡ slice_index text.now at }
+{
+    match text.get(at) {
+        Some(byte) => *byte,
+        None => 0,
+    }
+}
+
+/// The number of the character at a place of a text, where it shows nothing or turns what stands beside it; else 0.
+#[inline(always)]
+fn unseen_at(text: &[u8], at: usize) -> u16
+    requires { at < length text.now }
+    ensures { result ≡ unseen_in (drop at text.now) }
+{
+    unseen(text[at], byte_at(text, at + 1), byte_at(text, at + 2))
+}
+
+/// What stands for such a character, or for a byte where there is none, at the front of six bytes, and its length.
+#[inline(always)]
+fn escape_first(number: u16, byte: u8) -> ([u8; 6], usize)
+    ensures value { take result.1 result.0 ≡ escape_first number byte }
+    ensures bound { result.1 ≤ 6 }
+{
+    match number {
+        0 => escape_of(byte),
+        _ => (unicode_escape(number), 6),
+    }
+}
+
+/// Stores the character at a place of a text, or the byte there, with its escape; where it ends in both.
+#[inline(always)]
+fn put_escape(buf: &mut [u8], at: usize, text: &[u8], from: usize) -> (usize, usize)
+    requires within { from < length text.now }
     requires room { at + 6 ≤ length buf.old }
-    ensures placed { Placed buf.old buf.new at (escape_byte byte) result }
-    ensures within { result ≤ at + 6 }
+    ensures escaped { Escaped buf.old buf.new at result.0 text.now from result.1 }
+    ensures onwards { (from < result.1) × (result.1 ≤ from + 3) }
 {
-    let (escape, len) = escape_of(byte);
+    let number = unseen_at(text, from);
+    let (escape, len) = escape_first(number, text[from]);
     buf[at..at + 6].copy_from_slice(&escape);
-    at + len
+    (at + len, from + 1 + bytes_behind(number))
 }
 
-/// Stores a few bytes of a text, one by one.
+/// Whether something begins with a byte that has an escape, or may have one.
 #[inline(always)]
-fn put_few(buf: &mut [u8], at: usize, text: &[u8]) -> usize
-    requires room { at + length text.now * 6 ≤ length buf.old }
-    ensures placed { Placed buf.old buf.new at (escape text.now) result }
-    ensures within { result ≤ at + length text.now * 6 }
+fn may_escape(byte: u8) -> bool
+    ensures { result ≡ may_escape byte }
+{
+    matches!(byte, 0..=0x1f | b'"' | b'\\' | 0x7f | 0xc2 | 0xd8 | 0xe2)
+}
+
+/// Stores a byte of a text, or what begins there and has an escape; where it ends in both.
+#[inline(always)]
+fn put_next(buf: &mut [u8], at: usize, text: &[u8], from: usize) -> (usize, usize)
+    requires within { from < length text.now }
+    requires room { at + 6 ≤ length buf.old }
+    ensures escaped { Escaped buf.old buf.new at result.0 text.now from result.1 }
+    ensures onwards { (from < result.1) × (result.1 ≤ from + 3) }
+{
+    let byte = text[from];
+    if may_escape(byte) {
+        return put_escape(buf, at, text, from);
+    }
+    buf[at] = byte;
+    (at + 1, from + 1)
+}
+
+/// Stores a few bytes of a text, one by one, up to a place, or up to the end of a character that stands there.
+#[inline(always)]
+fn put_few(buf: &mut [u8], at: usize, text: &[u8], from: usize, to: usize) -> (usize, usize)
+    requires within { to ≤ length text.now }
+    requires room { at + (to - from) * 6 ≤ length buf.old }
+    ensures escaped { Escaped buf.old buf.new at result.0 text.now from result.1 }
+    ensures reached { (to ≤ result.1) × (result.1 ≤ from + (to + 2 - from)) }
 {
     let mut end = at;
-    let mut done = 0;
-    while done < text.len() {
-        end = put_escape(buf, end, text[done]);
-        done += 1;
+    let mut done = from;
+    while done < to {
+        let step = put_next(buf, end, text, done);
+        end = step.0;
+        done = step.1;
     }
-    end
+    (end, done)
 }
 
-/// Stores a block of a text: at once, where none of its bytes needs an escape.
+/// Stores a block of a text: at once, where none of its bytes may need an escape.
 #[inline(always)]
-fn put_part(buf: &mut [u8], at: usize, text: &[u8]) -> usize
-    requires long { length text.now ≡ 16 }
-    requires room { at + length text.now * 6 ≤ length buf.old }
-    ensures placed { Placed buf.old buf.new at (escape text.now) result }
-    ensures within { result ≤ at + length text.now * 6 }
+fn put_part(buf: &mut [u8], at: usize, text: &[u8], from: usize) -> (usize, usize)
+    requires within { from + 16 ≤ length text.now }
+    requires room { at + 96 ≤ length buf.old }
+    ensures escaped { Escaped buf.old buf.new at result.0 text.now from result.1 }
+    ensures reached { (from + 16 ≤ result.1) × (result.1 ≤ from + 18) }
 {
-    if put_block::<16>(buf, at, text, 0) {
-        return at + 16;
+    if put_exactly(buf, at, text, from) {
+        return (at + 16, from + 16);
     }
-    put_few(buf, at, text)
+    put_few(buf, at, text, from, from + 16)
 }
 
-/// Stores a text with the escapes that it needs.
+/// Stores what stands in a text from one place up to another, or up to the end of a character there, with the escapes
+/// that it needs.
 #[inline(always)]
-pub(crate) fn put_escaped(buf: &mut [u8], at: usize, text: &[u8]) -> usize
-    requires room { at + length text.now * 6 ≤ length buf.old }
-    ensures placed { Placed buf.old buf.new at (escape text.now) result }
-    ensures within { result ≤ at + length text.now * 6 }
+pub(crate) fn put_escaped(
+    buf: &mut [u8],
+    at: usize,
+    text: &[u8],
+    from: usize,
+    to: usize,
+) -> (usize, usize)
+    requires within { (to ≤ length text.now) × (from ≤ to + 2) }
+    requires room { at + (to - from + 2) * 6 ≤ length buf.old }
+    ensures escaped { Escaped buf.old buf.new at result.0 text.now from result.1 }
+    ensures reached { (to ≤ result.1) × (result.1 ≤ to + 2) }
 {
     let mut end = at;
-    let mut done = 0;
-    while text.len() - done >= 16 {
-        end = put_part(buf, end, &text[done..done + 16]);
-        done += 16;
+    let mut done = from;
+    while done + 16 <= to {
+        let step = put_part(buf, end, text, done);
+        end = step.0;
+        done = step.1;
     }
-    put_few(buf, end, &text[done..])
+    put_few(buf, end, text, done, to)
 }

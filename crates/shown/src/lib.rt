@@ -4,6 +4,7 @@
 mod address;
 mod block;
 mod escape;
+pub mod laws;
 pub mod marks;
 pub mod page;
 mod piece;

@@ -3,9 +3,11 @@
 //! Room is made first, and bytes are put at a place of it, as by the writer of the toolchain's crate `json`. Added are
 //! a name and a number in one call, and escapes in parts.
 
-ghost use Rattle.std.specs.Prelude.{◌≡◌, ◌+◌, ◌<◌, ◌≤◌, [], ◌∷◌, ◌++◌, OnOk, IfSome, decimal, length, take};
+ghost use Rattle.std.specs.Prelude.{◌≡◌, ◌+◌, ◌<◌, ◌≤◌, [], ◌∷◌, ◌++◌, OnOk, IfSome, MatchResult};
+ghost use Rattle.std.specs.Prelude.{decimal, length, take};
 ghost use Rattle.json.specs.Filled.{Placed};
-ghost use Rattle.json.specs.Print.{escape, quoted};
+ghost use Rattle.shown.specs.Escapes.{AddsEscaped};
+ghost use Rattle.shown.specs.Print.{escape, quoted};
 ghost use Rattle.shown.specs.Sheets.{Added, Keeps, comma_if};
 
 use crate::block::put_text;
@@ -84,7 +86,7 @@ fn put_quote(buf: &mut [u8], at: usize, comma: bool) -> usize
     quote + 1
 }
 
-/// Stores a text in quotes, where none of its bytes needs an escape.
+/// Stores a text in quotes, where none of its bytes may need an escape.
 #[inline(always)]
 fn put_quoted(buf: &mut [u8], at: usize, comma: bool, text: &[u8]) -> Option<usize>
     requires { at + length text.now + 3 ≤ length buf.old }
@@ -143,15 +145,25 @@ pub(crate) fn add_bytes(
     Ok(start + text.len())
 }
 
-/// Adds a part of a text, with the escapes that it needs.
+/// Adds what stands in a text from one place up to another, or up to the end of a character there, with the escapes
+/// that it needs; where it ends in both.
 #[inline(always)]
-fn add_part(bytes: &mut Vec<u8>, len: usize, text: &[u8]) -> Result<usize, AllocError>
-    requires few { length text.now ≤ 256 }
+fn add_part(
+    bytes: &mut Vec<u8>,
+    len: usize,
+    text: &[u8],
+    from: usize,
+    to: usize,
+) -> Result<(usize, usize), AllocError>
+    requires few { (to ≤ from + 256) × (from ≤ to + 2) × (to ≤ length text.now) }
     requires within { len ≤ length bytes.old.items }
-    ensures { Added result bytes.old.items bytes.new.items len (escape text.now) }
+    ensures { MatchResult result
+        (λ r. AddsEscaped bytes.old.items bytes.new.items len r.0 text.now from r.1
+        × (to ≤ r.1) × (r.1 ≤ to + 2))
+        (λ _. Keeps bytes.old.items bytes.new.items len) }
 {
-    reserve(bytes, len, text.len() * 6)?;
-    Ok(put_escaped(bytes.as_mut_slice(), len, text))
+    reserve(bytes, len, (to.saturating_sub(from) + 2) * 6)?;
+    Ok(put_escaped(bytes.as_mut_slice(), len, text, from, to))
 }
 
 /// Adds a text with the escapes that it needs, part after part: no room is made that its escapes may not fill.
@@ -161,11 +173,13 @@ fn add_escapes(bytes: &mut Vec<u8>, len: usize, text: &[u8]) -> Result<usize, Al
 {
     let mut at = len;
     let mut done = 0;
-    while text.len() - done > PART {
-        at = add_part(bytes, at, &text[done..done + PART])?;
-        done += PART;
+    while done + PART < text.len() {
+        let step = add_part(bytes, at, text, done, done + PART)?;
+        at = step.0;
+        done = step.1;
     }
-    add_part(bytes, at, &text[done..])
+    let last = add_part(bytes, at, text, done, text.len())?;
+    Ok(last.0)
 }
 
 /// Adds a text in quotes with the escapes that it needs, after a comma where one is due.
@@ -185,7 +199,7 @@ fn add_escaped(
     add_bytes(bytes, end, false, b"\"")
 }
 
-/// Adds a name that needs an escape, and a colon.
+/// Adds a name that may need an escape, and a colon.
 fn add_escaped_name(
     bytes: &mut Vec<u8>,
     len: usize,
@@ -255,7 +269,7 @@ pub(crate) fn add_number(
     Ok(put_number(buf, start, value))
 }
 
-/// Adds a name that needs an escape and, after a colon, a number.
+/// Adds a name that may need an escape and, after a colon, a number.
 #[cold]
 #[inline(never)]
 fn add_escaped_numbered(

@@ -3,7 +3,7 @@
 ghost use Rattle.std.specs.Prelude.{◌≡◌, ◌≤◌, [], ◌∷◌, ◌++◌, OnOk, decimal, length, take};
 ghost use Rattle.std.specs.Fmt.{signed_decimal};
 ghost use Rattle.json.specs.Token.{key, string, number, boolean};
-ghost use Rattle.json.specs.Print.{print, token_text};
+ghost use Rattle.shown.specs.Print.{print, token_text};
 ghost use Rattle.shown.specs.Marks.{next_place};
 ghost use Rattle.shown.specs.Nesting.{opening, closing};
 

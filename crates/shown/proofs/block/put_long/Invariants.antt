@@ -1,7 +1,7 @@
 use Rattle.std.proofs.Common.{◌+◌, ◌-◌, ◌≤◌, length, take}
 use Rattle.std.specs.Bool.{OnTrue}
 use Rattle.json.specs.Filled.{Placed}
-use Rattle.json.specs.Written.{PlainBetween}
+use Rattle.shown.specs.Escapes.{PlainBetween}
 use Rattle.shown.proofs.block.put_long.Given as goal
 
 abbrev pub invariant-loop-done : goal.invariant-loop-done

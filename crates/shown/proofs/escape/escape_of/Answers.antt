@@ -1,5 +1,5 @@
 use Rattle.std.proofs.Common.{rules}
-use Rattle.json.specs.Print.{escape_byte}
+use Rattle.shown.specs.Print.{escape_byte}
 use Rattle.shown.proofs.escape.escape_of.Goals as goal
 
 pub returns-in-0-clause-value : goal.returns-in-0-clause-value

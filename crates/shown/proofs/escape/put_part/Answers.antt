@@ -1,17 +1,12 @@
-use Rattle.std.proofs.Common.{◌+◌, take, arith, take_all, subst, sym}
+use Rattle.std.proofs.Common.{arith}
 use Rattle.std.proofs.lemmas.Bool.{OnTrue_at}
-use Rattle.std.specs.Bool.{OnTrue}
-use Rattle.json.specs.Filled.{Placed}
-use Rattle.json.specs.Written.{PlainBetween}
-use Rattle.json.proofs.Printed.Plain.{escape_on_plain}
+use Rattle.shown.proofs.Escapes.{plain_stored, stored_over}
 use Rattle.shown.proofs.escape.put_part.Goals as goal
 
-pub returns-then-put_block-clause-placed : goal.returns-then-put_block-clause-placed
-returns-then-put_block-clause-placed c =
-    let text = c.args.text.now in
-    let plain = OnTrue_at c.if-put_block.true
-    (escape_on_plain c.put_block.result text
-    (subst (λ n. OnTrue c.put_block.result (PlainBetween text 0 n)) (sym c.requires.long) c.put_block.ensures.plain)) in
-    let placed : Placed c.args.buf.now c.put_block.new.buf c.args.at (take 16 text) (c.args.at + 16) =
-    c.put_block.ensures.placed in
-    rw plain (rw (take_all 16 text (omega (arith, c.requires.long))) at placed)
+pub returns-then-put_exactly-clause-escaped : goal.returns-then-put_exactly-clause-escaped
+returns-then-put_exactly-clause-escaped c =
+    plain_stored c.args.text.now c.args.from 16 c.requires.within
+    (OnTrue_at c.if-put_exactly.true c.put_exactly.ensures.plain) c.put_exactly.ensures.placed
+
+pub returns-clause-escaped : goal.returns-clause-escaped
+returns-clause-escaped c = stored_over (omega arith) c.put_exactly.ensures.placed c.put_few.ensures.escaped

@@ -1,6 +1,6 @@
 use Rattle.std.proofs.Common.{ℕ, List, ◌≡◌, [], ◌∷◌, ◌++◌, append_assoc, ◌∙◌}
 use Rattle.std.proofs.lemmas.Result.{err_from_is_err_and}
-use Rattle.json.specs.Print.{escape, quoted}
+use Rattle.shown.specs.Print.{escape, quoted}
 use Rattle.shown.specs.Sheets.{comma_if}
 use Rattle.shown.proofs.Pieces.{adds_behind, added_behind, kept_behind}
 use Rattle.shown.proofs.piece.add_escaped.Goals as goal

@@ -1,5 +1,5 @@
 use Rattle.std.proofs.Common.{[], ◌∷◌, append_assoc}
-use Rattle.json.specs.Print.{quoted}
+use Rattle.shown.specs.Print.{quoted}
 use Rattle.shown.specs.Sheets.{comma_if}
 use Rattle.shown.proofs.Pieces.{added_behind}
 use Rattle.shown.proofs.piece.add_escaped_name.Goals as goal

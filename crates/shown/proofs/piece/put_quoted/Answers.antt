@@ -1,6 +1,6 @@
 use Rattle.std.proofs.Common.{arith}
 use Rattle.std.proofs.lemmas.Bool.{OnTrue_at}
-use Rattle.json.proofs.Printed.Plain.{escape_on_plain}
+use Rattle.shown.proofs.Escapes.{escape_on_plain}
 use Rattle.json.proofs.Printed.Places.{Placed-then}
 use Rattle.shown.proofs.Pieces.{placed_keeps, quoted_placed}
 use Rattle.shown.proofs.piece.put_quoted.Goals as goal

@@ -1,5 +1,5 @@
 use Rattle.std.proofs.Common.{◌∙◌, ap}
-use Rattle.json.specs.Print.{print}
+use Rattle.shown.specs.Print.{print}
 use Rattle.shown.proofs.Sheets.{says_tokens}
 use Rattle.shown.proofs.sheet.Sheet.into_bytes.Goals as goal
 
