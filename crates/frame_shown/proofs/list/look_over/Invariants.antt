@@ -1,0 +1,16 @@
+use Rattle.std.proofs.Common.{◌≡◌, length}
+use Rattle.std.specs.Prelude.{◌||◌}
+use Rattle.nla_wire.specs.Items.{items}
+use Rattle.frame_shown.specs.Items.{are_any, earlier_ones, kept_ones}
+use Rattle.frame_shown.specs.Frames.{items_in}
+use Rattle.frame_shown.proofs.Items.{repeats}
+use Rattle.frame_shown.proofs.list.look_over.Given as goal
+
+abbrev pub invariant-loop-item : goal.invariant-loop-item
+invariant-loop-item g l = record {
+  size : length l.seen ≡ 256;
+  repeated : (repeats l.seen (items_in (g.D.Depth.nest l.cx) l.cx l.list l.item-iterator) || l.is_any_repeated)
+      ≡ are_any (earlier_ones (items_in (g.D.Depth.nest l.cx) l.cx l.list (items l.bytes)));
+  kept : (are_any (kept_ones (items_in (g.D.Depth.nest l.cx) l.cx l.list l.item-iterator)) || l.is_any_kept)
+      ≡ are_any (kept_ones (items_in (g.D.Depth.nest l.cx) l.cx l.list (items l.bytes)));
+}

@@ -1,0 +1,9 @@
+pub mod Items
+pub mod Kept
+pub mod Tables
+pub mod Values
+pub mod Frames
+pub mod Messages
+pub mod Laws
+pub mod Accepted
+pub mod Names

@@ -1,0 +1,26 @@
+//! What is shown is of what bytes mean.
+
+ghost use Rattle.frame_shown.specs.Laws.{FunctionsAreMeant, RecordsAreMeant, ValuesAreMeant};
+ghost use Rattle.frame_shown.specs.Names.{NamesAreApart};
+ghost use Rattle.frame_shown.specs.Values.{Nesting};
+ghost use Rattle.frame_shown.specs.declared.form.Around.{Around as Beside};
+
+/// A payload that means a number, a text or bytes is shown as these are.
+pub fn law_values()
+    ensures { (nest : Nesting) (cx : Beside) → ValuesAreMeant nest cx }
+{}
+
+/// A payload that means a record of counters or settings is shown as the record is, each field under its name.
+pub fn law_records()
+    ensures { (nest : Nesting) (cx : Beside) → RecordsAreMeant nest cx }
+{}
+
+/// The same of the records of virtual functions.
+pub fn law_functions()
+    ensures { (nest : Nesting) (cx : Beside) → FunctionsAreMeant nest cx }
+{}
+
+/// No two attributes of a list, and no two fields of a record, have one name.
+pub fn law_names()
+    ensures { NamesAreApart }
+{}

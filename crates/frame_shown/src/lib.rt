@@ -1,0 +1,13 @@
+//! What is shown of a link message: its frames, one after another, each by the row of its number in a table.
+#![tactic(auto)]
+
+pub mod accepted;
+pub mod checked;
+mod depth;
+pub mod form;
+mod kept;
+pub mod laws;
+mod list;
+pub mod message;
+mod tables;
+mod value;
