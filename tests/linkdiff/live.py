@@ -189,7 +189,7 @@ class Watched:
     def stops(self):
         """Ends linkdump, and with its lines linkdiff."""
         self.dump.terminate()
-        if self.dump.wait(60) or self.diff.wait(60):
+        if self.dump.wait(60) != -signal.SIGTERM or self.diff.wait(60):
             fails(f"status {self.dump.returncode} and {self.diff.returncode}")
         for it in self.threads:
             it.join()

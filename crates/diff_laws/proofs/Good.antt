@@ -11,9 +11,9 @@ use Rattle.std.specs.Str.Parse.{digits_value}
 use Rattle.std.proofs.lemmas.Slice.Eq.{bytes_eq-Decides}
 use Rattle.json.specs.Json.{Json, null, boolean, number, string, array, object, Items, no_items, item, Members}
 use Rattle.json.specs.Json.{no_members, member}
-use Rattle.json.specs.Print.{escape, escape_byte, escape_letter}
+use Rattle.shown.specs.Print.{bytes_behind, escape, escape_byte, escape_first, escape_from, escape_letter, unseen_in}
 use Rattle.json.specs.Text.{content, plain}
-use Rattle.json.proofs.Printed.Strings.{content-escape}
+use Rattle.shown.proofs.Printed.{content-escape}
 use Rattle.message_diff.specs.Known.{is_text}
 use Rattle.message_diff.specs.Trees.{IsGood, IsLabel, HasNoPoint, find_tree, inside_of, items_forest, json_text}
 use Rattle.message_diff.specs.Trees.{label_of, members_forest}
@@ -137,17 +137,42 @@ byte_label x own = by (nat_lt 0 (escape_letter x)) (nat_lt x 32)
     )
     by false false = (λ none. cc, (own, tt))
 
-all_no_point : (k : List ℕ) → HasNoPoint k → HasNoPoint (escape k)
-all_no_point [] own = tt
-all_no_point (x ∷ k) own = no_point (escape_byte x) (escape k) (byte_label x own.0).1 (all_no_point k own.1)
+first_label : (c x : ℕ) → x ≢ 46 → IsLabel (escape_first c x)
+first_label zero x own = byte_label x own
+first_label (suc c) x own = (
+  λ none. cc,
+  (
+    (λ e. omega (arith, e)),
+    (
+      (λ e. omega (arith, e)),
+      (
+        glyph_no_point (suc c / 4096),
+        (glyph_no_point (suc c / 256 % 16), (glyph_no_point (suc c / 16 % 16), (glyph_no_point (suc c % 16), tt))),
+      ),
+    ),
+  ),
+)
+
+all_no_point : (n : ℕ) (k : List ℕ) → HasNoPoint k → HasNoPoint (escape_from n k)
+unfolding escape_from
+all_no_point zero [] own = tt
+all_no_point (suc n) [] own = tt
+all_no_point (suc n) (x ∷ k) own = all_no_point n k own.1
+all_no_point zero (x ∷ k) own =
+    let c = unseen_in (x ∷ k) in
+    no_point (escape_first c x) (escape_from (bytes_behind c) k) (first_label c x own.0).1
+    (all_no_point (bytes_behind c) k own.1)
 
 name_label : (k : List ℕ) → IsLabel k → IsLabel (escape k)
+unfolding escape_from
 name_label [] own = absurd (own.0 refl)
-name_label (x ∷ k) own = (some (escape_byte x) (byte_label x own.1.0).0, all_no_point (x ∷ k) own.1)
+name_label (x ∷ k) own =
+    let c = unseen_in (x ∷ k) in
+    (some (escape_first c x) (escape_from (bytes_behind c) k) (first_label c x own.1.0).0, all_no_point 0 (x ∷ k) own.1)
   where
-    some : (front : List ℕ) → front ≢ [] → front ++ escape k ≢ []
-    some [] own none = own refl
-    some (y ∷ front) own none = absurd cc
+    some : (front rest : List ℕ) → front ≢ [] → front ++ rest ≢ []
+    some [] rest own none = own refl
+    some (y ∷ front) rest own none = absurd cc
 
 label_at : (label : List ℕ) (place : ℕ) → label ≢ [] → label_of label place ≡ label
 label_at [] place some = absurd (some refl)

@@ -8,12 +8,12 @@ use Rattle.std.proofs.lemmas.List.Folds.{prefix_len-append}
 use Rattle.std.proofs.Math.Seq.{take-append_seam, drop-append_seam}
 use Rattle.json.specs.Json.{Json, null, boolean, number, string, array, object, Items, no_items, item, Members}
 use Rattle.json.specs.Json.{no_members, member}
-use Rattle.json.specs.Print.{escape, print_from, quoted}
+use Rattle.shown.specs.Print.{escape, print_from, quoted}
 use Rattle.json.specs.Text.{content, plain}
 use Rattle.json.specs.Token.{Token}
 use Rattle.json.specs.Tree.{json_tokens, items_tokens, members_tokens}
 use Rattle.json.specs.Word.{head}
-use Rattle.json.proofs.Printed.Strings.{content-escape}
+use Rattle.shown.proofs.Printed.{content-escape}
 use Rattle.message_diff.specs.Trees.{Forest, inside_of, json_text}
 use Rattle.diff_laws.proofs.Fine.{IsFine, ItemsFine, FieldsFine, IsDigits, is_numeric, size, items_size, fields_size}
 

@@ -5,7 +5,7 @@ use Rattle.std.proofs.Common.{take, arith}
 use Rattle.std.specs.Prelude.{◌-◌, cond, not}
 use Rattle.std.specs.Int.{Width, byte_len, w16, w32}
 use Rattle.std.specs.List.{AllByRecursion, concat, filter}
-use Rattle.json.specs.Print.{escape}
+use Rattle.shown.specs.Print.{escape}
 use Rattle.std.specs.Prelude.{codes}
 use Rattle.nla_wire.specs.Fields.{number_at}
 use Rattle.nla_wire.proofs.Back.{all_filtered}

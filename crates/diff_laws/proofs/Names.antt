@@ -6,7 +6,7 @@ use Rattle.std.specs.List.{AllByRecursion, list_any}
 use Rattle.std.proofs.lemmas.Bool.{eqb-true, and_parts, not-true}
 use Rattle.std.proofs.lemmas.Slice.Eq.{bytes_eq-Decides}
 use Rattle.std.specs.Int.{w16}
-use Rattle.json.specs.Print.{escape, escape_byte}
+use Rattle.shown.specs.Print.{escape, escape_byte, escape_from}
 use Rattle.nla_wire.specs.Fields.{number_at}
 use Rattle.nla_wire.proofs.Tables.{Entry, IsOther, other_way}
 use Rattle.link_vals.specs.declared.address_family.AddressFamily.{AddressFamily}
@@ -41,11 +41,11 @@ are_none [] xs = true
 are_none (x ∷ others) xs = not (list_any (is_text x) xs) && are_none others xs
 
 pub labels_apart : are_apart labels ≡ true
-unfolding escape_byte
+unfolding escape_from escape_byte
 labels_apart = refl
 
 pub labels_beside : are_none (map (λ name. escape name) other_names) labels ≡ true
-unfolding escape_byte
+unfolding escape_from escape_byte
 labels_beside = refl
 
 pub any_at : (x : List ℕ) (xs : List (List ℕ)) (j : ℕ) → is_name x ≡ true → x ≡ get_or xs j []
@@ -83,7 +83,7 @@ all_named [] = true
 all_named (e ∷ es) = is_name (label_for e.number) && all_named es
 
 entries_named : (family : AddressFamily) → all_named (attribute_entries family) ≡ true
-unfolding attribute_view attribute_entries escape_byte
+unfolding attribute_view attribute_entries escape_from escape_byte
 entries_named family = refl
 
 others : (n : ℕ) (es : List {1} (Entry base attribute_view NotEmptyPorts)) → all_named es ≡ true
@@ -99,7 +99,7 @@ others n (e ∷ es) all none =
     )
 
 spec_named : is_name (label_for IFLA_AF_SPEC) ≡ true
-unfolding escape_byte
+unfolding escape_from escape_byte
 spec_named = refl
 
 pub named_some : (family : AddressFamily) (frame : List ℕ) → is_kept family frame ≡ false
@@ -129,6 +129,7 @@ named_some family frame h = by (frame_number frame == IFLA_AF_SPEC) refl h
 -- ** labels of attributes with a name
 
 mapped_at : (xs : List (List ℕ)) (n : ℕ) → get_or (map (λ x. escape x) xs) n [] ≡ escape (get_or xs n [])
+unfolding escape_from
 mapped_at [] n = refl
 mapped_at (x ∷ xs) zero = refl
 mapped_at (x ∷ xs) (suc n) = mapped_at xs n
@@ -149,7 +150,7 @@ other_label x n none some = by (is_text x (label_for n)) refl
     by false h = refl
 
 pub other_none : list_any (is_text (escape (codes "other"))) labels ≡ false
-unfolding escape_byte
+unfolding escape_from escape_byte
 other_none = refl
 
 -- two attributes with a name have two labels, and neither is that of the last member

@@ -8,11 +8,11 @@ use Rattle.std.proofs.lemmas.Slice.Eq.{bytes_eq-Decides}
 use Rattle.std.specs.Int.{w16}
 use Rattle.hex.specs.Hex.{encode_lower}
 use Rattle.json.specs.Json.{Json, object, string, document, Members as Fields, no_members, member}
-use Rattle.json.specs.Print.{escape, escape_byte}
+use Rattle.shown.specs.Print.{escape, escape_byte, escape_from}
 use Rattle.json.specs.Token.{Token, begin_object, end_object, key}
 use Rattle.json.specs.Token as tokens
 use Rattle.json.specs.Tree.{json_tokens, members_tokens, members_depth, MembersHaveNumbers}
-use Rattle.json.proofs.Printed.Trees.{document-print}
+use Rattle.shown.proofs.Printed.{document-print}
 use Rattle.nla_wire.specs.Fields.{number_at}
 use Rattle.link_vals.specs.declared.address_family.AddressFamily.{AddressFamily}
 use Rattle.message_shown.specs.Raw.{kernel_name, underlined}
@@ -42,11 +42,11 @@ abbrev raw_labels : List (List ℕ)
 raw_labels = map (λ name. escape (codes "ifla_" ++ map underlined name)) names
 
 raws_apart : are_apart raw_labels ≡ true
-unfolding escape_byte
+unfolding escape_from escape_byte
 raws_apart = refl
 
 some_label : (n : ℕ) → is_name (raw_label n) ≡ true
-unfolding escape_byte
+unfolding escape_from escape_byte
 some_label n = refl
 
 pub mapped_at : (h : List ℕ → List ℕ) (xs : List (List ℕ)) (n : ℕ) → is_name (get_or xs n []) ≡ true
@@ -56,6 +56,7 @@ mapped_at h (x ∷ xs) zero some = refl
 mapped_at h (x ∷ xs) (suc n) some = mapped_at h xs n some
 
 pub name_some : (n : ℕ) → is_name (label_for n) ≡ true → is_name (name_for n) ≡ true
+unfolding escape_from escape_byte
 name_some n some = by (name_for n) (sym (ap is_name (label_is n)) ∙ some)
   where
     by : (name : List ℕ) → is_name (escape name) ≡ true → is_name name ≡ true
@@ -154,7 +155,7 @@ refused_fields (f ∷ fs) = member (codes "refused") (object (raw_fields (f ∷ 
 
 pub refused_at : (family : AddressFamily) (fs : List (List ℕ)) (place : ℕ)
     → members_forest place (refused_fields fs) ≡ raw_holder family fs
-unfolding escape_byte
+unfolding escape_from escape_byte
 refused_at family [] place = refl
 refused_at family (f ∷ fs) place =
     ap (λ t. Forest.tree (escape (codes "refused")) (raw_text (f ∷ fs)) t Forest.none) (raw_forest family 0 (f ∷ fs))
@@ -182,11 +183,11 @@ off_behind Forest.none g off more = more
 off_behind (Forest.tree label text inside rest) g off more = (off.0, off_behind rest g off.1 more)
 
 head_off : (bytes : List ℕ) (family : AddressFamily) → AreOff (head bytes family)
-unfolding escape_byte
+unfolding escape_from escape_byte
 head_off bytes family = ((refl, refl), ((refl, refl), ((refl, refl), ((refl, refl), ((refl, refl), tt)))))
 
 refused_none : list_any (is_text (escape (codes "refused"))) labels ≡ false
-unfolding escape_byte
+unfolding escape_from escape_byte
 refused_none = refl
 
 turned_text : (a b : List ℕ) → is_text a b ≡ false → is_text b a ≡ false
@@ -201,7 +202,7 @@ turned_text a b other = by (is_text b a) refl
 
 module _ (cx : Context) (family : AddressFamily) where
   last_off : (ks : List ℕ) → AreOff (last_tree family (showing cx family) ks)
-  unfolding escape_byte
+  unfolding escape_from escape_byte
   last_off [] = tt
   last_off (x ∷ ks) = ((refl, refl), tt)
 

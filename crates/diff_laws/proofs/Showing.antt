@@ -5,7 +5,7 @@ use Rattle.std.specs.Prelude.{codes, cond, not, None, Some}
 use Rattle.std.specs.Int.{w16, w32, cast_signed}
 use Rattle.std.specs.List.{AllByRecursion, concat, flat_map, list_any}
 use Rattle.json.specs.Json.{Json, object, Members as Fields, no_members, member}
-use Rattle.json.specs.Print.{escape, escape_byte}
+use Rattle.shown.specs.Print.{escape, escape_byte, escape_from}
 use Rattle.json.specs.Token.{Token, begin_object, end_object, key}
 use Rattle.json.specs.Tree.{json_tokens, members_tokens}
 use Rattle.nla_wire.specs.Fields.{number_at, signed_at}
@@ -130,7 +130,7 @@ head_then bytes family later = refl
 
 -- headers have the same labels
 pub heads_among : (a b : List ℕ) (family other : AddressFamily) → AreAmong (head a family) (head b other)
-unfolding escape_byte
+unfolding escape_from escape_byte
 heads_among a b family other = ((_, refl), ((_, refl), ((_, refl), ((_, refl), ((_, refl), tt)))))
 
 -- members whose labels are none of attributes
@@ -145,12 +145,12 @@ none_found (Forest.tree label text inside rest) n all some =
     ∙ none_found rest n all.1 some
 
 heads_others : (bytes : List ℕ) (family : AddressFamily) → AreOthers (head bytes family)
-unfolding escape_byte
+unfolding escape_from escape_byte
 heads_others bytes family = (refl, (refl, (refl, (refl, (refl, tt)))))
 
 head_last : (bytes : List ℕ) (family : AddressFamily)
     → find_tree (escape (codes "other")) (head bytes family) ≡ None
-unfolding escape_byte
+unfolding escape_from escape_byte
 head_last bytes family = refl
 
 -- ** those that are shown as they are
@@ -221,7 +221,7 @@ module _ (cx : Context) (family : AddressFamily) where
 
   forest_last : (place : ℕ) (ks : List ℕ) (later : Fields) (behind : Forest) → AreAt later behind
       → members_forest place (last_fields ks later) ≡ followed (last_tree family showing ks) behind
-  unfolding escape_byte
+  unfolding escape_from escape_byte
   forest_last place [] later behind at = at place
   forest_last place (x ∷ ks) later behind at =
       ap (λ t. Forest.tree (escape (codes "other")) (json_text (last_json (x ∷ ks)))

@@ -7,7 +7,7 @@ use Rattle.std.specs.List.{AllByRecursion}
 use Rattle.std.proofs.lemmas.List.{map-append}
 use Rattle.std.specs.Int.{w16, w32}
 use Rattle.json.specs.Json.{object, Members as Fields, value}
-use Rattle.json.specs.Print.{print}
+use Rattle.shown.specs.Print.{print}
 use Rattle.json.specs.Token.{Token, begin_object}
 use Rattle.json.specs.Tree.{json_tokens, depth}
 use Rattle.json.proofs.Printed.Trees.{value-json_tokens}

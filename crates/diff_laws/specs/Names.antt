@@ -1,7 +1,7 @@
 -- The names of the outermost attributes beside each other, as they stand in a text.
 use Rattle.std.specs.Prelude.{◌≡◌, ◌≢◌, ℕ, false, List, [], ◌∷◌, codes, get_or, map}
 use Rattle.std.specs.List.{AllByRecursion}
-use Rattle.json.specs.Print.{escape}
+use Rattle.shown.specs.Print.{escape}
 use Rattle.link_vals.specs.declared.address_family.AddressFamily.{AddressFamily}
 use Rattle.message_shown.specs.declared.names.TheConstants.{ATTRIBUTES}
 use Rattle.message_diff.specs.Frames.{frame_number}

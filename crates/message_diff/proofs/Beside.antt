@@ -25,10 +25,12 @@ use Rattle.message_diff.specs.declared.snapshot.Compared.{Compared}
 use Rattle.message_diff.specs.declared.watch.Watch.{Watch}
 use Rattle.message_diff.specs.Alone.{AddsAlone}
 use Rattle.message_diff.specs.Changed.{AddsChanged}
+use Rattle.message_diff.specs.Shots.{Shot}
 use Rattle.message_diff.specs.Watched.{host_in}
 use Rattle.message_diff.specs.Files.{host_gone, host_news, gone_at, gone_of, keys_in, all_missing, all_news}
 use Rattle.message_diff.specs.Files.{StopsAtEnds, TellsNews}
-use Rattle.message_diff.specs.Files.{Found, found, found_in, found_last, is_replaced, known_at, news_at, news_of, tells}
+use Rattle.message_diff.specs.Files.{Found, words_told, found, found_in, found_last, is_replaced, known_at, news_at}
+use Rattle.message_diff.specs.Files.{news_of, tells}
 use Rattle.message_diff.specs.Files.{News, Missing, AreLines, IsLine, Adds, AddsMissing, is_missing, missing_in}
 use Rattle.message_diff.specs.Files.{missing_of, missings, is_last, is_same_as, once}
 use Rattle.message_diff.proofs.Once.{twice, dedup_same, dedup_more}
@@ -155,14 +157,17 @@ as_one : (n m : News) (w x : Written) → n ≡ m → Adds (m ∷ []) w x → Ad
 as_one n m w x is h = subst (λ (k : News). Adds (k ∷ []) w x) (sym is) h
 
 -- a line is told of one that came
-came_told : (front text : List ℕ) (w x : Written) → AddsAlone front (codes "new") text w.out.items x.out.items
-    → x.untold ≡ w.untold → Adds (News.came front text ∷ []) w x
-came_told front text w x h same = one (News.came front text) w x h.0 refl h.1 h.2 same
+came_told : (front : List ℕ) (shot : Shot) (w x : Written)
+    → AddsAlone front (codes "new") shot.text w.out.items x.out.items
+    → x.untold ≡ w.untold → Adds (News.came front shot ∷ []) w x
+came_told front shot w x h same = one (News.came front shot) w x h.0 refl h.1 h.2 same
 
 -- two lines of another one at its place
-pub replaced_told : (by : Compared) (old_front was front is : List ℕ) (w x : Written) (mid : List ℕ) (b : Bool)
+pub replaced_told : (by : Compared) (old_front : List ℕ) (was : Shot) (front : List ℕ) (is : Shot) (w x : Written)
+    (mid : List ℕ) (b : Bool)
     → b ≡ true
-    → AddsAlone old_front (codes "gone") was w.out.items mid → AddsAlone front (codes "new") is mid x.out.items
+    → AddsAlone old_front (codes "gone") was.text w.out.items mid
+    → AddsAlone front (codes "new") is.text mid x.out.items
     → x.untold ≡ w.untold
     → Adds (cond b (News.replaced old_front was front is) (News.changed by front was is) ∷ []) w x
 replaced_told by old_front was front is w x mid b other gone new same =
@@ -175,8 +180,8 @@ clash : true ≡ false → ⊥
 clash e = let z : ◌≡◌ {A = ℕ} 0 1 = cc in omega arith
 
 -- a line is told of one that changed, where it did
-pub changed_told : (by : Compared) (old_front front was is : List ℕ) (w x : Written) (b told : Bool) → b ≡ false
-    → (told ≡ false) ↔ (was ≡ is) → (told ≡ false → x.out ≡ w.out)
+pub changed_told : (by : Compared) (old_front front : List ℕ) (was is : Shot) (w x : Written) (b told : Bool)
+    → b ≡ false → (told ≡ false) ↔ (was.text ≡ is.text) → (told ≡ false → x.out ≡ w.out)
     → (IsTrue told → AddsChanged by front was is w.out.items x.out.items) → x.untold ≡ w.untold
     → Adds (cond b (News.replaced old_front was front is) (News.changed by front was is) ∷ []) w x
 changed_told by old_front front was is w x b told other tells silent line same =
@@ -184,7 +189,7 @@ changed_told by old_front front was is w x b told other tells silent line same =
     (ap (λ (t : Bool). cond t (News.replaced old_front was front is) (News.changed by front was is)) other)
     (each told tells silent line)
   where
-    each : (t : Bool) → (t ≡ false) ↔ (was ≡ is) → (t ≡ false → x.out ≡ w.out)
+    each : (t : Bool) → (t ≡ false) ↔ (was.text ≡ is.text) → (t ≡ false → x.out ≡ w.out)
         → (IsTrue t → AddsChanged by front was is w.out.items x.out.items)
         → Adds (News.changed by front was is ∷ []) w x
     each false decides nothing more =
@@ -200,7 +205,7 @@ refused : (by : Compared) (t : Bool) (m : Missing) (o : Bool) (old : Found)
     → news_of by t m o old Found.refusals ≡ News.same
 refused by t m o Found.nothing = refl
 refused by t m o Found.refusals = refl
-refused by t m o (Found.last front text) = refl
+refused by t m o (Found.last front text kind) = refl
 
 found_is : (host : Option Host) (key : Key) (known : Known) (last : Option Entry) → known_at host key ≡ Some known
     → last ≡ known.last → found host key ≡ found_last last
@@ -219,18 +224,18 @@ told_refused by dumps name old new key known w is none =
 pub told_came : (by : Compared) (dumps : Bool) (name : List ℕ) (old new : Option Host) (key : Key) (known : Known)
     (entry : Entry) (w x : Written) → known_at new key ≡ Some known → Some entry ≡ known.last → None ≡ known_at old key
     → true ≡ tells dumps old key.family
-    → AddsAlone entry.front.items (codes "new") entry.snapshot w.out.items x.out.items → x.untold ≡ w.untold
+    → AddsAlone (words_told entry) (codes "new") entry.snapshot.text w.out.items x.out.items → x.untold ≡ w.untold
     → Adds (news_at by dumps name old new key ∷ []) w x
 told_came by dumps name old new key known entry w x is at none tells_it h same =
     let missing : Missing = record { is_new = false; family = key.family; host = name } in
     let other : Bool = is_replaced (found old) (found new) key in
-    as_one _ (News.came entry.front.items entry.snapshot) w x
+    as_one _ (News.came (words_told entry) entry.snapshot) w x
     (ap (λ (f : Found). news_of by (tells dumps old key.family) missing other f (found new key))
     (ap found_in (sym none))
     ∙ ap (λ (f : Found). news_of by (tells dumps old key.family) missing other Found.nothing f)
     (found_is new key known (Some entry) is at)
-    ∙ ap (λ (t : Bool). cond t (News.came entry.front.items entry.snapshot) (News.untold missing)) (sym tells_it))
-    (came_told entry.front.items entry.snapshot w x h same)
+    ∙ ap (λ (t : Bool). cond t (News.came (words_told entry) entry.snapshot) (News.untold missing)) (sym tells_it))
+    (came_told (words_told entry) entry.snapshot w x h same)
 
 -- ** of a host
 
@@ -295,11 +300,11 @@ copied_some (Some x) = refl
 
 pub told_went : (is_told : Bool) (missing : Missing) (was : Option Entry) (is : Option Known) (entry : Entry)
     (w x : Written) → Some entry ≡ was → is_some is ≡ false → true ≡ is_told
-    → AddsAlone entry.front.items (codes "gone") entry.snapshot w.out.items x.out.items → x.untold ≡ w.untold
+    → AddsAlone (words_told entry) (codes "gone") entry.snapshot.text w.out.items x.out.items → x.untold ≡ w.untold
     → Adds (gone_of is_told missing (found_last was) (found_in is) ∷ []) w x
 told_went is_told missing was None entry w x at none tells_it h same =
-    as_one _ (News.went entry.front.items entry.snapshot) w x
+    as_one _ (News.went (words_told entry) entry.snapshot) w x
     (ap (λ (o : Option Entry). gone_of is_told missing (found_last o) Found.nothing) (sym at)
-    ∙ ap (λ (t : Bool). cond t (News.went entry.front.items entry.snapshot) (News.untold missing)) (sym tells_it))
-    (one (News.went entry.front.items entry.snapshot) w x h.0 refl h.1 h.2 same)
+    ∙ ap (λ (t : Bool). cond t (News.went (words_told entry) entry.snapshot) (News.untold missing)) (sym tells_it))
+    (one (News.went (words_told entry) entry.snapshot) w x h.0 refl h.1 h.2 same)
 told_went is_told missing was (Some known) entry w x at none tells_it h same = absurd (clash none)

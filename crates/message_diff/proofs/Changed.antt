@@ -10,8 +10,8 @@ use Rattle.std.proofs.lemmas.List.Concat.{flat_map-append}
 use Rattle.std.proofs.lemmas.List.Sums.{fold-append}
 use Rattle.hex.specs.Hex.{encode_lower}
 use Rattle.json.specs.Token.{Token, begin_object, end_object, end_array, key, string, number}
-use Rattle.json.specs.Print.{print, print_from, escape, escape_byte, ends, ends_value}
-use Rattle.json.proofs.Printed.Tokens.{print_from-append}
+use Rattle.shown.specs.Print.{print, print_from, escape, escape_byte, escape_from, ends, ends_value}
+use Rattle.shown.proofs.Printed.{print_from-append}
 use Rattle.line_filter.specs.Lines.{with_lf}
 use Rattle.shown.specs.Drafts.{Members, object_of, list_of}
 use Rattle.shown.specs.Sheets.{comma_if}
@@ -21,6 +21,7 @@ use Rattle.message_diff.specs.Differences.{Diff, path_of, old_of, new_of, diffs_
 use Rattle.message_diff.specs.Changed.{given, given_if, diff_members, diff_objects, changes_member, state_diff}
 use Rattle.message_diff.specs.Changed.{Head, begun, opened, changed_line, given_text, head_text, list_text}
 use Rattle.message_diff.specs.Changed.{diff_text}
+use Rattle.message_diff.specs.Shots.{Shot}
 use Rattle.message_diff.specs.Changed.{told_diffs, IsChanged, IsHeadIn, AddsChanged, AddsList}
 use Rattle.message_diff.specs.declared.snapshot.Compared.{Compared}
 use Rattle.shown.specs.declared.marks.Mark.{Mark}
@@ -80,15 +81,15 @@ ends_begun words change head =
     (ends_given one (codes "ifi-family") head.family (ends_change words change)))
 
 plain_family : escape (codes "ifi-family") ≡ codes "ifi-family"
-unfolding escape_byte
+unfolding escape_from escape_byte
 plain_family = refl
 
 plain_index : escape (codes "ifi-index") ≡ codes "ifi-index"
-unfolding escape_byte
+unfolding escape_from escape_byte
 plain_index = refl
 
 plain_name : escape (codes "ifname") ≡ codes "ifname"
-unfolding escape_byte
+unfolding escape_from escape_byte
 plain_name = refl
 
 -- a head is the words and what became of the interface, and then its three members
@@ -157,7 +158,7 @@ no_objects = refl
 object_is : (d : Diff) → print (object_of (diff_members d))
     ≡ codes "{\"path\":\"" ++ (path_of d
     ++ (34 ∷ (given_text (codes "old") (old_of d) ++ (given_text (codes "new") (new_of d) ++ 125 ∷ []))))
-unfolding print_from escape_byte
+unfolding print_from escape_from escape_byte
 object_is (Diff.came path value) = simp append_assoc
 object_is (Diff.went path value) = simp append_assoc
 object_is (Diff.turned path was is) = simp append_assoc
@@ -204,7 +205,7 @@ ended false = refl
 changes_print : (ds : List Diff)
     → print_from true ((key (codes "changes") ∷ list_of (diff_objects ds)) ++ end_object ∷ [])
     ≡ codes ",\"changes\":" ++ (list_text ds ++ 125 ∷ [])
-unfolding print_from escape_byte list_text
+unfolding print_from escape_from escape_byte list_text
 changes_print ds =
     let list : List Token = list_of (diff_objects ds) in
     ap (λ t. codes ",\"changes\":" ++ t)
@@ -345,7 +346,8 @@ told_some old new [] some = absurd (omega arith)
 told_some old new (c ∷ cs) some = refl
 
 -- a line has a byte
-pub some_changed : (by : Compared) (front old new line : List ℕ) → IsChanged by front old new line → 0 < length line
+pub some_changed : (by : Compared) (front : List ℕ) (old new : Shot) (line : List ℕ) → IsChanged by front old new line
+    → 0 < length line
 unfolding changed_line
 some_changed by front old new line is =
     let text : List ℕ = print (object_of (begun (told_words front) (codes "changed") is.head
@@ -354,13 +356,13 @@ some_changed by front old new line is =
     omega (arith, ap length same, length-append text (10 ∷ []))
 
 -- something is added
-pub longer_changed : (by : Compared) (front old new before now : List ℕ)
+pub longer_changed : (by : Compared) (front : List ℕ) (old new : Shot) (before now : List ℕ)
     → AddsChanged by front old new before now → length before < length now
 longer_changed by front old new before now adds =
     omega (arith, ap length adds.2, length-append before adds.0, some_changed by front old new adds.0 adds.1)
 
 -- a list has its brackets
-pub longer_list : (by : Compared) (old new before now : List ℕ) → AddsList by old new before now
+pub longer_list : (by : Compared) (old new : Shot) (before now : List ℕ) → AddsList by old new before now
     → length before < length now
 longer_list by old new before now adds =
     let added = adds.1 in

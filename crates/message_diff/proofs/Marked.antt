@@ -6,10 +6,10 @@ use Rattle.std.specs.Prelude.{Some, cond, ◌&&◌, decimal}
 use Rattle.std.specs.List.{fold}
 use Rattle.json.specs.Json.{Json, null, boolean, number, string, array, object, Items, no_items, item, Members}
 use Rattle.json.specs.Json.{no_members, member}
-use Rattle.json.specs.Print.{print, print_from, ends, ends_value, escape, token_text}
+use Rattle.shown.specs.Print.{print, print_from, ends, ends_value, escape, token_text}
 use Rattle.json.specs.Token.{Token, begin_object, begin_array, key}
 use Rattle.json.specs.Tree.{json_tokens, items_tokens, members_tokens}
-use Rattle.json.proofs.Printed.Tokens.{print_from-append, print_from_push, ends_push}
+use Rattle.shown.proofs.Printed.{print_from-append, print_from_push, ends_push}
 use Rattle.shown.specs.Sheets.{comma_if}
 use Rattle.message_diff.specs.Trees.{Forest, label_of, json_text, inside_of, items_forest, members_forest}
 use Rattle.shown.specs.declared.marks.Mark.{Mark}

@@ -2,7 +2,7 @@
 use Rattle.std.proofs.Common.{◌≡◌, ◌<◌, ◌≤◌, ◌++◌, ◌∷◌, [], List, ℕ, ap, arith, length, length-append, take, drop}
 use Rattle.std.specs.Prelude.{codes, Option}
 use Rattle.json.specs.Token.{string}
-use Rattle.json.specs.Print.{print}
+use Rattle.shown.specs.Print.{print}
 use Rattle.link_vals.specs.declared.address_family.AddressFamily.{AddressFamily}
 use Rattle.link_msg.specs.Header.{header_size, header_of}
 use Rattle.link_msg.specs.Lenient.{MeansLeniently}

@@ -18,7 +18,7 @@ use Rattle.message_diff.specs.declared.store.Known.{Known}
 use Rattle.message_diff.specs.declared.store.Dump.{Dump}
 use Rattle.message_diff.specs.declared.store.Host.{Host}
 use Rattle.message_diff.specs.Known.{Item, Seen, key_cmp, is_key, is_among, is_since, is_missed, is_missed_by, is_text}
-use Rattle.message_diff.specs.Known.{reaches, in_family, ends, text_of}
+use Rattle.message_diff.specs.Known.{reaches, in_family, ends, shot_of}
 use Rattle.message_diff.specs.Told.{is_told}
 use Rattle.message_diff.specs.Held.{seen_in, held, picture, is_left, left, begin_of, run_in}
 use Rattle.message_diff.proofs.Pictures.{key_total, seen_taken}
@@ -173,7 +173,7 @@ left_sorted host family begin sorted = sorted_filter (is_left host.known.entries
 
 -- ** those that are told
 told_same : (a b : Bool) (o : Option Seen) → cond a None o ≡ cond b None o
-    → (is_some (text_of o) && a) ≡ (is_some (text_of o) && b)
+    → (is_some (shot_of o) && a) ≡ (is_some (shot_of o) && b)
 told_same a b None h = refl
 told_same true true (Some s) h = refl
 told_same false false (Some s) h = refl

@@ -6,8 +6,8 @@ use Rattle.std.specs.Cmp.{IsTotalOrder, nat_cmp_total}
 use Rattle.std.proofs.lemmas.Cmp.{then_total, on_total}
 use Rattle.message_diff.specs.declared.key.Key.{Key}
 use Rattle.message_diff.specs.declared.store.Known.{Known}
-use Rattle.message_diff.specs.Known.{Seen, key_cmp, is_key, is_among, text_of}
-use Rattle.message_diff.specs.Held.{seen_in, text_in, last_of}
+use Rattle.message_diff.specs.Known.{Seen, key_cmp, is_key, is_among, kind_of, shot_of, words_kept}
+use Rattle.message_diff.specs.Held.{kind_at, seen_in, shot_in, last_of, words_at}
 
 pub key_total : IsTotalOrder key_cmp
 key_total = then_total (on_total (λ k. k.family) nat_cmp_total) (on_total (λ k. k.index) nat_cmp_total)
@@ -44,7 +44,17 @@ taken_at keys i d q old new h is =
     taken_next (is_key (get_or keys i d) q) (is_among (drop (i + 1) keys) q) old new is
     ∙ ap (λ (ks : List Key). cond (is_among ks q) None old) (sym (drop_is keys i d h))
 
--- ** the encoding of the last message
-pub text_is : (o : Option Known) → text_of (seen_in o) ≡ text_in (last_of o)
-text_is None = refl
-text_is (Some known) = refl
+-- ** the last message
+pub shot_is : (o : Option Known) → shot_of (seen_in o) ≡ shot_in (last_of o)
+shot_is None = refl
+shot_is (Some known) = refl
+
+-- and the kind that is known
+pub kind_is : (o : Option Known) → kind_of (seen_in o) ≡ kind_at (last_of o)
+kind_is None = refl
+kind_is (Some known) = refl
+
+-- and the words that are kept
+pub words_is : (o : Option Known) → words_kept (seen_in o) ≡ words_at (last_of o)
+words_is None = refl
+words_is (Some known) = refl

@@ -8,20 +8,29 @@ use Rattle.std.proofs.lemmas.List.{take_all}
 use Rattle.std.proofs.lemmas.List.Sums.{prefix_len_is}
 use Rattle.memchr.specs.Find.{IsFirstByte, is_byte}
 use Rattle.link_msg.specs.declared.numbers.TheConstants.{IFLA_LINKINFO}
-use Rattle.message_diff.specs.Announced.{are_two, are_two_kinds, kind_in, name_in, payload_of}
+use Rattle.message_diff.specs.Announced.{are_two, is_another, kind_in, kind_or, name_in, payload_of}
 use Rattle.message_diff.specs.Frames.{frames_in, frames_of}
 
-one_name : (kind : Option (List ℕ)) → are_two kind kind ≡ false
-one_name None = refl
-one_name (Some name) = ap not (nat_list_eq_equiv.refl name)
-
 -- what is the same is of one kind
-pub one_kind : (text : List ℕ) → are_two_kinds text text ≡ false
-unfolding are_two_kinds
-one_kind text = one_name (kind_in text)
+pub one_kind : (kind earlier : Option (List ℕ)) → are_two (kind_or kind earlier) kind ≡ false
+one_kind None None = refl
+one_kind None (Some known) = refl
+one_kind (Some name) earlier = ap not (nat_list_eq_equiv.refl name)
 
-pub same_kind : (last new : List ℕ) → last ≡ new → are_two_kinds last new ≡ false
-same_kind last new is = ap (λ t. are_two_kinds t new) is ∙ one_kind new
+pub same_kind : (last new : List ℕ) (earlier : Option (List ℕ)) → last ≡ new
+    → is_another (kind_or (kind_in last) earlier) new ≡ false
+same_kind last new earlier is =
+    ap (λ t. is_another (kind_or (kind_in t) earlier) new) is ∙ one_kind (kind_in new) earlier
+
+-- a kind that is known once more, and one that another one took the place of
+pub kind_twice : (kind earlier : Option (List ℕ)) → kind_or kind (kind_or kind earlier) ≡ kind_or kind earlier
+kind_twice None earlier = refl
+kind_twice (Some name) earlier = refl
+
+pub kind_other : (known kind : Option (List ℕ)) → are_two known kind ≡ true → kind_or kind None ≡ kind_or kind known
+kind_other None kind h = absurd cc
+kind_other (Some name) None h = absurd cc
+kind_other (Some name) (Some other) h = refl
 
 -- ** names up to a NUL
 no_nul : (b : Bool) → (b ≡ true → ⊥) → not b ≡ true

@@ -2,7 +2,7 @@
 use Rattle.std.specs.Prelude.{◌≡◌, ◌<◌, ℕ, List, [], ◌∷◌, ◌++◌, Option, None, Some, codes, length}
 use Rattle.std.specs.List.{flat_map, fold}
 use Rattle.json.specs.Token.{Token, string}
-use Rattle.json.specs.Print.{print}
+use Rattle.shown.specs.Print.{print}
 use Rattle.std.specs.Int.{w32}
 use Rattle.nla_wire.specs.Fields.{signed_at}
 use Rattle.link_vals.specs.AddressFamilyTable.{address_family_number}

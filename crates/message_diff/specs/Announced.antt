@@ -2,7 +2,7 @@
 use Rattle.std.specs.Prelude.{ℕ, ◌==◌, ◌&&◌, not, nat_le, Bool, false, List, [], ◌∷◌, ◌++◌, length, take, cond}
 use Rattle.std.specs.Prelude.{Option, None, Some, option_and_then, slice_range}
 use Rattle.std.specs.Int.{w16}
-use Rattle.std.specs.List.{concat, filter, list_any, take_while}
+use Rattle.std.specs.List.{concat, filter, fold, list_any, take_while}
 use lib.Pointwise.{pointwise}
 use Rattle.nla_wire.specs.Fields.{number_at}
 use Rattle.link_msg.specs.declared.numbers.TheConstants.{IFLA_EVENT, IFLA_IFNAME, IFLA_LINKINFO, IFLA_WIRELESS}
@@ -20,17 +20,19 @@ payload_in frame =
     cond (nat_le 4 (number_at w16 frame 0) && nat_le (number_at w16 frame 0) (length frame))
     (Some (slice_range frame 4 (number_at w16 frame 0))) None
 
--- that of the first frame with this number
+-- that of the last frame with this number, which counts for the kernel too
+abbrev pub payload_or : ℕ → Option (List ℕ) → List ℕ → Option (List ℕ)
+payload_or number last frame = cond (is_of number frame) (payload_in frame) last
+
 abbrev pub payload_of : ℕ → List (List ℕ) → Option (List ℕ)
-payload_of number [] = None
-payload_of number (frame ∷ frames) = cond (is_of number frame) (payload_in frame) (payload_of number frames)
+payload_of number frames = fold (payload_or number) None frames
 
 -- the name that a payload has, up to a NUL: none where that is its first byte
 abbrev pub name_in : List ℕ → Option (List ℕ)
 name_in [] = Some []
 name_in (x ∷ payload) = cond (x == 0) None (Some (take_while (λ byte. not (byte == 0)) (x ∷ payload)))
 
--- the kind that a message names: in its first IFLA_LINKINFO the first IFLA_INFO_KIND, whose number is 1
+-- the kind that a message names: in its last IFLA_LINKINFO the last IFLA_INFO_KIND, whose number is 1
 unfoldable pub kind_in : List ℕ → Option (List ℕ)
 kind_in message =
     option_and_then name_in
@@ -41,15 +43,15 @@ are_two None is = false
 are_two (Some was) None = false
 are_two (Some was) (Some is) = not (pointwise ◌==◌ was is)
 
--- whether two messages name kinds, and two of them: then they are of two links
-unfoldable pub are_two_kinds : List ℕ → List ℕ → Bool
-are_two_kinds old new = are_two (kind_in old) (kind_in new)
+-- a kind, or else the one that was known before
+abbrev pub kind_or : Option (List ℕ) → Option (List ℕ) → Option (List ℕ)
+kind_or None known = known
+kind_or (Some kind) known = Some kind
 
--- whether a message with this encoding is of another link than the last one that had its place, of which this was the
--- encoding
+-- whether a message with this encoding names another kind than the one that is known of its interface: then it is of
+-- another link
 abbrev pub is_another : Option (List ℕ) → List ℕ → Bool
-is_another None new = false
-is_another (Some last) new = are_two_kinds last new
+is_another known text = are_two known (kind_in text)
 
 -- ** what announcements have
 

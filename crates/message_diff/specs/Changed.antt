@@ -3,7 +3,7 @@ use Rattle.std.specs.Prelude.{◌≡◌, ℕ, List, [], ◌∷◌, ◌++◌, Opt
 use Rattle.std.specs.List.{flat_map}
 use Rattle.hex.specs.Hex.{encode_lower}
 use Rattle.json.specs.Token.{Token, begin_object, key, number}
-use Rattle.json.specs.Print.{print, print_from}
+use Rattle.shown.specs.Print.{print, print_from}
 use Rattle.line_filter.specs.Lines.{with_lf}
 use Rattle.shown.specs.Drafts.{Members, object_of, list_of}
 use Rattle.message_diff.specs.Alone.{told_words, change_member}
@@ -12,6 +12,7 @@ use Rattle.message_diff.specs.declared.desk.Pair.{Pair}
 use Rattle.message_diff.specs.declared.snapshot.Compared.{Compared}
 use Rattle.message_diff.specs.Compared.{HasTextBy}
 use Rattle.message_diff.specs.Counted.{IsLeftBy}
+use Rattle.message_diff.specs.Shots.{Shot, orders_of}
 use Rattle.message_diff.specs.Shown.{AreCompared, leaves_of}
 use Rattle.message_diff.specs.Differences.{Diff, AreDiffs}
 use Rattle.message_diff.specs.Marked.{AreMarksOf}
@@ -117,40 +118,46 @@ pub record AreTold (by : Compared) (pair : Pair) (old new : List ℕ) (told : Li
   pub are_left : IsLeftBy by pair found left
   pub all : told ≡ told_diffs old new left
 
--- the line that tells them, of the interface that the new message says
-pub record IsChanged (by : Compared) (front old new line : List ℕ) : Type 0 where
+-- the line that tells them, of the interface that the new message says; each message is shown in its own order
+pub record IsChanged (by : Compared) (front : List ℕ) (old new : Shot) (line : List ℕ) : Type 0 where
   pub pair : Pair
   pub head : Head
   pub changes : List Diff
   pub head_is : IsHeadIn pair.new.page.text pair.new.page.marks head
-  pub are_told : AreTold by pair old new changes
+  pub are_told : AreTold by pair old.text new.text changes
+  pub in_order : are_told.orders ≡ orders_of old new
   pub is : line ≡ changed_line (told_words front) head changes
 
-abbrev pub AddsChanged : Compared → List ℕ → List ℕ → List ℕ → List ℕ → List ℕ → Type 0
+abbrev pub AddsChanged : Compared → List ℕ → Shot → Shot → List ℕ → List ℕ → Type 0
 AddsChanged by front old new before now =
     (line : List ℕ) × IsChanged by front old new line × (now ≡ before ++ line)
 
--- of what is compared of two byte strings
-abbrev pub AddsChangedBy : Compared → List ℕ → List ℕ → List ℕ → List ℕ → Type 0
-AddsChangedBy by old new before now =
-    (was : List ℕ) × (is : List ℕ) × HasTextBy by old was × HasTextBy by new is
-    × AddsChanged by [] was is before now
+-- what is compared of two byte strings, in this order
+pub record AreBothOf (by : Compared) (order : Order) (old new : List ℕ) (was is : Shot) : Type 0 where
+  pub old_order : was.order ≡ order
+  pub new_order : is.order ≡ order
+  pub old_text : HasTextBy by old was.text
+  pub new_text : HasTextBy by new is.text
+
+abbrev pub AddsChangedBy : Compared → Order → List ℕ → List ℕ → List ℕ → List ℕ → Type 0
+AddsChangedBy by order old new before now =
+    (was : Shot) × (is : Shot) × AreBothOf by order old new was is × AddsChanged by [] was is before now
 
 -- ** the list alone
 
 -- it has no line's end
-pub record IsList (by : Compared) (pair : Pair) (old new text : List ℕ) : Type 0 where
+pub record IsList (by : Compared) (pair : Pair) (old new : Shot) (text : List ℕ) : Type 0 where
   pub changes : List Diff
-  pub are_told : AreTold by pair old new changes
+  pub are_told : AreTold by pair old.text new.text changes
+  pub in_order : are_told.orders ≡ orders_of old new
   pub is : text ≡ list_text changes
 
-abbrev pub AddsListOf : Compared → Pair → List ℕ → List ℕ → List ℕ → List ℕ → Type 0
+abbrev pub AddsListOf : Compared → Pair → Shot → Shot → List ℕ → List ℕ → Type 0
 AddsListOf by pair old new before now = (text : List ℕ) × IsList by pair old new text × (now ≡ before ++ text)
 
-abbrev pub AddsList : Compared → List ℕ → List ℕ → List ℕ → List ℕ → Type 0
+abbrev pub AddsList : Compared → Shot → Shot → List ℕ → List ℕ → Type 0
 AddsList by old new before now = (pair : Pair) × AddsListOf by pair old new before now
 
-abbrev pub AddsListBy : Compared → List ℕ → List ℕ → List ℕ → List ℕ → Type 0
-AddsListBy by old new before now =
-    (was : List ℕ) × (is : List ℕ) × HasTextBy by old was × HasTextBy by new is
-    × AddsList by was is before now
+abbrev pub AddsListBy : Compared → Order → List ℕ → List ℕ → List ℕ → List ℕ → Type 0
+AddsListBy by order old new before now =
+    (was : Shot) × (is : Shot) × AreBothOf by order old new was is × AddsList by was is before now

@@ -1,6 +1,6 @@
 -- The line that tells why a line is refused.
 use Rattle.std.specs.Prelude.{◌≡◌, ◌-◌, ◌==◌, ℕ, nat_lt, List, [], ◌∷◌, ◌++◌, codes, cond, drop, length, take}
-use Rattle.json.specs.Print.{print}
+use Rattle.shown.specs.Print.{print}
 use Rattle.link_msg.specs.declared.encoding.CanonError.{CanonError}
 use Rattle.link_msg.specs.declared.encoding.CanonError.TheVariants as Errors
 use Rattle.line_filter.specs.Lines.{with_lf}

@@ -20,23 +20,28 @@ use Rattle.message_diff.specs.declared.watch.Told.{Told}
 use Rattle.message_diff.specs.declared.watch.Told.TheVariants.{Faults}
 use Rattle.message_diff.specs.declared.watch.Watch.{Watch}
 use Rattle.message_diff.specs.Alone.{IsAlone}
-use Rattle.message_diff.specs.Announced.{are_two_kinds}
+use Rattle.message_diff.specs.Announced as announced
 use Rattle.message_diff.specs.Changed.{IsChanged}
-use Rattle.message_diff.specs.Held.{held}
-use Rattle.message_diff.specs.Known.{is_part, in_family, is_text}
+use Rattle.message_diff.specs.Held.{held, kind_known, words_in}
+use Rattle.message_diff.specs.Shots.{Shot}
+use Rattle.message_diff.specs.Known.{is_part, in_family, is_text, value_or_nothing}
 use Rattle.message_diff.specs.Watched.{IsFresh, WatchStops, Watches, host_in, known_of, takes_line}
 
 -- ** what a file has at its end
 
--- of an interface: nothing, nothing but refusals, or the last message that was accepted, with the words in front of it
+-- of an interface: nothing, nothing but refusals, or the last message that was accepted, with the words in front of it,
+-- and the kind that is known
 pub data Found : Type 0 where
   nothing : Found
   refusals : Found
-  last : (front text : List ℕ) → Found
+  last : (front : List ℕ) → Shot → (kind : Option (List ℕ)) → Found
+
+abbrev pub words_told : Entry → List ℕ
+words_told entry = value_or_nothing (words_in entry)
 
 abbrev pub found_last : Option Entry → Found
 found_last None = Found.refusals
-found_last (Some entry) = Found.last entry.front.items entry.snapshot
+found_last (Some entry) = Found.last (words_told entry) entry.snapshot (kind_known entry)
 
 abbrev pub found_in : Option Known → Found
 found_in None = Found.nothing
@@ -63,15 +68,15 @@ pub record Missing : Type 0 where
 
 pub data News : Type 0 where
   same : News
-  came : (front text : List ℕ) → News
-  went : (front text : List ℕ) → News
-  changed : (by : Compared) → (front was is : List ℕ) → News
-  replaced : (old_front was front is : List ℕ) → News
+  came : (front : List ℕ) → Shot → News
+  went : (front : List ℕ) → Shot → News
+  changed : Compared → (front : List ℕ) → (was is : Shot) → News
+  replaced : (old_front : List ℕ) → (was : Shot) → (front : List ℕ) → (is : Shot) → News
   untold : Missing → News
 
 -- whether an interface is of two kinds
 abbrev pub are_two : Found → Found → Bool
-are_two (Found.last old_front was) (Found.last front is) = are_two_kinds was is
+are_two (Found.last old_front was old_kind) (Found.last front is kind) = announced.are_two old_kind kind
 are_two old new = false
 
 -- whether it is another one: so is a part of one that is
@@ -82,16 +87,16 @@ is_replaced old new key =
 
 -- what came or changed
 abbrev pub news_of : Compared → Bool → Missing → Bool → Found → Found → News
-news_of by is_told missing is_other Found.nothing (Found.last front text) =
-    cond is_told (News.came front text) (News.untold missing)
-news_of by is_told missing is_other (Found.last old_front was) (Found.last front is) =
+news_of by is_told missing is_other Found.nothing (Found.last front shot kind) =
+    cond is_told (News.came front shot) (News.untold missing)
+news_of by is_told missing is_other (Found.last old_front was old_kind) (Found.last front is kind) =
     cond is_other (News.replaced old_front was front is) (News.changed by front was is)
 news_of by is_told missing is_other old new = News.same
 
 -- what went
 abbrev pub gone_of : Bool → Missing → Found → Found → News
-gone_of is_told missing (Found.last front text) Found.nothing =
-    cond is_told (News.went front text) (News.untold missing)
+gone_of is_told missing (Found.last front shot kind) Found.nothing =
+    cond is_told (News.went front shot) (News.untold missing)
 gone_of is_told missing old new = News.same
 
 abbrev pub news_at : Compared → Bool → List ℕ → Option Host → Option Host → Key → News
@@ -132,13 +137,13 @@ all_news old new = flat_map (host_news old new) (names_in new) ++ flat_map (host
 
 abbrev pub IsLine : News → List ℕ → Type 0
 IsLine News.same line = line ≡ []
-IsLine (News.came front text) line = IsAlone front (codes "new") text line
-IsLine (News.went front text) line = IsAlone front (codes "gone") text line
+IsLine (News.came front shot) line = IsAlone front (codes "new") shot.text line
+IsLine (News.went front shot) line = IsAlone front (codes "gone") shot.text line
 IsLine (News.changed by front was is) line =
-    ((was ≡ is) × (line ≡ [])) ⊎ ((was ≢ is) × IsChanged by front was is line)
+    ((was.text ≡ is.text) × (line ≡ [])) ⊎ ((was.text ≢ is.text) × IsChanged by front was is line)
 IsLine (News.replaced old_front was front is) line =
-    (gone : List ℕ) × (new : List ℕ) × IsAlone old_front (codes "gone") was gone
-    × IsAlone front (codes "new") is new × (line ≡ gone ++ new)
+    (gone : List ℕ) × (new : List ℕ) × IsAlone old_front (codes "gone") was.text gone
+    × IsAlone front (codes "new") is.text new × (line ≡ gone ++ new)
 IsLine (News.untold missing) line = line ≡ []
 
 abbrev pub AreLines : List News → List ℕ → Type 0

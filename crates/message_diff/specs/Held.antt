@@ -1,5 +1,5 @@
 -- What a host's map has, and what is known by it.
-use Rattle.std.specs.Prelude.{◌≡◌, ◌==◌, ◌&&◌, ℕ, not, nat_le, Bool, List, Option, None, Some, cond}
+use Rattle.std.specs.Prelude.{◌≡◌, ◌==◌, ◌&&◌, ℕ, not, nat_le, Bool, List, Option, None, Some, cond, option_map}
 use Rattle.std.specs.List.{filter, list_any}
 use Rattle.std.specs.BTreeMap.{is_at}
 use Rattle.std.specs.Map.{lookup}
@@ -11,8 +11,11 @@ use Rattle.message_diff.specs.declared.store.Entry.{Entry}
 use Rattle.message_diff.specs.declared.reading.Said.{Said}
 use Rattle.message_diff.specs.declared.reading.Said.TheVariants as Saids
 use Rattle.message_diff.specs.declared.watch.Telling.{Telling}
+use Rattle.message_shown.specs.declared.context.Order.{Order}
+use Rattle.message_diff.specs.Shots.{Shot}
+use Rattle.message_diff.specs.Announced.{kind_in, kind_or}
 use Rattle.message_diff.specs.Known.{Item, Seen, Picture, is_text, key_cmp, is_key, is_since, reaches, in_family}
-use Rattle.message_diff.specs.Known.{text_of, of_after, run_after, whole_after}
+use Rattle.message_diff.specs.Known.{shot_of, of_after, run_after, whole_after}
 use Rattle.message_diff.specs.Told.{AddsTold, says}
 
 -- what the map has at an interface
@@ -35,13 +38,45 @@ last_of (Some known) = known.last
 
 -- ** what is known by it
 
-abbrev pub text_in : Option Entry → Option (List ℕ)
-text_in None = None
-text_in (Some entry) = Some entry.snapshot
+abbrev pub shot_in : Option Entry → Option Shot
+shot_in None = None
+shot_in (Some entry) = Some entry.snapshot
+
+abbrev pub text_at : Option Entry → Option (List ℕ)
+text_at None = None
+text_at (Some entry) = Some entry.snapshot.text
+
+-- where it comes again, in this order
+abbrev pub come_again : Order → Option Entry → Option Entry
+come_again order None = None
+come_again order (Some entry) =
+    Some (record entry { front = None; snapshot = record { order = order; text = entry.snapshot.text } })
+
+-- the kind: that of its message, or else of earlier ones
+abbrev pub kind_known : Entry → Option (List ℕ)
+kind_known entry = kind_or (kind_in entry.snapshot.text) (option_map (λ kind. kind.items) entry.earlier)
+
+abbrev pub kind_at : Option Entry → Option (List ℕ)
+kind_at None = None
+kind_at (Some entry) = kind_known entry
+
+-- the words that are kept
+abbrev pub words_in : Entry → Option (List ℕ)
+words_in entry = option_map (λ words. words.items) entry.front
+
+abbrev pub words_at : Option Entry → Option (List ℕ)
+words_at None = None
+words_at (Some entry) = words_in entry
 
 abbrev pub seen_in : Option Known → Option Seen
 seen_in None = None
-seen_in (Some known) = Some (record { at = known.at; text = text_in known.last })
+seen_in (Some known) =
+    Some (record {
+      at = known.at;
+      shot = shot_in known.last;
+      kind = kind_at known.last;
+      words = words_at known.last;
+    })
 
 -- whether a dump of this family that began there should have had an entry, and did not
 abbrev pub is_left : List (Key × Known) → ℕ → ℕ → Key × Known → Bool
@@ -67,21 +102,28 @@ whole_in host family = list_any (λ f. f == family) host.whole.items
 abbrev pub picture : Host → Picture
 picture host = record { of = λ q. seen_in (held host q); run = run_in host.dump; whole = whole_in host }
 
--- the encoding that has a line where an interface went
-abbrev pub text_told : Telling → Host → Key → Option (List ℕ)
-text_told told host q = cond (says told.told) (text_of (seen_in (held host q))) None
+-- the message that has a line where an interface went
+abbrev pub shot_told : Telling → Host → Key → Option Shot
+shot_told told host q = cond (says told.told) (shot_of (seen_in (held host q))) None
 
 -- ** what a line says, and what is known after it
 
-abbrev pub item_of : Said → Item
-item_of (Saids.Is key text) = Item.is key text
-item_of (Saids.Refused key) = Item.refused key
-item_of (Saids.Went key gone) = Item.went key gone
-item_of (Saids.Begin dump) = Item.started dump.items
-item_of (Saids.Done dump family) = Item.finished dump.items family
-item_of Saids.Lost = Item.nothing
-item_of Saids.Blind = Item.blind
-item_of Saids.Nothing = Item.nothing
+-- the words in front of it are kept where what it tells is told at the end
+abbrev pub words_for : Telling → List ℕ → Option (List ℕ)
+words_for told front = cond (says told.told) None (Some front)
+
+abbrev pub item_with : Option (List ℕ) → Said → Item
+item_with words (Saids.Is key shot) = Item.is key shot words
+item_with words (Saids.Refused key) = Item.refused key
+item_with words (Saids.Went key gone) = Item.went key gone
+item_with words (Saids.Begin dump) = Item.started dump.items
+item_with words (Saids.Done dump family) = Item.finished dump.items family
+item_with words Saids.Lost = Item.nothing
+item_with words Saids.Blind = Item.blind
+item_with words Saids.Nothing = Item.nothing
+
+abbrev pub item_of : List ℕ → Telling → Said → Item
+item_of front told said = item_with (words_for told front) said
 
 -- what is known after a line at a place that says this
 pub record IsAfter (old : Picture) (at : ℕ) (item : Item) (new : Picture) : Type 0 where
@@ -92,10 +134,10 @@ pub record IsAfter (old : Picture) (at : ℕ) (item : Item) (new : Picture) : Ty
 -- what is known after a line with these words that says this, and what it adds
 abbrev pub Applies : List ℕ → Telling → ℕ → Said → Picture → Picture → List ℕ → List ℕ → Type 0
 Applies front told at said old new before now =
-    IsAfter old at (item_of said) new × AddsTold front told old (item_of said) before now
+    IsAfter old at (item_of front told said) new × AddsTold front told old (item_of front told said) before now
 
 -- an interface is this from then on: it goes on, or went, with its parts, and is new
-abbrev pub Puts : List ℕ → Telling → ℕ → Key → List ℕ → Picture → Picture → List ℕ → List ℕ → Type 0
-Puts front told at key text old new before now =
-    ((q : Key) → new.of q ≡ of_after old at (Item.is key text) q)
-    × AddsTold front told old (Item.is key text) before now
+abbrev pub Puts : List ℕ → Telling → ℕ → Key → Shot → Picture → Picture → List ℕ → List ℕ → Type 0
+Puts front told at key shot old new before now =
+    ((q : Key) → new.of q ≡ of_after old at (Item.is key shot (words_for told front)) q)
+    × AddsTold front told old (Item.is key shot (words_for told front)) before now

@@ -8,7 +8,8 @@ use Rattle.std.specs.Ordering.{nat_cmp, ordering_then, is_eq}
 use lib.Pointwise.{pointwise}
 use Rattle.line_filter.specs.Words.{value_in}
 use Rattle.message_diff.specs.declared.key.Key.{Key}
-use Rattle.message_diff.specs.Announced.{is_another}
+use Rattle.message_diff.specs.Shots.{Shot}
+use Rattle.message_diff.specs.Announced.{is_another, kind_in, kind_or}
 
 -- the order of a host's interfaces: by family and index
 abbrev pub key_cmp : Key → Key → Ordering
@@ -30,23 +31,27 @@ abbrev pub dump_name : List (List ℕ × List ℕ) → List ℕ
 dump_name words =
     value_or_nothing (value_in (codes "seq") words) ++ 32 ∷ value_or_nothing (value_in (codes "port") words)
 
--- what a line says of its host: what an interface is, by the encoding that is compared; that it is there; that it went,
--- and by the encoding what it was, unless that is refused; where a dump begins and ends, by its name; something of an
+-- what a line says of its host: what an interface is, by the message that is compared, with
+-- the words that are kept with it, if they are; that it is there; that it went,
+-- and by its message what it was, unless that is refused; where a dump begins and ends, by its name; something of an
 -- interface, and not of which one; or nothing
 pub data Item : Type 0 where
-  is : Key → (text : List ℕ) → Item
+  is : Key → Shot → (words : Option (List ℕ)) → Item
   refused : Key → Item
-  went : Key → (text : Option (List ℕ)) → Item
+  went : Key → Option Shot → Item
   started : (dump : List ℕ) → Item
   finished : (dump : List ℕ) (family : ℕ) → Item
   blind : Item
   nothing : Item
 
--- what is known of an interface: the place of its last line, and the encoding of its last message that was accepted, if
--- there was one
+-- what is known of an interface: the place of its last line; its last message that was accepted, if
+-- there was one; the kind that the last one of them named that names one; and the
+-- words of its line, where they are kept
 pub record Seen : Type 0 where
   pub at : ℕ
-  pub text : Option (List ℕ)
+  pub shot : Option Shot
+  pub kind : Option (List ℕ)
+  pub words : Option (List ℕ)
 
 -- what is known of a host: of each interface, of the dump that runs its name and the place where it began, and of each
 -- family whether a dump of it was whole
@@ -95,16 +100,24 @@ abbrev pub is_missed_by : (Key → Option Seen) → Option (List ℕ × ℕ) →
 is_missed_by of None dump family key = false
 is_missed_by of (Some run) dump family key = is_text run.0 dump && is_missed of run.1 family key
 
-abbrev pub text_of : Option Seen → Option (List ℕ)
-text_of None = None
-text_of (Some seen) = seen.text
+abbrev pub shot_of : Option Seen → Option Shot
+shot_of None = None
+shot_of (Some seen) = seen.shot
 
--- whether the line ends this interface, if it is known: one that is of another kind than the last one that had its
--- place ends that one
+abbrev pub kind_of : Option Seen → Option (List ℕ)
+kind_of None = None
+kind_of (Some seen) = seen.kind
+
+abbrev pub words_kept : Option Seen → Option (List ℕ)
+words_kept None = None
+words_kept (Some seen) = seen.words
+
+-- whether the line ends this interface, if it is known: one that is of another kind than is known of the one that had
+-- its place ends that one
 abbrev pub ends : Picture → Item → Key → Bool
-ends p (is key text) q = is_another (text_of (p.of key)) text && is_ended_with key q
+ends p (is key shot words) q = is_another (kind_of (p.of key)) shot.text && is_ended_with key q
 ends p (refused key) q = false
-ends p (went key text) q = is_ended_with key q
+ends p (went key shot) q = is_ended_with key q
 ends p (started dump) q = false
 ends p (finished dump family) q = is_missed_by p.of p.run dump family q
 ends p blind q = false
@@ -118,13 +131,17 @@ without p x q = cond (ends p x q) None (p.of q)
 abbrev pub with_seen : Key → Seen → (Key → Option Seen) → Key → Option Seen
 with_seen key seen of q = cond (is_key key q) (Some seen) (of q)
 
--- an interface is this from then on
-abbrev pub is_now : ℕ → Key → List ℕ → (Key → Option Seen) → Key → Option Seen
-is_now at key text of = with_seen key (record { at = at; text = Some text }) of
+-- an interface is this from then on, of which this kind is known: it stays so where the message names none
+abbrev pub is_now : ℕ → Key → Option (List ℕ) → Shot → Option (List ℕ) → (Key → Option Seen) → Key → Option Seen
+is_now at key kind shot words of =
+    with_seen key (record { at = at; shot = Some shot; kind = kind_or (kind_in shot.text) kind; words = words }) of
 
 abbrev pub of_after : Picture → ℕ → Item → Key → Option Seen
-of_after p at (is key text) = is_now at key text (without p (is key text))
-of_after p at (refused key) = with_seen key (record { at = at; text = text_of (p.of key) }) p.of
+of_after p at (is key shot words) =
+    is_now at key (kind_of (p.of key)) shot words (without p (is key shot words))
+of_after p at (refused key) =
+    with_seen key
+    (record { at = at; shot = shot_of (p.of key); kind = kind_of (p.of key); words = words_kept (p.of key) }) p.of
 of_after p at x = without p x
 
 -- the dump that began last; a line of no interface leaves it unknown whether it is whole. It need not be forgotten at

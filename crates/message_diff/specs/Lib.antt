@@ -3,6 +3,7 @@ pub mod Announced
 pub mod Compared
 pub mod Differences
 pub mod Paths
+pub mod Shots
 pub mod Sorted
 pub mod Known
 pub mod Parts

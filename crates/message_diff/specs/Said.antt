@@ -17,6 +17,9 @@ use Rattle.message_diff.specs.declared.reading.Sort.TheVariants as Sorts
 use Rattle.message_diff.specs.declared.reading.Said.{Said}
 use Rattle.message_diff.specs.declared.reading.Said.TheVariants as Saids
 use Rattle.message_shown.specs.Contexts.{text_in}
+use Rattle.message_shown.specs.Worded.{order_for}
+use Rattle.message_shown.specs.declared.context.Order.TheVariants as Orders
+use Rattle.message_diff.specs.Shots.{Shot}
 use Rattle.message_diff.specs.Announced.{is_wireless_alone, without_event}
 use Rattle.message_diff.specs.Compared.{HasTextBy, IsRefusalAloneBy}
 use Rattle.message_diff.specs.Faults.{IsFault, fault_line}
@@ -73,24 +76,27 @@ key_in bytes =
     cond (nat_lt (length bytes) 16) None (Some (record { family = get_or bytes 0 0; index = number_at w32 bytes 4 }))
 
 -- what a message says that is accepted, and whether it tells what its interface is
-abbrev pub accepted_says : Sort → Bool → Option Key → List ℕ → Said
-accepted_says sort tells None text = Saids.Blind
-accepted_says Sorts.Gone tells (Some key) text = Saids.Went key (Some text)
-accepted_says Sorts.Asked tells (Some key) text = Saids.Nothing
-accepted_says Sorts.There tells (Some key) text = cond tells (Saids.Is key text) Saids.Nothing
+abbrev pub accepted_says : Sort → Bool → Option Key → Shot → Said
+accepted_says sort tells None shot = Saids.Blind
+accepted_says Sorts.Gone tells (Some key) shot = Saids.Went key (Some shot)
+accepted_says Sorts.Asked tells (Some key) shot = Saids.Nothing
+accepted_says Sorts.There tells (Some key) shot = cond tells (Saids.Is key shot) Saids.Nothing
 
+-- and one that is refused, which may be of no interface that can be read; what somebody asked for is no link of a dump
 abbrev pub refused_says : Sort → Option Key → Said
 refused_says Sorts.Asked key = Saids.Nothing
 refused_says _ None = Saids.Blind
 refused_says Sorts.Gone (Some key) = Saids.Went key None
 refused_says Sorts.There (Some key) = Saids.Refused key
 
--- what is compared of the bytes has this encoding, and they say that by it: what a wireless driver announces does not
+-- what is compared of the bytes is this message, in the order of counters of the kernel that the words name, and they
+-- say that by it: what a wireless driver announces does not
 -- tell what the interface is
 pub record SaysAccepted (by : Compared) (front bytes compared : List ℕ) (said : Said) (fault : List ℕ) : Type 0 where
-  pub text : List ℕ
-  pub has : HasTextBy by compared text
-  pub is : said ≡ accepted_says (sort_of front) (not (is_wireless_alone bytes)) (key_in bytes) text
+  pub shot : Shot
+  pub has : HasTextBy by compared shot.text
+  pub order : shot.order ≡ order_for front Orders.Unknown
+  pub is : said ≡ accepted_says (sort_of front) (not (is_wireless_alone bytes)) (key_in bytes) shot
   pub none : fault ≡ []
 
 -- what is compared of them is refused, and the line has a fault
@@ -110,7 +116,8 @@ SaysMessage by front bytes said fault = SaysCompared by front bytes (without_eve
 
 abbrev pub SaysSpelled : Compared → List ℕ → Result (List ℕ) FromHexError → Said → List ℕ → Type 0
 SaysSpelled by front (Ok bytes) said fault = SaysMessage by front bytes said fault
-SaysSpelled by front (Err _) said fault = (said ≡ Saids.Blind) × (fault ≡ fault_line front (codes "not-hex"))
+SaysSpelled by front (Err _) said fault =
+    (said ≡ refused_says (sort_of front) None) × (fault ≡ fault_line front (codes "not-hex"))
 
 -- what a line says that has these words in front of this rest, and its fault: nothing where it has none
 abbrev pub Says : Compared → List ℕ → List ℕ → Said → List ℕ → Type 0

@@ -5,7 +5,7 @@ use Rattle.std.specs.List.{list_any}
 use Rattle.json.specs.Json.{Json, null, boolean, number, string, array, object, Items, no_items, item, Members}
 use Rattle.json.specs.Json.{no_members, member}
 use Rattle.json.specs.Tree.{json_tokens}
-use Rattle.json.specs.Print.{print, escape}
+use Rattle.shown.specs.Print.{print, escape}
 use Rattle.message_diff.specs.Known.{is_text}
 use Rattle.message_diff.specs.Differences.{Leaf}
 

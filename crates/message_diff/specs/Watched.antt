@@ -43,7 +43,7 @@ next_line lines = min (lines + 1) (2 ^ 64 - 1)
 -- what is known after a line, and what it adds
 abbrev pub Goes : List ℕ → Telling → ℕ → Said → Picture → Picture → List ℕ → Type 0
 Goes front told at said old new more =
-    IsAfter old at (item_of said) new × Tells front told old (item_of said) more
+    IsAfter old at (item_of front told said) new × Tells front told old (item_of front told said) more
 
 -- what a line says is taken for its host, and what is known of the others stays
 pub record GoesFor (front : List ℕ) (told : Telling) (at : ℕ) (said : Said) (old new : Watch)

@@ -4,7 +4,7 @@ ghost use Rattle.std.specs.Prelude.{◌≡◌, IfOk, option_map};
 ghost use Rattle.std.specs.List.{list_any};
 ghost use Rattle.message_diff.specs.Frames.{frames_of};
 ghost use Rattle.message_diff.specs.Announced.{is_event, without_event, shorter_or, is_wireless_alone};
-ghost use Rattle.message_diff.specs.Announced.{payload_of, kind_in, are_two_kinds};
+ghost use Rattle.message_diff.specs.Announced.{payload_of, kind_in, are_two};
 
 use crate::frames::{Frames, number_of};
 use link_msg::NLA_HEADER_SIZE;
@@ -73,21 +73,22 @@ pub fn is_wireless_alone(message: &[u8]) -> bool
     is_any
 }
 
-/// The payload of the first attribute with this number.
+/// The payload of the last attribute with this number.
 fn payload_of<'a>(frames: Frames<'a>, number: u16) -> Option<&'a [u8]>
     ensures { option_map (λ payload. payload.now) result ≡ payload_of number frames.entry }
 {
+    let mut last = None;
     for frame in frames {
         if frame.len() >= NLA_HEADER_SIZE && number_of(frame) == number {
-            return frame.get(NLA_HEADER_SIZE..u16_at(frame, 0) as usize);
+            last = frame.get(NLA_HEADER_SIZE..u16_at(frame, 0) as usize);
         }
     }
-    None
+    last
 }
 
-/// The kind of a link, if its message has one.
+/// The kind of a link, if its message has one: of attributes that come again the last counts, as for the kernel.
 #[tactic(auto, unfolding(crate::specs::Announced::kind_in))]
-fn kind_of(message: &[u8]) -> Option<&[u8]>
+pub fn kind_of(message: &[u8]) -> Option<&[u8]>
     ensures { option_map (λ kind. kind.now) result ≡ kind_in message.now }
 {
     let info = payload_of(Frames::of(message), IFLA_LINKINFO)?;
@@ -99,15 +100,15 @@ fn kind_of(message: &[u8]) -> Option<&[u8]>
     }
 }
 
-/// Whether two messages have kinds, and two different ones: they are of two links.
-#[tactic(auto, unfolding(crate::specs::Announced::are_two_kinds))]
-pub fn are_two_kinds(old: &[u8], new: &[u8]) -> bool
-    ensures { result ≡ are_two_kinds old.now new.now }
+/// Whether these are kinds, and two different ones: they are of two links.
+pub fn are_two(old: Option<&[u8]>, new: Option<&[u8]>) -> bool
+    ensures { result ≡ are_two (option_map (λ kind. kind.now) old.entry)
+        (option_map (λ kind. kind.now) new.entry) }
 {
-    let Some(was) = kind_of(old) else {
+    let Some(was) = old else {
         return false;
     };
-    let Some(is) = kind_of(new) else {
+    let Some(is) = new else {
         return false;
     };
     was != is

@@ -6,17 +6,18 @@ ghost use Rattle.std.specs.Map.{keys_of};
 ghost use Rattle.message_diff.specs.Known.{in_family};
 ghost use Rattle.message_diff.specs.declared.watch.Told.TheVariants.{Faults};
 ghost use Rattle.message_diff.specs.Watched.{WatchStops, host_in};
-ghost use Rattle.message_diff.specs.Files.{News, found, found_last, known_at, are_two, tells};
+ghost use Rattle.message_diff.specs.Files.{News, words_told, found, found_last, known_at, are_two, tells};
 ghost use Rattle.message_diff.specs.Files.{news_at, gone_of, gone_at, host_news, host_gone, names_in, Adds};
 ghost use Rattle.message_diff.specs.Files.{missings, is_missing, is_last, missing_in, WatchesTo, TellsNews, Compares};
 ghost use Rattle.message_diff.specs.Files.{StopsAtEnds, CompareStops};
 
+use crate::announced::are_two as names_two;
 use crate::desk::Desk;
 use crate::key::{AF_UNSPEC, Key};
 use crate::snapshot::Compared;
 use crate::store::{Entry, Host, Known};
 use crate::told::{push_changed, push_gone, push_new};
-use crate::watch::{Told, Watch, is_another};
+use crate::watch::{Told, Watch};
 use line_filter::error::RunError;
 use line_filter::run::read_lines;
 use line_filter::write::write_out;
@@ -154,7 +155,7 @@ fn are_two(was: &Known, is: &Known) -> bool
     let Some(new) = is.last.as_ref() else {
         return false;
     };
-    is_another(&last.snapshot, &new.snapshot)
+    names_two(last.kind(), new.kind())
 }
 
 /// The same of the interface alone.
@@ -183,14 +184,14 @@ fn push_both(
     written: &mut Written,
 ) -> Result<(), AllocError>
     ensures { OnOk result (Adds (cond is_replaced
-        (News.replaced was.now.front.items was.now.snapshot is.now.front.items is.now.snapshot)
-        (News.changed by is.now.front.items was.now.snapshot is.now.snapshot) ∷ [])
+        (News.replaced (words_told was.now) was.now.snapshot (words_told is.now) is.now.snapshot)
+        (News.changed by (words_told is.now) was.now.snapshot is.now.snapshot) ∷ [])
         written.old written.new) }
 {
     let Written { desk, out, .. } = written;
-    let front = is.front.as_slice();
+    let front = is.words();
     if is_replaced {
-        push_gone(alloc, was.front.as_slice(), &was.snapshot, out)?;
+        push_gone(alloc, was.words(), &was.snapshot, out)?;
         return push_new(alloc, front, &is.snapshot, out);
     }
     push_changed(alloc, by, front, &was.snapshot, &is.snapshot, desk, out)?;
@@ -217,7 +218,7 @@ fn push_news(
     };
     let Some(other) = old.known(key) else {
         if old.tells(key.family) {
-            return push_new(alloc, is.front.as_slice(), &is.snapshot, &mut written.out);
+            return push_new(alloc, is.words(), &is.snapshot, &mut written.out);
         }
         return written.add_untold(alloc, false, key.family, old.name);
     };
@@ -250,7 +251,7 @@ fn push_left(
         return Ok(());
     }
     if new.tells(key.family) {
-        return push_gone(alloc, was.front.as_slice(), &was.snapshot, &mut written.out);
+        return push_gone(alloc, was.words(), &was.snapshot, &mut written.out);
     }
     written.add_untold(alloc, true, key.family, new.name)
 }

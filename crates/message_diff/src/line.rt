@@ -1,7 +1,7 @@
 //! The parts of a line that tells what changed of an interface, and of a list of changes.
 
 ghost use Rattle.std.specs.Prelude.{◌≡◌, ◌++◌, ◌∷◌, [], OnOk, option_map};
-ghost use Rattle.json.specs.Print.{print};
+ghost use Rattle.shown.specs.Print.{print};
 ghost use Rattle.shown.specs.Sheets.{comma_if};
 ghost use Rattle.message_diff.specs.Alone.{told_words, change_member};
 ghost use Rattle.message_diff.specs.Differences.{diff_of, diffs_of};

@@ -1,10 +1,11 @@
 //! The list of what changed of an interface.
 
 ghost use Rattle.std.specs.Prelude.{◌≡◌, ◌<◌, ◌++◌, IsTrue, IfOk, IfErr, OnOk, false, length};
+ghost use Rattle.message_diff.specs.Announced.{without_event};
 ghost use Rattle.message_diff.specs.Compared.{TellsIfDiffers, IsRefusalOfTwoBy};
 ghost use Rattle.message_diff.specs.Differences.{diffs_of};
 ghost use Rattle.message_diff.specs.Shown.{AreCompared};
-ghost use Rattle.message_shown.specs.declared.context.Order.{Order};
+ghost use Rattle.message_diff.specs.Shots.{orders_of};
 ghost use Rattle.message_diff.specs.Changed.{told_diffs, list_text, AddsList, AddsListBy, AddsListOf};
 
 use crate::counters::Counters;
@@ -24,7 +25,7 @@ pub fn show_both(
     desk: &mut Desk,
 ) -> Result<(), AllocError>
     ensures { OnOk result
-        ((orders : Order × Order) × AreCompared orders old.now new.now desk.new.pair) }
+        (AreCompared (orders_of old.now new.now) old.now.text new.now.text desk.new.pair) }
 {
     let orders = (old.order(), new.order());
     desk.pair.show(alloc, orders, old.text(), new.text())
@@ -39,7 +40,7 @@ fn push_differences(
     out: &mut Vec<u8>,
 ) -> Result<(), AllocError>
     ensures { OnOk result (out.new.items ≡ out.old.items
-        ++ list_text (told_diffs old.now new.now (diffs_of changes.now))) }
+        ++ list_text (told_diffs old.now.text new.now.text (diffs_of changes.now))) }
 {
     if changes.is_empty() {
         return push_texts(alloc, out, old.text(), new.text());
@@ -57,8 +58,8 @@ pub fn push_found(
     counters: &mut Counters,
     out: &mut Vec<u8>,
 ) -> Result<(), AllocError>
-    ensures { OnOk result ((orders : Order × Order)
-        → AreCompared orders old.now new.now pair.now
+    ensures { OnOk result
+        (AreCompared (orders_of old.now new.now) old.now.text new.now.text pair.now
         → AddsListOf by pair.now old.now new.now out.old.items out.new.items) }
 {
     let was = pair.old.list(alloc)?;
@@ -84,9 +85,11 @@ fn push_both(
 }
 
 /// Adds the list of what differs between the messages that the bytes are, if their encodings do, and returns whether
-/// they do. It is what a line of `push_compared` has as `changes`: a JSON list, and no line's end.
+/// they do. Attributes IFLA_EVENT, which say why a message was announced, are not compared. It is what a line of
+/// `push_compared` has as `changes`: a JSON list, and no line's end.
 ///
-/// Refuses as `Snapshot::new` does, each refusal of the old one before those of the new one; then nothing was added.
+/// Refuses as `Snapshot::of_link` does, each refusal of the old one before those of the new one; then nothing was
+/// added.
 pub fn push_list(
     alloc: Global,
     by: Compared,
@@ -95,16 +98,19 @@ pub fn push_list(
     new: &[u8],
     out: &mut Vec<u8>,
 ) -> Result<bool, CanonError>
-    ensures told { IfOk result (TellsIfDiffers by old.now new.now) }
+    ensures told { IfOk result
+        (TellsIfDiffers by (without_event old.now) (without_event new.now)) }
     ensures silent { IfOk result (λ told. told ≡ false → out.new ≡ out.old) }
     ensures said { IfOk result
         (λ told. IsTrue told → length out.old.items < length out.new.items) }
     ensures list { IfOk result (λ told. IsTrue told
-        → AddsListBy by old.now new.now out.old.items out.new.items) }
-    ensures err { IfErr result (IsRefusalOfTwoBy by old.now new.now) }
+        → AddsListBy by order (without_event old.now) (without_event new.now)
+        out.old.items out.new.items) }
+    ensures err { IfErr result
+        (IsRefusalOfTwoBy by (without_event old.now) (without_event new.now)) }
 {
-    let was = Snapshot::new(alloc, by, order, old)?;
-    let is = Snapshot::new(alloc, by, order, new)?;
+    let was = Snapshot::of_link(alloc, by, order, old)?;
+    let is = Snapshot::of_link(alloc, by, order, new)?;
     if was.text() == is.text() {
         return Ok(false);
     }

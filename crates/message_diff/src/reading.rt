@@ -48,7 +48,8 @@ pub struct LineReader {
     message: Vec<u8>,
 }
 
-/// Adds a line with the words and the fault of bytes that are no message, as linkshow tells it.
+/// Adds a line with the words and the fault of bytes that are no message, as linkshow tells it: what stood before it by
+/// the kernel that the words name.
 fn push_decode_fault(
     alloc: Global,
     front: &[u8],
@@ -59,7 +60,7 @@ fn push_decode_fault(
         × (out.new.items ≡ out.old.items ++ line)) }
 {
     let mut shown = Vec::new(alloc);
-    push_answer(alloc, Order::Unknown, &mut shown, bytes)?;
+    push_answer(alloc, order_for(front, Order::Unknown), &mut shown, bytes)?;
     push_words(alloc, front, out)?;
     out.extend_from_slice(shown.as_slice().strip_prefix(b"{").unwrap_or(b""))
 }
@@ -269,7 +270,7 @@ impl LineReader {
         self.message.resize(digits.len() / 2, 0)?;
         if !decode(digits, values(), self.message.as_mut_slice()) {
             push_not_hex(alloc, front, out)?;
-            return Ok(Said::Blind);
+            return Ok(said_by_refused(front, b""));
         }
         said_by_message(alloc, self.by, front, self.message.as_slice(), out)
     }

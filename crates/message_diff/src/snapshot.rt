@@ -1,12 +1,14 @@
 //! A message as it is compared.
 
 ghost use Rattle.std.specs.Prelude.{◌≡◌, IfOk, IfErr};
+ghost use Rattle.message_diff.specs.Announced.{without_event};
 ghost use Rattle.message_diff.specs.Compared.{HasTextBy, IsRefusalBy, leniently, with_counters};
 
+use crate::announced::without_event;
 use link_msg::{CanonError, canonical, canonical_lenient};
 use link_state::{state, state_lenient};
 use message_shown::context::Order;
-use std::alloc::Global;
+use std::alloc::{AllocError, Global};
 use std::marker::Model;
 
 /// What is compared of two messages.
@@ -44,7 +46,7 @@ impl Compared {
     }
 }
 
-/// A message, and the encoding of it that is compared. A clause sees the encoding.
+/// A message as it is compared: its encoding, and the order of counters that its line was read in.
 #[derive(Drop)]
 pub struct Snapshot {
     order: Order,
@@ -52,11 +54,11 @@ pub struct Snapshot {
 }
 
 impl Model for Snapshot {
-    ghost use Rattle.std.specs.Prelude.{ℕ, List};
+    ghost use Rattle.message_diff.specs.Shots.{Shot};
 
-    ghost Value = { List ℕ };
+    ghost Value = { Shot };
 
-    ghost view = { λ snapshot. snapshot.text.items };
+    ghost view = { λ snapshot. record { order = snapshot.order; text = snapshot.text.items } };
 }
 
 /// The encoding of a message that is compared.
@@ -82,21 +84,51 @@ impl Snapshot {
         order: Order,
         bytes: &[u8],
     ) -> Result<Snapshot, CanonError>
-        ensures ok { IfOk result (HasTextBy by bytes.now) }
+        ensures ok { IfOk result (λ snapshot. HasTextBy by bytes.now snapshot.text) }
+        ensures order { IfOk result (λ snapshot. snapshot.order ≡ order) }
         ensures err { IfErr result (IsRefusalBy by bytes.now) }
     {
         let text = text_by(alloc, by, bytes)?;
         Ok(Snapshot { order, text })
     }
 
+    /// The same of the message without its attributes IFLA_EVENT, which say why it was announced.
+    ///
+    /// Refuses as `new` does.
+    pub fn of_link(
+        alloc: Global,
+        by: Compared,
+        order: Order,
+        bytes: &[u8],
+    ) -> Result<Snapshot, CanonError>
+        ensures ok { IfOk result (λ snapshot. HasTextBy by (without_event bytes.now) snapshot.text) }
+        ensures order { IfOk result (λ snapshot. snapshot.order ≡ order) }
+        ensures err { IfErr result (IsRefusalBy by (without_event bytes.now)) }
+    {
+        match without_event(alloc, bytes) {
+            Ok(Some(shorter)) => Snapshot::new(alloc, by, order, shorter.as_slice()),
+            Ok(None) => Snapshot::new(alloc, by, order, bytes),
+            Err(AllocError) => Err(CanonError::OutOfMemory),
+        }
+    }
+
     /// The order of its counters of IPv6.
-    pub fn order(&self) -> Order {
+    pub fn order(&self) -> Order
+        ensures { result ≡ self.now.order }
+    {
         self.order
+    }
+
+    /// The same message came again, in this order.
+    pub fn set_order(&mut self, order: Order)
+        ensures { self.new ≡ record { order = order; text = self.old.text } }
+    {
+        self.order = order;
     }
 
     /// The encoding that is compared.
     pub fn text(&self) -> &[u8]
-        ensures { result.now ≡ self.now }
+        ensures { result.now ≡ self.now.text }
     {
         self.text.as_slice()
     }

@@ -1,23 +1,76 @@
 //! What is known of the interfaces of a host.
 
-ghost use Rattle.std.specs.Prelude.{◌≡◌, ◌==◌, ◌||◌, ℕ, false, Some, IfOk, OnOk, IsTrue};
+ghost use Rattle.std.specs.Prelude.{◌≡◌, ◌==◌, ◌||◌, ℕ, false, Some, IfOk, OnOk, IsTrue, option_map};
 ghost use Rattle.message_diff.specs.declared.key.Key.{Key};
+ghost use Rattle.message_diff.specs.Announced.{is_another, kind_in, kind_or};
 ghost use Rattle.message_diff.specs.Held.{held, taken, put, last_of, seen_in, is_left, left};
-ghost use Rattle.message_diff.specs.Held.{begin_of, picture, whole_in, text_in};
+ghost use Rattle.message_diff.specs.Held.{begin_of, come_again, kind_known, picture, whole_in, text_at};
+ghost use Rattle.message_diff.specs.Files.{words_told};
 ghost use Rattle.message_diff.specs.Known.{key_cmp, is_since, nothing_known};
 ghost use Rattle.std.specs.List.Sorted.{IsStrictlySortedBy};
 ghost use Rattle.std.specs.Map.{keys_of};
 
+use crate::announced::{are_two, kind_of};
 use crate::key::Key;
 use crate::snapshot::Snapshot;
+use message_shown::context::Order;
 use std::alloc::{AllocError, Global};
 use std::collections::BTreeMap;
 
 /// A message, and the words in front of it, where what is told is told at the end.
 #[derive(Drop)]
 pub struct Entry {
-    pub front: Vec<u8>,
+    pub front: Option<Vec<u8>>,
     pub snapshot: Snapshot,
+    /// The kind that earlier messages of the interface named, where this one names none.
+    pub earlier: Option<Vec<u8>>,
+}
+
+impl Entry {
+    /// The words that are kept, or none.
+    pub fn words(&self) -> &[u8]
+        ensures { result.now ≡ words_told self.now }
+    {
+        match &self.front {
+            Some(words) => words.as_slice(),
+            None => b"",
+        }
+    }
+
+    /// The kind of the interface, as far as it is known.
+    pub fn kind(&self) -> Option<&[u8]>
+        ensures { option_map (λ kind. kind.now) result ≡ kind_known self.now }
+    {
+        match (kind_of(self.snapshot.text()), &self.earlier) {
+            (Some(kind), _) => Some(kind),
+            (None, Some(kind)) => Some(kind.as_slice()),
+            (None, None) => None,
+        }
+    }
+
+    /// Whether a message is of another kind: then it is of another interface, which has its place.
+    pub fn is_another(&self, new: &Snapshot) -> bool
+        ensures { result ≡ is_another (kind_known self.now) new.now.text }
+    {
+        if self.snapshot.text() == new.text() {
+            return false;
+        }
+        are_two(self.kind(), kind_of(new.text()))
+    }
+
+    /// The kind that is kept beside the next message of the interface: none where that names one.
+    pub fn kind_for(&self, alloc: Global, new: &Snapshot) -> Result<Option<Vec<u8>>, AllocError>
+        ensures { IfOk result (λ kept. kind_or (kind_in new.now.text) (option_map (λ k. k.items) kept)
+            ≡ kind_or (kind_in new.now.text) (kind_known self.now)) }
+    {
+        if kind_of(new.text()).is_some() {
+            return Ok(None);
+        }
+        match self.kind() {
+            Some(kind) => Ok(Some(kind.to_vec(alloc)?)),
+            None => Ok(None),
+        }
+    }
 }
 
 /// What is known of an interface.
@@ -27,6 +80,20 @@ pub struct Known {
     pub at: u64,
     /// The last message of it that was no refusal.
     pub last: Option<Entry>,
+}
+
+impl Known {
+    /// The interface had a line with the same message once more, in this order. What it tells is told at once, so that
+    /// no words are kept.
+    fn see(&mut self, at: u64, order: Order)
+        ensures { self.new ≡ record { at = at; last = come_again order self.old.last } }
+    {
+        self.at = at;
+        if let Some(entry) = &mut self.last {
+            entry.front = None;
+            entry.snapshot.set_order(order);
+        }
+    }
 }
 
 /// A dump that runs.
@@ -165,7 +232,7 @@ impl Host {
 
     /// Whether the last message of an interface has this encoding.
     fn is_same(&self, key: Key, text: &[u8]) -> bool
-        ensures { IsTrue result → text_in (last_of (held self.now key)) ≡ Some text.now }
+        ensures { IsTrue result → text_at (last_of (held self.now key)) ≡ Some text.now }
     {
         match self.known.get(&key) {
             Some(
@@ -178,21 +245,27 @@ impl Host {
         }
     }
 
-    /// Sees a line of an interface, if its last message has this encoding, and returns whether it has.
-    pub fn see_same(&mut self, key: Key, at: u64, text: &[u8]) -> Result<bool, AllocError>
-        ensures same { IfOk result (λ is_same. IsTrue is_same
-            → (text_in (last_of (held self.old key)) ≡ Some text.now)
-            × ((q : Key) → held self.new q
-            ≡ put key (record { at = at; last = last_of (held self.old key) }) (held self.old) q)) }
-        ensures other { IfOk result (λ is_same. is_same ≡ false → self.new ≡ self.old) }
+    /// Sees a line of an interface, if its last message has the same encoding, and returns whether it has. From then on
+    /// it has the order of the new one.
+    pub fn see_same(&mut self, key: Key, at: u64, new: &Snapshot) -> bool
+        ensures same { IsTrue result → text_at (last_of (held self.old key)) ≡ Some new.now.text }
+        ensures known { IsTrue result → (q : Key) → held self.new q ≡ put key
+            (record { at = at; last = come_again new.now.order (last_of (held self.old key)) })
+            (held self.old) q }
+        ensures other { result ≡ false → self.new ≡ self.old }
         ensures dump { self.new.dump ≡ self.old.dump }
         ensures whole { self.new.whole ≡ self.old.whole }
     {
-        if !self.is_same(key, text) {
-            return Ok(false);
+        if !self.is_same(key, new.text()) {
+            return false;
         }
-        self.see(key, at)?;
-        Ok(true)
+        match self.known.get_mut(&key) {
+            Some(known) => {
+                known.see(at, new.order());
+                true
+            }
+            None => false,
+        }
     }
 
     /// An interface had a line that tells nothing more of it.

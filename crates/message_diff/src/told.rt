@@ -1,10 +1,11 @@
 //! A line for an interface that came, went or changed.
 
 ghost use Rattle.std.specs.Prelude.{◌≡◌, ◌<◌, ◌↔◌, IsTrue, IfOk, IfErr, OnOk, false, length, codes};
+ghost use Rattle.message_diff.specs.Announced.{without_event};
 ghost use Rattle.message_diff.specs.Compared.{TellsIfDiffers, Extends, IsRefusalOfTwoBy};
 ghost use Rattle.message_diff.specs.Alone.{AddsAlone};
 ghost use Rattle.message_diff.specs.Shown.{AreCompared};
-ghost use Rattle.message_shown.specs.declared.context.Order.{Order};
+ghost use Rattle.message_diff.specs.Shots.{orders_of};
 ghost use Rattle.message_diff.specs.Changed.{AddsChanged, AddsChangedBy};
 
 use crate::alone::push_alone;
@@ -25,7 +26,7 @@ pub fn push_new(
     out: &mut Vec<u8>,
 ) -> Result<(), AllocError>
     ensures { OnOk result
-        (AddsAlone front.now (codes "new") new.now out.old.items out.new.items) }
+        (AddsAlone front.now (codes "new") new.now.text out.old.items out.new.items) }
 {
     push_alone(alloc, front, "new", new.text(), out)
 }
@@ -38,7 +39,7 @@ pub fn push_gone(
     out: &mut Vec<u8>,
 ) -> Result<(), AllocError>
     ensures { OnOk result
-        (AddsAlone front.now (codes "gone") old.now out.old.items out.new.items) }
+        (AddsAlone front.now (codes "gone") old.now.text out.old.items out.new.items) }
 {
     push_alone(alloc, front, "gone", old.text(), out)
 }
@@ -53,8 +54,8 @@ fn push_shown(
     desk: &mut Desk,
     out: &mut Vec<u8>,
 ) -> Result<(), AllocError>
-    ensures { OnOk result ((orders : Order × Order)
-        → AreCompared orders old.now new.now desk.old.pair
+    ensures { OnOk result
+        (AreCompared (orders_of old.now new.now) old.now.text new.now.text desk.old.pair
         → AddsChanged by front.now old.now new.now out.old.items out.new.items) }
 {
     push_head(alloc, front, "changed", desk.pair.new.members(), out)?;
@@ -96,7 +97,7 @@ pub fn push_changed(
     desk: &mut Desk,
     out: &mut Vec<u8>,
 ) -> Result<bool, AllocError>
-    ensures told { IfOk result (λ told. (told ≡ false) ↔ (old.now ≡ new.now)) }
+    ensures told { IfOk result (λ told. (told ≡ false) ↔ (old.now.text ≡ new.now.text)) }
     ensures silent { IfOk result (λ told. told ≡ false → out.new ≡ out.old) }
     ensures said { IfOk result
         (λ told. IsTrue told → length out.old.items < length out.new.items) }
@@ -112,9 +113,10 @@ pub fn push_changed(
 }
 
 /// Adds a line that tells what differs between the messages that the bytes are, if their encodings do, and returns
-/// whether they do.
+/// whether they do. Attributes IFLA_EVENT, which say why a message was announced, are not compared.
 ///
-/// Refuses as `Snapshot::new` does, each refusal of the old one before those of the new one; then nothing was added.
+/// Refuses as `Snapshot::of_link` does, each refusal of the old one before those of the new one; then nothing was
+/// added.
 pub fn push_compared(
     alloc: Global,
     by: Compared,
@@ -123,16 +125,19 @@ pub fn push_compared(
     new: &[u8],
     out: &mut Vec<u8>,
 ) -> Result<bool, CanonError>
-    ensures told { IfOk result (TellsIfDiffers by old.now new.now) }
+    ensures told { IfOk result
+        (TellsIfDiffers by (without_event old.now) (without_event new.now)) }
     ensures silent { IfOk result (λ told. told ≡ false → out.new ≡ out.old) }
     ensures said { IfOk result
         (λ told. IsTrue told → length out.old.items < length out.new.items) }
     ensures line { IfOk result (λ told. IsTrue told
-        → AddsChangedBy by old.now new.now out.old.items out.new.items) }
-    ensures err { IfErr result (IsRefusalOfTwoBy by old.now new.now) }
+        → AddsChangedBy by order (without_event old.now) (without_event new.now)
+        out.old.items out.new.items) }
+    ensures err { IfErr result
+        (IsRefusalOfTwoBy by (without_event old.now) (without_event new.now)) }
 {
-    let was = Snapshot::new(alloc, by, order, old)?;
-    let is = Snapshot::new(alloc, by, order, new)?;
+    let was = Snapshot::of_link(alloc, by, order, old)?;
+    let is = Snapshot::of_link(alloc, by, order, new)?;
     let mut desk = Desk::new(alloc);
     match push_changed(alloc, by, b"", &was, &is, &mut desk, out) {
         Ok(told) => Ok(told),

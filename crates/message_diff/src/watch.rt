@@ -1,20 +1,18 @@
 //! What is done with each line.
 
-ghost use Rattle.std.specs.Prelude.{◌≡◌, ℕ, [], IfErr, OnOk, None, Some, cond};
+ghost use Rattle.std.specs.Prelude.{◌≡◌, ℕ, [], IfErr, IfOk, OnOk, None, Some, cond, false, option_map};
 ghost use Rattle.std.specs.List.Sorted.{IsStrictlySortedBy};
 ghost use Rattle.message_diff.specs.declared.key.Key.{Key};
 ghost use Rattle.message_diff.specs.Known.{Item, key_cmp, is_among, is_ended_with, is_now, parts, without};
 ghost use Rattle.message_diff.specs.Known.{whole_after};
 ghost use Rattle.message_diff.specs.declared.reading.Said.TheVariants.{Blind};
 ghost use Rattle.message_diff.specs.declared.watch.Told.TheVariants.{All};
-ghost use Rattle.message_diff.specs.Told.{says, is_told_gone, is_new_told, own_text};
+ghost use Rattle.message_diff.specs.Told.{says, is_told_gone, is_new_told, own_shot};
 ghost use Rattle.message_diff.specs.Told.{AddsGone, AddsAllGone, AddsNews, AddsTold, AddsTurned};
-ghost use Rattle.message_diff.specs.Held.{held, taken, picture, seen_in, whole_in, text_told};
+ghost use Rattle.message_diff.specs.Held.{held, taken, picture, seen_in, whole_in, shot_told, kind_known, words_for};
 ghost use Rattle.message_diff.specs.Held.{Applies, Puts};
-ghost use Rattle.message_diff.specs.Announced.{are_two_kinds};
 ghost use Rattle.message_diff.specs.Watched.{IsFresh, AddsFor, AddsSaid, Watches, WatchStops, is_of_dump, takes_line};
 
-use crate::announced::are_two_kinds;
 use crate::desk::Desk;
 use crate::key::{AF_BRIDGE, AF_INET6, Key};
 use crate::reading::{LineReader, Said, word_of};
@@ -48,24 +46,20 @@ pub struct Telling {
     by: Compared,
 }
 
-/// Puts the new message of an interface in place of the last one, and adds a line of what changed, which has the words
-/// in front of the new message's line.
-fn replace(
+/// Adds a line of what changed of an interface, which has the words in front of the new message's line.
+fn tell_turned(
     alloc: Global,
     by: Compared,
     front: &[u8],
-    last: &mut Snapshot,
-    new: Snapshot,
+    last: &Snapshot,
+    new: &Snapshot,
     desk: &mut Desk,
     out: &mut Vec<u8>,
 ) -> Result<(), AllocError>
-    ensures told { OnOk result
-        (AddsTurned by front.now last.old new out.old.items out.new.items) }
-    ensures last { OnOk result (last.new ≡ new) }
+    ensures { OnOk result
+        (AddsTurned by front.now last.now new.now out.old.items out.new.items) }
 {
-    if push_changed(alloc, by, front, last, &new, desk, out)? {
-        *last = new;
-    }
+    push_changed(alloc, by, front, last, new, desk, out)?;
     Ok(())
 }
 
@@ -108,7 +102,7 @@ impl Line<'_> {
         ensures dump { host.new.dump ≡ host.old.dump }
         ensures whole { host.new.whole ≡ host.old.whole }
         ensures told { OnOk result (AddsGone self.entry.front.now
-            (text_told self.entry.told host.old key) out.old.items out.new.items) }
+            (shot_told self.entry.told host.old key) out.old.items out.new.items) }
     {
         let Some(known) = host.take(key) else {
             return Ok(());
@@ -119,8 +113,8 @@ impl Line<'_> {
         }
     }
 
-    /// Forgets an interface that went, where this is what it was, and adds a line. One alone has a line even where
-    /// nothing was known of it.
+    /// Forgets an interface that went, where this is what it was, and adds a line, if anything was known of it: also
+    /// where all its lines were refused. One alone has a line even where nothing was known of it.
     fn forget_told(
         self,
         host: &mut Host,
@@ -137,7 +131,7 @@ impl Line<'_> {
             out.old.items out.new.items) }
     {
         let is_told = match host.take(key) {
-            Some(known) => known.last.is_some(),
+            Some(_known) => true,
             None => key.is_alone(),
         };
         if is_told {
@@ -154,7 +148,7 @@ impl Line<'_> {
         ensures dump { host.new.dump ≡ host.old.dump }
         ensures whole { host.new.whole ≡ host.old.whole }
         ensures told { OnOk result (AddsAllGone self.entry.front.now
-            (text_told self.entry.told host.old) (parts key) out.old.items out.new.items) }
+            (shot_told self.entry.told host.old) (parts key) out.old.items out.new.items) }
     {
         if !key.is_alone() {
             return Ok(());
@@ -175,7 +169,7 @@ impl Line<'_> {
         ensures dump { host.new.dump ≡ host.old.dump }
         ensures whole { host.new.whole ≡ host.old.whole }
         ensures told { OnOk result (AddsGone self.entry.front.now
-            (cond (says self.entry.told.told) (own_text key gone (seen_in (held host.old key))) None)
+            (cond (says self.entry.told.told) (own_shot key gone (seen_in (held host.old key))) None)
             out.old.items out.new.items) }
     {
         match gone {
@@ -210,7 +204,7 @@ impl Line<'_> {
         ensures dump { host.new.dump ≡ host.old.dump }
         ensures whole { host.new.whole ≡ host.old.whole }
         ensures told { OnOk result (IsStrictlySortedBy key_cmp keys.now
-            → AddsAllGone self.entry.front.now (text_told self.entry.told host.old) keys.now
+            → AddsAllGone self.entry.front.now (shot_told self.entry.told host.old) keys.now
             out.old.items out.new.items) }
     {
         for key in keys {
@@ -244,48 +238,56 @@ impl Line<'_> {
         host.keep_whole(family)
     }
 
-    /// Whether a line is added for an interface that came.
-    fn tells_new(self, host: &Host, key: Key) -> bool
-        ensures { result ≡ is_new_told self.entry.told.told (whole_in host.now) key }
+    /// Whether a line is added for an interface that came, maybe in the place of another one.
+    fn tells_new(self, host: &Host, key: Key, is_other: bool) -> bool
+        ensures { result ≡ is_new_told self.entry.told.told (whole_in host.now) is_other key }
     {
         match self.told.told {
             Told::All => true,
-            Told::Changes => host.is_whole(key.family),
+            Told::Changes => is_other || host.is_whole(key.family),
             Told::Faults => false,
         }
     }
 
     /// The words that are kept with a message: none where what it tells is told at once.
-    fn kept_front(self) -> Result<Vec<u8>, AllocError> {
-        let alloc = self.alloc;
+    fn kept_words(self) -> Result<Option<Vec<u8>>, AllocError>
+        ensures { IfOk result (λ words. option_map (λ w. w.items) words
+            ≡ words_for self.entry.told self.entry.front.now) }
+    {
         if self.told.says() {
-            return Ok(Vec::new(alloc));
+            return Ok(None);
         }
-        self.front.to_vec(alloc)
+        let alloc = self.alloc;
+        Ok(Some(self.front.to_vec(alloc)?))
     }
 
-    /// Keeps a message of an interface of which none is known, and adds a line that it came.
+    /// Keeps a message of an interface of which none is known, and adds a line that it came, maybe in the place of
+    /// another one.
     fn keep(
         self,
         host: &mut Host,
         key: Key,
+        is_other: bool,
+        earlier: Option<Vec<u8>>,
         snapshot: Snapshot,
         out: &mut Vec<u8>,
     ) -> Result<(), AllocError>
         ensures known { OnOk result ((q : Key) → (picture host.new).of q
-            ≡ is_now self.entry.at key snapshot (picture host.old).of q) }
+            ≡ is_now self.entry.at key (option_map (λ kind. kind.items) earlier) snapshot
+            (words_for self.entry.told self.entry.front.now) (picture host.old).of q) }
         ensures dump { host.new.dump ≡ host.old.dump }
         ensures whole { host.new.whole ≡ host.old.whole }
         ensures told { OnOk result (AddsNews self.entry.front.now self.entry.told
-            (is_new_told self.entry.told.told (whole_in host.old) key) None snapshot
+            (is_new_told self.entry.told.told (whole_in host.old) is_other key) None snapshot
             out.old.items out.new.items) }
     {
-        if self.tells_new(host, key) {
+        if self.tells_new(host, key, is_other) {
             push_new(self.alloc, self.front, &snapshot, out)?;
         }
         let entry = Entry {
-            front: self.kept_front()?,
+            front: self.kept_words()?,
             snapshot,
+            earlier,
         };
         host.keep(key, self.at, entry)
     }
@@ -301,33 +303,32 @@ impl Line<'_> {
         out: &mut Vec<u8>,
     ) -> Result<(), AllocError>
         ensures known { OnOk result ((q : Key) → (picture host.new).of q
-            ≡ is_now self.entry.at key snapshot (picture host.old).of q) }
+            ≡ is_now self.entry.at key (kind_known last) snapshot
+            (words_for self.entry.told self.entry.front.now) (picture host.old).of q) }
         ensures dump { host.new.dump ≡ host.old.dump }
         ensures whole { host.new.whole ≡ host.old.whole }
         ensures told { OnOk result (AddsNews self.entry.front.now self.entry.told
-            (is_new_told self.entry.told.told (whole_in host.old) key) (Some last.snapshot) snapshot
+            (is_new_told self.entry.told.told (whole_in host.old) false key)
+            (Some last.snapshot) snapshot
             out.old.items out.new.items) }
     {
+        let earlier = last.kind_for(self.alloc, &snapshot)?;
         if !self.told.says() {
-            return self.keep(host, key, snapshot, out);
+            return self.keep(host, key, false, earlier, snapshot, out);
         }
-        let Entry {
-            front,
-            snapshot: was,
-        } = last;
-        let mut kept = was;
-        replace(
+        tell_turned(
             self.alloc,
             self.told.by,
             self.front,
-            &mut kept,
-            snapshot,
+            &last.snapshot,
+            &snapshot,
             desk,
             out,
         )?;
         let entry = Entry {
-            front,
-            snapshot: kept,
+            front: self.kept_words()?,
+            snapshot,
+            earlier,
         };
         host.keep(key, self.at, entry)
     }
@@ -348,14 +349,14 @@ impl Line<'_> {
         ensures whole { host.new.whole ≡ host.old.whole }
     {
         let Some(last) = host.take_last(key) else {
-            return self.keep(host, key, snapshot, out);
+            return self.keep(host, key, false, None, snapshot, out);
         };
-        if !is_another(&last.snapshot, &snapshot) {
+        if !last.is_another(&snapshot) {
             return self.put_beside(host, key, last, snapshot, desk, out);
         }
         self.tell_gone(&last.snapshot, out)?;
         self.end_parts(host, key, out)?;
-        self.keep(host, key, snapshot, out)
+        self.keep(host, key, true, None, snapshot, out)
     }
 
     /// Keeps a message of an interface, and adds a line of what changed, or that it came.
@@ -372,7 +373,10 @@ impl Line<'_> {
         ensures dump { host.new.dump ≡ host.old.dump }
         ensures whole { host.new.whole ≡ host.old.whole }
     {
-        if self.told.says() && host.see_same(key, self.at, snapshot.text())? {
+        if !self.told.says() {
+            return self.put_over(host, key, snapshot, desk, out);
+        }
+        if host.see_same(key, self.at, &snapshot) {
             return Ok(());
         }
         self.put_over(host, key, snapshot, desk, out)
@@ -406,17 +410,6 @@ impl Line<'_> {
             Said::Nothing => Ok(()),
         }
     }
-}
-
-/// Whether an interface is of another kind than the last one that had its place.
-#[tactic(auto, using(crate::proofs::TwoKinds::same_kind))]
-pub fn is_another(last: &Snapshot, new: &Snapshot) -> bool
-    ensures { result ≡ are_two_kinds last.now new.now }
-{
-    if last.text() == new.text() {
-        return false;
-    }
-    are_two_kinds(last.text(), new.text())
 }
 
 /// Whether a line that says this begins a dump or ends one.

@@ -19,6 +19,6 @@ returns-then-tells c =
     on_ok_weaker c.push_gone.result
     (λ went. told_went (tells c.args.new.has_dumps host key.family) missing c.args.known.now.last (known_at host key)
     was w (record w { out = c.push_gone.new.out }) c.in-Some.ensures.value none c.if-tells.ensures
-    (subst (λ (front : List ℕ). AddsAlone front (codes "gone") was.snapshot w.out.items c.push_gone.new.out.items)
-    c.as_slice.ensures.value went) refl)
+    (subst (λ (front : List ℕ). AddsAlone front (codes "gone") was.snapshot.text w.out.items c.push_gone.new.out.items)
+    c.words.ensures went) refl)
     c.push_gone.ensures

@@ -20,6 +20,6 @@ returns-then-tells c =
     (λ new. told_came c.args.old.by c.args.old.has_dumps c.args.old.name.now (option_copied c.args.old.host)
     (option_copied c.args.new.host) c.args.key c.args.known.now is w (record w { out = c.push_new.new.out })
     c.requires c.in-Some.ensures.value c.in_default-known.ensures c.if-tells.ensures
-    (subst (λ (front : List ℕ). AddsAlone front (codes "new") is.snapshot w.out.items c.push_new.new.out.items)
-    c.as_slice.ensures.value new) refl)
+    (subst (λ (front : List ℕ). AddsAlone front (codes "new") is.snapshot.text w.out.items c.push_new.new.out.items)
+    c.words.ensures new) refl)
     c.push_new.ensures

@@ -1,7 +1,7 @@
 use Rattle.std.proofs.Common.{◌++◌, ◌∷◌, List, take, refl, ap, sym, ◌∙◌, arith}
 use Rattle.std.proofs.lemmas.Bool.Decides.{nat_tests}
 use Rattle.std.proofs.lemmas.List.{take_all}
-use Rattle.json.specs.Print.{print, ends_value}
+use Rattle.shown.specs.Print.{print, ends_value}
 use Rattle.message_diff.specs.declared.differences.Change.{Change}
 use Rattle.message_diff.specs.Differences.{Diff, diff_of, diffs_of}
 use Rattle.message_diff.specs.Changed.{diff_objects}

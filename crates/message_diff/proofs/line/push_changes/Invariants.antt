@@ -1,5 +1,5 @@
 use Rattle.std.proofs.Common.{◌≡◌, ◌++◌, ◌∷◌, take, nat_lt}
-use Rattle.json.specs.Print.{print, ends_value}
+use Rattle.shown.specs.Print.{print, ends_value}
 use Rattle.message_diff.specs.Differences.{diffs_of}
 use Rattle.message_diff.specs.Changed.{diff_objects}
 use Rattle.message_diff.proofs.line.push_changes.Given as goal

@@ -13,7 +13,7 @@ returns-then-is_empty c =
     (λ is. is
     ∙ (λ i. c.args.out.now.items ++ list_text (state_diff (c.text.ensures i) (c.text-then-is_empty.ensures i) ∷ []))
     ∙ ap (λ (ds : List Diff). c.args.out.now.items ++ list_text ds)
-    (sym (told_none c.args.old.now c.args.new.now c.args.changes.now none)))
+    (sym (told_none c.args.old.now.text c.args.new.now.text c.args.changes.now none)))
     c.push_texts.ensures
 
 pub returns : goal.returns
@@ -21,5 +21,5 @@ returns c =
     let some : 0 < length c.args.changes.now = grind (arith, nat_tests) in
     on_ok_weaker c.push_changes.result
     (λ is. is ∙ ap (λ (ds : List Diff). c.args.out.now.items ++ list_text ds)
-    (sym (told_some c.args.old.now c.args.new.now c.args.changes.now some)))
+    (sym (told_some c.args.old.now.text c.args.new.now.text c.args.changes.now some)))
     c.push_changes.ensures

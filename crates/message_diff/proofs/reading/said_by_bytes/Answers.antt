@@ -5,8 +5,9 @@ pub returns-in-Ok : goal.returns-in-Ok
 returns-in-Ok c = (
   [],
   inl (record {
-    text = c.in-Ok.snapshot;
+    shot = c.in-Ok.snapshot;
     has = (search rules);
+    order = (search rules);
     is = (search rules);
     none = refl;
   }),

@@ -3,5 +3,4 @@ use Rattle.message_diff.proofs.told.push_difference.Goals as goal
 
 pub returns : goal.returns
 returns c =
-    let both = c.in_ok-show_both.ensures in
-    on_ok_weaker c.push_shown.result (λ added. added both.0 both.1) c.push_shown.ensures
+    on_ok_weaker c.push_shown.result (λ added. added c.in_ok-show_both.ensures) c.push_shown.ensures

@@ -6,10 +6,10 @@ use Rattle.message_diff.proofs.told.push_shown.Goals as goal
 
 pub returns : goal.returns
 returns c =
-    λ orders compared.
+    λ compared.
     let words = told_words c.args.front.now in
     let head = c.in_ok-push_head.ensures.0 in
-    let list = c.in_ok-push_found.ensures orders compared in (
+    let list = c.in_ok-push_found.ensures compared in (
       changed_line words head list.1.changes,
       record {
         pair = c.args.desk.now.pair;
@@ -17,6 +17,7 @@ returns c =
         changes = list.1.changes;
         head_is = head_in c.members.ensures.text c.members.ensures.marks head c.in_ok-push_head.ensures.1;
         are_told = list.1.are_told;
+        in_order = list.1.in_order;
         is = refl;
       },
       line_added c.args.out.now.items c.push_head.new.out.items c.extend_from_slice.new.self.items

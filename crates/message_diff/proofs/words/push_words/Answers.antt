@@ -2,7 +2,7 @@ use Rattle.std.proofs.Common.{◌≡◌, ◌++◌, List, ℕ, rules, refl, sym, 
 use Rattle.std.proofs.Common.{OnOk, arith}
 use Rattle.std.proofs.lemmas.Bool.Decides.{nat_tests}
 use Rattle.std.proofs.lemmas.Result.{on_ok_weaker}
-use Rattle.json.specs.Print.{print}
+use Rattle.shown.specs.Print.{print}
 use Rattle.shown.specs.Drafts.{object_of, with_members}
 use Rattle.shown.proofs.Pages.{whole_text}
 use Rattle.message_diff.specs.Alone.{told_words}

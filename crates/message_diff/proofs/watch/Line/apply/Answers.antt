@@ -2,11 +2,11 @@ use Rattle.std.proofs.Common.{List, ℕ, refl, sym, ap, subst, ◌∙◌}
 use Rattle.std.proofs.lemmas.Result.{on_ok_weaker}
 use Rattle.message_diff.specs.declared.reading.Said.{Said}
 use Rattle.message_diff.specs.declared.store.Host.{Host}
-use Rattle.message_diff.specs.Known.{Item, is_ended_with, is_key, text_of}
+use Rattle.message_diff.specs.Known.{Item, is_ended_with, is_key, kind_of, shot_of, words_kept}
 use Rattle.message_diff.specs.declared.watch.Telling.{Telling}
 use Rattle.message_diff.specs.Told.{AddsTold}
 use Rattle.message_diff.specs.Held.{Applies, IsAfter, held, last_of, picture, run_in, seen_in}
-use Rattle.message_diff.proofs.Pictures.{seen_taken, text_is}
+use Rattle.message_diff.proofs.Pictures.{kind_is, seen_taken, shot_is, words_is}
 use Rattle.message_diff.proofs.Gone.{on_ok_both, seen_put, stays, tells_nothing, whole_same}
 use Rattle.message_diff.proofs.watch.Line.apply.Goals as goal
 
@@ -23,8 +23,9 @@ returns-in-Refused c =
     (sym c.in-Refused.is) (
       record {
         of = λ q. ap seen_in (known q)
-            ∙ seen_put (is_key key q) c.args.self.at (last_of (held host key)) (text_of (seen_in (held host key)))
-            (held host q) (sym (text_is (held host key)));
+            ∙ seen_put (is_key key q) c.args.self.at (last_of (held host key)) (shot_of (seen_in (held host key)))
+            (kind_of (seen_in (held host key))) (words_kept (seen_in (held host key))) (held host q)
+            (sym (shot_is (held host key))) (sym (kind_is (held host key))) (sym (words_is (held host key)));
         run = ap run_in c.see.ensures.dump;
         whole = λ f. whole_same host c.see.new.self f c.see.ensures.whole;
       },

@@ -6,7 +6,7 @@ use Rattle.std.specs.List.Sorted.{IsStrictlySortedBy}
 use Rattle.std.specs.Map.{keys_of}
 use Rattle.message_diff.specs.Known.{Item, is_among, key_cmp}
 use Rattle.message_diff.specs.Told.{AddsAllGone}
-use Rattle.message_diff.specs.Held.{held, held_in, left, picture, seen_in, text_told}
+use Rattle.message_diff.specs.Held.{held, held_in, left, picture, seen_in, shot_told}
 use Rattle.message_diff.proofs.Gone.{tells_gone, tells_nothing}
 use Rattle.message_diff.proofs.Missed.{missed_taken, runs, runs_not, left_sorted, left_each}
 use Rattle.message_diff.proofs.watch.Line.finish.Goals as goal
@@ -52,7 +52,7 @@ returns-clause-told c =
       sorted = sorted;
       each = left_each host c.args.family c.in-Some.begin c.args.dump.now ordered (sym c.in-Some.ensures);
     })
-    (subst (λ (ks : List Key). AddsAllGone front (text_told told host) ks c.args.out.now.items out) listed
+    (subst (λ (ks : List Key). AddsAllGone front (shot_told told host) ks c.args.out.now.items out) listed
     (c.in_ok-forget_all.ensures.told
     (subst (λ (ks : List Key). IsStrictlySortedBy key_cmp ks) (sym listed) sorted)))
     refl (sym (append-nil out)))

@@ -4,7 +4,7 @@ use Rattle.std.specs.List.Sorted.{IsStrictlySortedBy}
 use Rattle.message_diff.specs.declared.key.Key.{Key}
 use Rattle.message_diff.specs.Known.{is_among, key_cmp}
 use Rattle.message_diff.specs.Told.{AddsAllGone}
-use Rattle.message_diff.specs.Held.{held, text_told}
+use Rattle.message_diff.specs.Held.{held, shot_told}
 use Rattle.message_diff.proofs.watch.Line.forget_all.Given as goal
 
 abbrev pub invariant-loop-key : goal.invariant-loop-key
@@ -15,6 +15,6 @@ invariant-loop-key l = record {
   whole : l.host.whole ≡ l.fn.host.whole;
   sorted : IsStrictlySortedBy key_cmp l.keys → IsStrictlySortedBy key_cmp (drop l.key-index l.keys);
   told : IsStrictlySortedBy key_cmp l.keys → (all : List ℕ)
-      → AddsAllGone l.self.front.now (text_told l.self.told l.host) (drop l.key-index l.keys) l.out.items all
-      → AddsAllGone l.self.front.now (text_told l.self.told l.fn.host) l.keys l.fn.out.items all;
+      → AddsAllGone l.self.front.now (shot_told l.self.told l.host) (drop l.key-index l.keys) l.out.items all
+      → AddsAllGone l.self.front.now (shot_told l.self.told l.fn.host) l.keys l.fn.out.items all;
 }

@@ -1,6 +1,0 @@
-use Rattle.std.proofs.Common.{sym, rules}
-use Rattle.message_diff.proofs.TwoKinds.{same_kind}
-use Rattle.message_diff.proofs.watch.is_another.Goals as goal
-
-pub returns-then-eq : goal.returns-then-eq
-returns-then-eq c = sym (same_kind c.args.last.now c.args.new.now (search rules))

@@ -1,0 +1,137 @@
+#!/usr/bin/env python3
+"""Holds what linkdiff tells of made lines to a table.
+
+    python3 tests/linkdiff/cases.py LINKDIFF
+
+A row has a title, the arguments, lines, and of each line that is wanted what it tells: 'new 5', 'gone 5', 'changed 5'
+with the paths, or 'fault' and its name. Of two files each line also has the word time= of the line that it comes from.
+The last line is 'linkdiff cases: N of N'.
+"""
+
+import json
+import os
+import struct
+import subprocess
+import sys
+import tempfile
+
+TOP = os.path.dirname(os.path.dirname(os.path.dirname(os.path.abspath(__file__))))
+sys.path.append(TOP + "/scripts")
+from shared import attribute
+
+LATIN_1 = attribute(20, b"\xe9")
+EVENT = attribute(44, struct.pack("<I", 4))
+BEGIN, DONE = "type=begin seq=1 port=1", "type=done seq=1 port=1 family=0"
+
+
+def link(*attributes, family=0, index=5):
+    return (struct.pack("<BBHiII", family, 0, 1, index, 0, 0) + b"".join(attributes)).hex()
+
+
+def mtu(number):
+    return attribute(4, struct.pack("<I", number))
+
+
+def counters_of(last):
+    """The counters of IPv6, whose names the release of a kernel says."""
+    return attribute(26, attribute(10, attribute(3, struct.pack("<38Q", 38, *range(1, 37), last))))
+
+
+def kind(*names):
+    return attribute(18, b"".join(attribute(1, name.encode() + b"\0") for name in names))
+
+
+NAME = attribute(3, b"e5\0")
+
+STREAMS = [
+    ("of kinds that come again in one list the last counts", [],
+     [link(kind("veth", "bridge")), link(kind("veth", "vxlan")), link(kind("bridge", "vxlan"))],
+     ["new 5", "gone 5", "new 5", "changed 5 linkinfo.repeated.0.kind"]),
+    ("of lists that come again the last counts", [],
+     [link(kind("veth"), kind("bridge")), link(kind("veth"), kind("vxlan"))], ["new 5", "gone 5", "new 5"]),
+    ("a kind stays known over messages that name none", [],
+     [link(kind("veth")), link(NAME), link(NAME), link(NAME, kind("veth")), link(NAME), link(NAME, kind("vxlan"))],
+     ["new 5", "changed 5 linkinfo.kind ifname", "changed 5 linkinfo.kind", "changed 5 linkinfo.kind", "gone 5",
+      "new 5"]),
+    ("another kind is gone and new before the first whole dump", ["--changes-only"],
+     [link(kind("veth")), link(kind("vxlan")), link(NAME, index=6)], ["gone 5", "new 5"]),
+    ("one that came and went before the first whole dump", ["--changes-only"],
+     [link(NAME), "type=del " + link(NAME), link(NAME)], ["gone 5"]),
+    ("an accepted del of an interface that was refused", [],
+     [link(NAME, LATIN_1), "type=del " + link(NAME)], ["fault not-utf8", "gone 5"]),
+    ("a refused del of an interface that was refused", [],
+     [link(NAME, LATIN_1), "type=del " + link(NAME, LATIN_1)], ["fault not-utf8", "fault not-utf8"]),
+    ("an accepted del of a port that was refused", [],
+     [link(NAME, LATIN_1, family=7), "type=del " + link(NAME, family=7)], ["fault not-utf8", "gone 5"]),
+    ("an accepted del of a port of which nothing is known", [], ["type=del " + link(NAME, family=7)], []),
+    ("a request spoils no dump", [],
+     [link(NAME), BEGIN, "type=get 0000", "type=set zz", "type=set 00", "type=get " + link(LATIN_1), DONE],
+     ["new 5", "fault too-short", "fault not-hex", "fault too-short", "fault not-utf8", "gone 5"]),
+    ("any other line without an index spoils it", [],
+     [link(NAME), BEGIN, "type=new zz", DONE], ["new 5", "fault not-hex"]),
+    ("IFLA_EVENT is not compared", [], [link(NAME), link(NAME, EVENT), link(NAME, EVENT, mtu(9))],
+     ["new 5", "changed 5 mtu"]),
+]
+
+
+def told(line):
+    it = json.loads(line)
+    if "fault" in it:
+        return f"fault {it['fault']}"
+    return " ".join([it["change"], str(it["ifi-index"]), *[one["path"] for one in it.get("changes", [])]])
+
+
+def run(program, words, lines=()):
+    text = "".join(line + "\n" for line in lines)
+    return subprocess.run([program, *words], input=text, capture_output=True, text=True, check=True).stdout.splitlines()
+
+
+def holds(title, found, wanted):
+    if found != wanted:
+        sys.exit(f"linkdiff cases: {title}: told is\n  " + "\n  ".join(found) + "\nand not\n  " + "\n  ".join(wanted))
+
+
+def files_hold(program):
+    """Of two files each line has the words of the line that brought the message."""
+    old = ["time=1 host=a " + link(NAME, index=1), "time=2 host=a " + link(NAME, index=2),
+           "time=3 host=a " + link(NAME, index=2), "time=4 host=a " + link(kind("veth"), index=3),
+           "time=5 host=a " + link(index=3), "time=6 " + link(NAME, mtu(1))]
+    new = ["time=7 host=a " + link(NAME, mtu(9), index=2), "time=8 host=a " + link(kind("vxlan"), index=3),
+           "time=9 host=b " + link(NAME, index=4), "time=0 " + link(NAME, mtu(1))]
+    with tempfile.TemporaryDirectory() as folder:
+        names = [f"{folder}/old", f"{folder}/new"]
+        for name, lines in zip(names, (old, new)):
+            with open(name, "w", encoding="ascii") as it:
+                it.write("".join(line + "\n" for line in lines))
+        found = [f"{json.loads(line).get('time')} {told(line)}" for line in run(program, names)]
+    holds("words in two files", found, ["7 changed 2 mtu", "5 gone 3", "8 new 3", "9 new 4", "1 gone 1"])
+
+
+def has_no_names(program, *lines):
+    """Whether counters are told as one list, as those without names are."""
+    changes = json.loads(run(program, ["--counters"], lines)[1])["changes"]
+    return any(it["path"] == "af-spec.inet6.stats" for it in changes)
+
+
+def orders_hold(program):
+    """Each message is shown in the order of counters that its own line says, and so is what stands before a fault."""
+    old, new = link(NAME, counters_of(37), mtu(1)), link(NAME, counters_of(38), mtu(2))
+    found = [has_no_names(program, f"{was}{old}", f"{now}{new}") for was in ("", "kernel=6.18.0 ")
+             for now in ("", "kernel=6.18.0 ")]
+    found.append(has_no_names(program, old, f"kernel=6.18.0 {old}", f"kernel=6.18.0 {new}"))
+    holds("counters without names", [str(it) for it in found], ["True", "True", "True", "False", "False"])
+    fault = link(counters_of(37), LATIN_1)
+    found = [json.loads(run(program, [], [f"kernel={release} {fault}"])[0])["before"] for release in ("6.18", "6.14")]
+    holds("what stands before a fault by kernel=", [str(found[0] == found[1])], ["False"])
+
+
+def main(program):
+    for title, words, lines, wanted in STREAMS:
+        holds(title, [told(line) for line in run(program, words, lines)], wanted)
+    files_hold(program)
+    orders_hold(program)
+    print(f"linkdiff cases: {len(STREAMS) + 2} of {len(STREAMS) + 2}")
+
+
+if __name__ == "__main__":
+    main(sys.argv[1])
