@@ -34,7 +34,7 @@ pub fn write_diff(
     new: &[u8],
     out: &mut [u8],
 ) -> Result<usize, Refusal>
-    ensures written { IsDiff flags old.now new.now out.old out.new result }
+    ensures written { IsDiff order flags old.now new.now out.old out.new result }
     ensures short { IfOk result (λ n. n < 2 ^ 63) }
 {
     let by = compared(flags_of(flags)?);

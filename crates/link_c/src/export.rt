@@ -155,7 +155,7 @@ pub extern "C" fn linkwire_diff(
     flags: u32,
     out: &mut [u8],
 ) -> isize
-    ensures { Says itself (IsDiff flags old.now new.now out.old out.new) result }
+    ensures { Says itself (IsDiff (numbered_order order) flags old.now new.now out.old out.new) result }
 {
     length_code(write_diff(alloc, numbered_order(order), flags, old, new, out))
 }

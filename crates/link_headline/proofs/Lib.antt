@@ -1,3 +1,4 @@
 pub mod Tied
 pub mod Following
+pub mod StateTied
 pub mod Worded

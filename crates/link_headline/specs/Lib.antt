@@ -3,3 +3,4 @@ pub mod Values
 pub mod Kernel
 pub mod Headline
 pub mod Words
+pub mod StateRows

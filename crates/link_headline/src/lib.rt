@@ -5,6 +5,7 @@
 #![tactic(auto)]
 
 ghost use Rattle.link_headline.specs.Headline.{Headline};
+ghost use Rattle.link_headline.specs.StateRows.{SameStateRows};
 ghost use Rattle.link_headline.specs.Words.{SameMeaning, SameFault};
 
 use link_msg::laws::{law_canonical_twice, law_one_answer, law_one_meaning};
@@ -44,6 +45,11 @@ pub fn law_headline(alloc: Global, first: &[u8], second: &[u8]) -> Answers
 pub fn law_kernel_words()
     ensures means { SameMeaning }
     ensures fault { SameFault }
+{}
+
+/// The table of the state encoding has the kernel's numbers.
+pub fn law_state_rows()
+    ensures rows { SameStateRows }
 {}
 
 #[cfg(test)]

@@ -5,7 +5,7 @@ use Rattle.std.specs.List.{flat_map}
 use Rattle.std.proofs.lemmas.Grind.{flat_map-append}
 use Rattle.std.proofs.lemmas.List.{append_assoc, append_cancel_left}
 use Rattle.json.specs.Token.{Token, begin_object, key}
-use Rattle.json.specs.Print.{print_from, escape_byte, separator, token_text, ends}
+use Rattle.shown.specs.Print.{print_from, escape_byte, escape_from, separator, token_text, ends}
 use Rattle.nla_wire.specs.declared.error.Cause.{Cause}
 use Rattle.link_msg.specs.Lenient.{MeansNoneLeniently}
 use Rattle.link_msg.specs.Messages.{FirstFault, MeansNothing}
@@ -30,13 +30,13 @@ letter_at after_value = cond after_value 2 1
 
 fault_letter : (b : Bool) (c : Cause) (rest : List Token)
     → get_or (print_from b (members (fault_member c ∷ []) ++ rest)) (letter_at b) 0 ≡ 102
-unfolding print_from escape_byte members letter_at
+unfolding print_from escape_from escape_byte members letter_at
 fault_letter true c rest = refl
 fault_letter false c rest = refl
 
 family_letter : (b : Bool) (m : LinkMessage) (rest : List Token)
     → get_or (print_from b (members (family_member m ∷ []) ++ rest)) (letter_at b) 0 ≡ 105
-unfolding print_from escape_byte members letter_at
+unfolding print_from escape_from escape_byte members letter_at
 family_letter true m rest = refl
 family_letter false m rest = refl
 
