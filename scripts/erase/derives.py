@@ -4,10 +4,20 @@ import re
 from contracts import impls_of
 
 # Of these no value is stored: they are borrowed, are rows of tables, or say why something was refused.
-NOT_STORED = {"CanonError", "Cause", "DecodeError", "Field", "Fields", "Info", "InfoError", "KindRow", "Member",
-              "Place", "Plain", "RoomError", "Row", "Size", "Style", "Value"}
+NOT_STORED = {"CanonError", "Cause", "DecodeError", "Field", "Fields", "Info", "InfoError", "Kind", "KindRow",
+              "Member", "Place", "Plain", "RoomError", "Row", "Size", "Style", "Value"}
 # `Debug` of these is written by hand: it names the flags.
 FLAG_SETS = {"LinkFlags", "Inet6IfaceFlags"}
+# A new kernel adds to these: attributes and members, names of numbers, fields of records; so they are in
+# netlink-packet-route, and a user writes a `_` arm and begins with a default or `new`.
+GROWS = set("""
+    AddressFamily AfSpecBridge AfSpecInet AfSpecInet6 AfSpecMctp AfSpecUnspec DevlinkPort DpllPin Icmp6Stats
+    In6AddrGenMode Inet6CacheInfo Inet6DevConf Inet6Stats InetDevConf LinkAttribute LinkEvent LinkExtentMask LinkInfo
+    LinkLayerType LinkMessage LinkMode LinkPhysId LinkProtoInfoBridge LinkProtoInfoInet6 LinkProtocolDownReason LinkXdp
+    Map MctpPhysBinding Prop State Stats Stats64 VfInfo VfInfoBroadcast VfInfoGuid VfInfoLinkState VfInfoMac VfInfoRate
+    VfInfoRssQueryEn VfInfoSpoofCheck VfInfoTrust VfInfoTxRate VfInfoVlan VfLinkState VfPort VfStats VfVlan VfVlanInfo
+    VlanProtocol WirelessEvent XdpAttached
+""".split())
 SERDE = '#[cfg_attr(feature = "serde", derive(serde::Serialize, serde::Deserialize))]'
 ORDER = ["Clone", "Copy", "Debug", "Default", "PartialEq", "Eq", "PartialOrd", "Ord", "Hash"]
 # These are empty lists by default, as in netlink-packet-route.
@@ -50,7 +60,15 @@ def derives(s, is_crate):
 def stored(s, name, end, kept):
     """A value of a message can be stored, by the feature `serde`."""
     if "Eq" in kept and s.text[name] not in NOT_STORED and s.text[s.next(name)] != "<":
-        s.after[end] = "\n" + SERDE
+        if keeps_others(s, name) and s.text[name] not in GROWS:
+            s.fail(name, f"{s.text[name]} keeps others, and is not in GROWS of derives.py")
+        s.after[end] = "\n" + SERDE + "\n#[non_exhaustive]" * (s.text[name] in GROWS)
+
+
+def keeps_others(s, name):
+    """Whether the type is an enum with a variant `Other`."""
+    body = s.skip_to(name, {"{", ";"})
+    return s.at(s.prev(name), "enum") and any(s.at(k, "Other") for k in range(body, s.match[body]) if k in s.rank)
 
 
 def put(s, i, list_, kept):

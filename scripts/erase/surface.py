@@ -1,4 +1,5 @@
 """What of the crates a Rust user sees: the names that the top crates give again, and their calls."""
+from source import Source
 
 # Names that a top crate gives again and the crate has otherwise, or not: they serve the crates below.
 HIDDEN_NAMES = {
@@ -21,6 +22,11 @@ HIDDEN_OF = {("FlatView", "len")}
 
 # Calls for which the crate has one by hand, which calls them: the names that they have then.
 BY_HAND = {("Info", "set"): "set_value"}
+
+# Calls with the names of those of the crate's traits `Emitable`, `Parseable` and `ParseableParametrized`: as these are
+# hidden, a user who has not named the trait would be told that the call is private.
+OF_TRAITS = {"buffer_len": "encoded_len", "emit": "encode_into"}
+OF_TYPES = {("DefaultNla", "parse"): "of_frame", ("LinkAttribute", "parse_with_param"): "of_frame_with_param"}
 
 
 def given_again(s):
@@ -57,6 +63,19 @@ def hide_calls(s):
             s.new[s.prev(i)] = "pub(crate)"
             if by_hand(s, i):
                 s.new[s.next(i)] = by_hand(s, i)
+
+
+def other_names(s):
+    """Other names for the calls that would hide those of the crate's traits, where they are declared and called."""
+    for i in s.sig:
+        if s.kind[i] != "id" or s.dead[i]:
+            continue
+        before = s.prev(i)
+        if s.text[i] in OF_TRAITS and (s.at(before, "fn") or s.at(before, ".") or s.follows_path(i)):
+            s.new[i] = OF_TRAITS[s.text[i]]
+        type_ = owner(s, before) if s.at(before, "fn") else s.text[s.prev(i, 3)] if s.follows_path(i) else None
+        if (type_, s.text[i]) in OF_TYPES:
+            s.new[i] = OF_TYPES[type_, s.text[i]]
 
 
 def by_hand(s, i):
@@ -98,3 +117,24 @@ def public_name(s, i, public):
 def holder(s, fn):
     """The type of the impl, or the trait, around this `fn`."""
     return named(s, around(s, fn)[1])
+
+
+def must_use(text, path, mode):
+    """The made text, where calls that a user sees and that only return something are `#[must_use]`."""
+    s = Source(path, text)
+    for i in s.live("fn"):
+        if public_name(s, i, mode.public) and only_returns(s, i):
+            start = s.prev(i)
+            front = s.text[start - 1] if start and s.kind[start - 1] == "ws" else ""
+            s.before[start] = "#[must_use]\n" + front[front.rfind("\n") + 1:]
+    return s.rust()
+
+
+def only_returns(s, i):
+    """Whether the function that this `fn` begins returns something that rustc does not warn of by itself, and changes
+    nothing that it is given."""
+    open_ = s.skip_to(i, {"("})
+    takes_mut = any(s.at(k, "mut") and (s.at(s.prev(k), "&") or s.kind[s.prev(k)] == "life")
+                    for k in range(open_, s.match[open_]) if k in s.rank)
+    arrow = s.next(s.match[open_])
+    return s.at(arrow, "-", ">") and not takes_mut and not s.at(s.next(arrow, 2), "Result")

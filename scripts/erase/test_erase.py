@@ -47,6 +47,7 @@ MAKES = {
     "made in tests": lambda text: erase.erase("a.rt", text, "message_diff", erase.Mode(False)),
     "laid out": layout.laid_out, "let_else": lambda text: older.let_else("a.rs", text),
     "reserved": by(memory.reserved), "narrowing": by(owed.narrowing), "hide_calls": by(surface.hide_calls),
+    "other_names": by(surface.other_names),
     "inline_optimized": by(contracts.inline_optimized), "unwrap_functions": by(memory.unwrap_functions),
     "without memory": by(lambda s: memory.memory(s, set())),
     "derives": by(lambda s: derives.derives(s, is_crate=True)),

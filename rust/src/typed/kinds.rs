@@ -1,4 +1,3 @@
-// Copied from scripts/erase/std/src/typed/kinds.rs: do not edit here.
 //! Which data a kind of interface or port has, and how they come from [`LinkInfo`] and go to it.
 
 use super::places::*;
@@ -6,8 +5,8 @@ use super::{emit, parse, parts};
 use crate::link_info::read::read;
 use crate::link_info::{Info, InfoError, Style, Value};
 use crate::link_msg::{self, LinkInfo};
-use crate::nla_wire::{DecodeError, DefaultNla, NLA_TYPE_MASK};
-use crate::packet::Nla;
+use crate::nla_wire::{DecodeError, DefaultNla, NLA_TYPE_MASK, parse_string};
+use crate::packet::{Nla, NlaBuffer, Parseable};
 use crate::typed::parts::Members;
 use alloc::string::String;
 use alloc::vec::Vec;
@@ -48,6 +47,7 @@ macro_rules! kinds {
             /// The text of the kind.
             ///
             /// [`InfoKind`] has an example.
+            #[must_use]
             pub fn as_str(&self) -> &str {
                 match self {
                     $($kinds::$kind => $text,)*
@@ -64,6 +64,13 @@ macro_rules! kinds {
                     $($alone_text => $kinds::$alone,)*
                     other => $kinds::Other(String::from(other)),
                 }
+            }
+        }
+
+        /// The kind whose text the attribute holds, with or without a NUL at its end. Its number is not looked at.
+        impl<'a, T: AsRef<[u8]> + ?Sized> Parseable<NlaBuffer<&'a T>> for $kinds {
+            fn parse(buf: &NlaBuffer<&'a T>) -> Result<Self, DecodeError> {
+                parse_string(buf.frame()?.value()).map(|text| $kinds::from(text.as_str()))
             }
         }
 
@@ -108,6 +115,7 @@ macro_rules! kinds {
             /// # Panics
             ///
             /// Where a value does not fit: an attribute holds at most 65531 bytes.
+            #[must_use]
             pub fn emit(&self) -> Vec<u8> {
                 match self {
                     $($datas::$data(list) => emit(list),)*
@@ -118,6 +126,7 @@ macro_rules! kinds {
             /// The kind that has such data; of `Other` it is not known.
             ///
             /// [`InfoData`] has an example.
+            #[must_use]
             pub fn kind(&self) -> Option<$kinds> {
                 match self {
                     $($datas::$data(_) => Some($kinds::$kind),)*
@@ -137,6 +146,12 @@ kinds! {
     /// assert_eq!((kind.as_str(), kind.to_string()), ("vlan", "vlan".to_string()));
     /// assert_eq!(InfoKind::from("geneve2"), InfoKind::Other("geneve2".to_string()));
     /// assert_eq!(InfoPortKind::Bridge.as_str(), "bridge");
+    ///
+    /// // of an attribute, as in netlink-packet-route
+    /// use linkwire::{NlaBuffer, Parseable};
+    /// let frame = NlaBuffer::new_checked(b"\x09\0\x01\0vlan\0\0\0\0")?;
+    /// assert_eq!(InfoKind::parse(&frame)?, InfoKind::Vlan);
+    /// # Ok::<(), linkwire::DecodeError>(())
     /// ```
     InfoKind;
     /// The data of a kind of interface: `IFLA_INFO_DATA`.
@@ -261,6 +276,7 @@ impl LinkXstats {
     /// The payload that they are written as.
     ///
     /// [`parse`](LinkXstats::parse) has an example.
+    #[must_use]
     pub fn emit(&self) -> Vec<u8> {
         let mut out = Vec::new();
         match self {

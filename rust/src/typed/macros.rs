@@ -1,4 +1,3 @@
-// Copied from scripts/erase/std/src/typed/macros.rs: do not edit here.
 //! The forms of what is made of the tables.
 
 /// A place: an enum with a variant of each row: its number, the kind that it is written with, and its form, a module of
@@ -164,6 +163,7 @@ macro_rules! flag_set {
             /// No flag.
             ///
             /// [The module](crate::typed#flags) has an example.
+            #[must_use]
             pub const fn empty() -> Self {
                 $name(0)
             }
@@ -171,6 +171,7 @@ macro_rules! flag_set {
             /// All flags that have a name.
             ///
             /// [The module](crate::typed#flags) has an example.
+            #[must_use]
             pub const fn all() -> Self {
                 $name(0 $(| $bit)*)
             }
@@ -178,6 +179,7 @@ macro_rules! flag_set {
             /// The bits.
             ///
             /// [The module](crate::typed#flags) has an example.
+            #[must_use]
             pub const fn bits(self) -> $bits {
                 self.0
             }
@@ -185,6 +187,7 @@ macro_rules! flag_set {
             /// The set of these bits, those without a name too.
             ///
             /// [The module](crate::typed#flags) has an example.
+            #[must_use]
             pub const fn from_bits_retain(bits: $bits) -> Self {
                 $name(bits)
             }
@@ -192,6 +195,7 @@ macro_rules! flag_set {
             /// The set of those of these bits that have a name.
             ///
             /// [The module](crate::typed#flags) has an example.
+            #[must_use]
             pub const fn from_bits_truncate(bits: $bits) -> Self {
                 $name(bits & $name::all().0)
             }
@@ -199,6 +203,7 @@ macro_rules! flag_set {
             /// Whether it has no flag.
             ///
             /// [The module](crate::typed#flags) has an example.
+            #[must_use]
             pub const fn is_empty(self) -> bool {
                 self.0 == 0
             }
@@ -206,6 +211,7 @@ macro_rules! flag_set {
             /// Whether all of those are in it.
             ///
             /// [The module](crate::typed#flags) has an example.
+            #[must_use]
             pub const fn contains(self, other: Self) -> bool {
                 self.0 & other.0 == other.0
             }
@@ -227,6 +233,7 @@ macro_rules! flag_set {
             /// Those that are in one of both.
             ///
             /// [The module](crate::typed#flags) has an example.
+            #[must_use]
             pub const fn union(self, other: Self) -> Self {
                 $name(self.0 | other.0)
             }

@@ -1,4 +1,3 @@
-// Copied from scripts/erase/std/src/typed/mod.rs: do not edit here.
 //! The data of kinds of interfaces and ports as types: an enum of each place, with a variant of each attribute.
 //!
 //! [`LinkInfo`](crate::LinkInfo) keeps data as bytes. [`LinkInfos`] gives those of a list as [`InfoData`] or
@@ -40,6 +39,7 @@
 mod macros;
 pub(crate) mod kinds;
 mod parts;
+#[path = "../generated/places.rs"]
 pub(crate) mod places;
 
 use crate::link_info::Row;

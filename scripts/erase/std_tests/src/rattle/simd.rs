@@ -66,6 +66,11 @@ impl<const N: usize> Simd<u8, N> {
         Mask(self.pairs(other, |a, b| -i8::from(a >= b)))
     }
 
+    /// Which lanes are greater than those of another.
+    pub fn simd_gt(self, other: Self) -> Mask<i8, N> {
+        Mask(self.pairs(other, |a, b| -i8::from(a > b)))
+    }
+
     /// Which lanes are those of another.
     pub fn simd_eq(self, other: Self) -> Mask<i8, N> {
         Mask(self.pairs(other, |a, b| -i8::from(a == b)))
@@ -141,6 +146,7 @@ mod tests {
         assert_eq!((less.to_bitmask(), not_less.to_bitmask()), (0b0001, 0b1110));
         assert_eq!(less.select(A, B).0, [1, 20, 100, 1]);
         assert_eq!(not_less.select(A, B).0, [2, 20, 200, 255]);
+        assert_eq!(A.simd_gt(B).0, [0, 0, -1, -1]);
         assert_eq!(A.simd_eq(B).0, [0, -1, 0, 0]);
         assert_eq!((less | A.simd_eq(B)).0, [-1, -1, 0, 0]);
     }

@@ -1,8 +1,0 @@
-// Copied from scripts/erase/std/src/rattle/mod.rs: do not edit here.
-//! What stands for the parts of Rattle's library that Rust has otherwise, under the same names.
-
-pub mod bitflags;
-pub mod list;
-pub mod net;
-pub mod number;
-pub mod str;
