@@ -1,0 +1,145 @@
+"""Folding: rows of lines, and what is told of them, one line each, without times."""
+
+import unittest
+
+from linkwire import numbers as n
+from linkwire import u8, u32
+from made import (BEGIN, DONE, DONE_BRIDGE, altname, inside, kind, line, master, mtu, name, port, port_too, state,
+                  stream,
+                  vlans)
+
+ETH, BR = line(2, name("veth0"), mtu(1500)), line(3, name("br0"), mtu(1500))
+IN = [line(2, name("veth0"), master(3), port((1, u8(0)))), BR]
+
+
+def in_bridge(*attributes):
+    return line(2, name("veth0"), master(3), *attributes, family=7)
+
+
+# what it is about, the names that are asked for or options, the lines, and what is told
+ROWS = [
+    ("nothing of what is there at first", [], stream([ETH, BR]), []),
+    ("new, by its members in one order", [],
+     stream([BR], line(2, name("veth0"), mtu(1400), state(6), master(3), kind("veth"),
+                                                               (n.IFLA_ADDRESS, bytes(6)))),
+     ["veth0            new kind veth, mtu 1400, state up, address 00:00:00:00:00:00, master br0"]),
+    ("new without a member", [], stream([], line(2)), ["if2              new"]),
+    ("gone", [], stream([ETH], line(2, name("veth0"), what="del")), ["veth0            gone"]),
+    ("gone between two dumps", [], [*stream([ETH, BR]), BEGIN, BR, DONE], ["veth0            gone"]),
+    ("a name that changed", [], stream([ETH], line(2, name("core"), mtu(1500))),
+     ["core             name veth0 → core"]),
+    ("several at once", [], stream([ETH], line(2, name("veth0"), mtu(9000), (n.IFLA_TXQLEN, u32(5)))),
+     ["veth0            mtu 1500 → 9000, qlen none → 5"]),
+    ("flags that are hidden", [], stream([ETH], line(2, name("veth0"), mtu(1500), flags=0x10040)), []),
+    ("flags that are not", [], stream([ETH], line(2, name("veth0"), mtu(1500), flags=0x10041)),
+     ["veth0            flags +up"]),
+    ("flags with --details", ["--details"], stream([ETH], line(2, name("veth0"), mtu(1500), flags=0x10041)),
+     ["veth0            flags +up +running +lower-up"]),
+    ("a member that is hidden", [], stream([ETH], line(2, name("veth0"), mtu(1500), (n.IFLA_CARRIER, u8(1)))), []),
+    ("a member that is hidden with --details", ["--details"],
+     stream([ETH], line(2, name("veth0"), mtu(1500), (n.IFLA_CARRIER, u8(1)))), ["veth0            carrier none → 1"]),
+    ("alternative names", [], stream([ETH], line(2, name("veth0"), mtu(1500), altname("a", "b")), line(
+        2, name("veth0"), mtu(1500), altname("b", "c"))),
+     ["veth0            altname +a +b", "veth0            altname -a +c"]),
+    ("a port that joins has no settings", [],
+     stream([ETH, BR], line(2, name("veth0"), mtu(1500), master(3), port((2, u32(5))))),
+     ["veth0            master none → br0"]),
+    ("settings of one that joins, with --details", ["--details"],
+     stream([line(2, name("veth0")), BR], line(2, name("veth0"), master(3), port((1, u8(3))))),
+     ["veth0            master none → br0, linkinfo.slave-kind none → bridge",
+      "veth0            port of br0: state none → forwarding"]),
+    ("and one that leaves", [], stream(IN, line(2, name("veth0"))), ["veth0            master br0 → none"]),
+    ("of two families once", [], stream(IN, in_bridge(port_too((1, u8(0)))), in_bridge(port_too((1, u8(3)))),
+                                        line(2, name("veth0"), master(3), port((1, u8(3)))),
+                                        line(2, name("veth0"), master(3), port((1, u8(0))))),
+     ["veth0            port of br0: state disabled → forwarding",
+      "veth0            port of br0: state forwarding → disabled"]),
+    ("the other way round", [],
+     stream(IN, in_bridge(port_too((1, u8(0)))), line(2, name("veth0"), master(3), port((1, u8(3)))),
+                                       in_bridge(port_too((1, u8(3))))),
+     ["veth0            port of br0: state disabled → forwarding"]),
+    ("what family 7 has at first is compared", [], stream(IN, in_bridge(port_too((1, u8(3))))),
+     ["veth0            port of br0: state disabled → forwarding"]),
+    ("the end of family 7 is not told", [], stream(IN, in_bridge(port_too((1, u8(0)))), line(2, what="del", family=7)),
+     []),
+    ("VLANs that come", [], stream(IN, in_bridge(vlans((6, 1))), in_bridge(vlans((6, 1), (8, 10), (16, 20)))),
+     ["veth0            port of br0: vlan +10-20"]),
+    ("VLANs that change", [], stream(IN, in_bridge(vlans((6, 1))), in_bridge(vlans((4, 1), (2, 30)))),
+     ["veth0            port of br0: vlan -1(pvid,untagged) +1(untagged) +30(pvid)"]),
+    ("family 10 is hidden", [], stream([ETH], line(2, mtu(1500), family=10), line(2, mtu(1400), family=10)), []),
+    ("family 10 with --details", ["--details"],
+     stream([ETH], line(2, mtu(1500), family=10), line(2, mtu(1400), family=10)),
+     ["veth0            mtu 1500 → 1400"]),
+    ("a master that is not known", [], stream([ETH], line(2, name("veth0"), mtu(1500), master(9))),
+     ["veth0            master none → if9"]),
+    ("what it is stacked on", [], stream([ETH, BR], line(2, name("veth0"), mtu(1500), (n.IFLA_LINK, u32(3)))),
+     ["veth0            link none → br0"]),
+    ("in another namespace", [], stream([ETH, BR], line(2, name("veth0"), mtu(1500), (n.IFLA_LINK, u32(3)),
+                                                        (n.IFLA_LINK_NETNSID, u32(0)))),
+     ["veth0            link none → if3, link-netnsid none → 0"]),
+    ("0 is no index", [],
+     stream([line(2, name("veth0"), (n.IFLA_LINK, u32(0))), BR], line(2, name("veth0"), (n.IFLA_LINK, u32(3)))),
+     ["veth0            link none → br0"]),
+    ("another kind is gone and new", [], stream([line(2, name("x"), kind("veth"))], line(2, name("x"), kind("dummy"))),
+     ["x                gone", "x                new kind dummy"]),
+    ("another kind before a dump is whole", [], [BEGIN, line(2, name("x"), kind("veth")),
+                                                 line(2, name("x"), kind("dummy")), DONE],
+     ["x                gone", "x                new kind dummy"]),
+    ("one that went and came before a dump is whole", [], [ETH, line(2, name("veth0"), what="del"), ETH],
+     ["veth0            gone"]),
+    ("lost", [], stream([ETH], "type=lost"),
+     ["                 lost messages of the kernel: all links are asked for again"]),
+    ("whole again after a loss", [], [*stream([ETH]), "type=lost", BEGIN, line(2, name("veth0"), mtu(9000)), DONE],
+     ["                 lost messages of the kernel: all links are asked for again", "veth0            mtu 1500 → 9000",
+      "                 again all is known: what changed meanwhile is told above"]),
+    ("fault", [], stream([ETH], ETH + "0500"),
+     ["veth0            fault too few bytes for the header of an attribute, at byte 36"]),
+    ("a host", [], [f"host=db1 {it}" for it in stream([ETH], line(2, name("veth0"), mtu(9000)))],
+     ["db1/veth0        mtu 1500 → 9000"]),
+    ("hosts are apart", [], [f"host=a {it}" for it in stream([ETH, BR])] + [f"host=b {it}" for it in stream(
+        [ETH], line(2, name("veth0"), mtu(1500), master(3)))], ["b/veth0          master none → if3"]),
+    ("by a name", ["br0"], stream([ETH, BR], line(2, name("veth0"), mtu(9000)), line(3, name("br0"), mtu(1400))),
+     ["br0              mtu 1500 → 1400"]),
+    ("by a pattern", ["v*"], stream([ETH, BR], line(2, name("veth0"), mtu(9000)), line(3, name("br0"), mtu(1400))),
+     ["veth0            mtu 1500 → 9000"]),
+    ("by an alternative name", ["alt"], stream([line(2, name("veth0"), altname("alt")), BR],
+                                               line(2, name("veth0"), altname("alt"), mtu(9000)),
+                                               line(3, name("br0"), mtu(1400))),
+     ["veth0            mtu none → 9000"]),
+    ("one that was renamed", ["veth0"],
+     stream([ETH], line(2, name("core"), mtu(1500)), line(2, name("core"), mtu(9000))),
+     ["core             name veth0 → core", "core             mtu 1500 → 9000"]),
+    ("one that gets the name", ["core"],
+     stream([ETH], line(2, name("core"), mtu(1500)), line(2, name("core"), what="del")),
+     ["core             name veth0 → core", "core             gone"]),
+    ("one of that name that comes later", ["x"],
+     stream([ETH], line(5, name("x"), mtu(1500)), line(5, name("x"), what="del")),
+     ["x                new mtu 1500", "x                gone"]),
+    ("who joins a bridge that is asked for", ["br0"], stream([ETH, BR], line(2, name("veth0"), mtu(1500), master(3))),
+     ["veth0            master none → br0"]),
+    ("its ports, as ports", ["br0"],
+     stream(IN, in_bridge(port_too((1, u8(3)))), line(2, name("veth0"), master(3), port((1, u8(3))), mtu(9))),
+     ["veth0            port of br0: state disabled → forwarding"]),
+    ("its ports, of family 0", ["br0"], stream(IN, line(2, name("veth0"), master(3), port((1, u8(3))))),
+     ["veth0            port of br0: state disabled → forwarding"]),
+    ("who leaves it", ["br0"], stream(IN, line(2, name("veth0"))), ["veth0            master br0 → none"]),
+    ("one that leaves a bridge that is not", ["x*"], stream(IN, line(2, name("veth0"))), []),
+    ("a dump of family 7", [], [*stream(IN), BEGIN, in_bridge(port_too((1, u8(0)))), DONE_BRIDGE,
+                                in_bridge(port_too((1, u8(3))))],
+     ["veth0            port of br0: state disabled → forwarding"]),
+    ("a name that forges a line", [], stream([ETH], line(2, name("x  gone\ny"), mtu(1500))),
+     ['x\\u0020\\u0020gone\\u000ay  name veth0 → "x  gone\\u000ay"']),
+]
+
+
+class Folding(unittest.TestCase):
+    maxDiff = None
+
+    def test_rows(self):
+        for what, words, lines, wanted in ROWS:
+            found, status = inside(["--time", "none", *words], lines)
+            self.assertEqual((found.splitlines(), status), (wanted, 0), what)
+
+
+if __name__ == "__main__":
+    unittest.main()

@@ -1,0 +1,82 @@
+"""Wording: each form of a value, and that no character gets through which a terminal must not see."""
+
+import sys
+import unicodedata
+import unittest
+
+from linkwatch.wording import Part, Words, escaped, ranges, width
+from linkwire import Change
+
+ROWS = [
+    ("mtu", 1500, 9000, "mtu 1500 → 9000"),
+    ("master", None, "br0", "master none → br0"),
+    ("master", "br0", None, "master br0 → none"),
+    ("ifname", "veth1", "core", "name veth1 → core"),
+    ("operstate", "down", "up", "state down → up"),
+    ("txqlen", 1000, 7, "qlen 1000 → 7"),
+    ("port.cost", 2, 77, "cost 2 → 77"),
+    ("data.ageing-time", 30000, 1000, "data.ageing-time 30000 → 1000"),
+    ("ifalias", None, "none", 'alias none → "none"'),
+    ("ifalias", None, "", 'alias none → ""'),
+    ("ifalias", "a b", 'say "x"', 'alias "a b" → "say \\"x\\""'),
+    ("ifalias", "a\\b", "é", "alias a\\\\b → é"),
+    ("ifalias", "a→b", "[x]", 'alias "a→b" → "[x]"'),
+    ("ifalias", "a,b", "a;b", 'alias "a,b" → "a;b"'),
+    ("ifalias", "(x)", "\x1b[2J", 'alias "(x)" → "\\u001b[2J"'),
+    ("ifalias", "x" * 64, "x" * 65, f"alias {'x' * 64} → {'x' * 60}...65"),
+    ("list", [1, 2], ["a", "b c"], 'list [1 2] → [a "b c"]'),
+    ("ifi-flags", ["up"], ["up", "running"], "flags +running"),
+    ("ifi-flags", ["up", "promisc"], ["up"], "flags -promisc"),
+    ("ifi-flags", None, ["up"], "flags +up"),
+    ("prop-list.alt-ifname", ["a", "b c"], ["a", "d"], 'altname -"b c" +d'),
+    ("vlan", frozenset({(1, "pvid")}), frozenset({(1, "")}), "vlan -1(pvid) +1"),
+    ("vlan", frozenset(), frozenset((it, "untagged") for it in (10, 11, 12, 20)),
+     "vlan +10-12(untagged) +20(untagged)"),
+]
+WIDTHS = [("abc", 3), ("日本", 4), ("e\u0301", 1), ("ü", 1), ("", 0)]
+BIDIRECTIONAL = [0x61c, *range(0x200e, 0x2010), *range(0x202a, 0x202f), *range(0x2066, 0x206a)]
+
+
+class Wording(unittest.TestCase):
+    def test_rows(self):
+        words = Words("utf-8")
+        for path, old, new, wanted in ROWS:
+            self.assertEqual("".join(words.change(Change(path, old, new))), wanted)
+
+    def test_whole(self):
+        self.assertEqual(Words("utf-8", True).value("x" * 99), "x" * 99)
+
+    def test_other_encodings(self):
+        for encoding, wanted in (("ascii", "alias \\u00fc -> \\u65e5"), ("latin-1", "alias ü -> \\u65e5"),
+                                 ("utf-8", "alias ü → 日")):
+            self.assertEqual("".join(Words(encoding).change(Change("ifalias", "ü", "日"))), wanted)
+        self.assertEqual(Words("ascii").value("a->b"), '"a->b"')
+
+    def test_there(self):
+        self.assertEqual(Words("utf-8").there(Change("mtu", None, 1500)), Part("mtu 1500"))
+
+    def test_names(self):
+        self.assertEqual(Words("utf-8").name("a b\n"), "a\\u0020b\\u000a")
+
+    def test_ranges(self):
+        self.assertEqual(ranges([(1, "a"), (2, "a"), (3, ""), (5, "")], "-"), ["-1-2(a)", "-3", "-5"])
+
+    def test_widths(self):
+        for text, columns in WIDTHS:
+            self.assertEqual(width(text), columns)
+
+    def test_every_code_point(self):
+        """None of the categories C and Z but the blank, nor a control of writing direction, gets through."""
+        wrong = []
+        for code in range(sys.maxunicode + 1):
+            it = chr(code)
+            wanted = it
+            if unicodedata.category(it)[0] in "CZ" and it != " " or code in BIDIRECTIONAL:
+                wanted = f"\\u{code:04x}" if code < 0x10000 else f"\\U{code:08x}"
+            if escaped(it) != wanted and it != "\\":
+                wrong.append(code)
+        self.assertEqual(wrong, [])
+
+
+if __name__ == "__main__":
+    unittest.main()
