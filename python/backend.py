@@ -1,23 +1,29 @@
 """Builds the wheel of linkwire (PEP 517): the package, and the shared library, which cc makes of the text in dist/.
 
 Where there is no compiler, and an installed liblinkwire.so.0, the wheel has Python alone; where there is neither, the
-build stops and says so. A wheel has the same bytes each time, by the same compiler.
+build stops and says so. The wheel is tagged by what the compiler compiles for. An archive of sources has what the build
+reads; `pip install -e` (PEP 660) puts the library beside the package. A wheel and an archive have the same bytes each
+time, by the same compiler.
 """
 
 import base64
 import ctypes
+import gzip
 import hashlib
+import io
 import os
 import re
 import shutil
 import subprocess
 import sys
-import sysconfig
+import tarfile
 import tempfile
 import zipfile
 
 HERE = os.path.dirname(os.path.abspath(__file__))
-DIST = os.path.join(os.path.dirname(HERE), "dist")
+# an archive of sources, or the repository
+ROOT = HERE if os.path.exists(f"{HERE}/dist/liblinkwire.map") else os.path.dirname(HERE)
+DIST = f"{ROOT}/dist"
 LIBRARY = "liblinkwire.so.0"
 PROCESSORS = {"amd64": "x86_64", "arm64": "aarch64"}
 
@@ -44,17 +50,36 @@ def is_installed():
         return False
 
 
+def machine_of(cc):
+    """The processor and the rest of what a compiler compiles for."""
+    said = subprocess.run([*cc, "-dumpmachine"], capture_output=True, text=True, timeout=60)
+    processor, _, rest = said.stdout.strip().partition("-")
+    if said.returncode != 0 or not rest:
+        stops(f"{' '.join(cc)} does not say by -dumpmachine what it compiles for: set CC to a C compiler")
+    return PROCESSORS.get(processor, processor), rest
+
+
 def text_for(cc):
     """The text in dist/ for what the compiler compiles for."""
     if not os.path.isdir(DIST):
-        stops(f"there is no {DIST}: build it in a checkout, or in the archive of a release")
-    machine = subprocess.run([*cc, "-dumpmachine"], check=True, capture_output=True, text=True, timeout=60).stdout
-    processor = machine.strip().split("-")[0]
-    text = f"{DIST}/{PROCESSORS.get(processor, processor)}/link_c.s"
-    if "linux" not in machine or not os.path.exists(text):
-        stops(f"dist/ has no text for {machine.strip()}: set CC to a compiler for Linux on one of "
-              + ", ".join(it for it in sorted(os.listdir(DIST)) if os.path.isdir(f"{DIST}/{it}")))
+        stops(f"there is no {DIST}: build it in a checkout, in the archive of a release, or of the archive of sources")
+    processor, rest = machine_of(cc)
+    if "linux" not in rest:
+        stops(f"{' '.join(cc)} compiles for {processor}-{rest}: set CC to a compiler for Linux")
+    text = f"{DIST}/{processor}/link_c.s"
+    if not os.path.exists(text) or "x32" in rest:
+        there = " and ".join(it for it in sorted(os.listdir(DIST)) if os.path.isdir(f"{DIST}/{it}"))
+        stops(f"processors of {processor}-{rest} are not supported, only {there}. linkdump is C and runs there (make "
+              "out/linkdump in a checkout): pass its lines to a machine that is")
     return text
+
+
+def tag_of(built):
+    """The tag of a wheel with this library: of the processor, and of musl where it is not of glibc."""
+    processor, rest = machine_of(os.environ.get("CC", "cc").split())
+    with open(built, "rb") as it:
+        is_musl = "musl" in rest or b"\0libc.so.6\0" not in it.read()
+    return f"py3-none-{'musllinux_1_1' if is_musl else 'linux'}_{processor}"
 
 
 def library(folder):
@@ -78,17 +103,27 @@ def library(folder):
 
 def package():
     """Names and contents of the package's files."""
-    for name in sorted(os.listdir(f"{HERE}/linkwire")):
-        if name.endswith((".py", ".typed")):
-            with open(f"{HERE}/linkwire/{name}", "rb") as it:
-                yield f"linkwire/{name}", it.read()
+    for folder in "linkwatch", "linkwire":
+        for name in sorted(os.listdir(f"{HERE}/{folder}")):
+            if name.endswith((".py", ".typed")):
+                yield f"{folder}/{name}", read(f"{HERE}/{folder}/{name}")
+
+
+def read(path):
+    with open(path, "rb") as it:
+        return it.read()
+
+
+def core_metadata():
+    return (f"Metadata-Version: 2.1\nName: linkwire\nVersion: {VERSION}\nSummary: {metadata('description')}\n"
+            f"License: MIT\nRequires-Python: {metadata('requires-python')}\n").encode()
 
 
 def described(tag):
     """Names and contents of what tells of the package."""
-    yield f"{INFO}/METADATA", (f"Metadata-Version: 2.1\nName: linkwire\nVersion: {VERSION}\n"
-                               f"Summary: {metadata('description')}\nLicense: MIT\n"
-                               f"Requires-Python: {metadata('requires-python')}\n").encode()
+    yield f"{INFO}/METADATA", core_metadata()
+    yield f"{INFO}/entry_points.txt", b"[console_scripts]\nlinkwatch = linkwatch.__main__:main\n"
+    yield f"{INFO}/LICENSE", read(f"{ROOT}/LICENSE")
     yield f"{INFO}/WHEEL", (f"Wheel-Version: 1.0\nGenerator: linkwire {VERSION}\n"
                             f"Root-Is-Purelib: {str(tag.endswith('any')).lower()}\nTag: {tag}\n").encode()
 
@@ -113,27 +148,62 @@ def add(wheel, name, content):
 
 def build_wheel(wheel_directory, config_settings=None, metadata_directory=None):
     """The hook of PEP 517: writes a wheel to this folder, and returns its name."""
-    files = list(package())
+    files, tag = list(package()), "py3-none-any"
     with tempfile.TemporaryDirectory() as folder:
         built = library(folder)
         if built is not None:
-            with open(built, "rb") as it:
-                files.append((f"linkwire/{LIBRARY}", it.read()))
-    tag = "py3-none-" + ("any" if built is None else re.sub(r"[-.]", "_", sysconfig.get_platform()))
+            files.append((f"linkwire/{LIBRARY}", read(built)))
+            tag = tag_of(built)
     name = f"linkwire-{VERSION}-{tag}.whl"
     write(os.path.join(wheel_directory, name), [*files, *described(tag)])
     return name
 
 
+def build_editable(wheel_directory, config_settings=None, metadata_directory=None):
+    """The hook of PEP 660: the wheel leads to this folder, and the library is put beside the package in it."""
+    with tempfile.TemporaryDirectory() as folder:
+        built = library(folder)
+        if built is not None:
+            shutil.copy(built, f"{HERE}/linkwire/{LIBRARY}.new")
+            os.replace(f"{HERE}/linkwire/{LIBRARY}.new", f"{HERE}/linkwire/{LIBRARY}")
+    tag = "py3-none-any"
+    name = f"linkwire-{VERSION}-{tag}.whl"
+    write(os.path.join(wheel_directory, name), [("linkwire.pth", f"{HERE}\n".encode()), *described(tag)])
+    return name
+
+
 def build_sdist(sdist_directory, config_settings=None):
-    """The hook of PEP 517 for an archive of sources: those are the repository, or the archive of a release."""
-    stops("the sources are the repository, or the archive of a release")
+    """The hook of PEP 517 for an archive of sources: what a build reads, in one folder."""
+    texts = [f"dist/{it}/link_c.s" for it in sorted(os.listdir(DIST)) if os.path.isdir(f"{DIST}/{it}")]
+    files = [("PKG-INFO", core_metadata()), *((it, read(f"{HERE}/{it}")) for it in ("backend.py", "pyproject.toml")),
+             *package(), *((it, read(f"{ROOT}/{it}")) for it in [
+                 "LICENSE", "dist/heap.c", "dist/liblinkwire.map", *texts])]
+    top = f"linkwire-{VERSION}"
+    with open(f"{sdist_directory}/{top}.tar.gz", "wb") as out, \
+            gzip.GzipFile("", "wb", fileobj=out, mtime=0) as packed, \
+            tarfile.open(fileobj=packed, mode="w", format=tarfile.PAX_FORMAT) as archive:
+        for name, content in files:
+            info = tarfile.TarInfo(f"{top}/{name}")
+            info.size, info.mode, info.mtime = len(content), 0o644, 315532800  # 1980, as in wheels
+            archive.addfile(info, io.BytesIO(content))
+    return f"{top}.tar.gz"
+
+
+def write_command(path):
+    """Writes the command linkwatch, as pip makes it of the entry point."""
+    with open(path, "w", encoding="utf-8") as it:
+        it.write("#!/usr/bin/python3\nimport sys\nfrom linkwatch.__main__ import main\nsys.exit(main())\n")
+    os.chmod(path, 0o755)
 
 
 def main(first=".", folder=None):
-    """`backend.py [FOLDER]` writes a wheel; `backend.py --metadata FOLDER` what an installed package has beside it."""
+    """`backend.py [FOLDER]` writes a wheel, and `--sdist FOLDER` an archive of sources; `--metadata FOLDER` writes what
+    an installed package has beside it, `--command FILE` the command linkwatch."""
+    if first == "--command":
+        write_command(folder)
+        return
     if first != "--metadata":
-        print(build_wheel(first))
+        print(build_sdist(folder) if first == "--sdist" else build_wheel(first))
         return
     os.makedirs(f"{folder}/{INFO}", exist_ok=True)
     name, content = next(described("py3-none-any"))

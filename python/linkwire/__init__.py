@@ -6,16 +6,18 @@ by side in any number of threads. docs/PYTHON.md shows how each is used.
 """
 
 from .messages import (CANONICAL_FORM, HEADER_SIZE, LENIENT_FORM, STATE_FORM, Attribute, Bytes, Change, Fault,
-                       Refusal, Value, attributes, be16, be32, build, canonical, check, diff, key, number, pick,
+                       Refusal, Value, attributes, be16, be32, build, canonical, check, diff, key, mac, number, pick,
                        refusals, same_message, same_state, show, show_all, show_json, state, text, u8, u16, u32, u64)
-from .netlink import Announcement, KernelError, Links, LostMessages, Stream
+from ._sockets import KernelError, LostMessages
+from .netlink import Announcement, Links
+from .streams import Stream
 from .watching import Event, Line, Watch, read_line
 
 __version__ = "0.3.0"
 __all__ = [
     "CANONICAL_FORM", "HEADER_SIZE", "LENIENT_FORM", "STATE_FORM", "Announcement", "Attribute", "Bytes", "Change",
     "Event", "Fault", "KernelError", "Line", "Links", "LostMessages", "Refusal", "Stream", "Value", "Watch",
-    "attributes", "be16", "be32", "build", "canonical", "check", "diff", "key", "number", "pick", "read_line",
+    "attributes", "be16", "be32", "build", "canonical", "check", "diff", "key", "mac", "number", "pick", "read_line",
     "refusals", "same_message", "same_state", "show", "show_all", "show_json", "state", "text", "u8", "u16", "u32",
     "u64",
 ]

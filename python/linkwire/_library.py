@@ -2,7 +2,6 @@
 
 import ctypes
 import os
-import threading
 from typing import Any, List, Optional, Set, Tuple
 
 OUT_OF_MEMORY, NO_ROOM = -18, -19
@@ -72,6 +71,17 @@ def _find() -> str:
     return named or (beside if os.path.exists(beside) else _NAME)
 
 
+def _why(path: str, error: str) -> str:
+    """What to do where the library does not load."""
+    if path == os.environ.get("LINKWIRE"):
+        return f"linkwire: LINKWIRE names a library that does not load: {error}"
+    if path == _NAME and _NAME in error and "No such file" in error:
+        return (f"linkwire: no shared library: install {_NAME} (Debian: liblinkwire0), or a C compiler and then this "
+                f"package again, or name it by LINKWIRE ({error})")
+    return (f"linkwire: the shared library is there and does not load: {error}: it may be of another processor or C "
+            f"library, as by a cross compiler in CC: install this package again here, or name another by LINKWIRE")
+
+
 def _lacking(path: str, name: str) -> Any:
     def fails(*_: Any) -> Any:
         raise NotImplementedError(f"linkwire: {path} has no {name}: it is older than this package")
@@ -86,8 +96,7 @@ class _Library:
         try:
             found = ctypes.CDLL(path)
         except OSError as error:
-            raise ImportError(f"linkwire: no shared library: install liblinkwire.so.0 (Debian: liblinkwire0), or a C "
-                              f"compiler and then this package again, or name it by LINKWIRE ({error})") from None
+            raise ImportError(_why(path, str(error))) from None
         self.path = path
         self.lacks: Set[str] = set()
         for name, result, arguments in _SIGNATURES:
@@ -106,31 +115,38 @@ class _Library:
 library = _Library(_find())
 
 
-class _Room(threading.local):
-    """Room for what a call writes: each thread has its own."""
-
-    def __init__(self) -> None:
-        self.out = ctypes.create_string_buffer(1 << 16)
+_ROOM = 1 << 16
+_rooms: List[Any] = []  # for what calls write, those that nobody uses
 
 
-_room = _Room()
+def _room() -> Any:
+    """Room for what a call writes. It is of nobody else until it is put back: another thread, a finalizer or a signal
+    handler that calls meanwhile has one of its own."""
+    try:
+        return _rooms.pop()
+    except IndexError:
+        return ctypes.create_string_buffer(_ROOM)
 
 
 def text_of(call: Any, *arguments: Any) -> Tuple[int, Optional[bytes]]:
     """What a call returns, and what it writes; it says how long that is where the room is too short."""
-    out = _room.out
-    length: int = call(*arguments, out, len(out))
-    if length > len(out):
+    room = out = _room()
+    length: int = call(*arguments, out, _ROOM)
+    if length > _ROOM:
         out = ctypes.create_string_buffer(length)
         length = call(*arguments, out, length)
-    return length, ctypes.string_at(out, length) if length >= 0 else None
+    found = out[:length] if length >= 0 else None
+    _rooms.append(room)
+    return length, found
 
 
-def encoding_of(call: Any, measure: Any, message: bytes) -> Tuple[int, Optional[memoryview]]:
-    """What a call that writes an encoding returns and writes; the view ends with the thread's next call."""
-    out = _room.out
-    length: int = call(message, len(message), out, len(out))
+def encoding_of(call: Any, measure: Any, message: bytes) -> Tuple[int, Optional[bytes]]:
+    """What a call that writes an encoding returns, and what it writes."""
+    room = out = _room()
+    length: int = call(message, len(message), out, _ROOM)
     if length == NO_ROOM:
         out = ctypes.create_string_buffer(measure(message, len(message)))
         length = call(message, len(message), out, len(out))
-    return length, memoryview(out)[:length] if length >= 0 else None
+    found = out[:length] if length >= 0 else None
+    _rooms.append(room)
+    return length, found

@@ -7,6 +7,7 @@ import hashlib
 import itertools
 import json
 import os
+import re
 import struct
 from typing import Any, Dict, Iterable, Iterator, List, NamedTuple, NoReturn, Optional, Tuple, Union
 
@@ -69,12 +70,19 @@ class Change(NamedTuple):
     new: Any
 
 
+def _pickled(kind: Any, number: Optional[int], flags: int, payload: bytes, *rest: Any) -> Any:
+    return kind(number, flags, memoryview(payload), *rest)
+
+
 class Attribute(NamedTuple):
     """An attribute: its number, its two flag bits (0x8000 and 0x4000), and its payload, a view of the message."""
 
     number: int
     flags: int
     payload: memoryview
+
+    def __reduce__(self) -> Tuple[Any, ...]:
+        return _pickled, (type(self), self.number, self.flags, bytes(self.payload))
 
 
 class Refusal(NamedTuple):
@@ -92,6 +100,16 @@ class Refusal(NamedTuple):
     fault: str
     offset: int
     path: Tuple[int, ...]
+
+    def __reduce__(self) -> Tuple[Any, ...]:
+        return _pickled, (type(self), self.number, self.flags, bytes(self.payload), *self[3:])
+
+
+def is_chosen(name: str, value: bool) -> bool:
+    """This value of a parameter, which is True or False."""
+    if value is not True and value is not False:
+        raise TypeError(f"{name} is True or False, and not {value!r}")
+    return value
 
 
 def _own(message: Bytes) -> bytes:
@@ -123,8 +141,9 @@ def check(message: Bytes) -> None:
         _refuse(number, message)
 
 
-def _encoded(calls: Tuple[Any, Any], message: Bytes, lenient: bool) -> memoryview:
+def _encoded(calls: Tuple[Any, Any], message: Bytes, lenient: bool) -> bytes:
     message = _own(message)
+    is_chosen("lenient", lenient)
     length, encoding = encoding_of(calls[lenient], _LENGTH[lenient], message)
     if encoding is None:
         _refuse(length, message, lenient)
@@ -140,13 +159,13 @@ def canonical(message: Bytes, lenient: bool = False) -> bytes:
     Raises `Fault`; with lenient only where the header is too short, where an attribute does not fit, `unfit` and
     `empty-ports`. The calls that have it raise NotImplementedError where the library has no lenient reading.
     """
-    return _encoded(_CANONICAL, message, lenient).tobytes()
+    return _encoded(_CANONICAL, message, lenient)
 
 
 def state(message: Bytes, lenient: bool = False) -> bytes:
     """The state encoding: the canonical one in which what an idle kernel moves by itself is zero. Takes lenient, and
     raises `Fault`, as `canonical` does."""
-    return _encoded(_STATE, message, lenient).tobytes()
+    return _encoded(_STATE, message, lenient)
 
 
 def key(message: Bytes, lenient: bool = False) -> str:
@@ -158,7 +177,8 @@ def key(message: Bytes, lenient: bool = False) -> str:
 
     Raises `Fault`, as `canonical` does.
     """
-    return _FORMS[lenient] + hashlib.sha256(_encoded(_STATE, message, lenient)).hexdigest()
+    digest = hashlib.sha256(_encoded(_STATE, message, lenient)).hexdigest()
+    return _FORMS[lenient] + digest
 
 
 def _refuse_one(number: int, old: bytes, new: bytes, lenient: bool = False) -> NoReturn:
@@ -179,7 +199,7 @@ def _same(call: Any, a: bytes, b: bytes) -> bool:
 def same_message(a: Bytes, b: Bytes, lenient: bool = False) -> bool:
     """Whether both mean the same message. Takes lenient as `canonical` does, and raises what that raises, of the first
     that is refused, and MemoryError."""
-    if lenient:
+    if is_chosen("lenient", lenient):
         return canonical(a, True) == canonical(b, True)
     return _same(library.linkwire_same_message, _own(a), _own(b))
 
@@ -187,7 +207,7 @@ def same_message(a: Bytes, b: Bytes, lenient: bool = False) -> bool:
 def same_state(a: Bytes, b: Bytes, lenient: bool = False) -> bool:
     """Whether both have one state encoding. Takes lenient as `canonical` does, and raises what that raises, of the
     first that is refused, and MemoryError."""
-    if lenient:
+    if is_chosen("lenient", lenient):
         return state(a, True) == state(b, True)
     return _same(library.linkwire_same_state, _own(a), _own(b))
 
@@ -226,9 +246,9 @@ def _order(kernel: Optional[str]) -> int:
 
 
 def _flags(lenient: bool, counters: bool = False) -> int:
-    if lenient and not _HAS_LENIENT:  # an older library passes over flags that it does not know
+    if is_chosen("lenient", lenient) and not _HAS_LENIENT:  # an older library passes over flags that it does not know
         library.linkwire_lenient_form()
-    return _LENIENT * lenient + _COUNTERS * counters
+    return _LENIENT * lenient + _COUNTERS * is_chosen("counters", counters)
 
 
 def show_json(message: Bytes, kernel: Optional[str] = None, lenient: bool = False) -> bytes:
@@ -305,6 +325,7 @@ def _fill(found: Dict[str, Any], settings: List[bytes]) -> bool:
 def diff(old: Bytes, new: Bytes, kernel: Optional[str] = None, counters: bool = False,
          lenient: bool = False) -> List[Change]:
     """What changed from one message to another, as linkdiff(1) tells it; an empty list where the states are equal.
+    IFLA_EVENT, which announcements alone have, is left out of both first.
 
     kernel, lenient: as for `show`, of both messages.
     counters: compares the canonical encodings, so that what moves by itself is there too.
@@ -325,13 +346,23 @@ _FRAME = struct.Struct("<HH").unpack_from
 _KINDS = ("frame-short", "frame-over", "frame-under")
 
 
+def _bytes_of(message: Bytes) -> memoryview:
+    """A view of the bytes, whatever the items of another view are."""
+    view = memoryview(message)
+    if type(message) is bytes:
+        return view
+    if view.format == "B" and view.ndim == 1 and view.c_contiguous:
+        return view
+    return view.cast("B") if view.c_contiguous else memoryview(view.tobytes())
+
+
 def attributes(message: Bytes, start: int = HEADER_SIZE) -> Iterator[Attribute]:
     """The attributes of a message in turn; of a list in a payload, with 0 for `start`.
 
     Raises `Fault` (`frame-short`, `frame-over`, `frame-under`) where the next one does not fit, after those in front
     of it. Nothing else is looked at: `check` first what comes from others.
     """
-    view = memoryview(message)
+    view = _bytes_of(message)
     at, end = start, len(view)
     while at < end:
         size, kind = _FRAME(view, at) if end - at >= 4 else (end - at, 0)
@@ -342,29 +373,33 @@ def attributes(message: Bytes, start: int = HEADER_SIZE) -> Iterator[Attribute]:
         at += (size + 3) & ~3
 
 
-def pick(message: Bytes, *numbers: int, start: int = HEADER_SIZE) -> Dict[int, memoryview]:
+def pick(message: Bytes, *numbers: int, start: int = HEADER_SIZE, last: bool = False) -> Dict[int, memoryview]:
     """The payloads of attributes, by number; of one that comes twice the first, and nothing of one that does not come.
+
+    last: of one that comes twice the last, as the kernel and `show` have it.
 
     It looks no further than it has to, and raises what `attributes` raises.
     """
-    view = memoryview(message)
+    view = _bytes_of(message)
     at, end = start, len(view)
     found: Dict[int, memoryview] = {}
-    while end - at >= 4 and len(found) < len(numbers):
+    left = len(view) if last else len(numbers)
+    while end - at >= 4 and len(found) < left:
         size, kind = _FRAME(view, at)
         if size < 4 or size > end - at:
             break
         if kind & 0x3FFF in numbers:
-            found.setdefault(kind & 0x3FFF, view[at + 4 : at + size])
+            if last or kind & 0x3FFF not in found:
+                found[kind & 0x3FFF] = view[at + 4 : at + size]
         at += (size + 3) & ~3
-    if at < end and len(found) < len(numbers):
+    if at < end and len(found) < left:
         next(attributes(view, at))  # which does not fit
     return found
 
 
 def text(payload: Bytes) -> str:
     """A text of a payload, without the NUL at its end. Raises UnicodeDecodeError; none does that `check` accepts."""
-    found = bytes(payload)
+    found = _own(payload)
     return (found[:-1] if found[-1:] == b"\0" else found).decode()
 
 
@@ -410,22 +445,42 @@ def u64(value: int) -> bytes:
     return _packed("<Q", "u64", value)
 
 
+def mac(address: str) -> bytes:
+    """The bytes of an address as `02:00:00:00:00:01` or `02-00-00-00-00-01`, as IFLA_ADDRESS has it: six, or eight or
+    twenty as other devices have. Raises ValueError where it is none."""
+    found = re.fullmatch("[0-9A-Fa-f]{2}(?:([:-])[0-9A-Fa-f]{2}(?:\\1[0-9A-Fa-f]{2})*)?", address)
+    if found is None or len(address) not in (17, 23, 59):
+        raise ValueError(f"{address!r} is no address of 6, 8 or 20 bytes")
+    return bytes.fromhex(address.replace(found[1], ""))
+
+
+# the attributes of a list that are texts, by the numbers that lead to it; what a kind of device has is not known here
+_TEXTS: Dict[Tuple[int, ...], Tuple[int, ...]] = {
+    (): (numbers.IFLA_IFNAME, numbers.IFLA_QDISC, numbers.IFLA_IFALIAS, numbers.IFLA_PHYS_PORT_NAME,
+         numbers.IFLA_ALT_IFNAME, numbers.IFLA_PARENT_DEV_NAME, numbers.IFLA_PARENT_DEV_BUS_NAME),
+    (numbers.IFLA_PROP_LIST,): (numbers.IFLA_ALT_IFNAME,),
+    (numbers.IFLA_LINKINFO,): (numbers.IFLA_INFO_KIND, numbers.IFLA_INFO_SLAVE_KIND),
+}
+
 # a list holds pairs of a number and a value again
 Value = Union[bytes, bytearray, memoryview, str, List[Any]]
 
 
-def _payload(value: Value) -> bytes:
+def _payload(value: Value, path: Tuple[int, ...]) -> bytes:
     if isinstance(value, str):
+        if path[:-1] in _TEXTS and path[-1] not in _TEXTS[path[:-1]] and (path[1:] or path[0] in _NAMES):
+            name = " ".join([_NAMES.get(path[0], str(path[0])), *map(str, path[1:])])
+            raise TypeError(f"{name} is no text, as {value!r} is: bytes, which mac, u32 and the like make")
         return value.encode() + b"\0"
     if isinstance(value, list):
-        return b"".join(_frame(kind, it) for kind, it in value)
+        return b"".join(_frame(kind, it, path) for kind, it in value)
     if isinstance(value, int):
         raise TypeError(f"{value!r} has no width: u8, u16, be16, u32, be32 or u64")
     return _own(value)
 
 
-def _frame(kind: int, value: Value) -> bytes:
-    payload = _payload(value)
+def _frame(kind: int, value: Value, path: Tuple[int, ...] = ()) -> bytes:
+    payload = _payload(value, (*path, kind & 0x3FFF))
     if len(payload) > 65531:
         raise ValueError(f"attribute {kind & 0x3FFF} would have {len(payload)} bytes, and 65531 are the most")
     return u16(4 + len(payload)) + u16(kind) + payload + bytes(-len(payload) % 4)
@@ -435,10 +490,12 @@ def build(attributes: Iterable[Tuple[int, Value]] = (), *, family: int = 0, inde
           change: int = 0, link_type: int = 0) -> bytes:
     """A message: the header and attributes, pairs of a number and a value.
 
-    A text is written with a NUL behind it, bytes as they are, a list as a nest. A number has a width: `u32(1400)`. The
-    number of a nest is written as it is given: with NLA_F_NESTED where the kernel demands it.
+    A text is written with a NUL behind it, bytes as they are, a list as a nest. A number has a width: `u32(1400)`, and
+    an address is `mac("02:00:00:00:00:01")`. The number of a nest is written as it is given: with NLA_F_NESTED where
+    the kernel demands it.
 
-    Raises ValueError where a number or a value has no room, TypeError at a value of another type.
+    Raises ValueError where a number or a value has no room, TypeError at a value of another type, and at a str where
+    linux/if_link.h has no text. What is in the data of a kind is not looked at.
     """
     try:
         header = struct.pack("<BxHiII", family, link_type, index, flags, change)

@@ -1,8 +1,11 @@
 """Which links came, went or changed: what linkdiff(1) says of lines, as values."""
 
-from typing import Dict, Iterable, List, NamedTuple, Optional, Set, Tuple
+import struct
+import time as clock
+from typing import Dict, FrozenSet, Iterable, List, NamedTuple, Optional, Sequence, Set, Tuple
 
-from .messages import HEADER_SIZE, Bytes, Change, Fault, attributes, canonical, diff, state, text
+from .messages import (HEADER_SIZE, Bytes, Change, Fault, attributes, canonical, diff, is_chosen, pick, state,
+                       text)
 from .numbers import IFLA_EVENT, IFLA_IFNAME, IFLA_INFO_KIND, IFLA_LINKINFO, IFLA_WIRELESS
 
 AF_UNSPEC, AF_BRIDGE, AF_INET6 = 0, 7, 10
@@ -14,12 +17,16 @@ class Event(NamedTuple):
     """What happened to a link.
 
     change: `new`, `gone` or `changed`; `lost`, where messages were lost, and what came, went or changed meanwhile
-        follows with the next dump; or `fault`, where a message is refused, whose link is there all the same.
+        follows with the next dump; or `fault`, where a message is refused, whose link is there all the same. With
+        `dumps` also `done`, behind the last event of a dump that was whole, of its family; and `again`, where by then
+        all families are whole again that were so before messages were lost.
     host: the machine, as `Watch` was given it; empty where it was given none.
     family, ifindex, ifname: of the link, its new name; None where they are not known.
     changes: where it changed, what did.
     message: the new message, or the last one where it went; the refused bytes of a fault.
     fault: the `Fault`.
+    time: the word `time=` of the line, as it stands there; of what the kernel said when it was told, in UTC, as
+        linkdump(1) writes it.
     """
 
     change: str
@@ -27,14 +34,15 @@ class Event(NamedTuple):
     family: Optional[int] = None
     ifindex: Optional[int] = None
     ifname: Optional[str] = None
-    changes: List[Change] = []
+    changes: Sequence[Change] = ()
     message: bytes = b""
     fault: Optional[Fault] = None
+    time: str = ""
 
     def __repr__(self) -> str:
         """Without the message, which is long."""
         return "Event(" + ", ".join(f"{name}={value!r}" for name, value in zip(self._fields, self)
-                                    if name != "message" and value not in ("", None, [])) + ")"
+                                    if name != "message" and value not in ("", None, ())) + ")"
 
 
 class Line(NamedTuple):
@@ -42,6 +50,12 @@ class Line(NamedTuple):
 
     words: Dict[str, str]
     message: Optional[bytes]
+
+
+def utc() -> str:
+    """Now, as linkdump(1) writes it."""
+    now = clock.time_ns()
+    return clock.strftime("%Y-%m-%dT%H:%M:%S", clock.gmtime(now // 10**9)) + f".{now % 10**9:09}Z"
 
 
 def _parted(line: str) -> Tuple[Dict[str, str], str]:
@@ -68,18 +82,27 @@ def read_line(line: str) -> Line:
         return Line(words, None)
     if digits.startswith("ok "):
         digits = digits[3:]
-    message = bytes.fromhex(digits)
+    try:
+        message = bytes.fromhex(digits)
+    except ValueError:
+        message = b""
     if 2 * len(message) != len(digits):  # it passes over blanks
-        raise ValueError(f"no hexadecimal digits: {digits[:40]!r}")
+        raise ValueError(f"neither words alone nor hexadecimal digits: {digits[:40]!r}")
     return Line(words, message)
-
-
-def _first(payload: Bytes, number: int, start: int = 0) -> Optional[memoryview]:
-    return next((it.payload for it in attributes(payload, start) if it.number == number), None)
 
 
 def _name(message: bytes) -> Optional[str]:
     """The name that a message has, the last one of several; one that is refused is none."""
+    found = pick(message, IFLA_IFNAME, last=True).get(IFLA_IFNAME)
+    if found is None:
+        return None
+    try:
+        return text(found)
+    except UnicodeDecodeError:
+        return _name_of_several(message)
+
+
+def _name_of_several(message: bytes) -> Optional[str]:
     name = None
     for it in attributes(message):
         if it.number == IFLA_IFNAME:
@@ -90,14 +113,17 @@ def _name(message: bytes) -> Optional[str]:
     return name
 
 
-def _kind(message: bytes) -> bytes:
-    """The kind of a link, or nothing."""
-    try:
-        info = _first(message, IFLA_LINKINFO, HEADER_SIZE)
-        found = None if info is None else _first(info, IFLA_INFO_KIND)
-    except Fault:
-        return b""
-    return b"" if found is None else bytes(found).split(b"\0")[0]
+def kind_of(message: bytes) -> Optional[bytes]:
+    """The kind that a message names: the last IFLA_INFO_KIND of the last IFLA_LINKINFO; an empty one is none, and so is
+    one that ends behind its list."""
+    info = bytes(pick(message, IFLA_LINKINFO, last=True).get(IFLA_LINKINFO, b""))
+    found, at = None, 0
+    while len(info) - at >= 4:
+        size, number = struct.unpack_from("<HH", info, at)
+        if number & 0x3FFF == IFLA_INFO_KIND:
+            found = info[at + 4:at + size] if 4 <= size <= len(info) - at else None
+        at += max(size + 3 & ~3, 4)
+    return None if found is None or found[:1] == b"\0" else found.split(b"\0")[0]
 
 
 def _without_event(message: bytes) -> bytes:
@@ -128,19 +154,30 @@ def _is_wireless_alone(message: bytes) -> bool:
 
 
 class _Seen:
-    """Of a link the place of its last line, and the last message that was not refused."""
+    """Of a link the place of its last line, the last message that was not refused, and the last kind that one named."""
+
+    __slots__ = "at", "message", "encoding", "kind"
 
     def __init__(self) -> None:
         self.at = 0
         self.message: Optional[bytes] = None
         self.encoding = b""
+        self.kind: Optional[bytes] = None
 
 
 class _Host:
+    __slots__ = "known", "begun", "whole", "lost_at", "missing"
+
     def __init__(self) -> None:
         self.known: Dict[Key, _Seen] = {}
         self.begun: Optional[Tuple[str, int]] = None
         self.whole: Set[int] = set()
+        self.lost_at = 0  # the place of the last loss, where not all is whole again
+        self.missing: Set[int] = set()  # the families that are not, of those that were
+
+    def is_empty(self) -> bool:
+        """Whether nothing is known: it is as a host of which nothing was said."""
+        return not (self.known or self.begun or self.whole or self.lost_at)
 
 
 class Watch:
@@ -153,16 +190,20 @@ class Watch:
         compared with it.
     lenient: an attribute that is refused hides none of the others; there is a `fault` only where `canonical` raises it
         with lenient.
+    dumps: tells `done` too, where a dump was whole, and `again`, where all is whole again after a loss; linkdiff has
+        no lines of these.
 
     Each call returns what happened, in turn, and raises MemoryError, and NotImplementedError where the library lacks
-    `linkwire_diff` or lenient reading.
+    `linkwire_diff` or lenient reading. Their `time` is that of the events.
     """
 
     def __init__(self, counters: bool = False, changes_only: bool = False, kernel: Optional[str] = None,
-                 lenient: bool = False) -> None:
-        self._counters, self._changes_only, self._kernel, self._lenient = counters, changes_only, kernel, lenient
+                 lenient: bool = False, dumps: bool = False) -> None:
+        self._counters, self._changes_only = is_chosen("counters", counters), is_chosen("changes_only", changes_only)
+        self._lenient, self._dumps = is_chosen("lenient", lenient), is_chosen("dumps", dumps)
+        self._kernel = kernel
         self._hosts: Dict[str, _Host] = {}
-        self._at = 0
+        self._at, self._now = 0, ""
 
     def _of(self, host: str) -> _Host:
         found = self._hosts.get(host)
@@ -176,73 +217,102 @@ class Watch:
         self._of(host).begun = dump, self._at
         return []
 
-    def done(self, dump: str, family: int, host: str = "") -> List[Event]:
+    def done(self, dump: str, family: int, host: str = "", time: str = "") -> List[Event]:
         """The dump ended, and had all links of the family. One that did not begin ends nothing."""
-        self._at += 1
+        self._at, self._now = self._at + 1, time
         it = self._of(host)
         if it.begun is None or it.begun[0] != dump:
+            self._drop(host)
             return []
         since = it.begun[1]
         families = (AF_UNSPEC, AF_BRIDGE, AF_INET6) if family == AF_UNSPEC else (family,)
         missed = [key for key, seen in it.known.items() if key[0] in families and seen.at < since
                   and self._last(it, (family, key[1])) < since]
         it.whole.add(family)
-        return self._end(host, it, sorted(missed))
+        told = self._end(host, it, sorted(missed))
+        return told + self._whole(host, it, family, since) if self._dumps else told
+
+    def _whole(self, host: str, it: _Host, family: int, since: int) -> List[Event]:
+        told = [Event("done", host, family, time=self._now)]
+        if it.lost_at and since > it.lost_at:
+            it.missing.discard(family)
+            if not it.missing:
+                it.lost_at = 0
+                told.append(Event("again", host, time=self._now))
+        return told
 
     @staticmethod
     def _last(it: _Host, key: Key) -> int:
         seen = it.known.get(key)
         return 0 if seen is None else seen.at
 
-    def lost(self, host: str = "") -> List[Event]:
+    def lost(self, host: str = "", time: str = "") -> List[Event]:
         """Messages were lost."""
-        self._at += 1
-        return [Event("lost", host)]
+        self._at, self._now = self._at + 1, time
+        if self._dumps:
+            it = self._of(host)
+            it.lost_at, it.missing = self._at, set(it.whole)
+        return [Event("lost", host, time=time)]
 
     def blind(self, host: str = "") -> List[Event]:
         """Something came that cannot be read: the dump that runs ends nothing."""
         self._at += 1
         self._of(host).begun = None
+        self._drop(host)
         return []
+
+    def _drop(self, host: str) -> None:
+        """Forgets a host of which nothing is known: many may come and go."""
+        if self._hosts[host].is_empty():
+            del self._hosts[host]
 
     def _end(self, host: str, it: _Host, keys: Iterable[Key]) -> List[Event]:
         told = []
         for key in keys:
             seen = it.known.pop(key, None)
             if seen is not None and seen.message is not None:
-                told.append(Event("gone", host, *key, _name(seen.message), message=seen.message))
+                told.append(self._event("gone", host, key, seen.message))
         return told
+
+    def _event(self, change: str, host: str, key: Key, message: bytes, changes: Sequence[Change] = ()) -> Event:
+        return Event(change, host, *key, _name(message), changes, message, None, self._now)
+
+    def _fault_of(self, host: str, key: Tuple[Optional[int], Optional[int]], message: bytes,
+                  fault: Optional[Fault]) -> Event:
+        return Event("fault", host, *key, message=message, fault=fault, time=self._now)
 
     @staticmethod
     def _parts(key: Key) -> List[Key]:
         return [(AF_BRIDGE, key[1]), (AF_INET6, key[1])] if key[0] == AF_UNSPEC else []
 
-    def message(self, message: Bytes, is_gone: bool = False, host: str = "",
-                kernel: Optional[str] = None) -> List[Event]:
+    def message(self, message: Bytes, is_gone: bool = False, host: str = "", kernel: Optional[str] = None,
+                time: str = "") -> List[Event]:
         """A message of a link (RTM_NEWLINK), or that it went (RTM_DELLINK)."""
-        message = bytes(memoryview(message))
+        message, self._now = bytes(memoryview(message)), time
         if len(message) < HEADER_SIZE:
             self.blind(host)
-            return [Event("fault", host, message=message, fault=self._fault(message))]
+            return [self._fault_of(host, (None, None), message, self._fault(message))]
         self._at += 1
         key = message[0], int.from_bytes(message[4:8], "little", signed=True)
         it = self._of(host)
         if is_gone:
-            return self._go(host, it, key, message)
-        if _is_wireless_alone(message) and self._fault(message) is None:
-            return []
-        return self._come(host, it, key, _without_event(message), kernel or self._kernel)
+            told = self._go(host, it, key, message)
+        elif _is_wireless_alone(message) and self._fault(message) is None:
+            told = []
+        else:
+            told = self._come(host, it, key, message, kernel or self._kernel)
+        self._drop(host)
+        return told
 
     def _go(self, host: str, it: _Host, key: Key, message: bytes) -> List[Event]:
         try:
             self._encoding(_without_event(message))
-        except Fault as fault:
-            told = [Event("fault", host, *key, message=message, fault=fault)]
+        except Fault:
+            told = [self._fault_of(host, key, message, self._fault(message))]
             return told + self._end(host, it, [key, *self._parts(key)])
-        seen = it.known.pop(key, None)
         told = []
-        if seen.message is not None if seen is not None else key[0] == AF_UNSPEC:
-            told.append(Event("gone", host, *key, _name(message), message=message))
+        if it.known.pop(key, None) is not None or key[0] == AF_UNSPEC:
+            told.append(self._event("gone", host, key, message))
         return told + self._end(host, it, self._parts(key))
 
     def _encoding(self, message: bytes) -> bytes:
@@ -260,51 +330,61 @@ class Watch:
         if seen is None:
             seen = it.known[key] = _Seen()
         seen.at = self._at
+        given, message = message, _without_event(message)
         try:
             encoding = self._encoding(message)
-        except Fault as fault:
-            return [Event("fault", host, *key, message=message, fault=fault)]
+        except Fault:
+            return [self._fault_of(host, key, given, self._fault(given))]
         if seen.message is not None and seen.encoding == encoding:
             seen.message = message
             return []
-        last, told = seen.message, []
-        if last is not None:
-            kinds = _kind(last), _kind(message)
-            if b"" not in kinds and kinds[0] != kinds[1]:
-                told = self._end(host, it, [key, *self._parts(key)])
-                seen = it.known[key] = _Seen()
-                seen.at, last = self._at, None
-        if last is not None:
-            changes = diff(last, message, kernel, self._counters, self._lenient)
-            told.append(Event("changed", host, *key, _name(message), changes, message))
-        elif key[0] in it.whole or not self._changes_only:
-            told.append(Event("new", host, *key, _name(message), message=message))
-        seen.message, seen.encoding = message, encoding
+        kind, told = kind_of(encoding), []
+        is_other = None not in (kind, seen.kind) and kind != seen.kind
+        if is_other:
+            told = self._end(host, it, [key, *self._parts(key)])
+            seen = it.known[key] = _Seen()
+            seen.at = self._at
+        if seen.message is not None:
+            changes = diff(seen.message, message, kernel, self._counters, self._lenient)
+            told.append(self._event("changed", host, key, message, changes))
+        elif is_other or key[0] in it.whole or not self._changes_only:
+            told.append(self._event("new", host, key, message))
+        seen.message, seen.encoding, seen.kind = message, encoding, seen.kind if kind is None else kind
         return told
 
     def line(self, line: str) -> List[Event]:
-        """A line of linkdump(1), of which `host=`, `type=`, `kernel=`, `seq=`, `port=` and `family=` count.
+        """A line of linkdump(1), of which `host=`, `type=`, `time=`, `kernel=`, `seq=`, `port=` and `family=` count.
 
         Raises ValueError where it is none, after which the dump of its host that runs ends nothing."""
         try:
             words, message = read_line(line)
         except ValueError:
-            self.blind(_parted(line)[0].get("host", ""))
+            words = _parted(line)[0]
+            if words.get("type") not in ("get", "set"):  # which are no links of a dump
+                self.blind(words.get("host", ""))
             raise
-        host, what = words.get("host", ""), words.get("type")
+        host, what, self._now = words.get("host", ""), words.get("type"), words.get("time", "")
         if message is not None:
             if what in ("get", "set"):  # a request
                 fault = self._fault(message)
-                return [] if fault is None else [Event("fault", host, message=message, fault=fault)]
-            return self.message(message, what == "del", host, words.get("kernel"))
+                return [] if fault is None else [self._fault_of(host, (None, None), message, fault)]
+            return self.message(message, what == "del", host, words.get("kernel"), self._now)
         dump = f"{words.get('seq')} {words.get('port')}"
         if what == "begin":
             return self.begin(dump, host)
         if what == "done" and words.get("family", "").isdigit():
-            return self.done(dump, int(words["family"]), host)
-        return self.lost(host) if what == "lost" else []
+            return self.done(dump, int(words["family"]), host, self._now)
+        return self.lost(host, self._now) if what == "lost" else []
 
     def links(self, host: str = "") -> Dict[Key, bytes]:
         """The last message of each link that is there, by family and index; of refusals alone there is none."""
         known = self._hosts[host].known if host in self._hosts else {}
         return {key: seen.message for key, seen in known.items() if seen.message is not None}
+
+    def hosts(self) -> List[str]:
+        """The hosts of which something is known."""
+        return list(self._hosts)
+
+    def whole(self, host: str = "") -> FrozenSet[int]:
+        """The families of a host of which a dump was whole."""
+        return frozenset(self._hosts[host].whole if host in self._hosts else ())

@@ -10,11 +10,13 @@ import faulthandler
 import json
 import os
 import random
+import select
 import socket
 import subprocess
 import sys
 import threading
 import time
+from unittest import mock
 
 import linkwire
 from linkwire import numbers
@@ -64,6 +66,16 @@ def requests(links):
                                 [(numbers.IFLA_ALT_IFNAME, "other")])], index=links_by_name()["one0"]),
                kind=numbers.RTM_NEWLINKPROP, flags=NEW)
     wants("by another name", json.loads(ip("-j", "link", "show", "other"))[0]["ifname"], "one0")
+    long_name = "another-name-that-is-long"
+    links.send(linkwire.build([(numbers.IFLA_PROP_LIST | numbers.NLA_F_NESTED,
+                                [(numbers.IFLA_ALT_IFNAME, long_name)])], index=links_by_name()["one0"]),
+               kind=numbers.RTM_NEWLINKPROP, flags=NEW)
+    for name in "one0", "other", long_name:
+        wants(f"by the name {name}", (name_of(links.get(name)), links.index(name)), ("one0", links_by_name()["one0"]))
+    wants("the name of an index", links.name(links_by_name()["one1"]), "one1")
+    links.send(linkwire.build([(numbers.IFLA_ADDRESS, linkwire.mac("02:00:00:00:00:01"))],
+                              index=links_by_name()["one1"]))
+    wants("an address", linkwire.show(links.get("one1"))["address"], "02:00:00:00:00:01")
     told = []
     long = linkwire.build([(numbers.IFLA_MTU, linkwire.u32(70000))], index=links_by_name()["one0"])
     for message, kind, flags in ((veth("one0", "one1"), numbers.RTM_NEWLINK, NEW),
@@ -108,6 +120,35 @@ def dumps(links):
     wants("dumps with counters", len(links.dump(mask=numbers.RTEXT_FILTER_VF)), len(names()))
     print(f"live: 40 dumps while links come and go, of {min(counts)} to {max(counts)}")
     batch([f"link del stay{it}" for it in range(40)])
+
+
+def filtered(links):
+    """Dumps of a kind, and of what belongs to a link: the kernel leaves out the rest, and what it cannot is left out.
+    """
+    batch(["link add port0 type veth peer name port1", "link add bridge0 type bridge", "link set port0 master bridge0"])
+    bridge, ports = links.index("bridge0"), ["port0"]
+    for words, wanted in (({"kind": "bridge"}, ["bridge0"]), ({"kind": "veth"}, ["port1", "port0"]),
+                          ({"master": "bridge0"}, ports), ({"master": bridge, "kind": "veth"}, ports),
+                          ({"master": bridge, "mask": numbers.RTEXT_FILTER_SKIP_STATS}, ports),
+                          ({"kind": "bridge", "master": bridge}, []), ({"kind": "no-such-kind"}, []),
+                          ({"family": 7, "master": bridge}, ["bridge0", "port0"])):
+        found = [name_of(it) for it in links.dump(**words)]
+        wants(f"a dump of {words}", sorted(set(found)), sorted(set(wanted)))
+    wants("none of a master", "port0" in map(name_of, links.dump(master=0)), False)
+    for words in {"master": "no-such-link"}, {"kind": "veth", "family": 7}:
+        try:
+            links.dump(**words)
+            sys.exit(f"live: a dump of {words}")
+        except (linkwire.KernelError, ValueError):
+            pass
+    asked = []
+    it = mock.patch.object(linkwire.netlink.Socket, "receive", lambda own, *flags: asked.append(
+        linkwire._sockets.parts_of(own.it.recv(1 << 20))) or asked[-1])
+    with it:
+        links.dump(kind="bridge")
+    wants("what the kernel answers", len([part for parts in asked for part in parts if part.kind == 16]), 1)
+    batch(["link del port0", "link del bridge0"])
+    print("live: dumps of a kind and of a master")
 
 
 def monitors(links):
@@ -318,6 +359,125 @@ async def turns(links):
     print("live: asyncio: watch and monitor")
 
 
+async def closes_tasks(links):
+    """What `close` ends: a task that reads, also by another thread; and the next stream hears all."""
+    for close in "here", "in a thread":
+        stream = links.watch(changes_only=True)
+        number = stream.fileno()
+        task = asyncio.ensure_future(anext_of(stream))
+        await asyncio.sleep(.1)
+        if close == "here":
+            stream.close()
+        else:
+            await asyncio.to_thread(stream.close) if hasattr(asyncio, "to_thread") else stream.close()
+        wants(f"a task whose stream is closed {close}", await asyncio.wait_for(task, 5), None)
+        wants("a number of what is closed", stream.fileno(), -1)
+        with links.monitor() as news:
+            wants("the same descriptor", news.fileno(), number)
+            task = asyncio.ensure_future(anext_of(news))
+            await asyncio.sleep(.05)
+            ip("link", "set", "lo", "txqueuelen", "21" if close == "here" else "22")
+            wants("what the next stream says", name_of((await asyncio.wait_for(task, 5)).message), "lo")
+
+
+async def anext_of(stream):
+    async for it in stream:
+        return it
+
+
+def closes(links):
+    """What `close` ends: a thread that polls, a loop of a handler's; after it nothing asks anywhere."""
+    asyncio.run(closes_tasks(links))
+    stream, found = links.watch(changes_only=True), []
+    thread = threading.Thread(target=lambda: found.append(list(stream)))
+    thread.start()
+    time.sleep(.2)
+    stream.close()
+    thread.join(5)
+    wants("a thread whose stream is closed", (thread.is_alive(), found), (False, [[]]))
+    wants("what is ready then", (stream.ready(), stream.due(), list(stream)), ([], None, []))
+    before = len(os.listdir("/proc/self/fd"))
+    for _ in range(20):
+        one = linkwire.Links()
+        with one.watch() as watch:
+            next(watch)
+        one.close()
+    wants("descriptors that are left", len(os.listdir("/proc/self/fd")), before)
+    one.close()
+    told = set()
+    for call in one.dump, one.monitor, one.watch, lambda: one.get("lo"), lambda: one.send(linkwire.build(index=1)):
+        try:
+            call()
+        except ValueError as error:
+            told.add(str(error))
+    wants("why nothing is asked after close", told, {"these Links are closed"})
+    answers = links.send(linkwire.build(), kind=numbers.RTM_GETLINK, flags=0x300)
+    wants("a dump that is sent", [name_of(it) for it in answers], [name_of(it) for it in links.dump()])
+    print("live: close: tasks, threads and Links")
+
+
+def asks_within(links):
+    """A finalizer or a handler of a signal asks in the middle of a request."""
+    import signal
+
+    count = 0
+
+    def handler(*_):
+        nonlocal count
+        count += 1
+        wants("asked within", name_of(links.get(index=1)), "lo")
+
+    last = signal.signal(signal.SIGALRM, handler)
+    signal.setitimer(signal.ITIMER_REAL, .001, .001)
+    try:
+        while count < 200:
+            wants("asked", name_of(links.get("lo")), "lo")
+    finally:
+        signal.setitimer(signal.ITIMER_REAL, 0)
+        signal.signal(signal.SIGALRM, last)
+    print("live: requests within requests")
+
+
+async def steps(links):
+    """While a dump of many links is read other tasks have their turn, each few milliseconds."""
+    longest, last, end = 0.0, 0.0, False
+
+    async def ticks():
+        nonlocal longest, last
+        while not end:
+            now = time.thread_time()
+            longest, last = max(longest, now - last), now
+            await asyncio.sleep(0)
+
+    count, wanted = 0, len(names())
+    with links.watch() as watch:
+        last = time.thread_time()
+        ticking = asyncio.ensure_future(ticks())
+        async for it in watch:
+            count += it.family == 0
+            if count == wanted:
+                break
+        end = True
+        await ticking
+    return longest
+
+
+def many(links):
+    """What there is of a thousand links is read in short steps. They are left to the end of the namespace."""
+    batch([f"link add many{it} type veth peer name much{it}" for it in range(500)])
+    longest = min(asyncio.run(steps(links)) for _ in range(3))
+    wants(f"a step of at most 5 ms of the processor, and not {longest * 1000:.1f}", longest < .005, True)
+    with links.watch() as watch:
+        found, waits = [], []
+        while len(found) < 1000:
+            begun = time.thread_time()
+            found += watch.ready(.001)
+            waits.append(time.thread_time() - begun)
+            select.select([watch] if watch.due() != 0 else [], [], [], watch.due())
+        wants("ready with a limit", max(waits) < .02, True)
+    print(f"live: {len(names())} links: the longest step takes {longest * 1000:.1f} ms of the processor")
+
+
 def namespaces():
     """Links of another namespace, by a path."""
     with subprocess.Popen(["unshare", "-n", "sleep", "60"]) as other:
@@ -361,6 +521,7 @@ def main():
     with linkwire.Links() as links:
         requests(links)
         dumps(links)
+        filtered(links)
         monitors(links)
         watches(links)
         loses(links)
@@ -368,7 +529,10 @@ def main():
         asks_again(links)
         leniently(links)
         asyncio.run(turns(links))
-    namespaces()
+        closes(links)
+        asks_within(links)
+        namespaces()
+        many(links)
     print("live: ok")
 
 

@@ -1,5 +1,7 @@
 """The calls of the package on stored messages of kernels, on damaged ones, and on what is built."""
 
+import array
+import copy
 import ctypes
 import json
 import os
@@ -299,6 +301,28 @@ class Attributes(unittest.TestCase):
         self.assertIsInstance(found[0].payload, memoryview)
         self.assertEqual((linkwire.text(found[0].payload), linkwire.number(found[1].payload)), ("lo", 65536))
 
+    def test_views(self):
+        """Views and arrays of other items are their bytes."""
+        wide = array.array("I", LO + bytes(-len(LO) % 4))
+        for it in memoryview(LO), memoryview(LO).cast("I"), memoryview(LO).cast("B", (2, 16)), bytearray(LO), wide:
+            self.assertEqual(list(linkwire.attributes(it)), list(linkwire.attributes(LO)))
+            self.assertEqual(linkwire.pick(it, 3, 4), linkwire.pick(LO, 3, 4))
+            self.assertEqual(linkwire.key(it), linkwire.key(LO))
+        self.assertEqual(linkwire.pick(memoryview(LO + LO)[:2 * len(LO)][::1], 3), linkwire.pick(LO, 3))
+        spread = memoryview(bytes(it for byte in LO for it in (byte, 0)))[::2]
+        self.assertEqual(linkwire.pick(spread, 3, 4), linkwire.pick(LO, 3, 4))
+        for call in linkwire.pick, lambda it: list(linkwire.attributes(it)), linkwire.text:
+            for wrong in 5, "lo", None:
+                self.assertRaises(TypeError, call, wrong)
+
+    def test_last(self):
+        """Of an attribute that comes twice pick has the first one, or the last."""
+        twice = LO + LO[16:].replace(b"lo", b"l1")
+        self.assertEqual(linkwire.pick(twice, 3)[3], b"lo\0")
+        self.assertEqual(linkwire.pick(twice, 3, last=True), {3: b"l1\0"})
+        self.assertEqual(linkwire.pick(twice, 3, 4, 9, last=True), {3: b"l1\0", 4: linkwire.u32(65536)})
+        self.assertRaises(linkwire.Fault, linkwire.pick, twice + b"\0", 3, last=True)
+
     def test_faults(self):
         self.assertEqual(linkwire.pick(LO, 4, 3, 9), {3: b"lo\0", 4: linkwire.u32(65536)})
         self.assertEqual(linkwire.pick(LO + LO[16:].replace(b"lo", b"l1"), 3, 4, 9)[3], b"lo\0")
@@ -334,6 +358,54 @@ class Attributes(unittest.TestCase):
         self.assertRaises(ValueError, linkwire.build, [(18, [(1, bytes(40000)), (2, bytes(40000))])])
         self.assertRaises(ValueError, linkwire.build, [(1 << 16, b"")])
         self.assertRaises(ValueError, linkwire.build, index=1 << 31)
+
+    def test_texts(self):
+        """A str is refused where an attribute is no text; what a kind of device has is not known."""
+        for number, where in ((numbers.IFLA_ADDRESS, "IFLA_ADDRESS"), (numbers.IFLA_MTU, "IFLA_MTU"),
+                              (numbers.IFLA_PROTINFO, "IFLA_PROTINFO"), (numbers.IFLA_STATS64, "IFLA_STATS64")):
+            self.assertRaisesRegex(TypeError, f"^{where} is no text, as '02:00", linkwire.build,
+                                   [(number, "02:00:00:00:00:01")])
+        for list_ in [(numbers.IFLA_LINKINFO, [(2, "a")])], [(numbers.IFLA_PROP_LIST | 0x8000, [(1, "a")])]:
+            self.assertRaisesRegex(TypeError, r"^IFLA_\w+ [12] is no text", linkwire.build, list_)
+        for list_ in ([(numbers.IFLA_IFNAME, "a"), (numbers.IFLA_IFALIAS, "b"), (numbers.IFLA_QDISC, "c"), (999, "d"),
+                       (numbers.IFLA_PROP_LIST | 0x8000, [(numbers.IFLA_ALT_IFNAME, "e")]),
+                       (numbers.IFLA_LINKINFO, [(1, "veth"), (4, "bridge"), (2, [(77, "text"), (78, [(1, "f")])])])],):
+            linkwire.check(linkwire.build(list_))
+
+    def test_mac(self):
+        self.assertEqual(linkwire.mac("02:00:5e:00:fF:01"), b"\2\0\x5e\0\xff\1")
+        self.assertEqual(linkwire.mac("02-00-5E-00-ff-01"), b"\2\0\x5e\0\xff\1")
+        for length in 6, 8, 20:
+            self.assertEqual(linkwire.mac(bytes(range(length)).hex(":")), bytes(range(length)))
+        for wrong in ("", "02", "02:00:00:00:00", "02:00:00:00:00:01:02", "02:00:00:00:00-01", "020000000001",
+                      "2:0:0:0:0:1", "02:00:00:00:00:0g", "02:00:00:00:00:01 ", "02:00:00:00:00:01\n",
+                      "٠٢:00:00:00:00:01"):
+            self.assertRaisesRegex(ValueError, "is no address", linkwire.mac, wrong)
+
+    def test_pickles(self):
+        message = linkwire.build([(20, b"\xe9"), (22, [(1, [(2, b"\1")])])]) + b"abc"
+        attributes, refusals = list(linkwire.attributes(message[:-3])), list(linkwire.refusals(message))
+        for found in attributes, refusals:
+            for again in pickle.loads(pickle.dumps(found)), copy.deepcopy(found):
+                self.assertEqual(again, found)
+                self.assertEqual([type(it.payload) for it in again], [memoryview] * len(found))
+                self.assertEqual([type(it) for it in again], [type(it) for it in found])
+        event, = linkwire.Watch().message(message)
+        self.assertEqual(pickle.loads(pickle.dumps(event)).fault.cause, "not-utf8")
+
+    def test_chosen(self):
+        """What is True or False is nothing else."""
+        for call in (linkwire.canonical, linkwire.state, linkwire.key, linkwire.show, linkwire.show_json,
+                     lambda *it, **words: linkwire.same_message(*it, *it, **words),
+                     lambda *it, **words: linkwire.same_state(*it, *it, **words),
+                     lambda *it, **words: linkwire.diff(*it, *it, **words),
+                     lambda *_, **words: linkwire.Watch(**words),
+                     lambda *it, **words: list(linkwire.show_all(it, **words))):
+            for wrong in "yes", "", 1, 0, None:
+                self.assertRaisesRegex(TypeError, "^lenient is True or False, and not", call, LO, lenient=wrong)
+        for name in "counters", "changes_only", "dumps":
+            self.assertRaisesRegex(TypeError, f"^{name} is True or False", linkwire.Watch, **{name: "no"})
+        self.assertRaisesRegex(TypeError, "^counters is True", linkwire.diff, LO, LO, counters="no")
 
     def test_put(self):
         """An attribute that is built is one that linkwire_put writes."""

@@ -16,6 +16,7 @@ sys.dont_write_bytecode = True
 import hosts  # noqa: E402
 
 EVENT = linkwire.build([(numbers.IFLA_EVENT, linkwire.u32(1))])[16:]
+LO_EVENT = bytes(16) + EVENT
 TYPES = ["type=new "] * 6 + ["type=del ", "type=get ", "type=set ", "type=x ", ""]
 LINKDIFF = os.environ.get("LINKDIFF", f"{TOP}/out/linkdiff")
 # attributes that are refused, and a second name
@@ -169,6 +170,43 @@ class Rules(unittest.TestCase):
         self.assertEqual(watch.done("1", 7) + watch.message(other) + watch.begin("2") + watch.done("1", 0), [])
         self.assertNotIn("message", repr(gone))
 
+    def test_fault(self):
+        """What is refused is as it came, and with its own offset."""
+        message = LO_EVENT + linkwire.build([(numbers.IFLA_IFALIAS, b"\xe9")])[16:]
+        for is_gone in False, True:
+            fault, = linkwire.Watch().message(message, is_gone)
+            self.assertEqual((fault.message, fault.fault.message, fault.fault.offset), (message, message, 24))
+
+    def test_dumps(self):
+        """Where a dump was whole, and where all is whole again after a loss."""
+        watch, one = linkwire.Watch(dumps=True), linkwire.build([(3, "a")], index=1).hex()
+        found = [[(it.change, it.host, it.family, it.time) for it in watch.line(f"host=h time=t{at} {line}")]
+                 for at, line in enumerate((
+                     "type=begin seq=1 port=9", f"type=new {one}", "type=done seq=1 port=9 family=0",
+                     "type=begin seq=2 port=9", "type=done seq=2 port=9 family=7", "type=begin seq=3 port=9",
+                     "type=lost", "type=done seq=3 port=9 family=0", "type=begin seq=4 port=9",
+                     "type=done seq=4 port=9 family=7", "type=begin seq=5 port=9", "type=done seq=5 port=9 family=0",
+                     "type=begin seq=6 port=9", "type=done seq=6 port=9 family=0", "type=done seq=6 port=9 family=0"))]
+        self.assertEqual(found, [
+            [], [("new", "h", 0, "t1")], [("done", "h", 0, "t2")], [], [("done", "h", 7, "t4")], [],
+            [("lost", "h", None, "t6")], [("gone", "h", 0, "t7"), ("done", "h", 0, "t7")], [], [("done", "h", 7, "t9")],
+            [], [("done", "h", 0, "t11"), ("again", "h", None, "t11")], [], [("done", "h", 0, "t13")],
+            [("done", "h", 0, "t14")]])
+        self.assertEqual((watch.hosts(), watch.whole("h"), watch.whole("x")), (["h"], {0, 7}, frozenset()))
+        watch = linkwire.Watch(dumps=True)
+        watch.lost()
+        watch.begin("1")
+        self.assertEqual([it.change for it in watch.done("1", 0)], ["done", "again"])
+        self.assertEqual([it.change for it in linkwire.Watch().lost() + linkwire.Watch().done("1", 0)], ["lost"])
+
+    def test_names(self):
+        """A link has its last name that is a text."""
+        watch = linkwire.Watch(lenient=True)
+        for index, (names, wanted) in enumerate(((["a", "b"], "b"), (["a", b"\xe9"], "a"), ([b"\xe9"], None),
+                                                 ([b"\xe9", "b", b"\xe8"], "b"), ([], None)), 1):
+            (new,) = watch.message(linkwire.build([(3, it) for it in names], index=index))
+            self.assertEqual(new.ifname, wanted)
+
 
 class Lines(unittest.TestCase):
     def test_lines(self):
@@ -179,7 +217,7 @@ class Lines(unittest.TestCase):
                              ("", ({}, b"")), ("a=1 ok ", ({"a": "1"}, b""))):
             self.assertEqual(linkwire.read_line(line), wanted)
         for line in ("0", "0g", "ok", "a=1 ok", " 00", "a=1 ok  00", "00 00", "a=1 refused 00", "=1 00", "٠٠"):
-            self.assertRaises(ValueError, linkwire.read_line, line)
+            self.assertRaisesRegex(ValueError, "^neither words alone nor hex", linkwire.read_line, line)
         with self.assertRaises(ValueError):
             linkwire.Watch().line("host=a xyz")
 
