@@ -2,7 +2,8 @@
 # How long `fuzz` tries messages.
 SECONDS ?= 60
 QUIET = test rust lint dev fmt check costs edits tables dist dist-tests archive deb rust-tests show-tests \
-    linkdump-tests
+    linkdump-tests sums
+OF_exhaustive = link_c linkwire linkstate linkshow
 OF_c-tests = link_c linkdiff linkdump
 OF_fuzz = link_c
 OF_c-bench = link_c
@@ -15,12 +16,16 @@ NEEDS_RT := $(firstword $(filter check dist edits compare bench dev fmt,$(MAKECM
 $(if $(NEEDS_RT),$(if $(call is_here,rt),,$(error make $(NEEDS_RT) proves the crates by the command rt, which is not \
     on the path: make self-test, make test and make dist-tests need none)))
 
-.PHONY: dist archive deb dist-tests test rust lint check edits tables bench compare show-tests c-tests
-.PHONY: costs linkdump-tests python-tests dev fmt rust-tests fuzz c-bench
+.PHONY: dist sums archive deb dist-tests test rust lint check edits tables bench compare show-tests c-tests
+.PHONY: costs linkdump-tests python-tests linkwatch-tests dev fmt rust-tests fuzz c-bench exhaustive
 
 dist: ## proves, and makes dist/ and the archive of a release anew; its sums say what it was made of
 	@scripts/dist.sh
 	@scripts/archive.sh
+
+sums: ## writes the sums of the files written by hand, as dist/heap.c, to dist/SUMS; those of texts and crates stay
+	@scripts/sums.sh written >dist/SUMS.new
+	@mv dist/SUMS.new dist/SUMS
 
 archive: ## packs the archive of a release of what dist/ has
 	@scripts/archive.sh
@@ -86,11 +91,19 @@ linkdump-tests: ## runs linkdump on the running kernel and on captures, with san
 python-tests: $(LIBRARIES) out/linkdiff out/linkdump ## tests the package in python/, for each Python that is here
 	@scripts/python_tests.sh
 
+linkwatch-tests: $(LIBRARIES) build ## tests the command linkwatch, and completion by shells
+	@scripts/linkwatch_tests.sh
+
 rust-tests: ## runs the tests of rust/, and compares it with the built program linkwire
 	@scripts/rust_tests.sh
 
-fuzz: $(LIBRARIES) ## tries the laws of the library on generated messages, for so long: make fuzz SECONDS=600
+fuzz: $(LIBRARIES) ## tries the laws of the library on generated messages, and by AFL++: make fuzz SECONDS=600
 	@scripts/laws.sh $(CURDIR)/out/liblinkwire.a --seconds $(SECONDS)
+	@scripts/fuzz.sh $(SECONDS)
+
+exhaustive: build $(LIBRARIES) ## compares what is built with the second reader of tests/second, on 5,000,000 lines
+	@JOBS=$(shell nproc) scripts/second.sh out out/liblinkwire.a
+	@JOBS=$(shell nproc) scripts/second.sh out out/liblinkwire.a wide
 
 c-bench: $(LIBRARIES) ## times the library for C
 	@for it in link_bench dump_bench; do $(CC) -std=gnu11 -O2 -Wall -Wextra -Werror -Iinclude -o out/$$it \

@@ -80,7 +80,8 @@ enum linkwire_answer {
     /* None of these says anything of the bytes. */
     LINKWIRE_OUT_OF_MEMORY = -18, /* no memory was left; only the four calls that take memory return it */
     LINKWIRE_NO_ROOM = -19,       /* the buffer is too short */
-    LINKWIRE_UNKNOWN_FLAG = -20   /* `flags` has a bit that is no flag of this library */
+    LINKWIRE_UNKNOWN_FLAG = -20,  /* `flags` has a bit that is no flag of this library */
+    LINKWIRE_OPEN_NEST = -21      /* a nest of a `struct linkwire_writer` is not ended, or one is ended twice */
 };
 
 /* What `flags` of `linkwire_show` and `linkwire_diff` are made of. Any other bit is refused, so that a program which
@@ -205,11 +206,12 @@ ptrdiff_t linkwire_show(const uint8_t *message, size_t len, uint32_t order, uint
 /* What changed from one message to another, as linkdiff(1) tells it under "changes": a list in JSON, in UTF-8, without
  * an end of line and without a NUL, of an object for each path whose value differs, with "path", "old" and "new", of
  * which one is left out where the path came or went. Where no path differs, though the messages do, the one path
- * "state" has both encodings, in hexadecimal. It is written, and its length returned, as `linkwire_show` does; 0, and
- * `out` is unchanged, exactly where the state encodings are equal. With LINKWIRE_COUNTERS the canonical encodings are
- * compared, so that what moves by itself is told too; with LINKWIRE_LENIENT the lenient ones of either. Both messages
- * are shown in one order. Or -20; or the refusal, -1 to -7, -16, -17 or -18, of the first that is refused, and `out` is
- * unchanged. Takes memory. */
+ * "state" has both encodings, in hexadecimal. Attributes IFLA_EVENT of four bytes, which announcements alone have, are
+ * left out of both messages first, as linkdiff(1) does. The list is written, and its length returned, as
+ * `linkwire_show` does; 0, and `out` is unchanged, exactly where the state encodings of what is left are equal. With
+ * LINKWIRE_COUNTERS the canonical encodings are compared, so that what moves by itself is told too; with
+ * LINKWIRE_LENIENT the lenient ones of either. Both messages are shown in one order. Or -20; or the refusal, -1 to -7,
+ * -16, -17 or -18, of the first that is refused, and `out` is unchanged. Takes memory. */
 ptrdiff_t linkwire_diff(const uint8_t *old_message, size_t old_len, const uint8_t *new_message, size_t new_len,
                         uint32_t order, uint32_t flags, char *out, size_t cap);
 
@@ -246,9 +248,20 @@ uint32_t linkwire_state_form(void);
 /* The number of the lenient form that the library writes. */
 uint32_t linkwire_lenient_form(void);
 
+/* Casts, and a null pointer, that neither language warns of; for this header alone. */
+#if defined(__cplusplus) && __cplusplus >= 201103L
+#define LINKWIRE_AS(type, value) static_cast<type>(value)
+#define LINKWIRE_BYTES(text) reinterpret_cast<const uint8_t *>(text)
+#define LINKWIRE_NONE nullptr
+#else
+#define LINKWIRE_AS(type, value) ((type)(value))
+#define LINKWIRE_BYTES(text) ((const uint8_t *)(text))
+#define LINKWIRE_NONE NULL
+#endif
+
 /* The number of a kind: its low 14 bits. */
 static inline uint16_t linkwire_number(uint16_t kind) {
-    return (uint16_t)(kind & 0x3fff);
+    return LINKWIRE_AS(uint16_t, kind & 0x3fff);
 }
 
 /* The number of `width` bytes, lowest first. */
@@ -274,7 +287,7 @@ static inline int linkwire_u16(const uint8_t *list, const struct linkwire_attrib
     if (attribute->payload_len != 2) {
         return 0;
     }
-    *value = (uint16_t)linkwire_le(list + attribute->payload, 2);
+    *value = LINKWIRE_AS(uint16_t, linkwire_le(list + attribute->payload, 2));
     return 1;
 }
 
@@ -282,7 +295,7 @@ static inline int linkwire_u32(const uint8_t *list, const struct linkwire_attrib
     if (attribute->payload_len != 4) {
         return 0;
     }
-    *value = (uint32_t)linkwire_le(list + attribute->payload, 4);
+    *value = LINKWIRE_AS(uint32_t, linkwire_le(list + attribute->payload, 4));
     return 1;
 }
 
@@ -311,7 +324,8 @@ struct linkwire_writer {
     uint8_t *list;   /* where the list starts */
     size_t cap;      /* how many bytes it has room for */
     size_t at;       /* how many of them are written */
-    int32_t refused; /* 0, or the first refusal: -16 or -19 */
+    int32_t refused; /* 0, or the first refusal: -16 or -19; or -21: a nest is open, or one was ended twice */
+    uint32_t open;   /* how many nests are open */
 };
 
 /* A list with room for `cap` bytes, of which `at` are written: those of a header in front of it count, as 16 of a
@@ -322,18 +336,26 @@ static inline struct linkwire_writer linkwire_writer_at(uint8_t *list, size_t ca
     writer.cap = cap;
     writer.at = at;
     writer.refused = 0;
+    writer.open = 0;
     return writer;
+}
+
+/* Whether nothing more is written. While nests are open, they are written to. */
+static inline int linkwire_writer_ended(const struct linkwire_writer *writer) {
+    return writer->refused != 0 && (writer->refused != LINKWIRE_OPEN_NEST || writer->open == 0);
 }
 
 /* Writes an attribute, as `linkwire_put` does. The payload is in no part of the list that is not written. */
 static inline void linkwire_put_bytes(struct linkwire_writer *writer, uint16_t kind, const uint8_t *payload,
                                       size_t len) {
     int32_t answer;
-    if (writer->refused != 0) {
+    if (linkwire_writer_ended(writer)) {
         return;
     }
     answer = linkwire_put(writer->list, writer->cap, &writer->at, kind, payload, len);
-    writer->refused = answer < 0 ? answer : 0;
+    if (answer < 0) {
+        writer->refused = answer;
+    }
 }
 
 /* A number of `width` bytes, at most eight, lowest first. */
@@ -341,7 +363,7 @@ static inline void linkwire_put_le(struct linkwire_writer *writer, uint16_t kind
     uint8_t bytes[8] = {0, 0, 0, 0, 0, 0, 0, 0};
     size_t i;
     for (i = 0; i < width; i++) {
-        bytes[i] = (uint8_t)(value >> (8 * i));
+        bytes[i] = LINKWIRE_AS(uint8_t, value >> (8 * i));
     }
     linkwire_put_bytes(writer, kind, bytes, width);
 }
@@ -368,14 +390,14 @@ static inline void linkwire_put_text(struct linkwire_writer *writer, uint16_t ki
     while (text[len] != 0) {
         len++;
     }
-    linkwire_put_bytes(writer, kind, (const uint8_t *)text, len + 1);
+    linkwire_put_bytes(writer, kind, LINKWIRE_BYTES(text), len + 1);
 }
 
 /* Bytes that are no attribute, and zeros up to the next multiple of four: the struct ifinfomsg with which the nest
  * VETH_INFO_PEER (linux/veth.h) begins. */
 static inline void linkwire_put_raw(struct linkwire_writer *writer, const uint8_t *bytes, size_t len) {
     size_t i, padding = (4 - len % 4) % 4;
-    if (writer->refused != 0) {
+    if (linkwire_writer_ended(writer)) {
         return;
     }
     if (writer->at > writer->cap || writer->cap - writer->at < padding || writer->cap - writer->at - padding < len) {
@@ -391,26 +413,38 @@ static inline void linkwire_put_raw(struct linkwire_writer *writer, const uint8_
 }
 
 /* Begins a nest: what is written from here to its end is its list. Returns where it begins, for `linkwire_nest_end`.
- * The kind has NLA_F_NESTED (linux/netlink.h) where the kernel demands it; linkwire(3) says where. */
+ * `refused` is -21 until all nests are ended. The kind has NLA_F_NESTED (linux/netlink.h) where the kernel demands it;
+ * linkwire(3) says where. */
 static inline size_t linkwire_nest_begin(struct linkwire_writer *writer, uint16_t kind) {
     const uint8_t none = 0;
     size_t begin = writer->at;
     linkwire_put_bytes(writer, kind, &none, 0);
+    if (!linkwire_writer_ended(writer)) {
+        writer->open++;
+        writer->refused = LINKWIRE_OPEN_NEST;
+    }
     return begin;
 }
 
-/* Ends the nest that begins there; nests end in the opposite order. -16 where its list has more than 65528 bytes. */
+/* Ends the nest that begins there; nests end in the opposite order. -16 where its list has more than 65528 bytes, and
+ * -21 where no nest is open. */
 static inline void linkwire_nest_end(struct linkwire_writer *writer, size_t begin) {
     size_t len = writer->at - begin;
-    if (writer->refused != 0) {
+    if (linkwire_writer_ended(writer)) {
+        return;
+    }
+    if (writer->open == 0) {
+        writer->refused = LINKWIRE_OPEN_NEST;
         return;
     }
     if (len > 65535) {
         writer->refused = LINKWIRE_UNFIT;
         return;
     }
-    writer->list[begin] = (uint8_t)(len & 0xff);
-    writer->list[begin + 1] = (uint8_t)(len >> 8);
+    writer->open--;
+    writer->refused = writer->open == 0 ? 0 : LINKWIRE_OPEN_NEST;
+    writer->list[begin] = LINKWIRE_AS(uint8_t, len & 0xff);
+    writer->list[begin + 1] = LINKWIRE_AS(uint8_t, len >> 8);
 }
 
 /* What a number that these functions return means: a phrase for a log, never null. */
@@ -443,6 +477,8 @@ static inline const char *linkwire_answer_text(ptrdiff_t answer) {
         return "a buffer that is too short";
     case LINKWIRE_UNKNOWN_FLAG:
         return "a flag that this library does not have";
+    case LINKWIRE_OPEN_NEST:
+        return "a nest that is not ended, or ended twice";
     default:
         return "an unknown answer";
     }
@@ -465,7 +501,7 @@ static inline const char *linkwire_name(uint16_t number) {
         "IFLA_DEVLINK_PORT", "IFLA_GSO_IPV4_MAX_SIZE", "IFLA_GRO_IPV4_MAX_SIZE", "IFLA_DPLL_PIN",
         "IFLA_MAX_PACING_OFFLOAD_HORIZON", "IFLA_NETNS_IMMUTABLE", "IFLA_HEADROOM", "IFLA_TAILROOM",
     };
-    return number < sizeof names / sizeof *names ? names[number] : NULL;
+    return number < sizeof names / sizeof *names ? names[number] : LINKWIRE_NONE;
 }
 
 /* The names from here on are those of the library's own tables, as scripts/c_names.py compares. */
@@ -475,7 +511,7 @@ static inline const char *linkwire_operstate_name(uint8_t state) {
     static const char *const names[] = {
         "unknown", "notpresent", "down", "lowerlayerdown", "testing", "dormant", "up",
     };
-    return state < sizeof names / sizeof *names ? names[state] : NULL;
+    return state < sizeof names / sizeof *names ? names[state] : LINKWIRE_NONE;
 }
 
 /* The name of a link mode, the value of IFLA_LINKMODE; null for another number. */
@@ -483,7 +519,7 @@ static inline const char *linkwire_linkmode_name(uint8_t mode) {
     static const char *const names[] = {
         "default", "dormant", "testing",
     };
-    return mode < sizeof names / sizeof *names ? names[mode] : NULL;
+    return mode < sizeof names / sizeof *names ? names[mode] : LINKWIRE_NONE;
 }
 
 /* The name of the flag 1 << bit of `ifi_flags`; null for a bit without one. */
@@ -492,7 +528,7 @@ static inline const char *linkwire_flag_name(unsigned bit) {
         "up", "broadcast", "debug", "loopback", "point-to-point", "no-trailers", "running", "no-arp", "promisc",
         "all-multi", "master", "slave", "multicast", "portsel", "auto-media", "dynamic", "lower-up", "dormant", "echo",
     };
-    return bit < sizeof names / sizeof *names ? names[bit] : NULL;
+    return bit < sizeof names / sizeof *names ? names[bit] : LINKWIRE_NONE;
 }
 
 /* The name of a hardware type, `ifi_type`: that of its constant ARPHRD_ in linux/if_arp.h, in small letters;
@@ -520,8 +556,12 @@ static inline const char *linkwire_type_name(uint16_t type) {
             return names[i].name;
         }
     }
-    return NULL;
+    return LINKWIRE_NONE;
 }
+
+#undef LINKWIRE_AS
+#undef LINKWIRE_BYTES
+#undef LINKWIRE_NONE
 
 #ifdef __cplusplus
 }

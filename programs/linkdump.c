@@ -55,9 +55,7 @@ static const struct name masks[] = {
 __attribute__((format(printf, 1, 2))) _Noreturn static void refuse(const char *format, ...) {
     va_list args;
     va_start(args, format);
-    fputs("linkdump: ", stderr);
-    vfprintf(stderr, format, args);
-    fputs("; see linkdump --help\n", stderr);
+    put_error(format, args, "; see linkdump --help");
     va_end(args);
     exit(2);
 }

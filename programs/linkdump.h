@@ -4,6 +4,7 @@
 #define LINKDUMP_H
 
 #include <linux/netlink.h>
+#include <stdarg.h>
 #include <stdbool.h>
 #include <stddef.h>
 #include <stdint.h>
@@ -29,7 +30,7 @@ struct question {
 /* The type of a link message as lines have it, or NULL of any other message. */
 const char *type_name(uint16_t type);
 
-/* SIGINT and SIGTERM end the program with status 0; SIGPIPE is ignored. */
+/* SIGINT and SIGTERM end the program once the line that is being written is whole; SIGPIPE is ignored. */
 void handle_signals(void);
 
 /* Begins lines: plain ones have no words, and others host= and kernel= where a host and a release are given. */
@@ -44,6 +45,10 @@ void put_words(const struct timespec *time, const char *type, const char *more);
 
 /* Writes out what was appended. Where nobody reads it, the program ends. */
 void flush_lines(void);
+
+/* Writes a line to standard error, with `end` behind it. In the rest what is no plain text is escaped, for it can have
+ * the name of a file. */
+void put_error(const char *format, va_list args, const char *end) __attribute__((format(printf, 1, 0)));
 
 /* Tells something in one line on standard error, after the lines that came before it. */
 void tell(const char *format, ...) __attribute__((format(printf, 1, 2)));

@@ -19,14 +19,25 @@ static struct {
 } lines;
 
 /* A signal ends the program at once, or after the line that is being written; a second one at once. */
-static volatile sig_atomic_t is_writing, is_stopped;
+static volatile sig_atomic_t is_writing, stopped_by;
+
+/* Ends the program by a signal, whether this one is blocked or not. */
+_Noreturn static void end_by(int number) {
+    const struct sigaction by_default = {.sa_handler = SIG_DFL};
+    sigset_t blocked;
+    sigemptyset(&blocked);
+    sigaddset(&blocked, number);
+    sigaction(number, &by_default, NULL);
+    raise(number);
+    sigprocmask(SIG_UNBLOCK, &blocked, NULL);
+    _exit(128 + number); /* the first process of a PID namespace is still there */
+}
 
 static void stop(int number) {
-    (void)number;
-    if (!is_writing || is_stopped) {
-        _exit(0);
+    if (!is_writing || stopped_by != 0) {
+        end_by(number);
     }
-    is_stopped = 1;
+    stopped_by = number;
 }
 
 const char *type_name(uint16_t type) {
@@ -150,28 +161,80 @@ void flush_lines(void) {
             lines.len = 0;
             fail("standard output: %s", strerror(errno));
         }
-        if (is_stopped) {
+        if (stopped_by != 0) {
             lines.len = line_end(at);
         }
     }
     lines.len = 0;
     is_writing = 0;
-    if (is_stopped) {
-        _exit(0);
+    if (stopped_by != 0) {
+        end_by(stopped_by);
     }
 }
 
-static void tell_all(const char *format, va_list args) {
-    char text[1024];
-    vsnprintf(text, sizeof text, format, args);
-    fprintf(stderr, "linkdump: %s\n", text);
+/* The character of UTF-8 that `text` begins with: its length, or 0 where there is none. */
+static size_t read_character(const char *text, uint32_t *number) {
+    static const uint32_t least[] = {0, 0, 0x80, 0x800, 0x10000};
+    const uint8_t *bytes = (const uint8_t *)text;
+    size_t len = *bytes < 0x80 ? 1 : *bytes < 0xc0 ? 0 : *bytes < 0xe0 ? 2 : *bytes < 0xf0 ? 3 : *bytes < 0xf8 ? 4 : 0;
+    *number = len == 1 ? *bytes : (uint32_t)(*bytes & (0x7f >> len));
+    for (size_t i = 1; i < len; i++) {
+        if ((bytes[i] & 0xc0) != 0x80) {
+            return 0;
+        }
+        *number = *number << 6 | (bytes[i] & 0x3f);
+    }
+    return *number < least[len] || *number > 0x10ffff || (*number >> 11) == 0xd800 >> 11 ? 0 : len;
+}
+
+/* Whether a terminal may do something else at a character than show it: control characters, ends of lines, and those
+ * that turn the direction of a text. */
+static bool is_control(uint32_t number) {
+    return number < ' ' || (number >= 0x7f && number < 0xa0) || number == 0x61c || number == 0x200e ||
+           number == 0x200f || (number >= 0x2028 && number <= 0x202e) || (number >= 0x2066 && number <= 0x2069);
+}
+
+/* Appends what `from` begins with to `to`, at most six times as long, and returns its length. */
+static size_t escape(char **to, const char *from) {
+    uint32_t number;
+    size_t len = read_character(from, &number);
+    if (len == 0) {
+        *to += sprintf(*to, "\\x%02x", (uint8_t)*from);
+        return 1;
+    }
+    if (number == '\\') {
+        *to += sprintf(*to, "\\\\");
+    } else if (is_control(number)) {
+        *to += sprintf(*to, "\\u%04x", number);
+    } else {
+        memcpy(*to, from, len);
+        *to += len;
+    }
+    return len;
+}
+
+void put_error(const char *format, va_list args, const char *end) {
+    char *text = NULL;
+    char *line = vasprintf(&text, format, args) < 0 ? NULL : malloc(6 * strlen(text) + 1);
+    if (line == NULL) {
+        fputs("linkdump: out of memory\n", stderr);
+        return;
+    }
+    char *to = line;
+    for (const char *from = text; *from != '\0';) {
+        from += escape(&to, from);
+    }
+    *to = '\0';
+    fprintf(stderr, "linkdump: %s%s\n", line, end);
+    free(line);
+    free(text);
 }
 
 void tell(const char *format, ...) {
     va_list args;
     flush_lines();
     va_start(args, format);
-    tell_all(format, args);
+    put_error(format, args, "");
     va_end(args);
 }
 
@@ -179,7 +242,7 @@ void fail(const char *format, ...) {
     va_list args;
     flush_lines();
     va_start(args, format);
-    tell_all(format, args);
+    put_error(format, args, "");
     va_end(args);
     exit(1);
 }

@@ -9,13 +9,16 @@ date=${SOURCE_DATE_EPOCH:-$(date -ud "$(sed -n 's/^## \[[0-9.]*\] - //p' CHANGEL
 name=linkwire-$version
 to=$folder/$name
 mkdir -p "$to/tests" out
-cp dist/Makefile README.md LICENSE CHANGELOG.md "$to"
-cp -r dist include man programs "$to"
-rm "$to/dist/Makefile"
-mkdir -p "$to/python/linkwire"
+cp README.md LICENSE CHANGELOG.md "$to"
+echo 'include dist/Makefile' >"$to/Makefile"
+cp -r completions dist include man programs "$to"
+mkdir -p "$to/python/linkwire" "$to/python/linkwatch"
 cp python/*.py python/*.toml "$to/python"
 cp python/linkwire/*.py python/linkwire/py.typed "$to/python/linkwire"
+cp python/linkwatch/*.py "$to/python/linkwatch"
 cp -r tests/c tests/self_test.sh "$to/tests"
+mkdir "$to/tests/second"
+cp tests/second/lines.c tests/second/*.txt "$to/tests/second"
 read -ra programs <<<"$(sed -n 's/^PROGRAMS = //p' dist/Makefile)"
 for program in "${programs[@]}"; do
     mkdir "$to/tests/$program"

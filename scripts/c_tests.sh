@@ -37,9 +37,27 @@ header() {
         "$folder/header"
     done
 }
+
+# What clang says by -Weverything of the header, but for what no code can change: spaces in structs, and what older
+# standards lack.
+everything() {
+    local compiler
+    for compiler in "${@:2}"; do
+        command -v "$compiler" >/dev/null || continue
+        "$compiler" -Weverything -Werror -Wno-unknown-warning-option -Wno-padded -Wno-c++98-compat \
+            -Wno-c++98-compat-pedantic -Wno-unsafe-buffer-usage -Wno-declaration-after-statement -Wno-pre-c11-compat \
+            -std="$1" -I"$top/include" -fsyntax-only -x "${1%[0-9][0-9]}" "$top/tests/c/header.c"
+    done
+}
+everything c99 clang
+everything c11 clang
+everything c++11 clang++
+everything c++20 clang++
 header c99 gcc clang
 header c11 gcc clang
 header c++17 g++ clang++
+warnings+=(-Wold-style-cast -Wuseless-cast -Wzero-as-null-pointer-constant)
+header c++11 g++
 
 for test in "$top"/tests/c/*.c; do
     program="$folder/$(basename "$test" .c)"

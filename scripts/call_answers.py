@@ -29,8 +29,10 @@ FLAGS = {1: "--lenient", 2: "--counters"}
 LONGEST = 1 << 19
 DAMAGED = 4
 FAMILY, INDEX = slice(0, 1), slice(4, 8)
-# linkdiff leaves out what announcements alone have: IFLA_WIRELESS and IFLA_EVENT
-ANNOUNCED = {11, 44}
+# linkdiff passes over a message with a name and IFLA_WIRELESS alone
+WIRELESS = 11
+# an attribute IFLA_EVENT, which neither compares
+EVENT = bytes([8, 0, 44, 0, 4, 0, 0, 0])
 OTHER = "another interface"
 
 
@@ -61,11 +63,11 @@ def compare_shown(call, program, lines):
 # ** what changed
 
 def unannounced(digits):
-    """The message without what linkdiff does not compare."""
+    """The message without IFLA_WIRELESS."""
     octets = bytes.fromhex(digits)
     found, end = frames(octets)
     ends = [at for at, _, _ in found[1:]] + [end]
-    kept = [octets[at:to] for (at, kind, _), to in zip(found, ends) if kind & 0x3fff not in ANNOUNCED]
+    kept = [octets[at:to] for (at, kind, _), to in zip(found, ends) if kind & 0x3fff != WIRELESS]
     return octets[:HEADER_SIZE] + b"".join(kept) + octets[end:]
 
 
@@ -78,11 +80,13 @@ def of_one_interface(old, new):
 
 
 def pairs_of(lines, chance):
-    """Each message and the next one, as if it were of the same interface, and each and a damaged one."""
+    """Each message and the next one, as if it were of the same interface, each and a damaged one, and each and itself
+    with IFLA_EVENT."""
     messages = [unannounced(line) for line in lines]
     pairs = [(old, of_one_interface(old, new)) for old, new in zip(messages, messages[1:])]
     pairs += [(new, old) for old, new in pairs]
     pairs += [(it, of_one_interface(it, unannounced(damaged_bytes(chance, it.hex())))) for it in messages if it]
+    pairs += [(it, it[:HEADER_SIZE] + EVENT + it[HEADER_SIZE:]) for it in messages]
     # a line of words alone is no message
     return [pair for pair in pairs if all(pair)]
 

@@ -28,8 +28,11 @@ libraries() {
     stage 'c_tests.sh, with state_live.sh' scripts/c_tests.sh out/liblinkwire.a crates/linkdiff/out out
     stage call_answers.py python3 scripts/call_answers.py out/liblinkwire.a crates/linkshow/out/linkshow \
         crates/linkdiff/out/linkdiff
+    stage second.sh scripts/second.sh out out/liblinkwire.a
     stage linkdump_tests.sh scripts/linkdump_tests.sh
+    stage fuzz.sh scripts/fuzz.sh 30
     stage python_tests.sh scripts/python_tests.sh out
+    stage linkwatch_tests.sh scripts/linkwatch_tests.sh out
     python3 scripts/readme.py out/liblinkwire.a crates/linkwire/out crates/linkshow/out crates/linkstate/out \
         crates/linkdiff/out out
     stage 'builds of dist/' scripts/dist_tests.sh
@@ -40,6 +43,8 @@ texts() {
     stage 'slips in dist/' scripts/test_dist.sh
     stage costs.py python3 scripts/costs.py
     stage test_costs.sh scripts/test_costs.sh
+    stage test_second.sh scripts/test_second.sh out
+    stage 'forty mutants of linkwire' python3 scripts/mutants.py linkwire --count 40 --least 40
 }
 
 programs() {
@@ -53,13 +58,16 @@ programs() {
         crates/linkdiff/out out
     python3 tests/linkdump/hosts.py --linkdiff crates/linkdiff/out/linkdiff
     python3 tests/linkdiff/live.py out/linkdump crates/linkdiff/out/linkdiff
+    python3 tests/linkdiff/cases.py crates/linkdiff/out/linkdiff
     python3 scripts/headline.py crates/linkwire/out/linkwire crates/linkshow/out/linkshow
     python3 scripts/show_damaged.py crates/linkshow/out/linkshow crates/linkwire/out/linkwire
+    stage show_beside.py python3 scripts/show_beside.py crates/beside/out/beside crates/linkshow/out/linkshow
     python3 scripts/kernel_messages.py
     python3 scripts/kernel_truth.py crates/linkshow/out/linkshow
     python3 scripts/kernel_truth.py --live crates/linkshow/out/linkshow out/linkdump
     scripts/show_tests.sh
     scripts/rust_tests.sh
+    stage compilers.sh scripts/compilers.sh out
     scripts/parallel_test.sh
     scripts/parallel_hosts.sh
     scripts/test_progress.sh

@@ -59,6 +59,18 @@ program() {
     done
 }
 
+# python 3.X: one of that version that runs, on the path or of pyenv
+python() {
+    local it
+    for it in "$(command -v "python$1" || true)" /usr/bin/"python$1" \
+        "${PYENV_ROOT:-$HOME/.pyenv}"/versions/"$1".*/bin/"python$1"; do
+        if [ -x "$it" ] && "$it" -c '' 2>/dev/null; then
+            echo "$it"
+            return
+        fi
+    done
+}
+
 # waits SECONDS COMMAND..: until it succeeds, so long at most
 waits() {
     local until=$((SECONDS + $1))
@@ -137,7 +149,7 @@ copies_tree() {
     (cd "$top" && git ls-files -z --cached --others --exclude-standard | tar --null --ignore-failed-read -T - -c) \
         2>/dev/null | tar -x -C "$1"
     PATH=$(tr ':' '\n' <<<"$PATH" | while read -r it; do [ -e "$it/rt" ] || echo "$it"; done | paste -sd :)
-    unset CC LD OBJCOPY AR CFLAGS LDFLAGS MAKEFLAGS MFLAGS MAKELEVEL PROVE
+    unset CC LD OBJCOPY AR CPPFLAGS CFLAGS LDFLAGS MAKEFLAGS MFLAGS MAKELEVEL PROVE
 }
 
 # crates_below CRATE: the repository's crates that it stands on, each after those below it, and at the end itself

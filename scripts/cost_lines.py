@@ -10,7 +10,8 @@ import sys
 from shared import attribute as frame
 from shared import read
 
-IFLA_MTU, IFLA_IFALIAS, IFLA_VFINFO_LIST, IFLA_PROP_LIST, IFLA_ALT_IFNAME = 4, 20, 22, 52, 53
+IFLA_MTU, IFLA_TXQLEN, IFLA_IFALIAS, IFLA_VFINFO_LIST, IFLA_STATS64 = 4, 13, 20, 22, 23
+IFLA_PROP_LIST, IFLA_ALT_IFNAME = 52, 53
 # a number that no kernel sends, and those above it
 UNKNOWN = 200
 HEAD = struct.pack("<BBHiII", 0, 0, 1, 7, 0, 0)
@@ -91,6 +92,42 @@ def settings(count):
             for is_on in (0, 1) * 4]
 
 
+def swapped(count):
+    """A card with so many virtual functions, each second of which has a setting, and in the next line the others."""
+    def function_of(number, is_on):
+        of = struct.pack("<I", number)
+        setting = frame(3, of + struct.pack("<I", 100)) if number % 2 == is_on else b""
+        return frame(1, frame(4, of + b"\1\0\0\0") + setting)
+
+    return [HEAD + frame(IFLA_VFINFO_LIST, b"".join(function_of(number, is_on) for number in range(count)))
+            for is_on in (0, 1) * 4]
+
+
+def reversed_names(count):
+    """So many alternative names, and in the next line the same from last to first."""
+    listed = [frame(IFLA_ALT_IFNAME, b"name%d\0" % number) for number in range(count)]
+    return [HEAD + frame(IFLA_PROP_LIST, b"".join(it)) for it in (listed, listed[::-1]) * 4]
+
+
+def repeated(kind, payload, count):
+    """An attribute so many times, beside a queue length that turns."""
+    return [HEAD + frame(kind, payload) * count + frame(IFLA_TXQLEN, struct.pack("<I", 1000 + is_on))
+            for is_on in (0, 1) * 4]
+
+
+def refused_turning(count):
+    """So many attributes that are refused, MTUs and queue lengths of three bytes, each the other in the next line."""
+    return [HEAD + b"".join(frame((IFLA_MTU, IFLA_TXQLEN)[(at + is_on) % 2], struct.pack("<I", at)[:3])
+                            for at in range(count)) for is_on in (0, 1) * 2]
+
+
+def long(size):
+    """Half texts and half names, all in so many bytes, and an MTU that turns."""
+    text = frame(IFLA_IFALIAS, b"a text " * 8000)
+    listed = names(b"a name of thirty bytes, or so\0", 1800)
+    return turning((text + listed) * (size // len(text + listed)))
+
+
 def aliases(size, count, end=b""):
     """What an interface has as alias in so many messages: a text of this size, which differs each time."""
     return [frame(IFLA_IFALIAS, (b"x", b"y")[at % 2] * size + end) for at in range(count)]
@@ -129,6 +166,13 @@ def of_messages():
         "late-quote": [HEAD + alias for alias in aliases(7999, 2, b'"')],
         "settings-64": settings(64),
         "settings-256": settings(256),
+        "swapped-64": swapped(64),
+        "swapped-256": swapped(256),
+        "names-reversed": reversed_names(256),
+        "stats-repeated": repeated(IFLA_STATS64, bytes(range(200)), 64),
+        "mtus-repeated": repeated(IFLA_MTU, struct.pack("<I", 1500), 256),
+        "refused-turning": refused_turning(256),
+        "long": long(140_000) + long(1_000_000),
         # half of the message stays
         "turning-alias": [HEAD + kept + alias for alias in aliases(len(kept), 20)],
         "growing": [HEAD + attributes for attributes in growing(100)],
@@ -159,6 +203,16 @@ def workloads():
     found.update(of_text())
     return {name: "".join(f"{line}\n" for line in lines).encode("utf-8", "surrogateescape")
             for name, lines in found.items()}
+
+
+def capture(lines):
+    """A capture of an nlmon device with a packet for each line of digits."""
+    packets = []
+    for at, line in enumerate(lines):
+        message = bytes.fromhex(line.decode())
+        packet = struct.pack(">HH10xH", 4, 824, 0) + struct.pack("<IHHII", 16 + len(message), 16, 0, at, 0) + message
+        packets.append(struct.pack("<IIII", at, 0, len(packet), len(packet)) + packet)
+    return struct.pack("<IHHiIII", 0xA1B23C4D, 2, 4, 0, 0, 262144, 253) + b"".join(packets)
 
 
 if __name__ == "__main__":

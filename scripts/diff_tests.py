@@ -11,7 +11,9 @@ are made. Words in front of a line are told as linkshow tells them.
 """
 import json
 import random
+import struct
 import sys
+import tempfile
 from collections import namedtuple
 
 from shared import HEADER_SIZE, answers, attribute, compare, frames, said
@@ -51,6 +53,35 @@ def compare_words(programs):
                       for key in (b"type", b"time", b"host")) + b"00" for _ in range(1000)]
     compare("diff_tests: words", lines, answers(programs.linkdiff, lines), answers(programs.linkshow, lines))
     print(f"diff_tests: the words of {len(lines)} lines as linkshow tells them")
+
+
+def told_of_files(programs, sides):
+    """Returns what is told of two files with these lines: of each line what became of the interface, and two words."""
+    with tempfile.TemporaryDirectory() as folder:
+        names = [f"{folder}/old", f"{folder}/new"]
+        for name, lines in zip(names, sides):
+            with open(name, "w", encoding="ascii") as it:
+                it.writelines(line + "\n" for line in lines)
+        found = said(programs.linkdiff, [], *names)
+    return sorted((it["change"], it["host"], it["time"]) for it in map(json.loads, found))
+
+
+def compare_files(programs):
+    """Tells each interface of two files with the words of the line that has its last message."""
+    rng, lines, last = random.Random(9), ([], []), ({}, {})
+    for time in range(2000):
+        side, host, mtu = rng.randrange(2), f"h{rng.randrange(400)}", rng.randrange(2)
+        message = struct.pack("<BBHiIIHHI", 0, 0, 1, 7, 0, 0, 8, 4, mtu)
+        lines[side].append(f"time={time} host={host} {message.hex()}")
+        last[side][host] = (str(time), mtu)
+    old, new = last
+    wanted = [("gone", host, old[host][0]) for host in {*old} - {*new}]
+    wanted += [("new", host, new[host][0]) for host in {*new} - {*old}]
+    wanted += [("changed", host, new[host][0]) for host in {*new} & {*old} if new[host][1] != old[host][1]]
+    found = told_of_files(programs, lines)
+    if found != sorted(wanted):
+        fails("words of two files:", *sorted({*found} ^ {*wanted})[:10])
+    print(f"diff_tests: the words of {len(wanted)} lines of two files")
 
 
 def shown(programs, messages):
@@ -128,6 +159,7 @@ def main():
     count = int(sys.argv[5]) if len(sys.argv) > 5 else 300
     rng, stored, different = random.Random(7), pairs(), 0
     compare_words(programs)
+    compare_files(programs)
     for name, one, other in stored:
         if differs(programs, one, other, False) or differs(programs, one, one, True):
             fails(name, "changed, and nobody touched it")

@@ -70,6 +70,18 @@ answer=$(echo 00000000000000000000000000000000060003006c6f | make -s run)
 [ "$answer" = 'ok 00000000000000000000000000000000070003006c6f0000' ]
 make -s build lib >/dev/null
 tests here
+# hardens WHAT FOLDER [LIBRARY]
+hardens() {
+    scripts/hardened.sh "${@:2}" >/dev/null
+    echo "dist: $1: hardened: ok"
+}
+hardens here out
+if it=$(lacks python3); then
+    echo "dist: files that do not block, page faults: skipped: no $it"
+else
+    python3 tests/program/waits.py out "${programs[@]}" | sed 's/^/dist: /'
+    python3 tests/program/faults.py out "${programs[@]}" | sed 's/^/dist: /'
+fi
 scripts/laws.sh out/liblinkwire.a 50000 | sed 's/^/dist: sanitizers: /'
 python3 scripts/readme.py out/liblinkwire.a out
 scripts/test_install.sh
@@ -96,6 +108,7 @@ else
     another aarch64
     make -s CC=$gnu-gcc LD=$gnu-ld OBJCOPY=$gnu-objcopy AR=$gnu-ar PCAP= all
     CC=$gnu-gcc RUN="qemu-aarch64 -L /usr/$gnu" TESTS=$few tests aarch64
+    hardens aarch64 out
     dumps aarch64 qemu-aarch64 -L /usr/$gnu out/linkdump
 fi
 
@@ -114,6 +127,12 @@ if ! lacks python3 >/dev/null; then
 fi
 make -s check >"$folder/log"
 tail -n 1 "$folder/log" | grep -qx 'self-test passed'
+cp dist/heap.c "$folder/heap.c"
+echo '/* changed */' >>dist/heap.c
+if make -s check >"$folder/log" 2>&1 || ! grep -q 'a file is not that of dist/SUMS' "$folder/log"; then
+    fails 'the archive: a file that changed is not told'
+fi
+cp "$folder/heap.c" dist/heap.c
 if make -s PROVE=1 >"$folder/log" 2>&1 || ! grep -q 'the crates, which are not in this archive' "$folder/log"; then
     cat "$folder/log" >&2
     exit 1
@@ -141,19 +160,22 @@ else
         cp "$folder/root/usr/bin/$program" out/
     done
     TESTS=header tests 'the programs of the packages'
+    hardens 'the programs of the packages' "$folder/root/usr/bin" "$lib/liblinkwire.so.0"
     "$folder/root/usr/bin/linkdump" --version >/dev/null
     if it=$(lacks python3); then
         echo "dist: packages: python3-linkwire: skipped: no $it"
     else
         PYTHONPATH=$folder/root/usr/lib/python3/dist-packages LD_LIBRARY_PATH=$lib python3 -B -c \
             'import linkwire; linkwire.check(linkwire.build([(3, "lo")]))'
+        PYTHONPATH=$folder/root/usr/lib/python3/dist-packages LD_LIBRARY_PATH=$lib PYTHONDONTWRITEBYTECODE=1 \
+            "$folder/root/usr/bin/linkwatch" --version >/dev/null
     fi
     echo 'dist: packages: the same bytes twice, unpacked and used by pkg-config: ok'
     if it=$(lacks lintian); then
         echo "dist: packages: lintian: skipped: no $it"
     else
-        lintian --no-cfg "$folder"/deb/*.deb >"$folder/log" 2>&1 || true
-        if grep -v 'initial-upload-closes-no-bugs' "$folder/log" | grep '^[EW]:' >&2; then
+        lintian --no-cfg --display-info "$folder"/deb/*.deb >"$folder/log" 2>&1 || true
+        if grep -v 'initial-upload-closes-no-bugs' "$folder/log" | grep '^[EW]:\|hardening-' >&2; then
             exit 1
         fi
         echo 'dist: packages: lintian: ok'

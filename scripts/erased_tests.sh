@@ -1,7 +1,8 @@
 #!/usr/bin/env bash
 # Erases the contracts of all crates, and compiles them by cargo, with overflow checks; runs all tests, and each program
-# on its stored lines, of linkshow and linkstate those of tests/program/lenient.txt too. It needs no registry and no
-# Rattle, and proves nothing: that the bodies meet their contracts is said by the gate alone.
+# on its stored lines, of linkshow and linkstate those of tests/program/lenient.txt too, and on all lines of the second
+# reader. It needs no registry and no Rattle, and proves nothing: that the bodies meet their contracts is said by the
+# gate alone.
 self='test'
 . "$(dirname "$0")/common.sh"
 cd "$top"
@@ -11,6 +12,7 @@ python3 scripts/erase/erase.py tests out/erased
 export CARGO_TARGET_DIR=$PWD/out/erased-target CARGO_NET_OFFLINE=true
 runs cargo test --quiet --tests --manifest-path out/erased/Cargo.toml
 awk '/^test result: ok/ { sum += $4 } END { print "test: " sum " tests passed, which prove nothing" }' "$folder/log"
+scripts/second.sh "$CARGO_TARGET_DIR/debug"
 grep -v '^#' tests/program/lenient.txt >"$folder/lenient"
 for run in linkshow:2 linkstate:3; do
     name=${run%:*}

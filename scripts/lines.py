@@ -4,7 +4,8 @@ import re
 import subprocess
 import sys
 
-MADE = r"dist/.*|rust/src/.*|crates\.txt|(bench|tests)/.*\.txt|edits/plants\.md|crates/.*/(std(in|out)|must-fail/.*)"
+MADE = (r"dist/.*|rust/src/generated/.*|crates\.txt|(bench|tests)/.*\.txt|edits/plants\.md|"
+        r"crates/.*/(std(in|out)|must-fail/.*)")
 files = subprocess.run(["git", "ls-files"], check=True, capture_output=True, text=True, timeout=60).stdout.split("\n")
 lines = [(f"{it}:{at}", it, line.rstrip("\n")) for it in files if it and not re.fullmatch(MADE, it)
          for at, line in enumerate(open(it, encoding="utf-8", errors="replace"), 1)]

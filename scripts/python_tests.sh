@@ -1,9 +1,10 @@
 #!/usr/bin/env bash
 # Tests the package in python/: python_tests.sh [FOLDER], where the shared library and the programs are, else out/. It
-# runs mypy --strict; the wheel, the same bytes twice, and what is said without a compiler; for each Python from 3.9 to
-# 3.13 that is here, a fresh environment into which pip installs the package without a network, and the tests there; the
-# running kernel, in a network namespace; the commands of docs/PYTHON.md and docs/FLEET.md; and what needs Debian's
-# pyroute2, PostgreSQL or distributed. What lacks is 'skipped'. The last line is 'python passed'.
+# runs mypy --strict; the wheel, the same bytes twice, also of the archive of sources, its tag by the compiler, and what
+# is said where one lacks or does not fit; pip install -e; for each Python from 3.9 to 3.13 that is here, a fresh
+# environment into which pip installs the package without a network, and the tests there; the running kernel, in a
+# network namespace; `Watch` beside linkdiff over 100,000 lines; the commands of docs/PYTHON.md and docs/FLEET.md; and
+# what needs Debian's pyroute2, PostgreSQL or distributed. What lacks is 'skipped'. The last line is 'python passed'.
 self=python
 . "$(dirname "$0")/common.sh"
 cd "$top"
@@ -24,18 +25,6 @@ offline() {
     else
         "$@"
     fi
-}
-
-# python 3.X: one of that version that runs, on the path or of pyenv
-python() {
-    local it
-    for it in "$(command -v "python$1" || true)" /usr/bin/"python$1" \
-        "${PYENV_ROOT:-$HOME/.pyenv}"/versions/"$1".*/bin/"python$1"; do
-        if [ -x "$it" ] && "$it" -c '' 2>/dev/null; then
-            echo "$it"
-            return
-        fi
-    done
 }
 
 # says PATTERN: whether the last error does
@@ -73,23 +62,108 @@ wheels() {
     if LINKWIRE=/nothing PYTHONPATH=python python3 -c 'import linkwire' 2>"$folder/err"; then
         fails 'the package is imported without a library'
     fi
-    says 'ImportError: linkwire: no shared library: install liblinkwire.so.0'
+    says 'ImportError: linkwire: LINKWIRE names a library that does not load: /nothing: cannot open'
+    if PYTHONPATH=python python3 -c 'import linkwire' 2>"$folder/err"; then
+        lacks 'what is said without a library: one is installed'
+    else
+        says 'ImportError: linkwire: no shared library: install liblinkwire.so.0'
+    fi
     echo 'python: the wheel: the same bytes twice; without a compiler or a library what lacks is said'
+}
+
+# lists PATTERN FILE: whether the archive has such a name
+lists() {
+    python3 -m zipfile -l "$2" | grep -q "$1" || fails "$2 has no $1"
+}
+
+# builds CC TAG: a wheel by this compiler has this tag
+builds() {
+    mkdir "$folder/by"
+    CC=$1 python3 python/backend.py "$folder/by" >"$folder/name"
+    grep -q -- "-py3-none-$2.whl\$" "$folder/name" || fails "by $1: $(cat "$folder/name")"
+    mv "$folder"/by/*.whl "$folder/$2.whl"
+    rmdir "$folder/by"
+}
+
+compilers() {
+    local it machine
+    builds cc "linux_$(uname -m)"
+    lists linkwire-.*/LICENSE "$folder/linux_$(uname -m).whl"
+    while read -r it machine; do
+        if command -v "${it%% *}" >/dev/null; then
+            builds "$it" "$machine"
+        else
+            lacks "a wheel for $machine: no ${it%% *}"
+        fi
+    done <<END
+aarch64-linux-gnu-gcc linux_aarch64
+musl-gcc musllinux_1_1_$(uname -m)
+END
+    for it in riscv64 arm s390x i686; do
+        printf '#!/bin/sh\necho %s-linux-gnu\n' "$it" >"$folder/tools/cc"
+        chmod +x "$folder/tools/cc"
+        if CC=$folder/tools/cc python3 python/backend.py "$folder" 2>"$folder/err"; then
+            fails "a wheel for $it"
+        fi
+        says "^linkwire: processors of $it-linux-gnu are not supported, only aarch64 and x86_64. linkdump is C"
+    done
+    rm "$folder/tools/cc"
+    mkdir "$folder/odd"
+    cp -r python/linkwire "$folder/odd"
+    if [ -e "$folder/linux_aarch64.whl" ] && [ "$(uname -m)" != aarch64 ]; then
+        python3 -m zipfile -e "$folder/linux_aarch64.whl" "$folder/odd"
+    else
+        echo nothing >"$folder/odd/linkwire/liblinkwire.so.0"
+    fi
+    if PYTHONPATH=$folder/odd python3 -c 'import linkwire' 2>"$folder/err"; then
+        fails 'a library of another processor is imported'
+    fi
+    says "ImportError: linkwire: the shared library is there and does not load: $folder/odd/linkwire/liblinkwire.so.0"
+    echo 'python: the tag of a wheel is of its compiler, and what does not fit is said'
+}
+
+# makes FOLDER PYTHON: a fresh environment there; `pip` installs into it
+makes() {
+    # by the pip that this Python has, where it can install elsewhere: to unpack one takes longer than all the rest
+    if "$2" -m pip --python "$2" --version >"$log" 2>&1 && "$2" -m venv --without-pip "$1"; then
+        pip=("$2" -m pip --python "$1/bin/python")
+    elif "$2" -m venv "$1" >"$log" 2>&1; then
+        pip=("$1/bin/pip")
+    else
+        return 1
+    fi
+}
+
+# sources: a wheel of an archive of sources is the one of the repository; an installation that follows the sources
+sources() {
+    local env=$folder/editable pip
+    mkdir "$folder/sources" "$folder/of-sources" "$folder/tree"
+    python3 python/backend.py --sdist "$folder/sources" >/dev/null
+    tar -xzf "$folder"/sources/*.tar.gz -C "$folder/sources"
+    (cd / && python3 "$folder"/sources/linkwire-*/backend.py "$folder/of-sources") >/dev/null
+    cmp "$folder"/one/*.whl "$folder"/of-sources/*.whl
+    cp -r python dist LICENSE "$folder/tree"
+    if ! makes "$env" python3; then
+        lacks 'an installation that follows the sources: no venv'
+        return
+    fi
+    runs offline "${pip[@]}" install --no-index -e "$folder/tree/python"
+    echo 'added = 1' >>"$folder/tree/python/linkwire/numbers.py"
+    (cd / && "$env/bin/python" -c 'import linkwire; linkwire.check(bytes(16)); print(linkwire.numbers.added)') \
+        >"$folder/said"
+    grep -qx 1 "$folder/said" || fails 'an installation does not follow the sources'
+    echo 'python: the archive of sources builds the same wheel, and pip install -e follows the sources'
 }
 
 # environment VERSION PYTHON: installs, and runs the tests
 environment() {
     local env=$folder/$1 start=$SECONDS pip log=$folder/$1.log
-    # by the pip that this Python has, where it can install elsewhere: to unpack one takes longer than all the rest
-    if "$2" -m pip --python "$2" --version >"$log" 2>&1 && "$2" -m venv --without-pip "$env"; then
-        pip=("$2" -m pip --python "$env/bin/python")
-    elif "$2" -m venv "$env" >"$log" 2>&1; then
-        pip=("$env/bin/pip")
-    else
+    if ! makes "$env" "$2"; then
         lacks "Python $1: no venv"
         return
     fi
     runs offline "${pip[@]}" install --no-index ./python
+    runs env -u LINKWIRE "$env/bin/linkwatch" --version
     runs env -u LINKWIRE PYTHONPATH=tests/python "$env/bin/python" -m unittest discover -v -s tests/python
     sed -n "s/.*\.\.\. skipped ['\"]\(.*\)['\"]\$/python: $1: skipped: \1/p" "$log" | sort | uniq -c |
         sed 's/^ *\([0-9]*\) \(.*\)/\2 (\1 tests)/'
@@ -137,8 +211,11 @@ system=/usr/bin/python3
 ln -s "$system" "$folder/bin/python3"
 types
 wheels
+compilers
+sources
 environments
 live
+ours nice -n 12 python3 tests/python/rules.py "$LINKDIFF"
 ours python3 tests/python/beside.py
 ours python3 tests/python/fleet.py
 echo 'python passed'

@@ -35,7 +35,7 @@ PAGES = "README.md", "docs/USING.md", "docs/C.md", "docs/PYTHON.md", "docs/FLEET
 WARNINGS = "-std=c11 -Wall -Wextra -Wpedantic -Wconversion -Wshadow -Werror -fsyntax-only".split()
 # what a command in the text of a page begins with; one word alone is a name
 PROGRAM = re.compile(
-    r"(?:apt-get|cargo|cut|link(?:diff|dump|show|state|wire)|make|parallel|pip|python3|rt|scripts/\S+) ")
+    r"(?:apt-get|cargo|cut|link(?:diff|dump|show|state|watch|wire)|make|parallel|pip|python3|rt|scripts/\S+) ")
 SECTIONS = "NAME", "SYNOPSIS", "DESCRIPTION", "OPTIONS", "EXIT STATUS", "EXAMPLES", "SEE ALSO"
 LINKS = "ip link set lo up && ip link add br0 type bridge && ip link add veth0 mtu 9000 type veth peer name veth1"
 
@@ -183,7 +183,8 @@ class Page:
 
 def plain(shown):
     """The text of a block of a manual page."""
-    return shown.replace("\\-", "-").replace("\\(dq", '"').replace("\\(aq", "'").replace("\\e", "\\")
+    return shown.replace("\\-", "-").replace("\\(dq", '"').replace("\\(aq", "'").replace("\\(->", "→") \
+        .replace("\\e", "\\")
 
 
 def targets():

@@ -40,12 +40,59 @@ END
 diff "$folder/wanted" "$folder/found"
 echo "rust: the page's program: ok"
 
+# the three programs of the first page of the docs, on the kernel
+runs cargo build --locked --example list --example watch --example change
+if unshare -rn true 2>/dev/null; then
+    # shellcheck disable=SC2016
+    runs unshare -rn sh -ec 'cd "$0"; timeout 30 ./watch 2 & sleep 2
+        ip link add v0 type veth peer name v1; ./change v0 1400; wait; ./list
+        ! ./change v9 1400; ! ./change' "$CARGO_TARGET_DIR/debug/examples"
+    [ "$(grep -cE '^[0-9]+: v[01] is ' "$folder/log") $(grep -cE '^[0-9]+: v0 mtu 1400$' "$folder/log")" = '2 1' ]
+    grep -q '^Error: Os { code: 19' "$folder/log"
+    grep -q 'usage: change NAME MTU' "$folder/log"
+    echo 'rust: list, watch and change run: ok'
+else
+    echo 'rust: list, watch and change: skipped: no network namespace may be made'
+fi
+
+# a call of a trait that is not named: rustc names the trait, and says of none that it is private
+mkdir -p "$folder/untold/src"
+sed 's/sample/untold/' "$folder/sample/Cargo.toml" >"$folder/untold/Cargo.toml"
+{
+    awk '/^(enum|struct) [A-Za-z0-9]+$/ { name = $2 } /^  has .*Emitable/ { print name }' items.txt
+    printf '%s\n' DefaultNla LinkAttribute Prop VfInfo
+} | while read -r name; do
+    echo "pub fn of_$name(it: &linkwire::$name) { it.buffer_len(); it.emit(&mut []); }"
+done >"$folder/untold/src/lib.rs"
+cat >>"$folder/untold/src/lib.rs" <<END
+pub fn frame(it: &linkwire::NlaBuffer<&[u8]>) {
+    let _ = linkwire::DefaultNla::parse(it);
+    let _ = linkwire::LinkAttribute::parse_with_param(it, linkwire::AddressFamily::Unspec);
+}
+END
+calls=$(grep -oE '\.(buffer_len|emit)\(|::parse(_with_param)?\(' "$folder/untold/src/lib.rs" | wc -l)
+(cd "$folder/untold" && ! cargo check >/dev/null 2>"$folder/log")
+[ "$(grep -c '^error\[E0599\]' "$folder/log") $(grep -c '^error\[' "$folder/log")" = "$calls $calls" ]
+[ "$(grep -cE '^[0-9 +|]*use linkwire::(Emitable|Parseable|ParseableParametrized);$' "$folder/log")" -ge "$calls" ]
+echo "rust: $calls calls of traits that are not named: rustc names the trait"
+
 runs cargo build --locked --release --example lines
 example=$CARGO_TARGET_DIR/release/examples/lines
 "$example" <"$linkwire/stdin" | cmp - "$linkwire/stdout"
 echo "rust: the program's stored input: the same bytes"
 program=$(program linkwire)
 [ -n "$program" ] || skips 'lines: the program linkwire is not built'
+runs "${CC:-cc}" -std=gnu11 -O2 -DLINES_ALONE -I"$top/include" -o "$folder/second" "$top/tests/second/lines.c"
+export PLACES=$top/tests/second/places.txt
+for set in all digits; do
+    "$folder/second" "$set" >"$folder/lines"
+    for it in linkwire: linkstate:state; do
+        # shellcheck disable=SC2086
+        "$example" ${it#*:} <"$folder/lines" |
+            runs "$folder/second" "$set" compare "${it%:*}" "$top/tests/second/stored.txt"
+        echo "rust: $(cat "$log")"
+    done
+done
 python3 "$top/scripts/rust_lines.py" "$folder/lines" "$count"
 "$program" <"$folder/lines" >"$folder/wanted"
 "$example" <"$folder/lines" | cmp - "$folder/wanted"

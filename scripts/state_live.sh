@@ -225,12 +225,15 @@ starts() {
 
 # stops: linkdump ends by a signal, linkdiff with its input, and each line is one of JSON, without counters
 stops() {
-    local it
+    local it status
     for ((it = 1; it < ${#running[@]}; it += 2)); do
         kill "${running[it]}" || true
     done
-    for it in "${running[@]}"; do
-        wait "$it" || fails 'linkdump --monitor | linkdiff does not end with status 0'
+    for it in "${!running[@]}"; do
+        status=0
+        wait "${running[it]}" || status=$?
+        # 128 and SIGTERM
+        [ "$status" = $((it % 2 * 143)) ] || fails "linkdump --monitor | linkdiff: one ends with status $status"
     done
     running=()
     if grep -hE '"path":"(stats|carrier-(changes|up-count|down-count))' "$folder/news" "$folder/polled" >&2; then

@@ -1,9 +1,12 @@
 #!/usr/bin/env bash
-# dist/SUMS: the sum of each text and of each source that the texts are made of, for `sha256sum -c dist/SUMS`, and in
-# comments the lines of crates.txt and the toolchain. Proofs change no text, and are not in it.
-#     sums.sh make            prints it, for the texts and the sources as they are
+# dist/SUMS: the sum of each text, of each source that the texts are made of, and of each file written by hand that a
+# build reads, for `sha256sum -c dist/SUMS`, and in comments the lines of crates.txt and the toolchain. Proofs change no
+# text, and are not in it.
+#     sums.sh make            prints it, for all as it is
+#     sums.sh written         prints it with new sums of the files written by hand, and the others as they stand there
 #     sums.sh unfit ARCH NAME..   prints the names of those texts that do not fit the tree
-#     sums.sh why ARCH NAME   prints in a line what changed since the text was made, nothing where it fits
+#     sums.sh why ARCH NAME.. -- FILE..   prints in a line what changed first of these texts, or of these files written
+#                             by hand, and what to do; nothing where all fit
 #     sums.sh check           compares all; where rt is on the path and is not the toolchain that made them, it says so
 . "$(dirname "$0")/common.sh"
 shopt -s inherit_errexit
@@ -26,13 +29,18 @@ sources() {
     [ "${#folders[@]}" = 0 ] || find "${folders[@]}" -name '*.rt' -type f -exec sha256sum {} +
 }
 
+# what is written by hand
+hand_written() {
+    printf '%s\n' Makefile completions/* dist/*.c dist/*.in dist/*.map dist/Makefile include/*.h programs/*
+}
+
 make_sums() {
     local all=() name arch crate
     for name in $(names); do
         mapfile -t -O "${#all[@]}" all < <(crates_below "$name")
     done
     mapfile -t all < <(printf '%s\n' "${all[@]}" | sort -u)
-    echo "# What the texts in dist/ are made of: sha256sum -c dist/SUMS compares the files, scripts/sums.sh all."
+    echo "# What dist/ and a build are made of: sha256sum -c dist/SUMS compares the files, scripts/sums.sh all."
     echo "# toolchain $(rt version)"
     for crate in "${all[@]}"; do
         grep "^${crate}[: ]" crates.txt | sed 's/^/# crates.txt /'
@@ -43,6 +51,13 @@ make_sums() {
             sha256sum "dist/$arch/$name.s"
         done
     done
+    hand_written | xargs sha256sum
+}
+
+# the same, where the texts and their sources stay as they were
+make_written() {
+    sed '/^#/p; /  crates\//p; /  dist\/.*\.s$/p; d' "$sums"
+    hand_written | xargs sha256sum
 }
 
 # unfit ARCH NAME..: of each text that does not fit a line, its name and what changed. Each file is read once.
@@ -104,13 +119,46 @@ unfit() {
         }' of=crates crates.txt of=then "$sums" of=now - <<<"$sums_now"
 }
 
+# unfit_written FILE..: the first that does not fit, and what is wrong with it
+unfit_written() {
+    local it
+    for it in "$@"; do
+        if [ ! -e "$it" ]; then
+            echo "$it is missing"
+            return
+        fi
+    done
+    it=$(sha256sum "$@" | grep -vxFf "$sums" | sed -n '1s/^[^ ]* *//p') || true
+    [ -z "$it" ] || echo "$it is not the file of $sums"
+}
+
+# why ARCH NAME.. -- FILE..
+why() {
+    local what names=()
+    while [ "${2:---}" != -- ]; do
+        names+=("$2")
+        set -- "$1" "${@:3}"
+    done
+    what=$([ "${#names[@]}" = 0 ] || unfit "$1" "${names[@]}" | sed -n '1s/^[^ ]* //p')
+    if [ -n "$what" ]; then
+        echo "$what: make dist proves it and makes dist/ anew, PROVE=1 proves it for one build; or put the file back"
+        return
+    fi
+    what=$(unfit_written "${@:3}")
+    [ -z "$what" ] || echo "$what: make sums writes its sum anew, or put the file back"
+}
+
 check() {
-    local arch what by all
+    local arch what by all files
     read -ra all <<<"$(names)"
+    mapfile -t files < <(
+        hand_written
+        sed '/^#/d; /  crates\//d; /\.s$/d; s/^[^ ]* *//' "$sums"
+    )
     for arch in $(archs); do
-        what=$(unfit "$arch" "${all[@]}" | sed -n '1s/^[^ ]* //p')
+        what=$(why "$arch" "${all[@]}" -- "${files[@]}")
         if [ -n "$what" ]; then
-            echo "dist: $what: make dist makes it anew" >&2
+            echo "dist: $what" >&2
             return 1
         fi
     done
@@ -123,7 +171,9 @@ check() {
 
 case $1 in
 make) make_sums ;;
+written) make_written ;;
 unfit) unfit "${@:2}" | cut -d ' ' -f 1 ;;
-why) unfit "$2" "$3" | cut -d ' ' -f 2- ;;
+why) why "${@:2}" ;;
 check) check ;;
+*) fails "no $1" ;;
 esac

@@ -1,8 +1,8 @@
 #!/usr/bin/env bash
-# Looks that what does not fit is told: a text with one instruction changed, with its sum and without, a sum that is
-# wrong, a source or a line of crates.txt that changed without `make dist`, and a file, a compiler, a text or a command
-# that is missing. A stand-in takes the place of rt. The texts in out/texts, of `dist.sh --compare`, are compared where
-# there are any.
+# Looks that what does not fit is told, and not built: a text with one instruction changed, with its sum and without, a
+# sum that is wrong, a source or a line of crates.txt that changed without `make dist`, a file written by hand that
+# changed without `make sums`, and a file, a compiler, a text or a command that is missing. A stand-in takes the place
+# of rt. The texts in out/texts, of `dist.sh --compare`, are compared where there are any.
 # shellcheck disable=SC2016
 . "$(dirname "$0")/common.sh"
 mkdir "$folder/bin" "$folder/rt"
@@ -58,6 +58,40 @@ told 'crates/link_msg/src/another.rt changed since dist/ was made'
 rm crates/link_msg/src/another.rt
 lacks crates/link_msg/src/lib.rt told 'crates/link_msg/src/lib.rt changed since dist/ was made'
 lacks crates.txt told 'crates.txt is missing'
+by_hand() {
+    tells "$1 is not the file of dist/SUMS: make sums writes its sum anew" scripts/sums.sh check
+    tells "$1 is not the file of dist/SUMS: make sums writes its sum anew" make -s all
+}
+changes dist/heap.c 's/malloc(count != 0 ? count : align)/malloc(count)/' by_hand dist/heap.c
+changes dist/errno.c '$a/* changed */' by_hand dist/errno.c
+changes dist/liblinkwire.map 's/linkwire_\*/*/' by_hand dist/liblinkwire.map
+changes dist/Makefile '$a# changed' by_hand dist/Makefile
+changes Makefile '$a# changed' by_hand Makefile
+changes include/linkwire.h 's/uint16_t kind; /uint32_t kind; /' by_hand include/linkwire.h
+changes programs/linkdump_lines.c '$a/* changed */' by_hand programs/linkdump_lines.c
+lacks dist/heap.c tells 'dist/heap.c is missing' scripts/sums.sh check
+# its sum is made anew, and no other
+summed() {
+    cp dist/SUMS "$folder/sums"
+    make -s sums
+    [ "$(diff "$folder/sums" dist/SUMS | grep -c '^[<>] [0-9a-f]*  dist/heap.c$')" = 2 ] || fails 'make sums: no sum'
+    [ "$(diff "$folder/sums" dist/SUMS | grep -c '^[<>]')" = 2 ] || fails 'make sums: other sums'
+    scripts/sums.sh check >/dev/null
+    [ "$(echo 0 | make -s run)" = nothex ]
+    cp "$folder/sums" dist/SUMS
+}
+changes dist/heap.c '$a/* changed */' summed
+make -s sums
+cmp dist/SUMS "$folder/sums"
+sed '/^#/d; /  dist\/heap.c$/d' dist/SUMS | sha256sum --quiet -c -
+echo 'test_dist: make sums: ok'
+
+named() {
+    [ "$(scripts/sums.sh unfit "$arch" linkwire link_c | xargs)" = "$1" ] || fails "sums.sh unfit does not name '$1'"
+}
+named ''
+changes crates/nla_wire/src/nla_read.rt '$a// changed' named 'linkwire link_c'
+changes "$text" "$instruction" named linkwire
 
 # where nobody can tell whether they fit, nothing is built: without a command, or without the script; its mode is no
 # matter
@@ -109,7 +143,7 @@ fits() {
 changes crates/nla_wire/specs/Frames.antt '$a-- changed' fits 'a specification'
 changes crates/linkshow/src/main.rt '$a// changed' fits 'a crate above'
 
-# with rt, what changed is proved
+# with rt, what changed is proved where that is asked for, and nowhere else
 cat >"$folder/rt/rt" <<'END_OF_RT'
 #!/bin/sh
 mkdir -p out/rlib
@@ -125,15 +159,15 @@ END_OF_RT
 chmod +x "$folder/rt/rt"
 mkdir "$folder/c"
 ar rc "$folder/c/liblibc_c.a"
-proved() {
-    PATH=$folder/rt:$PATH make -s run >"$folder/out" 2>"$folder/err" </dev/null
-    grep -qx proved "$folder/out"
-    grep -qx 'crates/nla_wire/src/nla_read.rt changed since dist/ was made: proving linkwire' "$folder/err"
-    echo 'test_dist: what changed is proved where rt is: ok'
+proves() {
+    PATH=$folder/rt:$PATH
+    for goal in run self-test all; do
+        tells "$read_rt changed since dist/ was made: make dist proves it" make -s "$goal"
+    done
+    make -s run PROVE=1 2>"$folder/err" </dev/null | grep -qx proved
+    echo 'test_dist: what changed is proved where PROVE=1 asks for it, and nowhere else: ok'
 }
-changes crates/nla_wire/src/nla_read.rt '$a// changed' proved
-[ "$(echo 0 | make -s run)" = nothex ]
-PATH=$folder/rt:$PATH make -s run PROVE=1 2>"$folder/err" </dev/null | grep -qx proved
+(changes "$read_rt" '$a// changed' proves)
 [ "$(echo 0 | make -s run)" = nothex ]
 # has_proved COUNT: in how many of the libraries stands what the stand-in made
 has_proved() {
@@ -148,6 +182,22 @@ has_proved 2
 make -s lib >/dev/null
 has_proved 0
 echo 'test_dist: what was proved gives way to what dist/ has: ok'
+
+# the caller's flags reach each call of the compiler, behind those that harden
+printf '#!/bin/sh\necho "$*" >>%s\nexec cc "$@"\n' "$folder/calls" >"$folder/bin/logs-cc"
+chmod +x "$folder/bin/logs-cc"
+make -s all CC=logs-cc CPPFLAGS=-DPASSED CFLAGS='-O1 -g' LDFLAGS=-Wl,-O1 >/dev/null
+passes() {
+    grep -E -- "$1" "$folder/calls" >"$folder/out"
+    if [ "$(wc -l <"$folder/out")" != "$2" ] || grep -vE -- "$3" "$folder/out" >&2; then
+        fails "calls of the compiler without $3"
+    fi
+}
+passes ' (dist/heap|dist/errno|programs/linkdump)[.]c ?' 3 '-fstack-protector-strong .*-DPASSED .*-O1 -g '
+passes ' -o out/link[a-z]* ' 5 '-Wl,-z,now .*-O1 -g -Wl,-O1 '
+passes ' -o out/liblinkwire.so.0 ' 1 '-Wl,-O1 .*-Wl,-z,now '
+rm -r out
+echo "test_dist: the caller's flags are passed on: ok"
 
 # bad input, and nothing is installed
 installs=(make -s install "DESTDIR=$folder/stage")
@@ -166,8 +216,8 @@ tells 'the texts in dist/ are for Linux, and mac-cc compiles for arm64-apple-dar
 mkdir "$folder/headers"
 tells 'cc -nostdinc finds no errno.h: install the headers of the C library' "${installs[@]}" CC='cc -nostdinc'
 touch "$folder/headers/errno.h" "$folder/headers/stdio.h"
-tells 'finds no linux/rtnetlink.h: install the headers of the kernel, or name their folder in CFLAGS' "${installs[@]}" \
-    CC="cc -nostdinc -isystem $folder/headers"
+tells 'finds no linux/rtnetlink.h: install the headers of the kernel, or name their folder in CPPFLAGS' \
+    "${installs[@]}" CC="cc -nostdinc -isystem $folder/headers"
 tells 'PROVE=1 proves the crates by the command rt, which is not on the path: leave it out' "${installs[@]}" PROVE=1
 for goal in dump out/linkdump; do
     tells 'there is no nocc: install a C compiler and binutils, or set CC' make -s "$goal" CC=nocc

@@ -38,14 +38,21 @@ for page in "$prefix"/share/man/man[13]/link*.[13]; do
     [ -z "$warnings" ] || fails "$warnings"
 done
 
+for name in linkwire linkshow linkstate linkdiff linkdump linkwatch; do
+    # shellcheck disable=SC2016
+    bash -c '. "$1" && complete -p "$2"' bash "$prefix/share/bash-completion/completions/$name" "$name" >completed
+    grep -qx "complete -F _linkwire $name" completed || fails "bash does not complete $name"
+done
+
 # With DESTDIR the paths inside are those without it, and nothing is left after the removal.
-make -s -C "$top" install DESTDIR="$folder/stage" PREFIX=/usr
+as_debian=(DESTDIR="$folder/stage" PREFIX=/usr ZSHDIR=/usr/share/zsh/vendor-completions)
+make -s -C "$top" install "${as_debian[@]}"
 grep -qx 'prefix=/usr' "$folder/stage/usr/lib/pkgconfig/linkwire.pc"
 # each file is one of Debian's packages, of which debhelper is not asked here
 find "$folder/stage" ! -type d -printf '/%P\n' | sort >"$folder/installed"
 sed -n 's|^usr/|/usr/|p' "$top"/debian/*.install | sed 's|/lib/\*/|/lib/|' | grep -v python3 | sort |
     diff "$folder/installed" - >&2 || fails 'debian/*.install lists other files'
-make -s -C "$top" uninstall DESTDIR="$folder/stage" PREFIX=/usr
+make -s -C "$top" uninstall "${as_debian[@]}"
 make -s -C "$top" uninstall DESTDIR= PREFIX="$prefix"
 left=$(find "$folder/stage" "$prefix" ! -type d)
 [ -z "$left" ] || fails "$left is left"

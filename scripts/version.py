@@ -43,7 +43,7 @@ PLACES = [(files, constant, re.compile(form, re.M)) for files, constant, form in
     ("docs/PROOFS.md", "TOOLCHAIN", r"toolchain\s+\(`([^`]*)`\)"),
 ]]
 # a program that says its version, anywhere but in what tells of older ones
-ANYWHERE = re.compile(r"\blink(?:wire|show|state|dump|diff)[ -]v?(\d+\.\d+\.\d+)")
+ANYWHERE = re.compile(r"\blink(?:wire|show|state|dump|diff|watch)[ -]v?(\d+\.\d+\.\d+)")
 OLDER = {"CHANGELOG.md", "docs/DECISIONS.md"}
 
 

@@ -13,7 +13,8 @@ fails() {
     exit 1
 }
 
-grep '  dist/' dist/SUMS | sha256sum --quiet -c - || fails "a text is not that of dist/SUMS"
+# the sources of the texts, and the Makefile of the repository, are not in the archive of a release
+sed '/^#/d; /  crates\//d; /  Makefile$/d' dist/SUMS | sha256sum --quiet -c - || fails 'a file is not that of dist/SUMS'
 
 top=$PWD
 # runs PROGRAM STORED: as the gate does, on the files stdin, args, a word a line, and data/ of a folder
@@ -41,6 +42,31 @@ for program in "$@"; do
     echo "$program: the stored run: $(wc -l <"$folder/stdout") lines: ok"
 done
 
+# ends WANTED WHAT COMMAND..: a program with this status
+ends() {
+    wanted=$1 what=$2 found=0
+    shift 2
+    "$@" >"$folder/stdout" 2>"$folder/stderr" || found=$?
+    [ "$found" = "$wanted" ] || fails "$*: $what: it ends with status $found"
+}
+
+version=$(sed -n 's/^#define LINKWIRE_VERSION "\(.*\)"$/\1/p' include/linkwire.h)
+for program in "$@"; do
+    # shellcheck disable=SC2086
+    {
+        ends 1 'a read that fails' $RUN "out/$program" <"$folder"
+        ends 0 'its version' $RUN "out/$program" --version </dev/null
+        grep -qx "$program $version" "$folder/stdout" || fails "$program --version has another version"
+        [ "$program" = linkwire ] || ends 2 'a word that it does not know' $RUN "out/$program" --unknown </dev/null
+    }
+    if [ -e /dev/full ]; then
+        found=0
+        # shellcheck disable=SC2086
+        echo 00 | $RUN "out/$program" >/dev/full 2>/dev/null || found=$?
+        [ "$found" = 1 ] || fails "$program: an output that is full: it ends with status $found"
+    fi
+done
+
 # compiles TEST WORD..: CC and its flags may be several words each
 compiles() {
     test=$1
@@ -61,6 +87,24 @@ for test in ${TESTS:-$(basename -s .c tests/c/*.c)}; do
         $RUN "$folder/$test"
     fi
 done
+# The lines of tests/second, and what a second reader of the format answers to them, as it is stored
+if [ -e tests/second ] && [ -z "${TESTS:-}" ]; then
+    # shellcheck disable=SC2086
+    $CC -std=gnu11 $CFLAGS -Iinclude -o "$folder/lines" tests/second/lines.c out/liblinkwire.a $LDFLAGS
+    answers=$top/tests/second/stored.txt
+    for set in all digits; do
+        $RUN "$folder/lines" "$set" >"$folder/$set"
+        for it in linkwire linkstate linkstate-lenient linkshow; do
+            option=--lenient program=${it%-lenient}
+            [ "$program" != "$it" ] || option=''
+            [ -e "out/$program" ] || continue
+            $RUN "out/$program" $option <"$folder/$set" | $RUN "$folder/lines" "$set" compare "$it" "$answers" ||
+                fails "$it answers otherwise than the second reader"
+        done
+    done
+    $RUN "$folder/lines" all calls | $RUN "$folder/lines" all compare calls "$answers" ||
+        fails 'the library answers otherwise than the second reader'
+fi
 if [ -e out/liblinkwire.so.0 ]; then
     compiles calls -Lout -llinkwire -Wl,-rpath,"$PWD/out"
     $RUN "$folder/calls"

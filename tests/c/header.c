@@ -1,5 +1,5 @@
-/* The header alone: in a program of its own it compiles as C99, C11 and C++17 (scripts/c_tests.sh), and says what the
- * library says. */
+/* The header alone: in a program of its own it compiles as C99, C11, C++11 and C++17 (scripts/c_tests.sh), and says
+ * what the library says. */
 #include "linkwire.h"
 
 #ifdef __cplusplus
@@ -18,8 +18,8 @@ static int writes(void) {
     linkwire_put_u32(&writer, 4, 1400);
     return writer.refused == 0 && writer.at == 40 &&
            linkwire_show(list, writer.at, linkwire_order("6.12.1", 6), 0, out, sizeof out) > 0 &&
-           linkwire_operstate_name(0) != NULL && linkwire_linkmode_name(0) != NULL && linkwire_flag_name(0) != NULL &&
-           linkwire_type_name(1) != NULL && linkwire_name(1) != NULL;
+           linkwire_operstate_name(0) && linkwire_linkmode_name(0) && linkwire_flag_name(0) && linkwire_type_name(1) &&
+           linkwire_name(1);
 }
 
 /* What changed of it, and what is refused of it. */

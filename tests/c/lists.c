@@ -226,7 +226,7 @@ static void measures_texts(void) {
 }
 
 static void tells_answers_apart(void) {
-    static const int answers[] = {0, -1, -2, -3, -4, -5, -6, -7, -16, -17, -18, -19, -20, -21};
+    static const int answers[] = {0, -1, -2, -3, -4, -5, -6, -7, -16, -17, -18, -19, -20, -21, -22};
     enum { COUNT = sizeof answers / sizeof *answers };
     for (size_t i = 0; i < COUNT; i++) {
         for (size_t k = 0; k < i; k++) {
@@ -234,7 +234,7 @@ static void tells_answers_apart(void) {
         }
     }
     EXPECT(strcmp(linkwire_answer_text(LINKWIRE_OUT_OF_MEMORY), "out of memory"), 0);
-    EXPECT(strcmp(linkwire_answer_text(-8), linkwire_answer_text(-21)), 0);
+    EXPECT(strcmp(linkwire_answer_text(-8), linkwire_answer_text(-22)), 0);
     EXPECT(strcmp(linkwire_answer_text(1), linkwire_answer_text(1000000)), 0);
 }
 

@@ -87,6 +87,54 @@ static void limits_a_nest(void) {
     }
 }
 
+/* Each call that writes, once: 60 bytes, of which the last four begin a nest. */
+static size_t writes_each(struct linkwire_writer *writer) {
+    static const uint8_t bytes[] = {1, 2, 3, 4};
+    linkwire_put_u8(writer, 2, 1);
+    linkwire_put_u16(writer, 3, 1);
+    linkwire_put_u32(writer, 4, 1);
+    linkwire_put_u64(writer, 5, 1);
+    linkwire_put_text(writer, 6, "a");
+    linkwire_put_bytes(writer, 7, bytes, 4);
+    linkwire_put_raw(writer, bytes, 4);
+    return linkwire_nest_begin(writer, 8);
+}
+
+/* A nest that is open is written to, and refused until it is ended; behind one that is ended twice nothing is. */
+static void refuses_a_nest_that_is_open(void) {
+    for (size_t ends = 0; ends <= 5; ends++) {
+        struct linkwire_writer writer = linkwire_writer_at(list, 300, 0);
+        size_t begins[4], written = 4;
+        begins[0] = linkwire_nest_begin(&writer, 1);
+        for (size_t i = 1; i < 4; i++) {
+            EXPECT(writer.refused, LINKWIRE_OPEN_NEST);
+            begins[i] = writes_each(&writer);
+            written += 60;
+            EXPECT(begins[i], written - 4);
+        }
+        for (size_t i = 0; i < ends; i++) {
+            linkwire_nest_end(&writer, begins[i < 4 ? 3 - i : 0]);
+        }
+        EXPECT(writer.refused, ends == 4 ? 0 : LINKWIRE_OPEN_NEST);
+        EXPECT(writer.at, written);
+        EXPECT(linkwire_writer_ended(&writer), ends == 5);
+        memset(list + written, 0xaa, sizeof list - written);
+        writes_each(&writer);
+        EXPECT(writer.at, ends == 5 ? written : written + 60);
+        EXPECT(is_kept(writer.at), 1);
+        EXPECT(writer.refused, LINKWIRE_OPEN_NEST);
+        EXPECT(linkwire_le(list, 2), ends < 4 ? 4 : written);
+    }
+    /* another refusal stays */
+    struct linkwire_writer writer = linkwire_writer_at(list, 8, 0);
+    size_t nest = linkwire_nest_begin(&writer, 1);
+    linkwire_put_u64(&writer, 2, 1);
+    EXPECT(writer.refused, LINKWIRE_NO_ROOM);
+    EXPECT(linkwire_writer_ended(&writer), 1);
+    linkwire_nest_end(&writer, nest);
+    EXPECT(writer.refused, LINKWIRE_NO_ROOM);
+}
+
 static void writes_bytes_as_they_are(void) {
     static const uint8_t bytes[] = {1, 2, 3, 4, 5, 6, 7, 8, 9};
     for (size_t len = 0; len <= sizeof bytes; len++) {
@@ -131,6 +179,7 @@ int main(void) {
     writes_what_is_put();
     keeps_a_refusal();
     limits_a_nest();
+    refuses_a_nest_that_is_open();
     writes_bytes_as_they_are();
     writes_numbers();
     return failures != 0;

@@ -237,7 +237,7 @@ class Tests:
                 it.stdin.flush()
                 self.wants("a line at once", (it.stdout.readline().decode(),), one.line() + "\n")
             it.send_signal(signal.SIGINT)
-            self.wants("an interrupt", (it.wait(10), it.stdout.read(), it.stderr.read()), 0, b"", b"")
+            self.wants("an interrupt", (it.wait(10), it.stdout.read(), it.stderr.read()), -signal.SIGINT, b"", b"")
             it.stdin.close()
 
     def closed(self, all_):

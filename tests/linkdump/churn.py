@@ -15,6 +15,7 @@ needs a right or a kind of link that is not there is 'skipped'; the last lines s
 import json
 import os
 import random
+import signal
 import subprocess
 import sys
 import tempfile
@@ -127,7 +128,7 @@ class Running:
     def stops(self):
         """Ends it, and returns what was followed."""
         self.process.terminate()
-        if self.process.wait(60) != 0:
+        if self.process.wait(60) != -signal.SIGTERM:
             self.fails(f"status {self.process.returncode}")
         self.thread.join()
         self.process.stdout.close()

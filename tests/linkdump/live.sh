@@ -41,13 +41,13 @@ starts() {
     waits 10 test -s "$folder/news" || fails "$*: no dump"
 }
 
-# stops SIGNAL: it ends with status 0, and its last line is whole
+# stops SIGNAL: it ends by it, and its last line is whole
 stops() {
     local status=0
     kill "-$1" "$running"
     wait "$running" || status=$?
     trap - EXIT
-    if [ "$status" != 0 ] || [ -n "$(tail -c 1 "$folder/news" | tr -d '\n')" ]; then
+    if [ "$(kill -l "$status")" != "$1" ] || [ -n "$(tail -c 1 "$folder/news" | tr -d '\n')" ]; then
         fails "$1: status $status"
     fi
 }
@@ -104,8 +104,9 @@ wrong_use() {
     wants 2 '' 'linkdump: --host: not with --plain; see linkdump --help' --host h --plain
     wants 2 '' 'linkdump: --host: no name; see linkdump --help' --host ''
     local bad
-    for bad in 'a b' ' a' $'a\t' $'\na' $'a\x7f'; do
-        wants 2 '' "linkdump: --host: a blank or a control character in '$bad'; see linkdump --help" --host "$bad"
+    for bad in 'a b' ' a' 'a\u0009' '\u000aa' 'a\u007f'; do
+        wants 2 '' "linkdump: --host: a blank or a control character in '$bad'; see linkdump --help" \
+            --host "$(printf '%b' "$bad")"
     done
     for bad in 256 0x100 -1 ' 1' '' 1x 99999999999999999999; do
         wants 2 '' "linkdump: --family: neither a name nor a number up to 255: '$bad'; see linkdump --help" \
@@ -122,6 +123,40 @@ wrong_use() {
     "$linkdump" --help >"$folder/out"
     [ "$(head -c 18 "$folder/out")" = 'linkdump [--family' ] || fails 'no help'
     "$linkdump" -h | cmp -s - "$folder/out" || fails 'another help'
+}
+
+# names of files and other words on standard error: what is no plain text is escaped
+escapes() {
+    local given said
+    while read -r given said; do
+        given=$(printf '%b' "$given")
+        wants 2 '' "linkdump: '$said': not expected; see linkdump --help" "$given"
+        wants 1 '' "linkdump: --netns ./$said: No such file or directory" --netns "./$given"
+    done <<'END'
+plain plain
+a\x01\x1b[2J\x1f a\u0001\u001b[2J\u001f
+\x7f \u007f
+\xc2\x80\xc2\x9f \u0080\u009f
+\xd8\x9c \u061c
+\xe2\x80\x8e\xe2\x80\x8f \u200e\u200f
+\xe2\x80\xa8\xe2\x80\xa9\xe2\x80\xaa\xe2\x80\xae \u2028\u2029\u202a\u202e
+\xe2\x81\xa6\xe2\x81\xa9 \u2066\u2069
+a\\\\b a\\\\b
+\xff\x80 \xff\x80
+\xc3 \xc3
+\xc1\xbf \xc1\xbf
+\xe2\x80 \xe2\x80
+\xe0\x9f\xbf \xe0\x9f\xbf
+\xed\xa0\x80 \xed\xa0\x80
+\xf0\x8f\xbf\xbf \xf0\x8f\xbf\xbf
+\xf4\x90\x80\x80 \xf4\x90\x80\x80
+END
+    # next to those that are escaped, and the last of each length
+    given='~\xc2\xa0\xdf\xbf\xe2\x80\x90\xe2\x80\xa7\xe2\x80\xaf\xe2\x81\xa5\xe2\x81\xaa\xef\xbf\xbf\xf4\x8f\xbf\xbf'
+    said=$(printf '%b' "$given")
+    wants 2 '' "linkdump: '$said': not expected; see linkdump --help" "$said"
+    said=$(printf '%04999d' 0)
+    wants 1 '' "linkdump: --netns ./$said: File name too long" --netns "./$said"
 }
 
 # what cannot be written: linkdump WORD..
@@ -159,7 +194,7 @@ ends() {
     kill -INT "$running" 2>/dev/null || true
     wait "$running" || status=$?
     exec 5<&-
-    [ "$status$(cat "$folder/err")" = 0 ] || fails 'a pipe that is full, and two interrupts'
+    [ "$status$(cat "$folder/err")" = 130 ] || fails 'a pipe that is full, and two interrupts'
     rm "$folder/pipe"
 }
 
@@ -508,6 +543,7 @@ if [ -n "$inside" ]; then
     exit 0
 fi
 wrong_use
+escapes
 needs_netlink "$linkdump"
 for words in '' '--version' '--help'; do
     # shellcheck disable=SC2086 # none or one

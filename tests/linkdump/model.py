@@ -7,7 +7,9 @@ prints each interface that came or went, and then those that are left. An interf
 Each keeps the place of its last line, and each host that of the line `begin` of its last dump. At the line `done` of
 the same seq= and port= each interface of its family that had no line since `begin` went; in AF_UNSPEC also the parts of
 an interface, its messages of AF_BRIDGE and of AF_INET6, where neither had one. A message that is refused is a line of
-its interface, and with type=del its end. A dump among whose lines is one of no interface that can be read ends nothing.
+its interface, and with type=del its end; one of type=del that is accepted is told also where all before was refused. A
+dump among whose lines is one of no interface that can be read ends nothing; what was asked, type=get and type=set, is
+no line of a dump. The kind of an interface is the last that a message of it named.
 """
 
 import re
@@ -46,10 +48,10 @@ class Message:
 
 
 class Seen:
-    """Of an interface the place of its last line, and the last message that was accepted."""
+    """Of an interface the place of its last line, the last message that was accepted, and the kind that is known."""
 
     def __init__(self):
-        self.at, self.message = 0, None
+        self.at, self.message, self.kind = 0, None, ""
 
 
 class Model:
@@ -64,14 +66,18 @@ class Model:
         host = words.get("host", "")
         if words and not digits:
             return self.take_words(host, words)
+        if words.get("type") in ("get", "set"):
+            return []
         if not re.fullmatch("(?:[0-9a-fA-F]{2})*", digits) or len(digits) < 2 * HEADER:
             self.begun.pop(host, None)
             return []
         bytes_ = bytes.fromhex(digits)
         key = host, bytes_[0], index_of(bytes_)
         if words.get("type") == "del":
-            return self.end(it for it in self.reached(host, key[1]) if it[2] == key[2])
-        return [] if words.get("type") in ("get", "set") else self.see(key, Message(bytes_))
+            is_told = key in self.known and not Message(bytes_).is_refused
+            told = self.end(it for it in self.reached(host, key[1]) if it[2] == key[2])
+            return told if not is_told or ("gone", key) in told else sorted([*told, ("gone", key)])
+        return self.see(key, Message(bytes_))
 
     def take_words(self, host, words):
         dump = words.get("seq"), words.get("port")
@@ -106,13 +112,12 @@ class Model:
         if message.is_refused:
             self.known.setdefault(key, Seen()).at = self.at
             return told
-        if seen and seen.message and "" not in (seen.message.kind, message.kind) and \
-                seen.message.kind != message.kind:
+        if seen and seen.message and "" not in (seen.kind, message.kind) and seen.kind != message.kind:
             told = self.end(it for it in self.reached(key[0], key[1]) if it[2] == key[2])
         seen = self.known.setdefault(key, Seen())
         if not seen.message:
             told.append(("new", key))
-        seen.at, seen.message = self.at, message
+        seen.at, seen.message, seen.kind = self.at, message, message.kind or seen.kind
         return told
 
     def names(self, host, family):
