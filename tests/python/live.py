@@ -426,9 +426,10 @@ def asks_within(links):
         nonlocal count
         count += 1
         wants("asked within", name_of(links.get(index=1)), "lo")
+        signal.setitimer(signal.ITIMER_REAL, .001)
 
     last = signal.signal(signal.SIGALRM, handler)
-    signal.setitimer(signal.ITIMER_REAL, .001, .001)
+    signal.setitimer(signal.ITIMER_REAL, .001)
     try:
         while count < 200:
             wants("asked", name_of(links.get("lo")), "lo")

@@ -26,7 +26,7 @@ def wrong(folder, commands):
     script = f"set -e\n{LINKS}\nset +e\n" + "".join(f"{{ {command}\n}}; echo ==={at}=== $?\n"
                                                     for at, (command, _) in enumerate(commands))
     done = subprocess.run(["unshare", "-n", "bash", "-c", script], cwd=folder, capture_output=True, text=True,
-                          timeout=300, check=False, stdin=subprocess.DEVNULL)
+                          timeout=600, check=False, stdin=subprocess.DEVNULL)
     at = 0
     for number, (command, wanted) in enumerate(commands):
         end = re.search(rf"^==={number}=== (\d+)\n", done.stdout, re.M)
@@ -40,11 +40,15 @@ def wrong(folder, commands):
     return None
 
 
+def slower(command, times):
+    return re.sub(r"\b(sleep|timeout) (\d+)\b", lambda it: f"{it[1]} {int(it[2]) * times}", command)
+
+
 def run(page, folder, shown):
-    """Runs the commands of a block, on a machine that may be busy: some have to be in time. Returns how many."""
+    """Runs the commands of a block; where the machine is busy, once more with longer waits. Returns how many."""
     commands = COMMAND.findall(shown)
-    for _ in range(3):
-        what = wrong(folder, commands)
+    for times in 1, 4, 16:
+        what = wrong(folder, [(slower(command, times), wanted) for command, wanted in commands])
         if what is None:
             return len(commands)
     sys.exit(f"pages: {page}: {what}")

@@ -62,9 +62,10 @@ class Reentry(unittest.TestCase):
         def handler(*_):
             turns[0] += 1
             others()
+            signal.setitimer(signal.ITIMER_REAL, .0005)  # once more, and not while this one is handled
 
         last = signal.signal(signal.SIGALRM, handler)
-        signal.setitimer(signal.ITIMER_REAL, .0007, .0007)
+        signal.setitimer(signal.ITIMER_REAL, .0005)
         try:
             for at in itertools.count():
                 for call, wanted in zip(CALLS, self.wanted):
