@@ -1,6 +1,7 @@
 #!/usr/bin/env bash
-# Packs the archive of a release, out/linkwire-VERSION.tar.gz, of what dist/ has, and prints where it is: the texts and
-# what builds and tests them, and no crates. It has the same bytes each time, and says the date of the newest version.
+# Packs the archive of a release, out/linkwire-VERSION.tar.gz, of what dist/ has, and prints where it is: the texts, what
+# builds and tests them, the pages and the crate in rust/, and no crates of Rattle. It has the same bytes each time, and
+# says the date of the newest version.
 . "$(dirname "$0")/common.sh"
 cd "$top"
 scripts/sums.sh check >/dev/null
@@ -11,7 +12,8 @@ to=$folder/$name
 mkdir -p "$to/tests" out
 cp README.md LICENSE CHANGELOG.md "$to"
 echo 'include dist/Makefile' >"$to/Makefile"
-cp -r completions dist include man programs "$to"
+cp -r completions dist docs examples include man programs rust "$to"
+rm -rf "$to"/rust/target "$to"/rust/*/target
 mkdir -p "$to/python/linkwire" "$to/python/linkwatch"
 cp python/*.py python/*.toml "$to/python"
 cp python/linkwire/*.py python/linkwire/py.typed "$to/python/linkwire"
