@@ -78,8 +78,8 @@ zpty z zsh -f -i
 zpty -w z "PS1='> '; fpath=($1 \$fpath); autoload -Uz compinit; compinit -u -d $PWD/dump"
 zpty -w z 'linkwatch() { print -rl -- "$@" >>words; }; sleep .2; linkwatch ready'
 count=0
-tells() { # whether another word is told, within twenty seconds
-    for _ in {1..400}; do
+tells() { # whether another word is told, within five minutes
+    for _ in {1..6000}; do
         [[ -e words && $(wc -l <words) -gt $count ]] && count=$(wc -l <words) && return
         sleep .05
     done

@@ -25,7 +25,7 @@ from linkwire import Links, Watch, show
 
 LINKDUMP, LINKDIFF = map(os.path.realpath, sys.argv[1:3])
 COMMAND = [sys.executable, "-m", "linkwatch"]
-MARK = "link set lo alias the-end"
+PATIENCE = 600  # seconds after which a program is taken to hang, on whatever machine
 STEPS = ["link set veth0 mtu 9000", "link set veth0 up", "link set veth1 up", "link set br0 up",
          "link set veth0 master br0", "link set veth0 type bridge_slave cost 77 learning off", "link set veth1 down",
          "link set veth1 name core", "link set core address 02:00:00:00:00:01",
@@ -45,7 +45,7 @@ def fails(what):
 
 def ip(*lines):
     subprocess.run(["ip", "-force", "-batch", "-"], input="".join(f"{it}\n" for it in lines).encode(), check=False,
-                   stderr=subprocess.DEVNULL, timeout=120)
+                   stderr=subprocess.DEVNULL, timeout=PATIENCE)
 
 
 class Watching:
@@ -61,9 +61,9 @@ class Watching:
         with open(self.path, encoding="utf-8") as it:
             return it.read()
 
-    def waits(self, text, seconds=120):
+    def waits(self, text):
         """Until the file has this text."""
-        end = time.monotonic() + seconds
+        end = time.monotonic() + PATIENCE
         while text not in self.text():
             if time.monotonic() > end:
                 fails(f"{self.path} has no {text}: {self.text()[-300:]}")
@@ -71,14 +71,23 @@ class Watching:
 
     def ends(self):
         self.process.terminate()
-        self.process.wait(60)
+        self.process.wait(PATIENCE)
         return self.text().splitlines()
 
 
+def marked(running, mark):
+    """Gives the loopback an alias, which is announced as it goes up, and waits until each program has told it."""
+    ip("link set lo down", f"link set lo alias {mark}", "link set lo up")
+    for name, it in running.items():
+        it.waits(mark.encode().hex() if name == "record" else mark)
+
+
 def begin(folder, *names):
-    """The programs, once each has asked for what is there: each tells of a change that is made again and again."""
-    words = {"record": [LINKDUMP, "--monitor", "--family", "unspec,bridge"], "shown": [*COMMAND, "--time", "none"],
-             "json": [*COMMAND, "--json"]}
+    """The programs, once each has asked for what is there: each tells of a change that is made again and again. None
+    asks again, since the lines would depend on when it does."""
+    words = {"record": [LINKDUMP, "--monitor", "--family", "unspec,bridge"],
+             "shown": [*COMMAND, "--time", "none", "--every", "1000000"],
+             "json": [*COMMAND, "--json", "--every", "1000000"]}
     running = {it: Watching(folder, it, words[it]) for it in names}
     running["record"].waits("family=7 links=")
     time.sleep(.5)
@@ -92,21 +101,22 @@ def begin(folder, *names):
 
 
 def end(running):
-    ip(MARK, "link set lo down", "link set lo up")
-    for name, it in running.items():
-        it.waits("the-end".encode().hex() if name == "record" else "the-end")
-    time.sleep(.3)
-    return {name: it.ends() for name, it in running.items()}
+    marked(running, "the-end")
+    found = {name: it.ends() for name, it in running.items()}
+    subprocess.run(["ip", "link", "set", "lo", "alias", ""], check=True, timeout=PATIENCE)  # for the next one
+    return found
 
 
-def after_first(lines):
-    """What stands behind the last change that `begin` made, for programs that did not all see the first of them."""
+def between(lines):
+    """What stands behind the last change that `begin` made, for programs that did not all see the first of them, up to
+    that which `end` made: what follows it may come too late."""
     last = max(at for at, it in enumerate(lines) if "begin" in it and "lo" in it)
-    return lines[last + 1:]
+    return lines[last + 1:next(at for at, it in enumerate(lines) if "the-end" in it) + 1]
 
 
 def replayed(folder, *words):
-    ran = subprocess.run([*COMMAND, "--read", f"{folder}/record", *words], capture_output=True, check=True, timeout=120)
+    ran = subprocess.run([*COMMAND, "--read", f"{folder}/record", *words], capture_output=True, check=True,
+                         timeout=PATIENCE)
     return ran.stdout.decode().splitlines()
 
 
@@ -124,7 +134,7 @@ def is_same(what, found, wanted):
 def linkdiff(folder):
     with open(f"{folder}/record", "rb") as record:
         ran = subprocess.run([LINKDIFF, "--changes-only", "--lenient"], stdin=record, capture_output=True, check=True,
-                             timeout=120)
+                             timeout=PATIENCE)
     return ran.stdout.decode().splitlines()
 
 
@@ -137,9 +147,9 @@ def steps():
             ip(it)
             time.sleep(.03)
         found = end(running)
-        is_same("replayed", after_first(replayed(folder, "--time", "none")), after_first(found["shown"]))
+        is_same("replayed", between(replayed(folder, "--time", "none")), between(found["shown"]))
         differ = linkdiff(folder)
-        is_same("JSON", list(map(plain, after_first(found["json"]))), list(map(plain, after_first(differ))))
+        is_same("JSON", list(map(plain, between(found["json"]))), list(map(plain, between(differ))))
         is_same("JSON replayed", list(map(json.loads, replayed(folder, "--json"))), list(map(json.loads, differ)))
         rest = iter(found["shown"])
         for wanted in TOLD:
@@ -195,9 +205,10 @@ def random_operations():
         done = list(random_steps(random.Random(75), 2500))
         for at in range(0, len(done), 100):
             ip(*done[at:at + 100])
+            marked(running, f"mark{at}-")  # a program that is far behind would lose messages
         found = end(running)
-        is_same("replayed", after_first(replayed(folder, "--time", "none")), after_first(found["shown"]))
-        is_same("JSON", list(map(plain, after_first(found["json"]))), list(map(plain, after_first(linkdiff(folder)))))
+        is_same("replayed", between(replayed(folder, "--time", "none")), between(found["shown"]))
+        is_same("JSON", list(map(plain, between(found["json"]))), list(map(plain, between(linkdiff(folder)))))
         print(f"linkwatch live: {len(done)} random operations: {len(found['shown'])} lines, as replayed and as "
               f"linkdiff, {chains(folder)} values without a gap or a repeat: ok")
     with Links() as links:
@@ -216,7 +227,7 @@ def flood():
         batch = subprocess.Popen(["ip", "-batch", f"{folder}/batch"])
         shown.waits("qlen")
         first = time.monotonic() - start
-        batch.wait(60)
+        batch.wait(PATIENCE)
         made = time.monotonic() - start
         shown.waits("→ 10000\n")
         print(f"linkwatch live: 10,000 changes in {made:.2f} s: the first is shown after {first:.2f} s, the last after "
@@ -239,7 +250,7 @@ def tables():
     ip("link add t0 type veth peer name t1", "link set t0 name t\x1b[2J", "link set t\x1b[2J alias a\u202e\u009b",
        "link add t2 type bridge")
     found = {words: subprocess.run([*COMMAND, "--once", *words], capture_output=True, check=True,
-                                   timeout=60).stdout.decode()
+                                   timeout=PATIENCE).stdout.decode()
              for words in (("--json",), ("t*",))}
     aliases = {it["ifname"]: it.get("ifalias") for it in map(json.loads, found["--json",].splitlines())}
     if not found["--json",].isascii() or aliases.get("t\x1b[2J") != "a\u202e\u009b":

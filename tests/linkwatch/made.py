@@ -16,6 +16,7 @@ from linkwire import u8, u32
 TOP = os.path.dirname(os.path.dirname(os.path.dirname(os.path.abspath(__file__))))
 LINKDIFF = os.environ.get("LINKDIFF", f"{TOP}/out/linkdiff")
 COMMAND = [sys.executable, "-m", "linkwatch"]
+PATIENCE = 600  # seconds after which the command is taken to hang, on whatever machine
 BEGIN = "type=begin seq=1 port=7"
 DONE, DONE_BRIDGE = (f"type=done seq=1 port=7 family={it}" for it in (0, 7))
 ENVIRONMENT = {**{it: os.environ[it] for it in os.environ if it not in ("COLUMNS", "NO_COLOR", "TERM")},
@@ -75,7 +76,7 @@ def stream(first, *lines):
 def linkwatch(words, lines, **environment):
     """What the command writes, as bytes, what it says on standard error, and its status."""
     text = "".join(f"{it}\n" for it in lines).encode("utf-8", "surrogateescape")
-    ran = subprocess.run([*COMMAND, *words], input=text, capture_output=True, check=False, timeout=120,
+    ran = subprocess.run([*COMMAND, *words], input=text, capture_output=True, check=False, timeout=PATIENCE,
                          env={**ENVIRONMENT, **environment})
     return ran.stdout, ran.stderr.decode(), ran.returncode
 

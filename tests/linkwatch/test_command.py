@@ -5,7 +5,7 @@ import subprocess
 import tempfile
 import unittest
 
-from made import BEGIN, COMMAND, ENVIRONMENT, line, linkwatch, mtu, name, stream
+from made import BEGIN, COMMAND, ENVIRONMENT, PATIENCE, line, linkwatch, mtu, name, stream
 
 FIRST = [line(2, name("veth0"), mtu(1500)), line(3, name("br0"), mtu(1500))]
 CHANGED = stream(FIRST, line(2, name("veth0"), mtu(9000)))
@@ -42,7 +42,7 @@ class Command(unittest.TestCase):
                                           ("2>&- >/dev/full", 2, ""), ("<&-", 2, "linkwatch: Bad file descriptor\n")):
             ran = subprocess.run(["sh", "-c", f'"$@" {redirection}', "sh", *COMMAND, "--read", "-"], check=False,
                                  input="\n".join(CHANGED), text=True, stderr=subprocess.PIPE, env=ENVIRONMENT,
-                                 timeout=60)
+                                 timeout=PATIENCE)
             self.assertEqual((ran.returncode, ran.stderr), (status, said), redirection)
 
     def test_at_once(self):
@@ -74,7 +74,7 @@ class Command(unittest.TestCase):
                     with open(f"{folder}/{file}", "w", encoding="utf-8") as it:
                         it.write("\n".join(content) + "\n")
                 ran = subprocess.run([*COMMAND, "--diff", "OLD", "NEW"], cwd=folder, capture_output=True, text=True,
-                                     check=False, timeout=60, env=ENVIRONMENT)
+                                     check=False, timeout=PATIENCE, env=ENVIRONMENT)
             self.assertEqual((ran.stdout.splitlines(), ran.stderr, ran.returncode),
                              (lines, said and f"linkwatch: {said}\n", wanted))
 

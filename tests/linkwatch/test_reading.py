@@ -12,7 +12,7 @@ from linkwatch.printing import Output, Settled
 from linkwatch.folding import Told
 from linkwatch.wording import Words
 from linkwire import Change
-from made import LINKDIFF, chance_lines, inside, line, mtu, name, stream
+from made import LINKDIFF, PATIENCE, chance_lines, inside, line, mtu, name, stream
 
 FIRST = [line(2, name("veth0"), mtu(1500)), line(3, name("br0"), mtu(1500))]
 # arguments and what is said of them
@@ -76,7 +76,7 @@ class Reading(unittest.TestCase):
             lines = list(chance_lines(seed, 400))
             text = "".join(f"{it}\n" for it in lines)
             ran = subprocess.run([LINKDIFF, "--changes-only", "--lenient"], input=text, capture_output=True, text=True,
-                                 check=True, timeout=60)
+                                 check=True, timeout=PATIENCE)
             found, _ = inside(["--json"], lines)
             self.assertTrue(found.isascii())
             self.assertEqual([list(json.loads(it).items()) for it in found.splitlines()],

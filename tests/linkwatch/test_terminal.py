@@ -13,7 +13,7 @@ import unittest
 
 from linkwire import numbers as n
 from linkwire import u32
-from made import BEGIN, COMMAND, DONE, ENVIRONMENT, line, mtu, name, stream
+from made import BEGIN, COMMAND, DONE, ENVIRONMENT, PATIENCE, line, mtu, name, stream
 
 FIRST = [line(2, name("veth0"), mtu(1500)), line(3, name("br0"), mtu(1500))]
 CHANGED = stream(FIRST, line(2, name("veth0"), mtu(9000)))
@@ -67,7 +67,7 @@ class Terminal:
         self.process.stdin.close()
         found = self.until(None)
         os.close(self.master)
-        return found, self.process.wait(60)
+        return found, self.process.wait(PATIENCE)
 
 
 def shown(words, lines, columns=80, **environment):
@@ -143,18 +143,18 @@ class AtTerminal(unittest.TestCase):
         terminal.write(CHANGED)
         self.assertEqual(terminal.until("\n"), COLOURED)
         os.write(terminal.master, b"\x03")
-        terminal.process.wait(60)  # before its standard input ends
+        terminal.process.wait(PATIENCE)  # before its standard input ends
         found, status = terminal.ended()
         self.assertEqual((found.replace("^C", ""), status), ("", -signal.SIGINT))
         ran = subprocess.run(["sh", "-c", 'trap "" INT; "$@" & sleep .4; kill -INT $!; wait $!', "sh", *COMMAND,
                               "--for", "1"],
-                             env=ENVIRONMENT, timeout=60, check=False, capture_output=True)
+                             env=ENVIRONMENT, timeout=PATIENCE, check=False, capture_output=True)
         self.assertEqual(ran.returncode, 0)
 
     def test_nobody_reads(self):
         ran = subprocess.run(["bash", "-c",
                               '"$@" | true; echo "${PIPESTATUS[0]}"; yes "$LINES_" | "$@" --read - | head -n 1',
-                              "sh", *COMMAND], env={**ENVIRONMENT, "LINES_": "\n".join(CHANGED)}, timeout=60,
+                              "sh", *COMMAND], env={**ENVIRONMENT, "LINES_": "\n".join(CHANGED)}, timeout=PATIENCE,
                              check=False,
                              capture_output=True, text=True)
         self.assertEqual((ran.stdout, ran.stderr), (f"0\n{PLAIN}", ""))
