@@ -6,7 +6,7 @@ from typing import List
 
 from linkwire import __version__
 
-from .options import HELP, Misused, Options
+from .options import HELP, Options
 from .printing import Enough, Output
 from .reading import Teller, compared, live, recorded, says
 from .wording import Words
@@ -20,13 +20,8 @@ def run(arguments: List[str]) -> int:
         says("standard output is closed")
         return TROUBLE
     try:
-        options = Options(arguments)
-    except Misused as error:
-        says(str(error))
-        return TROUBLE
-    try:
         try:
-            status = _done(options)
+            status = _done(Options(arguments))
         except Enough:
             status = 0
         sys.stdout.flush()
@@ -57,8 +52,8 @@ def _done(options: Options) -> int:
     if options.diff:
         options.time, options.settle = "none", 0
         return compared(options, teller)
-    if options.read is not None:
-        recorded(options, teller, options.read)
-    else:
+    if options.read is None:
         live(options, teller)
+    else:
+        recorded(options, teller, options.read)
     return 0

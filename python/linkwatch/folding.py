@@ -19,8 +19,8 @@ HIDDEN_STARTS = ("af-spec.", "data.root-id.", "data.bridge-id.", "data.bc-queue-
                  "port.bridge-id.", "port.designated-", "port.id", "port.no", "port.queue-id", "port.perm-hwaddr")
 HIDDEN_FLAGS = {"running", "lower-up"}
 FIRST = "mtu", "operstate", "address", "master"  # what is told of a new link, after its kind
-LOST = "messages of the kernel: all links are asked for again"
-AGAIN = "all is known: what changed meanwhile is told above"
+TEXTS = {"lost": "messages of the kernel: all links are asked for again",
+         "again": "all is known: what changed meanwhile is told above"}
 
 
 class Told(NamedTuple):
@@ -132,8 +132,8 @@ class Folding:
 
     def told(self, event: Event, is_first: bool = False) -> List[Told]:
         """The lines of an event; of a link that is there at first none."""
-        if event.change in ("lost", "again"):
-            return [Told(event.change, event.host, text=LOST if event.change == "lost" else AGAIN)]
+        if event.change in TEXTS:
+            return [Told(event.change, event.host, text=TEXTS[event.change])]
         if event.change == "fault":
             name = "" if event.ifindex is None else self.name(event.host, event.ifindex)
             told = Told("fault", event.host, event.ifindex, name, text=str(event.fault))

@@ -1,6 +1,7 @@
 """The arguments of the command."""
 
-from typing import Callable, Dict, Iterator, List, Optional, Tuple
+import re
+from typing import Any, Callable, Dict, Iterator, List, Optional, Tuple
 
 HELP = """usage: linkwatch [OPTION ..] [NAME ..]
        linkwatch --once [NAME ..]
@@ -31,46 +32,68 @@ The manual page linkwatch(1) says the rest.
 """
 
 
-class Misused(Exception):
+class Misused(ValueError):
     """What is wrong with the arguments."""
 
 
-def seconds(text: str) -> float:
-    """A number that poll(2) can wait for. Raises ValueError, as the others do."""
-    if not 0 < float(text) <= 1e6:
+def _seconds(text: str) -> float:
+    if not 0 < float(text) <= 1e6:  # which poll(2) can wait for
         raise ValueError
     return float(text)
 
 
-def lines(text: str) -> int:
-    """A number from 1 on."""
+def _lines(text: str) -> int:
     if int(text) < 1:
         raise ValueError
     return int(text)
 
 
-def one_of(*words: str) -> Callable[[str], str]:
-    """One of these words."""
-    return lambda text: words[words.index(text)]
-
-
-FLAGS = {"--once": "once", "--json": "json", "--details": "details", "-h": "help", "--help": "help",
-         "--version": "version"}
-# where each value is kept, what it is made by, and what it is
-VALUES: Dict[str, Tuple[str, Callable[[str], object], str]] = {
-    "--read": ("read", str, "a file"),
-    "--netns": ("netns", str, "a name or a path"),
-    "--every": ("every", seconds, "a number of seconds above 0"),
-    "--for": ("end", seconds, "a number of seconds above 0"),
-    "--rates": ("rates", seconds, "a number of seconds above 0"),
-    "--settle": ("settle", seconds, "a number of seconds above 0"),
-    "--count": ("count", lines, "a number from 1 on"),
-    "--time": ("time", one_of("clock", "utc", "none"), "clock, utc or none"),
-    "--color": ("color", one_of("auto", "always", "never"), "auto, always or never"),
+# The words that the help has behind options: what a value is made by, which raises ValueError, and what it is.
+VALUES: Dict[str, Tuple[Callable[[str], Any], str]] = {
+    "FILE": (str, "a file"),
+    "NAME": (str, "a name or a path"),
+    "SECONDS": (_seconds, "a number of seconds above 0"),
+    "N": (_lines, "a number from 1 on"),
+    "FORM": ({it: it for it in ("clock", "utc", "none")}.__getitem__, "clock, utc or none"),
+    "WHEN": ({it: it for it in ("auto", "always", "never")}.__getitem__, "auto, always or never"),
+    "OLD": (str, "two files"),
 }
+OPTIONS: Dict[str, str] = {"-h": "", "--help": "", **dict(re.findall(r"^  (--[a-z]+) +\[?([A-Z]*)\b", HELP, re.M))}
+KEPT_AS = {"-h": "help", "--for": "end"}
 
 
-def with_rates(words: List[str]) -> List[str]:
+class Options:
+    """What the arguments ask for. Raises Misused. Options and names come in any order; after `--` all are names."""
+
+    once = json = details = help = version = False
+    read: Optional[str] = None
+    netns: Optional[str] = None
+    every, end, settle, rates = 60.0, 0.0, 0.0, 0.0  # 0 is none
+    count: Optional[int] = None
+    time, color = "clock", "auto"
+
+    def __init__(self, words: List[str]) -> None:
+        self.names: List[str] = []
+        self.diff: List[str] = []
+        rest = iter(_with_rates(words))
+        for word in rest:
+            if word == "--":
+                self.names += rest
+            elif not word.startswith("-") or word == "-":
+                self.names.append(word)
+            elif word not in OPTIONS:
+                raise Misused(f"there is no option {word}")
+            elif word == "--diff":
+                self.diff = [_value(word, rest), _value(word, rest)]
+            else:
+                setattr(self, KEPT_AS.get(word, word[2:]), not OPTIONS[word] or _value(word, rest))
+        if [self.once, bool(self.diff), self.read is not None, self.rates > 0].count(True) > 1:
+            raise Misused("only one of --once, --read, --diff and --rates")
+        if self.diff == ["-", "-"]:
+            raise Misused("--diff: only one of the files can be standard input")
+
+
+def _with_rates(words: List[str]) -> List[str]:
     """The arguments with a number behind --rates, where there is none."""
     found: List[str] = []
     for at, word in enumerate(words):
@@ -81,44 +104,11 @@ def with_rates(words: List[str]) -> List[str]:
     return found
 
 
-class Options:
-    """What the arguments ask for. Raises Misused. Options and names come in any order; after `--` all are names."""
-
-    def __init__(self, words: List[str]) -> None:
-        self.once = self.json = self.details = self.help = self.version = False
-        self.read: Optional[str] = None
-        self.netns: Optional[str] = None
-        self.diff: List[str] = []
-        self.every, self.end, self.settle, self.rates = 60.0, 0.0, 0.0, 0.0  # 0 is none
-        self.count: Optional[int] = None
-        self.time, self.color = "clock", "auto"
-        self.names: List[str] = []
-        rest = iter(with_rates(words))
-        for word in rest:
-            if word == "--":
-                self.names += rest
-            elif word == "--diff":
-                self.diff = [_value(word, "two files", rest), _value(word, "two files", rest)]
-            elif word in FLAGS:
-                setattr(self, FLAGS[word], True)
-            elif word in VALUES:
-                name, made, what = VALUES[word]
-                text = _value(word, what, rest)
-                try:
-                    setattr(self, name, made(text))
-                except ValueError:
-                    raise Misused(f"{word}: {what}, not {text}") from None
-            elif word.startswith("-") and word != "-":
-                raise Misused(f"there is no option {word}")
-            else:
-                self.names.append(word)
-        if [self.once, bool(self.diff), self.read is not None, self.rates > 0].count(True) > 1:
-            raise Misused("only one of --once, --read, --diff and --rates")
-        if self.diff == ["-", "-"]:
-            raise Misused("--diff: only one of the files can be standard input")
-
-
-def _value(word: str, what: str, rest: Iterator[str]) -> str:
-    for value in rest:
-        return value
+def _value(word: str, rest: Iterator[str]) -> Any:
+    made, what = VALUES[OPTIONS[word]]
+    for text in rest:
+        try:
+            return made(text)
+        except (KeyError, ValueError):
+            raise Misused(f"{word}: {what}, not {text}") from None
     raise Misused(f"{word}: {what} is missing")

@@ -6,7 +6,8 @@ import select
 import sys
 import time
 from datetime import datetime
-from typing import BinaryIO, ContextManager, Dict, List, Optional, Set, Tuple, Union
+from math import inf
+from typing import Any, Dict, Iterator, List, Optional, Set, Tuple, Union
 
 from linkwire import Event, Links, Watch, read_line, show_json
 
@@ -41,22 +42,24 @@ def stamp(form: str, when: str) -> str:
 
 def json_line(event: Event, words: Dict[str, str]) -> str:
     """The line of linkdiff(1), in ASCII. `words` are `type=`, `time=` and `host=` of the line that was read."""
-    found: Dict[str, object] = {}
+    found: Dict[str, Any] = {}
     for name in "type", "time", "host":
         if name in words:
             raw = words[name].encode("utf-8", "surrogateescape")
             found[name] = words[name] if raw == words[name].encode("utf-8", "replace") else raw.hex()
     if event.fault is not None:
         found.update(json.loads(show_json(event.message, "running", True)))
-        return json.dumps(found, separators=(",", ":"))
-    found["change"] = event.change
-    for name, value in ("ifi-family", event.family), ("ifi-index", event.ifindex), ("ifname", event.ifname):
-        if value is not None:
-            found[name] = value
-    if event.change == "changed":
-        found["changes"] = [{name: value for name, value in it._asdict().items() if value is not None}
-                            for it in event.changes]
+    else:
+        found.update({"change": event.change, "ifi-family": event.family, "ifi-index": event.ifindex,
+                      "ifname": event.ifname})
+        if event.change == "changed":
+            found["changes"] = [_there(it._asdict()) for it in event.changes]
+        found = _there(found)
     return json.dumps(found, separators=(",", ":"))
+
+
+def _there(members: Dict[str, Any]) -> Dict[str, Any]:
+    return {name: it for name, it in members.items() if it is not None}
 
 
 class Teller:
@@ -109,13 +112,12 @@ def live(options: Options, teller: Teller) -> None:
         poll = select.poll()
         poll.register(stream.fileno(), select.POLLIN)
         poll.register(1, 0)  # an error there says that nobody reads any more
-        end = time.monotonic() + options.end if options.end else None
-        settle: Optional[float] = None
-        while True:
-            now = time.monotonic()
-            waits = [stream.due(), *(None if it is None else max(0, it - now) for it in (end, settle))]
-            wait = min((it for it in waits if it is not None), default=None)
-            if any(fd == 1 and what & UNREAD for fd, what in poll.poll(None if wait is None else 1000 * wait)):
+        now, settle = time.monotonic(), inf
+        end = now + (options.end or inf)
+        while now < end:
+            due = stream.due()
+            wait = min(inf if due is None else due, end - now, max(0, settle - now))
+            if any(fd == 1 and what & UNREAD for fd, what in poll.poll(None if wait == inf else 1000 * wait)):
                 return
             for event in stream.ready(AT_ONCE):
                 teller.tell(event, {"time": event.time})
@@ -123,39 +125,35 @@ def live(options: Options, teller: Teller) -> None:
                     for name in teller.missing():
                         says(f"no link {name} now: it is waited for")
             now = time.monotonic()
-            if settle is None and teller.settled.held:
-                settle = now + options.settle
-            is_over = end is not None and now >= end
-            if is_over or settle is not None and now >= settle:
+            settle = min(settle, now + options.settle if teller.settled.held else inf)
+            if now >= min(end, settle):
                 teller.settled.release()
-                settle = None
+                settle = inf
             sys.stdout.flush()
-            if is_over:
-                return
 
 
-def opened(path: str) -> "ContextManager[BinaryIO]":
-    """A file, or standard input."""
-    return open(path if path != "-" else 0, "rb", closefd=path != "-")
+def lines_of(path: str) -> Iterator[Tuple[int, str]]:
+    """The lines of a file, or of standard input, with their numbers."""
+    with open(path if path != "-" else 0, "rb", closefd=path != "-") as source:
+        for row, raw in enumerate(source, 1):
+            yield row, raw.decode("utf-8", "surrogateescape")
 
 
 def recorded(options: Options, teller: Teller, path: str) -> None:
     """Tells what lines of linkdump(1) say, as they come."""
     watch = Watch(lenient=True, changes_only=teller.is_all, dumps=not teller.is_all)
-    with opened(path) as source:
-        for row, raw in enumerate(source, 1):
-            line = raw.decode("utf-8", "surrogateescape")
-            try:
-                events = watch.line(line)
-            except ValueError as error:
-                says(f"line {row}: {error}")
-                continue
-            words = read_line(line).words if events and options.json else {}
-            teller.ended = None
-            for event in events:
-                teller.tell(event, words)
-            if events:
-                sys.stdout.flush()
+    for row, line in lines_of(path):
+        try:
+            events = watch.line(line)
+        except ValueError as error:
+            says(f"line {row}: {error}")
+            continue
+        words = read_line(line).words if events and options.json else {}
+        teller.ended = None
+        for event in events:
+            teller.tell(event, words)
+        if events:
+            sys.stdout.flush()
     teller.settled.release()
 
 
@@ -165,16 +163,14 @@ class Recording:
     def __init__(self, path: str) -> None:
         self.path, self.watch = path, Watch(lenient=True)
         self.asked: Set[str] = set()
-        with opened(path) as source:
-            for row, raw in enumerate(source, 1):
-                line = raw.decode("utf-8", "surrogateescape")
-                try:
-                    self.watch.line(line)
-                except ValueError as error:
-                    raise ValueError(f"{path}: line {row}: {error}") from None
-                words = read_line(line).words
-                if words.get("type") in ("begin", "done"):
-                    self.asked.add(words.get("host", ""))
+        for row, line in lines_of(path):
+            try:
+                self.watch.line(line)
+            except ValueError as error:
+                raise ValueError(f"{path}: line {row}: {error}") from None
+            words = read_line(line).words
+            if words.get("type") in ("begin", "done"):
+                self.asked.add(words.get("host", ""))
 
     def is_whole(self, host: str) -> bool:
         """Whether a link that it does not have is not there; so it is of lines without those of a dump."""
