@@ -21,6 +21,8 @@ cp python/linkwatch/*.py "$to/python/linkwatch"
 cp -r tests/c tests/self_test.sh "$to/tests"
 mkdir "$to/tests/second"
 cp tests/second/lines.c tests/second/*.txt "$to/tests/second"
+mkdir "$to/tests/program"
+cp tests/program/said.* "$to/tests/program"
 read -ra programs <<<"$(sed -n 's/^PROGRAMS = //p' dist/Makefile)"
 for program in "${programs[@]}"; do
     mkdir "$to/tests/$program"

@@ -50,6 +50,12 @@ ends() {
     [ "$found" = "$wanted" ] || fails "$*: $what: it ends with status $found"
 }
 
+for program in "$@"; do
+    RUN=$RUN sh tests/program/said.sh "$program" >"$folder/said"
+    awk -v it="\$ $program " '/^\$ / { on = index($0, it) == 1 } on' tests/program/said.txt | cmp "$folder/said" - ||
+        fails "$program says something else than tests/program/said.txt has"
+done
+
 version=$(sed -n 's/^#define LINKWIRE_VERSION "\(.*\)"$/\1/p' include/linkwire.h)
 for program in "$@"; do
     # shellcheck disable=SC2086
@@ -104,6 +110,24 @@ if [ -e tests/second ] && [ -z "${TESTS:-}" ]; then
     done
     $RUN "$folder/lines" all calls | $RUN "$folder/lines" all compare calls "$answers" ||
         fails 'the library answers otherwise than the second reader'
+
+    # what no second reader says: whole objects of JSON, and changes. Builds by three compilers agree on it.
+    # holds NAME SET PROGRAM WORD..: a program's answers, whole
+    holds() {
+        what=$1 set=$2
+        shift 2
+        [ -e "$1" ] || return 0
+        # shellcheck disable=SC2086
+        $RUN "$@" <"$folder/$set" | $RUN "$folder/lines" "$set" compare "$what" "$top/tests/second/held.txt" ||
+            fails "$what: it answers otherwise than stored"
+    }
+    $RUN "$folder/lines" news >"$folder/news"
+    holds linkshow-whole all out/linkshow
+    holds linkshow-whole-lenient all out/linkshow --lenient --kernel 6.12.0
+    holds linkdiff news out/linkdiff
+    holds linkdiff-counters news out/linkdiff --counters --lenient
+    holds linkdiff-changes news out/linkdiff --changes-only
+    holds held all "$folder/lines" all held
 fi
 if [ -e out/liblinkwire.so.0 ]; then
     compiles calls -Lout -llinkwire -Wl,-rpath,"$PWD/out"

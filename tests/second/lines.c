@@ -4,14 +4,17 @@
  *     lines SET                          prints the lines of a set
  *     lines SET places                   prints for each line the number of its place
  *     lines SET calls                    prints what the library's calls return of each
+ *     lines SET held                     prints for one of five what its calls say of the line and of the one before
  *     lines SET compare WHAT FILE        reads WHAT's answers to the lines, and compares them with those in FILE
  *     lines SET sums WHAT                prints the rows of WHAT for such a file
  *
  * The sets: `all` has, for each place, every row at the edges of its sizes and values, with each flag, in front of and
  * behind another attribute, cut and followed by what is no attribute; every pair of two rows; every number below 80;
  * and every beginning that is no attribute. `wide` has every pair of two rows with more payloads of each, ten times as
- * many. `digits` has lines that are not all hexadecimal digits. The places and their rows are read of the file that
- * PLACES names, tests/second/places.txt, which check.py makes of the tables in crates/.
+ * many. `digits` has lines that are not all hexadecimal digits. `news` has one of five of `all` as lines for linkdiff,
+ * of two interfaces and a host for each place, with ends of interfaces, dumps and losses among them. The places and
+ * their rows are read of the file that PLACES names, tests/second/places.txt, which check.py makes of the tables in
+ * crates/.
  *
  * With -DLINES_ALONE it is built without the library, and has no calls. A file of answers has for WHAT, each place and
  * each kind of answer their count and the CRC-32 of all of them.
@@ -183,6 +186,18 @@ static void add_text(struct edges *to) {
             memcpy(counted + n, ends[i].at, ends[i].len);
             add(to, copy(counted, n + ends[i].len));
         }
+    /* one byte that is wrong, or a character of two, at each place of blocks of eight, sixteen and more */
+    for (size_t at = 0; at < 40; at++)
+        for (size_t i = 0; i < 2; i++) {
+            memset(counted, 'a', 41);
+            memcpy(counted + at, ends[i].at, ends[i].len);
+            add(to, copy(counted, 41));
+        }
+    for (size_t n = 17; n < 40; n++) {
+        memset(counted, 'a', n);
+        counted[n / 2] = 0xff;
+        add(to, copy(counted, n));
+    }
 }
 
 static void add_event(struct edges *to) {
@@ -293,6 +308,27 @@ static void tell_row(unsigned number, struct bytes payload, struct bytes other, 
     tell_in(built, other.len + put(built + other.len, number, payload.at, payload.len, 0), "", 0);
 }
 
+/* An attribute whose padding has one byte that is not zero, each in turn, in front of another. */
+static void tell_padded(unsigned number, struct bytes payload, struct bytes other) {
+    size_t len = put(built, number, payload.at, payload.len, 0);
+    memcpy(built + len, other.at, other.len);
+    for (size_t at = payload.len + 4; at < len; at++) {
+        built[at] = (uint8_t)(at % 2 ? 1 : 0x80);
+        tell_in(built, len + other.len, "", 0);
+        built[at] = 0;
+    }
+}
+
+/* An attribute so often, up to six times. */
+static void tell_times(unsigned number, struct bytes payload) {
+    size_t len = 0;
+    for (int times = 1; times < 7; times++) {
+        len += put(built + len, number, payload.at, payload.len, 0);
+        if (times > 1)
+            tell_in(built, len, "", 0);
+    }
+}
+
 static void tell_two(struct row one, struct bytes first, struct row two, struct bytes second) {
     size_t len = put(built, one.number, first.at, first.len, 0);
     tell_in(built, len + put(built + len, two.number, second.at, second.len, 0), "", 0);
@@ -347,11 +383,21 @@ static void tell_place(void) {
         const struct edges *all = edges(row);
         for (size_t k = 0; k < all->count; k++)
             tell_row(row.number, all->it[k], some, k < 6);
+        for (size_t k = 0; k < 6 && k < all->count; k++)
+            tell_padded(row.number, all->it[k], some);
+        tell_times(row.number, good(row));
+        tell_two(none, all->it[1], row, all->it[1]);
         for (size_t k = 0; k < rows; k++) {
             struct row next = table[of].row[k];
             tell_two(row, all->it[0], next, good(next));
             tell_two(row, all->it[1], next, good(next));
         }
+    }
+    for (size_t len = 0; len < 4; len++) {
+        struct bytes one = pattern(len);
+        tell_padded(79, one, some);
+        tell_times(79, one);
+        free(one.at);
     }
     tell_numbers();
     tell_beginnings(some, first.number);
@@ -583,6 +629,32 @@ static void print_line(size_t at, const uint8_t *line, size_t len, bool is_text)
     putchar('\n');
 }
 
+/* Of `all` one line in so many, and none that is long: for what tells of two messages, and takes longer. */
+enum { ONE_OF = 5, LONG = 1000 };
+
+static bool is_left_out(size_t len) {
+    static size_t count;
+    return len < 16 || len > LONG || count++ % ONE_OF;
+}
+
+static void print_news(size_t at, const uint8_t *line, size_t len, bool is_text) {
+    static size_t count, dump;
+    static uint8_t made[LONG];
+    if (is_text || is_left_out(len))
+        return;
+    memcpy(made, line, len);
+    memcpy(made + 4, (uint8_t[]){(uint8_t)(1 + count % 2), 0, 0, 0}, 4);
+    if (count % 997 == 0)
+        printf("host=%zu type=begin seq=%zu port=7\n", at, ++dump);
+    if (count % 997 == 40)
+        printf("host=%zu type=done seq=%zu port=7 family=%u\n", at, dump, made[0]);
+    if (count % 1999 == 7)
+        printf("host=%zu type=lost\n", at);
+    printf("host=%zu%s%s %s\n", at, count % 31 == 30 ? " type=del" : "", count % 101 == 0 ? " kernel=6.1.0" : "",
+           hex(made, len));
+    count++;
+}
+
 static void print_place(size_t at, const uint8_t *line, size_t len, bool is_text) {
     (void)line, (void)len, (void)is_text;
     printf("%zu\n", at);
@@ -619,15 +691,7 @@ static void print_calls(size_t at, const uint8_t *line, size_t len, bool is_text
 }
 #endif
 
-/* The CRC-32 of zip files, and how many answers there are, for each place and the first word of an answer. */
-static struct sum {
-    size_t place;
-    char kind[24];
-    unsigned long count;
-    uint32_t crc;
-} sum[4 * PLACES * 8];
-static size_t sums;
-
+/* The CRC-32 of zip files. */
 static uint32_t crc(uint32_t before, const char *text, size_t len) {
     static uint32_t of[256];
     if (!of[1])
@@ -641,6 +705,53 @@ static uint32_t crc(uint32_t before, const char *text, size_t len) {
         before = before >> 8 ^ of[(before ^ (uint8_t)text[i]) & 255];
     return ~before;
 }
+
+#ifndef LINES_ALONE
+static void print_json(ptrdiff_t len, const char *text) {
+    printf(" %td %08x", len, len > 0 ? (unsigned)crc(0, text, (size_t)len) : 0);
+}
+
+/* What the calls that are no second reader's say: of a message, and of the one that was taken before it. */
+static void print_held(size_t at, const uint8_t *line, size_t len, bool is_text) {
+    static char out[4 * LINKWIRE_GROWTH * LONG];
+    static uint8_t before[LONG], list[2 * LONG];
+    static size_t before_len;
+    static uint32_t turn;
+    (void)at;
+    if (is_text || is_left_out(len))
+        return;
+    uint32_t order = ++turn % 3, flags = turn / 3 % 4;
+    printf("held");
+    print_json(linkwire_show(line, len, order, flags & 1, out, sizeof out), out);
+    print_json(linkwire_diff(before, before_len, line, len, order, flags, out, sizeof out), out);
+    printf(" %d %d %td %td", linkwire_same_message(before, before_len, line, len),
+           linkwire_same_state(before, before_len, line, len), linkwire_canonical_len(line, len),
+           linkwire_canonical_lenient_len(line, len));
+    size_t from = 16, to = 0, fault = 0;
+    struct linkwire_attribute one = {0, 0, 0};
+    int32_t found;
+    while ((found = linkwire_next(line, len, &from, &one)) == 1)
+        found = linkwire_put(list, len, &to, one.kind, line + one.payload, one.payload_len);
+    int32_t cause = linkwire_fault_at(line, len, &fault);
+    printf(" %d %zu %08x %d %zu", found, from, (unsigned)crc(0, (const char *)list, to), cause, fault);
+    struct linkwire_refusal refusal = {0};
+    for (from = 0; linkwire_refusal_next(line, len, &from, &refusal) == 1;)
+        printf(" %zu,%zu,%d,%u,%u,%zu,%zu", from, refusal.offset, refusal.fault, refusal.is_attribute,
+               refusal.attribute.kind, refusal.attribute.payload_len, refusal.path.at);
+    putchar('\n');
+    memcpy(before, line, len);
+    before_len = len;
+}
+#endif
+
+/* How many answers there are, for each place and the first word of an answer, and their sum. */
+static struct sum {
+    size_t place;
+    char kind[24];
+    unsigned long count;
+    uint32_t crc;
+} sum[4 * PLACES * 8];
+static size_t sums;
 
 static struct sum *sum_of(size_t at, const char *kind) {
     for (size_t i = sums; i-- > 0 && sum[i].place >= at;)
@@ -671,21 +782,41 @@ static size_t fault_of(char *line) {
     return len;
 }
 
-static bool is_show;
+static bool is_show, is_json, is_held, is_over;
+
+/* Of a line of JSON its first word of these, by which the sums of whole answers are told apart. */
+static const char *kind_of(const char *line) {
+    static char kind[24];
+    static const char *const keys[] = {"\"change\":\"", "\"fault\":\""};
+    for (size_t i = 0; i < 2; i++) {
+        const char *at = strstr(line, keys[i]), *end = strstr(line, "\":[");
+        if (!at || (end && end < at))
+            continue;
+        at += strlen(keys[i]);
+        snprintf(kind, sizeof kind, "%.*s", (int)strcspn(at, "\""), at);
+        return kind;
+    }
+    return "shown";
+}
 
 static void add_answer(size_t at, const uint8_t *line, size_t len, bool is_text) {
     static char *answer;
     static size_t room;
     char kind[24];
-    (void)line, (void)len, (void)is_text;
+    (void)line;
+    if (is_held && (is_text || is_left_out(len)))
+        return;
     ssize_t got = getline(&answer, &room, stdin);
-    if (got < 0)
+    is_over = got < 0;
+    if (is_over && at == places + 4)
+        return;
+    if (is_over)
         fail("fewer answers than lines");
     size_t length = (size_t)got - (got && answer[got - 1] == '\n');
     answer[length] = 0;
     if (is_show)
         length = fault_of(answer);
-    snprintf(kind, sizeof kind, "%.*s", (int)strcspn(answer, " "), answer);
+    snprintf(kind, sizeof kind, "%.*s", (int)strcspn(answer, " "), is_json ? kind_of(answer) : answer);
     struct sum *to = sum_of(at, length ? kind : "-");
     to->count++;
     to->crc = crc(crc(to->crc, answer, length), "\n", 1);
@@ -738,11 +869,19 @@ int main(int count, char **words) {
 #ifndef LINES_ALONE
     else if (strcmp(mode, "calls") == 0)
         take = print_calls;
+    else if (strcmp(mode, "held") == 0)
+        take = print_held;
 #endif
     else
-        take = count > 3 ? add_answer : print_line;
-    is_show = count > 3 && strncmp(words[3], "linkshow", 8) == 0;
-    tell_all(set);
+        take = count > 3 ? add_answer : strcmp(set, "news") == 0 ? print_news : print_line;
+    const char *what = count > 3 ? words[3] : "";
+    is_json = strncmp(what, "linkdiff", 8) == 0 || strncmp(what, "linkshow-whole", 14) == 0;
+    is_show = !is_json && strncmp(what, "linkshow", 8) == 0;
+    is_held = strcmp(what, "held") == 0;
+    for (here = places + 4; strncmp(what, "linkdiff", 8) == 0 && !is_over;)
+        add_answer(here, NULL, 0, false);
+    if (!is_over)
+        tell_all(strcmp(set, "news") == 0 ? "all" : set);
     if (count > 4 && strcmp(mode, "compare") == 0)
         return compare(words[3], words[4], strcmp(set, "digits") == 0);
     for (size_t i = 0; i < sums; i++)

@@ -1,0 +1,24 @@
+#!/bin/sh
+# Prints tests/second/held.txt anew, by what programs and the library answer: held.sh PROGRAMS LIBRARY, where PROGRAMS
+# is a folder. scripts/compilers.sh says whether builds by other compilers answer so too.
+set -eu
+cd "$(dirname "$0")/../.."
+programs=$1 library=$2
+folder=$(mktemp -d)
+trap 'rm -rf "$folder"' EXIT
+"${CC:-cc}" -std=gnu11 -O2 -Iinclude -o "$folder/lines" tests/second/lines.c "$library"
+"$folder/lines" all >"$folder/all"
+"$folder/lines" news >"$folder/news"
+
+# sums NAME SET PROGRAM WORD..
+sums() {
+    name=$1 set=$2
+    shift 2
+    "$@" <"$folder/$set" | "$folder/lines" "$set" sums "$name"
+}
+sums linkshow-whole all "$programs/linkshow"
+sums linkshow-whole-lenient all "$programs/linkshow" --lenient --kernel 6.12.0
+sums linkdiff news "$programs/linkdiff"
+sums linkdiff-counters news "$programs/linkdiff" --counters --lenient
+sums linkdiff-changes news "$programs/linkdiff" --changes-only
+sums held all "$folder/lines" all held
