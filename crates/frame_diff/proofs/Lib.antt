@@ -1,0 +1,4 @@
+pub mod Steps
+pub mod Leaves
+pub mod Once
+pub mod Silent

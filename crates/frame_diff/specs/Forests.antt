@@ -1,0 +1,89 @@
+-- The members of an object, those inside each, and their leaves: the paths and values of those that hold no other.
+use Rattle.std.specs.Prelude.{◌≡◌, ◌==◌, ◌&&◌, ℕ, List, [], ◌∷◌, ◌++◌, Bool, true, false, Option, Some, None, cond}
+use Rattle.std.specs.Prelude.{map}
+use lib.Pointwise.{pointwise}
+use Rattle.json.specs.Token.{Token}
+
+-- ** paths
+
+-- a step of a path: a member with this name, the value at this place of a list, or one of the two lists that stand
+-- beside the attributes of a place
+pub data Step : Type 0 where
+  name : List ℕ → Step
+  place : ℕ → Step
+  repeated : Step
+  other : Step
+
+abbrev pub Path : Type 0
+Path = List Step
+
+abbrev pub is_text : List ℕ → List ℕ → Bool
+is_text = pointwise ◌==◌
+
+abbrev pub is_step : Step → Step → Bool
+is_step (Step.name a) (Step.name b) = is_text a b
+is_step (Step.place m) (Step.place n) = m == n
+is_step Step.repeated Step.repeated = true
+is_step Step.other Step.other = true
+is_step _ _ = false
+
+abbrev pub is_path : Path → Path → Bool
+is_path [] [] = true
+is_path [] (t ∷ q) = false
+is_path (s ∷ p) [] = false
+is_path (s ∷ p) (t ∷ q) = is_step s t && is_path p q
+
+-- ** members
+
+-- members beside each other: the step to each, its value as it is shown, and those inside it
+pub data Forest : Type 0 where
+  none : Forest
+  tree : (step : Step) (value : List Token) (inside rest : Forest) → Forest
+
+-- a value, and the members inside it
+abbrev pub Held : Type 0
+Held = List Token × Forest
+
+-- the first one at a step
+abbrev pub find : Step → Forest → Option Held
+find t Forest.none = None
+find t (Forest.tree s v i rest) = cond (is_step s t) (Some (v, i)) (find t rest)
+
+-- no two members beside each other have one step
+abbrev pub AreApart : Forest → Type 0
+AreApart Forest.none = Unit {0}
+AreApart (Forest.tree s v i rest) = (find s rest ≡ None) × AreApart i × AreApart rest
+
+-- members, of which those are left out behind which another one of their step stands
+abbrev pub Member : Type 0
+Member = Step × Held
+
+abbrev pub comes : Step → List Member → Bool
+comes s [] = false
+comes s (m ∷ ms) = cond (is_step m.0 s) true (comes s ms)
+
+abbrev pub forest : List Member → Forest
+forest [] = Forest.none
+forest (m ∷ ms) = cond (comes m.0 ms) (forest ms) (Forest.tree m.0 m.1.0 m.1.1 (forest ms))
+
+-- ** leaves
+
+abbrev pub Leaf : Type 0
+Leaf = Path × List Token
+
+abbrev pub under : Step → List Leaf → List Leaf
+under s ls = map (λ l. (s ∷ l.0, l.1)) ls
+
+-- of one member, by those of the members inside it
+abbrev pub leaves_at : Step → List Token → Forest → List Leaf → List Leaf
+leaves_at s v Forest.none ls = (s ∷ [], v) ∷ []
+leaves_at s v (Forest.tree a b c d) ls = under s ls
+
+abbrev pub leaves : Forest → List Leaf
+leaves Forest.none = []
+leaves (Forest.tree s v i rest) = leaves_at s v i (leaves i) ++ leaves rest
+
+-- the first value at a path
+abbrev pub value_at : List Leaf → Path → Option (List Token)
+value_at [] path = None
+value_at (l ∷ ls) path = cond (is_path l.0 path) (Some l.1) (value_at ls path)

@@ -1,0 +1,4 @@
+pub mod Sides
+pub mod Forests
+pub mod Differences
+pub mod Laws

@@ -1,0 +1,5 @@
+//! What differs between two link messages, attribute by attribute: their frames, by the rows of `frame_shown`.
+#![tactic(auto)]
+
+pub mod laws;
+pub mod side;

@@ -1,0 +1,25 @@
+//! Two messages of which one is gone through, beside the other.
+
+ghost use Rattle.std.specs.Prelude.{◌≡◌};
+ghost use Rattle.frame_diff.specs.Sides.{side_name};
+
+/// Which of two messages is gone through.
+#[derive(Clone, Copy, Drop)]
+pub enum Side {
+    /// The old one: what it alone has went, and what both have may have turned.
+    Old,
+    /// The new one: what it alone has came.
+    New,
+}
+
+impl Side {
+    /// The name of its value in a change.
+    pub fn name(self) -> &'static str
+        ensures { result.now ≡ side_name self }
+    {
+        match self {
+            Side::Old => "old",
+            Side::New => "new",
+        }
+    }
+}
