@@ -404,7 +404,7 @@ fn info_row(cx: &Around<'_>, link: Option<Place>, port: Option<Place>, number: u
 
 /// Whether an attribute with this payload is kept as it is.
 #[inline(always)]
-pub(crate) fn is_kept(way: Way, payload: &[u8]) -> bool
+pub fn is_kept(way: Way, payload: &[u8]) -> bool
     ensures { result ≡ is_kept way payload.now }
 {
     match way {
@@ -428,7 +428,7 @@ pub(crate) fn kind_shown(way: Way, kind: u16) -> u16
 
 /// The row of a number in a list.
 #[inline(always)]
-pub(crate) fn row_in(cx: &Around<'_>, list: List, number: u16) -> Known
+pub fn row_in(cx: &Around<'_>, list: List, number: u16) -> Known
     ensures row { (result.0.now, result.1) ≡ row_in cx.now list number }
     ensures small { (p : Seq ℕ) → is_kept result.1 p ≡ false → number < 256 }
 {

@@ -3,11 +3,11 @@
 
 pub mod accepted;
 pub mod checked;
-mod depth;
+pub mod depth;
 pub mod form;
 mod kept;
 pub mod laws;
-mod list;
+pub mod list;
 pub mod message;
 mod tables;
 mod value;

@@ -22,7 +22,7 @@ use std::alloc::AllocError;
 
 /// Adds a value by its way.
 #[inline(always)]
-fn show_way<D: Depth>(
+pub fn show_way<D: Depth>(
     cx: &Around<'_>,
     page: &mut Page,
     name: &str,
