@@ -1,11 +1,11 @@
 -- What is told member by member is what differs between leaves.
-use Rattle.std.proofs.Common.{◌≡◌, ℕ, Bool, true, false, List, [], ◌∷◌, ◌++◌, refl, sym, ap, subst, ◌∙◌}
+use Rattle.std.proofs.Common.{◌≡◌, Bool, true, false, List, [], ◌∷◌, ◌++◌, refl, sym, ap, ◌∙◌}
 use Rattle.std.proofs.Common.{append_assoc, append-nil}
 use Rattle.std.specs.Prelude.{Option, Some, None, cond, ◌&&◌}
 use Rattle.std.specs.List.{flat_map}
 use Rattle.std.proofs.lemmas.List.Concat.{flat_map-append}
 use Rattle.json.specs.Token.{Token}
-use Rattle.frame_diff.specs.Differences.{Change, both_told, changes, inside_in, leaf_change, leaf_in, member_told}
+use Rattle.frame_diff.specs.Differences.{Change, inside_in, leaf_change, leaf_in, member_told}
 use Rattle.frame_diff.specs.Differences.{side_changes, told}
 use Rattle.frame_diff.specs.Forests.{AreApart, Forest, Held, Leaf, Path, Step, find, is_path, is_step, leaves}
 use Rattle.frame_diff.specs.Forests.{leaves_at, under, value_at}

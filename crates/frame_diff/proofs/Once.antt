@@ -1,10 +1,9 @@
 -- No path is told twice.
 use Rattle.std.proofs.Common.{◌≡◌, Bool, true, false, List, [], ◌∷◌, ◌++◌, refl, sym, ap, subst, ◌∙◌, append_assoc}
 use Rattle.std.specs.Prelude.{Option, Some, None, cond, ◌||◌}
-use Rattle.std.proofs.lemmas.Bool.{or_from}
 use Rattle.json.specs.Token.{Token}
 use Rattle.frame_diff.specs.Differences.{Change, is_shown_same, is_told, leaf_change, path_of, side_changes}
-use Rattle.frame_diff.specs.Forests.{AreApart, Forest, Leaf, Path, Step, find, is_path, is_step, leaves, leaves_at}
+use Rattle.frame_diff.specs.Forests.{AreApart, Forest, Leaf, Path, Step, find, is_path, leaves, leaves_at}
 use Rattle.frame_diff.specs.Forests.{under, value_at}
 use Rattle.frame_diff.specs.Laws.{AreOnce, EachIsToldOnce}
 use Rattle.frame_diff.specs.declared.side.Side.{Side}

@@ -1,6 +1,6 @@
 -- Members that are the same in both tell nothing.
 use Rattle.std.proofs.Common.{◌≡◌, Bool, true, false, List, [], ◌∷◌, ◌++◌, refl, sym, ap, ◌∙◌}
-use Rattle.std.specs.Prelude.{Option, Some, None, cond}
+use Rattle.std.specs.Prelude.{Some, None, cond}
 use Rattle.json.specs.Token.{Token}
 use Rattle.shown.specs.Print.{print}
 use Rattle.frame_diff.specs.Differences.{Change, leaf_change, member_told, told}

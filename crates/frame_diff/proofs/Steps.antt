@@ -1,10 +1,10 @@
 -- Steps and paths that are the same.
-use Rattle.std.proofs.Common.{◌≡◌, ℕ, Bool, true, false, List, [], ◌∷◌, refl, sym, ap, ◌∙◌, eqb-true, eq-eqb}
+use Rattle.std.proofs.Common.{◌≡◌, ℕ, Bool, true, false, List, [], ◌∷◌, refl, ap, ◌∙◌, eqb-true, eq-eqb}
 use Rattle.std.specs.Prelude.{◌&&◌}
 use Rattle.std.proofs.lemmas.Slice.Eq.{bytes_eq-Decides}
 use Rattle.frame_diff.specs.Forests.{Path, Step, is_path, is_step, is_text}
 
-text_same : (a b : List ℕ) → is_text a b ≡ true → a ≡ b
+pub text_same : (a b : List ℕ) → is_text a b ≡ true → a ≡ b
 text_same a b h = (bytes_eq-Decides a b).0 h
 
 pub text_is : (a : List ℕ) → is_text a a ≡ true

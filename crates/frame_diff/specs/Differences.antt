@@ -1,5 +1,5 @@
 -- What differs between leaves: paths that came, that went, or whose value turned.
-use Rattle.std.specs.Prelude.{ℕ, List, [], ◌∷◌, ◌++◌, Bool, true, false, Option, Some, None, cond}
+use Rattle.std.specs.Prelude.{List, [], ◌∷◌, ◌++◌, Bool, Option, Some, None, cond}
 use Rattle.std.specs.List.{flat_map, list_any}
 use Rattle.json.specs.Token.{Token}
 use Rattle.shown.specs.Print.{print}

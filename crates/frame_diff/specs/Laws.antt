@@ -1,7 +1,14 @@
 -- What is told of members beside others is what differs between the leaves of both.
-use Rattle.std.specs.Prelude.{◌≡◌, false, List, [], ◌∷◌}
+use Rattle.std.specs.Prelude.{◌≡◌, ℕ, Bool, true, false, List, [], ◌∷◌, map}
+use Rattle.nla_wire.specs.Frames.{Frame, number}
+use Rattle.frame_shown.specs.Tables.{is_kept, row_in}
+use Rattle.frame_shown.specs.declared.form.Around.{Around}
+use Rattle.frame_shown.specs.declared.form.List.{List as Shape}
+use Rattle.frame_diff.specs.Counters.{action_at, action_in, is_clear, is_passed, level_in}
 use Rattle.frame_diff.specs.Differences.{Change, both_told, changes, is_told, path_of, told}
-use Rattle.frame_diff.specs.Forests.{AreApart, Forest, Path, leaves}
+use Rattle.frame_diff.specs.Forests.{AreApart, Forest, Path, Step, leaves}
+use Rattle.frame_diff.specs.Items.{change_item, items_told, path_text}
+use Rattle.frame_diff.specs.Members.{Reading, frame_member, held_by, message_forest}
 use Rattle.frame_diff.specs.declared.side.Side.{Side}
 
 abbrev pub WhatDiffersIsTold : Type 0
@@ -19,3 +26,36 @@ EachIsToldOnce = (old new : Forest) → AreApart old → AreApart new → AreOnc
 -- members that are the same in both tell nothing
 abbrev pub SameIsSilent : Type 0
 SameIsSilent = (side : Side) (path : Path) (f : Forest) → AreApart f → told side path f f ≡ []
+
+-- so it is written: a change for each
+abbrev pub ItemsAreChanges : Type 0
+ItemsAreChanges = (side : Side) (path : Path) (f g : Forest)
+    → items_told side (path_text path) f g ≡ map change_item (told side path f g)
+
+-- ** of messages
+
+-- what is told of two messages, or of two states: the order of the counters of IPv6 may be known of each
+abbrev pub messages_told : Bool → Around → Around → List ℕ → List ℕ → List Change
+messages_told is_state cx other old new =
+    both_told (message_forest is_state cx old) (message_forest is_state other new)
+
+-- it is what differs between all leaves of both, each path once
+pub record MessagesAreTold : Type 0 where
+  pub all : (is_state : Bool) (cx other : Around) (old new : List ℕ) → messages_told is_state cx other old new
+      ≡ changes (leaves (message_forest is_state cx old)) (leaves (message_forest is_state other new))
+  pub once : (is_state : Bool) (cx other : Around) (old new : List ℕ)
+      → AreOnce (messages_told is_state cx other old new)
+  pub silent : (is_state : Bool) (cx : Around) (bytes : List ℕ) → messages_told is_state cx cx bytes bytes ≡ []
+
+-- an attribute is passed over exactly where the table clears its number, and then only of a state
+pub record CountersArePassed : Type 0 where
+  pub passed : (r : Reading) (list : Shape) (f : Frame) → is_passed r.is_state list (number f) ≡ true
+      → frame_member r list f ≡ []
+  pub told : (r : Reading) (list : Shape) (f : Frame) → is_passed r.is_state list (number f) ≡ false
+      → is_kept (row_in r.around list (number f)).1 f.payload ≡ false
+      → frame_member r list f ≡ (
+      Step.name (row_in r.around list (number f)).0,
+      held_by r (action_in r.is_state list (number f)) (row_in r.around list (number f)).1 f.payload,
+    ) ∷ []
+  pub whole : (list : Shape) (n : ℕ) → is_passed false list n ≡ false
+  pub state : (list : Shape) (n : ℕ) → is_passed true list n ≡ is_clear (action_at (level_in list) n)

@@ -1,6 +1,8 @@
 //! What is told of two messages is what differs between all their leaves.
 
-ghost use Rattle.frame_diff.specs.Laws.{EachIsToldOnce, SameIsSilent, WhatDiffersIsTold};
+ghost use Rattle.frame_diff.specs.Laws.{CountersArePassed, EachIsToldOnce, ItemsAreChanges, MessagesAreTold};
+ghost use Rattle.frame_diff.specs.Laws.{SameIsSilent, WhatDiffersIsTold};
+ghost use Rattle.frame_diff.specs.Shown.{MembersAreShown};
 
 /// What is told of members beside others is what differs between the leaves of both.
 pub fn law_told()
@@ -15,4 +17,26 @@ pub fn law_once()
 /// Members beside the same tell nothing.
 pub fn law_silent()
     ensures { SameIsSilent }
+{}
+
+/// What is told of two messages, or of two states, is what differs between all leaves of both, each path once; of a
+/// message beside itself nothing.
+pub fn law_messages()
+    ensures { MessagesAreTold }
+{}
+
+/// A state passes over the attributes that the table of `link_state` clears, and no other.
+pub fn law_counters()
+    ensures { CountersArePassed }
+{}
+
+/// What is written behind the text of a path is an object for each change that is told.
+pub fn law_items()
+    ensures { ItemsAreChanges }
+{}
+
+/// The members of a list of attributes are what is shown of it, where no two numbers have one name; and so are those of
+/// a record.
+pub fn law_shown()
+    ensures { MembersAreShown }
 {}

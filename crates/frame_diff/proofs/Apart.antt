@@ -1,0 +1,290 @@
+-- The members of a message stand apart: no two beside each other have one step.
+use Rattle.std.proofs.Common.{◌≡◌, ℕ, zero, suc, ◌+◌, Bool, true, false, List, [], ◌∷◌, ◌++◌, map, refl, ap, ◌∙◌, drop}
+use Rattle.std.proofs.Common.{length}
+use Rattle.std.specs.Prelude.{Option, Some, None, cond, slice_index, ◌==◌}
+use Rattle.std.specs.List.{flat_map}
+use Rattle.json.specs.Token.{Token}
+use Rattle.nla_wire.specs.Frames.{Frame, number}
+use Rattle.nla_wire.specs.Items.{items}
+use Rattle.link_info.specs.Meanings.{Meaning, Raw, Present, Number, Signed, Words, Hardware, Four, Six}
+use Rattle.link_info.specs.Meanings.{Members as Fields, Elements, Listed, Nested, read_as}
+use Rattle.link_info.specs.Styles.{plain_size}
+use Rattle.link_info.specs.Tables.{frames_in}
+use Rattle.link_state.specs.Table.{Action}
+use Rattle.shown.specs.Drafts.{Members}
+use Rattle.frame_shown.specs.Kept.{frame_members}
+use Rattle.frame_shown.specs.Messages.{address_len, header_members, with_address_len}
+use Rattle.frame_shown.specs.Tables.{Known, entry_list, is_kept, kind_shown, row_in}
+use Rattle.frame_shown.specs.Values.{behind_settings, count_of, counter_names, counter_width, counters_shown}
+use Rattle.frame_shown.specs.Values.{elements_shown, event_in, fields_in, fields_shown, hexadecimal, info_of, ipv6_named}
+use Rattle.frame_shown.specs.Values.{payloads_shown, record_shown, setting_names, settings_shown}
+use Rattle.frame_shown.specs.declared.form.Around.{Around}
+use Rattle.frame_shown.specs.declared.form.Form.{Form}
+use Rattle.frame_shown.specs.declared.form.Form.TheVariants as Forms
+use Rattle.frame_shown.specs.declared.form.List.{List as Shape}
+use Rattle.frame_shown.specs.declared.form.List.TheVariants as Shapes
+use Rattle.frame_shown.specs.declared.form.Order.{Order}
+use Rattle.frame_shown.specs.declared.form.Order.TheVariants as Orders
+use Rattle.frame_shown.specs.declared.form.Way.{Way}
+use Rattle.frame_shown.specs.declared.form.Way.TheVariants as Ways
+use Rattle.frame_diff.specs.Counters.{action_in, fields_left, is_passed}
+use Rattle.frame_diff.specs.Forests.{AreApart, Forest, Held, Member, Step, comes, find, forest, is_step}
+use Rattle.frame_diff.specs.Members.{Inner, Reading, alone, as_object, attributes_in, earlier, entries_in, entry_of}
+use Rattle.frame_diff.specs.Members.{fields, form_inside, frame_member, held_by, ipv6_inside, is_nest}
+use Rattle.frame_diff.specs.Members.{kept_by, kept_in, list_at, list_members, meaning_inside, members_in}
+use Rattle.frame_diff.specs.Members.{message_forest, message_members, named, named_by, named_in, placed, placed_one}
+use Rattle.frame_diff.specs.Members.{places, plain_places, reading, unless_none, way_inside}
+
+-- ** those of a list of members
+
+abbrev pub AllApart : List Member → Type 0
+AllApart [] = Unit {0}
+AllApart (m ∷ ms) = AreApart m.1.1 × AllApart ms
+
+pub find_none : (s : Step) (ms : List Member) → comes s ms ≡ false → find s (forest ms) ≡ None
+find_none s [] none = refl
+find_none s (m ∷ ms) none = by (is_step m.0 s) refl none (comes m.0 ms) (find_none s ms)
+  where
+    by : (b : Bool) → is_step m.0 s ≡ b → cond b true (comes s ms) ≡ false → (c : Bool)
+        → (comes s ms ≡ false → find s (forest ms) ≡ None)
+        → find s (cond c (forest ms) (Forest.tree m.0 m.1.0 m.1.1 (forest ms))) ≡ None
+    by true is h c later = absurd cc
+    by false is h true later = later h
+    by false is h false later = ap (λ b. cond b (Some (m.1.0, m.1.1)) (find s (forest ms))) is ∙ later h
+
+pub forest_apart : (ms : List Member) → AllApart ms → AreApart (forest ms)
+forest_apart [] h = tt
+forest_apart (m ∷ ms) h = by (comes m.0 ms) refl (forest_apart ms h.1)
+  where
+    by : (c : Bool) → comes m.0 ms ≡ c → AreApart (forest ms)
+        → AreApart (cond c (forest ms) (Forest.tree m.0 m.1.0 m.1.1 (forest ms)))
+    by true is later = later
+    by false is later = (find_none m.0 ms is, h.0, later)
+
+append_apart : (xs ys : List Member) → AllApart xs → AllApart ys → AllApart (xs ++ ys)
+append_apart [] ys h k = k
+append_apart (x ∷ xs) ys h k = (h.0, append_apart xs ys h.1 k)
+
+each_apart : {X : Type 0} (F : X → List Member) (xs : List X) → ((x : X) → AllApart (F x)) → AllApart (flat_map F xs)
+each_apart F [] h = tt
+each_apart F (x ∷ xs) h = append_apart (F x) (flat_map F xs) (h x) (each_apart F xs h)
+
+named_apart : (ms : Members) → AllApart (named ms)
+named_apart [] = tt
+named_apart (m ∷ ms) = (tt, named_apart ms)
+
+fields_apart : (ms : Members) → AreApart (fields ms)
+fields_apart ms = forest_apart (named ms) (named_apart ms)
+
+-- ** those of a list of values
+
+abbrev pub HeldApart : List (Option Held) → Type 0
+HeldApart [] = Unit {0}
+HeldApart (None ∷ hs) = HeldApart hs
+HeldApart (Some held ∷ hs) = AreApart held.1 × HeldApart hs
+
+held_append : (xs ys : List (Option Held)) → HeldApart xs → HeldApart ys → HeldApart (xs ++ ys)
+held_append [] ys h k = k
+held_append (None ∷ xs) ys h k = held_append xs ys h k
+held_append (Some held ∷ xs) ys h k = (h.0, held_append xs ys h.1 k)
+
+each_held : {X : Type 0} (F : X → List (Option Held)) (xs : List X) → ((x : X) → HeldApart (F x))
+    → HeldApart (flat_map F xs)
+each_held F [] h = tt
+each_held F (x ∷ xs) h = held_append (F x) (flat_map F xs) (h x) (each_held F xs h)
+
+one_apart : (n : ℕ) (held : Held) → AreApart held.1 → AllApart (placed_one n (Some held))
+one_apart n held h = by (is_nest held.0)
+  where
+    by : (b : Bool) → AllApart (cond b ((Step.place n, held) ∷ []) [])
+    by true = (h, tt)
+    by false = tt
+
+placed_apart : (n : ℕ) (hs : List (Option Held)) → HeldApart hs → AllApart (placed n hs)
+placed_apart n [] h = tt
+placed_apart n (None ∷ hs) h = placed_apart (n + 1) hs h
+placed_apart n (Some held ∷ hs) h =
+    append_apart (placed_one n (Some held)) (placed (n + 1) hs) (one_apart n held h.0) (placed_apart (n + 1) hs h.1)
+
+places_apart : (hs : List (Option Held)) → HeldApart hs → AreApart (places hs)
+places_apart hs h = forest_apart (placed 0 hs) (placed_apart 0 hs h)
+
+plain_apart : (ms : Members) → AreApart (plain_places ms)
+plain_apart ms = places_apart (map (λ m. Some (m.1, Forest.none)) ms) (all ms)
+  where
+    all : (xs : Members) → HeldApart (map (λ m. Some (m.1, Forest.none)) xs)
+    all [] = tt
+    all (x ∷ xs) = (tt, all xs)
+
+unless_apart : (s : Step) (value : List Token) (f : Forest) → AreApart f → AllApart (unless_none s value f)
+unless_apart s value Forest.none h = tt
+unless_apart s value (Forest.tree a b c d) h = (h, tt)
+
+list_apart : (s : Step) (hs : List (Option Held)) → HeldApart hs → AllApart (list_at s hs)
+list_apart s hs h = unless_apart s _ (places hs) (places_apart hs h)
+
+-- ** those of a payload
+
+abbrev pub InnerApart : Inner → Type 0
+InnerApart inner = (list : Shape) (p : List ℕ) → AreApart (inner list p)
+
+meaning_apart : (inner : Inner) (action : Action) (meaning : Meaning) → InnerApart inner
+    → AreApart (meaning_inside inner action meaning)
+meaning_apart inner action (Fields members p) h =
+    fields_apart (fields_left action 0 (map (λ m. plain_size m.1) members) (record_shown members p))
+meaning_apart inner action (Elements plain p) h =
+    plain_apart (elements_shown plain (count_of (plain_size plain) (length p)) p)
+meaning_apart inner action (Listed plain p) h = plain_apart (payloads_shown plain (items p))
+meaning_apart inner action (Nested place p) h = h (Shapes.Of place) p
+meaning_apart inner action (Raw p) h = tt
+meaning_apart inner action Present h = tt
+meaning_apart inner action (Number n) h = tt
+meaning_apart inner action (Signed z) h = tt
+meaning_apart inner action (Words s) h = tt
+meaning_apart inner action (Hardware octets) h = tt
+meaning_apart inner action (Four address) h = tt
+meaning_apart inner action (Six address) h = tt
+
+ipv6_apart : (order : Order) (p : List ℕ) → AreApart (ipv6_inside order p)
+ipv6_apart Orders.Unknown p = tt
+ipv6_apart Orders.Before p = fields_apart (ipv6_named false p)
+ipv6_apart Orders.Since p = fields_apart (ipv6_named true p)
+
+form_apart : (inner : Inner) (cx : Around) (action : Action) (form : Form) (p : List ℕ) → InnerApart inner
+    → AreApart (form_inside inner cx action form p)
+form_apart inner cx action (Forms.Counters words) p h =
+    fields_apart (counters_shown (counter_names words) (counter_width words) p 0)
+form_apart inner cx action Forms.Ipv6Counters p h = ipv6_apart cx.order p
+form_apart inner cx action (Forms.Settings set) p h =
+    fields_apart (fields_left action 0 (map (λ name. 4) (setting_names set))
+    (settings_shown (setting_names set) p 0 ++ behind_settings set p))
+form_apart inner cx action (Forms.Record parts) p h = fields_apart (fields_shown cx (fields_in parts) p)
+form_apart inner cx action Forms.Wireless p h = fields_apart (((event_in p).0, hexadecimal (event_in p).1) ∷ [])
+form_apart inner cx action (Forms.List list) p h = h list p
+form_apart inner cx action Forms.Info p h = h (info_of p) p
+form_apart inner cx action Forms.Kept p h = tt
+form_apart inner cx action Forms.Unflagged p h = tt
+form_apart inner cx action (Forms.Number size) p h = tt
+form_apart inner cx action Forms.Signed p h = tt
+form_apart inner cx action Forms.Text p h = tt
+form_apart inner cx action (Forms.Exact size) p h = tt
+form_apart inner cx action Forms.Truth p h = tt
+form_apart inner cx action Forms.Id p h = tt
+form_apart inner cx action Forms.Address p h = tt
+form_apart inner cx action (Forms.Choice choice) p h = tt
+form_apart inner cx action (Forms.Flags bits) p h = tt
+form_apart inner cx action Forms.Ipv6 p h = tt
+form_apart inner cx action (Forms.Field field) p h = tt
+
+way_apart : (inner : Inner) (cx : Around) (action : Action) (way : Way) (p : List ℕ) → InnerApart inner
+    → AreApart (way_inside inner cx action way p)
+way_apart inner cx action (Ways.Own form) p h = form_apart inner cx action form p h
+way_apart inner cx action (Ways.By style) p h = meaning_apart inner action (read_as style p) h
+
+-- ** those of attributes
+
+named_by_apart : (r : Reading) (passed : Bool) (action : Action) (row : Known) (f : Frame) → InnerApart r.inner
+    → AllApart (named_by r passed action row f)
+named_by_apart r passed action row f h = by passed (is_kept row.1 f.payload)
+  where
+    by : (b c : Bool)
+        → AllApart (cond b [] (cond c [] ((Step.name row.0, held_by r action row.1 f.payload) ∷ [])))
+    by true c = tt
+    by false true = tt
+    by false false = (way_apart r.inner r.around action row.1 f.payload h, tt)
+
+named_in_apart : (r : Reading) (list : Shape) (fs : List Frame) → InnerApart r.inner → AllApart (named_in r list fs)
+named_in_apart r list fs h = each_apart (frame_member r list) fs (λ f. named_by_apart r
+    (is_passed r.is_state list (number f)) (action_in r.is_state list (number f)) (row_in r.around list (number f)) f h)
+
+alone_apart : (s : Step) (held : Held) → AreApart held.1 → HeldApart (alone (s, held) ∷ [])
+alone_apart (Step.name name) held h = ((refl, h, tt), tt)
+alone_apart (Step.place n) held h = tt
+alone_apart Step.repeated held h = tt
+alone_apart Step.other held h = tt
+
+earlier_apart : (ms : List Member) → AllApart ms → HeldApart (earlier ms)
+earlier_apart [] h = tt
+earlier_apart (m ∷ ms) h =
+    held_append (cond (comes m.0 ms) (alone m ∷ []) []) (earlier ms) (by (comes m.0 ms)) (earlier_apart ms h.1)
+  where
+    by : (b : Bool) → HeldApart (cond b (alone m ∷ []) [])
+    by true = alone_apart m.0 m.1 h.0
+    by false = tt
+
+kept_by_apart : (passed : Bool) (cx : Around) (row : Known) (f : Frame) → HeldApart (kept_by passed cx row f)
+kept_by_apart passed cx row f = by (is_kept row.1 f.payload) passed
+  where
+    ms : Members
+    ms = frame_members row.0 (kind_shown row.1 f.kind) f.payload
+
+    by : (b c : Bool) → HeldApart (cond b (cond c None (Some (as_object ms)) ∷ []) [])
+    by false c = tt
+    by true true = tt
+    by true false = (fields_apart ms, tt)
+
+kept_in_apart : (r : Reading) (list : Shape) (fs : List Frame) → HeldApart (kept_in r list fs)
+kept_in_apart r list fs =
+    each_held (λ f. kept_by (is_passed r.is_state list (number f)) r.around (row_in r.around list (number f)) f) fs
+    (λ f. kept_by_apart (is_passed r.is_state list (number f)) r.around (row_in r.around list (number f)) f)
+
+members_apart : (r : Reading) (list : Shape) (fs : List Frame) → InnerApart r.inner
+    → AllApart (members_in r list fs)
+members_apart r list fs h =
+    let ms = named_in r list fs in
+    append_apart (ms ++ list_at Step.repeated (earlier ms)) (list_at Step.other (kept_in r list fs))
+    (append_apart ms (list_at Step.repeated (earlier ms)) (named_in_apart r list fs h)
+    (list_apart Step.repeated (earlier ms) (earlier_apart ms (named_in_apart r list fs h))))
+    (list_apart Step.other (kept_in r list fs) (kept_in_apart r list fs))
+
+values_apart : (ms : List Member) → AllApart ms → HeldApart (map (λ (m : Member). Some m.1) ms)
+values_apart [] h = tt
+values_apart (m ∷ ms) h = (h.0, values_apart ms h.1)
+
+entries_apart : (r : Reading) (list : Shape) (fs : List Frame) → InnerApart r.inner
+    → HeldApart (entries_in r list fs)
+entries_apart r list fs h = each_held (λ f. cond (number f == 1) (Some (entry_of r list f.payload) ∷ []) []) fs
+    (λ f. by f (number f == 1))
+  where
+    by : (f : Frame) (b : Bool) → HeldApart (cond b (Some (entry_of r list f.payload) ∷ []) [])
+    by f true = (
+      forest_apart (members_in r list (frames_in (items f.payload)))
+          (members_apart r list (frames_in (items f.payload)) h),
+      tt,
+    )
+    by f false = tt
+
+list_members_apart : (r : Reading) (list : Shape) (fs : List Frame) → InnerApart r.inner
+    → AllApart (list_members r list fs)
+list_members_apart r (Shapes.Listed group table) fs h = (
+  places_apart (map (λ (m : Member). Some m.1) (named_in r (Shapes.Listed group table) fs))
+      (values_apart (named_in r (Shapes.Listed group table) fs) (named_in_apart r (Shapes.Listed group table) fs h)),
+  list_apart Step.other (kept_in r (Shapes.Listed group table) fs) (kept_in_apart r (Shapes.Listed group table) fs),
+)
+list_members_apart r (Shapes.Entries group) fs h =
+    (places_apart (entries_in r (entry_list group) fs) (entries_apart r (entry_list group) fs h), tt)
+list_members_apart r (Shapes.Message family) fs h = members_apart r (Shapes.Message family) fs h
+list_members_apart r (Shapes.Own table) fs h = members_apart r (Shapes.Own table) fs h
+list_members_apart r (Shapes.Of place) fs h = members_apart r (Shapes.Of place) fs h
+list_members_apart r Shapes.ProtoInet6 fs h = members_apart r Shapes.ProtoInet6 fs h
+list_members_apart r (Shapes.Info link port) fs h = members_apart r (Shapes.Info link port) fs h
+
+reading_apart : (n : ℕ) (is_state : Bool) (cx : Around) → InnerApart (reading n is_state cx).inner
+reading_apart zero is_state cx list p = tt
+reading_apart (suc n) is_state cx list p =
+    forest_apart (list_members (reading n is_state cx) list (frames_in (items p)))
+    (list_members_apart (reading n is_state cx) list (frames_in (items p)) (reading_apart n is_state cx))
+
+-- ** those of a message
+
+pub message_apart : (is_state : Bool) (cx : Around) (bytes : List ℕ) → AreApart (message_forest is_state cx bytes)
+unfolding message_members
+message_apart is_state cx bytes =
+    let fs = frames_in (items (drop 16 bytes)) in
+    let around = with_address_len cx (address_len fs) in
+    forest_apart (named (header_members bytes) ++ attributes_in is_state cx (slice_index bytes 0) (drop 16 bytes))
+    (append_apart (named (header_members bytes))
+    (attributes_in is_state cx (slice_index bytes 0) (drop 16 bytes))
+    (named_apart (header_members bytes))
+    (members_apart (reading 5 is_state around) (Shapes.Message (slice_index bytes 0)) fs
+    (reading_apart 5 is_state around)))

@@ -1,0 +1,49 @@
+-- What is written is an object for each change.
+use Rattle.std.proofs.Common.{◌≡◌, ℕ, Bool, true, false, List, [], ◌∷◌, ◌++◌, map, refl, sym, ap, ◌∙◌}
+use Rattle.std.specs.Prelude.{Option, Some, None, cond}
+use Rattle.json.specs.Token.{Token}
+use Rattle.frame_diff.specs.Differences.{Change, inside_in, is_shown_same, leaf_change, leaf_in, member_told, told}
+use Rattle.frame_diff.specs.Forests.{Forest, Held, Path, Step, find}
+use Rattle.frame_diff.specs.Items.{change_item, items_told, joined, leaf_items, member_items, path_text, step_text}
+use Rattle.frame_diff.specs.Items.{text_behind, turned_item}
+use Rattle.frame_diff.specs.Laws.{ItemsAreChanges}
+use Rattle.frame_diff.specs.declared.side.Side.{Side}
+use Rattle.frame_diff.specs.declared.side.Side.TheVariants.{Old, New}
+
+map_joined : {A B : Type 0} (f : A → B) (xs ys : List A) → map f (xs ++ ys) ≡ map f xs ++ map f ys
+map_joined f [] ys = refl
+map_joined f (x ∷ xs) ys = ap (λ l. f x ∷ l) (map_joined f xs ys)
+
+text_further : (text : List ℕ) (path : Path) (s : Step)
+    → text_behind text (path ++ s ∷ []) ≡ joined (text_behind text path) (step_text s)
+text_further text [] s = refl
+text_further text (t ∷ path) s = text_further (joined text (step_text t)) path s
+
+leaf_is : (side : Side) (path : Path) (v : List Token) (beside : Option (List Token))
+    → leaf_items side (path_text path) v beside ≡ map change_item (leaf_change side path v beside)
+leaf_is Old path v None = refl
+leaf_is New path v None = refl
+leaf_is Old path v (Some w) = by (is_shown_same v w)
+  where
+    by : (b : Bool) → cond b [] (turned_item (path_text path) v w ∷ [])
+        ≡ map change_item (cond b [] (Change.turned path v w ∷ []))
+    by true = refl
+    by false = refl
+leaf_is New path v (Some w) = refl
+
+member_is : (side : Side) (path : Path) (v : List Token) (i : Forest) (beside : Option Held)
+    → items_told side (path_text path) i (inside_in beside) ≡ map change_item (told side path i (inside_in beside))
+    → member_items side (path_text path) v i (items_told side (path_text path) i) beside
+    ≡ map change_item (member_told side path v i (told side path i) beside)
+member_is side path v Forest.none beside inner = leaf_is side path v (leaf_in beside)
+member_is side path v (Forest.tree a b c d) beside inner = inner
+
+pub items_are : ItemsAreChanges
+items_are side path Forest.none g = refl
+items_are side path (Forest.tree s v i rest) g =
+    ap (λ text. member_items side text v i (items_told side text i) (find s g)
+    ++ items_told side (path_text path) rest g) (sym (text_further [] path s))
+    ∙ (λ k. member_is side (path ++ s ∷ []) v i (find s g)
+    (items_are side (path ++ s ∷ []) i (inside_in (find s g))) k ++ items_are side path rest g k)
+    ∙ sym (map_joined change_item (member_told side (path ++ s ∷ []) v i (told side (path ++ s ∷ []) i) (find s g))
+    (told side path rest g))

@@ -1,0 +1,276 @@
+-- The members of a list of attributes are what is shown of it.
+use Rattle.std.proofs.Common.{◌≡◌, ℕ, zero, suc, Bool, true, false, List, [], ◌∷◌, ◌++◌, map, refl, sym, ap, subst}
+use Rattle.std.proofs.Common.{◌∙◌, append_assoc, eq-eqb, eqb-true}
+use Rattle.std.specs.Prelude.{Option, Some, None, cond, ◌==◌, ◌||◌}
+use Rattle.std.specs.List.{AllByRecursion, flat_map}
+use Rattle.json.specs.Token.{Token}
+use Rattle.nla_wire.specs.Frames.{Frame, number}
+use Rattle.nla_wire.specs.Items.{items}
+use Rattle.link_info.specs.Tables.{frames_in}
+use Rattle.shown.specs.Drafts.{Members, list_of, object_of}
+use Rattle.frame_shown.specs.Frames.{frame_item, items_in, levels, way_shown}
+use Rattle.frame_shown.specs.Items.{Item, comes_in, earlier_ones, has_number, kept_ones, last_ones, list_under}
+use Rattle.frame_shown.specs.Items.{members_of}
+use Rattle.frame_shown.specs.Kept.{frame_members}
+use Rattle.frame_shown.specs.Tables.{Known, is_kept, kind_shown, row_in}
+use Rattle.frame_shown.specs.declared.form.Around.{Around}
+use Rattle.frame_shown.specs.declared.form.List.{List as Shape}
+use Rattle.frame_diff.specs.Counters.{action_in}
+use Rattle.frame_diff.specs.Forests.{Forest, Held, Member, Step, comes, forest, is_step, is_text}
+use Rattle.frame_diff.specs.Items.{step_text}
+use Rattle.frame_shown.specs.Values.{Nesting}
+use Rattle.frame_diff.specs.Members.{Inner, Reading, alone, as_object, earlier, fields, held_by, inner_by, kept_in}
+use Rattle.frame_diff.specs.Members.{list_at, members_in, named, named_in, placed, placed_one, places, reading}
+use Rattle.frame_diff.specs.Members.{unless_none, value_in}
+use Rattle.frame_diff.specs.Shown.{AreNamedApart, HasNamesApart, MembersAreShown, shown_in}
+use Rattle.frame_diff.proofs.Steps.{text_is, text_same}
+
+-- ** members behind which none of their step stands
+
+abbrev pub lasts : List Member → Members
+lasts [] = []
+lasts (m ∷ ms) = cond (comes m.0 ms) [] ((step_text m.0, m.1.0) ∷ []) ++ lasts ms
+
+forest_shows : (ms : List Member) → shown_in (forest ms) ≡ lasts ms
+forest_shows [] = refl
+forest_shows (m ∷ ms) = by (comes m.0 ms) (forest_shows ms)
+  where
+    by : (b : Bool) → shown_in (forest ms) ≡ lasts ms
+        → shown_in (cond b (forest ms) (Forest.tree m.0 m.1.0 m.1.1 (forest ms)))
+        ≡ cond b [] ((step_text m.0, m.1.0) ∷ []) ++ lasts ms
+    by true later = later
+    by false later = ap (λ l. (step_text m.0, m.1.0) ∷ l) later
+
+comes_append : (s : Step) (xs ys : List Member) → comes s ys ≡ false → comes s (xs ++ ys) ≡ comes s xs
+comes_append s [] ys none = none
+comes_append s (x ∷ xs) ys none = ap (λ b. cond (is_step x.0 s) true b) (comes_append s xs ys none)
+
+-- no step of the first ones is one of the others
+abbrev pub NoneComes : List Member → List Member → Type 0
+NoneComes [] ys = Unit {0}
+NoneComes (x ∷ xs) ys = (comes x.0 ys ≡ false) × NoneComes xs ys
+
+lasts_append : (xs ys : List Member) → NoneComes xs ys → lasts (xs ++ ys) ≡ lasts xs ++ lasts ys
+lasts_append [] ys none = refl
+lasts_append (x ∷ xs) ys none =
+    (λ k. cond (comes_append x.0 xs ys none.0 k) [] ((step_text x.0, x.1.0) ∷ []) ++ lasts_append xs ys none.1 k)
+    ∙ sym (append_assoc (cond (comes x.0 xs) [] ((step_text x.0, x.1.0) ∷ [])) (lasts xs) (lasts ys))
+
+-- ** a list of values at a step
+
+some_tree : (s : Step) (v : List Token) (m : Member) (ms : List Member)
+    → lasts (unless_none s v (forest (m ∷ ms))) ≡ (step_text s, v) ∷ []
+some_tree s v m [] = refl
+some_tree s v m (n ∷ ms) = by (comes m.0 (n ∷ ms)) (some_tree s v n ms)
+  where
+    by : (b : Bool) → lasts (unless_none s v (forest (n ∷ ms))) ≡ (step_text s, v) ∷ []
+        → lasts (unless_none s v (cond b (forest (n ∷ ms)) (Forest.tree m.0 m.1.0 m.1.1 (forest (n ∷ ms)))))
+        ≡ (step_text s, v) ∷ []
+    by true later = later
+    by false later = refl
+
+-- they are those objects, one each
+abbrev pub AreObjects : List (Option Held) → List Members → Type 0
+AreObjects [] [] = Unit {0}
+AreObjects [] (o ∷ os) = ⊥
+AreObjects (h ∷ hs) [] = ⊥
+AreObjects (None ∷ hs) (o ∷ os) = ⊥
+AreObjects (Some held ∷ hs) (o ∷ os) = (held.0 ≡ object_of o) × AreObjects hs os
+
+objects_append : (xs ys : List (Option Held)) (os ps : List Members) → AreObjects xs os → AreObjects ys ps
+    → AreObjects (xs ++ ys) (os ++ ps)
+objects_append [] ys [] ps h k = k
+objects_append [] ys (o ∷ os) ps h k = absurd h
+objects_append (x ∷ xs) ys [] ps h k = absurd h
+objects_append (None ∷ xs) ys (o ∷ os) ps h k = absurd h
+objects_append (Some held ∷ xs) ys (o ∷ os) ps h k = (h.0, objects_append xs ys os ps h.1 k)
+
+values_are : (hs : List (Option Held)) (os : List Members) → AreObjects hs os
+    → flat_map value_in hs ≡ flat_map (λ tokens. tokens) (map object_of os)
+values_are [] [] h = refl
+values_are [] (o ∷ os) h = absurd h
+values_are (x ∷ hs) [] h = absurd h
+values_are (None ∷ hs) (o ∷ os) h = absurd h
+values_are (Some held ∷ hs) (o ∷ os) h = (λ k. h.0 k ++ values_are hs os h.1 k)
+
+list_is : (s : Step) (hs : List (Option Held)) (os : List Members) → AreObjects hs os
+    → lasts (list_at s hs) ≡ list_under (step_text s) (map object_of os)
+list_is s [] [] h = refl
+list_is s [] (o ∷ os) h = absurd h
+list_is s (x ∷ hs) [] h = absurd h
+list_is s (None ∷ hs) (o ∷ os) h = absurd h
+list_is s (Some (v, i) ∷ hs) (o ∷ os) h =
+    let all = values_are (Some (v, i) ∷ hs) (o ∷ os) h in
+    ap (λ w. lasts (unless_none s (list_of (flat_map value_in (Some (v, i) ∷ hs)))
+    (forest (placed_one 0 (Some (w, i)) ++ placed 1 hs)))) h.0
+    ∙ some_tree s (list_of (flat_map value_in (Some (v, i) ∷ hs))) (Step.place 0, (object_of o, i)) (placed 1 hs)
+    ∙ ap (λ values. (step_text s, list_of values) ∷ []) all
+
+-- ** attributes by name and by number
+
+or_is : (b x : Bool) → cond b true x ≡ (b || x)
+or_is true x = refl
+or_is false x = refl
+
+module _ (nest : Nesting) (inner : Inner) (cx : Around) (list : Shape) (apart : HasNamesApart cx list) where
+  abbrev r : Reading
+  r = record { is_state = false; nest = nest; inner = inner; around = cx }
+
+  -- the row of an attribute, whether it is kept, and what it is in both
+  abbrev row : Frame → Known
+  row f = row_in cx list (number f)
+
+  abbrev kept : Frame → Bool
+  kept f = is_kept (row f).1 f.payload
+
+  abbrev ours : Frame → Bool → List Member
+  ours f b = cond b [] ((Step.name (row f).0, held_by r (action_in false list (number f)) (row f).1 f.payload) ∷ [])
+
+  abbrev theirs : Frame → Bool → Item
+  theirs f b =
+      cond b (Item.as_is (row f).0 (kind_shown (row f).1 f.kind) f.payload)
+      (Item.named (number f) (((row f).0, way_shown nest cx (row f).1 f.payload) ∷ []))
+
+  abbrev all : List Frame → List Item
+  all fs = map (frame_item nest cx list) fs
+
+  -- two have one name where they have one number
+  names_agree : (f g : Frame) → kept f ≡ false → kept g ≡ false
+      → is_text (row g).0 (row f).0 ≡ (number g == number f)
+  names_agree f g named named_too = by (is_text (row g).0 (row f).0) (number g == number f) refl refl
+    where
+      by : (b c : Bool) → is_text (row g).0 (row f).0 ≡ b → (number g == number f) ≡ c → b ≡ c
+      by true true h k = refl
+      by false false h k = refl
+      by true false h k =
+          let same : number g ≡ number f =
+          apart (number g) (number f) g.payload f.payload named_too named (text_same (row g).0 (row f).0 h) in
+          sym (eq-eqb (number g) (number f) same) ∙ k
+      by false true h k =
+          let same : number g ≡ number f = eqb-true (number g) (number f) k in
+          sym h ∙ ap (λ m. is_text (row_in cx list m).0 (row f).0) same ∙ text_is (row f).0
+
+  comes_agree : (f : Frame) (gs : List Frame) → kept f ≡ false
+      → comes (Step.name (row f).0) (named_in r list gs) ≡ comes_in (number f) (all gs)
+  comes_agree f [] named = refl
+  comes_agree f (g ∷ gs) named = by (kept g) refl (comes_agree f gs named)
+    where
+      by : (b : Bool) → kept g ≡ b
+          → comes (Step.name (row f).0) (named_in r list gs) ≡ comes_in (number f) (all gs)
+          → comes (Step.name (row f).0) (ours g b ++ named_in r list gs)
+          ≡ (has_number (number f) (theirs g b) || comes_in (number f) (all gs))
+      by true is later = later
+      by false is later =
+          (λ k. cond (names_agree f g named is k) true (later k))
+          ∙ or_is (number g == number f) (comes_in (number f) (all gs))
+
+  lasts_agree : (fs : List Frame) → lasts (named_in r list fs) ≡ last_ones (all fs)
+  lasts_agree [] = refl
+  lasts_agree (f ∷ fs) = by (kept f) refl (lasts_agree fs)
+    where
+      by : (b : Bool) → kept f ≡ b → lasts (named_in r list fs) ≡ last_ones (all fs)
+          → lasts (ours f b ++ named_in r list fs) ≡ last_ones (theirs f b ∷ all fs)
+      by true is later = later
+      by false is later =
+          (λ k. cond (comes_agree f fs is k) [] (((row f).0, way_shown nest cx (row f).1 f.payload) ∷ []) ++ later k)
+
+  earlier_agree : (fs : List Frame) → AreObjects (earlier (named_in r list fs)) (earlier_ones (all fs))
+  earlier_agree [] = tt
+  earlier_agree (f ∷ fs) = by (kept f) refl (earlier_agree fs)
+    where
+      m : Member
+      m = (Step.name (row f).0, held_by r (action_in false list (number f)) (row f).1 f.payload)
+
+      ms : Members
+      ms = ((row f).0, way_shown nest cx (row f).1 f.payload) ∷ []
+
+      one : (c : Bool) → AreObjects (earlier (named_in r list fs)) (earlier_ones (all fs))
+          → AreObjects (cond c (alone m ∷ []) [] ++ earlier (named_in r list fs))
+          (cond c (ms ∷ []) [] ++ earlier_ones (all fs))
+      one true later = (refl, later)
+      one false later = later
+
+      by : (b : Bool) → kept f ≡ b → AreObjects (earlier (named_in r list fs)) (earlier_ones (all fs))
+          → AreObjects (earlier (ours f b ++ named_in r list fs)) (earlier_ones (theirs f b ∷ all fs))
+      by true is later = later
+      by false is later =
+          subst (λ c. AreObjects (cond c (alone m ∷ []) [] ++ earlier (named_in r list fs))
+          (cond (comes_in (number f) (all fs)) (ms ∷ []) [] ++ earlier_ones (all fs))) (sym (comes_agree f fs is))
+          (one (comes_in (number f) (all fs)) later)
+
+  kept_agree : (fs : List Frame) → AreObjects (kept_in r list fs) (kept_ones (all fs))
+  kept_agree [] = tt
+  kept_agree (f ∷ fs) = by (kept f) (kept_agree fs)
+    where
+      by : (b : Bool) → AreObjects (kept_in r list fs) (kept_ones (all fs))
+          → AreObjects (cond b (Some (as_object (frame_members (row f).0 (kind_shown (row f).1 f.kind) f.payload)) ∷ [])
+          [] ++ kept_in r list fs) (kept_ones (theirs f b ∷ all fs))
+      by true later = (refl, later)
+      by false later = later
+
+  -- no name is one of the two lists
+  list_lacks : (name : List ℕ) (s : Step) (v : List Token) (i : Forest) → is_step s (Step.name name) ≡ false
+      → comes (Step.name name) (unless_none s v i) ≡ false
+  list_lacks name s v Forest.none other = refl
+  list_lacks name s v (Forest.tree a b c d) other = ap (λ x. cond x true false) other
+
+  none_comes : (fs : List Frame) (s : Step) (hs : List (Option Held))
+      → ((name : List ℕ) → is_step s (Step.name name) ≡ false) → NoneComes (named_in r list fs) (list_at s hs)
+  none_comes [] s hs other = tt
+  none_comes (f ∷ fs) s hs other = by (kept f) (none_comes fs s hs other)
+    where
+      by : (b : Bool) → NoneComes (named_in r list fs) (list_at s hs)
+          → NoneComes (ours f b ++ named_in r list fs) (list_at s hs)
+      by true later = later
+      by false later = (list_lacks (row f).0 s _ (places hs) (other (row f).0), later)
+
+  repeated_lacks : (v w : List Token) (i j : Forest)
+      → NoneComes (unless_none Step.repeated v i) (unless_none Step.other w j)
+  repeated_lacks v w Forest.none j = tt
+  repeated_lacks v w (Forest.tree a b c d) Forest.none = (refl, tt)
+  repeated_lacks v w (Forest.tree a b c d) (Forest.tree e f g h) = (refl, tt)
+
+  both_lack : (xs ys zs : List Member) → NoneComes xs zs → NoneComes ys zs → NoneComes (xs ++ ys) zs
+  both_lack [] ys zs h k = k
+  both_lack (x ∷ xs) ys zs h k = (h.0, both_lack xs ys zs h.1 k)
+
+  pub members_shown : (fs : List Frame) → shown_in (forest (members_in r list fs)) ≡ members_of (all fs)
+  members_shown fs =
+      let ms = named_in r list fs in
+      let again = list_at Step.repeated (earlier ms) in
+      let others = list_at Step.other (kept_in r list fs) in
+      forest_shows (members_in r list fs)
+      ∙ lasts_append (ms ++ again) others (both_lack ms again others
+      (none_comes fs Step.other (kept_in r list fs) (λ name. refl))
+      (repeated_lacks _ _ (places (earlier ms)) (places (kept_in r list fs))))
+      ∙ ap (λ l. l ++ lasts others) (lasts_append ms again
+      (none_comes fs Step.repeated (earlier ms) (λ name. refl)))
+      ∙ (λ k. lasts_agree fs k
+      ++ list_is Step.repeated (earlier ms) (earlier_ones (all fs)) (earlier_agree fs) k
+      ++ list_is Step.other (kept_in r list fs) (kept_ones (all fs)) (kept_agree fs) k)
+
+lists_shown : (n : ℕ) (cx : Around) (list : Shape) (p : List ℕ) → HasNamesApart cx list
+    → shown_in (forest (members_in (reading n false cx) list (frames_in (items p))))
+    ≡ members_of (items_in (levels n cx) cx list (items p))
+lists_shown zero cx list p apart =
+    members_shown (levels 0 cx) (λ list p. Forest.none) cx list apart (frames_in (items p))
+lists_shown (suc n) cx list p apart =
+    members_shown (levels (suc n) cx) (inner_by (reading n false cx)) cx list apart (frames_in (items p))
+
+-- ** fields
+
+fields_shown : (ms : Members) → AreNamedApart ms → shown_in (fields ms) ≡ ms
+fields_shown ms apart = forest_shows (named ms) ∙ all ms apart
+  where
+    lacks : (name : List ℕ) (ns : Members) → AllByRecursion (λ n. is_text n.0 name ≡ false) ns
+        → comes (Step.name name) (named ns) ≡ false
+    lacks name [] h = refl
+    lacks name (n ∷ ns) h = (λ k. cond (h.0 k) true (lacks name ns h.1 k))
+
+    all : (ns : Members) → AreNamedApart ns → lasts (named ns) ≡ ns
+    all [] h = refl
+    all (n ∷ ns) h =
+        (λ k. cond (lacks n.0 ns h.0 k) [] (n ∷ []) ++ all ns h.1 k)
+
+pub members_are : MembersAreShown
+members_are = record { lists = lists_shown; fields_of = fields_shown }

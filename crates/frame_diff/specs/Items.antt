@@ -1,0 +1,60 @@
+-- What is told, as it is written: an object for each change, with its path, the old value and the new one.
+use Rattle.std.specs.Prelude.{ℕ, List, [], ◌∷◌, ◌++◌, Option, Some, None, codes, cond, decimal}
+use Rattle.json.specs.Token.{Token, string}
+use Rattle.shown.specs.Drafts.{Members}
+use Rattle.frame_diff.specs.Differences.{Change, inside_in, is_shown_same, leaf_in}
+use Rattle.frame_diff.specs.Forests.{Forest, Held, Path, Step, find}
+use Rattle.frame_diff.specs.Sides.{side_name}
+use Rattle.frame_diff.specs.declared.side.Side.{Side}
+use Rattle.frame_diff.specs.declared.side.Side.TheVariants.{Old, New}
+
+-- ** paths
+
+abbrev pub step_text : Step → List ℕ
+step_text (Step.name text) = text
+step_text (Step.place n) = decimal n
+step_text Step.repeated = codes "repeated"
+step_text Step.other = codes "other"
+
+-- with a point between steps
+abbrev pub joined : List ℕ → List ℕ → List ℕ
+joined [] step = step
+joined (x ∷ text) step = (x ∷ text) ++ 46 ∷ step
+
+-- the text of a path that goes on from another one
+abbrev pub text_behind : List ℕ → Path → List ℕ
+text_behind text [] = text
+text_behind text (s ∷ path) = text_behind (joined text (step_text s)) path
+
+abbrev pub path_text : Path → List ℕ
+path_text path = text_behind [] path
+
+-- ** changes
+
+abbrev pub alone_item : List ℕ → Side → List Token → Members
+alone_item text side v = (codes "path", string text ∷ []) ∷ (side_name side, v) ∷ []
+
+abbrev pub turned_item : List ℕ → List Token → List Token → Members
+turned_item text was is = (codes "path", string text ∷ []) ∷ (codes "old", was) ∷ (codes "new", is) ∷ []
+
+abbrev pub change_item : Change → Members
+change_item (Change.came path value) = alone_item (path_text path) New value
+change_item (Change.went path value) = alone_item (path_text path) Old value
+change_item (Change.turned path was is) = turned_item (path_text path) was is
+
+-- ** as they are told member by member, behind the text of a path
+
+abbrev pub leaf_items : Side → List ℕ → List Token → Option (List Token) → List Members
+leaf_items side text v None = alone_item text side v ∷ []
+leaf_items Old text v (Some w) = cond (is_shown_same v w) [] (turned_item text v w ∷ [])
+leaf_items New text v (Some w) = []
+
+abbrev pub member_items : Side → List ℕ → List Token → Forest → (Forest → List Members) → Option Held → List Members
+member_items side text v Forest.none items beside = leaf_items side text v (leaf_in beside)
+member_items side text v (Forest.tree a b c d) items beside = items (inside_in beside)
+
+abbrev pub items_told : Side → List ℕ → Forest → Forest → List Members
+items_told side text Forest.none others = []
+items_told side text (Forest.tree s v i rest) others =
+    member_items side (joined text (step_text s)) v i (items_told side (joined text (step_text s)) i) (find s others)
+    ++ items_told side text rest others

@@ -1,0 +1,255 @@
+-- The members of what is shown of a message, by the rows of its frames: the step to each, its value as it is shown, and
+-- those inside it. What a state clears is no member, where states are compared.
+use Rattle.std.specs.Prelude.{ℕ, zero, suc, ◌+◌, ◌==◌, List, [], ◌∷◌, ◌++◌, Bool, true, false, Option, Some, None, cond}
+use Rattle.std.specs.Prelude.{drop, length, map, slice_index}
+use Rattle.std.specs.List.{flat_map}
+use Rattle.json.specs.Token.{Token, begin_array, begin_object, end_array, end_object, key, string, number as number_token}
+use Rattle.json.specs.Token.{boolean, null, bad}
+use Rattle.nla_wire.specs.Frames.{Frame, number}
+use Rattle.nla_wire.specs.Items.{items}
+use Rattle.link_info.specs.Meanings.{Meaning, Raw, Present, Number, Signed, Words, Hardware, Four, Six}
+use Rattle.link_info.specs.Meanings.{Members as Fields, Elements, Listed, Nested, read_as}
+use Rattle.link_info.specs.Styles.{plain_size}
+use Rattle.link_info.specs.Tables.{frames_in}
+use Rattle.link_state.specs.Table.{Action}
+use Rattle.shown.specs.Drafts.{Members, list_of, object_of}
+use Rattle.frame_shown.specs.Frames.{items_in, levels, way_shown}
+use Rattle.frame_shown.specs.Items.{members_of}
+use Rattle.frame_shown.specs.Kept.{frame_members}
+use Rattle.frame_shown.specs.Messages.{address_len, header_members, with_address_len}
+use Rattle.frame_shown.specs.Tables.{Known, entry_list, group_name, is_kept, kind_shown, row_in}
+use Rattle.frame_shown.specs.Values.{Nesting, behind_settings, count_of, counter_names, counter_width, counters_shown}
+use Rattle.frame_shown.specs.Values.{elements_shown, event_in, fields_in, fields_shown, hexadecimal, info_of, ipv6_named}
+use Rattle.frame_shown.specs.Values.{payloads_shown, record_shown, setting_names, settings_shown}
+use Rattle.frame_shown.specs.declared.form.Around.{Around}
+use Rattle.frame_shown.specs.declared.form.Form.{Form}
+use Rattle.frame_shown.specs.declared.form.Form.TheVariants as Forms
+use Rattle.frame_shown.specs.declared.form.Group.{Group}
+use Rattle.frame_shown.specs.declared.form.List.{List as Shape}
+use Rattle.frame_shown.specs.declared.form.List.TheVariants as Shapes
+use Rattle.frame_shown.specs.declared.form.Order.{Order}
+use Rattle.frame_shown.specs.declared.form.Order.TheVariants as Orders
+use Rattle.frame_shown.specs.declared.form.Way.{Way}
+use Rattle.frame_shown.specs.declared.form.Way.TheVariants as Ways
+use Rattle.frame_diff.specs.Counters.{action_in, fields_left, is_passed}
+use Rattle.frame_diff.specs.Forests.{Forest, Held, Member, Step, comes, forest}
+
+-- the members inside a list of attributes
+abbrev pub Inner : Type 0
+Inner = Shape → List ℕ → Forest
+
+-- ** values with names, and values in a list
+
+abbrev pub named : Members → List Member
+named ms = map (λ m. (Step.name m.0, (m.1, Forest.none))) ms
+
+abbrev pub fields : Members → Forest
+fields ms = forest (named ms)
+
+-- in a list objects and lists alone are members
+abbrev pub is_nest : List Token → Bool
+is_nest [] = false
+is_nest (begin_object ∷ ts) = true
+is_nest (begin_array ∷ ts) = true
+is_nest (end_object ∷ ts) = false
+is_nest (end_array ∷ ts) = false
+is_nest (key s ∷ ts) = false
+is_nest (string s ∷ ts) = false
+is_nest (number_token s ∷ ts) = false
+is_nest (boolean b ∷ ts) = false
+is_nest (null ∷ ts) = false
+is_nest (bad ∷ ts) = false
+
+-- one that is passed over has its place all the same
+abbrev pub placed_one : ℕ → Option Held → List Member
+placed_one n None = []
+placed_one n (Some held) = cond (is_nest held.0) ((Step.place n, held) ∷ []) []
+
+abbrev pub placed : ℕ → List (Option Held) → List Member
+placed n [] = []
+placed n (h ∷ hs) = placed_one n h ++ placed (n + 1) hs
+
+abbrev pub places : List (Option Held) → Forest
+places hs = forest (placed 0 hs)
+
+-- values that stand in a list, with nothing inside them
+abbrev pub plain_places : Members → Forest
+plain_places ms = places (map (λ m. Some (m.1, Forest.none)) ms)
+
+-- ** those of a payload, by its row and by what a state clears of it
+
+abbrev pub meaning_inside : Inner → Action → Meaning → Forest
+meaning_inside inner action (Fields members p) =
+    fields (fields_left action 0 (map (λ m. plain_size m.1) members) (record_shown members p))
+meaning_inside inner action (Elements plain p) =
+    plain_places (elements_shown plain (count_of (plain_size plain) (length p)) p)
+meaning_inside inner action (Listed plain p) = plain_places (payloads_shown plain (items p))
+meaning_inside inner action (Nested place p) = inner (Shapes.Of place) p
+meaning_inside inner action (Raw p) = Forest.none
+meaning_inside inner action Present = Forest.none
+meaning_inside inner action (Number n) = Forest.none
+meaning_inside inner action (Signed z) = Forest.none
+meaning_inside inner action (Words s) = Forest.none
+meaning_inside inner action (Hardware octets) = Forest.none
+meaning_inside inner action (Four address) = Forest.none
+meaning_inside inner action (Six address) = Forest.none
+
+abbrev pub ipv6_inside : Order → List ℕ → Forest
+ipv6_inside Orders.Unknown p = Forest.none
+ipv6_inside Orders.Before p = fields (ipv6_named false p)
+ipv6_inside Orders.Since p = fields (ipv6_named true p)
+
+abbrev pub form_inside : Inner → Around → Action → Form → List ℕ → Forest
+form_inside inner cx action (Forms.Counters words) p =
+    fields (counters_shown (counter_names words) (counter_width words) p 0)
+form_inside inner cx action Forms.Ipv6Counters p = ipv6_inside cx.order p
+form_inside inner cx action (Forms.Settings set) p =
+    fields (fields_left action 0 (map (λ name. 4) (setting_names set))
+    (settings_shown (setting_names set) p 0 ++ behind_settings set p))
+form_inside inner cx action (Forms.Record parts) p = fields (fields_shown cx (fields_in parts) p)
+form_inside inner cx action Forms.Wireless p = fields (((event_in p).0, hexadecimal (event_in p).1) ∷ [])
+form_inside inner cx action (Forms.List list) p = inner list p
+form_inside inner cx action Forms.Info p = inner (info_of p) p
+form_inside inner cx action Forms.Kept p = Forest.none
+form_inside inner cx action Forms.Unflagged p = Forest.none
+form_inside inner cx action (Forms.Number size) p = Forest.none
+form_inside inner cx action Forms.Signed p = Forest.none
+form_inside inner cx action Forms.Text p = Forest.none
+form_inside inner cx action (Forms.Exact size) p = Forest.none
+form_inside inner cx action Forms.Truth p = Forest.none
+form_inside inner cx action Forms.Id p = Forest.none
+form_inside inner cx action Forms.Address p = Forest.none
+form_inside inner cx action (Forms.Choice choice) p = Forest.none
+form_inside inner cx action (Forms.Flags bits) p = Forest.none
+form_inside inner cx action Forms.Ipv6 p = Forest.none
+form_inside inner cx action (Forms.Field field) p = Forest.none
+
+abbrev pub way_inside : Inner → Around → Action → Way → List ℕ → Forest
+way_inside inner cx action (Ways.Own form) p = form_inside inner cx action form p
+way_inside inner cx action (Ways.By style) p = meaning_inside inner action (read_as style p)
+
+-- ** attributes
+
+-- what frames are read by: whether they are of a state, and how lists in them are shown
+pub record Reading : Type 0 where
+  pub is_state : Bool
+  pub nest : Nesting
+  pub inner : Inner
+  pub around : Around
+
+-- a value and the members inside it
+abbrev pub held_by : Reading → Action → Way → List ℕ → Held
+held_by r action way p = (way_shown r.nest r.around way p, way_inside r.inner r.around action way p)
+
+-- an attribute that has a name
+abbrev pub named_by : Reading → Bool → Action → Known → Frame → List Member
+named_by r is_passed action row f =
+    cond is_passed [] (cond (is_kept row.1 f.payload) []
+    ((Step.name row.0, held_by r action row.1 f.payload) ∷ []))
+
+abbrev pub frame_member : Reading → Shape → Frame → List Member
+frame_member r list f =
+    named_by r (is_passed r.is_state list (number f)) (action_in r.is_state list (number f))
+    (row_in r.around list (number f)) f
+
+abbrev pub named_in : Reading → Shape → List Frame → List Member
+named_in r list fs = flat_map (frame_member r list) fs
+
+-- as an object of one member
+abbrev pub alone : Member → Option Held
+alone (Step.name name, held) =
+    Some (object_of ((name, held.0) ∷ []), Forest.tree (Step.name name) held.0 held.1 Forest.none)
+alone (Step.place n, held) = None
+alone (Step.repeated, held) = None
+alone (Step.other, held) = None
+
+-- those behind which another one of their name stands
+abbrev pub earlier : List Member → List (Option Held)
+earlier [] = []
+earlier (m ∷ ms) = cond (comes m.0 ms) (alone m ∷ []) [] ++ earlier ms
+
+-- one that is kept as it is
+abbrev pub as_object : Members → Held
+as_object ms = (object_of ms, fields ms)
+
+abbrev pub kept_by : Bool → Around → Known → Frame → List (Option Held)
+kept_by is_passed cx row f = cond (is_kept row.1 f.payload)
+    (cond is_passed None (Some (as_object (frame_members row.0 (kind_shown row.1 f.kind) f.payload))) ∷ []) []
+
+abbrev pub kept_in : Reading → Shape → List Frame → List (Option Held)
+kept_in r list fs =
+    flat_map (λ f. kept_by (is_passed r.is_state list (number f)) r.around (row_in r.around list (number f)) f) fs
+
+-- ** lists of values
+
+abbrev pub value_in : Option Held → List Token
+value_in None = []
+value_in (Some held) = held.0
+
+abbrev pub unless_none : Step → List Token → Forest → List Member
+unless_none s value Forest.none = []
+unless_none s value (Forest.tree a b c d) = (s, (value, Forest.tree a b c d)) ∷ []
+
+-- at a step, where there are any
+abbrev pub list_at : Step → List (Option Held) → List Member
+list_at s hs = unless_none s (list_of (flat_map value_in hs)) (places hs)
+
+-- ** lists of attributes
+
+-- as the members of an object
+abbrev pub members_in : Reading → Shape → List Frame → List Member
+members_in r list fs =
+    named_in r list fs ++ list_at Step.repeated (earlier (named_in r list fs)) ++ list_at Step.other (kept_in r list fs)
+
+-- one list of values, at its name
+abbrev pub group_of : Group → List (Option Held) → Member
+group_of group hs = (Step.name (group_name group), (list_of (flat_map value_in hs), places hs))
+
+-- those that have a name in one list
+abbrev pub listed_in : Reading → Group → Shape → List Frame → List Member
+listed_in r group list fs =
+    group_of group (map (λ (m : Member). Some m.1) (named_in r list fs)) ∷ list_at Step.other (kept_in r list fs)
+
+-- the objects in the attributes of number 1
+abbrev pub entry_of : Reading → Shape → List ℕ → Held
+entry_of r list p = (
+  object_of (members_of (items_in r.nest r.around list (items p))),
+  forest (members_in r list (frames_in (items p))),
+)
+
+abbrev pub entries_in : Reading → Shape → List Frame → List (Option Held)
+entries_in r list fs = flat_map (λ f. cond (number f == 1) (Some (entry_of r list f.payload) ∷ []) []) fs
+
+abbrev pub list_members : Reading → Shape → List Frame → List Member
+list_members r (Shapes.Listed group table) fs = listed_in r group (Shapes.Listed group table) fs
+list_members r (Shapes.Entries group) fs = group_of group (entries_in r (entry_list group) fs) ∷ []
+list_members r (Shapes.Message family) fs = members_in r (Shapes.Message family) fs
+list_members r (Shapes.Own table) fs = members_in r (Shapes.Own table) fs
+list_members r (Shapes.Of place) fs = members_in r (Shapes.Of place) fs
+list_members r Shapes.ProtoInet6 fs = members_in r Shapes.ProtoInet6 fs
+list_members r (Shapes.Info link port) fs = members_in r (Shapes.Info link port) fs
+
+abbrev pub inner_by : Reading → Inner
+inner_by r list p = forest (list_members r list (frames_in (items p)))
+
+-- so many levels deep
+abbrev pub reading : ℕ → Bool → Around → Reading
+reading zero is_state cx =
+    record { is_state = is_state; nest = levels 0 cx; inner = λ list p. Forest.none; around = cx }
+reading (suc n) is_state cx =
+    record { is_state = is_state; nest = levels (suc n) cx; inner = inner_by (reading n is_state cx); around = cx }
+
+-- ** messages
+
+abbrev pub attributes_in : Bool → Around → ℕ → List ℕ → List Member
+attributes_in is_state cx family bytes =
+    let fs = frames_in (items bytes) in
+    members_in (reading 5 is_state (with_address_len cx (address_len fs))) (Shapes.Message family) fs
+
+-- of a message, or of a state
+unfoldable pub message_members : Bool → Around → List ℕ → List Member
+message_members is_state cx bytes =
+    named (header_members bytes) ++ attributes_in is_state cx (slice_index bytes 0) (drop 16 bytes)
+
+abbrev pub message_forest : Bool → Around → List ℕ → Forest
+message_forest is_state cx bytes = forest (message_members is_state cx bytes)

@@ -1,0 +1,38 @@
+-- The members of a message are what is shown of it.
+use Rattle.std.specs.Prelude.{◌≡◌, ℕ, false, List, [], ◌∷◌}
+use Rattle.std.specs.List.{AllByRecursion}
+use Rattle.nla_wire.specs.Items.{items}
+use Rattle.link_info.specs.Tables.{frames_in}
+use Rattle.shown.specs.Drafts.{Members}
+use Rattle.frame_shown.specs.Frames.{items_in, levels}
+use Rattle.frame_shown.specs.Items.{members_of}
+use Rattle.frame_shown.specs.Tables.{is_kept, row_in}
+use Rattle.frame_shown.specs.declared.form.Around.{Around}
+use Rattle.frame_shown.specs.declared.form.List.{List as Shape}
+use Rattle.frame_diff.specs.Forests.{Forest, forest, is_text}
+use Rattle.frame_diff.specs.Items.{step_text}
+use Rattle.frame_diff.specs.Members.{fields, members_in, reading}
+
+-- as they stand in an object
+abbrev pub shown_in : Forest → Members
+shown_in Forest.none = []
+shown_in (Forest.tree s v i rest) = (step_text s, v) ∷ shown_in rest
+
+-- no two numbers of a list are shown under one name
+abbrev pub HasNamesApart : Around → Shape → Type 0
+HasNamesApart cx list = (m n : ℕ) (p q : List ℕ)
+    → is_kept (row_in cx list m).1 p ≡ false → is_kept (row_in cx list n).1 q ≡ false
+    → (row_in cx list m).0 ≡ (row_in cx list n).0
+    → m ≡ n
+
+-- no two fields have one name
+abbrev pub AreNamedApart : Members → Type 0
+AreNamedApart [] = Unit {0}
+AreNamedApart (m ∷ ms) = AllByRecursion (λ n. is_text n.0 m.0 ≡ false) ms × AreNamedApart ms
+
+-- what is shown of a list of attributes, and of the fields of a record, is their members
+pub record MembersAreShown : Type 0 where
+  pub lists : (n : ℕ) (cx : Around) (list : Shape) (p : List ℕ) → HasNamesApart cx list
+      → shown_in (forest (members_in (reading n false cx) list (frames_in (items p))))
+      ≡ members_of (items_in (levels n cx) cx list (items p))
+  pub fields_of : (ms : Members) → AreNamedApart ms → shown_in (fields ms) ≡ ms
