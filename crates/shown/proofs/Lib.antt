@@ -6,6 +6,7 @@ pub mod Sheets
 pub mod Lines
 pub mod Drafts
 pub mod Escapes
+pub mod Keys
 pub mod Pages
 pub mod Noted
 pub mod MarkTrees

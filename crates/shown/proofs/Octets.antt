@@ -9,7 +9,7 @@ use Rattle.std.proofs.lemmas.List.Concat.{flat_map-append}
 use Rattle.std.proofs.lemmas.List.Elements.{All-weaker}
 use Rattle.std.proofs.lemmas.List.Sums.{AllPass-from_list_all}
 use Rattle.std.proofs.lemmas.Str.Ascii.{IsAscii-from_all}
-use Rattle.hex.specs.Hex.{lower_digits}
+use Rattle.hex.specs.Hex.{encode_with, lower_digits}
 use Rattle.shown.specs.Values.{octet_text}
 
 below : (c : ℕ) → nat_lt c 128 ≡ true → c < 128
@@ -53,3 +53,16 @@ module _ {X A : Type 0} (f : X → List A) (sep : List A) where
   join_next (x ∷ xs) (suc i) d some lt =
       joined_more x (take i xs) (get_or xs i d)
       ∙ ap (λ l. join_by f sep l) (sym (take_more (x ∷ xs) (suc i) d lt))
+
+-- the two digits of one byte more
+pub encode_more : (digits xs : List ℕ) (i d : ℕ) → i < length xs
+    → encode_with digits (take i xs)
+    ++ (slice_index digits (get_or xs i d / 16) ∷ slice_index digits (get_or xs i d % 16) ∷ [])
+    ≡ encode_with digits (take (i + 1) xs)
+unfolding encode_with
+encode_more digits [] i d lt = absurd (omega arith)
+encode_more digits (x ∷ xs) zero d lt = refl
+encode_more digits (x ∷ xs) (suc i) d lt =
+    let one_more : suc (i + 1) ≡ suc i + 1 = omega arith in
+    ap (λ l. slice_index digits (x / 16) ∷ slice_index digits (x % 16) ∷ l) (encode_more digits xs i d (omega arith))
+    ∙ ap (λ n. encode_with digits (take n (x ∷ xs))) one_more

@@ -1,6 +1,8 @@
 -- What one more token does to a text.
 use Rattle.std.proofs.Common.{◌≡◌, ℕ, ◌^◌, ◌<◌, Bool, true, false, List, [], ◌∷◌, ◌++◌, cond, ◌&&◌, decimal}
 use Rattle.std.proofs.Common.{append_assoc, length, length-append, ◌+◌, refl, ap, sym, ◌∙◌}
+use Rattle.std.proofs.Common.{subst}
+use Rattle.std.specs.Bool.{OnTrue, OnFalse}
 use Rattle.std.specs.Int.{from_bool}
 use Rattle.json.specs.Token.{Token, key, number}
 use Rattle.json.specs.Lex.{tokens}
@@ -59,27 +61,40 @@ pub due_if : (after : Bool) → cond (after && true) (44 ∷ []) [] ≡ comma_if
 due_if true = refl
 due_if false = refl
 
-module _ (old new : List ℕ) (after : Bool) (name : List ℕ) (n : ℕ) (h : IsText old after) (fits : n < 2 ^ 64)
-    (is : new ≡ old ++ ((comma_if after ++ token_text (key name)) ++ decimal n)) where
+module _ (old new : List ℕ) (after : Bool) (name : List ℕ) (t : Token) (first : separator false t ≡ [])
+    (h : IsText old after) (printable : IsPrintable t)
+    (is : new ≡ old ++ ((comma_if after ++ token_text (key name)) ++ token_text t)) where
   abbrev between : List ℕ
   between = old ++ (comma_if after ++ token_text (key name))
 
   named_between : IsText between false
   named_between = token_added old between after (key name) _ (due_if after) h tt refl
 
-  number_behind : new ≡ between ++ decimal n
-  number_behind = is ∙ sym (append_assoc old (comma_if after ++ token_text (key name)) (decimal n))
+  behind : new ≡ between ++ token_text t
+  behind = is ∙ sym (append_assoc old (comma_if after ++ token_text (key name)) (token_text t))
 
-  -- a name and a number are two tokens
+  -- a name and a value of one token, or its first one, are two tokens
+  pub named_added : IsText new (ends t)
+  named_added = token_added between new false t [] first named_between printable behind
+
+  pub named_seen : tokens new ≡ (tokens old ++ key name ∷ []) ++ t ∷ []
+  named_seen =
+      token_seen between new false t [] first named_between printable behind
+      ∙ ap (λ ts. ts ++ t ∷ []) (token_seen old between after (key name) _ (due_if after) h tt refl)
+
+module _ (old new : List ℕ) (after : Bool) (name : List ℕ) (n : ℕ) (h : IsText old after) (fits : n < 2 ^ 64)
+    (is : new ≡ old ++ ((comma_if after ++ token_text (key name)) ++ decimal n)) where
   pub numbered_added : IsText new true
-  numbered_added =
-      token_added between new false (number (decimal n)) [] refl named_between (IsNumber-decimal n fits) number_behind
+  numbered_added = named_added old new after name (number (decimal n)) refl h (IsNumber-decimal n fits) is
 
   pub numbered_seen : tokens new ≡ (tokens old ++ key name ∷ []) ++ number (decimal n) ∷ []
-  numbered_seen =
-      token_seen between new false (number (decimal n)) [] refl named_between (IsNumber-decimal n fits) number_behind
-      ∙ ap (λ ts. ts ++ number (decimal n) ∷ [])
-      (token_seen old between after (key name) _ (due_if after) h tt refl)
+  numbered_seen = named_seen old new after name (number (decimal n)) refl h (IsNumber-decimal n fits) is
+
+-- tokens that were added, or not
+pub added_or_kept : (P : List Token → Type 0) (is_added : Bool) {new added old : List Token}
+    → OnTrue is_added (new ≡ added) → OnFalse is_added (new ≡ old) → P added → P old → P new
+added_or_kept P true is kept h _ = subst P (sym is) h
+added_or_kept P false added is _ h = subst P (sym is) h
 
 -- what begins an object or a list
 pub opens : (after : Bool) (nest : Nest)

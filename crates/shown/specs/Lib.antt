@@ -7,4 +7,5 @@ pub mod Marks
 pub mod MarkTrees
 pub mod Values
 pub mod Escapes
+pub mod Keys
 pub mod Laws

@@ -1,8 +1,11 @@
-//! Hardware addresses.
+//! Hardware addresses, and bytes as digits.
 
-ghost use Rattle.std.specs.Prelude.{◌≡◌, IfOk, string_bytes};
-ghost use Rattle.shown.specs.Values.{hardware_address};
+ghost use Rattle.std.specs.Prelude.{◌≡◌, ◌+◌, ◌*◌, ◌<◌, ◌≤◌, IfOk, length, string_bytes, take};
+ghost use Rattle.hex.specs.Hex.{encode_lower};
+ghost use Rattle.json.specs.Filled.{Placed};
+ghost use Rattle.shown.specs.Values.{hardware_address, octet_text};
 
+use crate::piece::put_byte;
 use std::alloc::{AllocError, Global};
 
 const DIGITS: [char; 16] = [
@@ -22,4 +25,47 @@ pub(crate) fn address_text(alloc: Global, bytes: &[u8]) -> Result<String, AllocE
         text.push(DIGITS[(*byte % 16) as usize])?;
     }
     Ok(text)
+}
+
+const LOWER: [u8; 16] = [
+    b'0', b'1', b'2', b'3', b'4', b'5', b'6', b'7', b'8', b'9', b'a', b'b', b'c', b'd', b'e', b'f',
+];
+
+/// Stores the two digits of a byte.
+#[inline(always)]
+fn put_octet(buf: &mut [u8], at: usize, byte: u8) -> usize
+    requires { at + 1 < length buf.old }
+    ensures { Placed buf.old buf.new at (octet_text byte) result }
+{
+    let middle = put_byte(buf, at, LOWER[(byte / 16) as usize]);
+    put_byte(buf, middle, LOWER[(byte % 16) as usize])
+}
+
+/// Stores two digits for each byte, with colons between them; where they end.
+pub(crate) fn put_address(buf: &mut [u8], bytes: &[u8]) -> usize
+    requires room { length bytes.now * 3 ≤ length buf.old }
+    ensures text { take result buf.new ≡ hardware_address bytes.now }
+    ensures within { result ≤ length buf.new }
+{
+    let mut end = 0;
+    for (i, byte) in bytes.iter().enumerate() {
+        if i > 0 {
+            end = put_byte(buf, end, b':');
+        }
+        end = put_octet(buf, end, *byte);
+    }
+    end
+}
+
+/// Stores two digits for each byte; where they end.
+pub(crate) fn put_hex(buf: &mut [u8], bytes: &[u8]) -> usize
+    requires room { length bytes.now * 2 ≤ length buf.old }
+    ensures text { take result buf.new ≡ encode_lower bytes.now }
+    ensures within { result ≤ length buf.new }
+{
+    let mut end = 0;
+    for byte in bytes {
+        end = put_octet(buf, end, *byte);
+    }
+    end
 }

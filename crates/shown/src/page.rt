@@ -2,18 +2,21 @@
 
 ghost use Rattle.std.specs.Prelude.{◌≡◌, ◌==◌, ◌≤◌, true, List, [], ◌∷◌, ◌++◌, map, decimal, option_map, length, take};
 ghost use Rattle.std.specs.Prelude.{OnOk, IfOk, IfSome};
+ghost use Rattle.std.specs.Bool.{OnTrue, OnFalse};
 ghost use Rattle.std.specs.List.{find};
 ghost use Rattle.std.specs.Fmt.{signed_decimal};
 ghost use Rattle.std.specs.Net.Addr.{ipv4_octets, ipv6_segments};
 ghost use Rattle.std.specs.Net.Text.{ipv4_text, ipv6_text};
 ghost use Rattle.hex.specs.Hex.{encode_lower};
-ghost use Rattle.json.specs.Token.{string, number, boolean};
+ghost use Rattle.json.specs.Token.{key, string, number, boolean};
 ghost use Rattle.shown.specs.Values.{hardware_address, name_or_number, named_number, flags_of};
 ghost use Rattle.shown.specs.Drafts.{named, empty_object, with_value, with_begun, Ends};
+ghost use Rattle.shown.specs.Keys.{IsKey};
+ghost use Rattle.shown.specs.Nesting.{opening};
 ghost use Rattle.shown.specs.Marks.{scalar_token, noted, nothing_noted, marks_of};
 ghost use Rattle.shown.specs.Pages.{IsPlain, IsWholeText, AddsText, ended};
 
-use crate::address::address_text;
+use crate::address::{address_text, put_address, put_hex};
 use crate::marks::Marks;
 use crate::sheet::Sheet;
 use std::alloc::{AllocError, Global};
@@ -22,6 +25,9 @@ use std::net::{Ipv4Addr, Ipv6Addr};
 
 /// How many bytes a page has room for at first: those of most messages.
 pub(crate) const ROOM: usize = 8192;
+
+/// The most bytes that are written as digits without asking for memory: those of any hardware address.
+const FEW: usize = 32;
 
 /// What is open in a text.
 #[derive(Clone, Copy, Drop)]
@@ -102,17 +108,70 @@ fn put_number(sheet: &mut Sheet, inside: Nest, name: &str, value: u64) -> Result
     }
 }
 
-/// Writes a number that may be below zero, after its name where one is due. Few of a link's are.
+/// Writes a number that may be below zero, after its name where one is due.
 #[inline(always)]
 fn put_signed(sheet: &mut Sheet, inside: Nest, name: &str, value: i64) -> Result<(), AllocError>
     ensures { OnOk result
         (sheet.new ≡ named inside name.now sheet.old ++ number (signed_decimal value) ∷ []) }
 {
-    if value >= 0 {
-        return put_number(sheet, inside, name, value as u64);
-    }
     put_name(sheet, inside, name)?;
     sheet.signed(value)
+}
+
+/// Writes a number at once, after its name where one is due; whether it did.
+#[inline(always)]
+fn try_number<const IS_KEY: bool>(sheet: &mut Sheet, inside: Nest, name: &str, value: u64) -> bool
+    requires key { IS_KEY ≡ true → IsKey name.now }
+    ensures added { OnTrue result
+        (sheet.new ≡ named inside name.now sheet.old ++ number (decimal value) ∷ []) }
+    ensures kept { OnFalse result (sheet.new ≡ sheet.old) }
+{
+    match inside {
+        Nest::Object => sheet.try_numbered::<IS_KEY>(name, value),
+        Nest::List => sheet.try_number(value),
+    }
+}
+
+/// Writes a text at once, after its name where one is due; whether it did.
+#[inline(always)]
+fn try_string<const IS_KEY: bool>(sheet: &mut Sheet, inside: Nest, name: &str, text: &[u8]) -> bool
+    requires key { IS_KEY ≡ true → IsKey name.now }
+    ensures added { OnTrue result
+        (sheet.new ≡ named inside name.now sheet.old ++ string text.now ∷ []) }
+    ensures kept { OnFalse result (sheet.new ≡ sheet.old) }
+{
+    match inside {
+        Nest::Object => sheet.try_named::<IS_KEY>(name, text),
+        Nest::List => sheet.try_string(text),
+    }
+}
+
+/// Writes the beginning of an object or a list, after its name, where it is not written at once.
+#[cold]
+#[inline(never)]
+fn put_begun_late(sheet: &mut Sheet, name: &str, nest: Nest) -> Result<(), AllocError>
+    ensures { OnOk result (sheet.new ≡ (sheet.old ++ key name.now ∷ []) ++ opening nest ∷ []) }
+{
+    sheet.name(name)?;
+    sheet.begin(nest)
+}
+
+/// Writes the beginning of an object or a list, after its name where one is due.
+#[inline(always)]
+fn put_begun<const IS_KEY: bool>(
+    sheet: &mut Sheet,
+    inside: Nest,
+    name: &str,
+    nest: Nest,
+) -> Result<(), AllocError>
+    requires key { IS_KEY ≡ true → IsKey name.now }
+    ensures { OnOk result (sheet.new ≡ named inside name.now sheet.old ++ opening nest ∷ []) }
+{
+    match inside {
+        Nest::Object if sheet.try_begun::<IS_KEY>(name, nest) => Ok(()),
+        Nest::Object => put_begun_late(sheet, name, nest),
+        Nest::List => sheet.begin(nest),
+    }
 }
 
 /// Writes a value that is no object and no list.
@@ -269,9 +328,10 @@ impl Page {
         Ok(())
     }
 
-    /// Adds a text.
+    /// Adds a text where it is not written at once.
+    #[cold]
     #[inline(never)]
-    pub fn string(&mut self, name: &str, text: &str) -> Result<(), AllocError>
+    fn string_late(&mut self, name: &str, text: &str) -> Result<(), AllocError>
         ensures { OnOk result (self.new ≡ with_value name.now (string text.now ∷ []) self.old) }
     {
         let Writing::Plain = self.writing else {
@@ -284,9 +344,10 @@ impl Page {
         Ok(())
     }
 
-    /// Adds a number.
-    #[inline(always)]
-    pub fn number(&mut self, name: &str, value: u64) -> Result<(), AllocError>
+    /// Adds a number where it is not written at once.
+    #[cold]
+    #[inline(never)]
+    fn number_late(&mut self, name: &str, value: u64) -> Result<(), AllocError>
         ensures { OnOk result
             (self.new ≡ with_value name.now (number (decimal value) ∷ []) self.old) }
     {
@@ -299,8 +360,10 @@ impl Page {
         Ok(())
     }
 
-    /// Adds a number that may be below zero.
-    pub fn signed(&mut self, name: &str, value: i64) -> Result<(), AllocError>
+    /// Adds a number that may be below zero, where it is not written at once.
+    #[cold]
+    #[inline(never)]
+    fn signed_late(&mut self, name: &str, value: i64) -> Result<(), AllocError>
         ensures { OnOk result
             (self.new ≡ with_value name.now (number (signed_decimal value) ∷ []) self.old) }
     {
@@ -311,6 +374,107 @@ impl Page {
         put_signed(&mut self.sheet, self.inside, name, value)?;
         self.writing = Writing::Plain;
         Ok(())
+    }
+
+    /// Adds a text at once; whether it did.
+    #[inline(always)]
+    fn try_text<const IS_KEY: bool>(&mut self, name: &str, text: &[u8]) -> bool
+        requires key { IS_KEY ≡ true → IsKey name.now }
+        ensures added { OnTrue result
+            (self.new ≡ with_value name.now (string text.now ∷ []) self.old) }
+        ensures kept { OnFalse result (self.new ≡ self.old) }
+    {
+        let Writing::Plain = self.writing else {
+            return false;
+        };
+        try_string::<IS_KEY>(&mut self.sheet, self.inside, name, text)
+    }
+
+    /// Adds a number at once; whether it did.
+    #[inline(always)]
+    fn try_number<const IS_KEY: bool>(&mut self, name: &str, value: u64) -> bool
+        requires key { IS_KEY ≡ true → IsKey name.now }
+        ensures added { OnTrue result
+            (self.new ≡ with_value name.now (number (decimal value) ∷ []) self.old) }
+        ensures kept { OnFalse result (self.new ≡ self.old) }
+    {
+        let Writing::Plain = self.writing else {
+            return false;
+        };
+        try_number::<IS_KEY>(&mut self.sheet, self.inside, name, value)
+    }
+
+    /// Adds a text.
+    #[inline(never)]
+    pub fn string(&mut self, name: &str, text: &str) -> Result<(), AllocError>
+        ensures { OnOk result (self.new ≡ with_value name.now (string text.now ∷ []) self.old) }
+    {
+        if self.try_text::<false>(name, text.as_bytes()) {
+            return Ok(());
+        }
+        self.string_late(name, text)
+    }
+
+    /// Adds a text under a key, a name of which it is known that no byte of it needs an escape.
+    #[inline(never)]
+    pub fn keyed_string(&mut self, name: &str, text: &str) -> Result<(), AllocError>
+        requires key { IsKey name.now }
+        ensures { OnOk result (self.new ≡ with_value name.now (string text.now ∷ []) self.old) }
+    {
+        if self.try_text::<true>(name, text.as_bytes()) {
+            return Ok(());
+        }
+        self.string_late(name, text)
+    }
+
+    /// Adds a number.
+    #[inline(never)]
+    pub fn number(&mut self, name: &str, value: u64) -> Result<(), AllocError>
+        ensures { OnOk result
+            (self.new ≡ with_value name.now (number (decimal value) ∷ []) self.old) }
+    {
+        if self.try_number::<false>(name, value) {
+            return Ok(());
+        }
+        self.number_late(name, value)
+    }
+
+    /// Adds a number under a key.
+    #[inline(never)]
+    pub fn keyed_number(&mut self, name: &str, value: u64) -> Result<(), AllocError>
+        requires key { IsKey name.now }
+        ensures { OnOk result
+            (self.new ≡ with_value name.now (number (decimal value) ∷ []) self.old) }
+    {
+        if self.try_number::<true>(name, value) {
+            return Ok(());
+        }
+        self.number_late(name, value)
+    }
+
+    /// Adds a number that may be below zero.
+    #[inline(always)]
+    pub fn signed(&mut self, name: &str, value: i64) -> Result<(), AllocError>
+        ensures { OnOk result
+            (self.new ≡ with_value name.now (number (signed_decimal value) ∷ []) self.old) }
+    {
+        if value >= 0 {
+            return self.number(name, value as u64);
+        }
+        self.signed_late(name, value)
+    }
+
+    /// Adds a number that may be below zero, under a key.
+    #[inline(always)]
+    pub fn keyed_signed(&mut self, name: &str, value: i64) -> Result<(), AllocError>
+        requires key { IsKey name.now }
+        ensures { OnOk result
+            (self.new ≡ with_value name.now (number (signed_decimal value) ∷ []) self.old) }
+    {
+        if value >= 0 {
+            return self.keyed_number(name, value as u64);
+        }
+        self.signed_late(name, value)
     }
 
     /// Adds `true` or `false`.
@@ -336,8 +500,23 @@ impl Page {
         };
         self.writing = Writing::Broken;
         self.outer.push(self.inside)?;
-        put_name(&mut self.sheet, self.inside, name)?;
-        self.sheet.begin(nest)?;
+        put_begun::<false>(&mut self.sheet, self.inside, name, nest)?;
+        self.inside = nest;
+        self.writing = Writing::Plain;
+        Ok(())
+    }
+
+    /// Begins an object or a list under a key, to which what is added goes from then on.
+    pub fn keyed_begin(&mut self, name: &str, nest: Nest) -> Result<(), AllocError>
+        requires key { IsKey name.now }
+        ensures { OnOk result (self.new ≡ with_begun name.now nest self.old) }
+    {
+        let Writing::Plain = self.writing else {
+            return self.begin_marked(name, nest);
+        };
+        self.writing = Writing::Broken;
+        self.outer.push(self.inside)?;
+        put_begun::<true>(&mut self.sheet, self.inside, name, nest)?;
         self.inside = nest;
         self.writing = Writing::Plain;
         Ok(())
@@ -360,8 +539,10 @@ impl Page {
         Ok(())
     }
 
-    /// Adds bytes as hexadecimal digits.
-    pub fn hex(&mut self, name: &str, bytes: &[u8]) -> Result<(), AllocError>
+    /// Adds bytes as hexadecimal digits where they are not written at once.
+    #[cold]
+    #[inline(never)]
+    fn hex_late(&mut self, name: &str, bytes: &[u8]) -> Result<(), AllocError>
         ensures { OnOk result
             (self.new ≡ with_value name.now (string (encode_lower bytes.now) ∷ []) self.old) }
     {
@@ -369,13 +550,45 @@ impl Page {
         self.string(name, text.as_str())
     }
 
-    /// Adds a hardware address.
-    pub fn address(&mut self, name: &str, bytes: &[u8]) -> Result<(), AllocError>
+    /// Adds a hardware address where it is not written at once.
+    #[cold]
+    #[inline(never)]
+    fn address_late(&mut self, name: &str, bytes: &[u8]) -> Result<(), AllocError>
         ensures { OnOk result
             (self.new ≡ with_value name.now (string (hardware_address bytes.now) ∷ []) self.old) }
     {
         let text = address_text(self.alloc, bytes)?;
         self.string(name, text.as_str())
+    }
+
+    /// Adds bytes as hexadecimal digits. Those of a few take no memory.
+    pub fn hex(&mut self, name: &str, bytes: &[u8]) -> Result<(), AllocError>
+        ensures { OnOk result
+            (self.new ≡ with_value name.now (string (encode_lower bytes.now) ∷ []) self.old) }
+    {
+        if bytes.len() <= FEW {
+            let mut digits = [0u8; 2 * FEW];
+            let end = put_hex(&mut digits, bytes);
+            if self.try_text::<false>(name, &digits[..end]) {
+                return Ok(());
+            }
+        }
+        self.hex_late(name, bytes)
+    }
+
+    /// Adds a hardware address. One of a few bytes takes no memory.
+    pub fn address(&mut self, name: &str, bytes: &[u8]) -> Result<(), AllocError>
+        ensures { OnOk result
+            (self.new ≡ with_value name.now (string (hardware_address bytes.now) ∷ []) self.old) }
+    {
+        if bytes.len() <= FEW {
+            let mut octets = [0u8; 3 * FEW];
+            let end = put_address(&mut octets, bytes);
+            if self.try_text::<false>(name, &octets[..end]) {
+                return Ok(());
+            }
+        }
+        self.address_late(name, bytes)
     }
 
     /// Adds an IPv4 address, as four decimal numbers with dots between them.

@@ -1,14 +1,19 @@
 //! The text of tokens, as it grows.
 
-ghost use Rattle.std.specs.Prelude.{◌≡◌, ◌≤◌, [], ◌∷◌, ◌++◌, OnOk, decimal, length, take};
+ghost use Rattle.std.specs.Prelude.{◌≡◌, ◌≤◌, [], ◌∷◌, ◌++◌, OnOk, decimal, length, take, true};
+ghost use Rattle.std.specs.Bool.{OnTrue, OnFalse};
 ghost use Rattle.std.specs.Fmt.{signed_decimal};
 ghost use Rattle.json.specs.Token.{key, string, number, boolean};
 ghost use Rattle.shown.specs.Print.{print, token_text};
+ghost use Rattle.shown.specs.Keys.{IsKey};
 ghost use Rattle.shown.specs.Marks.{next_place};
 ghost use Rattle.shown.specs.Nesting.{opening, closing};
 
 use crate::page::Nest;
-use crate::piece::{add_bytes, add_name, add_number, add_numbered, add_string};
+use crate::piece::{
+    add_byte, add_bytes, add_name, add_number, add_numbered, add_string, try_begun, try_named,
+    try_number, try_numbered, try_string,
+};
 use itoa::Buffer;
 use std::alloc::{AllocError, Global};
 use std::marker::Model;
@@ -41,23 +46,23 @@ impl Model for Sheet {
 
 /// The bracket that begins an object or a list.
 #[inline(always)]
-fn opening(nest: Nest) -> &'static [u8]
-    ensures { result.now ≡ token_text (opening nest) }
+fn opening(nest: Nest) -> u8
+    ensures { result ∷ [] ≡ token_text (opening nest) }
 {
     match nest {
-        Nest::Object => b"{",
-        Nest::List => b"[",
+        Nest::Object => b'{',
+        Nest::List => b'[',
     }
 }
 
 /// The bracket that ends an object or a list.
 #[inline(always)]
-fn closing(nest: Nest) -> &'static [u8]
-    ensures { result.now ≡ token_text (closing nest) }
+fn closing(nest: Nest) -> u8
+    ensures { result ∷ [] ≡ token_text (closing nest) }
 {
     match nest {
-        Nest::Object => b"}",
-        Nest::List => b"]",
+        Nest::Object => b'}',
+        Nest::List => b']',
     }
 }
 
@@ -144,6 +149,96 @@ impl Sheet {
         Ok(())
     }
 
+    /// Adds a name and a number at once, where there is room and the name needs no escape; whether it did.
+    #[inline(always)]
+    pub(crate) fn try_numbered<const IS_KEY: bool>(&mut self, name: &str, value: u64) -> bool
+        requires key { IS_KEY ≡ true → IsKey name.now }
+        ensures added { OnTrue result
+            (self.new ≡ (self.old ++ key name.now ∷ []) ++ number (decimal value) ∷ []) }
+        ensures kept { OnFalse result (self.new ≡ self.old) }
+    {
+        let Some(end) = try_numbered::<IS_KEY>(
+            &mut self.bytes,
+            self.len,
+            self.after_value,
+            name,
+            value,
+        ) else {
+            return false;
+        };
+        self.len = end;
+        self.after_value = true;
+        true
+    }
+
+    /// Adds a number at once, where there is room; whether it did.
+    #[inline(always)]
+    pub(crate) fn try_number(&mut self, value: u64) -> bool
+        ensures added { OnTrue result (self.new ≡ self.old ++ number (decimal value) ∷ []) }
+        ensures kept { OnFalse result (self.new ≡ self.old) }
+    {
+        let Some(end) = try_number(&mut self.bytes, self.len, self.after_value, value) else {
+            return false;
+        };
+        self.len = end;
+        self.after_value = true;
+        true
+    }
+
+    /// Adds a name and a string at once, where there is room and neither needs an escape; whether it did.
+    #[inline(always)]
+    pub(crate) fn try_named<const IS_KEY: bool>(&mut self, name: &str, text: &[u8]) -> bool
+        requires key { IS_KEY ≡ true → IsKey name.now }
+        ensures added { OnTrue result
+            (self.new ≡ (self.old ++ key name.now ∷ []) ++ string text.now ∷ []) }
+        ensures kept { OnFalse result (self.new ≡ self.old) }
+    {
+        let Some(end) = try_named::<IS_KEY>(&mut self.bytes, self.len, self.after_value, name, text)
+        else {
+            return false;
+        };
+        self.len = end;
+        self.after_value = true;
+        true
+    }
+
+    /// Adds a string at once, where there is room and it needs no escape; whether it did.
+    #[inline(always)]
+    pub(crate) fn try_string(&mut self, text: &[u8]) -> bool
+        ensures added { OnTrue result (self.new ≡ self.old ++ string text.now ∷ []) }
+        ensures kept { OnFalse result (self.new ≡ self.old) }
+    {
+        let Some(end) = try_string(&mut self.bytes, self.len, self.after_value, text) else {
+            return false;
+        };
+        self.len = end;
+        self.after_value = true;
+        true
+    }
+
+    /// Adds a name and the beginning of an object or a list at once, where there is room and the name needs no escape;
+    /// whether it did.
+    #[inline(always)]
+    pub(crate) fn try_begun<const IS_KEY: bool>(&mut self, name: &str, nest: Nest) -> bool
+        requires key { IS_KEY ≡ true → IsKey name.now }
+        ensures added { OnTrue result
+            (self.new ≡ (self.old ++ key name.now ∷ []) ++ opening nest ∷ []) }
+        ensures kept { OnFalse result (self.new ≡ self.old) }
+    {
+        let Some(end) = try_begun::<IS_KEY>(
+            &mut self.bytes,
+            self.len,
+            self.after_value,
+            name,
+            opening(nest),
+        ) else {
+            return false;
+        };
+        self.len = end;
+        self.after_value = false;
+        true
+    }
+
     /// Adds a number that may be below zero.
     #[inline(always)]
     pub(crate) fn signed(&mut self, value: i64) -> Result<(), AllocError>
@@ -170,7 +265,7 @@ impl Sheet {
     pub(crate) fn begin(&mut self, nest: Nest) -> Result<(), AllocError>
         ensures { OnOk result (self.new ≡ self.old ++ opening nest ∷ []) }
     {
-        self.len = add_bytes(&mut self.bytes, self.len, self.after_value, opening(nest))?;
+        self.len = add_byte(&mut self.bytes, self.len, self.after_value, opening(nest))?;
         self.after_value = false;
         Ok(())
     }
@@ -179,7 +274,7 @@ impl Sheet {
     pub(crate) fn end(&mut self, nest: Nest) -> Result<(), AllocError>
         ensures { OnOk result (self.new ≡ self.old ++ closing nest ∷ []) }
     {
-        self.len = add_bytes(&mut self.bytes, self.len, false, closing(nest))?;
+        self.len = add_byte(&mut self.bytes, self.len, false, closing(nest))?;
         self.after_value = true;
         Ok(())
     }

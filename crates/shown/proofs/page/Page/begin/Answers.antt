@@ -4,5 +4,4 @@ use Rattle.shown.proofs.page.Page.begin.Goals as goal
 pub invariant_of-self-2 : goal.invariant_of-self-2
 invariant_of-self-2 c =
     let page = rw c.in-Plain.is at c.self.invariant in
-    rw (c.in_ok-begin.ensures, c.in_ok-put_name.ensures, c.in_ok-push.ensures.items)
-    (page_begin _ _ _ _ _ page.0, page.1)
+    rw (c.in_ok-put_begun.ensures, c.in_ok-push.ensures.items) (page_begin _ _ _ _ _ page.0, page.1)

@@ -1,6 +1,6 @@
 use Rattle.std.proofs.Common.{refl}
 use Rattle.shown.proofs.Pages.{page_value}
-use Rattle.shown.proofs.page.Page.string.Goals as goal
+use Rattle.shown.proofs.page.Page.string_late.Goals as goal
 
 pub invariant_of-self-2 : goal.invariant_of-self-2
 invariant_of-self-2 c =

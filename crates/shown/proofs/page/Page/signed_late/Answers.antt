@@ -1,7 +1,7 @@
 use Rattle.std.proofs.Common.{refl, rules}
 use Rattle.shown.proofs.Pages.{page_value}
 use Rattle.shown.proofs.Lines.{signed_on_line}
-use Rattle.shown.proofs.page.Page.signed.Goals as goal
+use Rattle.shown.proofs.page.Page.signed_late.Goals as goal
 
 pub invariant_of-self-2 : goal.invariant_of-self-2
 invariant_of-self-2 c =

@@ -1,7 +1,7 @@
 use Rattle.std.proofs.Common.{refl}
 use Rattle.shown.proofs.Pages.{page_value}
 use Rattle.shown.proofs.Lines.{decimal_on_line}
-use Rattle.shown.proofs.page.Page.number.Goals as goal
+use Rattle.shown.proofs.page.Page.number_late.Goals as goal
 
 pub invariant_of-self-2 : goal.invariant_of-self-2
 invariant_of-self-2 c =
