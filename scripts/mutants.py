@@ -127,7 +127,8 @@ def build(name, folder, text, to, *more):
     Path(f"{to}.s").write_text("\n".join(text))
     made = TOP / "out/dist"
     with_it = [*Path(folder).glob("test.*.o")] if name == "link_c" else [*WRAPS, made / "errno.o"]
-    return compiles("-c", "-o", f"{to}.o", f"{to}.s") and compiles("-o", to, f"{to}.o", made / "heap.o", *with_it, *more)
+    return compiles("-c", "-o", f"{to}.o", f"{to}.s") and \
+        compiles("-o", to, f"{to}.o", made / "heap.o", *with_it, *more)
 
 
 def prepare(name, folder):

@@ -16,7 +16,8 @@ use Rattle.frame_shown.specs.Kept.{frame_members}
 use Rattle.frame_shown.specs.Messages.{address_len, header_members, with_address_len}
 use Rattle.frame_shown.specs.Tables.{Known, entry_list, is_kept, kind_shown, row_in}
 use Rattle.frame_shown.specs.Values.{behind_settings, count_of, counter_names, counter_width, counters_shown}
-use Rattle.frame_shown.specs.Values.{elements_shown, event_in, fields_in, fields_shown, hexadecimal, info_of, ipv6_named}
+use Rattle.frame_shown.specs.Values.{elements_shown, event_in, fields_in, fields_shown, hexadecimal, info_of}
+use Rattle.frame_shown.specs.Values.{ipv6_named}
 use Rattle.frame_shown.specs.Values.{payloads_shown, record_shown, setting_names, settings_shown}
 use Rattle.frame_shown.specs.declared.form.Around.{Around}
 use Rattle.frame_shown.specs.declared.form.Form.{Form}

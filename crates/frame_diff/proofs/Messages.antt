@@ -34,9 +34,9 @@ passed_one r list f is =
 told_one : (r : Reading) (list : Shape) (f : Frame) → is_passed r.is_state list (number f) ≡ false
     → is_kept (row_in r.around list (number f)).1 f.payload ≡ false
     → frame_member r list f ≡ (
-    Step.name (row_in r.around list (number f)).0,
-    held_by r (action_in r.is_state list (number f)) (row_in r.around list (number f)).1 f.payload,
-  ) ∷ []
+      Step.name (row_in r.around list (number f)).0,
+      held_by r (action_in r.is_state list (number f)) (row_in r.around list (number f)).1 f.payload,
+    ) ∷ []
 told_one r list f is named =
     let m : Member = (
       Step.name (row_in r.around list (number f)).0,

@@ -26,9 +26,9 @@ Lack (x ∷ xs) ys = (value_at ys x.0 ≡ None) × Lack xs ys
 append_once : (xs ys : List Leaf) → StandOnce xs → StandOnce ys → Lack xs ys → StandOnce (xs ++ ys)
 append_once [] ys h k lack = k
 append_once (x ∷ xs) ys h k lack = (
-    value_append xs ys x.0 ∙ (λ n. either (h.0 n) (lack.0 n)),
-    append_once xs ys h.1 k lack.1,
-  )
+  value_append xs ys x.0 ∙ (λ n. either (h.0 n) (lack.0 n)),
+  append_once xs ys h.1 k lack.1,
+)
 
 under_once : (s : Step) (ls : List Leaf) → StandOnce ls → StandOnce (under s ls)
 under_once s [] once = tt

@@ -1,4 +1,4 @@
--- What of a message a state passes over, by the table of `link_state`: the attributes of a number, or fields of a record.
+-- What of a message a state passes over, by the table of `link_state`: attributes of a number, or fields of a record.
 use Rattle.std.specs.Prelude.{ℕ, ◌+◌, ◌&&◌, List, [], ◌∷◌, ◌++◌, Bool, true, false, Option, Some, None, cond, nat_le}
 use Rattle.std.specs.Prelude.{nat_lt}
 use Rattle.link_info.specs.declared.place.Place.{Place}

@@ -54,8 +54,8 @@ pub record CountersArePassed : Type 0 where
   pub told : (r : Reading) (list : Shape) (f : Frame) → is_passed r.is_state list (number f) ≡ false
       → is_kept (row_in r.around list (number f)).1 f.payload ≡ false
       → frame_member r list f ≡ (
-      Step.name (row_in r.around list (number f)).0,
-      held_by r (action_in r.is_state list (number f)) (row_in r.around list (number f)).1 f.payload,
-    ) ∷ []
+        Step.name (row_in r.around list (number f)).0,
+        held_by r (action_in r.is_state list (number f)) (row_in r.around list (number f)).1 f.payload,
+      ) ∷ []
   pub whole : (list : Shape) (n : ℕ) → is_passed false list n ≡ false
   pub state : (list : Shape) (n : ℕ) → is_passed true list n ≡ is_clear (action_at (level_in list) n)

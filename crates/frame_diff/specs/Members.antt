@@ -3,7 +3,8 @@
 use Rattle.std.specs.Prelude.{ℕ, zero, suc, ◌+◌, ◌==◌, List, [], ◌∷◌, ◌++◌, Bool, true, false, Option, Some, None, cond}
 use Rattle.std.specs.Prelude.{drop, length, map, slice_index}
 use Rattle.std.specs.List.{flat_map}
-use Rattle.json.specs.Token.{Token, begin_array, begin_object, end_array, end_object, key, string, number as number_token}
+use Rattle.json.specs.Token.{Token, begin_array, begin_object, end_array, end_object, key, string}
+use Rattle.json.specs.Token.{number as number_token}
 use Rattle.json.specs.Token.{boolean, null, bad}
 use Rattle.nla_wire.specs.Frames.{Frame, number}
 use Rattle.nla_wire.specs.Items.{items}
@@ -19,7 +20,8 @@ use Rattle.frame_shown.specs.Kept.{frame_members}
 use Rattle.frame_shown.specs.Messages.{address_len, header_members, with_address_len}
 use Rattle.frame_shown.specs.Tables.{Known, entry_list, group_name, is_kept, kind_shown, row_in}
 use Rattle.frame_shown.specs.Values.{Nesting, behind_settings, count_of, counter_names, counter_width, counters_shown}
-use Rattle.frame_shown.specs.Values.{elements_shown, event_in, fields_in, fields_shown, hexadecimal, info_of, ipv6_named}
+use Rattle.frame_shown.specs.Values.{elements_shown, event_in, fields_in, fields_shown, hexadecimal, info_of}
+use Rattle.frame_shown.specs.Values.{ipv6_named}
 use Rattle.frame_shown.specs.Values.{payloads_shown, record_shown, setting_names, settings_shown}
 use Rattle.frame_shown.specs.declared.form.Around.{Around}
 use Rattle.frame_shown.specs.declared.form.Form.{Form}

@@ -9,5 +9,6 @@ pub invariant_of-self : goal.invariant_of-self
 invariant_of-self g c =
     let p = c.self.inside in
     let page = rw c.in-Plain.is at c.self.invariant in
-    added_or_kept (λ ts. IsWritten p.writing p.marks ts p.inside p.outer.items) c.try_number.result c.try_number.ensures.added
-    c.try_number.ensures.kept (rw c.in-Plain.is (page_value _ _ _ _ _ page.0 (λ _. refl) (decimal_on_line _ c.ranges.value.fits), page.1)) c.self.invariant
+    let written = page_value _ _ _ _ _ page.0 (λ _. refl) (decimal_on_line _ c.ranges.value.fits) in
+    added_or_kept (λ ts. IsWritten p.writing p.marks ts p.inside p.outer.items) c.try_number.result
+    c.try_number.ensures.added c.try_number.ensures.kept (rw c.in-Plain.is (written, page.1)) c.self.invariant
