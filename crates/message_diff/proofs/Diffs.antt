@@ -20,7 +20,7 @@ has_here leaf [] k d within = absurd (omega arith)
 has_here leaf (x ∷ xs) zero d within = inl (refl, refl)
 has_here leaf (x ∷ xs) (suc k) d within = inr (has_here leaf xs k d (omega arith))
 
-lacks_push : (ls : List Leaf) (l : Leaf) (path : List ℕ) → Lacks ls path → l.0 ≢ path → Lacks (ls ++ l ∷ []) path
+pub lacks_push : (ls : List Leaf) (l : Leaf) (path : List ℕ) → Lacks ls path → l.0 ≢ path → Lacks (ls ++ l ∷ []) path
 lacks_push [] l path all last = (last, tt)
 lacks_push (x ∷ xs) l path all last = (all.0, lacks_push xs l path all.1 last)
 

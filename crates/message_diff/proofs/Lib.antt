@@ -28,6 +28,7 @@ pub mod Passing
 pub mod Below
 pub mod PartFrames
 pub mod Unlike
+pub mod ByPath
 pub mod Counted
 pub mod LeftOut
 pub mod Clauses

@@ -8,6 +8,7 @@ pub mod Sorted
 pub mod Known
 pub mod Parts
 pub mod Unlike
+pub mod Values
 pub mod Said
 pub mod Alone
 pub mod Named

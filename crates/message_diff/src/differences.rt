@@ -1,11 +1,13 @@
 //! What differs between the members of two texts.
 
 ghost use Rattle.std.specs.Prelude.{◌≡◌, IfOk, option_map};
-ghost use Rattle.message_diff.specs.Differences.{IsValueAt, Says, AreOldDiffs, AreDiffs};
+ghost use Rattle.message_diff.specs.Differences.{Says, AreOldDiffs, AreDiffs};
+ghost use Rattle.message_diff.specs.Values.{AreValues};
 ghost use Rattle.message_diff.specs.Differences.{leaf_of, leaves, diff_of, diff_in, diffs_of};
 ghost use Rattle.message_diff.specs.Differences.{path_of, old_of, new_of};
 
 use crate::leaves::Leaf;
+use crate::values::Values;
 use std::alloc::{AllocError, Global};
 
 /// A path whose value is not the same in both.
@@ -50,34 +52,21 @@ impl<'a> Change<'a> {
     }
 }
 
-/// The value of a leaf with this path, which is looked for first where it is likely; the next one is likely after it.
-pub fn value_of<'a>(list: &[Leaf<'a>], path: &[u8], likely: &mut usize) -> Option<&'a [u8]>
-    ensures { IsValueAt (leaves list.now) path.now (option_map (λ value. value.now) result) }
-{
-    if *likely < list.len() {
-        let leaf = &list[*likely];
-        if leaf.path == path {
-            *likely += 1;
-            return Some(leaf.value);
-        }
-    }
-    for (i, leaf) in list.iter().enumerate() {
-        if leaf.path == path {
-            *likely = i + 1;
-            return Some(leaf.value);
-        }
-    }
-    None
-}
-
 /// What an old leaf says that the new leaves do not.
-fn change_of<'a>(leaf: &'a Leaf<'a>, new: &'a [Leaf<'a>], likely: &mut usize) -> Option<Change<'a>>
-    ensures { Says (leaves new.now) (leaf_of leaf.now) (diff_in result) }
+fn change_of<'a>(
+    alloc: Global,
+    leaf: &Leaf<'a>,
+    new: &mut Values<'a>,
+) -> Result<Option<Change<'a>>, AllocError>
+    ensures says { AreValues new.old → IfOk result (λ change.
+        Says (leaves new.old.leaves.now) (leaf_of leaf.now) (diff_in change)) }
+    ensures values { AreValues new.old → AreValues new.new }
+    ensures leaves { new.new.leaves ≡ new.old.leaves }
 {
-    match value_of(new, leaf.path, likely) {
-        None => Some(Change::Went(leaf.path, leaf.value)),
-        Some(value) if value == leaf.value => None,
-        Some(value) => Some(Change::Turned(leaf.path, leaf.value, value)),
+    match new.get(alloc, leaf.path)? {
+        None => Ok(Some(Change::Went(leaf.path, leaf.value))),
+        Some(value) if value == leaf.value => Ok(None),
+        Some(value) => Ok(Some(Change::Turned(leaf.path, leaf.value, value))),
     }
 }
 
@@ -91,9 +80,9 @@ fn old_changes<'a>(
         (λ cs. AreOldDiffs (leaves old.now) (leaves new.now) (diffs_of cs.items)) }
 {
     let mut changes = Vec::new(alloc);
-    let mut likely = 0;
+    let mut values = Values::of(new);
     for leaf in old {
-        match change_of(leaf, new, &mut likely) {
+        match change_of(alloc, leaf, &mut values)? {
             Some(change) => changes.push(change)?,
             None => {}
         }
@@ -113,9 +102,9 @@ pub fn differences<'a>(
         (λ cs. AreDiffs (leaves old.now) (leaves new.now) (diffs_of cs.items)) }
 {
     let mut changes = old_changes(alloc, old, new)?;
-    let mut likely = 0;
+    let mut values = Values::of(old);
     for leaf in new {
-        match value_of(old, leaf.path, &mut likely) {
+        match values.get(alloc, leaf.path)? {
             Some(_value) => {}
             None => changes.push(Change::Came(leaf.path, leaf.value))?,
         }

@@ -1,13 +1,10 @@
 use Rattle.std.proofs.Common.{rules}
 use Rattle.message_diff.specs.Differences.{Lacks, leaves}
 use Rattle.message_diff.proofs.Found.{found, passed, all_leaves}
-use Rattle.message_diff.proofs.differences.value_of.Goals as goal
+use Rattle.message_diff.proofs.values.first_with.Goals as goal
 
 pub returns-then-eq : goal.returns-then-eq
-returns-then-eq c = found c.args.list.now c.args.likely.now c.args.path.now c.if-likely-list.true (search rules)
-
-pub returns-then-eq-2 : goal.returns-then-eq-2
-returns-then-eq-2 c = found c.args.list.now c.loop-i.i c.args.path.now c.loop-i-test.true (search rules)
+returns-then-eq c = found c.args.list.now c.loop-i.i c.args.path.now c.loop-i-test.true (search rules)
 
 pub loop-i-preserved : goal.loop-i-preserved
 loop-i-preserved c =
