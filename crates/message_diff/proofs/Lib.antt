@@ -4,6 +4,7 @@ pub mod Paths
 pub mod Silent
 pub mod Pictures
 pub mod Missed
+pub mod Ranged
 pub mod Gone
 pub mod Hosts
 pub mod LastNames

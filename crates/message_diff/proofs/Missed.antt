@@ -26,7 +26,7 @@ use Rattle.message_diff.proofs.Pictures.{key_total, seen_taken}
 pub laws : IsEquivalence (eq_by_cmp key_cmp)
 laws = eq_by_cmp_equiv key_total
 
-both : (x y : Bool) → (x && y) ≡ true → (x ≡ true) × (y ≡ true)
+pub both : (x y : Bool) → (x && y) ≡ true → (x ≡ true) × (y ≡ true)
 both true y h = (refl, h)
 both false y h = absurd cc
 

@@ -1,7 +1,11 @@
 -- What a host's map has, and what is known by it.
-use Rattle.std.specs.Prelude.{◌≡◌, ◌==◌, ◌&&◌, ℕ, not, nat_le, Bool, List, Option, None, Some, cond, option_map}
+use Rattle.std.specs.Prelude.{◌≡◌, ◌==◌, ◌&&◌, ℕ, suc, not, nat_le, nat_lt, Bool, List, Option, None, Some, cond}
+use Rattle.std.specs.Prelude.{option_map}
 use Rattle.std.specs.List.{filter, list_any}
 use Rattle.std.specs.BTreeMap.{is_at}
+use Rattle.std.specs.BTreeMap.Range.{entries_between}
+use Rattle.std.specs.declared.ops.Bound.{Bound}
+use Rattle.std.specs.declared.ops.Bound.TheVariants.{Included, Excluded, Unbounded}
 use Rattle.std.specs.Map.{lookup}
 use Rattle.message_diff.specs.declared.key.Key.{Key}
 use Rattle.message_diff.specs.declared.store.Known.{Known}
@@ -86,6 +90,19 @@ is_left entries family begin e =
 
 abbrev pub left : Host → ℕ → ℕ → List (Key × Known)
 left host family begin = filter (is_left host.known.entries family begin) host.known.entries
+
+-- the interfaces of one family, from the first one to before the first one of the next
+abbrev pub start_of : ℕ → Bound Key
+start_of family = Included (record { family = family; index = 0 })
+
+abbrev pub end_of : ℕ → Bound Key
+end_of family = cond (nat_lt family 255) (Excluded (record { family = suc family; index = 0 })) Unbounded
+
+-- those in one family that a dump of another one should have had and did not
+abbrev pub left_in : Host → ℕ → ℕ → ℕ → List (Key × Known)
+left_in host within family begin =
+    filter (is_left host.known.entries family begin)
+    (entries_between key_cmp (start_of within) (end_of within) host.known.entries)
 
 -- where the dump that runs began, if it has this name
 abbrev pub begin_of : Option Dump → List ℕ → Option ℕ

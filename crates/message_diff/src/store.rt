@@ -1,21 +1,23 @@
 //! What is known of the interfaces of a host.
 
-ghost use Rattle.std.specs.Prelude.{◌≡◌, ◌==◌, ◌||◌, ℕ, false, Some, IfOk, OnOk, IsTrue, option_map};
+ghost use Rattle.std.specs.Prelude.{◌≡◌, ◌==◌, ◌||◌, ◌++◌, ℕ, false, Some, IfOk, OnOk, IsTrue, option_map};
 ghost use Rattle.message_diff.specs.declared.key.Key.{Key};
 ghost use Rattle.message_diff.specs.Announced.{is_another, kind_in, kind_or};
-ghost use Rattle.message_diff.specs.Held.{held, taken, put, last_of, seen_in, is_left, left};
+ghost use Rattle.message_diff.specs.Held.{held, taken, put, last_of, seen_in, is_left, left, left_in};
 ghost use Rattle.message_diff.specs.Held.{begin_of, come_again, kind_known, picture, whole_in, text_at};
+ghost use Rattle.message_diff.specs.Held.{end_of, start_of};
 ghost use Rattle.message_diff.specs.Files.{words_told};
 ghost use Rattle.message_diff.specs.Known.{key_cmp, is_since, nothing_known};
 ghost use Rattle.std.specs.List.Sorted.{IsStrictlySortedBy};
 ghost use Rattle.std.specs.Map.{keys_of};
 
 use crate::announced::{are_two, kind_of};
-use crate::key::Key;
+use crate::key::{AF_BRIDGE, AF_INET6, AF_UNSPEC, Key};
 use crate::snapshot::Snapshot;
 use message_shown::context::Order;
 use std::alloc::{AllocError, Global};
 use std::collections::BTreeMap;
+use std::ops::Bound;
 
 /// A message, and the words in front of it, where what is told is told at the end.
 #[derive(Drop)]
@@ -111,6 +113,23 @@ pub struct Host {
     whole: Vec<u8>,
 }
 
+/// The first interface of a family.
+fn start_of(family: u8) -> Bound<Key>
+    ensures { result ≡ start_of family }
+{
+    Bound::Included(Key { family, index: 0 })
+}
+
+/// The first one behind all those of a family.
+fn end_of(family: u8) -> Bound<Key>
+    ensures { result ≡ end_of family }
+{
+    match family.checked_add(1) {
+        Some(family) => Bound::Excluded(Key { family, index: 0 }),
+        None => Bound::Unbounded,
+    }
+}
+
 /// The hosts, each under its name.
 pub type Hosts = BTreeMap<Vec<u8>, Host>;
 
@@ -193,17 +212,38 @@ impl Host {
             && !self.is_since(key.in_family(family), begin)
     }
 
+    /// Adds those in one family, in order, that a dump of another one which began there should have had and did not.
+    fn add_missed(
+        &self,
+        within: u8,
+        family: u8,
+        begin: u64,
+        missed: &mut Vec<Key>,
+    ) -> Result<(), AllocError>
+        ensures keys { OnOk result (missed.new.items
+            ≡ missed.old.items ++ keys_of (left_in self.now within family begin)) }
+        ensures ordered { IsStrictlySortedBy key_cmp (keys_of self.now.known.entries) }
+    {
+        for (key, known) in self.known.range((start_of(within), end_of(within))) {
+            if self.is_missed(*key, known, family, begin) {
+                missed.push(*key)?;
+            }
+        }
+        Ok(())
+    }
+
     /// The interfaces, in order, that a dump of this family which began there should have had and did not.
     pub fn missed(&self, alloc: Global, family: u8, begin: u64) -> Result<Vec<Key>, AllocError>
         ensures keys { IfOk result (λ keys. keys.items ≡ keys_of (left self.now family begin)) }
         ensures ordered { IsStrictlySortedBy key_cmp (keys_of self.now.known.entries) }
     {
         let mut missed = Vec::new(alloc);
-        for (key, known) in self.known.iter() {
-            if self.is_missed(*key, known, family, begin) {
-                missed.push(*key)?;
-            }
+        self.add_missed(family, family, begin, &mut missed)?;
+        if family != AF_UNSPEC {
+            return Ok(missed);
         }
+        self.add_missed(AF_BRIDGE, family, begin, &mut missed)?;
+        self.add_missed(AF_INET6, family, begin, &mut missed)?;
         Ok(missed)
     }
 
