@@ -77,6 +77,12 @@ STREAMS = [
      [*[link(NAME, family=family) for family in (0, 7, 10, 28, 255)], BEGIN, DONE.replace("family=0", "family=10"),
       BEGIN, DONE.replace("family=0", "family=255"), *[link(NAME, mtu(9), family=family) for family in (10, 28, 255)]],
      [*["new 5"] * 5, "gone 5", "gone 5", "new 5", "changed 5 mtu", "new 5"]),
+    ("a host of which nothing is known is as one that was never seen", ["--changes-only"],
+     ["host=a " + link(NAME), "host=a type=del " + link(NAME), "host=a " + link(NAME), "host=a " + link(NAME, mtu(9))],
+     ["gone 5", "changed 5 mtu"]),
+    ("a host of which a dump was whole is known", ["--changes-only"],
+     ["host=a " + BEGIN, "host=a " + DONE, "host=a " + link(NAME), "host=a type=del " + link(NAME),
+      "host=a " + link(NAME), "host=b " + link(NAME)], ["new 5", "gone 5", "new 5"]),
     ("IFLA_EVENT is not compared", [], [link(NAME), link(NAME, EVENT), link(NAME, EVENT, mtu(9))],
      ["new 5", "changed 5 mtu"]),
 ]
@@ -133,12 +139,25 @@ def orders_hold(program):
     holds("what stands before a fault by kernel=", [str(found[0] == found[1])], ["False"])
 
 
+def hosts_go(program):
+    """A hundred thousand hosts that came and went leave so little that ten megabytes are enough."""
+    line = link(NAME)
+    with tempfile.TemporaryFile() as it:
+        for host in range(100000):
+            it.write(f"host=h{host} {line}\nhost=h{host} type=del {line}\n".encode())
+        it.seek(0)
+        ended = subprocess.run(["sh", "-c", 'ulimit -d 10000 && exec "$0"', program], stdin=it,
+                               stdout=subprocess.DEVNULL, stderr=subprocess.PIPE, text=True, check=False)
+    holds("hosts that went in ten megabytes", [f"{ended.returncode} {ended.stderr}"], ["0 "])
+
+
 def main(program):
     for title, words, lines, wanted in STREAMS:
         holds(title, [told(line) for line in run(program, words, lines)], wanted)
     files_hold(program)
     orders_hold(program)
-    print(f"linkdiff cases: {len(STREAMS) + 2} of {len(STREAMS) + 2}")
+    hosts_go(program)
+    print(f"linkdiff cases: {len(STREAMS) + 3} of {len(STREAMS) + 3}")
 
 
 if __name__ == "__main__":

@@ -12,7 +12,7 @@ use Rattle.message_diff.specs.declared.watch.Telling.{Telling}
 use Rattle.message_diff.specs.declared.watch.Watch.{Watch}
 use Rattle.message_diff.specs.Known.{Picture, is_text}
 use Rattle.message_diff.specs.Held.{Applies}
-use Rattle.message_diff.specs.Watched.{AddsFor, Goes, GoesFor, TakesSaid, host_in, host_of, known_in, known_of}
+use Rattle.message_diff.specs.Watched.{AddsFor, Goes, GoesFor, IsHeld, TakesSaid, host_in, host_of, known_in, known_of}
 
 apart : (a b key : List ℕ) → is_text a b ≡ false → is_eq (slice_cmp nat_cmp a key) ≡ true
     → is_eq (slice_cmp nat_cmp b key) ≡ false
@@ -38,9 +38,10 @@ goes front told at said p q before now h = (h.1.0, (h.0, h.1.1), h.1.2)
 
 pub taken_for : (front : List ℕ) (told : Telling) (at : ℕ) (said : Said) (old new : Watch) (before now name : List ℕ)
     (p q : Picture) → name ≡ host_of front → known_in old name ≡ p → known_in new name ≡ q
+    → IsHeld (host_in new name)
     → ((other : List ℕ) → is_text name other ≡ false → host_in new other ≡ host_in old other)
     → Applies front told at said p q before now → AddsFor front told at said old new before now
-taken_for front told at said old new before now name p q is was known others own =
+taken_for front told at said old new before now name p q is was known held others own =
     let own_at = goes front told at said (known_in old name) (known_in new name) before now
     (subst (λ (x : Picture). Applies front told at said x (known_in new name) before now) (sym was)
     (subst (λ (x : Picture). Applies front told at said p x before now) (sym known) own)) in (
@@ -48,6 +49,7 @@ taken_for front told at said old new before now name p q is was known others own
       record {
         own =
             subst (λ (n : List ℕ). Goes front told at said (known_in old n) (known_in new n) own_at.0) is own_at.1;
+        held = subst (λ (n : List ℕ). IsHeld (host_in new n)) is held;
         others = λ other apart. ap known_of (others other (ap (λ (n : List ℕ). is_text n other) is ∙ apart));
       },
       own_at.2,
@@ -63,6 +65,7 @@ goes_from : (front : List ℕ) (told : Telling) (at : ℕ) (said : Said) (a b ne
 goes_from front told at said a b new more same h = record {
   own = subst (λ (p : Picture). Goes front told at said p (known_in new (host_of front)) more)
       (known_same a b (host_of front) same) h.own;
+  held = h.held;
   others = λ name apart. h.others name apart ∙ known_same a b name same;
 }
 

@@ -7,6 +7,7 @@ pub mod Missed
 pub mod Ranged
 pub mod Gone
 pub mod Hosts
+pub mod Unknown
 pub mod LastNames
 pub mod Meant
 pub mod Changed

@@ -1,6 +1,6 @@
 -- What a host's map has, and what is known by it.
-use Rattle.std.specs.Prelude.{◌≡◌, ◌==◌, ◌&&◌, ℕ, suc, not, nat_le, nat_lt, Bool, List, Option, None, Some, cond}
-use Rattle.std.specs.Prelude.{option_map}
+use Rattle.std.specs.Prelude.{◌≡◌, ◌==◌, ◌&&◌, ◌||◌, ℕ, suc, not, nat_le, nat_lt, Bool, List, length, Option, None}
+use Rattle.std.specs.Prelude.{Some, cond, is_some, option_map}
 use Rattle.std.specs.List.{filter, list_any}
 use Rattle.std.specs.BTreeMap.{is_at}
 use Rattle.std.specs.BTreeMap.Range.{entries_between}
@@ -118,6 +118,11 @@ whole_in host family = list_any (λ f. f == family) host.whole.items
 
 abbrev pub picture : Host → Picture
 picture host = record { of = λ q. seen_in (held host q); run = run_in host.dump; whole = whole_in host }
+
+-- whether anything is known of a host, or a dump of it runs
+abbrev pub knows_any : Host → Bool
+knows_any host =
+    not (length host.known.entries == 0) || (is_some host.dump || not (length host.whole.items == 0))
 
 -- the message that has a line where an interface went
 abbrev pub shot_told : Telling → Host → Key → Option Shot

@@ -19,7 +19,7 @@ use Rattle.message_diff.specs.Alone.{member_line}
 use Rattle.message_diff.specs.Known.{Picture, nothing_known, is_text}
 use Rattle.message_diff.specs.Said.{Says, word_in}
 use Rattle.message_diff.specs.Told.{says, Tells}
-use Rattle.message_diff.specs.Held.{IsAfter, item_of, picture}
+use Rattle.message_diff.specs.Held.{IsAfter, item_of, knows_any, picture}
 
 abbrev pub known_of : Option Host → Picture
 known_of None = nothing_known
@@ -45,10 +45,17 @@ abbrev pub Goes : List ℕ → Telling → ℕ → Said → Picture → Picture 
 Goes front told at said old new more =
     IsAfter old at (item_of front told said) new × Tells front told old (item_of front told said) more
 
--- what a line says is taken for its host, and what is known of the others stays
+-- a host is held where something is known of it
+abbrev pub IsHeld : Option Host → Type 0
+IsHeld None = Unit {0}
+IsHeld (Some host) = knows_any host ≡ true
+
+-- what a line says is taken for its host, which is held no longer than something is known of it, and what is known of
+-- the others stays
 pub record GoesFor (front : List ℕ) (told : Telling) (at : ℕ) (said : Said) (old new : Watch)
     (more : List ℕ) : Type 0 where
   pub own : Goes front told at said (known_in old (host_of front)) (known_in new (host_of front)) more
+  pub held : IsHeld (host_in new (host_of front))
   pub others : (name : List ℕ) → is_text (host_of front) name ≡ false → known_in new name ≡ known_in old name
 
 -- that messages were lost

@@ -4,7 +4,7 @@ ghost use Rattle.std.specs.Prelude.{◌≡◌, ◌==◌, ◌||◌, ◌++◌, ℕ
 ghost use Rattle.message_diff.specs.declared.key.Key.{Key};
 ghost use Rattle.message_diff.specs.Announced.{is_another, kind_in, kind_or};
 ghost use Rattle.message_diff.specs.Held.{held, taken, put, last_of, seen_in, is_left, left, left_in};
-ghost use Rattle.message_diff.specs.Held.{begin_of, come_again, kind_known, picture, whole_in, text_at};
+ghost use Rattle.message_diff.specs.Held.{begin_of, come_again, kind_known, knows_any, picture, whole_in, text_at};
 ghost use Rattle.message_diff.specs.Held.{end_of, start_of};
 ghost use Rattle.message_diff.specs.Files.{words_told};
 ghost use Rattle.message_diff.specs.Known.{key_cmp, is_since, nothing_known};
@@ -143,6 +143,13 @@ impl Host {
             dump: None,
             whole: Vec::new(alloc),
         }
+    }
+
+    /// Whether anything is known, or a dump runs.
+    pub fn knows_any(&self) -> bool
+        ensures { result ≡ knows_any self.now }
+    {
+        !self.known.is_empty() || self.dump.is_some() || !self.whole.is_empty()
     }
 
     /// A dump with this name began at this place.

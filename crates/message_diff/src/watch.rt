@@ -467,7 +467,7 @@ impl Watch {
         &self.hosts
     }
 
-    /// Takes what a line with these words says of its host.
+    /// Takes what a line with these words says of its host. One of which nothing is known then is forgotten.
     fn take_said(
         &mut self,
         alloc: Global,
@@ -490,11 +490,17 @@ impl Watch {
         };
         let name = word_of(front, b"host");
         if let Some(host) = self.hosts.get_mut(name) {
-            return line.apply(host, said, &mut self.desk, out);
+            line.apply(host, said, &mut self.desk, out)?;
+            if !host.knows_any() {
+                self.hosts.remove(name);
+            }
+            return Ok(());
         }
         let mut host = Host::new(alloc);
         line.apply(&mut host, said, &mut self.desk, out)?;
-        self.hosts.insert(name.to_vec(alloc)?, host)?;
+        if host.knows_any() {
+            self.hosts.insert(name.to_vec(alloc)?, host)?;
+        }
         Ok(())
     }
 
@@ -507,8 +513,12 @@ impl Watch {
         ensures lines { self.new.lines ≡ self.old.lines }
         ensures dumps { self.new.has_dumps ≡ self.old.has_dumps }
     {
-        if let Some(host) = self.hosts.get_mut(word_of(front, b"host")) {
+        let name = word_of(front, b"host");
+        if let Some(host) = self.hosts.get_mut(name) {
             host.break_dump();
+            if !host.knows_any() {
+                self.hosts.remove(name);
+            }
         }
     }
 
