@@ -5,4 +5,5 @@ pub mod Silent
 pub mod Apart
 pub mod Messages
 pub mod Items
+pub mod Beside
 pub mod Shown

@@ -2,8 +2,7 @@
 use Rattle.std.proofs.Common.{◌≡◌, Bool, true, false, List, [], ◌∷◌, ◌++◌, refl, sym, ap, ◌∙◌}
 use Rattle.std.specs.Prelude.{Some, None, cond}
 use Rattle.json.specs.Token.{Token}
-use Rattle.shown.specs.Print.{print}
-use Rattle.frame_diff.specs.Differences.{Change, leaf_change, member_told, told}
+use Rattle.frame_diff.specs.Differences.{Change, leaf_change, member_told, text_of, told}
 use Rattle.frame_diff.specs.Forests.{AreApart, Forest, Held, Path, Step, find, is_step}
 use Rattle.frame_diff.specs.Laws.{SameIsSilent}
 use Rattle.frame_diff.specs.declared.side.Side.{Side}
@@ -15,7 +14,7 @@ abbrev pub Has : Forest → Forest → Type 0
 Has f g = (t : Step) (held : Held) → find t f ≡ Some held → find t g ≡ Some held
 
 leaf_silent : (side : Side) (path : Path) (v : List Token) → leaf_change side path v (Some v) ≡ []
-leaf_silent Old path v = ap (λ b. cond b [] (Change.turned path v v ∷ [])) (text_is (print v))
+leaf_silent Old path v = ap (λ b. cond b [] (Change.turned path v v ∷ [])) (text_is (text_of v))
 leaf_silent New path v = refl
 
 member_silent : (side : Side) (path : Path) (v : List Token) (i : Forest) → told side path i i ≡ []

@@ -1,7 +1,8 @@
 -- What differs between leaves: paths that came, that went, or whose value turned.
-use Rattle.std.specs.Prelude.{List, [], ◌∷◌, ◌++◌, Bool, Option, Some, None, cond}
+use Rattle.std.specs.Prelude.{ℕ, List, [], ◌∷◌, ◌++◌, Bool, Option, Some, None, cond}
 use Rattle.std.specs.List.{flat_map, list_any}
 use Rattle.json.specs.Token.{Token}
+use Rattle.shown.specs.Drafts.{object_of}
 use Rattle.shown.specs.Print.{print}
 use Rattle.frame_diff.specs.Forests.{Forest, Held, Leaf, Path, find, is_path, is_text, value_at}
 use Rattle.frame_diff.specs.declared.side.Side.{Side}
@@ -14,9 +15,13 @@ pub data Change : Type 0 where
 
 -- ** of all leaves
 
+-- the text of a value, as that of the one member of an object
+unfoldable pub text_of : List Token → List ℕ
+text_of v = print (object_of (([], v) ∷ []))
+
 -- two values whose texts are the same
 abbrev pub is_shown_same : List Token → List Token → Bool
-is_shown_same v w = is_text (print v) (print w)
+is_shown_same v w = is_text (text_of v) (text_of w)
 
 -- what a leaf says of one side, by the value at its path on the other one
 abbrev pub leaf_change : Side → Path → List Token → Option (List Token) → List Change

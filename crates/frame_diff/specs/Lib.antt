@@ -3,6 +3,7 @@ pub mod Forests
 pub mod Differences
 pub mod Counters
 pub mod Members
+pub mod Beside
 pub mod Items
 pub mod Shown
 pub mod Laws

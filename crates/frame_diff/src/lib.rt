@@ -1,5 +1,8 @@
 //! What differs between two link messages, attribute by attribute: their frames, by the rows of `frame_shown`.
 #![tactic(auto)]
 
+pub mod counters;
 pub mod laws;
+pub mod named;
+pub mod path;
 pub mod side;
