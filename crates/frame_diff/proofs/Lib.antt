@@ -7,3 +7,4 @@ pub mod Messages
 pub mod Items
 pub mod Beside
 pub mod Shown
+pub mod Texts

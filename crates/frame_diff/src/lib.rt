@@ -3,6 +3,7 @@
 
 pub mod counters;
 pub mod laws;
+pub mod leaf;
 pub mod named;
 pub mod path;
 pub mod side;
