@@ -29,6 +29,7 @@ libraries() {
     stage call_answers.py python3 scripts/call_answers.py out/liblinkwire.a crates/linkshow/out/linkshow \
         crates/linkdiff/out/linkdiff
     stage second.sh scripts/second.sh out out/liblinkwire.a
+    stage 'compilers.sh, of the library' scripts/compilers.sh --library out
     stage linkdump_tests.sh scripts/linkdump_tests.sh
     stage fuzz.sh scripts/fuzz.sh 30
     stage python_tests.sh scripts/python_tests.sh out

@@ -1,19 +1,17 @@
 #!/usr/bin/env bash
-# Compares what the programs answer as LLVM makes them and as the toolchain's own compiler does, byte for byte, with
-# each of their options: to every line of tests/second, and of linkdiff to 100,000 of them, each with the index of an
-# interface. The second builds are those that the gate leaves, crates/NAME/out/NAME.by-rattle, or NAME.by-rattle in the
-# folder that is named: compilers.sh PROGRAMS [FOLDER]. What was not built is 'skipped'.
+# Compares what other compilers make of the programs and of the library with what LLVM makes, byte for byte, on the
+# lines of tests/second with each option: compilers.sh [--library] MADE [FOLDER]. MADE has the programs, or the library.
+# The toolchain's own compiler made crates/NAME/out/NAME.by-rattle in the gate, or NAME.by-rattle in FOLDER, and
+# scripts/text.py crates/link_c/out/liblink_c.by-rattle.a. rustc makes the library that rust/capi has, and
+# scripts/erased_tests.sh the programs. What was not built is 'skipped'.
 . "$(dirname "$0")/common.sh"
 cd "$top"
+is_library=
+if [ "$1" = --library ]; then
+    is_library=yes
+    shift
+fi
 programs=$(realpath "$1")
-"${CC:-cc}" -std=gnu11 -O2 -DLINES_ALONE -Iinclude -o "$folder/lines" tests/second/lines.c
-for set in all digits; do
-    "$folder/lines" "$set" >"$folder/$set"
-done
-# lines of at most 2,000 digits, with one of forty indexes, in 16 hosts
-awk 'length($0) >= 32 && length($0) <= 2000 && NR % 5 == 0 && ++count <= 100000 {
-    printf "host=%d %s%02x000000%s\n", NR % 16, substr($0, 1, 8), int(NR / 16) % 40 + 1, substr($0, 17)
-}' "$folder/all" >"$folder/news"
 
 # same NAME BUILD LINES WORD..: both answer alike, in two minutes of the processor's time
 same() {
@@ -24,23 +22,70 @@ same() {
     cmp "$folder/one" "$folder/other" || fails "$name${*:+ $*}: two compilers, two answers"
     echo "compilers: $name${*:+ $*}: $(wc -l <"$folder/$lines") lines: the same $(wc -c <"$folder/one") bytes"
 }
-for name in linkwire linkstate linkshow linkdiff; do
-    other=${2:-crates/$name/out}/$name.by-rattle
-    if [ ! -x "$other" ]; then
-        echo "compilers: $name: skipped: the gate has not built it a second time"
-        continue
+of_programs() {
+    local name other set
+    "${CC:-cc}" -std=gnu11 -O2 -DLINES_ALONE -Iinclude -o "$folder/lines" tests/second/lines.c
+    for set in all digits news; do
+        "$folder/lines" "$set" >"$folder/$set"
+    done
+    for name in linkwire linkstate linkshow linkdiff; do
+        other=${1:-crates/$name/out}/$name.by-rattle
+        if [ ! -x "$other" ]; then
+            echo "compilers: $name: skipped: the gate has not built it a second time"
+            continue
+        fi
+        if [ "$name" = linkdiff ]; then
+            same "$name" "$other" news
+            same "$name" "$other" news --counters --lenient
+            same "$name" "$other" news --changes-only
+            continue
+        fi
+        same "$name" "$other" all
+        same "$name" "$other" digits
+        [ "$name" = linkwire ] || same "$name" "$other" all --lenient
+        if [ "$name" = linkshow ]; then
+            same "$name" "$other" all --kernel 6.12.0
+            same "$name" "$other" all --kernel 6.16.0 --lenient
+        fi
+    done
+}
+
+# links FILE WORD..: the lines with a library
+links() {
+    "${CC:-cc}" -std=gnu11 -O2 -Iinclude -o "$folder/$1" tests/second/lines.c "${@:2}"
+}
+
+# calls WHAT WORD..: the calls of a library that another compiler made answer as LLVM's do
+calls() {
+    local set lines
+    links with-other "${@:2}"
+    for set in calls held; do
+        [ -e "$folder/wanted-$set" ] || "$folder/with-llvm" all "$set" >"$folder/wanted-$set"
+        (ulimit -t 120 && "$folder/with-other" all "$set") | cmp - "$folder/wanted-$set" ||
+            fails "the library: $1 makes another one of it: '$set' answer otherwise"
+        lines=$(wc -l <"$folder/wanted-$set")
+        echo "compilers: the library by $1: $set: $lines lines: the same $(wc -c <"$folder/wanted-$set") bytes"
+    done
+}
+
+of_library() {
+    local own=${1:-crates/link_c/out}/liblink_c.by-rattle.a
+    links with-llvm "$programs/liblinkwire.a"
+    if [ ! -e "$own" ]; then
+        echo "compilers: the library by the toolchain's compiler: skipped: scripts/text.py has not made it"
+    else
+        calls "the toolchain's compiler" "$own" dist/heap.c
     fi
-    if [ "$name" = linkdiff ]; then
-        same "$name" "$other" news
-        same "$name" "$other" news --counters --lenient
-        same "$name" "$other" news --changes-only
-        continue
+    if [ ! -e rust/capi/Cargo.toml ] || ! command -v cargo >/dev/null; then
+        echo 'compilers: the library by rustc: skipped: there is no rust/capi, or no cargo'
+    else
+        CARGO_NET_OFFLINE=true runs cargo build --release --manifest-path rust/capi/Cargo.toml --target-dir out/capi
+        calls rustc out/capi/release/liblinkwire.a -lgcc_s -lpthread -ldl -lm
     fi
-    same "$name" "$other" all
-    same "$name" "$other" digits
-    [ "$name" = linkwire ] || same "$name" "$other" all --lenient
-    if [ "$name" = linkshow ]; then
-        same "$name" "$other" all --kernel 6.12.0
-        same "$name" "$other" all --kernel 6.16.0 --lenient
-    fi
-done
+}
+
+if [ "$is_library" ]; then
+    of_library "${@:2}"
+else
+    of_programs "${@:2}"
+fi

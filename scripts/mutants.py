@@ -126,9 +126,8 @@ def build(name, folder, text, to, *more):
     """What is run of a text, at the path `to`; false where it does not assemble."""
     Path(f"{to}.s").write_text("\n".join(text))
     made = TOP / "out/dist"
-    with_it = [*Path(folder).glob("test.*.o")] if name == "link_c" else [*WRAPS, made / "errno.o"]
-    return compiles("-c", "-o", f"{to}.o", f"{to}.s") and \
-        compiles("-o", to, f"{to}.o", made / "heap.o", *with_it, *more)
+    more += tuple(Path(folder).glob("test.*.o")) if name == "link_c" else (*WRAPS, made / "errno.o")
+    return compiles("-c", "-o", f"{to}.o", f"{to}.s") and compiles("-o", to, f"{to}.o", made / "heap.o", *more)
 
 
 def prepare(name, folder):
@@ -149,6 +148,7 @@ def prepare(name, folder):
 TESTS = "calls", "lenient", "lists", "memory", "shown", "sizes", "state", "writer"
 
 
+@functools.lru_cache
 def runs(name, folder):
     """What `make self-test` runs of a program, or of the library, the short ones first."""
     if name == "link_c":

@@ -48,9 +48,10 @@ differs() {
 }
 cp tests/second/stored.txt "$folder/stored"
 "$programs/linkwire" <"$folder/all" >"$folder/right"
-awk 'NR == 5000 { held = $0; next } { print } NR == 5001 { print held }' "$folder/right" >"$folder/answers"
+awk 'NR < 5000 || is_done { print; next } held != "" && $0 != held { print; print held; is_done = 1; next }
+    { if (held != "") print held; held = $0 }' "$folder/right" >"$folder/answers"
 differs 'an answer in the place of another' 'linkwire: place 0 '
-sed '200000s/^.*$/refused/' "$folder/right" >"$folder/answers"
+awk 'NR >= 200000 && /^ok/ && !count++ { print "refused"; next } { print }' "$folder/right" >"$folder/answers"
 differs 'an answer that is refused' "'refused': stored are"
 sed '$d' "$folder/right" >"$folder/answers"
 differs 'a last answer that is missing' 'fewer answers than lines'
@@ -58,3 +59,20 @@ cp "$folder/right" "$folder/answers"
 sed -i 's/^linkwire 40 ok .*$/linkwire 40 ok 1 00000000/' "$folder/stored"
 differs 'a stored sum that is changed' 'linkwire: place 40 '
 echo 'second: answers that are changed: each is told'
+
+# a number of the crate in rust/
+if ! command -v cargo >/dev/null; then
+    echo 'second: a slip in rust/: skipped: no cargo'
+    exit
+fi
+cp -r rust "$folder/rust"
+sed -i 's/\(IFLA_GSO_MAX_SEGS: u16 =\) 40;/\1 90;/' "$folder/rust/src/generated/link_msg/numbers.rs"
+! cmp -s rust/src/generated/link_msg/numbers.rs "$folder/rust/src/generated/link_msg/numbers.rs" ||
+    fails 'rust/: the number that is to be changed is not there'
+export CARGO_NET_OFFLINE=true CARGO_TARGET_DIR=$folder/target
+cargo build --quiet --locked --example lines --manifest-path "$folder/rust/Cargo.toml" 2>"$folder/out" ||
+    { cat "$folder/out" >&2; exit 1; }
+! python3 tests/second/check.py --rust "$CARGO_TARGET_DIR/debug/examples/lines" --only linkwire \
+    --lines "$folder/few" "$programs" "$folder/lines" >"$folder/out" 2>&1 && grep -q "answers differ: {'rust'" "$folder/out" ||
+    { cat "$folder/out" >&2; fails 'a slip in rust/ is not told'; }
+echo 'second: a number that is changed in rust/: it is told'

@@ -1,12 +1,13 @@
 #!/bin/sh
-# Prints tests/second/held.txt anew, by what programs and the library answer: held.sh PROGRAMS LIBRARY, where PROGRAMS
-# is a folder. scripts/compilers.sh says whether builds by other compilers answer so too.
+# Prints tests/second/held.txt anew, by what programs and the library answer: held.sh PROGRAMS [LIBRARY], where PROGRAMS
+# is a folder; without LIBRARY the lines of the programs alone. scripts/compilers.sh and scripts/erased_tests.sh say
+# whether builds by other compilers answer so too.
 set -eu
 cd "$(dirname "$0")/../.."
-programs=$1 library=$2
+programs=$1 library=${2:-}
 folder=$(mktemp -d)
 trap 'rm -rf "$folder"' EXIT
-"${CC:-cc}" -std=gnu11 -O2 -Iinclude -o "$folder/lines" tests/second/lines.c "$library"
+"${CC:-cc}" -std=gnu11 -O2 -Iinclude -o "$folder/lines" tests/second/lines.c "${library:--DLINES_ALONE}"
 "$folder/lines" all >"$folder/all"
 "$folder/lines" news >"$folder/news"
 
@@ -21,4 +22,4 @@ sums linkshow-whole-lenient all "$programs/linkshow" --lenient --kernel 6.12.0
 sums linkdiff news "$programs/linkdiff"
 sums linkdiff-counters news "$programs/linkdiff" --counters --lenient
 sums linkdiff-changes news "$programs/linkdiff" --changes-only
-sums held all "$folder/lines" all held
+[ -z "$library" ] || sums held all "$folder/lines" all held

@@ -186,12 +186,12 @@ static void add_text(struct edges *to) {
             memcpy(counted + n, ends[i].at, ends[i].len);
             add(to, copy(counted, n + ends[i].len));
         }
-    /* one byte that is wrong, or a character of two, at each place of blocks of eight, sixteen and more */
-    for (size_t at = 0; at < 40; at++)
+    /* one byte that is wrong, or a character of two, at each place of blocks of eight, sixteen, 32 and 64 */
+    for (size_t at = 0; at < 130; at++)
         for (size_t i = 0; i < 2; i++) {
-            memset(counted, 'a', 41);
+            memset(counted, 'a', 131);
             memcpy(counted + at, ends[i].at, ends[i].len);
-            add(to, copy(counted, 41));
+            add(to, copy(counted, 131));
         }
     for (size_t n = 17; n < 40; n++) {
         memset(counted, 'a', n);
@@ -399,6 +399,8 @@ static void tell_place(void) {
         tell_times(79, one);
         free(one.at);
     }
+    for (unsigned number = 126; number < 130; number++)
+        tell_times(number, some);
     tell_numbers();
     tell_beginnings(some, first.number);
 }
