@@ -1,9 +1,9 @@
 #!/usr/bin/env bash
 # Compares what other compilers make of the programs and of the library with what LLVM makes, byte for byte, on the
 # lines of tests/second with each option: compilers.sh [--library] MADE [FOLDER]. MADE has the programs, or the library.
-# The toolchain's own compiler made crates/NAME/out/NAME.by-rattle in the gate, or NAME.by-rattle in FOLDER, and
-# scripts/text.py crates/link_c/out/liblink_c.by-rattle.a. rustc makes the library that rust/capi has, and
-# scripts/erased_tests.sh the programs. What was not built is 'skipped'.
+# The toolchain's own compiler made crates/NAME/out/NAME.by-rattle in the gate, or NAME.by-rattle in FOLDER; of the
+# library the gate has no such build, and one is liblink_c.by-rattle.a there. rustc makes the library that rust/capi
+# has, and scripts/erased_tests.sh the programs. What was not built is 'skipped'.
 . "$(dirname "$0")/common.sh"
 cd "$top"
 is_library=
@@ -72,7 +72,7 @@ of_library() {
     local own=${1:-crates/link_c/out}/liblink_c.by-rattle.a
     links with-llvm "$programs/liblinkwire.a"
     if [ ! -e "$own" ]; then
-        echo "compilers: the library by the toolchain's compiler: skipped: scripts/text.py has not made it"
+        echo "compilers: the library by the toolchain's compiler: skipped: it has not been built"
     else
         calls "the toolchain's compiler" "$own" dist/heap.c
     fi

@@ -128,14 +128,6 @@ def write_text(command, crate, arch, to, jobs):
     return 0
 
 
-def by_rattle(command, crate, jobs):
-    """Builds a library a second time, by the toolchain's own compiler, for scripts/compilers.sh."""
-    to = f"out/lib{crate.name}.by-rattle.a"
-    words = [*crate.words(targets()["x86_64"] + jobs), "--toolchain", f"{command.KIT}/toolchain", "--backend", "rattle"]
-    if crate.call(command.rtlib.RATTLE, "build", *words, *command.rtlib.KEPT, "-o", to):
-        print(f"text.py: {crate.name}: the toolchain's own compiler does not make it: {to} is not there")
-
-
 def shares(command):
     """Whether this toolchain shares what was kept between the checkouts of a machine."""
     return all(hasattr(command, it) for it in ("places_of", "take_rlib", "adopt", "offer"))
@@ -175,8 +167,6 @@ def main(to, *jobs):
     stamp = crate.stamp()
     jobs = [word for it in jobs for word in ("--jobs", it)]
     status = next(filter(None, (write_text(command, crate, arch, to, jobs) for arch in targets())), 0)
-    if crate.is_static and not status:
-        by_rattle(command, crate, jobs)
     if shares(command):
         command.offer(crate, None if status else stamp)
     return status
