@@ -5,9 +5,10 @@
 
 NAME is a program, or link_c for the library's calls. A conditional jump or move is turned round or moved by one, or a
 number is changed by one. A copy of the text in which each such place leaves a mark says first which are executed by the
-runs at all. A mutant is told where an answer differs, or the program fails, or takes more than ten seconds of the
-processor's time. With --least it fails where fewer than so many of a hundred executed ones are told; --list prints
-what becomes of each. edits/mutants.md says of those that were kept why. It uses what `make build` leaves in out/."""
+runs at all. A mutant is told where an answer differs, or the program fails, or takes eight times as much of the
+processor's time as the text as it is. With --least it fails where fewer than so many of a hundred executed ones are
+told; --list prints what becomes of each. edits/mutants.md says of those that were kept why. It uses what `make build`
+leaves in out/."""
 import argparse
 import functools
 import multiprocessing
@@ -27,7 +28,7 @@ for one, other in (("e", "ne"), ("b", "ae"), ("a", "be"), ("l", "ge"), ("g", "le
     for word in ("j", "set", "cmov"):
         ROUND[word + one], ROUND[word + other] = word + other, word + one
 BY_ONE = {"jb": "jbe", "jbe": "jb", "ja": "jae", "jae": "ja", "jl": "jle", "jle": "jl", "jg": "jge", "jge": "jg"}
-SECONDS = 10
+most = [60]  # seconds of the processor's time that a run may take
 # as dist/Makefile links a program
 WRAPS = [f"-Wl,--wrap={name}" for name in ("main", "read", "write")]
 # keeps the marks in the file that SEEN names, however the program ends
@@ -165,7 +166,7 @@ def runs(name, folder):
 
 
 def limits():
-    resource.setrlimit(resource.RLIMIT_CPU, (SECONDS, SECONDS))
+    resource.setrlimit(resource.RLIMIT_CPU, (most[0], most[0]))
     resource.setrlimit(resource.RLIMIT_AS, (3 << 30, 3 << 30))
     resource.setrlimit(resource.RLIMIT_CORE, (0, 0))
 
@@ -200,11 +201,14 @@ def is_told(name, folder, to, wanted):
 
 
 def answers(name, folder, to):
-    """Keeps what each run writes, and returns the statuses."""
-    statuses = []
+    """Keeps what each run writes, and returns the statuses; sets what a run may take."""
+    statuses, longest = [], 0.0
     for at, it in enumerate(runs(name, folder)):
+        before = resource.getrusage(resource.RUSAGE_CHILDREN).ru_utime
         with open(it.writes or f"{folder}/wanted{at}", "wb") as out:
             statuses.append(run(it, to, out).wait())
+        longest = max(longest, resource.getrusage(resource.RUSAGE_CHILDREN).ru_utime - before)
+    most[0] = 1 + int(8 * longest)
     return statuses
 
 

@@ -48,7 +48,8 @@ differs() {
 }
 cp tests/second/stored.txt "$folder/stored"
 "$programs/linkwire" <"$folder/all" >"$folder/right"
-awk 'NR < 5000 || is_done { print; next } held != "" && $0 != held { print; print held; is_done = 1; next }
+awk 'NR < 5000 || is_done { print; next }
+    held ~ /^ok/ && /^ok/ && $0 != held { print; print held; is_done = 1; next }
     { if (held != "") print held; held = $0 }' "$folder/right" >"$folder/answers"
 differs 'an answer in the place of another' 'linkwire: place 0 '
 awk 'NR >= 200000 && /^ok/ && !count++ { print "refused"; next } { print }' "$folder/right" >"$folder/answers"
@@ -72,7 +73,7 @@ sed -i 's/\(IFLA_GSO_MAX_SEGS: u16 =\) 40;/\1 90;/' "$folder/rust/src/generated/
 export CARGO_NET_OFFLINE=true CARGO_TARGET_DIR=$folder/target
 cargo build --quiet --locked --example lines --manifest-path "$folder/rust/Cargo.toml" 2>"$folder/out" ||
     { cat "$folder/out" >&2; exit 1; }
-! python3 tests/second/check.py --rust "$CARGO_TARGET_DIR/debug/examples/lines" --only linkwire \
-    --lines "$folder/few" "$programs" "$folder/lines" >"$folder/out" 2>&1 && grep -q "answers differ: {'rust'" "$folder/out" ||
-    { cat "$folder/out" >&2; fails 'a slip in rust/ is not told'; }
+python3 tests/second/check.py --rust "$CARGO_TARGET_DIR/debug/examples/lines" --only linkwire --lines "$folder/few" \
+    "$programs" "$folder/lines" >"$folder/out" 2>&1 && fails 'a slip in rust/ is not told'
+grep -q "answers differ: {'rust'" "$folder/out" || { cat "$folder/out" >&2; fails 'a slip in rust/ is not told'; }
 echo 'second: a number that is changed in rust/: it is told'
