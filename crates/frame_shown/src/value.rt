@@ -8,6 +8,7 @@ ghost use Rattle.link_info.specs.Meanings.{meaning};
 ghost use Rattle.link_info.specs.Styles.{plain_size, width};
 ghost use Rattle.link_info.specs.Tables.{frames_in};
 ghost use Rattle.shown.specs.Drafts.{with_members, with_value, object_of};
+ghost use Rattle.shown.specs.Keys.{AreKeys};
 ghost use Rattle.shown.specs.Values.{flags_of};
 ghost use Rattle.frame_shown.specs.declared.form.Choice.TheVariants as Choices;
 ghost use Rattle.frame_shown.specs.Values.{number_shown, plain_shown, plain_in, spelled, hexadecimal, listed};
@@ -329,13 +330,14 @@ fn show_parts_of(
 /// Adds numbers of one size.
 #[inline(always)]
 fn show_numbers(page: &mut Page, names: &[&str], size: Size, bytes: &[u8]) -> Result<(), AllocError>
-    requires { length names.now ≤ 256 }
+    requires keys { AreKeys (map (λ name. name.now) names.now) }
+    requires few { length names.now ≤ 256 }
     ensures { OnOk result (page.new ≡ with_members
         (counters_shown (map (λ name. name.now) names.now) (width size) bytes.now 0) page.old) }
 {
     let mut place = 0;
     for name in names {
-        page.number(name, number_at(size, bytes, place))?;
+        page.keyed_number(name, number_at(size, bytes, place))?;
         place += size.bytes();
     }
     Ok(())
@@ -448,13 +450,14 @@ fn show_ipv6_counters(
 
 /// Adds settings.
 fn show_signed(page: &mut Page, names: &[&str], bytes: &[u8]) -> Result<(), AllocError>
-    requires { length names.now ≤ 256 }
+    requires keys { AreKeys (map (λ name. name.now) names.now) }
+    requires few { length names.now ≤ 256 }
     ensures { OnOk result (page.new ≡ with_members
         (settings_shown (map (λ name. name.now) names.now) bytes.now 0) page.old) }
 {
     let mut place = 0;
     for name in names {
-        page.signed(name, i32_at(bytes, place).into())?;
+        page.keyed_signed(name, i32_at(bytes, place).into())?;
         place += 4;
     }
     Ok(())
@@ -512,7 +515,8 @@ fn show_numbers_under(
     size: Size,
     bytes: &[u8],
 ) -> Result<(), AllocError>
-    requires { length names.now ≤ 256 }
+    requires keys { AreKeys (map (λ name. name.now) names.now) }
+    requires few { length names.now ≤ 256 }
     ensures { OnOk result (page.new ≡ with_value name.now (object_of
         (counters_shown (map (λ name. name.now) names.now) (width size) bytes.now 0)) page.old) }
 {
