@@ -36,17 +36,17 @@ pub fn show_index(page: &mut Page, bytes: &[u8]) -> Result<(), AllocError>
     ensures { OnOk result (page.new ≡ with_value (codes "ifi-index")
         (signed_tokens (signed_at w32 bytes.now 4)) page.old) }
 {
-    page.signed("ifi-index", i32_at(bytes, 4).into())
+    page.keyed_signed("ifi-index", i32_at(bytes, 4).into())
 }
 
 /// Adds what the header says after its family.
 pub fn show_header(page: &mut Page, bytes: &[u8]) -> Result<(), AllocError>
     ensures { OnOk result (page.new ≡ with_members (header_members bytes.now) page.old) }
 {
-    page.number("ifi-type", u16_at(bytes, 2).into())?;
+    page.keyed_number("ifi-type", u16_at(bytes, 2).into())?;
     show_index(page, bytes)?;
     show_link_flags(page, u32_at(bytes, 8).into())?;
-    page.number("ifi-change", u32_at(bytes, 12).into())
+    page.keyed_number("ifi-change", u32_at(bytes, 12).into())
 }
 
 impl Attribute for LinkAttribute {

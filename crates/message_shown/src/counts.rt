@@ -4,6 +4,7 @@ ghost use Rattle.std.specs.Prelude.{◌≡◌, List, OnOk, map};
 ghost use Rattle.std.specs.List.{zip};
 ghost use Rattle.json.specs.Token.{Token};
 ghost use Rattle.shown.specs.Drafts.{with_members, with_value, object_of};
+ghost use Rattle.shown.specs.Keys.{AreKeys, IsKey};
 ghost use Rattle.message_shown.specs.Records.{number_tokens, signed_tokens, counter_tokens};
 ghost use Rattle.message_shown.specs.Counters.{stats_shown, stats64_shown, inet_conf_shown, inet6_conf_shown};
 ghost use Rattle.message_shown.specs.Counters.{inet6_stats_shown, icmp6_stats_shown, cache_info_shown, map_shown};
@@ -25,6 +26,7 @@ pub trait Field {
 
     /// Adds it under its name.
     fn put(&self, page: &mut Page, name: &str) -> Result<(), AllocError>
+        requires key { IsKey name.now }
         ensures { OnOk result (page.new ≡ with_value name.now (tokens self.now) page.old) };
 }
 
@@ -32,7 +34,7 @@ impl Field for u32 {
     ghost tokens = { number_tokens };
 
     fn put(&self, page: &mut Page, name: &str) -> Result<(), AllocError> {
-        page.number(name, (*self).into())
+        page.keyed_number(name, (*self).into())
     }
 }
 
@@ -40,7 +42,7 @@ impl Field for u64 {
     ghost tokens = { number_tokens };
 
     fn put(&self, page: &mut Page, name: &str) -> Result<(), AllocError> {
-        page.number(name, *self)
+        page.keyed_number(name, *self)
     }
 }
 
@@ -48,7 +50,7 @@ impl Field for i32 {
     ghost tokens = { signed_tokens };
 
     fn put(&self, page: &mut Page, name: &str) -> Result<(), AllocError> {
-        page.signed(name, (*self).into())
+        page.keyed_signed(name, (*self).into())
     }
 }
 
@@ -57,12 +59,13 @@ impl Field for i64 {
     ghost tokens = { counter_tokens };
 
     fn put(&self, page: &mut Page, name: &str) -> Result<(), AllocError> {
-        page.number(name, self.cast_unsigned())
+        page.keyed_number(name, self.cast_unsigned())
     }
 }
 
 /// Adds fields under their names, as far as there are both.
 fn show_fields<T: Field>(page: &mut Page, names: &[&str], values: &[T]) -> Result<(), AllocError>
+    requires keys { AreKeys (map (λ name. name.now) names.now) }
     ensures { OnOk result (page.new ≡ with_members
         (zip (map (λ name. name.now) names.now) (map T.tokens values.now)) page.old) }
 {
@@ -79,6 +82,7 @@ fn show_record<T: Field>(
     names: &[&str],
     values: &[T],
 ) -> Result<(), AllocError>
+    requires keys { AreKeys (map (λ name. name.now) names.now) }
     ensures { OnOk result (page.new ≡ with_value name.now
         (object_of (zip (map (λ name. name.now) names.now) (map T.tokens values.now))) page.old) }
 {
@@ -218,11 +222,11 @@ pub fn show_map(page: &mut Page, name: &str, map: &Map) -> Result<(), AllocError
         (page.new ≡ with_value name.now (object_of (map_shown map.now)) page.old) }
 {
     page.begin(name, Nest::Object)?;
-    page.number("mem-start", map.memory_start)?;
-    page.number("mem-end", map.memory_end)?;
-    page.number("base-addr", map.base_address)?;
-    page.number("irq", map.irq.into())?;
-    page.number("dma", map.dma.into())?;
-    page.number("port", map.port.into())?;
+    page.keyed_number("mem-start", map.memory_start)?;
+    page.keyed_number("mem-end", map.memory_end)?;
+    page.keyed_number("base-addr", map.base_address)?;
+    page.keyed_number("irq", map.irq.into())?;
+    page.keyed_number("dma", map.dma.into())?;
+    page.keyed_number("port", map.port.into())?;
     page.end()
 }
