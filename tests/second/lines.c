@@ -190,7 +190,7 @@ static void add_text(struct edges *to) {
     for (size_t at = 0; at < 130; at++)
         for (size_t i = 0; i < 2; i++) {
             memset(counted, 'a', 131);
-            memcpy(counted + at, ends[i].at, ends[i].len);
+            memcpy(counted + at, i ? "\xc3\xa9" : "\x80", 1 + i);
             add(to, copy(counted, 131));
         }
     for (size_t n = 17; n < 40; n++) {
