@@ -115,31 +115,31 @@ impl<'a> Attribute<'a> {
     /// [`Attribute`] has an example.
     #[must_use]
     pub fn as_u8(&self) -> Option<u8> {
-        Some(u8::from_le_bytes(self.payload.try_into().ok()?))
+        Some(u8::from_ne_bytes(self.payload.try_into().ok()?))
     }
 
-    /// The payload as a number, lowest byte first, if it has two bytes.
+    /// The payload as a number in host order, if it has two bytes.
     ///
     /// [`Attribute`] has an example.
     #[must_use]
     pub fn as_u16(&self) -> Option<u16> {
-        Some(u16::from_le_bytes(self.payload.try_into().ok()?))
+        Some(u16::from_ne_bytes(self.payload.try_into().ok()?))
     }
 
-    /// The payload as a number, lowest byte first, if it has four bytes.
+    /// The payload as a number in host order, if it has four bytes.
     ///
     /// [`Attribute`] has an example.
     #[must_use]
     pub fn as_u32(&self) -> Option<u32> {
-        Some(u32::from_le_bytes(self.payload.try_into().ok()?))
+        Some(u32::from_ne_bytes(self.payload.try_into().ok()?))
     }
 
-    /// The payload as a number, lowest byte first, if it has eight bytes.
+    /// The payload as a number in host order, if it has eight bytes.
     ///
     /// [`Attribute`] has an example.
     #[must_use]
     pub fn as_u64(&self) -> Option<u64> {
-        Some(u64::from_le_bytes(self.payload.try_into().ok()?))
+        Some(u64::from_ne_bytes(self.payload.try_into().ok()?))
     }
 
     /// The payload without the one NUL at its end, if there is one, where that is UTF-8.

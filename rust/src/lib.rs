@@ -5,9 +5,10 @@
 //! written has one **canonical encoding**, to which every other spelling of it is brought. Names and types are those of
 //! netlink-packet-route 0.34.0, module `link`: the page [`moving`] has what is here, and what otherwise.
 //!
-//! The crate has no dependency and no `unsafe`; it is for 64-bit little-endian targets, and without the feature `std`
-//! it needs `alloc` alone. A script makes most of it of sources that are proved. It is itself tested equal to the
-//! proved programs, and not proved: rustc, the script and what stands for Rattle's std are outside of the proof.
+//! The crate has no dependency and no `unsafe`; without the feature `std` it needs `alloc` alone. A script makes most
+//! of it of sources that are proved for 64-bit little-endian machines. It is itself tested equal to the proved
+//! programs, and not proved: rustc, the script and what stands for Rattle's std are outside of the proof. It also runs
+//! on 32-bit and on big-endian machines; for those there are tests alone: the page [`moving`] lists them.
 //!
 //! # Three programs
 //!
@@ -102,7 +103,8 @@
 //! # A key to store
 //!
 //! Two messages are equal exactly where their canonical encodings are. Keep [`CANONICAL_FORM`] beside what is stored:
-//! encodings of two numbers are not to be compared.
+//! encodings of two numbers are not to be compared. Nor are those of machines with different byte orders, since numbers
+//! stand in host order, as the kernel has them: [`BYTE_ORDER`] names it.
 //!
 //! ```
 //! use linkwire::{canonical, same_message, CANONICAL_FORM};
@@ -160,8 +162,8 @@
 #![allow(clippy::manual_flatten, clippy::redundant_closure, clippy::unnecessary_map_on_constructor)]
 #![allow(clippy::single_match, clippy::slow_vector_initialization, clippy::while_let_on_iterator)]
 
-#[cfg(not(all(target_pointer_width = "64", target_endian = "little")))]
-compile_error!("linkwire is for 64-bit little-endian targets");
+#[cfg(not(any(target_pointer_width = "32", target_pointer_width = "64")))]
+compile_error!("linkwire is for targets of 32 and 64 bits");
 
 extern crate alloc;
 
@@ -221,6 +223,15 @@ pub use packet::{
     Emitable, Nla, NlaBuffer, NlasIterator, Parseable, ParseableParametrized, emit_i32, emit_u16, emit_u32, emit_u64,
 };
 pub use writer::Writer;
+
+/// The order of the bytes of numbers on this machine: `"little"` or `"big"`. The kernel's messages have numbers in it,
+/// and so do canonical encodings and state encodings. Keys of machines with different orders are not to be compared:
+/// keep it beside keys that leave the machine.
+///
+/// ```
+/// assert_eq!(linkwire::BYTE_ORDER == "little", 1u16.to_ne_bytes() == [1, 0]);
+/// ```
+pub const BYTE_ORDER: &str = if cfg!(target_endian = "little") { "little" } else { "big" };
 
 /// The names of netlink-packet-route's module `link`.
 pub mod link {

@@ -6,6 +6,7 @@ use crate::link_vf::entry::Entry;
 use crate::nla_wire::{
     self, Cause, MOST_VALUE_LEN, NLA_F_NESTED, NLA_F_NET_BYTEORDER, NLA_HEADER_SIZE, NLA_TYPE_MASK, NlaRead,
 };
+use crate::rattle::number::MOST_LEN;
 use alloc::vec::Vec;
 
 /// What has a text of bytes.
@@ -142,6 +143,11 @@ fn does_not_fit() -> ! {
 }
 
 #[cold]
+fn too_many() -> ! {
+    panic!("the attributes do not fit: they are longer than memory can be")
+}
+
+#[cold]
 fn no_room(len: usize, room: usize) -> ! {
     panic!("{len} bytes are to be written, and the buffer has {room}")
 }
@@ -180,7 +186,8 @@ impl<T: Nla> Emitable for T {
 
 impl<T: Nla> Emitable for &[T] {
     fn buffer_len(&self) -> usize {
-        self.iter().map(Emitable::buffer_len).sum()
+        let sum = self.iter().try_fold(0_usize, |sum, nla| sum.checked_add(nla.buffer_len()));
+        sum.filter(|len| *len <= MOST_LEN).unwrap_or_else(|| too_many())
     }
 
     fn emit(&self, buffer: &mut [u8]) {
@@ -421,7 +428,7 @@ impl<T: AsRef<[u8]>> NlaBuffer<T> {
 
     fn word(&self, at: usize) -> u16 {
         match self.buffer.as_ref() {
-            [a, b, c, d, ..] => u16::from_le_bytes(if at == 0 { [*a, *b] } else { [*c, *d] }),
+            [a, b, c, d, ..] => u16::from_ne_bytes(if at == 0 { [*a, *b] } else { [*c, *d] }),
             bytes => no_frame(bytes.len()),
         }
     }
@@ -496,7 +503,7 @@ impl<T: AsRef<[u8]> + AsMut<[u8]>> NlaBuffer<T> {
         if bytes.len() < NLA_HEADER_SIZE {
             no_frame(bytes.len());
         }
-        bytes[at..at + 2].copy_from_slice(&word.to_le_bytes());
+        bytes[at..at + 2].copy_from_slice(&word.to_ne_bytes());
     }
 
     /// Sets the number, and clears both flag bits.
@@ -656,7 +663,7 @@ macro_rules! emit {
         /// # Ok::<(), linkwire::DecodeError>(())
         /// ```
         pub fn $name(buffer: &mut [u8], value: $type) -> Result<(), DecodeError> {
-            let bytes = value.to_le_bytes();
+            let bytes = value.to_ne_bytes();
             let got = buffer.len();
             match buffer.get_mut(..bytes.len()) {
                 Some(front) => {

@@ -28,6 +28,7 @@ use crate::link_msg::{
 };
 use crate::nla_wire::nlas_measure;
 use crate::packet::Nla;
+use crate::rattle::number::MOST_LEN;
 use crate::typed::{InfoData, InfoKind};
 use alloc::string::String;
 use alloc::vec;
@@ -203,13 +204,14 @@ impl Request {
     /// # Ok::<(), request::RequestError>(())
     /// ```
     pub fn packet(&self, sequence: u32) -> Result<Vec<u8>, RequestError> {
-        let len = self.measured()?.checked_add(NLMSG_HDRLEN + HEADER_SIZE).ok_or(RequestError::DoesNotFit)?;
+        let len = self.measured()?.checked_add(NLMSG_HDRLEN + HEADER_SIZE).filter(|len| *len <= MOST_LEN);
+        let len = len.ok_or(RequestError::DoesNotFit)?;
         let in_header = u32::try_from(len).map_err(|_| RequestError::DoesNotFit)?;
         let mut packet = Vec::with_capacity(len);
-        packet.extend_from_slice(&in_header.to_le_bytes());
-        packet.extend_from_slice(&self.message_type.to_le_bytes());
-        packet.extend_from_slice(&self.flags.to_le_bytes());
-        packet.extend_from_slice(&sequence.to_le_bytes());
+        packet.extend_from_slice(&in_header.to_ne_bytes());
+        packet.extend_from_slice(&self.message_type.to_ne_bytes());
+        packet.extend_from_slice(&self.flags.to_ne_bytes());
+        packet.extend_from_slice(&sequence.to_ne_bytes());
         packet.resize(len, 0);
         self.message.encode_into(&mut packet[NLMSG_HDRLEN..]);
         Ok(packet)

@@ -53,7 +53,7 @@ impl<'a> Writer<'a> {
     /// use linkwire::{RoomError, Writer};
     /// let mut buffer = [0xff; 12];
     /// let mut writer = Writer::new(&mut buffer);
-    /// writer.put(4, &1500u32.to_le_bytes())?;
+    /// writer.put(4, &1500u32.to_ne_bytes())?;
     /// assert_eq!(writer.put(33, &[1]), Err(RoomError::NoRoom { wanted: 16 }));
     /// assert_eq!(writer.finish(), [8, 0, 4, 0, 0xdc, 5, 0, 0]);
     /// assert_eq!(buffer[8..], [0xff; 4]);
@@ -116,6 +116,6 @@ fn padding(len: usize) -> usize {
 }
 
 fn write_header(frame: &mut [u8], length: u16, kind: u16) {
-    frame[..2].copy_from_slice(&length.to_le_bytes());
-    frame[2..NLA_HEADER_SIZE].copy_from_slice(&kind.to_le_bytes());
+    frame[..2].copy_from_slice(&length.to_ne_bytes());
+    frame[2..NLA_HEADER_SIZE].copy_from_slice(&kind.to_ne_bytes());
 }

@@ -34,7 +34,7 @@ const ROWS: &[Row] = &[
     ("NlaBuffer::value", "passes the bytes", || wrong_lengths(|it| NlaBuffer::new(&*it).value().len())),
     ("NlaBuffer::value_length", "fewer than four", || {
         cut_short(|it| NlaBuffer::new(it).value_length());
-        panics("3", || NlaBuffer::new(&[3, 0, 0, 0]).value_length());
+        panics("3", || NlaBuffer::new(&header(3)).value_length());
     }),
     ("NlaBuffer::value_mut", "passes the bytes", || wrong_lengths(|it| NlaBuffer::new(it).value_mut().len())),
 ];
@@ -206,9 +206,16 @@ fn cut_short<T: Debug>(call: impl Fn(&mut [u8]) -> T) {
     }
 }
 
+/// Eight bytes that begin with the length of a frame, in host order.
+fn header(length: u16) -> [u8; 8] {
+    let mut bytes = [0; 8];
+    bytes[..2].copy_from_slice(&length.to_ne_bytes());
+    bytes
+}
+
 fn wrong_lengths(call: impl Fn(&mut [u8]) -> usize) {
-    panics("3", || call(&mut [3, 0, 0, 0]));
-    panics("a frame of 9 bytes, where 8 are left", || call(&mut [9, 0, 0, 0, 0, 0, 0, 0]));
+    panics("3", || call(&mut header(3)));
+    panics("a frame of 9 bytes, where 8 are left", || call(&mut header(9)));
     panics("3 bytes, where the header of a frame has 4", || call(&mut [4, 0, 0]));
 }
 
@@ -221,5 +228,5 @@ fn refuses() {
     assert!(emit_i32(&mut buffer[..3], 1).is_err());
     assert!(emit_u64(&mut buffer[..7], 1).is_err());
     assert_eq!(buffer, [0x55; 8]);
-    assert!(NlaBuffer::new_checked(&[9, 0, 0, 0, 0, 0, 0, 0]).is_err());
+    assert!(NlaBuffer::new_checked(&header(9)).is_err());
 }

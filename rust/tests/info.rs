@@ -5,6 +5,15 @@ use linkwire::info::{Fields, Info, InfoError, KINDS, Place, Plain, SLAVE_KINDS, 
 use linkwire::{LinkAttribute, LinkInfo, LinkMessage};
 use std::net::{Ipv4Addr, Ipv6Addr};
 
+/// An attribute of this kind, with its numbers in host order.
+fn frame(kind: u16, payload: &[u8]) -> Vec<u8> {
+    let mut frame = ((payload.len() + 4) as u16).to_ne_bytes().to_vec();
+    frame.extend(kind.to_ne_bytes());
+    frame.extend(payload);
+    frame.resize(frame.len() + payload.len().wrapping_neg() % 4, 0);
+    frame
+}
+
 #[test]
 fn numbers_of_any_type() {
     let mut vxlan = Info::new("vxlan").unwrap();
@@ -84,14 +93,14 @@ fn names_of_numbers_and_bits() {
 #[test]
 fn texts_and_arrays_of_other_places() {
     // a port of a function: its number, and the name of a profile
-    let port = [8, 0, 1, 0, 3, 0, 0, 0, 7, 0, 2, 0, b'a', b'b', 0, 0];
+    let port = [frame(1, &3u32.to_ne_bytes()), frame(2, b"ab\0")].concat();
     let fields: Vec<_> = Fields::new(Place::Port.rows(), &port).map(Result::unwrap).collect();
     assert_eq!((fields[0].name(), fields[0].value()), (Some("vf"), Value::Unsigned(3)));
     assert_eq!((fields[1].name(), fields[1].value()), (Some("profile"), Value::Text("ab")));
     // of AF_INET6 an array of signed numbers
     let rows = Place::Inet6.rows();
     let conf = rows.iter().find(|row| matches!(row.style(), Style::Array(Plain::Signed(_)))).unwrap();
-    let inet6 = [12, 0, conf.number() as u8, 0, 1, 0, 0, 0, 0xff, 0xff, 0xff, 0xff];
+    let inet6 = frame(conf.number(), &[1i32.to_ne_bytes(), (-1i32).to_ne_bytes()].concat());
     let field = Fields::new(rows, &inet6).next().unwrap().unwrap();
     assert_eq!(field.value().elements().collect::<Vec<_>>(), [Value::Signed(1), Value::Signed(-1)]);
     assert_eq!((field.value().members().count(), field.value().fields().is_none()), (0, true));
@@ -119,7 +128,7 @@ fn kinds() {
     assert_eq!((dummy.kind(), dummy.place(), dummy.value("mode")), ("dummy", None, None));
     assert_eq!(dummy.set("mode", 1), Err(InfoError::UnknownName));
     assert_eq!(dummy.list().unwrap(), [LinkInfo::Kind("dummy".to_string())]);
-    let kept = DefaultNla::new(2, vec![5, 0, 1, 0, 7, 0, 0, 0]);
+    let kept = DefaultNla::new(2, frame(1, &[7]));
     let list = [LinkInfo::Kind("dummy".to_string()), LinkInfo::Other(kept)];
     assert_eq!(Info::of(&list).unwrap().list().unwrap(), list);
     assert_eq!(Info::of(&list[1..]), Err(InfoError::UnknownKind));
@@ -146,12 +155,12 @@ fn lists_of_messages() {
     assert_eq!(Info::of(&list[1..]), Err(InfoError::UnknownKind));
     assert_eq!(Info::of(&list[..1]).unwrap().u16("id"), None);
     // IFLA_INFO_KIND "vlan", and IFLA_INFO_DATA with the id
-    let bytes = [9, 0, 1, 0, b'v', b'l', b'a', b'n', 0, 0, 0, 0, 12, 0, 2, 0, 6, 0, 1, 0, 5, 0, 0, 0];
+    let bytes = [frame(1, b"vlan\0"), frame(2, &frame(1, &5u16.to_ne_bytes()))].concat();
     let mut message = LinkMessage::default();
     message.attributes.push(LinkAttribute::LinkInfo(list.clone()));
     assert_eq!(message.to_vec().unwrap()[20..], bytes);
     // data that are no whole attributes, and data that are too long for an attribute
-    let damaged = [list[0].clone(), LinkInfo::Other(linkwire::DefaultNla::new(2, vec![6, 0, 1, 0, 5]))];
+    let damaged = [list[0].clone(), LinkInfo::Other(linkwire::DefaultNla::new(2, frame(1, &[5, 0])[..5].to_vec()))];
     assert_eq!(Info::of(&damaged), Err(InfoError::Damaged));
     let mut netkit = Info::new("netkit").unwrap();
     // a header of four bytes, the payload, and padding up to a multiple of four: 65532 bytes, and 65528

@@ -392,6 +392,7 @@ fn bytes(digits: &str) -> Vec<u8> {
 }
 
 #[test]
+#[cfg_attr(target_endian = "big", ignore = "they were recorded on a little-endian machine")]
 fn forty_commands_of_ip() {
     let mut same = 0;
     for row in ROWS {
@@ -401,8 +402,8 @@ fn forty_commands_of_ip() {
         }
         assert_eq!((made.message_type, made.flags), row.header, "{}", row.command);
         let (packet, sent) = (made.packet(7).unwrap(), bytes(row.sent));
-        assert_eq!(packet[..4], (packet.len() as u32).to_le_bytes());
-        assert_eq!(packet[8..16], [7, 0, 0, 0, 0, 0, 0, 0]);
+        assert_eq!(packet[..4], (packet.len() as u32).to_ne_bytes());
+        assert_eq!(packet[8..16], [7u32.to_ne_bytes(), [0; 4]].concat());
         same += usize::from(packet[16..] == sent);
         // `ip` sends some texts without a NUL
         assert_eq!(canonical(&packet[16..]), canonical(&sent), "{}", row.command);

@@ -24,8 +24,8 @@ struct Made {
 }
 
 fn add(to: &mut Vec<u8>, kind: u16, payload: &[u8], padding: u8) {
-    to.extend(((4 + payload.len()) as u16).to_le_bytes());
-    to.extend(kind.to_le_bytes());
+    to.extend(((4 + payload.len()) as u16).to_ne_bytes());
+    to.extend(kind.to_ne_bytes());
     to.extend(payload);
     to.resize((to.len() + 3) / 4 * 4, padding);
 }
@@ -110,7 +110,8 @@ fn goes_over(made: &Made) {
 /// An MTU of three bytes at the end.
 fn refuses(made: &Made) {
     let mut faulty = made.message.clone();
-    faulty.extend([7, 0, 4, 0, 1, 2, 3]);
+    faulty.extend([7u16.to_ne_bytes(), MTU.to_ne_bytes()].concat());
+    faulty.extend([1, 2, 3]);
     let (fault, at) = fault_at(&faulty).unwrap();
     assert_eq!(at, made.message.len());
     assert_eq!(LinkMessage::fault_path(&faulty).unwrap().numbers(), [MTU]);
@@ -131,5 +132,46 @@ fn long_messages() {
         encodings(&made);
         goes_over(&made);
         refuses(&made);
+    }
+}
+
+/// A message of 60 MB, of attributes as long as one can be.
+#[test]
+fn sixty_megabytes() {
+    let (mut message, payload) = (HEADER.to_vec(), vec![7; 65531]);
+    message[1] = 0;
+    while message.len() < 60_000_000 {
+        add(&mut message, UNKNOWN, &payload, 0);
+    }
+    let value = LinkMessage::parse(&message).unwrap();
+    assert!(value.fits() && value.buffer_len() == message.len());
+    assert!(value.to_vec().unwrap() == message && canonical(&message).unwrap() == message);
+}
+
+/// Messages of 60 MB whose encodings would have 3 GB and 4.7 GB, more than memory can be on 32 bits, and than 2^32.
+#[test]
+#[cfg(target_pointer_width = "32")]
+fn encodings_that_no_memory_holds() {
+    const STATS64: u16 = 23;
+    const AF_SPEC: u16 = 26;
+    let mut counters = Vec::new();
+    (0..207).for_each(|_| add(&mut counters, 3, &[], 0));
+    let (mut family, mut spec) = (Vec::new(), Vec::new());
+    add(&mut family, 10, &counters, 0);
+    add(&mut spec, AF_SPEC, &family, 0);
+    let mut stats = Vec::new();
+    add(&mut stats, STATS64, &[], 0);
+    for one in [stats, spec] {
+        let mut message = HEADER.to_vec();
+        message.extend(one.repeat(60_000_000 / one.len()));
+        assert_eq!(check(&message), Ok(()));
+        assert_eq!(canonical_len(&message), Err(CanonError::DoesNotFit));
+        assert_eq!(canonical(&message), Err(CanonError::DoesNotFit));
+        assert_eq!(state(&message), Err(CanonError::DoesNotFit));
+        assert_eq!(same_message(&message, &HEADER), Err(CanonError::DoesNotFit));
+        assert_eq!(same_state(&message, &HEADER), Err(CanonError::DoesNotFit));
+        for write in [canonical_into, canonical_within, state_within] {
+            assert_eq!(write(&message, &mut [0; 64]), Err(RoomError::NoEncoding(CanonError::DoesNotFit)));
+        }
     }
 }

@@ -3,9 +3,9 @@
 //! the stored lines and the rows have to be those of the program.
 
 use linkwire::{
-    Attribute, Attributes, CANONICAL_FORM, CanonError, DecodeError, Emitable, GROWTH, HEADER_SIZE, LinkAttribute,
-    LinkMessage, RoomError, STATE_FORM, Writer, attributes, canonical, canonical_into, canonical_len, canonical_within,
-    check, fault_at, same_message, same_state, state, state_within,
+    Attribute, Attributes, BYTE_ORDER, CANONICAL_FORM, CanonError, DecodeError, Emitable, GROWTH, HEADER_SIZE,
+    LinkAttribute, LinkMessage, RoomError, STATE_FORM, Writer, attributes, canonical, canonical_into, canonical_len,
+    canonical_within, check, fault_at, same_message, same_state, state, state_within,
 };
 use std::fs;
 
@@ -30,6 +30,13 @@ fn answer(line: &str) -> String {
         Err(CanonError::Decode(_)) => "refused".into(),
         Err(CanonError::DoesNotFit) => "unfit".into(),
         Err(CanonError::EmptyVfPorts) => "empty-ports".into(),
+    }
+}
+
+/// The stored lines and answers have numbers lowest byte first; in the other order the lines mean something else.
+fn is_answered(line: &str, wanted: &str, name: &str) {
+    if BYTE_ORDER == "little" {
+        assert_eq!(answer(line), wanted, "{name}");
     }
 }
 
@@ -213,7 +220,7 @@ fn stored_input() {
     let (lines, wanted) = (stored("stdin"), stored("stdout"));
     assert_eq!(lines.lines().count(), wanted.lines().count());
     for (line, wanted) in lines.lines().zip(wanted.lines()) {
-        assert_eq!(answer(line), wanted, "{line}");
+        is_answered(line, wanted, line);
         bytes_of(line).iter().for_each(|it| agrees(it));
     }
 }
@@ -236,7 +243,7 @@ fn rows() {
     let texts: Vec<&str> = code.split('"').skip(1).step_by(2).collect();
     assert!(texts.len() > 150 && texts.len() % 3 == 0);
     for row in texts.chunks(3) {
-        assert_eq!(answer(row[1]), row[2], "{}", row[0]);
+        is_answered(row[1], row[2], row[0]);
         bytes_of(row[1]).iter().for_each(|it| agrees(it));
     }
 }

@@ -133,7 +133,8 @@ fn own_types() {
 /// A payload is a part of the bytes that the frame was made over, and the rest after a record one of its argument.
 #[test]
 fn parts_lie_in_the_argument() {
-    let bytes = [6, 0, 1, 0, 7, 7, 0, 0, 4, 0, 2, 0];
+    let headers = [6u16, 1, 0x707, 0, 4, 2];
+    let bytes: Vec<u8> = headers.iter().flat_map(|it| it.to_ne_bytes()).collect();
     let frame = NlaBuffer::new_checked(&bytes[..]).unwrap();
     assert_eq!(frame.value().as_ptr_range(), bytes[4..6].as_ptr_range());
     let frames: Vec<_> = NlasIterator::new(&bytes[..]).map(|it| it.unwrap().value().as_ptr_range()).collect();

@@ -6,7 +6,8 @@ use linkwire::{Attributes, CanonError, Cause, RoomError, Writer, attributes, can
 fn nests() {
     let mut buffer = [0; 64];
     let mut writer = Writer::message(&mut buffer, &[0; 16]).unwrap();
-    let put = writer.nest(22, |list| list.nest(1, |function| function.put(5, &[1, 0, 0, 0, 2, 0, 0, 0])));
+    let numbers = [1u32.to_ne_bytes(), 2u32.to_ne_bytes()].concat();
+    let put = writer.nest(22, |list| list.nest(1, |function| function.put(5, &numbers)));
     assert_eq!(put, Ok(()));
     assert!(matches!(writer.nest(18, |info| info.put(1, &[b'x'; 65])), Err(RoomError::NoRoom { .. })));
     let message = writer.finish();
@@ -15,7 +16,7 @@ fn nests() {
     let function = list.nested().next().unwrap().unwrap();
     let state = function.nested().next().unwrap().unwrap();
     assert_eq!((list.number(), function.number(), state.number()), (22, 1, 5));
-    assert_eq!(state.as_u64(), Some(0x2_0000_0001));
+    assert_eq!(state.as_u64(), Some(u64::from_ne_bytes(numbers.try_into().unwrap())));
     assert_eq!((state.as_u8(), state.as_u16(), state.as_u32()), (None, None, None));
     assert_eq!(canonical(message).as_deref(), Ok(message));
 }
@@ -49,8 +50,9 @@ fn first_fault_ends() {
     let causes = |mut list: Attributes| (list.next().unwrap().unwrap_err().cause, list.next().is_none());
     assert_eq!(causes(attributes(&[0; 15])), (Cause::TooShort { got: 15, need: 16 }, true));
     assert_eq!(causes(Attributes::of_list(&[0; 3])), (Cause::FrameShort { left: 3 }, true));
-    assert_eq!(causes(Attributes::of_list(&[3, 0, 0, 0])), (Cause::FrameUnder { length: 3 }, true));
+    let header = |length: u16| [length.to_ne_bytes(), [0; 2]].concat();
+    assert_eq!(causes(Attributes::of_list(&header(3))), (Cause::FrameUnder { length: 3 }, true));
     let over = Cause::FrameOver { length: 5, left: 4 };
-    assert_eq!(causes(Attributes::of_list(&[5, 0, 0, 0])), (over, true));
+    assert_eq!(causes(Attributes::of_list(&header(5))), (over, true));
     assert!(Attributes::of_list(&[]).next().is_none());
 }

@@ -1,5 +1,18 @@
-"""What Rust 1.63 has not, which Debian 12 has: `let PATTERN = value else { .. };`, as a `match`."""
+"""What Rust 1.63 has not, which Debian 12 has: `let PATTERN = value else { .. };`, as a `match`; and ranges of patterns
+without their end."""
+import re
+
 from source import Source
+
+OPEN_RANGE = re.compile(r"^( +\w+)\.\.(\w+) =>", re.M)
+
+
+def ranges(text):
+    """Arms of a `match` as `0..10 =>`, with the last number of the range."""
+    def closed(arm):
+        base = hex if arm[2].startswith("0x") else str
+        return f"{arm[1]}..={base(int(arm[2], 0) - 1)} =>"
+    return OPEN_RANGE.sub(closed, text)
 
 
 def let_else(path, text):
@@ -20,7 +33,8 @@ def let_else(path, text):
         end = s.next(close)
         s.drop(i, end)
         s.dead[i] = False
-        s.new[i] = "\n".join([f"let {names} = match {value} {{", f"{indent}    {pattern} => {names},",
+        given = f"let {names} = " if names != "()" else ""
+        s.new[i] = "\n".join([f"{given}match {value} {{", f"{indent}    {pattern} => {names},",
                               f"{indent}    _ => {body(s, open_, close)}", f"{indent}}};"])
     return s.rust()
 
@@ -29,8 +43,6 @@ def bound(s, first, end):
     """The names that a pattern binds, but for those that are not used."""
     names = [s.text[k] for k in range(first + 1, end) if k in s.rank and s.kind[k] == "id"
              and s.text[k][0].islower() and s.text[s.next(k)] not in ("(", "{", ":")]
-    if not names:
-        s.fail(first, "let .. else of a pattern that binds nothing")
     return names[0] if len(names) == 1 else f"({', '.join(names)})"
 
 

@@ -42,9 +42,9 @@ def by(rewrite):
 
 
 MAKES = {
-    "refused": lambda text: refused(text, "link_msg", erase.Mode(True)),
-    "refused in tests": lambda text: refused(text, "message_diff", erase.Mode(False)),
-    "made in tests": lambda text: erase.erase("a.rt", text, "message_diff", erase.Mode(False)),
+    "refused": lambda text: refused(text, "link_msg", erase.Mode("crate")),
+    "refused in tests": lambda text: refused(text, "message_diff", erase.Mode("tests")),
+    "made in tests": lambda text: erase.erase("a.rt", text, "message_diff", erase.Mode("tests")),
     "laid out": layout.laid_out, "let_else": lambda text: older.let_else("a.rs", text),
     "reserved": by(memory.reserved), "narrowing": by(owed.narrowing), "hide_calls": by(surface.hide_calls),
     "other_names": by(surface.other_names),

@@ -3,6 +3,7 @@ import re
 import textwrap
 
 WIDTH = 120
+ORDER = "Nor are those of machines with different byte orders, which `BYTE_ORDER` names: numbers are in host order."
 # Sentences about what only Rattle has, as the joined text of a paragraph has them, and what the crate says there.
 SAID = [(re.compile(pattern), text) for pattern, text in [
     (r"(It takes no memory), and (?:so )?never returns `OutOfMemory`\.", r"\1."),
@@ -20,6 +21,11 @@ SAID = [(re.compile(pattern), text) for pattern, text in [
     (r"1 to 4 in the order", "1 to 3 in the order"),
     (r"; for the proof: [^.]*\.", "."),
     (r" It does nothing\.", ""),
+    (r"(in host order), lowest byte first", r"\1"),
+    (r"with the lowest byte first", "in host order"),
+    (r"lowest byte first", "in host order"),
+    (r"(so a store keeps the number beside its keys\.)", r"\1 " + ORDER),
+    (r"the length of (?:the|their) encoding is a `usize`", "the encoding is no longer than memory can be"),
     (r"`growth_per_byte`", "79"),
     (r"`small_enough`", "839"),
 ]]

@@ -85,7 +85,7 @@ fn link_of(message: RouteLink) -> Result<LinkMessage, Box<dyn Error>> {
 
 /// The kernel's text, which stands after the request that failed: NLMSGERR_ATTR_MSG is 1, NLMSGERR_ATTR_OFFS 2.
 fn told(failed: &[u8], error: std::io::Error) -> String {
-    let len = failed.get(..4).map_or(0, |it| u32::from_le_bytes([it[0], it[1], it[2], it[3]]) as usize);
+    let len = failed.get(..4).map_or(0, |it| u32::from_ne_bytes([it[0], it[1], it[2], it[3]]) as usize);
     let extended = failed.get((len + 3) / 4 * 4..).unwrap_or(&[]);
     let mut text = error.to_string();
     for attribute in linkwire::Attributes::of_list(extended).flatten() {

@@ -117,7 +117,7 @@ pub fn emit<T: Typed>(list: &[T]) -> Vec<u8> {
 pub(crate) fn payload<T: Typed>(one: &T) -> Vec<u8> {
     let mut out = Vec::new();
     one.push(&mut out);
-    let len = usize::from(u16::from_le_bytes([out[0], out[1]]));
+    let len = usize::from(u16::from_ne_bytes([out[0], out[1]]));
     out.truncate(len);
     out.drain(..NLA_HEADER_SIZE);
     out

@@ -11,7 +11,7 @@ use alloc::vec::Vec;
 use core::fmt;
 use core::mem::size_of;
 
-/// A value of a fixed size, by its bytes: a number's in host order, lowest byte first.
+/// A value of a fixed size, by its bytes: a number's in host order.
 pub(crate) trait Part: Sized {
     type Bytes: Copy + AsRef<[u8]> + AsMut<[u8]> + for<'a> TryFrom<&'a [u8]>;
     fn of(bytes: Self::Bytes) -> Option<Self>;
@@ -37,11 +37,11 @@ macro_rules! parts {
 }
 
 parts! {
-    u8, 1, u8::from_le_bytes, u8::to_le_bytes;
-    u16, 2, u16::from_le_bytes, u16::to_le_bytes;
-    u32, 4, u32::from_le_bytes, u32::to_le_bytes;
-    u64, 8, u64::from_le_bytes, u64::to_le_bytes;
-    i32, 4, i32::from_le_bytes, i32::to_le_bytes;
+    u8, 1, u8::from_ne_bytes, u8::to_ne_bytes;
+    u16, 2, u16::from_ne_bytes, u16::to_ne_bytes;
+    u32, 4, u32::from_ne_bytes, u32::to_ne_bytes;
+    u64, 8, u64::from_ne_bytes, u64::to_ne_bytes;
+    i32, 4, i32::from_ne_bytes, i32::to_ne_bytes;
     Ipv4Addr, 4, Ipv4Addr::from, |it: Ipv4Addr| it.octets();
     Ipv6Addr, 16, Ipv6Addr::from, |it: Ipv6Addr| it.octets();
     [u8; 6], 6, |it| it, |it| it;
@@ -54,13 +54,13 @@ impl Part for VlanProtocol {
 
     #[inline]
     fn of(bytes: Self::Bytes) -> Option<Self> {
-        let protocol = VlanProtocol::from(u16::from_le_bytes(bytes));
+        let protocol = VlanProtocol::from(u16::from_ne_bytes(bytes));
         (protocol.bytes() == bytes).then_some(protocol)
     }
 
     #[inline]
     fn bytes(&self) -> Self::Bytes {
-        u16::from(*self).to_le_bytes()
+        u16::from(*self).to_ne_bytes()
     }
 }
 
@@ -70,9 +70,12 @@ fn part<T: Part>(bytes: &[u8]) -> Option<T> {
     T::of(bytes.try_into().ok()?)
 }
 
+/// The bytes of a number in network order, out of those in host order; and back.
 #[inline]
-fn reversed<T: AsMut<[u8]>>(mut bytes: T) -> T {
-    bytes.as_mut().reverse();
+fn network<T: AsMut<[u8]>>(mut bytes: T) -> T {
+    if cfg!(target_endian = "little") {
+        bytes.as_mut().reverse();
+    }
     bytes
 }
 
@@ -97,8 +100,8 @@ pub(crate) fn push_frame(out: &mut Vec<u8>, kind: u16, payload: &[u8]) {
 fn push_fixed(out: &mut Vec<u8>, kind: u16, payload: &[u8]) {
     let mut frame = [0; NLA_HEADER_SIZE + 16];
     let len = NLA_HEADER_SIZE + payload.len();
-    frame[..2].copy_from_slice(&(len as u16).to_le_bytes());
-    frame[2..4].copy_from_slice(&kind.to_le_bytes());
+    frame[..2].copy_from_slice(&(len as u16).to_ne_bytes());
+    frame[2..4].copy_from_slice(&kind.to_ne_bytes());
     frame[4..len].copy_from_slice(payload);
     out.extend_from_slice(&frame[..padded_len(payload.len())]);
 }
@@ -106,7 +109,7 @@ fn push_fixed(out: &mut Vec<u8>, kind: u16, payload: &[u8]) {
 /// Adds the header of an attribute whose length is not known: where it begins.
 #[inline]
 fn begin(out: &mut Vec<u8>, kind: u16) -> usize {
-    let [low, high] = kind.to_le_bytes();
+    let [low, high] = kind.to_ne_bytes();
     out.extend_from_slice(&[0, 0, low, high]);
     out.len() - NLA_HEADER_SIZE
 }
@@ -116,7 +119,7 @@ fn begin(out: &mut Vec<u8>, kind: u16) -> usize {
 fn close(out: &mut Vec<u8>, start: usize) {
     let len = out.len() - start;
     assert!(len <= usize::from(u16::MAX), "the value does not fit: an attribute holds at most 65531 bytes");
-    out[start..start + 2].copy_from_slice(&(len as u16).to_le_bytes());
+    out[start..start + 2].copy_from_slice(&(len as u16).to_ne_bytes());
     let padding = padded_len(len - NLA_HEADER_SIZE) - len;
     out.extend_from_slice(&[0; 3][..padding]);
 }
@@ -148,26 +151,26 @@ pub(crate) mod host {
 
 /// A number in network order, highest byte first.
 pub(crate) mod net {
-    use super::{Part, Vec, front, push_fixed, reversed};
+    use super::{Part, Vec, front, network, push_fixed};
 
     #[inline]
     pub(crate) fn read<T: Part>(payload: &[u8]) -> Option<T> {
-        T::of(reversed(payload.try_into().ok()?))
+        T::of(network(payload.try_into().ok()?))
     }
 
     #[inline]
     pub(crate) fn push<T: Part>(out: &mut Vec<u8>, kind: u16, it: &T) {
-        push_fixed(out, kind, reversed(it.bytes()).as_ref());
+        push_fixed(out, kind, network(it.bytes()).as_ref());
     }
 
     #[inline]
     pub(crate) fn take<T: Part>(left: &mut &[u8]) -> Option<T> {
-        T::of(reversed(front(left)?))
+        T::of(network(front(left)?))
     }
 
     #[inline]
     pub(crate) fn add<T: Part>(out: &mut Vec<u8>, it: &T) {
-        out.extend_from_slice(reversed(it.bytes()).as_ref());
+        out.extend_from_slice(network(it.bytes()).as_ref());
     }
 }
 

@@ -34,12 +34,17 @@ impl Writer {
                 10 => self.out.extend_from_slice(b"\\n")?,
                 12 => self.out.extend_from_slice(b"\\f")?,
                 13 => self.out.extend_from_slice(b"\\r")?,
-                ..=31 => self.out.extend_from_slice(format!("\\u{byte:04x}").as_bytes())?,
+                0..=31 => self.out.extend_from_slice(&[b'\\', b'u', b'0', b'0', digit(byte >> 4), digit(byte & 15)])?,
                 _ => self.out.extend_from_slice(&[byte])?,
             }
         }
         self.out.extend_from_slice(b"\"")
     }
+}
+
+/// The hexadecimal digit of a number below 16.
+fn digit(value: u8) -> u8 {
+    b"0123456789abcdef"[usize::from(value)]
 }
 
 #[cfg(test)]
