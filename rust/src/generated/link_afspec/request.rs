@@ -11,9 +11,10 @@ const SETTING_LEN: usize = NLA_HEADER_SIZE + 4;
 
 /// The attribute of a setting.
 fn setting_attribute(number: u16, value: i32) -> [u8; SETTING_LEN] {
-    let [kind_low, kind_high] = number.to_le_bytes();
-    let [a, b, c, d] = value.to_le_bytes();
-    [8, 0, kind_low, kind_high, a, b, c, d]
+    let [len_low, len_high] = 8_u16.to_ne_bytes();
+    let [kind_low, kind_high] = number.to_ne_bytes();
+    let [a, b, c, d] = value.to_ne_bytes();
+    [len_low, len_high, kind_low, kind_high, a, b, c, d]
 }
 
 /// The length of a setting's encoding: none where it is zero.

@@ -4,14 +4,14 @@
 use crate::link_info::style::Size;
 use crate::rattle::number::Unsigned as _;
 
-/// The number that the bytes are in host order, lowest byte first.
+/// The number that the bytes are in host order.
 pub(crate) fn host_number(size: Size, bytes: &[u8]) -> u64 {
     match size {
         Size::One => bytes[0].into(),
-        Size::Two => u16::from_le_bytes([bytes[0], bytes[1]]).into(),
-        Size::Four => u32::from_le_bytes([bytes[0], bytes[1], bytes[2], bytes[3]]).into(),
+        Size::Two => u16::from_ne_bytes([bytes[0], bytes[1]]).into(),
+        Size::Four => u32::from_ne_bytes([bytes[0], bytes[1], bytes[2], bytes[3]]).into(),
         Size::Eight => {
-            u64::from_le_bytes([bytes[0], bytes[1], bytes[2], bytes[3], bytes[4], bytes[5], bytes[6], bytes[7]])
+            u64::from_ne_bytes([bytes[0], bytes[1], bytes[2], bytes[3], bytes[4], bytes[5], bytes[6], bytes[7]])
         }
     }
 }
@@ -32,8 +32,8 @@ pub(crate) fn network_number(size: Size, bytes: &[u8]) -> u64 {
 pub(crate) fn signed_number(size: Size, bytes: &[u8]) -> i64 {
     match size {
         Size::One => bytes[0].to_signed().into(),
-        Size::Two => u16::from_le_bytes([bytes[0], bytes[1]]).to_signed().into(),
-        Size::Four => u32::from_le_bytes([bytes[0], bytes[1], bytes[2], bytes[3]]).to_signed().into(),
+        Size::Two => u16::from_ne_bytes([bytes[0], bytes[1]]).to_signed().into(),
+        Size::Four => u32::from_ne_bytes([bytes[0], bytes[1], bytes[2], bytes[3]]).to_signed().into(),
         Size::Eight => host_number(Size::Eight, bytes).to_signed(),
     }
 }

@@ -37,7 +37,7 @@ pub type Names = &'static [(u64, &'static str)];
 /// How a value of a fixed size is spelled in bytes.
 #[derive(Clone, Copy, Debug, PartialEq, Eq, Hash)]
 pub enum Plain {
-    /// A number in host order, lowest byte first.
+    /// A number in host order.
     Unsigned(Size),
     /// A number in network order, highest byte first.
     BigEndian(Size),

@@ -3,16 +3,16 @@
 
 use crate::link_info::style::{Plain, Size, Style};
 use crate::link_info::value::Value;
-use crate::rattle::number::narrow_signed;
+use crate::rattle::number::{lowest, narrow_signed};
 use alloc::vec::Vec;
 
 /// Adds a number in host order, its lowest bytes.
 fn push_host(out: &mut Vec<u8>, size: Size, n: u64) {
-    let bytes = n.to_le_bytes();
+    let bytes = n.to_ne_bytes();
     match size {
-        Size::One => out.extend_from_slice(&bytes[..1]),
-        Size::Two => out.extend_from_slice(&bytes[..2]),
-        Size::Four => out.extend_from_slice(&bytes[..4]),
+        Size::One => out.extend_from_slice(lowest(&bytes, 1)),
+        Size::Two => out.extend_from_slice(lowest(&bytes, 2)),
+        Size::Four => out.extend_from_slice(lowest(&bytes, 4)),
         Size::Eight => out.extend_from_slice(&bytes),
     }
 }
@@ -44,10 +44,10 @@ fn push_unsigned(out: &mut Vec<u8>, style: Style, n: u64) {
 /// Adds a signed number of four bytes or fewer as its style says, in two's complement.
 fn push_signed(out: &mut Vec<u8>, style: Style, z: i64) {
     match style {
-        Style::Plain(Plain::Signed(Size::One)) => out.extend_from_slice(&narrow_signed::<i8>(z).to_le_bytes()),
-        Style::Plain(Plain::Signed(Size::Two)) => out.extend_from_slice(&narrow_signed::<i16>(z).to_le_bytes()),
-        Style::Plain(Plain::Signed(Size::Four)) => out.extend_from_slice(&narrow_signed::<i32>(z).to_le_bytes()),
-        Style::Plain(Plain::Signed(Size::Eight)) => out.extend_from_slice(&z.to_le_bytes()),
+        Style::Plain(Plain::Signed(Size::One)) => out.extend_from_slice(&narrow_signed::<i8>(z).to_ne_bytes()),
+        Style::Plain(Plain::Signed(Size::Two)) => out.extend_from_slice(&narrow_signed::<i16>(z).to_ne_bytes()),
+        Style::Plain(Plain::Signed(Size::Four)) => out.extend_from_slice(&narrow_signed::<i32>(z).to_ne_bytes()),
+        Style::Plain(Plain::Signed(Size::Eight)) => out.extend_from_slice(&z.to_ne_bytes()),
         _ => (),
     }
 }

@@ -179,7 +179,7 @@ impl Nla for LinkAttribute {
             View::Stats(stats) => stats.fill(buffer),
             View::Stats64(stats) => stats.fill(buffer),
             View::Map(map) => map.fill(buffer),
-            View::Mask(flags) => fill_bytes(buffer, &LinkExtentMask::sum(flags).to_le_bytes()),
+            View::Mask(flags) => fill_bytes(buffer, &LinkExtentMask::sum(flags).to_ne_bytes()),
             View::Event(event) => event.fill(buffer),
             View::Port(members) => nlas_fill(members, buffer),
             View::Infos(members) => nlas_fill(members, buffer),

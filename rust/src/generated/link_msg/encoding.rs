@@ -6,7 +6,7 @@ use crate::link_msg::header::{HEADER_SIZE, LinkHeader, LinkMessageBuffer};
 use crate::link_msg::message::{LinkMessage, check_attributes, split_header};
 use crate::link_msg::place::AttributePlace;
 use crate::nla_wire::{DecodeError, write_members};
-use crate::rattle::number::room;
+use crate::rattle::number::{MOST_LEN, room};
 use alloc::vec::Vec;
 
 /// Why there is no canonical encoding.
@@ -70,7 +70,7 @@ fn measure(input: &[u8]) -> Result<(LinkHeader, &[u8], usize, usize), CanonError
             return Err(CanonError::DoesNotFit);
         }
     };
-    if len > usize::MAX - HEADER_SIZE {
+    if len > MOST_LEN - HEADER_SIZE {
         return Err(CanonError::DoesNotFit);
     }
     if empty {
@@ -112,7 +112,8 @@ fn encoded(header: &LinkHeader, rest: &[u8], len: usize, prefix: usize) -> Vec<u
 }
 
 /// The number of the canonical form: any change of any message's canonical encoding raises it. Encodings of different
-/// numbers are not to be compared, so a store keeps the number beside its keys.
+/// numbers are not to be compared, so a store keeps the number beside its keys. Nor are those of machines with
+/// different byte orders, which `BYTE_ORDER` names: numbers are in host order.
 pub const CANONICAL_FORM: u32 = 2;
 
 /// The length of the canonical encoding of what the bytes mean, without memory.

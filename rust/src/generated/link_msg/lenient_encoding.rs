@@ -9,12 +9,13 @@ use crate::link_msg::numbers::IFLA_VF_PORTS;
 use crate::link_msg::place::AttributePlace;
 use crate::link_vals::AddressFamily;
 use crate::nla_wire::{DecodeError, NlaBuffer, NlasIterator, Place, check_members, measure_members, write_members};
-use crate::rattle::number::room;
+use crate::rattle::number::{MOST_LEN, room};
 use alloc::vec::Vec;
 
 /// The number of the lenient canonical form: any change of any message's lenient canonical encoding raises it, and so
 /// does each that raises `CANONICAL_FORM`. A table that reads what was refused before changes lenient encodings alone.
-/// Encodings of different numbers are not to be compared, so a store keeps the number beside its keys.
+/// Encodings of different numbers are not to be compared, so a store keeps the number beside its keys. Nor are those of
+/// machines with different byte orders, which `BYTE_ORDER` names: numbers are in host order.
 pub const LENIENT_FORM: u32 = 1;
 
 /// Whether a frame is an empty list of ports: one that is refused, as one of no bytes, is none.
@@ -71,7 +72,7 @@ fn measure_lenient(input: &[u8]) -> Result<(LinkHeader, &[u8], usize), CanonErro
             return Err(CanonError::DoesNotFit);
         }
     };
-    if len > usize::MAX - HEADER_SIZE {
+    if len > MOST_LEN - HEADER_SIZE {
         return Err(CanonError::DoesNotFit);
     }
     if empty {

@@ -5,7 +5,7 @@ use crate::link_msg::attribute::LinkAttribute;
 use crate::link_msg::header::{HEADER_SIZE, LinkHeader, LinkMessageBuffer, no_header};
 use crate::link_vals::AddressFamily;
 use crate::nla_wire::{DecodeError, fill_bytes, nlas_fill, nlas_measure, nlas_write};
-use crate::rattle::number::room;
+use crate::rattle::number::{MOST_LEN, room};
 use alloc::vec::Vec;
 
 /// A link message: RTM_NEWLINK and its kin after the netlink header (rtnetlink(7)).
@@ -114,12 +114,12 @@ impl LinkMessage {
     #[cfg_attr(not(debug_assertions), inline(always))]
     pub(crate) fn measured(&self) -> Option<usize> {
         match nlas_measure(self.attributes.as_slice()) {
-            Some(len) => len.checked_add(HEADER_SIZE),
+            Some(len) => len.checked_add(HEADER_SIZE).filter(|len| *len <= MOST_LEN),
             None => None,
         }
     }
 
-    /// Whether each attribute fits, and the length of the encoding is a `usize`.
+    /// Whether each attribute fits, and the encoding is no longer than memory can be.
     ///
     /// [`LinkMessage::new`](crate::LinkMessage::new) has an example.
     #[must_use]

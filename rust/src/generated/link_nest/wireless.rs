@@ -30,8 +30,8 @@ pub enum WirelessEvent {
 
 /// The header of an event.
 fn header_of(len: u16, command: u16) -> [u8; 8] {
-    let [len_low, len_high] = len.to_le_bytes();
-    let [command_low, command_high] = command.to_le_bytes();
+    let [len_low, len_high] = len.to_ne_bytes();
+    let [command_low, command_high] = command.to_ne_bytes();
     [len_low, len_high, command_low, command_high, 0, 0, 0, 0]
 }
 

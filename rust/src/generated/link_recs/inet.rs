@@ -13,7 +13,7 @@ pub const INET_DEV_CONF_SIZE: usize = 4 * INET_DEV_CONF_COUNT;
 
 /// Settings of IPv4 on a link (IFLA_INET_CONF).
 ///
-/// 34 signed numbers of four bytes each, 136 bytes, lowest byte first, in the order of the constants IPV4_DEVCONF_* of
+/// 34 signed numbers of four bytes each, 136 bytes, in host order, in the order of the constants IPV4_DEVCONF_* of
 /// linux/ip.h, which count from 1: setting number `n` stands at offset `4 * (n - 1)`. The last field is no setting of
 /// the kernel's.
 ///

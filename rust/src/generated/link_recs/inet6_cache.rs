@@ -13,7 +13,7 @@ pub const INET6_CACHE_INFO_SIZE: usize = 4 * INET6_CACHE_INFO_COUNT;
 
 /// Times of the IPv6 neighbour cache of a link (IFLA_INET6_CACHEINFO).
 ///
-/// Four signed numbers of four bytes each, 16 bytes, lowest byte first, in the order of `struct ifla_cacheinfo` in
+/// Four signed numbers of four bytes each, 16 bytes, in host order, in the order of `struct ifla_cacheinfo` in
 /// linux/if_link.h, at offsets 0, 4, 8 and 12. `max_reasm_len` is in bytes, `tstamp` in hundredths of a second,
 /// `reachable_time` and `retrans_time` in milliseconds.
 #[derive(Clone, Copy, Debug, PartialEq, Eq, Hash)]

@@ -13,7 +13,7 @@ pub const INET6_DEV_CONF_SIZE: usize = 4 * INET6_DEV_CONF_COUNT;
 
 /// Settings of IPv6 on a link (IFLA_INET6_CONF).
 ///
-/// 60 signed numbers of four bytes each, 240 bytes, lowest byte first, in the order of the constants DEVCONF_* of
+/// 60 signed numbers of four bytes each, 240 bytes, in host order, in the order of the constants DEVCONF_* of
 /// linux/ipv6.h, which count from 0: setting number `n` stands at offset `4 * n`. Intervals and delays of
 /// solicitations, of reports and of probes are in milliseconds, as net/ipv6/addrconf.c turns them for netlink; the
 /// lifetimes `temp_valid_lft` and `temp_prefered_lft`, and `max_desync_factor`, are in seconds.

@@ -13,7 +13,7 @@ pub const ICMP6_STATS_SIZE: usize = 8 * ICMP6_STATS_COUNT;
 
 /// Counters of ICMPv6 on a link (IFLA_INET6_ICMP6STATS).
 ///
-/// Seven signed numbers of eight bytes each, 56 bytes, lowest byte first, in the order of the constants ICMP6_MIB_* of
+/// Seven signed numbers of eight bytes each, 56 bytes, in host order, in the order of the constants ICMP6_MIB_* of
 /// linux/snmp.h, which count from 0: counter number `n` stands at offset `8 * n`. `num` is the number of counters that
 /// the kernel sent.
 #[derive(Clone, Copy, Debug, Default, PartialEq, Eq, Hash)]

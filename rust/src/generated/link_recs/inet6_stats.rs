@@ -13,7 +13,7 @@ pub const INET6_STATS_SIZE: usize = 8 * INET6_STATS_COUNT;
 
 /// Counters of IPv6 on a link (IFLA_INET6_STATS).
 ///
-/// 39 signed numbers of eight bytes each, 312 bytes, lowest byte first, in the order of the constants IPSTATS_MIB_* of
+/// 39 signed numbers of eight bytes each, 312 bytes, in host order, in the order of the constants IPSTATS_MIB_* of
 /// linux/snmp.h, which count from 0: counter number `n` stands at offset `8 * n`. `num` is how many counters the kernel
 /// sent, itself among them. The last field is no counter of the kernel's.
 ///

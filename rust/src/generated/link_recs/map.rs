@@ -9,9 +9,9 @@ pub const MAP_SIZE: usize = 32;
 
 /// The places in the machine of a link's device (IFLA_MAP).
 ///
-/// `struct rtnl_link_ifmap` of linux/if_link.h, 32 bytes, numbers with the lowest byte first: `memory_start` at 0,
-/// `memory_end` at 8 and `base_address` at 16, of eight bytes; `irq` at 24, of two; `dma` at 26 and `port` at 27, of
-/// one; then four bytes of padding, which are not read and written as zeros.
+/// `struct rtnl_link_ifmap` of linux/if_link.h, 32 bytes, numbers in host order: `memory_start` at 0, `memory_end` at 8
+/// and `base_address` at 16, of eight bytes; `irq` at 24, of two; `dma` at 26 and `port` at 27, of one; then four bytes
+/// of padding, which are not read and written as zeros.
 #[derive(Clone, Copy, Debug, Default, PartialEq, Eq, Hash)]
 #[cfg_attr(feature = "serde", derive(serde::Serialize, serde::Deserialize))]
 #[non_exhaustive]

@@ -13,9 +13,9 @@ pub const STATS_SIZE: usize = 4 * STATS_COUNT;
 
 /// Counters of a link, 32 bits each (IFLA_STATS).
 ///
-/// 24 numbers of four bytes each, 96 bytes, lowest byte first, in the order of `struct rtnl_link_stats` in
-/// linux/if_link.h: field number `i`, counted from 0, stands at offset `4 * i`. Packets and errors are counted in
-/// packets, `rx_bytes` and `tx_bytes` in bytes, `rx_over_errors` in events and `collisions` in collisions.
+/// 24 numbers of four bytes each, 96 bytes, in host order, in the order of `struct rtnl_link_stats` in linux/if_link.h:
+/// field number `i`, counted from 0, stands at offset `4 * i`. Packets and errors are counted in packets, `rx_bytes`
+/// and `tx_bytes` in bytes, `rx_over_errors` in events and `collisions` in collisions.
 #[derive(Clone, Copy, Debug, Default, PartialEq, Eq, Hash)]
 #[cfg_attr(feature = "serde", derive(serde::Serialize, serde::Deserialize))]
 #[non_exhaustive]

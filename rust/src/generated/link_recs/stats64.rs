@@ -13,7 +13,7 @@ pub const STATS64_SIZE: usize = 8 * STATS64_COUNT;
 
 /// Counters of a link, 64 bits each (IFLA_STATS64).
 ///
-/// 25 numbers of eight bytes each, 200 bytes, lowest byte first, in the order of `struct rtnl_link_stats64` in
+/// 25 numbers of eight bytes each, 200 bytes, in host order, in the order of `struct rtnl_link_stats64` in
 /// linux/if_link.h: field number `i`, counted from 0, stands at offset `8 * i`. Packets and errors are counted in
 /// packets, `rx_bytes` and `tx_bytes` in bytes, `rx_over_errors` in events and `collisions` in collisions.
 #[derive(Clone, Copy, Debug, Default, PartialEq, Eq, Hash)]

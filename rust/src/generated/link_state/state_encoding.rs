@@ -14,7 +14,7 @@ use alloc::vec::Vec;
 
 /// The number of the state encoding: it is raised when the table of what moves by itself changes, and when the
 /// canonical form does. Encodings of different numbers are not to be compared, so a store keeps the number beside its
-/// keys.
+/// keys. Nor are those of machines with different byte orders, which `BYTE_ORDER` names: numbers are in host order.
 pub const STATE_FORM: u32 = 2;
 
 /// The place of the header's mask of changed flags, its last four bytes.

@@ -9,8 +9,8 @@ pub const VF_INFO_GUID_SIZE: usize = 16;
 
 /// A global identifier of a virtual function (IFLA_VF_IB_NODE_GUID, IFLA_VF_IB_PORT_GUID).
 ///
-/// `struct ifla_vf_guid` of linux/if_link.h, 16 bytes, numbers with the lowest byte first: `vf_id` at 0, of four bytes;
-/// four bytes of padding, which are not read and written as zeros; `guid` at 8, of eight bytes.
+/// `struct ifla_vf_guid` of linux/if_link.h, 16 bytes, numbers in host order: `vf_id` at 0, of four bytes; four bytes
+/// of padding, which are not read and written as zeros; `guid` at 8, of eight bytes.
 #[derive(Clone, Copy, Debug, Default, PartialEq, Eq, Hash)]
 #[cfg_attr(feature = "serde", derive(serde::Serialize, serde::Deserialize))]
 #[non_exhaustive]

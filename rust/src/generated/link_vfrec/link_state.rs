@@ -10,7 +10,7 @@ pub const VF_INFO_LINK_STATE_SIZE: usize = 8;
 
 /// How the link of a virtual function follows that of its device (IFLA_VF_LINK_STATE).
 ///
-/// `struct ifla_vf_link_state` of linux/if_link.h, 8 bytes, numbers of four bytes, lowest byte first: `vf_id` at 0; the
+/// `struct ifla_vf_link_state` of linux/if_link.h, 8 bytes, numbers of four bytes, in host order: `vf_id` at 0; the
 /// number of `state` at 4.
 #[derive(Clone, Copy, Debug, Default, PartialEq, Eq, Hash)]
 #[cfg_attr(feature = "serde", derive(serde::Serialize, serde::Deserialize))]

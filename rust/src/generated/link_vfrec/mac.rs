@@ -9,8 +9,8 @@ pub const VF_INFO_MAC_SIZE: usize = 36;
 
 /// The hardware address of a virtual function (IFLA_VF_MAC).
 ///
-/// `struct ifla_vf_mac` of linux/if_link.h, 36 bytes: `vf_id` at 0, of four bytes, lowest byte first; the address at 4,
-/// of 32 bytes, with zeros after a shorter one.
+/// `struct ifla_vf_mac` of linux/if_link.h, 36 bytes: `vf_id` at 0, of four bytes, in host order; the address at 4, of
+/// 32 bytes, with zeros after a shorter one.
 #[derive(Clone, Copy, Debug, Default, PartialEq, Eq, Hash)]
 #[cfg_attr(feature = "serde", derive(serde::Serialize, serde::Deserialize))]
 #[non_exhaustive]

@@ -9,7 +9,7 @@ pub const VF_INFO_RATE_SIZE: usize = 12;
 
 /// The bounds of the rate of transmission of a virtual function (IFLA_VF_RATE).
 ///
-/// `struct ifla_vf_rate` of linux/if_link.h, 12 bytes, numbers of four bytes, lowest byte first: `vf_id` at 0;
+/// `struct ifla_vf_rate` of linux/if_link.h, 12 bytes, numbers of four bytes, in host order: `vf_id` at 0;
 /// `min_tx_rate` at 4 and `max_tx_rate` at 8, in megabits a second.
 #[derive(Clone, Copy, Debug, Default, PartialEq, Eq, Hash)]
 #[cfg_attr(feature = "serde", derive(serde::Serialize, serde::Deserialize))]

@@ -10,8 +10,8 @@ pub const VF_INFO_RSS_QUERY_EN_SIZE: usize = 8;
 
 /// Whether the receive side scaling of a virtual function may be asked for (IFLA_VF_RSS_QUERY_EN).
 ///
-/// `struct ifla_vf_rss_query_en` of linux/if_link.h, 8 bytes, numbers of four bytes, lowest byte first: `vf_id` at 0;
-/// at 4 the setting, where 0 and 4294967295 are off and all else is on. It is written as 0 or 1.
+/// `struct ifla_vf_rss_query_en` of linux/if_link.h, 8 bytes, numbers of four bytes, in host order: `vf_id` at 0; at 4
+/// the setting, where 0 and 4294967295 are off and all else is on. It is written as 0 or 1.
 #[derive(Clone, Copy, Debug, Default, PartialEq, Eq, Hash)]
 #[cfg_attr(feature = "serde", derive(serde::Serialize, serde::Deserialize))]
 #[non_exhaustive]

@@ -10,7 +10,7 @@ pub const VF_INFO_TRUST_SIZE: usize = 8;
 
 /// Whether a virtual function is trusted (IFLA_VF_TRUST).
 ///
-/// `struct ifla_vf_trust` of linux/if_link.h, 8 bytes, numbers of four bytes, lowest byte first: `vf_id` at 0; at 4 the
+/// `struct ifla_vf_trust` of linux/if_link.h, 8 bytes, numbers of four bytes, in host order: `vf_id` at 0; at 4 the
 /// setting, where 0 and 4294967295 are off and all else is on. It is written as 0 or 1.
 #[derive(Clone, Copy, Debug, Default, PartialEq, Eq, Hash)]
 #[cfg_attr(feature = "serde", derive(serde::Serialize, serde::Deserialize))]

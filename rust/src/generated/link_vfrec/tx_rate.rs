@@ -9,8 +9,8 @@ pub const VF_INFO_TX_RATE_SIZE: usize = 8;
 
 /// The greatest rate of transmission of a virtual function (IFLA_VF_TX_RATE).
 ///
-/// `struct ifla_vf_tx_rate` of linux/if_link.h, 8 bytes, numbers of four bytes, lowest byte first: `vf_id` at 0; `rate`
-/// at 4, in megabits a second, where 0 is no bound.
+/// `struct ifla_vf_tx_rate` of linux/if_link.h, 8 bytes, numbers of four bytes, in host order: `vf_id` at 0; `rate` at
+/// 4, in megabits a second, where 0 is no bound.
 #[derive(Clone, Copy, Debug, Default, PartialEq, Eq, Hash)]
 #[cfg_attr(feature = "serde", derive(serde::Serialize, serde::Deserialize))]
 #[non_exhaustive]

@@ -11,8 +11,8 @@ pub const VF_VLAN_INFO_SIZE: usize = 16;
 /// One vlan of a virtual function (IFLA_VF_VLAN_INFO).
 ///
 /// `struct ifla_vf_vlan_info` of linux/if_link.h, 16 bytes: `vf_id` at 0, `vlan_id` at 4, 0 to 4095, where 0 turns the
-/// filter off, and `qos` at 8, of four bytes, lowest byte first; the number of `protocol` at 12, of two bytes, highest
-/// byte first; two bytes of padding, which are not read and written as zeros.
+/// filter off, and `qos` at 8, of four bytes, in host order; the number of `protocol` at 12, of two bytes, highest byte
+/// first; two bytes of padding, which are not read and written as zeros.
 #[derive(Clone, Copy, Debug, Default, PartialEq, Eq, Hash)]
 #[cfg_attr(feature = "serde", derive(serde::Serialize, serde::Deserialize))]
 #[non_exhaustive]

@@ -9,8 +9,8 @@ pub const VF_INFO_VLAN_SIZE: usize = 12;
 
 /// The vlan of a virtual function (IFLA_VF_VLAN).
 ///
-/// `struct ifla_vf_vlan` of linux/if_link.h, 12 bytes, numbers of four bytes, lowest byte first: `vf_id` at 0;
-/// `vlan_id` at 4, 0 to 4095, where 0 turns the filter off; `qos` at 8.
+/// `struct ifla_vf_vlan` of linux/if_link.h, 12 bytes, numbers of four bytes, in host order: `vf_id` at 0; `vlan_id` at
+/// 4, 0 to 4095, where 0 turns the filter off; `qos` at 8.
 #[derive(Clone, Copy, Debug, Default, PartialEq, Eq, Hash)]
 #[cfg_attr(feature = "serde", derive(serde::Serialize, serde::Deserialize))]
 #[non_exhaustive]

@@ -35,14 +35,14 @@ impl<'a> NlaBuffer<'a> {
         if bytes.len() < NLA_HEADER_SIZE {
             return Err(frame_fault(Cause::FrameShort { left: bytes.len() }));
         }
-        let length = u16::from_le_bytes([bytes[0], bytes[1]]);
+        let length = u16::from_ne_bytes([bytes[0], bytes[1]]);
         if length as usize > bytes.len() {
             return Err(frame_fault(Cause::FrameOver { length, left: bytes.len() }));
         }
         if length < 4 {
             return Err(frame_fault(Cause::FrameUnder { length }));
         }
-        let kind = u16::from_le_bytes([bytes[2], bytes[3]]);
+        let kind = u16::from_ne_bytes([bytes[2], bytes[3]]);
         Ok(NlaBuffer { kind, value: &bytes[4..length as usize] })
     }
 

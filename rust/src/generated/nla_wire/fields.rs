@@ -15,10 +15,10 @@ pub fn u8_at(bytes: &[u8], place: usize) -> u8 {
     if place < bytes.len() { bytes[place] } else { 0 }
 }
 
-/// The number of two bytes at a place, lowest byte first, with zeros past the end.
+/// The number of two bytes at a place, in host order, with zeros past the end.
 #[cfg_attr(not(debug_assertions), inline(always))]
 pub fn u16_at(bytes: &[u8], place: usize) -> u16 {
-    u16::from_le_bytes([u8_at(bytes, place), u8_at(bytes, place + 1)])
+    u16::from_ne_bytes([u8_at(bytes, place), u8_at(bytes, place + 1)])
 }
 
 /// The number of two bytes at a place, highest byte first, with zeros past the end.
@@ -30,22 +30,22 @@ pub fn be16_at(bytes: &[u8], place: usize) -> u16 {
 /// The number of four bytes at a place whose end the payload has not.
 #[cold]
 fn u32_near_end(bytes: &[u8], place: usize) -> u32 {
-    u32::from_le_bytes([u8_at(bytes, place), u8_at(bytes, place + 1), u8_at(bytes, place + 2), u8_at(bytes, place + 3)])
+    u32::from_ne_bytes([u8_at(bytes, place), u8_at(bytes, place + 1), u8_at(bytes, place + 2), u8_at(bytes, place + 3)])
 }
 
-/// The number of four bytes at a place, lowest byte first, with zeros past the end.
+/// The number of four bytes at a place, in host order, with zeros past the end.
 #[cfg_attr(not(debug_assertions), inline(always))]
 pub fn u32_at(bytes: &[u8], place: usize) -> u32 {
     if bytes.len() < place + 4 {
         return u32_near_end(bytes, place);
     }
-    u32::from_le_bytes([bytes[place], bytes[place + 1], bytes[place + 2], bytes[place + 3]])
+    u32::from_ne_bytes([bytes[place], bytes[place + 1], bytes[place + 2], bytes[place + 3]])
 }
 
 /// The number of eight bytes at a place whose end the payload has not.
 #[cold]
 fn u64_near_end(bytes: &[u8], place: usize) -> u64 {
-    u64::from_le_bytes([
+    u64::from_ne_bytes([
         u8_at(bytes, place),
         u8_at(bytes, place + 1),
         u8_at(bytes, place + 2),
@@ -57,13 +57,13 @@ fn u64_near_end(bytes: &[u8], place: usize) -> u64 {
     ])
 }
 
-/// The number of eight bytes at a place, lowest byte first, with zeros past the end.
+/// The number of eight bytes at a place, in host order, with zeros past the end.
 #[cfg_attr(not(debug_assertions), inline(always))]
 pub fn u64_at(bytes: &[u8], place: usize) -> u64 {
     if bytes.len() < place + 8 {
         return u64_near_end(bytes, place);
     }
-    u64::from_le_bytes([
+    u64::from_ne_bytes([
         bytes[place],
         bytes[place + 1],
         bytes[place + 2],
@@ -107,9 +107,9 @@ pub fn put_bytes(buffer: &mut [u8], place: usize, bytes: &[u8]) {
     room(buffer, place..place + bytes.len()).copy_from_slice(bytes);
 }
 
-/// Puts a number of two bytes at a place, lowest byte first, and keeps the rest.
+/// Puts a number of two bytes at a place, in host order, and keeps the rest.
 pub fn put_u16(buffer: &mut [u8], place: usize, value: u16) {
-    room(buffer, place..place + 2).copy_from_slice(&value.to_le_bytes());
+    room(buffer, place..place + 2).copy_from_slice(&value.to_ne_bytes());
 }
 
 /// Puts a number of two bytes at a place, highest byte first, and keeps the rest.
@@ -117,14 +117,14 @@ pub fn put_be16(buffer: &mut [u8], place: usize, value: u16) {
     room(buffer, place..place + 2).copy_from_slice(&value.to_be_bytes());
 }
 
-/// Puts a number of four bytes at a place, lowest byte first, and keeps the rest.
+/// Puts a number of four bytes at a place, in host order, and keeps the rest.
 pub fn put_u32(buffer: &mut [u8], place: usize, value: u32) {
-    room(buffer, place..place + 4).copy_from_slice(&value.to_le_bytes());
+    room(buffer, place..place + 4).copy_from_slice(&value.to_ne_bytes());
 }
 
-/// Puts a number of eight bytes at a place, lowest byte first, and keeps the rest.
+/// Puts a number of eight bytes at a place, in host order, and keeps the rest.
 pub fn put_u64(buffer: &mut [u8], place: usize, value: u64) {
-    room(buffer, place..place + 8).copy_from_slice(&value.to_le_bytes());
+    room(buffer, place..place + 8).copy_from_slice(&value.to_ne_bytes());
 }
 
 /// Puts a signed number of four bytes at a place, in two's complement, and keeps the rest.
@@ -137,28 +137,28 @@ pub fn put_i64(buffer: &mut [u8], place: usize, value: i64) {
     put_u64(buffer, place, value.to_unsigned());
 }
 
-/// Writes all the numbers, four bytes each, lowest byte first.
+/// Writes all the numbers, four bytes each, in host order.
 pub fn put_u32s(buffer: &mut [u8], words: &[u32]) {
     for (i, word) in words.iter().enumerate() {
         put_u32(buffer, 4 * i, *word);
     }
 }
 
-/// Writes all the numbers, eight bytes each, lowest byte first.
+/// Writes all the numbers, eight bytes each, in host order.
 pub fn put_u64s(buffer: &mut [u8], words: &[u64]) {
     for (i, word) in words.iter().enumerate() {
         put_u64(buffer, 8 * i, *word);
     }
 }
 
-/// Writes all the signed numbers, four bytes each, in two's complement, lowest byte first.
+/// Writes all the signed numbers, four bytes each, in two's complement, in host order.
 pub fn put_i32s(buffer: &mut [u8], words: &[i32]) {
     for (i, word) in words.iter().enumerate() {
         put_i32(buffer, 4 * i, *word);
     }
 }
 
-/// Writes all the signed numbers, eight bytes each, in two's complement, lowest byte first.
+/// Writes all the signed numbers, eight bytes each, in two's complement, in host order.
 pub fn put_i64s(buffer: &mut [u8], words: &[i64]) {
     for (i, word) in words.iter().enumerate() {
         put_i64(buffer, 8 * i, *word);

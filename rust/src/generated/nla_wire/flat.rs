@@ -7,7 +7,7 @@ use crate::nla_wire::write::{
     MOST_VALUE_LEN, at_most_value, write_i32, write_text, write_u8, write_u16, write_u32, write_u64, write_value,
 };
 
-/// What the value of an attribute is written from. Numbers are written lowest byte first.
+/// What the value of an attribute is written from. Numbers are written in host order.
 #[derive(Clone, Copy)]
 pub enum FlatView<'a> {
     /// Bytes, written as they are.
@@ -49,10 +49,10 @@ impl FlatView<'_> {
             FlatView::Bytes(bytes) => fill_bytes(buffer, bytes),
             FlatView::Text(text) => fill_text(buffer, text),
             FlatView::U8(n) => fill_bytes(buffer, &[*n]),
-            FlatView::U16(n) => fill_bytes(buffer, &n.to_le_bytes()),
-            FlatView::U32(n) => fill_bytes(buffer, &n.to_le_bytes()),
-            FlatView::U64(n) => fill_bytes(buffer, &n.to_le_bytes()),
-            FlatView::I32(n) => fill_bytes(buffer, &n.to_le_bytes()),
+            FlatView::U16(n) => fill_bytes(buffer, &n.to_ne_bytes()),
+            FlatView::U32(n) => fill_bytes(buffer, &n.to_ne_bytes()),
+            FlatView::U64(n) => fill_bytes(buffer, &n.to_ne_bytes()),
+            FlatView::I32(n) => fill_bytes(buffer, &n.to_ne_bytes()),
         }
     }
 

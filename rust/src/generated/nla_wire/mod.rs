@@ -126,10 +126,10 @@ macro_rules! member {
     (size some $type:ident, $value:ident) => { $crate::nla_wire::list_measure($value.as_slice()) };
     (size $how:ident $type:ident, $value:ident) => { Some($value.encoded_len()) };
 
-    (fill plain u32, $value:ident, $out:ident) => { $crate::nla_wire::fill_bytes($out, &$value.to_le_bytes()) };
+    (fill plain u32, $value:ident, $out:ident) => { $crate::nla_wire::fill_bytes($out, &$value.to_ne_bytes()) };
     (fill named u8, $value:ident, $out:ident, $read:ident) => { $crate::nla_wire::fill_bytes($out, &[u8::from($value)]) };
     (fill flags u32, $value:ident, $out:ident, $read:ident) => {
-        $crate::nla_wire::fill_bytes($out, &$value.bits().to_le_bytes())
+        $crate::nla_wire::fill_bytes($out, &$value.bits().to_ne_bytes())
     };
     (fill address $type:ident, $value:ident, $out:ident) => { $crate::nla_wire::fill_bytes($out, &$value.octets()) };
     (fill long $type:ident, $value:ident, $out:ident, $len:ident, $buffer:ident) => {

@@ -83,7 +83,7 @@ pub fn list_measure<N: Nla>(nlas: &[N]) -> Option<usize> {
     at_most_value(len)
 }
 
-/// Whether each attribute fits, and the length of their encoding is a `usize`.
+/// Whether each attribute fits, and the encoding is no longer than memory can be.
 pub fn nlas_fit<N: Nla>(nlas: &[N]) -> bool {
     nlas_measure(nlas).is_some()
 }

@@ -29,7 +29,7 @@ pub fn parse_u8(bytes: &[u8]) -> Result<u8, DecodeError> {
     }
 }
 
-/// Reads a number of two bytes in host order, lowest byte first, or refuses with `WrongLength`.
+/// Reads a number of two bytes in host order, or refuses with `WrongLength`.
 ///
 /// [`parse_u32`](crate::parse_u32) has an example.
 ///
@@ -40,7 +40,7 @@ pub fn parse_u16(bytes: &[u8]) -> Result<u16, DecodeError> {
     if bytes.len() != 2 {
         return Err(wrong_length(bytes, 2));
     }
-    Ok(u16::from_le_bytes([bytes[0], bytes[1]]))
+    Ok(u16::from_ne_bytes([bytes[0], bytes[1]]))
 }
 
 /// Reads a number of four bytes in host order, or refuses with `WrongLength`.
@@ -59,7 +59,7 @@ pub fn parse_u32(bytes: &[u8]) -> Result<u32, DecodeError> {
     if bytes.len() != 4 {
         return Err(wrong_length(bytes, 4));
     }
-    Ok(u32::from_le_bytes([bytes[0], bytes[1], bytes[2], bytes[3]]))
+    Ok(u32::from_ne_bytes([bytes[0], bytes[1], bytes[2], bytes[3]]))
 }
 
 /// Reads a number of eight bytes in host order, or refuses with `WrongLength`.
@@ -73,7 +73,7 @@ pub fn parse_u64(bytes: &[u8]) -> Result<u64, DecodeError> {
     if bytes.len() != 8 {
         return Err(wrong_length(bytes, 8));
     }
-    Ok(u64::from_le_bytes([bytes[0], bytes[1], bytes[2], bytes[3], bytes[4], bytes[5], bytes[6], bytes[7]]))
+    Ok(u64::from_ne_bytes([bytes[0], bytes[1], bytes[2], bytes[3], bytes[4], bytes[5], bytes[6], bytes[7]]))
 }
 
 /// Reads a signed number of four bytes in host order, in two's complement, or refuses with `WrongLength`.
@@ -87,7 +87,7 @@ pub fn parse_i32(bytes: &[u8]) -> Result<i32, DecodeError> {
     if bytes.len() != 4 {
         return Err(wrong_length(bytes, 4));
     }
-    Ok(i32::from_le_bytes([bytes[0], bytes[1], bytes[2], bytes[3]]))
+    Ok(i32::from_ne_bytes([bytes[0], bytes[1], bytes[2], bytes[3]]))
 }
 
 /// Reads an IPv6 address, its sixteen octets in order, or refuses with `WrongLength`.
@@ -113,20 +113,20 @@ pub fn parse_ipv6_addr(bytes: &[u8]) -> Result<Ipv6Addr, DecodeError> {
 
 /// Writes a number to the first two bytes, and keeps the rest.
 pub fn emit_u16(buffer: &mut [u8], value: u16) {
-    room(buffer, ..2).copy_from_slice(&value.to_le_bytes());
+    room(buffer, ..2).copy_from_slice(&value.to_ne_bytes());
 }
 
 /// Writes a number to the first four bytes, and keeps the rest.
 pub fn emit_u32(buffer: &mut [u8], value: u32) {
-    room(buffer, ..4).copy_from_slice(&value.to_le_bytes());
+    room(buffer, ..4).copy_from_slice(&value.to_ne_bytes());
 }
 
 /// Writes a number to the first eight bytes, and keeps the rest.
 pub fn emit_u64(buffer: &mut [u8], value: u64) {
-    room(buffer, ..8).copy_from_slice(&value.to_le_bytes());
+    room(buffer, ..8).copy_from_slice(&value.to_ne_bytes());
 }
 
 /// Writes a signed number to the first four bytes, in two's complement, and keeps the rest.
 pub fn emit_i32(buffer: &mut [u8], value: i32) {
-    room(buffer, ..4).copy_from_slice(&value.to_le_bytes());
+    room(buffer, ..4).copy_from_slice(&value.to_ne_bytes());
 }

@@ -36,8 +36,8 @@ pub fn add_len(len: usize, more: usize) -> Option<usize> {
 /// Writes the header of a frame to the first four bytes, and keeps the rest.
 #[cfg_attr(not(debug_assertions), inline(always))]
 pub(crate) fn write_header(out: &mut [u8], len: u16, kind: u16) {
-    room(out, ..2).copy_from_slice(&len.to_le_bytes());
-    room(out, 2..4).copy_from_slice(&kind.to_le_bytes());
+    room(out, ..2).copy_from_slice(&len.to_ne_bytes());
+    room(out, 2..4).copy_from_slice(&kind.to_ne_bytes());
 }
 
 /// Clears at most three bytes, by a store each.
@@ -125,26 +125,26 @@ pub fn write_u8(kind: u16, value: u8, out: &mut [u8]) -> usize {
     write_value(kind, &[value], out)
 }
 
-/// Writes the attribute of this kind with a number of two bytes, lowest byte first.
+/// Writes the attribute of this kind with a number of two bytes, in host order.
 #[cfg_attr(not(debug_assertions), inline(always))]
 pub fn write_u16(kind: u16, value: u16, out: &mut [u8]) -> usize {
-    write_value(kind, &value.to_le_bytes(), out)
+    write_value(kind, &value.to_ne_bytes(), out)
 }
 
-/// Writes the attribute of this kind with a number of four bytes, lowest byte first.
+/// Writes the attribute of this kind with a number of four bytes, in host order.
 #[cfg_attr(not(debug_assertions), inline(always))]
 pub fn write_u32(kind: u16, value: u32, out: &mut [u8]) -> usize {
-    write_value(kind, &value.to_le_bytes(), out)
+    write_value(kind, &value.to_ne_bytes(), out)
 }
 
-/// Writes the attribute of this kind with a number of eight bytes, lowest byte first.
+/// Writes the attribute of this kind with a number of eight bytes, in host order.
 #[cfg_attr(not(debug_assertions), inline(always))]
 pub fn write_u64(kind: u16, value: u64, out: &mut [u8]) -> usize {
-    write_value(kind, &value.to_le_bytes(), out)
+    write_value(kind, &value.to_ne_bytes(), out)
 }
 
 /// Writes the attribute of this kind with a signed number of four bytes, in two's complement.
 #[cfg_attr(not(debug_assertions), inline(always))]
 pub fn write_i32(kind: u16, value: i32, out: &mut [u8]) -> usize {
-    write_value(kind, &value.to_le_bytes(), out)
+    write_value(kind, &value.to_ne_bytes(), out)
 }

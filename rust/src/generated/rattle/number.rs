@@ -41,6 +41,15 @@ macro_rules! casts {
 
 casts!(i8 u8, i16 u16, i32 u32, i64 u64);
 
+/// The most bytes that memory can hold in one piece.
+pub(crate) const MOST_LEN: usize = isize::MAX as usize;
+
+/// So many of a number's eight bytes, which are in host order: the lowest.
+#[cfg_attr(not(debug_assertions), inline(always))]
+pub(crate) fn lowest(bytes: &[u8; 8], count: usize) -> &[u8] {
+    if cfg!(target_endian = "little") { &bytes[..count] } else { &bytes[8 - count..] }
+}
+
 /// A length as the two bytes of a frame's header have it.
 ///
 /// # Panics
