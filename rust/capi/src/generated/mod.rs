@@ -1,0 +1,18 @@
+//! The crates of the library for C, and what stands for Rattle's std.
+
+pub mod line_filter;
+pub mod link_afspec;
+pub mod link_c;
+pub mod link_info;
+pub mod link_msg;
+pub mod link_nest;
+pub mod link_recs;
+pub mod link_state;
+pub mod link_vals;
+pub mod link_vf;
+pub mod link_vfrec;
+pub mod message_diff;
+pub mod message_shown;
+pub mod nla_wire;
+pub mod rattle;
+pub mod shown;
