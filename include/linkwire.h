@@ -6,8 +6,8 @@
  *
  * An attribute is a length of two bytes, a kind of two bytes, and a payload; the length counts the four bytes before
  * the payload, and not the padding after it. The next attribute starts at the next multiple of four, counted from the
- * start of this one. Numbers are in host order, which is lowest byte first: the library is for 64-bit Linux on such
- * machines.
+ * start of this one. Numbers are in host order, as the kernel has them. What is proved of the library is proved for
+ * 64-bit Linux on machines with the lowest byte first; on others it is tested alone.
  *
  * What each function asks of its caller, and does not test:
  * - A pointer is not null, is aligned for what it points to, and has at least as many bytes after it as its length
@@ -259,16 +259,25 @@ uint32_t linkwire_lenient_form(void);
 #define LINKWIRE_NONE NULL
 #endif
 
+/* Where the byte number `i` of a number of `width` bytes stands, counted from its lowest byte. */
+#if defined(__BYTE_ORDER__) && defined(__ORDER_BIG_ENDIAN__) && __BYTE_ORDER__ == __ORDER_BIG_ENDIAN__
+#define LINKWIRE_BYTE(i, width) ((width) - 1 - (i))
+#else
+#define LINKWIRE_BYTE(i, width) (i)
+#endif
+
 /* The number of a kind: its low 14 bits. */
 static inline uint16_t linkwire_number(uint16_t kind) {
     return LINKWIRE_AS(uint16_t, kind & 0x3fff);
 }
 
-/* The number of `width` bytes, lowest first. */
+/* The number of `width` bytes in host order. */
 static inline uint64_t linkwire_le(const uint8_t *bytes, size_t width) {
     uint64_t value = 0;
-    while (width > 0) {
-        value = value << 8 | bytes[--width];
+    size_t i = width;
+    while (i > 0) {
+        i--;
+        value = value << 8 | bytes[LINKWIRE_BYTE(i, width)];
     }
     return value;
 }
@@ -358,12 +367,12 @@ static inline void linkwire_put_bytes(struct linkwire_writer *writer, uint16_t k
     }
 }
 
-/* A number of `width` bytes, at most eight, lowest first. */
+/* A number of `width` bytes, at most eight, in host order. */
 static inline void linkwire_put_le(struct linkwire_writer *writer, uint16_t kind, uint64_t value, size_t width) {
     uint8_t bytes[8] = {0, 0, 0, 0, 0, 0, 0, 0};
     size_t i;
     for (i = 0; i < width; i++) {
-        bytes[i] = LINKWIRE_AS(uint8_t, value >> (8 * i));
+        bytes[LINKWIRE_BYTE(i, width)] = LINKWIRE_AS(uint8_t, value >> (8 * i));
     }
     linkwire_put_bytes(writer, kind, bytes, width);
 }
@@ -443,8 +452,8 @@ static inline void linkwire_nest_end(struct linkwire_writer *writer, size_t begi
     }
     writer->open--;
     writer->refused = writer->open == 0 ? 0 : LINKWIRE_OPEN_NEST;
-    writer->list[begin] = LINKWIRE_AS(uint8_t, len & 0xff);
-    writer->list[begin + 1] = LINKWIRE_AS(uint8_t, len >> 8);
+    writer->list[begin + LINKWIRE_BYTE(0, 2)] = LINKWIRE_AS(uint8_t, len & 0xff);
+    writer->list[begin + LINKWIRE_BYTE(1, 2)] = LINKWIRE_AS(uint8_t, len >> 8);
 }
 
 /* What a number that these functions return means: a phrase for a log, never null. */
@@ -560,6 +569,7 @@ static inline const char *linkwire_type_name(uint16_t type) {
 }
 
 #undef LINKWIRE_AS
+#undef LINKWIRE_BYTE
 #undef LINKWIRE_BYTES
 #undef LINKWIRE_NONE
 
