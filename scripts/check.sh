@@ -68,6 +68,7 @@ programs() {
     python3 scripts/kernel_truth.py --live crates/linkshow/out/linkshow out/linkdump
     scripts/show_tests.sh
     scripts/rust_tests.sh
+    stage processors.sh scripts/processors.sh
     stage compilers.sh scripts/compilers.sh out
     scripts/parallel_test.sh
     scripts/parallel_hosts.sh
