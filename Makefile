@@ -45,8 +45,9 @@ dist-tests: ## runs what is built of dist/ with the toolchain out of reach: here
 test: ## runs all tests and stored runs by cargo, the contracts erased, in a minute; it proves nothing
 	@scripts/erased_tests.sh
 
-rust: ## makes the crate in rust/ anew, of the sources and scripts/erase
+rust: ## makes the crates in rust/ and rust/capi anew, of the sources and scripts/erase
 	@python3 scripts/erase/erase.py crate rust
+	@python3 scripts/erase/erase.py capi rust/capi
 
 lint: ## long lines, edits that no longer fit, shellcheck, pyflakes, and of rust/ rustfmt, clippy and rustdoc
 	@scripts/lint.sh
