@@ -4,7 +4,7 @@ import re
 import subprocess
 import sys
 
-MADE = (r"dist/.*|rust/src/generated/.*|crates\.txt|(bench|tests)/.*\.txt|edits/plants\.md|"
+MADE = (r"dist/.*|rust/(capi/)?src/generated/.*|crates\.txt|(bench|tests)/.*\.txt|edits/plants\.md|"
         r"crates/.*/(std(in|out)|must-fail/.*)")
 files = subprocess.run(["git", "ls-files"], check=True, capture_output=True, text=True, timeout=60).stdout.split("\n")
 lines = [(f"{it}:{at}", it, line.rstrip("\n")) for it in files if it and not re.fullmatch(MADE, it)

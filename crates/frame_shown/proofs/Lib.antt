@@ -8,3 +8,11 @@ pub mod ValuesMeant
 pub mod RecordsMeant
 pub mod FunctionsMeant
 pub mod NamesApart
+pub mod Alike
+pub mod Rows
+pub mod InnerMeant
+pub mod FamiliesMeant
+pub mod ListsMeant
+pub mod AttributesMeant
+pub mod FramesMeant
+pub mod MessagesMeant

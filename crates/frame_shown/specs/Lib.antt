@@ -7,3 +7,4 @@ pub mod Messages
 pub mod Laws
 pub mod Accepted
 pub mod Names
+pub mod Meaning

@@ -1,6 +1,7 @@
 //! What is shown is of what bytes mean.
 
 ghost use Rattle.frame_shown.specs.Laws.{FunctionsAreMeant, RecordsAreMeant, ValuesAreMeant};
+ghost use Rattle.frame_shown.specs.Meaning.{MessagesAreMeant};
 ghost use Rattle.frame_shown.specs.Names.{NamesAreApart};
 ghost use Rattle.frame_shown.specs.Values.{Nesting};
 ghost use Rattle.frame_shown.specs.declared.form.Around.{Around as Beside};
@@ -23,4 +24,10 @@ pub fn law_functions()
 /// No two attributes of a list, and no two fields of a record, have one name.
 pub fn law_names()
     ensures { NamesAreApart }
+{}
+
+/// Bytes that mean one message are shown alike. The header's type of link is shown as its number, also where it has no
+/// name: messages with such types are one message, and are shown alike where their numbers are the same.
+pub fn law_meaning()
+    ensures { (cx : Beside) → MessagesAreMeant cx }
 {}
