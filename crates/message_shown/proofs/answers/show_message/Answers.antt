@@ -18,8 +18,8 @@ returns c =
     c.into.ensures ∙ c.from-family.ensures in
     let shown : c.show_members.new.page ≡ with_members members c.show_header.new.page =
     simp (c.with_address.ensures, c.as_slice-attributes.ensures) at c.in_ok-show_members.ensures in
-    members_next (header_members c.args.bytes.now) members (family_member m) c.args.page.now c.number.new.self
+    members_next (header_members c.args.bytes.now) members (family_member m) c.args.page.now c.keyed_number.new.self
     c.show_members.new.page
-    (c.in_ok-number.ensures
+    (c.in_ok-keyed_number.ensures
     ∙ ap (λ n. with_value (codes "ifi-family") (number (decimal n) ∷ []) c.args.page.now) family)
     (shown ∙ ap (with_members members) c.in_ok-show_header.ensures)

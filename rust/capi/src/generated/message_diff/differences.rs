@@ -3,6 +3,7 @@
 
 use crate::rattle::prelude::Vec;
 use crate::message_diff::leaves::Leaf;
+use crate::message_diff::values::Values;
 use crate::rattle::alloc::{AllocError, Global};
 
 /// A path whose value is not the same in both.
@@ -41,30 +42,16 @@ impl<'a> Change<'a> {
     }
 }
 
-/// The value of a leaf with this path, which is looked for first where it is likely; the next one is likely after it.
-pub fn value_of<'a>(list: &[Leaf<'a>], path: &[u8], likely: &mut usize) -> Option<&'a [u8]> {
-    if *likely < list.len() {
-        let leaf = &list[*likely];
-        if leaf.path == path {
-            *likely += 1;
-            return Some(leaf.value);
-        }
-    }
-    for (i, leaf) in list.iter().enumerate() {
-        if leaf.path == path {
-            *likely = i + 1;
-            return Some(leaf.value);
-        }
-    }
-    None
-}
-
 /// What an old leaf says that the new leaves do not.
-fn change_of<'a>(leaf: &'a Leaf<'a>, new: &'a [Leaf<'a>], likely: &mut usize) -> Option<Change<'a>> {
-    match value_of(new, leaf.path, likely) {
-        None => Some(Change::Went(leaf.path, leaf.value)),
-        Some(value) if value == leaf.value => None,
-        Some(value) => Some(Change::Turned(leaf.path, leaf.value, value)),
+fn change_of<'a>(
+    alloc: Global,
+    leaf: &Leaf<'a>,
+    new: &mut Values<'a>,
+) -> Result<Option<Change<'a>>, AllocError> {
+    match new.get(alloc, leaf.path)? {
+        None => Ok(Some(Change::Went(leaf.path, leaf.value))),
+        Some(value) if value == leaf.value => Ok(None),
+        Some(value) => Ok(Some(Change::Turned(leaf.path, leaf.value, value))),
     }
 }
 
@@ -75,9 +62,9 @@ fn old_changes<'a>(
     new: &'a [Leaf<'a>],
 ) -> Result<Vec<Change<'a>>, AllocError> {
     let mut changes = Vec::new(alloc);
-    let mut likely = 0;
+    let mut values = Values::of(new);
     for leaf in old {
-        match change_of(leaf, new, &mut likely) {
+        match change_of(alloc, leaf, &mut values)? {
             Some(change) => changes.push(change)?,
             None => {}
         }
@@ -94,9 +81,9 @@ pub fn differences<'a>(
     new: &'a [Leaf<'a>],
 ) -> Result<Vec<Change<'a>>, AllocError> {
     let mut changes = old_changes(alloc, old, new)?;
-    let mut likely = 0;
+    let mut values = Values::of(old);
     for leaf in new {
-        match value_of(old, leaf.path, &mut likely) {
+        match values.get(alloc, leaf.path)? {
             Some(_value) => {}
             None => changes.push(Change::Came(leaf.path, leaf.value))?,
         }

@@ -6,10 +6,10 @@ use crate::message_diff::leaves::Leaves;
 use crate::rattle::alloc::{AllocError, Global};
 
 /// So many leaves are passed each time.
-const FEW: usize = 64;
+pub const FEW: usize = 64;
 
 /// So often more leaves are passed before their paths are sorted.
-const PASSES: usize = 8;
+pub const PASSES: usize = 8;
 
 /// Whether a path is among these, which are in the order of their bytes.
 fn is_in(sorted: &[&[u8]], path: &[u8]) -> bool {

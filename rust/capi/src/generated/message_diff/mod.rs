@@ -22,6 +22,7 @@ mod reading;
 mod snapshot;
 mod store;
 mod told;
+mod values;
 mod watch;
 mod words;
 

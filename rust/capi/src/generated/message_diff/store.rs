@@ -4,11 +4,12 @@
 use crate::rattle::vec::ToVecBy;
 use crate::rattle::prelude::Vec;
 use crate::message_diff::announced::{are_two, kind_of};
-use crate::message_diff::key::Key;
+use crate::message_diff::key::{AF_BRIDGE, AF_INET6, AF_UNSPEC, Key};
 use crate::message_diff::snapshot::Snapshot;
 use crate::message_shown::context::Order;
 use crate::rattle::alloc::{AllocError, Global};
 use crate::rattle::collections::BTreeMap;
+use std::ops::Bound;
 
 /// A message, and the words in front of it, where what is told is told at the end.
 pub struct Entry {
@@ -89,6 +90,19 @@ pub struct Host {
     whole: Vec<u8>,
 }
 
+/// The first interface of a family.
+fn start_of(family: u8) -> Bound<Key> {
+    Bound::Included(Key { family, index: 0 })
+}
+
+/// The first one behind all those of a family.
+fn end_of(family: u8) -> Bound<Key> {
+    match family.checked_add(1) {
+        Some(family) => Bound::Excluded(Key { family, index: 0 }),
+        None => Bound::Unbounded,
+    }
+}
+
 /// The hosts, each under its name.
 pub type Hosts = BTreeMap<Vec<u8>, Host>;
 
@@ -100,6 +114,11 @@ impl Host {
             dump: None,
             whole: Vec::new(alloc),
         }
+    }
+
+    /// Whether anything is known, or a dump runs.
+    pub fn knows_any(&self) -> bool {
+        !self.known.is_empty() || self.dump.is_some() || !self.whole.is_empty()
     }
 
     /// A dump with this name began at this place.
@@ -148,14 +167,31 @@ impl Host {
             && !self.is_since(key.in_family(family), begin)
     }
 
-    /// The interfaces, in order, that a dump of this family which began there should have had and did not.
-    pub fn missed(&self, alloc: Global, family: u8, begin: u64) -> Result<Vec<Key>, AllocError> {
-        let mut missed = Vec::new(alloc);
-        for (key, known) in self.known.iter() {
+    /// Adds those in one family, in order, that a dump of another one which began there should have had and did not.
+    fn add_missed(
+        &self,
+        within: u8,
+        family: u8,
+        begin: u64,
+        missed: &mut Vec<Key>,
+    ) -> Result<(), AllocError> {
+        for (key, known) in self.known.range((start_of(within), end_of(within))) {
             if self.is_missed(*key, known, family, begin) {
                 missed.push(*key)?;
             }
         }
+        Ok(())
+    }
+
+    /// The interfaces, in order, that a dump of this family which began there should have had and did not.
+    pub fn missed(&self, alloc: Global, family: u8, begin: u64) -> Result<Vec<Key>, AllocError> {
+        let mut missed = Vec::new(alloc);
+        self.add_missed(family, family, begin, &mut missed)?;
+        if family != AF_UNSPEC {
+            return Ok(missed);
+        }
+        self.add_missed(AF_BRIDGE, family, begin, &mut missed)?;
+        self.add_missed(AF_INET6, family, begin, &mut missed)?;
         Ok(missed)
     }
 

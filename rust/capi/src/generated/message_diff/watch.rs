@@ -353,7 +353,7 @@ impl Watch {
         &self.hosts
     }
 
-    /// Takes what a line with these words says of its host.
+    /// Takes what a line with these words says of its host. One of which nothing is known then is forgotten.
     fn take_said(
         &mut self,
         alloc: Global,
@@ -369,18 +369,28 @@ impl Watch {
         };
         let name = word_of(front, b"host");
         if let Some(host) = self.hosts.get_mut(name) {
-            return line.apply(host, said, &mut self.desk, out);
+            line.apply(host, said, &mut self.desk, out)?;
+            if !host.knows_any() {
+                self.hosts.remove(name);
+            }
+            return Ok(());
         }
         let mut host = Host::new(alloc);
         line.apply(&mut host, said, &mut self.desk, out)?;
-        self.hosts.insert(name.to_vec_by(alloc)?, host)?;
+        if host.knows_any() {
+            self.hosts.insert(name.to_vec_by(alloc)?, host)?;
+        }
         Ok(())
     }
 
     /// Takes that a line with these words says something of its host, and not of which interface.
     fn take_blind(&mut self, front: &[u8]) {
-        if let Some(host) = self.hosts.get_mut(word_of(front, b"host")) {
+        let name = word_of(front, b"host");
+        if let Some(host) = self.hosts.get_mut(name) {
             host.break_dump();
+            if !host.knows_any() {
+                self.hosts.remove(name);
+            }
         }
     }
 

@@ -21,15 +21,15 @@ fn show_link_flags(page: &mut Page, bits: u64) -> Result<(), AllocError> {
 
 /// Adds the index of a link.
 pub fn show_index(page: &mut Page, bytes: &[u8]) -> Result<(), AllocError> {
-    page.signed("ifi-index", i32_at(bytes, 4).into())
+    page.keyed_signed("ifi-index", i32_at(bytes, 4).into())
 }
 
 /// Adds what the header says after its family.
 pub fn show_header(page: &mut Page, bytes: &[u8]) -> Result<(), AllocError> {
-    page.number("ifi-type", u16_at(bytes, 2).into())?;
+    page.keyed_number("ifi-type", u16_at(bytes, 2).into())?;
     show_index(page, bytes)?;
     show_link_flags(page, u32_at(bytes, 8).into())?;
-    page.number("ifi-change", u32_at(bytes, 12).into())
+    page.keyed_number("ifi-change", u32_at(bytes, 12).into())
 }
 
 impl Attribute for LinkAttribute {

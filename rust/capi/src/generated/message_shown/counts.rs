@@ -19,26 +19,26 @@ pub trait Field {
 
 impl Field for u32 {
     fn put(&self, page: &mut Page, name: &str) -> Result<(), AllocError> {
-        page.number(name, (*self).into())
+        page.keyed_number(name, (*self).into())
     }
 }
 
 impl Field for u64 {
     fn put(&self, page: &mut Page, name: &str) -> Result<(), AllocError> {
-        page.number(name, *self)
+        page.keyed_number(name, *self)
     }
 }
 
 impl Field for i32 {
     fn put(&self, page: &mut Page, name: &str) -> Result<(), AllocError> {
-        page.signed(name, (*self).into())
+        page.keyed_signed(name, (*self).into())
     }
 }
 
 /// A counter, which is kept as a number that may be below zero and is none.
 impl Field for i64 {
     fn put(&self, page: &mut Page, name: &str) -> Result<(), AllocError> {
-        page.number(name, self.to_unsigned())
+        page.keyed_number(name, self.to_unsigned())
     }
 }
 
@@ -159,11 +159,11 @@ pub fn show_cache_info(page: &mut Page, name: &str, info: &Inet6CacheInfo) -> Re
 /// Adds the addresses of a device.
 pub fn show_map(page: &mut Page, name: &str, map: &Map) -> Result<(), AllocError> {
     page.begin(name, Nest::Object)?;
-    page.number("mem-start", map.memory_start)?;
-    page.number("mem-end", map.memory_end)?;
-    page.number("base-addr", map.base_address)?;
-    page.number("irq", map.irq.into())?;
-    page.number("dma", map.dma.into())?;
-    page.number("port", map.port.into())?;
+    page.keyed_number("mem-start", map.memory_start)?;
+    page.keyed_number("mem-end", map.memory_end)?;
+    page.keyed_number("base-addr", map.base_address)?;
+    page.keyed_number("irq", map.irq.into())?;
+    page.keyed_number("dma", map.dma.into())?;
+    page.keyed_number("port", map.port.into())?;
     page.end()
 }

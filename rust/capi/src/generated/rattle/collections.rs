@@ -3,6 +3,7 @@
 
 use super::alloc::{AllocError, Global};
 use std::borrow::Borrow;
+use std::ops::RangeBounds;
 
 /// A map of the standard library.
 #[derive(Debug, Default)]
@@ -58,6 +59,10 @@ impl<K: Ord, V> BTreeMap<K, V> {
 
     pub fn iter(&self) -> std::collections::btree_map::Iter<'_, K, V> {
         self.0.iter()
+    }
+
+    pub fn range<R: RangeBounds<K>>(&self, range: R) -> std::collections::btree_map::Range<'_, K, V> {
+        self.0.range(range)
     }
 }
 

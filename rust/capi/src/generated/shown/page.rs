@@ -2,7 +2,7 @@
 //! An object that is written, member by member.
 
 use crate::rattle::prelude::{Box, Vec, format};
-use crate::shown::address::address_text;
+use crate::shown::address::{address_text, put_address, put_hex};
 use crate::shown::marks::Marks;
 use crate::shown::sheet::Sheet;
 use crate::rattle::alloc::{AllocError, Global};
@@ -10,6 +10,9 @@ use std::net::{Ipv4Addr, Ipv6Addr};
 
 /// How many bytes a page has room for at first: those of most messages.
 pub(crate) const ROOM: usize = 8192;
+
+/// The most bytes that are written as digits without asking for memory: those of any hardware address.
+const FEW: usize = 32;
 
 /// What is open in a text.
 #[derive(Clone, Copy)]
@@ -66,14 +69,52 @@ fn put_number(sheet: &mut Sheet, inside: Nest, name: &str, value: u64) -> Result
     }
 }
 
-/// Writes a number that may be below zero, after its name where one is due. Few of a link's are.
+/// Writes a number that may be below zero, after its name where one is due.
 #[inline(always)]
 fn put_signed(sheet: &mut Sheet, inside: Nest, name: &str, value: i64) -> Result<(), AllocError> {
-    if value >= 0 {
-        return put_number(sheet, inside, name, value as u64);
-    }
     put_name(sheet, inside, name)?;
     sheet.signed(value)
+}
+
+/// Writes a number at once, after its name where one is due; whether it did.
+#[inline(always)]
+fn try_number<const IS_KEY: bool>(sheet: &mut Sheet, inside: Nest, name: &str, value: u64) -> bool {
+    match inside {
+        Nest::Object => sheet.try_numbered::<IS_KEY>(name, value),
+        Nest::List => sheet.try_number(value),
+    }
+}
+
+/// Writes a text at once, after its name where one is due; whether it did.
+#[inline(always)]
+fn try_string<const IS_KEY: bool>(sheet: &mut Sheet, inside: Nest, name: &str, text: &[u8]) -> bool {
+    match inside {
+        Nest::Object => sheet.try_named::<IS_KEY>(name, text),
+        Nest::List => sheet.try_string(text),
+    }
+}
+
+/// Writes the beginning of an object or a list, after its name, where it is not written at once.
+#[cold]
+#[inline(never)]
+fn put_begun_late(sheet: &mut Sheet, name: &str, nest: Nest) -> Result<(), AllocError> {
+    sheet.name(name)?;
+    sheet.begin(nest)
+}
+
+/// Writes the beginning of an object or a list, after its name where one is due.
+#[inline(always)]
+fn put_begun<const IS_KEY: bool>(
+    sheet: &mut Sheet,
+    inside: Nest,
+    name: &str,
+    nest: Nest,
+) -> Result<(), AllocError> {
+    match inside {
+        Nest::Object if sheet.try_begun::<IS_KEY>(name, nest) => Ok(()),
+        Nest::Object => put_begun_late(sheet, name, nest),
+        Nest::List => sheet.begin(nest),
+    }
 }
 
 /// Writes a value that is no object and no list.
@@ -211,9 +252,10 @@ impl Page {
         Ok(())
     }
 
-    /// Adds a text.
+    /// Adds a text where it is not written at once.
+    #[cold]
     #[inline(never)]
-    pub fn string(&mut self, name: &str, text: &str) -> Result<(), AllocError> {
+    fn string_late(&mut self, name: &str, text: &str) -> Result<(), AllocError> {
         match self.writing {
             Writing::Plain => (),
             _ => return self.string_marked(name, text),
@@ -225,9 +267,10 @@ impl Page {
         Ok(())
     }
 
-    /// Adds a number.
-    #[inline(always)]
-    pub fn number(&mut self, name: &str, value: u64) -> Result<(), AllocError> {
+    /// Adds a number where it is not written at once.
+    #[cold]
+    #[inline(never)]
+    fn number_late(&mut self, name: &str, value: u64) -> Result<(), AllocError> {
         match self.writing {
             Writing::Plain => (),
             _ => return self.number_marked(name, value),
@@ -238,8 +281,10 @@ impl Page {
         Ok(())
     }
 
-    /// Adds a number that may be below zero.
-    pub fn signed(&mut self, name: &str, value: i64) -> Result<(), AllocError> {
+    /// Adds a number that may be below zero, where it is not written at once.
+    #[cold]
+    #[inline(never)]
+    fn signed_late(&mut self, name: &str, value: i64) -> Result<(), AllocError> {
         match self.writing {
             Writing::Plain => (),
             _ => return self.signed_marked(name, value),
@@ -248,6 +293,80 @@ impl Page {
         put_signed(&mut self.sheet, self.inside, name, value)?;
         self.writing = Writing::Plain;
         Ok(())
+    }
+
+    /// Adds a text at once; whether it did.
+    #[inline(always)]
+    fn try_text<const IS_KEY: bool>(&mut self, name: &str, text: &[u8]) -> bool {
+        match self.writing {
+            Writing::Plain => (),
+            _ => return false,
+        };
+        try_string::<IS_KEY>(&mut self.sheet, self.inside, name, text)
+    }
+
+    /// Adds a number at once; whether it did.
+    #[inline(always)]
+    fn try_number<const IS_KEY: bool>(&mut self, name: &str, value: u64) -> bool {
+        match self.writing {
+            Writing::Plain => (),
+            _ => return false,
+        };
+        try_number::<IS_KEY>(&mut self.sheet, self.inside, name, value)
+    }
+
+    /// Adds a text.
+    #[inline(never)]
+    pub fn string(&mut self, name: &str, text: &str) -> Result<(), AllocError> {
+        if self.try_text::<false>(name, text.as_bytes()) {
+            return Ok(());
+        }
+        self.string_late(name, text)
+    }
+
+    /// Adds a text under a key, a name of which it is known that no byte of it needs an escape.
+    #[inline(never)]
+    pub fn keyed_string(&mut self, name: &str, text: &str) -> Result<(), AllocError> {
+        if self.try_text::<true>(name, text.as_bytes()) {
+            return Ok(());
+        }
+        self.string_late(name, text)
+    }
+
+    /// Adds a number.
+    #[inline(never)]
+    pub fn number(&mut self, name: &str, value: u64) -> Result<(), AllocError> {
+        if self.try_number::<false>(name, value) {
+            return Ok(());
+        }
+        self.number_late(name, value)
+    }
+
+    /// Adds a number under a key.
+    #[inline(never)]
+    pub fn keyed_number(&mut self, name: &str, value: u64) -> Result<(), AllocError> {
+        if self.try_number::<true>(name, value) {
+            return Ok(());
+        }
+        self.number_late(name, value)
+    }
+
+    /// Adds a number that may be below zero.
+    #[inline(always)]
+    pub fn signed(&mut self, name: &str, value: i64) -> Result<(), AllocError> {
+        if value >= 0 {
+            return self.number(name, value as u64);
+        }
+        self.signed_late(name, value)
+    }
+
+    /// Adds a number that may be below zero, under a key.
+    #[inline(always)]
+    pub fn keyed_signed(&mut self, name: &str, value: i64) -> Result<(), AllocError> {
+        if value >= 0 {
+            return self.keyed_number(name, value as u64);
+        }
+        self.signed_late(name, value)
     }
 
     /// Adds `true` or `false`.
@@ -271,8 +390,21 @@ impl Page {
         };
         self.writing = Writing::Broken;
         self.outer.push(self.inside)?;
-        put_name(&mut self.sheet, self.inside, name)?;
-        self.sheet.begin(nest)?;
+        put_begun::<false>(&mut self.sheet, self.inside, name, nest)?;
+        self.inside = nest;
+        self.writing = Writing::Plain;
+        Ok(())
+    }
+
+    /// Begins an object or a list under a key, to which what is added goes from then on.
+    pub fn keyed_begin(&mut self, name: &str, nest: Nest) -> Result<(), AllocError> {
+        match self.writing {
+            Writing::Plain => (),
+            _ => return self.begin_marked(name, nest),
+        };
+        self.writing = Writing::Broken;
+        self.outer.push(self.inside)?;
+        put_begun::<true>(&mut self.sheet, self.inside, name, nest)?;
         self.inside = nest;
         self.writing = Writing::Plain;
         Ok(())
@@ -295,16 +427,44 @@ impl Page {
         Ok(())
     }
 
-    /// Adds bytes as hexadecimal digits.
-    pub fn hex(&mut self, name: &str, bytes: &[u8]) -> Result<(), AllocError> {
+    /// Adds bytes as hexadecimal digits where they are not written at once.
+    #[cold]
+    #[inline(never)]
+    fn hex_late(&mut self, name: &str, bytes: &[u8]) -> Result<(), AllocError> {
         let text = crate::rattle::hex::encode(self.alloc, bytes)?;
         self.string(name, text.as_str())
     }
 
-    /// Adds a hardware address.
-    pub fn address(&mut self, name: &str, bytes: &[u8]) -> Result<(), AllocError> {
+    /// Adds a hardware address where it is not written at once.
+    #[cold]
+    #[inline(never)]
+    fn address_late(&mut self, name: &str, bytes: &[u8]) -> Result<(), AllocError> {
         let text = address_text(self.alloc, bytes)?;
         self.string(name, text.as_str())
+    }
+
+    /// Adds bytes as hexadecimal digits. Those of a few take no memory.
+    pub fn hex(&mut self, name: &str, bytes: &[u8]) -> Result<(), AllocError> {
+        if bytes.len() <= FEW {
+            let mut digits = [0u8; 2 * FEW];
+            let end = put_hex(&mut digits, bytes);
+            if self.try_text::<false>(name, &digits[..end]) {
+                return Ok(());
+            }
+        }
+        self.hex_late(name, bytes)
+    }
+
+    /// Adds a hardware address. One of a few bytes takes no memory.
+    pub fn address(&mut self, name: &str, bytes: &[u8]) -> Result<(), AllocError> {
+        if bytes.len() <= FEW {
+            let mut octets = [0u8; 3 * FEW];
+            let end = put_address(&mut octets, bytes);
+            if self.try_text::<false>(name, &octets[..end]) {
+                return Ok(());
+            }
+        }
+        self.address_late(name, bytes)
     }
 
     /// Adds an IPv4 address, as four decimal numbers with dots between them.

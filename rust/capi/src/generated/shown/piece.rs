@@ -40,7 +40,7 @@ fn reserve(bytes: &mut Vec<u8>, len: usize, more: usize) -> Result<(), AllocErro
 
 /// Stores a byte.
 #[inline(always)]
-fn put_byte(buf: &mut [u8], at: usize, byte: u8) -> usize {
+pub(crate) fn put_byte(buf: &mut [u8], at: usize, byte: u8) -> usize {
     buf[at] = byte;
     at + 1
 }
@@ -90,6 +90,120 @@ fn put_number(buf: &mut [u8], at: usize, value: u64) -> usize {
         return put_byte(buf, at, b'0' + value as u8);
     }
     put_digits(buf, at, value)
+}
+
+/// Stores a name in quotes and a colon, where none of its bytes may need an escape. Of a key this is known, and no byte
+/// is looked at.
+#[inline(always)]
+fn put_name<const IS_KEY: bool>(
+    buf: &mut [u8],
+    at: usize,
+    comma: bool,
+    name: &[u8],
+) -> Option<usize> {
+    let start = put_quote(buf, at, comma);
+    let is_plain = put_text(buf, start, name);
+    let stands = IS_KEY | is_plain;
+    if !stands {
+        return None;
+    }
+    let end = put_byte(buf, start + name.len(), b'"');
+    Some(put_byte(buf, end, b':'))
+}
+
+/// Adds a name and, after a colon, a number, where there is room and the name needs no escape; else nothing.
+#[inline(always)]
+pub(crate) fn try_numbered<const IS_KEY: bool>(
+    bytes: &mut Vec<u8>,
+    len: usize,
+    comma: bool,
+    name: &str,
+    value: u64,
+) -> Option<usize> {
+    let text = name.as_bytes();
+    if text.len() + (4 + DIGITS) > bytes.len() - len {
+        return None;
+    }
+    let buf = bytes.as_mut_slice();
+    match put_name::<IS_KEY>(buf, len, comma, text) {
+        Some(start) => Some(put_number(buf, start, value)),
+        None => None,
+    }
+}
+
+/// Adds a name and, after a colon, a text, where there is room and neither needs an escape; else nothing.
+#[inline(always)]
+pub(crate) fn try_named<const IS_KEY: bool>(
+    bytes: &mut Vec<u8>,
+    len: usize,
+    comma: bool,
+    name: &str,
+    text: &[u8],
+) -> Option<usize> {
+    let front = name.as_bytes();
+    let room = bytes.len() - len;
+    if front.len() + 4 > room || text.len() + 3 > room - (front.len() + 4) {
+        return None;
+    }
+    let buf = bytes.as_mut_slice();
+    match put_name::<IS_KEY>(buf, len, comma, front) {
+        Some(start) => put_quoted(buf, start, false, text),
+        None => None,
+    }
+}
+
+/// Adds a name and, after a colon, a bracket, where there is room and the name needs no escape; else nothing.
+#[inline(always)]
+pub(crate) fn try_begun<const IS_KEY: bool>(
+    bytes: &mut Vec<u8>,
+    len: usize,
+    comma: bool,
+    name: &str,
+    bracket: u8,
+) -> Option<usize> {
+    let text = name.as_bytes();
+    if text.len() + 5 > bytes.len() - len {
+        return None;
+    }
+    let buf = bytes.as_mut_slice();
+    match put_name::<IS_KEY>(buf, len, comma, text) {
+        Some(start) => Some(put_byte(buf, start, bracket)),
+        None => None,
+    }
+}
+
+/// Adds a number, where there is room; else nothing.
+#[inline(always)]
+pub(crate) fn try_number(bytes: &mut Vec<u8>, len: usize, comma: bool, value: u64) -> Option<usize> {
+    if DIGITS + 1 > bytes.len() - len {
+        return None;
+    }
+    let buf = bytes.as_mut_slice();
+    let start = put_comma(buf, len, comma);
+    Some(put_number(buf, start, value))
+}
+
+/// Adds a text in quotes, where there is room and it needs no escape; else nothing.
+#[inline(always)]
+pub(crate) fn try_string(bytes: &mut Vec<u8>, len: usize, comma: bool, text: &[u8]) -> Option<usize> {
+    if text.len() + 3 > bytes.len() - len {
+        return None;
+    }
+    put_quoted(bytes.as_mut_slice(), len, comma, text)
+}
+
+/// Adds a byte, after a comma where one is due.
+#[inline(always)]
+pub(crate) fn add_byte(
+    bytes: &mut Vec<u8>,
+    len: usize,
+    comma: bool,
+    byte: u8,
+) -> Result<usize, AllocError> {
+    reserve(bytes, len, 2)?;
+    let buf = bytes.as_mut_slice();
+    let start = put_comma(buf, len, comma);
+    Ok(put_byte(buf, start, byte))
 }
 
 /// Adds bytes behind the first ones, after a comma where one is due, and returns where they end.

@@ -3,7 +3,10 @@
 
 use crate::rattle::prelude::Vec;
 use crate::shown::page::Nest;
-use crate::shown::piece::{add_bytes, add_name, add_number, add_numbered, add_string};
+use crate::shown::piece::{
+    add_byte, add_bytes, add_name, add_number, add_numbered, add_string, try_begun, try_named,
+    try_number, try_numbered, try_string,
+};
 use crate::rattle::itoa::Buffer;
 use crate::rattle::alloc::{AllocError, Global};
 
@@ -18,19 +21,19 @@ pub(crate) struct Sheet {
 
 /// The bracket that begins an object or a list.
 #[inline(always)]
-fn opening(nest: Nest) -> &'static [u8] {
+fn opening(nest: Nest) -> u8 {
     match nest {
-        Nest::Object => b"{",
-        Nest::List => b"[",
+        Nest::Object => b'{',
+        Nest::List => b'[',
     }
 }
 
 /// The bracket that ends an object or a list.
 #[inline(always)]
-fn closing(nest: Nest) -> &'static [u8] {
+fn closing(nest: Nest) -> u8 {
     match nest {
-        Nest::Object => b"}",
-        Nest::List => b"]",
+        Nest::Object => b'}',
+        Nest::List => b']',
     }
 }
 
@@ -97,6 +100,79 @@ impl Sheet {
         Ok(())
     }
 
+    /// Adds a name and a number at once, where there is room and the name needs no escape; whether it did.
+    #[inline(always)]
+    pub(crate) fn try_numbered<const IS_KEY: bool>(&mut self, name: &str, value: u64) -> bool {
+        let end = match try_numbered::<IS_KEY>(
+            &mut self.bytes,
+            self.len,
+            self.after_value,
+            name,
+            value,
+        ) {
+            Some(end) => end,
+            _ => return false,
+        };
+        self.len = end;
+        self.after_value = true;
+        true
+    }
+
+    /// Adds a number at once, where there is room; whether it did.
+    #[inline(always)]
+    pub(crate) fn try_number(&mut self, value: u64) -> bool {
+        let end = match try_number(&mut self.bytes, self.len, self.after_value, value) {
+            Some(end) => end,
+            _ => return false,
+        };
+        self.len = end;
+        self.after_value = true;
+        true
+    }
+
+    /// Adds a name and a string at once, where there is room and neither needs an escape; whether it did.
+    #[inline(always)]
+    pub(crate) fn try_named<const IS_KEY: bool>(&mut self, name: &str, text: &[u8]) -> bool {
+        let end = match try_named::<IS_KEY>(&mut self.bytes, self.len, self.after_value, name, text) {
+            Some(end) => end,
+            _ => return false,
+        };
+        self.len = end;
+        self.after_value = true;
+        true
+    }
+
+    /// Adds a string at once, where there is room and it needs no escape; whether it did.
+    #[inline(always)]
+    pub(crate) fn try_string(&mut self, text: &[u8]) -> bool {
+        let end = match try_string(&mut self.bytes, self.len, self.after_value, text) {
+            Some(end) => end,
+            _ => return false,
+        };
+        self.len = end;
+        self.after_value = true;
+        true
+    }
+
+    /// Adds a name and the beginning of an object or a list at once, where there is room and the name needs no escape;
+    /// whether it did.
+    #[inline(always)]
+    pub(crate) fn try_begun<const IS_KEY: bool>(&mut self, name: &str, nest: Nest) -> bool {
+        let end = match try_begun::<IS_KEY>(
+            &mut self.bytes,
+            self.len,
+            self.after_value,
+            name,
+            opening(nest),
+        ) {
+            Some(end) => end,
+            _ => return false,
+        };
+        self.len = end;
+        self.after_value = false;
+        true
+    }
+
     /// Adds a number that may be below zero.
     #[inline(always)]
     pub(crate) fn signed(&mut self, value: i64) -> Result<(), AllocError> {
@@ -117,14 +193,14 @@ impl Sheet {
     /// Adds the beginning of an object or a list.
     #[inline(always)]
     pub(crate) fn begin(&mut self, nest: Nest) -> Result<(), AllocError> {
-        self.len = add_bytes(&mut self.bytes, self.len, self.after_value, opening(nest))?;
+        self.len = add_byte(&mut self.bytes, self.len, self.after_value, opening(nest))?;
         self.after_value = false;
         Ok(())
     }
 
     /// Adds the end of an object or a list.
     pub(crate) fn end(&mut self, nest: Nest) -> Result<(), AllocError> {
-        self.len = add_bytes(&mut self.bytes, self.len, false, closing(nest))?;
+        self.len = add_byte(&mut self.bytes, self.len, false, closing(nest))?;
         self.after_value = true;
         Ok(())
     }
