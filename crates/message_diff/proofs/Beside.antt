@@ -32,7 +32,7 @@ use Rattle.message_diff.specs.Files.{StopsAtEnds, TellsNews}
 use Rattle.message_diff.specs.Files.{Found, words_told, found, found_in, found_last, is_replaced, known_at, news_at}
 use Rattle.message_diff.specs.Files.{news_of, tells}
 use Rattle.message_diff.specs.Files.{News, Missing, AreLines, IsLine, Adds, AddsMissing, is_missing, missing_in}
-use Rattle.message_diff.specs.Files.{missing_of, missings, is_last, is_same_as, once}
+use Rattle.message_diff.specs.Files.{missing_of, missings, is_any, is_last, is_same_as, once}
 use Rattle.message_diff.proofs.Once.{twice, dedup_same, dedup_more}
 
 -- ** lines
@@ -279,11 +279,12 @@ told_all ns w x empty none_yet h = (
       ∙ ap (λ u. once (missings u ++ flat_map missing_of ns)) none_yet,
 )
 
-pub tells_all : (old new : Watch) (u v : Option (List ℕ)) (w x : Written) → w.out.items ≡ [] → w.untold.items ≡ []
-    → Adds (all_news old new) w x → Appends u v x.out.items → TellsNews old new u v (missings x.untold.items)
-tells_all old new u v w x empty none_yet h appended =
+pub tells_all : (old new : Watch) (u v : Option (List ℕ)) (w x : Written) (differs : Bool)
+    → differs ≡ is_any x.out.items → w.out.items ≡ [] → w.untold.items ≡ [] → Adds (all_news old new) w x
+    → Appends u v x.out.items → TellsNews old new u v differs (missings x.untold.items)
+tells_all old new u v w x differs any empty none_yet h appended =
     let all = told_all (all_news old new) w x empty none_yet h in
-    record { lines = x.out.items; told = all.0; appended = appended; not_told = all.1 }
+    record { lines = x.out.items; told = all.0; appended = appended; differing = any; not_told = all.1 }
 
 pub stops_writing : (e : RunError) (old new : Watch) (u v : Option (List ℕ)) (w x : Written) → w.out.items ≡ []
     → w.untold.items ≡ [] → Adds (all_news old new) w x → FailedWrite e u v x.out.items → StopsAtEnds e old new u v

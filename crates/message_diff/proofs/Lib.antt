@@ -24,6 +24,7 @@ pub mod Faulted
 pub mod Wireless
 pub mod Once
 pub mod Beside
+pub mod Noted
 pub mod Places
 pub mod Spans
 pub mod Passing

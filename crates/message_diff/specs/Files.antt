@@ -5,7 +5,7 @@ use Rattle.std.specs.Global.{Global}
 use Rattle.std.specs.List.{flat_map, dedup, slice_get}
 use Rattle.std.specs.Map.{keys_of}
 use Rattle.std.specs.Io.KnownBytes.{Appends}
-use Rattle.line_filter.specs.Runs.{RunsAll}
+use Rattle.line_filter.specs.Runs.{RunsAll, Taking}
 use Rattle.line_filter.specs.Steps.{FailedWrite}
 use Rattle.line_filter.specs.declared.error.RunError.{RunError}
 use Rattle.line_filter.specs.declared.error.RunError.TheVariants as Errors
@@ -15,6 +15,10 @@ use Rattle.message_diff.specs.declared.store.Host.{Host}
 use Rattle.message_diff.specs.declared.store.Entry.{Entry}
 use Rattle.message_diff.specs.declared.files.Untold.{Untold}
 use Rattle.message_diff.specs.declared.files.Written.{Written}
+use Rattle.message_diff.specs.declared.files.Noted.{Noted}
+use Rattle.message_diff.specs.declared.files.Findings.{Findings}
+use Rattle.message_diff.specs.declared.files.Outcome.{Outcome}
+use Rattle.message_diff.specs.declared.files.Outcome.TheVariants as Outcomes
 use Rattle.message_diff.specs.declared.snapshot.Compared.{Compared}
 use Rattle.message_diff.specs.declared.watch.Told.{Told}
 use Rattle.message_diff.specs.declared.watch.Told.TheVariants.{Faults}
@@ -204,23 +208,48 @@ abbrev pub WatchesTo : Compared → Told → Watch → Option (List ℕ) → Opt
 WatchesTo by told end left left_after held held_after =
     (first : Watch) × IsFresh by told first × RunsAll takes_line first end left left_after held held_after
 
--- these lines are written, and this is not told
-pub record TellsNews (old new : Watch) (held held_after : Option (List ℕ)) (untold : List Missing) : Type 0 where
+-- whether anything is written
+abbrev pub is_any : List ℕ → Bool
+is_any [] = false
+is_any (x ∷ xs) = true
+
+-- a line is taken, and it is noted whether anything was added
+abbrev pub notes_line : Taking Noted
+notes_line old line new added =
+    takes_line old.watch line new.watch added × (new.is_told ≡ (old.is_told || is_any added))
+
+-- a run from nothing, at whose end this is known, and noted whether anything was written
+abbrev pub NotesTo : Compared → Told → Noted → Option (List ℕ) → Option (List ℕ) → Option (List ℕ) → Option (List ℕ)
+    → Type 0
+NotesTo by told end left left_after held held_after =
+    (run : WatchesTo by told end.watch left left_after held held_after) × (end.is_told ≡ is_any run.2.last.0)
+
+-- these lines are written, whether they are any, and this is not told
+pub record TellsNews (old new : Watch) (held held_after : Option (List ℕ)) (differs : Bool) (untold : List Missing)
+    : Type 0 where
   pub lines : List ℕ
   pub told : AreLines (all_news old new) lines
   pub appended : Appends held held_after lines
+  pub differing : differs ≡ is_any lines
   pub not_told : untold ≡ all_missing (all_news old new)
 
 -- first the faults of the old file are written, then those of the new one, and then what they tell beside each other
 pub record Compares (by : Compared) (left left_after other other_after held held_after : Option (List ℕ))
-    (untold : List Missing) : Type 0 where
+    (beside : Findings) : Type 0 where
   pub old : Watch
   pub new : Watch
   pub between : Option (List ℕ)
   pub behind : Option (List ℕ)
   pub first : WatchesTo by Faults old left left_after held between
   pub second : WatchesTo by Faults new other other_after between behind
-  pub last : TellsNews old new behind held_after untold
+  pub last : TellsNews old new behind held_after beside.differs (missings beside.untold.items)
+  pub faults : beside.has_faults ≡ (is_any first.2.last.0 || is_any second.2.last.0)
+
+-- what two files come to, where a line had a fault, something differs, and this is not told
+abbrev pub outcome_of : (has_faults differs : Bool) → List Missing → Outcome
+outcome_of true differs missing = Outcomes.Trouble
+outcome_of false differs (one ∷ more) = Outcomes.Trouble
+outcome_of false differs [] = cond differs Outcomes.Differ Outcomes.Same
 
 -- where both came to their ends: none of the lines is written where no memory is left, and not all of them where a
 -- write fails

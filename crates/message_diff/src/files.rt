@@ -1,6 +1,7 @@
 //! One file beside another.
 
-ghost use Rattle.std.specs.Prelude.{◌≡◌, ◌∷◌, [], Some, false, true, cond, IfErr, IfOk, OnOk, map, option_copied};
+ghost use Rattle.std.specs.Prelude.{◌≡◌, ◌||◌, ◌∷◌, [], Some, false, true, cond, IfErr, IfOk, OnOk, length, map};
+ghost use Rattle.std.specs.Prelude.{nat_lt, option_copied};
 ghost use Rattle.std.specs.List.{flat_map};
 ghost use Rattle.std.specs.Map.{keys_of};
 ghost use Rattle.message_diff.specs.Known.{in_family};
@@ -8,8 +9,8 @@ ghost use Rattle.message_diff.specs.declared.watch.Told.TheVariants.{Faults};
 ghost use Rattle.message_diff.specs.Watched.{WatchStops, host_in};
 ghost use Rattle.message_diff.specs.Files.{News, words_told, found, found_last, known_at, are_two, tells};
 ghost use Rattle.message_diff.specs.Files.{news_at, gone_of, gone_at, host_news, host_gone, names_in, Adds};
-ghost use Rattle.message_diff.specs.Files.{missings, is_missing, is_last, missing_in, WatchesTo, TellsNews, Compares};
-ghost use Rattle.message_diff.specs.Files.{StopsAtEnds, CompareStops};
+ghost use Rattle.message_diff.specs.Files.{missings, is_missing, is_last, missing_in, NotesTo, TellsNews, Compares};
+ghost use Rattle.message_diff.specs.Files.{StopsAtEnds, CompareStops, is_any, notes_line, outcome_of};
 
 use crate::announced::are_two as names_two;
 use crate::desk::Desk;
@@ -18,6 +19,7 @@ use crate::snapshot::Compared;
 use crate::store::{Entry, Host, Known};
 use crate::told::{push_changed, push_gone, push_new};
 use crate::watch::{Told, Watch};
+use line_filter::answers::Take;
 use line_filter::error::RunError;
 use line_filter::run::read_lines;
 use line_filter::write::write_out;
@@ -49,6 +51,48 @@ impl Untold {
             (record { is_new = is_new; family = family; host = host.now }) (missing_in self.now) }
     {
         is_new == self.is_new && family == self.family && host == self.host.as_slice()
+    }
+}
+
+/// What two files come to beside each other.
+#[derive(Clone, Copy, Debug, PartialEq, Eq)]
+pub enum Outcome {
+    /// They do not differ.
+    Same,
+    /// Something came, went or changed.
+    Differ,
+    /// A line has a fault, or a file has no whole dump of a family, so that they may differ in more than is told.
+    Trouble,
+}
+
+/// Two files beside each other.
+#[derive(Drop)]
+pub struct Findings {
+    /// Whether a line of one of them has a fault.
+    pub has_faults: bool,
+    /// Whether something came, went or changed.
+    pub differs: bool,
+    /// What is not told.
+    pub untold: Vec<Untold>,
+}
+
+impl Findings {
+    /// What they come to.
+    pub fn outcome(&self) -> Outcome
+        ensures { result ≡ outcome_of self.now.has_faults self.now.differs
+            (missings self.now.untold.items) }
+    {
+        if self.has_faults {
+            return Outcome::Trouble;
+        }
+        if !self.untold.is_empty() {
+            return Outcome::Trouble;
+        }
+        if self.differs {
+            Outcome::Differ
+        } else {
+            Outcome::Same
+        }
     }
 }
 
@@ -329,32 +373,68 @@ fn push_went(
     Ok(())
 }
 
-/// What a reader leaves at its end. What has a fault is told.
+/// Whether there are more bytes than so many.
+fn is_longer(bytes: &[u8], len: usize) -> bool
+    ensures { result ≡ nat_lt len (length bytes.now) }
+{
+    len < bytes.len()
+}
+
+/// Takes lines, and notes whether something was told of one.
+#[derive(Drop)]
+struct Noted {
+    watch: Watch,
+    is_told: bool,
+}
+
+impl Take for Noted {
+    ghost takes = { notes_line };
+
+    fn take(&mut self, alloc: Global, line: &[u8], out: &mut Vec<u8>) -> Result<(), AllocError> {
+        let len = out.as_slice().len();
+        self.watch.take(alloc, line, out)?;
+        self.is_told |= is_longer(out.as_slice(), len);
+        Ok(())
+    }
+}
+
+/// What a reader leaves at its end, and whether a line had a fault: nothing else is told.
 fn read_all<R: Read, W: Write>(
     alloc: Global,
     by: Compared,
     reader: &mut R,
     writer: &mut W,
-) -> Result<Watch, RunError>
-    ensures ok { IfOk result (λ last. WatchesTo by Faults last (R.remaining reader.old)
+) -> Result<Noted, RunError>
+    ensures ok { IfOk result (λ last. NotesTo by Faults last (R.remaining reader.old)
         (R.remaining reader.new) (W.contents writer.old) (W.contents writer.new)) }
     ensures err { IfErr result (λ e. WatchStops by Faults e (R.remaining reader.old)
         (R.remaining reader.new) (W.contents writer.old) (W.contents writer.new)) }
 {
-    let mut watch = Watch::new(alloc, by, Told::Faults);
-    read_lines(alloc, &mut watch, reader, writer)?;
-    Ok(watch)
+    let watch = Watch::new(alloc, by, Told::Faults);
+    let mut noted = Noted {
+        watch,
+        is_told: false,
+    };
+    read_lines(alloc, &mut noted, reader, writer)?;
+    Ok(noted)
 }
 
-/// Writes what two files tell beside each other, and returns what they do not tell.
+/// Whether there is any byte.
+fn is_any(bytes: &[u8]) -> bool
+    ensures { result ≡ is_any bytes.now }
+{
+    !bytes.is_empty()
+}
+
+/// Writes what two files tell beside each other, and returns whether that is anything, and what they do not tell.
 fn write_news<W: Write>(
     alloc: Global,
     old: &Watch,
     new: &Watch,
     writer: &mut W,
-) -> Result<Vec<Untold>, RunError>
-    ensures ok { IfOk result (λ untold. TellsNews old.now new.now
-        (W.contents writer.old) (W.contents writer.new) (missings untold.items)) }
+) -> Result<(bool, Vec<Untold>), RunError>
+    ensures ok { IfOk result (λ found. TellsNews old.now new.now
+        (W.contents writer.old) (W.contents writer.new) found.0 (missings found.1.items)) }
     ensures err { IfErr result (λ e. StopsAtEnds e old.now new.now
         (W.contents writer.old) (W.contents writer.new)) }
 {
@@ -365,25 +445,34 @@ fn write_news<W: Write>(
     };
     push_came(alloc, old, new, &mut written)?;
     push_went(alloc, old, new, &mut written)?;
+    let differs = is_any(written.out.as_slice());
     write_out(writer, &mut written.out)?;
     let Written { untold, .. } = written;
-    Ok(untold)
+    Ok((differs, untold))
+}
+
+/// Whether one of two holds.
+fn either(one: bool, other: bool) -> bool
+    ensures { result ≡ (one || other) }
+{
+    one || other
 }
 
 /// Compares what two readers leave at their ends, and writes what came, went or changed: faults first.
 ///
 /// Where dumps began or ended in what a reader gives, it says only of the families of a host of which a dump was whole
-/// what is not there. What is not told for that is returned.
+/// what is not there. What is not told for that is returned, and whether a line had a fault, and whether anything came,
+/// went or changed.
 pub fn compare_readers<R: Read, S: Read, W: Write>(
     alloc: Global,
     by: Compared,
     old: &mut R,
     new: &mut S,
     writer: &mut W,
-) -> Result<Vec<Untold>, RunError>
-    ensures ok { IfOk result (λ untold. Compares by (R.remaining old.old) (R.remaining old.new)
+) -> Result<Findings, RunError>
+    ensures ok { IfOk result (λ beside. Compares by (R.remaining old.old) (R.remaining old.new)
         (S.remaining new.old) (S.remaining new.new)
-        (W.contents writer.old) (W.contents writer.new) (missings untold.items)) }
+        (W.contents writer.old) (W.contents writer.new) beside) }
     ensures err { IfErr result (λ e. CompareStops by e
         (R.remaining old.old) (R.remaining old.new)
         (S.remaining new.old) (S.remaining new.new)
@@ -391,5 +480,12 @@ pub fn compare_readers<R: Read, S: Read, W: Write>(
 {
     let first = read_all(alloc, by, old, writer)?;
     let second = read_all(alloc, by, new, writer)?;
-    write_news(alloc, &first, &second, writer)
+    let has_faults = either(first.is_told, second.is_told);
+    let told = write_news(alloc, &first.watch, &second.watch, writer)?;
+    let (differs, untold) = told;
+    Ok(Findings {
+        has_faults,
+        differs,
+        untold,
+    })
 }
