@@ -86,6 +86,11 @@ pub struct Attribute<'a> {
 }
 
 impl<'a> Attribute<'a> {
+    /// Of this kind, with both flag bits, and this payload.
+    pub(crate) fn new(kind: u16, payload: &'a [u8]) -> Attribute<'a> {
+        Attribute { kind, payload }
+    }
+
     /// The number and the two flag bits above it.
     ///
     /// [`Attribute`] has an example.

@@ -179,6 +179,7 @@ mod rattle;
 pub mod request;
 pub mod typed;
 mod values;
+pub mod view;
 mod writer;
 
 #[path = "generated/link_afspec/mod.rs"]
@@ -208,12 +209,16 @@ mod link_vf;
 #[path = "generated/link_vfrec/mod.rs"]
 #[allow(dead_code, unused_imports)]
 mod link_vfrec;
+#[path = "generated/link_view/mod.rs"]
+#[allow(dead_code, unused_imports)]
+mod link_view;
 #[path = "generated/nla_wire/mod.rs"]
 #[allow(dead_code, unused_imports)]
 mod nla_wire;
 
 pub use link_msg::*;
 pub use link_state::*;
+pub use link_view::*;
 
 pub use attributes::{Attribute, Attributes, attributes};
 pub use calls::{GROWTH, canonical_into, canonical_lenient_into, check, fault_at};

@@ -19,6 +19,7 @@ import tempfile
 import contracts
 import derives
 import examples
+import keys
 import layout
 import memory
 import older
@@ -34,7 +35,7 @@ from source import Source, Unknown
 HERE = os.path.dirname(os.path.abspath(__file__))
 CRATES = os.path.join(HERE, "..", "..", "crates")
 RATTLE = os.path.join(HERE, "rattle")       # what stands for Rattle's std in the crate
-ROOTS = ["link_msg", "link_state"]          # what they give again stands at the root
+ROOTS = ["link_msg", "link_state", "link_view"]     # what they give again stands at the root
 TOPS = ROOTS + ["link_info"]                # they give again what a user sees
 RUN = ["args", "stdin", "stdout"]           # a program's stored run
 LAWS = {"laws"}                             # modules whose functions do nothing: they state laws
@@ -302,6 +303,7 @@ def make_all(mode, out):
     make(mode, out)
     if mode.is_crate:
         write(os.path.join(out, "src", "generated", "places.rs"), typed.text())
+        write(os.path.join(out, "src", "generated", "keys.rs"), keys.text())
         write(os.path.join(out, "MOVING.md"), typed.moving(read(os.path.join(HERE, "..", "..", "rust", "MOVING.md"))))
         if examples.unused(mode):
             raise Unknown(f"examples.md: no public call is named {examples.unused(mode)}")

@@ -5,7 +5,7 @@ from source import Source
 HIDDEN_NAMES = {
     "Action", "Entry", "Kind", "Level", "Nla", "NlaBuffer", "NlaRead", "NlasIterator", "canonical_into",
     "canonical_lenient_into", "check_string", "clear", "emit_i32", "emit_nlas", "emit_u16", "emit_u32",
-    "emit_u64", "fill", "list_measure", "nlas_buffer_len", "nlas_fill", "nlas_fit", "nlas_measure",
+    "emit_u64", "fill", "last_in", "list_measure", "nlas_buffer_len", "nlas_fill", "nlas_fit", "nlas_measure",
     "nlas_write", "same_refusal", "same_room_refusal", "state_into", "state_lenient_into", "thin_families",
     "thin_inet6", "write_list",
 }
@@ -18,7 +18,7 @@ HIDDEN_CALLS = {
 }
 
 # Calls of one type that serve the crates alone, by the type and the name.
-HIDDEN_OF = {("FlatView", "len")}
+HIDDEN_OF = {("FlatView", "len"), ("LinkView", "frames"), ("LinkView", "last")}
 
 # Calls for which the crate has one by hand, which calls them: the names that they have then.
 BY_HAND = {("Info", "set"): "set_value"}
