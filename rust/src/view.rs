@@ -75,6 +75,8 @@ pub trait Key<'a> {
     /// # Errors
     ///
     /// The fault of the payload, as `LinkMessage::parse` has it; there is none after [`LinkView::new`].
+    ///
+    /// [`Key`] has an example.
     fn read(attribute: Attribute<'a>, family: AddressFamily) -> Result<Option<Self::Value>, DecodeError>;
 }
 
@@ -87,7 +89,7 @@ pub trait Keys<'a> {
     ///
     /// # Errors
     ///
-    /// As [`LinkView::get`].
+    /// As [`LinkView::get`], which has an example.
     fn get(self, view: &LinkView<'a>) -> Result<Self::Values, DecodeError>;
 }
 

@@ -76,7 +76,10 @@ macro_rules! lists {
     };
 }
 
-lists! { ProtoInfoBridge ProtoInfoInet6 VfInfoList VfPorts AfSpecBridge AfSpecUnspec Xdp PropList ProtoDownReason DevlinkPort DpllPin }
+lists! {
+    ProtoInfoBridge ProtoInfoInet6 VfInfoList VfPorts AfSpecBridge AfSpecUnspec Xdp PropList ProtoDownReason
+    DevlinkPort DpllPin
+}
 
 /// Of a key `get` is the last attribute of its number, if that is its variant.
 macro_rules! keys {
