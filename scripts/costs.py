@@ -48,7 +48,7 @@ CALLS = ["check", "canonical_len", "canonical", "state", "same_message", "unlike
          "next", "put", "fault_at", "fault_path", "canonical_lenient_len", "canonical_lenient", "state_lenient",
          "refusal_next", "show", "show_leniently", "diff", "diff_leniently"]
 OF_CALLS = ["dumps", "requests", "functions-300", "damaged", "names-of-three", "all-refused"]
-OF_CRATE = [f"{CRATE}_{call}" for call in ("check", "parse", "to_vec", "attributes")]
+OF_CRATE = [f"{CRATE}_{call}" for call in ("check", "parse", "to_vec", "attributes", "view", "unchecked_view")]
 # what count.c counts, and what else the texts may call: where they call more, a cost may stand there that is not seen
 WRAPPED = {"malloc", "calloc", "realloc", "free", "memcpy", "memmove", "memset", "memcmp", "bcmp"}
 CALLED = WRAPPED | {"read", "write", "open", "close", "__sysv_signal"}
