@@ -186,13 +186,15 @@ static void add_text(struct edges *to) {
             memcpy(counted + n, ends[i].at, ends[i].len);
             add(to, copy(counted, n + ends[i].len));
         }
-    /* one byte that is wrong, or a character of two, at each place of blocks of eight, sixteen, 32 and 64 */
-    for (size_t at = 0; at < 130; at++)
-        for (size_t i = 0; i < 2; i++) {
-            memset(counted, 'a', 131);
-            memcpy(counted + at, i ? "\xc3\xa9" : "\x80", 1 + i);
-            add(to, copy(counted, 131));
-        }
+    /* one byte that is wrong, or a character of two, at each place of words, and of blocks of 16, 32 and 64 */
+    static const size_t sizes[] = {7, 8, 12, 16, 31, 131};
+    for (size_t k = 0; k < sizeof sizes / sizeof *sizes; k++)
+        for (size_t at = 0; at + 1 < sizes[k]; at++)
+            for (size_t i = 0; i < (sizes[k] > 100 ? 2 : 1); i++) {
+                memset(counted, '0', sizes[k]);
+                memcpy(counted + at, i ? "\xc3\xa9" : "\x80", 1 + i);
+                add(to, copy(counted, sizes[k]));
+            }
     for (size_t n = 17; n < 40; n++) {
         memset(counted, 'a', n);
         counted[n / 2] = 0xff;
