@@ -13,11 +13,13 @@ export CARGO_TARGET_DIR=$PWD/out/erased-target CARGO_NET_OFFLINE=true
 runs cargo test --quiet --tests --manifest-path out/erased/Cargo.toml
 awk '/^test result: ok/ { sum += $4 } END { print "test: " sum " tests passed, which prove nothing" }' "$folder/log"
 scripts/second.sh "$CARGO_TARGET_DIR/debug"
-# what no second reader says
-tests/second/held.sh "$CARGO_TARGET_DIR/debug" >"$folder/held"
-grep -v '^held ' tests/second/held.txt | cmp "$folder/held" - ||
-    fails 'what rustc makes of linkshow and linkdiff answers otherwise than tests/second/held.txt has'
-echo 'test: linkshow and linkdiff by rustc: the answers of tests/second/held.txt'
+# what no second reader says: builds by LLVM answer so too
+"${CC:-cc}" -std=gnu11 -O2 -DLINES_ALONE -Iinclude -o "$folder/lines" tests/second/lines.c
+for run in linkshow-whole:all linkdiff:news; do
+    what=${run%:*} set=${run#*:}
+    "$folder/lines" "$set" | "$CARGO_TARGET_DIR/debug/${what%-whole}" |
+        "$folder/lines" "$set" compare "$what" tests/second/held.txt || fails "$what: rustc makes another one of it"
+done
 grep -v '^#' tests/program/lenient.txt >"$folder/lenient"
 for run in linkshow:2 linkstate:3; do
     name=${run%:*}
