@@ -121,6 +121,45 @@ def files_hold(program):
     holds("words in two files", found, ["7 changed 2 mtu", "5 gone 3", "8 new 3", "9 new 4", "1 gone 1"])
 
 
+def status(program, *sides, options=("--exit-code",)):
+    """The exit status and how many lines are told of files with these lines; None stands for a file that is missing."""
+    with tempfile.TemporaryDirectory() as folder:
+        names = [f"{folder}/{i}" for i in range(len(sides))]
+        for name, lines in zip(names, sides):
+            if lines is not None:
+                with open(name, "w", encoding="ascii") as it:
+                    it.write("".join(line + "\n" for line in lines))
+        ran = subprocess.run([program, *options, *names], capture_output=True, text=True, check=False)
+    return f"{ran.returncode} {len(ran.stdout.splitlines())}"
+
+
+def statuses_hold(program):
+    """By --exit-code the status is that of diff(1): 0 if nothing differs, 1 if something does, 2 in trouble."""
+    one, other, refused = [link(NAME, mtu(1))], [link(NAME, mtu(2))], [link(NAME, mtu(1)), link(NAME, LATIN_1)]
+    whole, cut = [BEGIN, *one, DONE], [BEGIN, *one]
+    two = [BEGIN, *one, link(NAME, index=6), DONE]
+    rows = [
+        ("the same", (one, one), "0 0"), ("nothing in either", ([], []), "0 0"), ("changed", (one, other), "1 1"),
+        ("new", ([], one), "1 1"), ("gone", (one, []), "1 1"), ("gone by a whole dump", (two, whole), "1 1"),
+        ("only words differ", (["time=1 " + one[0]], ["time=2 " + one[0]]), "0 0"),
+        ("a fault in the old file", (refused, one), "2 1"), ("a fault in the new file", (one, refused), "2 1"),
+        ("a fault where something differs", (refused, other), "2 2"), ("not hex", (one, [*one, "zz"]), "2 1"),
+        ("the new file is cut", (two, cut), "2 0"), ("the old file is cut", (cut, two), "2 0"),
+        ("cut where something differs", (two, [BEGIN, *other]), "2 1"),
+        ("the old file is missing", (None, one), "2 0"), ("the new file is missing", (one, None), "2 0"),
+        ("no files", (), "2 0"), ("one file", (one,), "2 0"),
+    ]
+    for title, sides, wanted in rows:
+        holds(f"--exit-code: {title}", [status(program, *sides)], [wanted])
+    holds("--exit-code --lenient", [status(program, refused, refused, options=("--exit-code", "--lenient"))], ["0 0"])
+    without = [status(program, *sides, options=()) for sides in ((one, other), (refused, one), (two, cut), (one, None))]
+    holds("without --exit-code", without, ["0 1", "0 1", "0 0", "1 0"])
+    with open("/dev/full", "w", encoding="ascii") as full:
+        ran = subprocess.run([program, "--exit-code", os.devnull, "-"], input="".join(one), text=True, stdout=full,
+                             stderr=subprocess.DEVNULL, check=False)
+    holds("--exit-code: a write that fails", [ran.returncode], [2])
+
+
 def has_no_names(program, *lines):
     """Whether counters are told as one list, as those without names are."""
     changes = json.loads(run(program, ["--counters"], lines)[1])["changes"]
@@ -157,7 +196,8 @@ def main(program):
     files_hold(program)
     orders_hold(program)
     hosts_go(program)
-    print(f"linkdiff cases: {len(STREAMS) + 3} of {len(STREAMS) + 3}")
+    statuses_hold(program)
+    print(f"linkdiff cases: {len(STREAMS) + 4} of {len(STREAMS) + 4}")
 
 
 if __name__ == "__main__":

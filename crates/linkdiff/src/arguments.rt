@@ -4,6 +4,22 @@ use message_diff::{Compared, Told};
 use std::alloc::{AllocError, Global};
 use std::env::Args;
 
+/// What the exit status says.
+#[derive(Clone, Copy, Debug, PartialEq, Eq)]
+pub enum Status {
+    /// Whether all was read and written.
+    Run,
+    /// `--exit-code`: whether the files differ.
+    Files,
+}
+
+/// How two files are compared.
+#[derive(Clone, Copy)]
+pub struct Comparison {
+    pub by: Compared,
+    pub status: Status,
+}
+
 /// What the arguments ask for.
 #[derive(Drop)]
 pub enum Request {
@@ -14,13 +30,15 @@ pub enum Request {
     /// Each line of standard input beside the last of its interface.
     Stream(Compared, Told),
     /// One file beside another, of which one may be `-`, standard input.
-    Files(Compared, String, String),
+    Files(Comparison, String, String),
     /// An argument that there is not, or one beside `--help` or `--version`.
     Wrong(String),
     /// One file, or more than two, or `-` twice.
     Count,
     /// `--changes-only` beside files.
     NoStream,
+    /// `--exit-code` without files.
+    NoFiles,
 }
 
 /// The options that may stand together, and the names of files.
@@ -28,14 +46,23 @@ pub enum Request {
 struct Options {
     by: Compared,
     told: Told,
+    status: Status,
     names: Vec<String>,
 }
 
 /// What these ask for.
 fn asked(options: Options) -> Request {
-    let Options { by, told, names } = options;
+    let Options {
+        by,
+        told,
+        status,
+        names,
+    } = options;
     if names.is_empty() {
-        return Request::Stream(by, told);
+        return match status {
+            Status::Run => Request::Stream(by, told),
+            Status::Files => Request::NoFiles,
+        };
     }
     if told == Told::Changes {
         return Request::NoStream;
@@ -46,7 +73,7 @@ fn asked(options: Options) -> Request {
             if old.as_str() == "-" && new.as_str() == "-" {
                 return Request::Count;
             }
-            Request::Files(by, old, new)
+            Request::Files(Comparison { by, status }, old, new)
         }
         _ => Request::Count,
     }
@@ -57,6 +84,7 @@ pub fn requested(alloc: Global, words: Args) -> Result<Request, AllocError> {
     let mut options = Options {
         by: Compared::State,
         told: Told::All,
+        status: Status::Run,
         names: Vec::new(alloc),
     };
     let mut alone = None;
@@ -72,6 +100,7 @@ pub fn requested(alloc: Global, words: Args) -> Result<Request, AllocError> {
             "--counters" => options.by = options.by.with_counters(),
             "--lenient" => options.by = options.by.leniently(),
             "--changes-only" => options.told = Told::Changes,
+            "--exit-code" => options.status = Status::Files,
             "-" => options.names.push(word)?,
             other if other.starts_with("-") => return Ok(Request::Wrong(word)),
             _ => options.names.push(word)?,

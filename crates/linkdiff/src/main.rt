@@ -3,9 +3,12 @@
 
 mod arguments;
 
-use arguments::{Request, requested};
+ghost use Rattle.std.specs.Prelude.{◌≡◌};
+ghost use Rattle.linkdiff.specs.Statuses.{status_of};
+
+use arguments::{Comparison, Request, Status, requested};
 use line_filter::program::{ended, misused, out_of_memory, refuse, refuse_all, write_text};
-use message_diff::{Compared, Told, Untold, compare_readers, watch_lines};
+use message_diff::{Compared, Outcome, Told, Untold, compare_readers, watch_lines};
 use std::env;
 use std::fs::File;
 use std::io::Read;
@@ -15,7 +18,8 @@ use std::process::ExitCode;
 const NAME: &str = "linkdiff";
 
 /// What `--help` writes.
-const HELP: &str = "usage: linkdiff [--counters] [--lenient] [--changes-only | OLD NEW]
+const HELP: &str =
+    "usage: linkdiff [--counters] [--lenient] [--changes-only | [--exit-code] OLD NEW]
        linkdiff --help | --version
 
 Reads lines of hexadecimal digits, each the bytes of a link message of route netlink, and writes a line of JSON for each
@@ -29,6 +33,8 @@ does not have went.
   --lenient       an attribute whose payload is refused does not hide the others: it is compared by its bytes, and its
                   path begins with refused
   --changes-only  no line for what is there as a host is first asked
+  --exit-code     the exit status is 0 if the files do not differ, 1 if they do, and 2 in trouble: if a file is missing,
+                  a line has a fault, or a dump is not whole
   -h, --help      print this
   --version       print the version
 ";
@@ -45,10 +51,11 @@ fn main(rt: HostRuntime) -> ExitCode {
         Ok(Request::Help) => write_text(&rt, NAME, HELP),
         Ok(Request::Version) => write_text(&rt, NAME, VERSION),
         Ok(Request::Stream(by, told)) => run_stream(rt, by, told),
-        Ok(Request::Files(by, old, new)) => run_files(rt, by, old.as_str(), new.as_str()),
+        Ok(Request::Files(how, old, new)) => run_files(rt, how, old.as_str(), new.as_str()),
         Ok(Request::Wrong(word)) => refuse(&rt, NAME, word.as_str()),
         Ok(Request::Count) => misused(&rt, NAME, "two files, or none"),
         Ok(Request::NoStream) => misused(&rt, NAME, "--changes-only goes with no file"),
+        Ok(Request::NoFiles) => misused(&rt, NAME, "--exit-code goes with two files"),
         Err(_) => out_of_memory(&rt, NAME),
     }
 }
@@ -62,49 +69,73 @@ fn run_stream(rt: HostRuntime, by: Compared, told: Told) -> ExitCode {
 }
 
 /// Compares what two files leave at their ends.
-fn run_files(rt: HostRuntime, by: Compared, old: &str, new: &str) -> ExitCode {
+fn run_files(rt: HostRuntime, how: Comparison, old: &str, new: &str) -> ExitCode {
     if old == "-" {
         return match File::open(&rt, new) {
-            Ok(mut second) => run_readers(&rt, by, (old, new), &mut rt.stdin(), &mut second),
-            Err(_) => refuse_file(rt, new),
+            Ok(mut second) => run_readers(&rt, how, (old, new), &mut rt.stdin(), &mut second),
+            Err(_) => refuse_file(rt, how.status, new),
         };
     }
     let Ok(mut first) = File::open(&rt, old) else {
-        return refuse_file(rt, old);
+        return refuse_file(rt, how.status, old);
     };
     if new == "-" {
-        return run_readers(&rt, by, (old, new), &mut first, &mut rt.stdin());
+        return run_readers(&rt, how, (old, new), &mut first, &mut rt.stdin());
     }
     match File::open(&rt, new) {
-        Ok(mut second) => run_readers(&rt, by, (old, new), &mut first, &mut second),
-        Err(_) => refuse_file(rt, new),
+        Ok(mut second) => run_readers(&rt, how, (old, new), &mut first, &mut second),
+        Err(_) => refuse_file(rt, how.status, new),
     }
 }
 
 /// Says that a file cannot be opened.
-fn refuse_file(rt: HostRuntime, name: &str) -> ExitCode {
+fn refuse_file(rt: HostRuntime, status: Status, name: &str) -> ExitCode {
     let _ = eprintln!(rt; "linkdiff: cannot open {name}");
-    ExitCode::FAILURE
+    failure(status)
+}
+
+/// The exit status where the files were not compared.
+fn failure(status: Status) -> ExitCode {
+    match status {
+        Status::Run => ExitCode::FAILURE,
+        Status::Files => ExitCode::from(status_of(Outcome::Trouble)),
+    }
+}
+
+/// The exit status of `--exit-code` where the files came to this.
+fn status_of(outcome: Outcome) -> u8
+    ensures { result ≡ status_of outcome }
+{
+    match outcome {
+        Outcome::Same => 0,
+        Outcome::Differ => 1,
+        Outcome::Trouble => 2,
+    }
 }
 
 /// Compares what two readers leave at their ends, of which these are the names, and says what is not told.
 fn run_readers<R: Read, S: Read>(
     rt: &HostRuntime,
-    by: Compared,
+    how: Comparison,
     names: (&str, &str),
     old: &mut R,
     new: &mut S,
 ) -> ExitCode {
     let mut writer = rt.stdout();
-    let outcome = compare_readers(rt.alloc(), by, old, new, &mut writer);
-    match outcome {
-        Ok(untold) => {
-            for one in untold.as_slice() {
+    match compare_readers(rt.alloc(), how.by, old, new, &mut writer) {
+        Ok(beside) => {
+            for one in beside.untold.as_slice() {
                 tell_untold(rt, names, one);
             }
-            ExitCode::SUCCESS
+            match how.status {
+                Status::Run => ExitCode::SUCCESS,
+                Status::Files => ExitCode::from(status_of(beside.outcome())),
+            }
         }
-        Err(error) => { ended(rt, NAME, Err(error)) }
+        Err(error) => {
+            let _ = ended(rt, NAME, Err(error));
+            failure(how.status)
+        }
     }
 }
 
