@@ -111,7 +111,7 @@ if [ -e tests/second ] && [ -z "${TESTS:-}" ]; then
     $RUN "$folder/lines" all calls | $RUN "$folder/lines" all compare calls "$answers" ||
         fails 'the library answers otherwise than the second reader'
 
-    # what no second reader says: whole objects of JSON, and changes. Builds by three compilers agree on it.
+    # what no second reader says: whole objects of JSON, and changes
     # holds NAME SET PROGRAM WORD..: a program's answers, whole
     holds() {
         what=$1 set=$2
