@@ -10,6 +10,7 @@ use crate::message_diff::snapshot::Compared;
 use crate::message_diff::store::{Entry, Host, Known};
 use crate::message_diff::told::{push_changed, push_gone, push_new};
 use crate::message_diff::watch::{Told, Watch};
+use crate::line_filter::answers::Take;
 use crate::line_filter::error::RunError;
 use crate::line_filter::run::read_lines;
 use crate::line_filter::write::write_out;
@@ -37,6 +38,44 @@ impl Untold {
     /// Whether it is this one.
     fn is(&self, is_new: bool, family: u8, host: &[u8]) -> bool {
         is_new == self.is_new && family == self.family && host == self.host.as_slice()
+    }
+}
+
+/// What two files come to beside each other.
+#[derive(Clone, Copy, Debug, PartialEq, Eq)]
+pub enum Outcome {
+    /// They do not differ.
+    Same,
+    /// Something came, went or changed.
+    Differ,
+    /// A line has a fault, or a file has no whole dump of a family, so that they may differ in more than is told.
+    Trouble,
+}
+
+/// Two files beside each other.
+pub struct Findings {
+    /// Whether a line of one of them has a fault.
+    pub has_faults: bool,
+    /// Whether something came, went or changed.
+    pub differs: bool,
+    /// What is not told.
+    pub untold: Vec<Untold>,
+}
+
+impl Findings {
+    /// What they come to.
+    pub fn outcome(&self) -> Outcome {
+        if self.has_faults {
+            return Outcome::Trouble;
+        }
+        if !self.untold.is_empty() {
+            return Outcome::Trouble;
+        }
+        if self.differs {
+            Outcome::Differ
+        } else {
+            Outcome::Same
+        }
     }
 }
 
@@ -270,25 +309,54 @@ fn push_went(
     Ok(())
 }
 
-/// What a reader leaves at its end. What has a fault is told.
+/// Whether there are more bytes than so many.
+fn is_longer(bytes: &[u8], len: usize) -> bool {
+    len < bytes.len()
+}
+
+/// Takes lines, and notes whether something was told of one.
+struct Noted {
+    watch: Watch,
+    is_told: bool,
+}
+
+impl Take for Noted {
+    fn take(&mut self, alloc: Global, line: &[u8], out: &mut Vec<u8>) -> Result<(), AllocError> {
+        let len = out.as_slice().len();
+        self.watch.take(alloc, line, out)?;
+        self.is_told |= is_longer(out.as_slice(), len);
+        Ok(())
+    }
+}
+
+/// What a reader leaves at its end, and whether a line had a fault: nothing else is told.
 fn read_all<R: Read, W: Write>(
     alloc: Global,
     by: Compared,
     reader: &mut R,
     writer: &mut W,
-) -> Result<Watch, RunError> {
-    let mut watch = Watch::new(alloc, by, Told::Faults);
-    read_lines(alloc, &mut watch, reader, writer)?;
-    Ok(watch)
+) -> Result<Noted, RunError> {
+    let watch = Watch::new(alloc, by, Told::Faults);
+    let mut noted = Noted {
+        watch,
+        is_told: false,
+    };
+    read_lines(alloc, &mut noted, reader, writer)?;
+    Ok(noted)
 }
 
-/// Writes what two files tell beside each other, and returns what they do not tell.
+/// Whether there is any byte.
+fn is_any(bytes: &[u8]) -> bool {
+    !bytes.is_empty()
+}
+
+/// Writes what two files tell beside each other, and returns whether that is anything, and what they do not tell.
 fn write_news<W: Write>(
     alloc: Global,
     old: &Watch,
     new: &Watch,
     writer: &mut W,
-) -> Result<Vec<Untold>, RunError> {
+) -> Result<(bool, Vec<Untold>), RunError> {
     let mut written = Written {
         desk: Desk::new(alloc),
         out: Vec::new(alloc),
@@ -296,23 +364,37 @@ fn write_news<W: Write>(
     };
     push_came(alloc, old, new, &mut written)?;
     push_went(alloc, old, new, &mut written)?;
+    let differs = is_any(written.out.as_slice());
     write_out(writer, &mut written.out)?;
     let Written { untold, .. } = written;
-    Ok(untold)
+    Ok((differs, untold))
+}
+
+/// Whether one of two holds.
+fn either(one: bool, other: bool) -> bool {
+    one || other
 }
 
 /// Compares what two readers leave at their ends, and writes what came, went or changed: faults first.
 ///
 /// Where dumps began or ended in what a reader gives, it says only of the families of a host of which a dump was whole
-/// what is not there. What is not told for that is returned.
+/// what is not there. What is not told for that is returned, and whether a line had a fault, and whether anything came,
+/// went or changed.
 pub fn compare_readers<R: Read, S: Read, W: Write>(
     alloc: Global,
     by: Compared,
     old: &mut R,
     new: &mut S,
     writer: &mut W,
-) -> Result<Vec<Untold>, RunError> {
+) -> Result<Findings, RunError> {
     let first = read_all(alloc, by, old, writer)?;
     let second = read_all(alloc, by, new, writer)?;
-    write_news(alloc, &first, &second, writer)
+    let has_faults = either(first.is_told, second.is_told);
+    let told = write_news(alloc, &first.watch, &second.watch, writer)?;
+    let (differs, untold) = told;
+    Ok(Findings {
+        has_faults,
+        differs,
+        untold,
+    })
 }

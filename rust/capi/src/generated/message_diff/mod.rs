@@ -27,7 +27,7 @@ mod watch;
 mod words;
 
 pub use desk::Desk;
-pub use files::{Untold, compare_readers};
+pub use files::{Findings, Outcome, Untold, compare_readers};
 pub use listed::push_list;
 pub use snapshot::{Compared, Snapshot};
 pub use told::{push_changed, push_compared, push_gone, push_new};

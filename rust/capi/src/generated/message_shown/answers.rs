@@ -113,7 +113,7 @@ pub(crate) fn show_message(
     message: &LinkMessage,
 ) -> Result<(), AllocError> {
     let family = u8::from(message.header.interface_family);
-    page.number("ifi-family", family.into())?;
+    page.keyed_number("ifi-family", family.into())?;
     show_header(page, bytes)?;
     let attributes = message.attributes.as_slice();
     show_members(&cx.with_address(attributes), page, attributes)?;
