@@ -469,12 +469,13 @@ def many(links):
     longest = min(asyncio.run(steps(links)) for _ in range(3))
     wants(f"a step of at most 5 ms of the processor, and not {longest * 1000:.1f}", longest < .005, True)
     with links.watch() as watch:
-        found, waits = [], []
-        while len(found) < 1000:
+        found, waits, end = [], [], time.monotonic() + 30
+        while len(found) < 1000 and time.monotonic() < end:
             begun = time.thread_time()
             found += watch.ready(.001)
             waits.append(time.thread_time() - begun)
-            select.select([watch] if watch.due() != 0 else [], [], [], watch.due())
+            due = watch.due()
+            select.select([watch] if due != 0 else [], [], [], .1 if due is None else due)
         wants("ready with a limit", max(waits) < .02, True)
     print(f"live: {len(names())} links: the longest step takes {longest * 1000:.1f} ms of the processor")
 
