@@ -241,13 +241,12 @@ def loses(links):
 
 
 def until_idle(watch):
-    """What a stream says until it says nothing for a while."""
-    found, last = [], time.monotonic()
-    while time.monotonic() - last < .6:
+    """What a stream says until it was asked forty times in vain, over .6 seconds or more."""
+    found, idle = [], 0
+    while idle < 40:
         new = watch.ready()
-        if new:
-            found, last = found + new, time.monotonic()
-        time.sleep(.01)
+        found, idle = found + new, 0 if new else idle + 1
+        time.sleep(.015)
     return found
 
 
@@ -349,11 +348,13 @@ async def turns(links):
         async for event in watch:
             if "txqlen" in [it.path for it in event.changes]:
                 break
-        try:
-            await asyncio.wait_for(watch.__anext__(), .1)
-            sys.exit("live: an event where nothing happened")
-        except asyncio.TimeoutError:
-            pass
+        for _ in range(100):
+            try:
+                await asyncio.wait_for(watch.__anext__(), .1)
+                sys.exit("live: an event where nothing happened")
+            except asyncio.TimeoutError:
+                if count > 10:
+                    break
     ticking.cancel()
     wants("turns of another task", count > 10, True)
     print("live: asyncio: watch and monitor")
@@ -420,13 +421,14 @@ def asks_within(links):
     """A finalizer or a handler of a signal asks in the middle of a request."""
     import signal
 
-    count = 0
+    count, is_over = 0, False
 
     def handler(*_):
         nonlocal count
         count += 1
         wants("asked within", name_of(links.get(index=1)), "lo")
-        signal.setitimer(signal.ITIMER_REAL, .001)
+        if not is_over:
+            signal.setitimer(signal.ITIMER_REAL, .001)
 
     last = signal.signal(signal.SIGALRM, handler)
     signal.setitimer(signal.ITIMER_REAL, .001)
@@ -434,6 +436,7 @@ def asks_within(links):
         while count < 200:
             wants("asked", name_of(links.get("lo")), "lo")
     finally:
+        is_over = True
         signal.setitimer(signal.ITIMER_REAL, 0)
         signal.signal(signal.SIGALRM, last)
     print("live: requests within requests")
@@ -469,13 +472,15 @@ def many(links):
     longest = min(asyncio.run(steps(links)) for _ in range(3))
     wants(f"a step of at most 5 ms of the processor, and not {longest * 1000:.1f}", longest < .005, True)
     with links.watch() as watch:
-        found, waits, end = [], [], time.monotonic() + 30
-        while len(found) < 1000 and time.monotonic() < end:
+        found, waits = [], []
+        while True:
             begun = time.thread_time()
             found += watch.ready(.001)
             waits.append(time.thread_time() - begun)
+            if len(found) >= 1000:
+                break
             due = watch.due()
-            select.select([watch] if due != 0 else [], [], [], .1 if due is None else due)
+            select.select([watch] if due != 0 else [], [], [], due)
         wants("ready with a limit", max(waits) < .02, True)
     print(f"live: {len(names())} links: the longest step takes {longest * 1000:.1f} ms of the processor")
 
@@ -512,7 +517,7 @@ def main():
     if os.environ.get("LIVE_FORCE") is None and set(names().values()) - {"lo"} - {
             it for it in names().values() if it.startswith(("ifb", "tunl", "sit", "ip6tnl", "gre", "erspan"))}:
         sys.exit("live: not in a namespace of its own: unshare -n python3 tests/python/live.py")
-    faulthandler.dump_traceback_later(300, exit=True)
+    faulthandler.dump_traceback_later(1200, exit=True)  # 25 seconds, and 300 on a busy machine
     ip("link", "set", "lo", "up")
     try:
         ip("link", "add", "try0", "type", "veth", "peer", "name", "try1")

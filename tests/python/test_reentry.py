@@ -57,12 +57,13 @@ class Reentry(unittest.TestCase):
         self.assertGreater(turns[0], 1000)
 
     def test_signals(self):
-        turns = [0]
+        turns, is_over = [0], threading.Event()
 
         def handler(*_):
             turns[0] += 1
             others()
-            signal.setitimer(signal.ITIMER_REAL, .0005)  # once more, and not while this one is handled
+            if not is_over.is_set():
+                signal.setitimer(signal.ITIMER_REAL, .0005)  # once more, and not while this one is handled
 
         last = signal.signal(signal.SIGALRM, handler)
         signal.setitimer(signal.ITIMER_REAL, .0005)
@@ -73,6 +74,7 @@ class Reentry(unittest.TestCase):
                 if at > 50 and turns[0] > 1000:
                     break
         finally:
+            is_over.set()
             signal.setitimer(signal.ITIMER_REAL, 0)
             signal.signal(signal.SIGALRM, last)
 
