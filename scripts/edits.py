@@ -3,6 +3,7 @@
 
     python3 scripts/edits.py edits/CRATE.txt FOLDER [WORDS]
     python3 scripts/edits.py --fit [edits/CRATE.txt ..]
+    python3 scripts/edits.py --table
     python3 scripts/edits.py --apply FILE.edit CRATE
 
 A list has lines '# ..' at its head, then groups and edits with an empty line between them. A group is a line
@@ -14,8 +15,10 @@ is its headline with _ between the words. With WORDS only those files stay in FO
 to each other.
 
 --fit says which edits of the lists (of all lists and of the gate's, in must-fail/, where none is named) do not fit
-their crate's files any more; where none is named, also which edits of must-fail/ and of tests/edits/ have no row in
-docs/PROOFS.md, and which rows there have no edit or name another function than that in which the edit's text stands.
+their crate's files any more; where none is named, also whether the table of edits/README.md is as --table makes it,
+and which edit has no goal there.
+--table makes the table of edits/README.md anew: a row for each edit of must-fail/ and tests/edits/, with the function
+in which its text stands. The goal of an edit is written into its row by hand, and stays there.
 --apply makes one edit in the files of a crate's folder.
 """
 
@@ -24,8 +27,11 @@ import os
 import re
 import sys
 
-PAGE = "docs/PROOFS.md"
-TABLE = "| edit | stands in | goal that stays open | tried in |"
+TOP = os.path.dirname(os.path.dirname(os.path.abspath(__file__)))
+PAGE = "edits/README.md"
+MADE = re.compile(r"(?<=<!-- made by scripts/edits.py --table -->\n).*?(?=<!-- made: end -->\n)", re.S)
+TABLE = "| edit | stands in | goal that stays open | tried in |\n|---|---|---|---|\n"
+NO_GOAL = "?"
 LINE = re.compile(r"(file): (?:src|specs|proofs)/\S+|(old): .*\S.*|(new):(?: .*)?")
 GOES_ON = " " * 8
 
@@ -197,24 +203,42 @@ def edits_of_gate(top):
     return found
 
 
-def rows_of_page(top):
-    """Returns the rows of the table of edits: where, the edit's name and the function that the row names."""
-    table = text_of(f"{top}/{PAGE}").partition(TABLE + "\n")[2].partition("\n\n")[0]
-    for row in table.split("\n")[1:]:
-        edit, function, _, where = (it.strip() for it in row.strip("|").split(" | "))
-        yield where.strip("`"), edit, function.strip("`")
+def goals_of(page):
+    """Returns the goal that the page has of each edit, by where it is tried and its name."""
+    rows = [[it.strip() for it in row.strip("|").split(" | ")] for row in page.split("\n") if row.count(" | ") == 3]
+    return {(where.strip("`"), edit): goal for edit, _, goal, where in rows}
+
+
+def table_of_edits(top, goals):
+    """Returns the table of the edits that the gate and `make check` try, with the goals that are known."""
+    rows = ""
+    for (where, edit), stands in edits_of_gate(top).items():
+        names = ", ".join(f"`{it}`" for it in sorted(stands) if it)
+        rows += f"| {edit} | {names} | {goals.get((where, edit), NO_GOAL)} | `{where}` |\n"
+    return TABLE + rows
+
+
+def page_as_made(top):
+    """Returns the page of edits as it is, and as it is with its table made anew."""
+    page = text_of(f"{top}/{PAGE}")
+    table = table_of_edits(top, goals_of(page))
+    return page, MADE.sub(lambda _: table, page)
 
 
 def unlisted(top):
-    """Returns what the table of edits and the edits say otherwise than each other, a line each."""
-    edits, said = edits_of_gate(top), []
-    for where, edit, function in rows_of_page(top):
-        stands = edits.pop((where, edit), None)
-        if stands is None:
-            said.append(f"{PAGE}: {where}: {edit}: there is no such edit, or it has two rows")
-        elif function not in stands and function not in {it.rpartition("::")[2] for it in stands}:
-            said.append(f"{PAGE}: {where}: {edit}: it stands in {' and '.join(sorted(stands))}, not in {function}")
-    return said + [f"{PAGE}: {where}: {edit}: no row" for where, edit in edits]
+    """Returns where the page of edits is not as it is made, and which edits have no goal there, a line each."""
+    page, made = page_as_made(top)
+    said = [f"{PAGE}: {where}: {edit}: no goal" for (where, edit), goal in goals_of(made).items() if goal == NO_GOAL]
+    if page != made:
+        said.append(f"{PAGE}: it is not as 'python3 scripts/edits.py --table' makes it")
+    return said
+
+
+def make_page(top):
+    _, made = page_as_made(top)
+    with open(f"{top}/{PAGE}", "w", encoding="utf-8") as it:
+        it.write(made)
+    return 0
 
 
 def unfit(title, crate, edits):
@@ -227,24 +251,25 @@ def unfit(title, crate, edits):
 
 
 def fit(paths):
-    top = os.path.dirname(os.path.dirname(os.path.abspath(__file__)))
-    missing = [] if paths else unlisted(top)
+    missing = [] if paths else unlisted(TOP)
     for line in missing:
         print(line)
     failed = len(missing)
-    for folder in [] if paths else sorted(glob.glob(f"{top}/crates/*/must-fail")):
+    for folder in [] if paths else sorted(glob.glob(f"{TOP}/crates/*/must-fail")):
         files = sorted(glob.glob(f"{folder}/*.edit"))
-        failed += unfit(os.path.relpath(folder, top), os.path.dirname(folder),
+        failed += unfit(os.path.relpath(folder, TOP), os.path.dirname(folder),
                         [(os.path.basename(it), lines_of(it)) for it in files])
-    for path in paths or sorted(glob.glob(f"{top}/edits/*.txt") + glob.glob(f"{top}/tests/edits/*.txt")):
-        crate = f"{top}/crates/{os.path.basename(path).removesuffix('.txt')}"
-        failed += unfit(os.path.relpath(path, top), crate, read(path))
+    for path in paths or sorted(glob.glob(f"{TOP}/edits/*.txt") + glob.glob(f"{TOP}/tests/edits/*.txt")):
+        crate = f"{TOP}/crates/{os.path.basename(path).removesuffix('.txt')}"
+        failed += unfit(os.path.relpath(path, TOP), crate, read(path))
     return 1 if failed else 0
 
 
 def main(words):
     if words[:1] == ["--fit"]:
         return fit(words[1:])
+    if words == ["--table"]:
+        return make_page(TOP)
     if words[:1] == ["--apply"] and len(words) == 3:
         return apply(words[1], words[2])
     if len(words) not in (2, 3) or words[0].startswith("-"):
