@@ -1,6 +1,7 @@
 #!/usr/bin/env python3
 """Compares the names that functions of include/linkwire.h return with the tables that linkshow shows and the library
-reads them by: operational states, link modes, flags, hardware types. What differs is printed as it should be."""
+reads them by: operational states, link modes, flags, hardware types. What differs is printed as it should be. And looks
+for each number of the outermost place in linkwire_name, in kind_name, and in numbers.py of python/linkwire."""
 
 import re
 import sys
@@ -9,6 +10,7 @@ from kernel_shown import NAMES, tables
 from shared import read
 
 TYPES = "crates/link_vals/src/link_layer_type.rt"
+NUMBERS, HEADER, PYTHON = "crates/link_msg/src/numbers.rt", "include/linkwire.h", "python/linkwire/numbers.py"
 
 
 def listed(name):
@@ -29,9 +31,25 @@ def types():
 def of_header(name):
     """The same of a function of the header."""
     list_ = rf"\blinkwire_{name}_name\(.*?\bnames\[\] = \{{\n(.*?)\n    \}};"
-    body = re.search(list_, read("include/linkwire.h"), re.S)
+    body = re.search(list_, read(HEADER), re.S)
     pairs = re.findall(r'\{(\d+), "([^"]*)"\}', body[1])
     return [(int(number), text) for number, text in pairs] or re.findall(r'"([^"]*)"', body[1])
+
+
+def lacking():
+    """What lacks of the numbers of the outermost place, a line each."""
+    source = read(NUMBERS)
+    numbers = re.findall(r"^pub const (IFLA_\w+): u16 = (\d+);", source, re.M)
+    assert len(numbers) > 60, "numbers"
+    names = re.search(r"\blinkwire_name\(.*?\bnames\[\] = \{\n(.*?)\n    \};", read(HEADER), re.S)[1]
+    header = dict(enumerate(re.findall(r'"(IFLA_\w+)"', names)))
+    python = set(re.findall(r"^(IFLA_\w+) = (\d+)$", read(PYTHON), re.M))
+    told = set(re.findall(r"\bIFLA_\w+", source.partition("kind_names!(")[2]))
+    for name, number in numbers:
+        found = {HEADER: header.get(int(number)) == name, PYTHON: (name, number) in python, NUMBERS: name in told}
+        for file, words in (HEADER, "linkwire_name"), (PYTHON, "the list"), (NUMBERS, "kind_name"):
+            if not found[file]:
+                yield f"{file}: {words} lacks {name}, {number}"
 
 
 def main():
@@ -39,8 +57,11 @@ def main():
               "type": types()}
     wrong = {name: wanted for name, wanted in tables.items() if of_header(name) != wanted}
     for name, wanted in wrong.items():
-        print(f"include/linkwire.h: linkwire_{name}_name: the names are {wanted}")
-    return bool(wrong)
+        print(f"{HEADER}: linkwire_{name}_name: the names are {wanted}")
+    missing = list(lacking())
+    for line in missing:
+        print(line)
+    return bool(wrong or missing)
 
 
 if __name__ == "__main__":
