@@ -41,9 +41,27 @@ def kind(*names):
     return attribute(18, b"".join(attribute(1, name.encode() + b"\0") for name in names))
 
 
+def refused(number):
+    """Eighty attributes that are refused: each has three bytes."""
+    return [attribute(number, bytes((at, 0, 1))) for at in range(80)]
+
+
+def functions(count):
+    """So many virtual functions, each with one setting."""
+    return attribute(22, b"".join(attribute(1, attribute(4, struct.pack("<II", at, 1))) for at in range(count)))
+
+
 NAME = attribute(3, b"e5\0")
 
 STREAMS = [
+    ("refused attributes whose numbers turn", ["--lenient"], [link(*refused(4)), link(*refused(13))],
+     ["new 5", "changed 5" + " refused.ifla_mtu" * 80 + " refused.ifla_txqlen" * 80]),
+    ("one that is refused behind many whose numbers turn", ["--lenient"],
+     [link(*refused(4), attribute(13, b"a")), link(*refused(5), attribute(13, b"b"))],
+     ["new 5", "changed 5" + " refused.ifla_mtu" * 80 + " refused.ifla_txqlen" + " refused.ifla_link" * 80]),
+    ("many virtual functions that come", [], [link(functions(70)), link(functions(90))],
+     ["new 5", "changed 5" + "".join(f" vfinfo-list.info.{at}.spoofchk.vf vfinfo-list.info.{at}.spoofchk.setting"
+                                     for at in range(70, 90))]),
     ("of kinds that come again in one list the last counts", [],
      [link(kind("veth", "bridge")), link(kind("veth", "vxlan")), link(kind("bridge", "vxlan"))],
      ["new 5", "gone 5", "new 5", "changed 5 linkinfo.repeated.0.kind"]),
