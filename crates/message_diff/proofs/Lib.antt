@@ -32,6 +32,7 @@ pub mod Below
 pub mod PartFrames
 pub mod Unlike
 pub mod ByPath
+pub mod ByLabel
 pub mod Counted
 pub mod LeftOut
 pub mod Clauses

@@ -151,7 +151,7 @@ pub seeks_init : (text : List ℕ) (ms : List Mark) (at end : ℕ) (label : List
     → AreMarksOf text at (marks_in ms at end) f → Seeks text ms at end label f
 seeks_init text ms at end label f are = record { left = f; are = are; last = end_self f; same = refl }
 
-find_first : (label other text : List ℕ) (inside rest : Forest) (b : Bool) → is_text other label ≡ b
+pub find_first : (label other text : List ℕ) (inside rest : Forest) (b : Bool) → is_text other label ≡ b
     → find_tree label (Forest.tree other text inside rest) ≡ cond b (Some (text, inside)) (find_tree label rest)
 find_first label other text inside rest b is = ap (λ t. cond t (Some (text, inside)) (find_tree label rest)) is
 

@@ -17,6 +17,7 @@ pub mod Told
 pub mod Trees
 pub mod Marked
 pub mod Listed
+pub mod Labels
 pub mod Shown
 pub mod Counted
 pub mod Changed

@@ -63,18 +63,23 @@ impl Half {
     }
 
     /// Takes the leaves that the other one does not have.
-    pub fn take_leaves(&mut self, other: &Half) -> Result<(), AllocError>
+    pub fn take_leaves(&mut self, alloc: Global, other: &Half) -> Result<(), AllocError>
         ensures leaves { OnOk result (AreBeside self.old.page other.now.page self.new.leaves) }
         ensures page { self.new.page ≡ self.old.page }
         ensures part { self.new.part ≡ self.old.part }
         ensures order { self.new.order ≡ self.old.order }
     {
         let own = Members::of(&self.page);
-        self.leaves.take(own, other.members(), false)
+        self.leaves.take(alloc, own, other.members(), false)
     }
 
     /// Takes the leaves of the other one that this one does not have; of a part, those whose path it has.
-    pub fn take_leaves_of(&mut self, other: &Half, is_part: bool) -> Result<(), AllocError>
+    pub fn take_leaves_of(
+        &mut self,
+        alloc: Global,
+        other: &Half,
+        is_part: bool,
+    ) -> Result<(), AllocError>
         ensures leaves { OnOk result
             (AreBesideIn is_part other.now.page self.old.page self.new.leaves) }
         ensures page { self.new.page ≡ self.old.page }
@@ -82,6 +87,6 @@ impl Half {
         ensures order { self.new.order ≡ self.old.order }
     {
         let own = Members::of(&self.page);
-        self.leaves.take(other.members(), own, is_part)
+        self.leaves.take(alloc, other.members(), own, is_part)
     }
 }

@@ -1,16 +1,20 @@
 //! The members that two texts do not have in common, one below the other.
 
-ghost use Rattle.std.specs.Prelude.{◌≡◌, ◌++◌, ◌∷◌, ◌<◌, ◌&&◌, ℕ, [], length, nat_lt};
-ghost use Rattle.std.specs.Prelude.{IfOk, IfSome, OnOk, is_some, true};
+ghost use Rattle.std.specs.Prelude.{◌≡◌, ◌+◌, ◌++◌, ◌∷◌, ◌<◌, ◌&&◌, ℕ, [], length, nat_lt};
+ghost use Rattle.std.specs.Prelude.{IfOk, IfSome, OnOk, Some, false, is_some, true};
 ghost use Rattle.message_diff.specs.Differences.{leaves, has_path};
 ghost use Rattle.message_diff.specs.Paths.{start_in, path_in, paths_in};
 ghost use Rattle.message_diff.specs.Sorted.{AreSorted};
 ghost use Rattle.message_diff.specs.Known.{is_text};
 ghost use Rattle.message_diff.specs.Trees.{Forest, find_tree, joined, beside_in};
 ghost use Rattle.message_diff.specs.Marked.{AreMarksOf};
+ghost use Rattle.message_diff.specs.Labels.{HasPlaces};
 ghost use Rattle.message_diff.specs.Listed.{value_in, label_in, leaves_in, mark_at, marks_in};
-ghost use Rattle.message_diff.specs.Listed.{AreApart, IsAt, IsBeside, IsFound, IsLikely, TakesInside, TakesOne};
+ghost use Rattle.message_diff.specs.Listed.{AreApart, IsAt, IsBeside, IsFound, IsLikely};
+ghost use Rattle.message_diff.specs.Listed.{TakesFrom, TakesInside, TakesOne};
 
+use crate::labels::{Places, place_of, places_of};
+use crate::lookup::{FEW, PASSES};
 use crate::members::{Members, name_of, part, value_of};
 use itoa::Buffer;
 use shown::Mark;
@@ -71,7 +75,45 @@ fn are_same(one: &[u8], other: &[u8]) -> bool
     one == other
 }
 
+/// Whether members were passed for one that was found, or for none.
+#[inline(always)]
+fn is_passed(found: Option<usize>, likely: usize) -> bool
+    ensures { result ≡ false → found ≡ Some likely }
+{
+    match found {
+        Some(place) => place != likely,
+        None => true,
+    }
+}
+
+impl Span {
+    /// Whether there are many members, and they were passed so often that they are put in order.
+    fn is_long(self, passes: usize) -> bool
+        ensures { result ≡ true → self.at + 64 < self.end }
+    {
+        passes >= PASSES && self.end.saturating_sub(self.at) > FEW
+    }
+}
+
 impl Both<'_> {
+    /// Whether the other text's member with the name of the one at this place is where it is likely.
+    #[inline(always)]
+    fn is_likely(self, at: usize, others: Span, likely: usize) -> bool
+        requires { at < length self.own.marks.now }
+        ensures within { result ≡ true → likely < length self.entry.others.marks.now }
+        ensures found { result ≡ true → (g : Forest) → AreApart g
+            → IsLikely self.entry.others.text.now self.entry.others.marks.now others.end g likely
+            → IsAt self.entry.others.text.now self.entry.others.marks.now others.end
+            (label_in self.entry.own.text.now (mark_at self.entry.own.marks.now at)) g likely }
+    {
+        let mark = &self.own.marks[at];
+        if likely < others.end && likely < self.others.marks.len() {
+            let other = &self.others.marks[likely];
+            return self.others.is_named_as(other, self.own, mark);
+        }
+        false
+    }
+
     /// The place of the other text's member with the name of the one at this place: it is looked for first where it is
     /// likely.
     #[inline(always)]
@@ -85,14 +127,38 @@ impl Both<'_> {
             → IsFound self.entry.others.text.now self.entry.others.marks.now others.end
             (label_in self.entry.own.text.now (mark_at self.entry.own.marks.now at)) g result }
     {
-        let mark = &self.own.marks[at];
-        if likely < others.end && likely < self.others.marks.len() {
-            let other = &self.others.marks[likely];
-            if self.others.is_named_as(other, self.own, mark) {
-                return Some(likely);
-            }
+        if self.is_likely(at, others, likely) {
+            return Some(likely);
         }
+        let mark = &self.own.marks[at];
         self.others.find(others.at, others.end, self.own, mark)
+    }
+
+    /// The same, where the places of the other text's members are known.
+    fn find_in(
+        self,
+        alloc: Global,
+        at: usize,
+        others: Span,
+        likely: usize,
+        places: &Places,
+    ) -> Result<Option<usize>, AllocError>
+        requires { at < length self.own.marks.now }
+        ensures within { HasPlaces self.entry.others others.at others.end places.now
+            → IfOk result (λ found. IfSome found
+            (λ place. place < length self.entry.others.marks.now)) }
+        ensures found { HasPlaces self.entry.others others.at others.end places.now
+            → IfOk result (λ found. (g : Forest) → AreApart g
+            → AreMarksOf self.entry.others.text.now others.at
+            (marks_in self.entry.others.marks.now others.at others.end) g
+            → IsLikely self.entry.others.text.now self.entry.others.marks.now others.end g likely
+            → IsFound self.entry.others.text.now self.entry.others.marks.now others.end
+            (label_in self.entry.own.text.now (mark_at self.entry.own.marks.now at)) g found) }
+    {
+        if self.is_likely(at, others, likely) {
+            return Ok(Some(likely));
+        }
+        place_of(alloc, places, self.own.text, &self.own.marks[at])
     }
 
     /// The members beside those that are inside the one at this place, where that has leaves: none where the other text
@@ -288,9 +354,11 @@ impl Leaves {
 
     /// Adds the leaves of the member at this place, behind which the next one is there, beside the other text's member
     /// at another place, if there is one.
+    #[inline(always)]
     #[cycle(leaves)]
     fn take_one(
         &mut self,
+        alloc: Global,
         both: Both<'_>,
         at: usize,
         next: usize,
@@ -311,14 +379,20 @@ impl Leaves {
                 at: at + 1,
                 end: next,
             };
-            return self.take_span(both, inside, beside);
+            return self.take_span(alloc, both, inside, beside);
         }
         self.add(at)
     }
 
     /// Adds the leaves of these members beside those of the other text.
     #[cycle(leaves)]
-    fn take_span(&mut self, both: Both<'_>, own: Span, others: Span) -> Result<(), AllocError>
+    fn take_span(
+        &mut self,
+        alloc: Global,
+        both: Both<'_>,
+        own: Span,
+        others: Span,
+    ) -> Result<(), AllocError>
         ensures { OnOk result
             (TakesInside both.entry.is_part both.entry.own.text.now both.entry.own.marks.now own.at own.end
             both.entry.others.text.now both.entry.others.marks.now others.at others.end
@@ -327,12 +401,51 @@ impl Leaves {
         let len = self.path.len();
         let mut at = own.at;
         let mut likely = others.at;
+        let mut passes = 0usize;
         while at < own.end && at < both.own.marks.len() {
             let next = both.own.next_of(at, own.end);
             let found = both.find(at, others, likely);
+            self.path.truncate(len);
+            if is_passed(found, likely) {
+                if others.is_long(passes) {
+                    let left = Span { at, end: own.end };
+                    return self.take_many(alloc, both, left, others, likely);
+                }
+                passes = passes.saturating_add(1);
+            }
+            likely = both.others.behind(found, likely);
+            self.take_one(alloc, both, at, next, found)?;
+            at = next;
+        }
+        Ok(())
+    }
+
+    /// The same, where those of the other text are put in order first.
+    #[inline(never)]
+    #[cycle(leaves)]
+    fn take_many(
+        &mut self,
+        alloc: Global,
+        both: Both<'_>,
+        own: Span,
+        others: Span,
+        first: usize,
+    ) -> Result<(), AllocError>
+        ensures { OnOk result
+            (TakesFrom both.entry.is_part both.entry.own.text.now both.entry.own.marks.now
+            own.at own.end both.entry.others.text.now both.entry.others.marks.now
+            others.at others.end first self.old self.new) }
+    {
+        let places = places_of(alloc, both.others, others.at, others.end)?;
+        let len = self.path.len();
+        let mut at = own.at;
+        let mut likely = first;
+        while at < own.end && at < both.own.marks.len() {
+            let next = both.own.next_of(at, own.end);
+            let found = both.find_in(alloc, at, others, likely, &places)?;
             likely = both.others.behind(found, likely);
             self.path.truncate(len);
-            self.take_one(both, at, next, found)?;
+            self.take_one(alloc, both, at, next, found)?;
             at = next;
         }
         Ok(())
@@ -342,6 +455,7 @@ impl Leaves {
     /// have with another value.
     pub fn take(
         &mut self,
+        alloc: Global,
         own: Members<'_>,
         others: Members<'_>,
         is_part: bool,
@@ -359,6 +473,7 @@ impl Leaves {
             is_part,
         };
         self.take_span(
+            alloc,
             both,
             Span {
                 at: 0,
