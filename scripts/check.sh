@@ -61,6 +61,7 @@ programs() {
     python3 tests/linkdiff/live.py out/linkdump crates/linkdiff/out/linkdiff
     python3 tests/linkdiff/cases.py crates/linkdiff/out/linkdiff
     python3 scripts/headline.py crates/linkwire/out/linkwire crates/linkshow/out/linkshow
+    python3 scripts/linkdiff_page.py crates/linkdiff/out/linkdiff
     python3 scripts/show_damaged.py crates/linkshow/out/linkshow crates/linkwire/out/linkwire
     stage show_beside.py python3 scripts/show_beside.py crates/beside/out/beside crates/linkshow/out/linkshow
     python3 scripts/kernel_messages.py

@@ -1,8 +1,9 @@
 #!/usr/bin/env bash
 # Compares with the second reader of tests/second, line by line, the programs in a folder, the library for C, the
-# package in python/, and linkstate's and linkshow's lenient reading: second.sh FOLDER [LIBRARY [SET]], where SET is
-# `all`, or `wide` for 5,000,000 lines more. Without LIBRARY it compares the programs alone. JOBS is how many processes
-# it takes.
+# package in python/, and linkstate's and linkshow's lenient reading; and holds linkdiff to the laws of
+# docs/LINKDIFF.md: second.sh FOLDER [LIBRARY [SET]], where SET is `all`, with 4,000 streams for linkdiff, or `wide` for
+# 5,000,000 lines more, and 100,000 streams. Without LIBRARY it compares linkwire, linkstate and linkshow alone. JOBS is
+# how many processes it takes.
 . "$(dirname "$0")/common.sh"
 cd "$top"
 programs=$1 library=${2:-} set=${3:-all}
@@ -26,4 +27,9 @@ if [ "$set" = all ]; then
     python3 tests/second/check.py --jobs "$jobs" --set digits --only "linkwire,linkstate,linkstate-lenient,linkshow" \
         "$programs" "$folder/lines" >"$folder/digits" || { cat "$folder/digits"; exit 1; }
     head -n 1 "$folder/digits"
+fi
+if [ -n "$library" ]; then
+    count=4000
+    [ "$set" = all ] || count=100000
+    python3 tests/second/laws.py --streams "$count" "$programs"
 fi

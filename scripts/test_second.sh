@@ -1,6 +1,7 @@
 #!/usr/bin/env bash
 # Looks that what holds the programs without `rt` tells of slips: of a row that is changed in a copy of the tables that
-# the second reader has, and of answers and stored sums that are changed: test_second.sh FOLDER, where the programs are.
+# the second reader has, of answers and stored sums that are changed, and of wrong programs in the place of linkdiff:
+# test_second.sh FOLDER, where the programs are.
 . "$(dirname "$0")/common.sh"
 cd "$top"
 programs=$(realpath "$1")
@@ -60,6 +61,8 @@ cp "$folder/right" "$folder/answers"
 sed -i 's/^linkwire 40 ok .*$/linkwire 40 ok 1 00000000/' "$folder/stored"
 differs 'a stored sum that is changed' 'linkwire: place 40 '
 echo 'second: answers that are changed: each is told'
+
+python3 tests/second/laws.py --slips "$programs"
 
 # a number of the crate in rust/
 if ! command -v cargo >/dev/null; then

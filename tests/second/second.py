@@ -347,21 +347,22 @@ def level(name, first=None, second=None):
     return out
 
 
-def cleared(rows, b):
+def cleared(rows, b, byte=b'\0'):
+    """A list with this byte in the place of what its level clears."""
     out, end = [], 0
     for start, kind, p in frames_in(b):
         what, *said = rows.get(kind & 0x3fff, ['Keep'])
         if what == 'Clear':
-            p = bytes(len(p))
+            p = byte * len(p)
         elif what == 'ClearPart':
             a, z = (int(x) for x in said)
-            p = p[:a] + bytes(len(p[a:z])) + p[z:]
+            p = p[:a] + byte * len(p[a:z]) + p[z:]
         elif what == 'Enter':
-            p = cleared(level(said[0]), p)
+            p = cleared(level(said[0]), p, byte)
         elif what == 'EnterInfo':
             kinds = [next((KINDS[i][q] for _, k, q in frames_in(p) if k & 0x3fff == n and q in KINDS[i]), 'Other')
                      for i, n in ((0, 1), (1, 4))]
-            p = cleared(level('Info', *kinds), p)
+            p = cleared(level('Info', *kinds), p, byte)
         out += [b[start:start + 4], p, b[start + 4 + len(p):(start + 4 + len(p) + 3) & ~3]]
         end = start + 4 + len(p) + 3 & ~3
     return b''.join(out) + b[end:]
@@ -372,3 +373,8 @@ FAMILY_NAME = {n: v for v, n in FAMILY.items()}
 
 def state(t):
     return t[:12] + bytes(4) + cleared(level('Message', FAMILY_NAME.get(t[0])), t[16:])
+
+
+def filled(s):
+    """A state encoding with ones in the place of the attributes' bytes that it has at zero."""
+    return s[:16] + cleared(level('Message', FAMILY_NAME.get(s[0])), s[16:], b'\1')

@@ -1,0 +1,374 @@
+"""A model of linkdiff over what the second reader says of messages and linkshow shows of them, written from
+docs/LINKDIFF.md: messages() knows the messages of lines, and Model says what each line is to be told."""
+import json
+import re
+import subprocess
+import sys
+
+import second
+
+WORD = re.compile(rb"([^= \t]+)=([^ \t]*)(?:[ \t]+|\Z)")
+NUMERAL = re.compile(rb"\+?([0-9]+)")
+IFNAME, WIRELESS, LINKINFO, EVENT = 3, 11, 18, 44
+PARTS = 7, 10
+
+
+def said(program, options, text):
+    """The lines that a program writes when it reads this text."""
+    ran = subprocess.run([program, *options], input=text, capture_output=True, check=False)
+    if ran.returncode or ran.stderr:
+        sys.exit(f"{program} {' '.join(options)} ends with status {ran.returncode}: {ran.stderr.decode()}")
+    return ran.stdout.split(b"\n")[:-1]
+
+
+text_of = json.JSONEncoder(separators=(",", ":"), ensure_ascii=False).encode
+
+
+# ** what a message is
+
+def pieces(b):
+    """The frames of a list, each with its padding; a damaged one has as many bytes as it says, or as are left."""
+    at = 0
+    while at < len(b):
+        left = len(b) - at
+        size = left if left < 4 else min(max((b[at] | b[at + 1] << 8) + 3 & ~3, 4), left)
+        yield b[at:at + size]
+        at += size
+
+
+def number(frame):
+    return (frame[2] | frame[3] << 8) & 0x3fff if len(frame) >= 4 else None
+
+
+def last(b, wanted):
+    """The payload of the last frame of a number; None where there is none, or it is damaged."""
+    found = None
+    for it in pieces(b):
+        if number(it) == wanted:
+            size = it[0] | it[1] << 8
+            found = it[4:size] if 4 <= size <= len(it) else None
+    return found
+
+
+def kind_in(text):
+    """The kind that a message names: the last IFLA_INFO_KIND of the last IFLA_LINKINFO, up to a NUL."""
+    info = last(text[16:], LINKINFO)
+    kind = None if info is None else last(info, 1)
+    return None if kind is None or kind[:1] == b"\0" else kind.split(b"\0")[0]
+
+
+def name_in(text):
+    found = None
+    for it in pieces(text[16:]):
+        if number(it) == IFNAME:
+            try:
+                found = second.text(it[4:it[0] | it[1] << 8])[0][:-1].decode()
+            except second.Fault:
+                pass
+    return found
+
+
+class Message:
+    """What is to be known of digits that spell bytes: the interface, what is compared, and what is shown of that. Of
+    what is refused `text` is None, and of bytes without a header, and of no bytes, `key` is None too."""
+
+    def __init__(self, digits, is_lenient, is_all):
+        self.digits, self.text, self.key, self.shown, self.faults = digits, None, None, {}, {}
+        if not second.is_hex(digits):
+            return
+        b = bytes.fromhex(digits.decode())
+        if len(b) < 16:
+            return
+        self.key = b[0], int.from_bytes(b[4:8], "little")
+        frames = list(pieces(b[16:]))
+        less = [it for it in frames if not (len(it) == 8 and it[:2] == b"\x08\0" and number(it) == EVENT)]
+        numbers = {number(it) for it in frames} - {None}
+        self.is_wireless = WIRELESS in numbers and numbers <= {WIRELESS, IFNAME}
+        word, *found = second.answer(b[:16] + b"".join(less), [] if is_lenient else None)
+        self.word = word
+        if word == "ok":
+            self.text = found[0] if is_all else second.state(found[0])
+            self.kind, self.name = kind_in(self.text), name_in(self.text)
+            self.which = f'"ifi-family":{b[0]},"ifi-index":{int.from_bytes(b[4:8], "little", signed=True)}'
+            self.head = self.which + named(self.name)
+
+
+def named(name):
+    return "" if name is None else f',"ifname":{text_of(name)}'
+
+
+class Shown:
+    """What is shown of a message: the text at each path, in order, and the paths that are counters. `values` are those
+    values, and `settings` those of them that are no counters of zero. `is_single` says whether no path stands twice."""
+
+    def __init__(self, page, filled):
+        page = json.loads(page)
+        leaves = leaves_of(page)
+        self.leaves = dict(reversed(leaves))
+        self.leaves = {path: self.leaves[path] for path, _ in leaves}
+        self.is_single = len(leaves) == len(self.leaves)
+        others = dict(leaves_of(json.loads(filled)))
+        self.counters = {path for path, value in leaves if others.get(path) != value}
+        self.values = {path: json.loads(value) for path, value in self.leaves.items()}
+        self.settings = {path: self.values[path] for path, value in self.leaves.items()
+                         if not (path in self.counters and may_be_zero(value))}
+        self.named = named(page.get("ifname"))
+
+
+def may_be_zero(value):
+    return value == '"none"' or "0" in value and not any(it in value for it in "123456789")
+
+
+def leaves_of(page):
+    """Each path that holds no other, and the text of its value; and of each refused attribute its bytes."""
+    refused, out = page.pop("refused", []), []
+    under("", page, out)
+    for it in refused:
+        path = it.get("in", it["at"])
+        out.append(("refused." + (path if isinstance(path, str) else path[0]).lower(), text_of(it["payload"])))
+    return out
+
+
+def under(path, value, out):
+    parts = value.items() if isinstance(value, dict) else [(str(at), it) for at, it in enumerate(value)
+                                                           if isinstance(it, (dict, list))]
+    if not parts and path:
+        out.append((path, text_of(value)))
+    for name, it in parts:
+        at = f"{path}.{name}" if path else name
+        if isinstance(it, (dict, list)):
+            under(at, it, out)
+        else:
+            out.append((at, text_of(it)))
+
+
+def messages(linkshow, options, texts, kernels):
+    """The messages that these digits spell, as linkdiff compares them with these options."""
+    lenient, is_all = ["--lenient"] if "--lenient" in options else [], "--counters" in options
+    found = [Message(it, bool(lenient), is_all) for it in dict.fromkeys(texts)]
+    for kernel in kernels:
+        front = b"" if kernel is None else b"kernel=" + kernel + b" "
+        asked = []
+        for it in found:
+            if it.text is None:
+                asked.append(front + it.digits)
+            else:
+                asked += [front + it.text.hex().encode(), front + second.filled(it.text).hex().encode()]
+        answers = iter(said(linkshow, lenient, b"".join(it + b"\n" for it in asked)))
+        skipped = '"kernel":' + text_of((kernel or b"").decode()) + ","
+        for it in found:
+            page = next(answers).decode().replace(skipped, "", 1)
+            if it.text is None:
+                it.faults[kernel] = page[1:]
+                if it.key is not None and it.word != "refused":
+                    it.faults[kernel] = f'"fault":"{it.word}"}}'
+            else:
+                it.shown[kernel] = Shown(page, next(answers))
+    return {it.digits: it for it in found}
+
+
+# ** what changed
+
+def changes(old, new, is_all):
+    """The list `changes` of two messages, each with how it is shown."""
+    (was, before), (now, after) = old, new
+    olds, news = (set(), set()) if is_all else (before.counters, after.counters)
+    rows = [(path, value, after.leaves.get(path)) for path, value in before.leaves.items()
+            if after.leaves.get(path) != value]
+    rows += [(path, None, value) for path, value in after.leaves.items() if path not in before.leaves]
+    out = []
+    for path, one, other in rows:
+        one = None if one and path in olds and may_be_zero(one) else one
+        other = None if other and path in news and may_be_zero(other) else other
+        if one is not None or other is not None:
+            out.append((path, one, other))
+    out = out or [("state", f'"{was.text.hex()}"', f'"{now.text.hex()}"')]
+    return "[" + ",".join(
+        f'{{"path":{text_of(path)}' + ("" if one is None else f',"old":{one}')
+        + ("" if other is None else f',"new":{other}') + "}" for path, one, other in out) + "]"
+
+
+# ** lines
+
+def front_member(name, value):
+    if value.isalnum():
+        return f'"{name.decode()}":"{value.decode()}",'
+    try:
+        value = value.decode()
+    except UnicodeDecodeError:
+        value = value.hex()
+    return f'"{name.decode()}":{text_of(value)},'
+
+
+class Line:
+    """The words in front of a line, and what follows them: `message` is None where words stand alone."""
+    __slots__ = "words", "message", "host", "kernel", "kind", "front"
+
+    def __init__(self, line, known):
+        self.words, at = {}, 0
+        while it := WORD.match(line, at):
+            self.words.setdefault(it[1], it[2])
+            at = it.end()
+        digits = line[at:]
+        self.message = None
+        if digits or not at:
+            self.message = known[digits[3:] if digits[:3] == b"ok " else digits]
+        self.host = self.words.get(b"host", b"")
+        self.kernel, self.kind = self.words.get(b"kernel"), self.words.get(b"type")
+        self.front = ""
+        for name in (b"type", b"time", b"host"):
+            if name in self.words:
+                self.front += front_member(name, self.words[name])
+
+    def told(self, change, head):
+        return f'{{{self.front}"change":"{change}",{head}}}'
+
+
+class Seen:
+    """What is known of an interface: its last line, its last accepted message and that line's `kernel=`, its kind, and
+    the words of that line."""
+    __slots__ = "at", "last", "kernel", "kind", "line"
+
+    def __init__(self, at):
+        self.at, self.last, self.kernel, self.kind, self.line = at, None, None, None, None
+
+
+class Host:
+    def __init__(self):
+        self.seen, self.run, self.whole = {}, None, set()
+
+
+class Model:
+    """What is known of each host after some lines. `is_told` is false of a file, of which faults alone are written.
+    `first` has the lines `new` that --changes-only leaves out."""
+
+    def __init__(self, options, is_told=True):
+        self.is_all, self.is_told = "--counters" in options, is_told
+        self.hosts, self.at, self.has_dumps, self.first, self.found = {}, 0, False, [], {}
+
+    def take(self, line):
+        """What is written of a line: its fault, and what it tells."""
+        self.at += 1
+        host, it = self.hosts.setdefault(line.host, Host()), line.message
+        if it is None:
+            return self.words(host, line)
+        is_request = line.kind in (b"get", b"set")
+        if it.text is None:
+            if not is_request:
+                gone = self.refused(host, line, it)
+            return [f"{{{line.front}{it.faults[line.kernel]}"] + ([] if is_request else gone)
+        if is_request or (line.kind != b"del" and it.is_wireless):
+            return []
+        return self.went(host, line, it) if line.kind == b"del" else self.accepted(host, line, it)
+
+    def words(self, host, line):
+        name = line.words.get(b"seq", b"") + b" " + line.words.get(b"port", b"")
+        if line.kind == b"begin":
+            host.run, self.has_dumps = (name, self.at), True
+        elif line.kind == b"lost":
+            return [f'{{{line.front}"change":"lost"}}'] if self.is_told else []
+        elif line.kind == b"done":
+            family = NUMERAL.fullmatch(line.words.get(b"family", b""))
+            if family and int(family[1]) < 256:
+                self.has_dumps = True
+                if host.run and host.run[0] == name:
+                    host.whole.add(int(family[1]))
+                    return self.ended(host, line, host.run[1], int(family[1]))
+        return []
+
+    def ended(self, host, line, begin, family):
+        """A whole dump ends what had no line since it began."""
+        def is_since(key):
+            return key in host.seen and host.seen[key].at >= begin
+
+        missed = [key for key in host.seen if not is_since(key) and (
+            key[0] == family or family == 0 and key[0] in PARTS and not is_since((0, key[1])))]
+        return self.take_out(host, line, missed)
+
+    def take_out(self, host, line, keys):
+        out = []
+        for key in sorted(keys):
+            seen = host.seen.pop(key, None)
+            if seen and seen.last and self.is_told:
+                out.append(line.told("gone", seen.last.head))
+        return out
+
+    def refused(self, host, line, it):
+        if it.key is None:
+            host.run = None
+            return []
+        if line.kind == b"del":
+            return self.take_out(host, line, ends_with(it.key))
+        host.seen.setdefault(it.key, Seen(self.at)).at = self.at
+        return []
+
+    def went(self, host, line, it):
+        own = []
+        if (it.key in host.seen or it.key[0] == 0) and self.is_told:
+            own = [line.told("gone", it.head)]
+        host.seen.pop(it.key, None)
+        return own + self.take_out(host, line, ends_with(it.key))
+
+    def accepted(self, host, line, it):
+        seen, out = host.seen.get(it.key), []
+        is_other = bool(seen) and None not in (seen.kind, it.kind) and seen.kind != it.kind
+        if is_other:
+            out = self.take_out(host, line, ends_with(it.key))
+        seen = host.seen.setdefault(it.key, Seen(self.at))
+        if seen.last is None:
+            out += [line.told("new", it.head)] * self.is_told
+            if not is_other and it.key[0] not in host.whole:
+                self.first += out
+        elif seen.last.text != it.text and self.is_told:
+            out.append(self.changed(line, seen, it))
+        seen.at, seen.last, seen.kernel, seen.line = self.at, it, line.kernel, line
+        seen.kind = it.kind if it.kind is not None else seen.kind
+        return out
+
+    def changed(self, line, old, new):
+        after, both = new.shown[line.kernel], (old.last, old.kernel, new, line.kernel)
+        if both not in self.found:
+            self.found[both] = changes((old.last, old.last.shown[old.kernel]), (new, after), self.is_all)
+        found = self.found[both]
+        return line.told("changed", f'{new.which}{after.named},"changes":{found}')
+
+
+def ends_with(key):
+    """The interfaces that end with one: its parts, where it is of AF_UNSPEC."""
+    return [key] + [(part, key[1]) for part in PARTS if key[0] == 0]
+
+
+# ** two files
+
+def compared(old, new, is_all):
+    """What two files tell, by the models at their ends: the lines, in order."""
+    out = []
+    for name in sorted(new.hosts):
+        out += came_or_changed(old, new, name, is_all)
+    for name in sorted(old.hosts):
+        before, after = old.hosts[name], new.hosts.get(name, Host())
+        for key, seen in sorted(before.seen.items()):
+            if seen.last and key not in after.seen and (not new.has_dumps or key[0] in after.whole):
+                out.append(seen.line.told("gone", seen.last.head))
+    return out
+
+
+def are_two(before, after, key):
+    was, now = before.seen.get(key), after.seen.get(key)
+    return bool(was and now and was.last and now.last) and None not in (was.kind, now.kind) and was.kind != now.kind
+
+
+def came_or_changed(old, new, name, is_all):
+    before, after = old.hosts.get(name, Host()), new.hosts[name]
+    for key, now in sorted(after.seen.items()):
+        was = before.seen.get(key)
+        if now.last is None or was and was.last is None:
+            continue
+        if was is None:
+            if not old.has_dumps or key[0] in before.whole:
+                yield now.line.told("new", now.last.head)
+        elif are_two(before, after, key) or key[0] in PARTS and are_two(before, after, (0, key[1])):
+            yield was.line.told("gone", was.last.head)
+            yield now.line.told("new", now.last.head)
+        elif was.last.text != now.last.text:
+            yield new.changed(now.line, was, now.last)
