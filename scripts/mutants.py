@@ -138,6 +138,10 @@ def prepare(name, folder):
     for it in ("all", "digits", "news"):
         with open(f"{folder}/{it}", "wb") as to:
             subprocess.run([f"{folder}/lines", it], stdout=to, check=True, cwd=TOP)
+    if name == "linkdiff":
+        lines = (TOP / "tests/second/streams.txt").read_bytes().splitlines(True)
+        for it, part in ("old", lines[:450]), ("new", lines[450:]):
+            Path(f"{folder}/{it}").write_bytes(b"".join(part))
     if name == "link_c":
         Path(f"{folder}/driver.c").write_text(DRIVER % {"tests": "".join(f"TEST({it})\n" for it in TESTS)})
         compiles("-c", "-o", f"{folder}/test.driver.o", f"{folder}/driver.c")
@@ -161,6 +165,11 @@ def runs(name, folder):
             "linkstate": [(it, made) for it in ("", "--lenient") for made in ("all", "digits")],
             "linkshow": [("", "all"), ("", "digits"), ("--lenient --kernel 6.12.0", "all")],
             "linkdiff": [("", "news"), ("--counters --lenient", "news"), ("--changes-only", "news")]}
+    if name == "linkdiff":
+        streams, files = str(TOP / "tests/second/streams.txt"), (f"{folder}/old", f"{folder}/new")
+        each = (), ("--lenient",), ("--counters",), ("--counters", "--lenient")
+        short += [Run(it, streams) for it in (*each, ("--changes-only",), ("--changes-only", "--lenient"))]
+        short += [Run((*it, *files)) for it in each]
     return [*short, *(Run(tuple(it), str(TOP)) for it in said),
             *(Run(tuple(given.split()), f"{folder}/{made}") for given, made in long[name])]
 

@@ -128,6 +128,11 @@ if [ -e tests/second ] && [ -z "${TESTS:-}" ]; then
     holds linkdiff-counters news out/linkdiff --counters --lenient
     holds linkdiff-changes news out/linkdiff --changes-only
     holds held all "$folder/lines" all held
+    # streams of hosts that come and go, in dumps that are whole or cut
+    if [ -e out/linkdiff ]; then
+        RUN=$RUN sh tests/second/streams.sh out/linkdiff | cmp - tests/second/told.txt ||
+            fails 'linkdiff tells otherwise than stored of tests/second/streams.txt'
+    fi
 fi
 if [ -e out/liblinkwire.so.0 ]; then
     compiles calls -Lout -llinkwire -Wl,-rpath,"$PWD/out"

@@ -3,11 +3,12 @@
 was written from that page.
 
     laws.py [--streams N] [--seed N] [--slips] FOLDER
+    laws.py --store
 
 FOLDER has linkdiff and linkshow. A hundred streams, each of a host of its own, are given to a call: strictly and
 leniently, with and without --counters. Each call is run as it is, with --changes-only, host after host, and of one host
 alone; some of the lines as two files; and two dumps of each host as two files and as one stream. --slips has three
-wrong programs told. The last line is 'laws: ok'."""
+wrong programs told. --store prints tests/second/streams.txt anew, some short streams. The last line is 'laws: ok'."""
 import argparse
 import collections
 import json
@@ -335,6 +336,17 @@ def hold(linkdiff, linkshow, count, seed):
     return counts
 
 
+def hold_stored(linkdiff, linkshow):
+    """Holds the program to the laws over the streams that are stored."""
+    with open(os.path.join(os.path.dirname(__file__), "streams.txt"), "rb") as it:
+        lines = it.read().split(b"\n")[:-1]
+    digits = [re.sub(rb".* ", b"", it) for it in lines]
+    for options in OPTIONS:
+        known = told.messages(linkshow, options, [*digits, b""], streams.KERNELS)
+        hold_streams(linkdiff, options, known, lines, collections.Counter())
+        hold_files(linkdiff, options, known, lines[:450], lines[450:], collections.Counter())
+
+
 # ** slips
 
 SLIP = """#!/usr/bin/env python3
@@ -375,18 +387,32 @@ def hold_slips(linkdiff, linkshow):
                 sys.exit(f"laws: {slip}: not told")
 
 
+def stored():
+    """Prints streams of messages with few attributes."""
+    rng = random.Random(1)
+    pool = streams.Pool(rng, ("name", "mtu", "state", "info", "carrier", "alias", "unknown"))
+    names = [None, *[b"h%d" % at for at in range(1, 80)]]
+    for it in streams.merged(rng, [streams.stream(rng, pool, name) for name in names]):
+        sys.stdout.buffer.write(it + b"\n")
+
+
 def main():
     parser = argparse.ArgumentParser()
     parser.add_argument("--streams", type=int, default=4000)
     parser.add_argument("--seed", type=int, default=1)
     parser.add_argument("--slips", action="store_true")
-    parser.add_argument("folder")
+    parser.add_argument("--store", action="store_true")
+    parser.add_argument("folder", nargs="?", default="out")
     words = parser.parse_args()
+    if words.store:
+        stored()
+        return
     linkdiff, linkshow = words.folder + "/linkdiff", words.folder + "/linkshow"
     if words.slips:
         hold_slips(linkdiff, linkshow)
     else:
         try:
+            hold_stored(linkdiff, linkshow)
             counts = hold(linkdiff, linkshow, words.streams, words.seed)
         except Broken as e:
             sys.exit(f"laws: {e}")

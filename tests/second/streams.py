@@ -106,12 +106,12 @@ def put_together(rng, family, index, flags, slots):
     return struct.pack("<BBHIII", family, 0, 1, index, flags, rng.randrange(2)) + b"".join(parts)
 
 
-def variants(rng, family, index, count):
+def variants(rng, family, index, count, names):
     """Messages of one interface, of which each differs from the one before it in little."""
-    slots = {name: make(rng, family, index) for name, make in SLOTS.items() if rng.random() < 0.8}
+    slots = {name: SLOTS[name](rng, family, index) for name in names if rng.random() < 0.8}
     flags, out = 1, []
     for _ in range(count):
-        for name in rng.sample(sorted(SLOTS), rng.choice([0, 1, 1, 2])):
+        for name in rng.sample(names, rng.choice([0, 1, 1, 2])):
             slots[name] = SLOTS[name](rng, family, index)
         flags = rng.choice([flags, flags, 1, 65])
         out.append(put_together(rng, family, index, flags, slots))
@@ -121,11 +121,13 @@ def variants(rng, family, index, count):
 
 
 class Pool:
-    """What lines spell: by family and index the digits of some messages, and digits that are of no interface."""
+    """What lines spell: by family and index the digits of some messages with attributes of these names, and digits that
+    are of no interface."""
 
-    def __init__(self, rng, count=14):
-        self.by_key = self.calm = {(family, index): [it.hex().encode() for it in variants(rng, family, index, count)]
-                       for family in FAMILIES for index in INDICES}
+    def __init__(self, rng, names=tuple(SLOTS)):
+        self.by_key = self.calm = {
+            (family, index): [it.hex().encode() for it in variants(rng, family, index, 14, names)]
+            for family in FAMILIES for index in INDICES}
         self.blind = [b"zz", b"00", b"0", b"00" * 15, b"refused", b"ok"]
         self.all = [*self.blind, *[it for row in self.by_key.values() for it in row], b""]
         self.keys = [key for key in self.by_key
