@@ -284,6 +284,14 @@ def why_apart(old, new, key):
     return None
 
 
+def is_as_said(why, files, stream):
+    """Whether what both tell of an interface is what the page says of the exception."""
+    files, stream = ([json.loads("{" + it.decode())["change"] for it in lines] for lines in (files, stream))
+    if why == "refused in OLD":
+        return not files and stream[:1] == ["new"]
+    return why is not None and stream[-1:] == ["gone"] and files in ([], ["new"], ["gone", "new"])
+
+
 def hold_two_ways(linkdiff, options, known, pairs, counts):
     """Two dumps of each host tell as files what they tell one after the other."""
     old, new = ([it for pair in pairs for it in pair[side]] for side in (0, 1))
@@ -301,9 +309,9 @@ def hold_two_ways(linkdiff, options, known, pairs, counts):
             why = why_apart(*sides, key)
             if one != other:
                 counts[f"two ways, {why}: not alike"] += 1
-                if why is None:
+                if not is_as_said(why, one, other):
                     lines = [it for it in old + new if told.Line(it, known).host == host]
-                    breaks("two ways", key, *one, "as files, and in a stream", *other, "of", *lines)
+                    breaks("two ways", why, key, *one, "as files, and in a stream", *other, "of", *lines)
             counts["two ways, and told" if one else "two ways"] += why is None
 
 

@@ -1,6 +1,6 @@
 #!/bin/sh
-# Prints tests/second/told.txt anew, the sums of what linkdiff tells of streams.txt, as one stream and as two files, with
-# each option: streams.sh LINKDIFF. RUN is what runs a program of another processor.
+# Prints tests/second/told.txt anew, the sums of what linkdiff tells of streams.txt, as one stream and as two files,
+# with each option: streams.sh LINKDIFF. RUN is what runs a program of another processor.
 set -eu
 linkdiff=$(realpath "$1") streams=$(realpath "${0%/*}/streams.txt")
 folder=$(mktemp -d)
