@@ -2,10 +2,14 @@
 are whole or cut, and announcements; lines that are refused, requests, and words."""
 import struct
 
+import second
+
 KERNELS = None, b"6.18.0", b"6.1"
-FAMILIES = 0, 7, 10, 2
+FAMILIES = 0, 7, 10, 255
 INDICES = 1, 2, 0xffffffff
 WIRELESS = struct.pack("<HH4xH", 10, 0x8c07, 1)
+
+RARE = b"type=del ", b"a=b=c ", b"x=\xff ", b"host=late ", b"host= ", b"time=1\t", b"type=\t "
 
 
 def attribute(kind, payload):
@@ -151,9 +155,9 @@ class Writer:
         if digits and kernel is not None:
             front += b"kernel=" + kernel + b" "
         if rng.random() < 0.02:
-            front += rng.choice([b"type=del ", b"a=b=c ", b"x=\xff ", b"host=late "])
+            front += rng.choice(RARE)
         if digits and rng.random() < 0.1:
-            digits = rng.choice([b"ok " + digits, digits.upper() if digits[:1] != b"o" else digits])
+            digits = rng.choice([b"ok " + digits, digits.upper() if second.is_hex(digits) else digits])
         self.lines.append(front + digits if digits or front else b"x=y")
 
     def message(self, key=None, words=None):
@@ -182,7 +186,7 @@ class Writer:
             self.message(key, b"type=new ")
             if rng.random() < 0.08:
                 self.one()
-        for family in rng.choice([(0,), (0,), (0, 7), (0, 7, 10), (7,), (10, 0), (2,), ()]):
+        for family in rng.choice([(0,), (0,), (0, 7), (0, 7, 10), (7,), (10, 0), (255,), ()]):
             seq = self.number if rng.random() < 0.9 else self.number - 1
             self.dump_word(b"done", b"family=%d" % family, b"links=3", seq=seq)
 
@@ -242,7 +246,7 @@ def two_dumps(rng, pool, name):
     for _ in range(2):
         it = Writer(rng, pool, name)
         it.by_key = pool.calm if rng.random() < 0.7 else pool.by_key
-        dump_of(it, rng.choice([(0, 7, 10, 2)] * 6 + [(0,), (7, 0), ()]),
+        dump_of(it, rng.choice([(0, 7, 10, 255)] * 6 + [(0,), (7, 0), ()]),
                 wanted if rng.random() < 0.9 else wanted[::-1])
         out.append(it.lines)
         wanted = [key for key in keys if (key in wanted) != (rng.random() < 0.2)]
