@@ -83,7 +83,7 @@ class Link:
 
 def leaves(line, is_all):
     shown = line.message.shown[line.kernel]
-    return shown.values if is_all else shown.settings
+    return shown.leaves if is_all else shown.settings
 
 
 def counts_as_message(line):
@@ -228,17 +228,18 @@ def of_files(linkdiff, options, old, new):
 
 
 def hold_files(linkdiff, options, known, old, new, counts):
-    """Holds what two files tell to the model, and returns it without faults."""
+    """Holds what two files tell to the model; returns that without faults, and what their lines are."""
     found, sides, wanted = of_files(linkdiff, options, old, new), [], []
-    for lines in (old, new):
+    parsed = [[told.Line(it, known) for it in lines] for lines in (old, new)]
+    for lines in parsed:
         sides.append(told.Model(options, False))
         for it in lines:
-            wanted += sides[-1].take(told.Line(it, known))
+            wanted += sides[-1].take(it)
     faults = len(wanted)
     wanted += told.compared(*sides, "--counters" in options)
     compare("the model of two files", found, [it.encode() for it in wanted])
     counts["told of files"] += len(wanted) - faults
-    return found[faults:]
+    return found[faults:], parsed
 
 
 def told_of(lines):
@@ -296,12 +297,12 @@ def hold_two_ways(linkdiff, options, known, pairs, counts):
     """Two dumps of each host tell as files what they tell one after the other."""
     old, new = ([it for pair in pairs for it in pair[side]] for side in (0, 1))
     old, new = streams.timed(old, 0), streams.timed(new, len(old))
-    files = told_of(hold_files(linkdiff, options, known, old, new, counts))
+    found, parsed = hold_files(linkdiff, options, known, old, new, counts)
+    files = told_of(found)
     stream = told_of(told.said(linkdiff, [*options, "--changes-only"], joined(old + new)))
     dumps = collections.defaultdict(lambda: (Dump(), Dump()))
-    for side, lines in enumerate((old, new)):
-        for it in lines:
-            line = told.Line(it, known)
+    for side, lines in enumerate(parsed):
+        for line in lines:
             dumps[line.host][side].take(line)
     for host, sides in dumps.items():
         for key in {*sides[0].messages, *sides[1].messages}:

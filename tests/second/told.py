@@ -98,20 +98,20 @@ def named(name):
 
 
 class Shown:
-    """What is shown of a message: the text at each path, in order, and the paths that are counters. `values` are those
-    values, and `settings` those of them that are no counters of zero. `is_single` says whether no path stands twice."""
+    """What is shown of a message: the value at each path, in order, the first where a path stands twice; the paths that
+    are counters; and of the values those that are no counters of zero. `is_single` says that no path stands twice."""
 
     def __init__(self, page, filled):
         page = json.loads(page)
         leaves = leaves_of(page)
-        self.leaves = dict(reversed(leaves))
-        self.leaves = {path: self.leaves[path] for path, _ in leaves}
+        self.leaves = {}
+        for path, value in leaves:
+            self.leaves.setdefault(path, value)
         self.is_single = len(leaves) == len(self.leaves)
         others = dict(leaves_of(json.loads(filled)))
-        self.counters = {path for path, value in leaves if others.get(path) != value}
-        self.values = {path: json.loads(value) for path, value in self.leaves.items()}
-        self.settings = {path: self.values[path] for path, value in self.leaves.items()
-                         if not (path in self.counters and may_be_zero(value))}
+        self.counters = {path for path, value in leaves if path not in others or others[path] != value}
+        self.settings = {path: value for path, value in self.leaves.items()
+                         if not (path in self.counters and may_be_zero(text_of(value)))}
         self.named = named(page.get("ifname"))
 
 
@@ -120,12 +120,12 @@ def may_be_zero(value):
 
 
 def leaves_of(page):
-    """Each path that holds no other, and the text of its value; and of each refused attribute its bytes."""
+    """Each path that holds no other, and its value; and of each refused attribute its bytes."""
     refused, out = page.pop("refused", []), []
     under("", page, out)
     for it in refused:
         path = it.get("in", it["at"])
-        out.append(("refused." + (path if isinstance(path, str) else path[0]).lower(), text_of(it["payload"])))
+        out.append(("refused." + (path if isinstance(path, str) else path[0]).lower(), it["payload"]))
     return out
 
 
@@ -133,13 +133,13 @@ def under(path, value, out):
     parts = value.items() if isinstance(value, dict) else [(str(at), it) for at, it in enumerate(value)
                                                            if isinstance(it, (dict, list))]
     if not parts and path:
-        out.append((path, text_of(value)))
+        out.append((path, value))
     for name, it in parts:
         at = f"{path}.{name}" if path else name
         if isinstance(it, (dict, list)):
             under(at, it, out)
         else:
-            out.append((at, text_of(it)))
+            out.append((at, it))
 
 
 def messages(linkshow, options, texts, kernels):
@@ -169,13 +169,17 @@ def messages(linkshow, options, texts, kernels):
 
 # ** what changed
 
+def text_at(shown, path):
+    return text_of(shown.leaves[path]) if path in shown.leaves else None
+
+
 def changes(old, new, is_all):
     """The list `changes` of two messages, each with how it is shown."""
     (was, before), (now, after) = old, new
     olds, news = (set(), set()) if is_all else (before.counters, after.counters)
-    rows = [(path, value, after.leaves.get(path)) for path, value in before.leaves.items()
-            if after.leaves.get(path) != value]
-    rows += [(path, None, value) for path, value in after.leaves.items() if path not in before.leaves]
+    rows = [(path, text_of(value), text_at(after, path)) for path, value in before.leaves.items()
+            if path not in after.leaves or after.leaves[path] != value]
+    rows += [(path, None, text_of(value)) for path, value in after.leaves.items() if path not in before.leaves]
     out = []
     for path, one, other in rows:
         one = None if one and path in olds and may_be_zero(one) else one
