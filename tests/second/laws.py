@@ -361,21 +361,24 @@ def hold_stored(linkdiff, linkshow):
 SLIP = """#!/usr/bin/env python3
 import re, subprocess, sys
 LINKDIFF, SLIP = {linkdiff!r}, {slip!r}
-lines, moved = [] if len(sys.argv) > 2 else sys.stdin.buffer.read().split(b"\\n"), set()
+lines, moved = [] if sys.argv[-1][-3:] == "new" else sys.stdin.buffer.read().splitlines(True), dict()
 for at, it in enumerate(lines):
-    if SLIP == "two hosts are one" and b"host=h2 " in it:
-        lines[at] = it.replace(b"host=h2 ", b"host=h1 ")
-        moved.add(re.search(b"time=([0-9]+)", it)[1])
-ran = subprocess.run([LINKDIFF, *sys.argv[1:]], input=b"\\n".join(lines), stdout=subprocess.PIPE, check=True)
+    host = re.search(b" host=h([0-9]*[02468]) ", it)
+    if SLIP == "two hosts are one" and host:
+        moved[it.split(b" ")[0][5:]] = host[1]
+        lines[at] = it.replace(host[0], b" host=h%d " % (int(host[1]) + 1), 1)
+ran = subprocess.run([LINKDIFF, *sys.argv[1:]], input=b"".join(lines), stdout=subprocess.PIPE, check=True)
 out = ran.stdout.splitlines(True)
 if SLIP == "the last gone is not told":
     gone = [at for at, it in enumerate(out) if b'"change":"gone"' in it]
     out = out[:gone[-1]] + out[gone[-1] + 1:] if gone else out
 if SLIP == "one new is told twice":
-    out = [it for one in out for it in [one] * (1 + (b'"change":"new"' in one and b'"host":"h3"' in one))]
+    new = [at for at, it in enumerate(out) if b'"change":"new"' in it]
+    out = out[:new[0]] + out[new[0]:new[0] + 1] + out[new[0]:] if new else out
 for at, it in enumerate(out):
     time = re.search(b'"time":"([0-9]+)"', it)
-    out[at] = it.replace(b'"host":"h1"', b'"host":"h2"', 1) if time and time[1] in moved else it
+    if time and time[1] in moved:
+        out[at] = re.sub(b'"host":"h[0-9]+"', b'"host":"h%s"' % moved[time[1]], it, count=1)
 sys.stdout.buffer.write(b"".join(out))
 """
 
