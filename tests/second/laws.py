@@ -299,6 +299,10 @@ def hold_two_ways(linkdiff, options, known, pairs, counts):
     old, new = streams.timed(old, 0), streams.timed(new, len(old))
     found, parsed = hold_files(linkdiff, options, known, old, new, counts)
     files = told_of(found)
+    host = parsed[0][len(old) // 2].host
+    alone = [[it for it, line in zip(lines, of) if line.host == host] for lines, of in zip((old, new), parsed)]
+    compare("apart, of two files", [it for it in of_files(linkdiff, options, *alone) if b'"change":' in it],
+            [it for it in found if b'"host":"' + host + b'"' in it])
     stream = told_of(told.said(linkdiff, [*options, "--changes-only"], joined(old + new)))
     dumps = collections.defaultdict(lambda: (Dump(), Dump()))
     for side, lines in enumerate(parsed):
