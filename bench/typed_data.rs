@@ -83,7 +83,7 @@ fn request() {
         link.attributes.push(linkwire::LinkAttribute::Mtu(black_box(1400)));
         drop(black_box(link.to_vec().unwrap()));
     };
-    let ours = || drop(black_box(linkwire::request::mtu(7, black_box(1400)).unwrap().message.to_vec().unwrap()));
+    let ours = || drop(black_box(linkwire::request::mtu(7, black_box(1400)).unwrap().into_message().to_vec().unwrap()));
     let other = || {
         let link = their_message();
         let mut out = vec![0; link.buffer_len()];

@@ -126,9 +126,9 @@ macro_rules! route_link {
                 request.check()?;
                 let (kind, flags) = (request.message_type, request.flags);
                 let message = match $name::of_type(kind) {
-                    Some(make) => make(request.message),
+                    Some(make) => make(request.into_message()),
                     None => {
-                        let bytes = request.message.to_vec();
+                        let bytes = request.into_message().to_vec();
                         $name::Other(kind, bytes.map_err(|_| $crate::request::RequestError::DoesNotFit)?)
                     }
                 };

@@ -26,7 +26,7 @@ use crate::link_msg::numbers::{IFLA_IFALIAS, IFLA_IFNAME};
 use crate::link_msg::{
     DefaultNla, LinkAttribute, LinkExtentMask, LinkFlags, LinkHeader, LinkInfo, LinkMessage, LinkVfInfo, Prop, VfInfo,
 };
-use crate::nla_wire::nlas_measure;
+use crate::nla_wire::{nlas_measure, nlas_write, padded_len, write_value};
 use crate::packet::Nla;
 use crate::rattle::number::MOST_LEN;
 use crate::typed::{InfoData, InfoKind};
@@ -34,6 +34,7 @@ use alloc::string::String;
 use alloc::vec;
 use alloc::vec::Vec;
 use core::fmt;
+use core::slice::from_ref;
 
 /// A link is there, or is to be made or changed (linux/rtnetlink.h).
 pub const RTM_NEWLINK: u16 = 16;
@@ -126,31 +127,109 @@ impl<'a, T: AsRef<str> + ?Sized> From<&'a T> for Of<'a> {
 }
 
 /// A request: the type and the flags of netlink's header, and the message after it.
-#[derive(Clone, Debug, PartialEq, Eq, Hash)]
+///
+/// The name of the link and one attribute stand in it without memory of their own.
+///
+/// ```
+/// use linkwire::request::{self, Request};
+/// use linkwire::{AddressFamily, LinkAttribute};
+/// let mut request = request::mtu("eth0", 1400)?;
+/// request.header.interface_family = AddressFamily::Unspec;
+/// let message = request.message();
+/// assert_eq!(message.attributes, [LinkAttribute::IfName("eth0".to_string()), LinkAttribute::Mtu(1400)]);
+/// assert_eq!(Request::new(request.message_type, request.flags, message.clone()), request);
+/// assert_eq!(request.into_message(), message);
+/// # Ok::<(), request::RequestError>(())
+/// ```
+#[derive(Clone, PartialEq, Eq, Hash)]
 pub struct Request {
     /// The type of the message: one of `RTM_*`.
     pub message_type: u16,
     /// The flags: of `NLM_F_*`.
     pub flags: u16,
-    /// The message.
-    pub message: LinkMessage,
+    /// The header of the message.
+    pub header: LinkHeader,
+    /// The attributes in their order: a name that stands first, one more, and the others.
+    name: Name,
+    attribute: Option<LinkAttribute>,
+    others: Vec<LinkAttribute>,
+}
+
+/// A name of an interface with a NUL after it, or zeros for none.
+#[derive(Clone, Copy, Default, PartialEq, Eq, Hash)]
+struct Name([u8; MOST_NAME + 1]);
+
+impl Name {
+    #[inline]
+    fn new(name: &str) -> Result<Name, RequestError> {
+        named(name, MOST_NAME)?;
+        let mut bytes = [0; MOST_NAME + 1];
+        bytes[..name.len()].copy_from_slice(name.as_bytes());
+        Ok(Name(bytes))
+    }
+
+    /// The name and its NUL.
+    #[inline]
+    fn payload(&self) -> Option<&[u8]> {
+        let len = self.0.iter().position(|it| *it == 0)?;
+        if len == 0 { None } else { self.0.get(..=len) }
+    }
+
+    fn attribute(&self) -> Option<LinkAttribute> {
+        let (_, name) = self.payload()?.split_last()?;
+        Some(LinkAttribute::IfName(String::from_utf8_lossy(name).into_owned()))
+    }
+}
+
+impl fmt::Debug for Request {
+    fn fmt(&self, f: &mut fmt::Formatter<'_>) -> fmt::Result {
+        let Request { message_type, flags, .. } = self;
+        let mut shown = f.debug_struct("Request");
+        shown.field("message_type", message_type).field("flags", flags).field("message", &self.message()).finish()
+    }
 }
 
 impl Request {
+    /// A request of this type, these flags, and this message.
+    ///
+    /// [`Request`] has an example.
+    #[must_use]
+    pub fn new(message_type: u16, flags: u16, message: LinkMessage) -> Request {
+        let LinkMessage { header, attributes } = message;
+        let bare = Request { message_type, flags, header, name: Name::default(), attribute: None, others: Vec::new() };
+        attributes.into_iter().fold(bare, Request::with)
+    }
+
     /// A request of this link, with one more attribute, if any.
     #[inline]
-    fn new(message_type: u16, flags: u16, link: Of<'_>, more: Option<LinkAttribute>) -> Result<Request, RequestError> {
-        let mut header = LinkHeader::default();
-        let named = matches!(link, Of::Name(_));
-        let mut attributes = Vec::with_capacity(usize::from(named) + usize::from(more.is_some()));
+    fn of(message_type: u16, flags: u16, link: Of<'_>, attribute: Option<LinkAttribute>) -> Result<Self, RequestError> {
+        let (mut header, mut name) = (LinkHeader::default(), Name::default());
         match link {
             Of::Index(index) => header.index = index,
-            Of::Name(name) => attributes.push(if_name(name)?),
+            Of::Name(text) => name = Name::new(text)?,
         }
-        if let Some(attribute) = more {
-            attributes.push(attribute);
-        }
-        Ok(Request { message_type, flags: flags | NLM_F_REQUEST, message: LinkMessage { header, attributes } })
+        let flags = flags | NLM_F_REQUEST;
+        Ok(Request { message_type, flags, header, name, attribute, others: Vec::new() })
+    }
+
+    /// The message.
+    ///
+    /// [`Request`] has an example.
+    #[must_use]
+    pub fn message(&self) -> LinkMessage {
+        self.clone().into_message()
+    }
+
+    /// The message, which is not copied.
+    ///
+    /// [`Request`] has an example.
+    #[must_use]
+    pub fn into_message(self) -> LinkMessage {
+        let mut attributes = Vec::with_capacity(2 + self.others.len());
+        attributes.extend(self.name.attribute());
+        attributes.extend(self.attribute);
+        attributes.extend(self.others);
+        LinkMessage { header: self.header, attributes }
     }
 
     /// The request with one more attribute at its end.
@@ -158,8 +237,23 @@ impl Request {
     /// [`packet`](Request::packet) has an example.
     #[must_use]
     pub fn with(mut self, attribute: LinkAttribute) -> Request {
-        self.message.attributes.push(attribute);
+        if self.attribute.is_some() {
+            self.others.push(attribute);
+            return self;
+        }
+        match &attribute {
+            LinkAttribute::IfName(name) if self.name.payload().is_none() => match Name::new(name) {
+                Ok(name) => self.name = name,
+                Err(_) => self.attribute = Some(attribute),
+            },
+            _ => self.attribute = Some(attribute),
+        }
         self
+    }
+
+    /// The attributes but for the name in front.
+    fn attributes(&self) -> impl Iterator<Item = &LinkAttribute> {
+        self.attribute.iter().chain(&self.others)
     }
 
     /// Whether it can be sent: all names have a length that the kernel takes, and the message fits.
@@ -176,7 +270,7 @@ impl Request {
 
     /// The length of the attributes, where `check` has no error.
     fn measured(&self) -> Result<usize, RequestError> {
-        for attribute in &self.message.attributes {
+        for attribute in self.attributes() {
             match attribute {
                 LinkAttribute::IfName(name) => named(name, MOST_NAME)?,
                 LinkAttribute::IfAlias(alias) if alias.len() >= MOST_ALIAS => return Err(RequestError::Alias),
@@ -185,7 +279,10 @@ impl Request {
                 _ => (),
             }
         }
-        let len = nlas_measure(&self.message.attributes).filter(|_| !self.message.has_empty_ports());
+        let name = self.name.payload().map_or(0, |name| padded_len(name.len()));
+        let one = self.attribute.as_ref().map_or(Some(0), |one| nlas_measure(from_ref(one)));
+        let lens = (one, nlas_measure(&self.others).filter(|_| !self.attributes().any(LinkAttribute::is_empty_ports)));
+        let len = if let (Some(one), Some(others)) = lens { (name + one).checked_add(others) } else { None };
         len.ok_or(RequestError::DoesNotFit)
     }
 
@@ -213,8 +310,21 @@ impl Request {
         packet.extend_from_slice(&self.flags.to_ne_bytes());
         packet.extend_from_slice(&sequence.to_ne_bytes());
         packet.resize(len, 0);
-        self.message.encode_into(&mut packet[NLMSG_HDRLEN..]);
+        self.encode_into(&mut packet[NLMSG_HDRLEN..]);
         Ok(packet)
+    }
+
+    /// Writes the message, which was measured.
+    fn encode_into(&self, buffer: &mut [u8]) {
+        self.header.encode_into(buffer);
+        let mut at = HEADER_SIZE;
+        if let Some(name) = self.name.payload() {
+            at += write_value(IFLA_IFNAME, name, &mut buffer[at..]);
+        }
+        if let Some(one) = &self.attribute {
+            at += nlas_write(from_ref(one), &mut buffer[at..]);
+        }
+        nlas_write(&self.others, &mut buffer[at..]);
     }
 }
 
@@ -246,12 +356,12 @@ fn if_name(name: &str) -> Result<LinkAttribute, RequestError> {
 
 #[inline]
 fn change<'a>(link: impl Into<Of<'a>>) -> Result<Request, RequestError> {
-    Request::new(RTM_NEWLINK, NLM_F_ACK, link.into(), None)
+    Request::of(RTM_NEWLINK, NLM_F_ACK, link.into(), None)
 }
 
 #[inline]
 fn set<'a>(link: impl Into<Of<'a>>, attribute: LinkAttribute) -> Result<Request, RequestError> {
-    Request::new(RTM_NEWLINK, NLM_F_ACK, link.into(), Some(attribute))
+    Request::of(RTM_NEWLINK, NLM_F_ACK, link.into(), Some(attribute))
 }
 
 /// What is asked for besides.
@@ -264,8 +374,8 @@ fn asked(mask: &[LinkExtentMask]) -> Option<LinkAttribute> {
 /// [`get`] has an example.
 #[must_use]
 pub fn dump(mask: &[LinkExtentMask]) -> Request {
-    let message = LinkMessage { attributes: asked(mask).into_iter().collect(), ..LinkMessage::default() };
-    Request { message_type: RTM_GETLINK, flags: NLM_F_REQUEST | NLM_F_DUMP, message }
+    let request = Request::new(RTM_GETLINK, NLM_F_REQUEST | NLM_F_DUMP, LinkMessage::default());
+    Request { attribute: asked(mask), ..request }
 }
 
 /// One link. It is answered by a message of it, or by an error.
@@ -280,11 +390,11 @@ pub fn dump(mask: &[LinkExtentMask]) -> Request {
 /// let all = request::dump(&[LinkExtentMask::Vf]);
 /// let one = request::get("eth0", &[LinkExtentMask::Vf])?;
 /// assert_eq!((all.message_type, all.flags), (18, 0x301));
-/// assert_eq!((one.message_type, one.flags, one.message.attributes.len()), (18, 1, 2));
+/// assert_eq!((one.message_type, one.flags, one.message().attributes.len()), (18, 1, 2));
 /// # Ok::<(), request::RequestError>(())
 /// ```
 pub fn get<'a>(link: impl Into<Of<'a>>, mask: &[LinkExtentMask]) -> Result<Request, RequestError> {
-    Request::new(RTM_GETLINK, 0, link.into(), asked(mask))
+    Request::of(RTM_GETLINK, 0, link.into(), asked(mask))
 }
 
 /// The greatest length of a packet, in bytes.
@@ -298,8 +408,8 @@ pub fn get<'a>(link: impl Into<Of<'a>>, mask: &[LinkExtentMask]) -> Result<Reque
 /// // by its name, or by its index
 /// let by_name = request::mtu("eth0", 1400)?;
 /// let by_index = request::mtu(7, 1400)?;
-/// assert_eq!(by_name.message.attributes[1], LinkAttribute::Mtu(1400));
-/// assert_eq!((by_index.message.header.index, by_index.message.attributes.len()), (7, 1));
+/// assert_eq!(by_name.message().attributes[1], LinkAttribute::Mtu(1400));
+/// assert_eq!((by_index.header.index, by_index.message().attributes.len()), (7, 1));
 /// # Ok::<(), request::RequestError>(())
 /// ```
 #[inline]
@@ -317,16 +427,16 @@ pub fn mtu<'a>(link: impl Into<Of<'a>>, mtu: u32) -> Result<Request, RequestErro
 /// use linkwire::{request, LinkFlags};
 /// // ip link set dev eth0 up, down, and promisc on
 /// let up = request::up("eth0")?;
-/// assert_eq!((up.message.header.flags, up.message.header.change_mask), (LinkFlags::Up, LinkFlags::Up));
-/// assert_eq!(request::down("eth0")?.message.header.flags, LinkFlags::empty());
+/// assert_eq!((up.header.flags, up.header.change_mask), (LinkFlags::Up, LinkFlags::Up));
+/// assert_eq!(request::down("eth0")?.header.flags, LinkFlags::empty());
 /// let promiscuous = request::flags("eth0", LinkFlags::Promisc, LinkFlags::Promisc)?;
-/// assert_eq!(promiscuous.message.header.change_mask, LinkFlags::Promisc);
+/// assert_eq!(promiscuous.header.change_mask, LinkFlags::Promisc);
 /// # Ok::<(), request::RequestError>(())
 /// ```
 pub fn flags<'a>(link: impl Into<Of<'a>>, flags: LinkFlags, mask: LinkFlags) -> Result<Request, RequestError> {
     let mut request = change(link)?;
-    request.message.header.flags = flags;
-    request.message.header.change_mask = mask;
+    request.header.flags = flags;
+    request.header.change_mask = mask;
     Ok(request)
 }
 
@@ -405,13 +515,13 @@ pub fn address<'a>(link: impl Into<Of<'a>>, address: &[u8]) -> Result<Request, R
 /// use linkwire::{request, LinkAttribute};
 /// // ip link set dev eth0 master 9, nomaster, address 02:00:00:00:00:01, netns 4711
 /// let port = request::controller("eth0", Some(9))?;
-/// assert_eq!(port.message.attributes[1], LinkAttribute::Controller(9));
-/// assert_eq!(request::controller("eth0", None)?.message.attributes[1], LinkAttribute::Controller(0));
+/// assert_eq!(port.message().attributes[1], LinkAttribute::Controller(9));
+/// assert_eq!(request::controller("eth0", None)?.message().attributes[1], LinkAttribute::Controller(0));
 /// let address = request::address("eth0", &[2, 0, 0, 0, 0, 1])?;
-/// assert_eq!(address.message.attributes[1], LinkAttribute::Address(vec![2, 0, 0, 0, 0, 1]));
+/// assert_eq!(address.message().attributes[1], LinkAttribute::Address(vec![2, 0, 0, 0, 0, 1]));
 /// let moved = request::namespace_of("eth0", 4711)?;
-/// assert_eq!(moved.message.attributes[1], LinkAttribute::NetNsPid(4711));
-/// assert_eq!(request::namespace("eth0", 3)?.message.attributes[1], LinkAttribute::NetNsFd(3));
+/// assert_eq!(moved.message().attributes[1], LinkAttribute::NetNsPid(4711));
+/// assert_eq!(request::namespace("eth0", 3)?.message().attributes[1], LinkAttribute::NetNsFd(3));
 /// # Ok::<(), request::RequestError>(())
 /// ```
 pub fn controller<'a>(link: impl Into<Of<'a>>, index: Option<u32>) -> Result<Request, RequestError> {
@@ -463,7 +573,7 @@ pub fn add(name: &str, kind: InfoKind, data: Option<InfoData>) -> Result<Request
     let flags = NLM_F_ACK | NLM_F_CREATE | NLM_F_EXCL;
     let mut info = vec![LinkInfo::from(kind)];
     info.extend(data.map(LinkInfo::from));
-    Request::new(RTM_NEWLINK, flags, Of::Name(name), Some(LinkAttribute::LinkInfo(info)))
+    Request::of(RTM_NEWLINK, flags, Of::Name(name), Some(LinkAttribute::LinkInfo(info)))
 }
 
 /// The data of its kind are changed.
@@ -485,7 +595,7 @@ pub fn data<'a>(link: impl Into<Of<'a>>, kind: InfoKind, data: InfoData) -> Resu
 ///
 /// A name that the kernel does not take.
 pub fn delete<'a>(link: impl Into<Of<'a>>) -> Result<Request, RequestError> {
-    Request::new(RTM_DELLINK, NLM_F_ACK, link.into(), None)
+    Request::of(RTM_DELLINK, NLM_F_ACK, link.into(), None)
 }
 
 /// Alternative names, each of at most 127 bytes, are added.
@@ -535,7 +645,7 @@ fn names_of(
         named(name.as_ref(), MOST_ALT_NAME)?;
         list.push(Prop::AltIfName(String::from(name.as_ref())));
     }
-    Request::new(message_type, flags, link, Some(LinkAttribute::PropList(list)))
+    Request::of(message_type, flags, link, Some(LinkAttribute::PropList(list)))
 }
 
 /// Settings of a virtual function, each of which has its number.

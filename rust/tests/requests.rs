@@ -23,10 +23,10 @@ fn one(request: Made) -> Made {
 
 /// A change of the link of index 3.
 fn with(index: u32, attribute: LinkAttribute) -> Made {
-    Ok(Request { message: LinkMessage::default(), ..request::up(index)? }.with(attribute)).map(|mut it: Request| {
-        it.message.header.index = index;
-        it
-    })
+    let up = request::up(index)?;
+    let mut made = Request::new(up.message_type, up.flags, LinkMessage::default()).with(attribute);
+    made.header.index = index;
+    Ok(made)
 }
 
 fn function(setting: VfInfo) -> Made {
@@ -35,9 +35,10 @@ fn function(setting: VfInfo) -> Made {
 
 /// A link above another, as `ip` has it: first the link below.
 fn below(index: u32, name: &str, kind: InfoKind, data: InfoData) -> Made {
-    let mut made = request::add(name, kind, Some(data))?;
-    made.message.attributes.insert(0, LinkAttribute::Link(index));
-    Ok(made)
+    let made = request::add(name, kind, Some(data))?;
+    let mut message = made.message();
+    message.attributes.insert(0, LinkAttribute::Link(index));
+    Ok(Request::new(made.message_type, made.flags, message))
 }
 
 const ROWS: &[Row] = &[
@@ -398,7 +399,7 @@ fn forty_commands_of_ip() {
     for row in ROWS {
         let mut made = (row.made)().unwrap();
         if row.command == "ip link show" {
-            made.message.header.interface_family = AddressFamily::from(17);
+            made.header.interface_family = AddressFamily::from(17);
         }
         assert_eq!((made.message_type, made.flags), row.header, "{}", row.command);
         let (packet, sent) = (made.packet(7).unwrap(), bytes(row.sent));
@@ -435,19 +436,50 @@ fn what_is_too_long_is_not_sent() {
 
 #[test]
 fn by_name_or_by_index() {
-    let by_name = request::mtu("eth0", 1400).unwrap().message;
+    let by_name = request::mtu("eth0", 1400).unwrap().message();
     assert_eq!(by_name.attributes, [LinkAttribute::IfName("eth0".to_string()), LinkAttribute::Mtu(1400)]);
-    assert_eq!(request::namespace(3, 5).unwrap().message.attributes, [LinkAttribute::NetNsFd(5)]);
+    assert_eq!(request::namespace(3, 5).unwrap().message().attributes, [LinkAttribute::NetNsFd(5)]);
     let names = vec![String::from("eth0"), String::from("uplink")];
     let boxed: Box<str> = "eth0".into();
     for made in [request::mtu(&names[0], 1400), request::mtu(names[0].as_str(), 1400), request::mtu(&boxed, 1400)] {
-        assert_eq!(made.unwrap().message, by_name);
+        assert_eq!(made.unwrap().into_message(), by_name);
     }
     let listed = request::add_names(&names[0], &names);
     assert_eq!(listed, request::add_names("eth0", ["eth0", "uplink"]));
     assert_eq!(listed, request::add_names("eth0", names.iter()));
     assert_eq!(request::delete_names("eth0", &names[1..]), request::delete_names("eth0", ["uplink"]));
     assert_eq!(request::delete_names("eth0", vec![""]), Err(RequestError::Name));
-    assert!(request::dump(&[]).message.attributes.is_empty());
-    assert_eq!(request::get("eth0", &[]).unwrap().message.attributes.len(), 1);
+    assert!(request::dump(&[]).message().attributes.is_empty());
+    assert_eq!(request::get("eth0", &[]).unwrap().message().attributes.len(), 1);
+}
+
+/// Each attribute stands where it was put, and a packet is the message's encoding after netlink's header.
+#[test]
+fn attributes_in_their_order() {
+    let name = |text: &str| LinkAttribute::IfName(text.to_string());
+    let rows: &[Vec<LinkAttribute>] = &[
+        vec![],
+        vec![name("lo")],
+        vec![name("lo"), name("eth0")],
+        vec![LinkAttribute::Mtu(1), name("lo")],
+        vec![name("lo"), LinkAttribute::Mtu(1), name("eth0"), LinkAttribute::Mtu(2)],
+        vec![LinkAttribute::Mtu(1), LinkAttribute::Mtu(2), LinkAttribute::Mtu(3)],
+        vec![name("exactly-fifteen"), LinkAttribute::Mtu(1)],
+    ];
+    for attributes in rows {
+        let mut message = LinkMessage::default();
+        message.attributes = attributes.clone();
+        let request = Request::new(16, 5, message.clone());
+        assert_eq!((request.message(), request.clone().into_message()), (message.clone(), message.clone()));
+        assert_eq!(request.packet(1).unwrap()[16..], message.to_vec().unwrap());
+        assert!(format!("{request:?}").contains(&format!("{message:?}")));
+    }
+    for text in ["", "sixteen-letters-", "a\0b"] {
+        let mut message = LinkMessage::default();
+        message.attributes.push(name(text));
+        let request = Request::new(16, 5, message.clone());
+        assert_eq!((request.message(), request.check()), (message, Err(RequestError::Name)));
+    }
+    let ports = Request::new(16, 5, LinkMessage::default()).with(LinkAttribute::VfPorts(vec![]));
+    assert_eq!(ports.check(), Err(RequestError::DoesNotFit));
 }
