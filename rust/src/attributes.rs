@@ -1,7 +1,8 @@
 //! Attributes without memory: numbers, texts and lists inside of them, out of the bytes of a message.
 
-use crate::nla_wire::NlasIterator;
-use crate::{DecodeError, HEADER_SIZE, LinkHeader, NLA_TYPE_MASK};
+use crate::nla_wire::{NlaBuffer, NlasIterator};
+use crate::{DecodeError, HEADER_SIZE, LinkHeader};
+use core::fmt;
 use core::iter::FusedIterator;
 
 /// The attributes of a message, front to back, without memory; after the first fault nothing more comes. Of bytes that
@@ -61,7 +62,7 @@ impl<'a> Iterator for Attributes<'a> {
             return Some(Err(fault));
         }
         let frame = self.frames.next()?;
-        Some(frame.map(|it| Attribute { kind: it.kind_with_flags(), payload: it.value() }))
+        Some(frame.map(Attribute::new))
     }
 }
 
@@ -79,16 +80,30 @@ impl FusedIterator for Attributes<'_> {}
 /// assert_eq!(found[1].as_u64(), None);
 /// # Ok::<(), linkwire::DecodeError>(())
 /// ```
-#[derive(Clone, Copy, Debug, PartialEq, Eq, Hash)]
+#[derive(Clone, Copy, PartialEq, Eq, Hash)]
 pub struct Attribute<'a> {
-    kind: u16,
-    payload: &'a [u8],
+    frame: NlaBuffer<'a>,
+}
+
+impl Copy for NlaBuffer<'_> {}
+
+impl fmt::Debug for Attribute<'_> {
+    fn fmt(&self, f: &mut fmt::Formatter<'_>) -> fmt::Result {
+        f.debug_struct("Attribute").field("kind", &self.kind()).field("payload", &self.payload()).finish()
+    }
 }
 
 impl<'a> Attribute<'a> {
-    /// Of this kind, with both flag bits, and this payload.
-    pub(crate) fn new(kind: u16, payload: &'a [u8]) -> Attribute<'a> {
-        Attribute { kind, payload }
+    /// The attribute that a frame is.
+    #[inline]
+    pub(crate) fn new(frame: NlaBuffer<'a>) -> Attribute<'a> {
+        Attribute { frame }
+    }
+
+    /// The frame that it is.
+    #[inline]
+    pub(crate) fn frame(&self) -> &NlaBuffer<'a> {
+        &self.frame
     }
 
     /// The number and the two flag bits above it.
@@ -96,7 +111,7 @@ impl<'a> Attribute<'a> {
     /// [`Attribute`] has an example.
     #[must_use]
     pub fn kind(&self) -> u16 {
-        self.kind
+        self.frame.kind_with_flags()
     }
 
     /// The low 14 bits of the kind, as the kernel's constants have it.
@@ -104,7 +119,7 @@ impl<'a> Attribute<'a> {
     /// [`Attribute`] has an example.
     #[must_use]
     pub fn number(&self) -> u16 {
-        self.kind & NLA_TYPE_MASK
+        self.frame.kind()
     }
 
     /// The bytes between header and padding.
@@ -112,7 +127,7 @@ impl<'a> Attribute<'a> {
     /// [`Attribute`] has an example.
     #[must_use]
     pub fn payload(&self) -> &'a [u8] {
-        self.payload
+        self.frame.value()
     }
 
     /// The payload as a number, if it has one byte.
@@ -120,7 +135,7 @@ impl<'a> Attribute<'a> {
     /// [`Attribute`] has an example.
     #[must_use]
     pub fn as_u8(&self) -> Option<u8> {
-        Some(u8::from_ne_bytes(self.payload.try_into().ok()?))
+        Some(u8::from_ne_bytes(self.payload().try_into().ok()?))
     }
 
     /// The payload as a number in host order, if it has two bytes.
@@ -128,7 +143,7 @@ impl<'a> Attribute<'a> {
     /// [`Attribute`] has an example.
     #[must_use]
     pub fn as_u16(&self) -> Option<u16> {
-        Some(u16::from_ne_bytes(self.payload.try_into().ok()?))
+        Some(u16::from_ne_bytes(self.payload().try_into().ok()?))
     }
 
     /// The payload as a number in host order, if it has four bytes.
@@ -136,7 +151,7 @@ impl<'a> Attribute<'a> {
     /// [`Attribute`] has an example.
     #[must_use]
     pub fn as_u32(&self) -> Option<u32> {
-        Some(u32::from_ne_bytes(self.payload.try_into().ok()?))
+        Some(u32::from_ne_bytes(self.payload().try_into().ok()?))
     }
 
     /// The payload as a number in host order, if it has eight bytes.
@@ -144,7 +159,7 @@ impl<'a> Attribute<'a> {
     /// [`Attribute`] has an example.
     #[must_use]
     pub fn as_u64(&self) -> Option<u64> {
-        Some(u64::from_ne_bytes(self.payload.try_into().ok()?))
+        Some(u64::from_ne_bytes(self.payload().try_into().ok()?))
     }
 
     /// The payload without the one NUL at its end, if there is one, where that is UTF-8.
@@ -152,7 +167,8 @@ impl<'a> Attribute<'a> {
     /// [`Attribute`] has an example.
     #[must_use]
     pub fn as_str(&self) -> Option<&'a str> {
-        core::str::from_utf8(self.payload.strip_suffix(&[0]).unwrap_or(self.payload)).ok()
+        let text = self.payload();
+        core::str::from_utf8(text.strip_suffix(&[0]).unwrap_or(text)).ok()
     }
 
     /// The attributes of the list that the payload is.
@@ -170,6 +186,6 @@ impl<'a> Attribute<'a> {
     /// ```
     #[must_use]
     pub fn nested(&self) -> Attributes<'a> {
-        Attributes::of_list(self.payload)
+        Attributes::of_list(self.payload())
     }
 }

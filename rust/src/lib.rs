@@ -47,7 +47,7 @@
 //! # Ok::<(), linkwire::DecodeError>(())
 //! ```
 //!
-//! Numbers and texts can be had without values and without memory: [`attributes`].
+//! Without memory, and without values of what is not asked for: [`view`] by typed keys, [`attributes`] by numbers.
 //!
 //! # Changing and writing
 //!

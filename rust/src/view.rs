@@ -25,19 +25,111 @@
 //! # Ok::<(), linkwire::DecodeError>(())
 //! ```
 //!
+//! # Lists inside of attributes
+//!
+//! The value of a list is a [`ListView`]: it has [`get`](ListView::get) and [`iter`](ListView::iter) too, with keys of
+//! its own. The keys of an enum stand in the module of its name: those of [`VfInfo`](crate::VfInfo) in [`vf_info`],
+//! those of [`InfoVlan`](crate::typed::InfoVlan) in [`info_vlan`].
+//!
+//! Other names of an interface:
+//!
+//! ```
+//! use linkwire::view::{prop, LinkView, PropList};
+//!
+//! let mut bytes = vec![0; 16];
+//! bytes.extend(b"\x0c\0\x34\x80\x07\0\x35\0up\0\0");
+//! for name in LinkView::new(&bytes)?.get(PropList)?.unwrap().iter() {
+//!     assert!(matches!(name?, prop::Member::AltIfName("up")));
+//! }
+//! # Ok::<(), linkwire::DecodeError>(())
+//! ```
+//!
+//! The settings of IPv6 and of IPv4:
+//!
+//! ```
+//! use linkwire::view::{af_spec_inet6, af_spec_unspec, AfSpecUnspec, LinkView};
+//! use linkwire::In6AddrGenMode;
+//!
+//! let mut bytes = vec![0; 16];
+//! bytes.extend(b"\x10\0\x1a\0\x0c\0\x0a\0\x05\0\x08\0\x01\0\0\0");
+//! let families = LinkView::new(&bytes)?.get(AfSpecUnspec)?.unwrap();
+//! let (inet, inet6) = families.get((af_spec_unspec::Inet, af_spec_unspec::Inet6))?;
+//! assert!(inet.is_none());
+//! assert_eq!(inet6.unwrap().get(af_spec_inet6::AddrGenMode)?, Some(In6AddrGenMode::None));
+//! # Ok::<(), linkwire::DecodeError>(())
+//! ```
+//!
+//! Virtual functions:
+//!
+//! ```
+//! use linkwire::view::{vf_info, LinkView, VfInfoList};
+//!
+//! // Function 3 is trusted.
+//! let mut bytes = vec![0; 16];
+//! bytes.extend(b"\x14\0\x16\0\x10\0\x01\0\x0c\0\x09\0\x03\0\0\0\x01\0\0\0");
+//! for function in LinkView::new(&bytes)?.get(VfInfoList)?.unwrap().iter() {
+//!     let trust = function?.get(vf_info::Trust)?.unwrap();
+//!     assert_eq!((trust.vf_id, trust.enabled), (3, true));
+//! }
+//! # Ok::<(), linkwire::DecodeError>(())
+//! ```
+//!
+//! The kind of an interface, and the data of its kind:
+//!
+//! ```
+//! use linkwire::view::{info_vlan, InfoDataView, LinkInfo, LinkView};
+//!
+//! // A vlan with the id 100.
+//! let mut bytes = vec![0; 16];
+//! bytes.extend(b"\x18\0\x12\0\x08\0\x01\0vlan\x0c\0\x02\0\x06\0\x01\0\x64\0\0\0");
+//! let info = LinkView::new(&bytes)?.get(LinkInfo)?.unwrap();
+//! assert_eq!(info.kind()?, Some("vlan"));
+//! if let Some(InfoDataView::Vlan(vlan)) = info.data()? {
+//!     assert_eq!(vlan.get(info_vlan::Id)?, Some(100));
+//! }
+//! # Ok::<(), linkwire::DecodeError>(())
+//! ```
+//!
+//! # What is proved
+//!
 //! The check, the walk over attributes and the search for the last of a number are made of proved sources, as the
 //! readers of numbers and records are. Keys, [`get`](LinkView::get) and [`iter`](LinkView::iter) are by hand over these
-//! or made of the rows of `LinkAttribute`, and tested: on every stored message they give what `parse` gives.
+//! or made of the rows of the enums, and tested: on every stored message they give what `parse` gives, in inner lists
+//! and in the data of kinds too.
+
+#[macro_use]
+mod macros;
+mod info;
+mod read;
 
 use crate::link_view::message_view::last_in;
-use crate::nla_wire::{NlaBuffer, NlasIterator, parse_u16};
-use crate::{AddressFamily, Attribute, Attributes, Cause, DecodeError};
+use crate::nla_wire::{NlaBuffer, NlasIterator};
+use crate::{AddressFamily, Attribute, Attributes, DecodeError, LinkAttribute};
+use core::fmt;
 use core::iter::FusedIterator;
+use core::marker::PhantomData;
 
 #[doc(no_inline)]
 pub use crate::link_view::LinkView;
+pub use info::{InfoDataView, InfoPortDataView, LinkXstatsView};
+pub use read::{Values, WirelessEventView};
 
 impl Copy for LinkView<'_> {}
+
+/// What a list holds, as [`LinkAttribute`] of a message or [`VfInfo`](crate::VfInfo) of a virtual function.
+///
+/// The enums of this crate that are read from lists have it. [`ListView`] has an example.
+pub trait Place<'a>: Sized {
+    /// An attribute of the list over borrowed bytes.
+    type Member: fmt::Debug;
+
+    /// The attribute under the header's family, which inner lists do not look at; `None` where the list drops it.
+    ///
+    /// # Errors
+    ///
+    /// The fault of the payload.
+    fn member(attribute: Attribute<'a>, family: AddressFamily) -> Result<Option<Self::Member>, DecodeError>;
+}
 
 /// A key: the number of an attribute, and what its value is over borrowed bytes.
 ///
@@ -45,12 +137,13 @@ impl Copy for LinkView<'_> {}
 ///
 /// ```
 /// use linkwire::view::{Key, LinkView};
-/// use linkwire::{AddressFamily, Attribute, DecodeError};
+/// use linkwire::{AddressFamily, Attribute, DecodeError, LinkAttribute};
 ///
 /// #[derive(Clone, Copy)]
 /// struct Newer;
 ///
 /// impl<'a> Key<'a> for Newer {
+///     type Place = LinkAttribute;
 ///     type Value = &'a [u8];
 ///     const NUMBER: u16 = 99;
 ///     fn read(attribute: Attribute<'a>, _: AddressFamily) -> Result<Option<&'a [u8]>, DecodeError> {
@@ -63,10 +156,13 @@ impl Copy for LinkView<'_> {}
 /// # Ok::<(), DecodeError>(())
 /// ```
 pub trait Key<'a> {
+    /// The list that it is in: [`LinkAttribute`] of a message.
+    type Place;
+
     /// The value: a number, an enum or a record, or what borrows from the message.
     type Value;
 
-    /// The kernel's number, `IFLA_..`.
+    /// The kernel's number, such as `IFLA_MTU`.
     const NUMBER: u16;
 
     /// The value of an attribute of this number under the header's family; `None` where the family or the size of the
@@ -80,60 +176,108 @@ pub trait Key<'a> {
     fn read(attribute: Attribute<'a>, family: AddressFamily) -> Result<Option<Self::Value>, DecodeError>;
 }
 
-/// A key, or a tuple of up to eight.
+/// A key, or a tuple of up to eight of one list.
+///
+/// [`LinkView::get`] has an example.
 pub trait Keys<'a> {
+    /// The list that they are in.
+    type Place;
+
     /// Of each key its value, or `None`.
     type Values;
 
-    /// Reads them in one pass over the attributes.
-    ///
-    /// # Errors
-    ///
-    /// As [`LinkView::get`], which has an example.
-    fn get(self, view: &LinkView<'a>) -> Result<Self::Values, DecodeError>;
+    #[doc(hidden)]
+    fn get<L: Frames<'a>>(self, list: &L) -> Result<Self::Values, DecodeError>;
 }
 
-impl<'a, K: Key<'a>> Keys<'a> for K {
-    type Values = Option<K::Value>;
+mod sealed {
+    use super::*;
 
-    #[inline]
-    fn get(self, view: &LinkView<'a>) -> Result<Option<K::Value>, DecodeError> {
-        let found = view.last(K::NUMBER)?.map(|frame| attribute(&frame));
-        value::<K>(found, view.header().interface_family)
+    /// A list of attributes over borrowed bytes.
+    pub trait Frames<'a> {
+        fn frames(&self) -> NlasIterator<'a>;
+        fn last(&self, number: u16) -> Result<Option<NlaBuffer<'a>>, DecodeError>;
+        fn family(&self) -> AddressFamily;
     }
 }
 
-/// The attribute that a frame is.
-#[inline]
-fn attribute<'a>(frame: &NlaBuffer<'a>) -> Attribute<'a> {
-    Attribute::new(frame.kind_with_flags(), frame.value())
+use sealed::Frames;
+
+impl<'a> Frames<'a> for LinkView<'a> {
+    #[inline]
+    fn frames(&self) -> NlasIterator<'a> {
+        LinkView::frames(self)
+    }
+
+    #[inline]
+    fn last(&self, number: u16) -> Result<Option<NlaBuffer<'a>>, DecodeError> {
+        LinkView::last(self, number)
+    }
+
+    #[inline]
+    fn family(&self) -> AddressFamily {
+        self.header().interface_family
+    }
+}
+
+impl<'a, P> Frames<'a> for ListView<'a, P> {
+    #[inline]
+    fn frames(&self) -> NlasIterator<'a> {
+        NlasIterator::new(self.list)
+    }
+
+    #[inline]
+    fn last(&self, number: u16) -> Result<Option<NlaBuffer<'a>>, DecodeError> {
+        last_in(self.list, number)
+    }
+
+    #[inline]
+    fn family(&self) -> AddressFamily {
+        AddressFamily::Unspec
+    }
+}
+
+impl<'a, K: Key<'a>> Keys<'a> for K {
+    type Place = K::Place;
+    type Values = Option<K::Value>;
+
+    #[inline]
+    fn get<L: Frames<'a>>(self, list: &L) -> Result<Option<K::Value>, DecodeError> {
+        value::<K>(list.last(K::NUMBER)?, list.family())
+    }
 }
 
 /// The value of an attribute, if there is one.
 #[inline]
-fn value<'a, K: Key<'a>>(found: Option<Attribute<'a>>, family: AddressFamily) -> Result<Option<K::Value>, DecodeError> {
+fn value<'a, K: Key<'a>>(found: Option<NlaBuffer<'a>>, family: AddressFamily) -> Result<Option<K::Value>, DecodeError> {
     match found {
-        Some(attribute) => K::read(attribute, family),
+        Some(frame) => K::read(Attribute::new(frame), family),
         None => Ok(None),
     }
 }
 
 macro_rules! tuples {
-    ($($key:ident $found:ident)+) => {
-        impl<'a, $($key: Key<'a>),+> Keys<'a> for ($($key,)+) {
-            type Values = ($(Option<$key::Value>,)+);
+    ($first:ident $first_found:ident $($key:ident $found:ident)*) => {
+        impl<'a, $first: Key<'a>, $($key: Key<'a, Place = $first::Place>),*> Keys<'a> for ($first, $($key,)*) {
+            type Place = $first::Place;
+            type Values = (Option<$first::Value>, $(Option<$key::Value>,)*);
 
             #[inline]
-            fn get(self, view: &LinkView<'a>) -> Result<Self::Values, DecodeError> {
-                $(let mut $found = None;)+
-                for frame in view.frames() {
-                    let frame = attribute(&frame?);
-                    $(if frame.number() == $key::NUMBER {
+            fn get<L: Frames<'a>>(self, list: &L) -> Result<Self::Values, DecodeError> {
+                let mut $first_found = None;
+                $(let mut $found = None;)*
+                for frame in list.frames() {
+                    let frame = frame?;
+                    let number = frame.kind();
+                    if number == $first::NUMBER {
+                        $first_found = Some(frame);
+                    }
+                    $(if number == $key::NUMBER {
                         $found = Some(frame);
-                    })+
+                    })*
                 }
-                let family = view.header().interface_family;
-                Ok(($(value::<$key>($found, family)?,)+))
+                let family = list.family();
+                Ok((value::<$first>($first_found, family)?, $(value::<$key>($found, family)?,)*))
             }
         }
     };
@@ -169,7 +313,7 @@ impl<'a> LinkView<'a> {
     /// # Ok::<(), linkwire::DecodeError>(())
     /// ```
     #[inline]
-    pub fn get<K: Keys<'a>>(&self, keys: K) -> Result<K::Values, DecodeError> {
+    pub fn get<K: Keys<'a, Place = LinkAttribute>>(&self, keys: K) -> Result<K::Values, DecodeError> {
         keys.get(self)
     }
 
@@ -177,219 +321,179 @@ impl<'a> LinkView<'a> {
     ///
     /// The page of this module has an example.
     #[must_use]
-    pub fn iter(&self) -> AttributeViews<'a> {
-        AttributeViews { family: self.header().interface_family, frames: self.frames() }
+    pub fn iter(&self) -> Members<'a, LinkAttribute> {
+        Members::of(self)
     }
 }
 
 impl<'a> IntoIterator for &LinkView<'a> {
     type Item = Result<AttributeView<'a>, DecodeError>;
-    type IntoIter = AttributeViews<'a>;
+    type IntoIter = Members<'a, LinkAttribute>;
 
-    fn into_iter(self) -> AttributeViews<'a> {
+    fn into_iter(self) -> Members<'a, LinkAttribute> {
+        self.iter()
+    }
+}
+
+/// A list inside of an attribute over borrowed bytes. `P` is the enum of its attributes, and its keys stand in the
+/// module that has the name of that enum: those of `ListView<'_, LinkXdp>` in [`link_xdp`].
+///
+/// ```
+/// use linkwire::view::{link_xdp, LinkView, ListView, Xdp};
+/// use linkwire::LinkXdp;
+///
+/// // A program with the number 9, which flags attach.
+/// let mut bytes = vec![0; 16];
+/// bytes.extend(b"\x14\0\x2b\0\x08\0\x04\0\x09\0\0\0\x08\0\x03\0\x02\0\0\0");
+/// let xdp: ListView<'_, LinkXdp> = LinkView::new(&bytes)?.get(Xdp)?.unwrap();
+/// assert_eq!(xdp.get((link_xdp::ProgId, link_xdp::Fd))?, (Some(9), None));
+/// assert!(matches!(xdp.iter().last(), Some(Ok(link_xdp::Member::Flags(2)))));
+/// assert_eq!(xdp.attributes().count(), 2);
+/// assert_eq!(format!("{xdp:?}"), "[ProgId(9), Flags(2)]");
+/// # Ok::<(), linkwire::DecodeError>(())
+/// ```
+pub struct ListView<'a, P> {
+    list: &'a [u8],
+    place: PhantomData<fn() -> P>,
+}
+
+impl<P> Clone for ListView<'_, P> {
+    fn clone(&self) -> Self {
+        *self
+    }
+}
+
+impl<P> Copy for ListView<'_, P> {}
+
+impl<'a, P: Place<'a>> fmt::Debug for ListView<'a, P> {
+    fn fmt(&self, f: &mut fmt::Formatter<'_>) -> fmt::Result {
+        let mut list = f.debug_list();
+        for member in self.iter() {
+            match member {
+                Ok(member) => list.entry(&member),
+                Err(fault) => list.entry(&fault),
+            };
+        }
+        list.finish()
+    }
+}
+
+impl<'a, P> ListView<'a, P> {
+    /// The list that the payload is.
+    #[inline]
+    fn of(list: &'a [u8]) -> Self {
+        ListView { list, place: PhantomData }
+    }
+
+    /// The attributes as they are, those that are dropped too.
+    ///
+    /// [`ListView`] has an example.
+    #[must_use]
+    pub fn attributes(&self) -> Attributes<'a> {
+        Attributes::of_list(self.list)
+    }
+}
+
+impl<'a, P: Place<'a>> ListView<'a, P> {
+    /// The value of a key, or those of a tuple of up to eight keys in one pass: that of the last attribute of its
+    /// number, or `None` where there is none or it is another variant.
+    ///
+    /// In a message that [`LinkView::new`] checked it is the value that `LinkMessage::parse` gives under that variant.
+    ///
+    /// # Errors
+    ///
+    /// Where the message was not checked, the fault of the frames, or of a value that is asked for.
+    ///
+    /// [`ListView`] has an example.
+    #[inline]
+    pub fn get<K: Keys<'a, Place = P>>(&self, keys: K) -> Result<K::Values, DecodeError> {
+        keys.get(self)
+    }
+
+    /// The attributes, front to back.
+    ///
+    /// [`ListView`] has an example.
+    #[must_use]
+    pub fn iter(&self) -> Members<'a, P> {
+        Members::of(self)
+    }
+}
+
+impl<'a, P: Place<'a>> IntoIterator for &ListView<'a, P> {
+    type Item = Result<P::Member, DecodeError>;
+    type IntoIter = Members<'a, P>;
+
+    fn into_iter(self) -> Members<'a, P> {
+        self.iter()
+    }
+}
+
+impl<'a, P: Place<'a>> IntoIterator for ListView<'a, P> {
+    type Item = Result<P::Member, DecodeError>;
+    type IntoIter = Members<'a, P>;
+
+    fn into_iter(self) -> Members<'a, P> {
         self.iter()
     }
 }
 
 /// The attributes of a view, front to back. Where the view was not checked a fault comes in the place of its attribute.
-#[derive(Clone, Debug)]
-pub struct AttributeViews<'a> {
+///
+/// [`ListView`] has an example.
+pub struct Members<'a, P> {
     family: AddressFamily,
     frames: NlasIterator<'a>,
+    place: PhantomData<fn() -> P>,
 }
 
-impl<'a> Iterator for AttributeViews<'a> {
-    type Item = Result<AttributeView<'a>, DecodeError>;
-
+impl<'a, P> Members<'a, P> {
     #[inline]
-    fn next(&mut self) -> Option<Result<AttributeView<'a>, DecodeError>> {
-        let frame = self.frames.next()?;
-        Some(frame.and_then(|frame| AttributeView::read(attribute(&frame), self.family)))
+    fn of(list: &impl Frames<'a>) -> Self {
+        Members { family: list.family(), frames: list.frames(), place: PhantomData }
     }
 }
 
-impl FusedIterator for AttributeViews<'_> {}
-
-/// The list of IFLA_LINKINFO: the kind of the link and its data, and those of the port that it is.
-///
-/// ```
-/// use linkwire::view::{LinkInfo, LinkView};
-///
-/// // A vlan with the id 100.
-/// let mut bytes = vec![0; 16];
-/// bytes.extend(b"\x18\0\x12\0\x08\0\x01\0vlan\x0a\0\x02\0\x06\0\x01\0\x64\0\0\0");
-/// let info = LinkView::new(&bytes)?.get(LinkInfo)?.unwrap();
-/// assert_eq!(info.kind()?, Some("vlan"));
-/// let id = info.data()?.unwrap().next().unwrap()?;
-/// assert_eq!((id.number(), id.as_u16()), (1, Some(100)));
-/// # Ok::<(), linkwire::DecodeError>(())
-/// ```
-#[derive(Clone, Copy, Debug, PartialEq, Eq, Hash)]
-pub struct LinkInfoView<'a> {
-    list: &'a [u8],
+impl<P> Clone for Members<'_, P> {
+    fn clone(&self) -> Self {
+        Members { frames: self.frames.clone(), ..*self }
+    }
 }
 
-/// The calls of a text, and of a list, of the member with a number.
-macro_rules! info {
-    ($($(#[$docs:meta])+ $name:ident $number:literal $read:ident $value:ty)+) => {
-        impl<'a> LinkInfoView<'a> {
-            /// The members, front to back.
-            ///
-            /// [`LinkInfoView`] has an example.
-            #[must_use]
-            pub fn attributes(&self) -> Attributes<'a> {
-                Attributes::of_list(self.list)
-            }
-
-            $($(#[$docs])+
-            /// Of a member that is repeated it is the last.
-            ///
-            /// # Errors
-            ///
-            /// The fault of the frames or of the text, as `LinkMessage::parse` has it; after [`LinkView::new`] there is
-            /// none.
-            ///
-            /// [`LinkInfoView`] has an example.
-            pub fn $name(&self) -> Result<Option<$value>, DecodeError> {
-                match last_in(self.list, $number)? {
-                    Some(frame) => $read(frame.value()),
-                    None => Ok(None),
-                }
-            })+
-        }
-    };
+impl<P> fmt::Debug for Members<'_, P> {
+    fn fmt(&self, f: &mut fmt::Formatter<'_>) -> fmt::Result {
+        f.debug_struct("Members").field("family", &self.family).field("frames", &self.frames).finish()
+    }
 }
 
-info! {
-    /// The kind of the link (IFLA_INFO_KIND).
-    kind 1 text &'a str
-    /// The attributes of the data of its kind (IFLA_INFO_DATA); [`info`](crate::info) names them.
-    data 2 list Attributes<'a>
-    /// The kind of the link that it is a port of (IFLA_INFO_SLAVE_KIND).
-    port_kind 4 text &'a str
-    /// The attributes of the data of that port (IFLA_INFO_SLAVE_DATA).
-    port_data 5 list Attributes<'a>
-}
+impl<'a, P: Place<'a>> Iterator for Members<'a, P> {
+    type Item = Result<P::Member, DecodeError>;
 
-// ** how a payload is read
-
-fn bytes(payload: &[u8]) -> Result<Option<&[u8]>, DecodeError> {
-    Ok(Some(payload))
-}
-
-fn text(payload: &[u8]) -> Result<Option<&str>, DecodeError> {
-    let text = payload.strip_suffix(&[0]).unwrap_or(payload);
-    core::str::from_utf8(text).map(Some).map_err(|_| DecodeError::from(Cause::NotUtf8))
-}
-
-fn list(payload: &[u8]) -> Result<Option<Attributes<'_>>, DecodeError> {
-    Ok(Some(Attributes::of_list(payload)))
-}
-
-fn info(list: &[u8]) -> Result<Option<LinkInfoView<'_>>, DecodeError> {
-    Ok(Some(LinkInfoView { list }))
-}
-
-/// Of another size it is another variant.
-fn sized(payload: &[u8]) -> Result<Option<u16>, DecodeError> {
-    Ok(parse_u16(payload).ok())
-}
-
-/// A payload, as it is held.
-macro_rules! read {
-    (u8 $value:ty, $payload:ident) => {
-        parse_u8($payload).map(Some)
-    };
-    (u32 $value:ty, $payload:ident) => {
-        parse_u32($payload).map(Some)
-    };
-    (i32 $value:ty, $payload:ident) => {
-        parse_i32($payload).map(Some)
-    };
-    (truth $value:ty, $payload:ident) => {
-        parse_u8($payload).map(|it| Some(it != 0))
-    };
-    (named_u8 $value:ty, $payload:ident) => {
-        parse_u8($payload).map(|it| Some(<$value>::from(it)))
-    };
-    (named_u32 $value:ty, $payload:ident) => {
-        parse_u32($payload).map(|it| Some(<$value>::from(it)))
-    };
-    (record $value:ty, $payload:ident) => {
-        <$value>::parse($payload).map(Some)
-    };
-    ($how:ident $value:ty, $payload:ident) => {
-        $how($payload)
-    };
-}
-
-/// Whether an attribute is the variant under this family.
-macro_rules! under {
-    (any, $family:ident) => {{
-        let _ = $family;
-        true
-    }};
-    ([$($name:ident)+], $family:ident) => { matches!($family, $(AddressFamily::$name)|+) };
-    ((not $($name:ident)+), $family:ident) => { !matches!($family, $(AddressFamily::$name)|+) };
-}
-
-/// Of each row the key, and of all of them the enum.
-macro_rules! keys {
-    ($($(#[$docs:meta])+ $name:ident($value:ty) $number:ident $how:ident $under:tt;)+) => {
-        $(
-            $(#[$docs])+
-            #[derive(Clone, Copy, Debug, PartialEq, Eq, Hash)]
-            pub struct $name;
-
-            impl<'a> Key<'a> for $name {
-                type Value = $value;
-
-                const NUMBER: u16 = numbers::$number;
-
-                #[inline]
-                fn read(attribute: Attribute<'a>, family: AddressFamily) -> Result<Option<$value>, DecodeError> {
-                    if !under!($under, family) {
-                        return Ok(None);
-                    }
-                    let payload = attribute.payload();
-                    match read!($how $value, payload) {
-                        Ok(value) => Ok(value),
-                        Err(fault) => Err(fault.within(stringify!($number))),
-                    }
-                }
-            }
-        )+
-
-        /// An attribute over borrowed bytes: a variant for each of [`LinkAttribute`](crate::LinkAttribute).
-        #[derive(Clone, Debug)]
-        #[non_exhaustive]
-        pub enum AttributeView<'a> {
-            $(
-                $(#[$docs])+
-                $name($value),
-            )+
-            /// An attribute that is kept as it is.
-            Other(Attribute<'a>),
-        }
-
-        impl<'a> AttributeView<'a> {
-            #[inline]
-            pub(super) fn read(attribute: Attribute<'a>, family: AddressFamily) -> Result<Self, DecodeError> {
-                match attribute.number() {
-                    $(numbers::$number if under!($under, family) => {
-                        if let Some(value) = <$name as Key>::read(attribute, family)? {
-                            return Ok(AttributeView::$name(value));
-                        }
-                    })+
-                    _ => {}
-                }
-                Ok(AttributeView::Other(attribute))
+    #[inline]
+    fn next(&mut self) -> Option<Self::Item> {
+        loop {
+            let member = match self.frames.next()? {
+                Ok(frame) => P::member(Attribute::new(frame), self.family),
+                Err(fault) => Err(fault),
+            };
+            if let Some(item) = member.transpose() {
+                return Some(item);
             }
         }
-    };
+    }
 }
 
-#[path = "generated/keys.rs"]
-mod keys;
+impl<'a, P: Place<'a>> FusedIterator for Members<'a, P> {}
+
+mod keys {
+    use super::read::{self, Nest};
+    use super::{Key, ListView, Place, Values, WirelessEventView};
+    use crate::link_msg::numbers;
+    use crate::link_view::LinkView;
+    use crate::nla_wire::{parse_i32, parse_u8, parse_u32};
+    use crate::rattle::net::{Ipv4Addr, Ipv6Addr};
+    use crate::{AddressFamily, Attribute, DecodeError, LinkAttribute, typed};
+
+    include!("generated/keys.rs");
+}
 
 pub use keys::*;

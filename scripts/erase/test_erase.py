@@ -11,6 +11,7 @@ from collections import Counter
 import contracts
 import derives
 import erase
+import keys
 import layout
 import memory
 import older
@@ -65,6 +66,15 @@ def two_types():
         return str(error)
 
 
+def no_number():
+    """What is said where a variant's docstring does not begin with its number."""
+    source = "/// A member of IFLA_XDP.\npub enum LinkXdp {\n    /// The flags.\n    Flags(u32),\n}\n"
+    try:
+        return keys.inner("link_nest", source, "LinkXdp", "A member of IFLA_XDP.")
+    except ValueError as error:
+        return str(error)
+
+
 def main():
     with open(os.path.join(os.path.dirname(os.path.abspath(__file__)), "forms.txt"), encoding="utf-8") as it:
         forms = FORM.findall(it.read())
@@ -72,7 +82,8 @@ def main():
     for text, made in wrong:
         print(f"{text}made into:\n{made}")
     named = derives.names_in('"{a} {{b}} {0:x}"')
-    if wrong or named != ["a", "0"] or "two types would be named One" not in two_types():
+    if wrong or named != ["a", "0"] or "two types would be named One" not in two_types() \
+            or "no number stands first" not in no_number():
         return 1
     counts = Counter(what for what, _, _ in forms)
     print(f"erase: forms as in forms.txt: {', '.join(f'{n} {what}' for what, n in counts.items())}")

@@ -137,7 +137,80 @@ macro_rules! kinds {
     };
 }
 
-kinds! {
+/// Kinds of interfaces: variant, that of the data, text, and the enum of the data; and after them those without data.
+macro_rules! interface_kinds {
+    ($then:ident $($more:tt)*) => {
+        $then! {
+            $($more)*
+            Vlan Vlan "vlan" InfoVlan,
+            Bond Bond "bond" InfoBond,
+            Bridge Bridge "bridge" InfoBridge,
+            Vxlan Vxlan "vxlan" InfoVxlan,
+            Geneve Geneve "geneve" InfoGeneve,
+            GreTun GreTun "gre" InfoGre,
+            GreTap GreTap "gretap" InfoGre,
+            ErSpan ErSpan "erspan" InfoGre,
+            GreTun6 GreTun6 "ip6gre" InfoGre6,
+            GreTap6 GreTap6 "ip6gretap" InfoGre6,
+            ErSpan6 ErSpan6 "ip6erspan" InfoGre6,
+            IpTun IpTunnel "ipip" InfoIpTunnel,
+            SitTun SitTun "sit" InfoIpTunnel,
+            Ip6Tnl Ip6Tunnel "ip6tnl" InfoIp6Tunnel,
+            Vti Vti "vti" InfoVti,
+            Vti6 Vti6 "vti6" InfoVti6,
+            Xfrm Xfrm "xfrm" InfoXfrm,
+            MacVlan MacVlan "macvlan" InfoMacVlan,
+            MacVtap MacVtap "macvtap" InfoMacVtap,
+            IpVlan IpVlan "ipvlan" InfoIpVlan,
+            IpVtap IpVtap "ipvtap" InfoIpVtap,
+            MacSec MacSec "macsec" InfoMacSec,
+            Can Can "can" InfoCan,
+            Vcan Vcan "vcan" InfoCan,
+            Vrf Vrf "vrf" InfoVrf,
+            Tun Tun "tun" InfoTun,
+            Netkit Netkit "netkit" InfoNetkit,
+            Hsr Hsr "hsr" InfoHsr,
+            RmNet RmNet "rmnet" InfoRmNet,
+            Gtp Gtp "gtp" InfoGtp,
+            BareUdp BareUdp "bareudp" InfoBareUdp,
+            Amt Amt "amt" InfoAmt,
+            Wwan Wwan "wwan" InfoWwan,
+            Ovpn Ovpn "ovpn" InfoOvpn,
+            Veth Veth "veth" InfoVeth,
+            Vxcan Vxcan "vxcan" InfoVxcan,
+            Ppp Ppp "ppp" InfoPpp,
+            BatAdv BatAdv "batadv" InfoBatAdv,
+            Dsa Dsa "dsa" InfoDsa,
+            Ipoib Ipoib "ipoib" InfoIpoib,
+            Wireguard Wireguard "wireguard" InfoWireguard,
+            ;
+            Dummy "dummy",
+            Ifb "ifb",
+            Nlmon "nlmon",
+            Team "team",
+            Lowpan "lowpan",
+        }
+    };
+}
+
+/// Kinds of ports, by the same words.
+macro_rules! port_kinds {
+    ($then:ident $($more:tt)*) => {
+        $then! {
+            $($more)*
+            Bond BondPort "bond" InfoBondPort,
+            Bridge BridgePort "bridge" InfoBridgePort,
+            Vrf VrfPort "vrf" InfoVrfPort,
+            Team TeamPort "team" InfoTeamPort,
+            ;
+        }
+    };
+}
+
+pub(crate) use {interface_kinds, port_kinds};
+
+interface_kinds! {
+    kinds
     /// A kind of interface: the text of `IFLA_INFO_KIND`.
     ///
     /// ```
@@ -166,65 +239,14 @@ kinds! {
     /// # Ok::<(), linkwire::DecodeError>(())
     /// ```
     InfoData;
-    Vlan Vlan "vlan" InfoVlan,
-    Bond Bond "bond" InfoBond,
-    Bridge Bridge "bridge" InfoBridge,
-    Vxlan Vxlan "vxlan" InfoVxlan,
-    Geneve Geneve "geneve" InfoGeneve,
-    GreTun GreTun "gre" InfoGre,
-    GreTap GreTap "gretap" InfoGre,
-    ErSpan ErSpan "erspan" InfoGre,
-    GreTun6 GreTun6 "ip6gre" InfoGre6,
-    GreTap6 GreTap6 "ip6gretap" InfoGre6,
-    ErSpan6 ErSpan6 "ip6erspan" InfoGre6,
-    IpTun IpTunnel "ipip" InfoIpTunnel,
-    SitTun SitTun "sit" InfoIpTunnel,
-    Ip6Tnl Ip6Tunnel "ip6tnl" InfoIp6Tunnel,
-    Vti Vti "vti" InfoVti,
-    Vti6 Vti6 "vti6" InfoVti6,
-    Xfrm Xfrm "xfrm" InfoXfrm,
-    MacVlan MacVlan "macvlan" InfoMacVlan,
-    MacVtap MacVtap "macvtap" InfoMacVtap,
-    IpVlan IpVlan "ipvlan" InfoIpVlan,
-    IpVtap IpVtap "ipvtap" InfoIpVtap,
-    MacSec MacSec "macsec" InfoMacSec,
-    Can Can "can" InfoCan,
-    Vcan Vcan "vcan" InfoCan,
-    Vrf Vrf "vrf" InfoVrf,
-    Tun Tun "tun" InfoTun,
-    Netkit Netkit "netkit" InfoNetkit,
-    Hsr Hsr "hsr" InfoHsr,
-    RmNet RmNet "rmnet" InfoRmNet,
-    Gtp Gtp "gtp" InfoGtp,
-    BareUdp BareUdp "bareudp" InfoBareUdp,
-    Amt Amt "amt" InfoAmt,
-    Wwan Wwan "wwan" InfoWwan,
-    Ovpn Ovpn "ovpn" InfoOvpn,
-    Veth Veth "veth" InfoVeth,
-    Vxcan Vxcan "vxcan" InfoVxcan,
-    Ppp Ppp "ppp" InfoPpp,
-    BatAdv BatAdv "batadv" InfoBatAdv,
-    Dsa Dsa "dsa" InfoDsa,
-    Ipoib Ipoib "ipoib" InfoIpoib,
-    Wireguard Wireguard "wireguard" InfoWireguard,
-    ;
-    Dummy "dummy",
-    Ifb "ifb",
-    Nlmon "nlmon",
-    Team "team",
-    Lowpan "lowpan",
 }
 
-kinds! {
+port_kinds! {
+    kinds
     /// A kind of port: the text of `IFLA_INFO_SLAVE_KIND`.
     InfoPortKind;
     /// The data of a kind of port: `IFLA_INFO_SLAVE_DATA`.
     InfoPortData;
-    Bond BondPort "bond" InfoBondPort,
-    Bridge BridgePort "bridge" InfoBridgePort,
-    Vrf VrfPort "vrf" InfoVrfPort,
-    Team TeamPort "team" InfoTeamPort,
-    ;
 }
 
 /// A macvtap's data are those of a macvlan.

@@ -38,7 +38,7 @@
 #[macro_use]
 mod macros;
 pub(crate) mod kinds;
-mod parts;
+pub(crate) mod parts;
 #[path = "../generated/places.rs"]
 pub(crate) mod places;
 

@@ -12,7 +12,7 @@ use core::fmt;
 use core::mem::size_of;
 
 /// A value of a fixed size, by its bytes: a number's in host order.
-pub(crate) trait Part: Sized {
+pub trait Part: Sized {
     type Bytes: Copy + AsRef<[u8]> + AsMut<[u8]> + for<'a> TryFrom<&'a [u8]>;
     fn of(bytes: Self::Bytes) -> Option<Self>;
     fn bytes(&self) -> Self::Bytes;
