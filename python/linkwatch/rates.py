@@ -3,6 +3,7 @@
 import json
 import select
 import struct
+import sys
 import time
 from typing import Dict, Iterator, List, NamedTuple, Optional, Sequence, Tuple
 
@@ -19,7 +20,7 @@ from .tables import aligned
 COUNTERS = "rx-packets", "tx-packets", "rx-bytes", "tx-bytes", "rx-errors", "tx-errors"
 HEAD = "NAME", "IN B/s", "OUT B/s", "IN pkt/s", "OUT pkt/s", "IN err/s", "OUT err/s"
 COLUMNS = 2, 3, 0, 1, 4, 5
-FIRST_SIX = struct.Struct("<6Q").unpack_from
+FIRST_SIX = struct.Struct("=6Q").unpack_from
 NARROWEST = 9
 HOME, TO_END_OF_LINE, TO_END = "\x1b[H", "\x1b[K", "\x1b[J"
 
@@ -48,7 +49,7 @@ def counted(messages: Sequence[bytes]) -> Dict[int, Counted]:
         payloads += [one.payload for one in attributes(it.get(IFLA_PROP_LIST, b""), 0) if one.number == IFLA_ALT_IFNAME]
         names = [bytes(one).rstrip(b"\0").decode("utf-8", "surrogateescape") for one in payloads]
         if len(it.get(IFLA_STATS64, b"")) >= 48:
-            found[int.from_bytes(message[4:8], "little")] = Counted(names, FIRST_SIX(it[IFLA_STATS64]))
+            found[int.from_bytes(message[4:8], sys.byteorder)] = Counted(names, FIRST_SIX(it[IFLA_STATS64]))
     return found
 
 

@@ -9,6 +9,7 @@ import json
 import os
 import re
 import struct
+import sys
 from typing import Any, Dict, Iterable, Iterator, List, NamedTuple, NoReturn, Optional, Tuple, Union
 
 from . import numbers
@@ -342,7 +343,7 @@ def diff(old: Bytes, new: Bytes, kernel: Optional[str] = None, counters: bool = 
     return [Change(it["path"], it.get("old"), it.get("new")) for it in changes]
 
 
-_FRAME = struct.Struct("<HH").unpack_from
+_FRAME = struct.Struct("=HH").unpack_from
 _KINDS = ("frame-short", "frame-over", "frame-under")
 
 
@@ -404,8 +405,8 @@ def text(payload: Bytes) -> str:
 
 
 def number(payload: Bytes) -> int:
-    """The number of a payload, lowest byte first."""
-    return int.from_bytes(payload, "little")
+    """The number of a payload, in host order."""
+    return int.from_bytes(payload, sys.byteorder)
 
 
 def _packed(form: str, width: str, value: int) -> bytes:
@@ -417,12 +418,12 @@ def _packed(form: str, width: str, value: int) -> bytes:
 
 def u8(value: int) -> bytes:
     """A number of one byte, as the payload of an attribute. Raises ValueError where it has no room, as the rest do."""
-    return _packed("<B", "u8", value)
+    return _packed("=B", "u8", value)
 
 
 def u16(value: int) -> bytes:
-    """A number of two bytes, lowest first."""
-    return _packed("<H", "u16", value)
+    """A number of two bytes, in host order."""
+    return _packed("=H", "u16", value)
 
 
 def be16(value: int) -> bytes:
@@ -431,8 +432,8 @@ def be16(value: int) -> bytes:
 
 
 def u32(value: int) -> bytes:
-    """A number of four bytes, lowest first."""
-    return _packed("<I", "u32", value)
+    """A number of four bytes, in host order."""
+    return _packed("=I", "u32", value)
 
 
 def be32(value: int) -> bytes:
@@ -441,8 +442,8 @@ def be32(value: int) -> bytes:
 
 
 def u64(value: int) -> bytes:
-    """A number of eight bytes, lowest first."""
-    return _packed("<Q", "u64", value)
+    """A number of eight bytes, in host order."""
+    return _packed("=Q", "u64", value)
 
 
 def mac(address: str) -> bytes:
@@ -498,7 +499,7 @@ def build(attributes: Iterable[Tuple[int, Value]] = (), *, family: int = 0, inde
     linux/if_link.h has no text. What is in the data of a kind is not looked at.
     """
     try:
-        header = struct.pack("<BxHiII", family, link_type, index, flags, change)
+        header = struct.pack("=BxHiII", family, link_type, index, flags, change)
     except struct.error as error:
         raise ValueError(f"the header: {error}") from None
     return header + b"".join(_frame(kind, value) for kind, value in attributes)

@@ -3,6 +3,7 @@
 import errno
 import os
 import socket
+import sys
 import time
 from collections import deque
 from typing import Any, Deque, List, NamedTuple, Optional, Sequence, Tuple, Union
@@ -323,7 +324,7 @@ class Links:
 
     def index(self, name: str) -> int:
         """The index of a link, by its name or an alternative one. Raises KernelError, of ENODEV where there is none."""
-        return int.from_bytes(self.get(name)[4:8], "little")
+        return int.from_bytes(self.get(name)[4:8], sys.byteorder)
 
     def name(self, index: int) -> str:
         """The name of a link, by its index. Raises KernelError, of ENODEV where there is none."""

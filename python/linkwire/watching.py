@@ -1,6 +1,7 @@
 """Which links came, went or changed: what linkdiff(1) says of lines, as values."""
 
 import struct
+import sys
 import time as clock
 from typing import Dict, FrozenSet, Iterable, List, NamedTuple, Optional, Sequence, Set, Tuple
 
@@ -119,7 +120,7 @@ def kind_of(message: bytes) -> Optional[bytes]:
     info = bytes(pick(message, IFLA_LINKINFO, last=True).get(IFLA_LINKINFO, b""))
     found, at = None, 0
     while len(info) - at >= 4:
-        size, number = struct.unpack_from("<HH", info, at)
+        size, number = struct.unpack_from("=HH", info, at)
         if number & 0x3FFF == IFLA_INFO_KIND:
             found = info[at + 4:at + size] if 4 <= size <= len(info) - at else None
         at += max(size + 3 & ~3, 4)
@@ -293,7 +294,7 @@ class Watch:
             self.blind(host)
             return [self._fault_of(host, (None, None), message, self._fault(message))]
         self._at += 1
-        key = message[0], int.from_bytes(message[4:8], "little", signed=True)
+        key = message[0], int.from_bytes(message[4:8], sys.byteorder, signed=True)
         it = self._of(host)
         if is_gone:
             told = self._go(host, it, key, message)
